@@ -4,8 +4,9 @@
 By itself `rt ci` runs most parts alone, since it reckons a part's memory by its lines; told how many go side by side, it gives a
 proof one processor, and begins a crate's edits once its proof has ended. The longest chain, two libraries and the tests, takes
 longer then than all work shared by four processors. Here a proof begins once what it waits for has ended and the memory that it
-was seen to hold is free, and gets several processors; edits give way to proofs, and fill what these leave free. A kit that has
-its parts otherwise runs them as it does.
+was seen to hold is free, and gets several processors; edits give way to proofs, and fill what these leave free. Where the kit
+tries a crate's edits in turn, as one part, they are tried in rows: a check of the crate keeps its work (the seed), and each row
+tries its edits over a copy of that. A kit that has its parts otherwise runs them as it does.
 """
 import contextlib
 import importlib.machinery
@@ -13,16 +14,19 @@ import importlib.util
 import os
 import shutil
 import sys
+import tempfile
 import threading
 from concurrent.futures import FIRST_COMPLETED, ThreadPoolExecutor, wait
 
 # How many processors a part asks for, and the share that it was seen to hold of the memory that the kit reckons for its crate.
-# Some kits try each edit as a part of its own, over a check that is a part too (the seed); others all of a crate's as one.
+# Some kits try each edit as a part of its own, over a seed that is a part too; others all of a crate's as one.
 PROCESSORS = {"proof": 3, "tests": 4, "seed": 2}
-SHARES = {"proof": 0.45, "tests": 0.65, "seed": 0.4}
+SHARES = {"proof": 0.38, "tests": 0.62, "seed": 0.38}
 EDITS = 0.22
+# In how many rows a crate's edits are tried, where the kit has them in one part.
+ROWS = 3
 # How many steps of niceness what isn't a proof gives way.
-BEHIND = 5
+BEHIND = 3
 
 
 def load(path):
@@ -54,10 +58,16 @@ def in_lanes(tasks, rt):
     call that gets what was given and how many jobs it may use."""
     behind = chain_behind(tasks)
     is_proof = lambda it: it[1] in ("proof", "tests")
-    left = sorted(tasks, key=lambda it: (not is_proof(it), -behind[it] if is_proof(it) else 0))
+    # of two proofs as long the tests' comes first; the edits of an upper crate take longer, and come before a lower one's
+    crates = [it[0] for it in tasks if it[1] == "proof"]
+    rank = lambda it: (not is_proof(it), -(behind[it] if is_proof(it) else crates.index(it[0])), it[1] != "tests")
+    left = sorted(tasks, key=rank)
     lanes, memory, running, given = rt.processors(), 0.85 * rt.free(), {}, {}
+    most = lanes + 1, 2 * lanes
     with getattr(rt, "ending", contextlib.nullcontext)(), ThreadPoolExecutor(4 * lanes) as pool:
         while left or running:
+            # whether a proof waits for memory alone: then no edit takes it
+            is_starved = False
             for key in [*left]:
                 waits, lines, needs, call = tasks[key]
                 if not all(it in given for it in waits):
@@ -66,8 +76,10 @@ def in_lanes(tasks, rt):
                 needs *= SHARES.get(key[1], EDITS)
                 # what has no lines ends at once
                 jobs = PROCESSORS.get(key[1], 1) if lines or not is_proof(key) else 0
-                is_free = held + needs <= memory and (is_proof(key) or busy < lanes + 1)
+                jobs = max(jobs, lanes - busy) if key[1] == "seed" else jobs
+                is_free = held + needs <= memory and (is_proof(key) or busy < most[key[1] == "seed"] and not is_starved)
                 if running and jobs and not is_free:
+                    is_starved = is_starved or is_proof(key)
                     continue
                 left.remove(key)
                 steps = 0 if is_proof(key) else BEHIND
@@ -77,13 +89,60 @@ def in_lanes(tasks, rt):
     return given
 
 
+class Rows:
+    """The edits of the crates, tried in rows: what the kit said of each that was refused over work which proves its crate."""
+
+    def __init__(self, rt, room):
+        self.rt, self.room, self.refused = rt, room, {}
+        self.in_turn = rt.must_fail_all
+
+    def parts(self, tasks):
+        """The parts, with a seed and rows of edits before each that tries a crate's edits."""
+        parts = {}
+        for key, (waits, lines, needs, call) in tasks.items():
+            crate = (call.__defaults__ or (None,))[0]
+            if key[1] == "edits" and lines and hasattr(crate, "folder"):
+                edits = self.rt.edits_of(crate)[0]
+                seed, rows = (key[0], "seed"), [(key[0], "row", row) for row in range(ROWS)]
+                parts[seed] = waits, lines, needs, lambda given, jobs, it=crate, waits=waits: self.keep(it, all(given[at] for at in waits), jobs)
+                for row in rows:
+                    mine = edits[row[2] :: ROWS]
+                    parts[row] = [seed], lines // ROWS, needs, lambda given, jobs, it=crate, mine=mine, seed=seed: given[seed] and self.try_row(it, mine)
+                waits, needs = [*waits, *rows], 0
+            parts[key] = waits, lines, needs, call
+        return parts
+
+    def keep(self, crate, is_well, jobs):
+        """Whether the crate is proved, by a check that keeps its work."""
+        return is_well and not self.rt.checked(crate, {}, ["--jobs", str(jobs)], f"{self.room}/{crate.name}").returncode
+
+    def try_row(self, crate, edits):
+        """Tries edits in turn over a copy of what is kept, and then whether the crate itself is proved over that."""
+        with tempfile.TemporaryDirectory(prefix="row-", dir=self.room) as row:
+            kept = shutil.copytree(f"{self.room}/{crate.name}", f"{row}/kept")
+            tried = [self.rt.must_fail(crate, it, ["--jobs", "1"], kept) for it in edits]
+            if not self.rt.checked(crate, {}, ["--jobs", "1"], kept).returncode:
+                self.refused |= {edit: it for edit, it in zip(edits, tried) if it[0]}
+
+    def tried(self, crate, edits, flags):
+        """What the kit says of each edit. What no row saw refused is tried from nothing."""
+        if not any(it in self.refused for it in edits):
+            return self.in_turn(crate, edits, flags)
+        return [self.refused.get(it) or self.rt.must_fail(crate, it, flags) for it in edits]
+
+
 def main():
     rt = load(os.path.realpath(shutil.which("rt")))
-    if all(hasattr(rt, it) for it in ("in_lanes", "free", "processors", "main")):
-        rt.in_lanes = lambda tasks: in_lanes(tasks, rt)
-    else:
+    if not all(hasattr(rt, it) for it in ("in_lanes", "free", "processors", "main")):
         os.environ.setdefault("RT_JOBS", str(min(4, len(os.sched_getaffinity(0)))))
-    return rt.main(["ci"])
+        return rt.main(["ci"])
+    has_rows = not hasattr(rt, "ending") and all(hasattr(rt, it) for it in ("must_fail_all", "must_fail", "checked", "edits_of"))
+    with tempfile.TemporaryDirectory(prefix="rt-rows-") as room:
+        rows = Rows(rt, room) if has_rows else None
+        rt.in_lanes = lambda tasks: in_lanes(rows.parts(tasks) if rows else tasks, rt)
+        if rows:
+            rt.must_fail_all = rows.tried
+        return rt.main(["ci"])
 
 
 if __name__ == "__main__":

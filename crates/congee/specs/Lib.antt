@@ -1,6 +1,6 @@
 pub mod Heap
 pub mod Keys
-pub mod Ledger
+pub mod Notes
 pub mod forms
 pub mod owned
 pub mod protocol

@@ -4,6 +4,7 @@ pub mod PlainSteps
 pub mod Alike
 pub mod Protocol
 pub mod Answers
+pub mod State
 pub mod Play
 pub mod Opening
 pub mod Plain
@@ -16,7 +17,7 @@ pub mod Regions
 pub mod Sweeps
 pub mod SweepEvents
 pub mod SweepSteps
-pub mod Seats
+pub mod Stamps
 pub mod SweepKnown
 pub mod Bounds
 pub mod Causes

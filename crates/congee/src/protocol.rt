@@ -7,7 +7,8 @@
 //! a step of its own, and the call begins anew at the root. Locks are taken from the upper node down.
 //!
 //! A `machine` is one call. Its `phase` is the next step, which each step changes where it lies; `acts` has the steps that
-//! make, lock or change nodes, and `turn` says where the store's answer leads. The ways on:
+//! make, lock or change nodes, and `turn` says where the store's answer leads. `state` has what a call says of itself between
+//! two steps, to whoever keeps it. The ways on:
 //!
 //! | The call finds | Its phases |
 //! |---|---|
@@ -31,6 +32,7 @@ mod phase;
 mod plain;
 mod plain_node;
 mod run;
+mod state;
 mod store;
 mod sweep;
 mod turn;
@@ -39,8 +41,8 @@ pub use machine::{Machine, Move, Noise, Outcome};
 pub use op::Op;
 pub use phase::{Above, Double, Kind, One, Parent, Phase, Plan, Single, Site, Two};
 pub use plain::PlainStore;
-pub use plain_node::PlainNode;
+pub use plain_node::{PlainNode, first_difference};
 pub use run::{Played, Step, play, step_of};
-pub use store::{Least, NodeName, Reading, Refusal, Region, Seat, Seen, Store, Upgrade};
-pub use sweep::{Path, Rung, Stage, Sweep, Told};
-pub use turn::Turn;
+pub use store::{Least, NodeName, Reading, Refusal, Region, Seen, Stamp, Store, Upgrade};
+pub use sweep::{Path, Rung, ScanReport, Stage, Sweep};
+pub use turn::NextPhase;

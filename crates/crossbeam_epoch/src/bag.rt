@@ -26,14 +26,14 @@ pub enum Work<J> {
 
 /// A deferred job with its ticket.
 #[derive(Drop)]
-pub struct Entry<J> {
+pub struct Deferral<J> {
     pub ticket: u64,
     pub work: Work<J>,
 }
 
-impl<J> Default for Entry<J> {
+impl<J> Default for Deferral<J> {
     fn default() -> Self {
-        Entry {
+        Deferral {
             ticket: 0,
             work: Work::Blank,
         }
@@ -43,7 +43,7 @@ impl<J> Default for Entry<J> {
 /// At most `BAG` jobs, in the order of deferral; it never allocates.
 #[derive(Drop)]
 pub struct Bag<J> {
-    entries: ArrayVec<Entry<J>, BAG>,
+    entries: ArrayVec<Deferral<J>, BAG>,
 }
 
 /// A bag in the queue.
@@ -57,9 +57,9 @@ pub struct Sealed<J> {
 impl<J> Model for Bag<J> {
     ghost use Rattle.std.specs.Prelude.{List, ◌≤◌, length};
     ghost use Rattle.crossbeam_epoch.specs.Limits.{bag_places};
-    ghost use Rattle.crossbeam_epoch.specs.declared.bag.Entry.{Entry};
+    ghost use Rattle.crossbeam_epoch.specs.declared.bag.Deferral.{Deferral};
 
-    ghost Value = { List (Entry J) };
+    ghost Value = { List (Deferral J) };
 
     ghost view = { λ b. b.entries.items };
 
@@ -102,7 +102,7 @@ impl<J: Drop> Bag<J> {
     }
 
     /// Puts a job behind the others.
-    pub(crate) fn push(&mut self, entry: Entry<J>)
+    pub(crate) fn push(&mut self, entry: Deferral<J>)
         requires { length self.old < bag_places }
         ensures { self.new ≡ self.old ++ entry ∷ [] }
     {
@@ -121,7 +121,7 @@ impl<J: Drop> Bag<J> {
     }
 
     /// Takes the first job out.
-    pub(crate) fn take_first(&mut self) -> Entry<J>
+    pub(crate) fn take_first(&mut self) -> Deferral<J>
         requires { 0 < length self.old }
         ensures first { result ≡ slice_index_or self.old 0 result }
         ensures rest { self.new ≡ remove self.old 0 }

@@ -27,7 +27,7 @@ mod tag;
 mod task;
 mod world;
 
-pub use bag::{BAG, Bag, Entry, Sealed, Work};
+pub use bag::{BAG, Bag, Deferral, Sealed, Work};
 pub use face::{
     Atomic, Collector, CompareAndSetError, CompareAndSetOrdering, CompareExchangeError, Exchanged,
     Guard, Lent, LentMut, Link, LocalHandle, Note, Owned, Pointer, Shared, Site, Tagged,

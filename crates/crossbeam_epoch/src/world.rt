@@ -37,7 +37,7 @@ ghost use Rattle.std.specs.Prelude.{◌≡◌, ◌<◌, ℕ, List, [], ◌∷◌
 ghost use Rattle.std.specs.Result.{result_ok};
 ghost use Rattle.crossbeam_epoch.specs.World.Machine.{place, opened, registered, blank, null};
 ghost use Rattle.crossbeam_epoch.specs.Limits.{within};
-ghost use Rattle.crossbeam_epoch.specs.World.Reach.{Quiet, moment, Tells, NextMoment};
+ghost use Rattle.crossbeam_epoch.specs.World.Reach.{Quiet, moment, HasMoments, NextMoment};
 
 use crate::bag::Bag;
 use crate::chain::Chain;
@@ -88,7 +88,7 @@ impl<T: Links + Pointable + Drop, J: Task> World<T, J> {
     /// A collector with no participant, whose roots hold null.
     pub fn new(alloc: Global, limits: Limits, roots: usize) -> Result<World<T, J>, Fault>
         ensures state { IfOk result (λ w. w ≡ opened limits roots) }
-        ensures told { IfOk result (λ w. limits.expiry ≡ 2 → Tells T.names (moment T.names Quiet w ∷ []) w) }
+        ensures told { IfOk result (λ w. limits.expiry ≡ 2 → HasMoments T.names (moment T.names Quiet w ∷ []) w) }
         ensures limits { MatchResult result (λ _. within limits ≡ true) (λ e. e ≡ (if within limits then Fault.Memory else Fault.Limits)) }
     {
         if !limits.is_within() {

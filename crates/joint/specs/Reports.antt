@@ -1,28 +1,29 @@
 -- What a worker is told, from what the layer below tells.
-use Rattle.std.specs.Prelude.{ℕ, suc, Option, None, Some}
-use Rattle.crossbeam_epoch.specs.declared.world.report.Op.TheVariants as turn
-use Rattle.crossbeam_epoch.specs.declared.world.report.Outcome.{Outcome as Turned}
-use Rattle.crossbeam_epoch.specs.declared.world.report.Outcome.TheVariants as turned
+use Rattle.std.specs.Prelude.{ℕ, suc, Option, None, Some, Bool, true, false}
+use Rattle.crossbeam_epoch.specs.declared.world.report.Op.TheVariants as collector_op
+use Rattle.crossbeam_epoch.specs.declared.world.report.Outcome.{Outcome as CollectorOutcome}
+use Rattle.crossbeam_epoch.specs.declared.world.report.Outcome.TheVariants as collector_outcome
 use Rattle.congee.specs.declared.protocol.op.Op.TheVariants as point
 use Rattle.congee.specs.declared.protocol.machine.Outcome.{Outcome as Moved}
 use Rattle.congee.specs.declared.protocol.machine.Outcome.TheVariants as moved
+use Rattle.judge.specs.declared.journal.Reply.{Reply}
 use Rattle.joint.specs.declared.steps.Op.{Op}
 use Rattle.joint.specs.declared.steps.Op.TheVariants.{Pin, Unpin, Repin, Flush, Release, Get, Insert, Remove, ComputePresent, ComputeInsert, Exchange, Range, RangeInclusive, Keys, IsEmpty, Stats}
 use Rattle.joint.specs.declared.steps.Target.{Target}
 use Rattle.joint.specs.declared.steps.Survey.TheVariants as survey
 use Rattle.joint.specs.declared.steps.Target.TheVariants.{Collector, Tree, Survey}
 use Rattle.joint.specs.declared.steps.Outcome.{Outcome}
-use Rattle.joint.specs.declared.steps.Outcome.TheVariants.{Running, Asks, Found, Done, Refused}
+use Rattle.joint.specs.declared.steps.Outcome.TheVariants.{Running, Asks, Found, Done, Refused, Registered}
 use Rattle.joint.specs.declared.steps.Done.TheVariants as done
 use Rattle.joint.specs.Refusals.{of_tree, of_fault}
 
 -- a call as its layer names it
 abbrev pub target : {V : Type 0} → Op V → Target V
-target Pin = Collector turn.Pin
-target Unpin = Collector turn.Unpin
-target Repin = Collector turn.Repin
-target Flush = Collector turn.Flush
-target Release = Collector turn.Release
+target Pin = Collector collector_op.Pin
+target Unpin = Collector collector_op.Unpin
+target Repin = Collector collector_op.Repin
+target Flush = Collector collector_op.Flush
+target Release = Collector collector_op.Release
 target (Get k) = Tree (point.Get k)
 target (Insert k v) = Tree (point.Insert k v)
 target (Remove k) = Tree (point.Remove k)
@@ -51,7 +52,21 @@ told (moved.Scanned count) = Done (done.Scanned count)
 told (moved.Refused cause) = Refused (of_tree cause)
 
 -- how a call on the collector stands
-abbrev pub collected : {V : Type 0} → Turned → Outcome V
-collected turned.Running = Running
-collected turned.Done = Done done.Unit
-collected (turned.Refused fault) = Refused (of_fault fault)
+abbrev pub collected : {V : Type 0} → CollectorOutcome → Outcome V
+collected collector_outcome.Running = Running
+collected collector_outcome.Done = Done done.Unit
+collected (collector_outcome.Refused fault) = Refused (of_fault fault)
+
+-- the reply with which a call on one key has ended, if it has
+abbrev pub reply_in : {V : Type 0} → Outcome V → Option (Reply V)
+reply_in (Done (done.Reply r)) = Some r
+reply_in _ = None
+
+-- whether the call takes its next step with nothing from outside: it has not ended, and wants no answer
+abbrev pub goes_on : {V : Type 0} → Outcome V → Bool
+goes_on Running = true
+goes_on (Asks found) = false
+goes_on (Found place key value) = true
+goes_on (Registered n) = false
+goes_on (Done done) = false
+goes_on (Refused refusal) = false

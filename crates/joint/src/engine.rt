@@ -1,30 +1,42 @@
 //! The calls on the tree and the collector, one step at a time.
+//!
+//! A worker has one call `in_flight` at most; a `step` begins one or goes on with it, by its event. A writing call reserves
+//! its place in a journal, secures places of its worker's bag for the nodes that it may hand over, and then walks the tree; a
+//! reading one walks at once. `census` and `waiting` count the pairs and what calls have taken out; `journaling` and `request`
+//! tell what a journal wants of a call and what its worker asked for; `close` ends them all.
+
+pub(crate) mod census;
+pub(crate) mod close;
+pub(crate) mod in_flight;
+pub(crate) mod journaling;
+pub(crate) mod request;
+pub(crate) mod step;
+pub(crate) mod waiting;
 
 ghost use Rattle.std.specs.Prelude.{◌≡◌, ◌<◌, ℕ, List, Option, Some, None, length, slice_get, slice_set, replicate, is_some, true, IfOk, MatchResult, if◌then◌else◌};
 ghost use Rattle.crossbeam_epoch.specs.declared.bag.Work.{Work};
 ghost use Rattle.crossbeam_epoch.specs.World.Machine.{deferred, place};
 ghost use Rattle.congee.specs.protocol.Play.{StepPlays, IsNew, begun};
-ghost use Rattle.joint.specs.Census.{AreCounted};
-ghost use Rattle.joint.specs.Forest.{nodes, frame, Refuses, with_collector};
-ghost use Rattle.joint.specs.Intact.{IsIntact, IsSecuring, MayStart, BeginsSecuring, Secured, WalkedOn, call_after, cleared, is_done, is_past, is_reserving, resting, over_at, root, writes};
-ghost use Rattle.joint.specs.Laws.{CellLaws, CallLaws, ProgressLaws};
-ghost use Rattle.joint.specs.declared.call.Call.TheVariants as Call;
+ghost use Rattle.joint.specs.nodes.Nodes.{nodes, frame, Refuses, with_collector};
+ghost use Rattle.joint.specs.engine.Intact.{IsSecuring, MayStart, BeginsSecuring, Secured, WalkedOn, call_after, cleared, is_reserving, resting, over_at, root, writes};
+ghost use Rattle.joint.specs.engine.Laws.{CellLaws, CallLaws, ProgressLaws};
+ghost use Rattle.joint.specs.declared.engine.in_flight.InFlight.TheVariants as InFlight;
 ghost use Rattle.crossbeam_epoch.specs.declared.world.report.Event.TheVariants as Event;
-ghost use Rattle.joint.specs.Opening.{IsOpened, IsUnopened};
-ghost use Rattle.joint.specs.Runs.{IsFresh};
+ghost use Rattle.joint.specs.nodes.Opening.{IsOpened, IsUnopened};
+ghost use Rattle.joint.specs.engine.Engine.{IsFresh, EngineHolds, is_in_flight};
 ghost use Rattle.joint.specs.Reports.{told};
-ghost use Rattle.joint.specs.Whole.{whole, EngineHolds, is_in_flight};
-ghost use Rattle.joint.specs.View.{id_number};
-ghost use Rattle.joint.specs.Machines.{IsSafe, Rests, Runs, Owes, IsSafeOrOwes, Walked, Collected, retiring_at, slot_names};
+ghost use Rattle.joint.specs.nodes.View.{id_number};
+ghost use Rattle.joint.specs.engine.Safety.{IsSafe, Rests, Runs, Owes, IsSafeOrOwes, Walked, Collected, retiring_at};
+ghost use Rattle.joint.specs.nodes.Slots.{slot_names};
+ghost use Rattle.joint.specs.engine.State.{state_of, EngineIntact, EngineCounted, EngineSafe};
 
-use crate::call::Call;
-use crate::census::Census;
+use crate::engine::census::Census;
+use crate::engine::in_flight::InFlight;
 use crate::id::Id;
 use crate::limits::Limits;
 use crate::nodes::Nodes;
+use crate::nodes::slot::Slot;
 use crate::refusal::Refusal;
-use crate::slot::Slot;
-use congee::protocol::{Kind, Phase, Stage};
 use congee::{Allocator, Machine, Move, Noise, Op, Payload, Small, Step, step_of};
 use crossbeam_epoch::{Event, Name, Outcome, Report};
 use std::alloc::{AllocError, Global};
@@ -59,11 +71,7 @@ fn retiring<P: Payload + Small>(machines: &[Machine<Id, P>], who: usize) -> Opti
     ensures { result ≡ retiring_at (slice_get machines.now who) }
 {
     if who < machines.len() {
-        match &machines[who].phase {
-            Phase::Retire { node, .. } => Some(*node),
-            // The step of every other phase hands nothing over.
-            _ => None,
-        }
+        machines[who].retires()
     } else {
         None
     }
@@ -97,36 +105,13 @@ pub(crate) fn progress<P: Payload + Small>()
 }
 
 /// The call in flight after a step of the collector: the one that runs on, or none.
-fn call_after<P: Payload + Small>(outcome: Outcome, call: Call<P>) -> Call<P>
+fn call_after<P: Payload + Small>(outcome: Outcome, call: InFlight<P>) -> InFlight<P>
     ensures { result ≡ call_after outcome call }
 {
     match outcome {
         Outcome::Running => call,
-        Outcome::Done => Call::Idle,
-        Outcome::Refused(_) => Call::Idle,
-    }
-}
-
-/// Whether a scan has told its end.
-fn is_past<P: Payload + Small>(stage: &Stage<Id, P>) -> bool
-    ensures { result ≡ is_past stage.now }
-{
-    match stage {
-        Stage::Over => true,
-        // At every other stage it goes on.
-        _ => false,
-    }
-}
-
-/// Whether a call is a scan that has told its end.
-#[inline(always)]
-fn is_done<P: Payload + Small>(phase: &Phase<Id, P>) -> bool
-    ensures { result ≡ is_done phase.now }
-{
-    match phase {
-        Phase::Sweep { sweep } => is_past(&sweep.stage),
-        // No other phase is a scan's.
-        _ => false,
+        Outcome::Done => InFlight::Idle,
+        Outcome::Refused(_) => InFlight::Idle,
     }
 }
 
@@ -148,15 +133,9 @@ fn goes_on<P>(outcome: &congee::Outcome<P>) -> bool
 fn resting<P: Payload + Small>() -> Machine<Id, P>
     ensures { result ≡ resting }
 {
-    Machine {
-        root: Id {
-            name: Name { cell: 0, turn: 0 },
-        },
-        key: 0,
-        kind: Kind::Get,
-        given: None,
-        phase: Phase::Ended,
-    }
+    Machine::ended(Id {
+        name: Name { cell: 0, turn: 0 },
+    })
 }
 
 /// So many calls on the tree that have ended.
@@ -174,12 +153,15 @@ fn ended_machines<P: Payload + Small>(
 }
 
 /// So many workers without a call in flight.
-fn idle_calls<P: Payload + Small>(alloc: Global, places: usize) -> Result<Vec<Call<P>>, AllocError>
-    ensures { IfOk result (λ v. v.items ≡ replicate places Call.Idle) }
+fn idle_calls<P: Payload + Small>(
+    alloc: Global,
+    places: usize,
+) -> Result<Vec<InFlight<P>>, AllocError>
+    ensures { IfOk result (λ v. v.items ≡ replicate places InFlight.Idle) }
 {
     let mut calls = Vec::with_capacity(alloc, places)?;
     for _ in 0..places {
-        calls.push(Call::Idle)?;
+        calls.push(InFlight::Idle)?;
     }
     Ok(calls)
 }
@@ -189,7 +171,7 @@ fn idle_calls<P: Payload + Small>(alloc: Global, places: usize) -> Result<Vec<Ca
 pub struct Engine<P: Payload + Small, A: Allocator> {
     pub(crate) nodes: Nodes<P, A>,
     pub(crate) machines: Vec<Machine<Id, P>>,
-    pub(crate) calls: Vec<Call<P>>,
+    pub(crate) calls: Vec<InFlight<P>>,
     /// What is counted of the pairs that stand and of the nodes that calls have taken out.
     pub(crate) census: Census,
 }
@@ -197,7 +179,7 @@ pub struct Engine<P: Payload + Small, A: Allocator> {
 impl<P: Payload + Small, A: Allocator> Engine<P, A> {
     /// An index with a root alone, and a place for each worker there may be. Refused as `Nodes::new` refuses, and as Memory.
     pub(crate) fn new(alloc: Global, limits: Limits, allocator: A) -> Result<Self, Refusal>
-        ensures { MatchResult result (λ e. IsOpened limits (A.charged_of allocator) (A.limit_of allocator) e.nodes × EngineHolds P.same_as P.always_copies (whole e.nodes e.machines.items e.calls.items) × IsFresh (whole e.nodes e.machines.items e.calls.items) × AreCounted e.census e.nodes e.machines.items) (λ e. IsUnopened limits (A.charged_of allocator) (A.limit_of allocator) e) }
+        ensures { MatchResult result (λ e. IsOpened limits (A.charged_of allocator) (A.limit_of allocator) e.nodes × EngineHolds P.same_as P.always_copies (state_of e) × IsFresh (state_of e) × EngineCounted e.census (state_of e)) (λ e. IsUnopened limits (A.charged_of allocator) (A.limit_of allocator) e) }
     {
         cell_laws::<P>();
         call_laws::<P>();
@@ -221,7 +203,7 @@ impl<P: Payload + Small, A: Allocator> Engine<P, A> {
 
     /// One step of the collector, of a worker without a call on the tree: the pairs stay, and no node goes that a call has.
     fn collect(&mut self, who: usize, event: Event) -> Report
-        requires safe { IsSafe P.same_as P.always_copies self.old.nodes self.old.machines.items }
+        requires safe { EngineSafe P.same_as P.always_copies (state_of self.old) }
         requires rests { Rests self.old.machines.items who }
         ensures collected { Collected P.same_as P.always_copies self.old.nodes self.old.machines.items who event result self.new.nodes }
         ensures machines { self.new.machines ≡ self.old.machines }
@@ -236,7 +218,7 @@ impl<P: Payload + Small, A: Allocator> Engine<P, A> {
     /// Defers the destruction of the node that a worker has just marked, into a place that it had secured.
     fn hand_over(&mut self, who: usize, node: Id)
         requires { Owes P.same_as P.always_copies self.old.nodes self.old.machines.items who node }
-        ensures safe { IsSafe P.same_as P.always_copies self.new.nodes self.new.machines.items }
+        ensures safe { EngineSafe P.same_as P.always_copies (state_of self.new) }
         ensures state { self.new.nodes ≡ with_collector self.old.nodes (deferred self.old.nodes.collector who (Work.Remove node.name)) }
         ensures machines { self.new.machines ≡ self.old.machines }
         ensures calls { self.new.calls ≡ self.old.calls }
@@ -254,7 +236,7 @@ impl<P: Payload + Small, A: Allocator> Engine<P, A> {
     /// One step of a worker's call on the tree.
     #[inline(always)]
     fn walk(&mut self, who: usize, noise: Noise<Id, P>) -> Move<P>
-        requires safe { IsSafe P.same_as P.always_copies self.old.nodes self.old.machines.items }
+        requires safe { EngineSafe P.same_as P.always_copies (state_of self.old) }
         requires runs { Runs self.old.machines.items who }
         ensures walked { Walked P.same_as P.always_copies self.old.nodes self.old.machines.items (record { who = who; noise = noise }) result self.new.nodes self.new.machines.items }
         ensures calls { self.new.calls ≡ self.old.calls }
@@ -270,7 +252,7 @@ impl<P: Payload + Small, A: Allocator> Engine<P, A> {
     }
 
     /// Puts another call in flight in a worker's place.
-    fn set_call(&mut self, who: usize, call: Call<P>)
+    fn set_call(&mut self, who: usize, call: InFlight<P>)
         requires { who < length self.old.calls.items }
         ensures calls { self.new.calls.items ≡ slice_set self.old.calls.items who call }
         ensures nodes { self.new.nodes ≡ self.old.nodes }
@@ -282,50 +264,50 @@ impl<P: Payload + Small, A: Allocator> Engine<P, A> {
 
     /// Begins a call on the collector.
     pub(crate) fn begin_collecting(&mut self, who: usize, op: crossbeam_epoch::Op) -> Report
-        requires intact { IsIntact P.same_as P.always_copies self.old.nodes self.old.machines.items self.old.calls.items }
-        requires idle { slice_get self.old.calls.items who ≡ Some Call.Idle }
-        ensures intact { IsIntact P.same_as P.always_copies self.new.nodes self.new.machines.items self.new.calls.items }
+        requires intact { EngineIntact P.same_as P.always_copies (state_of self.old) }
+        requires idle { slice_get self.old.calls.items who ≡ Some InFlight.Idle }
+        ensures intact { EngineIntact P.same_as P.always_copies (state_of self.new) }
         ensures collected { Collected P.same_as P.always_copies self.old.nodes self.old.machines.items who (Event.Begin op) result self.new.nodes }
-        ensures calls { self.new.calls.items ≡ slice_set self.old.calls.items who (call_after result.outcome (Call.Collecting op)) }
+        ensures calls { self.new.calls.items ≡ slice_set self.old.calls.items who (call_after result.outcome (InFlight.Collecting op)) }
         ensures machines { self.new.machines ≡ self.old.machines }
         ensures census { self.new.census ≡ self.old.census }
     {
         progress::<P>();
         let report = self.collect(who, Event::Begin(op));
-        self.set_call(who, call_after(report.outcome, Call::Collecting(op)));
+        self.set_call(who, call_after(report.outcome, InFlight::Collecting(op)));
         report
     }
 
     /// The next step of a call on the collector.
     pub(crate) fn go_collecting(&mut self, who: usize, op: crossbeam_epoch::Op) -> Report
-        requires intact { IsIntact P.same_as P.always_copies self.old.nodes self.old.machines.items self.old.calls.items }
-        requires on { slice_get self.old.calls.items who ≡ Some (Call.Collecting op) }
-        ensures intact { IsIntact P.same_as P.always_copies self.new.nodes self.new.machines.items self.new.calls.items }
+        requires intact { EngineIntact P.same_as P.always_copies (state_of self.old) }
+        requires on { slice_get self.old.calls.items who ≡ Some (InFlight.Collecting op) }
+        ensures intact { EngineIntact P.same_as P.always_copies (state_of self.new) }
         ensures collected { Collected P.same_as P.always_copies self.old.nodes self.old.machines.items who Event.Go result self.new.nodes }
-        ensures calls { self.new.calls.items ≡ slice_set self.old.calls.items who (call_after result.outcome (Call.Collecting op)) }
+        ensures calls { self.new.calls.items ≡ slice_set self.old.calls.items who (call_after result.outcome (InFlight.Collecting op)) }
         ensures machines { self.new.machines ≡ self.old.machines }
         ensures census { self.new.census ≡ self.old.census }
     {
         progress::<P>();
         let report = self.collect(who, Event::Go);
-        self.set_call(who, call_after(report.outcome, Call::Collecting(op)));
+        self.set_call(who, call_after(report.outcome, InFlight::Collecting(op)));
         report
     }
 
     /// Begins a call on the tree in the place of a worker who may.
     pub(crate) fn start(&mut self, who: usize, op: Op<P>)
-        requires intact { IsIntact P.same_as P.always_copies self.old.nodes self.old.machines.items self.old.calls.items }
-        requires idle { slice_get self.old.calls.items who ≡ Some Call.Idle }
+        requires intact { EngineIntact P.same_as P.always_copies (state_of self.old) }
+        requires idle { slice_get self.old.calls.items who ≡ Some InFlight.Idle }
         requires may { MayStart self.old.nodes.collector who op }
-        ensures intact { IsIntact P.same_as P.always_copies self.new.nodes self.new.machines.items self.new.calls.items }
+        ensures intact { EngineIntact P.same_as P.always_copies (state_of self.new) }
         ensures nodes { self.new.nodes ≡ self.old.nodes }
         ensures machines { self.new.machines.items ≡ slice_set self.old.machines.items who (begun root op) }
-        ensures calls { self.new.calls.items ≡ slice_set self.old.calls.items who Call.Walking }
+        ensures calls { self.new.calls.items ≡ slice_set self.old.calls.items who InFlight.Walking }
         ensures census { self.new.census ≡ self.old.census }
     {
         call_laws::<P>();
         self.begin_machine(who, op);
-        self.set_call(who, Call::Walking);
+        self.set_call(who, InFlight::Walking);
     }
 
     /// Begins a call on the tree where another one lies in a worker's place.
@@ -356,18 +338,18 @@ impl<P: Payload + Small, A: Allocator> Engine<P, A> {
 
     /// Begins a writing call in the place of a pinned worker: it takes no step yet.
     pub(crate) fn reserve(&mut self, who: usize, op: Op<P>)
-        requires intact { IsIntact P.same_as P.always_copies self.old.nodes self.old.machines.items self.old.calls.items }
-        requires idle { slice_get self.old.calls.items who ≡ Some Call.Idle }
+        requires intact { EngineIntact P.same_as P.always_copies (state_of self.old) }
+        requires idle { slice_get self.old.calls.items who ≡ Some InFlight.Idle }
         requires registered { (place self.old.nodes.collector who).registered ≡ true }
         requires pinned { is_some (place self.old.nodes.collector who).word ≡ true }
         requires writes { writes op ≡ true }
-        ensures intact { IsIntact P.same_as P.always_copies self.new.nodes self.new.machines.items self.new.calls.items }
+        ensures intact { EngineIntact P.same_as P.always_copies (state_of self.new) }
         ensures nodes { self.new.nodes ≡ self.old.nodes }
         ensures machines { self.new.machines ≡ self.old.machines }
-        ensures calls { self.new.calls.items ≡ slice_set self.old.calls.items who (Call.Reserving op) }
+        ensures calls { self.new.calls.items ≡ slice_set self.old.calls.items who (InFlight.Reserving op) }
         ensures census { self.new.census ≡ self.old.census }
     {
-        self.set_call(who, Call::Reserving(op));
+        self.set_call(who, InFlight::Reserving(op));
     }
 
     /// Whether a worker's call is a writing one that has taken no step.
@@ -375,7 +357,7 @@ impl<P: Payload + Small, A: Allocator> Engine<P, A> {
         ensures { result ≡ is_reserving (slice_get self.now.calls.items who) }
     {
         match self.calls.get(who) {
-            Some(Call::Reserving(_)) => true,
+            Some(InFlight::Reserving(_)) => true,
             // There is none, or it is another call, or it has taken a step.
             _ => false,
         }
@@ -383,46 +365,46 @@ impl<P: Payload + Small, A: Allocator> Engine<P, A> {
 
     /// Ends a writing call that has taken no step.
     pub(crate) fn abandon(&mut self, who: usize)
-        requires intact { IsIntact P.same_as P.always_copies self.old.nodes self.old.machines.items self.old.calls.items }
+        requires intact { EngineIntact P.same_as P.always_copies (state_of self.old) }
         requires on { is_reserving (slice_get self.old.calls.items who) ≡ true }
-        ensures intact { IsIntact P.same_as P.always_copies self.new.nodes self.new.machines.items self.new.calls.items }
+        ensures intact { EngineIntact P.same_as P.always_copies (state_of self.new) }
         ensures nodes { self.new.nodes ≡ self.old.nodes }
         ensures machines { self.new.machines ≡ self.old.machines }
-        ensures calls { self.new.calls.items ≡ slice_set self.old.calls.items who Call.Idle }
+        ensures calls { self.new.calls.items ≡ slice_set self.old.calls.items who InFlight.Idle }
         ensures census { self.new.census ≡ self.old.census }
     {
-        self.set_call(who, Call::Idle);
+        self.set_call(who, InFlight::Idle);
     }
 
     /// A writing call begins to make places free for the nodes that it may hand over, in its first step.
     pub(crate) fn begin_securing(&mut self, who: usize)
-        requires intact { IsIntact P.same_as P.always_copies self.old.nodes self.old.machines.items self.old.calls.items }
+        requires intact { EngineIntact P.same_as P.always_copies (state_of self.old) }
         requires on { is_reserving (slice_get self.old.calls.items who) ≡ true }
         ensures begins { BeginsSecuring P.same_as P.always_copies self.old.nodes self.old.machines.items self.old.calls.items who self.new.nodes self.new.machines.items self.new.calls.items }
         ensures census { self.new.census ≡ self.old.census }
     {
         progress::<P>();
-        let Call::Reserving(op) = self.take_call(who) else {
+        let InFlight::Reserving(op) = self.take_call(who) else {
             unreachable!()
         };
         self.collect(who, Event::Begin(crossbeam_epoch::Op::Secure(2)));
-        self.set_call(who, Call::Securing(op));
+        self.set_call(who, InFlight::Securing(op));
     }
 
     /// The next step of a writing call that makes its places free; after the last one the call on the tree begins.
     pub(crate) fn go_securing(&mut self, who: usize) -> Report
-        requires intact { IsIntact P.same_as P.always_copies self.old.nodes self.old.machines.items self.old.calls.items }
+        requires intact { EngineIntact P.same_as P.always_copies (state_of self.old) }
         requires on { IsSecuring (slice_get self.old.calls.items who) }
         ensures secured { Secured P.same_as P.always_copies self.old.nodes self.old.machines.items self.old.calls.items who result self.new.nodes self.new.machines.items self.new.calls.items }
         ensures census { self.new.census ≡ self.old.census }
     {
         progress::<P>();
-        let Call::Securing(op) = self.take_call(who) else {
+        let InFlight::Securing(op) = self.take_call(who) else {
             unreachable!()
         };
         let report = self.collect(who, Event::Go);
         match report.outcome {
-            Outcome::Running => self.set_call(who, Call::Securing(op)),
+            Outcome::Running => self.set_call(who, InFlight::Securing(op)),
             Outcome::Done => self.start(who, op),
             Outcome::Refused(_) => {}
         }
@@ -430,15 +412,15 @@ impl<P: Payload + Small, A: Allocator> Engine<P, A> {
     }
 
     /// Takes the call in flight out of a worker's place.
-    fn take_call(&mut self, who: usize) -> Call<P>
+    fn take_call(&mut self, who: usize) -> InFlight<P>
         requires { who < length self.old.calls.items }
         ensures taken { slice_get self.old.calls.items who ≡ Some result }
-        ensures calls { self.new.calls.items ≡ slice_set self.old.calls.items who Call.Idle }
+        ensures calls { self.new.calls.items ≡ slice_set self.old.calls.items who InFlight.Idle }
         ensures nodes { self.new.nodes ≡ self.old.nodes }
         ensures machines { self.new.machines ≡ self.old.machines }
         ensures census { self.new.census ≡ self.old.census }
     {
-        std::mem::replace(&mut self.calls[who], Call::Idle)
+        std::mem::replace(&mut self.calls[who], InFlight::Idle)
     }
 
     /// Puts a scan that is done out of its worker's place.
@@ -450,7 +432,7 @@ impl<P: Payload + Small, A: Allocator> Engine<P, A> {
         ensures calls { self.new.calls ≡ self.old.calls }
         ensures census { self.new.census ≡ self.old.census }
     {
-        if is_done(&self.machines[who].phase) {
+        if self.machines[who].has_scanned() {
             self.set_machine(who, resting());
         }
     }
@@ -458,18 +440,18 @@ impl<P: Payload + Small, A: Allocator> Engine<P, A> {
     /// The next step of a call on the tree.
     #[inline(always)]
     pub(crate) fn go_walking(&mut self, who: usize, noise: Noise<Id, P>) -> Move<P>
-        requires intact { IsIntact P.same_as P.always_copies self.old.nodes self.old.machines.items self.old.calls.items }
-        requires on { slice_get self.old.calls.items who ≡ Some Call.Walking }
-        ensures intact { IsIntact P.same_as P.always_copies self.new.nodes self.new.machines.items self.new.calls.items }
+        requires intact { EngineIntact P.same_as P.always_copies (state_of self.old) }
+        requires on { slice_get self.old.calls.items who ≡ Some InFlight.Walking }
+        ensures intact { EngineIntact P.same_as P.always_copies (state_of self.new) }
         ensures walked { WalkedOn P.same_as P.always_copies self.old.nodes self.old.machines.items (record { who = who; noise = noise }) result self.new.nodes self.new.machines.items }
-        ensures calls { self.new.calls.items ≡ slice_set self.old.calls.items who (if over_at (slice_get self.new.machines.items who) then Call.Idle else Call.Walking) }
+        ensures calls { self.new.calls.items ≡ slice_set self.old.calls.items who (if over_at (slice_get self.new.machines.items who) then InFlight.Idle else InFlight.Walking) }
         ensures census { self.new.census ≡ self.old.census }
     {
         call_laws::<P>();
         let moved = self.walk(who, noise);
         if !goes_on(&moved.outcome) {
             self.clear(who);
-            self.set_call(who, Call::Idle);
+            self.set_call(who, InFlight::Idle);
         }
         moved
     }

@@ -16,73 +16,47 @@
 //! For threads the whole machine stands under one lock, and each step of a call is one hold of it: any two calls
 //! interleave as on the machine, and no closure runs while the lock is held. That is the price: no two steps at once.
 //!
-//! | What | Its file |
+//! | What | Its room |
 //! |---|---|
-//! | the machine, its steps and whole calls, with a log of what was asked and the journal | `world`, over `advance`, `calls` and `log` |
-//! | the calls in flight, a step by its event, and what is counted of pairs | `engine`, `turns`, `steps`, `census` |
-//! | nodes in cells: read, made, changed, handed over, counted, destroyed | `nodes`, `store`, `slot`, `cells`, `counts`, `clock` |
-//! | one-step calls and the end | `survey`, `stats`, `close` |
-//! | whole calls on one key, as what they reply | `replies` |
-//! | what follows over any steps | `laws` |
-//! | indexes that threads share, with guards and workers | `threads`, with `account` |
+//! | nodes in cells: read, made, changed, handed over, counted, destroyed; the root, and walks through the tree | `nodes` |
+//! | the calls in flight, a step by its event, and what is counted of pairs | `engine` |
+//! | the machine, a step at a time, with a log of what was asked and the journal | `world` |
+//! | whole calls, their replies, any list of steps, and what follows of them | `calls` |
+//! | indexes that threads share, with guards and workers | `threads` |
 #![tactic(auto)]
 
-mod account;
-mod advance;
-mod call;
 mod calls;
-mod cells;
-mod census;
-mod clock;
-mod close;
-mod counts;
 mod engine;
 mod id;
-mod journaling;
-mod laws;
 mod limits;
-mod log;
-mod map_laws;
 mod nodes;
-mod opening;
-mod promises;
-mod reading;
 mod refusal;
-mod replies;
-mod request;
-mod run_laws;
-mod slot;
-mod stats;
 mod steps;
-mod store;
-mod survey;
 mod threads;
-mod turns;
-mod waiting;
 mod world;
 
-pub use id::Id;
-pub use laws::{
-    comes_back, counts_nodes, counts_pairs, runs_alone, runs_join, runs_map, runs_plain,
-    runs_spare, waits, whereabouts,
+pub use calls::laws::{
+    comes_back, counts_nodes, counts_pairs, runs_alone, runs_join, runs_map, runs_plain, runs_spare,
 };
-pub use limits::Limits;
-pub use map_laws::calls_map;
-pub use promises::keeps_promises;
-pub use refusal::Refusal;
-pub use replies::pairs_stand;
-pub use run_laws::{
+pub use calls::map_laws::calls_map;
+pub use calls::promises::keeps_promises;
+pub use calls::replies::pairs_stand;
+pub use calls::run_laws::{
     alone_by_reports, answers_wanted, calls_answer, calls_end, guards_keep, locks_apart,
     nodes_leave, readers_refused, runs_journal,
 };
+pub use id::Id;
+pub use limits::Limits;
+pub use refusal::Refusal;
 pub use steps::{Done, Event, Kind, Op, Outcome, Ran, Report, Step, Survey};
 pub use threads::auditing::audit;
+pub use threads::congee_arc::CongeeArc;
 pub use threads::driver::{Turns, drive, turns_tell};
 pub use threads::journaled::Journaled;
-pub use threads::numbers::U64Congee;
-pub use threads::owners::CongeeArc;
 pub use threads::share::Share;
 pub use threads::tokens::{Guard, Worker};
+pub use threads::u64_congee::U64Congee;
 pub use threads::watch::{Every, Watch};
-pub use threads::words::Congee;
+pub use threads::word_congee::Congee;
 pub use world::World;
+pub use world::laws::{waits, whereabouts};

@@ -1,20 +1,36 @@
 //! The nodes of a shared tree in the cells of a collector.
+//!
+//! A cell holds a `slot`: a node beside its lock word. `cells` takes one out and puts it back; `Nodes` changes it in between,
+//! and serves the protocol's calls as their `store`, which `reading` reads for. `collector` has the collector's own calls on
+//! the nodes, `counts` what was handed over and of what size. `opening` makes the root; `survey`, `stats` and `close` go
+//! through the whole tree. `account` is what came in with the allocator.
+
+pub(crate) mod account;
+pub(crate) mod cells;
+pub(crate) mod close;
+pub(crate) mod collector;
+pub(crate) mod counts;
+pub(crate) mod opening;
+pub(crate) mod reading;
+pub(crate) mod slot;
+pub(crate) mod stats;
+pub(crate) mod store;
+pub(crate) mod survey;
 
 ghost use Rattle.std.specs.Prelude.{◌≡◌, ◌+◌, ◌-◌, ◌*◌, ◌^◌, ◌<◌, ◌≤◌, ℕ, true, length};
 ghost use Rattle.std.specs.List.{sum_by};
 ghost use Rattle.congee.specs.protocol.Events.{hung, SameBut, MayChange, ChangeGives};
 ghost use Rattle.congee.specs.Heap.{Holds, Nothing, Stands};
 ghost use Rattle.joint.specs.declared.limits.TheConstants.{CELLS_MAX};
-ghost use Rattle.joint.specs.Forest.{IsCharged, total, nodes, frame};
-ghost use Rattle.joint.specs.Listing.{bytes_of, handed_nodes, standing_nodes};
-ghost use Rattle.joint.specs.Solid.{IsWhole};
-ghost use Rattle.joint.specs.View.{id_number, node_of, worded};
+ghost use Rattle.joint.specs.nodes.Nodes.{IsCharged, total, nodes, frame};
+ghost use Rattle.joint.specs.nodes.Listing.{bytes_of, handed_nodes, standing_nodes};
+ghost use Rattle.joint.specs.nodes.Solid.{IsWhole};
+ghost use Rattle.joint.specs.nodes.View.{id_number, node_of, worded};
 
-use crate::account::Account;
-use crate::cells;
-use crate::counts::Counts;
 use crate::id::Id;
-use crate::slot::{Slot, Word};
+use crate::nodes::account::Account;
+use crate::nodes::counts::Counts;
+use crate::nodes::slot::{LockWord, Slot};
 use congee::{Allocator, Child, Payload, Small};
 use crossbeam_epoch::World;
 use std::alloc::Global;
@@ -34,10 +50,10 @@ pub struct Nodes<P: Payload + Small, A: Allocator> {
 
 impl<P: Payload + Small, A: Allocator> Model for Nodes<P, A> {
     ghost use Rattle.std.specs.Coded.{codes};
-    ghost use Rattle.joint.specs.MapCode.{map_code};
-    ghost use Rattle.joint.specs.Forest.{Forest, IsKept};
+    ghost use Rattle.joint.specs.nodes.MapCode.{map_code};
+    ghost use Rattle.joint.specs.nodes.Nodes.{Nodes as State, IsKept};
 
-    ghost Value = { Forest P };
+    ghost Value = { State P };
 
     ghost coded = { Prim.hlevel (codes, map_code) };
 
@@ -137,14 +153,17 @@ impl<P: Payload + Small, A: Allocator> Nodes<P, A> {
     }
 
     /// Gives a node another lock word, with the mark that it has.
-    pub(crate) fn set_word(&mut self, at: Id, word: Word)
+    pub(crate) fn set_word(&mut self, at: Id, word: LockWord)
         requires stands { Stands (nodes self.old (id_number at)) }
         requires mark { word.retired ≡ (nodes self.old (id_number at)).retired }
         ensures frame { frame self.new ≡ frame self.old }
         ensures charge { self.new.charge ≡ self.old.charge }
         ensures node { SameBut (nodes self.old) (id_number at) (worded word (nodes self.old (id_number at))) (nodes self.new) }
     {
-        cells::set_word(&mut self.collector, at.name, word);
+        World::<Slot<P>, ()>::cells();
+        let mut slot = cells::take_out(&mut self.collector, at.name);
+        slot.word = word;
+        cells::put_back(&mut self.collector, at.name, slot);
     }
 
     /// Hangs the child at the byte of a node, in place of what hangs there, or takes out what hangs there.
@@ -155,7 +174,10 @@ impl<P: Payload + Small, A: Allocator> Nodes<P, A> {
         ensures charge { self.new.charge ≡ self.old.charge }
         ensures node { ChangeGives (nodes self.old) (id_number at) byte (hung id_number child) (nodes self.new) }
     {
-        cells::hang(&mut self.collector, at.name, byte, child);
+        World::<Slot<P>, ()>::cells();
+        let mut slot = cells::take_out(&mut self.collector, at.name);
+        slot.hang(byte, child);
+        cells::put_back(&mut self.collector, at.name, slot);
     }
 
     /// Takes the value at the byte out of a node.
@@ -166,6 +188,10 @@ impl<P: Payload + Small, A: Allocator> Nodes<P, A> {
         ensures frame { frame self.new ≡ frame self.old }
         ensures node { ChangeGives (nodes self.old) (id_number at) byte Nothing (nodes self.new) }
     {
-        cells::pull(&mut self.collector, at.name, byte)
+        World::<Slot<P>, ()>::cells();
+        let mut slot = cells::take_out(&mut self.collector, at.name);
+        let value = slot.pull(byte);
+        cells::put_back(&mut self.collector, at.name, slot);
+        value
     }
 }

@@ -2,8 +2,7 @@
 
 ghost use Rattle.std.specs.Prelude.{◌≡◌};
 ghost use Rattle.joint.specs.Asked.{changes};
-ghost use Rattle.joint.specs.MapCalls.{reply_in};
-ghost use Rattle.joint.specs.Reports.{target, told, collected};
+ghost use Rattle.joint.specs.Reports.{reply_in, target, told, collected};
 
 use crate::id::Id;
 use crate::refusal::Refusal;

@@ -1,43 +1,40 @@
 //! The index and its collector, one step at a time.
+//!
+//! `step` takes one, and writes down in the `log` what was asked and what took effect. `laws` say where each node is.
 
-ghost use Rattle.std.specs.Prelude.{◌≡◌, ◌+◌, ◌<◌, ◌≤◌, ℕ, List, [], true, length, option_map, slice_get, take, vec_capacity, IfOk, IfErr, MatchResult};
+pub(crate) mod laws;
+pub(crate) mod log;
+pub(crate) mod step;
+
+ghost use Rattle.std.specs.Prelude.{◌≡◌, ◌+◌, ◌<◌, [], true, length, option_map, slice_get, IfOk, IfErr, MatchResult};
 ghost use Rattle.std.specs.FinMap.{empty};
 ghost use Rattle.std.specs.List.{sum_by};
-ghost use Rattle.std.specs.Vec.{vec_len};
 ghost use Rattle.judge.specs.Answer.{Pairs};
 ghost use Rattle.judge.specs.Journal.{IsLegal, Legal};
 ghost use Rattle.congee.specs.Heap.{Stands};
 ghost use Rattle.congee.specs.Keys.{IsMapOf};
-ghost use Rattle.congee.specs.protocol.PlainSteps.{Plain};
-ghost use Rattle.joint.specs.Alone.{AllEndAlone};
-ghost use Rattle.joint.specs.Closing.{IsClosed, IsNotClosed, account_of};
-ghost use Rattle.joint.specs.Forest.{IsBeside, nodes};
-ghost use Rattle.joint.specs.Journaling.{asks_at, has_place};
-ghost use Rattle.joint.specs.Listing.{IsListOf, bytes_of, standing_nodes, waiting_nodes};
-ghost use Rattle.joint.specs.Log.{opened_log, request_at};
-ghost use Rattle.joint.specs.Opening.{HasPlaces, IsOpened, IsUnjournaled, IsUnopened};
-ghost use Rattle.joint.specs.declared.limits.Limits.{Limits as Bounds};
-ghost use Rattle.joint.specs.Plain.{Agree, AreUnrefused, FollowsRun};
-ghost use Rattle.joint.specs.Promises.{IsNew, KeepsPromises};
-ghost use Rattle.joint.specs.Rounds.{IsQuiet, Round, AreRounds, steps_in, bags_left, rounds_wanted, CameBack};
-ghost use Rattle.joint.specs.Runs.{Flights, AreInFlight, IsRun, RunsJournal, RunsMap, AllSpare, IsFresh, no_flights};
-ghost use Rattle.joint.specs.Scans.{ScansHold, EmptyScansHold};
-ghost use Rattle.joint.specs.Whereabouts.{AllSomewhere, IsWaiting};
-ghost use Rattle.joint.specs.Whole.{Holds};
+ghost use Rattle.joint.specs.engine.Closing.{IsClosed, IsNotClosed, account_of};
+ghost use Rattle.joint.specs.nodes.Nodes.{nodes};
+ghost use Rattle.joint.specs.engine.Journaling.{asks_at, has_place};
+ghost use Rattle.joint.specs.nodes.Listing.{IsListOf, bytes_of, standing_nodes};
+ghost use Rattle.joint.specs.engine.Census.{waiting_nodes};
+ghost use Rattle.joint.specs.engine.Log.{opened_log, request_at};
+ghost use Rattle.joint.specs.nodes.Opening.{HasPlaces, IsOpened, IsUnjournaled, IsUnopened};
+ghost use Rattle.joint.specs.world.World.{IsNew, Holds};
+ghost use Rattle.joint.specs.engine.Engine.{IsFresh};
+ghost use Rattle.joint.specs.world.Whereabouts.{AllSomewhere, IsWaiting};
 
-use crate::account::Account;
 use crate::engine::Engine;
-use crate::laws::{comes_back, runs_alone, runs_plain, runs_spare, waits, whereabouts};
 use crate::limits::Limits;
-use crate::log::Log;
-use crate::promises::keeps_promises;
+use crate::nodes::account::Account;
 use crate::refusal::Refusal;
-use crate::steps::{Op, Ran, Report, Step};
+use crate::steps::{Op, Report};
+use crate::world::laws::{waits, whereabouts};
+use crate::world::log::Log;
 use congee::{Allocator, Drainer, Payload, Small};
 use judge::Entry;
 use std::alloc::Global;
 use std::marker::Model;
-use std::vec::Vec;
 
 /// An index whose removed nodes are reclaimed. Its workers register, pin, and then call; a call of each may be in flight.
 #[derive(Drop)]
@@ -48,12 +45,13 @@ pub struct World<P: Payload + Small, A: Allocator> {
 
 impl<P: Payload + Small, A: Allocator> Model for World<P, A> {
     ghost use Rattle.std.specs.Coded.{codes};
-    ghost use Rattle.joint.specs.MapCode.{map_code};
+    ghost use Rattle.joint.specs.nodes.MapCode.{map_code};
     ghost use Rattle.std.specs.Prelude.{◌≡◌};
-    ghost use Rattle.joint.specs.Census.{AreCounted};
-    ghost use Rattle.joint.specs.Whole.{Whole, Holds};
+    ghost use Rattle.joint.specs.engine.Census.{AreCounted};
+    ghost use Rattle.joint.specs.world.World.{Holds};
+    ghost use Rattle.joint.specs.engine.Engine.{World as State};
 
-    ghost Value = { Whole P };
+    ghost Value = { State P };
 
     ghost coded = { Prim.hlevel (codes, map_code) };
 
@@ -104,53 +102,6 @@ impl<P: Payload + Small, A: Allocator> World<P, A> {
     {
         whereabouts::<P>();
         let _ = &self.engine;
-    }
-
-    /// These steps, one after another, until there is no memory for a report: it stops early only where the list of reports
-    /// is full. From the opening on, `promises` says in one place all that is promised of a run.
-    pub fn run(&mut self, alloc: Global, steps: Vec<Step<P>>) -> Ran<P>
-        ensures done { result.done ≡ vec_len result.reports }
-        ensures full { result.done < length steps.items → vec_capacity result.reports ≤ vec_len result.reports }
-        ensures run { IsRun P.same_as P.always_copies self.old (take result.done steps.items) result.reports.items self.new }
-        ensures map { (fs : Flights P) (m : Pairs P) → IsMapOf (nodes self.old.forest) m → AreInFlight self.old fs → RunsMap P.same_as fs m (take result.done steps.items) result.reports.items self.new }
-        ensures fresh { IsFresh self.old → RunsMap P.same_as no_flights empty (take result.done steps.items) result.reports.items self.new }
-        ensures scans { (fs : Flights P) (m : Pairs P) (r : RunsMap P.same_as fs m (take result.done steps.items) result.reports.items self.new) → ScansHold r.lines × EmptyScansHold r.lines }
-        ensures journal { (fs : Flights P) (m : Pairs P) → IsMapOf (nodes self.old.forest) m → AreInFlight self.old fs → RunsJournal P.same_as fs m self.old (take result.done steps.items) result.reports.items self.new }
-        ensures fresh_journal { IsFresh self.old → RunsJournal P.same_as no_flights empty self.old (take result.done steps.items) result.reports.items self.new }
-        ensures beside { IsBeside self.old.forest self.new.forest }
-        ensures spares { (run : IsRun P.same_as P.always_copies self.old (take result.done steps.items) result.reports.items self.new) → AllSpare self.old run.taken }
-        ensures comes_back { (run : IsRun P.same_as P.always_copies self.old (take result.done steps.items) result.reports.items self.new) (who : ℕ) (rounds : List (Round P)) → IsQuiet self.old → AreRounds who rounds → run.taken ≡ steps_in rounds → rounds_wanted (bags_left self.old rounds) ≤ length rounds → CameBack self.new who }
-        ensures all_come_back { (run : IsRun P.same_as P.always_copies self.old (take result.done steps.items) result.reports.items self.new) (who : ℕ) (rounds : List (Round P)) → IsQuiet self.old → AreRounds who rounds → run.taken ≡ steps_in rounds → rounds_wanted (length (waiting_nodes self.old)) ≤ length rounds → CameBack self.new who }
-        ensures alone { (run : IsRun P.same_as P.always_copies self.old (take result.done steps.items) result.reports.items self.new) → AllEndAlone self.old run.taken }
-        ensures plain { (order : List ℕ) (p : Plain P) → AreUnrefused result.reports.items → Agree self.old order p → FollowsRun P.same_as self.old.forest.version_max (take result.done steps.items) result.reports.items self.new order p }
-        ensures promises { (limits : Bounds) → IsNew limits self.old → KeepsPromises P.same_as P.always_copies limits (take result.done steps.items) result.reports.items self.new }
-    {
-        keeps_promises::<P, A>();
-        runs_spare::<P, A>();
-        comes_back::<P>();
-        runs_alone::<P, A>();
-        runs_plain::<P, A>();
-        self.sound();
-        self.take_all(alloc, steps)
-    }
-
-    /// Takes the steps one after another, until there is no memory for a report.
-    fn take_all(&mut self, alloc: Global, steps: Vec<Step<P>>) -> Ran<P>
-        ensures done { result.done ≡ vec_len result.reports }
-        ensures full { result.done < length steps.items → vec_capacity result.reports ≤ vec_len result.reports }
-        ensures run { IsRun P.same_as P.always_copies self.old (take result.done steps.items) result.reports.items self.new }
-    {
-        let mut reports = Vec::new(alloc);
-        let mut rest = steps.into_iter();
-        while let Some(step) = rest.next() {
-            if reports.reserve(1).is_err() {
-                break;
-            }
-            let report = self.step(step);
-            reports.push_reserved(report);
-        }
-        let done = reports.len();
-        Ran { reports, done }
     }
 
     /// The bytes charged to the allocator: what it had charged before the first node, and the sizes of the nodes that stand.

@@ -1,6 +1,6 @@
 -- What a tree that is closed hands over.
 use Rattle.std.proofs.Common.{◌≡◌, ℕ, true, List, [], ◌∷◌, ◌++◌, sym, ◌∙◌, ap, append_assoc, append-nil}
-use Rattle.joint.specs.Closing.{Drained as Takes}
+use Rattle.joint.specs.nodes.Draining.{Drained as Takes}
 use Rattle.trial.specs.declared.drained.Drained.{Drained}
 
 -- a pair comes behind those before it, unless there was no memory for it or for one of those

@@ -12,7 +12,7 @@ use Rattle.trial.specs.declared.word.Word.{Word}
 use Rattle.trial.specs.declared.word.Word.TheVariants.{Key, Number}
 use Rattle.trial.specs.Grammar.{option_words, call_words, command_words, IsNumber, IsCount, CallFits, CommandFits}
 use Rattle.trial.specs.Parsing.{call_of, counted, worker_command_of, limit_of, version_of, journal_of, opening_if_done, opening_of, plain_command_of, command_of}
-use Rattle.trial.proofs.Calls.{Small, call_sound, found_so, passed, at_most}
+use Rattle.trial.proofs.Calls.{Small, call_sound, found_so, passed, at_most_of_test}
 
 -- these words are a command within its bounds
 abbrev IsCommand : List Word → Command → Type 0
@@ -31,7 +31,7 @@ counted_sound : (n : ℕ) (x c : Command) → counted n x ≡ Some c → IsCount
 counted_sound n x c e =
     let parts = passed (nat_le 1 n && nat_le n 1000000) x c e in
     let tests = both_true (nat_le 1 n) (nat_le n 1000000) parts.0 in
-    ((at_most 1 n tests.0, at_most n 1000000 tests.1), parts.1)
+    ((at_most_of_test 1 n tests.0, at_most_of_test n 1000000 tests.1), parts.1)
 
 call_of_worker : (w : ℕ) (ws : List Word) (c : Command) → w < 2 ^ 32 → Small ws → option_map (command.Call w) (call_of ws) ≡ Some c → IsCommand (Number w ∷ ws) c
 call_of_worker w ws c h s e =

@@ -4,7 +4,7 @@ use Rattle.std.specs.declared.alloc.Global.{Global}
 use Rattle.std.proofs.lemmas.Bool.Decides.{nat_tests}
 use Rattle.std.proofs.lemmas.Option.{slice_get_cases}
 use Rattle.judge.specs.declared.journal.Entry.{Entry}
-use Rattle.joint.specs.Auditing.{IsAudited, of_worker}
+use Rattle.joint.specs.threads.Auditing.{IsAudited, of_worker}
 use Rattle.trial.specs.Histories.{AreKept}
 
 -- the entries of the first workers

@@ -19,10 +19,10 @@ use Rattle.joint.specs.declared.steps.Outcome.TheVariants as outcome
 use Rattle.joint.specs.declared.steps.Survey.{Survey}
 use Rattle.joint.specs.declared.steps.Survey.TheVariants as survey
 use Rattle.joint.specs.declared.steps.Target.TheVariants as target
-use Rattle.joint.specs.MapCalls.{Answered as Last, IsPresent, IsComputed}
+use Rattle.joint.specs.calls.MapCalls.{Answered as Last, IsPresent, IsComputed}
 use Rattle.joint.specs.Reports.{target}
-use Rattle.joint.specs.Runs.{no_flights}
-use Rattle.joint.specs.Whole.{Whole}
+use Rattle.joint.specs.engine.Flying.{no_flights}
+use Rattle.joint.specs.engine.Engine.{World}
 use Rattle.trial.specs.declared.caller.Caller.{Caller}
 use Rattle.trial.specs.declared.caller.Closure.{Closure}
 use Rattle.trial.specs.declared.caller.Closure.TheVariants as closure
@@ -32,7 +32,7 @@ use Rattle.trial.specs.declared.command.Command.{Command}
 use Rattle.trial.specs.declared.command.Command.TheVariants as command
 use Rattle.trial.specs.declared.end.End.{End}
 use Rattle.trial.specs.declared.end.End.TheVariants as end
-use Rattle.trial.specs.declared.index.Index.{Index}
+use Rattle.trial.specs.declared.open_tree.OpenTree.{OpenTree}
 use Rattle.trial.specs.declared.line.Line.{Line}
 use Rattle.trial.specs.declared.line.Line.TheVariants as line
 use Rattle.trial.specs.declared.reply.Refused.{Refused}
@@ -55,7 +55,7 @@ use Rattle.trial.proofs.Surveys.{Surveyed, survey_finishes, keys_reply, empty_re
 use Rattle.trial.proofs.WholeScans.{scan_finishes}
 
 -- a tree with these pairs, no call of which is in flight
-abbrev pub At : Index → Pairs ℕ → Type 0
+abbrev pub At : OpenTree → Pairs ℕ → Type 0
 At s m = Rests s.world m × (length s.callers.items ≡ 256) × (length s.scans.items ≡ 256)
 
 as_long : {A : Type 0} (b : Bool) (xs : List A) (i : ℕ) (x : A) → length xs ≡ 256 → length (if b then slice_set xs i x else xs) ≡ 256
@@ -63,51 +63,51 @@ as_long true xs i x e = length-set xs i x ∙ e
 as_long false xs i x e = e
 
 -- a registration leaves the map
-registers_at : MapLaws → (s s' : Index) (told : Outcome ℕ) (m : Pairs ℕ) → At s m → Registers s told s' → At s' m
+registers_at : MapLaws → (s s' : OpenTree) (told : Outcome ℕ) (m : Pairs ℕ) → At s m → Registers s told s' → At s' m
 registers_at laws s s' told m b g =
     (rests_after m s.world s'.world b.0 g.0.1.holds (laws.registers s.world 0 g.0.0 s'.world b.0.flights m b.0.holds g.0.1 b.0.stand b.0.in_flight), ap (λ (x : _). length x.items) g.1 ∙ b.1, ap (λ (x : _). length x.items) g.2 ∙ b.2)
 
 -- as many scans as before
-begun_scans : (w : ℕ) (o : Op ℕ) (f : Option Closure) (s s' : Index) (told : Outcome ℕ) → length s.scans.items ≡ 256 → Begins s w o f told s' → length s'.scans.items ≡ 256
+begun_scans : (w : ℕ) (o : Op ℕ) (f : Option Closure) (s s' : OpenTree) (told : Outcome ℕ) → length s.scans.items ≡ 256 → Begins s w o f told s' → length s'.scans.items ≡ 256
 begun_scans w o f s s' told e g = ap length g.2 ∙ as_long (is_running told) s.scans.items w [] e
 
-gone_on_scans : (w left : ℕ) (s : Index) (stands told : Outcome ℕ) (s' : Index) → GoesOn w left s stands told s' → length s.scans.items ≡ 256 → length s'.scans.items ≡ 256
+gone_on_scans : (w left : ℕ) (s : OpenTree) (stands told : Outcome ℕ) (s' : OpenTree) → GoesOn w left s stands told s' → length s.scans.items ≡ 256 → length s'.scans.items ≡ 256
 gone_on_scans w left s stands told s' (stays s1 t1) e = e
 gone_on_scans w left s stands told s' (ends n s1 t1 x) e = e
 gone_on_scans w left s stands told s' (goes n s1 mid s2 st next t1 run step more) e =
     gone_on_scans w n mid next told s' more (ap length step.2 ∙ filled_length s1.scans.items w next ∙ e)
 
-called_scans : (w : ℕ) (o : Op ℕ) (f : Option Closure) (s s' : Index) (told : Outcome ℕ) → length s.scans.items ≡ 256 → Calls s w o f told s' → length s'.scans.items ≡ 256
+called_scans : (w : ℕ) (o : Op ℕ) (f : Option Closure) (s s' : OpenTree) (told : Outcome ℕ) → length s.scans.items ≡ 256 → Calls s w o f told s' → length s'.scans.items ≡ 256
 called_scans w o f s s' told e g = gone_on_scans w 9999 g.0 g.1 told s' g.3 (begun_scans w o f s g.0 g.1 e g.2)
 
 -- and as many callers
-gone_on_callers : (w left : ℕ) (s : Index) (stands told : Outcome ℕ) (s' : Index) → GoesOn w left s stands told s' → length s.callers.items ≡ 256 → length s'.callers.items ≡ 256
+gone_on_callers : (w left : ℕ) (s : OpenTree) (stands told : Outcome ℕ) (s' : OpenTree) → GoesOn w left s stands told s' → length s.callers.items ≡ 256 → length s'.callers.items ≡ 256
 gone_on_callers w left s stands told s' (stays s1 t1) e = e
 gone_on_callers w left s stands told s' (ends n s1 t1 x) e = e
 gone_on_callers w left s stands told s' (goes n s1 mid s2 st next t1 run step more) e =
     gone_on_callers w n mid next told s' more (ap length step.1 ∙ length-set s1.callers.items w _ ∙ e)
 
-called_callers : (w : ℕ) (o : Op ℕ) (f : Option Closure) (s s' : Index) (told : Outcome ℕ) → length s.callers.items ≡ 256 → Calls s w o f told s' → length s'.callers.items ≡ 256
+called_callers : (w : ℕ) (o : Op ℕ) (f : Option Closure) (s s' : OpenTree) (told : Outcome ℕ) → length s.callers.items ≡ 256 → Calls s w o f told s' → length s'.callers.items ≡ 256
 called_callers w o f s s' told e g = gone_on_callers w 9999 g.0 g.1 told s' g.3 (ap length g.2.1 ∙ as_long (is_running g.1) s.callers.items w (fresh f) e)
 
-calls_at : MapLaws → (w : ℕ) (o : Op ℕ) (t : _) (f : Option Closure) (s s' : Index) (told : Outcome ℕ) (m : Pairs ℕ) → target o ≡ target.Collector t → At s m → Calls s w o f told s' → At s' m
+calls_at : MapLaws → (w : ℕ) (o : Op ℕ) (t : _) (f : Option Closure) (s s' : OpenTree) (told : Outcome ℕ) (m : Pairs ℕ) → target o ≡ target.Collector t → At s m → Calls s w o f told s' → At s' m
 calls_at laws w o t f s s' told m e b g = (rests_beside laws w o t f m s s' told e b.0 g, called_callers w o f s s' told b.1 g, called_scans w o f s s' told b.2 g)
 
-after_pin_at : MapLaws → (w : ℕ) (s s' : Index) (pin first : Option Refusal) (m : Pairs ℕ) → At s m → AfterPin pin s w s' first → At s' m
-after_pin_at laws w s s' (Some r) first m b g = let P : Index → Type 0 = λ x. At x m in subst P (sym g.0) b
+after_pin_at : MapLaws → (w : ℕ) (s s' : OpenTree) (pin first : Option Refusal) (m : Pairs ℕ) → At s m → AfterPin pin s w s' first → At s' m
+after_pin_at laws w s s' (Some r) first m b g = let P : OpenTree → Type 0 = λ x. At x m in subst P (sym g.0) b
 after_pin_at laws w s s' None first m b g =
     calls_at laws w op.Unpin _ None g.0 s' g.2 m refl (calls_at laws w op.Flush _ None s g.0 g.1 m refl b g.3) g.4
 
-round_at : MapLaws → (w : ℕ) (s s' : Index) (first : Option Refusal) (m : Pairs ℕ) → At s m → Round s w s' first → At s' m
+round_at : MapLaws → (w : ℕ) (s s' : OpenTree) (first : Option Refusal) (m : Pairs ℕ) → At s m → Round s w s' first → At s' m
 round_at laws w s s' first m b g = after_pin_at laws w g.0 s' (refusal_of g.1) first m (calls_at laws w op.Pin _ None s g.0 g.1 m refl b g.2) g.3
 
-after_round_at : (s s' : Index) (first : Option Refusal) (r : Reply) (m : Pairs ℕ) (More : Type 0) → At s m → (More → At s' m)
+after_round_at : (s s' : OpenTree) (first : Option Refusal) (r : Reply) (m : Pairs ℕ) (More : Type 0) → At s m → (More → At s' m)
     → MatchOption first More (λ e. (s' ≡ s) × (r ≡ reply.Refused (refused.Tree e))) → At s' m
 after_round_at s s' None r m More b more g = more g
-after_round_at s s' (Some e) r m More b more g = let P : Index → Type 0 = λ x. At x m in subst P (sym g.0) b
+after_round_at s s' (Some e) r m More b more g = let P : OpenTree → Type 0 = λ x. At x m in subst P (sym g.0) b
 
-rounds_at : MapLaws → (w k : ℕ) (s s' : Index) (r : Reply) (m : Pairs ℕ) → At s m → Rounds k s w s' r → At s' m
-rounds_at laws w zero s s' r m b g = let P : Index → Type 0 = λ x. At x m in subst P (sym g.0) b
+rounds_at : MapLaws → (w k : ℕ) (s s' : OpenTree) (r : Reply) (m : Pairs ℕ) → At s m → Rounds k s w s' r → At s' m
+rounds_at laws w zero s s' r m b g = let P : OpenTree → Type 0 = λ x. At x m in subst P (sym g.0) b
 rounds_at laws w (suc k) s s' r m b g =
     let mid = round_at laws w s g.0 g.1 m b g.2 in
     after_round_at g.0 s' g.1 r m (Rounds k g.0 w s' r) mid (λ x. rounds_at laws w k g.0 s' r m mid x) g.3
@@ -148,9 +148,9 @@ left_length (outcome.Done (done.Empty b)) w scans = refl
 left_length (outcome.Done (done.Stats stats)) w scans = refl
 left_length (outcome.Refused r) w scans = refl
 
-replied_at : (w : ℕ) (s s' : Index) (stands : Outcome ℕ) (m : Pairs ℕ) → At s m → GaveAway s w stands s' → At s' m
+replied_at : (w : ℕ) (s s' : OpenTree) (stands : Outcome ℕ) (m : Pairs ℕ) → At s m → GaveAway s w stands s' → At s' m
 replied_at w s s' stands m b g =
-    let P : Whole ℕ → Type 0 = λ x. Rests x m in
+    let P : World ℕ → Type 0 = λ x. Rests x m in
     (subst P (sym g.world) b.0, ap (λ (x : _). length x.items) g.callers ∙ b.1, ap length g.scans ∙ left_length stands w s.scans.items ∙ b.2)
 
 -- a reply that is the map's, where the map has one
@@ -167,19 +167,19 @@ agreed false None r rs a = refl
 agreed false (Some told) r rs a = absurd a
 
 -- the tree and the reply after a call on one key
-finished : (w : ℕ) (o : Op ℕ) (f : Option Closure) (m : Pairs ℕ) (p : Point ℕ) (s mid s' : Index) (stands : Outcome ℕ) (r : Reply) → At s m → Calls s w o f stands mid → Replies mid w stands s' r
+finished : (w : ℕ) (o : Op ℕ) (f : Option Closure) (m : Pairs ℕ) (p : Point ℕ) (s mid s' : OpenTree) (stands : Outcome ℕ) (r : Reply) → At s m → Calls s w o f stands mid → Replies mid w stands s' r
     → Finished m p mid (reply_of (given stands (places_at mid.scans.items w)) stands) → At s' (answer nat_eq m p).1 × (r ≡ reply_to (answer nat_eq m p).0)
 finished w o f m p s mid s' stands r b g told e =
     (replied_at w mid s' stands (answer nat_eq m p).1 (e.rests, called_callers w o f s mid stands b.1 g, called_scans w o f s mid stands b.2 g) told.0, told.1 ∙ e.reply)
 
 -- the tree after a call of one step
-surveyed_at : (w : ℕ) (k : Survey) (o : Op ℕ) (s mid s' : Index) (stands : Outcome ℕ) (m : Pairs ℕ) → At s m → Calls s w o None stands mid → Surveyed m k mid stands → GaveAway mid w stands s' → At s' m
+surveyed_at : (w : ℕ) (k : Survey) (o : Op ℕ) (s mid s' : OpenTree) (stands : Outcome ℕ) (m : Pairs ℕ) → At s m → Calls s w o None stands mid → Surveyed m k mid stands → GaveAway mid w stands s' → At s' m
 surveyed_at w k o s mid s' stands m b c x g = replied_at w mid s' stands m (x.rests, called_callers w o None s mid stands b.1 c, called_scans w o None s mid stands b.2 c) g
 
 told_answer : (r told : Reply) → r ≡ told → IsAnswer r → IsAnswer told
 told_answer r told e a = subst IsAnswer e a
 
-call_at : MapLaws → (w : ℕ) (c : Call) (s s' : Index) (r : Reply) (m : Pairs ℕ) → At s m → CallReplies (op_of c) (closure_of c) s w s' r → IsAnswer r
+call_at : MapLaws → (w : ℕ) (c : Call) (s s' : OpenTree) (r : Reply) (m : Pairs ℕ) → At s m → CallReplies (op_of c) (closure_of c) s w s' r → IsAnswer r
     → At s' (map_after m (command.Call w c)) × Agrees (is_on_keys (command.Call w c)) (answer_to m (command.Call w c)) r
 call_at laws w (call.Get k) s s' r m b g a =
     finished w (op.Get k) None m (point.Get k) s g.1 s' g.0 r b g.2 g.3
@@ -240,24 +240,24 @@ Keeps m c new r = AtMap new (map_after m c) × Agrees (is_on_keys c) (answer_to 
 no_refusal : (why : Refused) (r : Reply) → r ≡ reply.Refused why → IsAnswer r → ⊥
 no_refusal why r e a = subst IsAnswer e a
 
-asks_at : MapLaws → (c : Command) (s s' : Index) (r : Reply) (m : Pairs ℕ) → At s m → Asks s c s' r → IsWhole c → IsAnswer r → Keeps m c (Some s') r
+asks_at : MapLaws → (c : Command) (s s' : OpenTree) (r : Reply) (m : Pairs ℕ) → At s m → Asks s c s' r → IsWhole c → IsAnswer r → Keeps m c (Some s') r
 asks_at laws command.Register s s' r m b g w a = (registers_at laws s s' g.0 m b g.1, tt)
-asks_at laws command.Charged s s' r m b g w a = ((let P : Index → Type 0 = λ x. At x m in subst P (sym g.0) b), tt)
-asks_at laws command.Waiting s s' r m b g w a = ((let P : Index → Type 0 = λ x. At x m in subst P (sym g.0) b), tt)
+asks_at laws command.Charged s s' r m b g w a = ((let P : OpenTree → Type 0 = λ x. At x m in subst P (sym g.0) b), tt)
+asks_at laws command.Waiting s s' r m b g w a = ((let P : OpenTree → Type 0 = λ x. At x m in subst P (sym g.0) b), tt)
 asks_at laws (command.Call i c) s s' r m b g w a = call_at laws i c s s' r m b g a
 asks_at laws (command.Round i n) s s' r m b g w a = (rounds_at laws i n s s' r m b g, tt)
 asks_at laws (command.Begin i c) s s' r m b g w a = absurd w
 asks_at laws (command.Go i n) s s' r m b g w a = absurd w
 asks_at laws (command.Fail i) s s' r m b g w a = absurd w
 asks_at laws (command.New o) s s' r m b g w a = absurd g
-asks_at laws command.Journal s s' r m b g w a = ((let P : Index → Type 0 = λ x. At x m in subst P (sym g.0) b), tt)
+asks_at laws command.Journal s s' r m b g w a = ((let P : OpenTree → Type 0 = λ x. At x m in subst P (sym g.0) b), tt)
 asks_at laws command.Close s s' r m b g w a = absurd g
 
-opened_at : MapLaws → (limits : Limits) (journal : Option ℕ) (budget : ℕ) (result : Result (Whole ℕ) Refusal) (new : Session) (r : Reply) → Opens limits journal 0 budget result → Opened result new r → IsAnswer r
+opened_at : MapLaws → (limits : Limits) (journal : Option ℕ) (budget : ℕ) (result : Result (World ℕ) Refusal) (new : Session) (r : Reply) → Opens limits journal 0 budget result → Opened result new r → IsAnswer r
     → AtMap new empty
 opened_at laws limits journal budget (Ok world) new r o g a =
     let P : Session → Type 0 = λ x. AtMap x empty in
-    let Q : Whole ℕ → Type 0 = λ x. Rests x empty in
+    let Q : World ℕ → Type 0 = λ x. Rests x empty in
     let new_tree = laws.fresh world o.1 in
     let rests : Rests world empty = record { holds = o.4; flights = no_flights; stand = new_tree.0; in_flight = new_tree.1; over = λ i. refl } in
     let callers : length g.0.callers.items ≡ 256 = ap length g.1.callers ∙ length-replicate {A = Caller} 256 (fresh None) in
@@ -270,11 +270,11 @@ opens_at laws None journal budget new r g a = absurd (no_refusal _ r g.1 a)
 opens_at laws (Some limits) journal budget new r g a = opened_at laws limits journal budget g.0 new r g.1 g.2 a
 
 -- where the tree was closed, nothing is open
-closed_at : (s : Index) (new : Session) (r : Reply) (m : Pairs ℕ) → Closed s new r ⊎ StaysOpen s new r → IsAnswer r → Keeps m command.Close new r
+closed_at : (s : OpenTree) (new : Session) (r : Reply) (m : Pairs ℕ) → Closed s new r ⊎ StaysOpen s new r → IsAnswer r → Keeps m command.Close new r
 closed_at s new r m (inl x) a = (let P : Session → Type 0 = λ y. AtMap y empty in subst P (sym x.none) refl, tt)
 closed_at s new r m (inr x) a = absurd (no_refusal _ r x.reply a)
 
-asked_at : MapLaws → (c : Command) (s : Index) (new : Session) (r : Reply) (m : Pairs ℕ) → At s m → (index : Index) × (new ≡ Some index) × Asks s c index r → IsWhole c → IsAnswer r → Keeps m c new r
+asked_at : MapLaws → (c : Command) (s : OpenTree) (new : Session) (r : Reply) (m : Pairs ℕ) → At s m → (index : OpenTree) × (new ≡ Some index) × Asks s c index r → IsWhole c → IsAnswer r → Keeps m c new r
 asked_at laws c s new r m b g w a = let P : Session → Type 0 = λ x. Keeps m c x r in subst P (sym g.1) (asks_at laws c s g.0 r m b g.2 w a)
 
 answers_at : MapLaws → (old : Session) (c : Command) (new : Session) (r : Reply) (m : Pairs ℕ) → AtMap old m → Answers old c new r → IsWhole c → IsAnswer r → Keeps m c new r
@@ -386,6 +386,7 @@ prints_by A B f input given end.TooLong text p = (p.0, (p.1.0, p.1.1, f _ text p
 prints_by A B f input given end.Writing text (due, more, e, inl p) = (due, more, e, inl (p.0, p.1, (p.2.0, f _ due p.2.1)))
 prints_by A B f input given end.Writing text (due, more, e, inr p) = (due, more, e, inr (p.0, p.1, p.2, p.3, (p.4.0, f _ _ p.4.1), p.5, p.6))
 
+-- what the writer took of a script is what the script prints as the map says
 pub ran_of_map : MapLaws → (had left held holds : Option (List ℕ)) (e : End) → Ran AreAnswered had left held holds e → Ran MapAnswers had left held holds e
 ran_of_map laws None left held holds e r = tt
 ran_of_map laws (Some input) left held holds e r =

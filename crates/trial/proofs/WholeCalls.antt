@@ -16,17 +16,19 @@ use Rattle.joint.specs.declared.steps.Outcome.TheVariants as outcome
 use Rattle.joint.specs.declared.steps.Report.{Report}
 use Rattle.joint.specs.declared.steps.Target.{Target}
 use Rattle.joint.specs.declared.steps.Target.TheVariants as target
-use Rattle.joint.specs.Forest.{nodes}
-use Rattle.joint.specs.MapCalls.{AllGoOn, Answered as Last, answered_by, answered_after, IsOnMap, TookEffect, PlaysKey, PlaysCall, told_after, told_places}
+use Rattle.joint.specs.nodes.Nodes.{nodes}
+use Rattle.joint.specs.calls.MapCalls.{AllGoOn, Answered as Last, answered_by, answered_after, IsOnMap, TookEffect, PlaysKey, PlaysCall, told_after, told_places}
 use Rattle.joint.specs.Reports.{target}
-use Rattle.joint.specs.Runs.{Taken, AreTaken, after_all, Flights, AreInFlight}
-use Rattle.joint.specs.Scans.{placed}
-use Rattle.joint.specs.Whole.{Whole, Holds, IsOnKey, IsStep, is_in_flight}
+use Rattle.joint.specs.calls.Runs.{Taken, AreTaken, after_all}
+use Rattle.joint.specs.engine.Flying.{Flights, AreInFlight}
+use Rattle.joint.specs.calls.Scans.{placed}
+use Rattle.joint.specs.world.World.{Holds, IsOnKey, IsStep}
+use Rattle.joint.specs.engine.Engine.{World, is_in_flight}
 use Rattle.trial.specs.declared.caller.Caller.{Caller}
 use Rattle.trial.specs.declared.caller.Closure.{Closure}
-use Rattle.trial.specs.declared.index.Index.{Index}
+use Rattle.trial.specs.declared.open_tree.OpenTree.{OpenTree}
 use Rattle.trial.specs.declared.reply.Reply.{Reply}
-use Rattle.trial.specs.Callers.{answer_of, fresh, noise_of, heard, caller_at}
+use Rattle.trial.specs.Callers.{answer_of, fresh, noise_of, after_step, caller_at}
 use Rattle.trial.specs.Calling.{is_running, Begins, Goes, GoesOn, stays, ends, goes, Calls}
 use Rattle.trial.specs.MapReplies.{IsAnswer}
 use Rattle.trial.specs.Places.{places_at, filled}
@@ -52,12 +54,12 @@ Behind closure stands c = Answers closure stands c.answer × ((c.closure ≡ clo
 behind_nothing : (closure : Option Closure) (stands : Outcome ℕ) → Behind closure stands (fresh None)
 behind_nothing closure stands = (tt, inr refl)
 
-behind_answered : (closure own : Option Closure) (found : Option ℕ) → (own ≡ closure) ⊎ (own ≡ None) → Behind closure (outcome.Asks found) (heard (record { closure = own; answer = None }) (outcome.Asks found))
+behind_answered : (closure own : Option Closure) (found : Option ℕ) → (own ≡ closure) ⊎ (own ≡ None) → Behind closure (outcome.Asks found) (after_step (record { closure = own; answer = None }) (outcome.Asks found))
 behind_answered closure None found k = (tt, inr refl)
 behind_answered closure (Some f) found (inl e) = ((f, sym e, refl), inl e)
 behind_answered closure (Some f) found (inr e) = absurd (cc e)
 
-behind_heard : (closure : Option Closure) (stands next : Outcome ℕ) (c : Caller) → Behind closure stands c → Behind closure next (heard c next)
+behind_heard : (closure : Option Closure) (stands next : Outcome ℕ) (c : Caller) → Behind closure stands c → Behind closure next (after_step c next)
 behind_heard closure stands outcome.Running c b = (tt, b.1)
 behind_heard closure stands (outcome.Asks found) c b = behind_answered closure c.closure found b.1
 behind_heard closure stands (outcome.Found place key value) c b = (tt, b.1)
@@ -89,6 +91,7 @@ running (outcome.Registered who) e = absurd (cc e)
 running (outcome.Done d) e = absurd (cc e)
 running (outcome.Refused r) e = absurd (cc e)
 
+-- after a step as many workers have places as before
 pub filled_length : (scans : List (List (ℕ × ℕ))) (w : ℕ) (o : Outcome ℕ) → length (filled scans w o) ≡ length scans
 filled_length scans w outcome.Running = refl
 filled_length scans w (outcome.Asks found) = refl
@@ -97,6 +100,7 @@ filled_length scans w (outcome.Registered who) = refl
 filled_length scans w (outcome.Done d) = refl
 filled_length scans w (outcome.Refused r) = refl
 
+-- the places that were set for a worker are the worker's
 pub set_places : (scans : List (List (ℕ × ℕ))) (w : ℕ) (places : List (ℕ × ℕ)) → w < length scans → places_at (slice_set scans w places) w ≡ places
 set_places [] w places l = absurd (omega (arith, l))
 set_places (x ∷ scans) zero places l = refl
@@ -111,7 +115,7 @@ filled_places scans w (outcome.Done d) l = refl
 filled_places scans w (outcome.Refused r) l = refl
 
 -- further steps of a call as the tree took them, and the places that they filled
-pub record Went (w : ℕ) (closure : Option Closure) (s : Index) (stands : Outcome ℕ) (s' : Index) (told : Outcome ℕ) : Type 0 where
+pub record Went (w : ℕ) (closure : Option Closure) (s : OpenTree) (stands : Outcome ℕ) (s' : OpenTree) (told : Outcome ℕ) : Type 0 where
   pub steps : List (Taken ℕ)
   pub each : AreTaken nat_eq true s.world steps
   pub goes_on : AllGoOn w stands steps
@@ -120,10 +124,10 @@ pub record Went (w : ℕ) (closure : Option Closure) (s : Index) (stands : Outco
   pub answers : (last : Last ℕ) → ByClosure closure last → ByClosure closure (answered_after stands last steps)
   pub places : w < length s.scans.items → places_at s'.scans.items w ≡ told_places (places_at s.scans.items w) steps
 
-abbrev went_none : (w : ℕ) (closure : Option Closure) (s : Index) (stands : Outcome ℕ) → Went w closure s stands s stands
+abbrev went_none : (w : ℕ) (closure : Option Closure) (s : OpenTree) (stands : Outcome ℕ) → Went w closure s stands s stands
 went_none w closure s stands = record { steps = []; each = tt; goes_on = tt; told_last = refl; after = refl; answers = λ last b. b; places = λ l. refl }
 
-went_more : (w : ℕ) (closure : Option Closure) (s mid s' : Index) (stands next told : Outcome ℕ) → is_running stands ≡ true → Behind closure stands (caller_at s.callers.items w) → Goes s w false next mid
+went_more : (w : ℕ) (closure : Option Closure) (s mid s' : OpenTree) (stands next told : Outcome ℕ) → is_running stands ≡ true → Behind closure stands (caller_at s.callers.items w) → Goes s w false next mid
     → Went w closure mid next s' told → Went w closure s stands s' told
 went_more w closure s mid s' stands next told on b g more =
     let P : Outcome ℕ → Type 0 = λ o. Went w closure mid o s' told in
@@ -140,7 +144,7 @@ went_more w closure s mid s' stands next told on b g more =
           ∙ ap (λ p. told_places p rest.steps) (ap (λ x. places_at x w) g.2 ∙ filled_places s.scans.items w next l ∙ ap (λ o. placed true o (places_at s.scans.items w)) g.0.2);
     }
 
-went : (w : ℕ) (closure : Option Closure) (left : ℕ) (s : Index) (stands told : Outcome ℕ) (s' : Index) → Behind closure stands (caller_at s.callers.items w) → GoesOn w left s stands told s'
+went : (w : ℕ) (closure : Option Closure) (left : ℕ) (s : OpenTree) (stands told : Outcome ℕ) (s' : OpenTree) → Behind closure stands (caller_at s.callers.items w) → GoesOn w left s stands told s'
     → Went w closure s stands s' told
 went w closure left s stands told s' b (stays s1 t1) = went_none w closure s stands
 went w closure left s stands told s' b (ends n s1 t1 e) = went_none w closure s stands
@@ -158,7 +162,7 @@ begun_behind w closure callers callers' first b on e =
     subst Q (sym (subst P on e)) (behind_set closure first callers w (fresh closure) (tt, inl refl))
 
 -- the steps after the first one; a call that ended as it began has none
-first_then : (w left : ℕ) (closure : Option Closure) (op : Op ℕ) (s mid : Index) (first told : Outcome ℕ) (s' : Index) (b : Bool) → is_running first ≡ b → Begins s w op closure first mid → GoesOn w left mid first told s'
+first_then : (w left : ℕ) (closure : Option Closure) (op : Op ℕ) (s mid : OpenTree) (first told : Outcome ℕ) (s' : OpenTree) (b : Bool) → is_running first ≡ b → Begins s w op closure first mid → GoesOn w left mid first told s'
     → (x : Went w closure mid first s' told) × ((x.steps ≡ []) ⊎ (b ≡ true))
 first_then w left closure op s mid first told s' true run g more = (went w closure left mid first told s' (begun_behind w closure s.callers.items mid.callers.items first (is_running first) run g.1) more, inr refl)
 first_then w left closure op s mid first told s' false run g (stays s1 t1) = (went_none w closure mid first, inl refl)
@@ -166,14 +170,14 @@ first_then w left closure op s mid first told s' false run g (ends n s1 t1 e) = 
 first_then w left closure op s mid first told s' false run g (goes n s1 mid2 s2 st next t1 on step more) = absurd (let f : true ≡ false = sym on ∙ run in cc f)
 
 -- what always holds, after it
-holds_after : (w left : ℕ) (s : Index) (stands told : Outcome ℕ) (s' : Index) → Holds nat_eq true s.world → GoesOn w left s stands told s' → Holds nat_eq true s'.world
+holds_after : (w left : ℕ) (s : OpenTree) (stands told : Outcome ℕ) (s' : OpenTree) → Holds nat_eq true s.world → GoesOn w left s stands told s' → Holds nat_eq true s'.world
 holds_after w left s stands told s' h (stays s1 t1) = h
 holds_after w left s stands told s' h (ends n s1 t1 e) = h
 holds_after w left s stands told s' h (goes n s1 mid s2 st next t1 on step more) = holds_after w n mid next told s' step.0.1.holds more
 
 -- a whole call: its first step, and the others
-pub record Called (w : ℕ) (op : Op ℕ) (closure : Option Closure) (s s' : Index) (told : Outcome ℕ) : Type 0 where
-  pub mid : Index
+pub record Called (w : ℕ) (op : Op ℕ) (closure : Option Closure) (s s' : OpenTree) (told : Outcome ℕ) : Type 0 where
+  pub mid : OpenTree
   pub report : Report ℕ
   pub step : IsStep nat_eq true s.world (record { worker = w; event = Begin op }) report mid.world
   pub scans : mid.scans.items ≡ (if is_running report.outcome then slice_set s.scans.items w [] else s.scans.items)
@@ -181,7 +185,8 @@ pub record Called (w : ℕ) (op : Op ℕ) (closure : Option Closure) (s s' : Ind
   pub ran : (rest.steps ≡ []) ⊎ (is_running report.outcome ≡ true)
   pub holds : Holds nat_eq true s'.world
 
-pub called : (w : ℕ) (op : Op ℕ) (closure : Option Closure) (s s' : Index) (told : Outcome ℕ) → Calls s w op closure told s' → Called w op closure s s' told
+-- what a line takes of a call is such a whole call
+pub called : (w : ℕ) (op : Op ℕ) (closure : Option Closure) (s s' : OpenTree) (told : Outcome ℕ) → Calls s w op closure told s' → Called w op closure s s' told
 called w op closure s s' told g =
     let P : Outcome ℕ → Type 0 = λ o. (x : Went w closure g.0 o s' told) × ((x.steps ≡ []) ⊎ (is_running o ≡ true)) in
     let more = subst P g.2.0.2 (first_then w 9999 closure op s g.0 g.1 told s' (is_running g.1) refl g.2 g.3) in
@@ -195,7 +200,7 @@ called w op closure s s' told g =
       holds = holds_after w 9999 g.0 g.1 told s' g.2.0.1.holds g.3;
     }
 
-module _ (w : ℕ) (op : Op ℕ) (closure : Option Closure) (s s' : Index) (told : Outcome ℕ) (c : Called w op closure s s' told) where
+module _ (w : ℕ) (op : Op ℕ) (closure : Option Closure) (s s' : OpenTree) (told : Outcome ℕ) (c : Called w op closure s s' told) where
   abbrev pub first_of : Taken ℕ
   first_of = record { step = record { worker = w; event = Begin op }; report = c.report; after = c.mid.world }
 
@@ -207,11 +212,11 @@ module _ (w : ℕ) (op : Op ℕ) (closure : Option Closure) (s s' : Index) (told
   plays_call laws m b =
       let x = laws.plays s.world first_of c.rest.steps b.flights m w op b.holds (c.step, c.rest.each) b.stand b.in_flight (record { begins = refl; goes_on = c.rest.goes_on }) in
       let P : Outcome ℕ → Type 0 = λ o. PlaysCall nat_eq b.flights m w last_of (target op) o (after_all c.mid.world c.rest.steps) in
-      let Q : Whole ℕ → Type 0 = λ y. PlaysCall nat_eq b.flights m w last_of (target op) told y in
+      let Q : World ℕ → Type 0 = λ y. PlaysCall nat_eq b.flights m w last_of (target op) told y in
       subst Q c.rest.after (subst P c.rest.told_last x)
 
 -- a call on the collector leaves the pairs
-pub rests_beside : MapLaws → (w : ℕ) (op : Op ℕ) (t : _) (closure : Option Closure) (m : Pairs ℕ) (s s' : Index) (told : Outcome ℕ) → target op ≡ target.Collector t → Rests s.world m → Calls s w op closure told s' → Rests s'.world m
+pub rests_beside : MapLaws → (w : ℕ) (op : Op ℕ) (t : _) (closure : Option Closure) (m : Pairs ℕ) (s s' : OpenTree) (told : Outcome ℕ) → target op ≡ target.Collector t → Rests s.world m → Calls s w op closure told s' → Rests s'.world m
 rests_beside laws w op t closure m s s' told e b g =
     let c = called w op closure s s' told g in
     let P : Target ℕ → Type 0 = λ y. PlaysCall nat_eq b.flights m w (last_of w op closure s s' told c) y told s'.world in
@@ -227,7 +232,7 @@ no_answer_yet ps (outcome.Done d) e a = cc
 no_answer_yet ps (outcome.Refused r) e a = cc
 
 -- the call has ended as the map says
-pub record Finished (m : Pairs ℕ) (p : Point ℕ) (s : Index) (r : Reply) : Type 0 where
+pub record Finished (m : Pairs ℕ) (p : Point ℕ) (s : OpenTree) (r : Reply) : Type 0 where
   pub rests : Rests s.world (answer nat_eq m p).1
   pub reply : r ≡ reply_to (answer nat_eq m p).0
 
@@ -236,7 +241,7 @@ abbrev pub Decides : Pairs ℕ → Asked ℕ → Option Closure → Point ℕ �
 Decides m a closure p = (last : Last ℕ) (c : Point ℕ) → ByClosure closure last → IsOnMap m last a c → c ≡ p
 
 module _ (w : ℕ) (m : Pairs ℕ) where
-  took_effect : (a : Asked ℕ) (closure : Option Closure) (p : Point ℕ) (last : Last ℕ) (r : Told ℕ) (s : Index) (b : Rests s.world m) (s' : Index) → Decides m a closure p → ByClosure closure last
+  took_effect : (a : Asked ℕ) (closure : Option Closure) (p : Point ℕ) (last : Last ℕ) (r : Told ℕ) (s : OpenTree) (b : Rests s.world m) (s' : OpenTree) → Decides m a closure p → ByClosure closure last
       → Holds nat_eq true s'.world → TookEffect nat_eq m last a r s'.world × AreInFlight s'.world b.flights → Finished m p s' (reply_to r)
   took_effect a closure p last r s b s' d c h x =
       let e : x.0.call ≡ p = d last x.0.call c x.0.on_map in
@@ -246,7 +251,7 @@ module _ (w : ℕ) (m : Pairs ℕ) where
         reply = ap reply_to (sym x.0.answers) ∙ ap (λ q. reply_to (answer nat_eq m q).0) e;
       }
 
-  by_told : (a : Asked ℕ) (closure : Option Closure) (p : Point ℕ) (last : Last ℕ) (told : Outcome ℕ) (ps : List (ℕ × ℕ)) (s : Index) (b : Rests s.world m) (s' : Index) → Decides m a closure p → ByClosure closure last
+  by_told : (a : Asked ℕ) (closure : Option Closure) (p : Point ℕ) (last : Last ℕ) (told : Outcome ℕ) (ps : List (ℕ × ℕ)) (s : OpenTree) (b : Rests s.world m) (s' : OpenTree) → Decides m a closure p → ByClosure closure last
       → Holds nat_eq true s'.world → PlaysKey nat_eq b.flights m w last a told s'.world → IsAnswer (reply_of ps told) → Finished m p s' (reply_of ps told)
   by_told a closure p last (outcome.Done (done.Reply r)) ps s b s' d c h x i = took_effect a closure p last r s b s' d c h x
   by_told a closure p last (outcome.Done done.Unit) ps s b s' d c h x i = absurd x
@@ -260,7 +265,7 @@ module _ (w : ℕ) (m : Pairs ℕ) where
   by_told a closure p last (outcome.Registered who) ps s b s' d c h x i = absurd x
   by_told a closure p last (outcome.Refused e) ps s b s' d c h x i = absurd i
 
-  plays_key : (fs : Flights ℕ) (last : Last ℕ) (a : Asked ℕ) (told : Outcome ℕ) (s : Whole ℕ) → IsOnKey a → PlaysCall nat_eq fs m w last (target.Tree a) told s → PlaysKey nat_eq fs m w last a told s
+  plays_key : (fs : Flights ℕ) (last : Last ℕ) (a : Asked ℕ) (told : Outcome ℕ) (s : World ℕ) → IsOnKey a → PlaysCall nat_eq fs m w last (target.Tree a) told s → PlaysKey nat_eq fs m w last a told s
   plays_key fs last (asks.Get k) told s u x = x
   plays_key fs last (asks.Insert k v) told s u x = x
   plays_key fs last (asks.Remove k) told s u x = x
@@ -271,7 +276,7 @@ module _ (w : ℕ) (m : Pairs ℕ) where
   plays_key fs last (asks.RangeInclusive start greatest size) told s u x = absurd u
 
 -- a whole call
-pub call_finishes : MapLaws → (w : ℕ) (op : Op ℕ) (a : Asked ℕ) (closure : Option Closure) (m : Pairs ℕ) (p : Point ℕ) (s s' : Index) (told : Outcome ℕ) (ps : List (ℕ × ℕ)) → target op ≡ target.Tree a → IsOnKey a
+pub call_finishes : MapLaws → (w : ℕ) (op : Op ℕ) (a : Asked ℕ) (closure : Option Closure) (m : Pairs ℕ) (p : Point ℕ) (s s' : OpenTree) (told : Outcome ℕ) (ps : List (ℕ × ℕ)) → target op ≡ target.Tree a → IsOnKey a
     → Decides m a closure p → Rests s.world m → Calls s w op closure told s' → IsAnswer (reply_of ps told) → Finished m p s' (reply_of ps told)
 call_finishes laws w op a closure m p s s' told ps on_tree on_key d b g i =
     let c = called w op closure s s' told g in

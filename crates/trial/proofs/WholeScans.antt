@@ -12,12 +12,13 @@ use Rattle.joint.specs.declared.steps.Op.{Op}
 use Rattle.joint.specs.declared.steps.Op.TheVariants as ops
 use Rattle.joint.specs.declared.steps.Outcome.{Outcome}
 use Rattle.joint.specs.declared.steps.Outcome.TheVariants as outcome
-use Rattle.joint.specs.MapCalls.{Answered as Last, IsOfScan, IsScanning, PlaysCall, PlaysScan, told_places}
+use Rattle.joint.specs.calls.MapCalls.{Answered as Last, IsOfScan, IsScanning, PlaysCall, PlaysScan, told_places}
 use Rattle.joint.specs.Reports.{range_of, target}
-use Rattle.joint.specs.Runs.{Flights}
-use Rattle.joint.specs.Whole.{Whole, Holds}
+use Rattle.joint.specs.engine.Flying.{Flights}
+use Rattle.joint.specs.world.World.{Holds}
+use Rattle.joint.specs.engine.Engine.{World}
 use Rattle.trial.specs.declared.caller.Closure.{Closure}
-use Rattle.trial.specs.declared.index.Index.{Index}
+use Rattle.trial.specs.declared.open_tree.OpenTree.{OpenTree}
 use Rattle.trial.specs.declared.reply.Reply.TheVariants as reply
 use Rattle.trial.specs.Calling.{is_running, Calls}
 use Rattle.trial.specs.MapReplies.{IsAnswer}
@@ -35,7 +36,7 @@ past_or_within : (n i : ℕ) → (n ≤ i) ⊎ (i < n)
 past_or_within n i = grind arith
 
 -- a worker with a scan in flight is one of the tree's
-within : (s : Whole ℕ) (m : Pairs ℕ) (fs : Flights ℕ) (w : ℕ) → Holds nat_eq true s → IsScanning fs m w s → w < 256
+within : (s : World ℕ) (m : Pairs ℕ) (fs : Flights ℕ) (w : ℕ) → Holds nat_eq true s → IsScanning fs m w s → w < 256
 within s m fs w h x = elim (past_or_within (length s.calls) w) [
   | inl p ↦ absurd (
       let P : Bool → Type 0 = λ b. (if b then x.flight else fs w) ≡ Over in
@@ -46,7 +47,7 @@ within s m fs w h x = elim (past_or_within (length s.calls) w) [
   | inr p ↦ omega (arith, p, h.0.few)
 ]
 
-scanning : (m : Pairs ℕ) (fs : Flights ℕ) (w : ℕ) (o : Outcome ℕ) (s : Whole ℕ) → is_running o ≡ true → PlaysScan fs m w o s → IsScanning fs m w s
+scanning : (m : Pairs ℕ) (fs : Flights ℕ) (w : ℕ) (o : Outcome ℕ) (s : World ℕ) → is_running o ≡ true → PlaysScan fs m w o s → IsScanning fs m w s
 scanning m fs w outcome.Running s e x = x
 scanning m fs w (outcome.Asks found) s e x = absurd x
 scanning m fs w (outcome.Found place key value) s e x = x
@@ -55,7 +56,7 @@ scanning m fs w (outcome.Done d) s e x = absurd (cc e)
 scanning m fs w (outcome.Refused r) s e x = absurd (cc e)
 
 -- what a scan makes of the map
-plays_scan : (fs : Flights ℕ) (m : Pairs ℕ) (w : ℕ) (last : Last ℕ) (op : Op ℕ) (start end size : ℕ) (told : Outcome ℕ) (s : Whole ℕ) → range_of op ≡ Some (start, end, size) → PlaysCall nat_eq fs m w last (target op) told s → PlaysScan fs m w told s
+plays_scan : (fs : Flights ℕ) (m : Pairs ℕ) (w : ℕ) (last : Last ℕ) (op : Op ℕ) (start end size : ℕ) (told : Outcome ℕ) (s : World ℕ) → range_of op ≡ Some (start, end, size) → PlaysCall nat_eq fs m w last (target op) told s → PlaysScan fs m w told s
 plays_scan fs m w last (ops.Range a b n) start end size told s e x = x
 plays_scan fs m w last (ops.RangeInclusive a b n) start end size told s e x = x
 plays_scan fs m w last ops.Pin start end size told s e x = absurd (cc e)
@@ -73,7 +74,7 @@ plays_scan fs m w last ops.Keys start end size told s e x = absurd (cc e)
 plays_scan fs m w last ops.IsEmpty start end size told s e x = absurd (cc e)
 plays_scan fs m w last ops.Stats start end size told s e x = absurd (cc e)
 
-module _ (laws : MapLaws) (w start end size : ℕ) (op : Op ℕ) (ranged : range_of op ≡ Some (start, end, size)) (m : Pairs ℕ) (closure : Option Closure) (s s' : Index) (told : Outcome ℕ) (b : Rests s.world m) (all : length s.scans.items ≡ 256) (c : Called w op closure s s' told) where
+module _ (laws : MapLaws) (w start end size : ℕ) (op : Op ℕ) (ranged : range_of op ≡ Some (start, end, size)) (m : Pairs ℕ) (closure : Option Closure) (s s' : OpenTree) (told : Outcome ℕ) (b : Rests s.world m) (all : length s.scans.items ≡ 256) (c : Called w op closure s s' told) where
   -- its first step
   began : PlaysScan b.flights m w c.report.outcome c.mid.world
   began = plays_scan b.flights m w _ op start end size c.report.outcome c.mid.world ranged
@@ -106,12 +107,12 @@ module _ (laws : MapLaws) (w start end size : ℕ) (op : Op ℕ) (ranged : range
       ]
 
 -- the scan has ended as the map says
-pub record FoundAll (m : Pairs ℕ) (start end size w : ℕ) (s : Index) (stands : Outcome ℕ) : Type 0 where
+pub record FoundAll (m : Pairs ℕ) (start end size w : ℕ) (s : OpenTree) (stands : Outcome ℕ) : Type 0 where
   pub rests : Rests s.world m
   pub reply : reply_of (given stands (places_at s.scans.items w)) stands ≡ reply.Range (finds m start end size)
 
 -- a whole scan
-pub scan_finishes : MapLaws → (w start end size : ℕ) (op : Op ℕ) → range_of op ≡ Some (start, end, size) → (m : Pairs ℕ) (closure : Option Closure) (s s' : Index) (last : Outcome ℕ) (ps : List (ℕ × ℕ)) → Rests s.world m
+pub scan_finishes : MapLaws → (w start end size : ℕ) (op : Op ℕ) → range_of op ≡ Some (start, end, size) → (m : Pairs ℕ) (closure : Option Closure) (s s' : OpenTree) (last : Outcome ℕ) (ps : List (ℕ × ℕ)) → Rests s.world m
     → length s.scans.items ≡ 256 → Calls s w op closure last s' → IsAnswer (reply_of ps last) → FoundAll m start end size w s' last
 scan_finishes laws w start end size op ranged m closure s s' last ps b len g a = by_told last refl (plays_scan b.flights m w _ op start end size last s'.world ranged (plays_call w op closure s s' last c laws m b)) where
   c : Called w op closure s s' last

@@ -24,19 +24,21 @@ fresh closure = record { closure = closure; answer = None }
 abbrev pub noise_of : Caller → Bool → Noise Id ℕ
 noise_of c fail = record { fail = fail; seen = None; answer = c.answer }
 
+-- a call once its closure, if it has one, has answered
 abbrev pub answered : Option Closure → Option ℕ → Caller
 answered None found = fresh None
 answered (Some f) found = record { closure = Some f; answer = Some (answer_of f found) }
 
 -- after a step that ended so: where it asked, the answer stands ready
-abbrev pub heard : Caller → Outcome ℕ → Caller
-heard c (Asks found) = answered c.closure found
-heard c _ = fresh c.closure
+abbrev pub after_step : Caller → Outcome ℕ → Caller
+after_step c (Asks found) = answered c.closure found
+after_step c _ = fresh c.closure
 
 -- one that was never begun has no closure
 abbrev pub caller_or : Option Caller → Caller
 caller_or None = fresh None
 caller_or (Some c) = c
 
+-- a worker's call
 abbrev pub caller_at : List Caller → ℕ → Caller
 caller_at callers who = caller_or (slice_get callers who)

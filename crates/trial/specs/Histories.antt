@@ -6,8 +6,8 @@ use Rattle.judge.specs.declared.checker.Verdict.TheVariants.{Legal}
 use Rattle.judge.specs.declared.journal.Call.{Call}
 use Rattle.judge.specs.declared.journal.Call.TheVariants.{Get, Insert, Remove}
 use Rattle.judge.specs.declared.journal.Entry.{Entry}
-use Rattle.joint.specs.Auditing.{IsAudited}
-use Rattle.joint.specs.Journals.{IsCounted, IsJournal}
+use Rattle.joint.specs.threads.Auditing.{IsAudited}
+use Rattle.joint.specs.threads.Journals.{IsCounted, IsJournal}
 use Rattle.joint.specs.declared.refusal.Refusal.{Refusal}
 use Rattle.trial.specs.declared.history.History.{History}
 use Rattle.trial.specs.declared.reply.Refused.TheVariants as refused

@@ -1,6 +1,6 @@
 //! What a script answers where a worker's call asks.
 ghost use Rattle.std.specs.Prelude.{◌≡◌};
-ghost use Rattle.trial.specs.Callers.{answer_of, fresh, noise_of, heard};
+ghost use Rattle.trial.specs.Callers.{answer_of, fresh, noise_of, after_step};
 
 use congee::Noise;
 use joint::{Id, Outcome};
@@ -63,8 +63,8 @@ impl Caller {
     }
 
     /// After a step of the call that ended so.
-    pub fn hear(&mut self, outcome: &Outcome<u64>)
-        ensures { self.new ≡ heard self.old outcome.now }
+    pub fn after_step(&mut self, outcome: &Outcome<u64>)
+        ensures { self.new ≡ after_step self.old outcome.now }
     {
         self.answer = match (self.closure, outcome) {
             (Some(closure), Outcome::Asks(found)) => Some(closure.answer(*found)),

@@ -4,7 +4,7 @@
 //! A script is read in pieces of 8,192 bytes and cut into lines (`run`, `script`). A line is read as words (`line`), which
 //! spell a command (`parser`), and the session answers it (`session`) on the index that the script opened. A call is made
 //! whole, or it is begun and taken so many steps further, line by line: so a script says in which order the steps of many
-//! workers' calls come (`index`). What was answered is written out before more is read (`printing`, `output`). The first
+//! workers' calls come (`open_tree`). What was answered is written out before more is read (`printing`, `output`). The first
 //! line that is no command, or the first fault of reader, writer or memory, ends the program, and its status tells which.
 //!
 //! With `threads N M` instead, N threads make M calls each on one index with a journal (`threads`, `worker`). Each keeps
@@ -19,10 +19,10 @@ mod drained;
 mod end;
 mod examples;
 mod history;
-mod index;
 mod keys;
 mod keyword;
 mod line;
+mod open_tree;
 mod output;
 mod parser;
 mod places;

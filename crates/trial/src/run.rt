@@ -125,7 +125,7 @@ impl Program {
     }
 
     /// One read, and the replies to the lines that it completes. The end, if it came.
-    fn turn<R: Read, W: Write>(
+    fn read_once<R: Read, W: Write>(
         &mut self,
         reader: &mut R,
         writer: &mut W,
@@ -180,7 +180,7 @@ impl Program {
         ensures { Ran AreAnswered (R.remaining reader.old) (R.remaining reader.new) (W.contents writer.old) (W.contents writer.new) result }
     {
         loop {
-            if let Some(end) = self.turn(reader, writer, chunk) {
+            if let Some(end) = self.read_once(reader, writer, chunk) {
                 return self.finish(writer, end);
             }
             if let Err(failed) = self.flush(writer) {

@@ -6,8 +6,8 @@ ghost use Rattle.trial.specs.Script.{NoFeed};
 ghost use Rattle.trial.specs.Turns.{LineGoes, LineStops, LinesGo, LinesStop};
 
 use crate::end::End;
-use crate::index::Index;
 use crate::line::{self, LINE_MAX, Line};
+use crate::open_tree::OpenTree;
 use crate::output::Output;
 use crate::printing::{put_bad_line, put_reply};
 use crate::session;
@@ -18,7 +18,7 @@ use std::io::Write;
 #[derive(Drop)]
 pub struct Script {
     pub alloc: Global,
-    pub session: Option<Index>,
+    pub session: Option<OpenTree>,
     /// The lines that were answered.
     pub lines: u64,
     /// The replies on their way to the writer.

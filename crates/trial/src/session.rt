@@ -10,7 +10,7 @@ use crate::caller::Closure;
 use crate::command::{Call, Command, Opening};
 use crate::drained::{Closed, Drained};
 use crate::end::End;
-use crate::index::Index;
+use crate::open_tree::OpenTree;
 use crate::places::Places;
 use crate::reply::{Refused, Reply};
 use congee::{Allocator, Limited};
@@ -68,7 +68,7 @@ fn refusal(outcome: Outcome<u64>) -> Option<Refusal>
 }
 
 /// Flushes and unpins; tells the first refusal.
-fn unwind(index: &mut Index, worker: u32) -> Result<Option<Refusal>, End>
+fn unwind(index: &mut OpenTree, worker: u32) -> Result<Option<Refusal>, End>
     ensures ok { IfOk result (λ first. Unwinds index.old worker index.new first) }
     ensures err { IfErr result (λ e. e ≡ End.Memory) }
 {
@@ -78,7 +78,7 @@ fn unwind(index: &mut Index, worker: u32) -> Result<Option<Refusal>, End>
 }
 
 /// One round of pin, flush and unpin; tells the first refusal. A refused pin ends it.
-fn round(index: &mut Index, worker: u32) -> Result<Option<Refusal>, End>
+fn round(index: &mut OpenTree, worker: u32) -> Result<Option<Refusal>, End>
     ensures ok { IfOk result (λ first. Round index.old worker index.new first) }
     ensures err { IfErr result (λ e. e ≡ End.Memory) }
 {
@@ -90,7 +90,7 @@ fn round(index: &mut Index, worker: u32) -> Result<Option<Refusal>, End>
 }
 
 /// So many rounds; they stop at the first refusal.
-fn rounds(index: &mut Index, worker: u32, count: u64) -> Result<Reply, End>
+fn rounds(index: &mut OpenTree, worker: u32, count: u64) -> Result<Reply, End>
     ensures ok { IfOk result (λ reply. Rounds count index.old worker index.new reply) }
     ensures err { IfErr result (λ e. e ≡ End.Memory) }
 {
@@ -147,7 +147,7 @@ fn world(alloc: Global, limits: Limits, opening: Opening) -> Result<World<u64, L
 }
 
 /// Opens a tree, or tells why there is none.
-fn open(alloc: Global, opening: Opening) -> Result<(Option<Index>, Reply), End>
+fn open(alloc: Global, opening: Opening) -> Result<(Option<OpenTree>, Reply), End>
     ensures ok { IfOk result (λ opened. OpensWith (limits_of opening) opening.journal (budget_of opening) opened.0 opened.1) }
     ensures err { IfErr result (λ e. e ≡ End.Memory) }
 {
@@ -156,7 +156,7 @@ fn open(alloc: Global, opening: Opening) -> Result<(Option<Index>, Reply), End>
     };
     match world(alloc, limits, opening) {
         Ok(world) => {
-            let index = Index::new(alloc, world)?;
+            let index = OpenTree::new(alloc, world)?;
             Ok((Some(index), Reply::Ok))
         }
         Err(refusal) => Ok((None, Reply::Refused(Refused::Tree(refusal)))),
@@ -166,7 +166,11 @@ fn open(alloc: Global, opening: Opening) -> Result<(Option<Index>, Reply), End>
 /// The reply to a command where no tree is open. Kept out of line, as the close is: a whole tree by value takes room that
 /// every line would clear.
 #[inline(never)]
-fn answer_closed(alloc: Global, session: &mut Option<Index>, command: Command) -> Result<Reply, End>
+fn answer_closed(
+    alloc: Global,
+    session: &mut Option<OpenTree>,
+    command: Command,
+) -> Result<Reply, End>
     requires { session.old ≡ None }
     ensures ok { IfOk result (λ reply. Answers None command session.new reply) }
     ensures err { IfErr result (λ e. e ≡ End.Memory) }
@@ -182,7 +186,7 @@ fn answer_closed(alloc: Global, session: &mut Option<Index>, command: Command) -
 }
 
 /// The places of a worker's call that stands so: where it is a scan that is done, they are taken from it.
-fn places(alloc: Global, index: &mut Index, worker: u32, outcome: &Outcome<u64>) -> Places
+fn places(alloc: Global, index: &mut OpenTree, worker: u32, outcome: &Outcome<u64>) -> Places
     ensures places { result ≡ given outcome.now (places_at index.old.scans.items worker) }
     ensures scans { index.new.scans.items ≡ left outcome.now worker index.old.scans.items }
     ensures world { index.new.world ≡ index.old.world }
@@ -195,7 +199,7 @@ fn places(alloc: Global, index: &mut Index, worker: u32, outcome: &Outcome<u64>)
 }
 
 /// The reply to a worker's call that stands so.
-fn reply(alloc: Global, index: &mut Index, worker: u32, outcome: Outcome<u64>) -> Reply
+fn reply(alloc: Global, index: &mut OpenTree, worker: u32, outcome: Outcome<u64>) -> Reply
     ensures { Replies index.old worker outcome index.new result }
 {
     let places = places(alloc, index, worker, &outcome);
@@ -203,7 +207,7 @@ fn reply(alloc: Global, index: &mut Index, worker: u32, outcome: Outcome<u64>) -
 }
 
 /// The reply to a whole call.
-fn answer_call(alloc: Global, index: &mut Index, worker: u32, call: Call) -> Result<Reply, End>
+fn answer_call(alloc: Global, index: &mut OpenTree, worker: u32, call: Call) -> Result<Reply, End>
     ensures ok { IfOk result (λ reply. CallReplies (op_of call) (closure_of call) index.old worker index.new reply) }
     ensures err { IfErr result (λ e. e ≡ End.Memory) }
 {
@@ -212,7 +216,7 @@ fn answer_call(alloc: Global, index: &mut Index, worker: u32, call: Call) -> Res
 }
 
 /// The reply to a call of which the first step alone is taken.
-fn answer_begin(alloc: Global, index: &mut Index, worker: u32, call: Call) -> Reply
+fn answer_begin(alloc: Global, index: &mut OpenTree, worker: u32, call: Call) -> Reply
     ensures { BeginReplies (op_of call) (closure_of call) index.old worker index.new result }
 {
     let outcome = index.begin(worker, op(call), closure(call));
@@ -221,7 +225,7 @@ fn answer_begin(alloc: Global, index: &mut Index, worker: u32, call: Call) -> Re
 }
 
 /// The reply to further steps of a worker's call in flight.
-fn answer_go(alloc: Global, index: &mut Index, worker: u32, most: u64) -> Result<Reply, End>
+fn answer_go(alloc: Global, index: &mut OpenTree, worker: u32, most: u64) -> Result<Reply, End>
     ensures ok { IfOk result (λ reply. GoReplies most index.old worker index.new reply) }
     ensures err { IfErr result (λ e. e ≡ End.Memory) }
 {
@@ -230,7 +234,7 @@ fn answer_go(alloc: Global, index: &mut Index, worker: u32, most: u64) -> Result
 }
 
 /// The reply to one whose upgrade fails.
-fn answer_fail(alloc: Global, index: &mut Index, worker: u32) -> Result<Reply, End>
+fn answer_fail(alloc: Global, index: &mut OpenTree, worker: u32) -> Result<Reply, End>
     ensures ok { IfOk result (λ reply. FailReplies index.old worker index.new reply) }
     ensures err { IfErr result (λ e. e ≡ End.Memory) }
 {
@@ -239,7 +243,7 @@ fn answer_fail(alloc: Global, index: &mut Index, worker: u32) -> Result<Reply, E
 }
 
 /// The reply to the line that has the journal judged.
-fn answer_journal(alloc: Global, index: &Index) -> Reply
+fn answer_journal(alloc: Global, index: &OpenTree) -> Reply
     ensures { JournalReplies index.now.world result }
 {
     let journal = index.world.journal();
@@ -250,7 +254,7 @@ fn answer_journal(alloc: Global, index: &Index) -> Reply
 }
 
 /// The reply to a command on the tree that is open.
-fn answer_open(alloc: Global, index: &mut Index, command: Command) -> Result<Reply, End>
+fn answer_open(alloc: Global, index: &mut OpenTree, command: Command) -> Result<Reply, End>
     requires stays { closes command ≡ false }
     ensures ok { IfOk result (λ reply. Answers (Some index.old) command (Some index.new) reply) }
     ensures err { IfErr result (λ e. e ≡ End.Memory) }
@@ -272,14 +276,14 @@ fn answer_open(alloc: Global, index: &mut Index, command: Command) -> Result<Rep
 
 /// Closes the tree that is open, if one is, and tells its pairs, in ascending order, and the charge that is left.
 #[inline(never)]
-fn close(alloc: Global, session: &mut Option<Index>) -> Result<Reply, End>
+fn close(alloc: Global, session: &mut Option<OpenTree>) -> Result<Reply, End>
     ensures ok { IfOk result (λ reply. Answers session.old Command.Close session.new reply) }
     ensures err { IfErr result (λ e. e ≡ End.Memory) }
 {
     let Some(index) = session.take() else {
         return Ok(Reply::Refused(Refused::NoTree));
     };
-    let Index {
+    let OpenTree {
         world,
         callers,
         scans,
@@ -290,7 +294,7 @@ fn close(alloc: Global, session: &mut Option<Index>) -> Result<Reply, End>
             charge: allocator.charged(),
         })),
         Err((refusal, world, _)) => {
-            *session = Some(Index {
+            *session = Some(OpenTree {
                 world,
                 callers,
                 scans,
@@ -302,7 +306,7 @@ fn close(alloc: Global, session: &mut Option<Index>) -> Result<Reply, End>
 
 /// Carries out a command on the tree that is open, if one is, and tells the reply. Without memory for what it is to hold
 /// of a scan or of the pairs of a tree that is closed, the script ends.
-pub fn answer(alloc: Global, session: &mut Option<Index>, command: Command) -> Result<Reply, End>
+pub fn answer(alloc: Global, session: &mut Option<OpenTree>, command: Command) -> Result<Reply, End>
     ensures ok { IfOk result (λ reply. Answers session.old command session.new reply) }
     ensures err { IfErr result (λ e. e ≡ End.Memory) }
 {

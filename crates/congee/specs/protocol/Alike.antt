@@ -7,7 +7,7 @@ use Rattle.congee.specs.declared.protocol.store.Least.{Least}
 use Rattle.congee.specs.declared.protocol.store.Least.TheVariants as least
 use Rattle.congee.specs.declared.protocol.store.Refusal.{Refusal}
 use Rattle.congee.specs.declared.protocol.store.Refusal.TheVariants as refusal
-use Rattle.congee.specs.declared.protocol.store.Seat.{Seat}
+use Rattle.congee.specs.declared.protocol.store.Stamp.{Stamp}
 use Rattle.congee.specs.declared.protocol.phase.Parent.{Parent}
 use Rattle.congee.specs.declared.protocol.phase.Above.{Above as Over}
 use Rattle.congee.specs.declared.protocol.phase.Site.{Site}
@@ -25,7 +25,7 @@ use Rattle.congee.specs.declared.protocol.sweep.Rung.{Rung}
 use Rattle.congee.specs.declared.protocol.sweep.Stage.{Stage}
 use Rattle.congee.specs.declared.protocol.sweep.Stage.TheVariants as stage
 use Rattle.congee.specs.declared.protocol.sweep.Sweep.{Sweep as Scan}
-use Rattle.congee.specs.declared.protocol.turn.Turn.{Turn}
+use Rattle.congee.specs.declared.protocol.turn.NextPhase.{NextPhase}
 use Rattle.congee.specs.declared.protocol.machine.Machine.{Machine}
 use Rattle.congee.specs.declared.protocol.machine.Move.{Move}
 use Rattle.congee.specs.declared.protocol.machine.Outcome.{Outcome}
@@ -40,6 +40,7 @@ pub record Ordered {V : Type 0} (order : List ℕ) (h : ℕ → Node V) : Type 0
   pub each : (c : ℕ) → (h c).made ≡ true → (n : ℕ) × (slice_get order n ≡ Some c)
   pub once : (m n c : ℕ) → slice_get order m ≡ Some c → slice_get order n ≡ Some c → m ≡ n
 
+-- the same hangs at a byte, a node by its number in that order
 abbrev pub HungAlike : {V : Type 0} → List ℕ → Hung V → Hung V → Type 0
 HungAlike order Nothing y = y ≡ Nothing
 HungAlike order (Below c) y = (n : ℕ) × (y ≡ Below n) × (slice_get order n ≡ Some c)
@@ -66,10 +67,12 @@ module _ {C : Type 0} (order : List ℕ) (number : C → ℕ) where
   abbrev pub Named : C → ℕ → Type 0
   Named c n = slice_get order n ≡ Some (number c)
 
-  pub record SeatAlike (s : Seat C) (u : Seat ℕ) : Type 0 where
+  -- the same node at the same version
+  pub record SeatAlike (s : Stamp C) (u : Stamp ℕ) : Type 0 where
     pub node : Named s.node u.node
     pub version : u.version ≡ s.version
 
+  -- the same node above, and what was read there
   pub record ParentAlike (p : Parent C) (q : Parent ℕ) : Type 0 where
     pub seat : SeatAlike p.seat q.seat
     pub byte : q.byte ≡ p.byte
@@ -77,26 +80,32 @@ module _ {C : Type 0} (order : List ℕ) (number : C → ℕ) where
     pub count : q.count ≡ p.count
     pub form : q.form ≡ p.form
 
+  -- the same one, or none
   abbrev pub TopAlike : Option (Parent C) → Option (Parent ℕ) → Type 0
   TopAlike None o = o ≡ None
   TopAlike (Some p) o = (q : Parent ℕ) × (o ≡ Some q) × ParentAlike p q
 
+  -- the same two nodes above
   pub record OverAlike (u : Over C) (w : Over ℕ) : Type 0 where
     pub near : ParentAlike u.near w.near
     pub far : TopAlike u.far w.far
 
+  -- the same ones, or none
   abbrev pub AboveAlike : Option (Over C) → Option (Over ℕ) → Type 0
   AboveAlike None o = o ≡ None
   AboveAlike (Some u) o = (w : Over ℕ) × (o ≡ Some w) × OverAlike u w
 
-  abbrev pub SeatedAlike : Option (Seat C) → Option (Seat ℕ) → Type 0
+  -- the same node at a version, or none
+  abbrev pub SeatedAlike : Option (Stamp C) → Option (Stamp ℕ) → Type 0
   SeatedAlike None o = o ≡ None
-  SeatedAlike (Some s) o = (u : Seat ℕ) × (o ≡ Some u) × SeatAlike s u
+  SeatedAlike (Some s) o = (u : Stamp ℕ) × (o ≡ Some u) × SeatAlike s u
 
+  -- the same made node, or none
   abbrev pub MadeAlike : Option C → Option ℕ → Type 0
   MadeAlike None o = o ≡ None
   MadeAlike (Some c) o = (n : ℕ) × (o ≡ Some n) × Named c n
 
+  -- the same node at hand
   pub record SiteAlike (s : Site C) (u : Site ℕ) : Type 0 where
     pub above : AboveAlike s.above u.above
     pub at : SeatAlike s.at u.at
@@ -109,15 +118,18 @@ module _ {C : Type 0} (order : List ℕ) (number : C → ℕ) where
     pub site : SiteAlike s u
     pub count : u.count ≡ s.count
 
+  -- the same change of one node
   abbrev pub SingleAlike : Single C → Single ℕ → Type 0
   SingleAlike Set x = x ≡ Set
   SingleAlike (Link leaf) x = (n : ℕ) × (x ≡ Link n) × Named leaf n
 
+  -- the same change at the same byte of the same node
   pub record OneAlike (one : One C) (u : One ℕ) : Type 0 where
     pub at : SeatAlike one.at u.at
     pub byte : u.byte ≡ one.byte
     pub change : SingleAlike one.change u.change
 
+  -- the same change of two nodes
   abbrev pub DoubleAlike : Double C → Double ℕ → Type 0
   DoubleAlike Unlink x = x ≡ Unlink
   DoubleAlike (Grow c) x = (n : ℕ) × (x ≡ Grow n) × Named c n
@@ -127,26 +139,31 @@ module _ {C : Type 0} (order : List ℕ) (number : C → ℕ) where
   DoubleAlike Collapse x = x ≡ Collapse
   DoubleAlike (ShrinkAbove c) x = (n : ℕ) × (x ≡ ShrinkAbove n) × Named c n
 
+  -- the same change of the same two nodes
   pub record TwoAlike (two : Two C) (u : Two ℕ) : Type 0 where
     pub top : TopAlike two.top u.top
     pub above : ParentAlike two.above u.above
     pub at : SeatAlike two.at u.at
     pub change : DoubleAlike two.change u.change
 
+  -- the same plan
   abbrev pub PlanAlike : Plan C → Plan ℕ → Type 0
-  PlanAlike (Here check one) x = (o : Option (Seat ℕ)) × (u : One ℕ) × (x ≡ Here o u) × SeatedAlike check o × OneAlike one u
+  PlanAlike (Here check one) x = (o : Option (Stamp ℕ)) × (u : One ℕ) × (x ≡ Here o u) × SeatedAlike check o × OneAlike one u
   PlanAlike (Above two) x = (u : Two ℕ) × (x ≡ Above u) × TwoAlike two u
 
+  -- the same node on a scan's way
   pub record RungAlike (r : Rung C) (q : Rung ℕ) : Type 0 where
     pub at : SeatAlike r.at q.at
     pub region : q.region ≡ r.region
     pub from : q.from ≡ r.from
 
+  -- the same one, or none
   abbrev pub PlaceAlike : Option (Rung C) → Option (Rung ℕ) → Type 0
   PlaceAlike None o = o ≡ None
   PlaceAlike (Some r) o = (q : Rung ℕ) × (o ≡ Some q) × RungAlike r q
 
   module _ {V : Type 0} where
+    -- the same child
     abbrev pub ChildAlike : Child C V → Child ℕ V → Type 0
     ChildAlike child.Blank x = x ≡ child.Blank
     ChildAlike (child.Node c) x = (n : ℕ) × (x ≡ child.Node n) × Named c n
@@ -167,9 +184,10 @@ module _ {C : Type 0} (order : List ℕ) (number : C → ℕ) where
 
     module _ (h : ℕ → Node V) where
       -- the node's lock word is still the one that was taken
-      abbrev pub IsTaken : Seat C → Type 0
+      abbrev pub IsTaken : Stamp C → Type 0
       IsTaken s = is_taken (h (number s.node)) s.version ≡ true
 
+      -- the same stage of a scan, with the same child where the check of it can succeed
       abbrev pub StageAlike : Stage C V → Stage ℕ V → Type 0
       StageAlike stage.New x = x ≡ stage.New
       StageAlike (stage.Enter c y) x = (n : ℕ) × (x ≡ stage.Enter n y) × Named c n
@@ -178,6 +196,7 @@ module _ {C : Type 0} (order : List ℕ) (number : C → ℕ) where
       StageAlike stage.Full x = x ≡ stage.Full
       StageAlike stage.Over x = x ≡ stage.Over
 
+      -- the same scan on the same way
       pub record ScanAlike (s : Scan C V) (t : Scan ℕ V) : Type 0 where
         pub start : t.start ≡ s.start
         pub last : t.last ≡ s.last
@@ -191,21 +210,21 @@ module _ {C : Type 0} (order : List ℕ) (number : C → ℕ) where
       abbrev pub PhaseAlike : Phase C V → Phase ℕ V → Type 0
       PhaseAlike New x = x ≡ New
       PhaseAlike (Version above c) x = (o : Option (Over ℕ)) × (n : ℕ) × (x ≡ Version o n) × AboveAlike above o × Named c n
-      PhaseAlike (Read above at) x = (o : Option (Over ℕ)) × (u : Seat ℕ) × (x ≡ Read o u) × AboveAlike above o × SeatAlike at u
+      PhaseAlike (Read above at) x = (o : Option (Over ℕ)) × (u : Stamp ℕ) × (x ≡ Read o u) × AboveAlike above o × SeatAlike at u
       PhaseAlike (Check s c) x = (u : Site ℕ) × (d : Child ℕ V) × (x ≡ Check u d) × SiteAlike s u × (IsTaken s.at → SeesAlike s c u d)
       PhaseAlike (CheckUncopied at) x = (u : Site ℕ) × (d : Child ℕ V) × (x ≡ Check u d) × SeatAlike at u.at
-      PhaseAlike (CheckMiss p at common byte) x = (q : Parent ℕ) × (u : Seat ℕ) × (x ≡ CheckMiss q u common byte) × ParentAlike p q × SeatAlike at u
-      PhaseAlike (CheckDown p at c) x = (u : Seat ℕ) × (w : Over ℕ) × (n : ℕ) × (x ≡ CheckDown u w n) × SeatAlike p u × OverAlike at w × Named c n
-      PhaseAlike (CheckOld p s v) x = (q : Seat ℕ) × (u : Site ℕ) × (x ≡ CheckOld q u v) × SeatAlike p q × ReadAlike s u
+      PhaseAlike (CheckMiss p at common byte) x = (q : Parent ℕ) × (u : Stamp ℕ) × (x ≡ CheckMiss q u common byte) × ParentAlike p q × SeatAlike at u
+      PhaseAlike (CheckDown p at c) x = (u : Stamp ℕ) × (w : Over ℕ) × (n : ℕ) × (x ≡ CheckDown u w n) × SeatAlike p u × OverAlike at w × Named c n
+      PhaseAlike (CheckOld p s v) x = (q : Stamp ℕ) × (u : Site ℕ) × (x ≡ CheckOld q u v) × SeatAlike p q × ReadAlike s u
       PhaseAlike (MakeLeaf s) x = (u : Site ℕ) × (x ≡ MakeLeaf u) × ReadAlike s u × (u.full ≡ s.full)
       PhaseAlike (MakeGreater s p leaf) x = (u : Site ℕ) × (q : Parent ℕ) × (o : Option ℕ) × (x ≡ MakeGreater u q o) × ReadAlike s u × ParentAlike p q × MadeAlike leaf o
-      PhaseAlike (MakeTop p at common byte) x = (q : Parent ℕ) × (u : Seat ℕ) × (x ≡ MakeTop q u common byte) × ParentAlike p q × SeatAlike at u
-      PhaseAlike (MakeBeside p at common byte top) x = (q : Parent ℕ) × (u : Seat ℕ) × (n : ℕ) × (x ≡ MakeBeside q u common byte n) × ParentAlike p q × SeatAlike at u × Named top n
+      PhaseAlike (MakeTop p at common byte) x = (q : Parent ℕ) × (u : Stamp ℕ) × (x ≡ MakeTop q u common byte) × ParentAlike p q × SeatAlike at u
+      PhaseAlike (MakeBeside p at common byte top) x = (q : Parent ℕ) × (u : Stamp ℕ) × (n : ℕ) × (x ≡ MakeBeside q u common byte n) × ParentAlike p q × SeatAlike at u × Named top n
       PhaseAlike (MakeLesser s p g r) x = (u : Site ℕ) × (q : Parent ℕ) × (o : Option (Parent ℕ)) × (x ≡ MakeLesser u q o r) × ReadAlike s u × ParentAlike p q × TopAlike g o
       PhaseAlike (AskOld s v) x = (u : Site ℕ) × (x ≡ AskOld u v) × ReadAlike s u
       PhaseAlike (AskNew plan) x = (y : Plan ℕ) × (x ≡ AskNew y) × PlanAlike plan y
-      PhaseAlike (Confirm at r) x = (u : Seat ℕ) × (x ≡ Confirm u r) × SeatAlike at u
-      PhaseAlike (CheckAbove p one r) x = (q : Seat ℕ) × (u : One ℕ) × (x ≡ CheckAbove q u r) × SeatAlike p q × OneAlike one u
+      PhaseAlike (Confirm at r) x = (u : Stamp ℕ) × (x ≡ Confirm u r) × SeatAlike at u
+      PhaseAlike (CheckAbove p one r) x = (q : Stamp ℕ) × (u : One ℕ) × (x ≡ CheckAbove q u r) × SeatAlike p q × OneAlike one u
       PhaseAlike (UpgradeOne one r) x = (u : One ℕ) × (x ≡ UpgradeOne u r) × OneAlike one u
       PhaseAlike (ChangeOne one r) x = (u : One ℕ) × (x ≡ ChangeOne u r) × OneAlike one u
       PhaseAlike (UpgradeTop g two r) x = (q : Parent ℕ) × (u : Two ℕ) × (x ≡ UpgradeTop q u r) × ParentAlike g q × TwoAlike two u
@@ -221,10 +240,11 @@ module _ {C : Type 0} (order : List ℕ) (number : C → ℕ) where
       PhaseAlike Ended x = x ≡ Ended
 
       -- a step's report, and the phase after it
-      pub record TurnAlike (t : Turn C V) (u : Turn ℕ V) : Type 0 where
+      pub record TurnAlike (t : NextPhase C V) (u : NextPhase ℕ V) : Type 0 where
         pub report : u.report ≡ t.report
         pub phase : PhaseAlike t.phase u.phase
 
+      -- the same call
       pub record CallAlike (m : Machine C V) (q : Machine ℕ V) : Type 0 where
         pub root : Named m.root q.root
         pub key : q.key ≡ m.key
@@ -242,7 +262,7 @@ Longer order order' = (new : List ℕ) × (order' ≡ order ++ new)
 
 -- a step of a call on a store went as that by numbers: it reports the same, and leaves call and nodes the same; a node that it
 -- made has the next number
-pub record WentAlike {C V : Type 0} (order : List ℕ) (number : C → ℕ) (h : ℕ → Node V) (given : Option V) (t : Turn C V) (w : Went V) : Type 0 where
+pub record WentAlike {C V : Type 0} (order : List ℕ) (number : C → ℕ) (h : ℕ → Node V) (given : Option V) (t : NextPhase C V) (w : Went V) : Type 0 where
   pub now : List ℕ
   pub longer : Longer order now
   pub ordered : Ordered now h

@@ -6,12 +6,12 @@ use Rattle.congee.specs.declared.protocol.phase.Phase.{Phase}
 use Rattle.congee.specs.declared.protocol.phase.Phase.TheVariants.{Obsolete, Retire, UnlockBelow, Unlock}
 use Rattle.congee.specs.declared.protocol.machine.Outcome.{Outcome}
 use Rattle.congee.specs.declared.protocol.machine.Outcome.TheVariants.{Done}
-use Rattle.congee.specs.declared.protocol.turn.Turn.{Turn}
+use Rattle.congee.specs.declared.protocol.turn.NextPhase.{NextPhase}
 use Rattle.congee.specs.Heap.{Node, value_at}
 use Rattle.congee.specs.Keys.{key_bytes}
 use Rattle.congee.specs.declared.protocol.machine.Machine.{Machine}
 use Rattle.congee.specs.declared.protocol.machine.Move.{Move}
-use Rattle.congee.specs.Ledger.{Note, Tree, LockWords}
+use Rattle.congee.specs.Notes.{Note, Tree, LockWords}
 use Rattle.congee.specs.protocol.Protocol.{Settles, Known, Effect}
 use Rattle.congee.specs.declared.keys.TheConstants.{KEY_BYTES}
 
@@ -41,15 +41,17 @@ abbrev pub told_or : {V : Type 0} → Option (Reply V) → Outcome V → Option 
 told_or later (Done r) = Some r
 told_or later _ = later
 
-abbrev pub told : {C V : Type 0} → Turn C V → Option (Reply V)
+-- the same of a turn
+abbrev pub told : {C V : Type 0} → NextPhase C V → Option (Reply V)
 told t = told_or (reply_in t.phase) t.report.outcome
 
 -- a step that decides answers, and each other step leaves the map
-abbrev pub AnswersIf : {C V : Type 0} → Bool → (V → V → Bool) → ℕ → Kind V → Option V → (ℕ → Node V) → Turn C V → (ℕ → Node V) → Type 0
+abbrev pub AnswersIf : {C V : Type 0} → Bool → (V → V → Bool) → ℕ → Kind V → Option V → (ℕ → Node V) → NextPhase C V → (ℕ → Node V) → Type 0
 AnswersIf {C} {V} true same k kind given h t h' = (r : Reply V) × (told t ≡ Some r) × Decides same k kind given h r h'
 AnswersIf false same k kind given h t h' = SameMap h h'
 
-abbrev pub StepAnswers : {C V : Type 0} → (V → V → Bool) → ℕ → Kind V → Option V → (ℕ → Node V) → Turn C V → (ℕ → Node V) → Type 0
+-- the same of a step with its report
+abbrev pub StepAnswers : {C V : Type 0} → (V → V → Bool) → ℕ → Kind V → Option V → (ℕ → Node V) → NextPhase C V → (ℕ → Node V) → Type 0
 StepAnswers same k kind given h t h' = AnswersIf t.report.decided same k kind given h t h'
 
 -- a step of call i: the tree stands after it, the other calls may count on what they know, this one knows what its

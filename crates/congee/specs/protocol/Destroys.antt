@@ -3,7 +3,7 @@ use Rattle.std.specs.Prelude.{◌≡◌, ℕ, ◌⊎◌, Bool, true, false, List
 use Rattle.std.specs.List.{All}
 use Rattle.congee.specs.declared.protocol.machine.Machine.{Machine}
 use Rattle.congee.specs.Heap.{Node}
-use Rattle.congee.specs.Ledger.{Note}
+use Rattle.congee.specs.Notes.{Note}
 use Rattle.congee.specs.protocol.Answers.{SameMap}
 use Rattle.congee.specs.protocol.Holdings.{Holdings}
 use Rattle.congee.specs.protocol.Names.{names}

@@ -4,7 +4,7 @@ use Rattle.std.specs.List.{Contains}
 use Rattle.congee.specs.declared.protocol.machine.Machine.{Machine}
 use Rattle.congee.specs.Heap.{Node, Stands}
 use Rattle.congee.specs.protocol.Holdings.{MadeBy}
-use Rattle.congee.specs.Ledger.{Note, Gone, Held, is_published}
+use Rattle.congee.specs.Notes.{Note, Gone, Held, is_published}
 use Rattle.congee.specs.protocol.Names.{names}
 
 -- a destroyed node stays as it is, and a used name stays used; what is out of the tree had been in reach before the step;

@@ -8,7 +8,7 @@ use Rattle.congee.specs.declared.forms.child.Child.{Child}
 use Rattle.congee.specs.declared.forms.child.Child.TheVariants as child
 use Rattle.congee.specs.declared.protocol.store.Reading.{Reading}
 use Rattle.congee.specs.declared.protocol.store.Reading.TheVariants.{Differs, Fits, Uncopied}
-use Rattle.congee.specs.declared.protocol.store.Seat.{Seat}
+use Rattle.congee.specs.declared.protocol.store.Stamp.{Stamp}
 use Rattle.congee.specs.declared.protocol.store.Upgrade.{Upgrade}
 use Rattle.congee.specs.declared.protocol.store.Upgrade.TheVariants.{Locked, Failed, Exhausted}
 use Rattle.congee.specs.declared.protocol.store.Refusal.{Refusal}
@@ -31,11 +31,11 @@ use Rattle.congee.specs.declared.protocol.phase.Phase.TheVariants.{New, Version,
 use Rattle.congee.specs.declared.protocol.machine.Outcome.{Outcome}
 use Rattle.congee.specs.declared.protocol.machine.Outcome.TheVariants.{Running, Asks, Found, Done, Scanned, Refused}
 use Rattle.congee.specs.declared.protocol.sweep.Sweep.{Sweep as Scan}
-use Rattle.congee.specs.declared.protocol.sweep.Told.{Told}
-use Rattle.congee.specs.declared.protocol.sweep.Told.TheVariants as told
+use Rattle.congee.specs.declared.protocol.sweep.ScanReport.{ScanReport}
+use Rattle.congee.specs.declared.protocol.sweep.ScanReport.TheVariants as told
 use Rattle.congee.specs.protocol.SweepSteps.{SweepStepped, MaySweep}
 use Rattle.congee.specs.declared.protocol.machine.Move.{Move}
-use Rattle.congee.specs.declared.protocol.turn.Turn.{Turn}
+use Rattle.congee.specs.declared.protocol.turn.NextPhase.{NextPhase}
 use Rattle.congee.specs.declared.protocol.machine.Machine.{Machine}
 use Rattle.congee.specs.Heap.{Node, Hung, Nothing, Below, Holds, Stands, version_of, is_taken}
 use Rattle.congee.specs.protocol.Events.{ReadGives, SameBut, upgrade_gives, MakeGives, MayChange, ChangeGives, TakeOverGives, BackGives, ObsoleteGives, RetireGives, UnlockGives, HoldsAlike, HoldsNodes, IsOther}
@@ -43,34 +43,34 @@ use Rattle.congee.specs.Keys.{key_bytes}
 use Rattle.congee.specs.declared.forms.prefix.TheConstants.{MAX_PREFIX_LEN}
 
 -- the next step and the report, as one
-abbrev pub turn_of : {C V : Type 0} → Phase C V → Move V → Turn C V
-turn_of s d = record { phase = s; report = d }
+abbrev pub next_phase_of : {C V : Type 0} → Phase C V → Move V → NextPhase C V
+next_phase_of s d = record { phase = s; report = d }
 
 -- what a step leaves: it goes on, begins anew, answers in this step, ends with an answer given before, is refused,
 -- takes effect and goes on, or asks
-abbrev pub quiet : {C V : Type 0} → Phase C V → Turn C V
+abbrev pub quiet : {C V : Type 0} → Phase C V → NextPhase C V
 quiet s = record { phase = s; report = record { decided = false; skipped = false; outcome = Running } }
 
-abbrev pub again : {C V : Type 0} → C → Turn C V
+abbrev pub again : {C V : Type 0} → C → NextPhase C V
 again root = quiet (Version None root)
 
-abbrev pub answered : {C V : Type 0} → Reply V → Turn C V
+abbrev pub answered : {C V : Type 0} → Reply V → NextPhase C V
 answered r = record { phase = Ended; report = record { decided = true; skipped = false; outcome = Done r } }
 
-abbrev pub finished : {C V : Type 0} → Reply V → Turn C V
+abbrev pub finished : {C V : Type 0} → Reply V → NextPhase C V
 finished r = record { phase = Ended; report = record { decided = false; skipped = false; outcome = Done r } }
 
-abbrev pub refused : {C V : Type 0} → Refusal → Turn C V
+abbrev pub refused : {C V : Type 0} → Refusal → NextPhase C V
 refused e = record { phase = Ended; report = record { decided = false; skipped = false; outcome = Refused e } }
 
-abbrev pub decided : {C V : Type 0} → Phase C V → Turn C V
+abbrev pub decided : {C V : Type 0} → Phase C V → NextPhase C V
 decided s = record { phase = s; report = record { decided = true; skipped = false; outcome = Running } }
 
-abbrev pub asking : {C V : Type 0} → Phase C V → Option V → Turn C V
+abbrev pub asking : {C V : Type 0} → Phase C V → Option V → NextPhase C V
 asking s o = record { phase = s; report = record { decided = false; skipped = false; outcome = Asks o } }
 
 -- a node that it wanted wasn't made, and it goes on without it
-abbrev pub skipping : {C V : Type 0} → Phase C V → Turn C V
+abbrev pub skipping : {C V : Type 0} → Phase C V → NextPhase C V
 skipping s = record { phase = s; report = record { decided = false; skipped = true; outcome = Running } }
 
 -- whether the call puts a value at an absent key
@@ -118,10 +118,12 @@ shrinks N16 n = leb n 4
 shrinks N48 n = leb n 13
 shrinks N256 n = leb n 41
 
+-- the node above, if there is one
 abbrev pub near_of : {C : Type 0} → Option (Over C) → Option (Parent C)
 near_of None = None
 near_of (Some u) = Some u.near
 
+-- its name
 abbrev pub node_of : {C : Type 0} → Option (Parent C) → Option C
 node_of None = None
 node_of (Some p) = Some p.seat.node
@@ -130,15 +132,18 @@ node_of (Some p) = Some p.seat.node
 abbrev pub here_of : {C : Type 0} → Site C → Parent C
 here_of s = record { seat = s.at; byte = s.byte; depth = s.depth; count = s.count; form = s.form }
 
-abbrev pub seat_above : {C : Type 0} → Option (Over C) → Option (Seat C)
+-- the node above with its version, if there is one
+abbrev pub seat_above : {C : Type 0} → Option (Over C) → Option (Stamp C)
 seat_above None = None
 seat_above (Some u) = Some u.near.seat
 
-abbrev pub after_version : {C V : Type 0} → C → Option (Over C) → C → Option ℕ → Turn C V
+-- a version was read; where there is none, the call begins anew
+abbrev pub after_version : {C V : Type 0} → C → Option (Over C) → C → Option ℕ → NextPhase C V
 after_version root above n None = again root
 after_version root above n (Some v) = quiet (Read above (record { node = n; version = v }))
 
-abbrev pub after_read : {C V : Type 0} → C → Option (Over C) → Seat C → Reading C V → Turn C V
+-- a node was read
+abbrev pub after_read : {C V : Type 0} → C → Option (Over C) → Stamp C → Reading C V → NextPhase C V
 after_read root None at (Differs common byte) = again root
 after_read root (Some u) at (Differs common byte) = quiet (CheckMiss u.near at common byte)
 after_read root above at (Fits depth form s) = quiet (Check (record { above = above; at = at; depth = depth; byte = s.byte; count = s.count; full = s.full; form = form }) s.child)
@@ -148,68 +153,73 @@ after_read root above at Uncopied = quiet (CheckUncopied at)
 abbrev pub below : {C : Type 0} → Site C → Over C
 below s = record { near = here_of s; far = near_of s.above }
 
-abbrev pub down : {C V : Type 0} → Bool → Site C → Option (Over C) → C → Turn C V
+abbrev pub down : {C V : Type 0} → Bool → Site C → Option (Over C) → C → NextPhase C V
 down false s above c = quiet (Version (Some (below s)) c)
 down true s None c = quiet (Version (Some (below s)) c)
 down true s (Some u) c = quiet (CheckDown u.near.seat (below s) c)
 
 -- the nodes are made: what was planned begins, after the closure's answer where one is wanted
-abbrev pub started : {C V : Type 0} → Plan C → Reply V → Turn C V
+abbrev pub started : {C V : Type 0} → Plan C → Reply V → NextPhase C V
 started (Here None one) r = quiet (UpgradeOne one r)
 started (Here (Some p) one) r = quiet (CheckAbove p one r)
 started (Above two) r = quiet (UpgradeAbove two r)
 
-abbrev pub ready : {C V : Type 0} → Kind V → Plan C → Turn C V
+-- a plan begins, or its closure is asked first
+abbrev pub ready : {C V : Type 0} → Kind V → Plan C → NextPhase C V
 ready kind plan = cond (asks_new kind) (asking (AskNew plan) None) (started plan (absent_reply kind))
 
+-- a plan to change the node at hand alone
 abbrev pub plan_here : {C : Type 0} → Site C → Single C → Plan C
 plan_here s change = Here (seat_above s.above) (record { at = s.at; byte = s.byte; change = change })
 
 -- a full node gives way to a greater one; the root is never full
-abbrev pub unless_full : {C V : Type 0} → Kind V → Site C → Bool → Option (Over C) → Option C → Single C → Turn C V
+abbrev pub unless_full : {C V : Type 0} → Kind V → Site C → Bool → Option (Over C) → Option C → Single C → NextPhase C V
 unless_full kind s true (Some u) leaf change = quiet (MakeGreater s u.near leaf)
 unless_full kind s true None leaf change = ready kind (plan_here s change)
 unless_full kind s false above leaf change = ready kind (plan_here s change)
 
 -- an insertion's key is absent at the node
-abbrev pub missing : {C V : Type 0} → Kind V → Site C → Turn C V
+abbrev pub missing : {C V : Type 0} → Kind V → Site C → NextPhase C V
 missing kind s = cond (s.depth == MAX_PREFIX_LEN) (unless_full kind s s.full s.above None Set) (quiet (MakeLeaf s))
 
-abbrev pub absent : {C V : Type 0} → Kind V → Site C → Turn C V
+-- the key is absent at the node: an insertion goes on there, and any other call answers
+abbrev pub absent : {C V : Type 0} → Kind V → Site C → NextPhase C V
 absent kind s = cond (adds kind) (missing kind s) (answered (absent_reply kind))
 
 -- the value's copy failed, where copies may
-abbrev pub CopyFailed : {C V : Type 0} → Bool → Turn C V → Type 0
+abbrev pub CopyFailed : {C V : Type 0} → Bool → NextPhase C V → Type 0
 CopyFailed always t = (always ≡ false) × (t ≡ refused refusal.Count)
 
 -- the closure is asked for a value that stands
-abbrev pub IsAsked : {C V : Type 0} → Bool → Site C → V → Turn C V → Type 0
+abbrev pub IsAsked : {C V : Type 0} → Bool → Site C → V → NextPhase C V → Type 0
 IsAsked always s v t = (t ≡ asking (AskOld s v) (Some v)) ⊎ CopyFailed always t
 
 -- the same value again is confirmed, and another one comes in its place
-abbrev pub replaced : {C V : Type 0} → Site C → Bool → Reply V → Turn C V
+abbrev pub replaced : {C V : Type 0} → Site C → Bool → Reply V → NextPhase C V
 replaced s same r = cond same (quiet (Confirm s.at r)) (quiet (UpgradeOne (record { at = s.at; byte = s.byte; change = Set }) r))
 
 -- what the value's going puts into the leaf, and into the node above
 abbrev pub set_at : {C : Type 0} → Site C → One C
 set_at s = record { at = s.at; byte = s.byte; change = Set }
 
+-- a change of the node at hand and of the one above it
 abbrev pub both : {C : Type 0} → Parent C → Site C → Double C → Two C
 both p s x = record { top = None; above = p; at = s.at; change = x }
 
 -- the leaf goes with its last value: and with it the node above where that has one child left, but not the root
-abbrev pub last_out : {C V : Type 0} → Site C → Parent C → Option (Parent C) → Reply V → Turn C V
+abbrev pub last_out : {C V : Type 0} → Site C → Parent C → Option (Parent C) → Reply V → NextPhase C V
 last_out s p None r = quiet (UpgradeAbove (both p s Unlink) r)
 last_out s p (Some g) r = cond (p.count == 2) (quiet (UpgradeTop g (both p s Collapse) r))
     (cond (ltb 2 p.count && shrinks p.form p.count) (quiet (MakeLesser s p (Some g) r)) (quiet (UpgradeAbove (both p s Unlink) r)))
 
 -- the value goes, and with its last value the leaf
-abbrev pub taken_out : {C V : Type 0} → Site C → Option (Over C) → Reply V → Turn C V
+abbrev pub taken_out : {C V : Type 0} → Site C → Option (Over C) → Reply V → NextPhase C V
 taken_out s None r = quiet (UpgradeOne (set_at s) r)
 taken_out s (Some u) r = cond (s.count == 1) (last_out s u.near u.far r)
     (cond (shrinks s.form s.count) (quiet (MakeLesser s u.near None r)) (quiet (UpgradeOne (set_at s) r)))
 
-abbrev pub emptied : {C V : Type 0} → Site C → Reply V → Turn C V
+-- the same of the node at hand
+abbrev pub emptied : {C V : Type 0} → Site C → Reply V → NextPhase C V
 emptied s r = taken_out s s.above r
 
 -- whether the value that stands is the new one
@@ -218,24 +228,26 @@ is_same same v None = false
 is_same same v (Some w) = same v w
 
 -- an insertion stands at a value
-abbrev pub IsAtOld : {C V : Type 0} → Bool → (V → V → Bool) → Kind V → Option V → Site C → V → Turn C V → Type 0
+abbrev pub IsAtOld : {C V : Type 0} → Bool → (V → V → Bool) → Kind V → Option V → Site C → V → NextPhase C V → Type 0
 IsAtOld always same Insert new s v t = t ≡ replaced s (is_same same v new) (reply.Insert (Some v))
 IsAtOld always same _ new s v t = IsAsked always s v t
 
-abbrev pub IsAdded : {C V : Type 0} → Bool → (V → V → Bool) → Kind V → Option V → Site C → Option (Over C) → V → Turn C V → Type 0
+-- the same, once the node above was checked, if there is one
+abbrev pub IsAdded : {C V : Type 0} → Bool → (V → V → Bool) → Kind V → Option V → Site C → Option (Over C) → V → NextPhase C V → Type 0
 IsAdded always same kind new s None v t = IsAtOld always same kind new s v t
 IsAdded always same kind new s (Some u) v t = t ≡ quiet (CheckOld u.near.seat s v)
 
 -- an exchange found the old value, and has a copy of the new one for its reply
-abbrev pub IsExchanged : {C V : Type 0} → Bool → (V → V → Bool) → Option V → Site C → V → Turn C V → Type 0
+abbrev pub IsExchanged : {C V : Type 0} → Bool → (V → V → Bool) → Option V → Site C → V → NextPhase C V → Type 0
 IsExchanged always same None s v t = t ≡ emptied s (reply.Exchange (Ok None))
 IsExchanged always same (Some w) s v t = (t ≡ replaced s (same v w) (reply.Exchange (Ok (Some w)))) ⊎ CopyFailed always t
 
-abbrev pub IsCompared : {C V : Type 0} → Bool → Bool → (V → V → Bool) → Option V → Site C → V → Turn C V → Type 0
+-- an exchange compared the value that stands with the old one
+abbrev pub IsCompared : {C V : Type 0} → Bool → Bool → (V → V → Bool) → Option V → Site C → V → NextPhase C V → Type 0
 IsCompared found always same new s v t = (found ≡ true → IsExchanged always same new s v t) × (found ≡ false → t ≡ quiet (Confirm s.at (reply.Exchange (Err (Some v)))))
 
 -- a call stands at a value
-abbrev pub IsPresent : {C V : Type 0} → Bool → (V → V → Bool) → Kind V → Option V → Site C → V → Turn C V → Type 0
+abbrev pub IsPresent : {C V : Type 0} → Bool → (V → V → Bool) → Kind V → Option V → Site C → V → NextPhase C V → Type 0
 IsPresent always same Get new s v t = t ≡ answered (reply.Get (Some v))
 IsPresent always same Insert new s v t = IsAdded always same Insert new s s.above v t
 IsPresent always same Remove new s v t = t ≡ emptied s (reply.Remove (Some v))
@@ -244,20 +256,21 @@ IsPresent always same ComputeInsert new s v t = IsAdded always same ComputeInser
 IsPresent always same (Exchange old) new s v t = IsCompared (same v old) always same new s v t
 
 -- the check after a read succeeded
-abbrev pub IsChecked : {C V : Type 0} → Bool → (V → V → Bool) → Kind V → Option V → Site C → Child C V → Turn C V → Type 0
+abbrev pub IsChecked : {C V : Type 0} → Bool → (V → V → Bool) → Kind V → Option V → Site C → Child C V → NextPhase C V → Type 0
 IsChecked always same kind new s child.Blank t = t ≡ absent kind s
 IsChecked always same kind new s (child.Node c) t = t ≡ down (adds kind) s s.above c
 IsChecked always same kind new s (child.Value v) t = IsPresent always same kind new s v t
 
 -- a check that decides by its outcome: what follows where it succeeds, and else the call begins anew
-abbrev pub IsIf : {C V : Type 0} → Bool → C → (Turn C V → Type 0) → Turn C V → Type 0
+abbrev pub IsIf : {C V : Type 0} → Bool → C → (NextPhase C V → Type 0) → NextPhase C V → Type 0
 IsIf taken root Then t = (taken ≡ true → Then t) × (taken ≡ false → t ≡ again root)
 
-abbrev pub after_miss : {C V : Type 0} → Kind V → Parent C → Seat C → ℕ → ℕ → Turn C V
+-- the key's way parts from a node within its prefix: an insertion makes a node there, and any other call answers
+abbrev pub after_miss : {C V : Type 0} → Kind V → Parent C → Stamp C → ℕ → ℕ → NextPhase C V
 after_miss kind p at common byte = cond (adds kind) (quiet (MakeTop p at common byte)) (answered (absent_reply kind))
 
 -- the answer to the closure's question about a value that stands: the new value, and what follows
-abbrev pub IsGiven : {C V : Type 0} → Bool → (V → V → Bool) → Kind V → Site C → V → Option (Option V) → Option V → Option V → Turn C V → Type 0
+abbrev pub IsGiven : {C V : Type 0} → Bool → (V → V → Bool) → Kind V → Site C → V → Option (Option V) → Option V → Option V → NextPhase C V → Type 0
 IsGiven always same kind s v None new new' t = (new' ≡ new) × IsAsked always s v t
 IsGiven always same ComputeInsert s v (Some None) new new' t = (new' ≡ new) × IsAsked always s v t
 IsGiven always same ComputeInsert s v (Some (Some x)) new new' t = (new' ≡ Some x) × (t ≡ replaced s (same v x) (reply.ComputeInsert (Some v)))
@@ -265,7 +278,7 @@ IsGiven always same _ s v (Some None) new new' t = (new' ≡ None) × (t ≡ emp
 IsGiven always same _ s v (Some (Some x)) new new' t = (new' ≡ Some x) × ((t ≡ replaced s (same v x) (reply.ComputePresent (Some (v, Some x)))) ⊎ CopyFailed always t)
 
 -- and about an absent key
-abbrev pub IsGivenNew : {C V : Type 0} → Plan C → Option (Option V) → Option V → Option V → Turn C V → Type 0
+abbrev pub IsGivenNew : {C V : Type 0} → Plan C → Option (Option V) → Option V → Option V → NextPhase C V → Type 0
 IsGivenNew plan (Some (Some x)) new new' t = (new' ≡ Some x) × (t ≡ started plan (reply.ComputeInsert None))
 IsGivenNew plan _ new new' t = (new' ≡ new) × (t ≡ asking (AskNew plan) None)
 
@@ -274,6 +287,7 @@ abbrev pub BackOne : {C V : Type 0} → (C → ℕ) → (ℕ → Node V) → Sin
 BackOne number h Set h' = h' ≡ h
 BackOne number h (Link leaf) h' = BackGives h (number leaf) h'
 
+-- those of a change of two nodes
 abbrev pub BackTwo : {C V : Type 0} → (C → ℕ) → (ℕ → Node V) → Double C → (ℕ → Node V) → Type 0
 BackTwo number h Unlink h' = h' ≡ h
 BackTwo number h (Grow c) h' = BackGives h (number c) h'
@@ -283,29 +297,34 @@ BackTwo number h (ShrinkAbove c) h' = BackGives h (number c) h'
 BackTwo {C} {V} number h (GrowLink c leaf byte) h' = (h1 : ℕ → Node V) × BackGives h (number leaf) h1 × BackGives h1 (number c) h'
 BackTwo {C} {V} number h (Split top leaf common byte) h' = (h1 : ℕ → Node V) × BackGives h (number leaf) h1 × BackGives h1 (number top) h'
 
+-- a made leaf, if there is one
 abbrev pub BackLeaf : {C V : Type 0} → (C → ℕ) → (ℕ → Node V) → Option C → (ℕ → Node V) → Type 0
 BackLeaf number h None h' = h' ≡ h
 BackLeaf number h (Some leaf) h' = BackGives h (number leaf) h'
 
 -- a node was made or not
-abbrev pub MadeLeaf : {C V : Type 0} → (C → ℕ) → Kind V → Site C → (ℕ → Node V) → List ℕ → Result C Refusal → (ℕ → Node V) → Turn C V → Type 0
+abbrev pub MadeLeaf : {C V : Type 0} → (C → ℕ) → Kind V → Site C → (ℕ → Node V) → List ℕ → Result C Refusal → (ℕ → Node V) → NextPhase C V → Type 0
 MadeLeaf number kind s h key (Ok leaf) h' t = MakeGives number h N4 key MAX_PREFIX_LEN (Ok leaf) h' × (t ≡ unless_full kind s s.full s.above (Some leaf) (Link leaf))
 MadeLeaf number kind s h key (Err e) h' t = (h' ≡ h) × (t ≡ refused e)
 
+-- a greater node comes in the place of a full one, with a leaf or without
 abbrev pub greater : {C : Type 0} → Site C → Option C → C → Double C
 greater s None c = Grow c
 greater s (Some leaf) c = GrowLink c leaf s.byte
 
-abbrev pub MadeGreater : {C V : Type 0} → (C → ℕ) → Kind V → Site C → Parent C → Option C → (ℕ → Node V) → List ℕ → Result C Refusal → (ℕ → Node V) → Turn C V → Type 0
+-- the greater one was made, or not
+abbrev pub MadeGreater : {C V : Type 0} → (C → ℕ) → Kind V → Site C → Parent C → Option C → (ℕ → Node V) → List ℕ → Result C Refusal → (ℕ → Node V) → NextPhase C V → Type 0
 MadeGreater number kind s p leaf h key (Ok c) h' t = MakeGives number h (form_above s.count) key s.depth (Ok c) h'
     × (t ≡ ready kind (Above (both p s (greater s leaf c))))
 MadeGreater number kind s p leaf h key (Err e) h' t = BackLeaf number h leaf h' × (t ≡ refused e)
 
-abbrev pub MadeTop : {C V : Type 0} → (C → ℕ) → Parent C → Seat C → ℕ → ℕ → (ℕ → Node V) → List ℕ → Result C Refusal → (ℕ → Node V) → Turn C V → Type 0
+-- the node where ways part was made, or not
+abbrev pub MadeTop : {C V : Type 0} → (C → ℕ) → Parent C → Stamp C → ℕ → ℕ → (ℕ → Node V) → List ℕ → Result C Refusal → (ℕ → Node V) → NextPhase C V → Type 0
 MadeTop number p at common byte h key (Ok top) h' t = MakeGives number h N4 key common (Ok top) h' × (t ≡ quiet (MakeBeside p at common byte top))
 MadeTop number p at common byte h key (Err e) h' t = (h' ≡ h) × (t ≡ refused e)
 
-abbrev pub MadeBeside : {C V : Type 0} → (C → ℕ) → Kind V → Parent C → Seat C → ℕ → ℕ → C → (ℕ → Node V) → List ℕ → Result C Refusal → (ℕ → Node V) → Turn C V → Type 0
+-- the leaf beside it was made, or not
+abbrev pub MadeBeside : {C V : Type 0} → (C → ℕ) → Kind V → Parent C → Stamp C → ℕ → ℕ → C → (ℕ → Node V) → List ℕ → Result C Refusal → (ℕ → Node V) → NextPhase C V → Type 0
 MadeBeside number kind p at common byte top h key (Ok leaf) h' t = MakeGives number h N4 key MAX_PREFIX_LEN (Ok leaf) h'
     × (t ≡ ready kind (Above (record { top = None; above = p; at = at; change = Split top leaf common byte })))
 MadeBeside number kind p at common byte top h key (Err e) h' t = BackGives h (number top) h' × (t ≡ refused e)
@@ -315,43 +334,48 @@ abbrev pub lesser_form : {C : Type 0} → Site C → Parent C → Option (Parent
 lesser_form s p None = form_below s.form
 lesser_form s p (Some g) = form_below p.form
 
-abbrev pub MadeLesser : {C V : Type 0} → (C → ℕ) → Site C → Parent C → Option (Parent C) → Reply V → (ℕ → Node V) → List ℕ → Result C Refusal → (ℕ → Node V) → Turn C V → Type 0
+-- it was made, or not
+abbrev pub MadeLesser : {C V : Type 0} → (C → ℕ) → Site C → Parent C → Option (Parent C) → Reply V → (ℕ → Node V) → List ℕ → Result C Refusal → (ℕ → Node V) → NextPhase C V → Type 0
 MadeLesser number s p None r h key (Ok c) h' t = MakeGives number h (form_below s.form) key s.depth (Ok c) h' × (t ≡ quiet (UpgradeAbove (both p s (Shrink c)) r))
 MadeLesser number s p None r h key (Err e) h' t = (h' ≡ h) × (t ≡ skipping (UpgradeOne (set_at s) r))
 MadeLesser number s p (Some g) r h key (Ok c) h' t = MakeGives number h (form_below p.form) key p.depth (Ok c) h' × (t ≡ quiet (UpgradeTop g (both p s (ShrinkAbove c)) r))
 MadeLesser number s p (Some g) r h key (Err e) h' t = (h' ≡ h) × (t ≡ skipping (UpgradeAbove (both p s Unlink) r))
 
 -- the check before one node is changed: the node made goes back where it fails
-pub record IsCheckedAbove {C V : Type 0} (number : C → ℕ) (root : C) (p : Seat C) (one : One C) (r : Reply V) (h h' : ℕ → Node V) (t : Turn C V) : Type 0 where
+pub record IsCheckedAbove {C V : Type 0} (number : C → ℕ) (root : C) (p : Stamp C) (one : One C) (r : Reply V) (h h' : ℕ → Node V) (t : NextPhase C V) : Type 0 where
   pub goes_on : is_taken (h (number p.node)) p.version ≡ true → (h' ≡ h) × (t ≡ quiet (UpgradeOne one r))
   pub goes_back : is_taken (h (number p.node)) p.version ≡ false → BackOne number h one.change h' × (t ≡ again root)
 
 -- an upgrade's outcome: the nodes made go back where it failed or is refused
-abbrev pub UpgradedOne : {C V : Type 0} → (C → ℕ) → C → One C → Reply V → (ℕ → Node V) → Upgrade → (ℕ → Node V) → Turn C V → Type 0
+abbrev pub UpgradedOne : {C V : Type 0} → (C → ℕ) → C → One C → Reply V → (ℕ → Node V) → Upgrade → (ℕ → Node V) → NextPhase C V → Type 0
 UpgradedOne number root one r h Locked h' t = SameBut h (number one.at.node) (record (h (number one.at.node)) { locked = true }) h' × (t ≡ quiet (ChangeOne one r))
 UpgradedOne number root one r h Failed h' t = BackOne number h one.change h' × (t ≡ again root)
 UpgradedOne number root one r h Exhausted h' t = BackOne number h one.change h' × (t ≡ refused refusal.Exhausted)
 
-abbrev pub unwound : {C V : Type 0} → C → Option Refusal → Turn C V
+-- the call begins anew, or is refused
+abbrev pub unwound : {C V : Type 0} → C → Option Refusal → NextPhase C V
 unwound root None = again root
 unwound root (Some e) = refused e
 
 -- an attempt is given up with this node locked, or none
-abbrev pub given_up : {C V : Type 0} → C → Option (Parent C) → Option Refusal → Turn C V
+abbrev pub given_up : {C V : Type 0} → C → Option (Parent C) → Option Refusal → NextPhase C V
 given_up root None e = unwound root e
 given_up root (Some g) e = quiet (Unwind g.seat.node None e)
 
-abbrev pub UpgradedTop : {C V : Type 0} → (C → ℕ) → C → Parent C → Two C → Reply V → (ℕ → Node V) → Upgrade → (ℕ → Node V) → Turn C V → Type 0
+-- that of the node above both
+abbrev pub UpgradedTop : {C V : Type 0} → (C → ℕ) → C → Parent C → Two C → Reply V → (ℕ → Node V) → Upgrade → (ℕ → Node V) → NextPhase C V → Type 0
 UpgradedTop number root g two r h Locked h' t = SameBut h (number g.seat.node) (record (h (number g.seat.node)) { locked = true }) h' × (t ≡ quiet (UpgradeAbove (record two { top = Some g }) r))
 UpgradedTop number root g two r h Failed h' t = BackTwo number h two.change h' × (t ≡ again root)
 UpgradedTop number root g two r h Exhausted h' t = BackTwo number h two.change h' × (t ≡ refused refusal.Exhausted)
 
-abbrev pub UpgradedAbove : {C V : Type 0} → (C → ℕ) → C → Two C → Reply V → (ℕ → Node V) → Upgrade → (ℕ → Node V) → Turn C V → Type 0
+-- that of the upper one of two
+abbrev pub UpgradedAbove : {C V : Type 0} → (C → ℕ) → C → Two C → Reply V → (ℕ → Node V) → Upgrade → (ℕ → Node V) → NextPhase C V → Type 0
 UpgradedAbove number root two r h Locked h' t = SameBut h (number two.above.seat.node) (record (h (number two.above.seat.node)) { locked = true }) h' × (t ≡ quiet (UpgradeBelow two r))
 UpgradedAbove number root two r h Failed h' t = BackTwo number h two.change h' × (t ≡ given_up root two.top None)
 UpgradedAbove number root two r h Exhausted h' t = BackTwo number h two.change h' × (t ≡ given_up root two.top (Some refusal.Exhausted))
 
-abbrev pub UpgradedBelow : {C V : Type 0} → (C → ℕ) → Two C → Reply V → (ℕ → Node V) → Upgrade → (ℕ → Node V) → Turn C V → Type 0
+-- that of the lower one of two
+abbrev pub UpgradedBelow : {C V : Type 0} → (C → ℕ) → Two C → Reply V → (ℕ → Node V) → Upgrade → (ℕ → Node V) → NextPhase C V → Type 0
 UpgradedBelow number two r h Locked h' t = SameBut h (number two.at.node) (record (h (number two.at.node)) { locked = true }) h' × (t ≡ quiet (ChangeTwo two r))
 UpgradedBelow number two r h Failed h' t = BackTwo number h two.change h' × (t ≡ quiet (Unwind two.above.seat.node (node_of two.top) None))
 UpgradedBelow number two r h Exhausted h' t = BackTwo number h two.change h' × (t ≡ quiet (Unwind two.above.seat.node (node_of two.top) (Some refusal.Exhausted)))
@@ -391,6 +415,7 @@ abbrev pub Lessens : {C V : Type 0} → (C → ℕ) → Two C → C → Option (
 Lessens number two c None h h' = ⊥
 Lessens number two c (Some g) h h' = PutsLesser h (number two.above.seat.node) (number c) two.above.byte (number g.seat.node) g.byte h'
 
+-- two nodes change, by the kind of change
 abbrev pub ChangedTwo : {C V : Type 0} → (C → ℕ) → List ℕ → Option V → Two C → Double C → (ℕ → Node V) → (ℕ → Node V) → Type 0
 ChangedTwo number key new two Unlink h h' = ChangeGives h (number two.above.seat.node) two.above.byte Nothing h'
 ChangedTwo number key new two (Shrink c) h h' = PutsLesser h (number two.at.node) (number c) (slice_index key MAX_PREFIX_LEN) (number two.above.seat.node) two.above.byte h'
@@ -406,11 +431,12 @@ ChangedTwo {C} {V} number key new two (Split top leaf common byte) h h' = (h1 : 
     × ChangeGives h2 (number top) (slice_index key common) (Below (number leaf)) h3 × ChangeGives h3 (number two.above.seat.node) two.above.byte (Below (number top)) h'
 
 -- what goes then, from below, and the lock that is let go last
-abbrev pub after_top : {C V : Type 0} → Two C → Reply V → Option (Parent C) → Turn C V
+abbrev pub after_top : {C V : Type 0} → Two C → Reply V → Option (Parent C) → NextPhase C V
 after_top two r None = decided (Unlock two.above.seat.node r)
 after_top two r (Some g) = decided (Obsolete two.at.node (Some two.above.seat.node) g.seat.node r)
 
-abbrev pub after_change : {C V : Type 0} → Two C → Reply V → Double C → Turn C V
+-- what goes then, by the kind of change
+abbrev pub after_change : {C V : Type 0} → Two C → Reply V → Double C → NextPhase C V
 after_change two r (Split top leaf common byte) = decided (UnlockBelow two.at.node two.above.seat.node r)
 after_change two r Collapse = after_top two r two.top
 after_change two r (ShrinkAbove c) = after_top two r two.top
@@ -419,28 +445,31 @@ after_change two r (Grow c) = decided (Obsolete two.at.node None two.above.seat.
 after_change two r (GrowLink c leaf byte) = decided (Obsolete two.at.node None two.above.seat.node r)
 after_change two r (Shrink c) = decided (Obsolete two.at.node None two.above.seat.node r)
 
-abbrev pub after_retire : {C V : Type 0} → Option C → C → Reply V → Turn C V
+-- a node was handed over: the next one goes, or the last lock
+abbrev pub after_retire : {C V : Type 0} → Option C → C → Reply V → NextPhase C V
 after_retire None last r = quiet (Unlock last r)
 after_retire (Some n) last r = quiet (Obsolete n None last r)
 
-abbrev pub after_unwind : {C V : Type 0} → C → Option C → Option Refusal → Turn C V
+-- a lock of an attempt that is given up was let go: the next one goes, or none is left
+abbrev pub after_unwind : {C V : Type 0} → C → Option C → Option Refusal → NextPhase C V
 after_unwind root None e = unwound root e
 after_unwind root (Some n) e = quiet (Unwind n None e)
 
 -- what a scan's step tells, as a report
-abbrev pub outcome_of : {V : Type 0} → Told V → Outcome V
+abbrev pub outcome_of : {V : Type 0} → ScanReport V → Outcome V
 outcome_of told.Running = Running
 outcome_of (told.Found place key v) = Found place key v
 outcome_of (told.Done count) = Scanned count
 outcome_of (told.Refused e) = Refused e
 
-abbrev pub swept : {C V : Type 0} → Scan C V → Told V → Turn C V
+-- a scan's step with what it tells
+abbrev pub swept : {C V : Type 0} → Scan C V → ScanReport V → NextPhase C V
 swept s o = record { phase = Sweep s; report = record { decided = false; skipped = false; outcome = outcome_of o } }
 
 -- the step of a call in a phase: on the nodes, the closure's answer and the failing of an exchange, it gives the
 -- call's new value, what it leaves, and the nodes after it
 abbrev pub PhaseStepped : {C V : Type 0} → (C → ℕ) → (V → V → Bool) → Bool → ℕ → (NodeType → Refusal → Type 0) → C → List ℕ → Kind V → Bool → Option (Option V)
-    → Option V → Phase C V → (ℕ → Node V) → Option V → Turn C V → (ℕ → Node V) → Type 0
+    → Option V → Phase C V → (ℕ → Node V) → Option V → NextPhase C V → (ℕ → Node V) → Type 0
 PhaseStepped number same always most why root key kind fail answer new New h new' t h' =
     (h' ≡ h) × (new' ≡ new) × (t ≡ after_version root None root (version_of (h (number root))))
 PhaseStepped number same always most why root key kind fail answer new (Version above n) h new' t h' =
@@ -498,9 +527,15 @@ PhaseStepped number same always most why root key kind fail answer new (Unlock n
 PhaseStepped number same always most why root key kind fail answer new (Unwind n next e) h new' t h' =
     (new' ≡ new) × UnlockGives h (number n) h' × (t ≡ after_unwind root next e)
 PhaseStepped {C} {V} number same always most why root key kind fail answer new (Sweep s) h new' t h' =
-    (h' ≡ h) × (new' ≡ new) × ((s' : Scan C V) × (o : Told V) × SweepStepped number always root s h s' o × (t ≡ swept s' o))
+    (h' ≡ h) × (new' ≡ new) × ((s' : Scan C V) × (o : ScanReport V) × SweepStepped number always root s h s' o × (t ≡ swept s' o))
 PhaseStepped number same always most why root key kind fail answer new Ended h new' t h' =
     (h' ≡ h) × (new' ≡ new) × (t ≡ quiet Ended)
+
+-- the same of a call, which is a record of what a step looks at: its root, key and kind, its new value and its phase
+abbrev pub MachineStepped : {C V : Type 0} → (C → ℕ) → (V → V → Bool) → Bool → ℕ → (NodeType → Refusal → Type 0) → Machine C V → (ℕ → Node V) → Bool → Option (Option V)
+    → Machine C V → (ℕ → Node V) → Move V → Type 0
+MachineStepped number same always most why m h fail answer m' h' d =
+    PhaseStepped number same always most why m.root (key_bytes m.key) m.kind fail answer m.given m.phase h m'.given (next_phase_of m'.phase d) h'
 
 -- a step of a call
 pub record Stepped {C V : Type 0} (number : C → ℕ) (same : V → V → Bool) (always : Bool) (most : ℕ) (why : NodeType → Refusal → Type 0) (m : Machine C V) (h : ℕ → Node V)
@@ -508,7 +543,7 @@ pub record Stepped {C V : Type 0} (number : C → ℕ) (same : V → V → Bool)
   pub root : m'.root ≡ m.root
   pub key : m'.key ≡ m.key
   pub kind : m'.kind ≡ m.kind
-  pub step : PhaseStepped number same always most why m.root (key_bytes m.key) m.kind fail answer m.given m.phase h m'.given (record { phase = m'.phase; report = d }) h'
+  pub step : MachineStepped number same always most why m h fail answer m' h' d
 
 -- a phase in which a call unlocks a node, or has ended
 abbrev pub IsUnlocking : {C V : Type 0} → Phase C V → Type 0
@@ -565,6 +600,7 @@ abbrev pub MayBackOne : {C V : Type 0} → (C → ℕ) → (ℕ → Node V) → 
 MayBackOne number h Set = Unit {0}
 MayBackOne number h (Link leaf) = Stands (h (number leaf))
 
+-- those of a change of two nodes
 abbrev pub MayBackTwo : {C V : Type 0} → (C → ℕ) → (ℕ → Node V) → Double C → Type 0
 MayBackTwo number h Unlink = Unit {0}
 MayBackTwo number h (Shrink c) = Stands (h (number c))
@@ -574,6 +610,7 @@ MayBackTwo number h (Grow c) = Stands (h (number c))
 MayBackTwo number h (GrowLink c leaf byte) = Stands (h (number leaf)) × Stands (h (number c)) × (number c ≢ number leaf)
 MayBackTwo number h (Split top leaf common byte) = Stands (h (number leaf)) × Stands (h (number top)) × (number top ≢ number leaf)
 
+-- a made leaf, if there is one
 abbrev pub MayBackLeaf : {C V : Type 0} → (C → ℕ) → (ℕ → Node V) → Option C → Type 0
 MayBackLeaf number h None = Unit {0}
 MayBackLeaf number h (Some leaf) = Stands (h (number leaf))
@@ -591,6 +628,7 @@ pub record Blank {V : Type 0} (n : Node V) (least : ℕ) : Type 0 where
   pub blank : (b : ℕ) → n.children b ≡ Nothing
   pub room : least < n.capacity
 
+-- what it wants of a change of one node
 abbrev pub MayChangeOne : {C V : Type 0} → (C → ℕ) → Option V → One C → Single C → (ℕ → Node V) → Type 0
 MayChangeOne number new one Set h = Changeable (h (number one.at.node)) one.byte (value_hung new)
 MayChangeOne number None one (Link leaf) h = ⊥
@@ -618,6 +656,7 @@ pub record MayCollapse {V : Type 0} (h : ℕ → Node V) (p up g b : ℕ) : Type
   pub two : (h p).count ≡ 2
   pub there : (h p).children up ≢ Nothing
 
+-- what it wants of a change of the node above both
 abbrev pub MayTop : {C V : Type 0} → (C → ℕ) → Two C → Double C → Option (Parent C) → (ℕ → Node V) → Type 0
 MayTop number two Collapse (Some g) h = MayCollapse h (number two.above.seat.node) two.above.byte (number g.seat.node) g.byte
 MayTop number two (ShrinkAbove c) (Some g) h = MayLessen h (number two.above.seat.node) (number c) two.above.byte (number g.seat.node) g.byte
@@ -675,3 +714,7 @@ MayStep number root key new (AskOld s v) h = Unit {0}
 MayStep number root key new (AskNew plan) h = Unit {0}
 MayStep number root key new (Sweep s) h = MaySweep number root s h
 MayStep number root key new Ended h = Unit {0}
+
+-- the same of a call
+abbrev pub MachineMayStep : {C V : Type 0} → (C → ℕ) → Machine C V → (ℕ → Node V) → Type 0
+MachineMayStep number m h = MayStep number m.root (key_bytes m.key) m.given m.phase h

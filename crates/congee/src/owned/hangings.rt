@@ -15,7 +15,7 @@ use crate::owned::arena::Stored;
 use crate::owned::lone::{Lone, key_from};
 use crate::owned::names::Name;
 use crate::owned::nodes::Nodes;
-use crate::owned::placed::Placed;
+use crate::owned::slot_node::SlotNode;
 use crate::owned::slots::Slot;
 
 impl<P: Stored> Nodes<P> {
@@ -69,7 +69,7 @@ impl<P: Stored> Nodes<P> {
     {
         let mut leaf = Node::least(&key[..MAX_PREFIX_LEN]);
         leaf.insert(key[MAX_PREFIX_LEN], Child::Value(value));
-        Name::of(self.slab.insert_reserved(Slot::Leaf(Placed::new(leaf))))
+        Name::of(self.slab.insert_reserved(Slot::Leaf(SlotNode::new(leaf))))
     }
 
     /// Hangs a node with a slot of its own under a free byte of an inner node that has room.

@@ -15,7 +15,7 @@ use crate::owned::arena::Stored;
 use crate::owned::entries::{Hung, Seen};
 use crate::owned::inner::Inner;
 use crate::owned::names::Name;
-use crate::owned::placed::Placed;
+use crate::owned::slot_node::SlotNode;
 
 /// A node by what its name led to, so that a walk through its children looks nothing up again.
 #[derive(Drop)]
@@ -25,7 +25,7 @@ pub(crate) enum Sight<'a, P: Stored> {
     /// An inner node, and its slot.
     Inner(usize, &'a Inner<P>),
     /// A leaf with a slot of its own, and the least key that it may have.
-    Leaf(u64, &'a Placed<P>),
+    Leaf(u64, &'a SlotNode<P>),
 }
 
 /// What hangs under a node's byte.

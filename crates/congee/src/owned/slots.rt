@@ -11,14 +11,14 @@ use crate::keys::KEY_BYTES;
 use crate::owned::entries::{Hung, Seen};
 use crate::owned::inner::Inner;
 use crate::owned::lone::Lone;
-use crate::owned::placed::Placed;
+use crate::owned::slot_node::SlotNode;
 use std::alloc::{AllocError, Global};
 
 /// A node with a slot of its own. A child of an inner node is a node by its slot, or a leaf with one value.
 #[derive(Drop)]
 pub(crate) enum Slot<P: Small> {
     Inner(Inner<P>),
-    Leaf(Placed<P>),
+    Leaf(SlotNode<P>),
 }
 
 impl<P: Small> Slot<P> {

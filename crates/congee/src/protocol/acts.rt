@@ -2,7 +2,7 @@
 ghost use Rattle.std.specs.Prelude.{◌≡◌, ◌≢◌, ◌<◌, ◌≤◌, Bool, Option, None, Result, IfErr};
 ghost use Rattle.congee.specs.Heap.{Nothing, Below, Stands};
 ghost use Rattle.congee.specs.Keys.{key_bytes};
-ghost use Rattle.congee.specs.protocol.Steps.{turn_of, form_above, decided, after_change, Acts, MayLock, IsReleasing, IsUnlocking, BackOne, BackTwo, MadeLeaf, MadeGreater, MadeTop, MadeBeside, MadeLesser, lesser_form, UpgradedOne, UpgradedTop, UpgradedAbove, UpgradedBelow, Collapses, PutsLesser, Lessens, MayLessen, MayTop, ChangedOne, ChangedTwo, IsCheckedAbove, MayStep, MayBackOne, MayBackTwo, MayBackLeaf, MayChangeOne, MayChangeTwo, Changeable, Blank, PutsGreater, PutsFork, PhaseStepped};
+ghost use Rattle.congee.specs.protocol.Steps.{next_phase_of, form_above, decided, after_change, Acts, MayLock, IsReleasing, IsUnlocking, BackOne, BackTwo, MadeLeaf, MadeGreater, MadeTop, MadeBeside, MadeLesser, lesser_form, UpgradedOne, UpgradedTop, UpgradedAbove, UpgradedBelow, Collapses, PutsLesser, Lessens, MayLessen, MayTop, ChangedOne, ChangedTwo, IsCheckedAbove, MayBackOne, MayBackTwo, MayBackLeaf, MayChangeOne, MayChangeTwo, Changeable, Blank, PutsGreater, PutsFork, MachineStepped, MachineMayStep};
 ghost use Rattle.congee.specs.protocol.Events.{hung, upgrade_gives, HoldsAlike};
 ghost use Rattle.congee.specs.declared.protocol.store.Upgrade.{Upgrade};
 ghost use Rattle.congee.specs.declared.protocol.store.Refusal.{Refusal};
@@ -17,14 +17,14 @@ use crate::forms::prefix::MAX_PREFIX_LEN;
 use crate::keys::KEY_BYTES;
 use crate::protocol::machine::{Machine, Move, Outcome};
 use crate::protocol::phase::{Double, One, Parent, Phase, Single, Site, Two, taken};
-use crate::protocol::store::{NodeName, Refusal, Seat, Store, Upgrade};
+use crate::protocol::store::{NodeName, Refusal, Stamp, Store, Upgrade};
 use crate::protocol::turn::value_child;
 use judge::{Payload, Reply};
 
 impl<C: NodeName, P: Payload> Machine<C, P> {
     /// The step of a phase that makes, locks or changes nodes, or of a later one.
     pub(crate) fn act<S: Store<C, P>>(&mut self, store: &mut S, fail: bool) -> Move<P>
-        requires may { MayStep C.number self.old.root (key_bytes self.old.key) self.old.given self.old.phase (S.heap store.old) }
+        requires may { MachineMayStep C.number self.old (S.heap store.old) }
         requires acts { Acts self.old.phase }
         requires within { Within (S.version_max store.old) (S.heap store.old) }
         ensures root { self.new.root ≡ self.old.root }
@@ -32,7 +32,7 @@ impl<C: NodeName, P: Payload> Machine<C, P> {
         ensures kind { self.new.kind ≡ self.old.kind }
         ensures limit { S.version_max store.new ≡ S.version_max store.old }
         ensures rest { S.rest store.new ≡ S.rest store.old }
-        ensures step { (answer : Option (Option P)) → PhaseStepped C.number P.same_as P.always_copies (S.version_max store.old) (S.refuses store.old) self.old.root (key_bytes self.old.key) self.old.kind fail answer self.old.given self.old.phase (S.heap store.old) self.new.given (turn_of self.new.phase result) (S.heap store.new) }
+        ensures step { (answer : Option (Option P)) → MachineStepped C.number P.same_as P.always_copies (S.version_max store.old) (S.refuses store.old) self.old (S.heap store.old) fail answer self.new (S.heap store.new) result }
     {
         match &mut self.phase {
             Phase::MakeLeaf { site } => {
@@ -78,7 +78,7 @@ impl<C: NodeName, P: Payload> Machine<C, P> {
 
     /// The step of a phase that locks or changes nodes, or of a later one.
     fn lock<S: Store<C, P>>(&mut self, store: &mut S, fail: bool) -> Move<P>
-        requires may { MayStep C.number self.old.root (key_bytes self.old.key) self.old.given self.old.phase (S.heap store.old) }
+        requires may { MachineMayStep C.number self.old (S.heap store.old) }
         requires may_lock { MayLock self.old.phase }
         requires within { Within (S.version_max store.old) (S.heap store.old) }
         ensures root { self.new.root ≡ self.old.root }
@@ -86,7 +86,7 @@ impl<C: NodeName, P: Payload> Machine<C, P> {
         ensures kind { self.new.kind ≡ self.old.kind }
         ensures limit { S.version_max store.new ≡ S.version_max store.old }
         ensures rest { S.rest store.new ≡ S.rest store.old }
-        ensures step { (answer : Option (Option P)) → PhaseStepped C.number P.same_as P.always_copies (S.version_max store.old) (S.refuses store.old) self.old.root (key_bytes self.old.key) self.old.kind fail answer self.old.given self.old.phase (S.heap store.old) self.new.given (turn_of self.new.phase result) (S.heap store.new) }
+        ensures step { (answer : Option (Option P)) → MachineStepped C.number P.same_as P.always_copies (S.version_max store.old) (S.refuses store.old) self.old (S.heap store.old) fail answer self.new (S.heap store.new) result }
     {
         match &mut self.phase {
             Phase::CheckAbove { above, one, reply } => {
@@ -124,13 +124,13 @@ impl<C: NodeName, P: Payload> Machine<C, P> {
 
     /// The step of a phase that marks or hands over a node, or of a later one.
     fn leave<S: Store<C, P>>(&mut self, store: &mut S) -> Move<P>
-        requires may { MayStep C.number self.old.root (key_bytes self.old.key) self.old.given self.old.phase (S.heap store.old) }
+        requires may { MachineMayStep C.number self.old (S.heap store.old) }
         requires leaves { IsReleasing self.old.phase }
         requires within { Within (S.version_max store.old) (S.heap store.old) }
         ensures phase_alone { self.new ≡ record self.old { phase = self.new.phase } }
         ensures limit { S.version_max store.new ≡ S.version_max store.old }
         ensures rest { S.rest store.new ≡ S.rest store.old }
-        ensures step { (fail : Bool) (answer : Option (Option P)) → PhaseStepped C.number P.same_as P.always_copies (S.version_max store.old) (S.refuses store.old) self.old.root (key_bytes self.old.key) self.old.kind fail answer self.old.given self.old.phase (S.heap store.old) self.new.given (turn_of self.new.phase result) (S.heap store.new) }
+        ensures step { (fail : Bool) (answer : Option (Option P)) → MachineStepped C.number P.same_as P.always_copies (S.version_max store.old) (S.refuses store.old) self.old (S.heap store.old) fail answer self.new (S.heap store.new) result }
     {
         match &mut self.phase {
             Phase::Obsolete {
@@ -165,13 +165,13 @@ impl<C: NodeName, P: Payload> Machine<C, P> {
 
     /// The step of a phase that unlocks a node, or of a call that has ended.
     fn release<S: Store<C, P>>(&mut self, store: &mut S) -> Move<P>
-        requires may { MayStep C.number self.old.root (key_bytes self.old.key) self.old.given self.old.phase (S.heap store.old) }
+        requires may { MachineMayStep C.number self.old (S.heap store.old) }
         requires unlocks { IsUnlocking self.old.phase }
         requires within { Within (S.version_max store.old) (S.heap store.old) }
         ensures phase_alone { self.new ≡ record self.old { phase = self.new.phase } }
         ensures limit { S.version_max store.new ≡ S.version_max store.old }
         ensures rest { S.rest store.new ≡ S.rest store.old }
-        ensures step { (fail : Bool) (answer : Option (Option P)) → PhaseStepped C.number P.same_as P.always_copies (S.version_max store.old) (S.refuses store.old) self.old.root (key_bytes self.old.key) self.old.kind fail answer self.old.given self.old.phase (S.heap store.old) self.new.given (turn_of self.new.phase result) (S.heap store.new) }
+        ensures step { (fail : Bool) (answer : Option (Option P)) → MachineStepped C.number P.same_as P.always_copies (S.version_max store.old) (S.refuses store.old) self.old (S.heap store.old) fail answer self.new (S.heap store.new) result }
     {
         match &mut self.phase {
             Phase::UnlockBelow { node, above, reply } => {
@@ -207,7 +207,7 @@ impl<C: NodeName, P: Payload> Machine<C, P> {
         ensures phase_alone { self.new ≡ record self.old { phase = self.new.phase } }
         ensures limit { S.version_max store.new ≡ S.version_max store.old }
         ensures rest { S.rest store.new ≡ S.rest store.old }
-        ensures made { ((r : Result C Refusal) × MadeLeaf C.number self.old.kind site (S.heap store.old) (key_bytes self.old.key) r (S.heap store.new) (turn_of self.new.phase result) × IfErr r (S.refuses store.old base.N4)) }
+        ensures made { ((r : Result C Refusal) × MadeLeaf C.number self.old.kind site (S.heap store.old) (key_bytes self.old.key) r (S.heap store.new) (next_phase_of self.new.phase result) × IfErr r (S.refuses store.old base.N4)) }
     {
         match store.make(NodeType::N4, &self.key.to_be_bytes(), MAX_PREFIX_LEN) {
             Err(refusal) => self.phase.refused(refusal),
@@ -230,7 +230,7 @@ impl<C: NodeName, P: Payload> Machine<C, P> {
         ensures phase_alone { self.new ≡ record self.old { phase = self.new.phase } }
         ensures limit { S.version_max store.new ≡ S.version_max store.old }
         ensures rest { S.rest store.new ≡ S.rest store.old }
-        ensures made { ((r : Result C Refusal) × MadeGreater C.number self.old.kind site above leaf (S.heap store.old) (key_bytes self.old.key) r (S.heap store.new) (turn_of self.new.phase result) × IfErr r (S.refuses store.old (form_above site.count))) }
+        ensures made { ((r : Result C Refusal) × MadeGreater C.number self.old.kind site above leaf (S.heap store.old) (key_bytes self.old.key) r (S.heap store.new) (next_phase_of self.new.phase result) × IfErr r (S.refuses store.old (form_above site.count))) }
     {
         let form = NodeType::above(site.count);
         match store.make(form, &self.key.to_be_bytes(), site.depth) {
@@ -252,7 +252,7 @@ impl<C: NodeName, P: Payload> Machine<C, P> {
         &mut self,
         store: &mut S,
         above: Parent<C>,
-        at: Seat<C>,
+        at: Stamp<C>,
         common: usize,
         byte: u8,
     ) -> Move<P>
@@ -260,7 +260,7 @@ impl<C: NodeName, P: Payload> Machine<C, P> {
         ensures phase_alone { self.new ≡ record self.old { phase = self.new.phase } }
         ensures limit { S.version_max store.new ≡ S.version_max store.old }
         ensures rest { S.rest store.new ≡ S.rest store.old }
-        ensures made { ((r : Result C Refusal) × MadeTop C.number above at common byte (S.heap store.old) (key_bytes self.old.key) r (S.heap store.new) (turn_of self.new.phase result) × IfErr r (S.refuses store.old base.N4)) }
+        ensures made { ((r : Result C Refusal) × MadeTop C.number above at common byte (S.heap store.old) (key_bytes self.old.key) r (S.heap store.new) (next_phase_of self.new.phase result) × IfErr r (S.refuses store.old base.N4)) }
     {
         match store.make(NodeType::N4, &self.key.to_be_bytes(), common) {
             Err(refusal) => self.phase.refused(refusal),
@@ -279,7 +279,7 @@ impl<C: NodeName, P: Payload> Machine<C, P> {
         &mut self,
         store: &mut S,
         above: Parent<C>,
-        at: Seat<C>,
+        at: Stamp<C>,
         common: usize,
         byte: u8,
         top: C,
@@ -288,7 +288,7 @@ impl<C: NodeName, P: Payload> Machine<C, P> {
         ensures phase_alone { self.new ≡ record self.old { phase = self.new.phase } }
         ensures limit { S.version_max store.new ≡ S.version_max store.old }
         ensures rest { S.rest store.new ≡ S.rest store.old }
-        ensures made { ((r : Result C Refusal) × MadeBeside C.number self.old.kind above at common byte top (S.heap store.old) (key_bytes self.old.key) r (S.heap store.new) (turn_of self.new.phase result) × IfErr r (S.refuses store.old base.N4)) }
+        ensures made { ((r : Result C Refusal) × MadeBeside C.number self.old.kind above at common byte top (S.heap store.old) (key_bytes self.old.key) r (S.heap store.new) (next_phase_of self.new.phase result) × IfErr r (S.refuses store.old base.N4)) }
     {
         match store.make(NodeType::N4, &self.key.to_be_bytes(), MAX_PREFIX_LEN) {
             Err(refusal) => {
@@ -322,7 +322,7 @@ impl<C: NodeName, P: Payload> Machine<C, P> {
         ensures phase_alone { self.new ≡ record self.old { phase = self.new.phase } }
         ensures limit { S.version_max store.new ≡ S.version_max store.old }
         ensures rest { S.rest store.new ≡ S.rest store.old }
-        ensures made { ((x : Result C Refusal) × MadeLesser C.number site above top reply (S.heap store.old) (key_bytes self.old.key) x (S.heap store.new) (turn_of self.new.phase result) × IfErr x (S.refuses store.old (lesser_form site above top))) }
+        ensures made { ((x : Result C Refusal) × MadeLesser C.number site above top reply (S.heap store.old) (key_bytes self.old.key) x (S.heap store.new) (next_phase_of self.new.phase result) × IfErr x (S.refuses store.old (lesser_form site above top))) }
     {
         let key = self.key.to_be_bytes();
         match top {
@@ -354,7 +354,7 @@ impl<C: NodeName, P: Payload> Machine<C, P> {
     fn check_above<S: Store<C, P>>(
         &mut self,
         store: &mut S,
-        above: Seat<C>,
+        above: Stamp<C>,
         one: One<C>,
         reply: Reply<P>,
     ) -> Move<P>
@@ -363,12 +363,12 @@ impl<C: NodeName, P: Payload> Machine<C, P> {
         ensures phase_alone { self.new ≡ record self.old { phase = self.new.phase } }
         ensures limit { S.version_max store.new ≡ S.version_max store.old }
         ensures rest { S.rest store.new ≡ S.rest store.old }
-        ensures checked { IsCheckedAbove C.number self.old.root above one reply (S.heap store.old) (S.heap store.new) (turn_of self.new.phase result) }
+        ensures checked { IsCheckedAbove C.number self.old.root above one reply (S.heap store.old) (S.heap store.new) (next_phase_of self.new.phase result) }
     {
         if store.check(above) {
             self.phase.quiet(Phase::UpgradeOne { one, reply })
         } else {
-            give_up_one(store, one.change, reply);
+            give_back_one(store, one.change, reply);
             self.phase.again(self.root)
         }
     }
@@ -386,14 +386,14 @@ impl<C: NodeName, P: Payload> Machine<C, P> {
         ensures phase_alone { self.new ≡ record self.old { phase = self.new.phase } }
         ensures limit { S.version_max store.new ≡ S.version_max store.old }
         ensures rest { S.rest store.new ≡ S.rest store.old }
-        ensures upgraded { ((u : Upgrade) × (u ≡ upgrade_gives (S.version_max store.old) (S.heap store.old (C.number one.at.node)) one.at.version fail) × UpgradedOne C.number self.old.root one reply (S.heap store.old) u (S.heap store.new) (turn_of self.new.phase result)) }
+        ensures upgraded { ((u : Upgrade) × (u ≡ upgrade_gives (S.version_max store.old) (S.heap store.old (C.number one.at.node)) one.at.version fail) × UpgradedOne C.number self.old.root one reply (S.heap store.old) u (S.heap store.new) (next_phase_of self.new.phase result)) }
     {
         let refusal = match store.upgrade(one.at, fail) {
             Upgrade::Locked => return self.phase.quiet(Phase::ChangeOne { one, reply }),
             Upgrade::Failed => None,
             Upgrade::Exhausted => Some(Refusal::Exhausted),
         };
-        give_up_one(store, one.change, reply);
+        give_back_one(store, one.change, reply);
         self.phase.unwound(self.root, refusal)
     }
 
@@ -411,7 +411,7 @@ impl<C: NodeName, P: Payload> Machine<C, P> {
         ensures phase_alone { self.new ≡ record self.old { phase = self.new.phase } }
         ensures limit { S.version_max store.new ≡ S.version_max store.old }
         ensures rest { S.rest store.new ≡ S.rest store.old }
-        ensures upgraded { ((u : Upgrade) × (u ≡ upgrade_gives (S.version_max store.old) (S.heap store.old (C.number top.seat.node)) top.seat.version fail) × UpgradedTop C.number self.old.root top two reply (S.heap store.old) u (S.heap store.new) (turn_of self.new.phase result)) }
+        ensures upgraded { ((u : Upgrade) × (u ≡ upgrade_gives (S.version_max store.old) (S.heap store.old (C.number top.seat.node)) top.seat.version fail) × UpgradedTop C.number self.old.root top two reply (S.heap store.old) u (S.heap store.new) (next_phase_of self.new.phase result)) }
     {
         let refusal = match store.upgrade(top.seat, fail) {
             Upgrade::Locked => {
@@ -424,7 +424,7 @@ impl<C: NodeName, P: Payload> Machine<C, P> {
             Upgrade::Failed => None,
             Upgrade::Exhausted => Some(Refusal::Exhausted),
         };
-        give_up_two(store, two.change, reply);
+        give_back_two(store, two.change, reply);
         self.phase.unwound(self.root, refusal)
     }
 
@@ -441,14 +441,14 @@ impl<C: NodeName, P: Payload> Machine<C, P> {
         ensures phase_alone { self.new ≡ record self.old { phase = self.new.phase } }
         ensures limit { S.version_max store.new ≡ S.version_max store.old }
         ensures rest { S.rest store.new ≡ S.rest store.old }
-        ensures upgraded { ((u : Upgrade) × (u ≡ upgrade_gives (S.version_max store.old) (S.heap store.old (C.number two.above.seat.node)) two.above.seat.version fail) × UpgradedAbove C.number self.old.root two reply (S.heap store.old) u (S.heap store.new) (turn_of self.new.phase result)) }
+        ensures upgraded { ((u : Upgrade) × (u ≡ upgrade_gives (S.version_max store.old) (S.heap store.old (C.number two.above.seat.node)) two.above.seat.version fail) × UpgradedAbove C.number self.old.root two reply (S.heap store.old) u (S.heap store.new) (next_phase_of self.new.phase result)) }
     {
         let refusal = match store.upgrade(two.seat_above(), fail) {
             Upgrade::Locked => return self.phase.quiet(Phase::UpgradeBelow { two, reply }),
             Upgrade::Failed => None,
             Upgrade::Exhausted => Some(Refusal::Exhausted),
         };
-        give_up_two(store, two.change, reply);
+        give_back_two(store, two.change, reply);
         let top = two.top;
         self.phase.given_up(self.root, top, refusal)
     }
@@ -466,7 +466,7 @@ impl<C: NodeName, P: Payload> Machine<C, P> {
         ensures phase_alone { self.new ≡ record self.old { phase = self.new.phase } }
         ensures limit { S.version_max store.new ≡ S.version_max store.old }
         ensures rest { S.rest store.new ≡ S.rest store.old }
-        ensures upgraded { ((u : Upgrade) × (u ≡ upgrade_gives (S.version_max store.old) (S.heap store.old (C.number two.at.node)) two.at.version fail) × UpgradedBelow C.number two reply (S.heap store.old) u (S.heap store.new) (turn_of self.new.phase result)) }
+        ensures upgraded { ((u : Upgrade) × (u ≡ upgrade_gives (S.version_max store.old) (S.heap store.old (C.number two.at.node)) two.at.version fail) × UpgradedBelow C.number two reply (S.heap store.old) u (S.heap store.new) (next_phase_of self.new.phase result)) }
     {
         let node = two.parent();
         let next = two.top_node();
@@ -475,7 +475,7 @@ impl<C: NodeName, P: Payload> Machine<C, P> {
             Upgrade::Failed => None,
             Upgrade::Exhausted => Some(Refusal::Exhausted),
         };
-        give_up_two(store, two.change, reply);
+        give_back_two(store, two.change, reply);
         self.phase.quiet(Phase::Unwind {
             node,
             next,
@@ -493,7 +493,7 @@ impl<C: NodeName, P: Payload> Machine<C, P> {
         ensures limit { S.version_max store.new ≡ S.version_max store.old }
         ensures rest { S.rest store.new ≡ S.rest store.old }
         ensures changed { ChangedOne C.number (key_bytes self.old.key) self.old.given one one.change (S.heap store.old) (S.heap store.new) }
-        ensures turn { turn_of self.new.phase result ≡ decided (phase.Unlock one.at.node reply) }
+        ensures turn { next_phase_of self.new.phase result ≡ decided (phase.Unlock one.at.node reply) }
     {
         let value = value_child(self.given.take());
         let One { at, byte, change } = one;
@@ -518,7 +518,7 @@ impl<C: NodeName, P: Payload> Machine<C, P> {
         ensures limit { S.version_max store.new ≡ S.version_max store.old }
         ensures rest { S.rest store.new ≡ S.rest store.old }
         ensures changed { ChangedTwo C.number (key_bytes self.old.key) self.old.given two two.change (S.heap store.old) (S.heap store.new) }
-        ensures turn { turn_of self.new.phase result ≡ after_change two reply two.change }
+        ensures turn { next_phase_of self.new.phase result ≡ after_change two reply two.change }
     {
         put_two(store, two, &self.key.to_be_bytes(), self.given.take());
         self.phase.after_change(two, reply)
@@ -691,7 +691,7 @@ fn put_fork<C: NodeName, P: Payload, S: Store<C, P>>(
 }
 
 /// Gives up the change of one node: the node that was made for it goes back, and the reply is dropped.
-fn give_up_one<C: NodeName, P: Payload, S: Store<C, P>>(
+fn give_back_one<C: NodeName, P: Payload, S: Store<C, P>>(
     store: &mut S,
     change: Single<C>,
     reply: Reply<P>,
@@ -709,7 +709,7 @@ fn give_up_one<C: NodeName, P: Payload, S: Store<C, P>>(
 }
 
 /// Gives up the change of the node above: the nodes that were made for it go back, and the reply is dropped.
-fn give_up_two<C: NodeName, P: Payload, S: Store<C, P>>(
+fn give_back_two<C: NodeName, P: Payload, S: Store<C, P>>(
     store: &mut S,
     change: Double<C>,
     reply: Reply<P>,

@@ -24,7 +24,7 @@ ghost use Rattle.congee.specs.Heap.{Node, value_at};
 ghost use Rattle.congee.specs.protocol.Holdings.{MadeBy, Holdings};
 ghost use Rattle.congee.specs.Keys.{key_bytes, IsMapOf};
 ghost use Rattle.congee.specs.protocol.Leaving.{StepLeaves};
-ghost use Rattle.congee.specs.Ledger.{Note, Held, Linked, Tree, LockWords, Lifts, Collapses, Lessens, Shrinks};
+ghost use Rattle.congee.specs.Notes.{Note, Held, Linked, Tree, LockWords, Lifts, Collapses, Lessens, Shrinks};
 ghost use Rattle.congee.specs.protocol.Opening.{FreshRoot};
 ghost use Rattle.congee.specs.protocol.PlainSteps.{Mark, plain_step};
 ghost use Rattle.congee.specs.protocol.Play.{begun, first_phase, IsNew, IsIdle, Protocol, ProtocolAt, Settled};

@@ -5,8 +5,7 @@ ghost use Rattle.congee.specs.protocol.Answers.{KeepsProtocol};
 ghost use Rattle.congee.specs.protocol.Names.{KeepsOrigin};
 ghost use Rattle.congee.specs.protocol.Play.{begun, flight, range_of, IsNew, IsOfRange, Begins};
 ghost use Rattle.congee.specs.protocol.Opening.{RootAlone};
-ghost use Rattle.congee.specs.Keys.{key_bytes};
-ghost use Rattle.congee.specs.protocol.Steps.{turn_of, quiet, answered, refused, after_miss, IsIf, IsChecked, IsAtOld, IsGiven, IsGivenNew, MayStep, PhaseStepped, Stepped, HasValue, Settles};
+ghost use Rattle.congee.specs.protocol.Steps.{next_phase_of, quiet, answered, refused, after_miss, IsIf, IsChecked, IsAtOld, IsGiven, IsGivenNew, Stepped, HasValue, Settles, MachineStepped, MachineMayStep};
 ghost use Rattle.congee.specs.declared.protocol.store.Refusal.TheVariants as refusal;
 ghost use Rattle.congee.specs.declared.protocol.phase.Phase.TheVariants as phase;
 ghost use Rattle.congee.specs.protocol.Bounds.{Within};
@@ -14,7 +13,7 @@ ghost use Rattle.congee.specs.protocol.Bounds.{Within};
 use crate::forms::child::Child;
 use crate::protocol::op::Op;
 use crate::protocol::phase::{Above, Kind, Parent, Phase, Plan, Site, taken};
-use crate::protocol::store::{NodeName, Refusal, Seat, Seen, Store};
+use crate::protocol::store::{NodeName, Refusal, Seen, Stamp, Store};
 use judge::{Payload, Reply};
 use std::mem;
 
@@ -108,7 +107,7 @@ impl<C: NodeName, P: Payload> Machine<C, P> {
     /// The next step of the call.
     #[inline(always)]
     pub fn next<S: Store<C, P>>(&mut self, store: &mut S, mut noise: Noise<C, P>) -> Move<P>
-        requires may { MayStep C.number self.old.root (key_bytes self.old.key) self.old.given self.old.phase (S.heap store.old) }
+        requires may { MachineMayStep C.number self.old (S.heap store.old) }
         requires within { Within (S.version_max store.old) (S.heap store.old) }
         ensures limit { S.version_max store.new ≡ S.version_max store.old }
         ensures rest { S.rest store.new ≡ S.rest store.old }
@@ -117,7 +116,7 @@ impl<C: NodeName, P: Payload> Machine<C, P> {
         ensures keeps { KeepsProtocol C.number P.same_as P.always_copies self.old (S.heap store.old) self.new (S.heap store.new) result }
         ensures origin { KeepsOrigin C.number P.same_as P.always_copies self.old (S.heap store.old) self.new (S.heap store.new) }
     {
-        let report = self.turn(store, &mut noise);
+        let report = self.step_phase(store, &mut noise);
         // What isn't wanted any more is handed to `drop`: in place it would be a step for each variant, which the checker
         // goes through at each branch.
         drop(noise);
@@ -126,15 +125,15 @@ impl<C: NodeName, P: Payload> Machine<C, P> {
 
     /// The step of a phase: of one on the call's way down, of a scan, or of a later one. The phase is changed where it lies,
     /// and a scan in it too.
-    fn turn<S: Store<C, P>>(&mut self, store: &mut S, noise: &mut Noise<C, P>) -> Move<P>
-        requires may { MayStep C.number self.old.root (key_bytes self.old.key) self.old.given self.old.phase (S.heap store.old) }
+    fn step_phase<S: Store<C, P>>(&mut self, store: &mut S, noise: &mut Noise<C, P>) -> Move<P>
+        requires may { MachineMayStep C.number self.old (S.heap store.old) }
         requires within { Within (S.version_max store.old) (S.heap store.old) }
         ensures root { self.new.root ≡ self.old.root }
         ensures key { self.new.key ≡ self.old.key }
         ensures kind { self.new.kind ≡ self.old.kind }
         ensures limit { S.version_max store.new ≡ S.version_max store.old }
         ensures rest { S.rest store.new ≡ S.rest store.old }
-        ensures step { PhaseStepped C.number P.same_as P.always_copies (S.version_max store.old) (S.refuses store.old) self.old.root (key_bytes self.old.key) self.old.kind noise.old.fail noise.old.answer self.old.given self.old.phase (S.heap store.old) self.new.given (turn_of self.new.phase result) (S.heap store.new) }
+        ensures step { MachineStepped C.number P.same_as P.always_copies (S.version_max store.old) (S.refuses store.old) self.old (S.heap store.old) noise.old.fail noise.old.answer self.new (S.heap store.new) result }
     {
         let root = self.root;
         match &mut self.phase {
@@ -168,7 +167,7 @@ impl<C: NodeName, P: Payload> Machine<C, P> {
 
     /// The step of a phase that checks once more or takes an answer, or of a later one.
     fn settle<S: Store<C, P>>(&mut self, store: &mut S, noise: &mut Noise<C, P>) -> Move<P>
-        requires may { MayStep C.number self.old.root (key_bytes self.old.key) self.old.given self.old.phase (S.heap store.old) }
+        requires may { MachineMayStep C.number self.old (S.heap store.old) }
         requires settles { Settles self.old.phase }
         requires within { Within (S.version_max store.old) (S.heap store.old) }
         ensures root { self.new.root ≡ self.old.root }
@@ -176,7 +175,7 @@ impl<C: NodeName, P: Payload> Machine<C, P> {
         ensures kind { self.new.kind ≡ self.old.kind }
         ensures limit { S.version_max store.new ≡ S.version_max store.old }
         ensures rest { S.rest store.new ≡ S.rest store.old }
-        ensures step { PhaseStepped C.number P.same_as P.always_copies (S.version_max store.old) (S.refuses store.old) self.old.root (key_bytes self.old.key) self.old.kind noise.old.fail noise.old.answer self.old.given self.old.phase (S.heap store.old) self.new.given (turn_of self.new.phase result) (S.heap store.new) }
+        ensures step { MachineStepped C.number P.same_as P.always_copies (S.version_max store.old) (S.refuses store.old) self.old (S.heap store.old) noise.old.fail noise.old.answer self.new (S.heap store.new) result }
     {
         match &mut self.phase {
             Phase::CheckUncopied { at } => {
@@ -208,12 +207,12 @@ impl<C: NodeName, P: Payload> Machine<C, P> {
 
     /// The step of a phase that has the value that stands, which is taken out of it.
     fn at_value<S: Store<C, P>>(&mut self, store: &S, noise: &mut Noise<C, P>) -> Move<P>
-        requires may { MayStep C.number self.old.root (key_bytes self.old.key) self.old.given self.old.phase (S.heap store.now) }
+        requires may { MachineMayStep C.number self.old (S.heap store.now) }
         requires value { HasValue self.old.phase }
         ensures root { self.new.root ≡ self.old.root }
         ensures key { self.new.key ≡ self.old.key }
         ensures kind { self.new.kind ≡ self.old.kind }
-        ensures step { PhaseStepped C.number P.same_as P.always_copies (S.version_max store.now) (S.refuses store.now) self.old.root (key_bytes self.old.key) self.old.kind noise.old.fail noise.old.answer self.old.given self.old.phase (S.heap store.now) self.new.given (turn_of self.new.phase result) (S.heap store.now) }
+        ensures step { MachineStepped C.number P.same_as P.always_copies (S.version_max store.now) (S.refuses store.now) self.old (S.heap store.now) noise.old.fail noise.old.answer self.new (S.heap store.now) result }
     {
         match mem::replace(&mut self.phase, Phase::Ended) {
             Phase::CheckOld { above, site, old } => self.check_old(store, above, site, old),
@@ -223,10 +222,10 @@ impl<C: NodeName, P: Payload> Machine<C, P> {
     }
 
     /// Checks the node whose value couldn't be copied.
-    fn check_uncopied<S: Store<C, P>>(&mut self, store: &S, at: Seat<C>) -> Move<P>
+    fn check_uncopied<S: Store<C, P>>(&mut self, store: &S, at: Stamp<C>) -> Move<P>
         requires { Stands (S.heap store.now (C.number at.node)) }
         ensures phase_alone { self.new ≡ record self.old { phase = self.new.phase } }
-        ensures checked { IsIf (is_taken (S.heap store.now (C.number at.node)) at.version) self.old.root (λ u. u ≡ refused refusal.Count) (turn_of self.new.phase result) }
+        ensures checked { IsIf (is_taken (S.heap store.now (C.number at.node)) at.version) self.old.root (λ u. u ≡ refused refusal.Count) (next_phase_of self.new.phase result) }
     {
         if store.check(at) {
             self.phase.refused(Refusal::Count)
@@ -236,10 +235,10 @@ impl<C: NodeName, P: Payload> Machine<C, P> {
     }
 
     /// Checks the node once more, where the call leaves the value as it is.
-    fn confirm<S: Store<C, P>>(&mut self, store: &S, seat: Seat<C>, reply: Reply<P>) -> Move<P>
+    fn confirm<S: Store<C, P>>(&mut self, store: &S, seat: Stamp<C>, reply: Reply<P>) -> Move<P>
         requires { Stands (S.heap store.now (C.number seat.node)) }
         ensures phase_alone { self.new ≡ record self.old { phase = self.new.phase } }
-        ensures checked { IsIf (is_taken (S.heap store.now (C.number seat.node)) seat.version) self.old.root (λ u. u ≡ answered reply) (turn_of self.new.phase result) }
+        ensures checked { IsIf (is_taken (S.heap store.now (C.number seat.node)) seat.version) self.old.root (λ u. u ≡ answered reply) (next_phase_of self.new.phase result) }
     {
         if store.check(seat) {
             self.phase.answered(reply)
@@ -252,7 +251,7 @@ impl<C: NodeName, P: Payload> Machine<C, P> {
     fn check<S: Store<C, P>>(&mut self, store: &S, site: Site<C>, child: Child<C, P>) -> Move<P>
         requires { Stands (S.heap store.now (C.number site.at.node)) }
         ensures phase_alone { self.new ≡ record self.old { phase = self.new.phase } }
-        ensures checked { IsIf (is_taken (S.heap store.now (C.number site.at.node)) site.at.version) self.old.root (IsChecked P.always_copies P.same_as self.old.kind self.old.given site child) (turn_of self.new.phase result) }
+        ensures checked { IsIf (is_taken (S.heap store.now (C.number site.at.node)) site.at.version) self.old.root (IsChecked P.always_copies P.same_as self.old.kind self.old.given site child) (next_phase_of self.new.phase result) }
     {
         if store.check(site.at) {
             self.phase.checked(&self.kind, &self.given, site, child)
@@ -266,13 +265,13 @@ impl<C: NodeName, P: Payload> Machine<C, P> {
         &mut self,
         store: &S,
         above: Parent<C>,
-        at: Seat<C>,
+        at: Stamp<C>,
         common: usize,
         byte: u8,
     ) -> Move<P>
         requires { Stands (S.heap store.now (C.number above.seat.node)) }
         ensures phase_alone { self.new ≡ record self.old { phase = self.new.phase } }
-        ensures checked { IsIf (is_taken (S.heap store.now (C.number above.seat.node)) above.seat.version) self.old.root (λ u. u ≡ after_miss self.old.kind above at common byte) (turn_of self.new.phase result) }
+        ensures checked { IsIf (is_taken (S.heap store.now (C.number above.seat.node)) above.seat.version) self.old.root (λ u. u ≡ after_miss self.old.kind above at common byte) (next_phase_of self.new.phase result) }
     {
         if store.check(above.seat) {
             self.phase.after_miss(&self.kind, above, at, common, byte)
@@ -285,13 +284,13 @@ impl<C: NodeName, P: Payload> Machine<C, P> {
     fn check_down<S: Store<C, P>>(
         &mut self,
         store: &S,
-        above: Seat<C>,
+        above: Stamp<C>,
         at: Above<C>,
         node: C,
     ) -> Move<P>
         requires { Stands (S.heap store.now (C.number above.node)) }
         ensures phase_alone { self.new ≡ record self.old { phase = self.new.phase } }
-        ensures checked { IsIf (is_taken (S.heap store.now (C.number above.node)) above.version) self.old.root (λ u. u ≡ quiet (phase.Version (Some at) node)) (turn_of self.new.phase result) }
+        ensures checked { IsIf (is_taken (S.heap store.now (C.number above.node)) above.version) self.old.root (λ u. u ≡ quiet (phase.Version (Some at) node)) (next_phase_of self.new.phase result) }
     {
         if store.check(above) {
             let above = Some(at);
@@ -305,13 +304,13 @@ impl<C: NodeName, P: Payload> Machine<C, P> {
     fn check_old<S: Store<C, P>>(
         &mut self,
         store: &S,
-        above: Seat<C>,
+        above: Stamp<C>,
         site: Site<C>,
         old: P,
     ) -> Move<P>
         requires { Stands (S.heap store.now (C.number above.node)) }
         ensures phase_alone { self.new ≡ record self.old { phase = self.new.phase } }
-        ensures checked { IsIf (is_taken (S.heap store.now (C.number above.node)) above.version) self.old.root (IsAtOld P.always_copies P.same_as self.old.kind self.old.given site old) (turn_of self.new.phase result) }
+        ensures checked { IsIf (is_taken (S.heap store.now (C.number above.node)) above.version) self.old.root (IsAtOld P.always_copies P.same_as self.old.kind self.old.given site old) (next_phase_of self.new.phase result) }
     {
         if store.check(above) {
             self.phase.at_old(&self.kind, &self.given, site, old)
@@ -325,7 +324,7 @@ impl<C: NodeName, P: Payload> Machine<C, P> {
         ensures root { self.new.root ≡ self.old.root }
         ensures key { self.new.key ≡ self.old.key }
         ensures kind { self.new.kind ≡ self.old.kind }
-        ensures given { IsGiven P.always_copies P.same_as self.old.kind site old answer self.old.given self.new.given (turn_of self.new.phase result) }
+        ensures given { IsGiven P.always_copies P.same_as self.old.kind site old answer self.old.given self.new.given (next_phase_of self.new.phase result) }
     {
         match (&self.kind, answer) {
             (_, None) => self.phase.asked(site, old),
@@ -363,7 +362,7 @@ impl<C: NodeName, P: Payload> Machine<C, P> {
         ensures root { self.new.root ≡ self.old.root }
         ensures key { self.new.key ≡ self.old.key }
         ensures kind { self.new.kind ≡ self.old.kind }
-        ensures given { IsGivenNew plan answer self.old.given self.new.given (turn_of self.new.phase result) }
+        ensures given { IsGivenNew plan answer self.old.given self.new.given (next_phase_of self.new.phase result) }
     {
         match answer {
             Some(Some(value)) => {

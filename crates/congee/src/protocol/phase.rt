@@ -5,7 +5,7 @@ ghost use Rattle.congee.specs.protocol.Steps.{plan_here, greater, here_of, near_
 
 use crate::forms::base_node::NodeType;
 use crate::forms::child::Child;
-use crate::protocol::store::{NodeName, Refusal, Seat};
+use crate::protocol::store::{NodeName, Refusal, Stamp};
 use crate::protocol::sweep::Sweep;
 use judge::Reply;
 use std::mem;
@@ -31,7 +31,7 @@ pub enum Kind<P> {
 #[derive(Clone, Copy)]
 pub struct Parent<C: NodeName> {
     /// The node above.
-    pub seat: Seat<C>,
+    pub seat: Stamp<C>,
     /// The byte.
     pub byte: u8,
     /// The length of its prefix, in bytes.
@@ -57,7 +57,7 @@ pub struct Site<C: NodeName> {
     /// The nodes above.
     pub above: Option<Above<C>>,
     /// The node.
-    pub at: Seat<C>,
+    pub at: Stamp<C>,
     /// The length of its prefix, in bytes.
     pub depth: usize,
     /// The key's byte there.
@@ -83,7 +83,7 @@ pub enum Single<C: NodeName> {
 #[derive(Clone, Copy)]
 pub struct One<C: NodeName> {
     /// The node.
-    pub at: Seat<C>,
+    pub at: Stamp<C>,
     /// The key's byte there.
     pub byte: u8,
     /// What comes there.
@@ -133,7 +133,7 @@ pub struct Two<C: NodeName> {
     /// The node above.
     pub above: Parent<C>,
     /// The node at hand.
-    pub at: Seat<C>,
+    pub at: Stamp<C>,
     /// What comes in its place.
     pub change: Double<C>,
 }
@@ -142,9 +142,14 @@ pub struct Two<C: NodeName> {
 #[derive(Clone, Copy)]
 pub enum Plan<C: NodeName> {
     /// Changes one node; the node above is checked first, where there is one.
-    Here { check: Option<Seat<C>>, one: One<C> },
+    Here {
+        check: Option<Stamp<C>>,
+        one: One<C>,
+    },
     /// Changes the node above.
-    Above { two: Two<C> },
+    Above {
+        two: Two<C>,
+    },
 }
 
 /// The next step of a call, with what the steps before found out for it.
@@ -160,7 +165,7 @@ pub enum Phase<C: NodeName, P> {
     /// Reads the node.
     Read {
         above: Option<Above<C>>,
-        at: Seat<C>,
+        at: Stamp<C>,
     },
     /// Checks the node after the read.
     Check {
@@ -169,24 +174,24 @@ pub enum Phase<C: NodeName, P> {
     },
     /// Checks the node whose value couldn't be copied.
     CheckUncopied {
-        at: Seat<C>,
+        at: Stamp<C>,
     },
     /// Checks the node above one whose prefix differs from the key.
     CheckMiss {
         above: Parent<C>,
-        at: Seat<C>,
+        at: Stamp<C>,
         common: usize,
         byte: u8,
     },
     /// An insertion's check of the node above, before it follows a child.
     CheckDown {
-        above: Seat<C>,
+        above: Stamp<C>,
         at: Above<C>,
         node: C,
     },
     /// An insertion's check of the node above, at a value.
     CheckOld {
-        above: Seat<C>,
+        above: Stamp<C>,
         site: Site<C>,
         old: P,
     },
@@ -203,14 +208,14 @@ pub enum Phase<C: NodeName, P> {
     /// Makes the node that comes above the one at hand.
     MakeTop {
         above: Parent<C>,
-        at: Seat<C>,
+        at: Stamp<C>,
         common: usize,
         byte: u8,
     },
     /// Makes the leaf beside the one at hand.
     MakeBeside {
         above: Parent<C>,
-        at: Seat<C>,
+        at: Stamp<C>,
         common: usize,
         byte: u8,
         top: C,
@@ -233,12 +238,12 @@ pub enum Phase<C: NodeName, P> {
     },
     /// Checks the node once more, where the call leaves the value as it is.
     Confirm {
-        at: Seat<C>,
+        at: Stamp<C>,
         reply: Reply<P>,
     },
     /// Checks the node above before one node is changed.
     CheckAbove {
-        above: Seat<C>,
+        above: Stamp<C>,
         one: One<C>,
         reply: Reply<P>,
     },
@@ -399,7 +404,7 @@ impl<C: NodeName> Two<C> {
     }
 
     /// The node above, and its version.
-    pub(crate) fn seat_above(&self) -> Seat<C>
+    pub(crate) fn seat_above(&self) -> Stamp<C>
         ensures { result ≡ self.now.above.seat }
     {
         self.above.seat

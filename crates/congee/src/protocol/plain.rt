@@ -16,7 +16,7 @@ use crate::protocol::machine::Machine;
 use crate::protocol::op::Op;
 use crate::protocol::plain_node::PlainNode;
 use crate::protocol::store::{
-    Least, NodeName, Reading, Refusal, Region, Seat, Seen, Store, Upgrade,
+    Least, NodeName, Reading, Refusal, Region, Seen, Stamp, Store, Upgrade,
 };
 use std::alloc::{AllocError, Global};
 use std::vec::Vec;
@@ -92,7 +92,7 @@ impl Store<usize, u64> for PlainStore {
 
     fn read(
         &self,
-        at: Seat<usize>,
+        at: Stamp<usize>,
         key: &[u8; KEY_BYTES],
         seen: Option<Seen<usize, u64>>,
     ) -> Reading<usize, u64>
@@ -109,7 +109,7 @@ impl Store<usize, u64> for PlainStore {
 
     fn least(
         &self,
-        at: Seat<usize>,
+        at: Stamp<usize>,
         from: u16,
         last: u8,
         seen: Option<Seen<usize, u64>>,
@@ -121,14 +121,14 @@ impl Store<usize, u64> for PlainStore {
         self.nodes[at.node].least(at.version, from, last, seen)
     }
 
-    fn check(&self, at: Seat<usize>) -> bool
+    fn check(&self, at: Stamp<usize>) -> bool
         requires { Stands (plain_heap self.now.nodes.items at.node) }
         ensures { result ≡ is_taken (plain_heap self.now.nodes.items at.node) at.version }
     {
         self.nodes[at.node].is_at(at.version)
     }
 
-    fn upgrade(&mut self, at: Seat<usize>, fail: bool) -> Upgrade
+    fn upgrade(&mut self, at: Stamp<usize>, fail: bool) -> Upgrade
         requires { Stands (plain_heap self.old.nodes.items at.node) }
         ensures rest { self.new.room ≡ self.old.room }
         ensures gives { UpgradeGives (2 ^ 64 - 1) (plain_heap self.old.nodes.items) at.node at.version fail result (plain_heap self.new.nodes.items) }

@@ -24,7 +24,7 @@ pub trait NodeName: Copy {
 
 /// A node, and the version of its lock word that was taken.
 #[derive(Clone, Copy)]
-pub struct Seat<C: NodeName> {
+pub struct Stamp<C: NodeName> {
     /// The node.
     pub node: C,
     /// The version.
@@ -141,7 +141,7 @@ pub trait Store<C: NodeName, P: Payload> {
     /// Compares the key with the node's prefix, and looks at the key's byte there. Of a node whose lock word
     /// isn't the one that was taken, what hangs at the byte, whether it is full and how many children it has are what
     /// `seen` says: no child, not full and none where it says nothing.
-    fn read(&self, at: Seat<C>, key: &[u8; KEY_BYTES], seen: Option<Seen<C, P>>) -> Reading<C, P>
+    fn read(&self, at: Stamp<C>, key: &[u8; KEY_BYTES], seen: Option<Seen<C, P>>) -> Reading<C, P>
         requires { Stands (heap self.now (C.number at.node)) }
         ensures gives { ReadGives C.number P.always_copies (heap self.now (C.number at.node)) at.version key.now result }
         ensures sees { ReadSees (heap self.now (C.number at.node)) at.version seen result };
@@ -153,18 +153,18 @@ pub trait Store<C: NodeName, P: Payload> {
 
     /// What hangs at the least byte from `from` to `last` that has a child. Of a node whose lock word isn't the one
     /// that was taken it is what `seen` says.
-    fn least(&self, at: Seat<C>, from: u16, last: u8, seen: Option<Seen<C, P>>) -> Least<C, P>
+    fn least(&self, at: Stamp<C>, from: u16, last: u8, seen: Option<Seen<C, P>>) -> Least<C, P>
         requires { Stands (heap self.now (C.number at.node)) }
         ensures gives { LeastGives C.number P.always_copies (heap self.now (C.number at.node)) at.version from last result }
         ensures sees { LeastSees (heap self.now (C.number at.node)) at.version seen result };
 
     /// Whether the node's lock word is the one that was taken.
-    fn check(&self, at: Seat<C>) -> bool
+    fn check(&self, at: Stamp<C>) -> bool
         requires { Stands (heap self.now (C.number at.node)) }
         ensures { result ≡ is_taken (heap self.now (C.number at.node)) at.version };
 
     /// Locks the node by one exchange from the version that was taken; `fail` makes the exchange fail.
-    fn upgrade(&mut self, at: Seat<C>, fail: bool) -> Upgrade
+    fn upgrade(&mut self, at: Stamp<C>, fail: bool) -> Upgrade
         requires { Stands (heap self.old (C.number at.node)) }
         ensures limit { version_max self.new ≡ version_max self.old }
         ensures rest { rest self.new ≡ rest self.old }

@@ -7,7 +7,7 @@ ghost use Rattle.congee.specs.protocol.SweepSteps.{whole, is_outside, first_byte
 
 use crate::forms::prefix::MAX_PREFIX_LEN;
 use crate::keys::KEY_BYTES;
-use crate::protocol::store::{Least, NodeName, Refusal, Region, Seat, Seen, Store};
+use crate::protocol::store::{Least, NodeName, Refusal, Region, Seen, Stamp, Store};
 use judge::Payload;
 use std::mem;
 
@@ -15,7 +15,7 @@ use std::mem;
 #[derive(Clone, Copy)]
 pub struct Rung<C: NodeName> {
     /// The node.
-    pub at: Seat<C>,
+    pub at: Stamp<C>,
     /// The keys below it.
     pub region: Region,
     /// The byte.
@@ -64,7 +64,7 @@ pub enum Stage<C: NodeName, P> {
 
 /// What a step of a scan tells.
 #[derive(Drop)]
-pub enum Told<P> {
+pub enum ScanReport<P> {
     /// The scan goes on.
     Running,
     /// The pair comes to the place.
@@ -218,7 +218,7 @@ impl<C: NodeName, P> Sweep<C, P> {
         ensures { result ≡ new_sweep root start last size }
     {
         let first = Rung {
-            at: Seat {
+            at: Stamp {
                 node: root,
                 version: 0,
             },
@@ -253,7 +253,7 @@ impl<C: NodeName, P: Payload> Sweep<C, P> {
         store: &S,
         root: C,
         seen: &mut Option<Seen<C, P>>,
-    ) -> Told<P>
+    ) -> ScanReport<P>
         requires { MaySweep C.number root self.old (S.heap store.now) }
         ensures { SweepStepped C.number P.always_copies root self.old (S.heap store.now) self.new result }
     {
@@ -276,18 +276,18 @@ impl<C: NodeName, P: Payload> Sweep<C, P> {
             }
             Stage::Full => {
                 let count = self.count;
-                self.stop(Told::Done { count })
+                self.stop(ScanReport::Done { count })
             }
-            Stage::Over => Told::Running,
+            Stage::Over => ScanReport::Running,
         }
     }
 
     /// Goes on with this step.
-    fn go(&mut self, stage: Stage<C, P>) -> Told<P>
+    fn go(&mut self, stage: Stage<C, P>) -> ScanReport<P>
         ensures { (self.new, result) ≡ goes self.old self.old.above stage }
     {
         drop(mem::replace(&mut self.stage, stage));
-        Told::Running
+        ScanReport::Running
     }
 
     /// Where a pair was found: every place is filled, or this node is looked at.
@@ -302,7 +302,7 @@ impl<C: NodeName, P: Payload> Sweep<C, P> {
     }
 
     /// Ends so.
-    fn stop(&mut self, told: Told<P>) -> Told<P>
+    fn stop(&mut self, told: ScanReport<P>) -> ScanReport<P>
         ensures { (self.new, result) ≡ over self.old told }
     {
         drop(mem::replace(&mut self.stage, Stage::Over));
@@ -310,7 +310,7 @@ impl<C: NodeName, P: Payload> Sweep<C, P> {
     }
 
     /// Begins anew at the root.
-    fn again(&mut self, root: C) -> Told<P>
+    fn again(&mut self, root: C) -> ScanReport<P>
         ensures { (self.new, result) ≡ anew root self.old }
     {
         self.count = 0;
@@ -322,12 +322,12 @@ impl<C: NodeName, P: Payload> Sweep<C, P> {
     }
 
     /// Enters the root. Where there is no place, the scan is over.
-    fn begin<S: Store<C, P>>(&mut self, store: &S, root: C) -> Told<P>
+    fn begin<S: Store<C, P>>(&mut self, store: &S, root: C) -> ScanReport<P>
         requires { Stands (S.heap store.now (C.number root)) }
         ensures { (self.new, result) ≡ begins root self.old (version_of (S.heap store.now (C.number root))) }
     {
         if self.size == 0 {
-            self.stop(Told::Done { count: 0 })
+            self.stop(ScanReport::Done { count: 0 })
         } else {
             drop(self.again(root));
             self.enter(root, root, Region::whole(), store.version(root))
@@ -335,14 +335,14 @@ impl<C: NodeName, P: Payload> Sweep<C, P> {
     }
 
     /// Leaves the node at hand.
-    fn leave(&mut self) -> Told<P>
+    fn leave(&mut self) -> ScanReport<P>
         requires { self.old.above.len ≤ KEY_BYTES }
         ensures { (self.new, result) ≡ left self.old }
     {
         match self.above.last() {
             None => {
                 let count = self.count;
-                self.stop(Told::Done { count })
+                self.stop(ScanReport::Done { count })
             }
             Some(rung) => {
                 self.above.len -= 1;
@@ -353,7 +353,7 @@ impl<C: NodeName, P: Payload> Sweep<C, P> {
 
     /// Looks at a node that has this version, or leaves it where no key below it is in the range. One that is locked or
     /// was taken out has none, and the scan begins anew.
-    fn enter(&mut self, root: C, node: C, region: Region, version: Option<u64>) -> Told<P>
+    fn enter(&mut self, root: C, node: C, region: Region, version: Option<u64>) -> ScanReport<P>
         requires depth { region.depth ≤ MAX_PREFIX_LEN }
         requires fits { self.old.above.len ≤ KEY_BYTES }
         ensures { (self.new, result) ≡ entered root self.old node region version }
@@ -365,7 +365,7 @@ impl<C: NodeName, P: Payload> Sweep<C, P> {
                     self.leave()
                 } else {
                     let from = region.first_byte(self.start) as u16;
-                    let at = Seat { node, version };
+                    let at = Stamp { node, version };
                     self.go(Stage::Look {
                         rung: Rung { at, region, from },
                     })
@@ -381,7 +381,7 @@ impl<C: NodeName, P: Payload> Sweep<C, P> {
         root: C,
         rung: Rung<C>,
         found: Least<C, P>,
-    ) -> Told<P>
+    ) -> ScanReport<P>
         requires stands { Stands (S.heap store.now (C.number rung.at.node)) }
         requires fits { self.old.above.len < KEY_BYTES }
         requires room { self.old.count < self.old.size }
@@ -397,7 +397,12 @@ impl<C: NodeName, P: Payload> Sweep<C, P> {
     }
 
     /// The check after the read succeeded.
-    fn follow<S: Store<C, P>>(&mut self, store: &S, rung: Rung<C>, found: Least<C, P>) -> Told<P>
+    fn follow<S: Store<C, P>>(
+        &mut self,
+        store: &S,
+        rung: Rung<C>,
+        found: Least<C, P>,
+    ) -> ScanReport<P>
         requires fits { self.old.above.len < KEY_BYTES }
         requires room { self.old.count < self.old.size }
         requires may { MayFollow C.number (S.heap store.now) rung found }
@@ -416,9 +421,9 @@ impl<C: NodeName, P: Payload> Sweep<C, P> {
                 self.count += 1;
                 let next = self.next_place(rung.moved(byte));
                 drop(mem::replace(&mut self.stage, next));
-                Told::Found { place, key, value }
+                ScanReport::Found { place, key, value }
             }
-            Least::Uncopied => self.stop(Told::Refused(Refusal::Count)),
+            Least::Uncopied => self.stop(ScanReport::Refused(Refusal::Count)),
         }
     }
 }

@@ -1,6 +1,6 @@
 //! What a step leaves, and where the answers of the store lead.
 ghost use Rattle.std.specs.Prelude.{◌≡◌, ℕ, ◌<◌, ◌⊎◌, Bool, true, false, Option, None, Some};
-ghost use Rattle.congee.specs.protocol.Steps.{turn_of, quiet, again, answered, finished, refused, decided, asking, adds, asks_new, absent_reply, form_above, after_version, after_read, down, started, ready, plan_here, unless_full, missing, absent, IsAsked, replaced, emptied, is_same, IsAtOld, IsAdded, IsExchanged, IsPresent, IsChecked, after_miss, after_change, after_top, after_retire, after_unwind, given_up, greater, last_out, node_of, shrinks, form_below, skipping, set_at, both, unwound, outcome_of, value_hung};
+ghost use Rattle.congee.specs.protocol.Steps.{next_phase_of, quiet, again, answered, finished, refused, decided, asking, adds, asks_new, absent_reply, form_above, after_version, after_read, down, started, ready, plan_here, unless_full, missing, absent, IsAsked, replaced, emptied, is_same, IsAtOld, IsAdded, IsExchanged, IsPresent, IsChecked, after_miss, after_change, after_top, after_retire, after_unwind, given_up, greater, last_out, node_of, shrinks, form_below, skipping, set_at, both, unwound, outcome_of, value_hung};
 ghost use Rattle.congee.specs.protocol.Events.{hung};
 ghost use Rattle.congee.specs.declared.protocol.phase.Phase.TheVariants as phase;
 ghost use Rattle.congee.specs.declared.protocol.phase.Double.TheVariants as double;
@@ -13,14 +13,14 @@ use crate::protocol::machine::{Move, Outcome};
 use crate::protocol::phase::{
     Above, Double, Kind, Parent, Phase, Plan, Single, Site, Two, near_of,
 };
-use crate::protocol::store::{NodeName, Reading, Refusal, Seat};
-use crate::protocol::sweep::Told;
+use crate::protocol::store::{NodeName, Reading, Refusal, Stamp};
+use crate::protocol::sweep::ScanReport;
 use judge::{Payload, Reply};
 
 /// What a step leaves: the call's next step, and what is reported. Contracts speak of both as one; a step changes the
 /// phase where it lies, and gives its report.
 #[derive(Drop)]
-pub struct Turn<C: NodeName, P> {
+pub struct NextPhase<C: NodeName, P> {
     /// The next step.
     pub phase: Phase<C, P>,
     /// What the step did, as it is told to the caller.
@@ -32,7 +32,7 @@ impl<C: NodeName, P: Payload> Phase<C, P> {
     /// to it: a phase is then made where it is to lie, and not copied there.
     #[inline(always)]
     fn leave(&mut self, next: Self, decided: bool, outcome: Outcome<P>) -> Move<P>
-        ensures { turn_of self.new result ≡ record { phase = next; report = record { decided = decided; skipped = false; outcome = outcome } } }
+        ensures { next_phase_of self.new result ≡ record { phase = next; report = record { decided = decided; skipped = false; outcome = outcome } } }
     {
         *self = next;
         Move {
@@ -45,14 +45,14 @@ impl<C: NodeName, P: Payload> Phase<C, P> {
     /// The call goes on.
     #[inline(always)]
     pub(crate) fn quiet(&mut self, next: Self) -> Move<P>
-        ensures { turn_of self.new result ≡ quiet next }
+        ensures { next_phase_of self.new result ≡ quiet next }
     {
         self.leave(next, false, Outcome::Running)
     }
 
     /// The call begins anew at the root.
     pub(crate) fn again(&mut self, root: C) -> Move<P>
-        ensures { turn_of self.new result ≡ again root }
+        ensures { next_phase_of self.new result ≡ again root }
     {
         self.quiet(Phase::Version {
             above: None,
@@ -62,21 +62,21 @@ impl<C: NodeName, P: Payload> Phase<C, P> {
 
     /// The call takes effect in this step, and ends with its reply.
     pub(crate) fn answered(&mut self, reply: Reply<P>) -> Move<P>
-        ensures { turn_of self.new result ≡ answered reply }
+        ensures { next_phase_of self.new result ≡ answered reply }
     {
         self.leave(Phase::Ended, true, Outcome::Done(reply))
     }
 
     /// The call ends with the reply of a step before.
     pub(crate) fn finished(&mut self, reply: Reply<P>) -> Move<P>
-        ensures { turn_of self.new result ≡ finished reply }
+        ensures { next_phase_of self.new result ≡ finished reply }
     {
         self.leave(Phase::Ended, false, Outcome::Done(reply))
     }
 
     /// The call ends without a reply.
     pub(crate) fn refused(&mut self, refusal: Refusal) -> Move<P>
-        ensures { turn_of self.new result ≡ refused refusal }
+        ensures { next_phase_of self.new result ≡ refused refusal }
     {
         self.leave(Phase::Ended, false, Outcome::Refused(refusal))
     }
@@ -84,14 +84,14 @@ impl<C: NodeName, P: Payload> Phase<C, P> {
     /// The call takes effect in this step, and goes on.
     #[inline(always)]
     pub(crate) fn decided(&mut self, next: Self) -> Move<P>
-        ensures { turn_of self.new result ≡ decided next }
+        ensures { next_phase_of self.new result ≡ decided next }
     {
         self.leave(next, true, Outcome::Running)
     }
 
     /// The call goes on without a node that wasn't made.
     pub(crate) fn skipping(&mut self, next: Self) -> Move<P>
-        ensures { turn_of self.new result ≡ skipping next }
+        ensures { next_phase_of self.new result ≡ skipping next }
     {
         let report = self.leave(next, false, Outcome::Running);
         Move {
@@ -103,22 +103,22 @@ impl<C: NodeName, P: Payload> Phase<C, P> {
     /// The closure is asked, for this value or for an absent key.
     #[inline(always)]
     pub(crate) fn asking(&mut self, next: Self, value: Option<P>) -> Move<P>
-        ensures { turn_of self.new result ≡ asking next value }
+        ensures { next_phase_of self.new result ≡ asking next value }
     {
         self.leave(next, false, Outcome::Asks(value))
     }
 }
 
-impl<P> Told<P> {
+impl<P> ScanReport<P> {
     /// The report of a scan's step.
     pub(crate) fn report(self) -> Move<P>
         ensures { result ≡ record { decided = false; skipped = false; outcome = outcome_of self } }
     {
         let outcome = match self {
-            Told::Running => Outcome::Running,
-            Told::Found { place, key, value } => Outcome::Found { place, key, value },
-            Told::Done { count } => Outcome::Scanned { count },
-            Told::Refused(refusal) => Outcome::Refused(refusal),
+            ScanReport::Running => Outcome::Running,
+            ScanReport::Found { place, key, value } => Outcome::Found { place, key, value },
+            ScanReport::Done { count } => Outcome::Scanned { count },
+            ScanReport::Refused(refusal) => Outcome::Refused(refusal),
         };
         Move {
             decided: false,
@@ -208,13 +208,13 @@ impl<C: NodeName, P: Payload> Phase<C, P> {
         node: C,
         version: Option<u64>,
     ) -> Move<P>
-        ensures { turn_of self.new result ≡ after_version root above node version }
+        ensures { next_phase_of self.new result ≡ after_version root above node version }
     {
         match version {
             None => self.again(root),
             Some(version) => self.quiet(Phase::Read {
                 above,
-                at: Seat { node, version },
+                at: Stamp { node, version },
             }),
         }
     }
@@ -224,10 +224,10 @@ impl<C: NodeName, P: Payload> Phase<C, P> {
         &mut self,
         root: C,
         above: Option<Above<C>>,
-        at: Seat<C>,
+        at: Stamp<C>,
         reading: Reading<C, P>,
     ) -> Move<P>
-        ensures { turn_of self.new result ≡ after_read root above at reading }
+        ensures { next_phase_of self.new result ≡ after_read root above at reading }
     {
         match reading {
             Reading::Differs { common, byte } => match above {
@@ -257,7 +257,7 @@ impl<C: NodeName, P: Payload> Phase<C, P> {
 
     /// The check after a read succeeded, and a node hangs at the key's byte.
     fn down(&mut self, adds: bool, site: Site<C>, node: C) -> Move<P>
-        ensures { turn_of self.new result ≡ down adds site site.above node }
+        ensures { next_phase_of self.new result ≡ down adds site site.above node }
     {
         let above = site.above;
         let here = Above {
@@ -279,7 +279,7 @@ impl<C: NodeName, P: Payload> Phase<C, P> {
 
     /// What was planned begins.
     pub(crate) fn started(&mut self, plan: Plan<C>, reply: Reply<P>) -> Move<P>
-        ensures { turn_of self.new result ≡ started plan reply }
+        ensures { next_phase_of self.new result ≡ started plan reply }
     {
         match plan {
             Plan::Here { check: None, one } => self.quiet(Phase::UpgradeOne { one, reply }),
@@ -293,7 +293,7 @@ impl<C: NodeName, P: Payload> Phase<C, P> {
 
     /// The nodes that an insertion needs are made.
     pub(crate) fn ready(&mut self, kind: &Kind<P>, plan: Plan<C>) -> Move<P>
-        ensures { turn_of self.new result ≡ ready kind.now plan }
+        ensures { next_phase_of self.new result ≡ ready kind.now plan }
     {
         if kind.asks_new() {
             self.asking(Phase::AskNew { plan }, None)
@@ -307,10 +307,10 @@ impl<C: NodeName, P: Payload> Phase<C, P> {
         &mut self,
         kind: &Kind<P>,
         above: Parent<C>,
-        at: Seat<C>,
+        at: Stamp<C>,
         change: Double<C>,
     ) -> Move<P>
-        ensures { turn_of self.new result ≡ ready kind.now (plan.Above (record { top = None; above = above; at = at; change = change })) }
+        ensures { next_phase_of self.new result ≡ ready kind.now (plan.Above (record { top = None; above = above; at = at; change = change })) }
     {
         self.ready(
             kind,
@@ -333,7 +333,7 @@ impl<C: NodeName, P: Payload> Phase<C, P> {
         leaf: Option<C>,
         change: Single<C>,
     ) -> Move<P>
-        ensures { turn_of self.new result ≡ unless_full kind.now site site.full site.above leaf change }
+        ensures { next_phase_of self.new result ≡ unless_full kind.now site site.full site.above leaf change }
     {
         match (site.full, site.above) {
             (true, Some(above)) => self.quiet(Phase::MakeGreater {
@@ -347,7 +347,7 @@ impl<C: NodeName, P: Payload> Phase<C, P> {
 
     /// The key is absent at the node.
     fn absent(&mut self, kind: &Kind<P>, site: Site<C>) -> Move<P>
-        ensures { turn_of self.new result ≡ absent kind.now site }
+        ensures { next_phase_of self.new result ≡ absent kind.now site }
     {
         if !kind.adds() {
             self.answered(kind.absent_reply())
@@ -360,7 +360,7 @@ impl<C: NodeName, P: Payload> Phase<C, P> {
 
     /// The closure is asked for the value that stands.
     pub(crate) fn asked(&mut self, site: Site<C>, old: P) -> Move<P>
-        ensures { IsAsked P.always_copies site old (turn_of self.new result) }
+        ensures { IsAsked P.always_copies site old (next_phase_of self.new result) }
     {
         match old.copy() {
             None => self.refused(Refusal::Count),
@@ -370,7 +370,7 @@ impl<C: NodeName, P: Payload> Phase<C, P> {
 
     /// The same value again is confirmed, and another one takes its place.
     pub(crate) fn replaced(&mut self, site: Site<C>, same: bool, reply: Reply<P>) -> Move<P>
-        ensures { turn_of self.new result ≡ replaced site same reply }
+        ensures { next_phase_of self.new result ≡ replaced site same reply }
     {
         if same {
             self.quiet(Phase::Confirm { at: site.at, reply })
@@ -384,7 +384,7 @@ impl<C: NodeName, P: Payload> Phase<C, P> {
 
     /// The value is taken out of the leaf.
     fn set_out(&mut self, site: Site<C>, reply: Reply<P>) -> Move<P>
-        ensures { turn_of self.new result ≡ quiet (phase.UpgradeOne (set_at site) reply) }
+        ensures { next_phase_of self.new result ≡ quiet (phase.UpgradeOne (set_at site) reply) }
     {
         self.quiet(Phase::UpgradeOne {
             one: site.one(Single::Set),
@@ -394,7 +394,7 @@ impl<C: NodeName, P: Payload> Phase<C, P> {
 
     /// The leaf is taken out of the node above.
     fn leaf_out(&mut self, site: Site<C>, above: Parent<C>, reply: Reply<P>) -> Move<P>
-        ensures { turn_of self.new result ≡ quiet (phase.UpgradeAbove (both above site double.Unlink) reply) }
+        ensures { next_phase_of self.new result ≡ quiet (phase.UpgradeAbove (both above site double.Unlink) reply) }
     {
         self.quiet(Phase::UpgradeAbove {
             two: site.both(above, Double::Unlink),
@@ -410,7 +410,7 @@ impl<C: NodeName, P: Payload> Phase<C, P> {
         top: Option<Parent<C>>,
         reply: Reply<P>,
     ) -> Move<P>
-        ensures { turn_of self.new result ≡ last_out site above top reply }
+        ensures { next_phase_of self.new result ≡ last_out site above top reply }
     {
         match top {
             None => self.leaf_out(site, above, reply),
@@ -437,7 +437,7 @@ impl<C: NodeName, P: Payload> Phase<C, P> {
 
     /// The value goes: with its last value the leaf goes, and one that came down to few gives way to a lesser leaf.
     pub(crate) fn emptied(&mut self, site: Site<C>, reply: Reply<P>) -> Move<P>
-        ensures { turn_of self.new result ≡ emptied site reply }
+        ensures { next_phase_of self.new result ≡ emptied site reply }
     {
         let above = site.above;
         match above {
@@ -467,7 +467,7 @@ impl<C: NodeName, P: Payload> Phase<C, P> {
         site: Site<C>,
         old: P,
     ) -> Move<P>
-        ensures { IsAtOld P.always_copies P.same_as kind.now new.now site old (turn_of self.new result) }
+        ensures { IsAtOld P.always_copies P.same_as kind.now new.now site old (next_phase_of self.new result) }
     {
         match kind {
             Kind::Insert => {
@@ -487,7 +487,7 @@ impl<C: NodeName, P: Payload> Phase<C, P> {
 
     /// An insertion stands at a value.
     fn added(&mut self, kind: &Kind<P>, new: &Option<P>, site: Site<C>, old: P) -> Move<P>
-        ensures { IsAdded P.always_copies P.same_as kind.now new.now site site.above old (turn_of self.new result) }
+        ensures { IsAdded P.always_copies P.same_as kind.now new.now site site.above old (next_phase_of self.new result) }
     {
         let above = site.above;
         match above {
@@ -502,7 +502,7 @@ impl<C: NodeName, P: Payload> Phase<C, P> {
 
     /// An exchange found the old value.
     fn exchanged(&mut self, new: &Option<P>, site: Site<C>, old: P) -> Move<P>
-        ensures { IsExchanged P.always_copies P.same_as new.now site old (turn_of self.new result) }
+        ensures { IsExchanged P.always_copies P.same_as new.now site old (next_phase_of self.new result) }
     {
         match new {
             None => self.emptied(site, Reply::Exchange(Ok(None))),
@@ -518,7 +518,7 @@ impl<C: NodeName, P: Payload> Phase<C, P> {
 
     /// A call stands at a value.
     fn present(&mut self, kind: &Kind<P>, new: &Option<P>, site: Site<C>, value: P) -> Move<P>
-        ensures { IsPresent P.always_copies P.same_as kind.now new.now site value (turn_of self.new result) }
+        ensures { IsPresent P.always_copies P.same_as kind.now new.now site value (next_phase_of self.new result) }
     {
         match kind {
             Kind::Get => self.answered(Reply::Get(Some(value))),
@@ -547,7 +547,7 @@ impl<C: NodeName, P: Payload> Phase<C, P> {
         site: Site<C>,
         child: Child<C, P>,
     ) -> Move<P>
-        ensures { IsChecked P.always_copies P.same_as kind.now new.now site child (turn_of self.new result) }
+        ensures { IsChecked P.always_copies P.same_as kind.now new.now site child (next_phase_of self.new result) }
     {
         match child {
             Child::Blank => self.absent(kind, site),
@@ -561,11 +561,11 @@ impl<C: NodeName, P: Payload> Phase<C, P> {
         &mut self,
         kind: &Kind<P>,
         above: Parent<C>,
-        at: Seat<C>,
+        at: Stamp<C>,
         common: usize,
         byte: u8,
     ) -> Move<P>
-        ensures { turn_of self.new result ≡ after_miss kind.now above at common byte }
+        ensures { next_phase_of self.new result ≡ after_miss kind.now above at common byte }
     {
         if kind.adds() {
             self.quiet(Phase::MakeTop {
@@ -581,7 +581,7 @@ impl<C: NodeName, P: Payload> Phase<C, P> {
 
     /// The node above was changed.
     pub(crate) fn after_change(&mut self, two: Two<C>, reply: Reply<P>) -> Move<P>
-        ensures { turn_of self.new result ≡ after_change two reply two.change }
+        ensures { next_phase_of self.new result ≡ after_change two reply two.change }
     {
         let above = two.parent();
         let Two { at, change, .. } = two;
@@ -601,7 +601,7 @@ impl<C: NodeName, P: Payload> Phase<C, P> {
 
     /// The node above both was changed: the node at hand and the node above go.
     fn after_top(&mut self, two: Two<C>, reply: Reply<P>) -> Move<P>
-        ensures { turn_of self.new result ≡ after_top two reply two.top }
+        ensures { next_phase_of self.new result ≡ after_top two reply two.top }
     {
         let above = two.parent();
         let Two { top, at, .. } = two;
@@ -619,7 +619,7 @@ impl<C: NodeName, P: Payload> Phase<C, P> {
 
     /// A node was handed over: the next one is marked, or the last lock is let go.
     pub(crate) fn after_retire(&mut self, next: Option<C>, above: C, reply: Reply<P>) -> Move<P>
-        ensures { turn_of self.new result ≡ after_retire next above reply }
+        ensures { next_phase_of self.new result ≡ after_retire next above reply }
     {
         match next {
             None => self.quiet(Phase::Unlock { node: above, reply }),
@@ -639,7 +639,7 @@ impl<C: NodeName, P: Payload> Phase<C, P> {
         next: Option<C>,
         refusal: Option<Refusal>,
     ) -> Move<P>
-        ensures { turn_of self.new result ≡ after_unwind root next refusal }
+        ensures { next_phase_of self.new result ≡ after_unwind root next refusal }
     {
         match next {
             None => self.unwound(root, refusal),
@@ -658,7 +658,7 @@ impl<C: NodeName, P: Payload> Phase<C, P> {
         top: Option<Parent<C>>,
         refusal: Option<Refusal>,
     ) -> Move<P>
-        ensures { turn_of self.new result ≡ given_up root top refusal }
+        ensures { next_phase_of self.new result ≡ given_up root top refusal }
     {
         match top {
             None => self.unwound(root, refusal),
@@ -672,7 +672,7 @@ impl<C: NodeName, P: Payload> Phase<C, P> {
 
     /// After an attempt was given up: the call begins anew, or is refused.
     pub(crate) fn unwound(&mut self, root: C, refusal: Option<Refusal>) -> Move<P>
-        ensures { turn_of self.new result ≡ unwound root refusal }
+        ensures { next_phase_of self.new result ≡ unwound root refusal }
     {
         match refusal {
             None => self.again(root),

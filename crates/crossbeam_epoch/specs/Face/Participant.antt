@@ -2,9 +2,9 @@
 use Rattle.std.specs.Prelude.{ℕ, ◌≡◌, nat_lt, List, None, Some}
 use Rattle.std.specs.Bool.{MatchBool}
 use Rattle.std.specs.Borrow.{Bor}
-use Rattle.crossbeam_epoch.specs.declared.bag.Entry.{Entry}
+use Rattle.crossbeam_epoch.specs.declared.bag.Deferral.{Deferral}
 use Rattle.crossbeam_epoch.specs.declared.face.collector.Collector.{Collector}
-use Rattle.crossbeam_epoch.specs.declared.face.guard.Seat.{Seat}
+use Rattle.crossbeam_epoch.specs.declared.face.guard.Row.{Row}
 use Rattle.crossbeam_epoch.specs.declared.face.handle.Seals.{Seals}
 use Rattle.crossbeam_epoch.specs.declared.face.seats.View.{View}
 
@@ -12,10 +12,10 @@ use Rattle.crossbeam_epoch.specs.declared.face.seats.View.{View}
 -- keeps, the seals that it tells, and what its seat at the words knows
 pub record Handle (T J : Type 0) : Type 0 where
   pub collector : Bor (Collector T J)
-  pub seat : Seat
+  pub seat : Row
   pub guards : ℕ
   pub epoch : ℕ
-  pub bag : List (Entry J)
+  pub bag : List (Deferral J)
   pub seals : Seals
   pub knows : View
 

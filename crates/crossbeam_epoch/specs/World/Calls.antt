@@ -8,12 +8,12 @@ use Rattle.crossbeam_epoch.specs.declared.world.report.Outcome.{Outcome}
 use Rattle.crossbeam_epoch.specs.declared.world.report.Outcome.TheVariants.{Running}
 use Rattle.crossbeam_epoch.specs.declared.world.report.Report.{Report}
 use Rattle.crossbeam_epoch.specs.declared.world.report.Step.{Step}
-use Rattle.crossbeam_epoch.specs.World.Log.{Noted, log_after, Shows}
+use Rattle.crossbeam_epoch.specs.World.Log.{LogLine, log_after, Shows}
 use Rattle.crossbeam_epoch.specs.World.Machine.{State}
 use Rattle.crossbeam_epoch.specs.declared.names.Name.{Name}
 use Rattle.crossbeam_epoch.specs.World.Fits.{Fits}
 use Rattle.crossbeam_epoch.specs.World.History.{Mark}
-use Rattle.crossbeam_epoch.specs.World.Reach.{Moment, Tells, moments_after}
+use Rattle.crossbeam_epoch.specs.World.Reach.{Moment, HasMoments, moments_after}
 use Rattle.crossbeam_epoch.specs.World.Steps.{state_after, history_after, AreReports}
 
 -- the event of a call's n-th step
@@ -52,8 +52,8 @@ pub record IsGoing {T J : Type 0} (s : State T J) (who : ℕ) (op : Op) (n : ℕ
 -- the steps of a call lead each history on, and each log
 pub record Extends {T J : Type 0} (names : T → List Name) (s : State T J) (who : ℕ) (op : Op) (reports : List Report) (s' : State T J) : Type 0 where
   pub kept : (h : List Mark) → Fits h s → Fits (history_after s (call_steps who op (length reports)) reports h) s'
-  pub told : (h : List Moment) → Tells names h s → Tells names (moments_after names s (call_steps who op (length reports)) reports h) s'
-  pub shown : (log : List Noted) (h : List Mark) → Shows log h s → Shows (log_after (call_steps who op (length reports)) reports log) (history_after s (call_steps who op (length reports)) reports h) s'
+  pub told : (h : List Moment) → HasMoments names h s → HasMoments names (moments_after names s (call_steps who op (length reports)) reports h) s'
+  pub shown : (log : List LogLine) (h : List Mark) → Shows log h s → Shows (log_after (call_steps who op (length reports)) reports log) (history_after s (call_steps who op (length reports)) reports h) s'
 
 -- a whole call, as many steps of it as the longest call takes at most; what it answers is how it stands after the last one
 abbrev pub IsWholeCall : {T J : Type 0} → (names : T → List Name) → State T J → (who : ℕ) → Op → Outcome → State T J → Type 0

@@ -1,6 +1,6 @@
 -- The end of a collector: who is still registered, and the jobs that are left.
 use Rattle.std.specs.Prelude.{◌≡◌, ℕ, zero, suc, ◌+◌, nat_lt, List, [], ◌∷◌, ◌++◌, if◌then◌else◌}
-use Rattle.crossbeam_epoch.specs.declared.bag.Entry.{Entry}
+use Rattle.crossbeam_epoch.specs.declared.bag.Deferral.{Deferral}
 use Rattle.crossbeam_epoch.specs.declared.bag.Sealed.{Sealed}
 use Rattle.crossbeam_epoch.specs.World.History.{Mark, Called, times_called, IsGraceful, AreCalledLater}
 use Rattle.crossbeam_epoch.specs.World.Machine.{State, place, destroys, after_work}
@@ -16,17 +16,17 @@ abbrev pub registered_in : {T J : Type 0} → State T J → ℕ
 registered_in s = registered_below s s.limits.participants
 
 -- the jobs of these bags, one bag after another
-abbrev pub jobs_of : {J : Type 0} → List (Sealed J) → List (Entry J)
+abbrev pub jobs_of : {J : Type 0} → List (Sealed J) → List (Deferral J)
 jobs_of [] = []
 jobs_of (b ∷ bags) = b.jobs ++ jobs_of bags
 
 -- the cells after these jobs were called one after another
-abbrev pub after_jobs : {T J : Type 0} → Store T → List (Entry J) → Store T
+abbrev pub after_jobs : {T J : Type 0} → Store T → List (Deferral J) → Store T
 after_jobs st [] = st
 after_jobs st (e ∷ jobs) = after_jobs (after_work st e.work) jobs
 
 -- the history after these jobs were called one after another
-abbrev pub history_of_calls : {T J : Type 0} → Store T → List (Entry J) → List Mark → List Mark
+abbrev pub history_of_calls : {T J : Type 0} → Store T → List (Deferral J) → List Mark → List Mark
 history_of_calls st [] h = h
 history_of_calls st (e ∷ jobs) h = history_of_calls (after_work st e.work) jobs (Called e.ticket (destroys st e.work) ∷ h)
 

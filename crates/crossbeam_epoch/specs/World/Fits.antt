@@ -1,7 +1,7 @@
 -- How a history and a state belong together.
 use Rattle.std.specs.Prelude.{◌≡◌, ℕ, ◌+◌, ◌==◌, ◌≤◌, ◌<◌, nat_lt, true, false, List, [], length, Option, Some, None, if◌then◌else◌, slice_index_or}
 use Rattle.std.specs.List.{Contains, sum_by}
-use Rattle.crossbeam_epoch.specs.declared.bag.Entry.{Entry}
+use Rattle.crossbeam_epoch.specs.declared.bag.Deferral.{Deferral}
 use Rattle.crossbeam_epoch.specs.declared.bag.Work.TheVariants.{Remove}
 use Rattle.crossbeam_epoch.specs.declared.names.Name.{Name}
 use Rattle.crossbeam_epoch.specs.declared.world.participant.Participant.{Participant}
@@ -28,14 +28,14 @@ abbrev pub Began : Option ℕ → Type 0
 Began b = (e : ℕ) × (b ≡ Some e)
 
 -- the jobs of a bag were accepted under their tickets
-pub record AreAccepted {J : Type 0} (h : List Mark) (next : ℕ) (jobs : List (Entry J)) : Type 0 where
-  pub below : (e : Entry J) → Contains jobs e → e.ticket < next
-  pub named : (e : Entry J) (n : Name) → Contains jobs e → e.work ≡ Remove n → WasDeferred h e.ticket n
+pub record AreAccepted {J : Type 0} (h : List Mark) (next : ℕ) (jobs : List (Deferral J)) : Type 0 where
+  pub below : (e : Deferral J) → Contains jobs e → e.ticket < next
+  pub named : (e : Deferral J) (n : Name) → Contains jobs e → e.work ≡ Remove n → WasDeferred h e.ticket n
 
 -- whoever blocks a job of the bag began when the epoch was at most the seal
-pub record IsSealed {J : Type 0} (h : List Mark) (next : ℕ) (jobs : List (Entry J)) (seal : ℕ) : Type 0 where
+pub record IsSealed {J : Type 0} (h : List Mark) (next : ℕ) (jobs : List (Deferral J)) (seal : ℕ) : Type 0 where
   pub accepted : AreAccepted h next jobs
-  pub late : (e : Entry J) (q b : ℕ) → Contains jobs e → blocks h q e.ticket ≡ true → began h q ≡ Some b → b ≤ seal
+  pub late : (e : Deferral J) (q b : ℕ) → Contains jobs e → blocks h q e.ticket ≡ true → began h q ≡ Some b → b ≤ seal
 
 -- a collection that read this epoch has passed the places below `passed`
 pub record IsCollecting (h : List Mark) (epoch who seen passed : ℕ) : Type 0 where
@@ -44,7 +44,7 @@ pub record IsCollecting (h : List Mark) (epoch who seen passed : ℕ) : Type 0 w
   pub others : (q e : ℕ) → q < passed → began h q ≡ Some e → seen ≤ e
 
 -- what is true of a call in flight
-abbrev pub InPhase : {J : Type 0} → List Mark → ℕ → ℕ → ℕ → ℕ → List (Entry J) → List (Entry J) → Phase → Type 0
+abbrev pub InPhase : {J : Type 0} → List Mark → ℕ → ℕ → ℕ → ℕ → List (Deferral J) → List (Deferral J) → Phase → Type 0
 InPhase h epoch next places who bag hand Idle = Unit {0}
 InPhase h epoch next places who bag hand Look = began h who ≡ None
 InPhase h epoch next places who bag hand (Publish seen) = (began h who ≡ None) × (seen ≤ epoch)
@@ -64,7 +64,7 @@ InPhase h epoch next places who bag hand (Take answered bags) = answered ≤ epo
 InPhase h epoch next places who bag hand (Call answered bags seal) = (answered ≤ epoch) × (seal + 2 ≤ answered) × IsSealed h next hand seal
 
 -- only a collection that calls has jobs in hand
-abbrev pub HandFits : {J : Type 0} → Phase → List (Entry J) → Type 0
+abbrev pub HandFits : {J : Type 0} → Phase → List (Deferral J) → Type 0
 HandFits (Call answered bags seal) hand = Unit {0}
 HandFits _ hand = hand ≡ []
 
@@ -76,23 +76,25 @@ pub record FitsAt {J : Type 0} (h : List Mark) (epoch next places who : ℕ) (p 
   pub spare : HandFits p.phase p.hand
 
 -- the sums of a weight over the jobs of a place, of a sealed bag, of the collector
-abbrev pub at_place : {J : Type 0} → (Entry J → ℕ) → Participant J → ℕ
+abbrev pub at_place : {J : Type 0} → (Deferral J → ℕ) → Participant J → ℕ
 at_place f p = sum_by f p.bag + sum_by f p.hand
 
-abbrev pub in_bag : {J : Type 0} → (Entry J → ℕ) → Sealed J → ℕ
+abbrev pub in_bag : {J : Type 0} → (Deferral J → ℕ) → Sealed J → ℕ
 in_bag f b = sum_by f b.jobs
 
-abbrev pub weight : {T J : Type 0} → (Entry J → ℕ) → State T J → ℕ
+abbrev pub weight : {T J : Type 0} → (Deferral J → ℕ) → State T J → ℕ
 weight f s = sum_by (at_place f) s.table + sum_by (in_bag f) s.queue
 
-abbrev pub has_ticket : {J : Type 0} → ℕ → Entry J → ℕ
+-- a job counts one where it has this ticket
+abbrev pub has_ticket : {J : Type 0} → ℕ → Deferral J → ℕ
 has_ticket t e = if e.ticket == t then 1 else 0
 
 -- in how many places of bags a job stands
 abbrev pub times_held : {T J : Type 0} → State T J → ℕ → ℕ
 times_held s t = weight (has_ticket t) s
 
-abbrev pub one : {J : Type 0} → Entry J → ℕ
+-- each job counts one
+abbrev pub one : {J : Type 0} → Deferral J → ℕ
 one e = 1
 
 -- how many jobs stand in bags

@@ -18,12 +18,12 @@ use Rattle.crossbeam_epoch.specs.World.Machine.{State, place}
 use Rattle.crossbeam_epoch.specs.World.Steps.{unless_refused}
 
 -- a step and its report, or the ticket of a deferral and the name of the cell that it is to destroy
-pub data Noted : Type 0 where
-  Stepped : (step : Step) → (report : Report) → Noted
-  Accepted : (ticket : ℕ) → (name : Option Name) → Noted
+pub data LogLine : Type 0 where
+  Stepped : (step : Step) → (report : Report) → LogLine
+  Accepted : (ticket : ℕ) → (name : Option Name) → LogLine
 
 -- the log, the newest first, after steps that were reported so
-abbrev pub log_after : List Step → List Report → List Noted → List Noted
+abbrev pub log_after : List Step → List Report → List LogLine → List LogLine
 log_after [] reports log = log
 log_after (step ∷ steps) [] log = log
 log_after (step ∷ steps) (r ∷ reports) log = log_after steps reports (Stepped step r ∷ log)
@@ -33,6 +33,7 @@ pub record Flight : Type 0 where
   pub op : Op
   pub taken : ℕ
 
+-- it took one step more
 abbrev pub one_more : Option Flight → Option Flight
 one_more None = None
 one_more (Some f) = Some (record f { taken = f.taken + 1 })
@@ -48,15 +49,17 @@ flight_after Go (Refused Memory) f = None
 flight_after Go (Refused _) f = f
 
 -- the call of q that is in flight
-abbrev pub flight : List Noted → ℕ → Option Flight
+abbrev pub flight : List LogLine → ℕ → Option Flight
 flight [] q = None
 flight (Stepped step r ∷ log) q = if step.who == q then flight_after step.event r.outcome (flight log q) else flight log q
 flight (Accepted ticket name ∷ log) q = flight log q
 
+-- whether the call is a pin
 abbrev pub is_pin : Op → Bool
 is_pin Pin = true
 is_pin _ = false
 
+-- whether it is a repin
 abbrev pub is_repin : Op → Bool
 is_repin Repin = true
 is_repin _ = false
@@ -80,7 +83,7 @@ guards_after Go (Refused fault) f n = n
 guards_after Go _ f n = if pins_next f then n + 1 else n
 
 -- how many guards of q are out
-abbrev pub guards : List Noted → ℕ → ℕ
+abbrev pub guards : List LogLine → ℕ → ℕ
 guards [] q = 0
 guards (Stepped step r ∷ log) q = if step.who == q then guards_after step.event r.outcome (flight log q) (guards log q) else guards log q
 guards (Accepted ticket name ∷ log) q = guards log q
@@ -89,6 +92,7 @@ guards (Accepted ticket name ∷ log) q = guards log q
 abbrev pub untold : ℕ
 untold = 0
 
+-- what happened, with the stretch that a step begins where its call publishes
 abbrev pub publication : ℕ → Option Flight → List Mark → List Mark
 publication who f h = if pins_next f then Pinned who untold ∷ h else if repins_next f then Repinned who untold ∷ h else h
 
@@ -100,7 +104,7 @@ event_marks who Go (Some c) f n h = Called c.0 c.1 ∷ h
 event_marks who Go None f n h = publication who f h
 
 -- the history that the log tells
-abbrev pub history_of : List Noted → List Mark
+abbrev pub history_of : List LogLine → List Mark
 history_of [] = []
 history_of (Stepped step r ∷ log) = unless_refused r.outcome (event_marks step.who step.event r.called (flight log step.who) (guards log step.who) (history_of log)) (history_of log)
 history_of (Accepted ticket name ∷ log) = Deferred ticket name ∷ history_of log
@@ -120,6 +124,7 @@ IsPastBy Pin taken = 2 ≤ taken
 IsPastBy Repin taken = ⊥
 IsPastBy _ taken = Unit {0}
 
+-- the same of a call in flight
 abbrev pub IsPast : Option Flight → Type 0
 IsPast None = ⊥
 IsPast (Some f) = IsPastBy f.op f.taken
@@ -142,6 +147,6 @@ pub record AgreesAt {J : Type 0} (f : Option Flight) (n : ℕ) (p : Participant 
   pub phase : IsFlight p.phase p.word f
 
 -- the log shows this history, its epochs aside, and this state
-pub record Shows {T J : Type 0} (log : List Noted) (h : List Mark) (s : State T J) : Type 0 where
+pub record Shows {T J : Type 0} (log : List LogLine) (h : List Mark) (s : State T J) : Type 0 where
   pub history : undated h ≡ history_of log
   pub places : (q : ℕ) → AgreesAt (flight log q) (guards log q) (place s q)

@@ -1,7 +1,7 @@
 -- What a step makes of the jobs and the cells, and how a call goes on to its end.
 use Rattle.std.specs.Prelude.{◌≡◌, ◌≢◌, ℕ, ◌+◌, ◌-◌, ◌*◌, ◌==◌, ◌≤◌, ◌<◌, Bool, true, false, length, Option, Some, None, is_some, if◌then◌else◌}
 use Rattle.std.specs.List.{Contains}
-use Rattle.crossbeam_epoch.specs.declared.bag.Entry.{Entry}
+use Rattle.crossbeam_epoch.specs.declared.bag.Deferral.{Deferral}
 use Rattle.crossbeam_epoch.specs.declared.fault.Fault.{Fault}
 use Rattle.crossbeam_epoch.specs.declared.fault.Fault.TheVariants.{Memory, Unknown}
 use Rattle.crossbeam_epoch.specs.declared.names.Name.{Name}
@@ -28,14 +28,15 @@ pub record Orderly {T J : Type 0} (s : State T J) : Type 0 where
 
 -- no job was called and every job stands as before, or this one was called, and stands no longer
 abbrev pub JobsAfter : {T J : Type 0} → State T J → Option (ℕ × Option Name) → State T J → Type 0
-JobsAfter s None s' = (s'.store ≡ s.store) × (s'.waiting ≡ s.waiting) × ((f : Entry _ → ℕ) → weight f s' ≡ weight f s)
-JobsAfter s (Some c) s' = (e : Entry _) × (c ≡ called_entry s.store e) × (s'.store ≡ after_work s.store e.work) × (s'.waiting ≡ s.waiting - 1) × ((f : Entry _ → ℕ) → weight f s' + f e ≡ weight f s)
+JobsAfter s None s' = (s'.store ≡ s.store) × (s'.waiting ≡ s.waiting) × ((f : Deferral _ → ℕ) → weight f s' ≡ weight f s)
+JobsAfter s (Some c) s' = (e : Deferral _) × (c ≡ called_entry s.store e) × (s'.store ≡ after_work s.store e.work) × (s'.waiting ≡ s.waiting - 1) × ((f : Deferral _ → ℕ) → weight f s' + f e ≡ weight f s)
 
 -- the cell that a called job told was emptied, and no other
 abbrev pub EmptiesAt : {T : Type 0} → Store T → Option Name → Store T → Type 0
 EmptiesAt st None st' = st' ≡ st
 EmptiesAt st (Some n) st' = (is_some (value_at st n) ≡ true) × (st' ≡ emptied st n.cell)
 
+-- the same of a step that called this job, or none
 abbrev pub Empties : {T : Type 0} → Store T → Option (ℕ × Option Name) → Store T → Type 0
 Empties st None st' = st' ≡ st
 Empties st (Some c) st' = EmptiesAt st c.1 st'
@@ -61,6 +62,7 @@ pub data Stage : Type 0 where
   Securing : (n : Option ℕ) → Stage
   Collecting : Stage
 
+-- what a call in this phase is about
 abbrev pub stage : Phase → Stage
 stage P.Idle = Resting
 stage P.Look = Pinning
@@ -80,6 +82,7 @@ stage (P.Advance seen) = Collecting
 stage (P.Take answered bags) = Collecting
 stage (P.Call answered bags seal) = Collecting
 
+-- whether a number of places is the one that is known, if one is
 abbrev pub is_places : ℕ → Option ℕ → Bool
 is_places n None = true
 is_places n (Some m) = m == n
@@ -143,6 +146,7 @@ left_in places (P.Advance seen) hand = 522
 left_in places (P.Take answered bags) hand = left_after bags
 left_in places (P.Call answered bags seal) hand = hand + left_after bags
 
+-- the same of a participant's call
 abbrev pub steps_left : {T J : Type 0} → State T J → ℕ → ℕ
 steps_left s who = left_in (length s.table) (place s who).phase (length (place s who).hand)
 
@@ -178,10 +182,10 @@ pub record IsResting {T J : Type 0} (s : State T J) : Type 0 where
   pub idle : (q : ℕ) → (place s q).phase ≡ P.Idle
 
 -- a collector whose calls and cells stand as in another, and whose jobs stand as there but for these
-pub record KeepsCalls {T J : Type 0} (s s' : State T J) (more : (Entry J → ℕ) → ℕ) : Type 0 where
+pub record KeepsCalls {T J : Type 0} (s s' : State T J) (more : (Deferral J → ℕ) → ℕ) : Type 0 where
   pub orderly : Orderly s'
   pub phases : (q : ℕ) → (place s' q).phase ≡ (place s q).phase
   -- a call in flight stays so
   pub on : (q : ℕ) (op : Op) → IsOn op (place s q) → IsOn op (place s' q)
-  pub jobs : (f : Entry J → ℕ) → weight f s' ≡ weight f s + more f
+  pub jobs : (f : Deferral J → ℕ) → weight f s' ≡ weight f s + more f
   pub store : s'.store ≡ s.store

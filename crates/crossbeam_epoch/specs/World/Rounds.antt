@@ -1,7 +1,7 @@
 -- Rounds of one participant while nobody else steps, and what they make of the queue.
 use Rattle.std.specs.Prelude.{◌≡◌, ◌≢◌, ℕ, zero, suc, ◌+◌, ◌<◌, ◌≤◌, ◌⊎◌, true, List, [], ◌∷◌, ◌++◌, length, Some, None}
 use Rattle.std.specs.List.{Contains}
-use Rattle.crossbeam_epoch.specs.declared.bag.Entry.{Entry}
+use Rattle.crossbeam_epoch.specs.declared.bag.Deferral.{Deferral}
 use Rattle.crossbeam_epoch.specs.declared.bag.Sealed.{Sealed}
 use Rattle.crossbeam_epoch.specs.declared.world.participant.Phase.TheVariants.{Idle}
 use Rattle.crossbeam_epoch.specs.declared.world.report.Op.{Op}
@@ -53,7 +53,7 @@ pub record TakesOff {J : Type 0} (expiry answered : ℕ) (queue queue' : List (S
   pub stops : (length taken ≡ most_bags) ⊎ IsNotDue expiry answered queue'
 
 -- a bag that a flush seals: none if it is empty
-abbrev pub IsSealedBag : {J : Type 0} → List (Entry J) → List (Sealed J) → Type 0
+abbrev pub IsSealedBag : {J : Type 0} → List (Deferral J) → List (Sealed J) → Type 0
 IsSealedBag [] sealed = sealed ≡ []
 IsSealedBag (e ∷ bag) sealed = (seal : ℕ) × (sealed ≡ record { seal = seal; jobs = e ∷ bag } ∷ [])
 

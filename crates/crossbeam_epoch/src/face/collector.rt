@@ -15,7 +15,7 @@ use crate::face::lent::{Lent, LentMut};
 use crate::face::pins::{Ended, Pins};
 use crate::face::queue::{EXPIRY, Queue, Queued, Seal};
 use crate::face::seats::Token;
-use crate::face::slots::{Kept, Slots};
+use crate::face::slots::{Claimed, Slots};
 use crate::fault::Fault;
 use crate::limits::Limits;
 use crate::names::Name;
@@ -165,7 +165,7 @@ impl<T: Drop, J: Task> Collector<T, J> {
 
     /// Takes a value out of its cell for good, and offers the cell under the lock.
     pub(crate) fn remove<R: Wait>(&self, rt: &R, name: Name) -> Option<Box<T>> {
-        let Kept { name, value } = self.slots.remove(name)?;
+        let Claimed { name, value } = self.slots.remove(name)?;
         self.lock().lock(rt).free.take(name);
         Some(value)
     }

@@ -10,7 +10,7 @@ use std::fmt::{Debug, Formatter};
 
 /// A place of a collector's table.
 #[derive(Clone, Copy, PartialEq, Eq, Drop)]
-pub struct Seat {
+pub struct Row {
     /// The collector's identity number.
     pub collector: u64,
     pub place: u32,
@@ -19,13 +19,13 @@ pub struct Seat {
 /// Keeps a participant pinned (the source's `Guard`). It is spent by `LocalHandle::unpin`, and can't be dropped.
 pub struct Guard<'c, T, J: Task = Job> {
     pub(crate) collector: &'c Collector<T, J>,
-    pub(crate) seat: Seat,
+    pub(crate) seat: Row,
     pub(crate) epoch: u64,
 }
 
 impl<'c, T: Drop, J: Task> Guard<'c, T, J> {
     /// A guard of this place, whose pin was confirmed by this epoch.
-    pub(crate) fn new(collector: &'c Collector<T, J>, seat: Seat, epoch: u64) -> Self
+    pub(crate) fn new(collector: &'c Collector<T, J>, seat: Row, epoch: u64) -> Self
         ensures { (result.collector ≡ collector.entry) × (result.seat ≡ seat) × (result.epoch ≡ epoch) }
     {
         Guard {

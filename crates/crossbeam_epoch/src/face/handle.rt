@@ -12,10 +12,10 @@ ghost use Rattle.crossbeam_epoch.specs.Face.Pointer.{name_in};
 ghost use Rattle.crossbeam_epoch.specs.Face.Queue.{TakesAll};
 ghost use Rattle.crossbeam_epoch.specs.Limits.{bag_places};
 
-use crate::bag::{Bag, Entry, Work};
+use crate::bag::{Bag, Deferral, Work};
 use crate::face::collected::Collected;
 use crate::face::collector::Collector;
-use crate::face::guard::{Guard, Seat};
+use crate::face::guard::{Guard, Row};
 use crate::face::note::Note;
 use crate::face::pins::Pin;
 use crate::face::queue::{Queued, Seal};
@@ -34,7 +34,7 @@ use std::sync::Wait;
 #[derive(Drop)]
 pub struct LocalHandle<'c, T, J: Task = Job> {
     collector: &'c Collector<T, J>,
-    seat: Seat,
+    seat: Row,
     /// Its seat at the words.
     token: Token,
     /// Guards that are out.
@@ -78,7 +78,7 @@ impl<'c, T: Drop, J: Task> LocalHandle<'c, T, J> {
     {
         LocalHandle {
             collector,
-            seat: Seat {
+            seat: Row {
                 collector: collector.id(),
                 place,
             },
@@ -494,10 +494,10 @@ impl<T: Pointable + Drop, J: Task> LocalHandle<'_, T, J> {
 }
 
 /// A deferral, which has no ticket of its own.
-fn deferral<J>(work: Work<J>) -> Entry<J>
+fn deferral<J>(work: Work<J>) -> Deferral<J>
     ensures { result ≡ record { ticket = 0; work = work } }
 {
-    Entry { ticket: 0, work }
+    Deferral { ticket: 0, work }
 }
 
 impl<T, J: Task> Debug for LocalHandle<'_, T, J> {

@@ -2,14 +2,14 @@
 
 ghost use Rattle.std.specs.Prelude.{◌≡◌, IfSome, IsSomeAnd};
 
-use crate::face::slots::{Kept, Slots};
+use crate::face::slots::{Claimed, Slots};
 use crate::names::Name;
 use counted_slot::Claim;
 use std::sync::Wait;
 
 /// A value that is lent to be read. It is spent by `back`, and can't be dropped.
 pub struct Lent<'g, T> {
-    claim: Claim<'g, Option<Kept<T>>>,
+    claim: Claim<'g, Option<Claimed<T>>>,
     pub(crate) name: Name,
     ghost reads: { claim.right ≡ 1 },
     ghost filled: { ∥ IsSomeAnd claim.value (λ slot. IsSomeAnd slot (λ kept. kept.name ≡ name)) ∥₁ },
@@ -17,7 +17,7 @@ pub struct Lent<'g, T> {
 
 impl<'g, T> Lent<'g, T> {
     /// The value that this claim reads, where it was placed under this name.
-    pub(crate) fn new(name: Name, claim: Claim<'g, Option<Kept<T>>>) -> Option<Self>
+    pub(crate) fn new(name: Name, claim: Claim<'g, Option<Claimed<T>>>) -> Option<Self>
         requires { claim.right ≡ 1 }
         ensures { IfSome result (λ l. l.name ≡ name) }
     {
@@ -53,12 +53,12 @@ impl<'g, T> Lent<'g, T> {
 /// A value that is lent to be changed. It is spent by `back`, and can't be dropped.
 pub struct LentMut<'g, T> {
     slots: &'g Slots<T>,
-    pub(crate) kept: Kept<T>,
+    pub(crate) kept: Claimed<T>,
 }
 
 impl<'g, T: Drop> LentMut<'g, T> {
     /// The value that was taken out of one of these cells, which keeps its place.
-    pub(crate) fn new(slots: &'g Slots<T>, kept: Kept<T>) -> Self
+    pub(crate) fn new(slots: &'g Slots<T>, kept: Claimed<T>) -> Self
         ensures { result.kept ≡ kept }
     {
         LentMut { slots, kept }

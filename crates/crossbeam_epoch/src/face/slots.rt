@@ -16,19 +16,19 @@ use std::sync::Wait;
 
 /// A value, and the name that it was placed under.
 #[derive(Drop)]
-pub struct Kept<T> {
+pub struct Claimed<T> {
     pub name: Name,
     pub value: Box<T>,
 }
 
-impl<T> Fits for Kept<T> {
+impl<T> Fits for Claimed<T> {
     type Tag = ();
 
     ghost fits = { λ _ _. Unit {0} };
 }
 
 /// A place for a value.
-type Cell<T> = Counted<Option<Kept<T>>>;
+type Cell<T> = Counted<Option<Claimed<T>>>;
 
 /// The cells of a collector. Contracts see nothing of them, since other threads step on them.
 #[derive(Drop)]
@@ -87,7 +87,7 @@ impl<T: Drop> Slots<T> {
             claim.done();
             return Err(value);
         }
-        claim.put(Some(Kept { name, value }), word_of(name.turn, PRESENT));
+        claim.put(Some(Claimed { name, value }), word_of(name.turn, PRESENT));
         Ok(())
     }
 
@@ -119,14 +119,14 @@ impl<T: Drop> Slots<T> {
     }
 
     /// Takes the value out for good, where it stands under this name and isn't lent.
-    pub fn remove(&self, name: Name) -> Option<Kept<T>>
+    pub fn remove(&self, name: Name) -> Option<Claimed<T>>
         ensures { IfSome result (λ k. k.name ≡ name) }
     {
         self.take(name, FREE)
     }
 
     /// Puts a value that was lent to be changed back, or hands it back where its place isn't kept.
-    pub fn put_back(&self, kept: Kept<T>) -> Result<(), Kept<T>>
+    pub fn put_back(&self, kept: Claimed<T>) -> Result<(), Claimed<T>>
         ensures { IfErr result (λ k. k ≡ kept) }
     {
         let Some(cell) = self.cell(kept.name) else {
@@ -144,7 +144,7 @@ impl<T: Drop> Slots<T> {
     }
 
     /// Takes the value out and leaves this word, where it stands under this name and isn't lent.
-    fn take(&self, name: Name, left: u64) -> Option<Kept<T>>
+    fn take(&self, name: Name, left: u64) -> Option<Claimed<T>>
         requires { (left % 4 < 3) × (readers left ≡ 0) }
         ensures { IfSome result (λ k. k.name ≡ name) }
     {

@@ -9,8 +9,8 @@ ghost use Rattle.crossbeam_epoch.specs.World.Fits.{Fits};
 ghost use Rattle.crossbeam_epoch.specs.World.History.{Mark};
 ghost use Rattle.crossbeam_epoch.specs.World.Progress.{Orderly, IsOn, steps_left};
 ghost use Rattle.crossbeam_epoch.specs.World.WaitFree.{most_steps, steps_in_flight, AllEndInTime, IsOver};
-ghost use Rattle.crossbeam_epoch.specs.World.Log.{Noted, Stepped, log_after, Shows};
-ghost use Rattle.crossbeam_epoch.specs.World.Reach.{Moment, step_act, moments_after, Tells, NextMoment};
+ghost use Rattle.crossbeam_epoch.specs.World.Log.{LogLine, Stepped, log_after, Shows};
+ghost use Rattle.crossbeam_epoch.specs.World.Reach.{Moment, step_act, moments_after, HasMoments, NextMoment};
 
 use crate::fault::Fault;
 use crate::names::{Links, Pointable};
@@ -29,7 +29,7 @@ impl<T: Links + Pointable + Drop, J: Task> World<T, J> {
         ensures report { IsReport self.old who event result }
         ensures state { self.new ≡ after self.old who event result.outcome }
         ensures told { NextMoment T.names (step_act self.old who event result) self.old self.new }
-        ensures shown { (log : List Noted) (h : List Mark) → Shows log h self.old → Shows (Stepped (record { who = who; event = event }) result ∷ log) (marks self.old who event result h) self.new }
+        ensures shown { (log : List LogLine) (h : List Mark) → Shows log h self.old → Shows (Stepped (record { who = who; event = event }) result ∷ log) (marks self.old who event result h) self.new }
     {
         if !self.is_registered(who) {
             return refused(Fault::Unknown);
@@ -51,8 +51,8 @@ impl<T: Links + Pointable + Drop, J: Task> World<T, J> {
         ensures legal { AreReports self.old (first_of result.done steps.now) result.reports.items }
         ensures state { self.new ≡ state_after self.old (first_of result.done steps.now) result.reports.items }
         ensures kept { (h : List Mark) → Fits h self.old → Fits (history_after self.old (first_of result.done steps.now) result.reports.items h) self.new }
-        ensures told { (h : List Moment) → Tells T.names h self.old → Tells T.names (moments_after T.names self.old (first_of result.done steps.now) result.reports.items h) self.new }
-        ensures shown { (log : List Noted) (h : List Mark) → Shows log h self.old → Shows (log_after (first_of result.done steps.now) result.reports.items log) (history_after self.old (first_of result.done steps.now) result.reports.items h) self.new }
+        ensures told { (h : List Moment) → HasMoments T.names h self.old → HasMoments T.names (moments_after T.names self.old (first_of result.done steps.now) result.reports.items h) self.new }
+        ensures shown { (log : List LogLine) (h : List Mark) → Shows log h self.old → Shows (log_after (first_of result.done steps.now) result.reports.items log) (history_after self.old (first_of result.done steps.now) result.reports.items h) self.new }
         ensures ends { Orderly self.old → AllEndInTime (length self.old.table) (first_of result.done steps.now) result.reports.items }
         ensures ends_on { (who : ℕ) (op : Op) → Orderly self.old → IsOn op (place self.old who) → steps_in_flight who (first_of result.done steps.now) result.reports.items < steps_left self.old who }
     {

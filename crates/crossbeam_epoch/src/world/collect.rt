@@ -4,7 +4,7 @@ ghost use Rattle.std.specs.Prelude.{◌≡◌, ◌<◌, length};
 ghost use Rattle.crossbeam_epoch.specs.World.Machine.{place, inspected, inspection, ends_advance, advanced, is_due, took, called, after_call, destroys, after_work};
 ghost use Rattle.crossbeam_epoch.specs.World.Steps.{outcome_at, called_by};
 
-use crate::bag::{BAGS, Entry, Sealed, Work};
+use crate::bag::{BAGS, Deferral, Sealed, Work};
 use crate::names::{Links, Name, Pointable};
 use crate::task::Task;
 use crate::world::World;
@@ -103,7 +103,7 @@ impl<T: Links + Pointable + Drop, J: Task> World<T, J> {
                 outcome: Outcome::Done,
             };
         }
-        let Entry { ticket, work } = place.hand.take_first();
+        let Deferral { ticket, work } = place.hand.take_first();
         let phase = after_call(place.hand.len(), answered, bags, seal);
         place.phase = phase;
         self.tickets.settle();

@@ -7,7 +7,7 @@ ghost use Rattle.crossbeam_epoch.specs.World.History.{Deferred};
 ghost use Rattle.crossbeam_epoch.specs.World.Reach.{Quiet, Marked, NextMoment};
 ghost use Rattle.crossbeam_epoch.specs.Limits.{bag_places};
 
-use crate::bag::{BAG, Entry, Sealed, Work};
+use crate::bag::{BAG, Deferral, Sealed, Work};
 use crate::fault::Fault;
 use crate::names::{Links, Name, Pointable};
 use crate::task::Task;
@@ -108,7 +108,7 @@ impl<T: Links + Pointable + Drop, J: Task> World<T, J> {
             return Err(work);
         }
         let ticket = self.tickets.give();
-        let jobs = self.participants[who].start_bag(Entry { ticket, work });
+        let jobs = self.participants[who].start_bag(Deferral { ticket, work });
         self.queue.push_back_reserved(Sealed {
             seal: self.epoch,
             jobs,
@@ -125,7 +125,7 @@ impl<T: Links + Pointable + Drop, J: Task> World<T, J> {
         ensures state { self.new ≡ deferred self.old who work }
     {
         let ticket = self.tickets.give();
-        self.participants[who].bag.push(Entry { ticket, work });
+        self.participants[who].bag.push(Deferral { ticket, work });
         ticket
     }
 

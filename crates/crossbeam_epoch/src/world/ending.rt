@@ -2,9 +2,9 @@
 
 ghost use Rattle.std.specs.Prelude.{◌≡◌, ◌<◌, ◌-◌, ℕ, List, length, min, IfOk, OnOk, MatchResult};
 ghost use Rattle.crossbeam_epoch.specs.World.Ending.{registered_in, jobs_of, after_jobs, history_of_calls, IsEnded};
-ghost use Rattle.crossbeam_epoch.specs.World.Reach.{Moment, marks_of, Tells};
+ghost use Rattle.crossbeam_epoch.specs.World.Reach.{Moment, marks_of, HasMoments};
 
-use crate::bag::{Bag, Entry, Sealed};
+use crate::bag::{Bag, Deferral, Sealed};
 use crate::chain::Chain;
 use crate::fault::Fault;
 use crate::names::{Links, Pointable};
@@ -20,7 +20,7 @@ impl<T: Links + Pointable + Drop, J: Task> World<T, J> {
     pub fn end(self) -> Result<u64, (Fault, World<T, J>)>
         ensures fault { MatchResult result (λ n. registered_in self ≡ 0) (λ e. (0 < registered_in self) × (e.0 ≡ Fault.Registered (registered_in self)) × (e.1 ≡ self)) }
         ensures count { IfOk result (λ n. n ≡ min self.waiting (length (jobs_of self.queue))) }
-        ensures called { OnOk result ((h : List Moment) → Tells T.names h self → (length (jobs_of self.queue) ≡ self.waiting) × IsEnded (history_of_calls self.store (jobs_of self.queue) (marks_of h)) self.next) }
+        ensures called { OnOk result ((h : List Moment) → HasMoments T.names h self → (length (jobs_of self.queue) ≡ self.waiting) × IsEnded (history_of_calls self.store (jobs_of self.queue) (marks_of h)) self.next) }
     {
         let registered = self.registered();
         if registered > 0 {
@@ -67,7 +67,7 @@ fn call_bag<T: Drop, J: Task>(mut jobs: Bag<J>, tickets: &mut Tickets, cells: &m
     ensures cells { cells.new ≡ after_jobs cells.old jobs }
 {
     while !jobs.is_empty() {
-        let Entry { work, .. } = jobs.take_first();
+        let Deferral { work, .. } = jobs.take_first();
         tickets.settle();
         perform(cells, work);
     }

@@ -13,14 +13,14 @@ ghost use Rattle.crossbeam_epoch.specs.declared.world.report.Op.{Op};
 ghost use Rattle.crossbeam_epoch.specs.declared.world.report.Report.{Report};
 ghost use Rattle.crossbeam_epoch.specs.declared.world.report.Step.{Step};
 ghost use Rattle.crossbeam_epoch.specs.World.Steps.{after, marks, state_after, history_after, AreReports, IsReport, defer_fault};
-ghost use Rattle.crossbeam_epoch.specs.World.Log.{Noted, Stepped, Accepted, log_after, history_of, guards, Shows};
+ghost use Rattle.crossbeam_epoch.specs.World.Log.{LogLine, Stepped, Accepted, log_after, history_of, guards, Shows};
 ghost use Rattle.crossbeam_epoch.specs.World.Calls.{IsGoing, IsCall};
 ghost use Rattle.crossbeam_epoch.specs.World.Progress.{Orderly, Moves, Begins, IsOn, GoesOn, IsResting, KeepsCalls, collects};
-ghost use Rattle.crossbeam_epoch.specs.World.Reach.{Act, Moment, with_act, marks_of, moment, moments_after, step_act, InReach, IsIn, WasIn, WasLive, changes_pin, IsBy, IsDestruction, IsNow, EntersLive, DestructionsTold, Tells, IsCareful, KeepsLinks, Visible, links_of};
+ghost use Rattle.crossbeam_epoch.specs.World.Reach.{Act, Moment, with_act, marks_of, moment, moments_after, step_act, InReach, IsIn, WasIn, WasLive, changes_pin, IsBy, IsDestruction, IsNow, EntersLive, DestructionsTold, HasMoments, IsCareful, KeepsLinks, Visible, links_of};
 ghost use Rattle.crossbeam_epoch.specs.World.Rounds.{IsQuiet, Finishes, IsRound, AreRounds, TakesOff, IsSealedBag, IsEmptied};
 ghost use Rattle.crossbeam_epoch.specs.Limits.{bag_places};
 
-use crate::bag::{Entry, Sealed, Work};
+use crate::bag::{Deferral, Sealed, Work};
 use crate::limits::Limits;
 use crate::names::{Links, Pointable};
 use crate::task::Task;
@@ -43,31 +43,31 @@ impl<T: Links + Pointable + Drop, J: Task> World<T, J> {
 
     /// Where the user is careful, what a stretch saw in reach isn't destroyed while it lasts, and what such a cell holds was seen too.
     pub fn reach()
-        ensures stands { (h : List Moment) (s : State T J) (p : ℕ) (n : Name) → Tells T.names h s → IsCareful h → is_some (began (marks_of h) p) ≡ true → Visible h p n → is_some (value_at s.store n) ≡ true }
+        ensures stands { (h : List Moment) (s : State T J) (p : ℕ) (n : Name) → HasMoments T.names h s → IsCareful h → is_some (began (marks_of h) p) ≡ true → Visible h p n → is_some (value_at s.store n) ≡ true }
         ensures closed { (m : Moment) (h : List Moment) (p : ℕ) (c n : Name) → KeepsLinks (m ∷ h) → Visible (m ∷ h) p c → Contains (m.links c) n → Visible (m ∷ h) p n }
     {}
 
     /// The history is read off the steps, their reports and the tickets alone, its epochs aside, and so are the guards that are out.
     pub fn watched()
         ensures opened { (limits : Limits) (roots : ℕ) → Shows {T = T} {J = J} [] [] (opened limits roots) }
-        ensures step { (log : List Noted) (h : List Mark) (s : State T J) (step : Step) (r : Report) → IsReport s step.who step.event r → Shows log h s → Shows (Stepped step r ∷ log) (marks s step.who step.event r h) (after s step.who step.event r.outcome) }
-        ensures run { (log : List Noted) (h : List Mark) (s : State T J) (steps : List Step) (reports : List Report) → AreReports s steps reports → Shows log h s → Shows (log_after steps reports log) (history_after s steps reports h) (state_after s steps reports) }
-        ensures moments { (log : List Noted) (h : List Moment) (s : State T J) (steps : List Step) (reports : List Report) → AreReports s steps reports → Shows log (marks_of h) s → Shows (log_after steps reports log) (marks_of (moments_after T.names s steps reports h)) (state_after s steps reports) }
-        ensures registered { (log : List Noted) (h : List Mark) (s : State T J) (n : ℕ) → Shows log h s → Shows log h (registered s n) }
-        ensures deferred { (log : List Noted) (h : List Mark) (s : State T J) (who : ℕ) (work : Work J) → Shows log h s → Shows (Accepted s.next (name_of work) ∷ log) (Deferred s.next (name_of work) ∷ h) (after_deferral s who work) }
-        ensures stored { (log : List Noted) (h : List Mark) (s : State T J) (st : Store T) → Shows log h s → Shows log h (with_store s st) }
-        ensures rooted { (log : List Noted) (h : List Mark) (s : State T J) (roots : List Ptr) → Shows log h s → Shows log h (with_roots s roots) }
+        ensures step { (log : List LogLine) (h : List Mark) (s : State T J) (step : Step) (r : Report) → IsReport s step.who step.event r → Shows log h s → Shows (Stepped step r ∷ log) (marks s step.who step.event r h) (after s step.who step.event r.outcome) }
+        ensures run { (log : List LogLine) (h : List Mark) (s : State T J) (steps : List Step) (reports : List Report) → AreReports s steps reports → Shows log h s → Shows (log_after steps reports log) (history_after s steps reports h) (state_after s steps reports) }
+        ensures moments { (log : List LogLine) (h : List Moment) (s : State T J) (steps : List Step) (reports : List Report) → AreReports s steps reports → Shows log (marks_of h) s → Shows (log_after steps reports log) (marks_of (moments_after T.names s steps reports h)) (state_after s steps reports) }
+        ensures registered { (log : List LogLine) (h : List Mark) (s : State T J) (n : ℕ) → Shows log h s → Shows log h (registered s n) }
+        ensures deferred { (log : List LogLine) (h : List Mark) (s : State T J) (who : ℕ) (work : Work J) → Shows log h s → Shows (Accepted s.next (name_of work) ∷ log) (Deferred s.next (name_of work) ∷ h) (after_deferral s who work) }
+        ensures stored { (log : List LogLine) (h : List Mark) (s : State T J) (st : Store T) → Shows log h s → Shows log h (with_store s st) }
+        ensures rooted { (log : List LogLine) (h : List Mark) (s : State T J) (roots : List Ptr) → Shows log h s → Shows log h (with_roots s roots) }
     {}
 
     /// What the log alone tells: no job was called while a participant blocked it; each accepted job stands in one bag or was
     /// called once, a cell's removal only after it was accepted; a stretch lasts exactly while guards are out, and what it saw in
     /// reach isn't destroyed then.
     pub fn log()
-        ensures called { (log : List Noted) (h : List Mark) (s : State T J) → Shows log h s → Fits h s → IsGraceful (history_of log) }
-        ensures later { (log : List Noted) (h : List Mark) (s : State T J) → Shows log h s → Fits h s → AreCalledLater (history_of log) }
-        ensures once { (log : List Noted) (h : List Mark) (s : State T J) (t : ℕ) → Shows log h s → Fits h s → (times_held s t + times_called (history_of log) t ≡ deferrals (history_of log) t) × (deferrals (history_of log) t ≡ (if nat_lt t s.next then 1 else 0)) }
-        ensures pinned { (log : List Noted) (h : List Mark) (s : State T J) (q : ℕ) → Shows log h s → Fits h s → (is_some (place s q).word ≡ nat_lt 0 (guards log q)) × (is_some (began (history_of log) q) ≡ nat_lt 0 (guards log q)) }
-        ensures stands { (log : List Noted) (h : List Moment) (s : State T J) (p : ℕ) (n : Name) → Shows log (marks_of h) s → Tells T.names h s → IsCareful h → 0 < guards log p → Visible h p n → is_some (value_at s.store n) ≡ true }
+        ensures called { (log : List LogLine) (h : List Mark) (s : State T J) → Shows log h s → Fits h s → IsGraceful (history_of log) }
+        ensures later { (log : List LogLine) (h : List Mark) (s : State T J) → Shows log h s → Fits h s → AreCalledLater (history_of log) }
+        ensures once { (log : List LogLine) (h : List Mark) (s : State T J) (t : ℕ) → Shows log h s → Fits h s → (times_held s t + times_called (history_of log) t ≡ deferrals (history_of log) t) × (deferrals (history_of log) t ≡ (if nat_lt t s.next then 1 else 0)) }
+        ensures pinned { (log : List LogLine) (h : List Mark) (s : State T J) (q : ℕ) → Shows log h s → Fits h s → (is_some (place s q).word ≡ nat_lt 0 (guards log q)) × (is_some (began (history_of log) q) ≡ nat_lt 0 (guards log q)) }
+        ensures stands { (log : List LogLine) (h : List Moment) (s : State T J) (p : ℕ) (n : Name) → Shows log (marks_of h) s → HasMoments T.names h s → IsCareful h → 0 < guards log p → Visible h p n → is_some (value_at s.store n) ≡ true }
     {}
 
     /// What a step marks: that a guard of the participant's own comes or goes, that one job is called, or nothing. So the
@@ -87,10 +87,10 @@ impl<T: Links + Pointable + Drop, J: Task> World<T, J> {
         ensures fits { (h : List Mark) (s : State T J) (st : Store T) → Fits h s → Fits h (with_store s st) }
         ensures rooted { (h : List Mark) (s : State T J) (roots : List Ptr) → Fits h s → Fits h (with_roots s roots) }
         ensures orderly { (s : State T J) (st : Store T) (roots : List Ptr) → Orderly s → Orderly (with_roots (with_store s st) roots) }
-        ensures told { (h : List Moment) (s : State T J) (st : Store T) (act : Act) → Tells T.names h s → with_act act (marks_of h) ≡ marks_of h
+        ensures told { (h : List Moment) (s : State T J) (st : Store T) (act : Act) → HasMoments T.names h s → with_act act (marks_of h) ≡ marks_of h
             → ((n : Name) → is_some (value_at s.store n) ≡ true → is_some (value_at st n) ≡ false → IsDestruction act n)
             → ((n : Name) → was_given s.store n ≡ true → was_given st n ≡ true)
-            → Tells T.names (moment T.names act (with_store s st) ∷ h) (with_store s st) }
+            → HasMoments T.names (moment T.names act (with_store s st) ∷ h) (with_store s st) }
     {}
 
     /// A value that is placed, replaced or taken out changes what one name stands for, and no other's.
@@ -118,7 +118,7 @@ impl<T: Links + Pointable + Drop, J: Task> World<T, J> {
     pub fn order()
         ensures moves { (s : State T J) (who : ℕ) (event : Event) (r : Report) → Orderly s → IsReport s who event r → Moves s who r.called (after s who event r.outcome) }
         ensures opened { (limits : Limits) (roots : ℕ) → IsResting {T = T} {J = J} (opened limits roots) }
-        ensures empty { (limits : Limits) (roots : ℕ) (f : Entry J → ℕ) → weight f (opened {T = T} limits roots) ≡ 0 }
+        ensures empty { (limits : Limits) (roots : ℕ) (f : Deferral J → ℕ) → weight f (opened {T = T} limits roots) ≡ 0 }
         ensures registered { (s : State T J) (n : ℕ) → n < length s.table → Orderly s → KeepsCalls s (registered s n) (λ f. 0) }
         ensures deferred { (s : State T J) (who : ℕ) (work : Work J) → who < length s.table → length (place s who).bag < bag_places → Orderly s → KeepsCalls s (deferred s who work) (λ f. f (record { ticket = s.next; work = work })) }
         ensures deferral { (s : State T J) (who : ℕ) (work : Work J) → defer_fault s who ≡ None → Orderly s → KeepsCalls s (after_deferral s who work) (λ f. f (record { ticket = s.next; work = work })) }
@@ -167,10 +167,10 @@ impl<T: Links + Pointable + Drop, J: Task> World<T, J> {
     /// front what is due by the epoch that it leaves. After the first flush of such rounds one more of them, and one for each
     /// eight bags that are queued then, empty the queue; and there are no more such bags than jobs waited before.
     pub fn rounds()
-        ensures advances { (h : List Moment) (s s' : State T J) (who : ℕ) → Tells T.names h s → Orderly s → IsSealing s → IsQuiet s → IsRound s who s' → s'.epoch ≡ s.epoch + 1 }
-        ensures seals { (h : List Moment) (s s' : State T J) (who : ℕ) → Tells T.names h s → Orderly s → IsSealing s → IsQuiet s → (r : IsRound s who s') → (b : Sealed J) → Contains r.flushed.queue b → b.seal ≤ s.epoch + 1 }
-        ensures takes { (h : List Moment) (s s' : State T J) (who : ℕ) → Tells T.names h s → Orderly s → IsSealing s → Finishes s who Op.Flush s' → (sealed : List (Sealed J)) × IsSealedBag (place s who).bag sealed × TakesOff s.limits.expiry s'.epoch (s.queue ++ sealed) s'.queue }
-        ensures bags { (h : List Moment) (s s' : State T J) (who : ℕ) → Tells T.names h s → Orderly s → IsSealing s → IsQuiet s → (r : IsRound s who s') → length r.flushed.queue ≤ job_count s }
-        ensures empties { (h : List Moment) (s s1 s' : State T J) (who n : ℕ) → Tells T.names h s → Orderly s → IsSealing s → s.limits.expiry ≡ 2 → IsQuiet s → (r : IsRound s who s1) → AreRounds s1 who n s' → 1 + div_ceil (length r.flushed.queue) 8 ≤ n → IsEmptied s who s' }
+        ensures advances { (h : List Moment) (s s' : State T J) (who : ℕ) → HasMoments T.names h s → Orderly s → IsSealing s → IsQuiet s → IsRound s who s' → s'.epoch ≡ s.epoch + 1 }
+        ensures seals { (h : List Moment) (s s' : State T J) (who : ℕ) → HasMoments T.names h s → Orderly s → IsSealing s → IsQuiet s → (r : IsRound s who s') → (b : Sealed J) → Contains r.flushed.queue b → b.seal ≤ s.epoch + 1 }
+        ensures takes { (h : List Moment) (s s' : State T J) (who : ℕ) → HasMoments T.names h s → Orderly s → IsSealing s → Finishes s who Op.Flush s' → (sealed : List (Sealed J)) × IsSealedBag (place s who).bag sealed × TakesOff s.limits.expiry s'.epoch (s.queue ++ sealed) s'.queue }
+        ensures bags { (h : List Moment) (s s' : State T J) (who : ℕ) → HasMoments T.names h s → Orderly s → IsSealing s → IsQuiet s → (r : IsRound s who s') → length r.flushed.queue ≤ job_count s }
+        ensures empties { (h : List Moment) (s s1 s' : State T J) (who n : ℕ) → HasMoments T.names h s → Orderly s → IsSealing s → s.limits.expiry ≡ 2 → IsQuiet s → (r : IsRound s who s1) → AreRounds s1 who n s' → 1 + div_ceil (length r.flushed.queue) 8 ≤ n → IsEmptied s who s' }
     {}
 }

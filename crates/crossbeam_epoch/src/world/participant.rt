@@ -5,7 +5,7 @@ ghost use Rattle.crossbeam_epoch.specs.World.Machine.{blank, ends_advance, is_at
 ghost use Rattle.crossbeam_epoch.specs.World.Steps.{begin_fault, begun_at, outcome_at, outcome_or, place_or, quiet_fault};
 ghost use Rattle.crossbeam_epoch.specs.Limits.{bag_places};
 
-use crate::bag::{BAG, Bag, Entry};
+use crate::bag::{BAG, Bag, Deferral};
 use crate::fault::Fault;
 use crate::world::report::{Op, Outcome};
 use std::mem;
@@ -241,7 +241,7 @@ impl<J: Drop> Participant<J> {
     }
 
     /// A new bag holds this job alone, and the old one goes to the queue.
-    pub(crate) fn start_bag(&mut self, entry: Entry<J>) -> Bag<J>
+    pub(crate) fn start_bag(&mut self, entry: Deferral<J>) -> Bag<J>
         ensures bag { result ≡ self.old.bag }
         ensures place { self.new ≡ record self.old { bag = entry ∷ [] } }
     {

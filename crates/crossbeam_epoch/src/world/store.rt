@@ -5,7 +5,7 @@ ghost use Rattle.std.specs.Option.{option_copied};
 ghost use Rattle.crossbeam_epoch.specs.World.Machine.{with_store};
 ghost use Rattle.crossbeam_epoch.specs.World.Store.{value_at, IsNext, placed, emptied, replaced, is_usable};
 ghost use Rattle.crossbeam_epoch.specs.declared.names.Name.{Name};
-ghost use Rattle.crossbeam_epoch.specs.World.Reach.{Moment, Quiet, GivenBack, Tells, WasLive, KeepsLinks, Visible, links_of, NextMoment};
+ghost use Rattle.crossbeam_epoch.specs.World.Reach.{Moment, Quiet, GivenBack, HasMoments, WasLive, KeepsLinks, Visible, links_of, NextMoment};
 
 use crate::fault::Fault;
 use crate::names::{Links, Name, Pointable};
@@ -19,7 +19,7 @@ impl<T: Links + Pointable + Drop, J: Task> World<T, J> {
         ensures back { IfErr result (λ e. (e.0 ≡ Fault.CellsFull) × (e.1 ≡ value) × (self.new ≡ self.old)) }
         ensures told { NextMoment T.names Quiet self.old self.new }
         ensures full { OnErr result ((i : ℕ) → is_usable self.old.store i ≡ false) }
-        ensures fresh { IfOk result (λ name. (h : List Moment) → Tells T.names h self.old → WasLive h name → ⊥) }
+        ensures fresh { IfOk result (λ name. (h : List Moment) → HasMoments T.names h self.old → WasLive h name → ⊥) }
     {
         match self.cells.place(value) {
             Ok(name) => Ok(name),
@@ -50,7 +50,7 @@ impl<T: Links + Pointable + Drop, J: Task> World<T, J> {
     /// The value of a name, where it isn't destroyed.
     pub fn read(&self, name: Name) -> Option<&T>
         ensures value { option_copied result ≡ value_at self.now.store name }
-        ensures links { (h : List Moment) (p : ℕ) (n : Name) → Tells T.names h self.now → KeepsLinks h → Visible h p name → Contains (links_of T.names self.now.store name) n → Visible h p n }
+        ensures links { (h : List Moment) (p : ℕ) (n : Name) → HasMoments T.names h self.now → KeepsLinks h → Visible h p name → Contains (links_of T.names self.now.store name) n → Visible h p n }
     {
         self.cells.get(name)
     }

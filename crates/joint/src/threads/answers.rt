@@ -1,7 +1,7 @@
 //! What answers for a closure between two turns of a call.
 
 ghost use Rattle.std.specs.Prelude.{◌≡◌, Option};
-ghost use Rattle.joint.specs.Threads.{if_present, or_insert};
+ghost use Rattle.joint.specs.threads.Threads.{if_present, or_insert};
 
 use std::marker::Model;
 

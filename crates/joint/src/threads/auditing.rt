@@ -1,7 +1,7 @@
 //! Whether a journal has the entries that its workers keep for themselves.
 
 ghost use Rattle.std.specs.Prelude.{◌≡◌, ◌<◌, ◌↔◌, All, IsTrue, length};
-ghost use Rattle.joint.specs.Auditing.{AreOwn, IsAudited, of_worker};
+ghost use Rattle.joint.specs.threads.Auditing.{AreOwn, IsAudited, of_worker};
 
 use judge::{Call, Entry, Reply};
 

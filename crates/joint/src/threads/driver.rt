@@ -7,8 +7,9 @@ ghost use Rattle.joint.specs.declared.steps.Op.{Op};
 ghost use Rattle.joint.specs.declared.steps.Report.{Report};
 ghost use Rattle.joint.specs.declared.steps.Step.{Step};
 ghost use Rattle.congee.specs.Keys.{key_bytes};
-ghost use Rattle.joint.specs.Driving.{IsDriven, IsToldInCall, IsTurn, begin_step, ended, go_step};
-ghost use Rattle.joint.specs.Whole.{IsStep, Whole};
+ghost use Rattle.joint.specs.threads.Driving.{IsDriven, IsToldInCall, IsTurn, begin_step, ended, go_step};
+ghost use Rattle.joint.specs.world.World.{IsStep};
+ghost use Rattle.joint.specs.engine.Engine.{World};
 
 use crate::refusal::Refusal;
 use crate::steps::{Done, Event, Op, Outcome, Report, Step};
@@ -70,7 +71,7 @@ impl<P: Drop> Pair<P> for ([u8; KEY_BYTES], P) {
 /// A step by which a call begins or goes on registers nobody and knows no tokens: where the turns that somebody gives are
 /// steps of an index, they tell what may be told in a call.
 pub fn turns_tell<P: Payload + Small>()
-    ensures { (who : ℕ) (op : Op P) (last : Option (Report P)) (s s' : Whole P) (step : Step P) (r : Report P) → IsTurn who op last step → IsStep P.same_as P.always_copies s step r s' → IsToldInCall r.outcome }
+    ensures { (who : ℕ) (op : Op P) (last : Option (Report P)) (s s' : World P) (step : Step P) (r : Report P) → IsTurn who op last step → IsStep P.same_as P.always_copies s step r s' → IsToldInCall r.outcome }
 {}
 
 /// A whole call of a worker's, by turns that somebody gives; answers what the last of them told. The closure gives its

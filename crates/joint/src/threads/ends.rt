@@ -2,7 +2,7 @@
 
 ghost use Rattle.std.specs.Prelude.{◌≡◌, Err};
 ghost use Rattle.joint.specs.declared.refusal.Refusal.TheVariants as cause;
-ghost use Rattle.joint.specs.Threads.{computed, counted, emptied, exchanged, got, inserted, listed, removed, replaced, scanned, told};
+ghost use Rattle.joint.specs.threads.Threads.{computed, counted, emptied, exchanged, got, inserted, listed, removed, replaced, scanned, told};
 
 use crate::refusal::Refusal;
 use crate::steps::Done;

@@ -2,7 +2,7 @@
 
 ghost use Rattle.std.specs.Prelude.{◌≡◌, None, Some};
 ghost use Rattle.std.specs.Option.{option_map};
-ghost use Rattle.joint.specs.Driving.{IsToldInCall, IsTurn};
+ghost use Rattle.joint.specs.threads.Driving.{IsToldInCall, IsTurn};
 
 use crate::steps::{Op, Report, Step};
 use crate::threads::driver::Turns;

@@ -2,28 +2,26 @@
 
 ghost use Rattle.std.specs.Prelude.{◌≡◌, ◌<◌, ℕ, false, length, nat_eq, true, IfErr, IfOk, MatchResult};
 ghost use Rattle.std.specs.Option.{option_map};
-ghost use Rattle.joint.specs.Journals.{IsJournal};
-ghost use Rattle.joint.specs.Opening.{IsUnshared};
-ghost use Rattle.joint.specs.Pinned.{CallsPinned, KeepsWorker};
-ghost use Rattle.joint.specs.Threads.{Answers, AreKeys, As, Closes, Hands, IsAccount, IsHold, IsRound, IsTold, IsUnclosed, Pins, Scans, Serves, is_held_by, is_of, register_step, registered};
-ghost use Rattle.joint.specs.Threads.{charge_of, waiting_bytes_of, waiting_of};
-ghost use Rattle.joint.specs.Threads.{computed, counted, either_words, emptied, exchanged, got, if_present, inserted, listed, or_insert, removed, replaced, scanned, told, words};
-ghost use Rattle.joint.specs.Writing.{Gathers, Reads, Writes, WritesMute};
+ghost use Rattle.joint.specs.threads.Journals.{IsJournal};
+ghost use Rattle.joint.specs.nodes.Opening.{IsUnshared};
+ghost use Rattle.joint.specs.threads.Pinned.{CallsPinned, KeepsWorker};
+ghost use Rattle.joint.specs.threads.Threads.{Answers, AreKeys, As, Closes, Hands, IsAccount, IsHold, IsRound, IsTold, IsUnclosed, Pins, Scans, Serves, is_held_by, is_of, register_step, registered, charge_of, waiting_bytes_of, waiting_of, computed, counted, either_words, emptied, exchanged, got, if_present, inserted, listed, or_insert, removed, replaced, scanned, told, words};
+ghost use Rattle.joint.specs.threads.Writing.{Gathers, Reads, Writes, WritesMute};
 ghost use Rattle.joint.specs.declared.refusal.Refusal.TheVariants as cause;
 ghost use Rattle.joint.specs.declared.steps.Op.TheVariants as op;
 
-use crate::account::Account;
 use crate::limits::Limits;
+use crate::nodes::account::Account;
 use crate::refusal::Refusal;
 use crate::steps::Op;
 use crate::threads::answers::{IfPresent, OrInsert};
 use crate::threads::ends::{computed, exchanged, inserted, removed, replaced};
-use crate::threads::kept::Kept;
+use crate::threads::journaled_world::JournaledWorld;
 use crate::threads::share::Share;
 use crate::threads::tokens::{Guard, Worker};
 use crate::threads::tree::Tree;
 use crate::threads::watch::Watch;
-use crate::threads::words::{OfWords, are_keys, either_words, to_word, words};
+use crate::threads::word_congee::{OfWords, are_keys, either_words, to_word, words};
 use crate::world::World;
 use congee::{Allocator, DefaultAllocator, Drainer, NoDrain, NodeStats, Word64};
 use judge::Entry;
@@ -39,7 +37,7 @@ use std::sync::ledger::{Blank, Ledger};
 /// else, which no schedule brings about, it answers the reply of its entry, or is refused as Idle where it has none.
 #[derive(Drop)]
 pub struct Journaled<L: Ledger, W: Watch, K, V, A: Allocator = DefaultAllocator, D = NoDrain> {
-    tree: Tree<u64, Kept<L, W, A>>,
+    tree: Tree<u64, JournaledWorld<L, W, A>>,
     drainer: D,
     alloc: Global,
     words: PhantomData<(K, V)>,
@@ -76,7 +74,7 @@ impl<L: Ledger, W: Watch, K: Word64, V: Word64, A: Allocator, D: Drop> Journaled
         let world = World::new_journaled(alloc, limits, allocator, places)?;
         let (book, tokens) = blank.open::<L>();
         let journaled = Journaled {
-            tree: Tree::of(limits.id, account, Kept::with(world, book)),
+            tree: Tree::of(limits.id, account, JournaledWorld::with(world, book)),
             drainer,
             alloc,
             words: PhantomData,

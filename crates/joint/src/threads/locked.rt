@@ -4,10 +4,11 @@ ghost use Rattle.std.specs.Prelude.{◌≡◌, ℕ, MatchResult};
 ghost use Rattle.joint.specs.declared.steps.Op.{Op};
 ghost use Rattle.joint.specs.declared.steps.Report.{Report};
 ghost use Rattle.joint.specs.declared.steps.Step.{Step};
-ghost use Rattle.joint.specs.Closing.{IsClosed, IsNotClosed};
-ghost use Rattle.joint.specs.Driving.{IsToldInCall};
-ghost use Rattle.joint.specs.Threads.{ByHold, ByStep, IsHold, register_step};
-ghost use Rattle.joint.specs.Whole.{IsOfCall, IsStep, Whole};
+ghost use Rattle.joint.specs.engine.Closing.{IsClosed, IsNotClosed};
+ghost use Rattle.joint.specs.threads.Driving.{IsToldInCall};
+ghost use Rattle.joint.specs.threads.Threads.{ByHold, ByStep, IsHold, register_step};
+ghost use Rattle.joint.specs.world.World.{IsStep};
+ghost use Rattle.joint.specs.engine.Engine.{IsOfCall, World as State};
 
 use crate::refusal::Refusal;
 use crate::steps::{Event, Op, Report, Step};
@@ -26,10 +27,10 @@ pub(crate) trait Locked<P: Payload + Small>: Drop {
     ghost asked: { Self.Memo → Op P };
 
     /// The machine that it has.
-    ghost machine: { Self → Whole P };
+    ghost machine: { Self → State P };
 
     /// What a turn of this worker's call does, from the machine before it to the one after it.
-    ghost turns: { Whole P → ℕ → Op P → Step P → Report P → Whole P → Type 0 };
+    ghost turns: { State P → ℕ → Op P → Step P → Report P → State P → Type 0 };
 
     /// What is known of it where a lock hides both.
     ghost holds: { ℕ → Op P → Step P → Report P → Type 0 };

@@ -1,11 +1,11 @@
 //! What a writing call on an index with a journal has come to.
 
 ghost use Rattle.std.specs.Prelude.{◌≡◌, ◌+◌};
-ghost use Rattle.joint.specs.Log.{hears};
-ghost use Rattle.joint.specs.Writing.{given_after, noted, settled, told_with, unwritten, weight};
+ghost use Rattle.joint.specs.engine.Log.{with_answer};
+ghost use Rattle.joint.specs.threads.Writing.{given_after, noted, settled, told_with, unwritten, weight};
 
+use crate::engine::request::Request;
 use crate::refusal::Refusal;
-use crate::request::Request;
 use crate::steps::{Done, Event, Op, Outcome, Report};
 use crate::threads::share::Share;
 use crate::threads::watch::Watch;
@@ -22,7 +22,7 @@ pub(crate) struct Progress<L: Ledger> {
 }
 
 impl<L: Ledger> Model for Progress<L> {
-    ghost use Rattle.joint.specs.Writing.{Progress};
+    ghost use Rattle.joint.specs.threads.Writing.{Progress};
 
     ghost Value = { Progress };
 
@@ -50,7 +50,7 @@ impl<L: Ledger> Progress<L> {
     }
 
     /// The call takes the answer that comes to a step, if one does.
-    pub(crate) fn hear(&mut self, op: &Op<u64>, event: &Event<u64>)
+    pub(crate) fn take_answer(&mut self, op: &Op<u64>, event: &Event<u64>)
         ensures { self.new ≡ record self.old { given = given_after op.now self.old.given event.now } }
     {
         if let Event::Go(noise) = event {
@@ -58,7 +58,7 @@ impl<L: Ledger> Progress<L> {
                 op: *op,
                 answer: self.given,
             };
-            if let Some(Request { answer, .. }) = request.hear(&noise.answer) {
+            if let Some(Request { answer, .. }) = request.with_answer(&noise.answer) {
                 self.given = answer;
             }
         }

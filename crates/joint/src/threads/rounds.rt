@@ -1,7 +1,7 @@
 //! A round of whole calls: pin, flush, unpin.
 
 ghost use Rattle.std.specs.Prelude.{Ok, Result};
-ghost use Rattle.joint.specs.Threads.{Rounds, RoundsFrom};
+ghost use Rattle.joint.specs.threads.Threads.{Rounds, RoundsFrom};
 ghost use Rattle.joint.specs.declared.refusal.Refusal.{Refusal};
 ghost use Rattle.joint.specs.declared.steps.Op.{Op};
 

@@ -1,8 +1,8 @@
 //! Shares of a ledger, which count writing calls across threads.
 
 ghost use Rattle.std.specs.Prelude.{◌≡◌, ◌+◌, ◌-◌, ◌*◌, ◌^◌, ◌%◌, ◌<◌, ◌≤◌};
-ghost use Rattle.joint.specs.Journaling.{one_where};
-ghost use Rattle.joint.specs.Shares.{Tally, counts_more};
+ghost use Rattle.joint.specs.engine.Journaling.{one_where};
+ghost use Rattle.joint.specs.threads.Shares.{ShareView, counts_more};
 
 use std::marker::{Model, PhantomData};
 use std::sync::ledger::{Book, Ledger, Share as Tokens};
@@ -39,9 +39,9 @@ pub struct Share<L: Ledger> {
 
 impl<L: Ledger> Model for Share<L> {
     ghost use Rattle.std.specs.Prelude.{◌≡◌, ◌^◌, ◌%◌, ◌<◌, ◌≤◌};
-    ghost use Rattle.joint.specs.Shares.{Tally};
+    ghost use Rattle.joint.specs.threads.Shares.{ShareView};
 
-    ghost Value = { Tally };
+    ghost Value = { ShareView };
 
     ghost view = { λ s. record { parts = s.parts; count = s.tokens.amount } };
 

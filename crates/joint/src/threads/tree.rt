@@ -1,17 +1,15 @@
 //! One index under one lock, which each step of a call takes anew.
 
 ghost use Rattle.std.specs.Prelude.{◌≡◌, ℕ, [], false, length, IfOk, IfErr};
-ghost use Rattle.joint.specs.Driving.{IsToldInCall, ended};
-ghost use Rattle.joint.specs.Opening.{IsUnopened};
-ghost use Rattle.joint.specs.Pinned.{CallsPinned, KeepsWorker};
-ghost use Rattle.joint.specs.Threads.{Answers, ByHold, Closes, Computes, Hands, IsAccount, IsHeld, IsHold, IsRound, IsTold, IsUnclosed, Pins, Scans, Serves, is_held_by, is_of, register_step, registered};
-ghost use Rattle.joint.specs.Threads.{charge_of, waiting_bytes_of, waiting_of};
-ghost use Rattle.joint.specs.Threads.{computed, counted, emptied, exchanged, got, inserted, listed, removed, replaced, scanned, told};
-ghost use Rattle.joint.specs.Whole.{IsOfCall};
+ghost use Rattle.joint.specs.threads.Driving.{IsToldInCall, ended};
+ghost use Rattle.joint.specs.nodes.Opening.{IsUnopened};
+ghost use Rattle.joint.specs.threads.Pinned.{CallsPinned, KeepsWorker};
+ghost use Rattle.joint.specs.threads.Threads.{Answers, ByHold, Closes, Computes, Hands, IsAccount, IsHeld, IsHold, IsRound, IsTold, IsUnclosed, Pins, Scans, Serves, is_held_by, is_of, register_step, registered, charge_of, waiting_bytes_of, waiting_of, computed, counted, emptied, exchanged, got, inserted, listed, removed, replaced, scanned, told};
+ghost use Rattle.joint.specs.engine.Engine.{IsOfCall};
 ghost use Rattle.joint.specs.declared.steps.Op.TheVariants as op;
 
-use crate::account::Account;
 use crate::limits::Limits;
+use crate::nodes::account::Account;
 use crate::refusal::Refusal;
 use crate::steps::{Op, Outcome, Report, Step};
 use crate::threads::answers::{Answer, Silent};

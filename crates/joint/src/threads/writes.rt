@@ -3,14 +3,14 @@
 ghost use Rattle.std.specs.Prelude.{◌≡◌, ℕ, [], None, Some, true};
 ghost use Rattle.std.specs.Option.{option_map};
 ghost use Rattle.joint.specs.Asked.{changes};
-ghost use Rattle.joint.specs.Driving.{IsToldInCall, IsTurn};
-ghost use Rattle.joint.specs.Writing.{IsWritingTurn, Writes, WritesMute, unwritten};
+ghost use Rattle.joint.specs.threads.Driving.{IsToldInCall, IsTurn};
+ghost use Rattle.joint.specs.threads.Writing.{IsWritingTurn, Writes, WritesMute, unwritten};
 
 use crate::steps::{Op, Report, Step};
 use crate::threads::answers::{Answer, Silent};
 use crate::threads::driver::{Turns, drive_to};
 use crate::threads::ends::End;
-use crate::threads::kept::Kept;
+use crate::threads::journaled_world::JournaledWorld;
 use crate::threads::progress::Progress;
 use crate::threads::share::Share;
 use crate::threads::tokens::Worker;
@@ -26,7 +26,7 @@ use std::sync::ledger::Ledger;
 #[derive(Drop)]
 pub(crate) struct WritingHolds<'t, L: Ledger, W: Watch, A: Allocator, R: Wait> {
     rt: &'t R,
-    tree: &'t Tree<u64, Kept<L, W, A>>,
+    tree: &'t Tree<u64, JournaledWorld<L, W, A>>,
     worker: u32,
     op: Op<u64>,
     call: Progress<L>,
@@ -38,7 +38,7 @@ impl<'t, L: Ledger, W: Watch, A: Allocator, R: Wait> WritingHolds<'t, L, W, A, R
     /// Before the first turn of a call.
     fn new(
         rt: &'t R,
-        tree: &'t Tree<u64, Kept<L, W, A>>,
+        tree: &'t Tree<u64, JournaledWorld<L, W, A>>,
         worker: u32,
         op: Op<u64>,
         share: Share<L>,
@@ -86,7 +86,7 @@ impl<L: Ledger, W: Watch, A: Allocator, R: Wait> Turns<u64> for WritingHolds<'_,
     }
 }
 
-impl<L: Ledger, W: Watch, A: Allocator> Tree<u64, Kept<L, W, A>> {
+impl<L: Ledger, W: Watch, A: Allocator> Tree<u64, JournaledWorld<L, W, A>> {
     /// A whole writing call of a worker's, each turn of which is a hold of the lock; it counts on this share.
     fn drive_writing<C: Answer<u64>, R: Wait>(
         &self,

@@ -1,8 +1,8 @@
 //! What an owner of an index concludes of a whole call whose turns he gives himself, with no proof of his own.
 ghost use Rattle.std.specs.Prelude.{◌≡◌, None, Some, nat_eq, true};
 ghost use Rattle.std.specs.Option.{option_map};
-ghost use Rattle.joint.specs.Driving.{IsDriven, IsToldInCall, IsTurn, ended};
-ghost use Rattle.joint.specs.Whole.{IsStep};
+ghost use Rattle.joint.specs.threads.Driving.{IsDriven, IsToldInCall, IsTurn, ended};
+ghost use Rattle.joint.specs.world.World.{IsStep};
 
 use congee::Allocator;
 use joint::{Done, Op, Refusal, Report, Step, Turns, World, drive, turns_tell};
@@ -31,6 +31,7 @@ impl<A: Allocator> Driven<A> {
         }
     }
 
+    /// The index as it stands.
     pub fn into_index(self) -> World<u64, A>
         ensures { result ≡ self.index }
     {

@@ -1,6 +1,6 @@
 //! An index with a journal that threads share: they write and scan it, and its history is checked.
 ghost use Rattle.std.specs.Prelude.{◌≡◌, IfOk, true};
-ghost use Rattle.joint.specs.Journals.{IsCounted, IsJournal};
+ghost use Rattle.joint.specs.threads.Journals.{IsCounted, IsJournal};
 
 use congee::DefaultAllocator;
 use joint::{Every, Guard, Journaled, Limits, Refusal, Share, Worker};

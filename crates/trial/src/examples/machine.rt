@@ -3,10 +3,11 @@ ghost use Rattle.std.specs.Prelude.{◌≡◌, ℕ, IfOk, IfSome, Some, nat_eq, 
 ghost use Rattle.std.specs.FinMap.{empty, entries};
 ghost use Rattle.judge.specs.Answer.{Pairs};
 ghost use Rattle.congee.specs.Keys.{IsMapOf};
-ghost use Rattle.joint.specs.Closing.{Drained as AllDrained};
-ghost use Rattle.joint.specs.Forest.{nodes};
-ghost use Rattle.joint.specs.Runs.{RunsMap, no_flights};
-ghost use Rattle.joint.specs.Whole.{Whole};
+ghost use Rattle.joint.specs.nodes.Draining.{Drained as AllDrained};
+ghost use Rattle.joint.specs.nodes.Nodes.{nodes};
+ghost use Rattle.joint.specs.calls.Runs.{RunsMap};
+ghost use Rattle.joint.specs.engine.Flying.{no_flights};
+ghost use Rattle.joint.specs.engine.Engine.{World as State};
 
 use congee::{Allocator, DefaultAllocator, Drainer, NoDrain};
 use joint::{Limits, Op, Ran, Refusal, Step, World};
@@ -60,7 +61,7 @@ pub fn drains_what_stands<D: Drainer<u64, u64>>(
     drainer: D,
 ) -> Result<Drained<D>, Refusal>
     requires { D.can_drain drainer }
-    ensures { IfOk result (λ r. (s : Whole ℕ) × RunsMap nat_eq no_flights empty (take r.ran.done steps.items) r.ran.reports.items s × ((m : Pairs ℕ) → IsMapOf (nodes s.forest) m → AllDrained D.drains drainer (entries m) r.drainer)) }
+    ensures { IfOk result (λ r. (s : State ℕ) × RunsMap nat_eq no_flights empty (take r.ran.done steps.items) r.ran.reports.items s × ((m : Pairs ℕ) → IsMapOf (nodes s.forest) m → AllDrained D.drains drainer (entries m) r.drainer)) }
 {
     let (index, ran) = runs_as_one_map(alloc, steps)?;
     match index.close(drainer) {

@@ -1,11 +1,11 @@
 //! What a user of the machine concludes of whole runs, with no proof of its own: the memory of removed nodes comes back, and
 //! when it does changes no answer.
 ghost use Rattle.std.specs.Prelude.{◌≡◌, ◌≤◌, ◌++◌, ℕ, List, true, IfOk, length, nat_eq, take};
-ghost use Rattle.joint.specs.Listing.{waiting_nodes};
-ghost use Rattle.joint.specs.Plain.{AreSame, AreUnrefused, answers, projection};
-ghost use Rattle.joint.specs.Promises.{KeepsPromises};
-ghost use Rattle.joint.specs.Rounds.{AreRounds, CameBack, IsQuiet, Round, rounds_wanted, steps_in};
-ghost use Rattle.joint.specs.Runs.{Taken, after_all};
+ghost use Rattle.joint.specs.engine.Census.{waiting_nodes};
+ghost use Rattle.joint.specs.calls.Plain.{AreSame, AreUnrefused, answers, projection};
+ghost use Rattle.joint.specs.calls.Promises.{KeepsPromises};
+ghost use Rattle.joint.specs.calls.Rounds.{AreRounds, CameBack, IsQuiet, Round, rounds_wanted, steps_in};
+ghost use Rattle.joint.specs.calls.Runs.{Taken, after_all};
 
 use super::machine::Index;
 use congee::DefaultAllocator;

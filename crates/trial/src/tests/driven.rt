@@ -1,7 +1,7 @@
 //! A whole call by turns that a test gives: what no clause says, that its values come through.
 ghost use Rattle.std.specs.Prelude.{◌≡◌, Some};
 ghost use Rattle.std.specs.Option.{option_map};
-ghost use Rattle.joint.specs.Driving.{IsToldInCall};
+ghost use Rattle.joint.specs.threads.Driving.{IsToldInCall};
 
 use joint::{Done, Event, Kind, Op, Outcome, Report, Step, Turns, drive};
 use std::snapshot::Snapshot;

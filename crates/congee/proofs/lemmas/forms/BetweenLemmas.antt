@@ -13,9 +13,10 @@ use Rattle.congee.proofs.lemmas.forms.Entries.{find}
 use Rattle.congee.proofs.lemmas.forms.EntryLemmas.{find_below}
 use Rattle.congee.proofs.lemmas.forms.MapLemmas.{find_std}
 
-is_true : (b : Bool) → T b → b ≡ true
-is_true true t = refl
-is_true false t = absurd t
+-- a test that is known to hold is true
+pub true_of_T : (b : Bool) → T b → b ≡ true
+true_of_T true t = refl
+true_of_T false t = absurd t
 
 both_left : (a b : Bool) → a && b ≡ true → a ≡ true
 both_left true b e = refl
@@ -25,20 +26,21 @@ both_right : (a b : Bool) → a && b ≡ true → b ≡ true
 both_right true b e = e
 both_right false b e = absurd (cc e)
 
-less_of : (a b : ℕ) → is_lt (nat_cmp a b) ≡ true → a < b
-less_of a b e = grind (arith, nat_tests, e)
+-- a number that compares as less is less
+pub less_of_cmp : (a b : ℕ) → is_lt (nat_cmp a b) ≡ true → a < b
+less_of_cmp a b e = grind (arith, nat_tests, e)
 
 module _ {X : Type 0} where
   below_of : (k : ℕ) (es : List (ℕ × X)) → below_all nat_cmp k es ≡ true → AllKeys (λ j. k < j) es
   below_of k [] e = tt
-  below_of k ((j, x) ∷ r) e = (less_of k j (both_left _ _ e), below_of k r (both_right _ _ e))
+  below_of k ((j, x) ∷ r) e = (less_of_cmp k j (both_left _ _ e), below_of k r (both_right _ _ e))
 
   rises_true : (es : List (ℕ × X)) → map.is_sorted nat_cmp es ≡ true → Rises es
   rises_true [] e = tt
   rises_true ((k, x) ∷ r) e = (below_of k r (both_left _ _ e), rises_true r (both_right _ _ e))
 
   rises_entries : (m : map.FinMap nat_cmp X) → Rises (map.entries m)
-  rises_entries m = rises_true (map.entries m) (is_true _ (map.entries_sorted m))
+  rises_entries m = rises_true (map.entries m) (true_of_T _ (map.entries_sorted m))
 
   none_between : (from end : ℕ) (es : List (ℕ × X)) → Rises es → ((q : ℕ) → from ≤ q → q ≤ end → find q es ≡ None) → between from end es ≡ []
   none_between from end [] r h = refl

@@ -5,7 +5,7 @@ use Rattle.congee.proofs.lemmas.Fits.{same_test, other_test}
 use Rattle.judge.specs.Answer.{Pairs, set_at}
 use Rattle.judge.specs.declared.journal.Call.TheVariants as call
 use Rattle.judge.specs.declared.journal.Reply.TheVariants as reply
-use Rattle.judge.proofs.Maps.{get-set_at_here, get-set_at_apart, set_at-standing}
+use Rattle.judge.proofs.Laws.{get-set_at_here, get-set_at_apart, set_at-standing}
 use Rattle.congee.specs.Heap.{Holds, Nothing, Below, fits, child_for, value_at}
 use Rattle.congee.specs.Keys.{key_bytes}
 use Rattle.congee.specs.owned.Arena.{Nodes, node_of, heap_of, IsTree, OnWay, Hangs}
@@ -129,6 +129,7 @@ pub exchange_refused : (s : Nodes ℕ) (k : ℕ) → k < 2 ^ 64 → (old : ℕ) 
 exchange_refused s k small old new None ne v = exchange_absent nat_eq s s k small old new (sym v)
 exchange_refused s k small old new (Some w) ne v = exchange_other nat_eq s s k small old w new (other_test w old (λ e. ne (ap (λ z. Some z) e))) (sym v)
 
+-- a change at a key that had the expected value is the map's exchange
 pub exchange_done : (s s' : Nodes ℕ) (k : ℕ) → k < 2 ^ 64 → (old : ℕ) (new : Option ℕ) → MapChange s s' (key_bytes k) (Some old) new
     → Answered nat_eq s s' (call.Exchange k old new) (reply.Exchange (Ok new))
 exchange_done s s' k small old new c = exchanged nat_eq s s' k small old old new (same_test old old refl) c

@@ -10,7 +10,7 @@ use Rattle.slab.specs.Slab.{get, ContainsKey}
 use Rattle.congee.specs.Heap.{Hung, Below, Nothing, Holds, fits, child_for, value_at}
 use Rattle.congee.specs.Keys.{key_bytes}
 use Rattle.congee.specs.owned.Arena.{Nodes, hung_in, heap_of, ledger_of, IsTree, OnWay}
-use Rattle.congee.specs.Ledger.{IsChild}
+use Rattle.congee.specs.Notes.{IsChild}
 use Rattle.congee.specs.forms.Bytes.{IsFirst}
 use Rattle.congee.specs.owned.Changes.{DiffersAt}
 use Rattle.congee.specs.owned.Cursor.{HangsBelow, IsDescent, IsCursor, HasAhead, IsAhead, IsAt, steps_left}
@@ -25,22 +25,26 @@ use Rattle.congee.proofs.lemmas.Fits.{fits_byte, fits_trans, same_key}
 use Rattle.congee.proofs.lemmas.Graft.{on_test}
 use Rattle.congee.proofs.lemmas.Keys.{key_length}
 use Rattle.congee.proofs.lemmas.Link.{Leaf}
-use Rattle.congee.proofs.lemmas.Orders.{less, byte_small}
+use Rattle.congee.proofs.lemmas.Orders.{less_at_first_byte, byte_small}
 use Rattle.congee.proofs.lemmas.owned.Joins.{leaf_of}
 use Rattle.congee.proofs.lemmas.owned.Tables.{pairs_stand}
 use Rattle.congee.proofs.lemmas.owned.Ways.{linked_of, stands_of, short_prefix, below_stands, root_reached}
 
+-- a node on a walk's way, and the least byte that is left there
 abbrev pub step : ℕ → ℕ → Branch
 step node from = record { node = node; from = from }
 
+-- where two things are told of what was found, the first one is
 pub first_of_pair : {T : Type 0} (o : Option T) (A : Type 0) (B C : T → Type 0) → MatchOption o A (λ r. B r × C r) → MatchOption o A B
 first_of_pair None A B C m = m
 first_of_pair (Some x) A B C m = m.0
 
+-- where something was found: it, and what is told of it
 pub some_told : {T : Type 0} (o : Option T) (A : Type 0) (B : T → Type 0) → IsSome o → MatchOption o A B → (x : T) × B x
 some_told None A B e m = absurd (cc e)
 some_told (Some x) A B e m = (x, m)
 
+-- what is told where nothing was found
 pub nothing_told : {T : Type 0} (o : Option T) (A : Type 0) (B : T → Type 0) → is_some o ≡ false → MatchOption o A B → A
 nothing_told None A B e m = m
 nothing_told (Some x) A B e m = absurd (cc e)
@@ -218,7 +222,7 @@ module _ {P : Type 0} (s : Nodes P) (t : IsTree s) where
       → get_or (key_bytes k) (length (heap_of s n).prefix) 0 < get_or (key_bytes q) (length (heap_of s n).prefix) 0 → k < q
   less_at n k q c lk lq fk fq l =
       let b = short_prefix s t n c in
-      less k q (length (heap_of s n).prefix) lk lq (omega (arith, b))
+      less_at_first_byte k q (length (heap_of s n).prefix) lk lq (omega (arith, b))
       (λ j lt. fits_byte (heap_of s n).prefix (key_bytes k) j fk lt ∙ sym (fits_byte (heap_of s n).prefix (key_bytes q) j fq lt)) l
 
   pub byte_from : (n k q : ℕ) → ContainsKey s n → k ≤ q → q < 2 ^ 64 → fits (heap_of s n).prefix (key_bytes k) ≡ true → fits (heap_of s n).prefix (key_bytes q) ≡ true
@@ -536,7 +540,7 @@ module _ {P : Type 0} (s : Nodes P) (t : IsTree s) where
       let g = fits_child q at below h d.way.stands f (turns_same at key q (Below below) same e) in
       let short = short_prefix s t below (below_stands s t at below (key_bytes key) d.way.stands e) in
       let there = fits_byte (heap_of s below).prefix (key_bytes q) common g parts.within in
-      let l = less key q common lk (small q h) (omega (arith, short, parts.within))
+      let l = less_at_first_byte key q common lk (small q h) (omega (arith, short, parts.within))
       (λ j lt. parts.same j lt ∙ sym (fits_byte (heap_of s below).prefix (key_bytes q) j g (omega (arith, lt, parts.within)))) (omega (arith, le, parts.apart, there)) in
       omega (arith, l))
 
@@ -553,7 +557,7 @@ module _ {P : Type 0} (s : Nodes P) (t : IsTree s) where
             let g = fits_child q at below h d.way.stands f (turns_same at key q (Below below) (omega (arith, up, ge)) e) in
             let short = short_prefix s t below (below_stands s t at below (key_bytes key) d.way.stands e) in
             let there = fits_byte (heap_of s below).prefix (key_bytes q) common g parts.within in
-            let n = less q key common (small q h) lk (omega (arith, short, parts.within))
+            let n = less_at_first_byte q key common (small q h) lk (omega (arith, short, parts.within))
             (λ j lt. fits_byte (heap_of s below).prefix (key_bytes q) j g (omega (arith, lt, parts.within)) ∙ sym (parts.same j lt)) (omega (arith, lt, there)) in
             absurd (omega (arith, n, l)))
       ])

@@ -3,7 +3,7 @@ use Rattle.std.proofs.Common.{◌≡◌, ◌≢◌, ℕ, List, length, get_or, r
 use Rattle.std.specs.Prelude.{Option, Some, None, is_some, cond}
 use Rattle.slab.specs.Slab.{get, Updates}
 use Rattle.congee.specs.Heap.{child_for}
-use Rattle.congee.specs.Ledger.{Linked, Gone, Note, Tree}
+use Rattle.congee.specs.Notes.{Linked, Gone, Note, Tree}
 use Rattle.congee.specs.forms.Forms.{prefix_of, form_of, capacity_of}
 use Rattle.congee.specs.owned.Arena.{Nodes, hung_in, node_of, heap_of, ledger_of, IsFilled, IsTree, OnWay}
 use Rattle.congee.specs.owned.Changes.{Differs, MapChange}

@@ -24,7 +24,7 @@ use Rattle.congee.specs.declared.forms.child.Child.TheVariants.{Node as Sub, Val
 use Rattle.congee.proofs.lemmas.Tree.{same_or_not}
 use Rattle.congee.proofs.lemmas.forms.Full.{full_at, full_is}
 use Rattle.congee.proofs.lemmas.owned.Filled.{has_pair}
-use Rattle.congee.proofs.lemmas.owned.Fulls.{changed_enough, enough_more, filled_as, filled_but, filled_greater, filled_least, filled_less, filled_lesser, filled_then, here, least_of, len_more, len_two, others_filled}
+use Rattle.congee.proofs.lemmas.owned.Fulls.{changed_enough, enough_more, filled_as, filled_but, filled_greater, filled_least, filled_less, filled_lesser, filled_then, holds_of_same, least_of, len_more, len_two, others_filled}
 use Rattle.congee.proofs.lemmas.owned.Hangings.{Forked, forked_at}
 use Rattle.congee.proofs.lemmas.owned.Lifting.{moved_apart}
 use Rattle.congee.proofs.lemmas.owned.Moves.{differs_insert, node_at}
@@ -93,9 +93,9 @@ module _ {P : Type 0} where
       let now : get s2 at ≡ Some k.node = k.updates.changed in
       let h = hang k.node now in
       filled_then s0 s3 f (λ m x ne e. elim (same_or_not m at) [
-        | inl q ↦ inr (here s3 HasEnough m at x h.node q e h.now (room_enough s1 s2 at byte (Sub h.leaf) n.0 h.node k (absent k.node now) h.becomes (f at n.0 (λ z. ne (q ∙ z)) n.1)))
+        | inl q ↦ inr (holds_of_same s3 HasEnough m at x h.node q e h.now (room_enough s1 s2 at byte (Sub h.leaf) n.0 h.node k (absent k.node now) h.becomes (f at n.0 (λ z. ne (q ∙ z)) n.1)))
         | inr na ↦ elim (same_or_not m h.leaf) [
-          | inl q ↦ inr (here s3 HasEnough m h.leaf x h.made q e h.taken (leaf_enough h.made key v len h.form h.has))
+          | inl q ↦ inr (holds_of_same s3 HasEnough m h.leaf x h.made q e h.taken (leaf_enough h.made key v len h.form h.has))
           | inr nl ↦ inl (m, ne, sym (same m) ∙ (sym (k.updates.others m na) ∙ (sym (h.others m na nl) ∙ e)))
         ]
       ])
@@ -119,11 +119,11 @@ module _ {P : Type 0} where
         let e3 : get s3 at ≡ Some n.0 = forked_at s0 s1 s2 s3 key common over other below v f at st ∙ n.1 in
         let k = sets n.0 e3 in
         filled_then s0 s4 h (λ m x ne e. elim (same_or_not m at) [
-          | inl q ↦ inr (here s4 HasEnough m at x k.node q e k.updates.changed (changed_enough n.0 k.node byte (Sub over) (Sub below) (there n.0 e3) k.becomes (h at n.0 (λ z. ne (q ∙ z)) n.1)))
+          | inl q ↦ inr (holds_of_same s4 HasEnough m at x k.node q e k.updates.changed (changed_enough n.0 k.node byte (Sub over) (Sub below) (there n.0 e3) k.becomes (h at n.0 (λ z. ne (q ∙ z)) n.1)))
           | inr na ↦ elim (same_or_not m over) [
-            | inl q ↦ inr (here s3 HasEnough m over x f.forks.node q (sym (k.updates.others m na) ∙ e) f.forks.updates.changed over_enough)
+            | inl q ↦ inr (holds_of_same s3 HasEnough m over x f.forks.node q (sym (k.updates.others m na) ∙ e) f.forks.updates.changed over_enough)
             | inr nv ↦ elim (same_or_not m f.hangs.leaf) [
-              | inl q ↦ inr (here s2 HasEnough m f.hangs.leaf x f.hangs.made q (sym (f.forks.updates.others m nv) ∙ (sym (k.updates.others m na) ∙ e)) f.hangs.taken (leaf_enough f.hangs.made key v len f.hangs.form f.hangs.has))
+              | inl q ↦ inr (holds_of_same s2 HasEnough m f.hangs.leaf x f.hangs.made q (sym (f.forks.updates.others m nv) ∙ (sym (k.updates.others m na) ∙ e)) f.hangs.taken (leaf_enough f.hangs.made key v len f.hangs.form f.hangs.has))
               | inr nl ↦ inl (m, ne, sym (f.made.updates.others m nv) ∙ (sym (f.hangs.others m nv nl) ∙ (sym (f.forks.updates.others m nv) ∙ (sym (k.updates.others m na) ∙ e))))
             ]
           ]
@@ -207,11 +207,11 @@ module _ {P : Type 0} where
   -- a node's only child comes into its place
   pub lifted_filled : (s s' : Nodes P) (g b p : ℕ) (t : IsTree s) (r : MayLift s g b p) (k : MovesUp s s' g b p r) → OthersFilled s p → NodesFilled s'
   lifted_filled s s' g b p t r k h n x ne e = elim (same_or_not n k.name) [
-    | inl q ↦ here s' HasEnough n k.name x r.node q e k.stands (h r.one.child r.node (moved_apart s s' g b p t r k) r.child_apart_below r.child)
+    | inl q ↦ holds_of_same s' HasEnough n k.name x r.node q e k.stands (h r.one.child r.node (moved_apart s s' g b p t r k) r.child_apart_below r.child)
     | inr nm ↦ elim (same_or_not n p) [
       | inl q ↦ absurd (let z : None ≡ Some x = sym k.left ∙ (ap (λ w. get s' w) (sym q) ∙ e) in cc)
       | inr np ↦ elim (same_or_not n g) [
-        | inl q ↦ here s' HasEnough n g x k.new q e k.now (changed_enough r.upper k.new b (Sub k.name) (Sub p) r.hung k.becomes (h g r.upper (λ z. ne (q ∙ z)) r.apart r.was))
+        | inl q ↦ holds_of_same s' HasEnough n g x k.new q e k.now (changed_enough r.upper k.new b (Sub k.name) (Sub p) r.hung k.becomes (h g r.upper (λ z. ne (q ∙ z)) r.apart r.was))
         | inr ng ↦ elim (same_or_not n r.one.child) [
           | inl q ↦ elim k.named [
             | inl w ↦ absurd (nm (q ∙ sym w))

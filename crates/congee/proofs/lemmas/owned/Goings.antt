@@ -4,7 +4,7 @@ use Rattle.std.specs.Prelude.{Option, None, Some}
 use Rattle.std.specs.Option.{option_map}
 use Rattle.std.specs.FinMap as map
 use Rattle.congee.specs.Heap.{Hung, Nothing, Below, Holds, Node, fits, child_for}
-use Rattle.congee.specs.Ledger.{Linked, Note, IsChild, HasParent, Tree}
+use Rattle.congee.specs.Notes.{Linked, Note, IsChild, HasParent, Tree}
 use Rattle.congee.specs.Keys.{key_bytes}
 use Rattle.congee.specs.owned.Arena.{Nodes, heap_of, node_of, IsTree, OnWay, Hangs}
 use Rattle.congee.specs.owned.Going.{Going, at_leaf, goes_down, goes_at, goes_of, going_by, going_from}
@@ -121,10 +121,12 @@ module _ {V : Type 0} where
       let h : heap_of s' ≡ heap_of s = λ i n. ap node_of (e n) i in
       ap (λ g. table (λ k. goes_at g (key_bytes k)) (2 ^ 64)) h
 
+-- where nothing goes with a value, nothing goes by any answer
 pub going_absent : {Y : Type 0} (o : Option Y) (going : Option Going) → going ≡ None → going_by o going ≡ None
 going_absent None going e = e
 going_absent (Some y) going e = refl
 
+-- what goes by an answer doesn't depend on the value that it gives
 pub going_map : {Y Z : Type 0} (f : Y → Z) (o : Option Y) (going : Option Going) → going_by (option_map f o) going ≡ going_by o going
 going_map f None going = refl
 going_map f (Some y) going = refl

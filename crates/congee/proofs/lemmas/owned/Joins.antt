@@ -5,7 +5,7 @@ use Rattle.std.proofs.lemmas.List.{get_or-take, length-take-le}
 use Rattle.std.proofs.lemmas.Bool.{cases_lt}
 use Rattle.slab.specs.Slab.{get, ContainsKey}
 use Rattle.congee.specs.Heap.{Node, Below, Nothing, fits, child_for, walk, value_at}
-use Rattle.congee.specs.Ledger.{Linked, Gone, Note, Tree, IsChild, HasParent}
+use Rattle.congee.specs.Notes.{Linked, Gone, Note, Tree, IsChild, HasParent}
 use Rattle.congee.specs.forms.Forms.{prefix_of}
 use Rattle.congee.specs.owned.Arena.{Nodes, hung_in, node_of, heap_of, ledger_of, IsFilled, IsTree, OnWay, Hangs}
 use Rattle.congee.specs.owned.Changes.{MapChange, IsLeafOf, AddsLeaf, AddsFork, DropsLeaf, DiffersAt}
@@ -45,6 +45,7 @@ agree_tree a h h' e t = record {
   };
 }
 
+-- a walk from a node of the tree finds the same where all nodes of the tree are as they were
 pub agree_walk : {V : Type 0} (a : ℕ → Note) (h h' : ℕ → Node V) → ((n : ℕ) → (a n).status ≡ Linked → h' n ≡ h n) → Tree a h
     → (f n : ℕ) (key : List ℕ) → (a n).status ≡ Linked → walk h' f n key ≡ walk h f n key
 agree_walk a h h' e t zero n key l = refl

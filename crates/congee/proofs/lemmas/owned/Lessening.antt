@@ -5,7 +5,7 @@ use Rattle.std.specs.FinMap as map
 use Rattle.slab.specs.Slab.{Slab, get, ContainsKey, Updates, SameValues, slab_len, with_value}
 use Rattle.slab.proofs.SlabLemmas.{Updates-with_value}
 use Rattle.congee.specs.Heap.{Hung, Nothing, Below, Holds, value_at}
-use Rattle.congee.specs.Ledger.{Linked, Gone}
+use Rattle.congee.specs.Notes.{Linked, Gone}
 use Rattle.congee.specs.forms.Forms.{capacity_of, children_of, form_of, prefix_of, size_of}
 use Rattle.congee.specs.forms.Mapped.{mapped}
 use Rattle.congee.specs.owned.Arena.{Nodes, hung_in, node_of, heap_of, ledger_of, IsFilled, IsTree}

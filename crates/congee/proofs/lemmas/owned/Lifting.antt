@@ -4,7 +4,7 @@ use Rattle.std.specs.Prelude.{None, Some, IsSome}
 use Rattle.std.specs.FinMap as map
 use Rattle.slab.specs.Slab.{get, ContainsKey}
 use Rattle.congee.specs.Heap.{Node as Seen, Hung, Nothing, Below, Holds}
-use Rattle.congee.specs.Ledger.{Linked, Gone, Note, Tree, IsChild, Lifts}
+use Rattle.congee.specs.Notes.{Linked, Gone, Note, Tree, IsChild, Lifts}
 use Rattle.congee.specs.forms.Forms.{capacity_of, children_of}
 use Rattle.congee.specs.owned.Arena.{Nodes, hung_in, node_of, heap_of, ledger_of, IsFilled, IsTree}
 use Rattle.congee.specs.owned.Lesser.{SameMap}

@@ -3,20 +3,21 @@ use Rattle.std.proofs.Common.{◌≡◌, refl, sym, ap}
 use Rattle.std.specs.Prelude.{Option, None, Some, Result, Ok, Err, IsSome, IfSome, OnErr, is_some}
 
 module _ {A : Type 0} where
-  pub is_there : (x : A) (o : Option A) → Some x ≡ o → IsSome o
-  is_there x o e = ap is_some (sym e)
+  pub is_some_of_some : (x : A) (o : Option A) → Some x ≡ o → IsSome o
+  is_some_of_some x o e = ap is_some (sym e)
 
   abbrev or_else : A → Option A → A
   or_else x None = x
   or_else x (Some y) = y
 
-  pub same_some : (x y : A) → Some x ≡ Some y → x ≡ y
-  same_some x y e = ap (or_else x) e
+  pub some_injective : (x y : A) → Some x ≡ Some y → x ≡ y
+  some_injective x y e = ap (or_else x) e
 
   pub if_some : (o : Option A) (P : A → Type 0) → ((x : A) → o ≡ Some x → P x) → IfSome o P
   if_some None P f = tt
   if_some (Some x) P f = f x refl
 
+-- what holds anyway holds where a result is an error
 pub on_error : {A E : Type 0} (r : Result A E) (P : Type 0) → P → OnErr r P
 on_error (Ok x) P p = tt
 on_error (Err e) P p = p

@@ -2,11 +2,12 @@
 use Rattle.std.proofs.Common.{◌≡◌, ◌≢◌, ℕ, inl, inr, true, List, length, get_or, refl, sym, ◌∙◌, subst, arith}
 use Rattle.std.specs.Prelude.{Option, None, Some}
 use Rattle.congee.specs.Heap.{Node, Hung, Nothing, Below, Holds, fits, child_for, value_at}
-use Rattle.congee.specs.Ledger.{Linked, Note, Tree}
+use Rattle.congee.specs.Notes.{Linked, Note, Tree}
 use Rattle.congee.proofs.lemmas.Fits.{same_key}
 use Rattle.congee.proofs.lemmas.Tree.{same_or_not, finds}
 use Rattle.congee.proofs.lemmas.Graft.{Graft, old_down, old_up, old_leaves, untouched, on_test}
 
+-- a value as a child, or no child
 abbrev pub put_child : {V : Type 0} → Option V → Hung V
 put_child None = Nothing
 put_child (Some v) = Holds v

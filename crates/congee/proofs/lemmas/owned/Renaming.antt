@@ -3,7 +3,7 @@ use Rattle.std.proofs.Common.{◌≡◌, ◌≢◌, ℕ, ◌==◌, ◌+◌, inl,
 use Rattle.std.specs.Prelude.{Option, None, Some, is_some}
 use Rattle.slab.specs.Slab.{get}
 use Rattle.congee.specs.Heap.{Below, value_at}
-use Rattle.congee.specs.Ledger.{Linked, Gone, IsChild}
+use Rattle.congee.specs.Notes.{Linked, Gone, IsChild}
 use Rattle.congee.specs.forms.Forms.{form_of, size_of}
 use Rattle.congee.specs.owned.Arena.{Nodes, hung_in, node_of, heap_of, ledger_of, IsFilled, IsTree}
 use Rattle.congee.specs.owned.Changes.{Differs, MapChange}
@@ -19,7 +19,7 @@ use Rattle.congee.proofs.lemmas.Rename.{Moves, in_place, move_tree, move_map}
 use Rattle.congee.proofs.lemmas.Tree.{same_or_not}
 use Rattle.congee.proofs.lemmas.owned.Edits.{wide_after}
 use Rattle.congee.proofs.lemmas.owned.Filled.{filled_at, filled_with, filled_none}
-use Rattle.congee.proofs.lemmas.owned.Fulls.{changed_enough, filled_then, here}
+use Rattle.congee.proofs.lemmas.owned.Fulls.{changed_enough, filled_then, holds_of_same}
 use Rattle.congee.proofs.lemmas.owned.Moves.{differs_insert, stands_at}
 use Rattle.congee.proofs.lemmas.owned.Sizes.{bytes_named}
 use Rattle.congee.proofs.lemmas.owned.Totals.{total_same, total_update}
@@ -158,12 +158,13 @@ module _ {P : Type 0} (s s' : Nodes P) (p b n m : ℕ) (t : IsTree s) (k : Renam
     | inr nm ↦ elim (same_or_not x n) [
       | inl q ↦ absurd (let z : None ≡ Some y = sym k.left ∙ (ap (λ w. get s' w) (sym q) ∙ e) in cc)
       | inr nn ↦ elim (same_or_not x p) [
-        | inl q ↦ inr (here s' HasEnough x p y k.new q e k.now (changed_enough k.old k.new b (Sub m) (Sub n) k.child k.becomes (h p k.old (λ z. ne (q ∙ z)) k.was)))
+        | inl q ↦ inr (holds_of_same s' HasEnough x p y k.new q e k.now (changed_enough k.old k.new b (Sub m) (Sub n) k.child k.becomes (h p k.old (λ z. ne (q ∙ z)) k.was)))
         | inr np ↦ inl (x, ne, sym (k.others x np nn nm) ∙ e)
       ]
     ]
   ])
 
+-- where a node takes another name, names alone changed
 pub renamed : {P : Type 0} (s s' : Nodes P) (above byte before after : ℕ) → IsTree s → Renames s s' above byte before after → Renamed s s'
 renamed s s' p b n m t k = let r = renamed_is s s' p b n m t k in record { tree = r.0; values = r.1; bytes = renamed_bytes s s' p b n m t k; filled = renamed_filled s s' p b n m t k }
 

@@ -4,7 +4,7 @@ use Rattle.std.specs.Prelude.{None, Some}
 use Rattle.std.specs.FinMap as map
 use Rattle.slab.specs.Slab.{get, Updates}
 use Rattle.congee.specs.Heap.{Nothing, Below, Holds, value_at}
-use Rattle.congee.specs.Ledger.{Linked, Gone}
+use Rattle.congee.specs.Notes.{Linked, Gone}
 use Rattle.congee.specs.forms.Forms.{form_of, prefix_of, children_of, size_of, capacity_of}
 use Rattle.congee.specs.owned.Sizes.{bytes_of, bytes_at}
 use Rattle.congee.specs.owned.Arena.{Nodes, hung_in, node_of, heap_of, ledger_of, IsFilled, IsTree}

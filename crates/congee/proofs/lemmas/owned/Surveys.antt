@@ -8,7 +8,7 @@ use Rattle.std.specs.FinMap as map
 use Rattle.slab.specs.Slab.{get, ContainsKey}
 use Rattle.congee.specs.forms.Bytes.{IsFirst}
 use Rattle.congee.specs.Heap.{Hung, Nothing, Below, Holds}
-use Rattle.congee.specs.Ledger.{IsChild}
+use Rattle.congee.specs.Notes.{IsChild}
 use Rattle.congee.specs.forms.Forms.{form_of, prefix_of, children_of}
 use Rattle.congee.specs.owned.Arena.{Nodes, hung_in, node_of, heap_of, ledger_of, IsTree}
 use Rattle.congee.specs.owned.Stats.{capped, no_nodes, info_at, Counts, Shape, IsTally, root_alone}

@@ -3,7 +3,7 @@ use Rattle.std.proofs.Common.{rules, ◌≡◌, ◌≢◌, ℕ, ◌<◌, ◌≤�
 use Rattle.std.specs.Prelude.{Option, Some, None, is_some, cond, IsSome}
 use Rattle.slab.specs.Slab.{get, ContainsKey}
 use Rattle.congee.specs.Heap.{Below, fits, child_for}
-use Rattle.congee.specs.Ledger.{Linked, Gone, IsChild}
+use Rattle.congee.specs.Notes.{Linked, Gone, IsChild}
 use Rattle.std.specs.FinMap as map
 use Rattle.congee.specs.forms.Forms.{prefix_of, children_of}
 use Rattle.congee.specs.declared.forms.base_node.Node.{Node as Form}

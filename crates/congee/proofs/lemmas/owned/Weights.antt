@@ -6,7 +6,7 @@ use Rattle.std.proofs.lemmas.Bool.{cases_lt}
 use Rattle.std.specs.FinMap as map
 use Rattle.slab.specs.Slab.{get, ContainsKey}
 use Rattle.congee.specs.Heap.{Hung, Nothing, Below, Holds}
-use Rattle.congee.specs.Ledger.{IsChild, HasParent}
+use Rattle.congee.specs.Notes.{IsChild, HasParent}
 use Rattle.congee.specs.forms.Forms.{form_of, children_of, size_of}
 use Rattle.congee.specs.owned.Arena.{Nodes, hung_in, node_of, heap_of, ledger_of, IsTree}
 use Rattle.congee.specs.owned.Levels.{under_byte, under_bytes, with_node, nodes_from, nodes_of}
@@ -40,6 +40,7 @@ passes s x from byte y first h here b c l e = elim (cases_lt b from) [
   ]
 ]
 
+-- a node's name as a child is the one that the tree sees there
 pub below_is : {P : Type 0} (y : Child ℕ P) (below c : ℕ) → y ≡ Sub below → hung_in (Some y) ≡ Below c → below ≡ c
 below_is y below c is e = let z : Below below ≡ Below c = ap (λ k. hung_in (Some k)) (sym is) ∙ e in cc
 

@@ -5,7 +5,7 @@ use Rattle.congee.specs.declared.forms.child.Child.{Child}
 use Rattle.congee.specs.declared.forms.child.Child.TheVariants as child
 use Rattle.congee.specs.declared.protocol.store.Least.{Least}
 use Rattle.congee.specs.declared.protocol.store.Least.TheVariants as least
-use Rattle.congee.specs.declared.protocol.store.Seat.{Seat}
+use Rattle.congee.specs.declared.protocol.store.Stamp.{Stamp}
 use Rattle.congee.specs.declared.protocol.phase.Parent.{Parent}
 use Rattle.congee.specs.declared.protocol.phase.Above.{Above as Over}
 use Rattle.congee.specs.declared.protocol.phase.Site.{Site}
@@ -32,7 +32,7 @@ module _ {C : Type 0} (order order' : List ℕ) (number : C → ℕ) (f : (n c :
   pub named_later : (c : C) (n : ℕ) → Named order number c n → Named order' number c n
   named_later c n x = f n (number c) x
 
-  pub seat_later : (s : Seat C) (u : Seat ℕ) → SeatAlike order number s u → SeatAlike order' number s u
+  pub seat_later : (s : Stamp C) (u : Stamp ℕ) → SeatAlike order number s u → SeatAlike order' number s u
   seat_later s u x = record { node = named_later s.node u.node x.node; version = x.version }
 
   pub parent_later : (p : Parent C) (q : Parent ℕ) → ParentAlike order number p q → ParentAlike order' number p q
@@ -49,7 +49,7 @@ module _ {C : Type 0} (order order' : List ℕ) (number : C → ℕ) (f : (n c :
   above_later None q x = x
   above_later (Some p) q x = (x.0, x.1, over_later p x.0 x.2)
 
-  pub seated_later : (p : Option (Seat C)) (q : Option (Seat ℕ)) → SeatedAlike order number p q → SeatedAlike order' number p q
+  pub seated_later : (p : Option (Stamp C)) (q : Option (Stamp ℕ)) → SeatedAlike order number p q → SeatedAlike order' number p q
   seated_later None q x = x
   seated_later (Some p) q x = (x.0, x.1, seat_later p x.0 x.2)
 
@@ -110,7 +110,7 @@ module _ {C : Type 0} (order order' : List ℕ) (number : C → ℕ) (f : (n c :
 
     module _ (h h' : ℕ → Node V) where
       -- where the lock word is the one that was taken, it was so before
-      abbrev pub Still : Seat C → Type 0
+      abbrev pub Still : Stamp C → Type 0
       Still s = IsTaken order number h' s → IsTaken order number h s
 
       abbrev pub StillAt : Stage C V → Type 0
@@ -123,12 +123,10 @@ module _ {C : Type 0} (order order' : List ℕ) (number : C → ℕ) (f : (n c :
       StillTaken _ = Unit {0}
 
       stage_later : (x : Stage C V) (y : Stage ℕ V) → StillAt x → StageAlike order number h x y → StageAlike order' number h' x y
-      stage_later stage.New y s e = e
       stage_later (stage.Enter c z) y s e = (e.0, e.1, named_later c e.0 e.2)
       stage_later (stage.Look r) y s e = (e.0, e.1, rung_later r e.0 e.2)
       stage_later (stage.Check r x) y s e = (e.0, e.1, e.2, rung_later r e.0 e.3, λ t. least_later x e.1 (e.4 (s t)))
-      stage_later stage.Full y s e = e
-      stage_later stage.Over y s e = e
+      stage_later _ y s e = e
 
       scan_later : (s : Scan C V) (t : Scan ℕ V) → StillAt s.stage → ScanAlike order number h s t → ScanAlike order' number h' s t
       scan_later s t k x = record {

@@ -3,7 +3,7 @@ use Rattle.std.proofs.Common.{◌≡◌, ◌≢◌, ℕ, zero, suc, ◌+◌, ◌
 use Rattle.std.specs.Prelude.{Option, None, Some, slice_get, slice_index}
 use Rattle.std.proofs.lemmas.Bool.{cases_Bool}
 use Rattle.congee.specs.declared.forms.base_node.NodeType.{NodeType}
-use Rattle.congee.specs.declared.forms.base_node.NodeType.TheVariants.{N4, N16, N48, N256}
+use Rattle.congee.specs.declared.forms.base_node.NodeType.TheVariants.{N4}
 use Rattle.congee.specs.declared.forms.child.Child.{Child}
 use Rattle.congee.specs.declared.forms.child.Child.TheVariants as child
 use Rattle.congee.specs.declared.protocol.store.Least.{Least}
@@ -11,7 +11,7 @@ use Rattle.congee.specs.declared.protocol.store.Least.TheVariants as least
 use Rattle.congee.specs.declared.protocol.store.Reading.{Reading}
 use Rattle.congee.specs.declared.protocol.store.Reading.TheVariants.{Differs, Fits, Uncopied}
 use Rattle.congee.specs.declared.protocol.store.Region.{Region}
-use Rattle.congee.specs.declared.protocol.store.Seat.{Seat}
+use Rattle.congee.specs.declared.protocol.store.Stamp.{Stamp}
 use Rattle.congee.specs.declared.protocol.store.Seen.{Seen}
 use Rattle.congee.specs.declared.protocol.phase.Above.{Above as Over}
 use Rattle.congee.specs.declared.protocol.phase.Site.{Site}
@@ -34,6 +34,7 @@ use Rattle.congee.proofs.lemmas.protocol.AlikeTurns.{quiet_alike, again_alike, a
 pub taken_alike : {V : Type 0} (order : List ℕ) (x y : Node V) (v w : ℕ) → NodeAlike order x y → w ≡ v → is_taken y w ≡ is_taken x v
 taken_alike order x y v w e f = rw (e.version, e.locked, e.obsolete, f) refl
 
+-- nodes that are alike on both sides tell the same version
 pub version_same : {V : Type 0} (order : List ℕ) (x y : Node V) → NodeAlike order x y → version_of y ≡ version_of x
 version_same order x y e = rw (e.version, e.locked, e.obsolete) refl
 
@@ -57,9 +58,7 @@ parts_common p key c len x = common_is p key c x.short (let s : c < 7 = x.sevent
 -- the form of a node with the places of a form
 form_back : (f : NodeType) → form_of (places f) ≡ f
 form_back N4 = refl
-form_back N16 = refl
-form_back N48 = refl
-form_back N256 = refl
+form_back _ = refl
 
 told_byte : {V : Type 0} (byte : ℕ) (seen : Option (Seen Mark V)) → (told_of byte seen).byte ≡ byte
 told_byte byte None = refl
@@ -73,7 +72,7 @@ module _ {C V : Type 0} (order : List ℕ) (number : C → ℕ) where
 
   -- what a read finds
   module _ (h g : ℕ → Node V) (root : C) (m : ℕ) (r : Named order number root m) (key : List ℕ) (len : length key ≡ 8) (always : Bool) (above : Option (Over C)) (o : Option (Over ℕ)) (ab : AboveAlike order number above o)
-      (at : Seat C) (a : Seat ℕ) (st : SeatAlike order number at a) (e : NodeAlike order (h (number at.node)) (g a.node)) (seen : Option (Seen Mark V)) where
+      (at : Stamp C) (a : Stamp ℕ) (st : SeatAlike order number at a) (e : NodeAlike order (h (number at.node)) (g a.node)) (seen : Option (Seen Mark V)) where
     abbrev x : Node V
     x = h (number at.node)
 
@@ -202,6 +201,7 @@ front_is base j (b ∷ rest) l s =
     ∙ front_is base (j + 1) rest (omega (arith, l)) (λ i k. ap (λ z. get_or (key_bytes base) z 0) (let z : j + 1 + i ≡ j + suc i = omega arith in z) ∙ s (suc i) (omega (arith, k)))
     ∙ ap (top base) (omega arith)
 
+-- the region of a prefix is the one computed from its bytes
 pub region_is : (p : List ℕ) (x : Region) → IsRegion p x.base x.depth → region_of p ≡ x
 region_is p x k =
     let zero_top : top x.base 0 ≡ 0 = (let s : x.base < 2 ^ 64 = k.small in omega (arith, s)) in

@@ -13,8 +13,8 @@ use Rattle.congee.specs.declared.protocol.sweep.Path.{Path}
 use Rattle.congee.specs.declared.protocol.sweep.Stage.{Stage}
 use Rattle.congee.specs.declared.protocol.sweep.Stage.TheVariants as stage
 use Rattle.congee.specs.declared.protocol.sweep.Sweep.{Sweep as Scan}
-use Rattle.congee.specs.declared.protocol.sweep.Told.{Told}
-use Rattle.congee.specs.declared.protocol.sweep.Told.TheVariants as told
+use Rattle.congee.specs.declared.protocol.sweep.ScanReport.{ScanReport}
+use Rattle.congee.specs.declared.protocol.sweep.ScanReport.TheVariants as told
 use Rattle.congee.specs.Heap.{Node, Stands, version_of, is_taken}
 use Rattle.congee.specs.protocol.Alike.{NodeAlike, HeapAlike, Named, RungAlike, PlaceAlike, LeastAlike, StageAlike, ScanAlike, IsUnrefused}
 use Rattle.congee.specs.protocol.PlainSteps.{Mark, least_of, region_of, followed, swung}
@@ -109,7 +109,7 @@ module _ {C V : Type 0} (order : List ℕ) (number : C → ℕ) (h : ℕ → Nod
     goes_alike : (P' : Path C) (Q' : Path ℕ) (x : Stage C V) (y : Stage ℕ V) → WayAlike P' Q' → StageAlike order number h x y → SwungAlike (goes s P' x) (goes t Q' y)
     goes_alike P' Q' x y a e = record { told = refl; scan = at_alike s Q z s.count P' Q' x y a e }
 
-    over_alike : (o : Told V) → SwungAlike (over s o) (over t o)
+    over_alike : (o : ScanReport V) → SwungAlike (over s o) (over t o)
     over_alike o = record { told = refl; scan = at_alike s Q z s.count s.above Q stage.Over stage.Over w refl }
 
     anew_alike : (root : C) (m : ℕ) → Named order number root m → SwungAlike (anew root s) (anew m t)

@@ -8,7 +8,7 @@ use Rattle.congee.specs.declared.forms.base_node.NodeType.{NodeType}
 use Rattle.congee.specs.declared.forms.base_node.NodeType.TheVariants.{N4}
 use Rattle.congee.specs.declared.protocol.store.Refusal.{Refusal}
 use Rattle.congee.specs.declared.protocol.store.Refusal.TheVariants as refusal
-use Rattle.congee.specs.declared.protocol.store.Seat.{Seat}
+use Rattle.congee.specs.declared.protocol.store.Stamp.{Stamp}
 use Rattle.congee.specs.declared.protocol.store.Seen.{Seen}
 use Rattle.congee.specs.declared.protocol.store.Upgrade.{Upgrade}
 use Rattle.congee.specs.declared.protocol.store.Upgrade.TheVariants.{Locked, Failed, Exhausted}
@@ -22,7 +22,7 @@ use Rattle.congee.specs.declared.protocol.phase.Two.{Two}
 use Rattle.congee.specs.declared.protocol.phase.Plan.TheVariants.{Above}
 use Rattle.congee.specs.declared.protocol.phase.Phase.{Phase}
 use Rattle.congee.specs.declared.protocol.phase.Phase.TheVariants.{New, Version, Read, Check, CheckUncopied, CheckMiss, CheckDown, CheckOld, MakeLeaf, MakeGreater, MakeTop, MakeBeside, MakeLesser, AskOld, AskNew, Confirm, CheckAbove, UpgradeOne, ChangeOne, UpgradeTop, UpgradeAbove, UpgradeBelow, ChangeTwo, Obsolete, Retire, UnlockBelow, Unlock, Unwind, Sweep, Ended}
-use Rattle.congee.specs.declared.protocol.turn.Turn.{Turn}
+use Rattle.congee.specs.declared.protocol.turn.NextPhase.{NextPhase}
 use Rattle.congee.specs.Heap.{Node, Stands, is_taken, version_of}
 use Rattle.congee.specs.protocol.Alike.{Ordered, NodeAlike, HeapAlike, Named, SeatAlike, ParentAlike, TopAlike, MadeAlike, ReadAlike, OneAlike, TwoAlike, PhaseAlike, TurnAlike, IsUnrefused, WentAlike}
 use Rattle.congee.specs.protocol.Events.{upgrade_gives, NewNode}
@@ -44,10 +44,10 @@ length_one (x ∷ xs) c = ap suc (length_one xs c)
 module _ {C V : Type 0} (number : C → ℕ) (same : V → V → Bool) (always : Bool) (most : ℕ) (why : NodeType → Refusal → Type 0) (never : (form : NodeType) → why form refusal.Exhausted → ⊥)
     (order : List ℕ) (h g : ℕ → Node V) (o : Ordered order h) (x : HeapAlike order h g) (k : ℕ) (count : k ≡ length order)
     (root : C) (m : ℕ) (r : Named order number root m) (key : List ℕ) (len : length key ≡ 8) (kind : Kind V) (fail : Bool) (seen : Option (Seen Mark V)) (answer : Option (Option V)) (new : Option V) where
-  abbrev Goal : Option V → Turn C V → (ℕ → Node V) → Went V → Type 0
+  abbrev Goal : Option V → NextPhase C V → (ℕ → Node V) → Went V → Type 0
   Goal new' t h' w = WentAlike order number h' new' t w
 
-  paired : (h' g' : ℕ → Node V) (new' own : Option V) (t : Turn C V) (u : Turn ℕ V) → Pair order h h' g' → new' ≡ own → TurnAlike order number h' t u → Goal new' t h' (went own u g' k)
+  paired : (h' g' : ℕ → Node V) (new' own : Option V) (t : NextPhase C V) (u : NextPhase ℕ V) → Pair order h h' g' → new' ≡ own → TurnAlike order number h' t u → Goal new' t h' (went own u g' k)
   paired h' g' new' own t u p e a = record {
     now = order;
     longer = ([], sym (append-nil order));
@@ -58,14 +58,14 @@ module _ {C V : Type 0} (number : C → ℕ) (same : V → V → Bool) (always :
     heap = p.alike;
   }
 
-  still : (h' : ℕ → Node V) (new' own : Option V) (t : Turn C V) (u : Turn ℕ V) → h' ≡ h → new' ≡ own → TurnAlike order number h' t u → Goal new' t h' (went own u g k)
+  still : (h' : ℕ → Node V) (new' own : Option V) (t : NextPhase C V) (u : NextPhase ℕ V) → h' ≡ h → new' ≡ own → TurnAlike order number h' t u → Goal new' t h' (went own u g k)
   still h' new' own t u e f a = paired h' g new' own t u (pair_same order h h' g e x) f a
 
   node : (c : C) (n : ℕ) → Named order number c n → Stands (h (number c)) → NodeAlike order (h (number c)) (g n)
   node c n e s = x n (number c) e s
 
   -- a check
-  passed : (h' : ℕ → Node V) (at : Seat C) (a : Seat ℕ) (Then : Turn C V → Type 0) (t : Turn C V) (u : Turn ℕ V) → SeatAlike order number at a → Stands (h (number at.node)) → IsIf (is_taken (h (number at.node)) at.version) root Then t
+  passed : (h' : ℕ → Node V) (at : Stamp C) (a : Stamp ℕ) (Then : NextPhase C V → Type 0) (t : NextPhase C V) (u : NextPhase ℕ V) → SeatAlike order number at a → Stands (h (number at.node)) → IsIf (is_taken (h (number at.node)) at.version) root Then t
       → (is_taken (h (number at.node)) at.version ≡ true → Then t → TurnAlike order number h' t u) → TurnAlike order number h' t (passes g a m u)
   passed h' at a Then t u e s i f =
       let same_word : is_taken (g a.node) a.version ≡ is_taken (h (number at.node)) at.version = taken_alike order (h (number at.node)) (g a.node) at.version a.version (node at.node a.node e.node s) e.version in
@@ -75,7 +75,7 @@ module _ {C V : Type 0} (number : C → ℕ) (same : V → V → Bool) (always :
       ]
 
   -- a node is made
-  module _ (c : C) (form : NodeType) (size : ℕ) (h' : ℕ → Node V) (new' : Option V) (t : Turn C V) (u : ℕ → Turn ℕ V) (made : NewNode h (number c) form key size h') (e : new' ≡ new) where
+  module _ (c : C) (form : NodeType) (size : ℕ) (h' : ℕ → Node V) (new' : Option V) (t : NextPhase C V) (u : ℕ → NextPhase ℕ V) (made : NewNode h (number c) form key size h') (e : new' ≡ new) where
     abbrev now : List ℕ
     now = order ++ number c ∷ []
 
@@ -99,19 +99,19 @@ module _ {C V : Type 0} (number : C → ℕ) (same : V → V → Bool) (always :
         }
 
   -- a copy that failed would have been told
-  uncounted : (t : Turn C V) → IsUnrefused t.report.outcome → t ≡ refused refusal.Count → ⊥
+  uncounted : (t : NextPhase C V) → IsUnrefused t.report.outcome → t ≡ refused refusal.Count → ⊥
   uncounted t un e =
-      let z : refusal.Count ≡ refusal.Exhausted = un refusal.Count (ap (λ (w : Turn C V). w.report.outcome) e) in
+      let z : refusal.Count ≡ refusal.Exhausted = un refusal.Count (ap (λ (w : NextPhase C V). w.report.outcome) e) in
       cc
 
   -- none was
-  unmade : (form : NodeType) (e : Refusal) (t : Turn C V) → IsUnrefused t.report.outcome → t ≡ refused e → why form e → ⊥
+  unmade : (form : NodeType) (e : Refusal) (t : NextPhase C V) → IsUnrefused t.report.outcome → t ≡ refused e → why form e → ⊥
   unmade form e t un q w =
       let z : e ≡ refusal.Exhausted = un e (ap (λ y. y.report.outcome) q) in
       let P : Refusal → Type 0 = λ y. why form y in
       never form (subst P z w)
 
-  leaf_made : (s : Site C) (u : Site ℕ) (h' : ℕ → Node V) (new' : Option V) (t : Turn C V) (y : Result C Refusal) → ReadAlike order number s u → u.full ≡ s.full → IsUnrefused t.report.outcome → new' ≡ new
+  leaf_made : (s : Site C) (u : Site ℕ) (h' : ℕ → Node V) (new' : Option V) (t : NextPhase C V) (y : Result C Refusal) → ReadAlike order number s u → u.full ≡ s.full → IsUnrefused t.report.outcome → new' ≡ new
       → MadeLeaf number kind s h key y h' t → IfErr y (why N4) → Goal new' t h' (making N4 key MAX_PREFIX_LEN new g k (λ leaf. unless_full kind u u.full u.above (Some leaf) (Link leaf)))
   leaf_made s u h' new' t (Ok c) a f un e i w =
       let now : List ℕ = order ++ number c ∷ [] in
@@ -123,11 +123,11 @@ module _ {C V : Type 0} (number : C → ℕ) (same : V → V → Bool) (always :
       (k, refl, named c N4 MAX_PREFIX_LEN h' new' t (λ leaf. unless_full kind u u.full u.above (Some leaf) (Link leaf)) i.0 e) (k, refl, named c N4 MAX_PREFIX_LEN h' new' t (λ leaf. unless_full kind u u.full u.above (Some leaf) (Link leaf)) i.0 e))))
   leaf_made s u h' new' t (Err z) a f un e i w = absurd (unmade N4 z t un i.1 w)
 
-  greater_made : (s : Site C) (p : Parent C) (leaf : Option C) (u : Site ℕ) (q : Parent ℕ) (l : Option ℕ) (h' : ℕ → Node V) (new' : Option V) (t : Turn C V) (y : Result C Refusal) → ReadAlike order number s u → ParentAlike order number p q → MadeAlike order number leaf l
+  greater_made : (s : Site C) (p : Parent C) (leaf : Option C) (u : Site ℕ) (q : Parent ℕ) (l : Option ℕ) (h' : ℕ → Node V) (new' : Option V) (t : NextPhase C V) (y : Result C Refusal) → ReadAlike order number s u → ParentAlike order number p q → MadeAlike order number leaf l
       → IsUnrefused t.report.outcome → new' ≡ new → MadeGreater number kind s p leaf h key y h' t → IfErr y (why (form_above s.count))
       → Goal new' t h' (making (form_above u.count) key u.depth new g k (λ c. ready kind (Above (both q u (greater u l c)))))
   greater_made s p leaf u q l h' new' t (Ok c) a b d un e i w =
-      let w' : ℕ → Turn ℕ V = λ z. ready kind (Above (both q u (greater u l z))) in
+      let w' : ℕ → NextPhase ℕ V = λ z. ready kind (Above (both q u (greater u l z))) in
       let P : ℕ → Type 0 = λ z. Goal new' t h' (making (form_above z) key u.depth new g k (λ c. ready kind (Above (both q u (greater u l c))))) in
       let Q : ℕ → Type 0 = λ z. Goal new' t h' (making (form_above s.count) key z new g k (λ c. ready kind (Above (both q u (greater u l c))))) in
       let f = later c (form_above s.count) s.depth h' new' t (λ c. ready kind (Above (both q u (greater u l c)))) i.0 e in
@@ -146,7 +146,7 @@ module _ {C V : Type 0} (number : C → ℕ) (same : V → V → Bool) (always :
       )))))
   greater_made s p leaf u q l h' new' t (Err z) a b d un e i w = absurd (unmade (form_above s.count) z t un i.1 w)
 
-  top_made : (p : Parent C) (at : Seat C) (common byte : ℕ) (q : Parent ℕ) (a : Seat ℕ) (h' : ℕ → Node V) (new' : Option V) (t : Turn C V) (y : Result C Refusal) → ParentAlike order number p q → SeatAlike order number at a
+  top_made : (p : Parent C) (at : Stamp C) (common byte : ℕ) (q : Parent ℕ) (a : Stamp ℕ) (h' : ℕ → Node V) (new' : Option V) (t : NextPhase C V) (y : Result C Refusal) → ParentAlike order number p q → SeatAlike order number at a
       → IsUnrefused t.report.outcome → new' ≡ new → MadeTop number p at common byte h key y h' t → IfErr y (why N4) → Goal new' t h' (making N4 key common new g k (λ top. quiet (MakeBeside q a common byte top)))
   top_made p at common byte q a h' new' t (Ok c) b d un e i w =
       let f = later c N4 common h' new' t (λ top. quiet (MakeBeside q a common byte top)) i.0 e in
@@ -156,7 +156,7 @@ module _ {C V : Type 0} (number : C → ℕ) (same : V → V → Bool) (always :
       (q, a, k, refl, parent_later order (order ++ number c ∷ []) number f p q b, seat_later order (order ++ number c ∷ []) number f at a d, named c N4 common h' new' t (λ top. quiet (MakeBeside q a common byte top)) i.0 e)))
   top_made p at common byte q a h' new' t (Err z) b d un e i w = absurd (unmade N4 z t un i.1 w)
 
-  beside_made : (p : Parent C) (at : Seat C) (common byte : ℕ) (top : C) (q : Parent ℕ) (a : Seat ℕ) (n : ℕ) (h' : ℕ → Node V) (new' : Option V) (t : Turn C V) (y : Result C Refusal) → ParentAlike order number p q → SeatAlike order number at a → Named order number top n
+  beside_made : (p : Parent C) (at : Stamp C) (common byte : ℕ) (top : C) (q : Parent ℕ) (a : Stamp ℕ) (n : ℕ) (h' : ℕ → Node V) (new' : Option V) (t : NextPhase C V) (y : Result C Refusal) → ParentAlike order number p q → SeatAlike order number at a → Named order number top n
       → IsUnrefused t.report.outcome → new' ≡ new → MadeBeside number kind p at common byte top h key y h' t → IfErr y (why N4)
       → Goal new' t h' (making N4 key MAX_PREFIX_LEN new g k (λ leaf. ready kind (Above (record { top = None; above = q; at = a; change = Split n leaf common byte }))))
   beside_made p at common byte top q a n h' new' t (Ok c) b d nm un e i w =
@@ -176,15 +176,15 @@ module _ {C V : Type 0} (number : C → ℕ) (same : V → V → Bool) (always :
   beside_made p at common byte top q a n h' new' t (Err z) b d nm un e i w = absurd (unmade N4 z t un i.1 w)
 
   -- one that wasn't made would have been told too
-  unskipped : (p : Phase C V) (t : Turn C V) → t.report.skipped ≡ false → t ≡ skipping p → ⊥
-  unskipped p t sk e = let z : true ≡ false = sym (ap (λ (w : Turn C V). w.report.skipped) e) ∙ sk in cc
+  unskipped : (p : Phase C V) (t : NextPhase C V) → t.report.skipped ≡ false → t ≡ skipping p → ⊥
+  unskipped p t sk e = let z : true ≡ false = sym (ap (λ (w : NextPhase C V). w.report.skipped) e) ∙ sk in cc
 
-  lesser_made : (s : Site C) (p : Parent C) (top : Option (Parent C)) (u : Site ℕ) (q : Parent ℕ) (l : Option (Parent ℕ)) (y : Reply V) (h' : ℕ → Node V) (new' : Option V) (t : Turn C V) (z : Result C Refusal)
+  lesser_made : (s : Site C) (p : Parent C) (top : Option (Parent C)) (u : Site ℕ) (q : Parent ℕ) (l : Option (Parent ℕ)) (y : Reply V) (h' : ℕ → Node V) (new' : Option V) (t : NextPhase C V) (z : Result C Refusal)
       → ReadAlike order number s u → ParentAlike order number p q → TopAlike order number top l → t.report.skipped ≡ false → new' ≡ new → MadeLesser number s p top y h key z h' t → Goal new' t h' (made_lesser key new g k u q l y)
   lesser_made s p None u q l y h' new' t (Err z) a b d sk e i = absurd (unskipped (UpgradeOne (set_at s) y) t sk i.1)
   lesser_made s p (Some top) u q l y h' new' t (Err z) a b d sk e i = absurd (unskipped (UpgradeAbove (both p s Unlink) y) t sk i.1)
   lesser_made s p None u q l y h' new' t (Ok c) a b d sk e i =
-      let w : ℕ → Turn ℕ V = λ n. quiet (UpgradeAbove (both q u (Shrink n)) y) in
+      let w : ℕ → NextPhase ℕ V = λ n. quiet (UpgradeAbove (both q u (Shrink n)) y) in
       let L : Option (Parent ℕ) → Type 0 = λ z. Goal new' t h' (made_lesser key new g k u q z y) in
       let P : NodeType → Type 0 = λ z. Goal new' t h' (making (form_below z) key u.depth new g k (λ n. quiet (UpgradeAbove (both q u (Shrink n)) y))) in
       let Q : ℕ → Type 0 = λ z. Goal new' t h' (making (form_below s.form) key z new g k (λ n. quiet (UpgradeAbove (both q u (Shrink n)) y))) in
@@ -229,7 +229,7 @@ module _ {C V : Type 0} (number : C → ℕ) (same : V → V → Bool) (always :
       let z : NodeAlike order (h (number c)) (g n) = node c n e s in
       rw (z.version, z.locked, z.obsolete, f) refl
 
-  one_upgraded : (one : One C) (u : One ℕ) (y : Reply V) (h' : ℕ → Node V) (new' : Option V) (t : Turn C V) (a : Upgrade) → OneAlike order number one u → Stands (h (number one.at.node)) → MayBackOne number h one.change → new' ≡ new
+  one_upgraded : (one : One C) (u : One ℕ) (y : Reply V) (h' : ℕ → Node V) (new' : Option V) (t : NextPhase C V) (a : Upgrade) → OneAlike order number one u → Stands (h (number one.at.node)) → MayBackOne number h one.change → new' ≡ new
       → UpgradedOne number root one y h a h' t → Goal new' t h' (upgraded_one m new g k u y a)
   one_upgraded one u y h' new' t Locked z s may e i =
       paired h' (lock g u.at.node) new' new t (quiet (ChangeOne u y)) (pair_locked order h g o x (number one.at.node) u.at.node h' z.at.node s i.0) e
@@ -239,7 +239,7 @@ module _ {C V : Type 0} (number : C → ℕ) (same : V → V → Bool) (always :
   one_upgraded one u y h' new' t Exhausted z s may e i =
       paired h' (back_one u.change g) new' new t (refused refusal.Exhausted) (back_one_pair order number h g o x h' one.change u.change z.change may i.0) e (alike_at order number h' t _ _ i.1 (refused_alike order number h' refusal.Exhausted))
 
-  above_upgraded : (two : Two C) (u : Two ℕ) (y : Reply V) (h' : ℕ → Node V) (new' : Option V) (t : Turn C V) (a : Upgrade) → TwoAlike order number two u → Stands (h (number two.above.seat.node)) → MayBackTwo number h two.change → new' ≡ new
+  above_upgraded : (two : Two C) (u : Two ℕ) (y : Reply V) (h' : ℕ → Node V) (new' : Option V) (t : NextPhase C V) (a : Upgrade) → TwoAlike order number two u → Stands (h (number two.above.seat.node)) → MayBackTwo number h two.change → new' ≡ new
       → UpgradedAbove number root two y h a h' t → Goal new' t h' (upgraded_above m new g k u y a)
   above_upgraded two u y h' new' t Locked z s may e i =
       paired h' (lock g u.above.seat.node) new' new t (quiet (UpgradeBelow u y)) (pair_locked order h g o x (number two.above.seat.node) u.above.seat.node h' z.above.seat.node s i.0) e
@@ -250,7 +250,7 @@ module _ {C V : Type 0} (number : C → ℕ) (same : V → V → Bool) (always :
       paired h' (back_two u.change g) new' new t (given_up m u.top (Some refusal.Exhausted)) (back_two_pair order number h g o x h' two.change u.change z.change may i.0) e
       (alike_at order number h' t _ _ i.1 (given_up_alike order number h' root m two.top u.top (Some refusal.Exhausted) r z.top))
 
-  top_upgraded : (top : Parent C) (q : Parent ℕ) (two : Two C) (u : Two ℕ) (y : Reply V) (h' : ℕ → Node V) (new' : Option V) (t : Turn C V) (a : Upgrade) → ParentAlike order number top q → TwoAlike order number two u → Stands (h (number top.seat.node)) → MayBackTwo number h two.change → new' ≡ new
+  top_upgraded : (top : Parent C) (q : Parent ℕ) (two : Two C) (u : Two ℕ) (y : Reply V) (h' : ℕ → Node V) (new' : Option V) (t : NextPhase C V) (a : Upgrade) → ParentAlike order number top q → TwoAlike order number two u → Stands (h (number top.seat.node)) → MayBackTwo number h two.change → new' ≡ new
       → UpgradedTop number root top two y h a h' t → Goal new' t h' (upgraded_top m new g k q u y a)
   top_upgraded top q two u y h' new' t Locked b z s may e i =
       paired h' (lock g q.seat.node) new' new t (quiet (UpgradeAbove (record u { top = Some q }) y)) (pair_locked order h g o x (number top.seat.node) q.seat.node h' b.seat.node s i.0) e
@@ -261,7 +261,7 @@ module _ {C V : Type 0} (number : C → ℕ) (same : V → V → Bool) (always :
   top_upgraded top q two u y h' new' t Exhausted b z s may e i =
       paired h' (back_two u.change g) new' new t (refused refusal.Exhausted) (back_two_pair order number h g o x h' two.change u.change z.change may i.0) e (alike_at order number h' t _ _ i.1 (refused_alike order number h' refusal.Exhausted))
 
-  below_upgraded : (two : Two C) (u : Two ℕ) (y : Reply V) (h' : ℕ → Node V) (new' : Option V) (t : Turn C V) (a : Upgrade) → TwoAlike order number two u → Stands (h (number two.at.node)) → MayBackTwo number h two.change → new' ≡ new
+  below_upgraded : (two : Two C) (u : Two ℕ) (y : Reply V) (h' : ℕ → Node V) (new' : Option V) (t : NextPhase C V) (a : Upgrade) → TwoAlike order number two u → Stands (h (number two.at.node)) → MayBackTwo number h two.change → new' ≡ new
       → UpgradedBelow number two y h a h' t → Goal new' t h' (upgraded_below new g k u y a)
   below_upgraded two u y h' new' t Locked z s may e i =
       paired h' (lock g u.at.node) new' new t (quiet (ChangeTwo u y)) (pair_locked order h g o x (number two.at.node) u.at.node h' z.at.node s i.0) e
@@ -275,7 +275,7 @@ module _ {C V : Type 0} (number : C → ℕ) (same : V → V → Bool) (always :
       (alike_at order number h' t _ _ i.1 (quiet_alike order number h' (Unwind two.above.seat.node (node_of two.top) (Some refusal.Exhausted)) (Unwind u.above.seat.node (node_of u.top) (Some refusal.Exhausted))
       (u.above.seat.node, node_of u.top, refl, z.above.seat.node, node_alike order number h' two.top u.top z.top)))
 
-  above_passed : (p : Seat C) (q : Seat ℕ) (one : One C) (u : One ℕ) (y : Reply V) (h' : ℕ → Node V) (new' : Option V) (t : Turn C V) → SeatAlike order number p q → OneAlike order number one u → Stands (h (number p.node)) → MayBackOne number h one.change → new' ≡ new
+  above_passed : (p : Stamp C) (q : Stamp ℕ) (one : One C) (u : One ℕ) (y : Reply V) (h' : ℕ → Node V) (new' : Option V) (t : NextPhase C V) → SeatAlike order number p q → OneAlike order number one u → Stands (h (number p.node)) → MayBackOne number h one.change → new' ≡ new
       → IsCheckedAbove number root p one y h h' t → Goal new' t h' (passed_above (is_taken (g q.node) q.version) m new g k u y)
   above_passed p q one u y h' new' t a z s may e i =
       let same_word : is_taken (g q.node) q.version ≡ is_taken (h (number p.node)) p.version = taken_alike order (h (number p.node)) (g q.node) p.version q.version (node p.node q.node a.node s) a.version in
@@ -289,7 +289,7 @@ module _ {C V : Type 0} (number : C → ℕ) (same : V → V → Bool) (always :
   steps q = phase_step same most m key kind fail seen answer new q g k
 
   -- the step of a phase
-  pub phase_alike : (p : Phase C V) (q : Phase ℕ V) (h' : ℕ → Node V) (new' : Option V) (t : Turn C V) → PhaseAlike order number h p q → MayStep number root key new p h → HoldsRight number h p → IsUnrefused t.report.outcome → t.report.skipped ≡ false
+  pub phase_alike : (p : Phase C V) (q : Phase ℕ V) (h' : ℕ → Node V) (new' : Option V) (t : NextPhase C V) → PhaseAlike order number h p q → MayStep number root key new p h → HoldsRight number h p → IsUnrefused t.report.outcome → t.report.skipped ≡ false
       → PhaseStepped number same always most why root key kind fail answer new p h new' t h' → Goal new' t h' (steps q)
   phase_alike New q h' new' t e may holds un sk i =
       let P : Phase ℕ V → Type 0 = λ z. Goal new' t h' (steps z) in
@@ -309,13 +309,13 @@ module _ {C V : Type 0} (number : C → ℕ) (same : V → V → Bool) (always :
       subst P (sym e.2) (still h' new' new t _ i.0 i.1 (passed h' s.at e.0.at (IsChecked always same kind new s c) t (checked same kind new e.0 e.1) e.3.at may i.2 (λ y z. checked_alike order number h' always same kind new s c e.0 e.1 t e.3 (e.4 y) un z)))
   phase_alike (CheckUncopied at) q h' new' t e may holds un sk i =
       let P : Phase ℕ V → Type 0 = λ z. Goal new' t h' (steps z) in
-      subst P (sym e.2) (still h' new' new t _ i.0 i.1 (passed h' at e.0.at (λ (w : Turn C V). w ≡ refused refusal.Count) t (checked same kind new e.0 e.1) e.3 may i.2 (λ y z. absurd (uncounted t un z))))
+      subst P (sym e.2) (still h' new' new t _ i.0 i.1 (passed h' at e.0.at (λ (w : NextPhase C V). w ≡ refused refusal.Count) t (checked same kind new e.0 e.1) e.3 may i.2 (λ y z. absurd (uncounted t un z))))
   phase_alike (CheckMiss p at common byte) q h' new' t e may holds un sk i =
       let P : Phase ℕ V → Type 0 = λ z. Goal new' t h' (steps z) in
-      subst P (sym e.2) (still h' new' new t _ i.0 i.1 (passed h' p.seat e.0.seat (λ (w : Turn C V). w ≡ after_miss kind p at common byte) t (after_miss kind e.0 e.1 common byte) e.3.seat may i.2 (λ y z. alike_at order number h' t _ _ z (miss_alike order number h' kind p e.0 at e.1 common byte e.3 e.4))))
+      subst P (sym e.2) (still h' new' new t _ i.0 i.1 (passed h' p.seat e.0.seat (λ (w : NextPhase C V). w ≡ after_miss kind p at common byte) t (after_miss kind e.0 e.1 common byte) e.3.seat may i.2 (λ y z. alike_at order number h' t _ _ z (miss_alike order number h' kind p e.0 at e.1 common byte e.3 e.4))))
   phase_alike (CheckDown p at c) q h' new' t e may holds un sk i =
       let P : Phase ℕ V → Type 0 = λ z. Goal new' t h' (steps z) in
-      subst P (sym e.3) (still h' new' new t _ i.0 i.1 (passed h' p e.0 (λ (w : Turn C V). w ≡ quiet (Version (Some at) c)) t (quiet (Version (Some e.1) e.2)) e.4 may i.2
+      subst P (sym e.3) (still h' new' new t _ i.0 i.1 (passed h' p e.0 (λ (w : NextPhase C V). w ≡ quiet (Version (Some at) c)) t (quiet (Version (Some e.1) e.2)) e.4 may i.2
       (λ y z. alike_at order number h' t _ _ z (quiet_alike order number h' (Version (Some at) c) (Version (Some e.1) e.2) (Some e.1, e.2, refl, (e.1, refl, e.5), e.6)))))
   phase_alike (CheckOld p s v) q h' new' t e may holds un sk i =
       let P : Phase ℕ V → Type 0 = λ z. Goal new' t h' (steps z) in
@@ -345,7 +345,7 @@ module _ {C V : Type 0} (number : C → ℕ) (same : V → V → Bool) (always :
       subst P (sym e.1) (still h' new' _ t _ i.0 (sym a.given) a.turn)
   phase_alike (Confirm at y) q h' new' t e may holds un sk i =
       let P : Phase ℕ V → Type 0 = λ z. Goal new' t h' (steps z) in
-      subst P (sym e.1) (still h' new' new t _ i.0 i.1 (passed h' at e.0 (λ (w : Turn C V). w ≡ answered y) t (answered y) e.2 may i.2 (λ w z. alike_at order number h' t _ _ z (answered_alike order number h' y))))
+      subst P (sym e.1) (still h' new' new t _ i.0 i.1 (passed h' at e.0 (λ (w : NextPhase C V). w ≡ answered y) t (answered y) e.2 may i.2 (λ w z. alike_at order number h' t _ _ z (answered_alike order number h' y))))
   phase_alike (CheckAbove p one y) q h' new' t e may holds un sk i =
       let P : Phase ℕ V → Type 0 = λ z. Goal new' t h' (steps z) in
       subst P (sym e.2) (above_passed p e.0 one e.1 y h' new' t e.3 e.4 may.0 may.1 i.0 i.1)
@@ -394,7 +394,7 @@ module _ {C V : Type 0} (number : C → ℕ) (same : V → V → Bool) (always :
   phase_alike (Sweep s) q h' new' t e may holds un sk i =
       let P : Phase ℕ V → Type 0 = λ z. Goal new' t h' (steps z) in
       let Q : (ℕ → Node V) → Type 0 = λ z. TurnAlike order number z t (swept (swung m seen g e.0 e.0.stage).0 (swung m seen g e.0 e.0.stage).1) in
-      let R : Turn C V → Type 0 = λ z. IsUnrefused z.report.outcome in
+      let R : NextPhase C V → Type 0 = λ z. IsUnrefused z.report.outcome in
       let a : SwungAlike order number h (i.2.0, i.2.1) (swung m seen g e.0 e.0.stage) = swung_alike order number h g x always root m r seen s e.0 (i.2.0, i.2.1) e.2 may (subst R i.2.3 un) i.2.2 in
       subst P (sym e.1) (still h' new' new t _ i.0 i.1 (subst Q (sym i.0) (alike_at order number h t _ _ i.2.3 (record {
         report = ap (λ y. record { decided = false; skipped = false; outcome = outcome_of y }) a.told;

@@ -9,7 +9,7 @@ use Rattle.congee.specs.declared.forms.child.Child.{Child}
 use Rattle.congee.specs.declared.forms.child.Child.TheVariants as child
 use Rattle.congee.specs.declared.protocol.store.Refusal.{Refusal}
 use Rattle.congee.specs.declared.protocol.store.Refusal.TheVariants as refusal
-use Rattle.congee.specs.declared.protocol.store.Seat.{Seat}
+use Rattle.congee.specs.declared.protocol.store.Stamp.{Stamp}
 use Rattle.congee.specs.declared.protocol.phase.Kind.{Kind}
 use Rattle.congee.specs.declared.protocol.phase.Kind.TheVariants.{Get, Insert, Remove, ComputePresent, ComputeInsert, Exchange}
 use Rattle.congee.specs.declared.protocol.phase.Parent.{Parent}
@@ -24,7 +24,7 @@ use Rattle.congee.specs.declared.protocol.phase.Plan.{Plan}
 use Rattle.congee.specs.declared.protocol.phase.Plan.TheVariants.{Here, Above}
 use Rattle.congee.specs.declared.protocol.phase.Phase.{Phase}
 use Rattle.congee.specs.declared.protocol.phase.Phase.TheVariants.{Version, Read, CheckDown, CheckOld, MakeLeaf, MakeGreater, MakeTop, MakeLesser, AskOld, AskNew, Confirm, CheckAbove, UpgradeOne, UpgradeTop, UpgradeAbove, Obsolete, UnlockBelow, Unlock, Unwind}
-use Rattle.congee.specs.declared.protocol.turn.Turn.{Turn}
+use Rattle.congee.specs.declared.protocol.turn.NextPhase.{NextPhase}
 use Rattle.congee.specs.Heap.{Node}
 use Rattle.congee.specs.protocol.Alike.{Named, SeatAlike, ParentAlike, TopAlike, OverAlike, AboveAlike, SeatedAlike, MadeAlike, SiteAlike, ReadAlike, SingleAlike, DoubleAlike, TwoAlike, PlanAlike, SeesAlike, PhaseAlike, TurnAlike, IsUnrefused}
 use Rattle.congee.specs.protocol.Steps.{shrinks, here_of, near_of, node_of, below, set_at, both, last_out, after_top, after_retire, after_unwind, given_up, quiet, again, answered, finished, refused, decided, asking, adds, asks_new, absent_reply, after_version, down, started, ready, seat_above, plan_here, unless_full, missing, absent, CopyFailed, IsAsked, replaced, taken_out, emptied, is_same, IsAtOld, IsAdded, IsExchanged, IsCompared, IsPresent, IsChecked, after_miss, IsGiven, IsGivenNew, greater, after_change, unwound}
@@ -32,7 +32,7 @@ use Rattle.congee.specs.protocol.PlainSteps.{asked, at_old, added, exchanged, pr
 use Rattle.congee.specs.declared.forms.prefix.TheConstants.{MAX_PREFIX_LEN}
 
 module _ {C V : Type 0} (order : List ℕ) (number : C → ℕ) (h : ℕ → Node V) where
-  abbrev pub Alike : Turn C V → Turn ℕ V → Type 0
+  abbrev pub Alike : NextPhase C V → NextPhase ℕ V → Type 0
   Alike t u = TurnAlike order number h t u
 
   pub quiet_alike : (p : Phase C V) (q : Phase ℕ V) → PhaseAlike order number h p q → Alike (quiet p) (quiet q)
@@ -54,11 +54,11 @@ module _ {C V : Type 0} (order : List ℕ) (number : C → ℕ) (h : ℕ → Nod
   refused_alike e = record { report = refl; phase = refl }
 
   -- one side's turn by another name
-  pub alike_at : (t s : Turn C V) (u : Turn ℕ V) → t ≡ s → Alike s u → Alike t u
-  alike_at t s u e x = let P : Turn C V → Type 0 = λ z. Alike z u in subst P (sym e) x
+  pub alike_at : (t s : NextPhase C V) (u : NextPhase ℕ V) → t ≡ s → Alike s u → Alike t u
+  alike_at t s u e x = let P : NextPhase C V → Type 0 = λ z. Alike z u in subst P (sym e) x
 
-  pub alike_to : (t : Turn C V) (u w : Turn ℕ V) → w ≡ u → Alike t u → Alike t w
-  alike_to t u w e x = let P : Turn ℕ V → Type 0 = λ z. Alike t z in subst P (sym e) x
+  pub alike_to : (t : NextPhase C V) (u w : NextPhase ℕ V) → w ≡ u → Alike t u → Alike t w
+  alike_to t u w e x = let P : NextPhase ℕ V → Type 0 = λ z. Alike t z in subst P (sym e) x
 
   pub again_alike : (root : C) (n : ℕ) → Named order number root n → Alike (again root) (again n)
   again_alike root n x = quiet_alike (Version None root) (Version None n) (None, n, refl, refl, x)
@@ -124,7 +124,7 @@ module _ {C V : Type 0} (order : List ℕ) (number : C → ℕ) (h : ℕ → Nod
   missing_alike kind s u x f =
       alike_to (missing kind s) (by_depth (s.depth == MAX_PREFIX_LEN) s.full) (missing kind u) (ap (λ z. by_depth (z == MAX_PREFIX_LEN) u.full) x.site.depth ∙ ap (λ z. by_depth (s.depth == MAX_PREFIX_LEN) z) f) (each (s.depth == MAX_PREFIX_LEN))
     where
-      by_depth : Bool → Bool → Turn ℕ V
+      by_depth : Bool → Bool → NextPhase ℕ V
       by_depth b full = cond b (unless_full kind u full u.above None Set) (quiet (MakeLeaf u))
 
       each : (b : Bool) → Alike (cond b (unless_full kind s s.full s.above None Set) (quiet (MakeLeaf s))) (cond b (unless_full kind u s.full u.above None Set) (quiet (MakeLeaf u)))
@@ -142,7 +142,7 @@ module _ {C V : Type 0} (order : List ℕ) (number : C → ℕ) (h : ℕ → Nod
   set_alike s u r x = quiet_alike (UpgradeOne (record { at = s.at; byte = s.byte; change = Set }) r) (UpgradeOne (record { at = u.at; byte = u.byte; change = Set }) r)
       (record { at = u.at; byte = u.byte; change = Set }, refl, record { at = x.at; byte = x.byte; change = refl })
 
-  confirm_alike : (at : Seat C) (a : Seat ℕ) (r : Reply V) → SeatAlike order number at a → Alike (quiet (Confirm at r)) (quiet (Confirm a r))
+  confirm_alike : (at : Stamp C) (a : Stamp ℕ) (r : Reply V) → SeatAlike order number at a → Alike (quiet (Confirm at r)) (quiet (Confirm a r))
   confirm_alike at a r x = quiet_alike (Confirm at r) (Confirm a r) (a, refl, x)
 
   pub replaced_alike : (s : Site C) (u : Site ℕ) (b : Bool) (r : Reply V) → SiteAlike order number s u → Alike (replaced s b r) (replaced u b r)
@@ -160,7 +160,7 @@ module _ {C V : Type 0} (order : List ℕ) (number : C → ℕ) (h : ℕ → Nod
       alike_to _ (last_out u q (Some a.0) r) _ (ap (λ z. last_out u q z r) a.1)
       (alike_to _ (by_read p.count p.form) _ (ap (λ z. by_read z q.form) y.count ∙ ap (λ z. by_read p.count z) y.form) (each (p.count == 2) (ltb 2 p.count && shrinks p.form p.count)))
     where
-      by_read : ℕ → NodeType → Turn ℕ V
+      by_read : ℕ → NodeType → NextPhase ℕ V
       by_read n f = cond (n == 2) (quiet (UpgradeTop a.0 (both q u Collapse) r)) (cond (ltb 2 n && shrinks f n) (quiet (MakeLesser u q (Some a.0) r)) (quiet (UpgradeAbove (both q u Unlink) r)))
 
       each : (b c : Bool) → Alike (cond b (quiet (UpgradeTop top (both p s Collapse) r)) (cond c (quiet (MakeLesser s p (Some top) r)) (quiet (UpgradeAbove (both p s Unlink) r))))
@@ -175,7 +175,7 @@ module _ {C V : Type 0} (order : List ℕ) (number : C → ℕ) (h : ℕ → Nod
       alike_to _ (taken_out u (Some a.0) r) (taken_out u o r) (ap (λ z. taken_out u z r) a.1)
       (alike_to _ (by_read s.count s.form) _ (ap (λ z. by_read z u.form) x.count ∙ ap (λ z. by_read s.count z) x.site.form) (each (s.count == 1) (shrinks s.form s.count)))
     where
-      by_read : ℕ → NodeType → Turn ℕ V
+      by_read : ℕ → NodeType → NextPhase ℕ V
       by_read n f = cond (n == 1) (last_out u a.0.near a.0.far r) (cond (shrinks f n) (quiet (MakeLesser u a.0.near None r)) (quiet (UpgradeOne (set_at u) r)))
 
       each : (b c : Bool) → Alike (cond b (last_out s w.near w.far r) (cond c (quiet (MakeLesser s w.near None r)) (quiet (UpgradeOne (set_at s) r))))
@@ -188,43 +188,39 @@ module _ {C V : Type 0} (order : List ℕ) (number : C → ℕ) (h : ℕ → Nod
   emptied_alike s u r x = taken_alike s u s.above u.above r x x.site.above
 
   -- no copy failed
-  copied : (always : Bool) (t : Turn C V) → IsUnrefused t.report.outcome → CopyFailed always t → ⊥
+  copied : (always : Bool) (t : NextPhase C V) → IsUnrefused t.report.outcome → CopyFailed always t → ⊥
   copied always t n x =
       let e : refusal.Count ≡ refusal.Exhausted = n refusal.Count (ap (λ z. z.report.outcome) x.1) in
       cc
 
-  pub asked_alike : (always : Bool) (s : Site C) (u : Site ℕ) (v : V) (t : Turn C V) → ReadAlike order number s u → IsUnrefused t.report.outcome → IsAsked always s v t → Alike t (asked u v)
+  pub asked_alike : (always : Bool) (s : Site C) (u : Site ℕ) (v : V) (t : NextPhase C V) → ReadAlike order number s u → IsUnrefused t.report.outcome → IsAsked always s v t → Alike t (asked u v)
   asked_alike always s u v t x n (inl e) = alike_at t _ (asked u v) e (asking_alike (AskOld s v) (AskOld u v) (Some v) (u, refl, x))
   asked_alike always s u v t x n (inr f) = absurd (copied always t n f)
 
-  pub old_alike : (always : Bool) (same : V → V → Bool) (kind : Kind V) (new : Option V) (s : Site C) (u : Site ℕ) (v : V) (t : Turn C V) → ReadAlike order number s u → IsUnrefused t.report.outcome → IsAtOld always same kind new s v t
+  pub old_alike : (always : Bool) (same : V → V → Bool) (kind : Kind V) (new : Option V) (s : Site C) (u : Site ℕ) (v : V) (t : NextPhase C V) → ReadAlike order number s u → IsUnrefused t.report.outcome → IsAtOld always same kind new s v t
       → Alike t (at_old same kind new u v)
   old_alike always same Insert new s u v t x n e = alike_at t _ _ e (replaced_alike s u (is_same same v new) (reply.Insert (Some v)) x.site)
-  old_alike always same Get new s u v t x n e = asked_alike always s u v t x n e
-  old_alike always same Remove new s u v t x n e = asked_alike always s u v t x n e
-  old_alike always same ComputePresent new s u v t x n e = asked_alike always s u v t x n e
-  old_alike always same ComputeInsert new s u v t x n e = asked_alike always s u v t x n e
-  old_alike always same (Exchange old) new s u v t x n e = asked_alike always s u v t x n e
+  old_alike always same _ new s u v t x n e = asked_alike always s u v t x n e
 
-  added_alike : (always : Bool) (same : V → V → Bool) (kind : Kind V) (new : Option V) (s : Site C) (u : Site ℕ) (above : Option (Over C)) (o : Option (Over ℕ)) (v : V) (t : Turn C V)
+  added_alike : (always : Bool) (same : V → V → Bool) (kind : Kind V) (new : Option V) (s : Site C) (u : Site ℕ) (above : Option (Over C)) (o : Option (Over ℕ)) (v : V) (t : NextPhase C V)
       → ReadAlike order number s u → AboveAlike order number above o → IsUnrefused t.report.outcome → IsAdded always same kind new s above v t → Alike t (added same kind new u o v)
   added_alike always same kind new s u None o v t x a n e = alike_to t (added same kind new u None v) (added same kind new u o v) (ap (λ z. added same kind new u z v) a) (old_alike always same kind new s u v t x n e)
   added_alike always same kind new s u (Some p) o v t x a n e =
       alike_to t (added same kind new u (Some a.0) v) (added same kind new u o v) (ap (λ z. added same kind new u z v) a.1)
       (alike_at t _ _ e (quiet_alike (CheckOld p.near.seat s v) (CheckOld a.0.near.seat u v) (a.0.near.seat, u, refl, a.2.near.seat, x)))
 
-  exchanged_alike : (always : Bool) (same : V → V → Bool) (new : Option V) (s : Site C) (u : Site ℕ) (v : V) (t : Turn C V) → ReadAlike order number s u → IsUnrefused t.report.outcome → IsExchanged always same new s v t
+  exchanged_alike : (always : Bool) (same : V → V → Bool) (new : Option V) (s : Site C) (u : Site ℕ) (v : V) (t : NextPhase C V) → ReadAlike order number s u → IsUnrefused t.report.outcome → IsExchanged always same new s v t
       → Alike t (exchanged same new u v)
   exchanged_alike always same None s u v t x n e = alike_at t _ _ e (emptied_alike s u (reply.Exchange (Ok None)) x)
   exchanged_alike always same (Some w) s u v t x n (inl e) = alike_at t _ _ e (replaced_alike s u (same v w) (reply.Exchange (Ok (Some w))) x.site)
   exchanged_alike always same (Some w) s u v t x n (inr f) = absurd (copied always t n f)
 
-  compared_alike : (always : Bool) (same : V → V → Bool) (b : Bool) (new : Option V) (s : Site C) (u : Site ℕ) (v : V) (t : Turn C V) → ReadAlike order number s u → IsUnrefused t.report.outcome → IsCompared b always same new s v t
+  compared_alike : (always : Bool) (same : V → V → Bool) (b : Bool) (new : Option V) (s : Site C) (u : Site ℕ) (v : V) (t : NextPhase C V) → ReadAlike order number s u → IsUnrefused t.report.outcome → IsCompared b always same new s v t
       → Alike t (cond b (exchanged same new u v) (quiet (Confirm u.at (reply.Exchange (Err (Some v))))))
   compared_alike always same true new s u v t x n e = exchanged_alike always same new s u v t x n (e.0 refl)
   compared_alike always same false new s u v t x n e = alike_at t _ _ (e.1 refl) (confirm_alike s.at u.at (reply.Exchange (Err (Some v))) x.site.at)
 
-  present_alike : (always : Bool) (same : V → V → Bool) (kind : Kind V) (new : Option V) (s : Site C) (u : Site ℕ) (v : V) (t : Turn C V) → ReadAlike order number s u → IsUnrefused t.report.outcome → IsPresent always same kind new s v t
+  present_alike : (always : Bool) (same : V → V → Bool) (kind : Kind V) (new : Option V) (s : Site C) (u : Site ℕ) (v : V) (t : NextPhase C V) → ReadAlike order number s u → IsUnrefused t.report.outcome → IsPresent always same kind new s v t
       → Alike t (present same kind new u v)
   present_alike always same Get new s u v t x n e = alike_at t _ _ e (answered_alike (reply.Get (Some v)))
   present_alike always same Insert new s u v t x n e = added_alike always same Insert new s u s.above u.above v t x x.site.above n e
@@ -233,7 +229,7 @@ module _ {C V : Type 0} (order : List ℕ) (number : C → ℕ) (h : ℕ → Nod
   present_alike always same ComputeInsert new s u v t x n e = added_alike always same ComputeInsert new s u s.above u.above v t x x.site.above n e
   present_alike always same (Exchange old) new s u v t x n e = compared_alike always same (same v old) new s u v t x n e
 
-  pub checked_alike : (always : Bool) (same : V → V → Bool) (kind : Kind V) (new : Option V) (s : Site C) (c : Child C V) (u : Site ℕ) (d : Child ℕ V) (t : Turn C V) → SiteAlike order number s u → SeesAlike order number s c u d
+  pub checked_alike : (always : Bool) (same : V → V → Bool) (kind : Kind V) (new : Option V) (s : Site C) (c : Child C V) (u : Site ℕ) (d : Child ℕ V) (t : NextPhase C V) → SiteAlike order number s u → SeesAlike order number s c u d
       → IsUnrefused t.report.outcome → IsChecked always same kind new s c t → Alike t (checked same kind new u d)
   checked_alike always same kind new s child.Blank u d t x y n e =
       alike_to t (checked same kind new u child.Blank) (checked same kind new u d) (ap (checked same kind new u) y.hangs) (alike_at t _ _ e (absent_alike kind s u (record { site = x; count = y.count }) (y.full refl)))
@@ -242,23 +238,23 @@ module _ {C V : Type 0} (order : List ℕ) (number : C → ℕ) (h : ℕ → Nod
   checked_alike always same kind new s (child.Value v) u d t x y n e =
       alike_to t (checked same kind new u (child.Value v)) (checked same kind new u d) (ap (checked same kind new u) y.hangs) (present_alike always same kind new s u v t (record { site = x; count = y.count }) n e)
 
-  pub miss_alike : (kind : Kind V) (p : Parent C) (q : Parent ℕ) (at : Seat C) (a : Seat ℕ) (common byte : ℕ) → ParentAlike order number p q → SeatAlike order number at a → Alike (after_miss kind p at common byte) (after_miss kind q a common byte)
+  pub miss_alike : (kind : Kind V) (p : Parent C) (q : Parent ℕ) (at : Stamp C) (a : Stamp ℕ) (common byte : ℕ) → ParentAlike order number p q → SeatAlike order number at a → Alike (after_miss kind p at common byte) (after_miss kind q a common byte)
   miss_alike kind p q at a common byte x y = by (adds kind) where
     by : (b : Bool) → Alike (cond b (quiet (MakeTop p at common byte)) (answered (absent_reply kind))) (cond b (quiet (MakeTop q a common byte)) (answered (absent_reply kind)))
     by true = quiet_alike (MakeTop p at common byte) (MakeTop q a common byte) (q, a, refl, x, y)
     by false = answered_alike (absent_reply kind)
 
   -- the closure's answer
-  pub record GivenAlike (new' : Option V) (t : Turn C V) (w : Option V × Turn ℕ V) : Type 0 where
+  pub record GivenAlike (new' : Option V) (t : NextPhase C V) (w : Option V × NextPhase ℕ V) : Type 0 where
     pub given : w.0 ≡ new'
     pub turn : Alike t w.1
 
-  some_given : (always : Bool) (same : V → V → Bool) (s : Site C) (u : Site ℕ) (v y : V) (t : Turn C V) → ReadAlike order number s u → IsUnrefused t.report.outcome
+  some_given : (always : Bool) (same : V → V → Bool) (s : Site C) (u : Site ℕ) (v y : V) (t : NextPhase C V) → ReadAlike order number s u → IsUnrefused t.report.outcome
       → (t ≡ replaced s (same v y) (reply.ComputePresent (Some (v, Some y)))) ⊎ CopyFailed always t → Alike t (replaced u (same v y) (reply.ComputePresent (Some (v, Some y))))
   some_given always same s u v y t x n (inl e) = alike_at t _ _ e (replaced_alike s u (same v y) (reply.ComputePresent (Some (v, Some y))) x.site)
   some_given always same s u v y t x n (inr f) = absurd (copied always t n f)
 
-  pub given_alike : (always : Bool) (same : V → V → Bool) (kind : Kind V) (s : Site C) (u : Site ℕ) (v : V) (answer : Option (Option V)) (new new' : Option V) (t : Turn C V) → ReadAlike order number s u → IsUnrefused t.report.outcome
+  pub given_alike : (always : Bool) (same : V → V → Bool) (kind : Kind V) (s : Site C) (u : Site ℕ) (v : V) (answer : Option (Option V)) (new new' : Option V) (t : NextPhase C V) → ReadAlike order number s u → IsUnrefused t.report.outcome
       → IsGiven always same kind s v answer new new' t → GivenAlike new' t (given_old same kind u v answer new)
   given_alike always same kind s u v None new new' t x n e = record { given = sym e.0; turn = asked_alike always s u v t x n e.1 }
   given_alike always same ComputeInsert s u v (Some None) new new' t x n e = record { given = sym e.0; turn = asked_alike always s u v t x n e.1 }
@@ -274,7 +270,7 @@ module _ {C V : Type 0} (order : List ℕ) (number : C → ℕ) (h : ℕ → Nod
   given_alike always same ComputePresent s u v (Some (Some y)) new new' t x n e = record { given = sym e.0; turn = some_given always same s u v y t x n e.1 }
   given_alike always same (Exchange old) s u v (Some (Some y)) new new' t x n e = record { given = sym e.0; turn = some_given always same s u v y t x n e.1 }
 
-  pub new_alike : (plan : Plan C) (y : Plan ℕ) (answer : Option (Option V)) (new new' : Option V) (t : Turn C V) → PlanAlike order number plan y → IsGivenNew plan answer new new' t → GivenAlike new' t (given_new y answer new)
+  pub new_alike : (plan : Plan C) (y : Plan ℕ) (answer : Option (Option V)) (new new' : Option V) (t : NextPhase C V) → PlanAlike order number plan y → IsGivenNew plan answer new new' t → GivenAlike new' t (given_new y answer new)
   new_alike plan y (Some (Some v)) new new' t x e = record { given = sym e.0; turn = alike_at t _ _ e.1 (started_alike plan y (reply.ComputeInsert None) x) }
   new_alike plan y (Some None) new new' t x e = record { given = sym e.0; turn = alike_at t _ _ e.1 (asking_alike (AskNew plan) (AskNew y) None (y, refl, x)) }
   new_alike plan y None new new' t x e = record { given = sym e.0; turn = alike_at t _ _ e.1 (asking_alike (AskNew plan) (AskNew y) None (y, refl, x)) }

@@ -9,11 +9,11 @@ use Rattle.congee.specs.declared.protocol.op.Op.TheVariants as op
 use Rattle.congee.specs.declared.protocol.phase.Kind.{Kind}
 use Rattle.congee.specs.declared.protocol.phase.Phase.{Phase}
 use Rattle.congee.specs.declared.protocol.phase.Phase.TheVariants.{Sweep, Ended}
-use Rattle.congee.specs.declared.protocol.turn.Turn.{Turn}
+use Rattle.congee.specs.declared.protocol.turn.NextPhase.{NextPhase}
 use Rattle.congee.specs.declared.protocol.machine.Machine.{Machine}
 use Rattle.congee.specs.declared.protocol.machine.Move.{Move}
 use Rattle.congee.specs.Heap.{Node, is_free}
-use Rattle.congee.specs.Ledger.{Note, Linked, Tree}
+use Rattle.congee.specs.Notes.{Note, Linked, Tree}
 use Rattle.congee.specs.protocol.Holdings.{LockedBy, Holdings}
 use Rattle.congee.specs.Keys.{key_bytes}
 use Rattle.congee.specs.protocol.Play.{first_phase, EachKnown, ProtocolAt}
@@ -46,7 +46,7 @@ module _ {C V : Type 0} (number : C → ℕ) (same : V → V → Bool) (always :
           ]
 
   -- the step of a phase
-  phase_on : (most : ℕ) (why : NodeType → Refusal → Type 0) (root : C) (z : number root ≡ 0) (k : ℕ) (kind : Kind V) (new : Option V) (s : Phase C V) (h' : ℕ → Node V) (new' : Option V) (t : Turn C V) (answer : Option (Option V))
+  phase_on : (most : ℕ) (why : NodeType → Refusal → Type 0) (root : C) (z : number root ≡ 0) (k : ℕ) (kind : Kind V) (new : Option V) (s : Phase C V) (h' : ℕ → Node V) (new' : Option V) (t : NextPhase C V) (answer : Option (Option V))
       → Known number same always i a h k (key_bytes k) kind new s → IsUndisturbed number h s → (((n : ℕ) → LockedBy number s n → ⊥) → (n : ℕ) → (a n).status ≡ Linked → is_free (h n) ≡ true) → HasAnswer kind s answer → (IsPast s → ⊥)
       → PhaseStepped number same always most why root (key_bytes k) kind false answer new s h new' t h' → Nearer number h' (steps_left number h s) t
   phase_on most why root z k kind new (Sweep x) h' new' t answer known u free ask ne g =
@@ -68,22 +68,11 @@ module _ {C V : Type 0} (number : C → ℕ) (same : V → V → Bool) (always :
 
 -- how many steps a call has after its begin
 pub whole_left : {C V : Type 0} (number : C → ℕ) (a : ℕ → Note) (h : ℕ → Node V) (root : C) (o : Op V) → Tree a h → steps_left number h (first_phase root o) ≤ steps_whole h o
-whole_left number a h root (op.Get k) tr = omega arith
-whole_left number a h root (op.Insert k v) tr = omega arith
-whole_left number a h root (op.Remove k) tr = omega arith
-whole_left number a h root (op.ComputePresent k) tr = omega arith
-whole_left number a h root (op.ComputeInsert k) tr = omega arith
-whole_left number a h root (op.Exchange k old new) tr = omega arith
 whole_left number a h root (op.Range start end size) tr = let e = under_counts a h tr 8 0 tr.root (omega arith) in omega (arith, e)
 whole_left number a h root (op.RangeInclusive start last size) tr = let e = under_counts a h tr 8 0 tr.root (omega arith) in omega (arith, e)
+whole_left number a h root _ tr = omega arith
 
 -- nothing is relied on before the first step
 pub begins_on : {C V : Type 0} (number : C → ℕ) (h : ℕ → Node V) (root : C) (o : Op V) → IsUndisturbed number h (first_phase root o)
 begins_on number h root (op.Get k) = (tt, tt)
-begins_on number h root (op.Insert k v) = (tt, tt)
-begins_on number h root (op.Remove k) = (tt, tt)
-begins_on number h root (op.ComputePresent k) = (tt, tt)
-begins_on number h root (op.ComputeInsert k) = (tt, tt)
-begins_on number h root (op.Exchange k old new) = (tt, tt)
-begins_on number h root (op.Range start end size) = (tt, tt)
-begins_on number h root (op.RangeInclusive start last size) = (tt, tt)
+begins_on number h root _ = (tt, tt)

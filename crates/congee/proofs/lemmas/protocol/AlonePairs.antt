@@ -2,7 +2,7 @@
 use Rattle.std.proofs.Common.{◌≡◌, ℕ, zero, suc, ◌<◌, ◌≤◌, ◌+◌, ◌*◌, ◌/◌, ◌^◌, ◌⊎◌, ◌&&◌, Bool, true, false, cond, T, List, [], ◌∷◌, length, get_or, refl, sym, ◌∙◌, ap, subst, inl, inr, arith}
 use Rattle.std.specs.Prelude.{Option, None, Some, ltb}
 use Rattle.std.specs.Int.{w64, from_be_bytes}
-use Rattle.std.specs.Ordering.{nat_cmp, eq_by_cmp, is_lt}
+use Rattle.std.specs.Ordering.{nat_cmp, eq_by_cmp}
 use Rattle.std.specs.FinMap.{FinMap, get, len, entries, entries_sorted, get-entries, len-entries}
 use Rattle.std.specs.FinMap.Entries.{below_all, is_sorted, find}
 use Rattle.std.proofs.Math.Nat.{mul-mod_left, mul-div_cancel}
@@ -12,7 +12,7 @@ use Rattle.std.proofs.lemmas.Nat.{be_bytes_8}
 use Rattle.congee.specs.declared.protocol.store.Region.{Region}
 use Rattle.congee.specs.Heap.{Node, Hung, Nothing, Below, Holds}
 use Rattle.congee.specs.Keys.{key_bytes, IsMapOf}
-use Rattle.congee.specs.Ledger.{Note, Linked, BeginsKey, Tree, LockWords}
+use Rattle.congee.specs.Notes.{Note, Linked, BeginsKey, Tree, LockWords}
 use Rattle.congee.specs.protocol.Alone.{sum_from, pairs_at, pairs_under, tree_pairs}
 use Rattle.congee.specs.protocol.Regions.{span, IsRegion, start_at}
 use Rattle.congee.specs.protocol.Sweeps.{Lacked}
@@ -24,6 +24,7 @@ use Rattle.congee.proofs.lemmas.protocol.AloneSweeps.{term_past}
 use Rattle.congee.proofs.lemmas.protocol.Regions.{span_pos, multiple_bounds, whole, start_mono}
 use Rattle.congee.proofs.lemmas.protocol.SweepBytes.{low_yes, low_no, region_top}
 use Rattle.congee.proofs.lemmas.protocol.SweepKept.{child_after, child_before, lacks_bytes, lacks_beside, has_value}
+use Rattle.congee.proofs.lemmas.forms.BetweenLemmas.{true_of_T, less_of_cmp}
 
 -- 1 where the number is at least `lo` and below `hi`
 abbrev inside : ℕ → ℕ → ℕ → ℕ
@@ -53,16 +54,9 @@ in_parts lo mid hi k a b = elim (cases_lt k mid) [
   ]
 ]
 
-is_true : (b : Bool) → T b → b ≡ true
-is_true true t = refl
-is_true false t = absurd t
-
 both : (a b : Bool) → T (a && b) → T a × T b
 both true b t = (tt, t)
 both false b t = absurd t
-
-less_of : (a b : ℕ) → is_lt (nat_cmp a b) ≡ true → a < b
-less_of a b e = grind (arith, nat_tests, e)
 
 tied : (a b : ℕ) → eq_by_cmp nat_cmp a b ≡ true → a ≡ b
 tied a b e = grind (arith, nat_tests, e)
@@ -120,7 +114,7 @@ module _ {V : Type 0} where
   above j lo hi [] l t = refl
   above j lo hi (e ∷ es) l t =
       let b = both _ _ t in
-      let q = less_of j e.0 (is_true _ b.0) in
+      let q = less_of_cmp j e.0 (true_of_T _ b.0) in
       let s = above j lo hi es l b.1 in
       let i = in_high lo hi e.0 (omega (arith, l, q)) in
       omega (arith, s, i)

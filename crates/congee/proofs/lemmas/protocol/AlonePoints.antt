@@ -11,7 +11,7 @@ use Rattle.congee.specs.declared.protocol.store.Reading.{Reading}
 use Rattle.congee.specs.declared.protocol.store.Reading.TheVariants.{Differs, Fits, Uncopied}
 use Rattle.congee.specs.declared.protocol.store.Refusal.{Refusal}
 use Rattle.congee.specs.declared.protocol.store.Refusal.TheVariants as refusal
-use Rattle.congee.specs.declared.protocol.store.Seat.{Seat}
+use Rattle.congee.specs.declared.protocol.store.Stamp.{Stamp}
 use Rattle.congee.specs.declared.protocol.store.Upgrade.{Upgrade}
 use Rattle.congee.specs.declared.protocol.store.Upgrade.TheVariants.{Locked, Failed, Exhausted}
 use Rattle.congee.specs.declared.protocol.phase.Kind.{Kind}
@@ -23,7 +23,7 @@ use Rattle.congee.specs.declared.protocol.phase.Single.{Single}
 use Rattle.congee.specs.declared.protocol.phase.Single.TheVariants.{Set, Link}
 use Rattle.congee.specs.declared.protocol.phase.One.{One}
 use Rattle.congee.specs.declared.protocol.phase.Double.{Double}
-use Rattle.congee.specs.declared.protocol.phase.Double.TheVariants.{Unlink, Grow, GrowLink, Split, Shrink, Collapse, ShrinkAbove}
+use Rattle.congee.specs.declared.protocol.phase.Double.TheVariants.{Unlink, Split, Collapse, ShrinkAbove}
 use Rattle.congee.specs.declared.protocol.phase.Two.{Two}
 use Rattle.congee.specs.declared.protocol.phase.Plan.{Plan}
 use Rattle.congee.specs.declared.protocol.phase.Plan.TheVariants.{Here, Above}
@@ -31,17 +31,17 @@ use Rattle.congee.specs.declared.protocol.phase.Phase.{Phase}
 use Rattle.congee.specs.declared.protocol.phase.Phase.TheVariants.{New, Version, Read, Check, CheckUncopied, CheckMiss, CheckDown, CheckOld, MakeLeaf, MakeGreater, MakeTop, MakeBeside, MakeLesser, AskOld, AskNew, Confirm, CheckAbove, UpgradeOne, ChangeOne, UpgradeTop, UpgradeAbove, UpgradeBelow, ChangeTwo, Obsolete, Retire, UnlockBelow, Unlock, Unwind, Sweep, Ended}
 use Rattle.congee.specs.declared.protocol.machine.Outcome.{Outcome}
 use Rattle.congee.specs.declared.protocol.sweep.Stage.TheVariants as stage
-use Rattle.congee.specs.declared.protocol.turn.Turn.{Turn}
+use Rattle.congee.specs.declared.protocol.turn.NextPhase.{NextPhase}
 use Rattle.congee.specs.Heap.{Node, Nothing, is_free, is_taken, version_of}
 use Rattle.congee.specs.Keys.{key_bytes}
-use Rattle.congee.specs.Ledger.{Note, Linked, is_published, IsChild, Tree, LockWords}
+use Rattle.congee.specs.Notes.{Note, Linked, is_published, IsChild, Tree, LockWords}
 use Rattle.congee.specs.protocol.Events.{hung, NewNode, ReadGives, upgrade_gives}
 use Rattle.congee.specs.protocol.Holdings.{LockedBy}
 use Rattle.congee.specs.protocol.Protocol.{ChildOf, IsFar, IsAbove, IsLesser, Knows, Known}
 use Rattle.congee.specs.protocol.Steps.{skipping, shrinks, set_at, both as both_of, last_out, near_of, node_of, given_up, after_top, after_retire, again, answered, refused, CopyFailed, adds, asks_new, absent_reply, greater, seat_above, after_version, after_read, down, started, ready, plan_here, unless_full, absent, IsAsked, replaced, taken_out, is_same, IsAtOld, IsAdded, IsExchanged, IsPresent, IsChecked, after_miss, IsGiven, IsGivenNew, MadeLeaf, MadeGreater, MadeTop, MadeBeside, MadeLesser, UpgradedOne, UpgradedTop, UpgradedAbove, UpgradedBelow, after_change, PhaseStepped}
 use Rattle.congee.specs.protocol.Alone.{IsPoint, seats_if, seats_top, seats_over, seats_site, seats_plan, AreTaken, IsUndisturbed, IsAnswer, HasAnswer, steps_down, steps_next, steps_left}
 use Rattle.congee.specs.protocol.Trace.{goes_on, is_asked}
-use Rattle.congee.proofs.lemmas.Fits.{both, same_test}
+use Rattle.congee.proofs.lemmas.Fits.{and_true, same_test}
 use Rattle.congee.proofs.lemmas.Graft.{on_test}
 use Rattle.congee.proofs.lemmas.protocol.Touch.{by_test, taken_linked}
 use Rattle.congee.proofs.lemmas.protocol.SweepWays.{pick_true}
@@ -50,8 +50,9 @@ use Rattle.congee.proofs.lemmas.protocol.SweepWays.{pick_true}
 pub version_free : {V : Type 0} (n : Node V) → is_free n ≡ true → version_of n ≡ Some n.version
 version_free n f = pick_true (is_free n) (Some n.version) None f
 
+-- a free node's word is the one taken at its present version
 pub taken_now : {V : Type 0} (n : Node V) → is_free n ≡ true → is_taken n n.version ≡ true
-taken_now n f = both (n.version == n.version) (is_free n) (same_test n.version n.version refl) f
+taken_now n f = and_true (n.version == n.version) (is_free n) (same_test n.version n.version refl) f
 
 -- the lock of a node that is as it was taken is had, but at the greatest version
 gives : {V : Type 0} (most : ℕ) (n : Node V) (v : ℕ) → is_taken n v ≡ true → upgrade_gives most n v false ≢ Failed
@@ -78,10 +79,10 @@ deeper more k p q l short m = omega (arith, l, short, m)
 
 module _ {C V : Type 0} (number : C → ℕ) (h : ℕ → Node V) (n : ℕ) where
   -- a turn that leaves fewer than n steps, and tells an end and a question
-  abbrev pub Nearer : Turn C V → Type 0
+  abbrev pub Nearer : NextPhase C V → Type 0
   Nearer t = IsUndisturbed number h t.phase × (steps_left number h t.phase < n) × Tells t.phase t.report.outcome
 
-  pub near_to : (x y : Turn C V) → y ≡ x → Nearer x → Nearer y
+  pub near_to : (x y : NextPhase C V) → y ≡ x → Nearer x → Nearer y
   near_to x y p f = subst Nearer (sym p) f
 
   ends : 0 < n → (r : Reply V) → Nearer (answered r)
@@ -96,7 +97,7 @@ module _ {C V : Type 0} (number : C → ℕ) (h : ℕ → Node V) (n : ℕ) wher
   starts l (Above two) r t = ((t, tt), omega (arith, l), tt)
 
   readies : 9 < n → (kind : Kind V) (plan : Plan C) → AreTaken number h (seats_plan plan) → Nearer (ready kind plan)
-  readies l kind plan t = by_test (λ (z : Turn C V). Nearer z) (asks_new kind) _ _ (λ _. ((t, tt), l, refl)) (λ _. starts (omega (arith, l)) plan (absent_reply kind) t)
+  readies l kind plan t = by_test (λ (z : NextPhase C V). Nearer z) (asks_new kind) _ _ (λ _. ((t, tt), l, refl)) (λ _. starts (omega (arith, l)) plan (absent_reply kind) t)
 
   -- the node above, and what is checked of a plan
   near_taken : (above : Option (Over C)) → AreTaken number h (seats_over above) → AreTaken number h (seats_top (near_of above))
@@ -113,65 +114,57 @@ module _ {C V : Type 0} (number : C → ℕ) (h : ℕ → Node V) (n : ℕ) wher
   unless l kind s false above leaf change t u = readies (omega (arith, l)) kind (plan_here s change) (t.0, check_taken s.above t.1)
 
   absents : 11 < n → (kind : Kind V) (s : Site C) → AreTaken number h (seats_site s) → Nearer (absent kind s)
-  absents l kind s t = by_test (λ (z : Turn C V). Nearer z) (adds kind) _ _
-      (λ _. by_test (λ (z : Turn C V). Nearer z) (s.depth == 7) _ _ (λ _. unless (omega (arith, l)) kind s s.full s.above None Set t t.1) (λ _. ((t, tt), l, tt)))
+  absents l kind s t = by_test (λ (z : NextPhase C V). Nearer z) (adds kind) _ _
+      (λ _. by_test (λ (z : NextPhase C V). Nearer z) (s.depth == 7) _ _ (λ _. unless (omega (arith, l)) kind s s.full s.above None Set t t.1) (λ _. ((t, tt), l, tt)))
       (λ _. ends (omega (arith, l)) (absent_reply kind))
 
   replaces : 3 < n → (s : Site C) (b : Bool) (r : Reply V) → AreTaken number h (seats_site s) → Nearer (replaced s b r)
-  replaces l s b r t = by_test (λ (z : Turn C V). Nearer z) b _ _ (λ _. (((t.0, tt), tt), omega (arith, l), tt)) (λ _. (((t.0, tt), tt), l, tt))
+  replaces l s b r t = by_test (λ (z : NextPhase C V). Nearer z) b _ _ (λ _. (((t.0, tt), tt), omega (arith, l), tt)) (λ _. (((t.0, tt), tt), l, tt))
 
   -- a value's going
   last : 10 < n → (s : Site C) (p : Parent C) (top : Option (Parent C)) (r : Reply V) → AreTaken number h (seats_site s) → AreTaken number h (p.seat ∷ seats_top top) → Nearer (last_out s p top r)
   last l s p None r t u = (((u.0, (t.0, tt)), tt), omega (arith, l), tt)
-  last l s p (Some top) r t u = by_test (λ (z : Turn C V). Nearer z) (p.count == 2) _ _ (λ _. (((u.1.0, (u.0, (t.0, tt))), tt), omega (arith, l), tt))
-      (λ _. by_test (λ (z : Turn C V). Nearer z) (ltb 2 p.count && shrinks p.form p.count) _ _ (λ _. (((u.0, (t.0, (u.1.0, tt))), tt), l, tt)) (λ _. (((u.0, (t.0, tt)), tt), omega (arith, l), tt)))
+  last l s p (Some top) r t u = by_test (λ (z : NextPhase C V). Nearer z) (p.count == 2) _ _ (λ _. (((u.1.0, (u.0, (t.0, tt))), tt), omega (arith, l), tt))
+      (λ _. by_test (λ (z : NextPhase C V). Nearer z) (ltb 2 p.count && shrinks p.form p.count) _ _ (λ _. (((u.0, (t.0, (u.1.0, tt))), tt), l, tt)) (λ _. (((u.0, (t.0, tt)), tt), omega (arith, l), tt)))
 
   takes_out : 10 < n → (s : Site C) (above : Option (Over C)) (r : Reply V) → AreTaken number h (seats_site s) → AreTaken number h (seats_over above) → Nearer (taken_out s above r)
   takes_out l s None r t u = (((t.0, tt), tt), omega (arith, l), tt)
-  takes_out l s (Some y) r t u = by_test (λ (z : Turn C V). Nearer z) (s.count == 1) _ _ (λ _. last l s y.near y.far r t u)
-      (λ _. by_test (λ (z : Turn C V). Nearer z) (shrinks s.form s.count) _ _ (λ _. (((u.0, (t.0, tt)), tt), l, tt)) (λ _. (((t.0, tt), tt), omega (arith, l), tt)))
+  takes_out l s (Some y) r t u = by_test (λ (z : NextPhase C V). Nearer z) (s.count == 1) _ _ (λ _. last l s y.near y.far r t u)
+      (λ _. by_test (λ (z : NextPhase C V). Nearer z) (shrinks s.form s.count) _ _ (λ _. (((u.0, (t.0, tt)), tt), l, tt)) (λ _. (((t.0, tt), tt), omega (arith, l), tt)))
 
   tops : 5 < n → (two : Two C) (r : Reply V) (top : Option (Parent C)) → Nearer (after_top two r top)
   tops l two r None = ((tt, tt), omega (arith, l), tt)
   tops l two r (Some top) = ((tt, tt), l, tt)
 
   changes : 5 < n → (two : Two C) (r : Reply V) (change : Double C) → Nearer (after_change two r change)
-  changes l two r Unlink = ((tt, tt), omega (arith, l), tt)
-  changes l two r (Shrink c) = ((tt, tt), omega (arith, l), tt)
   changes l two r Collapse = tops l two r two.top
   changes l two r (ShrinkAbove c) = tops l two r two.top
-  changes l two r (Grow c) = ((tt, tt), omega (arith, l), tt)
-  changes l two r (GrowLink c leaf byte) = ((tt, tt), omega (arith, l), tt)
-  changes l two r (Split top leaf common byte) = ((tt, tt), omega (arith, l), tt)
+  changes l two r _ = ((tt, tt), omega (arith, l), tt)
 
-  misses : 11 < n → (kind : Kind V) (p : Parent C) (seat : Seat C) (common byte : ℕ) → AreTaken number h (p.seat ∷ seat ∷ []) → Nearer (after_miss kind p seat common byte)
-  misses l kind p seat common byte t = by_test (λ (z : Turn C V). Nearer z) (adds kind) _ _ (λ _. ((t, tt), l, tt)) (λ _. ends (omega (arith, l)) (absent_reply kind))
+  misses : 11 < n → (kind : Kind V) (p : Parent C) (seat : Stamp C) (common byte : ℕ) → AreTaken number h (p.seat ∷ seat ∷ []) → Nearer (after_miss kind p seat common byte)
+  misses l kind p seat common byte t = by_test (λ (z : NextPhase C V). Nearer z) (adds kind) _ _ (λ _. ((t, tt), l, tt)) (λ _. ends (omega (arith, l)) (absent_reply kind))
 
-  copies : (always : Bool) (x t : Turn C V) → 0 < n → (t ≡ x) ⊎ CopyFailed always t → Nearer x → Nearer t
+  copies : (always : Bool) (x t : NextPhase C V) → 0 < n → (t ≡ x) ⊎ CopyFailed always t → Nearer x → Nearer t
   copies always x t l (inl p) f = near_to x t p f
   copies always x t l (inr p) f = near_to (refused refusal.Count) t p.1 (stops l refusal.Count)
 
   module _ (always : Bool) (same : V → V → Bool) where
-    asks : 11 < n → (s : Site C) (old : V) (t : Turn C V) → AreTaken number h (seats_site s) → IsAsked always s old t → Nearer t
+    asks : 11 < n → (s : Site C) (old : V) (t : NextPhase C V) → AreTaken number h (seats_site s) → IsAsked always s old t → Nearer t
     asks l s old t u x = copies always _ t (omega (arith, l)) x ((u, tt), l, refl)
 
-    at_old : 11 < n → (kind : Kind V) (new : Option V) (s : Site C) (old : V) (t : Turn C V) → AreTaken number h (seats_site s) → IsAtOld always same kind new s old t → Nearer t
+    at_old : 11 < n → (kind : Kind V) (new : Option V) (s : Site C) (old : V) (t : NextPhase C V) → AreTaken number h (seats_site s) → IsAtOld always same kind new s old t → Nearer t
     at_old l Insert new s old t u x = near_to _ t x (replaces (omega (arith, l)) s (is_same same old new) (reply.Insert (Some old)) u)
-    at_old l Get new s old t u x = asks l s old t u x
-    at_old l Remove new s old t u x = asks l s old t u x
-    at_old l ComputePresent new s old t u x = asks l s old t u x
-    at_old l ComputeInsert new s old t u x = asks l s old t u x
-    at_old l (Exchange w) new s old t u x = asks l s old t u x
+    at_old l _ new s old t u x = asks l s old t u x
 
-    adds_at : 12 < n → (kind : Kind V) (new : Option V) (s : Site C) (above : Option (Over C)) (old : V) (t : Turn C V) → AreTaken number h (seats_site s) → AreTaken number h (seats_over above) → IsAdded always same kind new s above old t → Nearer t
+    adds_at : 12 < n → (kind : Kind V) (new : Option V) (s : Site C) (above : Option (Over C)) (old : V) (t : NextPhase C V) → AreTaken number h (seats_site s) → AreTaken number h (seats_over above) → IsAdded always same kind new s above old t → Nearer t
     adds_at l kind new s None old t u y x = at_old (omega (arith, l)) kind new s old t u x
     adds_at l kind new s (Some p) old t u y x = near_to _ t x (((y.0, u), tt), l, tt)
 
-    exchanges : 10 < n → (new : Option V) (s : Site C) (old : V) (t : Turn C V) → AreTaken number h (seats_site s) → IsExchanged always same new s old t → Nearer t
+    exchanges : 10 < n → (new : Option V) (s : Site C) (old : V) (t : NextPhase C V) → AreTaken number h (seats_site s) → IsExchanged always same new s old t → Nearer t
     exchanges l None s old t u x = near_to _ t x (takes_out l s s.above (reply.Exchange (Ok None)) u u.1)
     exchanges l (Some w) s old t u x = copies always _ t (omega (arith, l)) x (replaces (omega (arith, l)) s (same old w) (reply.Exchange (Ok (Some w))) u)
 
-    presents : 12 < n → (kind : Kind V) (new : Option V) (s : Site C) (old : V) (t : Turn C V) → AreTaken number h (seats_site s) → IsPresent always same kind new s old t → Nearer t
+    presents : 12 < n → (kind : Kind V) (new : Option V) (s : Site C) (old : V) (t : NextPhase C V) → AreTaken number h (seats_site s) → IsPresent always same kind new s old t → Nearer t
     presents l Get new s old t u x = near_to _ t x (ends (omega (arith, l)) (reply.Get (Some old)))
     presents l Insert new s old t u x = adds_at l Insert new s s.above old t u u.1 x
     presents l Remove new s old t u x = near_to _ t x (takes_out (omega (arith, l)) s s.above (reply.Remove (Some old)) u u.1)
@@ -179,7 +172,7 @@ module _ {C V : Type 0} (number : C → ℕ) (h : ℕ → Node V) (n : ℕ) wher
     presents l ComputeInsert new s old t u x = adds_at l ComputeInsert new s s.above old t u u.1 x
     presents l (Exchange w) new s old t u x = on_test (same old w) (λ p. exchanges (omega (arith, l)) new s old t u (x.0 p)) (λ p. near_to _ t (x.1 p) (((u.0, tt), tt), omega (arith, l), tt))
 
-    given : 10 < n → (kind : Kind V) (s : Site C) (old : V) (answer : Option (Option V)) (v v' : Option V) (t : Turn C V) → AreTaken number h (seats_site s) → IsAnswer kind answer → IsGiven always same kind s old answer v v' t → Nearer t
+    given : 10 < n → (kind : Kind V) (s : Site C) (old : V) (answer : Option (Option V)) (v v' : Option V) (t : NextPhase C V) → AreTaken number h (seats_site s) → IsAnswer kind answer → IsGiven always same kind s old answer v v' t → Nearer t
     given l kind s old None v v' t u a x = absurd a
     given l ComputeInsert s old (Some None) v v' t u a x = absurd a
     given l ComputeInsert s old (Some (Some y)) v v' t u a x = near_to _ t x.1 (replaces (omega (arith, l)) s (same old y) (reply.ComputeInsert (Some old)) u)
@@ -194,7 +187,7 @@ module _ {C V : Type 0} (number : C → ℕ) (h : ℕ → Node V) (n : ℕ) wher
     given l ComputePresent s old (Some (Some y)) v v' t u a x = copies always _ t (omega (arith, l)) x.1 (replaces (omega (arith, l)) s (same old y) (reply.ComputePresent (Some (old, Some y))) u)
     given l (Exchange w) s old (Some (Some y)) v v' t u a x = copies always _ t (omega (arith, l)) x.1 (replaces (omega (arith, l)) s (same old y) (reply.ComputePresent (Some (old, Some y))) u)
 
-  given_new : 8 < n → (kind : Kind V) (plan : Plan C) (answer : Option (Option V)) (v v' : Option V) (t : Turn C V) → kind ≡ ComputeInsert → AreTaken number h (seats_plan plan) → IsAnswer kind answer → IsGivenNew plan answer v v' t → Nearer t
+  given_new : 8 < n → (kind : Kind V) (plan : Plan C) (answer : Option (Option V)) (v v' : Option V) (t : NextPhase C V) → kind ≡ ComputeInsert → AreTaken number h (seats_plan plan) → IsAnswer kind answer → IsGivenNew plan answer v v' t → Nearer t
   given_new l kind plan None v v' t e u a x = absurd a
   given_new l kind plan (Some None) v v' t e u a x = absurd (let P : Kind V → Type 0 = λ z. IsAnswer z (Some None) in subst P e a)
   given_new l kind plan (Some (Some y)) v v' t e u a x = near_to _ t x.1 (starts l plan (reply.ComputeInsert None) u)
@@ -219,16 +212,16 @@ module _ {C V : Type 0} (number : C → ℕ) (same : V → V → Bool) (always :
   linked_at None n e t = let P : ℕ → Type 0 = λ y. (a y).status ≡ Linked in subst P (sym e) tr.root
   linked_at (Some u) n c t = (child_in u.near n c.0 t.0).linked
 
-  abbrev Near : ℕ → Turn C V → Type 0
+  abbrev Near : ℕ → NextPhase C V → Type 0
   Near n t = Nearer number h n t
 
-  abbrev Near' : ℕ → Turn C V → Type 0
+  abbrev Near' : ℕ → NextPhase C V → Type 0
   Near' n t = Nearer number h' n t
 
   versions : (above : Option (Over C)) (c : C) (n : ℕ) → is_free (h (number c)) ≡ true → AreTaken number h (seats_over above) → steps_down 14 (h (number c)).prefix < n → Near n (after_version root above c (version_of (h (number c))))
   versions above c n f t l = near_to number h n (after_version root above c (Some (h (number c)).version)) (after_version root above c (version_of (h (number c)))) (ap (after_version root above c) (version_free (h (number c)) f)) (((taken_now (h (number c)) f, t), tt), l, tt)
 
-  reads : (above : Option (Over C)) (at : Seat C) (r : Reading C V) (t : Turn C V) → IsAbove number a h (key_bytes k) above (number at.node) → ReadGives number always (h (number at.node)) at.version (key_bytes k) r
+  reads : (above : Option (Over C)) (at : Stamp C) (r : Reading C V) (t : NextPhase C V) → IsAbove number a h (key_bytes k) above (number at.node) → ReadGives number always (h (number at.node)) at.version (key_bytes k) r
       → AreTaken number h (at ∷ seats_over above) → t ≡ after_read root above at r → Near (steps_down 14 (h (number at.node)).prefix) t
   reads None at (Differs common byte) t e g u q = absurd (
       let s : common < length (h (number at.node)).prefix = g.0.short in
@@ -246,7 +239,7 @@ module _ {C V : Type 0} (number : C → ℕ) (same : V → V → Bool) (always :
   downs true s None c t u l short = (((t.0, near_taken number h 0 s.above t.1), tt), deeper 15 13 (h (number s.at.node)).prefix (h (number c)).prefix l short (omega arith), tt)
   downs true s (Some y) c t u l short = (((u.0, (t.0, near_taken number h 0 s.above t.1)), tt), deeper 16 13 (h (number s.at.node)).prefix (h (number c)).prefix l short (omega arith), tt)
 
-  checks : (new : Option V) (s : Site C) (c : Child C V) (t : Turn C V) → Knows number a h (key_bytes k) s (hung number c) → AreTaken number h (seats_site s) → IsChecked always same kind new s c t → Near (steps_down 13 (h (number s.at.node)).prefix) t
+  checks : (new : Option V) (s : Site C) (c : Child C V) (t : NextPhase C V) → Knows number a h (key_bytes k) s (hung number c) → AreTaken number h (seats_site s) → IsChecked always same kind new s c t → Near (steps_down 13 (h (number s.at.node)).prefix) t
   checks new s child.Blank t x u y = near_to number h _ _ t y (absents number h _ (omega arith) kind s u)
   checks new s (child.Node c) t x u y =
       let l = taken_linked a h w (number s.at.node) s.at.version x.fresh.seated.published u.0 in
@@ -254,11 +247,11 @@ module _ {C V : Type 0} (number : C → ℕ) (same : V → V → Bool) (always :
       near_to number h _ _ t y (downs (adds kind) s s.above c u u.1 d.longer (tr.short (number c) d.linked))
   checks new s (child.Value v) t x u y = presents number h _ always same (omega arith) kind new s v t u y
 
-  if_taken : (taken : Bool) (T : Type 0) (n : ℕ) (t : Turn C V) → taken ≡ true → (taken ≡ true → T) × (taken ≡ false → t ≡ again root) → (T → Near n t) → Near n t
+  if_taken : (taken : Bool) (T : Type 0) (n : ℕ) (t : NextPhase C V) → taken ≡ true → (taken ≡ true → T) × (taken ≡ false → t ≡ again root) → (T → Near n t) → Near n t
   if_taken taken T n t e x f = f (x.0 e)
 
   -- the nodes that were taken, where one was made
-  made_taken : (c : ℕ) (form : NodeType) (key : List ℕ) (size : ℕ) → NewNode h c form key size h' → (s : Seat C) → is_published (a (number s.node)).status ≡ true → is_taken (h (number s.node)) s.version ≡ true → is_taken (h' (number s.node)) s.version ≡ true
+  made_taken : (c : ℕ) (form : NodeType) (key : List ℕ) (size : ℕ) → NewNode h c form key size h' → (s : Stamp C) → is_published (a (number s.node)).status ≡ true → is_taken (h (number s.node)) s.version ≡ true → is_taken (h' (number s.node)) s.version ≡ true
   made_taken c form key size g s p taken = still a h c form key size h' w g (number s.node) s.version p taken
 
   far_taken : (c : ℕ) (form : NodeType) (key : List ℕ) (size : ℕ) → NewNode h c form key size h' → (top : Option (Parent C)) (n : ℕ) → IsFar number a h (key_bytes k) top n → AreTaken number h (seats_top top) → AreTaken number h' (seats_top top)
@@ -269,36 +262,36 @@ module _ {C V : Type 0} (number : C → ℕ) (same : V → V → Bool) (always :
   above_taken c form key size g None n x t = tt
   above_taken c form key size g (Some u) n x t = (made_taken c form key size g u.near.seat x.0.fresh.seated.published t.0, far_taken c form key size g u.far (number u.near.seat.node) x.1 t.1)
 
-  leaf_made : (s : Site C) (x : Knows number a h (key_bytes k) s Nothing) (r : Result C Refusal) (t : Turn C V) → AreTaken number h (seats_site s) → MadeLeaf number kind s h (key_bytes k) r h' t → Near' 11 t
+  leaf_made : (s : Site C) (x : Knows number a h (key_bytes k) s Nothing) (r : Result C Refusal) (t : NextPhase C V) → AreTaken number h (seats_site s) → MadeLeaf number kind s h (key_bytes k) r h' t → Near' 11 t
   leaf_made s x (Ok leaf) t u g =
       let p = above_taken (number leaf) _ (key_bytes k) 7 g.0 s.above (number s.at.node) x.above u.1 in
       near_to number h' 11 _ t g.1 (unless number h' 11 (omega arith) kind s s.full s.above (Some leaf) (Link leaf) (made_taken (number leaf) _ (key_bytes k) 7 g.0 s.at x.fresh.seated.published u.0, p) p)
   leaf_made s x (Err e) t u g = near_to number h' 11 _ t g.1 (stops number h' 11 (omega arith) e)
 
-  greater_made : (s : Site C) (p : Parent C) (leaf : Option C) (r : Result C Refusal) (t : Turn C V) → is_published (a (number p.seat.node)).status ≡ true → is_published (a (number s.at.node)).status ≡ true
+  greater_made : (s : Site C) (p : Parent C) (leaf : Option C) (r : Result C Refusal) (t : NextPhase C V) → is_published (a (number p.seat.node)).status ≡ true → is_published (a (number s.at.node)).status ≡ true
       → AreTaken number h (p.seat ∷ s.at ∷ []) → MadeGreater number kind s p leaf h (key_bytes k) r h' t → Near' 10 t
   greater_made s p leaf (Ok c) t pp ps u g =
       near_to number h' 10 _ t g.1 (readies number h' 10 (omega arith) kind (Above (both_of p s (greater s leaf c)))
       (made_taken (number c) _ (key_bytes k) s.depth g.0 p.seat pp u.0, (made_taken (number c) _ (key_bytes k) s.depth g.0 s.at ps u.1.0, tt)))
   greater_made s p leaf (Err e) t pp ps u g = near_to number h' 10 _ t g.1 (stops number h' 10 (omega arith) e)
 
-  top_made : (p : Parent C) (at : Seat C) (common byte : ℕ) (r : Result C Refusal) (t : Turn C V) → is_published (a (number p.seat.node)).status ≡ true → is_published (a (number at.node)).status ≡ true
+  top_made : (p : Parent C) (at : Stamp C) (common byte : ℕ) (r : Result C Refusal) (t : NextPhase C V) → is_published (a (number p.seat.node)).status ≡ true → is_published (a (number at.node)).status ≡ true
       → AreTaken number h (p.seat ∷ at ∷ []) → MadeTop number p at common byte h (key_bytes k) r h' t → Near' 11 t
   top_made p at common byte (Ok top) t pp ps u g =
       near_to number h' 11 _ t g.1 (((made_taken (number top) _ (key_bytes k) common g.0 p.seat pp u.0, (made_taken (number top) _ (key_bytes k) common g.0 at ps u.1.0, tt)), tt), omega arith, tt)
   top_made p at common byte (Err e) t pp ps u g = near_to number h' 11 _ t g.1 (stops number h' 11 (omega arith) e)
 
-  beside_made : (p : Parent C) (at : Seat C) (common byte : ℕ) (top : C) (r : Result C Refusal) (t : Turn C V) → is_published (a (number p.seat.node)).status ≡ true → is_published (a (number at.node)).status ≡ true
+  beside_made : (p : Parent C) (at : Stamp C) (common byte : ℕ) (top : C) (r : Result C Refusal) (t : NextPhase C V) → is_published (a (number p.seat.node)).status ≡ true → is_published (a (number at.node)).status ≡ true
       → AreTaken number h (p.seat ∷ at ∷ []) → MadeBeside number kind p at common byte top h (key_bytes k) r h' t → Near' 10 t
   beside_made p at common byte top (Ok leaf) t pp ps u g =
       near_to number h' 10 _ t g.1 (readies number h' 10 (omega arith) kind (Above (record { top = None; above = p; at = at; change = Split top leaf common byte }))
       (made_taken (number leaf) _ (key_bytes k) 7 g.0 p.seat pp u.0, (made_taken (number leaf) _ (key_bytes k) 7 g.0 at ps u.1.0, tt)))
   beside_made p at common byte top (Err e) t pp ps u g = near_to number h' 10 _ t g.1 (stops number h' 10 (omega arith) e)
 
-  stays : (n : ℕ) (t : Turn C V) → h' ≡ h → Near n t → Near' n t
+  stays : (n : ℕ) (t : NextPhase C V) → h' ≡ h → Near n t → Near' n t
   stays n t e f = let P : (ℕ → Node V) → Type 0 = λ y. Nearer number y n t in subst P (sym e) f
 
-  lesser_made : (s : Site C) (p : Parent C) (top : Option (Parent C)) (r : Reply V) (x : Result C Refusal) (t : Turn C V) → is_published (a (number p.seat.node)).status ≡ true → is_published (a (number s.at.node)).status ≡ true
+  lesser_made : (s : Site C) (p : Parent C) (top : Option (Parent C)) (r : Reply V) (x : Result C Refusal) (t : NextPhase C V) → is_published (a (number p.seat.node)).status ≡ true → is_published (a (number s.at.node)).status ≡ true
       → IsLesser number a h (key_bytes k) s p top → AreTaken number h (p.seat ∷ s.at ∷ seats_top top) → MadeLesser number s p top r h (key_bytes k) x h' t → Near' 10 t
   lesser_made s p None r (Ok c) t pp ps y u g =
       near_to number h' 10 _ t g.1 (((made_taken (number c) _ (key_bytes k) s.depth g.0 p.seat pp u.0, (made_taken (number c) _ (key_bytes k) s.depth g.0 s.at ps u.1.0, tt)), tt), omega arith, tt)
@@ -317,12 +310,12 @@ module _ {C V : Type 0} (number : C → ℕ) (same : V → V → Bool) (always :
       )
   lesser_made s p (Some top) r (Err e) t pp ps y u g = stays 10 t g.0 (near_to number h 10 (skipping (UpgradeAbove (both_of p s Unlink) r)) t g.1 (((u.0, (u.1.0, tt)), tt), omega arith, tt))
 
-  one_upgraded : (one : One C) (r : Reply V) (u : Upgrade) (t : Turn C V) → u ≢ Failed → UpgradedOne number root one r h u h' t → Near' 3 t
+  one_upgraded : (one : One C) (r : Reply V) (u : Upgrade) (t : NextPhase C V) → u ≢ Failed → UpgradedOne number root one r h u h' t → Near' 3 t
   one_upgraded one r Locked t f g = near_to number h' 3 _ t g.1 ((tt, tt), omega arith, tt)
   one_upgraded one r Failed t f g = absurd (f refl)
   one_upgraded one r Exhausted t f g = near_to number h' 3 _ t g.1 (stops number h' 3 (omega arith) refusal.Exhausted)
 
-  top_upgraded : (top : Parent C) (two : Two C) (r : Reply V) (u : Upgrade) (t : Turn C V) → u ≢ Failed → number two.above.seat.node ≢ number top.seat.node → number two.at.node ≢ number top.seat.node
+  top_upgraded : (top : Parent C) (two : Two C) (r : Reply V) (u : Upgrade) (t : NextPhase C V) → u ≢ Failed → number two.above.seat.node ≢ number top.seat.node → number two.at.node ≢ number top.seat.node
       → is_taken (h (number two.above.seat.node)) two.above.seat.version ≡ true → is_taken (h (number two.at.node)) two.at.version ≡ true → UpgradedTop number root top two r h u h' t → Near' 9 t
   top_upgraded top two r Locked t f np na taken low g =
       let P : Node V → Type 0 = λ y. is_taken y two.above.seat.version ≡ true in
@@ -335,14 +328,14 @@ module _ {C V : Type 0} (number : C → ℕ) (same : V → V → Bool) (always :
   gives_up None = stops number h' 8 (omega arith) refusal.Exhausted
   gives_up (Some top) = ((tt, tt), omega arith, tt)
 
-  above_upgraded : (two : Two C) (r : Reply V) (u : Upgrade) (t : Turn C V) → u ≢ Failed → number two.at.node ≢ number two.above.seat.node → is_taken (h (number two.at.node)) two.at.version ≡ true → UpgradedAbove number root two r h u h' t → Near' 8 t
+  above_upgraded : (two : Two C) (r : Reply V) (u : Upgrade) (t : NextPhase C V) → u ≢ Failed → number two.at.node ≢ number two.above.seat.node → is_taken (h (number two.at.node)) two.at.version ≡ true → UpgradedAbove number root two r h u h' t → Near' 8 t
   above_upgraded two r Locked t f ne taken g =
       let P : Node V → Type 0 = λ y. is_taken y two.at.version ≡ true in
       near_to number h' 8 _ t g.1 (((subst P (sym (g.0.others (number two.at.node) ne)) taken, tt), tt), omega arith, tt)
   above_upgraded two r Failed t f ne taken g = absurd (f refl)
   above_upgraded two r Exhausted t f ne taken g = near_to number h' 8 _ t g.1 (gives_up two.top)
 
-  both_upgraded : (two : Two C) (r : Reply V) (u : Upgrade) (t : Turn C V) → u ≢ Failed → UpgradedBelow number two r h u h' t → Near' 7 t
+  both_upgraded : (two : Two C) (r : Reply V) (u : Upgrade) (t : NextPhase C V) → u ≢ Failed → UpgradedBelow number two r h u h' t → Near' 7 t
   both_upgraded two r Locked t f g = near_to number h' 7 _ t g.1 ((tt, tt), omega arith, tt)
   both_upgraded two r Failed t f g = absurd (f refl)
   both_upgraded two r Exhausted t f g = near_to number h' 7 _ t g.1 ((tt, tt), unwinds (node_of two.top), tt)
@@ -352,7 +345,7 @@ module _ {C V : Type 0} (number : C → ℕ) (same : V → V → Bool) (always :
       unwinds (Some c) = omega arith
 
   -- a step of a call on one key, as long as the nodes of the tree are free where it holds no lock itself
-  pub points_on : (new : Option V) (s : Phase C V) (answer : Option (Option V)) (new' : Option V) (t : Turn C V) → Known number same always i a h k (key_bytes k) kind new s → IsUndisturbed number h s
+  pub points_on : (new : Option V) (s : Phase C V) (answer : Option (Option V)) (new' : Option V) (t : NextPhase C V) → Known number same always i a h k (key_bytes k) kind new s → IsUndisturbed number h s
       → (((n : ℕ) → LockedBy number s n → ⊥) → (n : ℕ) → (a n).status ≡ Linked → is_free (h n) ≡ true) → HasAnswer kind s answer → IsPoint s
       → PhaseStepped number same always most why root (key_bytes k) kind false answer new s h new' t h' → Near' (steps_left number h s) t
   points_on new New answer new' t x u free ask p g = stays _ t g.0 (near_to number h _ _ t g.2

@@ -10,9 +10,9 @@ use Rattle.congee.specs.declared.protocol.sweep.Rung.{Rung}
 use Rattle.congee.specs.declared.protocol.sweep.Stage.{Stage}
 use Rattle.congee.specs.declared.protocol.sweep.Stage.TheVariants as stage
 use Rattle.congee.specs.declared.protocol.sweep.Sweep.{Sweep}
-use Rattle.congee.specs.declared.protocol.sweep.Told.TheVariants as told
+use Rattle.congee.specs.declared.protocol.sweep.ScanReport.TheVariants as told
 use Rattle.congee.specs.Heap.{Node, Hung, Nothing, Below, Holds, version_of, is_taken, is_free}
-use Rattle.congee.specs.Ledger.{Note, Linked, Tree, LockWords}
+use Rattle.congee.specs.Notes.{Note, Linked, Tree, LockWords}
 use Rattle.congee.specs.protocol.SweepEvents.{LeastTruly, IsAny}
 use Rattle.congee.specs.protocol.SweepSteps.{whole, is_outside, first_byte, last_byte, rungs_of, pushed, popped, cleared, moved, sweep_at, Swung, goes, over, anew, left_to, left, entered, filled, IsFollowed, SweptAt}
 use Rattle.congee.specs.protocol.SweepKnown.{SweepKnownAt}

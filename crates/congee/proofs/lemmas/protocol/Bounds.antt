@@ -6,7 +6,7 @@ use Rattle.std.proofs.lemmas.Bool.Decides.{nat_tests}
 use Rattle.judge.specs.declared.journal.Reply.{Reply}
 use Rattle.congee.specs.declared.forms.base_node.NodeType.{NodeType}
 use Rattle.congee.specs.declared.protocol.store.Refusal.{Refusal}
-use Rattle.congee.specs.declared.protocol.store.Seat.{Seat}
+use Rattle.congee.specs.declared.protocol.store.Stamp.{Stamp}
 use Rattle.congee.specs.declared.protocol.store.Upgrade.{Upgrade}
 use Rattle.congee.specs.declared.protocol.store.Upgrade.TheVariants.{Locked, Failed, Exhausted}
 use Rattle.congee.specs.declared.protocol.phase.Kind.{Kind}
@@ -20,7 +20,7 @@ use Rattle.congee.specs.declared.protocol.phase.Double.TheVariants.{Unlink, Grow
 use Rattle.congee.specs.declared.protocol.phase.Two.{Two}
 use Rattle.congee.specs.declared.protocol.phase.Phase.{Phase}
 use Rattle.congee.specs.declared.protocol.phase.Phase.TheVariants.{MakeLeaf, MakeGreater, MakeTop, MakeBeside, MakeLesser, CheckAbove, UpgradeOne, ChangeOne, UpgradeTop, UpgradeAbove, UpgradeBelow, ChangeTwo, Obsolete, Retire, UnlockBelow, Unlock, Unwind}
-use Rattle.congee.specs.declared.protocol.turn.Turn.{Turn}
+use Rattle.congee.specs.declared.protocol.turn.NextPhase.{NextPhase}
 use Rattle.congee.specs.Heap.{Node, Hung, Stands, is_taken}
 use Rattle.congee.specs.protocol.Bounds.{Bounded, Within}
 use Rattle.congee.specs.protocol.Events.{SameBut, NewNode, ChangeGives, TakeOverGives, BackGives, UnlockGives, upgrade_gives}
@@ -107,46 +107,46 @@ module _ {C V : Type 0} (number : C → ℕ) (most : ℕ) (h h' : ℕ → Node V
   leaf_back None g = same most h h' g w
   leaf_back (Some leaf) g = back most h h' (number leaf) g w
 
-  leaf_made : (kind : Kind V) (s : Site C) (key : List ℕ) (r : Result C Refusal) (t : Turn C V) → MadeLeaf number kind s h key r h' t → Within most h'
+  leaf_made : (kind : Kind V) (s : Site C) (key : List ℕ) (r : Result C Refusal) (t : NextPhase C V) → MadeLeaf number kind s h key r h' t → Within most h'
   leaf_made kind s key (Ok c) t g = made most h h' (number c) _ key 7 g.0 w
   leaf_made kind s key (Err e) t g = same most h h' g.0 w
 
-  greater_made : (kind : Kind V) (s : Site C) (p : Parent C) (leaf : Option C) (key : List ℕ) (r : Result C Refusal) (t : Turn C V) → MadeGreater number kind s p leaf h key r h' t → Within most h'
+  greater_made : (kind : Kind V) (s : Site C) (p : Parent C) (leaf : Option C) (key : List ℕ) (r : Result C Refusal) (t : NextPhase C V) → MadeGreater number kind s p leaf h key r h' t → Within most h'
   greater_made kind s p leaf key (Ok c) t g = made most h h' (number c) _ key s.depth g.0 w
   greater_made kind s p leaf key (Err e) t g = leaf_back leaf g.0
 
-  top_made : (p : Parent C) (at : Seat C) (common byte : ℕ) (key : List ℕ) (r : Result C Refusal) (t : Turn C V) → MadeTop number p at common byte h key r h' t → Within most h'
+  top_made : (p : Parent C) (at : Stamp C) (common byte : ℕ) (key : List ℕ) (r : Result C Refusal) (t : NextPhase C V) → MadeTop number p at common byte h key r h' t → Within most h'
   top_made p at common byte key (Ok c) t g = made most h h' (number c) _ key common g.0 w
   top_made p at common byte key (Err e) t g = same most h h' g.0 w
 
-  beside_made : (kind : Kind V) (p : Parent C) (at : Seat C) (common byte : ℕ) (top : C) (key : List ℕ) (r : Result C Refusal) (t : Turn C V) → MadeBeside number kind p at common byte top h key r h' t → Within most h'
+  beside_made : (kind : Kind V) (p : Parent C) (at : Stamp C) (common byte : ℕ) (top : C) (key : List ℕ) (r : Result C Refusal) (t : NextPhase C V) → MadeBeside number kind p at common byte top h key r h' t → Within most h'
   beside_made kind p at common byte top key (Ok c) t g = made most h h' (number c) _ key 7 g.0 w
   beside_made kind p at common byte top key (Err e) t g = back most h h' (number top) g.0 w
 
-  lesser_made : (s : Site C) (p : Parent C) (top : Option (Parent C)) (r : Reply V) (key : List ℕ) (x : Result C Refusal) (t : Turn C V) → MadeLesser number s p top r h key x h' t → Within most h'
+  lesser_made : (s : Site C) (p : Parent C) (top : Option (Parent C)) (r : Reply V) (key : List ℕ) (x : Result C Refusal) (t : NextPhase C V) → MadeLesser number s p top r h key x h' t → Within most h'
   lesser_made s p None r key (Ok c) t g = made most h h' (number c) _ key s.depth g.0 w
   lesser_made s p None r key (Err e) t g = same most h h' g.0 w
   lesser_made s p (Some top) r key (Ok c) t g = made most h h' (number c) _ key p.depth g.0 w
   lesser_made s p (Some top) r key (Err e) t g = same most h h' g.0 w
 
-  one_upgraded : (root : C) (one : One C) (r : Reply V) (fail : Bool) (u : Upgrade) (t : Turn C V) → Stands (h (number one.at.node)) → u ≡ upgrade_gives most (h (number one.at.node)) one.at.version fail → UpgradedOne number root one r h u h' t → Within most h'
+  one_upgraded : (root : C) (one : One C) (r : Reply V) (fail : Bool) (u : Upgrade) (t : NextPhase C V) → Stands (h (number one.at.node)) → u ≡ upgrade_gives most (h (number one.at.node)) one.at.version fail → UpgradedOne number root one r h u h' t → Within most h'
   one_upgraded root one r fail Locked t s e g = locks most h h' (number one.at.node) one.at.version fail s e g.0 w
   one_upgraded root one r fail Failed t s e g = one_back one.change g.0
   one_upgraded root one r fail Exhausted t s e g = one_back one.change g.0
 
-  top_upgraded : (root : C) (top : Parent C) (two : Two C) (r : Reply V) (fail : Bool) (u : Upgrade) (t : Turn C V) → Stands (h (number top.seat.node)) → u ≡ upgrade_gives most (h (number top.seat.node)) top.seat.version fail → UpgradedTop number root top two r h u h' t
+  top_upgraded : (root : C) (top : Parent C) (two : Two C) (r : Reply V) (fail : Bool) (u : Upgrade) (t : NextPhase C V) → Stands (h (number top.seat.node)) → u ≡ upgrade_gives most (h (number top.seat.node)) top.seat.version fail → UpgradedTop number root top two r h u h' t
       → Within most h'
   top_upgraded root top two r fail Locked t s e g = locks most h h' (number top.seat.node) top.seat.version fail s e g.0 w
   top_upgraded root top two r fail Failed t s e g = two_back two.change g.0
   top_upgraded root top two r fail Exhausted t s e g = two_back two.change g.0
 
-  above_upgraded : (root : C) (two : Two C) (r : Reply V) (fail : Bool) (u : Upgrade) (t : Turn C V) → Stands (h (number two.above.seat.node)) → u ≡ upgrade_gives most (h (number two.above.seat.node)) two.above.seat.version fail → UpgradedAbove number root two r h u h' t
+  above_upgraded : (root : C) (two : Two C) (r : Reply V) (fail : Bool) (u : Upgrade) (t : NextPhase C V) → Stands (h (number two.above.seat.node)) → u ≡ upgrade_gives most (h (number two.above.seat.node)) two.above.seat.version fail → UpgradedAbove number root two r h u h' t
       → Within most h'
   above_upgraded root two r fail Locked t s e g = locks most h h' (number two.above.seat.node) two.above.seat.version fail s e g.0 w
   above_upgraded root two r fail Failed t s e g = two_back two.change g.0
   above_upgraded root two r fail Exhausted t s e g = two_back two.change g.0
 
-  both_upgraded : (two : Two C) (r : Reply V) (fail : Bool) (u : Upgrade) (t : Turn C V) → Stands (h (number two.at.node)) → u ≡ upgrade_gives most (h (number two.at.node)) two.at.version fail → UpgradedBelow number two r h u h' t → Within most h'
+  both_upgraded : (two : Two C) (r : Reply V) (fail : Bool) (u : Upgrade) (t : NextPhase C V) → Stands (h (number two.at.node)) → u ≡ upgrade_gives most (h (number two.at.node)) two.at.version fail → UpgradedBelow number two r h u h' t → Within most h'
   both_upgraded two r fail Locked t s e g = locks most h h' (number two.at.node) two.at.version fail s e g.0 w
   both_upgraded two r fail Failed t s e g = two_back two.change g.0
   both_upgraded two r fail Exhausted t s e g = two_back two.change g.0
@@ -177,7 +177,7 @@ module _ {C V : Type 0} (number : C → ℕ) (most : ℕ) (h h' : ℕ → Node V
   two_changed key new two (Split top leaf common byte) g =
       changed most g.2 h' (number two.above.seat.node) _ _ g.6 (changed most g.1 g.2 (number top) _ _ g.5 (changed most g.0 g.1 (number top) _ _ g.4 (changed most h g.0 (number leaf) _ _ g.3 w)))
 
-  pub step_within : (same_as : V → V → Bool) (always : Bool) (why : NodeType → Refusal → Type 0) (root : C) (key : List ℕ) (kind : Kind V) (fail : Bool) (answer : Option (Option V)) (new : Option V) (s : Phase C V) (new' : Option V) (t : Turn C V)
+  pub step_within : (same_as : V → V → Bool) (always : Bool) (why : NodeType → Refusal → Type 0) (root : C) (key : List ℕ) (kind : Kind V) (fail : Bool) (answer : Option (Option V)) (new : Option V) (s : Phase C V) (new' : Option V) (t : NextPhase C V)
       → MayStep number root key new s h → PhaseStepped number same_as always most why root key kind fail answer new s h new' t h' → Within most h'
   step_within same_as always why root key kind fail answer new (MakeLeaf s) new' t may g = leaf_made kind s key g.1.0 t g.1.1
   step_within same_as always why root key kind fail answer new (MakeGreater s p leaf) new' t may g = greater_made kind s p leaf key g.1.0 t g.1.1

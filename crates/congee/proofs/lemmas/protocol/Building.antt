@@ -6,7 +6,7 @@ use Rattle.std.specs.Prelude.{Option, None, Some, Result, Ok, Err}
 use Rattle.congee.specs.declared.forms.base_node.NodeType.{NodeType}
 use Rattle.congee.specs.declared.forms.base_node.NodeType.TheVariants.{N4, N16, N48, N256}
 use Rattle.judge.specs.declared.journal.Reply.{Reply}
-use Rattle.congee.specs.declared.protocol.store.Seat.{Seat}
+use Rattle.congee.specs.declared.protocol.store.Stamp.{Stamp}
 use Rattle.congee.specs.declared.protocol.store.Refusal.{Refusal}
 use Rattle.congee.specs.declared.protocol.phase.Kind.{Kind}
 use Rattle.congee.specs.declared.protocol.phase.Parent.{Parent}
@@ -14,12 +14,12 @@ use Rattle.congee.specs.declared.protocol.phase.Site.{Site}
 use Rattle.congee.specs.declared.protocol.phase.Single.TheVariants.{Set, Link}
 use Rattle.congee.specs.declared.protocol.phase.Plan.TheVariants.{Above}
 use Rattle.congee.specs.declared.protocol.phase.Phase.TheVariants.{MakeLeaf, MakeGreater, MakeTop, MakeBeside, MakeLesser}
-use Rattle.congee.specs.declared.protocol.turn.Turn.{Turn}
+use Rattle.congee.specs.declared.protocol.turn.NextPhase.{NextPhase}
 use Rattle.congee.specs.Heap.{Node, Hung, Nothing, Holds, fits}
 use Rattle.congee.specs.protocol.Events.{NewNode, Parts, places}
 use Rattle.congee.specs.protocol.Steps.{shrinks, form_below, both, refused, form_above, greater, MadeLeaf, MadeGreater, MadeTop, MadeBeside, MadeLesser}
 use Rattle.congee.specs.Keys.{key_bytes}
-use Rattle.congee.specs.Ledger.{Note, is_published, Tree, LockWords}
+use Rattle.congee.specs.Notes.{Note, is_published, Tree, LockWords}
 use Rattle.congee.specs.protocol.Protocol.{Seated, ChildOf, Sees, Knows, Made, FitsOne, Goes, Settles, MadeLeafFor, PlanKnown, Known, Effect}
 use Rattle.congee.specs.protocol.Answers.{SameMap, AnswersIf}
 use Rattle.congee.proofs.lemmas.protocol.Rely.{knows_kept, child_kept, seated_kept}
@@ -35,9 +35,7 @@ use Rattle.congee.proofs.lemmas.protocol.Plans.{ready_sound, unless_full_sound, 
 -- the form below has a place for each child that is left, and for the one that goes
 room_below : (f : NodeType) (n : ℕ) → shrinks f n ≡ true → n ≤ places (form_below f)
 room_below N4 n e = absurd cc
-room_below N16 n e = grind (arith, nat_tests)
-room_below N48 n e = grind (arith, nat_tests)
-room_below N256 n e = grind (arith, nat_tests)
+room_below _ n e = grind (arith, nat_tests)
 
 room_above : (n : ℕ) → n < 256 → n < places (form_above n)
 room_above n l = by_test (λ (f : NodeType). n < places f) (ltb n 4) _ _ (λ q. grind (arith, nat_tests))
@@ -45,7 +43,7 @@ room_above n l = by_test (λ (f : NodeType). n < places f) (ltb n 4) _ _ (λ q. 
     (λ _. by_test (λ (f : NodeType). n < places f) (ltb n 48) _ _ (λ q. grind (arith, nat_tests)) (λ _. l)))
 
 module _ {C V : Type 0} (number : C → ℕ) (same : V → V → Bool) (always : Bool) (i : ℕ) (a : ℕ → Note) (h : ℕ → Node V) (k : ℕ) (kind : Kind V) (given : Option V) where
-  answers_after : (b : Bool) (turn : Turn C V) (h' h'' : ℕ → Node V) → SameMap h h' → AnswersIf b same k kind given h' turn h'' → AnswersIf b same k kind given h turn h''
+  answers_after : (b : Bool) (turn : NextPhase C V) (h' h'' : ℕ → Node V) → SameMap h h' → AnswersIf b same k kind given h' turn h'' → AnswersIf b same k kind given h turn h''
   answers_after true turn h' h'' e x = (
     x.0,
     x.1,
@@ -61,11 +59,11 @@ module _ {C V : Type 0} (number : C → ℕ) (same : V → V → Bool) (always :
   answers_after false turn h' h'' e x = λ y l. x y l ∙ e y l
 
   -- a turn after a step that left the map
-  pub kept_after : (given' : Option V) (turn : Turn C V) (a' : ℕ → Note) (h' : ℕ → Node V) → KeepsMap i a h a' h' → Sound number same always i k kind given h' given' turn a' h' → Kept number same always i a h k kind given given' turn h'
+  pub kept_after : (given' : Option V) (turn : NextPhase C V) (a' : ℕ → Note) (h' : ℕ → Node V) → KeepsMap i a h a' h' → Sound number same always i k kind given h' given' turn a' h' → Kept number same always i a h k kind given given' turn h'
   kept_after given' turn a' h' e s = record { notes = a'; effect = e.effect; sound = record { known = s.known; answer = answers_after turn.report.decided turn h' h' e.map s.answer } }
 
-  pub kept_at : (given' : Option V) (x y : Turn C V) (h' : ℕ → Node V) → y ≡ x → Kept number same always i a h k kind given given' x h' → Kept number same always i a h k kind given given' y h'
-  kept_at given' x y h' e m = let P : Turn C V → Type 0 = λ z. Kept number same always i a h k kind given given' z h' in subst P (sym e) m
+  pub kept_at : (given' : Option V) (x y : NextPhase C V) (h' : ℕ → Node V) → y ≡ x → Kept number same always i a h k kind given given' x h' → Kept number same always i a h k kind given given' y h'
+  kept_at given' x y h' e m = let P : NextPhase C V → Type 0 = λ z. Kept number same always i a h k kind given given' z h' in subst P (sym e) m
 
   pub refused_back : (h' : ℕ → Node V) (e : Refusal) → Backed i a h h' → Kept number same always i a h k kind given given (refused e) h'
   refused_back h' e b = record { notes = b.notes; effect = b.still.effect; sound = record { known = tt; answer = b.still.map } }
@@ -81,7 +79,7 @@ module _ {C V : Type 0} (number : C → ℕ) (same : V → V → Bool) (always :
   seated_after : (a' : ℕ → Note) (h' : ℕ → Node V) → Effect i a h a' h' → (n v : ℕ) → Seated a h n v → Seated a' h' n v
   seated_after a' h' e n v m = seated_kept (λ _. Unit {0}) (suc i) a h a' h' (own_rely i a h a' h' e) n v tt m
 
-  pub leaf_made : (s : Site C) (turn : Turn C V) (h' : ℕ → Node V) (r : Result C Refusal) → Known number same always i a h k (key_bytes k) kind given (MakeLeaf s) → MadeLeaf number kind s h (key_bytes k) r h' turn
+  pub leaf_made : (s : Site C) (turn : NextPhase C V) (h' : ℕ → Node V) (r : Result C Refusal) → Known number same always i a h k (key_bytes k) kind given (MakeLeaf s) → MadeLeaf number kind s h (key_bytes k) r h' turn
       → Kept number same always i a h k kind given given turn h'
   leaf_made s turn h' (Err e) m g = kept_at number same always i a h k kind given given _ turn h' g.1 (refused_back number same always i a h k kind given h' e (back_none i a h h' t w g.0))
   leaf_made s turn h' (Ok c) m g =
@@ -135,7 +133,7 @@ module _ {C V : Type 0} (number : C → ℕ) (same : V → V → Bool) (always :
       let z : leaf ≡ d = cc in
       (made_before i a h (number c) form (key_bytes k) size h' g (number leaf) 7 0 l.1).0 (ap number z ∙ sym q)
 
-  pub greater_made : (s : Site C) (p : Parent C) (leaf : Option C) (turn : Turn C V) (h' : ℕ → Node V) (r : Result C Refusal) → Known number same always i a h k (key_bytes k) kind given (MakeGreater s p leaf)
+  pub greater_made : (s : Site C) (p : Parent C) (leaf : Option C) (turn : NextPhase C V) (h' : ℕ → Node V) (r : Result C Refusal) → Known number same always i a h k (key_bytes k) kind given (MakeGreater s p leaf)
       → MadeGreater number kind s p leaf h (key_bytes k) r h' turn → Kept number same always i a h k kind given given turn h'
   greater_made s p None turn h' (Err e) m g = kept_at number same always i a h k kind given given _ turn h' g.1 (refused_back number same always i a h k kind given h' e (back_none i a h h' t w g.0))
   greater_made s p (Some leaf) turn h' (Err e) m g = kept_at number same always i a h k kind given given _ turn h' g.1 (refused_back number same always i a h k kind given h' e (back_node i a h (key_bytes k) (number leaf) 7 0 h' t w m.3.1 g.0))
@@ -153,7 +151,7 @@ module _ {C V : Type 0} (number : C → ℕ) (same : V → V → Bool) (always :
   byte_after : (a' : ℕ → Note) (h' : ℕ → Node V) → Effect i a h a' h' → (n common byte : ℕ) → is_published (a n).status ≡ true → byte ≡ get_or (h n).prefix common 0 → byte ≡ get_or (h' n).prefix common 0
   byte_after a' h' e n common byte pu q = let P : List ℕ → Type 0 = λ y. byte ≡ get_or y common 0 in subst P (sym ((own_rely i a h a' h' e).prefix n tt pu)) q
 
-  pub top_made : (p : Parent C) (at : Seat C) (common byte : ℕ) (turn : Turn C V) (h' : ℕ → Node V) (r : Result C Refusal) → Known number same always i a h k (key_bytes k) kind given (MakeTop p at common byte)
+  pub top_made : (p : Parent C) (at : Stamp C) (common byte : ℕ) (turn : NextPhase C V) (h' : ℕ → Node V) (r : Result C Refusal) → Known number same always i a h k (key_bytes k) kind given (MakeTop p at common byte)
       → MadeTop number p at common byte h (key_bytes k) r h' turn → Kept number same always i a h k kind given given turn h'
   top_made p at common byte turn h' (Err e) m g = kept_at number same always i a h k kind given given _ turn h' g.1 (refused_back number same always i a h k kind given h' e (back_none i a h h' t w g.0))
   top_made p at common byte turn h' (Ok c) m g =
@@ -175,7 +173,7 @@ module _ {C V : Type 0} (number : C → ℕ) (same : V → V → Bool) (always :
         };
       })
 
-  pub beside_made : (p : Parent C) (at : Seat C) (common byte : ℕ) (top : C) (turn : Turn C V) (h' : ℕ → Node V) (r : Result C Refusal) → Known number same always i a h k (key_bytes k) kind given (MakeBeside p at common byte top)
+  pub beside_made : (p : Parent C) (at : Stamp C) (common byte : ℕ) (top : C) (turn : NextPhase C V) (h' : ℕ → Node V) (r : Result C Refusal) → Known number same always i a h k (key_bytes k) kind given (MakeBeside p at common byte top)
       → MadeBeside number kind p at common byte top h (key_bytes k) r h' turn → Kept number same always i a h k kind given given turn h'
   beside_made p at common byte top turn h' (Err e) m g = kept_at number same always i a h k kind given given _ turn h' g.1 (refused_back number same always i a h k kind given h' e (back_node i a h (key_bytes k) (number top) common 1 h' t w m.6 g.0))
   beside_made p at common byte top turn h' (Ok c) m g =
@@ -215,7 +213,7 @@ module _ {C V : Type 0} (number : C → ℕ) (same : V → V → Bool) (always :
       some_place N256 = omega arith
 
   -- the lesser node was made, or the call goes on without it
-  pub lesser_made : (s : Site C) (p : Parent C) (top : Option (Parent C)) (r : Reply V) (turn : Turn C V) (h' : ℕ → Node V) (x : Result C Refusal) → Known number same always i a h k (key_bytes k) kind given (MakeLesser s p top r)
+  pub lesser_made : (s : Site C) (p : Parent C) (top : Option (Parent C)) (r : Reply V) (turn : NextPhase C V) (h' : ℕ → Node V) (x : Result C Refusal) → Known number same always i a h k (key_bytes k) kind given (MakeLesser s p top r)
       → MadeLesser number s p top r h (key_bytes k) x h' turn → Kept number same always i a h k kind given given turn h'
   lesser_made s p None r turn h' (Err e) m g =
       let b : Backed i a h h' = back_none i a h h' t w g.0 in

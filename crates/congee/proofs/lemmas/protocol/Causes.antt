@@ -15,7 +15,7 @@ use Rattle.congee.specs.declared.protocol.store.Least.TheVariants as least
 use Rattle.congee.specs.declared.protocol.store.Refusal.{Refusal}
 use Rattle.congee.specs.declared.protocol.store.Refusal.TheVariants as refusal
 use Rattle.congee.specs.declared.protocol.store.Region.{Region}
-use Rattle.congee.specs.declared.protocol.store.Seat.{Seat}
+use Rattle.congee.specs.declared.protocol.store.Stamp.{Stamp}
 use Rattle.congee.specs.declared.protocol.store.Upgrade.{Upgrade}
 use Rattle.congee.specs.declared.protocol.store.Upgrade.TheVariants.{Locked, Failed, Exhausted}
 use Rattle.congee.specs.declared.protocol.phase.Kind.{Kind}
@@ -27,29 +27,29 @@ use Rattle.congee.specs.declared.protocol.phase.Single.{Single}
 use Rattle.congee.specs.declared.protocol.phase.Single.TheVariants.{Set, Link}
 use Rattle.congee.specs.declared.protocol.phase.One.{One}
 use Rattle.congee.specs.declared.protocol.phase.Double.{Double}
-use Rattle.congee.specs.declared.protocol.phase.Double.TheVariants.{Unlink, Grow, GrowLink, Split, Shrink, Collapse, ShrinkAbove}
+use Rattle.congee.specs.declared.protocol.phase.Double.TheVariants.{Split, Collapse, ShrinkAbove}
 use Rattle.congee.specs.declared.protocol.phase.Two.{Two}
 use Rattle.congee.specs.declared.protocol.phase.Plan.{Plan}
 use Rattle.congee.specs.declared.protocol.phase.Plan.TheVariants.{Here, Above}
 use Rattle.congee.specs.declared.protocol.phase.Phase.{Phase}
-use Rattle.congee.specs.declared.protocol.phase.Phase.TheVariants.{New, Version, Read, Check, CheckUncopied, CheckMiss, CheckDown, CheckOld, MakeLeaf, MakeGreater, MakeTop, MakeBeside, MakeLesser, AskOld, AskNew, Confirm, CheckAbove, UpgradeOne, ChangeOne, UpgradeTop, UpgradeAbove, UpgradeBelow, ChangeTwo, Obsolete, Retire, UnlockBelow, Unlock, Unwind, Sweep, Ended}
+use Rattle.congee.specs.declared.protocol.phase.Phase.TheVariants.{New, Version, Read, Check, CheckUncopied, CheckMiss, CheckDown, CheckOld, MakeLeaf, MakeGreater, MakeTop, MakeBeside, MakeLesser, AskOld, AskNew, Confirm, CheckAbove, UpgradeOne, UpgradeTop, UpgradeAbove, UpgradeBelow, ChangeTwo, Retire, Unlock, Unwind, Sweep}
 use Rattle.congee.specs.declared.protocol.machine.Outcome.{Outcome}
 use Rattle.congee.specs.declared.protocol.machine.Outcome.TheVariants.{Running, Asks, Found, Done, Scanned, Refused}
 use Rattle.congee.specs.declared.protocol.machine.Move.{Move}
 use Rattle.congee.specs.declared.protocol.machine.Machine.{Machine}
 use Rattle.congee.specs.declared.protocol.run.Step.{Step}
-use Rattle.congee.specs.declared.protocol.turn.Turn.{Turn}
+use Rattle.congee.specs.declared.protocol.turn.NextPhase.{NextPhase}
 use Rattle.congee.specs.Keys.{key_bytes}
 use Rattle.congee.specs.protocol.Play.{NextAt}
 use Rattle.congee.specs.declared.protocol.sweep.Rung.{Rung}
 use Rattle.congee.specs.declared.protocol.sweep.Stage.{Stage}
 use Rattle.congee.specs.declared.protocol.sweep.Stage.TheVariants as stage
 use Rattle.congee.specs.declared.protocol.sweep.Sweep.{Sweep as Scan}
-use Rattle.congee.specs.declared.protocol.sweep.Told.{Told}
-use Rattle.congee.specs.declared.protocol.sweep.Told.TheVariants as told
+use Rattle.congee.specs.declared.protocol.sweep.ScanReport.{ScanReport}
+use Rattle.congee.specs.declared.protocol.sweep.ScanReport.TheVariants as told
 use Rattle.congee.specs.Heap.{Node, is_taken}
 use Rattle.congee.specs.protocol.Events.{upgrade_gives}
-use Rattle.congee.specs.Ledger.{Note}
+use Rattle.congee.specs.Notes.{Note}
 use Rattle.congee.specs.protocol.Causes.{NoneLeft, Uncounted, Causes, IsCause}
 use Rattle.congee.specs.protocol.Protocol.{IsFailure, Known}
 use Rattle.congee.specs.protocol.SweepEvents.{IsAny}
@@ -62,11 +62,11 @@ use Rattle.congee.proofs.lemmas.protocol.Touch.{by_test}
 
 -- where a step may refuse for nothing but a refusal of Q
 module _ (C V : Type 0) (Q : Refusal → Type 0) where
-  abbrev Only : Turn C V → Type 0
+  abbrev Only : NextPhase C V → Type 0
   Only t = (e : Refusal) → t.report.outcome ≡ Refused e → Q e
 
-  to : (x y : Turn C V) → y ≡ x → Only x → Only y
-  to x y p f = subst (λ (z : Turn C V). Only z) (sym p) f
+  to : (x y : NextPhase C V) → y ≡ x → Only x → Only y
+  to x y p f = subst (λ (z : NextPhase C V). Only z) (sym p) f
 
   runs : (e : Refusal) → ◌≡◌ {A = Outcome V} Running (Refused e) → Q e
   runs e p = let z : ◌≡◌ {A = Outcome V} Running (Refused e) = p in absurd cc
@@ -86,7 +86,7 @@ module _ (C V : Type 0) (Q : Refusal → Type 0) where
   starts (Above two) r = runs
 
   readies : (kind : Kind V) (plan : Plan C) → Only (ready kind plan)
-  readies kind plan = by_test (λ (z : Turn C V). Only z) (asks_new kind) _ _ (λ _. wonders None) (λ _. starts plan (absent_reply kind))
+  readies kind plan = by_test (λ (z : NextPhase C V). Only z) (asks_new kind) _ _ (λ _. wonders None) (λ _. starts plan (absent_reply kind))
 
   unless : (kind : Kind V) (s : Site C) (full : Bool) (above : Option (Over C)) (leaf : Option C) (change : Single C) → Only (unless_full kind s full above leaf change)
   unless kind s true (Some p) leaf change = runs
@@ -94,27 +94,27 @@ module _ (C V : Type 0) (Q : Refusal → Type 0) where
   unless kind s false above leaf change = readies kind (plan_here s change)
 
   absents : (kind : Kind V) (s : Site C) → Only (absent kind s)
-  absents kind s = by_test (λ (z : Turn C V). Only z) (adds kind) _ _
-      (λ _. by_test (λ (z : Turn C V). Only z) (s.depth == 7) _ _ (λ _. unless kind s s.full s.above None Set) (λ _. runs))
+  absents kind s = by_test (λ (z : NextPhase C V). Only z) (adds kind) _ _
+      (λ _. by_test (λ (z : NextPhase C V). Only z) (s.depth == 7) _ _ (λ _. unless kind s s.full s.above None Set) (λ _. runs))
       (λ _. answers (absent_reply kind))
 
   replaces : (s : Site C) (b : Bool) (r : Reply V) → Only (replaced s b r)
-  replaces s b r = by_test (λ (z : Turn C V). Only z) b _ _ (λ _. runs) (λ _. runs)
+  replaces s b r = by_test (λ (z : NextPhase C V). Only z) b _ _ (λ _. runs) (λ _. runs)
 
   last : (s : Site C) (p : Parent C) (top : Option (Parent C)) (r : Reply V) → Only (last_out s p top r)
   last s p None r = runs
-  last s p (Some top) r = by_test (λ (z : Turn C V). Only z) (p.count == 2) _ _ (λ _. runs) (λ _. by_test (λ (z : Turn C V). Only z) (ltb 2 p.count && shrinks p.form p.count) _ _ (λ _. runs) (λ _. runs))
+  last s p (Some top) r = by_test (λ (z : NextPhase C V). Only z) (p.count == 2) _ _ (λ _. runs) (λ _. by_test (λ (z : NextPhase C V). Only z) (ltb 2 p.count && shrinks p.form p.count) _ _ (λ _. runs) (λ _. runs))
 
   takes_out : (s : Site C) (above : Option (Over C)) (r : Reply V) → Only (taken_out s above r)
   takes_out s None r = runs
-  takes_out s (Some u) r = by_test (λ (z : Turn C V). Only z) (s.count == 1) _ _ (λ _. last s u.near u.far r) (λ _. by_test (λ (z : Turn C V). Only z) (shrinks s.form s.count) _ _ (λ _. runs) (λ _. runs))
+  takes_out s (Some u) r = by_test (λ (z : NextPhase C V). Only z) (s.count == 1) _ _ (λ _. last s u.near u.far r) (λ _. by_test (λ (z : NextPhase C V). Only z) (shrinks s.form s.count) _ _ (λ _. runs) (λ _. runs))
 
   downs : (b : Bool) (s : Site C) (above : Option (Over C)) (c : C) → Only (down b s above c)
   downs false s above c = runs
   downs true s None c = runs
   downs true s (Some p) c = runs
 
-  reads : (root : C) (above : Option (Over C)) (seat : Seat C) (r : Reading C V) → Only (after_read root above seat r)
+  reads : (root : C) (above : Option (Over C)) (seat : Stamp C) (r : Reading C V) → Only (after_read root above seat r)
   reads root None seat (Differs common byte) = runs
   reads root (Some p) seat (Differs common byte) = runs
   reads root above seat (Fits depth form s) = runs
@@ -124,11 +124,11 @@ module _ (C V : Type 0) (Q : Refusal → Type 0) where
   versions root above n None = runs
   versions root above n (Some x) = runs
 
-  if_taken : (taken : Bool) (root : C) (T : Type 0) (t : Turn C V) → (taken ≡ true → T) × (taken ≡ false → t ≡ again root) → (T → Only t) → Only t
+  if_taken : (taken : Bool) (root : C) (T : Type 0) (t : NextPhase C V) → (taken ≡ true → T) × (taken ≡ false → t ≡ again root) → (T → Only t) → Only t
   if_taken taken root T t x f = on_test taken (λ p. f (x.0 p)) (λ p. to _ t (x.1 p) runs)
 
-  misses : (kind : Kind V) (p : Parent C) (seat : Seat C) (common byte : ℕ) → Only (after_miss kind p seat common byte)
-  misses kind p seat common byte = by_test (λ (z : Turn C V). Only z) (adds kind) _ _ (λ _. runs) (λ _. answers (absent_reply kind))
+  misses : (kind : Kind V) (p : Parent C) (seat : Stamp C) (common byte : ℕ) → Only (after_miss kind p seat common byte)
+  misses kind p seat common byte = by_test (λ (z : NextPhase C V). Only z) (adds kind) _ _ (λ _. runs) (λ _. answers (absent_reply kind))
 
   tops : (two : Two C) (r : Reply V) (top : Option (Parent C)) → Only (after_top two r top)
   tops two r None = runs
@@ -139,45 +139,37 @@ module _ (C V : Type 0) (Q : Refusal → Type 0) where
   hands_on (Some c) last r = runs
 
   changes : (two : Two C) (r : Reply V) (change : Double C) → Only (after_change two r change)
-  changes two r Unlink = runs
-  changes two r (Shrink c) = runs
   changes two r Collapse = tops two r two.top
   changes two r (ShrinkAbove c) = tops two r two.top
-  changes two r (Grow c) = runs
-  changes two r (GrowLink c leaf byte) = runs
-  changes two r (Split top leaf common byte) = runs
+  changes two r _ = runs
 
-  given_new : (plan : Plan C) (told : Option (Option V)) (v v' : Option V) (t : Turn C V) → IsGivenNew plan told v v' t → Only t
+  given_new : (plan : Plan C) (told : Option (Option V)) (v v' : Option V) (t : NextPhase C V) → IsGivenNew plan told v v' t → Only t
   given_new plan None v v' t x = to _ t x.1 (wonders None)
   given_new plan (Some None) v v' t x = to _ t x.1 (wonders None)
   given_new plan (Some (Some y)) v v' t x = to _ t x.1 (starts plan (reply.ComputeInsert None))
 
   -- where copies may fail, Q has their refusal
   module _ (always : Bool) (count : always ≡ false → Q refusal.Count) where
-    uncounted : (x t : Turn C V) → (t ≡ x) ⊎ Uncopied_turn always t → Only x → Only t
+    uncounted : (x t : NextPhase C V) → (t ≡ x) ⊎ Uncopied_turn always t → Only x → Only t
     uncounted x t (inl p) f = to x t p f
     uncounted x t (inr p) f = to (refused refusal.Count) t p.1 (stops refusal.Count (count p.0))
 
-    asks : (s : Site C) (old : V) (t : Turn C V) → IsAsked always s old t → Only t
+    asks : (s : Site C) (old : V) (t : NextPhase C V) → IsAsked always s old t → Only t
     asks s old t x = uncounted (asking (AskOld s old) (Some old)) t x (wonders (Some old))
 
-    at_old : (same : V → V → Bool) (kind : Kind V) (new : Option V) (s : Site C) (old : V) (t : Turn C V) → IsAtOld always same kind new s old t → Only t
+    at_old : (same : V → V → Bool) (kind : Kind V) (new : Option V) (s : Site C) (old : V) (t : NextPhase C V) → IsAtOld always same kind new s old t → Only t
     at_old same Insert new s old t x = to _ t x (replaces s (is_same same old new) (reply.Insert (Some old)))
-    at_old same Get new s old t x = asks s old t x
-    at_old same Remove new s old t x = asks s old t x
-    at_old same ComputePresent new s old t x = asks s old t x
-    at_old same ComputeInsert new s old t x = asks s old t x
-    at_old same (Exchange u) new s old t x = asks s old t x
+    at_old same _ new s old t x = asks s old t x
 
-    adds_at : (same : V → V → Bool) (kind : Kind V) (new : Option V) (s : Site C) (above : Option (Over C)) (old : V) (t : Turn C V) → IsAdded always same kind new s above old t → Only t
+    adds_at : (same : V → V → Bool) (kind : Kind V) (new : Option V) (s : Site C) (above : Option (Over C)) (old : V) (t : NextPhase C V) → IsAdded always same kind new s above old t → Only t
     adds_at same kind new s None old t x = at_old same kind new s old t x
     adds_at same kind new s (Some p) old t x = to _ t x runs
 
-    exchanges : (same : V → V → Bool) (new : Option V) (s : Site C) (old : V) (t : Turn C V) → IsExchanged always same new s old t → Only t
+    exchanges : (same : V → V → Bool) (new : Option V) (s : Site C) (old : V) (t : NextPhase C V) → IsExchanged always same new s old t → Only t
     exchanges same None s old t x = to _ t x (takes_out s s.above (reply.Exchange (Ok None)))
     exchanges same (Some u) s old t x = uncounted _ t x (replaces s (same old u) (reply.Exchange (Ok (Some u))))
 
-    presents : (same : V → V → Bool) (kind : Kind V) (new : Option V) (s : Site C) (old : V) (t : Turn C V) → IsPresent always same kind new s old t → Only t
+    presents : (same : V → V → Bool) (kind : Kind V) (new : Option V) (s : Site C) (old : V) (t : NextPhase C V) → IsPresent always same kind new s old t → Only t
     presents same Get new s old t x = to _ t x (answers (reply.Get (Some old)))
     presents same Insert new s old t x = adds_at same Insert new s s.above old t x
     presents same Remove new s old t x = to _ t x (takes_out s s.above (reply.Remove (Some old)))
@@ -185,12 +177,12 @@ module _ (C V : Type 0) (Q : Refusal → Type 0) where
     presents same ComputeInsert new s old t x = adds_at same ComputeInsert new s s.above old t x
     presents same (Exchange w) new s old t x = on_test (same old w) (λ p. exchanges same new s old t (x.0 p)) (λ p. to _ t (x.1 p) runs)
 
-    checks : (same : V → V → Bool) (kind : Kind V) (new : Option V) (s : Site C) (c : Child C V) (t : Turn C V) → IsChecked always same kind new s c t → Only t
+    checks : (same : V → V → Bool) (kind : Kind V) (new : Option V) (s : Site C) (c : Child C V) (t : NextPhase C V) → IsChecked always same kind new s c t → Only t
     checks same kind new s child.Blank t x = to _ t x (absents kind s)
     checks same kind new s (child.Node c) t x = to _ t x (downs (adds kind) s s.above c)
     checks same kind new s (child.Value old) t x = presents same kind new s old t x
 
-    given : (same : V → V → Bool) (kind : Kind V) (s : Site C) (old : V) (told : Option (Option V)) (v v' : Option V) (t : Turn C V) → IsGiven always same kind s old told v v' t → Only t
+    given : (same : V → V → Bool) (kind : Kind V) (s : Site C) (old : V) (told : Option (Option V)) (v v' : Option V) (t : NextPhase C V) → IsGiven always same kind s old told v v' t → Only t
     given same kind s old None v v' t x = asks s old t x.1
     given same ComputeInsert s old (Some None) v v' t x = asks s old t x.1
     given same ComputeInsert s old (Some (Some y)) v v' t x = to _ t x.1 (replaces s (same old y) (reply.ComputeInsert (Some old)))
@@ -224,11 +216,11 @@ module _ {C V : Type 0} (number : C → ℕ) (always : Bool) (root : C) (s : Sca
   told_to : (x y : Swung C V) → y ≡ x → Told_only x → Told_only y
   told_to x y p f = subst (λ (z : Swung C V). Told_only z) (sym p) f
 
-  told_runs : (e : Refusal) → ◌≡◌ {A = Told V} told.Running (told.Refused e) → Uncounted always e
-  told_runs e p = let z : ◌≡◌ {A = Told V} told.Running (told.Refused e) = p in absurd cc
+  told_runs : (e : Refusal) → ◌≡◌ {A = ScanReport V} told.Running (told.Refused e) → Uncounted always e
+  told_runs e p = let z : ◌≡◌ {A = ScanReport V} told.Running (told.Refused e) = p in absurd cc
 
-  told_done : (n : ℕ) (e : Refusal) → ◌≡◌ {A = Told V} (told.Done n) (told.Refused e) → Uncounted always e
-  told_done n e p = let z : ◌≡◌ {A = Told V} (told.Done n) (told.Refused e) = p in absurd cc
+  told_done : (n : ℕ) (e : Refusal) → ◌≡◌ {A = ScanReport V} (told.Done n) (told.Refused e) → Uncounted always e
+  told_done n e p = let z : ◌≡◌ {A = ScanReport V} (told.Done n) (told.Refused e) = p in absurd cc
 
   told_left : (y : Scan C V) (o : Option (Rung C)) → Told_only (left_to y o)
   told_left y None = told_done _
@@ -244,8 +236,8 @@ module _ {C V : Type 0} (number : C → ℕ) (always : Bool) (root : C) (s : Sca
   told_followed : (h : ℕ → Node V) (r : Rung C) (x : Least C V) (u : Swung C V) → IsAny always x → IsFollowed number h s r x u → Told_only u
   told_followed h r least.Nothing u a p = told_to _ u p (told_left s (last_of s.above))
   told_followed h r (least.Node byte c) u a p = told_to _ u p.2 told_runs
-  told_followed h r (least.Value byte v) u a p = told_to _ u p (λ e q. let z : ◌≡◌ {A = Told V} (told.Found s.count _ v) (told.Refused e) = q in absurd cc)
-  told_followed h r least.Uncopied u a p = told_to _ u p (λ e q. let z : ◌≡◌ {A = Told V} (told.Refused refusal.Count) (told.Refused e) = q in record { count = let y : refusal.Count ≡ e = cc in sym y; may_fail = a })
+  told_followed h r (least.Value byte v) u a p = told_to _ u p (λ e q. let z : ◌≡◌ {A = ScanReport V} (told.Found s.count _ v) (told.Refused e) = q in absurd cc)
+  told_followed h r least.Uncopied u a p = told_to _ u p (λ e q. let z : ◌≡◌ {A = ScanReport V} (told.Refused refusal.Count) (told.Refused e) = q in record { count = let y : refusal.Count ≡ e = cc in sym y; may_fail = a })
 
   told_swept : (a : ℕ → Note) (h : ℕ → Node V) (x : Stage C V) (u : Swung C V) → SweepKnownAt number always a h s x → SweptAt number always root s x h u → Told_only u
   told_swept a h stage.New u k p = told_to _ u p (told_begun _)
@@ -255,7 +247,7 @@ module _ {C V : Type 0} (number : C → ℕ) (always : Bool) (root : C) (s : Sca
   told_swept a h stage.Full u k p = told_to _ u p (told_done _)
   told_swept a h stage.Over u k p = told_to _ u p told_runs
 
-  told_cause : (o : Told V) → ((e : Refusal) → o ≡ told.Refused e → Uncounted always e) → (e : Refusal) → outcome_of o ≡ Refused e → Uncounted always e
+  told_cause : (o : ScanReport V) → ((e : Refusal) → o ≡ told.Refused e → Uncounted always e) → (e : Refusal) → outcome_of o ≡ Refused e → Uncounted always e
   told_cause told.Running f e p = let z : ◌≡◌ {A = Outcome V} Running (Refused e) = p in absurd cc
   told_cause (told.Found place key v) f e p = let z : ◌≡◌ {A = Outcome V} (Found place key v) (Refused e) = p in absurd cc
   told_cause (told.Done n) f e p = let z : ◌≡◌ {A = Outcome V} (Scanned n) (Refused e) = p in absurd cc
@@ -268,23 +260,23 @@ module _ {C V : Type 0} (number : C → ℕ) (same : V → V → Bool) (always :
   count : always ≡ false → Uncounted always refusal.Count
   count p = record { count = refl; may_fail = p }
 
-  leaf_made : (s : Site C) (r : Result C Refusal) (t : Turn C V) → MadeLeaf number kind s h key r h' t → (e : Refusal) → t.report.outcome ≡ Refused e → r ≡ Err e
+  leaf_made : (s : Site C) (r : Result C Refusal) (t : NextPhase C V) → MadeLeaf number kind s h key r h' t → (e : Refusal) → t.report.outcome ≡ Refused e → r ≡ Err e
   leaf_made s (Ok c) t g e p = absurd (to C V (λ _. ⊥) _ t g.1 (unless C V (λ _. ⊥) kind s s.full s.above (Some c) (Link c)) e p)
   leaf_made s (Err r) t g e p = to C V (λ x. ◌≡◌ {A = Result C Refusal} (Err r) (Err x)) _ t g.1 (stops C V (λ x. ◌≡◌ {A = Result C Refusal} (Err r) (Err x)) r refl) e p
 
-  greater_made : (s : Site C) (above : Parent C) (leaf : Option C) (r : Result C Refusal) (t : Turn C V) → MadeGreater number kind s above leaf h key r h' t → (e : Refusal) → t.report.outcome ≡ Refused e → r ≡ Err e
+  greater_made : (s : Site C) (above : Parent C) (leaf : Option C) (r : Result C Refusal) (t : NextPhase C V) → MadeGreater number kind s above leaf h key r h' t → (e : Refusal) → t.report.outcome ≡ Refused e → r ≡ Err e
   greater_made s above leaf (Ok c) t g e p = absurd (to C V (λ _. ⊥) _ t g.1 (readies C V (λ _. ⊥) kind (Above (both above s (greater s leaf c)))) e p)
   greater_made s above leaf (Err r) t g e p = to C V (λ x. ◌≡◌ {A = Result C Refusal} (Err r) (Err x)) _ t g.1 (stops C V (λ x. ◌≡◌ {A = Result C Refusal} (Err r) (Err x)) r refl) e p
 
-  top_made : (above : Parent C) (at : Seat C) (common byte : ℕ) (r : Result C Refusal) (t : Turn C V) → MadeTop number above at common byte h key r h' t → (e : Refusal) → t.report.outcome ≡ Refused e → r ≡ Err e
+  top_made : (above : Parent C) (at : Stamp C) (common byte : ℕ) (r : Result C Refusal) (t : NextPhase C V) → MadeTop number above at common byte h key r h' t → (e : Refusal) → t.report.outcome ≡ Refused e → r ≡ Err e
   top_made above at common byte (Ok c) t g e p = absurd (to C V (λ _. ⊥) _ t g.1 (runs C V (λ _. ⊥)) e p)
   top_made above at common byte (Err r) t g e p = to C V (λ x. ◌≡◌ {A = Result C Refusal} (Err r) (Err x)) _ t g.1 (stops C V (λ x. ◌≡◌ {A = Result C Refusal} (Err r) (Err x)) r refl) e p
 
-  beside_made : (above : Parent C) (at : Seat C) (common byte : ℕ) (top : C) (r : Result C Refusal) (t : Turn C V) → MadeBeside number kind above at common byte top h key r h' t → (e : Refusal) → t.report.outcome ≡ Refused e → r ≡ Err e
+  beside_made : (above : Parent C) (at : Stamp C) (common byte : ℕ) (top : C) (r : Result C Refusal) (t : NextPhase C V) → MadeBeside number kind above at common byte top h key r h' t → (e : Refusal) → t.report.outcome ≡ Refused e → r ≡ Err e
   beside_made above at common byte top (Ok c) t g e p = absurd (to C V (λ _. ⊥) _ t g.1 (readies C V (λ _. ⊥) kind (Above (record { top = None; above = above; at = at; change = Split top c common byte }))) e p)
   beside_made above at common byte top (Err r) t g e p = to C V (λ x. ◌≡◌ {A = Result C Refusal} (Err r) (Err x)) _ t g.1 (stops C V (λ x. ◌≡◌ {A = Result C Refusal} (Err r) (Err x)) r refl) e p
 
-  lesser_made : (s : Site C) (p : Parent C) (top : Option (Parent C)) (r : Reply V) (x : Result C Refusal) (t : Turn C V) → MadeLesser number s p top r h key x h' t → Only C V (λ _. ⊥) t
+  lesser_made : (s : Site C) (p : Parent C) (top : Option (Parent C)) (r : Reply V) (x : Result C Refusal) (t : NextPhase C V) → MadeLesser number s p top r h key x h' t → Only C V (λ _. ⊥) t
   lesser_made s p None r (Ok c) t g = to C V _ _ t g.1 (runs C V _)
   lesser_made s p None r (Err e) t g = to C V _ _ t g.1 (runs C V _)
   lesser_made s p (Some top) r (Ok c) t g = to C V _ _ t g.1 (runs C V _)
@@ -296,12 +288,12 @@ module _ {C V : Type 0} (number : C → ℕ) (same : V → V → Bool) (always :
   none_left : (n : Node V) (v : ℕ) → Exhausted ≡ upgrade_gives most n v fail → NoneLeft most v refusal.Exhausted
   none_left n v e = record { exhausted = refl; last = last_version most n v fail e }
 
-  one_upgraded : (one : One C) (r : Reply V) (u : Upgrade) (t : Turn C V) → u ≡ upgrade_gives most (h (number one.at.node)) one.at.version fail → UpgradedOne number root one r h u h' t → Only C V (NoneLeft most one.at.version) t
+  one_upgraded : (one : One C) (r : Reply V) (u : Upgrade) (t : NextPhase C V) → u ≡ upgrade_gives most (h (number one.at.node)) one.at.version fail → UpgradedOne number root one r h u h' t → Only C V (NoneLeft most one.at.version) t
   one_upgraded one r Locked t q g = to C V _ _ t g.1 (runs C V _)
   one_upgraded one r Failed t q g = to C V _ _ t g.1 (runs C V _)
   one_upgraded one r Exhausted t q g = to C V _ _ t g.1 (stops C V _ refusal.Exhausted (none_left (h (number one.at.node)) one.at.version q))
 
-  above_upgraded : (two : Two C) (r : Reply V) (u : Upgrade) (t : Turn C V) → u ≡ upgrade_gives most (h (number two.above.seat.node)) two.above.seat.version fail → UpgradedAbove number root two r h u h' t → Only C V (NoneLeft most two.above.seat.version) t
+  above_upgraded : (two : Two C) (r : Reply V) (u : Upgrade) (t : NextPhase C V) → u ≡ upgrade_gives most (h (number two.above.seat.node)) two.above.seat.version fail → UpgradedAbove number root two r h u h' t → Only C V (NoneLeft most two.above.seat.version) t
   above_upgraded two r Locked t q g = to C V _ _ t g.1 (runs C V _)
   above_upgraded two r Failed t q g = to C V _ _ t g.1 (gives_up two.top)
     where
@@ -314,22 +306,22 @@ module _ {C V : Type 0} (number : C → ℕ) (same : V → V → Bool) (always :
       gives_up None = stops C V _ refusal.Exhausted (none_left (h (number two.above.seat.node)) two.above.seat.version q)
       gives_up (Some top) = runs C V _
 
-  top_upgraded : (top : Parent C) (two : Two C) (r : Reply V) (u : Upgrade) (t : Turn C V) → u ≡ upgrade_gives most (h (number top.seat.node)) top.seat.version fail → UpgradedTop number root top two r h u h' t → Only C V (NoneLeft most top.seat.version) t
+  top_upgraded : (top : Parent C) (two : Two C) (r : Reply V) (u : Upgrade) (t : NextPhase C V) → u ≡ upgrade_gives most (h (number top.seat.node)) top.seat.version fail → UpgradedTop number root top two r h u h' t → Only C V (NoneLeft most top.seat.version) t
   top_upgraded top two r Locked t q g = to C V _ _ t g.1 (runs C V _)
   top_upgraded top two r Failed t q g = to C V _ _ t g.1 (runs C V _)
   top_upgraded top two r Exhausted t q g = to C V _ _ t g.1 (stops C V _ refusal.Exhausted (none_left (h (number top.seat.node)) top.seat.version q))
 
-  both_upgraded : (two : Two C) (r : Reply V) (u : Upgrade) (t : Turn C V) → UpgradedBelow number two r h u h' t → Only C V (λ _. ⊥) t
+  both_upgraded : (two : Two C) (r : Reply V) (u : Upgrade) (t : NextPhase C V) → UpgradedBelow number two r h u h' t → Only C V (λ _. ⊥) t
   both_upgraded two r Locked t g = to C V _ _ t g.1 (runs C V _)
   both_upgraded two r Failed t g = to C V _ _ t g.1 (runs C V _)
   both_upgraded two r Exhausted t g = to C V _ _ t g.1 (runs C V _)
 
-  unwinds : (next : Option C) (o : Option Refusal) (t : Turn C V) → IsFailure o → t ≡ after_unwind root next o → Only C V (λ e. e ≡ refusal.Exhausted) t
+  unwinds : (next : Option C) (o : Option Refusal) (t : NextPhase C V) → IsFailure o → t ≡ after_unwind root next o → Only C V (λ e. e ≡ refusal.Exhausted) t
   unwinds None None t f p = to C V _ _ t p (runs C V _)
   unwinds None (Some r) t f p = to C V _ _ t p (stops C V _ r f)
   unwinds (Some c) o t f p = to C V _ _ t p (runs C V _)
 
-  only : (new : Option V) (s : Phase C V) (new' : Option V) (t : Turn C V) → Known number same always i a h k key kind new s → PhaseStepped number same always most why root key kind fail answer new s h new' t h' → Only C V (By s) t
+  only : (new : Option V) (s : Phase C V) (new' : Option V) (t : NextPhase C V) → Known number same always i a h k key kind new s → PhaseStepped number same always most why root key kind fail answer new s h new' t h' → Only C V (By s) t
   only new New new' t x g = to C V _ _ t g.2 (versions C V _ root None root _)
   only new (Version above n) new' t x g = to C V _ _ t g.2 (versions C V _ root above n _)
   only new (Read above at) new' t x g = to C V _ _ t g.2.2 (reads C V _ root above at g.2.0)
@@ -348,28 +340,21 @@ module _ {C V : Type 0} (number : C → ℕ) (same : V → V → Bool) (always :
   only new (Confirm at r) new' t x g = if_taken C V _ _ root _ t g.2 (λ y. to C V _ _ t y (answers C V _ r))
   only new (CheckAbove p one r) new' t x g = on_test (is_taken (h (number p.node)) p.version) (λ e. to C V _ _ t (g.1.goes_on e).1 (runs C V _)) (λ e. to C V _ _ t (g.1.goes_back e).1 (runs C V _))
   only new (UpgradeOne one r) new' t x g = one_upgraded one r g.1.0 t g.1.1 g.1.2
-  only new (ChangeOne one r) new' t x g = to C V _ _ t g.2 (runs C V _)
   only new (UpgradeTop top two r) new' t x g = top_upgraded top two r g.1.0 t g.1.1 g.1.2
   only new (UpgradeAbove two r) new' t x g = above_upgraded two r g.1.0 t g.1.1 g.1.2
   only new (UpgradeBelow two r) new' t x g = both_upgraded two r g.1.0 t g.1.2
   only new (ChangeTwo two r) new' t x g = to C V _ _ t g.2 (changes C V _ two r two.change)
-  only new (Obsolete n next p r) new' t x g = to C V _ _ t g.2 (runs C V _)
   only new (Retire n next p r) new' t x g = to C V _ _ t g.2 (hands_on C V _ next p r)
-  only new (UnlockBelow n p r) new' t x g = to C V _ _ t g.2 (runs C V _)
   only new (Unlock n r) new' t x g = to C V _ _ t g.2 (answers C V _ r)
   only new (Unwind n next e) new' t x g = unwinds next e t x.3 g.2
-  only new (Sweep s) new' t x g = λ e p. told_cause number always root s g.2.1 (told_swept number always root s a h s.stage (g.2.0, g.2.1) x g.2.2) e (sym (ap (λ (u : Turn C V). u.report.outcome) g.2.3) ∙ p)
-  only new Ended new' t x g = to C V _ _ t g.2 (runs C V _)
+  only new (Sweep s) new' t x g = λ e p. told_cause number always root s g.2.1 (told_swept number always root s a h s.stage (g.2.0, g.2.1) x g.2.2) e (sym (ap (λ (u : NextPhase C V). u.report.outcome) g.2.3) ∙ p)
+  only new _ new' t x g = to C V _ _ t g.2 (runs C V _)
 
   by_outcome : (s : Phase C V) (o : Outcome V) → ((e : Refusal) → o ≡ Refused e → By s e) → IsCause why most always s o
-  by_outcome s Running f = tt
-  by_outcome s (Asks o) f = tt
-  by_outcome s (Found place x v) f = tt
-  by_outcome s (Done r) f = tt
-  by_outcome s (Scanned n) f = tt
   by_outcome s (Refused e) f = f e refl
+  by_outcome s _ f = tt
 
-  pub caused : (new : Option V) (s : Phase C V) (new' : Option V) (t : Turn C V) → Known number same always i a h k key kind new s → PhaseStepped number same always most why root key kind fail answer new s h new' t h' → IsCause why most always s t.report.outcome
+  pub caused : (new : Option V) (s : Phase C V) (new' : Option V) (t : NextPhase C V) → Known number same always i a h k key kind new s → PhaseStepped number same always most why root key kind fail answer new s h new' t h' → IsCause why most always s t.report.outcome
   caused new s new' t x g = by_outcome s t.report.outcome (only new s new' t x g)
 
 -- what a store says of its refusals, said more weakly
@@ -378,7 +363,7 @@ module _ {C V : Type 0} (number : C → ℕ) (same : V → V → Bool) (always :
   err_weaker form (Ok c) f x = tt
   err_weaker form (Err e) f x = f form e x
 
-  step_weaker : (root : C) (key : List ℕ) (kind : Kind V) (fail : Bool) (answer : Option (Option V)) (new : Option V) (s : Phase C V) (h : ℕ → Node V) (new' : Option V) (t : Turn C V) (h' : ℕ → Node V)
+  step_weaker : (root : C) (key : List ℕ) (kind : Kind V) (fail : Bool) (answer : Option (Option V)) (new : Option V) (s : Phase C V) (h : ℕ → Node V) (new' : Option V) (t : NextPhase C V) (h' : ℕ → Node V)
       → ((form : NodeType) (e : Refusal) → near form e → far form e) → PhaseStepped number same always most near root key kind fail answer new s h new' t h' → PhaseStepped number same always most far root key kind fail answer new s h new' t h'
   step_weaker root key kind fail answer new (MakeLeaf s) h new' t h' f g = (g.0, (g.1.0, g.1.1, err_weaker N4 g.1.0 f g.1.2))
   step_weaker root key kind fail answer new (MakeGreater s p leaf) h new' t h' f g = (g.0, (g.1.0, g.1.1, err_weaker (form_above s.count) g.1.0 f g.1.2))

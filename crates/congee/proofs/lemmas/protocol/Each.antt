@@ -6,9 +6,9 @@ module _ (K : ℕ → Type 0) where
   abbrev pub Each : List ℕ → Type 0
   Each = AllByRecursion K
 
-  pub both : (xs ys : List ℕ) → Each xs → Each ys → Each (xs ++ ys)
-  both [] ys e f = f
-  both (x ∷ xs) ys e f = (e.0, both xs ys e.1 f)
+  pub each_append : (xs ys : List ℕ) → Each xs → Each ys → Each (xs ++ ys)
+  each_append [] ys e f = f
+  each_append (x ∷ xs) ys e f = (e.0, each_append xs ys e.1 f)
 
   pub left : (xs ys : List ℕ) → Each (xs ++ ys) → Each xs
   left [] ys e = tt
@@ -18,6 +18,7 @@ module _ (K : ℕ → Type 0) where
   right [] ys e = e
   right (x ∷ xs) ys e = right xs ys e.1
 
+-- what is true of everything is true of each
 pub each_any : (xs : List ℕ) → Each (λ _. Unit {0}) xs
 each_any [] = tt
 each_any (x ∷ xs) = (tt, each_any xs)

@@ -4,7 +4,7 @@ use Rattle.std.specs.Prelude.{Option, None, Some, Result, Ok, Err}
 use Rattle.judge.specs.declared.journal.Reply.{Reply}
 use Rattle.congee.specs.declared.forms.base_node.NodeType.{NodeType}
 use Rattle.congee.specs.declared.protocol.store.Refusal.{Refusal}
-use Rattle.congee.specs.declared.protocol.store.Seat.{Seat}
+use Rattle.congee.specs.declared.protocol.store.Stamp.{Stamp}
 use Rattle.congee.specs.declared.protocol.store.Upgrade.{Upgrade}
 use Rattle.congee.specs.declared.protocol.store.Upgrade.TheVariants.{Locked, Failed, Exhausted}
 use Rattle.congee.specs.declared.protocol.phase.Kind.{Kind}
@@ -19,11 +19,11 @@ use Rattle.congee.specs.declared.protocol.phase.Two.{Two}
 use Rattle.congee.specs.declared.protocol.phase.Plan.{Plan}
 use Rattle.congee.specs.declared.protocol.phase.Plan.TheVariants.{Here, Above}
 use Rattle.congee.specs.declared.protocol.phase.Phase.{Phase}
-use Rattle.congee.specs.declared.protocol.phase.Phase.TheVariants.{New, Version, Read, Check, CheckUncopied, CheckMiss, CheckDown, CheckOld, MakeLeaf, MakeGreater, MakeTop, MakeBeside, MakeLesser, AskOld, AskNew, Confirm, CheckAbove, UpgradeOne, ChangeOne, UpgradeTop, UpgradeAbove, UpgradeBelow, ChangeTwo, Obsolete, Retire, UnlockBelow, Unlock, Unwind, Sweep, Ended}
-use Rattle.congee.specs.declared.protocol.turn.Turn.{Turn}
+use Rattle.congee.specs.declared.protocol.phase.Phase.TheVariants.{MakeLeaf, MakeGreater, MakeTop, MakeBeside, MakeLesser, AskNew, CheckAbove, UpgradeOne, ChangeOne, UpgradeTop, UpgradeAbove, UpgradeBelow, ChangeTwo, Obsolete, Retire, UnlockBelow, Unlock, Unwind}
+use Rattle.congee.specs.declared.protocol.turn.NextPhase.{NextPhase}
 use Rattle.congee.specs.Heap.{Node, Hung, is_taken}
 use Rattle.congee.specs.Keys.{key_bytes}
-use Rattle.congee.specs.Ledger.{Note, Linked, is_published, Tree, LockWords}
+use Rattle.congee.specs.Notes.{Note, Linked, is_published, Tree, LockWords}
 use Rattle.congee.specs.protocol.Events.{BackGives}
 use Rattle.congee.specs.protocol.Steps.{BackOne, BackTwo, BackLeaf, MadeLeaf, MadeGreater, MadeTop, MadeBeside, MadeLesser, UpgradedOne, UpgradedTop, UpgradedAbove, UpgradedBelow, PhaseStepped}
 use Rattle.congee.specs.protocol.Protocol.{Made, MadeOne, MadeTwo, MadeLeafFor, OneKnown, TwoKnown, HalfLocked, PlanKnown, Rely, Known}
@@ -70,23 +70,23 @@ module _ {C V : Type 0} (number : C → ℕ) (same : V → V → Bool) (always :
   equal : h' ≡ h → AllFilled h'
   equal e = stays (still_equal a h w h' e)
 
-  leaf_made : (s : Site C) (turn : Turn C V) (x : Result C Refusal) → MadeLeaf number kind s h (key_bytes k) x h' turn → AllFilled h'
+  leaf_made : (s : Site C) (turn : NextPhase C V) (x : Result C Refusal) → MadeLeaf number kind s h (key_bytes k) x h' turn → AllFilled h'
   leaf_made s turn (Ok c) g = stays (still_new a h w h' (number c) _ (key_bytes k) 7 g.0)
   leaf_made s turn (Err e) g = equal g.0
 
-  greater_made : (s : Site C) (p : Parent C) (leaf : Option C) (turn : Turn C V) (x : Result C Refusal) → MadeLeafFor number i a h (key_bytes k) s leaf → MadeGreater number kind s p leaf h (key_bytes k) x h' turn → AllFilled h'
+  greater_made : (s : Site C) (p : Parent C) (leaf : Option C) (turn : NextPhase C V) (x : Result C Refusal) → MadeLeafFor number i a h (key_bytes k) s leaf → MadeGreater number kind s p leaf h (key_bytes k) x h' turn → AllFilled h'
   greater_made s p leaf turn (Ok c) m g = stays (still_new a h w h' (number c) _ (key_bytes k) s.depth g.0)
   greater_made s p leaf turn (Err e) m g = stays (leaf_back_still number i a h h' (key_bytes k) w s leaf m g.0)
 
-  top_made : (p : Parent C) (at : Seat C) (common byte : ℕ) (turn : Turn C V) (x : Result C Refusal) → MadeTop number p at common byte h (key_bytes k) x h' turn → AllFilled h'
+  top_made : (p : Parent C) (at : Stamp C) (common byte : ℕ) (turn : NextPhase C V) (x : Result C Refusal) → MadeTop number p at common byte h (key_bytes k) x h' turn → AllFilled h'
   top_made p at common byte turn (Ok c) g = stays (still_new a h w h' (number c) _ (key_bytes k) common g.0)
   top_made p at common byte turn (Err e) g = equal g.0
 
-  beside_made : (p : Parent C) (at : Seat C) (common byte : ℕ) (top : C) (turn : Turn C V) (x : Result C Refusal) → Made i a h (key_bytes k) (number top) common 1 → MadeBeside number kind p at common byte top h (key_bytes k) x h' turn → AllFilled h'
+  beside_made : (p : Parent C) (at : Stamp C) (common byte : ℕ) (top : C) (turn : NextPhase C V) (x : Result C Refusal) → Made i a h (key_bytes k) (number top) common 1 → MadeBeside number kind p at common byte top h (key_bytes k) x h' turn → AllFilled h'
   beside_made p at common byte top turn (Ok c) m g = stays (still_new a h w h' (number c) _ (key_bytes k) 7 g.0)
   beside_made p at common byte top turn (Err e) m g = stays (back_still number i a h h' (key_bytes k) w (number top) common 1 m g.0)
 
-  lesser_made : (s : Site C) (p : Parent C) (top : Option (Parent C)) (r : Reply V) (turn : Turn C V) (x : Result C Refusal) → MadeLesser number s p top r h (key_bytes k) x h' turn → AllFilled h'
+  lesser_made : (s : Site C) (p : Parent C) (top : Option (Parent C)) (r : Reply V) (turn : NextPhase C V) (x : Result C Refusal) → MadeLesser number s p top r h (key_bytes k) x h' turn → AllFilled h'
   lesser_made s p None r turn (Ok c) g = stays (still_new a h w h' (number c) _ (key_bytes k) s.depth g.0)
   lesser_made s p None r turn (Err e) g = equal g.0
   lesser_made s p (Some top) r turn (Ok c) g = stays (still_new a h w h' (number c) _ (key_bytes k) p.depth g.0)
@@ -95,7 +95,7 @@ module _ {C V : Type 0} (number : C → ℕ) (same : V → V → Bool) (always :
   locked : (n : ℕ) → ((m : ℕ) → Alike (h m) (h' m)) → AllFilled h'
   locked n e = stays (λ m _. e m)
 
-  one_upgraded : (root : C) (one : One C) (r : Reply V) (turn : Turn C V) (u : Upgrade) → MadeOne number i a h (key_bytes k) one.change → UpgradedOne number root one r h u h' turn → AllFilled h'
+  one_upgraded : (root : C) (one : One C) (r : Reply V) (turn : NextPhase C V) (u : Upgrade) → MadeOne number i a h (key_bytes k) one.change → UpgradedOne number root one r h u h' turn → AllFilled h'
   one_upgraded root one r turn Locked m g = locked (number one.at.node) (locked_alike h (number one.at.node) h' g.0)
   one_upgraded root one r turn Failed m g = stays (one_back_still number i a h h' (key_bytes k) w one.change m g.0)
   one_upgraded root one r turn Exhausted m g = stays (one_back_still number i a h h' (key_bytes k) w one.change m g.0)
@@ -103,40 +103,29 @@ module _ {C V : Type 0} (number : C → ℕ) (same : V → V → Bool) (always :
   two_back : (two : Two C) (size q : ℕ) → MadeTwo number i a h (key_bytes k) two.above two.change size q → BackTwo number h two.change h' → AllFilled h'
   two_back two size q m g = stays (two_back_still number i a h h' (key_bytes k) w two.above two.change size q m g)
 
-  top_upgraded : (root : C) (top : Parent C) (two : Two C) (r : Reply V) (turn : Turn C V) (u : Upgrade) (size q : ℕ) → MadeTwo number i a h (key_bytes k) two.above two.change size q → UpgradedTop number root top two r h u h' turn → AllFilled h'
+  top_upgraded : (root : C) (top : Parent C) (two : Two C) (r : Reply V) (turn : NextPhase C V) (u : Upgrade) (size q : ℕ) → MadeTwo number i a h (key_bytes k) two.above two.change size q → UpgradedTop number root top two r h u h' turn → AllFilled h'
   top_upgraded root top two r turn Locked size q m g = locked (number top.seat.node) (locked_alike h (number top.seat.node) h' g.0)
   top_upgraded root top two r turn Failed size q m g = two_back two size q m g.0
   top_upgraded root top two r turn Exhausted size q m g = two_back two size q m g.0
 
-  above_upgraded : (root : C) (two : Two C) (r : Reply V) (turn : Turn C V) (u : Upgrade) (size q : ℕ) → MadeTwo number i a h (key_bytes k) two.above two.change size q → UpgradedAbove number root two r h u h' turn → AllFilled h'
+  above_upgraded : (root : C) (two : Two C) (r : Reply V) (turn : NextPhase C V) (u : Upgrade) (size q : ℕ) → MadeTwo number i a h (key_bytes k) two.above two.change size q → UpgradedAbove number root two r h u h' turn → AllFilled h'
   above_upgraded root two r turn Locked size q m g = locked (number two.above.seat.node) (locked_alike h (number two.above.seat.node) h' g.0)
   above_upgraded root two r turn Failed size q m g = two_back two size q m g.0
   above_upgraded root two r turn Exhausted size q m g = two_back two size q m g.0
 
-  both_upgraded : (two : Two C) (r : Reply V) (turn : Turn C V) (u : Upgrade) (size q : ℕ) → MadeTwo number i a h (key_bytes k) two.above two.change size q → UpgradedBelow number two r h u h' turn → AllFilled h'
+  both_upgraded : (two : Two C) (r : Reply V) (turn : NextPhase C V) (u : Upgrade) (size q : ℕ) → MadeTwo number i a h (key_bytes k) two.above two.change size q → UpgradedBelow number two r h u h' turn → AllFilled h'
   both_upgraded two r turn Locked size q m g = locked (number two.at.node) (locked_alike h (number two.at.node) h' g.0)
   both_upgraded two r turn Failed size q m g = two_back two size q m g.0
   both_upgraded two r turn Exhausted size q m g = two_back two size q m g.0
 
   -- every step
-  pub step_filled : (most : ℕ) (why : NodeType → Refusal → Type 0) (root : C) (fail : Bool) (answer : Option (Option V)) (s : Phase C V) (given' : Option V) (turn : Turn C V) → Known number same always i a h k (key_bytes k) kind given s → Fills number h given s
+  pub step_filled : (most : ℕ) (why : NodeType → Refusal → Type 0) (root : C) (fail : Bool) (answer : Option (Option V)) (s : Phase C V) (given' : Option V) (turn : NextPhase C V) → Known number same always i a h k (key_bytes k) kind given s → Fills number h given s
       → PhaseStepped number same always most why root (key_bytes k) kind fail answer given s h given' turn h' → AllFilled h'
-  step_filled most why root fail answer New given' turn m x g = equal g.0
-  step_filled most why root fail answer (Version p n) given' turn m x g = equal g.0
-  step_filled most why root fail answer (Read p at) given' turn m x g = equal g.0
-  step_filled most why root fail answer (Check s c) given' turn m x g = equal g.0
-  step_filled most why root fail answer (CheckUncopied at) given' turn m x g = equal g.0
-  step_filled most why root fail answer (CheckMiss p at common byte) given' turn m x g = equal g.0
-  step_filled most why root fail answer (CheckDown p at c) given' turn m x g = equal g.0
-  step_filled most why root fail answer (CheckOld p s v) given' turn m x g = equal g.0
   step_filled most why root fail answer (MakeLeaf s) given' turn m x g = leaf_made s turn g.1.0 g.1.1
   step_filled most why root fail answer (MakeGreater s p leaf) given' turn m x g = greater_made s p leaf turn g.1.0 m.3 g.1.1
   step_filled most why root fail answer (MakeTop p at common byte) given' turn m x g = top_made p at common byte turn g.1.0 g.1.1
   step_filled most why root fail answer (MakeBeside p at common byte top) given' turn m x g = beside_made p at common byte top turn g.1.0 m.6 g.1.1
   step_filled most why root fail answer (MakeLesser s p top r) given' turn m x g = lesser_made s p top r turn g.1.0 g.1.1
-  step_filled most why root fail answer (AskOld s v) given' turn m x g = equal g.0
-  step_filled most why root fail answer (AskNew plan) given' turn m x g = equal g.0
-  step_filled most why root fail answer (Confirm at r) given' turn m x g = equal g.0
   step_filled most why root fail answer (CheckAbove p one r) given' turn m x g = on_test (is_taken (h (number p.node)) p.version) (λ q. equal (g.1.goes_on q).0) (λ q. stays (one_back_still number i a h h' (key_bytes k) w one.change m.2.made (g.1.goes_back q).0))
   step_filled most why root fail answer (UpgradeOne one r) given' turn m x g = one_upgraded root one r turn g.1.0 m.1.1.made g.1.2
   step_filled most why root fail answer (ChangeOne one r) given' turn m x g = one_filled number i a h (key_bytes k) t w f one m.0 given h' m.1 m.2 x g.1
@@ -149,8 +138,7 @@ module _ {C V : Type 0} (number : C → ℕ) (same : V → V → Bool) (always :
   step_filled most why root fail answer (UnlockBelow n p r) given' turn m x g = stays (still_but a h w h' (number n) _ (record { prefix = refl; children = λ b. refl; count = refl; capacity = refl }) g.1)
   step_filled most why root fail answer (Unlock n r) given' turn m x g = stays (still_but a h w h' (number n) _ (record { prefix = refl; children = λ b. refl; count = refl; capacity = refl }) g.1)
   step_filled most why root fail answer (Unwind n next e) given' turn m x g = stays (still_but a h w h' (number n) _ (record { prefix = refl; children = λ b. refl; count = refl; capacity = refl }) g.1)
-  step_filled most why root fail answer (Sweep s) given' turn m x g = equal g.0
-  step_filled most why root fail answer Ended given' turn m x g = equal g.0
+  step_filled most why root fail answer _ given' turn m x g = equal g.0
 
 -- the steps of others, and nodes that are destroyed, leave what a call is about to do
 module _ {C V : Type 0} (number : C → ℕ) (key : List ℕ) (K : ℕ → Type 0) (i : ℕ) (a : ℕ → Note) (h : ℕ → Node V) (a' : ℕ → Note) (h' : ℕ → Node V) (r : Rely K i a h a' h') where

@@ -12,7 +12,7 @@ use Rattle.congee.specs.declared.protocol.store.Reading.{Reading}
 use Rattle.congee.specs.declared.protocol.store.Reading.TheVariants.{Differs, Fits, Uncopied}
 use Rattle.congee.specs.declared.protocol.store.Refusal.{Refusal}
 use Rattle.congee.specs.declared.protocol.store.Refusal.TheVariants as refusal
-use Rattle.congee.specs.declared.protocol.store.Seat.{Seat}
+use Rattle.congee.specs.declared.protocol.store.Stamp.{Stamp}
 use Rattle.congee.specs.declared.protocol.store.Upgrade.{Upgrade}
 use Rattle.congee.specs.declared.protocol.store.Upgrade.TheVariants.{Locked, Failed, Exhausted}
 use Rattle.congee.specs.declared.protocol.phase.Kind.{Kind}
@@ -29,10 +29,10 @@ use Rattle.congee.specs.declared.protocol.phase.Two.{Two}
 use Rattle.congee.specs.declared.protocol.phase.Plan.{Plan}
 use Rattle.congee.specs.declared.protocol.phase.Plan.TheVariants.{Here, Above}
 use Rattle.congee.specs.declared.protocol.phase.Phase.{Phase}
-use Rattle.congee.specs.declared.protocol.phase.Phase.TheVariants.{New, Version, Read, Check, CheckUncopied, CheckMiss, CheckDown, CheckOld, MakeLeaf, MakeGreater, MakeTop, MakeBeside, MakeLesser, AskOld, AskNew, Confirm, CheckAbove, UpgradeOne, ChangeOne, UpgradeTop, UpgradeAbove, UpgradeBelow, ChangeTwo, Obsolete, Retire, UnlockBelow, Unlock, Unwind, Sweep, Ended}
-use Rattle.congee.specs.declared.protocol.turn.Turn.{Turn}
+use Rattle.congee.specs.declared.protocol.phase.Phase.TheVariants.{New, Version, Read, Check, CheckUncopied, CheckMiss, CheckDown, CheckOld, MakeLeaf, MakeGreater, MakeTop, MakeBeside, MakeLesser, AskOld, AskNew, Confirm, CheckAbove, UpgradeOne, UpgradeTop, UpgradeAbove, UpgradeBelow, ChangeTwo, Retire, Unwind, Sweep}
+use Rattle.congee.specs.declared.protocol.turn.NextPhase.{NextPhase}
 use Rattle.congee.specs.Heap.{Node, Nothing, Below, Holds, child_for, is_taken, is_free, version_of}
-use Rattle.congee.specs.Ledger.{Note, Linked, is_published, IsChild, Tree, LockWords}
+use Rattle.congee.specs.Notes.{Note, Linked, is_published, IsChild, Tree, LockWords}
 use Rattle.congee.specs.protocol.Events.{places, hung, SameBut, NewNode, upgrade_gives}
 use Rattle.congee.specs.protocol.Steps.{quiet, answered, refused, adds, form_above, form_below, shrinks, after_version, after_read, down, started, ready, plan_here, unless_full, missing, absent, CopyFailed, IsAsked, replaced, set_at, both, last_out, taken_out, emptied, is_same, IsAtOld, IsAdded, IsExchanged, IsPresent, IsChecked, IsIf, after_miss, IsGiven, IsGivenNew, MadeLeaf, MadeGreater, MadeTop, MadeBeside, MadeLesser, unwound, given_up, UpgradedOne, UpgradedTop, UpgradedAbove, UpgradedBelow, after_top, after_change, after_retire, after_unwind, PhaseStepped}
 use Rattle.congee.specs.Keys.{key_bytes}
@@ -74,9 +74,7 @@ lessened N256 n k l s = omega (arith, s, l)
 -- a form that gives place has more than one child
 some_left : (form : NodeType) (n k : ℕ) → shrinks form n ≡ true → least_in form ≤ n → suc k ≡ n → 1 ≤ k
 some_left N4 n k e l s = absurd (let z : false ≡ true = e in cc)
-some_left N16 n k e l s = omega (arith, s, l)
-some_left N48 n k e l s = omega (arith, s, l)
-some_left N256 n k e l s = omega (arith, s, l)
+some_left _ n k e l s = omega (arith, s, l)
 
 grown : (n : ℕ) → least_in (form_above n) ≤ suc n
 grown n = by_test (λ (x : NodeType). least_in x ≤ suc n) (ltb n 4) _ _ (λ _. omega arith)
@@ -114,6 +112,7 @@ free_after {V} h c h' g n v e = elim (same_or_not n c) [
   | inr ne ↦ g.others n ne
 ]
 
+-- the lock of one node leaves prefix, children and places of each
 pub locked_alike : {V : Type 0} (h : ℕ → Node V) (c : ℕ) (h' : ℕ → Node V) → SameBut h c (record (h c) { locked = true }) h' → (n : ℕ) → Alike (h n) (h' n)
 locked_alike {V} h c h' g n = elim (same_or_not n c) [
   | inl e ↦ (let P : ℕ → Type 0 = λ y. Alike (h y) (h' y) in let Q : Node V → Type 0 = λ y. Alike (h c) y in
@@ -169,11 +168,11 @@ module _ {C V : Type 0} (number : C → ℕ) (h h' : ℕ → Node V) where
 
 -- what the call is about to do, after a step that leaves the nodes
 module _ {C V : Type 0} (number : C → ℕ) (h : ℕ → Node V) where
-  abbrev pub Next : Option V → Turn C V → Type 0
+  abbrev pub Next : Option V → NextPhase C V → Type 0
   Next given turn = Fills number h given turn.phase
 
-  turn_at : (given : Option V) (x turn : Turn C V) → turn ≡ x → Next given x → Next given turn
-  turn_at given x turn e n = let P : Turn C V → Type 0 = λ y. Next given y in subst P (sym e) n
+  turn_at : (given : Option V) (x turn : NextPhase C V) → turn ≡ x → Next given x → Next given turn
+  turn_at given x turn e n = let P : NextPhase C V → Type 0 = λ y. Next given y in subst P (sym e) n
 
   started_next : (v : V) (plan : Plan C) (r : Reply V) → MayFillPlan number h v plan → Next (Some v) (started plan r)
   started_next v (Here None one) r f = f
@@ -181,12 +180,9 @@ module _ {C V : Type 0} (number : C → ℕ) (h : ℕ → Node V) where
   started_next v (Above two) r f = f
 
   ready_next : (kind : Kind V) (given : Option V) (plan : Plan C) → adds kind ≡ true → HasGift kind given → ((v : V) → MayFillPlan number h v plan) → Next given (ready kind plan)
-  ready_next Get given plan e g f = absurd cc
-  ready_next Remove given plan e g f = absurd cc
-  ready_next ComputePresent given plan e g f = absurd cc
-  ready_next (Exchange old) given plan e g f = absurd cc
   ready_next ComputeInsert given plan e g f = f
   ready_next Insert given plan e g f = let P : Option V → Type 0 = λ o. Next o (started plan (reply.Insert None)) in subst P (sym g.1) (started_next g.0 plan (reply.Insert None) (f g.0))
+  ready_next _ given plan e g f = absurd cc
 
   set_plan : (s : Site C) (v : V) → MayFillPlan number h v (plan_here s Set)
   set_plan s v = λ _. tt
@@ -198,10 +194,10 @@ module _ {C V : Type 0} (number : C → ℕ) (h : ℕ → Node V) where
   unless_full_next kind given s false p leaf change e g small f = ready_next kind given (plan_here s change) e g f
 
   missing_next : (kind : Kind V) (given : Option V) (s : Site C) → adds kind ≡ true → HasGift kind given → Next given (missing kind s)
-  missing_next kind given s e g = by_test (λ (x : Turn C V). Next given x) (s.depth == 7) _ _ (λ _. unless_full_next kind given s s.full s.above None Set e g tt (set_plan s)) (λ _. tt)
+  missing_next kind given s e g = by_test (λ (x : NextPhase C V). Next given x) (s.depth == 7) _ _ (λ _. unless_full_next kind given s s.full s.above None Set e g tt (set_plan s)) (λ _. tt)
 
   absent_next : (kind : Kind V) (given : Option V) (s : Site C) → HasGift kind given → Next given (absent kind s)
-  absent_next kind given s g = by_test (λ (x : Turn C V). Next given x) (adds kind) _ _ (λ e. missing_next kind given s e g) (λ _. tt)
+  absent_next kind given s g = by_test (λ (x : NextPhase C V). Next given x) (adds kind) _ _ (λ e. missing_next kind given s e g) (λ _. tt)
 
   down_next : (given : Option V) (b : Bool) (s : Site C) (p : Option (Over C)) (c : C) → Next given (down b s p c)
   down_next given false s p c = tt
@@ -212,7 +208,7 @@ module _ {C V : Type 0} (number : C → ℕ) (h : ℕ → Node V) where
   replaced_next v s true r = tt
   replaced_next v s false r = λ _. tt
 
-  asked_next : (always : Bool) (given : Option V) (s : Site C) (v : V) (turn : Turn C V) → IsAsked always s v turn → Next given turn
+  asked_next : (always : Bool) (given : Option V) (s : Site C) (v : V) (turn : NextPhase C V) → IsAsked always s v turn → Next given turn
   asked_next always given s v turn (inl e) = turn_at given _ turn e tt
   asked_next always given s v turn (inr e) = turn_at given _ turn e.1 tt
 
@@ -220,7 +216,7 @@ module _ {C V : Type 0} (number : C → ℕ) (h : ℕ → Node V) where
   version_next given root p n None = tt
   version_next given root p n (Some v) = tt
 
-  read_next : (given : Option V) (root : C) (p : Option (Over C)) (at : Seat C) (r : Reading C V) → Next given (after_read root p at r)
+  read_next : (given : Option V) (root : C) (p : Option (Over C)) (at : Stamp C) (r : Reading C V) → Next given (after_read root p at r)
   read_next given root None at (Differs common byte) = tt
   read_next given root (Some u) at (Differs common byte) = tt
   read_next given root None at (Fits depth form s) = tt
@@ -228,8 +224,8 @@ module _ {C V : Type 0} (number : C → ℕ) (h : ℕ → Node V) where
   read_next given root None at Uncopied = tt
   read_next given root (Some u) at Uncopied = tt
 
-  miss_next : (given : Option V) (kind : Kind V) (p : Parent C) (at : Seat C) (common byte : ℕ) → Next given (after_miss kind p at common byte)
-  miss_next given kind p at common byte = by_test (λ (x : Turn C V). Next given x) (adds kind) _ _ (λ _. tt) (λ _. tt)
+  miss_next : (given : Option V) (kind : Kind V) (p : Parent C) (at : Stamp C) (common byte : ℕ) → Next given (after_miss kind p at common byte)
+  miss_next given kind p at common byte = by_test (λ (x : NextPhase C V). Next given x) (adds kind) _ _ (λ _. tt) (λ _. tt)
 
   unwound_next : (given : Option V) (root : C) (e : Option Refusal) → Next given (unwound root e)
   unwound_next given root None = tt
@@ -252,15 +248,11 @@ module _ {C V : Type 0} (number : C → ℕ) (h : ℕ → Node V) where
   top_next given two r (Some g) = tt
 
   change_next : (given : Option V) (two : Two C) (r : Reply V) (change : Double C) → Next given (after_change two r change)
-  change_next given two r (Split top leaf common byte) = tt
   change_next given two r Collapse = top_next given two r two.top
   change_next given two r (ShrinkAbove c) = top_next given two r two.top
-  change_next given two r Unlink = tt
-  change_next given two r (Grow c) = tt
-  change_next given two r (GrowLink c leaf byte) = tt
-  change_next given two r (Shrink c) = tt
+  change_next given two r _ = tt
 
-  if_next : (given : Option V) (taken : Bool) (root : C) (Then : Turn C V → Type 0) (turn : Turn C V) → IsIf taken root Then turn → (taken ≡ true → Then turn → Next given turn) → Next given turn
+  if_next : (given : Option V) (taken : Bool) (root : C) (Then : NextPhase C V → Type 0) (turn : NextPhase C V) → IsIf taken root Then turn → (taken ≡ true → Then turn → Next given turn) → Next given turn
   if_next given taken root Then turn x n = on_test taken (λ e. n e (x.0 e)) (λ e. turn_at given _ turn (x.1 e) tt)
 
 both_false : (x y : Bool) → x && y ≡ false → x ≡ true → y ≡ false
@@ -299,13 +291,13 @@ module _ {C V : Type 0} (number : C → ℕ) (same : V → V → Bool) (always :
 
   last_next : (s : Site C) (r : Reply V) (p : Parent C) (far : Option (Parent C)) → ChildOf number a h (key_bytes k) p (number s.at.node) → IsFar number a h (key_bytes k) far (number p.seat.node) → Next number h None (last_out s p far r)
   last_next s r p None c z = λ _ _ nz. absurd (nz z)
-  last_next s r p (Some top) c z = by_test (λ (x : Turn C V). Next number h None x) (p.count == 2) _ _ (λ _. λ _ _. tt)
-      (λ two. by_test (λ (x : Turn C V). Next number h None x) (ltb 2 p.count && shrinks p.form p.count) _ _ (λ _. tt) (λ large. above_next s r p c two large))
+  last_next s r p (Some top) c z = by_test (λ (x : NextPhase C V). Next number h None x) (p.count == 2) _ _ (λ _. λ _ _. tt)
+      (λ two. by_test (λ (x : NextPhase C V). Next number h None x) (ltb 2 p.count && shrinks p.form p.count) _ _ (λ _. tt) (λ large. above_next s r p c two large))
 
   taken_next : (s : Site C) (v : V) (r : Reply V) (p : Option (Over C)) → IsAbove number a h (key_bytes k) p (number s.at.node) → Knows number a h (key_bytes k) s (Holds v) → s.depth ≡ 7 → Next number h None (taken_out s p r)
   taken_next s v r None z m d = λ _ nz. absurd (nz z)
-  taken_next s v r (Some u) z m d = by_test (λ (x : Turn C V). Next number h None x) (s.count == 1) _ _ (λ _. last_next s r u.near u.far z.0 z.1)
-      (λ one. by_test (λ (x : Turn C V). Next number h None x) (shrinks s.form s.count) _ _ (λ _. tt) (λ large. stays_next s v r m d one large))
+  taken_next s v r (Some u) z m d = by_test (λ (x : NextPhase C V). Next number h None x) (s.count == 1) _ _ (λ _. last_next s r u.near u.far z.0 z.1)
+      (λ one. by_test (λ (x : NextPhase C V). Next number h None x) (shrinks s.form s.count) _ _ (λ _. tt) (λ large. stays_next s v r m d one large))
 
   emptied_next : (s : Site C) (v : V) (r : Reply V) → Knows number a h (key_bytes k) s (Holds v) → s.depth ≡ 7 → Next number h None (emptied s r)
   emptied_next s v r m d = taken_next s v r s.above m.above m d
@@ -316,24 +308,20 @@ module _ {C V : Type 0} (number : C → ℕ) (same : V → V → Bool) (always :
   replaced_as : (given : Option V) (v : V) (s : Site C) (b : Bool) (r : Reply V) → given ≡ Some v → Next number h given (replaced s b r)
   replaced_as given v s b r e = let P : Option V → Type 0 = λ o. Next number h o (replaced s b r) in subst P (sym e) (replaced_next number h v s b r)
 
-  at_old_next : (kind : Kind V) (given : Option V) (s : Site C) (v : V) (turn : Turn C V) → HasGift kind given → IsAtOld always same kind given s v turn → Next number h given turn
+  at_old_next : (kind : Kind V) (given : Option V) (s : Site C) (v : V) (turn : NextPhase C V) → HasGift kind given → IsAtOld always same kind given s v turn → Next number h given turn
   at_old_next Insert given s v turn g e = turn_at number h given _ turn e (replaced_as given g.0 s (is_same same v given) (reply.Insert (Some v)) g.1)
-  at_old_next Get given s v turn g e = asked_next number h always given s v turn e
-  at_old_next Remove given s v turn g e = asked_next number h always given s v turn e
-  at_old_next ComputePresent given s v turn g e = asked_next number h always given s v turn e
-  at_old_next ComputeInsert given s v turn g e = asked_next number h always given s v turn e
-  at_old_next (Exchange old) given s v turn g e = asked_next number h always given s v turn e
+  at_old_next _ given s v turn g e = asked_next number h always given s v turn e
 
-  added_next : (kind : Kind V) (given : Option V) (s : Site C) (p : Option (Over C)) (v : V) (turn : Turn C V) → HasGift kind given → IsAdded always same kind given s p v turn → Next number h given turn
+  added_next : (kind : Kind V) (given : Option V) (s : Site C) (p : Option (Over C)) (v : V) (turn : NextPhase C V) → HasGift kind given → IsAdded always same kind given s p v turn → Next number h given turn
   added_next kind given s None v turn g e = at_old_next kind given s v turn g e
   added_next kind given s (Some u) v turn g e = turn_at number h given _ turn e tt
 
-  exchanged_next : (given : Option V) (s : Site C) (v : V) (turn : Turn C V) → Knows number a h (key_bytes k) s (Holds v) → s.depth ≡ 7 → IsExchanged always same given s v turn → Next number h given turn
+  exchanged_next : (given : Option V) (s : Site C) (v : V) (turn : NextPhase C V) → Knows number a h (key_bytes k) s (Holds v) → s.depth ≡ 7 → IsExchanged always same given s v turn → Next number h given turn
   exchanged_next None s v turn m d e = turn_at number h None _ turn e (emptied_next s v (reply.Exchange (Ok None)) m d)
   exchanged_next (Some x) s v turn m d (inl e) = turn_at number h (Some x) _ turn e (replaced_next number h x s (same v x) (reply.Exchange (Ok (Some x))))
   exchanged_next (Some x) s v turn m d (inr e) = turn_at number h (Some x) _ turn e.1 tt
 
-  present_next : (kind : Kind V) (given : Option V) (s : Site C) (v : V) (turn : Turn C V) → HasGift kind given → Knows number a h (key_bytes k) s (Holds v) → s.depth ≡ 7 → IsPresent always same kind given s v turn → Next number h given turn
+  present_next : (kind : Kind V) (given : Option V) (s : Site C) (v : V) (turn : NextPhase C V) → HasGift kind given → Knows number a h (key_bytes k) s (Holds v) → s.depth ≡ 7 → IsPresent always same kind given s v turn → Next number h given turn
   present_next Get given s v turn g m d e = turn_at number h given _ turn e tt
   present_next Insert given s v turn g m d e = added_next Insert given s s.above v turn g e
   present_next Remove given s v turn g m d e = turn_at number h given _ turn e (emptied_as given s v (reply.Remove (Some v)) g m d)
@@ -341,23 +329,23 @@ module _ {C V : Type 0} (number : C → ℕ) (same : V → V → Bool) (always :
   present_next ComputeInsert given s v turn g m d e = added_next ComputeInsert given s s.above v turn g e
   present_next (Exchange old) given s v turn g m d e = on_test (same v old) (λ q. exchanged_next given s v turn m d (e.0 q)) (λ q. turn_at number h given _ turn (e.1 q) tt)
 
-  checked_next : (kind : Kind V) (given : Option V) (s : Site C) (c : Child C V) (turn : Turn C V) → HasGift kind given → Knows number a h (key_bytes k) s (hung number c) → is_taken (h (number s.at.node)) s.at.version ≡ true
+  checked_next : (kind : Kind V) (given : Option V) (s : Site C) (c : Child C V) (turn : NextPhase C V) → HasGift kind given → Knows number a h (key_bytes k) s (hung number c) → is_taken (h (number s.at.node)) s.at.version ≡ true
       → IsChecked always same kind given s c turn → Next number h given turn
   checked_next kind given s child.Blank turn g m q e = turn_at number h given _ turn e (absent_next number h kind given s g)
   checked_next kind given s (child.Node c) turn g m q e = turn_at number h given _ turn e (down_next number h given (adds kind) s s.above c)
   checked_next kind given s (child.Value v) turn g m q e = present_next kind given s v turn g m (at_leaf number same always i a h k t w s v m q) e
 
-  given_as : (given given' : Option V) (turn : Turn C V) → given' ≡ given → Next number h given turn → Next number h given' turn
+  given_as : (given given' : Option V) (turn : NextPhase C V) → given' ≡ given → Next number h given turn → Next number h given' turn
   given_as given given' turn e n = let P : Option V → Type 0 = λ o. Next number h o turn in subst P (sym e) n
 
-  out_next : (given' : Option V) (s : Site C) (v : V) (r : Reply V) (turn : Turn C V) → Knows number a h (key_bytes k) s (Holds v) → s.depth ≡ 7 → (given' ≡ None) × (turn ≡ emptied s r) → Next number h given' turn
+  out_next : (given' : Option V) (s : Site C) (v : V) (r : Reply V) (turn : NextPhase C V) → Knows number a h (key_bytes k) s (Holds v) → s.depth ≡ 7 → (given' ≡ None) × (turn ≡ emptied s r) → Next number h given' turn
   out_next given' s v r turn m d e = turn_at number h given' _ turn e.1 (emptied_as given' s v r e.0 m d)
 
-  in_next : (given' : Option V) (x : V) (s : Site C) (b : Bool) (r : Reply V) (turn : Turn C V) → given' ≡ Some x → (turn ≡ replaced s b r) ⊎ CopyFailed always turn → Next number h given' turn
+  in_next : (given' : Option V) (x : V) (s : Site C) (b : Bool) (r : Reply V) (turn : NextPhase C V) → given' ≡ Some x → (turn ≡ replaced s b r) ⊎ CopyFailed always turn → Next number h given' turn
   in_next given' x s b r turn e (inl z) = turn_at number h given' _ turn z (replaced_as given' x s b r e)
   in_next given' x s b r turn e (inr z) = turn_at number h given' _ turn z.1 tt
 
-  given_next : (kind : Kind V) (given given' : Option V) (answer : Option (Option V)) (s : Site C) (v : V) (turn : Turn C V) → Knows number a h (key_bytes k) s (Holds v) → s.depth ≡ 7 → IsGiven always same kind s v answer given given' turn → Next number h given' turn
+  given_next : (kind : Kind V) (given given' : Option V) (answer : Option (Option V)) (s : Site C) (v : V) (turn : NextPhase C V) → Knows number a h (key_bytes k) s (Holds v) → s.depth ≡ 7 → IsGiven always same kind s v answer given given' turn → Next number h given' turn
   given_next kind given given' None s v turn m d e = asked_next number h always given' s v turn e.1
   given_next ComputeInsert given given' (Some None) s v turn m d e = asked_next number h always given' s v turn e.1
   given_next ComputeInsert given given' (Some (Some x)) s v turn m d e = turn_at number h given' _ turn e.1 (replaced_as given' x s (same v x) (reply.ComputeInsert (Some v)) e.0)
@@ -372,7 +360,7 @@ module _ {C V : Type 0} (number : C → ℕ) (same : V → V → Bool) (always :
   given_next ComputePresent given given' (Some (Some x)) s v turn m d e = in_next given' x s (same v x) (reply.ComputePresent (Some (v, Some x))) turn e.0 e.1
   given_next (Exchange old) given given' (Some (Some x)) s v turn m d e = in_next given' x s (same v x) (reply.ComputePresent (Some (v, Some x))) turn e.0 e.1
 
-  given_new_next : (given given' : Option V) (answer : Option (Option V)) (plan : Plan C) (turn : Turn C V) → ((v : V) → MayFillPlan number h v plan) → IsGivenNew plan answer given given' turn → Next number h given' turn
+  given_new_next : (given given' : Option V) (answer : Option (Option V)) (plan : Plan C) (turn : NextPhase C V) → ((v : V) → MayFillPlan number h v plan) → IsGivenNew plan answer given given' turn → Next number h given' turn
   given_new_next given given' None plan turn x e = turn_at number h given' _ turn e.1 x
   given_new_next given given' (Some None) plan turn x e = turn_at number h given' _ turn e.1 x
   given_new_next given given' (Some (Some v)) plan turn x e = turn_at number h given' _ turn e.1 (let P : Option V → Type 0 = λ o. Next number h o (started plan (reply.ComputeInsert None)) in subst P (sym e.0) (started_next number h v plan (reply.ComputeInsert None) (x v)))
@@ -382,7 +370,7 @@ module _ {C V : Type 0} (number : C → ℕ) (same : V → V → Bool) (always :
   was : (n v : ℕ) → h' n ≡ h n → is_taken (h' n) v ≡ true → is_taken (h n) v ≡ true
   was n v e q = let P : Node V → Type 0 = λ y. is_taken y v ≡ true in subst P e q
 
-  leaf_made_next : (s : Site C) (turn : Turn C V) (x : Result C Refusal) → Known number same always i a h k (key_bytes k) kind given (MakeLeaf s) → MadeLeaf number kind s h (key_bytes k) x h' turn → Next number h' given turn
+  leaf_made_next : (s : Site C) (turn : NextPhase C V) (x : Result C Refusal) → Known number same always i a h k (key_bytes k) kind given (MakeLeaf s) → MadeLeaf number kind s h (key_bytes k) x h' turn → Next number h' given turn
   leaf_made_next s turn (Err e) m g = turn_at number h' given _ turn g.1 tt
   leaf_made_next s turn (Ok leaf) m g = turn_at number h' given _ turn g.1 (unless_full_next number h' kind given s s.full s.above (Some leaf) (Link leaf) m.3 m.0 g.0.capacity (λ v _. g.0.capacity))
 
@@ -404,7 +392,7 @@ module _ {C V : Type 0} (number : C → ℕ) (same : V → V → Bool) (always :
         least = enough (form_above s.count) (suc (h (number s.at.node)).count) (h' (number c)).capacity g.capacity (subst P (sym y.count) (grown s.count));
       })
 
-  greater_made_next : (s : Site C) (p : Parent C) (leaf : Option C) (turn : Turn C V) (x : Result C Refusal) → Known number same always i a h k (key_bytes k) kind given (MakeGreater s p leaf) → IsSmall number h leaf
+  greater_made_next : (s : Site C) (p : Parent C) (leaf : Option C) (turn : NextPhase C V) (x : Result C Refusal) → Known number same always i a h k (key_bytes k) kind given (MakeGreater s p leaf) → IsSmall number h leaf
       → MadeGreater number kind s p leaf h (key_bytes k) x h' turn → Next number h' given turn
   greater_made_next s p leaf turn (Err e) m small g = turn_at number h' given _ turn g.1 tt
   greater_made_next s p None turn (Ok c) m small g = turn_at number h' given _ turn g.1 (ready_next number h' kind given _ m.4 m.0 (λ v _ q nz. greater_fills s c m.1 g.0 q nz))
@@ -412,11 +400,11 @@ module _ {C V : Type 0} (number : C → ℕ) (same : V → V → Bool) (always :
       let four : (h' (number leaf)).capacity ≡ 4 = ap (λ z. z.capacity) (g.0.others (number leaf) (new_apart a h w h' (number c) _ (key_bytes k) s.depth (number leaf) g.0 m.3.1.made)) ∙ small in
       turn_at number h' given _ turn g.1 (ready_next number h' kind given _ m.4 m.0 (λ v _ q. ((λ nz. greater_fills s c m.1 g.0 q nz), four)))
 
-  top_made_next : (p : Parent C) (at : Seat C) (common byte : ℕ) (turn : Turn C V) (x : Result C Refusal) → MadeTop number p at common byte h (key_bytes k) x h' turn → Next number h' given turn
+  top_made_next : (p : Parent C) (at : Stamp C) (common byte : ℕ) (turn : NextPhase C V) (x : Result C Refusal) → MadeTop number p at common byte h (key_bytes k) x h' turn → Next number h' given turn
   top_made_next p at common byte turn (Err e) g = turn_at number h' given _ turn g.1 tt
   top_made_next p at common byte turn (Ok top) g = turn_at number h' given _ turn g.1 g.0.capacity
 
-  beside_made_next : (p : Parent C) (at : Seat C) (common byte : ℕ) (top : C) (turn : Turn C V) (x : Result C Refusal) → Known number same always i a h k (key_bytes k) kind given (MakeBeside p at common byte top) → (h (number top)).capacity ≡ 4
+  beside_made_next : (p : Parent C) (at : Stamp C) (common byte : ℕ) (top : C) (turn : NextPhase C V) (x : Result C Refusal) → Known number same always i a h k (key_bytes k) kind given (MakeBeside p at common byte top) → (h (number top)).capacity ≡ 4
       → MadeBeside number kind p at common byte top h (key_bytes k) x h' turn → Next number h' given turn
   beside_made_next p at common byte top turn (Err e) m small g = turn_at number h' given _ turn g.1 tt
   beside_made_next p at common byte top turn (Ok leaf) m small g =
@@ -459,14 +447,14 @@ module _ {C V : Type 0} (number : C → ℕ) (same : V → V → Bool) (always :
         least = enough (form_below p.form) j (h' (number c)).capacity g.capacity (lessened p.form p.count j l es);
       })
 
-  lesser_made_next : (s : Site C) (p : Parent C) (top : Option (Parent C)) (r : Reply V) (turn : Turn C V) (x : Result C Refusal) → Known number same always i a h k (key_bytes k) kind given (MakeLesser s p top r) → turn.report.skipped ≡ false
+  lesser_made_next : (s : Site C) (p : Parent C) (top : Option (Parent C)) (r : Reply V) (turn : NextPhase C V) (x : Result C Refusal) → Known number same always i a h k (key_bytes k) kind given (MakeLesser s p top r) → turn.report.skipped ≡ false
       → MadeLesser number s p top r h (key_bytes k) x h' turn → Next number h' given turn
   lesser_made_next s p None r turn (Err e) m skip g = let z : turn.report.skipped ≡ true = ap (λ y. y.report.skipped) g.1 in absurd cc
   lesser_made_next s p (Some top) r turn (Err e) m skip g = let z : turn.report.skipped ≡ true = ap (λ y. y.report.skipped) g.1 in absurd cc
   lesser_made_next s p None r turn (Ok c) m skip g = turn_at number h' given _ turn g.1 (λ _ q nz. leaf_fills s c m.1.0 m.1.1 m.2 m.5 g.0 q nz)
   lesser_made_next s p (Some top) r turn (Ok c) m skip g = turn_at number h' given _ turn g.1 (λ q _ nz. above_fills p (number s.at.node) c m.4 m.5.2 g.0 q nz)
 
-  one_locked_next : (most : ℕ) (fail : Bool) (root : C) (one : One C) (r : Reply V) (turn : Turn C V) (u : Upgrade) → MayFillOne number h given one → u ≡ upgrade_gives most (h (number one.at.node)) one.at.version fail
+  one_locked_next : (most : ℕ) (fail : Bool) (root : C) (one : One C) (r : Reply V) (turn : NextPhase C V) (u : Upgrade) → MayFillOne number h given one → u ≡ upgrade_gives most (h (number one.at.node)) one.at.version fail
       → UpgradedOne number root one r h u h' turn → Next number h' given turn
   one_locked_next most fail root one r turn Failed x e g = turn_at number h' given _ turn g.1 tt
   one_locked_next most fail root one r turn Exhausted x e g = turn_at number h' given _ turn g.1 tt
@@ -479,7 +467,7 @@ module _ {C V : Type 0} (number : C → ℕ) (same : V → V → Bool) (always :
   over_lock n two g x = fills_two_on number h h' two.change (number two.above.seat.node) (h (number two.above.seat.node)) (h' (number two.above.seat.node)) (number two.at.node) (h (number two.at.node)) (h' (number two.at.node))
       (locked_alike h n h' g (number two.above.seat.node)) (locked_alike h n h' g (number two.at.node)) (places_two number h h' two.change (λ m. (locked_alike h n h' g m).capacity)) x
 
-  top_locked_next : (most : ℕ) (fail : Bool) (root : C) (top : Parent C) (two : Two C) (r : Reply V) (turn : Turn C V) (u : Upgrade) → MayFillTwo number h two → u ≡ upgrade_gives most (h (number top.seat.node)) top.seat.version fail
+  top_locked_next : (most : ℕ) (fail : Bool) (root : C) (top : Parent C) (two : Two C) (r : Reply V) (turn : NextPhase C V) (u : Upgrade) → MayFillTwo number h two → u ≡ upgrade_gives most (h (number top.seat.node)) top.seat.version fail
       → UpgradedTop number root top two r h u h' turn → Next number h' given turn
   top_locked_next most fail root top two r turn Failed x e g = turn_at number h' given _ turn g.1 tt
   top_locked_next most fail root top two r turn Exhausted x e g = turn_at number h' given _ turn g.1 tt
@@ -487,7 +475,7 @@ module _ {C V : Type 0} (number : C → ℕ) (same : V → V → Bool) (always :
       (x (was (number two.above.seat.node) two.above.seat.version (free_after h (number top.seat.node) h' g.0 (number two.above.seat.node) two.above.seat.version p) p)
       (was (number two.at.node) two.at.version (free_after h (number top.seat.node) h' g.0 (number two.at.node) two.at.version q) q)))
 
-  above_locked_next : (most : ℕ) (fail : Bool) (root : C) (two : Two C) (r : Reply V) (turn : Turn C V) (u : Upgrade) → MayFillTwo number h two → u ≡ upgrade_gives most (h (number two.above.seat.node)) two.above.seat.version fail
+  above_locked_next : (most : ℕ) (fail : Bool) (root : C) (two : Two C) (r : Reply V) (turn : NextPhase C V) (u : Upgrade) → MayFillTwo number h two → u ≡ upgrade_gives most (h (number two.above.seat.node)) two.above.seat.version fail
       → UpgradedAbove number root two r h u h' turn → Next number h' given turn
   above_locked_next most fail root two r turn Failed x e g = turn_at number h' given _ turn g.1 (given_up_next number h' given root two.top _)
   above_locked_next most fail root two r turn Exhausted x e g = turn_at number h' given _ turn g.1 (given_up_next number h' given root two.top _)
@@ -495,29 +483,29 @@ module _ {C V : Type 0} (number : C → ℕ) (same : V → V → Bool) (always :
       (x (locked_taken most (h (number two.above.seat.node)) two.above.seat.version fail e)
       (was (number two.at.node) two.at.version (free_after h (number two.above.seat.node) h' g.0 (number two.at.node) two.at.version q) q)))
 
-  both_locked_next : (most : ℕ) (fail : Bool) (two : Two C) (r : Reply V) (turn : Turn C V) (u : Upgrade) → MayFillHalf number h two → u ≡ upgrade_gives most (h (number two.at.node)) two.at.version fail
+  both_locked_next : (most : ℕ) (fail : Bool) (two : Two C) (r : Reply V) (turn : NextPhase C V) (u : Upgrade) → MayFillHalf number h two → u ≡ upgrade_gives most (h (number two.at.node)) two.at.version fail
       → UpgradedBelow number two r h u h' turn → Next number h' given turn
   both_locked_next most fail two r turn Failed x e g = turn_at number h' given _ turn g.1 tt
   both_locked_next most fail two r turn Exhausted x e g = turn_at number h' given _ turn g.1 tt
   both_locked_next most fail two r turn Locked x e g = turn_at number h' given _ turn g.1 (over_lock (number two.at.node) two g.0 (x (locked_taken most (h (number two.at.node)) two.at.version fail e)))
 
   -- a step that leaves the nodes and the call's new value
-  equal_next : (given' : Option V) (turn : Turn C V) → h' ≡ h → given' ≡ given → Next number h given turn → Next number h' given' turn
+  equal_next : (given' : Option V) (turn : NextPhase C V) → h' ≡ h → given' ≡ given → Next number h given turn → Next number h' given' turn
   equal_next given' turn e eg n = let P : (ℕ → Node V) → Option V → Type 0 = λ y o. Next number y o turn in let Q : Option V → Type 0 = λ o. P h o in let R : (ℕ → Node V) → Type 0 = λ y. P y given' in subst R (sym e) (subst Q (sym eg) n)
 
-  given_to : (given' : Option V) (turn : Turn C V) → given' ≡ given → Next number h' given turn → Next number h' given' turn
+  given_to : (given' : Option V) (turn : NextPhase C V) → given' ≡ given → Next number h' given turn → Next number h' given' turn
   given_to given' turn e n = let P : Option V → Type 0 = λ o. Next number h' o turn in subst P (sym e) n
 
   -- every step
-  pub step_next : (most : ℕ) (why : NodeType → Refusal → Type 0) (root : C) (fail : Bool) (answer : Option (Option V)) (s : Phase C V) (given' : Option V) (turn : Turn C V) → Known number same always i a h k (key_bytes k) kind given s → Fills number h given s
+  pub step_next : (most : ℕ) (why : NodeType → Refusal → Type 0) (root : C) (fail : Bool) (answer : Option (Option V)) (s : Phase C V) (given' : Option V) (turn : NextPhase C V) → Known number same always i a h k (key_bytes k) kind given s → Fills number h given s
       → turn.report.skipped ≡ false → PhaseStepped number same always most why root (key_bytes k) kind fail answer given s h given' turn h' → Next number h' given' turn
   step_next most why root fail answer New given' turn m x z g = equal_next given' turn g.0 g.1 (turn_at number h given _ turn g.2 (version_next number h given root None root (version_of (h (number root)))))
   step_next most why root fail answer (Version p n) given' turn m x z g = equal_next given' turn g.0 g.1 (turn_at number h given _ turn g.2 (version_next number h given root p n (version_of (h (number n)))))
   step_next most why root fail answer (Read p at) given' turn m x z g = equal_next given' turn g.0 g.1 (turn_at number h given _ turn g.2.2 (read_next number h given root p at g.2.0))
   step_next most why root fail answer (Check s c) given' turn m x z g = equal_next given' turn g.0 g.1 (if_next number h given _ root (IsChecked always same kind given s c) turn g.2 (λ q e. checked_next number same always i a h k t w f kind given s c turn m.0 m.1 q e))
-  step_next most why root fail answer (CheckUncopied at) given' turn m x z g = equal_next given' turn g.0 g.1 (if_next number h given _ root (λ (u : Turn C V). u ≡ refused refusal.Count) turn g.2 (λ q e. turn_at number h given _ turn e tt))
-  step_next most why root fail answer (CheckMiss p at common byte) given' turn m x z g = equal_next given' turn g.0 g.1 (if_next number h given _ root (λ (u : Turn C V). u ≡ after_miss kind p at common byte) turn g.2 (λ q e. turn_at number h given _ turn e (miss_next number h given kind p at common byte)))
-  step_next most why root fail answer (CheckDown p at c) given' turn m x z g = equal_next given' turn g.0 g.1 (if_next number h given _ root (λ (u : Turn C V). u ≡ quiet (Version (Some at) c)) turn g.2 (λ q e. turn_at number h given _ turn e tt))
+  step_next most why root fail answer (CheckUncopied at) given' turn m x z g = equal_next given' turn g.0 g.1 (if_next number h given _ root (λ (u : NextPhase C V). u ≡ refused refusal.Count) turn g.2 (λ q e. turn_at number h given _ turn e tt))
+  step_next most why root fail answer (CheckMiss p at common byte) given' turn m x z g = equal_next given' turn g.0 g.1 (if_next number h given _ root (λ (u : NextPhase C V). u ≡ after_miss kind p at common byte) turn g.2 (λ q e. turn_at number h given _ turn e (miss_next number h given kind p at common byte)))
+  step_next most why root fail answer (CheckDown p at c) given' turn m x z g = equal_next given' turn g.0 g.1 (if_next number h given _ root (λ (u : NextPhase C V). u ≡ quiet (Version (Some at) c)) turn g.2 (λ q e. turn_at number h given _ turn e tt))
   step_next most why root fail answer (CheckOld p s v) given' turn m x z g = equal_next given' turn g.0 g.1 (if_next number h given _ root (IsAtOld always same kind given s v) turn g.2 (λ q e. at_old_next number same always i a h k t w f kind given s v turn m.0 e))
   step_next most why root fail answer (MakeLeaf s) given' turn m x z g = given_to given' turn g.0 (leaf_made_next s turn g.1.0 m g.1.1)
   step_next most why root fail answer (MakeGreater s p leaf) given' turn m x z g = given_to given' turn g.0 (greater_made_next s p leaf turn g.1.0 m x g.1.1)
@@ -526,20 +514,16 @@ module _ {C V : Type 0} (number : C → ℕ) (same : V → V → Bool) (always :
   step_next most why root fail answer (MakeLesser s p top r) given' turn m x z g = given_to given' turn g.0 (lesser_made_next s p top r turn g.1.0 m z g.1.1)
   step_next most why root fail answer (AskOld s v) given' turn m x z g = let P : (ℕ → Node V) → Type 0 = λ y. Next number y given' turn in subst P (sym g.0) (given_next number same always i a h k t w f kind given given' answer s v turn m.1 m.3 g.1)
   step_next most why root fail answer (AskNew plan) given' turn m x z g = let P : (ℕ → Node V) → Type 0 = λ y. Next number y given' turn in subst P (sym g.0) (given_new_next number same always i a h k t w f given given' answer plan turn x g.1)
-  step_next most why root fail answer (Confirm at r) given' turn m x z g = equal_next given' turn g.0 g.1 (if_next number h given _ root (λ (u : Turn C V). u ≡ answered r) turn g.2 (λ q e. turn_at number h given _ turn e tt))
+  step_next most why root fail answer (Confirm at r) given' turn m x z g = equal_next given' turn g.0 g.1 (if_next number h given _ root (λ (u : NextPhase C V). u ≡ answered r) turn g.2 (λ q e. turn_at number h given _ turn e tt))
   step_next most why root fail answer (CheckAbove p one r) given' turn m x z g = given_to given' turn g.0 (on_test (is_taken (h (number p.node)) p.version)
       (λ q. let P : (ℕ → Node V) → Type 0 = λ y. Next number y given turn in subst P (sym (g.1.goes_on q).0) (turn_at number h given _ turn (g.1.goes_on q).1 x))
       (λ q. turn_at number h' given _ turn (g.1.goes_back q).1 tt))
   step_next most why root fail answer (UpgradeOne one r) given' turn m x z g = given_to given' turn g.0 (one_locked_next most fail root one r turn g.1.0 x g.1.1 g.1.2)
-  step_next most why root fail answer (ChangeOne one r) given' turn m x z g = turn_at number h' given' _ turn g.2 tt
   step_next most why root fail answer (UpgradeTop top two r) given' turn m x z g = given_to given' turn g.0 (top_locked_next most fail root top two r turn g.1.0 x g.1.1 g.1.2)
   step_next most why root fail answer (UpgradeAbove two r) given' turn m x z g = given_to given' turn g.0 (above_locked_next most fail root two r turn g.1.0 x g.1.1 g.1.2)
   step_next most why root fail answer (UpgradeBelow two r) given' turn m x z g = given_to given' turn g.0 (both_locked_next most fail two r turn g.1.0 x g.1.1 g.1.2)
   step_next most why root fail answer (ChangeTwo two r) given' turn m x z g = turn_at number h' given' _ turn g.2 (change_next number h' given' two r two.change)
-  step_next most why root fail answer (Obsolete n next p r) given' turn m x z g = turn_at number h' given' _ turn g.2 tt
   step_next most why root fail answer (Retire n next p r) given' turn m x z g = turn_at number h' given' _ turn g.2 (retire_next number h' given' next p r)
-  step_next most why root fail answer (UnlockBelow n p r) given' turn m x z g = turn_at number h' given' _ turn g.2 tt
-  step_next most why root fail answer (Unlock n r) given' turn m x z g = turn_at number h' given' _ turn g.2 tt
   step_next most why root fail answer (Unwind n next e) given' turn m x z g = turn_at number h' given' _ turn g.2 (unwind_next number h' given' root next e)
   step_next most why root fail answer (Sweep s) given' turn m x z g = turn_at number h' given' _ turn g.2.3 tt
-  step_next most why root fail answer Ended given' turn m x z g = turn_at number h' given' _ turn g.2 tt
+  step_next most why root fail answer _ given' turn m x z g = turn_at number h' given' _ turn g.2 tt

@@ -5,7 +5,7 @@ use Rattle.std.proofs.lemmas.Bool.{cases_eq}
 use Rattle.judge.specs.declared.journal.Reply.{Reply}
 use Rattle.congee.specs.declared.forms.base_node.NodeType.{NodeType}
 use Rattle.congee.specs.declared.protocol.store.Refusal.{Refusal}
-use Rattle.congee.specs.declared.protocol.store.Seat.{Seat}
+use Rattle.congee.specs.declared.protocol.store.Stamp.{Stamp}
 use Rattle.congee.specs.declared.protocol.store.Upgrade.{Upgrade}
 use Rattle.congee.specs.declared.protocol.store.Upgrade.TheVariants.{Locked, Failed, Exhausted}
 use Rattle.congee.specs.declared.protocol.phase.Kind.{Kind}
@@ -19,7 +19,7 @@ use Rattle.congee.specs.declared.protocol.phase.Double.TheVariants.{Unlink, Grow
 use Rattle.congee.specs.declared.protocol.phase.Two.{Two}
 use Rattle.congee.specs.declared.protocol.phase.Phase.{Phase}
 use Rattle.congee.specs.declared.protocol.phase.Phase.TheVariants.{MakeLeaf, MakeGreater, MakeTop, MakeBeside, MakeLesser, CheckAbove, UpgradeOne, ChangeOne, UpgradeTop, UpgradeAbove, UpgradeBelow, ChangeTwo, Obsolete, Retire, UnlockBelow, Unlock, Unwind}
-use Rattle.congee.specs.declared.protocol.turn.Turn.{Turn}
+use Rattle.congee.specs.declared.protocol.turn.NextPhase.{NextPhase}
 use Rattle.congee.specs.Heap.{Node, Stands, is_taken}
 use Rattle.congee.specs.protocol.Events.{SameBut, BackGives}
 use Rattle.congee.specs.protocol.Steps.{BackOne, BackTwo, BackLeaf, MadeLeaf, MadeGreater, MadeTop, MadeBeside, MadeLesser, UpgradedOne, UpgradedTop, UpgradedAbove, UpgradedBelow, PutsLesser, Collapses, Lessens, ChangedOne, ChangedTwo, PhaseStepped}
@@ -78,44 +78,44 @@ module _ {C V : Type 0} (number : C → ℕ) (h h' : ℕ → Node V) where
   leaf_back None g = loses_same _ h h' g
   leaf_back (Some leaf) g = loses_back _ h h' (number leaf) refl g
 
-  leaf_made : (M : ℕ → Type 0) (kind : Kind V) (s : Site C) (key : List ℕ) (r : Result C Refusal) (t : Turn C V) → MadeLeaf number kind s h key r h' t → Loses M h h'
+  leaf_made : (M : ℕ → Type 0) (kind : Kind V) (s : Site C) (key : List ℕ) (r : Result C Refusal) (t : NextPhase C V) → MadeLeaf number kind s h key r h' t → Loses M h h'
   leaf_made M kind s key (Ok c) t g = loses_new M h h' (number c) g.0.unmade g.0.others
   leaf_made M kind s key (Err e) t g = loses_same M h h' g.0
 
-  greater_made : (kind : Kind V) (s : Site C) (p : Parent C) (leaf : Option C) (key : List ℕ) (r : Result C Refusal) (t : Turn C V) → MadeGreater number kind s p leaf h key r h' t → Loses (IsMade number leaf) h h'
+  greater_made : (kind : Kind V) (s : Site C) (p : Parent C) (leaf : Option C) (key : List ℕ) (r : Result C Refusal) (t : NextPhase C V) → MadeGreater number kind s p leaf h key r h' t → Loses (IsMade number leaf) h h'
   greater_made kind s p leaf key (Ok c) t g = loses_new _ h h' (number c) g.0.unmade g.0.others
   greater_made kind s p leaf key (Err e) t g = leaf_back leaf g.0
 
-  top_made : (M : ℕ → Type 0) (p : Parent C) (at : Seat C) (common byte : ℕ) (key : List ℕ) (r : Result C Refusal) (t : Turn C V) → MadeTop number p at common byte h key r h' t → Loses M h h'
+  top_made : (M : ℕ → Type 0) (p : Parent C) (at : Stamp C) (common byte : ℕ) (key : List ℕ) (r : Result C Refusal) (t : NextPhase C V) → MadeTop number p at common byte h key r h' t → Loses M h h'
   top_made M p at common byte key (Ok c) t g = loses_new M h h' (number c) g.0.unmade g.0.others
   top_made M p at common byte key (Err e) t g = loses_same M h h' g.0
 
-  beside_made : (kind : Kind V) (p : Parent C) (at : Seat C) (common byte : ℕ) (top : C) (key : List ℕ) (r : Result C Refusal) (t : Turn C V) → MadeBeside number kind p at common byte top h key r h' t → Loses (λ n. n ≡ number top) h h'
+  beside_made : (kind : Kind V) (p : Parent C) (at : Stamp C) (common byte : ℕ) (top : C) (key : List ℕ) (r : Result C Refusal) (t : NextPhase C V) → MadeBeside number kind p at common byte top h key r h' t → Loses (λ n. n ≡ number top) h h'
   beside_made kind p at common byte top key (Ok c) t g = loses_new _ h h' (number c) g.0.unmade g.0.others
   beside_made kind p at common byte top key (Err e) t g = loses_back _ h h' (number top) refl g.0
 
-  lesser_made : (M : ℕ → Type 0) (s : Site C) (p : Parent C) (top : Option (Parent C)) (r : Reply V) (key : List ℕ) (x : Result C Refusal) (t : Turn C V) → MadeLesser number s p top r h key x h' t → Loses M h h'
+  lesser_made : (M : ℕ → Type 0) (s : Site C) (p : Parent C) (top : Option (Parent C)) (r : Reply V) (key : List ℕ) (x : Result C Refusal) (t : NextPhase C V) → MadeLesser number s p top r h key x h' t → Loses M h h'
   lesser_made M s p None r key (Ok c) t g = loses_new M h h' (number c) g.0.unmade g.0.others
   lesser_made M s p None r key (Err e) t g = loses_same M h h' g.0
   lesser_made M s p (Some top) r key (Ok c) t g = loses_new M h h' (number c) g.0.unmade g.0.others
   lesser_made M s p (Some top) r key (Err e) t g = loses_same M h h' g.0
 
-  one_upgraded : (root : C) (one : One C) (r : Reply V) (u : Upgrade) (t : Turn C V) → UpgradedOne number root one r h u h' t → Loses (MadeForOne number one.change) h h'
+  one_upgraded : (root : C) (one : One C) (r : Reply V) (u : Upgrade) (t : NextPhase C V) → UpgradedOne number root one r h u h' t → Loses (MadeForOne number one.change) h h'
   one_upgraded root one r Locked t g = loses_but _ h h' (number one.at.node) _ refl refl g.0
   one_upgraded root one r Failed t g = one_back one.change g.0
   one_upgraded root one r Exhausted t g = one_back one.change g.0
 
-  top_upgraded : (root : C) (top : Parent C) (two : Two C) (r : Reply V) (u : Upgrade) (t : Turn C V) → UpgradedTop number root top two r h u h' t → Loses (MadeForTwo number two.change) h h'
+  top_upgraded : (root : C) (top : Parent C) (two : Two C) (r : Reply V) (u : Upgrade) (t : NextPhase C V) → UpgradedTop number root top two r h u h' t → Loses (MadeForTwo number two.change) h h'
   top_upgraded root top two r Locked t g = loses_but _ h h' (number top.seat.node) _ refl refl g.0
   top_upgraded root top two r Failed t g = two_back two.change g.0
   top_upgraded root top two r Exhausted t g = two_back two.change g.0
 
-  above_upgraded : (root : C) (two : Two C) (r : Reply V) (u : Upgrade) (t : Turn C V) → UpgradedAbove number root two r h u h' t → Loses (MadeForTwo number two.change) h h'
+  above_upgraded : (root : C) (two : Two C) (r : Reply V) (u : Upgrade) (t : NextPhase C V) → UpgradedAbove number root two r h u h' t → Loses (MadeForTwo number two.change) h h'
   above_upgraded root two r Locked t g = loses_but _ h h' (number two.above.seat.node) _ refl refl g.0
   above_upgraded root two r Failed t g = two_back two.change g.0
   above_upgraded root two r Exhausted t g = two_back two.change g.0
 
-  both_upgraded : (two : Two C) (r : Reply V) (u : Upgrade) (t : Turn C V) → UpgradedBelow number two r h u h' t → Loses (MadeForTwo number two.change) h h'
+  both_upgraded : (two : Two C) (r : Reply V) (u : Upgrade) (t : NextPhase C V) → UpgradedBelow number two r h u h' t → Loses (MadeForTwo number two.change) h h'
   both_upgraded two r Locked t g = loses_but _ h h' (number two.at.node) _ refl refl g.0
   both_upgraded two r Failed t g = two_back two.change g.0
   both_upgraded two r Exhausted t g = two_back two.change g.0
@@ -144,7 +144,7 @@ module _ {C V : Type 0} (number : C → ℕ) (h h' : ℕ → Node V) where
   two_changed M key new two (GrowLink c leaf byte) g = loses_none M h h' (λ n s. stands_changed g.2 h' _ _ n _ g.6 (stands_changed g.1 g.2 _ _ n _ g.5 (stands_over g.0 g.1 _ _ n g.4 (stands_changed h g.0 _ _ n _ g.3 s))))
   two_changed M key new two (Split top leaf common byte) g = loses_none M h h' (λ n s. stands_changed g.2 h' _ _ n _ g.6 (stands_changed g.1 g.2 _ _ n _ g.5 (stands_changed g.0 g.1 _ _ n _ g.4 (stands_changed h g.0 _ _ n _ g.3 s))))
 
-  pub step_loses : (same : V → V → Bool) (always : Bool) (most : ℕ) (why : NodeType → Refusal → Type 0) (root : C) (key : List ℕ) (kind : Kind V) (fail : Bool) (answer : Option (Option V)) (new : Option V) (s : Phase C V) (new' : Option V) (t : Turn C V)
+  pub step_loses : (same : V → V → Bool) (always : Bool) (most : ℕ) (why : NodeType → Refusal → Type 0) (root : C) (key : List ℕ) (kind : Kind V) (fail : Bool) (answer : Option (Option V)) (new : Option V) (s : Phase C V) (new' : Option V) (t : NextPhase C V)
       → PhaseStepped number same always most why root key kind fail answer new s h new' t h' → Loses (MadeBy number s) h h'
   step_loses same always most why root key kind fail answer new (MakeLeaf s) new' t g = leaf_made _ kind s key g.1.0 t g.1.1
   step_loses same always most why root key kind fail answer new (MakeGreater s p leaf) new' t g = greater_made kind s p leaf key g.1.0 t g.1.1

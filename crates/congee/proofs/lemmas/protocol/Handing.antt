@@ -8,7 +8,7 @@ use Rattle.std.proofs.lemmas.Option.{slice_get_within, get_or_from_slice_get}
 use Rattle.std.specs.Prelude.{Option, None, Some, Result, Ok, Err, slice_get}
 use Rattle.judge.specs.declared.journal.Reply.{Reply}
 use Rattle.congee.specs.declared.forms.base_node.NodeType.{NodeType}
-use Rattle.congee.specs.declared.protocol.store.Seat.{Seat}
+use Rattle.congee.specs.declared.protocol.store.Stamp.{Stamp}
 use Rattle.congee.specs.declared.protocol.store.Refusal.{Refusal}
 use Rattle.congee.specs.declared.protocol.store.Upgrade.{Upgrade}
 use Rattle.congee.specs.declared.protocol.store.Upgrade.TheVariants.{Locked, Failed, Exhausted}
@@ -22,15 +22,15 @@ use Rattle.congee.specs.declared.protocol.phase.Double.{Double}
 use Rattle.congee.specs.declared.protocol.phase.Double.TheVariants.{Unlink, Grow, GrowLink, Split, Shrink, Collapse, ShrinkAbove}
 use Rattle.congee.specs.declared.protocol.phase.Two.{Two}
 use Rattle.congee.specs.declared.protocol.phase.Phase.{Phase}
-use Rattle.congee.specs.declared.protocol.phase.Phase.TheVariants.{New, Version, Read, Check, CheckUncopied, CheckMiss, CheckDown, CheckOld, MakeLeaf, MakeGreater, MakeTop, MakeBeside, MakeLesser, AskOld, AskNew, Confirm, CheckAbove, UpgradeOne, ChangeOne, UpgradeTop, UpgradeAbove, UpgradeBelow, ChangeTwo, Obsolete, Retire, UnlockBelow, Unlock, Unwind, Sweep, Ended}
-use Rattle.congee.specs.declared.protocol.turn.Turn.{Turn}
+use Rattle.congee.specs.declared.protocol.phase.Phase.TheVariants.{MakeLeaf, MakeGreater, MakeTop, MakeBeside, MakeLesser, CheckAbove, UpgradeOne, ChangeOne, UpgradeTop, UpgradeAbove, UpgradeBelow, ChangeTwo, Obsolete, Retire, UnlockBelow, Unlock, Unwind, Ended}
+use Rattle.congee.specs.declared.protocol.turn.NextPhase.{NextPhase}
 use Rattle.congee.specs.declared.protocol.machine.Machine.{Machine}
 use Rattle.congee.specs.declared.protocol.run.Step.{Step}
 use Rattle.congee.specs.Heap.{Node, Hung, Stands, is_taken}
 use Rattle.congee.specs.protocol.Events.{SameBut, upgrade_gives, NewNode, ChangeGives, TakeOverGives, BackGives}
 use Rattle.congee.specs.protocol.Steps.{BackOne, BackTwo, BackLeaf, MadeLeaf, MadeGreater, MadeTop, MadeBeside, MadeLesser, UpgradedOne, UpgradedTop, UpgradedAbove, UpgradedBelow, PutsLesser, Collapses, Lessens, after_retire, ChangedOne, ChangedTwo, PhaseStepped}
 use Rattle.congee.specs.Keys.{key_bytes}
-use Rattle.congee.specs.Ledger.{Note, Linked, Gone, is_published, Tree, LockWords}
+use Rattle.congee.specs.Notes.{Note, Linked, Gone, is_published, Tree, LockWords}
 use Rattle.congee.specs.protocol.Protocol.{TopLocked, Made, MadeOne, MadeTwo, MadeLeafFor, Known}
 use Rattle.congee.specs.protocol.Holdings.{TakenBy}
 use Rattle.congee.specs.protocol.Handing.{is_waiting, Leads, IsOut, HandsNothing, HandsNode, HandsAt, Hands, IsLeaving, Leaving, Untouched, Handing, StepHands}
@@ -46,6 +46,7 @@ pub leads_linked : {V : Type 0} (a : ℕ → Note) (h : ℕ → Node V) → Tree
 leads_linked a h t [] n c l e = let P : ℕ → Type 0 = λ x. (a x).status ≡ Linked in subst P e l
 leads_linked a h t (b ∷ path) n c l e = leads_linked a h t path e.0 c (t.down n b e.0 l e.1).linked e.2
 
+-- no path leads to a node that isn't noted in the tree
 pub unlinked_out : {V : Type 0} (a : ℕ → Note) (h : ℕ → Node V) (n : ℕ) → Tree a h → ((a n).status ≡ Linked → ⊥) → IsOut h n
 unlinked_out a h n t u path e = u (leads_linked a h t path 0 n t.root e)
 
@@ -212,23 +213,23 @@ module _ {C V : Type 0} (number : C → ℕ) (i : ℕ) (a : ℕ → Note) (h : �
       spares_then h g.2 h' s3 (spares_change g.2 h' (number two.above.seat.node) _ _ (still_idle h g.2 (number two.above.seat.node) s3 e) g.6)
 
   -- nodes are made
-  leaf_made : (kind : Kind V) (s : Site C) (r : Result C Refusal) (turn : Turn C V) → MadeLeaf number kind s h key r h' turn → SparesWaiting h h'
+  leaf_made : (kind : Kind V) (s : Site C) (r : Result C Refusal) (turn : NextPhase C V) → MadeLeaf number kind s h key r h' turn → SparesWaiting h h'
   leaf_made kind s (Ok leaf) turn g = spares_new h h' _ _ _ _ g.0
   leaf_made kind s (Err e) turn g = spares_same h h' g.0
 
-  greater_made : (kind : Kind V) (s : Site C) (p : Parent C) (leaf : Option C) (r : Result C Refusal) (turn : Turn C V) → MadeLeafFor number i a h key s leaf → MadeGreater number kind s p leaf h key r h' turn → SparesWaiting h h'
+  greater_made : (kind : Kind V) (s : Site C) (p : Parent C) (leaf : Option C) (r : Result C Refusal) (turn : NextPhase C V) → MadeLeafFor number i a h key s leaf → MadeGreater number kind s p leaf h key r h' turn → SparesWaiting h h'
   greater_made kind s p leaf (Ok c) turn m g = spares_new h h' _ _ _ _ g.0
   greater_made kind s p leaf (Err e) turn m g = back_leaf leaf s m g.0
 
-  top_made : (p : Parent C) (at : Seat C) (common byte : ℕ) (r : Result C Refusal) (turn : Turn C V) → MadeTop number p at common byte h key r h' turn → SparesWaiting h h'
+  top_made : (p : Parent C) (at : Stamp C) (common byte : ℕ) (r : Result C Refusal) (turn : NextPhase C V) → MadeTop number p at common byte h key r h' turn → SparesWaiting h h'
   top_made p at common byte (Ok top) turn g = spares_new h h' _ _ _ _ g.0
   top_made p at common byte (Err e) turn g = spares_same h h' g.0
 
-  beside_made : (kind : Kind V) (p : Parent C) (at : Seat C) (common byte : ℕ) (top : C) (r : Result C Refusal) (turn : Turn C V) → Made i a h key (number top) common 1 → MadeBeside number kind p at common byte top h key r h' turn → SparesWaiting h h'
+  beside_made : (kind : Kind V) (p : Parent C) (at : Stamp C) (common byte : ℕ) (top : C) (r : Result C Refusal) (turn : NextPhase C V) → Made i a h key (number top) common 1 → MadeBeside number kind p at common byte top h key r h' turn → SparesWaiting h h'
   beside_made kind p at common byte top (Ok leaf) turn m g = spares_new h h' _ _ _ _ g.0
   beside_made kind p at common byte top (Err e) turn m g = spares_back h h' (number top) (idle_made (number top) common 1 m) g.0
 
-  lesser_made : (s : Site C) (p : Parent C) (top : Option (Parent C)) (r : Reply V) (x : Result C Refusal) (turn : Turn C V) → MadeLesser number s p top r h key x h' turn → SparesWaiting h h'
+  lesser_made : (s : Site C) (p : Parent C) (top : Option (Parent C)) (r : Reply V) (x : Result C Refusal) (turn : NextPhase C V) → MadeLesser number s p top r h key x h' turn → SparesWaiting h h'
   lesser_made s p None r (Ok c) turn g = spares_new h h' _ _ _ _ g.0
   lesser_made s p None r (Err e) turn g = spares_same h h' g.0
   lesser_made s p (Some top) r (Ok c) turn g = spares_new h h' _ _ _ _ g.0
@@ -239,25 +240,25 @@ module _ {C V : Type 0} (number : C → ℕ) (i : ℕ) (a : ℕ → Note) (h : �
   locked_spares most n v fail w p e g =
       let q : is_waiting (h n) ≡ false = linked_idle a h n w (taken_linked a h w n v p (locked_taken most (h n) v fail e)) in spares_but h h' n _ q q g
 
-  one_upgraded : (root : C) (one : One C) (r : Reply V) (most : ℕ) (fail : Bool) (u : Upgrade) (turn : Turn C V) → LockWords a h → is_published (a (number one.at.node)).status ≡ true → MadeOne number i a h key one.change
+  one_upgraded : (root : C) (one : One C) (r : Reply V) (most : ℕ) (fail : Bool) (u : Upgrade) (turn : NextPhase C V) → LockWords a h → is_published (a (number one.at.node)).status ≡ true → MadeOne number i a h key one.change
       → u ≡ upgrade_gives most (h (number one.at.node)) one.at.version fail → UpgradedOne number root one r h u h' turn → SparesWaiting h h'
   one_upgraded root one r most fail Locked turn w p m e g = locked_spares most (number one.at.node) one.at.version fail w p e g.0
   one_upgraded root one r most fail Failed turn w p m e g = back_one one.change m g.0
   one_upgraded root one r most fail Exhausted turn w p m e g = back_one one.change m g.0
 
-  top_upgraded : (root : C) (top : Parent C) (two : Two C) (r : Reply V) (size q most : ℕ) (fail : Bool) (u : Upgrade) (turn : Turn C V) → LockWords a h → is_published (a (number top.seat.node)).status ≡ true → MadeTwo number i a h key two.above two.change size q
+  top_upgraded : (root : C) (top : Parent C) (two : Two C) (r : Reply V) (size q most : ℕ) (fail : Bool) (u : Upgrade) (turn : NextPhase C V) → LockWords a h → is_published (a (number top.seat.node)).status ≡ true → MadeTwo number i a h key two.above two.change size q
       → u ≡ upgrade_gives most (h (number top.seat.node)) top.seat.version fail → UpgradedTop number root top two r h u h' turn → SparesWaiting h h'
   top_upgraded root top two r size q most fail Locked turn w p m e g = locked_spares most (number top.seat.node) top.seat.version fail w p e g.0
   top_upgraded root top two r size q most fail Failed turn w p m e g = back_two two.above two.change size q m g.0
   top_upgraded root top two r size q most fail Exhausted turn w p m e g = back_two two.above two.change size q m g.0
 
-  above_upgraded : (root : C) (two : Two C) (r : Reply V) (size q most : ℕ) (fail : Bool) (u : Upgrade) (turn : Turn C V) → LockWords a h → is_published (a (number two.above.seat.node)).status ≡ true → MadeTwo number i a h key two.above two.change size q
+  above_upgraded : (root : C) (two : Two C) (r : Reply V) (size q most : ℕ) (fail : Bool) (u : Upgrade) (turn : NextPhase C V) → LockWords a h → is_published (a (number two.above.seat.node)).status ≡ true → MadeTwo number i a h key two.above two.change size q
       → u ≡ upgrade_gives most (h (number two.above.seat.node)) two.above.seat.version fail → UpgradedAbove number root two r h u h' turn → SparesWaiting h h'
   above_upgraded root two r size q most fail Locked turn w p m e g = locked_spares most (number two.above.seat.node) two.above.seat.version fail w p e g.0
   above_upgraded root two r size q most fail Failed turn w p m e g = back_two two.above two.change size q m g.0
   above_upgraded root two r size q most fail Exhausted turn w p m e g = back_two two.above two.change size q m g.0
 
-  both_upgraded : (two : Two C) (r : Reply V) (size q most : ℕ) (fail : Bool) (u : Upgrade) (turn : Turn C V) → LockWords a h → is_published (a (number two.at.node)).status ≡ true → MadeTwo number i a h key two.above two.change size q
+  both_upgraded : (two : Two C) (r : Reply V) (size q most : ℕ) (fail : Bool) (u : Upgrade) (turn : NextPhase C V) → LockWords a h → is_published (a (number two.at.node)).status ≡ true → MadeTwo number i a h key two.above two.change size q
       → u ≡ upgrade_gives most (h (number two.at.node)) two.at.version fail → UpgradedBelow number two r h u h' turn → SparesWaiting h h'
   both_upgraded two r size q most fail Locked turn w p m e g = locked_spares most (number two.at.node) two.at.version fail w p e g.0
   both_upgraded two r size q most fail Failed turn w p m e g = back_two two.above two.change size q m g.0
@@ -284,25 +285,14 @@ module _ {C V : Type 0} (number : C → ℕ) (same : V → V → Bool) (always :
   top_idle (Some top) n o = linked_idle a h (number top.seat.node) w o.holding.linked
 
   -- every step
-  pub step_hands : (most : ℕ) (why : NodeType → Refusal → Type 0) (root : C) (kind : Kind V) (fail : Bool) (answer : Option (Option V)) (given : Option V) (s : Phase C V) (given' : Option V) (turn : Turn C V)
+  pub step_hands : (most : ℕ) (why : NodeType → Refusal → Type 0) (root : C) (kind : Kind V) (fail : Bool) (answer : Option (Option V)) (given : Option V) (s : Phase C V) (given' : Option V) (turn : NextPhase C V)
       → Known number same always i a h k (key_bytes k) kind given s → PhaseStepped number same always most why root (key_bytes k) kind fail answer given s h given' turn h'
       → SparesWaiting h h' ⊎ ((n : ℕ) × Gives number h s n h' turn.phase)
-  step_hands most why root kind fail answer given New given' turn x g = inl (spares_same h h' g.0)
-  step_hands most why root kind fail answer given (Version p n) given' turn x g = inl (spares_same h h' g.0)
-  step_hands most why root kind fail answer given (Read p at) given' turn x g = inl (spares_same h h' g.0)
-  step_hands most why root kind fail answer given (Check s c) given' turn x g = inl (spares_same h h' g.0)
-  step_hands most why root kind fail answer given (CheckUncopied at) given' turn x g = inl (spares_same h h' g.0)
-  step_hands most why root kind fail answer given (CheckMiss p at common byte) given' turn x g = inl (spares_same h h' g.0)
-  step_hands most why root kind fail answer given (CheckDown p at c) given' turn x g = inl (spares_same h h' g.0)
-  step_hands most why root kind fail answer given (CheckOld p s v) given' turn x g = inl (spares_same h h' g.0)
   step_hands most why root kind fail answer given (MakeLeaf s) given' turn x g = inl (leaf_made number i a h h' (key_bytes k) kind s g.1.0 turn g.1.1)
   step_hands most why root kind fail answer given (MakeGreater s p leaf) given' turn x g = inl (greater_made number i a h h' (key_bytes k) kind s p leaf g.1.0 turn x.3 g.1.1)
   step_hands most why root kind fail answer given (MakeTop p at common byte) given' turn x g = inl (top_made number i a h h' (key_bytes k) p at common byte g.1.0 turn g.1.1)
   step_hands most why root kind fail answer given (MakeBeside p at common byte top) given' turn x g = inl (beside_made number i a h h' (key_bytes k) kind p at common byte top g.1.0 turn x.6 g.1.1)
   step_hands most why root kind fail answer given (MakeLesser s p top r) given' turn x g = inl (lesser_made number i a h h' (key_bytes k) s p top r g.1.0 turn g.1.1)
-  step_hands most why root kind fail answer given (AskOld s v) given' turn x g = inl (spares_same h h' g.0)
-  step_hands most why root kind fail answer given (AskNew plan) given' turn x g = inl (spares_same h h' g.0)
-  step_hands most why root kind fail answer given (Confirm at r) given' turn x g = inl (spares_same h h' g.0)
   step_hands most why root kind fail answer given (CheckAbove p one r) given' turn x g = inl (on_test (is_taken (h (number p.node)) p.version)
       (λ y. spares_same h h' (g.1.goes_on y).0)
       (λ y. back_one number i a h h' (key_bytes k) one.change x.2.made (g.1.goes_back y).0))
@@ -326,7 +316,7 @@ module _ {C V : Type 0} (number : C → ℕ) (same : V → V → Bool) (always :
     record {
       taken = inl refl;
       was = was next;
-      is = λ c l. let P : Turn C V → Type 0 = λ z. IsLeaving z.phase (suc c) in subst P (sym g.2) (is next c l);
+      is = λ c l. let P : NextPhase C V → Type 0 = λ z. IsLeaving z.phase (suc c) in subst P (sym g.2) (is next c l);
       marked = x.2;
       out = unlinked_out a h (number n) t (λ l. let z : Linked ≡ Gone = sym l ∙ x.0.gone in cc);
       before = unretired_idle (h (number n)) x.0.unretired;
@@ -345,33 +335,36 @@ module _ {C V : Type 0} (number : C → ℕ) (same : V → V → Bool) (always :
   step_hands most why root kind fail answer given (UnlockBelow n p r) given' turn x g = inl (unlock_spares (number n) x.0.linked g.1)
   step_hands most why root kind fail answer given (Unlock n r) given' turn x g = inl (unlock_spares (number n) x.linked g.1)
   step_hands most why root kind fail answer given (Unwind n next e) given' turn x g = inl (unlock_spares (number n) x.1.linked g.1)
-  step_hands most why root kind fail answer given (Sweep s) given' turn x g = inl (spares_same h h' g.0)
-  step_hands most why root kind fail answer given Ended given' turn x g = inl (spares_same h h' g.0)
+  step_hands most why root kind fail answer given _ given' turn x g = inl (spares_same h h' g.0)
 
   -- a call that is leaving goes on to leave
-  pub leaves_on : (most : ℕ) (why : NodeType → Refusal → Type 0) (root : C) (kind : Kind V) (fail : Bool) (answer : Option (Option V)) (given : Option V) (s : Phase C V) (given' : Option V) (turn : Turn C V)
+  pub leaves_on : (most : ℕ) (why : NodeType → Refusal → Type 0) (root : C) (kind : Kind V) (fail : Bool) (answer : Option (Option V)) (given : Option V) (s : Phase C V) (given' : Option V) (turn : NextPhase C V)
       → PhaseStepped number same always most why root (key_bytes k) kind fail answer given s h given' turn h' → (c : ℕ) → IsLeaving s c → IsLeaving turn.phase c
-  leaves_on most why root kind fail answer given (Obsolete n None p r) given' turn g c l = let P : Turn C V → Type 0 = λ z. IsLeaving z.phase c in subst P (sym g.2) l
-  leaves_on most why root kind fail answer given (Retire n None p r) given' turn g c l = let P : Turn C V → Type 0 = λ z. IsLeaving z.phase c in subst P (sym g.2) tt
-  leaves_on most why root kind fail answer given (Unlock n r) given' turn g c l = let P : Turn C V → Type 0 = λ z. IsLeaving z.phase c in subst P (sym g.2) tt
-  leaves_on most why root kind fail answer given Ended given' turn g c l = let P : Turn C V → Type 0 = λ z. IsLeaving z.phase c in subst P (sym g.2) tt
+  leaves_on most why root kind fail answer given (Obsolete n None p r) given' turn g c l = let P : NextPhase C V → Type 0 = λ z. IsLeaving z.phase c in subst P (sym g.2) l
+  leaves_on most why root kind fail answer given (Retire n None p r) given' turn g c l = let P : NextPhase C V → Type 0 = λ z. IsLeaving z.phase c in subst P (sym g.2) tt
+  leaves_on most why root kind fail answer given (Unlock n r) given' turn g c l = let P : NextPhase C V → Type 0 = λ z. IsLeaving z.phase c in subst P (sym g.2) tt
+  leaves_on most why root kind fail answer given Ended given' turn g c l = let P : NextPhase C V → Type 0 = λ z. IsLeaving z.phase c in subst P (sym g.2) tt
   leaves_on most why root kind fail answer given _ given' turn g c l = absurd l
 
 -- what the calls have handed over, or taken out, with these of one call
 unfoldable pub giving : (ℕ → List ℕ) → ℕ → List ℕ → ℕ → List ℕ
 giving by i xs j = cond (j == i) xs (by j)
 
+-- the one call has these
 pub giving_here : (by : ℕ → List ℕ) (i : ℕ) (xs : List ℕ) → giving by i xs i ≡ xs
 unfolding giving
 giving_here by i xs = rw (same_test i i refl) refl
 
+-- every other call has what it had
 pub giving_apart : (by : ℕ → List ℕ) (i : ℕ) (xs : List ℕ) (j : ℕ) → j ≢ i → giving by i xs j ≡ by j
 unfolding giving
 giving_apart by i xs j e = rw (other_test j i e) refl
 
+-- a list that has something isn't empty
 pub some_of : (xs : List ℕ) (n : ℕ) → Contains xs n → xs ≢ []
 some_of xs n c e = let P : List ℕ → Type 0 = λ y. Contains y n in let z : Contains [] n = subst P e c in absurd (omega (arith, z.1))
 
+-- a list that has nothing is empty
 pub none_if : (xs : List ℕ) → ((n : ℕ) → Contains xs n → ⊥) → xs ≡ []
 none_if [] f = refl
 none_if (x ∷ xs) f = absurd (f x (0, omega arith, refl))
@@ -380,6 +373,7 @@ empty_or : (xs : List ℕ) → (xs ≡ []) ⊎ (xs ≢ [])
 empty_or [] = inl refl
 empty_or (x ∷ xs) = inr (λ e. cc)
 
+-- what stands in a place of a list is in the list
 pub at_place : (xs : List ℕ) (k n : ℕ) → slice_get xs k ≡ Some n → Contains xs n
 at_place xs k n e = (k, slice_get_within xs k n e, get_or_from_slice_get xs k n n e)
 
@@ -513,6 +507,7 @@ hands_more by h [] by1 h1 s by2 h2 r q =
     (by2, h2, subst P r.0 (subst Q r.1 q), (refl, refl))
 hands_more by h (x ∷ ss) by1 h1 s by2 h2 r q = (r.0, r.1, r.2, hands_more r.0 r.1 ss by1 h1 s by2 h2 r.3 q)
 
+-- over no steps nothing is handed over
 pub handing_none : {C V : Type 0} (h : ℕ → Node V) (ms : List (Machine C V)) (a : ℕ → Note) → Tree a h → LockWords a h → Handing (λ _. []) h [] h ms
 handing_none h ms a t w = record {
   run = (refl, refl);

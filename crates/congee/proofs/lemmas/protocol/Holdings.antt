@@ -3,7 +3,7 @@ use Rattle.std.proofs.Common.{◌≡◌, ◌≢◌, ℕ, ◌+◌, ◌⊎◌, inl
 use Rattle.std.specs.Prelude.{Option, None, Some, Result, Ok, Err}
 use Rattle.judge.specs.declared.journal.Reply.{Reply}
 use Rattle.congee.specs.declared.forms.base_node.NodeType.{NodeType}
-use Rattle.congee.specs.declared.protocol.store.Seat.{Seat}
+use Rattle.congee.specs.declared.protocol.store.Stamp.{Stamp}
 use Rattle.congee.specs.declared.protocol.store.Refusal.{Refusal}
 use Rattle.congee.specs.declared.protocol.store.Upgrade.{Upgrade}
 use Rattle.congee.specs.declared.protocol.store.Upgrade.TheVariants.{Locked, Failed, Exhausted}
@@ -20,13 +20,13 @@ use Rattle.congee.specs.declared.protocol.phase.Two.{Two}
 use Rattle.congee.specs.declared.protocol.phase.Plan.{Plan}
 use Rattle.congee.specs.declared.protocol.phase.Plan.TheVariants.{Here, Above}
 use Rattle.congee.specs.declared.protocol.phase.Phase.{Phase}
-use Rattle.congee.specs.declared.protocol.phase.Phase.TheVariants.{New, Version, Read, Check, CheckUncopied, CheckMiss, CheckDown, CheckOld, MakeLeaf, MakeGreater, MakeTop, MakeBeside, MakeLesser, AskOld, AskNew, Confirm, CheckAbove, UpgradeOne, ChangeOne, UpgradeTop, UpgradeAbove, UpgradeBelow, ChangeTwo, Obsolete, Retire, UnlockBelow, Unlock, Unwind, Sweep, Ended}
-use Rattle.congee.specs.declared.protocol.turn.Turn.{Turn}
+use Rattle.congee.specs.declared.protocol.phase.Phase.TheVariants.{MakeLeaf, MakeGreater, MakeTop, MakeBeside, MakeLesser, AskNew, CheckAbove, UpgradeOne, ChangeOne, UpgradeTop, UpgradeAbove, UpgradeBelow, ChangeTwo, Obsolete, Retire, UnlockBelow, Unlock, Unwind, Ended}
+use Rattle.congee.specs.declared.protocol.turn.NextPhase.{NextPhase}
 use Rattle.congee.specs.Heap.{Node, Hung, Below, is_taken}
 use Rattle.congee.specs.protocol.Events.{SameBut, NewNode, ChangeGives, TakeOverGives, BackGives}
 use Rattle.congee.specs.protocol.Steps.{node_of, both, given_up, after_top, after_retire, after_unwind, PutsLesser, Collapses, Lessens, quiet, again, decided, asking, asks_new, absent_reply, started, ready, plan_here, unless_full, unwound, greater, after_change, BackOne, BackTwo, BackLeaf, MadeLeaf, MadeGreater, MadeTop, MadeBeside, MadeLesser, UpgradedOne, UpgradedTop, UpgradedAbove, UpgradedBelow, ChangedOne, ChangedTwo, IsGivenNew, PhaseStepped}
 use Rattle.congee.specs.Keys.{key_bytes}
-use Rattle.congee.specs.Ledger.{Note, Unmade, Held, Linked, is_published, Tree, LockWords}
+use Rattle.congee.specs.Notes.{Note, Unmade, Held, Linked, is_published, Tree, LockWords}
 use Rattle.congee.specs.protocol.Protocol.{HasTop, Made, Holding, MadeOne, MadeTwo, MadeLeafFor, Fares, Known}
 use Rattle.congee.specs.protocol.Holdings.{IsTop, LockedBy, MadeForOne, MadeForTwo, MadeForPlan, IsMade, MadeBy}
 use Rattle.congee.proofs.lemmas.Graft.{on_test}
@@ -45,7 +45,7 @@ started_made number (Here (Some p) one) r n m = m
 started_made number (Above two) r n m = m
 
 ready_made : {C V : Type 0} (number : C → ℕ) (kind : Kind V) (plan : Plan C) (n : ℕ) → MadeForPlan number plan n → MadeBy number (ready kind plan).phase n
-ready_made {C} {V} number kind plan n m = by_test (λ (t : Turn C V). MadeBy number t.phase n) (asks_new kind) _ _ (λ _. m) (λ _. started_made number plan (absent_reply kind) n m)
+ready_made {C} {V} number kind plan n m = by_test (λ (t : NextPhase C V). MadeBy number t.phase n) (asks_new kind) _ _ (λ _. m) (λ _. started_made number plan (absent_reply kind) n m)
 
 unless_made : {C V : Type 0} (number : C → ℕ) (kind : Kind V) (s : Site C) (full : Bool) (above : Option (Over C)) (leaf : C) → MadeBy number (unless_full kind s full above (Some leaf) (Link leaf)).phase (number leaf)
 unless_made number kind s true (Some p) leaf = refl
@@ -312,8 +312,8 @@ module _ {C V : Type 0} (number : C → ℕ) (same : V → V → Bool) (always :
   abbrev Mine : (ℕ → Type 0) → Type 0
   Mine M = (n : ℕ) → (a n).status ≡ Held i → M n
 
-  at_turn : (x y : Turn C V) → y ≡ x → Now x.phase → Now y.phase
-  at_turn x y e m = let P : Turn C V → Type 0 = λ z. Now z.phase in subst P (sym e) m
+  at_turn : (x y : NextPhase C V) → y ≡ x → Now x.phase → Now y.phase
+  at_turn x y e m = let P : NextPhase C V → Type 0 = λ z. Now z.phase in subst P (sym e) m
 
   -- a call that holds nothing before a step that leaves the nodes holds nothing after it
   calm_bare : h' ≡ h → Own (λ _. ⊥) → Mine (λ _. ⊥) → (s : Phase C V) → Now s
@@ -355,27 +355,27 @@ module _ {C V : Type 0} (number : C → ℕ) (same : V → V → Bool) (always :
   only_new m n (inl x) = absurd x
   only_new m n (inr x) = x
 
-  leaf_holds : (kind : Kind V) (s : Site C) (r : Result C Refusal) (turn : Turn C V) → Own (λ _. ⊥) → Mine (λ _. ⊥) → MadeLeaf number kind s h (key_bytes k) r h' turn → Now turn.phase
+  leaf_holds : (kind : Kind V) (s : Site C) (r : Result C Refusal) (turn : NextPhase C V) → Own (λ _. ⊥) → Mine (λ _. ⊥) → MadeLeaf number kind s h (key_bytes k) r h' turn → Now turn.phase
   leaf_holds kind s (Ok leaf) turn o m g = at_turn _ turn g.1 (new_made (number leaf) _ 7 g.0 o (λ _. ⊥) m _ (by_leaf leaf)) where
     by_leaf : (leaf : C) (n : ℕ) → ⊥ ⊎ (n ≡ number leaf) → MadeBy number (unless_full kind s s.full s.above (Some leaf) (Link leaf)).phase n
     by_leaf leaf n (inl x) = absurd x
     by_leaf leaf n (inr x) = let P : ℕ → Type 0 = λ y. MadeBy number (unless_full kind s s.full s.above (Some leaf) (Link leaf)).phase y in subst P (sym x) (unless_made number kind s s.full s.above leaf)
   leaf_holds kind s (Err e) turn o m g = at_turn _ turn g.1 (calm_bare g.0 o m Ended)
 
-  greater_holds : (kind : Kind V) (s : Site C) (p : Parent C) (leaf : Option C) (r : Result C Refusal) (turn : Turn C V) → Own (λ _. ⊥) → Mine (IsMade number leaf) → MadeLeafFor number i a h (key_bytes k) s leaf
+  greater_holds : (kind : Kind V) (s : Site C) (p : Parent C) (leaf : Option C) (r : Result C Refusal) (turn : NextPhase C V) → Own (λ _. ⊥) → Mine (IsMade number leaf) → MadeLeafFor number i a h (key_bytes k) s leaf
       → MadeGreater number kind s p leaf h (key_bytes k) r h' turn → Now turn.phase
   greater_holds kind s p leaf (Ok c) turn o m l g = at_turn _ turn g.1
       (new_made (number c) _ s.depth g.0 o (IsMade number leaf) m _ (λ n x. ready_made number kind (Above (both p s (greater s leaf c))) n (greater_for number s leaf c n x)))
   greater_holds kind s p leaf (Err e) turn o m l g = at_turn _ turn g.1 (back_bare o (IsMade number leaf) m (all_leaf number i a h h' (key_bytes k) leaf s l g.0) Ended)
 
-  top_holds : (p : Parent C) (at : Seat C) (common byte : ℕ) (r : Result C Refusal) (turn : Turn C V) → Own (λ _. ⊥) → Mine (λ _. ⊥) → MadeTop number p at common byte h (key_bytes k) r h' turn → Now turn.phase
+  top_holds : (p : Parent C) (at : Stamp C) (common byte : ℕ) (r : Result C Refusal) (turn : NextPhase C V) → Own (λ _. ⊥) → Mine (λ _. ⊥) → MadeTop number p at common byte h (key_bytes k) r h' turn → Now turn.phase
   top_holds p at common byte (Ok top) turn o m g = at_turn _ turn g.1 (new_made (number top) _ common g.0 o (λ _. ⊥) m _ (by_top top)) where
     by_top : (top : C) (n : ℕ) → ⊥ ⊎ (n ≡ number top) → n ≡ number top
     by_top top n (inl x) = absurd x
     by_top top n (inr x) = x
   top_holds p at common byte (Err e) turn o m g = at_turn _ turn g.1 (calm_bare g.0 o m Ended)
 
-  beside_holds : (kind : Kind V) (p : Parent C) (at : Seat C) (common byte : ℕ) (top : C) (r : Result C Refusal) (turn : Turn C V) → Own (λ _. ⊥) → Mine (λ n. n ≡ number top) → Made i a h (key_bytes k) (number top) common 1
+  beside_holds : (kind : Kind V) (p : Parent C) (at : Stamp C) (common byte : ℕ) (top : C) (r : Result C Refusal) (turn : NextPhase C V) → Own (λ _. ⊥) → Mine (λ n. n ≡ number top) → Made i a h (key_bytes k) (number top) common 1
       → MadeBeside number kind p at common byte top h (key_bytes k) r h' turn → Now turn.phase
   beside_holds kind p at common byte top (Ok leaf) turn o m l g = at_turn _ turn g.1
       (new_made (number leaf) _ 7 g.0 o (λ n. n ≡ number top) m _ (λ n x. ready_made number kind (Above (record { top = None; above = p; at = at; change = Split top leaf common byte })) n x))
@@ -383,7 +383,7 @@ module _ {C V : Type 0} (number : C → ℕ) (same : V → V → Bool) (always :
       let r : Returns h h' × IsBack (h (number top)) (h' (number top)) = back_node i a h (key_bytes k) (number top) common 1 h' l g.0 in
       at_turn _ turn g.1 (back_bare o (λ n. n ≡ number top) m (r.0, (λ n x. at_node number i a h h' (key_bytes k) n (number top) x r.1)) Ended)
 
-  lesser_holds : (s : Site C) (p : Parent C) (top : Option (Parent C)) (r : Reply V) (x : Result C Refusal) (turn : Turn C V) → Own (λ _. ⊥) → Mine (λ _. ⊥) → MadeLesser number s p top r h (key_bytes k) x h' turn → Now turn.phase
+  lesser_holds : (s : Site C) (p : Parent C) (top : Option (Parent C)) (r : Reply V) (x : Result C Refusal) (turn : NextPhase C V) → Own (λ _. ⊥) → Mine (λ _. ⊥) → MadeLesser number s p top r h (key_bytes k) x h' turn → Now turn.phase
   lesser_holds s p None r (Ok c) turn o m g = at_turn _ turn g.1 (new_made (number c) _ s.depth g.0 o (λ _. ⊥) m _ (only_new (number c)))
   lesser_holds s p None r (Err e) turn o m g = at_turn _ turn g.1 (calm_bare g.0 o m _)
   lesser_holds s p (Some top) r (Ok c) turn o m g = at_turn _ turn g.1 (new_made (number c) _ p.depth g.0 o (λ _. ⊥) m _ (only_new (number c)))
@@ -403,12 +403,12 @@ module _ {C V : Type 0} (number : C → ℕ) (same : V → V → Bool) (always :
   only m n (inl x) = absurd x
   only m n (inr x) = x
 
-  one_upgraded : (root : C) (one : One C) (r : Reply V) (u : Upgrade) (turn : Turn C V) → Own (λ _. ⊥) → Mine (MadeForOne number one.change) → MadeOne number i a h (key_bytes k) one.change → UpgradedOne number root one r h u h' turn → Now turn.phase
+  one_upgraded : (root : C) (one : One C) (r : Reply V) (u : Upgrade) (turn : NextPhase C V) → Own (λ _. ⊥) → Mine (MadeForOne number one.change) → MadeOne number i a h (key_bytes k) one.change → UpgradedOne number root one r h u h' turn → Now turn.phase
   one_upgraded root one r Locked turn o m l g = at_turn _ turn g.1 (lock_holds (λ _. ⊥) (MadeForOne number one.change) (number one.at.node) g.0 o m (ChangeOne one r) (only (number one.at.node)) (λ n x. x))
   one_upgraded root one r Failed turn o m l g = at_turn _ turn g.1 (back_bare o (MadeForOne number one.change) m (all_one number i a h h' (key_bytes k) one.change l g.0) _)
   one_upgraded root one r Exhausted turn o m l g = at_turn _ turn g.1 (back_bare o (MadeForOne number one.change) m (all_one number i a h h' (key_bytes k) one.change l g.0) _)
 
-  top_upgraded : (root : C) (top : Parent C) (two : Two C) (r : Reply V) (size q : ℕ) (u : Upgrade) (turn : Turn C V) → Own (λ _. ⊥) → Mine (MadeForTwo number two.change) → MadeTwo number i a h (key_bytes k) two.above two.change size q
+  top_upgraded : (root : C) (top : Parent C) (two : Two C) (r : Reply V) (size q : ℕ) (u : Upgrade) (turn : NextPhase C V) → Own (λ _. ⊥) → Mine (MadeForTwo number two.change) → MadeTwo number i a h (key_bytes k) two.above two.change size q
       → UpgradedTop number root top two r h u h' turn → Now turn.phase
   top_upgraded root top two r size q Locked turn o m l g = at_turn _ turn g.1 (lock_holds (λ _. ⊥) (MadeForTwo number two.change) (number top.seat.node) g.0 o m (UpgradeAbove (record two { top = Some top }) r) (only (number top.seat.node)) (λ n x. x))
   top_upgraded root top two r size q Failed turn o m l g = at_turn _ turn g.1 (back_bare o (MadeForTwo number two.change) m (all_two number i a h h' (key_bytes k) two.above two.change size q l g.0) _)
@@ -430,7 +430,7 @@ module _ {C V : Type 0} (number : C → ℕ) (same : V → V → Bool) (always :
   swap L M (inl x) = inr x
   swap L M (inr x) = inl x
 
-  above_upgraded : (root : C) (two : Two C) (r : Reply V) (size q : ℕ) (u : Upgrade) (turn : Turn C V) → Own (IsTop number two.top) → Mine (MadeForTwo number two.change) → MadeTwo number i a h (key_bytes k) two.above two.change size q
+  above_upgraded : (root : C) (two : Two C) (r : Reply V) (size q : ℕ) (u : Upgrade) (turn : NextPhase C V) → Own (IsTop number two.top) → Mine (MadeForTwo number two.change) → MadeTwo number i a h (key_bytes k) two.above two.change size q
       → UpgradedAbove number root two r h u h' turn → Now turn.phase
   above_upgraded root two r size q Locked turn o m l g = at_turn _ turn g.1 (lock_holds (IsTop number two.top) (MadeForTwo number two.change) (number two.above.seat.node) g.0 o m (UpgradeBelow two r) (λ n x. swap _ _ x) (λ n x. x))
   above_upgraded root two r size q Failed turn o m l g = at_turn _ turn g.1 (gives_up root two.top None (MadeForTwo number two.change) o m (all_two number i a h h' (key_bytes k) two.above two.change size q l g.0))
@@ -449,7 +449,7 @@ module _ {C V : Type 0} (number : C → ℕ) (same : V → V → Bool) (always :
   all_locked two n (inl (inr x)) = inr x
   all_locked two n (inr x) = inl (inr x)
 
-  both_upgraded : (two : Two C) (r : Reply V) (size q : ℕ) (u : Upgrade) (turn : Turn C V) → Own (λ n. (n ≡ number two.above.seat.node) ⊎ IsTop number two.top n) → Mine (MadeForTwo number two.change) → MadeTwo number i a h (key_bytes k) two.above two.change size q
+  both_upgraded : (two : Two C) (r : Reply V) (size q : ℕ) (u : Upgrade) (turn : NextPhase C V) → Own (λ n. (n ≡ number two.above.seat.node) ⊎ IsTop number two.top n) → Mine (MadeForTwo number two.change) → MadeTwo number i a h (key_bytes k) two.above two.change size q
       → UpgradedBelow number two r h u h' turn → Now turn.phase
   both_upgraded two r size q Locked turn o m l g = at_turn _ turn g.1
       (lock_holds (λ n. (n ≡ number two.above.seat.node) ⊎ IsTop number two.top n) (MadeForTwo number two.change) (number two.at.node) g.0 o m (ChangeTwo two r) (all_locked two) (λ n x. x))
@@ -510,30 +510,30 @@ module _ {C V : Type 0} (number : C → ℕ) (same : V → V → Bool) (always :
   no_top None n e x = x
   no_top (Some top) n e x = absurd cc
 
-  marks : (two : Two C) (r : Reply V) (turn : Turn C V) (given' : Option V) (kind : Kind V) (top : Option (Parent C)) → turn ≡ decided (Obsolete two.at.node None two.above.seat.node r) → top ≡ None → Known number same always i a' h' k (key_bytes k) kind given' turn.phase
+  marks : (two : Two C) (r : Reply V) (turn : NextPhase C V) (given' : Option V) (kind : Kind V) (top : Option (Parent C)) → turn ≡ decided (Obsolete two.at.node None two.above.seat.node r) → top ≡ None → Known number same always i a' h' k (key_bytes k) kind given' turn.phase
       → ((a' (number two.above.seat.node)).status ≡ Linked) × ((n : ℕ) → Locks two top n → LockedBy number turn.phase n)
   marks two r turn given' kind top e z =
-      let P : Turn C V → Type 0 = λ y. Known number same always i a' h' k (key_bytes k) kind given' y.phase → ((a' (number two.above.seat.node)).status ≡ Linked) × ((n : ℕ) → Locks two top n → LockedBy number y.phase n) in
+      let P : NextPhase C V → Type 0 = λ y. Known number same always i a' h' k (key_bytes k) kind given' y.phase → ((a' (number two.above.seat.node)).status ≡ Linked) × ((n : ℕ) → Locks two top n → LockedBy number y.phase n) in
       subst P (sym e) (λ x. (x.0.above.linked, by_lock))
     where
       by_lock : (n : ℕ) → Locks two top n → ((n ≡ number two.above.seat.node) ⊎ (n ≡ number two.at.node)) ⊎ ⊥
       by_lock n (inl y) = inl y
       by_lock n (inr y) = inr (no_top top n z y)
 
-  lets_go : (two : Two C) (r : Reply V) (turn : Turn C V) (given' : Option V) (kind : Kind V) (top : Option (Parent C)) → turn ≡ decided (UnlockBelow two.at.node two.above.seat.node r) → top ≡ None → Known number same always i a' h' k (key_bytes k) kind given' turn.phase
+  lets_go : (two : Two C) (r : Reply V) (turn : NextPhase C V) (given' : Option V) (kind : Kind V) (top : Option (Parent C)) → turn ≡ decided (UnlockBelow two.at.node two.above.seat.node r) → top ≡ None → Known number same always i a' h' k (key_bytes k) kind given' turn.phase
       → ((a' (number two.above.seat.node)).status ≡ Linked) × ((n : ℕ) → Locks two top n → LockedBy number turn.phase n)
   lets_go two r turn given' kind top e z =
-      let P : Turn C V → Type 0 = λ y. Known number same always i a' h' k (key_bytes k) kind given' y.phase → ((a' (number two.above.seat.node)).status ≡ Linked) × ((n : ℕ) → Locks two top n → LockedBy number y.phase n) in
+      let P : NextPhase C V → Type 0 = λ y. Known number same always i a' h' k (key_bytes k) kind given' y.phase → ((a' (number two.above.seat.node)).status ≡ Linked) × ((n : ℕ) → Locks two top n → LockedBy number y.phase n) in
       subst P (sym e) (λ x. (x.1.linked, by_lock))
     where
       by_lock : (n : ℕ) → Locks two top n → (n ≡ number two.above.seat.node) ⊎ (n ≡ number two.at.node)
       by_lock n (inl y) = y
       by_lock n (inr y) = absurd (no_top top n z y)
 
-  tops : (two : Two C) (r : Reply V) (turn : Turn C V) (given' : Option V) (kind : Kind V) (top : Parent C) → turn ≡ after_top two r (Some top) → Known number same always i a' h' k (key_bytes k) kind given' turn.phase
+  tops : (two : Two C) (r : Reply V) (turn : NextPhase C V) (given' : Option V) (kind : Kind V) (top : Parent C) → turn ≡ after_top two r (Some top) → Known number same always i a' h' k (key_bytes k) kind given' turn.phase
       → ((a' (number top.seat.node)).status ≡ Linked) × ((n : ℕ) → Locks two (Some top) n → LockedBy number turn.phase n)
   tops two r turn given' kind top e =
-      let P : Turn C V → Type 0 = λ y. Known number same always i a' h' k (key_bytes k) kind given' y.phase → ((a' (number top.seat.node)).status ≡ Linked) × ((n : ℕ) → Locks two (Some top) n → LockedBy number y.phase n) in
+      let P : NextPhase C V → Type 0 = λ y. Known number same always i a' h' k (key_bytes k) kind given' y.phase → ((a' (number top.seat.node)).status ≡ Linked) × ((n : ℕ) → Locks two (Some top) n → LockedBy number y.phase n) in
       subst P (sym e) (λ x. (x.0.above.linked, by_lock))
     where
       by_lock : (n : ℕ) → Locks two (Some top) n → ((n ≡ number top.seat.node) ⊎ (n ≡ number two.at.node)) ⊎ (n ≡ number two.above.seat.node)
@@ -541,22 +541,19 @@ module _ {C V : Type 0} (number : C → ℕ) (same : V → V → Bool) (always :
       by_lock n (inl (inr y)) = inl (inr y)
       by_lock n (inr y) = inl (inl y)
 
-  collapse_goes : (two : Two C) (r : Reply V) (turn : Turn C V) (given' : Option V) (kind : Kind V) (top : Option (Parent C)) → turn ≡ after_top two r top → HasTop {C = C} Collapse top → Known number same always i a' h' k (key_bytes k) kind given' turn.phase → Goes two Collapse top turn.phase
+  collapse_goes : (two : Two C) (r : Reply V) (turn : NextPhase C V) (given' : Option V) (kind : Kind V) (top : Option (Parent C)) → turn ≡ after_top two r top → HasTop {C = C} Collapse top → Known number same always i a' h' k (key_bytes k) kind given' turn.phase → Goes two Collapse top turn.phase
   collapse_goes two r turn given' kind None e z x = absurd z
   collapse_goes two r turn given' kind (Some top) e z x = tops two r turn given' kind top e x
 
-  lessen_goes : (two : Two C) (r : Reply V) (turn : Turn C V) (given' : Option V) (kind : Kind V) (c : C) (top : Option (Parent C)) → turn ≡ after_top two r top → HasTop (ShrinkAbove c) top → Known number same always i a' h' k (key_bytes k) kind given' turn.phase → Goes two (ShrinkAbove c) top turn.phase
+  lessen_goes : (two : Two C) (r : Reply V) (turn : NextPhase C V) (given' : Option V) (kind : Kind V) (c : C) (top : Option (Parent C)) → turn ≡ after_top two r top → HasTop (ShrinkAbove c) top → Known number same always i a' h' k (key_bytes k) kind given' turn.phase → Goes two (ShrinkAbove c) top turn.phase
   lessen_goes two r turn given' kind c None e z x = absurd z
   lessen_goes two r turn given' kind c (Some top) e z x = tops two r turn given' kind top e x
 
-  after_two : (two : Two C) (r : Reply V) (change : Double C) (turn : Turn C V) (given' : Option V) (kind : Kind V) → turn ≡ after_change two r change → HasTop change two.top → Known number same always i a' h' k (key_bytes k) kind given' turn.phase → Goes two change two.top turn.phase
-  after_two two r Unlink turn given' kind e z x = marks two r turn given' kind two.top e z x
-  after_two two r (Shrink c) turn given' kind e z x = marks two r turn given' kind two.top e z x
+  after_two : (two : Two C) (r : Reply V) (change : Double C) (turn : NextPhase C V) (given' : Option V) (kind : Kind V) → turn ≡ after_change two r change → HasTop change two.top → Known number same always i a' h' k (key_bytes k) kind given' turn.phase → Goes two change two.top turn.phase
   after_two two r Collapse turn given' kind e z x = collapse_goes two r turn given' kind two.top e z x
   after_two two r (ShrinkAbove c) turn given' kind e z x = lessen_goes two r turn given' kind c two.top e z x
-  after_two two r (Grow c) turn given' kind e z x = marks two r turn given' kind two.top e z x
-  after_two two r (GrowLink c leaf byte) turn given' kind e z x = marks two r turn given' kind two.top e z x
   after_two two r (Split top leaf common byte) turn given' kind e z x = lets_go two r turn given' kind two.top e z x
+  after_two two r _ turn given' kind e z x = marks two r turn given' kind two.top e z x
 
   -- a change of the nodes
   changes : (L M : ℕ → Type 0) → Own L → Mine M → Flags h h' → ((n : ℕ) → M n → (a' n).status ≡ Held i → ⊥) → (s : Phase C V) → ((n : ℕ) → (a' n).owner ≡ Some i → L n → LockedBy number s n) → Now s
@@ -604,11 +601,11 @@ module _ {C V : Type 0} (number : C → ℕ) (same : V → V → Bool) (always :
     ];
   }
 
-  unwound_holds : (root : C) (e : Option Refusal) (turn : Turn C V) → turn ≡ unwound root e → ((s : Phase C V) → Now s) → Now turn.phase
+  unwound_holds : (root : C) (e : Option Refusal) (turn : NextPhase C V) → turn ≡ unwound root e → ((s : Phase C V) → Now s) → Now turn.phase
   unwound_holds root None turn x g = at_turn _ turn x (g _)
   unwound_holds root (Some r) turn x g = at_turn _ turn x (g _)
 
-  unwinds : (root : C) (n : C) (next : Option C) (e : Option Refusal) (turn : Turn C V) → turn ≡ after_unwind root next e → SameBut h (number n) (record (h (number n)) { version = (h (number n)).version + 1; locked = false }) h'
+  unwinds : (root : C) (n : C) (next : Option C) (e : Option Refusal) (turn : NextPhase C V) → turn ≡ after_unwind root next e → SameBut h (number n) (record (h (number n)) { version = (h (number n)).version + 1; locked = false }) h'
       → Own (λ u. (u ≡ number n) ⊎ IsMade number next u) → Mine (λ _. ⊥) → Now turn.phase
   unwinds root n None e turn x g o m = unwound_holds root e turn x (λ s. unlocks (number n) g (λ u. (u ≡ number n) ⊎ ⊥) o m s (λ u z. elim z [
     | inl q ↦ inl q
@@ -620,23 +617,14 @@ module _ {C V : Type 0} (number : C → ℕ) (same : V → V → Bool) (always :
   ]))
 
   -- every step
-  pub step_holds : (most : ℕ) (why : NodeType → Refusal → Type 0) (root : C) (kind : Kind V) (fail : Bool) (answer : Option (Option V)) (given : Option V) (s : Phase C V) (given' : Option V) (turn : Turn C V)
+  pub step_holds : (most : ℕ) (why : NodeType → Refusal → Type 0) (root : C) (kind : Kind V) (fail : Bool) (answer : Option (Option V)) (given : Option V) (s : Phase C V) (given' : Option V) (turn : NextPhase C V)
       → Own (LockedBy number s) → Mine (MadeBy number s) → Known number same always i a h k (key_bytes k) kind given s → Known number same always i a' h' k (key_bytes k) kind given' turn.phase
       → PhaseStepped number same always most why root (key_bytes k) kind fail answer given s h given' turn h' → Now turn.phase
-  step_holds most why root kind fail answer given New given' turn o m x x' g = calm_bare g.0 o m turn.phase
-  step_holds most why root kind fail answer given (Version p n) given' turn o m x x' g = calm_bare g.0 o m turn.phase
-  step_holds most why root kind fail answer given (Read p at) given' turn o m x x' g = calm_bare g.0 o m turn.phase
-  step_holds most why root kind fail answer given (Check s c) given' turn o m x x' g = calm_bare g.0 o m turn.phase
-  step_holds most why root kind fail answer given (CheckUncopied at) given' turn o m x x' g = calm_bare g.0 o m turn.phase
-  step_holds most why root kind fail answer given (CheckMiss p at common byte) given' turn o m x x' g = calm_bare g.0 o m turn.phase
-  step_holds most why root kind fail answer given (CheckDown p at c) given' turn o m x x' g = calm_bare g.0 o m turn.phase
-  step_holds most why root kind fail answer given (CheckOld p s v) given' turn o m x x' g = calm_bare g.0 o m turn.phase
   step_holds most why root kind fail answer given (MakeLeaf s) given' turn o m x x' g = leaf_holds kind s g.1.0 turn o m g.1.1
   step_holds most why root kind fail answer given (MakeGreater s p leaf) given' turn o m x x' g = greater_holds kind s p leaf g.1.0 turn o m x.3 g.1.1
   step_holds most why root kind fail answer given (MakeTop p at common byte) given' turn o m x x' g = top_holds p at common byte g.1.0 turn o m g.1.1
   step_holds most why root kind fail answer given (MakeBeside p at common byte top) given' turn o m x x' g = beside_holds kind p at common byte top g.1.0 turn o m x.6 g.1.1
   step_holds most why root kind fail answer given (MakeLesser s p top r) given' turn o m x x' g = lesser_holds s p top r g.1.0 turn o m g.1.1
-  step_holds most why root kind fail answer given (AskOld s v) given' turn o m x x' g = calm_bare g.0 o m turn.phase
   step_holds most why root kind fail answer given (AskNew plan) given' turn o m x x' g = asked answer g.1 where
     stays : turn ≡ asking (AskNew plan) None → Now turn.phase
     stays e = at_turn _ turn e (calm_mine g.0 o (MadeForPlan number plan) m (AskNew plan) (λ n y. y))
@@ -645,13 +633,12 @@ module _ {C V : Type 0} (number : C → ℕ) (same : V → V → Bool) (always :
     asked None y = stays y.1
     asked (Some None) y = stays y.1
     asked (Some (Some z)) y = at_turn _ turn y.1 (calm_mine g.0 o (MadeForPlan number plan) m _ (λ n u. started_made number plan _ n u))
-  step_holds most why root kind fail answer given (Confirm at r) given' turn o m x x' g = calm_bare g.0 o m turn.phase
   step_holds most why root kind fail answer given (CheckAbove p one r) given' turn o m x x' g = on_test (is_taken (h (number p.node)) p.version)
       (λ y. let z : (h' ≡ h) × (turn ≡ quiet (UpgradeOne one r)) = g.1.goes_on y in at_turn _ turn z.1 (calm_mine z.0 o (MadeForOne number one.change) m (UpgradeOne one r) (λ n u. u)))
       (λ y. let z : BackOne number h one.change h' × (turn ≡ again root) = g.1.goes_back y in at_turn _ turn z.1 (back_bare o (MadeForOne number one.change) m (all_one number i a h h' (key_bytes k) one.change x.2.made z.0) _))
   step_holds most why root kind fail answer given (UpgradeOne one r) given' turn o m x x' g = one_upgraded root one r g.1.0 turn o m x.1.1.made g.1.2
   step_holds most why root kind fail answer given (ChangeOne one r) given' turn o m x x' g =
-      let P : Turn C V → Type 0 = λ z. Known number same always i a' h' k (key_bytes k) kind given' z.phase in
+      let P : NextPhase C V → Type 0 = λ z. Known number same always i a' h' k (key_bytes k) kind given' z.phase in
       let y : Holding i a' (number one.at.node) = subst P g.2 x' in
       at_turn _ turn g.2 (changes (λ n. n ≡ number one.at.node) (MadeForOne number one.change) o m (flags_one number (key_bytes k) given one one.change h h' g.1) (one_changed given one one.change y.linked g.1) (Unlock one.at.node r) (λ n e l. l))
   step_holds most why root kind fail answer given (UpgradeTop top two r) given' turn o m x x' g = top_upgraded root top two r _ _ g.1.0 turn o m x.1.2.made g.1.2
@@ -687,5 +674,4 @@ module _ {C V : Type 0} (number : C → ℕ) (same : V → V → Bool) (always :
       ]))
   step_holds most why root kind fail answer given (Unlock n r) given' turn o m x x' g = at_turn _ turn g.2 (unlocks (number n) g.1 (λ u. u ≡ number n) o m Ended (λ u y. inl y))
   step_holds most why root kind fail answer given (Unwind n next e) given' turn o m x x' g = unwinds root n next e turn g.2 g.1 o m
-  step_holds most why root kind fail answer given (Sweep s) given' turn o m x x' g = calm_bare g.0 o m turn.phase
-  step_holds most why root kind fail answer given Ended given' turn o m x x' g = calm_bare g.0 o m turn.phase
+  step_holds most why root kind fail answer given _ given' turn o m x x' g = calm_bare g.0 o m turn.phase

@@ -5,7 +5,7 @@ use Rattle.std.proofs.lemmas.Bool.{cases_eq}
 use Rattle.judge.specs.declared.journal.Reply.{Reply}
 use Rattle.congee.specs.declared.forms.base_node.NodeType.{NodeType}
 use Rattle.congee.specs.declared.protocol.store.Refusal.{Refusal}
-use Rattle.congee.specs.declared.protocol.store.Seat.{Seat}
+use Rattle.congee.specs.declared.protocol.store.Stamp.{Stamp}
 use Rattle.congee.specs.declared.protocol.store.Upgrade.{Upgrade}
 use Rattle.congee.specs.declared.protocol.store.Upgrade.TheVariants.{Locked, Failed, Exhausted}
 use Rattle.congee.specs.declared.protocol.phase.Kind.{Kind}
@@ -19,16 +19,18 @@ use Rattle.congee.specs.declared.protocol.phase.Double.TheVariants.{Unlink, Grow
 use Rattle.congee.specs.declared.protocol.phase.Two.{Two}
 use Rattle.congee.specs.declared.protocol.phase.Phase.{Phase}
 use Rattle.congee.specs.declared.protocol.phase.Phase.TheVariants.{MakeLeaf, MakeGreater, MakeTop, MakeBeside, MakeLesser, CheckAbove, UpgradeOne, ChangeOne, UpgradeTop, UpgradeAbove, UpgradeBelow, ChangeTwo, Obsolete, Retire, UnlockBelow, Unlock, Unwind}
-use Rattle.congee.specs.declared.protocol.turn.Turn.{Turn}
+use Rattle.congee.specs.declared.protocol.turn.NextPhase.{NextPhase}
 use Rattle.congee.specs.Heap.{Node, Hung, Stands, is_taken}
 use Rattle.congee.specs.protocol.Events.{SameBut, ChangeGives, TakeOverGives, BackGives}
 use Rattle.congee.specs.protocol.Steps.{BackOne, BackTwo, BackLeaf, MadeLeaf, MadeGreater, MadeTop, MadeBeside, MadeLesser, UpgradedOne, UpgradedTop, UpgradedAbove, UpgradedBelow, PutsLesser, Collapses, Lessens, MayLessen, MayTop, ChangedOne, ChangedTwo, PhaseStepped, MayStep, MayBackOne, MayBackTwo, MayBackLeaf, MayChangeOne, MayChangeTwo}
 use Rattle.congee.proofs.lemmas.Graft.{on_test}
 
+-- a used name stays used, and its node, if it was destroyed, as it is
 pub record StillAt {V : Type 0} (p q : Node V) : Type 0 where
   pub dead : p.destroyed ≡ true → q ≡ p
   pub used : q.made ≡ true
 
+-- each used name stays used, and what was destroyed stays as it is
 abbrev pub Still : {V : Type 0} → (ℕ → Node V) → (ℕ → Node V) → Type 0
 Still h h' = (n : ℕ) → (h n).made ≡ true → StillAt (h n) (h' n)
 
@@ -119,23 +121,23 @@ module _ {C V : Type 0} (number : C → ℕ) (h h' : ℕ → Node V) where
   leaf_back None may g = still_same h h' g
   leaf_back (Some leaf) may g = still_back h h' (number leaf) may g
 
-  leaf_made : (kind : Kind V) (s : Site C) (key : List ℕ) (r : Result C Refusal) (t : Turn C V) → MadeLeaf number kind s h key r h' t → Still h h'
+  leaf_made : (kind : Kind V) (s : Site C) (key : List ℕ) (r : Result C Refusal) (t : NextPhase C V) → MadeLeaf number kind s h key r h' t → Still h h'
   leaf_made kind s key (Ok c) t g = still_new h h' (number c) g.0.unmade g.0.others
   leaf_made kind s key (Err e) t g = still_same h h' g.0
 
-  greater_made : (kind : Kind V) (s : Site C) (p : Parent C) (leaf : Option C) (key : List ℕ) (r : Result C Refusal) (t : Turn C V) → MayBackLeaf number h leaf → MadeGreater number kind s p leaf h key r h' t → Still h h'
+  greater_made : (kind : Kind V) (s : Site C) (p : Parent C) (leaf : Option C) (key : List ℕ) (r : Result C Refusal) (t : NextPhase C V) → MayBackLeaf number h leaf → MadeGreater number kind s p leaf h key r h' t → Still h h'
   greater_made kind s p leaf key (Ok c) t may g = still_new h h' (number c) g.0.unmade g.0.others
   greater_made kind s p leaf key (Err e) t may g = leaf_back leaf may g.0
 
-  top_made : (p : Parent C) (at : Seat C) (common byte : ℕ) (key : List ℕ) (r : Result C Refusal) (t : Turn C V) → MadeTop number p at common byte h key r h' t → Still h h'
+  top_made : (p : Parent C) (at : Stamp C) (common byte : ℕ) (key : List ℕ) (r : Result C Refusal) (t : NextPhase C V) → MadeTop number p at common byte h key r h' t → Still h h'
   top_made p at common byte key (Ok c) t g = still_new h h' (number c) g.0.unmade g.0.others
   top_made p at common byte key (Err e) t g = still_same h h' g.0
 
-  beside_made : (kind : Kind V) (p : Parent C) (at : Seat C) (common byte : ℕ) (top : C) (key : List ℕ) (r : Result C Refusal) (t : Turn C V) → Stands (h (number top)) → MadeBeside number kind p at common byte top h key r h' t → Still h h'
+  beside_made : (kind : Kind V) (p : Parent C) (at : Stamp C) (common byte : ℕ) (top : C) (key : List ℕ) (r : Result C Refusal) (t : NextPhase C V) → Stands (h (number top)) → MadeBeside number kind p at common byte top h key r h' t → Still h h'
   beside_made kind p at common byte top key (Ok c) t s g = still_new h h' (number c) g.0.unmade g.0.others
   beside_made kind p at common byte top key (Err e) t s g = still_back h h' (number top) s g.0
 
-  lesser_made : (s : Site C) (p : Parent C) (top : Option (Parent C)) (r : Reply V) (key : List ℕ) (x : Result C Refusal) (t : Turn C V) → MadeLesser number s p top r h key x h' t → Still h h'
+  lesser_made : (s : Site C) (p : Parent C) (top : Option (Parent C)) (r : Reply V) (key : List ℕ) (x : Result C Refusal) (t : NextPhase C V) → MadeLesser number s p top r h key x h' t → Still h h'
   lesser_made s p None r key (Ok c) t g = still_new h h' (number c) g.0.unmade g.0.others
   lesser_made s p None r key (Err e) t g = still_same h h' g.0
   lesser_made s p (Some top) r key (Ok c) t g = still_new h h' (number c) g.0.unmade g.0.others
@@ -144,22 +146,22 @@ module _ {C V : Type 0} (number : C → ℕ) (h h' : ℕ → Node V) where
   locked : (n : ℕ) → Stands (h n) → SameBut h n (record (h n) { locked = true }) h' → Still h h'
   locked n s g = still_but h h' n _ s s.made g
 
-  one_upgraded : (root : C) (one : One C) (r : Reply V) (u : Upgrade) (t : Turn C V) → Stands (h (number one.at.node)) → MayBackOne number h one.change → UpgradedOne number root one r h u h' t → Still h h'
+  one_upgraded : (root : C) (one : One C) (r : Reply V) (u : Upgrade) (t : NextPhase C V) → Stands (h (number one.at.node)) → MayBackOne number h one.change → UpgradedOne number root one r h u h' t → Still h h'
   one_upgraded root one r Locked t s may g = locked (number one.at.node) s g.0
   one_upgraded root one r Failed t s may g = one_back one.change may g.0
   one_upgraded root one r Exhausted t s may g = one_back one.change may g.0
 
-  top_upgraded : (root : C) (top : Parent C) (two : Two C) (r : Reply V) (u : Upgrade) (t : Turn C V) → Stands (h (number top.seat.node)) → MayBackTwo number h two.change → UpgradedTop number root top two r h u h' t → Still h h'
+  top_upgraded : (root : C) (top : Parent C) (two : Two C) (r : Reply V) (u : Upgrade) (t : NextPhase C V) → Stands (h (number top.seat.node)) → MayBackTwo number h two.change → UpgradedTop number root top two r h u h' t → Still h h'
   top_upgraded root top two r Locked t s may g = locked (number top.seat.node) s g.0
   top_upgraded root top two r Failed t s may g = two_back two.change may g.0
   top_upgraded root top two r Exhausted t s may g = two_back two.change may g.0
 
-  above_upgraded : (root : C) (two : Two C) (r : Reply V) (u : Upgrade) (t : Turn C V) → Stands (h (number two.above.seat.node)) → MayBackTwo number h two.change → UpgradedAbove number root two r h u h' t → Still h h'
+  above_upgraded : (root : C) (two : Two C) (r : Reply V) (u : Upgrade) (t : NextPhase C V) → Stands (h (number two.above.seat.node)) → MayBackTwo number h two.change → UpgradedAbove number root two r h u h' t → Still h h'
   above_upgraded root two r Locked t s may g = locked (number two.above.seat.node) s g.0
   above_upgraded root two r Failed t s may g = two_back two.change may g.0
   above_upgraded root two r Exhausted t s may g = two_back two.change may g.0
 
-  both_upgraded : (two : Two C) (r : Reply V) (u : Upgrade) (t : Turn C V) → Stands (h (number two.at.node)) → MayBackTwo number h two.change → UpgradedBelow number two r h u h' t → Still h h'
+  both_upgraded : (two : Two C) (r : Reply V) (u : Upgrade) (t : NextPhase C V) → Stands (h (number two.at.node)) → MayBackTwo number h two.change → UpgradedBelow number two r h u h' t → Still h h'
   both_upgraded two r Locked t s may g = locked (number two.at.node) s g.0
   both_upgraded two r Failed t s may g = two_back two.change may g.0
   both_upgraded two r Exhausted t s may g = two_back two.change may g.0
@@ -224,7 +226,7 @@ module _ {C V : Type 0} (number : C → ℕ) (h h' : ℕ → Node V) where
       (still_then h2 h3 h' (still_change h2 h3 (number top) _ _ t2 g.5)
       (still_change h3 h' (number two.above.seat.node) _ _ up3 g.6)))
 
-  pub step_still : (same : V → V → Bool) (always : Bool) (most : ℕ) (why : NodeType → Refusal → Type 0) (root : C) (key : List ℕ) (kind : Kind V) (fail : Bool) (answer : Option (Option V)) (new : Option V) (s : Phase C V) (new' : Option V) (t : Turn C V)
+  pub step_still : (same : V → V → Bool) (always : Bool) (most : ℕ) (why : NodeType → Refusal → Type 0) (root : C) (key : List ℕ) (kind : Kind V) (fail : Bool) (answer : Option (Option V)) (new : Option V) (s : Phase C V) (new' : Option V) (t : NextPhase C V)
       → MayStep number root key new s h → PhaseStepped number same always most why root key kind fail answer new s h new' t h' → Still h h'
   step_still same always most why root key kind fail answer new (MakeLeaf s) new' t may g = leaf_made kind s key g.1.0 t g.1.1
   step_still same always most why root key kind fail answer new (MakeGreater s p leaf) new' t may g = greater_made kind s p leaf key g.1.0 t may.1 g.1.1

@@ -2,7 +2,7 @@
 use Rattle.std.proofs.Common.{◌≡◌, ◌≢◌, ℕ, ◌<◌, ◌==◌, inl, inr, true, false, List, length, get_or, refl, sym, ◌∙◌, ap, subst, arith}
 use Rattle.std.specs.Prelude.{None, Some}
 use Rattle.congee.specs.Heap.{Node, Nothing, Below, Holds, fits, child_for, value_at}
-use Rattle.congee.specs.Ledger.{Note, Linked, Gone, is_published, IsChild, Tree, LockWords, Collapses, Lessens, Shrinks, in_place_of}
+use Rattle.congee.specs.Notes.{Note, Linked, Gone, is_published, IsChild, Tree, LockWords, Collapses, Lessens, Shrinks, in_place_of}
 use Rattle.congee.specs.protocol.Events.{ChangeGives, TakeOverGives, IsOther}
 use Rattle.congee.specs.protocol.Steps.{PutsLesser}
 use Rattle.congee.specs.protocol.Protocol.{Made, Holding, TakenOut}

@@ -14,12 +14,12 @@ use Rattle.congee.specs.declared.protocol.phase.Double.TheVariants.{Unlink, Grow
 use Rattle.congee.specs.declared.protocol.phase.Two.{Two}
 use Rattle.congee.specs.declared.protocol.phase.Phase.{Phase}
 use Rattle.congee.specs.declared.protocol.phase.Phase.TheVariants.{UpgradeOne, ChangeOne, UpgradeTop, UpgradeAbove, UpgradeBelow, ChangeTwo, Obsolete, Retire, UnlockBelow, Unlock, Unwind}
-use Rattle.congee.specs.declared.protocol.turn.Turn.{Turn}
+use Rattle.congee.specs.declared.protocol.turn.NextPhase.{NextPhase}
 use Rattle.congee.specs.Heap.{Node, Below, child_for, is_taken}
 use Rattle.congee.specs.protocol.Events.{places, SameBut, upgrade_gives, ObsoleteGives, RetireGives, UnlockGives}
 use Rattle.congee.specs.protocol.Steps.{quiet, finished, after_retire, after_unwind}
 use Rattle.congee.specs.Keys.{key_bytes}
-use Rattle.congee.specs.Ledger.{Note, Linked, Gone, is_published, IsChild, Tree, LockWords}
+use Rattle.congee.specs.Notes.{Note, Linked, Gone, is_published, IsChild, Tree, LockWords}
 use Rattle.congee.specs.protocol.Protocol.{Rely, Holding, Fresh, ChildOf, Made, PlacedOne, WantedOne, MadeOne, PlacedTwo, WantedTwo, MadeTwo, TwoKnown, AboveLocked, TopLocked, AlsoOut, HalfLocked, Known, Effect}
 use Rattle.congee.proofs.lemmas.Fits.{both_true}
 use Rattle.congee.proofs.lemmas.protocol.Rely.{fresh_kept, child_kept}
@@ -30,7 +30,7 @@ use Rattle.congee.proofs.lemmas.protocol.Sound.{Sound}
 
 -- a step of the call, with the ledger after it
 pub record Kept {C V : Type 0} (number : C → ℕ) (same : V → V → Bool) (always : Bool) (i : ℕ) (a : ℕ → Note) (h : ℕ → Node V) (k : ℕ) (kind : Kind V) (given : Option V)
-    (given' : Option V) (t : Turn C V) (h' : ℕ → Node V) : Type 0 where
+    (given' : Option V) (t : NextPhase C V) (h' : ℕ → Node V) : Type 0 where
   pub notes : ℕ → Note
   pub effect : Effect i a h notes h'
   pub sound : Sound number same always i k kind given h given' t notes h'
@@ -39,9 +39,11 @@ pub record Kept {C V : Type 0} (number : C → ℕ) (same : V → V → Bool) (a
 pub own_rely : {V : Type 0} (i : ℕ) (a : ℕ → Note) (h : ℕ → Node V) (a' : ℕ → Note) (h' : ℕ → Node V) → Effect i a h a' h' → Rely (λ _. Unit {0}) (suc i) a h a' h'
 own_rely i a h a' h' e = e.others (suc i) (λ z. omega (arith, z))
 
+-- what is true of a node as long as its word is the one taken stays so over the call's own step
 pub own_fresh : {V : Type 0} (i : ℕ) (a : ℕ → Note) (h : ℕ → Node V) (a' : ℕ → Note) (h' : ℕ → Node V) → Effect i a h a' h' → (n v : ℕ) (Q : Node V → Type 0) → Fresh a h n v Q → Fresh a' h' n v Q
 own_fresh i a h a' h' e n v Q f = fresh_kept (λ _. Unit {0}) (suc i) a h a' h' (own_rely i a h a' h' e) n v Q tt f
 
+-- a node that is or was in reach keeps its prefix over a call's own step
 pub own_prefix : {V : Type 0} (i : ℕ) (a : ℕ → Note) (h : ℕ → Node V) (a' : ℕ → Note) (h' : ℕ → Node V) → Effect i a h a' h' → (n : ℕ) → is_published (a n).status ≡ true → (h' n).prefix ≡ (h n).prefix
 own_prefix i a h a' h' e n p = (own_rely i a h a' h' e).prefix n tt p
 

@@ -3,7 +3,7 @@ use Rattle.std.proofs.Common.{◌≡◌, ℕ, suc, Bool, true, List, [], ◌∷�
 use Rattle.std.specs.Prelude.{Option, None, Some}
 use Rattle.std.specs.List.{Contains}
 use Rattle.std.proofs.lemmas.List.Elements.{All-from_recursion, All-contains}
-use Rattle.congee.specs.declared.protocol.store.Seat.{Seat}
+use Rattle.congee.specs.declared.protocol.store.Stamp.{Stamp}
 use Rattle.congee.specs.declared.protocol.phase.Kind.{Kind}
 use Rattle.congee.specs.declared.protocol.phase.Parent.{Parent}
 use Rattle.congee.specs.declared.protocol.phase.Above.{Above as Over}
@@ -12,7 +12,7 @@ use Rattle.congee.specs.declared.protocol.phase.Single.{Single}
 use Rattle.congee.specs.declared.protocol.phase.Single.TheVariants.{Set, Link}
 use Rattle.congee.specs.declared.protocol.phase.One.{One}
 use Rattle.congee.specs.declared.protocol.phase.Double.{Double}
-use Rattle.congee.specs.declared.protocol.phase.Double.TheVariants.{Unlink, Grow, GrowLink, Split, Shrink, Collapse, ShrinkAbove}
+use Rattle.congee.specs.declared.protocol.phase.Double.TheVariants.{Unlink, GrowLink, Split, Collapse}
 use Rattle.congee.specs.declared.protocol.phase.Two.{Two}
 use Rattle.congee.specs.declared.protocol.phase.Plan.{Plan}
 use Rattle.congee.specs.declared.protocol.phase.Plan.TheVariants.{Here, Above}
@@ -25,11 +25,11 @@ use Rattle.congee.specs.declared.protocol.sweep.Sweep.{Sweep as Scan}
 use Rattle.congee.specs.protocol.SweepSteps.{rungs_of}
 use Rattle.congee.specs.protocol.SweepKnown.{RungsKnown, SweepKnownAt, names_rungs, names_sweep_at, names_sweep}
 use Rattle.congee.specs.Heap.{Node, Hung, Below, child_for}
-use Rattle.congee.specs.Ledger.{Note, Linked, is_published, Tree}
+use Rattle.congee.specs.Notes.{Note, Linked, is_published, Tree}
 use Rattle.congee.specs.protocol.Protocol.{Known, Knows, TopLocked, AlsoOut, AlsoHolding, IsFar, IsAbove, IsLesser, SeatedIf, PlanKnown}
 use Rattle.congee.specs.protocol.Holdings.{IsTop, LockedBy, MadeBy, MadeForOne, MadeForTwo, MadeForPlan, IsMade}
 use Rattle.congee.specs.protocol.Names.{name_above, names_over, name_seated, name_made, names_for_one, names_for_two, names_site, names_one, names_two, names_plan, names}
-use Rattle.congee.proofs.lemmas.protocol.Each.{Each, both}
+use Rattle.congee.proofs.lemmas.protocol.Each.{Each, each_append}
 
 each_weaker : (K L : ℕ → Type 0) → ((n : ℕ) → K n → L n) → (xs : List ℕ) → Each K xs → Each L xs
 each_weaker K L f [] e = tt
@@ -72,7 +72,7 @@ module _ {C V : Type 0} (number : C → ℕ) (same : V → V → Bool) (always :
   site_in : (s : Site C) (x : Hung V) → Knows number a h key s x → Each In (names_site number s)
   site_in s x k = (k.fresh.seated.published, above_in s.above (number s.at.node) k.above)
 
-  seated_in : (p : Option (Seat C)) → SeatedIf number a h p → Each In (name_seated number p)
+  seated_in : (p : Option (Stamp C)) → SeatedIf number a h p → Each In (name_seated number p)
   seated_in None x = tt
   seated_in (Some p) x = (x.published, tt)
 
@@ -86,20 +86,18 @@ module _ {C V : Type 0} (number : C → ℕ) (same : V → V → Bool) (always :
   for_two : (change : Double C) → Each (Or (MadeForTwo number change)) (names_for_two number change)
   for_two Unlink = tt
   for_two Collapse = tt
-  for_two (Shrink c) = (inr refl, tt)
-  for_two (ShrinkAbove c) = (inr refl, tt)
-  for_two (Grow c) = (inr refl, tt)
   for_two (GrowLink c leaf byte) = (inr (inl refl), (inr (inr refl), tt))
   for_two (Split top leaf common byte) = (inr (inl refl), (inr (inr refl), tt))
+  for_two _ = (inr refl, tt)
 
   one_in : (one : One C) → In (number one.at.node) → Each (Or (MadeForOne number one.change)) (names_one number one)
   one_in one at = (inl at, for_one one.change)
 
   two_in : (two : Two C) → Each In (name_above number two.top) → In (number two.above.seat.node) → In (number two.at.node) → Each (Or (MadeForTwo number two.change)) (names_two number two)
-  two_in two top p at = (inl p, (inl at, both (Or (MadeForTwo number two.change)) (name_above number two.top) (names_for_two number two.change) (up _ (name_above number two.top) top) (for_two two.change)))
+  two_in two top p at = (inl p, (inl at, each_append (Or (MadeForTwo number two.change)) (name_above number two.top) (names_for_two number two.change) (up _ (name_above number two.top) top) (for_two two.change)))
 
   plan_in : (plan : Plan C) → PlanKnown number i a h key plan → Each (Or (MadeForPlan number plan)) (names_plan number plan)
-  plan_in (Here check one) x = both (Or (MadeForOne number one.change)) (name_seated number check) (names_one number one) (up _ (name_seated number check) (seated_in check x.0)) (one_in one x.1.fresh.seated.published)
+  plan_in (Here check one) x = each_append (Or (MadeForOne number one.change)) (name_seated number check) (names_one number one) (up _ (name_seated number check) (seated_in check x.0)) (one_in one x.1.fresh.seated.published)
   plan_in (Above two) x = two_in two (top_in two.top _ x.0.1.top) x.0.1.above.fresh.seated.published x.0.1.fresh.seated.published
 
   made_in : (leaf : Option C) → Each (Or (IsMade number leaf)) (name_made number leaf)
@@ -111,12 +109,10 @@ module _ {C V : Type 0} (number : C → ℕ) (same : V → V → Bool) (always :
   rungs_in end above (r ∷ rs) x = (x.0.seated.published, rungs_in end (suc above) rs x.1)
 
   sweep_at : (s : Scan C V) (x : Stage C V) → SweepKnownAt number always a h s x → Each In (names_sweep_at number s x)
-  sweep_at s stage.New x = tt
   sweep_at s (stage.Enter n y) x = (x.1, rungs_in s.last 0 (rungs_of s.above) x.0.rungs)
   sweep_at s (stage.Look r) x = (x.1.seated.published, rungs_in s.last 0 (rungs_of s.above) x.0.rungs)
   sweep_at s (stage.Check r y) x = (x.1.seated.published, rungs_in s.last 0 (rungs_of s.above) x.0.rungs)
-  sweep_at s stage.Full x = tt
-  sweep_at s stage.Over x = tt
+  sweep_at s _ x = tt
 
   module _ (t : Tree a h) (k : ℕ) where
     below_in : (p n : ℕ) → (a p).status ≡ Linked → child_for (h p) key ≡ Below n → In n
@@ -132,10 +128,10 @@ module _ {C V : Type 0} (number : C → ℕ) (same : V → V → Bool) (always :
     names_known kind given (CheckDown p at c) x = (inl x.1.published, (inl x.3, up _ (names_over number (Some at)) (above_in (Some at) (number c) x.2)))
     names_known kind given (CheckOld p s v) x = (inl x.1.published, up _ (names_site number s) (site_in s _ x.2))
     names_known kind given (MakeLeaf s) x = up _ (names_site number s) (site_in s _ x.1)
-    names_known kind given (MakeGreater s p leaf) x = (inl x.2.fresh.seated.published, both (Or (IsMade number leaf)) (name_made number leaf) (names_site number s) (made_in leaf) (up _ (names_site number s) (site_in s _ x.1)))
+    names_known kind given (MakeGreater s p leaf) x = (inl x.2.fresh.seated.published, each_append (Or (IsMade number leaf)) (name_made number leaf) (names_site number s) (made_in leaf) (up _ (names_site number s) (site_in s _ x.1)))
     names_known kind given (MakeTop p at common byte) x = (inl x.1.fresh.seated.published, (inl x.2.published, tt))
     names_known kind given (MakeBeside p at common byte top) x = (inl x.1.fresh.seated.published, (inl x.2.published, (inr refl, tt)))
-    names_known kind given (MakeLesser s p g r) x = (inl x.4.fresh.seated.published, both (Or (λ _. ⊥)) (name_above number g) (names_site number s) (up _ (name_above number g) (lesser_in s p g x.5)) (up _ (names_site number s) (site_in s _ x.1.1)))
+    names_known kind given (MakeLesser s p g r) x = (inl x.4.fresh.seated.published, each_append (Or (λ _. ⊥)) (name_above number g) (names_site number s) (up _ (name_above number g) (lesser_in s p g x.5)) (up _ (names_site number s) (site_in s _ x.1.1)))
     names_known kind given (AskOld s v) x = up _ (names_site number s) (site_in s _ x.1)
     names_known kind given (AskNew plan) x = plan_in plan x.0
     names_known kind given (Confirm at r) x = (inl x.1.1.fresh.seated.published, tt)

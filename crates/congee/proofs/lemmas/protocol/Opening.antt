@@ -6,7 +6,7 @@ use Rattle.std.specs.Ordering.{nat_cmp}
 use Rattle.congee.specs.declared.protocol.machine.Machine.{Machine}
 use Rattle.congee.specs.Heap.{Node, Hung, Nothing, Below, Holds, Stands, fits, of_child, walk, value_at}
 use Rattle.congee.specs.Keys.{key_bytes, IsMapOf}
-use Rattle.congee.specs.Ledger.{Note, Unmade, Held, Linked, Gone, is_published, is_spent, Tree, LockWords}
+use Rattle.congee.specs.Notes.{Note, Unmade, Held, Linked, Gone, is_published, is_spent, Tree, LockWords}
 use Rattle.congee.specs.protocol.Opening.{RootAlone, FreshRoot}
 use Rattle.congee.specs.protocol.Holdings.{Rests}
 use Rattle.congee.specs.protocol.Play.{IsNew, Begins}
@@ -14,6 +14,7 @@ use Rattle.congee.proofs.lemmas.Fits.{equal}
 use Rattle.congee.proofs.lemmas.protocol.Touch.{by_test}
 use Rattle.congee.proofs.lemmas.protocol.Keyed.{begins_key}
 
+-- the notes of a tree that begins: the root is in the tree, and no other node was made
 unfoldable pub opened : ℕ → Note
 opened n = cond (n == 0) (record { status = Linked; owner = None; parent = 0 }) (record { status = Unmade; owner = None; parent = 0 })
 

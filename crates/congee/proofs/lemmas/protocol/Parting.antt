@@ -3,9 +3,9 @@ use Rattle.std.proofs.Common.{◌≡◌, ◌≢◌, ℕ, suc, ◌<◌, ◌≤◌
 use Rattle.std.specs.Prelude.{None, Some}
 use Rattle.congee.specs.Heap.{Node, Below, Holds, fits, child_for, value_at}
 use Rattle.congee.specs.protocol.Events.{ChangeGives, Parts}
-use Rattle.congee.specs.Ledger.{Note, Held, Linked, is_published, IsChild, Tree, LockWords}
+use Rattle.congee.specs.Notes.{Note, Held, Linked, is_published, IsChild, Tree, LockWords}
 use Rattle.congee.specs.protocol.Protocol.{Made, Holding}
-use Rattle.congee.proofs.lemmas.Fits.{both_true, both, fits_byte}
+use Rattle.congee.proofs.lemmas.Fits.{both_true, and_true, fits_byte}
 use Rattle.congee.proofs.lemmas.Tree.{same_or_not}
 use Rattle.congee.proofs.lemmas.Graft.{on_test}
 use Rattle.congee.proofs.lemmas.Split.{Splits, split_tree, split_map}
@@ -20,7 +20,7 @@ fits_alike (x ∷ p) (y ∷ q) [] f l e = absurd cc
 fits_alike (x ∷ p) (y ∷ q) (z ∷ key) f l e =
     let f' : (x == z ≡ true) × (fits p key ≡ true) = both_true _ _ f in
     let yz : y ≡ z = e 0 (omega arith) in
-    both _ _ (let P : ℕ → Type 0 = λ w. x == w ≡ true in subst P (sym yz) f'.0) (fits_alike p q key f'.1 (omega arith) (λ i s. e (suc i) (omega arith)))
+    and_true _ _ (let P : ℕ → Type 0 = λ w. x == w ≡ true in subst P (sym yz) f'.0) (fits_alike p q key f'.1 (omega arith) (λ i s. e (suc i) (omega arith)))
 
 -- a prefix that parts from the key isn't its beginning
 pub parts_differ : (p key : List ℕ) (common : ℕ) → Parts p key common → fits p key ≡ false
@@ -55,6 +55,7 @@ module _ (a : ℕ → Note) (p m c d : ℕ) where
   unfolding parted
   parted_rest x nc nd nm = noted_other _ c _ x nc ∙ (noted_other _ d _ x nd ∙ noted_other a m _ x nm)
 
+-- a split changes the map at the key alone, and its call still holds the locks of both nodes
 pub split_changed : {V : Type 0} (i : ℕ) (a : ℕ → Note) (h : ℕ → Node V) (key : List ℕ) (p b m c d common byte : ℕ) (v : V) (h1 h2 h3 h' : ℕ → Node V)
     → length key ≡ 8 → Tree a h → LockWords a h → Holding i a p → fits (h p).prefix key ≡ true → b ≡ get_or key (length (h p).prefix) 0 → child_for (h p) key ≡ Below m
     → (a m).owner ≡ Some i → Parts (h m).prefix key common → byte ≡ get_or (h m).prefix common 0 → Made i a h key c common 1 → Made i a h key d 7 0 → c ≢ d

@@ -7,22 +7,22 @@ use Rattle.judge.specs.declared.journal.Call.TheVariants as call
 use Rattle.judge.specs.declared.journal.Reply.{Reply}
 use Rattle.judge.specs.declared.journal.Reply.TheVariants as reply
 use Rattle.congee.specs.declared.protocol.phase.Kind.{Kind}
-use Rattle.congee.specs.declared.protocol.phase.Kind.TheVariants.{Get, Insert, Remove, ComputePresent, ComputeInsert, Exchange}
+use Rattle.congee.specs.declared.protocol.phase.Kind.TheVariants.{Insert, ComputeInsert}
 use Rattle.congee.specs.declared.protocol.phase.Parent.{Parent}
 use Rattle.congee.specs.declared.protocol.phase.Above.{Above as Over}
 use Rattle.congee.specs.declared.protocol.phase.Site.{Site}
 use Rattle.congee.specs.declared.protocol.phase.Single.{Single}
 use Rattle.congee.specs.declared.protocol.phase.Single.TheVariants.{Set, Link}
 use Rattle.congee.specs.declared.protocol.phase.Double.{Double}
-use Rattle.congee.specs.declared.protocol.phase.Double.TheVariants.{Unlink, Grow, GrowLink, Split, Shrink, Collapse, ShrinkAbove}
+use Rattle.congee.specs.declared.protocol.phase.Double.TheVariants.{Unlink, Grow, GrowLink, Split, Collapse, ShrinkAbove}
 use Rattle.congee.specs.declared.protocol.phase.Plan.{Plan}
 use Rattle.congee.specs.declared.protocol.phase.Plan.TheVariants.{Here, Above}
 use Rattle.congee.specs.declared.protocol.phase.Phase.TheVariants.{UpgradeOne, UpgradeAbove}
-use Rattle.congee.specs.declared.protocol.turn.Turn.{Turn}
+use Rattle.congee.specs.declared.protocol.turn.NextPhase.{NextPhase}
 use Rattle.congee.specs.Heap.{Node, Nothing, Holds, is_taken}
 use Rattle.congee.specs.protocol.Steps.{quiet, shrinks, set_at, both, last_out, adds, absent_reply, seat_above, started, ready, plan_here, unless_full, missing, absent, IsAsked, replaced, taken_out, emptied}
 use Rattle.congee.specs.Keys.{key_bytes}
-use Rattle.congee.specs.Ledger.{Note, Tree, LockWords}
+use Rattle.congee.specs.Notes.{Note, Tree, LockWords}
 use Rattle.congee.specs.protocol.Protocol.{Fresh, ChildOf, IsFar, IsAbove, IsAlone, HasTop, Sees, Knows, WantedOne, MadeOne, IsLeafAt, FitsOne, OneKnown, FitsTwo, HasGift, Asking, Adding, SeatedIf, PlanKnown, MadeLeafFor, Settles, Known}
 use Rattle.congee.specs.protocol.Answers.{AnswersIf}
 use Rattle.congee.proofs.lemmas.Fits.{equal, same_test, both_true}
@@ -35,22 +35,15 @@ fits_one_new Set v = tt
 fits_one_new (Link leaf) v = refl
 
 fits_two_new : {C V : Type 0} (change : Double C) (v : V) → Adding change → FitsTwo change None (Some v)
-fits_two_new Unlink v d = absurd d
 fits_two_new (Grow c) v d = tt
 fits_two_new (GrowLink c leaf byte) v d = tt
 fits_two_new (Split top leaf common byte) v d = tt
-fits_two_new (Shrink c) v d = absurd d
-fits_two_new Collapse v d = absurd d
-fits_two_new (ShrinkAbove c) v d = absurd d
+fits_two_new _ v d = absurd d
 
 has_no_top : {C : Type 0} (change : Double C) (top : Option (Parent C)) → Adding change → top ≡ None → HasTop change top
-has_no_top Unlink top d e = e
-has_no_top (Grow c) top d e = e
-has_no_top (GrowLink c leaf byte) top d e = e
-has_no_top (Split above leaf common byte) top d e = e
-has_no_top (Shrink c) top d e = e
 has_no_top Collapse top d e = absurd d
 has_no_top (ShrinkAbove c) top d e = absurd d
+has_no_top _ top d e = e
 
 seated_if : {C V : Type 0} (number : C → ℕ) (a : ℕ → Note) (h : ℕ → Node V) (key : List ℕ) (p : Option (Over C)) (n : ℕ) → IsAbove number a h key p n → SeatedIf number a h (seat_above p)
 seated_if number a h key None n m = tt
@@ -64,7 +57,7 @@ settle_compute same k v = record { call = call.ComputeInsert k v; is_call = refl
 
 module _ {C V : Type 0} (number : C → ℕ) (same : V → V → Bool) (always : Bool) (i : ℕ) (a : ℕ → Note) (h : ℕ → Node V) (k : ℕ) (t : Tree a h) (w : LockWords a h) where
   -- a turn that doesn't decide
-  known_only : (kind : Kind V) (given given' : Option V) (turn : Turn C V) → turn.report.decided ≡ false → Known number same always i a h k (key_bytes k) kind given' turn.phase → Sound number same always i k kind given h given' turn a h
+  known_only : (kind : Kind V) (given given' : Option V) (turn : NextPhase C V) → turn.report.decided ≡ false → Known number same always i a h k (key_bytes k) kind given' turn.phase → Sound number same always i k kind given h given' turn a h
   known_only kind given given' turn e m = record { known = m; answer = by_decided turn.report.decided e }
     where
       by_decided : (b : Bool) → b ≡ false → AnswersIf b same k kind given h turn h
@@ -78,14 +71,11 @@ module _ {C V : Type 0} (number : C → ℕ) (same : V → V → Bool) (always :
   started_sound kind given v (Above two) r g p s = record { known = (g, (None, p.0.0, p.0.1, has_no_top two.change two.top p.1 p.2, fits_two_new two.change v p.1, s)); answer = λ x _. refl }
 
   pub ready_sound : (kind : Kind V) (given : Option V) (plan : Plan C) → adds kind ≡ true → HasGift kind given → PlanKnown number i a h (key_bytes k) plan → Sound number same always i k kind given h given (ready kind plan) a h
-  ready_sound Get given plan e g p = absurd cc
-  ready_sound Remove given plan e g p = absurd cc
-  ready_sound ComputePresent given plan e g p = absurd cc
-  ready_sound (Exchange old) given plan e g p = absurd cc
   ready_sound ComputeInsert given plan e g p = record { known = (p, refl); answer = λ x _. refl }
   ready_sound Insert given plan e g p =
       let P : Option V → Type 0 = λ o. Sound number same always i k Insert o h o (started plan (reply.Insert None)) a h in
       subst P (sym g.1) (started_sound Insert (Some g.0) g.0 plan (reply.Insert None) (g.0, refl) p (settle_insert same k g.0))
+  ready_sound _ given plan e g p = absurd cc
 
   here_known : (s : Site C) (change : Single C) → Knows number a h (key_bytes k) s Nothing → (is_taken (h (number s.at.node)) s.at.version ≡ true → ((h (number s.at.node)).count == (h (number s.at.node)).capacity) ≡ false)
       → IsLeafAt change s.depth → MadeOne number i a h (key_bytes k) change → PlanKnown number i a h (key_bytes k) (plan_here s change)
@@ -115,7 +105,7 @@ module _ {C V : Type 0} (number : C → ℕ) (same : V → V → Bool) (always :
       (λ q. let y : Sees (key_bytes k) s Nothing (h (number s.at.node)) = m.fresh.holds q in sym (y.full refl) ∙ ef) size one)
 
   missing_sound : (kind : Kind V) (given : Option V) (s : Site C) → adds kind ≡ true → s.count < 256 → HasGift kind given → Knows number a h (key_bytes k) s Nothing → Sound number same always i k kind given h given (missing kind s) a h
-  missing_sound kind given s e few g m = by_test (λ (x : Turn C V). Sound number same always i k kind given h given x a h) (s.depth == 7) _ _
+  missing_sound kind given s e few g m = by_test (λ (x : NextPhase C V). Sound number same always i k kind given h given x a h) (s.depth == 7) _ _
       (λ q. let z : s.depth ≡ 7 = equal s.depth 7 q in unless_full_sound kind given s None Set s.full s.above refl refl e few g m z z tt)
       (λ q. record { known = (g, m, less s.depth m.short (λ z. let y : s.depth == 7 ≡ true = same_test s.depth 7 z in cc), e, few); answer = λ x _. refl })
     where
@@ -124,7 +114,7 @@ module _ {C V : Type 0} (number : C → ℕ) (same : V → V → Bool) (always :
 
   pub absent_sound : (kind : Kind V) (given : Option V) (s : Site C) → HasGift kind given → Knows number a h (key_bytes k) s Nothing → is_taken (h (number s.at.node)) s.at.version ≡ true
       → Sound number same always i k kind given h given (absent kind s) a h
-  absent_sound kind given s g m q = by_test (λ (x : Turn C V). Sound number same always i k kind given h given x a h) (adds kind) _ _
+  absent_sound kind given s g m q = by_test (λ (x : NextPhase C V). Sound number same always i k kind given h given x a h) (adds kind) _ _
       (λ e. missing_sound kind given s e (let y : Sees (key_bytes k) s Nothing (h (number s.at.node)) = m.fresh.holds q in omega (arith, y.room refl, y.count)) g m)
       (λ e. answers_now number same always i a h k kind given t w (absent_reply kind) None (settle_absent same k kind given e)
       (stands_at number same always i a h k kind given t w (number s.at.node) s.at.version Nothing (Sees (key_bytes k) s Nothing) m.fresh (λ z. z.child) m.fitted q))
@@ -143,7 +133,7 @@ module _ {C V : Type 0} (number : C → ℕ) (same : V → V → Bool) (always :
   -- another value is put there, or the same one confirmed
   pub replaced_sound : (kind : Kind V) (given : Option V) (x : V) (s : Site C) (v : V) (r : Reply V) → ((p q : V) → same p q ≡ true → p ≡ q) → HasGift kind (Some x) → Knows number a h (key_bytes k) s (Holds v) → s.depth ≡ 7
       → Settles same k kind (Some x) (Some v) r (Some x) → Sound number same always i k kind given h (Some x) (replaced s (same v x) r) a h
-  replaced_sound kind given x s v r law g m d z = by_test (λ (y : Turn C V). Sound number same always i k kind given h (Some x) y a h) (same v x) _ _
+  replaced_sound kind given x s v r law g m d z = by_test (λ (y : NextPhase C V). Sound number same always i k kind given h (Some x) y a h) (same v x) _ _
       (λ q. record {
         known = (
           g,
@@ -178,7 +168,7 @@ module _ {C V : Type 0} (number : C → ℕ) (same : V → V → Bool) (always :
   last_sound : (kind : Kind V) (given : Option V) (s : Site C) (v : V) (r : Reply V) (p : Parent C) (f : Option (Parent C)) → ChildOf number a h (key_bytes k) p (number s.at.node) → IsFar number a h (key_bytes k) f (number p.seat.node) → s.count ≡ 1
       → HasGift kind None → Knows number a h (key_bytes k) s (Holds v) → s.depth ≡ 7 → Settles same k kind None (Some v) r None → Sound number same always i k kind given h None (last_out s p f r) a h
   last_sound kind given s v r p None c f one g m d z = leaf_out kind given s v r p c one g m d z
-  last_sound kind given s v r p (Some top) c f one g m d z = by_test (λ (x : Turn C V). Sound number same always i k kind given h None x a h) (p.count == 2) _ _
+  last_sound kind given s v r p (Some top) c f one g m d z = by_test (λ (x : NextPhase C V). Sound number same always i k kind given h None x a h) (p.count == 2) _ _
       (λ q. record {
         known = (
           g,
@@ -189,7 +179,7 @@ module _ {C V : Type 0} (number : C → ℕ) (same : V → V → Bool) (always :
         );
         answer = λ y _. refl;
       })
-      (λ _. by_test (λ (x : Turn C V). Sound number same always i k kind given h None x a h) (ltb 2 p.count && shrinks p.form p.count) _ _
+      (λ _. by_test (λ (x : NextPhase C V). Sound number same always i k kind given h None x a h) (ltb 2 p.count && shrinks p.form p.count) _ _
       (λ q. let b : (ltb 2 p.count ≡ true) × (shrinks p.form p.count ≡ true) = both_true (ltb 2 p.count) (shrinks p.form p.count) q in
       record { known = (g, (v, m, z), d, refl, c, (f, one, more p.count b.0, b.1)); answer = λ y _. refl })
       (λ _. leaf_out kind given s v r p c one g m d z))
@@ -201,9 +191,9 @@ module _ {C V : Type 0} (number : C → ℕ) (same : V → V → Bool) (always :
   taken_sound : (kind : Kind V) (given : Option V) (s : Site C) (v : V) (r : Reply V) (p : Option (Over C)) → IsAbove number a h (key_bytes k) p (number s.at.node) → HasGift kind None → Knows number a h (key_bytes k) s (Holds v) → s.depth ≡ 7
       → Settles same k kind None (Some v) r None → Sound number same always i k kind given h None (taken_out s p r) a h
   taken_sound kind given s v r None ab g m d z = set_out kind given s v r g m d z
-  taken_sound kind given s v r (Some u) ab g m d z = by_test (λ (x : Turn C V). Sound number same always i k kind given h None x a h) (s.count == 1) _ _
+  taken_sound kind given s v r (Some u) ab g m d z = by_test (λ (x : NextPhase C V). Sound number same always i k kind given h None x a h) (s.count == 1) _ _
       (λ q. last_sound kind given s v r u.near u.far ab.0 ab.1 (equal s.count 1 q) g m d z)
-      (λ _. by_test (λ (x : Turn C V). Sound number same always i k kind given h None x a h) (shrinks s.form s.count) _ _
+      (λ _. by_test (λ (x : NextPhase C V). Sound number same always i k kind given h None x a h) (shrinks s.form s.count) _ _
       (λ q. record { known = (g, (v, m, z), d, refl, ab.0, q); answer = λ y _. refl })
       (λ _. set_out kind given s v r g m d z))
 
@@ -211,10 +201,10 @@ module _ {C V : Type 0} (number : C → ℕ) (same : V → V → Bool) (always :
       → Settles same k kind None (Some v) r None → Sound number same always i k kind given h None (emptied s r) a h
   emptied_sound kind given s v r g m d z = taken_sound kind given s v r s.above m.above g m d z
 
-  pub turn_at : (kind : Kind V) (given given' : Option V) (x y : Turn C V) → y ≡ x → Sound number same always i k kind given h given' x a h → Sound number same always i k kind given h given' y a h
-  turn_at kind given given' x y e s = let P : Turn C V → Type 0 = λ z. Sound number same always i k kind given h given' z a h in subst P (sym e) s
+  pub turn_at : (kind : Kind V) (given given' : Option V) (x y : NextPhase C V) → y ≡ x → Sound number same always i k kind given h given' x a h → Sound number same always i k kind given h given' y a h
+  turn_at kind given given' x y e s = let P : NextPhase C V → Type 0 = λ z. Sound number same always i k kind given h given' z a h in subst P (sym e) s
 
-  pub asked_sound : (kind : Kind V) (given : Option V) (s : Site C) (v : V) (turn : Turn C V) → IsAsked always s v turn → HasGift kind given → Asking kind → Knows number a h (key_bytes k) s (Holds v) → s.depth ≡ 7
+  pub asked_sound : (kind : Kind V) (given : Option V) (s : Site C) (v : V) (turn : NextPhase C V) → IsAsked always s v turn → HasGift kind given → Asking kind → Knows number a h (key_bytes k) s (Holds v) → s.depth ≡ 7
       → Sound number same always i k kind given h given turn a h
   asked_sound kind given s v turn (inl e) g ask m d = turn_at kind given given _ turn e (record { known = (g, m, ask, d); answer = λ y _. refl })
   asked_sound kind given s v turn (inr e) g ask m d = turn_at kind given given _ turn e.1 (record { known = tt; answer = λ y _. refl })

@@ -2,9 +2,9 @@
 use Rattle.std.proofs.Common.{◌≡◌, ◌≢◌, ℕ, ◌==◌, ◌&&◌, inl, inr, true, false, cond, List, length, get_or, refl, sym, ◌∙◌, ap, subst, arith}
 use Rattle.std.specs.Prelude.{None, Some}
 use Rattle.congee.specs.Heap.{Node, Nothing, Below, fits, child_for, value_at}
-use Rattle.congee.specs.Ledger.{Note, Linked, Gone, is_published, IsChild, Tree, LockWords}
+use Rattle.congee.specs.Notes.{Note, Linked, Gone, is_published, IsChild, Tree, LockWords}
 use Rattle.congee.specs.protocol.Protocol.{Made, Holding, TakenOut}
-use Rattle.congee.proofs.lemmas.Fits.{both_true, both, equal, same_test}
+use Rattle.congee.proofs.lemmas.Fits.{both_true, and_true, equal, same_test}
 use Rattle.congee.proofs.lemmas.Tree.{same_or_not}
 use Rattle.congee.proofs.lemmas.Graft.{on_test}
 use Rattle.congee.proofs.lemmas.protocol.Grow.{Grows, Extra, grow_tree, grow_map}
@@ -15,9 +15,11 @@ use Rattle.congee.proofs.lemmas.protocol.Change.{Changed, StaysLocked, under_tou
 abbrev pub out_note : ℕ → ℕ → Note
 out_note i p = record { status = Gone; owner = Some i; parent = p }
 
+-- the note of a node that hangs below c now
 abbrev pub below_note : Note → ℕ → Note
 below_note x c = record { status = x.status; owner = x.owner; parent = c }
 
+-- the notes of all nodes: of c, of d, of m, of the children of m, and of the others
 unfoldable pub regrown : (ℕ → Note) → ℕ → ℕ → ℕ → ℕ → ℕ → ℕ → Note
 regrown a i p m c d x = cond (x == c) (joined p) (cond (x == d) (joined c) (cond (x == m) (out_note i p)
     (cond (is_published (a x).status && ((a x).parent == m)) (below_note (a x) c) (a x))))
@@ -56,7 +58,7 @@ module _ (a : ℕ → Note) (i p m c d : ℕ) where
 
   pub regrown_moved : (x : ℕ) → x ≢ c → x ≢ d → x ≢ m → is_published (a x).status ≡ true → (a x).parent ≡ m → (regrown a i p m c d x).parent ≡ c
   regrown_moved x nc nd nm pu e = rw (regrown_rest x nc nd nm) (by_test (λ (n : Note). n.parent ≡ c) (is_published (a x).status && ((a x).parent == m)) _ _
-      (λ _. refl) (λ q. absurd (let z : is_published (a x).status && ((a x).parent == m) ≡ true = both _ _ pu (same_test (a x).parent m e) in cc)))
+      (λ _. refl) (λ q. absurd (let z : is_published (a x).status && ((a x).parent == m) ≡ true = and_true _ _ pu (same_test (a x).parent m e) in cc)))
 
   pub regrown_hidden : (x : ℕ) → x ≢ c → x ≢ d → x ≢ m → is_published (a x).status ≡ false → regrown a i p m c d x ≡ a x
   regrown_hidden x nc nd nm pu = rw (regrown_rest x nc nd nm) (by_test (λ (n : Note). n ≡ a x) (is_published (a x).status && ((a x).parent == m)) _ _
@@ -98,6 +100,7 @@ more_touch : {V : Type 0} (i : ℕ) (a : ℕ → Note) (h : ℕ → Node V) (key
 more_touch i a h key p m c d h' (no_leaf e) ne = absurd (ne e)
 more_touch i a h key p m c d h' (new_leaf ne' k l) ne = joined_touch i a h _ h' key d 7 0 c k (regrown_leaf a i p m c d ne) l
 
+-- a full node that gives way to a greater one changes the map at the key alone, and is taken out under its lock
 pub regrow_changed : {V : Type 0} (i : ℕ) (a : ℕ → Note) (h : ℕ → Node V) (key : List ℕ) (p b m c d : ℕ) (v : V) (h' : ℕ → Node V)
     → length key ≡ 8 → Tree a h → LockWords a h → Regrows i a h key p b m c d v h'
     → Changed i a h key None (Some v) (regrown a i p m c d) h' × TakenOut i (regrown a i p m c d) h' p m

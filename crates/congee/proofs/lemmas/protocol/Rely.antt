@@ -15,16 +15,17 @@ use Rattle.congee.specs.declared.protocol.phase.Plan.TheVariants.{Here, Above}
 use Rattle.congee.specs.declared.protocol.phase.Kind.{Kind}
 use Rattle.congee.specs.declared.protocol.phase.Phase.{Phase}
 use Rattle.congee.specs.declared.protocol.phase.Phase.TheVariants.{New, Version, Read, Check, CheckUncopied, CheckMiss, CheckDown, CheckOld, MakeLeaf, MakeGreater, MakeTop, MakeBeside, MakeLesser, AskOld, AskNew, Confirm, CheckAbove, UpgradeOne, ChangeOne, UpgradeTop, UpgradeAbove, UpgradeBelow, ChangeTwo, Obsolete, Retire, UnlockBelow, Unlock, Unwind, Sweep, Ended}
-use Rattle.congee.specs.declared.protocol.store.Seat.{Seat}
+use Rattle.congee.specs.declared.protocol.store.Stamp.{Stamp}
 use Rattle.congee.specs.Heap.{Node, Hung}
 use Rattle.congee.specs.protocol.Events.{hung, Parts}
-use Rattle.congee.specs.Ledger.{Note}
+use Rattle.congee.specs.Notes.{Note}
 use Rattle.congee.specs.protocol.Protocol.{ChildOf, IsFar, IsAbove, TopLocked, AlsoOut, AlsoHolding, IsLesser, Knows, Made, PlacedOne, WantedOne, MadeOne, OneKnown, OneLocked, PlacedTwo, WantedTwo, MadeTwo, TwoKnown, AboveLocked, HalfLocked, TwoLocked, TakenOut, SeatedIf, PlanKnown, MadeLeafFor, Known, Rely}
 use Rattle.congee.specs.protocol.Names.{name_above, names_over, name_seated, name_made, names_site, names_one, names_plan, names}
 use Rattle.congee.proofs.lemmas.protocol.Each.{Each, left, right}
 pub use Rattle.congee.proofs.lemmas.protocol.Seats.{seated_kept, fresh_kept, fits_kept, holding_kept, made_kept}
 use Rattle.congee.proofs.lemmas.protocol.SweepRely.{sweep_known_kept}
 
+-- where nothing changes, all stands that a call counts on
 pub rely_still : {V : Type 0} (K : ℕ → Type 0) (i : ℕ) (a : ℕ → Note) (h : ℕ → Node V) → Rely K i a h a h
 rely_still K i a h = record {
   version = λ n k p. omega arith;
@@ -181,7 +182,7 @@ module _ {C V : Type 0} (number : C → ℕ) (key : List ℕ) (K : ℕ → Type 
   lesser_kept s p None k o = o
   lesser_kept s p (Some g) k o = (child_kept g (number p.seat.node) k.0 o.0, o.1, o.2, o.3)
 
-  pub seated_if_kept : (p : Option (Seat C)) → Each K (name_seated number p) → SeatedIf number a h p → SeatedIf number a' h' p
+  pub seated_if_kept : (p : Option (Stamp C)) → Each K (name_seated number p) → SeatedIf number a h p → SeatedIf number a' h' p
   seated_if_kept None k s = tt
   seated_if_kept (Some p) k s = seated_kept K i a h a' h' r (number p.node) p.version k.0 s
 

@@ -2,7 +2,7 @@
 use Rattle.std.proofs.Common.{◌≡◌, ℕ, Bool, true, List, length, sym, ◌∙◌, subst, arith}
 use Rattle.std.specs.Prelude.{None}
 use Rattle.congee.specs.Heap.{Node, fits, is_taken}
-use Rattle.congee.specs.Ledger.{Note, Held, is_published}
+use Rattle.congee.specs.Notes.{Note, Held, is_published}
 use Rattle.congee.specs.protocol.Protocol.{Seated, Fresh, Made, Holding, Rely}
 
 module _ {V : Type 0} (K : ℕ → Type 0) (i : ℕ) (a : ℕ → Note) (h : ℕ → Node V) (a' : ℕ → Note) (h' : ℕ → Node V) (r : Rely K i a h a' h') where

@@ -16,7 +16,7 @@ use Rattle.congee.specs.Heap.{Node, Hung, Nothing, Below, Holds, fits, child_for
 use Rattle.congee.specs.protocol.Events.{ChangeGives, TakeOverGives}
 use Rattle.congee.specs.protocol.Steps.{decided, Collapses, Lessens as LessensTop, ChangedOne, ChangedTwo, after_top, after_change}
 use Rattle.congee.specs.Keys.{key_bytes}
-use Rattle.congee.specs.Ledger.{Note, is_published, IsChild, Tree, LockWords}
+use Rattle.congee.specs.Notes.{Note, is_published, IsChild, Tree, LockWords}
 use Rattle.congee.specs.protocol.Protocol.{Made, Holding, PlacedOne, WantedOne, MadeOne, value_in, FitsOne, PlacedTwo, WantedTwo, MadeTwo, FitsTwo, AboveLocked, TopLocked, TakenOut, Settles, Known}
 use Rattle.congee.specs.protocol.Answers.{Decides}
 use Rattle.congee.proofs.lemmas.Fits.{fits_same}

@@ -9,7 +9,7 @@ use Rattle.congee.specs.declared.forms.child.Child.{Child}
 use Rattle.congee.specs.declared.forms.child.Child.TheVariants as child
 use Rattle.congee.specs.declared.protocol.store.Reading.{Reading}
 use Rattle.congee.specs.declared.protocol.store.Reading.TheVariants.{Differs, Fits, Uncopied}
-use Rattle.congee.specs.declared.protocol.store.Seat.{Seat}
+use Rattle.congee.specs.declared.protocol.store.Stamp.{Stamp}
 use Rattle.congee.specs.declared.protocol.store.Upgrade.{Upgrade}
 use Rattle.congee.specs.declared.protocol.store.Upgrade.TheVariants.{Locked, Failed, Exhausted}
 use Rattle.congee.specs.declared.protocol.store.Refusal.{Refusal}
@@ -23,18 +23,18 @@ use Rattle.congee.specs.declared.protocol.phase.Single.{Single}
 use Rattle.congee.specs.declared.protocol.phase.Single.TheVariants.{Set, Link}
 use Rattle.congee.specs.declared.protocol.phase.One.{One}
 use Rattle.congee.specs.declared.protocol.phase.Double.{Double}
-use Rattle.congee.specs.declared.protocol.phase.Double.TheVariants.{Unlink, Grow, GrowLink, Split, Shrink, Collapse, ShrinkAbove}
+use Rattle.congee.specs.declared.protocol.phase.Double.TheVariants.{Unlink, Shrink, Collapse, ShrinkAbove}
 use Rattle.congee.specs.declared.protocol.phase.Two.{Two}
 use Rattle.congee.specs.declared.protocol.phase.Plan.{Plan}
 use Rattle.congee.specs.declared.protocol.phase.Plan.TheVariants.{Here, Above}
 use Rattle.congee.specs.declared.protocol.phase.Phase.{Phase}
 use Rattle.congee.specs.declared.protocol.phase.Phase.TheVariants.{Version, Read, Check, CheckUncopied, CheckMiss, CheckDown, CheckOld, MakeLeaf, MakeGreater, MakeTop, MakeBeside, MakeLesser, AskOld, AskNew, Confirm, CheckAbove, UpgradeOne, ChangeOne, UpgradeTop, UpgradeAbove, UpgradeBelow, ChangeTwo, Unwind}
-use Rattle.congee.specs.declared.protocol.turn.Turn.{Turn}
+use Rattle.congee.specs.declared.protocol.turn.NextPhase.{NextPhase}
 use Rattle.congee.specs.Heap.{Node}
 use Rattle.congee.specs.protocol.Steps.{skipping, shrinks, set_at, both, last_out, after_top, given_up, after_unwind, quiet, again, answered, refused, decided, asking, adds, asks_new, absent_reply, after_version, after_read, down, started, ready, plan_here, unless_full, missing, absent, CopyFailed, IsAsked, replaced, taken_out, emptied, is_same, IsAtOld, IsAdded, IsExchanged, IsPresent, IsChecked, after_miss, IsGiven, IsGivenNew, MadeLeaf, MadeGreater, MadeTop, MadeBeside, MadeLesser, UpgradedOne, UpgradedTop, UpgradedAbove, UpgradedBelow, after_change}
 use Rattle.congee.specs.protocol.Protocol.{Asking}
 use Rattle.congee.specs.protocol.Answers.{reply_in}
-use Rattle.congee.specs.protocol.Play.{Question, Unasked, Asked, Replied, Pending, Decided, heard, resolved, Carries, heeding, flight_in}
+use Rattle.congee.specs.protocol.Play.{Question, Unasked, Asked, Replied, Pending, Decided, value_answered, resolved, Carries, heeding, flight_in}
 use Rattle.congee.proofs.lemmas.Graft.{on_test}
 use Rattle.congee.proofs.lemmas.protocol.Touch.{by_test}
 
@@ -44,43 +44,31 @@ Ripe r q = Carries q (heeding r)
 
 -- a call that is at work may
 pub ripe_at_work : {V : Type 0} (r : Reply V) → Ripe r (heeding r)
-ripe_at_work (reply.Get x) = tt
-ripe_at_work (reply.Insert x) = tt
-ripe_at_work (reply.Remove x) = tt
 ripe_at_work (reply.ComputePresent None) = tt
 ripe_at_work (reply.ComputePresent (Some x)) = refl
 ripe_at_work (reply.ComputeInsert x) = refl
-ripe_at_work (reply.Exchange x) = tt
+ripe_at_work _ = tt
 
 -- one that puts its value at an absent key without a question has no closure
 ripe_new : {V : Type 0} (kind : Kind V) (q : Question V) → adds kind ≡ true → asks_new kind ≡ false → Ripe (absent_reply kind) q
-ripe_new Get q e f = tt
-ripe_new Insert q e f = tt
-ripe_new Remove q e f = tt
 ripe_new ComputePresent q e f = absurd cc
 ripe_new ComputeInsert q e f = absurd cc
-ripe_new (Exchange x) q e f = tt
+ripe_new _ q e f = tt
 
 -- a call that asks for an absent key has a closure
 asks_for : {V : Type 0} (kind : Kind V) → asks_new kind ≡ true → Asking kind
-asks_for Get e = absurd cc
-asks_for Insert e = absurd cc
-asks_for Remove e = absurd cc
 asks_for ComputePresent e = tt
 asks_for ComputeInsert e = tt
-asks_for (Exchange x) e = absurd cc
+asks_for _ e = absurd cc
 
+-- a call that puts no value at an absent key may answer there at once
 pub fair_absent : {V : Type 0} (kind : Kind V) (q : Question V) → adds kind ≡ false → Ripe (absent_reply kind) q
-fair_absent Get q e = tt
-fair_absent Insert q e = tt
-fair_absent Remove q e = tt
-fair_absent ComputePresent q e = tt
 fair_absent ComputeInsert q e = absurd cc
-fair_absent (Exchange x) q e = tt
+fair_absent _ q e = tt
 
 -- `v` was the call's value, `v1` is it after an answer, and v' is what the machine has after the step; q is what the
 -- call has of its closure
-pub data StepShape {C V : Type 0} (k : ℕ) (kind : Kind V) (v v1 v' : Option V) (q : Question V) (t : Turn C V) : Type 0 where
+pub data StepShape {C V : Type 0} (k : ℕ) (kind : Kind V) (v v1 v' : Option V) (q : Question V) (t : NextPhase C V) : Type 0 where
   GoesOn : (s : Phase C V) (q' : Question V) → t ≡ quiet s → flight_in k kind v' s ≡ Pending k kind v1 q' → Carries q q' → StepShape k kind v v1 v' q t
   Skips : (s : Phase C V) (q' : Question V) → t ≡ skipping s → flight_in k kind v' s ≡ Pending k kind v1 q' → Carries q q' → StepShape k kind v v1 v' q t
   Wonders : (s : Phase C V) (o : Option V) → t ≡ asking s o → Asking kind → flight_in k kind v' s ≡ Pending k kind v1 (Asked o) → StepShape k kind v v1 v' q t
@@ -99,8 +87,8 @@ module _ {C V : Type 0} (k : ℕ) (v v1 v' : Option V) (e : v' ≡ v1) (q : Ques
   wonders : (kind : Kind V) (s : Phase C V) (o : Option V) → Asking kind → flight_in k kind v' s ≡ Pending k kind v' (Asked o) → StepShape k kind v v1 v' q (asking s o)
   wonders kind s o w f = Wonders s o refl w (f ∙ ap (λ x. Pending k kind x (Asked o)) e)
 
-  to : (kind : Kind V) (x y : Turn C V) → y ≡ x → StepShape k kind v v1 v' q x → StepShape k kind v v1 v' q y
-  to kind x y p s = subst (λ (z : Turn C V). StepShape k kind v v1 v' q z) (sym p) s
+  to : (kind : Kind V) (x y : NextPhase C V) → y ≡ x → StepShape k kind v v1 v' q x → StepShape k kind v v1 v' q y
+  to kind x y p s = subst (λ (z : NextPhase C V). StepShape k kind v v1 v' q z) (sym p) s
 
   anew : (kind : Kind V) (root : C) → StepShape k kind v v1 v' q (again root)
   anew kind root = on kind (Version None root) refl
@@ -114,7 +102,7 @@ module _ {C V : Type 0} (k : ℕ) (v v1 v' : Option V) (e : v' ≡ v1) (q : Ques
   starts kind (Above two) r c = works kind r (UpgradeAbove two r) c refl
 
   readies : (kind : Kind V) (plan : Plan C) → adds kind ≡ true → StepShape k kind v v1 v' q (ready kind plan)
-  readies kind plan w = by_test (λ (z : Turn C V). StepShape k kind v v1 v' q z) (asks_new kind) _ _ (λ p. wonders kind (AskNew plan) None (asks_for kind p) refl)
+  readies kind plan w = by_test (λ (z : NextPhase C V). StepShape k kind v v1 v' q z) (asks_new kind) _ _ (λ p. wonders kind (AskNew plan) None (asks_for kind p) refl)
       (λ n. starts kind plan (absent_reply kind) (ripe_new kind q w n))
 
   unless : (kind : Kind V) (s : Site C) (full : Bool) (above : Option (Over C)) (leaf : Option C) (change : Single C) → adds kind ≡ true → StepShape k kind v v1 v' q (unless_full kind s full above leaf change)
@@ -123,46 +111,43 @@ module _ {C V : Type 0} (k : ℕ) (v v1 v' : Option V) (e : v' ≡ v1) (q : Ques
   unless kind s false above leaf change w = readies kind (plan_here s change) w
 
   misses : (kind : Kind V) (s : Site C) → adds kind ≡ true → StepShape k kind v v1 v' q (missing kind s)
-  misses kind s w = by_test (λ (z : Turn C V). StepShape k kind v v1 v' q z) (s.depth == 7) _ _ (λ _. unless kind s s.full s.above None Set w) (λ _. on kind (MakeLeaf s) refl)
+  misses kind s w = by_test (λ (z : NextPhase C V). StepShape k kind v v1 v' q z) (s.depth == 7) _ _ (λ _. unless kind s s.full s.above None Set w) (λ _. on kind (MakeLeaf s) refl)
 
   replaces : (kind : Kind V) (s : Site C) (b : Bool) (r : Reply V) → Ripe r q → StepShape k kind v v1 v' q (replaced s b r)
-  replaces kind s b r c = by_test (λ (z : Turn C V). StepShape k kind v v1 v' q z) b _ _ (λ _. works kind r (Confirm s.at r) c refl) (λ _. works kind r (UpgradeOne _ r) c refl)
+  replaces kind s b r c = by_test (λ (z : NextPhase C V). StepShape k kind v v1 v' q z) b _ _ (λ _. works kind r (Confirm s.at r) c refl) (λ _. works kind r (UpgradeOne _ r) c refl)
 
   -- a value's going
   last : (kind : Kind V) (s : Site C) (p : Parent C) (top : Option (Parent C)) (r : Reply V) → Ripe r q → StepShape k kind v v1 v' q (last_out s p top r)
   last kind s p None r c = works kind r (UpgradeAbove (both p s Unlink) r) c refl
-  last kind s p (Some top) r c = by_test (λ (z : Turn C V). StepShape k kind v v1 v' q z) (p.count == 2) _ _ (λ _. works kind r (UpgradeTop top (both p s Collapse) r) c refl)
-      (λ _. by_test (λ (z : Turn C V). StepShape k kind v v1 v' q z) (ltb 2 p.count && shrinks p.form p.count) _ _
+  last kind s p (Some top) r c = by_test (λ (z : NextPhase C V). StepShape k kind v v1 v' q z) (p.count == 2) _ _ (λ _. works kind r (UpgradeTop top (both p s Collapse) r) c refl)
+      (λ _. by_test (λ (z : NextPhase C V). StepShape k kind v v1 v' q z) (ltb 2 p.count && shrinks p.form p.count) _ _
       (λ _. works kind r (MakeLesser s p (Some top) r) c refl) (λ _. works kind r (UpgradeAbove (both p s Unlink) r) c refl))
 
   takes_out : (kind : Kind V) (s : Site C) (above : Option (Over C)) (r : Reply V) → Ripe r q → StepShape k kind v v1 v' q (taken_out s above r)
   takes_out kind s None r c = works kind r (UpgradeOne (set_at s) r) c refl
-  takes_out kind s (Some u) r c = by_test (λ (z : Turn C V). StepShape k kind v v1 v' q z) (s.count == 1) _ _ (λ _. last kind s u.near u.far r c)
-      (λ _. by_test (λ (z : Turn C V). StepShape k kind v v1 v' q z) (shrinks s.form s.count) _ _ (λ _. works kind r (MakeLesser s u.near None r) c refl) (λ _. works kind r (UpgradeOne (set_at s) r) c refl))
+  takes_out kind s (Some u) r c = by_test (λ (z : NextPhase C V). StepShape k kind v v1 v' q z) (s.count == 1) _ _ (λ _. last kind s u.near u.far r c)
+      (λ _. by_test (λ (z : NextPhase C V). StepShape k kind v v1 v' q z) (shrinks s.form s.count) _ _ (λ _. works kind r (MakeLesser s u.near None r) c refl) (λ _. works kind r (UpgradeOne (set_at s) r) c refl))
 
   empties : (kind : Kind V) (s : Site C) (r : Reply V) → Ripe r q → StepShape k kind v v1 v' q (emptied s r)
   empties kind s r c = takes_out kind s s.above r c
 
-  uncounted : (kind : Kind V) (always : Bool) (x t : Turn C V) → (t ≡ x) ⊎ CopyFailed always t → StepShape k kind v v1 v' q x → StepShape k kind v v1 v' q t
+  uncounted : (kind : Kind V) (always : Bool) (x t : NextPhase C V) → (t ≡ x) ⊎ CopyFailed always t → StepShape k kind v v1 v' q x → StepShape k kind v v1 v' q t
   uncounted kind always x t (inl p) s = to kind x t p s
   uncounted kind always x t (inr p) s = to kind (refused refusal.Count) t p.1 (stopped kind refusal.Count)
 
-  asks : (kind : Kind V) (always : Bool) (s : Site C) (old : V) (t : Turn C V) → Asking kind → IsAsked always s old t → StepShape k kind v v1 v' q t
+  asks : (kind : Kind V) (always : Bool) (s : Site C) (old : V) (t : NextPhase C V) → Asking kind → IsAsked always s old t → StepShape k kind v v1 v' q t
   asks kind always s old t w x = uncounted kind always (asking (AskOld s old) (Some old)) t x (wonders kind (AskOld s old) (Some old) w refl)
 
-  pub at_old : (always : Bool) (same : V → V → Bool) (kind : Kind V) (new : Option V) (s : Site C) (old : V) (t : Turn C V) → adds kind ≡ true → IsAtOld always same kind new s old t → StepShape k kind v v1 v' q t
+  pub at_old : (always : Bool) (same : V → V → Bool) (kind : Kind V) (new : Option V) (s : Site C) (old : V) (t : NextPhase C V) → adds kind ≡ true → IsAtOld always same kind new s old t → StepShape k kind v v1 v' q t
   at_old always same Insert new s old t w x = to Insert _ t x (replaces Insert s (is_same same old new) (reply.Insert (Some old)) tt)
-  at_old always same Get new s old t w x = absurd cc
-  at_old always same Remove new s old t w x = absurd cc
-  at_old always same ComputePresent new s old t w x = absurd cc
   at_old always same ComputeInsert new s old t w x = asks ComputeInsert always s old t tt x
-  at_old always same (Exchange u) new s old t w x = absurd cc
+  at_old always same _ new s old t w x = absurd cc
 
-  adds_at : (always : Bool) (same : V → V → Bool) (kind : Kind V) (new : Option V) (s : Site C) (above : Option (Over C)) (old : V) (t : Turn C V) → adds kind ≡ true → IsAdded always same kind new s above old t → StepShape k kind v v1 v' q t
+  adds_at : (always : Bool) (same : V → V → Bool) (kind : Kind V) (new : Option V) (s : Site C) (above : Option (Over C)) (old : V) (t : NextPhase C V) → adds kind ≡ true → IsAdded always same kind new s above old t → StepShape k kind v v1 v' q t
   adds_at always same kind new s None old t w x = at_old always same kind new s old t w x
   adds_at always same kind new s (Some u) old t w x = to kind _ t x (on kind (CheckOld u.near.seat s old) refl)
 
-  exchanges : (always : Bool) (same : V → V → Bool) (w : V) (new : Option V) (s : Site C) (old : V) (t : Turn C V) → IsExchanged always same new s old t → StepShape k (Exchange w) v v1 v' q t
+  exchanges : (always : Bool) (same : V → V → Bool) (w : V) (new : Option V) (s : Site C) (old : V) (t : NextPhase C V) → IsExchanged always same new s old t → StepShape k (Exchange w) v v1 v' q t
   exchanges always same w None s old t x = to (Exchange w) _ t x (empties (Exchange w) s (reply.Exchange (Ok None)) tt)
   exchanges always same w (Some u) s old t x = uncounted (Exchange w) always _ t x (replaces (Exchange w) s (same old u) (reply.Exchange (Ok (Some u))) tt)
 
@@ -172,7 +157,7 @@ module _ {C V : Type 0} (k : ℕ) (v v1 v' : Option V) (e : v' ≡ v1) (q : Ques
   downs kind true s (Some u) c = on kind (CheckDown u.near.seat _ c) refl
 
 -- before an answer was wanted
-pub presents : {C V : Type 0} (k : ℕ) (v v' : Option V) (e : v' ≡ v) (q : Question V) (always : Bool) (same : V → V → Bool) (kind : Kind V) (new : Option V) (s : Site C) (old : V) (t : Turn C V)
+pub presents : {C V : Type 0} (k : ℕ) (v v' : Option V) (e : v' ≡ v) (q : Question V) (always : Bool) (same : V → V → Bool) (kind : Kind V) (new : Option V) (s : Site C) (old : V) (t : NextPhase C V)
     → IsPresent always same kind new s old t → StepShape k kind v v v' q t
 presents k v v' e q always same Get new s old t x = to k v v v' e q Get _ t x (Replies (reply.Get (Some old)) refl refl tt)
 presents k v v' e q always same Insert new s old t x = adds_at k v v v' e q always same Insert new s s.above old t refl x
@@ -192,21 +177,21 @@ module _ {C V : Type 0} (number : C → ℕ) (k : ℕ) (kind : Kind V) (v v' : O
   pub back : (root : C) → StepShape k kind v v v' q (again root)
   back root = anew k v v v' e q kind root
 
-  pub at : (x y : Turn C V) → y ≡ x → StepShape k kind v v v' q x → StepShape k kind v v v' q y
+  pub at : (x y : NextPhase C V) → y ≡ x → StepShape k kind v v v' q x → StepShape k kind v v v' q y
   at x y p s = to k v v v' e q kind x y p s
 
   pub answers : (r : Reply V) → Ripe r q → StepShape {C = C} k kind v v v' q (answered r)
   answers r f = Replies r refl refl f
 
   absents : (s : Site C) → StepShape k kind v v v' q (absent kind s)
-  absents s = by_test (λ (z : Turn C V). StepShape k kind v v v' q z) (adds kind) _ _ (λ w. misses k v v v' e q kind s w) (λ w. answers (absent_reply kind) (fair_absent kind q w))
+  absents s = by_test (λ (z : NextPhase C V). StepShape k kind v v v' q z) (adds kind) _ _ (λ w. misses k v v v' e q kind s w) (λ w. answers (absent_reply kind) (fair_absent kind q w))
 
-  pub checks : (always : Bool) (same : V → V → Bool) (new : Option V) (s : Site C) (c : Child C V) (t : Turn C V) → IsChecked always same kind new s c t → StepShape k kind v v v' q t
+  pub checks : (always : Bool) (same : V → V → Bool) (new : Option V) (s : Site C) (c : Child C V) (t : NextPhase C V) → IsChecked always same kind new s c t → StepShape k kind v v v' q t
   checks always same new s child.Blank t x = at _ t x (absents s)
   checks always same new s (child.Node c) t x = at _ t x (downs k v v v' e q kind (adds kind) s s.above c)
   checks always same new s (child.Value old) t x = presents k v v' e q always same kind new s old t x
 
-  pub reads : (root : C) (above : Option (Over C)) (seat : Seat C) (r : Reading C V) → StepShape k kind v v v' q (after_read root above seat r)
+  pub reads : (root : C) (above : Option (Over C)) (seat : Stamp C) (r : Reading C V) → StepShape k kind v v v' q (after_read root above seat r)
   reads root None seat (Differs common byte) = back root
   reads root (Some u) seat (Differs common byte) = go (CheckMiss u.near seat common byte) refl
   reads root above seat (Fits depth form s) = go (Check _ s.child) refl
@@ -216,28 +201,28 @@ module _ {C V : Type 0} (number : C → ℕ) (k : ℕ) (kind : Kind V) (v v' : O
   versions root above n None = back root
   versions root above n (Some x) = go (Read above _) refl
 
-  pub if_taken : (taken : Bool) (root : C) (T : Type 0) (t : Turn C V) → (taken ≡ true → T) × (taken ≡ false → t ≡ again root) → (T → StepShape k kind v v v' q t) → StepShape k kind v v v' q t
+  pub if_taken : (taken : Bool) (root : C) (T : Type 0) (t : NextPhase C V) → (taken ≡ true → T) × (taken ≡ false → t ≡ again root) → (T → StepShape k kind v v v' q t) → StepShape k kind v v v' q t
   if_taken taken root T t x f = on_test taken (λ p. f (x.0 p)) (λ p. at _ t (x.1 p) (back root))
 
-  pub misses_at : (p : Parent C) (seat : Seat C) (common byte : ℕ) → StepShape k kind v v v' q (after_miss kind p seat common byte)
-  misses_at p seat common byte = by_test (λ (z : Turn C V). StepShape k kind v v v' q z) (adds kind) _ _ (λ _. go (MakeTop p seat common byte) refl) (λ w. answers (absent_reply kind) (fair_absent kind q w))
+  pub misses_at : (p : Parent C) (seat : Stamp C) (common byte : ℕ) → StepShape k kind v v v' q (after_miss kind p seat common byte)
+  misses_at p seat common byte = by_test (λ (z : NextPhase C V). StepShape k kind v v v' q z) (adds kind) _ _ (λ _. go (MakeTop p seat common byte) refl) (λ w. answers (absent_reply kind) (fair_absent kind q w))
 
-  pub halts : (r : Refusal) (t : Turn C V) → t ≡ refused r → StepShape k kind v v v' q t
+  pub halts : (r : Refusal) (t : NextPhase C V) → t ≡ refused r → StepShape k kind v v v' q t
   halts r t p = Stops r p
 
-  pub leaf_made : (s : Site C) (h : ℕ → Node V) (key : List ℕ) (r : Result C Refusal) (h' : ℕ → Node V) (t : Turn C V) → adds kind ≡ true → MadeLeaf number kind s h key r h' t → StepShape k kind v v v' q t
+  pub leaf_made : (s : Site C) (h : ℕ → Node V) (key : List ℕ) (r : Result C Refusal) (h' : ℕ → Node V) (t : NextPhase C V) → adds kind ≡ true → MadeLeaf number kind s h key r h' t → StepShape k kind v v v' q t
   leaf_made s h key (Ok leaf) h' t w x = at _ t x.1 (unless k v v v' e q kind s s.full s.above (Some leaf) (Link leaf) w)
   leaf_made s h key (Err r) h' t w x = halts r t x.1
 
-  pub greater_made : (s : Site C) (p : Parent C) (leaf : Option C) (h : ℕ → Node V) (key : List ℕ) (r : Result C Refusal) (h' : ℕ → Node V) (t : Turn C V) → adds kind ≡ true → MadeGreater number kind s p leaf h key r h' t → StepShape k kind v v v' q t
+  pub greater_made : (s : Site C) (p : Parent C) (leaf : Option C) (h : ℕ → Node V) (key : List ℕ) (r : Result C Refusal) (h' : ℕ → Node V) (t : NextPhase C V) → adds kind ≡ true → MadeGreater number kind s p leaf h key r h' t → StepShape k kind v v v' q t
   greater_made s p leaf h key (Ok c) h' t w x = at _ t x.1 (readies k v v v' e q kind _ w)
   greater_made s p leaf h key (Err r) h' t w x = halts r t x.1
 
-  pub top_made : (p : Parent C) (seat : Seat C) (common byte : ℕ) (h : ℕ → Node V) (key : List ℕ) (r : Result C Refusal) (h' : ℕ → Node V) (t : Turn C V) → MadeTop number p seat common byte h key r h' t → StepShape k kind v v v' q t
+  pub top_made : (p : Parent C) (seat : Stamp C) (common byte : ℕ) (h : ℕ → Node V) (key : List ℕ) (r : Result C Refusal) (h' : ℕ → Node V) (t : NextPhase C V) → MadeTop number p seat common byte h key r h' t → StepShape k kind v v v' q t
   top_made p seat common byte h key (Ok top) h' t x = at _ t x.1 (go (MakeBeside p seat common byte top) refl)
   top_made p seat common byte h key (Err r) h' t x = halts r t x.1
 
-  pub beside_made : (p : Parent C) (seat : Seat C) (common byte : ℕ) (top : C) (h : ℕ → Node V) (key : List ℕ) (r : Result C Refusal) (h' : ℕ → Node V) (t : Turn C V) → adds kind ≡ true → MadeBeside number kind p seat common byte top h key r h' t
+  pub beside_made : (p : Parent C) (seat : Stamp C) (common byte : ℕ) (top : C) (h : ℕ → Node V) (key : List ℕ) (r : Result C Refusal) (h' : ℕ → Node V) (t : NextPhase C V) → adds kind ≡ true → MadeBeside number kind p seat common byte top h key r h' t
       → StepShape k kind v v v' q t
   beside_made p seat common byte top h key (Ok leaf) h' t w x = at _ t x.1 (readies k v v v' e q kind _ w)
   beside_made p seat common byte top h key (Err r) h' t w x = halts r t x.1
@@ -245,59 +230,56 @@ module _ {C V : Type 0} (number : C → ℕ) (k : ℕ) (kind : Kind V) (v v' : O
   skips_to : (r : Reply V) (s : Phase C V) → Ripe r q → flight_in k kind v' s ≡ Pending k kind v' (heeding r) → StepShape k kind v v v' q (skipping s)
   skips_to r s c f = Skips s (heeding r) refl (f ∙ ap (λ x. Pending k kind x (heeding r)) e) c
 
-  pub lesser_made : (s : Site C) (p : Parent C) (top : Option (Parent C)) (r : Reply V) (h : ℕ → Node V) (key : List ℕ) (x : Result C Refusal) (h' : ℕ → Node V) (t : Turn C V) → Ripe r q → MadeLesser number s p top r h key x h' t → StepShape k kind v v v' q t
+  pub lesser_made : (s : Site C) (p : Parent C) (top : Option (Parent C)) (r : Reply V) (h : ℕ → Node V) (key : List ℕ) (x : Result C Refusal) (h' : ℕ → Node V) (t : NextPhase C V) → Ripe r q → MadeLesser number s p top r h key x h' t → StepShape k kind v v v' q t
   lesser_made s p None r h key (Ok c) h' t f x = at _ t x.1 (goes_to_work r (UpgradeAbove (both p s (Shrink c)) r) f refl)
   lesser_made s p None r h key (Err o) h' t f x = at _ t x.1 (skips_to r (UpgradeOne (set_at s) r) f refl)
   lesser_made s p (Some top) r h key (Ok c) h' t f x = at _ t x.1 (goes_to_work r (UpgradeTop top (both p s (ShrinkAbove c)) r) f refl)
   lesser_made s p (Some top) r h key (Err o) h' t f x = at _ t x.1 (skips_to r (UpgradeAbove (both p s Unlink) r) f refl)
 
-  pub one_upgraded : (root : C) (one : One C) (r : Reply V) (h : ℕ → Node V) (u : Upgrade) (h' : ℕ → Node V) (t : Turn C V) → Ripe r q → UpgradedOne number root one r h u h' t → StepShape k kind v v v' q t
+  pub one_upgraded : (root : C) (one : One C) (r : Reply V) (h : ℕ → Node V) (u : Upgrade) (h' : ℕ → Node V) (t : NextPhase C V) → Ripe r q → UpgradedOne number root one r h u h' t → StepShape k kind v v v' q t
   one_upgraded root one r h Locked h' t c x = at _ t x.1 (goes_to_work r (ChangeOne one r) c refl)
   one_upgraded root one r h Failed h' t c x = at _ t x.1 (back root)
   one_upgraded root one r h Exhausted h' t c x = halts refusal.Exhausted t x.1
 
-  gives_up : (root : C) (top : Option (Parent C)) (o : Option Refusal) (t : Turn C V) → t ≡ given_up root top o → StepShape k kind v v v' q t
+  gives_up : (root : C) (top : Option (Parent C)) (o : Option Refusal) (t : NextPhase C V) → t ≡ given_up root top o → StepShape k kind v v v' q t
   gives_up root None None t x = at _ t x (back root)
   gives_up root None (Some r) t x = halts r t x
   gives_up root (Some top) o t x = at _ t x (go (Unwind top.seat.node None o) refl)
 
-  pub above_upgraded : (root : C) (two : Two C) (r : Reply V) (h : ℕ → Node V) (u : Upgrade) (h' : ℕ → Node V) (t : Turn C V) → Ripe r q → UpgradedAbove number root two r h u h' t → StepShape k kind v v v' q t
+  pub above_upgraded : (root : C) (two : Two C) (r : Reply V) (h : ℕ → Node V) (u : Upgrade) (h' : ℕ → Node V) (t : NextPhase C V) → Ripe r q → UpgradedAbove number root two r h u h' t → StepShape k kind v v v' q t
   above_upgraded root two r h Locked h' t c x = at _ t x.1 (goes_to_work r (UpgradeBelow two r) c refl)
   above_upgraded root two r h Failed h' t c x = gives_up root two.top None t x.1
   above_upgraded root two r h Exhausted h' t c x = gives_up root two.top (Some refusal.Exhausted) t x.1
 
-  pub top_upgraded : (root : C) (top : Parent C) (two : Two C) (r : Reply V) (h : ℕ → Node V) (u : Upgrade) (h' : ℕ → Node V) (t : Turn C V) → Ripe r q → UpgradedTop number root top two r h u h' t → StepShape k kind v v v' q t
+  pub top_upgraded : (root : C) (top : Parent C) (two : Two C) (r : Reply V) (h : ℕ → Node V) (u : Upgrade) (h' : ℕ → Node V) (t : NextPhase C V) → Ripe r q → UpgradedTop number root top two r h u h' t → StepShape k kind v v v' q t
   top_upgraded root top two r h Locked h' t c x = at _ t x.1 (goes_to_work r (UpgradeAbove (record two { top = Some top }) r) c refl)
   top_upgraded root top two r h Failed h' t c x = at _ t x.1 (back root)
   top_upgraded root top two r h Exhausted h' t c x = halts refusal.Exhausted t x.1
 
-  pub both_upgraded : (two : Two C) (r : Reply V) (h : ℕ → Node V) (u : Upgrade) (h' : ℕ → Node V) (t : Turn C V) → Ripe r q → UpgradedBelow number two r h u h' t → StepShape k kind v v v' q t
+  pub both_upgraded : (two : Two C) (r : Reply V) (h : ℕ → Node V) (u : Upgrade) (h' : ℕ → Node V) (t : NextPhase C V) → Ripe r q → UpgradedBelow number two r h u h' t → StepShape k kind v v v' q t
   both_upgraded two r h Locked h' t c x = at _ t x.1 (goes_to_work r (ChangeTwo two r) c refl)
   both_upgraded two r h Failed h' t c x = at _ t x.1 (go (Unwind _ _ None) refl)
   both_upgraded two r h Exhausted h' t c x = at _ t x.1 (go (Unwind _ _ (Some refusal.Exhausted)) refl)
 
-  pub unwinds : (root : C) (next : Option C) (o : Option Refusal) (t : Turn C V) → t ≡ after_unwind root next o → StepShape k kind v v v' q t
+  pub unwinds : (root : C) (next : Option C) (o : Option Refusal) (t : NextPhase C V) → t ≡ after_unwind root next o → StepShape k kind v v v' q t
   unwinds root None None t x = at _ t x (back root)
   unwinds root None (Some r) t x = halts r t x
   unwinds root (Some c) o t x = at _ t x (go (Unwind c None o) refl)
 
 -- a change takes effect
-top_shape : {C V : Type 0} (k : ℕ) (kind : Kind V) (v v' : Option V) (two : Two C) (r : Reply V) (top : Option (Parent C)) (t : Turn C V) → t ≡ after_top two r top → StepShape k kind v v v' (heeding r) t
+top_shape : {C V : Type 0} (k : ℕ) (kind : Kind V) (v v' : Option V) (two : Two C) (r : Reply V) (top : Option (Parent C)) (t : NextPhase C V) → t ≡ after_top two r top → StepShape k kind v v v' (heeding r) t
 top_shape k kind v v' two r None t x = Takes _ r x refl refl refl (ripe_at_work r)
 top_shape k kind v v' two r (Some top) t x = Takes _ r x refl refl refl (ripe_at_work r)
 
-pub change_shape : {C V : Type 0} (k : ℕ) (kind : Kind V) (v v' : Option V) (two : Two C) (r : Reply V) (change : Double C) (t : Turn C V) → t ≡ after_change two r change → StepShape k kind v v v' (heeding r) t
-change_shape k kind v v' two r (Shrink c) t x = Takes _ r x refl refl refl (ripe_at_work r)
+-- a change of two nodes takes effect with the call's reply
+pub change_shape : {C V : Type 0} (k : ℕ) (kind : Kind V) (v v' : Option V) (two : Two C) (r : Reply V) (change : Double C) (t : NextPhase C V) → t ≡ after_change two r change → StepShape k kind v v v' (heeding r) t
 change_shape k kind v v' two r Collapse t x = top_shape k kind v v' two r two.top t x
 change_shape k kind v v' two r (ShrinkAbove c) t x = top_shape k kind v v' two r two.top t x
-change_shape k kind v v' two r Unlink t x = Takes _ r x refl refl refl (ripe_at_work r)
-change_shape k kind v v' two r (Grow c) t x = Takes _ r x refl refl refl (ripe_at_work r)
-change_shape k kind v v' two r (GrowLink c leaf byte) t x = Takes _ r x refl refl refl (ripe_at_work r)
-change_shape k kind v v' two r (Split top leaf common byte) t x = Takes _ r x refl refl refl (ripe_at_work r)
+change_shape k kind v v' two r _ t x = Takes _ r x refl refl refl (ripe_at_work r)
 
 -- the closure's answer
-pub given_shape : {C V : Type 0} (always : Bool) (same : V → V → Bool) (k : ℕ) (kind : Kind V) (s : Site C) (old : V) (told : Option (Option V)) (v v' : Option V) (t : Turn C V)
-    → Asking kind → IsGiven always same kind s old told v v' t → StepShape k kind v (heard kind (Asked (Some old)) told v) v' (resolved kind (Asked (Some old)) told) t
+pub given_shape : {C V : Type 0} (always : Bool) (same : V → V → Bool) (k : ℕ) (kind : Kind V) (s : Site C) (old : V) (told : Option (Option V)) (v v' : Option V) (t : NextPhase C V)
+    → Asking kind → IsGiven always same kind s old told v v' t → StepShape k kind v (value_answered kind (Asked (Some old)) told v) v' (resolved kind (Asked (Some old)) told) t
 given_shape always same k kind s old None v v' t w x = asks k v v v' x.0 (Asked (Some old)) kind always s old t w x.1
 given_shape always same k ComputeInsert s old (Some None) v v' t w x = asks k v v v' x.0 (Asked (Some old)) ComputeInsert always s old t tt x.1
 given_shape always same k ComputeInsert s old (Some (Some y)) v v' t w x = to k v (Some y) v' x.0 (Replied (Some old)) ComputeInsert _ t x.1 (replaces k v (Some y) v' x.0 (Replied (Some old)) ComputeInsert s (same old y) _ refl)
@@ -308,10 +290,11 @@ given_shape always same k Insert s old (Some o) v v' t w x = absurd w
 given_shape always same k Remove s old (Some o) v v' t w x = absurd w
 given_shape always same k (Exchange y) s old (Some o) v v' t w x = absurd w
 
-given_new_shape : {C V : Type 0} (k : ℕ) (plan : Plan C) (told : Option (Option V)) (v v' : Option V) (t : Turn C V) → IsGivenNew plan told v v' t → StepShape k ComputeInsert v (heard ComputeInsert (Asked None) told v) v' (resolved ComputeInsert (Asked None) told) t
+given_new_shape : {C V : Type 0} (k : ℕ) (plan : Plan C) (told : Option (Option V)) (v v' : Option V) (t : NextPhase C V) → IsGivenNew plan told v v' t → StepShape k ComputeInsert v (value_answered ComputeInsert (Asked None) told v) v' (resolved ComputeInsert (Asked None) told) t
 given_new_shape k plan None v v' t x = to k v v v' x.0 (Asked None) ComputeInsert _ t x.1 (wonders k v v v' x.0 (Asked None) ComputeInsert (AskNew plan) None tt refl)
 given_new_shape k plan (Some None) v v' t x = to k v v v' x.0 (Asked None) ComputeInsert _ t x.1 (wonders k v v v' x.0 (Asked None) ComputeInsert (AskNew plan) None tt refl)
 given_new_shape k plan (Some (Some y)) v v' t x = to k v (Some y) v' x.0 (Replied None) ComputeInsert _ t x.1 (starts k v (Some y) v' x.0 (Replied None) ComputeInsert plan _ refl)
 
-pub given_new_shape_at : {C V : Type 0} (k : ℕ) (kind : Kind V) (plan : Plan C) (told : Option (Option V)) (v v' : Option V) (t : Turn C V) → kind ≡ ComputeInsert → IsGivenNew plan told v v' t → StepShape k kind v (heard kind (Asked None) told v) v' (resolved kind (Asked None) told) t
-given_new_shape_at {C} {V} k kind plan told v v' t e x = let P : Kind V → Type 0 = λ y. StepShape k y v (heard y (Asked None) told v) v' (resolved y (Asked None) told) t in subst P (sym e) (given_new_shape k plan told v v' t x)
+-- the closure's answer about an absent key: the call goes to work on it, or asks anew
+pub given_new_shape_at : {C V : Type 0} (k : ℕ) (kind : Kind V) (plan : Plan C) (told : Option (Option V)) (v v' : Option V) (t : NextPhase C V) → kind ≡ ComputeInsert → IsGivenNew plan told v v' t → StepShape k kind v (value_answered kind (Asked None) told v) v' (resolved kind (Asked None) told) t
+given_new_shape_at {C} {V} k kind plan told v v' t e x = let P : Kind V → Type 0 = λ y. StepShape k y v (value_answered y (Asked None) told v) v' (resolved y (Asked None) told) t in subst P (sym e) (given_new_shape k plan told v v' t x)

@@ -6,7 +6,7 @@ use Rattle.judge.specs.declared.journal.Call.TheVariants as call
 use Rattle.judge.specs.declared.journal.Reply.{Reply}
 use Rattle.congee.specs.declared.protocol.store.Reading.{Reading}
 use Rattle.congee.specs.declared.protocol.store.Reading.TheVariants.{Differs, Fits, Uncopied}
-use Rattle.congee.specs.declared.protocol.store.Seat.{Seat}
+use Rattle.congee.specs.declared.protocol.store.Stamp.{Stamp}
 use Rattle.congee.specs.declared.protocol.store.Seen.{Seen}
 use Rattle.congee.specs.declared.protocol.phase.Kind.{Kind}
 use Rattle.congee.specs.declared.protocol.phase.Kind.TheVariants.{Get, Insert, Remove, ComputePresent, ComputeInsert, Exchange}
@@ -16,12 +16,12 @@ use Rattle.congee.specs.declared.forms.base_node.NodeType.{NodeType}
 use Rattle.congee.specs.declared.protocol.phase.Site.{Site}
 use Rattle.congee.specs.declared.protocol.phase.Phase.{Phase}
 use Rattle.congee.specs.declared.protocol.phase.Phase.TheVariants.{Version, Read, CheckUncopied, CheckMiss, CheckDown}
-use Rattle.congee.specs.declared.protocol.turn.Turn.{Turn}
+use Rattle.congee.specs.declared.protocol.turn.NextPhase.{NextPhase}
 use Rattle.congee.specs.Heap.{Node, Hung, Below, fits, child_for, of_child, walk, value_at, is_taken}
 use Rattle.congee.specs.protocol.Events.{hung, Parts, ReadGives, SeenTruly}
 use Rattle.congee.specs.protocol.Steps.{quiet, again, answered, adds, absent_reply, near_of, here_of, below, after_version, after_read, down}
 use Rattle.congee.specs.Keys.{key_bytes}
-use Rattle.congee.specs.Ledger.{Note, Linked, is_published, Tree, LockWords}
+use Rattle.congee.specs.Notes.{Note, Linked, is_published, Tree, LockWords}
 use Rattle.congee.specs.protocol.Protocol.{Seated, Fresh, ChildOf, IsFar, IsAbove, Knows, HasGift, Settles, Known, Effect}
 use Rattle.congee.specs.protocol.Answers.{StepAnswers}
 use Rattle.congee.proofs.lemmas.Tree.{finds, misses}
@@ -30,13 +30,15 @@ use Rattle.congee.proofs.lemmas.protocol.Touch.{taken_linked, as_it_was, effect}
 
 -- what a turn leaves the call
 pub record Sound {C V : Type 0} (number : C → ℕ) (same : V → V → Bool) (always : Bool) (i k : ℕ) (kind : Kind V) (given : Option V) (h : ℕ → Node V)
-    (given' : Option V) (t : Turn C V) (a' : ℕ → Note) (h' : ℕ → Node V) : Type 0 where
+    (given' : Option V) (t : NextPhase C V) (a' : ℕ → Note) (h' : ℕ → Node V) : Type 0 where
   pub known : Known number same always i a' h' k (key_bytes k) kind given' t.phase
   pub answer : StepAnswers same k kind given h t h'
 
+-- a step that changes nothing has its effect
 pub same_effect : {V : Type 0} (i : ℕ) (a : ℕ → Note) (h : ℕ → Node V) → Tree a h → LockWords a h → Effect i a h a h
 same_effect i a h t w = effect i a h a h w t refl (λ n. as_it_was refl refl)
 
+-- what follows from what is true of a node as long as its word is the one taken is so too
 pub fresh_map : {V : Type 0} (a : ℕ → Note) (h : ℕ → Node V) (n v : ℕ) (Q R : Node V → Type 0) → (Q (h n) → R (h n)) → Fresh a h n v Q → Fresh a h n v R
 fresh_map a h n v Q R f s = record { seated = s.seated; holds = λ q. f (s.holds q) }
 
@@ -68,7 +70,7 @@ module _ {C V : Type 0} (number : C → ℕ) (same : V → V → Bool) (always :
   version_sound root e p n g m pu false = begins_anew root e g
 
   -- what a read of a node on the key's way saw
-  saw : (p : Option (Over C)) (at : Seat C) → IsAbove number a h (key_bytes k) p (number at.node) → Seated a h (number at.node) at.version → (depth : ℕ) (form : NodeType) (x : Seen C V) → ReadGives number always (h (number at.node)) at.version (key_bytes k) (Fits depth form x)
+  saw : (p : Option (Over C)) (at : Stamp C) → IsAbove number a h (key_bytes k) p (number at.node) → Seated a h (number at.node) at.version → (depth : ℕ) (form : NodeType) (x : Seen C V) → ReadGives number always (h (number at.node)) at.version (key_bytes k) (Fits depth form x)
       → Knows number a h (key_bytes k) (record { above = p; at = at; depth = depth; byte = x.byte; count = x.count; full = x.full; form = form }) (hung number x.child)
   saw p at m s depth form x q = record {
     above = m;
@@ -83,7 +85,7 @@ module _ {C V : Type 0} (number : C → ℕ) (same : V → V → Bool) (always :
     };
   }
 
-  pub read_sound : (root : C) → number root ≡ 0 → (p : Option (Over C)) (at : Seat C) → HasGift kind given → IsAbove number a h (key_bytes k) p (number at.node) → Seated a h (number at.node) at.version
+  pub read_sound : (root : C) → number root ≡ 0 → (p : Option (Over C)) (at : Stamp C) → HasGift kind given → IsAbove number a h (key_bytes k) p (number at.node) → Seated a h (number at.node) at.version
       → (r : Reading C V) → ReadGives number always (h (number at.node)) at.version (key_bytes k) r → Sound number same always i k kind given h given (after_read root p at r) a h
   read_sound root e None at g m s (Differs common byte) q = begins_anew root e g
   read_sound root e (Some p) at g m s (Differs common byte) q = goes_on (CheckMiss p.near at common byte) (g, m.0, s, q.0, q.1)

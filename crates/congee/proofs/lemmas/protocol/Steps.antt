@@ -13,12 +13,12 @@ use Rattle.congee.specs.declared.protocol.phase.One.{One}
 use Rattle.congee.specs.declared.protocol.phase.Two.{Two}
 use Rattle.congee.specs.declared.protocol.phase.Phase.{Phase}
 use Rattle.congee.specs.declared.protocol.phase.Phase.TheVariants.{New, Version, Read, Check, CheckUncopied, CheckMiss, CheckDown, CheckOld, MakeLeaf, MakeGreater, MakeTop, MakeBeside, MakeLesser, AskOld, AskNew, Confirm, CheckAbove, UpgradeOne, ChangeOne, UpgradeTop, UpgradeAbove, UpgradeBelow, ChangeTwo, Obsolete, Retire, UnlockBelow, Unlock, Unwind, Sweep, Ended}
-use Rattle.congee.specs.declared.protocol.turn.Turn.{Turn}
+use Rattle.congee.specs.declared.protocol.turn.NextPhase.{NextPhase}
 use Rattle.congee.specs.Heap.{Node, Nothing, Holds, child_for, is_taken, is_free}
 use Rattle.congee.specs.protocol.Events.{upgrade_gives}
 use Rattle.congee.specs.protocol.Steps.{quiet, swept, again, refused, node_of, given_up, adds, absent_reply, UpgradedOne, UpgradedTop, UpgradedAbove, UpgradedBelow, PhaseStepped, Stepped}
 use Rattle.congee.specs.Keys.{key_bytes}
-use Rattle.congee.specs.Ledger.{Note, is_published, Tree, LockWords}
+use Rattle.congee.specs.Notes.{Note, is_published, Tree, LockWords}
 use Rattle.congee.specs.declared.protocol.machine.Machine.{Machine}
 use Rattle.congee.specs.declared.protocol.machine.Move.{Move}
 use Rattle.congee.specs.protocol.Answers.{KeepsProtocol}
@@ -37,21 +37,21 @@ use Rattle.congee.proofs.lemmas.protocol.Settling.{changed_one, changed_two}
 module _ {C V : Type 0} (number : C → ℕ) (same : V → V → Bool) (always : Bool) (i : ℕ) (a : ℕ → Note) (h : ℕ → Node V) (k : ℕ) (kind : Kind V) (given : Option V)
     (t : Tree a h) (w : LockWords a h) where
   -- a step that leaves the nodes, and the call's value
-  quiet_kept : (given' : Option V) (turn : Turn C V) (h' : ℕ → Node V) → h' ≡ h → Sound number same always i k kind given h given' turn a h → Kept number same always i a h k kind given given' turn h'
+  quiet_kept : (given' : Option V) (turn : NextPhase C V) (h' : ℕ → Node V) → h' ≡ h → Sound number same always i k kind given h given' turn a h → Kept number same always i a h k kind given given' turn h'
   quiet_kept given' turn h' e s =
       let P : (ℕ → Node V) → Type 0 = λ g. Kept number same always i a h k kind given given' turn g in
       subst P (sym e) (record { notes = a; effect = same_effect i a h t w; sound = s })
 
-  given_at : (given' : Option V) (turn : Turn C V) (h' : ℕ → Node V) → given' ≡ given → Kept number same always i a h k kind given given turn h' → Kept number same always i a h k kind given given' turn h'
+  given_at : (given' : Option V) (turn : NextPhase C V) (h' : ℕ → Node V) → given' ≡ given → Kept number same always i a h k kind given given turn h' → Kept number same always i a h k kind given given' turn h'
   given_at given' turn h' e m = let P : Option V → Type 0 = λ o. Kept number same always i a h k kind given o turn h' in subst P (sym e) m
 
-  sound_kept : (given' : Option V) (turn : Turn C V) (h' : ℕ → Node V) → h' ≡ h → given' ≡ given → Sound number same always i k kind given h given turn a h → Kept number same always i a h k kind given given' turn h'
+  sound_kept : (given' : Option V) (turn : NextPhase C V) (h' : ℕ → Node V) → h' ≡ h → given' ≡ given → Sound number same always i k kind given h given turn a h → Kept number same always i a h k kind given given' turn h'
   sound_kept given' turn h' e f s = given_at given' turn h' f (quiet_kept given turn h' e s)
 
-  at_turn : (x y : Turn C V) → y ≡ x → Sound number same always i k kind given h given x a h → Sound number same always i k kind given h given y a h
+  at_turn : (x y : NextPhase C V) → y ≡ x → Sound number same always i k kind given h given x a h → Sound number same always i k kind given h given y a h
   at_turn x y e s = turn_at number same always i a h k t w kind given given x y e s
 
-  if_sound : (taken : Bool) (root : C) → number root ≡ 0 → (T : Type 0) (turn : Turn C V) → (taken ≡ true → T) × (taken ≡ false → turn ≡ again root) → HasGift kind given
+  if_sound : (taken : Bool) (root : C) → number root ≡ 0 → (T : Type 0) (turn : NextPhase C V) → (taken ≡ true → T) × (taken ≡ false → turn ≡ again root) → HasGift kind given
       → (taken ≡ true → T → Sound number same always i k kind given h given turn a h) → Sound number same always i k kind given h given turn a h
   if_sound taken root z T turn x g f = on_test taken (λ q. f q (x.0 q)) (λ q. at_turn _ turn (x.1 q) (begins_anew number same always i a h k kind given t w root z g))
 
@@ -93,7 +93,7 @@ module _ {C V : Type 0} (number : C → ℕ) (same : V → V → Bool) (always :
   gives_up root z None n (Some e) h' f g o b = refused_back number same always i a h k kind given h' e b
   gives_up root z (Some top) n e h' f g o b = unwind_back top.seat.node None e h' f g o.holding tt b
 
-  upgraded_one : (root : C) → number root ≡ 0 → (most : ℕ) (fail : Bool) (one : One C) (r : Reply V) (turn : Turn C V) (h' : ℕ → Node V) (u : Upgrade) → Known number same always i a h k (key_bytes k) kind given (UpgradeOne one r)
+  upgraded_one : (root : C) → number root ≡ 0 → (most : ℕ) (fail : Bool) (one : One C) (r : Reply V) (turn : NextPhase C V) (h' : ℕ → Node V) (u : Upgrade) → Known number same always i a h k (key_bytes k) kind given (UpgradeOne one r)
       → u ≡ upgrade_gives most (h (number one.at.node)) one.at.version fail → UpgradedOne number root one r h u h' turn → Kept number same always i a h k kind given given turn h'
   upgraded_one root z most fail one r turn h' Locked m e g = kept_at number same always i a h k kind given given _ turn h' g.1
       (lock_one number same always i a h k kind given t w one r h' m (locked_taken most (h (number one.at.node)) one.at.version fail e) g.0)
@@ -102,7 +102,7 @@ module _ {C V : Type 0} (number : C → ℕ) (same : V → V → Bool) (always :
   upgraded_one root z most fail one r turn h' Exhausted m e g = kept_at number same always i a h k kind given given _ turn h' g.1
       (refused_back number same always i a h k kind given h' refusal.Exhausted (back_one number i a h (key_bytes k) one.change h' t w m.1.1.made g.0))
 
-  upgraded_above : (root : C) → number root ≡ 0 → (most : ℕ) (fail : Bool) (two : Two C) (r : Reply V) (turn : Turn C V) (h' : ℕ → Node V) (u : Upgrade) → Known number same always i a h k (key_bytes k) kind given (UpgradeAbove two r)
+  upgraded_above : (root : C) → number root ≡ 0 → (most : ℕ) (fail : Bool) (two : Two C) (r : Reply V) (turn : NextPhase C V) (h' : ℕ → Node V) (u : Upgrade) → Known number same always i a h k (key_bytes k) kind given (UpgradeAbove two r)
       → u ≡ upgrade_gives most (h (number two.above.seat.node)) two.above.seat.version fail → UpgradedAbove number root two r h u h' turn → Kept number same always i a h k kind given given turn h'
   upgraded_above root z most fail two r turn h' Locked m e g = kept_at number same always i a h k kind given given _ turn h' g.1
       (lock_above number same always i a h k kind given t w two r h' m (locked_taken most (h (number two.above.seat.node)) two.above.seat.version fail e) g.0)
@@ -111,7 +111,7 @@ module _ {C V : Type 0} (number : C → ℕ) (same : V → V → Bool) (always :
   upgraded_above root z most fail two r turn h' Exhausted m e g = kept_at number same always i a h k kind given given _ turn h' g.1
       (gives_up root z two.top (number two.above.seat.node) (Some refusal.Exhausted) h' refl m.0 m.1.2.top (back_two number i a h (key_bytes k) two.above two.change _ _ h' t w m.1.2.made g.0))
 
-  upgraded_top : (root : C) → number root ≡ 0 → (most : ℕ) (fail : Bool) (top : Parent C) (two : Two C) (r : Reply V) (turn : Turn C V) (h' : ℕ → Node V) (u : Upgrade) → Known number same always i a h k (key_bytes k) kind given (UpgradeTop top two r)
+  upgraded_top : (root : C) → number root ≡ 0 → (most : ℕ) (fail : Bool) (top : Parent C) (two : Two C) (r : Reply V) (turn : NextPhase C V) (h' : ℕ → Node V) (u : Upgrade) → Known number same always i a h k (key_bytes k) kind given (UpgradeTop top two r)
       → u ≡ upgrade_gives most (h (number top.seat.node)) top.seat.version fail → UpgradedTop number root top two r h u h' turn → Kept number same always i a h k kind given given turn h'
   upgraded_top root z most fail top two r turn h' Locked m e g = kept_at number same always i a h k kind given given _ turn h' g.1
       (lock_top number same always i a h k kind given t w top two r h' m (locked_taken most (h (number top.seat.node)) top.seat.version fail e) g.0)
@@ -120,7 +120,7 @@ module _ {C V : Type 0} (number : C → ℕ) (same : V → V → Bool) (always :
   upgraded_top root z most fail top two r turn h' Exhausted m e g = kept_at number same always i a h k kind given given _ turn h' g.1
       (refused_back number same always i a h k kind given h' refusal.Exhausted (back_two number i a h (key_bytes k) two.above two.change _ _ h' t w m.1.2.made g.0))
 
-  upgraded_both : (most : ℕ) (fail : Bool) (two : Two C) (r : Reply V) (turn : Turn C V) (h' : ℕ → Node V) (u : Upgrade) → Known number same always i a h k (key_bytes k) kind given (UpgradeBelow two r)
+  upgraded_both : (most : ℕ) (fail : Bool) (two : Two C) (r : Reply V) (turn : NextPhase C V) (h' : ℕ → Node V) (u : Upgrade) → Known number same always i a h k (key_bytes k) kind given (UpgradeBelow two r)
       → u ≡ upgrade_gives most (h (number two.at.node)) two.at.version fail → UpgradedBelow number two r h u h' turn → Kept number same always i a h k kind given given turn h'
   upgraded_both most fail two r turn h' Locked m e g = kept_at number same always i a h k kind given given _ turn h' g.1
       (lock_both number same always i a h k kind given t w two r h' m (locked_taken most (h (number two.at.node)) two.at.version fail e) g.0)
@@ -131,7 +131,7 @@ module _ {C V : Type 0} (number : C → ℕ) (same : V → V → Bool) (always :
 
 -- every step
 pub step_kept : {C V : Type 0} (number : C → ℕ) (same : V → V → Bool) (always : Bool) (most : ℕ) (why : NodeType → Refusal → Type 0) → ((p q : V) → same p q ≡ true → p ≡ q)
-    → (i : ℕ) (a : ℕ → Note) (h : ℕ → Node V) (root : C) → number root ≡ 0 → (k : ℕ) (kind : Kind V) (fail : Bool) (answer : Option (Option V)) (given : Option V) (s : Phase C V) (given' : Option V) (turn : Turn C V) (h' : ℕ → Node V)
+    → (i : ℕ) (a : ℕ → Note) (h : ℕ → Node V) (root : C) → number root ≡ 0 → (k : ℕ) (kind : Kind V) (fail : Bool) (answer : Option (Option V)) (given : Option V) (s : Phase C V) (given' : Option V) (turn : NextPhase C V) (h' : ℕ → Node V)
     → Tree a h → LockWords a h → Known number same always i a h k (key_bytes k) kind given s → PhaseStepped number same always most why root (key_bytes k) kind fail answer given s h given' turn h'
     → Kept number same always i a h k kind given given' turn h'
 step_kept number same always most why law i a h root z k kind fail answer given New given' turn h' t w m g = sound_kept number same always i a h k kind given t w given' turn h' g.0 g.1
@@ -146,7 +146,7 @@ step_kept number same always most why law i a h root z k kind fail answer given 
     (if_sound number same always i a h k kind given t w _ root z _ turn g.2 m.0 (λ q x. at_turn number same always i a h k kind given t w (refused refusal.Count) turn x (record { known = tt; answer = λ y _. refl })))
 step_kept {C} {V} number same always most why law i a h root z k kind fail answer given (CheckMiss p at common byte) given' turn h' t w m g = sound_kept number same always i a h k kind given t w given' turn h' g.0 g.1
     (if_sound number same always i a h k kind given t w _ root z _ turn g.2 m.0 (λ q x. at_turn number same always i a h k kind given t w _ turn x
-    (by_test (λ (y : Turn C V). Sound number same always i k kind given h given y a h) (adds kind) _ _
+    (by_test (λ (y : NextPhase C V). Sound number same always i k kind given h given y a h) (adds kind) _ _
     (λ e. goes_on number same always i a h k kind given t w (MakeTop p at common byte) (m.0, m.1, m.2, m.3, m.4, e))
     (λ e. answers_now number same always i a h k kind given t w (absent_reply kind) None (settle_absent same k kind given e) (miss_value number same always i a h k kind given t w p (number at.node) common m.1 m.3 q)))))
 step_kept number same always most why law i a h root z k kind fail answer given (CheckDown p at c) given' turn h' t w m g = sound_kept number same always i a h k kind given t w given' turn h' g.0 g.1

@@ -13,11 +13,11 @@ use Rattle.congee.specs.declared.protocol.machine.Machine.{Machine}
 use Rattle.congee.specs.declared.protocol.sweep.Sweep.{Sweep as Scan}
 use Rattle.congee.specs.declared.protocol.sweep.Stage.{Stage}
 use Rattle.congee.specs.declared.protocol.sweep.Stage.TheVariants as stage
-use Rattle.congee.specs.declared.protocol.sweep.Told.{Told}
-use Rattle.congee.specs.declared.protocol.sweep.Told.TheVariants as told
+use Rattle.congee.specs.declared.protocol.sweep.ScanReport.{ScanReport}
+use Rattle.congee.specs.declared.protocol.sweep.ScanReport.TheVariants as told
 use Rattle.congee.specs.Heap.{Node}
 use Rattle.congee.specs.Keys.{IsMapOf}
-use Rattle.congee.specs.Ledger.{Note, Tree, LockWords}
+use Rattle.congee.specs.Notes.{Note, Tree, LockWords}
 use Rattle.congee.specs.protocol.Steps.{outcome_of}
 use Rattle.congee.specs.protocol.SweepSteps.{Swung, over, SweptAt, SweepStepped}
 use Rattle.congee.specs.protocol.SweepKnown.{SweepKnown, TracksAt, Tracks, placed, Tells, SameCall}
@@ -30,11 +30,8 @@ module _ {V : Type 0} (same : V → V → Bool) where
 
   concludes_point : (r : _) (o : Outcome V) (f : Flight V) → Concludes r o f → IsOfPoint f
   concludes_point r Running f c = of_point f (Decided r) c tt
-  concludes_point r (Asks o) f c = absurd c
   concludes_point r (Done s) f c = of_point f Over c.1 tt
-  concludes_point r (Refused e) f c = absurd c
-  concludes_point r (Found place key x) f c = absurd c
-  concludes_point r (Scanned count) f c = absurd c
+  concludes_point r _ f c = absurd c
 
   pending_point : (k : ℕ) (kind : Kind V) (v : Option V) (q : Question V) (m : Pairs V) (b : Bool) (o : Outcome V) (f : Flight V) (m' : Pairs V) → PendingMoves same k kind v q m b o f m' → IsOfPoint f
   pending_point k kind v q m true o f m' g = concludes_point g.1 o f g.5
@@ -86,11 +83,11 @@ module _ {C V : Type 0} where
 
 module _ {C V : Type 0} (number : C → ℕ) (same : V → V → Bool) (always : Bool) (a : ℕ → Note) (h : ℕ → Node V) (t : Tree a h) (w : LockWords a h) (m : Pairs V) (st : IsMapOf h m)
     (root : C) (z : number root ≡ 0) (heard : Option (Option V)) where
-  abbrev Watches : Scan C V → Flight V → Scan C V → Told V → Type 0
+  abbrev Watches : Scan C V → Flight V → Scan C V → ScanReport V → Type 0
   Watches s f s' o = (f' : Flight V) × Watched same f m heard (record { decided = false; skipped = false; outcome = outcome_of o }) f' m × ScanFollows s' f'
 
   -- a scan under way
-  tells : (s s' : Scan C V) (states : List (Pairs V)) (places : List (ℕ × V)) (o : Told V) → Tracks s' (m ∷ states) (placed places o) → Tells s (m ∷ states) places s'.stage o → SameCall s s'
+  tells : (s s' : Scan C V) (states : List (Pairs V)) (places : List (ℕ × V)) (o : ScanReport V) → Tracks s' (m ∷ states) (placed places o) → Tells s (m ∷ states) places s'.stage o → SameCall s s'
       → (f' : Flight V) × ScanTells s.start (suc s.last) s.size (m ∷ states) places (outcome_of o) f' × ScanFollows s' f'
   tells s s' states places told.Running tr te sc = (Scanning s.start (suc s.last) s.size (m ∷ states) places, refl, inr (inr (m ∷ states, places, rw (sc.start_is, sc.last_is, sc.size_is) refl, tr)))
   tells s s' states places (told.Found place k v) tr te sc =
@@ -99,7 +96,7 @@ module _ {C V : Type 0} (number : C → ℕ) (same : V → V → Bool) (always :
   tells s s' states places (told.Refused e) tr te sc = (Over, refl, inr (inl (refl, te)))
 
   -- every step of a scan
-  pub scan_watched : (s s' : Scan C V) (o : Told V) (f : Flight V) → ScanFollows s f → SweepKnown number always a h s → SweepStepped number always root s h s' o → Watches s f s' o
+  pub scan_watched : (s s' : Scan C V) (o : ScanReport V) (f : Flight V) → ScanFollows s f → SweepKnown number always a h s → SweepStepped number always root s h s' o → Watches s f s' o
   scan_watched s s' o f (inl e) k g =
       let tr : Tracks s [] [] = (let P : Stage C V → Type 0 = λ x. TracksAt s [] [] x in subst P (sym e.1) tt) in
       let out : Out number always a h t w m st [] [] root z s (s', o) = stepped_out number always a h t w m st [] [] root z s s.stage (s', o) k tr g in

@@ -6,7 +6,7 @@ use Rattle.std.specs.FinMap.{FinMap, get}
 use Rattle.congee.specs.declared.protocol.store.Region.{Region}
 use Rattle.congee.specs.Heap.{Node, Nothing, Below, Holds, fits, child_for}
 use Rattle.congee.specs.Keys.{key_bytes, IsMapOf}
-use Rattle.congee.specs.Ledger.{Note, Linked, IsChild, Tree}
+use Rattle.congee.specs.Notes.{Note, Linked, IsChild, Tree}
 use Rattle.congee.specs.protocol.Regions.{span, IsRegion, start_at}
 use Rattle.congee.specs.protocol.Sweeps.{Lacked}
 use Rattle.congee.specs.protocol.SweepSteps.{last_byte}

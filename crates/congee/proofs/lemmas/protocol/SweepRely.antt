@@ -6,7 +6,7 @@ use Rattle.congee.specs.declared.protocol.sweep.Stage.{Stage}
 use Rattle.congee.specs.declared.protocol.sweep.Stage.TheVariants as stage
 use Rattle.congee.specs.declared.protocol.sweep.Sweep.{Sweep}
 use Rattle.congee.specs.Heap.{Node}
-use Rattle.congee.specs.Ledger.{Note, is_published}
+use Rattle.congee.specs.Notes.{Note, is_published}
 use Rattle.congee.specs.protocol.Protocol.{Rely}
 use Rattle.congee.specs.protocol.Regions.{IsRegion}
 use Rattle.congee.specs.protocol.SweepSteps.{rungs_of}

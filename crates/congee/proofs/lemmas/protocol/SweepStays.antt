@@ -10,9 +10,9 @@ use Rattle.congee.specs.declared.protocol.sweep.Rung.{Rung}
 use Rattle.congee.specs.declared.protocol.sweep.Stage.{Stage}
 use Rattle.congee.specs.declared.protocol.sweep.Stage.TheVariants as stage
 use Rattle.congee.specs.declared.protocol.sweep.Sweep.{Sweep}
-use Rattle.congee.specs.declared.protocol.sweep.Told.TheVariants as told
+use Rattle.congee.specs.declared.protocol.sweep.ScanReport.TheVariants as told
 use Rattle.congee.specs.Heap.{Node, version_of, is_taken, is_free}
-use Rattle.congee.specs.Ledger.{Note, Linked, is_published, Tree, LockWords}
+use Rattle.congee.specs.Notes.{Note, Linked, is_published, Tree, LockWords}
 use Rattle.congee.specs.protocol.Regions.{IsRegion}
 use Rattle.congee.specs.protocol.SweepEvents.{LeastTruly, IsAny}
 use Rattle.congee.specs.protocol.SweepSteps.{whole, is_outside, first_byte, last_byte, rungs_of, pushed, popped, moved, sweep_at, Swung, goes, over, anew, left_to, left, entered, filled, IsFollowed, begins, SweptAt}
@@ -24,8 +24,9 @@ use Rattle.congee.proofs.lemmas.protocol.SweepBytes.{is_some, inside_last, first
 use Rattle.congee.proofs.lemmas.protocol.SweepWays.{pick_false, pick_true, path_pushed, path_empty, path_last, path_count, rungs_longer, rungs_shorter}
 use Rattle.congee.proofs.lemmas.protocol.SweepKept.{child_deeper}
 
-differ : (x y : ℕ) → (x == y) ≡ false → x ≢ y
-differ x y f e = let t : (x == y) ≡ true = same_test x y e in let z : true ≡ false = sym t ∙ f in absurd cc
+-- numbers that fail the test of equality differ
+pub differ_of_test : (x y : ℕ) → (x == y) ≡ false → x ≢ y
+differ_of_test x y f e = let t : (x == y) ≡ true = same_test x y e in let z : true ≡ false = sym t ∙ f in absurd cc
 
 module _ {C V : Type 0} (number : C → ℕ) (always : Bool) (a : ℕ → Note) (h : ℕ → Node V) (t : Tree a h) (w : LockWords a h) (root : C) (z : number root ≡ 0) where
   abbrev Stays : Swung C V → Type 0
@@ -118,7 +119,7 @@ module _ {C V : Type 0} (number : C → ℕ) (always : Bool) (a : ℕ → Note) 
         record {
           range = k.range;
           bound = k.bound;
-          room = (let ne : s.count + 1 ≢ s.size = differ (s.count + 1) s.size free in let r = k.room in elim (cases_lt (s.count + 1) s.size) [ inl x ↦ x | inr x ↦ absurd (ne (omega (arith, x, r))) ]);
+          room = (let ne : s.count + 1 ≢ s.size = differ_of_test (s.count + 1) s.size free in let r = k.room in elim (cases_lt (s.count + 1) s.size) [ inl x ↦ x | inr x ↦ absurd (ne (omega (arith, x, r))) ]);
           fits = k.fits;
           rungs = k.rungs;
         },

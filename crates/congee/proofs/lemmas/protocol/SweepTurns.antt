@@ -1,5 +1,5 @@
 -- A scan's step keeps what the scan knows, settles more keys, and at its end tells what the scan promises.
-use Rattle.std.proofs.Common.{◌≡◌, ◌≢◌, ℕ, suc, ◌<◌, ◌≤◌, ◌+◌, ◌*◌, ◌-◌, ◌^◌, ◌==◌, inl, inr, Bool, true, false, List, [], ◌∷◌, ◌++◌, length, take, refl, sym, ap, ◌∙◌, subst, arith}
+use Rattle.std.proofs.Common.{◌≡◌, ◌≢◌, ℕ, suc, ◌<◌, ◌≤◌, ◌+◌, ◌*◌, ◌-◌, ◌^◌, ◌==◌, inl, inr, Bool, true, List, [], ◌∷◌, ◌++◌, length, take, refl, sym, ap, ◌∙◌, subst, arith}
 use Rattle.std.specs.Prelude.{Option, None, Some}
 use Rattle.std.specs.Ordering.{nat_cmp}
 use Rattle.std.specs.FinMap.{FinMap}
@@ -13,17 +13,17 @@ use Rattle.congee.specs.declared.protocol.sweep.Rung.{Rung}
 use Rattle.congee.specs.declared.protocol.sweep.Stage.{Stage}
 use Rattle.congee.specs.declared.protocol.sweep.Stage.TheVariants as stage
 use Rattle.congee.specs.declared.protocol.sweep.Sweep.{Sweep}
-use Rattle.congee.specs.declared.protocol.sweep.Told.{Told}
-use Rattle.congee.specs.declared.protocol.sweep.Told.TheVariants as told
+use Rattle.congee.specs.declared.protocol.sweep.ScanReport.{ScanReport}
+use Rattle.congee.specs.declared.protocol.sweep.ScanReport.TheVariants as told
 use Rattle.congee.specs.Heap.{Node, version_of, is_taken, is_free}
 use Rattle.congee.specs.Keys.{IsMapOf}
-use Rattle.congee.specs.Ledger.{Note, Linked, is_published, Tree, LockWords}
+use Rattle.congee.specs.Notes.{Note, Linked, is_published, Tree, LockWords}
 use Rattle.congee.specs.protocol.Regions.{span, IsRegion, start_at}
 use Rattle.congee.specs.protocol.Sweeps.{Lacked, IsScan, Swept, written}
 use Rattle.congee.specs.protocol.SweepEvents.{LeastTruly, IsAny}
 use Rattle.congee.specs.protocol.SweepSteps.{whole, is_outside, first_byte, last_byte, rungs_of, pushed, popped, moved, sweep_at, Swung, goes, over, anew, left_to, left, entered, filled, IsFollowed, begins, SweptAt}
 use Rattle.congee.specs.protocol.SweepKnown.{RungKnown, RungsKnown, WayKnown, SweepKnownAt, SweepKnown, end_of, start_of, Gap, IsWay, Under, Aimed, TracksAt, Tracks, placed, Tells, SameCall}
-use Rattle.congee.proofs.lemmas.Fits.{equal, same_test}
+use Rattle.congee.proofs.lemmas.Fits.{equal}
 use Rattle.congee.proofs.lemmas.Graft.{on_test}
 use Rattle.congee.proofs.lemmas.protocol.Touch.{taken_linked}
 use Rattle.congee.proofs.lemmas.protocol.Regions.{span_pos, whole as all_bytes, start_mono}
@@ -31,9 +31,7 @@ use Rattle.congee.proofs.lemmas.protocol.Sweeps.{sweep_none, sweep_later, sweep_
 use Rattle.congee.proofs.lemmas.protocol.SweepBytes.{is_some, last_within, outside, inside_last, first_small, first_before, first_aims}
 use Rattle.congee.proofs.lemmas.protocol.SweepWays.{pick_false, pick_true, path_pushed, path_empty, path_last, path_count, way_later, way_longer, way_shorter, rungs_longer, rungs_shorter}
 use Rattle.congee.proofs.lemmas.protocol.SweepKept.{lacks_bytes, lacks_rest, has_value, child_deeper, child_after, child_before, lacks_beside}
-
-differ : (x y : ℕ) → (x == y) ≡ false → x ≢ y
-differ x y f e = let t : (x == y) ≡ true = same_test x y e in let z : true ≡ false = sym t ∙ f in absurd cc
+use Rattle.congee.proofs.lemmas.protocol.SweepStays.{differ_of_test}
 
 module _ {C V : Type 0} (number : C → ℕ) (always : Bool) (a : ℕ → Note) (h : ℕ → Node V) (t : Tree a h) (w : LockWords a h) (m : FinMap nat_cmp V) (st : IsMapOf h m)
     (states : List (FinMap nat_cmp V)) (places : List (ℕ × V)) (root : C) (z : number root ≡ 0) where
@@ -269,7 +267,7 @@ module _ {C V : Type 0} (number : C → ℕ) (always : Bool) (a : ℕ → Note) 
           record {
             range = k.range;
             bound = k.bound;
-            room = (let ne : s.count + 1 ≢ s.size = differ (s.count + 1) s.size free in let r = k.room in let d = cases_lt (s.count + 1) s.size in elim d [ inl x ↦ x | inr x ↦ absurd (ne (omega (arith, x, r))) ]);
+            room = (let ne : s.count + 1 ≢ s.size = differ_of_test (s.count + 1) s.size free in let r = k.room in let d = cases_lt (s.count + 1) s.size in elim d [ inl x ↦ x | inr x ↦ absurd (ne (omega (arith, x, r))) ]);
             fits = k.fits;
             rungs = k.rungs;
           },
@@ -309,11 +307,9 @@ module _ {C V : Type 0} (number : C → ℕ) (always : Bool) (a : ℕ → Note) 
       )
 
   -- a scan that begins anew is on the same range, with the same places
-  tells_anew : (s : Sweep C V) (x : Stage C V) (o : Told V) → Tells (anew root s).0 (m ∷ states) places x o → Tells s (m ∷ states) places x o
+  tells_anew : (s : Sweep C V) (x : Stage C V) (o : ScanReport V) → Tells (anew root s).0 (m ∷ states) places x o → Tells s (m ∷ states) places x o
   tells_anew s x told.Running e = e
-  tells_anew s x (told.Found place k v) e = e
-  tells_anew s x (told.Done count) e = e
-  tells_anew s x (told.Refused r) e = e
+  tells_anew s x _ e = e
 
   out_anew : (s : Sweep C V) (u : Swung C V) → Out (anew root s).0 u → Out s u
   out_anew s u o = (o.0, o.1, tells_anew s u.0.stage u.1 o.2, record { start_is = o.3.start_is; last_is = o.3.last_is; size_is = o.3.size_is })

@@ -7,7 +7,7 @@ use Rattle.congee.specs.declared.protocol.sweep.Stage.{Stage}
 use Rattle.congee.specs.declared.protocol.sweep.Stage.TheVariants as stage
 use Rattle.congee.specs.declared.protocol.sweep.Sweep.{Sweep}
 use Rattle.congee.specs.Heap.{Node}
-use Rattle.congee.specs.Ledger.{Note, Linked, is_published, Tree, LockWords}
+use Rattle.congee.specs.Notes.{Note, Linked, is_published, Tree, LockWords}
 use Rattle.congee.specs.protocol.Regions.{span}
 use Rattle.congee.specs.protocol.SweepEvents.{LeastTruly, IsAny}
 use Rattle.congee.specs.protocol.SweepSteps.{last_byte, MayFollow, MaySweepAt, MaySweep}

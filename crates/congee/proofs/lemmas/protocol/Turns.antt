@@ -11,14 +11,14 @@ use Rattle.congee.specs.declared.forms.base_node.NodeType.{NodeType}
 use Rattle.congee.specs.declared.protocol.store.Refusal.{Refusal}
 use Rattle.congee.specs.declared.protocol.phase.Kind.{Kind}
 use Rattle.congee.specs.declared.protocol.phase.Phase.{Phase}
-use Rattle.congee.specs.declared.protocol.turn.Turn.{Turn}
+use Rattle.congee.specs.declared.protocol.turn.NextPhase.{NextPhase}
 use Rattle.congee.specs.declared.protocol.machine.Move.{Move}
 use Rattle.congee.specs.declared.protocol.machine.Outcome.TheVariants.{Running}
 use Rattle.congee.specs.declared.protocol.machine.Machine.{Machine}
 use Rattle.congee.specs.declared.protocol.run.Step.{Step}
 use Rattle.congee.specs.Heap.{Node}
 use Rattle.congee.specs.Keys.{key_bytes, IsMapOf}
-use Rattle.congee.specs.Ledger.{Note, Held, Tree, LockWords}
+use Rattle.congee.specs.Notes.{Note, Held, Tree, LockWords}
 use Rattle.congee.specs.protocol.Protocol.{Rely, Fares, Known}
 use Rattle.congee.specs.protocol.Steps.{swept, PhaseStepped, MayStep, Stepped}
 use Rattle.congee.specs.protocol.SweepKnown.{SweepKnownAt}
@@ -132,10 +132,10 @@ module _ {C V : Type 0} (number : C → ℕ) (same : V → V → Bool) (always :
       let step : PhaseStepped number same always most why m.root (key_bytes m.key) m.kind fail answer m.given (Sweep s) h m'.given (record { phase = m'.phase; report = d }) h' = subst P x.1 g.step in
       let K : Phase C V → Type 0 = λ y. Known number same always i a h m.key (key_bytes m.key) m.kind m.given y in
       let y = scan_watched number same always a h t w pairs st m.root o.root answer s step.2.0 step.2.1 f x.2 (subst K x.1 o.known) step.2.2 in
-      let is : ◌≡◌ {A = Turn C V} (record { phase = m'.phase; report = d }) (swept step.2.0 step.2.1) = step.2.3 in
+      let is : ◌≡◌ {A = NextPhase C V} (record { phase = m'.phase; report = d }) (swept step.2.0 step.2.1) = step.2.3 in
       let H : (ℕ → Node V) → Type 0 = λ u. IsMapOf u pairs in
       let D : Move V → Type 0 = λ u. Watched same f pairs answer u y.0 pairs in
-      (pairs, y.0, subst H (sym step.0) st, inr (step.2.0, ap (λ (u : Turn C V). u.phase) is, y.2), subst D (sym (ap (λ (u : Turn C V). u.report) is)) y.1)
+      (pairs, y.0, subst H (sym step.0) st, inr (step.2.0, ap (λ (u : NextPhase C V). u.phase) is, y.2), subst D (sym (ap (λ (u : NextPhase C V). u.report) is)) y.1)
 
   -- the step of one call
   pub turned : (most : ℕ) (why : NodeType → Refusal → Type 0) (h : ℕ → Node V) (ms : List (Machine C V)) (s : Step C V) (m m' : Machine C V) (h' : ℕ → Node V) (d : Move V)
@@ -144,7 +144,7 @@ module _ {C V : Type 0} (number : C → ℕ) (same : V → V → Bool) (always :
   turned most why h ms s m m' h' d p e g keeps origin =
       let o : EachKnown number same always p.notes h s.who m = p.each s.who m e in
       let r : Keeps number same always s.who p.notes m h m' h' d = keeps s.who p.notes o.root p.tree p.words o.known in
-      let t : Turn C V = record { phase = m'.phase; report = d } in
+      let t : NextPhase C V = record { phase = m'.phase; report = d } in
       let does : Does h m h' m' = step_hands number same always s.who p.notes h h' m.key p.words p.tree most why m.root m.kind s.noise.fail s.noise.answer m.given m.phase m'.given t o.known g.step in
       let hands : StepHands number h ms s.who h' (set ms s.who m') = stepped_hands number h ms s.who m m' h' e
       (leaves_on number same always s.who p.notes h h' m.key p.words p.tree most why m.root m.kind s.noise.fail s.noise.answer m.given m.phase m'.given t g.step) does in

@@ -12,13 +12,13 @@ use Rattle.congee.specs.declared.protocol.phase.Parent.{Parent}
 use Rattle.congee.specs.declared.protocol.phase.Phase.TheVariants as phase
 use Rattle.congee.specs.declared.protocol.phase.Phase.{Phase}
 use Rattle.congee.specs.declared.protocol.phase.Phase.TheVariants.{ChangeOne, UpgradeAbove, UpgradeBelow, ChangeTwo, Obsolete, Retire, UnlockBelow, Unlock, Unwind}
-use Rattle.congee.specs.declared.protocol.turn.Turn.{Turn}
+use Rattle.congee.specs.declared.protocol.turn.NextPhase.{NextPhase}
 use Rattle.congee.specs.declared.protocol.machine.Machine.{Machine}
 use Rattle.congee.specs.declared.protocol.run.Step.{Step}
 use Rattle.congee.specs.Heap.{Node, Below, Stands}
 use Rattle.congee.specs.protocol.Steps.{after_retire, PhaseStepped}
 use Rattle.congee.specs.Keys.{key_bytes}
-use Rattle.congee.specs.Ledger.{Note, Status, Unmade, Held, Linked, Gone, Back, Destroyed, is_published, is_spent, IsChild, HasParent, Tree, LockWords}
+use Rattle.congee.specs.Notes.{Note, Status, Unmade, Held, Linked, Gone, Back, Destroyed, is_published, is_spent, IsChild, HasParent, Tree, LockWords}
 use Rattle.congee.specs.protocol.Protocol.{Fares, TopLocked, AlsoOut, AlsoHolding, TakenOut, Known}
 use Rattle.congee.specs.protocol.Holdings.{IsMade, IsTop, LockedBy, MadeBy, TakenBy, Holdings}
 use Rattle.congee.specs.protocol.Handing.{is_waiting, Leads, InTree, AreOneOrTwo, HandsAt, IsLeaving, Leaving, TakesAt, Leaves, Due, Accounted, Unlinking, StepHands, StepTakes}
@@ -41,6 +41,7 @@ reached a h t (suc f) n lt l = elim (same_or_not n 0) [
       (r.0 ++ u.byte ∷ [], leads_more h r.0 0 (a n).parent u.byte n r.1 u.holds))
 ]
 
+-- a path from the root leads to a node that is noted in the tree
 pub linked_in : {V : Type 0} (a : ℕ → Note) (h : ℕ → Node V) (n : ℕ) → Tree a h → (a n).status ≡ Linked → InTree h n
 linked_in a h n t l = reached a h t (suc (length (h n).prefix)) n (omega arith) l
 
@@ -177,17 +178,14 @@ linked_after i x y p q f l u Gone e = elim (f.gone e) [
   | inl o ↦ inr (e, o)
   | inr o ↦ absurd (let z : Linked ≡ Gone = sym l ∙ o.0 in cc)
 ]
-linked_after i x y p q f l u Unmade e = let z : true ≡ false = sym u ∙ ap is_published e in absurd cc
-linked_after i x y p q f l u (Held j) e = let z : true ≡ false = sym u ∙ ap is_published e in absurd cc
-linked_after i x y p q f l u Back e = let z : true ≡ false = sym u ∙ ap is_published e in absurd cc
-linked_after i x y p q f l u Destroyed e = let z : true ≡ false = sym u ∙ ap is_published e in absurd cc
+linked_after i x y p q f l u _ e = let z : true ≡ false = sym u ∙ ap is_published e in absurd cc
 
 module _ {C V : Type 0} (number : C → ℕ) (same : V → V → Bool) (always : Bool) (most : ℕ) (why : NodeType → Refusal → Type 0) (i : ℕ) (a : ℕ → Note) (h : ℕ → Node V) (a' : ℕ → Note) (h' : ℕ → Node V) (ms : List (Machine C V)) (m m' : Machine C V)
     (e : slice_get ms i ≡ Some m) (w : LockWords a h) (t : Tree a h) (t' : Tree a' h') (f : (n : ℕ) → Fares i (a n) (a' n) (h n) (h' n))
     (pub_kept : (n : ℕ) → is_published (a n).status ≡ true → is_published (a' n).status ≡ true) (w' : LockWords a' h')
     (own_was : (n : ℕ) → (a n).owner ≡ Some i → LockedBy number m.phase n) (own_is : (n : ℕ) → (a' n).owner ≡ Some i → LockedBy number m'.phase n)
     (x : Known number same always i a h m.key (key_bytes m.key) m.kind m.given m.phase) (x' : Known number same always i a' h' m.key (key_bytes m.key) m.kind m'.given m'.phase)
-    (root : C) (fail : Bool) (answer : Option (Option V)) (d : Turn C V) (dm : d.phase ≡ m'.phase)
+    (root : C) (fail : Bool) (answer : Option (Option V)) (d : NextPhase C V) (dm : d.phase ≡ m'.phase)
     (g : PhaseStepped number same always most why root (key_bytes m.key) m.kind fail answer m.given m.phase h m'.given d h')
     (leaves : (c : ℕ) → IsLeaving m.phase c → IsLeaving m'.phase c) (hands : StepHands number h ms i h' (set ms i m')) where
   -- what the call has taken out after the step was taken out before, or in the tree
@@ -244,8 +242,8 @@ module _ {C V : Type 0} (number : C → ℕ) (same : V → V → Bool) (always :
     next_was (Some b) m p r (inr v) = absurd v
 
     by_phase : (s : Phase C V) → TakenBy number s n → PhaseStepped number same always most why root (key_bytes m.key) m.kind fail answer m.given s h m'.given d h' → TakenBy number d.phase c → TakenBy number s c
-    by_phase (Obsolete b next p r) y g v = let P : Turn C V → Type 0 = λ u. TakenBy number u.phase c in subst P g.2 v
-    by_phase (Retire b next p r) y g v = let P : Turn C V → Type 0 = λ u. TakenBy number u.phase c in next_was next b p r (subst P g.2 v)
+    by_phase (Obsolete b next p r) y g v = let P : NextPhase C V → Type 0 = λ u. TakenBy number u.phase c in subst P g.2 v
+    by_phase (Retire b next p r) y g v = let P : NextPhase C V → Type 0 = λ u. TakenBy number u.phase c in next_was next b p r (subst P g.2 v)
     by_phase _ y g v = absurd y
 
   -- one that is leaving, with none in its hands, takes out none
@@ -254,8 +252,8 @@ module _ {C V : Type 0} (number : C → ℕ) (same : V → V → Bool) (always :
     by_phase : (s : Phase C V) → IsLeaving s k → ((c : ℕ) → TakenBy number s c → ⊥) → PhaseStepped number same always most why root (key_bytes m.key) m.kind fail answer m.given s h m'.given d h' → TakenBy number d.phase n → ⊥
     by_phase (Obsolete b next p r) v empty g u = empty (number b) (inl refl)
     by_phase (Retire b next p r) v empty g u = empty (number b) (inl refl)
-    by_phase (Unlock b r) v empty g u = let P : Turn C V → Type 0 = λ y. TakenBy number y.phase n in subst P g.2 u
-    by_phase phase.Ended v empty g u = let P : Turn C V → Type 0 = λ y. TakenBy number y.phase n in subst P g.2 u
+    by_phase (Unlock b r) v empty g u = let P : NextPhase C V → Type 0 = λ y. TakenBy number y.phase n in subst P g.2 u
+    by_phase phase.Ended v empty g u = let P : NextPhase C V → Type 0 = λ y. TakenBy number y.phase n in subst P g.2 u
     by_phase _ v empty g u = v
 
   module _ (by took : ℕ → List ℕ) (l : Leaving by ms) (u : Due number by took ms) where
@@ -409,6 +407,7 @@ accounts number a h ms t o n s Unmade e = absurd (let z : true ≡ false = sym s
 accounts number a h ms t o n s Back e = absurd (let z : true ≡ false = sym (o.spent n (ap is_spent e)) ∙ s.kept in cc)
 accounts number a h ms t o n s Destroyed e = absurd (let z : true ≡ false = sym (o.spent n (ap is_spent e)) ∙ s.kept in cc)
 
+-- each node that stands is in the tree, waits, or is a call's between two of its steps
 pub accounted : {C V : Type 0} (number : C → ℕ) (a : ℕ → Note) (h : ℕ → Node V) (ms : List (Machine C V)) → Tree a h → Holdings number a h ms → Accounted number h ms
 accounted number a h ms t o n s = accounts number a h ms t o n s (a n).status refl
 
@@ -424,6 +423,7 @@ leaves_more {C} {V} took by h [] took1 by1 h1 s took2 by2 h2 r q b o =
     (took2, by2, h2, subst P r.0 (subst A r.2 q), subst Q r.1 (subst B r.2 b), subst R r.0 o, (refl, refl, refl))
 leaves_more took by h (x ∷ ss) took1 by1 h1 s took2 by2 h2 r q b o = (r.0, r.1, r.2, r.3, r.4, r.5, leaves_more r.0 r.1 r.2 ss took1 by1 h1 s took2 by2 h2 r.6 q b o)
 
+-- with one more step: what a run's calls took out, that they hand it over, and that no node is lost
 pub unlinking_more : {C V : Type 0} (number : C → ℕ) (by : ℕ → List ℕ) (h0 : ℕ → Node V) (ss : List (Step C V)) (h : ℕ → Node V) (ms : List (Machine C V)) (s : Step C V) (h' : ℕ → Node V) (ms' : List (Machine C V))
     (l : Leaving by ms) (hands : StepHands number h ms s.who h' ms') → StepTakes number h ms s.who h' ms' hands → Unlinking number by h0 ss h ms → Accounted number h' ms'
     → Unlinking number (hands by l).0 h0 (ss ++ s ∷ []) h' ms'
@@ -438,6 +438,7 @@ unlinking_more {C} {V} number by h0 ss h ms s h' ms' l hands takes u o =
       o,
     )
 
+-- over no steps nothing is taken out, where no call has anything that it took out
 pub unlinking_none : {C V : Type 0} (number : C → ℕ) (h : ℕ → Node V) (ms : List (Machine C V)) → ((i n : ℕ) (m : Machine C V) → slice_get ms i ≡ Some m → TakenBy number m.phase n → ⊥) → Accounted number h ms
     → Unlinking number (λ _. []) h [] h ms
 unlinking_none number h ms empty o = (

@@ -7,36 +7,34 @@ use Rattle.judge.specs.declared.journal.Call.TheVariants as call
 use Rattle.judge.specs.declared.journal.Reply.{Reply}
 use Rattle.judge.specs.declared.journal.Reply.TheVariants as reply
 use Rattle.judge.specs.Answer.{Pairs, set_at, key_of, leaves, reply_on, answer}
-use Rattle.judge.proofs.Maps.{get-set_at_here, get-set_at_apart, answer_at}
+use Rattle.judge.proofs.Laws.{get-set_at_here, get-set_at_apart, answer_at}
 use Rattle.congee.specs.declared.forms.base_node.NodeType.{NodeType}
 use Rattle.congee.specs.declared.protocol.store.Refusal.{Refusal}
 use Rattle.congee.specs.declared.protocol.phase.Kind.{Kind}
 use Rattle.congee.specs.declared.protocol.phase.Kind.TheVariants.{Get, Insert, Remove, ComputePresent, ComputeInsert, Exchange}
 use Rattle.congee.specs.declared.protocol.phase.Phase.{Phase}
 use Rattle.congee.specs.declared.protocol.phase.Phase.TheVariants.{New, Version, Read, Check, CheckUncopied, CheckMiss, CheckDown, CheckOld, MakeLeaf, MakeGreater, MakeTop, MakeBeside, MakeLesser, AskOld, AskNew, Confirm, CheckAbove, UpgradeOne, ChangeOne, UpgradeTop, UpgradeAbove, UpgradeBelow, ChangeTwo, Obsolete, Retire, UnlockBelow, Unlock, Unwind, Sweep, Ended}
-use Rattle.congee.specs.declared.protocol.turn.Turn.{Turn}
+use Rattle.congee.specs.declared.protocol.turn.NextPhase.{NextPhase}
 use Rattle.congee.specs.Heap.{Node, is_taken, version_of}
 use Rattle.congee.specs.protocol.Steps.{after_retire, quiet, answered, finished, decided, PhaseStepped}
 use Rattle.congee.specs.Keys.{key_bytes, IsMapOf}
-use Rattle.congee.specs.Ledger.{Note}
+use Rattle.congee.specs.Notes.{Note}
 use Rattle.congee.specs.protocol.Protocol.{IsCall, Known}
 use Rattle.congee.specs.protocol.Answers.{Decides, StepAnswers, reply_in}
-use Rattle.congee.specs.protocol.Play.{Question, Unasked, Asked, Replied, Flight, Pending, Decided, Over, heard, resolved, Heeds, Watched, PendingMoves, heeding, flight_in, IsOfPoint}
+use Rattle.congee.specs.protocol.Play.{Question, Unasked, Asked, Replied, Flight, Pending, Decided, Over, value_answered, resolved, Heeds, Watched, PendingMoves, heeding, flight_in, IsOfPoint}
 use Rattle.congee.proofs.lemmas.Graft.{on_test}
 use Rattle.congee.proofs.lemmas.Keys.{standing_same, standing_changed}
 use Rattle.congee.proofs.lemmas.protocol.Shapes.{Ripe, ripe_at_work, StepShape, GoesOn, Skips, Wonders, Stops, Replies, Takes, go, goes_to_work, back, at, answers, checks, reads, versions, if_taken, misses_at, halts, leaf_made, greater_made, top_made, beside_made, lesser_made, one_upgraded, top_upgraded, above_upgraded, both_upgraded, unwinds, at_old, change_shape, given_shape, given_new_shape_at}
 
 -- the call is on its key
 call_key : {V : Type 0} (k : ℕ) (kind : Kind V) (given found : Option V) (c : Call V) → IsCall k kind given found c → key_of c ≡ k
-call_key k Get given found c e = ap key_of e
 call_key k Insert None found c e = absurd e
 call_key k Insert (Some v) found c e = ap key_of e
-call_key k Remove given found c e = ap key_of e
 call_key k ComputePresent given None c e = ap key_of e
 call_key k ComputePresent given (Some v) c e = ap key_of e
 call_key k ComputeInsert None found c e = absurd e
 call_key k ComputeInsert (Some v) found c e = ap key_of e
-call_key k (Exchange old) given found c e = ap key_of e
+call_key k _ given found c e = ap key_of e
 
 -- a step that decides answers as the finite map that stands
 record Answered {V : Type 0} (same : V → V → Bool) (k : ℕ) (kind : Kind V) (given : Option V) (m : Pairs V) (r : Reply V) (h' : ℕ → Node V) : Type 0 where
@@ -87,13 +85,13 @@ heeds {V} same k ComputeInsert (Some v) found c q r i e f =
 heeds same k (Exchange x) given found c q r i e f = tt
 
 module _ {C V : Type 0} (same : V → V → Bool) (k : ℕ) (kind : Kind V) (v v1 v' : Option V) (q : Question V) (h h' : ℕ → Node V) (m : Pairs V) (p : k < 2 ^ 64) (s : IsMapOf h m) where
-  abbrev pub Out : Turn C V → Type 0
+  abbrev pub Out : NextPhase C V → Type 0
   Out t = (m' : Pairs V) × IsMapOf h' m' × PendingMoves same k kind v1 q m t.report.decided t.report.outcome (flight_in k kind v' t.phase) m'
 
-  abbrev pub Then : Turn C V → Type 0
+  abbrev pub Then : NextPhase C V → Type 0
   Then t = StepAnswers same k kind v h t h' → Out t
 
-  replied : (r : Reply V) (t : Turn C V) → t ≡ answered r → v1 ≡ v → Ripe r q → Then t
+  replied : (r : Reply V) (t : NextPhase C V) → t ≡ answered r → v1 ≡ v → Ripe r q → Then t
   replied r t u o f = subst Then (sym u) (λ x.
       let e : Some r ≡ Some x.0 = x.1 in
       let y : Answered same k kind v m x.0 h' = answered_on same k kind v h x.0 h' m p x.2 s in
@@ -109,7 +107,7 @@ module _ {C V : Type 0} (same : V → V → Bool) (k : ℕ) (kind : Kind V) (v v
       let rr : r ≡ x.0 = cc in
       (y.next, y.stands, (y.call, x.0, subst P (sym o) y.is_call, heeds same k kind v (get m k) y.call q r y.is_call (y.reply ∙ sym rr) fa, y.answer, f ∙ ap Decided rr))
 
-  pub from_shape : (t : Turn C V) → StepShape k kind v v1 v' q t → StepAnswers same k kind v h t h' → Out t
+  pub from_shape : (t : NextPhase C V) → StepShape k kind v v1 v' q t → StepAnswers same k kind v h t h' → Out t
   from_shape t (GoesOn st q' e f c) = subst Then (sym e) (λ x. (m, standing_same h h' m x s, ((q', c, f), refl)))
   from_shape t (Skips st q' e f c) = subst Then (sym e) (λ x. (m, standing_same h h' m x s, ((q', c, f), refl)))
   from_shape t (Wonders st o e w f) = subst Then (sym e) (λ x. (m, standing_same h h' m x s, ((w, f), refl)))
@@ -119,22 +117,22 @@ module _ {C V : Type 0} (same : V → V → Bool) (k : ℕ) (kind : Kind V) (v v
 
 module _ {C V : Type 0} (same : V → V → Bool) (k : ℕ) (kind : Kind V) (v v1 v' : Option V) (h h' : ℕ → Node V) (m : Pairs V) (p : k < 2 ^ 64) (s : IsMapOf h m) where
   -- a call that took effect goes on with its reply
-  pub settled : (r : Reply V) (st : Phase C V) (t : Turn C V) → t ≡ quiet st → flight_in k kind v' st ≡ Decided r → StepAnswers same k kind v h t h'
+  pub settled : (r : Reply V) (st : Phase C V) (t : NextPhase C V) → t ≡ quiet st → flight_in k kind v' st ≡ Decided r → StepAnswers same k kind v h t h'
       → (m' : Pairs V) × IsMapOf h' m' × Watched same (Decided r) m None t.report (flight_in k kind v' t.phase) m'
   settled r st t e f =
-      let P : Turn C V → Type 0 = λ z. StepAnswers same k kind v h z h' → (m' : Pairs V) × IsMapOf h' m' × Watched same (Decided r) m None z.report (flight_in k kind v' z.phase) m' in
+      let P : NextPhase C V → Type 0 = λ z. StepAnswers same k kind v h z h' → (m' : Pairs V) × IsMapOf h' m' × Watched same (Decided r) m None z.report (flight_in k kind v' z.phase) m' in
       subst P (sym e) (λ x. (m, standing_same h h' m x s, (refl, f, refl)))
 
-  pub ends : (r : Reply V) (t : Turn C V) → t ≡ finished r → StepAnswers same k kind v h t h'
+  pub ends : (r : Reply V) (t : NextPhase C V) → t ≡ finished r → StepAnswers same k kind v h t h'
       → (m' : Pairs V) × IsMapOf h' m' × Watched same (Decided r) m None t.report (flight_in k kind v' t.phase) m'
   ends r t e =
-      let P : Turn C V → Type 0 = λ z. StepAnswers same k kind v h z h' → (m' : Pairs V) × IsMapOf h' m' × Watched same (Decided r) m None z.report (flight_in k kind v' z.phase) m' in
+      let P : NextPhase C V → Type 0 = λ z. StepAnswers same k kind v h z h' → (m' : Pairs V) × IsMapOf h' m' × Watched same (Decided r) m None z.report (flight_in k kind v' z.phase) m' in
       subst P (sym e) (λ x. (m, standing_same h h' m x s, (refl, (refl, refl), refl)))
 
-  pub rests : (t : Turn C V) → t ≡ quiet Ended → StepAnswers same k kind v h t h'
+  pub rests : (t : NextPhase C V) → t ≡ quiet Ended → StepAnswers same k kind v h t h'
       → (m' : Pairs V) × IsMapOf h' m' × Watched same Over m None t.report (flight_in k kind v' t.phase) m'
   rests t e =
-      let P : Turn C V → Type 0 = λ z. StepAnswers same k kind v h z h' → (m' : Pairs V) × IsMapOf h' m' × Watched same Over m None z.report (flight_in k kind v' z.phase) m' in
+      let P : NextPhase C V → Type 0 = λ z. StepAnswers same k kind v h z h' → (m' : Pairs V) × IsMapOf h' m' × Watched same Over m None z.report (flight_in k kind v' z.phase) m' in
       subst P (sym e) (λ x. (m, standing_same h h' m x s, (refl, refl, refl)))
 
 -- no question is open
@@ -144,24 +142,20 @@ Closed (Asked o) = ⊥
 Closed (Replied o) = Unit {0}
 
 closed : {V : Type 0} (r : Reply V) → Closed (heeding r)
-closed (reply.Get x) = tt
-closed (reply.Insert x) = tt
-closed (reply.Remove x) = tt
 closed (reply.ComputePresent None) = tt
 closed (reply.ComputePresent (Some x)) = tt
-closed (reply.ComputeInsert x) = tt
-closed (reply.Exchange x) = tt
+closed _ = tt
 
 module _ {C V : Type 0} (number : C → ℕ) (same : V → V → Bool) (always : Bool) (most : ℕ) (why : NodeType → Refusal → Type 0) (i : ℕ) (a : ℕ → Note) (h : ℕ → Node V) (root : C) (k : ℕ) (kind : Kind V)
-    (fail : Bool) (told : Option (Option V)) (v v' : Option V) (t : Turn C V) (h' : ℕ → Node V) (p : k < 2 ^ 64) (m : Pairs V) (st : IsMapOf h m) where
+    (fail : Bool) (told : Option (Option V)) (v v' : Option V) (t : NextPhase C V) (h' : ℕ → Node V) (p : k < 2 ^ 64) (m : Pairs V) (st : IsMapOf h m) where
   abbrev pub Next : Flight V → Type 0
   Next f = (m' : Pairs V) × IsMapOf h' m' × Watched same f m told t.report (flight_in k kind v' t.phase) m'
 
   by_shape : StepAnswers same k kind v h t h' → StepShape k kind v v v' Unasked t → Next (Pending k kind v Unasked)
   by_shape n x = from_shape same k kind v v v' Unasked h h' m p st t x n
 
-  by_answer : (o : Option V) → StepAnswers same k kind v h t h' → StepShape k kind v (heard kind (Asked o) told v) v' (resolved kind (Asked o) told) t → Next (Pending k kind v (Asked o))
-  by_answer o n x = from_shape same k kind v (heard kind (Asked o) told v) v' (resolved kind (Asked o) told) h h' m p st t x n
+  by_answer : (o : Option V) → StepAnswers same k kind v h t h' → StepShape k kind v (value_answered kind (Asked o) told v) v' (resolved kind (Asked o) told) t → Next (Pending k kind v (Asked o))
+  by_answer o n x = from_shape same k kind v (value_answered kind (Asked o) told v) v' (resolved kind (Asked o) told) h h' m p st t x n
 
   -- a call at work on its value, with its closure's answer or without a closure
   by_state : (q : Question V) → Closed q → StepAnswers same k kind v h t h' → StepShape k kind v v v' q t → Next (Pending k kind v q)

@@ -5,10 +5,10 @@ use Rattle.std.specs.Bool.{MatchBool}
 use Rattle.std.proofs.lemmas.Bool.{true≢false, eq-eqb, lt-ltb, ltb-true}
 use Rattle.std.proofs.lemmas.Bool.Decides.{nat_tests}
 use Rattle.std.proofs.lemmas.List.{nil_from_length}
-use Rattle.crossbeam_epoch.specs.declared.face.guard.Seat.{Seat}
+use Rattle.crossbeam_epoch.specs.declared.face.guard.Row.{Row}
 use Rattle.crossbeam_epoch.specs.declared.face.queue.Queued.{Queued}
 use Rattle.crossbeam_epoch.specs.declared.face.seats.View.{View}
-use Rattle.crossbeam_epoch.specs.declared.bag.Entry.{Entry}
+use Rattle.crossbeam_epoch.specs.declared.bag.Deferral.{Deferral}
 use Rattle.crossbeam_epoch.specs.Face.Handle.{owns, with_room, SealsUnder}
 use Rattle.crossbeam_epoch.specs.Face.Participant.{IsPinned}
 use Rattle.crossbeam_epoch.specs.Limits.{bag_places}
@@ -18,9 +18,11 @@ use Rattle.crossbeam_epoch.specs.Face.Tokens.{with_guards, pinned_view}
 out_is : (n : ℕ) → 0 < n → nat_lt 0 n ≡ true
 out_is n out = lt-ltb 0 n out
 
+-- with a guard out, one more changes nothing that a handle knows
 pub more_guards : (n p a e s d : ℕ) → n ≢ 0 → with_guards (n + 1) p a e s d ≡ with_guards n p a e s d
 more_guards n p a e s d some = let x = out_is n (omega (arith, some)) in let y = out_is (n + 1) (omega arith) in rw (x, y) refl
 
+-- with guards out a handle's word is pinned by its epoch, and with none it is unpinned
 pub guarded : (n p a e s d : ℕ) (v : View) → v ≡ with_guards n p a e s d → IsPinned n e v
 guarded n p a e s d v is = go (nat_lt 0 n) refl
   where
@@ -29,9 +31,9 @@ guarded n p a e s d v is = go (nat_lt 0 n) refl
     go false h = let i = rw h at is in rw h (ap (λ (w : View). w.at) i, ap (λ (w : View). w.pin) i)
 
 -- a handle owns a guard of its place, with one guard out or more
-pub owns_own : (n : ℕ) (mine guard : Seat) → guard ≡ mine → owns (n + 1) mine guard ≡ true
+pub owns_own : (n : ℕ) (mine guard : Row) → guard ≡ mine → owns (n + 1) mine guard ≡ true
 owns_own n mine guard is = let out = out_is (n + 1) (omega arith) in
-    rw (out, ap (λ (x : Seat). x.collector) is, ap (λ (x : Seat). x.place) is, eq-eqb mine.collector mine.collector refl, eq-eqb mine.place mine.place refl) refl
+    rw (out, ap (λ (x : Row). x.collector) is, ap (λ (x : Row). x.place) is, eq-eqb mine.collector mine.collector refl, eq-eqb mine.place mine.place refl) refl
 
 -- a scan changes nothing but what was seen and passed
 pub scanned_with : (n p a e s d x q : ℕ) (v w : View) → v ≡ with_guards n p a e s d → w ≡ record v { seen = x; passed = q } → w ≡ with_guards n p a e w.seen w.passed
@@ -54,6 +56,7 @@ read_under n p a e s d x m f v is read same one out = let h = out_is n (omega (a
 pub while_out : (n : ℕ) (A B : Type 0) → 0 < n → A → MatchBool (nat_lt 0 n) A B
 while_out n A B out a = let h = out_is n out in rw h a
 
+-- what holds where no guard is out
 pub with_none_out : (n : ℕ) (A B : Type 0) → ¬ (0 < n) → B → MatchBool (nat_lt 0 n) A B
 with_none_out n A B none b = go (nat_lt 0 n) refl
   where
@@ -61,10 +64,12 @@ with_none_out n A B none b = go (nat_lt 0 n) refl
     go true h = absurd (none (ltb-true 0 n h))
     go false h = rw h b
 
+-- what follows from what is told of a success is told of it too
 pub on_ok : {A E : Type 0} {P Q : Type 0} (r : Result A E) → (P → Q) → OnOk r P → OnOk r Q
 on_ok (Ok a) f p = f p
 on_ok (Err e) f p = tt
 
+-- what follows from what is told of an error is told of it too
 pub if_err : {A E : Type 0} {P Q : E → Type 0} (r : Result A E) → ((e : E) → P e → Q e) → IfErr r P → IfErr r Q
 if_err (Ok a) f p = tt
 if_err (Err e) f p = f e p
@@ -73,6 +78,7 @@ if_err (Err e) f p = f e p
 pub sealed_now : (b : Bool) (q r : ℕ) (before : Option Queued) (bag : Queued) → b ≡ true → bag.seal ≡ r → (q ≤ r) × (r ≤ q + 1) → SealsUnder b q before (Some bag)
 sealed_now b q r before bag sealed same within = rw sealed (subst (λ (s : ℕ). (q ≤ s) × (s ≤ q + 1)) (sym same) within)
 
+-- no bag was sealed, and the last seal is the one before
 pub not_sealed : (b : Bool) (q : ℕ) (before : Option Queued) → b ≡ false → SealsUnder b q before before
 not_sealed b q before none = rw none refl
 
@@ -96,18 +102,19 @@ pub some_job : (n : ℕ) (b : Bool) → b ≡ nat_eq n 0 → b ≡ false → 0 <
 some_job n b is none = let h : nat_eq n 0 ≡ false = sym is ∙ none in grind (arith, nat_tests, h)
 
 -- an empty bag holds none
-pub no_job : {J : Type 0} (bag : List (Entry J)) (b : Bool) → b ≡ nat_eq (length bag) 0 → b ≡ true → bag ≡ []
+pub no_job : {J : Type 0} (bag : List (Deferral J)) (b : Bool) → b ≡ nat_eq (length bag) 0 → b ≡ true → bag ≡ []
 no_job bag b is none = let h : nat_eq (length bag) 0 ≡ true = sym is ∙ none in nil_from_length bag (grind (arith, nat_tests, h))
 
 -- a bag that isn't full has a free place, and no other bag is made for it
-pub has_room : {J : Type 0} (bag : List (Entry J)) (b : Bool) → b ≡ nat_eq (length bag) bag_places → length bag ≤ bag_places → b ≡ false → (bag ≡ with_room bag) × (nat_le bag_places (length bag) ≡ false)
+pub has_room : {J : Type 0} (bag : List (Deferral J)) (b : Bool) → b ≡ nat_eq (length bag) bag_places → length bag ≤ bag_places → b ≡ false → (bag ≡ with_room bag) × (nat_le bag_places (length bag) ≡ false)
 has_room bag b is fits free =
     let h : nat_eq (length bag) bag_places ≡ false = sym is ∙ free in
     let x : nat_lt (length bag) bag_places ≡ true = grind (arith, nat_tests, h, fits) in
     let y : nat_le bag_places (length bag) ≡ false = grind (arith, nat_tests, h, fits) in
     (rw x refl, y)
 
-pub has_no_room : {J : Type 0} (bag : List (Entry J)) (b : Bool) → b ≡ nat_eq (length bag) bag_places → b ≡ true → (bag_places ≤ length bag) × ([] ≡ with_room bag)
+-- a full bag has no free place, and an empty one is the bag that has
+pub has_no_room : {J : Type 0} (bag : List (Deferral J)) (b : Bool) → b ≡ nat_eq (length bag) bag_places → b ≡ true → (bag_places ≤ length bag) × ([] ≡ with_room bag)
 has_no_room bag b is full =
     let h : nat_eq (length bag) bag_places ≡ true = sym is ∙ full in
     let low : bag_places ≤ length bag = grind (arith, nat_tests, h) in
@@ -118,6 +125,7 @@ has_no_room bag b is full =
 pub pinned_with : (n p a e : ℕ) (v : View) → 0 < n → v ≡ pinned_view p a e e 0 → v ≡ with_guards n p a e v.seen v.passed
 pinned_with n p a e v out is = let h = out_is n out in rw h (subst (λ (u : View). u ≡ pinned_view p a e u.seen u.passed) (sym is) refl)
 
+-- what holds where one guard alone is out
 pub where_alone : (n : ℕ) (A B : Type 0) → n ≡ 1 → A → MatchBool (nat_eq n 1) A B
 where_alone n A B one a = let h : nat_eq n 1 ≡ true = grind (arith, nat_tests, one) in rw h a
 
@@ -125,16 +133,17 @@ where_alone n A B one a = let h : nat_eq n 1 ≡ true = grind (arith, nat_tests,
 pub own_guard : (b : Bool) (A B : Type 0) → b ≡ true → A → MatchBool b A B
 own_guard b A B own a = rw own a
 
+-- what holds where a guard isn't the handle's own
 pub other_guard : (b : Bool) (A B : Type 0) → b ≡ false → B → MatchBool b A B
 other_guard b A B other x = rw other x
 
 -- a guard of a handle is still its own where the handle has the seat and the number of guards that it had
-pub still_own : (n m : ℕ) (mine was guard : Seat) → n ≡ m → mine ≡ was → owns m was guard ≡ true → owns n mine guard ≡ false → ⊥
-still_own n m mine was guard same place own other = true≢false (sym own ∙ sym (ap (λ (k : ℕ). owns k was guard) same) ∙ sym (ap (λ (x : Seat). owns n x guard) place) ∙ other)
+pub still_own : (n m : ℕ) (mine was guard : Row) → n ≡ m → mine ≡ was → owns m was guard ≡ true → owns n mine guard ≡ false → ⊥
+still_own n m mine was guard same place own other = true≢false (sym own ∙ sym (ap (λ (k : ℕ). owns k was guard) same) ∙ sym (ap (λ (x : Row). owns n x guard) place) ∙ other)
 
 -- the bag that has a free place has one
-pub with_place : {J : Type 0} (b w : List (Entry J)) → w ≡ with_room b → length w < bag_places
-with_place {J} b w is = subst (λ (x : List (Entry J)). length x < bag_places) (sym is) (go (nat_lt (length b) bag_places) refl)
+pub with_place : {J : Type 0} (b w : List (Deferral J)) → w ≡ with_room b → length w < bag_places
+with_place {J} b w is = subst (λ (x : List (Deferral J)). length x < bag_places) (sym is) (go (nat_lt (length b) bag_places) refl)
   where
     go : (c : Bool) → nat_lt (length b) bag_places ≡ c → length (with_room b) < bag_places
     go true h = rw h (ltb-true (length b) bag_places h)

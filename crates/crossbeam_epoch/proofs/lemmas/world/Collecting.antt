@@ -6,7 +6,7 @@ use Rattle.std.proofs.lemmas.Bool.{cases_eq, cases_lt}
 use Rattle.std.proofs.lemmas.Bool.Decides.{nat_tests}
 use Rattle.std.proofs.lemmas.List.{length_push}
 use Rattle.std.proofs.lemmas.List.Elements.{Contains-push_cases, Contains-get_or}
-use Rattle.crossbeam_epoch.specs.declared.bag.Entry.{Entry}
+use Rattle.crossbeam_epoch.specs.declared.bag.Deferral.{Deferral}
 use Rattle.crossbeam_epoch.specs.declared.bag.Sealed.{Sealed}
 use Rattle.crossbeam_epoch.specs.declared.world.participant.Participant.{Participant}
 use Rattle.crossbeam_epoch.specs.declared.world.participant.Phase.{Phase}
@@ -25,7 +25,7 @@ abbrev pub next_epoch : ℕ → ℕ → ℕ
 next_epoch epoch most = if nat_lt epoch most then epoch + 1 else epoch
 
 -- pinned at that epoch by one guard, with this bag
-pub record IsHeld {J : Type 0} (epoch : ℕ) (bag : List (Entry J)) (p : Participant J) : Type 0 where
+pub record IsHeld {J : Type 0} (epoch : ℕ) (bag : List (Deferral J)) (p : Participant J) : Type 0 where
   pub word : p.word ≡ Some epoch
   pub one : p.guards ≡ 1
   pub jobs : p.bag ≡ bag
@@ -39,7 +39,7 @@ pub record IsTaking {J : Type 0} (expiry answered count : ℕ) (queue queue' : L
   pub due : (b : Sealed J) → Contains taken b → b.seal + expiry ≤ answered
 
 -- where a collection stands of a round in which the epoch goes from `old` to `new`, which found this queue and this bag
-abbrev pub CollectAt : {J : Type 0} → (old new who expiry : ℕ) → List (Sealed J) → List (Entry J) → ℕ → List (Sealed J) → Participant J → Phase → Type 0
+abbrev pub CollectAt : {J : Type 0} → (old new who expiry : ℕ) → List (Sealed J) → List (Deferral J) → ℕ → List (Sealed J) → Participant J → Phase → Type 0
 CollectAt old new who expiry found bag epoch queue p Load = IsHeld old bag p × IsNear old new epoch × (queue ≡ found)
 CollectAt old new who expiry found bag epoch queue p (Inspect seen at) = IsHeld old bag p × IsNear old new epoch × (queue ≡ found) × (seen ≡ epoch) × (who < at → seen ≡ old)
 CollectAt old new who expiry found bag epoch queue p (Advance seen) = IsHeld old bag p × (queue ≡ found) × (epoch ≡ old) × (seen ≡ old)
@@ -74,7 +74,7 @@ on_by_none seen old new most e same is =
     omega arith
 
 module _ {J : Type 0} where
-  held : (epoch : ℕ) (bag : List (Entry J)) (p : Participant J) (hand : List (Entry J)) (phase : Phase) → IsHeld epoch bag p → IsHeld epoch bag (record p { hand = hand; phase = phase })
+  held : (epoch : ℕ) (bag : List (Deferral J)) (p : Participant J) (hand : List (Deferral J)) (phase : Phase) → IsHeld epoch bag p → IsHeld epoch bag (record p { hand = hand; phase = phase })
   held epoch bag p hand phase h = record { word = h.word; one = h.one; jobs = h.jobs }
 
   pub none_taken : (expiry answered : ℕ) (queue queue' : List (Sealed J)) → queue' ≡ queue → IsTaking expiry answered 0 queue queue'
@@ -112,7 +112,7 @@ module _ {J : Type 0} where
     | inr ge ↦ inl (omega arith)
   ]
 
-module _ {T J : Type 0} (old new who expiry : ℕ) (found : List (Sealed J)) (bag : List (Entry J)) where
+module _ {T J : Type 0} (old new who expiry : ℕ) (found : List (Sealed J)) (bag : List (Deferral J)) where
   -- where the participant's collection stands
   abbrev pub Collects : State T J → Type 0
   Collects now = CollectAt old new who expiry found bag now.epoch now.queue (place now who) (place now who).phase
@@ -173,7 +173,7 @@ module _ {T J : Type 0} (old new who expiry : ℕ) (found : List (Sealed J)) (ba
       put (called_one now who answered bags seal) now.table (record (place now who) { hand = rest; phase = after_call (length rest) answered bags seal }) refl lt
       (after_one rest (nat_lt 0 (length rest)) (nat_lt bags 8) refl refl)
     where
-      after_one : (rest : List (Entry J)) (more room : Bool) → nat_lt 0 (length rest) ≡ more → nat_lt bags 8 ≡ room
+      after_one : (rest : List (Deferral J)) (more room : Bool) → nat_lt 0 (length rest) ≡ more → nat_lt bags 8 ≡ room
           → CollectAt old new who expiry found bag now.epoch now.queue (record (place now who) { hand = rest; phase = if more then Call answered bags seal else if room then Take answered bags else Idle }) (if more then Call answered bags seal else if room then Take answered bags else Idle)
       after_one rest true room m r = (held old bag (place now who) rest (Call answered bags seal) c.0, c.1, c.2, c.3, grind (arith, nat_tests))
       after_one rest false true m r = (held old bag (place now who) rest (Take answered bags) c.0, c.1, c.2, c.3)

@@ -7,7 +7,7 @@ use Rattle.std.proofs.lemmas.Bool.Decides.{nat_tests}
 use Rattle.std.proofs.lemmas.List.{get_or_past}
 use Rattle.std.proofs.lemmas.List.Sums.{sum_by-append}
 use Rattle.std.proofs.lemmas.List.Elements.{Contains-append_cases}
-use Rattle.crossbeam_epoch.specs.declared.bag.Entry.{Entry}
+use Rattle.crossbeam_epoch.specs.declared.bag.Deferral.{Deferral}
 use Rattle.crossbeam_epoch.specs.declared.bag.Work.TheVariants.{Remove}
 use Rattle.crossbeam_epoch.specs.declared.names.Name.{Name}
 use Rattle.crossbeam_epoch.specs.declared.world.participant.Participant.{Participant}
@@ -16,7 +16,7 @@ use Rattle.crossbeam_epoch.specs.World.Ending.{registered_below, registered_in, 
 use Rattle.crossbeam_epoch.specs.World.Fits.{Fits, IsTable, at_place, in_bag, has_ticket, one}
 use Rattle.crossbeam_epoch.specs.World.History.{Mark, Called, began, blocks, times_called, IsGraceful, AreCalledLater, WasDeferred}
 use Rattle.crossbeam_epoch.specs.World.Machine.{State, place, blank, destroys, after_work}
-use Rattle.crossbeam_epoch.specs.World.Reach.{Moment, marks_of, Tells}
+use Rattle.crossbeam_epoch.specs.World.Reach.{Moment, marks_of, HasMoments}
 use Rattle.crossbeam_epoch.specs.World.Store.{Store}
 use Rattle.crossbeam_epoch.specs.World.Tickets.{TicketCount}
 use Rattle.crossbeam_epoch.proofs.lemmas.world.Jobs.{began_blocking, destroys_named}
@@ -42,7 +42,7 @@ given_is t next waiting e f = λ k. record { next = e k; waiting = f k }
 
 module _ {J : Type 0} where
   -- blank places have no job
-  blanks_weigh_none : (f : Entry J → ℕ) (table : List (Participant J)) → ((q : ℕ) → get_or table q blank ≡ blank) → sum_by (at_place f) table ≡ 0
+  blanks_weigh_none : (f : Deferral J → ℕ) (table : List (Participant J)) → ((q : ℕ) → get_or table q blank ≡ blank) → sum_by (at_place f) table ≡ 0
   blanks_weigh_none f [] blanks = refl
   blanks_weigh_none f (p ∷ table) blanks =
       let first : at_place f p ≡ 0 = ap (at_place f) (blanks 0) in
@@ -50,16 +50,16 @@ module _ {J : Type 0} where
       omega (arith, first, rest, sum_cons (at_place f) p table)
 
   -- the jobs of all bags weigh what the bags weigh
-  jobs_weigh : (f : Entry J → ℕ) (queue : List (Sealed J)) → sum_by (in_bag f) queue ≡ sum_by f (jobs_of queue)
+  jobs_weigh : (f : Deferral J → ℕ) (queue : List (Sealed J)) → sum_by (in_bag f) queue ≡ sum_by f (jobs_of queue)
   jobs_weigh f [] = refl
   jobs_weigh f (b ∷ queue) = omega (arith, sum_by-append f b.jobs (jobs_of queue), jobs_weigh f queue, sum_cons (in_bag f) b queue)
 
-  all_one : (jobs : List (Entry J)) → sum_by one jobs ≡ length jobs
+  all_one : (jobs : List (Deferral J)) → sum_by one jobs ≡ length jobs
   all_one [] = refl
   all_one (e ∷ jobs) = omega (arith, all_one jobs, sum_cons one e jobs)
 
   -- a job that is left stands in some bag
-  in_some_bag : (queue : List (Sealed J)) (e : Entry J) → Contains (jobs_of queue) e → (b : Sealed J) × Contains queue b × Contains b.jobs e
+  in_some_bag : (queue : List (Sealed J)) (e : Deferral J) → Contains (jobs_of queue) e → (b : Sealed J) × Contains queue b × Contains b.jobs e
   in_some_bag [] e m = absurd (none_in e m)
   in_some_bag (b ∷ queue) e m = elim (Contains-append_cases b.jobs (jobs_of queue) e m) [
     | inl here ↦ (b, contains_head b queue, here)
@@ -83,15 +83,15 @@ module _ {T J : Type 0} where
     | inr ge ↦ get_or_past s.table q blank ge
   ]
 
-  calls_over : (st : Store T) (jobs : List (Entry J)) (h : List Mark) (t : ℕ) → times_called (history_of_calls st jobs h) t ≡ sum_by (has_ticket t) jobs + times_called h t
+  calls_over : (st : Store T) (jobs : List (Deferral J)) (h : List Mark) (t : ℕ) → times_called (history_of_calls st jobs h) t ≡ sum_by (has_ticket t) jobs + times_called h t
   calls_over st [] h t = omega arith
   calls_over st (e ∷ jobs) h t = let rest = calls_over (after_work st e.work) jobs (Called e.ticket (destroys st e.work) ∷ h) t in omega (arith, rest, sum_cons (has_ticket t) e jobs)
 
-  graceful_over : (st : Store T) (jobs : List (Entry J)) (h : List Mark) → ((q t : ℕ) → blocks h q t ≡ false) → IsGraceful h → IsGraceful (history_of_calls st jobs h)
+  graceful_over : (st : Store T) (jobs : List (Deferral J)) (h : List Mark) → ((q t : ℕ) → blocks h q t ≡ false) → IsGraceful h → IsGraceful (history_of_calls st jobs h)
   graceful_over st [] h free g = g
   graceful_over st (e ∷ jobs) h free g = graceful_over (after_work st e.work) jobs (Called e.ticket (destroys st e.work) ∷ h) free ((λ q. free q e.ticket), g)
 
-  later_over : (st : Store T) (jobs : List (Entry J)) (h : List Mark) → ((e : Entry J) (n : Name) → Contains jobs e → e.work ≡ Remove n → WasDeferred h e.ticket n) → AreCalledLater h → AreCalledLater (history_of_calls st jobs h)
+  later_over : (st : Store T) (jobs : List (Deferral J)) (h : List Mark) → ((e : Deferral J) (n : Name) → Contains jobs e → e.work ≡ Remove n → WasDeferred h e.ticket n) → AreCalledLater h → AreCalledLater (history_of_calls st jobs h)
   later_over st [] h named l = l
   later_over st (e ∷ jobs) h named l =
       later_over (after_work st e.work) jobs (Called e.ticket (destroys st e.work) ∷ h) (λ x n m is. named x n (contains_tail e jobs x m) is)
@@ -105,31 +105,31 @@ module _ {T J : Type 0} where
   }
 
   -- the jobs that wait are those of the queue
-  pub ended_count : (names : T → List Name) (h : List Moment) (s : State T J) → registered_in s ≡ 0 → Tells names h s → length (jobs_of s.queue) ≡ s.waiting
+  pub ended_count : (names : T → List Name) (h : List Moment) (s : State T J) → registered_in s ≡ 0 → HasMoments names h s → length (jobs_of s.queue) ≡ s.waiting
   ended_count names h s none t =
       let f = t.fits in
       let blanks : (q : ℕ) → place s q ≡ blank = λ q. all_blank s q t.table none in
       omega (arith, f.once.count, blanks_weigh_none one s.table blanks, jobs_weigh one s.queue, all_one (jobs_of s.queue))
 
-  pub tells_ended : (names : T → List Name) (h : List Moment) (s : State T J) → registered_in s ≡ 0 → Tells names h s → IsEnded (history_of_calls s.store (jobs_of s.queue) (marks_of h)) s.next
+  pub tells_ended : (names : T → List Name) (h : List Moment) (s : State T J) → registered_in s ≡ 0 → HasMoments names h s → IsEnded (history_of_calls s.store (jobs_of s.queue) (marks_of h)) s.next
   tells_ended names h s none t = fits_ended (marks_of h) s (λ q. all_blank s q t.table none) t.fits
 
 not_empty : (n : ℕ) → false ≡ (n == 0) → 0 < n
 not_empty n e = grind (arith, nat_tests)
 
 module _ {J : Type 0} where
-  pub some_jobs : (jobs : List (Entry J)) → false ≡ (length jobs == 0) → 0 < length jobs
+  pub some_jobs : (jobs : List (Deferral J)) → false ≡ (length jobs == 0) → 0 < length jobs
   some_jobs jobs e = not_empty (length jobs) e
 
-  pub one_less : (jobs : List (Entry J)) (n : ℕ) → 0 < length jobs → n - 1 - length (remove jobs 0) ≡ n - length jobs
+  pub one_less : (jobs : List (Deferral J)) (n : ℕ) → 0 < length jobs → n - 1 - length (remove jobs 0) ≡ n - length jobs
   one_less [] n lt = absurd (omega arith)
   one_less (x ∷ jobs) n lt = omega arith
 
-  pub fewer : (jobs : List (Entry J)) → 0 < length jobs → length (remove jobs 0) < length jobs
+  pub fewer : (jobs : List (Deferral J)) → 0 < length jobs → length (remove jobs 0) < length jobs
   fewer [] lt = absurd (omega arith)
   fewer (x ∷ jobs) lt = omega arith
 
-  pub no_jobs : (jobs : List (Entry J)) → true ≡ (length jobs == 0) → jobs ≡ []
+  pub no_jobs : (jobs : List (Deferral J)) → true ≡ (length jobs == 0) → jobs ≡ []
   no_jobs [] e = refl
   no_jobs (x ∷ jobs) e = absurd (grind (arith, nat_tests))
 
@@ -146,12 +146,12 @@ module _ {J : Type 0} where
 
 module _ {T J : Type 0} where
   -- the first of some jobs is called, and then the others
-  pub first_after : (st : Store T) (jobs : List (Entry J)) (e : Entry J) → 0 < length jobs → e ≡ get_or jobs 0 e → after_jobs (after_work st e.work) (remove jobs 0) ≡ after_jobs st jobs
+  pub first_after : (st : Store T) (jobs : List (Deferral J)) (e : Deferral J) → 0 < length jobs → e ≡ get_or jobs 0 e → after_jobs (after_work st e.work) (remove jobs 0) ≡ after_jobs st jobs
   first_after st [] e lt is = absurd (omega arith)
-  first_after st (x ∷ jobs) e lt is = ap (λ (y : Entry J). after_jobs (after_work st y.work) jobs) is
+  first_after st (x ∷ jobs) e lt is = ap (λ (y : Deferral J). after_jobs (after_work st y.work) jobs) is
 
   -- two lists of jobs, one after the other
-  after_both : (st : Store T) (xs ys : List (Entry J)) → after_jobs st (xs ++ ys) ≡ after_jobs (after_jobs st xs) ys
+  after_both : (st : Store T) (xs ys : List (Deferral J)) → after_jobs st (xs ++ ys) ≡ after_jobs (after_jobs st xs) ys
   after_both st [] ys = refl
   after_both st (x ∷ xs) ys = after_both (after_work st x.work) xs ys
 

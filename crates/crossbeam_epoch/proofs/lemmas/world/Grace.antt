@@ -4,7 +4,7 @@ use Rattle.std.specs.Prelude.{slice_set, if◌then◌else◌, nat_lt}
 use Rattle.std.specs.List.{Contains, sum_by}
 use Rattle.std.proofs.lemmas.Bool.{cases_eq}
 use Rattle.std.proofs.lemmas.List.Sums.{sum_by-set}
-use Rattle.crossbeam_epoch.specs.declared.bag.Entry.{Entry}
+use Rattle.crossbeam_epoch.specs.declared.bag.Deferral.{Deferral}
 use Rattle.crossbeam_epoch.specs.declared.world.participant.Participant.{Participant}
 use Rattle.crossbeam_epoch.specs.declared.bag.Sealed.{Sealed}
 use Rattle.crossbeam_epoch.specs.declared.world.participant.Phase.{Phase}
@@ -15,6 +15,7 @@ use Rattle.crossbeam_epoch.specs.World.Store.{Store}
 use Rattle.crossbeam_epoch.specs.World.Fits.{Fits, FitsAt, InPhase, IsSealed, IsCollecting, Bounds, AreAccepted, Once, at_place, in_bag, has_ticket, one}
 use Rattle.crossbeam_epoch.proofs.lemmas.world.Marks.{Goes}
 
+-- word and stretch keep their bounds at a later epoch, by one past the stretch's beginning at most
 pub bounds_later : (b w : Option ℕ) (n m : ℕ) → Bounds b w n → n ≤ m → ((e : ℕ) → b ≡ Some e → m ≤ e + 1) → Bounds b w m
 bounds_later None None n m o le top = tt
 bounds_later (Some b) (Some w) n m o le top = let t = top b refl in (o.0, omega arith, t)
@@ -36,13 +37,13 @@ collecting_goes h h' epoch epoch' next who p seen passed c g ne le = record {
 }
 
 module _ {J : Type 0} where
-  pub accepted_goes : (h h' : List Mark) (epoch next next' who : ℕ) (jobs : List (Entry J)) → AreAccepted h next jobs → Goes h epoch next who h' → next ≤ next' → AreAccepted h' next' jobs
+  pub accepted_goes : (h h' : List Mark) (epoch next next' who : ℕ) (jobs : List (Deferral J)) → AreAccepted h next jobs → Goes h epoch next who h' → next ≤ next' → AreAccepted h' next' jobs
   accepted_goes h h' epoch next next' who jobs a g le = record {
     below = λ e m. let lt = a.below e m in omega arith;
     named = λ e n m is. g.deferred e.ticket n (a.named e n m is);
   }
 
-  pub sealed_goes : (h h' : List Mark) (epoch next next' who seal : ℕ) (jobs : List (Entry J)) → IsSealed h next jobs seal → Goes h epoch next who h' → next ≤ next' → IsSealed h' next' jobs seal
+  pub sealed_goes : (h h' : List Mark) (epoch next next' who seal : ℕ) (jobs : List (Deferral J)) → IsSealed h next jobs seal → Goes h epoch next who h' → next ≤ next' → IsSealed h' next' jobs seal
   sealed_goes h h' epoch next next' who seal jobs s g le = record {
     accepted = accepted_goes h h' epoch next next' who jobs s.accepted g le;
     late = λ e q b m on n.
@@ -50,7 +51,7 @@ module _ {J : Type 0} where
         s.late e q b m w.0 (sym w.1 ∙ n);
   }
 
-  phase_goes : (h h' : List Mark) (epoch epoch' next next' places who p : ℕ) (bag hand : List (Entry J)) (phase : Phase) → InPhase h epoch next places p bag hand phase → Goes h epoch next who h' → p ≢ who → epoch ≤ epoch' → next ≤ next' → InPhase h' epoch' next' places p bag hand phase
+  phase_goes : (h h' : List Mark) (epoch epoch' next next' places who p : ℕ) (bag hand : List (Deferral J)) (phase : Phase) → InPhase h epoch next places p bag hand phase → Goes h epoch next who h' → p ≢ who → epoch ≤ epoch' → next ≤ next' → InPhase h' epoch' next' places p bag hand phase
   phase_goes h h' epoch epoch' next next' places who p bag hand Idle i g ne le more = tt
   phase_goes h h' epoch epoch' next next' places who p bag hand Look i g ne le more = g.same p ne ∙ i
   phase_goes h h' epoch epoch' next next' places who p bag hand (Publish seen) i g ne le more = (g.same p ne ∙ i.0, let past = i.1 in omega arith)

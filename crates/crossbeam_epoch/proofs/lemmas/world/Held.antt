@@ -9,7 +9,7 @@ use Rattle.crossbeam_epoch.specs.declared.fault.Fault.TheVariants.{Unknown}
 use Rattle.crossbeam_epoch.specs.declared.world.participant.Participant.{Participant}
 use Rattle.crossbeam_epoch.specs.declared.world.participant.Phase.{Phase}
 use Rattle.crossbeam_epoch.specs.declared.world.participant.Phase.TheVariants.{Idle, Take, Call}
-use Rattle.crossbeam_epoch.specs.declared.bag.Entry.{Entry}
+use Rattle.crossbeam_epoch.specs.declared.bag.Deferral.{Deferral}
 use Rattle.crossbeam_epoch.specs.declared.names.Name.{Name}
 use Rattle.crossbeam_epoch.specs.World.Store.{Store}
 use Rattle.crossbeam_epoch.specs.declared.bag.Sealed.{Sealed}
@@ -35,6 +35,7 @@ is_some_job (x ∷ xs) e = omega arith
 pub has_place : (n : ℕ) (b : Bool) → b ≡ (n == 64) → n ≤ 64 → b ≡ false → n < 64
 has_place n b is le none = let not_64 : (n == 64) ≡ false = sym is ∙ none in grind (arith, nat_tests)
 
+-- a bag that is told to be full has 64 jobs
 pub is_full_at : (n : ℕ) (b : Bool) → b ≡ (n == 64) → b ≡ true → n ≡ 64
 is_full_at n b is some = let at_64 : (n == 64) ≡ true = sym is ∙ some in grind (arith, nat_tests)
 
@@ -103,7 +104,7 @@ module _ {T J : Type 0} where
       )
 
   -- the first job in hand is called
-  pub called_first : (s v : State T J) (who answered bags seal : ℕ) (old : Participant J) (rest : List (Entry J)) (e : Entry J) (phase : Phase) (given : TicketCount) (store : Store T) (destroyed : Option Name) → v ≡ s → who < length s.table → old ≡ get_or v.table who old → (length old.hand == 0) ≡ false
+  pub called_first : (s v : State T J) (who answered bags seal : ℕ) (old : Participant J) (rest : List (Deferral J)) (e : Deferral J) (phase : Phase) (given : TicketCount) (store : Store T) (destroyed : Option Name) → v ≡ s → who < length s.table → old ≡ get_or v.table who old → (length old.hand == 0) ≡ false
       → e ≡ get_or old.hand 0 e → rest ≡ remove old.hand 0 → phase ≡ after_call (length rest) answered bags seal → given ≡ record { next = v.next; waiting = v.waiting - 1 } → store ≡ after_work v.store e.work → destroyed ≡ destroys v.store e.work
       → (record v { table = slice_set v.table who (record old { hand = rest; phase = phase }); next = given.next; waiting = given.waiting; store = store } ≡ called s who answered bags seal)
       × (Some (e.ticket, destroyed) ≡ called_by s.store (Call answered bags seal) (place s who).hand)
@@ -119,12 +120,12 @@ module _ {T J : Type 0} where
         ap (λ (y : TicketCount). record v { table = slice_set v.table who x; next = y.next; waiting = y.waiting; store = store }) counts
             ∙ ap (λ (y : Store T). record v { table = slice_set v.table who x; waiting = v.waiting - 1; store = y }) works
             ∙ ap (λ (y : State T J). record y { table = slice_set y.table who x; waiting = y.waiting - 1; store = after_work y.store e.work }) is
-            ∙ ap (λ (y : Entry J). record s { table = slice_set s.table who x; waiting = s.waiting - 1; store = after_work s.store y.work }) front
+            ∙ ap (λ (y : Deferral J). record s { table = slice_set s.table who x; waiting = s.waiting - 1; store = after_work s.store y.work }) front
             ∙ ap (λ (p : Participant J). record s { table = slice_set s.table who p; waiting = s.waiting - 1; store = after_work s.store (get_or (place s who).hand 0 no_entry).work }) made
             ∙ sym (ap (λ b. if b then in_phase s who Idle else called_one s who answered bags seal) full),
         ap (λ d. Some (e.ticket, d)) gone
             ∙ ap (λ (y : State T J). Some (e.ticket, destroys y.store e.work)) is
-            ∙ ap (λ (y : Entry J). Some (y.ticket, destroys s.store y.work)) front
+            ∙ ap (λ (y : Deferral J). Some (y.ticket, destroys s.store y.work)) front
             ∙ sym (ap (λ b. if b then None else Some (called_entry s.store (get_or (place s who).hand 0 no_entry))) full),
       )
 
@@ -200,5 +201,6 @@ module _ {T J : Type 0} where
 pub fault_given : (A : Type 0) (x : Option Fault) (f : Fault) → x ≡ Some f → MatchOption x A (λ y. f ≡ y)
 fault_given A x f is = subst (λ z. MatchOption z A (λ y. f ≡ y)) (sym is) refl
 
+-- what holds where no fault is given
 pub none_given : (A : Type 0) (x : Option Fault) (f : Fault) → x ≡ None → A → MatchOption x A (λ y. f ≡ y)
 none_given A x f is a = subst (λ z. MatchOption z A (λ y. f ≡ y)) (sym is) a

@@ -5,7 +5,7 @@ use Rattle.std.specs.List.{Contains, sum_by}
 use Rattle.std.proofs.lemmas.Bool.Decides.{nat_tests}
 use Rattle.std.proofs.lemmas.List.Sums.{sum_by-append, get_or-le-sum_by}
 use Rattle.std.proofs.lemmas.List.Elements.{Contains-push_cases, Contains-get_or}
-use Rattle.crossbeam_epoch.specs.declared.bag.Entry.{Entry}
+use Rattle.crossbeam_epoch.specs.declared.bag.Deferral.{Deferral}
 use Rattle.crossbeam_epoch.specs.declared.bag.Work.{Work}
 use Rattle.crossbeam_epoch.specs.declared.bag.Work.TheVariants.{Blank, Remove, Run}
 use Rattle.crossbeam_epoch.specs.declared.names.Name.{Name}
@@ -48,44 +48,44 @@ call_marks None h = h
 call_marks (Some c) h = Called c.0 c.1 ∷ h
 
 module _ {J : Type 0} where
-  behind : (jobs : List (Entry J)) (e : Entry J) → Contains (remove jobs 0) e → Contains jobs e
+  behind : (jobs : List (Deferral J)) (e : Deferral J) → Contains (remove jobs 0) e → Contains jobs e
   behind [] e m = m
   behind (x ∷ xs) e m = contains_tail x xs e m
 
-  sealed_behind : (h : List Mark) (next seal : ℕ) (jobs : List (Entry J)) → IsSealed h next jobs seal → IsSealed h next (remove jobs 0) seal
+  sealed_behind : (h : List Mark) (next seal : ℕ) (jobs : List (Deferral J)) → IsSealed h next jobs seal → IsSealed h next (remove jobs 0) seal
   sealed_behind h next seal jobs i = record {
     accepted = record { below = λ e m. i.accepted.below e (behind jobs e m); named = λ e n m is. i.accepted.named e n (behind jobs e m) is };
     late = λ e q b m on n. i.late e q b (behind jobs e m) on n;
   }
 
-  first_and_rest : (f : Entry J → ℕ) (jobs : List (Entry J)) → 0 < length jobs → sum_by f jobs ≡ f (slice_index_or jobs 0 no_entry) + sum_by f (remove jobs 0)
+  first_and_rest : (f : Deferral J → ℕ) (jobs : List (Deferral J)) → 0 < length jobs → sum_by f jobs ≡ f (slice_index_or jobs 0 no_entry) + sum_by f (remove jobs 0)
   first_and_rest f [] lt = absurd (omega arith)
   first_and_rest f (x ∷ rest) lt = omega (arith, sum_by-append f (x ∷ []) rest)
 
-  after_phase : (h : List Mark) (epoch next places who answered bags seal : ℕ) (bag rest : List (Entry J)) (some room : Bool) → answered ≤ epoch → seal + 2 ≤ answered → IsSealed h next rest seal
+  after_phase : (h : List Mark) (epoch next places who answered bags seal : ℕ) (bag rest : List (Deferral J)) (some room : Bool) → answered ≤ epoch → seal + 2 ≤ answered → IsSealed h next rest seal
       → InPhase h epoch next places who bag rest (if some then Call answered bags seal else if room then Take answered bags else Idle)
   after_phase h epoch next places who answered bags seal bag rest true room past old i = (past, old, i)
   after_phase h epoch next places who answered bags seal bag rest false true past old i = past
   after_phase h epoch next places who answered bags seal bag rest false false past old i = tt
 
-  hand_after : (rest : List (Entry J)) (answered bags seal : ℕ) (b : Bool) → nat_lt 0 (length rest) ≡ b → HandFits (after_call (length rest) answered bags seal) rest
+  hand_after : (rest : List (Deferral J)) (answered bags seal : ℕ) (b : Bool) → nat_lt 0 (length rest) ≡ b → HandFits (after_call (length rest) answered bags seal) rest
   hand_after [] answered bags seal b e = none_in_hand (after_call 0 answered bags seal) [] refl
   hand_after (x ∷ rest) answered bags seal true e = rw e tt
   hand_after (x ∷ rest) answered bags seal false e = absurd (grind (arith, nat_tests))
 
   -- an accepted job behind the others
-  accepted_push : (h : List Mark) (next : ℕ) (bag : List (Entry J)) (work : Work J) → AreAccepted h next bag
+  accepted_push : (h : List Mark) (next : ℕ) (bag : List (Deferral J)) (work : Work J) → AreAccepted h next bag
       → AreAccepted (Deferred next (name_of work) ∷ h) (next + 1) (bag ++ (record { ticket = next; work = work }) ∷ [])
   accepted_push h next bag work a =
-      let entry : Entry J = record { ticket = next; work = work } in
+      let entry : Deferral J = record { ticket = next; work = work } in
       record {
         below = λ e m. elim (Contains-push_cases bag entry e m) [
           | inl old ↦ (let lt = a.below e old in omega arith)
-          | inr is ↦ (let same : next ≡ e.ticket = ap (λ (x : Entry J). x.ticket) is in omega arith)
+          | inr is ↦ (let same : next ≡ e.ticket = ap (λ (x : Deferral J). x.ticket) is in omega arith)
         ];
         named = λ e n m is. elim (Contains-push_cases bag entry e m) [
           | inl old ↦ inr (a.named e n old is)
-          | inr same ↦ inl (ap (λ (x : Entry J). x.ticket) same, ap name_of (ap (λ (x : Entry J). x.work) same ∙ is))
+          | inr same ↦ inl (ap (λ (x : Deferral J). x.ticket) same, ap name_of (ap (λ (x : Deferral J). x.work) same ∙ is))
         ];
       }
 
@@ -101,7 +101,7 @@ module _ {T J : Type 0} where
       by_standing false is = absurd (cc is)
 
   -- a job of a bag whose seal is two behind is blocked by nobody
-  free_now : (h : List Mark) (s : State T J) (jobs : List (Entry J)) (seal answered q : ℕ) (e : Entry J) (b : Bool) → Fits h s → IsSealed h s.next jobs seal → seal + 2 ≤ answered → answered ≤ s.epoch → Contains jobs e → blocks h q e.ticket ≡ b → b ≡ false
+  free_now : (h : List Mark) (s : State T J) (jobs : List (Deferral J)) (seal answered q : ℕ) (e : Deferral J) (b : Bool) → Fits h s → IsSealed h s.next jobs seal → seal + 2 ≤ answered → answered ≤ s.epoch → Contains jobs e → blocks h q e.ticket ≡ b → b ≡ false
   free_now h s jobs seal answered q e false f i old past m is = refl
   free_now h s jobs seal answered q e true f i old past m is =
       let b = began_blocking h q e.ticket is in
@@ -147,7 +147,7 @@ module _ {T J : Type 0} where
       → Fits (call_marks (if empty then None else Some ((slice_index_or (place s who).hand 0 no_entry).ticket, destroys s.store (slice_index_or (place s who).hand 0 no_entry).work)) h) (if empty then in_phase s who Idle else called_one s who answered bags seal)
   by_empty h s who answered bags seal true in_table is e f = fits_idle h s who in_table (no_items (place s who).hand e) f
     where
-      no_items : (xs : List (Entry J)) → (length xs == 0) ≡ true → xs ≡ []
+      no_items : (xs : List (Deferral J)) → (length xs == 0) ≡ true → xs ≡ []
       no_items [] e = refl
       no_items (x ∷ xs) e = absurd (grind (arith, nat_tests))
   by_empty h s who answered bags seal false in_table is e f = fits_called_one h s who answered bags seal in_table is (grind (arith, nat_tests)) f
@@ -160,7 +160,7 @@ module _ {T J : Type 0} where
   fits_deferred : (h : List Mark) (s : State T J) (who : ℕ) (work : Work J) → who < length s.table → (place s who).phase ≡ Idle → Fits h s → Fits (Deferred s.next (name_of work) ∷ h) (deferred s who work)
   fits_deferred h s who work in_table is f =
       let old = place s who in
-      let entry : Entry J = record { ticket = s.next; work = work } in
+      let entry : Deferral J = record { ticket = s.next; work = work } in
       let p = record old { bag = old.bag ++ entry ∷ [] } in
       let h' = Deferred s.next (name_of work) ∷ h in
       let g = goes_deferred h s.epoch s.next who (name_of work) in
@@ -177,7 +177,7 @@ module _ {T J : Type 0} where
   fits_deferred_anew : (h : List Mark) (s : State T J) (who : ℕ) (work : Work J) → who < length s.table → (place s who).phase ≡ Idle → Fits h s → Fits (Deferred s.next (name_of work) ∷ h) (deferred_anew s who work)
   fits_deferred_anew h s who work in_table is f =
       let old = place s who in
-      let entry : Entry J = record { ticket = s.next; work = work } in
+      let entry : Deferral J = record { ticket = s.next; work = work } in
       let p = record old { bag = entry ∷ [] } in
       let b : Sealed J = record { seal = s.epoch; jobs = old.bag } in
       let h' = Deferred s.next (name_of work) ∷ h in

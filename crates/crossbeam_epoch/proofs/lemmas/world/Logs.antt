@@ -4,7 +4,7 @@ use Rattle.std.specs.Prelude.{if◌then◌else◌, is_none, is_some, nat_le, nat
 use Rattle.std.proofs.lemmas.Bool.{cases_eq, cases_lt, eq-eqb, ne_eqb}
 use Rattle.std.proofs.lemmas.Bool.Decides.{nat_tests}
 use Rattle.std.proofs.lemmas.List.{set_past}
-use Rattle.crossbeam_epoch.specs.declared.bag.Entry.{Entry}
+use Rattle.crossbeam_epoch.specs.declared.bag.Deferral.{Deferral}
 use Rattle.crossbeam_epoch.specs.declared.bag.Work.{Work}
 use Rattle.crossbeam_epoch.specs.declared.fault.Fault.{Fault}
 use Rattle.crossbeam_epoch.specs.declared.fault.Fault.TheVariants as F
@@ -24,15 +24,15 @@ use Rattle.crossbeam_epoch.specs.declared.world.report.Outcome.TheVariants.{Runn
 use Rattle.crossbeam_epoch.specs.declared.world.report.Report.{Report}
 use Rattle.crossbeam_epoch.specs.World.History.{Mark, Pinned, Repinned, Unpinned, Deferred, began, times_called, deferrals, IsGraceful, AreCalledLater}
 use Rattle.crossbeam_epoch.specs.World.Fits.{Fits, Bounds, times_held}
-use Rattle.crossbeam_epoch.specs.World.Reach.{Moment, Tells, IsCareful, Visible, marks_of, moment, moments_after, step_act}
+use Rattle.crossbeam_epoch.specs.World.Reach.{Moment, HasMoments, IsCareful, Visible, marks_of, moment, moments_after, step_act}
 use Rattle.crossbeam_epoch.specs.World.Store.{Store, value_at}
-use Rattle.crossbeam_epoch.specs.World.Log.{Noted, Stepped, Accepted, log_after, Flight, one_more, flight_after, flight, is_pin, is_repin, pins_next, repins_next, guards_after, guards, untold, publication, event_marks, history_of, undated, IsPastBy, IsPast, IsFlight, AgreesAt, Shows}
+use Rattle.crossbeam_epoch.specs.World.Log.{LogLine, Stepped, Accepted, log_after, Flight, one_more, flight_after, flight, is_pin, is_repin, pins_next, repins_next, guards_after, guards, untold, publication, event_marks, history_of, undated, IsPastBy, IsPast, IsFlight, AgreesAt, Shows}
 use Rattle.crossbeam_epoch.specs.World.Machine.{State, place, blank, in_phase, published, is_at, relooked, repinned, secured, has_free, inspection, ends_advance, no_bag, taken, after_call, called_one, opened, registered, with_store, with_roots, deferred, deferred_anew, after_deferral, name_of}
 use Rattle.crossbeam_epoch.specs.World.Steps.{outcome_at, begin_fault, event_fault, fault, begun_at, begun, gone, moved, needs_memory, after, IsOutcome, IsReport, begin_marks, phase_marks, moved_marks, unless_refused, marks, state_after, history_after, AreReports}
 use Rattle.crossbeam_epoch.proofs.lemmas.world.Reaches.{seen_stands}
 use Rattle.crossbeam_epoch.proofs.lemmas.world.Told.{marks_act}
 use Rattle.crossbeam_epoch.proofs.lemmas.world.Undated.{undated_began, undated_graceful, undated_calls, undated_deferrals, undated_later}
-use Rattle.crossbeam_epoch.proofs.lemmas.world.Runs.{in_table, known, begin_idle, refused_begin, off, blank_at}
+use Rattle.crossbeam_epoch.proofs.lemmas.world.Runs.{in_table, known, begin_idle, refused_begin, off, blank_at, word_none as is_none_now, not_some as not_some_now}
 
 past_more_by : (op : Op) (n : ℕ) → IsPastBy op n → IsPastBy op (n + 1)
 past_more_by O.Pin n p = omega arith
@@ -80,20 +80,12 @@ not_none : (w : Option ℕ) → is_none w ≡ false → is_some w ≡ true
 not_none None e = absurd (cc e)
 not_none (Some x) e = refl
 
-is_none_now : (w : Option ℕ) → is_none w ≡ true → w ≡ None
-is_none_now None e = refl
-is_none_now (Some x) e = absurd (cc e)
-
 none_out : (w : Option ℕ) (n : ℕ) → w ≡ None → is_some w ≡ nat_lt 0 n → n ≡ 0
 none_out None n e is = grind (arith, nat_tests)
 none_out (Some x) n e is = absurd (cc e)
 
 some_out : (w : Option ℕ) (n : ℕ) → is_some w ≡ true → is_some w ≡ nat_lt 0 n → 0 < n
 some_out w n e is = let out : nat_lt 0 n ≡ true = sym is ∙ e in grind (arith, nat_tests)
-
-not_some_now : (w : Option ℕ) → is_some w ≡ false → w ≡ None
-not_some_now None e = refl
-not_some_now (Some x) e = absurd (cc e)
 
 -- who has a word has begun a stretch
 bounds_some : (b w : Option ℕ) (epoch : ℕ) → Bounds b w epoch → is_some b ≡ is_some w
@@ -159,7 +151,7 @@ module _ {J : Type 0} where
   inspects f n seen at p false true a past = runs f n p (record p { phase = Inspect seen (at + 1) }) a refl refl refl past (past_more f past)
   inspects f n seen at p false false a past = runs f n p (record p { phase = Advance seen }) a refl refl refl past (past_more f past)
 
-  calls_on : (f : Option Flight) (n answered bags seal : ℕ) (p : Participant J) (hand : List (Entry J)) (some room : Bool) → AgreesAt f n p → IsPast f
+  calls_on : (f : Option Flight) (n answered bags seal : ℕ) (p : Participant J) (hand : List (Deferral J)) (some room : Bool) → AgreesAt f n p → IsPast f
       → Lands Go f n (record p { hand = hand; phase = if some then Call answered bags seal else if room then Take answered bags else Idle })
   calls_on f n answered bags seal p hand true room a past = runs f n p (record p { hand = hand; phase = Call answered bags seal }) a refl refl refl past (past_more f past)
   calls_on f n answered bags seal p hand false true a past = runs f n p (record p { hand = hand; phase = Take answered bags }) a refl refl refl past (past_more f past)
@@ -421,7 +413,7 @@ module _ {T J : Type 0} where
   marked f n s who event None Done c h is o a = marked_move f n s who event c h is a
 
   -- one step
-  pub shows_step : (log : List Noted) (h : List Mark) (s : State T J) (step : Step) (r : Report) → IsReport s step.who step.event r → Shows log h s → Shows (Stepped step r ∷ log) (marks s step.who step.event r h) (after s step.who step.event r.outcome)
+  pub shows_step : (log : List LogLine) (h : List Mark) (s : State T J) (step : Step) (r : Report) → IsReport s step.who step.event r → Shows log h s → Shows (Stepped step r ∷ log) (marks s step.who step.event r h) (after s step.who step.event r.outcome)
   shows_step log h s step r is w =
       let who = step.who in
       let a = w.places who in
@@ -437,7 +429,7 @@ module _ {T J : Type 0} where
       }
 
   -- a run
-  pub shows_run : (log : List Noted) (h : List Mark) (s : State T J) (steps : List Step) (reports : List Report) → AreReports s steps reports → Shows log h s
+  pub shows_run : (log : List LogLine) (h : List Mark) (s : State T J) (steps : List Step) (reports : List Report) → AreReports s steps reports → Shows log h s
       → Shows (log_after steps reports log) (history_after s steps reports h) (state_after s steps reports)
   shows_run log h s [] [] are w = w
   shows_run log h s [] (r ∷ reports) are w = absurd are
@@ -456,13 +448,13 @@ module _ {T J : Type 0} where
       let s' = after s step.who step.event r.outcome in
       moments_marks names (moment names (step_act s step.who step.event r) s' ∷ h) s' steps reports ∙ ap (λ g. history_after s' steps reports g) (marks_act s step.who step.event r (marks_of h))
 
-  pub shows_moments : (names : T → List Name) (log : List Noted) (h : List Moment) (s : State T J) (steps : List Step) (reports : List Report) → AreReports s steps reports → Shows log (marks_of h) s
+  pub shows_moments : (names : T → List Name) (log : List LogLine) (h : List Moment) (s : State T J) (steps : List Step) (reports : List Report) → AreReports s steps reports → Shows log (marks_of h) s
       → Shows (log_after steps reports log) (marks_of (moments_after names s steps reports h)) (state_after s steps reports)
   shows_moments names log h s steps reports are w =
       subst (λ g. Shows (log_after steps reports log) g (state_after s steps reports)) (sym (moments_marks names h s steps reports)) (shows_run log (marks_of h) s steps reports are w)
 
   -- one place is written, whose pin and call stay
-  stays_at : (log : List Noted) (s s' : State T J) (who : ℕ) (p : Participant J) → s'.table ≡ slice_set s.table who p → AgreesAt (flight log who) (guards log who) p → ((q : ℕ) → AgreesAt (flight log q) (guards log q) (place s q))
+  stays_at : (log : List LogLine) (s s' : State T J) (who : ℕ) (p : Participant J) → s'.table ≡ slice_set s.table who p → AgreesAt (flight log who) (guards log who) p → ((q : ℕ) → AgreesAt (flight log q) (guards log q) (place s q))
       → (q : ℕ) → AgreesAt (flight log q) (guards log q) (place s' q)
   stays_at log s s' who p e a all q = elim (cases_eq q who) [
     | inl same ↦ elim (cases_lt who (length s.table)) [
@@ -472,12 +464,12 @@ module _ {T J : Type 0} where
     | inr ne ↦ rw (put_off s s' who p q e ne) (all q)
   ]
 
-  pub shows_registered : (log : List Noted) (h : List Mark) (s : State T J) (n : ℕ) → Shows log h s → Shows log h (registered s n)
+  pub shows_registered : (log : List LogLine) (h : List Mark) (s : State T J) (n : ℕ) → Shows log h s → Shows log h (registered s n)
   shows_registered log h s n w =
       let a = w.places n in
       record { history = w.history; places = stays_at log s (registered s n) n (record (place s n) { registered = true; pins = 0 }) refl (record { count = a.count; pinned = a.pinned; phase = a.phase }) w.places }
 
-  by_full : (log : List Noted) (h : List Mark) (s : State T J) (who : ℕ) (work : Work J) (b : Bool) → Shows log h s → Shows (Accepted s.next (name_of work) ∷ log) (Deferred s.next (name_of work) ∷ h) (if b then deferred_anew s who work else deferred s who work)
+  by_full : (log : List LogLine) (h : List Mark) (s : State T J) (who : ℕ) (work : Work J) (b : Bool) → Shows log h s → Shows (Accepted s.next (name_of work) ∷ log) (Deferred s.next (name_of work) ∷ h) (if b then deferred_anew s who work else deferred s who work)
   by_full log h s who work true w =
       let a = w.places who in
       record {
@@ -491,36 +483,36 @@ module _ {T J : Type 0} where
         places = stays_at log s (deferred s who work) who (record (place s who) { bag = (place s who).bag ++ record { ticket = s.next; work = work } ∷ [] }) refl (record { count = a.count; pinned = a.pinned; phase = a.phase }) w.places;
       }
 
-  pub shows_deferred : (log : List Noted) (h : List Mark) (s : State T J) (who : ℕ) (work : Work J) → Shows log h s → Shows (Accepted s.next (name_of work) ∷ log) (Deferred s.next (name_of work) ∷ h) (after_deferral s who work)
+  pub shows_deferred : (log : List LogLine) (h : List Mark) (s : State T J) (who : ℕ) (work : Work J) → Shows log h s → Shows (Accepted s.next (name_of work) ∷ log) (Deferred s.next (name_of work) ∷ h) (after_deferral s who work)
   shows_deferred log h s who work w = by_full log h s who work (length (place s who).bag == 64) w
 
-  pub shows_stored : (log : List Noted) (h : List Mark) (s : State T J) (st : Store T) → Shows log h s → Shows log h (with_store s st)
+  pub shows_stored : (log : List LogLine) (h : List Mark) (s : State T J) (st : Store T) → Shows log h s → Shows log h (with_store s st)
   shows_stored log h s st w = record { history = w.history; places = w.places }
 
-  pub shows_rooted : (log : List Noted) (h : List Mark) (s : State T J) (roots : List Ptr) → Shows log h s → Shows log h (with_roots s roots)
+  pub shows_rooted : (log : List LogLine) (h : List Mark) (s : State T J) (roots : List Ptr) → Shows log h s → Shows log h (with_roots s roots)
   shows_rooted log h s roots w = record { history = w.history; places = w.places }
 
   -- what the log tells
-  pub log_graceful : (log : List Noted) (h : List Mark) (s : State T J) → Shows log h s → Fits h s → IsGraceful (history_of log)
+  pub log_graceful : (log : List LogLine) (h : List Mark) (s : State T J) → Shows log h s → Fits h s → IsGraceful (history_of log)
   log_graceful log h s w f = subst (λ g. IsGraceful g) w.history (undated_graceful h f.graceful)
 
-  pub log_later : (log : List Noted) (h : List Mark) (s : State T J) → Shows log h s → Fits h s → AreCalledLater (history_of log)
+  pub log_later : (log : List LogLine) (h : List Mark) (s : State T J) → Shows log h s → Fits h s → AreCalledLater (history_of log)
   log_later log h s w f = subst (λ g. AreCalledLater g) w.history (undated_later h f.later)
 
-  pub log_once : (log : List Noted) (h : List Mark) (s : State T J) (t : ℕ) → Shows log h s → Fits h s
+  pub log_once : (log : List LogLine) (h : List Mark) (s : State T J) (t : ℕ) → Shows log h s → Fits h s
       → (times_held s t + times_called (history_of log) t ≡ deferrals (history_of log) t) × (deferrals (history_of log) t ≡ (if nat_lt t s.next then 1 else 0))
   log_once log h s t w f =
       let called : times_called (history_of log) t ≡ times_called h t = sym (ap (λ g. times_called g t) w.history) ∙ undated_calls h t in
       let given : deferrals (history_of log) t ≡ deferrals h t = sym (ap (λ g. deferrals g t) w.history) ∙ undated_deferrals h t in
       (ap (λ n. times_held s t + n) called ∙ f.once.each t ∙ sym given, given ∙ f.once.tickets t)
 
-  pub log_pinned : (log : List Noted) (h : List Mark) (s : State T J) (q : ℕ) → Shows log h s → Fits h s
+  pub log_pinned : (log : List LogLine) (h : List Mark) (s : State T J) (q : ℕ) → Shows log h s → Fits h s
       → (is_some (place s q).word ≡ nat_lt 0 (guards log q)) × (is_some (began (history_of log) q) ≡ nat_lt 0 (guards log q))
   log_pinned log h s q w f =
       let a = w.places q in
       (a.pinned, sym (ap (λ g. is_some (began g q)) w.history) ∙ undated_began h q ∙ bounds_some (began h q) (place s q).word s.epoch (f.places q).bounds ∙ a.pinned)
 
-  pub log_stands : (names : T → List Name) (log : List Noted) (h : List Moment) (s : State T J) (p : ℕ) (n : Name) → Shows log (marks_of h) s → Tells names h s → IsCareful h → 0 < guards log p → Visible h p n → is_some (value_at s.store n) ≡ true
+  pub log_stands : (names : T → List Name) (log : List LogLine) (h : List Moment) (s : State T J) (p : ℕ) (n : Name) → Shows log (marks_of h) s → HasMoments names h s → IsCareful h → 0 < guards log p → Visible h p n → is_some (value_at s.store n) ≡ true
   log_stands names log h s p n w t u out seen =
       let a = w.places p in
       let some : nat_lt 0 (guards log p) ≡ true = grind (arith, nat_tests) in

@@ -7,7 +7,7 @@ use Rattle.std.proofs.lemmas.Bool.Decides.{nat_tests}
 use Rattle.std.proofs.lemmas.List.{get_or_past}
 use Rattle.std.proofs.lemmas.List.Sums.{sum_by-append}
 use Rattle.std.proofs.lemmas.List.Elements.{Contains-push_cases, Contains-get_or}
-use Rattle.crossbeam_epoch.specs.declared.bag.Entry.{Entry}
+use Rattle.crossbeam_epoch.specs.declared.bag.Deferral.{Deferral}
 use Rattle.crossbeam_epoch.specs.declared.world.participant.Participant.{Participant}
 use Rattle.crossbeam_epoch.specs.declared.bag.Sealed.{Sealed}
 use Rattle.crossbeam_epoch.specs.declared.world.participant.Phase.{Phase}
@@ -38,9 +38,11 @@ began_again h who epoch = rw (eq-eqb who who refl)
 ended_itself : (h : List Mark) (who : ℕ) → began (Unpinned who ∷ h) who ≡ None
 ended_itself h who = rw (eq-eqb who who refl)
 
+-- nothing is in an empty list
 pub none_in : {A : Type 0} (x : A) → Contains [] x → ⊥
 none_in x m = let lt : m.0 < 0 = m.1 in omega arith
 
+-- what is in a list is in one with something more in front
 pub contains_tail : {A : Type 0} (x : A) (xs : List A) (y : A) → Contains xs y → Contains (x ∷ xs) y
 contains_tail x xs y m = (suc m.0, let lt = m.1 in omega arith, m.2)
 
@@ -59,7 +61,7 @@ both false b e = e
 
 module _ {J : Type 0} where
   -- without a job in hand
-  pub none_in_hand : (phase : Phase) (hand : List (Entry J)) → hand ≡ [] → HandFits phase hand
+  pub none_in_hand : (phase : Phase) (hand : List (Deferral J)) → hand ≡ [] → HandFits phase hand
   none_in_hand Idle hand e = e
   none_in_hand Look hand e = e
   none_in_hand (Publish seen) hand e = e
@@ -81,7 +83,7 @@ module _ {J : Type 0} where
   pub none_accepted : (h : List Mark) (next : ℕ) → AreAccepted {J = J} h next []
   none_accepted h next = record { below = λ e m. absurd (none_in e m); named = λ e n m is. absurd (none_in e m) }
 
-  by_first : (h : List Mark) (epoch next places who : ℕ) (bag hand : List (Entry J)) (first : Bool) → InPhase (Pinned who epoch ∷ h) epoch next places who bag hand (if first then Load else Idle)
+  by_first : (h : List Mark) (epoch next places who : ℕ) (bag hand : List (Deferral J)) (first : Bool) → InPhase (Pinned who epoch ∷ h) epoch next places who bag hand (if first then Load else Idle)
   by_first h epoch next places who bag hand true = (epoch, began_itself h who epoch)
   by_first h epoch next places who bag hand false = tt
 
@@ -133,7 +135,7 @@ module _ {T J : Type 0} where
 
   -- the jobs of the actor move between its place and the queue
   carries_move : (h : List Mark) (s : State T J) (who : ℕ) (p : Participant J) (queue' : List (Sealed J)) → Once h s
-      → ((f : Entry J → ℕ) → at_place f p + sum_by (in_bag f) queue' ≡ at_place f (place s who) + sum_by (in_bag f) s.queue)
+      → ((f : Deferral J → ℕ) → at_place f p + sum_by (in_bag f) queue' ≡ at_place f (place s who) + sum_by (in_bag f) s.queue)
       → Carries h h s who p queue' s.next s.waiting
   carries_move h s who p queue' o moves = record {
     each = λ t. let e = moves (has_ticket t) in omega arith;

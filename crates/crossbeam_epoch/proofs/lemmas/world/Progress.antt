@@ -7,7 +7,7 @@ use Rattle.std.proofs.lemmas.Bool.Decides.{nat_tests}
 use Rattle.std.proofs.lemmas.List.{set_past, length_push}
 use Rattle.std.proofs.lemmas.List.Sums.{sum_by-append, sum_by-set}
 use Rattle.std.proofs.lemmas.List.Elements.{Contains-push_cases, Contains-get_or}
-use Rattle.crossbeam_epoch.specs.declared.bag.Entry.{Entry}
+use Rattle.crossbeam_epoch.specs.declared.bag.Deferral.{Deferral}
 use Rattle.crossbeam_epoch.specs.declared.bag.Work.{Work}
 use Rattle.crossbeam_epoch.specs.declared.bag.Work.TheVariants.{Blank, Remove, Run}
 use Rattle.crossbeam_epoch.specs.declared.limits.Limits.{Limits}
@@ -50,27 +50,27 @@ module _ {J : Type 0} where
   front_bag f [] lt = absurd (omega arith)
   front_bag f (b ∷ rest) lt = omega (arith, sum_by-append f (b ∷ []) rest)
 
-  first_job : (f : Entry J → ℕ) (jobs : List (Entry J)) → 0 < length jobs → sum_by f jobs ≡ f (slice_index_or jobs 0 no_entry) + sum_by f (remove jobs 0)
+  first_job : (f : Deferral J → ℕ) (jobs : List (Deferral J)) → 0 < length jobs → sum_by f jobs ≡ f (slice_index_or jobs 0 no_entry) + sum_by f (remove jobs 0)
   first_job f [] lt = absurd (omega arith)
   first_job f (x ∷ rest) lt = omega (arith, sum_by-append f (x ∷ []) rest)
 
-  pub one_less : (jobs : List (Entry J)) → 0 < length jobs → length jobs ≡ suc (length (remove jobs 0))
+  pub one_less : (jobs : List (Deferral J)) → 0 < length jobs → length jobs ≡ suc (length (remove jobs 0))
   one_less [] lt = absurd (omega arith)
   one_less (x ∷ rest) lt = refl
 
-  no_items : (xs : List (Entry J)) → (length xs == 0) ≡ true → xs ≡ []
+  no_items : (xs : List (Deferral J)) → (length xs == 0) ≡ true → xs ≡ []
   no_items [] e = refl
   no_items (x ∷ xs) e = absurd (grind (arith, nat_tests))
 
-  hand_after : (rest : List (Entry J)) (answered bags seal : ℕ) (b : Bool) → nat_lt 0 (length rest) ≡ b → HandFits (after_call (length rest) answered bags seal) rest
+  hand_after : (rest : List (Deferral J)) (answered bags seal : ℕ) (b : Bool) → nat_lt 0 (length rest) ≡ b → HandFits (after_call (length rest) answered bags seal) rest
   hand_after [] answered bags seal b e = none_in_hand (after_call 0 answered bags seal) [] refl
   hand_after (x ∷ rest) answered bags seal true e = rw e tt
   hand_after (x ∷ rest) answered bags seal false e = absurd (grind (arith, nat_tests))
 
-  empty_small : (hand : List (Entry J)) → hand ≡ [] → length hand ≤ 64
+  empty_small : (hand : List (Deferral J)) → hand ≡ [] → length hand ≤ 64
   empty_small hand e = omega (arith, ap length e)
 
-  empty_hand : (event : Event) (phase : Phase) (hand : List (Entry J)) → needs_memory event phase ≡ true → HandFits phase hand → hand ≡ []
+  empty_hand : (event : Event) (phase : Phase) (hand : List (Deferral J)) → needs_memory event phase ≡ true → HandFits phase hand → hand ≡ []
   empty_hand (Begin op) phase hand e fits = absurd (cc e)
   empty_hand Go (Queue seal) hand e fits = fits
   empty_hand Go (ReleaseQueue seal) hand e fits = fits
@@ -90,7 +90,7 @@ module _ {J : Type 0} where
   empty_hand Go (Take answered bags) hand e fits = absurd (cc e)
   empty_hand Go (Call answered bags seal) hand e fits = absurd (cc e)
 
-  pub opened_weighs : (T : Type 0) (limits : Limits) (roots : ℕ) (f : Entry J → ℕ) → weight f (opened {T = T} limits roots) ≡ 0
+  pub opened_weighs : (T : Type 0) (limits : Limits) (roots : ℕ) (f : Deferral J → ℕ) → weight f (opened {T = T} limits roots) ≡ 0
   opened_weighs T limits roots f = omega (arith, blanks_weigh_none f limits.participants)
 
 module _ {T J : Type 0} where
@@ -140,7 +140,7 @@ module _ {T J : Type 0} where
 
   -- the jobs move between a place and the queue
   stands : (s : State T J) (who : ℕ) (p : Participant J) (epoch' : ℕ) (queue' : List (Sealed J)) → who < length s.table
-      → ((f : Entry J → ℕ) → at_place f p + sum_by (in_bag f) queue' ≡ at_place f (place s who) + sum_by (in_bag f) s.queue)
+      → ((f : Deferral J → ℕ) → at_place f p + sum_by (in_bag f) queue' ≡ at_place f (place s who) + sum_by (in_bag f) s.queue)
       → JobsAfter s None (record s { epoch = epoch'; queue = queue'; table = slice_set s.table who p })
   stands s who p epoch' queue' lt e = (refl, refl, λ f. let set = sum_by-set (at_place f) s.table who p blank lt in let is = e f in omega arith)
 
@@ -323,7 +323,7 @@ module _ {T J : Type 0} where
   moves s who event r o is = subst (λ c. Moves s who c (after s who event r.outcome)) (sym is.job) (by_outcome s who event (fault s who event) r.outcome refl is.outcome o)
 
   -- only a collection that calls calls a job
-  no_call : (st : Store T) (phase : Phase) (hand : List (Entry J)) → collects phase ≡ false → called_by st phase hand ≡ None
+  no_call : (st : Store T) (phase : Phase) (hand : List (Deferral J)) → collects phase ≡ false → called_by st phase hand ≡ None
   no_call st Idle hand e = refl
   no_call st Look hand e = refl
   no_call st (Publish seen) hand e = refl
@@ -409,7 +409,7 @@ module _ {T J : Type 0} where
   pub deferred_keeps : (s : State T J) (who : ℕ) (work : Work J) → who < length s.table → length (place s who).bag < 64 → Orderly s → KeepsCalls s (deferred s who work) (λ f. f (record { ticket = s.next; work = work }))
   deferred_keeps s who work lt room o =
       let old = place s who in
-      let entry : Entry J = record { ticket = s.next; work = work } in
+      let entry : Deferral J = record { ticket = s.next; work = work } in
       let p = record old { bag = old.bag ++ entry ∷ [] } in
       record {
         orderly = record {
@@ -442,7 +442,7 @@ module _ {T J : Type 0} where
   anew_keeps : (s : State T J) (who : ℕ) (work : Work J) → who < length s.table → Orderly s → KeepsCalls s (deferred_anew s who work) (λ f. f (record { ticket = s.next; work = work }))
   anew_keeps s who work lt o =
       let old = place s who in
-      let entry : Entry J = record { ticket = s.next; work = work } in
+      let entry : Deferral J = record { ticket = s.next; work = work } in
       let p = record old { bag = entry ∷ [] } in
       let bag : Sealed J = record { seal = s.epoch; jobs = old.bag } in
       record {

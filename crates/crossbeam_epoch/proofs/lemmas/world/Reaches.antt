@@ -8,7 +8,7 @@ use Rattle.std.proofs.lemmas.Option.{get_or_from_slice_get, slice_get_within}
 use Rattle.crossbeam_epoch.specs.declared.names.Name.{Name}
 use Rattle.crossbeam_epoch.specs.declared.names.Ptr.{Ptr}
 use Rattle.crossbeam_epoch.specs.World.History.{Mark, Pinned, Repinned, Unpinned, Deferred, Called, began, blocks, deferrals, IsGraceful, WasDeferred, AreCalledLater}
-use Rattle.crossbeam_epoch.specs.World.Reach.{Act, Quiet, Marked, GivenBack, Moment, with_act, marks_of, InReach, from_cell, from_root, links_of, IsIn, WasIn, WasLive, mark_changes_pin, changes_pin, Visible, LeavesFirst, EntersLive, GivesUnseen, KeepsLinks, mark_destroys, IsDestruction, DestructionsTold, IsNow, IsCareful, Tells, InSight}
+use Rattle.crossbeam_epoch.specs.World.Reach.{Act, Quiet, Marked, GivenBack, Moment, with_act, marks_of, InReach, from_cell, from_root, links_of, IsIn, WasIn, WasLive, mark_changes_pin, changes_pin, Visible, LeavesFirst, EntersLive, GivesUnseen, KeepsLinks, mark_destroys, IsDestruction, DestructionsTold, IsNow, IsCareful, HasMoments, InSight}
 use Rattle.crossbeam_epoch.specs.World.Machine.{State, null}
 use Rattle.crossbeam_epoch.specs.World.Store.{value_at}
 
@@ -191,18 +191,18 @@ at_most_one true = omega arith
 at_most_one false = omega arith
 
 -- the theorem over moments that led to a state
-pub seen_stands : {T J : Type 0} (names : T → List Name) (h : List Moment) (s : State T J) (p : ℕ) (n : Name) → Tells names h s → IsCareful h → is_some (began (marks_of h) p) ≡ true → Visible h p n → is_some (value_at s.store n) ≡ true
+pub seen_stands : {T J : Type 0} (names : T → List Name) (h : List Moment) (s : State T J) (p : ℕ) (n : Name) → HasMoments names h s → IsCareful h → is_some (began (marks_of h) p) ≡ true → Visible h p n → is_some (value_at s.store n) ≡ true
 seen_stands names [] s p n t u pinned seen = absurd seen
 seen_stands names (m ∷ h) s p n t u pinned seen =
     sym (t.now.1 n) ∙ visible_live m h p n u.leaves u.enters u.gives t.ends t.fits.graceful t.fits.later (λ k. let one = t.fits.once.tickets k in let le = at_most_one (nat_lt k s.next) in omega (arith, one, le)) pinned seen
 
 -- a name that a cell holds which a stretch saw was seen too
-pub seen_link : {T J : Type 0} (names : T → List Name) (h : List Moment) (s : State T J) (p : ℕ) (c n : Name) → Tells names h s → KeepsLinks h → Visible h p c → Contains (links_of names s.store c) n → Visible h p n
+pub seen_link : {T J : Type 0} (names : T → List Name) (h : List Moment) (s : State T J) (p : ℕ) (c n : Name) → HasMoments names h s → KeepsLinks h → Visible h p c → Contains (links_of names s.store c) n → Visible h p n
 seen_link names [] s p c n t keeps seen holds = absurd seen
 seen_link names (m ∷ h) s p c n t keeps seen holds = visible_link m h p c n keeps seen (subst (λ (l : List Name). Contains l n) (sym (t.now.2 c)) holds)
 
 -- a name that a root holds is seen by every stretch
-pub root_seen : {T J : Type 0} (names : T → List Name) (h : List Moment) (s : State T J) (p : ℕ) (n : Name) (ptr : Ptr) → Tells names h s → Contains s.roots ptr → ptr.name ≡ Some n → Visible h p n
+pub root_seen : {T J : Type 0} (names : T → List Name) (h : List Moment) (s : State T J) (p : ℕ) (n : Name) (ptr : Ptr) → HasMoments names h s → Contains s.roots ptr → ptr.name ≡ Some n → Visible h p n
 root_seen names [] s p n ptr t holds is = absurd t.now
 root_seen names (m ∷ h) s p n ptr t holds is = inl (from_root ptr n (subst (λ (l : List Ptr). Contains l ptr) (sym t.now.0) holds) is)
 
@@ -241,6 +241,7 @@ pub ended_by : {T J : Type 0} (names : T → List Name) (m : Moment) (h : List M
 ended_by names m [] s n now ends live gone = absurd now
 ended_by names m (b ∷ h) s n now ends live gone = ends.0 n (now.1 n ∙ live) gone
 
+-- a name that isn't destroyed now wasn't so at some moment
 pub live_was : {T J : Type 0} (names : T → List Name) (h : List Moment) (s : State T J) (n : Name) → IsNow names h s → is_some (value_at s.store n) ≡ true → WasLive h n
 live_was names [] s n now live = absurd now
 live_was names (m ∷ h) s n now live = inl (now.1 n ∙ live)

@@ -9,7 +9,7 @@ use Rattle.std.proofs.lemmas.List.{append-nil, length-append}
 use Rattle.std.proofs.lemmas.List.Elements.{Contains-append_right}
 use Rattle.std.proofs.lemmas.List.Sums.{sum_by-cons}
 use Rattle.std.proofs.lemmas.Grind.{div_ceil_times}
-use Rattle.crossbeam_epoch.specs.declared.bag.Entry.{Entry}
+use Rattle.crossbeam_epoch.specs.declared.bag.Deferral.{Deferral}
 use Rattle.crossbeam_epoch.specs.declared.bag.Sealed.{Sealed}
 use Rattle.crossbeam_epoch.specs.declared.names.Name.{Name}
 use Rattle.crossbeam_epoch.specs.declared.world.participant.Participant.{Participant}
@@ -38,20 +38,20 @@ abbrev pub Sheds : {J : Type 0} → List (Sealed J) → List (Sealed J) → Type
 Sheds {J} queue queue' = (gone : List (Sealed J)) × (queue ≡ gone ++ queue')
 
 -- where a pin stands
-abbrev PinAt : {J : Type 0} → (old new who expiry : ℕ) → List (Sealed J) → List (Entry J) → ℕ → List (Sealed J) → Participant J → Phase → Type 0
+abbrev PinAt : {J : Type 0} → (old new who expiry : ℕ) → List (Sealed J) → List (Deferral J) → ℕ → List (Sealed J) → Participant J → Phase → Type 0
 PinAt old new who expiry found bag epoch queue p Look = (epoch ≡ old) × (queue ≡ found) × (p.bag ≡ bag)
 PinAt old new who expiry found bag epoch queue p (Publish seen) = (epoch ≡ old) × (queue ≡ found) × (p.bag ≡ bag) × (seen ≡ old)
 PinAt old new who expiry found bag epoch queue p Idle = IsHeld old bag p × IsNear old new epoch × Sheds found queue
 PinAt old new who expiry found bag epoch queue p phase = CollectAt old new who expiry found bag epoch queue p phase
 
 -- where a flush stands
-abbrev FlushAt : {J : Type 0} → (old new who expiry : ℕ) → List (Sealed J) → List (Entry J) → ℕ → List (Sealed J) → Participant J → Phase → Type 0
+abbrev FlushAt : {J : Type 0} → (old new who expiry : ℕ) → List (Sealed J) → List (Deferral J) → ℕ → List (Sealed J) → Participant J → Phase → Type 0
 FlushAt old new who expiry found bag epoch queue p Seal = IsHeld old bag p × IsNear old new epoch × (queue ≡ found) × (bag ≡ [] → ⊥)
 FlushAt old new who expiry found bag epoch queue p (Queue seal) = IsHeld old bag p × IsNear old new epoch × (queue ≡ found) × (bag ≡ [] → ⊥)
 FlushAt {J} old new who expiry found bag epoch queue p phase = (sealed : List (Sealed J)) × IsSealedBag bag sealed × CollectAt old new who expiry (found ++ sealed) [] epoch queue p phase
 
 module _ {J : Type 0} where
-  pin_collects : (old new who expiry : ℕ) (found : List (Sealed J)) (bag : List (Entry J)) (epoch : ℕ) (queue : List (Sealed J)) (p : Participant J) (phase : Phase)
+  pin_collects : (old new who expiry : ℕ) (found : List (Sealed J)) (bag : List (Deferral J)) (epoch : ℕ) (queue : List (Sealed J)) (p : Participant J) (phase : Phase)
       → CollectAt old new who expiry found bag epoch queue p phase → PinAt old new who expiry found bag epoch queue p phase
   pin_collects old new who expiry found bag epoch queue p Idle c = (c.0, inr c.1, (c.2.taken, c.2.front))
   pin_collects old new who expiry found bag epoch queue p Look c = absurd c
@@ -71,7 +71,7 @@ module _ {J : Type 0} where
   pin_collects old new who expiry found bag epoch queue p (Take answered bags) c = c
   pin_collects old new who expiry found bag epoch queue p (Call answered bags seal) c = c
 
-  flush_collects : (old new who expiry : ℕ) (found : List (Sealed J)) (bag : List (Entry J)) (epoch : ℕ) (queue : List (Sealed J)) (p : Participant J) (phase : Phase) (sealed : List (Sealed J)) → IsSealedBag bag sealed
+  flush_collects : (old new who expiry : ℕ) (found : List (Sealed J)) (bag : List (Deferral J)) (epoch : ℕ) (queue : List (Sealed J)) (p : Participant J) (phase : Phase) (sealed : List (Sealed J)) → IsSealedBag bag sealed
       → CollectAt old new who expiry (found ++ sealed) [] epoch queue p phase → FlushAt old new who expiry found bag epoch queue p phase
   flush_collects old new who expiry found bag epoch queue p Seal sealed own c = absurd c
   flush_collects old new who expiry found bag epoch queue p (Queue seal) sealed own c = absurd c
@@ -91,19 +91,19 @@ module _ {J : Type 0} where
   flush_collects old new who expiry found bag epoch queue p (Take answered bags) sealed own c = (sealed, own, c)
   flush_collects old new who expiry found bag epoch queue p (Call answered bags seal) sealed own c = (sealed, own, c)
 
-  pub sealed_own : (bag jobs : List (Entry J)) (seal : ℕ) → jobs ≡ bag → (bag ≡ [] → ⊥) → IsSealedBag bag ((record { seal = seal; jobs = jobs }) ∷ [])
+  pub sealed_own : (bag jobs : List (Deferral J)) (seal : ℕ) → jobs ≡ bag → (bag ≡ [] → ⊥) → IsSealedBag bag ((record { seal = seal; jobs = jobs }) ∷ [])
   sealed_own [] jobs seal is some = absurd (some refl)
-  sealed_own (e ∷ bag) jobs seal is some = (seal, ap (λ (x : List (Entry J)). (record { seal = seal; jobs = x }) ∷ []) is)
+  sealed_own (e ∷ bag) jobs seal is some = (seal, ap (λ (x : List (Deferral J)). (record { seal = seal; jobs = x }) ∷ []) is)
 
-  pub sealed_none : (bag : List (Entry J)) → bag ≡ [] → IsSealedBag bag []
+  pub sealed_none : (bag : List (Deferral J)) → bag ≡ [] → IsSealedBag bag []
   sealed_none [] e = refl
   sealed_none (x ∷ bag) e = absurd (cc e)
 
-  pub some_jobs : (bag : List (Entry J)) → (length bag == 0) ≡ false → bag ≡ [] → ⊥
+  pub some_jobs : (bag : List (Deferral J)) → (length bag == 0) ≡ false → bag ≡ [] → ⊥
   some_jobs [] e is = absurd (cc e)
   some_jobs (x ∷ bag) e is = absurd (cc is)
 
-  pub no_jobs : (bag : List (Entry J)) → (length bag == 0) ≡ true → bag ≡ []
+  pub no_jobs : (bag : List (Deferral J)) → (length bag == 0) ≡ true → bag ≡ []
   no_jobs [] e = refl
   no_jobs (x ∷ bag) e = absurd (grind (arith, nat_tests))
 
@@ -119,10 +119,10 @@ pub record IsKept {T J : Type 0} (s : State T J) (who : ℕ) (now : State T J) :
   pub limits : now.limits ≡ s.limits
   pub long : length now.table ≡ length s.table
   pub others : (q : ℕ) → q ≢ who → place now q ≡ place s q
-  pub fewer : (f : Entry J → ℕ) → weight f now ≤ weight f s
+  pub fewer : (f : Deferral J → ℕ) → weight f now ≤ weight f s
 
 module _ {T J : Type 0} where
-  fewer_jobs : (s s' : State T J) (c : Option (ℕ × Option Name)) (f : Entry J → ℕ) → JobsAfter s c s' → weight f s' ≤ weight f s
+  fewer_jobs : (s s' : State T J) (c : Option (ℕ × Option Name)) (f : Deferral J → ℕ) → JobsAfter s c s' → weight f s' ≤ weight f s
   fewer_jobs s s' None f j = let e = j.2 f in omega (arith, e)
   fewer_jobs s s' (Some c) f j = let e = j.4 f in omega (arith, e)
 
@@ -146,7 +146,7 @@ module _ {T J : Type 0} where
   pub kept_on : (s now later : State T J) (who : ℕ) → IsKept s who now → IsKept now who later → IsKept s who later
   kept_on s now later who a b = record { past = b.past; fits = b.fits; orderly = b.orderly; sealing = b.sealing; limits = b.limits ∙ a.limits; long = b.long ∙ a.long; others = λ q ne. b.others q ne ∙ a.others q ne; fewer = λ f. (let x = a.fewer f in let y = b.fewer f in omega (arith, x, y)) }
 
-module _ {T J : Type 0} (old new who expiry : ℕ) (found : List (Sealed J)) (bag : List (Entry J)) where
+module _ {T J : Type 0} (old new who expiry : ℕ) (found : List (Sealed J)) (bag : List (Deferral J)) where
   abbrev Pins : State T J → Type 0
   Pins now = PinAt old new who expiry found bag now.epoch now.queue (place now who) (place now who).phase
 
@@ -225,7 +225,7 @@ module _ {T J : Type 0} (old new who expiry : ℕ) (found : List (Sealed J)) (ba
   abbrev Unpins : State T J → Type 0
   Unpins now = (now.epoch ≡ new) × (now.queue ≡ found) × ((place now who).word ≡ None) × ((place now who).bag ≡ bag) × ((place now who).phase ≡ Idle)
 
-  alone_of : (s now : State T J) → ((q : ℕ) → q ≢ who → (place s q).word ≡ None) → new ≡ next_epoch old s.limits.epoch_max → s.limits.expiry ≡ expiry → IsKept s who now → (queue : List (Sealed J)) (jobs : List (Entry J))
+  alone_of : (s now : State T J) → ((q : ℕ) → q ≢ who → (place s q).word ≡ None) → new ≡ next_epoch old s.limits.epoch_max → s.limits.expiry ≡ expiry → IsKept s who now → (queue : List (Sealed J)) (jobs : List (Deferral J))
       → IsAlone {T = T} {J = J} old new who expiry queue jobs now
   alone_of s now un is same k queue jobs = record {
     others = λ q ne. ap (λ (p : Participant J). p.word) (k.others q ne) ∙ un q ne;
@@ -334,7 +334,7 @@ pub record IsRounded {T J : Type 0} (s : State T J) (who : ℕ) (s' : State T J)
   pub idle : (place s' who).phase ≡ Idle
 
 module _ {J : Type 0} where
-  sealed_nothing : (bag : List (Entry J)) (sealed : List (Sealed J)) → bag ≡ [] → IsSealedBag bag sealed → sealed ≡ []
+  sealed_nothing : (bag : List (Deferral J)) (sealed : List (Sealed J)) → bag ≡ [] → IsSealedBag bag sealed → sealed ≡ []
   sealed_nothing [] sealed e own = own
   sealed_nothing (x ∷ bag) sealed e own = absurd (cc e)
 
@@ -344,7 +344,7 @@ module _ {J : Type 0} where
   shed_in : (queue queue' : List (Sealed J)) → Sheds queue queue' → (b : Sealed J) → Contains queue' b → Contains queue b
   shed_in queue queue' s b m = rw s.1 (Contains-append_right s.0 queue' b m)
 
-  jobs_counted : (jobs : List (Entry J)) → sum_by one jobs ≡ length jobs
+  jobs_counted : (jobs : List (Deferral J)) → sum_by one jobs ≡ length jobs
   jobs_counted [] = refl
   jobs_counted (e ∷ jobs) = let rest = jobs_counted jobs in omega (arith, rest, sum_by-cons one e jobs)
 

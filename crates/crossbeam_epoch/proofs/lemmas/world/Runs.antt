@@ -5,7 +5,7 @@ use Rattle.std.specs.List.{sum_by}
 use Rattle.std.proofs.lemmas.Bool.{cases_lt}
 use Rattle.std.proofs.lemmas.Bool.Decides.{nat_tests}
 use Rattle.std.proofs.lemmas.List.{set-get_or, get_or_past, set_past, length-replicate, get_or-replicate, take_more, length-take-le}
-use Rattle.crossbeam_epoch.specs.declared.bag.Entry.{Entry}
+use Rattle.crossbeam_epoch.specs.declared.bag.Deferral.{Deferral}
 use Rattle.crossbeam_epoch.specs.declared.bag.Work.{Work}
 use Rattle.crossbeam_epoch.specs.declared.limits.Limits.{Limits}
 use Rattle.crossbeam_epoch.specs.declared.names.Name.{Name}
@@ -39,14 +39,17 @@ word_some : (w : Option ℕ) → is_none w ≡ false → (x : ℕ) × (w ≡ Som
 word_some None e = absurd (cc e)
 word_some (Some x) e = (x, refl)
 
-word_none : (w : Option ℕ) → is_none w ≡ true → w ≡ None
+-- a word that is seen to be none is none
+pub word_none : (w : Option ℕ) → is_none w ≡ true → w ≡ None
 word_none None e = refl
 word_none (Some x) e = absurd (cc e)
 
-not_some : (w : Option ℕ) → is_some w ≡ false → w ≡ None
+-- a word that isn't seen to be some is none
+pub not_some : (w : Option ℕ) → is_some w ≡ false → w ≡ None
 not_some None e = refl
 not_some (Some x) e = absurd (cc e)
 
+-- where there is no fault, the participant is known and has none further
 pub known : (b : Bool) (x : Option Fault) → (if b then x else Some F.Unknown) ≡ None → (b ≡ true) × (x ≡ None)
 known true x e = (refl, e)
 known false x e = absurd (cc e)
@@ -55,17 +58,18 @@ no_quiet : (next : ℕ) (q : Option Fault) → or_count next q ≡ None → q �
 no_quiet next None e = refl
 no_quiet next (Some f) e = absurd (cc e)
 
+-- where a removal has no fault, its deferral has none
 pub no_destroy_fault : (b : Bool) (x : Option Fault) → (if b then x else Some F.Unknown) ≡ None → x ≡ None
 no_destroy_fault true x e = e
 no_destroy_fault false x e = absurd (cc e)
 
 module _ {J : Type 0} where
-  no_items : (xs : List (Entry J)) → (length xs == 0) ≡ true → xs ≡ []
+  no_items : (xs : List (Deferral J)) → (length xs == 0) ≡ true → xs ≡ []
   no_items [] e = refl
   no_items (x ∷ xs) e = absurd (grind (arith, nat_tests))
 
   -- a call that may find no memory has no job in hand
-  empty_hand : (event : Event) (phase : Phase) (hand : List (Entry J)) → needs_memory event phase ≡ true → HandFits phase hand → hand ≡ []
+  empty_hand : (event : Event) (phase : Phase) (hand : List (Deferral J)) → needs_memory event phase ≡ true → HandFits phase hand → hand ≡ []
   empty_hand (Begin op) phase hand e fits = absurd (cc e)
   empty_hand Go (Queue seal) hand e fits = fits
   empty_hand Go (ReleaseQueue seal) hand e fits = fits
@@ -109,7 +113,7 @@ module _ {J : Type 0} where
   pub blank_at : (n q : ℕ) → get_or (replicate n (blank {J = J})) q blank ≡ blank
   blank_at n q = elim (cases_lt q n) [ inl lt ↦ get_or-replicate n q blank blank lt | inr ge ↦ get_or_past (replicate n blank) q blank (rw length-replicate ge) ]
 
-  pub blanks_weigh_none : (w : Entry J → ℕ) (n : ℕ) → sum_by (at_place w) (replicate n blank) ≡ 0
+  pub blanks_weigh_none : (w : Deferral J → ℕ) (n : ℕ) → sum_by (at_place w) (replicate n blank) ≡ 0
   blanks_weigh_none w zero = refl
   blanks_weigh_none w (suc n) = blanks_weigh_none w n
 

@@ -6,7 +6,7 @@ use Rattle.std.proofs.lemmas.Bool.{cases_eq, cases_lt}
 use Rattle.std.proofs.lemmas.Bool.Decides.{nat_tests}
 use Rattle.std.proofs.lemmas.List.{set_past}
 use Rattle.std.proofs.lemmas.List.Elements.{Contains-push_cases}
-use Rattle.crossbeam_epoch.specs.declared.bag.Entry.{Entry}
+use Rattle.crossbeam_epoch.specs.declared.bag.Deferral.{Deferral}
 use Rattle.crossbeam_epoch.specs.declared.bag.Work.{Work}
 use Rattle.crossbeam_epoch.specs.declared.fault.Fault.{Fault}
 use Rattle.crossbeam_epoch.specs.declared.fault.Fault.TheVariants as F
@@ -151,7 +151,7 @@ module _ {T J : Type 0} where
   stay : (s : State T J) (who : ℕ) (p : Participant J) → who < length s.table → IsSealing s → SealsAt s.epoch (length p.bag) p.phase → IsSealing (with_place s who p)
   stay s who p lt i here = put s (with_place s who p) who p refl (omega arith) lt i here i.filled i.past
 
-  queues_bag : (s : State T J) (who seal : ℕ) (p : Participant J) (bag : List (Entry J)) → who < length s.table → IsSealing s → SealsAt s.epoch (length p.bag) p.phase → 0 < length bag → seal ≤ s.epoch
+  queues_bag : (s : State T J) (who seal : ℕ) (p : Participant J) (bag : List (Deferral J)) → who < length s.table → IsSealing s → SealsAt s.epoch (length p.bag) p.phase → 0 < length bag → seal ≤ s.epoch
       → IsSealing (record s { table = slice_set s.table who p; queue = s.queue ++ record { seal = seal; jobs = bag } ∷ []; room = room_behind s.room })
   queues_bag s who seal p bag lt i here some le =
       put s (record s { table = slice_set s.table who p; queue = s.queue ++ record { seal = seal; jobs = bag } ∷ []; room = room_behind s.room }) who p refl (omega arith) lt i here
@@ -288,7 +288,7 @@ module _ {T J : Type 0} where
   by_full : (s : State T J) (who : ℕ) (work : Work J) (b : Bool) → (length (place s who).bag == 64) ≡ b → who < length s.table → ((n : ℕ) → SealsAt s.epoch n (place s who).phase) → IsSealing s → IsSealing (if b then deferred_anew s who work else deferred s who work)
   by_full s who work true full lt quiet i =
       let old = place s who in
-      let entry : Entry J = record { ticket = s.next; work = work } in
+      let entry : Deferral J = record { ticket = s.next; work = work } in
       let some : 0 < length old.bag = grind (arith, nat_tests) in
       put s (deferred_anew s who work) who (record old { bag = entry ∷ [] }) refl (omega arith) lt i (quiet 1)
       (push_filled s.queue (record { seal = s.epoch; jobs = old.bag }) i.filled some) (push_past s.queue (record { seal = s.epoch; jobs = old.bag }) s.epoch i.past (omega arith))

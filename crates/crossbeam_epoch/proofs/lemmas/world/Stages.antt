@@ -126,7 +126,7 @@ calls_still answered bags seal false true r = refl
 calls_still answered bags seal false false r = absurd (cc r)
 
 -- a call that ended is between two calls
-done_idle : (phase : Phase) → outcome_at phase ≡ Done → phase ≡ Idle
+pub done_idle : (phase : Phase) → outcome_at phase ≡ Done → phase ≡ Idle
 done_idle Idle e = refl
 done_idle Look e = absurd (cc e)
 done_idle (Publish seen) e = absurd (cc e)

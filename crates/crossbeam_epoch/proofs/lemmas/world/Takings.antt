@@ -5,7 +5,7 @@ use Rattle.std.specs.List.{Contains}
 use Rattle.std.proofs.lemmas.Bool.Decides.{nat_tests}
 use Rattle.std.proofs.lemmas.List.{append-nil}
 use Rattle.std.proofs.lemmas.List.Elements.{Contains-get_or}
-use Rattle.crossbeam_epoch.specs.declared.bag.Entry.{Entry}
+use Rattle.crossbeam_epoch.specs.declared.bag.Deferral.{Deferral}
 use Rattle.crossbeam_epoch.specs.declared.bag.Sealed.{Sealed}
 use Rattle.crossbeam_epoch.specs.declared.world.participant.Participant.{Participant}
 use Rattle.crossbeam_epoch.specs.declared.world.participant.Phase.{Phase}
@@ -26,11 +26,11 @@ use Rattle.crossbeam_epoch.proofs.lemmas.world.Runs.{in_table, known}
 use Rattle.crossbeam_epoch.proofs.lemmas.world.Wholes.{Unrefused, faultless, as_moved, finishing}
 
 -- the queue as a flush of this bag found it, with the bag once it is sealed
-abbrev IsFound : {J : Type 0} → List (Sealed J) → List (Entry J) → (List (Sealed J) → Type 0) → Type 0
+abbrev IsFound : {J : Type 0} → List (Sealed J) → List (Deferral J) → (List (Sealed J) → Type 0) → Type 0
 IsFound {J} queue bag P = (sealed : List (Sealed J)) × IsSealedBag bag sealed × P (queue ++ sealed)
 
 -- where a flush stands
-abbrev TakesAt : {J : Type 0} → (expiry : ℕ) → List (Sealed J) → List (Entry J) → ℕ → List (Sealed J) → Participant J → Phase → Type 0
+abbrev TakesAt : {J : Type 0} → (expiry : ℕ) → List (Sealed J) → List (Deferral J) → ℕ → List (Sealed J) → Participant J → Phase → Type 0
 TakesAt expiry found bag epoch queue p Seal = (queue ≡ found) × (p.bag ≡ bag) × (bag ≡ [] → ⊥)
 TakesAt expiry found bag epoch queue p (Queue seal) = (queue ≡ found) × (p.bag ≡ bag) × (bag ≡ [] → ⊥)
 TakesAt expiry found bag epoch queue p Load = IsFound found bag (λ all. queue ≡ all)
@@ -41,7 +41,7 @@ TakesAt expiry found bag epoch queue p (Call answered bags seal) = IsFound found
 TakesAt expiry found bag epoch queue p Idle = IsFound found bag (λ all. TakesOff expiry epoch all queue)
 TakesAt expiry found bag epoch queue p _ = ⊥
 
-module _ {T J : Type 0} (who expiry : ℕ) (found : List (Sealed J)) (bag : List (Entry J)) where
+module _ {T J : Type 0} (who expiry : ℕ) (found : List (Sealed J)) (bag : List (Deferral J)) where
   abbrev Takings : State T J → Type 0
   Takings now = TakesAt expiry found bag now.epoch now.queue (place now who) (place now who).phase
 
@@ -84,7 +84,7 @@ module _ {T J : Type 0} (who expiry : ℕ) (found : List (Sealed J)) (bag : List
       put (called_one now who answered bags seal) now.table (record (place now who) { hand = rest; phase = after_call (length rest) answered bags seal }) refl lt
       (after_one rest (nat_lt 0 (length rest)) (nat_lt bags 8) refl refl)
     where
-      after_one : (rest : List (Entry J)) (more room : Bool) → nat_lt 0 (length rest) ≡ more → nat_lt bags 8 ≡ room
+      after_one : (rest : List (Deferral J)) (more room : Bool) → nat_lt 0 (length rest) ≡ more → nat_lt bags 8 ≡ room
           → TakesAt expiry found bag now.epoch now.queue (record (place now who) { hand = rest; phase = if more then Call answered bags seal else if room then Take answered bags else Idle }) (if more then Call answered bags seal else if room then Take answered bags else Idle)
       after_one rest true room m r = (c.0, c.1, (c.2.0, c.2.1, grind (arith, nat_tests)))
       after_one rest false true m r = (c.0, c.1, (c.2.0, c.2.1))

@@ -28,7 +28,7 @@ use Rattle.crossbeam_epoch.specs.World.Machine.{State, place, in_phase, is_due, 
 use Rattle.crossbeam_epoch.specs.World.Store.{Store, fresh, cell_at, value_in, value_at, emptied, replaced, placed, with_cell, is_usable, IsNext, was_given}
 use Rattle.crossbeam_epoch.specs.World.Steps.{after, gone, needs_memory, called_by, called_entry, called_in, defer_fault, IsReport, begin_marks, phase_marks, moved_marks, unless_refused, marks, state_after, AreReports}
 use Rattle.crossbeam_epoch.specs.World.Fits.{Fits, IsTable}
-use Rattle.crossbeam_epoch.specs.World.Reach.{Act, Quiet, Marked, Moment, WasLive, with_act, marks_of, IsDestruction, moment, Tells, NextMoment, newest_act, step_act, moments_after, GivenBack}
+use Rattle.crossbeam_epoch.specs.World.Reach.{Act, Quiet, Marked, Moment, WasLive, with_act, marks_of, IsDestruction, moment, HasMoments, NextMoment, newest_act, step_act, moments_after, GivenBack}
 use Rattle.crossbeam_epoch.proofs.lemmas.world.Runs.{fits_after, fits_opened, fits_registered, fits_store, fits_roots, fits_deferring}
 use Rattle.crossbeam_epoch.proofs.lemmas.world.Givens.{Keeps, live_given, emptied_keeps, replaced_keeps, placed_keeps, after_keeps, next_new}
 use Rattle.crossbeam_epoch.proofs.lemmas.world.Tables.{table_is, table_after, table_new, table_registered, table_deferral}
@@ -262,8 +262,8 @@ module _ {T J : Type 0} where
       subst (λ c. IsDestruction (newest_act (unless_refused r.outcome (moved_marks s who event c []) [])) n) (sym is.job) (outcome_ends s who event n r.outcome live gone)
 
   -- a call or a step tells what it destroys
-  pub tells_act : (names : T → List Name) (h : List Moment) (s s' : State T J) (act : Act) → Tells names h s → Fits (with_act act (marks_of h)) s'
-      → ((n : Name) → is_some (value_at s.store n) ≡ true → is_some (value_at s'.store n) ≡ false → IsDestruction act n) → IsTable s'.limits.participants s'.table → Keeps s.store s'.store → Tells names (moment names act s' ∷ h) s'
+  pub tells_act : (names : T → List Name) (h : List Moment) (s s' : State T J) (act : Act) → HasMoments names h s → Fits (with_act act (marks_of h)) s'
+      → ((n : Name) → is_some (value_at s.store n) ≡ true → is_some (value_at s'.store n) ≡ false → IsDestruction act n) → IsTable s'.limits.participants s'.table → Keeps s.store s'.store → HasMoments names (moment names act s' ∷ h) s'
   tells_act names [] s s' act t f ends table keeps = absurd t.now
   tells_act names (b ∷ h) s s' act t f ends table keeps = record {
     fits = f;
@@ -273,15 +273,15 @@ module _ {T J : Type 0} where
     given = λ n was. elim was [ inl now ↦ live_given s'.store n now | inr before ↦ keeps n (t.given n before) ];
   }
 
-  pub tells_after : (names : T → List Name) (h : List Moment) (s : State T J) (who : ℕ) (event : Event) (r : Report) → IsReport s who event r → Tells names h s
-      → Tells names (moment names (step_act s who event r) (after s who event r.outcome) ∷ h) (after s who event r.outcome)
+  pub tells_after : (names : T → List Name) (h : List Moment) (s : State T J) (who : ℕ) (event : Event) (r : Report) → IsReport s who event r → HasMoments names h s
+      → HasMoments names (moment names (step_act s who event r) (after s who event r.outcome) ∷ h) (after s who event r.outcome)
   tells_after names h s who event r is t =
       tells_act names h s (after s who event r.outcome) (step_act s who event r) t
       (subst (λ g. Fits g (after s who event r.outcome)) (sym (marks_act s who event r (marks_of h))) (fits_after (marks_of h) s who event r is t.fits))
       (λ n live gone. step_ends s who event r n is live gone)
       (table_after s who event r is t.table) (after_keeps s who event r.outcome)
 
-  pub tells_run : (names : T → List Name) (h : List Moment) (s : State T J) (steps : List Step) (reports : List Report) → AreReports s steps reports → Tells names h s → Tells names (moments_after names s steps reports h) (state_after s steps reports)
+  pub tells_run : (names : T → List Name) (h : List Moment) (s : State T J) (steps : List Step) (reports : List Report) → AreReports s steps reports → HasMoments names h s → HasMoments names (moments_after names s steps reports h) (state_after s steps reports)
   tells_run names h s [] [] are t = t
   tells_run names h s [] (r ∷ reports) are t = absurd are
   tells_run names h s (step ∷ steps) [] are t = t
@@ -289,11 +289,11 @@ module _ {T J : Type 0} where
       tells_run names (moment names (step_act s step.who step.event r) (after s step.who step.event r.outcome) ∷ h) (after s step.who step.event r.outcome) steps reports are.1
       (tells_after names h s step.who step.event r are.0 t)
 
-  pub tells_opened : (names : T → List Name) (limits : Limits) (roots : ℕ) (s : State T J) → s ≡ opened limits roots → limits.expiry ≡ 2 → Tells names (moment names Quiet s ∷ []) s
+  pub tells_opened : (names : T → List Name) (limits : Limits) (roots : ℕ) (s : State T J) → s ≡ opened limits roots → limits.expiry ≡ 2 → HasMoments names (moment names Quiet s ∷ []) s
   tells_opened names limits roots s is two = rw is (record { fits = fits_opened limits roots (omega (arith, two)); now = (refl, λ n. refl, λ n. refl); ends = tt; table = table_new limits.participants; given = λ n was. elim was [ inl now ↦ live_given (opened {T = T} {J = J} limits roots).store n now | inr before ↦ absurd before ] })
 
   -- a call that leaves the cells as they are
-  tells_same : (names : T → List Name) (h : List Moment) (s s' : State T J) (act : Act) → Tells names h s → Fits (with_act act (marks_of h)) s' → s'.store ≡ s.store → IsTable s'.limits.participants s'.table → Tells names (moment names act s' ∷ h) s'
+  tells_same : (names : T → List Name) (h : List Moment) (s s' : State T J) (act : Act) → HasMoments names h s → Fits (with_act act (marks_of h)) s' → s'.store ≡ s.store → IsTable s'.limits.participants s'.table → HasMoments names (moment names act s' ∷ h) s'
   tells_same names h s s' act t f same table = tells_act names h s s' act t f (λ n live gone. same_ends s.store s'.store n same live gone) table (λ n given. ap (λ (x : Store T). was_given x n) same ∙ given)
 
   -- a call that changes nothing
@@ -361,10 +361,10 @@ module _ {T J : Type 0} where
   tells_replaced names s v st name x (Ok y) is on back = at_store names s v Quiet (replaced v.store name.cell x) st is on.1 (replaced_told names v name.cell x)
   tells_replaced names s v st name x (Err y) is on back = at_store names s v Quiet v.store st is back.2 (still_told names v)
 
-  pub opened_told : {E : Type 0} (names : T → List Name) (limits : Limits) (roots : ℕ) (r : Result (State T J) E) → IfOk r (λ s. s ≡ opened limits roots) → IfOk r (λ s. limits.expiry ≡ 2 → Tells names (moment names Quiet s ∷ []) s)
+  pub opened_told : {E : Type 0} (names : T → List Name) (limits : Limits) (roots : ℕ) (r : Result (State T J) E) → IfOk r (λ s. s ≡ opened limits roots) → IfOk r (λ s. limits.expiry ≡ 2 → HasMoments names (moment names Quiet s ∷ []) s)
   opened_told names limits roots (Ok s) is = λ two. tells_opened names limits roots s is two
   opened_told names limits roots (Err e) is = tt
 
   -- a name that is placed was never live before
-  pub placed_new : (names : T → List Name) (s : State T J) (name : Name) → IsNext s.store name → (h : List Moment) → Tells names h s → WasLive h name → ⊥
+  pub placed_new : (names : T → List Name) (s : State T J) (name : Name) → IsNext s.store name → (h : List Moment) → HasMoments names h s → WasLive h name → ⊥
   placed_new names s name next = λ h t was. next_new s.store name next (t.given name was)

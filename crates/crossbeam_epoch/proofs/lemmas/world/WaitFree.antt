@@ -28,7 +28,7 @@ use Rattle.crossbeam_epoch.proofs.lemmas.world.Moves.{contains_tail}
 use Rattle.crossbeam_epoch.proofs.lemmas.world.Progress.{moves}
 use Rattle.crossbeam_epoch.proofs.lemmas.world.Runs.{known, begin_idle, refused_begin}
 use Rattle.crossbeam_epoch.proofs.lemmas.world.Stages.{begins, goes_on}
-use Rattle.crossbeam_epoch.proofs.lemmas.world.Wholes.{Unrefused, faultless, goes, from_front}
+use Rattle.crossbeam_epoch.proofs.lemmas.world.Wholes.{Unrefused, faultless, go_steps, from_front}
 
 -- a call in flight has a step left
 some_left : (w hand : ℕ) (op : Op) (phase : Phase) → comes_by (stage phase) op ≡ true → 0 < left_in w phase hand
@@ -71,6 +71,7 @@ some_steps w O.Flush = omega arith
 some_steps w O.Release = omega arith
 some_steps w (O.Secure n) = omega arith
 
+-- no call has more steps than 527 and one for each place
 pub at_most : (w : ℕ) (op : Op) → most_steps w op ≤ w + 527
 at_most w O.Pin = omega arith
 at_most w O.Unpin = omega arith
@@ -80,7 +81,7 @@ at_most w O.Release = omega arith
 at_most w (O.Secure n) = omega arith
 
 -- where each step goes on, each is counted
-all_counted : (who : ℕ) (rs : List Report) → ((x : Report) → Contains rs x → x.outcome ≡ Running) → steps_in_flight who (goes who (length rs)) rs ≡ length rs
+all_counted : (who : ℕ) (rs : List Report) → ((x : Report) → Contains rs x → x.outcome ≡ Running) → steps_in_flight who (go_steps who (length rs)) rs ≡ length rs
 all_counted who [] all = refl
 all_counted who (r ∷ rs) all =
     let own : (who == who) ≡ true = grind (arith, nat_tests) in
@@ -194,7 +195,7 @@ module _ {T J : Type 0} where
   all_run s who op (r ∷ rs) o are all =
       let steps = from_front who op (length rs) in
       let are' = rw steps at are in
-      let less = first_in_time s who op r (goes who (length rs)) rs o are'.0 (all r (0, omega arith, refl)) are'.1 in
+      let less = first_in_time s who op r (go_steps who (length rs)) rs o are'.0 (all r (0, omega arith, refl)) are'.1 in
       let n = all_counted who rs (λ x m. all x (contains_tail r rs x m)) in
       omega (arith, less, n)
 

@@ -3,8 +3,7 @@ use Rattle.std.proofs.Common.{◌≡◌, ◌⊎◌, ℕ, zero, suc, List, [], �
 use Rattle.std.specs.List.{Contains}
 use Rattle.std.proofs.lemmas.List.Elements.{Contains-push_cases}
 use Rattle.crossbeam_epoch.specs.declared.fault.Fault.{Fault}
-use Rattle.crossbeam_epoch.specs.declared.world.participant.Phase.{Phase}
-use Rattle.crossbeam_epoch.specs.declared.world.participant.Phase.TheVariants.{Idle, Look, Publish, RepinLook, RepinPublish, Seal, Queue, ReleaseSeal, ReleaseQueue, Secure, SecureSeal, SecureQueue, Load, Inspect, Advance, Take, Call}
+use Rattle.crossbeam_epoch.specs.declared.world.participant.Phase.TheVariants.{Idle}
 use Rattle.crossbeam_epoch.specs.declared.world.report.Event.{Event}
 use Rattle.crossbeam_epoch.specs.declared.world.report.Event.TheVariants.{Begin, Go}
 use Rattle.crossbeam_epoch.specs.declared.world.report.Op.{Op}
@@ -13,35 +12,17 @@ use Rattle.crossbeam_epoch.specs.declared.world.report.Outcome.TheVariants.{Runn
 use Rattle.crossbeam_epoch.specs.declared.world.report.Report.{Report}
 use Rattle.crossbeam_epoch.specs.declared.world.report.Step.{Step}
 use Rattle.crossbeam_epoch.specs.World.Machine.{State, place}
-use Rattle.crossbeam_epoch.specs.World.Steps.{fault, outcome_at, moved, after, IsOutcome, IsReport, state_after, AreReports}
+use Rattle.crossbeam_epoch.specs.World.Steps.{fault, moved, after, IsOutcome, IsReport, state_after, AreReports}
 use Rattle.crossbeam_epoch.specs.World.Calls.{call_steps}
 use Rattle.crossbeam_epoch.specs.World.Rounds.{Finishes}
 use Rattle.crossbeam_epoch.proofs.lemmas.world.Moves.{contains_tail}
+use Rattle.crossbeam_epoch.proofs.lemmas.world.Stages.{done_idle}
 
 -- a step that isn't refused
 abbrev pub Unrefused : Outcome → Type 0
 Unrefused Running = Unit {0}
 Unrefused Done = Unit {0}
 Unrefused (Refused f) = ⊥
-
-done_idle : (phase : Phase) → outcome_at phase ≡ Done → phase ≡ Idle
-done_idle Idle e = refl
-done_idle Look e = absurd (cc e)
-done_idle (Publish seen) e = absurd (cc e)
-done_idle RepinLook e = absurd (cc e)
-done_idle (RepinPublish seen) e = absurd (cc e)
-done_idle Seal e = absurd (cc e)
-done_idle (Queue seal) e = absurd (cc e)
-done_idle ReleaseSeal e = absurd (cc e)
-done_idle (ReleaseQueue seal) e = absurd (cc e)
-done_idle (Secure n) e = absurd (cc e)
-done_idle SecureSeal e = absurd (cc e)
-done_idle (SecureQueue seal) e = absurd (cc e)
-done_idle Load e = absurd (cc e)
-done_idle (Inspect seen at) e = absurd (cc e)
-done_idle (Advance seen) e = absurd (cc e)
-done_idle (Take answered bags) e = absurd (cc e)
-done_idle (Call answered bags seal) e = absurd (cc e)
 
 is_unrefused : (o : Outcome) → (o ≡ Running) ⊎ (o ≡ Done) → Unrefused o
 is_unrefused Running e = tt
@@ -50,14 +31,15 @@ is_unrefused (Refused f) (inl e) = absurd (cc e)
 is_unrefused (Refused f) (inr e) = absurd (cc e)
 
 -- the steps of a call after its first
-abbrev pub goes : ℕ → ℕ → List Step
-goes who n = replicate n (record { who = who; event = Go })
+abbrev pub go_steps : ℕ → ℕ → List Step
+go_steps who n = replicate n (record { who = who; event = Go })
 
-goes_push : (who n : ℕ) → goes who n ++ (record { who = who; event = Go }) ∷ [] ≡ goes who (suc n)
+goes_push : (who n : ℕ) → go_steps who n ++ (record { who = who; event = Go }) ∷ [] ≡ go_steps who (suc n)
 goes_push who zero = refl
 goes_push who (suc n) = ap (λ (xs : List Step). (record { who = who; event = Go }) ∷ xs) (goes_push who n)
 
-pub from_front : (who : ℕ) (op : Op) (n : ℕ) → call_steps who op (suc n) ≡ (record { who = who; event = Begin op }) ∷ goes who n
+-- the steps of a call are its begin and the next ones
+pub from_front : (who : ℕ) (op : Op) (n : ℕ) → call_steps who op (suc n) ≡ (record { who = who; event = Begin op }) ∷ go_steps who n
 from_front who op zero = refl
 from_front who op (suc n) =
     ap (λ (xs : List Step). xs ++ (record { who = who; event = Go }) ∷ []) (from_front who op n)
@@ -98,8 +80,8 @@ module _ {T J : Type 0} where
 
   -- by the steps after the first
   through : (Inv : State T J → Type 0) (who : ℕ) → ((now : State T J) (r : Report) → Inv now → IsReport now who Go r → Unrefused r.outcome → Inv (after now who Go r.outcome))
-      → (now : State T J) (o : Outcome) (rs : List Report) → Inv now → (o ≡ Done → (place now who).phase ≡ Idle) → AreReports now (goes who (length rs)) rs → ((r : Report) → Contains rs r → Unrefused r.outcome)
-      → Inv (state_after now (goes who (length rs)) rs) × (newest_of o rs ≡ Done → (place (state_after now (goes who (length rs)) rs) who).phase ≡ Idle)
+      → (now : State T J) (o : Outcome) (rs : List Report) → Inv now → (o ≡ Done → (place now who).phase ≡ Idle) → AreReports now (go_steps who (length rs)) rs → ((r : Report) → Contains rs r → Unrefused r.outcome)
+      → Inv (state_after now (go_steps who (length rs)) rs) × (newest_of o rs ≡ Done → (place (state_after now (go_steps who (length rs)) rs) who).phase ≡ Idle)
   through Inv who next now o [] i idle are all = (i, idle)
   through Inv who next now o (r ∷ rs) i idle are all =
       through Inv who next (after now who Go r.outcome) r.outcome rs (next now r i are.0 (all r (0, omega arith, refl))) (ends_idle now who Go r are.0) are.1 (λ x m. all x (contains_tail r rs x m))

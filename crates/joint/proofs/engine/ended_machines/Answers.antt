@@ -2,7 +2,7 @@ use Rattle.std.proofs.Common.{◌++◌, ◌∷◌, [], ◌∙◌, ap, replicate}
 use Rattle.std.proofs.lemmas.List.{replicate_more}
 use borrow.Author.Count.{falls}
 use native.Mathlib.Nat.{le_antisymm}
-use Rattle.joint.specs.Intact.{resting}
+use Rattle.joint.specs.engine.Intact.{resting}
 use Rattle.joint.proofs.engine.ended_machines.Goals as goal
 
 pub loop-init : goal.loop-init

@@ -1,5 +1,5 @@
 use Rattle.std.proofs.Common.{◌≡◌, replicate}
-use Rattle.joint.specs.Intact.{resting}
+use Rattle.joint.specs.engine.Intact.{resting}
 use Rattle.joint.proofs.engine.ended_machines.Given as goal
 
 abbrev pub invariant-loop : goal.invariant-loop

@@ -2,7 +2,7 @@ use Rattle.std.proofs.Common.{◌++◌, ◌∷◌, [], ◌∙◌, ap, replicate}
 use Rattle.std.proofs.lemmas.List.{replicate_more}
 use borrow.Author.Count.{falls}
 use native.Mathlib.Nat.{le_antisymm}
-use Rattle.joint.specs.declared.call.Call.TheVariants.{Idle}
+use Rattle.joint.specs.declared.engine.in_flight.InFlight.TheVariants.{Idle}
 use Rattle.joint.proofs.engine.idle_calls.Goals as goal
 
 pub loop-init : goal.loop-init

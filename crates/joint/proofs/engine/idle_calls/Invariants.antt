@@ -1,5 +1,5 @@
 use Rattle.std.proofs.Common.{◌≡◌, replicate}
-use Rattle.joint.specs.declared.call.Call.TheVariants.{Idle}
+use Rattle.joint.specs.declared.engine.in_flight.InFlight.TheVariants.{Idle}
 use Rattle.joint.proofs.engine.idle_calls.Given as goal
 
 abbrev pub invariant-loop : goal.invariant-loop

@@ -1,4 +1,4 @@
-use Rattle.joint.proofs.lemmas.TreeStep.{protocol, stepped_safe, same_length}
+use Rattle.joint.proofs.lemmas.engine.TreeStep.{protocol, stepped_safe, same_length}
 use Rattle.joint.proofs.engine.step_tree.Goals as goal
 
 pub step_of-requires-clause-protocol : goal.step_of-requires-clause-protocol

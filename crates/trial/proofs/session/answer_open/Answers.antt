@@ -1,9 +1,10 @@
 use Rattle.std.proofs.Common.{◌≡◌, ◌∙◌, refl, ap, subst, sym, List, Some}
 use Rattle.std.specs.Prelude.{ℕ, length}
-use Rattle.joint.specs.Listing.{bytes_of, waiting_nodes}
+use Rattle.joint.specs.nodes.Listing.{bytes_of}
+use Rattle.joint.specs.engine.Census.{waiting_nodes}
 use Rattle.std.specs.List.{sum_by}
 use Rattle.trial.specs.declared.command.Command.{Command}
-use Rattle.trial.specs.declared.index.Index.{Index}
+use Rattle.trial.specs.declared.open_tree.OpenTree.{OpenTree}
 use Rattle.trial.specs.declared.reply.Reply.{Reply}
 use Rattle.trial.specs.declared.reply.Reply.TheVariants as reply
 use Rattle.trial.specs.Replies.{reply_of}
@@ -12,7 +13,7 @@ use Rattle.trial.proofs.Filling.{if_ok}
 use Rattle.trial.proofs.session.answer_open.Goals as goal
 
 -- a command that is this one
-as_this : (c d : Command) (old new : Index) (r : Reply) → c ≡ d → Answers (Some old) d (Some new) r → Answers (Some old) c (Some new) r
+as_this : (c d : Command) (old new : OpenTree) (r : Reply) → c ≡ d → Answers (Some old) d (Some new) r → Answers (Some old) c (Some new) r
 as_this c d old new r e h = let P : Command → Type 0 = λ x. Answers (Some old) x (Some new) r in subst P (sym e) h
 
 pub returns-in-Register-clause-ok : goal.returns-in-Register-clause-ok

@@ -1,7 +1,7 @@
 use Rattle.std.proofs.Common.{◌≡◌, ◌<◌, Ok, Some, IfOk, ap, length, nat_eq, rules, sym, ◌∙◌, subst, slice_index_or}
 use Rattle.std.proofs.lemmas.Option.{get_or_from_slice_get, slice_get_within, slice_get-get_or}
 use Rattle.judge.specs.Journal.{IsLegal}
-use Rattle.joint.specs.Auditing.{IsAudited}
+use Rattle.joint.specs.threads.Auditing.{IsAudited}
 use Rattle.trial.specs.Histories.{AreCalls}
 use Rattle.trial.proofs.Counting.{all_calls}
 use Rattle.trial.proofs.threads.history_by.Goals as goal

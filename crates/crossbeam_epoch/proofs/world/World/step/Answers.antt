@@ -1,6 +1,6 @@
 use Rattle.std.proofs.Common.{rules, ◌≡◌, ℕ, List, ◌∷◌, sym, ◌∙◌, true, ◌<◌, length}
 use Rattle.crossbeam_epoch.specs.World.History.{Mark}
-use Rattle.crossbeam_epoch.specs.World.Log.{Noted, Stepped, Shows}
+use Rattle.crossbeam_epoch.specs.World.Log.{LogLine, Stepped, Shows}
 use Rattle.crossbeam_epoch.specs.World.Machine.{State, place}
 use Rattle.crossbeam_epoch.specs.World.Reach.{NextMoment, step_act}
 use Rattle.crossbeam_epoch.specs.World.Steps.{after, marks, IsReport}
@@ -15,7 +15,7 @@ use Rattle.crossbeam_epoch.proofs.world.World.step.Goals as goal
 
 -- a step leads the moments on, and the log
 leads : {T J : Type 0} (names : T → List Name) (s s' : State T J) (who : ℕ) (event : Event) (r : Report) → IsReport s who event r → s' ≡ after s who event r.outcome
-    → NextMoment names (step_act s who event r) s s' × ((log : List Noted) (h : List Mark) → Shows log h s → Shows (Stepped (record { who = who; event = event }) r ∷ log) (marks s who event r h) s')
+    → NextMoment names (step_act s who event r) s s' × ((log : List LogLine) (h : List Mark) → Shows log h s → Shows (Stepped (record { who = who; event = event }) r ∷ log) (marks s who event r h) s')
 leads names s s' who event r report state = (λ h t. rw state (tells_after names h s who event r report t), λ log h w. rw state (shows_step log h s (record { who = who; event = event }) r report w))
 
 pub returns-in-Idle : goal.returns-in-Idle

@@ -1,6 +1,6 @@
 use Rattle.std.proofs.Common.{ap}
-use Rattle.joint.proofs.lemmas.Collecting.{intact_at}
-use Rattle.joint.proofs.lemmas.Reserving.{reserving_inside, abandoned}
+use Rattle.joint.proofs.lemmas.engine.Collecting.{intact_at}
+use Rattle.joint.proofs.lemmas.engine.Reserving.{reserving_inside, abandoned}
 use Rattle.joint.proofs.engine.Engine.abandon.Goals as goal
 
 pub set_call-requires : goal.set_call-requires

@@ -1,7 +1,7 @@
 use Rattle.std.proofs.Common.{◌∙◌, ap}
 use Rattle.std.specs.Prelude.{slice_set}
-use Rattle.joint.specs.declared.call.Call.TheVariants.{Idle}
-use Rattle.joint.proofs.lemmas.Collecting.{inside, idle_rests, begun, intact_at}
+use Rattle.joint.specs.declared.engine.in_flight.InFlight.TheVariants.{Idle}
+use Rattle.joint.proofs.lemmas.engine.Collecting.{inside, idle_rests, begun, intact_at}
 use Rattle.joint.proofs.engine.Engine.begin_collecting.Goals as goal
 
 pub collect-report-requires-clause-rests : goal.collect-report-requires-clause-rests

@@ -3,9 +3,9 @@ use Rattle.std.specs.Prelude.{slice_set}
 use Rattle.std.proofs.lemmas.List.{length-set}
 use Rattle.crossbeam_epoch.specs.declared.world.report.Event.TheVariants.{Begin}
 use Rattle.crossbeam_epoch.specs.declared.world.report.Op.TheVariants.{Secure}
-use Rattle.joint.specs.declared.call.Call.TheVariants.{Idle, Securing}
-use Rattle.joint.proofs.lemmas.Collecting.{collected_at}
-use Rattle.joint.proofs.lemmas.Reserving.{reserving_inside, reserving_rests, begins_securing}
+use Rattle.joint.specs.declared.engine.in_flight.InFlight.TheVariants.{Idle, Securing}
+use Rattle.joint.proofs.lemmas.engine.Collecting.{collected_at}
+use Rattle.joint.proofs.lemmas.engine.Reserving.{reserving_inside, reserving_rests, begins_securing}
 use Rattle.joint.proofs.engine.Engine.begin_securing.Goals as goal
 
 pub take_call-requires : goal.take_call-requires

@@ -1,6 +1,6 @@
 use Rattle.std.proofs.Common.{◌∙◌, ap}
-use Rattle.joint.proofs.lemmas.Closing.{registered_kept}
-use Rattle.joint.proofs.lemmas.Standing.{intact_tree}
+use Rattle.joint.proofs.lemmas.nodes.Closing.{registered_kept}
+use Rattle.joint.proofs.lemmas.world.Standing.{intact_tree}
 use Rattle.joint.proofs.engine.Engine.close.Goals as goal
 
 pub drain-drainer-requires-clause-tree : goal.drain-drainer-requires-clause-tree

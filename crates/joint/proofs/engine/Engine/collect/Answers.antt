@@ -1,4 +1,4 @@
-use Rattle.joint.proofs.lemmas.CollectStep.{swept}
+use Rattle.joint.proofs.lemmas.engine.CollectStep.{swept}
 use Rattle.joint.proofs.engine.Engine.collect.Goals as goal
 
 pub returns-clause-collected : goal.returns-clause-collected

@@ -1,9 +1,9 @@
 use Rattle.std.proofs.Common.{◌≡◌, ◌+◌, ◌<◌, ℕ, arith, length, sym, ◌∙◌, ap, subst}
 use Rattle.std.proofs.lemmas.List.{length-set}
-use Rattle.joint.specs.declared.call.Call.TheVariants.{Walking}
-use Rattle.joint.proofs.lemmas.Collecting.{inside_machines}
-use Rattle.joint.proofs.lemmas.Counted.{bytes_small, counted_walk, few_machines, had, had_bytes, pairs_room, pairs_there, taken_few}
-use Rattle.joint.proofs.lemmas.Walking.{final_is}
+use Rattle.joint.specs.declared.engine.in_flight.InFlight.TheVariants.{Walking}
+use Rattle.joint.proofs.lemmas.engine.Collecting.{inside_machines}
+use Rattle.joint.proofs.lemmas.calls.CensusSteps.{bytes_small, counted_walk, few_machines, had, had_bytes, pairs_room, pairs_there, taken_few}
+use Rattle.joint.proofs.lemmas.engine.Walking.{final_is}
 use Rattle.joint.proofs.engine.Engine.go_counted.Goals as goal
 
 pub taken-before-requires-clause-inside : goal.taken-before-requires-clause-inside

@@ -1,13 +1,13 @@
 use Rattle.std.proofs.Common.{◌<◌, ℕ, refl, sym, ◌∙◌, ap, subst}
 use Rattle.std.specs.Prelude.{Some, slice_get}
-use Rattle.joint.specs.Log.{no_log}
-use Rattle.joint.specs.declared.call.Call.TheVariants.{Collecting, Reserving, Securing}
-use Rattle.joint.specs.Intact.{IsSecuring}
-use Rattle.joint.specs.Whole.{collection}
-use Rattle.joint.proofs.lemmas.Collecting.{securing_call}
-use Rattle.joint.proofs.lemmas.Counted.{counted_at, counted_collected, counted_secured}
-use Rattle.joint.proofs.lemmas.Reserving.{next_here, reserving_call, reserving_stage}
-use Rattle.joint.proofs.lemmas.Turning.{go_unknown, go_idle, goes_on, is_idle, is_collecting, is_securing, is_walking}
+use Rattle.joint.specs.engine.Log.{no_log}
+use Rattle.joint.specs.declared.engine.in_flight.InFlight.TheVariants.{Collecting, Reserving, Securing}
+use Rattle.joint.specs.engine.Intact.{IsSecuring}
+use Rattle.joint.specs.engine.Engine.{collection}
+use Rattle.joint.proofs.lemmas.engine.Collecting.{securing_call}
+use Rattle.joint.proofs.lemmas.calls.CensusSteps.{counted_at, counted_collected, counted_secured}
+use Rattle.joint.proofs.lemmas.engine.Reserving.{next_here, reserving_call, reserving_stage}
+use Rattle.joint.proofs.lemmas.engine.Turning.{go_unknown, go_idle, goes_on, is_idle, is_collecting, is_securing, is_walking}
 use Rattle.joint.proofs.engine.Engine.go_other.Goals as goal
 
 pub stage-requires : goal.stage-requires

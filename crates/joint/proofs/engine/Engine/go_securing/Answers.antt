@@ -2,9 +2,9 @@ use Rattle.std.proofs.Common.{refl, ◌∙◌, ap}
 use Rattle.std.specs.Prelude.{slice_get, slice_set}
 use Rattle.crossbeam_epoch.specs.declared.world.report.Event.TheVariants.{Go}
 use Rattle.congee.specs.protocol.Play.{begun}
-use Rattle.joint.specs.Intact.{root}
-use Rattle.joint.specs.declared.call.Call.TheVariants.{Securing, Walking}
-use Rattle.joint.proofs.lemmas.Collecting.{collected_at, intact_at, securing_rests, securing_inside, secures_on, refused_then, free_intact, free_idle, free_may, started_then}
+use Rattle.joint.specs.engine.Intact.{root}
+use Rattle.joint.specs.declared.engine.in_flight.InFlight.TheVariants.{Securing, Walking}
+use Rattle.joint.proofs.lemmas.engine.Collecting.{collected_at, intact_at, securing_rests, securing_inside, secures_on, refused_then, free_intact, free_idle, free_may, started_then}
 use Rattle.joint.proofs.engine.Engine.go_securing.Goals as goal
 
 pub take_call-requires : goal.take_call-requires

@@ -2,11 +2,11 @@ use Rattle.std.proofs.Common.{◌≡◌, ◌<◌, ℕ, List, true, false, get_or
 use Rattle.std.specs.Prelude.{Some, not, slice_get, slice_set, if◌then◌else◌}
 use Rattle.std.proofs.lemmas.List.{set-get_or}
 use Rattle.std.proofs.lemmas.Option.{slice_get-get_or}
-use Rattle.joint.specs.declared.call.Call.TheVariants.{Idle, Walking}
-use Rattle.joint.proofs.lemmas.Collecting.{inside, inside_machines, intact_at}
-use Rattle.joint.specs.Intact.{over_at}
-use Rattle.joint.proofs.lemmas.Reported.{told_goes}
-use Rattle.joint.proofs.lemmas.Walking.{runs, long_walk, over_now, uncleared, walked_on}
+use Rattle.joint.specs.declared.engine.in_flight.InFlight.TheVariants.{Idle, Walking}
+use Rattle.joint.proofs.lemmas.engine.Collecting.{inside, inside_machines, intact_at}
+use Rattle.joint.specs.engine.Intact.{over_at}
+use Rattle.joint.proofs.lemmas.engine.Reported.{told_goes}
+use Rattle.joint.proofs.lemmas.engine.Walking.{runs, long_walk, over_now, uncleared, walked_on}
 use Rattle.joint.proofs.engine.Engine.go_walking.Goals as goal
 
 -- what stands at a place, put there once more

@@ -1,6 +1,6 @@
 use Rattle.std.proofs.Common.{◌∙◌, ap}
-use Rattle.joint.specs.Forest.{with_collector}
-use Rattle.joint.proofs.lemmas.HandOver.{never_refused, into_place, handed_safe}
+use Rattle.joint.specs.nodes.Nodes.{with_collector}
+use Rattle.joint.proofs.lemmas.engine.HandOver.{never_refused, into_place, handed_safe}
 use Rattle.joint.proofs.engine.Engine.hand_over.Goals as goal
 
 pub unreachable-requires : goal.unreachable-requires

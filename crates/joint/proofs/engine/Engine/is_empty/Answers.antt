@@ -1,5 +1,5 @@
 use Rattle.std.proofs.Common.{refl}
-use Rattle.joint.proofs.lemmas.Counted.{is_empty}
+use Rattle.joint.proofs.lemmas.calls.CensusSteps.{is_empty}
 use Rattle.joint.proofs.engine.Engine.is_empty.Goals as goal
 
 pub returns : goal.returns

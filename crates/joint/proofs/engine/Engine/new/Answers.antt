@@ -1,6 +1,6 @@
-use Rattle.joint.proofs.lemmas.Counted.{counted_first}
-use Rattle.joint.proofs.lemmas.Fresh.{intact, fresh}
-use Rattle.joint.proofs.lemmas.Runs.{standing_empty}
+use Rattle.joint.proofs.lemmas.calls.CensusSteps.{counted_first}
+use Rattle.joint.proofs.lemmas.engine.Fresh.{intact, fresh}
+use Rattle.joint.proofs.lemmas.calls.Runs.{standing_empty}
 use Rattle.joint.proofs.engine.Engine.new.Goals as goal
 
 pub returns : goal.returns

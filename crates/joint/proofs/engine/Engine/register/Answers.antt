@@ -1,12 +1,12 @@
 use Rattle.std.proofs.Common.{◌≡◌, ◌<◌, ◌≤◌, length, arith, rules, sym, ◌∙◌, ap, subst, inl, inr}
-use Rattle.joint.specs.Log.{no_log}
+use Rattle.joint.specs.engine.Log.{no_log}
 use Rattle.joint.specs.declared.steps.Kind.TheVariants.{Collection}
 use Rattle.joint.specs.declared.steps.Outcome.TheVariants.{Refused}
-use Rattle.joint.specs.Forest.{Forest}
-use Rattle.joint.specs.Intact.{IsIntact}
+use Rattle.joint.specs.nodes.Nodes.{Nodes}
+use Rattle.joint.specs.engine.Intact.{IsIntact}
 use Rattle.joint.specs.Refusals.{of_fault}
-use Rattle.joint.specs.Whole.{quiet}
-use Rattle.joint.proofs.lemmas.Registered.{taken_at}
+use Rattle.joint.specs.engine.Engine.{quiet}
+use Rattle.joint.proofs.lemmas.engine.Registered.{taken_at}
 use Rattle.joint.proofs.engine.Engine.register.Goals as goal
 
 pub overflow_cast-place : goal.overflow_cast-place
@@ -26,7 +26,7 @@ returns-in-Ok-clause-registers g c =
     inl (c.in-Ok.place, record { inside = c.in-Ok.ensures.free.0; free = c.in-Ok.ensures.free.1; lowest = c.in-Ok.ensures.lowest; report = c.report.ensures; state = ap (λ f. record { forest = f; machines = c.args.self.now.machines.items; calls = c.args.self.now.calls.items; log = no_log }) c.in-Ok.ensures.state })
 
 pub returns-in-Err-clause-intact : goal.returns-in-Err-clause-intact
-returns-in-Err-clause-intact g c = subst (λ (f : Forest _). IsIntact g.P.Payload.same_as g.P.Payload.always_copies f c.args.self.now.machines.items c.args.self.now.calls.items) (sym c.in-Err.ensures.state.1) c.requires.intact
+returns-in-Err-clause-intact g c = subst (λ (f : Nodes _). IsIntact g.P.Payload.same_as g.P.Payload.always_copies f c.args.self.now.machines.items c.args.self.now.calls.items) (sym c.in-Err.ensures.state.1) c.requires.intact
 
 pub returns-in-Err-clause-registers : goal.returns-in-Err-clause-registers
 returns-in-Err-clause-registers g c =

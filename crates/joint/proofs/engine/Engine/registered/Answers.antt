@@ -1,5 +1,5 @@
 use Rattle.std.proofs.Common.{arith}
-use Rattle.joint.proofs.lemmas.Closing.{registered_few}
+use Rattle.joint.proofs.lemmas.nodes.Closing.{registered_few}
 use Rattle.joint.proofs.engine.Engine.registered.Goals as goal
 
 pub overflow_add-registered : goal.overflow_add-registered

@@ -1,7 +1,7 @@
 use Rattle.std.proofs.Common.{ap}
-use Rattle.joint.specs.declared.call.Call.TheVariants.{Idle}
-use Rattle.joint.proofs.lemmas.Collecting.{inside, intact_at}
-use Rattle.joint.proofs.lemmas.Reserving.{reserved}
+use Rattle.joint.specs.declared.engine.in_flight.InFlight.TheVariants.{Idle}
+use Rattle.joint.proofs.lemmas.engine.Collecting.{inside, intact_at}
+use Rattle.joint.proofs.lemmas.engine.Reserving.{reserved}
 use Rattle.joint.proofs.engine.Engine.reserve.Goals as goal
 
 pub set_call-requires : goal.set_call-requires

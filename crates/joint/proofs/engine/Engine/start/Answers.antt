@@ -1,9 +1,9 @@
 use Rattle.std.proofs.Common.{◌∙◌, ap, refl}
 use Rattle.congee.specs.protocol.Play.{begun}
-use Rattle.joint.specs.declared.call.Call.TheVariants.{Idle}
-use Rattle.joint.specs.Intact.{root}
-use Rattle.joint.proofs.lemmas.Collecting.{inside, inside_machines, intact_at}
-use Rattle.joint.proofs.lemmas.Starting.{started}
+use Rattle.joint.specs.declared.engine.in_flight.InFlight.TheVariants.{Idle}
+use Rattle.joint.specs.engine.Intact.{root}
+use Rattle.joint.proofs.lemmas.engine.Collecting.{inside, inside_machines, intact_at}
+use Rattle.joint.proofs.lemmas.engine.Starting.{started}
 use Rattle.joint.proofs.engine.Engine.start.Goals as goal
 
 pub begin_machine-requires : goal.begin_machine-requires

@@ -1,8 +1,8 @@
 use Rattle.std.proofs.Common.{refl}
 use Rattle.joint.specs.declared.steps.Event.TheVariants.{Begin}
-use Rattle.joint.specs.Log.{no_log}
-use Rattle.joint.proofs.lemmas.Counted.{counted_at, counted_begun}
-use Rattle.joint.proofs.lemmas.Events.{begins}
+use Rattle.joint.specs.engine.Log.{no_log}
+use Rattle.joint.proofs.lemmas.calls.CensusSteps.{counted_at, counted_begun}
+use Rattle.joint.proofs.lemmas.engine.Events.{begins}
 use Rattle.joint.proofs.engine.Engine.step_begin.Goals as goal
 
 pub returns-clause-step : goal.returns-clause-step

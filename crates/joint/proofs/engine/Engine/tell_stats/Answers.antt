@@ -1,6 +1,6 @@
 use Rattle.std.proofs.Common.{◌∙◌, ap}
 use Rattle.congee.specs.owned.Stats.{capped}
-use Rattle.joint.proofs.lemmas.Counted.{count_of}
+use Rattle.joint.proofs.lemmas.calls.CensusSteps.{count_of}
 use Rattle.joint.proofs.engine.Engine.tell_stats.Goals as goal
 
 pub stats-requires-clause-counted : goal.stats-requires-clause-counted

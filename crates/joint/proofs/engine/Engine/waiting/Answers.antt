@@ -1,8 +1,9 @@
 use Rattle.std.proofs.Common.{arith}
 use Rattle.std.specs.List.{flat_map}
 use Rattle.std.proofs.lemmas.List.{length-append}
-use Rattle.joint.specs.Listing.{handed_nodes, taken_by}
-use Rattle.joint.proofs.lemmas.Counted.{few_machines, taken_few}
+use Rattle.joint.specs.nodes.Listing.{handed_nodes}
+use Rattle.joint.specs.engine.Census.{taken_by}
+use Rattle.joint.proofs.lemmas.calls.CensusSteps.{few_machines, taken_few}
 use Rattle.joint.proofs.engine.Engine.waiting.Goals as goal
 
 pub overflow_add-result : goal.overflow_add-result

@@ -1,8 +1,9 @@
 use Rattle.std.proofs.Common.{arith}
 use Rattle.std.specs.List.{flat_map}
 use Rattle.std.proofs.lemmas.List.Sums.{sum_by-append}
-use Rattle.joint.specs.Listing.{bytes_of, handed_nodes, taken_by}
-use Rattle.joint.proofs.lemmas.Counted.{bytes_small, few_machines}
+use Rattle.joint.specs.nodes.Listing.{bytes_of, handed_nodes}
+use Rattle.joint.specs.engine.Census.{taken_by}
+use Rattle.joint.proofs.lemmas.calls.CensusSteps.{bytes_small, few_machines}
 use Rattle.joint.proofs.engine.Engine.waiting_bytes.Goals as goal
 
 pub overflow_add-result : goal.overflow_add-result

@@ -1,5 +1,5 @@
 use Rattle.std.proofs.Common.{ap}
-use Rattle.joint.proofs.lemmas.Walk.{owed, walked, walked_over}
+use Rattle.joint.proofs.lemmas.engine.Walk.{owed, walked, walked_over}
 use Rattle.joint.proofs.engine.Engine.walk.Goals as goal
 
 pub step_tree-moved-requires-clause-runs : goal.step_tree-moved-requires-clause-runs

@@ -1,9 +1,9 @@
 use Rattle.std.proofs.Common.{rules, ◌<◌, ◌≤◌, ◌+◌, ◌-◌, ◌∙◌, length, sym, subst, arith}
 use Rattle.std.specs.Vec.{vec_len}
 use Rattle.congee.specs.declared.owned.stats.NodeStats.{NodeStats}
-use Rattle.joint.specs.Forest.{nodes}
-use Rattle.joint.specs.View.{id_number}
-use Rattle.joint.proofs.lemmas.Counting.{Counted, begun, went_below, went_past, child_in, ended}
+use Rattle.joint.specs.nodes.Nodes.{nodes}
+use Rattle.joint.specs.nodes.View.{id_number}
+use Rattle.joint.proofs.lemmas.nodes.Counting.{Counted, begun, went_below, went_past, child_in, ended}
 use Rattle.joint.proofs.nodes.Nodes.+count_from.Goals as goal
 use Rattle.joint.proofs.nodes.Nodes.+count_from.Goals.{in-Node+in_ok-count_from, in_default-child}
 

@@ -1,7 +1,7 @@
 use Rattle.std.proofs.Common.{◌-◌, length}
-use Rattle.joint.specs.Forest.{nodes}
-use Rattle.joint.specs.View.{id_number}
-use Rattle.joint.proofs.lemmas.Counting.{Counted}
+use Rattle.joint.specs.nodes.Nodes.{nodes}
+use Rattle.joint.specs.nodes.View.{id_number}
+use Rattle.joint.proofs.lemmas.nodes.Counting.{Counted}
 use Rattle.joint.proofs.nodes.Nodes.+count_from.Given as goal
 
 abbrev pub decreases-count_from : goal.decreases-count_from

@@ -1,9 +1,9 @@
 use Rattle.std.proofs.Common.{rules, ◌+◌, ◌<◌, ◌-◌, ◌∙◌, length, refl, sym, ap, subst, arith}
 use Rattle.congee.specs.Heap.{Node}
 use Rattle.congee.specs.protocol.Regions.{IsRegion}
-use Rattle.joint.specs.Forest.{Forest, frame, nodes}
-use Rattle.joint.specs.View.{id_number}
-use Rattle.joint.proofs.lemmas.DrainWalks.{TakenSoFar, begun, below_in, ended, holds, node_in, went_below, went_blank, went_value}
+use Rattle.joint.specs.nodes.Nodes.{Nodes, frame, nodes}
+use Rattle.joint.specs.nodes.View.{id_number}
+use Rattle.joint.proofs.lemmas.nodes.DrainWalks.{TakenSoFar, begun, below_in, ended, holds, node_in, went_below, went_blank, went_value}
 use Rattle.joint.proofs.nodes.Nodes.+drain_below.Goals as goal
 use Rattle.joint.proofs.nodes.Nodes.+drain_below.Goals.{in-Blank, in-Node, in-Value}
 
@@ -31,7 +31,7 @@ pull-value-requires-clause-holds g t c = (c.in-Value.field-0, holds g.D.Drainer.
 
 pub loop-byte-preserved : goal.loop-byte-preserved
 loop-byte-preserved g t c =
-    let So : Forest g.row.P.Denot → g.row.D.Denot → Type 0 = λ s d. TakenSoFar g.D.Drainer.drains (nodes c.args.self.now) (id_number c.args.at) c.of-region.result (c.in-Some.byte + 1) c.args.drainer.now (nodes s) d in
+    let So : Nodes g.row.P.Denot → g.row.D.Denot → Type 0 = λ s d. TakenSoFar g.D.Drainer.drains (nodes c.args.self.now) (id_number c.args.at) c.of-region.result (c.in-Some.byte + 1) c.args.drainer.now (nodes s) d in
     let stays = node_in g.D.Drainer.drains (nodes c.args.self.now) (id_number c.args.at) c.requires.node c.of-region.result c.args.drainer.now (c.in-Some.byte + 1) (nodes c.match-child.self) c.match-child.drainer in
     elim c.match-child.branch [
       | in-Blank w ↦ (

@@ -1,8 +1,8 @@
 use Rattle.std.proofs.Common.{◌≡◌, ◌-◌, length}
-use Rattle.joint.specs.Forest.{nodes, frame}
-use Rattle.joint.specs.Levels.{IsNodeIn}
-use Rattle.joint.specs.View.{id_number}
-use Rattle.joint.proofs.lemmas.DrainWalks.{TakenSoFar}
+use Rattle.joint.specs.nodes.Nodes.{nodes, frame}
+use Rattle.joint.specs.nodes.Levels.{IsNodeIn}
+use Rattle.joint.specs.nodes.View.{id_number}
+use Rattle.joint.proofs.lemmas.nodes.DrainWalks.{TakenSoFar}
 use Rattle.joint.proofs.nodes.Nodes.+drain_below.Given as goal
 
 abbrev pub decreases-drain_below : goal.decreases-drain_below

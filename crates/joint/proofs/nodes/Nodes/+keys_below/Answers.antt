@@ -1,7 +1,7 @@
 use Rattle.std.proofs.Common.{rules, ℕ, List, ◌+◌, ◌<◌, ◌-◌, ◌∙◌, length, sym, ap, subst, arith}
-use Rattle.joint.specs.Forest.{nodes}
-use Rattle.joint.specs.View.{id_number}
-use Rattle.joint.proofs.lemmas.KeyWalks.{PutSoFar, below_in, ended, put_below, put_key, put_none}
+use Rattle.joint.specs.nodes.Nodes.{nodes}
+use Rattle.joint.specs.nodes.View.{id_number}
+use Rattle.joint.proofs.lemmas.nodes.KeyWalks.{PutSoFar, below_in, ended, put_below, put_key, put_none}
 use Rattle.joint.proofs.nodes.Nodes.+keys_below.Goals as goal
 use Rattle.joint.proofs.nodes.Nodes.+keys_below.Goals.{in-Blank, in-Node+in_ok-keys_below-in-Node, in-Value+in_ok-push-in-Value}
 

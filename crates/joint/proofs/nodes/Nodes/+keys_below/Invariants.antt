@@ -1,7 +1,7 @@
 use Rattle.std.proofs.Common.{◌-◌, length}
-use Rattle.joint.specs.Forest.{nodes}
-use Rattle.joint.specs.View.{id_number}
-use Rattle.joint.proofs.lemmas.KeyWalks.{PutSoFar}
+use Rattle.joint.specs.nodes.Nodes.{nodes}
+use Rattle.joint.specs.nodes.View.{id_number}
+use Rattle.joint.proofs.lemmas.nodes.KeyWalks.{PutSoFar}
 use Rattle.joint.proofs.nodes.Nodes.+keys_below.Given as goal
 
 abbrev pub decreases-keys_below : goal.decreases-keys_below

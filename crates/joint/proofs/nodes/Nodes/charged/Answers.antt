@@ -1,6 +1,6 @@
 use Rattle.std.proofs.Common.{◌≡◌, ◌<◌, ◌-◌, ◌^◌, ℕ, true, subst}
-use Rattle.joint.specs.Forest.{nodes}
-use Rattle.joint.proofs.lemmas.Few.{number_few}
+use Rattle.joint.specs.nodes.Nodes.{nodes}
+use Rattle.joint.proofs.lemmas.nodes.NameBounds.{number_few}
 use Rattle.joint.proofs.nodes.Nodes.charged.Goals as goal
 
 pub returns-clause-few : goal.returns-clause-few

@@ -1,13 +1,13 @@
 use Rattle.std.proofs.Common.{◌≡◌, refl, ap, sym, subst}
 use Rattle.crossbeam_epoch.specs.World.History.{Deferred}
-use Rattle.crossbeam_epoch.specs.World.Reach.{Quiet, Marked, Tells}
-use Rattle.joint.specs.Machines.{slot_names}
+use Rattle.crossbeam_epoch.specs.World.Reach.{Quiet, Marked, HasMoments}
+use Rattle.joint.specs.nodes.Slots.{slot_names}
 use Rattle.std.specs.Prelude.{MatchResult, MatchOption, None, Some, length}
 use Rattle.crossbeam_epoch.specs.declared.fault.Fault.{Fault}
 use Rattle.crossbeam_epoch.specs.World.Machine.{place}
 use Rattle.crossbeam_epoch.specs.World.Steps.{destroy_fault}
-use Rattle.joint.proofs.lemmas.Accounts.{kept_same}
-use Rattle.joint.proofs.lemmas.Registering.{deferred_orderly, deferred_store, told_at}
+use Rattle.joint.proofs.lemmas.nodes.Accounts.{kept_same}
+use Rattle.joint.proofs.lemmas.nodes.Registering.{deferred_orderly, deferred_store, told_at}
 use Rattle.joint.proofs.nodes.Nodes.defer.Goals as goal
 
 pub invariant_of-self : goal.invariant_of-self
@@ -22,4 +22,4 @@ returns-clause-fault g c =
     (ap (λ x. x.collector) c.self.view_is) c.defer_destroy.ensures.fault
 
 pub returns-clause-told : goal.returns-clause-told
-returns-clause-told g c = λ h t. told_at slot_names (λ t. Marked (Deferred t (Some c.args.node.name))) Quiet c.self.inside.collector c.defer_destroy.new.self c.defer_destroy.result c.defer_destroy.ensures.told h (subst (λ s. Tells slot_names h s) (sym (ap (λ x. x.collector) c.self.view_is)) t)
+returns-clause-told g c = λ h t. told_at slot_names (λ t. Marked (Deferred t (Some c.args.node.name))) Quiet c.self.inside.collector c.defer_destroy.new.self c.defer_destroy.result c.defer_destroy.ensures.told h (subst (λ s. HasMoments slot_names h s) (sym (ap (λ x. x.collector) c.self.view_is)) t)

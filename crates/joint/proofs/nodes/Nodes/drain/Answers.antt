@@ -1,5 +1,5 @@
-use Rattle.joint.specs.Forest.{nodes}
-use Rattle.joint.proofs.lemmas.DrainWalks.{all_taken}
+use Rattle.joint.specs.nodes.Nodes.{nodes}
+use Rattle.joint.proofs.lemmas.nodes.DrainWalks.{all_taken}
 use Rattle.joint.proofs.nodes.Nodes.drain.Goals as goal
 
 pub returns-clause-drained : goal.returns-clause-drained

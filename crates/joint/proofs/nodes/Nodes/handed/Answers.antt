@@ -1,7 +1,7 @@
 use Rattle.std.proofs.Common.{◌∙◌, length, ap}
-use Rattle.joint.specs.Listing.{handed_nodes}
-use Rattle.joint.proofs.lemmas.Accounts.{count_few}
-use Rattle.joint.proofs.lemmas.Waiting.{handed_count}
+use Rattle.joint.specs.nodes.Listing.{handed_nodes}
+use Rattle.joint.proofs.lemmas.nodes.Accounts.{count_few}
+use Rattle.joint.proofs.lemmas.world.Waiting.{handed_count}
 use Rattle.joint.proofs.nodes.Nodes.handed.Goals as goal
 
 pub returns-clause-value : goal.returns-clause-value

@@ -1,8 +1,8 @@
 use Rattle.std.proofs.Common.{◌∙◌, ap}
 use Rattle.std.specs.List.{sum_by}
-use Rattle.joint.specs.Listing.{bytes_of, handed_nodes}
-use Rattle.joint.proofs.lemmas.Accounts.{bytes_small}
-use Rattle.joint.proofs.lemmas.Waiting.{handed_weight}
+use Rattle.joint.specs.nodes.Listing.{bytes_of, handed_nodes}
+use Rattle.joint.proofs.lemmas.nodes.Accounts.{bytes_small}
+use Rattle.joint.proofs.lemmas.world.Waiting.{handed_weight}
 use Rattle.joint.proofs.nodes.Nodes.handed_bytes.Goals as goal
 
 pub returns-clause-value : goal.returns-clause-value

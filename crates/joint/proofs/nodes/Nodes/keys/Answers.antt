@@ -1,8 +1,8 @@
 use Rattle.std.proofs.Common.{List, subst}
-use Rattle.joint.specs.Forest.{nodes}
-use Rattle.joint.specs.Survey.{PutsKeys}
-use Rattle.joint.proofs.lemmas.Keyed.{keys_are}
-use Rattle.joint.proofs.lemmas.KeyWalks.{all_put, keys_all}
+use Rattle.joint.specs.nodes.Nodes.{nodes}
+use Rattle.joint.specs.nodes.Survey.{PutsKeys}
+use Rattle.joint.proofs.lemmas.nodes.Keyed.{keys_are}
+use Rattle.joint.proofs.lemmas.nodes.KeyWalks.{all_put, keys_all}
 use Rattle.joint.proofs.nodes.Nodes.keys.Goals as goal
 
 pub returns : goal.returns

@@ -1,5 +1,5 @@
 use Rattle.std.proofs.Common.{rules, refl, arith}
-use Rattle.joint.proofs.lemmas.Planting.{is_opened, kept_planted}
+use Rattle.joint.proofs.lemmas.nodes.Planting.{is_opened, kept_planted}
 use Rattle.joint.proofs.nodes.Nodes.new.Goals as goal
 
 pub returns-in-Ok-plant : goal.returns-in-Ok-plant

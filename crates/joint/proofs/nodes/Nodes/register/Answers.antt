@@ -1,6 +1,6 @@
 use Rattle.std.proofs.Common.{refl}
-use Rattle.joint.proofs.lemmas.Accounts.{kept_same}
-use Rattle.joint.proofs.lemmas.Registering.{registered_orderly, registered_store}
+use Rattle.joint.proofs.lemmas.nodes.Accounts.{kept_same}
+use Rattle.joint.proofs.lemmas.nodes.Registering.{registered_orderly, registered_store}
 use Rattle.joint.proofs.nodes.Nodes.register.Goals as goal
 
 pub invariant_of-self : goal.invariant_of-self

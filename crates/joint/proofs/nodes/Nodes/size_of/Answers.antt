@@ -1,9 +1,9 @@
 use Rattle.std.proofs.Common.{◌∙◌, ap}
-use Rattle.joint.specs.Listing.{bytes_of}
+use Rattle.joint.specs.nodes.Listing.{bytes_of}
 use Rattle.joint.specs.Names.{number}
-use Rattle.joint.proofs.lemmas.Accounts.{standing_inside}
-use Rattle.joint.proofs.lemmas.Kept.{there_in}
-use Rattle.joint.proofs.lemmas.Waiting.{tallied_bytes}
+use Rattle.joint.proofs.lemmas.nodes.Accounts.{standing_inside}
+use Rattle.joint.proofs.lemmas.nodes.NodesInvariant.{there_in}
+use Rattle.joint.proofs.lemmas.world.Waiting.{tallied_bytes}
 use Rattle.joint.proofs.nodes.Nodes.size_of.Goals as goal
 
 pub size-requires : goal.size-requires

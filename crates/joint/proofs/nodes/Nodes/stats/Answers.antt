@@ -1,7 +1,7 @@
 use Rattle.std.specs.Prelude.{[]}
 use Rattle.std.specs.FinMap as map
-use Rattle.joint.specs.Forest.{nodes}
-use Rattle.joint.proofs.lemmas.Counting.{none_counted, all_counted}
+use Rattle.joint.specs.nodes.Nodes.{nodes}
+use Rattle.joint.proofs.lemmas.nodes.Counting.{none_counted, all_counted}
 use Rattle.joint.proofs.nodes.Nodes.stats.Goals as goal
 
 pub returns : goal.returns

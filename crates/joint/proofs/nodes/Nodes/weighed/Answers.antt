@@ -1,7 +1,7 @@
 use Rattle.std.proofs.Common.{◌≡◌, ◌+◌, subst}
 use Rattle.std.specs.List.{sum_by}
-use Rattle.joint.specs.Listing.{bytes_of, standing_nodes}
-use Rattle.joint.proofs.lemmas.Waiting.{standing_weight}
+use Rattle.joint.specs.nodes.Listing.{bytes_of, standing_nodes}
+use Rattle.joint.proofs.lemmas.world.Waiting.{standing_weight}
 use Rattle.joint.proofs.nodes.Nodes.weighed.Goals as goal
 
 pub returns : goal.returns

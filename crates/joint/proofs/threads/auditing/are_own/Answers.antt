@@ -1,6 +1,6 @@
 use Rattle.std.proofs.Common.{rules, arith, refl, ◌≡◌, ◌<◌, ◌∙◌, sym, Some, length, slice_get}
 use Rattle.std.proofs.lemmas.Option.{slice_get_read, slice_get_within}
-use Rattle.joint.proofs.lemmas.Auditing.{own_more}
+use Rattle.joint.proofs.lemmas.threads.Auditing.{own_more}
 use Rattle.joint.proofs.threads.auditing.are_own.Goals as goal
 
 pub returns-then-not-is_own : goal.returns-then-not-is_own

@@ -1,6 +1,6 @@
 use Rattle.std.proofs.Common.{◌≡◌, ◌<◌, ℕ, Global, Some, Vec, slice_get}
 use Rattle.judge.specs.declared.journal.Entry.{Entry}
-use Rattle.joint.specs.Auditing.{of_worker}
+use Rattle.joint.specs.threads.Auditing.{of_worker}
 use Rattle.joint.proofs.threads.auditing.are_own.Given as goal
 
 -- the lists so far are their workers' entries

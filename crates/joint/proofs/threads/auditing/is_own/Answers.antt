@@ -1,5 +1,5 @@
 use Rattle.std.proofs.Common.{rules, ◌≡◌, ◌∷◌, ◌∙◌, ap, get_or}
-use Rattle.joint.proofs.lemmas.Auditing.{blank, other_next, own_next}
+use Rattle.joint.proofs.lemmas.threads.Auditing.{blank, other_next, own_next}
 use Rattle.joint.proofs.threads.auditing.is_own.Goals as goal
 use Rattle.joint.proofs.threads.auditing.is_own.Goals.{then-entry-worker+in-Some+else-not-is_same, else-entry-worker}
 

@@ -1,5 +1,5 @@
 use Rattle.std.proofs.Common.{◌≡◌, ◌↔◌, drop}
-use Rattle.joint.specs.Auditing.{of_worker}
+use Rattle.joint.specs.threads.Auditing.{of_worker}
 use Rattle.joint.proofs.threads.auditing.is_own.Given as goal
 
 -- the list is the worker's entries exactly where its rest is those that are left

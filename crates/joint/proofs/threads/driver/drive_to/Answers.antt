@@ -1,7 +1,7 @@
 use Rattle.std.proofs.Common.{rules, ◌≡◌, ◌∙◌, ap, subst, sym, Some, None}
 use Rattle.joint.specs.declared.steps.Outcome.{Outcome}
-use Rattle.joint.specs.Driving.{Goes, IsTurn, go_step, put_by}
-use Rattle.joint.proofs.lemmas.Driving.{begins, ends, goes_on, goes_is_go}
+use Rattle.joint.specs.threads.Driving.{Goes, IsTurn, go_step, put_by}
+use Rattle.joint.proofs.lemmas.threads.Driving.{begins, ends, goes_on, goes_is_go}
 use Rattle.joint.proofs.threads.driver.drive_to.Goals as goal
 use Rattle.joint.proofs.threads.driver.drive_to.Goals.{in-Running, in-Asks, in-Found}
 

@@ -1,6 +1,6 @@
 use Rattle.std.proofs.Common.{◌≡◌}
-use Rattle.joint.specs.Driving.{IsTurn}
-use Rattle.joint.proofs.lemmas.Driving.{GoesOn}
+use Rattle.joint.specs.threads.Driving.{IsTurn}
+use Rattle.joint.proofs.lemmas.threads.Driving.{GoesOn}
 use Rattle.joint.proofs.threads.driver.drive_to.Given as goal
 
 -- the next turn may be taken; and whatever it and those after it are, with those so far they are the whole call

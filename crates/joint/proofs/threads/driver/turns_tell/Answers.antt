@@ -1,4 +1,4 @@
-use Rattle.joint.proofs.lemmas.Holding.{step_tells, turn_of_call}
+use Rattle.joint.proofs.lemmas.threads.Holding.{step_tells, turn_of_call}
 use Rattle.joint.proofs.threads.driver.turns_tell.Goals as goal
 
 pub returns : goal.returns

@@ -1,10 +1,10 @@
 use Rattle.std.proofs.Common.{refl}
-use Rattle.joint.proofs.lemmas.Beside.{run_beside}
-use Rattle.joint.proofs.lemmas.CallScans.{fills}
-use Rattle.joint.proofs.lemmas.CallSurveys.{tells}
-use Rattle.joint.proofs.lemmas.KeyReplies.{answers}
-use Rattle.joint.proofs.lemmas.MapCalls.{called_plays}
-use Rattle.joint.proofs.lemmas.Running.{run_map}
+use Rattle.joint.proofs.lemmas.calls.Beside.{run_beside}
+use Rattle.joint.proofs.lemmas.calls.CallScans.{fills}
+use Rattle.joint.proofs.lemmas.calls.CallSurveys.{tells}
+use Rattle.joint.proofs.lemmas.calls.KeyReplies.{answers}
+use Rattle.joint.proofs.lemmas.calls.MapCalls.{called_plays}
+use Rattle.joint.proofs.lemmas.calls.Running.{run_map}
 use Rattle.joint.proofs.world.World.call.Goals as goal
 
 pub returns-clause-scan : goal.returns-clause-scan

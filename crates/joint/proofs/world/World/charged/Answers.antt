@@ -1,4 +1,4 @@
-use Rattle.joint.proofs.lemmas.Waiting.{standing_listed}
+use Rattle.joint.proofs.lemmas.world.Waiting.{standing_listed}
 use Rattle.joint.proofs.world.World.charged.Goals as goal
 
 pub returns-clause-listed : goal.returns-clause-listed

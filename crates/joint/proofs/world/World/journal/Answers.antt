@@ -4,9 +4,9 @@ use Rattle.judge.specs.declared.journal.Entry.{Entry}
 use Rattle.judge.specs.Answer.{Pairs}
 use Rattle.judge.specs.Journal.{IsLegal, Legal}
 use Rattle.congee.specs.Keys.{IsMapOf}
-use Rattle.joint.specs.Forest.{nodes}
-use Rattle.joint.specs.Whole.{Whole}
-use Rattle.joint.proofs.lemmas.Advanced.{journal_legal, journal_replays}
+use Rattle.joint.specs.nodes.Nodes.{nodes}
+use Rattle.joint.specs.engine.Engine.{World}
+use Rattle.joint.proofs.lemmas.calls.WorldSteps.{journal_legal, journal_replays}
 use Rattle.joint.proofs.world.World.journal.Goals as goal
 
 pub returns-clause-legal : goal.returns-clause-legal
@@ -16,6 +16,6 @@ returns-clause-legal g c =
 
 pub returns-clause-replays : goal.returns-clause-replays
 returns-clause-replays g c m p st =
-    let P : Whole g.row.P.Denot → Type 0 = λ s. (n : Pairs g.row.P.Denot) → 0 < s.log.places → IsMapOf (nodes s.forest) n → Legal g.P.Payload.same_as empty s.log.entries n in
+    let P : World g.row.P.Denot → Type 0 = λ s. (n : Pairs g.row.P.Denot) → 0 < s.log.places → IsMapOf (nodes s.forest) n → Legal g.P.Payload.same_as empty s.log.entries n in
     let Q : List (Entry g.row.P.Denot) → Type 0 = λ es. Legal g.P.Payload.same_as empty es m in
-    subst Q (sym (c.entries.ensures ∙ ap (λ (y : Whole g.row.P.Denot). y.log.entries) c.self.view_is)) (subst P c.self.view_is (journal_replays g.P.Payload.same_as g.P.Payload.always_copies (record { forest = c.self.inside.engine.nodes; machines = c.self.inside.engine.machines.items; calls = c.self.inside.engine.calls.items; log = c.self.inside.log }) c.self.invariant.0) m p st)
+    subst Q (sym (c.entries.ensures ∙ ap (λ (y : World g.row.P.Denot). y.log.entries) c.self.view_is)) (subst P c.self.view_is (journal_replays g.P.Payload.same_as g.P.Payload.always_copies (record { forest = c.self.inside.engine.nodes; machines = c.self.inside.engine.machines.items; calls = c.self.inside.engine.calls.items; log = c.self.inside.log }) c.self.invariant.0) m p st)

@@ -1,8 +1,8 @@
 use Rattle.std.proofs.Common.{IsSome, sym, ap, subst, ◌∙◌}
-use Rattle.joint.specs.Forest.{nodes}
-use Rattle.joint.specs.MapCalls.{asked_of, reply_of}
-use Rattle.joint.specs.Standing.{pairs_of}
-use Rattle.joint.proofs.lemmas.Replied.{answers_as, one_stands, replied_keeps, stand}
+use Rattle.joint.specs.nodes.Nodes.{nodes}
+use Rattle.joint.specs.calls.MapCalls.{asked_of, reply_of}
+use Rattle.joint.specs.calls.Standing.{pairs_of}
+use Rattle.joint.proofs.lemmas.calls.Replied.{answers_as, one_stands, replied_keeps, stand}
 use Rattle.joint.proofs.world.World.reply.Goals as goal
 
 pub returns-clause-answers : goal.returns-clause-answers

@@ -1,7 +1,7 @@
-use Rattle.joint.proofs.lemmas.Beside.{run_beside}
-use Rattle.joint.proofs.lemmas.Rounds.{in_run}
-use Rattle.joint.proofs.lemmas.Running.{run_map, run_fresh, run_journal, fresh_journal}
-use Rattle.joint.proofs.lemmas.Scans.{scans_hold, empty_scans_hold}
+use Rattle.joint.proofs.lemmas.calls.Beside.{run_beside}
+use Rattle.joint.proofs.lemmas.calls.Rounds.{in_run}
+use Rattle.joint.proofs.lemmas.calls.Running.{run_map, run_fresh, run_journal, fresh_journal}
+use Rattle.joint.proofs.lemmas.calls.Scans.{scans_hold, empty_scans_hold}
 use Rattle.joint.proofs.world.World.run.Goals as goal
 
 pub returns-clause-map : goal.returns-clause-map

@@ -1,6 +1,6 @@
 use Rattle.std.proofs.Common.{sym, subst}
 use Rattle.joint.specs.declared.steps.Event.{Event}
-use Rattle.joint.specs.Whole.{IsStep}
+use Rattle.joint.specs.world.World.{IsStep}
 use Rattle.joint.proofs.world.World.step.Goals as goal
 
 pub returns-in-Register : goal.returns-in-Register

@@ -1,6 +1,6 @@
 use Rattle.std.proofs.Common.{sym, ◌∙◌, ap}
 use Rattle.std.specs.Vec.{vec_capacity, vec_len}
-use Rattle.joint.proofs.lemmas.Running.{none_more, progress_all, progress_none, progress_more, progress_end}
+use Rattle.joint.proofs.lemmas.calls.Running.{none_more, progress_all, progress_none, progress_more, progress_end}
 use Rattle.joint.proofs.world.World.take_all.Goals as goal
 use Rattle.joint.proofs.world.World.take_all.Goals.{in-Some+then-is_err, in_default}
 

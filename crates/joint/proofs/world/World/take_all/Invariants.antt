@@ -1,6 +1,6 @@
 use Rattle.std.specs.Vec.{vec_len}
 use Rattle.std.specs.Vec.Iter.{into_iter_items, into_iter_len}
-use Rattle.joint.proofs.lemmas.Running.{Progress}
+use Rattle.joint.proofs.lemmas.calls.Running.{Progress}
 use Rattle.joint.proofs.world.World.take_all.Given as goal
 
 abbrev pub invariant-loop-step : goal.invariant-loop-step

@@ -1,4 +1,4 @@
-use Rattle.joint.proofs.lemmas.Calling.{Going}
+use Rattle.joint.proofs.lemmas.calls.Calling.{Going}
 use Rattle.joint.proofs.world.World.take_steps.Given as goal
 
 abbrev pub invariant-loop-left : goal.invariant-loop-left

@@ -1,6 +1,6 @@
 use Rattle.std.proofs.Common.{length, sym, ◌∙◌, ap}
 use Rattle.std.proofs.lemmas.List.{length-replicate}
-use Rattle.joint.proofs.lemmas.Advanced.{opened_logged}
+use Rattle.joint.proofs.lemmas.calls.WorldSteps.{opened_logged}
 use Rattle.joint.proofs.world.World.with_places.Goals as goal
 
 pub invariant_of-result : goal.invariant_of-result

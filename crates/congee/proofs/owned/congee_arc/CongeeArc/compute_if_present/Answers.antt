@@ -12,7 +12,7 @@ use Rattle.congee.specs.owned.Sizes.{bytes_of}
 use Rattle.congee.specs.owned.Going.{Went, goes_of, going_by}
 use Rattle.congee.proofs.lemmas.owned.Answered.{answered_absent}
 use Rattle.congee.proofs.lemmas.owned.Contents.{filled_still, present_told, went, found_at}
-use Rattle.congee.proofs.lemmas.owned.OwnerLemmas.{if_some, is_there, on_error, same_some}
+use Rattle.congee.proofs.lemmas.owned.OwnerLemmas.{if_some, is_some_of_some, on_error, some_injective}
 use Rattle.congee.proofs.lemmas.owned.Tables.{answer_pairs}
 use Rattle.congee.proofs.lemmas.owned.Goings.{going_map}
 use Rattle.congee.proofs.owned.congee_arc.CongeeArc.compute_if_present.Goals as goal
@@ -20,7 +20,7 @@ use Rattle.congee.proofs.owned.congee_arc.CongeeArc.compute_if_present.Goals as 
 pub returns-in_err-given-in-Some-clause-refused : goal.returns-in_err-given-in-Some-clause-refused
 returns-in_err-given-in-Some-clause-refused g c =
     let found = found_at c.self.inside.arena (g.K.Word64.word c.args.key) c.bytes_of_key-bytes.ensures.small c.bytes_of_key-bytes.result c.bytes_of_key-bytes.ensures.bytes (Some c.in-Some.payload.now) c.in-Some.ensures in
-    on_error c.from_residual.result _ (rw (← c.self.view_is) (is_there c.in-Some.payload.now _ found))
+    on_error c.from_residual.result _ (rw (← c.self.view_is) (is_some_of_some c.in-Some.payload.now _ found))
 
 pub returns-in-None-clause-absent : goal.returns-in-None-clause-absent
 returns-in-None-clause-absent g c =
@@ -40,7 +40,7 @@ returns-clause-present g c =
     let filled = filled_still never_same _ _ c.self.inside.arena c.settle.new.self (g.K.Word64.word c.args.key) c.bytes_of_key-bytes.ensures.small c.bytes_of_key-bytes.result c.bytes_of_key-bytes.ensures.bytes new c.settle.result _ c.settle.ensures in
     if_some c.owner_of.result _ (λ x is.
     let r : c.settle.result ≡ Some (arc_value x) = sym c.owner_of.ensures ∙ ap (option_map arc_value) is in
-    let same : old ≡ arc_value x = same_some old (arc_value x) (c.in-Some.ensures ∙ c.settle.ensures.edits.change.was ∙ r) in (
+    let same : old ≡ arc_value x = some_injective old (arc_value x) (c.in-Some.ensures ∙ c.settle.ensures.edits.change.was ∙ r) in (
       c.in_ok-given-in-Some.given,
       c.f.result,
       c.f.new.self,

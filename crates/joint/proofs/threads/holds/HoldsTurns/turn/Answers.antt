@@ -1,6 +1,6 @@
 use Rattle.std.proofs.Common.{refl, subst}
 use Rattle.std.specs.Option.{option_map}
-use Rattle.joint.proofs.lemmas.Holding.{turn_of_call, turn_worker}
+use Rattle.joint.proofs.lemmas.threads.Holding.{turn_of_call, turn_worker}
 use Rattle.joint.proofs.threads.holds.HoldsTurns.turn.Goals as goal
 
 pub turn-report-requires : goal.turn-report-requires

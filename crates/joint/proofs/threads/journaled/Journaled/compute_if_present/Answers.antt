@@ -1,7 +1,7 @@
 use Rattle.std.proofs.Common.{rules, sym, ap, subst, ◌≡◌, ◌∙◌}
 use Rattle.std.specs.Prelude.{IfErr}
-use Rattle.joint.specs.Threads.{is_held_by, computed}
-use Rattle.joint.proofs.lemmas.WritingEnds.{served, present_refused}
+use Rattle.joint.specs.threads.Threads.{is_held_by, computed}
+use Rattle.joint.proofs.lemmas.threads.WritingEnds.{served, present_refused}
 use Rattle.joint.proofs.threads.journaled.Journaled.compute_if_present.Goals as goal
 
 pub returns-clause-refused : goal.returns-clause-refused

@@ -1,8 +1,8 @@
 use Rattle.std.proofs.Common.{rules, refl, sym, ap, subst, ◌≡◌, ◌∙◌}
 use Rattle.std.specs.Prelude.{Err, IfErr}
 use Rattle.joint.specs.declared.refusal.Refusal.TheVariants.{Foreign}
-use Rattle.joint.specs.Threads.{is_held_by, inserted, words}
-use Rattle.joint.proofs.lemmas.WritingEnds.{foreign, insert_refused, words_refused}
+use Rattle.joint.specs.threads.Threads.{is_held_by, inserted, words}
+use Rattle.joint.proofs.lemmas.threads.WritingEnds.{foreign, insert_refused, words_refused}
 use Rattle.joint.proofs.threads.journaled.Journaled.insert.Goals as goal
 
 pub returns-clause-refused : goal.returns-clause-refused

@@ -1,8 +1,8 @@
 use Rattle.std.proofs.Common.{rules, refl, sym, ap, subst, ◌≡◌, ◌∙◌}
 use Rattle.std.specs.Prelude.{Err, IfErr}
 use Rattle.joint.specs.declared.refusal.Refusal.TheVariants.{Foreign}
-use Rattle.joint.specs.Threads.{is_held_by, removed, words}
-use Rattle.joint.proofs.lemmas.WritingEnds.{foreign, remove_refused, words_refused}
+use Rattle.joint.specs.threads.Threads.{is_held_by, removed, words}
+use Rattle.joint.proofs.lemmas.threads.WritingEnds.{foreign, remove_refused, words_refused}
 use Rattle.joint.proofs.threads.journaled.Journaled.remove.Goals as goal
 
 pub returns-clause-refused : goal.returns-clause-refused

@@ -1,4 +1,4 @@
-use Rattle.joint.proofs.lemmas.Holding.{step_tells}
+use Rattle.joint.proofs.lemmas.threads.Holding.{step_tells}
 use Rattle.joint.proofs.threads.locked.PlainLocked.turn.Goals as goal
 
 pub returns-clause-told : goal.returns-clause-told

@@ -1,7 +1,7 @@
 use Rattle.std.proofs.Common.{rules, ◌≡◌, ◌∙◌, refl, sym, ap, subst}
-use Rattle.joint.specs.Closing.{account_of}
-use Rattle.joint.specs.Threads.{IsUnclosed}
-use Rattle.joint.specs.Whole.{Holds}
+use Rattle.joint.specs.engine.Closing.{account_of}
+use Rattle.joint.specs.threads.Threads.{IsUnclosed}
+use Rattle.joint.specs.world.World.{Holds}
 use Rattle.joint.proofs.threads.tree.Tree.close.Goals as goal
 
 pub returns-in-Ok-clause-closed : goal.returns-in-Ok-clause-closed

@@ -1,5 +1,5 @@
 use Rattle.std.proofs.Common.{None}
-use Rattle.joint.proofs.lemmas.Holding.{anyhow}
+use Rattle.joint.proofs.lemmas.threads.Holding.{anyhow}
 use Rattle.joint.proofs.threads.tree.Tree.drive.Goals as goal
 
 pub returns : goal.returns

@@ -1,5 +1,5 @@
 use Rattle.std.proofs.Common.{refl}
-use Rattle.joint.proofs.lemmas.Hidden.{rounds}
+use Rattle.joint.proofs.lemmas.threads.Hidden.{rounds}
 use Rattle.joint.proofs.threads.tree.Tree.go_round.Goals as goal
 
 pub returns : goal.returns

@@ -1,5 +1,5 @@
 use Rattle.std.proofs.Common.{None, refl}
-use Rattle.joint.proofs.lemmas.Holding.{mute}
+use Rattle.joint.proofs.lemmas.threads.Holding.{mute}
 use Rattle.joint.proofs.threads.tree.Tree.scan.Goals as goal
 
 pub returns : goal.returns

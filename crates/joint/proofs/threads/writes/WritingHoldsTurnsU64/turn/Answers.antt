@@ -1,7 +1,7 @@
 use Rattle.std.proofs.Common.{refl, subst}
 use Rattle.std.specs.Option.{option_map}
-use Rattle.joint.specs.Writing.{IsWritingTurn}
-use Rattle.joint.proofs.lemmas.Holding.{turn_of_call, turn_worker}
+use Rattle.joint.specs.threads.Writing.{IsWritingTurn}
+use Rattle.joint.proofs.lemmas.threads.Holding.{turn_of_call, turn_worker}
 use Rattle.joint.proofs.threads.writes.WritingHoldsTurnsU64.turn.Goals as goal
 
 pub write-report-requires-clause-call : goal.write-report-requires-clause-call

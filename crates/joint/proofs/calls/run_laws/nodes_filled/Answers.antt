@@ -1,0 +1,11 @@
+use Rattle.joint.proofs.lemmas.calls.Filling.{all_filled, opens_filled}
+use Rattle.joint.proofs.calls.run_laws.nodes_filled.Goals as goal
+
+pub returns-clause-run : goal.returns-clause-run
+returns-clause-run g c = all_filled g.P.Payload.same_as g.P.Payload.always_copies c.call_laws.ensures (record { opens = c.filled.ensures.opens; spared = c.filled.ensures.spared }) c.filled.ensures.steps
+
+pub returns-clause-opened : goal.returns-clause-opened
+returns-clause-opened g c = opens_filled g.P.Payload.same_as g.P.Payload.always_copies c.call_laws.ensures (record { opens = c.filled.ensures.opens; spared = c.filled.ensures.spared }) c.filled.ensures.steps
+
+pub returns-clause-filled : goal.returns-clause-filled
+returns-clause-filled g c = λ s f. f.tree

@@ -1,0 +1,62 @@
+-- The keys under the bytes of a node.
+use Rattle.std.proofs.Common.{◌≡◌, ℕ, ◌<◌, ◌≤◌, ◌+◌, ◌*◌, ◌^◌, ◌⊎◌, arith, length, get_or, ◌∙◌, ap, inl, inr}
+use Rattle.std.specs.Prelude.{None}
+use Rattle.std.proofs.Math.Nat.{mul-le-mul_right}
+use Rattle.congee.specs.declared.protocol.store.Region.{Region}
+use Rattle.congee.specs.Heap.{Node, Nothing, Below, fits, value_at}
+use Rattle.congee.specs.Keys.{key_bytes}
+use Rattle.congee.specs.Notes.{Note, Tree}
+use Rattle.congee.specs.protocol.Regions.{span, IsRegion, start_at}
+use Rattle.congee.specs.protocol.SweepKnown.{end_of}
+use Rattle.congee.specs.protocol.SweepSteps.{width}
+use Rattle.congee.proofs.Laws.{on_test, finds, misses, span_pos, span_step, keys_within, within_keys, byte_low, byte_high, whole, start_mono, region_top}
+use Rattle.joint.specs.nodes.Levels.{IsNodeIn}
+use Rattle.joint.specs.nodes.Survey.{IsRegionOf, NoneStand}
+
+-- the least key under a byte fits 64 bits
+pub start_fits : (x : Region) → IsRegionOf x → (byte w : ℕ) → byte < 256 → w ≡ width x.depth → (byte * w < 2 ^ 64) × (x.base + byte * w < 2 ^ 64)
+start_fits x r byte w l e =
+    let s : width x.depth ≡ span (x.depth + 1) = ap (λ n. 2 ^ (8 * n)) (omega arith) in
+    let q : byte * w ≡ byte * span (x.depth + 1) = ap (λ y. byte * y) (e ∙ s) in
+    let m : byte * span (x.depth + 1) ≤ 255 * span (x.depth + 1) = mul-le-mul_right {m = byte} {n = 255} (span (x.depth + 1)) (omega (arith, l)) in
+    let t : span x.depth ≡ 256 * span (x.depth + 1) = span_step x.depth (omega (arith, r.1.short)) in
+    let top : x.base + span x.depth ≤ 2 ^ 64 = region_top r.0 x.base x.depth r.1 in
+    let p : 0 < span (x.depth + 1) = span_pos (x.depth + 1) in
+    (omega (arith, e, s, q, m, t, top, p), omega (arith, e, s, q, m, t, top, p))
+
+module _ {V : Type 0} (h : ℕ → Node V) (n : ℕ) (i : IsNodeIn h n) (x : Region) (r : IsRegion (h n).prefix x.base x.depth) where
+  abbrev a : ℕ → Note
+  a = i.tree.notes
+
+  abbrev t : Tree a h
+  t = i.tree.tree
+
+  abbrev at : ℕ → ℕ
+  at b = start_at x.base x.depth b
+
+  within : (b k : ℕ) → b ≤ 256 → k < at b → (k < 2 ^ 64) × (k < x.base + span x.depth)
+  within b k small hi =
+      let up = start_mono (h n).prefix x.base x.depth r b 256 small in
+      let e = whole (h n).prefix x.base x.depth r in
+      let top = region_top (h n).prefix x.base x.depth r in
+      (omega (arith, hi, up, e, top), omega (arith, hi, up, e))
+
+  -- bytes at which nothing hangs
+  pub none_bytes : (from b : ℕ) → b ≤ 256 → ((q : ℕ) → from ≤ q → q < b → (h n).children q ≡ Nothing) → NoneStand h (at from) (at b)
+  none_bytes from b small none k lo hi =
+      let w = within b k small hi in
+      let f = within_keys (h n).prefix x.base x.depth r k w.0 (omega (arith, lo)) w.1 in
+      finds a h t n (key_bytes k) Nothing i.linked f (none _ (byte_low (h n).prefix x.base x.depth r k from w.0 f lo) (byte_high (h n).prefix x.base x.depth r k b w.0 f hi))
+
+  -- the keys of a byte beside those of the node that hangs there
+  pub none_beside : (b c : ℕ) (z : Region) → b < 256 → (h n).children b ≡ Below c → IsRegion (h c).prefix z.base z.depth
+      → (k : ℕ) → at b ≤ k → k < at (b + 1) → (k < z.base) ⊎ (end_of z ≤ k) → value_at h (key_bytes k) ≡ None
+  none_beside b c z small e rz k lo hi ne =
+      let w = within (b + 1) k (omega (arith, small)) hi in
+      let f = within_keys (h n).prefix x.base x.depth r k w.0 (omega (arith, lo)) w.1 in
+      let bl = byte_low (h n).prefix x.base x.depth r k b w.0 f lo in
+      let bh = byte_high (h n).prefix x.base x.depth r k (b + 1) w.0 f hi in
+      let is : get_or (key_bytes k) (length (h n).prefix) 0 ≡ b = omega (arith, bl, bh) in
+      misses a h t n c (key_bytes k) i.linked f (ap (λ q. (h n).children q) is ∙ e) (on_test (fits (h c).prefix (key_bytes k)) (λ y. absurd (
+      let u = keys_within (h c).prefix z.base z.depth rz k w.0 y in
+      elim ne [ inl p ↦ omega (arith, p, u.0) | inr p ↦ omega (arith, p, u.1) ])) (λ y. y))

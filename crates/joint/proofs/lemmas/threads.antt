@@ -1,0 +1,9 @@
+pub mod Appending
+pub mod Auditing
+pub mod Driving
+pub mod Hidden
+pub mod Holding
+pub mod Watching
+pub mod WritingEnds
+pub mod WritingStep
+pub mod WritingTurns

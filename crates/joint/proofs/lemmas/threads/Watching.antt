@@ -1,0 +1,48 @@
+-- How many entries of a journal are of writing calls and watched.
+use Rattle.std.proofs.Common.{◌≡◌, ℕ, ◌+◌, ◌≤◌, arith, Bool, true, false, not, List, [], ◌∷◌, ◌++◌, length, refl, ◌∙◌, ap}
+use Rattle.std.specs.Prelude.{Option, None, Some, ◌&&◌, nat_eq}
+use Rattle.std.proofs.lemmas.List.{append-nil}
+use Rattle.judge.specs.declared.journal.Entry.{Entry}
+use Rattle.joint.specs.engine.Journaling.{in_list, one_where}
+use Rattle.joint.specs.threads.Journals.{IsJournaled, count_watched, is_watched}
+use Rattle.joint.specs.nodes.Opening.{HasPlaces}
+use Rattle.joint.specs.world.MapSteps.{looks_up}
+use Rattle.joint.specs.world.World.{Holds}
+use Rattle.joint.specs.engine.Engine.{World}
+use Rattle.joint.proofs.lemmas.calls.WorldSteps.{journal_legal, journal_replays}
+
+module _ (watched : Entry ℕ → Bool) where
+  one_more : (xs : List (Entry ℕ)) (e : Entry ℕ) → count_watched watched (xs ++ e ∷ []) ≡ count_watched watched xs + one_where (is_watched watched e)
+  one_more [] e = omega arith
+  one_more (x ∷ xs) e = let rest = one_more xs e in omega (arith, rest)
+
+  -- a step that appends nothing, a look-up, or a writing call
+  pub none_watched : (xs ys : List (Entry ℕ)) (o : Option (Entry ℕ)) → ys ≡ xs ++ in_list o → o ≡ None → count_watched watched ys ≡ count_watched watched xs
+  none_watched xs ys o q n = ap (count_watched watched) (q ∙ ap (λ y. xs ++ in_list y) n ∙ append-nil xs)
+
+  pub look_up_watched : (xs ys : List (Entry ℕ)) (o : Option (Entry ℕ)) → ys ≡ xs ++ in_list o → ((e : Entry ℕ) → o ≡ Some e → looks_up e.call ≡ true) → count_watched watched ys ≡ count_watched watched xs
+  look_up_watched xs ys None q l = none_watched xs ys None q refl
+  look_up_watched xs ys (Some e) q l =
+      let none : one_where (is_watched watched e) ≡ 0 = ap (λ b. one_where (not b && watched e)) (l e refl) in
+      let more = one_more xs e in
+      ap (count_watched watched) q ∙ omega (arith, more, none)
+
+  pub write_watched : (xs ys : List (Entry ℕ)) (e : Entry ℕ) → ys ≡ xs ++ in_list (Some e) → looks_up e.call ≡ false → count_watched watched ys ≡ count_watched watched xs + one_where (watched e)
+  write_watched xs ys e q l = ap (count_watched watched) q ∙ one_more xs e ∙ ap (λ b. count_watched watched xs + one_where (not b && watched e)) l
+
+  one_or_none : (b : Bool) → one_where b ≤ 1
+  one_or_none true = omega arith
+  one_or_none false = omega arith
+
+  pub count_bounded : (xs : List (Entry ℕ)) → count_watched watched xs ≤ length xs
+  count_bounded [] = omega arith
+  count_bounded (x ∷ xs) = let rest = count_bounded xs in let one = one_or_none (is_watched watched x) in omega (arith, rest, one)
+
+-- what holds of a machine with so many places
+pub journaled : (s : World ℕ) → Holds nat_eq true s → HasPlaces s.log.places → IsJournaled s
+journaled s h p = record {
+  places = p;
+  long = let room = h.2.room in omega (arith, room);
+  legal = journal_legal nat_eq true s h;
+  replays = λ m st. journal_replays nat_eq true s h m (omega (arith, p.0)) st;
+}

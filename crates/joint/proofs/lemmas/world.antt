@@ -1,0 +1,15 @@
+pub mod Asking
+pub mod Bags
+pub mod Effects
+pub mod Flights
+pub mod JournalFull
+pub mod Logged
+pub mod MapSteps
+pub mod JournaledSteps
+pub mod JournalPlaces
+pub mod KeptMarks
+pub mod Requested
+pub mod RunJournals
+pub mod Standing
+pub mod Waiting
+pub mod Whereabouts

@@ -1,5 +1,0 @@
-use Rattle.joint.proofs.lemmas.Answering.{all_decide}
-use Rattle.joint.proofs.run_laws.calls_answer.Goals as goal
-
-pub returns : goal.returns
-returns g c = all_decide g.P.Payload.same_as

@@ -1,5 +1,0 @@
-use Rattle.joint.proofs.lemmas.Readers.{readers}
-use Rattle.joint.proofs.run_laws.readers_refused.Goals as goal
-
-pub returns : goal.returns
-returns g c = readers g.P.Payload.same_as g.P.Payload.always_copies c.progress.ensures

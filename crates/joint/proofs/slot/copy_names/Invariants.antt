@@ -1,9 +1,0 @@
-use Rattle.std.proofs.Common.{◌-◌}
-use Rattle.joint.proofs.lemmas.Copying.{IsCopying}
-use Rattle.joint.proofs.slot.copy_names.Given as goal
-
-abbrev pub invariant-loop-byte : goal.invariant-loop-byte
-invariant-loop-byte g l = IsCopying l.node l.fn.greater l.greater l.from
-
-abbrev pub decreases-loop-byte : goal.decreases-loop-byte
-decreases-loop-byte g l = 256 - l.from

@@ -1,9 +1,0 @@
-use Rattle.std.proofs.Common.{◌≡◌, ap, arith}
-use Rattle.joint.specs.Forest.{nodes}
-use Rattle.joint.specs.View.{id_number}
-use Rattle.joint.proofs.store.NodesStoreId.unlock.Goals as goal
-
-pub overflow_add-word : goal.overflow_add-word
-overflow_add-word g c =
-    let e : (nodes c.args.self.now (id_number c.args.node)).version ≡ c.slot.result.now.word.version = ap (λ n. n.version) c.slot.ensures.node in
-    omega (arith, e, c.requires.within, c.version_max-most.ensures, c.version_max-most.type_inv)

@@ -1,4 +1,0 @@
-use Rattle.joint.proofs.threads.kept.KeptLockedU64.turn.Goals as goal
-
-pub returns-clause-holds : goal.returns-clause-holds
-returns-clause-holds g c = (_, _, c.read.ensures.turn)

@@ -1,5 +1,0 @@
-use Rattle.std.proofs.Common.{◌∙◌}
-use Rattle.joint.proofs.threads.owners.CongeeArc.compute_if_present.Goals as goal
-
-pub returns-clause-answers : goal.returns-clause-answers
-returns-clause-answers g c = (c.compute_if_present-answer.result, rw (c.new-answers.ensures, c.to_word.ensures) at c.compute_if_present-answer.ensures, c.owners.ensures ∙ c.befores.ensures)

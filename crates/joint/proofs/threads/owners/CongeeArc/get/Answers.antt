@@ -1,4 +1,0 @@
-use Rattle.joint.proofs.threads.owners.CongeeArc.get.Goals as goal
-
-pub returns-clause-answers : goal.returns-clause-answers
-returns-clause-answers g c = (c.get.result, rw c.to_word.ensures at c.get.ensures, c.owners.ensures)

@@ -1,4 +1,0 @@
-use Rattle.joint.proofs.threads.words.Congee.compare_exchange.Goals as goal
-
-pub returns-clause-answers : goal.returns-clause-answers
-returns-clause-answers g c = (c.compare_exchange.result, rw (c.to_word-key.ensures, c.to_word-old.ensures, c.to_word-new.ensures) at c.compare_exchange.ensures, c.either_words.ensures)

@@ -1,0 +1,15 @@
+pub mod Alone
+pub mod Answering
+pub mod Calling
+pub mod Ends
+pub mod Filling
+pub mod Leaving
+pub mod MapCalls
+pub mod Plain
+pub mod Promises
+pub mod Rounds
+pub mod Runs
+pub mod Scans
+pub mod Standing
+pub mod Stretches
+pub mod Wanted

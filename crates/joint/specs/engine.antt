@@ -1,0 +1,14 @@
+pub mod Beginning
+pub mod Census
+pub mod Closing
+pub mod Engine
+pub mod Filed
+pub mod Flying
+pub mod Intact
+pub mod Journaling
+pub mod Laws
+pub mod Log
+pub mod Safety
+pub mod Sound
+pub mod State
+pub mod Surveys

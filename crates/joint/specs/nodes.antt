@@ -1,0 +1,15 @@
+pub mod Altering
+pub mod Draining
+pub mod Nodes
+pub mod Heap
+pub mod Levels
+pub mod Listing
+pub mod MapCode
+pub mod Opening
+pub mod RoomLemmas
+pub mod Slots
+pub mod Solid
+pub mod Survey
+pub mod CellMarks
+pub mod Ties
+pub mod View

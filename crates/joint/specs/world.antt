@@ -1,0 +1,3 @@
+pub mod MapSteps
+pub mod Whereabouts
+pub mod World

@@ -1,0 +1,462 @@
+//! One step of the machine, by its event.
+
+ghost use Rattle.std.specs.Prelude.{◌≡◌, ◌<◌, Some, length, slice_get, slice_set, option_map, true, false, if◌then◌else◌};
+ghost use Rattle.judge.specs.Answer.{Pairs};
+ghost use Rattle.congee.specs.Keys.{IsMapOf};
+ghost use Rattle.joint.specs.engine.Beginning.{Begun, stage_of};
+ghost use Rattle.joint.specs.engine.Census.{effect_of};
+ghost use Rattle.joint.specs.nodes.Nodes.{nodes};
+ghost use Rattle.joint.specs.nodes.Survey.{IsEmptiness};
+ghost use Rattle.joint.specs.engine.Engine.{Does, EngineHolds, IsEngineStep, Proceeds, misuse, quiet, collection, destroyed_count, finds_none, interruption, is_busy, kind_of, reserving, Surveys, Walks};
+ghost use Rattle.joint.specs.Reports.{told};
+ghost use Rattle.joint.specs.declared.steps.Event.TheVariants as Event;
+ghost use Rattle.joint.specs.engine.Intact.{WalkedOn, over_at, writes};
+ghost use Rattle.joint.specs.declared.engine.in_flight.InFlight.TheVariants as InFlight;
+ghost use Rattle.joint.specs.declared.steps.Survey.TheVariants as Survey;
+ghost use Rattle.joint.specs.declared.steps.Target.TheVariants as Target;
+ghost use Rattle.joint.specs.declared.steps.Outcome.TheVariants as Outcome;
+ghost use Rattle.joint.specs.declared.steps.Kind.TheVariants as Kind;
+ghost use Rattle.crossbeam_epoch.specs.World.Machine.{place};
+ghost use Rattle.joint.specs.engine.State.{state_of, EngineIntact, EngineCounted};
+
+use crate::engine::census::{Change, effect_after};
+use crate::engine::in_flight::{InFlight, Stage};
+use crate::engine::{Engine, call_laws, cell_laws, progress};
+use crate::id::Id;
+use crate::refusal::Refusal;
+use crate::steps::{Done, Kind, Op, Outcome, Report, Survey, Target};
+use congee::{Allocator, Move, Noise, Payload, Small};
+use crossbeam_epoch::Fault;
+
+impl<P: Payload + Small, A: Allocator> Engine<P, A> {
+    /// The step in which a worker registers.
+    pub(crate) fn step_in(&mut self, worker: u32) -> Report<P>
+        requires holds { EngineHolds P.same_as P.always_copies (state_of self.old) }
+        requires counted { EngineCounted self.old.census (state_of self.old) }
+        ensures step { IsEngineStep P.same_as P.always_copies (state_of self.old) (record { worker = worker; event = Event.Register }) result (state_of self.new) }
+        ensures counted { EngineCounted self.new.census (state_of self.new) }
+    {
+        call_laws::<P>();
+        let report = self.register();
+        self.nodes.charged();
+        report
+    }
+
+    /// The step in which a worker begins a call.
+    pub(crate) fn step_begin(&mut self, worker: u32, op: Op<P>) -> Report<P>
+        requires holds { EngineHolds P.same_as P.always_copies (state_of self.old) }
+        requires counted { EngineCounted self.old.census (state_of self.old) }
+        ensures step { IsEngineStep P.same_as P.always_copies (state_of self.old) (record { worker = worker; event = Event.Begin op }) result (state_of self.new) }
+        ensures counted { EngineCounted self.new.census (state_of self.new) }
+    {
+        call_laws::<P>();
+        let report = self.begin(worker as usize, op.target());
+        self.nodes.charged();
+        report
+    }
+
+    /// The next step of a worker's call.
+    #[inline(always)]
+    pub(crate) fn step_on(&mut self, worker: u32, noise: Noise<Id, P>) -> Report<P>
+        requires holds { EngineHolds P.same_as P.always_copies (state_of self.old) }
+        requires counted { EngineCounted self.old.census (state_of self.old) }
+        ensures step { IsEngineStep P.same_as P.always_copies (state_of self.old) (record { worker = worker; event = Event.Go noise }) result (state_of self.new) }
+        ensures counted { EngineCounted self.new.census (state_of self.new) }
+    {
+        call_laws::<P>();
+        let report = self.go(worker as usize, noise);
+        self.nodes.charged();
+        report
+    }
+
+    /// A worker takes the lowest free place.
+    fn register(&mut self) -> Report<P>
+        requires intact { EngineIntact P.same_as P.always_copies (state_of self.old) }
+        ensures intact { EngineIntact P.same_as P.always_copies (state_of self.new) }
+        ensures registers { Proceeds P.same_as P.always_copies (state_of self.old) 0 Event.Register result (state_of self.new) }
+        ensures census { self.new.census ≡ self.old.census }
+    {
+        cell_laws::<P>();
+        call_laws::<P>();
+        match self.nodes.register() {
+            Ok(place) => report(Kind::Collection, Outcome::Registered(place as u32)),
+            Err(fault) => refused(Kind::Collection, Refusal::of_fault(fault)),
+        }
+    }
+
+    /// Begins a call of a worker's, or refuses it for its first cause.
+    fn begin(&mut self, who: usize, target: Target<P>) -> Report<P>
+        requires intact { EngineIntact P.same_as P.always_copies (state_of self.old) }
+        requires counted { EngineCounted self.old.census (state_of self.old) }
+        ensures intact { EngineIntact P.same_as P.always_copies (state_of self.new) }
+        ensures begun { Begun P.same_as P.always_copies (state_of self.old) who target result (state_of self.new) }
+        ensures census { self.new.census ≡ self.old.census }
+    {
+        if !self.nodes.is_registered(who) {
+            return refused(kind_of(&target), Refusal::Unknown);
+        }
+        if self.is_busy(who) {
+            return refused(kind_of(&target), Refusal::of_fault(interruption(&target)));
+        }
+        match target {
+            Target::Collector(op) => self.begin_on_collector(who, op),
+            Target::Tree(op) => self.begin_on_tree(who, op),
+            Target::Survey(survey) => self.answer_survey(who, survey),
+        }
+    }
+
+    /// Begins a call on the collector, of a worker without a call in flight.
+    fn begin_on_collector(&mut self, who: usize, op: crossbeam_epoch::Op) -> Report<P>
+        requires intact { EngineIntact P.same_as P.always_copies (state_of self.old) }
+        requires registered { (place self.old.nodes.collector who).registered ≡ true }
+        requires idle { slice_get self.old.calls.items who ≡ Some InFlight.Idle }
+        ensures intact { EngineIntact P.same_as P.always_copies (state_of self.new) }
+        ensures begun { Begun P.same_as P.always_copies (state_of self.old) who (Target.Collector op) result (state_of self.new) }
+        ensures census { self.new.census ≡ self.old.census }
+    {
+        progress::<P>();
+        self.nodes.charged();
+        let turn = self.begin_collecting(who, op);
+        collection(turn, Outcome::of_collector(turn.outcome))
+    }
+
+    /// Begins a call on the tree, of a worker without a call in flight.
+    fn begin_on_tree(&mut self, who: usize, op: congee::Op<P>) -> Report<P>
+        requires intact { EngineIntact P.same_as P.always_copies (state_of self.old) }
+        requires registered { (place self.old.nodes.collector who).registered ≡ true }
+        requires idle { slice_get self.old.calls.items who ≡ Some InFlight.Idle }
+        ensures intact { EngineIntact P.same_as P.always_copies (state_of self.new) }
+        ensures begun { Begun P.same_as P.always_copies (state_of self.old) who (Target.Tree op) result (state_of self.new) }
+        ensures census { self.new.census ≡ self.old.census }
+    {
+        if !self.nodes.is_pinned(who) {
+            return refused(Kind::Tree, Refusal::Unpinned);
+        }
+        if finds_none(&op) {
+            return report(Kind::Tree, Outcome::Done(Done::Scanned(0)));
+        }
+        if writes(&op) {
+            self.reserve(who, op);
+            return report(Kind::Tree, Outcome::Running);
+        }
+        self.start(who, op);
+        report(Kind::Tree, Outcome::Running)
+    }
+
+    /// Tells of the tree as it stands, to a worker without a call in flight.
+    #[inline(never)]
+    fn answer_survey(&self, who: usize, survey: Survey) -> Report<P>
+        requires intact { EngineIntact P.same_as P.always_copies (state_of self.now) }
+        requires registered { (place self.now.nodes.collector who).registered ≡ true }
+        requires idle { slice_get self.now.calls.items who ≡ Some InFlight.Idle }
+        requires counted { EngineCounted self.now.census (state_of self.now) }
+        ensures { Begun P.same_as P.always_copies (state_of self.now) who (Target.Survey survey) result (state_of self.now) }
+    {
+        match survey {
+            Survey::Keys => self.tell_keys(),
+            Survey::IsEmpty => {
+                if self.nodes.is_pinned(who) {
+                    self.tell_empty()
+                } else {
+                    refused(Kind::Tree, Refusal::Unpinned)
+                }
+            }
+            Survey::Stats => self.tell_stats(),
+        }
+    }
+
+    /// All keys.
+    fn tell_keys(&self) -> Report<P>
+        requires { EngineIntact P.same_as P.always_copies (state_of self.now) }
+        ensures { Surveys (state_of self.now) Survey.Keys result (state_of self.now) }
+    {
+        match self.nodes.keys(self.census.capped() as usize) {
+            Ok(keys) => report(Kind::Tree, Outcome::Done(Done::Keys(keys))),
+            Err(_) => refused(Kind::Tree, Refusal::Memory),
+        }
+    }
+
+    /// Whether there is no key.
+    fn tell_empty(&self) -> Report<P>
+        requires intact { EngineIntact P.same_as P.always_copies (state_of self.now) }
+        requires counted { EngineCounted self.now.census (state_of self.now) }
+        ensures { Surveys (state_of self.now) Survey.IsEmpty result (state_of self.now) }
+    {
+        report(Kind::Tree, Outcome::Done(Done::Empty(self.is_empty())))
+    }
+
+    /// Whether no pair stands.
+    fn is_empty(&self) -> bool
+        requires { EngineCounted self.now.census (state_of self.now) }
+        ensures { (m : Pairs P) → IsMapOf (nodes self.now.nodes) m → IsEmptiness m result }
+    {
+        self.census.pairs == 0
+    }
+
+    /// How the nodes are spread, and how many pairs there are.
+    fn tell_stats(&self) -> Report<P>
+        requires intact { EngineIntact P.same_as P.always_copies (state_of self.now) }
+        requires counted { EngineCounted self.now.census (state_of self.now) }
+        ensures { Surveys (state_of self.now) Survey.Stats result (state_of self.now) }
+    {
+        match self.nodes.stats(self.census.capped()) {
+            Ok(stats) => report(Kind::Tree, Outcome::Done(Done::Stats(stats))),
+            Err(_) => refused(Kind::Tree, Refusal::Memory),
+        }
+    }
+
+    /// The next step of a worker's call in flight.
+    #[inline(always)]
+    fn go(&mut self, who: usize, noise: Noise<Id, P>) -> Report<P>
+        requires intact { EngineIntact P.same_as P.always_copies (state_of self.old) }
+        requires counted { EngineCounted self.old.census (state_of self.old) }
+        ensures intact { EngineIntact P.same_as P.always_copies (state_of self.new) }
+        ensures does { Does P.same_as P.always_copies (state_of self.old) who (Event.Go noise) (misuse (state_of self.old) who (Event.Go noise)) result (state_of self.new) }
+        ensures counted { EngineCounted self.new.census (state_of self.new) }
+    {
+        if self.is_walking(who) {
+            self.go_on_tree(who, noise)
+        } else {
+            self.go_other(who)
+        }
+    }
+
+    /// Whether a worker's call takes its steps on the tree.
+    fn is_walking(&self, who: usize) -> bool
+        ensures walking { result ≡ true → slice_get self.now.calls.items who ≡ Some InFlight.Walking }
+        ensures other { result ≡ false → slice_get self.now.calls.items who ≡ Some InFlight.Walking → ⊥ }
+    {
+        match self.calls.get(who) {
+            Some(InFlight::Walking) => true,
+            // There is none, or it is on the collector, or before its first step on the tree.
+            _ => false,
+        }
+    }
+
+    /// The next step of a worker's call that isn't on the tree yet, or there is none.
+    #[inline(never)]
+    fn go_other(&mut self, who: usize) -> Report<P>
+        requires other { slice_get self.old.calls.items who ≡ Some InFlight.Walking → ⊥ }
+        requires intact { EngineIntact P.same_as P.always_copies (state_of self.old) }
+        requires counted { EngineCounted self.old.census (state_of self.old) }
+        ensures intact { EngineIntact P.same_as P.always_copies (state_of self.new) }
+        ensures does { (noise : Noise Id P) → Does P.same_as P.always_copies (state_of self.old) who (Event.Go noise) (misuse (state_of self.old) who (Event.Go noise)) result (state_of self.new) }
+        ensures counted { EngineCounted self.new.census (state_of self.new) }
+    {
+        if !self.nodes.is_registered(who) {
+            return refused(Kind::Collection, Refusal::Unknown);
+        }
+        match self.stage(who) {
+            Stage::Idle => refused(Kind::Collection, Refusal::Idle),
+            Stage::Collecting(op) => {
+                let turn = self.go_collecting(who, op);
+                collection(turn, Outcome::of_collector(turn.outcome))
+            }
+            Stage::Reserving => {
+                self.begin_securing(who);
+                let turn = self.go_securing(who);
+                collection(turn, reserving(turn.outcome))
+            }
+            Stage::Securing => {
+                let turn = self.go_securing(who);
+                collection(turn, reserving(turn.outcome))
+            }
+            Stage::Walking => unreachable!(),
+        }
+    }
+
+    /// The next step of a worker's call on the tree.
+    #[inline(always)]
+    fn go_on_tree(&mut self, who: usize, noise: Noise<Id, P>) -> Report<P>
+        requires intact { EngineIntact P.same_as P.always_copies (state_of self.old) }
+        requires on { slice_get self.old.calls.items who ≡ Some InFlight.Walking }
+        requires counted { EngineCounted self.old.census (state_of self.old) }
+        ensures intact { EngineIntact P.same_as P.always_copies (state_of self.new) }
+        ensures walks { Walks P.same_as P.always_copies (state_of self.old) who noise result (state_of self.new) }
+        ensures counted { EngineCounted self.new.census (state_of self.new) }
+    {
+        let before = self.nodes.standing();
+        let moved = self.go_counted(who, noise);
+        of_move(moved, before.saturating_sub(self.nodes.standing()))
+    }
+
+    /// The same, and what it makes of the pairs and of the nodes that are taken out is counted.
+    #[inline(always)]
+    fn go_counted(&mut self, who: usize, noise: Noise<Id, P>) -> Move<P>
+        requires intact { EngineIntact P.same_as P.always_copies (state_of self.old) }
+        requires on { slice_get self.old.calls.items who ≡ Some InFlight.Walking }
+        requires counted { EngineCounted self.old.census (state_of self.old) }
+        ensures intact { EngineIntact P.same_as P.always_copies (state_of self.new) }
+        ensures walked { WalkedOn P.same_as P.always_copies self.old.nodes self.old.machines.items (record { who = who; noise = noise }) result self.new.nodes self.new.machines.items }
+        ensures calls { self.new.calls.items ≡ slice_set self.old.calls.items who (if over_at (slice_get self.new.machines.items who) then InFlight.Idle else InFlight.Walking) }
+        ensures counted { EngineCounted self.new.census (state_of self.new) }
+    {
+        call_laws::<P>();
+        let before = self.taken(who);
+        let moved = self.go_walking(who, noise);
+        let after = self.taken(who);
+        let change = self.change_by(who, &moved);
+        self.census.recount(before, after);
+        self.census.count(change);
+        moved
+    }
+
+    /// What a step of a worker's call made of the number of pairs.
+    #[inline(always)]
+    fn change_by(&self, who: usize, moved: &Move<P>) -> Change
+        requires { who < length self.now.machines.items }
+        ensures { result ≡ effect_of moved.now.decided moved.now.outcome (slice_get self.now.machines.items who) }
+    {
+        if moved.decided {
+            effect_after(&moved.outcome, &self.machines[who])
+        } else {
+            Change::Same
+        }
+    }
+
+    /// Whether a worker has a call in flight.
+    fn is_busy(&self, who: usize) -> bool
+        requires { who < length self.now.calls.items }
+        ensures { result ≡ is_busy (slice_get self.now.calls.items who) }
+    {
+        match &self.calls[who] {
+            InFlight::Idle => false,
+            // On the collector, on the tree, or before that making places free.
+            _ => true,
+        }
+    }
+
+    /// What a worker's call in flight is about.
+    fn stage(&self, who: usize) -> Stage
+        requires { who < length self.now.calls.items }
+        ensures { Some result ≡ option_map stage_of (slice_get self.now.calls.items who) }
+    {
+        match &self.calls[who] {
+            InFlight::Idle => Stage::Idle,
+            InFlight::Collecting(op) => Stage::Collecting(*op),
+            InFlight::Reserving(_) => Stage::Reserving,
+            InFlight::Securing(_) => Stage::Securing,
+            InFlight::Walking => Stage::Walking,
+        }
+    }
+}
+
+/// A report of a step that decided, skipped and destroyed nothing.
+fn report<P>(kind: Kind, outcome: Outcome<P>) -> Report<P>
+    ensures { result ≡ quiet kind outcome }
+{
+    Report {
+        kind,
+        decided: false,
+        kept: false,
+        skipped: false,
+        destroyed: 0,
+        outcome,
+    }
+}
+
+/// The report of a refusal.
+pub(crate) fn refused<P>(kind: Kind, refusal: Refusal) -> Report<P>
+    ensures { result ≡ quiet kind (Outcome.Refused refusal) }
+{
+    report(kind, Outcome::Refused(refusal))
+}
+
+/// The nodes that a step of the collector destroyed.
+fn destroyed_count(report: &crossbeam_epoch::Report) -> u64
+    ensures { result ≡ destroyed_count report.now.called }
+{
+    match report.called {
+        None => 0,
+        Some((_, None)) => 0,
+        Some((_, Some(_))) => 1,
+    }
+}
+
+/// The report of a step of the collector.
+fn collection<P>(report: crossbeam_epoch::Report, outcome: Outcome<P>) -> Report<P>
+    ensures { result ≡ collection report outcome }
+{
+    Report {
+        kind: Kind::Collection,
+        decided: false,
+        kept: false,
+        skipped: false,
+        destroyed: destroyed_count(&report),
+        outcome,
+    }
+}
+
+/// How a call stands after a step that makes its places free: it goes on, or is refused.
+fn reserving<P>(outcome: crossbeam_epoch::Outcome) -> Outcome<P>
+    ensures { result ≡ reserving outcome }
+{
+    match outcome {
+        crossbeam_epoch::Outcome::Done => Outcome::Running,
+        outcome => Outcome::of_collector(outcome),
+    }
+}
+
+/// The report of a step on the tree that gave so many nodes back.
+#[inline(always)]
+fn of_move<P>(moved: Move<P>, back: u64) -> Report<P>
+    ensures { result ≡ record { kind = Kind.Tree; decided = moved.decided; kept = false; skipped = moved.skipped; destroyed = back; outcome = told moved.outcome } }
+{
+    Report {
+        kind: Kind::Tree,
+        decided: moved.decided,
+        kept: false,
+        skipped: moved.skipped,
+        destroyed: back,
+        outcome: Outcome::of_tree(moved.outcome),
+    }
+}
+
+/// Whether a call's steps are the tree's or the collector's.
+fn kind_of<P>(target: &Target<P>) -> Kind
+    ensures { result ≡ kind_of target.now }
+{
+    match target {
+        Target::Collector(_) => Kind::Collection,
+        Target::Tree(_) => Kind::Tree,
+        Target::Survey(_) => Kind::Tree,
+    }
+}
+
+/// Why a call isn't begun in mid-call.
+fn interruption<P>(target: &Target<P>) -> Fault
+    ensures { result ≡ interruption target.now }
+{
+    match target {
+        Target::Collector(crossbeam_epoch::Op::Pin) => Fault::Busy,
+        Target::Collector(crossbeam_epoch::Op::Secure(_)) => Fault::Busy,
+        Target::Collector(_) => Fault::InCall,
+        Target::Tree(_) => Fault::Busy,
+        Target::Survey(_) => Fault::Busy,
+    }
+}
+
+/// Whether a call may hand nodes over.
+fn writes<P>(op: &congee::Op<P>) -> bool
+    ensures { result ≡ writes op.now }
+{
+    match op {
+        congee::Op::Get(_) => false,
+        congee::Op::Range(_, _, _) => false,
+        congee::Op::RangeInclusive(_, _, _) => false,
+        // An insertion, a removal, a compute or an exchange.
+        _ => true,
+    }
+}
+
+/// Whether a call is a scan that can find nothing.
+fn finds_none<P>(op: &congee::Op<P>) -> bool
+    ensures { result ≡ finds_none op.now }
+{
+    match op {
+        congee::Op::Range(start, end, size) => *start >= *end || *size == 0,
+        congee::Op::RangeInclusive(start, last, size) => *start > *last || *size == 0,
+        // A call on one key is no scan.
+        _ => false,
+    }
+}

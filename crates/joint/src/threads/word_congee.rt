@@ -1,0 +1,525 @@
+//! The index of words for threads.
+
+ghost use Rattle.std.specs.Prelude.{◌≡◌, ℕ, false, length, map, nat_eq, true, IfErr, IfOk, MatchResult};
+ghost use Rattle.std.specs.Option.{option_map};
+ghost use Rattle.joint.specs.nodes.Opening.{IsUnopened};
+ghost use Rattle.joint.specs.threads.Pinned.{CallsPinned, KeepsWorker};
+ghost use Rattle.joint.specs.threads.Threads.{Answers, AreKeys, As, ByHold, Closes, Computes, Hands, IsAccount, IsHold, IsRound, IsTold, IsUnclosed, Pins, Scans, Serves, is_held_by, is_of, register_step, registered, charge_of, waiting_bytes_of, waiting_of, computed, counted, either_of, either_words, emptied, exchanged, got, if_present, inserted, listed, or_insert, removed, replaced, scanned, told, words};
+ghost use Rattle.joint.specs.declared.steps.Op.TheVariants as op;
+
+use crate::limits::Limits;
+use crate::refusal::Refusal;
+use crate::steps::Op;
+use crate::threads::answers::{IfPresent, OrInsert};
+use crate::threads::driver::Pair;
+use crate::threads::locked::Plain;
+use crate::threads::tokens::{Guard, Worker};
+use crate::threads::tree::Tree;
+use congee::{Allocator, DefaultAllocator, Drainer, NoDrain, NodeStats, Word64};
+use std::alloc::{AllocError, Global};
+use std::marker::{Model, PhantomData};
+use std::sync::Wait;
+
+/// An ordered map from words to words that threads share. Each step of a call is one hold of its lock, and closures
+/// run between two of them.
+///
+/// A thread registers a worker, pins it, and calls with worker and guard. A call with those of another index, or with
+/// another worker's guard, is refused as Foreign, and does nothing.
+#[derive(Drop)]
+pub struct Congee<K, V, A: Allocator = DefaultAllocator, D = NoDrain> {
+    tree: Tree<u64, Plain<u64, A>>,
+    drainer: D,
+    alloc: Global,
+    words: PhantomData<(K, V)>,
+}
+
+/// The value of a word, if there is one.
+fn word_of<V: Word64>(word: Option<u64>) -> Option<V>
+    ensures { result ≡ option_map V.of_word word }
+{
+    match word {
+        Some(word) => Some(V::from_word(word)),
+        None => None,
+    }
+}
+
+/// The word of a value, if there is one.
+pub(crate) fn to_word<V: Word64>(value: &Option<V>) -> Option<u64>
+    ensures { result ≡ option_map V.word value.now }
+{
+    match value {
+        Some(value) => Some(value.to_word()),
+        None => None,
+    }
+}
+
+/// The value of an answer.
+pub(crate) fn words<V: Word64>(answer: Result<Option<u64>, Refusal>) -> Result<Option<V>, Refusal>
+    ensures { result ≡ words V.of_word answer }
+{
+    match answer {
+        Ok(word) => Ok(word_of(word)),
+        Err(refusal) => Err(refusal),
+    }
+}
+
+/// The values of an exchange's answer.
+pub(crate) fn either_words<V: Word64>(
+    answer: Result<Result<Option<u64>, Option<u64>>, Refusal>,
+) -> Result<Result<Option<V>, Option<V>>, Refusal>
+    ensures { result ≡ either_words V.of_word answer }
+{
+    match answer {
+        Ok(Ok(word)) => Ok(Ok(word_of(word))),
+        Ok(Err(word)) => Ok(Err(word_of(word))),
+        Err(refusal) => Err(refusal),
+    }
+}
+
+/// The keys of words.
+fn keys_of<K: Word64>(alloc: Global, words: &[u64]) -> Result<Vec<K>, AllocError>
+    ensures { IfOk result (λ keys. keys.items ≡ map K.of_word words.now) }
+{
+    words.iter().map(|word| K::from_word(*word)).collect(alloc)
+}
+
+/// The keys of an answer.
+pub(crate) fn are_keys<K: Word64>(
+    alloc: Global,
+    answer: Result<Vec<u64>, Refusal>,
+) -> Result<Vec<K>, Refusal>
+    ensures { AreKeys K.of_word answer result }
+{
+    let words = answer?;
+    match keys_of(alloc, words.as_slice()) {
+        Ok(keys) => Ok(keys),
+        Err(_) => Err(Refusal::Memory),
+    }
+}
+
+impl<K: Word64, V: Word64, A: Allocator, D: Drop> Congee<K, V, A, D> {
+    /// An index with a root alone, which the allocator is charged for. Refused as Limits, Budget or Memory; both are
+    /// dropped then.
+    ///
+    /// Its number is `limits.id`; each index wants one of its own (`Limits::with_id`).
+    pub fn new_with_drainer(
+        alloc: Global,
+        limits: Limits,
+        allocator: A,
+        drainer: D,
+    ) -> Result<Self, Refusal>
+        ensures id { IfOk result (λ t. t.tree.id ≡ limits.id) }
+        ensures account { IfOk result (λ t. IsAccount t.tree.account (A.charged_of allocator) (A.limit_of allocator)) }
+        ensures drainer { IfOk result (λ t. t.drainer ≡ drainer) }
+        ensures cause { IfErr result (λ e. IsUnopened limits (A.charged_of allocator) (A.limit_of allocator) e) }
+    {
+        let tree = Tree::new(alloc, limits, allocator)?;
+        Ok(Congee {
+            tree,
+            drainer,
+            alloc,
+            words: PhantomData,
+        })
+    }
+
+    /// A worker at the lowest free place of the table. Refused as TableFull.
+    pub fn register<R: Wait>(&self, rt: &R) -> Result<Worker, Refusal>
+        ensures { (r : _) × IsHold nat_eq true register_step r × (result ≡ registered self.now.tree.id r.outcome) }
+    {
+        self.tree.register(rt)
+    }
+
+    /// The worker leaves its place; what it removed waits on. Refused as GuardOut while it is pinned, as Memory where
+    /// its removals can't be queued, and as Foreign; it comes back.
+    pub fn release<R: Wait>(&self, rt: &R, worker: Worker) -> Result<(), (Refusal, Worker)>
+        ensures { Hands (is_of self.now.tree.id worker) (Answers (ByHold nat_eq true) worker.number op.Release told) worker result }
+    {
+        self.tree.release(rt, worker)
+    }
+
+    /// A guard. Refused as Count where 65,535 guards of the worker are out.
+    pub fn pin<R: Wait>(&self, rt: &R, worker: &mut Worker) -> Result<Guard, Refusal>
+        ensures worker { worker.new ≡ worker.old }
+        ensures answers { Serves (is_of self.now.tree.id worker.old) (Pins (ByHold nat_eq true) self.now.tree.id worker.old.number) result }
+    {
+        self.tree.pin(rt, worker)
+    }
+
+    /// Spends a guard; with its last one a worker isn't pinned any more. The guard comes back with a refusal.
+    pub fn unpin<R: Wait>(
+        &self,
+        rt: &R,
+        worker: &mut Worker,
+        guard: Guard,
+    ) -> Result<(), (Refusal, Guard)>
+        ensures worker { worker.new ≡ worker.old }
+        ensures answers { Hands (is_held_by self.now.tree.id worker.old guard) (Answers (ByHold nat_eq true) worker.old.number op.Unpin told) guard result }
+    {
+        self.tree.unpin(rt, worker, guard)
+    }
+
+    /// Pins the worker, calls `f` with worker and guard, and spends the guard, whatever `f` answered: so `?` may leave `f`.
+    /// Answers what `f` did. A refused pin is the answer, and `f` isn't called then. A refused unpin is the answer too: it
+    /// comes where `f` left another worker in this one's place, as Foreign; the worker stays pinned then.
+    pub fn pinned<O: Drop, R: Wait, F: FnOnce(&mut Worker, &Guard) -> Result<O, Refusal>>(
+        &self,
+        rt: &R,
+        worker: &mut Worker,
+        f: F,
+    ) -> Result<O, Refusal>
+    where
+        F: Drop,
+        requires { F.IsAlwaysCallable f }
+        ensures answers { CallsPinned (ByHold nat_eq true) self.now.tree.id F.FnOnce f worker.old worker.new result }
+        ensures worker { KeepsWorker F.FnOnce f → worker.new ≡ worker.old }
+    {
+        self.tree.pinned(rt, worker, f)
+    }
+
+    /// Seals the worker's removals, and destroys what no guard protects any more. Refused as Memory where they can't be
+    /// queued; then nothing was done.
+    pub fn flush<R: Wait>(&self, rt: &R, worker: &mut Worker, guard: &Guard) -> Result<(), Refusal>
+        ensures worker { worker.new ≡ worker.old }
+        ensures answers { Serves (is_held_by self.now.tree.id worker.old guard.now) (Answers (ByHold nat_eq true) worker.old.number op.Flush told) result }
+    {
+        self.tree.flush(rt, worker, guard)
+    }
+
+    /// Pins the worker anew at the present epoch, where this is its only guard.
+    pub fn repin<R: Wait>(&self, rt: &R, worker: &mut Worker, guard: &Guard) -> Result<(), Refusal>
+        ensures worker { worker.new ≡ worker.old }
+        ensures answers { Serves (is_held_by self.now.tree.id worker.old guard.now) (Answers (ByHold nat_eq true) worker.old.number op.Repin told) result }
+    {
+        self.tree.repin(rt, worker, guard)
+    }
+
+    /// Pin, flush, unpin. Answers the first refusal; after a refused flush it unpins too.
+    pub fn round<R: Wait>(&self, rt: &R, worker: &mut Worker) -> Result<(), Refusal>
+        ensures worker { worker.new ≡ worker.old }
+        ensures answers { Serves (is_of self.now.tree.id worker.old) (IsRound (ByHold nat_eq true) worker.old.number) result }
+    {
+        self.tree.round(rt, worker)
+    }
+
+    /// The value at a key.
+    pub fn get<R: Wait>(
+        &self,
+        rt: &R,
+        key: &K,
+        worker: &mut Worker,
+        guard: &Guard,
+    ) -> Result<Option<V>, Refusal>
+        ensures worker { worker.new ≡ worker.old }
+        ensures answers { As (Serves (is_held_by self.now.tree.id worker.old guard.now)
+            (Answers (ByHold nat_eq true) worker.old.number (op.Get (K.word key.now)) got)) (words V.of_word) result }
+    {
+        words(self.tree.get(rt, key.to_word(), worker, guard))
+    }
+
+    /// Puts a value at a key, and gives the one before.
+    pub fn insert<R: Wait>(
+        &self,
+        rt: &R,
+        key: K,
+        value: V,
+        worker: &mut Worker,
+        guard: &Guard,
+    ) -> Result<Option<V>, Refusal>
+        ensures worker { worker.new ≡ worker.old }
+        ensures answers { As (Serves (is_held_by self.now.tree.id worker.old guard.now)
+            (Answers (ByHold nat_eq true) worker.old.number (op.Insert (K.word key) (V.word value)) inserted)) (words V.of_word) result }
+    {
+        words(
+            self.tree
+                .insert(rt, key.to_word(), value.to_word(), worker, guard),
+        )
+    }
+
+    /// Takes a key's value out.
+    pub fn remove<R: Wait>(
+        &self,
+        rt: &R,
+        key: &K,
+        worker: &mut Worker,
+        guard: &Guard,
+    ) -> Result<Option<V>, Refusal>
+        ensures worker { worker.new ≡ worker.old }
+        ensures answers { As (Serves (is_held_by self.now.tree.id worker.old guard.now)
+            (Answers (ByHold nat_eq true) worker.old.number (op.Remove (K.word key.now)) removed)) (words V.of_word) result }
+    {
+        words(self.tree.remove(rt, key.to_word(), worker, guard))
+    }
+
+    /// Puts the answer of `f` at a key that is present, or takes the key out where the answer is `None`. Gives the value
+    /// before and the answer. `f` runs between two holds of the lock, and is asked again where the call begins anew.
+    pub fn compute_if_present<F: FnMut(u64) -> Option<u64>, R: Wait>(
+        &self,
+        rt: &R,
+        key: &K,
+        f: F,
+        worker: &mut Worker,
+        guard: &Guard,
+    ) -> Result<Option<(u64, Option<u64>)>, Refusal>
+        requires { F.IsAlwaysCallable f }
+        ensures worker { worker.new ≡ worker.old }
+        ensures answers { Serves (is_held_by self.now.tree.id worker.old guard.now)
+            (Computes (ByHold nat_eq true) (if_present F.step) worker.old.number (op.ComputePresent (K.word key.now)) f computed) result }
+    {
+        let mut answers = IfPresent::new(f);
+        let answer = self
+            .tree
+            .compute_if_present(rt, key.to_word(), &mut answers, worker, guard);
+        let _ = answers.into_inner();
+        answer
+    }
+
+    /// Puts the answer of `f` at a key, present or not, and gives the value before. `f` runs between two holds of the
+    /// lock, and is asked again where the call begins anew.
+    pub fn compute_or_insert<F: FnMut(Option<u64>) -> u64, R: Wait>(
+        &self,
+        rt: &R,
+        key: K,
+        f: F,
+        worker: &mut Worker,
+        guard: &Guard,
+    ) -> Result<Option<V>, Refusal>
+        requires { F.IsAlwaysCallable f }
+        ensures worker { worker.new ≡ worker.old }
+        ensures answers { As (Serves (is_held_by self.now.tree.id worker.old guard.now)
+            (Computes (ByHold nat_eq true) (or_insert F.step) worker.old.number (op.ComputeInsert (K.word key)) f replaced)) (words V.of_word) result }
+    {
+        let mut answers = OrInsert::new(f);
+        let before = self
+            .tree
+            .compute_or_insert(rt, key.to_word(), &mut answers, worker, guard);
+        let _ = answers.into_inner();
+        words(before)
+    }
+
+    /// Where the key has the old value, puts the new one there, or takes the key out at `None`. Another value, or none, is
+    /// the inner error.
+    pub fn compare_exchange<R: Wait>(
+        &self,
+        rt: &R,
+        key: &K,
+        old: &V,
+        new: Option<V>,
+        worker: &mut Worker,
+        guard: &Guard,
+    ) -> Result<Result<Option<V>, Option<V>>, Refusal>
+        ensures worker { worker.new ≡ worker.old }
+        ensures answers { As (Serves (is_held_by self.now.tree.id worker.old guard.now)
+            (Answers (ByHold nat_eq true) worker.old.number (op.Exchange (K.word key.now) (V.word old.now) (option_map V.word new)) exchanged)) (either_words V.of_word) result }
+    {
+        let (key, old, new) = (key.to_word(), old.to_word(), to_word(&new));
+        either_words(self.tree.compare_exchange(rt, key, old, new, worker, guard))
+    }
+
+    /// Writes the pairs with start <= key < end into `out`, ascending, as many as fit, and gives their number. The places
+    /// past them may have been written to.
+    pub fn range<R: Wait>(
+        &self,
+        rt: &R,
+        start: &K,
+        end: &K,
+        out: &mut [(u64, u64)],
+        worker: &mut Worker,
+        guard: &Guard,
+    ) -> Result<usize, Refusal>
+        ensures worker { worker.new ≡ worker.old }
+        ensures answers { Serves (is_held_by self.now.tree.id worker.old guard.now)
+            (Scans (ByHold nat_eq true) (λ k v. (k, v)) worker.old.number (op.Range (K.word start.now) (K.word end.now) (length out.old)) out.old out.new scanned) result }
+        ensures foreign { is_held_by self.now.tree.id worker.old guard.now ≡ false → out.new ≡ out.old }
+    {
+        let scan = Op::Range(start.to_word(), end.to_word(), out.len());
+        self.find(rt, scan, out, worker, guard)
+    }
+
+    /// Writes the pairs with start <= key <= last into `out`, ascending, as many as fit, and gives their number. The places
+    /// past them may have been written to.
+    pub fn range_inclusive<R: Wait>(
+        &self,
+        rt: &R,
+        start: &K,
+        last: &K,
+        out: &mut [(u64, u64)],
+        worker: &mut Worker,
+        guard: &Guard,
+    ) -> Result<usize, Refusal>
+        ensures worker { worker.new ≡ worker.old }
+        ensures answers { Serves (is_held_by self.now.tree.id worker.old guard.now)
+            (Scans (ByHold nat_eq true) (λ k v. (k, v)) worker.old.number (op.RangeInclusive (K.word start.now) (K.word last.now) (length out.old)) out.old out.new scanned) result }
+        ensures foreign { is_held_by self.now.tree.id worker.old guard.now ≡ false → out.new ≡ out.old }
+    {
+        let scan = Op::RangeInclusive(start.to_word(), last.to_word(), out.len());
+        self.find(rt, scan, out, worker, guard)
+    }
+
+    /// A scan, with places for pairs of any form.
+    pub(crate) fn find<Q: Pair<u64>, R: Wait>(
+        &self,
+        rt: &R,
+        op: Op<u64>,
+        out: &mut [Q],
+        worker: &mut Worker,
+        guard: &Guard,
+    ) -> Result<usize, Refusal>
+        ensures worker { worker.new ≡ worker.old }
+        ensures answers { Serves (is_held_by self.now.tree.id worker.old guard.now)
+            (Scans (ByHold nat_eq true) Q.pair worker.old.number op out.old out.new scanned) result }
+        ensures foreign { is_held_by self.now.tree.id worker.old guard.now ≡ false → out.new ≡ out.old }
+    {
+        self.tree.find(rt, op, out, worker, guard)
+    }
+
+    /// Whether no key has a value, at its one step.
+    pub fn is_empty<R: Wait>(
+        &self,
+        rt: &R,
+        worker: &mut Worker,
+        guard: &Guard,
+    ) -> Result<bool, Refusal>
+        ensures worker { worker.new ≡ worker.old }
+        ensures answers { Serves (is_held_by self.now.tree.id worker.old guard.now) (Answers (ByHold nat_eq true) worker.old.number op.IsEmpty emptied) result }
+    {
+        self.tree.is_empty(rt, worker, guard)
+    }
+
+    /// All keys, ascending, at its one step. It wants no guard. Refused as Memory.
+    pub fn keys<R: Wait>(&self, rt: &R, worker: &mut Worker) -> Result<Vec<K>, Refusal>
+        ensures worker { worker.new ≡ worker.old }
+        ensures answers { (answer : _) × Serves (is_of self.now.tree.id worker.old) (Answers (ByHold nat_eq true) worker.old.number op.Keys listed) answer × AreKeys K.of_word answer result }
+    {
+        are_keys(self.alloc, self.tree.keys(rt, worker))
+    }
+
+    /// How the nodes are spread over levels and forms, and how many pairs there are, at its one step. It wants no guard.
+    /// Refused as Memory.
+    pub fn stats<R: Wait>(&self, rt: &R, worker: &mut Worker) -> Result<NodeStats, Refusal>
+        ensures worker { worker.new ≡ worker.old }
+        ensures answers { Serves (is_of self.now.tree.id worker.old) (Answers (ByHold nat_eq true) worker.old.number op.Stats counted) result }
+    {
+        self.tree.stats(rt, worker)
+    }
+
+    /// The bytes charged to the allocator.
+    pub fn charged<R: Wait>(&self, rt: &R) -> u64
+        ensures { IsTold nat_eq true charge_of result }
+    {
+        self.tree.charged(rt)
+    }
+
+    /// The nodes that wait for their destruction.
+    pub fn waiting<R: Wait>(&self, rt: &R) -> u64
+        ensures { IsTold nat_eq true waiting_of result }
+    {
+        self.tree.waiting(rt)
+    }
+
+    /// Their sizes, in bytes.
+    pub fn waiting_bytes<R: Wait>(&self, rt: &R) -> u64
+        ensures { IsTold nat_eq true waiting_bytes_of result }
+    {
+        self.tree.waiting_bytes(rt)
+    }
+}
+
+impl<K: Word64, V: Word64, A: Allocator> Congee<K, V, A, NoDrain> {
+    /// An index with a root alone, which the allocator is charged for. Refused as Limits, Budget or Memory; the allocator
+    /// is dropped then.
+    ///
+    /// Its number is `limits.id`; each index wants one of its own (`Limits::with_id`).
+    pub fn new(alloc: Global, limits: Limits, allocator: A) -> Result<Self, Refusal>
+        ensures id { IfOk result (λ t. t.tree.id ≡ limits.id) }
+        ensures account { IfOk result (λ t. IsAccount t.tree.account (A.charged_of allocator) (A.limit_of allocator)) }
+        ensures cause { IfErr result (λ e. IsUnopened limits (A.charged_of allocator) (A.limit_of allocator) e) }
+    {
+        Congee::new_with_drainer(alloc, limits, allocator, NoDrain)
+    }
+}
+
+/// Takes words, and hands keys and values on.
+pub(crate) struct OfWords<K, V, D> {
+    drainer: D,
+    words: PhantomData<(K, V)>,
+}
+
+impl<K, V, D> Model for OfWords<K, V, D> {
+    ghost Value = { D };
+
+    ghost view = { λ w. w.drainer };
+}
+
+impl<K, V, D: Drop> Drop for OfWords<K, V, D> {
+    fn drop(self) {
+        let OfWords {
+            drainer: _,
+            words: _,
+        } = self;
+    }
+}
+
+impl<K: Word64, V: Word64, D: Drainer<K, V>> Drainer<u64, u64> for OfWords<K, V, D> {
+    ghost can_drain = { D.can_drain };
+
+    ghost drains = { λ before key value after. D.drains before (K.of_word key) (V.of_word value) after };
+
+    fn drain(&mut self, key: u64, value: u64)
+        requires { D.can_drain self.old }
+        ensures drained { D.drains self.old (K.of_word key) (V.of_word value) self.new }
+        ensures again { D.can_drain self.new }
+    {
+        self.drainer.drain(K::from_word(key), V::from_word(value));
+    }
+}
+
+impl<K, V, D> OfWords<K, V, D> {
+    pub(crate) fn new(drainer: D) -> Self
+        ensures { result ≡ drainer }
+    {
+        OfWords {
+            drainer,
+            words: PhantomData,
+        }
+    }
+
+    /// Gives the drainer back.
+    pub(crate) fn into_inner(self) -> D
+        ensures { result ≡ self }
+    {
+        let OfWords { drainer, words: _ } = self;
+        drainer
+    }
+}
+
+impl<K: Word64, V: Word64, A: Allocator, D: Drainer<K, V>> Congee<K, V, A, D> {
+    /// Hands each pair to the drainer, ascending by key, and gives allocator and drainer back; the allocator has the
+    /// charge with which it came, and its limit. Refused as WorkersLeft while workers are registered, and the index comes
+    /// back; as Foreign too where another charge or limit came in with what its lock keeps, which no run brings about.
+    pub fn close<R: Wait>(self, _rt: &R) -> Result<(A, D), (Refusal, Self)>
+        requires { D.can_drain self.drainer }
+        ensures closed { IfOk result (λ r. Closes nat_eq true (λ before key value after. D.drains before (K.of_word key) (V.of_word value) after) self.drainer (A.charged_of r.0) (A.limit_of r.0) r.1) }
+        ensures given_back { IfOk result (λ r. IsAccount self.tree.account (A.charged_of r.0) (A.limit_of r.0)) }
+        ensures cause { IfErr result (λ e. IsUnclosed nat_eq true self.tree.account e.0) }
+        ensures back { IfErr result (λ e. (e.1.tree.id ≡ self.tree.id) × (e.1.tree.account ≡ self.tree.account) × (e.1.drainer ≡ self.drainer)) }
+    {
+        let Congee {
+            tree,
+            drainer,
+            alloc,
+            words: _,
+        } = self;
+        match tree.close(OfWords::<K, V, D>::new(drainer)) {
+            Ok((allocator, drainer)) => Ok((allocator, drainer.into_inner())),
+            Err((refusal, tree, drainer)) => {
+                let back = Congee {
+                    tree,
+                    drainer: drainer.into_inner(),
+                    alloc,
+                    words: PhantomData,
+                };
+                Err((refusal, back))
+            }
+        }
+    }
+}
