@@ -92,7 +92,7 @@ fn goes_down(alloc: Global, distance: u64, rows: &[(u64, u64)]) -> Result<bool, 
         for place in 0..49u64.wrapping_sub(*left) {
             tree.remove(&place.wrapping_add(1).wrapping_mul(distance));
         }
-        if tree.charged() != 2104 + *charged {
+        if tree.charged() != charged.wrapping_add(2104) {
             return Ok(false);
         }
         for place in 49u64.wrapping_sub(*left)..49 {

@@ -105,7 +105,10 @@ fn an_inner_node_goes_down_through_all_forms(rt: HostRuntime) -> Result<(), Fail
 fn given_back(index: &mut Index, made: Call<u64>) -> u64 {
     let mut report = begin(index, 0, op_of(made));
     let mut back = report.destroyed;
-    while is_in_flight(&report.outcome) {
+    for _ in 0..100u32 {
+        if !is_in_flight(&report.outcome) {
+            break;
+        }
         report = go(index, 0, None);
         back = back.saturating_add(report.destroyed);
     }
@@ -198,6 +201,12 @@ fn advances(index: &mut Index, flight: &mut Flight, steps: u32, turn: u32) {
     }
 }
 
+/// How many turns both calls of a case have.
+fn turns_in(others: &[u32]) -> u32 {
+    let other = u32::try_from(others.len()).unwrap_or(0);
+    other.saturating_add(TURNS.len() as u32)
+}
+
 /// Both calls of a case, of which the removal has a turn where a bit of `order` tells it so, with a collection after each turn.
 fn fly(index: &mut Index, case: &Case, order: u32, others: &[u32]) -> (Flight, Flight) {
     let mut first = begun(index, 0, case.pair.0);
@@ -205,7 +214,7 @@ fn fly(index: &mut Index, case: &Case, order: u32, others: &[u32]) -> (Flight, F
     let mut second = begun(index, 1, case.pair.1);
     let mut turns = TURNS.iter();
     let mut beside = others.iter();
-    let count = (TURNS.len() as u32).saturating_add(others.len() as u32);
+    let count = turns_in(others);
     for turn in 0..count {
         if order.wrapping_shr(turn) % 2 == 1 {
             advances(index, &mut first, *turns.next().unwrap_or(&0), turn);
@@ -223,7 +232,7 @@ fn fly(index: &mut Index, case: &Case, order: u32, others: &[u32]) -> (Flight, F
 /// How many orders of a case's turns are right, up to the first that isn't.
 fn right_orders(alloc: Global, case: &Case, others: &[u32]) -> Result<(u32, bool), Fail> {
     let turns = TURNS.len() as u32;
-    let count = turns.saturating_add(others.len() as u32);
+    let count = turns_in(others);
     let mut tried = 0u32;
     for order in 0..1u32.wrapping_shl(count) {
         if order.count_ones() == turns {
