@@ -54,7 +54,7 @@ filled_opens {C} {V} number h ms r idle = record {
 pub begun_filled : {C V : Type 0} (number : C → ℕ) (h : ℕ → Node V) (ms : List (Machine C V)) → FreshRoot h → ((i : ℕ) (m : Machine C V) → slice_get ms i ≡ Some m → IsNew m) → KeepsFilled number h ms
 begun_filled number h ms r new = record { tree = root_filled h r.alone.bare; calls = λ i m e. begin_fills number h m.kind m.given m.phase (new i m e).begins }
 
--- beside a call that has not begun the tree stays filled, and the calls keep it so
+-- with a call that has not begun in one place the tree stays filled, and the calls keep it so
 pub filled_begins : {C V : Type 0} (number : C → ℕ) (h : ℕ → Node V) (ms : List (Machine C V)) (i : ℕ) (new : Machine C V) → KeepsFilled number h ms → IsNew new → KeepsFilled number h (set ms i new)
 filled_begins {C} {V} number h ms i new f n = record {
   tree = f.tree;

@@ -519,7 +519,7 @@ hands_more by h [] by1 h1 s by2 h2 r q =
     (by2, h2, subst P r.0 (subst Q r.1 q), (refl, refl))
 hands_more by h (x ∷ ss) by1 h1 s by2 h2 r q = (r.0, r.1, r.2, hands_more r.0 r.1 ss by1 h1 s by2 h2 r.3 q)
 
--- no steps hand nothing over
+-- over no steps nothing is handed over
 pub handing_none : {C V : Type 0} (h : ℕ → Node V) (ms : List (Machine C V)) (a : ℕ → Note) → Tree a h → LockWords a h → Handing (λ _. []) h [] h ms
 handing_none h ms a t w = record {
   run = (refl, refl);

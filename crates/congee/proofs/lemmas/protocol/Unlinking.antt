@@ -441,7 +441,7 @@ unlinking_more {C} {V} number by h0 ss h ms s h' ms' l hands takes u o =
       o,
     )
 
--- no steps take nothing out, where no call has anything that it took out
+-- over no steps nothing is taken out, where no call has anything that it took out
 pub unlinking_none : {C V : Type 0} (number : C → ℕ) (h : ℕ → Node V) (ms : List (Machine C V)) → ((i n : ℕ) (m : Machine C V) → slice_get ms i ≡ Some m → TakenBy number m.phase n → ⊥) → Accounted number h ms
     → Unlinking number (λ _. []) h [] h ms
 unlinking_none number h ms empty o = (
