@@ -3,17 +3,21 @@ use Rattle.std.proofs.Common.{◌≡◌, ◌≢◌, ℕ, zero, suc, ◌<◌, ◌
 use Rattle.std.proofs.lemmas.Bool.Decides.{nat_tests}
 use Rattle.congee.specs.Heap.{fits}
 
+-- where two tests together are true, each is
 pub both_true : (a b : Bool) → a && b ≡ true → (a ≡ true) × (b ≡ true)
 both_true true b h = (refl, h)
 both_true false b h = (h, absurd (cc))
 
+-- two tests that are true are so together
 pub and_true : (a b : Bool) → a ≡ true → b ≡ true → a && b ≡ true
 and_true true b p q = q
 and_true false b p q = p
 
+-- numbers that the test finds equal are
 pub equal : (x y : ℕ) → x == y ≡ true → x ≡ y
 equal x y h = grind (arith, nat_tests)
 
+-- a beginning of what begins a key begins the key
 pub fits_trans : (p q key : List ℕ) → fits p q ≡ true → fits q key ≡ true → fits p key ≡ true
 fits_trans [] q key a b = refl
 fits_trans (x ∷ p) [] key a b = absurd cc
@@ -24,6 +28,7 @@ fits_trans (x ∷ p) (y ∷ q) (z ∷ key) a b =
     let e : x ≡ y = equal x y a'.0 in
     and_true _ _ (let P : ℕ → Type 0 = λ n. n == z ≡ true in subst P (sym e) b'.0) (fits_trans p q key a'.1 b'.1)
 
+-- a key has the bytes of what begins it
 pub fits_byte : (q key : List ℕ) (i : ℕ) → fits q key ≡ true → i < length q → get_or key i 0 ≡ get_or q i 0
 fits_byte [] key i a b = absurd (omega arith)
 fits_byte (x ∷ q) [] i a b = absurd cc
@@ -47,9 +52,11 @@ same_key (x ∷ p) (y ∷ k) (z ∷ l) a b c d e =
     let h : k ≡ l = same_key p k l a'.1 b'.1 (omega arith) (omega arith) e in
     cc
 
+-- equal numbers pass the test of equality
 pub same_test : (m n : ℕ) → m ≡ n → m == n ≡ true
 same_test m n e = grind (arith, nat_tests)
 
+-- different numbers fail the test of equality
 pub other_test : (m n : ℕ) → m ≢ n → m == n ≡ false
 other_test m n e = grind (arith, nat_tests)
 

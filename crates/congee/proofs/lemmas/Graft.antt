@@ -21,6 +21,7 @@ one_place a h t m c n b d lm ln e f =
     let p : m ≡ n = sym i.parent ∙ k.parent in
     (p, sym i.byte ∙ (rw p k.byte))
 
+-- in a node that stays in the tree the same hangs as before, but at byte b of node n
 pub graft_child : {V : Type 0} (a : ℕ → Note) (h : ℕ → Node V) (a' : ℕ → Note) (h' : ℕ → Node V) (n b : ℕ) → Graft a h a' h' n b
     → (m c : ℕ) → (a m).status ≡ Linked → (a' m).status ≡ Linked → (m ≡ n → c ≡ b → ⊥) → (h' m).children c ≡ (h m).children c
 graft_child a h a' h' n b g m c l l' ne = elim (same_or_not m n) [
@@ -63,6 +64,7 @@ old_up a h a' h' n b t ln g d l ne away l' =
           let Q : ℕ → Type 0 = λ x. P x b in subst Q q (let R : ℕ → Type 0 = λ y. P (a d).parent y in subst R r u.holds))) ∙ u.holds);
     }
 
+-- what follows from a test's being true, and from its being false, holds
 pub on_test : {P : Type 0} (b : Bool) → (b ≡ true → P) → (b ≡ false → P) → P
 on_test true p q = p refl
 on_test false p q = q refl

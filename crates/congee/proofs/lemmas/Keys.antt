@@ -14,6 +14,7 @@ lt_or_le m zero = inr (omega arith)
 lt_or_le zero (suc n) = inl (omega arith)
 lt_or_le (suc m) (suc n) = elim (lt_or_le m n) [ inl p ↦ inl (omega arith) | inr p ↦ inr (omega arith) ]
 
+-- a key has eight bytes
 pub key_length : (k : ℕ) → length (key_bytes k) ≡ 8
 key_length k = refl
 

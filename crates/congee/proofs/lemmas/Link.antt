@@ -7,6 +7,7 @@ use Rattle.congee.proofs.lemmas.Fits.{fits_byte, same_key, both_true, and_true, 
 use Rattle.congee.proofs.lemmas.Tree.{same_or_not, enter, finds}
 use Rattle.congee.proofs.lemmas.Graft.{Graft, old_down, old_leaves, old_up, untouched, on_test}
 
+-- keys with the same byte at a node find the same child there
 pub child_moved : {V : Type 0} (n : Node V) (key k : List ℕ) (x : Hung V) → get_or k (length n.prefix) 0 ≡ get_or key (length n.prefix) 0 → child_for n key ≡ x → child_for n k ≡ x
 child_moved n key k x e f = let P : ℕ → Type 0 = λ y. n.children y ≡ x in subst P (sym e) f
 
@@ -17,6 +18,7 @@ pub record Leaf {V : Type 0} (h : ℕ → Node V) (d : ℕ) (key : List ℕ) (v 
   pub value : child_for (h d) key ≡ Holds v
   pub empty : (c : ℕ) → c ≢ get_or key (length (h d).prefix) 0 → (h d).children c ≡ Nothing
 
+-- no node hangs in a leaf with one value
 pub leaf_no_node : {V : Type 0} (h : ℕ → Node V) (d : ℕ) (key : List ℕ) (v : V) (c e : ℕ) → Leaf h d key v → (h d).children c ≡ Below e → ⊥
 leaf_no_node h d key v c e l q = elim (same_or_not c (get_or key (length (h d).prefix) 0)) [
   | inl p ↦ (let f : (h d).children (get_or key (length (h d).prefix) 0) ≡ Below e = (let P : ℕ → Type 0 = λ x. (h d).children x ≡ Below e in subst P p q) in
@@ -24,17 +26,21 @@ leaf_no_node h d key v c e l q = elim (same_or_not c (get_or key (length (h d).p
   | inr p ↦ (let g : Nothing ≡ Below e = sym (l.empty c p) ∙ q in cc)
 ]
 
+-- a walk from a leaf with one value finds it by its key
 pub leaf_value : {V : Type 0} (h : ℕ → Node V) (f d : ℕ) (key : List ℕ) (v : V) → Leaf h d key v → walk h (suc f) d key ≡ Some v
 leaf_value h f d key v l = enter h f d key (Holds v) l.fitted l.value
 
+-- a walk from a node whose prefix the key doesn't have finds nothing
 pub not_here : {V : Type 0} (h : ℕ → Node V) (f d : ℕ) (k : List ℕ) → fits (h d).prefix k ≡ false → walk h (suc f) d k ≡ None
 not_here h f d k e = rw e refl
 
+-- a walk from a leaf with one value finds nothing by another key
 pub leaf_other : {V : Type 0} (h : ℕ → Node V) (f d : ℕ) (key : List ℕ) (v : V) (k : List ℕ) → length key ≡ 8 → length k ≡ 8 → k ≢ key → Leaf h d key v → walk h (suc f) d k ≡ None
 leaf_other h f d key v k lk lx ne l = on_test (fits (h d).prefix k)
     (λ q. enter h f d k Nothing q (l.empty _ (λ e. ne (same_key (h d).prefix k key q l.fitted (omega (arith, l.seven)) (omega (arith, l.seven)) e))))
     (λ q. not_here h f d k q)
 
+-- before and after: leaf d comes in for an absent key, below node n, where nothing hung
 pub record Links {V : Type 0} (a : ℕ → Note) (h : ℕ → Node V) (a' : ℕ → Note) (h' : ℕ → Node V) (n d : ℕ) (key : List ℕ) (v : V) : Type 0 where
   pub linked : (a n).status ≡ Linked
   pub fitted : fits (h n).prefix key ≡ true
@@ -50,6 +56,7 @@ pub record Links {V : Type 0} (a : ℕ → Note) (h : ℕ → Node V) (a' : ℕ 
   pub notes : (m : ℕ) → m ≢ d → a' m ≡ a m
   pub nodes : (m : ℕ) → m ≢ d → m ≢ n → h' m ≡ h m
 
+-- a node of the tree is none that is out of it
 pub link_other : (a : ℕ → Note) (m d : ℕ) → (a m).status ≡ Linked → (a d).status ≢ Linked → m ≢ d
 link_other a m d l u e = u (let P : ℕ → Type 0 = λ x. (a x).status ≡ Linked in subst P e l)
 
@@ -77,6 +84,7 @@ fits_between (x ∷ p) (y ∷ q) (z ∷ key) a b l =
     let e : x ≡ y = equal x z a'.0 ∙ sym (equal y z b'.0) in
     and_true _ _ (let P : ℕ → Type 0 = λ w. x == w ≡ true in subst P e (same_test x x refl)) (fits_between p q key a'.1 b'.1 (omega arith))
 
+-- the nodes are a tree after a leaf came in
 pub link_tree : {V : Type 0} (a : ℕ → Note) (h : ℕ → Node V) (a' : ℕ → Note) (h' : ℕ → Node V) (n d : ℕ) (key : List ℕ) (v : V) → Tree a h → Links a h a' h' n d key v → Tree a' h'
 link_tree a h a' h' n d key v t k =
     let g : Graft a h a' h' n (get_or key (length (h n).prefix) 0) = link_graft a h a' h' n d key v k in
@@ -130,6 +138,7 @@ link_tree a h a' h' n d key v t k =
       ];
     }
 
+-- the key was absent and has the leaf's value after it, and every other key finds what it found
 pub link_map : {V : Type 0} (a : ℕ → Note) (h : ℕ → Node V) (a' : ℕ → Note) (h' : ℕ → Node V) (n d : ℕ) (key : List ℕ) (v : V) → length key ≡ 8 → Tree a h → Links a h a' h' n d key v
     → (value_at h key ≡ None) × (value_at h' key ≡ Some v) × ((k : List ℕ) → length k ≡ 8 → k ≢ key → value_at h' k ≡ value_at h k)
 link_map a h a' h' n d key v len t k =

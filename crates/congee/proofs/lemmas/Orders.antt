@@ -24,6 +24,7 @@ nth_byte (suc m) n (suc j) l = nth_byte m n j (omega (arith, l)) ∙ ap (λ x. b
 digit : (q j : ℕ) → j < 8 → get_or (key_bytes q) j 0 ≡ q / 2 ^ (8 * (7 - j)) % 256
 digit q j l = nth_byte 8 q j l ∙ byte_is (7 - j) q
 
+-- the bytes of a key are below 256
 pub byte_small : (q j : ℕ) → j < 8 → get_or (key_bytes q) j 0 < 256
 byte_small q j l = omega (arith, digit q j l)
 
@@ -31,6 +32,7 @@ byte_small q j l = omega (arith, digit q j l)
 abbrev pub top : ℕ → ℕ → ℕ
 top q j = q / 2 ^ (8 * (8 - j))
 
+-- the number of the first bytes and one more, by that of the first bytes
 pub top_step : (q j : ℕ) → j < 8 → top q (j + 1) ≡ 256 * top q j + get_or (key_bytes q) j 0
 top_step q j l =
     let e : top q (j + 1) ≡ q / 2 ^ (8 * (7 - j)) = ap (λ i. q / 2 ^ i) (omega (arith, l)) in
@@ -44,6 +46,7 @@ top_none q l = omega (arith, l)
 top_all : (q : ℕ) → top q 8 ≡ q
 top_all q = div-one q
 
+-- numbers with the same first bytes have the same number of these
 pub same_top : (a b d : ℕ) → a < 2 ^ 64 → b < 2 ^ 64 → d ≤ 8 → ((j : ℕ) → j < d → get_or (key_bytes a) j 0 ≡ get_or (key_bytes b) j 0) → top a d ≡ top b d
 same_top a b zero la lb l h = top_none a la ∙ sym (top_none b lb)
 same_top a b (suc d) la lb l h =

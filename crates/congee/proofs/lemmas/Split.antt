@@ -8,6 +8,7 @@ use Rattle.congee.proofs.lemmas.Tree.{same_or_not, stable, enter, finds, misses}
 use Rattle.congee.proofs.lemmas.Graft.{Graft, old_down, old_leaves, old_up, untouched, on_test}
 use Rattle.congee.proofs.lemmas.Link.{Leaf, leaf_no_node, leaf_value, leaf_other, child_moved, not_here, link_other, fits_between}
 
+-- before and after: node m, which hung below n and hasn't the key's prefix, hangs below a new node c, beside a new leaf d
 pub record Splits {V : Type 0} (a : ℕ → Note) (h : ℕ → Node V) (a' : ℕ → Note) (h' : ℕ → Node V) (n m c d : ℕ) (key : List ℕ) (v : V) : Type 0 where
   pub linked : (a n).status ≡ Linked
   pub fitted : fits (h n).prefix key ≡ true
@@ -131,6 +132,7 @@ split_top a h a' h' n m c d key v k b x p e =
       byte = rw k.prefix (sym (fits_byte (h' c).prefix key (length (h n).prefix) k.over_key k.longer) ∙ sym p);
     })
 
+-- the nodes are a tree after a split
 pub split_tree : {V : Type 0} (a : ℕ → Note) (h : ℕ → Node V) (a' : ℕ → Note) (h' : ℕ → Node V) (n m c d : ℕ) (key : List ℕ) (v : V) → Tree a h → Splits a h a' h' n m c d key v → Tree a' h'
 split_tree a h a' h' n m c d key v t k =
     let g : Graft a h a' h' n (get_or key (length (h n).prefix) 0) = split_graft a h a' h' n m c d key v k in
@@ -217,6 +219,7 @@ split_below a h a' h' n m c d key v len t t' k x lx ne =
     (λ y. let z : fits (h' c).prefix x ≡ true = fits_trans (h' c).prefix (h m).prefix x k.over_old y in absurd cc) (λ y. y) in
     not_here h' 6 c x q ∙ sym (not_here h 6 m x off))
 
+-- the key was absent and has the new leaf's value after a split, and every other key finds what it found
 pub split_map : {V : Type 0} (a : ℕ → Note) (h : ℕ → Node V) (a' : ℕ → Note) (h' : ℕ → Node V) (n m c d : ℕ) (key : List ℕ) (v : V) → length key ≡ 8 → Tree a h → Splits a h a' h' n m c d key v
     → (value_at h key ≡ None) × (value_at h' key ≡ Some v) × ((k : List ℕ) → length k ≡ 8 → k ≢ key → value_at h' k ≡ value_at h k)
 split_map a h a' h' n m c d key v len t k =

@@ -6,9 +6,11 @@ use Rattle.congee.specs.Heap.{Hung, Nothing, Below, Holds, Node, fits, child_for
 use Rattle.congee.specs.Notes.{Linked, Note, IsChild, HasParent, Tree}
 use Rattle.congee.proofs.lemmas.Fits.{fits_trans, fits_byte}
 
+-- two numbers are the same or they aren't
 pub same_or_not : (m n : ℕ) → (m ≡ n) ⊎ (m ≢ n)
 same_or_not m n = elim (eqb_tells m n) [ inl p ↦ inl p.1 | inr p ↦ inr p.1 ]
 
+-- what is found by a child is the same where it is so by the node that hangs there, if one does
 pub of_child_same : {V : Type 0} (f g : ℕ → Option V) (x : Hung V) → ((c : ℕ) → x ≡ Below c → f c ≡ g c) → of_child f x ≡ of_child g x
 of_child_same f g Nothing e = refl
 of_child_same f g (Below c) e = e c refl
@@ -26,6 +28,7 @@ pub step_same : {V : Type 0} (h h' : ℕ → Node V) (f g n : ℕ) (key : List �
 step_same h h' f g n key p e d =
     rw p (pick (fits (h n).prefix key) _ _ (λ t. rw (e t) (of_child_same (λ c. walk h' f c key) (λ c. walk h g c key) _ d)))
 
+-- walks from a node of the tree that have enough steps find the same
 pub stable : {V : Type 0} (a : ℕ → Note) (h : ℕ → Node V) → Tree a h → (f g n : ℕ) (key : List ℕ) → (a n).status ≡ Linked
     → 8 ≤ f + length (h n).prefix → 8 ≤ g + length (h n).prefix → walk h f n key ≡ walk h g n key
 stable a h t zero g n key l p q = absurd (omega (arith, t.short n l))
@@ -72,6 +75,7 @@ pub finds : {V : Type 0} (a : ℕ → Note) (h : ℕ → Node V) → Tree a h �
     → fits (h n).prefix key ≡ true → child_for (h n) key ≡ x → value_at h key ≡ of_child (λ c. walk h 7 c key) x
 finds a h t n key x l f e = lead a h t (length (h n).prefix) n key (omega arith) l f ∙ enter h 7 n key x f e
 
+-- a key that hasn't the prefix of the node which hangs on its way is absent
 pub misses : {V : Type 0} (a : ℕ → Note) (h : ℕ → Node V) → Tree a h → (n c : ℕ) (key : List ℕ) → (a n).status ≡ Linked
     → fits (h n).prefix key ≡ true → child_for (h n) key ≡ Below c → fits (h c).prefix key ≡ false → value_at h key ≡ None
 misses a h t n c key l f e g = finds a h t n key (Below c) l f e ∙ rw g refl

@@ -7,6 +7,7 @@ use Rattle.congee.proofs.lemmas.Tree.{same_or_not, finds}
 use Rattle.congee.proofs.lemmas.Graft.{Graft, old_down, old_leaves, old_up, untouched, on_test}
 use Rattle.congee.proofs.lemmas.Link.{Leaf, leaf_no_node, leaf_value, leaf_other, child_moved}
 
+-- before and after: leaf m, which has the key's value alone, no longer hangs below node n
 pub record Unlinks {V : Type 0} (a : ℕ → Note) (h : ℕ → Node V) (a' : ℕ → Note) (h' : ℕ → Node V) (n m : ℕ) (key : List ℕ) (v : V) : Type 0 where
   pub linked : (a n).status ≡ Linked
   pub fitted : fits (h n).prefix key ≡ true
@@ -38,6 +39,7 @@ unlink_graft a h a' h' n m key v k =
 gone_not : (a' : ℕ → Note) (x m : ℕ) → (a' m).status ≢ Linked → (a' x).status ≡ Linked → x ≢ m
 gone_not a' x m g l e = g (let P : ℕ → Type 0 = λ y. (a' y).status ≡ Linked in subst P e l)
 
+-- the nodes are a tree after a leaf went out
 pub unlink_tree : {V : Type 0} (a : ℕ → Note) (h : ℕ → Node V) (a' : ℕ → Note) (h' : ℕ → Node V) (n m : ℕ) (key : List ℕ) (v : V) → Tree a h → Unlinks a h a' h' n m key v → Tree a' h'
 unlink_tree a h a' h' n m key v t k =
     let g : Graft a h a' h' n (get_or key (length (h n).prefix) 0) = unlink_graft a h a' h' n m key v k in
@@ -66,6 +68,7 @@ unlink_tree a h a' h' n m key v t k =
           (rw (k.notes (a x).parent apart) u.linked);
     }
 
+-- the key had the leaf's value and is absent after it, and every other key finds what it found
 pub unlink_map : {V : Type 0} (a : ℕ → Note) (h : ℕ → Node V) (a' : ℕ → Note) (h' : ℕ → Node V) (n m : ℕ) (key : List ℕ) (v : V) → length key ≡ 8 → Tree a h → Unlinks a h a' h' n m key v
     → (value_at h key ≡ Some v) × (value_at h' key ≡ None) × ((k : List ℕ) → length k ≡ 8 → k ≢ key → value_at h' k ≡ value_at h k)
 unlink_map a h a' h' n m key v len t k =

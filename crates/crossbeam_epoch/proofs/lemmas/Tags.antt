@@ -9,6 +9,7 @@ use Rattle.std.proofs.lemmas.Nat.{or_lt, xor_lt, pow_pos}
 pub or_below : (n k a b : ℕ) → n ≡ 2 ^ k → a < n → b < n → bit_or a b < n
 or_below n k a b e p q = rw e (or_lt k a b (rw (sym e) p) (rw (sym e) q))
 
+-- the exclusive or of two numbers below a power of two is below it
 pub xor_below : (n k a b : ℕ) → n ≡ 2 ^ k → a < n → b < n → bit_xor a b < n
 xor_below n k a b e p q = rw e (xor_lt k a b (rw (sym e) p) (rw (sym e) q))
 

@@ -13,6 +13,7 @@ use Rattle.congee.proofs.lemmas.forms.Entries.{find}
 use Rattle.congee.proofs.lemmas.forms.EntryLemmas.{find_below}
 use Rattle.congee.proofs.lemmas.forms.MapLemmas.{find_std}
 
+-- a test that is known to hold is true
 pub true_of_T : (b : Bool) → T b → b ≡ true
 true_of_T true t = refl
 true_of_T false t = absurd t
@@ -25,6 +26,7 @@ both_right : (a b : Bool) → a && b ≡ true → b ≡ true
 both_right true b e = e
 both_right false b e = absurd (cc e)
 
+-- a number that compares as less is less
 pub less_of_cmp : (a b : ℕ) → is_lt (nat_cmp a b) ≡ true → a < b
 less_of_cmp a b e = grind (arith, nat_tests, e)
 

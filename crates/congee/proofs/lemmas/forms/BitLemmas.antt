@@ -25,9 +25,11 @@ written mask b n v l h here other = record {
   ];
 }
 
+-- what is written to set a byte's bit in the mask sets that bit, and leaves the others
 pub bit_set : (mask : List ℕ) (b : ℕ) → length mask ≡ 32 → b < 256 → SetAt mask b 1 (set mask (b / 8) (bit_or (get_or mask (b / 8) 0) (1 * 2 ^ (b % 8) % 256)))
 bit_set mask b l h = written mask b 1 _ l h (bit_at_set_same w8 (get_or mask (b / 8) 0) (b % 8) (omega arith)) (λ i m n. bit_at_set_other w8 (get_or mask (b / 8) 0) (b % 8) (omega arith) i n)
 
+-- what is written to clear a byte's bit in the mask clears that bit, and leaves the others
 pub clear_at : (mask : List ℕ) (b : ℕ) → length mask ≡ 32 → b < 256 → SetAt mask b 0 (set mask (b / 8) (bit_and (get_or mask (b / 8) 0) (255 - 1 * 2 ^ (b % 8) % 256)))
 clear_at mask b l h = written mask b 0 _ l h (bit_at_clear_same w8 (get_or mask (b / 8) 0) (b % 8) (omega arith)) (λ i m n. bit_at_clear_other w8 (get_or mask (b / 8) 0) (b % 8) (omega arith) i m n)
 
@@ -49,17 +51,20 @@ bit_of_up mask b i l =
     let at = same_byte b i l in
     rw (at.0, at.1) (sym (bit_up (get_or mask (b / 8) 0) (b % 8) i))
 
+-- where nothing is left of a mask byte from a bit on, no bit from there on is set in it
 pub rest_is_zero : (mask : List ℕ) (b : ℕ) → get_or mask (b / 8) 0 / 2 ^ (b % 8) ≡ 0 → (q : ℕ) → b ≤ q → q < (b / 8 + 1) * 8 → bit_of mask q ≡ 0
 rest_is_zero mask b e q h l =
     let i = q - b in
     let there : b + i ≡ q = omega arith in
     ap (bit_of mask) (sym there) ∙ bit_of_up mask b i (omega arith) ∙ ap (λ n. bit_at n i) e ∙ bit_at-zero i
 
+-- byte b + t has the first set bit from byte b on, within one mask byte
 pub record Lowest (mask : List ℕ) (b t : ℕ) : Type 0 where
   pub within : b % 8 + t < 8
   pub here : bit_of mask (b + t) ≡ 1
   pub before : (q : ℕ) → b ≤ q → q < b + t → bit_of mask q ≡ 0
 
+-- the zeros at the end of what is left of a mask byte, where that isn't 0, lead to its first set bit
 pub lowest : (mask : List ℕ) (b : ℕ) → get_or mask (b / 8) 0 < 256 → get_or mask (b / 8) 0 / 2 ^ (b % 8) ≢ 0 → Lowest mask b (trailing_zeros w8 (get_or mask (b / 8) 0 / 2 ^ (b % 8)))
 lowest mask b l n =
     let m = get_or mask (b / 8) 0 in

@@ -15,6 +15,7 @@ linked_set next p v f (x ∷ r) none l =
     let ne : x ≢ p = λ e. none.0 (sym e) in
     (l.0, l.1, rw (get_or-set_other next p x v 0 ne) (linked_set next p v _ r none.1 l.2))
 
+-- a free list by its first place and those behind it
 pub record First (next : List ℕ) (first : ℕ) (chain rest : List ℕ) : Type 0 where
   pub is : chain ≡ first ∷ rest
   pub within : first < 48
@@ -121,12 +122,14 @@ linked_upto next i (suc n) e h =
     let up : get_or next i 0 ≡ suc i = omega (arith, h i (omega arith)) in
     (refl, omega arith, subst (λ f. IsLinked next f (upto (suc i) n)) (sym up) (linked_upto next (suc i) n (omega arith) h))
 
+-- where each place below a number names the next, and that place is made to, each up to it does
 pub one_more_linked : (next : List ℕ) (i : ℕ) → i < length next → ((j : ℕ) → j < i → get_or next j 0 ≡ j + 1) → (j : ℕ) → j < i + 1 → get_or (set next i (i + 1)) j 0 ≡ j + 1
 one_more_linked next i l h j m = elim (cases_eq j i) [
   | inl e ↦ rw e (get_or-set_same next i (i + 1) 0 l)
   | inr n ↦ get_or-set_other next i j (i + 1) 0 n ∙ h j (omega (arith, n))
 ]
 
+-- an index is sound in which no byte has a place, and every free place names the next
 pub all_free : (x : Index) → x.len ≡ 0 → x.free ≡ 0 → length x.places ≡ 256 → length x.next ≡ 48 → ((b : ℕ) → b < 256 → place_of x b ≡ 48) → ((j : ℕ) → j < 48 → get_or x.next j 0 ≡ j + 1) → IsIndex x
 all_free x len free places next none up =
     let linked : IsLinked x.next x.free (upto 0 48) = subst (λ f. IsLinked x.next f (upto 0 48)) (sym free) (linked_upto x.next 0 48 refl up) in

@@ -14,6 +14,7 @@ full_at N16 n = n == 16
 full_at N48 n = n == 48
 full_at N256 n = false
 
+-- whether a node is full is told by its form and how many children it has
 pub full_is : {P : Type 0} (n : Node ℕ P) → is_full_of n ≡ full_at (form_of n) (map.len (children_of n))
 full_is (node.N4 n) = refl
 full_is (node.N16 n) = refl

@@ -10,13 +10,16 @@ use Rattle.congee.specs.forms.Places.{AllKeys, Rises}
 use Rattle.congee.proofs.lemmas.forms.Entries.{find, put, del}
 use Rattle.congee.proofs.lemmas.forms.EntryLemmas.{rises_put, rises_del, find_del}
 
+-- the map's test of equal keys is that of equal numbers
 pub same_is : (a b : ℕ) → eq_by_cmp nat_cmp a b ≡ eqb a b
 same_is a b = grind (arith, nat_tests)
 
+-- the map's look-up in a list is the one by tests of numbers
 pub find_std : {X : Type 0} (q : ℕ) (es : List (ℕ × X)) → map.find nat_cmp q es ≡ find q es
 find_std q [] = refl
 find_std q ((k, x) ∷ r) = rw (same_is q k) (ap (cond (eqb q k) (Some x)) (find_std q r))
 
+-- the map's insertion into a list is the one by tests of numbers
 pub put_std : {X : Type 0} (q : ℕ) (v : X) (es : List (ℕ × X)) → map.put nat_cmp q v es ≡ put q v es
 put_std q v [] = refl
 put_std q v ((k, x) ∷ r) = grind (arith, nat_tests, put_std q v r)
@@ -35,6 +38,7 @@ is_sorted_true : {X : Type 0} (es : List (ℕ × X)) → Rises es → map.is_sor
 is_sorted_true [] r = refl
 is_sorted_true ((k, x) ∷ es) r = both_true _ _ (below_all_std k es r.0) (is_sorted_true es r.1)
 
+-- a rising list is sorted as the map wants it
 pub is_sorted_std : {X : Type 0} (es : List (ℕ × X)) → Rises es → T (map.is_sorted nat_cmp es)
 is_sorted_std es r = subst T (sym (is_sorted_true es r)) tt
 

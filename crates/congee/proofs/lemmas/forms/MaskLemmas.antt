@@ -112,9 +112,11 @@ module _ {X : Type 0} where
       let e : masked_map mask xs ≡ map.empty = empty_by (masked mask 0 xs) (λ q. blank_at mask q 0 q xs (omega arith) (omega (arith, none q))) in
       (record { size = size; places = places; counted = ap map.len e ∙ map.len-empty nat_cmp X }, e)
 
+-- a mask in which no bit is set
 abbrev pub no_mask : List ℕ
 no_mask = replicate 32 0
 
+-- no byte's bit is set in it
 pub no_bits : (b : ℕ) → bit_of no_mask b ≡ 0
 no_bits b = ap (λ m. bit_at m (b % 8)) (zero_at 32 (b / 8)) ∙ bit_at-zero (b % 8)
   where

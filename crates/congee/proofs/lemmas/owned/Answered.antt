@@ -129,6 +129,7 @@ pub exchange_refused : (s : Nodes ℕ) (k : ℕ) → k < 2 ^ 64 → (old : ℕ) 
 exchange_refused s k small old new None ne v = exchange_absent nat_eq s s k small old new (sym v)
 exchange_refused s k small old new (Some w) ne v = exchange_other nat_eq s s k small old w new (other_test w old (λ e. ne (ap (λ z. Some z) e))) (sym v)
 
+-- a change at a key that had the expected value is the map's exchange
 pub exchange_done : (s s' : Nodes ℕ) (k : ℕ) → k < 2 ^ 64 → (old : ℕ) (new : Option ℕ) → MapChange s s' (key_bytes k) (Some old) new
     → Answered nat_eq s s' (call.Exchange k old new) (reply.Exchange (Ok new))
 exchange_done s s' k small old new c = exchanged nat_eq s s' k small old old new (same_test old old refl) c

@@ -30,17 +30,21 @@ use Rattle.congee.proofs.lemmas.owned.Joins.{leaf_of}
 use Rattle.congee.proofs.lemmas.owned.Tables.{pairs_stand}
 use Rattle.congee.proofs.lemmas.owned.Ways.{linked_of, stands_of, short_prefix, below_stands, root_reached}
 
+-- a node on a walk's way, and the least byte that is left there
 abbrev pub step : ℕ → ℕ → Branch
 step node from = record { node = node; from = from }
 
+-- where two things are told of what was found, the first one is
 pub first_of_pair : {T : Type 0} (o : Option T) (A : Type 0) (B C : T → Type 0) → MatchOption o A (λ r. B r × C r) → MatchOption o A B
 first_of_pair None A B C m = m
 first_of_pair (Some x) A B C m = m.0
 
+-- where something was found: it, and what is told of it
 pub some_told : {T : Type 0} (o : Option T) (A : Type 0) (B : T → Type 0) → IsSome o → MatchOption o A B → (x : T) × B x
 some_told None A B e m = absurd (cc e)
 some_told (Some x) A B e m = (x, m)
 
+-- what is told where nothing was found
 pub nothing_told : {T : Type 0} (o : Option T) (A : Type 0) (B : T → Type 0) → is_some o ≡ false → MatchOption o A B → A
 nothing_told None A B e m = m
 nothing_told (Some x) A B e m = absurd (cc e)

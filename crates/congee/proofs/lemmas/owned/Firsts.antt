@@ -19,6 +19,7 @@ pub first_of_key : (p key : List ℕ) → fits p key ≡ true → get_or key 0 0
 first_of_key [] key f = refl
 first_of_key (x ∷ p) key f = fits_byte (x ∷ p) key 0 f (omega arith)
 
+-- the first byte of a key is that of its beginning, or of the byte behind an empty one
 pub first_taken : (n : ℕ) (key : List ℕ) → n < length key → get_or key 0 0 ≡ first_byte (take n key) (get_or key n 0)
 first_taken zero key l = refl
 first_taken (suc n) [] l = absurd (omega (arith, l))

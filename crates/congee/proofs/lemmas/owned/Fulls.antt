@@ -57,6 +57,7 @@ filled_as form size count one two least = record {
   least = λ x e. subst (λ z. least_in z ≤ count) (sym (sym (by_places x) ∙ (ap form_by e ∙ by_capacity form))) least;
 }
 
+-- a node with enough children has as many as its form asks for
 pub least_of : (form : NodeType) (size count : ℕ) → FilledAs size count (capacity_of form) → least_in form ≤ count
 least_of form size count f = f.least form (same_places form)
 
@@ -68,11 +69,13 @@ some_least false = omega arith
 two_least : (size : ℕ) → size < 7 → 2 ≤ cond (ltb size 7) 2 1
 two_least size l = rw (lt-ltb size 7 l) (omega arith)
 
+-- a node that lacks no children has enough
 pub has_enough : (form : NodeType) (size count : ℕ) → fewest form size - count ≡ 0 → FilledAs size count (capacity_of form)
 has_enough form size count e =
     let one = some_least (ltb size 7) in
     filled_as form size count (omega (arith, e, one)) (λ l. let two = two_least size l in omega (arith, e, two)) (omega (arith, e))
 
+-- a node that has enough children lacks none
 pub lacks_none : (form : NodeType) (size count : ℕ) → FilledAs size count (capacity_of form) → fewest form size - count ≡ 0
 lacks_none form size count f =
     let least = least_of form size count f in
@@ -193,6 +196,7 @@ spared N16 k e = omega (arith, less_or (suc k) 4 e)
 spared N48 k e = omega (arith, less_or (suc k) 13 e)
 spared N256 k e = omega (arith, less_or (suc k) 41 e)
 
+-- a node that loses a child and needn't give place to a lesser one has enough children
 pub filled_less : (size k : ℕ) (form : NodeType) → shrinks form (suc k) ≡ false → 1 ≤ k → (size < 7 → 2 ≤ k) → FilledAs size k (capacity_of form)
 filled_less size k form e one two = filled_as form size k one two (spared form k e)
 
@@ -203,6 +207,7 @@ lessened N16 k l = omega arith
 lessened N48 k l = omega (arith, l)
 lessened N256 k l = omega (arith, l)
 
+-- where a node had enough children, one of the form below has enough with one fewer
 pub filled_lesser : (size k : ℕ) (form : NodeType) → FilledAs size (suc k) (capacity_of form) → 1 ≤ k → (size < 7 → 2 ≤ k) → FilledAs size k (capacity_of (form_below form))
 filled_lesser size k form x one two = filled_as (form_below form) size k one two (lessened form k (least_of form size (suc k) x))
 
@@ -213,6 +218,7 @@ grown N16 k e = omega (arith, e)
 grown N48 k e = omega (arith, e)
 grown N256 k e = omega (arith, e)
 
+-- where a full node had enough children, one of the next form has enough with one more
 pub filled_greater : (size k : ℕ) (form : NodeType) → k ≡ capacity_of form → FilledAs size k (capacity_of form) → FilledAs size (suc k) (capacity_of (next_form form))
 filled_greater size k form e x = filled_as (next_form form) size (suc k) (omega arith) (λ l. let b = x.branches l in omega (arith, b)) (grown form k e)
 

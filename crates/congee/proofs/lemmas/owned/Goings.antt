@@ -121,10 +121,12 @@ module _ {V : Type 0} where
       let h : heap_of s' ≡ heap_of s = λ i n. ap node_of (e n) i in
       ap (λ g. table (λ k. goes_at g (key_bytes k)) (2 ^ 64)) h
 
+-- where nothing goes with a value, nothing goes by any answer
 pub going_absent : {Y : Type 0} (o : Option Y) (going : Option Going) → going ≡ None → going_by o going ≡ None
 going_absent None going e = e
 going_absent (Some y) going e = refl
 
+-- what goes by an answer doesn't depend on the value that it gives
 pub going_map : {Y Z : Type 0} (f : Y → Z) (o : Option Y) (going : Option Going) → going_by (option_map f o) going ≡ going_by o going
 going_map f None going = refl
 going_map f (Some y) going = refl

@@ -408,6 +408,7 @@ own_of b n h e = elim (same_or_not (n % 257) 0) [
   | inr ne ↦ absurd (let z : false ≡ true = sym e ∙ h.1 ne in cc)
 ]
 
+-- a node that was told to stand in its parent's place has no slot of its own
 pub inline_of : (b : Bool) (n : ℕ) → IsTrue b ↔ (HasOwnSlot n → ⊥) → b ≡ true → HasOwnSlot n → ⊥
 inline_of b n h e = h.0 e
 

@@ -45,6 +45,7 @@ agree_tree a h h' e t = record {
   };
 }
 
+-- a walk from a node of the tree finds the same where all nodes of the tree are as they were
 pub agree_walk : {V : Type 0} (a : ℕ → Note) (h h' : ℕ → Node V) → ((n : ℕ) → (a n).status ≡ Linked → h' n ≡ h n) → Tree a h
     → (f n : ℕ) (key : List ℕ) → (a n).status ≡ Linked → walk h' f n key ≡ walk h f n key
 agree_walk a h h' e t zero n key l = refl

@@ -17,6 +17,7 @@ module _ {A : Type 0} where
   if_some None P f = tt
   if_some (Some x) P f = f x refl
 
+-- what holds anyway holds where a result is an error
 pub on_error : {A E : Type 0} (r : Result A E) (P : Type 0) → P → OnErr r P
 on_error (Ok x) P p = tt
 on_error (Err e) P p = p

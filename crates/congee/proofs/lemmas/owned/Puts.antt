@@ -7,6 +7,7 @@ use Rattle.congee.proofs.lemmas.Fits.{same_key}
 use Rattle.congee.proofs.lemmas.Tree.{same_or_not, finds}
 use Rattle.congee.proofs.lemmas.Graft.{Graft, old_down, old_up, old_leaves, untouched, on_test}
 
+-- a value as a child, or no child
 abbrev pub put_child : {V : Type 0} → Option V → Hung V
 put_child None = Nothing
 put_child (Some v) = Holds v

@@ -92,6 +92,7 @@ module _ {X : Type 0} where
   pub keys_ended : {K : Type 0} (of_word : ℕ → K) (items all : List K) (es : List (ℕ × X)) → es ≡ [] → items ++ keys_by of_word es ≡ all → items ≡ all
   keys_ended of_word items all es e h = sym (append-nil items) ∙ ap (λ t. items ++ keys_by of_word t) (sym e) ∙ h
 
+-- what is told where there is nothing
 pub none_told : {T : Type 0} (o : Option T) (A : Type 0) (B : T → Type 0) → o ≡ None → MatchOption o A B → A
 none_told None A B e m = m
 none_told (Some x) A B e m = absurd (cc e)

@@ -65,6 +65,7 @@ shrinks_greater T16 n s e = absurd (cc)
 shrinks_greater T48 n s e = absurd (cc)
 shrinks_greater T256 n s e = absurd (cc)
 
+-- the children of a node that gives place to a lesser one fit in the form below
 pub shrinks_room : (f : NodeType) (n : ℕ) → shrinks f n ≡ true → n ≤ capacity_of (form_below f)
 shrinks_room T4 n e = absurd (let z : false ≡ true = e in cc)
 shrinks_room T16 n e = grind (arith, nat_tests)
@@ -78,6 +79,7 @@ size_not_least T16 ne e = absurd (omega (arith, e))
 size_not_least T48 ne e = absurd (omega (arith, e))
 size_not_least T256 ne e = absurd (omega (arith, e))
 
+-- a map without one of the keys has no more pairs than with it
 pub len_left : {X : Type 0} (m : map.FinMap nat_cmp X) (k : ℕ) → map.len (map.remove m k) ≤ map.len m
 len_left m k = of (map.contains_key m k) (map.len-remove nat_cmp_total m k)
   where
@@ -85,6 +87,7 @@ len_left m k = of (map.contains_key m k) (map.len-remove nat_cmp_total m k)
     of true e = omega (arith, e)
     of false e = omega (arith, e)
 
+-- a map without a key that it had has one pair fewer
 pub len_fewer : {X : Type 0} (m : map.FinMap nat_cmp X) (k : ℕ) (x : X) → map.get m k ≡ Some x → map.len (map.remove m k) ≡ map.len m - 1
 len_fewer m k x e = let c : map.contains_key m k ≡ true = ap is_some e in map.len-remove nat_cmp_total m k ∙ rw c refl
 

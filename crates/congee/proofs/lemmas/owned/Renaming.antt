@@ -164,6 +164,7 @@ module _ {P : Type 0} (s s' : Nodes P) (p b n m : ℕ) (t : IsTree s) (k : Renam
     ]
   ])
 
+-- where a node takes another name, names alone changed
 pub renamed : {P : Type 0} (s s' : Nodes P) (above byte before after : ℕ) → IsTree s → Renames s s' above byte before after → Renamed s s'
 renamed s s' p b n m t k = let r = renamed_is s s' p b n m t k in record { tree = r.0; values = r.1; bytes = renamed_bytes s s' p b n m t k; filled = renamed_filled s s' p b n m t k }
 

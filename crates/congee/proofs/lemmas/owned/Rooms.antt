@@ -94,6 +94,7 @@ pub of_ok : {T E A : Type 0} (r : Result T E) → is_ok r ≡ true → OnOk r A 
 of_ok (Ok x) e a = a
 of_ok (Err x) e a = absurd (cc)
 
+-- what follows from what is told of an error is told of it too
 pub err_in : {T E : Type 0} (A B : E → Type 0) (r : Result T E) → ((e : E) → A e → B e) → IfErr r A → IfErr r B
 err_in A B (Ok x) f a = a
 err_in A B (Err e) f a = f e a

@@ -81,6 +81,7 @@ pub record InnerAfter {P : Type 0} (n : Node ℕ (Lone P)) (x' : Slot P) (m : ma
   pub is : x' ≡ Inner node
   pub becomes : Becomes n node m
 
+-- an inner node whose children were changed is one with the changed children
 pub inner_after : {P : Type 0} (x x' : Slot P) (n : Node ℕ (Lone P)) (f : map.FinMap nat_cmp (Child ℕ (Lone P)) → map.FinMap nat_cmp (Child ℕ (Lone P))) → x ≡ Inner n → InnerBecomes x x' f → InnerAfter n x' (f (children_of n))
 inner_after x x' n f e b = of x' (subst (λ w. InnerBecomes w x' f) e b)
   where

@@ -273,6 +273,7 @@ pub wider_same : {P : Type 0} (s s' : Slab (Slot P)) (v : Nodes P) → nodes_in 
 unfolding nodes_in
 wider_same s s' v is e m = ap (λ l. get_or (list_map (node_named l) (range_with_len 0 (257 * length l))) m None) e ∙ ap (λ w. get w m) is
 
+-- what is true of the slots stays so with more room for slots
 pub wider_stored : {P : Type 0} (s s' : Slab (Slot P)) (inline : ℕ) → IsStored s inline → s'.slots ≡ s.slots → s.capacity ≤ s'.capacity → IsStored s' inline
 unfolding nodes_in
 wider_stored s s' inline st e c =
@@ -289,5 +290,6 @@ wider_stored s s' inline st e c =
 pub least_absent : {P : Type 0} (n : Node ℕ P) (b : ℕ) → children_of n ≡ map.empty → map.get (children_of n) b ≡ None
 least_absent n b e = ap (λ m. map.get m b) e ∙ map.get-empty _ b
 
+-- a node of the least form without children isn't full
 pub least_room : {P : Type 0} (n : Node ℕ P) → form_of n ≡ N4 → children_of n ≡ map.empty → is_full_of n ≡ false
 least_room n f e = full_is n ∙ (ap (λ t. full_at t (map.len (children_of n))) f ∙ ap (full_at N4) (ap map.len e ∙ map.len-empty nat_cmp _))

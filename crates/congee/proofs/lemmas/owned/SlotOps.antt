@@ -222,6 +222,7 @@ pub same_room : {P : Type 0} (s : Slab (Slot P)) (v : Nodes P) → nodes_in s �
 unfolding nodes_in
 same_room s v is i x' = ap (λ w. w.capacity) is
 
+-- slots with the same room give the nodes the same
 pub same_view_room : {P : Type 0} (s s' : Slab (Slot P)) (v : Nodes P) → nodes_in s ≡ v → s'.capacity ≡ s.capacity → (nodes_in s').capacity ≡ v.capacity
 unfolding nodes_in
 same_view_room s s' v is e = e ∙ ap (λ w. w.capacity) is

@@ -23,6 +23,7 @@ none_past (x ∷ xs) (suc n) l = none_past xs n (omega (arith, l))
 pub in_offset : (slot name : ℕ) → name / 257 ≡ slot → name ≡ 257 * slot + name % 257
 in_offset slot name e = omega (arith, e)
 
+-- a name's place within its slot's names is below 257
 pub low_offset : (name : ℕ) → name % 257 < 257
 low_offset name = omega arith
 

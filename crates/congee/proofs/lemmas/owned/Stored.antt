@@ -139,12 +139,15 @@ module _ {P : Type 0} (i : ℕ) where
   seen_full (Inner n) = with_full (inner_child i) n
   seen_full (Leaf n) = with_full leaf_child n
 
+-- a leaf with one value isn't full
 pub lone_full : {P : Type 0} (lone : Lone P) → is_full_of (lone_node lone) ≡ false
 lone_full lone = ap (λ n. n == 4) (len_one (get_or lone.key 7 0) (Value lone.value))
 
+-- a leaf with one value has one child
 pub lone_len : {P : Type 0} (lone : Lone P) → map.len (children_of (lone_node lone)) ≡ 1
 lone_len lone = len_one (get_or lone.key 7 0) (Value lone.value)
 
+-- a leaf with one value has a prefix of seven bytes
 pub lone_prefix : {P : Type 0} (lone : Lone P) → length (prefix_of (lone_node lone)) ≡ 7
 lone_prefix lone = length-take-le 7 lone.key (let w = lone.whole in omega (arith, w))
 

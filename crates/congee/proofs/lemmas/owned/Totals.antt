@@ -8,6 +8,7 @@ unfoldable pub total : (ℕ → ℕ) → ℕ → ℕ
 total f zero = 0
 total f (suc n) = total f n + f n
 
+-- functions that agree below a bound have the same sum
 pub total_same : (f g : ℕ → ℕ) (n : ℕ) → ((i : ℕ) → i < n → f i ≡ g i) → total f n ≡ total g n
 unfolding total
 total_same f g zero e = refl
@@ -16,6 +17,7 @@ total_same f g (suc n) e =
     let h = e n (omega arith) in
     omega (arith, r, h)
 
+-- a function that gives nothing below a bound has the sum 0
 pub total_none : (f : ℕ → ℕ) (n : ℕ) → ((i : ℕ) → i < n → f i ≡ 0) → total f n ≡ 0
 unfolding total
 total_none f zero e = refl
@@ -39,6 +41,7 @@ total_one f (suc n) k l e = elim (same_or_not k n) [
       omega (arith, r, h))
 ]
 
+-- the sum of what two functions give together is that of their sums
 pub total_add : (f g : ℕ → ℕ) (n : ℕ) → total (λ i. f i + g i) n ≡ total f n + total g n
 unfolding total
 total_add f g zero = refl

@@ -40,6 +40,7 @@ passes s x from byte y first h here b c l e = elim (cases_lt b from) [
   ]
 ]
 
+-- a node's name as a child is the one that the tree sees there
 pub below_is : {P : Type 0} (y : Child ℕ P) (below c : ℕ) → y ≡ Sub below → hung_in (Some y) ≡ Below c → below ≡ c
 below_is y below c is e = let z : Below below ≡ Below c = ap (λ k. hung_in (Some k)) (sym is) ∙ e in cc
 

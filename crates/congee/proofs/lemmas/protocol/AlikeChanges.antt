@@ -46,6 +46,7 @@ HoldsFor (Shrink c) n p = HoldsValues n
 HoldsFor (ShrinkAbove c) n p = HoldsNodes p
 HoldsFor _ n p = Unit {0}
 
+-- before a change of two nodes, the one whose children go over holds values or nodes as the change wants
 abbrev pub HoldsRight : {C V : Type 0} → (C → ℕ) → (ℕ → Node V) → Phase C V → Type 0
 HoldsRight number h (ChangeTwo two r) = HoldsFor two.change (h (number two.at.node)) (h (number two.above.seat.node))
 HoldsRight number h _ = Unit {0}

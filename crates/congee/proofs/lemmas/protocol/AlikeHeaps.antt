@@ -11,12 +11,15 @@ use Rattle.congee.proofs.lemmas.Fits.{both_true, equal, same_test, other_test}
 use Rattle.congee.proofs.lemmas.Tree.{same_or_not}
 use Rattle.congee.proofs.lemmas.protocol.Leftovers.{kept_node, kept_value}
 
+-- two options that are the same have the same in them
 pub some_is : {A : Type 0} {x y : A} → Some x ≡ Some y → x ≡ y
 some_is e = cc
 
+-- the node that was put stands under its number
 pub put_same : {V : Type 0} (h : ℕ → Node V) (n : ℕ) (x : Node V) → put h n x n ≡ x
 put_same h n x = rw (same_test n n refl) refl
 
+-- every other node is as it was where one is put
 pub put_other : {V : Type 0} (h : ℕ → Node V) (n : ℕ) (x : Node V) (m : ℕ) → m ≢ n → put h n x m ≡ h m
 put_other h n x m e = rw (other_test m n e) refl
 
@@ -26,14 +29,17 @@ pub record Pair {V : Type 0} (order : List ℕ) (h h' g' : ℕ → Node V) : Typ
   pub made : (c : ℕ) → (h' c).made ≡ (h c).made
   pub stands : (c : ℕ) → Stands (h' c) → Stands (h c)
 
+-- a step that leaves all nodes leaves both sides alike
 pub pair_same : {V : Type 0} (order : List ℕ) (h h' g : ℕ → Node V) → h' ≡ h → HeapAlike order h g → Pair order h h' g
 pair_same {V} order h h' g e x =
     let P : (ℕ → Node V) → Type 0 = λ z. Pair order h z g in
     subst P (sym e) (record { alike = x; made = λ c. refl; stands = λ c s. s })
 
+-- both sides are alike after a second step, where the first made no node and let none stand that hadn't
 pub pair_then : {V : Type 0} (order : List ℕ) (h h1 h' g' : ℕ → Node V) → ((c : ℕ) → (h1 c).made ≡ (h c).made) → ((c : ℕ) → Stands (h1 c) → Stands (h c)) → Pair order h1 h' g' → Pair order h h' g'
 pair_then order h h1 h' g' m s p = record { alike = p.alike; made = λ c. p.made c ∙ m c; stands = λ c x. s c (p.stands c x) }
 
+-- the order stays where no node is made
 pub ordered_still : {V : Type 0} (order : List ℕ) (h h' : ℕ → Node V) → ((c : ℕ) → (h' c).made ≡ (h c).made) → Ordered order h → Ordered order h'
 ordered_still order h h' m o = record {
   made = λ n c e. m c ∙ o.made n c e;
@@ -276,21 +282,25 @@ later_place [] rest k d e = absurd cc
 later_place (x ∷ xs) rest zero d e = e
 later_place (x ∷ xs) rest (suc k) d e = later_place xs rest k d e
 
+-- a new node comes last in the order
 pub new_place : (order : List ℕ) (c : ℕ) → slice_get (order ++ c ∷ []) (length order) ≡ Some c
 new_place [] c = refl
 new_place (x ∷ xs) c = new_place xs c
 
+-- a place of the longer order is one of the order before, or the new node's
 pub one_place : (order : List ℕ) (c k d : ℕ) → slice_get (order ++ c ∷ []) k ≡ Some d → (slice_get order k ≡ Some d) ⊎ ((k ≡ length order) × (d ≡ c))
 one_place [] c zero d e = inr (refl, sym (some_is e))
 one_place [] c (suc k) d e = absurd cc
 one_place (x ∷ xs) c zero d e = inl e
 one_place (x ∷ xs) c (suc k) d e = elim (one_place xs c k d e) [ inl p ↦ inl p | inr q ↦ inr (ap suc q.0, q.1) ]
 
+-- what hangs alike on both sides does so by an order that has each place of the one before
 pub hung_later : {V : Type 0} (order order' : List ℕ) → ((k d : ℕ) → slice_get order k ≡ Some d → slice_get order' k ≡ Some d) → (a b : Hung V) → HungAlike order a b → HungAlike order' a b
 hung_later order order' f Nothing b e = e
 hung_later order order' f (Below c) b e = (e.0, e.1, f _ _ e.2)
 hung_later order order' f (Holds v) b e = e
 
+-- nodes that are alike on both sides are so by an order that has each place of the one before
 pub node_later : {V : Type 0} (order order' : List ℕ) → ((k d : ℕ) → slice_get order k ≡ Some d → slice_get order' k ≡ Some d) → (a b : Node V) → NodeAlike order a b → NodeAlike order' a b
 node_later order order' f a b e = record {
   stands = e.stands;

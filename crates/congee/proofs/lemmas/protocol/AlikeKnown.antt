@@ -175,6 +175,7 @@ module _ {C V : Type 0} (order order' : List ℕ) (number : C → ℕ) (f : (n c
   spared_phase (Unwind c next e) x = tt
   spared_phase Ended x = tt
 
+-- a node keeps its number where some more are made
 pub longer_place : (order order' : List ℕ) → Longer order order' → (n c : ℕ) → slice_get order n ≡ Some c → slice_get order' n ≡ Some c
 longer_place order order' l n c e = let P : List ℕ → Type 0 = λ z. slice_get z n ≡ Some c in subst P (sym l.1) (later_place order l.0 n c e)
 

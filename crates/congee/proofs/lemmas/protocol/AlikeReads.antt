@@ -34,6 +34,7 @@ use Rattle.congee.proofs.lemmas.protocol.AlikeTurns.{quiet_alike, again_alike, a
 pub taken_alike : {V : Type 0} (order : List ℕ) (x y : Node V) (v w : ℕ) → NodeAlike order x y → w ≡ v → is_taken y w ≡ is_taken x v
 taken_alike order x y v w e f = rw (e.version, e.locked, e.obsolete, f) refl
 
+-- nodes that are alike on both sides tell the same version
 pub version_same : {V : Type 0} (order : List ℕ) (x y : Node V) → NodeAlike order x y → version_of y ≡ version_of x
 version_same order x y e = rw (e.version, e.locked, e.obsolete) refl
 
@@ -202,6 +203,7 @@ front_is base j (b ∷ rest) l s =
     ∙ front_is base (j + 1) rest (omega (arith, l)) (λ i k. ap (λ z. get_or (key_bytes base) z 0) (let z : j + 1 + i ≡ j + suc i = omega arith in z) ∙ s (suc i) (omega (arith, k)))
     ∙ ap (top base) (omega arith)
 
+-- the region of a prefix is the one computed from its bytes
 pub region_is : (p : List ℕ) (x : Region) → IsRegion p x.base x.depth → region_of p ≡ x
 region_is p x k =
     let zero_top : top x.base 0 ≡ 0 = (let s : x.base < 2 ^ 64 = k.small in omega (arith, s)) in

@@ -50,6 +50,7 @@ use Rattle.congee.proofs.lemmas.protocol.SweepWays.{pick_true}
 pub version_free : {V : Type 0} (n : Node V) → is_free n ≡ true → version_of n ≡ Some n.version
 version_free n f = pick_true (is_free n) (Some n.version) None f
 
+-- a free node's word is the one taken at its present version
 pub taken_now : {V : Type 0} (n : Node V) → is_free n ≡ true → is_taken n n.version ≡ true
 taken_now n f = and_true (n.version == n.version) (is_free n) (same_test n.version n.version refl) f
 

@@ -34,6 +34,7 @@ pub record StaysLocked {V : Type 0} (i : ℕ) (a : ℕ → Note) (h : ℕ → No
   pub retired : (h' n).retired ≡ (h n).retired
   pub obsolete : (h' n).obsolete ≡ (h n).obsolete
 
+-- a node that the call has locked before and after is touched under its lock
 pub under_touch : {V : Type 0} (i : ℕ) (a : ℕ → Note) (h : ℕ → Node V) (a' : ℕ → Note) (h' : ℕ → Node V) (n : ℕ) → LockWords a h → StaysLocked i a h a' h' n → Touched i a h a' h' n
 under_touch i a h a' h' n w u =
     let lk : (h' n).locked ≡ true = u.locked ∙ owner_locked a h w n i u.owner in
@@ -76,9 +77,11 @@ pub record Live {V : Type 0} (n : Node V) : Type 0 where
   pub live : n.obsolete ≡ false
   pub keyed : BeginsKey n.prefix
 
+-- the note of a node that comes into the tree below node p
 abbrev pub joined : ℕ → Note
 joined p = record { status = Linked; owner = None; parent = p }
 
+-- a made node that comes into the tree is touched out of reach
 pub joined_touch : {V : Type 0} (i : ℕ) (a : ℕ → Note) (h : ℕ → Node V) (a' : ℕ → Note) (h' : ℕ → Node V) (key : List ℕ) (c size least p : ℕ) → Made i a h key c size least → a' c ≡ joined p → Live (h' c)
     → Touched i a h a' h' c
 joined_touch i a h a' h' key c size least p m e l =
@@ -93,9 +96,11 @@ joined_touch i a h a' h' key c size least p m e l =
     })
     (fares_free i (a c) (a' c) (h c) (h' c) (rw e refl) (rw e refl) l.unlocked)
 
+-- a node that the call has made can come into the tree
 pub live_made : {V : Type 0} (i : ℕ) (a : ℕ → Note) (h : ℕ → Node V) (key : List ℕ) (c size least : ℕ) → Made i a h key c size least → Live (h c)
 live_made i a h key c size least m = record { made = m.made; kept = m.kept; unretired = m.unretired; unlocked = m.unlocked; live = m.live; keyed = m.keyed }
 
+-- so it can after one of its children changed
 pub live_changed : {V : Type 0} (h : ℕ → Node V) (c b : ℕ) (x : Hung V) (h' : ℕ → Node V) → ChangeGives h c b x h' → Live (h c) → Live (h' c)
 live_changed h c b x h' k l = record { made = k.made ∙ l.made; kept = k.destroyed ∙ l.kept; unretired = k.retired ∙ l.unretired; unlocked = k.locked ∙ l.unlocked; live = k.obsolete ∙ l.live; keyed = rw k.prefix l.keyed }
 
@@ -134,9 +139,11 @@ under_taken i a h a' g g1 h' m c o l p po e k f = record {
   obsolete = ap (λ z. z.obsolete) f ∙ (k.obsolete_old ∙ ap (λ z. z.obsolete) e);
 }
 
+-- a node that can come into the tree still can after it took over another one's children
 pub live_taken : {V : Type 0} (h : ℕ → Node V) (m c : ℕ) (h' : ℕ → Node V) → TakeOverGives h m c h' → Live (h c) → Live (h' c)
 live_taken h m c h' k l = record { made = k.made ∙ l.made; kept = k.destroyed ∙ l.kept; unretired = k.retired ∙ l.unretired; unlocked = k.locked ∙ l.unlocked; live = k.obsolete ∙ l.live; keyed = rw k.prefix l.keyed }
 
+-- and where it is as it was
 pub live_same : {V : Type 0} (n n' : Node V) → n' ≡ n → Live n → Live n'
 live_same {V} n n' e l = let P : Node V → Type 0 = λ z. Live z in subst P (sym e) l
 
@@ -151,6 +158,7 @@ leaf_filled i a h key c v h1 m f =
       empty = λ b ne. f.beside b (let P : ℕ → Type 0 = λ y. b ≢ get_or key y 0 in subst P seven ne) ∙ m.blank b;
     }
 
+-- a leaf with one value is one where it is as it was
 pub leaf_same : {V : Type 0} (h h' : ℕ → Node V) (c : ℕ) (key : List ℕ) (v : V) → h' c ≡ h c → Leaf h c key v → Leaf h' c key v
 leaf_same h h' c key v e l = record {
   fitted = rw e l.fitted;
@@ -159,6 +167,7 @@ leaf_same h h' c key v e l = record {
   empty = λ b ne. rw e (l.empty b (let P : List ℕ → Type 0 = λ y. b ≢ get_or key (length y) 0 in subst P (ap (λ z. z.prefix) e) ne));
 }
 
+-- a node that the call has made is none that is or was in reach
 pub made_apart : {V : Type 0} (i : ℕ) (a : ℕ → Note) (h : ℕ → Node V) (key : List ℕ) (c size least n : ℕ) → Made i a h key c size least → is_published (a n).status ≡ true → c ≢ n
 made_apart i a h key c size least n b p e =
     let z : is_published (a c).status ≡ true = (let P : ℕ → Type 0 = λ x. is_published (a x).status ≡ true in subst P (sym e) p) in
@@ -228,6 +237,7 @@ given_is : {V : Type 0} (go : ℕ → Option V) (o : Option V) → of_child go (
 given_is go None = refl
 given_is go (Some v) = refl
 
+-- a value that is set or taken out in a leaf changes the map at its key alone
 pub set_changed : {V : Type 0} (i : ℕ) (a : ℕ → Note) (h : ℕ → Node V) (key : List ℕ) (n b : ℕ) (x : Hung V) (given : Option V) (h' : ℕ → Node V)
     → length key ≡ 8 → Tree a h → LockWords a h → Holding i a n → fits (h n).prefix key ≡ true → length (h n).prefix ≡ 7 → b ≡ get_or key (length (h n).prefix) 0
     → child_for (h n) key ≡ x → IsValue x → ChangeGives h n b (value_hung given) h' → Changed i a h key (value_in x) given a h'
@@ -295,6 +305,7 @@ link_changed i a h key n b c v h1 h' len t w o fit inner eb none m f k =
 abbrev pub left_out : (ℕ → Note) → ℕ → ℕ → ℕ → Note
 left_out a i m = noted a m (record { status = Gone; owner = Some i; parent = (a m).parent })
 
+-- a leaf that goes out changes the map at its key alone, and is taken out under the call's lock
 pub unlink_changed : {V : Type 0} (i : ℕ) (a : ℕ → Note) (h : ℕ → Node V) (key : List ℕ) (p b m : ℕ) (v : V) (h' : ℕ → Node V)
     → length key ≡ 8 → Tree a h → LockWords a h → Holding i a p → fits (h p).prefix key ≡ true → b ≡ get_or key (length (h p).prefix) 0 → child_for (h p) key ≡ Below m
     → (a m).owner ≡ Some i → Leaf h m key v → ChangeGives h p b Nothing h'

@@ -146,6 +146,7 @@ module _ {C : Type 0} (number : C → ℕ) (K : ℕ → Type 0) (n : ℕ) where
 
 -- the note of a destroyed node, and of one that is as it was
 
+-- the note of a node that is as it was, or was destroyed
 pub note_after : {V : Type 0} (x : Note) (p q : Node V) → (q ≡ p) ⊎ Lost p q → Note
 note_after x p q (inl e) = x
 note_after x p q (inr l) = record x { status = Destroyed; owner = None }

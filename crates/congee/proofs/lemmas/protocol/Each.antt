@@ -18,6 +18,7 @@ module _ (K : ℕ → Type 0) where
   right [] ys e = e
   right (x ∷ xs) ys e = right xs ys e.1
 
+-- what is true of everything is true of each
 pub each_any : (xs : List ℕ) → Each (λ _. Unit {0}) xs
 each_any [] = tt
 each_any (x ∷ xs) = (tt, each_any xs)

@@ -33,9 +33,11 @@ least_same N256 N256 e = refl
 pub enough : (form : NodeType) (count capacity : ℕ) → capacity ≡ places form → least_in form ≤ count → (x : NodeType) → places x ≡ capacity → least_in x ≤ count
 enough form count capacity e l x f = omega (arith, least_same x form (f ∙ e), l)
 
+-- a node with four places is filled by one child, or by two where it holds nodes
 pub filled_small : (size count capacity : ℕ) → capacity ≡ 4 → 1 ≤ count → (size < 7 → 2 ≤ count) → FilledAs size count capacity
 filled_small size count capacity e one two = record { some = one; branches = two; least = enough N4 count capacity e (omega arith) }
 
+-- a node is filled where one with the same prefix's length, children and places is
 pub filled_same : (s c k s' c' k' : ℕ) → s' ≡ s → c' ≡ c → k' ≡ k → FilledAs s c k → FilledAs s' c' k'
 filled_same s c k s' c' k' es ec ek x = record {
   some = omega (arith, ec, x.some);
@@ -43,6 +45,7 @@ filled_same s c k s' c' k' es ec ek x = record {
   least = λ form e. omega (arith, ec, x.least form (e ∙ ek));
 }
 
+-- a filled node is so with more children
 pub filled_more : (s c k c' : ℕ) → c ≤ c' → FilledAs s c k → FilledAs s c' k
 filled_more s c k c' l x = record {
   some = omega (arith, l, x.some);
@@ -57,9 +60,11 @@ pub record Alike {V : Type 0} (n n' : Node V) : Type 0 where
   pub count : n'.count ≡ n.count
   pub capacity : n'.capacity ≡ n.capacity
 
+-- a node that is as it was has prefix, children and places as they were
 pub alike : {V : Type 0} (n n' : Node V) → n' ≡ n → Alike n n'
 alike n n' e = record { prefix = ap (λ x. x.prefix) e; children = λ b. ap (λ x. x.children b) e; count = ap (λ x. x.count) e; capacity = ap (λ x. x.capacity) e }
 
+-- a filled node stays so with prefix, children and places as they were
 pub filled_alike : {V : Type 0} (n n' : Node V) → Alike n n' → IsFilled n → IsFilled n'
 filled_alike n n' s x = filled_same (length n.prefix) n.count n.capacity (length n'.prefix) n'.count n'.capacity (ap length s.prefix) s.count s.capacity x
 
@@ -68,12 +73,15 @@ reaches : {V : Type 0} (h : ℕ → Node V) (P : ℕ → Type 0) → ((n b d : �
 reaches h P step [] n c p e = subst P e p
 reaches h P step (b ∷ path) n c p l = reaches h P step path l.0 c (step n b l.0 p l.1) l.2
 
+-- one node hangs in one place
 pub below_is : {V : Type 0} (x : Hung V) (c d : ℕ) → x ≡ Below c → x ≡ Below d → d ≡ c
 below_is x c d e f = let z : Below c ≡ Below d = sym e ∙ f in cc
 
+-- where a value hangs no node does
 pub not_held : {V : Type 0} (v : V) (d : ℕ) → Holds v ≡ Below d → ⊥
 not_held v d e = absurd cc
 
+-- where nothing hangs no node does
 pub not_nothing : {V : Type 0} (x : Hung V) (d : ℕ) → x ≡ Nothing → x ≡ Below d → ⊥
 not_nothing x d e f = let z : Nothing ≡ Below d = sym e ∙ f in absurd cc
 
@@ -93,6 +101,7 @@ changed_child h n b x h' k m c d e = elim (same_or_not m n) [
   | inr mn ↦ inl (ap (λ y. y.children c) (sym (k.others m mn)) ∙ e, (λ q. absurd (mn q)))
 ]
 
+-- as node c takes over children from m, a node hangs where it hung, or in c at the byte where it hung in m
 pub taken_child : {V : Type 0} (h : ℕ → Node V) (m c : ℕ) (h' : ℕ → Node V) → TakeOverGives h m c h' → (x b d : ℕ) → (h' x).children b ≡ Below d
     → ((h x).children b ≡ Below d) ⊎ ((x ≡ c) × ((h m).children b ≡ Below d))
 taken_child h m c h' k x b d e = elim (same_or_not x c) [
@@ -107,6 +116,7 @@ taken_child h m c h' k x b d e = elim (same_or_not x c) [
 pub count_kept : {V : Type 0} (h : ℕ → Node V) (n b c d : ℕ) (h' : ℕ → Node V) → ChangeGives h n b (Below c) h' → (h n).children b ≡ Below d → (h' n).count ≡ (h n).count
 count_kept h n b c d h' k e = let w : weight ((h n).children b) ≡ 1 = ap weight e in let z : (h' n).count + weight ((h n).children b) ≡ (h n).count + 1 = k.count in omega (arith, w, z)
 
+-- a node from which a child is taken out has one child fewer
 pub count_less : {V : Type 0} (h : ℕ → Node V) (n b : ℕ) (h' : ℕ → Node V) → ChangeGives h n b Nothing h' → weight ((h n).children b) ≡ 1 → suc (h' n).count ≡ (h n).count
 count_less h n b h' k w = let z : (h' n).count + weight ((h n).children b) ≡ (h n).count + 0 = k.count in omega (arith, w, z)
 
@@ -115,14 +125,17 @@ weight_most Nothing = omega arith
 weight_most (Below c) = omega arith
 weight_most (Holds v) = omega arith
 
+-- whatever hangs in a place counts one
 pub weight_there : {V : Type 0} (x : Hung V) → x ≢ Nothing → weight x ≡ 1
 weight_there Nothing ne = absurd (ne refl)
 weight_there (Below c) ne = refl
 weight_there (Holds v) ne = refl
 
+-- a node into which a child is put has no fewer children
 pub count_more : {V : Type 0} (h : ℕ → Node V) (n b : ℕ) (x : Hung V) (h' : ℕ → Node V) → ChangeGives h n b x h' → weight x ≡ 1 → (h n).count ≤ (h' n).count
 count_more h n b x h' k w = omega (arith, w, k.count, weight_most ((h n).children b))
 
+-- a node into which a child is put where nothing hung has one child more
 pub count_new : {V : Type 0} (h : ℕ → Node V) (n b : ℕ) (x : Hung V) (h' : ℕ → Node V) → ChangeGives h n b x h' → weight x ≡ 1 → (h n).children b ≡ Nothing → (h' n).count ≡ suc (h n).count
 count_new h n b x h' k w e = let y : weight ((h n).children b) ≡ 0 = ap weight e in omega (arith, w, y, k.count)
 

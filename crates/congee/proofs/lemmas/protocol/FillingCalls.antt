@@ -40,6 +40,7 @@ root_filled h bare n ne r = absurd (by_path r.0 r.1)
     by_path [] e = ne (sym e)
     by_path (b ∷ path) e = let z : Nothing ≡ Below e.0 = sym (bare b) ∙ e.1 in cc
 
+-- a root alone is filled, and calls that have not begun or have ended keep it so
 pub filled_opens : {C V : Type 0} (number : C → ℕ) (h : ℕ → Node V) (ms : List (Machine C V)) → FreshRoot h → ((i : ℕ) (m : Machine C V) → slice_get ms i ≡ Some m → IsIdle number m) → KeepsFilled number h ms
 filled_opens {C} {V} number h ms r idle = record {
   tree = root_filled h r.alone.bare;
@@ -49,9 +50,11 @@ filled_opens {C} {V} number h ms r idle = record {
   ];
 }
 
+-- a root alone is filled, and calls that have not begun keep it so
 pub begun_filled : {C V : Type 0} (number : C → ℕ) (h : ℕ → Node V) (ms : List (Machine C V)) → FreshRoot h → ((i : ℕ) (m : Machine C V) → slice_get ms i ≡ Some m → IsNew m) → KeepsFilled number h ms
 begun_filled number h ms r new = record { tree = root_filled h r.alone.bare; calls = λ i m e. begin_fills number h m.kind m.given m.phase (new i m e).begins }
 
+-- with a call that has not begun in one place the tree stays filled, and the calls keep it so
 pub filled_begins : {C V : Type 0} (number : C → ℕ) (h : ℕ → Node V) (ms : List (Machine C V)) (i : ℕ) (new : Machine C V) → KeepsFilled number h ms → IsNew new → KeepsFilled number h (set ms i new)
 filled_begins {C} {V} number h ms i new f n = record {
   tree = f.tree;
@@ -61,6 +64,7 @@ filled_begins {C} {V} number h ms i new f n = record {
   ];
 }
 
+-- over a step that skipped no node the tree stays filled, and the calls keep it so
 pub filled_step : {C V : Type 0} (number : C → ℕ) (same : V → V → Bool) (always : Bool) (most : ℕ) (why : NodeType → Refusal → Type 0) (i : ℕ) (a : ℕ → Note) (h h' : ℕ → Node V) (ms : List (Machine C V)) (m m' : Machine C V) (d : Move V) (fail : Bool) (answer : Option (Option V))
     → ProtocolAt number same always a h ms → slice_get ms i ≡ Some m → Keeps number same always i a m h m' h' d → Stepped number same always most why m h fail answer m' h' d → d.skipped ≡ false → KeepsFilled number h ms → KeepsFilled number h' (set ms i m')
 filled_step {C} {V} number same always most why i a h h' ms m m' d fail answer p e k s skip f = record {
@@ -72,6 +76,7 @@ filled_step {C} {V} number same always most why i a h h' ms m m' d fail answer p
   ];
 }
 
+-- where nodes are destroyed that no call names, the tree stays filled, and the calls keep it so
 pub filled_spared : {C V : Type 0} (number : C → ℕ) (same : V → V → Bool) (always : Bool) (a : ℕ → Note) (h h' : ℕ → Node V) (ms : List (Machine C V)) → ProtocolAt number same always a h ms → Holdings number a h ms → Destroys number h ms h'
     → KeepsFilled number h ms → KeepsFilled number h' ms
 filled_spared number same always a h h' ms p s d f = record {

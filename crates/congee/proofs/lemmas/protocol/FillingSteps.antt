@@ -114,6 +114,7 @@ free_after {V} h c h' g n v e = elim (same_or_not n c) [
   | inr ne ↦ g.others n ne
 ]
 
+-- the lock of one node leaves prefix, children and places of each
 pub locked_alike : {V : Type 0} (h : ℕ → Node V) (c : ℕ) (h' : ℕ → Node V) → SameBut h c (record (h c) { locked = true }) h' → (n : ℕ) → Alike (h n) (h' n)
 locked_alike {V} h c h' g n = elim (same_or_not n c) [
   | inl e ↦ (let P : ℕ → Type 0 = λ y. Alike (h y) (h' y) in let Q : Node V → Type 0 = λ y. Alike (h c) y in

@@ -13,6 +13,7 @@ pub data Extra {V : Type 0} (a' : ℕ → Note) (h' : ℕ → Node V) (c d : ℕ
   a_value : d ≡ c → length (h' c).prefix ≡ 7 → child_for (h' c) key ≡ Holds v → Extra a' h' c d key v
   a_leaf : length (h' c).prefix < 7 → child_for (h' c) key ≡ Below d → Leaf h' d key v → (a' d).status ≡ Linked → (a' d).parent ≡ c → Extra a' h' c d key v
 
+-- before and after: a greater node c, with one child more, hangs below n in the place of the full node m
 pub record Grows {V : Type 0} (a : ℕ → Note) (h : ℕ → Node V) (a' : ℕ → Note) (h' : ℕ → Node V) (n m c d : ℕ) (key : List ℕ) (v : V) : Type 0 where
   pub linked : (a n).status ≡ Linked
   pub fitted : fits (h n).prefix key ≡ true
@@ -148,6 +149,7 @@ grow_leaf_seven : {V : Type 0} (a' : ℕ → Note) (h' : ℕ → Node V) (c d : 
 grow_leaf_seven a' h' c d key v (a_value q seven has) ne = absurd (ne q)
 grow_leaf_seven a' h' c d key v (a_leaf inner has leaf joined par) ne = leaf.seven
 
+-- the nodes are a tree after a full node gave way to a greater one
 pub grow_tree : {V : Type 0} (a : ℕ → Note) (h : ℕ → Node V) (a' : ℕ → Note) (h' : ℕ → Node V) (n m c d : ℕ) (key : List ℕ) (v : V) → Tree a h → Grows a h a' h' n m c d key v → Tree a' h'
 grow_tree a h a' h' n m c d key v t k =
     let g : Graft a h a' h' n (get_or key (length (h n).prefix) 0) = grow_graft a h a' h' n m c d key v k in
@@ -240,6 +242,7 @@ grow_below a h a' h' n m c d key v len t t' k x lx ne =
     ])
     (λ q. not_here h' 6 c x (rw k.same_prefix q) ∙ sym (not_here h 6 m x q))
 
+-- the key was absent and has its value after that, and every other key finds what it found
 pub grow_map : {V : Type 0} (a : ℕ → Note) (h : ℕ → Node V) (a' : ℕ → Note) (h' : ℕ → Node V) (n m c d : ℕ) (key : List ℕ) (v : V) → length key ≡ 8 → Tree a h → Grows a h a' h' n m c d key v
     → (value_at h key ≡ None) × (value_at h' key ≡ Some v) × ((k : List ℕ) → length k ≡ 8 → k ≢ key → value_at h' k ≡ value_at h k)
 grow_map a h a' h' n m c d key v len t k =

@@ -46,6 +46,7 @@ pub leads_linked : {V : Type 0} (a : ℕ → Note) (h : ℕ → Node V) → Tree
 leads_linked a h t [] n c l e = let P : ℕ → Type 0 = λ x. (a x).status ≡ Linked in subst P e l
 leads_linked a h t (b ∷ path) n c l e = leads_linked a h t path e.0 c (t.down n b e.0 l e.1).linked e.2
 
+-- no path leads to a node that isn't noted in the tree
 pub unlinked_out : {V : Type 0} (a : ℕ → Note) (h : ℕ → Node V) (n : ℕ) → Tree a h → ((a n).status ≡ Linked → ⊥) → IsOut h n
 unlinked_out a h n t u path e = u (leads_linked a h t path 0 n t.root e)
 
@@ -361,17 +362,21 @@ module _ {C V : Type 0} (number : C → ℕ) (same : V → V → Bool) (always :
 unfoldable pub giving : (ℕ → List ℕ) → ℕ → List ℕ → ℕ → List ℕ
 giving by i xs j = cond (j == i) xs (by j)
 
+-- the one call has these
 pub giving_here : (by : ℕ → List ℕ) (i : ℕ) (xs : List ℕ) → giving by i xs i ≡ xs
 unfolding giving
 giving_here by i xs = rw (same_test i i refl) refl
 
+-- every other call has what it had
 pub giving_apart : (by : ℕ → List ℕ) (i : ℕ) (xs : List ℕ) (j : ℕ) → j ≢ i → giving by i xs j ≡ by j
 unfolding giving
 giving_apart by i xs j e = rw (other_test j i e) refl
 
+-- a list that has something isn't empty
 pub some_of : (xs : List ℕ) (n : ℕ) → Contains xs n → xs ≢ []
 some_of xs n c e = let P : List ℕ → Type 0 = λ y. Contains y n in let z : Contains [] n = subst P e c in absurd (omega (arith, z.1))
 
+-- a list that has nothing is empty
 pub none_if : (xs : List ℕ) → ((n : ℕ) → Contains xs n → ⊥) → xs ≡ []
 none_if [] f = refl
 none_if (x ∷ xs) f = absurd (f x (0, omega arith, refl))
@@ -380,6 +385,7 @@ empty_or : (xs : List ℕ) → (xs ≡ []) ⊎ (xs ≢ [])
 empty_or [] = inl refl
 empty_or (x ∷ xs) = inr (λ e. cc)
 
+-- what stands in a place of a list is in the list
 pub at_place : (xs : List ℕ) (k n : ℕ) → slice_get xs k ≡ Some n → Contains xs n
 at_place xs k n e = (k, slice_get_within xs k n e, get_or_from_slice_get xs k n n e)
 
@@ -513,6 +519,7 @@ hands_more by h [] by1 h1 s by2 h2 r q =
     (by2, h2, subst P r.0 (subst Q r.1 q), (refl, refl))
 hands_more by h (x ∷ ss) by1 h1 s by2 h2 r q = (r.0, r.1, r.2, hands_more r.0 r.1 ss by1 h1 s by2 h2 r.3 q)
 
+-- over no steps nothing is handed over
 pub handing_none : {C V : Type 0} (h : ℕ → Node V) (ms : List (Machine C V)) (a : ℕ → Note) → Tree a h → LockWords a h → Handing (λ _. []) h [] h ms
 handing_none h ms a t w = record {
   run = (refl, refl);

@@ -25,10 +25,12 @@ use Rattle.congee.specs.protocol.Events.{SameBut, ChangeGives, TakeOverGives, Ba
 use Rattle.congee.specs.protocol.Steps.{BackOne, BackTwo, BackLeaf, MadeLeaf, MadeGreater, MadeTop, MadeBeside, MadeLesser, UpgradedOne, UpgradedTop, UpgradedAbove, UpgradedBelow, PutsLesser, Collapses, Lessens, MayLessen, MayTop, ChangedOne, ChangedTwo, PhaseStepped, MayStep, MayBackOne, MayBackTwo, MayBackLeaf, MayChangeOne, MayChangeTwo}
 use Rattle.congee.proofs.lemmas.Graft.{on_test}
 
+-- a used name stays used, and its node, if it was destroyed, as it is
 pub record StillAt {V : Type 0} (p q : Node V) : Type 0 where
   pub dead : p.destroyed ≡ true → q ≡ p
   pub used : q.made ≡ true
 
+-- each used name stays used, and what was destroyed stays as it is
 abbrev pub Still : {V : Type 0} → (ℕ → Node V) → (ℕ → Node V) → Type 0
 Still h h' = (n : ℕ) → (h n).made ≡ true → StillAt (h n) (h' n)
 

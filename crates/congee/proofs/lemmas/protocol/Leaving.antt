@@ -19,6 +19,7 @@ use Rattle.congee.proofs.lemmas.protocol.Giving.{step_loses}
 use Rattle.congee.proofs.lemmas.protocol.Lasting.{Still, step_still}
 use Rattle.congee.proofs.lemmas.protocol.Naming.{named, locked_in}
 
+-- a step leaves destroyed nodes and used names, takes out what was in reach, and destroys its own made nodes alone
 pub step_leaves : {C V : Type 0} (number : C → ℕ) (same : V → V → Bool) (always : Bool) (most : ℕ) (why : NodeType → Refusal → Type 0) (i : ℕ) (a : ℕ → Note) (h h' : ℕ → Node V) (ms : List (Machine C V)) (m m' : Machine C V) (d : Move V)
     (fail : Bool) (answer : Option (Option V)) → ProtocolAt number same always a h ms → Holdings number a h ms → slice_get ms i ≡ Some m
     → (k : Keeps number same always i a m h m' h' d) → Stepped number same always most why m h fail answer m' h' d → StepLeaves number i a k.notes h h' m m'

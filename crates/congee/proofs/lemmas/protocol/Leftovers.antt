@@ -9,6 +9,7 @@ kept_node Nothing n = refl
 kept_node (Below c) n = refl
 kept_node (Holds v) n = absurd (n v refl)
 
+-- nothing is left of what isn't a node
 pub kept_value : {V : Type 0} (x : Hung V) → ((c : ℕ) → x ≢ Below c) → kept x ≡ Nothing
 kept_value Nothing n = refl
 kept_value (Below c) n = absurd (n c refl)

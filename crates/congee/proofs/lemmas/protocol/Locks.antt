@@ -39,9 +39,11 @@ pub record Kept {C V : Type 0} (number : C → ℕ) (same : V → V → Bool) (a
 pub own_rely : {V : Type 0} (i : ℕ) (a : ℕ → Note) (h : ℕ → Node V) (a' : ℕ → Note) (h' : ℕ → Node V) → Effect i a h a' h' → Rely (λ _. Unit {0}) (suc i) a h a' h'
 own_rely i a h a' h' e = e.others (suc i) (λ z. omega (arith, z))
 
+-- what is true of a node as long as its word is the one taken stays so over the call's own step
 pub own_fresh : {V : Type 0} (i : ℕ) (a : ℕ → Note) (h : ℕ → Node V) (a' : ℕ → Note) (h' : ℕ → Node V) → Effect i a h a' h' → (n v : ℕ) (Q : Node V → Type 0) → Fresh a h n v Q → Fresh a' h' n v Q
 own_fresh i a h a' h' e n v Q f = fresh_kept (λ _. Unit {0}) (suc i) a h a' h' (own_rely i a h a' h' e) n v Q tt f
 
+-- a node that is or was in reach keeps its prefix over a call's own step
 pub own_prefix : {V : Type 0} (i : ℕ) (a : ℕ → Note) (h : ℕ → Node V) (a' : ℕ → Note) (h' : ℕ → Node V) → Effect i a h a' h' → (n : ℕ) → is_published (a n).status ≡ true → (h' n).prefix ≡ (h n).prefix
 own_prefix i a h a' h' e n p = (own_rely i a h a' h' e).prefix n tt p
 

@@ -52,11 +52,13 @@ pub record Backed {V : Type 0} (i : ℕ) (a : ℕ → Note) (h : ℕ → Node V)
   pub still : KeepsMap i a h notes h'
   pub keeps : (n : ℕ) → is_published (a n).status ≡ true → notes n ≡ a n
 
+-- where all nodes are as they were, none went back
 pub back_none : {V : Type 0} (i : ℕ) (a : ℕ → Note) (h : ℕ → Node V) (h' : ℕ → Node V) → Tree a h → LockWords a h → h' ≡ h → Backed i a h h'
 back_none {V} i a h h' t w e =
     let P : (ℕ → Node V) → Type 0 = λ g. Backed i a h g in
     subst P (sym e) (record { notes = a; still = record { effect = effect i a h a h w t refl (λ n. as_it_was refl refl); map = λ x _. refl }; keeps = λ n _. refl })
 
+-- one made node goes back
 pub back_node : {V : Type 0} (i : ℕ) (a : ℕ → Note) (h : ℕ → Node V) (key : List ℕ) (c size least : ℕ) (h' : ℕ → Node V) → Tree a h → LockWords a h → Made i a h key c size least → BackGives h c h' → Backed i a h h'
 back_node i a h key c size least h' t w m g = record {
   notes = backed a c;
@@ -64,6 +66,7 @@ back_node i a h key c size least h' t w m g = record {
   keeps = λ n p. noted_other a c _ n (λ e. made_apart i a h key c size least n m p (sym e));
 }
 
+-- two made nodes go back, one after the other
 pub back_nodes : {V : Type 0} (i : ℕ) (a : ℕ → Note) (h : ℕ → Node V) (key : List ℕ) (c size least d : ℕ) (h1 h' : ℕ → Node V) → Tree a h → LockWords a h → Made i a h key c size least → Made i a h key d 7 0 → c ≢ d
     → BackGives h d h1 → BackGives h1 c h' → Backed i a h h'
 back_nodes i a h key c size least d h1 h' t w mc md ne g k =
@@ -88,10 +91,12 @@ back_nodes i a h key c size least d h1 h' t w mc md ne g k =
       keeps = λ n p. noted_other (backed a d) c _ n (λ e. made_apart i a h key c size least n mc p (sym e)) ∙ noted_other a d _ n (λ e. made_apart i a h key d 7 0 n md p (sym e));
     }
 
+-- what was made for a change of one node goes back
 pub back_one : {C V : Type 0} (number : C → ℕ) (i : ℕ) (a : ℕ → Note) (h : ℕ → Node V) (key : List ℕ) (change : Single C) (h' : ℕ → Node V) → Tree a h → LockWords a h → MadeOne number i a h key change → BackOne number h change h' → Backed i a h h'
 back_one number i a h key Set h' t w m g = back_none i a h h' t w g
 back_one number i a h key (Link leaf) h' t w m g = back_node i a h key (number leaf) 7 0 h' t w m g
 
+-- what was made for a change of two nodes goes back
 pub back_two : {C V : Type 0} (number : C → ℕ) (i : ℕ) (a : ℕ → Note) (h : ℕ → Node V) (key : List ℕ) (p : Parent C) (change : Double C) (size q : ℕ) (h' : ℕ → Node V) → Tree a h → LockWords a h → MadeTwo number i a h key p change size q → BackTwo number h change h' → Backed i a h h'
 back_two number i a h key p Unlink size q h' t w m g = back_none i a h h' t w g
 back_two number i a h key p Collapse size q h' t w m g = back_none i a h h' t w g

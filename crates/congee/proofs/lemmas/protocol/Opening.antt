@@ -14,6 +14,7 @@ use Rattle.congee.proofs.lemmas.Fits.{equal}
 use Rattle.congee.proofs.lemmas.protocol.Touch.{by_test}
 use Rattle.congee.proofs.lemmas.protocol.Keyed.{begins_key}
 
+-- the notes of a tree that begins: the root is in the tree, and no other node was made
 unfoldable pub opened : ℕ → Note
 opened n = cond (n == 0) (record { status = Linked; owner = None; parent = 0 }) (record { status = Unmade; owner = None; parent = 0 })
 

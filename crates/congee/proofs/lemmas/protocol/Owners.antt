@@ -27,6 +27,7 @@ use Rattle.congee.specs.protocol.Holdings.{IsTop, LockedBy, MadeForOne, MadeForT
 use Rattle.congee.proofs.lemmas.Tree.{same_or_not}
 use Rattle.congee.proofs.lemmas.protocol.Holdings.{Holds_now}
 
+-- what stands in a list of which one place was set: the new there, and elsewhere what stood
 pub get_set : {A : Type 0} → (xs : List A) (i j : ℕ) (x y : A) → slice_get (set xs i x) j ≡ Some y → ((j ≡ i) × (x ≡ y)) ⊎ ((j ≢ i) × (slice_get xs j ≡ Some y))
 get_set [] i j x y e = absurd cc
 get_set (z ∷ xs) zero zero x y e = inl (refl, cc)
@@ -37,11 +38,13 @@ get_set (z ∷ xs) (suc i) (suc j) x y e = elim (get_set xs i j x y e) [
   | inr p ↦ inr ((λ q. p.0 (omega arith)), p.1)
 ]
 
+-- in the place that was set the new stands
 pub set_here : {A : Type 0} → (xs : List A) (i : ℕ) (x y : A) → slice_get xs i ≡ Some y → slice_get (set xs i x) i ≡ Some x
 set_here [] i x y e = absurd cc
 set_here (z ∷ xs) zero x y e = refl
 set_here (z ∷ xs) (suc i) x y e = set_here xs i x y e
 
+-- in every other place stands what stood
 pub set_apart : {A : Type 0} → (xs : List A) (i j : ℕ) (x y : A) → j ≢ i → slice_get xs j ≡ Some y → slice_get (set xs i x) j ≡ Some y
 set_apart [] i j x y ne e = absurd cc
 set_apart (z ∷ xs) zero zero x y ne e = absurd (ne refl)

@@ -55,6 +55,7 @@ module _ (a : ℕ → Note) (p m c d : ℕ) where
   unfolding parted
   parted_rest x nc nd nm = noted_other _ c _ x nc ∙ (noted_other _ d _ x nd ∙ noted_other a m _ x nm)
 
+-- a split changes the map at the key alone, and its call still holds the locks of both nodes
 pub split_changed : {V : Type 0} (i : ℕ) (a : ℕ → Note) (h : ℕ → Node V) (key : List ℕ) (p b m c d common byte : ℕ) (v : V) (h1 h2 h3 h' : ℕ → Node V)
     → length key ≡ 8 → Tree a h → LockWords a h → Holding i a p → fits (h p).prefix key ≡ true → b ≡ get_or key (length (h p).prefix) 0 → child_for (h p) key ≡ Below m
     → (a m).owner ≡ Some i → Parts (h m).prefix key common → byte ≡ get_or (h m).prefix common 0 → Made i a h key c common 1 → Made i a h key d 7 0 → c ≢ d

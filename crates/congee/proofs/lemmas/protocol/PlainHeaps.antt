@@ -23,24 +23,29 @@ use Rattle.congee.proofs.lemmas.owned.Joins.{front_fits}
 use Rattle.congee.proofs.lemmas.Graft.{on_test}
 use Rattle.congee.proofs.lemmas.Fits.{equal}
 
+-- a node that was made is one of the list
 pub made_within : (nodes : List PlainNode) (i : ℕ) → (plain_heap nodes i).made ≡ true → i < length nodes
 made_within [] i m = absurd (let z : false ≡ true = m in cc)
 made_within (x ∷ nodes) zero m = omega arith
 made_within (x ∷ nodes) (suc i) m = omega (arith, made_within nodes i m)
 
+-- a node that was made is the one in its place, whatever is read past the end
 pub heap_is : (nodes : List PlainNode) (i : ℕ) (z : PlainNode) → (plain_heap nodes i).made ≡ true → plain_heap nodes i ≡ plain_node_of (Some (get_or nodes i z))
 heap_is [] i z m = absurd (let q : false ≡ true = m in cc)
 heap_is (x ∷ nodes) zero z m = refl
 heap_is (x ∷ nodes) (suc i) z m = heap_is nodes i z m
 
+-- a node that was made is the one that was read in its place
 pub heap_at : (nodes : List PlainNode) (i : ℕ) (x : PlainNode) → (plain_heap nodes i).made ≡ true → x ≡ get_or nodes i x → plain_heap nodes i ≡ plain_node_of (Some x)
 heap_at nodes i x m e = heap_is nodes i x m ∙ ap (λ y. plain_node_of (Some y)) (sym e)
 
+-- a node that was set stands under its number
 pub heap_set : (nodes : List PlainNode) (i : ℕ) (y : PlainNode) → i < length nodes → plain_heap (set nodes i y) i ≡ plain_node_of (Some y)
 heap_set [] i y l = absurd (omega arith)
 heap_set (x ∷ nodes) zero y l = refl
 heap_set (x ∷ nodes) (suc i) y l = heap_set nodes i y (omega arith)
 
+-- every other node is as it was where one is set
 pub heap_beside : (nodes : List PlainNode) (i : ℕ) (y : PlainNode) (m : ℕ) → m ≢ i → plain_heap (set nodes i y) m ≡ plain_heap nodes m
 heap_beside [] i y m ne = refl
 heap_beside (x ∷ nodes) zero y zero ne = absurd (ne refl)
@@ -48,14 +53,17 @@ heap_beside (x ∷ nodes) zero y (suc m) ne = refl
 heap_beside (x ∷ nodes) (suc i) y zero ne = refl
 heap_beside (x ∷ nodes) (suc i) y (suc m) ne = heap_beside nodes i y m (λ e. ne (ap suc e))
 
+-- a node that comes last stands under the next number
 pub heap_push : (nodes : List PlainNode) (y : PlainNode) → plain_heap (nodes ++ y ∷ []) (length nodes) ≡ plain_node_of (Some y)
 heap_push [] y = refl
 heap_push (x ∷ nodes) y = heap_push nodes y
 
+-- under the next number no node was made
 pub heap_past : (nodes : List PlainNode) → plain_heap nodes (length nodes) ≡ plain_node_of None
 heap_past [] = refl
 heap_past (x ∷ nodes) = heap_past nodes
 
+-- every other node is as it was where one comes last
 pub heap_before : (nodes : List PlainNode) (y : PlainNode) (m : ℕ) → m ≢ length nodes → plain_heap (nodes ++ y ∷ []) m ≡ plain_heap nodes m
 heap_before [] y zero ne = absurd (ne refl)
 heap_before [] y (suc m) ne = refl
@@ -149,6 +157,7 @@ two_set nodes i n x y ne li ln = (
   λ m en ei. heap_beside (set nodes i x) n y m en ∙ heap_beside nodes i x m ei,
 )
 
+-- children go over to a node further back in the list, which was cut before that one
 pub handed_on : (nodes f k : List PlainNode) (size i n : ℕ) (z w x' y' : PlainNode) → size ≡ length nodes → f ≡ take n nodes → k ≡ drop n nodes → i < n
     → (plain_heap nodes i).made ≡ true → (plain_heap nodes n).made ≡ true → HandsOver (get_or f i z) (get_or k 0 w) x' y'
     → TakeOverGives (plain_heap nodes) i n (plain_heap (take size (set f i x' ++ set k 0 y' ++ drop (length (set f i x' ++ set k 0 y')) nodes)))
@@ -162,6 +171,7 @@ handed_on nodes f k size i n z w x' y' s ef ek l mi mn hands =
     let set_two = two_set nodes i n x' y' ne (made_within nodes i mi) ln in
     rw (written_back nodes f k size i n x' y' s ef ek l ln) (taken_over nodes i n _ _ x' y' from to hands _ set_two.0 set_two.1 set_two.2)
 
+-- children go over to a node further in front in the list, which was cut before the one that gives them
 pub handed_back : (nodes f k : List PlainNode) (size i n : ℕ) (z w x' y' : PlainNode) → size ≡ length nodes → f ≡ take i nodes → k ≡ drop i nodes → n < i
     → (plain_heap nodes i).made ≡ true → (plain_heap nodes n).made ≡ true → HandsOver (get_or k 0 z) (get_or f n w) x' y'
     → TakeOverGives (plain_heap nodes) i n (plain_heap (take size (set f n y' ++ set k 0 x' ++ drop (length (set f n y' ++ set k 0 x')) nodes)))
@@ -182,6 +192,7 @@ places_of N16 = refl
 places_of N48 = refl
 places_of N256 = refl
 
+-- a fresh node that comes last is a new one under the next number
 pub new_node : (nodes nodes' : List PlainNode) (name : ℕ) (y : PlainNode) (form : NodeType) (key : List ℕ) (size : ℕ) → name ≡ length nodes → nodes' ≡ nodes ++ y ∷ []
     → size ≤ length key → IsFresh y form (take size key) → NewNode (plain_heap nodes) name form key size (plain_heap nodes')
 new_node nodes nodes' name y form key size en es l f =
@@ -223,6 +234,7 @@ not_locked nodes i v most x fail ne m e taken = record {
   step = refl;
 }
 
+-- a node whose lock word is the one taken is locked, below the greatest version and where no exchange is to fail
 pub now_locked : (nodes : List PlainNode) (i v most : ℕ) (x z y : PlainNode) (fail : Bool) → fail ≡ false → v ≢ most → (plain_heap nodes i).made ≡ true → x ≡ get_or nodes i x → z ≡ get_or nodes i z
     → is_taken (plain_node_of (Some x)) v ≡ true → plain_node_of (Some y) ≡ record (plain_node_of (Some z)) { locked = true } → UpgradeGives most (plain_heap nodes) i v fail Locked (plain_heap (set nodes i y))
 now_locked nodes i v most x z y fail ef ne m e ez taken same = record {
@@ -260,6 +272,7 @@ other_of n b at c y two there apart fits e child =
       alone = λ x nb na. pair_alone n.children.items b at two (λ q. apart (sym q)) there (λ q. absurd (let z : Below c ≡ Nothing = sym below ∙ q in cc)) x nb na;
     }
 
+-- a node with two children has one beside that at the byte, in one of its 256 places
 pub none_other : (n : PlainNode) (b place : ℕ) → count_of n.children.items ≡ 2 → 256 ≤ place → ((q : ℕ) → q ≢ b → q < place → child_at n.children.items q ≡ Nothing) → ⊥
 none_other n b place two far before =
     let all : (q : ℕ) → q ≢ b → child_at n.children.items q ≡ Nothing = (λ q ne. elim (cases_lt q place) [

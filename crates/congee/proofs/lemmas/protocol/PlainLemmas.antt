@@ -9,33 +9,40 @@ use Rattle.congee.specs.Heap.{Nothing}
 use Rattle.congee.specs.protocol.Events.{hung, weight, kept}
 use Rattle.congee.specs.protocol.Plain.{is_there, count_of, child_at, NamesStay}
 
+-- places without a child have none with one more blank
 pub count_blank : (xs : List (Child ℕ ℕ)) → count_of xs ≡ 0 → count_of (xs ++ Blank ∷ []) ≡ 0
 count_blank xs e = sum_by_push (λ x. cond (is_there x) 1 0) xs Blank ∙ rw e refl
 
+-- places where nothing hangs are so with one more blank
 pub blank_more : (xs : List (Child ℕ ℕ)) → ((b : ℕ) → child_at xs b ≡ Nothing) → (b : ℕ) → child_at (xs ++ Blank ∷ []) b ≡ Nothing
 blank_more [] e zero = refl
 blank_more [] e (suc b) = refl
 blank_more (x ∷ xs) e zero = e 0
 blank_more (x ∷ xs) e (suc b) = blank_more xs (λ k. e (suc k)) b
 
+-- nothing hangs past the end of the places
 pub past : (xs : List (Child ℕ ℕ)) (b : ℕ) → length xs ≤ b → child_at xs b ≡ Nothing
 past [] b l = refl
 past (x ∷ xs) zero l = absurd (omega arith)
 past (x ∷ xs) (suc b) l = past xs b (omega arith)
 
+-- the same children hang alike
 pub same_hung : (x y : Child ℕ ℕ) → x ≡ y → hung (λ n. n) x ≡ hung (λ n. n) y
 same_hung x y e = ap (λ z. hung (λ n. n) z) e
 
+-- what is read in a place hangs at its byte
 pub child_is : (xs : List (Child ℕ ℕ)) (b : ℕ) (x : Child ℕ ℕ) → b < length xs → x ≡ get_or xs b x → hung (λ n. n) x ≡ child_at xs b
 child_is [] b x l e = absurd (omega arith)
 child_is (y ∷ xs) zero x l e = ap (λ z. hung (λ n. n) z) e
 child_is (y ∷ xs) (suc b) x l e = child_is xs b x (omega arith) e
 
+-- what is put in a place hangs at its byte
 pub child_set : (xs : List (Child ℕ ℕ)) (i : ℕ) (x : Child ℕ ℕ) → i < length xs → child_at (set xs i x) i ≡ hung (λ n. n) x
 child_set [] i x l = absurd (omega arith)
 child_set (y ∷ xs) zero x l = refl
 child_set (y ∷ xs) (suc i) x l = child_set xs i x (omega arith)
 
+-- at every other byte hangs what hung
 pub child_beside : (xs : List (Child ℕ ℕ)) (i : ℕ) (x : Child ℕ ℕ) (b : ℕ) → b ≢ i → child_at (set xs i x) b ≡ child_at xs b
 child_beside [] i x b ne = refl
 child_beside (y ∷ xs) zero x zero ne = absurd (ne refl)
@@ -43,11 +50,13 @@ child_beside (y ∷ xs) zero x (suc b) ne = refl
 child_beside (y ∷ xs) (suc i) x zero ne = refl
 child_beside (y ∷ xs) (suc i) x (suc b) ne = child_beside xs i x b (λ e. ne (ap suc e))
 
+-- what is in a place counts one, and a blank nothing
 pub weight_is : (x : Child ℕ ℕ) → weight (hung (λ n. n) x) ≡ cond (is_there x) 1 0
 weight_is Blank = refl
 weight_is (Node c) = refl
 weight_is (Value v) = refl
 
+-- how many children there are after one place was written
 pub count_set : (xs : List (Child ℕ ℕ)) (i : ℕ) (x : Child ℕ ℕ) → i < length xs
     → count_of (set xs i x) + weight (child_at xs i) ≡ count_of xs + weight (hung (λ n. n) x)
 count_set xs i x l = rw (weight_is x, weight_is (get_or xs i Blank)) (sum_by-set (λ y. cond (is_there y) 1 0) xs i x Blank l)
@@ -128,11 +137,13 @@ lacking (x ∷ xs) (suc i) l e = omega (arith, lacking xs i (omega arith) e, at_
 abbrev pub NamesBelow : ℕ → List (Child ℕ ℕ) → List (Child ℕ ℕ) → Type 0
 NamesBelow i from to = (b : ℕ) → b < i → child_at to b ≡ kept (child_at from b)
 
+-- what hangs at a byte within the places, whatever is read past their end
 pub child_any : (xs : List (Child ℕ ℕ)) (b : ℕ) (z : Child ℕ ℕ) → b < length xs → hung (λ n. n) (get_or xs b z) ≡ child_at xs b
 child_any [] b z l = absurd (omega arith)
 child_any (y ∷ xs) zero z l = refl
 child_any (y ∷ xs) (suc b) z l = child_any xs b z (omega arith)
 
+-- with one more place copied the names below the next bound are
 pub names_go : (from to : List (Child ℕ ℕ)) (i : ℕ) (z x : Child ℕ ℕ) → length from ≡ length to → i < length from
     → NamesBelow i from to → hung (λ n. n) x ≡ kept (hung (λ n. n) (get_or from i z)) → NamesBelow (i + 1) from (set to i x)
 names_go from to i z x same l before name b bound = elim (cases_lt b i) [
@@ -141,6 +152,7 @@ names_go from to i z x same l before name b bound = elim (cases_lt b i) [
       subst P e (child_set to i x (omega (arith, l, same)) ∙ name ∙ ap kept (child_any from i z l)))
 ]
 
+-- where the names in all places are copied, the same nodes hang at the same bytes
 pub names_end : (from to : List (Child ℕ ℕ)) → length from ≡ length to → NamesBelow (length from) from to → NamesStay from to
 names_end from to same below b = elim (cases_lt b (length from)) [
   | inl lt ↦ below b lt

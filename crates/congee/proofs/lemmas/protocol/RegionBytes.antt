@@ -28,6 +28,7 @@ ends_zero (suc n) d base e z =
     regroup : (q s : ℕ) → q * (256 * s) ≡ 256 * q * s
     regroup q s = omega arith
 
+-- the keys that begin with a prefix are those from its bytes on, filled up with zeros
 pub region_of : (bytes prefix : List ℕ) (base : ℕ) → length bytes ≡ 8 → length prefix ≤ 7 → take (length prefix) bytes ≡ prefix → ((j : ℕ) → get_or bytes j 0 < 256)
     → ((j : ℕ) → length prefix ≤ j → get_or bytes j 0 ≡ 0) → base ≡ from_be_bytes w64 bytes → base < 2 ^ 64 → IsRegion prefix base (length prefix)
 region_of bytes prefix base size short same low zeros e small =

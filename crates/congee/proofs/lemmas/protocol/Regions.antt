@@ -14,9 +14,11 @@ pow_pos : (n : ℕ) → 0 < 2 ^ n
 pow_pos zero = omega arith
 pow_pos (suc n) = let h = pow_pos n in let e : 2 ^ (n + 1) ≡ 2 ^ n * 2 ^ 1 = pow-add 2 n 1 in omega (arith, h, e)
 
+-- there is a key with any first bytes
 pub span_pos : (d : ℕ) → 0 < span d
 span_pos d = pow_pos (8 * (8 - d))
 
+-- 256 times as many keys have the same first bytes as have one byte more the same
 pub span_step : (d : ℕ) → d < 8 → span d ≡ 256 * span (d + 1)
 span_step d l =
     let e : 2 ^ (8 * (8 - d)) ≡ 2 ^ (8 * (8 - (d + 1)) + 8) = ap (λ n. 2 ^ n) (omega (arith, l)) in
@@ -37,6 +39,7 @@ between_one s a b l = elim (cases_lt b a) [
   | inr le ↦ le
 ]
 
+-- a number that another one divides is that one times the quotient
 pub multiple : (k s : ℕ) → k % s ≡ 0 → k / s * s ≡ k
 multiple k s e = let f : s * (k / s) + k % s ≡ k = div-add-mod k s in omega (arith, e, f)
 

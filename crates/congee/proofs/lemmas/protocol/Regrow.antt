@@ -15,9 +15,11 @@ use Rattle.congee.proofs.lemmas.protocol.Change.{Changed, StaysLocked, under_tou
 abbrev pub out_note : ℕ → ℕ → Note
 out_note i p = record { status = Gone; owner = Some i; parent = p }
 
+-- the note of a node that hangs below c now
 abbrev pub below_note : Note → ℕ → Note
 below_note x c = record { status = x.status; owner = x.owner; parent = c }
 
+-- the notes of all nodes: of c, of d, of m, of the children of m, and of the others
 unfoldable pub regrown : (ℕ → Note) → ℕ → ℕ → ℕ → ℕ → ℕ → ℕ → Note
 regrown a i p m c d x = cond (x == c) (joined p) (cond (x == d) (joined c) (cond (x == m) (out_note i p)
     (cond (is_published (a x).status && ((a x).parent == m)) (below_note (a x) c) (a x))))
@@ -98,6 +100,7 @@ more_touch : {V : Type 0} (i : ℕ) (a : ℕ → Note) (h : ℕ → Node V) (key
 more_touch i a h key p m c d h' (no_leaf e) ne = absurd (ne e)
 more_touch i a h key p m c d h' (new_leaf ne' k l) ne = joined_touch i a h _ h' key d 7 0 c k (regrown_leaf a i p m c d ne) l
 
+-- a full node that gives way to a greater one changes the map at the key alone, and is taken out under its lock
 pub regrow_changed : {V : Type 0} (i : ℕ) (a : ℕ → Note) (h : ℕ → Node V) (key : List ℕ) (p b m c d : ℕ) (v : V) (h' : ℕ → Node V)
     → length key ≡ 8 → Tree a h → LockWords a h → Regrows i a h key p b m c d v h'
     → Changed i a h key None (Some v) (regrown a i p m c d) h' × TakenOut i (regrown a i p m c d) h' p m

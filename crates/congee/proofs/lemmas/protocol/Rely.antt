@@ -25,6 +25,7 @@ use Rattle.congee.proofs.lemmas.protocol.Each.{Each, left, right}
 pub use Rattle.congee.proofs.lemmas.protocol.Seats.{seated_kept, fresh_kept, fits_kept, holding_kept, made_kept}
 use Rattle.congee.proofs.lemmas.protocol.SweepRely.{sweep_known_kept}
 
+-- where nothing changes, all stands that a call counts on
 pub rely_still : {V : Type 0} (K : ℕ → Type 0) (i : ℕ) (a : ℕ → Note) (h : ℕ → Node V) → Rely K i a h a h
 rely_still K i a h = record {
   version = λ n k p. omega arith;

@@ -74,6 +74,7 @@ module _ {C V : Type 0} (number : C → ℕ) (same : V → V → Bool) (always :
       | inr apart ↦ each j x apart.1
     ]
 
+-- what is settled stays so where a call that has not begun comes in the place of one that has ended
 pub begun_again : {C V : Type 0} (number : C → ℕ) (same : V → V → Bool) (always : Bool) (h : ℕ → Node V) (ms : List (Machine C V)) (i : ℕ) (old new : Machine C V)
     → Settled number same always h ms → slice_get ms i ≡ Some old → old.phase ≡ Ended → IsNew new → number new.root ≡ 0 → Settled number same always h (set ms i new)
 begun_again number same always h ms i old new s at over fresh z = (
@@ -82,6 +83,7 @@ begun_again number same always h ms i old new s at over fresh z = (
   held_on number same always s.0 h ms i old new at over s.2,
 )
 
+-- a root alone, with calls that have not begun or have ended, is settled
 pub opened_idle : {C V : Type 0} (number : C → ℕ) (same : V → V → Bool) (always : Bool) (h : ℕ → Node V) (ms : List (Machine C V)) → FreshRoot h
     → ((i : ℕ) (m : Machine C V) → slice_get ms i ≡ Some m → IsIdle number m) → Settled number same always h ms
 opened_idle number same always h ms fresh idle = (

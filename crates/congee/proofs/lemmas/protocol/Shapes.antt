@@ -70,6 +70,7 @@ asks_for ComputePresent e = tt
 asks_for ComputeInsert e = tt
 asks_for (Exchange x) e = absurd cc
 
+-- a call that puts no value at an absent key may answer there at once
 pub fair_absent : {V : Type 0} (kind : Kind V) (q : Question V) → adds kind ≡ false → Ripe (absent_reply kind) q
 fair_absent Get q e = tt
 fair_absent Insert q e = tt
@@ -286,6 +287,7 @@ top_shape : {C V : Type 0} (k : ℕ) (kind : Kind V) (v v' : Option V) (two : Tw
 top_shape k kind v v' two r None t x = Takes _ r x refl refl refl (ripe_at_work r)
 top_shape k kind v v' two r (Some top) t x = Takes _ r x refl refl refl (ripe_at_work r)
 
+-- a change of two nodes takes effect with the call's reply
 pub change_shape : {C V : Type 0} (k : ℕ) (kind : Kind V) (v v' : Option V) (two : Two C) (r : Reply V) (change : Double C) (t : NextPhase C V) → t ≡ after_change two r change → StepShape k kind v v v' (heeding r) t
 change_shape k kind v v' two r (Shrink c) t x = Takes _ r x refl refl refl (ripe_at_work r)
 change_shape k kind v v' two r Collapse t x = top_shape k kind v v' two r two.top t x
@@ -313,5 +315,6 @@ given_new_shape k plan None v v' t x = to k v v v' x.0 (Asked None) ComputeInser
 given_new_shape k plan (Some None) v v' t x = to k v v v' x.0 (Asked None) ComputeInsert _ t x.1 (wonders k v v v' x.0 (Asked None) ComputeInsert (AskNew plan) None tt refl)
 given_new_shape k plan (Some (Some y)) v v' t x = to k v (Some y) v' x.0 (Replied None) ComputeInsert _ t x.1 (starts k v (Some y) v' x.0 (Replied None) ComputeInsert plan _ refl)
 
+-- the closure's answer about an absent key: the call goes to work on it, or asks anew
 pub given_new_shape_at : {C V : Type 0} (k : ℕ) (kind : Kind V) (plan : Plan C) (told : Option (Option V)) (v v' : Option V) (t : NextPhase C V) → kind ≡ ComputeInsert → IsGivenNew plan told v v' t → StepShape k kind v (value_answered kind (Asked None) told v) v' (resolved kind (Asked None) told) t
 given_new_shape_at {C} {V} k kind plan told v v' t e x = let P : Kind V → Type 0 = λ y. StepShape k y v (value_answered y (Asked None) told v) v' (resolved y (Asked None) told) t in subst P (sym e) (given_new_shape k plan told v v' t x)

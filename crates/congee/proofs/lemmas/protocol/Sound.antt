@@ -34,9 +34,11 @@ pub record Sound {C V : Type 0} (number : C → ℕ) (same : V → V → Bool) (
   pub known : Known number same always i a' h' k (key_bytes k) kind given' t.phase
   pub answer : StepAnswers same k kind given h t h'
 
+-- a step that changes nothing has its effect
 pub same_effect : {V : Type 0} (i : ℕ) (a : ℕ → Note) (h : ℕ → Node V) → Tree a h → LockWords a h → Effect i a h a h
 same_effect i a h t w = effect i a h a h w t refl (λ n. as_it_was refl refl)
 
+-- what follows from what is true of a node as long as its word is the one taken is so too
 pub fresh_map : {V : Type 0} (a : ℕ → Note) (h : ℕ → Node V) (n v : ℕ) (Q R : Node V → Type 0) → (Q (h n) → R (h n)) → Fresh a h n v Q → Fresh a h n v R
 fresh_map a h n v Q R f s = record { seated = s.seated; holds = λ q. f (s.holds q) }
 

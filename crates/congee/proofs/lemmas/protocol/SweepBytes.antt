@@ -14,6 +14,7 @@ use Rattle.congee.proofs.lemmas.protocol.Regions.{span_pos, span_step, multiple_
 pub low_yes : {A : Type 0} (m n : ℕ) (x y : A) → m < n → cond (ltb m n) x y ≡ x
 low_yes m n x y l = let e : ltb m n ≡ true = grind (arith, nat_tests, l) in rw e refl
 
+-- the other case: the number isn't less
 pub low_no : {A : Type 0} (m n : ℕ) (x y : A) → n ≤ m → cond (ltb m n) x y ≡ y
 low_no m n x y l = let e : ltb m n ≡ false = grind (arith, nat_tests, l) in rw e refl
 

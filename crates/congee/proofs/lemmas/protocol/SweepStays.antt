@@ -24,6 +24,7 @@ use Rattle.congee.proofs.lemmas.protocol.SweepBytes.{is_some, inside_last, first
 use Rattle.congee.proofs.lemmas.protocol.SweepWays.{pick_false, pick_true, path_pushed, path_empty, path_last, path_count, rungs_longer, rungs_shorter}
 use Rattle.congee.proofs.lemmas.protocol.SweepKept.{child_deeper}
 
+-- numbers that fail the test of equality differ
 pub differ_of_test : (x y : ℕ) → (x == y) ≡ false → x ≢ y
 differ_of_test x y f e = let t : (x == y) ≡ true = same_test x y e in let z : true ≡ false = sym t ∙ f in absurd cc
 

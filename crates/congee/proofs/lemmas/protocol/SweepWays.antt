@@ -23,10 +23,12 @@ take_zero : {A : Type 0} (xs : List A) → take 0 xs ≡ []
 take_zero [] = refl
 take_zero (x ∷ xs) = refl
 
+-- a test that is false picks the second
 pub pick_false : {A : Type 0} (b : Bool) (x y : A) → b ≡ false → cond b x y ≡ y
 pick_false true x y e = absurd cc
 pick_false false x y e = refl
 
+-- a test that is true picks the first
 pub pick_true : {A : Type 0} (b : Bool) (x y : A) → b ≡ true → cond b x y ≡ x
 pick_true true x y e = refl
 pick_true false x y e = absurd cc

@@ -7,6 +7,7 @@ use Rattle.congee.specs.protocol.Protocol.{Fares, Effect}
 use Rattle.congee.proofs.lemmas.Fits.{both_true, same_test, other_test}
 use Rattle.congee.proofs.lemmas.Tree.{same_or_not, step_same}
 
+-- what holds of each of two, as a test comes out for it, holds of the one that the test picks
 pub by_test : {T : Type 0} (P : T → Type 0) (b : Bool) (x y : T) → (b ≡ true → P x) → (b ≡ false → P y) → P (cond b x y)
 by_test P true x y p q = p refl
 by_test P false x y p q = q refl
@@ -15,10 +16,12 @@ by_test P false x y p q = q refl
 unfoldable pub noted : (ℕ → Note) → ℕ → Note → ℕ → Note
 noted a n x m = cond (m == n) x (a m)
 
+-- the one node has this note
 pub noted_same : (a : ℕ → Note) (n : ℕ) (x : Note) → noted a n x n ≡ x
 unfolding noted
 noted_same a n x = rw (same_test n n refl) refl
 
+-- every other node has the note that it had
 pub noted_other : (a : ℕ → Note) (n : ℕ) (x : Note) (m : ℕ) → m ≢ n → noted a n x m ≡ a m
 unfolding noted
 noted_other a n x m e = rw (other_test m n e) refl
@@ -27,6 +30,7 @@ noted_other a n x m e = rw (other_test m n e) refl
 abbrev pub owned : Note → Option ℕ → Note
 owned x o = record { status = x.status; owner = o; parent = x.parent }
 
+-- the notes with another owner of one node
 abbrev pub own : (ℕ → Note) → ℕ → Option ℕ → ℕ → Note
 own a n o = noted a n (owned (a n) o)
 
@@ -121,6 +125,7 @@ fares_back i x y p q o s d = record {
   unmade = λ f. let z : Back ≡ Unmade = sym s ∙ f in absurd cc;
 }
 
+-- how a step of call i leaves a node: as it was, below another parent, changed under its lock, or out of reach
 pub data Touched {V : Type 0} (i : ℕ) (a : ℕ → Note) (h : ℕ → Node V) (a' : ℕ → Note) (h' : ℕ → Node V) (n : ℕ) : Type 0 where
   as_it_was : h' n ≡ h n → a' n ≡ a n → Touched i a h a' h' n
   moved : h' n ≡ h n → is_published (a n).status ≡ true → (a' n).status ≡ (a n).status → (a' n).owner ≡ (a n).owner → Touched i a h a' h' n
@@ -209,6 +214,7 @@ module _ {V : Type 0} (i : ℕ) (a : ℕ → Note) (h : ℕ → Node V) (a' : �
 pub taken_free : {V : Type 0} (n : Node V) (v : ℕ) → is_taken n v ≡ true → is_free n ≡ true
 taken_free n v t = (both_true (n.version == v) (is_free n) t).1
 
+-- the word of a locked node is none that was taken
 pub not_taken : {V : Type 0} (n : Node V) (v : ℕ) → n.locked ≡ true → is_taken n v ≡ true → ⊥
 not_taken n v l t = let f : is_free n ≡ true = taken_free n v t in
     let g : not n.locked ≡ true = (both_true (not n.locked) (not n.obsolete) f).0 in let k : not n.locked ≡ false = ap not l in cc
@@ -217,9 +223,11 @@ unlocked : (b : Bool) → not b ≡ true → b ≡ false
 unlocked true e = absurd cc
 unlocked false e = refl
 
+-- a node whose word is the one taken isn't locked
 pub taken_not_locked : {V : Type 0} (n : Node V) (v : ℕ) → is_taken n v ≡ true → n.locked ≡ false
 taken_not_locked n v t = unlocked n.locked (both_true (not n.locked) (not n.obsolete) (taken_free n v t)).0
 
+-- a locked node isn't free
 pub locked_not_free : {V : Type 0} (n : Node V) → n.locked ≡ true → is_free n ≡ false
 locked_not_free n l = rw l refl
 
@@ -227,6 +235,7 @@ locked_if : (b : Bool) → (b ≡ false → ⊥) → b ≡ true
 locked_if true f = refl
 locked_if false f = absurd (f refl)
 
+-- a node that a call owns is locked
 pub owner_locked : {V : Type 0} (a : ℕ → Note) (h : ℕ → Node V) → LockWords a h → (n i : ℕ) → (a n).owner ≡ Some i → (h n).locked ≡ true
 owner_locked a h w n i o = locked_if (h n).locked (λ f. let e : (a n).owner ≡ None = (w.each n).free f in cc)
 
@@ -239,6 +248,7 @@ linked_from Gone p g = absurd (g refl)
 linked_from Back p g = absurd cc
 linked_from Destroyed p g = absurd cc
 
+-- a node that is or was in reach, and whose word is the one taken, is in the tree
 pub taken_linked : {V : Type 0} (a : ℕ → Note) (h : ℕ → Node V) → LockWords a h → (n v : ℕ) → is_published (a n).status ≡ true → is_taken (h n) v ≡ true → (a n).status ≡ Linked
 taken_linked a h w n v p f = linked_from (a n).status p (λ g. let e : is_free (h n) ≡ false = (w.each n).gone g in let e' : is_free (h n) ≡ true = taken_free (h n) v f in cc)
 

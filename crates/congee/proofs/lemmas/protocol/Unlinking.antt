@@ -41,6 +41,7 @@ reached a h t (suc f) n lt l = elim (same_or_not n 0) [
       (r.0 ++ u.byte ∷ [], leads_more h r.0 0 (a n).parent u.byte n r.1 u.holds))
 ]
 
+-- a path from the root leads to a node that is noted in the tree
 pub linked_in : {V : Type 0} (a : ℕ → Note) (h : ℕ → Node V) (n : ℕ) → Tree a h → (a n).status ≡ Linked → InTree h n
 linked_in a h n t l = reached a h t (suc (length (h n).prefix)) n (omega arith) l
 
@@ -409,6 +410,7 @@ accounts number a h ms t o n s Unmade e = absurd (let z : true ≡ false = sym s
 accounts number a h ms t o n s Back e = absurd (let z : true ≡ false = sym (o.spent n (ap is_spent e)) ∙ s.kept in cc)
 accounts number a h ms t o n s Destroyed e = absurd (let z : true ≡ false = sym (o.spent n (ap is_spent e)) ∙ s.kept in cc)
 
+-- each node that stands is in the tree, waits, or is a call's between two of its steps
 pub accounted : {C V : Type 0} (number : C → ℕ) (a : ℕ → Note) (h : ℕ → Node V) (ms : List (Machine C V)) → Tree a h → Holdings number a h ms → Accounted number h ms
 accounted number a h ms t o n s = accounts number a h ms t o n s (a n).status refl
 
@@ -424,6 +426,7 @@ leaves_more {C} {V} took by h [] took1 by1 h1 s took2 by2 h2 r q b o =
     (took2, by2, h2, subst P r.0 (subst A r.2 q), subst Q r.1 (subst B r.2 b), subst R r.0 o, (refl, refl, refl))
 leaves_more took by h (x ∷ ss) took1 by1 h1 s took2 by2 h2 r q b o = (r.0, r.1, r.2, r.3, r.4, r.5, leaves_more r.0 r.1 r.2 ss took1 by1 h1 s took2 by2 h2 r.6 q b o)
 
+-- with one more step: what a run's calls took out, that they hand it over, and that no node is lost
 pub unlinking_more : {C V : Type 0} (number : C → ℕ) (by : ℕ → List ℕ) (h0 : ℕ → Node V) (ss : List (Step C V)) (h : ℕ → Node V) (ms : List (Machine C V)) (s : Step C V) (h' : ℕ → Node V) (ms' : List (Machine C V))
     (l : Leaving by ms) (hands : StepHands number h ms s.who h' ms') → StepTakes number h ms s.who h' ms' hands → Unlinking number by h0 ss h ms → Accounted number h' ms'
     → Unlinking number (hands by l).0 h0 (ss ++ s ∷ []) h' ms'
@@ -438,6 +441,7 @@ unlinking_more {C} {V} number by h0 ss h ms s h' ms' l hands takes u o =
       o,
     )
 
+-- over no steps nothing is taken out, where no call has anything that it took out
 pub unlinking_none : {C V : Type 0} (number : C → ℕ) (h : ℕ → Node V) (ms : List (Machine C V)) → ((i n : ℕ) (m : Machine C V) → slice_get ms i ≡ Some m → TakenBy number m.phase n → ⊥) → Accounted number h ms
     → Unlinking number (λ _. []) h [] h ms
 unlinking_none number h ms empty o = (

@@ -31,6 +31,7 @@ pub record Reworded {V : Type 0} (i : ℕ) (a : ℕ → Note) (h : ℕ → Node 
   pub word : WordAt (a' n) (h' n)
   pub fares : Fares i (a n) (a' n) (h n) (h' n)
 
+-- another owner, lock word or mark of one published node leaves the map
 pub reworded : {V : Type 0} (i : ℕ) (a : ℕ → Note) (h : ℕ → Node V) (a' : ℕ → Note) (h' : ℕ → Node V) (n : ℕ) → Tree a h → LockWords a h → Reworded i a h a' h' n → KeepsMap i a h a' h'
 reworded {V} i a h a' h' n t w r =
     let pr : (m : ℕ) → (h' m).prefix ≡ (h m).prefix = but_one (λ y z. y.prefix ≡ z.prefix) h h' n (λ x. refl) r.nodes r.prefix in
@@ -211,6 +212,7 @@ off_tree i a h a' h' c t o =
       };
     }
 
+-- a change of a node that isn't in reach leaves the map
 pub off_still : {V : Type 0} (i : ℕ) (a : ℕ → Note) (h : ℕ → Node V) (a' : ℕ → Note) (h' : ℕ → Node V) (c : ℕ) → Tree a h → LockWords a h → Off i a h a' h' c → KeepsMap i a h a' h'
 off_still i a h a' h' c t w o = record {
   effect = effect i a h a' h' w (off_tree i a h a' h' c t o)
@@ -223,6 +225,7 @@ off_still i a h a' h' c t w o = record {
 abbrev pub making : (ℕ → Note) → ℕ → ℕ → ℕ → Note
 making a i c = noted a c (record { status = Held i; owner = None; parent = 0 })
 
+-- a node that is made leaves the map
 pub make_still : {V : Type 0} (i : ℕ) (a : ℕ → Note) (h : ℕ → Node V) (c : ℕ) (form : NodeType) (key : List ℕ) (size : ℕ) (h' : ℕ → Node V) → Tree a h → LockWords a h → NewNode h c form key size h'
     → KeepsMap i a h (making a i c) h'
 make_still i a h c form key size h' t w g =
@@ -251,6 +254,7 @@ make_still i a h c form key size h' t w g =
 abbrev pub backed : (ℕ → Note) → ℕ → ℕ → Note
 backed a c = noted a c (record { status = Back; owner = None; parent = 0 })
 
+-- a made node that goes back leaves the map
 pub back_still : {V : Type 0} (i : ℕ) (a : ℕ → Note) (h : ℕ → Node V) (key : List ℕ) (c size least : ℕ) (h' : ℕ → Node V) → Tree a h → LockWords a h → Made i a h key c size least → BackGives h c h'
     → KeepsMap i a h (backed a c) h'
 back_still i a h key c size least h' t w m g =

@@ -18,9 +18,11 @@ use Rattle.crossbeam_epoch.specs.Face.Tokens.{with_guards, pinned_view}
 out_is : (n : ℕ) → 0 < n → nat_lt 0 n ≡ true
 out_is n out = lt-ltb 0 n out
 
+-- with a guard out, one more changes nothing that a handle knows
 pub more_guards : (n p a e s d : ℕ) → n ≢ 0 → with_guards (n + 1) p a e s d ≡ with_guards n p a e s d
 more_guards n p a e s d some = let x = out_is n (omega (arith, some)) in let y = out_is (n + 1) (omega arith) in rw (x, y) refl
 
+-- with guards out a handle's word is pinned by its epoch, and with none it is unpinned
 pub guarded : (n p a e s d : ℕ) (v : View) → v ≡ with_guards n p a e s d → IsPinned n e v
 guarded n p a e s d v is = go (nat_lt 0 n) refl
   where
@@ -54,6 +56,7 @@ read_under n p a e s d x m f v is read same one out = let h = out_is n (omega (a
 pub while_out : (n : ℕ) (A B : Type 0) → 0 < n → A → MatchBool (nat_lt 0 n) A B
 while_out n A B out a = let h = out_is n out in rw h a
 
+-- what holds where no guard is out
 pub with_none_out : (n : ℕ) (A B : Type 0) → ¬ (0 < n) → B → MatchBool (nat_lt 0 n) A B
 with_none_out n A B none b = go (nat_lt 0 n) refl
   where
@@ -61,10 +64,12 @@ with_none_out n A B none b = go (nat_lt 0 n) refl
     go true h = absurd (none (ltb-true 0 n h))
     go false h = rw h b
 
+-- what follows from what is told of a success is told of it too
 pub on_ok : {A E : Type 0} {P Q : Type 0} (r : Result A E) → (P → Q) → OnOk r P → OnOk r Q
 on_ok (Ok a) f p = f p
 on_ok (Err e) f p = tt
 
+-- what follows from what is told of an error is told of it too
 pub if_err : {A E : Type 0} {P Q : E → Type 0} (r : Result A E) → ((e : E) → P e → Q e) → IfErr r P → IfErr r Q
 if_err (Ok a) f p = tt
 if_err (Err e) f p = f e p
@@ -73,6 +78,7 @@ if_err (Err e) f p = f e p
 pub sealed_now : (b : Bool) (q r : ℕ) (before : Option Queued) (bag : Queued) → b ≡ true → bag.seal ≡ r → (q ≤ r) × (r ≤ q + 1) → SealsUnder b q before (Some bag)
 sealed_now b q r before bag sealed same within = rw sealed (subst (λ (s : ℕ). (q ≤ s) × (s ≤ q + 1)) (sym same) within)
 
+-- no bag was sealed, and the last seal is the one before
 pub not_sealed : (b : Bool) (q : ℕ) (before : Option Queued) → b ≡ false → SealsUnder b q before before
 not_sealed b q before none = rw none refl
 
@@ -107,6 +113,7 @@ has_room bag b is fits free =
     let y : nat_le bag_places (length bag) ≡ false = grind (arith, nat_tests, h, fits) in
     (rw x refl, y)
 
+-- a full bag has no free place, and an empty one is the bag that has
 pub has_no_room : {J : Type 0} (bag : List (Deferral J)) (b : Bool) → b ≡ nat_eq (length bag) bag_places → b ≡ true → (bag_places ≤ length bag) × ([] ≡ with_room bag)
 has_no_room bag b is full =
     let h : nat_eq (length bag) bag_places ≡ true = sym is ∙ full in
@@ -118,6 +125,7 @@ has_no_room bag b is full =
 pub pinned_with : (n p a e : ℕ) (v : View) → 0 < n → v ≡ pinned_view p a e e 0 → v ≡ with_guards n p a e v.seen v.passed
 pinned_with n p a e v out is = let h = out_is n out in rw h (subst (λ (u : View). u ≡ pinned_view p a e u.seen u.passed) (sym is) refl)
 
+-- what holds where one guard alone is out
 pub where_alone : (n : ℕ) (A B : Type 0) → n ≡ 1 → A → MatchBool (nat_eq n 1) A B
 where_alone n A B one a = let h : nat_eq n 1 ≡ true = grind (arith, nat_tests, one) in rw h a
 
@@ -125,6 +133,7 @@ where_alone n A B one a = let h : nat_eq n 1 ≡ true = grind (arith, nat_tests,
 pub own_guard : (b : Bool) (A B : Type 0) → b ≡ true → A → MatchBool b A B
 own_guard b A B own a = rw own a
 
+-- what holds where a guard isn't the handle's own
 pub other_guard : (b : Bool) (A B : Type 0) → b ≡ false → B → MatchBool b A B
 other_guard b A B other x = rw other x
 

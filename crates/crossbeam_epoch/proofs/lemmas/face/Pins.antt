@@ -410,5 +410,6 @@ placed_after v v' p n e f = subst (λ (x : View). x ≡ record { place = Some p;
 pub refused_after : (v v' : View) (n : ℕ) → v ≡ refused_view v.seen n → v' ≡ record v { asked = v.asked + 1; taken = v.taken + 1 } → v' ≡ refused_view v'.seen (n + 1)
 refused_after v v' n e f = subst (λ (x : View). x ≡ refused_view x.seen (n + 1)) (sym f) (subst (λ (x : View). ◌≡◌ {A = View} (record x { asked = x.asked + 1; taken = x.taken + 1 }) (refused_view x.seen (n + 1))) (sym e) refl)
 
+-- while a pin is confirmed the epoch is that one or one more, and no seal from then on is two behind what a seat has seen
 pub graceful : PinsHoldEpoch
 graceful places last s j k q seal v u r a b pin = let c = (r.seats j v a).confirmed q pin in let high = c.4 in let seen = (r.seats k u b).seen in (c.3, c.4, omega arith, λ late due. omega arith)

@@ -43,6 +43,7 @@ by_outcome s who (Begin op) called Done = by_begin who (place s who) op
 by_outcome s who Go called Running = by_phase s.epoch who (place s who).phase called
 by_outcome s who Go called Done = by_phase s.epoch who (place s who).phase called
 
+-- what a step marks is an act of its own participant
 pub step_by : {T J : Type 0} (s : State T J) (who : ℕ) (event : Event) (r : Report) → IsBy who (step_act s who event r)
 step_by s who event r = by_outcome s who event r.called r.outcome
 

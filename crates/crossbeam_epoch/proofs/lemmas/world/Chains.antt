@@ -25,6 +25,7 @@ nothing_in xs empty n long seen is = nil_from_length xs (grind (arith, nat_tests
 pub something_in : (empty : Bool) (n : ℕ) → empty ≡ (n == 0) → empty ≡ false → 0 < n
 something_in empty n seen isnt = grind (arith, nat_tests)
 
+-- a list of some length isn't empty
 pub not_nothing : {B : Type 0} (xs : List B) (n : ℕ) → n ≡ length xs → 0 < n → xs ≡ [] → ⊥
 not_nothing [] n long some is = omega (arith, long, some)
 not_nothing (x ∷ xs) n long some is = absurd (cc is)
@@ -79,6 +80,7 @@ pub nothing_first : {B : Type 0} (xs ys : List B) → xs ++ ys ≡ [] → xs ≡
 nothing_first [] ys none = refl
 nothing_first (x ∷ xs) ys none = absurd (cc none)
 
+-- the second of two lists that have nothing together has nothing
 pub nothing_last : {B : Type 0} (xs ys : List B) → xs ++ ys ≡ [] → ys ≡ []
 nothing_last [] ys none = none
 nothing_last (x ∷ xs) ys none = absurd (cc none)
@@ -93,6 +95,7 @@ taken_off (Some b) xs ys is rest = is
 pub some_seen : (n : ℕ) → 0 < n → false ≡ (n == 0)
 some_seen n some = grind (arith, nat_tests)
 
+-- a list without a bag is seen to be empty
 pub none_seen : {B : Type 0} (xs : List B) → xs ≡ [] → true ≡ (length xs == 0)
 none_seen xs none = rw none refl
 
@@ -119,6 +122,7 @@ freed_first cap len left room whole fits free within =
 pub left_none : {B : Type 0} (xs : List B) (room : ℕ) → xs ≡ [] → 0 ≡ room_left (length xs) room
 left_none xs room none = rw none refl
 
+-- with something left there is the room that was freed
 pub left_some : {B : Type 0} (xs : List B) (room : ℕ) → (length xs == 0) ≡ false → room_freed (length xs) room ≡ room_left (length xs) room
 left_some xs room some = rw some refl
 

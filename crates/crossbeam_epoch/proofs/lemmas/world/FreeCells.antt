@@ -40,12 +40,14 @@ no_bit false = refl
 pub in_list : {T : Type 0} (cells : List (Cell T)) (rest : List ℕ) (at most turn_max : ℕ) → FitsFree cells (rest ++ at ∷ []) most turn_max → is_reusable_at cells turn_max at ≡ true
 in_list cells rest at most turn_max f = one_is_true (is_reusable_at cells turn_max at) (times at rest) (sym (times_push_same rest at) ∙ f.each at)
 
+-- a cell that was used before may take a value: within both bounds, empty, with a turn left
 pub record Opens {T : Type 0} (cells : List (Cell T)) (at most turn_max : ℕ) : Type 0 where
   pub inside : at < length cells
   pub below : at < most
   pub empty : is_none (get_or cells at fresh).value ≡ true
   pub turns : (get_or cells at fresh).turns ≤ turn_max
 
+-- the last cell of the list of free cells may take a value
 pub opens : {T : Type 0} (cells : List (Cell T)) (rest : List ℕ) (at most turn_max : ℕ) → FitsFree cells (rest ++ at ∷ []) most turn_max → Opens cells at most turn_max
 opens cells rest at most turn_max f =
     let is = in_list cells rest at most turn_max f in
@@ -206,6 +208,7 @@ fits_none {T} most turn_max = record {
   few = omega arith;
 }
 
+-- what is seen to have a value has one
 pub some_of : {T : Type 0} (o : Option T) → is_some o ≡ true → (v : T) × (o ≡ Some v)
 some_of None e = absurd (cc e)
 some_of (Some v) e = (v, refl)

@@ -15,6 +15,7 @@ use Rattle.crossbeam_epoch.specs.World.Store.{Store}
 use Rattle.crossbeam_epoch.specs.World.Fits.{Fits, FitsAt, InPhase, IsSealed, IsCollecting, Bounds, AreAccepted, Once, at_place, in_bag, has_ticket, one}
 use Rattle.crossbeam_epoch.proofs.lemmas.world.Marks.{Goes}
 
+-- word and stretch keep their bounds at a later epoch, by one past the stretch's beginning at most
 pub bounds_later : (b w : Option ℕ) (n m : ℕ) → Bounds b w n → n ≤ m → ((e : ℕ) → b ≡ Some e → m ≤ e + 1) → Bounds b w m
 bounds_later None None n m o le top = tt
 bounds_later (Some b) (Some w) n m o le top = let t = top b refl in (o.0, omega arith, t)

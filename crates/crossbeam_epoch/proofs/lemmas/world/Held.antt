@@ -35,6 +35,7 @@ is_some_job (x ∷ xs) e = omega arith
 pub has_place : (n : ℕ) (b : Bool) → b ≡ (n == 64) → n ≤ 64 → b ≡ false → n < 64
 has_place n b is le none = let not_64 : (n == 64) ≡ false = sym is ∙ none in grind (arith, nat_tests)
 
+-- a bag that is told to be full has 64 jobs
 pub is_full_at : (n : ℕ) (b : Bool) → b ≡ (n == 64) → b ≡ true → n ≡ 64
 is_full_at n b is some = let at_64 : (n == 64) ≡ true = sym is ∙ some in grind (arith, nat_tests)
 
@@ -200,5 +201,6 @@ module _ {T J : Type 0} where
 pub fault_given : (A : Type 0) (x : Option Fault) (f : Fault) → x ≡ Some f → MatchOption x A (λ y. f ≡ y)
 fault_given A x f is = subst (λ z. MatchOption z A (λ y. f ≡ y)) (sym is) refl
 
+-- what holds where no fault is given
 pub none_given : (A : Type 0) (x : Option Fault) (f : Fault) → x ≡ None → A → MatchOption x A (λ y. f ≡ y)
 none_given A x f is a = subst (λ z. MatchOption z A (λ y. f ≡ y)) (sym is) a

@@ -28,9 +28,11 @@ over_other : {A : Type 0} (c : Bool) (a y : A) → c ≡ false → (if c then a 
 over_other true a y h = absurd (cc h)
 over_other false a y h = refl
 
+-- a history goes on without a mark
 pub goes_none : (h : List Mark) (epoch next who : ℕ) → Goes h epoch next who h
 goes_none h epoch next who = record { blocked = λ q t lt b. (b, refl); begun = λ q e n. inl n; same = λ q ne. refl; deferred = λ t n d. d }
 
+-- a history goes on with the beginning of a stretch
 pub goes_pinned : (h : List Mark) (epoch next who : ℕ) → Goes h epoch next who (Pinned who epoch ∷ h)
 goes_pinned h epoch next who = record {
   blocked = λ q t lt b. over_false (who == q) (blocks h q t) (Some epoch) (began h q) b;
@@ -39,6 +41,7 @@ goes_pinned h epoch next who = record {
   deferred = λ t n d. d;
 }
 
+-- a history goes on with the beginning anew of a stretch
 pub goes_repinned : (h : List Mark) (epoch next who : ℕ) → Goes h epoch next who (Repinned who epoch ∷ h)
 goes_repinned h epoch next who = record {
   blocked = λ q t lt b. over_false (who == q) (blocks h q t) (Some epoch) (began h q) b;
@@ -47,6 +50,7 @@ goes_repinned h epoch next who = record {
   deferred = λ t n d. d;
 }
 
+-- a history goes on with the end of a stretch
 pub goes_unpinned : (h : List Mark) (epoch next who : ℕ) → Goes h epoch next who (Unpinned who ∷ h)
 goes_unpinned h epoch next who = record {
   blocked = λ q t lt b. over_false (who == q) (blocks h q t) None (began h q) b;
@@ -55,6 +59,7 @@ goes_unpinned h epoch next who = record {
   deferred = λ t n d. d;
 }
 
+-- a history goes on with the deferral of a job, under the next ticket
 pub goes_deferred : (h : List Mark) (epoch next who : ℕ) (name : Option Name) → Goes h epoch next who (Deferred next name ∷ h)
 goes_deferred h epoch next who name = record {
   blocked = λ q t lt b.
@@ -65,5 +70,6 @@ goes_deferred h epoch next who name = record {
   deferred = λ t n d. inr d;
 }
 
+-- a history goes on with the call of a job
 pub goes_called : (h : List Mark) (epoch next who t : ℕ) (name : Option Name) → Goes h epoch next who (Called t name ∷ h)
 goes_called h epoch next who t name = record { blocked = λ q t' lt b. (b, refl); begun = λ q e n. inl n; same = λ q ne. refl; deferred = λ t n d. d }

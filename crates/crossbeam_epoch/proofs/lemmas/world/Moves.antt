@@ -38,9 +38,11 @@ began_again h who epoch = rw (eq-eqb who who refl)
 ended_itself : (h : List Mark) (who : ℕ) → began (Unpinned who ∷ h) who ≡ None
 ended_itself h who = rw (eq-eqb who who refl)
 
+-- nothing is in an empty list
 pub none_in : {A : Type 0} (x : A) → Contains [] x → ⊥
 none_in x m = let lt : m.0 < 0 = m.1 in omega arith
 
+-- what is in a list is in one with something more in front
 pub contains_tail : {A : Type 0} (x : A) (xs : List A) (y : A) → Contains xs y → Contains (x ∷ xs) y
 contains_tail x xs y m = (suc m.0, let lt = m.1 in omega arith, m.2)
 

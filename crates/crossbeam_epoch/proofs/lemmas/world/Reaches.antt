@@ -241,6 +241,7 @@ pub ended_by : {T J : Type 0} (names : T → List Name) (m : Moment) (h : List M
 ended_by names m [] s n now ends live gone = absurd now
 ended_by names m (b ∷ h) s n now ends live gone = ends.0 n (now.1 n ∙ live) gone
 
+-- a name that isn't destroyed now wasn't so at some moment
 pub live_was : {T J : Type 0} (names : T → List Name) (h : List Moment) (s : State T J) (n : Name) → IsNow names h s → is_some (value_at s.store n) ≡ true → WasLive h n
 live_was names [] s n now live = absurd now
 live_was names (m ∷ h) s n now live = inl (now.1 n ∙ live)

@@ -39,14 +39,17 @@ word_some : (w : Option ℕ) → is_none w ≡ false → (x : ℕ) × (w ≡ Som
 word_some None e = absurd (cc e)
 word_some (Some x) e = (x, refl)
 
+-- a word that is seen to be none is none
 pub word_none : (w : Option ℕ) → is_none w ≡ true → w ≡ None
 word_none None e = refl
 word_none (Some x) e = absurd (cc e)
 
+-- a word that isn't seen to be some is none
 pub not_some : (w : Option ℕ) → is_some w ≡ false → w ≡ None
 not_some None e = refl
 not_some (Some x) e = absurd (cc e)
 
+-- where there is no fault, the participant is known and has none further
 pub known : (b : Bool) (x : Option Fault) → (if b then x else Some F.Unknown) ≡ None → (b ≡ true) × (x ≡ None)
 known true x e = (refl, e)
 known false x e = absurd (cc e)
@@ -55,6 +58,7 @@ no_quiet : (next : ℕ) (q : Option Fault) → or_count next q ≡ None → q �
 no_quiet next None e = refl
 no_quiet next (Some f) e = absurd (cc e)
 
+-- where a removal has no fault, its deferral has none
 pub no_destroy_fault : (b : Bool) (x : Option Fault) → (if b then x else Some F.Unknown) ≡ None → x ≡ None
 no_destroy_fault true x e = e
 no_destroy_fault false x e = absurd (cc e)

@@ -206,6 +206,7 @@ module _ {T J : Type 0} where
   run_orderly s (step ∷ steps) [] o are = o
   run_orderly s (step ∷ steps) (r ∷ reports) o are = run_orderly (after s step.who step.event r.outcome) steps reports (moves s step.who step.event r o are.0).orderly are.1
 
+-- of a new store no destruction was told
 pub opened_once : (T : Type 0) (most turn_max : ℕ) → DestroyedOnce [] (opened_store {T = T} most turn_max)
 opened_once T most turn_max = λ n.
     let st : Store T = opened_store most turn_max in

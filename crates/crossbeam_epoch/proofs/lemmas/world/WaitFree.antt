@@ -71,6 +71,7 @@ some_steps w O.Flush = omega arith
 some_steps w O.Release = omega arith
 some_steps w (O.Secure n) = omega arith
 
+-- no call has more steps than 527 and one for each place
 pub at_most : (w : ℕ) (op : Op) → most_steps w op ≤ w + 527
 at_most w O.Pin = omega arith
 at_most w O.Unpin = omega arith

@@ -38,6 +38,7 @@ goes_push : (who n : ℕ) → go_steps who n ++ (record { who = who; event = Go 
 goes_push who zero = refl
 goes_push who (suc n) = ap (λ (xs : List Step). (record { who = who; event = Go }) ∷ xs) (goes_push who n)
 
+-- the steps of a call are its begin and the next ones
 pub from_front : (who : ℕ) (op : Op) (n : ℕ) → call_steps who op (suc n) ≡ (record { who = who; event = Begin op }) ∷ go_steps who n
 from_front who op zero = refl
 from_front who op (suc n) =

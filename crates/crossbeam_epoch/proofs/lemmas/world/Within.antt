@@ -19,6 +19,7 @@ pub when_ok : {A E : Type 0} {X : Type 0} (r : Result A E) (failed : Bool) → f
 when_ok (Ok x) failed is succeeded given = given
 when_ok (Err e) failed is succeeded given = absurd (cc (is, succeeded))
 
+-- what a call that failed gave
 pub when_err : {A E : Type 0} {X : Type 0} (r : Result A E) (failed : Bool) → failed ≡ is_err r → failed ≡ true → OnErr r X → X
 when_err (Ok x) failed is so given = absurd (cc (is, so))
 when_err (Err e) failed is so given = given
