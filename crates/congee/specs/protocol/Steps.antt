@@ -502,13 +502,19 @@ PhaseStepped {C} {V} number same always most why root key kind fail answer new (
 PhaseStepped number same always most why root key kind fail answer new Ended h new' t h' =
     (h' ≡ h) × (new' ≡ new) × (t ≡ quiet Ended)
 
+-- the same of a call, which is a record of what a step looks at: its root, key and kind, its new value and its phase
+abbrev pub MachineStepped : {C V : Type 0} → (C → ℕ) → (V → V → Bool) → Bool → ℕ → (NodeType → Refusal → Type 0) → Machine C V → (ℕ → Node V) → Bool → Option (Option V)
+    → Machine C V → (ℕ → Node V) → Move V → Type 0
+MachineStepped number same always most why m h fail answer m' h' d =
+    PhaseStepped number same always most why m.root (key_bytes m.key) m.kind fail answer m.given m.phase h m'.given (next_phase_of m'.phase d) h'
+
 -- a step of a call
 pub record Stepped {C V : Type 0} (number : C → ℕ) (same : V → V → Bool) (always : Bool) (most : ℕ) (why : NodeType → Refusal → Type 0) (m : Machine C V) (h : ℕ → Node V)
     (fail : Bool) (answer : Option (Option V)) (m' : Machine C V) (h' : ℕ → Node V) (d : Move V) : Type 0 where
   pub root : m'.root ≡ m.root
   pub key : m'.key ≡ m.key
   pub kind : m'.kind ≡ m.kind
-  pub step : PhaseStepped number same always most why m.root (key_bytes m.key) m.kind fail answer m.given m.phase h m'.given (record { phase = m'.phase; report = d }) h'
+  pub step : MachineStepped number same always most why m h fail answer m' h' d
 
 -- a phase in which a call unlocks a node, or has ended
 abbrev pub IsUnlocking : {C V : Type 0} → Phase C V → Type 0
@@ -675,3 +681,7 @@ MayStep number root key new (AskOld s v) h = Unit {0}
 MayStep number root key new (AskNew plan) h = Unit {0}
 MayStep number root key new (Sweep s) h = MaySweep number root s h
 MayStep number root key new Ended h = Unit {0}
+
+-- the same of a call
+abbrev pub MachineMayStep : {C V : Type 0} → (C → ℕ) → Machine C V → (ℕ → Node V) → Type 0
+MachineMayStep number m h = MayStep number m.root (key_bytes m.key) m.given m.phase h

@@ -2,7 +2,7 @@
 ghost use Rattle.std.specs.Prelude.{◌≡◌, ◌≢◌, ◌<◌, ◌≤◌, Bool, Option, None, Result, IfErr};
 ghost use Rattle.congee.specs.Heap.{Nothing, Below, Stands};
 ghost use Rattle.congee.specs.Keys.{key_bytes};
-ghost use Rattle.congee.specs.protocol.Steps.{next_phase_of, form_above, decided, after_change, Acts, MayLock, IsReleasing, IsUnlocking, BackOne, BackTwo, MadeLeaf, MadeGreater, MadeTop, MadeBeside, MadeLesser, lesser_form, UpgradedOne, UpgradedTop, UpgradedAbove, UpgradedBelow, Collapses, PutsLesser, Lessens, MayLessen, MayTop, ChangedOne, ChangedTwo, IsCheckedAbove, MayStep, MayBackOne, MayBackTwo, MayBackLeaf, MayChangeOne, MayChangeTwo, Changeable, Blank, PutsGreater, PutsFork, PhaseStepped};
+ghost use Rattle.congee.specs.protocol.Steps.{next_phase_of, form_above, decided, after_change, Acts, MayLock, IsReleasing, IsUnlocking, BackOne, BackTwo, MadeLeaf, MadeGreater, MadeTop, MadeBeside, MadeLesser, lesser_form, UpgradedOne, UpgradedTop, UpgradedAbove, UpgradedBelow, Collapses, PutsLesser, Lessens, MayLessen, MayTop, ChangedOne, ChangedTwo, IsCheckedAbove, MayBackOne, MayBackTwo, MayBackLeaf, MayChangeOne, MayChangeTwo, Changeable, Blank, PutsGreater, PutsFork, MachineStepped, MachineMayStep};
 ghost use Rattle.congee.specs.protocol.Events.{hung, upgrade_gives, HoldsAlike};
 ghost use Rattle.congee.specs.declared.protocol.store.Upgrade.{Upgrade};
 ghost use Rattle.congee.specs.declared.protocol.store.Refusal.{Refusal};
@@ -24,7 +24,7 @@ use judge::{Payload, Reply};
 impl<C: NodeName, P: Payload> Machine<C, P> {
     /// The step of a phase that makes, locks or changes nodes, or of a later one.
     pub(crate) fn act<S: Store<C, P>>(&mut self, store: &mut S, fail: bool) -> Move<P>
-        requires may { MayStep C.number self.old.root (key_bytes self.old.key) self.old.given self.old.phase (S.heap store.old) }
+        requires may { MachineMayStep C.number self.old (S.heap store.old) }
         requires acts { Acts self.old.phase }
         requires within { Within (S.version_max store.old) (S.heap store.old) }
         ensures root { self.new.root ≡ self.old.root }
@@ -32,7 +32,7 @@ impl<C: NodeName, P: Payload> Machine<C, P> {
         ensures kind { self.new.kind ≡ self.old.kind }
         ensures limit { S.version_max store.new ≡ S.version_max store.old }
         ensures rest { S.rest store.new ≡ S.rest store.old }
-        ensures step { (answer : Option (Option P)) → PhaseStepped C.number P.same_as P.always_copies (S.version_max store.old) (S.refuses store.old) self.old.root (key_bytes self.old.key) self.old.kind fail answer self.old.given self.old.phase (S.heap store.old) self.new.given (next_phase_of self.new.phase result) (S.heap store.new) }
+        ensures step { (answer : Option (Option P)) → MachineStepped C.number P.same_as P.always_copies (S.version_max store.old) (S.refuses store.old) self.old (S.heap store.old) fail answer self.new (S.heap store.new) result }
     {
         match &mut self.phase {
             Phase::MakeLeaf { site } => {
@@ -78,7 +78,7 @@ impl<C: NodeName, P: Payload> Machine<C, P> {
 
     /// The step of a phase that locks or changes nodes, or of a later one.
     fn lock<S: Store<C, P>>(&mut self, store: &mut S, fail: bool) -> Move<P>
-        requires may { MayStep C.number self.old.root (key_bytes self.old.key) self.old.given self.old.phase (S.heap store.old) }
+        requires may { MachineMayStep C.number self.old (S.heap store.old) }
         requires may_lock { MayLock self.old.phase }
         requires within { Within (S.version_max store.old) (S.heap store.old) }
         ensures root { self.new.root ≡ self.old.root }
@@ -86,7 +86,7 @@ impl<C: NodeName, P: Payload> Machine<C, P> {
         ensures kind { self.new.kind ≡ self.old.kind }
         ensures limit { S.version_max store.new ≡ S.version_max store.old }
         ensures rest { S.rest store.new ≡ S.rest store.old }
-        ensures step { (answer : Option (Option P)) → PhaseStepped C.number P.same_as P.always_copies (S.version_max store.old) (S.refuses store.old) self.old.root (key_bytes self.old.key) self.old.kind fail answer self.old.given self.old.phase (S.heap store.old) self.new.given (next_phase_of self.new.phase result) (S.heap store.new) }
+        ensures step { (answer : Option (Option P)) → MachineStepped C.number P.same_as P.always_copies (S.version_max store.old) (S.refuses store.old) self.old (S.heap store.old) fail answer self.new (S.heap store.new) result }
     {
         match &mut self.phase {
             Phase::CheckAbove { above, one, reply } => {
@@ -124,13 +124,13 @@ impl<C: NodeName, P: Payload> Machine<C, P> {
 
     /// The step of a phase that marks or hands over a node, or of a later one.
     fn leave<S: Store<C, P>>(&mut self, store: &mut S) -> Move<P>
-        requires may { MayStep C.number self.old.root (key_bytes self.old.key) self.old.given self.old.phase (S.heap store.old) }
+        requires may { MachineMayStep C.number self.old (S.heap store.old) }
         requires leaves { IsReleasing self.old.phase }
         requires within { Within (S.version_max store.old) (S.heap store.old) }
         ensures phase_alone { self.new ≡ record self.old { phase = self.new.phase } }
         ensures limit { S.version_max store.new ≡ S.version_max store.old }
         ensures rest { S.rest store.new ≡ S.rest store.old }
-        ensures step { (fail : Bool) (answer : Option (Option P)) → PhaseStepped C.number P.same_as P.always_copies (S.version_max store.old) (S.refuses store.old) self.old.root (key_bytes self.old.key) self.old.kind fail answer self.old.given self.old.phase (S.heap store.old) self.new.given (next_phase_of self.new.phase result) (S.heap store.new) }
+        ensures step { (fail : Bool) (answer : Option (Option P)) → MachineStepped C.number P.same_as P.always_copies (S.version_max store.old) (S.refuses store.old) self.old (S.heap store.old) fail answer self.new (S.heap store.new) result }
     {
         match &mut self.phase {
             Phase::Obsolete {
@@ -165,13 +165,13 @@ impl<C: NodeName, P: Payload> Machine<C, P> {
 
     /// The step of a phase that unlocks a node, or of a call that has ended.
     fn release<S: Store<C, P>>(&mut self, store: &mut S) -> Move<P>
-        requires may { MayStep C.number self.old.root (key_bytes self.old.key) self.old.given self.old.phase (S.heap store.old) }
+        requires may { MachineMayStep C.number self.old (S.heap store.old) }
         requires unlocks { IsUnlocking self.old.phase }
         requires within { Within (S.version_max store.old) (S.heap store.old) }
         ensures phase_alone { self.new ≡ record self.old { phase = self.new.phase } }
         ensures limit { S.version_max store.new ≡ S.version_max store.old }
         ensures rest { S.rest store.new ≡ S.rest store.old }
-        ensures step { (fail : Bool) (answer : Option (Option P)) → PhaseStepped C.number P.same_as P.always_copies (S.version_max store.old) (S.refuses store.old) self.old.root (key_bytes self.old.key) self.old.kind fail answer self.old.given self.old.phase (S.heap store.old) self.new.given (next_phase_of self.new.phase result) (S.heap store.new) }
+        ensures step { (fail : Bool) (answer : Option (Option P)) → MachineStepped C.number P.same_as P.always_copies (S.version_max store.old) (S.refuses store.old) self.old (S.heap store.old) fail answer self.new (S.heap store.new) result }
     {
         match &mut self.phase {
             Phase::UnlockBelow { node, above, reply } => {

@@ -5,8 +5,7 @@ ghost use Rattle.congee.specs.protocol.Answers.{KeepsProtocol};
 ghost use Rattle.congee.specs.protocol.Names.{KeepsOrigin};
 ghost use Rattle.congee.specs.protocol.Play.{begun, flight, range_of, IsNew, IsOfRange, Begins};
 ghost use Rattle.congee.specs.protocol.Opening.{RootAlone};
-ghost use Rattle.congee.specs.Keys.{key_bytes};
-ghost use Rattle.congee.specs.protocol.Steps.{next_phase_of, quiet, answered, refused, after_miss, IsIf, IsChecked, IsAtOld, IsGiven, IsGivenNew, MayStep, PhaseStepped, Stepped, HasValue, Settles};
+ghost use Rattle.congee.specs.protocol.Steps.{next_phase_of, quiet, answered, refused, after_miss, IsIf, IsChecked, IsAtOld, IsGiven, IsGivenNew, Stepped, HasValue, Settles, MachineStepped, MachineMayStep};
 ghost use Rattle.congee.specs.declared.protocol.store.Refusal.TheVariants as refusal;
 ghost use Rattle.congee.specs.declared.protocol.phase.Phase.TheVariants as phase;
 ghost use Rattle.congee.specs.protocol.Bounds.{Within};
@@ -108,7 +107,7 @@ impl<C: NodeName, P: Payload> Machine<C, P> {
     /// The next step of the call.
     #[inline(always)]
     pub fn next<S: Store<C, P>>(&mut self, store: &mut S, mut noise: Noise<C, P>) -> Move<P>
-        requires may { MayStep C.number self.old.root (key_bytes self.old.key) self.old.given self.old.phase (S.heap store.old) }
+        requires may { MachineMayStep C.number self.old (S.heap store.old) }
         requires within { Within (S.version_max store.old) (S.heap store.old) }
         ensures limit { S.version_max store.new ≡ S.version_max store.old }
         ensures rest { S.rest store.new ≡ S.rest store.old }
@@ -127,14 +126,14 @@ impl<C: NodeName, P: Payload> Machine<C, P> {
     /// The step of a phase: of one on the call's way down, of a scan, or of a later one. The phase is changed where it lies,
     /// and a scan in it too.
     fn step_phase<S: Store<C, P>>(&mut self, store: &mut S, noise: &mut Noise<C, P>) -> Move<P>
-        requires may { MayStep C.number self.old.root (key_bytes self.old.key) self.old.given self.old.phase (S.heap store.old) }
+        requires may { MachineMayStep C.number self.old (S.heap store.old) }
         requires within { Within (S.version_max store.old) (S.heap store.old) }
         ensures root { self.new.root ≡ self.old.root }
         ensures key { self.new.key ≡ self.old.key }
         ensures kind { self.new.kind ≡ self.old.kind }
         ensures limit { S.version_max store.new ≡ S.version_max store.old }
         ensures rest { S.rest store.new ≡ S.rest store.old }
-        ensures step { PhaseStepped C.number P.same_as P.always_copies (S.version_max store.old) (S.refuses store.old) self.old.root (key_bytes self.old.key) self.old.kind noise.old.fail noise.old.answer self.old.given self.old.phase (S.heap store.old) self.new.given (next_phase_of self.new.phase result) (S.heap store.new) }
+        ensures step { MachineStepped C.number P.same_as P.always_copies (S.version_max store.old) (S.refuses store.old) self.old (S.heap store.old) noise.old.fail noise.old.answer self.new (S.heap store.new) result }
     {
         let root = self.root;
         match &mut self.phase {
@@ -168,7 +167,7 @@ impl<C: NodeName, P: Payload> Machine<C, P> {
 
     /// The step of a phase that checks once more or takes an answer, or of a later one.
     fn settle<S: Store<C, P>>(&mut self, store: &mut S, noise: &mut Noise<C, P>) -> Move<P>
-        requires may { MayStep C.number self.old.root (key_bytes self.old.key) self.old.given self.old.phase (S.heap store.old) }
+        requires may { MachineMayStep C.number self.old (S.heap store.old) }
         requires settles { Settles self.old.phase }
         requires within { Within (S.version_max store.old) (S.heap store.old) }
         ensures root { self.new.root ≡ self.old.root }
@@ -176,7 +175,7 @@ impl<C: NodeName, P: Payload> Machine<C, P> {
         ensures kind { self.new.kind ≡ self.old.kind }
         ensures limit { S.version_max store.new ≡ S.version_max store.old }
         ensures rest { S.rest store.new ≡ S.rest store.old }
-        ensures step { PhaseStepped C.number P.same_as P.always_copies (S.version_max store.old) (S.refuses store.old) self.old.root (key_bytes self.old.key) self.old.kind noise.old.fail noise.old.answer self.old.given self.old.phase (S.heap store.old) self.new.given (next_phase_of self.new.phase result) (S.heap store.new) }
+        ensures step { MachineStepped C.number P.same_as P.always_copies (S.version_max store.old) (S.refuses store.old) self.old (S.heap store.old) noise.old.fail noise.old.answer self.new (S.heap store.new) result }
     {
         match &mut self.phase {
             Phase::CheckUncopied { at } => {
@@ -208,12 +207,12 @@ impl<C: NodeName, P: Payload> Machine<C, P> {
 
     /// The step of a phase that has the value that stands, which is taken out of it.
     fn at_value<S: Store<C, P>>(&mut self, store: &S, noise: &mut Noise<C, P>) -> Move<P>
-        requires may { MayStep C.number self.old.root (key_bytes self.old.key) self.old.given self.old.phase (S.heap store.now) }
+        requires may { MachineMayStep C.number self.old (S.heap store.now) }
         requires value { HasValue self.old.phase }
         ensures root { self.new.root ≡ self.old.root }
         ensures key { self.new.key ≡ self.old.key }
         ensures kind { self.new.kind ≡ self.old.kind }
-        ensures step { PhaseStepped C.number P.same_as P.always_copies (S.version_max store.now) (S.refuses store.now) self.old.root (key_bytes self.old.key) self.old.kind noise.old.fail noise.old.answer self.old.given self.old.phase (S.heap store.now) self.new.given (next_phase_of self.new.phase result) (S.heap store.now) }
+        ensures step { MachineStepped C.number P.same_as P.always_copies (S.version_max store.now) (S.refuses store.now) self.old (S.heap store.now) noise.old.fail noise.old.answer self.new (S.heap store.now) result }
     {
         match mem::replace(&mut self.phase, Phase::Ended) {
             Phase::CheckOld { above, site, old } => self.check_old(store, above, site, old),
