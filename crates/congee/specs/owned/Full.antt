@@ -27,6 +27,7 @@ module _ {P : Type 0} where
   lacks None = 0
   lacks (Some x) = fewest (form_of x) (length (prefix_of x)) - map.len (children_of x)
 
+  -- how many those in a list lack
   abbrev pub lacks_all : List (Option (Node ℕ P)) → ℕ
   lacks_all [] = 0
   lacks_all (o ∷ r) = lacks o + lacks_all r
@@ -39,6 +40,7 @@ module _ {P : Type 0} where
   abbrev pub FilledIn : ℕ → Node ℕ P → Type 0
   FilledIn capacity x = FilledAs (length (prefix_of x)) (map.len (children_of x)) capacity
 
+  -- those of its own form
   abbrev pub HasEnough : Node ℕ P → Type 0
   HasEnough x = FilledIn (capacity_of (form_of x)) x
 
