@@ -40,7 +40,6 @@ module _ {P : Type 0} where
   abbrev pub FilledIn : ℕ → Node ℕ P → Type 0
   FilledIn capacity x = FilledAs (length (prefix_of x)) (map.len (children_of x)) capacity
 
-  -- those of its own form
   abbrev pub HasEnough : Node ℕ P → Type 0
   HasEnough x = FilledIn (capacity_of (form_of x)) x
 

@@ -66,7 +66,6 @@ module _ {P : Type 0} where
   inner_get (Inner n) byte = map.get (children_of n) byte
   inner_get (Leaf n) byte = None
 
-  -- what a leaf has there
   abbrev pub leaf_get : Slot P → ℕ → Option (Child ℕ P)
   leaf_get (Inner n) byte = None
   leaf_get (Leaf n) byte = map.get (children_of n) byte

@@ -165,7 +165,6 @@ module _ {V : Type 0} where
   nodes_at go (Below c) = go c
   nodes_at go (Holds v) = 0
 
-  -- the pairs there
   abbrev pub pairs_at : (ℕ → ℕ) → Hung V → ℕ
   pairs_at go Nothing = 0
   pairs_at go (Below c) = go c

@@ -121,7 +121,6 @@ pub record ChangeGives {V : Type 0} (h : ℕ → Node V) (n b : ℕ) (x : Hung V
 abbrev pub HoldsValues : {V : Type 0} → Node V → Type 0
 HoldsValues n = (b c : ℕ) → n.children b ≢ Below c
 
--- it holds nodes alone
 abbrev pub HoldsNodes : {V : Type 0} → Node V → Type 0
 HoldsNodes {V} n = (b : ℕ) (v : V) → n.children b ≢ Holds v
 

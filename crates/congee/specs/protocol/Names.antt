@@ -33,12 +33,10 @@ abbrev pub names_over : {C : Type 0} → (C → ℕ) → Option (Over C) → Lis
 names_over number None = []
 names_over number (Some u) = number u.near.seat.node ∷ name_above number u.far
 
--- a node with its version, where there is one
 abbrev pub name_seated : {C : Type 0} → (C → ℕ) → Option (Stamp C) → List ℕ
 name_seated number None = []
 name_seated number (Some p) = number p.node ∷ []
 
--- a made node, where there is one
 abbrev pub name_made : {C : Type 0} → (C → ℕ) → Option C → List ℕ
 name_made number None = []
 name_made number (Some c) = number c ∷ []

@@ -62,19 +62,15 @@ put h n x m = cond (m == n) x (h m)
 abbrev pub lock : {V : Type 0} → (ℕ → Node V) → ℕ → ℕ → Node V
 lock h n = put h n (record (h n) { locked = true })
 
--- it is unlocked, with the next version
 abbrev pub free : {V : Type 0} → (ℕ → Node V) → ℕ → ℕ → Node V
 free h n = put h n (record (h n) { version = (h n).version + 1; locked = false })
 
--- it is marked
 abbrev pub mark : {V : Type 0} → (ℕ → Node V) → ℕ → ℕ → Node V
 mark h n = put h n (record (h n) { obsolete = true })
 
--- it is handed over
 abbrev pub hand : {V : Type 0} → (ℕ → Node V) → ℕ → ℕ → Node V
 hand h n = put h n (record (h n) { retired = true })
 
--- it is given back
 abbrev pub back : {V : Type 0} → (ℕ → Node V) → ℕ → ℕ → Node V
 back h n = put h n (record (h n) { destroyed = true; locked = false })
 
@@ -90,7 +86,6 @@ hang h n b x = put h n (with_child (h n) b x)
 abbrev pub copy : {V : Type 0} → (ℕ → Node V) → ℕ → ℕ → ℕ → Node V
 copy h m c = put h c (record (h c) { children = (h m).children; count = (h m).count })
 
--- and that node has none any more
 abbrev pub clear : {V : Type 0} → (ℕ → Node V) → ℕ → ℕ → Node V
 clear h m = put h m (record (h m) { children = λ b. Nothing; count = 0 })
 
@@ -131,7 +126,6 @@ unmarked (child.Value v) = child.Value v
 abbrev pub looks : {V : Type 0} → Node V → List ℕ → Seen ℕ V
 looks n key = record { child = child_of (child_for n key); byte = slice_index key (length n.prefix); full = n.count == n.capacity; count = n.count }
 
--- what was to be seen at a changed one
 abbrev pub told_of : {V : Type 0} → ℕ → Option (Seen Mark V) → Seen ℕ V
 told_of byte None = record { child = child.Blank; byte = byte; full = false; count = 0 }
 told_of byte (Some x) = record { child = unmarked x.child; byte = byte; full = x.full; count = x.count }

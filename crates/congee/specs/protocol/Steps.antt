@@ -51,27 +51,21 @@ next_phase_of s d = record { phase = s; report = d }
 abbrev pub quiet : {C V : Type 0} → Phase C V → NextPhase C V
 quiet s = record { phase = s; report = record { decided = false; skipped = false; outcome = Running } }
 
--- it begins anew at the root
 abbrev pub again : {C V : Type 0} → C → NextPhase C V
 again root = quiet (Version None root)
 
--- it answers, and takes effect as it does
 abbrev pub answered : {C V : Type 0} → Reply V → NextPhase C V
 answered r = record { phase = Ended; report = record { decided = true; skipped = false; outcome = Done r } }
 
--- it ends with an answer given before
 abbrev pub finished : {C V : Type 0} → Reply V → NextPhase C V
 finished r = record { phase = Ended; report = record { decided = false; skipped = false; outcome = Done r } }
 
--- it is refused
 abbrev pub refused : {C V : Type 0} → Refusal → NextPhase C V
 refused e = record { phase = Ended; report = record { decided = false; skipped = false; outcome = Refused e } }
 
--- it takes effect and goes on
 abbrev pub decided : {C V : Type 0} → Phase C V → NextPhase C V
 decided s = record { phase = s; report = record { decided = true; skipped = false; outcome = Running } }
 
--- it asks
 abbrev pub asking : {C V : Type 0} → Phase C V → Option V → NextPhase C V
 asking s o = record { phase = s; report = record { decided = false; skipped = false; outcome = Asks o } }
 
@@ -159,7 +153,6 @@ after_read root above at Uncopied = quiet (CheckUncopied at)
 abbrev pub below : {C : Type 0} → Site C → Over C
 below s = record { near = here_of s; far = near_of s.above }
 
--- a child is followed, by whether the node above is checked first
 abbrev pub down : {C V : Type 0} → Bool → Site C → Option (Over C) → C → NextPhase C V
 down false s above c = quiet (Version (Some (below s)) c)
 down true s None c = quiet (Version (Some (below s)) c)

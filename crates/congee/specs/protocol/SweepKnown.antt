@@ -80,7 +80,6 @@ names_sweep number s = names_sweep_at number s s.stage
 abbrev pub end_of : Region → ℕ
 end_of x = x.base + span x.depth
 
--- the least key that a node on the way has yet to look at
 abbrev pub start_of : {C : Type 0} → Rung C → ℕ
 start_of r = start_at r.region.base r.region.depth r.from
 

@@ -33,7 +33,6 @@ is_outside start last x = cond (ltb last x.base) true (cond (ltb x.base start) (
 abbrev pub first_byte : ℕ → Region → ℕ
 first_byte start x = cond (ltb x.base start) (cond (ltb 255 ((start - x.base) / width x.depth)) 255 ((start - x.base) / width x.depth)) 0
 
--- the greatest one
 abbrev pub last_byte : ℕ → Region → ℕ
 last_byte last x = cond (ltb 255 ((last - x.base) / width x.depth)) 255 ((last - x.base) / width x.depth)
 

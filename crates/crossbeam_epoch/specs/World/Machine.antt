@@ -215,7 +215,7 @@ deferred_anew s who work =
       waiting = s.waiting + 1;
     }
 
--- a job is deferred into a bag that has room
+-- a job is deferred: into the bag, or into an empty one where that is full
 abbrev pub after_deferral : {T J : Type 0} → State T J → ℕ → Work J → State T J
 after_deferral s who work = if length (place s who).bag == bag_places then deferred_anew s who work else deferred s who work
 

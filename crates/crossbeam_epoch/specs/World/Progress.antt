@@ -82,7 +82,7 @@ stage (P.Advance seen) = Collecting
 stage (P.Take answered bags) = Collecting
 stage (P.Call answered bags seal) = Collecting
 
--- whether a call for so many places may be about so many
+-- whether a number of places is the one that is known, if one is
 abbrev pub is_places : ℕ → Option ℕ → Bool
 is_places n None = true
 is_places n (Some m) = m == n

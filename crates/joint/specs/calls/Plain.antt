@@ -93,7 +93,7 @@ abbrev pub with_first : {A B : Type 0} → Option A → B → List B → List B
 with_first None b bs = bs
 with_first (Some a) b bs = b ∷ bs
 
--- a list with what an option has in front
+-- a list behind what an option has
 abbrev pub with_some : {A : Type 0} → Option A → List A → List A
 with_some None bs = bs
 with_some (Some a) bs = a ∷ bs

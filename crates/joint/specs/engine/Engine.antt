@@ -215,7 +215,7 @@ pub record Walks {V : Type 0} (same : V → V → Bool) (always : Bool) (s : Wor
   pub calls : s'.calls ≡ slice_set s.calls who (if over_at (slice_get s'.machines who) then Idle else Walking)
   pub report : r ≡ walk s.forest move s'.forest
 
--- a call on the tree begins: a look-up or a scan there at once, and any other by reserving its places
+-- a call on the tree begins: a look-up or a scan there at once, and a writing call with places to make free first
 abbrev pub BeginsOnTree : {V : Type 0} → (V → V → Bool) → Bool → World V → ℕ → Point V → Report V → World V → Type 0
 BeginsOnTree same always s who (point.Get k) r s' = Enters s who (point.Get k) r s'
 BeginsOnTree {V} same always s who (point.Range start end size) r s' = EntersUnless (finds_none {V = V} (point.Range start end size)) s who (point.Range start end size) r s'

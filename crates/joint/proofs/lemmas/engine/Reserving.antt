@@ -40,7 +40,7 @@ reserving_call (Some (Securing op)) e = absurd (cc e)
 reserving_call (Some Walking) e = absurd (cc e)
 reserving_call None e = absurd (cc e)
 
--- what is about reserving a place is such a call
+-- a call at that stage has taken no step
 pub reserving_stage : {V : Type 0} (x : Option (InFlight V)) → Some about.Reserving ≡ option_map stage_of x → is_reserving x ≡ true
 reserving_stage (Some (Reserving op)) e = refl
 reserving_stage (Some Idle) e = absurd (cc e)
