@@ -132,7 +132,7 @@ node_ty τ = ty_struct [] (tcons prefix_ty (tcons τ tnil))
 abbrev any_node_ty : Ty → Ty → Ty
 any_node_ty τ σ = ty_enum [] (ttcons (tcons (node_ty (sorted_ty 4 τ σ)) tnil) (ttcons (tcons ty_ptr tnil) (ttcons (tcons ty_ptr tnil) (ttcons (tcons ty_ptr tnil) ttnil))))
 
--- a list in an array has few bytes more than it has places for
+-- a list of bytes in an array takes 655,360 more than its places at most
 pub bytes_array : (n m : ℕ) → n + 655360 ≤ m → FitsIn (array_vec_ty (ty_int w8) n) m
 bytes_array n m l =
     let w = struct (field (struct (field (array n byte) no_fields)) (field word (field unit no_fields))) in

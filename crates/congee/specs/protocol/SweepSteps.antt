@@ -48,15 +48,15 @@ put_rung i r p = cond (i == 0) (record p { first = r }) (cond (i == 1) (record p
 abbrev pub rungs_of : {C : Type 0} → Path C → List (Rung C)
 rungs_of p = take p.len (slots p)
 
--- one more node above
+-- the nodes above with one more
 abbrev pub pushed : {C : Type 0} → Path C → Rung C → Path C
 pushed p r = record (put_rung p.len r p) { len = p.len + 1 }
 
--- one less
+-- with one less
 abbrev pub popped : {C : Type 0} → Path C → Path C
 popped p = record p { len = p.len - 1 }
 
--- none
+-- with none
 abbrev pub cleared : {C : Type 0} → Path C → Path C
 cleared p = record p { len = 0 }
 

@@ -85,7 +85,7 @@ abbrev pub cleared_at : {V : Type 0} → Option (Machine Id V) → List (Machine
 cleared_at None ms who = ms
 cleared_at (Some m) ms who = if is_done m.phase then slice_set ms who resting else ms
 
--- the same by the worker alone
+-- the same of the worker of this number
 abbrev pub cleared : {V : Type 0} → List (Machine Id V) → ℕ → List (Machine Id V)
 cleared ms who = cleared_at (slice_get ms who) ms who
 

@@ -36,7 +36,7 @@ use Rattle.joint.proofs.lemmas.engine.Entering.{begin_idle}
 use Rattle.joint.proofs.lemmas.engine.Reported.{may_go}
 use Rattle.joint.proofs.lemmas.engine.Reserving.{reserving_call}
 
--- a machine that fits a call in flight which is none has ended
+-- where no call is in flight the worker's machine has ended
 pub ended_by : {V : Type 0} (k : InFlight V) (p : Participant (Unit {0})) (m : Machine Id V) → is_busy (Some k) ≡ false → IsAt k p m → m.phase ≡ Ended
 ended_by Idle p m e a = a.1
 ended_by (Collecting op) p m e a = absurd (false≢true (sym e))

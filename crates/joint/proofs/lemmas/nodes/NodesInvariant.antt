@@ -26,7 +26,7 @@ from : {A : Type 0} → A → Option A → A
 from d None = d
 from d (Some y) = y
 
--- what two options hold is the same where they are
+-- two values are the same where the options with them are
 pub some_injective : {A : Type 0} (x y : A) → Some x ≡ Some y → x ≡ y
 some_injective x y e = cc
 

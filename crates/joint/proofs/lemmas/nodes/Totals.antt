@@ -27,7 +27,7 @@ size_bound N16 = omega arith
 size_bound N48 = omega arith
 size_bound N256 = omega arith
 
--- a number taken once more is added once more
+-- to take a number once more adds it
 pub times_suc : (m n : ℕ) → m * suc n ≡ m * n + m
 times_suc m n = omega arith
 
