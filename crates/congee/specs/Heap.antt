@@ -32,6 +32,7 @@ fits (x ∷ p) (y ∷ key) = (x == y) && fits p key
 abbrev pub child_for : {V : Type 0} → Node V → List ℕ → Hung V
 child_for n key = n.children (slice_index key (length n.prefix))
 
+-- what is found there: nothing, what a function finds at a node, or the value
 abbrev pub of_child : {V : Type 0} → (ℕ → Option V) → Hung V → Option V
 of_child go Nothing = None
 of_child go (Below c) = go c

@@ -20,9 +20,11 @@ start (suc s) =
     let z : tri s + suc s ≡ suc (tri s + s) = omega arith in
     ap named z ∙ ap after (along s (start s) s 0 (omega arith))
 
+-- the name of a name's number is that name
 pub named_number : (n : Name) → named (number n) ≡ n
 named_number n = along (n.cell + n.turn) (start (n.cell + n.turn)) n.turn n.cell refl
 
+-- two names with one number are the same
 pub same_name : (m n : Name) → number m ≡ number n → m ≡ n
 same_name m n e = sym (named_number m) ∙ ap named e ∙ named_number n
 
@@ -35,9 +37,11 @@ number_after (suc c) t =
     let q : tri (suc c + t) ≡ tri (c + suc t) = ap tri (let z : suc c + t ≡ c + suc t = omega arith in z) in
     omega (arith, q)
 
+-- the number of a number's name is that number
 pub number_named : (k : ℕ) → number (named k) ≡ k
 number_named zero = refl
 number_named (suc k) = number_after (named k).cell (named k).turn ∙ ap suc (number_named k)
 
+-- so are the names of two nodes
 pub tells : (c d : Id) → number c.name ≡ number d.name → c ≡ d
 tells c d e = ap (λ n. record { name = n }) (same_name c.name d.name e)

@@ -18,22 +18,28 @@ apart q k ne = grind (arith, nat_tests)
 pub same_pairs : {P : Type 0} (m n : Pairs P) → ((q : ℕ) → get m q ≡ get n q) → m ≡ n
 same_pairs m n alike = same_map nat_cmp_total nat_cmp-IsAntisymmetric m n alike
 
+-- a key that was inserted has its value
 pub get-insert_here : {P : Type 0} (m : Pairs P) (k : ℕ) (v : P) → get (insert m k v) k ≡ Some v
 get-insert_here m k v = get-insert nat_cmp_total m k v k ∙ ap (λ b. cond b (Some v) (get m k)) (here k)
 
+-- an insertion leaves what stands at each other key
 pub get-insert_apart : {P : Type 0} (m : Pairs P) (k : ℕ) (v : P) (q : ℕ) → q ≢ k → get (insert m k v) q ≡ get m q
 get-insert_apart m k v q ne = get-insert nat_cmp_total m k v q ∙ ap (λ b. cond b (Some v) (get m q)) (apart q k ne)
 
+-- a key that was removed has no value
 pub get-remove_here : {P : Type 0} (m : Pairs P) (k : ℕ) → get (remove m k) k ≡ None
 get-remove_here m k = get-remove nat_cmp_total m k k ∙ ap (λ b. cond b None (get m k)) (here k)
 
+-- a removal leaves what stands at each other key
 pub get-remove_apart : {P : Type 0} (m : Pairs P) (k q : ℕ) → q ≢ k → get (remove m k) q ≡ get m q
 get-remove_apart m k q ne = get-remove nat_cmp_total m k q ∙ ap (λ b. cond b None (get m q)) (apart q k ne)
 
+-- what was set at a key stands there
 pub get-set_at_here : {P : Type 0} (m : Pairs P) (k : ℕ) (o : Option P) → get (set_at m k o) k ≡ o
 get-set_at_here m k None = get-remove_here m k
 get-set_at_here m k (Some v) = get-insert_here m k v
 
+-- to set one key leaves what stands at each other one
 pub get-set_at_apart : {P : Type 0} (m : Pairs P) (k : ℕ) (o : Option P) (q : ℕ) → q ≢ k → get (set_at m k o) q ≡ get m q
 get-set_at_apart m k None q ne = get-remove_apart m k q ne
 get-set_at_apart m k (Some v) q ne = get-insert_apart m k v q ne
@@ -55,9 +61,11 @@ is_set_at m n k o at_k other =
 pub set_at-standing : {P : Type 0} (m : Pairs P) (k : ℕ) (o : Option P) → get m k ≡ o → set_at m k o ≡ m
 set_at-standing m k o at_k = sym (is_set_at m m k o at_k (λ q ne. refl))
 
+-- to insert the value that stands there changes nothing
 pub insert-standing : {P : Type 0} (m : Pairs P) (k : ℕ) (v : P) → get m k ≡ Some v → insert m k v ≡ m
 insert-standing m k v at_k = set_at-standing m k (Some v) at_k
 
+-- to remove a key that isn't there changes nothing
 pub remove-absent : {P : Type 0} (m : Pairs P) (k : ℕ) → get m k ≡ None → remove m k ≡ m
 remove-absent m k at_k = set_at-standing m k None at_k
 

@@ -18,12 +18,14 @@ find-lookup : (q : ℕ) (es : List (ℕ × ℕ)) → find nat_cmp q es ≡ looku
 find-lookup q [] = refl
 find-lookup q (e ∷ es) = ap (cond (tree.is_at (nat_cmp q) e.0) (Some e.1)) (find-lookup q es)
 
+-- the finite map of the entries has at each key what std's map answers
 pub get-kept : (kept : BTreeMap ℕ ℕ) (q : ℕ) → get (pairs_of kept) q ≡ tree.get nat_cmp kept q
 get-kept kept q = get-from_entries nat_cmp_total kept.entries q ∙ find-lookup q kept.entries
 
 elsewhere : (k q : ℕ) → q ≢ k → tree.is_at (nat_cmp k) q ≡ false
 elsewhere k q ne = grind (arith, nat_tests)
 
+-- std's map changed at one key alone is the finite map with that key set
 pub updated : (before after : BTreeMap ℕ ℕ) (k : ℕ) (o : Option ℕ) → tree.UpdatesBy nat_cmp (nat_cmp k) before after o → pairs_of after ≡ set_at (pairs_of before) k o
 updated before after k o update =
     is_set_at (pairs_of before) (pairs_of after) k o

@@ -51,6 +51,7 @@ pair_call_sound key.Insert a b c h i e = found_so (IsCall (Key key.Insert ∷ Nu
 pair_call_sound key.OrInsert a b c h i e = found_so (IsCall (Key key.OrInsert ∷ Number a ∷ Number b ∷ [])) (call.OrInsert a b) c (refl, (h, i)) e
 pair_call_sound _ a b c h i e = absurd (cc)
 
+-- a test by order, as a fact
 pub at_most_of_test : (n m : ℕ) → nat_le n m ≡ true → n ≤ m
 at_most_of_test n m h = grind (arith, nat_tests)
 
@@ -67,6 +68,7 @@ triple_call_sound key.Range a b d c h i j e = scan_sound key.Range a b d (call.R
 triple_call_sound key.Through a b d c h i j e = scan_sound key.Through a b d (call.Through a b d) c (λ l. (refl, (h, i, l))) e
 triple_call_sound _ a b d c h i j e = absurd (cc)
 
+-- words that are parsed as a call are that call's, and its numbers are within their bounds
 pub call_sound : (ws : List Word) (c : Call) → Small ws → call_of ws ≡ Some c → IsCall ws c
 call_sound (Key k ∷ []) c s e = plain_call_sound k c e
 call_sound (Key k ∷ Number a ∷ []) c s e = key_call_sound k a c s.0 e

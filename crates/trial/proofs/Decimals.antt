@@ -30,6 +30,7 @@ plain_list : (bs : List ℕ) → 0 < length bs → IsInRange 48 57 (get_or bs 0 
 plain_list [] h r z = absurd (omega arith)
 plain_list (b ∷ bs) h r z = grind (arith, nat_tests, common_steps)
 
+-- the decimal of a number below 2 ^ 64 is plain
 pub plain_decimal : (n : ℕ) → n < 2 ^ 64 → is_plain_text (decimal n) ≡ true
 plain_decimal n h = plain_list (decimal n) (decimal_nonempty n h) (first_is_digit n h) (no_leading_zero n h)
 
@@ -43,6 +44,7 @@ not_43 b h = elim (eqb_tells b 43) [ inl p ↦ absurd (h p.1) | inr p ↦ p.0 ]
 without_nothing : (bs : List ℕ) → eqb (get_or bs 0 0) 43 ≡ false → without_leading_plus bs ≡ bs
 without_nothing bs e = rw e refl
 
+-- plain bytes that are read as a number are its decimal
 pub from_plain : (bs : List ℕ) (n : ℕ) → is_plain_text bs ≡ true → IsUnsigned bs n → bs ≡ decimal n
 from_plain [] n p u = absurd (omega (arith, u.0.0))
 from_plain (b ∷ bs) n p u =

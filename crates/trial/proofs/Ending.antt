@@ -38,6 +38,7 @@ lines_last : (b : ℕ) (line : List ℕ) → NoFeed (b ∷ line) → lines_of (b
 lines_last b [] h = rw (false_from_unequal b 10 (not_feed b [] h)) refl
 lines_last b (c ∷ line) h = rw (false_from_unequal b 10 (not_feed b (c ∷ line) h)) (ap (onto_first b) (lines_last c line (unfed_rest b (c ∷ line) h)))
 
+-- the lines of bytes that begin with whole ones are these, and then those of the rest
 pub lines_fed : (before : List (List ℕ)) (rest : List ℕ) → AllByRecursion NoFeed before → lines_of (fed before ++ rest) ≡ before ++ lines_of rest
 lines_fed [] rest h = refl
 lines_fed (l ∷ ls) rest h =
@@ -148,6 +149,7 @@ input_short : (input : List ℕ) (left held holds : Option (List ℕ)) (p : Prog
 input_short input left held holds p h g =
     omega (arith, ap length (last_is input left held holds p h g), ap length g.whole, g.taken, g.bound)
 
+-- a script with no bytes left at the end of its input is done
 pub done_empty : (had left held holds : Option (List ℕ)) (p : Program) → p.unread.items ≡ [] → IsAtEnd left → Going had left held holds p → Ends had left held holds p end.Done
 done_empty None left held holds p e h g = tt
 done_empty (Some input) left held holds p e h g =
@@ -164,6 +166,7 @@ lines_with_last : (input : List ℕ) (left held holds : Option (List ℕ)) (p : 
 lines_with_last input left held holds p some h g =
     ap lines_of (last_is input left held holds p h g) ∙ lines_fed g.before p.unread.items g.feeds ∙ ap (λ ls. g.before ++ ls) (last_line_of p.unread.items g.unfed some)
 
+-- where the last line, which no line feed ends, is answered, the script is done
 pub done_line : (had left held holds holds' : Option (List ℕ)) (p : Program) (new : Script) → 0 < length p.unread.items → LineGoes p.script holds p.unread.items new holds'
     → IsAtEnd left → Going had left held holds p → EndsBy had left held holds' new.output end.Done
 done_line None left held holds holds' p new some l h g = tt
@@ -198,6 +201,7 @@ due_last input left held holds due p some h g (inr b) =
     let P : List ℕ → Type 0 = λ t. UpToBad AreAnswered input (g.text ++ t) in
     inr (subst P (sym b.1) (up_to_bad input g.text g.before [] p.unread.items p.script.session p.script.lines (lines_with_last input left held holds p some h g) g.answers b.0 g.lines))
 
+-- the script stops at that last line
 pub stops_last : (had left held holds holds' : Option (List ℕ)) (p new : Program) (e : End) → 0 < length p.unread.items → LineStops p.script holds p.unread.items new.script holds' e
     → IsAtEnd left → Going had left held holds p → Ends had left held holds' new e
 stops_last None left held holds holds' p new end.BadLine some s h g = tt
@@ -214,6 +218,7 @@ stops_last (Some input) left held holds holds' p new end.Writing some s h g =
     cut_short input left held holds holds' g.given g.text s.0 p.script.output g.read g.passes s.2 (due_last input left held holds s.0 p some h g s.1)
 stops_last had left held holds holds' p new _ some s h g = absurd s
 
+-- a list of length 0 is empty
 pub empty_from_length : (xs : List ℕ) → length xs ≡ 0 → xs ≡ []
 empty_from_length [] h = refl
 empty_from_length (x ∷ xs) h = absurd (omega arith)
@@ -412,6 +417,7 @@ goes_on had mid left held between holds fresh over rest p new g c l unfed short 
 pub none_from_true : (n m : ℕ) → n ≡ m → eqb n 0 ≡ true → m ≡ 0
 none_from_true n m e t = sym e ∙ equal_from_true n 0 t
 
+-- and what it says where it fails: there are some
 pub some_from_false : (n m : ℕ) → n ≡ m → eqb n 0 ≡ false → 0 < m
 some_from_false n m e t =
     let unlike : (n ≡ 0) → ⊥ = λ z. true≢false (sym (ap (λ k. eqb k 0) z) ∙ t) in
@@ -441,6 +447,7 @@ gave_nothing had mid left held holds p g c =
       short = g.short;
     }
 
+-- what follows of any end follows of the one that there is, if any
 pub if_some : (r : Option End) (P Q : End → Type 0) → IfSome r P → ((e : End) → P e → Q e) → IfSome r Q
 if_some None P Q h f = tt
 if_some (Some e) P Q h f = f e h
@@ -537,11 +544,13 @@ at_first had held p f =
       short = omega (arith, ap length f.unread);
     }
 
+-- at an end that is a failed read, the lines that were whole are answered
 pub reading_so : (had mid left held holds : Option (List ℕ)) (p : Program) (e : End) → e ≡ end.Reading → Going had mid held holds p → Keeps mid left → Ends had left held holds p e
 reading_so had mid left held holds p e same g k =
     let P : End → Type 0 = λ x. Ends had left held holds p x in
     subst P (sym same) (reading_end had mid left held holds p g k)
 
+-- an end that is the writer's failure: it took what a script prints that ends so
 pub ran_so : (had left held holds : Option (List ℕ)) (e : End) → e ≡ end.Writing → Ran AreAnswered had left held holds end.Writing → Ran AreAnswered had left held holds e
 ran_so had left held holds e same h = let P : End → Type 0 = λ x. Ran AreAnswered had left held holds x in subst P (sym same) h
 

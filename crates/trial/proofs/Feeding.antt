@@ -21,6 +21,7 @@ pub record Reached (old : Script) (held : Option (List ℕ)) (bytes : List ℕ) 
   pub plain : (k : ℕ) → start ≤ k → k < i → get_or bytes k 0 ≢ 10
   pub few : new.lines ≤ old.lines + start
 
+-- before the first byte no line was answered
 pub at_start : (old : Script) (held : Option (List ℕ)) (bytes : List ℕ) → Reached old held bytes 0 0 old held
 at_start old held bytes = record {
   goes = record { before = []; text = []; whole = refl; feeds = tt; answers = (refl, refl); passes = passes_none held old.output; lines = omega arith };
@@ -38,6 +39,7 @@ part_plain bytes start i h plain = λ k d below e.
     let there : get_or bytes (start + k) d ≡ get_or bytes (start + k) 0 = get_or_default bytes (start + k) d 0 (omega arith) in
     plain (start + k) (omega arith) (omega arith) (sym (here ∙ there) ∙ e)
 
+-- the bytes from one on have no line feed where none stands up to their end
 pub rest_plain : (bytes : List ℕ) (start i : ℕ) → length bytes ≤ i → ((k : ℕ) → start ≤ k → k < i → get_or bytes k 0 ≢ 10) → NoFeed (drop start bytes)
 rest_plain bytes start i h plain = λ k d below e.
     let here : get_or (drop start bytes) k d ≡ get_or bytes (start + k) 0
@@ -55,6 +57,7 @@ feeds_more : (lines : List (List ℕ)) (line : List ℕ) → AllByRecursion NoFe
 feeds_more [] line h i = (i, tt)
 feeds_more (l ∷ ls) line h i = (h.0, feeds_more ls line h.1 i)
 
+-- lines that were answered, with one more behind them
 pub answers_more : (old mid new : Session) (lines : List (List ℕ)) (line text more : List ℕ) → LinesAnswer old lines mid text → LineAnswers mid line new more
     → LinesAnswer old (lines ++ line ∷ []) new (text ++ more)
 answers_more old mid new [] line text more h i =

@@ -48,6 +48,7 @@ left_after [] (suc n) x rest e = absurd cc
 left_after (y ∷ ys) zero x rest e = cc
 left_after (y ∷ ys) (suc n) x rest e = left_after ys n x rest e
 
+-- and what is left behind that first one
 pub rest_left : {X : Type 0} (xs : List X) (n : ℕ) (x : X) (rest : List X) → drop n xs ≡ x ∷ rest → rest ≡ drop (n + 1) xs
 rest_left xs n x rest e = left_after xs n x rest e ∙ ap (λ k. drop k xs) (let one : suc n ≡ n + 1 = omega arith in one)
 

@@ -45,6 +45,7 @@ place_of key.Charged = 27
 place_of key.Waiting = 28
 place_of key.Close = 29
 
+-- each keyword stands at its place in the list of all
 pub at_place : (k d : Keyword) → get_or all (place_of k) d ≡ k
 at_place key.New d = refl
 at_place key.Limit d = refl
@@ -77,6 +78,7 @@ at_place key.Charged d = refl
 at_place key.Waiting d = refl
 at_place key.Close d = refl
 
+-- there are 30 places
 pub place_below : (k : Keyword) → place_of k < 30
 place_below key.New = lit< tt
 place_below key.Limit = lit< tt
@@ -113,6 +115,7 @@ place_below key.Close = lit< tt
 abbrev pub named : List ℕ → Option Keyword
 named bytes = find (λ k. bytes_eq (text_of k) bytes) all
 
+-- each keyword's text spells that keyword
 pub named_text : (k : Keyword) → named (text_of k) ≡ Some k
 named_text key.New = refl
 named_text key.Limit = refl
@@ -184,6 +187,7 @@ begins_with_letter key.Charged = lit< tt
 begins_with_letter key.Waiting = lit< tt
 begins_with_letter key.Close = lit< tt
 
+-- no keyword's text is empty
 pub is_not_empty : (k : Keyword) → 0 < length (text_of k)
 is_not_empty key.New = lit< tt
 is_not_empty key.Limit = lit< tt

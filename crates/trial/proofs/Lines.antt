@@ -50,6 +50,7 @@ pub not_skipped : (line : List ℕ) → is_skipped_text line ≡ false → IsSki
 not_skipped [] e h = true≢false e
 not_skipped (b ∷ bs) e h = true≢false (sym (ap (λ n. n == 35) h.0) ∙ e)
 
+-- what is skipped, where it has at most 1,000 bytes
 pub skipped : (line : List ℕ) → is_skipped_text line ≡ true → length line ≤ 1000 → IsSkipped line
 skipped [] e short = tt
 skipped (b ∷ bs) e short = (equal_from_true b 35 e, short)

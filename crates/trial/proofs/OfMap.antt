@@ -386,6 +386,7 @@ prints_by A B f input given end.TooLong text p = (p.0, (p.1.0, p.1.1, f _ text p
 prints_by A B f input given end.Writing text (due, more, e, inl p) = (due, more, e, inl (p.0, p.1, (p.2.0, f _ due p.2.1)))
 prints_by A B f input given end.Writing text (due, more, e, inr p) = (due, more, e, inr (p.0, p.1, p.2, p.3, (p.4.0, f _ _ p.4.1), p.5, p.6))
 
+-- what the writer took of a script is what the script prints as the map says
 pub ran_of_map : MapLaws → (had left held holds : Option (List ℕ)) (e : End) → Ran AreAnswered had left held holds e → Ran MapAnswers had left held holds e
 ran_of_map laws None left held holds e r = tt
 ran_of_map laws (Some input) left held holds e r =

@@ -91,6 +91,7 @@ pub puts_last : (r : Result (Unit {0}) End) (had mid has : Option (List ℕ)) (o
 puts_last (Ok u) had mid has old between new first second p q = passes_both had mid has old between new first second p q
 puts_last (Err e) had mid has old between new first second p q = tt
 
+-- a call by which the writer fails at the last of them: it took a front of both
 pub stops_last : (r : Result (Unit {0}) End) (had mid has : Option (List ℕ)) (old between first second : List ℕ) → Passes had old mid between first
     → IfErr r (λ e. (e ≡ end.Writing) × Breaks mid between has second) → IfErr r (λ e. (e ≡ end.Writing) × Breaks had old has (first ++ second))
 stops_last (Ok u) had mid has old between first second p b = tt

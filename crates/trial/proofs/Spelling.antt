@@ -28,10 +28,12 @@ IsPlain (Key k) = Unit {0}
 IsPlain (Number n) = n < 2 ^ 64
 IsPlain Other = ⊥
 
+-- each word is so
 abbrev pub ArePlain : List Word → Type 0
 ArePlain [] = Unit {0}
 ArePlain (w ∷ ws) = IsPlain w × ArePlain ws
 
+-- the numbers of plain words are below 2 ^ 64
 pub small : (ws : List Word) → ArePlain ws → Small ws
 small [] h = tt
 small (Key k ∷ ws) h = small ws h.1
@@ -74,6 +76,7 @@ one_reading (Number m) (Number n) p r = ap Number (sym (decimal_injective m n p 
 one_reading (Number m) Other p r = absurd (r.1 m p refl)
 one_reading Other w p r = absurd p
 
+-- the spelling of plain words is read as these words alone
 pub words_from_spelled : (us ws : List Word) → ArePlain us → AllZip Reads (map spelled us) ws → ws ≡ us
 words_from_spelled [] [] p h = refl
 words_from_spelled [] (w ∷ ws) p h = absurd h
@@ -94,6 +97,7 @@ word_begins (Key k) h = omega (arith, begins_with_letter k)
 word_begins (Number n) h = omega (arith, first_is_digit n h)
 word_begins Other h = absurd h
 
+-- plain words begin with a byte above 47: neither a space nor a comment
 pub first_begins : (ws : List Word) → 0 < length ws → ArePlain ws → 47 < get_or (get_or (map spelled ws) 0 []) 0 0
 first_begins [] some h = absurd (omega arith)
 first_begins (w ∷ ws) some h = word_begins w h.0
@@ -196,6 +200,7 @@ call_plain (call.ExchangeDrop k old) h = (tt, (h.0, (h.1, (tt, tt))))
 call_plain (call.Range a b n) h = (tt, (h.0, (h.1, (omega (arith, h.2), tt))))
 call_plain (call.Through a b n) h = (tt, (h.0, (h.1, (omega (arith, h.2), tt))))
 
+-- the words of a command are plain where its numbers are within its bounds
 pub command_plain : (c : Command) → CommandFits c → ArePlain (command_words c)
 command_plain (command.New o) h = (tt, (h.0, (h.1, append_plain _ _ (append_plain _ _ (option_plain key.Limit o.limit h.2) (option_plain key.Version o.version h.3)) (option_plain key.Journal o.journal h.4))))
 command_plain command.Register h = (tt, tt)
@@ -256,6 +261,7 @@ call_few (call.ExchangeDrop k o) = omega arith
 call_few (call.Range a b n) = omega arith
 call_few (call.Through a b n) = omega arith
 
+-- a command has at most nine words
 pub command_few : (c : Command) → length (command_words c) ≤ 9
 command_few (command.New o) = omega (
   arith,

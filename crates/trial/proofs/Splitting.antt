@@ -47,6 +47,7 @@ cut_at line start i h below =
     sym (take-append-drop (i - start) (drop start line))
     ∙ ap (λ xs. take (i - start) (drop start line) ++ xs) (onwards ∙ drop_more line i 0 below)
 
+-- a number below i + 1 is below i, or i
 pub trichotomy : (k i : ℕ) → k < i + 1 → (k < i) ⊎ (k ≡ i)
 trichotomy k i h = grind arith
 
@@ -106,5 +107,6 @@ too_many line start i words l h = omega (
 pub equal_from_true : (m n : ℕ) → eqb m n ≡ true → m ≡ n
 equal_from_true m n h = elim (eqb_tells m n) [ inl p ↦ p.1 | inr p ↦ absurd (true≢false (sym h ∙ p.0)) ]
 
+-- and its failure, of numbers that differ
 pub false_from_unequal : (m n : ℕ) → m ≢ n → eqb m n ≡ false
 false_from_unequal m n h = elim (eqb_tells m n) [ inl p ↦ absurd (h p.1) | inr p ↦ p.0 ]

@@ -31,6 +31,7 @@ pub record Surveyed (m : Pairs ℕ) (k : Survey) (s' : OpenTree) (told : Outcome
   pub rests : Rests s'.world m
   pub tells : MapTells m k told
 
+-- a line's whole survey leaves the pairs, and tells of them
 pub survey_finishes : MapLaws → (w : ℕ) (o : Op ℕ) (k : Survey) (f : Option Closure) (m : Pairs ℕ) (s s' : OpenTree) (told : Outcome ℕ) → target o ≡ target.Survey k → Rests s.world m → Calls s w o f told s'
     → Surveyed m k s' told
 survey_finishes laws w o k f m s s' told is b g =
@@ -60,6 +61,7 @@ is_nil_of : (m : Pairs ℕ) (b : Bool) → IsEmptiness m b → is_nil (entries m
 is_nil_of m true e = none_in (entries m) (λ k. sym (get-entries m k) ∙ e k)
 is_nil_of m false e = some_in (entries m) e.0 (subst IsSome (get-entries m e.0) e.1)
 
+-- where it is asked whether the tree is empty, the reply says whether the map is
 pub empty_reply : (m : Pairs ℕ) (told : Outcome ℕ) (ps : List (ℕ × ℕ)) → MapTells m survey.IsEmpty told → IsAnswer (reply_of ps told) → reply_of ps told ≡ reply.Empty (is_nil (entries m))
 empty_reply m (outcome.Refused e) ps t a = absurd a
 empty_reply m (outcome.Done (done.Empty b)) ps t a = ap reply.Empty (sym (is_nil_of m b t))

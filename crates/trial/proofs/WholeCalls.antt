@@ -91,6 +91,7 @@ running (outcome.Registered who) e = absurd (cc e)
 running (outcome.Done d) e = absurd (cc e)
 running (outcome.Refused r) e = absurd (cc e)
 
+-- after a step as many workers have places as before
 pub filled_length : (scans : List (List (ℕ × ℕ))) (w : ℕ) (o : Outcome ℕ) → length (filled scans w o) ≡ length scans
 filled_length scans w outcome.Running = refl
 filled_length scans w (outcome.Asks found) = refl
@@ -99,6 +100,7 @@ filled_length scans w (outcome.Registered who) = refl
 filled_length scans w (outcome.Done d) = refl
 filled_length scans w (outcome.Refused r) = refl
 
+-- the places that were set for a worker are the worker's
 pub set_places : (scans : List (List (ℕ × ℕ))) (w : ℕ) (places : List (ℕ × ℕ)) → w < length scans → places_at (slice_set scans w places) w ≡ places
 set_places [] w places l = absurd (omega (arith, l))
 set_places (x ∷ scans) zero places l = refl
@@ -183,6 +185,7 @@ pub record Called (w : ℕ) (op : Op ℕ) (closure : Option Closure) (s s' : Ope
   pub ran : (rest.steps ≡ []) ⊎ (is_running report.outcome ≡ true)
   pub holds : Holds nat_eq true s'.world
 
+-- what a line takes of a call is such a whole call
 pub called : (w : ℕ) (op : Op ℕ) (closure : Option Closure) (s s' : OpenTree) (told : Outcome ℕ) → Calls s w op closure told s' → Called w op closure s s' told
 called w op closure s s' told g =
     let P : Outcome ℕ → Type 0 = λ o. (x : Went w closure g.0 o s' told) × ((x.steps ≡ []) ⊎ (is_running o ≡ true)) in

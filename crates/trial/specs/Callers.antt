@@ -24,6 +24,7 @@ fresh closure = record { closure = closure; answer = None }
 abbrev pub noise_of : Caller → Bool → Noise Id ℕ
 noise_of c fail = record { fail = fail; seen = None; answer = c.answer }
 
+-- a call once its closure, if it has one, has answered
 abbrev pub answered : Option Closure → Option ℕ → Caller
 answered None found = fresh None
 answered (Some f) found = record { closure = Some f; answer = Some (answer_of f found) }
@@ -38,5 +39,6 @@ abbrev pub caller_or : Option Caller → Caller
 caller_or None = fresh None
 caller_or (Some c) = c
 
+-- a worker's call
 abbrev pub caller_at : List Caller → ℕ → Caller
 caller_at callers who = caller_or (slice_get callers who)

@@ -64,6 +64,7 @@ abbrev pub answer_to : Pairs ℕ → Command → Option (Reply × Pairs ℕ)
 answer_to m (command.Call w c) = call_reply m c
 answer_to m _ = None
 
+-- the map that a call leaves, or the one before where there was none
 abbrev pub map_or : Pairs ℕ → Option (Reply × Pairs ℕ) → Pairs ℕ
 map_or m None = m
 map_or m (Some told) = told.1
@@ -74,6 +75,7 @@ map_after m (command.New o) = empty
 map_after m command.Close = empty
 map_after m c = map_or m (answer_to m c)
 
+-- a call's reply before others, where there was one
 abbrev pub with_reply : Option (Reply × Pairs ℕ) → List Reply → List Reply
 with_reply None rs = rs
 with_reply (Some told) rs = told.0 ∷ rs

@@ -160,6 +160,7 @@ Asks old _ new r = ⊥
 abbrev pub Refuses : Refused → Session → Session → Reply → Type 0
 Refuses why old new r = (new ≡ old) × (r ≡ reply.Refused why)
 
+-- limits with this greatest version, where one is given
 abbrev pub versioned : Option ℕ → Limits → Limits
 versioned None limits = limits
 versioned (Some v) limits = record limits { version_max = v }
@@ -173,6 +174,7 @@ abbrev pub budget_or : Option ℕ → ℕ
 budget_or None = 2 ^ 64 - 1
 budget_or (Some n) = n
 
+-- the same of an opening
 abbrev pub budget_of : Opening → ℕ
 budget_of o = budget_or o.limit
 

@@ -62,6 +62,7 @@ verdict_text (verdict.Wrong place) = codes " wrong" ++ spaced place
 abbrev pub closed_text : Closed → List ℕ
 closed_text c = flat_map drained_text c.pairs ++ codes "closed" ++ spaced c.charge
 
+-- a truth value
 abbrev pub truth_text : Bool → List ℕ
 truth_text true = codes "true"
 truth_text false = codes "false"

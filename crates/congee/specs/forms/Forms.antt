@@ -30,6 +30,7 @@ next_form T48 = T256
 next_form T256 = T256
 
 module _ {C P : Type 0} where
+  -- a node's form
   abbrev pub form_of : Node C P → NodeType
   form_of (N4 n) = T4
   form_of (N16 n) = T16
@@ -43,6 +44,7 @@ module _ {C P : Type 0} where
   prefix_of (N48 n) = n.value.prefix
   prefix_of (N256 n) = n.value.prefix
 
+  -- its children by their bytes
   abbrev pub children_of : Node C P → FinMap nat_cmp (Child C P)
   children_of (N4 n) = n.children
   children_of (N16 n) = n.value.children

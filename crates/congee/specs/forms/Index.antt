@@ -5,6 +5,7 @@ use Rattle.std.specs.FinMap.{FinMap, len}
 use Rattle.congee.specs.declared.forms.index.Index.{Index}
 use Rattle.congee.specs.forms.Places.{children_by}
 
+-- a byte's place
 abbrev pub place_of : Index → ℕ → ℕ
 place_of x b = get_or x.places b 0
 
@@ -13,6 +14,7 @@ abbrev pub IsNoneOf : ℕ → List ℕ → Type 0
 IsNoneOf x [] = Unit {0}
 IsNoneOf x (y ∷ r) = (x ≢ y) × IsNoneOf x r
 
+-- no two are the same
 abbrev pub AreDistinct : List ℕ → Type 0
 AreDistinct [] = Unit {0}
 AreDistinct (x ∷ r) = IsNoneOf x r × AreDistinct r
@@ -22,6 +24,7 @@ abbrev pub IsLinked : List ℕ → ℕ → List ℕ → Type 0
 IsLinked next first [] = first ≡ 48
 IsLinked next first (x ∷ r) = (first ≡ x) × (x < 48) × IsLinked next (get_or next x 0) r
 
+-- its free places are a list of distinct ones that no byte has
 pub record IsIndex (x : Index) : Type 0 where
   pub chain : List ℕ
   pub linked : IsLinked x.next x.free chain
@@ -38,9 +41,11 @@ abbrev pub at_places : {X : Type 0} → List ℕ → List X → List (Option X)
 at_places [] xs = []
 at_places (p ∷ r) xs = slice_get xs p ∷ at_places r xs
 
+-- the map from bytes to children that an index and its places hold
 abbrev pub indexed_map : {X : Type 0} → Index → List X → FinMap nat_cmp X
 indexed_map x xs = children_by (at_places x.places xs)
 
+-- there are 48 places, and the index counts the children
 pub record IsIndexed {X : Type 0} (x : Index) (xs : List X) : Type 0 where
   pub index : IsIndex x
   pub places : length xs ≡ 48

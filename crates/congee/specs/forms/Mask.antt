@@ -20,9 +20,11 @@ abbrev pub masked : {X : Type 0} → List ℕ → ℕ → List X → List (Optio
 masked mask b [] = []
 masked mask b (x ∷ r) = cond (eqb (bit_of mask b) 1) (Some x) None ∷ masked mask (b + 1) r
 
+-- the map from bytes to children that a mask and its places hold
 abbrev pub masked_map : {X : Type 0} → List ℕ → List X → FinMap nat_cmp X
 masked_map mask xs = children_by (masked mask 0 xs)
 
+-- there are 256 places with a bit each, and so many children
 pub record IsMasked {X : Type 0} (count : ℕ) (mask : List ℕ) (xs : List X) : Type 0 where
   pub size : length mask ≡ 32
   pub places : length xs ≡ 256

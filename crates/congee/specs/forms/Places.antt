@@ -23,11 +23,13 @@ Rises ((b, x) ∷ r) = AllKeys (λ c. b < c) r × Rises r
 abbrev pub sorted_map : {X : Type 0} → List ℕ → List X → FinMap nat_cmp X
 sorted_map bs xs = from_sorted (pairs bs xs)
 
+-- the bytes rise, each with its child beside it
 pub record IsSorted {X : Type 0} (bs : List ℕ) (xs : List X) : Type 0 where
   pub same : length bs ≡ length xs
   pub rises : Rises (pairs bs xs)
   pub bytes : AllKeys (λ b. b < 256) (pairs bs xs)
 
+-- a byte with its child, if it has one, before other pairs
 abbrev pub pair_of : {X : Type 0} → ℕ → Option X → List (ℕ × X) → List (ℕ × X)
 pair_of b None r = r
 pair_of b (Some x) r = (b, x) ∷ r

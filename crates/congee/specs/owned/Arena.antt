@@ -48,6 +48,7 @@ node_of (Some n) = record {
   retired = false;
 }
 
+-- the nodes of the arena as the tree sees them
 abbrev pub heap_of : {P : Type 0} → Nodes P → ℕ → Node P
 heap_of s n = node_of (get s n)
 

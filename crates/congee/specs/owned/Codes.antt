@@ -31,6 +31,7 @@ module _ {P : Type 0} where
   child_whole (inr (inl name)) = Sub name
   child_whole (inr (inr value)) = Value value
 
+  -- a child is told by its parts
   pub child_back : (c : Child ℕ P) → child_whole (child_parts c) ≡ c
   child_back Blank = refl
   child_back (Sub name) = refl
@@ -51,6 +52,7 @@ module _ {P : Type 0} where
   node_whole (inr (inr (inl b))) = N48 (record { ptr = b.0; alloc = record { memory = record { seal = tt } }; value = record { prefix = b.1.0; children = b.1.1 } })
   node_whole (inr (inr (inr b))) = N256 (record { ptr = b.0; alloc = record { memory = record { seal = tt } }; value = record { prefix = b.1.0; children = b.1.1 } })
 
+  -- a node is told by its parts
   pub node_back : (n : Node ℕ P) → node_whole (node_parts n) ≡ n
   node_back (N4 n) = refl
   node_back (N16 n) = refl

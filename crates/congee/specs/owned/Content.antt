@@ -28,6 +28,7 @@ pub record Content (V A D : Type 0) : Type 0 where
   pub allocator : A
   pub drainer : D
 
+-- its code, by those of values, allocators and drainers
 abbrev pub content_code : {V A D : Type 0} → Coded V → Coded A → Coded D → Coded (Content V A D)
 content_code {V} {A} {D} v a d =
     code_by

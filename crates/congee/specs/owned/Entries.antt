@@ -27,12 +27,14 @@ first_byte [] byte = byte
 first_byte (first ∷ rest) byte = first
 
 module _ {P : Type 0} where
+  -- the form of the places
   abbrev pub form_in : Places P → NodeType
   form_in (N4 n) = T4
   form_in (N16 n) = T16
   form_in (N48 n) = T48
   form_in (N256 n) = T256
 
+  -- the entries by their bytes
   abbrev pub entries_in : Places P → FinMap nat_cmp (Entry P)
   entries_in (N4 n) = n
   entries_in (N16 n) = n.value.children

@@ -61,24 +61,31 @@ module _ (P : RattleType) (p : IsSmall (layout P)) where
   boxed : {ρ : Ty} → FitsIn ρ 400000000 → size (boxed_ty ρ) < 2 ^ 63
   boxed r = let w = struct (field r no_fields) in omega (arith, w.bytes)
 
+  -- 16 entries beside their bytes fit in memory
   pub sorted_fits : size (sorted_ty 16 (layout P)) < 2 ^ 63
   sorted_fits = let w = sorted 16 (omega arith) in omega (arith, w.bytes)
 
+  -- 48 behind an index do
   pub indexed_fits : size (indexed_ty (layout P)) < 2 ^ 63
   indexed_fits = omega (arith, indexed.bytes)
 
+  -- and 256 behind a mask
   pub masked_fits : size (masked_ty (layout P)) < 2 ^ 63
   masked_fits = omega (arith, masked.bytes)
 
+  -- so do 16 in a box
   pub places16_fits : size (boxed_ty (sorted_ty 16 (layout P))) < 2 ^ 63
   places16_fits = boxed (sorted 16 (omega arith))
 
+  -- 48 in one
   pub places48_fits : size (boxed_ty (indexed_ty (layout P))) < 2 ^ 63
   places48_fits = boxed indexed
 
+  -- and 256 in one
   pub places256_fits : size (boxed_ty (masked_ty (layout P))) < 2 ^ 63
   places256_fits = boxed masked
 
+  -- the places of any form fit in memory
   pub places_fits : size (places_ty (layout P)) < 2 ^ 63
   places_fits =
       let w = enum (case (field (sorted 4 (omega arith)) no_fields) (case (field pointer no_fields) (case (field pointer no_fields) (case (field pointer no_fields) no_cases)))) in

@@ -27,6 +27,7 @@ module _ {P : Type 0} where
   lacks None = 0
   lacks (Some x) = fewest (form_of x) (length (prefix_of x)) - map.len (children_of x)
 
+  -- how many those in a list lack
   abbrev pub lacks_all : List (Option (Node ℕ P)) → ℕ
   lacks_all [] = 0
   lacks_all (o ∷ r) = lacks o + lacks_all r

@@ -24,9 +24,11 @@ pub record Going : Type 0 where
   pub gone : ℕ
   pub lesser : Option Lesser
 
+-- its code
 abbrev pub lesser_code : Coded Lesser
 lesser_code = code_by (ℕ × ℕ) (coded× coded_ℕ coded_ℕ) (λ l. (l.made, l.left)) (λ p. record { made = p.0; left = p.1 }) (λ _. refl)
 
+-- and the code of what goes
 abbrev pub going_code : Coded Going
 going_code = code_by (ℕ × Option Lesser) (coded× coded_ℕ (coded_option lesser_code)) (λ g. (g.gone, g.lesser)) (λ p. record { gone = p.0; lesser = p.1 }) (λ _. refl)
 
@@ -42,6 +44,7 @@ GaveWay charged limit before after gone None = after + gone ≡ before
 GaveWay charged limit before after gone (Some l) = ((charged + l.made ≤ limit) × (after + gone + l.left ≡ before + l.made))
     ⊎ ((after + gone ≡ before) × ((limit < charged + l.made) ⊎ (l.made ≢ size_of N4)))
 
+-- the same where something goes; else they stay
 abbrev pub Went : (charged limit before after : ℕ) → Option Going → Type 0
 Went charged limit before after None = after ≡ before
 Went charged limit before after (Some g) = GaveWay charged limit before after g.gone g.lesser
@@ -73,6 +76,7 @@ module _ {P : Type 0} where
   abbrev pub going_from : (ℕ → Node P) → ℕ → ℕ → Going
   going_from h above n = cond ((h n).count == 1) (going_last (h n) above (h above)) (going_one (h n))
 
+  -- what goes with the value at a key's byte, if one is there; where a node is, the way goes on
   abbrev pub at_leaf : (ℕ → Node P) → ℕ → ℕ → (ℕ → Option Going) → Hung P → Option Going
   at_leaf h above n go Nothing = None
   at_leaf h above n go (Below c) = go c

@@ -22,6 +22,7 @@ pub record IsShrunk {C P : Type 0} (old new : Node C P) : Type 0 where
   pub children : children_of new ≡ children_of old
 
 module _ {P : Type 0} where
+  -- the same of the node in a slot
   abbrev pub Shrunk : Slot P → Slot P → Type 0
   Shrunk (Inner n) (Inner m) = IsShrunk n m
   Shrunk (Leaf n) (Leaf m) = IsShrunk n m
@@ -57,6 +58,7 @@ module _ {A : Type 0} (charged limit : A → ℕ) (old new : A) where
   ChargesLesser (Some l) true = (charged new ≡ charged old + l.made) × (charged old + l.made ≤ limit old)
   ChargesLesser (Some l) false = (charged new ≡ charged old) × (limit old < charged old + l.made)
 
+  -- that is charged, and the limit stays
   pub record Charges (lesser : Option Lesser) (result : Bool) : Type 0 where
     pub charges : ChargesLesser lesser result
     pub same_limit : limit new ≡ limit old

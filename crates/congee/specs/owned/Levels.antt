@@ -10,6 +10,7 @@ use Rattle.congee.specs.declared.forms.base_node.Node.{Node as Form}
 use Rattle.congee.specs.declared.keys.TheConstants.{KEY_BYTES}
 
 module _ {P : Type 0} where
+  -- a node on a level as statistics see it
   abbrev pub shape_of : ℕ → Form ℕ P → Shape
   shape_of level x = record { level = level; form = form_of x; prefix = length (prefix_of x); children = map.len (children_of x) }
 
@@ -24,6 +25,7 @@ module _ {P : Type 0} where
   under_bytes go children zero = []
   under_bytes go children (suc b) = under_bytes go children b ++ under_byte go (children b)
 
+  -- a node, if there is one, before those below it
   abbrev pub with_node : (ℕ → List Shape) → ℕ → Option (Form ℕ P) → List Shape
   with_node go level None = []
   with_node go level (Some x) = shape_of level x ∷ under_bytes go (λ b. hung_in (map.get (children_of x) b)) 256

@@ -7,6 +7,7 @@ use native.Mathlib.Nat.{ℕ_set}
 use Rattle.congee.specs.declared.owned.lone.Lone.{Lone}
 
 module _ {P : Type 0} where
+  -- two leaves of the same key and value are one
   pub lone_same : (x y : Lone P) → x.key ≡ y.key → x.value ≡ y.value → x ≡ y
   lone_same x y k v i = record {
     key = k i;

@@ -23,6 +23,7 @@ pub record Owners (V : Type 0) : Type 0 where
   pub wants : map.FinMap nat_cmp (List ℕ)
   pub goes : map.FinMap nat_cmp Going
 
+-- its code, by that of values
 abbrev pub owners_code : {V : Type 0} → Coded V → Coded (Owners V)
 owners_code {V} v =
     code_by

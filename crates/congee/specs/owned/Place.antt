@@ -12,6 +12,7 @@ EndsAt {P} s key n Held = (v : P) × (child_for (heap_of s n) key ≡ Holds v)
 EndsAt s key n Free = child_for (heap_of s n) key ≡ Nothing
 EndsAt s key n (Apart c) = (child_for (heap_of s n) key ≡ Below c) × (fits (heap_of s c).prefix key ≡ false)
 
+-- the key's way ends at a place, with the two nodes above it
 pub record Located {P : Type 0} (s : Nodes P) (key : List ℕ) (p : Place) : Type 0 where
   pub reached : Reached s key p.above p.at
   pub higher : Reached s key p.top p.above

@@ -29,5 +29,6 @@ pub data OwnerGoesOn {V : Type 0} (old new : Owners V) : Type 0 where
   OwnerModified : (going : Option Going) (call : Call V) (reply : Reply V) → OwnerModifies old new going call reply → NoneSkipped old.bytes new.bytes going → OwnerGoesOn old new
   OwnerLeft : new ≡ old → OwnerGoesOn old new
 
+-- the same of a tree of owners
 abbrev pub OwnersStayFilled : {V : Type 0} → Owners V → Type 0
 OwnersStayFilled {V} last = (first : Owners V) (calls : List (Owners V)) → first.lacking ≡ 0 → IsRun OwnerGoesOn first calls last → AllFilled last.nodes

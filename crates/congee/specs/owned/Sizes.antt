@@ -10,6 +10,7 @@ module _ {P : Type 0} where
   bytes_at None = 0
   bytes_at (Some n) = size_of (form_of n)
 
+  -- the sizes of what stands in a list of places
   abbrev pub bytes_in : List (Option (Node ℕ P)) → ℕ
   bytes_in [] = 0
   bytes_in (o ∷ r) = bytes_at o + bytes_in r

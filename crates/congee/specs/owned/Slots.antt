@@ -65,6 +65,7 @@ module _ {P : Type 0} where
   lone_in (Some (Sub below)) = None
   lone_in (Some (Value lone)) = Some (lone_node lone)
 
+  -- the leaf in a node's place under a byte, if one is there
   abbrev pub inline_at : Slot P → ℕ → Option (Node ℕ P)
   inline_at (Inner n) byte = lone_in (finite.get (children_of n) byte)
   inline_at (Leaf n) byte = None
@@ -74,6 +75,7 @@ module _ {P : Type 0} where
   under_offset slot x zero = Some (slot_node slot x)
   under_offset slot x (suc byte) = inline_at x byte
 
+  -- the same of a slot that may be vacant
   abbrev pub in_slot : ℕ → Option (Slot P) → ℕ → Option (Node ℕ P)
   in_slot slot None offset = None
   in_slot slot (Some x) offset = under_offset slot x offset

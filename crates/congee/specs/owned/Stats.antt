@@ -8,6 +8,7 @@ use Rattle.congee.specs.declared.owned.stats.LevelStats.{LevelStats}
 use Rattle.congee.specs.declared.owned.stats.NodeStats.{NodeStats}
 use Rattle.congee.specs.declared.forms.prefix.TheConstants.{MAX_PREFIX_LEN}
 
+-- no node of a form
 abbrev pub no_nodes : NodeInfo
 no_nodes = record { node_count = 0; value_count = 0 }
 
@@ -19,9 +20,11 @@ one_more children info = record { node_count = info.node_count + 1; value_count 
 abbrev pub capped : ℕ → ℕ
 capped n = min n (2 ^ 64 - 1)
 
+-- so do both numbers of a form
 abbrev pub capped_info : NodeInfo → NodeInfo
 capped_info info = record { node_count = capped info.node_count; value_count = capped info.value_count }
 
+-- a level without nodes
 abbrev pub empty_level : LevelStats
 empty_level = record { n4 = no_nodes; n16 = no_nodes; n48 = no_nodes; n256 = no_nodes }
 
@@ -68,12 +71,14 @@ numbered (suc zero) = N16
 numbered (suc (suc zero)) = N48
 numbered (suc (suc (suc n))) = N256
 
+-- a form is told by its number
 pub numbered_back : (form : NodeType) → numbered (number_of form) ≡ form
 numbered_back N4 = refl
 numbered_back N16 = refl
 numbered_back N48 = refl
 numbered_back N256 = refl
 
+-- the code of a shape
 abbrev pub shape_code : Coded Shape
 shape_code =
     code_by
@@ -83,6 +88,7 @@ shape_code =
     (λ p. record { level = p.0; form = numbered p.1.0; prefix = p.1.1.0; children = p.1.1.1 })
     (λ s i. record { level = s.level; form = numbered_back s.form i; prefix = s.prefix; children = s.children })
 
+-- whether two forms are the same
 abbrev pub is_form : NodeType → NodeType → Bool
 is_form N4 N4 = true
 is_form N16 N16 = true

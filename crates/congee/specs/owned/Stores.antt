@@ -44,6 +44,7 @@ module _ {P : Type 0} where
   HasNode (Some (Sub name)) = HasOwnSlot name
   HasNode (Some (Value value)) = ⊥
 
+  -- a leaf hangs there that lies in its parent's place
   abbrev pub HasInline : Option (Child ℕ P) → Type 0
   HasInline None = ⊥
   HasInline (Some Blank) = ⊥

@@ -44,6 +44,7 @@ abbrev pub gain : List ℕ → ℕ
 gain [] = 0
 gain (size ∷ sizes) = net size + gain sizes
 
+-- the same of an insertion, which may make none
 abbrev pub gain_of : Option (List ℕ) → ℕ
 gain_of None = 0
 gain_of (Some sizes) = gain sizes
@@ -70,6 +71,7 @@ IsRefused None charged limit e = ⊥
 IsRefused (Some sizes) charged limit e = IsRefusedOf sizes charged limit e
 
 module _ {P X : Type 0} where
+  -- what is said at the last node of a key's way, by what hangs at its byte; where a node does, the way goes on
   abbrev pub at_end : (Node P → Hung P → X) → Node P → (ℕ → X) → Hung P → X
   at_end last n go Nothing = last n Nothing
   at_end last n go (Below c) = go c
@@ -90,6 +92,7 @@ module _ {P : Type 0} where
   abbrev pub free_wants : Node P → List ℕ
   free_wants n = cond (length n.prefix == MAX_PREFIX_LEN) (room_for n) (size_of N4 ∷ room_for n)
 
+  -- what the insertion of an absent key makes at the last node of its way
   abbrev pub last_wants : Node P → Hung P → Option (List ℕ)
   last_wants n Nothing = Some (free_wants n)
   last_wants n (Below c) = None

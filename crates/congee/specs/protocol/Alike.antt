@@ -40,6 +40,7 @@ pub record Ordered {V : Type 0} (order : List ℕ) (h : ℕ → Node V) : Type 0
   pub each : (c : ℕ) → (h c).made ≡ true → (n : ℕ) × (slice_get order n ≡ Some c)
   pub once : (m n c : ℕ) → slice_get order m ≡ Some c → slice_get order n ≡ Some c → m ≡ n
 
+-- the same hangs at a byte, a node by its number in that order
 abbrev pub HungAlike : {V : Type 0} → List ℕ → Hung V → Hung V → Type 0
 HungAlike order Nothing y = y ≡ Nothing
 HungAlike order (Below c) y = (n : ℕ) × (y ≡ Below n) × (slice_get order n ≡ Some c)
@@ -66,10 +67,12 @@ module _ {C : Type 0} (order : List ℕ) (number : C → ℕ) where
   abbrev pub Named : C → ℕ → Type 0
   Named c n = slice_get order n ≡ Some (number c)
 
+  -- the same node at the same version
   pub record SeatAlike (s : Stamp C) (u : Stamp ℕ) : Type 0 where
     pub node : Named s.node u.node
     pub version : u.version ≡ s.version
 
+  -- the same node above, and what was read there
   pub record ParentAlike (p : Parent C) (q : Parent ℕ) : Type 0 where
     pub seat : SeatAlike p.seat q.seat
     pub byte : q.byte ≡ p.byte
@@ -77,26 +80,32 @@ module _ {C : Type 0} (order : List ℕ) (number : C → ℕ) where
     pub count : q.count ≡ p.count
     pub form : q.form ≡ p.form
 
+  -- the same one, or none
   abbrev pub TopAlike : Option (Parent C) → Option (Parent ℕ) → Type 0
   TopAlike None o = o ≡ None
   TopAlike (Some p) o = (q : Parent ℕ) × (o ≡ Some q) × ParentAlike p q
 
+  -- the same two nodes above
   pub record OverAlike (u : Over C) (w : Over ℕ) : Type 0 where
     pub near : ParentAlike u.near w.near
     pub far : TopAlike u.far w.far
 
+  -- the same ones, or none
   abbrev pub AboveAlike : Option (Over C) → Option (Over ℕ) → Type 0
   AboveAlike None o = o ≡ None
   AboveAlike (Some u) o = (w : Over ℕ) × (o ≡ Some w) × OverAlike u w
 
+  -- the same node at a version, or none
   abbrev pub SeatedAlike : Option (Stamp C) → Option (Stamp ℕ) → Type 0
   SeatedAlike None o = o ≡ None
   SeatedAlike (Some s) o = (u : Stamp ℕ) × (o ≡ Some u) × SeatAlike s u
 
+  -- the same made node, or none
   abbrev pub MadeAlike : Option C → Option ℕ → Type 0
   MadeAlike None o = o ≡ None
   MadeAlike (Some c) o = (n : ℕ) × (o ≡ Some n) × Named c n
 
+  -- the same node at hand
   pub record SiteAlike (s : Site C) (u : Site ℕ) : Type 0 where
     pub above : AboveAlike s.above u.above
     pub at : SeatAlike s.at u.at
@@ -109,15 +118,18 @@ module _ {C : Type 0} (order : List ℕ) (number : C → ℕ) where
     pub site : SiteAlike s u
     pub count : u.count ≡ s.count
 
+  -- the same change of one node
   abbrev pub SingleAlike : Single C → Single ℕ → Type 0
   SingleAlike Set x = x ≡ Set
   SingleAlike (Link leaf) x = (n : ℕ) × (x ≡ Link n) × Named leaf n
 
+  -- the same change at the same byte of the same node
   pub record OneAlike (one : One C) (u : One ℕ) : Type 0 where
     pub at : SeatAlike one.at u.at
     pub byte : u.byte ≡ one.byte
     pub change : SingleAlike one.change u.change
 
+  -- the same change of two nodes
   abbrev pub DoubleAlike : Double C → Double ℕ → Type 0
   DoubleAlike Unlink x = x ≡ Unlink
   DoubleAlike (Grow c) x = (n : ℕ) × (x ≡ Grow n) × Named c n
@@ -127,26 +139,31 @@ module _ {C : Type 0} (order : List ℕ) (number : C → ℕ) where
   DoubleAlike Collapse x = x ≡ Collapse
   DoubleAlike (ShrinkAbove c) x = (n : ℕ) × (x ≡ ShrinkAbove n) × Named c n
 
+  -- the same change of the same two nodes
   pub record TwoAlike (two : Two C) (u : Two ℕ) : Type 0 where
     pub top : TopAlike two.top u.top
     pub above : ParentAlike two.above u.above
     pub at : SeatAlike two.at u.at
     pub change : DoubleAlike two.change u.change
 
+  -- the same plan
   abbrev pub PlanAlike : Plan C → Plan ℕ → Type 0
   PlanAlike (Here check one) x = (o : Option (Stamp ℕ)) × (u : One ℕ) × (x ≡ Here o u) × SeatedAlike check o × OneAlike one u
   PlanAlike (Above two) x = (u : Two ℕ) × (x ≡ Above u) × TwoAlike two u
 
+  -- the same node on a scan's way
   pub record RungAlike (r : Rung C) (q : Rung ℕ) : Type 0 where
     pub at : SeatAlike r.at q.at
     pub region : q.region ≡ r.region
     pub from : q.from ≡ r.from
 
+  -- the same one, or none
   abbrev pub PlaceAlike : Option (Rung C) → Option (Rung ℕ) → Type 0
   PlaceAlike None o = o ≡ None
   PlaceAlike (Some r) o = (q : Rung ℕ) × (o ≡ Some q) × RungAlike r q
 
   module _ {V : Type 0} where
+    -- the same child
     abbrev pub ChildAlike : Child C V → Child ℕ V → Type 0
     ChildAlike child.Blank x = x ≡ child.Blank
     ChildAlike (child.Node c) x = (n : ℕ) × (x ≡ child.Node n) × Named c n
@@ -170,6 +187,7 @@ module _ {C : Type 0} (order : List ℕ) (number : C → ℕ) where
       abbrev pub IsTaken : Stamp C → Type 0
       IsTaken s = is_taken (h (number s.node)) s.version ≡ true
 
+      -- the same stage of a scan, with the same child where the check of it can succeed
       abbrev pub StageAlike : Stage C V → Stage ℕ V → Type 0
       StageAlike stage.New x = x ≡ stage.New
       StageAlike (stage.Enter c y) x = (n : ℕ) × (x ≡ stage.Enter n y) × Named c n
@@ -178,6 +196,7 @@ module _ {C : Type 0} (order : List ℕ) (number : C → ℕ) where
       StageAlike stage.Full x = x ≡ stage.Full
       StageAlike stage.Over x = x ≡ stage.Over
 
+      -- the same scan on the same way
       pub record ScanAlike (s : Scan C V) (t : Scan ℕ V) : Type 0 where
         pub start : t.start ≡ s.start
         pub last : t.last ≡ s.last
@@ -225,6 +244,7 @@ module _ {C : Type 0} (order : List ℕ) (number : C → ℕ) where
         pub report : u.report ≡ t.report
         pub phase : PhaseAlike t.phase u.phase
 
+      -- the same call
       pub record CallAlike (m : Machine C V) (q : Machine ℕ V) : Type 0 where
         pub root : Named m.root q.root
         pub key : q.key ≡ m.key

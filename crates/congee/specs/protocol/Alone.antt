@@ -30,25 +30,31 @@ abbrev pub seats_if : {C : Type 0} → Option (Stamp C) → List (Stamp C)
 seats_if None = []
 seats_if (Some p) = p ∷ []
 
+-- that of the node above both, if there is one
 abbrev pub seats_top : {C : Type 0} → Option (Parent C) → List (Stamp C)
 seats_top None = []
 seats_top (Some p) = p.seat ∷ []
 
+-- those of the nodes above, if there are any
 abbrev pub seats_over : {C : Type 0} → Option (Over C) → List (Stamp C)
 seats_over None = []
 seats_over (Some u) = u.near.seat ∷ seats_top u.far
 
+-- those of the node at hand and of the nodes above
 abbrev pub seats_site : {C : Type 0} → Site C → List (Stamp C)
 seats_site s = s.at ∷ seats_over s.above
 
+-- those of a plan
 abbrev pub seats_plan : {C : Type 0} → Plan C → List (Stamp C)
 seats_plan (Here check one) = one.at ∷ seats_if check
 seats_plan (Above two) = two.above.seat ∷ two.at ∷ []
 
+-- those of a scan's way
 abbrev pub seats_rungs : {C : Type 0} → List (Rung C) → List (Stamp C)
 seats_rungs [] = []
 seats_rungs (r ∷ rest) = r.at ∷ seats_rungs rest
 
+-- those of a scan, by its stage
 abbrev pub seats_sweep : {C V : Type 0} → Scan C V → Stage C V → List (Stamp C)
 seats_sweep s stage.New = []
 seats_sweep s (stage.Enter n x) = seats_rungs (rungs_of s.above)
@@ -57,6 +63,7 @@ seats_sweep s (stage.Check r x) = r.at ∷ seats_rungs (rungs_of s.above)
 seats_sweep s stage.Full = []
 seats_sweep s stage.Over = []
 
+-- those of a call, by its phase
 abbrev pub seats : {C V : Type 0} → Phase C V → List (Stamp C)
 seats New = []
 seats (Version above n) = seats_over above
@@ -99,6 +106,7 @@ abbrev pub IsFreeAt : {C V : Type 0} → (C → ℕ) → (ℕ → Node V) → St
 IsFreeAt number h (stage.Enter n x) = is_free (h (number n)) ≡ true
 IsFreeAt number h _ = Unit {0}
 
+-- the same of a call, by its phase
 abbrev pub IsClear : {C V : Type 0} → (C → ℕ) → (ℕ → Node V) → Phase C V → Type 0
 IsClear number h (Unwind n next None) = ⊥
 IsClear number h (Sweep s) = IsFreeAt number h s.stage
@@ -167,6 +175,7 @@ module _ {V : Type 0} where
   nodes_under h zero n = 0
   nodes_under h (suc f) n = 1 + sum_from (λ b. nodes_at (λ c. nodes_under h f c) ((h n).children b)) 0 256
 
+  -- the pairs below a node, over so many levels at most
   unfoldable pub pairs_under : (ℕ → Node V) → ℕ → ℕ → ℕ
   pairs_under h zero n = 0
   pairs_under h (suc f) n = sum_from (λ b. pairs_at (λ c. pairs_under h f c) ((h n).children b)) 0 256
@@ -175,6 +184,7 @@ module _ {V : Type 0} where
   abbrev pub tree_nodes : (ℕ → Node V) → ℕ
   tree_nodes h = nodes_under h KEY_BYTES 0
 
+  -- the pairs of a tree
   abbrev pub tree_pairs : (ℕ → Node V) → ℕ
   tree_pairs h = pairs_under h KEY_BYTES 0
 

@@ -41,6 +41,7 @@ abbrev pub told_or : {V : Type 0} → Option (Reply V) → Outcome V → Option 
 told_or later (Done r) = Some r
 told_or later _ = later
 
+-- the same of a turn
 abbrev pub told : {C V : Type 0} → NextPhase C V → Option (Reply V)
 told t = told_or (reply_in t.phase) t.report.outcome
 
@@ -49,6 +50,7 @@ abbrev pub AnswersIf : {C V : Type 0} → Bool → (V → V → Bool) → ℕ �
 AnswersIf {C} {V} true same k kind given h t h' = (r : Reply V) × (told t ≡ Some r) × Decides same k kind given h r h'
 AnswersIf false same k kind given h t h' = SameMap h h'
 
+-- the same of a step with its report
 abbrev pub StepAnswers : {C V : Type 0} → (V → V → Bool) → ℕ → Kind V → Option V → (ℕ → Node V) → NextPhase C V → (ℕ → Node V) → Type 0
 StepAnswers same k kind given h t h' = AnswersIf t.report.decided same k kind given h t h'
 

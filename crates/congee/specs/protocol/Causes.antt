@@ -39,6 +39,7 @@ Causes why most always (AskOld s v) e = Uncounted always e
 Causes why most always (Sweep s) e = Uncounted always e
 Causes why most always _ e = ⊥
 
+-- a step that is refused has that cause
 abbrev pub IsCause : {C V : Type 0} → (NodeType → Refusal → Type 0) → ℕ → Bool → Phase C V → Outcome V → Type 0
 IsCause why most always s (Refused e) = Causes why most always s e
 IsCause why most always s _ = Unit {0}

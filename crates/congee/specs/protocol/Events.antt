@@ -35,12 +35,14 @@ pub record SeenTruly {C V : Type 0} (number : C → ℕ) (n : Node V) (key : Lis
   pub alone : n.count ≡ 1 → hung number s.child ≢ Nothing → (b : ℕ) → b ≢ slice_index key (length n.prefix) → n.children b ≡ Nothing
   pub room : hung number s.child ≡ Nothing → n.count < 256
 
+-- the places of a form
 abbrev pub places : NodeType → ℕ
 places N4 = 4
 places N16 = 16
 places N48 = 48
 places N256 = 256
 
+-- what a read of a node gives for a key: where its prefix differs, or what it finds if the lock word is the one taken
 abbrev pub ReadGives : {C V : Type 0} → (C → ℕ) → Bool → Node V → ℕ → List ℕ → Reading C V → Type 0
 ReadGives number always n v key (Differs common byte) = Parts n.prefix key common × (byte ≡ slice_index n.prefix common)
 ReadGives number always n v key (Fits depth form s) = (fits n.prefix key ≡ true) × (depth ≡ length n.prefix) × (depth ≤ MAX_PREFIX_LEN) × (places form ≡ n.capacity) × (s.byte ≡ slice_index key depth)
@@ -56,11 +58,13 @@ pub record SameBut {V : Type 0} (h : ℕ → Node V) (n : ℕ) (x : Node V) (h' 
 abbrev pub upgrade_gives : {V : Type 0} → ℕ → Node V → ℕ → Bool → Upgrade
 upgrade_gives most n v fail = cond (v == most) Exhausted (cond (is_taken n v && not fail) Locked Failed)
 
+-- the node is locked where the exchange succeeds; else nothing changes
 abbrev pub Locks : {V : Type 0} → (ℕ → Node V) → ℕ → Upgrade → (ℕ → Node V) → Type 0
 Locks h n Locked h' = SameBut h n (record (h n) { locked = true }) h'
 Locks h n Failed h' = h' ≡ h
 Locks h n Exhausted h' = h' ≡ h
 
+-- the exchange answers so, and leaves the nodes so
 pub record UpgradeGives {V : Type 0} (most : ℕ) (h : ℕ → Node V) (n v : ℕ) (fail : Bool) (r : Upgrade) (h' : ℕ → Node V) : Type 0 where
   pub answer : r ≡ upgrade_gives most (h n) v fail
   pub step : Locks h n r h'
@@ -82,6 +86,7 @@ pub record NewNode {V : Type 0} (h : ℕ → Node V) (n : ℕ) (form : NodeType)
   pub unretired : (h' n).retired ≡ false
   pub others : (m : ℕ) → m ≢ n → h' m ≡ h m
 
+-- a node is made, or nothing changes
 abbrev pub MakeGives : {C V : Type 0} → (C → ℕ) → (ℕ → Node V) → NodeType → List ℕ → ℕ → Result C Refusal → (ℕ → Node V) → Type 0
 MakeGives number h form key size (Ok c) h' = NewNode h (number c) form key size h'
 MakeGives number h form key size (Err e) h' = h' ≡ h
@@ -97,6 +102,7 @@ weight Nothing = 0
 weight (Below c) = 1
 weight (Holds v) = 1
 
+-- one node's children change at one byte, and nothing else changes
 pub record ChangeGives {V : Type 0} (h : ℕ → Node V) (n b : ℕ) (x : Hung V) (h' : ℕ → Node V) : Type 0 where
   pub prefix : (h' n).prefix ≡ (h n).prefix
   pub capacity : (h' n).capacity ≡ (h n).capacity
@@ -118,6 +124,7 @@ HoldsValues n = (b c : ℕ) → n.children b ≢ Below c
 abbrev pub HoldsNodes : {V : Type 0} → Node V → Type 0
 HoldsNodes {V} n = (b : ℕ) (v : V) → n.children b ≢ Holds v
 
+-- it holds the one or the other
 abbrev pub HoldsAlike : {V : Type 0} → Node V → Type 0
 HoldsAlike n = HoldsValues n ⊎ HoldsNodes n
 
@@ -173,11 +180,14 @@ pub record BackGives {V : Type 0} (h : ℕ → Node V) (n : ℕ) (h' : ℕ → N
   pub unlocked : (h' n).locked ≡ false
   pub others : (m : ℕ) → m ≢ n → h' m ≡ h m
 
+-- a node is marked, and nothing else changes
 abbrev pub ObsoleteGives : {V : Type 0} → (ℕ → Node V) → ℕ → (ℕ → Node V) → Type 0
 ObsoleteGives h n h' = SameBut h n (record (h n) { obsolete = true }) h'
 
+-- a node is handed over, and nothing else changes
 abbrev pub RetireGives : {V : Type 0} → (ℕ → Node V) → ℕ → (ℕ → Node V) → Type 0
 RetireGives h n h' = SameBut h n (record (h n) { retired = true }) h'
 
+-- a node is unlocked with the next version, and nothing else changes
 abbrev pub UnlockGives : {V : Type 0} → (ℕ → Node V) → ℕ → (ℕ → Node V) → Type 0
 UnlockGives h n h' = SameBut h n (record (h n) { version = (h n).version + 1; locked = false }) h'

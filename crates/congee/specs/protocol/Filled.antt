@@ -33,6 +33,7 @@ pub record FilledAs (size count capacity : ℕ) : Type 0 where
   pub branches : size < MAX_PREFIX_LEN → 2 ≤ count
   pub least : (form : NodeType) → places form ≡ capacity → least_in form ≤ count
 
+-- a node is so
 abbrev pub IsFilled : {V : Type 0} → Node V → Type 0
 IsFilled n = FilledAs (length n.prefix) n.count n.capacity
 
@@ -60,6 +61,7 @@ FillsTwo number h (Grow c) m q k n = k ≢ 0 → FilledAs (length n.prefix) (suc
 FillsTwo number h (GrowLink c leaf byte) m q k n = (k ≢ 0 → FilledAs (length n.prefix) (suc n.count) (h (number c)).capacity) × ((h (number leaf)).capacity ≡ 4)
 FillsTwo number h (Split top leaf common byte) m q k n = ((h (number top)).capacity ≡ 4) × ((h (number leaf)).capacity ≡ 4)
 
+-- the same of the nodes that the change names
 abbrev pub FillsAt : {C V : Type 0} → (C → ℕ) → (ℕ → Node V) → Two C → Type 0
 FillsAt number h two = FillsTwo number h two.change (number two.above.seat.node) (h (number two.above.seat.node)) (number two.at.node) (h (number two.at.node))
 
@@ -67,16 +69,20 @@ FillsAt number h two = FillsTwo number h two.change (number two.above.seat.node)
 abbrev pub MayFillOne : {C V : Type 0} → (C → ℕ) → (ℕ → Node V) → Option V → One C → Type 0
 MayFillOne number h given one = is_taken (h (number one.at.node)) one.at.version ≡ true → FillsOne number h one.change given (number one.at.node) (h (number one.at.node))
 
+-- the same of a change of two nodes, of which the upper one is locked
 abbrev pub MayFillHalf : {C V : Type 0} → (C → ℕ) → (ℕ → Node V) → Two C → Type 0
 MayFillHalf number h two = is_taken (h (number two.at.node)) two.at.version ≡ true → FillsAt number h two
 
+-- and of one with neither locked
 abbrev pub MayFillTwo : {C V : Type 0} → (C → ℕ) → (ℕ → Node V) → Two C → Type 0
 MayFillTwo number h two = is_taken (h (number two.above.seat.node)) two.above.seat.version ≡ true → MayFillHalf number h two
 
+-- and of a plan
 abbrev pub MayFillPlan : {C V : Type 0} → (C → ℕ) → (ℕ → Node V) → V → Plan C → Type 0
 MayFillPlan number h v (Here check one) = MayFillOne number h (Some v) one
 MayFillPlan number h v (Above two) = MayFillTwo number h two
 
+-- a made node, if there is one, has four places
 abbrev pub IsSmall : {C V : Type 0} → (C → ℕ) → (ℕ → Node V) → Option C → Type 0
 IsSmall number h None = Unit {0}
 IsSmall number h (Some c) = (h (number c)).capacity ≡ 4

@@ -42,6 +42,7 @@ pub record HandsNode {V : Type 0} (by : ℕ → List ℕ) (h : ℕ → Node V) (
   pub after : is_waiting (h' n) ≡ true
   pub nodes : (m : ℕ) → m ≢ n → is_waiting (h' m) ≡ is_waiting (h m)
 
+-- a step hands over nothing, or one node
 abbrev pub HandsAt : {V : Type 0} → (ℕ → List ℕ) → (ℕ → Node V) → ℕ → (ℕ → List ℕ) → (ℕ → Node V) → Type 0
 HandsAt by h i by' h' = HandsNothing by h by' h' ⊎ ((n : ℕ) × HandsNode by h i n by' h')
 
@@ -58,6 +59,7 @@ IsLeaving (Unlock m r) k = Unit {0}
 IsLeaving Ended k = Unit {0}
 IsLeaving _ k = ⊥
 
+-- so is each call that handed over some
 abbrev pub Leaving : {C V : Type 0} → (ℕ → List ℕ) → List (Machine C V) → Type 0
 Leaving {C} {V} by ms = (i : ℕ) → by i ≢ [] → (m : Machine C V) × (slice_get ms i ≡ Some m) × IsLeaving m.phase (length (by i))
 
@@ -99,6 +101,7 @@ pub record TakesNodes {V : Type 0} (took : ℕ → List ℕ) (h : ℕ → Node V
   pub out : (n : ℕ) → Contains nodes n → IsOut h' n
   pub tree : (m : ℕ) → (Contains nodes m → ⊥) → InTree h m → InTree h' m
 
+-- a step takes out nothing, or these
 abbrev pub TakesAt : {V : Type 0} → (ℕ → List ℕ) → (ℕ → Node V) → ℕ → (ℕ → List ℕ) → (ℕ → Node V) → Type 0
 TakesAt took h i took' h' = TakesNothing took h took' h' ⊎ ((nodes : List ℕ) × TakesNodes took h i nodes took' h')
 

@@ -18,6 +18,7 @@ abbrev pub IsMade : {C : Type 0} → (C → ℕ) → Option C → ℕ → Type 0
 IsMade number None n = ⊥
 IsMade number (Some c) n = n ≡ number c
 
+-- the node above both, where there is one
 abbrev pub IsTop : {C : Type 0} → (C → ℕ) → Option (Parent C) → ℕ → Type 0
 IsTop number None n = ⊥
 IsTop number (Some p) n = n ≡ number p.seat.node
@@ -40,6 +41,7 @@ abbrev pub MadeForOne : {C : Type 0} → (C → ℕ) → Single C → ℕ → Ty
 MadeForOne number Set n = ⊥
 MadeForOne number (Link leaf) n = n ≡ number leaf
 
+-- the same of a change of two nodes
 abbrev pub MadeForTwo : {C : Type 0} → (C → ℕ) → Double C → ℕ → Type 0
 MadeForTwo number Unlink n = ⊥
 MadeForTwo number (Grow c) n = n ≡ number c
@@ -49,6 +51,7 @@ MadeForTwo number (ShrinkAbove c) n = n ≡ number c
 MadeForTwo number (GrowLink c leaf byte) n = (n ≡ number c) ⊎ (n ≡ number leaf)
 MadeForTwo number (Split top leaf common byte) n = (n ≡ number top) ⊎ (n ≡ number leaf)
 
+-- the same of a plan
 abbrev pub MadeForPlan : {C : Type 0} → (C → ℕ) → Plan C → ℕ → Type 0
 MadeForPlan number (Here check one) n = MadeForOne number one.change n
 MadeForPlan number (Above two) n = MadeForTwo number two.change n

@@ -28,6 +28,7 @@ abbrev pub name_above : {C : Type 0} → (C → ℕ) → Option (Parent C) → L
 name_above number None = []
 name_above number (Some p) = number p.seat.node ∷ []
 
+-- the two nodes above
 abbrev pub names_over : {C : Type 0} → (C → ℕ) → Option (Over C) → List ℕ
 names_over number None = []
 names_over number (Some u) = number u.near.seat.node ∷ name_above number u.far
@@ -45,6 +46,7 @@ abbrev pub names_for_one : {C : Type 0} → (C → ℕ) → Single C → List �
 names_for_one number Set = []
 names_for_one number (Link leaf) = number leaf ∷ []
 
+-- those for a change of two nodes
 abbrev pub names_for_two : {C : Type 0} → (C → ℕ) → Double C → List ℕ
 names_for_two number Unlink = []
 names_for_two number (Grow c) = number c ∷ []
@@ -58,12 +60,15 @@ names_for_two number (Split top leaf common byte) = number top ∷ number leaf �
 abbrev pub names_site : {C : Type 0} → (C → ℕ) → Site C → List ℕ
 names_site number s = number s.at.node ∷ names_over number s.above
 
+-- those of a change of one node
 abbrev pub names_one : {C : Type 0} → (C → ℕ) → One C → List ℕ
 names_one number one = number one.at.node ∷ names_for_one number one.change
 
+-- those of a change of two nodes
 abbrev pub names_two : {C : Type 0} → (C → ℕ) → Two C → List ℕ
 names_two number two = number two.above.seat.node ∷ number two.at.node ∷ name_above number two.top ++ names_for_two number two.change
 
+-- those of a plan
 abbrev pub names_plan : {C : Type 0} → (C → ℕ) → Plan C → List ℕ
 names_plan number (Here check one) = name_seated number check ++ names_one number one
 names_plan number (Above two) = names_two number two

@@ -37,6 +37,7 @@ plain_node_of (Some n) = record {
   retired = n.retired;
 }
 
+-- the nodes of a list by their places
 abbrev pub plain_heap : List PlainNode → ℕ → Node ℕ
 plain_heap nodes i = plain_node_of (slice_get nodes i)
 

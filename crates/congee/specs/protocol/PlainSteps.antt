@@ -78,6 +78,7 @@ back h n = put h n (record (h n) { destroyed = true; locked = false })
 abbrev pub with_child : {V : Type 0} → Node V → ℕ → Hung V → Node V
 with_child n b x = record n { children = λ c. cond (c == b) x (n.children c); count = n.count + weight x - weight (n.children b) }
 
+-- the same in the nodes
 abbrev pub hang : {V : Type 0} → (ℕ → Node V) → ℕ → ℕ → Hung V → ℕ → Node V
 hang h n b x = put h n (with_child (h n) b x)
 
@@ -109,6 +110,7 @@ common [] key = 0
 common (x ∷ p) [] = 0
 common (x ∷ p) (y ∷ key) = cond (x == y) (suc (common p key)) 0
 
+-- what hangs at a byte, as a child
 abbrev pub child_of : {V : Type 0} → Hung V → Child ℕ V
 child_of Nothing = child.Blank
 child_of (Below c) = child.Node c
@@ -132,6 +134,7 @@ told_of byte (Some x) = record { child = unmarked x.child; byte = byte; full = x
 abbrev pub form_of : ℕ → NodeType
 form_of n = cond (n == 4) N4 (cond (n == 16) N16 (cond (n == 48) N48 N256))
 
+-- a read of a node for a key
 abbrev pub reading : {V : Type 0} → Node V → ℕ → List ℕ → Option (Seen Mark V) → Reading ℕ V
 reading n v key seen = cond (fits n.prefix key)
     (Fits (length n.prefix) (form_of n.capacity) (cond (is_taken n v) (looks n key) (told_of (slice_index key (length n.prefix)) seen)))
@@ -143,14 +146,17 @@ least_or byte Nothing r = r
 least_or byte (Below c) r = least.Node byte c
 least_or byte (Holds v) r = least.Value byte v
 
+-- the first of so many bytes that has one
 abbrev pub least_from : {V : Type 0} → Node V → ℕ → ℕ → Least ℕ V
 least_from n zero from = least.Nothing
 least_from n (suc f) from = least_or from (n.children from) (least_from n f (from + 1))
 
+-- what was to be seen of it at a changed node
 abbrev pub least_told : {V : Type 0} → Option (Seen Mark V) → Least ℕ V
 least_told None = least.Nothing
 least_told (Some x) = least_seen x.byte (unmarked x.child)
 
+-- the least child from one byte to another, by whether the node is as it was taken
 abbrev pub least_of : {V : Type 0} → Node V → ℕ → ℕ → ℕ → Option (Seen Mark V) → Least ℕ V
 least_of n v from last seen = cond (is_taken n v) (least_from n (last + 1 - from) from) (least_told seen)
 
@@ -160,10 +166,12 @@ name_or Nothing c = c
 name_or (Below d) c = d
 name_or (Holds v) c = c
 
+-- the first such node
 abbrev pub other_from : {V : Type 0} → Node V → ℕ → ℕ → ℕ → ℕ
 other_from n b zero from = 0
 other_from n b (suc f) from = cond (from == b) (other_from n b f (from + 1)) (name_or (n.children from) (other_from n b f (from + 1)))
 
+-- the node that hangs at another byte
 abbrev pub other_of : {V : Type 0} → Node V → ℕ → ℕ
 other_of n b = other_from n b 256 0
 
@@ -172,6 +180,7 @@ abbrev pub front : ℕ → List ℕ → ℕ
 front q [] = q
 front q (b ∷ p) = front (256 * q + b) p
 
+-- they are a region
 abbrev pub region_of : List ℕ → Region
 region_of p = record { base = front 0 p * span (length p); depth = length p }
 
@@ -182,6 +191,7 @@ followed h s r (least.Node byte c) = goes s (pushed s.above (moved r byte)) (sta
 followed h s r (least.Value byte v) = filled s r byte v
 followed h s r least.Uncopied = over s (told.Refused refusal.Count)
 
+-- a scan's step, by its stage
 abbrev pub swung : {V : Type 0} → ℕ → Option (Seen Mark V) → (ℕ → Node V) → Scan ℕ V → Stage ℕ V → Swung ℕ V
 swung root seen h s stage.New = begins root s (version_of (h root))
 swung root seen h s (stage.Enter n x) = entered root s n x (version_of (h n))
@@ -194,18 +204,22 @@ swung root seen h s stage.Over = over s told.Running
 abbrev pub asked : {V : Type 0} → Site ℕ → V → NextPhase ℕ V
 asked s v = asking (AskOld s v) (Some v)
 
+-- an insertion puts its own value there, and any other call asks
 abbrev pub at_old : {V : Type 0} → (V → V → Bool) → Kind V → Option V → Site ℕ → V → NextPhase ℕ V
 at_old same Insert new s v = replaced s (is_same same v new) (reply.Insert (Some v))
 at_old same _ new s v = asked s v
 
+-- it does so where nothing is above; else the node above is checked first
 abbrev pub added : {V : Type 0} → (V → V → Bool) → Kind V → Option V → Site ℕ → Option (Over ℕ) → V → NextPhase ℕ V
 added same kind new s None v = at_old same kind new s v
 added same kind new s (Some u) v = quiet (CheckOld u.near.seat s v)
 
+-- an exchange that found its old value
 abbrev pub exchanged : {V : Type 0} → (V → V → Bool) → Option V → Site ℕ → V → NextPhase ℕ V
 exchanged same None s v = emptied s (reply.Exchange (Ok None))
 exchanged same (Some w) s v = replaced s (same v w) (reply.Exchange (Ok (Some w)))
 
+-- what each kind of call does where its key is present
 abbrev pub present : {V : Type 0} → (V → V → Bool) → Kind V → Option V → Site ℕ → V → NextPhase ℕ V
 present same Get new s v = answered (reply.Get (Some v))
 present same Insert new s v = added same Insert new s s.above v
@@ -228,6 +242,7 @@ given_old same ComputeInsert s v (Some (Some x)) new = (Some x, replaced s (same
 given_old same _ s v (Some None) new = (None, emptied s (reply.ComputePresent (Some (v, None))))
 given_old same _ s v (Some (Some x)) new = (Some x, replaced s (same v x) (reply.ComputePresent (Some (v, Some x))))
 
+-- the same about an absent key
 abbrev pub given_new : {V : Type 0} → Plan ℕ → Option (Option V) → Option V → Option V × NextPhase ℕ V
 given_new plan (Some (Some x)) new = (Some x, started plan (reply.ComputeInsert None))
 given_new plan _ new = (new, asking (AskNew plan) None)
@@ -237,6 +252,7 @@ abbrev pub back_one : {V : Type 0} → Single ℕ → (ℕ → Node V) → ℕ �
 back_one Set h = h
 back_one (Link leaf) h = back h leaf
 
+-- those of a change of two nodes
 abbrev pub back_two : {V : Type 0} → Double ℕ → (ℕ → Node V) → ℕ → Node V
 back_two Unlink h = h
 back_two (Grow c) h = back h c
@@ -257,6 +273,7 @@ change_top two Collapse (Some g) h = hang h g.seat.node g.byte (Below (other_of 
 change_top two (ShrinkAbove c) (Some g) h = hang (hang (copy h two.above.seat.node c) c two.above.byte Nothing) g.seat.node g.byte (Below c)
 change_top two _ top h = h
 
+-- a change of two nodes
 abbrev pub change_two : {V : Type 0} → List ℕ → Option V → Two ℕ → Double ℕ → (ℕ → Node V) → ℕ → Node V
 change_two key new two Unlink h = hang h two.above.seat.node two.above.byte Nothing
 change_two key new two (Shrink c) h =
@@ -277,6 +294,7 @@ pub record Went (V : Type 0) : Type 0 where
   pub heap : ℕ → Node V
   pub made : ℕ
 
+-- a step that leaves these
 abbrev pub went : {V : Type 0} → Option V → NextPhase ℕ V → (ℕ → Node V) → ℕ → Went V
 went new t h k = record { given = new; turn = t; heap = h; made = k }
 
@@ -299,16 +317,19 @@ upgraded_one root new h k one r Locked = went new (quiet (ChangeOne one r)) (loc
 upgraded_one root new h k one r Failed = went new (again root) (back_one one.change h) k
 upgraded_one root new h k one r Exhausted = went new (refused refusal.Exhausted) (back_one one.change h) k
 
+-- that of the node above both
 abbrev pub upgraded_top : {V : Type 0} → ℕ → Option V → (ℕ → Node V) → ℕ → Parent ℕ → Two ℕ → Reply V → Upgrade → Went V
 upgraded_top root new h k g two r Locked = went new (quiet (UpgradeAbove (record two { top = Some g }) r)) (lock h g.seat.node) k
 upgraded_top root new h k g two r Failed = went new (again root) (back_two two.change h) k
 upgraded_top root new h k g two r Exhausted = went new (refused refusal.Exhausted) (back_two two.change h) k
 
+-- that of the upper one of two
 abbrev pub upgraded_above : {V : Type 0} → ℕ → Option V → (ℕ → Node V) → ℕ → Two ℕ → Reply V → Upgrade → Went V
 upgraded_above root new h k two r Locked = went new (quiet (UpgradeBelow two r)) (lock h two.above.seat.node) k
 upgraded_above root new h k two r Failed = went new (given_up root two.top None) (back_two two.change h) k
 upgraded_above root new h k two r Exhausted = went new (given_up root two.top (Some refusal.Exhausted)) (back_two two.change h) k
 
+-- that of the lower one of two
 abbrev pub upgraded_below : {V : Type 0} → Option V → (ℕ → Node V) → ℕ → Two ℕ → Reply V → Upgrade → Went V
 upgraded_below new h k two r Locked = went new (quiet (ChangeTwo two r)) (lock h two.at.node) k
 upgraded_below new h k two r Failed = went new (quiet (Unwind two.above.seat.node (node_of two.top) None)) (back_two two.change h) k

@@ -69,6 +69,7 @@ IsBegin kind given New = HasGift kind given
 IsBegin kind given (Sweep s) = (s.stage ≡ stage.New) × HasRange s
 IsBegin kind given _ = ⊥
 
+-- a call that has not begun, on a key of 64 bits
 pub record IsNew {C V : Type 0} (m : Machine C V) : Type 0 where
   pub begins : IsBegin m.kind m.given m.phase
   pub key : m.key < 2 ^ 64
@@ -101,6 +102,7 @@ abbrev pub without : {V : Type 0} → Kind V → Option V → Option V
 without ComputeInsert v = v
 without _ v = None
 
+-- the value of a call once an answer has come, or none
 abbrev pub value_answered : {V : Type 0} → Kind V → Question V → Option (Option V) → Option V → Option V
 value_answered kind Unasked answer v = v
 value_answered kind (Replied o) answer v = v
@@ -113,6 +115,7 @@ abbrev pub after_none : {V : Type 0} → Kind V → Option V → Question V
 after_none ComputeInsert o = Asked o
 after_none _ o = Replied o
 
+-- the same by the answer that came, or none
 abbrev pub resolved : {V : Type 0} → Kind V → Question V → Option (Option V) → Question V
 resolved kind Unasked answer = Unasked
 resolved kind (Replied o) answer = Replied o
@@ -187,6 +190,7 @@ heeding (reply.ComputePresent (Some p)) = Replied (Some p.0)
 heeding (reply.ComputeInsert o) = Replied o
 heeding _ = Unasked
 
+-- how a call is watched by its phase
 abbrev pub flight_in : {C V : Type 0} → ℕ → Kind V → Option V → Phase C V → Flight V
 flight_in k kind v (AskOld s old) = Pending k kind v (Asked (Some old))
 flight_in k kind v (AskNew plan) = Pending k kind v (Asked None)
@@ -207,6 +211,7 @@ flight_in k kind v (Sweep s) = Unbegun s.start (suc s.last) s.size
 flight_in k kind v Ended = Over
 flight_in k kind v _ = Pending k kind v Unasked
 
+-- how a machine is watched
 abbrev pub flight : {C V : Type 0} → Machine C V → Flight V
 flight m = flight_in m.key m.kind m.given m.phase
 
@@ -215,6 +220,7 @@ abbrev pub ScanFollows : {C V : Type 0} → Scan C V → Flight V → Type 0
 ScanFollows {C} {V} s f = ((f ≡ Unbegun s.start (suc s.last) s.size) × (s.stage ≡ stage.New)) ⊎ (((f ≡ Over) × (s.stage ≡ stage.Over))
     ⊎ ((states : List (Pairs V)) × (places : List (ℕ × V)) × (f ≡ Scanning s.start (suc s.last) s.size states places) × Tracks s states places))
 
+-- what is watched is a call on one key
 abbrev pub IsOfPoint : {V : Type 0} → Flight V → Type 0
 IsOfPoint (Pending k kind v q) = Unit {0}
 IsOfPoint (Decided r) = Unit {0}
@@ -235,9 +241,11 @@ abbrev pub IsOfRange : {V : Type 0} → Option (ℕ × ℕ × ℕ) → Flight V 
 IsOfRange None f = IsOfPoint f
 IsOfRange (Some (start, end, size)) f = IsScanOf start end size f
 
+-- what is watched of a machine, a call on one key or a scan
 abbrev pub Follows : {C V : Type 0} → Machine C V → Flight V → Type 0
 Follows {C} {V} m f = (IsOfPoint f × (f ≡ flight m)) ⊎ ((s : Scan C V) × (m.phase ≡ Sweep s) × ScanFollows s f)
 
+-- so are all of them, one by one
 abbrev pub Following : {C V : Type 0} → List (Machine C V) → List (Flight V) → Type 0
 Following [] [] = Unit {0}
 Following [] (f ∷ fs) = ⊥
@@ -250,6 +258,7 @@ pub record EachKnown {C V : Type 0} (number : C → ℕ) (same : V → V → Boo
   pub key : m.key < 2 ^ 64
   pub known : Known number same always i a h m.key (key_bytes m.key) m.kind m.given m.phase
 
+-- calls that follow the protocol on a tree
 pub record Protocol {C V : Type 0} (number : C → ℕ) (same : V → V → Bool) (always : Bool) (h : ℕ → Node V) (ms : List (Machine C V)) : Type 0 where
   pub notes : ℕ → Note
   pub tree : Tree notes h
@@ -298,6 +307,7 @@ PlaysMap {C} {V} number same always most why h ms steps moves h' ms' = (m : Pair
 abbrev pub FromRoot : {C V : Type 0} → (C → ℕ) → (V → V → Bool) → Bool → ℕ → ((ℕ → Node V) → NodeType → Refusal → Type 0) → (ℕ → Node V) → List (Machine C V) → List (Step C V) → List (Move V) → (ℕ → Node V) → List (Machine C V) → Type 0
 FromRoot {C} {V} number same always most why h ms steps moves h' ms' = (m' : Pairs V) × (fs' : List (Flight V)) × IsMapOf h' m' × Following ms' fs' × Chain number same always most why h ms (map flight ms) empty steps moves h' ms' fs' m'
 
+-- what holds after any steps: the protocol, the map of each step, and which nodes calls hold, hand over and take out
 pub record Plays {C V : Type 0} (number : C → ℕ) (same : V → V → Bool) (always : Bool) (most : ℕ) (why : (ℕ → Node V) → NodeType → Refusal → Type 0) (h : ℕ → Node V) (ms : List (Machine C V)) (steps : List (Step C V)) (moves : List (Move V))
     (h' : ℕ → Node V) (ms' : List (Machine C V)) : Type 0 where
   pub protocol : Protocol number same always h' ms'
@@ -325,6 +335,7 @@ pub record IsMoved {C V : Type 0} (number : C → ℕ) (same : V → V → Bool)
   pub origin : KeepsOrigin number same always m h now h'
   pub cause : IsCause why most always m.phase d.outcome
 
+-- what holds after one step, and what that step was
 pub record StepPlays {C V : Type 0} (number : C → ℕ) (same : V → V → Bool) (always : Bool) (most : ℕ) (why : NodeType → Refusal → Type 0) (h : ℕ → Node V) (ms : List (Machine C V)) (s : Step C V) (d : Move V)
     (h' : ℕ → Node V) (ms' : List (Machine C V)) : Type 0 where
   pub protocol : Protocol number same always h' ms'

@@ -43,6 +43,7 @@ abbrev pub IsFar : {C V : Type 0} → (C → ℕ) → (ℕ → Note) → (ℕ �
 IsFar number a h key None n = n ≡ 0
 IsFar number a h key (Some p) n = ChildOf number a h key p n
 
+-- what a call knows of the nodes above one: none is above the root
 abbrev pub IsAbove : {C V : Type 0} → (C → ℕ) → (ℕ → Note) → (ℕ → Node V) → List ℕ → Option (Over C) → ℕ → Type 0
 IsAbove number a h key None n = n ≡ 0
 IsAbove number a h key (Some u) n = ChildOf number a h key u.near n × IsFar number a h key u.far (number u.near.seat.node)
@@ -91,15 +92,18 @@ abbrev pub IsLeafAt : {C : Type 0} → Single C → ℕ → Type 0
 IsLeafAt Set size = size ≡ MAX_PREFIX_LEN
 IsLeafAt (Link leaf) size = size < MAX_PREFIX_LEN
 
+-- where it stands
 pub record PlacedOne {C : Type 0} (key : List ℕ) (change : Single C) (b : ℕ) (p : List ℕ) : Type 0 where
   pub fitted : fits p key ≡ true
   pub byte : b ≡ slice_index key (length p)
   pub size : IsLeafAt change (length p)
 
+-- what the node holds
 pub record WantedOne {V : Type 0} (key : List ℕ) (x : Hung V) (n : Node V) : Type 0 where
   pub child : child_for n key ≡ x
   pub room : x ≡ Nothing → (n.count == n.capacity) ≡ false
 
+-- and what was made for it
 abbrev pub MadeOne : {C V : Type 0} → (C → ℕ) → ℕ → (ℕ → Note) → (ℕ → Node V) → List ℕ → Single C → Type 0
 MadeOne number i a h key Set = Unit {0}
 MadeOne number i a h key (Link leaf) = Made i a h key (number leaf) MAX_PREFIX_LEN 0
@@ -110,6 +114,7 @@ IsValue Nothing = Unit {0}
 IsValue (Below c) = ⊥
 IsValue (Holds v) = Unit {0}
 
+-- the value that hangs there, if one does
 abbrev pub value_in : {V : Type 0} → Hung V → Option V
 value_in Nothing = None
 value_in (Below c) = None
@@ -122,11 +127,13 @@ FitsOne Set x (Some v) = IsValue x
 FitsOne (Link leaf) x None = ⊥
 FitsOne (Link leaf) x (Some v) = x ≡ Nothing
 
+-- what is known of it before the node is locked
 pub record OneKnown {C V : Type 0} (number : C → ℕ) (i : ℕ) (a : ℕ → Note) (h : ℕ → Node V) (key : List ℕ) (one : One C) (x : Hung V) : Type 0 where
   pub placed : PlacedOne key one.change one.byte (h (number one.at.node)).prefix
   pub fresh : Fresh a h (number one.at.node) one.at.version (WantedOne key x)
   pub made : MadeOne number i a h key one.change
 
+-- and once it is
 pub record OneLocked {C V : Type 0} (number : C → ℕ) (i : ℕ) (a : ℕ → Note) (h : ℕ → Node V) (key : List ℕ) (one : One C) (x : Hung V) : Type 0 where
   pub holding : Holding i a (number one.at.node)
   pub placed : PlacedOne key one.change one.byte (h (number one.at.node)).prefix
@@ -159,6 +166,7 @@ WantedTwo key (Grow c) found q n = (child_for n key ≡ Nothing) × (n.count ≡
 WantedTwo key (GrowLink c leaf byte) found q n = (child_for n key ≡ Nothing) × (n.count ≡ q)
 WantedTwo key (Split top leaf common byte) found q n = Unit {0}
 
+-- what was made for it
 abbrev pub MadeTwo : {C V : Type 0} → (C → ℕ) → ℕ → (ℕ → Note) → (ℕ → Node V) → List ℕ → Parent C → Double C → ℕ → ℕ → Type 0
 MadeTwo number i a h key p Unlink size q = Unit {0}
 MadeTwo number i a h key p Collapse size q = p.count ≡ 2
@@ -207,6 +215,7 @@ HasTop Collapse None = ⊥
 HasTop (ShrinkAbove c) None = ⊥
 HasTop _ top = top ≡ None
 
+-- what is known of it before the upper node is locked
 pub record TwoKnown {C V : Type 0} (number : C → ℕ) (i : ℕ) (a : ℕ → Note) (h : ℕ → Node V) (key : List ℕ) (two : Two C) (found : Option V) (q : ℕ) : Type 0 where
   pub top : TopLocked number i a h key two.top (number two.above.seat.node)
   pub above : ChildOf number a h key two.above (number two.at.node)
@@ -214,6 +223,7 @@ pub record TwoKnown {C V : Type 0} (number : C → ℕ) (i : ℕ) (a : ℕ → N
   pub fresh : Fresh a h (number two.at.node) two.at.version (WantedTwo key two.change found q)
   pub made : MadeTwo number i a h key two.above two.change (length (h (number two.at.node)).prefix) q
 
+-- once that is
 pub record HalfLocked {C V : Type 0} (number : C → ℕ) (i : ℕ) (a : ℕ → Note) (h : ℕ → Node V) (key : List ℕ) (two : Two C) (found : Option V) (q : ℕ) : Type 0 where
   pub top : TopLocked number i a h key two.top (number two.above.seat.node)
   pub above : AboveLocked number i a h key two.above (number two.at.node)
@@ -221,6 +231,7 @@ pub record HalfLocked {C V : Type 0} (number : C → ℕ) (i : ℕ) (a : ℕ →
   pub fresh : Fresh a h (number two.at.node) two.at.version (WantedTwo key two.change found q)
   pub made : MadeTwo number i a h key two.above two.change (length (h (number two.at.node)).prefix) q
 
+-- and once both are
 pub record TwoLocked {C V : Type 0} (number : C → ℕ) (i : ℕ) (a : ℕ → Note) (h : ℕ → Node V) (key : List ℕ) (two : Two C) (found : Option V) (q : ℕ) : Type 0 where
   pub top : TopLocked number i a h key two.top (number two.above.seat.node)
   pub above : AboveLocked number i a h key two.above (number two.at.node)
@@ -241,6 +252,7 @@ abbrev pub AlsoOut : {C V : Type 0} → (C → ℕ) → ℕ → (ℕ → Note) �
 AlsoOut number i a h n None = Unit {0}
 AlsoOut number i a h n (Some c) = ((a (number c)).owner ≡ Some i) × ((a (number c)).status ≡ Gone) × ((h (number c)).retired ≡ false) × (number c ≢ n)
 
+-- and one that it still holds, if there is one
 abbrev pub AlsoHolding : {C : Type 0} → (C → ℕ) → ℕ → (ℕ → Note) → ℕ → Option C → Type 0
 AlsoHolding number i a n None = Unit {0}
 AlsoHolding number i a n (Some c) = Holding i a (number c) × (number c ≢ n)
@@ -271,6 +283,7 @@ HasGift {V} Insert given = (v : V) × (given ≡ Some v)
 HasGift Remove given = given ≡ None
 HasGift _ given = Unit {0}
 
+-- a call that asks a closure
 abbrev pub Asking : {V : Type 0} → Kind V → Type 0
 Asking ComputePresent = Unit {0}
 Asking ComputeInsert = Unit {0}
@@ -289,18 +302,22 @@ abbrev pub IsFailure : Option Refusal → Type 0
 IsFailure None = Unit {0}
 IsFailure (Some e) = e ≡ refusal.Exhausted
 
+-- a node at a version, if one is to be checked, is known
 abbrev pub SeatedIf : {C V : Type 0} → (C → ℕ) → (ℕ → Note) → (ℕ → Node V) → Option (Stamp C) → Type 0
 SeatedIf number a h None = Unit {0}
 SeatedIf number a h (Some p) = Seated a h (number p.node) p.version
 
+-- what is known of a plan
 abbrev pub PlanKnown : {C V : Type 0} → (C → ℕ) → ℕ → (ℕ → Note) → (ℕ → Node V) → List ℕ → Plan C → Type 0
 PlanKnown number i a h key (Here check one) = SeatedIf number a h check × OneKnown number i a h key one Nothing
 PlanKnown number i a h key (Above two) = ((q : ℕ) × TwoKnown number i a h key two None q) × Adding two.change × (two.top ≡ None)
 
+-- a leaf was made unless the node at hand is one
 abbrev pub MadeLeafFor : {C V : Type 0} → (C → ℕ) → ℕ → (ℕ → Note) → (ℕ → Node V) → List ℕ → Site C → Option C → Type 0
 MadeLeafFor number i a h key s None = s.depth ≡ MAX_PREFIX_LEN
 MadeLeafFor number i a h key s (Some leaf) = (s.depth < MAX_PREFIX_LEN) × Made i a h key (number leaf) MAX_PREFIX_LEN 0
 
+-- a value stands for the key as long as the node is as it was taken
 pub record Confirmed {C V : Type 0} (number : C → ℕ) (a : ℕ → Note) (h : ℕ → Node V) (key : List ℕ) (at : Stamp C) (v : V) : Type 0 where
   pub fitted : fits (h (number at.node)).prefix key ≡ true
   pub fresh : Fresh a h (number at.node) at.version (λ m. child_for m key ≡ Holds v)

@@ -26,9 +26,11 @@ least_seen byte child.Blank = least.Nothing
 least_seen byte (child.Node c) = least.Node byte c
 least_seen byte (child.Value v) = least.Value byte v
 
+-- a read finds it, or nothing
 abbrev pub LeastSeen : {C V : Type 0} → Option (Seen C V) → Least C V → Type 0
 LeastSeen None r = r ≡ least.Nothing
 LeastSeen (Some x) r = r ≡ least_seen x.byte x.child
 
+-- so it is where the lock word isn't the one that was taken
 abbrev pub LeastSees : {C V : Type 0} → Node V → ℕ → Option (Seen C V) → Least C V → Type 0
 LeastSees n v seen r = is_taken n v ≡ false → LeastSeen seen r

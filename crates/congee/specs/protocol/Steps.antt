@@ -118,10 +118,12 @@ shrinks N16 n = leb n 4
 shrinks N48 n = leb n 13
 shrinks N256 n = leb n 41
 
+-- the node above, if there is one
 abbrev pub near_of : {C : Type 0} → Option (Over C) → Option (Parent C)
 near_of None = None
 near_of (Some u) = Some u.near
 
+-- its name
 abbrev pub node_of : {C : Type 0} → Option (Parent C) → Option C
 node_of None = None
 node_of (Some p) = Some p.seat.node
@@ -130,14 +132,17 @@ node_of (Some p) = Some p.seat.node
 abbrev pub here_of : {C : Type 0} → Site C → Parent C
 here_of s = record { seat = s.at; byte = s.byte; depth = s.depth; count = s.count; form = s.form }
 
+-- the node above with its version, if there is one
 abbrev pub seat_above : {C : Type 0} → Option (Over C) → Option (Stamp C)
 seat_above None = None
 seat_above (Some u) = Some u.near.seat
 
+-- a version was read; where there is none, the call begins anew
 abbrev pub after_version : {C V : Type 0} → C → Option (Over C) → C → Option ℕ → NextPhase C V
 after_version root above n None = again root
 after_version root above n (Some v) = quiet (Read above (record { node = n; version = v }))
 
+-- a node was read
 abbrev pub after_read : {C V : Type 0} → C → Option (Over C) → Stamp C → Reading C V → NextPhase C V
 after_read root None at (Differs common byte) = again root
 after_read root (Some u) at (Differs common byte) = quiet (CheckMiss u.near at common byte)
@@ -159,9 +164,11 @@ started (Here None one) r = quiet (UpgradeOne one r)
 started (Here (Some p) one) r = quiet (CheckAbove p one r)
 started (Above two) r = quiet (UpgradeAbove two r)
 
+-- a plan begins, or its closure is asked first
 abbrev pub ready : {C V : Type 0} → Kind V → Plan C → NextPhase C V
 ready kind plan = cond (asks_new kind) (asking (AskNew plan) None) (started plan (absent_reply kind))
 
+-- a plan to change the node at hand alone
 abbrev pub plan_here : {C : Type 0} → Site C → Single C → Plan C
 plan_here s change = Here (seat_above s.above) (record { at = s.at; byte = s.byte; change = change })
 
@@ -175,6 +182,7 @@ unless_full kind s false above leaf change = ready kind (plan_here s change)
 abbrev pub missing : {C V : Type 0} → Kind V → Site C → NextPhase C V
 missing kind s = cond (s.depth == MAX_PREFIX_LEN) (unless_full kind s s.full s.above None Set) (quiet (MakeLeaf s))
 
+-- the key is absent at the node: an insertion goes on there, and any other call answers
 abbrev pub absent : {C V : Type 0} → Kind V → Site C → NextPhase C V
 absent kind s = cond (adds kind) (missing kind s) (answered (absent_reply kind))
 
@@ -194,6 +202,7 @@ replaced s same r = cond same (quiet (Confirm s.at r)) (quiet (UpgradeOne (recor
 abbrev pub set_at : {C : Type 0} → Site C → One C
 set_at s = record { at = s.at; byte = s.byte; change = Set }
 
+-- a change of the node at hand and of the one above it
 abbrev pub both : {C : Type 0} → Parent C → Site C → Double C → Two C
 both p s x = record { top = None; above = p; at = s.at; change = x }
 
@@ -209,6 +218,7 @@ taken_out s None r = quiet (UpgradeOne (set_at s) r)
 taken_out s (Some u) r = cond (s.count == 1) (last_out s u.near u.far r)
     (cond (shrinks s.form s.count) (quiet (MakeLesser s u.near None r)) (quiet (UpgradeOne (set_at s) r)))
 
+-- the same of the node at hand
 abbrev pub emptied : {C V : Type 0} → Site C → Reply V → NextPhase C V
 emptied s r = taken_out s s.above r
 
@@ -222,6 +232,7 @@ abbrev pub IsAtOld : {C V : Type 0} → Bool → (V → V → Bool) → Kind V �
 IsAtOld always same Insert new s v t = t ≡ replaced s (is_same same v new) (reply.Insert (Some v))
 IsAtOld always same _ new s v t = IsAsked always s v t
 
+-- the same, once the node above was checked, if there is one
 abbrev pub IsAdded : {C V : Type 0} → Bool → (V → V → Bool) → Kind V → Option V → Site C → Option (Over C) → V → NextPhase C V → Type 0
 IsAdded always same kind new s None v t = IsAtOld always same kind new s v t
 IsAdded always same kind new s (Some u) v t = t ≡ quiet (CheckOld u.near.seat s v)
@@ -231,6 +242,7 @@ abbrev pub IsExchanged : {C V : Type 0} → Bool → (V → V → Bool) → Opti
 IsExchanged always same None s v t = t ≡ emptied s (reply.Exchange (Ok None))
 IsExchanged always same (Some w) s v t = (t ≡ replaced s (same v w) (reply.Exchange (Ok (Some w)))) ⊎ CopyFailed always t
 
+-- an exchange compared the value that stands with the old one
 abbrev pub IsCompared : {C V : Type 0} → Bool → Bool → (V → V → Bool) → Option V → Site C → V → NextPhase C V → Type 0
 IsCompared found always same new s v t = (found ≡ true → IsExchanged always same new s v t) × (found ≡ false → t ≡ quiet (Confirm s.at (reply.Exchange (Err (Some v)))))
 
@@ -253,6 +265,7 @@ IsChecked always same kind new s (child.Value v) t = IsPresent always same kind 
 abbrev pub IsIf : {C V : Type 0} → Bool → C → (NextPhase C V → Type 0) → NextPhase C V → Type 0
 IsIf taken root Then t = (taken ≡ true → Then t) × (taken ≡ false → t ≡ again root)
 
+-- the key's way parts from a node within its prefix: an insertion makes a node there, and any other call answers
 abbrev pub after_miss : {C V : Type 0} → Kind V → Parent C → Stamp C → ℕ → ℕ → NextPhase C V
 after_miss kind p at common byte = cond (adds kind) (quiet (MakeTop p at common byte)) (answered (absent_reply kind))
 
@@ -274,6 +287,7 @@ abbrev pub BackOne : {C V : Type 0} → (C → ℕ) → (ℕ → Node V) → Sin
 BackOne number h Set h' = h' ≡ h
 BackOne number h (Link leaf) h' = BackGives h (number leaf) h'
 
+-- those of a change of two nodes
 abbrev pub BackTwo : {C V : Type 0} → (C → ℕ) → (ℕ → Node V) → Double C → (ℕ → Node V) → Type 0
 BackTwo number h Unlink h' = h' ≡ h
 BackTwo number h (Grow c) h' = BackGives h (number c) h'
@@ -283,6 +297,7 @@ BackTwo number h (ShrinkAbove c) h' = BackGives h (number c) h'
 BackTwo {C} {V} number h (GrowLink c leaf byte) h' = (h1 : ℕ → Node V) × BackGives h (number leaf) h1 × BackGives h1 (number c) h'
 BackTwo {C} {V} number h (Split top leaf common byte) h' = (h1 : ℕ → Node V) × BackGives h (number leaf) h1 × BackGives h1 (number top) h'
 
+-- a made leaf, if there is one
 abbrev pub BackLeaf : {C V : Type 0} → (C → ℕ) → (ℕ → Node V) → Option C → (ℕ → Node V) → Type 0
 BackLeaf number h None h' = h' ≡ h
 BackLeaf number h (Some leaf) h' = BackGives h (number leaf) h'
@@ -292,19 +307,23 @@ abbrev pub MadeLeaf : {C V : Type 0} → (C → ℕ) → Kind V → Site C → (
 MadeLeaf number kind s h key (Ok leaf) h' t = MakeGives number h N4 key MAX_PREFIX_LEN (Ok leaf) h' × (t ≡ unless_full kind s s.full s.above (Some leaf) (Link leaf))
 MadeLeaf number kind s h key (Err e) h' t = (h' ≡ h) × (t ≡ refused e)
 
+-- a greater node comes in the place of a full one, with a leaf or without
 abbrev pub greater : {C : Type 0} → Site C → Option C → C → Double C
 greater s None c = Grow c
 greater s (Some leaf) c = GrowLink c leaf s.byte
 
+-- the greater one was made, or not
 abbrev pub MadeGreater : {C V : Type 0} → (C → ℕ) → Kind V → Site C → Parent C → Option C → (ℕ → Node V) → List ℕ → Result C Refusal → (ℕ → Node V) → NextPhase C V → Type 0
 MadeGreater number kind s p leaf h key (Ok c) h' t = MakeGives number h (form_above s.count) key s.depth (Ok c) h'
     × (t ≡ ready kind (Above (both p s (greater s leaf c))))
 MadeGreater number kind s p leaf h key (Err e) h' t = BackLeaf number h leaf h' × (t ≡ refused e)
 
+-- the node where ways part was made, or not
 abbrev pub MadeTop : {C V : Type 0} → (C → ℕ) → Parent C → Stamp C → ℕ → ℕ → (ℕ → Node V) → List ℕ → Result C Refusal → (ℕ → Node V) → NextPhase C V → Type 0
 MadeTop number p at common byte h key (Ok top) h' t = MakeGives number h N4 key common (Ok top) h' × (t ≡ quiet (MakeBeside p at common byte top))
 MadeTop number p at common byte h key (Err e) h' t = (h' ≡ h) × (t ≡ refused e)
 
+-- the leaf beside it was made, or not
 abbrev pub MadeBeside : {C V : Type 0} → (C → ℕ) → Kind V → Parent C → Stamp C → ℕ → ℕ → C → (ℕ → Node V) → List ℕ → Result C Refusal → (ℕ → Node V) → NextPhase C V → Type 0
 MadeBeside number kind p at common byte top h key (Ok leaf) h' t = MakeGives number h N4 key MAX_PREFIX_LEN (Ok leaf) h'
     × (t ≡ ready kind (Above (record { top = None; above = p; at = at; change = Split top leaf common byte })))
@@ -315,6 +334,7 @@ abbrev pub lesser_form : {C : Type 0} → Site C → Parent C → Option (Parent
 lesser_form s p None = form_below s.form
 lesser_form s p (Some g) = form_below p.form
 
+-- it was made, or not
 abbrev pub MadeLesser : {C V : Type 0} → (C → ℕ) → Site C → Parent C → Option (Parent C) → Reply V → (ℕ → Node V) → List ℕ → Result C Refusal → (ℕ → Node V) → NextPhase C V → Type 0
 MadeLesser number s p None r h key (Ok c) h' t = MakeGives number h (form_below s.form) key s.depth (Ok c) h' × (t ≡ quiet (UpgradeAbove (both p s (Shrink c)) r))
 MadeLesser number s p None r h key (Err e) h' t = (h' ≡ h) × (t ≡ skipping (UpgradeOne (set_at s) r))
@@ -332,6 +352,7 @@ UpgradedOne number root one r h Locked h' t = SameBut h (number one.at.node) (re
 UpgradedOne number root one r h Failed h' t = BackOne number h one.change h' × (t ≡ again root)
 UpgradedOne number root one r h Exhausted h' t = BackOne number h one.change h' × (t ≡ refused refusal.Exhausted)
 
+-- the call begins anew, or is refused
 abbrev pub unwound : {C V : Type 0} → C → Option Refusal → NextPhase C V
 unwound root None = again root
 unwound root (Some e) = refused e
@@ -341,16 +362,19 @@ abbrev pub given_up : {C V : Type 0} → C → Option (Parent C) → Option Refu
 given_up root None e = unwound root e
 given_up root (Some g) e = quiet (Unwind g.seat.node None e)
 
+-- that of the node above both
 abbrev pub UpgradedTop : {C V : Type 0} → (C → ℕ) → C → Parent C → Two C → Reply V → (ℕ → Node V) → Upgrade → (ℕ → Node V) → NextPhase C V → Type 0
 UpgradedTop number root g two r h Locked h' t = SameBut h (number g.seat.node) (record (h (number g.seat.node)) { locked = true }) h' × (t ≡ quiet (UpgradeAbove (record two { top = Some g }) r))
 UpgradedTop number root g two r h Failed h' t = BackTwo number h two.change h' × (t ≡ again root)
 UpgradedTop number root g two r h Exhausted h' t = BackTwo number h two.change h' × (t ≡ refused refusal.Exhausted)
 
+-- that of the upper one of two
 abbrev pub UpgradedAbove : {C V : Type 0} → (C → ℕ) → C → Two C → Reply V → (ℕ → Node V) → Upgrade → (ℕ → Node V) → NextPhase C V → Type 0
 UpgradedAbove number root two r h Locked h' t = SameBut h (number two.above.seat.node) (record (h (number two.above.seat.node)) { locked = true }) h' × (t ≡ quiet (UpgradeBelow two r))
 UpgradedAbove number root two r h Failed h' t = BackTwo number h two.change h' × (t ≡ given_up root two.top None)
 UpgradedAbove number root two r h Exhausted h' t = BackTwo number h two.change h' × (t ≡ given_up root two.top (Some refusal.Exhausted))
 
+-- that of the lower one of two
 abbrev pub UpgradedBelow : {C V : Type 0} → (C → ℕ) → Two C → Reply V → (ℕ → Node V) → Upgrade → (ℕ → Node V) → NextPhase C V → Type 0
 UpgradedBelow number two r h Locked h' t = SameBut h (number two.at.node) (record (h (number two.at.node)) { locked = true }) h' × (t ≡ quiet (ChangeTwo two r))
 UpgradedBelow number two r h Failed h' t = BackTwo number h two.change h' × (t ≡ quiet (Unwind two.above.seat.node (node_of two.top) None))
@@ -391,6 +415,7 @@ abbrev pub Lessens : {C V : Type 0} → (C → ℕ) → Two C → C → Option (
 Lessens number two c None h h' = ⊥
 Lessens number two c (Some g) h h' = PutsLesser h (number two.above.seat.node) (number c) two.above.byte (number g.seat.node) g.byte h'
 
+-- two nodes change, by the kind of change
 abbrev pub ChangedTwo : {C V : Type 0} → (C → ℕ) → List ℕ → Option V → Two C → Double C → (ℕ → Node V) → (ℕ → Node V) → Type 0
 ChangedTwo number key new two Unlink h h' = ChangeGives h (number two.above.seat.node) two.above.byte Nothing h'
 ChangedTwo number key new two (Shrink c) h h' = PutsLesser h (number two.at.node) (number c) (slice_index key MAX_PREFIX_LEN) (number two.above.seat.node) two.above.byte h'
@@ -410,6 +435,7 @@ abbrev pub after_top : {C V : Type 0} → Two C → Reply V → Option (Parent C
 after_top two r None = decided (Unlock two.above.seat.node r)
 after_top two r (Some g) = decided (Obsolete two.at.node (Some two.above.seat.node) g.seat.node r)
 
+-- what goes then, by the kind of change
 abbrev pub after_change : {C V : Type 0} → Two C → Reply V → Double C → NextPhase C V
 after_change two r (Split top leaf common byte) = decided (UnlockBelow two.at.node two.above.seat.node r)
 after_change two r Collapse = after_top two r two.top
@@ -419,10 +445,12 @@ after_change two r (Grow c) = decided (Obsolete two.at.node None two.above.seat.
 after_change two r (GrowLink c leaf byte) = decided (Obsolete two.at.node None two.above.seat.node r)
 after_change two r (Shrink c) = decided (Obsolete two.at.node None two.above.seat.node r)
 
+-- a node was handed over: the next one goes, or the last lock
 abbrev pub after_retire : {C V : Type 0} → Option C → C → Reply V → NextPhase C V
 after_retire None last r = quiet (Unlock last r)
 after_retire (Some n) last r = quiet (Obsolete n None last r)
 
+-- a lock of an attempt that is given up was let go: the next one goes, or none is left
 abbrev pub after_unwind : {C V : Type 0} → C → Option C → Option Refusal → NextPhase C V
 after_unwind root None e = unwound root e
 after_unwind root (Some n) e = quiet (Unwind n None e)
@@ -434,6 +462,7 @@ outcome_of (told.Found place key v) = Found place key v
 outcome_of (told.Done count) = Scanned count
 outcome_of (told.Refused e) = Refused e
 
+-- a scan's step with what it tells
 abbrev pub swept : {C V : Type 0} → Scan C V → ScanReport V → NextPhase C V
 swept s o = record { phase = Sweep s; report = record { decided = false; skipped = false; outcome = outcome_of o } }
 
@@ -571,6 +600,7 @@ abbrev pub MayBackOne : {C V : Type 0} → (C → ℕ) → (ℕ → Node V) → 
 MayBackOne number h Set = Unit {0}
 MayBackOne number h (Link leaf) = Stands (h (number leaf))
 
+-- those of a change of two nodes
 abbrev pub MayBackTwo : {C V : Type 0} → (C → ℕ) → (ℕ → Node V) → Double C → Type 0
 MayBackTwo number h Unlink = Unit {0}
 MayBackTwo number h (Shrink c) = Stands (h (number c))
@@ -580,6 +610,7 @@ MayBackTwo number h (Grow c) = Stands (h (number c))
 MayBackTwo number h (GrowLink c leaf byte) = Stands (h (number leaf)) × Stands (h (number c)) × (number c ≢ number leaf)
 MayBackTwo number h (Split top leaf common byte) = Stands (h (number leaf)) × Stands (h (number top)) × (number top ≢ number leaf)
 
+-- a made leaf, if there is one
 abbrev pub MayBackLeaf : {C V : Type 0} → (C → ℕ) → (ℕ → Node V) → Option C → Type 0
 MayBackLeaf number h None = Unit {0}
 MayBackLeaf number h (Some leaf) = Stands (h (number leaf))
@@ -597,6 +628,7 @@ pub record Blank {V : Type 0} (n : Node V) (least : ℕ) : Type 0 where
   pub blank : (b : ℕ) → n.children b ≡ Nothing
   pub room : least < n.capacity
 
+-- what it wants of a change of one node
 abbrev pub MayChangeOne : {C V : Type 0} → (C → ℕ) → Option V → One C → Single C → (ℕ → Node V) → Type 0
 MayChangeOne number new one Set h = Changeable (h (number one.at.node)) one.byte (value_hung new)
 MayChangeOne number None one (Link leaf) h = ⊥
@@ -624,6 +656,7 @@ pub record MayCollapse {V : Type 0} (h : ℕ → Node V) (p up g b : ℕ) : Type
   pub two : (h p).count ≡ 2
   pub there : (h p).children up ≢ Nothing
 
+-- what it wants of a change of the node above both
 abbrev pub MayTop : {C V : Type 0} → (C → ℕ) → Two C → Double C → Option (Parent C) → (ℕ → Node V) → Type 0
 MayTop number two Collapse (Some g) h = MayCollapse h (number two.above.seat.node) two.above.byte (number g.seat.node) g.byte
 MayTop number two (ShrinkAbove c) (Some g) h = MayLessen h (number two.above.seat.node) (number c) two.above.byte (number g.seat.node) g.byte

@@ -25,5 +25,6 @@ IsAny always (least.Node byte c) = byte < 256
 IsAny always (least.Value byte v) = byte < 256
 IsAny always least.Uncopied = always ≡ false
 
+-- what a read gives, which is true where the lock word is the one taken
 abbrev pub LeastGives : {C V : Type 0} → (C → ℕ) → Bool → Node V → ℕ → ℕ → ℕ → Least C V → Type 0
 LeastGives number always n v from last r = IsAny always r × (is_taken n v ≡ true → LeastTruly number n from last r)

@@ -26,6 +26,7 @@ pub record RungKnown {C V : Type 0} (number : C → ℕ) (a : ℕ → Note) (h :
   pub within : r.region.base ≤ last
   pub bound : r.from ≤ 256
 
+-- so is each on the way, from the root down
 abbrev pub RungsKnown : {C V : Type 0} → (C → ℕ) → (ℕ → Note) → (ℕ → Node V) → ℕ → ℕ → List (Rung C) → Type 0
 RungsKnown number a h last above [] = Unit {0}
 RungsKnown number a h last above (r ∷ rest) = RungKnown number a h last above r × RungsKnown number a h last (suc above) rest
@@ -53,6 +54,7 @@ SweepKnownAt number always a h s (stage.Check r x) = WayKnown number a h s × Ru
 SweepKnownAt number always a h s stage.Full = Unit {0}
 SweepKnownAt number always a h s stage.Over = Unit {0}
 
+-- the same by its own stage
 abbrev pub SweepKnown : {C V : Type 0} → (C → ℕ) → Bool → (ℕ → Note) → (ℕ → Node V) → Sweep C V → Type 0
 SweepKnown number always a h s = SweepKnownAt number always a h s s.stage
 
@@ -61,6 +63,7 @@ abbrev pub names_rungs : {C : Type 0} → (C → ℕ) → List (Rung C) → List
 names_rungs number [] = []
 names_rungs number (r ∷ rest) = number r.at.node ∷ names_rungs number rest
 
+-- those of a scan at a stage
 abbrev pub names_sweep_at : {C V : Type 0} → (C → ℕ) → Sweep C V → Stage C V → List ℕ
 names_sweep_at number s stage.New = []
 names_sweep_at number s (stage.Enter n x) = number n ∷ names_rungs number (rungs_of s.above)
@@ -69,6 +72,7 @@ names_sweep_at number s (stage.Check r x) = number r.at.node ∷ names_rungs num
 names_sweep_at number s stage.Full = []
 names_sweep_at number s stage.Over = []
 
+-- those of a scan
 abbrev pub names_sweep : {C V : Type 0} → (C → ℕ) → Sweep C V → List ℕ
 names_sweep number s = names_sweep_at number s s.stage
 
@@ -86,6 +90,7 @@ pub record Gap {C V : Type 0} (start end : ℕ) (states : List (FinMap nat_cmp V
   pub aim : start < start_of r
   pub lacked : (k : ℕ) → start ≤ k → k < end → end_of x ≤ k → k < start_of r → Lacked states k
 
+-- the same from node to node along the way
 abbrev pub LeadsOn : {C V : Type 0} → ℕ → ℕ → List (FinMap nat_cmp V) → Rung C → List (Rung C) → Region → Type 0
 LeadsOn start end states r [] x = Gap start end states r x
 LeadsOn start end states r (q ∷ rest) x = Gap start end states r q.region × LeadsOn start end states q rest x
@@ -101,10 +106,12 @@ pub record Under {C V : Type 0} (s : Sweep C V) (states : List (FinMap nat_cmp V
   pub way : IsWay s.start (suc s.last) states (rungs_of s.above) x
   pub swept : Swept s.start (suc s.last) s.size upto states (take s.count places)
 
+-- the same at a node: the keys before those of its next byte are settled, and these aren't all before the range
 pub record Aimed {C V : Type 0} (s : Sweep C V) (states : List (FinMap nat_cmp V)) (places : List (ℕ × V)) (r : Rung C) : Type 0 where
   pub under : Under s states places r.region (start_of r)
   pub aim : s.start < start_of r + span (r.region.depth + 1)
 
+-- each place is filled, and the keys up to some number are settled
 pub record IsFull {C V : Type 0} (s : Sweep C V) (states : List (FinMap nat_cmp V)) (places : List (ℕ × V)) : Type 0 where
   pub counted : s.count ≤ length places
   pub all : s.count ≡ s.size
@@ -121,6 +128,7 @@ TracksAt s states places (stage.Check r x) = Aimed s states places r
 TracksAt s states places stage.Full = IsFull s states places
 TracksAt s states places stage.Over = Unit {0}
 
+-- the same by its own stage
 abbrev pub Tracks : {C V : Type 0} → Sweep C V → List (FinMap nat_cmp V) → List (ℕ × V) → Type 0
 Tracks s states places = TracksAt s states places s.stage
 

@@ -21,6 +21,7 @@ use Rattle.congee.specs.declared.forms.prefix.TheConstants.{MAX_PREFIX_LEN}
 abbrev pub width : ℕ → ℕ
 width depth = 2 ^ (8 * (MAX_PREFIX_LEN - depth))
 
+-- the region of all keys
 abbrev pub whole : Region
 whole = record { base = 0; depth = 0 }
 
@@ -39,6 +40,7 @@ last_byte last x = cond (ltb 255 ((last - x.base) / width x.depth)) 255 ((last -
 abbrev pub slots : {C : Type 0} → Path C → List (Rung C)
 slots p = p.first ∷ p.second ∷ p.third ∷ p.fourth ∷ p.fifth ∷ p.sixth ∷ p.seventh ∷ p.eighth ∷ []
 
+-- a node in one of the places
 abbrev pub put_rung : {C : Type 0} → ℕ → Rung C → Path C → Path C
 put_rung i r p = cond (i == 0) (record p { first = r }) (cond (i == 1) (record p { second = r }) (cond (i == 2) (record p { third = r }) (cond (i == 3) (record p { fourth = r }) (cond (i == 4) (record p { fifth = r }) (cond (i == 5) (record p { sixth = r }) (cond (i == 6) (record p { seventh = r }) (record p { eighth = r })))))))
 
@@ -46,18 +48,23 @@ put_rung i r p = cond (i == 0) (record p { first = r }) (cond (i == 1) (record p
 abbrev pub rungs_of : {C : Type 0} → Path C → List (Rung C)
 rungs_of p = take p.len (slots p)
 
+-- the nodes above with one more
 abbrev pub pushed : {C : Type 0} → Path C → Rung C → Path C
 pushed p r = record (put_rung p.len r p) { len = p.len + 1 }
 
+-- with one less
 abbrev pub popped : {C : Type 0} → Path C → Path C
 popped p = record p { len = p.len - 1 }
 
+-- with none
 abbrev pub cleared : {C : Type 0} → Path C → Path C
 cleared p = record p { len = 0 }
 
+-- the last of them
 abbrev pub last_of : {C : Type 0} → Path C → Option (Rung C)
 last_of p = cond (p.len == 0) None (slice_get (slots p) (p.len - 1))
 
+-- the node goes on past a byte
 abbrev pub moved : {C : Type 0} → Rung C → ℕ → Rung C
 moved r byte = record { at = r.at; region = r.region; from = byte + 1 }
 
@@ -65,6 +72,7 @@ moved r byte = record { at = r.at; region = r.region; from = byte + 1 }
 abbrev pub sweep_at : {C V : Type 0} → Sweep C V → ℕ → Path C → Stage C V → Sweep C V
 sweep_at s count above x = record { start = s.start; last = s.last; size = s.size; count = count; above = above; stage = x }
 
+-- the root, before it is looked at
 abbrev pub root_rung : {C : Type 0} → C → Rung C
 root_rung root = record { at = record { node = root; version = 0 }; region = whole; from = 0 }
 
@@ -83,12 +91,15 @@ new_sweep root start last size = record {
 abbrev pub Swung : Type 0 → Type 0 → Type 0
 Swung C V = Sweep C V × ScanReport V
 
+-- a scan goes on
 abbrev pub goes : {C V : Type 0} → Sweep C V → Path C → Stage C V → Swung C V
 goes s above x = (sweep_at s s.count above x, told.Running)
 
+-- a scan is over
 abbrev pub over : {C V : Type 0} → Sweep C V → ScanReport V → Swung C V
 over s t = (sweep_at s s.count s.above stage.Over, t)
 
+-- a scan begins anew, with no place filled
 abbrev pub anew : {C V : Type 0} → C → Sweep C V → Swung C V
 anew root s = (sweep_at s 0 (cleared s.above) (stage.Enter root whole), told.Running)
 
@@ -97,14 +108,17 @@ abbrev pub left_to : {C V : Type 0} → Sweep C V → Option (Rung C) → Swung 
 left_to s None = over s (told.Done s.count)
 left_to s (Some r) = goes s (popped s.above) (stage.Look r)
 
+-- the node at hand is left
 abbrev pub left : {C V : Type 0} → Sweep C V → Swung C V
 left s = left_to s (last_of s.above)
 
+-- a node is entered, or left at once where its keys are outside the range
 abbrev pub entered : {C V : Type 0} → C → Sweep C V → C → Region → Option ℕ → Swung C V
 entered root s n x None = anew root s
 entered root s n x (Some v) = cond (is_outside s.start s.last x) (left s)
     (goes s s.above (stage.Look (record { at = record { node = n; version = v }; region = x; from = first_byte s.start x })))
 
+-- a pair is found, and fills a place
 abbrev pub filled : {C V : Type 0} → Sweep C V → Rung C → ℕ → V → Swung C V
 filled s r byte v = (
   sweep_at s (s.count + 1) s.above (cond (s.count + 1 == s.size) stage.Full (stage.Look (moved r byte))),
@@ -118,6 +132,7 @@ IsFollowed number h s r (least.Node byte c) u = (x : Region) × IsRegion (h (num
 IsFollowed number h s r (least.Value byte v) u = u ≡ filled s r byte v
 IsFollowed number h s r least.Uncopied u = u ≡ over s (told.Refused refusal.Count)
 
+-- the check succeeded, or the scan begins anew
 pub record IsFollowedIf {C V : Type 0} (taken : Bool) (number : C → ℕ) (h : ℕ → Node V) (root : C) (s : Sweep C V) (r : Rung C) (x : Least C V) (u : Swung C V) : Type 0 where
   pub goes_on : taken ≡ true → IsFollowed number h s r x u
   pub goes_back : taken ≡ false → u ≡ anew root s
@@ -135,6 +150,7 @@ SweptAt number always root s (stage.Check r x) h u = IsFollowedIf (is_taken (h (
 SweptAt number always root s stage.Full h u = u ≡ over s (told.Done s.count)
 SweptAt number always root s stage.Over h u = u ≡ over s told.Running
 
+-- the same by its own stage
 abbrev pub SweepStepped : {C V : Type 0} → (C → ℕ) → Bool → C → Sweep C V → (ℕ → Node V) → Sweep C V → ScanReport V → Type 0
 SweepStepped number always root s h s' t = SweptAt number always root s s.stage h (s', t)
 
@@ -145,6 +161,7 @@ MayFollow number h r (least.Node byte c) = Stands (h (number c)) × (byte < 256)
 MayFollow number h r (least.Value byte v) = (r.region.base + byte < 2 ^ 64) × (byte < 256)
 MayFollow number h r least.Uncopied = Unit {0}
 
+-- the same by its stage
 abbrev pub MaySweepAt : {C V : Type 0} → (C → ℕ) → C → Sweep C V → Stage C V → (ℕ → Node V) → Type 0
 MaySweepAt number root s stage.New h = Stands (h (number root))
 MaySweepAt number root s (stage.Enter n x) h = Stands (h (number n)) × (x.depth ≤ MAX_PREFIX_LEN) × (s.above.len ≤ KEY_BYTES)
@@ -153,5 +170,6 @@ MaySweepAt number root s (stage.Check r x) h = Stands (h (number r.at.node)) × 
 MaySweepAt number root s stage.Full h = Unit {0}
 MaySweepAt number root s stage.Over h = Unit {0}
 
+-- the same of a scan
 abbrev pub MaySweep : {C V : Type 0} → (C → ℕ) → C → Sweep C V → (ℕ → Node V) → Type 0
 MaySweep number root s h = MaySweepAt number root s s.stage h

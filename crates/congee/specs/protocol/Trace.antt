@@ -31,6 +31,7 @@ abbrev pub nodes_after : {C V : Type 0} → (ℕ → Node V) → List (Traced C 
 nodes_after h [] = h
 nodes_after h (t ∷ ts) = nodes_after t.nodes ts
 
+-- the calls after them
 abbrev pub calls_after : {C V : Type 0} → List (Machine C V) → List (Traced C V) → List (Machine C V)
 calls_after ms [] = ms
 calls_after ms (t ∷ ts) = calls_after t.calls ts

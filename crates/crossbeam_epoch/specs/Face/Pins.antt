@@ -9,6 +9,7 @@ use Rattle.crossbeam_epoch.specs.declared.face.seats.View.{View}
 abbrev pub word_of : ℕ → ℕ
 word_of p = 16 * p + 16
 
+-- the word of the epoch
 abbrev pub epoch_of : List ℕ → ℕ
 epoch_of words = slice_index words 0
 

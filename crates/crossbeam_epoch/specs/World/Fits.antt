@@ -85,6 +85,7 @@ in_bag f b = sum_by f b.jobs
 abbrev pub weight : {T J : Type 0} → (Deferral J → ℕ) → State T J → ℕ
 weight f s = sum_by (at_place f) s.table + sum_by (in_bag f) s.queue
 
+-- a job counts one where it has this ticket
 abbrev pub has_ticket : {J : Type 0} → ℕ → Deferral J → ℕ
 has_ticket t e = if e.ticket == t then 1 else 0
 
@@ -92,6 +93,7 @@ has_ticket t e = if e.ticket == t then 1 else 0
 abbrev pub times_held : {T J : Type 0} → State T J → ℕ → ℕ
 times_held s t = weight (has_ticket t) s
 
+-- each job counts one
 abbrev pub one : {J : Type 0} → Deferral J → ℕ
 one e = 1
 

@@ -8,6 +8,7 @@ use Rattle.crossbeam_epoch.specs.World.Store.{fresh}
 abbrev pub is_reusable : {T : Type 0} → ℕ → Cell T → Bool
 is_reusable turn_max c = is_none c.value && nat_le c.turns turn_max
 
+-- a cell counts one where it may not
 abbrev pub not_reusable : {T : Type 0} → ℕ → Cell T → ℕ
 not_reusable turn_max c = if is_reusable turn_max c then 0 else 1
 
@@ -15,9 +16,11 @@ not_reusable turn_max c = if is_reusable turn_max c then 0 else 1
 abbrev pub times : ℕ → List ℕ → ℕ
 times i free = sum_by (λ x. if x == i then 1 else 0) free
 
+-- whether the cell at a place is so
 abbrev pub is_reusable_at : {T : Type 0} → List (Cell T) → ℕ → ℕ → Bool
 is_reusable_at cells turn_max i = nat_lt i (length cells) && is_reusable turn_max (slice_index_or cells i fresh)
 
+-- the list of free cells fits the cells
 pub record FitsFree {T : Type 0} (cells : List (Cell T)) (free : List ℕ) (most turn_max : ℕ) : Type 0 where
   -- the list has each cell that may take another value once, and no other
   pub each : (i : ℕ) → times i free ≡ (if is_reusable_at cells turn_max i then 1 else 0)

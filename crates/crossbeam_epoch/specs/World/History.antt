@@ -2,6 +2,7 @@
 use Rattle.std.specs.Prelude.{◌≡◌, ℕ, ◌+◌, ◌==◌, Bool, false, List, [], ◌∷◌, Option, Some, None, is_some, if◌then◌else◌, ◌⊎◌}
 use Rattle.crossbeam_epoch.specs.declared.names.Name.{Name}
 
+-- what happened to a guard or to a job
 pub data Mark : Type 0 where
   -- a stretch begins: a first-level pin publishes, while the epoch is this
   Pinned : (who epoch : ℕ) → Mark

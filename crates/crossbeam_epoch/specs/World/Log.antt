@@ -33,6 +33,7 @@ pub record Flight : Type 0 where
   pub op : Op
   pub taken : ℕ
 
+-- it took one step more
 abbrev pub one_more : Option Flight → Option Flight
 one_more None = None
 one_more (Some f) = Some (record f { taken = f.taken + 1 })
@@ -53,10 +54,12 @@ flight [] q = None
 flight (Stepped step r ∷ log) q = if step.who == q then flight_after step.event r.outcome (flight log q) else flight log q
 flight (Accepted ticket name ∷ log) q = flight log q
 
+-- whether the call is a pin
 abbrev pub is_pin : Op → Bool
 is_pin Pin = true
 is_pin _ = false
 
+-- whether it is a repin
 abbrev pub is_repin : Op → Bool
 is_repin Repin = true
 is_repin _ = false
@@ -89,6 +92,7 @@ guards (Accepted ticket name ∷ log) q = guards log q
 abbrev pub untold : ℕ
 untold = 0
 
+-- what happened, with the stretch that a step begins where its call publishes
 abbrev pub publication : ℕ → Option Flight → List Mark → List Mark
 publication who f h = if pins_next f then Pinned who untold ∷ h else if repins_next f then Repinned who untold ∷ h else h
 
@@ -120,6 +124,7 @@ IsPastBy Pin taken = 2 ≤ taken
 IsPastBy Repin taken = ⊥
 IsPastBy _ taken = Unit {0}
 
+-- the same of a call in flight
 abbrev pub IsPast : Option Flight → Type 0
 IsPast None = ⊥
 IsPast (Some f) = IsPastBy f.op f.taken

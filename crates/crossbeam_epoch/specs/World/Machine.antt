@@ -14,6 +14,7 @@ use Rattle.crossbeam_epoch.specs.World.Store.{Store, value_at, emptied, opened_s
 use Rattle.crossbeam_epoch.specs.Chain.{room_behind, room_left}
 use Rattle.crossbeam_epoch.specs.Limits.{bag_places, most_bags}
 
+-- the collector's state
 pub record State (T J : Type 0) : Type 0 where
   pub limits : Limits
   pub epoch : ℕ
@@ -37,9 +38,11 @@ blank = record { registered = false; word = None; guards = 0; pins = 0; bag = []
 abbrev pub place : {T J : Type 0} → State T J → ℕ → Participant J
 place s who = slice_index_or s.table who blank
 
+-- a place of the table is another one, and all else is as it was
 abbrev pub with_place : {T J : Type 0} → State T J → ℕ → Participant J → State T J
 with_place s who p = record s { table = slice_set s.table who p }
 
+-- its phase is another one, and all else is as it was
 abbrev pub in_phase : {T J : Type 0} → State T J → ℕ → Phase → State T J
 in_phase s who phase = with_place s who (record (place s who) { phase = phase })
 
@@ -51,6 +54,7 @@ with_store s st = record s { store = st }
 abbrev pub with_roots : {T J : Type 0} → State T J → List Ptr → State T J
 with_roots s roots = record s { roots = roots }
 
+-- whether what a pointer names stands, where it names something
 abbrev pub standing_name : {T : Type 0} → Store T → Option Name → Bool
 standing_name st None = true
 standing_name st (Some name) = is_some (value_at st name)
@@ -68,6 +72,7 @@ published seen p = record p {
   phase = if p.pins == 0 then Load else Idle;
 }
 
+-- whether a word is of this epoch
 abbrev pub is_at : Option ℕ → ℕ → Bool
 is_at None epoch = false
 is_at (Some word) epoch = word == epoch
@@ -107,12 +112,14 @@ abbrev pub ends_advance : Option ℕ → ℕ → Bool
 ends_advance None seen = false
 ends_advance (Some word) seen = not (word == seen)
 
+-- where it goes on: to take bags, to look at the next place, or to advance the epoch
 abbrev pub inspection : {T J : Type 0} → State T J → ℕ → ℕ → Phase
 inspection s seen at =
     if ends_advance (place s at).word seen then Take seen 0
     else if nat_lt (at + 1) (length s.table) then Inspect seen (at + 1)
     else Advance seen
 
+-- the state after it has looked
 abbrev pub inspected : {T J : Type 0} → State T J → ℕ → ℕ → ℕ → State T J
 inspected s who seen at = in_phase s who (inspection s seen at)
 
@@ -141,6 +148,7 @@ taken s who answered bags =
       room = room_left (length (drop 1 s.queue)) s.room;
     }
 
+-- a collection takes the front bag, where that is due and it has not taken the most; else it ends
 abbrev pub took : {T J : Type 0} → State T J → ℕ → ℕ → ℕ → State T J
 took s who answered bags = if is_due s answered && nat_lt bags most_bags then taken s who answered bags else in_phase s who Idle
 
@@ -181,6 +189,7 @@ called_one s who answered bags seal =
       store = after_work s.store (slice_index_or p.hand 0 no_entry).work;
     }
 
+-- the same, where there is one; else the collection ends
 abbrev pub called : {T J : Type 0} → State T J → ℕ → ℕ → ℕ → ℕ → State T J
 called s who answered bags seal = if length (place s who).hand == 0 then in_phase s who Idle else called_one s who answered bags seal
 
@@ -206,6 +215,7 @@ deferred_anew s who work =
       waiting = s.waiting + 1;
     }
 
+-- a job is deferred: into the bag, or into an empty one where that is full
 abbrev pub after_deferral : {T J : Type 0} → State T J → ℕ → Work J → State T J
 after_deferral s who work = if length (place s who).bag == bag_places then deferred_anew s who work else deferred s who work
 

@@ -36,6 +36,7 @@ abbrev pub EmptiesAt : {T : Type 0} → Store T → Option Name → Store T → 
 EmptiesAt st None st' = st' ≡ st
 EmptiesAt st (Some n) st' = (is_some (value_at st n) ≡ true) × (st' ≡ emptied st n.cell)
 
+-- the same of a step that called this job, or none
 abbrev pub Empties : {T : Type 0} → Store T → Option (ℕ × Option Name) → Store T → Type 0
 Empties st None st' = st' ≡ st
 Empties st (Some c) st' = EmptiesAt st c.1 st'
@@ -61,6 +62,7 @@ pub data Stage : Type 0 where
   Securing : (n : Option ℕ) → Stage
   Collecting : Stage
 
+-- what a call in this phase is about
 abbrev pub stage : Phase → Stage
 stage P.Idle = Resting
 stage P.Look = Pinning
@@ -80,6 +82,7 @@ stage (P.Advance seen) = Collecting
 stage (P.Take answered bags) = Collecting
 stage (P.Call answered bags seal) = Collecting
 
+-- whether a number of places is the one that is known, if one is
 abbrev pub is_places : ℕ → Option ℕ → Bool
 is_places n None = true
 is_places n (Some m) = m == n
@@ -143,6 +146,7 @@ left_in places (P.Advance seen) hand = 522
 left_in places (P.Take answered bags) hand = left_after bags
 left_in places (P.Call answered bags seal) hand = hand + left_after bags
 
+-- the same of a participant's call
 abbrev pub steps_left : {T J : Type 0} → State T J → ℕ → ℕ
 steps_left s who = left_in (length s.table) (place s who).phase (length (place s who).hand)
 

@@ -29,11 +29,13 @@ pub record Moment : Type 0 where
   -- whether a name isn't destroyed
   pub live : Name → Bool
 
+-- what happened, with the mark of an act
 abbrev pub with_act : Act → List Mark → List Mark
 with_act Quiet h = h
 with_act (Marked mark) h = mark ∷ h
 with_act (GivenBack name) h = h
 
+-- what happened in these moments
 abbrev pub marks_of : List Moment → List Mark
 marks_of [] = []
 marks_of (m ∷ h) = with_act m.act (marks_of h)
@@ -43,6 +45,7 @@ pub data InReach (roots : List Ptr) (links : Name → List Name) : Name → Type
   from_root : (p : Ptr) → (n : Name) → Contains roots p → p.name ≡ Some n → InReach roots links n
   from_cell : (c n : Name) → InReach roots links c → Contains (links c) n → InReach roots links n
 
+-- the name is in reach at this moment
 abbrev pub IsIn : Moment → Name → Type 0
 IsIn m n = InReach m.roots m.links n
 
@@ -64,6 +67,7 @@ mark_changes_pin (Unpinned who) p = who == p
 mark_changes_pin (Deferred ticket name) p = false
 mark_changes_pin (Called ticket name) p = false
 
+-- the same of an act
 abbrev pub changes_pin : Act → ℕ → Bool
 changes_pin Quiet p = false
 changes_pin (Marked mark) p = mark_changes_pin mark p
@@ -77,6 +81,7 @@ mark_by who (Unpinned w) = w ≡ who
 mark_by who (Deferred ticket name) = ⊥
 mark_by who (Called ticket name) = Unit {0}
 
+-- the same of an act
 abbrev pub IsBy : ℕ → Act → Type 0
 IsBy who Quiet = Unit {0}
 IsBy who (Marked mark) = mark_by who mark
@@ -123,6 +128,7 @@ mark_destroys (Repinned who epoch) n = ⊥
 mark_destroys (Unpinned who) n = ⊥
 mark_destroys (Deferred ticket name) n = ⊥
 
+-- the same of an act, which may also give the cell back
 abbrev pub IsDestruction : Act → Name → Type 0
 IsDestruction Quiet n = ⊥
 IsDestruction (Marked mark) n = mark_destroys mark n
@@ -134,6 +140,7 @@ DestructionsTold [] = Unit {0}
 DestructionsTold (m ∷ []) = Unit {0}
 DestructionsTold (m ∷ b ∷ h) = ((n : Name) → b.live n ≡ true → m.live n ≡ false → IsDestruction m.act n) × DestructionsTold (b ∷ h)
 
+-- the names in a value, where there is one
 abbrev pub links_in : {T : Type 0} → (T → List Name) → Option T → List Name
 links_in names None = []
 links_in names (Some v) = names v
@@ -142,6 +149,7 @@ links_in names (Some v) = names v
 abbrev pub links_of : {T : Type 0} → (T → List Name) → Store T → Name → List Name
 links_of names st n = links_in names (value_at st n)
 
+-- the moment that shows a state, after an act
 abbrev pub moment : {T J : Type 0} → (T → List Name) → Act → State T J → Moment
 moment names act s = record { act = act; roots = s.roots; links = links_of names s.store; live = λ n. is_some (value_at s.store n) }
 
@@ -171,9 +179,11 @@ abbrev pub newest_act : List Mark → Act
 newest_act [] = Quiet
 newest_act (mark ∷ h) = Marked mark
 
+-- the same of a step with its report
 abbrev pub step_act : {T J : Type 0} → State T J → ℕ → Event → Report → Act
 step_act s who event r = newest_act (marks s who event r [])
 
+-- the moments after these steps
 abbrev pub moments_after : {T J : Type 0} → (T → List Name) → State T J → List Step → List Report → List Moment → List Moment
 moments_after names s [] reports h = h
 moments_after names s (step ∷ steps) [] h = h

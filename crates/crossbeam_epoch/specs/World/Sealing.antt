@@ -27,6 +27,7 @@ pub record IsSealing {T J : Type 0} (s : State T J) : Type 0 where
   pub past : (b : Sealed J) → Contains s.queue b → b.seal ≤ s.epoch
   pub places : (q : ℕ) → SealsAt s.epoch (length (place s q).bag) (place s q).phase
 
+-- whether two names are the same
 abbrev pub is_name : Name → Name → Bool
 is_name m n = (m.cell == n.cell) && (m.turn == n.turn)
 
@@ -44,6 +45,7 @@ destructions (Unpinned who ∷ h) n = destructions h n
 destructions (Deferred ticket name ∷ h) n = destructions h n
 destructions (Called ticket name ∷ h) n = counts_name name n + destructions h n
 
+-- a test as a number
 abbrev pub bit : Bool → ℕ
 bit b = if b then 1 else 0
 

@@ -22,6 +22,7 @@ use Rattle.crossbeam_epoch.specs.World.Machine.{State, blank, place, with_place,
 use Rattle.crossbeam_epoch.specs.World.Store.{Store, value_at}
 use Rattle.crossbeam_epoch.specs.Limits.{bag_places}
 
+-- a fault where a test holds
 abbrev pub when : Bool → Fault → Option Fault
 when b f = if b then Some f else None
 
@@ -43,6 +44,7 @@ busy_fault Flush = InCall
 busy_fault Release = InCall
 busy_fault (Secure n) = Busy
 
+-- the fault of an event at a place, by the phase that it is in
 abbrev pub event_fault : {J : Type 0} → Event → Phase → Participant J → Option Fault
 event_fault (Begin op) P.Idle p = begin_fault op p
 event_fault (Begin op) _ p = Some (busy_fault op)
@@ -76,6 +78,7 @@ abbrev pub place_or : {J : Type 0} → Option Fault → Participant J → Partic
 place_or (Some f) p old = old
 place_or None p old = p
 
+-- the state after a begin
 abbrev pub begun : {T J : Type 0} → State T J → ℕ → Op → State T J
 begun s who op = with_place s who (begun_at op (place s who))
 
@@ -132,6 +135,7 @@ abbrev pub called_by : {T J : Type 0} → Store T → Phase → List (Deferral J
 called_by st (P.Call answered bags seal) hand = if length hand == 0 then None else Some (called_entry st (slice_index_or hand 0 no_entry))
 called_by st _ hand = None
 
+-- the same of an event, by how its step ended
 abbrev pub called_in : {T J : Type 0} → State T J → ℕ → Event → Outcome → Option (ℕ × Option Name)
 called_in s who event (Refused f) = None
 called_in s who (Begin op) _ = None
@@ -145,6 +149,7 @@ IsOutcome s who event None (Refused _) = ⊥
 IsOutcome s who event None Running = outcome_at (place (moved s who event) who).phase ≡ Running
 IsOutcome s who event None Done = outcome_at (place (moved s who event) who).phase ≡ Done
 
+-- a step reports how it ended, and the job that it called
 pub record IsReport {T J : Type 0} (s : State T J) (who : ℕ) (event : Event) (r : Report) : Type 0 where
   pub outcome : IsOutcome s who event (fault s who event) r.outcome
   pub job : r.called ≡ called_in s who event r.outcome
@@ -166,6 +171,7 @@ abbrev pub quiet_fault : {J : Type 0} → Phase → Participant J → Option Fau
 quiet_fault P.Idle p = when (is_none p.word) Unpinned
 quiet_fault _ p = Some InCall
 
+-- a fault, or Count where no ticket is left
 abbrev pub or_count : ℕ → Option Fault → Option Fault
 or_count next (Some f) = Some f
 or_count next None = when (next == 2 ^ 64 - 1) Count
@@ -194,10 +200,12 @@ phase_marks epoch who (P.Publish seen) None h = H.Pinned who epoch ∷ h
 phase_marks epoch who (P.RepinPublish seen) None h = H.Repinned who epoch ∷ h
 phase_marks epoch who _ None h = h
 
+-- what an event marks
 abbrev pub moved_marks : {T J : Type 0} → State T J → ℕ → Event → Option (ℕ × Option Name) → List Mark → List Mark
 moved_marks s who (Begin op) called h = begin_marks who (place s who) op h
 moved_marks s who Go called h = phase_marks s.epoch who (place s who).phase called h
 
+-- a refused step marks nothing
 abbrev pub unless_refused : Outcome → List Mark → List Mark → List Mark
 unless_refused (Refused f) h' h = h
 unless_refused Running h' h = h'

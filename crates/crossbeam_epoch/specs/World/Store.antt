@@ -3,6 +3,7 @@ use Rattle.std.specs.Prelude.{◌≡◌, ◌≢◌, ℕ, ◌+◌, ◌==◌, nat_
 use Rattle.crossbeam_epoch.specs.declared.world.cells.Cell.{Cell}
 use Rattle.crossbeam_epoch.specs.declared.names.Name.{Name}
 
+-- the cells, and how many there may be
 pub record Store (T : Type 0) : Type 0 where
   -- the cells that were used so far
   pub cells : List (Cell T)
@@ -15,6 +16,7 @@ pub record Store (T : Type 0) : Type 0 where
 abbrev pub fresh : {T : Type 0} → Cell T
 fresh = record { turns = 0; value = None }
 
+-- the cell at a place
 abbrev pub cell_at : {T : Type 0} → Store T → ℕ → Cell T
 cell_at st i = slice_index_or st.cells i fresh
 
@@ -34,6 +36,7 @@ was_given st name = nat_lt name.turn (cell_at st name.cell).turns
 abbrev pub is_usable : {T : Type 0} → Store T → ℕ → Bool
 is_usable st i = nat_lt i st.most && is_none (cell_at st i).value && nat_le (cell_at st i).turns st.turn_max
 
+-- the cell at a place is another one, or one more comes
 abbrev pub with_cell : {T : Type 0} → Store T → ℕ → Cell T → Store T
 with_cell st i c = record st { cells = if nat_lt i (length st.cells) then slice_set st.cells i c else st.cells ++ c ∷ [] }
 

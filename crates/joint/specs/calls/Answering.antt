@@ -20,6 +20,7 @@ use Rattle.joint.specs.calls.Scans.{is_go}
 abbrev pub is_further : {V : Type 0} → ℕ → Line V → Bool
 is_further who l = (l.step.worker == who) && is_go l.step.event
 
+-- the first where a test holds, and the second where it doesn't
 abbrev pub Either : Bool → Type 0 → Type 0 → Type 0
 Either true A B = A
 Either false A B = B

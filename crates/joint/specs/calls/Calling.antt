@@ -16,6 +16,7 @@ use Rattle.joint.specs.calls.Runs.{IsRun}
 use Rattle.joint.specs.engine.Surveys.{MapTells}
 use Rattle.joint.specs.engine.Engine.{World, is_busy, is_in_flight, misuse}
 
+-- a further step of the worker's call, to which nothing comes from outside
 abbrev pub next_step : {V : Type 0} → ℕ → Step V
 next_step who = record { worker = who; event = Go (record { fail = false; seen = None; answer = None }) }
 
@@ -30,10 +31,12 @@ GoOn [] = Unit {0}
 GoOn (r ∷ []) = Unit {0}
 GoOn (r ∷ (q ∷ rs)) = (goes_on r.outcome ≡ true) × GoOn (q ∷ rs)
 
+-- the last of a report and those after it
 abbrev pub last_or : {V : Type 0} → Report V → List (Report V) → Report V
 last_or r [] = r
 last_or r (q ∷ rs) = last_or q rs
 
+-- the last report, if there is one
 abbrev pub last_of : {V : Type 0} → List (Report V) → Option (Report V)
 last_of [] = None
 last_of (r ∷ rs) = Some (last_or r rs)
@@ -52,6 +55,7 @@ abbrev pub put_away : {V : Type 0} → Outcome V → Outcome V
 put_away (Found place key value) = Running
 put_away o = o
 
+-- the same of a report
 abbrev pub kept_report : {V : Type 0} → Report V → Report V
 kept_report r = record r { outcome = put_away r.outcome }
 
@@ -75,6 +79,7 @@ abbrev pub FillsOf : {V : Type 0} → Option (ℕ × ℕ × ℕ) → Pairs V →
 FillsOf {V} (Some (start, end, size)) m (Some r) places' = (count : ℕ) → r.outcome ≡ Done (Scanned count) → size ≤ length places' → (count ≤ length places') × IsScan {V = V} start end size (m ∷ []) (take count places')
 FillsOf range m r places' = Unit {0}
 
+-- the same of a call, where it is a scan
 abbrev pub FillsPlaces : {V : Type 0} → Pairs V → Op V → Option (Report V) → List (ℕ × V) → Type 0
 FillsPlaces m op r places' = FillsOf (range_of op) m r places'
 

@@ -63,10 +63,12 @@ answered_by None told before = before
 answered_by (Some a) (Asks found) before = Some (found, a)
 answered_by (Some a) told before = before
 
+-- the answer that comes with an event, if one does
 abbrev pub answer_in : {V : Type 0} → Event V → Option (Option V)
 answer_in (Go noise) = noise.answer
 answer_in _ = None
 
+-- the last answer that counted, after these steps
 abbrev pub answered_after : {V : Type 0} → Outcome V → Answered V → List (Taken V) → Answered V
 answered_after told before [] = before
 answered_after told before (t ∷ ts) = answered_after t.report.outcome (answered_by (answer_in t.step.event) told before) ts
@@ -76,6 +78,7 @@ abbrev pub IsPresent : {V : Type 0} → ℕ → Option V → Answered V → Ente
 IsPresent k None last c = c ≡ entered.ComputePresent k None
 IsPresent {V} k (Some v) last c = (a : Option V) × (last ≡ Some (Some v, a)) × (c ≡ entered.ComputePresent k a)
 
+-- the same where the closure gives a value for a present key and for an absent one
 abbrev pub IsComputed : {V : Type 0} → ℕ → Option V → Answered V → Entered V → Type 0
 IsComputed {V} k found last c = (v : V) × (last ≡ Some (found, Some v)) × (c ≡ entered.ComputeInsert k v)
 
@@ -112,6 +115,7 @@ pub record IsDecided {V : Type 0} (same : V → V → Bool) (fs : Flights V) (m 
   pub in_flight : AreInFlight s (with_flight fs who (Decided reply))
   pub effect : TookEffect same m last p reply s
 
+-- what is in flight is a scan
 abbrev pub IsOfScan : {V : Type 0} → Flight V → Type 0
 IsOfScan (Unbegun start end size) = Unit {0}
 IsOfScan (Scanning start end size states places) = Unit {0}
@@ -121,6 +125,7 @@ IsOfScan _ = ⊥
 abbrev pub KeepsAll : {V : Type 0} → Flights V → Pairs V → World V → Type 0
 KeepsAll fs m s = IsMapOf (nodes s.forest) m × AreInFlight s fs
 
+-- a call on one key is done with its reply, and the other calls in flight are those that were
 abbrev pub IsDoneWith : {V : Type 0} → (V → V → Bool) → Flights V → Pairs V → Answered V → Point V → Answer V → World V → Type 0
 IsDoneWith same fs m last p (done.Reply r) s = TookEffect same m last p r s × AreInFlight s fs
 IsDoneWith same fs m last p _ s = ⊥
@@ -152,10 +157,12 @@ pub record IsScanning {V : Type 0} (fs : Flights V) (m : Pairs V) (who : ℕ) (s
   pub in_flight : AreInFlight s (with_flight fs who flight)
   pub stand : IsMapOf (nodes s.forest) m
 
+-- a scan is done, which leaves the pairs
 abbrev pub IsScanDone : {V : Type 0} → Flights V → Pairs V → Answer V → World V → Type 0
 IsScanDone fs m (done.Scanned count) s = KeepsAll fs m s
 IsScanDone fs m _ s = ⊥
 
+-- how a scan stands after a step that told this
 abbrev pub PlaysScan : {V : Type 0} → Flights V → Pairs V → ℕ → Outcome V → World V → Type 0
 PlaysScan fs m who Running s = IsScanning fs m who s
 PlaysScan fs m who (Found place key value) s = IsScanning fs m who s
@@ -185,6 +192,7 @@ asked_of (ops.Remove k) = Some (entered.Remove k)
 asked_of (ops.Exchange k old new) = Some (entered.Exchange k old new)
 asked_of _ = None
 
+-- the reply that a report tells, if it does
 abbrev pub reply_of : {V : Type 0} → Option (Report V) → Option (Reply V)
 reply_of None = None
 reply_of (Some r) = reply_in r.outcome

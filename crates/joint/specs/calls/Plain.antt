@@ -47,27 +47,33 @@ pub data TreeEvent (V : Type 0) : Type 0 where
   Tells : Survey → TreeEvent V
   Goes : Noise Mark V → TreeEvent V
 
+-- a step on the tree, with its worker
 pub record TreeStep (V : Type 0) : Type 0 where
   pub worker : ℕ
   pub event : TreeEvent V
 
+-- a child without the name of its node
 abbrev pub unnamed_child : {V : Type 0} → Child Id V → Child Mark V
 unnamed_child child.Blank = child.Blank
 unnamed_child (child.Node c) = child.Node tt
 unnamed_child (child.Value v) = child.Value v
 
+-- what was seen of a changed node, without names
 abbrev pub unnamed_seen : {V : Type 0} → Option (Seen Id V) → Option (Seen Mark V)
 unnamed_seen None = None
 unnamed_seen (Some s) = Some (record { child = unnamed_child s.child; byte = s.byte; full = s.full; count = s.count })
 
+-- what comes to a step from outside, without names
 abbrev pub unnamed : {V : Type 0} → Noise Id V → Noise Mark V
 unnamed n = record { fail = n.fail; seen = unnamed_seen n.seen; answer = n.answer }
 
+-- what a begin is on the tree: nothing, where it is of a call on the collector
 abbrev pub begin_at : {V : Type 0} → ℕ → Target V → Option (TreeStep V)
 begin_at who (target.Collector op) = None
 begin_at who (target.Tree op) = Some (record { worker = who; event = Starts op })
 begin_at who (target.Survey k) = Some (record { worker = who; event = Tells k })
 
+-- what an event is on the tree
 abbrev pub event_at : {V : Type 0} → ℕ → Event V → Option (TreeStep V)
 event_at who Register = None
 event_at who (Begin op) = begin_at who (target op)
@@ -78,13 +84,16 @@ abbrev pub step_at : {V : Type 0} → ℕ → Event V → Kind → Option (TreeS
 step_at who event OfCollector = None
 step_at who event Tree = event_at who event
 
+-- the same of a step with its report
 abbrev pub tree_step : {V : Type 0} → Step V → Report V → Option (TreeStep V)
 tree_step s r = step_at s.worker s.event r.kind
 
+-- a list with one more in front, where an option has something
 abbrev pub with_first : {A B : Type 0} → Option A → B → List B → List B
 with_first None b bs = bs
 with_first (Some a) b bs = b ∷ bs
 
+-- a list behind what an option has
 abbrev pub with_some : {A : Type 0} → Option A → List A → List A
 with_some None bs = bs
 with_some (Some a) bs = a ∷ bs
@@ -116,11 +125,13 @@ abbrev pub started : {V : Type 0} → Bool → Plain V → ℕ → Point V → P
 started true s who op = s
 started false s who op = with_call s who (begun 0 op)
 
+-- what it tells
 abbrev pub start_told : {V : Type 0} → Bool → Outcome V
 start_told true = Done (done.Scanned 0)
 start_told false = Running
 
 module _ {V : Type 0} (same : V → V → Bool) (most : ℕ) where
+  -- a further step of a call, in the plain run
   abbrev pub plain_went : Plain V → ℕ → Noise Mark V → Went V
   plain_went s who noise = plain_step same most (s.calls who) noise s.heap s.made
 
@@ -130,9 +141,11 @@ module _ {V : Type 0} (same : V → V → Bool) (most : ℕ) where
   event_after s who (Tells k) = s
   event_after s who (Goes noise) = with_call (record s { heap = (plain_went s who noise).heap; made = (plain_went s who noise).made }) who (call_after (s.calls who) (plain_went s who noise))
 
+  -- the same of a step with its worker
   abbrev pub step_after : Plain V → TreeStep V → Plain V
   step_after s t = event_after s t.worker t.event
 
+  -- the state after these steps
   abbrev pub plain_after : Plain V → List (TreeStep V) → Plain V
   plain_after s [] = s
   plain_after s (t ∷ ts) = plain_after (step_after s t) ts
@@ -144,6 +157,7 @@ module _ {V : Type 0} (same : V → V → Bool) (most : ℕ) where
   EventTells s who (Tells k) decided o = (decided ≡ false) × ((m : Pairs V) × IsMapOf s.heap m) × TellsOf s.heap k o
   EventTells s who (Goes noise) decided o = (decided ≡ (plain_went s who noise).turn.report.decided) × (o ≡ told (plain_went s who noise).turn.report.outcome)
 
+  -- the same of a step with its report
   abbrev pub StepTells : Plain V → TreeStep V → Report V → Type 0
   StepTells s t r = EventTells s t.worker t.event r.decided r.outcome
 
@@ -163,6 +177,7 @@ IsUnrefused o = (e : Refusal) → o ≡ Refused e → e ≡ Exhausted
 abbrev pub IsUnhindered : {V : Type 0} → Report V → Type 0
 IsUnhindered r = IsUnrefused r.outcome × (r.skipped ≡ false)
 
+-- so are all these reports
 abbrev pub AreUnrefused : {V : Type 0} → List (Report V) → Type 0
 AreUnrefused [] = Unit {0}
 AreUnrefused (r ∷ rs) = IsUnhindered r × AreUnrefused rs
@@ -202,6 +217,7 @@ SameAnswer (Done (done.Keys a)) (Done (done.Keys b)) = a.items ≡ b.items
 SameAnswer (Done (done.Stats a)) (Done (done.Stats b)) = (shapes : List Shape) × (pairs : ℕ) × IsTally a shapes pairs × IsTally b shapes pairs
 SameAnswer a b = a ≡ b
 
+-- so do these reports, one by one
 abbrev pub AreSame : {V : Type 0} → List (Report V) → List (Report V) → Type 0
 AreSame [] [] = Unit {0}
 AreSame [] (b ∷ qs) = ⊥

@@ -43,11 +43,13 @@ pub record Round (V : Type 0) : Type 0 where
   pub flush : List (Taken V)
   pub unpin : List (Taken V)
 
+-- each of the three is a whole call of the worker's
 pub record IsRound {V : Type 0} (who : ℕ) (r : Round V) : Type 0 where
   pub pins : IsWhole who Pin r.pin
   pub flushes : IsWhole who Flush r.flush
   pub unpins : IsWhole who Unpin r.unpin
 
+-- so is each of these rounds
 abbrev pub AreRounds : {V : Type 0} → ℕ → List (Round V) → Type 0
 AreRounds who [] = Unit {0}
 AreRounds who (r ∷ rs) = IsRound who r × AreRounds who rs

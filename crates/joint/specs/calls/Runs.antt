@@ -48,6 +48,7 @@ abbrev pub with_entry : {V : Type 0} → Option (Entry V) → List (Entry V) →
 with_entry None es = es
 with_entry (Some e) es = e ∷ es
 
+-- those of these lines
 abbrev pub entries : {V : Type 0} → List (Line V) → List (Entry V)
 entries [] = []
 entries (l ∷ ls) = with_entry l.entry (entries ls)
@@ -63,6 +64,7 @@ pub record IsLine {V : Type 0} (t : Taken V) (l : Line V) : Type 0 where
   pub report : l.report ≡ t.report
   pub stand : IsMapOf (nodes t.after.forest) l.pairs
 
+-- the same of each step and its line, one by one
 abbrev pub AreLines : {V : Type 0} → List (Taken V) → List (Line V) → Type 0
 AreLines [] [] = Unit {0}
 AreLines [] (l ∷ ls) = ⊥
@@ -104,13 +106,16 @@ pub record RunsMap {V : Type 0} (same : V → V → Bool) (fs : Flights V) (m : 
 abbrev pub kept_of : {V : Type 0} → Line V → Option (Entry V)
 kept_of l = if l.report.kept then l.entry else None
 
+-- those that it keeps of these lines
 abbrev pub kept_entries : {V : Type 0} → List (Line V) → List (Entry V)
 kept_entries [] = []
 kept_entries (l ∷ ls) = with_entry (kept_of l) (kept_entries ls)
 
+-- it keeps the entry of a writing call
 abbrev pub KeepsWrite : {V : Type 0} → Line V → Type 0
 KeepsWrite {V} l = (e : Entry V) → l.entry ≡ Some e → looks_up e.call ≡ false → l.report.kept ≡ true
 
+-- so it does of these lines
 abbrev pub KeepsWrites : {V : Type 0} → List (Line V) → Type 0
 KeepsWrites [] = Unit {0}
 KeepsWrites (l ∷ ls) = KeepsWrite l × KeepsWrites ls

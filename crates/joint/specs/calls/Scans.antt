@@ -33,6 +33,7 @@ abbrev pub Comes : {V : Type 0} → Bool → Outcome V → List (ℕ × V) → T
 Comes true (Found place key value) places = place ≤ length places
 Comes _ _ places = Unit {0}
 
+-- so do all pairs that these lines tell
 abbrev pub AllCome : {V : Type 0} → ℕ → List (Line V) → List (ℕ × V) → Type 0
 AllCome w [] places = Unit {0}
 AllCome w (l ∷ ls) places = Comes (goes w l) l.report.outcome places × AllCome w ls (placed (goes w l) l.report.outcome places)

@@ -30,6 +30,7 @@ turns_stretch (Begin Unpin) p = nat_le p.guards 1
 turns_stretch (Go noise) p = publishes p.phase
 turns_stretch _ p = false
 
+-- the worker's step is accepted, and ends it
 pub record EndsStretch {V : Type 0} (who : ℕ) (s : World V) (t : Taken V) : Type 0 where
   pub worker : t.step.worker ≡ who
   pub accepted : misuse s who t.step.event ≡ None

@@ -12,6 +12,7 @@ use Rattle.joint.specs.calls.Alone.{OthersUnlocked, AllInFlight, steps_alone}
 use Rattle.joint.specs.calls.Runs.{Taken}
 use Rattle.joint.specs.engine.Engine.{World, is_busy}
 
+-- whether a step asked for an answer
 abbrev pub is_question : {V : Type 0} → Outcome V → Bool
 is_question (Asks found) = true
 is_question _ = false
@@ -22,6 +23,7 @@ abbrev pub wants_if : {V : Type 0} → Bool → Bool → Event V → Outcome V �
 wants_if before true (Go noise) told = is_question told
 wants_if before _ event told = before
 
+-- the same after these steps
 abbrev pub wants_after : {V : Type 0} → ℕ → Bool → List (Taken V) → Bool
 wants_after who before [] = before
 wants_after who before (t ∷ ts) = wants_after who (wants_if before (t.step.worker == who) t.step.event t.report.outcome) ts

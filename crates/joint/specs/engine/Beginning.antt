@@ -16,6 +16,7 @@ abbrev pub BeginsUnless : {V : Type 0} → (V → V → Bool) → Bool → World
 BeginsUnless same always s who t (Some f) r s' = (r ≡ quiet (kind_of t) (Refused (of_fault f))) × (s' ≡ s)
 BeginsUnless same always s who t None r s' = BeginsAt same always s who t r s'
 
+-- a call begins, or is refused for its first cause
 abbrev pub Begun : {V : Type 0} → (V → V → Bool) → Bool → World V → ℕ → Target V → Report V → World V → Type 0
 Begun same always s who t r s' = BeginsUnless same always s who t (begin_misuse t (slice_get s.calls who) (place_of s who)) r s'
 

@@ -27,6 +27,7 @@ taken (Obsolete n next p r) = n ∷ in_list next
 taken (Retire n next p r) = n ∷ in_list next
 taken _ = []
 
+-- their numbers, of a call with its machine
 abbrev pub taken_by : {V : Type 0} → Machine Id V → List ℕ
 taken_by m = map id_number (taken m.phase)
 

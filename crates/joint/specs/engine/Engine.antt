@@ -60,9 +60,11 @@ pub record World (V : Type 0) : Type 0 where
 abbrev pub without_log : {V : Type 0} → Nodes V → List (Machine Id V) → List (InFlight V) → World V
 without_log s ms ks = record { forest = s; machines = ms; calls = ks; log = no_log }
 
+-- the same of a machine that has written something down
 abbrev pub engine_of : {V : Type 0} → World V → World V
 engine_of s = without_log s.forest s.machines s.calls
 
+-- a worker's place in the collector
 abbrev pub place_of : {V : Type 0} → World V → ℕ → Participant (Unit {0})
 place_of s who = place s.forest.collector who
 
@@ -99,6 +101,7 @@ misuse_at Register call p = None
 misuse_at (Begin op) call p = begin_misuse (target op) call p
 misuse_at (Go noise) call p = if p.registered then (if is_busy call then None else Some fault.Idle) else Some fault.Unknown
 
+-- the same of a step in this state
 abbrev pub misuse : {V : Type 0} → World V → ℕ → Event V → Option Fault
 misuse s who event = misuse_at event (slice_get s.calls who) (place_of s who)
 
@@ -118,6 +121,7 @@ kind_at (Go noise) = OfCollector
 abbrev pub quiet : {V : Type 0} → Kind → Outcome V → Report V
 quiet kind outcome = record { kind = kind; decided = false; kept = false; skipped = false; destroyed = 0; outcome = outcome }
 
+-- how many an option has
 abbrev pub one_if : {A : Type 0} → Option A → ℕ
 one_if None = 0
 one_if (Some n) = 1
@@ -177,6 +181,7 @@ pub record ScansNothing {V : Type 0} (s : World V) (r : Report V) (s' : World V)
   pub state : s' ≡ s
   pub report : r ≡ quiet Tree (Done (Scanned 0))
 
+-- a call is in flight on the tree, or is a scan that ends as it begins
 abbrev pub EntersUnless : {V : Type 0} → Bool → World V → ℕ → Point V → Report V → World V → Type 0
 EntersUnless true s who op r s' = ScansNothing s r s'
 EntersUnless false s who op r s' = Enters s who op r s'
@@ -191,6 +196,7 @@ abbrev pub reserving : {V : Type 0} → CollectorOutcome → Outcome V
 reserving collector_outcome.Done = Running
 reserving o = collected o
 
+-- a further step of that
 pub record GoesOnReserving {V : Type 0} (same : V → V → Bool) (always : Bool) (s : World V) (who : ℕ) (r : Report V) (s' : World V) : Type 0 where
   pub turn : Collection
   pub step : Secured same always s.forest s.machines s.calls who turn s'.forest s'.machines s'.calls
@@ -209,6 +215,7 @@ pub record Walks {V : Type 0} (same : V → V → Bool) (always : Bool) (s : Wor
   pub calls : s'.calls ≡ slice_set s.calls who (if over_at (slice_get s'.machines who) then Idle else Walking)
   pub report : r ≡ walk s.forest move s'.forest
 
+-- a call on the tree begins: a look-up or a scan there at once, and a writing call with places to make free first
 abbrev pub BeginsOnTree : {V : Type 0} → (V → V → Bool) → Bool → World V → ℕ → Point V → Report V → World V → Type 0
 BeginsOnTree same always s who (point.Get k) r s' = Enters s who (point.Get k) r s'
 BeginsOnTree {V} same always s who (point.Range start end size) r s' = EntersUnless (finds_none {V = V} (point.Range start end size)) s who (point.Range start end size) r s'
@@ -222,11 +229,13 @@ pub record Surveys {V : Type 0} (s : World V) (k : Survey) (r : Report V) (s' : 
   pub report : r ≡ quiet Tree outcome
   pub tells : TellsOf (nodes s.forest) k outcome
 
+-- a call begins, by the layer that it is of
 abbrev pub BeginsAt : {V : Type 0} → (V → V → Bool) → Bool → World V → ℕ → Target V → Report V → World V → Type 0
 BeginsAt same always s who (target.Collector op) r s' = Collects same always s who (collector_event.Begin op) (Collecting op) r s'
 BeginsAt same always s who (target.Tree op) r s' = BeginsOnTree same always s who op r s'
 BeginsAt same always s who (target.Survey k) r s' = Surveys s k r s'
 
+-- a call in flight goes on, by what it is about
 abbrev pub GoesAt : {V : Type 0} → (V → V → Bool) → Bool → World V → ℕ → Option (InFlight V) → Noise Id V → Report V → World V → Type 0
 GoesAt same always s who None noise r s' = ⊥
 GoesAt same always s who (Some Idle) noise r s' = ⊥

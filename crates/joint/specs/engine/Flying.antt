@@ -12,9 +12,11 @@ use Rattle.joint.specs.engine.Intact.{root}
 abbrev pub Flights : Type 0 → Type 0
 Flights V = ℕ → Flight V
 
+-- no worker has one
 abbrev pub no_flights : {V : Type 0} → Flights V
 no_flights w = Over
 
+-- one worker has this one, and the others have theirs
 abbrev pub with_flight : {V : Type 0} → Flights V → ℕ → Flight V → Flights V
 with_flight fs w f v = if v == w then f else fs v
 
@@ -26,6 +28,7 @@ IsInFlight (Reserving op) m f = f ≡ flight (begun root op)
 IsInFlight (Securing op) m f = f ≡ flight (begun root op)
 IsInFlight Walking m f = Follows m f
 
+-- so is that of each worker, and beyond them there is none
 pub record AreInFlight {V : Type 0} (s : World V) (fs : Flights V) : Type 0 where
   pub each : (i : ℕ) (k : InFlight V) (m : Machine Id V) → slice_get s.calls i ≡ Some k → slice_get s.machines i ≡ Some m → IsInFlight k m (fs i)
   pub beyond : (i : ℕ) → length s.calls ≤ i → fs i ≡ Over

@@ -40,6 +40,7 @@ abbrev pub is_past : {V : Type 0} → Stage Id V → Bool
 is_past sweep.Over = true
 is_past _ = false
 
+-- the call is a scan that has
 abbrev pub is_done : {V : Type 0} → Phase Id V → Bool
 is_done (Sweep s) = is_past s.stage
 is_done _ = false
@@ -52,6 +53,7 @@ IsAt (Reserving op) p m = (p.registered ≡ true) × (is_some p.word ≡ true) �
 IsAt (Securing op) p m = IsOn (Secure 2) p × (is_some p.word ≡ true) × (m.phase ≡ Ended) × (writes op ≡ true)
 IsAt Walking p m = IsUnderWay m.phase × (is_done m.phase ≡ false)
 
+-- tree, calls and collector are safe, and each worker's call is at one with its place and its machine
 pub record IsIntact {V : Type 0} (same : V → V → Bool) (always : Bool) (s : Nodes V) (ms : List (Machine Id V)) (calls : List (InFlight V)) : Type 0 where
   pub safe : IsSafe same always s ms
   pub machines : length ms ≡ length calls
@@ -78,10 +80,12 @@ resting = record { root = root; key = 0; kind = Get; given = None; phase = Ended
 abbrev pub rested : {V : Type 0} → Machine Id V → Machine Id V
 rested m = if is_done m.phase then resting else m
 
+-- the machines once a scan that is done has left its worker's place
 abbrev pub cleared_at : {V : Type 0} → Option (Machine Id V) → List (Machine Id V) → ℕ → List (Machine Id V)
 cleared_at None ms who = ms
 cleared_at (Some m) ms who = if is_done m.phase then slice_set ms who resting else ms
 
+-- the same of the worker of this number
 abbrev pub cleared : {V : Type 0} → List (Machine Id V) → ℕ → List (Machine Id V)
 cleared ms who = cleared_at (slice_get ms who) ms who
 
@@ -137,6 +141,7 @@ abbrev pub is_over : {V : Type 0} → Phase Id V → Bool
 is_over Ended = true
 is_over _ = false
 
+-- whether a worker's has, where there is one
 abbrev pub over_at : {V : Type 0} → Option (Machine Id V) → Bool
 over_at None = false
 over_at (Some m) = is_over m.phase

@@ -26,6 +26,7 @@ is_asking (AskOld s old) = true
 is_asking (AskNew plan) = true
 is_asking _ = false
 
+-- the same of a worker's machine, where there is one
 abbrev pub asks_at : {V : Type 0} → Option (Machine Id V) → Bool
 asks_at None = false
 asks_at (Some m) = is_asking m.phase
@@ -40,10 +41,12 @@ is_pending (Sweep s) = false
 is_pending Ended = false
 is_pending _ = true
 
+-- whether a call of this kind may write
 abbrev pub may_write : {V : Type 0} → Kind V → Bool
 may_write kind.Get = false
 may_write _ = true
 
+-- whether a writing call has yet to take effect
 abbrev pub is_writing : {V : Type 0} → Option (Machine Id V) → Bool
 is_writing None = false
 is_writing (Some m) = is_pending m.phase && may_write m.kind
@@ -75,10 +78,12 @@ reply_in (UnlockBelow n p r) = Some r
 reply_in (Unlock n r) = Some r
 reply_in _ = None
 
+-- the same of a worker's machine, where there is one
 abbrev pub reply_at : {V : Type 0} → Option (Machine Id V) → Option (Reply V)
 reply_at None = None
 reply_at (Some m) = reply_in m.phase
 
+-- the same after a step: the one that it told, or will tell
 abbrev pub reply_by : {V : Type 0} → Outcome V → Option (Machine Id V) → Option (Reply V)
 reply_by Running m = reply_at m
 reply_by (Done (done.Reply r)) m = Some r
@@ -95,10 +100,12 @@ abbrev pub on_present : {V : Type 0} → ℕ → Option (Option V) → Reply V �
 on_present k answer (reply.ComputePresent None) = Some (call.ComputePresent k None)
 on_present k answer _ = Some (call.ComputePresent k (given_by answer))
 
+-- one on a computed value has none where its closure gave no value
 abbrev pub on_insert : {V : Type 0} → ℕ → Option V → Option (Entered V)
 on_insert k None = None
 on_insert k (Some v) = Some (call.ComputeInsert k v)
 
+-- the call of an operation, with its closure's last answer and its reply
 abbrev pub call_of : {V : Type 0} → Op V → Option (Option V) → Reply V → Option (Entered V)
 call_of (Get k) answer r = Some (call.Get k)
 call_of (Insert k v) answer r = Some (call.Insert k v)
@@ -115,6 +122,7 @@ HasAnswer (ComputePresent k) answer r = IsSome answer
 HasAnswer (ComputeInsert k) answer r = IsSome answer
 HasAnswer _ answer r = Unit {0}
 
+-- its entry, where there is one
 abbrev pub with_call : {V : Type 0} → ℕ → Reply V → Option (Entered V) → Option (Entry V)
 with_call who r None = None
 with_call who r (Some c) = Some (record { worker = who; call = c; reply = r })
@@ -131,6 +139,7 @@ kept_if true true e = e
 kept_if true false e = None
 kept_if false room e = None
 
+-- an option as a list
 abbrev pub in_list : {A : Type 0} → Option A → List A
 in_list None = []
 in_list (Some x) = x ∷ []

@@ -6,6 +6,7 @@ use Rattle.joint.specs.declared.engine.request.Request.{Request}
 use Rattle.joint.specs.declared.steps.Op.{Op}
 use Rattle.joint.specs.declared.steps.Op.TheVariants.{ComputeInsert}
 
+-- what is written down
 pub record Log (V : Type 0) : Type 0 where
   -- in the order in which the calls took effect
   pub entries : List (Entry V)
@@ -16,6 +17,7 @@ pub record Log (V : Type 0) : Type 0 where
   -- by the worker's place
   pub requests : List (Option (Request V))
 
+-- nothing is written down, and no journal is kept
 abbrev pub no_log : {V : Type 0} → Log V
 no_log = record { entries = []; places = 0; reserved = 0; requests = [] }
 
@@ -38,6 +40,7 @@ counted true false n = n - 1
 counted true true n = n
 counted false false n = n
 
+-- the same where a journal is kept; else they stay
 abbrev pub recounted : ℕ → Bool → Bool → ℕ → ℕ
 recounted zero before after n = n
 recounted (suc places) before after n = counted before after n
@@ -46,6 +49,7 @@ recounted (suc places) before after n = counted before after n
 abbrev pub request_at : {V : Type 0} → List (Option (Request V)) → ℕ → Option (Request V)
 request_at requests who = slice_index_or requests who None
 
+-- a call as it is asked for, with no answer yet
 abbrev pub asked : {V : Type 0} → Op V → Option (Request V)
 asked op = Some (record { op = op; answer = None })
 
@@ -65,6 +69,7 @@ with_answer None q = q
 with_answer (Some None) q = record { op = q.op; answer = with_none q.op q.answer }
 with_answer (Some (Some x)) q = record { op = q.op; answer = Some (Some x) }
 
+-- it does where its next step takes one
 abbrev pub answered_if : {V : Type 0} → Bool → Option (Option V) → Option (Request V) → Option (Request V)
 answered_if true answer (Some q) = Some (with_answer answer q)
 answered_if true answer None = None

@@ -53,6 +53,7 @@ abbrev pub retiring : {V : Type 0} → Phase Id V → Option Id
 retiring (Retire n next p r) = Some n
 retiring _ = None
 
+-- the same of a worker's machine, where there is one
 abbrev pub retiring_at : {V : Type 0} → Option (Machine Id V) → Option Id
 retiring_at None = None
 retiring_at (Some m) = retiring m.phase

@@ -52,6 +52,7 @@ pub record Guards {C V J : Type 0} (p : Participant J) (m : Machine C V) : Type 
   pub idle : IsUnderWay m.phase → p.phase ≡ Idle
   pub secured : IsSecured m.kind m.phase (length p.bag)
 
+-- what holds of tree, calls and collector, after these moments
 pub record Sound {T J C V : Type 0} (tnames : T → List Name) (view : Bool → Option T → Node V) (num : C → ℕ) (same : V → V → Bool) (always : Bool) (top : Name) (past : List Moment) (s : State T J) (ms : List (Machine C V)) : Type 0 where
   pub orderly : Orderly s
   pub rooted : Rooted s.roots top

@@ -31,6 +31,7 @@ TellsStats {V} h (Done (Stats stats)) = (m : Pairs V) → IsMapOf h m → IsTall
 TellsStats h (Refused Memory) = Unit {0}
 TellsStats h _ = ⊥
 
+-- what a call of one step tells, by what it asks
 abbrev pub TellsOf : {V : Type 0} → (ℕ → Node V) → Survey → Outcome V → Type 0
 TellsOf h survey.Keys o = TellsKeys h o
 TellsOf h survey.IsEmpty o = TellsEmpty h o

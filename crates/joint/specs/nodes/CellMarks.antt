@@ -3,6 +3,7 @@ use Rattle.std.specs.Prelude.{ℕ, nat_lt, false, List, [], ◌∷◌, ◌++◌,
 use Rattle.congee.specs.declared.forms.base_node.NodeType.TheVariants.{N4}
 use Rattle.joint.specs.declared.nodes.counts.CellMark.{CellMark}
 
+-- what stands for the mark of a cell that has none
 abbrev pub no_mark : CellMark
 no_mark = record { form = N4; waits = false }
 

@@ -16,8 +16,10 @@ pub record IsView {T V : Type 0} (names : T → List Name) (view : Bool → Opti
   pub links : (g : Bool) (v : T) (c : Name) → Contains (names v) c → (b : ℕ) × ((view g (Some v)).children b ≡ Below (number c))
   pub hangs : (g : Bool) (v : T) (b k : ℕ) → (view g (Some v)).children b ≡ Below k → (c : Name) × Contains (names v) c × (number c ≡ k)
 
+-- the node under a name
 abbrev pub node_at : {T V : Type 0} → (Bool → Option T → Node V) → Store T → Name → Node V
 node_at view st n = view (was_given st n) (value_at st n)
 
+-- the nodes by their numbers
 abbrev pub heap_of : {T V : Type 0} → (Bool → Option T → Node V) → Store T → ℕ → Node V
 heap_of view st k = node_at view st (named k)

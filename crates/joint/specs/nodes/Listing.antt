@@ -26,6 +26,7 @@ last_names i (c ∷ cs) = last_name i c ∷ last_names (suc i) cs
 abbrev pub nodes_that : {V : Type 0} → (Node V → Bool) → Nodes V → List ℕ
 nodes_that test s = filter (λ n. test (nodes s n)) (last_names 0 s.collector.store.cells)
 
+-- whether a node stands
 abbrev pub is_standing : {V : Type 0} → Node V → Bool
 is_standing n = n.made && not n.destroyed
 

@@ -30,12 +30,15 @@ pub record Nodes (V : Type 0) : Type 0 where
   pub limit : ℕ
   pub version_max : ℕ
 
+-- the collector is another one, and all else is as it was
 abbrev pub with_collector : {V : Type 0} → Nodes V → State (Slot V) (Unit {0}) → Nodes V
 with_collector s c = record s { collector = c }
 
+-- the nodes by their numbers
 abbrev pub nodes : {V : Type 0} → Nodes V → ℕ → Node V
 nodes s = heap s.collector.store
 
+-- the size of the node in a slot, in bytes
 abbrev pub size_in : {V A : Type 0} → Option (Box (Form Id V) A) → ℕ
 size_in None = 0
 size_in (Some n) = size_of (form_of n.value)
@@ -48,13 +51,16 @@ size s = size_in s.node
 abbrev pub waits : {V : Type 0} → Slot V → ℕ
 waits s = if s.word.retired then 1 else 0
 
+-- its size, where it waits
 abbrev pub waiting_size : {V : Type 0} → Slot V → ℕ
 waiting_size s = if s.word.retired then size s else 0
 
+-- what a function gives for a value that stands, and 0 for none
 abbrev pub of_value : {T : Type 0} → (T → ℕ) → Option T → ℕ
 of_value f None = 0
 of_value f (Some v) = f v
 
+-- the same of a cell
 abbrev pub of_cell : {T : Type 0} → (T → ℕ) → Cell T → ℕ
 of_cell f c = of_value f c.value
 
@@ -62,12 +68,15 @@ of_cell f c = of_value f c.value
 abbrev pub total : {T : Type 0} → (T → ℕ) → Store T → ℕ
 total f st = sum_by (of_cell f) st.cells
 
+-- the sizes of all nodes
 abbrev pub sizes : {V : Type 0} → Store (Slot V) → ℕ
 sizes st = total size st
 
+-- how many nodes wait for their destruction
 abbrev pub waiting : {V : Type 0} → Store (Slot V) → ℕ
 waiting st = total waits st
 
+-- their sizes
 abbrev pub waiting_bytes : {V : Type 0} → Store (Slot V) → ℕ
 waiting_bytes st = total waiting_size st
 
@@ -92,6 +101,7 @@ pub record IsTally {V : Type 0} (s : Slot V) (t : CellMark) : Type 0 where
   pub size_is : size s ≡ size_of t.form
   pub waits_is : s.word.retired ≡ t.waits
 
+-- so is the mark of each cell
 abbrev pub IsTallied : {V : Type 0} → Store (Slot V) → List CellMark → Type 0
 IsTallied {V} st cell_marks = (n : Name) (s : Slot V) → value_at st n ≡ Some s → IsTally s (mark_at cell_marks n.cell)
 

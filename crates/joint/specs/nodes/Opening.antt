@@ -26,6 +26,7 @@ use Rattle.joint.specs.nodes.Ties.{Rooted}
 abbrev pub top : Name
 top = record { cell = 0; turn = 0 }
 
+-- the collector's roots: a pointer to it alone
 abbrev pub top_roots : List Ptr
 top_roots = record { name = Some top; tag = 0 } ∷ []
 
@@ -62,6 +63,7 @@ IsUnopened limits charge limit _ = ⊥
 abbrev pub HasPlaces : ℕ → Type 0
 HasPlaces places = (1 ≤ places) × (places ≤ 4294967295)
 
+-- why there is none that keeps a journal of so many places
 abbrev pub IsUnjournaled : Limits → ℕ → ℕ → ℕ → Refusal → Type 0
 IsUnjournaled limits places charge limit refusal.Limits = AreAllowed limits × HasPlaces places → ⊥
 IsUnjournaled limits places charge limit e = HasPlaces places × IsUnopened limits charge limit e

@@ -4,5 +4,6 @@ use denote.Param.{layout}
 use Rattle.congee.specs.forms.Room.{IsSmall}
 use Rattle.joint.specs.contracts.id.Id.{the_row}
 
+-- a node's name is small
 pub small_id : IsSmall (layout the_row)
 small_id = record { bytes = omega arith; aligned = omega arith }

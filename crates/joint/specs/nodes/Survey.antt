@@ -27,6 +27,7 @@ abbrev pub AllAbove : ℕ → List ℕ → Type 0
 AllAbove k [] = Unit {0}
 AllAbove k (j ∷ js) = (k < j) × AllAbove k js
 
+-- each is below all that follow it
 abbrev pub Ascend : List ℕ → Type 0
 Ascend [] = Unit {0}
 Ascend (k ∷ ks) = AllAbove k ks × Ascend ks

@@ -8,6 +8,7 @@ use Rattle.crossbeam_epoch.specs.World.Reach.{links_of}
 use Rattle.congee.specs.Heap.{Node, Below, Stands}
 use Rattle.joint.specs.Names.{number}
 
+-- a node stands just where its name does, was made where that was given, and has the value's names below it
 pub record Ties {T V : Type 0} (names : T → List Name) (st : Store T) (h : ℕ → Node V) : Type 0 where
   pub live : (n : Name) → Stands (h (number n)) → is_some (value_at st n) ≡ true
   pub stands : (n : Name) → is_some (value_at st n) ≡ true → Stands (h (number n))

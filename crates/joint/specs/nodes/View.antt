@@ -13,9 +13,11 @@ use Rattle.joint.specs.declared.nodes.slot.LockWord.{LockWord}
 use Rattle.joint.specs.nodes.Heap.{heap_of}
 use Rattle.joint.specs.Names.{number}
 
+-- the number of a node's name
 abbrev pub id_number : Id → ℕ
 id_number i = number i.name
 
+-- what hangs where this child is, if one is
 abbrev pub hung_at : {P : Type 0} → Option (Child Id P) → Hung P
 hung_at None = Nothing
 hung_at (Some c) = hung id_number c
@@ -24,18 +26,22 @@ hung_at (Some c) = hung id_number c
 abbrev pub child_at : {P : Type 0} → Form Id P → ℕ → Hung P
 child_at n b = hung_at (map.get (children_of n) b)
 
+-- the prefix of a node, where one is in its box
 abbrev pub prefix_in : {P A : Type 0} → Option (Box (Form Id P) A) → List ℕ
 prefix_in None = []
 prefix_in (Some n) = prefix_of n.value
 
+-- what hangs at its byte
 abbrev pub child_in : {P A : Type 0} → Option (Box (Form Id P) A) → ℕ → Hung P
 child_in None b = Nothing
 child_in (Some n) b = child_at n.value b
 
+-- how many children it has
 abbrev pub count_in : {P A : Type 0} → Option (Box (Form Id P) A) → ℕ
 count_in None = 0
 count_in (Some n) = map.len (children_of n.value)
 
+-- how many places it has
 abbrev pub capacity_in : {P A : Type 0} → Option (Box (Form Id P) A) → ℕ
 capacity_in None = 0
 capacity_in (Some n) = capacity_of (form_of n.value)
@@ -86,6 +92,7 @@ view given None = record {
 }
 view given (Some s) = node_of s
 
+-- the nodes in the cells, by their numbers
 abbrev pub heap : {P : Type 0} → Store (Slot P) → ℕ → Node P
 heap st = heap_of view st
 

@@ -51,6 +51,7 @@ Goes calls who (Registered n) f step f' = ⊥
 Goes calls who (Done done) f step f' = ⊥
 Goes calls who (Refused refusal) f step f' = ⊥
 
+-- a turn: the begin where nothing was told yet, and else the next step
 abbrev pub Turns : {V F : Type 0} → (F → Option V → Option V → F → Type 0) → ℕ → Op V → Option (Report V) → F → Step V → F → Type 0
 Turns calls who op None f step f' = (step ≡ begin_step who op) × (f' ≡ f)
 Turns calls who op (Some r) f step f' = Goes calls who r.outcome f step f'

@@ -39,6 +39,7 @@ abbrev pub IsPinnedWith : {V F O : Type 0} → (ℕ → Op V → Step V → Repo
 IsPinnedWith {V} hold id c f w (Ok g) w' result = IsCalledPinned {V = V} hold id c f w g w' result
 IsPinnedWith hold id c f w (Err e) w' result = (w' ≡ w) × (result ≡ Err e)
 
+-- a call pins, and calls its closure; with a worker of another index it does neither
 abbrev pub CallsPinned : {V F O : Type 0} → (ℕ → Op V → Step V → Report V → Type 0) → ℕ → Once F (MutBor Worker × (Bor Guard × Unit {0})) (Result O Refusal × (MutBor Worker × Unit {0})) → F → Worker → Worker → Result O Refusal → Type 0
 CallsPinned {V} hold id c f w w' result = (pinned : Result Guard Refusal) × Serves (is_of id w) (Pins {V = V} hold id w.number) pinned × IsPinnedWith {V = V} hold id c f w pinned w' result
 

@@ -95,6 +95,7 @@ or_insert step f found (Some v) f' = step f found v f'
 abbrev pub register_step : {V : Type 0} → Step V
 register_step = record { worker = 0; event = Register }
 
+-- what it answers: a worker of this index, or why there is none
 abbrev pub registered : {V : Type 0} → ℕ → Outcome V → Result Worker Refusal
 registered id (Registered n) = Ok (record { tree = id; number = n })
 registered id (Refused e) = Err e
@@ -161,6 +162,7 @@ abbrev pub guarded : ℕ → ℕ → Result (Unit {0}) Refusal → Result Guard 
 guarded id who (Ok t) = Ok (record { tree = id; worker = who })
 guarded id who (Err e) = Err e
 
+-- a pin, and the guard that it makes or why it is refused
 abbrev pub Pins : {V : Type 0} → (ℕ → Op V → Step V → Report V → Type 0) → ℕ → ℕ → Result Guard Refusal → Type 0
 Pins {V} hold id who result = (end : Result (Unit {0}) Refusal) × Answers {V = V} hold who op.Pin told end × (result ≡ guarded id who end)
 
@@ -176,6 +178,7 @@ RoundsFrom ends (Err e) s result s' = (result ≡ Err e) × (s' ≡ s)
 RoundsFrom {V} {S} ends (Ok t) s result s' = (flushed : Result (Unit {0}) Refusal) × (between : S) × (left : Result (Unit {0}) Refusal)
     × ends s op.Flush flushed between × ends between op.Unpin left s' × (result ≡ first_of flushed left)
 
+-- the whole round, so
 abbrev pub Rounds : {V S : Type 0} → (S → Op V → Result (Unit {0}) Refusal → S → Type 0) → S → Result (Unit {0}) Refusal → S → Type 0
 Rounds {V} {S} ends s result s' = (begun : Result (Unit {0}) Refusal) × (pinned : S) × ends s op.Pin begun pinned × RoundsFrom {V = V} ends begun pinned result s'
 
@@ -185,6 +188,7 @@ IsRoundFrom hold who (Err e) result = result ≡ Err e
 IsRoundFrom {V} hold who (Ok t) result = (flushed : Result (Unit {0}) Refusal) × (left : Result (Unit {0}) Refusal)
     × Answers {V = V} hold who op.Flush told flushed × Answers {V = V} hold who op.Unpin told left × (result ≡ first_of flushed left)
 
+-- the whole round, so
 abbrev pub IsRound : {V : Type 0} → (ℕ → Op V → Step V → Report V → Type 0) → ℕ → Result (Unit {0}) Refusal → Type 0
 IsRound {V} hold who result = (begun : Result (Unit {0}) Refusal) × Answers {V = V} hold who op.Pin told begun × IsRoundFrom {V = V} hold who begun result
 
@@ -193,10 +197,12 @@ abbrev pub words : {B : Type 0} → (ℕ → B) → Result (Option ℕ) Refusal 
 words of (Ok v) = Ok (option_map of v)
 words of (Err e) = Err e
 
+-- the same of the two that an exchange answers
 abbrev pub either_of : {B : Type 0} → (ℕ → B) → Result (Option ℕ) (Option ℕ) → Result (Option B) (Option B)
 either_of of (Ok v) = Ok (option_map of v)
 either_of of (Err v) = Err (option_map of v)
 
+-- the same of an exchange's answer or refusal
 abbrev pub either_words : {B : Type 0} → (ℕ → B) → Result (Result (Option ℕ) (Option ℕ)) Refusal → Result (Result (Option B) (Option B)) Refusal
 either_words of (Ok r) = Ok (either_of of r)
 either_words of (Err e) = Err e

@@ -60,14 +60,17 @@ pub record FindsNone {V : Type 0} (start end size count : ℕ) (fs : Flights V) 
   pub scan : IsScan {V = V} start end size (m ∷ []) []
   pub stays : Stays fs m l fs'
 
+-- the same of a call with this range, if it is a scan
 abbrev pub EndsEmpty : {V : Type 0} → Option (ℕ × ℕ × ℕ) → ℕ → Flights V → Pairs V → Line V → Flights V → Type 0
 EndsEmpty None count fs m l fs' = ⊥
 EndsEmpty (Some (start, end, size)) count fs m l fs' = FindsNone start end size count fs m l fs'
 
+-- a call that is done as it begins is such a scan
 abbrev pub EndsAtOnce : {V : Type 0} → Flights V → Pairs V → Point V → Answer V → Line V → Flights V → Type 0
 EndsAtOnce fs m op (Scanned count) l fs' = EndsEmpty (range_of op) count fs m l fs'
 EndsAtOnce fs m op done l fs' = ⊥
 
+-- a call on the tree is refused, is done, or is in flight
 abbrev pub BeginsOr : {V : Type 0} → Flights V → Pairs V → Point V → Outcome V → Line V → Flights V → Type 0
 BeginsOr fs m op (Refused e) l fs' = Stays fs m l fs'
 BeginsOr fs m op (Done done) l fs' = EndsAtOnce fs m op done l fs'
@@ -78,6 +81,7 @@ pub record Told {V : Type 0} (k : Survey) (fs : Flights V) (m : Pairs V) (l : Li
   pub tells : MapTells m k l.report.outcome
   pub stays : Stays fs m l fs'
 
+-- what a begin makes of the map, by the layer that its call is of
 abbrev pub BeginMap : {V : Type 0} → Flights V → Pairs V → Target V → Line V → Flights V → Type 0
 BeginMap fs m (target.Collector op) l fs' = Stays fs m l fs'
 BeginMap fs m (target.Tree op) l fs' = BeginsOr fs m op l.report.outcome l fs'
@@ -112,6 +116,7 @@ pub record IsGivenUp {V : Type 0} (m : Pairs V) (l : Line V) (f' : Flight V) : T
   pub no_entry : l.entry ≡ None
   pub same_pairs : l.pairs ≡ m
 
+-- a step of a call on one key that has not taken effect, by whether it does now
 abbrev pub PendingStep : {V : Type 0} → (V → V → Bool) → ℕ → Kind V → Option V → Question V → Pairs V → Bool → Line V → Flight V → Type 0
 PendingStep same k kind v q m false l f' = IsPending k kind v q m l f' ⊎ IsGivenUp m l f'
 PendingStep same k kind v q m true l f' = TakesEffect same k kind v q m l f'
@@ -134,6 +139,7 @@ pub record Scans {V : Type 0} (start end size : ℕ) (states : List (Pairs V)) (
   pub no_entry : l.entry ≡ None
   pub same_pairs : l.pairs ≡ m
 
+-- a step of a call in flight, by how far it has come
 abbrev pub FlightStep : {V : Type 0} → (V → V → Bool) → Flight V → Pairs V → Option (Option V) → Line V → Flight V → Type 0
 FlightStep same (Pending k kind v q) m answer l f' = PendingStep same k kind (value_answered kind q answer v) (resolved kind q answer) m l.report.decided l f'
 FlightStep same (Decided r) m answer l f' = Finishes r m l f'
@@ -147,10 +153,12 @@ pub record Advances {V : Type 0} (same : V → V → Bool) (fs : Flights V) (f :
   pub step : FlightStep same f m answer l next
   pub advances : fs' ≡ with_flight fs l.step.worker next
 
+-- a further step: of a call on the tree, or of one that leaves the map
 abbrev pub GoMap : {V : Type 0} → (V → V → Bool) → Flights V → Flight V → Pairs V → Option (Option V) → Line V → Flights V → Type 0
 GoMap same fs Over m answer l fs' = Stays fs m l fs'
 GoMap same fs f m answer l fs' = Advances same fs f m answer l fs'
 
+-- what a step makes of the map, by its event
 abbrev pub EventMap : {V : Type 0} → (V → V → Bool) → Flights V → Pairs V → Event V → Line V → Flights V → Type 0
 EventMap same fs m Register l fs' = Stays fs m l fs'
 EventMap same fs m (Begin op) l fs' = BeginMap fs m (target op) l fs'

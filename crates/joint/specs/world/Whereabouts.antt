@@ -25,6 +25,7 @@ pub record IsWaiting {V : Type 0} (s : World V) (n : ℕ) : Type 0 where
   pub out : IsOut (nodes s.forest) n
   pub unheld : (worker : ℕ) → IsHeldBy s worker n → ⊥
 
+-- it is destroyed
 pub record IsDestroyed {V : Type 0} (s : World V) (n : ℕ) : Type 0 where
   pub gone : (nodes s.forest n).destroyed ≡ true
 

@@ -40,6 +40,7 @@ value_of (ComputeInsert k) answer = given_by answer
 value_of (Exchange k old new) answer = new
 value_of _ answer = None
 
+-- the call is on one key
 abbrev pub IsOnKey : {V : Type 0} → Point V → Type 0
 IsOnKey (point.Range start end size) = ⊥
 IsOnKey (point.RangeInclusive start last size) = ⊥
@@ -123,6 +124,7 @@ pub record FindsJournalFull {V : Type 0} (s : World V) (who : ℕ) (r : Report V
   pub report : r ≡ quiet OfCollector (Refused JournalFull)
   pub state : s' ≡ record s { calls = slice_set s.calls who Idle; log = record s.log { requests = slice_set s.log.requests who None } }
 
+-- a step finds the journal full, or is taken
 abbrev pub StepsUnless : {V : Type 0} → (V → V → Bool) → Bool → Bool → World V → Step V → Report V → World V → Type 0
 StepsUnless same always true s step r s' = FindsJournalFull s step.worker r s'
 StepsUnless same always false s step r s' = TakesStep same always s step r s'

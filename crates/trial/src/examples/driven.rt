@@ -31,6 +31,7 @@ impl<A: Allocator> Driven<A> {
         }
     }
 
+    /// The index as it stands.
     pub fn into_index(self) -> World<u64, A>
         ensures { result ≡ self.index }
     {

@@ -36,6 +36,7 @@ use Rattle.joint.proofs.lemmas.engine.Entering.{begin_idle}
 use Rattle.joint.proofs.lemmas.engine.Reported.{may_go}
 use Rattle.joint.proofs.lemmas.engine.Reserving.{reserving_call}
 
+-- where no call is in flight the worker's machine has ended
 pub ended_by : {V : Type 0} (k : InFlight V) (p : Participant (Unit {0})) (m : Machine Id V) → is_busy (Some k) ≡ false → IsAt k p m → m.phase ≡ Ended
 ended_by Idle p m e a = a.1
 ended_by (Collecting op) p m e a = absurd (false≢true (sym e))
@@ -43,6 +44,7 @@ ended_by (Reserving op) p m e a = absurd (false≢true (sym e))
 ended_by (Securing op) p m e a = absurd (false≢true (sym e))
 ended_by Walking p m e a = absurd (false≢true (sym e))
 
+-- where both of two tests hold, the first does
 pub and_left : (a b : Bool) → (a && b) ≡ true → a ≡ true
 and_left true b e = refl
 and_left false b e = e

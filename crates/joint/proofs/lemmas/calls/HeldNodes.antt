@@ -105,6 +105,7 @@ module _ {V : Type 0} (same : V → V → Bool) (always : Bool) (i : ℕ) (a : �
   taken_locked (Retire m next p r) (inr y) = inr y
   taken_locked _ y = absurd y
 
+-- a node that waits was handed over, and stands
 pub waits_is : {V : Type 0} (n : Node V) → is_waiting n ≡ true → (n.retired ≡ true) × Stands n
 waits_is n e = by n.retired n.made n.destroyed refl refl refl e where
   by : (r m d : Bool) → n.retired ≡ r → n.made ≡ m → n.destroyed ≡ d → (r && (m && not d)) ≡ true → (n.retired ≡ true) × Stands n

@@ -205,6 +205,7 @@ module _ {V : Type 0} where
 abbrev pub begin_of : {V : Type 0} → ℕ → Op V → Step V
 begin_of w op = record { worker = w; event = Begin op }
 
+-- a further step of a call in flight
 abbrev pub gone : {V : Type 0} → ℕ → Noise Id V → Step V
 gone w noise = record { worker = w; event = Go noise }
 

@@ -63,6 +63,7 @@ pub record SameLeft {V : Type 0} (p q : Node V) : Type 0 where
   pub made : q.made ≡ p.made
   pub kept : q.destroyed ≡ p.destroyed
 
+-- a node that stays the same is left so
 pub same_left : {V : Type 0} (p q : Node V) → q ≡ p → SameLeft p q
 same_left p q e = record { locked = ap (λ y. y.locked) e; marked = λ o. ap (λ y. y.obsolete) e ∙ o; children = λ b. ap (λ y. y.children b) e; made = ap (λ y. y.made) e; kept = ap (λ y. y.destroyed) e }
 
@@ -81,6 +82,7 @@ pub record IsLost {V : Type 0} (n : Node V) : Type 0 where
   pub made : n.made ≡ true
   pub destroyed : n.destroyed ≡ true
 
+-- what a step leaves of the nodes in the tree, of those that calls have taken out, and of those that wait
 pub record Parts {V : Type 0} (s s' : World V) (w : ℕ) (event : Event V) : Type 0 where
   pub leaves : (n : ℕ) → InTree (nodes s.forest) n → InTree (nodes s'.forest) n ⊎ (TakesOut s s' w n × IsTaking s w event)
   pub owed : (i n : ℕ) → IsTakenBy s i n → IsTakenBy s' i n ⊎ ((w ≡ i) × HandsOver s.forest s'.forest i n)

@@ -73,6 +73,7 @@ view_made : {V : Type 0} (g : Bool) (v : Option (Slot V)) → (view g v).retired
 view_made g None e = absurd cc
 view_made g (Some s) e = refl
 
+-- a node that was handed over had been made
 pub made_before : {V : Type 0} (s : Nodes V) (c : ℕ) → (nodes s c).retired ≡ true → (nodes s c).made ≡ true
 made_before s c e = view_made (was_given s.collector.store (named c)) (value_at s.collector.store (named c)) e
 

@@ -44,9 +44,11 @@ use Rattle.joint.proofs.lemmas.engine.Collecting.{set_here}
 use Rattle.joint.proofs.lemmas.calls.PlainCalls.{fault_apart, collects, collected_agrees, secures, enters, reserves, moved_alike, walked_agrees}
 use Rattle.joint.proofs.lemmas.engine.PlainTells.{map_here, tells_alike}
 
+-- where no node is made the list of the made ones stays
 pub same_longer : (order : List ℕ) → Longer order order
 same_longer order = ([], sym (append-nil order))
 
+-- what is made in two steps comes behind what was made before both
 pub then_longer : (a b c : List ℕ) → Longer a b → Longer b c → Longer a c
 then_longer a b c x y = (x.0 ++ y.0, y.1 ∙ ap (λ z. z ++ y.0) x.1 ∙ append_assoc a x.0 y.0)
 

@@ -89,6 +89,7 @@ IsReader (Some (Collecting collector_op.Pin)) m = Unit {0}
 IsReader (Some Walking) (Some m) = (m.kind ≡ kind.Get) × Reads m.phase
 IsReader _ m = ⊥
 
+-- the same of a worker of the machine
 abbrev pub ReaderAt : {V : Type 0} → World V → ℕ → Type 0
 ReaderAt s w = IsReader (slice_get s.calls w) (slice_get s.machines w)
 

@@ -55,6 +55,7 @@ one_stands h m x = same_pairs m (the_pairs h) (λ q. elim (cases_lt q (2 ^ 64)) 
   | inr l ↦ x.none_beyond q l ∙ sym ((stand h).none_beyond q l)
 ])
 
+-- a call whose reply and next map are the map's answer has ended as the map says
 pub answers_as : {V : Type 0} (same : V → V → Bool) (told : Option (Reply V)) (asked : Option (Entered V)) (m m' : Pairs V)
     → ((c : Entered V) (r : Reply V) → asked ≡ Some c → told ≡ Some r → (r ≡ (answer same m c).0) × (m' ≡ (answer same m c).1)) → AnswersAs same told asked m m'
 answers_as same None asked m m' x = tt

@@ -21,6 +21,7 @@ use Rattle.joint.proofs.lemmas.engine.Collected.{collected, destroys, spares_all
 use Rattle.joint.proofs.lemmas.engine.Filing.{filed_collected}
 use Rattle.joint.proofs.lemmas.nodes.SlotViews.{slot_view}
 
+-- a step of the collector, of a worker with no call on the tree, leaves the pairs; what goes waited, and no call has it
 pub swept : {V : Type 0} (same : V → V → Bool) (always : Bool) → CellLaws {T = Slot V} (Unit {0}) slot_names → CallLaws {C = Id} {V = V} id_number same always
     → (s s' : Nodes V) (ms : List (Machine Id V)) (who : ℕ) (event : Event) (r : Report) → IsSafe same always s ms → Rests ms who
     → IsReport s.collector who event r → s'.collector ≡ after s.collector who event r.outcome → Moves s.collector who r.called s'.collector

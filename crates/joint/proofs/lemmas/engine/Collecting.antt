@@ -41,6 +41,7 @@ either (z ∷ xs) (suc i) (suc j) x y e = elim (either xs i j x y e) [
   | inr p ↦ inr ((λ q. p.0 (omega arith)), p.1)
 ]
 
+-- a place below the length of a list has something in it
 pub get_inside : {A : Type 0} (xs : List A) (i : ℕ) → i < length xs → (x : A) × (slice_get xs i ≡ Some x)
 get_inside [] i l = absurd (omega (arith, l))
 get_inside (x ∷ xs) zero l = (x, refl)
@@ -54,6 +55,7 @@ intact_at {V} same always s s' ms ms' calls calls' es em ec i =
     let R : List (InFlight V) → Type 0 = λ x. IsIntact same always s ms x in
     subst P (sym es) (subst Q (sym em) (subst R (sym ec) i))
 
+-- a step of the collector, with the nodes and the calls under other names
 pub collected_at : {V : Type 0} (same : V → V → Bool) (always : Bool) (s1 s s' : Nodes V) (ms1 ms : List (Machine Id V)) (who : ℕ) (event : Event) (r : Report) → s1 ≡ s → ms1 ≡ ms → Collected same always s1 ms1 who event r s' → Collected same always s ms who event r s'
 collected_at {V} same always s1 s s' ms1 ms who event r es em c =
     subst (λ (x : Nodes V). Collected same always x ms who event r s') es (subst (λ (x : List (Machine Id V)). Collected same always s1 x who event r s') em c)
@@ -110,6 +112,7 @@ module _ {V : Type 0} (same : V → V → Bool) (always : Bool) (laws : Progress
       let P : State (Slot V) (Unit {0}) → Type 0 = λ y. GoesOn s.collector who op r.outcome y in
       gone_at op r.outcome s.collector s'.collector m x.1 (subst P (sym c.state) (laws.goes_on s.collector who op r intact.safe.sound.sound.orderly x.0 c.report)))
 
+-- what was put in a place of a list stands there
 pub set_here : {A : Type 0} → (xs : List A) (i : ℕ) (x y : A) → slice_get xs i ≡ Some y → slice_get (set xs i x) i ≡ Some x
 set_here [] i x y e = absurd cc
 set_here (z ∷ xs) zero x y e = refl

@@ -72,6 +72,7 @@ is_name_same m n e =
     let c : m ≡ record { cell = n.cell; turn = m.turn } = ap (λ (c : ℕ). record { cell = c; turn = m.turn }) a in
     c ∙ ap (λ (t : ℕ). record { cell = n.cell; turn = t }) b
 
+-- a name passes the test for itself
 pub is_name_itself : (n : Name) → is_name n n ≡ true
 is_name_itself n = grind (arith, nat_tests)
 

@@ -31,6 +31,7 @@ use Rattle.joint.proofs.lemmas.nodes.SlotViews.{slot_view}
 use Rattle.joint.proofs.lemmas.nodes.Tickets.{at_most_by_relation}
 use Rattle.joint.proofs.lemmas.nodes.Views.{ties}
 
+-- a participant that is registered has a place in the table
 pub held_place : {J : Type 0} (table : List (Participant J)) (who : ℕ) → (slice_index_or table who blank).registered ≡ true → who < length table
 held_place {J} table who e = elim (cases_lt who (length table)) [
   | inl lt ↦ lt

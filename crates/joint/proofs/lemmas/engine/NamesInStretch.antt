@@ -25,6 +25,7 @@ deferred_on (Marked (H.Deferred u m)) h t n d = inr d
 deferred_on (Marked (H.Called u m)) h t n d = d
 deferred_on (GivenBack m) h t n d = d
 
+-- a call that has ended names no node
 pub no_names : {C V : Type 0} (num : C → ℕ) (m : Machine C V) (k : ℕ) → m.phase ≡ Ended → Contains (names num m.phase) k → ⊥
 no_names {C} {V} num m k e c =
     let P : Phase C V → Type 0 = λ x. Contains (names num x) k in
@@ -35,6 +36,7 @@ way : {C V : Type 0} (num : C → ℕ) (x : Phase C V) (k : ℕ) → Contains (n
 way num Ended k c = let bad : c.0 < 0 = c.1 in absurd (omega (arith, bad))
 way num _ k c = tt
 
+-- a call that names a node is under way
 pub under_way : {C V : Type 0} (num : C → ℕ) (m : Machine C V) (k : ℕ) → Contains (names num m.phase) k → IsUnderWay m.phase
 under_way num m k c = way num m.phase k c
 
@@ -47,9 +49,11 @@ stretched None (Some w) epoch x e = absurd x
 pub in_stretch : {T J : Type 0} (h : List Mark) (s : State T J) (i : ℕ) → Fits h s → is_some (place s i).word ≡ true → is_some (began h i) ≡ true
 in_stretch h s i f e = stretched (began h i) (place s i).word s.epoch (f.places i).bounds e
 
+-- the worker of a call that names a node is in a stretch
 pub pinned_stretch : {T J C V : Type 0} (num : C → ℕ) (h : List Mark) (s : State T J) (i : ℕ) (m : Machine C V) (k : ℕ) → Fits h s → Guards (place s i) m → Contains (names num m.phase) k → is_some (began h i) ≡ true
 pinned_stretch num h s i m k f g c = in_stretch h s i f (g.pinned (under_way num m k c))
 
+-- a call that has ended asks nothing of its worker's place but a bag of 64 jobs at most
 pub ended_guards : {C V J : Type 0} (p : Participant J) (m : Machine C V) → length p.bag ≤ 64 → m.phase ≡ Ended → Guards p m
 ended_guards {C} {V} p m fits e =
     let no : IsUnderWay m.phase → ⊥ = λ w. (let P : Phase C V → Type 0 = λ x. IsUnderWay x in subst P e w) in

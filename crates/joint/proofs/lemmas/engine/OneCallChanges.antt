@@ -31,15 +31,19 @@ pub record AtOne {A : Type 0} (xs ys : List A) (w : ℕ) : Type 0 where
   pub other : (i : ℕ) → i ≢ w → slice_get ys i ≡ slice_get xs i
   pub long : length ys ≡ length xs
 
+-- a list that stays is one that differs there at most
 pub one_same : {A : Type 0} (xs ys : List A) (w : ℕ) → ys ≡ xs → AtOne xs ys w
 one_same xs ys w e = record { other = λ i n. ap (λ zs. slice_get zs i) e; long = ap length e }
 
+-- so is one with that place set
 pub one_set : {A : Type 0} (xs ys : List A) (w : ℕ) (x : A) → ys ≡ set xs w x → AtOne xs ys w
 one_set xs ys w x e = record { other = λ i n. ap (λ zs. slice_get zs i) e ∙ set_other xs w i x n; long = ap length e ∙ length-set xs w x }
 
+-- and one that was changed there twice
 pub one_after : {A : Type 0} (xs ys zs : List A) (w : ℕ) → AtOne xs ys w → AtOne ys zs w → AtOne xs zs w
 one_after xs ys zs w a b = record { other = λ i n. b.other i n ∙ a.other i n; long = b.long ∙ a.long }
 
+-- the calls in flight and the machines, but for one worker's, are as before
 pub record Apart {V : Type 0} (s s' : World V) (w : ℕ) : Type 0 where
   pub calls : AtOne s.calls s'.calls w
   pub machines : AtOne s.machines s'.machines w

@@ -31,6 +31,7 @@ use Rattle.joint.specs.nodes.View.{heap}
 use Rattle.joint.proofs.lemmas.engine.Collecting.{either, get_inside, set_here, intact_at, inside, inside_machines, after_step}
 use Rattle.joint.proofs.lemmas.engine.HandOver.{held_place}
 
+-- a writing call that has taken no step stands in flight with its operation
 pub reserving_call : {V : Type 0} (x : Option (InFlight V)) → is_reserving x ≡ true → (op : Op V) × (x ≡ Some (Reserving op))
 reserving_call (Some (Reserving op)) e = (op, refl)
 reserving_call (Some Idle) e = absurd (cc e)
@@ -39,6 +40,7 @@ reserving_call (Some (Securing op)) e = absurd (cc e)
 reserving_call (Some Walking) e = absurd (cc e)
 reserving_call None e = absurd (cc e)
 
+-- a call at that stage has taken no step
 pub reserving_stage : {V : Type 0} (x : Option (InFlight V)) → Some about.Reserving ≡ option_map stage_of x → is_reserving x ≡ true
 reserving_stage (Some (Reserving op)) e = refl
 reserving_stage (Some Idle) e = absurd (cc e)

@@ -43,6 +43,7 @@ use Rattle.joint.proofs.lemmas.engine.SoundBegins as begin
 use Rattle.joint.proofs.lemmas.engine.Collecting.{either, set_here}
 use Rattle.joint.proofs.lemmas.engine.Ending.{IsOnKey, goes_on_after as continues, ends}
 
+-- each other place of a list has what it had before one was set
 pub set_other : {A : Type 0} (xs : List A) (i j : ℕ) (x : A) → j ≢ i → slice_get (set xs i x) j ≡ slice_get xs j
 set_other [] i j x n = refl
 set_other (y ∷ xs) zero zero x n = absurd (n refl)
@@ -136,6 +137,7 @@ module _ {V : Type 0} (ms between : List (Machine Id V)) (who : ℕ) (old now : 
   pub cleared_is : cleared between who ≡ set ms who (rested now)
   cleared_is = ap (λ o. cleared_at o between who) now_between ∙ by_done (is_done now.phase)
 
+-- as many machines are left where a scan that is done leaves its place
 pub cleared_long : {V : Type 0} (ms : List (Machine Id V)) (who : ℕ) → length (cleared ms who) ≡ length ms
 cleared_long {V} ms who = at (slice_get ms who)
   where

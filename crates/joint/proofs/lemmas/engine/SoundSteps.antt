@@ -65,6 +65,7 @@ abbrev made_leaf : Option Id → List Id
 made_leaf None = []
 made_leaf (Some leaf) = leaf ∷ []
 
+-- the nodes that a call in this phase has made and not yet hung
 abbrev pub mades : {V : Type 0} → Phase Id V → List Id
 mades (MakeGreater s p leaf) = made_leaf leaf
 mades (MakeBeside p at common byte top) = top ∷ []

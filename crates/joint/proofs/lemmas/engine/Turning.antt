@@ -53,6 +53,7 @@ pub word_is : (b r w : Bool) → b ≡ (r && w) → r ≡ true → w ≡ b
 word_is b true w e q = sym e
 word_is b false w e q = absurd (cc q)
 
+-- a worker of the machine that has no call in flight is idle
 pub idle_call : {V : Type 0} (o : Option (InFlight V)) (n : ℕ) (calls : List (InFlight V)) → n < length calls → o ≡ slice_get calls n → is_busy o ≡ false → o ≡ Some Idle
 idle_call (Some Idle) n calls l e b = refl
 idle_call (Some (Collecting op)) n calls l e b = absurd (cc b)
@@ -234,6 +235,7 @@ is_idle (Some (Securing op)) e = absurd (cc e)
 is_idle (Some Walking) e = absurd (cc e)
 is_idle None e = absurd (cc e)
 
+-- what is about a call on the collector is that call
 pub is_collecting : {V : Type 0} (o : Option (InFlight V)) (op : CollectorOp) → Some (about.Collecting op) ≡ option_map stage_of o → o ≡ Some (Collecting op)
 is_collecting (Some (Collecting y)) op e = ap (λ z. Some (Collecting z)) (let q : y ≡ op = cc in q)
 is_collecting (Some Idle) op e = absurd (cc e)
@@ -242,6 +244,7 @@ is_collecting (Some (Securing y)) op e = absurd (cc e)
 is_collecting (Some Walking) op e = absurd (cc e)
 is_collecting None op e = absurd (cc e)
 
+-- what is about to make its places free is a call that does
 pub is_securing : {V : Type 0} (o : Option (InFlight V)) → Some about.Securing ≡ option_map stage_of o → IsSecuring o
 is_securing (Some (Securing y)) e = tt
 is_securing (Some Idle) e = absurd (cc e)
@@ -250,6 +253,7 @@ is_securing (Some (Reserving y)) e = absurd (cc e)
 is_securing (Some Walking) e = absurd (cc e)
 is_securing None e = absurd (cc e)
 
+-- what is about a walk on the tree is that
 pub is_walking : {V : Type 0} (o : Option (InFlight V)) → Some about.Walking ≡ option_map stage_of o → o ≡ Some Walking
 is_walking (Some Walking) e = refl
 is_walking (Some Idle) e = absurd (cc e)

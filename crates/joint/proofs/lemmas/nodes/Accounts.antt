@@ -366,6 +366,7 @@ unchanged_by st st' None e q = e
 unchanged_by st st' (Some (t, None)) e q = e
 unchanged_by st st' (Some (t, Some n)) e q = absurd (cc q)
 
+-- a called job that destroyed what a name stood for took out that value, and nothing else
 pub emptied_by : {T : Type 0} (law : (st : Store T) (n : Name) → is_some (value_at st n) ≡ true → Sets st n None (emptied st n.cell)) (st st' : Store T) (c : Option (ℕ × Option Name)) (n : Name)
     → EmptiesBy st c st' → gone_by c ≡ Some n → (s : T) × Empties st n s st'
 emptied_by law st st' None n e q = absurd (cc q)

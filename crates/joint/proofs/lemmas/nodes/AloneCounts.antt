@@ -47,6 +47,7 @@ from_length h (suc f) level n =
     let s = sum_same (λ b. nodes_at (λ c. length (nodes_from h f (level + 1) c)) ((h n).children b)) (λ b. nodes_at (λ c. nodes_under h f c) ((h n).children b)) 256 (λ b. at_same _ _ ((h n).children b) (λ c. from_length h f (level + 1) c)) in
     omega (arith, l, s)
 
+-- a tree has as many nodes by the bound of a scan as by statistics
 pub nodes_counted : {V : Type 0} (h : ℕ → Node V) → tree_nodes h ≡ length (nodes_of h)
 unfolding nodes_of
 nodes_counted h = let e = from_length h 8 0 0 in omega (arith, e)

@@ -16,9 +16,11 @@ under : {T : Type 0} (b : Bool) (x : Option T) (v : T) → (if b then x else Non
 under true x v e = (refl, e)
 under false x v e = absurd (cc e)
 
+-- a cell that has a value at a turn has taken just the turns up to it, and holds that value
 pub cell_of : {T : Type 0} (c : Cell T) (t : ℕ) (v : T) → value_in c t ≡ Some v → (c.turns ≡ t + 1) × (c.value ≡ Some v)
 cell_of c t v e = let u : ((c.turns == t + 1) ≡ true) × (c.value ≡ Some v) = under (c.turns == t + 1) c.value v e in (eqb-true c.turns (t + 1) u.0, u.1)
 
+-- a name that stands for something is of one of the cells
 pub inside : {T : Type 0} (st : Store T) (n : Name) (v : T) → value_at st n ≡ Some v → n.cell < length st.cells
 inside st n v e = elim (cases_lt n.cell (length st.cells)) [
   | inl lt ↦ lt
@@ -29,6 +31,7 @@ inside st n v e = elim (cases_lt n.cell (length st.cells)) [
       omega (arith, t, z))
 ]
 
+-- a value that is replaced under its name is altered
 pub replaced_alters : {T : Type 0} (st : Store T) (n : Name) (old new : T) → value_at st n ≡ Some old → Sets st n (Some new) (replaced st n.cell new) → Alters st n old new (replaced st n.cell new)
 replaced_alters {T} st n old new e sets =
     let at : n.cell < length st.cells = inside st n old e in
@@ -50,6 +53,7 @@ replaced_alters {T} st n old new e sets =
       turn_max = refl;
     }
 
+-- a value that is altered twice is altered from the first to the last
 pub twice : {T : Type 0} (st st1 st2 : Store T) (n : Name) (a b c : T) → Alters st n a b st1 → Alters st1 n b c st2 → Alters st n a c st2
 twice st st1 st2 n a b c x y = record {
   was = x.was;
@@ -77,6 +81,7 @@ swapped law st n old mid new e =
     let e1 : value_at (replaced st n.cell mid) n ≡ Some mid = first.sets.value in
     twice st (replaced st n.cell mid) (replaced (replaced st n.cell mid) n.cell new) n old mid new first (replaced_alters (replaced st n.cell mid) n mid new e1 (law (replaced st n.cell mid) n new (ap is_some e1)))
 
+-- two names are the same, or they differ
 pub same_or : (m n : Name) → (m ≡ n) ⊎ (m ≢ n)
 same_or m n = elim (cases_eq m.cell n.cell) [
   | inl c ↦ elim (cases_eq m.turn n.turn) [

@@ -158,5 +158,6 @@ module _ {P : Type 0} (F : Nodes P) (c' : State (Slot P) (Unit {0})) (beside : c
               ap (λ g. view g (value_at c'.store (named x))) (ex.given (named x)) ∙ ap (λ v. view (was_given st (named x)) v) (ex.others (named x) am an) ∙ ap (λ y. nodes y x) view_is;
         }
 
+-- where one node may take over from another, so may the nodes that their slots show
 pub takes_in : {P : Type 0} (F G : Nodes P) (view_is : F ≡ G) (m n : Name) (x y : Slot P) → value_at F.collector.store m ≡ Some x → value_at F.collector.store n ≡ Some y → TakesOver (nodes G (number m)) (nodes G (number n)) → TakesOver (node_of x) (node_of y)
 takes_in F G view_is m n x y e f takes = subst (λ z. TakesOver z (node_of y)) (node_in F G view_is m x e) (subst (λ z. TakesOver (nodes G (number m)) z) (node_in F G view_is n y f) takes)

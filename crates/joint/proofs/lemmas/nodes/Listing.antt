@@ -146,6 +146,7 @@ pub ones : {X : Type 0} (xs : List X) → length xs ≡ sum_by (λ x. 1) xs
 ones [] = refl
 ones (x ∷ xs) = (let a = ones xs in let b = sum_by-cons (λ y. 1) x xs in omega (arith, a, b))
 
+-- what is charged for a node is the size of the slot under its name
 pub bytes_are : {P : Type 0} (F : Nodes P) (n : Name) (v : Slot P) → value_at F.collector.store n ≡ Some v → bytes_of F (number n) ≡ size v
 bytes_are F n v e = ap (λ x. of_value size (value_at F.collector.store x)) (named_number n) ∙ ap (of_value size) e
 

@@ -26,6 +26,7 @@ from : {A : Type 0} → A → Option A → A
 from d None = d
 from d (Some y) = y
 
+-- two values are the same where the options with them are
 pub some_injective : {A : Type 0} (x y : A) → Some x ≡ Some y → x ≡ y
 some_injective x y e = cc
 
@@ -60,6 +61,7 @@ module _ {P : Type 0} (st : Store (Slot P)) (n : Name) (s s' : Slot P) (st' : St
   pub node_altered : SameBut (heap st) (number n) (node_of s') (heap st')
   node_altered = record { after = node_new; others = nodes_apart }
 
+-- a collector stays orderly where its cells alone change
 pub orderly_stored : {P : Type 0} (s c' : State (Slot P) (Unit {0})) → c' ≡ with_store s c'.store → Orderly s → Orderly c'
 orderly_stored s c' beside o = let x : Orderly (with_store s c'.store) = record { hands = o.hands; bags = o.bags; held = o.held; sealed = o.sealed } in subst Orderly (sym beside) x
 

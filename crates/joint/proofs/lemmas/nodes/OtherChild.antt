@@ -91,5 +91,6 @@ module _ {P : Type 0} (n : Form Id P) (solid : IsSolid (children_of n)) (two : m
 pub no_value : {P : Type 0} (n : Form Id P) (from at : ℕ) (x : Child Id P) (v : P) → ((k : ℕ) (u : P) → child_at n k ≡ Holds u → ⊥) → IsFirst (children_of n) from at x → x ≡ Value v → ⊥
 no_value n from at x v nodes one e = nodes at v (ap hung_at (one.here ∙ ap Some e))
 
+-- the first child from a byte on is no blank where no byte has one
 pub no_blank : {P : Type 0} (n : Form Id P) (from at : ℕ) (x : Child Id P) → IsSolid (children_of n) → IsFirst (children_of n) from at x → x ≡ Blank → ⊥
 no_blank n from at x solid one e = solid at (one.here ∙ ap Some e)

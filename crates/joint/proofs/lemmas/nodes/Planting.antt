@@ -103,6 +103,7 @@ module _ {P : Type 0} (limits : EpochLimits) (s0 c1 c2 : State (Slot P) (Unit {0
 abbrev root_tally : CellMark
 root_tally = record { form = N256; waits = false }
 
+-- the root's mark is the only one where no cell had one before
 pub noted_root : (ts : List CellMark) (old : List CellMark) (n : Name) → ts ≡ with_mark old n.cell root_tally → old ≡ [] → n ≡ top → ts ≡ root_tally ∷ []
 noted_root ts old n e none is = e ∙ ap (λ x. with_mark x n.cell root_tally) none ∙ ap (λ (x : Name). with_mark [] x.cell root_tally) is
 

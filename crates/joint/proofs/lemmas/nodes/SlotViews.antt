@@ -24,18 +24,22 @@ use Rattle.joint.specs.nodes.Heap.{IsView}
 use Rattle.joint.specs.nodes.Slots.{and_name, names_in, names_of}
 use Rattle.joint.specs.nodes.View.{hung_at, child_in, view}
 
+-- a test that holds, as an equation
 pub true_of_T : (b : Bool) → T b → b ≡ true
 true_of_T true t = refl
 true_of_T false t = absurd t
 
+-- where both of two tests hold, the first does
 pub both_left : (a b : Bool) → a && b ≡ true → a ≡ true
 both_left true b e = refl
 both_left false b e = e
 
+-- and the second
 pub both_right : (a b : Bool) → a && b ≡ true → b ≡ true
 both_right true b e = e
 both_right false b e = absurd (cc e)
 
+-- a number that compares as less is less
 pub less_of_cmp : (a b : ℕ) → is_lt (nat_cmp a b) ≡ true → a < b
 less_of_cmp a b e = grind (arith, nat_tests, e)
 
@@ -116,6 +120,7 @@ module _ {P : Type 0} where
     hangs_node None b k e = absurd (cc e)
     hangs_node (Some n) b k e = hangs_at n b k (map.get (children_of n.value) b) refl e
 
+-- a slot is read as a node that stands, and whose children have just the names in it
 pub slot_view : {P : Type 0} → IsView {V = P} (λ (s : Slot P). names_of s.node) view
 slot_view {P} = record {
   stands = λ g v. record { made = refl; kept = refl };

@@ -4,9 +4,11 @@ use Rattle.std.specs.Prelude.{Option, None, Some, IfSome, IsSome, ltb, slice_get
 use Rattle.std.proofs.lemmas.Bool.{ltb-true, ltb-false}
 use Rattle.std.proofs.lemmas.Option.{slice_get-get_or, slice_get_past}
 
+-- a look-up below the length of a list finds what stands there
 pub found_at : {A : Type 0} (xs : List A) (i : ℕ) (x : A) → true ≡ ltb i (length xs) → x ≡ get_or xs i x → Some x ≡ slice_get xs i
 found_at xs i x l e = sym (slice_get-get_or xs i x (ltb-true i (length xs) (sym l)) ∙ ap Some (sym e))
 
+-- one past its end finds nothing
 pub found_none : {A : Type 0} (xs : List A) (i : ℕ) → false ≡ ltb i (length xs) → None ≡ slice_get xs i
 found_none xs i l = sym (slice_get_past xs i (ltb-false i (length xs) (sym l)))
 

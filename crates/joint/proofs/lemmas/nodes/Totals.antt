@@ -20,12 +20,14 @@ use Rattle.joint.specs.nodes.Nodes.{of_value, of_cell, total, size_in, size, wai
 use Rattle.joint.proofs.lemmas.nodes.Altering.{cell_of, inside}
 use Rattle.joint.proofs.lemmas.nodes.SlotViews.{both_left, both_right}
 
+-- a node has at most 2,104 bytes
 pub size_bound : (f : NodeType) → size_of f ≤ 2104
 size_bound N4 = omega arith
 size_bound N16 = omega arith
 size_bound N48 = omega arith
 size_bound N256 = omega arith
 
+-- to take a number once more adds it
 pub times_suc : (m n : ℕ) → m * suc n ≡ m * n + m
 times_suc m n = omega arith
 
@@ -168,8 +170,10 @@ waiting_one : (b : Bool) (n : ℕ) → n ≤ 2104 → (if b then n else 0) ≤ 2
 waiting_one true n l = l
 waiting_one false n l = omega arith
 
+-- at most as many nodes wait as there are cells
 pub waiting_few : {P : Type 0} (st : Store (Slot P)) → waiting st ≤ length st.cells
 waiting_few st = (let a = total_bound waits 1 (λ s. waits_one s.word.retired) st.cells in omega (arith, a))
 
+-- the nodes that wait have at most 2,104 bytes for each cell
 pub bytes_few : {P : Type 0} (st : Store (Slot P)) → waiting_bytes st ≤ 2104 * length st.cells
 bytes_few st = total_bound waiting_size 2104 (λ s. waiting_one s.word.retired (size s) (size_in_bound s)) st.cells

@@ -70,6 +70,7 @@ present_writes k a (reply.Remove x) c q = ap looks_up (sym (some_injective _ _ q
 present_writes k a (reply.ComputeInsert x) c q = ap looks_up (sym (some_injective _ _ q))
 present_writes k a (reply.Exchange x) c q = ap looks_up (sym (some_injective _ _ q))
 
+-- an entry is a look-up's just where its call can't change what stands at its key
 pub entry_changes : (o : Op ℕ) (a : Option (Option ℕ)) (r : Reply ℕ) (c : Entered ℕ) → call_of o a r ≡ Some c → looks_up c ≡ not (changes o)
 entry_changes (op.Get k) a r c q = ap looks_up (sym (some_injective _ _ q))
 entry_changes (op.Insert k v) a r c q = ap looks_up (sym (some_injective _ _ q))
@@ -201,5 +202,6 @@ pub flight_is : (o : Option (Request ℕ)) (c : Op ℕ) (given : Option (Option 
 flight_is None c given q = absurd (cc q)
 flight_is (Some r) c given q = let same : (r.op, r.answer) ≡ (c, given) = some_injective _ _ q in ap (λ (y : Op ℕ × Option (Option ℕ)). Some (record { op = y.0; answer = y.1 })) same
 
+-- what a worker has in flight is told so
 pub flight_tells : (o : Option (Request ℕ)) (c : Op ℕ) (given : Option (Option ℕ)) → o ≡ Some (record { op = c; answer = given }) → option_map {U = Op ℕ × Option (Option ℕ)} (λ (q : Request ℕ). (q.op, q.answer)) o ≡ Some (c, given)
 flight_tells o c given q = ap (option_map {U = Op ℕ × Option (Option ℕ)} (λ (q : Request ℕ). (q.op, q.answer))) q

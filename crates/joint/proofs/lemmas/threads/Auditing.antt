@@ -22,6 +22,7 @@ first_other w e es apart = let test : (e.worker == w) ≡ false = grind (arith, 
 drop_next : {V : Type 0} (journal : List (Entry V)) (i : ℕ) (d : Entry V) → i < length journal → drop i journal ≡ get_or journal i d ∷ drop (i + 1) journal
 drop_next journal i d inside = rw (add-one, drop-cons journal i d)
 
+-- a list is a worker's entries just where its rest is those from a place on: the same one place on, past one of its own
 pub own_next : {V : Type 0} (w : ℕ) (journal : List (Entry V)) (i : ℕ) (d : Entry V) (list rest left : List (Entry V)) → i < length journal → (get_or journal i d).worker ≡ w
     → rest ≡ get_or journal i d ∷ left → (list ≡ of_worker w journal) ↔ (rest ≡ of_worker w (drop i journal)) → (list ≡ of_worker w journal) ↔ (left ≡ of_worker w (drop (i + 1) journal))
 own_next w journal i d list rest left inside own front before =
@@ -31,6 +32,7 @@ own_next w journal i d list rest left inside own front before =
       λ is. before.1 (front ∙ ap (λ es. e ∷ es) is ∙ sym now),
     )
 
+-- the same one place on, past another worker's entry
 pub other_next : {V : Type 0} (w : ℕ) (journal : List (Entry V)) (i : ℕ) (d : Entry V) (list rest : List (Entry V)) → i < length journal → ((get_or journal i d).worker ≡ w → ⊥)
     → (list ≡ of_worker w journal) ↔ (rest ≡ of_worker w (drop i journal)) → (list ≡ of_worker w journal) ↔ (rest ≡ of_worker w (drop (i + 1) journal))
 other_next w journal i d list rest inside other before =
@@ -41,6 +43,7 @@ other_next w journal i d list rest inside other before =
 abbrev pub OwnBelow : {V A : Type 0} → List (Entry V) → List (Vec (Entry V) A) → ℕ → Type 0
 OwnBelow {V} {A} journal own n = (i : ℕ) (list : Vec (Entry V) A) → i < n → slice_get own i ≡ Some list → list.items ≡ of_worker i journal
 
+-- where the next list is so too, those below one number more are
 pub own_more : {V A : Type 0} (journal : List (Entry V)) (own : List (Vec (Entry V) A)) (n : ℕ) (next : Vec (Entry V) A) → slice_get own n ≡ Some next → next.items ≡ of_worker n journal → OwnBelow journal own n → OwnBelow journal own (n + 1)
 own_more {V} {A} journal own n next there is below i list less at =
     let P : ℕ → Type 0 = λ k. (l : Vec (Entry V) A) → slice_get own k ≡ Some l → l.items ≡ of_worker k journal in

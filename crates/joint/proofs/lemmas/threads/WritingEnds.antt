@@ -25,6 +25,7 @@ pub served : {B : Type 0} (b : Bool) (does : Result B Refusal → Type 0) (r : R
 served true does r q d = d
 served false does r q d = absurd (false≢true q)
 
+-- a call by the tokens of another index is refused for that
 pub foreign : {B : Type 0} (b : Bool) (does : Result B Refusal → Type 0) → b ≡ false → Serves b does (Err Foreign)
 foreign true does q = absurd (false≢true (sym q))
 foreign false does q = refl
@@ -34,6 +35,7 @@ pub words_refused : {B : Type 0} (of : ℕ → B) (P : Refusal → Type 0) (r : 
 words_refused of P (Ok v) x = x
 words_refused of P (Err e) x = x
 
+-- the same of an exchange's answer
 pub either_refused : {B : Type 0} (of : ℕ → B) (P : Refusal → Type 0) (r : Result (Result (Option ℕ) (Option ℕ)) Refusal) → IfErr r P → IfErr (either_words of r) P
 either_refused of P (Ok v) x = x
 either_refused of P (Err e) x = x

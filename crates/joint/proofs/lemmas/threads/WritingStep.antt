@@ -25,6 +25,7 @@ pub settled_tells : (e : Option (Entry ℕ)) → IsToldInCall (settled e)
 settled_tells None = tt {0}
 settled_tells (Some e) = tt {0}
 
+-- what is told in a call is told in it beside an entry too
 pub told_tells : (e : Option (Entry ℕ)) (o : Outcome ℕ) → IsToldInCall o → IsToldInCall (told_with e o)
 told_tells None Running t = tt {0}
 told_tells None (Asks found) t = tt {0}

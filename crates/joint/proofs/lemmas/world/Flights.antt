@@ -18,9 +18,11 @@ use Rattle.joint.specs.engine.Intact.{root, writes}
 use Rattle.joint.specs.world.MapSteps.{EndsAtOnce, EndsEmpty, Stays, Line}
 use Rattle.joint.specs.engine.Flying.{Flights, with_flight, IsInFlight}
 
+-- a number passes the test for itself
 pub eqb_same : (w : ℕ) → (w == w) ≡ true
 eqb_same w = true_from_ne_false (w == w) (λ e. eqb-false w w e refl)
 
+-- what was put in a place below the length of a list stands there
 pub set_at : {A : Type 0} (xs : List A) (i : ℕ) (x : A) → i < length xs → slice_get (set xs i x) i ≡ Some x
 set_at [] i x l = absurd (omega (arith, l))
 set_at (y ∷ xs) zero x l = refl

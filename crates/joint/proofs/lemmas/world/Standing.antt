@@ -13,6 +13,7 @@ use Rattle.joint.specs.nodes.Survey.{IsTree}
 use Rattle.joint.specs.world.World.{Holds}
 use Rattle.joint.specs.engine.Engine.{World}
 
+-- the nodes are a tree that stands, where locks and nodes are held by calls alone that are between their steps
 pub settled_tree : {C V : Type 0} (num : C → ℕ) (same : V → V → Bool) (always : Bool) (h : ℕ → Node V) (ms : List (Machine C V)) → Settled num same always h ms → IsTree h
 settled_tree num same always h ms s = record { notes = s.0; tree = s.1.tree; stands = λ n e. (s.1.words.each n).stands (ap is_published e) }
 

@@ -48,6 +48,7 @@ with_true : (b : Bool) → b && (true && not false) ≡ b
 with_true true = refl
 with_true false = refl
 
+-- a node in a cell waits just where it was handed over
 pub some_waits : {P : Type 0} (g : Bool) (v : Slot P) → is_waiting (view g (Some v)) ≡ v.word.retired
 some_waits g v = with_true v.word.retired
 
@@ -133,6 +134,7 @@ taken_is (Obsolete m next p r) n c = listed_out m next n c
 taken_is (Retire m next p r) n c = listed_out m next n c
 taken_is _ n c = absurd (let z : c.0 < 0 = c.1 in omega (arith, z))
 
+-- and all of what it has taken out is told
 pub is_taken : {V : Type 0} (x : Phase Id V) (n : ℕ) → TakenBy id_number x n → Contains (map id_number (taken x)) n
 is_taken (Obsolete m next p r) n t = out_listed m next n t
 is_taken (Retire m next p r) n t = out_listed m next n t
