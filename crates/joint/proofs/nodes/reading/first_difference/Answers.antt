@@ -1,5 +1,5 @@
 use Rattle.std.proofs.Common.{sym, arith}
-use Rattle.congee.proofs.lemmas.forms.Prefixes.{fits_every}
+use Rattle.congee.proofs.Laws.{fits_every}
 use Rattle.joint.proofs.nodes.reading.first_difference.Goals as goal
 
 pub returns-then-key-i : goal.returns-then-key-i
