@@ -4,7 +4,6 @@
 pub use Rattle.congee.proofs.lemmas.Graft.{on_test}
 -- two numbers are the same, or they are not
 pub use Rattle.congee.proofs.lemmas.Tree.{same_or_not}
-
 -- a key has eight bytes
 pub use Rattle.congee.proofs.lemmas.Keys.{key_length}
 -- different keys have different bytes
@@ -15,7 +14,6 @@ pub use Rattle.congee.proofs.lemmas.Fits.{same_key}
 pub use Rattle.congee.proofs.lemmas.forms.Prefixes.{fits_every}
 -- the first bytes of a key are a prefix of it
 pub use Rattle.congee.proofs.lemmas.owned.Joins.{front_fits}
-
 -- a look-up in a list of pairs, by tests of numbers
 pub use Rattle.congee.proofs.lemmas.forms.Entries.{find}
 -- a map's look-up is one in its list
@@ -36,7 +34,6 @@ pub use Rattle.congee.proofs.lemmas.owned.RangeLemmas.{range_none}
 pub use Rattle.congee.proofs.lemmas.owned.RangeLemmas.{range_first}
 -- the pairs of a range that holds every key are the map's
 pub use Rattle.congee.proofs.lemmas.owned.RangeLemmas.{range_all}
-
 -- what stands at the key's byte in a linked node whose prefix the key has decides the key's value
 pub use Rattle.congee.proofs.lemmas.Tree.{finds}
 -- a key that lacks the prefix of the node at its byte has no value
@@ -61,7 +58,6 @@ pub use Rattle.congee.proofs.lemmas.protocol.Leftovers.{kept_node}
 pub use Rattle.congee.proofs.lemmas.protocol.Leftovers.{kept_value}
 -- a call owns the nodes that it has locked
 pub use Rattle.congee.proofs.lemmas.protocol.Owners.{locks_owned}
-
 -- a node has a key below it
 pub use Rattle.congee.proofs.lemmas.protocol.Regions.{span_pos}
 -- and 256 times as many as a node one byte deeper
@@ -92,7 +88,6 @@ pub use Rattle.congee.proofs.lemmas.protocol.SweepKept.{lacks_beside}
 pub use Rattle.congee.proofs.lemmas.protocol.SweepKept.{has_value}
 -- the scan of a call, before its begin, is of the call's range
 pub use Rattle.congee.proofs.lemmas.protocol.SweepRanges.{of_range}
-
 -- the nodes under two trees' bytes are the same if those under each child are
 pub use Rattle.congee.proofs.lemmas.owned.Surveys.{bytes_same}
 -- bytes at which nothing hangs add no nodes
