@@ -22,6 +22,21 @@ pub record Node (V : Type 0) : Type 0 where
   pub destroyed : Bool
   pub retired : Bool
 
+-- a name at which no node stands: never made, or made and destroyed
+abbrev pub vacant : {V : Type 0} → Bool → Bool → Bool → Node V
+vacant made destroyed retired = record {
+  prefix = [];
+  children = λ b. Nothing;
+  count = 0;
+  capacity = 0;
+  version = 0;
+  locked = false;
+  obsolete = true;
+  made = made;
+  destroyed = destroyed;
+  retired = retired;
+}
+
 -- whether the prefix is the beginning of the key
 abbrev pub fits : List ℕ → List ℕ → Bool
 fits [] key = true

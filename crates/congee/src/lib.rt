@@ -32,6 +32,7 @@ pub use judge::{ArcPayload, Payload, Word64};
 pub use keys::KEY_BYTES;
 pub use owned::{
     Calls, Congee, CongeeArc, Count, Drainer, LevelStats, NoDrain, NodeInfo, NodeStats, U64Congee,
+    owner_of, payload_of,
 };
 pub use protocol::{
     Machine, Move, NodeName, Noise, Op, Outcome, PlainStore, Played, Refusal, Seen, Step, Store,

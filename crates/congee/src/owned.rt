@@ -26,7 +26,7 @@ mod survey;
 mod u64_congee;
 
 pub use congee::Congee;
-pub use congee_arc::{CongeeArc, Count};
+pub use congee_arc::{CongeeArc, Count, owner_of, payload_of};
 pub use drainer::{Calls, Drainer, NoDrain};
 pub use stats::{LevelStats, NodeInfo, NodeStats};
 pub use u64_congee::U64Congee;

@@ -39,7 +39,7 @@ pub use machine::{Machine, Move, Noise, Outcome};
 pub use op::Op;
 pub use phase::{Above, Double, Kind, One, Parent, Phase, Plan, Single, Site, Two};
 pub use plain::PlainStore;
-pub use plain_node::PlainNode;
+pub use plain_node::{PlainNode, first_difference};
 pub use run::{Played, Step, play, step_of};
 pub use store::{Least, NodeName, Reading, Refusal, Region, Seen, Stamp, Store, Upgrade};
 pub use sweep::{Path, Rung, ScanReport, Stage, Sweep};

@@ -103,7 +103,7 @@ impl OpenTree {
         ensures scans { self.new.scans ≡ self.old.scans }
     {
         if (worker as usize) < self.callers.len() {
-            self.callers[worker as usize].caller_steps(outcome);
+            self.callers[worker as usize].after_step(outcome);
         }
     }
 

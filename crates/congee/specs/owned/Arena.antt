@@ -1,8 +1,8 @@
 -- The nodes of an owned tree, which stand in a slab, as a tree.
-use Rattle.std.specs.Prelude.{◌≡◌, ◌≢◌, ◌<◌, ℕ, true, false, List, [], length, Option, None, Some, is_some, cond}
+use Rattle.std.specs.Prelude.{◌≡◌, ◌≢◌, ◌<◌, ℕ, true, false, List, length, Option, None, Some, is_some, cond}
 use Rattle.std.specs.FinMap as map
 use Rattle.slab.specs.Slab.{Slab, get, ContainsKey}
-use Rattle.congee.specs.Heap.{Node, Hung, Nothing, Below, Holds, fits, child_for}
+use Rattle.congee.specs.Heap.{Node, Hung, Nothing, Below, Holds, vacant, fits, child_for}
 use Rattle.congee.specs.Notes.{Linked, Gone, Note, Tree}
 use Rattle.congee.specs.forms.Forms.{prefix_of, children_of, form_of, capacity_of}
 use Rattle.congee.specs.declared.forms.base_node.Node.{Node as Form}
@@ -23,18 +23,7 @@ hung_in (Some (Value v)) = Holds v
 
 -- a node as the tree sees it; a vacant place is a node that has left the tree
 abbrev pub node_of : {P : Type 0} → Option (Form ℕ P) → Node P
-node_of None = record {
-  prefix = [];
-  children = λ b. Nothing;
-  count = 0;
-  capacity = 0;
-  version = 0;
-  locked = false;
-  obsolete = true;
-  made = true;
-  destroyed = true;
-  retired = true;
-}
+node_of None = vacant true true true
 node_of (Some n) = record {
   prefix = prefix_of n;
   children = λ b. hung_in (map.get (children_of n) b);

@@ -1,6 +1,6 @@
 -- A plain list of nodes as the nodes of a tree.
-use Rattle.std.specs.Prelude.{◌≡◌, ℕ, ◌==◌, ◌<◌, ◌≤◌, true, false, List, [], length, Option, None, Some, slice_get}
-use Rattle.congee.specs.Heap.{Node, Nothing}
+use Rattle.std.specs.Prelude.{◌≡◌, ℕ, ◌==◌, ◌<◌, ◌≤◌, true, false, List, length, Option, None, Some, slice_get}
+use Rattle.congee.specs.Heap.{Node, Nothing, vacant}
 use Rattle.congee.specs.protocol.Events.{hung}
 use Rattle.congee.specs.declared.protocol.store.Seen.{Seen}
 use Rattle.congee.specs.declared.protocol.store.Refusal.{Refusal}
@@ -12,18 +12,7 @@ use Rattle.congee.specs.declared.protocol.plain_node.PlainNode.{PlainNode}
 
 -- a place past the list's end is a node that was never made
 abbrev pub plain_node_of : Option PlainNode → Node ℕ
-plain_node_of None = record {
-  prefix = [];
-  children = λ b. Nothing;
-  count = 0;
-  capacity = 0;
-  version = 0;
-  locked = false;
-  obsolete = true;
-  made = false;
-  destroyed = false;
-  retired = false;
-}
+plain_node_of None = vacant false false false
 plain_node_of (Some n) = record {
   prefix = n.prefix;
   children = child_at n.children.items;

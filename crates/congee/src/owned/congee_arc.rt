@@ -75,14 +75,14 @@ impl<K, V: Drop> Model for CongeeArc<K, V> {
 }
 
 /// The owner in a payload, if there is one.
-fn owner_of<V>(payload: Option<ArcPayload<V>>) -> Option<Arc<V, Global>>
+pub fn owner_of<V>(payload: Option<ArcPayload<V>>) -> Option<Arc<V, Global>>
     ensures { option_map arc_value result ≡ payload }
 {
     payload.map(ArcPayload::into_arc)
 }
 
 /// An owner as a payload, if there is one.
-fn payload_of<V>(owner: Option<Arc<V, Global>>) -> Option<ArcPayload<V>>
+pub fn payload_of<V>(owner: Option<Arc<V, Global>>) -> Option<ArcPayload<V>>
     ensures { result ≡ option_map arc_value owner }
 {
     owner.map(ArcPayload::new)

@@ -35,7 +35,7 @@ pub struct PlainNode {
 }
 
 /// The first place at which the prefix isn't the key's beginning.
-pub(crate) fn first_difference(prefix: &[u8], key: &[u8; KEY_BYTES]) -> Option<usize>
+pub fn first_difference(prefix: &[u8], key: &[u8; KEY_BYTES]) -> Option<usize>
     requires { length prefix.now ≤ MAX_PREFIX_LEN }
     ensures { MatchOption result (fits prefix.now key.now ≡ true) (λ common. Parts prefix.now key.now common) }
 {

@@ -10,7 +10,7 @@ use Rattle.congee.specs.declared.protocol.op.Op.{Op as Point}
 use Rattle.congee.specs.declared.protocol.phase.Kind.TheVariants.{Get}
 use Rattle.congee.specs.declared.protocol.phase.Phase.TheVariants.{Ended}
 use Rattle.congee.specs.declared.protocol.store.Seen.{Seen}
-use Rattle.congee.specs.Heap.{Node, Nothing}
+use Rattle.congee.specs.Heap.{Node, vacant}
 use Rattle.congee.specs.Keys.{IsMapOf}
 use Rattle.congee.specs.owned.Stats.{Shape, IsTally}
 use Rattle.congee.specs.protocol.Alike.{Ordered, HeapAlike, CallAlike, Longer}
@@ -111,7 +111,7 @@ answers (s ∷ ss) (r ∷ rs) = with_first (tree_step s r) r (answers ss rs)
 
 -- a node that isn't made, and nodes of which the root alone was
 abbrev pub unmade : {V : Type 0} → Node V
-unmade = record { prefix = []; children = λ b. Nothing; count = 0; capacity = 0; version = 0; locked = false; obsolete = true; made = false; destroyed = false; retired = false }
+unmade = vacant false false false
 
 abbrev pub opened_plain : {V : Type 0} → Plain V
 opened_plain = record {

@@ -5,7 +5,7 @@ use Rattle.crossbeam_epoch.specs.World.Store.{Store}
 use Rattle.congee.specs.declared.forms.child.Child.{Child}
 use Rattle.congee.specs.declared.forms.base_node.Node.{Node as Form}
 use Rattle.congee.specs.forms.Forms.{children_of, prefix_of, form_of, capacity_of}
-use Rattle.congee.specs.Heap.{Node, Hung, Nothing}
+use Rattle.congee.specs.Heap.{Node, Hung, Nothing, vacant}
 use Rattle.congee.specs.protocol.Events.{hung}
 use Rattle.joint.specs.declared.id.Id.{Id}
 use Rattle.joint.specs.declared.nodes.slot.Slot.{Slot}
@@ -78,18 +78,7 @@ shape n w = record {
 
 -- an unused name's node was never made, and a used one's without a slot is destroyed
 abbrev pub view : {P : Type 0} → Bool → Option (Slot P) → Node P
-view given None = record {
-  prefix = [];
-  children = λ b. Nothing;
-  count = 0;
-  capacity = 0;
-  version = 0;
-  locked = false;
-  obsolete = true;
-  made = given;
-  destroyed = given;
-  retired = false;
-}
+view given None = vacant given given false
 view given (Some s) = node_of s
 
 -- the nodes in the cells, by their numbers

@@ -1,11 +1,10 @@
 //! What a call sees of a node.
 
-ghost use Rattle.std.specs.Prelude.{◌≡◌, ◌<◌, ◌≤◌, length, true, false, MatchOption, Some, None};
-ghost use Rattle.congee.specs.declared.forms.prefix.TheConstants.{MAX_PREFIX_LEN};
+ghost use Rattle.std.specs.Prelude.{◌≡◌, false, MatchOption};
 ghost use Rattle.congee.specs.declared.forms.child.Child.TheVariants.{Value};
-ghost use Rattle.congee.specs.protocol.Events.{Parts, ReadGives};
+ghost use Rattle.congee.specs.protocol.Events.{ReadGives};
 ghost use Rattle.congee.specs.forms.Forms.{children_of, prefix_of};
-ghost use Rattle.congee.specs.Heap.{fits, is_taken};
+ghost use Rattle.congee.specs.Heap.{is_taken};
 ghost use Rattle.congee.specs.protocol.Seeing.{IsSeen, ReadSees, LeastSees};
 ghost use Rattle.congee.specs.protocol.SweepEvents.{LeastGives, LeastTruly, IsAny};
 ghost use Rattle.joint.specs.declared.nodes.slot.LockWord.{LockWord};
@@ -14,21 +13,8 @@ ghost use Rattle.joint.specs.nodes.View.{id_number, shape, child_at};
 
 use crate::id::Id;
 use crate::nodes::slot::LockWord;
-use congee::protocol::{Least, Reading};
+use congee::protocol::{Least, Reading, first_difference};
 use congee::{Child, KEY_BYTES, Node, Payload, Seen, Small};
-
-/// The first place at which the prefix isn't the key's beginning.
-fn first_difference(prefix: &[u8], key: &[u8; KEY_BYTES]) -> Option<usize>
-    requires { length prefix.now ≤ MAX_PREFIX_LEN }
-    ensures { MatchOption result (fits prefix.now key.now ≡ true) (λ common. Parts prefix.now key.now common) }
-{
-    for i in 0..prefix.len() {
-        if key[i] != prefix[i] {
-            return Some(i);
-        }
-    }
-    None
-}
 
 /// An equal child, or none where its value can't be copied.
 fn copied<P: Payload + Small>(child: &Child<Id, P>) -> Option<Child<Id, P>>

@@ -15,7 +15,9 @@ use crate::threads::locked::Plain;
 use crate::threads::tokens::{Guard, Worker};
 use crate::threads::tree::Tree;
 use crate::threads::word_congee::are_keys;
-use congee::{ArcPayload, DefaultAllocator, NoDrain, NodeStats, Payload, Word64};
+use congee::{
+    ArcPayload, DefaultAllocator, NoDrain, NodeStats, Payload, Word64, owner_of, payload_of,
+};
 use std::alloc::Global;
 use std::marker::{Model, PhantomData};
 use std::sync::{Arc, Wait};
@@ -70,20 +72,6 @@ impl<V: Drop, F: FnMut(Arc<V, Global>) -> Option<Arc<V, Global>>> Answer<ArcPayl
             None => None,
         }
     }
-}
-
-/// The owner in a payload, if there is one.
-fn owner_of<V>(payload: Option<ArcPayload<V>>) -> Option<Arc<V, Global>>
-    ensures { option_map arc_value result ≡ payload }
-{
-    payload.map(ArcPayload::into_arc)
-}
-
-/// An owner as a payload, if there is one.
-fn payload_of<V>(owner: Option<Arc<V, Global>>) -> Option<ArcPayload<V>>
-    ensures { result ≡ option_map arc_value owner }
-{
-    owner.map(ArcPayload::new)
 }
 
 /// The owners of an answer.

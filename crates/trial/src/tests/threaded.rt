@@ -1,5 +1,6 @@
 //! The index for threads: what no clause says, that its calls come through, and that closures run between two holds.
 
+use super::arcs::{Text, is, text};
 use crate::examples::counter::count_in_two_threads;
 use congee::{Allocator, DefaultAllocator, Limited};
 use joint::{Congee, CongeeArc, Guard, Limits, Refusal, U64Congee, Worker};
@@ -204,35 +205,24 @@ fn strangers_come_back(rt: HostRuntime) -> Result<(), Fail> {
     Ok(())
 }
 
-fn text(alloc: Global, of: &str) -> Result<Arc<String<Global>, Global>, Fail> {
-    Ok(Arc::new(alloc, String::from_str(alloc, of)?)?)
-}
-
-fn reads(found: Option<Arc<String<Global>, Global>>, text: &str) -> bool {
-    match found {
-        Some(found) => found.as_str() == text,
-        None => false,
-    }
-}
-
 /// A text is put in, replaced and taken out again.
 fn shared_calls<R: Wait>(
     rt: &R,
     tree: &Texts,
-    world: &Arc<String<Global>, Global>,
+    world: &Text,
     worker: &mut Worker,
     guard: &Guard,
 ) -> Result<bool, Refusal> {
     let other = |_| Arc::try_clone(world).ok();
     Ok(
-        reads(tree.get(rt, 1, worker, guard)?, "hello")
-            && reads(
+        is(tree.get(rt, 1, worker, guard)?, Some("hello"))
+            && is(
                 tree.compute_if_present(rt, 1, other, worker, guard)?,
-                "hello",
+                Some("hello"),
             )
-            && reads(tree.get(rt, 1, worker, guard)?, "hello world")
-            && reads(tree.remove(rt, 1, worker, guard)?, "hello world")
-            && tree.get(rt, 1, worker, guard)?.is_none()
+            && is(tree.get(rt, 1, worker, guard)?, Some("hello world"))
+            && is(tree.remove(rt, 1, worker, guard)?, Some("hello world"))
+            && is(tree.get(rt, 1, worker, guard)?, None)
             && tree.is_empty(rt, worker, guard)?,
     )
 }

@@ -5,7 +5,7 @@ use Rattle.congee.proofs.lemmas.Fits.{same_test, other_test}
 use Rattle.judge.specs.Answer.{Pairs, set_at}
 use Rattle.judge.specs.declared.journal.Call.TheVariants as call
 use Rattle.judge.specs.declared.journal.Reply.TheVariants as reply
-use Rattle.judge.proofs.Maps.{get-set_at_here, get-set_at_apart, set_at-standing}
+use Rattle.judge.proofs.Laws.{get-set_at_here, get-set_at_apart, set_at-standing}
 use Rattle.congee.specs.Heap.{Holds, Nothing, Below, fits, child_for, value_at}
 use Rattle.congee.specs.Keys.{key_bytes}
 use Rattle.congee.specs.owned.Arena.{Nodes, node_of, heap_of, IsTree, OnWay, Hangs}

@@ -3,7 +3,7 @@ use Rattle.std.proofs.Common.{◌≡◌, ◌≢◌, ℕ, List, zero, suc, ◌<�
 use Rattle.std.specs.Prelude.{Option, None, Some}
 use Rattle.std.specs.Ordering.{nat_cmp}
 use Rattle.std.specs.FinMap.{FinMap, get, get-empty, empty}
-use Rattle.judge.proofs.Maps.{get-insert_here, get-insert_apart}
+use Rattle.judge.proofs.Laws.{get-insert_here, get-insert_apart}
 use Rattle.congee.specs.Heap.{value_at}
 use Rattle.congee.specs.Keys.{key_bytes, IsMapOf}
 use Rattle.congee.specs.owned.Arena.{Nodes, heap_of}

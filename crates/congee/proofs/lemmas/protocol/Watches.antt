@@ -7,7 +7,7 @@ use Rattle.judge.specs.declared.journal.Call.TheVariants as call
 use Rattle.judge.specs.declared.journal.Reply.{Reply}
 use Rattle.judge.specs.declared.journal.Reply.TheVariants as reply
 use Rattle.judge.specs.Answer.{Pairs, set_at, key_of, leaves, reply_on, answer}
-use Rattle.judge.proofs.Maps.{get-set_at_here, get-set_at_apart, answer_at}
+use Rattle.judge.proofs.Laws.{get-set_at_here, get-set_at_apart, answer_at}
 use Rattle.congee.specs.declared.forms.base_node.NodeType.{NodeType}
 use Rattle.congee.specs.declared.protocol.store.Refusal.{Refusal}
 use Rattle.congee.specs.declared.protocol.phase.Kind.{Kind}

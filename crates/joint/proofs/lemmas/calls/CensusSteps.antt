@@ -34,7 +34,7 @@ use Rattle.congee.specs.protocol.Destroys.{Destroys}
 use Rattle.congee.specs.protocol.Holdings.{TakenBy}
 use Rattle.congee.specs.protocol.Names.{name_made, names}
 use Rattle.congee.specs.protocol.Play.{EachKnown, IsMoved, Settled, begun}
-use Rattle.congee.proofs.lemmas.Keys.{standing_same}
+use Rattle.congee.proofs.Laws.{standing_same}
 use Rattle.joint.specs.declared.engine.in_flight.InFlight.{InFlight}
 use Rattle.joint.specs.declared.engine.in_flight.InFlight.TheVariants.{Idle, Collecting, Reserving, Securing, Walking}
 use Rattle.joint.specs.declared.engine.census.Census.{Census}

@@ -21,7 +21,7 @@ use Rattle.congee.specs.protocol.Handing.{InTree, is_waiting}
 use Rattle.congee.specs.protocol.Holdings.{LockedBy, MadeBy, MadeForOne, MadeForTwo, MadeForPlan, IsMade, TakenBy}
 use Rattle.congee.specs.protocol.Play.{EachKnown, Settled}
 use Rattle.congee.specs.protocol.Protocol.{Known, Made, MadeOne, MadeTwo, MadeLeafFor, PlanKnown, TakenOut, AlsoOut}
-use Rattle.congee.proofs.lemmas.protocol.Owners.{locks_owned}
+use Rattle.congee.proofs.Laws.{locks_owned}
 use Rattle.joint.specs.declared.id.Id.{Id}
 use Rattle.joint.specs.calls.Ends.{HoldsLock}
 use Rattle.joint.specs.nodes.Nodes.{nodes}

@@ -7,7 +7,7 @@ use Rattle.congee.specs.declared.protocol.op.Op.{Op as Point}
 use Rattle.congee.specs.declared.protocol.op.Op.TheVariants as point
 use Rattle.congee.specs.Keys.{IsMapOf}
 use Rattle.congee.specs.protocol.Play.{Flight, Over, begun, range_of as point_range, IsScanOf, IsOfRange, flight}
-use Rattle.congee.proofs.lemmas.protocol.SweepRanges.{of_range}
+use Rattle.congee.proofs.Laws.{of_range}
 use Rattle.joint.specs.declared.id.Id.{Id}
 use Rattle.joint.specs.declared.steps.Event.TheVariants.{Register, Begin}
 use Rattle.joint.specs.declared.steps.Done.TheVariants.{Scanned}

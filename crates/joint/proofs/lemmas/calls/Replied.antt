@@ -7,7 +7,7 @@ use Rattle.std.specs.FinMap.{get, get-empty}
 use Rattle.judge.specs.declared.journal.Call.{Call as Entered}
 use Rattle.judge.specs.declared.journal.Reply.{Reply}
 use Rattle.judge.specs.Answer.{Pairs, answer, key_of, leaves, set_at}
-use Rattle.judge.proofs.Maps.{get-set_at_here, get-set_at_apart, same_pairs}
+use Rattle.judge.proofs.Laws.{get-set_at_here, get-set_at_apart, same_pairs}
 use Rattle.congee.specs.Heap.{Node, value_at}
 use Rattle.congee.specs.Keys.{IsMapOf, key_bytes}
 use Rattle.congee.specs.declared.protocol.op.Op.{Op as Point}

@@ -25,7 +25,7 @@ use Rattle.joint.specs.calls.Runs.{IsMapRun, pairs_after}
 use Rattle.joint.specs.world.MapSteps.{MapStep, EventMap, GoMap, Scans, BeginMap, BeginsOr, EndsEmpty, Line}
 use Rattle.joint.specs.engine.Flying.{Flights, with_flight}
 use Rattle.joint.specs.calls.Scans.{is_go, goes, placed, told_to, Comes, AllCome, BeginsScan, GoesOn, EndsScan, ScansHold, EmptyScansHold}
-use Rattle.congee.proofs.lemmas.protocol.SweepRanges.{of_range}
+use Rattle.congee.proofs.Laws.{of_range}
 use Rattle.joint.proofs.lemmas.world.Flights.{ends_stays, flight_here, flight_apart}
 
 -- one of several

@@ -22,9 +22,7 @@ use Rattle.crossbeam_epoch.specs.World.Progress.{Moves, Empties, EmptiesAt}
 use Rattle.crossbeam_epoch.specs.World.Reach.{Act, Quiet, Marked, GivenBack, Moment, with_act, marks_of, changes_pin, mark_changes_pin, LeavesFirst, Visible}
 use Rattle.crossbeam_epoch.specs.World.Steps.{IsReport, after, begin_marks, phase_marks, moved_marks, unless_refused, marks, called_in}
 use Rattle.crossbeam_epoch.specs.World.Store.{Sets, value_at, emptied}
-use Rattle.crossbeam_epoch.proofs.lemmas.world.Jobs.{fits_after_deferral}
-use Rattle.crossbeam_epoch.proofs.lemmas.world.Reaches.{act_steady}
-use Rattle.crossbeam_epoch.proofs.lemmas.world.Runs.{fits_after, fits_registered, fits_store}
+use Rattle.crossbeam_epoch.proofs.Laws.{fits_after_deferral, act_steady, fits_after, fits_registered, fits_store}
 use Rattle.joint.specs.engine.Laws.{CellLaws}
 use Rattle.joint.specs.NameLemmas.{same_name}
 use Rattle.joint.specs.Names.{number}

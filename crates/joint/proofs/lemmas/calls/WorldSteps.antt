@@ -7,7 +7,7 @@ use Rattle.std.proofs.lemmas.List.{append-nil, get_or_past, get_or-set_same, len
 use Rattle.judge.specs.declared.journal.Entry.{Entry}
 use Rattle.judge.specs.Answer.{Pairs}
 use Rattle.judge.specs.Journal.{IsLegal, Legal}
-use Rattle.judge.proofs.Maps.{same_pairs}
+use Rattle.judge.proofs.Laws.{same_pairs}
 use Rattle.congee.specs.declared.protocol.machine.Machine.{Machine}
 use Rattle.congee.specs.declared.protocol.machine.Noise.{Noise}
 use Rattle.congee.specs.Heap.{Node}

@@ -9,13 +9,13 @@ use Rattle.judge.specs.declared.journal.Call.TheVariants as call
 use Rattle.judge.specs.declared.journal.Reply.{Reply}
 use Rattle.judge.specs.declared.journal.Reply.TheVariants as reply
 use Rattle.judge.specs.Answer.{Pairs, leaves, reply_on, set_at}
-use Rattle.judge.proofs.Maps.{get-set_at_here, get-set_at_apart}
+use Rattle.judge.proofs.Laws.{get-set_at_here, get-set_at_apart}
 use Rattle.congee.specs.declared.protocol.phase.Kind.{Kind}
 use Rattle.congee.specs.declared.protocol.turn.NextPhase.{NextPhase}
 use Rattle.congee.specs.Heap.{Node}
 use Rattle.congee.specs.Keys.{IsMapOf}
 use Rattle.congee.specs.protocol.Answers.{AnswersIf, Decides, told}
-use Rattle.congee.proofs.lemmas.Keys.{standing_same, standing_changed}
+use Rattle.congee.proofs.Laws.{standing_same, standing_changed}
 use Rattle.joint.specs.declared.engine.census.Change.{Change}
 use Rattle.joint.specs.declared.engine.census.Change.TheVariants.{Same}
 use Rattle.joint.specs.declared.id.Id.{Id}

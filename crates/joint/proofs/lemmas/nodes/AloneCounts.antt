@@ -5,7 +5,7 @@ use Rattle.congee.specs.Heap.{Node, Hung, Nothing, Below, Holds}
 use Rattle.congee.specs.owned.Levels.{under_byte, under_bytes}
 use Rattle.congee.specs.owned.Stats.{Shape}
 use Rattle.congee.specs.protocol.Alone.{sum_from, nodes_at, nodes_under, tree_nodes}
-use Rattle.congee.proofs.lemmas.protocol.AloneSweeps.{term_past}
+use Rattle.congee.proofs.Laws.{term_past}
 use Rattle.joint.specs.nodes.Levels.{nodes_from, nodes_of}
 
 module _ {V : Type 0} where

@@ -15,8 +15,7 @@ use Rattle.congee.specs.protocol.Events.{SeenTruly, places}
 use Rattle.congee.specs.forms.Forms.{capacity_of, children_of, prefix_of}
 use Rattle.congee.specs.Heap.{Nothing}
 use Rattle.congee.specs.forms.Places.{AllKeys, Rises}
-use Rattle.congee.proofs.lemmas.forms.BetweenLemmas.{get_find, all_found}
-use Rattle.congee.proofs.lemmas.forms.MapLemmas.{same_is}
+use Rattle.congee.proofs.Laws.{get_find, all_found, same_is}
 use Rattle.joint.specs.declared.id.Id.{Id}
 use Rattle.joint.specs.declared.nodes.slot.LockWord.{LockWord}
 use Rattle.joint.specs.nodes.Solid.{IsSolid, IsLook}

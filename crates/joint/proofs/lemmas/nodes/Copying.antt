@@ -14,10 +14,7 @@ use Rattle.congee.specs.forms.Bytes.{IsFirst}
 use Rattle.congee.specs.protocol.Events.{HoldsAlike}
 use Rattle.congee.specs.forms.Forms.{children_of, form_of, prefix_of, capacity_of, size_of, is_full_of, Becomes}
 use Rattle.congee.specs.Heap.{Nothing, Below, Holds}
-use Rattle.congee.proofs.lemmas.forms.BetweenLemmas.{get_find}
-use Rattle.congee.proofs.lemmas.forms.Entries.{find}
-use Rattle.congee.proofs.lemmas.forms.MapLemmas.{len_less}
-use Rattle.congee.proofs.lemmas.protocol.Leftovers.{kept_node, kept_value}
+use Rattle.congee.proofs.Laws.{get_find, find, len_less, kept_node, kept_value}
 use Rattle.joint.specs.declared.id.Id.{Id}
 use Rattle.joint.specs.declared.nodes.slot.Slot.{Slot}
 use Rattle.joint.specs.declared.nodes.slot.LockWord.{LockWord}

@@ -15,8 +15,7 @@ use Rattle.congee.specs.Heap.{Node}
 use Rattle.congee.specs.Notes.{Note, Tree, Linked}
 use Rattle.congee.specs.owned.Levels.{under_byte, under_bytes}
 use Rattle.congee.specs.owned.Stats.{capped, no_nodes, info_at, Counts, Shape, IsTally}
-use Rattle.congee.proofs.lemmas.owned.Surveys.{bytes_same, none_more, one_more}
-use Rattle.congee.proofs.lemmas.owned.Tallies.{IsTally-counted}
+use Rattle.congee.proofs.Laws.{bytes_same, none_more, one_more, IsTally-counted}
 use Rattle.joint.specs.declared.id.Id.{Id}
 use Rattle.joint.specs.declared.nodes.slot.LockWord.{LockWord}
 use Rattle.joint.specs.nodes.Levels.{form_with, shape_of, nodes_from, nodes_of, IsNodeIn}

@@ -14,14 +14,7 @@ use Rattle.congee.specs.declared.protocol.store.Region.{Region}
 use Rattle.congee.specs.owned.Ranges.{in_range}
 use Rattle.congee.specs.protocol.Regions.{IsRegion, span, start_at}
 use Rattle.congee.specs.protocol.Events.{ChangeGives}
-use Rattle.congee.proofs.lemmas.Fits.{same_key}
-use Rattle.congee.proofs.lemmas.Graft.{Graft, old_down, old_leaves, old_up}
-use Rattle.congee.proofs.lemmas.Keys.{key_apart, key_length}
-use Rattle.congee.proofs.lemmas.Tree.{same_or_not, finds, aside}
-use Rattle.congee.proofs.lemmas.forms.BetweenLemmas.{all_found, get_find}
-use Rattle.congee.proofs.lemmas.protocol.Regions.{within_keys, byte_low, byte_high}
-use Rattle.congee.proofs.lemmas.protocol.SweepBytes.{region_top}
-use Rattle.congee.proofs.lemmas.owned.RangeLemmas.{range_none, range_first, range_all}
+use Rattle.congee.proofs.Laws.{same_key, Graft, old_down, old_leaves, old_up, key_apart, key_length, same_or_not, finds, aside, all_found, get_find, within_keys, byte_low, byte_high, region_top, range_none, range_first, range_all}
 use Rattle.joint.specs.nodes.Draining.{Takes, AgreesFrom, pairs_from, Drained}
 use Rattle.joint.specs.nodes.Levels.{IsNodeIn}
 use Rattle.joint.specs.nodes.Survey.{NoneStand}

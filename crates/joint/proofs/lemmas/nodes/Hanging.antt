@@ -15,7 +15,7 @@ use Rattle.congee.specs.declared.forms.base_node.NodeType.{NodeType}
 use Rattle.congee.specs.protocol.Events.{hung, weight, MayChange}
 use Rattle.congee.specs.forms.Forms.{children_of, form_of, prefix_of, capacity_of, size_of, is_full_of, Becomes}
 use Rattle.congee.specs.Heap.{Nothing, Below, Holds}
-use Rattle.congee.proofs.lemmas.forms.MapLemmas.{same_is, len_new, len_again, len_less}
+use Rattle.congee.proofs.Laws.{same_is, len_new, len_again, len_less}
 use Rattle.joint.specs.declared.id.Id.{Id}
 use Rattle.joint.specs.declared.nodes.slot.Slot.{Slot}
 use Rattle.joint.specs.declared.nodes.slot.LockWord.{LockWord}

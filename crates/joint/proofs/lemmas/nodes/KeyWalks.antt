@@ -17,9 +17,7 @@ use Rattle.congee.specs.Notes.{Note, Tree}
 use Rattle.congee.specs.protocol.Regions.{IsRegion, span, start_at}
 use Rattle.congee.specs.protocol.Sweeps.{Lacked}
 use Rattle.congee.specs.protocol.SweepKnown.{end_of}
-use Rattle.congee.proofs.lemmas.protocol.Regions.{whole, start_mono, span_pos}
-use Rattle.congee.proofs.lemmas.protocol.SweepBytes.{region_top}
-use Rattle.congee.proofs.lemmas.protocol.SweepKept.{child_after, child_before, lacks_bytes, lacks_beside, has_value}
+use Rattle.congee.proofs.Laws.{whole, start_mono, span_pos, region_top, child_after, child_before, lacks_bytes, lacks_beside, has_value}
 use Rattle.joint.specs.declared.id.Id.{Id}
 use Rattle.joint.specs.declared.nodes.slot.LockWord.{LockWord}
 use Rattle.joint.specs.nodes.Levels.{IsNodeIn}

@@ -10,9 +10,7 @@ use Rattle.congee.specs.forms.Bytes.{IsFirst}
 use Rattle.congee.specs.forms.Forms.{children_of}
 use Rattle.congee.specs.Heap.{Nothing, Holds}
 use Rattle.congee.specs.protocol.Events.{IsOther}
-use Rattle.congee.proofs.lemmas.forms.BetweenLemmas.{get_find}
-use Rattle.congee.proofs.lemmas.forms.Entries.{find}
-use Rattle.congee.proofs.lemmas.forms.MapLemmas.{len_less}
+use Rattle.congee.proofs.Laws.{get_find, find, len_less}
 use Rattle.joint.specs.declared.id.Id.{Id}
 use Rattle.joint.specs.declared.nodes.slot.LockWord.{LockWord}
 use Rattle.joint.specs.nodes.Solid.{IsSolid}

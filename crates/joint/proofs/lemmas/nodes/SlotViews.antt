@@ -15,8 +15,7 @@ use Rattle.congee.specs.declared.forms.base_node.Node.{Node as Form}
 use Rattle.congee.specs.forms.Forms.{children_of}
 use Rattle.congee.specs.forms.Places.{AllKeys, Rises}
 use Rattle.congee.specs.Heap.{Hung, Below, Nothing, Holds}
-use Rattle.congee.proofs.lemmas.forms.Entries.{find}
-use Rattle.congee.proofs.lemmas.forms.BetweenLemmas.{get_find}
+use Rattle.congee.proofs.Laws.{find, get_find}
 use Rattle.joint.specs.declared.id.Id.{Id}
 use Rattle.joint.specs.declared.nodes.slot.Slot.{Slot}
 use Rattle.joint.specs.Names.{number}

@@ -9,8 +9,7 @@ use Rattle.judge.specs.declared.journal.Call.TheVariants as call
 use Rattle.judge.specs.declared.journal.Entry.{Entry}
 use Rattle.judge.specs.Answer.{Pairs, answer}
 use Rattle.judge.specs.Journal.{Answers, Legal}
-use Rattle.judge.proofs.Journals.{Legal-push}
-use Rattle.judge.proofs.Maps.{set_at-standing}
+use Rattle.judge.proofs.Laws.{Legal-push, set_at-standing}
 use Rattle.congee.specs.declared.protocol.machine.Noise.{Noise}
 use Rattle.congee.specs.Keys.{IsMapOf}
 use Rattle.joint.specs.declared.id.Id.{Id}

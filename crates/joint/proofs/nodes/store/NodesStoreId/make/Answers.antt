@@ -1,6 +1,6 @@
 use Rattle.std.proofs.Common.{◌≤◌, length, refl, ap, arith}
 use Rattle.std.proofs.lemmas.List.{length-take-le}
-use Rattle.congee.proofs.lemmas.owned.Joins.{front_fits}
+use Rattle.congee.proofs.Laws.{front_fits}
 use Rattle.joint.proofs.lemmas.nodes.Accounts.{standing_few, kept_filled, new_node}
 use Rattle.joint.proofs.lemmas.nodes.NodesInvariant.{orderly_stored}
 use Rattle.joint.proofs.nodes.store.NodesStoreId.make.Goals as goal
