@@ -4,6 +4,7 @@ pub mod PlainSteps
 pub mod Alike
 pub mod Protocol
 pub mod Answers
+pub mod State
 pub mod Play
 pub mod Opening
 pub mod Plain

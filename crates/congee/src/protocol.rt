@@ -7,7 +7,8 @@
 //! a step of its own, and the call begins anew at the root. Locks are taken from the upper node down.
 //!
 //! A `machine` is one call. Its `phase` is the next step, which each step changes where it lies; `acts` has the steps that
-//! make, lock or change nodes, and `turn` says where the store's answer leads. The ways on:
+//! make, lock or change nodes, and `turn` says where the store's answer leads. `state` has what a call says of itself between
+//! two steps, to whoever keeps it. The ways on:
 //!
 //! | The call finds | Its phases |
 //! |---|---|
@@ -31,6 +32,7 @@ mod phase;
 mod plain;
 mod plain_node;
 mod run;
+mod state;
 mod store;
 mod sweep;
 mod turn;
