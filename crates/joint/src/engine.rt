@@ -19,7 +19,7 @@ ghost use Rattle.crossbeam_epoch.specs.World.Machine.{deferred, place};
 ghost use Rattle.congee.specs.protocol.Play.{StepPlays, IsNew, begun};
 ghost use Rattle.joint.specs.engine.Census.{AreCounted};
 ghost use Rattle.joint.specs.nodes.Nodes.{nodes, frame, Refuses, with_collector};
-ghost use Rattle.joint.specs.engine.Intact.{IsIntact, IsSecuring, MayStart, BeginsSecuring, Secured, WalkedOn, call_after, cleared, is_done, is_past, is_reserving, resting, over_at, root, writes};
+ghost use Rattle.joint.specs.engine.Intact.{IsIntact, IsSecuring, MayStart, BeginsSecuring, Secured, WalkedOn, call_after, cleared, is_reserving, resting, over_at, root, writes};
 ghost use Rattle.joint.specs.engine.Laws.{CellLaws, CallLaws, ProgressLaws};
 ghost use Rattle.joint.specs.declared.engine.in_flight.InFlight.TheVariants as InFlight;
 ghost use Rattle.crossbeam_epoch.specs.declared.world.report.Event.TheVariants as Event;
@@ -37,7 +37,6 @@ use crate::limits::Limits;
 use crate::nodes::Nodes;
 use crate::nodes::slot::Slot;
 use crate::refusal::Refusal;
-use congee::protocol::{Kind, Phase, Stage};
 use congee::{Allocator, Machine, Move, Noise, Op, Payload, Small, Step, step_of};
 use crossbeam_epoch::{Event, Name, Outcome, Report};
 use std::alloc::{AllocError, Global};
@@ -72,11 +71,7 @@ fn retiring<P: Payload + Small>(machines: &[Machine<Id, P>], who: usize) -> Opti
     ensures { result ≡ retiring_at (slice_get machines.now who) }
 {
     if who < machines.len() {
-        match &machines[who].phase {
-            Phase::Retire { node, .. } => Some(*node),
-            // The step of every other phase hands nothing over.
-            _ => None,
-        }
+        machines[who].retires()
     } else {
         None
     }
@@ -120,29 +115,6 @@ fn call_after<P: Payload + Small>(outcome: Outcome, call: InFlight<P>) -> InFlig
     }
 }
 
-/// Whether a scan has told its end.
-fn is_past<P: Payload + Small>(stage: &Stage<Id, P>) -> bool
-    ensures { result ≡ is_past stage.now }
-{
-    match stage {
-        Stage::Over => true,
-        // At every other stage it goes on.
-        _ => false,
-    }
-}
-
-/// Whether a call is a scan that has told its end.
-#[inline(always)]
-fn is_done<P: Payload + Small>(phase: &Phase<Id, P>) -> bool
-    ensures { result ≡ is_done phase.now }
-{
-    match phase {
-        Phase::Sweep { sweep } => is_past(&sweep.stage),
-        // No other phase is a scan's.
-        _ => false,
-    }
-}
-
 /// Whether a call on the tree is in flight after a step with this outcome.
 fn goes_on<P>(outcome: &congee::Outcome<P>) -> bool
     ensures { result ≡ is_in_flight (told outcome.now) }
@@ -161,15 +133,9 @@ fn goes_on<P>(outcome: &congee::Outcome<P>) -> bool
 fn resting<P: Payload + Small>() -> Machine<Id, P>
     ensures { result ≡ resting }
 {
-    Machine {
-        root: Id {
-            name: Name { cell: 0, turn: 0 },
-        },
-        key: 0,
-        kind: Kind::Get,
-        given: None,
-        phase: Phase::Ended,
-    }
+    Machine::ended(Id {
+        name: Name { cell: 0, turn: 0 },
+    })
 }
 
 /// So many calls on the tree that have ended.
@@ -466,7 +432,7 @@ impl<P: Payload + Small, A: Allocator> Engine<P, A> {
         ensures calls { self.new.calls ≡ self.old.calls }
         ensures census { self.new.census ≡ self.old.census }
     {
-        if is_done(&self.machines[who].phase) {
+        if self.machines[who].has_scanned() {
             self.set_machine(who, resting());
         }
     }

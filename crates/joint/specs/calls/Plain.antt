@@ -7,8 +7,6 @@ use Rattle.congee.specs.declared.forms.child.Child.TheVariants as child
 use Rattle.congee.specs.declared.protocol.machine.Machine.{Machine}
 use Rattle.congee.specs.declared.protocol.machine.Noise.{Noise}
 use Rattle.congee.specs.declared.protocol.op.Op.{Op as Point}
-use Rattle.congee.specs.declared.protocol.phase.Kind.TheVariants.{Get}
-use Rattle.congee.specs.declared.protocol.phase.Phase.TheVariants.{Ended}
 use Rattle.congee.specs.declared.protocol.store.Seen.{Seen}
 use Rattle.congee.specs.Heap.{Node, vacant}
 use Rattle.congee.specs.Keys.{IsMapOf}
@@ -16,6 +14,7 @@ use Rattle.congee.specs.owned.Stats.{Shape, IsTally}
 use Rattle.congee.specs.protocol.Alike.{Ordered, HeapAlike, CallAlike, Longer}
 use Rattle.congee.specs.protocol.PlainSteps.{Mark, put, new_node, Plain, with_call, call_after, Went, plain_step}
 use Rattle.congee.specs.protocol.Play.{begun}
+use Rattle.congee.specs.protocol.State.{ended}
 use Rattle.judge.specs.Answer.{Pairs}
 use Rattle.joint.specs.declared.engine.in_flight.InFlight.{InFlight}
 use Rattle.joint.specs.declared.engine.in_flight.InFlight.TheVariants.{Idle, Collecting, Reserving, Securing, Walking}
@@ -117,7 +116,7 @@ abbrev pub opened_plain : {V : Type 0} → Plain V
 opened_plain = record {
   heap = put (λ n. unmade) 0 (new_node N256 []);
   made = 1;
-  calls = λ w. record { root = 0; key = 0; kind = Get; given = None; phase = Ended };
+  calls = λ w. ended 0;
 }
 
 -- a call begins; a scan that can find nothing ends as it begins

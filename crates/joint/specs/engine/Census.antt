@@ -1,5 +1,5 @@
 -- What is counted of a tree beside its nodes: the pairs that stand in it, and the nodes that calls have taken out of it.
-use Rattle.std.specs.Prelude.{◌≡◌, ℕ, Bool, List, [], Option, None, Some, Ok, Err, length, if◌then◌else◌, ◌∷◌, map, ◌++◌}
+use Rattle.std.specs.Prelude.{◌≡◌, ℕ, Bool, List, [], Option, None, Some, Ok, Err, length, if◌then◌else◌, map, ◌++◌}
 use Rattle.std.specs.FinMap.{len}
 use Rattle.std.specs.List.{flat_map, sum_by}
 use Rattle.judge.specs.declared.journal.Reply.{Reply}
@@ -7,27 +7,20 @@ use Rattle.judge.specs.declared.journal.Reply.TheVariants as reply
 use Rattle.judge.specs.Answer.{Pairs}
 use Rattle.congee.specs.declared.protocol.machine.Machine.{Machine}
 use Rattle.congee.specs.declared.protocol.machine.Outcome.{Outcome}
-use Rattle.congee.specs.protocol.Answers.{reply_in, told_or}
+use Rattle.congee.specs.protocol.Answers.{told_or}
+use Rattle.congee.specs.protocol.State.{taken}
 use Rattle.congee.specs.Keys.{IsMapOf}
-use Rattle.congee.specs.declared.protocol.phase.Phase.{Phase}
-use Rattle.congee.specs.declared.protocol.phase.Phase.TheVariants.{Obsolete, Retire}
 use Rattle.joint.specs.declared.engine.census.Census.{Census}
 use Rattle.joint.specs.declared.engine.census.Change.{Change}
 use Rattle.joint.specs.declared.engine.census.Change.TheVariants.{More, Fewer, Same}
 use Rattle.joint.specs.declared.id.Id.{Id}
 use Rattle.joint.specs.nodes.Nodes.{Nodes, nodes}
 use Rattle.joint.specs.nodes.Listing.{bytes_of, handed_nodes}
-use Rattle.joint.specs.engine.Journaling.{in_list}
+use Rattle.joint.specs.engine.Journaling.{reply_at}
 use Rattle.joint.specs.nodes.View.{id_number}
 use Rattle.joint.specs.engine.Engine.{World}
 
 -- the nodes that a call has taken out of the tree and not yet handed over
-abbrev pub taken : {V : Type 0} → Phase Id V → List Id
-taken (Obsolete n next p r) = n ∷ in_list next
-taken (Retire n next p r) = n ∷ in_list next
-taken _ = []
-
--- their numbers, of a call with its machine
 abbrev pub taken_by : {V : Type 0} → Machine Id V → List ℕ
 taken_by m = map id_number (taken m.phase)
 
@@ -72,14 +65,9 @@ abbrev pub effect_by : {V : Type 0} → Option (Reply V) → Change
 effect_by None = Same
 effect_by (Some r) = effect r
 
--- the reply of a call that took effect and has locks to let go
-abbrev pub reply_after : {V : Type 0} → Option (Machine Id V) → Option (Reply V)
-reply_after None = None
-reply_after (Some m) = reply_in m.phase
-
 -- the effect of a step, by whether it decides, how it leaves its call, and the call after it
 abbrev pub effect_of : {V : Type 0} → Bool → Outcome V → Option (Machine Id V) → Change
-effect_of decided o m = if decided then effect_by (told_or (reply_after m) o) else Same
+effect_of decided o m = if decided then effect_by (told_or (reply_at m) o) else Same
 
 -- the nodes that a call has taken out and not yet handed over, where there is a call
 abbrev pub taken_at : {V : Type 0} → Option (Machine Id V) → List ℕ

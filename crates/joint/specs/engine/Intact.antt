@@ -12,14 +12,11 @@ use Rattle.crossbeam_epoch.specs.World.Progress.{IsOn}
 use Rattle.congee.specs.declared.protocol.machine.Machine.{Machine}
 use Rattle.congee.specs.declared.protocol.op.Op.{Op}
 use Rattle.congee.specs.declared.protocol.op.Op.TheVariants as point
-use Rattle.congee.specs.declared.protocol.phase.Kind.TheVariants.{Get}
-use Rattle.congee.specs.declared.protocol.phase.Phase.{Phase}
-use Rattle.congee.specs.declared.protocol.phase.Phase.TheVariants.{New, Sweep, Ended}
+use Rattle.congee.specs.declared.protocol.phase.Phase.TheVariants.{New, Ended}
 use Rattle.congee.specs.declared.protocol.machine.Move.{Move}
 use Rattle.congee.specs.declared.protocol.run.Step.{Step}
-use Rattle.congee.specs.declared.protocol.sweep.Stage.{Stage}
-use Rattle.congee.specs.declared.protocol.sweep.Stage.TheVariants as sweep
 use Rattle.congee.specs.protocol.Play.{begun, parts}
+use Rattle.congee.specs.protocol.State.{ended, is_done, is_over}
 use Rattle.joint.specs.declared.engine.in_flight.InFlight.{InFlight}
 use Rattle.joint.specs.declared.engine.in_flight.InFlight.TheVariants.{Idle, Collecting, Reserving, Securing, Walking}
 use Rattle.joint.specs.declared.id.Id.{Id}
@@ -34,16 +31,6 @@ writes (point.Get k) = false
 writes (point.Range start end size) = false
 writes (point.RangeInclusive start last size) = false
 writes _ = true
-
--- the scan has told its end
-abbrev pub is_past : {V : Type 0} → Stage Id V → Bool
-is_past sweep.Over = true
-is_past _ = false
-
--- the call is a scan that has
-abbrev pub is_done : {V : Type 0} → Phase Id V → Bool
-is_done (Sweep s) = is_past s.stage
-is_done _ = false
 
 -- what a worker's call in flight says of its place in the collector and of its call on the tree
 abbrev pub IsAt : {V J : Type 0} → InFlight V → Participant J → Machine Id V → Type 0
@@ -74,7 +61,7 @@ root = record { name = record { cell = 0; turn = 0 } }
 
 -- a worker's call on the tree before its first
 abbrev pub resting : {V : Type 0} → Machine Id V
-resting = record { root = root; key = 0; kind = Get; given = None; phase = Ended }
+resting = ended root
 
 -- a scan that is done leaves its worker's place
 abbrev pub rested : {V : Type 0} → Machine Id V → Machine Id V
@@ -137,11 +124,6 @@ secured_machines Done (Some (Securing op)) ms who = slice_set ms who (begun root
 secured_machines o k ms who = ms
 
 -- the call on the tree has ended
-abbrev pub is_over : {V : Type 0} → Phase Id V → Bool
-is_over Ended = true
-is_over _ = false
-
--- whether a worker's has, where there is one
 abbrev pub over_at : {V : Type 0} → Option (Machine Id V) → Bool
 over_at None = false
 over_at (Some m) = is_over m.phase

@@ -6,10 +6,8 @@ use Rattle.judge.specs.declared.journal.Entry.{Entry}
 use Rattle.judge.specs.declared.journal.Reply.{Reply}
 use Rattle.judge.specs.declared.journal.Reply.TheVariants as reply
 use Rattle.congee.specs.declared.protocol.machine.Machine.{Machine}
-use Rattle.congee.specs.declared.protocol.phase.Kind.{Kind}
-use Rattle.congee.specs.declared.protocol.phase.Kind.TheVariants as kind
-use Rattle.congee.specs.declared.protocol.phase.Phase.{Phase}
-use Rattle.congee.specs.declared.protocol.phase.Phase.TheVariants.{AskOld, AskNew, Obsolete, Retire, UnlockBelow, Unlock, Sweep, Ended}
+use Rattle.congee.specs.protocol.Answers.{reply_in}
+use Rattle.congee.specs.protocol.State.{is_asking, is_pending, may_write}
 use Rattle.joint.specs.declared.engine.in_flight.InFlight.{InFlight}
 use Rattle.joint.specs.declared.engine.in_flight.InFlight.TheVariants.{Idle, Collecting, Reserving, Securing, Walking}
 use Rattle.joint.specs.declared.id.Id.{Id}
@@ -21,32 +19,11 @@ use Rattle.joint.specs.declared.steps.Outcome.{Outcome}
 use Rattle.joint.specs.declared.steps.Outcome.TheVariants.{Running, Done}
 
 -- whether a call's next step takes its closure's answer
-abbrev pub is_asking : {V : Type 0} → Phase Id V → Bool
-is_asking (AskOld s old) = true
-is_asking (AskNew plan) = true
-is_asking _ = false
-
--- the same of a worker's machine, where there is one
 abbrev pub asks_at : {V : Type 0} → Option (Machine Id V) → Bool
 asks_at None = false
 asks_at (Some m) = is_asking m.phase
 
--- whether a call on one key has yet to take effect
-abbrev pub is_pending : {V : Type 0} → Phase Id V → Bool
-is_pending (Obsolete n next p r) = false
-is_pending (Retire n next p r) = false
-is_pending (UnlockBelow n p r) = false
-is_pending (Unlock n r) = false
-is_pending (Sweep s) = false
-is_pending Ended = false
-is_pending _ = true
-
--- whether a call of this kind may write
-abbrev pub may_write : {V : Type 0} → Kind V → Bool
-may_write kind.Get = false
-may_write _ = true
-
--- whether a writing call has yet to take effect
+-- whether a call is a writing one that has yet to take effect
 abbrev pub is_writing : {V : Type 0} → Option (Machine Id V) → Bool
 is_writing None = false
 is_writing (Some m) = is_pending m.phase && may_write m.kind
@@ -71,14 +48,6 @@ places_of (k ∷ ks) [] = 0
 places_of (k ∷ ks) (m ∷ ms) = one_where (has_place (Some k) (Some m)) + places_of ks ms
 
 -- the reply that a call tells in the end, from the step on in which it took effect
-abbrev pub reply_in : {V : Type 0} → Phase Id V → Option (Reply V)
-reply_in (Obsolete n next p r) = Some r
-reply_in (Retire n next p r) = Some r
-reply_in (UnlockBelow n p r) = Some r
-reply_in (Unlock n r) = Some r
-reply_in _ = None
-
--- the same of a worker's machine, where there is one
 abbrev pub reply_at : {V : Type 0} → Option (Machine Id V) → Option (Reply V)
 reply_at None = None
 reply_at (Some m) = reply_in m.phase

@@ -13,12 +13,12 @@ use Rattle.crossbeam_epoch.specs.World.Reach.{Moment, marks_of, WasIn}
 use Rattle.crossbeam_epoch.specs.World.Steps.{IsReport, after}
 use Rattle.crossbeam_epoch.specs.World.Store.{value_at}
 use Rattle.congee.specs.declared.protocol.machine.Machine.{Machine}
-use Rattle.congee.specs.declared.protocol.phase.Phase.{Phase}
-use Rattle.congee.specs.declared.protocol.phase.Phase.TheVariants.{Retire, Ended}
+use Rattle.congee.specs.declared.protocol.phase.Phase.TheVariants.{Ended}
 use Rattle.congee.specs.declared.protocol.run.Step.{Step}
 use Rattle.congee.specs.declared.protocol.machine.Move.{Move}
 use Rattle.congee.specs.protocol.Answers.{SameMap}
 use Rattle.congee.specs.protocol.Bounds.{Within}
+use Rattle.congee.specs.protocol.State.{retiring}
 use Rattle.joint.specs.declared.id.Id.{Id}
 use Rattle.joint.specs.declared.nodes.slot.Slot.{Slot}
 use Rattle.joint.specs.engine.Filed.{IsFiled}
@@ -49,11 +49,6 @@ abbrev pub Runs : {V : Type 0} → List (Machine Id V) → ℕ → Type 0
 Runs {V} ms who = (m : Machine Id V) × (slice_get ms who ≡ Some m) × IsUnderWay m.phase
 
 -- the node that the next step of a call hands over for its destruction
-abbrev pub retiring : {V : Type 0} → Phase Id V → Option Id
-retiring (Retire n next p r) = Some n
-retiring _ = None
-
--- the same of a worker's machine, where there is one
 abbrev pub retiring_at : {V : Type 0} → Option (Machine Id V) → Option Id
 retiring_at None = None
 retiring_at (Some m) = retiring m.phase

@@ -1,13 +1,13 @@
 //! What is counted of a tree beside its nodes: the pairs that stand in it, and the nodes that calls have taken out of it.
 
 ghost use Rattle.std.specs.Prelude.{◌≡◌, ◌+◌, ◌*◌, ◌^◌, ◌≤◌};
+ghost use Rattle.std.specs.Option.{option_copied};
 ghost use Rattle.congee.specs.owned.Stats.{capped};
 ghost use Rattle.congee.specs.protocol.Answers.{reply_in, told_or};
 ghost use Rattle.joint.specs.engine.Census.{effect, effect_by, fewer, more};
 
 use crate::id::Id;
-use congee::protocol::Phase;
-use congee::{Outcome, Payload, Small};
+use congee::{Machine, Outcome, Payload, Small};
 use judge::Reply;
 
 /// What a call makes of the number of pairs.
@@ -126,27 +126,26 @@ fn effect<P>(reply: &Reply<P>) -> Change
     }
 }
 
-/// The effect of a call that has locks to let go, by the reply that it will give.
-fn effect_in<P: Payload + Small>(phase: &Phase<Id, P>) -> Change
-    ensures { result ≡ effect_by (reply_in phase.now) }
+/// The effect of a call that has locks to let go, by the reply that it will give; one that has none yet has no effect.
+fn effect_by<P>(reply: Option<&Reply<P>>) -> Change
+    ensures { result ≡ effect_by (option_copied reply) }
 {
-    match phase {
-        Phase::Obsolete { reply, .. } => effect(reply),
-        Phase::Retire { reply, .. } => effect(reply),
-        Phase::UnlockBelow { reply, .. } => effect(reply),
-        Phase::Unlock { reply, .. } => effect(reply),
-        // In the other phases it has yet to take effect, or has ended.
-        _ => Change::Same,
+    match reply {
+        Some(reply) => effect(reply),
+        None => Change::Same,
     }
 }
 
-/// The effect of a call that took effect in a step with this outcome and has this phase after it.
-pub(crate) fn effect_after<P: Payload + Small>(outcome: &Outcome<P>, phase: &Phase<Id, P>) -> Change
-    ensures { result ≡ effect_by (told_or (reply_in phase.now) outcome.now) }
+/// The effect of a call that took effect in a step with this outcome, and is this one after it.
+pub(crate) fn effect_after<P: Payload + Small>(
+    outcome: &Outcome<P>,
+    call: &Machine<Id, P>,
+) -> Change
+    ensures { result ≡ effect_by (told_or (reply_in call.now.phase) outcome.now) }
 {
     match outcome {
         Outcome::Done(reply) => effect(reply),
         // It goes on: no other outcome decides.
-        _ => effect_in(phase),
+        _ => effect_by(call.reply()),
     }
 }

@@ -1,15 +1,14 @@
 //! What a call on the tree is about, as far as its entry in a journal goes.
 
 ghost use Rattle.std.specs.Prelude.{◌≡◌, true, slice_get};
-ghost use Rattle.joint.specs.engine.Journaling.{asks_at, has_place, is_asking, is_pending, is_writing, may_write, reply_at, reply_by, reply_in};
+ghost use Rattle.std.specs.Option.{option_copied};
+ghost use Rattle.joint.specs.engine.Journaling.{asks_at, has_place, is_writing, reply_at, reply_by};
 
 use crate::engine::Engine;
 use crate::engine::in_flight::InFlight;
 use crate::engine::request::copy_reply;
-use crate::id::Id;
 use crate::steps::{Done, Outcome};
-use congee::protocol::{Kind, Phase};
-use congee::{Allocator, Machine, Payload, Small};
+use congee::{Allocator, Payload, Small};
 use judge::Reply;
 
 impl<P: Payload + Small, A: Allocator> Engine<P, A> {
@@ -18,7 +17,7 @@ impl<P: Payload + Small, A: Allocator> Engine<P, A> {
         ensures { result ≡ asks_at (slice_get self.now.machines.items who) }
     {
         match self.machines.get(who) {
-            Some(machine) => is_asking(&machine.phase),
+            Some(machine) => machine.asks(),
             None => false,
         }
     }
@@ -40,7 +39,7 @@ impl<P: Payload + Small, A: Allocator> Engine<P, A> {
         ensures { result ≡ is_writing (slice_get self.now.machines.items who) }
     {
         match self.machines.get(who) {
-            Some(machine) => may_write(&machine.kind) && is_pending(&machine.phase),
+            Some(machine) => machine.may_write() && machine.is_pending(),
             None => false,
         }
     }
@@ -50,7 +49,7 @@ impl<P: Payload + Small, A: Allocator> Engine<P, A> {
         ensures always { P.always_copies ≡ true → result ≡ reply_at (slice_get self.now.machines.items who) }
     {
         match self.machines.get(who) {
-            Some(machine) => reply_in(&machine.phase),
+            Some(machine) => copy_held(machine.reply()),
             None => None,
         }
     }
@@ -68,55 +67,9 @@ impl<P: Payload + Small, A: Allocator> Engine<P, A> {
     }
 }
 
-/// Whether a call asks its closure.
-fn is_asking<P: Payload + Small>(phase: &Phase<Id, P>) -> bool
-    ensures { result ≡ is_asking phase.now }
+/// An equal reply, where there is one; `None` also where a value can't be copied.
+fn copy_held<P: Payload>(reply: Option<&Reply<P>>) -> Option<Reply<P>>
+    ensures always { P.always_copies ≡ true → result ≡ option_copied reply }
 {
-    match phase {
-        Phase::AskOld { .. } => true,
-        Phase::AskNew { .. } => true,
-        // No other step takes an answer.
-        _ => false,
-    }
-}
-
-/// Whether a call on one key has yet to take effect.
-fn is_pending<P: Payload + Small>(phase: &Phase<Id, P>) -> bool
-    ensures { result ≡ is_pending phase.now }
-{
-    match phase {
-        Phase::Obsolete { .. } => false,
-        Phase::Retire { .. } => false,
-        Phase::UnlockBelow { .. } => false,
-        Phase::Unlock { .. } => false,
-        Phase::Sweep { .. } => false,
-        Phase::Ended => false,
-        // In the other phases it has changed nothing yet.
-        _ => true,
-    }
-}
-
-/// Whether a call may change what stands at its key.
-fn may_write<P>(kind: &Kind<P>) -> bool
-    ensures { result ≡ may_write kind.now }
-{
-    match kind {
-        Kind::Get => false,
-        // An insertion, a removal, a compute or an exchange.
-        _ => true,
-    }
-}
-
-/// The reply of a call that took effect and has locks to let go.
-fn reply_in<P: Payload + Small>(phase: &Phase<Id, P>) -> Option<Reply<P>>
-    ensures always { P.always_copies ≡ true → result ≡ reply_in phase.now }
-{
-    match phase {
-        Phase::Obsolete { reply, .. } => copy_reply(reply),
-        Phase::Retire { reply, .. } => copy_reply(reply),
-        Phase::UnlockBelow { reply, .. } => copy_reply(reply),
-        Phase::Unlock { reply, .. } => copy_reply(reply),
-        // In the other phases it has yet to take effect, or has ended.
-        _ => None,
-    }
+    copy_reply(reply?)
 }

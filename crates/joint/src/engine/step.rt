@@ -307,7 +307,7 @@ impl<P: Payload + Small, A: Allocator> Engine<P, A> {
         ensures { result ≡ effect_of moved.now.decided moved.now.outcome (slice_get self.now.machines.items who) }
     {
         if moved.decided {
-            effect_after(&moved.outcome, &self.machines[who].phase)
+            effect_after(&moved.outcome, &self.machines[who])
         } else {
             Change::Same
         }

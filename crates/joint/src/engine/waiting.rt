@@ -2,11 +2,11 @@
 
 ghost use Rattle.std.specs.Prelude.{◌≡◌, ◌*◌, ◌<◌, ◌≤◌, ◌∷◌, IfSome, length, map, slice_get};
 ghost use Rattle.std.specs.List.{sum_by};
+ghost use Rattle.std.specs.Option.{option_to_list};
 ghost use Rattle.congee.specs.Heap.{Stands};
 ghost use Rattle.joint.specs.engine.Census.{AreCounted, taken_at, waiting_nodes};
 ghost use Rattle.joint.specs.nodes.Nodes.{nodes};
 ghost use Rattle.joint.specs.engine.Intact.{IsIntact};
-ghost use Rattle.joint.specs.engine.Journaling.{in_list};
 ghost use Rattle.joint.specs.nodes.Listing.{bytes_of};
 ghost use Rattle.joint.specs.nodes.View.{id_number};
 ghost use Rattle.joint.specs.engine.Engine.{without_log};
@@ -14,7 +14,6 @@ ghost use Rattle.joint.specs.engine.Engine.{without_log};
 use crate::engine::Engine;
 use crate::engine::census::Taken;
 use crate::id::Id;
-use congee::protocol::Phase;
 use congee::{Allocator, Payload, Small};
 
 impl<P: Payload + Small, A: Allocator> Engine<P, A> {
@@ -46,11 +45,9 @@ impl<P: Payload + Small, A: Allocator> Engine<P, A> {
         ensures few { result.nodes ≤ 2 }
         ensures small { result.bytes ≤ 2104 * 2 }
     {
-        match &self.machines[who].phase {
-            Phase::Obsolete { node, next, .. } => self.weighed(*node, *next),
-            Phase::Retire { node, next, .. } => self.weighed(*node, *next),
-            // In the other phases the call has taken none out, or has handed it over.
-            _ => Taken::none(),
+        match self.machines[who].taken() {
+            Some((node, next)) => self.weighed(node, next),
+            None => Taken::none(),
         }
     }
 
@@ -58,8 +55,8 @@ impl<P: Payload + Small, A: Allocator> Engine<P, A> {
     fn weighed(&self, node: Id, next: Option<Id>) -> Taken
         requires stands { Stands (nodes self.now.nodes (id_number node)) }
         requires stand { IfSome next (λ n. Stands (nodes self.now.nodes (id_number n))) }
-        ensures nodes { result.nodes ≡ length (node ∷ in_list next) }
-        ensures bytes { result.bytes ≡ sum_by (bytes_of self.now.nodes) (map id_number (node ∷ in_list next)) }
+        ensures nodes { result.nodes ≡ length (node ∷ option_to_list next) }
+        ensures bytes { result.bytes ≡ sum_by (bytes_of self.now.nodes) (map id_number (node ∷ option_to_list next)) }
         ensures small { result.bytes ≤ 2104 * 2 }
     {
         let size = self.nodes.size_of(node);

@@ -1,14 +1,10 @@
-use Rattle.std.proofs.Common.{sym, ◌∙◌, ap}
-use Rattle.std.proofs.lemmas.Option.{slice_get-get_or, slice_get_past}
-use Rattle.joint.specs.engine.Safety.{retiring, retiring_at}
-use Rattle.joint.proofs.lemmas.engine.Retiring.{retiring_none}
+use Rattle.std.proofs.Common.{length, refl, sym, ◌∙◌, ap}
+use Rattle.std.proofs.lemmas.Option.{slice_get_read, slice_get_past}
+use Rattle.joint.specs.engine.Safety.{retiring_at}
 use Rattle.joint.proofs.engine.retiring.Goals as goal
 
-pub returns-in-Retire : goal.returns-in-Retire
-returns-in-Retire g c = ap retiring (sym c.in-Retire.is) ∙ ap retiring_at (sym (slice_get-get_or _ _ _ c.if-who-machines.true))
-
-pub returns-in_default : goal.returns-in_default
-returns-in_default g c = retiring_none _ c.in_default.not-Retire ∙ ap retiring_at (sym (slice_get-get_or _ _ _ c.if-who-machines.true))
+pub returns-then-who-machines : goal.returns-then-who-machines
+returns-then-who-machines g c = c.retires.ensures ∙ ap retiring_at (sym (slice_get_read c.args.machines.now (length c.args.machines.now) c.args.who c.index-machines-who.result refl c.if-who-machines.true c.index-machines-who.is))
 
 pub returns-else-who-machines : goal.returns-else-who-machines
 returns-else-who-machines g c = ap retiring_at (sym (slice_get_past _ _ c.if-who-machines.false))

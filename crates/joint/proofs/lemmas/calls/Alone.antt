@@ -24,6 +24,7 @@ use Rattle.congee.specs.Heap.{Node}
 use Rattle.congee.specs.protocol.Alone.{NoOtherLocks, IsUndisturbed, HasAnswer, IsPast, StepsOn, steps_left, steps_whole, tree_nodes, tree_pairs}
 use Rattle.congee.specs.protocol.Play.{Settled, begun, first_phase}
 use Rattle.congee.specs.protocol.Steps.{Stepped}
+use Rattle.congee.specs.protocol.State.{is_done, is_past}
 use Rattle.joint.specs.declared.engine.in_flight.InFlight.{InFlight}
 use Rattle.joint.specs.declared.engine.in_flight.InFlight.TheVariants.{Idle, Collecting, Reserving, Securing, Walking}
 use Rattle.joint.specs.declared.id.Id.{Id}
@@ -37,7 +38,7 @@ use Rattle.joint.specs.declared.steps.Survey.TheVariants as survey
 use Rattle.joint.specs.declared.steps.Step.{Step}
 use Rattle.joint.specs.calls.Alone.{OthersUnlocked, IsNext, AreNext, AllInFlight, steps_alone, AllEndAlone}
 use Rattle.joint.specs.nodes.Nodes.{Nodes, nodes, Refuses}
-use Rattle.joint.specs.engine.Intact.{IsAt, IsIntact, call_after, is_done, is_past, over_at, rested, resting, root, secured_call, secured_machines, writes}
+use Rattle.joint.specs.engine.Intact.{IsAt, IsIntact, call_after, over_at, rested, resting, root, secured_call, secured_machines, writes}
 use Rattle.joint.specs.engine.Laws.{CallLaws, AloneLaw, WholeLaw, ProgressLaws}
 use Rattle.joint.specs.Reports.{target, collected}
 use Rattle.joint.specs.calls.Runs.{Taken, AreTaken}

@@ -14,6 +14,7 @@ use Rattle.congee.specs.declared.protocol.phase.Phase.{Phase}
 use Rattle.congee.specs.declared.protocol.phase.Phase.TheVariants.{AskOld, AskNew}
 use Rattle.congee.specs.protocol.Alone.{HasAnswer}
 use Rattle.congee.specs.protocol.Play.{Flight, Pending, Decided, Over, Unbegun, Scanning, Question, Unasked, Asked, Replied, Carries, Undecided, Concludes, ScanTells}
+use Rattle.congee.specs.protocol.State.{is_asking}
 use Rattle.joint.specs.declared.id.Id.{Id}
 use Rattle.joint.specs.declared.steps.Event.TheVariants.{Begin}
 use Rattle.joint.specs.declared.steps.Op.{Op}
@@ -27,7 +28,7 @@ use Rattle.joint.specs.declared.steps.Target.TheVariants as target
 use Rattle.joint.specs.calls.Alone.{OthersUnlocked, AreNext, AllInFlight, steps_alone, CallEndsAlone}
 use Rattle.joint.specs.calls.Calling.{next_step, steps_of, GoOn, last_of, last_or, put_away, kept_report, IsCalled}
 use Rattle.joint.specs.Reports.{goes_on, target, told}
-use Rattle.joint.specs.engine.Journaling.{asks_at, is_asking}
+use Rattle.joint.specs.engine.Journaling.{asks_at}
 use Rattle.joint.specs.calls.Runs.{Taken, AreTaken}
 use Rattle.joint.specs.world.MapSteps.{GoMap, PendingStep, BeginMap, BeginsOr, Line}
 use Rattle.joint.specs.engine.Flying.{Flights}

@@ -19,6 +19,7 @@ use Rattle.congee.specs.declared.protocol.phase.Phase.TheVariants.{AskOld, AskNe
 use Rattle.congee.specs.protocol.Alone.{HasAnswer, IsAnswer}
 use Rattle.congee.specs.protocol.Holdings.{LockedBy}
 use Rattle.congee.specs.protocol.Play.{Flight, Pending, Decided, Over, Unbegun, Scanning, Question, Undecided, Concludes, ScanTells, Follows, begun, parts, flight, flight_in, value_answered, resolved}
+use Rattle.congee.specs.protocol.State.{is_asking}
 use Rattle.joint.specs.declared.engine.in_flight.InFlight.{InFlight}
 use Rattle.joint.specs.declared.engine.in_flight.InFlight.TheVariants.{Idle, Collecting, Reserving, Securing, Walking}
 use Rattle.joint.specs.declared.id.Id.{Id}
@@ -35,7 +36,7 @@ use Rattle.joint.specs.declared.steps.Target.TheVariants as target
 use Rattle.joint.specs.calls.Alone.{OthersUnlocked, AreNext, AllEndAlone}
 use Rattle.joint.specs.nodes.Nodes.{nodes}
 use Rattle.joint.specs.engine.Intact.{IsAt, root}
-use Rattle.joint.specs.engine.Journaling.{asks_at, is_asking}
+use Rattle.joint.specs.engine.Journaling.{asks_at}
 use Rattle.joint.specs.Reports.{target, told}
 use Rattle.joint.specs.calls.Runs.{Taken, AreTaken}
 use Rattle.joint.specs.world.MapSteps.{EventMap, GoMap, PendingStep, BeginMap, BeginsOr, Line}

@@ -34,6 +34,7 @@ use Rattle.congee.specs.protocol.Destroys.{Destroys}
 use Rattle.congee.specs.protocol.Holdings.{TakenBy}
 use Rattle.congee.specs.protocol.Names.{name_made, names}
 use Rattle.congee.specs.protocol.Play.{EachKnown, IsMoved, Settled, begun}
+use Rattle.congee.specs.protocol.State.{taken, is_done}
 use Rattle.congee.proofs.Laws.{standing_same}
 use Rattle.joint.specs.declared.engine.in_flight.InFlight.{InFlight}
 use Rattle.joint.specs.declared.engine.in_flight.InFlight.TheVariants.{Idle, Collecting, Reserving, Securing, Walking}
@@ -48,9 +49,9 @@ use Rattle.joint.specs.declared.steps.Report.{Report}
 use Rattle.joint.specs.declared.steps.Target.{Target}
 use Rattle.joint.specs.declared.steps.Target.TheVariants as target
 use Rattle.joint.specs.engine.Beginning.{BeginsUnless, Begun}
-use Rattle.joint.specs.engine.Census.{AreCounted, effect_by, effect_of, fewer, more, reply_after, taken_at, taken, taken_by}
+use Rattle.joint.specs.engine.Census.{AreCounted, effect_by, effect_of, fewer, more, taken_at, taken_by}
 use Rattle.joint.specs.nodes.Nodes.{Nodes, nodes, of_value, size, size_in, Refuses}
-use Rattle.joint.specs.engine.Intact.{IsIntact, Secured, WalkedOn, is_done, rested, resting, root, secured_machines}
+use Rattle.joint.specs.engine.Intact.{IsIntact, Secured, WalkedOn, rested, resting, root, secured_machines}
 use Rattle.joint.specs.engine.Laws.{CallLaws}
 use Rattle.joint.specs.nodes.Levels.{form_with}
 use Rattle.joint.specs.nodes.Listing.{bytes_of}
@@ -488,7 +489,7 @@ module _ {V : Type 0} (same : V → V → Bool) (always : Bool) where
       pairs_after =
           let x : Counts c.pairs (if d.decided then effect_by (told_or (reply_in moved.now.phase) d.outcome) else Same) (nodes s') =
           answered same old.0.key old.0.kind old.0.given (nodes s) (nodes s') c.pairs known.key c.stand (record { phase = moved.now.phase; report = d }) d.decided keeps.answer in
-          let e : reply_after (slice_get ms' step.who) ≡ reply_in moved.now.phase = ap reply_after here ∙ rested_reply moved.now in
+          let e : reply_at (slice_get ms' step.who) ≡ reply_in moved.now.phase = ap reply_at here ∙ rested_reply moved.now in
           let P : Option (Reply V) → Type 0 = λ o. Counts c.pairs (if d.decided then effect_by (told_or o d.outcome) else Same) (nodes s') in
           subst P (sym e) x
 

@@ -15,6 +15,7 @@ use Rattle.congee.specs.Heap.{Node}
 use Rattle.congee.specs.protocol.Destroys.{Destroys}
 use Rattle.congee.specs.protocol.Filled.{Fills, KeepsFilled}
 use Rattle.congee.specs.protocol.Play.{Settled, begun}
+use Rattle.congee.specs.protocol.State.{is_done}
 use Rattle.joint.specs.declared.engine.in_flight.InFlight.{InFlight}
 use Rattle.joint.specs.declared.engine.in_flight.InFlight.TheVariants.{Idle, Collecting, Reserving, Securing, Walking}
 use Rattle.joint.specs.declared.id.Id.{Id}
@@ -26,7 +27,7 @@ use Rattle.joint.specs.declared.steps.Target.{Target}
 use Rattle.joint.specs.declared.steps.Target.TheVariants as target
 use Rattle.joint.specs.calls.Filling.{NoneSkipped, StaysFilled}
 use Rattle.joint.specs.nodes.Nodes.{Nodes, nodes, Refuses}
-use Rattle.joint.specs.engine.Intact.{is_done, rested, resting, root, secured_machines}
+use Rattle.joint.specs.engine.Intact.{rested, resting, root, secured_machines}
 use Rattle.joint.specs.engine.Laws.{CallLaws, FilledLaws, FillingLaw}
 use Rattle.joint.specs.world.World.{IsNew, Holds, StepsUnless, finds_journal_full}
 use Rattle.joint.specs.Reports.{target}

@@ -22,13 +22,14 @@ use Rattle.congee.specs.protocol.Holdings.{IsMade, TakenBy}
 use Rattle.congee.specs.protocol.Play.{EachKnown, IsMoved, Settled}
 use Rattle.congee.specs.protocol.Protocol.{AlsoOut, Known}
 use Rattle.congee.specs.protocol.Steps.{PhaseStepped, after_retire}
+use Rattle.congee.specs.protocol.State.{is_done, retiring}
 use Rattle.joint.specs.declared.id.Id.{Id}
 use Rattle.joint.specs.engine.Census.{taken_at}
 use Rattle.joint.specs.nodes.Nodes.{Nodes, nodes, Refuses}
-use Rattle.joint.specs.engine.Intact.{is_done, rested, resting}
+use Rattle.joint.specs.engine.Intact.{rested, resting}
 use Rattle.joint.specs.engine.Laws.{CallLaws}
 use Rattle.joint.specs.calls.Leaving.{HandsOver}
-use Rattle.joint.specs.engine.Safety.{IsSafe, Walked, after_walk, retiring, retiring_at}
+use Rattle.joint.specs.engine.Safety.{IsSafe, Walked, after_walk, retiring_at}
 use Rattle.joint.specs.engine.Sound.{Guards, IsSecured, IsUnderWay}
 use Rattle.joint.specs.nodes.View.{id_number}
 use Rattle.joint.proofs.lemmas.world.Flights.{set_at}

@@ -30,6 +30,7 @@ use Rattle.congee.specs.Heap.{Node, Stands}
 use Rattle.congee.specs.protocol.Handing.{InTree, is_waiting}
 use Rattle.congee.specs.protocol.Holdings.{TakenBy}
 use Rattle.congee.specs.protocol.Play.{Flight, Pending, Decided, Over, Unbegun, Scanning, Question, Undecided, ScanTells, Follows, flight_in}
+use Rattle.congee.specs.protocol.State.{is_done}
 use Rattle.joint.specs.declared.engine.in_flight.InFlight.{InFlight}
 use Rattle.joint.specs.declared.engine.in_flight.InFlight.TheVariants.{Idle, Collecting, Reserving, Securing, Walking}
 use Rattle.joint.specs.declared.id.Id.{Id}
@@ -43,7 +44,7 @@ use Rattle.joint.specs.declared.steps.Target.{Target}
 use Rattle.joint.specs.declared.steps.Target.TheVariants as target
 use Rattle.joint.specs.declared.steps.Report.{Report}
 use Rattle.joint.specs.nodes.Nodes.{Nodes, nodes, Refuses}
-use Rattle.joint.specs.engine.Intact.{call_after, is_done, is_reserving, over_at, rested, resting}
+use Rattle.joint.specs.engine.Intact.{call_after, is_reserving, over_at, rested, resting}
 use Rattle.joint.specs.engine.Laws.{CallLaws, LeavesLaw}
 use Rattle.joint.specs.calls.Leaving.{TakesOut, HandsOver, StaysLeft, LeavesRightly, LeftLocked, BeginsAnew, TakesNone, HandsNone, AllLeaveOnce}
 use Rattle.joint.specs.world.World.{IsNew, Holds, IsStep, StepsUnless, FindsJournalFull, finds_journal_full}

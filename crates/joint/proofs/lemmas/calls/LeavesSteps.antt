@@ -28,6 +28,7 @@ use Rattle.congee.specs.protocol.Holdings.{TakenBy}
 use Rattle.congee.specs.protocol.Leaving.{StepLeaves}
 use Rattle.congee.specs.protocol.Play.{Decided, IsMoved, Settled, flight_in}
 use Rattle.congee.specs.protocol.Steps.{PhaseStepped}
+use Rattle.congee.specs.protocol.State.{retiring}
 use Rattle.joint.specs.declared.engine.in_flight.InFlight.{InFlight}
 use Rattle.joint.specs.declared.engine.in_flight.InFlight.TheVariants.{Idle, Collecting, Reserving, Securing, Walking}
 use Rattle.joint.specs.declared.id.Id.{Id}
@@ -40,7 +41,7 @@ use Rattle.joint.specs.nodes.Nodes.{Nodes, nodes, Refuses}
 use Rattle.joint.specs.engine.Intact.{IsAt, rested}
 use Rattle.joint.specs.engine.Laws.{CallLaws, LeavesLaw}
 use Rattle.joint.specs.calls.Leaving.{TakesOut, HandsOver}
-use Rattle.joint.specs.engine.Safety.{after_walk, retiring, retiring_at}
+use Rattle.joint.specs.engine.Safety.{after_walk, retiring_at}
 use Rattle.joint.specs.Reports.{target}
 use Rattle.joint.specs.nodes.View.{id_number}
 use Rattle.joint.specs.world.Whereabouts.{IsTakenBy}

@@ -25,6 +25,7 @@ use Rattle.congee.specs.protocol.Alike.{Ordered, HeapAlike, CallAlike, Longer, M
 use Rattle.congee.specs.protocol.Answers.{Keeps}
 use Rattle.congee.specs.protocol.PlainSteps.{Plain, Went, with_call, call_after as plain_call, plain_step}
 use Rattle.congee.specs.protocol.Play.{begun, EachKnown, ProtocolAt, IsMoved}
+use Rattle.congee.specs.protocol.State.{is_done, is_over}
 use Rattle.joint.specs.declared.engine.in_flight.InFlight.{InFlight}
 use Rattle.joint.specs.declared.engine.in_flight.InFlight.TheVariants.{Idle, Collecting, Reserving, Securing, Walking}
 use Rattle.joint.specs.declared.id.Id.{Id}
@@ -33,7 +34,7 @@ use Rattle.joint.specs.declared.refusal.Refusal.TheVariants.{Exhausted}
 use Rattle.joint.specs.declared.steps.Outcome.TheVariants.{Refused}
 use Rattle.joint.specs.declared.steps.Report.{Report}
 use Rattle.joint.specs.nodes.Nodes.{Nodes, nodes, Refuses}
-use Rattle.joint.specs.engine.Intact.{call_after, secured_call, secured_machines, is_done, is_over, over_at, resting, rested, root}
+use Rattle.joint.specs.engine.Intact.{call_after, secured_call, secured_machines, over_at, resting, rested, root}
 use Rattle.joint.specs.engine.Laws.{NumberLaws}
 use Rattle.joint.specs.engine.Safety.{IsSafe, Collected, Walked}
 use Rattle.joint.specs.calls.Plain.{unnamed, unnamed_seen, IsUnrefused, IsUnhindered, InPlain, Agree}

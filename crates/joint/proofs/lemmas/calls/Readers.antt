@@ -40,6 +40,7 @@ use Rattle.congee.specs.Keys.{key_bytes}
 use Rattle.congee.specs.protocol.Causes.{Causes, IsCause}
 use Rattle.congee.specs.protocol.Play.{IsMoved, begun}
 use Rattle.congee.specs.protocol.Steps.{PhaseStepped, IsIf, IsChecked, after_version, after_read, after_miss, again, answered, refused}
+use Rattle.congee.specs.protocol.State.{is_done}
 use Rattle.joint.specs.declared.engine.in_flight.InFlight.{InFlight}
 use Rattle.joint.specs.declared.engine.in_flight.InFlight.TheVariants.{Idle, Collecting, Reserving, Securing, Walking}
 use Rattle.joint.specs.declared.id.Id.{Id}
@@ -55,7 +56,7 @@ use Rattle.joint.specs.declared.steps.Outcome.TheVariants.{Running, Asks, Found,
 use Rattle.joint.specs.declared.steps.Report.{Report}
 use Rattle.joint.specs.calls.Ends.{RefusesReader, AllRefuseReader, ReadersRefused, is_reading}
 use Rattle.joint.specs.nodes.Nodes.{nodes, Refuses}
-use Rattle.joint.specs.engine.Intact.{IsAt, is_reserving, call_after, over_at, rested, resting, is_done, root}
+use Rattle.joint.specs.engine.Intact.{IsAt, is_reserving, call_after, over_at, rested, resting, root}
 use Rattle.joint.specs.engine.Laws.{ProgressLaws}
 use Rattle.joint.specs.Refusals.{of_fault, of_tree}
 use Rattle.joint.specs.Reports.{collected, told}

@@ -37,6 +37,7 @@ use Rattle.congee.specs.protocol.Handing.{InTree}
 use Rattle.congee.specs.protocol.Holdings.{MadeBy}
 use Rattle.congee.specs.protocol.Leaving.{StepLeaves}
 use Rattle.congee.specs.protocol.Play.{IsMoved, Settled, begun}
+use Rattle.congee.specs.protocol.State.{is_done, retiring}
 use Rattle.joint.specs.declared.engine.in_flight.InFlight.{InFlight}
 use Rattle.joint.specs.declared.engine.in_flight.InFlight.TheVariants.{Idle, Collecting, Reserving, Securing, Walking}
 use Rattle.joint.specs.declared.id.Id.{Id}
@@ -47,9 +48,9 @@ use Rattle.joint.specs.declared.steps.Op.{Op}
 use Rattle.joint.specs.declared.steps.Op.TheVariants as op
 use Rattle.joint.specs.declared.steps.Report.{Report}
 use Rattle.joint.specs.nodes.Nodes.{Nodes, nodes, Refuses}
-use Rattle.joint.specs.engine.Intact.{BeginsSecuring, IsAt, is_done, rested, resting, root, secured_machines}
+use Rattle.joint.specs.engine.Intact.{BeginsSecuring, IsAt, rested, resting, root, secured_machines}
 use Rattle.joint.specs.engine.Laws.{CallLaws, CellLaws, LeavesLaw}
-use Rattle.joint.specs.engine.Safety.{Collected, retiring, retiring_at, after_walk}
+use Rattle.joint.specs.engine.Safety.{Collected, retiring_at, after_walk}
 use Rattle.joint.specs.nodes.Slots.{slot_names}
 use Rattle.joint.specs.NameLemmas.{number_named}
 use Rattle.joint.specs.Names.{named}

@@ -17,6 +17,7 @@ use Rattle.congee.specs.declared.protocol.phase.Phase.{Phase}
 use Rattle.congee.specs.declared.protocol.phase.Phase.TheVariants.{Sweep, Ended}
 use Rattle.congee.specs.declared.protocol.sweep.Sweep.{Sweep as Scan}
 use Rattle.congee.specs.protocol.Play.{Flight, Pending, Decided, Over, Unbegun, Scanning, Question, Unasked, Asked, Replied, Carries, Undecided, Concludes, ScanTells, Follows, ScanFollows, begun, flight, flight_in}
+use Rattle.congee.specs.protocol.State.{is_done, is_past}
 use Rattle.joint.specs.declared.engine.in_flight.InFlight.{InFlight}
 use Rattle.joint.specs.declared.engine.in_flight.InFlight.TheVariants.{Idle, Collecting, Reserving, Securing, Walking}
 use Rattle.joint.specs.declared.id.Id.{Id}
@@ -28,7 +29,7 @@ use Rattle.joint.specs.declared.steps.Report.{Report}
 use Rattle.joint.specs.declared.steps.Step.{Step}
 use Rattle.joint.specs.declared.steps.Target.{Target}
 use Rattle.joint.specs.declared.steps.Target.TheVariants as target
-use Rattle.joint.specs.engine.Intact.{IsAt, is_done, is_past, root}
+use Rattle.joint.specs.engine.Intact.{IsAt, root}
 use Rattle.joint.specs.engine.Journaling.{asks_at}
 use Rattle.joint.specs.Reports.{collected, target, told}
 use Rattle.joint.specs.calls.Runs.{Taken, AreTaken, after_all}

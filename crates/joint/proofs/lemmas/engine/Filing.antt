@@ -30,13 +30,14 @@ use Rattle.congee.specs.protocol.Handing.{is_waiting, HandsNode}
 use Rattle.congee.specs.protocol.Holdings.{TakenBy}
 use Rattle.congee.specs.protocol.Play.{StepPlays, IsMoved}
 use Rattle.congee.specs.protocol.Steps.{PhaseStepped}
+use Rattle.congee.specs.protocol.State.{retiring}
 use Rattle.joint.specs.declared.id.Id.{Id}
 use Rattle.joint.specs.declared.limits.Limits.{Limits}
 use Rattle.joint.specs.declared.nodes.slot.Slot.{Slot}
 use Rattle.joint.specs.engine.Filed.{IsFiled, others, removes}
 use Rattle.joint.specs.nodes.Nodes.{Nodes, nodes, Refuses, with_collector}
 use Rattle.joint.specs.engine.Laws.{CellLaws}
-use Rattle.joint.specs.engine.Safety.{IsSafe, Owes, retiring, retiring_at}
+use Rattle.joint.specs.engine.Safety.{IsSafe, Owes, retiring_at}
 use Rattle.joint.specs.nodes.Slots.{slot_names}
 use Rattle.joint.specs.NameLemmas.{same_name}
 use Rattle.joint.specs.Names.{number}

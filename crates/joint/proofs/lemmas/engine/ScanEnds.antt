@@ -31,10 +31,11 @@ use Rattle.congee.specs.protocol.Holdings.{LockedBy, MadeBy, TakenBy}
 use Rattle.congee.specs.protocol.Play.{Flight, Pending, Decided, Over, Unbegun, Scanning, Question, EachKnown, Settled, Follows, IsOfPoint, Watched, PendingMoves, Undecided, Concludes, ScanTells, flight, value_answered, resolved}
 use Rattle.congee.specs.protocol.Steps.{Stepped, PhaseStepped, outcome_of}
 use Rattle.congee.specs.protocol.SweepSteps.{whole, Swung, SweptAt, over, anew, left, left_to, last_of, filled, entered, begins, IsFollowed, is_outside}
+use Rattle.congee.specs.protocol.State.{is_past, is_done, is_over}
 use Rattle.joint.specs.declared.id.Id.{Id}
 use Rattle.joint.specs.nodes.Nodes.{Nodes}
 use Rattle.joint.specs.nodes.Heap.{heap_of}
-use Rattle.joint.specs.engine.Intact.{is_past, is_done, is_over, resting, rested, cleared, cleared_at}
+use Rattle.joint.specs.engine.Intact.{resting, rested, cleared, cleared_at}
 use Rattle.joint.specs.engine.Safety.{IsSafe}
 use Rattle.joint.specs.nodes.Slots.{slot_names}
 use Rattle.joint.specs.engine.Sound.{IsUnderWay, most_left}

@@ -15,12 +15,13 @@ use Rattle.congee.specs.declared.protocol.phase.Phase.TheVariants.{New, Ended}
 use Rattle.congee.specs.protocol.Holdings.{MadeBy}
 use Rattle.congee.specs.protocol.Names.{names}
 use Rattle.congee.specs.protocol.Play.{begun, first_phase, parts, IsNew}
+use Rattle.congee.specs.protocol.State.{is_done}
 use Rattle.joint.specs.declared.engine.in_flight.InFlight.{InFlight}
 use Rattle.joint.specs.declared.engine.in_flight.InFlight.TheVariants.{Idle, Walking}
 use Rattle.joint.specs.declared.id.Id.{Id}
 use Rattle.joint.specs.nodes.Nodes.{Nodes}
 use Rattle.joint.specs.nodes.Heap.{heap_of}
-use Rattle.joint.specs.engine.Intact.{IsAt, IsIntact, MayStart, is_done, root}
+use Rattle.joint.specs.engine.Intact.{IsAt, IsIntact, MayStart, root}
 use Rattle.joint.specs.engine.Laws.{CallLaws}
 use Rattle.joint.specs.nodes.Slots.{slot_names}
 use Rattle.joint.specs.engine.Sound.{IsUnderWay, IsSecured, Guards}

@@ -25,11 +25,12 @@ use Rattle.congee.specs.protocol.Names.{name_made, names}
 use Rattle.congee.specs.protocol.Play.{EachKnown, Protocol, IsMoved, StepPlays, Settled}
 use Rattle.congee.specs.protocol.Protocol.{Known, TakenOut}
 use Rattle.congee.specs.protocol.Steps.{PhaseStepped, after_retire}
+use Rattle.congee.specs.protocol.State.{retiring}
 use Rattle.joint.specs.declared.id.Id.{Id}
 use Rattle.joint.specs.declared.nodes.slot.Slot.{Slot}
 use Rattle.joint.specs.nodes.Nodes.{Nodes, nodes, frame, Refuses}
 use Rattle.joint.specs.engine.Laws.{CellLaws, CallLaws, LeavesLaw}
-use Rattle.joint.specs.engine.Safety.{IsSound, IsSafe, Runs, retiring, retiring_at, Owes, IsSafeOrOwes}
+use Rattle.joint.specs.engine.Safety.{IsSound, IsSafe, Runs, retiring_at, Owes, IsSafeOrOwes}
 use Rattle.joint.specs.nodes.Slots.{slot_names}
 use Rattle.joint.specs.engine.Sound.{IsSecured, Guards}
 use Rattle.joint.specs.nodes.View.{view, heap, id_number}

@@ -13,12 +13,13 @@ use Rattle.congee.specs.declared.protocol.machine.Move.{Move}
 use Rattle.congee.specs.declared.protocol.phase.Phase.{Phase}
 use Rattle.congee.specs.declared.protocol.phase.Phase.TheVariants.{Ended}
 use Rattle.congee.specs.protocol.Play.{IsMoved}
+use Rattle.congee.specs.protocol.State.{is_done, is_over}
 use Rattle.joint.specs.declared.engine.in_flight.InFlight.{InFlight}
 use Rattle.joint.specs.declared.engine.in_flight.InFlight.TheVariants.{Idle, Walking}
 use Rattle.joint.specs.declared.id.Id.{Id}
 use Rattle.joint.specs.declared.nodes.slot.Slot.{Slot}
 use Rattle.joint.specs.nodes.Nodes.{Nodes, nodes, Refuses}
-use Rattle.joint.specs.engine.Intact.{IsAt, IsIntact, WalkedOn, cleared, cleared_at, is_done, is_over, over_at, rested, resting}
+use Rattle.joint.specs.engine.Intact.{IsAt, IsIntact, WalkedOn, cleared, cleared_at, over_at, rested, resting}
 use Rattle.joint.specs.engine.Laws.{CallLaws}
 use Rattle.joint.specs.engine.Safety.{IsSafe, Runs, retiring_at, after_walk, Walked}
 use Rattle.joint.specs.engine.Sound.{IsUnderWay}

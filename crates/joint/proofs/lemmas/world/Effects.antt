@@ -15,6 +15,7 @@ use Rattle.congee.specs.declared.protocol.phase.Kind.{Kind}
 use Rattle.congee.specs.declared.protocol.phase.Kind.TheVariants as kind
 use Rattle.congee.specs.protocol.Play.{Flight, Pending, Decided, Over, Unbegun, Scanning, Question, value_answered, resolved, Concludes}
 use Rattle.congee.specs.protocol.Protocol.{IsCall}
+use Rattle.congee.specs.protocol.State.{may_write}
 use Rattle.joint.specs.declared.id.Id.{Id}
 use Rattle.joint.specs.declared.engine.request.Request.{Request}
 use Rattle.joint.specs.declared.steps.Event.{Event}
@@ -24,7 +25,7 @@ use Rattle.joint.specs.declared.steps.Outcome.TheVariants.{Running, Asks, Found,
 use Rattle.joint.specs.declared.steps.Target.{Target}
 use Rattle.joint.specs.declared.steps.Target.TheVariants as target
 use Rattle.joint.specs.engine.Intact.{is_reserving}
-use Rattle.joint.specs.engine.Journaling.{HasAnswer, call_of, entry_of, has_place, may_write, places_of, reply_by, with_call}
+use Rattle.joint.specs.engine.Journaling.{HasAnswer, call_of, entry_of, has_place, places_of, reply_by, with_call}
 use Rattle.joint.specs.engine.Log.{counted, has_room, request_at}
 use Rattle.joint.specs.Reports.{target, told}
 use Rattle.joint.specs.world.MapSteps.{looks_up, EventMap, GoMap, PendingStep, TakesEffect, BeginMap, BeginsOr, Stays, Line}

@@ -14,11 +14,13 @@ use Rattle.congee.specs.declared.protocol.op.Op.TheVariants as point
 use Rattle.congee.specs.declared.protocol.phase.Kind.{Kind}
 use Rattle.congee.specs.declared.protocol.sweep.Sweep.{Sweep as Scan}
 use Rattle.congee.specs.protocol.Play.{Flight, Pending, Decided, Over, Unbegun, Scanning, Question, value_answered, resolved, Undecided, Concludes, ScanTells, ScanFollows, Follows, begun, flight}
+use Rattle.congee.specs.protocol.State.{is_asking, is_pending, may_write}
+use Rattle.congee.specs.protocol.Answers.{reply_in}
 use Rattle.joint.specs.declared.engine.in_flight.InFlight.{InFlight}
 use Rattle.joint.specs.declared.engine.in_flight.InFlight.TheVariants.{Idle, Collecting, Reserving, Securing, Walking}
 use Rattle.joint.specs.declared.id.Id.{Id}
 use Rattle.joint.specs.engine.Intact.{IsAt, is_reserving, root, writes}
-use Rattle.joint.specs.engine.Journaling.{asks_at, has_place, is_asking, is_pending, is_writing, may_write, reply_at, reply_in}
+use Rattle.joint.specs.engine.Journaling.{asks_at, has_place, is_writing, reply_at}
 use Rattle.joint.specs.world.MapSteps.{GoMap, PendingStep, Line}
 use Rattle.joint.specs.engine.Flying.{Flights, IsInFlight, AreInFlight, with_flight}
 use Rattle.joint.specs.engine.Engine.{World, EngineHolds, place_of}

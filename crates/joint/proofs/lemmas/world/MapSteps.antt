@@ -37,6 +37,7 @@ use Rattle.congee.specs.protocol.Sweeps.{IsScan}
 use Rattle.congee.specs.Heap.{Node}
 use Rattle.congee.specs.Keys.{IsMapOf, key_bytes}
 use Rattle.congee.specs.protocol.Play.{Flight, Pending, Decided, Over, Unbegun, Scanning, Question, Unasked, value_answered, resolved, begun, parts, flight, Follows, Following, Watched, WatchedAt, PendingMoves}
+use Rattle.congee.specs.protocol.State.{is_over}
 use Rattle.joint.specs.declared.engine.in_flight.InFlight.{InFlight}
 use Rattle.joint.specs.declared.engine.in_flight.InFlight.TheVariants.{Idle, Collecting, Reserving, Securing, Walking}
 use Rattle.joint.specs.declared.id.Id.{Id}
@@ -51,7 +52,7 @@ use Rattle.joint.specs.declared.steps.Report.{Report}
 use Rattle.joint.specs.declared.steps.Target.{Target}
 use Rattle.joint.specs.declared.steps.Target.TheVariants as target
 use Rattle.joint.specs.nodes.Nodes.{nodes, Refuses}
-use Rattle.joint.specs.engine.Intact.{IsAt, IsIntact, call_after, secured_call, secured_machines, is_over, over_at, rested, root, writes}
+use Rattle.joint.specs.engine.Intact.{IsAt, IsIntact, call_after, secured_call, secured_machines, over_at, rested, root, writes}
 use Rattle.joint.specs.Refusals.{of_fault}
 use Rattle.joint.specs.Reports.{target, told}
 use Rattle.joint.specs.engine.Surveys.{MapTells}

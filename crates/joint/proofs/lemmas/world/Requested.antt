@@ -16,13 +16,15 @@ use Rattle.congee.specs.declared.protocol.phase.Phase.{Phase}
 use Rattle.congee.specs.declared.protocol.phase.Phase.TheVariants as phase
 use Rattle.congee.specs.protocol.Play.{Flight, Pending, Decided, Question, Unasked, Asked, Replied, Heeds, value_answered, resolved, after_none, Carries, Undecided, parts, flight_in, heeding, begun, flight}
 use Rattle.congee.specs.protocol.Protocol.{Asking, IsCall}
+use Rattle.congee.specs.protocol.State.{is_asking, is_pending, may_write}
+use Rattle.congee.specs.protocol.Answers.{reply_in}
 use Rattle.joint.specs.declared.id.Id.{Id}
 use Rattle.joint.specs.declared.engine.request.Request.{Request}
 use Rattle.joint.specs.declared.steps.Op.{Op}
 use Rattle.joint.specs.declared.steps.Op.TheVariants.{Get, Insert, Remove, ComputePresent, ComputeInsert, Exchange, Range, RangeInclusive}
 use Rattle.joint.specs.declared.steps.Target.TheVariants.{Tree}
 use Rattle.joint.specs.engine.Intact.{root}
-use Rattle.joint.specs.engine.Journaling.{HasAnswer, call_of, is_asking, is_pending, may_write, reply_in}
+use Rattle.joint.specs.engine.Journaling.{HasAnswer, call_of}
 use Rattle.joint.specs.engine.Log.{asked, with_answer, answered_if}
 use Rattle.joint.specs.Reports.{target}
 use Rattle.joint.specs.world.World.{value_of, IsOnKey, IsRequestOf, IsQuestionOf, IsAsked}

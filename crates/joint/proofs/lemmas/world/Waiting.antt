@@ -1,11 +1,10 @@
 -- The nodes that wait are those that were handed over and those that a call has taken out, each listed once.
-use Rattle.std.proofs.Common.{◌≡◌, ◌≢◌, ℕ, ◌+◌, ◌&&◌, not, Bool, true, false, List, length, arith, refl, sym, ◌∙◌, ap, inl, inr}
+use Rattle.std.proofs.Common.{◌≡◌, ◌≢◌, ℕ, ◌+◌, ◌&&◌, not, Bool, true, false, List, length, arith, refl, sym, ◌∙◌, ap, subst, inl, inr}
 use Rattle.std.specs.Prelude.{Option, None, Some, IfSome, is_some, slice_get, ◌<◌, zero, suc, [], ◌∷◌, ◌⊎◌, map}
 use Rattle.std.specs.List.{All, AllPairs, Contains, flat_map, sum_by}
 use Rattle.std.proofs.lemmas.Bool.{false≢true}
 use Rattle.std.proofs.lemmas.List.Kept.{AllPairs-cons}
 use Rattle.std.proofs.lemmas.List.Elements.{Contains-append_cases, Contains-append_left, Contains-append_right}
-use Rattle.judge.specs.declared.journal.Reply.{Reply}
 use Rattle.congee.specs.declared.protocol.machine.Machine.{Machine}
 use Rattle.congee.specs.declared.protocol.phase.Kind.{Kind}
 use Rattle.congee.specs.declared.protocol.phase.Phase.{Phase}
@@ -22,16 +21,17 @@ use Rattle.joint.specs.declared.nodes.slot.Slot.{Slot}
 use Rattle.crossbeam_epoch.specs.declared.names.Name.{Name}
 use Rattle.crossbeam_epoch.specs.World.Store.{value_at}
 use Rattle.congee.specs.forms.Forms.{size_of}
+use Rattle.congee.specs.protocol.State.{taken}
 use Rattle.joint.specs.declared.engine.in_flight.InFlight.{InFlight}
 use Rattle.joint.specs.declared.nodes.counts.Counts.{Counts}
 use Rattle.joint.specs.engine.Intact.{IsIntact}
 use Rattle.joint.specs.Names.{number}
 use Rattle.joint.specs.nodes.CellMarks.{mark_at}
 use Rattle.joint.specs.nodes.Nodes.{Nodes, nodes, sizes, IsKept}
-use Rattle.joint.specs.engine.Journaling.{in_list}
+use Rattle.std.specs.Option.{option_to_list}
 use Rattle.joint.specs.engine.Laws.{CallLaws}
 use Rattle.joint.specs.nodes.Listing.{IsListOf, bytes_of, is_standing, standing_nodes, handed_nodes}
-use Rattle.joint.specs.engine.Census.{waiting_nodes, taken_by, taken}
+use Rattle.joint.specs.engine.Census.{waiting_nodes, taken_by}
 use Rattle.joint.specs.nodes.View.{view, id_number}
 use Rattle.joint.specs.world.Whereabouts.{IsWaiting, IsTakenBy}
 use Rattle.joint.specs.world.World.{Holds}
@@ -116,15 +116,15 @@ joined true false d a b c = absurd (cc b)
 joined false m d a b c = absurd (cc a)
 
 -- a node, and another one where there is one, as a list
-listed_out : (m : Id) (next : Option Id) (n : ℕ) → Contains (map id_number (m ∷ in_list next)) n → (n ≡ id_number m) ⊎ IsMade id_number next n
+listed_out : (m : Id) (next : Option Id) (n : ℕ) → Contains (map id_number (m ∷ option_to_list next)) n → (n ≡ id_number m) ⊎ IsMade id_number next n
 listed_out m None n (zero, l, e) = inl (sym e)
 listed_out m None n (suc k, l, e) = absurd (let z : suc k < 1 = l in omega (arith, z))
 listed_out m (Some c) n (zero, l, e) = inl (sym e)
 listed_out m (Some c) n (suc zero, l, e) = inr (sym e)
 listed_out m (Some c) n (suc (suc k), l, e) = absurd (let z : suc (suc k) < 2 = l in omega (arith, z))
 
-out_listed : (m : Id) (next : Option Id) (n : ℕ) → (n ≡ id_number m) ⊎ IsMade id_number next n → Contains (map id_number (m ∷ in_list next)) n
-out_listed m next n (inl e) = (0, (let l : 0 < suc (length (map id_number (in_list next))) = omega arith in l), sym e)
+out_listed : (m : Id) (next : Option Id) (n : ℕ) → (n ≡ id_number m) ⊎ IsMade id_number next n → Contains (map id_number (m ∷ option_to_list next)) n
+out_listed m next n (inl e) = (0, (let l : 0 < suc (length (map id_number (option_to_list next))) = omega arith in l), sym e)
 out_listed m None n (inr e) = absurd e
 out_listed m (Some c) n (inr e) = (1, (let l : 1 < 2 = omega arith in l), sym e)
 
@@ -140,6 +140,10 @@ is_taken (Obsolete m next p r) n t = out_listed m next n t
 is_taken (Retire m next p r) n t = out_listed m next n t
 is_taken _ n t = absurd t
 
+-- a call has taken out the one, and the other where there is one, that it tells
+pub told_taken : {V : Type 0} (x : Phase Id V) (m : Id) (next : Option Id) → taken x ≡ m ∷ option_to_list next → (n : ℕ) → (n ≡ id_number m) ⊎ IsMade id_number next n → TakenBy id_number x n
+told_taken x m next e n t = let P : List Id → Type 0 = λ ts. Contains (map id_number ts) n in taken_is x n (subst P (sym e) (out_listed m next n t))
+
 -- each once
 lone : (x : ℕ) → AllPairs (λ m n. m ≢ n) (x ∷ [])
 lone x i j d l m = absurd (let z : j < 1 = m in omega (arith, l, z))
@@ -148,7 +152,7 @@ beside : (x y : ℕ) → (y ≢ x) → All (λ n. x ≢ n) (y ∷ [])
 beside x y ne zero d l e = ne (sym e)
 beside x y ne (suc k) d l e = absurd (let z : suc k < 1 = l in omega (arith, z))
 
-out_once : {V : Type 0} (i : ℕ) (a : ℕ → Note) (h : ℕ → Node V) (m : Id) (next : Option Id) → AlsoOut id_number i a h (id_number m) next → AllPairs (λ m n. m ≢ n) (map id_number (m ∷ in_list next))
+out_once : {V : Type 0} (i : ℕ) (a : ℕ → Note) (h : ℕ → Node V) (m : Id) (next : Option Id) → AlsoOut id_number i a h (id_number m) next → AllPairs (λ m n. m ≢ n) (map id_number (m ∷ option_to_list next))
 out_once i a h m None x = lone (id_number m)
 out_once i a h m (Some c) x = AllPairs-cons (λ m n. m ≢ n) (id_number m) (id_number c ∷ []) (beside (id_number m) (id_number c) x.3) (lone (id_number c))
 
@@ -170,12 +174,6 @@ module _ {V : Type 0} (same : V → V → Bool) (always : Bool) (s : Nodes V) (m
   pub both_stand : (i : ℕ) (m : Machine Id V) (n : Id) (next : Option Id) → slice_get ms i ≡ Some m → ((k : ℕ) → (k ≡ id_number n) ⊎ IsMade id_number next k → TakenBy id_number m.phase k) → Stands (nodes s (id_number n)) × IfSome next (λ c. Stands (nodes s (id_number c)))
   both_stand i m n None at t = (taken_stands i m (id_number n) at (t (id_number n) (inl refl)), tt)
   both_stand i m n (Some c) at t = (taken_stands i m (id_number n) at (t (id_number n) (inl refl)), taken_stands i m (id_number c) at (t (id_number c) (inr refl)))
-
--- a call in another phase has taken out none
-pub none_taken : {V : Type 0} (p : Phase Id V) → ((n : Id) (next : Option Id) (q : Id) (r : Reply V) → p ≡ Obsolete n next q r → ⊥) → ((n : Id) (next : Option Id) (q : Id) (r : Reply V) → p ≡ Retire n next q r → ⊥) → taken p ≡ []
-none_taken (Obsolete n next q r) f g = absurd (f n next q r refl)
-none_taken (Retire n next q r) f g = absurd (g n next q r refl)
-none_taken _ f g = refl
 
 module _ {V : Type 0} (same : V → V → Bool) (always : Bool) (laws : CallLaws {C = Id} {V = V} id_number same always) (s : World V) (holds : Holds same always s) where
   abbrev settled : Settled id_number same always (nodes s.forest) s.machines

@@ -1,6 +1,7 @@
 use Rattle.std.proofs.Common.{◌≡◌, Bool, true, false, refl, ◌∙◌, sym, ap}
 use Rattle.std.specs.Prelude.{slice_get, ◌&&◌}
-use Rattle.joint.specs.engine.Journaling.{is_pending, is_writing}
+use Rattle.congee.specs.protocol.State.{is_pending}
+use Rattle.joint.specs.engine.Journaling.{is_writing}
 use Rattle.joint.proofs.lemmas.nodes.TableLookups.{found_at, found_none}
 use Rattle.joint.proofs.engine.Engine.is_writing.Goals as goal
 
