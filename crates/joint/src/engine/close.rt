@@ -5,6 +5,7 @@ ghost use Rattle.crossbeam_epoch.specs.World.Ending.{registered_in};
 ghost use Rattle.joint.specs.engine.Closing.{IsClosed};
 ghost use Rattle.joint.specs.engine.Intact.{IsIntact};
 ghost use Rattle.joint.specs.engine.Engine.{without_log};
+ghost use Rattle.joint.specs.engine.State.{state_of, EngineIntact};
 
 use crate::engine::Engine;
 use congee::{Allocator, Drainer, Payload, Small};
@@ -12,7 +13,7 @@ use congee::{Allocator, Drainer, Payload, Small};
 impl<P: Payload + Small, A: Allocator> Engine<P, A> {
     /// How many workers are registered.
     pub(crate) fn registered(&self) -> u32
-        requires { IsIntact P.same_as P.always_copies self.now.nodes self.now.machines.items self.now.calls.items }
+        requires { EngineIntact P.same_as P.always_copies (state_of self.now) }
         ensures { result ≡ registered_in self.now.nodes.collector }
     {
         let mut registered = 0;
