@@ -10,4 +10,5 @@ pub mod Laws
 pub mod Log
 pub mod Safety
 pub mod Sound
+pub mod State
 pub mod Surveys

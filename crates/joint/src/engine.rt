@@ -17,18 +17,18 @@ ghost use Rattle.std.specs.Prelude.{◌≡◌, ◌<◌, ℕ, List, Option, Some,
 ghost use Rattle.crossbeam_epoch.specs.declared.bag.Work.{Work};
 ghost use Rattle.crossbeam_epoch.specs.World.Machine.{deferred, place};
 ghost use Rattle.congee.specs.protocol.Play.{StepPlays, IsNew, begun};
-ghost use Rattle.joint.specs.engine.Census.{AreCounted};
 ghost use Rattle.joint.specs.nodes.Nodes.{nodes, frame, Refuses, with_collector};
-ghost use Rattle.joint.specs.engine.Intact.{IsIntact, IsSecuring, MayStart, BeginsSecuring, Secured, WalkedOn, call_after, cleared, is_reserving, resting, over_at, root, writes};
+ghost use Rattle.joint.specs.engine.Intact.{IsSecuring, MayStart, BeginsSecuring, Secured, WalkedOn, call_after, cleared, is_reserving, resting, over_at, root, writes};
 ghost use Rattle.joint.specs.engine.Laws.{CellLaws, CallLaws, ProgressLaws};
 ghost use Rattle.joint.specs.declared.engine.in_flight.InFlight.TheVariants as InFlight;
 ghost use Rattle.crossbeam_epoch.specs.declared.world.report.Event.TheVariants as Event;
 ghost use Rattle.joint.specs.nodes.Opening.{IsOpened, IsUnopened};
-ghost use Rattle.joint.specs.engine.Engine.{IsFresh, without_log, EngineHolds, is_in_flight};
+ghost use Rattle.joint.specs.engine.Engine.{IsFresh, EngineHolds, is_in_flight};
 ghost use Rattle.joint.specs.Reports.{told};
 ghost use Rattle.joint.specs.nodes.View.{id_number};
 ghost use Rattle.joint.specs.engine.Safety.{IsSafe, Rests, Runs, Owes, IsSafeOrOwes, Walked, Collected, retiring_at};
 ghost use Rattle.joint.specs.nodes.Slots.{slot_names};
+ghost use Rattle.joint.specs.engine.State.{state_of, EngineIntact, EngineCounted, EngineSafe};
 
 use crate::engine::census::Census;
 use crate::engine::in_flight::InFlight;
@@ -179,7 +179,7 @@ pub struct Engine<P: Payload + Small, A: Allocator> {
 impl<P: Payload + Small, A: Allocator> Engine<P, A> {
     /// An index with a root alone, and a place for each worker there may be. Refused as `Nodes::new` refuses, and as Memory.
     pub(crate) fn new(alloc: Global, limits: Limits, allocator: A) -> Result<Self, Refusal>
-        ensures { MatchResult result (λ e. IsOpened limits (A.charged_of allocator) (A.limit_of allocator) e.nodes × EngineHolds P.same_as P.always_copies (without_log e.nodes e.machines.items e.calls.items) × IsFresh (without_log e.nodes e.machines.items e.calls.items) × AreCounted e.census e.nodes e.machines.items) (λ e. IsUnopened limits (A.charged_of allocator) (A.limit_of allocator) e) }
+        ensures { MatchResult result (λ e. IsOpened limits (A.charged_of allocator) (A.limit_of allocator) e.nodes × EngineHolds P.same_as P.always_copies (state_of e) × IsFresh (state_of e) × EngineCounted e.census (state_of e)) (λ e. IsUnopened limits (A.charged_of allocator) (A.limit_of allocator) e) }
     {
         cell_laws::<P>();
         call_laws::<P>();
@@ -203,7 +203,7 @@ impl<P: Payload + Small, A: Allocator> Engine<P, A> {
 
     /// One step of the collector, of a worker without a call on the tree: the pairs stay, and no node goes that a call has.
     fn collect(&mut self, who: usize, event: Event) -> Report
-        requires safe { IsSafe P.same_as P.always_copies self.old.nodes self.old.machines.items }
+        requires safe { EngineSafe P.same_as P.always_copies (state_of self.old) }
         requires rests { Rests self.old.machines.items who }
         ensures collected { Collected P.same_as P.always_copies self.old.nodes self.old.machines.items who event result self.new.nodes }
         ensures machines { self.new.machines ≡ self.old.machines }
@@ -218,7 +218,7 @@ impl<P: Payload + Small, A: Allocator> Engine<P, A> {
     /// Defers the destruction of the node that a worker has just marked, into a place that it had secured.
     fn hand_over(&mut self, who: usize, node: Id)
         requires { Owes P.same_as P.always_copies self.old.nodes self.old.machines.items who node }
-        ensures safe { IsSafe P.same_as P.always_copies self.new.nodes self.new.machines.items }
+        ensures safe { EngineSafe P.same_as P.always_copies (state_of self.new) }
         ensures state { self.new.nodes ≡ with_collector self.old.nodes (deferred self.old.nodes.collector who (Work.Remove node.name)) }
         ensures machines { self.new.machines ≡ self.old.machines }
         ensures calls { self.new.calls ≡ self.old.calls }
@@ -236,7 +236,7 @@ impl<P: Payload + Small, A: Allocator> Engine<P, A> {
     /// One step of a worker's call on the tree.
     #[inline(always)]
     fn walk(&mut self, who: usize, noise: Noise<Id, P>) -> Move<P>
-        requires safe { IsSafe P.same_as P.always_copies self.old.nodes self.old.machines.items }
+        requires safe { EngineSafe P.same_as P.always_copies (state_of self.old) }
         requires runs { Runs self.old.machines.items who }
         ensures walked { Walked P.same_as P.always_copies self.old.nodes self.old.machines.items (record { who = who; noise = noise }) result self.new.nodes self.new.machines.items }
         ensures calls { self.new.calls ≡ self.old.calls }
@@ -264,9 +264,9 @@ impl<P: Payload + Small, A: Allocator> Engine<P, A> {
 
     /// Begins a call on the collector.
     pub(crate) fn begin_collecting(&mut self, who: usize, op: crossbeam_epoch::Op) -> Report
-        requires intact { IsIntact P.same_as P.always_copies self.old.nodes self.old.machines.items self.old.calls.items }
+        requires intact { EngineIntact P.same_as P.always_copies (state_of self.old) }
         requires idle { slice_get self.old.calls.items who ≡ Some InFlight.Idle }
-        ensures intact { IsIntact P.same_as P.always_copies self.new.nodes self.new.machines.items self.new.calls.items }
+        ensures intact { EngineIntact P.same_as P.always_copies (state_of self.new) }
         ensures collected { Collected P.same_as P.always_copies self.old.nodes self.old.machines.items who (Event.Begin op) result self.new.nodes }
         ensures calls { self.new.calls.items ≡ slice_set self.old.calls.items who (call_after result.outcome (InFlight.Collecting op)) }
         ensures machines { self.new.machines ≡ self.old.machines }
@@ -280,9 +280,9 @@ impl<P: Payload + Small, A: Allocator> Engine<P, A> {
 
     /// The next step of a call on the collector.
     pub(crate) fn go_collecting(&mut self, who: usize, op: crossbeam_epoch::Op) -> Report
-        requires intact { IsIntact P.same_as P.always_copies self.old.nodes self.old.machines.items self.old.calls.items }
+        requires intact { EngineIntact P.same_as P.always_copies (state_of self.old) }
         requires on { slice_get self.old.calls.items who ≡ Some (InFlight.Collecting op) }
-        ensures intact { IsIntact P.same_as P.always_copies self.new.nodes self.new.machines.items self.new.calls.items }
+        ensures intact { EngineIntact P.same_as P.always_copies (state_of self.new) }
         ensures collected { Collected P.same_as P.always_copies self.old.nodes self.old.machines.items who Event.Go result self.new.nodes }
         ensures calls { self.new.calls.items ≡ slice_set self.old.calls.items who (call_after result.outcome (InFlight.Collecting op)) }
         ensures machines { self.new.machines ≡ self.old.machines }
@@ -296,10 +296,10 @@ impl<P: Payload + Small, A: Allocator> Engine<P, A> {
 
     /// Begins a call on the tree in the place of a worker who may.
     pub(crate) fn start(&mut self, who: usize, op: Op<P>)
-        requires intact { IsIntact P.same_as P.always_copies self.old.nodes self.old.machines.items self.old.calls.items }
+        requires intact { EngineIntact P.same_as P.always_copies (state_of self.old) }
         requires idle { slice_get self.old.calls.items who ≡ Some InFlight.Idle }
         requires may { MayStart self.old.nodes.collector who op }
-        ensures intact { IsIntact P.same_as P.always_copies self.new.nodes self.new.machines.items self.new.calls.items }
+        ensures intact { EngineIntact P.same_as P.always_copies (state_of self.new) }
         ensures nodes { self.new.nodes ≡ self.old.nodes }
         ensures machines { self.new.machines.items ≡ slice_set self.old.machines.items who (begun root op) }
         ensures calls { self.new.calls.items ≡ slice_set self.old.calls.items who InFlight.Walking }
@@ -338,12 +338,12 @@ impl<P: Payload + Small, A: Allocator> Engine<P, A> {
 
     /// Begins a writing call in the place of a pinned worker: it takes no step yet.
     pub(crate) fn reserve(&mut self, who: usize, op: Op<P>)
-        requires intact { IsIntact P.same_as P.always_copies self.old.nodes self.old.machines.items self.old.calls.items }
+        requires intact { EngineIntact P.same_as P.always_copies (state_of self.old) }
         requires idle { slice_get self.old.calls.items who ≡ Some InFlight.Idle }
         requires registered { (place self.old.nodes.collector who).registered ≡ true }
         requires pinned { is_some (place self.old.nodes.collector who).word ≡ true }
         requires writes { writes op ≡ true }
-        ensures intact { IsIntact P.same_as P.always_copies self.new.nodes self.new.machines.items self.new.calls.items }
+        ensures intact { EngineIntact P.same_as P.always_copies (state_of self.new) }
         ensures nodes { self.new.nodes ≡ self.old.nodes }
         ensures machines { self.new.machines ≡ self.old.machines }
         ensures calls { self.new.calls.items ≡ slice_set self.old.calls.items who (InFlight.Reserving op) }
@@ -365,9 +365,9 @@ impl<P: Payload + Small, A: Allocator> Engine<P, A> {
 
     /// Ends a writing call that has taken no step.
     pub(crate) fn abandon(&mut self, who: usize)
-        requires intact { IsIntact P.same_as P.always_copies self.old.nodes self.old.machines.items self.old.calls.items }
+        requires intact { EngineIntact P.same_as P.always_copies (state_of self.old) }
         requires on { is_reserving (slice_get self.old.calls.items who) ≡ true }
-        ensures intact { IsIntact P.same_as P.always_copies self.new.nodes self.new.machines.items self.new.calls.items }
+        ensures intact { EngineIntact P.same_as P.always_copies (state_of self.new) }
         ensures nodes { self.new.nodes ≡ self.old.nodes }
         ensures machines { self.new.machines ≡ self.old.machines }
         ensures calls { self.new.calls.items ≡ slice_set self.old.calls.items who InFlight.Idle }
@@ -378,7 +378,7 @@ impl<P: Payload + Small, A: Allocator> Engine<P, A> {
 
     /// A writing call begins to make places free for the nodes that it may hand over, in its first step.
     pub(crate) fn begin_securing(&mut self, who: usize)
-        requires intact { IsIntact P.same_as P.always_copies self.old.nodes self.old.machines.items self.old.calls.items }
+        requires intact { EngineIntact P.same_as P.always_copies (state_of self.old) }
         requires on { is_reserving (slice_get self.old.calls.items who) ≡ true }
         ensures begins { BeginsSecuring P.same_as P.always_copies self.old.nodes self.old.machines.items self.old.calls.items who self.new.nodes self.new.machines.items self.new.calls.items }
         ensures census { self.new.census ≡ self.old.census }
@@ -393,7 +393,7 @@ impl<P: Payload + Small, A: Allocator> Engine<P, A> {
 
     /// The next step of a writing call that makes its places free; after the last one the call on the tree begins.
     pub(crate) fn go_securing(&mut self, who: usize) -> Report
-        requires intact { IsIntact P.same_as P.always_copies self.old.nodes self.old.machines.items self.old.calls.items }
+        requires intact { EngineIntact P.same_as P.always_copies (state_of self.old) }
         requires on { IsSecuring (slice_get self.old.calls.items who) }
         ensures secured { Secured P.same_as P.always_copies self.old.nodes self.old.machines.items self.old.calls.items who result self.new.nodes self.new.machines.items self.new.calls.items }
         ensures census { self.new.census ≡ self.old.census }
@@ -440,9 +440,9 @@ impl<P: Payload + Small, A: Allocator> Engine<P, A> {
     /// The next step of a call on the tree.
     #[inline(always)]
     pub(crate) fn go_walking(&mut self, who: usize, noise: Noise<Id, P>) -> Move<P>
-        requires intact { IsIntact P.same_as P.always_copies self.old.nodes self.old.machines.items self.old.calls.items }
+        requires intact { EngineIntact P.same_as P.always_copies (state_of self.old) }
         requires on { slice_get self.old.calls.items who ≡ Some InFlight.Walking }
-        ensures intact { IsIntact P.same_as P.always_copies self.new.nodes self.new.machines.items self.new.calls.items }
+        ensures intact { EngineIntact P.same_as P.always_copies (state_of self.new) }
         ensures walked { WalkedOn P.same_as P.always_copies self.old.nodes self.old.machines.items (record { who = who; noise = noise }) result self.new.nodes self.new.machines.items }
         ensures calls { self.new.calls.items ≡ slice_set self.old.calls.items who (if over_at (slice_get self.new.machines.items who) then InFlight.Idle else InFlight.Walking) }
         ensures census { self.new.census ≡ self.old.census }

@@ -4,7 +4,7 @@ ghost use Rattle.std.specs.Prelude.{◌≡◌};
 ghost use Rattle.crossbeam_epoch.specs.World.Ending.{registered_in};
 ghost use Rattle.joint.specs.engine.Closing.{IsClosed};
 ghost use Rattle.joint.specs.engine.Intact.{IsIntact};
-ghost use Rattle.joint.specs.engine.Engine.{without_log};
+ghost use Rattle.joint.specs.engine.State.{state_of, EngineIntact};
 
 use crate::engine::Engine;
 use congee::{Allocator, Drainer, Payload, Small};
@@ -12,7 +12,7 @@ use congee::{Allocator, Drainer, Payload, Small};
 impl<P: Payload + Small, A: Allocator> Engine<P, A> {
     /// How many workers are registered.
     pub(crate) fn registered(&self) -> u32
-        requires { IsIntact P.same_as P.always_copies self.now.nodes self.now.machines.items self.now.calls.items }
+        requires { EngineIntact P.same_as P.always_copies (state_of self.now) }
         ensures { result ≡ registered_in self.now.nodes.collector }
     {
         let mut registered = 0;
@@ -30,7 +30,7 @@ impl<P: Payload + Small, A: Allocator> Engine<P, A> {
         requires intact { IsIntact P.same_as P.always_copies self.nodes self.machines.items self.calls.items }
         requires no_worker { registered_in self.nodes.collector ≡ 0 }
         requires ready { D.can_drain drainer }
-        ensures { IsClosed D.drains (without_log self.nodes self.machines.items self.calls.items) drainer (A.charged_of result.0) (A.limit_of result.0) result.1 }
+        ensures { IsClosed D.drains (state_of self) drainer (A.charged_of result.0) (A.limit_of result.0) result.1 }
     {
         let Engine { mut nodes, .. } = self;
         let drainer = nodes.drain(drainer);

@@ -4,19 +4,20 @@ ghost use Rattle.std.specs.Prelude.{◌≡◌, ◌<◌, Some, length, slice_get,
 ghost use Rattle.judge.specs.Answer.{Pairs};
 ghost use Rattle.congee.specs.Keys.{IsMapOf};
 ghost use Rattle.joint.specs.engine.Beginning.{Begun, stage_of};
-ghost use Rattle.joint.specs.engine.Census.{AreCounted, effect_of};
+ghost use Rattle.joint.specs.engine.Census.{effect_of};
 ghost use Rattle.joint.specs.nodes.Nodes.{nodes};
 ghost use Rattle.joint.specs.nodes.Survey.{IsEmptiness};
-ghost use Rattle.joint.specs.engine.Engine.{without_log, Does, EngineHolds, IsEngineStep, Proceeds, misuse, quiet, collection, destroyed_count, finds_none, interruption, is_busy, kind_of, reserving, Surveys, Walks};
+ghost use Rattle.joint.specs.engine.Engine.{Does, EngineHolds, IsEngineStep, Proceeds, misuse, quiet, collection, destroyed_count, finds_none, interruption, is_busy, kind_of, reserving, Surveys, Walks};
 ghost use Rattle.joint.specs.Reports.{told};
 ghost use Rattle.joint.specs.declared.steps.Event.TheVariants as Event;
-ghost use Rattle.joint.specs.engine.Intact.{IsIntact, WalkedOn, over_at, writes};
+ghost use Rattle.joint.specs.engine.Intact.{WalkedOn, over_at, writes};
 ghost use Rattle.joint.specs.declared.engine.in_flight.InFlight.TheVariants as InFlight;
 ghost use Rattle.joint.specs.declared.steps.Survey.TheVariants as Survey;
 ghost use Rattle.joint.specs.declared.steps.Target.TheVariants as Target;
 ghost use Rattle.joint.specs.declared.steps.Outcome.TheVariants as Outcome;
 ghost use Rattle.joint.specs.declared.steps.Kind.TheVariants as Kind;
 ghost use Rattle.crossbeam_epoch.specs.World.Machine.{place};
+ghost use Rattle.joint.specs.engine.State.{state_of, EngineIntact, EngineCounted};
 
 use crate::engine::census::{Change, effect_after};
 use crate::engine::in_flight::{InFlight, Stage};
@@ -30,10 +31,10 @@ use crossbeam_epoch::Fault;
 impl<P: Payload + Small, A: Allocator> Engine<P, A> {
     /// The step in which a worker registers.
     pub(crate) fn step_in(&mut self, worker: u32) -> Report<P>
-        requires holds { EngineHolds P.same_as P.always_copies (without_log self.old.nodes self.old.machines.items self.old.calls.items) }
-        requires counted { AreCounted self.old.census self.old.nodes self.old.machines.items }
-        ensures step { IsEngineStep P.same_as P.always_copies (without_log self.old.nodes self.old.machines.items self.old.calls.items) (record { worker = worker; event = Event.Register }) result (without_log self.new.nodes self.new.machines.items self.new.calls.items) }
-        ensures counted { AreCounted self.new.census self.new.nodes self.new.machines.items }
+        requires holds { EngineHolds P.same_as P.always_copies (state_of self.old) }
+        requires counted { EngineCounted self.old.census (state_of self.old) }
+        ensures step { IsEngineStep P.same_as P.always_copies (state_of self.old) (record { worker = worker; event = Event.Register }) result (state_of self.new) }
+        ensures counted { EngineCounted self.new.census (state_of self.new) }
     {
         call_laws::<P>();
         let report = self.register();
@@ -43,10 +44,10 @@ impl<P: Payload + Small, A: Allocator> Engine<P, A> {
 
     /// The step in which a worker begins a call.
     pub(crate) fn step_begin(&mut self, worker: u32, op: Op<P>) -> Report<P>
-        requires holds { EngineHolds P.same_as P.always_copies (without_log self.old.nodes self.old.machines.items self.old.calls.items) }
-        requires counted { AreCounted self.old.census self.old.nodes self.old.machines.items }
-        ensures step { IsEngineStep P.same_as P.always_copies (without_log self.old.nodes self.old.machines.items self.old.calls.items) (record { worker = worker; event = Event.Begin op }) result (without_log self.new.nodes self.new.machines.items self.new.calls.items) }
-        ensures counted { AreCounted self.new.census self.new.nodes self.new.machines.items }
+        requires holds { EngineHolds P.same_as P.always_copies (state_of self.old) }
+        requires counted { EngineCounted self.old.census (state_of self.old) }
+        ensures step { IsEngineStep P.same_as P.always_copies (state_of self.old) (record { worker = worker; event = Event.Begin op }) result (state_of self.new) }
+        ensures counted { EngineCounted self.new.census (state_of self.new) }
     {
         call_laws::<P>();
         let report = self.begin(worker as usize, op.target());
@@ -57,10 +58,10 @@ impl<P: Payload + Small, A: Allocator> Engine<P, A> {
     /// The next step of a worker's call.
     #[inline(always)]
     pub(crate) fn step_on(&mut self, worker: u32, noise: Noise<Id, P>) -> Report<P>
-        requires holds { EngineHolds P.same_as P.always_copies (without_log self.old.nodes self.old.machines.items self.old.calls.items) }
-        requires counted { AreCounted self.old.census self.old.nodes self.old.machines.items }
-        ensures step { IsEngineStep P.same_as P.always_copies (without_log self.old.nodes self.old.machines.items self.old.calls.items) (record { worker = worker; event = Event.Go noise }) result (without_log self.new.nodes self.new.machines.items self.new.calls.items) }
-        ensures counted { AreCounted self.new.census self.new.nodes self.new.machines.items }
+        requires holds { EngineHolds P.same_as P.always_copies (state_of self.old) }
+        requires counted { EngineCounted self.old.census (state_of self.old) }
+        ensures step { IsEngineStep P.same_as P.always_copies (state_of self.old) (record { worker = worker; event = Event.Go noise }) result (state_of self.new) }
+        ensures counted { EngineCounted self.new.census (state_of self.new) }
     {
         call_laws::<P>();
         let report = self.go(worker as usize, noise);
@@ -70,9 +71,9 @@ impl<P: Payload + Small, A: Allocator> Engine<P, A> {
 
     /// A worker takes the lowest free place.
     fn register(&mut self) -> Report<P>
-        requires intact { IsIntact P.same_as P.always_copies self.old.nodes self.old.machines.items self.old.calls.items }
-        ensures intact { IsIntact P.same_as P.always_copies self.new.nodes self.new.machines.items self.new.calls.items }
-        ensures registers { Proceeds P.same_as P.always_copies (without_log self.old.nodes self.old.machines.items self.old.calls.items) 0 Event.Register result (without_log self.new.nodes self.new.machines.items self.new.calls.items) }
+        requires intact { EngineIntact P.same_as P.always_copies (state_of self.old) }
+        ensures intact { EngineIntact P.same_as P.always_copies (state_of self.new) }
+        ensures registers { Proceeds P.same_as P.always_copies (state_of self.old) 0 Event.Register result (state_of self.new) }
         ensures census { self.new.census ≡ self.old.census }
     {
         cell_laws::<P>();
@@ -85,10 +86,10 @@ impl<P: Payload + Small, A: Allocator> Engine<P, A> {
 
     /// Begins a call of a worker's, or refuses it for its first cause.
     fn begin(&mut self, who: usize, target: Target<P>) -> Report<P>
-        requires intact { IsIntact P.same_as P.always_copies self.old.nodes self.old.machines.items self.old.calls.items }
-        requires counted { AreCounted self.old.census self.old.nodes self.old.machines.items }
-        ensures intact { IsIntact P.same_as P.always_copies self.new.nodes self.new.machines.items self.new.calls.items }
-        ensures begun { Begun P.same_as P.always_copies (without_log self.old.nodes self.old.machines.items self.old.calls.items) who target result (without_log self.new.nodes self.new.machines.items self.new.calls.items) }
+        requires intact { EngineIntact P.same_as P.always_copies (state_of self.old) }
+        requires counted { EngineCounted self.old.census (state_of self.old) }
+        ensures intact { EngineIntact P.same_as P.always_copies (state_of self.new) }
+        ensures begun { Begun P.same_as P.always_copies (state_of self.old) who target result (state_of self.new) }
         ensures census { self.new.census ≡ self.old.census }
     {
         if !self.nodes.is_registered(who) {
@@ -106,11 +107,11 @@ impl<P: Payload + Small, A: Allocator> Engine<P, A> {
 
     /// Begins a call on the collector, of a worker without a call in flight.
     fn begin_on_collector(&mut self, who: usize, op: crossbeam_epoch::Op) -> Report<P>
-        requires intact { IsIntact P.same_as P.always_copies self.old.nodes self.old.machines.items self.old.calls.items }
+        requires intact { EngineIntact P.same_as P.always_copies (state_of self.old) }
         requires registered { (place self.old.nodes.collector who).registered ≡ true }
         requires idle { slice_get self.old.calls.items who ≡ Some InFlight.Idle }
-        ensures intact { IsIntact P.same_as P.always_copies self.new.nodes self.new.machines.items self.new.calls.items }
-        ensures begun { Begun P.same_as P.always_copies (without_log self.old.nodes self.old.machines.items self.old.calls.items) who (Target.Collector op) result (without_log self.new.nodes self.new.machines.items self.new.calls.items) }
+        ensures intact { EngineIntact P.same_as P.always_copies (state_of self.new) }
+        ensures begun { Begun P.same_as P.always_copies (state_of self.old) who (Target.Collector op) result (state_of self.new) }
         ensures census { self.new.census ≡ self.old.census }
     {
         progress::<P>();
@@ -121,11 +122,11 @@ impl<P: Payload + Small, A: Allocator> Engine<P, A> {
 
     /// Begins a call on the tree, of a worker without a call in flight.
     fn begin_on_tree(&mut self, who: usize, op: congee::Op<P>) -> Report<P>
-        requires intact { IsIntact P.same_as P.always_copies self.old.nodes self.old.machines.items self.old.calls.items }
+        requires intact { EngineIntact P.same_as P.always_copies (state_of self.old) }
         requires registered { (place self.old.nodes.collector who).registered ≡ true }
         requires idle { slice_get self.old.calls.items who ≡ Some InFlight.Idle }
-        ensures intact { IsIntact P.same_as P.always_copies self.new.nodes self.new.machines.items self.new.calls.items }
-        ensures begun { Begun P.same_as P.always_copies (without_log self.old.nodes self.old.machines.items self.old.calls.items) who (Target.Tree op) result (without_log self.new.nodes self.new.machines.items self.new.calls.items) }
+        ensures intact { EngineIntact P.same_as P.always_copies (state_of self.new) }
+        ensures begun { Begun P.same_as P.always_copies (state_of self.old) who (Target.Tree op) result (state_of self.new) }
         ensures census { self.new.census ≡ self.old.census }
     {
         if !self.nodes.is_pinned(who) {
@@ -145,11 +146,11 @@ impl<P: Payload + Small, A: Allocator> Engine<P, A> {
     /// Tells of the tree as it stands, to a worker without a call in flight.
     #[inline(never)]
     fn answer_survey(&self, who: usize, survey: Survey) -> Report<P>
-        requires intact { IsIntact P.same_as P.always_copies self.now.nodes self.now.machines.items self.now.calls.items }
+        requires intact { EngineIntact P.same_as P.always_copies (state_of self.now) }
         requires registered { (place self.now.nodes.collector who).registered ≡ true }
         requires idle { slice_get self.now.calls.items who ≡ Some InFlight.Idle }
-        requires counted { AreCounted self.now.census self.now.nodes self.now.machines.items }
-        ensures { Begun P.same_as P.always_copies (without_log self.now.nodes self.now.machines.items self.now.calls.items) who (Target.Survey survey) result (without_log self.now.nodes self.now.machines.items self.now.calls.items) }
+        requires counted { EngineCounted self.now.census (state_of self.now) }
+        ensures { Begun P.same_as P.always_copies (state_of self.now) who (Target.Survey survey) result (state_of self.now) }
     {
         match survey {
             Survey::Keys => self.tell_keys(),
@@ -166,8 +167,8 @@ impl<P: Payload + Small, A: Allocator> Engine<P, A> {
 
     /// All keys.
     fn tell_keys(&self) -> Report<P>
-        requires { IsIntact P.same_as P.always_copies self.now.nodes self.now.machines.items self.now.calls.items }
-        ensures { Surveys (without_log self.now.nodes self.now.machines.items self.now.calls.items) Survey.Keys result (without_log self.now.nodes self.now.machines.items self.now.calls.items) }
+        requires { EngineIntact P.same_as P.always_copies (state_of self.now) }
+        ensures { Surveys (state_of self.now) Survey.Keys result (state_of self.now) }
     {
         match self.nodes.keys(self.census.capped() as usize) {
             Ok(keys) => report(Kind::Tree, Outcome::Done(Done::Keys(keys))),
@@ -177,16 +178,16 @@ impl<P: Payload + Small, A: Allocator> Engine<P, A> {
 
     /// Whether there is no key.
     fn tell_empty(&self) -> Report<P>
-        requires intact { IsIntact P.same_as P.always_copies self.now.nodes self.now.machines.items self.now.calls.items }
-        requires counted { AreCounted self.now.census self.now.nodes self.now.machines.items }
-        ensures { Surveys (without_log self.now.nodes self.now.machines.items self.now.calls.items) Survey.IsEmpty result (without_log self.now.nodes self.now.machines.items self.now.calls.items) }
+        requires intact { EngineIntact P.same_as P.always_copies (state_of self.now) }
+        requires counted { EngineCounted self.now.census (state_of self.now) }
+        ensures { Surveys (state_of self.now) Survey.IsEmpty result (state_of self.now) }
     {
         report(Kind::Tree, Outcome::Done(Done::Empty(self.is_empty())))
     }
 
     /// Whether no pair stands.
     fn is_empty(&self) -> bool
-        requires { AreCounted self.now.census self.now.nodes self.now.machines.items }
+        requires { EngineCounted self.now.census (state_of self.now) }
         ensures { (m : Pairs P) → IsMapOf (nodes self.now.nodes) m → IsEmptiness m result }
     {
         self.census.pairs == 0
@@ -194,9 +195,9 @@ impl<P: Payload + Small, A: Allocator> Engine<P, A> {
 
     /// How the nodes are spread, and how many pairs there are.
     fn tell_stats(&self) -> Report<P>
-        requires intact { IsIntact P.same_as P.always_copies self.now.nodes self.now.machines.items self.now.calls.items }
-        requires counted { AreCounted self.now.census self.now.nodes self.now.machines.items }
-        ensures { Surveys (without_log self.now.nodes self.now.machines.items self.now.calls.items) Survey.Stats result (without_log self.now.nodes self.now.machines.items self.now.calls.items) }
+        requires intact { EngineIntact P.same_as P.always_copies (state_of self.now) }
+        requires counted { EngineCounted self.now.census (state_of self.now) }
+        ensures { Surveys (state_of self.now) Survey.Stats result (state_of self.now) }
     {
         match self.nodes.stats(self.census.capped()) {
             Ok(stats) => report(Kind::Tree, Outcome::Done(Done::Stats(stats))),
@@ -207,11 +208,11 @@ impl<P: Payload + Small, A: Allocator> Engine<P, A> {
     /// The next step of a worker's call in flight.
     #[inline(always)]
     fn go(&mut self, who: usize, noise: Noise<Id, P>) -> Report<P>
-        requires intact { IsIntact P.same_as P.always_copies self.old.nodes self.old.machines.items self.old.calls.items }
-        requires counted { AreCounted self.old.census self.old.nodes self.old.machines.items }
-        ensures intact { IsIntact P.same_as P.always_copies self.new.nodes self.new.machines.items self.new.calls.items }
-        ensures does { Does P.same_as P.always_copies (without_log self.old.nodes self.old.machines.items self.old.calls.items) who (Event.Go noise) (misuse (without_log self.old.nodes self.old.machines.items self.old.calls.items) who (Event.Go noise)) result (without_log self.new.nodes self.new.machines.items self.new.calls.items) }
-        ensures counted { AreCounted self.new.census self.new.nodes self.new.machines.items }
+        requires intact { EngineIntact P.same_as P.always_copies (state_of self.old) }
+        requires counted { EngineCounted self.old.census (state_of self.old) }
+        ensures intact { EngineIntact P.same_as P.always_copies (state_of self.new) }
+        ensures does { Does P.same_as P.always_copies (state_of self.old) who (Event.Go noise) (misuse (state_of self.old) who (Event.Go noise)) result (state_of self.new) }
+        ensures counted { EngineCounted self.new.census (state_of self.new) }
     {
         if self.is_walking(who) {
             self.go_on_tree(who, noise)
@@ -236,11 +237,11 @@ impl<P: Payload + Small, A: Allocator> Engine<P, A> {
     #[inline(never)]
     fn go_other(&mut self, who: usize) -> Report<P>
         requires other { slice_get self.old.calls.items who ≡ Some InFlight.Walking → ⊥ }
-        requires intact { IsIntact P.same_as P.always_copies self.old.nodes self.old.machines.items self.old.calls.items }
-        requires counted { AreCounted self.old.census self.old.nodes self.old.machines.items }
-        ensures intact { IsIntact P.same_as P.always_copies self.new.nodes self.new.machines.items self.new.calls.items }
-        ensures does { (noise : Noise Id P) → Does P.same_as P.always_copies (without_log self.old.nodes self.old.machines.items self.old.calls.items) who (Event.Go noise) (misuse (without_log self.old.nodes self.old.machines.items self.old.calls.items) who (Event.Go noise)) result (without_log self.new.nodes self.new.machines.items self.new.calls.items) }
-        ensures counted { AreCounted self.new.census self.new.nodes self.new.machines.items }
+        requires intact { EngineIntact P.same_as P.always_copies (state_of self.old) }
+        requires counted { EngineCounted self.old.census (state_of self.old) }
+        ensures intact { EngineIntact P.same_as P.always_copies (state_of self.new) }
+        ensures does { (noise : Noise Id P) → Does P.same_as P.always_copies (state_of self.old) who (Event.Go noise) (misuse (state_of self.old) who (Event.Go noise)) result (state_of self.new) }
+        ensures counted { EngineCounted self.new.census (state_of self.new) }
     {
         if !self.nodes.is_registered(who) {
             return refused(Kind::Collection, Refusal::Unknown);
@@ -267,12 +268,12 @@ impl<P: Payload + Small, A: Allocator> Engine<P, A> {
     /// The next step of a worker's call on the tree.
     #[inline(always)]
     fn go_on_tree(&mut self, who: usize, noise: Noise<Id, P>) -> Report<P>
-        requires intact { IsIntact P.same_as P.always_copies self.old.nodes self.old.machines.items self.old.calls.items }
+        requires intact { EngineIntact P.same_as P.always_copies (state_of self.old) }
         requires on { slice_get self.old.calls.items who ≡ Some InFlight.Walking }
-        requires counted { AreCounted self.old.census self.old.nodes self.old.machines.items }
-        ensures intact { IsIntact P.same_as P.always_copies self.new.nodes self.new.machines.items self.new.calls.items }
-        ensures walks { Walks P.same_as P.always_copies (without_log self.old.nodes self.old.machines.items self.old.calls.items) who noise result (without_log self.new.nodes self.new.machines.items self.new.calls.items) }
-        ensures counted { AreCounted self.new.census self.new.nodes self.new.machines.items }
+        requires counted { EngineCounted self.old.census (state_of self.old) }
+        ensures intact { EngineIntact P.same_as P.always_copies (state_of self.new) }
+        ensures walks { Walks P.same_as P.always_copies (state_of self.old) who noise result (state_of self.new) }
+        ensures counted { EngineCounted self.new.census (state_of self.new) }
     {
         let before = self.nodes.standing();
         let moved = self.go_counted(who, noise);
@@ -282,13 +283,13 @@ impl<P: Payload + Small, A: Allocator> Engine<P, A> {
     /// The same, and what it makes of the pairs and of the nodes that are taken out is counted.
     #[inline(always)]
     fn go_counted(&mut self, who: usize, noise: Noise<Id, P>) -> Move<P>
-        requires intact { IsIntact P.same_as P.always_copies self.old.nodes self.old.machines.items self.old.calls.items }
+        requires intact { EngineIntact P.same_as P.always_copies (state_of self.old) }
         requires on { slice_get self.old.calls.items who ≡ Some InFlight.Walking }
-        requires counted { AreCounted self.old.census self.old.nodes self.old.machines.items }
-        ensures intact { IsIntact P.same_as P.always_copies self.new.nodes self.new.machines.items self.new.calls.items }
+        requires counted { EngineCounted self.old.census (state_of self.old) }
+        ensures intact { EngineIntact P.same_as P.always_copies (state_of self.new) }
         ensures walked { WalkedOn P.same_as P.always_copies self.old.nodes self.old.machines.items (record { who = who; noise = noise }) result self.new.nodes self.new.machines.items }
         ensures calls { self.new.calls.items ≡ slice_set self.old.calls.items who (if over_at (slice_get self.new.machines.items who) then InFlight.Idle else InFlight.Walking) }
-        ensures counted { AreCounted self.new.census self.new.nodes self.new.machines.items }
+        ensures counted { EngineCounted self.new.census (state_of self.new) }
     {
         call_laws::<P>();
         let before = self.taken(who);

@@ -4,12 +4,11 @@ ghost use Rattle.std.specs.Prelude.{◌≡◌, ◌*◌, ◌<◌, ◌≤◌, ◌�
 ghost use Rattle.std.specs.List.{sum_by};
 ghost use Rattle.std.specs.Option.{option_to_list};
 ghost use Rattle.congee.specs.Heap.{Stands};
-ghost use Rattle.joint.specs.engine.Census.{AreCounted, taken_at, waiting_nodes};
+ghost use Rattle.joint.specs.engine.Census.{taken_at, waiting_nodes};
 ghost use Rattle.joint.specs.nodes.Nodes.{nodes};
-ghost use Rattle.joint.specs.engine.Intact.{IsIntact};
 ghost use Rattle.joint.specs.nodes.Listing.{bytes_of};
 ghost use Rattle.joint.specs.nodes.View.{id_number};
-ghost use Rattle.joint.specs.engine.Engine.{without_log};
+ghost use Rattle.joint.specs.engine.State.{state_of, EngineIntact, EngineCounted};
 
 use crate::engine::Engine;
 use crate::engine::census::Taken;
@@ -19,18 +18,18 @@ use congee::{Allocator, Payload, Small};
 impl<P: Payload + Small, A: Allocator> Engine<P, A> {
     /// The nodes that were handed over, and those that calls have taken out of the tree and not yet handed over.
     pub(crate) fn waiting(&self) -> u64
-        requires intact { IsIntact P.same_as P.always_copies self.now.nodes self.now.machines.items self.now.calls.items }
-        requires counted { AreCounted self.now.census self.now.nodes self.now.machines.items }
-        ensures { result ≡ length (waiting_nodes (without_log self.now.nodes self.now.machines.items self.now.calls.items)) }
+        requires intact { EngineIntact P.same_as P.always_copies (state_of self.now) }
+        requires counted { EngineCounted self.now.census (state_of self.now) }
+        ensures { result ≡ length (waiting_nodes (state_of self.now)) }
     {
         self.nodes.handed() + self.census.taken.nodes
     }
 
     /// Their sizes, in bytes.
     pub(crate) fn waiting_bytes(&self) -> u64
-        requires intact { IsIntact P.same_as P.always_copies self.now.nodes self.now.machines.items self.now.calls.items }
-        requires counted { AreCounted self.now.census self.now.nodes self.now.machines.items }
-        ensures { result ≡ sum_by (bytes_of self.now.nodes) (waiting_nodes (without_log self.now.nodes self.now.machines.items self.now.calls.items)) }
+        requires intact { EngineIntact P.same_as P.always_copies (state_of self.now) }
+        requires counted { EngineCounted self.now.census (state_of self.now) }
+        ensures { result ≡ sum_by (bytes_of self.now.nodes) (waiting_nodes (state_of self.now)) }
     {
         self.nodes.handed_bytes() + self.census.taken.bytes
     }
@@ -38,7 +37,7 @@ impl<P: Payload + Small, A: Allocator> Engine<P, A> {
     /// The nodes that a worker's call has taken out of the tree and not yet handed over.
     #[inline(always)]
     pub(crate) fn taken(&self, who: usize) -> Taken
-        requires intact { IsIntact P.same_as P.always_copies self.now.nodes self.now.machines.items self.now.calls.items }
+        requires intact { EngineIntact P.same_as P.always_copies (state_of self.now) }
         requires inside { who < length self.now.machines.items }
         ensures nodes { result.nodes ≡ length (taken_at (slice_get self.now.machines.items who)) }
         ensures bytes { result.bytes ≡ sum_by (bytes_of self.now.nodes) (taken_at (slice_get self.now.machines.items who)) }
