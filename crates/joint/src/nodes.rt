@@ -1,9 +1,9 @@
 //! The nodes of a shared tree in the cells of a collector.
 //!
-//! A cell holds a `slot`: a node beside its lock word. `cells` takes one out, changes it and puts it back; `Nodes` says the
-//! same of nodes, and serves the protocol's calls as their `store`, which `reading` reads for. `collector` has the collector's
-//! own calls on the nodes, `counts` what was handed over and of what size. `opening` makes the root; `survey`, `stats` and
-//! `close` go through the whole tree. `account` is what came in with the allocator.
+//! A cell holds a `slot`: a node beside its lock word. `cells` takes one out and puts it back; `Nodes` changes it in between,
+//! and serves the protocol's calls as their `store`, which `reading` reads for. `collector` has the collector's own calls on
+//! the nodes, `counts` what was handed over and of what size. `opening` makes the root; `survey`, `stats` and `close` go
+//! through the whole tree. `account` is what came in with the allocator.
 
 pub(crate) mod account;
 pub(crate) mod cells;
@@ -160,7 +160,10 @@ impl<P: Payload + Small, A: Allocator> Nodes<P, A> {
         ensures charge { self.new.charge ≡ self.old.charge }
         ensures node { SameBut (nodes self.old) (id_number at) (worded word (nodes self.old (id_number at))) (nodes self.new) }
     {
-        cells::set_word(&mut self.collector, at.name, word);
+        World::<Slot<P>, ()>::cells();
+        let mut slot = cells::take_out(&mut self.collector, at.name);
+        slot.word = word;
+        cells::put_back(&mut self.collector, at.name, slot);
     }
 
     /// Hangs the child at the byte of a node, in place of what hangs there, or takes out what hangs there.
@@ -171,7 +174,10 @@ impl<P: Payload + Small, A: Allocator> Nodes<P, A> {
         ensures charge { self.new.charge ≡ self.old.charge }
         ensures node { ChangeGives (nodes self.old) (id_number at) byte (hung id_number child) (nodes self.new) }
     {
-        cells::hang(&mut self.collector, at.name, byte, child);
+        World::<Slot<P>, ()>::cells();
+        let mut slot = cells::take_out(&mut self.collector, at.name);
+        slot.hang(byte, child);
+        cells::put_back(&mut self.collector, at.name, slot);
     }
 
     /// Takes the value at the byte out of a node.
@@ -182,6 +188,10 @@ impl<P: Payload + Small, A: Allocator> Nodes<P, A> {
         ensures frame { frame self.new ≡ frame self.old }
         ensures node { ChangeGives (nodes self.old) (id_number at) byte Nothing (nodes self.new) }
     {
-        cells::pull(&mut self.collector, at.name, byte)
+        World::<Slot<P>, ()>::cells();
+        let mut slot = cells::take_out(&mut self.collector, at.name);
+        let value = slot.pull(byte);
+        cells::put_back(&mut self.collector, at.name, slot);
+        value
     }
 }

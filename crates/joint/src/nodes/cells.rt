@@ -5,21 +5,19 @@ ghost use Rattle.crossbeam_epoch.specs.World.Machine.{with_store};
 ghost use Rattle.crossbeam_epoch.specs.World.Store.{value_at, replaced, is_usable};
 ghost use Rattle.crossbeam_epoch.specs.declared.names.Name.{Name};
 ghost use Rattle.congee.specs.declared.forms.prefix.TheConstants.{MAX_PREFIX_LEN};
-ghost use Rattle.congee.specs.protocol.Events.{hung, MayChange, TakesOver};
+ghost use Rattle.congee.specs.protocol.Events.{TakesOver};
 ghost use Rattle.congee.specs.forms.Forms.{size_of};
-ghost use Rattle.congee.specs.Heap.{Holds};
-ghost use Rattle.joint.specs.nodes.Altering.{Alters, Hangs, Fills, Empties, IsNewSlot, IsNoSlot, IsOverBudget, MovesTo, Exchanges, Pulls};
+ghost use Rattle.joint.specs.nodes.Altering.{Fills, Empties, IsNewSlot, IsNoSlot, IsOverBudget, MovesTo, Exchanges};
 ghost use Rattle.joint.specs.nodes.Solid.{IsWhole};
-ghost use Rattle.joint.specs.nodes.View.{id_number, node_of, out};
+ghost use Rattle.joint.specs.nodes.View.{node_of, out};
 
-use crate::id::Id;
-use crate::nodes::slot::{LockWord, Slot};
-use congee::{Allocator, Child, NodeType, OOMError, Payload, Refusal, Small};
+use crate::nodes::slot::Slot;
+use congee::{Allocator, NodeType, OOMError, Payload, Refusal, Small};
 use crossbeam_epoch::{Name, World};
 use std::alloc::Global;
 
 /// Takes the slot of a name out.
-fn take_out<P: Payload + Small>(collector: &mut World<Slot<P>, ()>, at: Name) -> Slot<P>
+pub(crate) fn take_out<P: Payload + Small>(collector: &mut World<Slot<P>, ()>, at: Name) -> Slot<P>
     requires { is_some (value_at collector.old.store at) ≡ true }
     ensures was { value_at collector.old.store at ≡ Some result }
     ensures state { collector.new ≡ with_store collector.old (replaced collector.old.store at.cell out) }
@@ -31,7 +29,11 @@ fn take_out<P: Payload + Small>(collector: &mut World<Slot<P>, ()>, at: Name) ->
 }
 
 /// Puts a slot under a name that stands.
-fn put_back<P: Payload + Small>(collector: &mut World<Slot<P>, ()>, at: Name, slot: Slot<P>)
+pub(crate) fn put_back<P: Payload + Small>(
+    collector: &mut World<Slot<P>, ()>,
+    at: Name,
+    slot: Slot<P>,
+)
     requires { is_some (value_at collector.old.store at) ≡ true }
     ensures { collector.new ≡ with_store collector.old (replaced collector.old.store at.cell slot) }
 {
@@ -39,56 +41,6 @@ fn put_back<P: Payload + Small>(collector: &mut World<Slot<P>, ()>, at: Name, sl
         Ok(_) => {}
         Err(_) => unreachable!(),
     }
-}
-
-/// Gives a node another lock word.
-pub(crate) fn set_word<P: Payload + Small>(
-    collector: &mut World<Slot<P>, ()>,
-    at: Name,
-    word: LockWord,
-)
-    requires { is_some (value_at collector.old.store at) ≡ true }
-    ensures beside { collector.new ≡ with_store collector.old collector.new.store }
-    ensures slot { (s : Slot P) × Alters collector.old.store at s (record s { word = word }) collector.new.store }
-{
-    World::<Slot<P>, ()>::cells();
-    let mut slot = take_out(collector, at);
-    slot.word = word;
-    put_back(collector, at, slot);
-}
-
-/// Hangs the child at the byte of a node, in place of what hangs there, or takes out what hangs there.
-pub(crate) fn hang<P: Payload + Small>(
-    collector: &mut World<Slot<P>, ()>,
-    at: Name,
-    byte: u8,
-    child: Child<Id, P>,
-)
-    requires stands { is_some (value_at collector.old.store at) ≡ true }
-    requires whole { (s : Slot P) → value_at collector.old.store at ≡ Some s → IsWhole s.node }
-    requires room { (s : Slot P) → value_at collector.old.store at ≡ Some s → MayChange (node_of s) byte (hung id_number child) }
-    ensures beside { collector.new ≡ with_store collector.old collector.new.store }
-    ensures slot { (s : Slot P) × ((s' : Slot P) × (Alters collector.old.store at s s' collector.new.store × Hangs s byte child s')) }
-{
-    World::<Slot<P>, ()>::cells();
-    let mut slot = take_out(collector, at);
-    slot.hang(byte, child);
-    put_back(collector, at, slot);
-}
-
-/// Takes the value at the byte out of a node.
-pub(crate) fn pull<P: Payload + Small>(collector: &mut World<Slot<P>, ()>, at: Name, byte: u8) -> P
-    requires stands { is_some (value_at collector.old.store at) ≡ true }
-    requires whole { (s : Slot P) → value_at collector.old.store at ≡ Some s → IsWhole s.node }
-    requires holds { (s : Slot P) → value_at collector.old.store at ≡ Some s → (v : P) × ((node_of s).children byte ≡ Holds v) }
-    ensures beside { collector.new ≡ with_store collector.old collector.new.store }
-    ensures slot { (s : Slot P) × ((s' : Slot P) × (Alters collector.old.store at s s' collector.new.store × Pulls s byte result s')) }
-{
-    World::<Slot<P>, ()>::cells();
-    let mut slot = take_out(collector, at);
-    let value = slot.pull(byte);
-    put_back(collector, at, slot);
-    value
 }
 
 /// Puts a node into a usable cell.

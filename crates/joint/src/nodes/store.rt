@@ -9,10 +9,11 @@ ghost use Rattle.joint.specs.nodes.Nodes.{nodes, frame};
 ghost use Rattle.joint.specs.nodes.View.{id_number};
 
 use crate::id::Id;
-use crate::nodes::slot::LockWord;
+use crate::nodes::slot::{LockWord, Slot};
 use crate::nodes::{Nodes, cells, reading};
 use congee::protocol::{Least, Reading, Region, Stamp, Upgrade};
 use congee::{Allocator, Child, KEY_BYTES, NodeType, Payload, Refusal, Seen, Small, Store};
+use crossbeam_epoch::World;
 
 impl<P: Payload + Small, A: Allocator> Store<Id, P> for Nodes<P, A> {
     ghost use Rattle.joint.specs.nodes.Nodes.{Nodes as State, nodes, frame, Refuses};
@@ -165,16 +166,11 @@ impl<P: Payload + Small, A: Allocator> Store<Id, P> for Nodes<P, A> {
     }
 
     fn retire(&mut self, node: Id) {
-        let word = self.slot(node).word;
+        World::<Slot<P>, ()>::cells();
         self.counts.mark(node.name.cell);
-        cells::set_word(
-            &mut self.collector,
-            node.name,
-            LockWord {
-                retired: true,
-                ..word
-            },
-        );
+        let mut slot = cells::take_out(&mut self.collector, node.name);
+        slot.word.retired = true;
+        cells::put_back(&mut self.collector, node.name, slot);
     }
 
     fn unlock(&mut self, node: Id) {

@@ -4,14 +4,13 @@ use Rattle.std.specs.Prelude.{Option, None, Some, is_some, if◌then◌else◌}
 use Rattle.crossbeam_epoch.specs.declared.names.Name.{Name}
 use Rattle.crossbeam_epoch.specs.World.Machine.{State, with_store}
 use Rattle.crossbeam_epoch.specs.World.Progress.{Orderly}
-use Rattle.crossbeam_epoch.specs.World.Store.{Store, value_at, was_given}
+use Rattle.crossbeam_epoch.specs.World.Store.{Store, value_at, was_given, replaced}
 use Rattle.congee.specs.protocol.Events.{SameBut, ChangeGives, hung, weight}
-use Rattle.congee.specs.Heap.{Holds, Nothing, Stands}
+use Rattle.congee.specs.Heap.{Node, Holds, Nothing, Stands}
 use Rattle.congee.specs.declared.forms.child.Child.{Child}
 use Rattle.congee.specs.declared.forms.child.Child.TheVariants.{Blank}
 use Rattle.joint.specs.declared.id.Id.{Id}
 use Rattle.joint.specs.declared.nodes.slot.Slot.{Slot}
-use Rattle.joint.specs.declared.nodes.slot.LockWord.{LockWord}
 use Rattle.joint.specs.declared.nodes.counts.Counts.{Counts}
 use Rattle.joint.specs.nodes.Altering.{Alters, Hangs, Pulls}
 use Rattle.joint.specs.nodes.Nodes.{Nodes, nodes, with_collector, frame, size, waits, waiting_size, sizes, waiting, waiting_bytes, IsTally, IsKept}
@@ -19,8 +18,8 @@ use Rattle.joint.specs.NameLemmas.{number_named, named_number}
 use Rattle.joint.specs.Names.{number, named}
 use Rattle.joint.specs.nodes.Solid.{IsWhole}
 use Rattle.joint.specs.nodes.CellMarks.{mark_at}
-use Rattle.joint.specs.nodes.View.{heap, view, node_of, worded, id_number}
-use Rattle.joint.proofs.lemmas.nodes.Altering.{same_or}
+use Rattle.joint.specs.nodes.View.{heap, view, node_of, id_number, out}
+use Rattle.joint.proofs.lemmas.nodes.Altering.{same_or, swapped, ReplacedSets}
 
 from : {A : Type 0} → A → Option A → A
 from d None = d
@@ -120,53 +119,45 @@ module _ {P : Type 0} (F G : Nodes P) (view_is : F ≡ G) (n : Name) where
   pub node_in : (s : Slot P) → value_at F.collector.store n ≡ Some s → nodes G (number n) ≡ node_of s
   node_in s e = ap (λ x. nodes x (number n)) (sym view_is) ∙ node_is F.collector.store n s e
 
-  module _ (c' : State (Slot P) (Unit {0})) (beside : c' ≡ with_store F.collector c'.store) where
-    pub frame_in : (s s' : Slot P) → Alters F.collector.store n s s' c'.store → frame (with_collector F c') ≡ frame G
-    frame_in s s' alters = same_frame F c' beside alters.most alters.turn_max ∙ ap frame view_is
+  -- its slot is taken out, and put back as another
+  module _ (law : ReplacedSets (Slot P)) (s s' : Slot P) (c c' : State (Slot P) (Unit {0})) (was : value_at F.collector.store n ≡ Some s)
+      (away : c ≡ with_store F.collector (replaced F.collector.store n.cell out)) (back : c' ≡ with_store c (replaced c.store n.cell s')) where
+    beside : c' ≡ with_store F.collector c'.store
+    beside = rw (back, away)
 
-    pub others_in : (s s' : Slot P) → Alters F.collector.store n s s' c'.store → (k : ℕ) → k ≢ number n → nodes (with_collector F c') k ≡ nodes G k
-    others_in s s' alters k ne = nodes_apart F.collector.store n s s' c'.store alters k ne ∙ ap (λ x. nodes x k) view_is
+    pub altered_in : Alters F.collector.store n s s' c'.store
+    altered_in = rw (back, away) (swapped law F.collector.store n s out s' was)
 
-    pub after_in : (s s' : Slot P) → Alters F.collector.store n s s' c'.store → nodes (with_collector F c') (number n) ≡ node_of s'
-    after_in s s' alters = node_new F.collector.store n s s' c'.store alters
+    pub orderly_in : Orderly F.collector → Orderly c'
+    orderly_in = orderly_stored F.collector c' beside
 
-    -- another lock word
-    module _ (w : LockWord) (slot : (s : Slot P) × Alters F.collector.store n s (record s { word = w }) c'.store) where
-      abbrev s : Slot P
-      s = slot.0
+    pub frame_in : frame (with_collector F c') ≡ frame G
+    frame_in = same_frame F c' beside altered_in.most altered_in.turn_max ∙ ap frame view_is
 
-      pub worded_in : SameBut (nodes G) (number n) (worded w (nodes G (number n))) (nodes (with_collector F c'))
-      worded_in = record {
-        after = after_in s (record s { word = w }) slot.1 ∙ ap (worded w) (sym (node_in s slot.1.was));
-        others = others_in s (record s { word = w }) slot.1;
-      }
+    others_in : (k : ℕ) → k ≢ number n → nodes (with_collector F c') k ≡ nodes G k
+    others_in k ne = nodes_apart F.collector.store n s s' c'.store altered_in k ne ∙ ap (λ x. nodes x k) view_is
 
-      pub kept_worded : (k : Counts) → IsKept k F → w.retired ≡ (nodes G (number n)).retired → IsKept k (with_collector F c')
-      kept_worded k kept mark =
-          kept_altered F c' beside n s (record s { word = w }) slot.1 k kept refl (mark ∙ ap (λ x. x.retired) (node_in s slot.1.was)) (kept.whole n s slot.1.was)
+    after_in : nodes (with_collector F c') (number n) ≡ node_of s'
+    after_in = node_new F.collector.store n s s' c'.store altered_in
+
+    -- the node is told by the one before
+    pub same_in : (f : Node P → Node P) → node_of s' ≡ f (node_of s) → SameBut (nodes G) (number n) (f (nodes G (number n))) (nodes (with_collector F c'))
+    same_in f e = record { after = after_in ∙ e ∙ ap f (sym (node_in s was)); others = others_in }
+
+    -- where its size and its mark are as before
+    pub kept_in : (k : Counts) → IsKept k F → size s' ≡ size s → s'.word.retired ≡ s.word.retired → IsWhole s'.node → IsKept k (with_collector F c')
+    kept_in = kept_altered F c' beside n s s' altered_in
 
     -- another child
-    module _ (b : ℕ) (x : Child Id P) (slot : (s : Slot P) × ((s' : Slot P) × (Alters F.collector.store n s s' c'.store × Hangs s b x s'))) where
-      abbrev t : Slot P
-      t = slot.0
-
-      abbrev t' : Slot P
-      t' = slot.1.0
-
-      abbrev alters : Alters F.collector.store n t t' c'.store
-      alters = slot.1.1.0
-
-      abbrev hangs : Hangs t b x t'
-      hangs = slot.1.1.1
-
+    module _ (b : ℕ) (x : Child Id P) (hangs : Hangs s b x s') where
       pub changed_in : ChangeGives (nodes G) (number n) b (hung id_number x) (nodes (with_collector F c'))
       changed_in =
-          let new : nodes (with_collector F c') (number n) ≡ node_of t' = after_in t t' alters in
-          let old : nodes G (number n) ≡ node_of t = node_in t alters.was in
-          let word : t'.word ≡ t.word = hangs.word in
-          let count_new : (nodes (with_collector F c') (number n)).count ≡ (node_of t').count = ap (λ y. y.count) new in
-          let count_old : (nodes G (number n)).count ≡ (node_of t).count = ap (λ y. y.count) old in
-          let weight_old : weight ((nodes G (number n)).children b) ≡ weight ((node_of t).children b) = ap (λ y. weight (y.children b)) old in
+          let new : nodes (with_collector F c') (number n) ≡ node_of s' = after_in in
+          let old : nodes G (number n) ≡ node_of s = node_in s was in
+          let word : s'.word ≡ s.word = hangs.word in
+          let count_new : (nodes (with_collector F c') (number n)).count ≡ (node_of s').count = ap (λ y. y.count) new in
+          let count_old : (nodes G (number n)).count ≡ (node_of s).count = ap (λ y. y.count) old in
+          let weight_old : weight ((nodes G (number n)).children b) ≡ weight ((node_of s).children b) = ap (λ y. weight (y.children b)) old in
           let count = hangs.count in
           record {
             prefix = ap (λ y. y.prefix) new ∙ hangs.prefix ∙ sym (ap (λ y. y.prefix) old);
@@ -180,22 +171,19 @@ module _ {P : Type 0} (F G : Nodes P) (view_is : F ≡ G) (n : Name) where
             child = ap (λ y. y.children b) new ∙ hangs.child_is;
             beside = λ k ne. ap (λ y. y.children k) new ∙ hangs.beside k ne ∙ sym (ap (λ y. y.children k) old);
             count = omega (arith, count_new, count_old, weight_old, count);
-            others = others_in t t' alters;
+            others = others_in;
           }
 
       pub kept_changed : (k : Counts) → IsKept k F → IsKept k (with_collector F c')
-      kept_changed k kept = kept_altered F c' beside n t t' alters k kept hangs.size_is (ap (λ y. y.retired) hangs.word) hangs.whole
+      kept_changed k kept = kept_in k kept hangs.size_is (ap (λ y. y.retired) hangs.word) hangs.whole
 
     -- a value goes out
-    module _ (b : ℕ) (value : P) (slot : (s : Slot P) × ((s' : Slot P) × (Alters F.collector.store n s s' c'.store × Pulls s b value s'))) where
-      abbrev hung_slot : (s : Slot P) × ((s' : Slot P) × (Alters F.collector.store n s s' c'.store × Hangs s b Blank s'))
-      hung_slot = (slot.0, (slot.1.0, (slot.1.1.0, slot.1.1.1.hangs)))
-
+    module _ (b : ℕ) (value : P) (pulls : Pulls s b value s') where
       pub value_in : (nodes G (number n)).children b ≡ Holds value
-      value_in = ap (λ y. y.children b) (node_in slot.0 slot.1.1.0.was) ∙ slot.1.1.1.was
+      value_in = ap (λ y. y.children b) (node_in s was) ∙ pulls.was
 
       pub pulled_in : ChangeGives (nodes G) (number n) b Nothing (nodes (with_collector F c'))
-      pulled_in = changed_in b Blank hung_slot
+      pulled_in = changed_in b Blank pulls.hangs
 
       pub kept_pulled : (k : Counts) → IsKept k F → IsKept k (with_collector F c')
-      kept_pulled = kept_changed b Blank hung_slot
+      kept_pulled = kept_changed b Blank pulls.hangs
