@@ -6,7 +6,8 @@
  3. each folder of proofs/ has its function
  4. each edit of must-fail/ names a file in which its old text stands once; so do the edits in more.md
  5. each file and `File: lemma` that a document names is there
- 6. with --unused: imports that a file doesn't use
+ 6. crates cite a lower crate's lemmas from its proofs/Laws.antt alone, and each that it hands on is cited
+ 7. with --unused: imports that a file doesn't use
 Exit status 1 where it printed one.
 """
 
@@ -316,6 +317,24 @@ def unused():
                             print(f"unused: {path}: {local}")
 
 
+def laws():
+    cited = set()
+    for crate in CRATES:
+        for path in files(ROOT / crate, ".rt") + files(ROOT / crate, ".antt"):
+            for line in text_of(path).split("\n"):
+                m = re.match(r"\s*(?:ghost |pub )?use Rattle\.(\w+)\.proofs\.([^{]*?)(?:\.\{([^}]*)\})?;?$", line)
+                if m and m[1] in CRATES and m[1] != crate:
+                    if m[2] != "Laws":
+                        say(f"{path}: cites {m[1]} past its Laws: {line.strip()}")
+                    cited |= {(m[1], n[0].strip()) for n in names_of(m[3] or "")}
+    for crate in CRATES:
+        path = ROOT / crate / "proofs/Laws.antt"
+        if path.is_file():
+            for name in sorted(words_of(path)):
+                if (crate, name) not in cited:
+                    say(f"{path}: no crate above cites {name}")
+
+
 def walk():
     """Each function that ARCHITECTURE's walk names is in the file before it."""
     doc = Path("docs/ARCHITECTURE.md")
@@ -345,6 +364,7 @@ modules()
 proofs()
 edits()
 docs()
+laws()
 walk()
 if "--unused" in sys.argv:
     unused()
