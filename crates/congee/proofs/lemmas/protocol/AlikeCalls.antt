@@ -66,12 +66,7 @@ module _ {C V : Type 0} (number : C → ℕ) where
   new_call : (order : List ℕ) (h : ℕ → Node V) (root : C) (n : ℕ) (o : Op V) → Named order number root n → PhaseAlike order number h (first_phase root o) (first_phase n o)
   new_call order h root n (op.Range start end size) e = new_scan order h root n start (end - 1) (cond (ltb start end) size 0)
   new_call order h root n (op.RangeInclusive start last size) e = new_scan order h root n start last (cond (leb start last) size 0)
-  new_call order h root n (op.Get k) e = refl
-  new_call order h root n (op.Insert k v) e = refl
-  new_call order h root n (op.Remove k) e = refl
-  new_call order h root n (op.ComputePresent k) e = refl
-  new_call order h root n (op.ComputeInsert k) e = refl
-  new_call order h root n (op.Exchange k old new) e = refl
+  new_call order h root n _ e = refl
 
   pub begun_alike : (order : List ℕ) (h : ℕ → Node V) (root : C) (n : ℕ) (o : Op V) → slice_get order n ≡ Some (number root) → CallAlike order number h (begun root o) (begun n o)
   begun_alike order h root n o e = record { root = e; key = refl; kind = refl; given = refl; phase = new_call order h root n o e }

@@ -7,9 +7,9 @@ use Rattle.std.proofs.lemmas.List.Elements.{All-contains}
 use Rattle.congee.specs.declared.protocol.store.Stamp.{Stamp}
 use Rattle.congee.specs.declared.protocol.phase.Kind.{Kind}
 use Rattle.congee.specs.declared.protocol.phase.Double.{Double}
-use Rattle.congee.specs.declared.protocol.phase.Double.TheVariants.{Unlink, Grow, GrowLink, Split, Shrink, Collapse, ShrinkAbove}
+use Rattle.congee.specs.declared.protocol.phase.Double.TheVariants.{Grow, GrowLink, Shrink, ShrinkAbove}
 use Rattle.congee.specs.declared.protocol.phase.Phase.{Phase}
-use Rattle.congee.specs.declared.protocol.phase.Phase.TheVariants.{New, Version, Read, Check, CheckUncopied, CheckMiss, CheckDown, CheckOld, MakeLeaf, MakeGreater, MakeTop, MakeBeside, MakeLesser, AskOld, AskNew, Confirm, CheckAbove, UpgradeOne, ChangeOne, UpgradeTop, UpgradeAbove, UpgradeBelow, ChangeTwo, Obsolete, Retire, UnlockBelow, Unlock, Unwind, Sweep, Ended}
+use Rattle.congee.specs.declared.protocol.phase.Phase.TheVariants.{Check, ChangeTwo, Sweep}
 use Rattle.congee.specs.declared.protocol.sweep.Stage.{Stage}
 use Rattle.congee.specs.declared.protocol.sweep.Stage.TheVariants as stage
 use Rattle.congee.specs.declared.protocol.sweep.Sweep.{Sweep as Scan}
@@ -41,47 +41,17 @@ inner_holds a h n t l e b v k = let z : length (h n).prefix ≡ 7 = t.leaves n b
 
 module _ {C V : Type 0} (number : C → ℕ) (same : V → V → Bool) (always : Bool) (i : ℕ) (a : ℕ → Note) (h : ℕ → Node V) (k : ℕ) (key : List ℕ) (kind : Kind V) (given : Option V) (t : Tree a h) where
   holds_for : (c : Double C) (n p b : ℕ) → IsChild a h p b n → (a p).status ≡ Linked → PlacedTwo key c (h n).prefix → HoldsFor c (h n) (h p)
-  holds_for Unlink n p b d l z = tt
   holds_for (Shrink c) n p b d l z = leaf_holds a h n t d.linked z.1
-  holds_for Collapse n p b d l z = tt
   holds_for (ShrinkAbove c) n p b d l z = inner_holds a h p t l (let s = t.short n d.linked in let m : length (h p).prefix < length (h n).prefix = d.longer in omega (arith, s, m))
   holds_for (Grow c) n p b d l z = leaf_holds a h n t d.linked z.1
   holds_for (GrowLink c leaf byte) n p b d l z = inner_holds a h n t d.linked z.1
-  holds_for (Split top leaf common byte) n p b d l z = tt
+  holds_for _ n p b d l z = tt
 
   pub holds_right : (p : Phase C V) → Known number same always i a h k key kind given p → HoldsRight number h p
   holds_right (ChangeTwo two r) x =
       let e : TwoLocked number i a h key two x.0 x.1 = x.2 in
       holds_for two.change (number two.at.node) (number two.above.seat.node) _ (t.down (number two.above.seat.node) _ (number two.at.node) e.above.holding.linked e.above.child) e.above.holding.linked e.placed
-  holds_right New x = tt
-  holds_right (Version above c) x = tt
-  holds_right (Read above at) x = tt
-  holds_right (Check s c) x = tt
-  holds_right (CheckUncopied at) x = tt
-  holds_right (CheckMiss p at common byte) x = tt
-  holds_right (CheckDown p at c) x = tt
-  holds_right (CheckOld p s v) x = tt
-  holds_right (MakeLeaf s) x = tt
-  holds_right (MakeGreater s p leaf) x = tt
-  holds_right (MakeTop p at common byte) x = tt
-  holds_right (MakeBeside p at common byte top) x = tt
-  holds_right (MakeLesser s p top r) x = tt
-  holds_right (AskOld s v) x = tt
-  holds_right (AskNew plan) x = tt
-  holds_right (Confirm at r) x = tt
-  holds_right (CheckAbove p one r) x = tt
-  holds_right (UpgradeOne one r) x = tt
-  holds_right (ChangeOne one r) x = tt
-  holds_right (UpgradeTop top two r) x = tt
-  holds_right (UpgradeAbove two r) x = tt
-  holds_right (UpgradeBelow two r) x = tt
-  holds_right (Obsolete c next p r) x = tt
-  holds_right (Retire c next p r) x = tt
-  holds_right (UnlockBelow c p r) x = tt
-  holds_right (Unlock c r) x = tt
-  holds_right (Unwind c next e) x = tt
-  holds_right (Sweep s) x = tt
-  holds_right Ended x = tt
+  holds_right _ x = tt
 
 module _ {C V : Type 0} (order order' : List ℕ) (number : C → ℕ) (f : (n c : ℕ) → slice_get order n ≡ Some c → slice_get order' n ≡ Some c) (h h' : ℕ → Node V) where
   -- a word that was taken and still stands
@@ -92,44 +62,13 @@ module _ {C V : Type 0} (order order' : List ℕ) (number : C → ℕ) (f : (n c
 
   still_stage : (j : ℕ) (a a' : ℕ → Note) (always : Bool) → Rely (λ _. Unit {0}) j a h a' h' → (s : Scan C V) (x : Stage C V) → SweepKnownAt number always a h s x → StillAt order order' number f h h' x
   still_stage j a a' always r s (stage.Check u w) x = still_seated j a a' r u.at x.1.seated
-  still_stage j a a' always r s stage.New x = tt
-  still_stage j a a' always r s (stage.Enter n y) x = tt
-  still_stage j a a' always r s (stage.Look u) x = tt
-  still_stage j a a' always r s stage.Full x = tt
-  still_stage j a a' always r s stage.Over x = tt
+  still_stage j a a' always r s _ x = tt
 
   pub still_known : (same : V → V → Bool) (always : Bool) (j : ℕ) (a a' : ℕ → Note) (k : ℕ) (key : List ℕ) (kind : Kind V) (given : Option V) → Rely (λ _. Unit {0}) j a h a' h' → (p : Phase C V) → Known number same always j a h k key kind given p
       → StillTaken order order' number f h h' p
   still_known same always j a a' k key kind given r (Check s c) x = still_seated j a a' r s.at x.1.fresh.seated
   still_known same always j a a' k key kind given r (Sweep s) x = still_stage j a a' always r s s.stage x
-  still_known same always j a a' k key kind given r New x = tt
-  still_known same always j a a' k key kind given r (Version above c) x = tt
-  still_known same always j a a' k key kind given r (Read above at) x = tt
-  still_known same always j a a' k key kind given r (CheckUncopied at) x = tt
-  still_known same always j a a' k key kind given r (CheckMiss p at common byte) x = tt
-  still_known same always j a a' k key kind given r (CheckDown p at c) x = tt
-  still_known same always j a a' k key kind given r (CheckOld p s v) x = tt
-  still_known same always j a a' k key kind given r (MakeLeaf s) x = tt
-  still_known same always j a a' k key kind given r (MakeGreater s p leaf) x = tt
-  still_known same always j a a' k key kind given r (MakeTop p at common byte) x = tt
-  still_known same always j a a' k key kind given r (MakeBeside p at common byte top) x = tt
-  still_known same always j a a' k key kind given r (MakeLesser s p top y) x = tt
-  still_known same always j a a' k key kind given r (AskOld s v) x = tt
-  still_known same always j a a' k key kind given r (AskNew plan) x = tt
-  still_known same always j a a' k key kind given r (Confirm at y) x = tt
-  still_known same always j a a' k key kind given r (CheckAbove p one y) x = tt
-  still_known same always j a a' k key kind given r (UpgradeOne one y) x = tt
-  still_known same always j a a' k key kind given r (ChangeOne one y) x = tt
-  still_known same always j a a' k key kind given r (UpgradeTop top two y) x = tt
-  still_known same always j a a' k key kind given r (UpgradeAbove two y) x = tt
-  still_known same always j a a' k key kind given r (UpgradeBelow two y) x = tt
-  still_known same always j a a' k key kind given r (ChangeTwo two y) x = tt
-  still_known same always j a a' k key kind given r (Obsolete c next p y) x = tt
-  still_known same always j a a' k key kind given r (Retire c next p y) x = tt
-  still_known same always j a a' k key kind given r (UnlockBelow c p y) x = tt
-  still_known same always j a a' k key kind given r (Unlock c y) x = tt
-  still_known same always j a a' k key kind given r (Unwind c next e) x = tt
-  still_known same always j a a' k key kind given r Ended x = tt
+  still_known same always j a a' k key kind given r _ x = tt
 
   -- a node that is as it was
   still_same : (s : Stamp C) → h' (number s.node) ≡ h (number s.node) → Still order order' number f h h' s
@@ -137,43 +76,12 @@ module _ {C V : Type 0} (order order' : List ℕ) (number : C → ℕ) (f : (n c
 
   spared_stage : (s : Scan C V) (x : Stage C V) → All (λ n. h' n ≡ h n) (names_sweep_at number s x) → StillAt order order' number f h h' x
   spared_stage s (stage.Check r w) x = still_same r.at (All-contains (λ n. h' n ≡ h n) (names_sweep_at number s (stage.Check r w)) (number r.at.node) x (0, omega arith, refl))
-  spared_stage s stage.New x = tt
-  spared_stage s (stage.Enter n y) x = tt
-  spared_stage s (stage.Look r) x = tt
-  spared_stage s stage.Full x = tt
-  spared_stage s stage.Over x = tt
+  spared_stage s _ x = tt
 
   pub spared_phase : (p : Phase C V) → All (λ n. h' n ≡ h n) (names number p) → StillTaken order order' number f h h' p
   spared_phase (Check s c) x = still_same s.at (All-contains (λ n. h' n ≡ h n) (names_site number s) (number s.at.node) x (0, omega arith, refl))
   spared_phase (Sweep s) x = spared_stage s s.stage x
-  spared_phase New x = tt
-  spared_phase (Version above c) x = tt
-  spared_phase (Read above at) x = tt
-  spared_phase (CheckUncopied at) x = tt
-  spared_phase (CheckMiss p at common byte) x = tt
-  spared_phase (CheckDown p at c) x = tt
-  spared_phase (CheckOld p s v) x = tt
-  spared_phase (MakeLeaf s) x = tt
-  spared_phase (MakeGreater s p leaf) x = tt
-  spared_phase (MakeTop p at common byte) x = tt
-  spared_phase (MakeBeside p at common byte top) x = tt
-  spared_phase (MakeLesser s p top y) x = tt
-  spared_phase (AskOld s v) x = tt
-  spared_phase (AskNew plan) x = tt
-  spared_phase (Confirm at y) x = tt
-  spared_phase (CheckAbove p one y) x = tt
-  spared_phase (UpgradeOne one y) x = tt
-  spared_phase (ChangeOne one y) x = tt
-  spared_phase (UpgradeTop top two y) x = tt
-  spared_phase (UpgradeAbove two y) x = tt
-  spared_phase (UpgradeBelow two y) x = tt
-  spared_phase (ChangeTwo two y) x = tt
-  spared_phase (Obsolete c next p y) x = tt
-  spared_phase (Retire c next p y) x = tt
-  spared_phase (UnlockBelow c p y) x = tt
-  spared_phase (Unlock c y) x = tt
-  spared_phase (Unwind c next e) x = tt
-  spared_phase Ended x = tt
+  spared_phase _ x = tt
 
 -- a node keeps its number where some more are made
 pub longer_place : (order order' : List ℕ) → Longer order order' → (n c : ℕ) → slice_get order n ≡ Some c → slice_get order' n ≡ Some c

@@ -123,12 +123,10 @@ module _ {C : Type 0} (order order' : List ℕ) (number : C → ℕ) (f : (n c :
       StillTaken _ = Unit {0}
 
       stage_later : (x : Stage C V) (y : Stage ℕ V) → StillAt x → StageAlike order number h x y → StageAlike order' number h' x y
-      stage_later stage.New y s e = e
       stage_later (stage.Enter c z) y s e = (e.0, e.1, named_later c e.0 e.2)
       stage_later (stage.Look r) y s e = (e.0, e.1, rung_later r e.0 e.2)
       stage_later (stage.Check r x) y s e = (e.0, e.1, e.2, rung_later r e.0 e.3, λ t. least_later x e.1 (e.4 (s t)))
-      stage_later stage.Full y s e = e
-      stage_later stage.Over y s e = e
+      stage_later _ y s e = e
 
       scan_later : (s : Scan C V) (t : Scan ℕ V) → StillAt s.stage → ScanAlike order number h s t → ScanAlike order' number h' s t
       scan_later s t k x = record {

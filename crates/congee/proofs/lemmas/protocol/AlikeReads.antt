@@ -3,7 +3,7 @@ use Rattle.std.proofs.Common.{◌≡◌, ◌≢◌, ℕ, zero, suc, ◌+◌, ◌
 use Rattle.std.specs.Prelude.{Option, None, Some, slice_get, slice_index}
 use Rattle.std.proofs.lemmas.Bool.{cases_Bool}
 use Rattle.congee.specs.declared.forms.base_node.NodeType.{NodeType}
-use Rattle.congee.specs.declared.forms.base_node.NodeType.TheVariants.{N4, N16, N48, N256}
+use Rattle.congee.specs.declared.forms.base_node.NodeType.TheVariants.{N4}
 use Rattle.congee.specs.declared.forms.child.Child.{Child}
 use Rattle.congee.specs.declared.forms.child.Child.TheVariants as child
 use Rattle.congee.specs.declared.protocol.store.Least.{Least}
@@ -58,9 +58,7 @@ parts_common p key c len x = common_is p key c x.short (let s : c < 7 = x.sevent
 -- the form of a node with the places of a form
 form_back : (f : NodeType) → form_of (places f) ≡ f
 form_back N4 = refl
-form_back N16 = refl
-form_back N48 = refl
-form_back N256 = refl
+form_back _ = refl
 
 told_byte : {V : Type 0} (byte : ℕ) (seen : Option (Seen Mark V)) → (told_of byte seen).byte ≡ byte
 told_byte byte None = refl

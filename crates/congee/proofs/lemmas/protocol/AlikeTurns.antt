@@ -200,11 +200,7 @@ module _ {C V : Type 0} (order : List ℕ) (number : C → ℕ) (h : ℕ → Nod
   pub old_alike : (always : Bool) (same : V → V → Bool) (kind : Kind V) (new : Option V) (s : Site C) (u : Site ℕ) (v : V) (t : NextPhase C V) → ReadAlike order number s u → IsUnrefused t.report.outcome → IsAtOld always same kind new s v t
       → Alike t (at_old same kind new u v)
   old_alike always same Insert new s u v t x n e = alike_at t _ _ e (replaced_alike s u (is_same same v new) (reply.Insert (Some v)) x.site)
-  old_alike always same Get new s u v t x n e = asked_alike always s u v t x n e
-  old_alike always same Remove new s u v t x n e = asked_alike always s u v t x n e
-  old_alike always same ComputePresent new s u v t x n e = asked_alike always s u v t x n e
-  old_alike always same ComputeInsert new s u v t x n e = asked_alike always s u v t x n e
-  old_alike always same (Exchange old) new s u v t x n e = asked_alike always s u v t x n e
+  old_alike always same _ new s u v t x n e = asked_alike always s u v t x n e
 
   added_alike : (always : Bool) (same : V → V → Bool) (kind : Kind V) (new : Option V) (s : Site C) (u : Site ℕ) (above : Option (Over C)) (o : Option (Over ℕ)) (v : V) (t : NextPhase C V)
       → ReadAlike order number s u → AboveAlike order number above o → IsUnrefused t.report.outcome → IsAdded always same kind new s above v t → Alike t (added same kind new u o v)

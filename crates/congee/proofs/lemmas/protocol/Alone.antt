@@ -68,22 +68,11 @@ module _ {C V : Type 0} (number : C → ℕ) (same : V → V → Bool) (always :
 
 -- how many steps a call has after its begin
 pub whole_left : {C V : Type 0} (number : C → ℕ) (a : ℕ → Note) (h : ℕ → Node V) (root : C) (o : Op V) → Tree a h → steps_left number h (first_phase root o) ≤ steps_whole h o
-whole_left number a h root (op.Get k) tr = omega arith
-whole_left number a h root (op.Insert k v) tr = omega arith
-whole_left number a h root (op.Remove k) tr = omega arith
-whole_left number a h root (op.ComputePresent k) tr = omega arith
-whole_left number a h root (op.ComputeInsert k) tr = omega arith
-whole_left number a h root (op.Exchange k old new) tr = omega arith
 whole_left number a h root (op.Range start end size) tr = let e = under_counts a h tr 8 0 tr.root (omega arith) in omega (arith, e)
 whole_left number a h root (op.RangeInclusive start last size) tr = let e = under_counts a h tr 8 0 tr.root (omega arith) in omega (arith, e)
+whole_left number a h root _ tr = omega arith
 
 -- nothing is relied on before the first step
 pub begins_on : {C V : Type 0} (number : C → ℕ) (h : ℕ → Node V) (root : C) (o : Op V) → IsUndisturbed number h (first_phase root o)
 begins_on number h root (op.Get k) = (tt, tt)
-begins_on number h root (op.Insert k v) = (tt, tt)
-begins_on number h root (op.Remove k) = (tt, tt)
-begins_on number h root (op.ComputePresent k) = (tt, tt)
-begins_on number h root (op.ComputeInsert k) = (tt, tt)
-begins_on number h root (op.Exchange k old new) = (tt, tt)
-begins_on number h root (op.Range start end size) = (tt, tt)
-begins_on number h root (op.RangeInclusive start last size) = (tt, tt)
+begins_on number h root _ = (tt, tt)

@@ -23,7 +23,7 @@ use Rattle.congee.specs.declared.protocol.phase.Single.{Single}
 use Rattle.congee.specs.declared.protocol.phase.Single.TheVariants.{Set, Link}
 use Rattle.congee.specs.declared.protocol.phase.One.{One}
 use Rattle.congee.specs.declared.protocol.phase.Double.{Double}
-use Rattle.congee.specs.declared.protocol.phase.Double.TheVariants.{Unlink, Grow, GrowLink, Split, Shrink, Collapse, ShrinkAbove}
+use Rattle.congee.specs.declared.protocol.phase.Double.TheVariants.{Unlink, Split, Collapse, ShrinkAbove}
 use Rattle.congee.specs.declared.protocol.phase.Two.{Two}
 use Rattle.congee.specs.declared.protocol.phase.Plan.{Plan}
 use Rattle.congee.specs.declared.protocol.phase.Plan.TheVariants.{Here, Above}
@@ -137,13 +137,9 @@ module _ {C V : Type 0} (number : C → ℕ) (h : ℕ → Node V) (n : ℕ) wher
   tops l two r (Some top) = ((tt, tt), l, tt)
 
   changes : 5 < n → (two : Two C) (r : Reply V) (change : Double C) → Nearer (after_change two r change)
-  changes l two r Unlink = ((tt, tt), omega (arith, l), tt)
-  changes l two r (Shrink c) = ((tt, tt), omega (arith, l), tt)
   changes l two r Collapse = tops l two r two.top
   changes l two r (ShrinkAbove c) = tops l two r two.top
-  changes l two r (Grow c) = ((tt, tt), omega (arith, l), tt)
-  changes l two r (GrowLink c leaf byte) = ((tt, tt), omega (arith, l), tt)
-  changes l two r (Split top leaf common byte) = ((tt, tt), omega (arith, l), tt)
+  changes l two r _ = ((tt, tt), omega (arith, l), tt)
 
   misses : 11 < n → (kind : Kind V) (p : Parent C) (seat : Stamp C) (common byte : ℕ) → AreTaken number h (p.seat ∷ seat ∷ []) → Nearer (after_miss kind p seat common byte)
   misses l kind p seat common byte t = by_test (λ (z : NextPhase C V). Nearer z) (adds kind) _ _ (λ _. ((t, tt), l, tt)) (λ _. ends (omega (arith, l)) (absent_reply kind))
@@ -158,11 +154,7 @@ module _ {C V : Type 0} (number : C → ℕ) (h : ℕ → Node V) (n : ℕ) wher
 
     at_old : 11 < n → (kind : Kind V) (new : Option V) (s : Site C) (old : V) (t : NextPhase C V) → AreTaken number h (seats_site s) → IsAtOld always same kind new s old t → Nearer t
     at_old l Insert new s old t u x = near_to _ t x (replaces (omega (arith, l)) s (is_same same old new) (reply.Insert (Some old)) u)
-    at_old l Get new s old t u x = asks l s old t u x
-    at_old l Remove new s old t u x = asks l s old t u x
-    at_old l ComputePresent new s old t u x = asks l s old t u x
-    at_old l ComputeInsert new s old t u x = asks l s old t u x
-    at_old l (Exchange w) new s old t u x = asks l s old t u x
+    at_old l _ new s old t u x = asks l s old t u x
 
     adds_at : 12 < n → (kind : Kind V) (new : Option V) (s : Site C) (above : Option (Over C)) (old : V) (t : NextPhase C V) → AreTaken number h (seats_site s) → AreTaken number h (seats_over above) → IsAdded always same kind new s above old t → Nearer t
     adds_at l kind new s None old t u y x = at_old (omega (arith, l)) kind new s old t u x

@@ -35,9 +35,7 @@ use Rattle.congee.proofs.lemmas.protocol.Plans.{ready_sound, unless_full_sound, 
 -- the form below has a place for each child that is left, and for the one that goes
 room_below : (f : NodeType) (n : ℕ) → shrinks f n ≡ true → n ≤ places (form_below f)
 room_below N4 n e = absurd cc
-room_below N16 n e = grind (arith, nat_tests)
-room_below N48 n e = grind (arith, nat_tests)
-room_below N256 n e = grind (arith, nat_tests)
+room_below _ n e = grind (arith, nat_tests)
 
 room_above : (n : ℕ) → n < 256 → n < places (form_above n)
 room_above n l = by_test (λ (f : NodeType). n < places f) (ltb n 4) _ _ (λ q. grind (arith, nat_tests))

@@ -27,12 +27,12 @@ use Rattle.congee.specs.declared.protocol.phase.Single.{Single}
 use Rattle.congee.specs.declared.protocol.phase.Single.TheVariants.{Set, Link}
 use Rattle.congee.specs.declared.protocol.phase.One.{One}
 use Rattle.congee.specs.declared.protocol.phase.Double.{Double}
-use Rattle.congee.specs.declared.protocol.phase.Double.TheVariants.{Unlink, Grow, GrowLink, Split, Shrink, Collapse, ShrinkAbove}
+use Rattle.congee.specs.declared.protocol.phase.Double.TheVariants.{Split, Collapse, ShrinkAbove}
 use Rattle.congee.specs.declared.protocol.phase.Two.{Two}
 use Rattle.congee.specs.declared.protocol.phase.Plan.{Plan}
 use Rattle.congee.specs.declared.protocol.phase.Plan.TheVariants.{Here, Above}
 use Rattle.congee.specs.declared.protocol.phase.Phase.{Phase}
-use Rattle.congee.specs.declared.protocol.phase.Phase.TheVariants.{New, Version, Read, Check, CheckUncopied, CheckMiss, CheckDown, CheckOld, MakeLeaf, MakeGreater, MakeTop, MakeBeside, MakeLesser, AskOld, AskNew, Confirm, CheckAbove, UpgradeOne, ChangeOne, UpgradeTop, UpgradeAbove, UpgradeBelow, ChangeTwo, Obsolete, Retire, UnlockBelow, Unlock, Unwind, Sweep, Ended}
+use Rattle.congee.specs.declared.protocol.phase.Phase.TheVariants.{New, Version, Read, Check, CheckUncopied, CheckMiss, CheckDown, CheckOld, MakeLeaf, MakeGreater, MakeTop, MakeBeside, MakeLesser, AskOld, AskNew, Confirm, CheckAbove, UpgradeOne, UpgradeTop, UpgradeAbove, UpgradeBelow, ChangeTwo, Retire, Unlock, Unwind, Sweep}
 use Rattle.congee.specs.declared.protocol.machine.Outcome.{Outcome}
 use Rattle.congee.specs.declared.protocol.machine.Outcome.TheVariants.{Running, Asks, Found, Done, Scanned, Refused}
 use Rattle.congee.specs.declared.protocol.machine.Move.{Move}
@@ -139,13 +139,9 @@ module _ (C V : Type 0) (Q : Refusal → Type 0) where
   hands_on (Some c) last r = runs
 
   changes : (two : Two C) (r : Reply V) (change : Double C) → Only (after_change two r change)
-  changes two r Unlink = runs
-  changes two r (Shrink c) = runs
   changes two r Collapse = tops two r two.top
   changes two r (ShrinkAbove c) = tops two r two.top
-  changes two r (Grow c) = runs
-  changes two r (GrowLink c leaf byte) = runs
-  changes two r (Split top leaf common byte) = runs
+  changes two r _ = runs
 
   given_new : (plan : Plan C) (told : Option (Option V)) (v v' : Option V) (t : NextPhase C V) → IsGivenNew plan told v v' t → Only t
   given_new plan None v v' t x = to _ t x.1 (wonders None)
@@ -163,11 +159,7 @@ module _ (C V : Type 0) (Q : Refusal → Type 0) where
 
     at_old : (same : V → V → Bool) (kind : Kind V) (new : Option V) (s : Site C) (old : V) (t : NextPhase C V) → IsAtOld always same kind new s old t → Only t
     at_old same Insert new s old t x = to _ t x (replaces s (is_same same old new) (reply.Insert (Some old)))
-    at_old same Get new s old t x = asks s old t x
-    at_old same Remove new s old t x = asks s old t x
-    at_old same ComputePresent new s old t x = asks s old t x
-    at_old same ComputeInsert new s old t x = asks s old t x
-    at_old same (Exchange u) new s old t x = asks s old t x
+    at_old same _ new s old t x = asks s old t x
 
     adds_at : (same : V → V → Bool) (kind : Kind V) (new : Option V) (s : Site C) (above : Option (Over C)) (old : V) (t : NextPhase C V) → IsAdded always same kind new s above old t → Only t
     adds_at same kind new s None old t x = at_old same kind new s old t x
@@ -348,26 +340,19 @@ module _ {C V : Type 0} (number : C → ℕ) (same : V → V → Bool) (always :
   only new (Confirm at r) new' t x g = if_taken C V _ _ root _ t g.2 (λ y. to C V _ _ t y (answers C V _ r))
   only new (CheckAbove p one r) new' t x g = on_test (is_taken (h (number p.node)) p.version) (λ e. to C V _ _ t (g.1.goes_on e).1 (runs C V _)) (λ e. to C V _ _ t (g.1.goes_back e).1 (runs C V _))
   only new (UpgradeOne one r) new' t x g = one_upgraded one r g.1.0 t g.1.1 g.1.2
-  only new (ChangeOne one r) new' t x g = to C V _ _ t g.2 (runs C V _)
   only new (UpgradeTop top two r) new' t x g = top_upgraded top two r g.1.0 t g.1.1 g.1.2
   only new (UpgradeAbove two r) new' t x g = above_upgraded two r g.1.0 t g.1.1 g.1.2
   only new (UpgradeBelow two r) new' t x g = both_upgraded two r g.1.0 t g.1.2
   only new (ChangeTwo two r) new' t x g = to C V _ _ t g.2 (changes C V _ two r two.change)
-  only new (Obsolete n next p r) new' t x g = to C V _ _ t g.2 (runs C V _)
   only new (Retire n next p r) new' t x g = to C V _ _ t g.2 (hands_on C V _ next p r)
-  only new (UnlockBelow n p r) new' t x g = to C V _ _ t g.2 (runs C V _)
   only new (Unlock n r) new' t x g = to C V _ _ t g.2 (answers C V _ r)
   only new (Unwind n next e) new' t x g = unwinds next e t x.3 g.2
   only new (Sweep s) new' t x g = λ e p. told_cause number always root s g.2.1 (told_swept number always root s a h s.stage (g.2.0, g.2.1) x g.2.2) e (sym (ap (λ (u : NextPhase C V). u.report.outcome) g.2.3) ∙ p)
-  only new Ended new' t x g = to C V _ _ t g.2 (runs C V _)
+  only new _ new' t x g = to C V _ _ t g.2 (runs C V _)
 
   by_outcome : (s : Phase C V) (o : Outcome V) → ((e : Refusal) → o ≡ Refused e → By s e) → IsCause why most always s o
-  by_outcome s Running f = tt
-  by_outcome s (Asks o) f = tt
-  by_outcome s (Found place x v) f = tt
-  by_outcome s (Done r) f = tt
-  by_outcome s (Scanned n) f = tt
   by_outcome s (Refused e) f = f e refl
+  by_outcome s _ f = tt
 
   pub caused : (new : Option V) (s : Phase C V) (new' : Option V) (t : NextPhase C V) → Known number same always i a h k key kind new s → PhaseStepped number same always most why root key kind fail answer new s h new' t h' → IsCause why most always s t.report.outcome
   caused new s new' t x g = by_outcome s t.report.outcome (only new s new' t x g)

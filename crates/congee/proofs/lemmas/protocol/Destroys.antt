@@ -12,7 +12,7 @@ use Rattle.congee.specs.declared.protocol.phase.Two.{Two}
 use Rattle.congee.specs.declared.protocol.phase.Plan.{Plan}
 use Rattle.congee.specs.declared.protocol.phase.Plan.TheVariants.{Here, Above}
 use Rattle.congee.specs.declared.protocol.phase.Phase.{Phase}
-use Rattle.congee.specs.declared.protocol.phase.Phase.TheVariants.{New, Version, Read, Check, CheckUncopied, CheckMiss, CheckDown, CheckOld, MakeLeaf, MakeGreater, MakeTop, MakeBeside, MakeLesser, AskOld, AskNew, Confirm, CheckAbove, UpgradeOne, ChangeOne, UpgradeTop, UpgradeAbove, UpgradeBelow, ChangeTwo, Obsolete, Retire, UnlockBelow, Unlock, Unwind, Sweep, Ended}
+use Rattle.congee.specs.declared.protocol.phase.Phase.TheVariants.{MakeGreater, MakeBeside, AskNew, CheckAbove, UpgradeOne, ChangeOne, UpgradeTop, UpgradeAbove, UpgradeBelow, ChangeTwo, Obsolete, Retire, UnlockBelow, Unlock, Unwind}
 use Rattle.congee.specs.declared.protocol.machine.Machine.{Machine}
 use Rattle.congee.specs.Heap.{Node, walk}
 use Rattle.congee.specs.Keys.{key_bytes}
@@ -72,22 +72,9 @@ module _ {C : Type 0} (number : C → ℕ) (K : ℕ → Type 0) (n : ℕ) where
 
   module _ {V : Type 0} where
     pub made_named : (s : Phase C V) → Each K (names number s) → MadeBy number s n → K n
-    made_named New e x = absurd x
-    made_named (Version p c) e x = absurd x
-    made_named (Read p at) e x = absurd x
-    made_named (Check s c) e x = absurd x
-    made_named (CheckUncopied at) e x = absurd x
-    made_named (CheckMiss p at common byte) e x = absurd x
-    made_named (CheckDown p at c) e x = absurd x
-    made_named (CheckOld p s v) e x = absurd x
-    made_named (MakeLeaf s) e x = absurd x
     made_named (MakeGreater s p leaf) e x = leaf_named leaf s (left K (name_made number leaf) (names_site number s) e.1) x
-    made_named (MakeTop p at common byte) e x = absurd x
     made_named (MakeBeside p at common byte top) e x = at_name top x e.1.1.0
-    made_named (MakeLesser s p g r) e x = absurd x
-    made_named (AskOld s v) e x = absurd x
     made_named (AskNew plan) e x = plan_named plan e x
-    made_named (Confirm at r) e x = absurd x
     made_named (CheckAbove p one r) e x = one_named one.change e.1.1 x
     made_named (UpgradeOne one r) e x = one_named one.change e.1 x
     made_named (ChangeOne one r) e x = one_named one.change e.1 x
@@ -95,35 +82,10 @@ module _ {C : Type 0} (number : C → ℕ) (K : ℕ → Type 0) (n : ℕ) where
     made_named (UpgradeAbove two r) e x = made_for_two two e x
     made_named (UpgradeBelow two r) e x = made_for_two two e x
     made_named (ChangeTwo two r) e x = made_for_two two e x
-    made_named (Obsolete m next p r) e x = absurd x
-    made_named (Retire m next p r) e x = absurd x
-    made_named (UnlockBelow m p r) e x = absurd x
-    made_named (Unlock m r) e x = absurd x
-    made_named (Unwind m next f) e x = absurd x
-    made_named (Sweep s) e x = absurd x
-    made_named Ended e x = absurd x
+    made_named _ e x = absurd x
 
     pub locked_named : (s : Phase C V) → Each K (names number s) → LockedBy number s n → K n
-    locked_named New e x = absurd x
-    locked_named (Version p c) e x = absurd x
-    locked_named (Read p at) e x = absurd x
-    locked_named (Check s c) e x = absurd x
-    locked_named (CheckUncopied at) e x = absurd x
-    locked_named (CheckMiss p at common byte) e x = absurd x
-    locked_named (CheckDown p at c) e x = absurd x
-    locked_named (CheckOld p s v) e x = absurd x
-    locked_named (MakeLeaf s) e x = absurd x
-    locked_named (MakeGreater s p leaf) e x = absurd x
-    locked_named (MakeTop p at common byte) e x = absurd x
-    locked_named (MakeBeside p at common byte top) e x = absurd x
-    locked_named (MakeLesser s p g r) e x = absurd x
-    locked_named (AskOld s v) e x = absurd x
-    locked_named (AskNew plan) e x = absurd x
-    locked_named (Confirm at r) e x = absurd x
-    locked_named (CheckAbove p one r) e x = absurd x
-    locked_named (UpgradeOne one r) e x = absurd x
     locked_named (ChangeOne one r) e x = at_name one.at.node x e.0
-    locked_named (UpgradeTop g two r) e x = absurd x
     locked_named (UpgradeAbove two r) e x = top_named two e x
     locked_named (UpgradeBelow two r) e (inl x) = at_name two.above.seat.node x e.0
     locked_named (UpgradeBelow two r) e (inr x) = top_named two e x
@@ -141,8 +103,7 @@ module _ {C : Type 0} (number : C → ℕ) (K : ℕ → Type 0) (n : ℕ) where
     locked_named (Unlock m r) e x = at_name m x e.0
     locked_named (Unwind m next f) e (inl x) = at_name m x e.0
     locked_named (Unwind m next f) e (inr x) = next_named next e.1 x
-    locked_named (Sweep s) e x = absurd x
-    locked_named Ended e x = absurd x
+    locked_named _ e x = absurd x
 
 -- the note of a destroyed node, and of one that is as it was
 

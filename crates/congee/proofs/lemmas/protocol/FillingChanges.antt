@@ -20,16 +20,13 @@ use Rattle.congee.proofs.lemmas.protocol.Filling.{filled_small, filled_same, fil
 
 -- a change that adds a value has one
 no_gift : {C V : Type 0} (change : Double C) (found : Option V) → Adding change → FitsTwo change found None → ⊥
-no_gift Unlink found d f = d
-no_gift (Shrink c) found d f = d
-no_gift Collapse found d f = d
-no_gift (ShrinkAbove c) found d f = d
 no_gift (Grow c) None d f = f
 no_gift (Grow c) (Some v) d f = f
 no_gift (GrowLink c leaf byte) None d f = f
 no_gift (GrowLink c leaf byte) (Some v) d f = f
 no_gift (Split top leaf common byte) None d f = f
 no_gift (Split top leaf common byte) (Some v) d f = f
+no_gift _ found d f = d
 
 module _ {C V : Type 0} (number : C → ℕ) (i : ℕ) (a : ℕ → Note) (h : ℕ → Node V) (key : List ℕ) (t : Tree a h) (w : LockWords a h) (f : AllFilled h) where
   -- the change of one node

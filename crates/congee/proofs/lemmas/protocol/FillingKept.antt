@@ -19,7 +19,7 @@ use Rattle.congee.specs.declared.protocol.phase.Two.{Two}
 use Rattle.congee.specs.declared.protocol.phase.Plan.{Plan}
 use Rattle.congee.specs.declared.protocol.phase.Plan.TheVariants.{Here, Above}
 use Rattle.congee.specs.declared.protocol.phase.Phase.{Phase}
-use Rattle.congee.specs.declared.protocol.phase.Phase.TheVariants.{New, Version, Read, Check, CheckUncopied, CheckMiss, CheckDown, CheckOld, MakeLeaf, MakeGreater, MakeTop, MakeBeside, MakeLesser, AskOld, AskNew, Confirm, CheckAbove, UpgradeOne, ChangeOne, UpgradeTop, UpgradeAbove, UpgradeBelow, ChangeTwo, Obsolete, Retire, UnlockBelow, Unlock, Unwind, Sweep, Ended}
+use Rattle.congee.specs.declared.protocol.phase.Phase.TheVariants.{MakeLeaf, MakeGreater, MakeTop, MakeBeside, MakeLesser, AskNew, CheckAbove, UpgradeOne, ChangeOne, UpgradeTop, UpgradeAbove, UpgradeBelow, ChangeTwo, Obsolete, Retire, UnlockBelow, Unlock, Unwind}
 use Rattle.congee.specs.declared.protocol.turn.NextPhase.{NextPhase}
 use Rattle.congee.specs.Heap.{Node, Hung, is_taken}
 use Rattle.congee.specs.Keys.{key_bytes}
@@ -121,22 +121,11 @@ module _ {C V : Type 0} (number : C → ℕ) (same : V → V → Bool) (always :
   -- every step
   pub step_filled : (most : ℕ) (why : NodeType → Refusal → Type 0) (root : C) (fail : Bool) (answer : Option (Option V)) (s : Phase C V) (given' : Option V) (turn : NextPhase C V) → Known number same always i a h k (key_bytes k) kind given s → Fills number h given s
       → PhaseStepped number same always most why root (key_bytes k) kind fail answer given s h given' turn h' → AllFilled h'
-  step_filled most why root fail answer New given' turn m x g = equal g.0
-  step_filled most why root fail answer (Version p n) given' turn m x g = equal g.0
-  step_filled most why root fail answer (Read p at) given' turn m x g = equal g.0
-  step_filled most why root fail answer (Check s c) given' turn m x g = equal g.0
-  step_filled most why root fail answer (CheckUncopied at) given' turn m x g = equal g.0
-  step_filled most why root fail answer (CheckMiss p at common byte) given' turn m x g = equal g.0
-  step_filled most why root fail answer (CheckDown p at c) given' turn m x g = equal g.0
-  step_filled most why root fail answer (CheckOld p s v) given' turn m x g = equal g.0
   step_filled most why root fail answer (MakeLeaf s) given' turn m x g = leaf_made s turn g.1.0 g.1.1
   step_filled most why root fail answer (MakeGreater s p leaf) given' turn m x g = greater_made s p leaf turn g.1.0 m.3 g.1.1
   step_filled most why root fail answer (MakeTop p at common byte) given' turn m x g = top_made p at common byte turn g.1.0 g.1.1
   step_filled most why root fail answer (MakeBeside p at common byte top) given' turn m x g = beside_made p at common byte top turn g.1.0 m.6 g.1.1
   step_filled most why root fail answer (MakeLesser s p top r) given' turn m x g = lesser_made s p top r turn g.1.0 g.1.1
-  step_filled most why root fail answer (AskOld s v) given' turn m x g = equal g.0
-  step_filled most why root fail answer (AskNew plan) given' turn m x g = equal g.0
-  step_filled most why root fail answer (Confirm at r) given' turn m x g = equal g.0
   step_filled most why root fail answer (CheckAbove p one r) given' turn m x g = on_test (is_taken (h (number p.node)) p.version) (λ q. equal (g.1.goes_on q).0) (λ q. stays (one_back_still number i a h h' (key_bytes k) w one.change m.2.made (g.1.goes_back q).0))
   step_filled most why root fail answer (UpgradeOne one r) given' turn m x g = one_upgraded root one r turn g.1.0 m.1.1.made g.1.2
   step_filled most why root fail answer (ChangeOne one r) given' turn m x g = one_filled number i a h (key_bytes k) t w f one m.0 given h' m.1 m.2 x g.1
@@ -149,8 +138,7 @@ module _ {C V : Type 0} (number : C → ℕ) (same : V → V → Bool) (always :
   step_filled most why root fail answer (UnlockBelow n p r) given' turn m x g = stays (still_but a h w h' (number n) _ (record { prefix = refl; children = λ b. refl; count = refl; capacity = refl }) g.1)
   step_filled most why root fail answer (Unlock n r) given' turn m x g = stays (still_but a h w h' (number n) _ (record { prefix = refl; children = λ b. refl; count = refl; capacity = refl }) g.1)
   step_filled most why root fail answer (Unwind n next e) given' turn m x g = stays (still_but a h w h' (number n) _ (record { prefix = refl; children = λ b. refl; count = refl; capacity = refl }) g.1)
-  step_filled most why root fail answer (Sweep s) given' turn m x g = equal g.0
-  step_filled most why root fail answer Ended given' turn m x g = equal g.0
+  step_filled most why root fail answer _ given' turn m x g = equal g.0
 
 -- the steps of others, and nodes that are destroyed, leave what a call is about to do
 module _ {C V : Type 0} (number : C → ℕ) (key : List ℕ) (K : ℕ → Type 0) (i : ℕ) (a : ℕ → Note) (h : ℕ → Node V) (a' : ℕ → Note) (h' : ℕ → Node V) (r : Rely K i a h a' h') where

@@ -29,7 +29,7 @@ use Rattle.congee.specs.declared.protocol.phase.Two.{Two}
 use Rattle.congee.specs.declared.protocol.phase.Plan.{Plan}
 use Rattle.congee.specs.declared.protocol.phase.Plan.TheVariants.{Here, Above}
 use Rattle.congee.specs.declared.protocol.phase.Phase.{Phase}
-use Rattle.congee.specs.declared.protocol.phase.Phase.TheVariants.{New, Version, Read, Check, CheckUncopied, CheckMiss, CheckDown, CheckOld, MakeLeaf, MakeGreater, MakeTop, MakeBeside, MakeLesser, AskOld, AskNew, Confirm, CheckAbove, UpgradeOne, ChangeOne, UpgradeTop, UpgradeAbove, UpgradeBelow, ChangeTwo, Obsolete, Retire, UnlockBelow, Unlock, Unwind, Sweep, Ended}
+use Rattle.congee.specs.declared.protocol.phase.Phase.TheVariants.{New, Version, Read, Check, CheckUncopied, CheckMiss, CheckDown, CheckOld, MakeLeaf, MakeGreater, MakeTop, MakeBeside, MakeLesser, AskOld, AskNew, Confirm, CheckAbove, UpgradeOne, UpgradeTop, UpgradeAbove, UpgradeBelow, ChangeTwo, Retire, Unwind, Sweep}
 use Rattle.congee.specs.declared.protocol.turn.NextPhase.{NextPhase}
 use Rattle.congee.specs.Heap.{Node, Nothing, Below, Holds, child_for, is_taken, is_free, version_of}
 use Rattle.congee.specs.Notes.{Note, Linked, is_published, IsChild, Tree, LockWords}
@@ -74,9 +74,7 @@ lessened N256 n k l s = omega (arith, s, l)
 -- a form that gives place has more than one child
 some_left : (form : NodeType) (n k : ℕ) → shrinks form n ≡ true → least_in form ≤ n → suc k ≡ n → 1 ≤ k
 some_left N4 n k e l s = absurd (let z : false ≡ true = e in cc)
-some_left N16 n k e l s = omega (arith, s, l)
-some_left N48 n k e l s = omega (arith, s, l)
-some_left N256 n k e l s = omega (arith, s, l)
+some_left _ n k e l s = omega (arith, s, l)
 
 grown : (n : ℕ) → least_in (form_above n) ≤ suc n
 grown n = by_test (λ (x : NodeType). least_in x ≤ suc n) (ltb n 4) _ _ (λ _. omega arith)
@@ -182,12 +180,9 @@ module _ {C V : Type 0} (number : C → ℕ) (h : ℕ → Node V) where
   started_next v (Above two) r f = f
 
   ready_next : (kind : Kind V) (given : Option V) (plan : Plan C) → adds kind ≡ true → HasGift kind given → ((v : V) → MayFillPlan number h v plan) → Next given (ready kind plan)
-  ready_next Get given plan e g f = absurd cc
-  ready_next Remove given plan e g f = absurd cc
-  ready_next ComputePresent given plan e g f = absurd cc
-  ready_next (Exchange old) given plan e g f = absurd cc
   ready_next ComputeInsert given plan e g f = f
   ready_next Insert given plan e g f = let P : Option V → Type 0 = λ o. Next o (started plan (reply.Insert None)) in subst P (sym g.1) (started_next g.0 plan (reply.Insert None) (f g.0))
+  ready_next _ given plan e g f = absurd cc
 
   set_plan : (s : Site C) (v : V) → MayFillPlan number h v (plan_here s Set)
   set_plan s v = λ _. tt
@@ -253,13 +248,9 @@ module _ {C V : Type 0} (number : C → ℕ) (h : ℕ → Node V) where
   top_next given two r (Some g) = tt
 
   change_next : (given : Option V) (two : Two C) (r : Reply V) (change : Double C) → Next given (after_change two r change)
-  change_next given two r (Split top leaf common byte) = tt
   change_next given two r Collapse = top_next given two r two.top
   change_next given two r (ShrinkAbove c) = top_next given two r two.top
-  change_next given two r Unlink = tt
-  change_next given two r (Grow c) = tt
-  change_next given two r (GrowLink c leaf byte) = tt
-  change_next given two r (Shrink c) = tt
+  change_next given two r _ = tt
 
   if_next : (given : Option V) (taken : Bool) (root : C) (Then : NextPhase C V → Type 0) (turn : NextPhase C V) → IsIf taken root Then turn → (taken ≡ true → Then turn → Next given turn) → Next given turn
   if_next given taken root Then turn x n = on_test taken (λ e. n e (x.0 e)) (λ e. turn_at given _ turn (x.1 e) tt)
@@ -319,11 +310,7 @@ module _ {C V : Type 0} (number : C → ℕ) (same : V → V → Bool) (always :
 
   at_old_next : (kind : Kind V) (given : Option V) (s : Site C) (v : V) (turn : NextPhase C V) → HasGift kind given → IsAtOld always same kind given s v turn → Next number h given turn
   at_old_next Insert given s v turn g e = turn_at number h given _ turn e (replaced_as given g.0 s (is_same same v given) (reply.Insert (Some v)) g.1)
-  at_old_next Get given s v turn g e = asked_next number h always given s v turn e
-  at_old_next Remove given s v turn g e = asked_next number h always given s v turn e
-  at_old_next ComputePresent given s v turn g e = asked_next number h always given s v turn e
-  at_old_next ComputeInsert given s v turn g e = asked_next number h always given s v turn e
-  at_old_next (Exchange old) given s v turn g e = asked_next number h always given s v turn e
+  at_old_next _ given s v turn g e = asked_next number h always given s v turn e
 
   added_next : (kind : Kind V) (given : Option V) (s : Site C) (p : Option (Over C)) (v : V) (turn : NextPhase C V) → HasGift kind given → IsAdded always same kind given s p v turn → Next number h given turn
   added_next kind given s None v turn g e = at_old_next kind given s v turn g e
@@ -532,15 +519,11 @@ module _ {C V : Type 0} (number : C → ℕ) (same : V → V → Bool) (always :
       (λ q. let P : (ℕ → Node V) → Type 0 = λ y. Next number y given turn in subst P (sym (g.1.goes_on q).0) (turn_at number h given _ turn (g.1.goes_on q).1 x))
       (λ q. turn_at number h' given _ turn (g.1.goes_back q).1 tt))
   step_next most why root fail answer (UpgradeOne one r) given' turn m x z g = given_to given' turn g.0 (one_locked_next most fail root one r turn g.1.0 x g.1.1 g.1.2)
-  step_next most why root fail answer (ChangeOne one r) given' turn m x z g = turn_at number h' given' _ turn g.2 tt
   step_next most why root fail answer (UpgradeTop top two r) given' turn m x z g = given_to given' turn g.0 (top_locked_next most fail root top two r turn g.1.0 x g.1.1 g.1.2)
   step_next most why root fail answer (UpgradeAbove two r) given' turn m x z g = given_to given' turn g.0 (above_locked_next most fail root two r turn g.1.0 x g.1.1 g.1.2)
   step_next most why root fail answer (UpgradeBelow two r) given' turn m x z g = given_to given' turn g.0 (both_locked_next most fail two r turn g.1.0 x g.1.1 g.1.2)
   step_next most why root fail answer (ChangeTwo two r) given' turn m x z g = turn_at number h' given' _ turn g.2 (change_next number h' given' two r two.change)
-  step_next most why root fail answer (Obsolete n next p r) given' turn m x z g = turn_at number h' given' _ turn g.2 tt
   step_next most why root fail answer (Retire n next p r) given' turn m x z g = turn_at number h' given' _ turn g.2 (retire_next number h' given' next p r)
-  step_next most why root fail answer (UnlockBelow n p r) given' turn m x z g = turn_at number h' given' _ turn g.2 tt
-  step_next most why root fail answer (Unlock n r) given' turn m x z g = turn_at number h' given' _ turn g.2 tt
   step_next most why root fail answer (Unwind n next e) given' turn m x z g = turn_at number h' given' _ turn g.2 (unwind_next number h' given' root next e)
   step_next most why root fail answer (Sweep s) given' turn m x z g = turn_at number h' given' _ turn g.2.3 tt
-  step_next most why root fail answer Ended given' turn m x z g = turn_at number h' given' _ turn g.2 tt
+  step_next most why root fail answer _ given' turn m x z g = turn_at number h' given' _ turn g.2 tt

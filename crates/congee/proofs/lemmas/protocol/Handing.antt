@@ -22,7 +22,7 @@ use Rattle.congee.specs.declared.protocol.phase.Double.{Double}
 use Rattle.congee.specs.declared.protocol.phase.Double.TheVariants.{Unlink, Grow, GrowLink, Split, Shrink, Collapse, ShrinkAbove}
 use Rattle.congee.specs.declared.protocol.phase.Two.{Two}
 use Rattle.congee.specs.declared.protocol.phase.Phase.{Phase}
-use Rattle.congee.specs.declared.protocol.phase.Phase.TheVariants.{New, Version, Read, Check, CheckUncopied, CheckMiss, CheckDown, CheckOld, MakeLeaf, MakeGreater, MakeTop, MakeBeside, MakeLesser, AskOld, AskNew, Confirm, CheckAbove, UpgradeOne, ChangeOne, UpgradeTop, UpgradeAbove, UpgradeBelow, ChangeTwo, Obsolete, Retire, UnlockBelow, Unlock, Unwind, Sweep, Ended}
+use Rattle.congee.specs.declared.protocol.phase.Phase.TheVariants.{MakeLeaf, MakeGreater, MakeTop, MakeBeside, MakeLesser, CheckAbove, UpgradeOne, ChangeOne, UpgradeTop, UpgradeAbove, UpgradeBelow, ChangeTwo, Obsolete, Retire, UnlockBelow, Unlock, Unwind, Ended}
 use Rattle.congee.specs.declared.protocol.turn.NextPhase.{NextPhase}
 use Rattle.congee.specs.declared.protocol.machine.Machine.{Machine}
 use Rattle.congee.specs.declared.protocol.run.Step.{Step}
@@ -288,22 +288,11 @@ module _ {C V : Type 0} (number : C → ℕ) (same : V → V → Bool) (always :
   pub step_hands : (most : ℕ) (why : NodeType → Refusal → Type 0) (root : C) (kind : Kind V) (fail : Bool) (answer : Option (Option V)) (given : Option V) (s : Phase C V) (given' : Option V) (turn : NextPhase C V)
       → Known number same always i a h k (key_bytes k) kind given s → PhaseStepped number same always most why root (key_bytes k) kind fail answer given s h given' turn h'
       → SparesWaiting h h' ⊎ ((n : ℕ) × Gives number h s n h' turn.phase)
-  step_hands most why root kind fail answer given New given' turn x g = inl (spares_same h h' g.0)
-  step_hands most why root kind fail answer given (Version p n) given' turn x g = inl (spares_same h h' g.0)
-  step_hands most why root kind fail answer given (Read p at) given' turn x g = inl (spares_same h h' g.0)
-  step_hands most why root kind fail answer given (Check s c) given' turn x g = inl (spares_same h h' g.0)
-  step_hands most why root kind fail answer given (CheckUncopied at) given' turn x g = inl (spares_same h h' g.0)
-  step_hands most why root kind fail answer given (CheckMiss p at common byte) given' turn x g = inl (spares_same h h' g.0)
-  step_hands most why root kind fail answer given (CheckDown p at c) given' turn x g = inl (spares_same h h' g.0)
-  step_hands most why root kind fail answer given (CheckOld p s v) given' turn x g = inl (spares_same h h' g.0)
   step_hands most why root kind fail answer given (MakeLeaf s) given' turn x g = inl (leaf_made number i a h h' (key_bytes k) kind s g.1.0 turn g.1.1)
   step_hands most why root kind fail answer given (MakeGreater s p leaf) given' turn x g = inl (greater_made number i a h h' (key_bytes k) kind s p leaf g.1.0 turn x.3 g.1.1)
   step_hands most why root kind fail answer given (MakeTop p at common byte) given' turn x g = inl (top_made number i a h h' (key_bytes k) p at common byte g.1.0 turn g.1.1)
   step_hands most why root kind fail answer given (MakeBeside p at common byte top) given' turn x g = inl (beside_made number i a h h' (key_bytes k) kind p at common byte top g.1.0 turn x.6 g.1.1)
   step_hands most why root kind fail answer given (MakeLesser s p top r) given' turn x g = inl (lesser_made number i a h h' (key_bytes k) s p top r g.1.0 turn g.1.1)
-  step_hands most why root kind fail answer given (AskOld s v) given' turn x g = inl (spares_same h h' g.0)
-  step_hands most why root kind fail answer given (AskNew plan) given' turn x g = inl (spares_same h h' g.0)
-  step_hands most why root kind fail answer given (Confirm at r) given' turn x g = inl (spares_same h h' g.0)
   step_hands most why root kind fail answer given (CheckAbove p one r) given' turn x g = inl (on_test (is_taken (h (number p.node)) p.version)
       (λ y. spares_same h h' (g.1.goes_on y).0)
       (λ y. back_one number i a h h' (key_bytes k) one.change x.2.made (g.1.goes_back y).0))
@@ -346,8 +335,7 @@ module _ {C V : Type 0} (number : C → ℕ) (same : V → V → Bool) (always :
   step_hands most why root kind fail answer given (UnlockBelow n p r) given' turn x g = inl (unlock_spares (number n) x.0.linked g.1)
   step_hands most why root kind fail answer given (Unlock n r) given' turn x g = inl (unlock_spares (number n) x.linked g.1)
   step_hands most why root kind fail answer given (Unwind n next e) given' turn x g = inl (unlock_spares (number n) x.1.linked g.1)
-  step_hands most why root kind fail answer given (Sweep s) given' turn x g = inl (spares_same h h' g.0)
-  step_hands most why root kind fail answer given Ended given' turn x g = inl (spares_same h h' g.0)
+  step_hands most why root kind fail answer given _ given' turn x g = inl (spares_same h h' g.0)
 
   -- a call that is leaving goes on to leave
   pub leaves_on : (most : ℕ) (why : NodeType → Refusal → Type 0) (root : C) (kind : Kind V) (fail : Bool) (answer : Option (Option V)) (given : Option V) (s : Phase C V) (given' : Option V) (turn : NextPhase C V)

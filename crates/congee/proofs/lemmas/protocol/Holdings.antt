@@ -20,7 +20,7 @@ use Rattle.congee.specs.declared.protocol.phase.Two.{Two}
 use Rattle.congee.specs.declared.protocol.phase.Plan.{Plan}
 use Rattle.congee.specs.declared.protocol.phase.Plan.TheVariants.{Here, Above}
 use Rattle.congee.specs.declared.protocol.phase.Phase.{Phase}
-use Rattle.congee.specs.declared.protocol.phase.Phase.TheVariants.{New, Version, Read, Check, CheckUncopied, CheckMiss, CheckDown, CheckOld, MakeLeaf, MakeGreater, MakeTop, MakeBeside, MakeLesser, AskOld, AskNew, Confirm, CheckAbove, UpgradeOne, ChangeOne, UpgradeTop, UpgradeAbove, UpgradeBelow, ChangeTwo, Obsolete, Retire, UnlockBelow, Unlock, Unwind, Sweep, Ended}
+use Rattle.congee.specs.declared.protocol.phase.Phase.TheVariants.{MakeLeaf, MakeGreater, MakeTop, MakeBeside, MakeLesser, AskNew, CheckAbove, UpgradeOne, ChangeOne, UpgradeTop, UpgradeAbove, UpgradeBelow, ChangeTwo, Obsolete, Retire, UnlockBelow, Unlock, Unwind, Ended}
 use Rattle.congee.specs.declared.protocol.turn.NextPhase.{NextPhase}
 use Rattle.congee.specs.Heap.{Node, Hung, Below, is_taken}
 use Rattle.congee.specs.protocol.Events.{SameBut, NewNode, ChangeGives, TakeOverGives, BackGives}
@@ -550,13 +550,10 @@ module _ {C V : Type 0} (number : C → ℕ) (same : V → V → Bool) (always :
   lessen_goes two r turn given' kind c (Some top) e z x = tops two r turn given' kind top e x
 
   after_two : (two : Two C) (r : Reply V) (change : Double C) (turn : NextPhase C V) (given' : Option V) (kind : Kind V) → turn ≡ after_change two r change → HasTop change two.top → Known number same always i a' h' k (key_bytes k) kind given' turn.phase → Goes two change two.top turn.phase
-  after_two two r Unlink turn given' kind e z x = marks two r turn given' kind two.top e z x
-  after_two two r (Shrink c) turn given' kind e z x = marks two r turn given' kind two.top e z x
   after_two two r Collapse turn given' kind e z x = collapse_goes two r turn given' kind two.top e z x
   after_two two r (ShrinkAbove c) turn given' kind e z x = lessen_goes two r turn given' kind c two.top e z x
-  after_two two r (Grow c) turn given' kind e z x = marks two r turn given' kind two.top e z x
-  after_two two r (GrowLink c leaf byte) turn given' kind e z x = marks two r turn given' kind two.top e z x
   after_two two r (Split top leaf common byte) turn given' kind e z x = lets_go two r turn given' kind two.top e z x
+  after_two two r _ turn given' kind e z x = marks two r turn given' kind two.top e z x
 
   -- a change of the nodes
   changes : (L M : ℕ → Type 0) → Own L → Mine M → Flags h h' → ((n : ℕ) → M n → (a' n).status ≡ Held i → ⊥) → (s : Phase C V) → ((n : ℕ) → (a' n).owner ≡ Some i → L n → LockedBy number s n) → Now s
@@ -623,20 +620,11 @@ module _ {C V : Type 0} (number : C → ℕ) (same : V → V → Bool) (always :
   pub step_holds : (most : ℕ) (why : NodeType → Refusal → Type 0) (root : C) (kind : Kind V) (fail : Bool) (answer : Option (Option V)) (given : Option V) (s : Phase C V) (given' : Option V) (turn : NextPhase C V)
       → Own (LockedBy number s) → Mine (MadeBy number s) → Known number same always i a h k (key_bytes k) kind given s → Known number same always i a' h' k (key_bytes k) kind given' turn.phase
       → PhaseStepped number same always most why root (key_bytes k) kind fail answer given s h given' turn h' → Now turn.phase
-  step_holds most why root kind fail answer given New given' turn o m x x' g = calm_bare g.0 o m turn.phase
-  step_holds most why root kind fail answer given (Version p n) given' turn o m x x' g = calm_bare g.0 o m turn.phase
-  step_holds most why root kind fail answer given (Read p at) given' turn o m x x' g = calm_bare g.0 o m turn.phase
-  step_holds most why root kind fail answer given (Check s c) given' turn o m x x' g = calm_bare g.0 o m turn.phase
-  step_holds most why root kind fail answer given (CheckUncopied at) given' turn o m x x' g = calm_bare g.0 o m turn.phase
-  step_holds most why root kind fail answer given (CheckMiss p at common byte) given' turn o m x x' g = calm_bare g.0 o m turn.phase
-  step_holds most why root kind fail answer given (CheckDown p at c) given' turn o m x x' g = calm_bare g.0 o m turn.phase
-  step_holds most why root kind fail answer given (CheckOld p s v) given' turn o m x x' g = calm_bare g.0 o m turn.phase
   step_holds most why root kind fail answer given (MakeLeaf s) given' turn o m x x' g = leaf_holds kind s g.1.0 turn o m g.1.1
   step_holds most why root kind fail answer given (MakeGreater s p leaf) given' turn o m x x' g = greater_holds kind s p leaf g.1.0 turn o m x.3 g.1.1
   step_holds most why root kind fail answer given (MakeTop p at common byte) given' turn o m x x' g = top_holds p at common byte g.1.0 turn o m g.1.1
   step_holds most why root kind fail answer given (MakeBeside p at common byte top) given' turn o m x x' g = beside_holds kind p at common byte top g.1.0 turn o m x.6 g.1.1
   step_holds most why root kind fail answer given (MakeLesser s p top r) given' turn o m x x' g = lesser_holds s p top r g.1.0 turn o m g.1.1
-  step_holds most why root kind fail answer given (AskOld s v) given' turn o m x x' g = calm_bare g.0 o m turn.phase
   step_holds most why root kind fail answer given (AskNew plan) given' turn o m x x' g = asked answer g.1 where
     stays : turn ≡ asking (AskNew plan) None → Now turn.phase
     stays e = at_turn _ turn e (calm_mine g.0 o (MadeForPlan number plan) m (AskNew plan) (λ n y. y))
@@ -645,7 +633,6 @@ module _ {C V : Type 0} (number : C → ℕ) (same : V → V → Bool) (always :
     asked None y = stays y.1
     asked (Some None) y = stays y.1
     asked (Some (Some z)) y = at_turn _ turn y.1 (calm_mine g.0 o (MadeForPlan number plan) m _ (λ n u. started_made number plan _ n u))
-  step_holds most why root kind fail answer given (Confirm at r) given' turn o m x x' g = calm_bare g.0 o m turn.phase
   step_holds most why root kind fail answer given (CheckAbove p one r) given' turn o m x x' g = on_test (is_taken (h (number p.node)) p.version)
       (λ y. let z : (h' ≡ h) × (turn ≡ quiet (UpgradeOne one r)) = g.1.goes_on y in at_turn _ turn z.1 (calm_mine z.0 o (MadeForOne number one.change) m (UpgradeOne one r) (λ n u. u)))
       (λ y. let z : BackOne number h one.change h' × (turn ≡ again root) = g.1.goes_back y in at_turn _ turn z.1 (back_bare o (MadeForOne number one.change) m (all_one number i a h h' (key_bytes k) one.change x.2.made z.0) _))
@@ -687,5 +674,4 @@ module _ {C V : Type 0} (number : C → ℕ) (same : V → V → Bool) (always :
       ]))
   step_holds most why root kind fail answer given (Unlock n r) given' turn o m x x' g = at_turn _ turn g.2 (unlocks (number n) g.1 (λ u. u ≡ number n) o m Ended (λ u y. inl y))
   step_holds most why root kind fail answer given (Unwind n next e) given' turn o m x x' g = unwinds root n next e turn g.2 g.1 o m
-  step_holds most why root kind fail answer given (Sweep s) given' turn o m x x' g = calm_bare g.0 o m turn.phase
-  step_holds most why root kind fail answer given Ended given' turn o m x x' g = calm_bare g.0 o m turn.phase
+  step_holds most why root kind fail answer given _ given' turn o m x x' g = calm_bare g.0 o m turn.phase

@@ -12,7 +12,7 @@ use Rattle.congee.specs.declared.protocol.phase.Single.{Single}
 use Rattle.congee.specs.declared.protocol.phase.Single.TheVariants.{Set, Link}
 use Rattle.congee.specs.declared.protocol.phase.One.{One}
 use Rattle.congee.specs.declared.protocol.phase.Double.{Double}
-use Rattle.congee.specs.declared.protocol.phase.Double.TheVariants.{Unlink, Grow, GrowLink, Split, Shrink, Collapse, ShrinkAbove}
+use Rattle.congee.specs.declared.protocol.phase.Double.TheVariants.{Unlink, GrowLink, Split, Collapse}
 use Rattle.congee.specs.declared.protocol.phase.Two.{Two}
 use Rattle.congee.specs.declared.protocol.phase.Plan.{Plan}
 use Rattle.congee.specs.declared.protocol.phase.Plan.TheVariants.{Here, Above}
@@ -86,11 +86,9 @@ module _ {C V : Type 0} (number : C → ℕ) (same : V → V → Bool) (always :
   for_two : (change : Double C) → Each (Or (MadeForTwo number change)) (names_for_two number change)
   for_two Unlink = tt
   for_two Collapse = tt
-  for_two (Shrink c) = (inr refl, tt)
-  for_two (ShrinkAbove c) = (inr refl, tt)
-  for_two (Grow c) = (inr refl, tt)
   for_two (GrowLink c leaf byte) = (inr (inl refl), (inr (inr refl), tt))
   for_two (Split top leaf common byte) = (inr (inl refl), (inr (inr refl), tt))
+  for_two _ = (inr refl, tt)
 
   one_in : (one : One C) → In (number one.at.node) → Each (Or (MadeForOne number one.change)) (names_one number one)
   one_in one at = (inl at, for_one one.change)
@@ -111,12 +109,10 @@ module _ {C V : Type 0} (number : C → ℕ) (same : V → V → Bool) (always :
   rungs_in end above (r ∷ rs) x = (x.0.seated.published, rungs_in end (suc above) rs x.1)
 
   sweep_at : (s : Scan C V) (x : Stage C V) → SweepKnownAt number always a h s x → Each In (names_sweep_at number s x)
-  sweep_at s stage.New x = tt
   sweep_at s (stage.Enter n y) x = (x.1, rungs_in s.last 0 (rungs_of s.above) x.0.rungs)
   sweep_at s (stage.Look r) x = (x.1.seated.published, rungs_in s.last 0 (rungs_of s.above) x.0.rungs)
   sweep_at s (stage.Check r y) x = (x.1.seated.published, rungs_in s.last 0 (rungs_of s.above) x.0.rungs)
-  sweep_at s stage.Full x = tt
-  sweep_at s stage.Over x = tt
+  sweep_at s _ x = tt
 
   module _ (t : Tree a h) (k : ℕ) where
     below_in : (p n : ℕ) → (a p).status ≡ Linked → child_for (h p) key ≡ Below n → In n

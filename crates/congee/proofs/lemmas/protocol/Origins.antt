@@ -26,7 +26,7 @@ use Rattle.congee.specs.declared.protocol.phase.Single.{Single}
 use Rattle.congee.specs.declared.protocol.phase.Single.TheVariants.{Set, Link}
 use Rattle.congee.specs.declared.protocol.phase.One.{One}
 use Rattle.congee.specs.declared.protocol.phase.Double.{Double}
-use Rattle.congee.specs.declared.protocol.phase.Double.TheVariants.{Unlink, Grow, GrowLink, Split, Shrink, Collapse, ShrinkAbove}
+use Rattle.congee.specs.declared.protocol.phase.Double.TheVariants.{Unlink, Collapse, ShrinkAbove}
 use Rattle.congee.specs.declared.protocol.phase.Two.{Two}
 use Rattle.congee.specs.declared.protocol.phase.Plan.{Plan}
 use Rattle.congee.specs.declared.protocol.phase.Plan.TheVariants.{Here, Above}
@@ -126,11 +126,7 @@ module _ {C : Type 0} (V : Type 0) (number : C → ℕ) (K : ℕ → Type 0) whe
 
   of_old : (always : Bool) (same : V → V → Bool) (kind : Kind V) (new : Option V) (s : Site C) (v : V) (t : NextPhase C V) → IsAtOld always same kind new s v t → Each K (names_site number s) → Leaves t
   of_old always same Insert new s v t x e = at_turn t _ x (of_replaced s (is_same same v new) (reply.Insert (Some v)) e)
-  of_old always same Get new s v t x e = of_asked always s v t x e
-  of_old always same Remove new s v t x e = of_asked always s v t x e
-  of_old always same ComputePresent new s v t x e = of_asked always s v t x e
-  of_old always same ComputeInsert new s v t x e = of_asked always s v t x e
-  of_old always same (Exchange old) new s v t x e = of_asked always s v t x e
+  of_old always same _ new s v t x e = of_asked always s v t x e
 
   of_added : (always : Bool) (same : V → V → Bool) (kind : Kind V) (new : Option V) (s : Site C) (p : Option (Over C)) (v : V) (t : NextPhase C V) → IsAdded always same kind new s p v t → Each K (names_site number s)
       → Each K (names_over number p) → Leaves t
@@ -199,13 +195,9 @@ module _ {C : Type 0} (V : Type 0) (number : C → ℕ) (K : ℕ → Type 0) whe
   of_top two r (Some top) k l e = (l, (e.0, (k, tt)))
 
   of_change : (two : Two C) (r : Reply V) (change : Double C) → Each K (names_two number two) → Leaves (after_change two r change)
-  of_change two r Unlink e = (e.1.0, (e.0, tt))
-  of_change two r (Shrink c) e = (e.1.0, (e.0, tt))
   of_change two r Collapse e = of_top two r two.top e.0 e.1.0 (left K (name_above number two.top) (names_for_two number two.change) e.1.1)
   of_change two r (ShrinkAbove c) e = of_top two r two.top e.0 e.1.0 (left K (name_above number two.top) (names_for_two number two.change) e.1.1)
-  of_change two r (Grow c) e = (e.1.0, (e.0, tt))
-  of_change two r (GrowLink c leaf byte) e = (e.1.0, (e.0, tt))
-  of_change two r (Split top leaf common byte) e = (e.1.0, (e.0, tt))
+  of_change two r _ e = (e.1.0, (e.0, tt))
 
   of_retired : (next : Option C) (p : C) (r : Reply V) → K (number p) → Each K (name_made number next) → Leaves (after_retire next p r)
   of_retired None p r k e = (k, tt)

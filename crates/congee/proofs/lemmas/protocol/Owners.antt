@@ -15,7 +15,7 @@ use Rattle.congee.specs.declared.protocol.phase.Double.TheVariants.{Unlink, Grow
 use Rattle.congee.specs.declared.protocol.phase.Plan.{Plan}
 use Rattle.congee.specs.declared.protocol.phase.Plan.TheVariants.{Here, Above}
 use Rattle.congee.specs.declared.protocol.phase.Phase.{Phase}
-use Rattle.congee.specs.declared.protocol.phase.Phase.TheVariants.{New, Version, Read, Check, CheckUncopied, CheckMiss, CheckDown, CheckOld, MakeLeaf, MakeGreater, MakeTop, MakeBeside, MakeLesser, AskOld, AskNew, Confirm, CheckAbove, UpgradeOne, ChangeOne, UpgradeTop, UpgradeAbove, UpgradeBelow, ChangeTwo, Obsolete, Retire, UnlockBelow, Unlock, Unwind, Sweep, Ended}
+use Rattle.congee.specs.declared.protocol.phase.Phase.TheVariants.{MakeGreater, MakeBeside, AskNew, CheckAbove, UpgradeOne, ChangeOne, UpgradeTop, UpgradeAbove, UpgradeBelow, ChangeTwo, Obsolete, Retire, UnlockBelow, Unlock, Unwind}
 use Rattle.congee.specs.declared.protocol.turn.NextPhase.{NextPhase}
 use Rattle.congee.specs.declared.protocol.machine.Machine.{Machine}
 use Rattle.congee.specs.Heap.{Node}
@@ -81,22 +81,9 @@ module _ {C V : Type 0} (number : C → ℕ) (same : V → V → Bool) (always :
   leaf_held (Some leaf) s m x = made_at (number leaf) 7 0 m.1 x
 
   pub made_held : (s : Phase C V) → Known number same always i a h k (key_bytes k) kind given s → MadeBy number s n → (a n).status ≡ Held i
-  made_held New x l = absurd l
-  made_held (Version p n0) x l = absurd l
-  made_held (Read p at) x l = absurd l
-  made_held (Check s c) x l = absurd l
-  made_held (CheckUncopied at) x l = absurd l
-  made_held (CheckMiss p at common byte) x l = absurd l
-  made_held (CheckDown p at c) x l = absurd l
-  made_held (CheckOld p s v) x l = absurd l
-  made_held (MakeLeaf s) x l = absurd l
   made_held (MakeGreater s p leaf) x l = leaf_held leaf s x.3 l
-  made_held (MakeTop p at common byte) x l = absurd l
   made_held (MakeBeside p at common byte top) x l = made_at (number top) common 1 x.6 l
-  made_held (MakeLesser s p g r) x l = absurd l
-  made_held (AskOld s v) x l = absurd l
   made_held (AskNew plan) x l = plan_held plan x.0 l
-  made_held (Confirm at r) x l = absurd l
   made_held (CheckAbove p one r) x l = one_held one.change x.2.made l
   made_held (UpgradeOne one r) x l = one_held one.change x.1.1.made l
   made_held (ChangeOne one r) x l = one_held one.change x.1.made l
@@ -104,13 +91,7 @@ module _ {C V : Type 0} (number : C → ℕ) (same : V → V → Bool) (always :
   made_held (UpgradeAbove two r) x l = two_held two.above two.change _ _ x.1.2.made l
   made_held (UpgradeBelow two r) x l = two_held two.above two.change _ _ x.1.2.made l
   made_held (ChangeTwo two r) x l = two_held two.above two.change _ _ x.2.made l
-  made_held (Obsolete m next p r) x l = absurd l
-  made_held (Retire m next p r) x l = absurd l
-  made_held (UnlockBelow m p r) x l = absurd l
-  made_held (Unlock m r) x l = absurd l
-  made_held (Unwind m next e) x l = absurd l
-  made_held (Sweep s) x l = absurd l
-  made_held Ended x l = absurd l
+  made_held _ x l = absurd l
 
   owned_at : (m : ℕ) → (a m).owner ≡ Some i → n ≡ m → (a n).owner ≡ Some i
   owned_at m o q = let P : ℕ → Type 0 = λ y. (a y).owner ≡ Some i in subst P (sym q) o
@@ -128,26 +109,7 @@ module _ {C V : Type 0} (number : C → ℕ) (same : V → V → Bool) (always :
   held_owned (Some c) m x l = owned_at (number c) x.0.owner l
 
   pub locks_owned : (s : Phase C V) → Known number same always i a h k (key_bytes k) kind given s → LockedBy number s n → (a n).owner ≡ Some i
-  locks_owned New x l = absurd l
-  locks_owned (Version p n0) x l = absurd l
-  locks_owned (Read p at) x l = absurd l
-  locks_owned (Check s c) x l = absurd l
-  locks_owned (CheckUncopied at) x l = absurd l
-  locks_owned (CheckMiss p at common byte) x l = absurd l
-  locks_owned (CheckDown p at c) x l = absurd l
-  locks_owned (CheckOld p s v) x l = absurd l
-  locks_owned (MakeLeaf s) x l = absurd l
-  locks_owned (MakeGreater s p leaf) x l = absurd l
-  locks_owned (MakeTop p at common byte) x l = absurd l
-  locks_owned (MakeBeside p at common byte top) x l = absurd l
-  locks_owned (MakeLesser s p g r) x l = absurd l
-  locks_owned (AskOld s v) x l = absurd l
-  locks_owned (AskNew plan) x l = absurd l
-  locks_owned (Confirm at r) x l = absurd l
-  locks_owned (CheckAbove p one r) x l = absurd l
-  locks_owned (UpgradeOne one r) x l = absurd l
   locks_owned (ChangeOne one r) x l = owned_at (number one.at.node) x.1.holding.owner l
-  locks_owned (UpgradeTop g two r) x l = absurd l
   locks_owned (UpgradeAbove two r) x l = top_owned two.top _ x.1.2.top l
   locks_owned (UpgradeBelow two r) x (inl l) = owned_at (number two.above.seat.node) x.1.2.above.holding.owner l
   locks_owned (UpgradeBelow two r) x (inr l) = top_owned two.top _ x.1.2.top l
@@ -165,8 +127,7 @@ module _ {C V : Type 0} (number : C → ℕ) (same : V → V → Bool) (always :
   locks_owned (Unlock m r) x l = owned_at (number m) x.owner l
   locks_owned (Unwind m next e) x (inl l) = owned_at (number m) x.1.owner l
   locks_owned (Unwind m next e) x (inr l) = held_owned next _ x.2 l
-  locks_owned (Sweep s) x l = absurd l
-  locks_owned Ended x l = absurd l
+  locks_owned _ x l = absurd l
 
   linked_gone : (m : ℕ) → (a m).status ≡ Linked → n ≡ m → (a n).status ≡ Gone → ⊥
   linked_gone m l q g = let y : (a n).status ≡ Linked = (let P : ℕ → Type 0 = λ y. (a y).status ≡ Linked in subst P (sym q) l) in let z : Linked ≡ Gone = sym y ∙ g in cc
@@ -181,26 +142,7 @@ module _ {C V : Type 0} (number : C → ℕ) (same : V → V → Bool) (always :
 
   -- a locked node that left the tree is one that the call took out
   pub gone_taken : Tree a h → (s : Phase C V) → Known number same always i a h k (key_bytes k) kind given s → LockedBy number s n → (a n).status ≡ Gone → TakenBy number s n
-  gone_taken t New x l g = absurd l
-  gone_taken t (Version p n0) x l g = absurd l
-  gone_taken t (Read p at) x l g = absurd l
-  gone_taken t (Check s c) x l g = absurd l
-  gone_taken t (CheckUncopied at) x l g = absurd l
-  gone_taken t (CheckMiss p at common byte) x l g = absurd l
-  gone_taken t (CheckDown p at c) x l g = absurd l
-  gone_taken t (CheckOld p s v) x l g = absurd l
-  gone_taken t (MakeLeaf s) x l g = absurd l
-  gone_taken t (MakeGreater s p leaf) x l g = absurd l
-  gone_taken t (MakeTop p at common byte) x l g = absurd l
-  gone_taken t (MakeBeside p at common byte top) x l g = absurd l
-  gone_taken t (MakeLesser s p top r) x l g = absurd l
-  gone_taken t (AskOld s v) x l g = absurd l
-  gone_taken t (AskNew plan) x l g = absurd l
-  gone_taken t (Confirm at r) x l g = absurd l
-  gone_taken t (CheckAbove p one r) x l g = absurd l
-  gone_taken t (UpgradeOne one r) x l g = absurd l
   gone_taken t (ChangeOne one r) x l g = linked_gone (number one.at.node) x.1.holding.linked l g
-  gone_taken t (UpgradeTop top two r) x l g = absurd l
   gone_taken t (UpgradeAbove two r) x l g = top_stays two.top _ x.1.2.top l g
   gone_taken t (UpgradeBelow two r) x (inl l) g = linked_gone (number two.above.seat.node) x.1.2.above.holding.linked l g
   gone_taken t (UpgradeBelow two r) x (inr l) g = top_stays two.top _ x.1.2.top l g
@@ -218,8 +160,7 @@ module _ {C V : Type 0} (number : C → ℕ) (same : V → V → Bool) (always :
   gone_taken t (Unlock m r) x l g = linked_gone (number m) x.linked l g
   gone_taken t (Unwind m next e) x (inl l) g = linked_gone (number m) x.1.linked l g
   gone_taken t (Unwind m next e) x (inr l) g = held_stays next _ x.2 l g
-  gone_taken t (Sweep s) x l g = absurd l
-  gone_taken t Ended x l g = absurd l
+  gone_taken t _ x l g = absurd l
 
   -- the second one is marked next
   next_out : (next : Option C) (p : C) (r : Reply V) → IsMade number next n → TakenBy number (after_retire next p r).phase n
@@ -229,37 +170,10 @@ module _ {C V : Type 0} (number : C → ℕ) (same : V → V → Bool) (always :
   -- it is marked, and then handed over
   pub taken_on : (most : ℕ) (why : NodeType → Refusal → Type 0) (root : C) (fail : Bool) (answer : Option (Option V)) (s : Phase C V) (given' : Option V) (turn : NextPhase C V) (h' : ℕ → Node V) → PhaseStepped number same always most why root (key_bytes k) kind fail answer given s h given' turn h'
       → TakenBy number s n → ((h' n).retired ≡ true) ⊎ TakenBy number turn.phase n
-  taken_on most why root fail answer New given' turn h' g l = absurd l
-  taken_on most why root fail answer (Version p n0) given' turn h' g l = absurd l
-  taken_on most why root fail answer (Read p at) given' turn h' g l = absurd l
-  taken_on most why root fail answer (Check s c) given' turn h' g l = absurd l
-  taken_on most why root fail answer (CheckUncopied at) given' turn h' g l = absurd l
-  taken_on most why root fail answer (CheckMiss p at common byte) given' turn h' g l = absurd l
-  taken_on most why root fail answer (CheckDown p at c) given' turn h' g l = absurd l
-  taken_on most why root fail answer (CheckOld p s v) given' turn h' g l = absurd l
-  taken_on most why root fail answer (MakeLeaf s) given' turn h' g l = absurd l
-  taken_on most why root fail answer (MakeGreater s p leaf) given' turn h' g l = absurd l
-  taken_on most why root fail answer (MakeTop p at common byte) given' turn h' g l = absurd l
-  taken_on most why root fail answer (MakeBeside p at common byte top) given' turn h' g l = absurd l
-  taken_on most why root fail answer (MakeLesser s p top r) given' turn h' g l = absurd l
-  taken_on most why root fail answer (AskOld s v) given' turn h' g l = absurd l
-  taken_on most why root fail answer (AskNew plan) given' turn h' g l = absurd l
-  taken_on most why root fail answer (Confirm at r) given' turn h' g l = absurd l
-  taken_on most why root fail answer (CheckAbove p one r) given' turn h' g l = absurd l
-  taken_on most why root fail answer (UpgradeOne one r) given' turn h' g l = absurd l
-  taken_on most why root fail answer (ChangeOne one r) given' turn h' g l = absurd l
-  taken_on most why root fail answer (UpgradeTop top two r) given' turn h' g l = absurd l
-  taken_on most why root fail answer (UpgradeAbove two r) given' turn h' g l = absurd l
-  taken_on most why root fail answer (UpgradeBelow two r) given' turn h' g l = absurd l
-  taken_on most why root fail answer (ChangeTwo two r) given' turn h' g l = absurd l
   taken_on most why root fail answer (Obsolete m next p r) given' turn h' g l = let P : NextPhase C V → Type 0 = λ y. TakenBy number y.phase n in inr (subst P (sym g.2) l)
   taken_on most why root fail answer (Retire m next p r) given' turn h' g (inl l) = let P : ℕ → Type 0 = λ y. (h' y).retired ≡ true in inl (subst P (sym l) (rw g.1.after refl))
   taken_on most why root fail answer (Retire m next p r) given' turn h' g (inr l) = let P : NextPhase C V → Type 0 = λ y. TakenBy number y.phase n in inr (subst P (sym g.2) (next_out next p r l))
-  taken_on most why root fail answer (UnlockBelow m p r) given' turn h' g l = absurd l
-  taken_on most why root fail answer (Unlock m r) given' turn h' g l = absurd l
-  taken_on most why root fail answer (Unwind m next e) given' turn h' g l = absurd l
-  taken_on most why root fail answer (Sweep s) given' turn h' g l = absurd l
-  taken_on most why root fail answer Ended given' turn h' g l = absurd l
+  taken_on most why root fail answer _ given' turn h' g l = absurd l
 
 module _ {C V : Type 0} (number : C → ℕ) (same : V → V → Bool) (always : Bool) (i : ℕ) (a : ℕ → Note) (h : ℕ → Node V) (a' : ℕ → Note) (h' : ℕ → Node V) (ms : List (Machine C V)) (m m' : Machine C V)
     (e : slice_get ms i ≡ Some m) (w : LockWords a h) (t : Tree a h) (w' : LockWords a' h') (t' : Tree a' h') (f : (n : ℕ) → Fares i (a n) (a' n) (h n) (h' n)) (s : Holdings number a h ms) where

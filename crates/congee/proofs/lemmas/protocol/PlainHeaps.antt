@@ -9,7 +9,7 @@ use Rattle.congee.specs.declared.forms.child.Child.TheVariants as hanging
 use Rattle.congee.specs.declared.protocol.plain_node.PlainNode.{PlainNode}
 use Rattle.congee.specs.Heap.{Node, Nothing, Below, is_taken}
 use Rattle.congee.specs.declared.forms.base_node.NodeType.{NodeType}
-use Rattle.congee.specs.declared.forms.base_node.NodeType.TheVariants.{N4, N16, N48, N256}
+use Rattle.congee.specs.declared.forms.base_node.NodeType.TheVariants.{N4}
 use Rattle.congee.specs.declared.protocol.store.Seen.{Seen}
 use Rattle.congee.specs.declared.protocol.store.Upgrade.TheVariants.{Locked, Failed}
 use Rattle.congee.specs.forms.Forms.{capacity_of}
@@ -188,9 +188,7 @@ handed_back nodes f k size i n z w x' y' s ef ek l mi mn hands =
 -- a new node at the list's end
 pub places_of : (form : NodeType) → capacity_of form ≡ places form
 places_of N4 = refl
-places_of N16 = refl
-places_of N48 = refl
-places_of N256 = refl
+places_of _ = refl
 
 -- a fresh node that comes last is a new one under the next number
 pub new_node : (nodes nodes' : List PlainNode) (name : ℕ) (y : PlainNode) (form : NodeType) (key : List ℕ) (size : ℕ) → name ≡ length nodes → nodes' ≡ nodes ++ y ∷ []

@@ -7,14 +7,14 @@ use Rattle.judge.specs.declared.journal.Call.TheVariants as call
 use Rattle.judge.specs.declared.journal.Reply.{Reply}
 use Rattle.judge.specs.declared.journal.Reply.TheVariants as reply
 use Rattle.congee.specs.declared.protocol.phase.Kind.{Kind}
-use Rattle.congee.specs.declared.protocol.phase.Kind.TheVariants.{Get, Insert, Remove, ComputePresent, ComputeInsert, Exchange}
+use Rattle.congee.specs.declared.protocol.phase.Kind.TheVariants.{Insert, ComputeInsert}
 use Rattle.congee.specs.declared.protocol.phase.Parent.{Parent}
 use Rattle.congee.specs.declared.protocol.phase.Above.{Above as Over}
 use Rattle.congee.specs.declared.protocol.phase.Site.{Site}
 use Rattle.congee.specs.declared.protocol.phase.Single.{Single}
 use Rattle.congee.specs.declared.protocol.phase.Single.TheVariants.{Set, Link}
 use Rattle.congee.specs.declared.protocol.phase.Double.{Double}
-use Rattle.congee.specs.declared.protocol.phase.Double.TheVariants.{Unlink, Grow, GrowLink, Split, Shrink, Collapse, ShrinkAbove}
+use Rattle.congee.specs.declared.protocol.phase.Double.TheVariants.{Unlink, Grow, GrowLink, Split, Collapse, ShrinkAbove}
 use Rattle.congee.specs.declared.protocol.phase.Plan.{Plan}
 use Rattle.congee.specs.declared.protocol.phase.Plan.TheVariants.{Here, Above}
 use Rattle.congee.specs.declared.protocol.phase.Phase.TheVariants.{UpgradeOne, UpgradeAbove}
@@ -35,22 +35,15 @@ fits_one_new Set v = tt
 fits_one_new (Link leaf) v = refl
 
 fits_two_new : {C V : Type 0} (change : Double C) (v : V) → Adding change → FitsTwo change None (Some v)
-fits_two_new Unlink v d = absurd d
 fits_two_new (Grow c) v d = tt
 fits_two_new (GrowLink c leaf byte) v d = tt
 fits_two_new (Split top leaf common byte) v d = tt
-fits_two_new (Shrink c) v d = absurd d
-fits_two_new Collapse v d = absurd d
-fits_two_new (ShrinkAbove c) v d = absurd d
+fits_two_new _ v d = absurd d
 
 has_no_top : {C : Type 0} (change : Double C) (top : Option (Parent C)) → Adding change → top ≡ None → HasTop change top
-has_no_top Unlink top d e = e
-has_no_top (Grow c) top d e = e
-has_no_top (GrowLink c leaf byte) top d e = e
-has_no_top (Split above leaf common byte) top d e = e
-has_no_top (Shrink c) top d e = e
 has_no_top Collapse top d e = absurd d
 has_no_top (ShrinkAbove c) top d e = absurd d
+has_no_top _ top d e = e
 
 seated_if : {C V : Type 0} (number : C → ℕ) (a : ℕ → Note) (h : ℕ → Node V) (key : List ℕ) (p : Option (Over C)) (n : ℕ) → IsAbove number a h key p n → SeatedIf number a h (seat_above p)
 seated_if number a h key None n m = tt
@@ -78,14 +71,11 @@ module _ {C V : Type 0} (number : C → ℕ) (same : V → V → Bool) (always :
   started_sound kind given v (Above two) r g p s = record { known = (g, (None, p.0.0, p.0.1, has_no_top two.change two.top p.1 p.2, fits_two_new two.change v p.1, s)); answer = λ x _. refl }
 
   pub ready_sound : (kind : Kind V) (given : Option V) (plan : Plan C) → adds kind ≡ true → HasGift kind given → PlanKnown number i a h (key_bytes k) plan → Sound number same always i k kind given h given (ready kind plan) a h
-  ready_sound Get given plan e g p = absurd cc
-  ready_sound Remove given plan e g p = absurd cc
-  ready_sound ComputePresent given plan e g p = absurd cc
-  ready_sound (Exchange old) given plan e g p = absurd cc
   ready_sound ComputeInsert given plan e g p = record { known = (p, refl); answer = λ x _. refl }
   ready_sound Insert given plan e g p =
       let P : Option V → Type 0 = λ o. Sound number same always i k Insert o h o (started plan (reply.Insert None)) a h in
       subst P (sym g.1) (started_sound Insert (Some g.0) g.0 plan (reply.Insert None) (g.0, refl) p (settle_insert same k g.0))
+  ready_sound _ given plan e g p = absurd cc
 
   here_known : (s : Site C) (change : Single C) → Knows number a h (key_bytes k) s Nothing → (is_taken (h (number s.at.node)) s.at.version ≡ true → ((h (number s.at.node)).count == (h (number s.at.node)).capacity) ≡ false)
       → IsLeafAt change s.depth → MadeOne number i a h (key_bytes k) change → PlanKnown number i a h (key_bytes k) (plan_here s change)

@@ -23,7 +23,7 @@ use Rattle.congee.specs.declared.protocol.phase.Single.{Single}
 use Rattle.congee.specs.declared.protocol.phase.Single.TheVariants.{Set, Link}
 use Rattle.congee.specs.declared.protocol.phase.One.{One}
 use Rattle.congee.specs.declared.protocol.phase.Double.{Double}
-use Rattle.congee.specs.declared.protocol.phase.Double.TheVariants.{Unlink, Grow, GrowLink, Split, Shrink, Collapse, ShrinkAbove}
+use Rattle.congee.specs.declared.protocol.phase.Double.TheVariants.{Unlink, Shrink, Collapse, ShrinkAbove}
 use Rattle.congee.specs.declared.protocol.phase.Two.{Two}
 use Rattle.congee.specs.declared.protocol.phase.Plan.{Plan}
 use Rattle.congee.specs.declared.protocol.phase.Plan.TheVariants.{Here, Above}
@@ -44,40 +44,27 @@ Ripe r q = Carries q (heeding r)
 
 -- a call that is at work may
 pub ripe_at_work : {V : Type 0} (r : Reply V) → Ripe r (heeding r)
-ripe_at_work (reply.Get x) = tt
-ripe_at_work (reply.Insert x) = tt
-ripe_at_work (reply.Remove x) = tt
 ripe_at_work (reply.ComputePresent None) = tt
 ripe_at_work (reply.ComputePresent (Some x)) = refl
 ripe_at_work (reply.ComputeInsert x) = refl
-ripe_at_work (reply.Exchange x) = tt
+ripe_at_work _ = tt
 
 -- one that puts its value at an absent key without a question has no closure
 ripe_new : {V : Type 0} (kind : Kind V) (q : Question V) → adds kind ≡ true → asks_new kind ≡ false → Ripe (absent_reply kind) q
-ripe_new Get q e f = tt
-ripe_new Insert q e f = tt
-ripe_new Remove q e f = tt
 ripe_new ComputePresent q e f = absurd cc
 ripe_new ComputeInsert q e f = absurd cc
-ripe_new (Exchange x) q e f = tt
+ripe_new _ q e f = tt
 
 -- a call that asks for an absent key has a closure
 asks_for : {V : Type 0} (kind : Kind V) → asks_new kind ≡ true → Asking kind
-asks_for Get e = absurd cc
-asks_for Insert e = absurd cc
-asks_for Remove e = absurd cc
 asks_for ComputePresent e = tt
 asks_for ComputeInsert e = tt
-asks_for (Exchange x) e = absurd cc
+asks_for _ e = absurd cc
 
 -- a call that puts no value at an absent key may answer there at once
 pub fair_absent : {V : Type 0} (kind : Kind V) (q : Question V) → adds kind ≡ false → Ripe (absent_reply kind) q
-fair_absent Get q e = tt
-fair_absent Insert q e = tt
-fair_absent Remove q e = tt
-fair_absent ComputePresent q e = tt
 fair_absent ComputeInsert q e = absurd cc
-fair_absent (Exchange x) q e = tt
+fair_absent _ q e = tt
 
 -- `v` was the call's value, `v1` is it after an answer, and v' is what the machine has after the step; q is what the
 -- call has of its closure
@@ -153,11 +140,8 @@ module _ {C V : Type 0} (k : ℕ) (v v1 v' : Option V) (e : v' ≡ v1) (q : Ques
 
   pub at_old : (always : Bool) (same : V → V → Bool) (kind : Kind V) (new : Option V) (s : Site C) (old : V) (t : NextPhase C V) → adds kind ≡ true → IsAtOld always same kind new s old t → StepShape k kind v v1 v' q t
   at_old always same Insert new s old t w x = to Insert _ t x (replaces Insert s (is_same same old new) (reply.Insert (Some old)) tt)
-  at_old always same Get new s old t w x = absurd cc
-  at_old always same Remove new s old t w x = absurd cc
-  at_old always same ComputePresent new s old t w x = absurd cc
   at_old always same ComputeInsert new s old t w x = asks ComputeInsert always s old t tt x
-  at_old always same (Exchange u) new s old t w x = absurd cc
+  at_old always same _ new s old t w x = absurd cc
 
   adds_at : (always : Bool) (same : V → V → Bool) (kind : Kind V) (new : Option V) (s : Site C) (above : Option (Over C)) (old : V) (t : NextPhase C V) → adds kind ≡ true → IsAdded always same kind new s above old t → StepShape k kind v v1 v' q t
   adds_at always same kind new s None old t w x = at_old always same kind new s old t w x
@@ -289,13 +273,9 @@ top_shape k kind v v' two r (Some top) t x = Takes _ r x refl refl refl (ripe_at
 
 -- a change of two nodes takes effect with the call's reply
 pub change_shape : {C V : Type 0} (k : ℕ) (kind : Kind V) (v v' : Option V) (two : Two C) (r : Reply V) (change : Double C) (t : NextPhase C V) → t ≡ after_change two r change → StepShape k kind v v v' (heeding r) t
-change_shape k kind v v' two r (Shrink c) t x = Takes _ r x refl refl refl (ripe_at_work r)
 change_shape k kind v v' two r Collapse t x = top_shape k kind v v' two r two.top t x
 change_shape k kind v v' two r (ShrinkAbove c) t x = top_shape k kind v v' two r two.top t x
-change_shape k kind v v' two r Unlink t x = Takes _ r x refl refl refl (ripe_at_work r)
-change_shape k kind v v' two r (Grow c) t x = Takes _ r x refl refl refl (ripe_at_work r)
-change_shape k kind v v' two r (GrowLink c leaf byte) t x = Takes _ r x refl refl refl (ripe_at_work r)
-change_shape k kind v v' two r (Split top leaf common byte) t x = Takes _ r x refl refl refl (ripe_at_work r)
+change_shape k kind v v' two r _ t x = Takes _ r x refl refl refl (ripe_at_work r)
 
 -- the closure's answer
 pub given_shape : {C V : Type 0} (always : Bool) (same : V → V → Bool) (k : ℕ) (kind : Kind V) (s : Site C) (old : V) (told : Option (Option V)) (v v' : Option V) (t : NextPhase C V)

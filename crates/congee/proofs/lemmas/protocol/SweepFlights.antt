@@ -30,11 +30,8 @@ module _ {V : Type 0} (same : V → V → Bool) where
 
   concludes_point : (r : _) (o : Outcome V) (f : Flight V) → Concludes r o f → IsOfPoint f
   concludes_point r Running f c = of_point f (Decided r) c tt
-  concludes_point r (Asks o) f c = absurd c
   concludes_point r (Done s) f c = of_point f Over c.1 tt
-  concludes_point r (Refused e) f c = absurd c
-  concludes_point r (Found place key x) f c = absurd c
-  concludes_point r (Scanned count) f c = absurd c
+  concludes_point r _ f c = absurd c
 
   pending_point : (k : ℕ) (kind : Kind V) (v : Option V) (q : Question V) (m : Pairs V) (b : Bool) (o : Outcome V) (f : Flight V) (m' : Pairs V) → PendingMoves same k kind v q m b o f m' → IsOfPoint f
   pending_point k kind v q m true o f m' g = concludes_point g.1 o f g.5

@@ -58,12 +58,6 @@ module _ {C V : Type 0} where
   })
 
   pub of_range : (root : C) (o : Op V) → IsOfRange (range_of o) (flight (begun root o))
-  of_range root (op.Get k) = tt
-  of_range root (op.Insert k v) = tt
-  of_range root (op.Remove k) = tt
-  of_range root (op.ComputePresent k) = tt
-  of_range root (op.ComputeInsert k) = tt
-  of_range root (op.Exchange k old new) = tt
   of_range root (op.Range start end size) = elim (cases_lt start end) [
     | inl l ↦ (let to : suc (end - 1) ≡ end = omega (arith, l) in
         that_scan start end size _ (ap (λ n. Unbegun start n (cond (ltb start end) size 0)) to ∙ ap (λ n. Unbegun start end n) (low_yes start end size 0 l)))
@@ -73,3 +67,4 @@ module _ {C V : Type 0} where
     | inl l ↦ no_scan start (suc last) size start (suc last) _ (no_places start last size l) (omega (arith, l))
     | inr le ↦ that_scan start (suc last) size _ (ap (λ n. Unbegun start (suc last) n) (all_places start last size le))
   ]
+  of_range root _ = tt

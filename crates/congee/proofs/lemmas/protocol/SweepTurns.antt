@@ -309,9 +309,7 @@ module _ {C V : Type 0} (number : C → ℕ) (always : Bool) (a : ℕ → Note) 
   -- a scan that begins anew is on the same range, with the same places
   tells_anew : (s : Sweep C V) (x : Stage C V) (o : ScanReport V) → Tells (anew root s).0 (m ∷ states) places x o → Tells s (m ∷ states) places x o
   tells_anew s x told.Running e = e
-  tells_anew s x (told.Found place k v) e = e
-  tells_anew s x (told.Done count) e = e
-  tells_anew s x (told.Refused r) e = e
+  tells_anew s x _ e = e
 
   out_anew : (s : Sweep C V) (u : Swung C V) → Out (anew root s).0 u → Out s u
   out_anew s u o = (o.0, o.1, tells_anew s u.0.stage u.1 o.2, record { start_is = o.3.start_is; last_is = o.3.last_is; size_is = o.3.size_is })

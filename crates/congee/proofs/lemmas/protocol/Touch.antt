@@ -241,12 +241,9 @@ owner_locked a h w n i o = locked_if (h n).locked (λ f. let e : (a n).owner ≡
 
 -- a node that was taken is in the tree
 linked_from : (s : Status) → is_published s ≡ true → (s ≡ Gone → ⊥) → s ≡ Linked
-linked_from Unmade p g = absurd cc
-linked_from (Held i) p g = absurd cc
 linked_from Linked p g = refl
 linked_from Gone p g = absurd (g refl)
-linked_from Back p g = absurd cc
-linked_from Destroyed p g = absurd cc
+linked_from _ p g = absurd cc
 
 -- a node that is or was in reach, and whose word is the one taken, is in the tree
 pub taken_linked : {V : Type 0} (a : ℕ → Note) (h : ℕ → Node V) → LockWords a h → (n v : ℕ) → is_published (a n).status ≡ true → is_taken (h n) v ≡ true → (a n).status ≡ Linked

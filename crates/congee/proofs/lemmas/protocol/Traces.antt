@@ -144,13 +144,7 @@ module _ {C V : Type 0} (number : C → ℕ) (same : V → V → Bool) (always :
   -- a number of steps, and fewer than those in which a call ends
   within : (h : ℕ → Node V) (o : Op V) (n k : ℕ) → n ≤ k → k ≤ steps_whole h o → n < steps_alone h o
   within h (op.Range start end size) n k l m = omega (arith, l, m)
-  within h (op.RangeInclusive start last size) n k l m = omega (arith, l, m)
-  within h (op.Get key) n k l m = omega (arith, l, m)
-  within h (op.Insert key v) n k l m = omega (arith, l, m)
-  within h (op.Remove key) n k l m = omega (arith, l, m)
-  within h (op.ComputePresent key) n k l m = omega (arith, l, m)
-  within h (op.ComputeInsert key) n k l m = omega (arith, l, m)
-  within h (op.Exchange key old new) n k l m = omega (arith, l, m)
+  within h _ n k l m = omega (arith, l, m)
 
   ends_alone : (h : ℕ → Node V) (ms : List (Machine C V)) (ts : List (Traced C V)) → Sound h ms → AreTraced number same always most why h ms ts → EndsAlone number h ms ts
   ends_alone h ms ts z e who n root o at free next on =

@@ -178,10 +178,7 @@ linked_after i x y p q f l u Gone e = elim (f.gone e) [
   | inl o ↦ inr (e, o)
   | inr o ↦ absurd (let z : Linked ≡ Gone = sym l ∙ o.0 in cc)
 ]
-linked_after i x y p q f l u Unmade e = let z : true ≡ false = sym u ∙ ap is_published e in absurd cc
-linked_after i x y p q f l u (Held j) e = let z : true ≡ false = sym u ∙ ap is_published e in absurd cc
-linked_after i x y p q f l u Back e = let z : true ≡ false = sym u ∙ ap is_published e in absurd cc
-linked_after i x y p q f l u Destroyed e = let z : true ≡ false = sym u ∙ ap is_published e in absurd cc
+linked_after i x y p q f l u _ e = let z : true ≡ false = sym u ∙ ap is_published e in absurd cc
 
 module _ {C V : Type 0} (number : C → ℕ) (same : V → V → Bool) (always : Bool) (most : ℕ) (why : NodeType → Refusal → Type 0) (i : ℕ) (a : ℕ → Note) (h : ℕ → Node V) (a' : ℕ → Note) (h' : ℕ → Node V) (ms : List (Machine C V)) (m m' : Machine C V)
     (e : slice_get ms i ≡ Some m) (w : LockWords a h) (t : Tree a h) (t' : Tree a' h') (f : (n : ℕ) → Fares i (a n) (a' n) (h n) (h' n))

@@ -25,15 +25,12 @@ module _ {C V : Type 0} (number : C → ℕ) (same : V → V → Bool) (always :
     (law : (p q : V) → same p q ≡ true → p ≡ q) where
   pub at_old_sound : (kind : Kind V) (given : Option V) (s : Site C) (v : V) (turn : NextPhase C V) → IsAtOld always same kind given s v turn → adds kind ≡ true → HasGift kind given → Knows number a h (key_bytes k) s (Holds v) → s.depth ≡ 7
       → Sound number same always i k kind given h given turn a h
-  at_old_sound Get given s v turn e z g m d = absurd cc
-  at_old_sound Remove given s v turn e z g m d = absurd cc
-  at_old_sound ComputePresent given s v turn e z g m d = absurd cc
-  at_old_sound (Exchange old) given s v turn e z g m d = absurd cc
   at_old_sound ComputeInsert given s v turn e z g m d = asked_sound number same always i a h k t w ComputeInsert given s v turn e g tt m d
   at_old_sound Insert given s v turn e z g m d =
       let P : Option V → Type 0 = λ o. turn ≡ replaced s (is_same same v o) (reply.Insert (Some v)) → Sound number same always i k Insert o h o turn a h in
       subst P (sym g.1) (λ f. turn_at number same always i a h k t w Insert _ _ _ turn f
       (replaced_sound number same always i a h k t w Insert (Some g.0) g.0 s v _ law (g.0, refl) m d (record { call = call.Insert k g.0; is_call = refl; reply = refl; left = refl }))) e
+  at_old_sound _ given s v turn e z g m d = absurd cc
 
   added_sound : (kind : Kind V) (given : Option V) (s : Site C) (p : Option (Over C)) (v : V) (turn : NextPhase C V) → IsAdded always same kind given s p v turn → s.above ≡ p → adds kind ≡ true → HasGift kind given → Knows number a h (key_bytes k) s (Holds v) → s.depth ≡ 7
       → Sound number same always i k kind given h given turn a h
@@ -96,10 +93,6 @@ module _ {C V : Type 0} (number : C → ℕ) (same : V → V → Bool) (always :
   -- the closure's answer for a value that stands
   pub given_sound : (kind : Kind V) (given given' : Option V) (answer : Option (Option V)) (s : Site C) (v : V) (turn : NextPhase C V) → IsGiven always same kind s v answer given given' turn → HasGift kind given → Asking kind
       → Knows number a h (key_bytes k) s (Holds v) → s.depth ≡ 7 → Sound number same always i k kind given h given' turn a h
-  given_sound Get given given' answer s v turn e g ask m d = absurd ask
-  given_sound Insert given given' answer s v turn e g ask m d = absurd ask
-  given_sound Remove given given' answer s v turn e g ask m d = absurd ask
-  given_sound (Exchange old) given given' answer s v turn e g ask m d = absurd ask
   given_sound ComputeInsert given given' None s v turn e g ask m d = still_asked ComputeInsert given given' s v turn e.0 e.1 g ask m d
   given_sound ComputeInsert given given' (Some None) s v turn e g ask m d = still_asked ComputeInsert given given' s v turn e.0 e.1 g ask m d
   given_sound ComputeInsert given given' (Some (Some x)) s v turn e g ask m d =
@@ -118,6 +111,7 @@ module _ {C V : Type 0} (number : C → ℕ) (same : V → V → Bool) (always :
             (replaced_sound number same always i a h k t w ComputePresent given x s v _ law tt m d (record { call = call.ComputePresent k (Some x); is_call = refl; reply = refl; left = refl }))
         | inr f ↦ turn_at number same always i a h k t w ComputePresent given (Some x) _ turn f.1 (record { known = tt; answer = λ y _. refl })
       ])
+  given_sound _ given given' answer s v turn e g ask m d = absurd ask
 
   -- and for an absent key
   pub given_new_sound : (kind : Kind V) (given given' : Option V) (answer : Option (Option V)) (plan : Plan C) (turn : NextPhase C V) → IsGivenNew plan answer given given' turn → PlanKnown number i a h (key_bytes k) plan → kind ≡ ComputeInsert

@@ -11,7 +11,7 @@ use Rattle.congee.specs.declared.protocol.phase.Double.{Double}
 use Rattle.congee.specs.declared.protocol.phase.Double.TheVariants.{Unlink, Grow, GrowLink, Split, Shrink, Collapse, ShrinkAbove}
 use Rattle.congee.specs.declared.protocol.phase.Two.{Two}
 use Rattle.congee.specs.declared.protocol.phase.Phase.{Phase}
-use Rattle.congee.specs.declared.protocol.phase.Phase.TheVariants.{New, Version, Read, Check, CheckUncopied, CheckMiss, CheckDown, CheckOld, MakeLeaf, MakeGreater, MakeTop, MakeBeside, MakeLesser, AskOld, AskNew, Confirm, CheckAbove, UpgradeOne, ChangeOne, UpgradeTop, UpgradeAbove, UpgradeBelow, ChangeTwo, Obsolete, Retire, UnlockBelow, Unlock, Unwind, Sweep, Ended}
+use Rattle.congee.specs.declared.protocol.phase.Phase.TheVariants.{New, Version, Read, Check, CheckUncopied, CheckMiss, CheckDown, CheckOld, MakeGreater, MakeTop, MakeBeside, MakeLesser, Confirm, CheckAbove, UpgradeOne, ChangeOne, UpgradeTop, UpgradeAbove, UpgradeBelow, ChangeTwo, Obsolete, Retire, UnlockBelow, Unlock, Unwind, Sweep}
 use Rattle.congee.specs.Heap.{Node, Hung, Nothing, Below, Holds, Stands, child_for}
 use Rattle.congee.specs.protocol.Events.{MayChange, HoldsNodes, HoldsAlike, Parts}
 use Rattle.congee.specs.protocol.Steps.{value_hung, MayBackOne, MayBackTwo, MayBackLeaf, Changeable, Blank, MayTop, MayChangeOne, MayChangeTwo, MayStep}
@@ -243,13 +243,10 @@ module _ {C V : Type 0} (number : C → ℕ) (same : V → V → Bool) (always :
   wants root z kind given (CheckMiss p at common byte) m = there (number p.seat.node) m.1.fresh.seated.published
   wants root z kind given (CheckDown p at c) m = there (number p.node) m.1.published
   wants root z kind given (CheckOld p s v) m = there (number p.node) m.1.published
-  wants root z kind given (MakeLeaf s) m = tt
   wants root z kind given (MakeGreater s p leaf) m = (m.1.short, back_leaf s leaf m.3)
   wants root z kind given (MakeTop p at common byte) m = m.3.seventh
   wants root z kind given (MakeBeside p at common byte top) m = made_there (number top) common 1 m.6
   wants root z kind given (MakeLesser s p g r) m = (m.1.1.short, m.4.short)
-  wants root z kind given (AskOld s v) m = tt
-  wants root z kind given (AskNew plan) m = tt
   wants root z kind given (Confirm at r) m = there (number at.node) m.1.1.fresh.seated.published
   wants root z kind given (CheckAbove p one r) m = (there (number p.node) m.1.published, may_back_one one.change m.2.made)
   wants root z kind given (UpgradeOne one r) m = (there (number one.at.node) m.1.1.fresh.seated.published, may_back_one one.change m.1.1.made)
@@ -264,4 +261,4 @@ module _ {C V : Type 0} (number : C → ℕ) (same : V → V → Bool) (always :
   wants root z kind given (Unlock n r) m = held_there (number n) m
   wants root z kind given (Unwind n next e) m = held_there (number n) m.1
   wants root z kind given (Sweep s) m = sweep_wants number always a h t w root z s m
-  wants root z kind given Ended m = tt
+  wants root z kind given _ m = tt

@@ -28,15 +28,13 @@ use Rattle.congee.proofs.lemmas.protocol.Shapes.{Ripe, ripe_at_work, StepShape, 
 
 -- the call is on its key
 call_key : {V : Type 0} (k : ℕ) (kind : Kind V) (given found : Option V) (c : Call V) → IsCall k kind given found c → key_of c ≡ k
-call_key k Get given found c e = ap key_of e
 call_key k Insert None found c e = absurd e
 call_key k Insert (Some v) found c e = ap key_of e
-call_key k Remove given found c e = ap key_of e
 call_key k ComputePresent given None c e = ap key_of e
 call_key k ComputePresent given (Some v) c e = ap key_of e
 call_key k ComputeInsert None found c e = absurd e
 call_key k ComputeInsert (Some v) found c e = ap key_of e
-call_key k (Exchange old) given found c e = ap key_of e
+call_key k _ given found c e = ap key_of e
 
 -- a step that decides answers as the finite map that stands
 record Answered {V : Type 0} (same : V → V → Bool) (k : ℕ) (kind : Kind V) (given : Option V) (m : Pairs V) (r : Reply V) (h' : ℕ → Node V) : Type 0 where
@@ -144,13 +142,9 @@ Closed (Asked o) = ⊥
 Closed (Replied o) = Unit {0}
 
 closed : {V : Type 0} (r : Reply V) → Closed (heeding r)
-closed (reply.Get x) = tt
-closed (reply.Insert x) = tt
-closed (reply.Remove x) = tt
 closed (reply.ComputePresent None) = tt
 closed (reply.ComputePresent (Some x)) = tt
-closed (reply.ComputeInsert x) = tt
-closed (reply.Exchange x) = tt
+closed _ = tt
 
 module _ {C V : Type 0} (number : C → ℕ) (same : V → V → Bool) (always : Bool) (most : ℕ) (why : NodeType → Refusal → Type 0) (i : ℕ) (a : ℕ → Note) (h : ℕ → Node V) (root : C) (k : ℕ) (kind : Kind V)
     (fail : Bool) (told : Option (Option V)) (v v' : Option V) (t : NextPhase C V) (h' : ℕ → Node V) (p : k < 2 ^ 64) (m : Pairs V) (st : IsMapOf h m) where
