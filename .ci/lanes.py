@@ -5,8 +5,8 @@ By itself `rt ci` runs most parts alone, since it reckons a part's memory by its
 proof one processor, and begins a crate's edits once its proof has ended. The longest chain, two libraries and the tests, takes
 longer then than all work shared by four processors. Here a proof begins once what it waits for has ended and the memory that it
 was seen to hold is free, and gets several processors; edits give way to proofs, and fill what these leave free. Where the kit
-tries a crate's edits in one part, in turn, they are tried in two rows, each over a copy of what one check of the crate kept. A
-kit that has its parts otherwise runs them as it does.
+tries a crate's edits in turn, as one part, they are tried in rows: a check of the crate keeps its work (the seed), and each row
+tries its edits over a copy of that. A kit that has its parts otherwise runs them as it does.
 """
 import contextlib
 import importlib.machinery
@@ -18,15 +18,15 @@ import tempfile
 import threading
 from concurrent.futures import FIRST_COMPLETED, ThreadPoolExecutor, wait
 
-# In how many rows a crate's edits are tried side by side, where the kit has them in one part.
-ROWS = 2
 # How many processors a part asks for, and the share that it was seen to hold of the memory that the kit reckons for its crate.
-# Some kits try each edit as a part of its own, over a check that is a part too (the seed); others all of a crate's as one.
+# Some kits try each edit as a part of its own, over a seed that is a part too; others all of a crate's as one.
 PROCESSORS = {"proof": 3, "tests": 4, "seed": 2}
-SHARES = {"proof": 0.45, "tests": 0.65, "seed": 0.4}
+SHARES = {"proof": 0.38, "tests": 0.62, "seed": 0.38}
 EDITS = 0.22
+# In how many rows a crate's edits are tried, where the kit has them in one part.
+ROWS = 3
 # How many steps of niceness what isn't a proof gives way.
-BEHIND = 2
+BEHIND = 3
 
 
 def load(path):
@@ -58,7 +58,9 @@ def in_lanes(tasks, rt):
     call that gets what was given and how many jobs it may use."""
     behind = chain_behind(tasks)
     is_proof = lambda it: it[1] in ("proof", "tests")
-    left = sorted(tasks, key=lambda it: (not is_proof(it), -behind[it] if is_proof(it) else 0))
+    # of two as long the tests come first: they are proved, and then run
+    rank = lambda it: (not is_proof(it), -behind[it] if is_proof(it) else 0, it[1] != "tests")
+    left = sorted(tasks, key=rank)
     lanes, memory, running, given = rt.processors(), 0.85 * rt.free(), {}, {}
     with getattr(rt, "ending", contextlib.nullcontext)(), ThreadPoolExecutor(4 * lanes) as pool:
         while left or running:
@@ -81,42 +83,60 @@ def in_lanes(tasks, rt):
     return given
 
 
-def try_row(rt, crate, edits, flags, kept):
-    """Tries edits in turn over what is kept, as the kit does, and then whether the crate itself is proved over that."""
-    tried = [rt.must_fail(crate, it, flags, kept) for it in edits]
-    return tried, not rt.checked(crate, {}, flags, kept).returncode
+class Rows:
+    """The edits of the crates, tried in rows: what the kit said of each that was refused over work which proves its crate."""
 
+    def __init__(self, rt, room):
+        self.rt, self.room, self.refused = rt, room, {}
+        self.in_turn = rt.must_fail_all
 
-def try_in_rows(rt, crate, edits, flags, in_turn):
-    """Returns what the kit says of each edit. What a row didn't refuse, or not soundly, is tried again from nothing."""
-    if len(edits) < 2 * ROWS:
-        return in_turn(crate, edits, flags)
-    with tempfile.TemporaryDirectory(prefix="rt-rows-") as room:
-        kept = [f"{room}/{row}" for row in range(ROWS)]
-        os.mkdir(kept[0])
-        if rt.checked(crate, {}, ["--jobs", str(ROWS)], kept[0]).returncode:
-            return in_turn(crate, edits, flags)
-        for it in kept[1:]:
-            shutil.copytree(kept[0], it)
-        with ThreadPoolExecutor(ROWS) as pool:
-            rows = [pool.submit(try_row, rt, crate, edits[row::ROWS], flags, it) for row, it in enumerate(kept)]
-        said = {}
-        for row, (tried, is_sound) in enumerate(it.result() for it in rows):
-            said |= {edit: it for edit, it in zip(edits[row::ROWS], tried) if is_sound and it[0]}
-    return [said.get(it) or rt.must_fail(crate, it, flags) for it in edits]
+    def parts(self, tasks):
+        """The parts, with a seed and rows of edits before each that tries a crate's edits."""
+        parts = {}
+        for key, (waits, lines, needs, call) in tasks.items():
+            crate = (call.__defaults__ or (None,))[0]
+            if key[1] == "edits" and lines and hasattr(crate, "folder"):
+                edits = self.rt.edits_of(crate)[0]
+                seed, rows = (key[0], "seed"), [(key[0], "row", row) for row in range(ROWS)]
+                parts[seed] = waits, lines, needs, lambda given, jobs, it=crate, waits=waits: self.keep(it, all(given[at] for at in waits), jobs)
+                for row in rows:
+                    mine = edits[row[2] :: ROWS]
+                    parts[row] = [seed], lines // ROWS, needs, lambda given, jobs, it=crate, mine=mine, seed=seed: given[seed] and self.try_row(it, mine)
+                waits, needs = [*waits, *rows], 0
+            parts[key] = waits, lines, needs, call
+        return parts
+
+    def keep(self, crate, is_well, jobs):
+        """Whether the crate is proved, by a check that keeps its work."""
+        return is_well and not self.rt.checked(crate, {}, ["--jobs", str(jobs)], f"{self.room}/{crate.name}").returncode
+
+    def try_row(self, crate, edits):
+        """Tries edits in turn over a copy of what is kept, and then whether the crate itself is proved over that."""
+        with tempfile.TemporaryDirectory(prefix="row-", dir=self.room) as row:
+            kept = shutil.copytree(f"{self.room}/{crate.name}", f"{row}/kept")
+            tried = [self.rt.must_fail(crate, it, ["--jobs", "1"], kept) for it in edits]
+            if not self.rt.checked(crate, {}, ["--jobs", "1"], kept).returncode:
+                self.refused |= {edit: it for edit, it in zip(edits, tried) if it[0]}
+
+    def tried(self, crate, edits, flags):
+        """What the kit says of each edit. What no row saw refused is tried from nothing."""
+        if not any(it in self.refused for it in edits):
+            return self.in_turn(crate, edits, flags)
+        return [self.refused.get(it) or self.rt.must_fail(crate, it, flags) for it in edits]
 
 
 def main():
     rt = load(os.path.realpath(shutil.which("rt")))
-    if all(hasattr(rt, it) for it in ("in_lanes", "free", "processors", "main")):
-        rt.in_lanes = lambda tasks: in_lanes(tasks, rt)
-        if not hasattr(rt, "ending") and all(hasattr(rt, it) for it in ("must_fail_all", "must_fail", "checked")):
-            PROCESSORS["edits"], SHARES["edits"] = ROWS, ROWS * EDITS
-            in_turn = rt.must_fail_all
-            rt.must_fail_all = lambda crate, edits, flags: try_in_rows(rt, crate, edits, flags, in_turn)
-    else:
+    if not all(hasattr(rt, it) for it in ("in_lanes", "free", "processors", "main")):
         os.environ.setdefault("RT_JOBS", str(min(4, len(os.sched_getaffinity(0)))))
-    return rt.main(["ci"])
+        return rt.main(["ci"])
+    has_rows = not hasattr(rt, "ending") and all(hasattr(rt, it) for it in ("must_fail_all", "must_fail", "checked", "edits_of"))
+    with tempfile.TemporaryDirectory(prefix="rt-rows-") as room:
+        rows = Rows(rt, room) if has_rows else None
+        rt.in_lanes = lambda tasks: in_lanes(rows.parts(tasks) if rows else tasks, rt)
+        if rows:
+            rt.must_fail_all = rows.tried
+        return rt.main(["ci"])
 
 
 if __name__ == "__main__":
