@@ -1,4 +1,4 @@
-use Rattle.std.proofs.Common.{refl, ap, sym, ◌∙◌}
+use Rattle.std.proofs.Common.{true, refl, ap, sym, ◌∙◌}
 use Rattle.joint.proofs.lemmas.nodes.Accounts.{standing_inside, kept_marked, count_few, bytes_small}
 use Rattle.joint.proofs.lemmas.nodes.NodesInvariant.{there_in, node_in, altered_in, orderly_in, frame_in, same_in}
 use Rattle.joint.proofs.nodes.store.NodesStoreId.retire.Goals as goal
