@@ -128,7 +128,7 @@ fn effect<P>(reply: &Reply<P>) -> Change
 
 /// The effect of a call that has locks to let go, by the reply that it will give; one that has none yet has no effect.
 fn effect_by<P>(reply: Option<&Reply<P>>) -> Change
-    ensures { result ≡ effect_by (option_copied reply) }
+    ensures { result ≡ effect_by (option_copied reply.entry) }
 {
     match reply {
         Some(reply) => effect(reply),
@@ -136,7 +136,7 @@ fn effect_by<P>(reply: Option<&Reply<P>>) -> Change
     }
 }
 
-/// The effect of a call that took effect in a step with this outcome, and is this one after it.
+/// The effect of a call that took effect in a step with this outcome and stands so after it.
 pub(crate) fn effect_after<P: Payload + Small>(
     outcome: &Outcome<P>,
     call: &Machine<Id, P>,

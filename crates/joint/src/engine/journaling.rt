@@ -69,7 +69,7 @@ impl<P: Payload + Small, A: Allocator> Engine<P, A> {
 
 /// An equal reply, where there is one; `None` also where a value can't be copied.
 fn copy_held<P: Payload>(reply: Option<&Reply<P>>) -> Option<Reply<P>>
-    ensures always { P.always_copies ≡ true → result ≡ option_copied reply }
+    ensures always { P.always_copies ≡ true → result ≡ option_copied reply.entry }
 {
     copy_reply(reply?)
 }
