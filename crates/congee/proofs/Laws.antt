@@ -10,8 +10,6 @@ pub use Rattle.congee.proofs.lemmas.Keys.{key_length}
 pub use Rattle.congee.proofs.lemmas.Keys.{key_apart}
 -- two keys with one prefix of all but one byte, and that byte, are one
 pub use Rattle.congee.proofs.lemmas.Fits.{same_key}
--- a prefix whose every byte is the key's fits it
-pub use Rattle.congee.proofs.lemmas.forms.Prefixes.{fits_every}
 -- the first bytes of a key are a prefix of it
 pub use Rattle.congee.proofs.lemmas.owned.Joins.{front_fits}
 -- a look-up in a list of pairs, by tests of numbers
