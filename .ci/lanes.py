@@ -58,12 +58,16 @@ def in_lanes(tasks, rt):
     call that gets what was given and how many jobs it may use."""
     behind = chain_behind(tasks)
     is_proof = lambda it: it[1] in ("proof", "tests")
-    # of two as long the tests come first: they are proved, and then run
-    rank = lambda it: (not is_proof(it), -behind[it] if is_proof(it) else 0, it[1] != "tests")
+    # of two proofs as long the tests' comes first; the edits of an upper crate take longer, and come before a lower one's
+    crates = [it[0] for it in tasks if it[1] == "proof"]
+    rank = lambda it: (not is_proof(it), -(behind[it] if is_proof(it) else crates.index(it[0])), it[1] != "tests")
     left = sorted(tasks, key=rank)
     lanes, memory, running, given = rt.processors(), 0.85 * rt.free(), {}, {}
+    most = lanes + 1, 2 * lanes
     with getattr(rt, "ending", contextlib.nullcontext)(), ThreadPoolExecutor(4 * lanes) as pool:
         while left or running:
+            # whether a proof waits for memory alone: then no edit takes it
+            is_starved = False
             for key in [*left]:
                 waits, lines, needs, call = tasks[key]
                 if not all(it in given for it in waits):
@@ -72,8 +76,10 @@ def in_lanes(tasks, rt):
                 needs *= SHARES.get(key[1], EDITS)
                 # what has no lines ends at once
                 jobs = PROCESSORS.get(key[1], 1) if lines or not is_proof(key) else 0
-                is_free = held + needs <= memory and (is_proof(key) or busy < lanes + 1)
+                jobs = max(jobs, lanes - busy) if key[1] == "seed" else jobs
+                is_free = held + needs <= memory and (is_proof(key) or busy < most[key[1] == "seed"] and not is_starved)
                 if running and jobs and not is_free:
+                    is_starved = is_starved or is_proof(key)
                     continue
                 left.remove(key)
                 steps = 0 if is_proof(key) else BEHIND
