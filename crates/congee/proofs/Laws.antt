@@ -56,6 +56,14 @@ pub use Rattle.congee.proofs.lemmas.protocol.Leftovers.{kept_node}
 pub use Rattle.congee.proofs.lemmas.protocol.Leftovers.{kept_value}
 -- a call owns the nodes that it has locked
 pub use Rattle.congee.proofs.lemmas.protocol.Owners.{locks_owned}
+-- what a call has made is as it was made
+pub use Rattle.congee.proofs.lemmas.protocol.Owners.{made_known}
+-- a node that a call has taken out: it left the tree, under the call's lock, and isn't handed over
+pub use Rattle.congee.proofs.lemmas.protocol.Owners.{IsTaken}
+-- so is each that its phase tells
+pub use Rattle.congee.proofs.lemmas.protocol.Owners.{taken_known}
+-- a call has what it has taken out locked
+pub use Rattle.congee.proofs.lemmas.protocol.Unlinking.{taken_locked}
 -- a node has a key below it
 pub use Rattle.congee.proofs.lemmas.protocol.Regions.{span_pos}
 -- and 256 times as many as a node one byte deeper

@@ -14,7 +14,6 @@ pub mod NodesInvariant
 pub mod KeyWalks
 pub mod Keyed
 pub mod Listing
-pub mod MadeUnhanded
 pub mod NameLists
 pub mod OtherChild
 pub mod Paths

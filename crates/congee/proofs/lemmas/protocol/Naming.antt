@@ -1,5 +1,5 @@
 -- Each name of a call is of a node that is or was in reach, or of one that it made.
-use Rattle.std.proofs.Common.{◌≡◌, ℕ, suc, Bool, true, List, [], ◌∷◌, refl, sym, ap, subst, inl, inr, ◌⊎◌}
+use Rattle.std.proofs.Common.{◌≡◌, ℕ, suc, Bool, true, List, [], ◌∷◌, refl, ap, inl, inr, ◌⊎◌}
 use Rattle.std.specs.Prelude.{Option, None, Some}
 use Rattle.std.specs.List.{Contains}
 use Rattle.std.proofs.lemmas.List.Elements.{All-from_recursion, All-contains}
@@ -27,9 +27,10 @@ use Rattle.congee.specs.protocol.SweepKnown.{RungsKnown, SweepKnownAt, names_run
 use Rattle.congee.specs.Heap.{Node, Hung, Below, child_for}
 use Rattle.congee.specs.Notes.{Note, Linked, is_published, Tree}
 use Rattle.congee.specs.protocol.Protocol.{Known, Knows, TopLocked, AlsoOut, AlsoHolding, IsFar, IsAbove, IsLesser, SeatedIf, PlanKnown}
-use Rattle.congee.specs.protocol.Holdings.{IsTop, LockedBy, MadeBy, MadeForOne, MadeForTwo, MadeForPlan, IsMade}
+use Rattle.congee.specs.protocol.Holdings.{LockedBy, MadeBy, MadeForOne, MadeForTwo, MadeForPlan, IsMade}
 use Rattle.congee.specs.protocol.Names.{name_above, names_over, name_seated, name_made, names_for_one, names_for_two, names_site, names_one, names_two, names_plan, names}
 use Rattle.congee.proofs.lemmas.protocol.Each.{Each, each_append}
+use Rattle.congee.proofs.lemmas.protocol.Owners.{taken_known, locked_linked}
 
 each_weaker : (K L : ℕ → Type 0) → ((n : ℕ) → K n → L n) → (xs : List ℕ) → Each K xs → Each L xs
 each_weaker K L f [] e = tt
@@ -153,39 +154,9 @@ module _ {C V : Type 0} (number : C → ℕ) (same : V → V → Bool) (always :
     pub named : (kind : Kind V) (given : Option V) (s : Phase C V) → Known number same always i a h k key kind given s → (n : ℕ) → Contains (names number s) n → (is_published (a n).status ≡ true) ⊎ MadeBy number s n
     named kind given s x n c = All-contains (Or (MadeBy number s)) (names number s) n (All-from_recursion (Or (MadeBy number s)) (names number s) (names_known kind given s x)) c
 
-    at : (n c : ℕ) → n ≡ c → In c → In n
-    at n c e x = subst In (sym e) x
-
-    top_at : (top : Option (Parent C)) (m : ℕ) → TopLocked number i a h key top m → (n : ℕ) → IsTop number top n → In n
-    top_at None m x n l = absurd l
-    top_at (Some g) m x n l = at n _ l (tree_in _ x.holding.linked)
-
-    out_at : (next : Option C) (m : ℕ) → AlsoOut number i a h m next → (n : ℕ) → IsMade number next n → In n
-    out_at None m x n l = absurd l
-    out_at (Some c) m x n l = at n _ l (ap is_published x.1)
-
-    held_at : (next : Option C) (m : ℕ) → AlsoHolding number i a m next → (n : ℕ) → IsMade number next n → In n
-    held_at None m x n l = absurd l
-    held_at (Some c) m x n l = at n _ l (tree_in _ x.0.linked)
-
     -- a lock is of a node that is or was in reach
     pub locked_in : (kind : Kind V) (given : Option V) (s : Phase C V) → Known number same always i a h k key kind given s → (n : ℕ) → LockedBy number s n → is_published (a n).status ≡ true
-    locked_in kind given (ChangeOne one r) x n l = at n _ l (tree_in _ x.1.holding.linked)
-    locked_in kind given (UpgradeAbove two r) x n l = top_at two.top _ x.1.2.top n l
-    locked_in kind given (UpgradeBelow two r) x n (inl l) = at n _ l (tree_in _ x.1.2.above.holding.linked)
-    locked_in kind given (UpgradeBelow two r) x n (inr l) = top_at two.top _ x.1.2.top n l
-    locked_in kind given (ChangeTwo two r) x n (inl (inl l)) = at n _ l (tree_in _ x.2.above.holding.linked)
-    locked_in kind given (ChangeTwo two r) x n (inl (inr l)) = at n _ l (below_in _ _ x.2.above.holding.linked x.2.above.child)
-    locked_in kind given (ChangeTwo two r) x n (inr l) = top_at two.top _ x.2.top n l
-    locked_in kind given (Obsolete m next p r) x n (inl (inl l)) = at n _ l (tree_in _ x.0.above.linked)
-    locked_in kind given (Obsolete m next p r) x n (inl (inr l)) = at n _ l (ap is_published x.0.gone)
-    locked_in kind given (Obsolete m next p r) x n (inr l) = out_at next _ x.1 n l
-    locked_in kind given (Retire m next p r) x n (inl (inl l)) = at n _ l (tree_in _ x.0.above.linked)
-    locked_in kind given (Retire m next p r) x n (inl (inr l)) = at n _ l (ap is_published x.0.gone)
-    locked_in kind given (Retire m next p r) x n (inr l) = out_at next _ x.1 n l
-    locked_in kind given (UnlockBelow m p r) x n (inl l) = at n _ l (tree_in _ x.1.linked)
-    locked_in kind given (UnlockBelow m p r) x n (inr l) = at n _ l (tree_in _ x.0.linked)
-    locked_in kind given (Unlock m r) x n l = at n _ l (tree_in _ x.linked)
-    locked_in kind given (Unwind m next e) x n (inl l) = at n _ l (tree_in _ x.1.linked)
-    locked_in kind given (Unwind m next e) x n (inr l) = held_at next _ x.2 n l
-    locked_in kind given _ x n l = absurd l
+    locked_in kind given s x n l = elim (locked_linked number same always i a h k key kind given n t s x l) [
+      | inl e ↦ tree_in n e
+      | inr y ↦ ap is_published (taken_known number same always i a h k key kind given n s x y).gone
+    ]

@@ -1,5 +1,5 @@
 -- What all calls hold, after a step of one of them.
-use Rattle.std.proofs.Common.{◌≡◌, ◌≢◌, ℕ, zero, suc, ◌⊎◌, inl, inr, Bool, true, List, [], ◌∷◌, refl, sym, ◌∙◌, ap, subst, arith}
+use Rattle.std.proofs.Common.{◌≡◌, ◌≢◌, ℕ, zero, suc, ◌⊎◌, inl, inr, Bool, true, false, List, [], ◌∷◌, refl, sym, ◌∙◌, ap, subst, arith}
 use Rattle.std.proofs.Math.ListN.{set}
 use Rattle.std.specs.Prelude.{Option, None, Some, slice_get}
 use Rattle.judge.specs.declared.journal.Reply.{Reply}
@@ -22,7 +22,7 @@ use Rattle.congee.specs.Heap.{Node}
 use Rattle.congee.specs.protocol.Steps.{after_retire, PhaseStepped}
 use Rattle.congee.specs.Keys.{key_bytes}
 use Rattle.congee.specs.Notes.{Note, Unmade, Held, Linked, Gone, Tree, LockWords}
-use Rattle.congee.specs.protocol.Protocol.{TopLocked, AlsoOut, AlsoHolding, Made, MadeOne, MadeTwo, MadeLeafFor, PlanKnown, Fares, Known}
+use Rattle.congee.specs.protocol.Protocol.{Holding, TopLocked, TakenOut, AlsoOut, AlsoHolding, Made, MadeOne, MadeTwo, MadeLeafFor, PlanKnown, Fares, Known}
 use Rattle.congee.specs.protocol.Holdings.{IsTop, LockedBy, MadeForOne, MadeForTwo, MadeForPlan, IsMade, MadeBy, TakenBy, Holdings}
 use Rattle.congee.proofs.lemmas.Tree.{same_or_not}
 use Rattle.congee.proofs.lemmas.protocol.Holdings.{Holds_now}
@@ -52,115 +52,131 @@ set_apart (z ∷ xs) zero (suc j) x y ne e = e
 set_apart (z ∷ xs) (suc i) zero x y ne e = e
 set_apart (z ∷ xs) (suc i) (suc j) x y ne e = set_apart xs i j x y (λ q. ne (ap suc q)) e
 
--- what a call knows to hold
-module _ {C V : Type 0} (number : C → ℕ) (same : V → V → Bool) (always : Bool) (i : ℕ) (a : ℕ → Note) (h : ℕ → Node V) (k : ℕ) (kind : Kind V) (given : Option V) (n : ℕ) where
-  made_at : (c size least : ℕ) → Made i a h (key_bytes k) c size least → n ≡ c → (a n).status ≡ Held i
-  made_at c size least m q = let P : ℕ → Type 0 = λ y. (a y).status ≡ Held i in subst P (sym q) m.held
+-- a node that a call has taken out: it left the tree, under the call's lock, and isn't handed over
+pub record IsTaken {V : Type 0} (i : ℕ) (a : ℕ → Note) (h : ℕ → Node V) (n : ℕ) : Type 0 where
+  pub owner : (a n).owner ≡ Some i
+  pub gone : (a n).status ≡ Gone
+  pub unretired : (h n).retired ≡ false
 
-  one_held : (change : Single C) → MadeOne number i a h (key_bytes k) change → MadeForOne number change n → (a n).status ≡ Held i
-  one_held Set m x = absurd x
-  one_held (Link leaf) m x = made_at (number leaf) 7 0 m x
+-- what a call knows of the nodes that it has made, taken out and locked
+module _ {C V : Type 0} (number : C → ℕ) (same : V → V → Bool) (always : Bool) (i : ℕ) (a : ℕ → Note) (h : ℕ → Node V) (k : ℕ) (key : List ℕ) (kind : Kind V) (given : Option V) (n : ℕ) where
+  abbrev pub IsNew : Type 0
+  IsNew = (size : ℕ) × (least : ℕ) × Made i a h key n size least
 
-  two_held : (p : Parent C) (change : Double C) (size q : ℕ) → MadeTwo number i a h (key_bytes k) p change size q → MadeForTwo number change n → (a n).status ≡ Held i
-  two_held p Unlink size q m x = absurd x
-  two_held p Collapse size q m x = absurd x
-  two_held p (Shrink c) size q m x = made_at (number c) size q m x
-  two_held p (ShrinkAbove c) size q m x = made_at (number c) p.depth q m.0 x
-  two_held p (Grow c) size q m x = made_at (number c) size q m x
-  two_held p (GrowLink c leaf byte) size q m (inl x) = made_at (number c) size q m.0 x
-  two_held p (GrowLink c leaf byte) size q m (inr x) = made_at (number leaf) 7 0 m.1 x
-  two_held p (Split top leaf common byte) size q m (inl x) = made_at (number top) common 1 m.0 x
-  two_held p (Split top leaf common byte) size q m (inr x) = made_at (number leaf) 7 0 m.1 x
+  made_at : (c size least : ℕ) → Made i a h key c size least → n ≡ c → IsNew
+  made_at c size least m q = (size, least, (let P : ℕ → Type 0 = λ y. Made i a h key y size least in subst P (sym q) m))
 
-  plan_held : (plan : Plan C) → PlanKnown number i a h (key_bytes k) plan → MadeForPlan number plan n → (a n).status ≡ Held i
-  plan_held (Here check one) m x = one_held one.change m.1.made x
-  plan_held (Above two) m x = two_held two.above two.change _ _ m.0.1.made x
+  one_made : (change : Single C) → MadeOne number i a h key change → MadeForOne number change n → IsNew
+  one_made Set m x = absurd x
+  one_made (Link leaf) m x = made_at (number leaf) 7 0 m x
 
-  leaf_held : (leaf : Option C) (s : Site C) → MadeLeafFor number i a h (key_bytes k) s leaf → IsMade number leaf n → (a n).status ≡ Held i
-  leaf_held None s m x = absurd x
-  leaf_held (Some leaf) s m x = made_at (number leaf) 7 0 m.1 x
+  two_made : (p : Parent C) (change : Double C) (size q : ℕ) → MadeTwo number i a h key p change size q → MadeForTwo number change n → IsNew
+  two_made p Unlink size q m x = absurd x
+  two_made p Collapse size q m x = absurd x
+  two_made p (Shrink c) size q m x = made_at (number c) size q m x
+  two_made p (ShrinkAbove c) size q m x = made_at (number c) p.depth q m.0 x
+  two_made p (Grow c) size q m x = made_at (number c) size q m x
+  two_made p (GrowLink c leaf byte) size q m (inl x) = made_at (number c) size q m.0 x
+  two_made p (GrowLink c leaf byte) size q m (inr x) = made_at (number leaf) 7 0 m.1 x
+  two_made p (Split top leaf common byte) size q m (inl x) = made_at (number top) common 1 m.0 x
+  two_made p (Split top leaf common byte) size q m (inr x) = made_at (number leaf) 7 0 m.1 x
 
-  pub made_held : (s : Phase C V) → Known number same always i a h k (key_bytes k) kind given s → MadeBy number s n → (a n).status ≡ Held i
-  made_held (MakeGreater s p leaf) x l = leaf_held leaf s x.3 l
-  made_held (MakeBeside p at common byte top) x l = made_at (number top) common 1 x.6 l
-  made_held (AskNew plan) x l = plan_held plan x.0 l
-  made_held (CheckAbove p one r) x l = one_held one.change x.2.made l
-  made_held (UpgradeOne one r) x l = one_held one.change x.1.1.made l
-  made_held (ChangeOne one r) x l = one_held one.change x.1.made l
-  made_held (UpgradeTop g two r) x l = two_held two.above two.change _ _ x.1.2.made l
-  made_held (UpgradeAbove two r) x l = two_held two.above two.change _ _ x.1.2.made l
-  made_held (UpgradeBelow two r) x l = two_held two.above two.change _ _ x.1.2.made l
-  made_held (ChangeTwo two r) x l = two_held two.above two.change _ _ x.2.made l
-  made_held _ x l = absurd l
+  plan_made : (plan : Plan C) → PlanKnown number i a h key plan → MadeForPlan number plan n → IsNew
+  plan_made (Here check one) m x = one_made one.change m.1.made x
+  plan_made (Above two) m x = two_made two.above two.change _ _ m.0.1.made x
+
+  leaf_made : (leaf : Option C) (s : Site C) → MadeLeafFor number i a h key s leaf → IsMade number leaf n → IsNew
+  leaf_made None s m x = absurd x
+  leaf_made (Some leaf) s m x = made_at (number leaf) 7 0 m.1 x
+
+  pub made_known : (s : Phase C V) → Known number same always i a h k key kind given s → MadeBy number s n → IsNew
+  made_known (MakeGreater s p leaf) x l = leaf_made leaf s x.3 l
+  made_known (MakeBeside p at common byte top) x l = made_at (number top) common 1 x.6 l
+  made_known (AskNew plan) x l = plan_made plan x.0 l
+  made_known (CheckAbove p one r) x l = one_made one.change x.2.made l
+  made_known (UpgradeOne one r) x l = one_made one.change x.1.1.made l
+  made_known (ChangeOne one r) x l = one_made one.change x.1.made l
+  made_known (UpgradeTop g two r) x l = two_made two.above two.change _ _ x.1.2.made l
+  made_known (UpgradeAbove two r) x l = two_made two.above two.change _ _ x.1.2.made l
+  made_known (UpgradeBelow two r) x l = two_made two.above two.change _ _ x.1.2.made l
+  made_known (ChangeTwo two r) x l = two_made two.above two.change _ _ x.2.made l
+  made_known _ x l = absurd l
+
+  taken_at : (m : ℕ) → IsTaken i a h m → n ≡ m → IsTaken i a h n
+  taken_at m x q = let P : ℕ → Type 0 = λ y. IsTaken i a h y in subst P (sym q) x
+
+  next_taken : (next : Option C) (m : ℕ) → AlsoOut number i a h m next → IsMade number next n → IsTaken i a h n
+  next_taken None m x q = absurd q
+  next_taken (Some c) m x q = taken_at (number c) (record { owner = x.0; gone = x.1; unretired = x.2 }) q
+
+  both_taken : (m p : C) (next : Option C) → TakenOut i a h (number p) (number m) → AlsoOut number i a h (number m) next → (n ≡ number m) ⊎ IsMade number next n → IsTaken i a h n
+  both_taken m p next x y (inl q) = taken_at (number m) (record { owner = x.owner; gone = x.gone; unretired = x.unretired }) q
+  both_taken m p next x y (inr q) = next_taken next (number m) y q
+
+  pub taken_known : (s : Phase C V) → Known number same always i a h k key kind given s → TakenBy number s n → IsTaken i a h n
+  taken_known (Obsolete m next p r) x t = both_taken m p next x.0 x.1 t
+  taken_known (Retire m next p r) x t = both_taken m p next x.0 x.1 t
+  taken_known _ x t = absurd t
+
+  -- a locked node is in the tree, or one that was taken out
+  abbrev Locks : Type 0 → Type 0
+  Locks T = ((a n).owner ≡ Some i) × (Tree a h → ((a n).status ≡ Linked) ⊎ T)
 
   owned_at : (m : ℕ) → (a m).owner ≡ Some i → n ≡ m → (a n).owner ≡ Some i
   owned_at m o q = let P : ℕ → Type 0 = λ y. (a y).owner ≡ Some i in subst P (sym q) o
 
-  top_owned : (top : Option (Parent C)) (m : ℕ) → TopLocked number i a h (key_bytes k) top m → IsTop number top n → (a n).owner ≡ Some i
-  top_owned None m x l = absurd l
-  top_owned (Some g) m x l = owned_at (number g.seat.node) x.holding.owner l
+  linked_at : (m : ℕ) → (a m).status ≡ Linked → n ≡ m → (a n).status ≡ Linked
+  linked_at m l q = let P : ℕ → Type 0 = λ y. (a y).status ≡ Linked in subst P (sym q) l
 
-  out_owned : (next : Option C) (m : ℕ) → AlsoOut number i a h m next → IsMade number next n → (a n).owner ≡ Some i
-  out_owned None m x l = absurd l
-  out_owned (Some c) m x l = owned_at (number c) x.0 l
+  locks_at : (T : Type 0) (m : ℕ) → Holding i a m → n ≡ m → Locks T
+  locks_at T m x q = (owned_at m x.owner q, λ t. inl (linked_at m x.linked q))
 
-  held_owned : (next : Option C) (m : ℕ) → AlsoHolding number i a m next → IsMade number next n → (a n).owner ≡ Some i
-  held_owned None m x l = absurd l
-  held_owned (Some c) m x l = owned_at (number c) x.0.owner l
+  locks_top : (T : Type 0) (top : Option (Parent C)) (m : ℕ) → TopLocked number i a h key top m → IsTop number top n → Locks T
+  locks_top T None m x l = absurd l
+  locks_top T (Some g) m x l = locks_at T (number g.seat.node) x.holding l
+
+  locks_next : (T : Type 0) (next : Option C) (m : ℕ) → AlsoHolding number i a m next → IsMade number next n → Locks T
+  locks_next T None m x l = absurd l
+  locks_next T (Some c) m x l = locks_at T (number c) x.0 l
+
+  locks_out : (m p : C) (next : Option C) → TakenOut i a h (number p) (number m) → AlsoOut number i a h (number m) next → ((n ≡ number p) ⊎ (n ≡ number m)) ⊎ IsMade number next n → Locks ((n ≡ number m) ⊎ IsMade number next n)
+  locks_out m p next x y (inl (inl l)) = locks_at _ (number p) x.above l
+  locks_out m p next x y (inl (inr l)) = (owned_at (number m) x.owner l, λ t. inr (inl l))
+  locks_out m p next x y (inr l) = ((next_taken next (number m) y l).owner, λ t. inr (inr l))
+
+  locks_are : (s : Phase C V) → Known number same always i a h k key kind given s → LockedBy number s n → Locks (TakenBy number s n)
+  locks_are (ChangeOne one r) x l = locks_at _ (number one.at.node) x.1.holding l
+  locks_are (UpgradeAbove two r) x l = locks_top _ two.top _ x.1.2.top l
+  locks_are (UpgradeBelow two r) x (inl l) = locks_at _ (number two.above.seat.node) x.1.2.above.holding l
+  locks_are (UpgradeBelow two r) x (inr l) = locks_top _ two.top _ x.1.2.top l
+  locks_are (ChangeTwo two r) x (inl (inl l)) = locks_at _ (number two.above.seat.node) x.2.above.holding l
+  locks_are (ChangeTwo two r) x (inl (inr l)) = (owned_at (number two.at.node) x.2.owner l, λ t. inl (linked_at (number two.at.node) (t.down (number two.above.seat.node) _ (number two.at.node) x.2.above.holding.linked x.2.above.child).linked l))
+  locks_are (ChangeTwo two r) x (inr l) = locks_top _ two.top _ x.2.top l
+  locks_are (Obsolete m next p r) x l = locks_out m p next x.0 x.1 l
+  locks_are (Retire m next p r) x l = locks_out m p next x.0 x.1 l
+  locks_are (UnlockBelow m p r) x (inl l) = locks_at _ (number p) x.1 l
+  locks_are (UnlockBelow m p r) x (inr l) = locks_at _ (number m) x.0 l
+  locks_are (Unlock m r) x l = locks_at _ (number m) x l
+  locks_are (Unwind m next e) x (inl l) = locks_at _ (number m) x.1 l
+  locks_are (Unwind m next e) x (inr l) = locks_next _ next _ x.2 l
+  locks_are _ x l = absurd l
+
+  pub locked_linked : Tree a h → (s : Phase C V) → Known number same always i a h k key kind given s → LockedBy number s n → ((a n).status ≡ Linked) ⊎ TakenBy number s n
+  locked_linked t s x l = (locks_are s x l).1 t
+
+module _ {C V : Type 0} (number : C → ℕ) (same : V → V → Bool) (always : Bool) (i : ℕ) (a : ℕ → Note) (h : ℕ → Node V) (k : ℕ) (kind : Kind V) (given : Option V) (n : ℕ) where
+  pub made_held : (s : Phase C V) → Known number same always i a h k (key_bytes k) kind given s → MadeBy number s n → (a n).status ≡ Held i
+  made_held s x l = (made_known number same always i a h k (key_bytes k) kind given n s x l).2.held
 
   pub locks_owned : (s : Phase C V) → Known number same always i a h k (key_bytes k) kind given s → LockedBy number s n → (a n).owner ≡ Some i
-  locks_owned (ChangeOne one r) x l = owned_at (number one.at.node) x.1.holding.owner l
-  locks_owned (UpgradeAbove two r) x l = top_owned two.top _ x.1.2.top l
-  locks_owned (UpgradeBelow two r) x (inl l) = owned_at (number two.above.seat.node) x.1.2.above.holding.owner l
-  locks_owned (UpgradeBelow two r) x (inr l) = top_owned two.top _ x.1.2.top l
-  locks_owned (ChangeTwo two r) x (inl (inl l)) = owned_at (number two.above.seat.node) x.2.above.holding.owner l
-  locks_owned (ChangeTwo two r) x (inl (inr l)) = owned_at (number two.at.node) x.2.owner l
-  locks_owned (ChangeTwo two r) x (inr l) = top_owned two.top _ x.2.top l
-  locks_owned (Obsolete m next p r) x (inl (inl l)) = owned_at (number p) x.0.above.owner l
-  locks_owned (Obsolete m next p r) x (inl (inr l)) = owned_at (number m) x.0.owner l
-  locks_owned (Obsolete m next p r) x (inr l) = out_owned next _ x.1 l
-  locks_owned (Retire m next p r) x (inl (inl l)) = owned_at (number p) x.0.above.owner l
-  locks_owned (Retire m next p r) x (inl (inr l)) = owned_at (number m) x.0.owner l
-  locks_owned (Retire m next p r) x (inr l) = out_owned next _ x.1 l
-  locks_owned (UnlockBelow m p r) x (inl l) = owned_at (number p) x.1.owner l
-  locks_owned (UnlockBelow m p r) x (inr l) = owned_at (number m) x.0.owner l
-  locks_owned (Unlock m r) x l = owned_at (number m) x.owner l
-  locks_owned (Unwind m next e) x (inl l) = owned_at (number m) x.1.owner l
-  locks_owned (Unwind m next e) x (inr l) = held_owned next _ x.2 l
-  locks_owned _ x l = absurd l
-
-  linked_gone : (m : ℕ) → (a m).status ≡ Linked → n ≡ m → (a n).status ≡ Gone → ⊥
-  linked_gone m l q g = let y : (a n).status ≡ Linked = (let P : ℕ → Type 0 = λ y. (a y).status ≡ Linked in subst P (sym q) l) in let z : Linked ≡ Gone = sym y ∙ g in cc
-
-  top_stays : (top : Option (Parent C)) (m : ℕ) → TopLocked number i a h (key_bytes k) top m → IsTop number top n → (a n).status ≡ Gone → ⊥
-  top_stays None m x l g = l
-  top_stays (Some p) m x l g = linked_gone (number p.seat.node) x.holding.linked l g
-
-  held_stays : (next : Option C) (m : ℕ) → AlsoHolding number i a m next → IsMade number next n → (a n).status ≡ Gone → ⊥
-  held_stays None m x l g = l
-  held_stays (Some c) m x l g = linked_gone (number c) x.0.linked l g
+  locks_owned s x l = (locks_are number same always i a h k (key_bytes k) kind given n s x l).0
 
   -- a locked node that left the tree is one that the call took out
   pub gone_taken : Tree a h → (s : Phase C V) → Known number same always i a h k (key_bytes k) kind given s → LockedBy number s n → (a n).status ≡ Gone → TakenBy number s n
-  gone_taken t (ChangeOne one r) x l g = linked_gone (number one.at.node) x.1.holding.linked l g
-  gone_taken t (UpgradeAbove two r) x l g = top_stays two.top _ x.1.2.top l g
-  gone_taken t (UpgradeBelow two r) x (inl l) g = linked_gone (number two.above.seat.node) x.1.2.above.holding.linked l g
-  gone_taken t (UpgradeBelow two r) x (inr l) g = top_stays two.top _ x.1.2.top l g
-  gone_taken t (ChangeTwo two r) x (inl (inl l)) g = linked_gone (number two.above.seat.node) x.2.above.holding.linked l g
-  gone_taken t (ChangeTwo two r) x (inl (inr l)) g = linked_gone (number two.at.node) (t.down (number two.above.seat.node) _ (number two.at.node) x.2.above.holding.linked x.2.above.child).linked l g
-  gone_taken t (ChangeTwo two r) x (inr l) g = top_stays two.top _ x.2.top l g
-  gone_taken t (Obsolete m next p r) x (inl (inl l)) g = absurd (linked_gone (number p) x.0.above.linked l g)
-  gone_taken t (Obsolete m next p r) x (inl (inr l)) g = inl l
-  gone_taken t (Obsolete m next p r) x (inr l) g = inr l
-  gone_taken t (Retire m next p r) x (inl (inl l)) g = absurd (linked_gone (number p) x.0.above.linked l g)
-  gone_taken t (Retire m next p r) x (inl (inr l)) g = inl l
-  gone_taken t (Retire m next p r) x (inr l) g = inr l
-  gone_taken t (UnlockBelow m p r) x (inl l) g = linked_gone (number p) x.1.linked l g
-  gone_taken t (UnlockBelow m p r) x (inr l) g = linked_gone (number m) x.0.linked l g
-  gone_taken t (Unlock m r) x l g = linked_gone (number m) x.linked l g
-  gone_taken t (Unwind m next e) x (inl l) g = linked_gone (number m) x.1.linked l g
-  gone_taken t (Unwind m next e) x (inr l) g = held_stays next _ x.2 l g
-  gone_taken t _ x l g = absurd l
+  gone_taken t s x l g = elim (locked_linked number same always i a h k (key_bytes k) kind given n t s x l) [
+    | inl e ↦ absurd (let z : Linked ≡ Gone = sym e ∙ g in cc)
+    | inr y ↦ y
+  ]
 
   -- the second one is marked next
   next_out : (next : Option C) (p : C) (r : Reply V) → IsMade number next n → TakenBy number (after_retire next p r).phase n

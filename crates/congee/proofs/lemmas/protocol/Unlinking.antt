@@ -8,10 +8,9 @@ use Rattle.congee.specs.declared.forms.base_node.NodeType.{NodeType}
 use Rattle.congee.specs.declared.protocol.store.Refusal.{Refusal}
 use Rattle.judge.specs.declared.journal.Reply.{Reply}
 use Rattle.congee.specs.declared.protocol.phase.Kind.{Kind}
-use Rattle.congee.specs.declared.protocol.phase.Parent.{Parent}
 use Rattle.congee.specs.declared.protocol.phase.Phase.TheVariants as phase
 use Rattle.congee.specs.declared.protocol.phase.Phase.{Phase}
-use Rattle.congee.specs.declared.protocol.phase.Phase.TheVariants.{ChangeOne, UpgradeAbove, UpgradeBelow, ChangeTwo, Obsolete, Retire, UnlockBelow, Unlock, Unwind}
+use Rattle.congee.specs.declared.protocol.phase.Phase.TheVariants.{Obsolete, Retire, Unlock}
 use Rattle.congee.specs.declared.protocol.turn.NextPhase.{NextPhase}
 use Rattle.congee.specs.declared.protocol.machine.Machine.{Machine}
 use Rattle.congee.specs.declared.protocol.run.Step.{Step}
@@ -19,11 +18,11 @@ use Rattle.congee.specs.Heap.{Node, Below, Stands}
 use Rattle.congee.specs.protocol.Steps.{after_retire, PhaseStepped}
 use Rattle.congee.specs.Keys.{key_bytes}
 use Rattle.congee.specs.Notes.{Note, Status, Unmade, Held, Linked, Gone, Back, Destroyed, is_published, is_spent, IsChild, HasParent, Tree, LockWords}
-use Rattle.congee.specs.protocol.Protocol.{Fares, TopLocked, AlsoOut, AlsoHolding, TakenOut, Known}
-use Rattle.congee.specs.protocol.Holdings.{IsMade, IsTop, LockedBy, MadeBy, TakenBy, Holdings}
+use Rattle.congee.specs.protocol.Protocol.{Fares, AlsoOut, Known}
+use Rattle.congee.specs.protocol.Holdings.{IsMade, LockedBy, MadeBy, TakenBy, Holdings}
 use Rattle.congee.specs.protocol.Handing.{is_waiting, Leads, InTree, AreOneOrTwo, HandsAt, IsLeaving, Leaving, TakesAt, Leaves, Due, Accounted, Unlinking, StepHands, StepTakes}
 use Rattle.congee.proofs.lemmas.Tree.{same_or_not}
-use Rattle.congee.proofs.lemmas.protocol.Owners.{get_set, set_here, set_apart, gone_taken, taken_on}
+use Rattle.congee.proofs.lemmas.protocol.Owners.{get_set, set_here, set_apart, IsTaken, taken_known, locked_linked, gone_taken, taken_on}
 use Rattle.congee.proofs.lemmas.protocol.Handing.{leads_linked, unlinked_out, giving, giving_here, giving_apart, some_of, none_if}
 
 -- a path leads to each node of the tree
@@ -106,7 +105,7 @@ one_taken number (Obsolete m next p r) = inl (number m, inl refl)
 one_taken number (Retire m next p r) = inl (number m, inl refl)
 one_taken number _ = inr (λ c q. q)
 
-taken_locked : {C V : Type 0} (number : C → ℕ) (s : Phase C V) (n : ℕ) → TakenBy number s n → LockedBy number s n
+pub taken_locked : {C V : Type 0} (number : C → ℕ) (s : Phase C V) (n : ℕ) → TakenBy number s n → LockedBy number s n
 taken_locked number (Obsolete m next p r) n (inl x) = inl (inr x)
 taken_locked number (Obsolete m next p r) n (inr x) = inr x
 taken_locked number (Retire m next p r) n (inl x) = inl (inr x)
@@ -114,13 +113,6 @@ taken_locked number (Retire m next p r) n (inr x) = inr x
 taken_locked number _ n x = absurd x
 
 module _ {C V : Type 0} (number : C → ℕ) (same : V → V → Bool) (always : Bool) (i : ℕ) (a : ℕ → Note) (h : ℕ → Node V) (k : ℕ) (kind : Kind V) (given : Option V) where
-  out_at : (p m n : ℕ) → n ≡ m → TakenOut i a h p m → ((a n).status ≡ Gone) × ((a n).owner ≡ Some i) × ((h n).retired ≡ false)
-  out_at p m n q x = let P : ℕ → Type 0 = λ y. ((a y).status ≡ Gone) × ((a y).owner ≡ Some i) × ((h y).retired ≡ false) in subst P (sym q) (x.gone, x.owner, x.unretired)
-
-  also_at : (next : Option C) (m n : ℕ) → IsMade number next n → AlsoOut number i a h m next → ((a n).status ≡ Gone) × ((a n).owner ≡ Some i) × ((h n).retired ≡ false)
-  also_at None m n q x = absurd q
-  also_at (Some c) m n q x = let P : ℕ → Type 0 = λ y. ((a y).status ≡ Gone) × ((a y).owner ≡ Some i) × ((h y).retired ≡ false) in subst P (sym q) (x.1, x.0, x.2)
-
   -- they are different ones
   apart : (next : Option C) (m : C) → AlsoOut number i a h (number m) next → AreOneOrTwo (number m ∷ next_list number next)
   apart None m x = tt
@@ -130,46 +122,6 @@ module _ {C V : Type 0} (number : C → ℕ) (same : V → V → Bool) (always :
   one_or_two (Obsolete m next p r) n x y = apart next m x.1
   one_or_two (Retire m next p r) n x y = apart next m x.1
   one_or_two _ n x y = absurd y
-
-  taken_gone : (s : Phase C V) (n : ℕ) → Known number same always i a h k (key_bytes k) kind given s → TakenBy number s n → ((a n).status ≡ Gone) × ((a n).owner ≡ Some i) × ((h n).retired ≡ false)
-  taken_gone (Obsolete m next p r) n x (inl y) = out_at (number p) (number m) n y x.0
-  taken_gone (Obsolete m next p r) n x (inr y) = also_at next (number m) n y x.1
-  taken_gone (Retire m next p r) n x (inl y) = out_at (number p) (number m) n y x.0
-  taken_gone (Retire m next p r) n x (inr y) = also_at next (number m) n y x.1
-  taken_gone _ n x y = absurd y
-
-  linked_at : (m n : ℕ) → n ≡ m → (a m).status ≡ Linked → (a n).status ≡ Linked
-  linked_at m n q x = let P : ℕ → Type 0 = λ y. (a y).status ≡ Linked in subst P (sym q) x
-
-  top_linked : (top : Option (Parent C)) (m n : ℕ) → TopLocked number i a h (key_bytes k) top m → IsTop number top n → (a n).status ≡ Linked
-  top_linked None m n x l = absurd l
-  top_linked (Some g) m n x l = linked_at (number g.seat.node) n l x.holding.linked
-
-  held_linked : (next : Option C) (m n : ℕ) → AlsoHolding number i a m next → IsMade number next n → (a n).status ≡ Linked
-  held_linked None m n x l = absurd l
-  held_linked (Some c) m n x l = linked_at (number c) n l x.0.linked
-
-  -- a locked node is in the tree, or one that was taken out
-  locked_linked : Tree a h → (s : Phase C V) (n : ℕ) → Known number same always i a h k (key_bytes k) kind given s → LockedBy number s n → ((a n).status ≡ Linked) ⊎ TakenBy number s n
-  locked_linked t (ChangeOne one r) n x l = inl (linked_at (number one.at.node) n l x.1.holding.linked)
-  locked_linked t (UpgradeAbove two r) n x l = inl (top_linked two.top _ n x.1.2.top l)
-  locked_linked t (UpgradeBelow two r) n x (inl l) = inl (linked_at (number two.above.seat.node) n l x.1.2.above.holding.linked)
-  locked_linked t (UpgradeBelow two r) n x (inr l) = inl (top_linked two.top _ n x.1.2.top l)
-  locked_linked t (ChangeTwo two r) n x (inl (inl l)) = inl (linked_at (number two.above.seat.node) n l x.2.above.holding.linked)
-  locked_linked t (ChangeTwo two r) n x (inl (inr l)) = inl (linked_at (number two.at.node) n l (t.down (number two.above.seat.node) _ (number two.at.node) x.2.above.holding.linked x.2.above.child).linked)
-  locked_linked t (ChangeTwo two r) n x (inr l) = inl (top_linked two.top _ n x.2.top l)
-  locked_linked t (Obsolete m next p r) n x (inl (inl l)) = inl (linked_at (number p) n l x.0.above.linked)
-  locked_linked t (Obsolete m next p r) n x (inl (inr l)) = inr (inl l)
-  locked_linked t (Obsolete m next p r) n x (inr l) = inr (inr l)
-  locked_linked t (Retire m next p r) n x (inl (inl l)) = inl (linked_at (number p) n l x.0.above.linked)
-  locked_linked t (Retire m next p r) n x (inl (inr l)) = inr (inl l)
-  locked_linked t (Retire m next p r) n x (inr l) = inr (inr l)
-  locked_linked t (UnlockBelow m p r) n x (inl l) = inl (linked_at (number p) n l x.1.linked)
-  locked_linked t (UnlockBelow m p r) n x (inr l) = inl (linked_at (number m) n l x.0.linked)
-  locked_linked t (Unlock m r) n x l = inl (linked_at (number m) n l x.linked)
-  locked_linked t (Unwind m next e) n x (inl l) = inl (linked_at (number m) n l x.1.linked)
-  locked_linked t (Unwind m next e) n x (inr l) = inl (held_linked next _ n x.2 l)
-  locked_linked t _ n x l = absurd l
 
 -- a node of the tree stays in it, or leaves it under the lock of the call
 linked_after : {V : Type 0} (i : ℕ) (x y : Note) (p q : Node V) → Fares i x y p q → x.status ≡ Linked → is_published y.status ≡ true → (s : Status) → y.status ≡ s → (y.status ≡ Linked) ⊎ ((y.status ≡ Gone) × (y.owner ≡ Some i))
@@ -191,13 +143,13 @@ module _ {C V : Type 0} (number : C → ℕ) (same : V → V → Bool) (always :
   -- what the call has taken out after the step was taken out before, or in the tree
   taken_from : (n : ℕ) → TakenBy number m'.phase n → TakenBy number m.phase n ⊎ ((a n).status ≡ Linked)
   taken_from n y =
-      let z : ((a' n).status ≡ Gone) × ((a' n).owner ≡ Some i) × ((h' n).retired ≡ false) = taken_gone number same always i a' h' m.key m.kind m'.given m'.phase n x' y in
-      elim ((f n).owner i z.1) [
-        | inl o ↦ elim (locked_linked number same always i a h m.key m.kind m.given t m.phase n x (own_was n o)) [
+      let z : IsTaken i a' h' n = taken_known number same always i a' h' m.key (key_bytes m.key) m.kind m'.given n m'.phase x' y in
+      elim ((f n).owner i z.owner) [
+        | inl o ↦ elim (locked_linked number same always i a h m.key (key_bytes m.key) m.kind m.given n t m.phase x (own_was n o)) [
           | inl l ↦ inr l
           | inr q ↦ inl q
         ]
-        | inr o ↦ absurd (let v : Linked ≡ Gone = sym o.2 ∙ z.0 in cc)
+        | inr o ↦ absurd (let v : Linked ≡ Gone = sym o.2 ∙ z.gone in cc)
       ]
 
   -- it stays in its hands until it is handed over
@@ -217,7 +169,7 @@ module _ {C V : Type 0} (number : C → ℕ) (same : V → V → Bool) (always :
       ]
 
   not_gone : (n : ℕ) → TakenBy number m.phase n → (a n).status ≡ Linked → ⊥
-  not_gone n y l = let z : Linked ≡ Gone = sym l ∙ (taken_gone number same always i a h m.key m.kind m.given m.phase n x y).0 in cc
+  not_gone n y l = let z : Linked ≡ Gone = sym l ∙ (taken_known number same always i a h m.key (key_bytes m.key) m.kind m.given n m.phase x y).gone in cc
 
   at_place : (k : Machine C V) → slice_get ms i ≡ Some k → k ≡ m
   at_place k q = let z : Some k ≡ Some m = sym q ∙ e in cc
@@ -260,10 +212,10 @@ module _ {C V : Type 0} (number : C → ℕ) (same : V → V → Bool) (always :
     -- a node that goes out of the call's hands was handed over by it
     handed_now : (n : ℕ) → TakenBy number m.phase n → (h' n).retired ≡ true → (by' : ℕ → List ℕ) → HandsAt by h i by' h' → Contains (by' i) n
     handed_now n y r by' z =
-        let o : ((a n).status ≡ Gone) × ((a n).owner ≡ Some i) × ((h n).retired ≡ false) = taken_gone number same always i a h m.key m.kind m.given m.phase n x y in
-        let s : Stands (h' n) = (w'.each n).stands (pub_kept n (ap is_published o.0)) in
+        let o : IsTaken i a h n = taken_known number same always i a h m.key (key_bytes m.key) m.kind m.given n m.phase x y in
+        let s : Stands (h' n) = (w'.each n).stands (pub_kept n (ap is_published o.gone)) in
         let b : is_waiting (h' n) ≡ true = rw (r, s.made, s.kept) refl in
-        let c : is_waiting (h n) ≡ false = rw o.2 refl in
+        let c : is_waiting (h n) ≡ false = rw o.unretired refl in
         by_hands z b c where
           by_hands : HandsAt by h i by' h' → is_waiting (h' n) ≡ true → is_waiting (h n) ≡ false → Contains (by' i) n
           by_hands (inl z) b c = absurd (let v : true ≡ false = sym b ∙ (z.nodes n ∙ c) in cc)
@@ -348,7 +300,7 @@ module _ {C V : Type 0} (number : C → ℕ) (same : V → V → Bool) (always :
                 | inl b ↦ absurd (empty c b)
                 | inr b ↦ linked_in a h c t b
               ];
-              out = λ c z. unlinked_out a' h' c t' (λ b. let v : Linked ≡ Gone = sym b ∙ (taken_gone number same always i a' h' m.key m.kind m'.given m'.phase c x' (taken_in number m'.phase c z)).0 in cc);
+              out = λ c z. unlinked_out a' h' c t' (λ b. let v : Linked ≡ Gone = sym b ∙ (taken_known number same always i a' h' m.key (key_bytes m.key) m.kind m'.given c m'.phase x' (taken_in number m'.phase c z)).gone in cc);
               tree = λ c ne z. elim (stays c z) [
                 | inl b ↦ b
                 | inr b ↦ absurd (ne (taken_has number m'.phase c b.0))

@@ -35,7 +35,7 @@ use Rattle.congee.specs.protocol.Holdings.{TakenBy}
 use Rattle.congee.specs.protocol.Names.{name_made, names}
 use Rattle.congee.specs.protocol.Play.{EachKnown, IsMoved, Settled, begun}
 use Rattle.congee.specs.protocol.State.{taken, is_done}
-use Rattle.congee.proofs.Laws.{standing_same}
+use Rattle.congee.proofs.Laws.{standing_same, IsTaken, taken_known}
 use Rattle.joint.specs.declared.engine.in_flight.InFlight.{InFlight}
 use Rattle.joint.specs.declared.engine.in_flight.InFlight.TheVariants.{Idle, Collecting, Reserving, Securing, Walking}
 use Rattle.joint.specs.declared.engine.census.Census.{Census}
@@ -63,7 +63,6 @@ use Rattle.joint.proofs.lemmas.calls.WorldSteps.{one_map}
 use Rattle.joint.proofs.lemmas.engine.Changing.{Counts, answered}
 use Rattle.joint.proofs.lemmas.engine.Collecting.{inside_machines, get_inside}
 use Rattle.joint.proofs.lemmas.nodes.Keyed.{len_few, some_key}
-use Rattle.joint.proofs.lemmas.nodes.MadeUnhanded.{IsTaken, taken_out}
 use Rattle.joint.proofs.lemmas.nodes.Totals.{size_bound, times_suc}
 use Rattle.joint.proofs.lemmas.world.Waiting.{taken_is}
 use Rattle.joint.proofs.lemmas.engine.Walking.{final_is, now_here}
@@ -474,7 +473,7 @@ module _ {V : Type 0} (same : V → V → Bool) (always : Bool) where
       -- the nodes that other calls have taken out stay as they are
       others : (j : ℕ) (m : Machine Id V) → j ≢ step.who → slice_get ms j ≡ Some m → (n : ℕ) → Contains (taken_by m) n → nodes s' n ≡ nodes s n
       others j m apart at n e =
-          let x : IsTaken id_number same always j settled.0 (nodes s) (key_bytes m.key) n = taken_out id_number same always j settled.0 (nodes s) (key_bytes m.key) n m.key m.kind m.given m.phase (settled.1.each j m at).known (taken_is m.phase n e) in
+          let x : IsTaken j settled.0 (nodes s) n = taken_known id_number same always j settled.0 (nodes s) m.key (key_bytes m.key) m.kind m.given n m.phase (settled.1.each j m at).known (taken_is m.phase n e) in
           ((keeps.effect.others j apart).mine n x.owner).0
 
       nodes_after : a.nodes ≡ count final

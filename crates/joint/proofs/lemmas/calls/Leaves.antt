@@ -23,6 +23,7 @@ use Rattle.congee.specs.protocol.Play.{EachKnown, IsMoved, Settled}
 use Rattle.congee.specs.protocol.Protocol.{AlsoOut, Known}
 use Rattle.congee.specs.protocol.Steps.{PhaseStepped, after_retire}
 use Rattle.congee.specs.protocol.State.{is_done, retiring}
+use Rattle.congee.proofs.Laws.{IsTaken, taken_known}
 use Rattle.joint.specs.declared.id.Id.{Id}
 use Rattle.joint.specs.engine.Census.{taken_at}
 use Rattle.joint.specs.nodes.Nodes.{Nodes, nodes, Refuses}
@@ -33,7 +34,6 @@ use Rattle.joint.specs.engine.Safety.{IsSafe, Walked, after_walk, retiring_at}
 use Rattle.joint.specs.engine.Sound.{Guards, IsSecured, IsUnderWay}
 use Rattle.joint.specs.nodes.View.{id_number}
 use Rattle.joint.proofs.lemmas.world.Flights.{set_at}
-use Rattle.joint.proofs.lemmas.calls.HeldNodes.{IsOwed, taken_owed}
 use Rattle.joint.proofs.lemmas.engine.SecuredPlaces.{retiring_room}
 use Rattle.joint.proofs.lemmas.world.Waiting.{is_taken, taken_is}
 
@@ -244,8 +244,8 @@ module _ {V : Type 0} (same : V → V → Bool) (always : Bool) (laws : CallLaws
   pub owes : (n : ℕ) → TakenBy id_number m.phase n → Owes (nodes f) (nodes f') m.phase moved.now.phase n
   owes n x = phase_owes n m.phase (record { phase = moved.now.phase; report = d }) known.known moved.step.step x
 
-  pub owed : (n : ℕ) → TakenBy id_number m.phase n → IsOwed who (settled.0 n) (nodes f n)
-  owed n x = taken_owed same always who settled.0 (nodes f) m.key m.kind m.given n m.phase known.known x
+  pub owed : (n : ℕ) → TakenBy id_number m.phase n → IsTaken who settled.0 (nodes f) n
+  owed n x = taken_known id_number same always who settled.0 (nodes f) m.key (key_bytes m.key) m.kind m.given n m.phase known.known x
 
   locked_by : (n : ℕ) → (settled.0 n).owner ≡ Some who → (nodes f n).locked ≡ true
   locked_by n o = elim (cases_Bool (nodes f n).locked) [

@@ -29,6 +29,7 @@ use Rattle.congee.specs.protocol.Leaving.{StepLeaves}
 use Rattle.congee.specs.protocol.Play.{Decided, IsMoved, Settled, flight_in}
 use Rattle.congee.specs.protocol.Steps.{PhaseStepped}
 use Rattle.congee.specs.protocol.State.{retiring}
+use Rattle.congee.proofs.Laws.{taken_known}
 use Rattle.joint.specs.declared.engine.in_flight.InFlight.{InFlight}
 use Rattle.joint.specs.declared.engine.in_flight.InFlight.TheVariants.{Idle, Collecting, Reserving, Securing, Walking}
 use Rattle.joint.specs.declared.id.Id.{Id}
@@ -52,7 +53,7 @@ use Rattle.joint.proofs.lemmas.engine.Entering.{begin_idle}
 use Rattle.joint.proofs.lemmas.world.Flights.{set_at}
 use Rattle.joint.proofs.lemmas.calls.Leaves as leaves
 use Rattle.joint.proofs.lemmas.calls.Leaves.{Owes, Marks, Hands, Waits, leads_same, taken_stays}
-use Rattle.joint.proofs.lemmas.calls.HeldNodes.{taken_owed, waits_is}
+use Rattle.joint.proofs.lemmas.calls.HeldNodes.{waits_is}
 use Rattle.joint.proofs.lemmas.engine.Reserving.{same_nodes}
 use Rattle.joint.proofs.lemmas.engine.ScanEnds.{cleared_is}
 
@@ -232,7 +233,7 @@ module _ {V : Type 0} (same : V → V → Bool) (always : Bool) (laws : CallLaws
         | inl b ↦ by (owes n (old_is i n (eqb-true i w b) x))
         | inr b ↦ (
             let m = settled.1.each i x.0 x.1 in
-            let o = taken_owed same always i settled.0 (nodes s.forest) x.0.key x.0.kind x.0.given n x.0.phase m.known x.2 in
+            let o = taken_known id_number same always i settled.0 (nodes s.forest) x.0.key (key_bytes x.0.key) x.0.kind x.0.given n x.0.phase m.known x.2 in
             let keeps = leaves.keeps same always laws s.forest s'.forest s.machines k.step.between turn k.move holds.0.safe k.step.walked old.0 old.1 in
             same_left (nodes s.forest n) (nodes s'.forest n) ((keeps.effect.others i (eqb-false i w b)).mine n o.owner).0)
       ]

@@ -31,6 +31,7 @@ use Rattle.congee.specs.protocol.Holdings.{TakenBy}
 use Rattle.congee.specs.protocol.Play.{StepPlays, IsMoved}
 use Rattle.congee.specs.protocol.Steps.{PhaseStepped}
 use Rattle.congee.specs.protocol.State.{retiring}
+use Rattle.congee.proofs.Laws.{taken_known}
 use Rattle.joint.specs.declared.id.Id.{Id}
 use Rattle.joint.specs.declared.limits.Limits.{Limits}
 use Rattle.joint.specs.declared.nodes.slot.Slot.{Slot}
@@ -44,7 +45,6 @@ use Rattle.joint.specs.Names.{number}
 use Rattle.joint.specs.nodes.Opening.{IsOpened, top_roots}
 use Rattle.joint.specs.nodes.View.{view, heap, id_number}
 use Rattle.joint.proofs.lemmas.engine.HandOver.{held_place}
-use Rattle.joint.proofs.lemmas.nodes.MadeUnhanded.{taken_out}
 use Rattle.joint.proofs.lemmas.engine.Retiring.{retiring_some}
 use Rattle.joint.proofs.lemmas.nodes.SlotViews.{slot_view}
 use Rattle.joint.proofs.lemmas.nodes.Views.{heap_of_number, ties}
@@ -267,7 +267,7 @@ module _ {V : Type 0} (cells : CellLaws {T = Slot V} (Unit {0}) slot_names) wher
                     let settled = safe.sound.sound.settled in
                     let known = settled.1.each step.who m at in
                     let Q : Phase Id V → Type 0 = λ y. TakenBy id_number y (id_number node) in
-                    (taken_out id_number same always step.who settled.0 (nodes s) (key_bytes m.key) (id_number node) m.key m.kind m.given m.phase known.known (subst Q (sym k.3) (inl refl))).unretired
+                    (taken_known id_number same always step.who settled.0 (nodes s) m.key (key_bytes m.key) m.kind m.given (id_number node) m.phase known.known (subst Q (sym k.3) (inl refl))).unretired
 
         by_node : (n : Name) (b : Bool) → is_name node.name n ≡ b → (before after : ℕ) → after ≡ before + removes {J = Unit {0}} n (record { ticket = s'.collector.next; work = Remove node.name }) → before ≡ bit (is_waiting (nodes s (number n))) → after ≡ bit (is_waiting (nodes s' (number n)))
         by_node n true itself before later more old =

@@ -16,6 +16,7 @@ use Rattle.congee.specs.protocol.Handing.{is_waiting}
 use Rattle.congee.specs.protocol.Holdings.{Holdings, IsMade, MadeBy, TakenBy}
 use Rattle.congee.specs.protocol.Play.{EachKnown, ProtocolAt, Settled}
 use Rattle.congee.specs.protocol.Protocol.{AlsoOut, Known}
+use Rattle.congee.proofs.Laws.{IsTaken, made_known, taken_known}
 use Rattle.joint.specs.declared.id.Id.{Id}
 use Rattle.joint.specs.declared.nodes.slot.Slot.{Slot}
 use Rattle.crossbeam_epoch.specs.declared.names.Name.{Name}
@@ -37,7 +38,6 @@ use Rattle.joint.specs.world.Whereabouts.{IsWaiting, IsTakenBy}
 use Rattle.joint.specs.world.World.{Holds}
 use Rattle.joint.specs.engine.Engine.{World}
 use Rattle.joint.proofs.lemmas.nodes.Listing.{pairs_append, gives, given, once, nodes_once, counted_nodes, weighed_nodes, bytes_are, listed, unlisted}
-use Rattle.joint.proofs.lemmas.nodes.MadeUnhanded.{IsTaken, made_unretired, taken_out}
 use Rattle.joint.proofs.lemmas.world.Whereabouts.{gone_waits, somewhere}
 
 -- tests that what doesn't stand fails
@@ -167,7 +167,7 @@ module _ {V : Type 0} (same : V → V → Bool) (always : Bool) (s : Nodes V) (m
   taken_stands i m n at t =
       let settled : Settled id_number same always (nodes s) ms = intact.safe.sound.sound.settled in
       let k : EachKnown id_number same always settled.0 (nodes s) i m = settled.1.each i m at in
-      let x : IsTaken id_number same always i settled.0 (nodes s) (key_bytes m.key) n = taken_out id_number same always i settled.0 (nodes s) (key_bytes m.key) n m.key m.kind m.given m.phase k.known t in
+      let x : IsTaken i settled.0 (nodes s) n = taken_known id_number same always i settled.0 (nodes s) m.key (key_bytes m.key) m.kind m.given n m.phase k.known t in
       (settled.1.words.each n).stands (ap is_published x.gone)
 
   -- and so does another one beside it
@@ -197,7 +197,7 @@ module _ {V : Type 0} (same : V → V → Bool) (always : Bool) (laws : CallLaws
   marked_waits n (Held i) e w = absurd (
       let h : (m : Machine Id V) × (slice_get s.machines i ≡ Some m) × MadeBy id_number m.phase n = holdings.held n i e in
       let k = known i h.0 h.1 in
-      let free : (nodes s.forest n).retired ≡ false = made_unretired id_number same always i notes (nodes s.forest) (key_bytes h.0.key) n h.0.key h.0.kind h.0.given h.0.phase k.known h.2 in
+      let free : (nodes s.forest n).retired ≡ false = (made_known id_number same always i notes (nodes s.forest) h.0.key (key_bytes h.0.key) h.0.kind h.0.given n h.0.phase k.known h.2).2.unretired in
       let q : false ≡ true = sym free ∙ w.0 in false≢true q)
   marked_waits n Linked e w = absurd (let q : false ≡ true = sym ((protocol.words.each n).unretired e) ∙ w.0 in false≢true q)
   marked_waits n Gone e w = gone_waits same always laws s holds n w.1 e (record { made = w.1; kept = w.2 })
@@ -208,12 +208,12 @@ module _ {V : Type 0} (same : V → V → Bool) (always : Bool) (laws : CallLaws
   handed_waits n w = marked_waits n (notes n).status refl (parts_of (nodes s.forest n).retired (nodes s.forest n).made (nodes s.forest n).destroyed w)
 
   -- one that a call has taken out
-  out_of : (n i : ℕ) → (t : IsTakenBy s i n) → IsTaken id_number same always i notes (nodes s.forest) (key_bytes t.0.key) n
-  out_of n i t = taken_out id_number same always i notes (nodes s.forest) (key_bytes t.0.key) n t.0.key t.0.kind t.0.given t.0.phase (known i t.0 t.1).known t.2
+  out_of : (n i : ℕ) → (t : IsTakenBy s i n) → IsTaken i notes (nodes s.forest) n
+  out_of n i t = taken_known id_number same always i notes (nodes s.forest) t.0.key (key_bytes t.0.key) t.0.kind t.0.given n t.0.phase (known i t.0 t.1).known t.2
 
   taken_waits : (n i : ℕ) → IsTakenBy s i n → IsWaiting s n
   taken_waits n i t =
-      let x : IsTaken id_number same always i notes (nodes s.forest) (key_bytes t.0.key) n = out_of n i t in
+      let x : IsTaken i notes (nodes s.forest) n = out_of n i t in
       let st : Stands (nodes s.forest n) = (protocol.words.each n).stands (ap is_published x.gone) in
       gone_waits same always laws s holds n st.made x.gone st
 
