@@ -119,7 +119,8 @@ class Rows:
     def try_row(self, crate, edits):
         """Tries edits in turn over a copy of what is kept, and then whether the crate itself is proved over that."""
         with tempfile.TemporaryDirectory(prefix="row-", dir=self.room) as row:
-            kept = shutil.copytree(f"{self.room}/{crate.name}", f"{row}/kept")
+            # a check replaces a file that it keeps, and never writes over it
+            kept = shutil.copytree(f"{self.room}/{crate.name}", f"{row}/kept", copy_function=os.link)
             tried = [self.rt.must_fail(crate, it, ["--jobs", "1"], kept) for it in edits]
             if not self.rt.checked(crate, {}, ["--jobs", "1"], kept).returncode:
                 self.refused |= {edit: it for edit, it in zip(edits, tried) if it[0]}
