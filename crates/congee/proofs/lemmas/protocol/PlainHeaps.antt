@@ -185,7 +185,7 @@ handed_back nodes f k size i n z w x' y' s ef ek l mi mn hands =
     let set_two = two_set nodes n i y' x' (λ e. ne (sym e)) (made_within nodes n mn) li in
     rw (written_back nodes f k size n i y' x' s ef ek l li) (taken_over nodes i n _ _ x' y' from to hands _ set_two.1 set_two.0 (λ m en ei. set_two.2 m ei en))
 
--- a new node at the list's end
+-- a form has room for as many children as it has places
 pub places_of : (form : NodeType) → capacity_of form ≡ places form
 places_of N4 = refl
 places_of _ = refl

@@ -11,7 +11,7 @@ use Rattle.congee.proofs.lemmas.protocol.Grow.{Grows, Extra, grow_tree, grow_map
 use Rattle.congee.proofs.lemmas.protocol.Touch.{by_test, Touched, as_it_was, moved, effect}
 use Rattle.congee.proofs.lemmas.protocol.Change.{Changed, StaysLocked, under_touch, Live, joined, joined_touch, made_apart}
 
--- the ledger after it: m is gone, c stands in its place, d below c, and the children of m are those of c
+-- the note of a node that the call took out, and still holds locked
 abbrev pub out_note : ℕ → ℕ → Note
 out_note i p = record { status = Gone; owner = Some i; parent = p }
 

@@ -360,7 +360,7 @@ pub moved : {T J : Type 0} (s next : State T J) (who : ℕ) (event : Event) (r :
     → Orderly s → IsReport s who event r → next ≡ after s who event r.outcome → Moves s who r.called next
 moved s next who event r law orderly report e = subst (Moves s who r.called) (sym e) (law s who event r orderly report)
 
--- the cell that a step's call emptied
+-- where a step's call destroyed nothing, the cells are as they were
 pub unchanged_by : {T : Type 0} (st st' : Store T) (c : Option (ℕ × Option Name)) → EmptiesBy st c st' → gone_by c ≡ None → st' ≡ st
 unchanged_by st st' None e q = e
 unchanged_by st st' (Some (t, None)) e q = e
