@@ -6,7 +6,8 @@ proof one processor, and begins a crate's edits once its proof has ended. The lo
 longer then than all work shared by four processors. Here a proof begins once what it waits for has ended and the memory that it
 was seen to hold is free, and gets several processors; edits give way to proofs, and fill what these leave free. Where the kit
 tries a crate's edits in turn, as one part, they are tried in rows: a check of the crate keeps its work (the seed), and each row
-tries its edits over a copy of that. A kit that has its parts otherwise runs them as it does.
+tries its edits over a copy of that, as long as there is time; what isn't tried is told, and doesn't count. A kit that has its
+parts otherwise runs them as it does.
 """
 import contextlib
 import importlib.machinery
@@ -16,6 +17,7 @@ import shutil
 import sys
 import tempfile
 import threading
+import time
 from concurrent.futures import FIRST_COMPLETED, ThreadPoolExecutor, wait
 
 # How many processors a part asks for, and the share that it was seen to hold of the memory that the kit reckons for its crate.
@@ -23,10 +25,13 @@ from concurrent.futures import FIRST_COMPLETED, ThreadPoolExecutor, wait
 PROCESSORS = {"proof": 3, "tests": 4, "seed": 2}
 SHARES = {"proof": 0.38, "tests": 0.62, "seed": 0.38}
 EDITS = 0.22
-# In how many rows a crate's edits are tried, where the kit has them in one part.
+# In how many rows a crate's edits are tried, where the kit has them in one part; for how many minutes of the run; and how
+# many of these a seed wants to have left.
 ROWS = 3
+MINUTES = 150
+LEFT = 25
 # How many steps of niceness what isn't a proof gives way.
-BEHIND = 3
+BEHIND = 2
 
 
 def load(path):
@@ -93,8 +98,12 @@ class Rows:
     """The edits of the crates, tried in rows: what the kit said of each that was refused over work which proves its crate."""
 
     def __init__(self, rt, room):
-        self.rt, self.room, self.refused = rt, room, {}
-        self.in_turn = rt.must_fail_all
+        self.rt, self.room, self.refused, self.late = rt, room, {}, set()
+        self.in_turn, self.until = rt.must_fail_all, time.monotonic() + 60 * MINUTES
+
+    def has(self, minutes):
+        """Whether so many minutes are left for edits."""
+        return time.monotonic() + 60 * minutes < self.until
 
     def parts(self, tasks):
         """The parts, with a seed and rows of edits before each that tries a crate's edits."""
@@ -107,29 +116,42 @@ class Rows:
                 parts[seed] = waits, lines, needs, lambda given, jobs, it=crate, waits=waits: self.keep(it, all(given[at] for at in waits), jobs)
                 for row in rows:
                     mine = edits[row[2] :: ROWS]
-                    parts[row] = [seed], lines // ROWS, needs, lambda given, jobs, it=crate, mine=mine, seed=seed: given[seed] and self.try_row(it, mine)
+                    parts[row] = [seed], lines // ROWS, needs, lambda given, jobs, it=crate, mine=mine, seed=seed: self.try_row(it, mine, given[seed])
                 waits, needs = [*waits, *rows], 0
             parts[key] = waits, lines, needs, call
         return parts
 
     def keep(self, crate, is_well, jobs):
-        """Whether the crate is proved, by a check that keeps its work."""
+        """Whether the crate is proved, by a check that keeps its work; None where there is no time for one."""
+        if not self.has(LEFT):
+            return None
         return is_well and not self.rt.checked(crate, {}, ["--jobs", str(jobs)], f"{self.room}/{crate.name}").returncode
 
-    def try_row(self, crate, edits):
+    def try_row(self, crate, edits, is_kept):
         """Tries edits in turn over a copy of what is kept, and then whether the crate itself is proved over that."""
+        tried = {}
         with tempfile.TemporaryDirectory(prefix="row-", dir=self.room) as row:
-            # a check replaces a file that it keeps, and never writes over it
-            kept = shutil.copytree(f"{self.room}/{crate.name}", f"{row}/kept", copy_function=os.link)
-            tried = [self.rt.must_fail(crate, it, ["--jobs", "1"], kept) for it in edits]
-            if not self.rt.checked(crate, {}, ["--jobs", "1"], kept).returncode:
-                self.refused |= {edit: it for edit, it in zip(edits, tried) if it[0]}
+            if is_kept:
+                # a check replaces a file that it keeps, and never writes over it
+                kept = shutil.copytree(f"{self.room}/{crate.name}", f"{row}/kept", copy_function=os.link)
+                for it in edits:
+                    if self.has(0):
+                        tried[it] = self.rt.must_fail(crate, it, ["--jobs", "1"], kept)
+                if tried and not self.rt.checked(crate, {}, ["--jobs", "1"], kept).returncode:
+                    self.refused |= {edit: it for edit, it in tried.items() if it[0]}
+        if is_kept is None or not self.has(0):
+            self.late |= {it for it in edits if it not in tried}
 
     def tried(self, crate, edits, flags):
-        """What the kit says of each edit. What no row saw refused is tried from nothing."""
-        if not any(it in self.refused for it in edits):
-            return self.in_turn(crate, edits, flags)
-        return [self.refused.get(it) or self.rt.must_fail(crate, it, flags) for it in edits]
+        """What the kit says of each edit that there was time for. What no row saw refused is tried from nothing."""
+        late = [it for it in edits if it in self.late]
+        if late:
+            names = " ".join(os.path.basename(it).removesuffix(".edit") for it in late)
+            self.rt.say(f"{crate.name}: {len(late)} edits weren't tried, for want of time: {names}")
+        due = [it for it in edits if it not in self.late]
+        if not any(it in self.refused for it in due):
+            return self.in_turn(crate, due, flags)
+        return [self.refused.get(it) or self.rt.must_fail(crate, it, flags) for it in due]
 
 
 def main():
