@@ -29,7 +29,7 @@ EDITS = 0.22
 # many of these a seed wants to have left.
 ROWS = 3
 MINUTES = 150
-LEFT = 25
+LEFT = 60
 # How many steps of niceness what isn't a proof gives way.
 BEHIND = 2
 
