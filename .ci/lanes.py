@@ -148,6 +148,8 @@ class Rows:
         if late:
             names = " ".join(os.path.basename(it).removesuffix(".edit") for it in late)
             self.rt.say(f"{crate.name}: {len(late)} edits weren't tried, for want of time: {names}")
+            with open(os.environ.get("SKIPPED", os.devnull), "a", encoding="utf-8") as told:
+                told.writelines(f"{it}\n" for it in late)
         due = [it for it in edits if it not in self.late]
         if not any(it in self.refused for it in due):
             return self.in_turn(crate, due, flags)
