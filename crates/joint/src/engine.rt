@@ -66,37 +66,6 @@ pub(crate) fn call_laws<P: Payload + Small>()
     Machine::<Id, P>::exchanged();
 }
 
-/// The node that the worker's next step hands over for its destruction.
-fn retiring<P: Payload + Small>(machines: &[Machine<Id, P>], who: usize) -> Option<Id>
-    ensures { result ≡ retiring_at (slice_get machines.now who) }
-{
-    if who < machines.len() {
-        machines[who].retires()
-    } else {
-        None
-    }
-}
-
-/// One step of a worker's call on the tree, but for the deferral of the node that it marks.
-#[inline(always)]
-fn step_tree<P: Payload + Small, A: Allocator>(
-    store: &mut Nodes<P, A>,
-    machines: &mut [Machine<Id, P>],
-    step: Step<Id, P>,
-) -> Move<P>
-    requires safe { IsSafe P.same_as P.always_copies store.old machines.old }
-    requires runs { Runs machines.old step.who }
-    ensures plays { StepPlays id_number P.same_as P.always_copies store.old.version_max (Refuses store.old) (nodes store.old) machines.old step result (nodes store.new) machines.new }
-    ensures frame { frame store.new ≡ frame store.old }
-    ensures long { length machines.new ≡ length machines.old }
-    ensures safe { IsSafeOrOwes P.same_as P.always_copies (retiring_at (slice_get machines.old step.who)) store.new machines.new step.who }
-{
-    cell_laws::<P>();
-    call_laws::<P>();
-    Machine::<Id, P>::leaves::<Nodes<P, A>>();
-    step_of(store, machines, step)
-}
-
 /// What the collector's laws say of a call's way to its end.
 pub(crate) fn progress<P: Payload + Small>()
     ensures { ProgressLaws (Slot P) (Unit {0}) }
@@ -112,20 +81,6 @@ fn call_after<P: Payload + Small>(outcome: Outcome, call: InFlight<P>) -> InFlig
         Outcome::Running => call,
         Outcome::Done => InFlight::Idle,
         Outcome::Refused(_) => InFlight::Idle,
-    }
-}
-
-/// Whether a call on the tree is in flight after a step with this outcome.
-fn goes_on<P>(outcome: &congee::Outcome<P>) -> bool
-    ensures { result ≡ is_in_flight (told outcome.now) }
-{
-    match outcome {
-        congee::Outcome::Running => true,
-        congee::Outcome::Asks(_) => true,
-        congee::Outcome::Found { .. } => true,
-        congee::Outcome::Done(_) => false,
-        congee::Outcome::Scanned { .. } => false,
-        congee::Outcome::Refused(_) => false,
     }
 }
 
@@ -233,9 +188,9 @@ impl<P: Payload + Small, A: Allocator> Engine<P, A> {
         }
     }
 
-    /// One step of a worker's call on the tree.
+    /// One step of a worker's call on the tree, which is still in its place after the last one.
     #[inline(always)]
-    fn walk(&mut self, who: usize, noise: Noise<Id, P>) -> Move<P>
+    pub(crate) fn walk(&mut self, who: usize, noise: Noise<Id, P>) -> Move<P>
         requires safe { EngineSafe P.same_as P.always_copies (state_of self.old) }
         requires runs { Runs self.old.machines.items who }
         ensures walked { Walked P.same_as P.always_copies self.old.nodes self.old.machines.items (record { who = who; noise = noise }) result self.new.nodes self.new.machines.items }
@@ -243,8 +198,10 @@ impl<P: Payload + Small, A: Allocator> Engine<P, A> {
         ensures census { self.new.census ≡ self.old.census }
     {
         cell_laws::<P>();
-        let owed = retiring(&self.machines, who);
-        let moved = step_tree(&mut self.nodes, &mut self.machines, Step { who, noise });
+        call_laws::<P>();
+        Machine::<Id, P>::leaves::<Nodes<P, A>>();
+        let owed = self.machines[who].retires();
+        let moved = step_of(&mut self.nodes, &mut self.machines, Step { who, noise });
         if let Some(node) = owed {
             self.hand_over(who, node);
         }
@@ -306,34 +263,11 @@ impl<P: Payload + Small, A: Allocator> Engine<P, A> {
         ensures census { self.new.census ≡ self.old.census }
     {
         call_laws::<P>();
-        self.begin_machine(who, op);
-        self.set_call(who, InFlight::Walking);
-    }
-
-    /// Begins a call on the tree where another one lies in a worker's place.
-    fn begin_machine(&mut self, who: usize, op: Op<P>)
-        requires { who < length self.old.machines.items }
-        ensures machines { self.new.machines.items ≡ slice_set self.old.machines.items who (begun root op) }
-        ensures new { IsNew (begun root op) }
-        ensures nodes { self.new.nodes ≡ self.old.nodes }
-        ensures calls { self.new.calls ≡ self.old.calls }
-        ensures census { self.new.census ≡ self.old.census }
-    {
         let root = Id {
             name: Name { cell: 0, turn: 0 },
         };
         self.machines[who].begin(root, op);
-    }
-
-    /// Puts another call on the tree in a worker's place.
-    fn set_machine(&mut self, who: usize, machine: Machine<Id, P>)
-        requires { who < length self.old.machines.items }
-        ensures machines { self.new.machines.items ≡ slice_set self.old.machines.items who machine }
-        ensures nodes { self.new.nodes ≡ self.old.nodes }
-        ensures calls { self.new.calls ≡ self.old.calls }
-        ensures census { self.new.census ≡ self.old.census }
-    {
-        self.machines[who] = machine;
+        self.calls[who] = InFlight::Walking;
     }
 
     /// Begins a writing call in the place of a pinned worker: it takes no step yet.
@@ -423,36 +357,27 @@ impl<P: Payload + Small, A: Allocator> Engine<P, A> {
         std::mem::replace(&mut self.calls[who], InFlight::Idle)
     }
 
-    /// Puts a scan that is done out of its worker's place.
+    /// Ends a worker's call on the tree that has this outcome, where it is over, and puts a scan that is done out of its place.
     #[inline(always)]
-    fn clear(&mut self, who: usize)
-        requires { who < length self.old.machines.items }
-        ensures machines { self.new.machines.items ≡ cleared self.old.machines.items who }
+    pub(crate) fn put_away(&mut self, who: usize, outcome: &congee::Outcome<P>)
+        requires machines { who < length self.old.machines.items }
+        requires calls { who < length self.old.calls.items }
+        ensures machines { self.new.machines.items ≡ (if is_in_flight (told outcome.now) then self.old.machines.items else cleared self.old.machines.items who) }
+        ensures calls { self.new.calls.items ≡ (if is_in_flight (told outcome.now) then self.old.calls.items else slice_set self.old.calls.items who InFlight.Idle) }
         ensures nodes { self.new.nodes ≡ self.old.nodes }
-        ensures calls { self.new.calls ≡ self.old.calls }
         ensures census { self.new.census ≡ self.old.census }
     {
-        if self.machines[who].has_scanned() {
-            self.set_machine(who, resting());
+        match outcome {
+            congee::Outcome::Running | congee::Outcome::Asks(_) | congee::Outcome::Found { .. } =>
+                {}
+            congee::Outcome::Done(_)
+            | congee::Outcome::Scanned { .. }
+            | congee::Outcome::Refused(_) => {
+                self.calls[who] = InFlight::Idle;
+                if self.machines[who].has_scanned() {
+                    self.machines[who] = resting();
+                }
+            }
         }
-    }
-
-    /// The next step of a call on the tree.
-    #[inline(always)]
-    pub(crate) fn go_walking(&mut self, who: usize, noise: Noise<Id, P>) -> Move<P>
-        requires intact { EngineIntact P.same_as P.always_copies (state_of self.old) }
-        requires on { slice_get self.old.calls.items who ≡ Some InFlight.Walking }
-        ensures intact { EngineIntact P.same_as P.always_copies (state_of self.new) }
-        ensures walked { WalkedOn P.same_as P.always_copies self.old.nodes self.old.machines.items (record { who = who; noise = noise }) result self.new.nodes self.new.machines.items }
-        ensures calls { self.new.calls.items ≡ slice_set self.old.calls.items who (if over_at (slice_get self.new.machines.items who) then InFlight.Idle else InFlight.Walking) }
-        ensures census { self.new.census ≡ self.old.census }
-    {
-        call_laws::<P>();
-        let moved = self.walk(who, noise);
-        if !goes_on(&moved.outcome) {
-            self.clear(who);
-            self.set_call(who, InFlight::Idle);
-        }
-        moved
     }
 }
