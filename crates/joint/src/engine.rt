@@ -270,22 +270,6 @@ impl<P: Payload + Small, A: Allocator> Engine<P, A> {
         self.calls[who] = InFlight::Walking;
     }
 
-    /// Begins a writing call in the place of a pinned worker: it takes no step yet.
-    pub(crate) fn reserve(&mut self, who: usize, op: Op<P>)
-        requires intact { EngineIntact P.same_as P.always_copies (state_of self.old) }
-        requires idle { slice_get self.old.calls.items who ≡ Some InFlight.Idle }
-        requires registered { (place self.old.nodes.collector who).registered ≡ true }
-        requires pinned { is_some (place self.old.nodes.collector who).word ≡ true }
-        requires writes { writes op ≡ true }
-        ensures intact { EngineIntact P.same_as P.always_copies (state_of self.new) }
-        ensures nodes { self.new.nodes ≡ self.old.nodes }
-        ensures machines { self.new.machines ≡ self.old.machines }
-        ensures calls { self.new.calls.items ≡ slice_set self.old.calls.items who (InFlight.Reserving op) }
-        ensures census { self.new.census ≡ self.old.census }
-    {
-        self.set_call(who, InFlight::Reserving(op));
-    }
-
     /// Whether a worker's call is a writing one that has taken no step.
     pub(crate) fn is_reserving(&self, who: usize) -> bool
         ensures { result ≡ is_reserving (slice_get self.now.calls.items who) }
@@ -318,7 +302,8 @@ impl<P: Payload + Small, A: Allocator> Engine<P, A> {
         ensures census { self.new.census ≡ self.old.census }
     {
         progress::<P>();
-        let InFlight::Reserving(op) = self.take_call(who) else {
+        let call = std::mem::replace(&mut self.calls[who], InFlight::Idle);
+        let InFlight::Reserving(op) = call else {
             unreachable!()
         };
         self.collect(who, Event::Begin(crossbeam_epoch::Op::Secure(2)));
@@ -333,7 +318,8 @@ impl<P: Payload + Small, A: Allocator> Engine<P, A> {
         ensures census { self.new.census ≡ self.old.census }
     {
         progress::<P>();
-        let InFlight::Securing(op) = self.take_call(who) else {
+        let call = std::mem::replace(&mut self.calls[who], InFlight::Idle);
+        let InFlight::Securing(op) = call else {
             unreachable!()
         };
         let report = self.collect(who, Event::Go);
@@ -343,18 +329,6 @@ impl<P: Payload + Small, A: Allocator> Engine<P, A> {
             Outcome::Refused(_) => {}
         }
         report
-    }
-
-    /// Takes the call in flight out of a worker's place.
-    fn take_call(&mut self, who: usize) -> InFlight<P>
-        requires { who < length self.old.calls.items }
-        ensures taken { slice_get self.old.calls.items who ≡ Some result }
-        ensures calls { self.new.calls.items ≡ slice_set self.old.calls.items who InFlight.Idle }
-        ensures nodes { self.new.nodes ≡ self.old.nodes }
-        ensures machines { self.new.machines ≡ self.old.machines }
-        ensures census { self.new.census ≡ self.old.census }
-    {
-        std::mem::replace(&mut self.calls[who], InFlight::Idle)
     }
 
     /// Ends a worker's call on the tree that has this outcome, where it is over, and puts a scan that is done out of its place.

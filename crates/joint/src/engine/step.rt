@@ -3,11 +3,11 @@
 ghost use Rattle.std.specs.Prelude.{◌≡◌, ◌<◌, Some, length, slice_get, slice_set, option_map, true, false, if◌then◌else◌};
 ghost use Rattle.judge.specs.Answer.{Pairs};
 ghost use Rattle.congee.specs.Keys.{IsMapOf};
-ghost use Rattle.joint.specs.engine.Beginning.{Begun, stage_of};
+ghost use Rattle.joint.specs.engine.Beginning.{Begun};
 ghost use Rattle.joint.specs.engine.Census.{effect_of};
 ghost use Rattle.joint.specs.nodes.Nodes.{IsCharged, nodes};
 ghost use Rattle.joint.specs.nodes.Survey.{IsEmptiness};
-ghost use Rattle.joint.specs.engine.Engine.{Does, EngineHolds, IsEngineStep, Proceeds, misuse, quiet, collection, destroyed_count, finds_none, interruption, kind_of, reserving, Surveys, Walks};
+ghost use Rattle.joint.specs.engine.Engine.{Does, EngineHolds, IsEngineStep, Proceeds, misuse, quiet, collection, finds_none, interruption, kind_of, reserving, Surveys, Walks};
 ghost use Rattle.joint.specs.declared.steps.Event.TheVariants as Event;
 ghost use Rattle.joint.specs.engine.Intact.{writes};
 ghost use Rattle.joint.specs.declared.engine.in_flight.InFlight.TheVariants as InFlight;
@@ -20,7 +20,7 @@ ghost use Rattle.crossbeam_epoch.specs.World.Machine.{place};
 ghost use Rattle.joint.specs.engine.State.{state_of, EngineIntact, EngineCounted};
 
 use crate::engine::census::{Change, effect};
-use crate::engine::in_flight::{InFlight, Stage};
+use crate::engine::in_flight::InFlight;
 use crate::engine::{Engine, call_laws, cell_laws, progress};
 use crate::id::Id;
 use crate::refusal::Refusal;
@@ -129,7 +129,7 @@ impl<P: Payload + Small, A: Allocator> Engine<P, A> {
         match way_of(&op) {
             Way::None => report(Kind::Tree, Outcome::Done(Done::Scanned(0))),
             Way::Reserve => {
-                self.reserve(who, op);
+                self.calls[who] = InFlight::Reserving(op);
                 report(Kind::Tree, Outcome::Running)
             }
             Way::Walk => {
@@ -216,22 +216,23 @@ impl<P: Payload + Small, A: Allocator> Engine<P, A> {
         if !self.nodes.is_registered(who) {
             return refused(Kind::Collection, Refusal::Unknown);
         }
-        match self.stage(who) {
-            Stage::Idle => refused(Kind::Collection, Refusal::Idle),
-            Stage::Collecting(op) => {
+        match &self.calls[who] {
+            InFlight::Idle => refused(Kind::Collection, Refusal::Idle),
+            InFlight::Collecting(op) => {
+                let op = *op;
                 let turn = self.go_collecting(who, op);
                 collection(turn, Outcome::of_collector(turn.outcome))
             }
-            Stage::Reserving => {
+            InFlight::Reserving(_) => {
                 self.begin_securing(who);
                 let turn = self.go_securing(who);
                 collection(turn, reserving(turn.outcome))
             }
-            Stage::Securing => {
+            InFlight::Securing(_) => {
                 let turn = self.go_securing(who);
                 collection(turn, reserving(turn.outcome))
             }
-            Stage::Walking => unreachable!(),
+            InFlight::Walking => unreachable!(),
         }
     }
 
@@ -283,20 +284,6 @@ impl<P: Payload + Small, A: Allocator> Engine<P, A> {
             },
         }
     }
-
-    /// What a worker's call in flight is about.
-    fn stage(&self, who: usize) -> Stage
-        requires { who < length self.now.calls.items }
-        ensures { Some result ≡ option_map stage_of (slice_get self.now.calls.items who) }
-    {
-        match &self.calls[who] {
-            InFlight::Idle => Stage::Idle,
-            InFlight::Collecting(op) => Stage::Collecting(*op),
-            InFlight::Reserving(_) => Stage::Reserving,
-            InFlight::Securing(_) => Stage::Securing,
-            InFlight::Walking => Stage::Walking,
-        }
-    }
 }
 
 /// A report of a step that decided, skipped and destroyed nothing.
@@ -320,28 +307,17 @@ pub(crate) fn refused<P>(kind: Kind, refusal: Refusal) -> Report<P>
     report(kind, Outcome::Refused(refusal))
 }
 
-/// The nodes that a step of the collector destroyed.
-fn destroyed_count(report: &crossbeam_epoch::Report) -> u64
-    ensures { result ≡ destroyed_count report.now.called }
+/// The report of a step of the collector, with the nodes that it destroyed.
+fn collection<P>(turn: crossbeam_epoch::Report, outcome: Outcome<P>) -> Report<P>
+    ensures { result ≡ collection turn outcome }
 {
-    match report.called {
-        None => 0,
-        Some((_, None)) => 0,
-        Some((_, Some(_))) => 1,
-    }
-}
-
-/// The report of a step of the collector.
-fn collection<P>(report: crossbeam_epoch::Report, outcome: Outcome<P>) -> Report<P>
-    ensures { result ≡ collection report outcome }
-{
-    Report {
-        kind: Kind::Collection,
-        decided: false,
-        kept: false,
-        skipped: false,
-        destroyed: destroyed_count(&report),
-        outcome,
+    match turn.called {
+        None => report(Kind::Collection, outcome),
+        Some((_, None)) => report(Kind::Collection, outcome),
+        Some((_, Some(_))) => Report {
+            destroyed: 1,
+            ..report(Kind::Collection, outcome)
+        },
     }
 }
 

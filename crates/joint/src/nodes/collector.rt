@@ -9,14 +9,14 @@ ghost use Rattle.crossbeam_epoch.specs.World.Progress.{Moves};
 ghost use Rattle.crossbeam_epoch.specs.World.Reach.{Moment, Quiet, Marked, moment, step_act, HasMoments};
 ghost use Rattle.crossbeam_epoch.specs.World.History.{Deferred};
 ghost use Rattle.crossbeam_epoch.specs.World.Steps.{IsReport, after, destroy_fault};
-ghost use Rattle.joint.specs.nodes.Nodes.{IsCharged, IsBeside, with_collector, gone_by};
+ghost use Rattle.joint.specs.nodes.Nodes.{IsCharged, IsBeside, with_collector};
 ghost use Rattle.joint.specs.nodes.Slots.{slot_names};
 
 use crate::id::Id;
 use crate::nodes::Nodes;
 use crate::nodes::slot::Slot;
 use congee::{Allocator, Payload, Small};
-use crossbeam_epoch::{Event, Fault, Name, Report, World};
+use crossbeam_epoch::{Event, Fault, Report, World};
 
 impl<P: Payload + Small, A: Allocator> Nodes<P, A> {
     /// Gives out the lowest free place of the collector's table; TableFull where every place is taken.
@@ -64,9 +64,10 @@ impl<P: Payload + Small, A: Allocator> Nodes<P, A> {
         World::<Slot<P>, ()>::order();
         World::<Slot<P>, ()>::cells();
         let report = self.collector.step(who, event);
-        match destroyed_name(&report) {
+        match report.called {
             None => report,
-            Some(name) => {
+            Some((_, None)) => report,
+            Some((_, Some(name))) => {
                 let size = self.counts.take_off(name.cell);
                 self.allocator.deallocate(size);
                 report
@@ -83,15 +84,5 @@ impl<P: Payload + Small, A: Allocator> Nodes<P, A> {
         ensures told { (h : List Moment) → HasMoments slot_names h self.old.collector → MatchResult result (λ t. HasMoments slot_names (moment slot_names (Marked (Deferred t (Some node.name))) self.new.collector ∷ h) self.new.collector) (λ e. HasMoments slot_names (moment slot_names Quiet self.new.collector ∷ h) self.new.collector) }
     {
         self.collector.defer_destroy(who, node.name)
-    }
-}
-
-/// The name of the cell that a step destroyed.
-fn destroyed_name(report: &Report) -> Option<Name>
-    ensures { result ≡ gone_by report.now.called }
-{
-    match report.called {
-        Some((_, name)) => name,
-        None => None,
     }
 }
