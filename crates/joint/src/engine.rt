@@ -84,6 +84,20 @@ fn call_after<P: Payload + Small>(outcome: Outcome, call: InFlight<P>) -> InFlig
     }
 }
 
+/// Whether a call on the tree is in flight after a step with this outcome.
+fn goes_on<P>(outcome: &congee::Outcome<P>) -> bool
+    ensures { result ≡ is_in_flight (told outcome.now) }
+{
+    match outcome {
+        congee::Outcome::Running => true,
+        congee::Outcome::Asks(_) => true,
+        congee::Outcome::Found { .. } => true,
+        congee::Outcome::Done(_) => false,
+        congee::Outcome::Scanned { .. } => false,
+        congee::Outcome::Refused(_) => false,
+    }
+}
+
 /// A call on the tree that has ended.
 fn resting<P: Payload + Small>() -> Machine<Id, P>
     ensures { result ≡ resting }
@@ -263,11 +277,34 @@ impl<P: Payload + Small, A: Allocator> Engine<P, A> {
         ensures census { self.new.census ≡ self.old.census }
     {
         call_laws::<P>();
+        self.begin_machine(who, op);
+        self.set_call(who, InFlight::Walking);
+    }
+
+    /// Begins a call on the tree where another one lies in a worker's place.
+    fn begin_machine(&mut self, who: usize, op: Op<P>)
+        requires { who < length self.old.machines.items }
+        ensures machines { self.new.machines.items ≡ slice_set self.old.machines.items who (begun root op) }
+        ensures new { IsNew (begun root op) }
+        ensures nodes { self.new.nodes ≡ self.old.nodes }
+        ensures calls { self.new.calls ≡ self.old.calls }
+        ensures census { self.new.census ≡ self.old.census }
+    {
         let root = Id {
             name: Name { cell: 0, turn: 0 },
         };
         self.machines[who].begin(root, op);
-        self.calls[who] = InFlight::Walking;
+    }
+
+    /// Puts another call on the tree in a worker's place.
+    fn set_machine(&mut self, who: usize, machine: Machine<Id, P>)
+        requires { who < length self.old.machines.items }
+        ensures machines { self.new.machines.items ≡ slice_set self.old.machines.items who machine }
+        ensures nodes { self.new.nodes ≡ self.old.nodes }
+        ensures calls { self.new.calls ≡ self.old.calls }
+        ensures census { self.new.census ≡ self.old.census }
+    {
+        self.machines[who] = machine;
     }
 
     /// Whether a worker's call is a writing one that has taken no step.
@@ -341,17 +378,13 @@ impl<P: Payload + Small, A: Allocator> Engine<P, A> {
         ensures nodes { self.new.nodes ≡ self.old.nodes }
         ensures census { self.new.census ≡ self.old.census }
     {
-        match outcome {
-            congee::Outcome::Running | congee::Outcome::Asks(_) | congee::Outcome::Found { .. } =>
-                {}
-            congee::Outcome::Done(_)
-            | congee::Outcome::Scanned { .. }
-            | congee::Outcome::Refused(_) => {
-                self.calls[who] = InFlight::Idle;
-                if self.machines[who].has_scanned() {
-                    self.machines[who] = resting();
-                }
-            }
+        if goes_on(outcome) {
+            return;
+        }
+        let scanned = self.machines[who].has_scanned();
+        self.set_call(who, InFlight::Idle);
+        if scanned {
+            self.set_machine(who, resting());
         }
     }
 }

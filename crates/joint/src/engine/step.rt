@@ -129,7 +129,7 @@ impl<P: Payload + Small, A: Allocator> Engine<P, A> {
         match way_of(&op) {
             Way::None => report(Kind::Tree, Outcome::Done(Done::Scanned(0))),
             Way::Reserve => {
-                self.calls[who] = InFlight::Reserving(op);
+                self.set_call(who, InFlight::Reserving(op));
                 report(Kind::Tree, Outcome::Running)
             }
             Way::Walk => {

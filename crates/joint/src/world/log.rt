@@ -139,7 +139,10 @@ impl<P: Drop> Log<P> {
     pub(crate) fn put_request_if(&mut self, who: usize, on: bool, request: Option<Request<P>>)
         ensures { self.new ≡ with_request self.old who on request }
     {
-        if on && who < self.requests.len() {
+        if !on {
+            return;
+        }
+        if who < self.requests.len() {
             self.requests[who] = request;
         }
     }

@@ -5,8 +5,8 @@ use Rattle.joint.proofs.lemmas.engine.TreeStep.{protocol, same_length, stepped_s
 use Rattle.joint.proofs.lemmas.engine.Walk.{owed, walked, walked_over}
 use Rattle.joint.proofs.engine.Engine.walk.Goals as goal
 
-pub index-owed-requires : goal.index-owed-requires
-index-owed-requires g c = slice_get_within c.args.self.now.machines.items c.args.who c.requires.runs.0 c.requires.runs.1
+pub index-requires : goal.index-requires
+index-requires g c = slice_get_within c.args.self.now.machines.items c.args.who c.requires.runs.0 c.requires.runs.1
 
 pub step_of-moved-requires-clause-protocol : goal.step_of-moved-requires-clause-protocol
 step_of-moved-requires-clause-protocol g c =
