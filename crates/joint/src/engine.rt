@@ -277,23 +277,11 @@ impl<P: Payload + Small, A: Allocator> Engine<P, A> {
         ensures census { self.new.census ≡ self.old.census }
     {
         call_laws::<P>();
-        self.begin_machine(who, op);
-        self.set_call(who, InFlight::Walking);
-    }
-
-    /// Begins a call on the tree where another one lies in a worker's place.
-    fn begin_machine(&mut self, who: usize, op: Op<P>)
-        requires { who < length self.old.machines.items }
-        ensures machines { self.new.machines.items ≡ slice_set self.old.machines.items who (begun root op) }
-        ensures new { IsNew (begun root op) }
-        ensures nodes { self.new.nodes ≡ self.old.nodes }
-        ensures calls { self.new.calls ≡ self.old.calls }
-        ensures census { self.new.census ≡ self.old.census }
-    {
         let root = Id {
             name: Name { cell: 0, turn: 0 },
         };
         self.machines[who].begin(root, op);
+        self.set_call(who, InFlight::Walking);
     }
 
     /// Puts another call on the tree in a worker's place.
@@ -339,8 +327,7 @@ impl<P: Payload + Small, A: Allocator> Engine<P, A> {
         ensures census { self.new.census ≡ self.old.census }
     {
         progress::<P>();
-        let call = std::mem::replace(&mut self.calls[who], InFlight::Idle);
-        let InFlight::Reserving(op) = call else {
+        let InFlight::Reserving(op) = self.take_call(who) else {
             unreachable!()
         };
         self.collect(who, Event::Begin(crossbeam_epoch::Op::Secure(2)));
@@ -355,8 +342,7 @@ impl<P: Payload + Small, A: Allocator> Engine<P, A> {
         ensures census { self.new.census ≡ self.old.census }
     {
         progress::<P>();
-        let call = std::mem::replace(&mut self.calls[who], InFlight::Idle);
-        let InFlight::Securing(op) = call else {
+        let InFlight::Securing(op) = self.take_call(who) else {
             unreachable!()
         };
         let report = self.collect(who, Event::Go);
@@ -366,6 +352,18 @@ impl<P: Payload + Small, A: Allocator> Engine<P, A> {
             Outcome::Refused(_) => {}
         }
         report
+    }
+
+    /// Takes the call in flight out of a worker's place.
+    fn take_call(&mut self, who: usize) -> InFlight<P>
+        requires { who < length self.old.calls.items }
+        ensures taken { slice_get self.old.calls.items who ≡ Some result }
+        ensures calls { self.new.calls.items ≡ slice_set self.old.calls.items who InFlight.Idle }
+        ensures nodes { self.new.nodes ≡ self.old.nodes }
+        ensures machines { self.new.machines ≡ self.old.machines }
+        ensures census { self.new.census ≡ self.old.census }
+    {
+        std::mem::replace(&mut self.calls[who], InFlight::Idle)
     }
 
     /// Ends a worker's call on the tree that has this outcome, where it is over, and puts a scan that is done out of its place.

@@ -7,7 +7,7 @@ ghost use Rattle.joint.specs.engine.Beginning.{Begun};
 ghost use Rattle.joint.specs.engine.Census.{effect_of};
 ghost use Rattle.joint.specs.nodes.Nodes.{IsCharged, nodes};
 ghost use Rattle.joint.specs.nodes.Survey.{IsEmptiness};
-ghost use Rattle.joint.specs.engine.Engine.{Does, EngineHolds, IsEngineStep, Proceeds, misuse, quiet, collection, finds_none, interruption, kind_of, reserving, Surveys, Walks};
+ghost use Rattle.joint.specs.engine.Engine.{Does, EngineHolds, IsEngineStep, Proceeds, misuse, quiet, collection, finds_none, interruption, is_busy, kind_of, reserving, Surveys, Walks};
 ghost use Rattle.joint.specs.declared.steps.Event.TheVariants as Event;
 ghost use Rattle.joint.specs.engine.Intact.{writes};
 ghost use Rattle.joint.specs.declared.engine.in_flight.InFlight.TheVariants as InFlight;
@@ -55,7 +55,7 @@ impl<P: Payload + Small, A: Allocator> Engine<P, A> {
         if !self.nodes.is_registered(who) {
             return refused(kind_of(&target), Refusal::Unknown);
         }
-        if !matches!(self.calls[who], InFlight::Idle) {
+        if self.is_busy(who) {
             return refused(kind_of(&target), Refusal::of_fault(interruption(&target)));
         }
         match target {
@@ -75,10 +75,22 @@ impl<P: Payload + Small, A: Allocator> Engine<P, A> {
     {
         call_laws::<P>();
         let who = worker as usize;
+        if self.is_walking(who) {
+            self.go_on_tree(who, noise)
+        } else {
+            self.go_other(who)
+        }
+    }
+
+    /// Whether a worker's call takes its steps on the tree.
+    fn is_walking(&self, who: usize) -> bool
+        ensures walking { result ≡ true → slice_get self.now.calls.items who ≡ Some InFlight.Walking }
+        ensures other { result ≡ false → slice_get self.now.calls.items who ≡ Some InFlight.Walking → ⊥ }
+    {
         match self.calls.get(who) {
-            Some(InFlight::Walking) => self.go_on_tree(who, noise),
+            Some(InFlight::Walking) => true,
             // There is none, or it is on the collector, or before its first step on the tree.
-            _ => self.go_other(who),
+            _ => false,
         }
     }
 
@@ -282,6 +294,18 @@ impl<P: Payload + Small, A: Allocator> Engine<P, A> {
                 Some(reply) => effect(reply),
                 None => Change::Same,
             },
+        }
+    }
+
+    /// Whether a worker has a call in flight.
+    fn is_busy(&self, who: usize) -> bool
+        requires { who < length self.now.calls.items }
+        ensures { result ≡ is_busy (slice_get self.now.calls.items who) }
+    {
+        match &self.calls[who] {
+            InFlight::Idle => false,
+            // On the collector, on the tree, or before that making places free.
+            _ => true,
         }
     }
 }

@@ -1,10 +1,11 @@
-use Rattle.std.proofs.Common.{◌≡◌, ◌+◌, ◌<◌, ℕ, arith, length, refl, sym, ◌∙◌, ap, subst}
+use Rattle.std.proofs.Common.{◌≡◌, ◌+◌, ◌-◌, ◌<◌, ℕ, false, arith, length, refl, sym, ◌∙◌, ap, subst}
 use Rattle.std.specs.Prelude.{slice_set, if◌then◌else◌}
 use Rattle.std.proofs.lemmas.List.{length-set}
 use Rattle.joint.specs.declared.engine.in_flight.InFlight.TheVariants.{Idle, Walking}
 use Rattle.joint.specs.Reports.{told}
 use Rattle.joint.specs.engine.Census.{more}
-use Rattle.joint.specs.engine.Engine.{is_in_flight}
+use Rattle.joint.specs.declared.steps.Kind.TheVariants.{Tree}
+use Rattle.joint.specs.engine.Engine.{is_in_flight, standing}
 use Rattle.joint.proofs.lemmas.engine.Collecting.{inside, inside_machines}
 use Rattle.joint.proofs.lemmas.calls.CensusSteps.{bytes_small, counted_walk, few_machines, had, had_bytes, pairs_room, pairs_there, taken_few}
 use Rattle.joint.proofs.lemmas.engine.PuttingAway.{calls_put, still_intact, walked_on}
@@ -88,7 +89,8 @@ returns-clause-walks g c = record {
   move = c.walk-moved.result;
   step = walked_on g.P.Payload.same_as g.P.Payload.always_copies c.call_laws.ensures c.args.self.now.nodes c.args.self.now.machines.items c.args.self.now.calls.items c.requires.intact (record { who = c.args.who; noise = c.args.noise }) c.requires.on c.walk-moved.result c.walk-moved.new.self.nodes c.walk-moved.new.self.machines.items c.walk-moved.ensures.walked c.put_away.new.self.nodes c.put_away.new.self.machines.items c.put_away.new.self.calls.items c.put_away.ensures.nodes c.put_away.ensures.machines (c.put_away.ensures.calls ∙ ap (λ v. if is_in_flight (told c.walk-moved.result.outcome) then v.items else slice_set v.items c.args.who Idle) c.walk-moved.ensures.calls);
   calls = calls_put g.P.Payload.same_as g.P.Payload.always_copies c.call_laws.ensures c.args.self.now.nodes c.args.self.now.machines.items c.args.self.now.calls.items c.requires.intact (record { who = c.args.who; noise = c.args.noise }) c.requires.on c.walk-moved.result c.walk-moved.new.self.nodes c.walk-moved.new.self.machines.items c.walk-moved.ensures.walked c.put_away.new.self.nodes c.put_away.new.self.machines.items c.put_away.new.self.calls.items c.put_away.ensures.nodes c.put_away.ensures.machines (c.put_away.ensures.calls ∙ ap (λ v. if is_in_flight (told c.walk-moved.result.outcome) then v.items else slice_set v.items c.args.who Idle) c.walk-moved.ensures.calls);
-  report = search;
+  report = ap (λ n. record { kind = Tree; decided = c.walk-moved.result.decided; kept = false; skipped = c.walk-moved.result.skipped; destroyed = n; outcome = c.of_tree.result }) (c.saturating_sub.ensures ∙ ap (λ n. n - c.standing.result) c.standing-stood.ensures ∙ ap (λ n. standing c.args.self.now.nodes - n) c.standing.ensures)
+      ∙ ap (λ o. record { kind = Tree; decided = c.walk-moved.result.decided; kept = false; skipped = c.walk-moved.result.skipped; destroyed = (standing c.args.self.now.nodes - standing c.put_away.new.self.nodes); outcome = o }) c.of_tree.ensures;
 }
 
 pub returns-clause-counted : goal.returns-clause-counted

@@ -1,5 +1,6 @@
-use Rattle.std.proofs.Common.{◌≡◌, ◌<◌, ℕ, length, refl, sym, ◌∙◌, ap, subst}
+use Rattle.std.proofs.Common.{◌≡◌, ◌<◌, ℕ, arith, length, refl, rules, sym, ◌∙◌, ap, subst}
 use Rattle.std.specs.Prelude.{Some, slice_get}
+use Rattle.std.specs.Vec.{vec_len}
 use Rattle.std.proofs.lemmas.Option.{slice_get_read}
 use Rattle.joint.specs.engine.Log.{no_log}
 use Rattle.joint.specs.declared.engine.in_flight.InFlight.TheVariants.{Collecting, Reserving, Securing}
@@ -11,7 +12,10 @@ use Rattle.joint.proofs.lemmas.engine.Turning.{go_unknown, go_idle, goes_on}
 use Rattle.joint.proofs.engine.Engine.go_other.Goals as goal
 
 pub index-requires : goal.index-requires
-index-requires g c = subst (λ (n : ℕ). c.args.who < n) c.requires.intact.table (c.is_registered.ensures.inside c.if-not-is_registered.false)
+index-requires g c =
+    let l : c.args.who < length c.args.self.now.calls.items = subst (λ (n : ℕ). c.args.who < n) c.requires.intact.table (c.is_registered.ensures.inside c.if-not-is_registered.false) in
+    let v : vec_len c.args.self.now.calls ≡ length c.args.self.now.calls.items = search rules in
+    omega (arith, l, v)
 
 pub go_collecting-turn-requires-clause-on : goal.go_collecting-turn-requires-clause-on
 go_collecting-turn-requires-clause-on g c = slice_get_read c.args.self.now.calls.items (length c.args.self.now.calls.items) c.args.who c.index.result.now refl (subst (λ (n : ℕ). c.args.who < n) c.requires.intact.table (c.is_registered.ensures.inside c.if-not-is_registered.false)) c.index.ensures ∙ ap Some c.in-Collecting.is

@@ -1,4 +1,5 @@
-use Rattle.std.proofs.Common.{length, refl, sym, ◌∙◌, ap, subst}
+use Rattle.std.proofs.Common.{◌≡◌, ◌<◌, arith, length, refl, rules, sym, ◌∙◌, ap, subst}
+use Rattle.std.specs.Vec.{vec_len}
 use Rattle.std.proofs.lemmas.Option.{slice_get_read, slice_get_within}
 use Rattle.joint.specs.engine.Safety.{IsSafe, Runs, retiring_at}
 use Rattle.joint.proofs.lemmas.engine.TreeStep.{protocol, same_length, stepped_safe}
@@ -6,7 +7,10 @@ use Rattle.joint.proofs.lemmas.engine.Walk.{owed, walked, walked_over}
 use Rattle.joint.proofs.engine.Engine.walk.Goals as goal
 
 pub index-requires : goal.index-requires
-index-requires g c = slice_get_within c.args.self.now.machines.items c.args.who c.requires.runs.0 c.requires.runs.1
+index-requires g c =
+    let l : c.args.who < length c.args.self.now.machines.items = slice_get_within c.args.self.now.machines.items c.args.who c.requires.runs.0 c.requires.runs.1 in
+    let v : vec_len c.args.self.now.machines ≡ length c.args.self.now.machines.items = search rules in
+    omega (arith, l, v)
 
 pub step_of-moved-requires-clause-protocol : goal.step_of-moved-requires-clause-protocol
 step_of-moved-requires-clause-protocol g c =
