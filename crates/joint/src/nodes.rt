@@ -128,7 +128,8 @@ impl<P: Payload + Small, A: Allocator> Nodes<P, A> {
 
     /// The nodes that stand.
     pub fn standing(&self) -> u64
-        ensures { result ≡ total (λ slot. 1) self.now.collector.store }
+        ensures value { result ≡ total (λ slot. 1) self.now.collector.store }
+        ensures sum { IsCharged self.now }
     {
         self.counts.standing
     }

@@ -5,7 +5,7 @@ ghost use Rattle.joint.specs.engine.Intact.{is_reserving};
 ghost use Rattle.judge.specs.declared.journal.Entry.{Entry};
 ghost use Rattle.joint.specs.declared.engine.request.Request.{Request};
 ghost use Rattle.joint.specs.engine.Journaling.{asks_at, entry_of, in_list, kept_if, reply_by};
-ghost use Rattle.joint.specs.engine.Log.{has_room, answered_if, is_full, with_request, request_at};
+ghost use Rattle.joint.specs.engine.Log.{has_room, answered_if, is_full, request_at};
 ghost use Rattle.joint.specs.world.World.{IsStep};
 ghost use Rattle.joint.specs.engine.Engine.{is_in_flight};
 
@@ -46,8 +46,9 @@ impl<P: Payload + Small, A: Allocator> World<P, A> {
     {
         let request = Request::of(&op);
         let report = self.engine.step_begin(worker, op);
-        let on = is_in_flight(&report.outcome);
-        put_request_if(&mut self.log, worker as usize, on, request);
+        if is_in_flight(&report.outcome) {
+            self.log.put_request(worker as usize, request);
+        }
         report
     }
 
@@ -62,7 +63,9 @@ impl<P: Payload + Small, A: Allocator> World<P, A> {
         let who = worker as usize;
         take_answer(&self.engine, &mut self.log, who, &noise.answer);
         let told = self.engine.step_on(worker, noise);
-        put_request_if(&mut self.log, who, !is_in_flight(&told.outcome), None);
+        if !is_in_flight(&told.outcome) {
+            self.log.put_request(who, None);
+        }
         told
     }
 
@@ -107,18 +110,10 @@ impl<P: Payload + Small, A: Allocator> World<P, A> {
         let after = self.engine.has_place(who);
         self.log.recount(before, after);
         told.kept = keep(&self.engine, &mut self.log, worker, &told);
-        put_request_if(&mut self.log, who, !is_in_flight(&told.outcome), None);
+        if !is_in_flight(&told.outcome) {
+            self.log.put_request(who, None);
+        }
         told
-    }
-}
-
-/// Puts a request in its worker's place, where it is to be noted.
-#[inline(always)]
-fn put_request_if<P: Drop>(log: &mut Log<P>, who: usize, on: bool, request: Option<Request<P>>)
-    ensures { log.new ≡ with_request log.old who on request }
-{
-    if on {
-        log.put_request(who, request);
     }
 }
 

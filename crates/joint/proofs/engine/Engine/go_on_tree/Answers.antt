@@ -89,7 +89,7 @@ returns-clause-walks g c = record {
   move = c.walk-moved.result;
   step = walked_on g.P.Payload.same_as g.P.Payload.always_copies c.call_laws.ensures c.args.self.now.nodes c.args.self.now.machines.items c.args.self.now.calls.items c.requires.intact (record { who = c.args.who; noise = c.args.noise }) c.requires.on c.walk-moved.result c.walk-moved.new.self.nodes c.walk-moved.new.self.machines.items c.walk-moved.ensures.walked c.put_away.new.self.nodes c.put_away.new.self.machines.items c.put_away.new.self.calls.items c.put_away.ensures.nodes c.put_away.ensures.machines (c.put_away.ensures.calls ∙ ap (λ v. if is_in_flight (told c.walk-moved.result.outcome) then v.items else slice_set v.items c.args.who Idle) c.walk-moved.ensures.calls);
   calls = calls_put g.P.Payload.same_as g.P.Payload.always_copies c.call_laws.ensures c.args.self.now.nodes c.args.self.now.machines.items c.args.self.now.calls.items c.requires.intact (record { who = c.args.who; noise = c.args.noise }) c.requires.on c.walk-moved.result c.walk-moved.new.self.nodes c.walk-moved.new.self.machines.items c.walk-moved.ensures.walked c.put_away.new.self.nodes c.put_away.new.self.machines.items c.put_away.new.self.calls.items c.put_away.ensures.nodes c.put_away.ensures.machines (c.put_away.ensures.calls ∙ ap (λ v. if is_in_flight (told c.walk-moved.result.outcome) then v.items else slice_set v.items c.args.who Idle) c.walk-moved.ensures.calls);
-  report = ap (λ n. record { kind = Tree; decided = c.walk-moved.result.decided; kept = false; skipped = c.walk-moved.result.skipped; destroyed = n; outcome = c.of_tree.result }) (c.saturating_sub.ensures ∙ ap (λ n. n - c.standing.result) c.standing-stood.ensures ∙ ap (λ n. standing c.args.self.now.nodes - n) c.standing.ensures)
+  report = ap (λ n. record { kind = Tree; decided = c.walk-moved.result.decided; kept = false; skipped = c.walk-moved.result.skipped; destroyed = n; outcome = c.of_tree.result }) (c.saturating_sub.ensures ∙ ap (λ n. n - c.standing.result) c.standing-stood.ensures.value ∙ ap (λ n. standing c.args.self.now.nodes - n) c.standing.ensures.value)
       ∙ ap (λ o. record { kind = Tree; decided = c.walk-moved.result.decided; kept = false; skipped = c.walk-moved.result.skipped; destroyed = (standing c.args.self.now.nodes - standing c.put_away.new.self.nodes); outcome = o }) c.of_tree.ensures;
 }
 
@@ -101,3 +101,6 @@ returns-clause-counted g c =
     let b : c.count.new.self.taken.bytes + c.taken-before.result.bytes ≡ c.args.self.now.census.taken.bytes + c.taken-after.result.bytes = omega (arith, ap (λ x. x.taken.bytes) q, c.count.ensures.bytes) in
     counted_walk g.P.Payload.same_as g.P.Payload.always_copies c.call_laws.ensures c.args.self.now.nodes c.args.self.now.machines.items c.args.self.now.calls.items c.requires.intact (record { who = c.args.who; noise = c.args.noise }) c.requires.on c.args.self.now.census c.requires.counted c.taken-before.result c.taken-before.ensures.nodes c.taken-before.ensures.bytes c.walk-moved.result c.put_away.new.self.nodes c.put_away.new.self.machines.items w c.taken-after.result c.taken-after.ensures.nodes c.taken-after.ensures.bytes (record { pairs = c.args.self.now.census.pairs; taken = c.count.new.self.taken }) refl
     t b c.change_by-change.result c.change_by-change.ensures c.count.new.self (c.count.ensures.pairs ∙ ap (λ x. x.pairs + more c.change_by-change.result) q) refl
+
+pub returns-clause-charged : goal.returns-clause-charged
+returns-clause-charged g c = c.standing.ensures.sum
