@@ -46,9 +46,8 @@ impl<P: Payload + Small, A: Allocator> World<P, A> {
     {
         let request = Request::of(&op);
         let report = self.engine.step_begin(worker, op);
-        if is_in_flight(&report.outcome) {
-            self.log.put_request(worker as usize, request);
-        }
+        let on = is_in_flight(&report.outcome);
+        self.log.put_request_if(worker as usize, on, request);
         report
     }
 
@@ -63,9 +62,8 @@ impl<P: Payload + Small, A: Allocator> World<P, A> {
         let who = worker as usize;
         take_answer(&self.engine, &mut self.log, who, &noise.answer);
         let told = self.engine.step_on(worker, noise);
-        if !is_in_flight(&told.outcome) {
-            self.log.put_request(who, None);
-        }
+        self.log
+            .put_request_if(who, !is_in_flight(&told.outcome), None);
         told
     }
 
@@ -110,9 +108,8 @@ impl<P: Payload + Small, A: Allocator> World<P, A> {
         let after = self.engine.has_place(who);
         self.log.recount(before, after);
         told.kept = keep(&self.engine, &mut self.log, worker, &told);
-        if !is_in_flight(&told.outcome) {
-            self.log.put_request(who, None);
-        }
+        self.log
+            .put_request_if(who, !is_in_flight(&told.outcome), None);
         told
     }
 }
