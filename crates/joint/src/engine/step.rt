@@ -52,7 +52,7 @@ impl<P: Payload + Small, A: Allocator> Engine<P, A> {
         call_laws::<P>();
         let who = worker as usize;
         let target = op.target();
-        if !self.nodes.is_registered(who) {
+        if !self.nodes.collector.is_registered(who) {
             return refused(kind_of(&target), Refusal::Unknown);
         }
         if self.is_busy(who) {
@@ -135,7 +135,7 @@ impl<P: Payload + Small, A: Allocator> Engine<P, A> {
         ensures census { self.new.census ≡ self.old.census }
         ensures nodes { self.new.nodes ≡ self.old.nodes }
     {
-        if !self.nodes.is_pinned(who) {
+        if !self.nodes.collector.is_pinned(who) {
             return refused(Kind::Tree, Refusal::Unpinned);
         }
         match way_of(&op) {
@@ -163,7 +163,7 @@ impl<P: Payload + Small, A: Allocator> Engine<P, A> {
         match survey {
             Survey::Keys => self.tell_keys(),
             Survey::IsEmpty => {
-                if self.nodes.is_pinned(who) {
+                if self.nodes.collector.is_pinned(who) {
                     self.tell_empty()
                 } else {
                     refused(Kind::Tree, Refusal::Unpinned)
@@ -225,7 +225,7 @@ impl<P: Payload + Small, A: Allocator> Engine<P, A> {
         ensures counted { EngineCounted self.new.census (state_of self.new) }
         ensures charged { IsCharged self.new.nodes }
     {
-        if !self.nodes.is_registered(who) {
+        if !self.nodes.collector.is_registered(who) {
             return refused(Kind::Collection, Refusal::Unknown);
         }
         match &self.calls[who] {

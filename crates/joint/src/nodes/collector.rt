@@ -30,21 +30,6 @@ impl<P: Payload + Small, A: Allocator> Nodes<P, A> {
         self.collector.register()
     }
 
-    /// Whether a worker of this number is registered.
-    pub fn is_registered(&self, who: usize) -> bool
-        ensures value { result ≡ (place self.now.collector who).registered }
-        ensures inside { IsTrue result → who < length self.now.collector.table }
-    {
-        self.collector.is_registered(who)
-    }
-
-    /// Whether a worker of this number is registered and pinned.
-    pub fn is_pinned(&self, who: usize) -> bool
-        ensures { result ≡ ((place self.now.collector who).registered && is_some (place self.now.collector who).word) }
-    {
-        self.collector.is_pinned(who)
-    }
-
     /// Whether a worker has a free place in its bag.
     pub fn has_place(&self, who: usize) -> bool
         ensures { result ≡ ((place self.now.collector who).registered && not (length (place self.now.collector who).bag == bag_places)) }

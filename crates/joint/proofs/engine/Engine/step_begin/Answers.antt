@@ -1,6 +1,7 @@
 use Rattle.std.proofs.Common.{◌<◌, ℕ, length, refl, sym, ◌∙◌, ap, subst}
 use Rattle.std.specs.Prelude.{Some, slice_get}
 use Rattle.std.proofs.lemmas.Option.{slice_get_read}
+use Rattle.crossbeam_epoch.specs.World.Machine.{place}
 use Rattle.joint.specs.engine.Log.{no_log}
 use Rattle.joint.specs.declared.refusal.Refusal.TheVariants.{Unknown}
 use Rattle.joint.specs.declared.engine.in_flight.InFlight.TheVariants.{Idle}
@@ -16,26 +17,26 @@ use Rattle.joint.proofs.lemmas.engine.Turning.{unknown, busy, idle_call}
 use Rattle.joint.proofs.engine.Engine.step_begin.Goals as goal
 
 pub is_busy-requires : goal.is_busy-requires
-is_busy-requires g c = subst (λ (n : ℕ). c.args.worker < n) c.requires.holds.0.table (c.is_registered.ensures.inside c.if-not-is_registered.false)
+is_busy-requires g c = subst (λ (n : ℕ). c.args.worker < n) (ap (λ s. length s.nodes.collector.table) c.self.view_is ∙ c.requires.holds.0.table) (c.is_registered.ensures.inside c.if-not-is_registered.false)
 
 pub returns-then-not-is_registered-clause-step : goal.returns-then-not-is_registered-clause-step
 returns-then-not-is_registered-clause-step g c =
     begins g.P.Payload.same_as g.P.Payload.always_copies c.call_laws.ensures (record { forest = c.args.self.now.nodes; machines = c.args.self.now.machines.items; calls = c.args.self.now.calls.items; log = no_log }) (record { forest = c.args.self.now.nodes; machines = c.args.self.now.machines.items; calls = c.args.self.now.calls.items; log = no_log }) c.requires.holds (record { worker = c.args.worker; event = Begin c.args.op }) c.refused.result c.requires.holds.0 c.requires.holds.1 c.args.op c.target-target.result refl c.target-target.ensures
-    (unknown g.P.Payload.same_as g.P.Payload.always_copies (record { forest = c.args.self.now.nodes; machines = c.args.self.now.machines.items; calls = c.args.self.now.calls.items; log = no_log }) c.args.worker c.target-target.result c.refused.result (sym c.is_registered.ensures.value ∙ c.if-not-is_registered.true) (c.refused.ensures ∙ ap (λ k. quiet k (Refused Unknown)) c.kind_of.ensures))
+    (unknown g.P.Payload.same_as g.P.Payload.always_copies (record { forest = c.args.self.now.nodes; machines = c.args.self.now.machines.items; calls = c.args.self.now.calls.items; log = no_log }) c.args.worker c.target-target.result c.refused.result (sym (c.is_registered.ensures.value ∙ (ap (λ s. (place s.nodes.collector c.args.worker).registered) c.self.view_is)) ∙ c.if-not-is_registered.true) (c.refused.ensures ∙ ap (λ k. quiet k (Refused Unknown)) c.kind_of.ensures))
 
 pub returns-then-is_busy-clause-step : goal.returns-then-is_busy-clause-step
 returns-then-is_busy-clause-step g c =
     begins g.P.Payload.same_as g.P.Payload.always_copies c.call_laws.ensures (record { forest = c.args.self.now.nodes; machines = c.args.self.now.machines.items; calls = c.args.self.now.calls.items; log = no_log }) (record { forest = c.args.self.now.nodes; machines = c.args.self.now.machines.items; calls = c.args.self.now.calls.items; log = no_log }) c.requires.holds (record { worker = c.args.worker; event = Begin c.args.op }) c.refused-then-is_busy.result c.requires.holds.0 c.requires.holds.1 c.args.op c.target-target.result refl c.target-target.ensures
-    (busy g.P.Payload.same_as g.P.Payload.always_copies (record { forest = c.args.self.now.nodes; machines = c.args.self.now.machines.items; calls = c.args.self.now.calls.items; log = no_log }) c.args.worker c.target-target.result c.refused-then-is_busy.result (sym c.is_registered.ensures.value ∙ c.if-not-is_registered.false) (sym c.is_busy.ensures ∙ c.if-is_busy.true) (c.refused-then-is_busy.ensures ∙ ap (λ k. quiet k (Refused c.of_fault.result)) c.kind_of-then-is_busy.ensures ∙ ap (λ f. quiet (kind_of c.target-target.result) (Refused f)) (c.of_fault.ensures ∙ ap of_fault c.interruption.ensures)))
+    (busy g.P.Payload.same_as g.P.Payload.always_copies (record { forest = c.args.self.now.nodes; machines = c.args.self.now.machines.items; calls = c.args.self.now.calls.items; log = no_log }) c.args.worker c.target-target.result c.refused-then-is_busy.result (sym (c.is_registered.ensures.value ∙ (ap (λ s. (place s.nodes.collector c.args.worker).registered) c.self.view_is)) ∙ c.if-not-is_registered.false) (sym c.is_busy.ensures ∙ c.if-is_busy.true) (c.refused-then-is_busy.ensures ∙ ap (λ k. quiet k (Refused c.of_fault.result)) c.kind_of-then-is_busy.ensures ∙ ap (λ f. quiet (kind_of c.target-target.result) (Refused f)) (c.of_fault.ensures ∙ ap of_fault c.interruption.ensures)))
 
 pub begin_on_collector-requires-clause-idle : goal.begin_on_collector-requires-clause-idle
-begin_on_collector-requires-clause-idle g c = idle_call (slice_get c.args.self.now.calls.items c.args.worker) c.args.worker c.args.self.now.calls.items (subst (λ (n : ℕ). c.args.worker < n) c.requires.holds.0.table (c.is_registered.ensures.inside c.if-not-is_registered.false)) refl (sym c.is_busy.ensures ∙ c.if-is_busy.false)
+begin_on_collector-requires-clause-idle g c = idle_call (slice_get c.args.self.now.calls.items c.args.worker) c.args.worker c.args.self.now.calls.items (subst (λ (n : ℕ). c.args.worker < n) (ap (λ s. length s.nodes.collector.table) c.self.view_is ∙ c.requires.holds.0.table) (c.is_registered.ensures.inside c.if-not-is_registered.false)) refl (sym c.is_busy.ensures ∙ c.if-is_busy.false)
 
 pub begin_on_tree-requires-clause-idle : goal.begin_on_tree-requires-clause-idle
-begin_on_tree-requires-clause-idle g c = idle_call (slice_get c.args.self.now.calls.items c.args.worker) c.args.worker c.args.self.now.calls.items (subst (λ (n : ℕ). c.args.worker < n) c.requires.holds.0.table (c.is_registered.ensures.inside c.if-not-is_registered.false)) refl (sym c.is_busy.ensures ∙ c.if-is_busy.false)
+begin_on_tree-requires-clause-idle g c = idle_call (slice_get c.args.self.now.calls.items c.args.worker) c.args.worker c.args.self.now.calls.items (subst (λ (n : ℕ). c.args.worker < n) (ap (λ s. length s.nodes.collector.table) c.self.view_is ∙ c.requires.holds.0.table) (c.is_registered.ensures.inside c.if-not-is_registered.false)) refl (sym c.is_busy.ensures ∙ c.if-is_busy.false)
 
 pub answer_survey-requires-clause-idle : goal.answer_survey-requires-clause-idle
-answer_survey-requires-clause-idle g c = idle_call (slice_get c.args.self.now.calls.items c.args.worker) c.args.worker c.args.self.now.calls.items (subst (λ (n : ℕ). c.args.worker < n) c.requires.holds.0.table (c.is_registered.ensures.inside c.if-not-is_registered.false)) refl (sym c.is_busy.ensures ∙ c.if-is_busy.false)
+answer_survey-requires-clause-idle g c = idle_call (slice_get c.args.self.now.calls.items c.args.worker) c.args.worker c.args.self.now.calls.items (subst (λ (n : ℕ). c.args.worker < n) (ap (λ s. length s.nodes.collector.table) c.self.view_is ∙ c.requires.holds.0.table) (c.is_registered.ensures.inside c.if-not-is_registered.false)) refl (sym c.is_busy.ensures ∙ c.if-is_busy.false)
 
 pub returns-in-Collector-clause-step : goal.returns-in-Collector-clause-step
 returns-in-Collector-clause-step g c =
