@@ -57,7 +57,7 @@ pub fn read(line: &[u8]) -> Line
     if line.len() > LINE_MAX {
         return Line::Bad;
     }
-    if matches!(line, [] | [b'#', ..]) {
+    if line.is_empty() || line[0] == b'#' {
         return Line::Skipped;
     }
     let Some(words) = words(line) else {

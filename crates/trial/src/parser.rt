@@ -52,14 +52,14 @@ fn call(words: &[Word]) -> Option<Call>
         [Key(Keyword::Remove), Number(k)] => Some(Call::Remove(*k)),
         [Key(Keyword::Insert), Number(k), Number(v)] => Some(Call::Insert(*k, *v)),
         [Key(Keyword::OrInsert), Number(k), Number(n)] => Some(Call::OrInsert(*k, *n)),
-        [Key(key), Number(a), Number(b), Number(c)] => { triple_call(*key, *a, *b, *c) }
+        [Key(key), Number(a), Number(b), Number(c)] => triple_call(*key, *a, *b, *c),
         [
             Key(Keyword::Present),
             Number(k),
             Key(Keyword::Add),
             Number(n),
         ] => Some(Call::PresentAdd(*k, *n)),
-        [Key(Keyword::Present), Number(k), Key(Keyword::Drop)] => { Some(Call::PresentDrop(*k)) }
+        [Key(Keyword::Present), Number(k), Key(Keyword::Drop)] => Some(Call::PresentDrop(*k)),
         [
             Key(Keyword::Cas),
             Number(k),
@@ -157,7 +157,7 @@ pub fn command(words: &[Word]) -> Option<Command>
 {
     match words {
         [Key(key)] => plain_command(*key),
-        [Key(Keyword::New), Number(p), Number(c), options @ ..] => { opening(*p, *c, options) }
+        [Key(Keyword::New), Number(p), Number(c), options @ ..] => opening(*p, *c, options),
         [Number(w), words @ ..] => worker_command(u32::try_from(*w).ok()?, words),
         _ => None,
     }

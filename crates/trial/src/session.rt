@@ -248,12 +248,15 @@ fn answer_journal(alloc: Global, index: &OpenTree) -> Reply
 }
 
 /// The reply to the line that registers a worker.
-fn answer_register(alloc: Global, index: &mut OpenTree) -> Reply
+fn answer_register(index: &mut OpenTree) -> Reply
     ensures { (told : Outcome ℕ) × Registers index.old told index.new × (result ≡ reply_of [] told) }
 {
-    let outcome = index.register();
-    // Nothing that a registration tells is a scan's, so the number doesn't matter.
-    reply(alloc, index, 0, outcome)
+    match index.register() {
+        Outcome::Registered(worker) => Reply::Worker(worker),
+        Outcome::Refused(refusal) => Reply::Refused(Refused::Tree(refusal)),
+        // A registration is one step.
+        _ => unreachable!(),
+    }
 }
 
 /// Closes the tree that is open, if one is, and tells its pairs, in ascending order, and the charge that is left.
@@ -297,7 +300,7 @@ pub fn answer(alloc: Global, session: &mut Option<OpenTree>, command: Command) -
     };
     match command {
         Command::New(_) => Ok(Reply::Refused(Refused::Open)),
-        Command::Register => Ok(answer_register(alloc, index)),
+        Command::Register => Ok(answer_register(index)),
         Command::Charged => Ok(Reply::Charged(index.world.charged())),
         Command::Waiting => Ok(Reply::Waiting(index.world.waiting(), index.world.waiting_bytes())),
         Command::Journal => Ok(answer_journal(alloc, index)),

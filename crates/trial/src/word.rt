@@ -21,14 +21,16 @@ pub fn number(word: &[u8]) -> Option<u64>
     ensures found { IfSome result (λ n. word.now ≡ decimal n) }
     ensures none { IfNone result ((n : ℕ) → n < 2 ^ 64 → word.now ≡ decimal n → ⊥) }
 {
-    match word {
-        [b'0'] => Some(0),
-        // No sign and no zero leads.
-        [b'1'..=b'9', ..] => match str::from_utf8(word) {
-            Ok(text) => text.parse().ok(),
-            Err(_) => None,
-        },
-        _ => None,
+    if word.is_empty() || !word[0].is_ascii_digit() {
+        return None;
+    }
+    // No zero leads a further digit.
+    if word.len() > 1 && word[0] == b'0' {
+        return None;
+    }
+    match str::from_utf8(word) {
+        Ok(text) => text.parse().ok(),
+        Err(_) => None,
     }
 }
 
