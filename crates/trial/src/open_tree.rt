@@ -1,6 +1,6 @@
 //! A tree with what stands behind its workers' calls, which go on from line to line.
 ghost use Rattle.std.specs.Prelude.{◌≡◌, ◌<◌, [], None, OnOk, IfOk, IfErr, slice_set, length, replicate};
-ghost use Rattle.trial.specs.Callers.{caller_at, fresh, after_step};
+ghost use Rattle.trial.specs.Callers.{caller_at, fresh, noise_of, after_step};
 ghost use Rattle.trial.specs.Calling.{IsUncalled, Registers, Begins, Goes, GoesOn, Calls, is_running};
 ghost use Rattle.trial.specs.Places.{places_at, filled};
 ghost use Rattle.trial.specs.declared.end.End.TheVariants as End;
