@@ -1,5 +1,5 @@
 -- What a line is, from the words that were read of it.
-use Rattle.std.proofs.Common.{◌≡◌, ◌≢◌, ℕ, ◌<◌, ◌≤◌, List, [], ◌∷◌, map, get_or, refl, ap, sym, subst, ◌∙◌, arith, length, Some, true, false, ◌==◌}
+use Rattle.std.proofs.Common.{◌≡◌, ◌≢◌, ℕ, ◌<◌, ◌≤◌, List, [], ◌∷◌, map, get_or, refl, ap, sym, subst, ◌∙◌, arith, length, Some, false, ◌==◌}
 use Rattle.std.proofs.lemmas.List.{length-map}
 use Rattle.std.specs.List.{slice_split, onto_first, join_with_byte, AllZip}
 use Rattle.std.proofs.lemmas.Bool.{true≢false}

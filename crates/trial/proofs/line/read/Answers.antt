@@ -1,7 +1,6 @@
 use Rattle.std.proofs.Common.{◌≡◌, ◌∙◌, sym, ap, None, rules}
 use Rattle.trial.specs.declared.line.Line.TheVariants as line
 use Rattle.trial.specs.Grammar.{IsSkipped}
-use Rattle.trial.specs.Line.{IsLine}
 use Rattle.trial.specs.Parsing.{command_of}
 use Rattle.trial.proofs.Lines.{line_sound, line_complete, no_command_so_long, not_skipped, one_meaning}
 use Rattle.trial.proofs.Feeding.{long_is_bad}

@@ -1,5 +1,5 @@
-use Rattle.std.proofs.Common.{◌≡◌, ◌∙◌, refl, ap, subst, sym, List, Some}
-use Rattle.std.specs.Prelude.{ℕ, length}
+use Rattle.std.proofs.Common.{◌≡◌, ◌∙◌, refl, ap, subst, sym, Some}
+use Rattle.std.specs.Prelude.{length}
 use Rattle.joint.specs.nodes.Listing.{bytes_of}
 use Rattle.joint.specs.engine.Census.{waiting_nodes}
 use Rattle.std.specs.List.{sum_by}
