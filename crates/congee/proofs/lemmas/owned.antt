@@ -2,6 +2,7 @@ pub mod Answered
 pub mod EntryRanges
 pub mod Clears
 pub mod Contents
+pub mod Covers
 pub mod Cursors
 pub mod Drains
 pub mod Edits

@@ -25,7 +25,7 @@ impl<P: Stored> Nodes<P> {
     ghost use Rattle.congee.specs.owned.Naming.{HasOwnSlot};
     ghost use Rattle.congee.specs.owned.OwnedSteps.{Makes, Sets};
     ghost use Rattle.congee.specs.owned.Renames.{Renames};
-    ghost use Rattle.congee.specs.owned.Stores.{Folds, HasOne, HangsLeaf, HasInline, HasNode, LosesLeaf, MakesLeaf};
+    ghost use Rattle.congee.specs.owned.Stores.{CoversLeaf, Folds, HasOne, HangsLeaf, HasInline, HasNode, LosesLeaf, MakesLeaf};
     ghost use Rattle.congee.specs.declared.forms.base_node.Node.{Node as Form};
     ghost use Rattle.congee.specs.declared.forms.child.Child.TheVariants.{Node as Sub, Value};
 
@@ -39,6 +39,7 @@ impl<P: Stored> Nodes<P> {
         requires spare { HasRoomFor self.old 1 }
         requires begins { (x : Form ℕ P) → get self.old at ≡ Some x → slice_index key.now 0 ≡ first_byte (prefix_of x) byte }
         ensures hangs { (x : Form ℕ P) → get self.old at ≡ Some x → HangsLeaf self.old self.new at x byte key.now value }
+        ensures capacity { self.new.capacity ≡ self.old.capacity }
     {
         prove!(self.inline < self.slab.capacity());
         self.slab[at.slot].put_child(byte, Child::Value(Lone { key: *key, value }));
@@ -122,6 +123,25 @@ impl<P: Stored> Nodes<P> {
                 self.inline -= 1;
                 let Lone { key: _, value } = lone;
                 value
+            }
+            _ => unreachable!(),
+        }
+    }
+
+    /// Puts a node with a slot of its own in the place of a leaf with one value, which lies there, and gives the leaf.
+    #[inline(always)]
+    pub(crate) fn cover_leaf(&mut self, at: Name, byte: u8, below: Name) -> Lone<P>
+        requires stands { ContainsKey self.old at }
+        requires inner { (x : Form ℕ P) → get self.old at ≡ Some x → length (prefix_of x) < MAX_PREFIX_LEN }
+        requires present { (x : Form ℕ P) → get self.old at ≡ Some x → HasInline (map.get (children_of x) byte) }
+        requires own { HasOwnSlot below }
+        ensures covers { (x : Form ℕ P) → get self.old at ≡ Some x → CoversLeaf self.old self.new at x byte below result.key result.value }
+        ensures capacity { self.new.capacity ≡ self.old.capacity }
+    {
+        match self.slab[at.slot].change_child(byte, Child::Node(below.slot)) {
+            Child::Value(lone) => {
+                self.inline -= 1;
+                lone
             }
             _ => unreachable!(),
         }
