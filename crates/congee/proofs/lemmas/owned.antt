@@ -34,6 +34,7 @@ pub mod SlotLens
 pub mod SlotOps
 pub mod Slots
 pub mod Tables
+pub mod Takings
 pub mod Totals
 pub mod Weights
 pub mod Wanting
