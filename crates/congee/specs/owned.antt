@@ -18,6 +18,7 @@ pub mod Lones
 pub mod Owned
 pub mod Place
 pub mod Ranges
+pub mod Ranks
 pub mod Renames
 pub mod Runs
 pub mod Sights
