@@ -36,3 +36,4 @@ pub mod Stats
 pub mod StatsText
 pub mod Walks
 pub mod Ways
+pub mod Writes

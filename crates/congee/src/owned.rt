@@ -24,6 +24,7 @@ mod slots;
 mod stats;
 mod survey;
 mod u64_congee;
+mod writing;
 
 pub use congee::Congee;
 pub use congee_arc::{CongeeArc, Count, owner_of, payload_of};

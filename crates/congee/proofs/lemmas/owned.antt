@@ -37,6 +37,7 @@ pub mod Totals
 pub mod Weights
 pub mod Wanting
 pub mod Ways
+pub mod Writings
 pub mod Tallies
 pub mod Stored
 pub mod Surveys
