@@ -18,14 +18,14 @@ loop-written-init g c =
       rest = c.write_from-written.ensures.pairs w.above.items c.args.start c.seek-walk.ensures.walk.way c.seek-walk.ensures.at;
     }
 
-pub write_from-written-requires-in-Some-clause-stands : goal.write_from-written-requires-in-Some-clause-stands
-write_from-written-requires-in-Some-clause-stands g c =
+pub write_from-written-requires-in-loop-written-clause-stands : goal.write_from-written-requires-in-loop-written-clause-stands
+write_from-written-requires-in-loop-written-clause-stands g c =
     let s = c.args.self.now.nodes in
     let way : IsCursor s (c.pop.new.self.items ++ step c.in-Some.branch.node c.in-Some.branch.from ∷ []) = subst (IsCursor s) c.in-Some.ensures.items c.loop-written.invariant.way in
     (last_of s c.requires c.pop.new.self.items (step c.in-Some.branch.node c.in-Some.branch.from) way).stands
 
-pub write_from-written-requires-in-Some-clause-within : goal.write_from-written-requires-in-Some-clause-within
-write_from-written-requires-in-Some-clause-within g c = c.loop-written.invariant.fills.within
+pub write_from-written-requires-in-loop-written-clause-within : goal.write_from-written-requires-in-loop-written-clause-within
+write_from-written-requires-in-loop-written-clause-within g c = c.loop-written.invariant.fills.within
 
 pub loop-written-preserved : goal.loop-written-preserved
 loop-written-preserved g c =
@@ -35,9 +35,9 @@ loop-written-preserved g c =
     let way : IsCursor s (c.pop.new.self.items ++ step c.in-Some.branch.node c.in-Some.branch.from ∷ []) = subst (IsCursor s) c.in-Some.ensures.items i.way in
     record {
       way = cursor_cut s c.pop.new.self.items (step c.in-Some.branch.node c.in-Some.branch.from) way;
-      fills = fills_on 0 c.args.out.now c.loop-written.out c.write_from-written-in-Some.new.out c.loop-written.written c.write_from-written-in-Some.result i.fills c.write_from-written-in-Some.ensures.fills;
+      fills = fills_on 0 c.args.out.now c.loop-written.out c.write_from-written-in-loop-written.new.out c.loop-written.written c.write_from-written-in-loop-written.result i.fills c.write_from-written-in-loop-written.ensures.fills;
       rest = up_from s g.E.Listed.entry c.args.last c.requires c.loop-written.walk.above.items c.pop.new.self.items c.in-Some.branch.node c.in-Some.branch.from
-          c.loop-written.out c.write_from-written-in-Some.new.out _ c.loop-written.written c.write_from-written-in-Some.result c.in-Some.ensures.items i.way more i.rest c.write_from-written-in-Some.ensures.pairs;
+          c.loop-written.out c.write_from-written-in-loop-written.new.out _ c.loop-written.written c.write_from-written-in-loop-written.result c.in-Some.ensures.items i.way more i.rest c.write_from-written-in-loop-written.ensures.pairs;
     }
 
 pub returns-in_default-clause-pairs : goal.returns-in_default-clause-pairs

@@ -27,7 +27,7 @@ write_from-written-requires g t c κs within =
     let x = standing s c.args.at c.requires.stands in
     let below = child_stands s c.args.at x.node c.loop-byte.from c.in-Some.byte (child_of c.in-Some.child) c.in-Node.below c.requires.tree c.requires.stands x.is (c.in-Some.ensures.first s c.args.at x.node c.sight-sight.ensures x.is) (ap child_of c.in-Node.is) in
     let smaller : 8 - length (heap_of s c.in-Node.below).prefix < 8 - length (heap_of s c.args.at).prefix = omega (arith, below.1.0, below.1.1) in
-    (search rules, (within.0, (within.1, (c.requires.tree, (below.0, c.loop-byte.invariant.filled.within)))))
+    (search rules, (within, (c.requires.tree, (below.0, c.loop-byte.invariant.filled.within))))
 
 pub returns-then-written-clause-fills : goal.returns-then-written-clause-fills
 returns-then-written-clause-fills g t c =
