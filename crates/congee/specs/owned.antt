@@ -19,6 +19,7 @@ pub mod Owned
 pub mod Place
 pub mod Ranges
 pub mod Renames
+pub mod Rows
 pub mod Runs
 pub mod Sights
 pub mod Sizes

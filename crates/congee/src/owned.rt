@@ -17,6 +17,7 @@ mod parting;
 mod place;
 mod places;
 mod removing;
+mod rows;
 mod scan;
 mod sight;
 mod slot_node;

@@ -54,6 +54,14 @@ module _ {E : Type 0} where
   pub filled_fills : (first count : ℕ) (old new : List E) → Filled first count old new → Fills first old new (record { count = count; over = false })
   filled_fills first count old new f = record { more = f.more; within = f.within; long = f.long; past = f.past }
 
+  pub fills_on : (first : ℕ) (old out new : List E) (w now : Written) → Fills first old out w → Fills w.count out new now → Fills first old new now
+  fills_on first old out new w now f m = record {
+    more = omega (arith, f.more, m.more);
+    within = m.within;
+    long = m.long ∙ f.long;
+    past = m.past ∙ drop_more w.count now.count out old m.more f.past;
+  }
+
   -- a pair alone
   pub fills_one : (count : ℕ) (entry : E) (old new : List E) (w : Written) → PutsOne count entry old new w → Fills count old new w
   fills_one count entry old new w p =
