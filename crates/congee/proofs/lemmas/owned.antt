@@ -22,6 +22,7 @@ pub mod RangeLemmas
 pub mod Refilling
 pub mod Renaming
 pub mod Rooms
+pub mod Rows
 pub mod Root
 pub mod Running
 pub mod Scanned

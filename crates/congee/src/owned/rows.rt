@@ -48,7 +48,7 @@ pub(crate) trait Row {
         ensures first { (s : Nodes ℕ) (x : Form ℕ ℕ) (from : ℕ) → sees s self.now → get s (name self.now) ≡ Some x → starts self.now place from
             → MatchOption result ((b : ℕ) → from ≤ b → map.get (children_of x) b ≡ None)
             (λ r. IsFirst (children_of x) from r.byte (child_of r.child) × starts self.now r.after (r.byte + 1)) }
-        ensures leaf { (s : Nodes ℕ) → sees s self.now → IfSome result (λ r. HasLeaf s r.child) }
+        ensures leaf { (s : Nodes ℕ) (from : ℕ) → sees s self.now → starts self.now place from → IfSome result (λ r. HasLeaf s r.child) }
         ensures key { (s : Nodes ℕ) → sees s self.now → IfSome result (λ r. HasKey s (name self.now) r.byte r.child) };
 }
 

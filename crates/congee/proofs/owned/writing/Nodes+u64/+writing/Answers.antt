@@ -1,4 +1,4 @@
-use Rattle.std.proofs.Common.{rules, ◌≡◌, ◌<◌, ◌-◌, length, sym, ap, refl, subst, arith}
+use Rattle.std.proofs.Common.{rules, ◌≡◌, ◌<◌, ◌+◌, ◌-◌, ◌*◌, length, sym, ap, refl, subst, arith}
 use Rattle.congee.specs.Heap.{Below}
 use Rattle.congee.specs.forms.Bytes.{IsFirst}
 use Rattle.congee.specs.forms.Forms.{children_of}
@@ -12,7 +12,11 @@ use Rattle.congee.proofs.owned.writing.Nodes+u64.+writing.Goals as goal
 use Rattle.congee.proofs.owned.writing.Nodes+u64.+writing.Goals.{in-Value, in-Leaf, in-Node}
 
 pub loop-found-init : goal.loop-found-init
-loop-found-init g t c = sets_out c.args.self.now g.E.Listed.entry c.args.last (g.R.Row.name c.args.row) c.args.from c.args.count c.args.out.now c.requires.within
+loop-found-init g t c = record {
+  byte = c.args.from;
+  starts = c.place_from-place.ensures;
+  so = sets_out c.args.self.now g.E.Listed.entry c.args.last (g.R.Row.name c.args.row) c.args.from c.args.count c.args.out.now c.requires.within;
+}
 
 pub unreachable-requires : goal.unreachable-requires
 unreachable-requires g t c =
@@ -26,7 +30,7 @@ write_from-written-requires g t c κs within =
     let s = c.args.self.now in
     let x = standing s (g.R.Row.name c.args.row) c.requires.stands in
     let below = child_stands s (g.R.Row.name c.args.row) x.node c.loop-found.invariant.byte c.in-Some.found.byte (child_of c.in-Some.found.child) c.in-Node.below c.requires.tree c.requires.stands x.is (c.in-Some.ensures.first s x.node c.loop-found.invariant.byte c.requires.sees x.is c.loop-found.invariant.starts).0 (ap child_of c.in-Node.is) in
-    let smaller : 8 - length (heap_of s c.in-Node.below).prefix < 8 - length (heap_of s (g.R.Row.name c.args.row)).prefix = omega (arith, below.1.0, below.1.1) in
+    let smaller : 4 * (8 - length (heap_of s c.in-Node.below).prefix) + 3 < 4 * (8 - length (heap_of s (g.R.Row.name c.args.row)).prefix) + 1 = omega (arith, below.1.0, below.1.1) in
     (search rules, (within.0, (within.1, (c.requires.tree, (below.0, c.loop-found.invariant.so.filled.within)))))
 
 pub returns-then-written-clause-fills : goal.returns-then-written-clause-fills
@@ -44,7 +48,7 @@ returns-then-written-clause-fills g t c =
       | in-Leaf w ↦ rw (w.out-is, w.written-is) (wrote_leaf s entry c.args.last c.requires.tree (g.R.Row.name c.args.row) c.args.from c.args.count c.args.out.now c.loop-found.invariant.byte c.loop-found.count c.loop-found.out c.loop-found.invariant.so c.in-Some.found.byte low
           w.in-Leaf.key w.in-Leaf.field-0 w.in-Leaf.value.now (search rules)
           (λ x e. subst (λ y. IsFirst (children_of x) c.loop-found.invariant.byte c.in-Some.found.byte (child_of y)) w.in-Leaf.is ((c.in-Some.ensures.first s x c.loop-found.invariant.byte c.requires.sees e c.loop-found.invariant.starts).0))
-          (subst (HasLeaf s) w.in-Leaf.is (c.in-Some.ensures.leaf s c.requires.sees))
+          (subst (HasLeaf s) w.in-Leaf.is (c.in-Some.ensures.leaf s c.loop-found.invariant.byte c.requires.sees c.loop-found.invariant.starts))
           w.write_pair-written-in-Leaf.new.out w.write_pair-written-in-Leaf.result
           (record { over = w.write_pair-written-in-Leaf.ensures.over; reason = w.write_pair-written-in-Leaf.ensures.reason; within = w.write_pair-written-in-Leaf.ensures.within; written = w.write_pair-written-in-Leaf.ensures.written }))
       | in-Node w ↦ rw (w.out-is, w.written-is) (wrote_node s entry c.args.last c.requires.tree (g.R.Row.name c.args.row) c.args.from c.args.count c.args.out.now c.loop-found.invariant.byte c.loop-found.count c.loop-found.out c.loop-found.invariant.so c.in-Some.found.byte low
@@ -69,7 +73,7 @@ returns-then-written-clause-pairs g t c =
       | in-Leaf w ↦ rw (w.out-is, w.written-is) (wrote_leaf s entry c.args.last c.requires.tree (g.R.Row.name c.args.row) c.args.from c.args.count c.args.out.now c.loop-found.invariant.byte c.loop-found.count c.loop-found.out c.loop-found.invariant.so c.in-Some.found.byte low
           w.in-Leaf.key w.in-Leaf.field-0 w.in-Leaf.value.now (search rules)
           (λ x e. subst (λ y. IsFirst (children_of x) c.loop-found.invariant.byte c.in-Some.found.byte (child_of y)) w.in-Leaf.is ((c.in-Some.ensures.first s x c.loop-found.invariant.byte c.requires.sees e c.loop-found.invariant.starts).0))
-          (subst (HasLeaf s) w.in-Leaf.is (c.in-Some.ensures.leaf s c.requires.sees))
+          (subst (HasLeaf s) w.in-Leaf.is (c.in-Some.ensures.leaf s c.loop-found.invariant.byte c.requires.sees c.loop-found.invariant.starts))
           w.write_pair-written-in-Leaf.new.out w.write_pair-written-in-Leaf.result
           (record { over = w.write_pair-written-in-Leaf.ensures.over; reason = w.write_pair-written-in-Leaf.ensures.reason; within = w.write_pair-written-in-Leaf.ensures.within; written = w.write_pair-written-in-Leaf.ensures.written }))
       | in-Node w ↦ rw (w.out-is, w.written-is) (wrote_node s entry c.args.last c.requires.tree (g.R.Row.name c.args.row) c.args.from c.args.count c.args.out.now c.loop-found.invariant.byte c.loop-found.count c.loop-found.out c.loop-found.invariant.so c.in-Some.found.byte low
@@ -94,7 +98,7 @@ loop-found-preserved g t c =
       | in-Leaf w ↦ rw (w.out-is, w.written-is) (wrote_leaf s entry c.args.last c.requires.tree (g.R.Row.name c.args.row) c.args.from c.args.count c.args.out.now c.loop-found.invariant.byte c.loop-found.count c.loop-found.out c.loop-found.invariant.so c.in-Some.found.byte low
           w.in-Leaf.key w.in-Leaf.field-0 w.in-Leaf.value.now (search rules)
           (λ x e. subst (λ y. IsFirst (children_of x) c.loop-found.invariant.byte c.in-Some.found.byte (child_of y)) w.in-Leaf.is ((c.in-Some.ensures.first s x c.loop-found.invariant.byte c.requires.sees e c.loop-found.invariant.starts).0))
-          (subst (HasLeaf s) w.in-Leaf.is (c.in-Some.ensures.leaf s c.requires.sees))
+          (subst (HasLeaf s) w.in-Leaf.is (c.in-Some.ensures.leaf s c.loop-found.invariant.byte c.requires.sees c.loop-found.invariant.starts))
           w.write_pair-written-in-Leaf.new.out w.write_pair-written-in-Leaf.result
           (record { over = w.write_pair-written-in-Leaf.ensures.over; reason = w.write_pair-written-in-Leaf.ensures.reason; within = w.write_pair-written-in-Leaf.ensures.within; written = w.write_pair-written-in-Leaf.ensures.written }))
       | in-Node w ↦ rw (w.out-is, w.written-is) (wrote_node s entry c.args.last c.requires.tree (g.R.Row.name c.args.row) c.args.from c.args.count c.args.out.now c.loop-found.invariant.byte c.loop-found.count c.loop-found.out c.loop-found.invariant.so c.in-Some.found.byte low
