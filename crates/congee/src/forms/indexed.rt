@@ -4,8 +4,8 @@ ghost use Rattle.std.specs.Option.{option_copied};
 ghost use Rattle.std.specs.FinMap as map;
 ghost use Rattle.congee.specs.forms.Bytes.{IsFirst};
 
-use crate::forms::index::{EMPTY_MARKER, Index};
 use crate::forms::in_order::{InOrder, Placed};
+use crate::forms::index::{EMPTY_MARKER, Index};
 use arrayvec::ArrayVec;
 use std::marker::Model;
 use std::mem;

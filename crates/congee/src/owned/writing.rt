@@ -99,19 +99,63 @@ impl Nodes<u64> {
         let first = prefix[0];
         match &node.places {
             Places::N4(form) => {
-                self.write_row(Entries { at, slot, first, form }, from, last, out, count)
+                self.write_row(
+                    Entries {
+                        at,
+                        slot,
+                        first,
+                        form,
+                    },
+                    from,
+                    last,
+                    out,
+                    count,
+                )
             }
             Places::N16(n) => {
                 let form = &n.children;
-                self.write_row(Entries { at, slot, first, form }, from, last, out, count)
+                self.write_row(
+                    Entries {
+                        at,
+                        slot,
+                        first,
+                        form,
+                    },
+                    from,
+                    last,
+                    out,
+                    count,
+                )
             }
             Places::N48(n) => {
                 let form = &n.children;
-                self.write_row(Entries { at, slot, first, form }, from, last, out, count)
+                self.write_row(
+                    Entries {
+                        at,
+                        slot,
+                        first,
+                        form,
+                    },
+                    from,
+                    last,
+                    out,
+                    count,
+                )
             }
             Places::N256(n) => {
                 let form = &n.children;
-                self.write_row(Entries { at, slot, first, form }, from, last, out, count)
+                self.write_row(
+                    Entries {
+                        at,
+                        slot,
+                        first,
+                        form,
+                    },
+                    from,
+                    last,
+                    out,
+                    count,
+                )
             }
         }
     }

@@ -100,7 +100,7 @@ module _ {P E : Type 0} (s : Nodes P) (entry : ℕ → P → E) (last : ℕ) whe
   pub record SoFar (at start first : ℕ) (old : List E) (byte count : ℕ) (new : List E) : Type 0 where
     pub filled : Filled first count old new
     pub on : (above : List Branch) (from : ℕ) → IsCursor s (above ++ step at start ∷ []) → IsAt s (above ++ step at start ∷ []) from
-      → Ongoing above at byte count new (with_pairs s entry last old first from)
+        → Ongoing above at byte count new (with_pairs s entry last old first from)
 
   pub sets_out : (at start first : ℕ) (old : List E) → first ≤ length old → SoFar at start first old start first old
   sets_out at start first old l = record {
@@ -143,26 +143,26 @@ module _ {P E : Type 0} (s : Nodes P) (entry : ℕ → P → E) (last : ℕ) whe
         let first = p.first c.from c.at in
         record {
           over = λ o.
-            let n = wp.over o in
-            let done : take count out ≡ all = elim (cases_lt last key) [
-              | inl past ↦ none_more out all count c.from (λ q lo hi. first.0.before q lo (omega (arith, hi, past))) c.pairs
-              | inr l ↦ no_place out all count c.from (wp.reason o l) c.pairs
-            ] in
-            ap (take w.count) n.same ∙ (ap (λ k. take k out) n.count_is ∙ done);
+              let n = wp.over o in
+              let done : take count out ≡ all = elim (cases_lt last key) [
+                | inl past ↦ none_more out all count c.from (λ q lo hi. first.0.before q lo (omega (arith, hi, past))) c.pairs
+                | inr l ↦ no_place out all count c.from (wp.reason o l) c.pairs
+              ] in
+              ap (take w.count) n.same ∙ (ap (λ k. take k out) n.count_is ∙ done);
           next = λ o.
-            let y = wp.written o in
-            record {
-              from = key + 1;
-              at = first.1;
-              pairs = rw (y.count_is, y.set_is) (one_more out all count c.from key v first.0 (wp.within o) y.room c.pairs);
-            };
+              let y = wp.written o in
+              record {
+                from = key + 1;
+                at = first.1;
+                pairs = rw (y.count_is, y.set_is) (one_more out all count c.from key v first.0 (wp.within o) y.room c.pairs);
+              };
         }
 
     -- what hangs in a node under a byte is written
     pub record Wrote (at start first : ℕ) (old : List E) (b : ℕ) (new : List E) (w : Written) : Type 0 where
       pub filled : Filled first w.count old new
       pub on : (above : List Branch) (from : ℕ) → IsCursor s (above ++ step at start ∷ []) → IsAt s (above ++ step at start ∷ []) from
-        → IsCursor s (above ++ step at (b + 1) ∷ []) × Remains s entry last (above ++ step at (b + 1) ∷ []) new w (with_pairs s entry last old first from)
+          → IsCursor s (above ++ step at (b + 1) ∷ []) × Remains s entry last (above ++ step at (b + 1) ∷ []) new w (with_pairs s entry last old first from)
 
     module _ (at start first : ℕ) (old : List E) (byte count : ℕ) (out : List E) (so : SoFar at start first old byte count out) where
       -- a pair
@@ -184,10 +184,10 @@ module _ {P E : Type 0} (s : Nodes P) (entry : ℕ → P → E) (last : ℕ) whe
         wrote_value key v large next has new w p = record {
           filled = filled_more first count old out new w so.filled (fills_pair key v new w p);
           on = λ above from way here.
-            let o = so.on above from way here in
-            let steps = above ++ step at byte ∷ [] in
-            let passes = passes_value s t above at byte o.way steps (same_ahead s steps) b low key v large next has in
-            (passes.way, passed steps steps (above ++ step at (b + 1) ∷ []) key v count out (with_pairs s entry last old first from) new w passes o.rest p);
+              let o = so.on above from way here in
+              let steps = above ++ step at byte ∷ [] in
+              let passes = passes_value s t above at byte o.way steps (same_ahead s steps) b low key v large next has in
+              (passes.way, passed steps steps (above ++ step at (b + 1) ∷ []) key v count out (with_pairs s entry last old first from) new w passes o.rest p);
         }
 
         pub wrote_leaf : (key below : ℕ) (v : P) → key < 2 ^ 64 → HangsNext (Sub below) → StandsWith s below key v
@@ -195,10 +195,10 @@ module _ {P E : Type 0} (s : Nodes P) (entry : ℕ → P → E) (last : ℕ) whe
         wrote_leaf key below v large next leaf new w p = record {
           filled = filled_more first count old out new w so.filled (fills_pair key v new w p);
           on = λ above from way here.
-            let o = so.on above from way here in
-            let steps = above ++ step at byte ∷ [] in
-            let passes = passes_leaf s t above at byte o.way steps (same_ahead s steps) b low key below v large next leaf in
-            (passes.way, passed steps steps (above ++ step at (b + 1) ∷ []) key v count out (with_pairs s entry last old first from) new w passes o.rest p);
+              let o = so.on above from way here in
+              let steps = above ++ step at byte ∷ [] in
+              let passes = passes_leaf s t above at byte o.way steps (same_ahead s steps) b low key below v large next leaf in
+              (passes.way, passed steps steps (above ++ step at (b + 1) ∷ []) key v count out (with_pairs s entry last old first from) new w passes o.rest p);
         }
 
         -- a node with a slot of its own
@@ -207,12 +207,12 @@ module _ {P E : Type 0} (s : Nodes P) (entry : ℕ → P → E) (last : ℕ) whe
         wrote_node below next new w f writes = record {
           filled = filled_more first count old out new w so.filled f;
           on = λ above from way here.
-            let o = so.on above from way here in
-            let steps = above ++ step at byte ∷ [] in
-            let passed_by = above ++ step at (b + 1) ∷ [] in
-            let down = goes_down s t above at byte o.way steps (same_ahead s steps) b low below next in
-            let rest = writes passed_by o.rest.from down.on.way (same_at s steps (passed_by ++ step below 0 ∷ []) o.rest.from down.on.same o.rest.at) in
-            (cursor_cut s passed_by (step below 0) down.on.way, subst (Remains s entry last passed_by new w) o.rest.pairs rest);
+              let o = so.on above from way here in
+              let steps = above ++ step at byte ∷ [] in
+              let passed_by = above ++ step at (b + 1) ∷ [] in
+              let down = goes_down s t above at byte o.way steps (same_ahead s steps) b low below next in
+              let rest = writes passed_by o.rest.from down.on.way (same_at s steps (passed_by ++ step below 0 ∷ []) o.rest.from down.on.same o.rest.at) in
+              (cursor_cut s passed_by (step below 0) down.on.way, subst (Remains s entry last passed_by new w) o.rest.pairs rest);
         }
 
       -- nothing is left in the node
@@ -242,8 +242,8 @@ module _ {P E : Type 0} (s : Nodes P) (entry : ℕ → P → E) (last : ℕ) whe
       goes_on o = record {
         filled = did.filled;
         on = λ above from way here.
-          let both = did.on above from way here in
-          record { way = both.0; rest = both.1.next o };
+            let both = did.on above from way here in
+            record { way = both.0; rest = both.1.next o };
       }
 
     -- the node of the last step is written, then the steps above are left
