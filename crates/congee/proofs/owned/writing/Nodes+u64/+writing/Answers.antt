@@ -31,7 +31,7 @@ write_from-written-requires g t c κs within =
     let x = standing s (g.R.Row.name c.args.row) c.requires.stands in
     let below = child_stands s (g.R.Row.name c.args.row) x.node c.loop-found.invariant.byte c.in-Some.found.byte (child_of c.in-Some.found.child) c.in-Node.below c.requires.tree c.requires.stands x.is (c.in-Some.ensures.first s x.node c.loop-found.invariant.byte c.requires.sees x.is c.loop-found.invariant.starts).0 (ap child_of c.in-Node.is) in
     let smaller : 4 * (8 - length (heap_of s c.in-Node.below).prefix) + 3 < 4 * (8 - length (heap_of s (g.R.Row.name c.args.row)).prefix) + 1 = omega (arith, below.1.0, below.1.1) in
-    (search rules, (within.0, (within.1, (c.requires.tree, (below.0, c.loop-found.invariant.so.filled.within)))))
+    (search rules, (within, (c.requires.tree, (below.0, c.loop-found.invariant.so.filled.within))))
 
 pub returns-then-written-clause-fills : goal.returns-then-written-clause-fills
 returns-then-written-clause-fills g t c =
