@@ -13,7 +13,7 @@ while True:
                 cwd=os.readlink(f"/proc/{pid}/cwd"); rss=int(open(f"/proc/{pid}/statm").read().split()[1])*4096
                 a=open(f"/proc/{pid}/cmdline","rb").read()
             except OSError: continue
-            if (cwd.startswith("ROOM/") or cwd.startswith("/tmp/mini")) and rss>300e6 and (best is None or rss>best[0]): best=(rss,int(pid),cwd,a[:80])
+            if (cwd.startswith("ROOM/") or cwd.startswith("ROOM/mini")) and rss>300e6 and (best is None or rss>best[0]): best=(rss,int(pid),cwd,a[:80])
         if best:
             open("ROOM/memdog.log","a").write(f"{time.ctime()} killed {best} avail {avail()}\n")
             try: os.kill(best[1],signal.SIGTERM)

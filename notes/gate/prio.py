@@ -13,7 +13,7 @@ while True:
         want=None
         if a0.endswith("bin/rattle") and verb=="check": want=0 if b"trial" in args and cwd.startswith("GATE") else 3
         elif a0.endswith("rattle-try") or "toolchain/bin/clang" in a0 or "valgrind" in a0: want=12
-        if cwd.startswith("/tmp/mini") and a0.endswith("bin/rattle"): want=7
+        if cwd.startswith("ROOM/mini") and a0.endswith("bin/rattle"): want=7
         if cwd.startswith("ROOM/joint") or cwd.startswith("ROOM/trial"):
             if a0.endswith("bin/rattle") and "rattle-try" not in a0: want=7
         if want is None: continue
