@@ -327,7 +327,8 @@ impl<P: Payload + Small, A: Allocator> Engine<P, A> {
         ensures census { self.new.census ≡ self.old.census }
     {
         progress::<P>();
-        let InFlight::Reserving(op) = self.take_call(who) else {
+        let call = std::mem::replace(&mut self.calls[who], InFlight::Idle);
+        let InFlight::Reserving(op) = call else {
             unreachable!()
         };
         self.collect(who, Event::Begin(crossbeam_epoch::Op::Secure(2)));
@@ -342,7 +343,8 @@ impl<P: Payload + Small, A: Allocator> Engine<P, A> {
         ensures census { self.new.census ≡ self.old.census }
     {
         progress::<P>();
-        let InFlight::Securing(op) = self.take_call(who) else {
+        let call = std::mem::replace(&mut self.calls[who], InFlight::Idle);
+        let InFlight::Securing(op) = call else {
             unreachable!()
         };
         let report = self.collect(who, Event::Go);
@@ -352,18 +354,6 @@ impl<P: Payload + Small, A: Allocator> Engine<P, A> {
             Outcome::Refused(_) => {}
         }
         report
-    }
-
-    /// Takes the call in flight out of a worker's place.
-    fn take_call(&mut self, who: usize) -> InFlight<P>
-        requires { who < length self.old.calls.items }
-        ensures taken { slice_get self.old.calls.items who ≡ Some result }
-        ensures calls { self.new.calls.items ≡ slice_set self.old.calls.items who InFlight.Idle }
-        ensures nodes { self.new.nodes ≡ self.old.nodes }
-        ensures machines { self.new.machines ≡ self.old.machines }
-        ensures census { self.new.census ≡ self.old.census }
-    {
-        std::mem::replace(&mut self.calls[who], InFlight::Idle)
     }
 
     /// Ends a worker's call on the tree that has this outcome, where it is over, and puts a scan that is done out of its place.
