@@ -13,12 +13,12 @@ pub(crate) mod request;
 pub(crate) mod step;
 pub(crate) mod waiting;
 
-ghost use Rattle.std.specs.Prelude.{◌≡◌, ◌<◌, ℕ, List, Option, Some, None, length, slice_get, slice_set, replicate, is_some, true, IfOk, MatchResult, if◌then◌else◌};
+ghost use Rattle.std.specs.Prelude.{◌≡◌, ◌<◌, ℕ, List, Some, length, slice_get, slice_set, replicate, true, IfOk, MatchResult, if◌then◌else◌};
 ghost use Rattle.crossbeam_epoch.specs.declared.bag.Work.{Work};
 ghost use Rattle.crossbeam_epoch.specs.World.Machine.{deferred, place};
-ghost use Rattle.congee.specs.protocol.Play.{StepPlays, IsNew, begun};
-ghost use Rattle.joint.specs.nodes.Nodes.{nodes, frame, Refuses, with_collector};
-ghost use Rattle.joint.specs.engine.Intact.{IsSecuring, MayStart, BeginsSecuring, Secured, WalkedOn, call_after, cleared, is_reserving, resting, over_at, root, writes};
+ghost use Rattle.congee.specs.protocol.Play.{begun};
+ghost use Rattle.joint.specs.nodes.Nodes.{nodes, with_collector};
+ghost use Rattle.joint.specs.engine.Intact.{IsSecuring, MayStart, BeginsSecuring, Secured, call_after, cleared, is_reserving, resting, root};
 ghost use Rattle.joint.specs.engine.Laws.{CellLaws, CallLaws, ProgressLaws};
 ghost use Rattle.joint.specs.declared.engine.in_flight.InFlight.TheVariants as InFlight;
 ghost use Rattle.crossbeam_epoch.specs.declared.world.report.Event.TheVariants as Event;
@@ -26,7 +26,7 @@ ghost use Rattle.joint.specs.nodes.Opening.{IsOpened, IsUnopened};
 ghost use Rattle.joint.specs.engine.Engine.{IsFresh, EngineHolds, is_in_flight};
 ghost use Rattle.joint.specs.Reports.{told};
 ghost use Rattle.joint.specs.nodes.View.{id_number};
-ghost use Rattle.joint.specs.engine.Safety.{IsSafe, Rests, Runs, Owes, IsSafeOrOwes, Walked, Collected, retiring_at};
+ghost use Rattle.joint.specs.engine.Safety.{Rests, Runs, Owes, Walked, Collected};
 ghost use Rattle.joint.specs.nodes.Slots.{slot_names};
 ghost use Rattle.joint.specs.engine.State.{state_of, EngineIntact, EngineCounted, EngineSafe};
 

@@ -134,13 +134,6 @@ impl<P: Payload + Small, A: Allocator> Nodes<P, A> {
         self.counts.standing
     }
 
-    /// The version at which no node can be locked any more.
-    pub fn version_max(&self) -> u64
-        ensures { result ≡ self.now.version_max }
-    {
-        self.version_max
-    }
-
     /// The slot of a node that stands.
     pub(crate) fn slot(&self, at: Id) -> &Slot<P>
         requires { Stands (nodes self.now (id_number at)) }

@@ -1,6 +1,6 @@
 //! The collector's calls on the nodes.
 
-ghost use Rattle.std.specs.Prelude.{◌≡◌, ◌<◌, ℕ, List, ◌∷◌, [], Some, None, IfOk, OnOk, OnErr, MatchResult, MatchOption, IsTrue, length, unwrap_or, is_some, not, true, false, ◌==◌, ◌&&◌};
+ghost use Rattle.std.specs.Prelude.{◌≡◌, ◌<◌, ℕ, List, ◌∷◌, [], Some, None, IfOk, OnOk, OnErr, MatchResult, MatchOption, length, unwrap_or, not, true, false, ◌==◌, ◌&&◌};
 ghost use Rattle.std.specs.Result.{result_ok};
 ghost use Rattle.crossbeam_epoch.specs.Limits.{bag_places};
 ghost use Rattle.crossbeam_epoch.specs.declared.bag.Work.{Work};

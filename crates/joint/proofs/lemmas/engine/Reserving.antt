@@ -1,7 +1,7 @@
 -- A writing call begins, may be ended before its first step, and in that begins to make places free.
 use Rattle.std.proofs.Common.{◌≡◌, ◌<◌, ℕ, Bool, true, List, refl, sym, ◌∙◌, ap, subst, inl, inr}
 use Rattle.std.proofs.Math.ListN.{set}
-use Rattle.std.specs.Prelude.{Option, None, Some, is_none, is_some, length, option_map, slice_get, if◌then◌else◌}
+use Rattle.std.specs.Prelude.{Option, None, Some, is_none, is_some, length, slice_get, if◌then◌else◌}
 use Rattle.std.proofs.lemmas.List.{length-set, set-set, get_or-set_same}
 use Rattle.crossbeam_epoch.specs.declared.fault.Fault.TheVariants.{Unpinned, Unknown}
 use Rattle.crossbeam_epoch.specs.declared.names.Name.{Name}

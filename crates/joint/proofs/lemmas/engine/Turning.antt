@@ -1,7 +1,7 @@
 -- Each begin and each step of a call in flight is the machine's, with its first cause where it is refused.
 use Rattle.std.proofs.Common.{◌≡◌, ◌+◌, ◌<◌, ℕ, zero, suc, Bool, true, false, List, [], ◌∷◌, refl, sym, ◌∙◌, ap, subst}
 use Rattle.std.proofs.Math.ListN.{set}
-use Rattle.std.specs.Prelude.{◌&&◌, Option, None, Some, is_none, is_some, length, option_map, slice_get, if◌then◌else◌}
+use Rattle.std.specs.Prelude.{◌&&◌, Option, None, Some, is_none, is_some, length, slice_get, if◌then◌else◌}
 use Rattle.crossbeam_epoch.specs.declared.fault.Fault.{Fault}
 use Rattle.crossbeam_epoch.specs.declared.fault.Fault.TheVariants as fault
 use Rattle.crossbeam_epoch.specs.declared.world.report.Event.TheVariants as collector_event
@@ -33,7 +33,7 @@ use Rattle.congee.specs.declared.protocol.machine.Noise.{Noise}
 use Rattle.joint.specs.declared.steps.Event.TheVariants.{Go}
 use Rattle.joint.specs.engine.Beginning.{BeginsUnless, Begun}
 use Rattle.joint.specs.nodes.Nodes.{IsCharged, sizes}
-use Rattle.joint.specs.engine.Intact.{IsIntact, IsSecuring, call_after, root, writes}
+use Rattle.joint.specs.engine.Intact.{IsIntact, call_after, root, writes}
 use Rattle.joint.specs.engine.Laws.{ProgressLaws}
 use Rattle.joint.specs.engine.Safety.{Collected}
 use Rattle.joint.specs.Refusals.{of_fault}

@@ -1,5 +1,5 @@
 use Rattle.joint.specs.engine.Log.{no_log}
-use Rattle.std.proofs.Common.{◌≡◌, refl, sym, ◌∙◌, ap}
+use Rattle.std.proofs.Common.{◌≡◌, refl, ◌∙◌, ap}
 use Rattle.std.specs.Prelude.{◌&&◌, is_some}
 use Rattle.crossbeam_epoch.specs.World.Machine.{place}
 use Rattle.joint.specs.declared.engine.in_flight.InFlight.TheVariants.{Idle}

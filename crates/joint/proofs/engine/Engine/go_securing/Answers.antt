@@ -1,7 +1,6 @@
-use Rattle.std.proofs.Common.{◌≡◌, ◌<◌, ℕ, arith, length, refl, rules, sym, ◌∙◌, ap, subst}
+use Rattle.std.proofs.Common.{◌≡◌, ◌<◌, arith, length, refl, rules, sym, ◌∙◌, ap}
 use Rattle.std.specs.Prelude.{Some, slice_get, slice_set}
 use Rattle.std.specs.Vec.{vec_len}
-use Rattle.std.proofs.lemmas.List.{length-set}
 use Rattle.std.proofs.lemmas.Option.{slice_get_read}
 use Rattle.crossbeam_epoch.specs.declared.world.report.Event.TheVariants.{Go}
 use Rattle.congee.specs.protocol.Play.{begun}

@@ -1,10 +1,8 @@
 use Rattle.std.proofs.Common.{◌<◌, ℕ, length, refl, sym, ◌∙◌, ap, subst}
-use Rattle.std.specs.Prelude.{Some, slice_get}
-use Rattle.std.proofs.lemmas.Option.{slice_get_read}
+use Rattle.std.specs.Prelude.{slice_get}
 use Rattle.crossbeam_epoch.specs.World.Machine.{place}
 use Rattle.joint.specs.engine.Log.{no_log}
 use Rattle.joint.specs.declared.refusal.Refusal.TheVariants.{Unknown}
-use Rattle.joint.specs.declared.engine.in_flight.InFlight.TheVariants.{Idle}
 use Rattle.joint.specs.declared.steps.Event.TheVariants.{Begin}
 use Rattle.joint.specs.declared.steps.Outcome.TheVariants.{Refused}
 use Rattle.joint.specs.declared.steps.Target.TheVariants.{Collector, Tree, Survey}
