@@ -13,12 +13,12 @@ pub(crate) mod request;
 pub(crate) mod step;
 pub(crate) mod waiting;
 
-ghost use Rattle.std.specs.Prelude.{◌≡◌, ◌<◌, ℕ, List, Option, Some, None, length, slice_get, slice_set, replicate, is_some, true, IfOk, MatchResult, if◌then◌else◌};
+ghost use Rattle.std.specs.Prelude.{◌≡◌, ◌<◌, ℕ, List, Some, length, slice_get, slice_set, replicate, true, IfOk, MatchResult, if◌then◌else◌};
 ghost use Rattle.crossbeam_epoch.specs.declared.bag.Work.{Work};
 ghost use Rattle.crossbeam_epoch.specs.World.Machine.{deferred, place};
-ghost use Rattle.congee.specs.protocol.Play.{StepPlays, IsNew, begun};
-ghost use Rattle.joint.specs.nodes.Nodes.{nodes, frame, Refuses, with_collector};
-ghost use Rattle.joint.specs.engine.Intact.{IsSecuring, MayStart, BeginsSecuring, Secured, WalkedOn, call_after, cleared, is_reserving, resting, over_at, root, writes};
+ghost use Rattle.congee.specs.protocol.Play.{begun};
+ghost use Rattle.joint.specs.nodes.Nodes.{nodes, with_collector};
+ghost use Rattle.joint.specs.engine.Intact.{IsSecuring, MayStart, BeginsSecuring, Secured, call_after, cleared, is_reserving, resting, root};
 ghost use Rattle.joint.specs.engine.Laws.{CellLaws, CallLaws, ProgressLaws};
 ghost use Rattle.joint.specs.declared.engine.in_flight.InFlight.TheVariants as InFlight;
 ghost use Rattle.crossbeam_epoch.specs.declared.world.report.Event.TheVariants as Event;
@@ -26,7 +26,7 @@ ghost use Rattle.joint.specs.nodes.Opening.{IsOpened, IsUnopened};
 ghost use Rattle.joint.specs.engine.Engine.{IsFresh, EngineHolds, is_in_flight};
 ghost use Rattle.joint.specs.Reports.{told};
 ghost use Rattle.joint.specs.nodes.View.{id_number};
-ghost use Rattle.joint.specs.engine.Safety.{IsSafe, Rests, Runs, Owes, IsSafeOrOwes, Walked, Collected, retiring_at};
+ghost use Rattle.joint.specs.engine.Safety.{Rests, Runs, Owes, Walked, Collected};
 ghost use Rattle.joint.specs.nodes.Slots.{slot_names};
 ghost use Rattle.joint.specs.engine.State.{state_of, EngineIntact, EngineCounted, EngineSafe};
 
@@ -64,37 +64,6 @@ pub(crate) fn call_laws<P: Payload + Small>()
     Machine::<Id, P>::holds();
     Machine::<Id, P>::tree();
     Machine::<Id, P>::exchanged();
-}
-
-/// The node that the worker's next step hands over for its destruction.
-fn retiring<P: Payload + Small>(machines: &[Machine<Id, P>], who: usize) -> Option<Id>
-    ensures { result ≡ retiring_at (slice_get machines.now who) }
-{
-    if who < machines.len() {
-        machines[who].retires()
-    } else {
-        None
-    }
-}
-
-/// One step of a worker's call on the tree, but for the deferral of the node that it marks.
-#[inline(always)]
-fn step_tree<P: Payload + Small, A: Allocator>(
-    store: &mut Nodes<P, A>,
-    machines: &mut [Machine<Id, P>],
-    step: Step<Id, P>,
-) -> Move<P>
-    requires safe { IsSafe P.same_as P.always_copies store.old machines.old }
-    requires runs { Runs machines.old step.who }
-    ensures plays { StepPlays id_number P.same_as P.always_copies store.old.version_max (Refuses store.old) (nodes store.old) machines.old step result (nodes store.new) machines.new }
-    ensures frame { frame store.new ≡ frame store.old }
-    ensures long { length machines.new ≡ length machines.old }
-    ensures safe { IsSafeOrOwes P.same_as P.always_copies (retiring_at (slice_get machines.old step.who)) store.new machines.new step.who }
-{
-    cell_laws::<P>();
-    call_laws::<P>();
-    Machine::<Id, P>::leaves::<Nodes<P, A>>();
-    step_of(store, machines, step)
 }
 
 /// What the collector's laws say of a call's way to its end.
@@ -233,9 +202,9 @@ impl<P: Payload + Small, A: Allocator> Engine<P, A> {
         }
     }
 
-    /// One step of a worker's call on the tree.
+    /// One step of a worker's call on the tree, which is still in its place after the last one.
     #[inline(always)]
-    fn walk(&mut self, who: usize, noise: Noise<Id, P>) -> Move<P>
+    pub(crate) fn walk(&mut self, who: usize, noise: Noise<Id, P>) -> Move<P>
         requires safe { EngineSafe P.same_as P.always_copies (state_of self.old) }
         requires runs { Runs self.old.machines.items who }
         ensures walked { Walked P.same_as P.always_copies self.old.nodes self.old.machines.items (record { who = who; noise = noise }) result self.new.nodes self.new.machines.items }
@@ -243,8 +212,10 @@ impl<P: Payload + Small, A: Allocator> Engine<P, A> {
         ensures census { self.new.census ≡ self.old.census }
     {
         cell_laws::<P>();
-        let owed = retiring(&self.machines, who);
-        let moved = step_tree(&mut self.nodes, &mut self.machines, Step { who, noise });
+        call_laws::<P>();
+        Machine::<Id, P>::leaves::<Nodes<P, A>>();
+        let owed = self.machines[who].retires();
+        let moved = step_of(&mut self.nodes, &mut self.machines, Step { who, noise });
         if let Some(node) = owed {
             self.hand_over(who, node);
         }
@@ -306,23 +277,11 @@ impl<P: Payload + Small, A: Allocator> Engine<P, A> {
         ensures census { self.new.census ≡ self.old.census }
     {
         call_laws::<P>();
-        self.begin_machine(who, op);
-        self.set_call(who, InFlight::Walking);
-    }
-
-    /// Begins a call on the tree where another one lies in a worker's place.
-    fn begin_machine(&mut self, who: usize, op: Op<P>)
-        requires { who < length self.old.machines.items }
-        ensures machines { self.new.machines.items ≡ slice_set self.old.machines.items who (begun root op) }
-        ensures new { IsNew (begun root op) }
-        ensures nodes { self.new.nodes ≡ self.old.nodes }
-        ensures calls { self.new.calls ≡ self.old.calls }
-        ensures census { self.new.census ≡ self.old.census }
-    {
         let root = Id {
             name: Name { cell: 0, turn: 0 },
         };
         self.machines[who].begin(root, op);
+        self.set_call(who, InFlight::Walking);
     }
 
     /// Puts another call on the tree in a worker's place.
@@ -334,22 +293,6 @@ impl<P: Payload + Small, A: Allocator> Engine<P, A> {
         ensures census { self.new.census ≡ self.old.census }
     {
         self.machines[who] = machine;
-    }
-
-    /// Begins a writing call in the place of a pinned worker: it takes no step yet.
-    pub(crate) fn reserve(&mut self, who: usize, op: Op<P>)
-        requires intact { EngineIntact P.same_as P.always_copies (state_of self.old) }
-        requires idle { slice_get self.old.calls.items who ≡ Some InFlight.Idle }
-        requires registered { (place self.old.nodes.collector who).registered ≡ true }
-        requires pinned { is_some (place self.old.nodes.collector who).word ≡ true }
-        requires writes { writes op ≡ true }
-        ensures intact { EngineIntact P.same_as P.always_copies (state_of self.new) }
-        ensures nodes { self.new.nodes ≡ self.old.nodes }
-        ensures machines { self.new.machines ≡ self.old.machines }
-        ensures calls { self.new.calls.items ≡ slice_set self.old.calls.items who (InFlight.Reserving op) }
-        ensures census { self.new.census ≡ self.old.census }
-    {
-        self.set_call(who, InFlight::Reserving(op));
     }
 
     /// Whether a worker's call is a writing one that has taken no step.
@@ -384,7 +327,8 @@ impl<P: Payload + Small, A: Allocator> Engine<P, A> {
         ensures census { self.new.census ≡ self.old.census }
     {
         progress::<P>();
-        let InFlight::Reserving(op) = self.take_call(who) else {
+        let call = std::mem::replace(&mut self.calls[who], InFlight::Idle);
+        let InFlight::Reserving(op) = call else {
             unreachable!()
         };
         self.collect(who, Event::Begin(crossbeam_epoch::Op::Secure(2)));
@@ -399,7 +343,8 @@ impl<P: Payload + Small, A: Allocator> Engine<P, A> {
         ensures census { self.new.census ≡ self.old.census }
     {
         progress::<P>();
-        let InFlight::Securing(op) = self.take_call(who) else {
+        let call = std::mem::replace(&mut self.calls[who], InFlight::Idle);
+        let InFlight::Securing(op) = call else {
             unreachable!()
         };
         let report = self.collect(who, Event::Go);
@@ -411,48 +356,23 @@ impl<P: Payload + Small, A: Allocator> Engine<P, A> {
         report
     }
 
-    /// Takes the call in flight out of a worker's place.
-    fn take_call(&mut self, who: usize) -> InFlight<P>
-        requires { who < length self.old.calls.items }
-        ensures taken { slice_get self.old.calls.items who ≡ Some result }
-        ensures calls { self.new.calls.items ≡ slice_set self.old.calls.items who InFlight.Idle }
-        ensures nodes { self.new.nodes ≡ self.old.nodes }
-        ensures machines { self.new.machines ≡ self.old.machines }
-        ensures census { self.new.census ≡ self.old.census }
-    {
-        std::mem::replace(&mut self.calls[who], InFlight::Idle)
-    }
-
-    /// Puts a scan that is done out of its worker's place.
+    /// Ends a worker's call on the tree that has this outcome, where it is over, and puts a scan that is done out of its place.
     #[inline(always)]
-    fn clear(&mut self, who: usize)
-        requires { who < length self.old.machines.items }
-        ensures machines { self.new.machines.items ≡ cleared self.old.machines.items who }
+    pub(crate) fn put_away(&mut self, who: usize, outcome: &congee::Outcome<P>)
+        requires machines { who < length self.old.machines.items }
+        requires calls { who < length self.old.calls.items }
+        ensures machines { self.new.machines.items ≡ (if is_in_flight (told outcome.now) then self.old.machines.items else cleared self.old.machines.items who) }
+        ensures calls { self.new.calls.items ≡ (if is_in_flight (told outcome.now) then self.old.calls.items else slice_set self.old.calls.items who InFlight.Idle) }
         ensures nodes { self.new.nodes ≡ self.old.nodes }
-        ensures calls { self.new.calls ≡ self.old.calls }
         ensures census { self.new.census ≡ self.old.census }
     {
-        if self.machines[who].has_scanned() {
+        if goes_on(outcome) {
+            return;
+        }
+        let scanned = self.machines[who].has_scanned();
+        self.set_call(who, InFlight::Idle);
+        if scanned {
             self.set_machine(who, resting());
         }
-    }
-
-    /// The next step of a call on the tree.
-    #[inline(always)]
-    pub(crate) fn go_walking(&mut self, who: usize, noise: Noise<Id, P>) -> Move<P>
-        requires intact { EngineIntact P.same_as P.always_copies (state_of self.old) }
-        requires on { slice_get self.old.calls.items who ≡ Some InFlight.Walking }
-        ensures intact { EngineIntact P.same_as P.always_copies (state_of self.new) }
-        ensures walked { WalkedOn P.same_as P.always_copies self.old.nodes self.old.machines.items (record { who = who; noise = noise }) result self.new.nodes self.new.machines.items }
-        ensures calls { self.new.calls.items ≡ slice_set self.old.calls.items who (if over_at (slice_get self.new.machines.items who) then InFlight.Idle else InFlight.Walking) }
-        ensures census { self.new.census ≡ self.old.census }
-    {
-        call_laws::<P>();
-        let moved = self.walk(who, noise);
-        if !goes_on(&moved.outcome) {
-            self.clear(who);
-            self.set_call(who, InFlight::Idle);
-        }
-        moved
     }
 }

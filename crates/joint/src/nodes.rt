@@ -128,16 +128,10 @@ impl<P: Payload + Small, A: Allocator> Nodes<P, A> {
 
     /// The nodes that stand.
     pub fn standing(&self) -> u64
-        ensures { result ≡ total (λ slot. 1) self.now.collector.store }
+        ensures value { result ≡ total (λ slot. 1) self.now.collector.store }
+        ensures sum { IsCharged self.now }
     {
         self.counts.standing
-    }
-
-    /// The version at which no node can be locked any more.
-    pub fn version_max(&self) -> u64
-        ensures { result ≡ self.now.version_max }
-    {
-        self.version_max
     }
 
     /// The slot of a node that stands.

@@ -1,5 +1,5 @@
 -- What a line is, from the words that were read of it.
-use Rattle.std.proofs.Common.{◌≡◌, ℕ, ◌<◌, ◌≤◌, List, [], ◌∷◌, map, get_or, refl, ap, sym, subst, ◌∙◌, arith, length, Some, true, false, ◌==◌}
+use Rattle.std.proofs.Common.{◌≡◌, ◌≢◌, ℕ, ◌<◌, ◌≤◌, List, [], ◌∷◌, map, get_or, refl, ap, sym, subst, ◌∙◌, arith, length, Some, false, ◌==◌}
 use Rattle.std.proofs.lemmas.List.{length-map}
 use Rattle.std.specs.List.{slice_split, onto_first, join_with_byte, AllZip}
 use Rattle.std.proofs.lemmas.Bool.{true≢false}
@@ -11,10 +11,10 @@ use Rattle.trial.specs.declared.line.Line.{Line}
 use Rattle.trial.specs.declared.line.Line.TheVariants as line
 use Rattle.trial.specs.Line.{IsLine}
 use Rattle.trial.specs.Grammar.{command_words, spelling, Spells, IsSkipped}
-use Rattle.trial.specs.Parsing.{command_of, is_skipped_text}
+use Rattle.trial.specs.Parsing.{command_of}
 use Rattle.trial.proofs.Commands.{command_sound, command_complete}
 use Rattle.trial.proofs.Spelling.{ArePlain, small_from_read, spelled_from_read, words_from_spelled, reads_spelled, first_begins, command_plain, command_some, split_command, command_few}
-use Rattle.trial.proofs.Splitting.{is_space, equal_from_true}
+use Rattle.trial.proofs.Splitting.{is_space}
 
 -- what is parsed from a line's words is spelled by the line
 pub line_sound : (line : List ℕ) (ws : List Word) (c : Command) → length line ≤ 1000 → AllZip Reads (slice_split is_space line) ws
@@ -45,15 +45,10 @@ no_command_so_long line c long h =
     let same = ap length (parts_of line c h) in
     omega (arith, command_few c, length-map (command_words c) spelled)
 
--- what isn't skipped
-pub not_skipped : (line : List ℕ) → is_skipped_text line ≡ false → IsSkipped line → ⊥
-not_skipped [] e h = true≢false e
-not_skipped (b ∷ bs) e h = true≢false (sym (ap (λ n. n == 35) h.0) ∙ e)
-
--- what is skipped, where it has at most 1,000 bytes
-pub skipped : (line : List ℕ) → is_skipped_text line ≡ true → length line ≤ 1000 → IsSkipped line
-skipped [] e short = tt
-skipped (b ∷ bs) e short = (equal_from_true b 35 e, short)
+-- what isn't empty and doesn't begin with `#` isn't skipped
+pub not_skipped : (line : List ℕ) → (length line == 0) ≡ false → get_or line 0 0 ≢ 35 → IsSkipped line → ⊥
+not_skipped [] e f h = true≢false e
+not_skipped (b ∷ bs) e f h = f h.0
 
 -- the first byte of the first part
 part_begins : (b : ℕ) (parts : List (List ℕ)) → get_or (get_or (onto_first b parts) 0 []) 0 0 ≡ b

@@ -1,5 +1,5 @@
 -- What the parser makes of the words of a line, for its private functions.
-use Rattle.std.specs.Prelude.{◌^◌, ℕ, Bool, true, ◌==◌, ◌&&◌, nat_lt, nat_le, List, [], ◌∷◌, Option, None, Some, if◌then◌else◌}
+use Rattle.std.specs.Prelude.{◌^◌, ℕ, ◌&&◌, nat_lt, nat_le, List, [], ◌∷◌, Option, None, Some, if◌then◌else◌}
 use Rattle.std.specs.Option.{option_map}
 use Rattle.trial.specs.declared.command.Call.{Call}
 use Rattle.trial.specs.declared.command.Call.TheVariants as call
@@ -105,8 +105,3 @@ command_of (Key k ∷ []) = plain_command_of k
 command_of (Key key.New ∷ Number p ∷ Number c ∷ words) = opening_of p c words
 command_of (Number w ∷ words) = if nat_lt w (2 ^ 32) then worker_command_of w words else None
 command_of _ = None
-
--- whether a line is empty or begins with `#`
-abbrev pub is_skipped_text : List ℕ → Bool
-is_skipped_text [] = true
-is_skipped_text (b ∷ bs) = b == 35

@@ -1,6 +1,5 @@
 -- The words of the script's language.
-use Rattle.std.specs.Prelude.{◌≡◌, ◌<◌, ◌^◌, ℕ, Bool, false, ◌==◌, ◌&&◌, nat_le, if◌then◌else◌, List, [], ◌∷◌, length, decimal, codes}
-use Rattle.std.specs.Str.Parse.{IsNumeral, digits_value, without_leading_plus}
+use Rattle.std.specs.Prelude.{◌≡◌, ◌<◌, ◌^◌, ℕ, List, [], decimal, codes}
 use Rattle.trial.specs.declared.keyword.Keyword.{Keyword}
 use Rattle.trial.specs.declared.keyword.Keyword.TheVariants as key
 use Rattle.trial.specs.declared.word.Word.{Word}
@@ -50,12 +49,3 @@ abbrev pub Reads : List ℕ → Word → Type 0
 Reads bytes (word.Key k) = bytes ≡ text_of k
 Reads bytes (word.Number n) = (bytes ≡ decimal n) × (n < 2 ^ 64)
 Reads bytes word.Other = ((k : Keyword) → bytes ≡ text_of k → ⊥) × ((n : ℕ) → n < 2 ^ 64 → bytes ≡ decimal n → ⊥)
-
--- the bytes are digits of this number, after a plus or leading zeros or neither
-abbrev pub IsUnsigned : List ℕ → ℕ → Type 0
-IsUnsigned bytes n = IsNumeral 10 (without_leading_plus bytes) × (digits_value 10 (without_leading_plus bytes) ≡ n) × (n < 2 ^ 64)
-
--- a digit leads, and no zero that isn't alone
-abbrev pub is_plain_text : List ℕ → Bool
-is_plain_text [] = false
-is_plain_text (b ∷ bs) = if b == 48 then length bs == 0 else nat_le 49 b && nat_le b 57

@@ -1,9 +1,8 @@
 //! What a script answers where a worker's call asks.
 ghost use Rattle.std.specs.Prelude.{◌≡◌};
-ghost use Rattle.trial.specs.Callers.{answer_of, fresh, noise_of, after_step};
+ghost use Rattle.trial.specs.Callers.{answer_of, after_step};
 
-use congee::Noise;
-use joint::{Id, Outcome};
+use joint::Outcome;
 
 /// From the value that a call finds to the one that it puts there.
 #[derive(Clone, Copy)]
@@ -41,27 +40,6 @@ pub struct Caller {
 }
 
 impl Caller {
-    /// Behind a call that hasn't asked yet.
-    pub fn new(closure: Option<Closure>) -> Caller
-        ensures { result ≡ fresh closure }
-    {
-        Caller {
-            closure,
-            answer: None,
-        }
-    }
-
-    /// What comes to the call's next step from outside.
-    pub fn noise(self, fail: bool) -> Noise<Id, u64>
-        ensures { result ≡ noise_of self fail }
-    {
-        Noise {
-            fail,
-            seen: None,
-            answer: self.answer,
-        }
-    }
-
     /// After a step of the call that ended so.
     pub fn after_step(&mut self, outcome: &Outcome<u64>)
         ensures { self.new ≡ after_step self.old outcome.now }

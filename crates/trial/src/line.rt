@@ -4,7 +4,6 @@ ghost use Rattle.std.specs.List.{slice_split, AllZip};
 ghost use Rattle.trial.specs.Words.{Reads};
 ghost use Rattle.trial.specs.declared.line.Line.{Line};
 ghost use Rattle.trial.specs.Line.{IsLine};
-ghost use Rattle.trial.specs.Parsing.{is_skipped_text};
 
 use crate::command::Command;
 use crate::parser;
@@ -50,16 +49,6 @@ fn words(line: &[u8]) -> Option<ArrayVec<Word, WORDS_MAX>>
     Some(words)
 }
 
-/// Whether the line is empty or a comment.
-fn is_skipped(line: &[u8]) -> bool
-    ensures { result ≡ is_skipped_text line.now }
-{
-    match line {
-        [] => true,
-        [first, ..] => *first == b'#',
-    }
-}
-
 /// What the line is, which comes without its line feed.
 pub fn read(line: &[u8]) -> Line
     ensures line { IsLine line.now result }
@@ -68,7 +57,7 @@ pub fn read(line: &[u8]) -> Line
     if line.len() > LINE_MAX {
         return Line::Bad;
     }
-    if is_skipped(line) {
+    if line.is_empty() || line[0] == b'#' {
         return Line::Skipped;
     }
     let Some(words) = words(line) else {

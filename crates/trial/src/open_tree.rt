@@ -1,6 +1,6 @@
 //! A tree with what stands behind its workers' calls, which go on from line to line.
 ghost use Rattle.std.specs.Prelude.{◌≡◌, ◌<◌, [], None, OnOk, IfOk, IfErr, slice_set, length, replicate};
-ghost use Rattle.trial.specs.Callers.{caller_at, fresh, after_step};
+ghost use Rattle.trial.specs.Callers.{caller_at, fresh, noise_of, after_step};
 ghost use Rattle.trial.specs.Calling.{IsUncalled, Registers, Begins, Goes, GoesOn, Calls, is_running};
 ghost use Rattle.trial.specs.Places.{places_at, filled};
 ghost use Rattle.trial.specs.declared.end.End.TheVariants as End;
@@ -8,8 +8,8 @@ ghost use Rattle.trial.specs.declared.end.End.TheVariants as End;
 use crate::caller::{Caller, Closure};
 use crate::end::End;
 use crate::places::Places;
-use congee::Limited;
-use joint::{Event, Op, Outcome, Step, World};
+use congee::{Limited, Noise};
+use joint::{Event, Id, Op, Outcome, Step, World};
 use std::alloc::{AllocError, Global};
 use std::mem;
 
@@ -35,7 +35,10 @@ fn no_callers(alloc: Global) -> Result<Vec<Caller>, AllocError>
 {
     let mut callers = Vec::with_capacity(alloc, CALLERS)?;
     for _i in 0..CALLERS {
-        callers.push(Caller::new(None))?;
+        callers.push(Caller {
+            closure: None,
+            answer: None,
+        })?;
     }
     Ok(callers)
 }
@@ -75,60 +78,55 @@ impl OpenTree {
         })
     }
 
-    /// What stands behind a worker's call.
-    fn caller(&self, worker: u32) -> Caller
-        ensures { result ≡ caller_at self.now.callers.items worker }
-    {
-        match self.callers.get(worker as usize) {
-            Some(caller) => *caller,
-            None => Caller::new(None),
-        }
-    }
-
-    /// Puts another caller behind a worker's call.
-    fn set_caller(&mut self, worker: u32, caller: Caller)
-        ensures callers { self.new.callers.items ≡ slice_set self.old.callers.items worker caller }
-        ensures world { self.new.world ≡ self.old.world }
-        ensures scans { self.new.scans ≡ self.old.scans }
-    {
-        if (worker as usize) < self.callers.len() {
-            self.callers[worker as usize] = caller;
-        }
-    }
-
-    /// What stands behind a worker's call hears how a step of it ended.
-    fn caller_steps(&mut self, worker: u32, outcome: &Outcome<u64>)
-        ensures callers { self.new.callers.items ≡ slice_set self.old.callers.items worker (after_step (caller_at self.old.callers.items worker) outcome.now) }
-        ensures world { self.new.world ≡ self.old.world }
-        ensures scans { self.new.scans ≡ self.old.scans }
-    {
-        if (worker as usize) < self.callers.len() {
-            self.callers[worker as usize].after_step(outcome);
-        }
-    }
-
-    /// Empties the places of a worker's scan.
-    fn clear_scan(&mut self, worker: u32)
+    /// A worker's call is in flight: this closure stands behind it, and a scan has filled no place.
+    fn start(&mut self, worker: u32, closure: Option<Closure>)
+        ensures callers { self.new.callers.items ≡ slice_set self.old.callers.items worker (fresh closure) }
         ensures scans { self.new.scans.items ≡ slice_set self.old.scans.items worker [] }
         ensures world { self.new.world ≡ self.old.world }
-        ensures callers { self.new.callers ≡ self.old.callers }
     {
-        if (worker as usize) < self.scans.len() {
-            self.scans[worker as usize].clear();
+        let worker = worker as usize;
+        if worker < self.callers.len() {
+            self.callers[worker] = Caller {
+                closure,
+                answer: None,
+            };
+        }
+        if worker < self.scans.len() {
+            self.scans[worker].clear();
         }
     }
 
-    /// Fills the place that a step of a worker's scan told a pair for, if it told one.
-    fn scan_steps(&mut self, worker: u32, outcome: &Outcome<u64>) -> Result<(), AllocError>
-        ensures ok { OnOk result (self.new.scans.items ≡ filled self.old.scans.items worker outcome.now) }
-        ensures world { self.new.world ≡ self.old.world }
-        ensures callers { self.new.callers ≡ self.old.callers }
+    /// What comes from outside to the next step of a worker's call.
+    fn noise(&self, worker: u32, fail: bool) -> Noise<Id, u64>
+        ensures { result ≡ noise_of (caller_at self.now.callers.items worker) fail }
     {
+        let answer = match self.callers.get(worker as usize) {
+            Some(caller) => caller.answer,
+            None => None,
+        };
+        Noise {
+            fail,
+            seen: None,
+            answer,
+        }
+    }
+
+    /// After a step of a worker's call that ended so: where it asked, the closure has answered, and where it told a pair,
+    /// that stands in its place.
+    fn after_step(&mut self, worker: u32, outcome: &Outcome<u64>) -> Result<(), AllocError>
+        ensures callers { OnOk result (self.new.callers.items ≡ slice_set self.old.callers.items worker (after_step (caller_at self.old.callers.items worker) outcome.now)) }
+        ensures scans { OnOk result (self.new.scans.items ≡ filled self.old.scans.items worker outcome.now) }
+        ensures world { OnOk result (self.new.world ≡ self.old.world) }
+    {
+        let worker = worker as usize;
+        if worker < self.callers.len() {
+            self.callers[worker].after_step(outcome);
+        }
         let Outcome::Found { place, key, value } = outcome else {
             return Ok(());
         };
-        if (worker as usize) < self.scans.len() {
-            self.scans[worker as usize].fill(*place, *key, *value)?;
+        if worker < self.scans.len() {
+            self.scans[worker].fill(*place, *key, *value)?;
         }
         Ok(())
     }
@@ -167,8 +165,7 @@ impl OpenTree {
         };
         let outcome = self.world.step(step).outcome;
         if is_running(&outcome) {
-            self.set_caller(worker, Caller::new(closure));
-            self.clear_scan(worker);
+            self.start(worker, closure);
         }
         outcome
     }
@@ -178,14 +175,12 @@ impl OpenTree {
         ensures ok { IfOk result (λ told. Goes self.old worker fail told self.new) }
         ensures err { IfErr result (λ e. e ≡ End.Memory) }
     {
-        let caller = self.caller(worker);
         let step = Step {
             worker,
-            event: Event::Go(caller.noise(fail)),
+            event: Event::Go(self.noise(worker, fail)),
         };
         let outcome = self.world.step(step).outcome;
-        self.caller_steps(worker, &outcome);
-        self.scan_steps(worker, &outcome)?;
+        self.after_step(worker, &outcome)?;
         Ok(outcome)
     }
 

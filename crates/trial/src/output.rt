@@ -65,17 +65,6 @@ impl Output {
         }
     }
 
-    /// Writes out what is held back.
-    fn write_out<W: Write>(&mut self, writer: &mut W) -> Result<(), End>
-        ensures ok { OnOk result (Appends (W.contents writer.old) (W.contents writer.new) self.old) }
-        ensures empty { OnOk result (self.new ≡ []) }
-        ensures err { IfErr result (λ e. (e ≡ End.Writing) × (n : ℕ) × Appends (W.contents writer.old) (W.contents writer.new) (take n self.old)) }
-    {
-        write_all(writer, &self.held)?;
-        self.held.clear();
-        Ok(())
-    }
-
     /// Puts a piece, once what is held back is written out. A piece longer than the buffer is written as well.
     #[tactic(auto, using(crate::proofs::Passing::passes_alone, crate::proofs::Passing::passes_by, crate::proofs::Passing::breaks_before, crate::proofs::Passing::breaks_within))]
     fn put_first<W: Write>(&mut self, writer: &mut W, piece: &[u8]) -> Result<(), End>
@@ -83,7 +72,7 @@ impl Output {
         ensures bound { OnOk result (length self.new ≤ held_max) }
         ensures err { IfErr result (λ e. (e ≡ End.Writing) × Breaks (W.contents writer.old) self.old (W.contents writer.new) piece.now) }
     {
-        self.write_out(writer)?;
+        self.flush(writer)?;
         match self.held.try_extend_from_slice(piece) {
             Ok(()) => Ok(()),
             Err(_) => write_all(writer, piece),
@@ -117,7 +106,8 @@ impl Output {
         ensures empty { OnOk result (self.new ≡ []) }
         ensures err { IfErr result (λ e. (e ≡ End.Writing) × (n : ℕ) × Appends (W.contents writer.old) (W.contents writer.new) (take n self.old)) }
     {
-        self.write_out(writer)?;
+        write_all(writer, &self.held)?;
+        self.held.clear();
         match writer.flush() {
             Ok(()) => Ok(()),
             Err(_) => Err(End::Writing),

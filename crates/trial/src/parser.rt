@@ -1,11 +1,11 @@
 //! From the words of a line to its command.
 ghost use Rattle.std.specs.Prelude.{◌≡◌};
-ghost use Rattle.trial.specs.Parsing.{plain_call_of, key_call_of, pair_call_of, triple_call_of, call_of, worker_command_of};
+ghost use Rattle.trial.specs.Parsing.{plain_call_of, triple_call_of, call_of, worker_command_of};
 ghost use Rattle.trial.specs.Parsing.{limit_of, version_of, journal_of, opening_of, plain_command_of, command_of};
 
 use crate::command::{Call, Command, Opening};
 use crate::keyword::Keyword;
-use crate::word::Word;
+use crate::word::Word::{self, Key, Number};
 
 /// The most pairs that a scan may ask for.
 const PAIRS_MAX: u64 = 10_000;
@@ -30,28 +30,6 @@ fn plain_call(key: Keyword) -> Option<Call>
     }
 }
 
-/// The call that a word and a key name, or none.
-fn key_call(key: Keyword, k: u64) -> Option<Call>
-    ensures { result ≡ key_call_of key k }
-{
-    match key {
-        Keyword::Get => Some(Call::Get(k)),
-        Keyword::Remove => Some(Call::Remove(k)),
-        _ => None,
-    }
-}
-
-/// The call that a word, a key and a value name, or none.
-fn pair_call(key: Keyword, k: u64, v: u64) -> Option<Call>
-    ensures { result ≡ pair_call_of key k v }
-{
-    match key {
-        Keyword::Insert => Some(Call::Insert(k, v)),
-        Keyword::OrInsert => Some(Call::OrInsert(k, v)),
-        _ => None,
-    }
-}
-
 /// The call that a word and three numbers name, or none.
 fn triple_call(key: Keyword, a: u64, b: u64, c: u64) -> Option<Call>
     ensures { result ≡ triple_call_of key a b c }
@@ -69,31 +47,24 @@ fn call(words: &[Word]) -> Option<Call>
     ensures { result ≡ call_of words.now }
 {
     match words {
-        [Word::Key(key)] => plain_call(*key),
-        [Word::Key(key), Word::Number(k)] => key_call(*key, *k),
-        [Word::Key(key), Word::Number(k), Word::Number(v)] => pair_call(*key, *k, *v),
+        [Key(key)] => plain_call(*key),
+        [Key(Keyword::Get), Number(k)] => Some(Call::Get(*k)),
+        [Key(Keyword::Remove), Number(k)] => Some(Call::Remove(*k)),
+        [Key(Keyword::Insert), Number(k), Number(v)] => Some(Call::Insert(*k, *v)),
+        [Key(Keyword::OrInsert), Number(k), Number(n)] => Some(Call::OrInsert(*k, *n)),
+        [Key(key), Number(a), Number(b), Number(c)] => triple_call(*key, *a, *b, *c),
         [
-            Word::Key(key),
-            Word::Number(a),
-            Word::Number(b),
-            Word::Number(c),
-        ] => { triple_call(*key, *a, *b, *c) }
-        [
-            Word::Key(Keyword::Present),
-            Word::Number(k),
-            Word::Key(Keyword::Add),
-            Word::Number(n),
+            Key(Keyword::Present),
+            Number(k),
+            Key(Keyword::Add),
+            Number(n),
         ] => Some(Call::PresentAdd(*k, *n)),
+        [Key(Keyword::Present), Number(k), Key(Keyword::Drop)] => Some(Call::PresentDrop(*k)),
         [
-            Word::Key(Keyword::Present),
-            Word::Number(k),
-            Word::Key(Keyword::Drop),
-        ] => { Some(Call::PresentDrop(*k)) }
-        [
-            Word::Key(Keyword::Cas),
-            Word::Number(k),
-            Word::Number(old),
-            Word::Key(Keyword::Drop),
+            Key(Keyword::Cas),
+            Number(k),
+            Number(old),
+            Key(Keyword::Drop),
         ] => Some(Call::ExchangeDrop(*k, *old)),
         _ => None,
     }
@@ -104,14 +75,14 @@ fn worker_command(worker: u32, words: &[Word]) -> Option<Command>
     ensures { result ≡ worker_command_of worker words.now }
 {
     match words {
-        [Word::Key(Keyword::Begin), words @ ..] => Some(Command::Begin(worker, call(words)?)),
-        [Word::Key(Keyword::Go), Word::Number(n)] if 1 <= *n && *n <= COUNT_MAX => Some(Command::Go(
+        [Key(Keyword::Begin), words @ ..] => Some(Command::Begin(worker, call(words)?)),
+        [Key(Keyword::Go), Number(n)] if 1 <= *n && *n <= COUNT_MAX => Some(Command::Go(
             worker, *n,
         )),
-        [Word::Key(Keyword::Round), Word::Number(n)] if 1 <= *n && *n <= COUNT_MAX => {
+        [Key(Keyword::Round), Number(n)] if 1 <= *n && *n <= COUNT_MAX => {
             Some(Command::Round(worker, *n))
         }
-        [Word::Key(Keyword::Fail)] => Some(Command::Fail(worker)),
+        [Key(Keyword::Fail)] => Some(Command::Fail(worker)),
         words => Some(Command::Call(worker, call(words)?)),
     }
 }
@@ -121,7 +92,7 @@ fn limit(words: &[Word]) -> (Option<u64>, &[Word])
     ensures { (result.0, result.1.now) ≡ limit_of words.now }
 {
     match words {
-        [Word::Key(Keyword::Limit), Word::Number(n), rest @ ..] => (Some(*n), rest),
+        [Key(Keyword::Limit), Number(n), rest @ ..] => (Some(*n), rest),
         _ => (None, words),
     }
 }
@@ -131,7 +102,7 @@ fn version(words: &[Word]) -> (Option<u64>, &[Word])
     ensures { (result.0, result.1.now) ≡ version_of words.now }
 {
     match words {
-        [Word::Key(Keyword::Version), Word::Number(n), rest @ ..] => (Some(*n), rest),
+        [Key(Keyword::Version), Number(n), rest @ ..] => (Some(*n), rest),
         _ => (None, words),
     }
 }
@@ -141,7 +112,7 @@ fn journal(words: &[Word]) -> (Option<u64>, &[Word])
     ensures { (result.0, result.1.now) ≡ journal_of words.now }
 {
     match words {
-        [Word::Key(Keyword::Journal), Word::Number(n), rest @ ..] => (Some(*n), rest),
+        [Key(Keyword::Journal), Number(n), rest @ ..] => (Some(*n), rest),
         _ => (None, words),
     }
 }
@@ -185,14 +156,9 @@ pub fn command(words: &[Word]) -> Option<Command>
     ensures { result ≡ command_of words.now }
 {
     match words {
-        [Word::Key(key)] => plain_command(*key),
-        [
-            Word::Key(Keyword::New),
-            Word::Number(p),
-            Word::Number(c),
-            options @ ..,
-        ] => { opening(*p, *c, options) }
-        [Word::Number(w), words @ ..] => worker_command(u32::try_from(*w).ok()?, words),
+        [Key(key)] => plain_command(*key),
+        [Key(Keyword::New), Number(p), Number(c), options @ ..] => opening(*p, *c, options),
+        [Number(w), words @ ..] => worker_command(u32::try_from(*w).ok()?, words),
         _ => None,
     }
 }

@@ -1,13 +1,13 @@
 //! What a line is answered.
 ghost use Rattle.std.specs.Prelude.{◌≡◌, Some};
-ghost use Rattle.trial.specs.Replies.{pair_of, reply_to, ending, reply_of, begun_of};
+ghost use Rattle.trial.specs.Replies.{pair_of, reply_to};
 ghost use Rattle.trial.specs.Texts.{refused_text, reply_text};
 
 use crate::drained::Closed;
 use crate::keys::Keys;
 use crate::places::Places;
 use congee::NodeStats;
-use joint::{Done, Outcome, Refusal};
+use joint::Refusal;
 use judge::Verdict;
 use std::fmt;
 
@@ -57,57 +57,19 @@ pub enum Reply {
     Refused(Refused),
 }
 
-/// The reply to a call on one key.
-fn point(told: judge::Reply<u64>) -> Reply
-    ensures { result ≡ reply_to told }
-{
-    match told {
-        judge::Reply::Get(found) => Reply::Value(found),
-        judge::Reply::Insert(found) => Reply::Value(found),
-        judge::Reply::Remove(found) => Reply::Value(found),
-        judge::Reply::ComputePresent(None) => Reply::Value(None),
-        judge::Reply::ComputePresent(Some((old, new))) => Reply::Pair(old, new),
-        judge::Reply::ComputeInsert(found) => Reply::Value(found),
-        judge::Reply::Exchange(exchanged) => Reply::Exchanged(exchanged),
-    }
-}
-
-/// The reply to a call that has ended, which filled these places where it is a scan.
-fn ending(places: Places, done: Done<u64>) -> Reply
-    ensures { result ≡ ending places done }
-{
-    match done {
-        Done::Unit => Reply::Ok,
-        Done::Reply(told) => point(told),
-        Done::Scanned(count) => Reply::Range(places.first(count)),
-        Done::Keys(keys) => Reply::Keys(Keys::new(keys)),
-        Done::Empty(empty) => Reply::Empty(empty),
-        Done::Stats(stats) => Reply::Stats(stats),
-    }
-}
-
 impl Reply {
-    /// Of a call that stands so, which filled these places where it is a scan.
-    pub fn of(places: Places, outcome: Outcome<u64>) -> Reply
-        ensures { result ≡ reply_of places outcome }
+    /// To a call on one key.
+    pub fn of_point(told: judge::Reply<u64>) -> Reply
+        ensures { result ≡ reply_to told }
     {
-        match outcome {
-            Outcome::Running => Reply::Running,
-            Outcome::Asks(_) => Reply::Running,
-            Outcome::Found { .. } => Reply::Running,
-            Outcome::Registered(worker) => Reply::Worker(worker),
-            Outcome::Done(done) => ending(places, done),
-            Outcome::Refused(refusal) => Reply::Refused(Refused::Tree(refusal)),
-        }
-    }
-
-    /// Of a call of which the first step alone was taken.
-    pub fn begun(places: Places, outcome: Outcome<u64>) -> Reply
-        ensures { result ≡ begun_of places outcome }
-    {
-        match Reply::of(places, outcome) {
-            Reply::Running => Reply::Begun,
-            reply => reply,
+        match told {
+            judge::Reply::Get(found) => Reply::Value(found),
+            judge::Reply::Insert(found) => Reply::Value(found),
+            judge::Reply::Remove(found) => Reply::Value(found),
+            judge::Reply::ComputePresent(None) => Reply::Value(None),
+            judge::Reply::ComputePresent(Some((old, new))) => Reply::Pair(old, new),
+            judge::Reply::ComputeInsert(found) => Reply::Value(found),
+            judge::Reply::Exchange(exchanged) => Reply::Exchanged(exchanged),
         }
     }
 }

@@ -2,7 +2,6 @@
 ghost use Rattle.std.specs.Prelude.{◌≡◌, ◌+◌, ◌<◌, ◌≤◌, ℕ, List, Option, [], length, take, drop, IsNone, IfSome};
 ghost use Rattle.std.specs.Prelude.{IfOk, IfErr, OnOk, OnErr, vec_len};
 ghost use Rattle.std.specs.Io.KnownBytes.{Appends, Consumes, IsAtEnd, Keeps};
-ghost use Rattle.std.specs.Process.{exit_status};
 ghost use Rattle.trial.specs.declared.end.End.{End};
 ghost use Rattle.trial.specs.Grammar.{line_max};
 ghost use Rattle.trial.specs.Script.{AreAnswered, status_of, input_max, read_max};
@@ -13,9 +12,8 @@ use crate::end::End;
 use crate::output::Output;
 use crate::script::Script;
 use joint::calls_map;
-use std::alloc::{AllocError, Global};
+use std::alloc::Global;
 use std::io::{Read, Write};
-use std::process::ExitCode;
 
 /// The most bytes of a script.
 const INPUT_MAX: u64 = 16_777_216;
@@ -31,37 +29,6 @@ pub struct Program {
     pub unread: Vec<u8>,
     /// The bytes that were read.
     pub taken: u64,
-}
-
-/// Room for one read.
-fn chunk(alloc: Global) -> Result<Vec<u8>, AllocError>
-    ensures { IfOk result (λ chunk. vec_len chunk ≡ read_max) }
-{
-    let mut chunk = Vec::with_capacity(alloc, CHUNK)?;
-    chunk.resize(CHUNK, 0)?;
-    Ok(chunk)
-}
-
-/// Reads at the front of the chunk. An interrupted read is a failed one.
-fn read_chunk<R: Read>(reader: &mut R, chunk: &mut Vec<u8>) -> Result<usize, End>
-    ensures bound { IfOk result (λ n. n ≤ length chunk.new.items) }
-    ensures room { vec_len chunk.new ≡ vec_len chunk.old }
-    ensures ok { IfOk result (λ n. Consumes (R.remaining reader.old) (R.remaining reader.new) (take n chunk.new.items)) }
-    ensures end { IfOk result (λ n. n ≡ 0 → 0 < vec_len chunk.old → IsAtEnd (R.remaining reader.new)) }
-    ensures err { IfErr result (λ e. (e ≡ End.Reading) × Keeps (R.remaining reader.old) (R.remaining reader.new)) }
-{
-    match reader.read(chunk.as_mut_slice()) {
-        Ok(n) => Ok(n),
-        Err(_) => Err(End::Reading),
-    }
-}
-
-/// Takes the first n bytes out.
-fn remove_front(buffer: &mut Vec<u8>, n: usize)
-    requires { n ≤ vec_len buffer.old }
-    ensures { buffer.new.items ≡ drop n buffer.old.items }
-{
-    buffer.drain(..n);
 }
 
 impl Program {
@@ -114,7 +81,9 @@ impl Program {
             return Some(End::Memory);
         };
         match self.script.lines(writer, &self.unread) {
-            Ok(answered) => remove_front(&mut self.unread, answered),
+            Ok(answered) => {
+                self.unread.drain(..answered);
+            }
             Err(end) => return Some(end),
         }
         if !over.is_empty() {
@@ -124,7 +93,7 @@ impl Program {
         None
     }
 
-    /// One read, and the replies to the lines that it completes. The end, if it came.
+    /// One read, and the replies to the lines that it completes. The end, if it came. An interrupted read is a failed one.
     fn read_once<R: Read, W: Write>(
         &mut self,
         reader: &mut R,
@@ -142,21 +111,11 @@ impl Program {
         ensures room { vec_len chunk.new ≡ vec_len chunk.old }
         ensures taken { IsNone result → (self.old.taken < self.new.taken) × (self.new.taken ≤ input_max) }
     {
-        match read_chunk(reader, chunk) {
+        match reader.read(chunk.as_mut_slice()) {
             Ok(0) => Some(self.last_line(writer)),
             Ok(n) => self.accept(writer, &chunk[..n]),
-            Err(end) => Some(end),
+            Err(_) => Some(End::Reading),
         }
-    }
-
-    /// Writes out what is held back of the replies, and flushes the writer.
-    fn flush<W: Write>(&mut self, writer: &mut W) -> Result<(), End>
-        ensures ok { OnOk result (Appends (W.contents writer.old) (W.contents writer.new) self.old.script.output) }
-        ensures empty { OnOk result (IsWritten self.old self.new) }
-        ensures err { IfErr result (λ e. (e ≡ End.Writing) × (n : ℕ)
-            × Appends (W.contents writer.old) (W.contents writer.new) (take n self.old.script.output)) }
-    {
-        self.script.output.flush(writer)
     }
 
     /// Writes out what is held back at the end that came, unless it is the writer that failed.
@@ -166,7 +125,7 @@ impl Program {
     {
         match end {
             End::Writing => End::Writing,
-            _ => match self.flush(writer) {
+            _ => match self.script.output.flush(writer) {
                 Ok(()) => end,
                 Err(failed) => failed,
             },
@@ -183,7 +142,7 @@ impl Program {
             if let Some(end) = self.read_once(reader, writer, chunk) {
                 return self.finish(writer, end);
             }
-            if let Err(failed) = self.flush(writer) {
+            if let Err(failed) = self.script.output.flush(writer) {
                 return failed;
             }
         }
@@ -198,18 +157,8 @@ pub fn run<R: Read, W: Write>(alloc: Global, reader: &mut R, writer: &mut W) -> 
         × Ran MapAnswers (R.remaining reader.old) (R.remaining reader.new) (W.contents writer.old) (W.contents writer.new) end }
 {
     calls_map::<u64>();
-    match chunk(alloc) {
+    match vec![in alloc; 0; CHUNK] {
         Ok(mut chunk) => Program::new(alloc).run(reader, writer, &mut chunk).status(),
         Err(_) => End::Memory.status(),
     }
-}
-
-/// What the process ends with: the exit status of `run`.
-pub fn exit<R: Read, W: Write>(alloc: Global, reader: &mut R, writer: &mut W) -> ExitCode
-    ensures replies { (end : End) × (exit_status result ≡ status_of end)
-        × Ran AreAnswered (R.remaining reader.old) (R.remaining reader.new) (W.contents writer.old) (W.contents writer.new) end }
-    ensures map { (end : End) × (exit_status result ≡ status_of end)
-        × Ran MapAnswers (R.remaining reader.old) (R.remaining reader.new) (W.contents writer.old) (W.contents writer.new) end }
-{
-    ExitCode::from(run(alloc, reader, writer))
 }

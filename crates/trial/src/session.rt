@@ -1,8 +1,10 @@
 //! The tree of a script, and what its commands do to it.
-ghost use Rattle.std.specs.Prelude.{◌≡◌, IfOk, IfErr, None, false};
+ghost use Rattle.std.specs.Prelude.{◌≡◌, ℕ, IfOk, IfErr, [], None};
+ghost use Rattle.joint.specs.declared.steps.Outcome.{Outcome};
+ghost use Rattle.trial.specs.Calling.{Registers};
+ghost use Rattle.trial.specs.Replies.{reply_of};
 ghost use Rattle.trial.specs.Session.{Answers, Replies, CallReplies, BeginReplies, GoReplies, FailReplies, JournalReplies, Rounds, Round, AfterPin, Unwinds, Opens, OpensWith};
-ghost use Rattle.trial.specs.Session.{closes, op_of, closure_of, refusal_of, limits_of, budget_of};
-ghost use Rattle.trial.specs.Places.{given, left, places_at};
+ghost use Rattle.trial.specs.Session.{op_of, closure_of, refusal_of, limits_of, budget_of};
 ghost use Rattle.trial.specs.declared.command.Command.TheVariants as Command;
 ghost use Rattle.trial.specs.declared.end.End.TheVariants as End;
 
@@ -10,50 +12,38 @@ use crate::caller::Closure;
 use crate::command::{Call, Command, Opening};
 use crate::drained::{Closed, Drained};
 use crate::end::End;
+use crate::keys::Keys;
 use crate::open_tree::OpenTree;
-use crate::places::Places;
 use crate::reply::{Refused, Reply};
 use congee::{Allocator, Limited};
 use joint::{Done, Limits, Op, Outcome, Refusal, World};
 use judge::check;
 use std::alloc::Global;
 
-/// The call of the tree that a line asks for.
-fn op(call: Call) -> Op<u64>
-    ensures { result ≡ op_of call }
+/// The call of the tree that a line asks for, and the closure that it gives it, if it gives one.
+fn asked(call: Call) -> (Op<u64>, Option<Closure>)
+    ensures op { result.0 ≡ op_of call }
+    ensures closure { result.1 ≡ closure_of call }
 {
     match call {
-        Call::Pin => Op::Pin,
-        Call::Unpin => Op::Unpin,
-        Call::Repin => Op::Repin,
-        Call::Flush => Op::Flush,
-        Call::Release => Op::Release,
-        Call::Get(key) => Op::Get(key),
-        Call::Remove(key) => Op::Remove(key),
-        Call::Insert(key, value) => Op::Insert(key, value),
-        Call::PresentAdd(key, _) => Op::ComputePresent(key),
-        Call::PresentDrop(key) => Op::ComputePresent(key),
-        Call::OrInsert(key, _) => Op::ComputeInsert(key),
-        Call::Exchange(key, old, new) => Op::Exchange(key, old, Some(new)),
-        Call::ExchangeDrop(key, old) => Op::Exchange(key, old, None),
-        Call::Range(start, end, size) => Op::Range(start, end, size as usize),
-        Call::Through(start, last, size) => Op::RangeInclusive(start, last, size as usize),
-        Call::Keys => Op::Keys,
-        Call::Empty => Op::IsEmpty,
-        Call::Stats => Op::Stats,
-    }
-}
-
-/// The closure that a line gives its call, if it gives one.
-fn closure(call: Call) -> Option<Closure>
-    ensures { result ≡ closure_of call }
-{
-    match call {
-        Call::PresentAdd(_, n) => Some(Closure::Add(n)),
-        Call::PresentDrop(_) => Some(Closure::Drop),
-        Call::OrInsert(_, n) => Some(Closure::Put(n)),
-        // No other call asks.
-        _ => None,
+        Call::Pin => (Op::Pin, None),
+        Call::Unpin => (Op::Unpin, None),
+        Call::Repin => (Op::Repin, None),
+        Call::Flush => (Op::Flush, None),
+        Call::Release => (Op::Release, None),
+        Call::Get(key) => (Op::Get(key), None),
+        Call::Remove(key) => (Op::Remove(key), None),
+        Call::Insert(key, value) => (Op::Insert(key, value), None),
+        Call::PresentAdd(key, n) => (Op::ComputePresent(key), Some(Closure::Add(n))),
+        Call::PresentDrop(key) => (Op::ComputePresent(key), Some(Closure::Drop)),
+        Call::OrInsert(key, n) => (Op::ComputeInsert(key), Some(Closure::Put(n))),
+        Call::Exchange(key, old, new) => (Op::Exchange(key, old, Some(new)), None),
+        Call::ExchangeDrop(key, old) => (Op::Exchange(key, old, None), None),
+        Call::Range(start, end, size) => (Op::Range(start, end, size as usize), None),
+        Call::Through(start, last, size) => (Op::RangeInclusive(start, last, size as usize), None),
+        Call::Keys => (Op::Keys, None),
+        Call::Empty => (Op::IsEmpty, None),
+        Call::Stats => (Op::Stats, None),
     }
 }
 
@@ -185,25 +175,25 @@ fn answer_closed(
     }
 }
 
-/// The places of a worker's call that stands so: where it is a scan that is done, they are taken from it.
-fn places(alloc: Global, index: &mut OpenTree, worker: u32, outcome: &Outcome<u64>) -> Places
-    ensures places { result ≡ given outcome.now (places_at index.old.scans.items worker) }
-    ensures scans { index.new.scans.items ≡ left outcome.now worker index.old.scans.items }
-    ensures world { index.new.world ≡ index.old.world }
-    ensures callers { index.new.callers ≡ index.old.callers }
-{
-    match outcome {
-        Outcome::Done(Done::Scanned(_)) => index.take_scan(alloc, worker),
-        _ => Places::new(alloc),
-    }
-}
-
-/// The reply to a worker's call that stands so.
+/// The reply to a worker's call that stands so. Where it is a scan that is done, its places are taken from it.
 fn reply(alloc: Global, index: &mut OpenTree, worker: u32, outcome: Outcome<u64>) -> Reply
     ensures { Replies index.old worker outcome index.new result }
 {
-    let places = places(alloc, index, worker, &outcome);
-    Reply::of(places, outcome)
+    match outcome {
+        Outcome::Running => Reply::Running,
+        Outcome::Asks(_) => Reply::Running,
+        Outcome::Found { .. } => Reply::Running,
+        Outcome::Registered(worker) => Reply::Worker(worker),
+        Outcome::Refused(refusal) => Reply::Refused(Refused::Tree(refusal)),
+        Outcome::Done(Done::Unit) => Reply::Ok,
+        Outcome::Done(Done::Reply(told)) => Reply::of_point(told),
+        Outcome::Done(Done::Scanned(count)) => {
+            Reply::Range(index.take_scan(alloc, worker).first(count))
+        }
+        Outcome::Done(Done::Keys(keys)) => Reply::Keys(Keys::new(keys)),
+        Outcome::Done(Done::Empty(empty)) => Reply::Empty(empty),
+        Outcome::Done(Done::Stats(stats)) => Reply::Stats(stats),
+    }
 }
 
 /// The reply to a whole call.
@@ -211,7 +201,8 @@ fn answer_call(alloc: Global, index: &mut OpenTree, worker: u32, call: Call) -> 
     ensures ok { IfOk result (λ reply. CallReplies (op_of call) (closure_of call) index.old worker index.new reply) }
     ensures err { IfErr result (λ e. e ≡ End.Memory) }
 {
-    let outcome = index.call(worker, op(call), closure(call))?;
+    let (op, closure) = asked(call);
+    let outcome = index.call(worker, op, closure)?;
     Ok(reply(alloc, index, worker, outcome))
 }
 
@@ -219,9 +210,12 @@ fn answer_call(alloc: Global, index: &mut OpenTree, worker: u32, call: Call) -> 
 fn answer_begin(alloc: Global, index: &mut OpenTree, worker: u32, call: Call) -> Reply
     ensures { BeginReplies (op_of call) (closure_of call) index.old worker index.new result }
 {
-    let outcome = index.begin(worker, op(call), closure(call));
-    let places = places(alloc, index, worker, &outcome);
-    Reply::begun(places, outcome)
+    let (op, closure) = asked(call);
+    let outcome = index.begin(worker, op, closure);
+    match reply(alloc, index, worker, outcome) {
+        Reply::Running => Reply::Begun,
+        told => told,
+    }
 }
 
 /// The reply to further steps of a worker's call in flight.
@@ -253,24 +247,15 @@ fn answer_journal(alloc: Global, index: &OpenTree) -> Reply
     }
 }
 
-/// The reply to a command on the tree that is open.
-fn answer_open(alloc: Global, index: &mut OpenTree, command: Command) -> Result<Reply, End>
-    requires stays { closes command ≡ false }
-    ensures ok { IfOk result (λ reply. Answers (Some index.old) command (Some index.new) reply) }
-    ensures err { IfErr result (λ e. e ≡ End.Memory) }
+/// The reply to the line that registers a worker.
+fn answer_register(index: &mut OpenTree) -> Reply
+    ensures { (told : Outcome ℕ) × Registers index.old told index.new × (result ≡ reply_of [] told) }
 {
-    match command {
-        Command::New(_) => Ok(Reply::Refused(Refused::Open)),
-        Command::Register => Ok(Reply::of(Places::new(alloc), index.register())),
-        Command::Charged => Ok(Reply::Charged(index.world.charged())),
-        Command::Waiting => Ok(Reply::Waiting(index.world.waiting(), index.world.waiting_bytes())),
-        Command::Journal => Ok(answer_journal(alloc, index)),
-        Command::Call(worker, call) => answer_call(alloc, index, worker, call),
-        Command::Begin(worker, call) => Ok(answer_begin(alloc, index, worker, call)),
-        Command::Go(worker, most) => answer_go(alloc, index, worker, most),
-        Command::Fail(worker) => answer_fail(alloc, index, worker),
-        Command::Round(worker, count) => rounds(index, worker, count),
-        Command::Close => unreachable!(),
+    match index.register() {
+        Outcome::Registered(worker) => Reply::Worker(worker),
+        Outcome::Refused(refusal) => Reply::Refused(Refused::Tree(refusal)),
+        // A registration is one step.
+        _ => unreachable!(),
     }
 }
 
@@ -310,11 +295,20 @@ pub fn answer(alloc: Global, session: &mut Option<OpenTree>, command: Command) -
     ensures ok { IfOk result (λ reply. Answers session.old command session.new reply) }
     ensures err { IfErr result (λ e. e ≡ End.Memory) }
 {
-    if matches!(command, Command::Close) {
-        return close(alloc, session);
-    }
-    match session {
-        Some(index) => answer_open(alloc, index, command),
-        None => answer_closed(alloc, session, command),
+    let Some(index) = session else {
+        return answer_closed(alloc, session, command);
+    };
+    match command {
+        Command::New(_) => Ok(Reply::Refused(Refused::Open)),
+        Command::Register => Ok(answer_register(index)),
+        Command::Charged => Ok(Reply::Charged(index.world.charged())),
+        Command::Waiting => Ok(Reply::Waiting(index.world.waiting(), index.world.waiting_bytes())),
+        Command::Journal => Ok(answer_journal(alloc, index)),
+        Command::Call(worker, call) => answer_call(alloc, index, worker, call),
+        Command::Begin(worker, call) => Ok(answer_begin(alloc, index, worker, call)),
+        Command::Go(worker, most) => answer_go(alloc, index, worker, most),
+        Command::Fail(worker) => answer_fail(alloc, index, worker),
+        Command::Round(worker, count) => rounds(index, worker, count),
+        Command::Close => close(alloc, session),
     }
 }

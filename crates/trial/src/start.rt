@@ -12,7 +12,7 @@ ghost use Rattle.trial.specs.declared.end.End.{End};
 
 use crate::arguments::{self, Asked};
 use crate::output::print;
-use crate::run::exit;
+use crate::run::run;
 use crate::threads::threads;
 use std::alloc::Global;
 use std::io::{Read, Write};
@@ -57,7 +57,7 @@ pub fn start<T: Threads + Wait + Sync, R: Read, W: Write>(
     ensures usage { ((asked : Asked) → Asks arguments.now asked → ⊥) → Takes (TellsUsage (exit_status result)) (W.contents writer.old) (W.contents writer.new) }
 {
     match arguments::read(arguments) {
-        Some(Asked::Script) => exit(alloc, reader, writer),
+        Some(Asked::Script) => ExitCode::from(run(alloc, reader, writer)),
         Some(Asked::Threads { workers, calls }) => {
             ExitCode::from(threads(rt, alloc, workers, calls, writer))
         }

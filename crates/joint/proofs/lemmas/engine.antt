@@ -15,6 +15,7 @@ pub mod HandOver
 pub mod SoundHandOver
 pub mod SoundOpening
 pub mod PlainTells
+pub mod PuttingAway
 pub mod ReachMoments
 pub mod Recounting
 pub mod Registered

@@ -1,10 +1,6 @@
 -- A call begins, by the layer that it is of, or is refused for its first cause.
 use Rattle.std.specs.Prelude.{◌≡◌, ℕ, Bool, Option, None, Some, slice_get}
 use Rattle.crossbeam_epoch.specs.declared.fault.Fault.{Fault}
-use Rattle.joint.specs.declared.engine.in_flight.InFlight.{InFlight}
-use Rattle.joint.specs.declared.engine.in_flight.InFlight.TheVariants.{Idle, Collecting, Reserving, Securing, Walking}
-use Rattle.joint.specs.declared.engine.in_flight.Stage.{Stage}
-use Rattle.joint.specs.declared.engine.in_flight.Stage.TheVariants as stage
 use Rattle.joint.specs.declared.steps.Outcome.TheVariants.{Refused}
 use Rattle.joint.specs.declared.steps.Report.{Report}
 use Rattle.joint.specs.declared.steps.Target.{Target}
@@ -19,11 +15,3 @@ BeginsUnless same always s who t None r s' = BeginsAt same always s who t r s'
 -- a call begins, or is refused for its first cause
 abbrev pub Begun : {V : Type 0} → (V → V → Bool) → Bool → World V → ℕ → Target V → Report V → World V → Type 0
 Begun same always s who t r s' = BeginsUnless same always s who t (begin_misuse t (slice_get s.calls who) (place_of s who)) r s'
-
--- what a call in flight is about
-abbrev pub stage_of : {V : Type 0} → InFlight V → Stage
-stage_of Idle = stage.Idle
-stage_of (Collecting op) = stage.Collecting op
-stage_of (Reserving op) = stage.Reserving
-stage_of (Securing op) = stage.Securing
-stage_of Walking = stage.Walking

@@ -1,13 +1,9 @@
 //! What is counted of a tree beside its nodes: the pairs that stand in it, and the nodes that calls have taken out of it.
 
 ghost use Rattle.std.specs.Prelude.{◌≡◌, ◌+◌, ◌*◌, ◌^◌, ◌≤◌};
-ghost use Rattle.std.specs.Option.{option_copied};
 ghost use Rattle.congee.specs.owned.Stats.{capped};
-ghost use Rattle.congee.specs.protocol.Answers.{reply_in, told_or};
-ghost use Rattle.joint.specs.engine.Census.{effect, effect_by, fewer, more};
+ghost use Rattle.joint.specs.engine.Census.{effect, fewer, more};
 
-use crate::id::Id;
-use congee::{Machine, Outcome, Payload, Small};
 use judge::Reply;
 
 /// What a call makes of the number of pairs.
@@ -30,15 +26,6 @@ pub struct Taken {
     pub bytes: u64,
 }
 
-impl Taken {
-    /// None.
-    pub(crate) fn none() -> Taken
-        ensures { result ≡ record { nodes = 0; bytes = 0 } }
-    {
-        Taken { nodes: 0, bytes: 0 }
-    }
-}
-
 /// How many pairs stand, and how many nodes calls have taken out of the tree and not yet handed over.
 #[derive(Clone, Copy, Drop)]
 pub struct Census {
@@ -55,7 +42,7 @@ impl Census {
     {
         Census {
             pairs: 0,
-            taken: Taken::none(),
+            taken: Taken { nodes: 0, bytes: 0 },
         }
     }
 
@@ -70,16 +57,19 @@ impl Census {
         }
     }
 
-    /// A call had the first taken out before its step, and has the second taken out after it.
+    /// A call had the first taken out before its step, and has the second taken out after it; the step made this of the
+    /// number of pairs.
     #[inline(always)]
-    pub(crate) fn recount(&mut self, before: Taken, after: Taken)
+    pub(crate) fn count(&mut self, before: Taken, after: Taken, change: Change)
         requires had { before.nodes ≤ self.old.taken.nodes }
         requires had_bytes { before.bytes ≤ self.old.taken.bytes }
         requires few { self.old.taken.nodes ≤ 512 }
         requires small { self.old.taken.bytes ≤ 2104 * 512 }
         requires two { after.nodes ≤ 2 }
         requires size { after.bytes ≤ 2104 * 2 }
-        ensures pairs { self.new.pairs ≡ self.old.pairs }
+        requires few_pairs { self.old.pairs ≤ 2 ^ 64 }
+        requires there { fewer change ≤ self.old.pairs }
+        ensures pairs { self.new.pairs + fewer change ≡ self.old.pairs + more change }
         ensures nodes { self.new.taken.nodes + before.nodes ≡ self.old.taken.nodes + after.nodes }
         ensures bytes { self.new.taken.bytes + before.bytes ≡ self.old.taken.bytes + after.bytes }
     {
@@ -87,16 +77,6 @@ impl Census {
             nodes: self.taken.nodes - before.nodes + after.nodes,
             bytes: self.taken.bytes - before.bytes + after.bytes,
         };
-    }
-
-    /// A step made this of the number of pairs.
-    #[inline(always)]
-    pub(crate) fn count(&mut self, change: Change)
-        requires few { self.old.pairs ≤ 2 ^ 64 }
-        requires there { fewer change ≤ self.old.pairs }
-        ensures pairs { self.new.pairs + fewer change ≡ self.old.pairs + more change }
-        ensures taken { self.new.taken ≡ self.old.taken }
-    {
         match change {
             Change::More => self.pairs += 1,
             Change::Fewer => self.pairs -= 1,
@@ -106,7 +86,7 @@ impl Census {
 }
 
 /// What a call that answers so makes of the number of pairs.
-fn effect<P>(reply: &Reply<P>) -> Change
+pub(crate) fn effect<P>(reply: &Reply<P>) -> Change
     ensures { result ≡ effect reply.now }
 {
     match reply {
@@ -123,29 +103,5 @@ fn effect<P>(reply: &Reply<P>) -> Change
         Reply::Exchange(Ok(None)) => Change::Fewer,
         Reply::Exchange(Ok(Some(_))) => Change::Same,
         Reply::Exchange(Err(_)) => Change::Same,
-    }
-}
-
-/// The effect of a call that has locks to let go, by the reply that it will give; one that has none yet has no effect.
-fn effect_by<P>(reply: Option<&Reply<P>>) -> Change
-    ensures { result ≡ effect_by (option_copied reply.entry) }
-{
-    match reply {
-        Some(reply) => effect(reply),
-        None => Change::Same,
-    }
-}
-
-/// The effect of a call that took effect in a step with this outcome and stands so after it.
-pub(crate) fn effect_after<P: Payload + Small>(
-    outcome: &Outcome<P>,
-    call: &Machine<Id, P>,
-) -> Change
-    ensures { result ≡ effect_by (told_or (reply_in call.now.phase) outcome.now) }
-{
-    match outcome {
-        Outcome::Done(reply) => effect(reply),
-        // It goes on: no other outcome decides.
-        _ => effect_by(call.reply()),
     }
 }

@@ -17,7 +17,7 @@ impl<P: Payload + Small, A: Allocator> Engine<P, A> {
     {
         let mut registered = 0;
         for n in 0..self.calls.len() {
-            if self.nodes.is_registered(n) {
+            if self.nodes.collector.is_registered(n) {
                 registered += 1;
             }
         }

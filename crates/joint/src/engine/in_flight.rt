@@ -16,13 +16,3 @@ pub enum InFlight<P> {
     /// A call on the tree.
     Walking,
 }
-
-/// What a call in flight is about.
-#[derive(Clone, Copy, Drop)]
-pub enum Stage {
-    Idle,
-    Collecting(crossbeam_epoch::Op),
-    Reserving,
-    Securing,
-    Walking,
-}

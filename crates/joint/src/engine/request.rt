@@ -22,10 +22,25 @@ impl<P: Payload> Request<P> {
         ensures equal { IfSome result (λ q. q ≡ record { op = op.now; answer = None }) }
         ensures always { P.always_copies ≡ true → IsSome result }
     {
-        Some(Request {
-            op: copy_op(op)?,
-            answer: None,
-        })
+        let op = match op {
+            Op::Pin => Op::Pin,
+            Op::Unpin => Op::Unpin,
+            Op::Repin => Op::Repin,
+            Op::Flush => Op::Flush,
+            Op::Release => Op::Release,
+            Op::Get(key) => Op::Get(*key),
+            Op::Insert(key, value) => Op::Insert(*key, value.copy()?),
+            Op::Remove(key) => Op::Remove(*key),
+            Op::ComputePresent(key) => Op::ComputePresent(*key),
+            Op::ComputeInsert(key) => Op::ComputeInsert(*key),
+            Op::Exchange(key, old, new) => Op::Exchange(*key, old.copy()?, copy_value(new)?),
+            Op::Range(start, end, size) => Op::Range(*start, *end, *size),
+            Op::RangeInclusive(start, last, size) => Op::RangeInclusive(*start, *last, *size),
+            Op::Keys => Op::Keys,
+            Op::IsEmpty => Op::IsEmpty,
+            Op::Stats => Op::Stats,
+        };
+        Some(Request { op, answer: None })
     }
 
     /// The call takes the answer, or none came; `None` where a value can't be copied.
@@ -100,31 +115,6 @@ fn given<P: Payload>(answer: &Option<Option<P>>) -> Option<Option<P>>
         None => Some(None),
         Some(value) => copy_value(value),
     }
-}
-
-/// An equal call.
-fn copy_op<P: Payload>(op: &Op<P>) -> Option<Op<P>>
-    ensures equal { IfSome result (λ o. o ≡ op.now) }
-    ensures always { P.always_copies ≡ true → IsSome result }
-{
-    Some(match op {
-        Op::Pin => Op::Pin,
-        Op::Unpin => Op::Unpin,
-        Op::Repin => Op::Repin,
-        Op::Flush => Op::Flush,
-        Op::Release => Op::Release,
-        Op::Get(key) => Op::Get(*key),
-        Op::Insert(key, value) => Op::Insert(*key, value.copy()?),
-        Op::Remove(key) => Op::Remove(*key),
-        Op::ComputePresent(key) => Op::ComputePresent(*key),
-        Op::ComputeInsert(key) => Op::ComputeInsert(*key),
-        Op::Exchange(key, old, new) => Op::Exchange(*key, old.copy()?, copy_value(new)?),
-        Op::Range(start, end, size) => Op::Range(*start, *end, *size),
-        Op::RangeInclusive(start, last, size) => Op::RangeInclusive(*start, *last, *size),
-        Op::Keys => Op::Keys,
-        Op::IsEmpty => Op::IsEmpty,
-        Op::Stats => Op::Stats,
-    })
 }
 
 /// An equal reply.

@@ -1,26 +1,26 @@
 //! One step of the machine, by its event.
 
-ghost use Rattle.std.specs.Prelude.{◌≡◌, ◌<◌, Some, length, slice_get, slice_set, option_map, true, false, if◌then◌else◌};
+ghost use Rattle.std.specs.Prelude.{◌≡◌, ◌<◌, Some, length, slice_get, true, false};
 ghost use Rattle.judge.specs.Answer.{Pairs};
 ghost use Rattle.congee.specs.Keys.{IsMapOf};
-ghost use Rattle.joint.specs.engine.Beginning.{Begun, stage_of};
+ghost use Rattle.joint.specs.engine.Beginning.{Begun};
 ghost use Rattle.joint.specs.engine.Census.{effect_of};
-ghost use Rattle.joint.specs.nodes.Nodes.{nodes};
+ghost use Rattle.joint.specs.nodes.Nodes.{IsCharged, nodes};
 ghost use Rattle.joint.specs.nodes.Survey.{IsEmptiness};
-ghost use Rattle.joint.specs.engine.Engine.{Does, EngineHolds, IsEngineStep, Proceeds, misuse, quiet, collection, destroyed_count, finds_none, interruption, is_busy, kind_of, reserving, Surveys, Walks};
-ghost use Rattle.joint.specs.Reports.{told};
+ghost use Rattle.joint.specs.engine.Engine.{Does, EngineHolds, IsEngineStep, Proceeds, misuse, quiet, collection, finds_none, interruption, is_busy, kind_of, reserving, Surveys, Walks};
 ghost use Rattle.joint.specs.declared.steps.Event.TheVariants as Event;
-ghost use Rattle.joint.specs.engine.Intact.{WalkedOn, over_at, writes};
+ghost use Rattle.joint.specs.engine.Intact.{writes};
 ghost use Rattle.joint.specs.declared.engine.in_flight.InFlight.TheVariants as InFlight;
 ghost use Rattle.joint.specs.declared.steps.Survey.TheVariants as Survey;
+ghost use Rattle.joint.specs.declared.engine.step.Way.TheVariants as Way;
 ghost use Rattle.joint.specs.declared.steps.Target.TheVariants as Target;
 ghost use Rattle.joint.specs.declared.steps.Outcome.TheVariants as Outcome;
 ghost use Rattle.joint.specs.declared.steps.Kind.TheVariants as Kind;
 ghost use Rattle.crossbeam_epoch.specs.World.Machine.{place};
 ghost use Rattle.joint.specs.engine.State.{state_of, EngineIntact, EngineCounted};
 
-use crate::engine::census::{Change, effect_after};
-use crate::engine::in_flight::{InFlight, Stage};
+use crate::engine::census::{Change, effect};
+use crate::engine::in_flight::InFlight;
 use crate::engine::{Engine, call_laws, cell_laws, progress};
 use crate::id::Id;
 use crate::refusal::Refusal;
@@ -42,7 +42,7 @@ impl<P: Payload + Small, A: Allocator> Engine<P, A> {
         report
     }
 
-    /// The step in which a worker begins a call.
+    /// The step in which a worker begins a call, or is refused it for its first cause.
     pub(crate) fn step_begin(&mut self, worker: u32, op: Op<P>) -> Report<P>
         requires holds { EngineHolds P.same_as P.always_copies (state_of self.old) }
         requires counted { EngineCounted self.old.census (state_of self.old) }
@@ -50,9 +50,19 @@ impl<P: Payload + Small, A: Allocator> Engine<P, A> {
         ensures counted { EngineCounted self.new.census (state_of self.new) }
     {
         call_laws::<P>();
-        let report = self.begin(worker as usize, op.target());
-        self.nodes.charged();
-        report
+        let who = worker as usize;
+        let target = op.target();
+        if !self.nodes.collector.is_registered(who) {
+            return refused(kind_of(&target), Refusal::Unknown);
+        }
+        if self.is_busy(who) {
+            return refused(kind_of(&target), Refusal::of_fault(interruption(&target)));
+        }
+        match target {
+            Target::Collector(op) => self.begin_on_collector(who, op),
+            Target::Tree(op) => self.begin_on_tree(who, op),
+            Target::Survey(survey) => self.answer_survey(who, survey),
+        }
     }
 
     /// The next step of a worker's call.
@@ -64,9 +74,24 @@ impl<P: Payload + Small, A: Allocator> Engine<P, A> {
         ensures counted { EngineCounted self.new.census (state_of self.new) }
     {
         call_laws::<P>();
-        let report = self.go(worker as usize, noise);
-        self.nodes.charged();
-        report
+        let who = worker as usize;
+        if self.is_walking(who) {
+            self.go_on_tree(who, noise)
+        } else {
+            self.go_other(who)
+        }
+    }
+
+    /// Whether a worker's call takes its steps on the tree.
+    fn is_walking(&self, who: usize) -> bool
+        ensures walking { result ≡ true → slice_get self.now.calls.items who ≡ Some InFlight.Walking }
+        ensures other { result ≡ false → slice_get self.now.calls.items who ≡ Some InFlight.Walking → ⊥ }
+    {
+        match self.calls.get(who) {
+            Some(InFlight::Walking) => true,
+            // There is none, or it is on the collector, or before its first step on the tree.
+            _ => false,
+        }
     }
 
     /// A worker takes the lowest free place.
@@ -84,38 +109,18 @@ impl<P: Payload + Small, A: Allocator> Engine<P, A> {
         }
     }
 
-    /// Begins a call of a worker's, or refuses it for its first cause.
-    fn begin(&mut self, who: usize, target: Target<P>) -> Report<P>
-        requires intact { EngineIntact P.same_as P.always_copies (state_of self.old) }
-        requires counted { EngineCounted self.old.census (state_of self.old) }
-        ensures intact { EngineIntact P.same_as P.always_copies (state_of self.new) }
-        ensures begun { Begun P.same_as P.always_copies (state_of self.old) who target result (state_of self.new) }
-        ensures census { self.new.census ≡ self.old.census }
-    {
-        if !self.nodes.is_registered(who) {
-            return refused(kind_of(&target), Refusal::Unknown);
-        }
-        if self.is_busy(who) {
-            return refused(kind_of(&target), Refusal::of_fault(interruption(&target)));
-        }
-        match target {
-            Target::Collector(op) => self.begin_on_collector(who, op),
-            Target::Tree(op) => self.begin_on_tree(who, op),
-            Target::Survey(survey) => self.answer_survey(who, survey),
-        }
-    }
-
     /// Begins a call on the collector, of a worker without a call in flight.
     fn begin_on_collector(&mut self, who: usize, op: crossbeam_epoch::Op) -> Report<P>
         requires intact { EngineIntact P.same_as P.always_copies (state_of self.old) }
+        requires charged { IsCharged self.old.nodes }
         requires registered { (place self.old.nodes.collector who).registered ≡ true }
         requires idle { slice_get self.old.calls.items who ≡ Some InFlight.Idle }
         ensures intact { EngineIntact P.same_as P.always_copies (state_of self.new) }
         ensures begun { Begun P.same_as P.always_copies (state_of self.old) who (Target.Collector op) result (state_of self.new) }
         ensures census { self.new.census ≡ self.old.census }
+        ensures charged { IsCharged self.new.nodes }
     {
         progress::<P>();
-        self.nodes.charged();
         let turn = self.begin_collecting(who, op);
         collection(turn, Outcome::of_collector(turn.outcome))
     }
@@ -128,19 +133,22 @@ impl<P: Payload + Small, A: Allocator> Engine<P, A> {
         ensures intact { EngineIntact P.same_as P.always_copies (state_of self.new) }
         ensures begun { Begun P.same_as P.always_copies (state_of self.old) who (Target.Tree op) result (state_of self.new) }
         ensures census { self.new.census ≡ self.old.census }
+        ensures nodes { self.new.nodes ≡ self.old.nodes }
     {
-        if !self.nodes.is_pinned(who) {
+        if !self.nodes.collector.is_pinned(who) {
             return refused(Kind::Tree, Refusal::Unpinned);
         }
-        if finds_none(&op) {
-            return report(Kind::Tree, Outcome::Done(Done::Scanned(0)));
+        match way_of(&op) {
+            Way::None => report(Kind::Tree, Outcome::Done(Done::Scanned(0))),
+            Way::Reserve => {
+                self.set_call(who, InFlight::Reserving(op));
+                report(Kind::Tree, Outcome::Running)
+            }
+            Way::Walk => {
+                self.start(who, op);
+                report(Kind::Tree, Outcome::Running)
+            }
         }
-        if writes(&op) {
-            self.reserve(who, op);
-            return report(Kind::Tree, Outcome::Running);
-        }
-        self.start(who, op);
-        report(Kind::Tree, Outcome::Running)
     }
 
     /// Tells of the tree as it stands, to a worker without a call in flight.
@@ -155,7 +163,7 @@ impl<P: Payload + Small, A: Allocator> Engine<P, A> {
         match survey {
             Survey::Keys => self.tell_keys(),
             Survey::IsEmpty => {
-                if self.nodes.is_pinned(who) {
+                if self.nodes.collector.is_pinned(who) {
                     self.tell_empty()
                 } else {
                     refused(Kind::Tree, Refusal::Unpinned)
@@ -205,67 +213,43 @@ impl<P: Payload + Small, A: Allocator> Engine<P, A> {
         }
     }
 
-    /// The next step of a worker's call in flight.
-    #[inline(always)]
-    fn go(&mut self, who: usize, noise: Noise<Id, P>) -> Report<P>
-        requires intact { EngineIntact P.same_as P.always_copies (state_of self.old) }
-        requires counted { EngineCounted self.old.census (state_of self.old) }
-        ensures intact { EngineIntact P.same_as P.always_copies (state_of self.new) }
-        ensures does { Does P.same_as P.always_copies (state_of self.old) who (Event.Go noise) (misuse (state_of self.old) who (Event.Go noise)) result (state_of self.new) }
-        ensures counted { EngineCounted self.new.census (state_of self.new) }
-    {
-        if self.is_walking(who) {
-            self.go_on_tree(who, noise)
-        } else {
-            self.go_other(who)
-        }
-    }
-
-    /// Whether a worker's call takes its steps on the tree.
-    fn is_walking(&self, who: usize) -> bool
-        ensures walking { result ≡ true → slice_get self.now.calls.items who ≡ Some InFlight.Walking }
-        ensures other { result ≡ false → slice_get self.now.calls.items who ≡ Some InFlight.Walking → ⊥ }
-    {
-        match self.calls.get(who) {
-            Some(InFlight::Walking) => true,
-            // There is none, or it is on the collector, or before its first step on the tree.
-            _ => false,
-        }
-    }
-
     /// The next step of a worker's call that isn't on the tree yet, or there is none.
     #[inline(never)]
     fn go_other(&mut self, who: usize) -> Report<P>
         requires other { slice_get self.old.calls.items who ≡ Some InFlight.Walking → ⊥ }
         requires intact { EngineIntact P.same_as P.always_copies (state_of self.old) }
+        requires charged { IsCharged self.old.nodes }
         requires counted { EngineCounted self.old.census (state_of self.old) }
         ensures intact { EngineIntact P.same_as P.always_copies (state_of self.new) }
         ensures does { (noise : Noise Id P) → Does P.same_as P.always_copies (state_of self.old) who (Event.Go noise) (misuse (state_of self.old) who (Event.Go noise)) result (state_of self.new) }
         ensures counted { EngineCounted self.new.census (state_of self.new) }
+        ensures charged { IsCharged self.new.nodes }
     {
-        if !self.nodes.is_registered(who) {
+        if !self.nodes.collector.is_registered(who) {
             return refused(Kind::Collection, Refusal::Unknown);
         }
-        match self.stage(who) {
-            Stage::Idle => refused(Kind::Collection, Refusal::Idle),
-            Stage::Collecting(op) => {
+        match &self.calls[who] {
+            InFlight::Idle => refused(Kind::Collection, Refusal::Idle),
+            InFlight::Collecting(op) => {
+                let op = *op;
                 let turn = self.go_collecting(who, op);
                 collection(turn, Outcome::of_collector(turn.outcome))
             }
-            Stage::Reserving => {
+            InFlight::Reserving(_) => {
                 self.begin_securing(who);
                 let turn = self.go_securing(who);
                 collection(turn, reserving(turn.outcome))
             }
-            Stage::Securing => {
+            InFlight::Securing(_) => {
                 let turn = self.go_securing(who);
                 collection(turn, reserving(turn.outcome))
             }
-            Stage::Walking => unreachable!(),
+            InFlight::Walking => unreachable!(),
         }
     }
 
-    /// The next step of a worker's call on the tree.
+    /// The next step of a worker's call on the tree, and what it makes of the pairs and of the nodes that are taken out is
+    /// counted.
     #[inline(always)]
     fn go_on_tree(&mut self, who: usize, noise: Noise<Id, P>) -> Report<P>
         requires intact { EngineIntact P.same_as P.always_copies (state_of self.old) }
@@ -274,31 +258,24 @@ impl<P: Payload + Small, A: Allocator> Engine<P, A> {
         ensures intact { EngineIntact P.same_as P.always_copies (state_of self.new) }
         ensures walks { Walks P.same_as P.always_copies (state_of self.old) who noise result (state_of self.new) }
         ensures counted { EngineCounted self.new.census (state_of self.new) }
-    {
-        let before = self.nodes.standing();
-        let moved = self.go_counted(who, noise);
-        of_move(moved, before.saturating_sub(self.nodes.standing()))
-    }
-
-    /// The same, and what it makes of the pairs and of the nodes that are taken out is counted.
-    #[inline(always)]
-    fn go_counted(&mut self, who: usize, noise: Noise<Id, P>) -> Move<P>
-        requires intact { EngineIntact P.same_as P.always_copies (state_of self.old) }
-        requires on { slice_get self.old.calls.items who ≡ Some InFlight.Walking }
-        requires counted { EngineCounted self.old.census (state_of self.old) }
-        ensures intact { EngineIntact P.same_as P.always_copies (state_of self.new) }
-        ensures walked { WalkedOn P.same_as P.always_copies self.old.nodes self.old.machines.items (record { who = who; noise = noise }) result self.new.nodes self.new.machines.items }
-        ensures calls { self.new.calls.items ≡ slice_set self.old.calls.items who (if over_at (slice_get self.new.machines.items who) then InFlight.Idle else InFlight.Walking) }
-        ensures counted { EngineCounted self.new.census (state_of self.new) }
+        ensures charged { IsCharged self.new.nodes }
     {
         call_laws::<P>();
+        let stood = self.nodes.standing();
         let before = self.taken(who);
-        let moved = self.go_walking(who, noise);
+        let moved = self.walk(who, noise);
+        self.put_away(who, &moved.outcome);
         let after = self.taken(who);
         let change = self.change_by(who, &moved);
-        self.census.recount(before, after);
-        self.census.count(change);
-        moved
+        self.census.count(before, after, change);
+        Report {
+            kind: Kind::Tree,
+            decided: moved.decided,
+            kept: false,
+            skipped: moved.skipped,
+            destroyed: stood.saturating_sub(self.nodes.standing()),
+            outcome: Outcome::of_tree(moved.outcome),
+        }
     }
 
     /// What a step of a worker's call made of the number of pairs.
@@ -307,10 +284,16 @@ impl<P: Payload + Small, A: Allocator> Engine<P, A> {
         requires { who < length self.now.machines.items }
         ensures { result ≡ effect_of moved.now.decided moved.now.outcome (slice_get self.now.machines.items who) }
     {
-        if moved.decided {
-            effect_after(&moved.outcome, &self.machines[who])
-        } else {
-            Change::Same
+        if !moved.decided {
+            return Change::Same;
+        }
+        match &moved.outcome {
+            congee::Outcome::Done(reply) => effect(reply),
+            // It goes on, by the reply that it will give: no other outcome decides.
+            _ => match self.machines[who].reply() {
+                Some(reply) => effect(reply),
+                None => Change::Same,
+            },
         }
     }
 
@@ -323,20 +306,6 @@ impl<P: Payload + Small, A: Allocator> Engine<P, A> {
             InFlight::Idle => false,
             // On the collector, on the tree, or before that making places free.
             _ => true,
-        }
-    }
-
-    /// What a worker's call in flight is about.
-    fn stage(&self, who: usize) -> Stage
-        requires { who < length self.now.calls.items }
-        ensures { Some result ≡ option_map stage_of (slice_get self.now.calls.items who) }
-    {
-        match &self.calls[who] {
-            InFlight::Idle => Stage::Idle,
-            InFlight::Collecting(op) => Stage::Collecting(*op),
-            InFlight::Reserving(_) => Stage::Reserving,
-            InFlight::Securing(_) => Stage::Securing,
-            InFlight::Walking => Stage::Walking,
         }
     }
 }
@@ -362,28 +331,17 @@ pub(crate) fn refused<P>(kind: Kind, refusal: Refusal) -> Report<P>
     report(kind, Outcome::Refused(refusal))
 }
 
-/// The nodes that a step of the collector destroyed.
-fn destroyed_count(report: &crossbeam_epoch::Report) -> u64
-    ensures { result ≡ destroyed_count report.now.called }
+/// The report of a step of the collector, with the nodes that it destroyed.
+fn collection<P>(turn: crossbeam_epoch::Report, outcome: Outcome<P>) -> Report<P>
+    ensures { result ≡ collection turn outcome }
 {
-    match report.called {
-        None => 0,
-        Some((_, None)) => 0,
-        Some((_, Some(_))) => 1,
-    }
-}
-
-/// The report of a step of the collector.
-fn collection<P>(report: crossbeam_epoch::Report, outcome: Outcome<P>) -> Report<P>
-    ensures { result ≡ collection report outcome }
-{
-    Report {
-        kind: Kind::Collection,
-        decided: false,
-        kept: false,
-        skipped: false,
-        destroyed: destroyed_count(&report),
-        outcome,
+    match turn.called {
+        None => report(Kind::Collection, outcome),
+        Some((_, None)) => report(Kind::Collection, outcome),
+        Some((_, Some(_))) => Report {
+            destroyed: 1,
+            ..report(Kind::Collection, outcome)
+        },
     }
 }
 
@@ -394,21 +352,6 @@ fn reserving<P>(outcome: crossbeam_epoch::Outcome) -> Outcome<P>
     match outcome {
         crossbeam_epoch::Outcome::Done => Outcome::Running,
         outcome => Outcome::of_collector(outcome),
-    }
-}
-
-/// The report of a step on the tree that gave so many nodes back.
-#[inline(always)]
-fn of_move<P>(moved: Move<P>, back: u64) -> Report<P>
-    ensures { result ≡ record { kind = Kind.Tree; decided = moved.decided; kept = false; skipped = moved.skipped; destroyed = back; outcome = told moved.outcome } }
-{
-    Report {
-        kind: Kind::Tree,
-        decided: moved.decided,
-        kept: false,
-        skipped: moved.skipped,
-        destroyed: back,
-        outcome: Outcome::of_tree(moved.outcome),
     }
 }
 
@@ -436,27 +379,30 @@ fn interruption<P>(target: &Target<P>) -> Fault
     }
 }
 
-/// Whether a call may hand nodes over.
-fn writes<P>(op: &congee::Op<P>) -> bool
-    ensures { result ≡ writes op.now }
-{
-    match op {
-        congee::Op::Get(_) => false,
-        congee::Op::Range(_, _, _) => false,
-        congee::Op::RangeInclusive(_, _, _) => false,
-        // An insertion, a removal, a compute or an exchange.
-        _ => true,
-    }
+/// What a call on the tree does first.
+#[derive(Clone, Copy, Drop)]
+enum Way {
+    /// It is a scan that can find nothing, and ends.
+    None,
+    /// It may hand nodes over, and reserves its place in a journal.
+    Reserve,
+    /// It reads, and walks at once.
+    Walk,
 }
 
-/// Whether a call is a scan that can find nothing.
-fn finds_none<P>(op: &congee::Op<P>) -> bool
-    ensures { result ≡ finds_none op.now }
+/// What a call on the tree does first.
+fn way_of<P>(op: &congee::Op<P>) -> Way
+    ensures none { result ≡ Way.None → finds_none op.now ≡ true }
+    ensures reserve { result ≡ Way.Reserve → writes op.now ≡ true }
+    ensures walk { result ≡ Way.Walk → (finds_none op.now ≡ false) × (writes op.now ≡ false) }
 {
     match op {
-        congee::Op::Range(start, end, size) => *start >= *end || *size == 0,
-        congee::Op::RangeInclusive(start, last, size) => *start > *last || *size == 0,
-        // A call on one key is no scan.
-        _ => false,
+        congee::Op::Get(_) => Way::Walk,
+        congee::Op::Range(start, end, size) if *start >= *end || *size == 0 => Way::None,
+        congee::Op::Range(_, _, _) => Way::Walk,
+        congee::Op::RangeInclusive(start, last, size) if *start > *last || *size == 0 => Way::None,
+        congee::Op::RangeInclusive(_, _, _) => Way::Walk,
+        // An insertion, a removal, a compute or an exchange.
+        _ => Way::Reserve,
     }
 }

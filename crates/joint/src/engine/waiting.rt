@@ -46,7 +46,7 @@ impl<P: Payload + Small, A: Allocator> Engine<P, A> {
     {
         match self.machines[who].taken() {
             Some((node, next)) => self.weighed(node, next),
-            None => Taken::none(),
+            None => Taken { nodes: 0, bytes: 0 },
         }
     }
 

@@ -11,18 +11,27 @@ ghost use Rattle.joint.specs.nodes.Altering.{Fills, Empties, IsNewSlot, IsNoSlot
 ghost use Rattle.joint.specs.nodes.Solid.{IsWhole};
 ghost use Rattle.joint.specs.nodes.View.{node_of, out};
 
-use crate::nodes::slot::Slot;
+use crate::nodes::slot::{LockWord, Slot};
 use congee::{Allocator, NodeType, OOMError, Payload, Refusal, Small};
 use crossbeam_epoch::{Name, World};
 use std::alloc::Global;
 
-/// Takes the slot of a name out.
+/// Takes the slot of a name out, and leaves one without a node there.
 pub(crate) fn take_out<P: Payload + Small>(collector: &mut World<Slot<P>, ()>, at: Name) -> Slot<P>
     requires { is_some (value_at collector.old.store at) ≡ true }
     ensures was { value_at collector.old.store at ≡ Some result }
     ensures state { collector.new ≡ with_store collector.old (replaced collector.old.store at.cell out) }
 {
-    match collector.replace(at, Slot::out()) {
+    let out = Slot {
+        node: None,
+        word: LockWord {
+            version: 0,
+            locked: false,
+            obsolete: false,
+            retired: false,
+        },
+    };
+    match collector.replace(at, out) {
         Ok(slot) => slot,
         Err(_) => unreachable!(),
     }

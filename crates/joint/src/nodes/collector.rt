@@ -1,6 +1,6 @@
 //! The collector's calls on the nodes.
 
-ghost use Rattle.std.specs.Prelude.{◌≡◌, ◌<◌, ℕ, List, ◌∷◌, [], Some, None, IfOk, OnOk, OnErr, MatchResult, MatchOption, IsTrue, length, unwrap_or, is_some, not, true, false, ◌==◌, ◌&&◌};
+ghost use Rattle.std.specs.Prelude.{◌≡◌, ◌<◌, ℕ, List, ◌∷◌, [], Some, None, IfOk, OnOk, OnErr, MatchResult, MatchOption, length, unwrap_or, not, true, false, ◌==◌, ◌&&◌};
 ghost use Rattle.std.specs.Result.{result_ok};
 ghost use Rattle.crossbeam_epoch.specs.Limits.{bag_places};
 ghost use Rattle.crossbeam_epoch.specs.declared.bag.Work.{Work};
@@ -9,14 +9,14 @@ ghost use Rattle.crossbeam_epoch.specs.World.Progress.{Moves};
 ghost use Rattle.crossbeam_epoch.specs.World.Reach.{Moment, Quiet, Marked, moment, step_act, HasMoments};
 ghost use Rattle.crossbeam_epoch.specs.World.History.{Deferred};
 ghost use Rattle.crossbeam_epoch.specs.World.Steps.{IsReport, after, destroy_fault};
-ghost use Rattle.joint.specs.nodes.Nodes.{IsCharged, IsBeside, with_collector, gone_by};
+ghost use Rattle.joint.specs.nodes.Nodes.{IsCharged, IsBeside, with_collector};
 ghost use Rattle.joint.specs.nodes.Slots.{slot_names};
 
 use crate::id::Id;
 use crate::nodes::Nodes;
 use crate::nodes::slot::Slot;
 use congee::{Allocator, Payload, Small};
-use crossbeam_epoch::{Event, Fault, Name, Report, World};
+use crossbeam_epoch::{Event, Fault, Report, World};
 
 impl<P: Payload + Small, A: Allocator> Nodes<P, A> {
     /// Gives out the lowest free place of the collector's table; TableFull where every place is taken.
@@ -28,21 +28,6 @@ impl<P: Payload + Small, A: Allocator> Nodes<P, A> {
     {
         World::<Slot<P>, ()>::order();
         self.collector.register()
-    }
-
-    /// Whether a worker of this number is registered.
-    pub fn is_registered(&self, who: usize) -> bool
-        ensures value { result ≡ (place self.now.collector who).registered }
-        ensures inside { IsTrue result → who < length self.now.collector.table }
-    {
-        self.collector.is_registered(who)
-    }
-
-    /// Whether a worker of this number is registered and pinned.
-    pub fn is_pinned(&self, who: usize) -> bool
-        ensures { result ≡ ((place self.now.collector who).registered && is_some (place self.now.collector who).word) }
-    {
-        self.collector.is_pinned(who)
     }
 
     /// Whether a worker has a free place in its bag.
@@ -64,9 +49,10 @@ impl<P: Payload + Small, A: Allocator> Nodes<P, A> {
         World::<Slot<P>, ()>::order();
         World::<Slot<P>, ()>::cells();
         let report = self.collector.step(who, event);
-        match destroyed_name(&report) {
+        match report.called {
             None => report,
-            Some(name) => {
+            Some((_, None)) => report,
+            Some((_, Some(name))) => {
                 let size = self.counts.take_off(name.cell);
                 self.allocator.deallocate(size);
                 report
@@ -83,15 +69,5 @@ impl<P: Payload + Small, A: Allocator> Nodes<P, A> {
         ensures told { (h : List Moment) → HasMoments slot_names h self.old.collector → MatchResult result (λ t. HasMoments slot_names (moment slot_names (Marked (Deferred t (Some node.name))) self.new.collector ∷ h) self.new.collector) (λ e. HasMoments slot_names (moment slot_names Quiet self.new.collector ∷ h) self.new.collector) }
     {
         self.collector.defer_destroy(who, node.name)
-    }
-}
-
-/// The name of the cell that a step destroyed.
-fn destroyed_name(report: &Report) -> Option<Name>
-    ensures { result ≡ gone_by report.now.called }
-{
-    match report.called {
-        Some((_, name)) => name,
-        None => None,
     }
 }

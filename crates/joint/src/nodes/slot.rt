@@ -12,7 +12,7 @@ ghost use Rattle.std.specs.FinMap as map;
 ghost use Rattle.joint.specs.declared.nodes.slot.LockWord.{LockWord};
 ghost use Rattle.joint.specs.nodes.Altering.{Hangs, MovesTo, IsNewSlot, Pulls};
 ghost use Rattle.joint.specs.nodes.Solid.{AreAlike, IsLeft, IsSolid, IsWhole, hang};
-ghost use Rattle.joint.specs.nodes.View.{id_number, child_at, node_of, out, shape, is_word};
+ghost use Rattle.joint.specs.nodes.View.{id_number, child_at, node_of, shape, is_word};
 
 use crate::id::Id;
 use congee::{Child, Node, NodeType, Payload, Small};
@@ -65,21 +65,6 @@ impl LockWord {
 }
 
 impl<P: Payload + Small> Slot<P> {
-    /// What stands in a cell while its node is out to be changed.
-    pub(crate) fn out() -> Self
-        ensures { result ≡ out }
-    {
-        Slot {
-            node: None,
-            word: LockWord {
-                version: 0,
-                locked: false,
-                obsolete: false,
-                retired: false,
-            },
-        }
-    }
-
     /// An empty node of the form, with a prefix of at most seven bytes and a free lock word.
     pub(crate) fn new(alloc: Global, form: NodeType, prefix: &[u8]) -> Result<Self, AllocError>
         requires { length prefix.now ≤ MAX_PREFIX_LEN }

@@ -174,7 +174,7 @@ impl<P: Payload + Small, A: Allocator> Store<Id, P> for Nodes<P, A> {
     }
 
     fn unlock(&mut self, node: Id) {
-        let _most = self.version_max();
+        let _most = self.version_max;
         let word = self.slot(node).word;
         self.set_word(
             node,

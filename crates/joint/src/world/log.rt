@@ -2,7 +2,7 @@
 
 ghost use Rattle.std.specs.Prelude.{◌≡◌, ◌<◌, ltb, None, [], ◌∷◌, ◌++◌, true, false, replicate, slice_set, IfOk};
 ghost use Rattle.std.specs.Option.{option_copied};
-ghost use Rattle.joint.specs.engine.Log.{has_room, is_full, opened_log, recounted, request_at};
+ghost use Rattle.joint.specs.engine.Log.{has_room, is_full, opened_log, recounted, request_at, with_request};
 
 use crate::engine::request::Request;
 use judge::Entry;
@@ -131,6 +131,20 @@ impl<P: Drop> Log<P> {
             std::mem::replace(&mut self.requests[who], request)
         } else {
             None
+        }
+    }
+
+    /// Puts another request in a worker's place, where it is to be noted.
+    #[inline(always)]
+    pub(crate) fn put_request_if(&mut self, who: usize, on: bool, request: Option<Request<P>>)
+        ensures { self.new ≡ with_request self.old who on request }
+    {
+        if !on {
+            return;
+        }
+        if who < self.requests.len() {
+            // Handed to `drop`: in place it would be a step for each variant.
+            drop(std::mem::replace(&mut self.requests[who], request));
         }
     }
 }

@@ -1,11 +1,11 @@
 //! One step of the index, with what is written down of it.
 
-ghost use Rattle.std.specs.Prelude.{◌≡◌, ◌++◌, ◌&&◌, true, false, ltb, Option, None, is_some, slice_get, slice_set};
+ghost use Rattle.std.specs.Prelude.{◌≡◌, ◌++◌, ◌&&◌, true, false, Option, None, is_some, slice_get, slice_set};
 ghost use Rattle.joint.specs.engine.Intact.{is_reserving};
 ghost use Rattle.judge.specs.declared.journal.Entry.{Entry};
 ghost use Rattle.joint.specs.declared.engine.request.Request.{Request};
 ghost use Rattle.joint.specs.engine.Journaling.{asks_at, entry_of, in_list, kept_if, reply_by};
-ghost use Rattle.joint.specs.engine.Log.{has_room, answered_if, is_full, with_request, request_at};
+ghost use Rattle.joint.specs.engine.Log.{has_room, answered_if, is_full, request_at};
 ghost use Rattle.joint.specs.world.World.{IsStep};
 ghost use Rattle.joint.specs.engine.Engine.{is_in_flight};
 
@@ -47,40 +47,23 @@ impl<P: Payload + Small, A: Allocator> World<P, A> {
         let request = Request::of(&op);
         let report = self.engine.step_begin(worker, op);
         let on = is_in_flight(&report.outcome);
-        put_request_if(&mut self.log, worker as usize, on, request);
+        self.log.put_request_if(worker as usize, on, request);
         report
     }
 
-    /// The next step of a worker's call.
+    /// The next step of a worker's call. Where no journal is kept, nothing is counted for one, and nothing written down.
     #[inline(always)]
     pub(crate) fn go(&mut self, worker: u32, noise: Noise<Id, P>) -> Report<P>
         ensures { IsStep P.same_as P.always_copies self.old (record { worker = worker; event = Event.Go noise }) result self.new }
     {
-        if self.is_kept() {
-            self.go_kept(worker, noise)
-        } else {
-            self.go_unkept(worker, noise)
+        if self.log.is_kept() {
+            return self.go_kept(worker, noise);
         }
-    }
-
-    /// Whether a journal is kept.
-    fn is_kept(&self) -> bool
-        ensures { result ≡ ltb 0 self.now.log.places }
-    {
-        self.log.is_kept()
-    }
-
-    /// The next step of a worker's call where no journal is kept: nothing is counted for one, and nothing written down.
-    #[inline(always)]
-    fn go_unkept(&mut self, worker: u32, noise: Noise<Id, P>) -> Report<P>
-        requires { ltb 0 self.old.log.places ≡ false }
-        ensures { IsStep P.same_as P.always_copies self.old (record { worker = worker; event = Event.Go noise }) result self.new }
-    {
         let who = worker as usize;
-        let asks = takes_answer(&self.engine, who, &noise.answer);
-        take_answer(&mut self.log, who, asks, &noise.answer);
+        take_answer(&self.engine, &mut self.log, who, &noise.answer);
         let told = self.engine.step_on(worker, noise);
-        put_request_if(&mut self.log, who, !is_in_flight(&told.outcome), None);
+        self.log
+            .put_request_if(who, !is_in_flight(&told.outcome), None);
         told
     }
 
@@ -109,7 +92,7 @@ impl<P: Payload + Small, A: Allocator> World<P, A> {
         ensures { (noise : Noise Id P) → IsStep P.same_as P.always_copies self.old (record { worker = who; event = Event.Go noise }) result self.new }
     {
         self.engine.abandon(who);
-        put_request_if(&mut self.log, who, true, None);
+        self.log.put_request(who, None);
         refused(Kind::Collection, Refusal::JournalFull)
     }
 
@@ -119,50 +102,34 @@ impl<P: Payload + Small, A: Allocator> World<P, A> {
         ensures { IsStep P.same_as P.always_copies self.old (record { worker = worker; event = Event.Go noise }) result self.new }
     {
         let who = worker as usize;
-        let asks = takes_answer(&self.engine, who, &noise.answer);
-        take_answer(&mut self.log, who, asks, &noise.answer);
+        take_answer(&self.engine, &mut self.log, who, &noise.answer);
         let before = self.engine.has_place(who);
         let mut told = self.engine.step_on(worker, noise);
         let after = self.engine.has_place(who);
         self.log.recount(before, after);
         told.kept = keep(&self.engine, &mut self.log, worker, &told);
-        put_request_if(&mut self.log, who, !is_in_flight(&told.outcome), None);
+        self.log
+            .put_request_if(who, !is_in_flight(&told.outcome), None);
         told
     }
 }
 
-/// Puts a request in its worker's place, where it is to be noted.
+/// What a worker asked for takes the answer that its call takes in its next step, if there is one; it goes where a value can't
+/// be copied.
 #[inline(always)]
-fn put_request_if<P: Drop>(log: &mut Log<P>, who: usize, on: bool, request: Option<Request<P>>)
-    ensures { log.new ≡ with_request log.old who on request }
-{
-    if on {
-        log.put_request(who, request);
-    }
-}
-
-/// Whether a worker's call takes this answer in its next step, if there is one.
-#[inline(always)]
-fn takes_answer<P: Payload + Small, A: Allocator>(
+fn take_answer<P: Payload + Small, A: Allocator>(
     engine: &Engine<P, A>,
+    log: &mut Log<P>,
     who: usize,
     answer: &Option<Option<P>>,
-) -> bool
-    ensures { (q : Option (Request P)) → answered_if result answer.now q ≡ answered_if (asks_at (slice_get engine.now.machines.items who)) answer.now q }
-{
-    match answer {
-        Some(_) => engine.asks(who),
-        None => false,
-    }
-}
-
-/// What a worker asked for takes the answer that its call takes in this step; it goes where a value can't be copied.
-#[inline(always)]
-fn take_answer<P: Payload>(log: &mut Log<P>, who: usize, asks: bool, answer: &Option<Option<P>>)
-    ensures heard { P.always_copies ≡ true → request_at log.new.requests who ≡ answered_if asks answer.now (request_at log.old.requests who) }
+)
+    ensures heard { P.always_copies ≡ true → request_at log.new.requests who ≡ answered_if (asks_at (slice_get engine.now.machines.items who)) answer.now (request_at log.old.requests who) }
     ensures left { log.new ≡ record log.old { requests = slice_set log.old.requests who (request_at log.new.requests who) } }
 {
-    if asks {
+    if answer.is_none() {
+        return;
+    }
+    if engine.asks(who) {
         let request = log.put_request(who, None);
         log.put_request(who, with_answer(request, answer));
     }

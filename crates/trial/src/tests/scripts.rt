@@ -3,7 +3,7 @@
 use super::dialogue::repeated;
 use super::failures::Hiccup;
 use super::replies::Narrow;
-use crate::run::{exit, run};
+use crate::run::run;
 use std::alloc::Global;
 use std::io::{self, ErrorKind, Read, Write};
 use std::process::ExitCode;
@@ -123,15 +123,15 @@ fn the_program_tells_its_end(rt: HostRuntime) -> Result<(), Fail> {
     for (script, status) in table {
         let mut reader = script;
         let mut printed = Vec::new(rt.alloc());
-        let ended = exit(rt.alloc(), &mut reader, &mut printed);
-        assert_eq!(rt; ended, ExitCode::from(status));
+        let ended = run(rt.alloc(), &mut reader, &mut printed);
+        assert_eq!(rt; ExitCode::from(ended), ExitCode::from(status));
     }
     let mut hiccup = Hiccup {
         script: SCRIPT,
         before: Some(2),
     };
     let mut printed = Vec::new(rt.alloc());
-    let ended = exit(rt.alloc(), &mut hiccup, &mut printed);
-    assert_eq!(rt; ended, ExitCode::FAILURE);
+    let ended = run(rt.alloc(), &mut hiccup, &mut printed);
+    assert_eq!(rt; ExitCode::from(ended), ExitCode::FAILURE);
     Ok(())
 }

@@ -1,7 +1,7 @@
 -- A writing call begins, may be ended before its first step, and in that begins to make places free.
 use Rattle.std.proofs.Common.{◌≡◌, ◌<◌, ℕ, Bool, true, List, refl, sym, ◌∙◌, ap, subst, inl, inr}
 use Rattle.std.proofs.Math.ListN.{set}
-use Rattle.std.specs.Prelude.{Option, None, Some, is_none, is_some, length, option_map, slice_get, if◌then◌else◌}
+use Rattle.std.specs.Prelude.{Option, None, Some, is_none, is_some, length, slice_get, if◌then◌else◌}
 use Rattle.std.proofs.lemmas.List.{length-set, set-set, get_or-set_same}
 use Rattle.crossbeam_epoch.specs.declared.fault.Fault.TheVariants.{Unpinned, Unknown}
 use Rattle.crossbeam_epoch.specs.declared.names.Name.{Name}
@@ -19,10 +19,8 @@ use Rattle.congee.specs.declared.protocol.machine.Machine.{Machine}
 use Rattle.congee.specs.declared.protocol.op.Op.{Op}
 use Rattle.joint.specs.declared.engine.in_flight.InFlight.{InFlight}
 use Rattle.joint.specs.declared.engine.in_flight.InFlight.TheVariants.{Idle, Collecting, Reserving, Securing, Walking}
-use Rattle.joint.specs.declared.engine.in_flight.Stage.TheVariants as about
 use Rattle.joint.specs.declared.id.Id.{Id}
 use Rattle.joint.specs.declared.nodes.slot.Slot.{Slot}
-use Rattle.joint.specs.engine.Beginning.{stage_of}
 use Rattle.joint.specs.nodes.Nodes.{Nodes, nodes}
 use Rattle.joint.specs.engine.Intact.{IsAt, IsIntact, BeginsSecuring, is_reserving, securing_of, writes}
 use Rattle.joint.specs.engine.Laws.{ProgressLaws}
@@ -39,15 +37,6 @@ reserving_call (Some (Collecting op)) e = absurd (cc e)
 reserving_call (Some (Securing op)) e = absurd (cc e)
 reserving_call (Some Walking) e = absurd (cc e)
 reserving_call None e = absurd (cc e)
-
--- a call at that stage has taken no step
-pub reserving_stage : {V : Type 0} (x : Option (InFlight V)) → Some about.Reserving ≡ option_map stage_of x → is_reserving x ≡ true
-reserving_stage (Some (Reserving op)) e = refl
-reserving_stage (Some Idle) e = absurd (cc e)
-reserving_stage (Some (Collecting op)) e = absurd (cc e)
-reserving_stage (Some (Securing op)) e = absurd (cc e)
-reserving_stage (Some Walking) e = absurd (cc e)
-reserving_stage None e = absurd (cc e)
 
 -- what it leaves
 module _ {V : Type 0} (same : V → V → Bool) (always : Bool) (s : Nodes V) (ms : List (Machine Id V)) (calls : List (InFlight V)) (who : ℕ) (s' : Nodes V) (ms' : List (Machine Id V)) (calls' : List (InFlight V)) (b : BeginsSecuring same always s ms calls who s' ms' calls') where

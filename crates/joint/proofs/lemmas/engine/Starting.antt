@@ -1,7 +1,7 @@
 -- A call on the tree begins in the place of a worker without a call in flight, who is pinned and has secured its places.
-use Rattle.std.proofs.Common.{◌≡◌, ◌<◌, ℕ, Bool, false, List, [], refl, sym, ◌∙◌, ap, subst, inl, inr}
+use Rattle.std.proofs.Common.{◌≡◌, ◌+◌, ◌<◌, ◌≤◌, ℕ, arith, Bool, true, false, List, [], refl, sym, ◌∙◌, ap, subst, inl, inr}
 use Rattle.std.proofs.Math.ListN.{set}
-use Rattle.std.specs.Prelude.{Some, length, slice_get}
+use Rattle.std.specs.Prelude.{Some, is_some, length, slice_get}
 use Rattle.std.proofs.lemmas.List.{length-set}
 use Rattle.std.proofs.lemmas.Option.{slice_get_within}
 use Rattle.crossbeam_epoch.specs.declared.world.participant.Phase.TheVariants as stage
@@ -21,13 +21,13 @@ use Rattle.joint.specs.declared.engine.in_flight.InFlight.TheVariants.{Idle, Wal
 use Rattle.joint.specs.declared.id.Id.{Id}
 use Rattle.joint.specs.nodes.Nodes.{Nodes}
 use Rattle.joint.specs.nodes.Heap.{heap_of}
-use Rattle.joint.specs.engine.Intact.{IsAt, IsIntact, MayStart, root}
+use Rattle.joint.specs.engine.Intact.{IsAt, IsIntact, MayStart, root, writes}
 use Rattle.joint.specs.engine.Laws.{CallLaws}
 use Rattle.joint.specs.nodes.Slots.{slot_names}
-use Rattle.joint.specs.engine.Sound.{IsUnderWay, IsSecured, Guards}
+use Rattle.joint.specs.engine.Sound.{IsUnderWay, IsSecured, Guards, most_left}
 use Rattle.joint.specs.nodes.View.{view, id_number}
 use Rattle.joint.proofs.lemmas.engine.SoundBegins as begin
-use Rattle.joint.proofs.lemmas.engine.Collecting.{either, get_inside}
+use Rattle.joint.proofs.lemmas.engine.Collecting.{either, get_inside, inside_machines}
 
 -- a call that has not begun has no names, has made nothing, is under way, and needs places only if it writes
 pub record Begins {V : Type 0} (kind : Kind V) (phase : Phase Id V) : Type 0 where
@@ -96,3 +96,23 @@ module _ {V : Type 0} (same : V → V → Bool) (always : Bool) (laws : CallLaws
       ]
     ];
   }
+
+-- a reading call hands nothing over
+room_for : {V : Type 0} (op : Op V) (jobs : ℕ) → writes op ≡ false → jobs ≤ 64 → IsSecured {C = Id} (parts op).1 New jobs
+room_for (Get k) jobs e l = let x : jobs + 0 ≤ 64 = omega (arith, l) in x
+room_for (Range start end size) jobs e l = let x : jobs + 0 ≤ 64 = omega (arith, l) in x
+room_for (RangeInclusive start last size) jobs e l = let x : jobs + 0 ≤ 64 = omega (arith, l) in x
+room_for (Insert k v) jobs e l = absurd (cc e)
+room_for (Remove k) jobs e l = absurd (cc e)
+room_for (ComputePresent k) jobs e l = absurd (cc e)
+room_for (ComputeInsert k) jobs e l = absurd (cc e)
+room_for (Exchange k old new) jobs e l = absurd (cc e)
+
+-- so a pinned worker may begin one at once
+pub reader_may : {V : Type 0} (same : V → V → Bool) (always : Bool) (s : Nodes V) (ms : List (Machine Id V)) (calls : List (InFlight V)) → IsIntact same always s ms calls → (who : ℕ) → slice_get calls who ≡ Some Idle → (op : Op V) → (place s.collector who).registered ≡ true
+    → is_some (place s.collector who).word ≡ true → writes op ≡ false → MayStart s.collector who op
+reader_may same always s ms calls intact who idle op registered pinned reads =
+    let m = get_inside ms who (inside_machines same always s ms calls intact who Idle idle) in
+    let secured : length (place s.collector who).bag + most_left m.0.kind m.0.phase ≤ 64 = (intact.safe.sound.sound.guarded who m.0 m.1).secured in
+    let few : length (place s.collector who).bag ≤ 64 = omega (arith, secured) in
+    record { registered = registered; pinned = pinned; room = room_for op (length (place s.collector who).bag) reads few }

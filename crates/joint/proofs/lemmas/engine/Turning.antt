@@ -1,7 +1,7 @@
 -- Each begin and each step of a call in flight is the machine's, with its first cause where it is refused.
 use Rattle.std.proofs.Common.{◌≡◌, ◌+◌, ◌<◌, ℕ, zero, suc, Bool, true, false, List, [], ◌∷◌, refl, sym, ◌∙◌, ap, subst}
 use Rattle.std.proofs.Math.ListN.{set}
-use Rattle.std.specs.Prelude.{◌&&◌, Option, None, Some, is_none, is_some, length, option_map, slice_get, if◌then◌else◌}
+use Rattle.std.specs.Prelude.{◌&&◌, Option, None, Some, is_none, is_some, length, slice_get, if◌then◌else◌}
 use Rattle.crossbeam_epoch.specs.declared.fault.Fault.{Fault}
 use Rattle.crossbeam_epoch.specs.declared.fault.Fault.TheVariants as fault
 use Rattle.crossbeam_epoch.specs.declared.world.report.Event.TheVariants as collector_event
@@ -30,11 +30,10 @@ use Rattle.joint.specs.declared.steps.Survey.TheVariants as survey
 use Rattle.joint.specs.declared.steps.Target.TheVariants as target
 use Rattle.joint.specs.declared.steps.Target.TheVariants.{Collector, Tree}
 use Rattle.congee.specs.declared.protocol.machine.Noise.{Noise}
-use Rattle.joint.specs.declared.engine.in_flight.Stage.TheVariants as about
 use Rattle.joint.specs.declared.steps.Event.TheVariants.{Go}
-use Rattle.joint.specs.engine.Beginning.{BeginsUnless, Begun, stage_of}
+use Rattle.joint.specs.engine.Beginning.{BeginsUnless, Begun}
 use Rattle.joint.specs.nodes.Nodes.{IsCharged, sizes}
-use Rattle.joint.specs.engine.Intact.{IsIntact, IsSecuring, call_after, root, writes}
+use Rattle.joint.specs.engine.Intact.{IsIntact, call_after, root, writes}
 use Rattle.joint.specs.engine.Laws.{ProgressLaws}
 use Rattle.joint.specs.engine.Safety.{Collected}
 use Rattle.joint.specs.Refusals.{of_fault}
@@ -225,39 +224,3 @@ module _ {V : Type 0} (same : V → V → Bool) (always : Bool) (w : World V) (w
         let P : Option Fault → Type 0 = λ m. Does same always w who (Go noise) m r w' in
         let Q : Option (InFlight V) → Type 0 = λ o. GoesAt same always w who o noise r w' in
         subst P (sym none) (subst Q (sym e) d)
-
--- what stands in flight, by what it is about
-pub is_idle : {V : Type 0} (o : Option (InFlight V)) → Some about.Idle ≡ option_map stage_of o → o ≡ Some Idle
-is_idle (Some Idle) e = refl
-is_idle (Some (Collecting op)) e = absurd (cc e)
-is_idle (Some (Reserving op)) e = absurd (cc e)
-is_idle (Some (Securing op)) e = absurd (cc e)
-is_idle (Some Walking) e = absurd (cc e)
-is_idle None e = absurd (cc e)
-
--- what is about a call on the collector is that call
-pub is_collecting : {V : Type 0} (o : Option (InFlight V)) (op : CollectorOp) → Some (about.Collecting op) ≡ option_map stage_of o → o ≡ Some (Collecting op)
-is_collecting (Some (Collecting y)) op e = ap (λ z. Some (Collecting z)) (let q : y ≡ op = cc in q)
-is_collecting (Some Idle) op e = absurd (cc e)
-is_collecting (Some (Reserving y)) op e = absurd (cc e)
-is_collecting (Some (Securing y)) op e = absurd (cc e)
-is_collecting (Some Walking) op e = absurd (cc e)
-is_collecting None op e = absurd (cc e)
-
--- what is about to make its places free is a call that does
-pub is_securing : {V : Type 0} (o : Option (InFlight V)) → Some about.Securing ≡ option_map stage_of o → IsSecuring o
-is_securing (Some (Securing y)) e = tt
-is_securing (Some Idle) e = absurd (cc e)
-is_securing (Some (Collecting y)) e = absurd (cc e)
-is_securing (Some (Reserving y)) e = absurd (cc e)
-is_securing (Some Walking) e = absurd (cc e)
-is_securing None e = absurd (cc e)
-
--- what is about a walk on the tree is that
-pub is_walking : {V : Type 0} (o : Option (InFlight V)) → Some about.Walking ≡ option_map stage_of o → o ≡ Some Walking
-is_walking (Some Walking) e = refl
-is_walking (Some Idle) e = absurd (cc e)
-is_walking (Some (Collecting y)) e = absurd (cc e)
-is_walking (Some (Reserving y)) e = absurd (cc e)
-is_walking (Some (Securing y)) e = absurd (cc e)
-is_walking None e = absurd (cc e)

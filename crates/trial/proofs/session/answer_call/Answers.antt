@@ -9,6 +9,6 @@ use Rattle.trial.proofs.session.answer_call.Goals as goal
 pub returns-clause-ok : goal.returns-clause-ok
 returns-clause-ok c =
     let stands = c.in_ok-outcome.outcome in
-    let P : Option Closure → Type 0 = λ f. Calls c.args.index.now c.args.worker c.op.result f stands c.call.new.self in
+    let P : Option Closure → Type 0 = λ f. Calls c.args.index.now c.args.worker c.asked-op.result.0 f stands c.call.new.self in
     let Q : Op ℕ → Type 0 = λ o. Calls c.args.index.now c.args.worker o (closure_of c.args.call) stands c.call.new.self in
-    (stands, c.call.new.self, subst Q c.op.ensures (subst P c.closure.ensures c.in_ok-outcome.ensures.ok), c.reply.ensures)
+    (stands, c.call.new.self, subst Q c.asked-op.ensures.op (subst P c.asked-op.ensures.closure c.in_ok-outcome.ensures.ok), c.reply.ensures)

@@ -1,51 +1,54 @@
-use Rattle.std.proofs.Common.{◌<◌, ℕ, refl, sym, ◌∙◌, ap, subst}
+use Rattle.std.proofs.Common.{◌≡◌, ◌<◌, ℕ, arith, length, refl, rules, sym, ◌∙◌, ap, subst}
 use Rattle.std.specs.Prelude.{Some, slice_get}
+use Rattle.std.specs.Vec.{vec_len}
+use Rattle.std.proofs.lemmas.Option.{slice_get_read}
+use Rattle.crossbeam_epoch.specs.World.Machine.{place}
 use Rattle.joint.specs.engine.Log.{no_log}
 use Rattle.joint.specs.declared.engine.in_flight.InFlight.TheVariants.{Collecting, Reserving, Securing}
-use Rattle.joint.specs.engine.Intact.{IsSecuring}
+use Rattle.joint.specs.engine.Intact.{IsSecuring, is_reserving}
 use Rattle.joint.specs.engine.Engine.{collection}
-use Rattle.joint.proofs.lemmas.engine.Collecting.{securing_call}
 use Rattle.joint.proofs.lemmas.calls.CensusSteps.{counted_at, counted_collected, counted_secured}
-use Rattle.joint.proofs.lemmas.engine.Reserving.{next_here, reserving_call, reserving_stage}
-use Rattle.joint.proofs.lemmas.engine.Turning.{go_unknown, go_idle, goes_on, is_idle, is_collecting, is_securing, is_walking}
+use Rattle.joint.proofs.lemmas.engine.Reserving.{next_here}
+use Rattle.joint.proofs.lemmas.engine.Turning.{go_unknown, go_idle, goes_on}
 use Rattle.joint.proofs.engine.Engine.go_other.Goals as goal
 
-pub stage-requires : goal.stage-requires
-stage-requires g c = (subst (λ (n : ℕ). c.args.who < n) c.requires.intact.table (c.is_registered.ensures.inside c.if-not-is_registered.false))
+pub index-requires : goal.index-requires
+index-requires g c =
+    let l : c.args.who < length c.args.self.now.calls.items = subst (λ (n : ℕ). c.args.who < n) (ap (λ s. length s.nodes.collector.table) c.self.view_is ∙ c.requires.intact.table) (c.is_registered.ensures.inside c.if-not-is_registered.false) in
+    let v : vec_len c.args.self.now.calls ≡ length c.args.self.now.calls.items = search rules in
+    omega (arith, l, v, ap (λ e. vec_len e.calls) c.self.view_is)
 
 pub go_collecting-turn-requires-clause-on : goal.go_collecting-turn-requires-clause-on
-go_collecting-turn-requires-clause-on g c = is_collecting (slice_get c.args.self.now.calls.items c.args.who) c.in-Collecting.op (ap Some (sym c.in-Collecting.is) ∙ c.stage.ensures)
+go_collecting-turn-requires-clause-on g c = sym (ap (λ e. slice_get e.calls.items c.args.who) c.self.view_is) ∙ slice_get_read _ _ c.args.who c.index.result.now refl (subst (λ (n : ℕ). c.args.who < n) (sym (ap (λ e. length e.calls.items) c.self.view_is)) (subst (λ (n : ℕ). c.args.who < n) (ap (λ s. length s.nodes.collector.table) c.self.view_is ∙ c.requires.intact.table) (c.is_registered.ensures.inside c.if-not-is_registered.false))) c.index.ensures ∙ ap Some c.in-Collecting.is
+
+pub begin_securing-requires-clause-on : goal.begin_securing-requires-clause-on
+begin_securing-requires-clause-on g c = ap is_reserving (sym (ap (λ e. slice_get e.calls.items c.args.who) c.self.view_is) ∙ slice_get_read _ _ c.args.who c.index.result.now refl (subst (λ (n : ℕ). c.args.who < n) (sym (ap (λ e. length e.calls.items) c.self.view_is)) (subst (λ (n : ℕ). c.args.who < n) (ap (λ s. length s.nodes.collector.table) c.self.view_is ∙ c.requires.intact.table) (c.is_registered.ensures.inside c.if-not-is_registered.false))) c.index.ensures ∙ ap Some c.in-Reserving.is)
 
 pub go_securing-turn-requires-clause-on : goal.go_securing-turn-requires-clause-on
 go_securing-turn-requires-clause-on g c =
-    let k = reserving_call (slice_get c.args.self.now.calls.items c.args.who) (reserving_stage (slice_get c.args.self.now.calls.items c.args.who) (ap Some (sym c.in-Reserving.is) ∙ c.stage.ensures)) in
     let P : _ → Type 0 = λ o. IsSecuring o in
-    subst P (sym (next_here g.P.Payload.same_as g.P.Payload.always_copies c.args.self.now.nodes c.args.self.now.machines.items c.args.self.now.calls.items c.args.who c.begin_securing.new.self.nodes c.begin_securing.new.self.machines.items c.begin_securing.new.self.calls.items c.begin_securing.ensures.begins k.0 k.1)) tt
+    subst P (sym (next_here g.P.Payload.same_as g.P.Payload.always_copies c.args.self.now.nodes c.args.self.now.machines.items c.args.self.now.calls.items c.args.who c.begin_securing.new.self.nodes c.begin_securing.new.self.machines.items c.begin_securing.new.self.calls.items c.begin_securing.ensures.begins c.in-Reserving.field-0 (sym (ap (λ e. slice_get e.calls.items c.args.who) c.self.view_is) ∙ slice_get_read _ _ c.args.who c.index.result.now refl (subst (λ (n : ℕ). c.args.who < n) (sym (ap (λ e. length e.calls.items) c.self.view_is)) (subst (λ (n : ℕ). c.args.who < n) (ap (λ s. length s.nodes.collector.table) c.self.view_is ∙ c.requires.intact.table) (c.is_registered.ensures.inside c.if-not-is_registered.false))) c.index.ensures ∙ ap Some c.in-Reserving.is))) tt
 
 pub go_securing-turn-requires-in-Securing-clause-on : goal.go_securing-turn-requires-in-Securing-clause-on
-go_securing-turn-requires-in-Securing-clause-on g c = is_securing (slice_get c.args.self.now.calls.items c.args.who) (ap Some (sym c.in-Securing.is) ∙ c.stage.ensures)
-
-pub begin_securing-requires-clause-on : goal.begin_securing-requires-clause-on
-begin_securing-requires-clause-on g c = reserving_stage (slice_get c.args.self.now.calls.items c.args.who) (ap Some (sym c.in-Reserving.is) ∙ c.stage.ensures)
+go_securing-turn-requires-in-Securing-clause-on g c = let P : _ → Type 0 = λ o. IsSecuring o in subst P (sym (sym (ap (λ e. slice_get e.calls.items c.args.who) c.self.view_is) ∙ slice_get_read _ _ c.args.who c.index.result.now refl (subst (λ (n : ℕ). c.args.who < n) (sym (ap (λ e. length e.calls.items) c.self.view_is)) (subst (λ (n : ℕ). c.args.who < n) (ap (λ s. length s.nodes.collector.table) c.self.view_is ∙ c.requires.intact.table) (c.is_registered.ensures.inside c.if-not-is_registered.false))) c.index.ensures ∙ ap Some c.in-Securing.is)) tt
 
 pub unreachable-requires : goal.unreachable-requires
-unreachable-requires g c = c.requires.other (is_walking (slice_get c.args.self.now.calls.items c.args.who) (ap Some (sym c.in-Walking.is) ∙ c.stage.ensures))
+unreachable-requires g c = c.requires.other (sym (ap (λ e. slice_get e.calls.items c.args.who) c.self.view_is) ∙ slice_get_read _ _ c.args.who c.index.result.now refl (subst (λ (n : ℕ). c.args.who < n) (sym (ap (λ e. length e.calls.items) c.self.view_is)) (subst (λ (n : ℕ). c.args.who < n) (ap (λ s. length s.nodes.collector.table) c.self.view_is ∙ c.requires.intact.table) (c.is_registered.ensures.inside c.if-not-is_registered.false))) c.index.ensures ∙ ap Some c.in-Walking.is)
 
 pub returns-then-not-is_registered-clause-does : goal.returns-then-not-is_registered-clause-does
-returns-then-not-is_registered-clause-does g c noise = go_unknown g.P.Payload.same_as g.P.Payload.always_copies (record { forest = c.args.self.now.nodes; machines = c.args.self.now.machines.items; calls = c.args.self.now.calls.items; log = no_log }) c.args.who noise c.refused.result (sym c.is_registered.ensures.value ∙ c.if-not-is_registered.true) c.refused.ensures
+returns-then-not-is_registered-clause-does g c noise = go_unknown g.P.Payload.same_as g.P.Payload.always_copies (record { forest = c.args.self.now.nodes; machines = c.args.self.now.machines.items; calls = c.args.self.now.calls.items; log = no_log }) c.args.who noise c.refused.result (sym (c.is_registered.ensures.value ∙ (ap (λ s. (place s.nodes.collector c.args.who).registered) c.self.view_is)) ∙ c.if-not-is_registered.true) c.refused.ensures
 
 pub returns-in-Idle-clause-does : goal.returns-in-Idle-clause-does
-returns-in-Idle-clause-does g c noise = go_idle g.P.Payload.same_as g.P.Payload.always_copies (record { forest = c.args.self.now.nodes; machines = c.args.self.now.machines.items; calls = c.args.self.now.calls.items; log = no_log }) c.args.who (sym c.is_registered.ensures.value ∙ c.if-not-is_registered.false) noise c.refused-in-Idle.result (is_idle (slice_get c.args.self.now.calls.items c.args.who) (ap Some (sym c.in-Idle.is) ∙ c.stage.ensures)) c.refused-in-Idle.ensures
+returns-in-Idle-clause-does g c noise = go_idle g.P.Payload.same_as g.P.Payload.always_copies (record { forest = c.args.self.now.nodes; machines = c.args.self.now.machines.items; calls = c.args.self.now.calls.items; log = no_log }) c.args.who (sym (c.is_registered.ensures.value ∙ (ap (λ s. (place s.nodes.collector c.args.who).registered) c.self.view_is)) ∙ c.if-not-is_registered.false) noise c.refused-in-Idle.result (sym (ap (λ e. slice_get e.calls.items c.args.who) c.self.view_is) ∙ slice_get_read _ _ c.args.who c.index.result.now refl (subst (λ (n : ℕ). c.args.who < n) (sym (ap (λ e. length e.calls.items) c.self.view_is)) (subst (λ (n : ℕ). c.args.who < n) (ap (λ s. length s.nodes.collector.table) c.self.view_is ∙ c.requires.intact.table) (c.is_registered.ensures.inside c.if-not-is_registered.false))) c.index.ensures ∙ ap Some c.in-Idle.is) c.refused-in-Idle.ensures
 
 pub returns-in-Collecting-clause-does : goal.returns-in-Collecting-clause-does
 returns-in-Collecting-clause-does g c noise =
-    goes_on g.P.Payload.same_as g.P.Payload.always_copies (record { forest = c.args.self.now.nodes; machines = c.args.self.now.machines.items; calls = c.args.self.now.calls.items; log = no_log }) c.args.who (sym c.is_registered.ensures.value ∙ c.if-not-is_registered.false) noise c.collection.result (record { forest = c.go_collecting-turn.new.self.nodes; machines = c.go_collecting-turn.new.self.machines.items; calls = c.go_collecting-turn.new.self.calls.items; log = no_log }) (Collecting c.in-Collecting.op) (is_collecting (slice_get c.args.self.now.calls.items c.args.who) c.in-Collecting.op (ap Some (sym c.in-Collecting.is) ∙ c.stage.ensures)) refl
+    goes_on g.P.Payload.same_as g.P.Payload.always_copies (record { forest = c.args.self.now.nodes; machines = c.args.self.now.machines.items; calls = c.args.self.now.calls.items; log = no_log }) c.args.who (sym (c.is_registered.ensures.value ∙ (ap (λ s. (place s.nodes.collector c.args.who).registered) c.self.view_is)) ∙ c.if-not-is_registered.false) noise c.collection.result (record { forest = c.go_collecting-turn.new.self.nodes; machines = c.go_collecting-turn.new.self.machines.items; calls = c.go_collecting-turn.new.self.calls.items; log = no_log }) (Collecting c.in-Collecting.op) (sym (ap (λ e. slice_get e.calls.items c.args.who) c.self.view_is) ∙ slice_get_read _ _ c.args.who c.index.result.now refl (subst (λ (n : ℕ). c.args.who < n) (sym (ap (λ e. length e.calls.items) c.self.view_is)) (subst (λ (n : ℕ). c.args.who < n) (ap (λ s. length s.nodes.collector.table) c.self.view_is ∙ c.requires.intact.table) (c.is_registered.ensures.inside c.if-not-is_registered.false))) c.index.ensures ∙ ap Some c.in-Collecting.is) refl
     (record { turn = c.go_collecting-turn.result; step = c.go_collecting-turn.ensures.collected; machines = ap (λ v. v.items) c.go_collecting-turn.ensures.machines; calls = c.go_collecting-turn.ensures.calls; report = c.collection.ensures ∙ ap (collection c.go_collecting-turn.result) c.of_collector.ensures })
 
 pub returns-in-Reserving-clause-does : goal.returns-in-Reserving-clause-does
 returns-in-Reserving-clause-does g c noise =
-    let k = reserving_call (slice_get c.args.self.now.calls.items c.args.who) (reserving_stage (slice_get c.args.self.now.calls.items c.args.who) (ap Some (sym c.in-Reserving.is) ∙ c.stage.ensures)) in
-    goes_on g.P.Payload.same_as g.P.Payload.always_copies (record { forest = c.args.self.now.nodes; machines = c.args.self.now.machines.items; calls = c.args.self.now.calls.items; log = no_log }) c.args.who (sym c.is_registered.ensures.value ∙ c.if-not-is_registered.false) noise c.collection-in-Reserving.result (record { forest = c.go_securing-turn.new.self.nodes; machines = c.go_securing-turn.new.self.machines.items; calls = c.go_securing-turn.new.self.calls.items; log = no_log }) (Reserving k.0) k.1 refl
+    goes_on g.P.Payload.same_as g.P.Payload.always_copies (record { forest = c.args.self.now.nodes; machines = c.args.self.now.machines.items; calls = c.args.self.now.calls.items; log = no_log }) c.args.who (sym (c.is_registered.ensures.value ∙ (ap (λ s. (place s.nodes.collector c.args.who).registered) c.self.view_is)) ∙ c.if-not-is_registered.false) noise c.collection-in-Reserving.result (record { forest = c.go_securing-turn.new.self.nodes; machines = c.go_securing-turn.new.self.machines.items; calls = c.go_securing-turn.new.self.calls.items; log = no_log }) (Reserving c.in-Reserving.field-0) (sym (ap (λ e. slice_get e.calls.items c.args.who) c.self.view_is) ∙ slice_get_read _ _ c.args.who c.index.result.now refl (subst (λ (n : ℕ). c.args.who < n) (sym (ap (λ e. length e.calls.items) c.self.view_is)) (subst (λ (n : ℕ). c.args.who < n) (ap (λ s. length s.nodes.collector.table) c.self.view_is ∙ c.requires.intact.table) (c.is_registered.ensures.inside c.if-not-is_registered.false))) c.index.ensures ∙ ap Some c.in-Reserving.is) refl
     (record {
       between = record { forest = c.begin_securing.new.self.nodes; machines = c.begin_securing.new.self.machines.items; calls = c.begin_securing.new.self.calls.items; log = no_log };
       begins = c.begin_securing.ensures.begins;
@@ -54,8 +57,7 @@ returns-in-Reserving-clause-does g c noise =
 
 pub returns-in-Securing-clause-does : goal.returns-in-Securing-clause-does
 returns-in-Securing-clause-does g c noise =
-    let k = securing_call (slice_get c.args.self.now.calls.items c.args.who) (is_securing (slice_get c.args.self.now.calls.items c.args.who) (ap Some (sym c.in-Securing.is) ∙ c.stage.ensures)) in
-    goes_on g.P.Payload.same_as g.P.Payload.always_copies (record { forest = c.args.self.now.nodes; machines = c.args.self.now.machines.items; calls = c.args.self.now.calls.items; log = no_log }) c.args.who (sym c.is_registered.ensures.value ∙ c.if-not-is_registered.false) noise c.collection-in-Securing.result (record { forest = c.go_securing-turn-in-Securing.new.self.nodes; machines = c.go_securing-turn-in-Securing.new.self.machines.items; calls = c.go_securing-turn-in-Securing.new.self.calls.items; log = no_log }) (Securing k.0) k.1 refl
+    goes_on g.P.Payload.same_as g.P.Payload.always_copies (record { forest = c.args.self.now.nodes; machines = c.args.self.now.machines.items; calls = c.args.self.now.calls.items; log = no_log }) c.args.who (sym (c.is_registered.ensures.value ∙ (ap (λ s. (place s.nodes.collector c.args.who).registered) c.self.view_is)) ∙ c.if-not-is_registered.false) noise c.collection-in-Securing.result (record { forest = c.go_securing-turn-in-Securing.new.self.nodes; machines = c.go_securing-turn-in-Securing.new.self.machines.items; calls = c.go_securing-turn-in-Securing.new.self.calls.items; log = no_log }) (Securing c.in-Securing.field-0) (sym (ap (λ e. slice_get e.calls.items c.args.who) c.self.view_is) ∙ slice_get_read _ _ c.args.who c.index.result.now refl (subst (λ (n : ℕ). c.args.who < n) (sym (ap (λ e. length e.calls.items) c.self.view_is)) (subst (λ (n : ℕ). c.args.who < n) (ap (λ s. length s.nodes.collector.table) c.self.view_is ∙ c.requires.intact.table) (c.is_registered.ensures.inside c.if-not-is_registered.false))) c.index.ensures ∙ ap Some c.in-Securing.is) refl
     (record { turn = c.go_securing-turn-in-Securing.result; step = c.go_securing-turn-in-Securing.ensures.secured; report = c.collection-in-Securing.ensures ∙ ap (collection c.go_securing-turn-in-Securing.result) c.reserving-in-Securing.ensures })
 
 pub returns-in-Collecting-clause-counted : goal.returns-in-Collecting-clause-counted
@@ -65,18 +67,25 @@ returns-in-Collecting-clause-counted g c =
 
 pub returns-in-Reserving-clause-counted : goal.returns-in-Reserving-clause-counted
 returns-in-Reserving-clause-counted g c =
-    let k = reserving_call (slice_get c.args.self.now.calls.items c.args.who) (reserving_stage (slice_get c.args.self.now.calls.items c.args.who) (ap Some (sym c.in-Reserving.is) ∙ c.stage.ensures)) in
     let b = c.begin_securing.ensures.begins in
     let counted = counted_at c.args.self.now.census c.args.self.now.census c.begin_securing.new.self.nodes c.begin_securing.new.self.nodes c.args.self.now.machines.items c.begin_securing.new.self.machines.items refl refl b.machine
     (counted_collected c.args.self.now.census c.args.self.now.nodes c.args.self.now.machines.items c.requires.counted c.begin_securing.new.self.nodes b.collected.map b.collected.destroys) in
     counted_at c.args.self.now.census c.go_securing-turn.new.self.census c.go_securing-turn.new.self.nodes c.go_securing-turn.new.self.nodes c.go_securing-turn.new.self.machines.items c.go_securing-turn.new.self.machines.items (c.go_securing-turn.ensures.census ∙ c.begin_securing.ensures.census) refl refl
-    (counted_secured g.P.Payload.same_as g.P.Payload.always_copies c.begin_securing.new.self.nodes c.begin_securing.new.self.machines.items c.begin_securing.new.self.calls.items b.intact c.args.self.now.census counted c.args.who k.0
-    (next_here g.P.Payload.same_as g.P.Payload.always_copies c.args.self.now.nodes c.args.self.now.machines.items c.args.self.now.calls.items c.args.who c.begin_securing.new.self.nodes c.begin_securing.new.self.machines.items c.begin_securing.new.self.calls.items b k.0 k.1)
+    (counted_secured g.P.Payload.same_as g.P.Payload.always_copies c.begin_securing.new.self.nodes c.begin_securing.new.self.machines.items c.begin_securing.new.self.calls.items b.intact c.args.self.now.census counted c.args.who c.in-Reserving.field-0
+    (next_here g.P.Payload.same_as g.P.Payload.always_copies c.args.self.now.nodes c.args.self.now.machines.items c.args.self.now.calls.items c.args.who c.begin_securing.new.self.nodes c.begin_securing.new.self.machines.items c.begin_securing.new.self.calls.items b c.in-Reserving.field-0 (sym (ap (λ e. slice_get e.calls.items c.args.who) c.self.view_is) ∙ slice_get_read _ _ c.args.who c.index.result.now refl (subst (λ (n : ℕ). c.args.who < n) (sym (ap (λ e. length e.calls.items) c.self.view_is)) (subst (λ (n : ℕ). c.args.who < n) (ap (λ s. length s.nodes.collector.table) c.self.view_is ∙ c.requires.intact.table) (c.is_registered.ensures.inside c.if-not-is_registered.false))) c.index.ensures ∙ ap Some c.in-Reserving.is))
     c.go_securing-turn.result c.go_securing-turn.new.self.nodes c.go_securing-turn.new.self.machines.items c.go_securing-turn.new.self.calls.items c.go_securing-turn.ensures.secured)
 
 pub returns-in-Securing-clause-counted : goal.returns-in-Securing-clause-counted
 returns-in-Securing-clause-counted g c =
-    let k = securing_call (slice_get c.args.self.now.calls.items c.args.who) (is_securing (slice_get c.args.self.now.calls.items c.args.who) (ap Some (sym c.in-Securing.is) ∙ c.stage.ensures)) in
     counted_at c.args.self.now.census c.go_securing-turn-in-Securing.new.self.census c.go_securing-turn-in-Securing.new.self.nodes c.go_securing-turn-in-Securing.new.self.nodes c.go_securing-turn-in-Securing.new.self.machines.items c.go_securing-turn-in-Securing.new.self.machines.items c.go_securing-turn-in-Securing.ensures.census refl refl
-    (counted_secured g.P.Payload.same_as g.P.Payload.always_copies c.args.self.now.nodes c.args.self.now.machines.items c.args.self.now.calls.items c.requires.intact c.args.self.now.census c.requires.counted c.args.who k.0 k.1
+    (counted_secured g.P.Payload.same_as g.P.Payload.always_copies c.args.self.now.nodes c.args.self.now.machines.items c.args.self.now.calls.items c.requires.intact c.args.self.now.census c.requires.counted c.args.who c.in-Securing.field-0 (sym (ap (λ e. slice_get e.calls.items c.args.who) c.self.view_is) ∙ slice_get_read _ _ c.args.who c.index.result.now refl (subst (λ (n : ℕ). c.args.who < n) (sym (ap (λ e. length e.calls.items) c.self.view_is)) (subst (λ (n : ℕ). c.args.who < n) (ap (λ s. length s.nodes.collector.table) c.self.view_is ∙ c.requires.intact.table) (c.is_registered.ensures.inside c.if-not-is_registered.false))) c.index.ensures ∙ ap Some c.in-Securing.is)
     c.go_securing-turn-in-Securing.result c.go_securing-turn-in-Securing.new.self.nodes c.go_securing-turn-in-Securing.new.self.machines.items c.go_securing-turn-in-Securing.new.self.calls.items c.go_securing-turn-in-Securing.ensures.secured)
+
+pub returns-in-Collecting-clause-charged : goal.returns-in-Collecting-clause-charged
+returns-in-Collecting-clause-charged g c = c.go_collecting-turn.ensures.collected.charged
+
+pub returns-in-Reserving-clause-charged : goal.returns-in-Reserving-clause-charged
+returns-in-Reserving-clause-charged g c = c.go_securing-turn.ensures.secured.collected.charged
+
+pub returns-in-Securing-clause-charged : goal.returns-in-Securing-clause-charged
+returns-in-Securing-clause-charged g c = c.go_securing-turn-in-Securing.ensures.secured.collected.charged

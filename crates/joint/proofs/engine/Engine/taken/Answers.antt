@@ -26,11 +26,9 @@ returns-in-Some-clause-bytes g c = c.weighed.ensures.bytes ∙ ap (sum_by (bytes
 pub returns-in-None : goal.returns-in-None
 returns-in-None g c =
     let none = ap taken_at (slice_get_read c.args.self.now.machines.items (length c.args.self.now.machines.items) c.args.who c.index.result.now refl c.requires.inside c.index.ensures) ∙ ap (map id_number) c.in-None.ensures in
-    let nodes = ap (λ t. t.nodes) c.none.ensures in
-    let bytes = ap (λ t. t.bytes) c.none.ensures in
     record {
-      nodes = nodes ∙ ap length (sym none);
-      bytes = bytes ∙ ap (sum_by (bytes_of c.args.self.now.nodes)) (sym none);
-      few = omega (arith, nodes);
-      small = omega (arith, bytes);
+      nodes = ap length (sym none);
+      bytes = ap (sum_by (bytes_of c.args.self.now.nodes)) (sym none);
+      few = omega arith;
+      small = omega arith;
     }

@@ -18,12 +18,12 @@ invariant_of-self g c =
     let left = and_left g.P.Payload.same_as g.P.Payload.always_copies _ _ given in
     let right = and_right g.P.Payload.same_as g.P.Payload.always_copies _ _ given in
     let C : Nodes g.row.P.Denot → Type 0 = λ y. IsCharged y in (
-      (give_up_step g.P.Payload.same_as g.P.Payload.always_copies (record { forest = c.self.inside.engine.nodes; machines = c.self.inside.engine.machines.items; calls = c.self.inside.engine.calls.items; log = c.self.inside.log }) (record { forest = c.abandon.new.self.nodes; machines = c.abandon.new.self.machines.items; calls = c.abandon.new.self.calls.items; log = c.put_request_if.new.log }) c.args.who (record { fail = false; seen = None; answer = None }) c.refused.result c.self.invariant.0 left right
+      (give_up_step g.P.Payload.same_as g.P.Payload.always_copies (record { forest = c.self.inside.engine.nodes; machines = c.self.inside.engine.machines.items; calls = c.self.inside.engine.calls.items; log = c.self.inside.log }) (record { forest = c.abandon.new.self.nodes; machines = c.abandon.new.self.machines.items; calls = c.abandon.new.self.calls.items; log = c.put_request.new.self }) c.args.who (record { fail = false; seen = None; answer = None }) c.refused.result c.self.invariant.0 left right
           (c.abandon.ensures.intact, subst C (sym c.abandon.ensures.nodes) c.self.invariant.0.1)
-          (ap (λ y. record { forest = y; machines = c.abandon.new.self.machines.items; calls = c.abandon.new.self.calls.items; log = c.put_request_if.new.log }) c.abandon.ensures.nodes
-          ∙ ap (λ v. record { forest = c.self.inside.engine.nodes; machines = v.items; calls = c.abandon.new.self.calls.items; log = c.put_request_if.new.log }) c.abandon.ensures.machines
-          ∙ ap (λ y. record { forest = c.self.inside.engine.nodes; machines = c.self.inside.engine.machines.items; calls = y; log = c.put_request_if.new.log }) c.abandon.ensures.calls
-          ∙ ap (λ y. record { forest = c.self.inside.engine.nodes; machines = c.self.inside.engine.machines.items; calls = slice_set c.self.inside.engine.calls.items c.args.who Idle; log = y }) c.put_request_if.ensures)
+          (ap (λ y. record { forest = y; machines = c.abandon.new.self.machines.items; calls = c.abandon.new.self.calls.items; log = c.put_request.new.self }) c.abandon.ensures.nodes
+          ∙ ap (λ v. record { forest = c.self.inside.engine.nodes; machines = v.items; calls = c.abandon.new.self.calls.items; log = c.put_request.new.self }) c.abandon.ensures.machines
+          ∙ ap (λ y. record { forest = c.self.inside.engine.nodes; machines = c.self.inside.engine.machines.items; calls = y; log = c.put_request.new.self }) c.abandon.ensures.calls
+          ∙ ap (λ y. record { forest = c.self.inside.engine.nodes; machines = c.self.inside.engine.machines.items; calls = slice_set c.self.inside.engine.calls.items c.args.who Idle; log = y }) c.put_request.ensures.after)
           c.refused.ensures).holds,
       counted_at _ _ _ _ _ _ c.abandon.ensures.census c.abandon.ensures.nodes (ap (λ v. v.items) c.abandon.ensures.machines) c.self.invariant.1,
     )
@@ -35,13 +35,13 @@ returns g c noise =
     let left = and_left g.P.Payload.same_as g.P.Payload.always_copies _ _ given in
     let right = and_right g.P.Payload.same_as g.P.Payload.always_copies _ _ given in
     let C : Nodes g.row.P.Denot → Type 0 = λ y. IsCharged y in
-    let P : World g.row.P.Denot → Type 0 = λ s. IsStep g.P.Payload.same_as g.P.Payload.always_copies s (record { worker = c.args.who; event = Go noise }) c.refused.result (record { forest = c.abandon.new.self.nodes; machines = c.abandon.new.self.machines.items; calls = c.abandon.new.self.calls.items; log = c.put_request_if.new.log }) in
-    subst P c.self.view_is (give_up_step g.P.Payload.same_as g.P.Payload.always_copies (record { forest = c.self.inside.engine.nodes; machines = c.self.inside.engine.machines.items; calls = c.self.inside.engine.calls.items; log = c.self.inside.log }) (record { forest = c.abandon.new.self.nodes; machines = c.abandon.new.self.machines.items; calls = c.abandon.new.self.calls.items; log = c.put_request_if.new.log }) c.args.who noise c.refused.result c.self.invariant.0 left right
+    let P : World g.row.P.Denot → Type 0 = λ s. IsStep g.P.Payload.same_as g.P.Payload.always_copies s (record { worker = c.args.who; event = Go noise }) c.refused.result (record { forest = c.abandon.new.self.nodes; machines = c.abandon.new.self.machines.items; calls = c.abandon.new.self.calls.items; log = c.put_request.new.self }) in
+    subst P c.self.view_is (give_up_step g.P.Payload.same_as g.P.Payload.always_copies (record { forest = c.self.inside.engine.nodes; machines = c.self.inside.engine.machines.items; calls = c.self.inside.engine.calls.items; log = c.self.inside.log }) (record { forest = c.abandon.new.self.nodes; machines = c.abandon.new.self.machines.items; calls = c.abandon.new.self.calls.items; log = c.put_request.new.self }) c.args.who noise c.refused.result c.self.invariant.0 left right
     (c.abandon.ensures.intact, subst C (sym c.abandon.ensures.nodes) c.self.invariant.0.1)
-    (ap (λ y. record { forest = y; machines = c.abandon.new.self.machines.items; calls = c.abandon.new.self.calls.items; log = c.put_request_if.new.log }) c.abandon.ensures.nodes
-    ∙ ap (λ v. record { forest = c.self.inside.engine.nodes; machines = v.items; calls = c.abandon.new.self.calls.items; log = c.put_request_if.new.log }) c.abandon.ensures.machines
-    ∙ ap (λ y. record { forest = c.self.inside.engine.nodes; machines = c.self.inside.engine.machines.items; calls = y; log = c.put_request_if.new.log }) c.abandon.ensures.calls
-    ∙ ap (λ y. record { forest = c.self.inside.engine.nodes; machines = c.self.inside.engine.machines.items; calls = slice_set c.self.inside.engine.calls.items c.args.who Idle; log = y }) c.put_request_if.ensures)
+    (ap (λ y. record { forest = y; machines = c.abandon.new.self.machines.items; calls = c.abandon.new.self.calls.items; log = c.put_request.new.self }) c.abandon.ensures.nodes
+    ∙ ap (λ v. record { forest = c.self.inside.engine.nodes; machines = v.items; calls = c.abandon.new.self.calls.items; log = c.put_request.new.self }) c.abandon.ensures.machines
+    ∙ ap (λ y. record { forest = c.self.inside.engine.nodes; machines = c.self.inside.engine.machines.items; calls = y; log = c.put_request.new.self }) c.abandon.ensures.calls
+    ∙ ap (λ y. record { forest = c.self.inside.engine.nodes; machines = c.self.inside.engine.machines.items; calls = slice_set c.self.inside.engine.calls.items c.args.who Idle; log = y }) c.put_request.ensures.after)
     c.refused.ensures)
 
 pub abandon-requires-clause-on : goal.abandon-requires-clause-on

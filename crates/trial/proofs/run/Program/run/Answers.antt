@@ -16,4 +16,4 @@ returns-in-Err g c =
 pub loop-end-preserved : goal.loop-end-preserved
 loop-end-preserved g c =
     let i = c.loop-end.invariant in
-    (going_written _ _ _ _ _ _ _ (c.in_default.ensures.goes refl _ _ i.0) c.in_default-flush.ensures.empty c.in_default-flush.ensures.ok, omega (arith, c.read_once.ensures.room, i.1))
+    (going_written _ _ _ _ _ _ _ (c.in_default.ensures.goes refl _ _ i.0) (record { session = refl; lines = refl; output = c.in_default-flush.ensures.empty; unread = refl; taken = refl }) c.in_default-flush.ensures.ok, omega (arith, c.read_once.ensures.room, i.1))
