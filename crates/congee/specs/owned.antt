@@ -15,6 +15,7 @@ pub mod Lesser
 pub mod Levels
 pub mod Lifting
 pub mod Lones
+pub mod Only
 pub mod Owned
 pub mod Place
 pub mod Ranges

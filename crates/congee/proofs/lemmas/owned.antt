@@ -2,6 +2,7 @@ pub mod Answered
 pub mod EntryRanges
 pub mod Clears
 pub mod Contents
+pub mod Covers
 pub mod Cursors
 pub mod Drains
 pub mod Edits
@@ -33,6 +34,7 @@ pub mod SlotLens
 pub mod SlotOps
 pub mod Slots
 pub mod Tables
+pub mod Takings
 pub mod Totals
 pub mod Weights
 pub mod Wanting

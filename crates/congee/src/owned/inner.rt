@@ -108,6 +108,7 @@ fn hung_of<P>(first: u8, entry: &Entry<P>) -> Hung<'_, P>
 }
 
 impl<P: Small> Inner<P> {
+    ghost use Rattle.congee.specs.owned.Only.{IsOnly};
     ghost use Rattle.congee.specs.declared.forms.base_node.NodeType.TheVariants.{N4};
 
     /// A node without children.
@@ -253,6 +254,18 @@ impl<P: Small> Inner<P> {
     {
         let first = self.first_byte(byte);
         child_of(first, self.places.remove(byte))
+    }
+
+    /// Takes out the only child.
+    #[inline(always)]
+    pub(crate) fn take_only(&mut self) -> Child<usize, Lone<P>>
+        requires one { map.len (children_of self.old) ≡ 1 }
+        ensures { IsOnly (children_of self.old) result }
+    {
+        match self.first_from(0) {
+            Some((byte, _)) => self.remove(byte),
+            None => unreachable!(),
+        }
     }
 
     /// Takes every child out.

@@ -230,17 +230,16 @@ impl<P: Small> Places<P> {
         }
     }
 
-    /// Moves every entry to `greater`, which has none and has room for them.
-    fn move_to(&mut self, greater: &mut Places<P>)
-        requires empty { entries_in greater.old ≡ map.empty }
-        requires room { map.len (entries_in self.old) ≤ capacity_of (form_in greater.old) }
-        ensures left { Refills self.old self.new map.empty }
-        ensures moved { Refills greater.old greater.new (entries_in self.old) }
+    /// Moves every entry to `other`, which has none and has room for them, and leaves a blank in the place of each.
+    fn move_to(&mut self, other: &mut Places<P>)
+        requires empty { entries_in other.old ≡ map.empty }
+        requires room { map.len (entries_in self.old) ≤ capacity_of (form_in other.old) }
+        ensures moved { Refills other.old other.new (entries_in self.old) }
     {
         let mut from = 0;
         while let Some((byte, _)) = self.first_from(from) {
-            let entry = self.remove(byte);
-            greater.insert(byte, entry);
+            let entry = self.change(byte, Entry::Blank);
+            other.insert(byte, entry);
             from = byte as usize + 1;
         }
     }
