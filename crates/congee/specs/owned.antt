@@ -19,6 +19,7 @@ pub mod Only
 pub mod Owned
 pub mod Place
 pub mod Ranges
+pub mod Ranks
 pub mod Renames
 pub mod Runs
 pub mod Sights

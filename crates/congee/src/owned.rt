@@ -16,6 +16,8 @@ mod pairs;
 mod parting;
 mod place;
 mod places;
+mod ranked;
+mod ranks;
 mod removing;
 mod scan;
 mod sight;

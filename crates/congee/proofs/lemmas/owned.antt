@@ -20,6 +20,7 @@ pub mod OwnerLemmas
 pub mod Walks
 pub mod Puts
 pub mod RangeLemmas
+pub mod Ranks
 pub mod Refilling
 pub mod Renaming
 pub mod Rooms
