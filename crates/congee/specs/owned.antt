@@ -21,6 +21,7 @@ pub mod Place
 pub mod Ranges
 pub mod Ranks
 pub mod Renames
+pub mod Rows
 pub mod Runs
 pub mod Sights
 pub mod Sizes
@@ -38,3 +39,4 @@ pub mod Stats
 pub mod StatsText
 pub mod Walks
 pub mod Ways
+pub mod Writes

@@ -19,6 +19,7 @@ mod places;
 mod ranked;
 mod ranks;
 mod removing;
+mod rows;
 mod scan;
 mod sight;
 mod slot_node;
@@ -26,6 +27,7 @@ mod slots;
 mod stats;
 mod survey;
 mod u64_congee;
+mod writing;
 
 pub use congee::Congee;
 pub use congee_arc::{CongeeArc, Count, owner_of, payload_of};

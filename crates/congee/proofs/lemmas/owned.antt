@@ -24,6 +24,7 @@ pub mod Ranks
 pub mod Refilling
 pub mod Renaming
 pub mod Rooms
+pub mod Rows
 pub mod Root
 pub mod Running
 pub mod Scanned
@@ -40,6 +41,7 @@ pub mod Totals
 pub mod Weights
 pub mod Wanting
 pub mod Ways
+pub mod Writings
 pub mod Tallies
 pub mod Stored
 pub mod Surveys

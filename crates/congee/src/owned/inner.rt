@@ -23,7 +23,7 @@ use std::marker::Model;
 #[derive(Drop)]
 pub(crate) struct Inner<P: Nested> {
     prefix: Prefix,
-    places: Places<P>,
+    pub(crate) places: Places<P>,
 }
 
 impl<P: Nested> Model for Inner<P> {
@@ -94,7 +94,7 @@ fn child_of<P>(first: u8, entry: Entry<P>) -> Child<usize, Lone<P>>
 
 /// The same, where it lies.
 #[inline(always)]
-fn hung_of<P>(first: u8, entry: &Entry<P>) -> Hung<'_, P>
+pub(crate) fn hung_of<P>(first: u8, entry: &Entry<P>) -> Hung<'_, P>
     ensures { (prefix : List ℕ) (byte : ℕ) → first_byte prefix byte ≡ first → child_there result ≡ child_by prefix byte entry.now }
 {
     match entry {
