@@ -4,6 +4,7 @@ ghost use Rattle.std.specs.Option.{option_copied};
 ghost use Rattle.std.specs.FinMap as map;
 ghost use Rattle.congee.specs.forms.Bytes.{IsFirst};
 
+use crate::forms::in_order::{InOrder, Placed};
 use crate::owned::ranks::Ranks;
 use arrayvec::ArrayVec;
 use std::marker::Model;
@@ -69,6 +70,38 @@ impl<X, const N: usize> Ranked<X, N> {
             return None;
         }
         Some((self.bytes.at(place), &self.children.as_slice()[place]))
+    }
+}
+
+/// A place is one of the arrays' own.
+impl<X, const N: usize> InOrder<X> for Ranked<X, N> {
+    ghost use Rattle.std.specs.Prelude.{◌-◌};
+    ghost use Rattle.congee.specs.forms.Places.{Parts};
+
+    ghost children = { λ s. s };
+
+    ghost starts = { λ s place from. Parts (map.entries s) place from };
+
+    ghost left = { λ s place. map.len s - place };
+
+    #[inline(always)]
+    fn place_from(&self, from: usize) -> usize {
+        if from > 255 {
+            return self.bytes.len();
+        }
+        self.bytes.place_of(from as u8)
+    }
+
+    #[inline(always)]
+    fn next(&self, place: usize) -> Option<Placed<'_, X>> {
+        if place >= self.bytes.len() {
+            return None;
+        }
+        Some(Placed {
+            byte: self.bytes.at(place),
+            child: &self.children.as_slice()[place],
+            after: place + 1,
+        })
     }
 }
 
