@@ -1,7 +1,6 @@
 //! The forms of a node: `base_node` has the node over them, `sorted`, `indexed` and `masked` the layouts of children.
 pub mod base_node;
 pub mod child;
-pub(crate) mod in_order;
 mod index;
 pub(crate) mod indexed;
 pub(crate) mod masked;

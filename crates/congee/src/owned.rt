@@ -19,7 +19,6 @@ mod places;
 mod ranked;
 mod ranks;
 mod removing;
-mod rows;
 mod scan;
 mod sight;
 mod slot_node;

@@ -1,5 +1,5 @@
 -- How arrays hold a map from bytes to children.
-use Rattle.std.specs.Prelude.{◌≡◌, ℕ, ◌<◌, ◌≤◌, ◌+◌, List, [], ◌∷◌, length, take, drop, Option, None, Some}
+use Rattle.std.specs.Prelude.{◌≡◌, ℕ, ◌<◌, ◌+◌, List, [], ◌∷◌, length, Option, None, Some}
 use Rattle.std.specs.Ordering.{nat_cmp}
 use Rattle.std.specs.FinMap.{FinMap, from_sorted}
 
@@ -42,8 +42,3 @@ index_somes b (o ∷ r) = pair_of b o (index_somes (b + 1) r)
 -- the map that has at each byte what stands there
 abbrev pub children_by : {X : Type 0} → List (Option X) → FinMap nat_cmp X
 children_by os = from_sorted (index_somes 0 os)
-
--- the pairs in the first places are those below a byte
-pub record Parts {X : Type 0} (es : List (ℕ × X)) (place from : ℕ) : Type 0 where
-  pub below : AllKeys (λ b. b < from) (take place es)
-  pub rest : AllKeys (λ b. from ≤ b) (drop place es)

@@ -48,3 +48,9 @@ module _ {P E : Type 0} (s : Nodes P) (entry : ℕ → P → E) (last : ℕ) whe
   abbrev pub WritesNode : ℕ → ℕ → ℕ → List E → List E → Written → Type 0
   WritesNode at byte count old new w = (above : List Branch) (from : ℕ) → IsCursor s (above ++ record { node = at; from = byte } ∷ [])
       → IsAt s (above ++ record { node = at; from = byte } ∷ []) from → Remains above new w (with_pairs old count from)
+
+  -- the pairs under a node's byte are written, the first that has some from another byte on. The step is past it then
+  abbrev pub WritesByte : ℕ → ℕ → ℕ → ℕ → List E → List E → Written → Type 0
+  WritesByte at from byte count old new w = (above : List Branch) (first : ℕ) → IsCursor s (above ++ record { node = at; from = from } ∷ [])
+      → IsAt s (above ++ record { node = at; from = from } ∷ []) first
+      → IsCursor s (above ++ record { node = at; from = byte + 1 } ∷ []) × Remains (above ++ record { node = at; from = byte + 1 } ∷ []) new w (with_pairs old count first)

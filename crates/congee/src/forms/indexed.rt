@@ -4,7 +4,6 @@ ghost use Rattle.std.specs.Option.{option_copied};
 ghost use Rattle.std.specs.FinMap as map;
 ghost use Rattle.congee.specs.forms.Bytes.{IsFirst};
 
-use crate::forms::in_order::{InOrder, Placed};
 use crate::forms::index::{EMPTY_MARKER, Index};
 use arrayvec::ArrayVec;
 use std::marker::Model;
@@ -68,34 +67,6 @@ impl<X> Indexed<X> {
                 byte,
                 &self.children.as_slice()[self.index.place(byte) as usize],
             )),
-        }
-    }
-}
-
-/// The place of a byte is the byte.
-impl<X> InOrder<X> for Indexed<X> {
-    ghost use Rattle.std.specs.Prelude.{◌≡◌, ◌-◌};
-
-    ghost children = { λ s. s };
-
-    ghost starts = { λ s place from. place ≡ from };
-
-    ghost left = { λ s place. 256 - place };
-
-    #[inline(always)]
-    fn place_from(&self, from: usize) -> usize {
-        from
-    }
-
-    #[inline(always)]
-    fn next(&self, place: usize) -> Option<Placed<'_, X>> {
-        match self.first_from(place) {
-            None => None,
-            Some((byte, child)) => Some(Placed {
-                byte,
-                child,
-                after: byte as usize + 1,
-            }),
         }
     }
 }

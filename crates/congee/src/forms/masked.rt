@@ -5,7 +5,6 @@ ghost use Rattle.std.specs.FinMap as map;
 ghost use Rattle.congee.specs.forms.Bytes.{IsFirst};
 ghost use Rattle.congee.specs.forms.Mask.{bit_of, SetAt};
 
-use crate::forms::in_order::{InOrder, Placed};
 use arrayvec::ArrayVec;
 use std::marker::Model;
 use std::mem;
@@ -114,34 +113,6 @@ impl<X> Masked<X> {
         match self.mask.first_from(from) {
             None => None,
             Some(byte) => Some((byte, &self.children.as_slice()[byte as usize])),
-        }
-    }
-}
-
-/// The place of a byte is the byte.
-impl<X> InOrder<X> for Masked<X> {
-    ghost use Rattle.std.specs.Prelude.{◌≡◌, ◌-◌};
-
-    ghost children = { λ s. s };
-
-    ghost starts = { λ s place from. place ≡ from };
-
-    ghost left = { λ s place. 256 - place };
-
-    #[inline(always)]
-    fn place_from(&self, from: usize) -> usize {
-        from
-    }
-
-    #[inline(always)]
-    fn next(&self, place: usize) -> Option<Placed<'_, X>> {
-        match self.first_from(place) {
-            None => None,
-            Some((byte, child)) => Some(Placed {
-                byte,
-                child,
-                after: byte as usize + 1,
-            }),
         }
     }
 }

@@ -4,7 +4,6 @@ ghost use Rattle.std.specs.Option.{option_copied};
 ghost use Rattle.std.specs.FinMap as map;
 ghost use Rattle.congee.specs.forms.Bytes.{IsFirst};
 
-use crate::forms::in_order::{InOrder, Placed};
 use arrayvec::ArrayVec;
 use std::marker::Model;
 use std::mem;
@@ -84,35 +83,6 @@ impl<X, const N: usize> Sorted<X, N> {
             self.keys.as_slice()[place],
             &self.children.as_slice()[place],
         ))
-    }
-}
-
-/// A place is one of the arrays' own.
-impl<X, const N: usize> InOrder<X> for Sorted<X, N> {
-    ghost use Rattle.std.specs.Prelude.{◌-◌};
-    ghost use Rattle.congee.specs.forms.Places.{Parts};
-
-    ghost children = { λ s. s };
-
-    ghost starts = { λ s place from. Parts (map.entries s) place from };
-
-    ghost left = { λ s place. map.len s - place };
-
-    #[inline(always)]
-    fn place_from(&self, from: usize) -> usize {
-        place_of(&self.keys, from)
-    }
-
-    #[inline(always)]
-    fn next(&self, place: usize) -> Option<Placed<'_, X>> {
-        if place >= self.keys.len() {
-            return None;
-        }
-        Some(Placed {
-            byte: self.keys.as_slice()[place],
-            child: &self.children.as_slice()[place],
-            after: place + 1,
-        })
     }
 }
 

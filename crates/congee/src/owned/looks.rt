@@ -11,11 +11,12 @@ use crate::forms::prefix::MAX_PREFIX_LEN;
 use crate::keys::{KEY_BYTES, key_of_bytes};
 use crate::owned::arena::Stored;
 use crate::owned::entries::{Hung, Seen};
+use crate::owned::inner::Row;
 use crate::owned::lone::{key_of, leads};
 use crate::owned::names::Name;
 use crate::owned::nodes::Nodes;
 use crate::owned::place::{Found, Onward, Way};
-use crate::owned::sight::Sight;
+use crate::owned::sight::{Sight, Stem};
 use crate::owned::slots::Slot;
 
 impl<P: Stored> Nodes<P> {
@@ -23,6 +24,7 @@ impl<P: Stored> Nodes<P> {
     ghost use Rattle.congee.specs.Heap.{fits};
     ghost use Rattle.congee.specs.owned.Arena.{IsTree, heap_of};
     ghost use Rattle.congee.specs.owned.Entries.{lone_seen};
+    ghost use Rattle.congee.specs.owned.Rows.{SeesRow};
     ghost use Rattle.congee.specs.owned.Sights.{Sees};
     ghost use Rattle.congee.specs.owned.Slots.{lone_node};
     ghost use Rattle.congee.specs.owned.Stores.{LeafStands, child_now};
@@ -240,6 +242,32 @@ impl<P: Stored> Nodes<P> {
             None => match &self.slab[at.slot] {
                 Slot::Inner(n) => Sight::Inner(at.slot, n),
                 Slot::Leaf(n) => Sight::Leaf(key_of(n.prefix(), 0), n),
+            },
+        }
+    }
+
+    /// The entries from a byte on of an inner node with a prefix; none of another node.
+    #[inline(always)]
+    pub(crate) fn row(&self, at: Name, from: usize) -> Option<(Stem, Row<'_, P>)>
+        requires { ContainsKey self.now at }
+        ensures name { IfSome result (λ r. 257 * r.0.slot ≡ at) }
+        ensures sees { IfSome result (λ r. SeesRow self.now r.0 from r.1) }
+    {
+        match at.byte {
+            Some(_) => None,
+            None => match &self.slab[at.slot] {
+                Slot::Leaf(_) => None,
+                Slot::Inner(n) => {
+                    let prefix = n.prefix();
+                    if prefix.len() == 0 {
+                        return None;
+                    }
+                    let stem = Stem {
+                        slot: at.slot,
+                        first: prefix[0],
+                    };
+                    Some((stem, n.row(from)))
+                }
             },
         }
     }

@@ -2,9 +2,8 @@
 ghost use Rattle.std.specs.Prelude.{◌≡◌, ◌≢◌, ◌<◌, ◌≤◌, ℕ, MatchOption, None, Some, IsSome};
 ghost use Rattle.std.specs.Option.{option_copied};
 ghost use Rattle.std.specs.FinMap as map;
-ghost use Rattle.congee.specs.forms.Bytes.{IsFirst};
+ghost use Rattle.congee.specs.forms.Bytes.{IsFirst, Lists};
 
-use crate::forms::in_order::{InOrder, Placed};
 use crate::owned::ranks::Ranks;
 use arrayvec::ArrayVec;
 use std::marker::Model;
@@ -71,37 +70,17 @@ impl<X, const N: usize> Ranked<X, N> {
         }
         Some((self.bytes.at(place), &self.children.as_slice()[place]))
     }
-}
 
-/// A place is one of the arrays' own.
-impl<X, const N: usize> InOrder<X> for Ranked<X, N> {
-    ghost use Rattle.std.specs.Prelude.{◌-◌};
-    ghost use Rattle.congee.specs.forms.Places.{Parts};
-
-    ghost children = { λ s. s };
-
-    ghost starts = { λ s place from. Parts (map.entries s) place from };
-
-    ghost left = { λ s place. map.len s - place };
-
+    /// The children from `from` on, in the order of their bytes.
     #[inline(always)]
-    fn place_from(&self, from: usize) -> usize {
+    pub(crate) fn children_from(&self, from: usize) -> &[X]
+        ensures { Lists self.now from result.now }
+    {
+        let children = self.children.as_slice();
         if from > 255 {
-            return self.bytes.len();
+            return &children[children.len()..];
         }
-        self.bytes.place_of(from as u8)
-    }
-
-    #[inline(always)]
-    fn next(&self, place: usize) -> Option<Placed<'_, X>> {
-        if place >= self.bytes.len() {
-            return None;
-        }
-        Some(Placed {
-            byte: self.bytes.at(place),
-            child: &self.children.as_slice()[place],
-            after: place + 1,
-        })
+        &children[self.bytes.place_of(from as u8)..]
     }
 }
 

@@ -19,7 +19,7 @@ use std::marker::Model;
 #[derive(Drop)]
 pub(crate) struct SlotNode<P: Small> {
     prefix: Prefix,
-    pub(crate) node: Node<usize, P>,
+    node: Node<usize, P>,
 }
 
 impl<P: Small> Model for SlotNode<P> {

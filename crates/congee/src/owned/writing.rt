@@ -1,19 +1,21 @@
 //! The pairs within a range of keys, written to a slice node by node.
-ghost use Rattle.std.specs.Prelude.{◌≡◌, ◌<◌, ◌≤◌, length, true, false};
+ghost use Rattle.std.specs.Prelude.{◌≡◌, ◌<◌, ◌≤◌, ◌*◌, length, true, false};
 ghost use Rattle.congee.specs.owned.Arena.{IsTree};
-ghost use Rattle.congee.specs.owned.Writes.{Fills, PutsNothing, PutsOne, WritesNode};
+ghost use Rattle.congee.specs.owned.Rows.{Hangs, SeesEntries, SeesList};
+ghost use Rattle.congee.specs.owned.Writes.{Fills, PutsNothing, PutsOne, WritesByte, WritesNode};
 ghost use Rattle.slab.specs.Slab.{ContainsKey};
 
-use crate::forms::base_node::Node;
-use crate::forms::prefix::MAX_PREFIX_LEN;
+use crate::forms::masked::Masked;
 use crate::keys::key_of_bytes;
+use crate::owned::entries::Entry;
+use crate::owned::inner::{Row, key_by};
 use crate::owned::names::Name;
 use crate::owned::nodes::Nodes;
-use crate::owned::places::Places;
-use crate::owned::rows::{Entries, Row, Values, Whole};
 use crate::owned::scan::Listed;
-use crate::owned::sight::{Next, Sight};
-use crate::owned::slot_node::SlotNode;
+use crate::owned::sight::{Next, Stem};
+
+/// How many nodes are looked at ahead of the one whose pairs are written.
+const LOOKED_AT: usize = 8;
 
 /// How many pairs stand in a slice, and whether no other comes: there is no place left, or the next key is past the last one.
 #[derive(Clone, Copy)]
@@ -41,8 +43,6 @@ fn write_pair<E: Listed>(key: u64, value: u64, last: u64, out: &mut [E], count: 
 }
 
 impl Nodes<u64> {
-    ghost use Rattle.congee.specs.owned.Sights.{SeesInner, SeesLeaf};
-
     /// Writes the pairs below a node from a byte on, ascending, after the first `count`, up to the last key.
     #[cycle(writing)]
     pub(crate) fn write_from<E: Listed>(
@@ -59,115 +59,18 @@ impl Nodes<u64> {
         ensures fills { Fills count out.old out.new result }
         ensures pairs { WritesNode self.now E.entry last at from count out.old out.new result }
     {
-        match self.sight(at) {
-            Sight::Inline(lone) => {
-                if from > lone.key[MAX_PREFIX_LEN] as usize {
-                    return Written { count, over: false };
-                }
-                write_pair(key_of_bytes(&lone.key), *lone.value, last, out, count)
-            }
-            Sight::Inner(slot, node) => {
-                self.write_inner(Whole { at, slot, node }, from, last, out, count)
-            }
-            Sight::Leaf(least, n) => self.write_leaf(at, least, n, from, last, out, count),
+        match self.row(at, from) {
+            Some((stem, Row::Few(list))) => self.write_list(stem, list, last, out, count),
+            Some((stem, Row::Wide(form))) => self.write_wide(stem, form, from, last, out, count),
+            None => self.write_seen(at, from, last, out, count),
         }
     }
 
-    // The same of an inner node.
-    #[inline(always)]
+    // The same of any node.
     #[cycle(writing)]
-    fn write_inner<E: Listed>(
-        &self,
-        whole: Whole<'_>,
-        from: usize,
-        last: u64,
-        out: &mut [E],
-        count: usize,
-    ) -> Written
-        requires tree { IsTree self.now }
-        requires stands { ContainsKey self.now whole.at }
-        requires sees { SeesInner self.now whole.at whole.slot whole.node.now }
-        requires within { count ≤ length out.old }
-        ensures fills { Fills count out.old out.new result }
-        ensures pairs { WritesNode self.now E.entry last whole.at from count out.old out.new result }
-    {
-        let Whole { at, slot, node } = whole;
-        let prefix = node.prefix();
-        if prefix.len() == 0 {
-            return self.write_row(whole, from, last, out, count);
-        }
-        let first = prefix[0];
-        match &node.places {
-            Places::N4(form) => {
-                self.write_row(
-                    Entries {
-                        at,
-                        slot,
-                        first,
-                        form,
-                    },
-                    from,
-                    last,
-                    out,
-                    count,
-                )
-            }
-            Places::N16(n) => {
-                let form = &n.children;
-                self.write_row(
-                    Entries {
-                        at,
-                        slot,
-                        first,
-                        form,
-                    },
-                    from,
-                    last,
-                    out,
-                    count,
-                )
-            }
-            Places::N48(n) => {
-                let form = &n.children;
-                self.write_row(
-                    Entries {
-                        at,
-                        slot,
-                        first,
-                        form,
-                    },
-                    from,
-                    last,
-                    out,
-                    count,
-                )
-            }
-            Places::N256(n) => {
-                let form = &n.children;
-                self.write_row(
-                    Entries {
-                        at,
-                        slot,
-                        first,
-                        form,
-                    },
-                    from,
-                    last,
-                    out,
-                    count,
-                )
-            }
-        }
-    }
-
-    // The same of a leaf in a slot, whose key at byte 0 would be `least`.
-    #[inline(always)]
-    #[cycle(writing)]
-    fn write_leaf<E: Listed>(
+    fn write_seen<E: Listed>(
         &self,
         at: Name,
-        least: u64,
-        n: &SlotNode<u64>,
         from: usize,
         last: u64,
         out: &mut [E],
@@ -175,53 +78,15 @@ impl Nodes<u64> {
     ) -> Written
         requires tree { IsTree self.now }
         requires stands { ContainsKey self.now at }
-        requires sees { SeesLeaf self.now at least n.now }
         requires within { count ≤ length out.old }
         ensures fills { Fills count out.old out.new result }
         ensures pairs { WritesNode self.now E.entry last at from count out.old out.new result }
     {
-        match &n.node {
-            Node::N4(n) => {
-                let form = &n.children;
-                self.write_row(Values { at, least, form }, from, last, out, count)
-            }
-            Node::N16(n) => {
-                let form = &n.children;
-                self.write_row(Values { at, least, form }, from, last, out, count)
-            }
-            Node::N48(n) => {
-                let form = &n.children;
-                self.write_row(Values { at, least, form }, from, last, out, count)
-            }
-            Node::N256(n) => {
-                let form = &n.children;
-                self.write_row(Values { at, least, form }, from, last, out, count)
-            }
-        }
-    }
-
-    // The same of a row.
-    #[inline(always)]
-    #[cycle(writing)]
-    fn write_row<E: Listed, R: Row>(
-        &self,
-        row: R,
-        from: usize,
-        last: u64,
-        out: &mut [E],
-        count: usize,
-    ) -> Written
-        requires tree { IsTree self.now }
-        requires stands { ContainsKey self.now (R.name row) }
-        requires sees { R.sees self.now row }
-        requires within { count ≤ length out.old }
-        ensures fills { Fills count out.old out.new result }
-        ensures pairs { WritesNode self.now E.entry last (R.name row) from count out.old out.new result }
-    {
-        let mut place = row.place_from(from);
+        let sight = self.sight(at);
+        let mut from = from;
         let mut count = count;
-        while let Some(found) = row.next(place) {
-            let written = match found.child {
+        while let Some((byte, child)) = sight.first_from(from) {
+            let written = match child {
                 Next::Blank => unreachable!(),
                 Next::Value(key, value) => write_pair(key, *value, last, out, count),
                 Next::Leaf(_, key, value) => write_pair(key, *value, last, out, count),
@@ -231,8 +96,165 @@ impl Nodes<u64> {
                 return written;
             }
             count = written.count;
-            place = found.after;
+            from = byte as usize + 1;
         }
         Written { count, over: false }
+    }
+
+    // The same of the entries that an inner node with a prefix has from a byte on.
+    #[inline(always)]
+    #[cycle(writing)]
+    fn write_list<E: Listed>(
+        &self,
+        stem: Stem,
+        list: &[Entry<u64>],
+        last: u64,
+        out: &mut [E],
+        count: usize,
+    ) -> Written
+        requires tree { IsTree self.now }
+        requires sees { SeesList self.now stem list.now }
+        requires within { count ≤ length out.old }
+        ensures fills { Fills count out.old out.new result }
+        ensures pairs { (seen : SeesList self.now stem list.now) → WritesNode self.now E.entry last (257 * stem.slot) seen.from count out.old out.new result }
+    {
+        let mut count = count;
+        for i in 0..list.len() {
+            let written = self.write_entry(stem, &list[i], last, out, count);
+            if written.over {
+                return written;
+            }
+            count = written.count;
+        }
+        Written { count, over: false }
+    }
+
+    // The same of one entry.
+    #[inline(always)]
+    #[cycle(writing)]
+    fn write_entry<E: Listed>(
+        &self,
+        stem: Stem,
+        entry: &Entry<u64>,
+        last: u64,
+        out: &mut [E],
+        count: usize,
+    ) -> Written
+        requires tree { IsTree self.now }
+        requires hangs { Hangs self.now stem entry.now }
+        requires within { count ≤ length out.old }
+        ensures fills { Fills count out.old out.new result }
+        ensures pairs { (h : Hangs self.now stem entry.now) → WritesByte self.now E.entry last (257 * stem.slot) h.from h.byte count out.old out.new result }
+    {
+        match entry {
+            Entry::Blank => unreachable!(),
+            Entry::Leaf(tail, value) => {
+                let key = key_of_bytes(&key_by(stem.first, tail));
+                write_pair(key, *value, last, out, count)
+            }
+            Entry::Node(below) => self.write_from(Name::of(*below), 0, last, out, count),
+        }
+    }
+
+    // The same of the entries of the greatest form, most of which are nodes: these are written within the loop, and looked
+    // at before, a few at a time, since a processor that waits for one can read the others meanwhile.
+    #[inline(always)]
+    #[cycle(writing)]
+    fn write_wide<E: Listed>(
+        &self,
+        stem: Stem,
+        form: &Masked<Entry<u64>>,
+        from: usize,
+        last: u64,
+        out: &mut [E],
+        count: usize,
+    ) -> Written
+        requires tree { IsTree self.now }
+        requires sees { SeesEntries self.now stem form.now }
+        requires within { count ≤ length out.old }
+        ensures fills { Fills count out.old out.new result }
+        ensures pairs { WritesNode self.now E.entry last (257 * stem.slot) from count out.old out.new result }
+    {
+        let mut from = from;
+        let mut count = count;
+        let mut ahead = 0;
+        while let Some((here, entry)) = form.first_from(from) {
+            if ahead == 0 {
+                ahead = self.look_ahead(form, from, out.len() - count);
+            }
+            ahead -= 1;
+            let written = self.write_wide_entry(stem, entry, last, out, count);
+            if written.over {
+                return written;
+            }
+            count = written.count;
+            from = here as usize + 1;
+        }
+        Written { count, over: false }
+    }
+
+    // The same of one of them.
+    #[inline(always)]
+    #[cycle(writing)]
+    fn write_wide_entry<E: Listed>(
+        &self,
+        stem: Stem,
+        entry: &Entry<u64>,
+        last: u64,
+        out: &mut [E],
+        count: usize,
+    ) -> Written
+        requires tree { IsTree self.now }
+        requires hangs { Hangs self.now stem entry.now }
+        requires within { count ≤ length out.old }
+        ensures fills { Fills count out.old out.new result }
+        ensures pairs { (h : Hangs self.now stem entry.now) → WritesByte self.now E.entry last (257 * stem.slot) h.from h.byte count out.old out.new result }
+    {
+        match entry {
+            Entry::Blank => unreachable!(),
+            Entry::Leaf(tail, value) => {
+                let key = key_of_bytes(&key_by(stem.first, tail));
+                write_pair(key, *value, last, out, count)
+            }
+            Entry::Node(below) => self.write_below(Name::of(*below), last, out, count),
+        }
+    }
+
+    // The same of a node below the greatest form.
+    #[inline(always)]
+    #[cycle(writing)]
+    fn write_below<E: Listed>(&self, at: Name, last: u64, out: &mut [E], count: usize) -> Written
+        requires tree { IsTree self.now }
+        requires stands { ContainsKey self.now at }
+        requires within { count ≤ length out.old }
+        ensures fills { Fills count out.old out.new result }
+        ensures pairs { WritesNode self.now E.entry last at 0 count out.old out.new result }
+    {
+        match self.row(at, 0) {
+            Some((stem, Row::Few(list))) => self.write_list(stem, list, last, out, count),
+            _ => self.write_from(at, 0, last, out, count),
+        }
+    }
+
+    // Looks at the nodes from a byte on, a few of them, or as many as fill the places, and tells how many: one at least.
+    #[inline(always)]
+    fn look_ahead(&self, form: &Masked<Entry<u64>>, from: usize, places: usize) -> usize
+        ensures { 0 < result }
+    {
+        let mut from = from;
+        let mut places = places;
+        let mut taken = 0;
+        while taken < LOOKED_AT && places > 0 {
+            let Some((byte, Entry::Node(below))) = form.first_from(from) else {
+                break;
+            };
+            let Some(node) = self.slab.get(*below) else {
+                break;
+            };
+            places = places.saturating_sub(node.len());
+            taken += 1;
+            from = byte as usize + 1;
+        }
+        taken.max(1)
     }
 }
