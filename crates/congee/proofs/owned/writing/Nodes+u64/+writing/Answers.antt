@@ -19,8 +19,9 @@ write_from-returns-in-Some-default-Few-clause-pairs g t c =
     let s = c.args.self.now in
     let stem = c.in-Some-default-Few.stem in
     let seen : SeesRow s stem c.args.from (Few c.in-Some-default-Few.list) = subst (SeesRow s stem c.args.from) c.in-Some-default-Few.field-0-1-is c.in-Some-default-Few.ensures.sees in
+    let pairs = rw c.in-Some-default-Few.list-is at c.write_list.ensures.pairs in
     subst (λ at. WritesNode s g.E.Listed.entry c.args.last at c.args.from c.args.count c.args.out.now c.write_list.new.out c.write_list.result) c.in-Some-default-Few.ensures.name
-    (subst (λ from. WritesNode s g.E.Listed.entry c.args.last (257 * stem.slot) from c.args.count c.args.out.now c.write_list.new.out c.write_list.result) seen.1 (c.write_list.ensures.pairs seen.0))
+    (subst (λ from. WritesNode s g.E.Listed.entry c.args.last (257 * stem.slot) from c.args.count c.args.out.now c.write_list.new.out c.write_list.result) seen.1 (pairs seen.0))
 
 pub write_seen-unreachable-requires : goal.write_seen-unreachable-requires
 write_seen-unreachable-requires g t c =
