@@ -60,8 +60,10 @@ impl Nodes<u64> {
         ensures pairs { WritesNode self.now E.entry last at from count out.old out.new result }
     {
         match self.row(at, from) {
-            Some((stem, Row::Few(list))) => self.write_list(stem, list, last, out, count),
-            Some((stem, Row::Wide(form))) => self.write_wide(stem, form, from, last, out, count),
+            Some((stem, row)) => match row {
+                Row::Few(list) => self.write_list(stem, list, last, out, count),
+                Row::Wide(form) => self.write_wide(stem, form, from, last, out, count),
+            },
             None => self.write_seen(at, from, last, out, count),
         }
     }

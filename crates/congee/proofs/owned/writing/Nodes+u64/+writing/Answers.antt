@@ -1,8 +1,8 @@
-use Rattle.std.proofs.Common.{rules, ◌≡◌, ◌<◌, ◌+◌, ◌-◌, ◌*◌, length, sym, ap, refl, subst, ◌∙◌, arith}
+use Rattle.std.proofs.Common.{rules, ℕ, ◌≡◌, ◌<◌, ◌+◌, ◌-◌, ◌*◌, length, sym, ap, refl, subst, ◌∙◌, arith}
 use Rattle.congee.specs.forms.Bytes.{IsFirst}
 use Rattle.congee.specs.forms.Forms.{children_of}
 use Rattle.congee.specs.owned.Arena.{heap_of}
-use Rattle.congee.specs.owned.Rows.{SeesRow}
+use Rattle.congee.specs.owned.Rows.{SeesList, SeesRow}
 use Rattle.congee.specs.declared.owned.inner.Row.TheVariants.{Few}
 use Rattle.congee.specs.owned.Sights.{HasKey, HasLeaf, child_of}
 use Rattle.congee.specs.owned.Writes.{WritesNode}
@@ -14,14 +14,14 @@ use Rattle.congee.proofs.lemmas.owned.Writings.{Wrote, ends_fills, ends_writes, 
 use Rattle.congee.proofs.owned.writing.Nodes+u64.+writing.Goals as goal
 use Rattle.congee.proofs.owned.writing.Nodes+u64.+writing.Goals.{write_seen-in-Value, write_seen-in-Leaf, write_seen-in-Node}
 
-pub write_from-returns-in-Some-default-Few-clause-pairs : goal.write_from-returns-in-Some-default-Few-clause-pairs
-write_from-returns-in-Some-default-Few-clause-pairs g t c =
+pub write_from-returns-in-Few-clause-pairs : goal.write_from-returns-in-Few-clause-pairs
+write_from-returns-in-Few-clause-pairs g t c =
     let s = c.args.self.now in
-    let stem = c.in-Some-default-Few.stem in
-    let seen : SeesRow s stem c.args.from (Few c.in-Some-default-Few.list) = subst (SeesRow s stem c.args.from) c.in-Some-default-Few.field-0-1-is c.in-Some-default-Few.ensures.sees in
-    let pairs = rw c.in-Some-default-Few.list-is at c.write_list.ensures.pairs in
-    subst (λ at. WritesNode s g.E.Listed.entry c.args.last at c.args.from c.args.count c.args.out.now c.write_list.new.out c.write_list.result) c.in-Some-default-Few.ensures.name
-    (subst (λ from. WritesNode s g.E.Listed.entry c.args.last (257 * stem.slot) from c.args.count c.args.out.now c.write_list.new.out c.write_list.result) seen.1 (pairs seen.0))
+    let stem = c.in-Some.stem in
+    let writes : ℕ → ℕ → Type 0 = λ at from. WritesNode s g.E.Listed.entry c.args.last at from c.args.count c.args.out.now c.write_list.new.out c.write_list.result in
+    let seen : SeesRow s stem c.args.from (Few c.in-Few.list) = subst (SeesRow s stem c.args.from) c.in-Few.is c.in-Some.ensures.sees in
+    let pairs = subst (λ list. (seen : SeesList s stem list.now) → writes (257 * stem.slot) seen.from) c.in-Few.list-is c.write_list.ensures.pairs in
+    subst (λ at. writes at c.args.from) c.in-Some.ensures.name (subst (writes (257 * stem.slot)) seen.1 (pairs seen.0))
 
 pub write_seen-unreachable-requires : goal.write_seen-unreachable-requires
 write_seen-unreachable-requires g t c =
