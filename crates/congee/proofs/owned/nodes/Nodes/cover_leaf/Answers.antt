@@ -1,4 +1,4 @@
-use Rattle.std.proofs.Common.{rules, refl, ap, ◌<◌, arith}
+use Rattle.std.proofs.Common.{rules, refl, ◌<◌, arith}
 use Rattle.congee.proofs.lemmas.owned.SlotOps.{has_slot, inline_there, inline_read, inline_same, own_slot, cover_leaf_stored, cover_leaf_done, same_room}
 use Rattle.congee.proofs.owned.nodes.Nodes.cover_leaf.Goals as goal
 

@@ -6,6 +6,7 @@ use Rattle.congee.specs.forms.RoomLemmas.{node16_fits, node48_fits, node256_fits
 use Rattle.congee.proofs.lemmas.owned.SlotOps.{has_slot, slot_inner, same_view_room}
 use Rattle.congee.proofs.lemmas.owned.Takings.{lone_some, lone_stored, no_lone, only_len, plain_stored, take_gives}
 use Rattle.congee.specs.owned.Lifting.{GivesOnly}
+use Rattle.congee.specs.owned.Slots.{nodes_in}
 use Rattle.congee.specs.owned.EntryRoom.{places16_fits, places48_fits, places256_fits}
 use Rattle.congee.proofs.owned.nodes.Nodes.take_only.Goals as goal
 
@@ -29,7 +30,7 @@ invariant_of-self-in_default g c = plain_stored c.self.inside.slab c.args.self.n
 
 pub returns-in-Value : goal.returns-in-Value
 returns-in-Value g c = record {
-  gives = λ y h. subst (λ w. GivesOnly c.args.self.now _ c.args.at y w) c.in-Value.is (take_gives c.self.inside.slab c.args.self.now c.self.view_is c.self.inside.inline c.self.invariant c.args.at c.at.inside.slot c.at.inside.byte c.at.view_is c.at.invariant c.requires.stands c.requires.inner c.requires.alone c.remove-node.result c.remove-node.ensures.value c.take_only.result c.take_only.ensures c.remove-node.new.self c.remove-node.ensures.updates y h);
+  gives = λ y h. subst (λ w. GivesOnly c.args.self.now (nodes_in c.remove-node.new.self) c.args.at y w) c.in-Value.is (take_gives c.self.inside.slab c.args.self.now c.self.view_is c.self.inside.inline c.self.invariant c.args.at c.at.inside.slot c.at.inside.byte c.at.view_is c.at.invariant c.requires.stands c.requires.inner c.requires.alone c.remove-node.result c.remove-node.ensures.value c.take_only.result c.take_only.ensures c.remove-node.new.self c.remove-node.ensures.updates y h);
   capacity = same_view_room c.self.inside.slab c.remove-node.new.self c.args.self.now c.self.view_is c.remove-node.ensures.capacity;
 }
 
