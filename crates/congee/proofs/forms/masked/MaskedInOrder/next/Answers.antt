@@ -1,4 +1,4 @@
-use Rattle.std.proofs.Common.{◌+◌, ◌≤◌, ℕ, ◌≡◌, None, refl, sym, subst, arith}
+use Rattle.std.proofs.Common.{◌≤◌, ℕ, ◌≡◌, None, refl, subst}
 use Rattle.std.specs.FinMap as map
 use Rattle.congee.specs.forms.Bytes.{IsFirst}
 use Rattle.congee.proofs.forms.masked.MaskedInOrder.next.Goals as goal
