@@ -1,4 +1,4 @@
-use Rattle.std.proofs.Common.{rules, ◌≡◌, ◌≢◌, get_or, ℕ, List, arith, sym, ◌∙◌, ap, subst}
+use Rattle.std.proofs.Common.{rules, ◌≡◌, ◌≢◌, get_or, ℕ, arith, sym, ◌∙◌, ap, subst}
 use Rattle.std.specs.FinMap as map
 use Rattle.congee.proofs.lemmas.forms.SortedLemmas.{IsPlaceOf, get_found, get_absent}
 use Rattle.congee.proofs.lemmas.owned.Ranks.{rising_of}

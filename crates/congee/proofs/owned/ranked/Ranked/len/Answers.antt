@@ -1,4 +1,4 @@
-use Rattle.std.proofs.Common.{rules, sym, subst, IsSome}
+use Rattle.std.proofs.Common.{sym, subst, IsSome}
 use Rattle.std.specs.FinMap as map
 use Rattle.congee.proofs.lemmas.forms.SortedLemmas.{len_is, is_byte}
 use Rattle.congee.proofs.owned.ranked.Ranked.len.Goals as goal

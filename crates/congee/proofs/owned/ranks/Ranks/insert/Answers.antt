@@ -1,4 +1,4 @@
-use Rattle.std.proofs.Common.{ℕ, List, ◌≡◌, ◌<◌, ◌≤◌, length, get_or, sym, ap, ◌∙◌, arith, rules}
+use Rattle.std.proofs.Common.{ℕ, List, ◌≡◌, length, ap, ◌∙◌, arith, rules}
 use Rattle.std.specs.List.{insert}
 use Rattle.congee.proofs.lemmas.owned.Ranks.{row_length, insert_row, insert_list}
 use Rattle.congee.proofs.owned.ranks.Ranks.insert.Goals as goal

@@ -1,4 +1,4 @@
-use Rattle.std.proofs.Common.{ℕ, List, ◌≡◌, ◌<◌, ◌≤◌, length, get_or, sym, ap, ◌∙◌, arith, rules}
+use Rattle.std.proofs.Common.{◌≡◌, length, ap, arith, rules}
 use Rattle.congee.proofs.lemmas.owned.Ranks.{row_length}
 use Rattle.congee.proofs.owned.ranks.Ranks.len.Goals as goal
 

@@ -1,4 +1,4 @@
-use Rattle.std.proofs.Common.{ℕ, ◌≡◌, ◌<◌, ◌≤◌, length, take, sym, ap, subst, ◌∙◌, arith, rules}
+use Rattle.std.proofs.Common.{◌≡◌, length, ap, arith, rules}
 use Rattle.congee.proofs.lemmas.owned.Ranks.{row_length, row_ordered, row_within, row_below, row_at}
 use Rattle.congee.proofs.owned.ranks.Ranks.place_of.Goals as goal
 

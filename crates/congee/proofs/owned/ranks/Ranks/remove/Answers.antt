@@ -1,4 +1,4 @@
-use Rattle.std.proofs.Common.{ℕ, List, ◌≡◌, ◌<◌, ◌≤◌, length, get_or, refl, sym, ap, ◌∙◌, arith, rules}
+use Rattle.std.proofs.Common.{ℕ, List, ◌≡◌, length, refl, ap, ◌∙◌, arith, rules}
 use Rattle.std.specs.List.{remove}
 use Rattle.congee.proofs.lemmas.owned.Ranks.{row_length, remove_row, remove_list}
 use Rattle.congee.proofs.owned.ranks.Ranks.remove.Goals as goal
