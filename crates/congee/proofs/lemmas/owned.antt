@@ -17,7 +17,6 @@ pub mod FullSteps
 pub mod Joins
 pub mod Moves
 pub mod OwnerLemmas
-pub mod Parts
 pub mod Walks
 pub mod Puts
 pub mod RangeLemmas
