@@ -15,10 +15,13 @@ pub mod Lesser
 pub mod Levels
 pub mod Lifting
 pub mod Lones
+pub mod Only
 pub mod Owned
 pub mod Place
 pub mod Ranges
+pub mod Ranks
 pub mod Renames
+pub mod Rows
 pub mod Runs
 pub mod Sights
 pub mod Sizes
@@ -36,3 +39,4 @@ pub mod Stats
 pub mod StatsText
 pub mod Walks
 pub mod Ways
+pub mod Writes

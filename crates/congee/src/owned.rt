@@ -16,6 +16,8 @@ mod pairs;
 mod parting;
 mod place;
 mod places;
+mod ranked;
+mod ranks;
 mod removing;
 mod scan;
 mod sight;
@@ -24,6 +26,7 @@ mod slots;
 mod stats;
 mod survey;
 mod u64_congee;
+mod writing;
 
 pub use congee::Congee;
 pub use congee_arc::{CongeeArc, Count, owner_of, payload_of};

@@ -2,6 +2,7 @@ pub mod Answered
 pub mod EntryRanges
 pub mod Clears
 pub mod Contents
+pub mod Covers
 pub mod Cursors
 pub mod Drains
 pub mod Edits
@@ -19,9 +20,11 @@ pub mod OwnerLemmas
 pub mod Walks
 pub mod Puts
 pub mod RangeLemmas
+pub mod Ranks
 pub mod Refilling
 pub mod Renaming
 pub mod Rooms
+pub mod Rows
 pub mod Root
 pub mod Running
 pub mod Scanned
@@ -33,10 +36,12 @@ pub mod SlotLens
 pub mod SlotOps
 pub mod Slots
 pub mod Tables
+pub mod Takings
 pub mod Totals
 pub mod Weights
 pub mod Wanting
 pub mod Ways
+pub mod Writings
 pub mod Tallies
 pub mod Stored
 pub mod Surveys

@@ -1,5 +1,5 @@
 -- Finite maps from bytes to children.
-use Rattle.std.specs.Prelude.{◌≡◌, ℕ, ◌<◌, ◌≤◌, ltb, cond, List, [], ◌∷◌, None, Some}
+use Rattle.std.specs.Prelude.{◌≡◌, ℕ, ◌+◌, ◌<◌, ◌≤◌, ltb, cond, List, [], ◌∷◌, None, Some}
 use Rattle.std.specs.Ordering.{nat_cmp}
 use Rattle.std.specs.FinMap as map
 
@@ -8,6 +8,11 @@ pub record IsFirst {X : Type 0} (m : map.FinMap nat_cmp X) (from b : ℕ) (x : X
   pub past : from ≤ b
   pub here : map.get m b ≡ Some x
   pub before : (q : ℕ) → from ≤ q → q < b → map.get m q ≡ None
+
+-- these are the children from `from` on, in the order of their bytes
+abbrev pub Lists : {X : Type 0} → map.FinMap nat_cmp X → ℕ → List X → Type 0
+Lists m from [] = (b : ℕ) → from ≤ b → map.get m b ≡ None
+Lists m from (x ∷ r) = (b : ℕ) × (b < 256) × IsFirst m from b x × Lists m (b + 1) r
 
 -- x is the child of b, the greatest byte below `end` that has one
 pub record IsLast {X : Type 0} (m : map.FinMap nat_cmp X) (end b : ℕ) (x : X) : Type 0 where

@@ -1,5 +1,5 @@
 -- A change of one node.
-use Rattle.std.specs.Prelude.{◌≡◌, ◌≢◌, ℕ, ◌+◌, ◌<◌, ◌≤◌, false, cond, List, length, Option, Some, None}
+use Rattle.std.specs.Prelude.{◌≡◌, ◌≢◌, ℕ, ◌+◌, ◌<◌, ◌≤◌, false, cond, List, Option, Some, None}
 use Rattle.std.specs.Ordering.{nat_cmp}
 use Rattle.std.specs.FinMap as map
 use Rattle.slab.specs.Slab.{Updates, get}
@@ -13,7 +13,6 @@ use Rattle.congee.specs.declared.allocator.OOMError.{OOMError}
 use Rattle.congee.specs.declared.allocator.OOMError.TheVariants.{Budget, Memory}
 use Rattle.congee.specs.declared.forms.child.Child.{Child}
 use Rattle.congee.specs.declared.forms.child.Child.TheVariants.{Node as Sub}
-use Rattle.congee.specs.declared.forms.prefix.TheConstants.{MAX_PREFIX_LEN}
 
 -- node x at this name gets these children
 pub record Sets {P : Type 0} (s s' : Nodes P) (at : ℕ) (x : Node ℕ P) (children : map.FinMap nat_cmp (Child ℕ P)) : Type 0 where
@@ -81,10 +80,3 @@ pub record IsHeld {P : Type 0} (s : Nodes P) (key : List ℕ) (at : ℕ) : Type 
 abbrev pub settled : {P : Type 0} → Option P → Option P → Option P
 settled None new = None
 settled (Some old) new = new
-
--- an inner node stands at a name, and a node hangs in it at a byte
-pub record Hosts {P : Type 0} (s : Nodes P) (at byte below : ℕ) : Type 0 where
-  pub node : Node ℕ P
-  pub stands : get s at ≡ Some node
-  pub inner : length (prefix_of node) < MAX_PREFIX_LEN
-  pub child : map.get (children_of node) byte ≡ Some (Sub below)

@@ -1,5 +1,5 @@
 -- What single changes of the storage do to the nodes of an owned tree.
-use Rattle.std.specs.Prelude.{◌≡◌, ◌≢◌, ℕ, ◌<◌, length, List, Option, None, Some}
+use Rattle.std.specs.Prelude.{◌≡◌, ◌≢◌, ℕ, ◌+◌, ◌<◌, length, List, Option, None, Some}
 use Rattle.std.specs.FinMap as map
 use Rattle.slab.specs.Slab.{Updates, get}
 use Rattle.congee.specs.forms.Forms.{Becomes, children_of, form_of, next_form, prefix_of}
@@ -74,6 +74,7 @@ module _ {P : Type 0} where
   pub record HangsLeaf (s s' : Nodes P) (at : ℕ) (x : Node ℕ P) (byte : ℕ) (key : List ℕ) (value : P) : Type 0 where
     pub leaf : ℕ
     pub inline : HasOwnSlot leaf → ⊥
+    pub named : leaf ≡ at + (byte + 1)
     pub made : Node ℕ P
     pub form : form_of made ≡ N4
     pub has : IsLeafOf made key value
@@ -94,6 +95,22 @@ module _ {P : Type 0} where
     pub lone : IsLone was last value
     pub node : Node ℕ P
     pub becomes : Becomes x node (map.remove (children_of x) byte)
+    pub now : get s' at ≡ Some node
+    pub left : get s' leaf ≡ None
+    pub others : (m : ℕ) → m ≢ at → m ≢ leaf → get s' m ≡ get s m
+
+  -- node `below` comes into the place of the leaf with one value that hangs below node x, and the leaf goes
+  pub record CoversLeaf (s s' : Nodes P) (at : ℕ) (x : Node ℕ P) (byte below : ℕ) (key : List ℕ) (value : P) : Type 0 where
+    pub own : HasOwnSlot at
+    pub leaf : ℕ
+    pub named : leaf ≡ at + (byte + 1)
+    pub child : map.get (children_of x) byte ≡ Some (Sub leaf)
+    pub was : Node ℕ P
+    pub form : form_of was ≡ N4
+    pub has : IsLeafOf was key value
+    pub stood : get s leaf ≡ Some was
+    pub node : Node ℕ P
+    pub becomes : Becomes x node (map.insert (children_of x) byte (Sub below))
     pub now : get s' at ≡ Some node
     pub left : get s' leaf ≡ None
     pub others : (m : ℕ) → m ≢ at → m ≢ leaf → get s' m ≡ get s m

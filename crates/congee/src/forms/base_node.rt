@@ -344,6 +344,20 @@ impl<C: Small, P: Small> Node<C, P> {
         }
     }
 
+    // The same, but a blank is left in the place of each, so that none moves up.
+    fn pour_into(&mut self, other: &mut Node<C, P>)
+        requires empty { children_of other.old ≡ map.empty }
+        requires room { map.len (children_of self.old) ≤ capacity_of (form_of other.old) }
+        ensures moved { Becomes other.old other.new (children_of self.old) }
+    {
+        let mut from = 0;
+        while let Some((first, _)) = self.first_from(from) {
+            let child = self.change(first, Child::Blank);
+            other.insert(first, child);
+            from = first as usize + 1;
+        }
+    }
+
     /// Becomes a node of the next greater form, with the same prefix and children.
     ///
     /// Memory is asked for first: where it is refused, the node stays as it was.
@@ -356,7 +370,7 @@ impl<C: Small, P: Small> Node<C, P> {
         let form = self.node_type().next();
         let mut greater = Node::new(alloc, form, self.prefix())?;
         prove!(self.len() <= form.capacity());
-        self.move_to(&mut greater);
+        self.pour_into(&mut greater);
         *self = greater;
         Ok(())
     }
@@ -374,7 +388,7 @@ impl<C: Small, P: Small> Node<C, P> {
     {
         let form = self.node_type().below();
         let mut lesser = Node::new(alloc, form, self.prefix())?;
-        self.move_to(&mut lesser);
+        self.pour_into(&mut lesser);
         *self = lesser;
         Ok(())
     }

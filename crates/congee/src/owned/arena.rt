@@ -8,7 +8,7 @@ use crate::forms::child::Small;
 use crate::keys::KEY_BYTES;
 use crate::owned::names::Name;
 use crate::owned::nodes::Nodes;
-use crate::owned::place::{Place, Spot, Way};
+use crate::owned::place::{Onward, Place, Spot};
 use std::alloc::Global;
 
 /// What an owned tree holds, and the room that its nodes take.
@@ -41,30 +41,22 @@ impl<P: Stored, A: Allocator> Arena<P, A> {
         requires { IsTree self.now.nodes }
         ensures { Located self.now.nodes key.now result }
     {
-        let mut top = Name::root();
-        let mut above = Name::root();
-        let mut at = Name::root();
+        let mut top = 0;
+        let mut above = 0;
+        let mut at = 0;
         loop {
-            match self.nodes.look(at, key) {
-                Way::Free => return Place {
+            match self.nodes.look_on(at, key) {
+                Onward::Free => return Place::ending(top, above, Name::of(at), Spot::Free),
+                Onward::Held(_) => return Place::ending(top, above, Name::of(at), Spot::Held),
+                Onward::FreeBelow(leaf) => return Place::ending(above, at, leaf, Spot::Free),
+                Onward::HeldBelow(leaf, _) => return Place::ending(above, at, leaf, Spot::Held),
+                Onward::Apart(name) => return Place::ending(
                     top,
                     above,
-                    at,
-                    spot: Spot::Free,
-                },
-                Way::Held(_) => return Place {
-                    top,
-                    above,
-                    at,
-                    spot: Spot::Held,
-                },
-                Way::Apart(below) => return Place {
-                    top,
-                    above,
-                    at,
-                    spot: Spot::Apart(below),
-                },
-                Way::Below(below) => {
+                    Name::of(at),
+                    Spot::Apart(name),
+                ),
+                Onward::Below(below) => {
                     top = above;
                     above = at;
                     at = below;

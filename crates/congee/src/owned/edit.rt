@@ -1,7 +1,7 @@
 //! The changes at the end of a key's way where a value comes in or gives place to another.
 ghost use Rattle.std.specs.Prelude.{◌≡◌, ◌≢◌, ◌+◌, ℕ, [], ◌∷◌, length, slice_index, ◌<◌, ◌≤◌, Some, None, false, IfErr, OnOk};
 ghost use Rattle.std.specs.FinMap as map;
-ghost use Rattle.slab.specs.Slab.{get, ContainsKey, HasRoomFor};
+ghost use Rattle.slab.specs.Slab.{ContainsKey, HasRoomFor};
 ghost use Rattle.congee.specs.Heap.{Below, Nothing, fits, child_for};
 ghost use Rattle.congee.specs.forms.Forms.{children_of, size_of};
 ghost use Rattle.congee.specs.owned.Arena.{IsTree, OnWay, Hangs, Reached, heap_of};
@@ -11,7 +11,7 @@ ghost use Rattle.congee.specs.owned.Changes.{MapChange};
 ghost use Rattle.congee.specs.owned.Edits.{Adds, Denies, Drops, Frees, Swaps};
 ghost use Rattle.congee.specs.owned.Full.{NodesFilled};
 ghost use Rattle.congee.specs.owned.Naming.{HasOwnSlot};
-ghost use Rattle.congee.specs.owned.OwnedSteps.{Hosts, IsHeld};
+ghost use Rattle.congee.specs.owned.OwnedSteps.{IsHeld};
 ghost use Rattle.congee.specs.owned.Renames.{Renamed};
 ghost use Rattle.congee.specs.owned.Wanted.{room_for, free_wants};
 ghost use Rattle.congee.specs.declared.forms.base_node.Node.{Node as Form};
@@ -22,16 +22,10 @@ use crate::allocator::{Allocator, OOMError};
 use crate::forms::base_node::NodeType;
 use crate::keys::KEY_BYTES;
 use crate::owned::arena::{Arena, Stored};
+use crate::owned::lone::Lone;
 use crate::owned::names::Name;
 use crate::owned::parting::Parting;
 use std::alloc::Global;
-
-/// A node that was hung over another, and the byte under which that one hangs in it.
-#[derive(Drop)]
-struct Fork {
-    over: Name,
-    other: u8,
-}
 
 impl<P: Stored, A: Allocator> Arena<P, A> {
     /// The key's byte at a node.
@@ -185,7 +179,7 @@ impl<P: Stored, A: Allocator> Arena<P, A> {
     }
 
     /// Hangs a node of the bytes that the key shares with the child `below` over that child and a leaf for the key.
-    fn fork(&mut self, at: Name, below: Name, key: &[u8; KEY_BYTES], value: P) -> Fork
+    fn fork(&mut self, at: Name, below: Name, key: &[u8; KEY_BYTES], value: P)
         requires tree { IsTree self.old.nodes }
         requires way { OnWay self.old.nodes key.now at }
         requires hangs { child_for (heap_of self.old.nodes at) key.now ≡ Below below }
@@ -196,8 +190,6 @@ impl<P: Stored, A: Allocator> Arena<P, A> {
         ensures change { MapChange self.old.nodes self.new.nodes key.now None (Some value) }
         ensures bytes { bytes_of self.new.nodes ≡ bytes_of self.old.nodes + size_of N4 + size_of N4 }
         ensures filled { NodesFilled self.old.nodes → NodesFilled self.new.nodes }
-        ensures hosts { Hosts self.new.nodes result.over result.other below }
-        ensures same { get self.new.nodes below ≡ get self.old.nodes below }
         ensures allocator { self.new.allocator ≡ self.old.allocator }
     {
         let Parting { place, other } = self.nodes.parting(below, key);
@@ -206,11 +198,34 @@ impl<P: Stored, A: Allocator> Arena<P, A> {
         self.nodes.hang_node(over, other, below);
         let up = self.byte_at(at, key);
         self.nodes.swap_node(at, up, over);
-        Fork { over, other }
     }
 
-    /// The same over a node of either kind: a leaf that lies in its parent's place takes a slot of its own, and then the
-    /// new node's place.
+    /// The same over a leaf that lies in its parent's place: the new node comes there, and the leaf into a place of that one.
+    fn fork_leaf(&mut self, at: Name, below: Name, key: &[u8; KEY_BYTES], value: P)
+        requires tree { IsTree self.old.nodes }
+        requires way { OnWay self.old.nodes key.now at }
+        requires hangs { child_for (heap_of self.old.nodes at) key.now ≡ Below below }
+        requires differs { fits (heap_of self.old.nodes below).prefix key.now ≡ false }
+        requires inline { HasOwnSlot below → ⊥ }
+        requires room { HasRoomFor self.old.nodes 2 }
+        ensures tree { IsTree self.new.nodes }
+        ensures change { MapChange self.old.nodes self.new.nodes key.now None (Some value) }
+        ensures bytes { bytes_of self.new.nodes ≡ bytes_of self.old.nodes + size_of N4 + size_of N4 }
+        ensures filled { NodesFilled self.old.nodes → NodesFilled self.new.nodes }
+        ensures allocator { self.new.allocator ≡ self.old.allocator }
+    {
+        let up = self.byte_at(at, key);
+        let Parting { place, other } = self.nodes.parting(below, key);
+        let over = self.nodes.make(&key[..place]);
+        self.nodes.hang_leaf(over, key[place], key, value);
+        let Lone {
+            key: beside,
+            value: held,
+        } = self.nodes.cover_leaf(at, up, over);
+        self.nodes.hang_leaf(over, other, &beside, held);
+    }
+
+    /// The same over a node of either kind.
     fn host(&mut self, at: Name, below: Name, key: &[u8; KEY_BYTES], value: P)
         requires tree { IsTree self.old.nodes }
         requires way { OnWay self.old.nodes key.now at }
@@ -224,13 +239,10 @@ impl<P: Stored, A: Allocator> Arena<P, A> {
         ensures allocator { self.new.allocator ≡ self.old.allocator }
     {
         if below.is_inline() {
-            let up = self.byte_at(at, key);
-            let leaf = self.nodes.unfold(at, up);
-            let Fork { over, other } = self.fork(at, leaf, key, value);
-            self.nodes.fold(over, other, leaf);
-            return;
+            self.fork_leaf(at, below, key, value)
+        } else {
+            self.fork(at, below, key, value)
         }
-        self.fork(at, below, key, value);
     }
 
     /// Hangs a node of the bytes that the key shares with the child `below` over that child and a leaf for the key,

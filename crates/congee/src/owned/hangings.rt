@@ -20,12 +20,12 @@ use crate::owned::slots::Slot;
 
 impl<P: Stored> Nodes<P> {
     ghost use Rattle.congee.specs.owned.Kinds.{IsValue};
-    ghost use Rattle.congee.specs.owned.Lifting.{HasOneNode, MayLift, MovesUp};
+    ghost use Rattle.congee.specs.owned.Lifting.{GivesOnly, HasOneNode, MayLift, MovesUp};
     ghost use Rattle.congee.specs.owned.Sizes.{bytes_of};
     ghost use Rattle.congee.specs.owned.Naming.{HasOwnSlot};
     ghost use Rattle.congee.specs.owned.OwnedSteps.{Makes, Sets};
     ghost use Rattle.congee.specs.owned.Renames.{Renames};
-    ghost use Rattle.congee.specs.owned.Stores.{Folds, HasOne, HangsLeaf, HasInline, HasNode, LosesLeaf, MakesLeaf};
+    ghost use Rattle.congee.specs.owned.Stores.{CoversLeaf, Folds, HasOne, HangsLeaf, HasInline, HasNode, LosesLeaf, MakesLeaf};
     ghost use Rattle.congee.specs.declared.forms.base_node.Node.{Node as Form};
     ghost use Rattle.congee.specs.declared.forms.child.Child.TheVariants.{Node as Sub, Value};
 
@@ -39,6 +39,7 @@ impl<P: Stored> Nodes<P> {
         requires spare { HasRoomFor self.old 1 }
         requires begins { (x : Form ℕ P) → get self.old at ≡ Some x → slice_index key.now 0 ≡ first_byte (prefix_of x) byte }
         ensures hangs { (x : Form ℕ P) → get self.old at ≡ Some x → HangsLeaf self.old self.new at x byte key.now value }
+        ensures capacity { self.new.capacity ≡ self.old.capacity }
     {
         prove!(self.inline < self.slab.capacity());
         self.slab[at.slot].put_child(byte, Child::Value(Lone { key: *key, value }));
@@ -127,6 +128,25 @@ impl<P: Stored> Nodes<P> {
         }
     }
 
+    /// Puts a node with a slot of its own in the place of a leaf with one value, which lies there, and gives the leaf.
+    #[inline(always)]
+    pub(crate) fn cover_leaf(&mut self, at: Name, byte: u8, below: Name) -> Lone<P>
+        requires stands { ContainsKey self.old at }
+        requires inner { (x : Form ℕ P) → get self.old at ≡ Some x → length (prefix_of x) < MAX_PREFIX_LEN }
+        requires present { (x : Form ℕ P) → get self.old at ≡ Some x → HasInline (map.get (children_of x) byte) }
+        requires own { HasOwnSlot below }
+        ensures covers { (x : Form ℕ P) → get self.old at ≡ Some x → CoversLeaf self.old self.new at x byte below result.key result.value }
+        ensures capacity { self.new.capacity ≡ self.old.capacity }
+    {
+        match self.slab[at.slot].change_child(byte, Child::Node(below.slot)) {
+            Child::Value(lone) => {
+                self.inline -= 1;
+                lone
+            }
+            _ => unreachable!(),
+        }
+    }
+
     /// Puts a value under a free byte of a leaf that has room and a slot of its own.
     #[inline(always)]
     pub(crate) fn hang_value(&mut self, at: Name, byte: u8, value: P)
@@ -178,18 +198,21 @@ impl<P: Stored> Nodes<P> {
         self.slab[at.slot].take_value(byte)
     }
 
-    /// The only node that hangs in a node, and its byte.
-    fn only_child(&self, at: Name) -> (u8, Name)
-        requires stands { ContainsKey self.now at }
-        requires alone { (y : Form ℕ P) → get self.now at ≡ Some y → HasOneNode y }
-        ensures { (y : Form ℕ P) → get self.now at ≡ Some y → children_of y ≡ map.insert map.empty result.0 (Sub result.1) }
+    /// Drops an inner node in which one node hangs, and gives that one: a node by its slot, or a leaf with one value.
+    fn take_only(&mut self, at: Name) -> Child<usize, Lone<P>>
+        requires stands { ContainsKey self.old at }
+        requires inner { (x : Form ℕ P) → get self.old at ≡ Some x → length (prefix_of x) < MAX_PREFIX_LEN }
+        requires alone { (x : Form ℕ P) → get self.old at ≡ Some x → HasOneNode x }
+        ensures gives { (x : Form ℕ P) → get self.old at ≡ Some x → GivesOnly self.old self.new at x result }
+        ensures capacity { self.new.capacity ≡ self.old.capacity }
     {
-        match self.first_from(at, 0) {
-            Some((byte, found)) => match found.node() {
-                Some(child) => (byte, child),
-                None => unreachable!(),
-            },
-            None => unreachable!(),
+        let mut node = self.slab.remove(at.slot);
+        match node.take_only() {
+            Child::Value(lone) => {
+                self.inline -= 1;
+                Child::Value(lone)
+            }
+            child => child,
         }
     }
 
@@ -199,30 +222,17 @@ impl<P: Stored> Nodes<P> {
         ensures lifts { (r : MayLift self.old above byte at) → MovesUp self.old self.new above byte at r }
         ensures bytes { (r : MayLift self.old above byte at) → bytes_of self.new + size_of (form_of r.lower) ≡ bytes_of self.old }
     {
-        let (below, child) = self.only_child(at);
-        self.raise(above, byte, at, below, child);
-    }
-
-    // The same with that child, under its byte.
-    fn raise(&mut self, above: Name, byte: u8, at: Name, below: u8, child: Name)
-        requires may { MayLift self.old above byte at }
-        requires only { (y : Form ℕ P) → get self.old at ≡ Some y → children_of y ≡ map.insert map.empty below (Sub child) }
-        ensures lifts { (r : MayLift self.old above byte at) → MovesUp self.old self.new above byte at r }
-        ensures bytes { (r : MayLift self.old above byte at) → bytes_of self.new + size_of (form_of r.lower) ≡ bytes_of self.old }
-    {
         prove!(self.inline <= self.slab.capacity());
-        match child.byte {
-            None => {
-                self.unhang_node(at, below);
-                self.remove_bare(at);
+        match self.take_only(at) {
+            Child::Node(slot) => {
+                let child = Name::of(slot);
                 self.swap_node(above, byte, child);
             }
-            Some(place) => {
-                let key = self.lone(child.slot, place).key;
-                let value = self.unhang_leaf(at, below);
-                self.remove_bare(at);
+            Child::Value(lone) => {
+                let Lone { key, value } = lone;
                 self.swap_leaf(above, byte, &key, value);
             }
+            Child::Blank => unreachable!(),
         }
     }
 

@@ -7,9 +7,11 @@ ghost use Rattle.congee.specs.forms.Bytes.{IsFirst};
 ghost use Rattle.congee.specs.forms.Forms.{Becomes, capacity_of, children_of, form_of, is_full_of, next_form, prefix_of};
 ghost use Rattle.congee.specs.protocol.Steps.{form_below};
 ghost use Rattle.congee.specs.owned.Entries.{Begins, child_by, child_there, first_byte};
+ghost use Rattle.congee.specs.owned.Rows.{IsRow};
 
 use crate::forms::base_node::NodeType;
 use crate::forms::child::{Child, Small};
+use crate::forms::masked::Masked;
 use crate::forms::prefix::{MAX_PREFIX_LEN, Prefix};
 use crate::keys::KEY_BYTES;
 use crate::owned::entries::{Entry, Hung, Seen, Tail};
@@ -24,6 +26,13 @@ use std::marker::Model;
 pub(crate) struct Inner<P: Nested> {
     prefix: Prefix,
     places: Places<P>,
+}
+
+/// The entries of an inner node from a byte on, or all those of the greatest form.
+#[derive(Drop)]
+pub(crate) enum Row<'a, P> {
+    Few(&'a [Entry<P>]),
+    Wide(&'a Masked<Entry<P>>),
 }
 
 impl<P: Nested> Model for Inner<P> {
@@ -53,7 +62,7 @@ fn tail_of(key: &[u8; KEY_BYTES]) -> Tail
 
 /// The key of a first byte and the others.
 #[inline(always)]
-fn key_by(first: u8, tail: &Tail) -> [u8; KEY_BYTES]
+pub(crate) fn key_by(first: u8, tail: &Tail) -> [u8; KEY_BYTES]
     ensures { result ≡ first ∷ tail.now.bytes }
 {
     let rest = &tail.bytes;
@@ -108,6 +117,7 @@ fn hung_of<P>(first: u8, entry: &Entry<P>) -> Hung<'_, P>
 }
 
 impl<P: Small> Inner<P> {
+    ghost use Rattle.congee.specs.owned.Only.{IsOnly};
     ghost use Rattle.congee.specs.declared.forms.base_node.NodeType.TheVariants.{N4};
 
     /// A node without children.
@@ -197,6 +207,19 @@ impl<P: Small> Inner<P> {
         if prefix.len() == 0 { byte } else { prefix[0] }
     }
 
+    /// The entries from a byte on.
+    #[inline(always)]
+    pub(crate) fn row(&self, from: usize) -> Row<'_, P>
+        ensures { IsRow self.now from result }
+    {
+        match &self.places {
+            Places::N4(n) => Row::Few(n.children_from(from)),
+            Places::N16(n) => Row::Few(n.children.children_from(from)),
+            Places::N48(n) => Row::Few(n.children.children_from(from)),
+            Places::N256(n) => Row::Wide(&n.children),
+        }
+    }
+
     /// What hangs under a byte.
     #[inline(always)]
     pub(crate) fn get_child(&self, byte: u8) -> Option<Hung<'_, P>>
@@ -253,6 +276,18 @@ impl<P: Small> Inner<P> {
     {
         let first = self.first_byte(byte);
         child_of(first, self.places.remove(byte))
+    }
+
+    /// Takes out the only child.
+    #[inline(always)]
+    pub(crate) fn take_only(&mut self) -> Child<usize, Lone<P>>
+        requires one { map.len (children_of self.old) ≡ 1 }
+        ensures { IsOnly (children_of self.old) result }
+    {
+        match self.first_from(0) {
+            Some((byte, _)) => self.remove(byte),
+            None => unreachable!(),
+        }
     }
 
     /// Takes every child out.

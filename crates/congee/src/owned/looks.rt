@@ -11,21 +11,24 @@ use crate::forms::prefix::MAX_PREFIX_LEN;
 use crate::keys::{KEY_BYTES, key_of_bytes};
 use crate::owned::arena::Stored;
 use crate::owned::entries::{Hung, Seen};
+use crate::owned::inner::Row;
 use crate::owned::lone::{key_of, leads};
 use crate::owned::names::Name;
 use crate::owned::nodes::Nodes;
-use crate::owned::place::{Found, Way};
-use crate::owned::sight::Sight;
+use crate::owned::place::{Found, Onward, Way};
+use crate::owned::sight::{Sight, Stem};
 use crate::owned::slots::Slot;
 
 impl<P: Stored> Nodes<P> {
     ghost use Rattle.congee.specs.forms.Bytes.{IsFirst};
-    ghost use Rattle.congee.specs.owned.Arena.{IsTree};
+    ghost use Rattle.congee.specs.Heap.{fits};
+    ghost use Rattle.congee.specs.owned.Arena.{IsTree, heap_of};
     ghost use Rattle.congee.specs.owned.Entries.{lone_seen};
+    ghost use Rattle.congee.specs.owned.Rows.{SeesRow};
     ghost use Rattle.congee.specs.owned.Sights.{Sees};
     ghost use Rattle.congee.specs.owned.Slots.{lone_node};
     ghost use Rattle.congee.specs.owned.Stores.{LeafStands, child_now};
-    ghost use Rattle.congee.specs.owned.Ways.{IsTurn, Leads};
+    ghost use Rattle.congee.specs.owned.Ways.{IsTurn, IsTurnOn, Leads, LeadsOn};
     ghost use Rattle.congee.specs.declared.forms.base_node.Node.{Node as Form};
     ghost use Rattle.congee.specs.declared.forms.child.Child.TheVariants.{Value};
 
@@ -98,16 +101,73 @@ impl<P: Stored> Nodes<P> {
         }
     }
 
+    /// What a node in a slot has for a key. Where that is a leaf in its place whose prefix the key has, what the leaf has.
+    #[inline(always)]
+    pub(crate) fn look_on(&self, slot: usize, key: &[u8; KEY_BYTES]) -> Onward<'_, P>
+        requires tree { IsTree self.now }
+        requires stands { ContainsKey self.now (257 * slot) }
+        ensures { LeadsOn self.now key.now (257 * slot) result }
+    {
+        match &self.slab[slot] {
+            Slot::Inner(n) => {
+                let next = key[n.prefix_len()];
+                match n.get_child(next) {
+                    None => Onward::Free,
+                    Some(Hung::Blank) => unreachable!(),
+                    Some(Hung::Node(below)) => self.turn_on(below, key),
+                    Some(Hung::Leaf(lone)) => {
+                        let leaf = Name::inline(slot, next);
+                        if !leads(&lone.key, key) {
+                            Onward::Apart(leaf)
+                        } else if lone.key[MAX_PREFIX_LEN] == key[MAX_PREFIX_LEN] {
+                            Onward::HeldBelow(leaf, lone.value)
+                        } else {
+                            Onward::FreeBelow(leaf)
+                        }
+                    }
+                }
+            }
+            Slot::Leaf(n) => match n.get_child(key[n.prefix_len()]) {
+                None => Onward::Free,
+                Some(Child::Blank) => unreachable!(),
+                Some(Child::Node(below)) => self.turn_on(*below, key),
+                Some(Child::Value(value)) => Onward::Held(value),
+            },
+        }
+    }
+
+    // Whether the key has the prefix of the node in a slot.
+    #[inline(always)]
+    fn is_prefix_of(&self, slot: usize, key: &[u8; KEY_BYTES]) -> bool
+        requires { ContainsKey self.now (257 * slot) }
+        ensures { result ≡ fits (heap_of self.now (257 * slot)).prefix key.now }
+    {
+        self.slab[slot].is_prefix_of(key)
+    }
+
     // Whether the node in a slot is on the key's way.
     #[inline(always)]
     fn turn(&self, slot: usize, key: &[u8; KEY_BYTES]) -> Way<'_, P>
         requires { ContainsKey self.now (257 * slot) }
         ensures { IsTurn self.now key.now (257 * slot) result }
     {
-        if self.slab[slot].is_prefix_of(key) {
+        if self.is_prefix_of(slot, key) {
             Way::Below(Name::of(slot))
         } else {
             Way::Apart(Name::of(slot))
+        }
+    }
+
+    // The same, for a way that goes on by slots.
+    #[inline(always)]
+    fn turn_on(&self, slot: usize, key: &[u8; KEY_BYTES]) -> Onward<'_, P>
+        requires { ContainsKey self.now (257 * slot) }
+        ensures { IsTurnOn self.now key.now (257 * slot) result }
+    {
+        if self.is_prefix_of(slot, key) {
+            Onward::Below(slot)
+        } else {
+            Onward::Apart(Name::of(slot))
         }
     }
 
@@ -182,6 +242,32 @@ impl<P: Stored> Nodes<P> {
             None => match &self.slab[at.slot] {
                 Slot::Inner(n) => Sight::Inner(at.slot, n),
                 Slot::Leaf(n) => Sight::Leaf(key_of(n.prefix(), 0), n),
+            },
+        }
+    }
+
+    /// The entries from a byte on of an inner node with a prefix; none of another node.
+    #[inline(always)]
+    pub(crate) fn row(&self, at: Name, from: usize) -> Option<(Stem, Row<'_, P>)>
+        requires { ContainsKey self.now at }
+        ensures name { IfSome result (λ r. 257 * r.0.slot ≡ at) }
+        ensures sees { IfSome result (λ r. SeesRow self.now r.0 from r.1) }
+    {
+        match at.byte {
+            Some(_) => None,
+            None => match &self.slab[at.slot] {
+                Slot::Leaf(_) => None,
+                Slot::Inner(n) => {
+                    let prefix = n.prefix();
+                    if prefix.len() == 0 {
+                        return None;
+                    }
+                    let stem = Stem {
+                        slot: at.slot,
+                        first: prefix[0],
+                    };
+                    Some((stem, n.row(from)))
+                }
             },
         }
     }

@@ -189,17 +189,6 @@ impl<P: Stored> Nodes<P> {
         self.slab.remove(at.slot);
     }
 
-    /// Drops an inner node without children, which hangs nowhere.
-    pub(crate) fn remove_bare(&mut self, at: Name)
-        requires stands { ContainsKey self.old at }
-        requires inner { (x : Form ℕ P) → get self.old at ≡ Some x → length (prefix_of x) < MAX_PREFIX_LEN }
-        requires bare { (x : Form ℕ P) → get self.old at ≡ Some x → children_of x ≡ map.empty }
-        ensures gone { Updates self.old self.new at None }
-        ensures capacity { self.new.capacity ≡ self.old.capacity }
-    {
-        self.slab.remove(at.slot);
-    }
-
     /// Gives a node the next greater form. Where memory is refused, it stays as it was.
     pub(crate) fn grow(&mut self, alloc: Global, at: Name) -> Result<(), AllocError>
         requires stands { ContainsKey self.old at }

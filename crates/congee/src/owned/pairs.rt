@@ -20,9 +20,8 @@ use crate::forms::base_node::NodeType;
 use crate::keys::KEY_BYTES;
 use crate::owned::arena::{Arena, Stored};
 use crate::owned::inner::Inner;
-use crate::owned::names::Name;
 use crate::owned::nodes::Nodes;
-use crate::owned::place::{Place, Spot, Way};
+use crate::owned::place::{Onward, Place, Spot};
 use std::alloc::Global;
 
 impl<P: Stored, A: Allocator> Arena<P, A> {
@@ -54,13 +53,15 @@ impl<P: Stored, A: Allocator> Arena<P, A> {
         requires { IsTree self.now.nodes }
         ensures { option_copied result ≡ value_at (heap_of self.now.nodes) key.now }
     {
-        let mut at = Name::root();
+        let mut at = 0;
         loop {
-            match self.nodes.look(at, key) {
-                Way::Free => return None,
-                Way::Apart(_) => return None,
-                Way::Held(value) => return Some(value),
-                Way::Below(below) => at = below,
+            match self.nodes.look_on(at, key) {
+                Onward::Free => return None,
+                Onward::Apart(_) => return None,
+                Onward::FreeBelow(_) => return None,
+                Onward::Held(value) => return Some(value),
+                Onward::HeldBelow(_, value) => return Some(value),
+                Onward::Below(below) => at = below,
             }
         }
     }

@@ -1,5 +1,5 @@
 //! Where a key's way through a tree ends, and what hangs there.
-ghost use Rattle.std.specs.Prelude.{◌≡◌, ℕ, MatchOption};
+ghost use Rattle.std.specs.Prelude.{◌≡◌, ◌*◌, ℕ, MatchOption};
 ghost use Rattle.congee.specs.owned.Stores.{child_now};
 ghost use Rattle.congee.specs.declared.forms.child.Child.TheVariants.{Node as Sub};
 
@@ -14,6 +14,23 @@ pub(crate) enum Way<'a, P> {
     Held(&'a P),
     /// A node whose prefix the key has.
     Below(Name),
+    /// A node whose prefix the key lacks.
+    Apart(Name),
+}
+
+/// What a node in a slot has for a key, and a leaf that lies in it and leads the key.
+#[derive(Drop)]
+pub(crate) enum Onward<'a, P> {
+    /// Nothing.
+    Free,
+    /// A value.
+    Held(&'a P),
+    /// A leaf that lies in it, whose prefix the key has, and that has nothing for the key.
+    FreeBelow(Name),
+    /// Such a leaf, with the key's value.
+    HeldBelow(Name, &'a P),
+    /// A node with a slot of its own, whose prefix the key has.
+    Below(usize),
     /// A node whose prefix the key lacks.
     Apart(Name),
 }
@@ -63,4 +80,22 @@ pub(crate) struct Place {
     pub above: Name,
     pub at: Name,
     pub spot: Spot,
+}
+
+impl Place {
+    /// The end of a way, below two nodes with slots of their own.
+    #[inline(always)]
+    pub(crate) fn ending(top: usize, above: usize, at: Name, spot: Spot) -> Self
+        ensures top { result.top ≡ 257 * top }
+        ensures above { result.above ≡ 257 * above }
+        ensures at { result.at ≡ at }
+        ensures spot { result.spot ≡ spot }
+    {
+        Place {
+            top: Name::of(top),
+            above: Name::of(above),
+            at,
+            spot,
+        }
+    }
 }

@@ -9,22 +9,21 @@ ghost use Rattle.congee.specs.protocol.Steps.{form_below};
 
 use crate::forms::base_node::NodeType;
 use crate::forms::child::Small;
-use crate::forms::indexed::Indexed;
 use crate::forms::masked::Masked;
-use crate::forms::sorted::Sorted;
 use crate::owned::entries::Entry;
+use crate::owned::ranked::Ranked;
 use std::alloc::{AllocError, Global};
 
 /// At most 16 entries.
 #[derive(Drop)]
 pub(crate) struct Places16<P> {
-    pub(crate) children: Sorted<Entry<P>, 16>,
+    pub(crate) children: Ranked<Entry<P>, 16>,
 }
 
 /// At most 48 entries.
 #[derive(Drop)]
 pub(crate) struct Places48<P> {
-    pub(crate) children: Indexed<Entry<P>>,
+    pub(crate) children: Ranked<Entry<P>, 48>,
 }
 
 /// An entry for each byte.
@@ -60,7 +59,7 @@ impl<P: Small> Nested for P {
 /// What an inner node has by byte. The least form lies inline, the others in a box.
 #[derive(Drop)]
 pub(crate) enum Places<P: Nested> {
-    N4(Sorted<Entry<P>, 4>),
+    N4(Ranked<Entry<P>, 4>),
     N16(Box<Places16<P>>),
     N48(Box<Places48<P>>),
     N256(Box<Places256<P>>),
@@ -76,17 +75,17 @@ impl<P: Small> Places<P> {
         ensures memory { OnErr result (form ≢ N4) }
     {
         Ok(match form {
-            NodeType::N4 => Places::N4(Sorted::new()),
+            NodeType::N4 => Places::N4(Ranked::new()),
             NodeType::N16 => Places::N16(Box::new(
                 alloc,
                 Places16 {
-                    children: Sorted::new(),
+                    children: Ranked::new(),
                 },
             )?),
             NodeType::N48 => Places::N48(Box::new(
                 alloc,
                 Places48 {
-                    children: Indexed::new(),
+                    children: Ranked::new(),
                 },
             )?),
             NodeType::N256 => Places::N256(Box::new(
@@ -103,7 +102,7 @@ impl<P: Small> Places<P> {
         ensures form { form_in result ≡ N4 }
         ensures entries { entries_in result ≡ map.empty }
     {
-        Places::N4(Sorted::new())
+        Places::N4(Ranked::new())
     }
 
     /// The form.
@@ -230,17 +229,16 @@ impl<P: Small> Places<P> {
         }
     }
 
-    /// Moves every entry to `greater`, which has none and has room for them.
-    fn move_to(&mut self, greater: &mut Places<P>)
-        requires empty { entries_in greater.old ≡ map.empty }
-        requires room { map.len (entries_in self.old) ≤ capacity_of (form_in greater.old) }
-        ensures left { Refills self.old self.new map.empty }
-        ensures moved { Refills greater.old greater.new (entries_in self.old) }
+    /// Moves every entry to `other`, which has none and has room for them, and leaves a blank in the place of each.
+    fn move_to(&mut self, other: &mut Places<P>)
+        requires empty { entries_in other.old ≡ map.empty }
+        requires room { map.len (entries_in self.old) ≤ capacity_of (form_in other.old) }
+        ensures moved { Refills other.old other.new (entries_in self.old) }
     {
         let mut from = 0;
         while let Some((byte, _)) = self.first_from(from) {
-            let entry = self.remove(byte);
-            greater.insert(byte, entry);
+            let entry = self.change(byte, Entry::Blank);
+            other.insert(byte, entry);
             from = byte as usize + 1;
         }
     }

@@ -219,17 +219,16 @@ impl<A: Allocator> Arena<u64, A> {
         ensures past { drop result out.new ≡ drop result out.old }
     {
         let mut walk = self.seek(start);
-        let mut count = 0;
-        while count < out.len() {
-            match self.next_along(&mut walk) {
-                Some((key, value)) if key <= last => {
-                    out[count] = E::of(key, *value);
-                    count += 1;
-                }
-                _ => return count,
-            }
+        let mut written = self.nodes.write_from(walk.at, walk.from, last, out, 0);
+        while !written.over {
+            let Some(branch) = walk.above.pop() else {
+                return written.count;
+            };
+            written = self
+                .nodes
+                .write_from(branch.node, branch.from, last, out, written.count);
         }
-        count
+        written.count
     }
 }
 

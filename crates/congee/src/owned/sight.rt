@@ -41,6 +41,13 @@ pub(crate) enum Next<'a, P> {
     Value(u64, &'a P),
 }
 
+/// An inner node with a prefix: its slot, and the first byte of its keys.
+#[derive(Clone, Copy)]
+pub(crate) struct Stem {
+    pub(crate) slot: usize,
+    pub(crate) first: u8,
+}
+
 impl<'a, P: Stored> Sight<'a, P> {
     /// What hangs under the least byte from `from` on.
     #[inline(always)]

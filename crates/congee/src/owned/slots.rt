@@ -28,6 +28,7 @@ impl<P: Small> Slot<P> {
     ghost use Rattle.congee.specs.protocol.Steps.{form_below};
     ghost use Rattle.congee.specs.declared.forms.base_node.NodeType.TheVariants.{N4};
     ghost use Rattle.congee.specs.owned.Lesser.{Shrunk};
+    ghost use Rattle.congee.specs.owned.Lifting.{HasOnly};
     ghost use Rattle.congee.specs.owned.Entries.{Begins, first_byte, lone_seen};
     ghost use Rattle.congee.specs.owned.Kinds.{prefix_in, form_in, len_in, full_in, HasLowBytes, IsInner, IsLeaf, inner_get, leaf_get, IsValue, Cleared, InnerBecomes, LeafBecomes, Grown};
 
@@ -220,6 +221,19 @@ impl<P: Small> Slot<P> {
     {
         match self {
             Slot::Inner(n) => n.remove(byte),
+            Slot::Leaf(_) => unreachable!(),
+        }
+    }
+
+    /// The only child of an inner node.
+    #[inline(always)]
+    pub(crate) fn take_only(&mut self) -> Child<usize, Lone<P>>
+        requires inner { IsInner self.old }
+        requires one { len_in self.old ≡ 1 }
+        ensures { HasOnly self.old result }
+    {
+        match self {
+            Slot::Inner(n) => n.take_only(),
             Slot::Leaf(_) => unreachable!(),
         }
     }

@@ -91,6 +91,38 @@ module _ {X : Type 0} where
     map.same_map nat_cmp_total map.nat_cmp-IsAntisymmetric moved m (λ q. elim (cases_lt q from) [ inl h ↦ is.below q h | inr h ↦ is.free q h ∙ sym (sym (is.above q h) ∙ none q h) ]),
   )
 
+-- the children of m below `from` have moved to `moved`, and blanks came into their places in `left`
+pub record HavePoured {X : Type 0} (m left moved : map.FinMap nat_cmp X) (from : ℕ) : Type 0 where
+  pub kept : map.FinMap nat_cmp X
+  pub moves : HaveMoved m kept moved from
+  pub above : (q : ℕ) → from ≤ q → map.get left q ≡ map.get m q
+
+module _ {X : Type 0} where
+  pub none_poured : (m : map.FinMap nat_cmp X) → HavePoured m m map.empty 0
+  none_poured m = record { kept = m; moves = none_moved m; above = λ q l. refl }
+
+  module _ {m left moved : map.FinMap nat_cmp X} {from b : ℕ} {x : X} (is : HavePoured m left moved from) (f : IsFirst left from b x) where
+    -- the first that is left is the first that didn't move
+    pub first_kept : IsFirst is.kept from b x
+    first_kept = record {
+      past = f.past;
+      here = is.moves.above b f.past ∙ (sym (is.above b f.past) ∙ f.here);
+      before = λ q l h. is.moves.above q l ∙ (sym (is.above q l) ∙ f.before q l h);
+    }
+
+    pub one_poured : (blank : X) → HavePoured m (map.insert left b blank) (map.insert moved b x) (b + 1)
+    one_poured blank = record {
+      kept = map.remove is.kept b;
+      moves = one_moved is.moves first_kept;
+      above = λ q l. get_put_other left b q blank (omega arith) ∙ is.above q (omega (arith, f.past));
+    }
+
+    pub room_poured : map.len moved < map.len m
+    room_poured = room_left is.moves first_kept
+
+  pub all_poured : (m left moved : map.FinMap nat_cmp X) (from : ℕ) → HavePoured m left moved from → ((q : ℕ) → from ≤ q → map.get left q ≡ None) → moved ≡ m
+  all_poured m left moved from is none = (all_moved m is.kept moved from is.moves (λ q l. is.moves.above q l ∙ (sym (is.above q l) ∙ none q l))).1
+
 -- what a loop that moves the children of `old` to `empty` has made of both
 pub record IsMoving {C P : Type 0} (old empty kept moved : Node C P) (from : ℕ) : Type 0 where
   pub kept_form : form_of kept ≡ form_of old
@@ -98,6 +130,12 @@ pub record IsMoving {C P : Type 0} (old empty kept moved : Node C P) (from : ℕ
   pub moved_form : form_of moved ≡ form_of empty
   pub moved_prefix : prefix_of moved ≡ prefix_of empty
   pub children : HaveMoved (children_of old) (children_of kept) (children_of moved) from
+
+-- the same of a loop that leaves blanks
+pub record IsPouring {C P : Type 0} (old empty left moved : Node C P) (from : ℕ) : Type 0 where
+  pub moved_form : form_of moved ≡ form_of empty
+  pub moved_prefix : prefix_of moved ≡ prefix_of empty
+  pub children : HavePoured (children_of old) (children_of left) (children_of moved) from
 
 module _ {C P : Type 0} where
   pub has_room : (n : Node C P) → map.len (children_of n) < capacity_of (form_of n) → is_full_of n ≡ false

@@ -11,7 +11,7 @@ use Rattle.congee.specs.owned.Arena.{Nodes, hung_in, node_of, heap_of, IsTree, O
 use Rattle.congee.specs.owned.Sizes.{bytes_of, bytes_at}
 use Rattle.congee.specs.owned.Changes.{Differs, MapChange, AddsLeaf, AddsFork, DropsLeaf, DiffersAt}
 use Rattle.congee.specs.owned.Naming.{HasOwnSlot}
-use Rattle.congee.specs.owned.OwnedSteps.{Sets, Makes, MakesRoom, SameNodes, IsHeld, Hosts}
+use Rattle.congee.specs.owned.OwnedSteps.{Sets, Makes, MakesRoom, SameNodes, IsHeld}
 use Rattle.congee.specs.owned.Kinds.{IsValue}
 use Rattle.congee.specs.owned.Renames.{Renames, Renamed}
 use Rattle.congee.specs.owned.Stores.{HangsLeaf, LosesLeaf, HasOne, HasNode, HasInline}
@@ -270,29 +270,6 @@ module _ {P : Type 0} where
             omega (arith, m1, m2, m3, m4),
           )
 
-      pub fork_hosts : length (take common key) < 7 → Hosts s4 over other below
-      fork_hosts short =
-          let n = node_at s0 at w.stands in
-          let k = sets n.0 (forked_at at w.stands ∙ n.1) in
-          let no : at ≢ over = over_apart at n.0 n.1 in
-          let one = differs_insert f.made.node f.hangs.node (get_or key common 0) (Sub f.hangs.leaf) f.hangs.becomes in
-          let two = differs_insert f.hangs.node f.forks.node other (Sub below) f.forks.becomes in
-          let p : length (prefix_of f.forks.node) ≡ length (take common key) = ap length (two.prefix ∙ (one.prefix ∙ f.made.prefixed)) in
-          record {
-            node = f.forks.node;
-            stands = k.updates.others over (λ q. no (sym q)) ∙ f.forks.updates.changed;
-            inner = omega (arith, p, short);
-            child = two.here;
-          }
-
-      pub fork_below : get s4 below ≡ get s0 below
-      fork_below =
-          let n = node_at s0 at w.stands in
-          let k = sets n.0 (forked_at at w.stands ∙ n.1) in
-          let i = is_child s0 t at below key w.stands h in
-          let ne : below ≢ at = (λ e. let z : length (heap_of s0 below).prefix ≡ length (heap_of s0 at).prefix = ap (λ y. length (heap_of s0 y).prefix) e in omega (arith, i.longer, z)) in
-          k.updates.others below ne ∙ forked_at below (stands_at s0 below f.lower f.stands)
-
   -- a leaf goes from its parent's place
   module _ (s s' : Nodes P) (key : List ℕ) (above at up : ℕ) (v : P) (len : length key ≡ 8) (t : IsTree s) (w : OnWay s key at) (h : IsHeld s key at) (hangs : Hangs s key above at)
       (bu : up ≡ get_or key (length (heap_of s above).prefix) 0) (loses : (x : Form ℕ P) → get s above ≡ Some x → LosesLeaf s s' above x up v) where
@@ -511,15 +488,6 @@ module _ {P : Type 0} where
 
   pub same_way : (s s' : Nodes P) (key : List ℕ) (n : ℕ) → SameNodes s s' → OnWay s key n → OnWay s' key n
   same_way s s' key n e w = record { stands = same_stands s s' n e w.stands; fitted = ap (λ z. fits z.prefix key) (same_heap s s' n e) ∙ w.fitted }
-
-  -- a node over others, by its record
-  pub hosts_inner : (s : Nodes P) (at byte below : ℕ) → Hosts s at byte below → (x : Form ℕ P) → get s at ≡ Some x → length (prefix_of x) < 7
-  hosts_inner s at byte below h x e =
-      let p : length (prefix_of x) ≡ length (prefix_of h.node) = ap (λ y. length (prefix_of y)) (one_node s at x h.node e h.stands) in
-      omega (arith, p, h.inner)
-
-  pub hosts_child : (s : Nodes P) (at byte below : ℕ) → Hosts s at byte below → (x : Form ℕ P) → get s at ≡ Some x → map.get (children_of x) byte ≡ Some (Sub below)
-  hosts_child s at byte below h x e = ap (λ y. map.get (children_of y) byte) (one_node s at x h.node e h.stands) ∙ h.child
 
 -- an insertion into a leaf with room is never refused
 pub never_denied : {P A : Type 0} (charged limit : A → ℕ) (old new : Arena P A) (key : List ℕ) (v : P) (wants : List ℕ) (refusal : OOMError × P)

@@ -1,4 +1,4 @@
--- A node takes the form below, or leaves its slot without children.
+-- A node takes the form below.
 use Rattle.std.proofs.Common.{◌≡◌, ◌≢◌, ℕ, suc, ◌+◌, ◌*◌, ◌<◌, ◌≤◌, inl, inr, length, refl, sym, ap, subst, ◌∙◌, arith}
 use Rattle.std.specs.Prelude.{Option, None, Some, Result, Ok, Err, OnOk, OnErr, is_some, cond}
 use Rattle.std.specs.FinMap as map
@@ -174,30 +174,6 @@ module _ {P : Type 0} (s : Slab (Slot P)) (v : Nodes P) (is : nodes_in s ≡ v) 
             of : (r : Result U V) → OnErr r (form_below (form_in x) ≢ N4) → OnErr r ((y : Node ℕ P) → get v at ≡ Some y → form_below (form_of y) ≢ N4)
             of (Ok u) b = tt
             of (Err w) b = great_memory b
-
--- an inner node without children leaves its slot
-module _ {P : Type 0} (s s' : Slab (Slot P)) (v : Nodes P) (is : nodes_in s ≡ v) (inline : ℕ) (st : IsStored s inline) (at i : ℕ) (byte : Option ℕ) (name : 257 * i + offset_of byte ≡ at) (low : IsByte byte)
-    (stands : ContainsKey v at) (inner : (y : Node ℕ P) → get v at ≡ Some y → length (prefix_of y) < 7) (bare : (y : Node ℕ P) → get v at ≡ Some y → children_of y ≡ map.empty) (u : Updates s s' i None) where
-  bare_node : (y : Node ℕ P) × (get v at ≡ Some y)
-  bare_node = node_at v at stands
-
-  bare_at : AtInner s v at i bare_node.0
-  bare_at = at_inner s v is at i byte name low st.kinds bare_node.0 bare_node.1 (inner bare_node.0 bare_node.1)
-
-  bare_none : (b : ℕ) → in_slot {P = P} i None (suc b) ≡ in_slot i (get s i) (suc b)
-  bare_none b =
-      let c : mapped (inner_child i) (children_of bare_at.node) ≡ map.empty = sym (with_mapped (inner_child i) bare_at.node) ∙ (ap children_of bare_at.seen ∙ bare bare_node.0 bare_node.1) in
-      let l : map.len (children_of bare_at.node) ≡ 0 = sym (with_len (inner_child i) bare_at.node) ∙ (ap map.len (with_mapped (inner_child i) bare_at.node ∙ c) ∙ map.len-empty _ _) in
-      let m : children_of bare_at.node ≡ map.empty = map.empty_of_len (children_of bare_at.node) l in
-      sym (ap (λ o. in_slot i o (suc b)) bare_at.stands ∙ (ap (λ z. lone_in (map.get z b)) m ∙ ap lone_in (map.get-empty _ b)))
-
-  pub bare_stored : s'.capacity ≡ s.capacity → slab_len s' + 1 ≡ slab_len s → IsStored s' inline
-  bare_stored cap len = let r = st.room in slot_stored s s' i inline None st u bare_none tt cap (omega (arith, r, cap, len))
-
-  pub bare_done : Updates v (nodes_in s') at None
-  bare_done =
-      let w = slot_updates s s' i None u bare_none in
-      subst (λ k. Updates v (nodes_in s') k None) (sym bare_at.name) (subst (λ w. Updates w (nodes_in s') (257 * i) None) is w)
 
 -- the tree and its map are the same where one node but the root takes another form
 module _ {P : Type 0} (s s' : Nodes P) (at : ℕ) (x y : Node ℕ P) (t : IsTree s) (below : at ≢ 0) (was : get s at ≡ Some x) (u : Updates s s' at (Some y)) (prefix : prefix_of y ≡ prefix_of x)

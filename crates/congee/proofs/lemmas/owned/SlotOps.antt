@@ -17,7 +17,7 @@ use Rattle.congee.specs.owned.Naming.{HasOwnSlot, IsByte, offset_of}
 use Rattle.congee.specs.owned.OwnedSteps.{Sets}
 use Rattle.congee.specs.owned.Slots.{inner_child, lone_node, with_children, in_slot, lone_in, nodes_in}
 use Rattle.congee.specs.owned.Storage.{IsStored}
-use Rattle.congee.specs.owned.Stores.{HangsLeaf, LosesLeaf, HasInline, HasNode, StandsWith}
+use Rattle.congee.specs.owned.Stores.{CoversLeaf, HangsLeaf, LosesLeaf, HasInline, HasNode, StandsWith}
 use Rattle.congee.specs.declared.forms.base_node.Node.{Node}
 use Rattle.congee.specs.declared.forms.child.Child.{Child}
 use Rattle.congee.specs.declared.forms.child.Child.TheVariants.{Blank, Node as Sub, Value}
@@ -158,6 +158,7 @@ module _ {P : Type 0} (s : Slab (Slot P)) (v : Nodes P) (is : nodes_in s ≡ v) 
       record {
         inline = λ o. absurd (omega (arith, o, low));
         leaf = 257 * i + (b + 1);
+        named = (let a = k.name in omega (arith, a));
         made = lone_node lone;
         form = refl;
         has = subst (λ w. IsLeafOf (lone_node lone) key w) ev (lone_leaf lone key ek);
@@ -167,6 +168,26 @@ module _ {P : Type 0} (s : Slab (Slot P)) (v : Nodes P) (is : nodes_in s ≡ v) 
         becomes = insert_seen i k.node n' y k.seen b (Value lone) bec;
         now = now_at bec.prefix (same_insert (Value lone) bec);
         others = others bec.prefix (same_insert (Value lone) bec);
+      }
+
+  -- a node comes where a leaf lies, and the leaf goes
+  pub covers_leaf : (below target : ℕ) → target ≡ 257 * below → (lone : Lone P) → Becomes k.node n' (map.insert (children_of k.node) b (Sub below)) → map.get (children_of k.node) b ≡ Some (Value lone) → HasInline (map.get (children_of y) b)
+      → CoversLeaf v new at y b target lone.key lone.value
+  covers_leaf below target et lone bec here h =
+      record {
+        own = (let a = k.name in omega (arith, a));
+        leaf = 257 * i + (b + 1);
+        named = (let a = k.name in omega (arith, a));
+        child = (inline_in i k.node k.node y k.seen b h).child;
+        was = lone_node lone;
+        form = refl;
+        has = lone_leaf lone lone.key refl;
+        stood = was_lone bec.prefix (same_insert (Sub below) bec) ∙ ap lone_in here;
+        node = with_children (inner_child i) n';
+        becomes = subst (λ t. Becomes y (with_children (inner_child i) n') (map.insert (children_of y) b (Sub t))) (sym et) (insert_seen i k.node n' y k.seen b (Sub below) bec);
+        now = now_at bec.prefix (same_insert (Sub below) bec);
+        left = now_lone bec.prefix (same_insert (Sub below) bec) ∙ ap lone_in (here_insert (Sub below) bec);
+        others = others bec.prefix (same_insert (Sub below) bec);
       }
 
   module _ (bec : Becomes k.node n' (map.remove (children_of k.node) b)) where
@@ -362,6 +383,26 @@ module _ {P : Type 0} (s : Slab (Slot P)) (v : Nodes P) (is : nodes_in s ≡ v) 
 
     pub inline_same : (t : InlineThere) (r : Child ℕ (Lone P)) → inner_get x b ≡ Some r → (lone : Lone P) → r ≡ Value lone → t.lone ≡ lone
     inline_same t r e lone q = let a : Child ℕ (Lone P) = Value t.lone in let c : Child ℕ (Lone P) = Value lone in let z : a ≡ c = sym (inline_read t r e) ∙ q in cc
+
+    -- a node with a slot comes in its place
+    pub cover_leaf_stored : (t : InlineThere) (below : ℕ) → InnerBecomes x x' (λ m. map.insert m b (Sub below)) → IsStored (with_value s i x') (inline - 1)
+    cover_leaf_stored t below ib =
+        let k = at_node there.0 there.1 in
+        let a = inner_after x x' k.node (λ m. map.insert m b (Sub below)) (kept there.0 k) ib in
+        let here : map.get (children_of k.node) b ≡ Some (Value t.lone) = sym (ap (λ w. inner_get w b) (kept there.0 k)) ∙ t.here in
+        let c : counted (lone_in (map.get (children_of k.node) b)) ≡ 1 = ap (λ o. counted (lone_in o)) here in
+        let r = st.room in let z = t.some in
+        subst (λ z. IsStored (with_value s i z) (inline - 1)) (sym a.is)
+        (stored_insert s v is at i b there.0 k low a.node (Sub below) a.becomes inline (inline - 1) st (omega (arith, c, z)) (omega (arith, r)))
+
+    pub cover_leaf_done : (t : InlineThere) (below target : ℕ) → target ≡ 257 * below → (lone : Lone P) → t.lone ≡ lone → ((y : Node ℕ P) → get v at ≡ Some y → HasInline (map.get (children_of y) b)) → InnerBecomes x x' (λ m. map.insert m b (Sub below))
+        → (y : Node ℕ P) → get v at ≡ Some y → CoversLeaf v (nodes_in (with_value s i x')) at y b target lone.key lone.value
+    cover_leaf_done t below target et lone el has ib y h =
+        let k = at_node y h in
+        let a = inner_after x x' k.node (λ m. map.insert m b (Sub below)) (kept y k) ib in
+        let here : map.get (children_of k.node) b ≡ Some (Value t.lone) = sym (ap (λ w. inner_get w b) (kept y k)) ∙ t.here in
+        subst (λ z. CoversLeaf v (nodes_in (with_value s i z)) at y b target lone.key lone.value) (sym a.is)
+        (covers_leaf s v is at i b y k low a.node below target et lone a.becomes (here ∙ ap (λ l. Some (Value l)) el) (has y h))
 
     pub take_leaf_stored : (t : InlineThere) → InnerBecomes x x' (λ m. map.remove m b) → IsStored (with_value s i x') (inline - 1)
     take_leaf_stored t ib =

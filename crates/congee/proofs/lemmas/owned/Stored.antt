@@ -21,7 +21,9 @@ use Rattle.congee.specs.declared.owned.slots.Slot.TheVariants.{Inner, Leaf}
 use Rattle.std.specs.Borrow.{Bor}
 use Rattle.std.specs.Option.{option_copied, option_map}
 use Rattle.congee.specs.forms.Bytes.{IsFirst}
-use Rattle.congee.specs.owned.Ways.{IsTurn, Leads}
+use Rattle.congee.specs.owned.Ways.{IsTurn, IsTurnOn, Leads, LeadsOn}
+use Rattle.congee.specs.declared.owned.place.Onward.{Onward}
+use Rattle.congee.specs.declared.owned.place.Onward.TheVariants.{Free as GoesFree, Held as GoesHeld, FreeBelow, HeldBelow, Below as GoesBelow, Apart as GoesApart}
 use Rattle.congee.specs.declared.owned.place.Way.{Way}
 use Rattle.congee.specs.declared.owned.place.Way.TheVariants.{Free, Held, Below, Apart}
 use Rattle.congee.proofs.lemmas.Fits.{same_test, other_test}
@@ -256,13 +258,17 @@ module _ {P : Type 0} (s : Slab (Slot P)) (v : Nodes P) (is : nodes_in s ≡ v) 
     inner_leads y c = inner_is ∙ ap (λ r. hung_in (option_map (inner_child i (get_or key len 0)) r)) c
 
     -- the leaf that lies there
+    pub lone_lies : (lone : Lone P) → get_or key len 0 < 256 → o ≡ Some (Value lone) → get v (257 * i + (get_or key len 0 + 1)) ≡ Some (lone_node lone)
+    lone_lies lone l c =
+        let b = get_or key len 0 in
+        let g : map.get (children_of n) b ≡ Some (Value lone) = sym read ∙ c in
+        ap (λ w. get w (257 * i + (b + 1))) (sym is) ∙ (get_inline s i b l ∙ (ap (λ z. in_slot i z (suc b)) (e ∙ ap Some q) ∙ ap lone_in g))
+
+    -- whether its prefix is the key's
     pub inline_fits : (lone : Lone P) → get_or key len 0 < 256 → o ≡ Some (Value lone)
         → fits (heap_of v (257 * i + (get_or key len 0 + 1))).prefix key ≡ fits (take 7 lone.key) key
     inline_fits lone l c =
-        let b = get_or key len 0 in
-        let g : map.get (children_of n) b ≡ Some (Value lone) = sym read ∙ c in
-        let seen : get (nodes_in s) (257 * i + (b + 1)) ≡ Some (lone_node lone) = get_inline s i b l ∙ (ap (λ z. in_slot i z (suc b)) (e ∙ ap Some q) ∙ ap lone_in g) in
-        let h' : heap_of v (257 * i + (b + 1)) ≡ node_of (Some (lone_node lone)) = ap node_of (ap (λ w. get w (257 * i + (b + 1))) (sym is) ∙ seen) in
+        let h' : heap_of v (257 * i + (get_or key len 0 + 1)) ≡ node_of (Some (lone_node lone)) = ap node_of (lone_lies lone l c) in
         ap (λ w. fits w.prefix key) h'
 
   module _ (n : Node ℕ P) (q : x ≡ Leaf n) (len : ℕ) (count : len ≡ length (prefix_of n)) (o : Option (Bor (Child ℕ P))) (read : option_copied o ≡ map.get (children_of n) (get_or key len 0)) where
@@ -287,6 +293,14 @@ leads_turn v key at name Free e t = absurd t
 leads_turn v key at name (Held x) e t = absurd t
 leads_turn v key at name (Below c) e t = (e ∙ ap Under (sym t.0), t.1)
 leads_turn v key at name (Apart c) e t = (e ∙ ap Under (sym t.0), t.1)
+
+pub leads_turn_on : {P : Type 0} (v : Nodes P) (key : List ℕ) (at name : ℕ) (w : Onward P) → child_for (heap_of v at) key ≡ Under name → IsTurnOn v key name w → LeadsOn v key at w
+leads_turn_on v key at name GoesFree e t = absurd t
+leads_turn_on v key at name (GoesHeld x) e t = absurd t
+leads_turn_on v key at name (FreeBelow c) e t = absurd t
+leads_turn_on v key at name (HeldBelow c x) e t = absurd t
+leads_turn_on v key at name (GoesBelow slot) e t = (e ∙ ap Under (sym t.0), t.1)
+leads_turn_on v key at name (GoesApart c) e t = (e ∙ ap Under (sym t.0), t.1)
 
 -- the first child from a byte on, as the tree sees it
 module _ {P : Type 0} (s : Slab (Slot P)) (v : Nodes P) (is : nodes_in s ≡ v) (i from : ℕ) (x : Slot P) (e : get s i ≡ Some x) (y : Node ℕ P) (h : get v (257 * i) ≡ Some y) where

@@ -10,6 +10,9 @@ use Rattle.congee.specs.declared.forms.base_node.Node.{Node as Form}
 use Rattle.congee.specs.owned.OwnedSteps.{SameNodes}
 use Rattle.congee.specs.owned.Arena.{Nodes, hung_in, node_of, heap_of, ledger_of, IsFilled, IsTree, Hangs, Reached}
 use Rattle.congee.specs.declared.forms.child.Child.{Child}
+use Rattle.congee.specs.owned.Place.{EndsAt, Located}
+use Rattle.congee.specs.declared.owned.place.Place.{Place}
+use Rattle.congee.specs.declared.owned.place.Spot.{Spot}
 
 module _ {P : Type 0} where
   -- what a node has for a key
@@ -59,6 +62,11 @@ module _ {P : Type 0} where
     way = record { stands = below_stands s t n c key r.way.stands e; fitted = f };
     hangs = λ ne. record { way = r.way; child = e };
   }
+
+  -- a way that ends so
+  pub located_at : (s : Nodes P) (key : List ℕ) (p : Place) (top above at : ℕ) (spot : Spot) → p.top ≡ top → p.above ≡ above → p.at ≡ at → p.spot ≡ spot
+      → Reached s key top above → Reached s key above at → EndsAt s key at spot → Located s key p
+  located_at s key p top above at spot a b c d h r e = record { reached = rw (b, c) r; higher = rw (a, b) h; ends = rw (c, d) e }
 
   pub falls : (s : Nodes P) → IsTree s → (key : List ℕ) (n c : ℕ) → ContainsKey s n → child_for (heap_of s n) key ≡ Below c
       → 8 - length (heap_of s c).prefix < 8 - length (heap_of s n).prefix

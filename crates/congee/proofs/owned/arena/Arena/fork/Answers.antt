@@ -8,7 +8,7 @@ use Rattle.congee.proofs.lemmas.owned.Firsts.{first_taken}
 use Rattle.congee.proofs.lemmas.owned.FullSteps.{fork_filled}
 use Rattle.congee.proofs.lemmas.owned.Moves.{node_at, one_node, prefix_at, stands_at, fresh_absent, fresh_room, fresh_made}
 use Rattle.congee.proofs.lemmas.owned.Ways.{below_stands}
-use Rattle.congee.proofs.lemmas.owned.Hangings.{child_there, Forked, forked_at, fork_hung, fork_hosts, fork_below, fork_hangs, made_inner, hung_inner, hung_absent, hung_room, room_made, up_inner, up_node, short_take}
+use Rattle.congee.proofs.lemmas.owned.Hangings.{child_there, Forked, forked_at, fork_hung, fork_hangs, made_inner, hung_inner, hung_absent, hung_room, room_made, up_inner, up_node, short_take}
 use Rattle.congee.proofs.owned.arena.Arena.fork.Given.{Over}
 use Rattle.congee.proofs.owned.arena.Arena.fork.Goals.{After-parting-place, After-hang_node}
 use Rattle.congee.proofs.owned.arena.Arena.fork.Goals as goal
@@ -149,16 +149,3 @@ returns-clause-filled g c =
     (λ x e. child_there c.args.self.now.nodes c.requires.tree c.args.key.now c.args.at c.args.below c.requires.way.stands c.requires.hangs x (sym same ∙ e) c.byte_at-up.result
     (c.byte_at-up.ensures ∙ ap (λ o. get_or c.args.key.now (length (node_of o).prefix) 0) same))
     c.swap_node.ensures.swaps
-
-pub returns-clause-hosts : goal.returns-clause-hosts
-returns-clause-hosts g c =
-    let len : length c.args.key.now ≡ 8 = search rules in
-    fork_hosts c.args.self.now.nodes c.make-over.new.self c.hang_leaf.new.self c.hang_node.new.self c.args.key.now c.parting-place.result.place c.make-over.result _ c.args.below c.args.value (forked g (goal.at.returns-clause-hosts g c).After-hang_node)
-    c.swap_node.new.self c.args.at c.byte_at-up.result len c.requires.tree c.requires.way c.requires.hangs c.requires.differs c.byte_at-up.ensures c.swap_node.ensures.swaps
-    (short_take c.parting-place.result.place c.args.key.now c.parting-place.ensures.within)
-
-pub returns-clause-same : goal.returns-clause-same
-returns-clause-same g c =
-    let len : length c.args.key.now ≡ 8 = search rules in
-    fork_below c.args.self.now.nodes c.make-over.new.self c.hang_leaf.new.self c.hang_node.new.self c.args.key.now c.parting-place.result.place c.make-over.result _ c.args.below c.args.value (forked g (goal.at.returns-clause-same g c).After-hang_node)
-    c.swap_node.new.self c.args.at c.byte_at-up.result len c.requires.tree c.requires.way c.requires.hangs c.requires.differs c.byte_at-up.ensures c.swap_node.ensures.swaps

@@ -3,7 +3,7 @@ use Rattle.congee.proofs.lemmas.owned.Refilling.{IsMoving}
 use Rattle.congee.proofs.owned.places.Places.move_to.Given as goal
 
 abbrev pub invariant-loop-byte : goal.invariant-loop-byte
-invariant-loop-byte g l = IsMoving l.fn.self l.fn.greater l.self l.greater l.from
+invariant-loop-byte g l = IsMoving l.fn.self l.fn.other l.self l.other l.from
 
 abbrev pub decreases-loop-byte : goal.decreases-loop-byte
 decreases-loop-byte g l = 256 - l.from

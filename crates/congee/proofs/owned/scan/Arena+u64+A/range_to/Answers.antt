@@ -1,71 +1,74 @@
-use Rattle.std.proofs.Common.{◌≡◌, ◌+◌, ◌-◌, ◌∷◌, ◌++◌, length, take, sym, ap, ◌∙◌, arith}
-use Rattle.std.specs.FinMap as map
-use Rattle.std.proofs.lemmas.List.{length-set}
-use Rattle.congee.specs.owned.Table.{pairs_of}
-use Rattle.congee.specs.owned.Ranges.{entries_by, in_range}
-use Rattle.congee.proofs.lemmas.owned.EntryRanges.{take_entries, count_entries, no_room_left}
-use Rattle.congee.proofs.lemmas.owned.RangeLemmas.{range_none, range_first, pair_written, rest_kept, range_ended, counted, none_told}
+use Rattle.std.proofs.Common.{rules, ◌≡◌, ◌++◌, ◌∷◌, [], true, false, length, take, ap, sym, ◌∙◌, subst, arith}
+use Rattle.congee.specs.owned.Cursor.{IsCursor}
+use Rattle.congee.proofs.lemmas.owned.Cursors.{cursor_cut, last_of, none_left, step}
+use Rattle.congee.proofs.lemmas.owned.Writings.{fills_on, none_above, up_from, whole, whole_count}
 use Rattle.congee.proofs.owned.scan.Arena+u64+A.range_to.Goals as goal
 
-pub loop-count-preserved : goal.loop-count-preserved
-loop-count-preserved g c =
-    let m = (pairs_of c.args.self.now.nodes) in
-    let i = c.loop-count.invariant in
-    let from = i.from in
-    let found = c.in-Some.ensures.first from i.at in
-    let first = range_first m from (c.args.last + 1) c.in-Some.key c.in-Some.value.now found.0 (omega (arith, c.if-key-last.true)) in
-    let entry : c.of.result ≡ g.E.Listed.entry c.in-Some.key c.in-Some.value.now = c.of.ensures in
-    let same = length-set c.loop-count.out c.loop-count.count c.of.result in
-    let pairs : take c.loop-count.count c.loop-count.out ++ take (length c.args.out.now - c.loop-count.count) (c.of.result ∷ entries_by g.E.Listed.entry (in_range (c.in-Some.key + 1) (c.args.last + 1) (map.entries m))) ≡ take (length c.args.out.now) (entries_by g.E.Listed.entry (in_range c.args.start (c.args.last + 1) (map.entries m))) =
-    ap (λ b. take c.loop-count.count c.loop-count.out ++ take (length c.args.out.now - c.loop-count.count) (b ∷ entries_by g.E.Listed.entry (in_range (c.in-Some.key + 1) (c.args.last + 1) (map.entries m)))) entry
-    ∙ ap (λ r. take c.loop-count.count c.loop-count.out ++ take (length c.args.out.now - c.loop-count.count) (entries_by g.E.Listed.entry r)) (sym first) ∙ i.pairs in record {
-      walk = c.next_along.ensures.walk;
-      within = omega (arith, same, c.loop-count-test.true);
-      long = same ∙ i.long;
-      rest = rest_kept c.loop-count.out c.args.out.now c.loop-count.count c.of.result c.loop-count-test.true i.rest;
-      from = c.in-Some.key + 1;
-      at = found.1;
-      pairs = pair_written c.loop-count.out c.loop-count.count (length c.args.out.now) c.of.result (entries_by g.E.Listed.entry (in_range (c.in-Some.key + 1) (c.args.last + 1) (map.entries m))) (take (length c.args.out.now) (entries_by g.E.Listed.entry (in_range c.args.start (c.args.last + 1) (map.entries m)))) c.loop-count-test.true (sym i.long) pairs;
+pub write_from-written-requires-clause-stands : goal.write_from-written-requires-clause-stands
+write_from-written-requires-clause-stands g c =
+    let w = c.seek-walk.result in
+    (last_of c.args.self.now.nodes c.requires w.above.items (step w.at w.from) c.seek-walk.ensures.walk.way).stands
+
+pub loop-written-init : goal.loop-written-init
+loop-written-init g c =
+    let w = c.seek-walk.result in
+    record {
+      way = cursor_cut c.args.self.now.nodes w.above.items (step w.at w.from) c.seek-walk.ensures.walk.way;
+      fills = c.write_from-written.ensures.fills;
+      rest = c.write_from-written.ensures.pairs w.above.items c.args.start c.seek-walk.ensures.walk.way c.seek-walk.ensures.at;
+    }
+
+pub write_from-written-requires-in-loop-written-clause-stands : goal.write_from-written-requires-in-loop-written-clause-stands
+write_from-written-requires-in-loop-written-clause-stands g c =
+    let s = c.args.self.now.nodes in
+    let way : IsCursor s (c.pop.new.self.items ++ step c.in-Some.branch.node c.in-Some.branch.from ∷ []) = subst (IsCursor s) c.in-Some.ensures.items c.loop-written.invariant.way in
+    (last_of s c.requires c.pop.new.self.items (step c.in-Some.branch.node c.in-Some.branch.from) way).stands
+
+pub write_from-written-requires-in-loop-written-clause-within : goal.write_from-written-requires-in-loop-written-clause-within
+write_from-written-requires-in-loop-written-clause-within g c = c.loop-written.invariant.fills.within
+
+pub loop-written-preserved : goal.loop-written-preserved
+loop-written-preserved g c =
+    let s = c.args.self.now.nodes in
+    let i = c.loop-written.invariant in
+    let more : c.loop-written.written.over ≡ false = search rules in
+    let way : IsCursor s (c.pop.new.self.items ++ step c.in-Some.branch.node c.in-Some.branch.from ∷ []) = subst (IsCursor s) c.in-Some.ensures.items i.way in
+    record {
+      way = cursor_cut s c.pop.new.self.items (step c.in-Some.branch.node c.in-Some.branch.from) way;
+      fills = fills_on 0 c.args.out.now c.loop-written.out c.write_from-written-in-loop-written.new.out c.loop-written.written c.write_from-written-in-loop-written.result i.fills c.write_from-written-in-loop-written.ensures.fills;
+      rest = up_from s g.E.Listed.entry c.args.last c.requires c.loop-written.walk.above.items c.pop.new.self.items c.in-Some.branch.node c.in-Some.branch.from
+          c.loop-written.out c.write_from-written-in-loop-written.new.out _ c.loop-written.written c.write_from-written-in-loop-written.result c.in-Some.ensures.items i.way more i.rest c.write_from-written-in-loop-written.ensures.pairs;
     }
 
 pub returns-in_default-clause-pairs : goal.returns-in_default-clause-pairs
 returns-in_default-clause-pairs g c =
-    let i = c.loop-count.invariant in
-    let from = i.from in
-    let m = (pairs_of c.args.self.now.nodes) in
-    range_ended c.loop-count.out (entries_by g.E.Listed.entry (in_range from (c.args.last + 1) (map.entries m))) (take (length c.args.out.now) (entries_by g.E.Listed.entry (in_range c.args.start (c.args.last + 1) (map.entries m)))) c.loop-count.count (length c.args.out.now - c.loop-count.count) i.pairs
-    (ap (entries_by g.E.Listed.entry) (range_none m from (c.args.last + 1) (λ q lo hi. (c.in-Some.ensures.first from i.at).0.before q lo (omega (arith, hi, c.if-key-last.false)))))
-    ∙ take_entries g.E.Listed.entry (length c.args.out.now) (in_range c.args.start (c.args.last + 1) (map.entries m))
+    let i = c.loop-written.invariant in
+    let more : c.loop-written.written.over ≡ false = search rules in
+    let empty : c.loop-written.walk.above.items ≡ [] = none_left c.loop-written.walk.above.items c.pop.new.self.items c.pop.result c.in_default.is c.pop.ensures.variant in
+    none_above c.args.self.now.nodes g.E.Listed.entry c.args.last c.requires c.loop-written.walk.above.items c.loop-written.out _ c.loop-written.written empty more i.rest
+    ∙ whole c.args.self.now.nodes g.E.Listed.entry c.args.last c.args.out.now c.args.start
 
 pub returns-in_default-clause-count : goal.returns-in_default-clause-count
 returns-in_default-clause-count g c =
-    let all = take (length c.args.out.now) (in_range c.args.start (c.args.last + 1) (map.entries (pairs_of c.args.self.now.nodes))) in
-    counted c.loop-count.out (entries_by g.E.Listed.entry all) c.loop-count.count c.loop-count.invariant.within (returns-in_default-clause-pairs g c) ∙ count_entries g.E.Listed.entry all
+    let i = c.loop-written.invariant in
+    let more : c.loop-written.written.over ≡ false = search rules in
+    let empty : c.loop-written.walk.above.items ≡ [] = none_left c.loop-written.walk.above.items c.pop.new.self.items c.pop.result c.in_default.is c.pop.ensures.variant in
+    whole_count c.args.self.now.nodes g.E.Listed.entry c.args.last c.args.out.now c.loop-written.out c.args.start c.loop-written.written.count i.fills.within
+    (none_above c.args.self.now.nodes g.E.Listed.entry c.args.last c.requires c.loop-written.walk.above.items c.loop-written.out _ c.loop-written.written empty more i.rest)
 
-pub returns-in_default-2-clause-pairs : goal.returns-in_default-2-clause-pairs
-returns-in_default-2-clause-pairs g c =
-    let i = c.loop-count.invariant in
-    let from = i.from in
-    let m = (pairs_of c.args.self.now.nodes) in
-    range_ended c.loop-count.out (entries_by g.E.Listed.entry (in_range from (c.args.last + 1) (map.entries m))) (take (length c.args.out.now) (entries_by g.E.Listed.entry (in_range c.args.start (c.args.last + 1) (map.entries m)))) c.loop-count.count (length c.args.out.now - c.loop-count.count) i.pairs
-    (ap (entries_by g.E.Listed.entry) (range_none m from (c.args.last + 1) (λ q lo hi. none_told c.next_along.result _ _ c.in_default.is (c.next_along.ensures.first from i.at) q lo)))
-    ∙ take_entries g.E.Listed.entry (length c.args.out.now) (in_range c.args.start (c.args.last + 1) (map.entries m))
-
-pub returns-in_default-2-clause-count : goal.returns-in_default-2-clause-count
-returns-in_default-2-clause-count g c =
-    let all = take (length c.args.out.now) (in_range c.args.start (c.args.last + 1) (map.entries (pairs_of c.args.self.now.nodes))) in
-    counted c.loop-count.out (entries_by g.E.Listed.entry all) c.loop-count.count c.loop-count.invariant.within (returns-in_default-2-clause-pairs g c) ∙ count_entries g.E.Listed.entry all
+pub returns-in_default-clause-past : goal.returns-in_default-clause-past
+returns-in_default-clause-past g c = c.loop-written.invariant.fills.past
 
 pub returns-clause-pairs : goal.returns-clause-pairs
 returns-clause-pairs g c =
-    let i = c.loop-count.invariant in
-    let from = i.from in
-    let all = in_range c.args.start (c.args.last + 1) (map.entries (pairs_of c.args.self.now.nodes)) in
-    no_room_left c.loop-count.out (entries_by g.E.Listed.entry (in_range from (c.args.last + 1) (map.entries (pairs_of c.args.self.now.nodes)))) (take (length c.args.out.now) (entries_by g.E.Listed.entry all)) c.loop-count.count (length c.args.out.now - c.loop-count.count)
-    (omega (arith, i.long, c.loop-count-test.false)) i.pairs
-    ∙ take_entries g.E.Listed.entry (length c.args.out.now) all
+    let over : c.loop-written.written.over ≡ true = search rules in
+    c.loop-written.invariant.rest.over over ∙ whole c.args.self.now.nodes g.E.Listed.entry c.args.last c.args.out.now c.args.start
 
 pub returns-clause-count : goal.returns-clause-count
 returns-clause-count g c =
-    let all = take (length c.args.out.now) (in_range c.args.start (c.args.last + 1) (map.entries (pairs_of c.args.self.now.nodes))) in
-    counted c.loop-count.out (entries_by g.E.Listed.entry all) c.loop-count.count c.loop-count.invariant.within (returns-clause-pairs g c) ∙ count_entries g.E.Listed.entry all
+    let i = c.loop-written.invariant in
+    let over : c.loop-written.written.over ≡ true = search rules in
+    whole_count c.args.self.now.nodes g.E.Listed.entry c.args.last c.args.out.now c.loop-written.out c.args.start c.loop-written.written.count i.fills.within (i.rest.over over)
+
+pub returns-clause-past : goal.returns-clause-past
+returns-clause-past g c = c.loop-written.invariant.fills.past
