@@ -147,7 +147,7 @@ impl<P: Stored, A: Allocator> Arena<P, A> {
     }
 
     /// A leaf goes with its only value from the root.
-    #[inline(always)]
+    #[inline(never)]
     fn drop_last(&mut self, at: Name, key: &[u8; KEY_BYTES]) -> P
         requires tree { IsTree self.old.nodes }
         requires way { OnWay self.old.nodes key.now at }
@@ -166,7 +166,7 @@ impl<P: Stored, A: Allocator> Arena<P, A> {
 
     /// A leaf goes with its only value from an inner node that isn't left with one child. That one gives place to a lesser one
     /// if it is small then.
-    #[inline(always)]
+    #[inline(never)]
     fn thin_out(&mut self, alloc: Global, above: Name, at: Name, key: &[u8; KEY_BYTES]) -> P
         requires tree { IsTree self.old.nodes }
         requires way { OnWay self.old.nodes key.now at }
