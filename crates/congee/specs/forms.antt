@@ -4,6 +4,7 @@ pub mod Index
 pub mod Mapped
 pub mod Mask
 pub mod Places
+pub mod Ranks
 pub mod Room
 pub mod RoomLemmas
 pub mod Scan

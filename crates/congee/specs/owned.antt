@@ -19,7 +19,6 @@ pub mod Only
 pub mod Owned
 pub mod Place
 pub mod Ranges
-pub mod Ranks
 pub mod Renames
 pub mod Rows
 pub mod Runs

@@ -16,8 +16,6 @@ mod pairs;
 mod parting;
 mod place;
 mod places;
-mod ranked;
-mod ranks;
 mod removing;
 mod scan;
 mod sight;

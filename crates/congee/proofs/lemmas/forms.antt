@@ -14,4 +14,5 @@ pub mod MaskLemmas
 pub mod MoveLemmas
 pub mod OffsetLemmas
 pub mod Prefixes
+pub mod Ranks
 pub mod SortedLemmas

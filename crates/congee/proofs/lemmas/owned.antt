@@ -20,7 +20,6 @@ pub mod OwnerLemmas
 pub mod Walks
 pub mod Puts
 pub mod RangeLemmas
-pub mod Ranks
 pub mod Refilling
 pub mod Renaming
 pub mod Rooms

@@ -107,8 +107,12 @@ array_vec_ty τ n = ty_struct [] (tcons (ty_struct [] (tcons (ty_array τ n) tni
 abbrev prefix_ty : Ty
 prefix_ty = ty_struct [] (tcons (ty_array (ty_int w8) 8) tnil)
 
+-- bytes in the order in which they are counted
+abbrev pub ranks_ty : ℕ → Ty
+ranks_ty n = ty_struct [] (tcons (ty_array (ty_int w8) n) (tcons (ty_int w64) tnil))
+
 abbrev sorted_ty : ℕ → Ty → Ty → Ty
-sorted_ty n τ σ = ty_struct [] (tcons (array_vec_ty (ty_int w8) n) (tcons (array_vec_ty (child_ty τ σ) n) tnil))
+sorted_ty n τ σ = ty_struct [] (tcons (ranks_ty n) (tcons (array_vec_ty (child_ty τ σ) n) tnil))
 
 -- an index
 abbrev pub index_ty : Ty
@@ -132,12 +136,6 @@ node_ty τ = ty_struct [] (tcons prefix_ty (tcons τ tnil))
 abbrev any_node_ty : Ty → Ty → Ty
 any_node_ty τ σ = ty_enum [] (ttcons (tcons (node_ty (sorted_ty 4 τ σ)) tnil) (ttcons (tcons ty_ptr tnil) (ttcons (tcons ty_ptr tnil) (ttcons (tcons ty_ptr tnil) ttnil))))
 
--- a list of bytes in an array takes 655,360 more than its places at most
-pub bytes_array : (n m : ℕ) → n + 655360 ≤ m → FitsIn (array_vec_ty (ty_int w8) n) m
-bytes_array n m l =
-    let w = struct (field (struct (field (array n byte) no_fields)) (field word (field unit no_fields))) in
-    record { bytes = omega (arith, w.bytes, l); aligned = w.aligned }
-
 prefix : FitsIn prefix_ty 200000
 prefix = let w = struct (field (array 8 byte) no_fields) in record { bytes = omega (arith, w.bytes); aligned = w.aligned }
 
@@ -152,7 +150,8 @@ module _ (C P : RattleType) (c : IsSmall (layout C)) (p : IsSmall (layout P)) wh
 
   sorted : (n : ℕ) → n ≤ 16 → FitsIn (sorted_ty n (layout C) (layout P)) 200000000
   sorted n l =
-      let w = struct (field (bytes_array n 1000000 (omega arith)) (field (children n 100000000 (omega arith)) no_fields)) in
+      let ranks = struct (field (array n byte) (field word no_fields)) in
+      let w = struct (field ranks (field (children n 100000000 (omega arith)) no_fields)) in
       record { bytes = omega (arith, w.bytes); aligned = w.aligned }
 
   indexed : FitsIn (indexed_ty (layout C) (layout P)) 200000000

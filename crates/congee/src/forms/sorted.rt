@@ -1,9 +1,10 @@
-//! Children in the order of their bytes.
-ghost use Rattle.std.specs.Prelude.{◌≡◌, ◌≢◌, ◌<◌, ◌≤◌, ℕ, length, get_or, MatchOption, None, Some, IsSome};
+//! Children in the order of their bytes, each found by how many bytes are lower.
+ghost use Rattle.std.specs.Prelude.{◌≡◌, ◌≢◌, ◌<◌, ◌≤◌, ℕ, MatchOption, None, Some, IsSome};
 ghost use Rattle.std.specs.Option.{option_copied};
 ghost use Rattle.std.specs.FinMap as map;
-ghost use Rattle.congee.specs.forms.Bytes.{IsFirst};
+ghost use Rattle.congee.specs.forms.Bytes.{IsFirst, Lists};
 
+use crate::forms::ranks::Ranks;
 use arrayvec::ArrayVec;
 use std::marker::Model;
 use std::mem;
@@ -11,7 +12,7 @@ use std::mem;
 /// At most `N` children, in two arrays that rise by byte.
 #[derive(Drop)]
 pub(crate) struct Sorted<X, const N: usize> {
-    keys: ArrayVec<u8, N>,
+    bytes: Ranks<N>,
     children: ArrayVec<X, N>,
 }
 
@@ -25,25 +26,9 @@ impl<X, const N: usize> Model for Sorted<X, N> {
 
     ghost coded = { map.code coded_ℕ X.code };
 
-    ghost view = { λ s. sorted_map s.keys.items s.children.items };
+    ghost view = { λ s. sorted_map s.bytes s.children.items };
 
-    ghost invariant = { λ s. IsSorted s.keys.items s.children.items };
-}
-
-/// The place of the first byte that is at least `byte`.
-fn place_of<const N: usize>(keys: &ArrayVec<u8, N>, byte: usize) -> usize
-    ensures fits { length keys.now.items ≤ N }
-    ensures within { result ≤ length keys.now.items }
-    ensures below { (i : ℕ) → i < result → get_or keys.now.items i 0 < byte }
-    ensures at { result < length keys.now.items → byte ≤ get_or keys.now.items result 0 }
-{
-    let bytes = keys.as_slice();
-    for i in 0..bytes.len() {
-        if bytes[i] as usize >= byte {
-            return i;
-        }
-    }
-    bytes.len()
+    ghost invariant = { λ s. IsSorted s.bytes s.children.items };
 }
 
 impl<X, const N: usize> Sorted<X, N> {
@@ -54,7 +39,7 @@ impl<X, const N: usize> Sorted<X, N> {
         ensures fits { result ≤ N }
         ensures bytes { (b : ℕ) → IsSome (map.get self.now b) → b < 256 }
     {
-        self.keys.len()
+        self.bytes.len()
     }
 
     /// The child of a byte.
@@ -62,8 +47,8 @@ impl<X, const N: usize> Sorted<X, N> {
     pub(crate) fn get_child(&self, byte: u8) -> Option<&X>
         ensures { option_copied result ≡ map.get self.now byte }
     {
-        let place = place_of(&self.keys, byte as usize);
-        if place < self.keys.len() && self.keys.as_slice()[place] == byte {
+        let place = self.bytes.place_of(byte);
+        if place < self.bytes.len() && self.bytes.at(place) == byte {
             return Some(&self.children.as_slice()[place]);
         }
         None
@@ -75,24 +60,38 @@ impl<X, const N: usize> Sorted<X, N> {
         ensures { MatchOption result ((b : ℕ) → from ≤ b → map.get self.now b ≡ None)
             (λ r. IsFirst self.now from r.0 r.1.now) }
     {
-        let place = place_of(&self.keys, from);
-        if place == self.keys.len() {
+        let len = self.bytes.len();
+        if from > 255 {
             return None;
         }
-        Some((
-            self.keys.as_slice()[place],
-            &self.children.as_slice()[place],
-        ))
+        let place = self.bytes.place_of(from as u8);
+        if place == len {
+            return None;
+        }
+        Some((self.bytes.at(place), &self.children.as_slice()[place]))
+    }
+
+    /// The children from `from` on, in the order of their bytes.
+    #[inline(always)]
+    pub(crate) fn children_from(&self, from: usize) -> &[X]
+        ensures { Lists self.now from result.now }
+    {
+        let children = self.children.as_slice();
+        if from > 255 {
+            return &children[children.len()..];
+        }
+        &children[self.bytes.place_of(from as u8)..]
     }
 }
 
 impl<X: Default + Drop, const N: usize> Sorted<X, N> {
     /// No children.
     pub(crate) fn new() -> Self
+        requires { N < 256 }
         ensures { result ≡ map.empty }
     {
         Sorted {
-            keys: ArrayVec::new(),
+            bytes: Ranks::new(),
             children: ArrayVec::new(),
         }
     }
@@ -104,8 +103,8 @@ impl<X: Default + Drop, const N: usize> Sorted<X, N> {
         requires room { map.len self.old ≢ N }
         ensures { self.new ≡ map.insert self.old byte child }
     {
-        let place = place_of(&self.keys, byte as usize);
-        self.keys.insert(place, byte);
+        let place = self.bytes.place_of(byte);
+        self.bytes.insert(place, byte);
         self.children.insert(place, child);
     }
 
@@ -116,7 +115,7 @@ impl<X: Default + Drop, const N: usize> Sorted<X, N> {
         ensures before { map.get self.old byte ≡ Some result }
         ensures after { self.new ≡ map.insert self.old byte child }
     {
-        let place = place_of(&self.keys, byte as usize);
+        let place = self.bytes.place_of(byte);
         mem::replace(&mut self.children[place], child)
     }
 
@@ -127,8 +126,8 @@ impl<X: Default + Drop, const N: usize> Sorted<X, N> {
         ensures before { map.get self.old byte ≡ Some result }
         ensures after { self.new ≡ map.remove self.old byte }
     {
-        let place = place_of(&self.keys, byte as usize);
-        self.keys.remove(place);
+        let place = self.bytes.place_of(byte);
+        self.bytes.remove(place);
         self.children.remove(place)
     }
 }

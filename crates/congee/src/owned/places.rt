@@ -10,20 +10,20 @@ ghost use Rattle.congee.specs.protocol.Steps.{form_below};
 use crate::forms::base_node::NodeType;
 use crate::forms::child::Small;
 use crate::forms::masked::Masked;
+use crate::forms::sorted::Sorted;
 use crate::owned::entries::Entry;
-use crate::owned::ranked::Ranked;
 use std::alloc::{AllocError, Global};
 
 /// At most 16 entries.
 #[derive(Drop)]
 pub(crate) struct Places16<P> {
-    pub(crate) children: Ranked<Entry<P>, 16>,
+    pub(crate) children: Sorted<Entry<P>, 16>,
 }
 
 /// At most 48 entries.
 #[derive(Drop)]
 pub(crate) struct Places48<P> {
-    pub(crate) children: Ranked<Entry<P>, 48>,
+    pub(crate) children: Sorted<Entry<P>, 48>,
 }
 
 /// An entry for each byte.
@@ -59,7 +59,7 @@ impl<P: Small> Nested for P {
 /// What an inner node has by byte. The least form lies inline, the others in a box.
 #[derive(Drop)]
 pub(crate) enum Places<P: Nested> {
-    N4(Ranked<Entry<P>, 4>),
+    N4(Sorted<Entry<P>, 4>),
     N16(Box<Places16<P>>),
     N48(Box<Places48<P>>),
     N256(Box<Places256<P>>),
@@ -75,17 +75,17 @@ impl<P: Small> Places<P> {
         ensures memory { OnErr result (form ≢ N4) }
     {
         Ok(match form {
-            NodeType::N4 => Places::N4(Ranked::new()),
+            NodeType::N4 => Places::N4(Sorted::new()),
             NodeType::N16 => Places::N16(Box::new(
                 alloc,
                 Places16 {
-                    children: Ranked::new(),
+                    children: Sorted::new(),
                 },
             )?),
             NodeType::N48 => Places::N48(Box::new(
                 alloc,
                 Places48 {
-                    children: Ranked::new(),
+                    children: Sorted::new(),
                 },
             )?),
             NodeType::N256 => Places::N256(Box::new(
@@ -102,7 +102,7 @@ impl<P: Small> Places<P> {
         ensures form { form_in result ≡ N4 }
         ensures entries { entries_in result ≡ map.empty }
     {
-        Places::N4(Ranked::new())
+        Places::N4(Sorted::new())
     }
 
     /// The form.

@@ -213,12 +213,8 @@ impl Nodes<u64> {
         ensures pairs { (h : Hangs self.now stem entry.now) → WritesByte self.now E.entry last (257 * stem.slot) h.from h.byte count out.old out.new result }
     {
         match entry {
-            Entry::Blank => unreachable!(),
-            Entry::Leaf(tail, value) => {
-                let key = key_of_bytes(&key_by(stem.first, tail));
-                write_pair(key, *value, last, out, count)
-            }
             Entry::Node(below) => self.write_below(Name::of(*below), last, out, count),
+            _ => self.write_entry(stem, entry, last, out, count),
         }
     }
 

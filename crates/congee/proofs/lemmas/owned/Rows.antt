@@ -33,7 +33,7 @@ use Rattle.congee.proofs.lemmas.forms.MappedLemmas.{first_mapped, none_mapped}
 use Rattle.congee.proofs.lemmas.forms.SortedLemmas.{IsPlaceOf, is_byte, is_first, none_from}
 use Rattle.congee.proofs.lemmas.owned.Cursors.{child_there, nothing_blank, step}
 use Rattle.congee.proofs.lemmas.owned.Entering.{children_by, prefix_by}
-use Rattle.congee.proofs.lemmas.owned.Ranks.{rising_of}
+use Rattle.congee.proofs.lemmas.forms.Ranks.{rising_of}
 use Rattle.congee.proofs.lemmas.owned.Sights.{inline_found, inner_first, inner_last}
 use Rattle.congee.proofs.lemmas.owned.Standing.{standing}
 use Rattle.congee.proofs.lemmas.owned.Surveys.{child_stands}

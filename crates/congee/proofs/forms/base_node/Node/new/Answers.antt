@@ -1,8 +1,9 @@
+use Rattle.std.proofs.Common.{arith}
 use Rattle.congee.specs.forms.RoomLemmas.{sorted_fits, indexed_fits, masked_fits, node16_fits, node48_fits, node256_fits}
 use Rattle.congee.proofs.forms.base_node.Node.new.Goals as goal
 
 pub new-requires-in-N16 : goal.new-requires-in-N16
-new-requires-in-N16 g c = sorted_fits g.row.C g.row.P g.met.C.Small.small g.met.P.Small.small
+new-requires-in-N16 g c = (sorted_fits g.row.C g.row.P g.met.C.Small.small g.met.P.Small.small, omega arith)
 
 pub new-requires-in-N48 : goal.new-requires-in-N48
 new-requires-in-N48 g c = indexed_fits g.row.C g.row.P g.met.C.Small.small g.met.P.Small.small

@@ -1,36 +1,40 @@
 use Rattle.std.proofs.Common.{rules, ◌<◌, length, IsSome, sym, ◌∙◌, ap, subst, arith}
 use Rattle.std.specs.FinMap as map
 use Rattle.congee.proofs.lemmas.forms.SortedLemmas.{IsPlaceOf, stands_there, get_found, remove_map}
+use Rattle.congee.proofs.lemmas.forms.Ranks.{rising_of}
 use Rattle.congee.proofs.forms.sorted.Sorted.remove.Goals as goal
 
 pub remove-requires : goal.remove-requires
 remove-requires g c =
-    let s : IsPlaceOf c.args.byte c.place_of-place.result c.self.inside.keys.items = record { within = c.place_of-place.ensures.within; below = c.place_of-place.ensures.below; at = c.place_of-place.ensures.at } in
+    let s : IsPlaceOf c.args.byte c.place_of-place.result c.self.inside.bytes = record { within = c.place_of-place.ensures.within; below = c.place_of-place.ensures.below; at = c.place_of-place.ensures.at } in
     let at = stands_there c.self.invariant c.args.byte c.place_of-place.result s (subst (λ m. IsSome (map.get m c.args.byte)) (sym c.self.view_is) c.requires.present) in
     (search rules, at.0)
 
 pub remove-requires-2 : goal.remove-requires-2
 remove-requires-2 g c =
-    let s : IsPlaceOf c.args.byte c.place_of-place.result c.self.inside.keys.items = record { within = c.place_of-place.ensures.within; below = c.place_of-place.ensures.below; at = c.place_of-place.ensures.at } in
+    let s : IsPlaceOf c.args.byte c.place_of-place.result c.self.inside.bytes = record { within = c.place_of-place.ensures.within; below = c.place_of-place.ensures.below; at = c.place_of-place.ensures.at } in
     let at = stands_there c.self.invariant c.args.byte c.place_of-place.result s (subst (λ m. IsSome (map.get m c.args.byte)) (sym c.self.view_is) c.requires.present) in
     let l : c.place_of-place.result < length c.self.inside.children.items = omega (arith, c.self.invariant.same, at.0) in
     (search rules, l)
 
 pub invariant_of-self : goal.invariant_of-self
 invariant_of-self g c =
-    let s : IsPlaceOf c.args.byte c.place_of-place.result c.self.inside.keys.items = record { within = c.place_of-place.ensures.within; below = c.place_of-place.ensures.below; at = c.place_of-place.ensures.at } in
+    let s : IsPlaceOf c.args.byte c.place_of-place.result c.self.inside.bytes = record { within = c.place_of-place.ensures.within; below = c.place_of-place.ensures.below; at = c.place_of-place.ensures.at } in
     let all = remove_map c.self.invariant c.args.byte c.place_of-place.result s (subst (λ m. IsSome (map.get m c.args.byte)) (sym c.self.view_is) c.requires.present) in
-    rw (c.remove.ensures.items, c.remove-2.ensures.items) all.0
+    rw (c.remove.ensures, c.remove-2.ensures.items) all.0
 
 pub returns-clause-before : goal.returns-clause-before
 returns-clause-before g c =
-    let s : IsPlaceOf c.args.byte c.place_of-place.result c.self.inside.keys.items = record { within = c.place_of-place.ensures.within; below = c.place_of-place.ensures.below; at = c.place_of-place.ensures.at } in
+    let s : IsPlaceOf c.args.byte c.place_of-place.result c.self.inside.bytes = record { within = c.place_of-place.ensures.within; below = c.place_of-place.ensures.below; at = c.place_of-place.ensures.at } in
     let at = stands_there c.self.invariant c.args.byte c.place_of-place.result s (subst (λ m. IsSome (map.get m c.args.byte)) (sym c.self.view_is) c.requires.present) in
     let e = get_found c.self.invariant c.args.byte c.place_of-place.result c.remove-2.result s at.0 at.1 in
     cc (e, c.self.view_is, c.remove-2.ensures.value)
 
 pub returns-clause-after : goal.returns-clause-after
 returns-clause-after g c =
-    let s : IsPlaceOf c.args.byte c.place_of-place.result c.self.inside.keys.items = record { within = c.place_of-place.ensures.within; below = c.place_of-place.ensures.below; at = c.place_of-place.ensures.at } in
+    let s : IsPlaceOf c.args.byte c.place_of-place.result c.self.inside.bytes = record { within = c.place_of-place.ensures.within; below = c.place_of-place.ensures.below; at = c.place_of-place.ensures.at } in
     let all = remove_map c.self.invariant c.args.byte c.place_of-place.result s (subst (λ m. IsSome (map.get m c.args.byte)) (sym c.self.view_is) c.requires.present) in
-    rw (c.remove.ensures.items, c.remove-2.ensures.items) all.1 ∙ ap (λ m. map.remove m c.args.byte) c.self.view_is
+    rw (c.remove.ensures, c.remove-2.ensures.items) all.1 ∙ ap (λ m. map.remove m c.args.byte) c.self.view_is
+
+pub place_of-place-requires : goal.place_of-place-requires
+place_of-place-requires g c = (search rules, rising_of _ _ c.self.invariant.same c.self.invariant.rises)

@@ -1,12 +1,12 @@
 use Rattle.std.proofs.Common.{arith}
-use Rattle.congee.specs.owned.EntryRoom.{ranked16_fits, ranked48_fits, masked_fits, places16_fits, places48_fits, places256_fits}
+use Rattle.congee.specs.owned.EntryRoom.{sorted16_fits, sorted48_fits, masked_fits, places16_fits, places48_fits, places256_fits}
 use Rattle.congee.proofs.owned.places.Places.new.Goals as goal
 
 pub new-requires-in-N16 : goal.new-requires-in-N16
-new-requires-in-N16 g c = (ranked16_fits g.row.P g.met.P.Small.small, omega arith)
+new-requires-in-N16 g c = (sorted16_fits g.row.P g.met.P.Small.small, omega arith)
 
 pub new-requires-in-N48 : goal.new-requires-in-N48
-new-requires-in-N48 g c = (ranked48_fits g.row.P g.met.P.Small.small, omega arith)
+new-requires-in-N48 g c = (sorted48_fits g.row.P g.met.P.Small.small, omega arith)
 
 pub new-requires-in-N256 : goal.new-requires-in-N256
 new-requires-in-N256 g c = masked_fits g.row.P g.met.P.Small.small

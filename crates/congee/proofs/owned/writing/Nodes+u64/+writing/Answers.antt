@@ -125,7 +125,7 @@ pub write_entry-write_from-requires : goal.write_entry-write_from-requires
 write_entry-write_from-requires g t c κs within =
     let s = c.args.self.now in
     let below = entry_below s c.requires.tree c.args.stem c.args.entry.now c.requires.hangs c.in-Node.below c.in-Node.is in
-    let smaller : 8 * (8 - length (heap_of s c.of.result).prefix) + 6 < 8 * (8 - length (heap_of s (257 * c.args.stem.slot)).prefix) + 4 = rw c.of.ensures (omega (arith, below.1.0, below.1.1)) in
+    let smaller : 8 * (8 - length (heap_of s c.of.result).prefix) + 6 < 8 * (8 - length (heap_of s (257 * c.args.stem.slot)).prefix) + 3 = rw c.of.ensures (omega (arith, below.1.0, below.1.1)) in
     (search rules, (within, (c.requires.tree, (rw c.of.ensures below.0, c.requires.within))))
 
 pub write_entry-returns-in-Leaf-clause-fills : goal.write_entry-returns-in-Leaf-clause-fills
@@ -203,26 +203,12 @@ write_wide-returns-clause-pairs g t c =
     wrote_all c.args.self.now g.E.Listed.entry c.args.last c.requires.tree (257 * c.args.stem.slot) c.args.from c.args.count c.args.out.now c.loop-here.from c.loop-here.count c.loop-here.out c.loop-here.invariant
     (λ x e. entry_last c.args.self.now c.args.stem c.args.form.now c.requires.sees c.loop-here.from c.in_default.ensures x e)
 
-pub write_wide_entry-unreachable-requires : goal.write_wide_entry-unreachable-requires
-write_wide_entry-unreachable-requires g t c = entry_filled c.args.self.now c.requires.tree c.args.stem c.args.entry.now c.requires.hangs c.in-Blank.is
-
 pub write_wide_entry-write_below-requires : goal.write_wide_entry-write_below-requires
 write_wide_entry-write_below-requires g t c κs within =
     let s = c.args.self.now in
     let below = entry_below s c.requires.tree c.args.stem c.args.entry.now c.requires.hangs c.in-Node.below c.in-Node.is in
     let smaller : 8 * (8 - length (heap_of s c.of.result).prefix) + 7 < 8 * (8 - length (heap_of s (257 * c.args.stem.slot)).prefix) + 4 = rw c.of.ensures (omega (arith, below.1.0, below.1.1)) in
     (search rules, (within, (c.requires.tree, (rw c.of.ensures below.0, c.requires.within))))
-
-pub write_wide_entry-returns-in-Leaf-clause-fills : goal.write_wide_entry-returns-in-Leaf-clause-fills
-write_wide_entry-returns-in-Leaf-clause-fills g t c =
-    pair_fills c.args.self.now g.E.Listed.entry c.args.last c.key_of_bytes-key.result c.in-Leaf.value c.args.count c.args.out.now c.write_pair.new.out c.write_pair.result c.requires.within
-    (record { over = c.write_pair.ensures.over; reason = c.write_pair.ensures.reason; within = c.write_pair.ensures.within; written = c.write_pair.ensures.written })
-
-pub write_wide_entry-returns-in-Leaf-clause-pairs : goal.write_wide_entry-returns-in-Leaf-clause-pairs
-write_wide_entry-returns-in-Leaf-clause-pairs g t c = λ h.
-    entry_leaf c.args.self.now c.requires.tree c.args.stem c.args.entry.now h g.E.Listed.entry c.args.last c.args.count c.args.out.now c.requires.within
-    c.in-Leaf.tail c.in-Leaf.value c.key_of_bytes-key.result c.in-Leaf.is (c.key_of_bytes-key.ensures ∙ c.key_by.ensures) (search rules) c.write_pair.new.out c.write_pair.result
-    (record { over = c.write_pair.ensures.over; reason = c.write_pair.ensures.reason; within = c.write_pair.ensures.within; written = c.write_pair.ensures.written })
 
 pub write_wide_entry-returns-in-Node-clause-pairs : goal.write_wide_entry-returns-in-Node-clause-pairs
 write_wide_entry-returns-in-Node-clause-pairs g t c = λ h.

@@ -22,7 +22,7 @@ abbrev pub decreases-write_wide : goal.decreases-write_wide
 decreases-write_wide g l = 8 * (8 - length (heap_of l.self.now (257 * l.stem.slot)).prefix) + 5
 
 abbrev pub decreases-write_entry : goal.decreases-write_entry
-decreases-write_entry g l = 8 * (8 - length (heap_of l.self.now (257 * l.stem.slot)).prefix) + 4
+decreases-write_entry g l = 8 * (8 - length (heap_of l.self.now (257 * l.stem.slot)).prefix) + 3
 
 abbrev pub decreases-write_wide_entry : goal.decreases-write_wide_entry
 decreases-write_wide_entry g l = 8 * (8 - length (heap_of l.self.now (257 * l.stem.slot)).prefix) + 4

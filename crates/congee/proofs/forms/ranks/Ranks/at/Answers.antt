@@ -1,7 +1,7 @@
 use Rattle.std.proofs.Common.{ℕ, List, ◌≡◌, length, get_or, sym, ap, ◌∙◌, arith, rules}
 use Rattle.std.proofs.lemmas.List.{get_or-take}
-use Rattle.congee.proofs.lemmas.owned.Ranks.{row_length}
-use Rattle.congee.proofs.owned.ranks.Ranks.at.Goals as goal
+use Rattle.congee.proofs.lemmas.forms.Ranks.{row_length}
+use Rattle.congee.proofs.forms.ranks.Ranks.at.Goals as goal
 
 pub returns : goal.returns
 returns g c =

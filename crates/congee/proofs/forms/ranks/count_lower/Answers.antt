@@ -1,6 +1,6 @@
 use Rattle.std.proofs.Common.{◌≡◌, length, arith, rules}
-use Rattle.congee.proofs.lemmas.owned.Ranks.{count_none, count_other, count_lower}
-use Rattle.congee.proofs.owned.ranks.count_lower.Goals as goal
+use Rattle.congee.proofs.lemmas.forms.Ranks.{count_none, count_other, count_lower}
+use Rattle.congee.proofs.forms.ranks.count_lower.Goals as goal
 
 pub loop-i-init : goal.loop-i-init
 loop-i-init g c = count_none c.args.bytes.now c.args.byte

@@ -1,7 +1,7 @@
 use Rattle.std.proofs.Common.{ℕ, List, ◌≡◌, length, refl, ap, ◌∙◌, arith, rules}
 use Rattle.std.specs.List.{remove}
-use Rattle.congee.proofs.lemmas.owned.Ranks.{row_length, remove_row, remove_list}
-use Rattle.congee.proofs.owned.ranks.Ranks.remove.Goals as goal
+use Rattle.congee.proofs.lemmas.forms.Ranks.{row_length, remove_row, remove_list}
+use Rattle.congee.proofs.forms.ranks.Ranks.remove.Goals as goal
 
 pub copy_within-requires-clause-start_le_end : goal.copy_within-requires-clause-start_le_end
 copy_within-requires-clause-start_le_end g c =

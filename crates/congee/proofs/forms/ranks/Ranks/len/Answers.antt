@@ -1,6 +1,6 @@
 use Rattle.std.proofs.Common.{◌≡◌, length, ap, arith, rules}
-use Rattle.congee.proofs.lemmas.owned.Ranks.{row_length}
-use Rattle.congee.proofs.owned.ranks.Ranks.len.Goals as goal
+use Rattle.congee.proofs.lemmas.forms.Ranks.{row_length}
+use Rattle.congee.proofs.forms.ranks.Ranks.len.Goals as goal
 
 pub returns-clause-count : goal.returns-clause-count
 returns-clause-count g c =

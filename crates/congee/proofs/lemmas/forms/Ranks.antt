@@ -9,7 +9,7 @@ use Rattle.std.specs.Prelude.{Option}
 use Rattle.std.specs.FinMap as map
 use Rattle.congee.specs.forms.Places.{pairs, AllKeys, Rises, IsSorted, sorted_map}
 use Rattle.congee.proofs.lemmas.forms.SortedLemmas.{is_byte}
-use Rattle.congee.specs.owned.Ranks.{IsRow, IsOrdered, IsRising}
+use Rattle.congee.specs.forms.Ranks.{IsRow, IsOrdered, IsRising}
 
 -- count bytes of the first i are lower than b, and they come first
 pub record IsCount (bs : List ℕ) (b count i : ℕ) : Type 0 where

@@ -1,7 +1,7 @@
 use Rattle.std.proofs.Common.{ℕ, List, ◌≡◌, length, ap, ◌∙◌, arith, rules}
 use Rattle.std.specs.List.{insert}
-use Rattle.congee.proofs.lemmas.owned.Ranks.{row_length, insert_row, insert_list}
-use Rattle.congee.proofs.owned.ranks.Ranks.insert.Goals as goal
+use Rattle.congee.proofs.lemmas.forms.Ranks.{row_length, insert_row, insert_list}
+use Rattle.congee.proofs.forms.ranks.Ranks.insert.Goals as goal
 
 pub copy_within-requires-clause-start_le_end : goal.copy_within-requires-clause-start_le_end
 copy_within-requires-clause-start_le_end g c =

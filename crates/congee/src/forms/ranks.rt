@@ -1,7 +1,7 @@
 //! Bytes that rise, in an array in which a byte's place is how many are lower.
 ghost use Rattle.std.specs.Prelude.{◌≡◌, ◌<◌, ◌≤◌, ℕ, [], length, get_or};
 ghost use Rattle.std.specs.List.{insert, remove};
-ghost use Rattle.congee.specs.owned.Ranks.{IsOrdered, IsRising};
+ghost use Rattle.congee.specs.forms.Ranks.{IsOrdered, IsRising};
 
 use std::marker::Model;
 
@@ -15,7 +15,7 @@ pub(crate) struct Ranks<const N: usize> {
 impl<const N: usize> Model for Ranks<N> {
     ghost use Rattle.std.specs.Prelude.{ℕ, List, take};
     ghost use Rattle.std.specs.Coded.{coded_ℕ, coded_list};
-    ghost use Rattle.congee.specs.owned.Ranks.{IsRow};
+    ghost use Rattle.congee.specs.forms.Ranks.{IsRow};
 
     ghost Value = { List ℕ };
 

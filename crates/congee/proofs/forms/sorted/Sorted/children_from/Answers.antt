@@ -3,9 +3,9 @@ use Rattle.std.proofs.lemmas.List.{drop_all, take_rest}
 use Rattle.congee.specs.forms.Bytes.{Lists}
 use Rattle.congee.specs.forms.Places.{sorted_map}
 use Rattle.congee.proofs.lemmas.forms.SortedLemmas.{IsPlaceOf}
-use Rattle.congee.proofs.lemmas.owned.Ranks.{rising_of, none_past}
+use Rattle.congee.proofs.lemmas.forms.Ranks.{rising_of, none_past}
 use Rattle.congee.proofs.lemmas.owned.Rows.{lists_from}
-use Rattle.congee.proofs.owned.ranked.Ranked.children_from.Goals as goal
+use Rattle.congee.proofs.forms.sorted.Sorted.children_from.Goals as goal
 
 pub place_of-requires : goal.place_of-requires
 place_of-requires g c = (search rules, rising_of _ _ c.self.invariant.same c.self.invariant.rises)

@@ -1,6 +1,6 @@
 use Rattle.std.proofs.Common.{◌≡◌, length, ap, arith, rules}
-use Rattle.congee.proofs.lemmas.owned.Ranks.{row_length, row_ordered, row_within, row_below, row_at}
-use Rattle.congee.proofs.owned.ranks.Ranks.place_of.Goals as goal
+use Rattle.congee.proofs.lemmas.forms.Ranks.{row_length, row_ordered, row_within, row_below, row_at}
+use Rattle.congee.proofs.forms.ranks.Ranks.place_of.Goals as goal
 
 pub place_in-requires : goal.place_in-requires
 place_in-requires g c =

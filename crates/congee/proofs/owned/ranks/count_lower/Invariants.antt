@@ -1,5 +1,0 @@
-use Rattle.congee.proofs.lemmas.owned.Ranks.{IsCount}
-use Rattle.congee.proofs.owned.ranks.count_lower.Given as goal
-
-abbrev pub invariant-loop-i : goal.invariant-loop-i
-invariant-loop-i g l = IsCount l.bytes l.byte l.count l.i
