@@ -1,11 +1,11 @@
 -- A node comes into the place of a leaf with one value, over that leaf and one for the key.
 use Rattle.std.proofs.Common.{◌≡◌, ◌≢◌, ℕ, ◌+◌, ◌<◌, false, inl, inr, List, length, take, get_or, refl, sym, ap, subst, ◌∙◌, arith}
-use Rattle.std.specs.Prelude.{Some, None, IsSome}
+use Rattle.std.specs.Prelude.{Some, None}
 use Rattle.std.specs.FinMap as map
-use Rattle.slab.specs.Slab.{get, ContainsKey, HasRoomFor, Updates, slab_len, with_value}
+use Rattle.slab.specs.Slab.{get, ContainsKey, HasRoomFor, Updates, with_value}
 use Rattle.slab.proofs.SlabLemmas.{Updates-with_value}
 use Rattle.congee.specs.Heap.{Below, child_for, fits}
-use Rattle.congee.specs.forms.Forms.{Becomes, children_of, form_of, is_full_of, prefix_of}
+use Rattle.congee.specs.forms.Forms.{children_of, form_of, is_full_of, prefix_of}
 use Rattle.congee.specs.owned.Arena.{IsTree, Nodes, OnWay, heap_of, node_of}
 use Rattle.congee.specs.owned.Changes.{DiffersAt, MapChange}
 use Rattle.congee.specs.owned.Entries.{first_byte}

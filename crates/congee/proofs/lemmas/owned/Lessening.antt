@@ -26,10 +26,9 @@ use Rattle.congee.proofs.lemmas.Tree.{same_or_not}
 use Rattle.congee.proofs.lemmas.owned.Filled.{filled_some}
 use Rattle.congee.proofs.lemmas.owned.Moves.{node_at}
 use Rattle.congee.proofs.lemmas.owned.Sizes.{bytes_update}
-use Rattle.congee.proofs.lemmas.owned.SlotChanges.{AtInner, at_inner}
 use Rattle.congee.proofs.lemmas.owned.SlotComes.{slot_updates, slot_stored}
 use Rattle.congee.proofs.lemmas.owned.SlotLens.{counted, len_update}
-use Rattle.congee.proofs.lemmas.owned.Slots.{with_form, with_prefix, with_mapped, with_len}
+use Rattle.congee.proofs.lemmas.owned.Slots.{with_form, with_prefix, with_mapped}
 use Rattle.congee.proofs.lemmas.owned.Stored.{slot_seen, slot_there, inline_seen, seen_len}
 use Rattle.congee.proofs.lemmas.owned.Ways.{same_tree}
 

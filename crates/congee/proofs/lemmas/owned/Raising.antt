@@ -1,12 +1,9 @@
 -- What stands in the storage where a node's only child takes the node's place.
-use Rattle.std.proofs.Common.{◌≡◌, ◌≢◌, ℕ, zero, suc, ◌+◌, ◌*◌, ◌/◌, ◌%◌, ◌<◌, ◌≤◌, inl, inr, true, length, get_or, refl, sym, ap, subst, ◌∙◌, arith}
-use Rattle.std.specs.Prelude.{None, Some, is_some}
-use Rattle.std.specs.Ordering.{nat_cmp}
-use Rattle.std.specs.Cmp.{nat_cmp_total}
+use Rattle.std.proofs.Common.{◌≡◌, ◌≢◌, ℕ, zero, suc, ◌+◌, ◌*◌, ◌/◌, ◌%◌, ◌<◌, inl, inr, length, get_or, refl, sym, ap, subst, ◌∙◌, arith}
+use Rattle.std.specs.Prelude.{None, Some}
 use Rattle.std.specs.FinMap as map
 use Rattle.std.proofs.lemmas.List.{get_or-take}
-use Rattle.slab.specs.Slab.{Slab, get, ContainsKey, HasRoomFor, Updates}
-use Rattle.congee.specs.forms.Bytes.{IsFirst}
+use Rattle.slab.specs.Slab.{Slab, get, ContainsKey, HasRoomFor}
 use Rattle.congee.specs.forms.Forms.{children_of, form_of, prefix_of, size_of}
 use Rattle.congee.specs.owned.Arena.{Nodes}
 use Rattle.congee.specs.owned.Entries.{first_byte}
@@ -24,7 +21,7 @@ use Rattle.congee.specs.declared.owned.slots.Slot.{Slot}
 use Rattle.congee.proofs.lemmas.Tree.{same_or_not}
 use Rattle.congee.proofs.lemmas.owned.Folding.{one_child, same_least}
 use Rattle.congee.proofs.lemmas.owned.Hangings.{bytes_two}
-use Rattle.congee.proofs.lemmas.owned.Moves.{apart_of, insert_at, insert_beside, len_one, one_node, stands_at}
+use Rattle.congee.proofs.lemmas.owned.Moves.{apart_of, one_node, stands_at}
 use Rattle.congee.proofs.lemmas.owned.Sizes.{bytes_update, sets_bytes}
 use Rattle.congee.proofs.lemmas.owned.SlotChanges.{inner_own}
 use Rattle.congee.proofs.lemmas.owned.SlotLens.{counted, len_two}

@@ -4,11 +4,10 @@ use Rattle.std.specs.Prelude.{Option, None, Some, IsSome}
 use Rattle.std.specs.Ordering.{nat_cmp}
 use Rattle.std.specs.FinMap as map
 use Rattle.slab.specs.Slab.{Slab, get, ContainsKey, Updates, slab_len}
-use Rattle.congee.specs.forms.Bytes.{IsFirst}
 use Rattle.congee.specs.forms.Forms.{children_of, prefix_of}
 use Rattle.congee.specs.forms.Mapped.{mapped}
 use Rattle.congee.specs.owned.Arena.{Nodes}
-use Rattle.congee.specs.owned.Kinds.{IsInner, len_in}
+use Rattle.congee.specs.owned.Kinds.{len_in}
 use Rattle.congee.specs.owned.Lifting.{GivesOnly, HasOneNode, HasOnly}
 use Rattle.congee.specs.owned.Naming.{IsByte, offset_of}
 use Rattle.congee.specs.owned.Only.{IsOnly}
@@ -19,7 +18,7 @@ use Rattle.congee.specs.declared.forms.child.Child.{Child}
 use Rattle.congee.specs.declared.forms.child.Child.TheVariants.{Blank, Node as Sub, Value}
 use Rattle.congee.specs.declared.owned.lone.Lone.{Lone}
 use Rattle.congee.specs.declared.owned.slots.Slot.{Slot}
-use Rattle.congee.specs.declared.owned.slots.Slot.TheVariants.{Inner, Leaf}
+use Rattle.congee.specs.declared.owned.slots.Slot.TheVariants.{Inner}
 use Rattle.congee.proofs.lemmas.Tree.{same_or_not}
 use Rattle.congee.proofs.lemmas.forms.MappedLemmas.{mapped_empty, mapped_insert}
 use Rattle.congee.proofs.lemmas.owned.Hangings.{only_pair}

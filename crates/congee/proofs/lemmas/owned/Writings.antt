@@ -1,10 +1,10 @@
 -- Pairs of a node, written one after the other.
-use Rattle.std.proofs.Common.{◌≡◌, ℕ, suc, zero, ◌<◌, ◌≤◌, ◌+◌, ◌-◌, ◌^◌, true, false, Bool, List, [], ◌∷◌, ◌++◌, length, get_or, take, drop, set, append-nil, inl, inr, refl, sym, ap, ◌∙◌, subst, arith}
+use Rattle.std.proofs.Common.{◌≡◌, ℕ, ◌<◌, ◌≤◌, ◌+◌, ◌-◌, ◌^◌, true, false, Bool, List, [], ◌∷◌, ◌++◌, length, get_or, take, drop, set, inl, inr, refl, sym, ap, ◌∙◌, subst, arith}
 use Rattle.std.proofs.lemmas.Bool.{cases_lt}
 use Rattle.std.proofs.lemmas.List.{drop-drop, length-set}
 use Rattle.std.specs.FinMap as map
 use Rattle.std.specs.Prelude.{Some, None}
-use Rattle.slab.specs.Slab.{get, ContainsKey}
+use Rattle.slab.specs.Slab.{get}
 use Rattle.congee.specs.Heap.{fits}
 use Rattle.congee.specs.Keys.{key_bytes}
 use Rattle.congee.specs.forms.Bytes.{IsFirst}
@@ -12,19 +12,18 @@ use Rattle.congee.specs.forms.Forms.{children_of}
 use Rattle.congee.specs.owned.Arena.{Nodes, IsTree, heap_of}
 use Rattle.congee.specs.owned.Cursor.{IsCursor, IsAt}
 use Rattle.congee.specs.owned.Ranges.{entries_by, in_range}
-use Rattle.congee.specs.owned.Sights.{HasKey, HasLeaf, child_of}
 use Rattle.congee.specs.owned.Stores.{StandsWith}
 use Rattle.congee.specs.owned.Table.{pairs_of}
 use Rattle.congee.specs.owned.Writes.{Fills, PutsNothing, PutsOne, with_pairs, Continues, Remains, WritesNode}
 use Rattle.congee.specs.declared.forms.base_node.Node.{Node as Form}
 use Rattle.congee.specs.declared.forms.child.Child.{Child}
-use Rattle.congee.specs.declared.forms.child.Child.TheVariants.{Blank, Node as Sub, Value}
+use Rattle.congee.specs.declared.forms.child.Child.TheVariants.{Node as Sub, Value}
 use Rattle.congee.specs.declared.owned.scan.Branch.{Branch}
 use Rattle.congee.specs.declared.owned.writing.Written.{Written}
 use Rattle.congee.proofs.lemmas.owned.Cursors.{SameAhead, step, cursor_cut, ended}
 use Rattle.congee.proofs.lemmas.owned.EntryRanges.{count_entries, no_room_left, take_entries}
 use Rattle.congee.proofs.lemmas.owned.RangeLemmas.{counted, range_none, range_first, pair_written, rest_kept, range_ended}
-use Rattle.congee.proofs.lemmas.owned.Walks.{GoesDown, GoesOn, Passes, goes_down, goes_up, no_blank_there, passes_leaf, passes_value}
+use Rattle.congee.proofs.lemmas.owned.Walks.{Passes, goes_down, goes_up, passes_leaf, passes_value}
 
 -- so far so many places are written
 pub record Filled {E : Type 0} (first count : ℕ) (old new : List E) : Type 0 where

@@ -1,4 +1,4 @@
-use Rattle.std.proofs.Common.{rules, ◌≡◌, ◌++◌, ◌∷◌, [], true, false, length, take, ap, sym, ◌∙◌, subst, arith}
+use Rattle.std.proofs.Common.{rules, ◌≡◌, ◌++◌, ◌∷◌, [], true, false, ◌∙◌, subst}
 use Rattle.congee.specs.owned.Cursor.{IsCursor}
 use Rattle.congee.proofs.lemmas.owned.Cursors.{cursor_cut, last_of, none_left, step}
 use Rattle.congee.proofs.lemmas.owned.Writings.{fills_on, none_above, up_from, whole, whole_count}

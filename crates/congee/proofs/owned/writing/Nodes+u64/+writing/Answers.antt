@@ -1,4 +1,4 @@
-use Rattle.std.proofs.Common.{rules, ℕ, ◌≡◌, ◌<◌, ◌+◌, ◌-◌, ◌*◌, length, sym, ap, refl, subst, ◌∙◌, arith}
+use Rattle.std.proofs.Common.{rules, ℕ, ◌<◌, ◌+◌, ◌-◌, ◌*◌, length, ap, subst, ◌∙◌, arith}
 use Rattle.congee.specs.forms.Bytes.{IsFirst}
 use Rattle.congee.specs.forms.Forms.{children_of}
 use Rattle.congee.specs.owned.Arena.{heap_of}
