@@ -33,15 +33,15 @@ placed scans who told places new place key value t h is e =
 pub returns-in_default : goal.returns-in_default
 returns-in_default c = elim c.if-worker-len.branch [
   | then-worker-len w ↦ record {
-      callers = ap (λ (s : OpenTree). s.callers.items) w.self-is ∙ heard _ _ _ _ _ (omega (arith, c.len.ensures, w.if-worker-len.true)) w.index_mut.ensures.value w.after_step.ensures;
-      scans = rw w.self-is (search rules);
-      world = rw w.self-is (search rules);
-    }
+    callers = ap (λ (s : OpenTree). s.callers.items) w.self-is ∙ heard _ _ _ _ _ (omega (arith, c.len.ensures, w.if-worker-len.true)) w.index_mut.ensures.value w.after_step.ensures;
+    scans = rw w.self-is (search rules);
+    world = rw w.self-is (search rules);
+  }
   | else-worker-len w ↦ record {
-      callers = ap (λ (s : OpenTree). s.callers.items) w.self-is ∙ past _ _ _ (omega (arith, c.len.ensures, w.if-worker-len.false));
-      scans = rw w.self-is (search rules);
-      world = rw w.self-is (search rules);
-    }
+    callers = ap (λ (s : OpenTree). s.callers.items) w.self-is ∙ past _ _ _ (omega (arith, c.len.ensures, w.if-worker-len.false));
+    scans = rw w.self-is (search rules);
+    world = rw w.self-is (search rules);
+  }
 ]
 
 pub returns-in_ok-fill-clause-callers : goal.returns-in_ok-fill-clause-callers
