@@ -22,7 +22,7 @@ one_place a h t m c n b d lm ln e f =
     (p, sym i.byte ∙ (rw p k.byte))
 
 -- in a node that stays in the tree the same hangs as before, but at byte b of node n
-pub graft_child : {V : Type 0} (a : ℕ → Note) (h : ℕ → Node V) (a' : ℕ → Note) (h' : ℕ → Node V) (n b : ℕ) → Graft a h a' h' n b
+graft_child : {V : Type 0} (a : ℕ → Note) (h : ℕ → Node V) (a' : ℕ → Note) (h' : ℕ → Node V) (n b : ℕ) → Graft a h a' h' n b
     → (m c : ℕ) → (a m).status ≡ Linked → (a' m).status ≡ Linked → (m ≡ n → c ≡ b → ⊥) → (h' m).children c ≡ (h m).children c
 graft_child a h a' h' n b g m c l l' ne = elim (same_or_not m n) [
   | inl p ↦ (let P : ℕ → Type 0 = λ k. (k ≡ n → c ≡ b → ⊥) → (h' k).children c ≡ (h k).children c in subst P (sym p) (λ ne'. g.beside c (ne' refl)) ne)

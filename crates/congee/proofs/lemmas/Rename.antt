@@ -83,7 +83,7 @@ module _ {V : Type 0} (new : ℕ → ℕ) (a : ℕ → Note) (h : ℕ → Node V
   renamed_child f g (Below c) e = e c refl
   renamed_child f g (Holds v) e = refl
 
-  pub renamed_walk : (f n : ℕ) (key : List ℕ) → (a n).status ≡ Linked → walk h' f (new n) key ≡ walk h f n key
+  renamed_walk : (f n : ℕ) (key : List ℕ) → (a n).status ≡ Linked → walk h' f (new n) key ≡ walk h f n key
   renamed_walk zero n key l = refl
   renamed_walk (suc f) n key l =
       let b : ℕ = get_or key (length (h n).prefix) 0 in
@@ -196,7 +196,7 @@ module _ {V : Type 0} (a : ℕ → Note) (h : ℕ → Node V) (a' : ℕ → Note
   ]
 
   -- a node comes under another name: its old name is free then
-  pub moves_renamed : Renamed (in_place n m) a h a' h'
+  moves_renamed : Renamed (in_place n m) a h a' h'
   moves_renamed = record { root = kept 0 root_kept; linked = linked_at; only = only_at; parent = parent_at; prefix = prefix_at; children = children_at }
 
   pub move_tree : Tree a' h'

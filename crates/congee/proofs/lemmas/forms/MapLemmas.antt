@@ -20,7 +20,7 @@ find_std q [] = refl
 find_std q ((k, x) ∷ r) = rw (same_is q k) (ap (cond (eqb q k) (Some x)) (find_std q r))
 
 -- the map's insertion into a list is the one by tests of numbers
-pub put_std : {X : Type 0} (q : ℕ) (v : X) (es : List (ℕ × X)) → map.put nat_cmp q v es ≡ put q v es
+put_std : {X : Type 0} (q : ℕ) (v : X) (es : List (ℕ × X)) → map.put nat_cmp q v es ≡ put q v es
 put_std q v [] = refl
 put_std q v ((k, x) ∷ r) = grind (arith, nat_tests, put_std q v r)
 
@@ -39,15 +39,15 @@ is_sorted_true [] r = refl
 is_sorted_true ((k, x) ∷ es) r = both_true _ _ (below_all_std k es r.0) (is_sorted_true es r.1)
 
 -- a rising list is sorted as the map wants it
-pub is_sorted_std : {X : Type 0} (es : List (ℕ × X)) → Rises es → T (map.is_sorted nat_cmp es)
+is_sorted_std : {X : Type 0} (es : List (ℕ × X)) → Rises es → T (map.is_sorted nat_cmp es)
 is_sorted_std es r = subst T (sym (is_sorted_true es r)) tt
 
 module _ {X : Type 0} where
   -- the map of a rising list
-  abbrev pub map_of : List (ℕ × X) → map.FinMap nat_cmp X
+  abbrev map_of : List (ℕ × X) → map.FinMap nat_cmp X
   map_of es = map.from_sorted es
 
-  pub entries_of : (es : List (ℕ × X)) → Rises es → map.entries (map_of es) ≡ es
+  entries_of : (es : List (ℕ × X)) → Rises es → map.entries (map_of es) ≡ es
   entries_of es r = map.entries-from_sorted nat_cmp es (is_sorted_std es r)
 
   pub get_of : (es : List (ℕ × X)) (q : ℕ) → Rises es → map.get (map_of es) q ≡ find q es

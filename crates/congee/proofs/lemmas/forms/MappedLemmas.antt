@@ -86,7 +86,7 @@ module _ {X Y : Type 0} (f : ℕ → X → Y) where
     pub here : map.get m q ≡ Some value
     pub is : f q value ≡ y
 
-  pub mapped_some : (m : map.FinMap nat_cmp X) (q : ℕ) (y : Y) → map.get (mapped f m) q ≡ Some y → Before m q y
+  mapped_some : (m : map.FinMap nat_cmp X) (q : ℕ) (y : Y) → map.get (mapped f m) q ≡ Some y → Before m q y
   mapped_some m q y e = of (map.get m q) refl (sym (get_mapped m q) ∙ e)
     where
       of : (o : Option X) → map.get m q ≡ o → option_map (f q) o ≡ Some y → Before m q y

@@ -12,7 +12,7 @@ fits_every (x ∷ p) [] l e = absurd (omega arith)
 fits_every (x ∷ p) (y ∷ key) l e = and_true _ _ (same_test x y (sym (e 0 (omega arith)))) (fits_every p key (omega arith) (λ j b. e (suc j) (omega arith)))
 
 -- a prefix doesn't begin a key that differs from it in a byte
-pub fits_not : (p key : List ℕ) (j : ℕ) → j < length p → get_or key j 0 ≢ get_or p j 0 → fits p key ≡ false
+fits_not : (p key : List ℕ) (j : ℕ) → j < length p → get_or key j 0 ≢ get_or p j 0 → fits p key ≡ false
 fits_not p key j l ne = on_test (fits p key) (λ t. absurd (ne (fits_byte p key j t l))) (λ f. f)
 
 -- a key and a prefix that it lacks are the same for one byte more

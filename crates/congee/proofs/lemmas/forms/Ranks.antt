@@ -167,7 +167,7 @@ module _ (n : ℕ) (xs ys : List ℕ) (len p b : ℕ) (row : IsRow n xs len) (si
         ])
 
 -- a property of each byte beside an entry
-pub all_at : {X : Type 0} (P : ℕ → Type 0) (ks : List ℕ) (ys : List X) → length ks ≡ length ys → AllKeys P (pairs ks ys) → (i : ℕ) → i < length ks → P (get_or ks i 0)
+all_at : {X : Type 0} (P : ℕ → Type 0) (ks : List ℕ) (ys : List X) → length ks ≡ length ys → AllKeys P (pairs ks ys) → (i : ℕ) → i < length ks → P (get_or ks i 0)
 all_at P [] ys e a i l = absurd (omega (arith, l))
 all_at P (k ∷ ks) [] e a i l = absurd (omega (arith, e))
 all_at P (k ∷ ks) (y ∷ ys) e a zero l = a.0

@@ -29,16 +29,16 @@ next_stands {b} {p} {k} {ks} s = record {
 
 module _ {X : Type 0} where
   -- smaller than every key of an ascending list: absent
-  pub find_above : (b k : ℕ) (r : List (ℕ × X)) → b ≤ k → AllKeys (λ j. k < j) r → find b r ≡ None
+  find_above : (b k : ℕ) (r : List (ℕ × X)) → b ≤ k → AllKeys (λ j. k < j) r → find b r ≡ None
   find_above b k [] h a = refl
   find_above b k ((j, x) ∷ r) h a = grind (arith, nat_tests, find_above b k r h a.1, a.0)
 
-  pub del_above : (b k : ℕ) (r : List (ℕ × X)) → b ≤ k → AllKeys (λ j. k < j) r → del b r ≡ r
+  del_above : (b k : ℕ) (r : List (ℕ × X)) → b ≤ k → AllKeys (λ j. k < j) r → del b r ≡ r
   del_above b k [] h a = refl
   del_above b k ((j, x) ∷ r) h a = grind (arith, nat_tests, del_above b k r h a.1, a.0)
 
   -- the key stands there
-  pub find_found : (b p : ℕ) (ks : List ℕ) (ys : List X) (d : X) → length ks ≡ length ys → IsPlaceOf b p ks → p < length ks → get_or ks p 0 ≡ b → find b (pairs ks ys) ≡ Some (get_or ys p d)
+  find_found : (b p : ℕ) (ks : List ℕ) (ys : List X) (d : X) → length ks ≡ length ys → IsPlaceOf b p ks → p < length ks → get_or ks p 0 ≡ b → find b (pairs ks ys) ≡ Some (get_or ys p d)
   find_found b p [] ys d l s h e = absurd (omega arith)
   find_found b p (k ∷ ks) [] d l s h e = absurd (omega arith)
   find_found b zero (k ∷ ks) (y ∷ ys) d l s h e = grind (arith, nat_tests)
@@ -48,7 +48,7 @@ module _ {X : Type 0} where
       grind (arith, nat_tests, less, rest)
 
   -- the key stands nowhere
-  pub find_absent : (b p : ℕ) (ks : List ℕ) (ys : List X) → length ks ≡ length ys → Rises (pairs ks ys) → IsPlaceOf b p ks → (p < length ks → b < get_or ks p 0) → find b (pairs ks ys) ≡ None
+  find_absent : (b p : ℕ) (ks : List ℕ) (ys : List X) → length ks ≡ length ys → Rises (pairs ks ys) → IsPlaceOf b p ks → (p < length ks → b < get_or ks p 0) → find b (pairs ks ys) ≡ None
   find_absent b p [] ys l r s h = refl
   find_absent b p (k ∷ ks) [] l r s h = refl
   find_absent b zero (k ∷ ks) (y ∷ ys) l r s h =
@@ -61,7 +61,7 @@ module _ {X : Type 0} where
       grind (arith, nat_tests, less, rest)
 
   -- a new key
-  pub insert_put : (b p : ℕ) (y : X) (ks : List ℕ) (ys : List X) → length ks ≡ length ys → IsPlaceOf b p ks → (p < length ks → b < get_or ks p 0) → pairs (insert ks p b) (insert ys p y) ≡ put b y (pairs ks ys)
+  insert_put : (b p : ℕ) (y : X) (ks : List ℕ) (ys : List X) → length ks ≡ length ys → IsPlaceOf b p ks → (p < length ks → b < get_or ks p 0) → pairs (insert ks p b) (insert ys p y) ≡ put b y (pairs ks ys)
   insert_put b zero y [] [] l s h = refl
   insert_put b (suc p) y [] ys l s h = absurd (omega (arith, s.within))
   insert_put b p y [] (z ∷ ys) l s h = absurd (omega arith)
@@ -75,7 +75,7 @@ module _ {X : Type 0} where
       grind (arith, nat_tests, less, rest)
 
   -- the key goes
-  pub remove_del : (b p : ℕ) (ks : List ℕ) (ys : List X) → length ks ≡ length ys → Rises (pairs ks ys) → IsPlaceOf b p ks → p < length ks → get_or ks p 0 ≡ b → pairs (remove ks p) (remove ys p) ≡ del b (pairs ks ys)
+  remove_del : (b p : ℕ) (ks : List ℕ) (ys : List X) → length ks ≡ length ys → Rises (pairs ks ys) → IsPlaceOf b p ks → p < length ks → get_or ks p 0 ≡ b → pairs (remove ks p) (remove ys p) ≡ del b (pairs ks ys)
   remove_del b p [] ys l r s h e = absurd (omega arith)
   remove_del b p (k ∷ ks) [] l r s h e = absurd (omega arith)
   remove_del b zero (k ∷ ks) (y ∷ ys) l r s h e =
@@ -87,7 +87,7 @@ module _ {X : Type 0} where
       grind (arith, nat_tests, less, rest)
 
   -- another child for the key
-  pub set_put : (b p : ℕ) (y : X) (ks : List ℕ) (ys : List X) → length ks ≡ length ys → IsPlaceOf b p ks → p < length ks → get_or ks p 0 ≡ b → pairs ks (set ys p y) ≡ put b y (pairs ks ys)
+  set_put : (b p : ℕ) (y : X) (ks : List ℕ) (ys : List X) → length ks ≡ length ys → IsPlaceOf b p ks → p < length ks → get_or ks p 0 ≡ b → pairs ks (set ys p y) ≡ put b y (pairs ks ys)
   set_put b p y [] ys l s h e = absurd (omega arith)
   set_put b p y (k ∷ ks) [] l s h e = absurd (omega arith)
   set_put b zero y (k ∷ ks) (z ∷ ys) l s h e = grind (arith, nat_tests)
@@ -96,13 +96,13 @@ module _ {X : Type 0} where
       let rest = set_put b p y ks ys (omega arith) (next_stands s) (omega arith) e in
       grind (arith, nat_tests, less, rest)
 
-  pub length_pairs : (ks : List ℕ) (ys : List X) → length ks ≡ length ys → length (pairs ks ys) ≡ length ks
+  length_pairs : (ks : List ℕ) (ys : List X) → length ks ≡ length ys → length (pairs ks ys) ≡ length ks
   length_pairs [] ys l = refl
   length_pairs (k ∷ ks) [] l = sym l
   length_pairs (k ∷ ks) (y ∷ ys) l = omega (arith, length_pairs ks ys (omega arith))
 
   -- a key that is absent isn't at its place
-  pub less_there : (b p : ℕ) (ks : List ℕ) (ys : List X) → length ks ≡ length ys → IsPlaceOf b p ks → find b (pairs ks ys) ≡ None → p < length ks → b < get_or ks p 0
+  less_there : (b p : ℕ) (ks : List ℕ) (ys : List X) → length ks ≡ length ys → IsPlaceOf b p ks → find b (pairs ks ys) ≡ None → p < length ks → b < get_or ks p 0
   less_there b p [] ys l s f h = absurd (omega arith)
   less_there b p (k ∷ ks) [] l s f h = absurd (omega arith)
   less_there b zero (k ∷ ks) (y ∷ ys) l s f h =

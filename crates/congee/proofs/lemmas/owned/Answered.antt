@@ -71,7 +71,7 @@ module _ {P : Type 0} where
     unchanged : (o : Option P) → value_at (heap_of s) (key_bytes k) ≡ o → (m : Pairs P) → HoldsPairs s m → HoldsPairs s (set_at m k o)
     unchanged o e m st = rw (set_at-standing m k o (st.at k small ∙ e)) st
 
-    pub answered_get : (o : Option P) → value_at (heap_of s) (key_bytes k) ≡ o → Answered same s s (call.Get k) (reply.Get o)
+    answered_get : (o : Option P) → value_at (heap_of s) (key_bytes k) ≡ o → Answered same s s (call.Get k) (reply.Get o)
     answered_get o e = record {
       replies = λ m st. ap reply.Get (st.at k small ∙ e);
       leaves = λ m st. rw (st.at k small ∙ e) (unchanged o e m st);
@@ -104,13 +104,13 @@ module _ {P : Type 0} where
       leaves = λ m st. rw (st.at k small ∙ c.was, e) (changed (Some found) new c m st);
     }
 
-    pub exchange_other : (old found : P) (new : Option P) → same found old ≡ false → value_at (heap_of s) (key_bytes k) ≡ Some found → Answered same s s (call.Exchange k old new) (reply.Exchange (Err (Some found)))
+    exchange_other : (old found : P) (new : Option P) → same found old ≡ false → value_at (heap_of s) (key_bytes k) ≡ Some found → Answered same s s (call.Exchange k old new) (reply.Exchange (Err (Some found)))
     exchange_other old found new e v = record {
       replies = λ m st. rw (st.at k small ∙ v, e) refl;
       leaves = λ m st. rw (st.at k small ∙ v, e) (unchanged (Some found) v m st);
     }
 
-    pub exchange_absent : (old : P) (new : Option P) → value_at (heap_of s) (key_bytes k) ≡ None → Answered same s s (call.Exchange k old new) (reply.Exchange (Err None))
+    exchange_absent : (old : P) (new : Option P) → value_at (heap_of s) (key_bytes k) ≡ None → Answered same s s (call.Exchange k old new) (reply.Exchange (Err None))
     exchange_absent old new v = record {
       replies = λ m st. rw (st.at k small ∙ v) refl;
       leaves = λ m st. rw (st.at k small ∙ v) (unchanged None v m st);

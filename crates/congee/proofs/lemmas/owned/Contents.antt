@@ -34,7 +34,7 @@ use Rattle.congee.proofs.lemmas.owned.Wanting.{get_wants, same_wants}
 use Rattle.congee.proofs.lemmas.owned.Ways.{same_tree}
 
 -- where the charge moves as the nodes' sizes do, what was charged before them stays
-pub base_kept : {P A : Type 0} (charged : A → ℕ) (old new : Arena P A) → Covers charged old → Balances charged old new
+base_kept : {P A : Type 0} (charged : A → ℕ) (old new : Arena P A) → Covers charged old → Balances charged old new
     → charged new.allocator - bytes_of new.nodes ≡ charged old.allocator - bytes_of old.nodes
 base_kept charged old new c b = omega (arith, c, b)
 
@@ -61,7 +61,7 @@ module _ {P A : Type 0} (same : P → P → Bool) (charged limit : A → ℕ) (o
   pub insert_told : (before : Option P) (v : P) (wants : Option (List ℕ)) → Adds charged limit old new key before v wants → Told (call.Insert k v) (reply.Insert before)
   insert_told before v wants a = told (call.Insert k v) (reply.Insert before) (answered_insert same old.nodes new.nodes k small before v (at_key before (Some v) a.edits.change))
 
-  pub compute_told : (before : Option P) (v : P) (wants : Option (List ℕ)) → Adds charged limit old new key before v wants → Told (call.ComputeInsert k v) (reply.ComputeInsert before)
+  compute_told : (before : Option P) (v : P) (wants : Option (List ℕ)) → Adds charged limit old new key before v wants → Told (call.ComputeInsert k v) (reply.ComputeInsert before)
   compute_told before v wants a = told (call.ComputeInsert k v) (reply.ComputeInsert before) (answered_compute same old.nodes new.nodes k small before v (at_key before (Some v) a.edits.change))
 
   pub remove_told : (before : Option P) (going : Option Going) → Frees charged limit old new key before None going → Told (call.Remove k) (reply.Remove before)

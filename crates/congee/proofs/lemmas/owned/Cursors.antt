@@ -125,18 +125,18 @@ module _ {P : Type 0} (s : Nodes P) where
   child_there n b x c d e f g = rw (e, f, g) refl
 
   -- the keys ahead of one step more
-  pub ahead_split : (steps : List Branch) (a : Branch) (key : List ℕ) → IsAhead s (steps ++ a ∷ []) key → IsAhead s steps key ⊎ HasAhead s a key
+  ahead_split : (steps : List Branch) (a : Branch) (key : List ℕ) → IsAhead s (steps ++ a ∷ []) key → IsAhead s steps key ⊎ HasAhead s a key
   ahead_split [] a key h = elim h [ inl c ↦ inr c | inr none ↦ absurd none ]
   ahead_split (b ∷ rest) a key h = elim h [
     | inl c ↦ inl (inl c)
     | inr r ↦ elim (ahead_split rest a key r) [ inl x ↦ inl (inr x) | inr y ↦ inr y ]
   ]
 
-  pub ahead_left : (steps : List Branch) (a : Branch) (key : List ℕ) → IsAhead s steps key → IsAhead s (steps ++ a ∷ []) key
+  ahead_left : (steps : List Branch) (a : Branch) (key : List ℕ) → IsAhead s steps key → IsAhead s (steps ++ a ∷ []) key
   ahead_left [] a key h = absurd h
   ahead_left (b ∷ rest) a key h = elim h [ inl c ↦ inl c | inr r ↦ inr (ahead_left rest a key r) ]
 
-  pub ahead_right : (steps : List Branch) (a : Branch) (key : List ℕ) → HasAhead s a key → IsAhead s (steps ++ a ∷ []) key
+  ahead_right : (steps : List Branch) (a : Branch) (key : List ℕ) → HasAhead s a key → IsAhead s (steps ++ a ∷ []) key
   ahead_right [] a key h = inl h
   ahead_right (b ∷ rest) a key h = inr (ahead_right rest a key h)
 
@@ -161,7 +161,7 @@ module _ {P : Type 0} (s : Nodes P) where
   on_longer a [] b c l f h = (h.0, (l, f))
   on_longer a (d ∷ rest) b c l f h = (h.0, on_longer d rest b c l f h.1)
 
-  pub cursor_longer : (steps : List Branch) (b c : Branch) → HangsBelow s b c → c.from ≤ 256 → IsCursor s (steps ++ b ∷ []) → IsCursor s ((steps ++ b ∷ []) ++ c ∷ [])
+  cursor_longer : (steps : List Branch) (b c : Branch) → HangsBelow s b c → c.from ≤ 256 → IsCursor s (steps ++ b ∷ []) → IsCursor s ((steps ++ b ∷ []) ++ c ∷ [])
   cursor_longer [] b c l f h = (h.0, (l, f))
   cursor_longer (a ∷ rest) b c l f h = (h.0, on_longer a rest b c l f h.1)
 
@@ -207,25 +207,25 @@ module _ {P : Type 0} (s : Nodes P) (t : IsTree s) where
       absurd (cc (h, none))
 
   -- goes on to a child
-  pub finds_child : (q n : ℕ) → IsSome (map.get (pairs_of s) q) → ContainsKey s n → fits (heap_of s n).prefix (key_bytes q) ≡ true
+  finds_child : (q n : ℕ) → IsSome (map.get (pairs_of s) q) → ContainsKey s n → fits (heap_of s n).prefix (key_bytes q) ≡ true
       → child_for (heap_of s n) (key_bytes q) ≡ Nothing → ⊥
   finds_child q n h c f e = absent q h (at_free s (key_bytes q) n t (record { stands = c; fitted = f }) e)
 
   -- and has the prefix of a node there
-  pub fits_child : (q n below : ℕ) → IsSome (map.get (pairs_of s) q) → ContainsKey s n → fits (heap_of s n).prefix (key_bytes q) ≡ true
+  fits_child : (q n below : ℕ) → IsSome (map.get (pairs_of s) q) → ContainsKey s n → fits (heap_of s n).prefix (key_bytes q) ≡ true
       → child_for (heap_of s n) (key_bytes q) ≡ Below below → fits (heap_of s below).prefix (key_bytes q) ≡ true
   fits_child q n below h c f e = on_test (fits (heap_of s below).prefix (key_bytes q)) (λ y. y)
       (λ no. absurd (absent q h (at_apart s (key_bytes q) n below t (record { stands = c; fitted = f }) e no)))
 
   -- numbers with one prefix are in the order of the byte that follows it
-  pub less_at : (n k q : ℕ) → ContainsKey s n → k < 2 ^ 64 → q < 2 ^ 64 → fits (heap_of s n).prefix (key_bytes k) ≡ true → fits (heap_of s n).prefix (key_bytes q) ≡ true
+  less_at : (n k q : ℕ) → ContainsKey s n → k < 2 ^ 64 → q < 2 ^ 64 → fits (heap_of s n).prefix (key_bytes k) ≡ true → fits (heap_of s n).prefix (key_bytes q) ≡ true
       → get_or (key_bytes k) (length (heap_of s n).prefix) 0 < get_or (key_bytes q) (length (heap_of s n).prefix) 0 → k < q
   less_at n k q c lk lq fk fq l =
       let b = short_prefix s t n c in
       less_at_first_byte k q (length (heap_of s n).prefix) lk lq (omega (arith, b))
       (λ j lt. fits_byte (heap_of s n).prefix (key_bytes k) j fk lt ∙ sym (fits_byte (heap_of s n).prefix (key_bytes q) j fq lt)) l
 
-  pub byte_from : (n k q : ℕ) → ContainsKey s n → k ≤ q → q < 2 ^ 64 → fits (heap_of s n).prefix (key_bytes k) ≡ true → fits (heap_of s n).prefix (key_bytes q) ≡ true
+  byte_from : (n k q : ℕ) → ContainsKey s n → k ≤ q → q < 2 ^ 64 → fits (heap_of s n).prefix (key_bytes k) ≡ true → fits (heap_of s n).prefix (key_bytes q) ≡ true
       → get_or (key_bytes k) (length (heap_of s n).prefix) 0 ≤ get_or (key_bytes q) (length (heap_of s n).prefix) 0
   byte_from n k q c l lq fk fq = elim (cases_lt (get_or (key_bytes q) (length (heap_of s n).prefix) 0) (get_or (key_bytes k) (length (heap_of s n).prefix) 0)) [
     | inl under ↦ (let b = less_at n q k c lq (omega (arith, l, lq)) fq fk under in absurd (omega (arith, b, l)))
@@ -310,7 +310,7 @@ module _ {P : Type 0} (s : Nodes P) (t : IsTree s) where
     | inr r ↦ on_after d rest b k q (child_stands a d c h.0) h.1 lk lq f r
   ]
 
-  pub comes_before : (steps : List Branch) (b : Branch) (k q : ℕ) → IsCursor s (steps ++ b ∷ []) → k < 2 ^ 64 → q < 2 ^ 64
+  comes_before : (steps : List Branch) (b : Branch) (k q : ℕ) → IsCursor s (steps ++ b ∷ []) → k < 2 ^ 64 → q < 2 ^ 64
       → fits (heap_of s b.node).prefix (key_bytes k) ≡ true → IsAhead s steps (key_bytes q) → k < q
   comes_before [] b k q h lk lq f ahead = absurd ahead
   comes_before (a ∷ rest) b k q h lk lq f ahead = on_after a rest b k q (root_stands a h.0) h.1 lk lq f ahead

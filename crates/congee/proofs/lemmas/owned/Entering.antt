@@ -79,7 +79,7 @@ module _ {P : Type 0} (x : List ℕ) where
   full_by (N48 n) = rw (len_mapped (child_by x) n.value.children) refl
   full_by (N256 n) = refl
 
-  pub becomes_by : (p p' : Places P) (m : map.FinMap nat_cmp (Entry P)) → Refills p p' m → Becomes (node_by x p) (node_by x p') (mapped (child_by x) m)
+  becomes_by : (p p' : Places P) (m : map.FinMap nat_cmp (Entry P)) → Refills p p' m → Becomes (node_by x p) (node_by x p') (mapped (child_by x) m)
   becomes_by p p' m r = record {
     form = form_by p' ∙ (r.form ∙ sym (form_by p));
     prefix = prefix_by p' ∙ sym (prefix_by p);

@@ -22,7 +22,7 @@ use Rattle.congee.proofs.lemmas.owned.Moves.{insert_at, insert_beside, node_at, 
 use Rattle.congee.proofs.lemmas.owned.SlotLens.{counted, len_update}
 
 -- a key's first seven bytes
-pub key_prefix : (p key : List ℕ) → length p ≡ 7 → length key ≡ 8 → ((j : ℕ) → j < 7 → get_or key j 0 ≡ get_or p j 0) → take 7 key ≡ p
+key_prefix : (p key : List ℕ) → length p ≡ 7 → length key ≡ 8 → ((j : ℕ) → j < 7 → get_or key j 0 ≡ get_or p j 0) → take 7 key ≡ p
 key_prefix p key seven whole bytes =
     let l : length (take 7 key) ≡ 7 = length-take-le 7 key (omega (arith, whole)) in
     same_number_lists (take 7 key) p (l ∙ sym seven) (λ k h. let low : k < 7 = omega (arith, h, l) in get_or-take 7 key k 0 low ∙ bytes k low)

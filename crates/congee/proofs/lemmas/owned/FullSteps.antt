@@ -130,7 +130,7 @@ module _ {P : Type 0} where
         ])
 
 -- a lesser node that was wanted, and isn't there, was skipped
-pub came_not : (form : NodeType) (n before after gone : ℕ) → shrinks form n ≡ true → after + gone ≡ before → LesserCame before after gone (lesser_if (shrinks form n) form) → ⊥
+came_not : (form : NodeType) (n before after gone : ℕ) → shrinks form n ≡ true → after + gone ≡ before → LesserCame before after gone (lesser_if (shrinks form n) form) → ⊥
 came_not N4 n before after gone s e c = let z : false ≡ true = s in cc
 came_not N16 n before after gone s e c = let k : after + gone + 168 ≡ before + 64 = subst (λ b. LesserCame before after gone (lesser_if b N16)) s c in omega (arith, k, e)
 came_not N48 n before after gone s e c = let k : after + gone + 672 ≡ before + 168 = subst (λ b. LesserCame before after gone (lesser_if b N48)) s c in omega (arith, k, e)

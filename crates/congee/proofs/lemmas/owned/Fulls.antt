@@ -70,13 +70,13 @@ two_least : (size : ℕ) → size < 7 → 2 ≤ cond (ltb size 7) 2 1
 two_least size l = rw (lt-ltb size 7 l) (omega arith)
 
 -- a node that lacks no children has enough
-pub has_enough : (form : NodeType) (size count : ℕ) → fewest form size - count ≡ 0 → FilledAs size count (capacity_of form)
+has_enough : (form : NodeType) (size count : ℕ) → fewest form size - count ≡ 0 → FilledAs size count (capacity_of form)
 has_enough form size count e =
     let one = some_least (ltb size 7) in
     filled_as form size count (omega (arith, e, one)) (λ l. let two = two_least size l in omega (arith, e, two)) (omega (arith, e))
 
 -- a node that has enough children lacks none
-pub lacks_none : (form : NodeType) (size count : ℕ) → FilledAs size count (capacity_of form) → fewest form size - count ≡ 0
+lacks_none : (form : NodeType) (size count : ℕ) → FilledAs size count (capacity_of form) → fewest form size - count ≡ 0
 lacks_none form size count f =
     let least = least_of form size count f in
     let more = of (ltb size 7) refl in
@@ -122,7 +122,7 @@ module _ {P : Type 0} where
   beside_root (x ∷ xs) j = refl
 
   -- all nodes but the root have enough exactly where none lacks a child
-  pub filled_where : (s : Nodes P) → lacking_of s ≡ 0 → NodesFilled s
+  filled_where : (s : Nodes P) → lacking_of s ≡ 0 → NodesFilled s
   unfolding lacking_of
   filled_where s e zero x ne at = absurd (ne refl)
   filled_where s e (suc n) x ne at = each_enough (drop 1 s.slots) e n x (beside_root s.slots n ∙ at)
@@ -228,7 +228,7 @@ filled_least size k one two = filled_as N4 size k one two (omega arith)
 
 -- how many pairs a map has after a change at one key
 module _ {X : Type 0} where
-  pub len_kept : (m : map.FinMap nat_cmp X) (k : ℕ) (x y : X) → map.get m k ≡ Some y → map.len (map.insert m k x) ≡ map.len m
+  len_kept : (m : map.FinMap nat_cmp X) (k : ℕ) (x y : X) → map.get m k ≡ Some y → map.len (map.insert m k x) ≡ map.len m
   len_kept m k x y e = let c : map.contains_key m k ≡ true = ap is_some e in map.len-insert nat_cmp_total m k x ∙ rw c refl
 
   pub len_more : (m : map.FinMap nat_cmp X) (k : ℕ) (x : X) → map.get m k ≡ None → map.len (map.insert m k x) ≡ suc (map.len m)

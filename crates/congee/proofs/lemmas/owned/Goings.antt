@@ -76,15 +76,15 @@ module _ {V : Type 0} where
     | inr ne ↦ record { up = t.parent n; same = lead _ (heap_of s) t.tree (length (heap_of s n).prefix) n key (omega arith) (linked_of s t.parent n w.stands) w.fitted ne }
   ]
 
-  pub goes_free : (s : Nodes V) (key : List ℕ) (n : ℕ) → IsTree s → OnWay s key n → child_for (heap_of s n) key ≡ Nothing → goes_at (heap_of s) key ≡ None
+  goes_free : (s : Nodes V) (key : List ℕ) (n : ℕ) → IsTree s → OnWay s key n → child_for (heap_of s n) key ≡ Nothing → goes_at (heap_of s) key ≡ None
   unfolding goes_at
   goes_free s key n t w e = let k = led s key n t w in k.same ∙ enter (heap_of s) 7 k.up n key Nothing w.fitted e
 
-  pub goes_apart : (s : Nodes V) (key : List ℕ) (n c : ℕ) → IsTree s → OnWay s key n → child_for (heap_of s n) key ≡ Below c → fits (heap_of s c).prefix key ≡ false → goes_at (heap_of s) key ≡ None
+  goes_apart : (s : Nodes V) (key : List ℕ) (n c : ℕ) → IsTree s → OnWay s key n → child_for (heap_of s n) key ≡ Below c → fits (heap_of s c).prefix key ≡ false → goes_at (heap_of s) key ≡ None
   unfolding goes_at
   goes_apart s key n c t w e f = let k = led s key n t w in k.same ∙ (enter (heap_of s) 7 k.up n key (Below c) w.fitted e ∙ rw f refl)
 
-  pub goes_held : (s : Nodes V) (key : List ℕ) (above n : ℕ) (v : V) → IsTree s → OnWay s key n → Hangs s key above n → child_for (heap_of s n) key ≡ Holds v
+  goes_held : (s : Nodes V) (key : List ℕ) (above n : ℕ) (v : V) → IsTree s → OnWay s key n → Hangs s key above n → child_for (heap_of s n) key ≡ Holds v
       → goes_at (heap_of s) key ≡ Some (going_from (heap_of s) above n)
   unfolding goes_at
   goes_held s key above n v t w h e =

@@ -110,7 +110,7 @@ module _ {P : Type 0} where
       omega (arith, i.longer, l, p)
 
   -- such a node has a slot of its own, or lies in its parent's place
-  pub child_node : (s : Nodes P) → IsTree s → (key : List ℕ) (n c b : ℕ) → ContainsKey s n → child_for (heap_of s n) key ≡ Below c → HasOwnSlot c
+  child_node : (s : Nodes P) → IsTree s → (key : List ℕ) (n c b : ℕ) → ContainsKey s n → child_for (heap_of s n) key ≡ Below c → HasOwnSlot c
       → b ≡ get_or key (length (heap_of s n).prefix) 0 → (x : Form ℕ P) → get s n ≡ Some x → HasNode (map.get (children_of x) b)
   child_node s t key n c b st h own is x e = subst HasNode (sym (child_there s t key n c st h x e b is)) own
 
@@ -441,7 +441,7 @@ module _ {P : Type 0} where
   pub hung_stands : (s : Nodes P) → IsTree s → (key : List ℕ) (above at : ℕ) → Hangs s key above at → ContainsKey s at
   hung_stands s t key above at h = below_stands s t above at key h.way.stands h.child
 
-  pub not_renamed : (s : Nodes P) → IsTree s → Renamed s s
+  not_renamed : (s : Nodes P) → IsTree s → Renamed s s
   not_renamed s t = record { tree = t; values = λ k. refl; bytes = refl; filled = λ h. h }
 
   -- a node that was just made, and then got a leaf

@@ -25,7 +25,7 @@ pub front_fits : (n : ℕ) (key : List ℕ) → n ≤ length key → fits (take 
 front_fits n key l = fits_every (take n key) key (rw (length-take-le n key l) l) (λ j b. sym (get_or-take n key j 0 (rw (length-take-le n key l) at b)))
 
 -- a tree of nodes that are the same as far as they are linked
-pub agree_tree : {V : Type 0} (a : ℕ → Note) (h h' : ℕ → Node V) → ((n : ℕ) → (a n).status ≡ Linked → h' n ≡ h n) → Tree a h → Tree a h'
+agree_tree : {V : Type 0} (a : ℕ → Note) (h h' : ℕ → Node V) → ((n : ℕ) → (a n).status ≡ Linked → h' n ≡ h n) → Tree a h → Tree a h'
 agree_tree a h h' e t = record {
   root = t.root;
   empty = rw (e 0 t.root) t.empty;
@@ -46,7 +46,7 @@ agree_tree a h h' e t = record {
 }
 
 -- a walk from a node of the tree finds the same where all nodes of the tree are as they were
-pub agree_walk : {V : Type 0} (a : ℕ → Note) (h h' : ℕ → Node V) → ((n : ℕ) → (a n).status ≡ Linked → h' n ≡ h n) → Tree a h
+agree_walk : {V : Type 0} (a : ℕ → Note) (h h' : ℕ → Node V) → ((n : ℕ) → (a n).status ≡ Linked → h' n ≡ h n) → Tree a h
     → (f n : ℕ) (key : List ℕ) → (a n).status ≡ Linked → walk h' f n key ≡ walk h f n key
 agree_walk a h h' e t zero n key l = refl
 agree_walk a h h' e t (suc f) n key l =

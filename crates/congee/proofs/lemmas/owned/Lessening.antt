@@ -71,7 +71,7 @@ module _ {P : Type 0} (s : Slab (Slot P)) (v : Nodes P) (is : nodes_in s ≡ v) 
         let r = room y.0 y.1 in
         omega (arith, l, f, r)
 
-    pub great_memory : form_below (form_in x) ≢ N4 → (y : Node ℕ P) → get v at ≡ Some y → form_below (form_of y) ≢ N4
+    great_memory : form_below (form_in x) ≢ N4 → (y : Node ℕ P) → get v at ≡ Some y → form_below (form_of y) ≢ N4
     great_memory ne y h q = ne (ap form_below (sym (great_form y h)) ∙ q)
 
     module _ (x' : Slot P) where

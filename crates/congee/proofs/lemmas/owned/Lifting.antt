@@ -21,7 +21,7 @@ use Rattle.congee.proofs.lemmas.owned.Moves.{insert_at, insert_beside, stands_at
 use Rattle.congee.proofs.lemmas.owned.Ways.{linked_of, stands_of}
 
 -- a node with a node's name at a byte
-abbrev pub with_below : {V : Type 0} → Seen V → ℕ → ℕ → Seen V
+abbrev with_below : {V : Type 0} → Seen V → ℕ → ℕ → Seen V
 with_below n b o = record {
   prefix = n.prefix;
   children = λ c. cond (c == b) (Below o) (n.children c);

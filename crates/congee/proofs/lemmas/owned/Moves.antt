@@ -61,13 +61,13 @@ module _ {P : Type 0} where
   pub one_node : (s : Nodes P) (n : ℕ) (x y : Form ℕ P) → get s n ≡ Some x → get s n ≡ Some y → x ≡ y
   one_node s n x y e f = let z : Some x ≡ Some y = sym e ∙ f in cc
 
-  pub held_child : (o : Option (Child ℕ P)) (v : P) → hung_in o ≡ Holds v → o ≡ Some (Value v)
+  held_child : (o : Option (Child ℕ P)) (v : P) → hung_in o ≡ Holds v → o ≡ Some (Value v)
   held_child None v e = absurd (cc)
   held_child (Some Blank) v e = absurd (cc)
   held_child (Some (Sub c)) v e = absurd (cc)
   held_child (Some (Value w)) v e = ap (λ z. Some (Value z)) (let f : Holds w ≡ Holds v = e in cc)
 
-  pub free_child : (o : Option (Child ℕ P)) → hung_in o ≡ Nothing → o ≡ None
+  free_child : (o : Option (Child ℕ P)) → hung_in o ≡ Nothing → o ≡ None
   free_child None e = refl
   free_child (Some Blank) e = absurd (cc)
   free_child (Some (Sub c)) e = absurd (cc)
@@ -89,11 +89,11 @@ module _ {P : Type 0} where
     wide = λ w. ap capacity_of b.form ∙ w;
   }
 
-  pub updates_twice : (s s' s'' : Nodes P) (at : ℕ) (o p : Option (Form ℕ P)) → Updates s s' at o → Updates s' s'' at p → Updates s s'' at p
+  updates_twice : (s s' s'' : Nodes P) (at : ℕ) (o p : Option (Form ℕ P)) → Updates s s' at o → Updates s' s'' at p → Updates s s'' at p
   updates_twice s s' s'' at o p u w = record { changed = w.changed; others = λ m ne. w.others m ne ∙ u.others m ne }
 
   -- what a leaf has for the key changes
-  pub leaf_edit : (s s' : Nodes P) (key : List ℕ) (at : ℕ) (x y : Form ℕ P) (old new : Option P) → length key ≡ 8 → IsTree s → OnWay s key at
+  leaf_edit : (s s' : Nodes P) (key : List ℕ) (at : ℕ) (x y : Form ℕ P) (old new : Option P) → length key ≡ 8 → IsTree s → OnWay s key at
       → get s at ≡ Some x → length (heap_of s at).prefix ≡ 7 → map.get (children_of x) (get_or key (length (heap_of s at).prefix) 0) ≡ child_of old
       → Differs x y (get_or key (length (heap_of s at).prefix) 0) (child_of new) → IsFilled (Some y) → Updates s s' at (Some y)
       → IsTree s' × MapChange s s' key old new
@@ -134,7 +134,7 @@ module _ {P : Type 0} where
   pub fresh_made : (s s' s'' : Nodes P) (n : ℕ) (p : List ℕ) → Makes s s' n p → get s'' n ≡ get s' n → FreshNode s'' n p
   fresh_made s s' s'' n p k e = record { node = k.node; stands = e ∙ k.updates.changed; form = k.form; prefixed = k.prefixed; children = k.children }
 
-  pub fill_done : (s s' : Nodes P) (n : ℕ) (key : List ℕ) (v : P) → (f : FreshNode s n (take 7 key)) → Sets s s' n f.node (map.insert (children_of f.node) (get_or key 7 0) (Value v))
+  fill_done : (s s' : Nodes P) (n : ℕ) (key : List ℕ) (v : P) → (f : FreshNode s n (take 7 key)) → Sets s s' n f.node (map.insert (children_of f.node) (get_or key 7 0) (Value v))
       → Fills s s' n key v
   fill_done s s' n key v f k =
       let d = differs_insert f.node k.node (get_or key 7 0) (Value v) k.becomes in
@@ -148,11 +148,11 @@ module _ {P : Type 0} where
         updates = k.updates;
       }
 
-  pub held_result : (s : Nodes P) (key : List ℕ) (at : ℕ) (x : Form ℕ P) (old : Child ℕ P) → get s at ≡ Some x → (h : IsHeld s key at)
+  held_result : (s : Nodes P) (key : List ℕ) (at : ℕ) (x : Form ℕ P) (old : Child ℕ P) → get s at ≡ Some x → (h : IsHeld s key at)
       → Some old ≡ map.get (children_of x) (get_or key (length (heap_of s at).prefix) 0) → old ≡ Value h.value
   held_result s key at x old e h w = let z : Some old ≡ Some (Value h.value) = w ∙ held_is s key at x e h in cc
 
-  pub held_some : (s : Nodes P) (key : List ℕ) (at : ℕ) → IsHeld s key at → (x : Form ℕ P) → get s at ≡ Some x
+  held_some : (s : Nodes P) (key : List ℕ) (at : ℕ) → IsHeld s key at → (x : Form ℕ P) → get s at ≡ Some x
       → IsSome (map.get (children_of x) (get_or key (length (heap_of s at).prefix) 0))
   held_some s key at h x e = rw (held_is s key at x e h) refl
 
@@ -191,7 +191,7 @@ module _ {P : Type 0} where
         sets_bytes s s' at n.0 _ n.1 k,
       )
 
-  pub free_is : (s : Nodes P) (key : List ℕ) (at : ℕ) (x : Form ℕ P) → get s at ≡ Some x → child_for (heap_of s at) key ≡ Nothing
+  free_is : (s : Nodes P) (key : List ℕ) (at : ℕ) (x : Form ℕ P) → get s at ≡ Some x → child_for (heap_of s at) key ≡ Nothing
       → map.get (children_of x) (get_or key (length (prefix_of x)) 0) ≡ None
   free_is s key at x e f =
       let hx : heap_of s at ≡ node_of (Some x) = ap node_of e in
@@ -232,7 +232,7 @@ module _ {P : Type 0} where
   pub roomy_room : (s s' : Nodes P) (at : ℕ) → Roomy s s' at → (x : Form ℕ P) → get s' at ≡ Some x → is_full_of x ≡ false
   roomy_room s s' at r x e = ap is_full_of (one_node s' at x r.node e r.now) ∙ r.room
 
-  pub roomy_differs : (s s' s'' : Nodes P) (key : List ℕ) (at byte : ℕ) (ch : Child ℕ P) → (r : Roomy s s' at) → byte ≡ get_or key (length (heap_of s' at).prefix) 0
+  roomy_differs : (s s' s'' : Nodes P) (key : List ℕ) (at byte : ℕ) (ch : Child ℕ P) → (r : Roomy s s' at) → byte ≡ get_or key (length (heap_of s' at).prefix) 0
       → (k : Sets s' s'' at r.node (map.insert (children_of r.node) byte ch)) → Differs r.before k.node (get_or key (length (prefix_of r.before)) 0) (Some ch)
   roomy_differs s s' s'' key at byte ch r b k =
       let d = differs_insert r.node k.node byte ch k.becomes in
@@ -270,7 +270,7 @@ module _ {P : Type 0} where
       )
 
   -- a node that was made, beside one that is given room
-  pub made_roomy : (s0 s1 s2 s3 : Nodes P) (at leaf : ℕ) (p key : List ℕ) (v : P) → ContainsKey s0 at → Makes s0 s1 leaf p
+  made_roomy : (s0 s1 s2 s3 : Nodes P) (at leaf : ℕ) (p key : List ℕ) (v : P) → ContainsKey s0 at → Makes s0 s1 leaf p
       → ((x : Form ℕ P) → get s1 at ≡ Some x → MakesRoom s1 s2 at x) → Fills s2 s3 leaf key v → Roomy s0 s3 at
   made_roomy s0 s1 s2 s3 at leaf p key v st m g f =
       let n = node_at s0 at st in
@@ -279,7 +279,7 @@ module _ {P : Type 0} where
       let k = g n.0 e1 in
       record { before = n.0; was = n.1; node = k.node; now = f.updates.others at ne ∙ k.updates.changed; prefix = k.prefixed; children = k.children; room = k.room; wide = k.wide }
 
-  pub made_fresh : (s0 s1 s2 : Nodes P) (at leaf : ℕ) (p : List ℕ) → ContainsKey s0 at → Makes s0 s1 leaf p
+  made_fresh : (s0 s1 s2 : Nodes P) (at leaf : ℕ) (p : List ℕ) → ContainsKey s0 at → Makes s0 s1 leaf p
       → ((x : Form ℕ P) → get s1 at ≡ Some x → MakesRoom s1 s2 at x) → FreshNode s2 leaf p
   made_fresh s0 s1 s2 at leaf p st m g =
       let n = node_at s0 at st in
@@ -287,7 +287,7 @@ module _ {P : Type 0} where
       let k = g n.0 (m.updates.others at ne ∙ n.1) in
       fresh_made s0 s1 s2 leaf p m (k.updates.others leaf (λ q. ne (sym q)))
 
-  pub leaf_added : (s0 s1 s2 s3 s4 : Nodes P) (key : List ℕ) (at leaf byte : ℕ) (v : P) → length key ≡ 8 → IsTree s0 → OnWay s0 key at
+  leaf_added : (s0 s1 s2 s3 s4 : Nodes P) (key : List ℕ) (at leaf byte : ℕ) (v : P) → length key ≡ 8 → IsTree s0 → OnWay s0 key at
       → child_for (heap_of s0 at) key ≡ Nothing → length (heap_of s0 at).prefix < 7
       → Makes s0 s1 leaf (take 7 key) → ((x : Form ℕ P) → get s1 at ≡ Some x → MakesRoom s1 s2 at x) → Fills s2 s3 leaf key v
       → byte ≡ get_or key (length (heap_of s3 at).prefix) 0
@@ -333,14 +333,14 @@ module _ {P : Type 0} where
         sets_bytes s1 s2 n k.node _ k.updates.changed l ∙ sets_bytes s s1 n f.node _ f.stands k,
       )
 
-  pub second_absent : (s s1 : Nodes P) (n : ℕ) (p : List ℕ) (byte leaf other : ℕ) → (f : FreshNode s n p) → byte ≢ other
+  second_absent : (s s1 : Nodes P) (n : ℕ) (p : List ℕ) (byte leaf other : ℕ) → (f : FreshNode s n p) → byte ≢ other
       → Sets s s1 n f.node (map.insert (children_of f.node) byte (Sub leaf)) → (x : Form ℕ P) → get s1 n ≡ Some x → map.get (children_of x) other ≡ None
   second_absent s s1 n p byte leaf other f ne k x e =
       let i : x ≡ k.node = one_node s1 n x k.node e k.updates.changed in
       let d = differs_insert f.node k.node byte (Sub leaf) k.becomes in
       ap (λ y. map.get (children_of y) other) i ∙ (d.beside other (λ q. ne (sym q)) ∙ fresh_absent s n p f f.node f.stands other)
 
-  pub second_room : (s s1 : Nodes P) (n : ℕ) (p : List ℕ) (byte leaf : ℕ) → (f : FreshNode s n p)
+  second_room : (s s1 : Nodes P) (n : ℕ) (p : List ℕ) (byte leaf : ℕ) → (f : FreshNode s n p)
       → Sets s s1 n f.node (map.insert (children_of f.node) byte (Sub leaf)) → (x : Form ℕ P) → get s1 n ≡ Some x → is_full_of x ≡ false
   second_room s s1 n p byte leaf f k x e =
       let i : x ≡ k.node = one_node s1 n x k.node e k.updates.changed in
@@ -370,7 +370,7 @@ module _ {P : Type 0} where
       let nl : at ≢ leaf = apart_of s1 at leaf n.0 (f.over_made.updates.others at no ∙ n.1) f.leaf_made.vacant in
       f.forks.updates.others at no ∙ (f.fills.updates.others at nl ∙ (f.leaf_made.updates.others at nl ∙ f.over_made.updates.others at no))
 
-  pub forking_present : (s0 s4 : Nodes P) (key : List ℕ) (at below byte : ℕ) → get s4 at ≡ get s0 at → child_for (heap_of s0 at) key ≡ Below below
+  forking_present : (s0 s4 : Nodes P) (key : List ℕ) (at below byte : ℕ) → get s4 at ≡ get s0 at → child_for (heap_of s0 at) key ≡ Below below
       → byte ≡ get_or key (length (heap_of s4 at).prefix) 0 → (x : Form ℕ P) → get s4 at ≡ Some x → IsSome (map.get (children_of x) byte)
   forking_present s0 s4 key at below byte same h b x e =
       let e0 : get s0 at ≡ Some x = sym same ∙ e in
@@ -380,7 +380,7 @@ module _ {P : Type 0} where
       let Q : ℕ → Type 0 = λ z. IsSome (map.get (children_of x) z) in
       subst Q (sym b') (below_some _ below h')
 
-  pub fork_added : (s0 s1 s2 s3 s4 s5 : Nodes P) (key : List ℕ) (at common over leaf other below byte : ℕ) (v : P) → length key ≡ 8 → IsTree s0 → OnWay s0 key at
+  fork_added : (s0 s1 s2 s3 s4 s5 : Nodes P) (key : List ℕ) (at common over leaf other below byte : ℕ) (v : P) → length key ≡ 8 → IsTree s0 → OnWay s0 key at
       → child_for (heap_of s0 at) key ≡ Below below → fits (heap_of s0 below).prefix key ≡ false
       → Forking s0 s1 s2 s3 s4 key at common over leaf other below v
       → byte ≡ get_or key (length (heap_of s4 at).prefix) 0
@@ -487,7 +487,7 @@ module _ {P : Type 0} where
       let k = sets2 n.0 (j.updates.others above ne ∙ n.1) in
       stands_at s2 at j.node (k.updates.others at (λ q. ne (sym q)) ∙ j.updates.changed)
 
-  pub dropped_bytes : (s0 s1 s2 : Nodes P) (key : List ℕ) (above at byte up : ℕ) → IsTree s0 → OnWay s0 key at → Hangs s0 key above at
+  dropped_bytes : (s0 s1 s2 : Nodes P) (key : List ℕ) (above at byte up : ℕ) → IsTree s0 → OnWay s0 key at → Hangs s0 key above at
       → ((x : Form ℕ P) → get s0 at ≡ Some x → Sets s0 s1 at x (map.remove (children_of x) byte))
       → ((x : Form ℕ P) → get s1 above ≡ Some x → Sets s1 s2 above x (map.remove (children_of x) up)) → bytes_of s2 ≡ bytes_of s0
   dropped_bytes s0 s1 s2 key above at byte up t w hangs sets1 sets2 =

@@ -13,7 +13,7 @@ put_child None = Nothing
 put_child (Some v) = Holds v
 
 module _ {V : Type 0} where
-  pub put_no_node : (o : Option V) (c : ℕ) → put_child o ≡ Below c → ⊥
+  put_no_node : (o : Option V) (c : ℕ) → put_child o ≡ Below c → ⊥
   put_no_node None c e = cc
   put_no_node (Some v) c e = cc
 

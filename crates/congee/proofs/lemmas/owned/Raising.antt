@@ -30,7 +30,7 @@ use Rattle.congee.proofs.lemmas.owned.SlotValues.{own_none}
 use Rattle.congee.proofs.lemmas.owned.Unfolds.{one_value}
 
 module _ {P : Type 0} (s : Nodes P) (g b p : ℕ) (r : MayLift s g b p) where
-  pub upper_is : (s1 : Nodes P) → get s1 g ≡ get s g → (x : Node ℕ P) → get s1 g ≡ Some x → r.upper ≡ x
+  upper_is : (s1 : Nodes P) → get s1 g ≡ get s g → (x : Node ℕ P) → get s1 g ≡ Some x → r.upper ≡ x
   upper_is s1 same x e = one_node s1 g r.upper x (same ∙ r.was) e
 
   pub lower_inner : (y : Node ℕ P) → get s p ≡ Some y → length (prefix_of y) < 7

@@ -49,7 +49,7 @@ module _ {P : Type 0} where
   pub seen_count : (s : Nodes P) (n : ℕ) (x : Node ℕ P) → get s n ≡ Some x → (heap_of s n).count ≡ map.len (children_of x)
   seen_count s n x e = ap (λ o. (node_of o).count) e
 
-  pub lesser_is : (s : Nodes P) (n : ℕ) (x : Node ℕ P) → get s n ≡ Some x → lesser_of (heap_of s n) ≡ lesser_if (shrinks (form_of x) (map.len (children_of x))) (form_of x)
+  lesser_is : (s : Nodes P) (n : ℕ) (x : Node ℕ P) → get s n ≡ Some x → lesser_of (heap_of s n) ≡ lesser_if (shrinks (form_of x) (map.len (children_of x))) (form_of x)
   lesser_is s n x e = ap (λ f. lesser_if (shrinks f (heap_of s n).count) f) (seen_form s n x e) ∙ ap (λ c. lesser_if (shrinks (form_of x) c) (form_of x)) (seen_count s n x e)
 
 module _ {P : Type 0} where
@@ -59,21 +59,21 @@ module _ {P : Type 0} where
       lesser_is s at x e ∙ (ap (λ t. lesser_if (shrinks t (map.len (children_of x))) t) (sym ef) ∙ ap (λ c. lesser_if (shrinks f c) f) (sym en))
 
 -- a node that gives place to a lesser one is no least one, and its children fit there
-pub shrinks_greater : (f : NodeType) (n : ℕ) → shrinks f n ≡ true → f ≢ T4
+shrinks_greater : (f : NodeType) (n : ℕ) → shrinks f n ≡ true → f ≢ T4
 shrinks_greater T4 n s e = absurd (let z : false ≡ true = s in cc)
 shrinks_greater T16 n s e = absurd (cc)
 shrinks_greater T48 n s e = absurd (cc)
 shrinks_greater T256 n s e = absurd (cc)
 
 -- the children of a node that gives place to a lesser one fit in the form below
-pub shrinks_room : (f : NodeType) (n : ℕ) → shrinks f n ≡ true → n ≤ capacity_of (form_below f)
+shrinks_room : (f : NodeType) (n : ℕ) → shrinks f n ≡ true → n ≤ capacity_of (form_below f)
 shrinks_room T4 n e = absurd (let z : false ≡ true = e in cc)
 shrinks_room T16 n e = grind (arith, nat_tests)
 shrinks_room T48 n e = grind (arith, nat_tests)
 shrinks_room T256 n e = grind (arith, nat_tests)
 
 -- the least form alone has the least size
-pub size_not_least : (f : NodeType) → f ≢ T4 → size_of f ≢ 64
+size_not_least : (f : NodeType) → f ≢ T4 → size_of f ≢ 64
 size_not_least T4 ne e = ne refl
 size_not_least T16 ne e = absurd (omega (arith, e))
 size_not_least T48 ne e = absurd (omega (arith, e))
@@ -219,20 +219,20 @@ module _ {P : Type 0} where
 
   -- what that node has then
   module _ (s s' : Nodes P) (key : List ℕ) (above at : ℕ) (t : IsTree s) (h : Hangs s key above at) (k : LosesChild s s' key above at) where
-    pub child_lost : map.get (children_of k.old) (get_or key (length (prefix_of k.old)) 0) ≡ Some (Sub at)
+    child_lost : map.get (children_of k.old) (get_or key (length (prefix_of k.old)) 0) ≡ Some (Sub at)
     child_lost = child_there s t key above at h.way.stands h.child k.old k.was _ (ap (λ p. get_or key (length p) 0) (sym (prefix_at s above k.old k.was)))
 
     pub fewer : map.len (children_of k.new) ≡ map.len (children_of k.old) - 1
     fewer = ap map.len k.becomes.children ∙ len_fewer (children_of k.old) _ (Sub at) child_lost
 
-    pub lost_inner : length (prefix_of k.new) < 7
+    lost_inner : length (prefix_of k.new) < 7
     lost_inner =
         let p : length (prefix_of k.new) ≡ length (prefix_of k.old) = ap length k.becomes.prefix in
         let l = above_inner s t key above at h.way.stands h.child k.old k.was in
         omega (arith, p, l)
 
   -- a node with one child that isn't a leaf has a node there
-  pub has_one_node : (s : Nodes P) → IsTree s → (n : ℕ) (y : Node ℕ P) → get s n ≡ Some y → length (prefix_of y) < 7 → map.len (children_of y) ≡ 1 → HasOneNode y
+  has_one_node : (s : Nodes P) → IsTree s → (n : ℕ) (y : Node ℕ P) → get s n ≡ Some y → length (prefix_of y) < 7 → map.len (children_of y) ≡ 1 → HasOneNode y
   has_one_node s t n y e inner one = of pair.1 refl
     where
       pair : (k : ℕ) × (x : Child ℕ P) × (children_of y ≡ map.insert map.empty k x)
@@ -256,7 +256,7 @@ module _ {P : Type 0} where
           omega (arith, l, p, inner))
 
   -- so it may come into that one's place
-  pub may_lift : (s : Nodes P) → IsTree s → (above byte at : ℕ) (upper lower : Node ℕ P) → get s above ≡ Some upper → get s at ≡ Some lower → map.get (children_of upper) byte ≡ Some (Sub at)
+  may_lift : (s : Nodes P) → IsTree s → (above byte at : ℕ) (upper lower : Node ℕ P) → get s above ≡ Some upper → get s at ≡ Some lower → map.get (children_of upper) byte ≡ Some (Sub at)
       → length (prefix_of lower) < 7 → map.len (children_of lower) ≡ 1 → MayLift s above byte at
   may_lift s t above byte at upper lower was stood hung inner one =
       let o = has_one_node s t at lower stood inner one in
@@ -308,7 +308,7 @@ module _ {P : Type 0} where
     top_child = is_child s t top above key higher.way.stands higher.child
 
     -- the node above the one that loses its child
-    pub top_same : get mid top ≡ get s top
+    top_same : get mid top ≡ get s top
     top_same =
         let l = above_child.longer in
         let m = top_child.longer in

@@ -101,7 +101,7 @@ module _ {P : Type 0} (s s' : Nodes P) (p b n m : ℕ) (t : IsTree s) (k : Renam
   root_new : 0 ≢ m
   root_new e = unlinked (let Q : ℕ → Type 0 = λ y. (ledger_of s t.parent y).status ≡ Linked in subst Q e t.tree.root)
 
-  pub renamed_is : IsTree s' × ((key : List ℕ) → value_at (heap_of s') key ≡ value_at (heap_of s) key)
+  renamed_is : IsTree s' × ((key : List ℕ) → value_at (heap_of s') key ≡ value_at (heap_of s) key)
   renamed_is = (
     record {
       parent = parent;
@@ -126,7 +126,7 @@ module _ {P : Type 0} (s s' : Nodes P) (p b n m : ℕ) (t : IsTree s) (k : Renam
   bound = length s.slots + length s'.slots + n + m + 1
 
   -- the same room is taken
-  pub renamed_bytes : bytes_of s' ≡ bytes_of s
+  renamed_bytes : bytes_of s' ≡ bytes_of s
   unfolding weight weight_left weight_after bound
   renamed_bytes =
       let mn : m ≢ n = (λ e. unlinked (let Q : ℕ → Type 0 = λ y. (ledger_of s t.parent y).status ≡ Linked in subst Q (sym e) hangs.linked)) in
@@ -203,7 +203,7 @@ module _ {P A : Type 0} (charged limit : A → ℕ) (old mid new : Arena P A) (k
       filled = λ h. a.filled (r.filled h);
     }
 
-    pub swaps_renamed : (before after : Option P) → Swaps mid new key before after → Swaps old new key before after
+    swaps_renamed : (before after : Option P) → Swaps mid new key before after → Swaps old new key before after
     swaps_renamed before after w = record {
       tree = w.tree;
       change = change_renamed old.nodes mid.nodes new.nodes key before after r w.change;
@@ -222,10 +222,10 @@ module _ {P A : Type 0} (charged limit : A → ℕ) (old mid new : Arena P A) (k
       same_limit = ap limit same ∙ e.same_limit;
     }
 
-    pub renamed_adds : (before : Option P) (value : P) (wants : Option (List ℕ)) → Adds charged limit old mid key before value wants → Adds charged limit old new key before value wants
+    renamed_adds : (before : Option P) (value : P) (wants : Option (List ℕ)) → Adds charged limit old mid key before value wants → Adds charged limit old new key before value wants
     renamed_adds before value wants a = record { edits = renamed_edits before (Some value) a.edits; fits = a.fits; bytes = r.bytes ∙ a.bytes; filled = λ h. r.filled (a.filled h) }
 
-    pub renamed_swaps : (before after : Option P) → Swaps old mid key before after → Swaps old new key before after
+    renamed_swaps : (before after : Option P) → Swaps old mid key before after → Swaps old new key before after
     renamed_swaps before after w = record {
       tree = r.tree;
       change = renamed_change old.nodes mid.nodes new.nodes key before after w.change r;

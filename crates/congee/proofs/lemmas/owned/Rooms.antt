@@ -28,7 +28,7 @@ module _ {P : Type 0} (s : Nodes P) (at : ℕ) (full : Bool) (stands : ContainsK
   pub roomy_now : full ≡ false → (x : Form ℕ P) → get s at ≡ Some x → MakesRoom s s at x
   roomy_now f x e = record { node = x; prefixed = refl; children = refl; form = sym (ap (λ b. cond b (next_form (form_of x)) (form_of x)) (sym (is x e) ∙ f)); room = sym (is x e) ∙ f; wide = λ w. w; updates = record { changed = e; others = λ m ne. refl } }
 
-  pub roomy_wants : full ≡ false → room_for (heap_of s at) ≡ []
+  roomy_wants : full ≡ false → room_for (heap_of s at) ≡ []
   roomy_wants f =
       let n = node_at s at stands in
       ap (λ o. room_for (node_of o)) n.1 ∙ roomy_none n.0 (sym (is n.0 n.1) ∙ f)
@@ -41,7 +41,7 @@ module _ {P : Type 0} (s : Nodes P) (at : ℕ) (full : Bool) (stands : ContainsK
 
   -- a full one
   module _ (f : full ≡ true) (form : NodeType) (form_is : (x : Form ℕ P) → get s at ≡ Some x → form ≡ form_of x) where
-    pub full_wants : room_for (heap_of s at) ≡ size_of (next_form form) ∷ []
+    full_wants : room_for (heap_of s at) ≡ size_of (next_form form) ∷ []
     full_wants =
         let n = node_at s at stands in
         let z : form_of n.0 ≡ form = sym (form_is n.0 n.1) in

@@ -68,7 +68,7 @@ module _ {X : Type 0} {ks : List ℕ} {ys : List X} (ok : IsSorted ks ys) where
       lists_more from p s there (lists_from n (get_or ks p 0 + 1) (p + 1) (next_place p there) (omega (arith, e)))
 
 module _ {X : Type 0} (m : map.FinMap nat_cmp X) (byte i : ℕ) (xs : List X) (l : Lists m byte (drop i xs)) where
-  pub list_next : (x : X) → i < length xs → x ≡ get_or xs i x → (b : ℕ) × (b < 256) × IsFirst m byte b x × Lists m (b + 1) (drop (i + 1) xs)
+  list_next : (x : X) → i < length xs → x ≡ get_or xs i x → (b : ℕ) × (b < 256) × IsFirst m byte b x × Lists m (b + 1) (drop (i + 1) xs)
   list_next x h e =
       let z : drop i xs ≡ x ∷ drop (i + 1) xs = drop_more xs i x h ∙ ap (λ y. y ∷ drop (i + 1) xs) (sym e) in
       subst (Lists m byte) z l
@@ -76,7 +76,7 @@ module _ {X : Type 0} (m : map.FinMap nat_cmp X) (byte i : ℕ) (xs : List X) (l
   pub list_end : length xs ≤ i → (b : ℕ) → byte ≤ b → map.get m b ≡ None
   list_end h = subst (Lists m byte) (drop_all i xs h) l
 
-pub begins_with : (bytes : List ℕ) (first : ℕ) → (length bytes ≡ 0 → ⊥) → first ≡ get_or bytes 0 0 → (rest : List ℕ) × (bytes ≡ first ∷ rest)
+begins_with : (bytes : List ℕ) (first : ℕ) → (length bytes ≡ 0 → ⊥) → first ≡ get_or bytes 0 0 → (rest : List ℕ) × (bytes ≡ first ∷ rest)
 begins_with [] first some e = absurd (some refl)
 begins_with (x ∷ rest) first some e = (rest, ap (λ y. y ∷ rest) (sym e))
 
@@ -109,7 +109,7 @@ module _ {P : Type 0} where
     sees_row from (Wide form) r = sees_entries form.now r
 
 module _ {P : Type 0} (s : Nodes P) (stem : Stem) (entries : map.FinMap nat_cmp (Entry P)) (sees : SeesEntries s stem entries) where
-  pub stem_stands : ContainsKey s (257 * stem.slot)
+  stem_stands : ContainsKey s (257 * stem.slot)
   stem_stands = subst IsSome (sym sees.sees.is) refl
 
   -- an entry, as a child of the slot's node
@@ -117,7 +117,7 @@ module _ {P : Type 0} (s : Nodes P) (stem : Stem) (entries : map.FinMap nat_cmp 
   entry_here from b e f = subst (λ m. IsFirst m from b (child_by (prefix_of sees.node) b e)) (sym sees.children) (first_mapped (child_by (prefix_of sees.node)) entries from b e f)
 
   -- and of the tree's
-  pub entry_first : (from b : ℕ) (e : Entry P) → IsFirst entries from b e → (x : Node ℕ P) → get s (257 * stem.slot) ≡ Some x
+  entry_first : (from b : ℕ) (e : Entry P) → IsFirst entries from b e → (x : Node ℕ P) → get s (257 * stem.slot) ≡ Some x
       → IsFirst (children_of x) from b (inner_child stem.slot b (child_by (prefix_of sees.node) b e))
   entry_first from b e f x is = inner_first s (257 * stem.slot) from x is stem.slot sees.node sees.sees b (child_by (prefix_of sees.node) b e) (entry_here from b e f)
 
@@ -194,7 +194,7 @@ module _ {P E : Type 0} (s : Nodes P) (put : ℕ → P → E) (last : ℕ) (stem
     pub so : SoFar s put last (257 * stem.slot) seen.from first old byte count new
 
   module _ (seen : SeesList s stem list) (first : ℕ) (old : List E) where
-    pub list_begins : first ≤ length old → ListSoFar seen first old 0 first old
+    list_begins : first ≤ length old → ListSoFar seen first old 0 first old
     list_begins l = record { byte = seen.from; rest = seen.lists; so = sets_out s put last (257 * stem.slot) seen.from first old l }
 
     module _ (i count : ℕ) (new : List E) (l : ListSoFar seen first old i count new) (entry : Entry P) (h : i < length list) (e : entry ≡ get_or list i entry) where

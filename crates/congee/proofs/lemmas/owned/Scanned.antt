@@ -10,7 +10,7 @@ module _ {V : Type 0} where
   pub nothing_first : (m : FinMap nat_cmp V) → ((q : ℕ) → 0 ≤ q → get m q ≡ None) → m ≡ empty
   nothing_first m h = same_map nat_cmp_total nat_cmp-IsAntisymmetric m empty (λ q. h q (omega arith) ∙ sym (get-empty _ q))
 
-  pub something_first : (m : FinMap nat_cmp V) (k : ℕ) (v : V) → IsFirst m 0 k v → m ≢ empty
+  something_first : (m : FinMap nat_cmp V) (k : ℕ) (v : V) → IsFirst m 0 k v → m ≢ empty
   something_first m k v f e = let n : get m k ≡ None = ap (λ x. get x k) e ∙ get-empty _ k in absurd (cc (n, f.here))
 
   pub empty_told : {T : Type 0} (m : FinMap nat_cmp V) (key : T → ℕ) (value : T → V) (o : Option T) (b : Bool) → is_some o ≡ not b

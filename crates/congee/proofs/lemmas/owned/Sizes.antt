@@ -75,7 +75,7 @@ module _ {P : Type 0} where
       omega (arith, u, b, f)
 
   -- a node written back as it was
-  pub same_written : (s : Nodes P) (at : ℕ) (x y : Node ℕ P) → ContainsKey s at → get s at ≡ Some x → y ≡ x → SameNodes s (with_value s at y)
+  same_written : (s : Nodes P) (at : ℕ) (x y : Node ℕ P) → ContainsKey s at → get s at ≡ Some x → y ≡ x → SameNodes s (with_value s at y)
   same_written s at x y h e q name =
       let u : Updates s (with_value s at y) at (Some y) = Updates-with_value s at y h in
       elim (same_or_not name at) [
@@ -84,7 +84,7 @@ module _ {P : Type 0} where
       ]
 
   -- the sizes of the nodes that a walk over the slab has still to come to
-  abbrev pub bytes_left : List (ℕ × Node ℕ P) → ℕ
+  abbrev bytes_left : List (ℕ × Node ℕ P) → ℕ
   bytes_left [] = 0
   bytes_left ((key, node) ∷ rest) = size_of (form_of node) + bytes_left rest
 
@@ -93,7 +93,7 @@ module _ {P : Type 0} where
   left_from key (None ∷ rest) = let r = left_from (key + 1) rest in omega (arith, r)
   left_from key (Some node ∷ rest) = ap (λ n. size_of (form_of node) + n) (left_from (key + 1) rest)
 
-  pub bytes_left_first : (s : Nodes P) → bytes_left (entries s) ≡ bytes_of s
+  bytes_left_first : (s : Nodes P) → bytes_left (entries s) ≡ bytes_of s
   bytes_left_first s = left_from 0 s.slots
 
   -- the sizes by name

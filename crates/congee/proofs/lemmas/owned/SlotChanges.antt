@@ -43,7 +43,7 @@ module _ {P : Type 0} (s : Slab (Slot P)) (v : Nodes P) (is : nodes_in s ≡ v) 
           let p : length (prefix_of (lone_node k.0)) ≡ length (prefix_of y) = ap (λ z. length (prefix_of z)) k.1 in
           absurd (omega (arith, l, p, short))
 
-  pub own_name : byte ≡ None → at ≡ 257 * i
+  own_name : byte ≡ None → at ≡ 257 * i
   own_name e = sym name ∙ (ap (λ b. 257 * i + offset_of b) e ∙ omega arith)
 
   pub at_inner : ((j : ℕ) → HasKind (get s j)) → (y : Node ℕ P) → get v at ≡ Some y → length (prefix_of y) < 7 → AtInner s v at i y

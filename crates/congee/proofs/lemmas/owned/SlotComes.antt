@@ -193,7 +193,7 @@ module _ {P : Type 0} (s : Slab (Slot P)) (v : Nodes P) (is : nodes_in s ≡ v) 
     inlines : Grown x x' → (b : ℕ) → in_slot i (Some x') (suc b) ≡ in_slot i (get s i) (suc b)
     inlines k b = same_inline x x' k b ∙ sym (ap (λ o. in_slot i o (suc b)) e)
 
-    pub grown_stored : Grown x x' → IsStored (with_value s i x') inline
+    grown_stored : Grown x x' → IsStored (with_value s i x') inline
     grown_stored k =
         let l = len_update s (with_value s i x') i (Some x') updates in
         let c : counted (get s i) ≡ 1 = ap counted e in
@@ -214,7 +214,7 @@ module _ {P : Type 0} (s : Slab (Slot P)) (v : Nodes P) (is : nodes_in s ≡ v) 
     grown_node (Inner n) (Leaf m) k = absurd k
     grown_node (Leaf n) (Inner m) k = absurd k
 
-    pub grown_done : Grown x x' → (y : Node ℕ P) → get v at ≡ Some y → GrowsTo v (nodes_in (with_value s i x')) at y
+    grown_done : Grown x x' → (y : Node ℕ P) → get v at ≡ Some y → GrowsTo v (nodes_in (with_value s i x')) at y
     grown_done k y h =
         let z : Some (slot_node i x) ≡ Some y = sym (slot_seen s i x e) ∙ (ap (λ w. get w (257 * i)) is ∙ (ap (get v) (sym full_name) ∙ h)) in
         let q : slot_node i x ≡ y = cc in
@@ -229,14 +229,14 @@ module _ {P : Type 0} (s : Slab (Slot P)) (v : Nodes P) (is : nodes_in s ≡ v) 
         }
 
     -- where memory is refused the slot's node is as it was
-    pub kept_stored : x' ≡ x → IsStored (with_value s i x') inline
+    kept_stored : x' ≡ x → IsStored (with_value s i x') inline
     kept_stored q =
         let l = len_update s (with_value s i x') i (Some x') updates in
         let c : counted (get s i) ≡ 1 = ap counted e in
         let r = st.room in
         slot_stored s (with_value s i x') i inline (Some x') st updates (λ b. ap (λ w. in_slot i (Some w) (suc b)) q ∙ sym (ap (λ o. in_slot i o (suc b)) e)) (subst (λ w. HasKind (Some w)) (sym q) (subst HasKind e (st.kinds i))) refl (omega (arith, l, c, r))
 
-    pub kept_done : x' ≡ x → SameValues v (nodes_in (with_value s i x'))
+    kept_done : x' ≡ x → SameValues v (nodes_in (with_value s i x'))
     kept_done q m =
         let w = slot_updates s (with_value s i x') i (Some x') updates (λ b. ap (λ w. in_slot i (Some w) (suc b)) q ∙ sym (ap (λ o. in_slot i o (suc b)) e)) in
         elim (same_or_not m (257 * i)) [

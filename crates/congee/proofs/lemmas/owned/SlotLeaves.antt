@@ -29,14 +29,14 @@ use Rattle.congee.proofs.lemmas.owned.Slots.{with_prefix, with_mapped, with_full
 use Rattle.congee.proofs.lemmas.owned.Stored.{slot_seen, slot_there, leaf_beside}
 
 -- the node of this name is the leaf in a slot
-pub record AtLeaf {P : Type 0} (s : Slab (Slot P)) (v : Nodes P) (at i : ℕ) (y : Node ℕ P) : Type 0 where
+record AtLeaf {P : Type 0} (s : Slab (Slot P)) (v : Nodes P) (at i : ℕ) (y : Node ℕ P) : Type 0 where
   pub node : Node ℕ P
   pub stands : get s i ≡ Some (Leaf node)
   pub name : at ≡ 257 * i
   pub seen : with_children leaf_child node ≡ y
 
 -- what a leaf became
-pub record LeafAfter {P : Type 0} (n : Node ℕ P) (x' : Slot P) (m : map.FinMap nat_cmp (Child ℕ P)) : Type 0 where
+record LeafAfter {P : Type 0} (n : Node ℕ P) (x' : Slot P) (m : map.FinMap nat_cmp (Child ℕ P)) : Type 0 where
   pub node : Node ℕ P
   pub is : x' ≡ Leaf node
   pub becomes : Becomes n node m
@@ -129,7 +129,7 @@ module _ {P : Type 0} (s : Slab (Slot P)) (v : Nodes P) (is : nodes_in s ≡ v) 
           let u : Updates s (with_value s i x') i (Some x') = Updates-with_value s i x' (rw e refl) in
           leaf_beside s (with_value s i x') i n n' (e ∙ ap Some q) (subst (λ z. Updates s (with_value s i x') i (Some z)) q' u)
 
-      pub leaf_stored : (n n' : Node ℕ P) → x ≡ Leaf n → x' ≡ Leaf n' → prefix_of n' ≡ prefix_of n → IsStored (with_value s i x') inline
+      leaf_stored : (n n' : Node ℕ P) → x ≡ Leaf n → x' ≡ Leaf n' → prefix_of n' ≡ prefix_of n → IsStored (with_value s i x') inline
       leaf_stored n n' q q' p =
           let u : Updates s (with_value s i x') i (Some x') = Updates-with_value s i x' (rw e refl) in
           let l = len_update s (with_value s i x') i (Some x') u in
@@ -154,7 +154,7 @@ module _ {P : Type 0} (s : Slab (Slot P)) (v : Nodes P) (is : nodes_in s ≡ v) 
           let Q : ℕ → Type 0 = λ w. Updates v (nodes_in (with_value s i x')) w (Some (with_children leaf_child n')) in
           subst Q (sym k.name) (subst (λ w. Updates w (nodes_in (with_value s i x')) (257 * i) (Some (with_children leaf_child n'))) is u)
 
-      pub put_sets : (y : Node ℕ P) (k : AtLeaf s v at i y) (b : ℕ) (value : P) → LeafBecomes x x' (λ m. map.insert m b (Value value)) → Sets v (nodes_in (with_value s i x')) at y (map.insert (children_of y) b (Value value))
+      put_sets : (y : Node ℕ P) (k : AtLeaf s v at i y) (b : ℕ) (value : P) → LeafBecomes x x' (λ m. map.insert m b (Value value)) → Sets v (nodes_in (with_value s i x')) at y (map.insert (children_of y) b (Value value))
       put_sets y k b value lb =
           let a = leaf_after x x' k.node (λ m. map.insert m b (Value value)) (slot_is y k) lb in
           let w = with_becomes leaf_child k.node a.node _ a.becomes in
@@ -168,7 +168,7 @@ module _ {P : Type 0} (s : Slab (Slot P)) (v : Nodes P) (is : nodes_in s ≡ v) 
             updates = at_name y k a.node a.is;
           }
 
-      pub put_stored : (y : Node ℕ P) (k : AtLeaf s v at i y) (b : ℕ) (value : P) → LeafBecomes x x' (λ m. map.insert m b (Value value)) → IsStored (with_value s i x') inline
+      put_stored : (y : Node ℕ P) (k : AtLeaf s v at i y) (b : ℕ) (value : P) → LeafBecomes x x' (λ m. map.insert m b (Value value)) → IsStored (with_value s i x') inline
       put_stored y k b value lb =
           let a = leaf_after x x' k.node (λ m. map.insert m b (Value value)) (slot_is y k) lb in
           leaf_stored k.node a.node (slot_is y k) a.is a.becomes.prefix

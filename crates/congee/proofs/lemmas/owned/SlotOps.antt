@@ -36,19 +36,19 @@ module _ {P : Type 0} (i : ℕ) (n n' : Node ℕ (Lone P)) (y : Node ℕ P) (see
   children_seen : mapped (inner_child i) (children_of n) ≡ children_of y
   children_seen = sym (with_mapped (inner_child i) n) ∙ ap children_of seen
 
-  pub insert_seen : (c : Child ℕ (Lone P)) → Becomes n n' (map.insert (children_of n) b c) → Becomes y (with_children (inner_child i) n') (map.insert (children_of y) b (inner_child i b c))
+  insert_seen : (c : Child ℕ (Lone P)) → Becomes n n' (map.insert (children_of n) b c) → Becomes y (with_children (inner_child i) n') (map.insert (children_of y) b (inner_child i b c))
   insert_seen c k =
       let w = with_becomes (inner_child i) n n' _ k in
       let m : mapped (inner_child i) (map.insert (children_of n) b c) ≡ map.insert (children_of y) b (inner_child i b c) = mapped_insert (inner_child i) (children_of n) b c ∙ ap (λ m. map.insert m b (inner_child i b c)) children_seen in
       record { form = w.form ∙ ap form_of seen; prefix = w.prefix ∙ ap prefix_of seen; children = w.children ∙ m }
 
-  pub remove_seen : Becomes n n' (map.remove (children_of n) b) → Becomes y (with_children (inner_child i) n') (map.remove (children_of y) b)
+  remove_seen : Becomes n n' (map.remove (children_of n) b) → Becomes y (with_children (inner_child i) n') (map.remove (children_of y) b)
   remove_seen k =
       let w = with_becomes (inner_child i) n n' _ k in
       let m : mapped (inner_child i) (map.remove (children_of n) b) ≡ map.remove (children_of y) b = mapped_remove (inner_child i) (children_of n) b ∙ ap (λ m. map.remove m b) children_seen in
       record { form = w.form ∙ ap form_of seen; prefix = w.prefix ∙ ap prefix_of seen; children = w.children ∙ m }
 
-  pub absent_in : map.get (children_of y) b ≡ None → map.get (children_of n) b ≡ None
+  absent_in : map.get (children_of y) b ≡ None → map.get (children_of n) b ≡ None
   absent_in e = mapped_none (inner_child i) (children_of n) b (ap (λ m. map.get m b) children_seen ∙ e)
 
   -- what lies behind a child that the tree sees
@@ -64,7 +64,7 @@ module _ {P : Type 0} (i : ℕ) (n n' : Node ℕ (Lone P)) (y : Node ℕ P) (see
       of (Some (Sub c)) e = ap lone_in e
       of (Some (Value l)) e = absurd (let z : HasNode {P = P} (Some (Sub (257 * i + (b + 1)))) = subst HasNode (at (Some (Value l)) e) h in omega (arith, z, low))
 
-  pub node_some : HasNode (map.get (children_of y) b) → IsSome (map.get (children_of n) b)
+  node_some : HasNode (map.get (children_of y) b) → IsSome (map.get (children_of n) b)
   node_some h = of (map.get (children_of n) b) refl
     where
       of : (o : Option (Child ℕ (Lone P))) → map.get (children_of n) b ≡ o → IsSome o
@@ -140,20 +140,20 @@ module _ {P : Type 0} (s : Slab (Slot P)) (v : Nodes P) (is : nodes_in s ≡ v) 
     here_insert = ap (λ m. map.get m b) bec.children ∙ insert_at (children_of k.node) b c
 
     -- a node comes there
-    pub sets_insert : lone_in (map.get (children_of k.node) b) ≡ None → lone_in (Some c) ≡ None → Sets v new at y (map.insert (children_of y) b (inner_child i b c))
+    sets_insert : lone_in (map.get (children_of k.node) b) ≡ None → lone_in (Some c) ≡ None → Sets v new at y (map.insert (children_of y) b (inner_child i b c))
     sets_insert o p = record {
       node = with_children (inner_child i) n';
       becomes = insert_seen i k.node n' y k.seen b c bec;
       updates = plain bec.prefix same_insert o (ap lone_in here_insert ∙ p);
     }
 
-    pub stored_insert : (inline inline' : ℕ) → IsStored s inline → inline' + counted (lone_in (map.get (children_of k.node) b)) ≡ inline + counted (lone_in (Some c)) → slab_len s + inline' ≤ s.capacity
+    stored_insert : (inline inline' : ℕ) → IsStored s inline → inline' + counted (lone_in (map.get (children_of k.node) b)) ≡ inline + counted (lone_in (Some c)) → slab_len s + inline' ≤ s.capacity
         → IsStored (with_value s i (Inner n')) inline'
     stored_insert inline inline' st e r =
         stored_after s i k.node n' b k.stands low bec.prefix same_insert inline inline' st (let h : counted (lone_in (map.get (children_of n') b)) ≡ counted (lone_in (Some c)) = ap (λ o. counted (lone_in o)) here_insert in omega (arith, e, h)) r
 
   -- a leaf for the key comes there
-  pub hangs_leaf : (lone : Lone P) (key : List ℕ) (value : P) → lone.key ≡ key → lone.value ≡ value → lone_in (map.get (children_of k.node) b) ≡ None → Becomes k.node n' (map.insert (children_of k.node) b (Value lone)) → HangsLeaf v new at y b key value
+  hangs_leaf : (lone : Lone P) (key : List ℕ) (value : P) → lone.key ≡ key → lone.value ≡ value → lone_in (map.get (children_of k.node) b) ≡ None → Becomes k.node n' (map.insert (children_of k.node) b (Value lone)) → HangsLeaf v new at y b key value
   hangs_leaf lone key value ek ev free bec =
       record {
         inline = λ o. absurd (omega (arith, o, low));
@@ -171,7 +171,7 @@ module _ {P : Type 0} (s : Slab (Slot P)) (v : Nodes P) (is : nodes_in s ≡ v) 
       }
 
   -- a node comes where a leaf lies, and the leaf goes
-  pub covers_leaf : (below target : ℕ) → target ≡ 257 * below → (lone : Lone P) → Becomes k.node n' (map.insert (children_of k.node) b (Sub below)) → map.get (children_of k.node) b ≡ Some (Value lone) → HasInline (map.get (children_of y) b)
+  covers_leaf : (below target : ℕ) → target ≡ 257 * below → (lone : Lone P) → Becomes k.node n' (map.insert (children_of k.node) b (Sub below)) → map.get (children_of k.node) b ≡ Some (Value lone) → HasInline (map.get (children_of y) b)
       → CoversLeaf v new at y b target lone.key lone.value
   covers_leaf below target et lone bec here h =
       record {
@@ -198,20 +198,20 @@ module _ {P : Type 0} (s : Slab (Slot P)) (v : Nodes P) (is : nodes_in s ≡ v) 
     here_remove = ap (λ m. map.get m b) bec.children ∙ remove_at (children_of k.node) b
 
     -- a node goes
-    pub sets_remove : lone_in (map.get (children_of k.node) b) ≡ None → Sets v new at y (map.remove (children_of y) b)
+    sets_remove : lone_in (map.get (children_of k.node) b) ≡ None → Sets v new at y (map.remove (children_of y) b)
     sets_remove o = record {
       node = with_children (inner_child i) n';
       becomes = remove_seen i k.node n' y k.seen b bec;
       updates = plain bec.prefix same_remove o (ap lone_in here_remove);
     }
 
-    pub stored_remove : (inline inline' : ℕ) → IsStored s inline → inline' + counted (lone_in (map.get (children_of k.node) b)) ≡ inline → slab_len s + inline' ≤ s.capacity
+    stored_remove : (inline inline' : ℕ) → IsStored s inline → inline' + counted (lone_in (map.get (children_of k.node) b)) ≡ inline → slab_len s + inline' ≤ s.capacity
         → IsStored (with_value s i (Inner n')) inline'
     stored_remove inline inline' st e r =
         stored_after s i k.node n' b k.stands low bec.prefix same_remove inline inline' st (let h : counted (lone_in (map.get (children_of n') b)) ≡ 0 = ap (λ o. counted (lone_in o)) here_remove in omega (arith, e, h)) r
 
     -- a leaf that lies there goes
-    pub loses_leaf : (lone : Lone P) (value : P) → lone.value ≡ value → map.get (children_of k.node) b ≡ Some (Value lone) → HasInline (map.get (children_of y) b) → LosesLeaf v new at y b value
+    loses_leaf : (lone : Lone P) (value : P) → lone.value ≡ value → map.get (children_of k.node) b ≡ Some (Value lone) → HasInline (map.get (children_of y) b) → LosesLeaf v new at y b value
     loses_leaf lone value ev here h = record {
       leaf = 257 * i + (b + 1);
       child = (inline_in i k.node n' y k.seen b h).child;

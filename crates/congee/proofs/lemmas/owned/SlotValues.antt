@@ -32,7 +32,7 @@ use Rattle.congee.proofs.lemmas.owned.Stored.{LoneAt, lone_seen, named_lone_at, 
 
 module _ {X : Type 0} (m : map.FinMap nat_cmp X) (k : ℕ) (x : X) where
   -- what is there is put there
-  pub insert_same : map.get m k ≡ Some x → map.insert m k x ≡ m
+  insert_same : map.get m k ≡ Some x → map.insert m k x ≡ m
   insert_same e = same_answers {X = ℕ} {Y = ℕ} (λ k y. y) _ _ (λ q. elim (same_or_not q k) [
     | inl w ↦ (let Q : ℕ → Type 0 = λ z. map.get (map.insert m k x) z ≡ map.get m z in subst Q (sym w) (insert_at m k x ∙ sym e))
     | inr ne ↦ insert_beside m k x q ne
@@ -60,7 +60,7 @@ module _ {P Q : Type 0} (f : ℕ → Child ℕ P → Child ℕ Q) where
   is_told (N48 n) = refl
   is_told (N256 n) = refl
 
-  pub same_with : (n n' : Node ℕ P) → form_of n' ≡ form_of n → prefix_of n' ≡ prefix_of n → mapped f (children_of n') ≡ mapped f (children_of n) → with_children f n' ≡ with_children f n
+  same_with : (n n' : Node ℕ P) → form_of n' ≡ form_of n → prefix_of n' ≡ prefix_of n → mapped f (children_of n') ≡ mapped f (children_of n) → with_children f n' ≡ with_children f n
   same_with n n' form prefix children =
       is_told n'
       ∙ (ap (λ t. told t (prefix_of n') (mapped f (children_of n'))) form

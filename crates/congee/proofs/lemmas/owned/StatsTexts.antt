@@ -21,7 +21,7 @@ capped_more : (s m t : ℕ) → t ≡ s + m → capped t ≡ capped (capped s + 
 capped_more s m t e = omega (arith, e)
 
 -- one more level
-pub total_more : (form : NodeType) (levels : List LevelStats) (i : ℕ) (d : LevelStats) → i < length levels
+total_more : (form : NodeType) (levels : List LevelStats) (i : ℕ) (d : LevelStats) → i < length levels
     → total_of form (take (i + 1) levels) ≡ capped_info (added (total_of form (take i levels)) (info_of form (get_or levels i d)))
 total_more form levels i d l =
     let nodes = capped_more _ _ _ (sum_by_more (λ level. (info_of form level).node_count) levels i d l) in

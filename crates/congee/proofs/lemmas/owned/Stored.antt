@@ -328,7 +328,7 @@ module _ {P : Type 0} (s : Slab (Slot P)) (v : Nodes P) (is : nodes_in s ≡ v) 
     leaf_last k b l = ap (λ m. map.get m b) (sym leaf_map) ∙ none_mapped leaf_child (children_of n) b (k b l)
 
 -- what was read there
-pub lone_read : {P : Type 0} (s : Slab (Slot P)) (i b : ℕ) (k : LoneAt s i b) (x : Slot P) (n : Node ℕ (Lone P)) → get s i ≡ Some x → x ≡ Inner n → map.get (children_of n) b ≡ Some (Value k.lone)
+lone_read : {P : Type 0} (s : Slab (Slot P)) (i b : ℕ) (k : LoneAt s i b) (x : Slot P) (n : Node ℕ (Lone P)) → get s i ≡ Some x → x ≡ Inner n → map.get (children_of n) b ≡ Some (Value k.lone)
 lone_read s i b k x n e q =
     let z : Some (Inner k.node) ≡ Some (Inner n) = sym k.stands ∙ (e ∙ ap Some q) in
     let y : k.node ≡ n = cc in
@@ -356,7 +356,7 @@ module _ {P : Type 0} (s : Slab (Slot P)) where
           let z : total f m ≡ total f (k + j) + f (k + j) = ap (total f) (let y : m ≡ suc (k + j) = omega (arith, e) in y) in
           omega (arith, r, z)
 
-  pub slots_have_names : slab_len s ≤ slab_len (nodes_in s)
+  slots_have_names : slab_len s ≤ slab_len (nodes_in s)
   unfolding nodes_in
   slots_have_names =
       let a = len_named s (length s.slots) (omega arith) in

@@ -68,7 +68,7 @@ module _ {P : Type 0} (s : Nodes P) where
   abbrev pub next : ℕ → ℕ → List Shape
   next level c = nodes_from (get s) 8 (level + 1) c
 
-  abbrev pub at_bytes : Form ℕ P → ℕ → Hung P
+  abbrev at_bytes : Form ℕ P → ℕ → Hung P
   at_bytes x b = hung_in (map.get (children_of x) b)
 
   module _ (t : IsTree s) where

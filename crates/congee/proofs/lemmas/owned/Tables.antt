@@ -27,7 +27,7 @@ module _ {V : Type 0} where
   with_pair_apart m k None q ne = refl
   with_pair_apart m k (Some v) q ne = get-insert_apart m k v q ne
 
-  pub table_beyond : (f : ℕ → Option V) (n q : ℕ) → n ≤ q → get (table f n) q ≡ None
+  table_beyond : (f : ℕ → Option V) (n q : ℕ) → n ≤ q → get (table f n) q ≡ None
   unfolding table
   table_beyond f zero q l = get-empty _ q
   table_beyond f (suc n) q l = with_pair_apart (table f n) n (f n) q (omega (arith, l)) ∙ table_beyond f n q (omega (arith, l))
@@ -48,7 +48,7 @@ module _ {V : Type 0} where
     none_beyond = λ k l. table_beyond (λ k. value_at (heap_of s) (key_bytes k)) (2 ^ 64) k l;
   }
 
-  pub pairs_are : (s : Nodes V) (m : FinMap nat_cmp V) → IsMapOf (heap_of s) m → pairs_of s ≡ m
+  pairs_are : (s : Nodes V) (m : FinMap nat_cmp V) → IsMapOf (heap_of s) m → pairs_of s ≡ m
   pairs_are s m st = standing_one (heap_of s) (pairs_of s) m (pairs_stand s) st
 
   -- a call that the nodes answer is the call on their map

@@ -85,7 +85,7 @@ module _ {V X : Type 0} (apart : X) (last : Node V → Hung V → X) where
       lead _ (heap_of s) t.tree (length (heap_of s n).prefix) n key (omega arith) l w.fitted ∙ enter (heap_of s) 7 n key x w.fitted e
 
   -- no node there has the key's prefix
-  pub ends_apart : (s : Nodes V) (key : List ℕ) (n c : ℕ) → IsTree s → OnWay s key n → child_for (heap_of s n) key ≡ Below c → fits (heap_of s c).prefix key ≡ false
+  ends_apart : (s : Nodes V) (key : List ℕ) (n c : ℕ) → IsTree s → OnWay s key n → child_for (heap_of s n) key ≡ Below c → fits (heap_of s c).prefix key ≡ false
       → descend apart last (heap_of s) 8 0 key ≡ apart
   ends_apart s key n c t w e f = ends s key n (Below c) t w e ∙ rw f refl
 
@@ -101,11 +101,11 @@ refused_second c c' l l' e ec el f r =
     inr (f, inl (subst Q3 el (subst Q2 ec r)))
 
 module _ {P : Type 0} where
-  pub wants_free : (s : Nodes P) (key : List ℕ) (n : ℕ) → IsTree s → OnWay s key n → child_for (heap_of s n) key ≡ Nothing → wants_at (heap_of s) key ≡ Some (free_wants (heap_of s n))
+  wants_free : (s : Nodes P) (key : List ℕ) (n : ℕ) → IsTree s → OnWay s key n → child_for (heap_of s n) key ≡ Nothing → wants_at (heap_of s) key ≡ Some (free_wants (heap_of s n))
   unfolding wants_at
   wants_free s key n t w e = ends (Some (64 ∷ 64 ∷ [])) last_wants s key n Nothing t w e
 
-  pub wants_held : (s : Nodes P) (key : List ℕ) (n : ℕ) (v : P) → IsTree s → OnWay s key n → child_for (heap_of s n) key ≡ Holds v → wants_at (heap_of s) key ≡ None
+  wants_held : (s : Nodes P) (key : List ℕ) (n : ℕ) (v : P) → IsTree s → OnWay s key n → child_for (heap_of s n) key ≡ Holds v → wants_at (heap_of s) key ≡ None
   unfolding wants_at
   wants_held s key n v t w e = ends (Some (64 ∷ 64 ∷ [])) last_wants s key n (Holds v) t w e
 

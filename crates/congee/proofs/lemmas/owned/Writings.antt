@@ -81,12 +81,12 @@ module _ {E : Type 0} where
   }
 
 -- the pairs ahead of other steps are the same
-pub same_at : {P : Type 0} (s : Nodes P) (before after : List Branch) (from : ℕ) → SameAhead s before after → IsAt s before from → IsAt s after from
+same_at : {P : Type 0} (s : Nodes P) (before after : List Branch) (from : ℕ) → SameAhead s before after → IsAt s before from → IsAt s after from
 same_at s before after from same at = record {
   ahead = λ q h. (λ l. (same.same q h).0 ((at.ahead q h).0 l), λ a. (at.ahead q h).1 ((same.same q h).1 a));
 }
 
-pub same_ahead : {P : Type 0} (s : Nodes P) (steps : List Branch) → SameAhead s steps steps
+same_ahead : {P : Type 0} (s : Nodes P) (steps : List Branch) → SameAhead s steps steps
 same_ahead s steps = record { same = λ q h. (λ a. a, λ a. a) }
 
 module _ {P E : Type 0} (s : Nodes P) (entry : ℕ → P → E) (last : ℕ) where
