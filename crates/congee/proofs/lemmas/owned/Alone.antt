@@ -34,9 +34,11 @@ module _ {P : Type 0} (s s' : Slab (Slot P)) (empty : s.slots ≡ []) (i : ℕ) 
       let w = subst (λ k. Updates s s' k (Some (Inner n))) first u in
       record { changed = w.changed; others = λ m ne. w.others m ne ∙ ap (λ l. get_or l m None) empty }
 
+  -- slots with a new inner node alone are sound, with no leaf in its parent's place
   pub alone_stored : length (prefix_of n) < 7 → i < s'.capacity → IsStored s' 0
   alone_stored short low = comes_stored blank s' (nodes_in blank) refl 0 blank_stored 0 n refl comes bare short refl (omega (arith, low))
 
+  -- the node in them is the root, and stands alone
   pub alone : IsAlone (nodes_in s') (with_children (inner_child 0) n)
   unfolding nodes_in
   alone = record {
@@ -60,6 +62,7 @@ cleared_to x x' n e k = of x' (subst (λ z. Cleared z x') e k)
 
 -- the root comes back without its children, and all else went
 module _ {P : Type 0} (s : Slab (Slot P)) (v : Nodes P) (is : nodes_in s ≡ v) (inline : ℕ) (st : IsStored s inline) (stands : ContainsKey v 0) (inner : (y : Node ℕ P) → get v 0 ≡ Some y → length (prefix_of y) < 7) where
+  -- the root's slot isn't vacant
   pub root_slot : ContainsKey s 0
   root_slot = has_slot s v is inline st 0 0 None refl tt stands inner
 
@@ -73,6 +76,7 @@ module _ {P : Type 0} (s : Slab (Slot P)) (v : Nodes P) (is : nodes_in s ≡ v) 
     comes_back : (y : Node ℕ P) (k : AtInner s v 0 0 y) → Updates s0 s' i (Some (Inner (after y k).node))
     comes_back y k = subst (λ z. Updates s0 s' i (Some z)) (after y k).is u
 
+    -- the slots with the root alone are sound, with no leaf in its parent's place
     pub root_left_stored : i < s'.capacity → IsStored s' 0
     root_left_stored low =
         let y = node_at v 0 stands in
@@ -82,6 +86,7 @@ module _ {P : Type 0} (s : Slab (Slot P)) (v : Nodes P) (is : nodes_in s ≡ v) 
         let p : length (prefix_of a.node) ≡ length (prefix_of k.node) = ap length a.becomes.prefix in
         alone_stored s0 s' empty i first a.node (comes_back y.0 k) a.becomes.children (omega (arith, p, short)) low
 
+    -- and the tree sees that all but the root went, and its children
     pub root_left_done : (y : Node ℕ P) → get v 0 ≡ Some y → LeavesRoot v (nodes_in s') y
     root_left_done y h =
         let k = at_root y h in

@@ -43,6 +43,7 @@ module _ {P A : Type 0} (charged limit : A → ℕ) (old new : Arena P A) where
   pub denied_tree : (key : List ℕ) (v : P) (wants : Option (List ℕ)) (refusal : OOMError × P) → IsTree old.nodes → Denies charged limit old new key v wants refusal → IsTree new.nodes
   denied_tree key v wants refusal t d = same_tree old.nodes new.nodes d.same t
 
+  -- a refused insertion leaves the sizes of the nodes
   pub denied_bytes : (key : List ℕ) (v : P) (wants : Option (List ℕ)) (refusal : OOMError × P) → Denies charged limit old new key v wants refusal → bytes_of new.nodes ≡ bytes_of old.nodes
   denied_bytes key v wants refusal d = bytes_same old.nodes new.nodes d.same
 
@@ -58,12 +59,14 @@ module _ {P A : Type 0} (same : P → P → Bool) (charged limit : A → ℕ) (o
   at_key : (before after : Option P) → MapChange old.nodes new.nodes key before after → MapChange old.nodes new.nodes (key_bytes k) before after
   at_key before after c = subst (λ y. MapChange old.nodes new.nodes y before after) is c
 
+  -- an insertion on the arena is the one on its pairs
   pub insert_told : (before : Option P) (v : P) (wants : Option (List ℕ)) → Adds charged limit old new key before v wants → Told (call.Insert k v) (reply.Insert before)
   insert_told before v wants a = told (call.Insert k v) (reply.Insert before) (answered_insert same old.nodes new.nodes k small before v (at_key before (Some v) a.edits.change))
 
   compute_told : (before : Option P) (v : P) (wants : Option (List ℕ)) → Adds charged limit old new key before v wants → Told (call.ComputeInsert k v) (reply.ComputeInsert before)
   compute_told before v wants a = told (call.ComputeInsert k v) (reply.ComputeInsert before) (answered_compute same old.nodes new.nodes k small before v (at_key before (Some v) a.edits.change))
 
+  -- a removal on the arena is the one on its pairs
   pub remove_told : (before : Option P) (going : Option Going) → Frees charged limit old new key before None going → Told (call.Remove k) (reply.Remove before)
   remove_told before going f = told (call.Remove k) (reply.Remove before) (answered_remove same old.nodes new.nodes k small before (at_key before None f.edits.change))
 
@@ -72,6 +75,7 @@ module _ {P A : Type 0} (same : P → P → Bool) (charged limit : A → ℕ) (o
       → MapChange old.nodes new.nodes (key_bytes k) (Some v) after
   present_at r v after going found f = at_key (Some v) after (present_change old.nodes new.nodes key r v after f.edits.change found)
 
+  -- so is a compute of a present key
   pub present_told : (r : Option P) (v : P) (after : Option P) (going : Option Going) → Some v ≡ value_at (heap_of old.nodes) key → Frees charged limit old new key r (settled r after) going
       → Told (call.ComputePresent k after) (reply.ComputePresent (Some (v, after)))
   present_told r v after going found f =
@@ -129,6 +133,7 @@ module _ {A D : Type 0} (charged limit : A → ℕ) (d : D) (old new : Arena ℕ
   }
 
   module _ (k : ℕ) (small : k < 2 ^ 64) (key : List ℕ) (is : key ≡ key_bytes k) where
+    -- an insertion on the arena is one as contracts see it
     pub inserts : (before : Option ℕ) (v : ℕ) → Adds charged limit old new key before v (wants_at (heap_of old.nodes) key)
         → Inserts nat_eq charged limit (content charged d old) (content charged d new) k (call.Insert k v) (reply.Insert before)
     inserts before v a = record {
@@ -155,6 +160,7 @@ module _ {A D : Type 0} (charged limit : A → ℕ) (d : D) (old new : Arena ℕ
           },
         )
 
+    -- a refused insertion is one as contracts see it
     pub refuses : (v : ℕ) (refusal : OOMError × ℕ) → Denies charged limit old new key v (wants_at (heap_of old.nodes) key) refusal
         → Refuses charged limit (content charged d old) (content charged d new) k refusal.0
     refuses v refusal r = record {
@@ -164,6 +170,7 @@ module _ {A D : Type 0} (charged limit : A → ℕ) (d : D) (old new : Arena ℕ
       keeps = keeps r.balance r.same_limit;
     }
 
+    -- a removal is one
     pub removes : (before : Option ℕ) → Frees charged limit old new key before None (goes_at (heap_of old.nodes) key)
         → Modifies nat_eq charged limit (content charged d old) (content charged d new) (map.get (goes_of old.nodes) k) (call.Remove k) (reply.Remove before)
     removes before f = record {
@@ -173,6 +180,7 @@ module _ {A D : Type 0} (charged limit : A → ℕ) (d : D) (old new : Arena ℕ
       keeps = keeps f.edits.balance f.edits.same_limit;
     }
 
+    -- a compute of a present key is one
     pub settles : (r : Option ℕ) (v : ℕ) (after : Option ℕ) → Some v ≡ value_at (heap_of old.nodes) key
         → Frees charged limit old new key r (settled r after) (going_by after (goes_at (heap_of old.nodes) key))
         → Modifies nat_eq charged limit (content charged d old) (content charged d new) (going_by after (map.get (goes_of old.nodes) k)) (call.ComputePresent k after) (reply.ComputePresent (Some (v, after)))
@@ -183,6 +191,7 @@ module _ {A D : Type 0} (charged limit : A → ℕ) (d : D) (old new : Arena ℕ
       keeps = keeps f.edits.balance f.edits.same_limit;
     }
 
+    -- an exchange whose expected value is there is one
     pub exchanges : (r : Option ℕ) (v : ℕ) (after : Option ℕ) → Some v ≡ value_at (heap_of old.nodes) key
         → Frees charged limit old new key r (settled r after) (going_by after (goes_at (heap_of old.nodes) key))
         → Modifies nat_eq charged limit (content charged d old) (content charged d new) (going_by after (map.get (goes_of old.nodes) k)) (call.Exchange k v after) (reply.Exchange (Ok after))
@@ -202,10 +211,12 @@ module _ {A D : Type 0} (charged limit : A → ℕ) (d : D) (t : Arena ℕ A) (k
     keeps = keeps charged limit d t t refl refl;
   }
 
+  -- a compute if present of an absent key changes nothing
   pub leaves_absent : None ≡ value_at (heap_of t.nodes) key → ChangesNothing nat_eq charged limit (content charged d t) (content charged d t) (call.ComputePresent k None) (reply.ComputePresent None)
   leaves_absent e = leaves (call.ComputePresent k None) (reply.ComputePresent None)
       (answered_absent nat_eq t.nodes t.nodes k small None (sym (e ∙ ap (value_at (heap_of t.nodes)) is)))
 
+  -- an exchange whose expected value isn't there changes nothing
   pub leaves_other : (v : ℕ) (after found : Option ℕ) → found ≢ Some v → found ≡ value_at (heap_of t.nodes) key
       → ChangesNothing nat_eq charged limit (content charged d t) (content charged d t) (call.Exchange k v after) (reply.Exchange (Err found))
   leaves_other v after found ne e = leaves (call.Exchange k v after) (reply.Exchange (Err found))

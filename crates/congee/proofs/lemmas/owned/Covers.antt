@@ -70,15 +70,19 @@ module _ {P : Type 0} (s0 s1 s2 : Nodes P) (key : List ℕ) (common over other b
     same_over : get s2 over ≡ get s3 over
     same_over = hangs.now ∙ sym over_now
 
+    -- it stands after the leaf in its way went
     pub cover_stands : ContainsKey s3 over
     cover_stands = rw over_now refl
 
+    -- it is an inner node
     pub cover_inner : length (take common key) < 7 → (x : Node ℕ P) → get s3 over ≡ Some x → length (prefix_of x) < 7
     cover_inner short x e = hung_inner s0 s1 s2 over _ _ key v made hangs short x (same_over ∙ e)
 
+    -- it has nothing at the byte of the leaf that went
     pub cover_absent : get_or key common 0 ≢ other → (x : Node ℕ P) → get s3 over ≡ Some x → map.get (children_of x) other ≡ None
     cover_absent ne x e = hung_absent s0 s1 s2 over _ _ key v made hangs other ne x (same_over ∙ e)
 
+    -- it isn't full
     pub cover_full : (x : Node ℕ P) → get s3 over ≡ Some x → is_full_of x ≡ false
     cover_full x e = hung_room s0 s1 s2 over _ _ key v made hangs x (same_over ∙ e)
 
@@ -202,15 +206,19 @@ module _ {P : Type 0} (s0 s1 s2 : Nodes P) (key : List ℕ) (common over other b
         renaming : Renamed hanging s4
         renaming = renamed hanging s4 over other below put.leaf hung.0.0 renames
 
+        -- the nodes are a tree
         pub cover_tree : IsTree s4
         cover_tree = renaming.tree
 
+        -- the key's value alone came into the map
         pub cover_change : MapChange s0 s4 key None (Some v)
         cover_change = renamed_change s0 hanging s4 key None (Some v) hung.0.1 renaming
 
+        -- the sizes grow by those of a node and a leaf
         pub cover_bytes : bytes_of s4 ≡ bytes_of s0 + 128
         cover_bytes = renaming.bytes ∙ hung.1
 
+        -- the nodes have enough children if they had
         pub cover_filled : NodesFilled s0 → NodesFilled s4
         cover_filled f =
             let same : get forking at ≡ get s0 at = forked_at s0 s1 s2 forking key common over other below v forked at w.stands in

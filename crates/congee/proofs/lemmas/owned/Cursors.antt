@@ -117,10 +117,12 @@ module _ {P : Type 0} (s : Nodes P) where
       → (b : ℕ) → from ≤ b → b < to → (heap_of s n).children b ≡ Nothing
   nothing_there n from to x e none = λ b lo hi. rw (e, none b lo hi) refl
 
+  -- a node with no child from a byte on has nothing there for the tree
   pub nothing_more : (n from : ℕ) (x : Form ℕ P) → get s n ≡ Some x → ((b : ℕ) → from ≤ b → map.get (children_of x) b ≡ None)
       → (b : ℕ) → from ≤ b → (heap_of s n).children b ≡ Nothing
   nothing_more n from x e none = λ b lo. rw (e, none b lo) refl
 
+  -- what a node has under a byte hangs there for the tree
   pub child_there : (n b : ℕ) (x : Form ℕ P) (c d : Child ℕ P) → get s n ≡ Some x → map.get (children_of x) b ≡ Some c → c ≡ d → (heap_of s n).children b ≡ hung_in (Some d)
   child_there n b x c d e f g = rw (e, f, g) refl
 
@@ -145,6 +147,7 @@ module _ {P : Type 0} (s : Nodes P) where
   on_cut a [] b h = h.0.bound
   on_cut a (c ∷ rest) b h = (h.0, on_cut c rest b h.1)
 
+  -- a way without its last step is one
   pub cursor_cut : (steps : List Branch) (b : Branch) → IsCursor s (steps ++ b ∷ []) → IsCursor s steps
   cursor_cut [] b h = tt
   cursor_cut (a ∷ rest) b h = (h.0, on_cut a rest b h.1)
@@ -153,6 +156,7 @@ module _ {P : Type 0} (s : Nodes P) where
   on_moved a [] n from to l h = (record { byte = h.0.byte; passed = h.0.passed; bound = h.0.bound; hangs = h.0.hangs }, l)
   on_moved a (c ∷ rest) n from to l h = (h.0, on_moved c rest n from to l h.1)
 
+  -- a way whose last step goes on within its node is one
   pub cursor_moved : (steps : List Branch) (n from to : ℕ) → to ≤ 256 → IsCursor s (steps ++ step n from ∷ []) → IsCursor s (steps ++ step n to ∷ [])
   cursor_moved [] n from to l h = (h.0, l)
   cursor_moved (a ∷ rest) n from to l h = (h.0, on_moved a rest n from to l h.1)
@@ -165,6 +169,7 @@ module _ {P : Type 0} (s : Nodes P) where
   cursor_longer [] b c l f h = (h.0, (l, f))
   cursor_longer (a ∷ rest) b c l f h = (h.0, on_longer a rest b c l f h.1)
 
+  -- a way that goes on into the node under the byte that it passed is one
   pub cursor_down : (steps : List Branch) (n from byte below : ℕ) → byte + 1 ≤ 256 → (heap_of s n).children byte ≡ Below below → IsCursor s (steps ++ step n from ∷ [])
       → IsCursor s ((steps ++ step n (byte + 1) ∷ []) ++ step below 0 ∷ [])
   cursor_down steps n from byte below b e h =
@@ -252,6 +257,7 @@ module _ {P : Type 0} (s : Nodes P) (t : IsTree s) where
       let last = on_last d rest b (child_stands a d c h.0) h.1 (above + 1) (omega (arith, i.longer, l)) in
       record { stands = last.stands; deep = omega (arith, last.deep); bound = last.bound }
 
+  -- the last node of a way stands, with a prefix of as many bytes at least as there are steps above
   pub last_of : (steps : List Branch) (b : Branch) → IsCursor s (steps ++ b ∷ []) → EndsWay s (length steps) b
   last_of [] b h = record { stands = root_stands b h.0; deep = omega arith; bound = h.1 }
   last_of (a ∷ rest) b h =
@@ -265,6 +271,7 @@ module _ {P : Type 0} (s : Nodes P) (t : IsTree s) where
       let z : length (heap_of s 0).prefix ≡ 0 = ap length t.tree.empty in
       absurd (omega (arith, i.longer, z))
 
+  -- above a node from which a way leads further down there are fewer than seven steps
   pub few_below : (steps : List Branch) (n from byte below : ℕ) → IsCursor s (steps ++ step n from ∷ []) → (heap_of s n).children byte ≡ Below below → length steps < 7
   few_below steps n from byte below h e =
       let last = last_of steps (step n from) h in
@@ -272,9 +279,11 @@ module _ {P : Type 0} (s : Nodes P) (t : IsTree s) where
       let short = t.tree.short below i.linked in
       omega (arith, last.deep, i.longer, short)
 
+  -- a node of a tree in which a value hangs has a prefix of seven bytes
   pub seven : (n b : ℕ) (v : P) → ContainsKey s n → (heap_of s n).children b ≡ Holds v → length (heap_of s n).prefix ≡ 7
   seven n b v c e = t.tree.leaves n b v (linked_of s t.parent n c) e
 
+  -- above the last step of a way there are fewer than eight
   pub few_before : (steps : List Branch) (b : Branch) → IsCursor s (steps ++ b ∷ []) → length steps < 8
   few_before steps b h =
       let last = last_of steps b h in
@@ -469,6 +478,7 @@ module _ {P : Type 0} (s : Nodes P) (t : IsTree s) where
     rest = λ q h l. inr (rw t.tree.empty refl);
   })
 
+  -- a key's way that leads on to a node with a prefix of the key has come down to it
   pub goes_down : (steps : List Branch) (at below key from : ℕ) → key < 2 ^ 64 → Descends s steps at key → from ≡ get_or (key_bytes key) (length (heap_of s at).prefix) 0 + 1 → from ≤ 256
       → child_for (heap_of s at) (key_bytes key) ≡ Below below → fits (heap_of s below).prefix (key_bytes key) ≡ true → Descends s (steps ++ step at from ∷ []) below key
   goes_down steps at below key from lk d ef b e f =
@@ -523,10 +533,12 @@ module _ {P : Type 0} (s : Nodes P) (t : IsTree s) where
       ])
       (λ q h l f. let up = byte_from at key q d.way.stands l (small q h) d.way.fitted f in omega (arith, up, ef))
 
+  -- where nothing hangs at the key's byte, the pairs from the key on are those ahead of a step there
   pub ends_free : (steps : List Branch) (at key from : ℕ) → key < 2 ^ 64 → Descends s steps at key → from ≡ get_or (key_bytes key) (length (heap_of s at).prefix) 0 → from ≤ 256
       → child_for (heap_of s at) (key_bytes key) ≡ Nothing → IsCursor s (steps ++ step at from ∷ []) × IsAt s (steps ++ step at from ∷ []) key
   ends_free steps at key from lk d ef b e = ends_here steps at key from lk d ef b (λ q h f same. absurd (finds_child q at h d.way.stands f (turns_same at key q Nothing same e)))
 
+  -- where the key's value hangs, the pairs from the key on are those ahead of a step there
   pub ends_held : (steps : List Branch) (at key from : ℕ) (x : P) → key < 2 ^ 64 → Descends s steps at key → from ≡ get_or (key_bytes key) (length (heap_of s at).prefix) 0 → from ≤ 256
       → child_for (heap_of s at) (key_bytes key) ≡ Holds x → IsCursor s (steps ++ step at from ∷ []) × IsAt s (steps ++ step at from ∷ []) key
   ends_held steps at key from x lk d ef b e = ends_here steps at key from lk d ef b
@@ -569,12 +581,14 @@ pub record IsByte {P : Type 0} (s : Nodes P) (at key b : ℕ) : Type 0 where
 
 -- the byte at a node, and what hangs there, as they are read with the key's bytes and the length of the node's prefix
 module _ {P : Type 0} (s : Nodes P) (at key : ℕ) (ks : List ℕ) (bytes : ks ≡ key_bytes key) where
+  -- the byte that is read at the length of a node's prefix is the key's byte there
   pub byte_read : IsTree s → ContainsKey s at → (len : ℕ) → len ≡ length (heap_of s at).prefix → IsByte s at key (get_or ks len 0)
   byte_read t stands len count =
       let byte : get_or ks len 0 ≡ get_or (key_bytes key) (length (heap_of s at).prefix) 0 =
       ap (λ y. get_or y len 0) bytes ∙ ap (λ k. get_or (key_bytes key) k 0) count in
       record { byte = byte; low = omega (arith, byte, byte_small key (length (heap_of s at).prefix) (omega (arith, short_prefix s t at stands))) }
 
+  -- what hangs for the bytes that were read hangs for the key
   pub child_read : (x : Hung P) → child_for (heap_of s at) ks ≡ x → child_for (heap_of s at) (key_bytes key) ≡ x
   child_read x h = subst (λ y. child_for (heap_of s at) y ≡ x) bytes h
 

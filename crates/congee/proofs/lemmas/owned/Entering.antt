@@ -52,27 +52,32 @@ begins_by x b (Sub slot) = tt
 begins_by x b (Leaf tail value) = refl
 
 module _ {P : Type 0} (x : List ℕ) where
+  -- a node by its prefix and its places has the form of the places
   pub form_by : (p : Places P) → form_of (node_by x p) ≡ form_in p
   form_by (N4 n) = refl
   form_by (N16 n) = refl
   form_by (N48 n) = refl
   form_by (N256 n) = refl
 
+  -- it has that prefix
   pub prefix_by : (p : Places P) → prefix_of (node_by x p) ≡ x
   prefix_by (N4 n) = refl
   prefix_by (N16 n) = refl
   prefix_by (N48 n) = refl
   prefix_by (N256 n) = refl
 
+  -- its children are what the entries keep
   pub children_by : (p : Places P) → children_of (node_by x p) ≡ mapped (child_by x) (entries_in p)
   children_by (N4 n) = refl
   children_by (N16 n) = refl
   children_by (N48 n) = refl
   children_by (N256 n) = refl
 
+  -- places without entries are a node without children
   pub bare_by : (p : Places P) → entries_in p ≡ map.empty → children_of (node_by x p) ≡ map.empty
   bare_by p e = children_by p ∙ (ap (mapped (child_by x)) e ∙ mapped_empty (child_by x))
 
+  -- it is full where the places are
   pub full_by : (p : Places P) → is_full_of (node_by x p) ≡ full_in p
   full_by (N4 n) = rw (len_mapped (child_by x) n) refl
   full_by (N16 n) = rw (len_mapped (child_by x) n.value.children) refl
@@ -88,24 +93,30 @@ module _ {P : Type 0} (x : List ℕ) where
 
 -- an inner node by its prefix and its places
 module _ {P : Type 0} (x : List ℕ) (p : Places P) (n : Node ℕ (Lone P)) (is : node_by x p ≡ n) where
+  -- the node's prefix is the one of the places
   pub prefix_at : prefix_of n ≡ x
   prefix_at = ap prefix_of (sym is) ∙ prefix_by x p
 
+  -- its children are what the entries keep
   pub children_at : mapped (child_by x) (entries_in p) ≡ children_of n
   children_at = sym (children_by x p) ∙ ap children_of is
 
   get_at : (b : ℕ) → map.get (children_of n) b ≡ option_map (child_by x b) (map.get (entries_in p) b)
   get_at b = ap (λ m. map.get m b) (sym children_at) ∙ get_mapped (child_by x) (entries_in p) b
 
+  -- where there is no entry there is no child
   pub none_at : (b : ℕ) → map.get (entries_in p) b ≡ None → map.get (children_of n) b ≡ None
   none_at b e = get_at b ∙ ap (option_map (child_by x b)) e
 
+  -- an entry is the child that it keeps
   pub some_at : (b : ℕ) (e : Entry P) → map.get (entries_in p) b ≡ Some e → map.get (children_of n) b ≡ Some (child_by x b e)
   some_at b e h = get_at b ∙ ap (option_map (child_by x b)) h
 
+  -- where there is no child there is no entry
   pub absent_at : (b : ℕ) → map.get (children_of n) b ≡ None → map.get (entries_in p) b ≡ None
   absent_at b e = mapped_none (child_by x) (entries_in p) b (ap (λ m. map.get m b) children_at ∙ e)
 
+  -- where there is a child there is an entry
   pub present_at : (b : ℕ) → IsSome (map.get (children_of n) b) → IsSome (map.get (entries_in p) b)
   present_at b h = of (map.get (entries_in p) b) (subst IsSome (get_at b) h)
     where
@@ -113,14 +124,17 @@ module _ {P : Type 0} (x : List ℕ) (p : Places P) (n : Node ℕ (Lone P)) (is 
       of None h = h
       of (Some e) h = refl
 
+  -- where the node isn't full the places aren't
   pub room_at : is_full_of n ≡ false → full_in p ≡ false
   room_at e = sym (full_by x p) ∙ (ap is_full_of is ∙ e)
 
+  -- the first entry from a byte on is the first child
   pub first_at : (from b : ℕ) (e : Entry P) → IsFirst (entries_in p) from b e → IsFirst (children_of n) from b (child_by x b e)
   first_at from b e f = subst (λ m. IsFirst m from b (child_by x b e)) children_at (first_mapped (child_by x) (entries_in p) from b e f)
 
   -- what the places became
   module _ (p' : Places P) (n' : Node ℕ (Lone P)) (is' : node_by x p' ≡ n') where
+    -- an entry that came in is the node with its child
     pub inserted : (b : ℕ) (e : Entry P) (c : Child ℕ (Lone P)) → child_by x b e ≡ c → Refills p p' (map.insert (entries_in p) b e) → Becomes n n' (map.insert (children_of n) b c)
     inserted b e c k r =
         let w = becomes_by x p p' (map.insert (entries_in p) b e) r in
@@ -128,12 +142,14 @@ module _ {P : Type 0} (x : List ℕ) (p : Places P) (n : Node ℕ (Lone P)) (is 
         mapped_insert (child_by x) (entries_in p) b e ∙ (ap (λ m. map.insert m b (child_by x b e)) children_at ∙ ap (map.insert (children_of n) b) k) in
         record { form = ap form_of (sym is') ∙ (w.form ∙ ap form_of is); prefix = ap prefix_of (sym is') ∙ (w.prefix ∙ ap prefix_of is); children = ap children_of (sym is') ∙ (w.children ∙ m) }
 
+    -- an entry that went is the node without its child
     pub removed : (b : ℕ) → Refills p p' (map.remove (entries_in p) b) → Becomes n n' (map.remove (children_of n) b)
     removed b r =
         let w = becomes_by x p p' (map.remove (entries_in p) b) r in
         let m : mapped (child_by x) (map.remove (entries_in p) b) ≡ map.remove (children_of n) b = mapped_remove (child_by x) (entries_in p) b ∙ ap (λ m. map.remove m b) children_at in
         record { form = ap form_of (sym is') ∙ (w.form ∙ ap form_of is); prefix = ap prefix_of (sym is') ∙ (w.prefix ∙ ap prefix_of is); children = ap children_of (sym is') ∙ (w.children ∙ m) }
 
+    -- places whose entries went are the node without children
     pub cleared : Refills p p' map.empty → Becomes n n' map.empty
     cleared r =
         let w = becomes_by x p p' map.empty r in

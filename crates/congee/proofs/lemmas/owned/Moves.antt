@@ -26,18 +26,23 @@ use Rattle.congee.proofs.lemmas.owned.Joins.{add_leaf_done, drop_leaf_done, add_
 
 -- look-ups in a map of children after a change at one byte
 module _ {X : Type 0} where
+  -- where a pair was put in, the map has it
   pub insert_at : (m : map.FinMap nat_cmp X) (k : ℕ) (x : X) → map.get (map.insert m k x) k ≡ Some x
   insert_at m k x = grind (gets, rules)
 
+  -- a pair that is put in changes nothing at other keys
   pub insert_beside : (m : map.FinMap nat_cmp X) (k : ℕ) (x : X) (q : ℕ) → q ≢ k → map.get (map.insert m k x) q ≡ map.get m q
   insert_beside m k x q ne = grind (gets, rules, ne)
 
+  -- where a pair was taken out, the map has nothing
   pub remove_at : (m : map.FinMap nat_cmp X) (k : ℕ) → map.get (map.remove m k) k ≡ None
   remove_at m k = grind (gets, rules)
 
+  -- a pair that is taken out changes nothing at other keys
   pub remove_beside : (m : map.FinMap nat_cmp X) (k : ℕ) (q : ℕ) → q ≢ k → map.get (map.remove m k) q ≡ map.get m q
   remove_beside m k q ne = grind (gets, rules, ne)
 
+  -- an empty map into which a pair is put has one
   pub len_one : (k : ℕ) (x : X) → map.len (map.insert {R = nat_cmp} map.empty k x) ≡ 1
   len_one k x = grind (gets, rules)
 
@@ -58,6 +63,7 @@ module _ {P : Type 0} where
       of None h = absurd (cc h)
       of (Some x) h = (x, refl)
 
+  -- two nodes that are read under one name are one
   pub one_node : (s : Nodes P) (n : ℕ) (x y : Form ℕ P) → get s n ≡ Some x → get s n ≡ Some y → x ≡ y
   one_node s n x y e f = let z : Some x ≡ Some y = sym e ∙ f in cc
 
@@ -73,6 +79,7 @@ module _ {P : Type 0} where
   free_child (Some (Sub c)) e = absurd (cc)
   free_child (Some (Value w)) e = absurd (cc)
 
+  -- a node that gets a child differs from the one before by this child alone
   pub differs_insert : (x y : Form ℕ P) (byte : ℕ) (c : Child ℕ P) → Becomes x y (map.insert (children_of x) byte c) → Differs x y byte (Some c)
   differs_insert x y byte c b = record {
     prefix = b.prefix;
@@ -81,6 +88,7 @@ module _ {P : Type 0} where
     wide = λ w. ap capacity_of b.form ∙ w;
   }
 
+  -- a node that loses a child differs from the one before by this child alone
   pub differs_remove : (x y : Form ℕ P) (byte : ℕ) → Becomes x y (map.remove (children_of x) byte) → Differs x y byte None
   differs_remove x y byte b = record {
     prefix = b.prefix;
@@ -109,6 +117,7 @@ module _ {P : Type 0} where
       plain None = refl
       plain (Some v) = refl
 
+  -- a node of a tree that has a value for a key on its way has a prefix of seven bytes
   pub held_seven : (s : Nodes P) (key : List ℕ) (at : ℕ) → IsTree s → OnWay s key at → (h : IsHeld s key at) → length (heap_of s at).prefix ≡ 7
   held_seven s key at t w h = t.tree.leaves at _ h.value (linked_of s t.parent at w.stands) h.holds
 
@@ -126,11 +135,13 @@ module _ {P : Type 0} where
       let i : x ≡ f.node = one_node s n x f.node e f.stands in
       ap (λ y. map.get (children_of y) b) i ∙ (ap (λ m. map.get m b) f.children ∙ map.get-empty _ b)
 
+  -- a node that was just made isn't full
   pub fresh_room : (s : Nodes P) (n : ℕ) (p : List ℕ) → FreshNode s n p → (x : Form ℕ P) → get s n ≡ Some x → is_full_of x ≡ false
   fresh_room s n p f x e =
       let i : x ≡ f.node = one_node s n x f.node e f.stands in
       ap is_full_of i ∙ full_is f.node ∙ (ap (λ t. full_at t (map.len (children_of f.node))) f.form ∙ (ap (λ m. full_at N4 (map.len m)) f.children ∙ grind (gets, rules)))
 
+  -- a node that was made is fresh, in each later arena where it stands as it was made
   pub fresh_made : (s s' s'' : Nodes P) (n : ℕ) (p : List ℕ) → Makes s s' n p → get s'' n ≡ get s' n → FreshNode s'' n p
   fresh_made s s' s'' n p k e = record { node = k.node; stands = e ∙ k.updates.changed; form = k.form; prefixed = k.prefixed; children = k.children }
 
@@ -197,12 +208,15 @@ module _ {P : Type 0} where
       let hx : heap_of s at ≡ node_of (Some x) = ap node_of e in
       free_child _ (rw hx at f)
 
+  -- the prefix that the tree sees under a name is that of the node there
   pub prefix_at : (s : Nodes P) (at : ℕ) (x : Form ℕ P) → get s at ≡ Some x → (heap_of s at).prefix ≡ prefix_of x
   prefix_at s at x e = rw e refl
 
+  -- where a node is read, one stands
   pub stands_at : (s : Nodes P) (at : ℕ) (x : Form ℕ P) → get s at ≡ Some x → ContainsKey s at
   stands_at s at x e = rw e refl
 
+  -- a name with a node and one without are two
   pub apart_of : (s : Nodes P) (m n : ℕ) (x : Form ℕ P) → get s m ≡ Some x → get s n ≡ None → m ≢ n
   apart_of s m n x e f q = let Q : ℕ → Type 0 = λ y. get s y ≡ Some x in let z : None ≡ Some x = sym f ∙ subst Q q e in cc
 
@@ -217,18 +231,22 @@ module _ {P : Type 0} where
     pub room : is_full_of node ≡ false
     pub wide : capacity_of (form_of before) ≡ 256 → capacity_of (form_of node) ≡ 256
 
+  -- a node that was given room stands
   pub roomy_stands : (s s' : Nodes P) (at : ℕ) → Roomy s s' at → ContainsKey s' at
   roomy_stands s s' at r = stands_at s' at r.node r.now
 
+  -- the key's byte at the node with room is the one that it was at the node before
   pub roomy_byte : (s s' : Nodes P) (key : List ℕ) (at byte : ℕ) → (r : Roomy s s' at) → byte ≡ get_or key (length (heap_of s' at).prefix) 0 → byte ≡ get_or key (length (prefix_of r.before)) 0
   roomy_byte s s' key at byte r b = b ∙ ap (λ p. get_or key (length p) 0) (prefix_at s' at r.node r.now ∙ r.prefix)
 
+  -- what had nothing at the key's byte has nothing there with room
   pub roomy_absent : (s s' : Nodes P) (key : List ℕ) (at byte : ℕ) → (r : Roomy s s' at) → child_for (heap_of s at) key ≡ Nothing → byte ≡ get_or key (length (heap_of s' at).prefix) 0
       → (x : Form ℕ P) → get s' at ≡ Some x → map.get (children_of x) byte ≡ None
   roomy_absent s s' key at byte r f b x e =
       let i : x ≡ r.node = one_node s' at x r.node e r.now in
       ap (λ y. map.get (children_of y) byte) i ∙ (ap (λ m. map.get m byte) r.children ∙ (ap (map.get (children_of r.before)) (roomy_byte s s' key at byte r b) ∙ free_is s key at r.before r.was f))
 
+  -- a node that was given room isn't full
   pub roomy_room : (s s' : Nodes P) (at : ℕ) → Roomy s s' at → (x : Form ℕ P) → get s' at ≡ Some x → is_full_of x ≡ false
   roomy_room s s' at r x e = ap is_full_of (one_node s' at x r.node e r.now) ∙ r.room
 
@@ -244,6 +262,7 @@ module _ {P : Type 0} where
         wide = λ w. d.wide (r.wide w);
       })
 
+  -- a node for which room was made is the one before, with room
   pub grown_roomy : (s s' : Nodes P) (at : ℕ) → ContainsKey s at → ((x : Form ℕ P) → get s at ≡ Some x → MakesRoom s s' at x) → Roomy s s' at
   grown_roomy s s' at st g =
       let n = node_at s at st in
@@ -314,6 +333,7 @@ module _ {P : Type 0} where
         sets_bytes s3 s4 at r.node _ r.now k,
       )
 
+  -- a fresh node with two nodes put in at different bytes is a fork over them, of the same size
   pub forked : (s s1 s2 : Nodes P) (n : ℕ) (p : List ℕ) (byte leaf other below : ℕ) → (f : FreshNode s n p) → byte ≢ other
       → Sets s s1 n f.node (map.insert (children_of f.node) byte (Sub leaf))
       → ((x : Form ℕ P) → get s1 n ≡ Some x → Sets s1 s2 n x (map.insert (children_of x) other (Sub below)))
@@ -362,6 +382,7 @@ module _ {P : Type 0} where
     pub fills : Fills s2 s3 leaf key v
     pub forks : Forks s3 s4 over (take common key) (get_or key common 0) leaf other below
 
+  -- a fork that is built beside a node leaves that node as it was
   pub forking_at : (s0 s1 s2 s3 s4 : Nodes P) (key : List ℕ) (at common over leaf other below : ℕ) (v : P) → ContainsKey s0 at
       → Forking s0 s1 s2 s3 s4 key at common over leaf other below v → get s4 at ≡ get s0 at
   forking_at s0 s1 s2 s3 s4 key at common over leaf other below v st f =

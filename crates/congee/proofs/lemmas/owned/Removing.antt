@@ -43,9 +43,11 @@ module _ {P : Type 0} where
   pub seen_form : (s : Nodes P) (n : ℕ) (x : Node ℕ P) → get s n ≡ Some x → form_by (heap_of s n).capacity ≡ form_of x
   seen_form s n x e = ap (λ o. form_by (node_of o).capacity) e ∙ form_is x
 
+  -- the size that the tree sees of a node is that of its form
   pub seen_size : (s : Nodes P) (n : ℕ) (x : Node ℕ P) → get s n ≡ Some x → size_by (heap_of s n).capacity ≡ size_of (form_of x)
   seen_size s n x e = ap size_of (seen_form s n x e)
 
+  -- how many children the tree sees is how many the node has
   pub seen_count : (s : Nodes P) (n : ℕ) (x : Node ℕ P) → get s n ≡ Some x → (heap_of s n).count ≡ map.len (children_of x)
   seen_count s n x e = ap (λ o. (node_of o).count) e
 
@@ -103,11 +105,13 @@ LessensBy cm bm cn bn f =
 
 -- how the charge and the sizes moved
 module _ {A : Type 0} (charged limit : A → ℕ) (c0 c1 : A) where
+  -- where a lesser node was charged, one was wanted, its size came to the charge, and it fitted
   pub charges_true : (b : Bool) (f : NodeType) (r : Bool) → r ≡ true → Charges charged limit c0 c1 (lesser_if b f) r → (b ≡ true) × (charged c1 ≡ charged c0 + size_of (form_below f)) × (charged c0 + size_of (form_below f) ≤ limit c0)
   charges_true true f true e k = (refl, k.charges.0, k.charges.1)
   charges_true false f true e k = absurd (k.charges)
   charges_true b f false e k = absurd (let z : false ≡ true = e in cc)
 
+  -- where none was charged, the charge is as it was
   pub charges_false : (b : Bool) (f : NodeType) (r : Bool) → r ≡ false → Charges charged limit c0 c1 (lesser_if b f) r → charged c1 ≡ charged c0
   charges_false true f false e k = k.charges.0
   charges_false false f false e k = k.charges
@@ -128,6 +132,7 @@ module _ {A : Type 0} (charged limit : A → ℕ) (c0 c1 : A) where
 
   -- one was, after which nodes of so many bytes went
   module _ (cm bm cn bn : ℕ) where
+    -- the sizes moved as where a node gives way to a lesser one
     pub gave_way : (b : Bool) (f : NodeType) (r : Bool) (before gone : ℕ) → r ≡ true → Charges charged limit c0 c1 (lesser_if b f) r → bm + gone ≡ before → LessensBy cm bm cn bn f
         → GaveWay (charged c0) (limit c0) before bn gone (lesser_if b f)
     gave_way false f true before gone q k e l = absurd (k.charges)
@@ -137,6 +142,7 @@ module _ {A : Type 0} (charged limit : A → ℕ) (c0 c1 : A) where
     ]
     gave_way b f false before gone q k e l = absurd (let z : false ≡ true = q in cc)
 
+    -- the charge moved as the nodes' sizes did
     pub gave_balance : (b : Bool) (f : NodeType) (r : Bool) (before gone : ℕ) → r ≡ true → Charges charged limit c0 c1 (lesser_if b f) r → cm + gone ≡ charged c1 → bm + gone ≡ before → LessensBy cm bm cn bn f
         → cn + before ≡ charged c0 + bn
     gave_balance b f r before gone q k c e l =
@@ -155,9 +161,11 @@ module _ {A : Type 0} (charged limit : A → ℕ) (c0 c1 : A) where
     form_there : (x : Node ℕ P) → get mid at ≡ Some x → form_of x ≡ f
     form_there x e = ap form_of (one_node mid at x new e now) ∙ (form ∙ sym ef)
 
+    -- the node isn't of the least form
     pub ready_greater : (x : Node ℕ P) → get mid at ≡ Some x → form_of x ≢ T4
     ready_greater x e q = shrinks_greater f n small (sym (form_there x e) ∙ q)
 
+    -- its children fit in the form below
     pub ready_room : (x : Node ℕ P) → get mid at ≡ Some x → map.len (children_of x) ≤ capacity_of (form_below (form_of x))
     ready_room x e =
         let l : map.len (children_of x) ≡ map.len (children_of new) = ap (λ y. map.len (children_of y)) (one_node mid at x new e now) in
@@ -165,6 +173,7 @@ module _ {A : Type 0} (charged limit : A → ℕ) (c0 c1 : A) where
         let m = shrinks_room f n small in
         omega (arith, l, c, m, en, fewer)
 
+    -- the charge covers the nodes' sizes and that of the lesser node
     pub ready_covered : (cm gone : ℕ) → cm + gone ≡ charged c1 → bytes_of mid + gone ≤ charged c0 → (x : Node ℕ P) → get mid at ≡ Some x → bytes_of mid + size_of (form_below (form_of x)) ≤ cm
     ready_covered cm gone e b x h =
         let c : size_of (form_below (form_of x)) ≡ size_of (form_below f) = ap (λ y. size_of (form_below y)) (form_there x h) in
@@ -194,6 +203,7 @@ module _ {P : Type 0} where
       same_name : (o : Option (Child ℕ P)) (m n : ℕ) → o ≡ Some (Sub m) → o ≡ Some (Sub n) → m ≡ n
       same_name o m n e h = let a : Child ℕ P = Sub m in let d : Child ℕ P = Sub n in let z : Some a ≡ Some d = sym e ∙ h in cc
 
+  -- a leaf that loses its value, then its parent's place and its slot, is a child that its parent loses
   pub dropped_child : (s0 s1 s2 s3 : Nodes P) (key : List ℕ) (above at byte up : ℕ) → IsTree s0 → OnWay s0 key at → Hangs s0 key above at
       → ((x : Node ℕ P) → get s0 at ≡ Some x → Sets s0 s1 at x (map.remove (children_of x) byte))
       → up ≡ get_or key (length (heap_of s1 above).prefix) 0
@@ -222,6 +232,7 @@ module _ {P : Type 0} where
     child_lost : map.get (children_of k.old) (get_or key (length (prefix_of k.old)) 0) ≡ Some (Sub at)
     child_lost = child_there s t key above at h.way.stands h.child k.old k.was _ (ap (λ p. get_or key (length p) 0) (sym (prefix_at s above k.old k.was)))
 
+    -- it has one child fewer
     pub fewer : map.len (children_of k.new) ≡ map.len (children_of k.old) - 1
     fewer = ap map.len k.becomes.children ∙ len_fewer (children_of k.old) _ (Sub at) child_lost
 
@@ -315,9 +326,11 @@ module _ {P : Type 0} where
         k.others top (above_apart s t key top above higher)
         (λ e. let z : length (heap_of s top).prefix ≡ length (heap_of s at).prefix = ap (λ y. length (heap_of s y).prefix) e in absurd (omega (arith, l, m, z)))
 
+    -- it stands
     pub top_stands : ContainsKey mid top
     top_stands = subst IsSome (sym top_same) higher.way.stands
 
+    -- a node that had two children and lost one has its other child moved up
     pub lift_ready : (up : ℕ) → IsTree mid → up ≡ get_or key (length (heap_of mid top).prefix) 0 → ((x : Node ℕ P) → get s above ≡ Some x → map.len (children_of x) ≡ 2) → MayLift mid top up above
     lift_ready up t' b two =
         let u = node_at s top higher.way.stands in
@@ -332,10 +345,12 @@ module _ {P : Type 0} where
 
 -- what goes with a leaf from another node than the root
 module _ {P : Type 0} (leaf above : Seen P) where
+  -- from a node of two children the leaf and that node go, and no lesser one comes
   pub going_two : (n : ℕ) → n ≢ 0 → above.count ≡ 2 → going_last leaf n above ≡ record { gone = size_by leaf.capacity + size_by above.capacity; lesser = None }
   going_two zero ne e = absurd (ne refl)
   going_two (suc n) ne e = rw e refl
 
+  -- from a node of more, the leaf goes, and a lesser node comes if the node's form and count want one
   pub going_more : (n : ℕ) → n ≢ 0 → above.count ≢ 2 → going_last leaf n above ≡ record { gone = size_by leaf.capacity; lesser = lesser_of above }
   going_more zero ne e = absurd (ne refl)
   going_more (suc n) ne e =
@@ -343,9 +358,11 @@ module _ {P : Type 0} (leaf above : Seen P) where
       rw f refl
 
 module _ {P : Type 0} (h : ℕ → Seen P) (above n : ℕ) where
+  -- with the only value of a leaf goes what goes with the leaf
   pub going_alone : (h n).count ≡ 1 → going_from h above n ≡ going_last (h n) above (h above)
   going_alone e = rw e refl
 
+  -- with one of several values goes what goes with a value alone
   pub going_beside : (h n).count ≢ 1 → going_from h above n ≡ going_one (h n)
   going_beside e =
       let f : ((h n).count == 1) ≡ false = elim (eqb_tells (h n).count 1) [ inl q ↦ absurd (e q.1) | inr q ↦ q.0 ] in

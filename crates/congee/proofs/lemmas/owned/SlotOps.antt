@@ -71,11 +71,13 @@ module _ {P : Type 0} (i : ℕ) (n n' : Node ℕ (Lone P)) (y : Node ℕ P) (see
       of None e = absurd (let z : HasNode {P = P} None = subst HasNode (none_mapped (inner_child i) (children_of n) b e) (subst (λ m. HasNode (map.get m b)) (sym children_seen) h) in z)
       of (Some c) e = refl
 
+  -- a node has a leaf with one value in its place under the byte, which the tree sees under a name
   pub record InlineIn : Type 0 where
     pub lone : Lone P
     pub here : map.get (children_of n) b ≡ Some (Value lone)
     pub child : map.get (children_of y) b ≡ Some (Sub (257 * i + (b + 1)))
 
+  -- where the tree sees a leaf that lies in its parent's place, one lies there
   pub inline_in : HasInline (map.get (children_of y) b) → InlineIn
   inline_in h = of (map.get (children_of n) b) refl
     where
@@ -262,15 +264,19 @@ module _ {P : Type 0} (s : Slab (Slot P)) (v : Nodes P) (is : nodes_in s ≡ v) 
   there : (y : Node ℕ P) × (get v at ≡ Some y)
   there = node_at v at stands
 
+  -- the slot to which the name of a node with a slot belongs isn't vacant
   pub has_slot : ContainsKey s i
   has_slot = rw (at_node there.0 there.1).stands refl
 
+  -- the slot has an inner node
   pub slot_inner : (x : Slot P) → get s i ≡ Some x → IsInner x
   slot_inner x e = is_inner s v at i there.0 (at_node there.0 there.1) x e
 
+  -- a byte at which the tree sees nothing has nothing in the slot
   pub slot_absent : (x : Slot P) → get s i ≡ Some x → (b : ℕ) → ((y : Node ℕ P) → get v at ≡ Some y → map.get (children_of y) b ≡ None) → inner_get x b ≡ None
   slot_absent x e b h = inner_absent s v at i there.0 (at_node there.0 there.1) x e b (h there.0 there.1)
 
+  -- a node that isn't full for the tree isn't full in its slot
   pub slot_room : (x : Slot P) → get s i ≡ Some x → ((y : Node ℕ P) → get v at ≡ Some y → is_full_of y ≡ false) → full_in x ≡ false
   slot_room x e h = inner_room s v at i there.0 (at_node there.0 there.1) x e (h there.0 there.1)
 
@@ -281,6 +287,7 @@ module _ {P : Type 0} (s : Slab (Slot P)) (v : Nodes P) (is : nodes_in s ≡ v) 
       let p : prefix_of there.0 ≡ prefix_in x = ap prefix_of (sym k.seen) ∙ (with_prefix (inner_child i) k.node ∙ ap prefix_in (sym (inner_slot s v at i there.0 k x e))) in
       h there.0 there.1 ∙ ap (λ p. first_byte p b) p
 
+  -- the nodes with another one in this slot have the room that they had
   pub same_capacity : (x x' : Slot P) → (nodes_in (with_value s i x')).capacity ≡ v.capacity
   unfolding nodes_in
   same_capacity x x' = ap (λ w. w.capacity) is
@@ -297,6 +304,7 @@ module _ {P : Type 0} (s : Slab (Slot P)) (v : Nodes P) (is : nodes_in s ≡ v) 
     kept : (y : Node ℕ P) → (k : AtInner s v at i y) → x ≡ Inner k.node
     kept y k = inner_slot s v at i y k x e
 
+    -- the slots are sound after a leaf was put in a place that had none: one more leaf lies so
     pub hang_leaf_stored : (lone : Lone P) → HasRoomFor v 1 → ((y : Node ℕ P) → (k : AtInner s v at i y) → get v at ≡ Some y → lone_in (map.get (children_of k.node) b) ≡ None) → InnerBecomes x x' (λ m. map.insert m b (Value lone)) → IsStored (with_value s i x') (inline + 1)
     hang_leaf_stored lone room free ib =
         let k = at_node there.0 there.1 in
@@ -306,6 +314,7 @@ module _ {P : Type 0} (s : Slab (Slot P)) (v : Nodes P) (is : nodes_in s ≡ v) 
         subst (λ z. IsStored (with_value s i z) (inline + 1)) (sym a.is)
         (stored_insert s v is at i b there.0 k low a.node (Value lone) a.becomes inline (inline + 1) st (omega (arith, c)) (omega (arith, r)))
 
+    -- and the tree sees a leaf for the key that comes in under a free name below the node
     pub hang_leaf_done : (lone : Lone P) (key : List ℕ) (value : P) → lone.key ≡ key → lone.value ≡ value → ((y : Node ℕ P) → (k : AtInner s v at i y) → get v at ≡ Some y → lone_in (map.get (children_of k.node) b) ≡ None) → InnerBecomes x x' (λ m. map.insert m b (Value lone))
         → (y : Node ℕ P) → get v at ≡ Some y → HangsLeaf v (nodes_in (with_value s i x')) at y b key value
     hang_leaf_done lone key value ek ev free ib y h =
@@ -323,6 +332,7 @@ module _ {P : Type 0} (s : Slab (Slot P)) (v : Nodes P) (is : nodes_in s ≡ v) 
         subst (λ z. IsStored (with_value s i z) inline) (sym a.is)
         (stored_insert s v is at i b there.0 k low a.node (Sub below) a.becomes inline inline st (omega (arith, c)) r)
 
+    -- and the tree sees the node get that child
     pub put_node_done : (below target : ℕ) → target ≡ 257 * below → ((y : Node ℕ P) → (k : AtInner s v at i y) → get v at ≡ Some y → lone_in (map.get (children_of k.node) b) ≡ None) → InnerBecomes x x' (λ m. map.insert m b (Sub below))
         → (y : Node ℕ P) → get v at ≡ Some y → Sets v (nodes_in (with_value s i x')) at y (map.insert (children_of y) b (Sub target))
     put_node_done below target et free ib y h =
@@ -339,11 +349,13 @@ module _ {P : Type 0} (s : Slab (Slot P)) (v : Nodes P) (is : nodes_in s ≡ v) 
     pub node_free : ((y : Node ℕ P) → get v at ≡ Some y → HasNode (map.get (children_of y) b)) → (y : Node ℕ P) → (k : AtInner s v at i y) → get v at ≡ Some y → lone_in (map.get (children_of k.node) b) ≡ None
     node_free has y k h = node_in i k.node k.node y k.seen b low (has y h)
 
+    -- a byte under which the tree sees a node with a slot has something in the slot
     pub slot_present : ((y : Node ℕ P) → get v at ≡ Some y → HasNode (map.get (children_of y) b)) → IsSome (inner_get x b)
     slot_present has =
         let k = at_node there.0 there.1 in
         subst IsSome (sym (ap (λ w. inner_get w b) (kept there.0 k))) (node_some i k.node k.node there.0 k.seen b (has there.0 there.1))
 
+    -- the slots are sound after a node with a slot was taken out from under a byte
     pub take_node_stored : ((y : Node ℕ P) → get v at ≡ Some y → HasNode (map.get (children_of y) b)) → InnerBecomes x x' (λ m. map.remove m b) → IsStored (with_value s i x') inline
     take_node_stored has ib =
         let k = at_node there.0 there.1 in
@@ -352,6 +364,7 @@ module _ {P : Type 0} (s : Slab (Slot P)) (v : Nodes P) (is : nodes_in s ≡ v) 
         let r = st.room in
         subst (λ z. IsStored (with_value s i z) inline) (sym a.is) (stored_remove s v is at i b there.0 k low a.node a.becomes inline inline st (omega (arith, c)) r)
 
+    -- and the tree sees the node lose that child
     pub take_node_done : ((y : Node ℕ P) → get v at ≡ Some y → HasNode (map.get (children_of y) b)) → InnerBecomes x x' (λ m. map.remove m b)
         → (y : Node ℕ P) → get v at ≡ Some y → Sets v (nodes_in (with_value s i x')) at y (map.remove (children_of y) b)
     take_node_done has ib y h =
@@ -365,6 +378,7 @@ module _ {P : Type 0} (s : Slab (Slot P)) (v : Nodes P) (is : nodes_in s ≡ v) 
       pub here : inner_get x b ≡ Some (Value lone)
       pub some : 0 < inline
 
+    -- where the tree sees a leaf that lies in its parent's place, the slot has one
     pub inline_there : ((y : Node ℕ P) → get v at ≡ Some y → HasInline (map.get (children_of y) b)) → InlineThere
     inline_there has =
         let k = at_node there.0 there.1 in
@@ -378,9 +392,11 @@ module _ {P : Type 0} (s : Slab (Slot P)) (v : Nodes P) (is : nodes_in s ≡ v) 
               let c = st.counted in omega (arith, more, c);
         }
 
+    -- what is read at that byte is that leaf
     pub inline_read : (t : InlineThere) (r : Child ℕ (Lone P)) → inner_get x b ≡ Some r → r ≡ Value t.lone
     inline_read t r e = let z : Some r ≡ Some (Value t.lone) = sym e ∙ t.here in cc
 
+    -- a leaf that is read at that byte is that one
     pub inline_same : (t : InlineThere) (r : Child ℕ (Lone P)) → inner_get x b ≡ Some r → (lone : Lone P) → r ≡ Value lone → t.lone ≡ lone
     inline_same t r e lone q = let a : Child ℕ (Lone P) = Value t.lone in let c : Child ℕ (Lone P) = Value lone in let z : a ≡ c = sym (inline_read t r e) ∙ q in cc
 
@@ -395,6 +411,7 @@ module _ {P : Type 0} (s : Slab (Slot P)) (v : Nodes P) (is : nodes_in s ≡ v) 
         subst (λ z. IsStored (with_value s i z) (inline - 1)) (sym a.is)
         (stored_insert s v is at i b there.0 k low a.node (Sub below) a.becomes inline (inline - 1) st (omega (arith, c, z)) (omega (arith, r)))
 
+    -- and the tree sees the leaf go, and the node come in its place
     pub cover_leaf_done : (t : InlineThere) (below target : ℕ) → target ≡ 257 * below → (lone : Lone P) → t.lone ≡ lone → ((y : Node ℕ P) → get v at ≡ Some y → HasInline (map.get (children_of y) b)) → InnerBecomes x x' (λ m. map.insert m b (Sub below))
         → (y : Node ℕ P) → get v at ≡ Some y → CoversLeaf v (nodes_in (with_value s i x')) at y b target lone.key lone.value
     cover_leaf_done t below target et lone el has ib y h =
@@ -404,6 +421,7 @@ module _ {P : Type 0} (s : Slab (Slot P)) (v : Nodes P) (is : nodes_in s ≡ v) 
         subst (λ z. CoversLeaf v (nodes_in (with_value s i z)) at y b target lone.key lone.value) (sym a.is)
         (covers_leaf s v is at i b y k low a.node below target et lone a.becomes (here ∙ ap (λ l. Some (Value l)) el) (has y h))
 
+    -- the slots are sound after the leaf was taken out of its place: one leaf less lies so
     pub take_leaf_stored : (t : InlineThere) → InnerBecomes x x' (λ m. map.remove m b) → IsStored (with_value s i x') (inline - 1)
     take_leaf_stored t ib =
         let k = at_node there.0 there.1 in
@@ -413,6 +431,7 @@ module _ {P : Type 0} (s : Slab (Slot P)) (v : Nodes P) (is : nodes_in s ≡ v) 
         let r = st.room in let z = t.some in
         subst (λ z. IsStored (with_value s i z) (inline - 1)) (sym a.is) (stored_remove s v is at i b there.0 k low a.node a.becomes inline (inline - 1) st (omega (arith, c, z)) (omega (arith, r)))
 
+    -- and the tree sees the leaf with its value go from below the node
     pub take_leaf_done : (t : InlineThere) (value : P) → t.lone.value ≡ value → ((y : Node ℕ P) → get v at ≡ Some y → HasInline (map.get (children_of y) b)) → InnerBecomes x x' (λ m. map.remove m b)
         → (y : Node ℕ P) → get v at ≡ Some y → LosesLeaf v (nodes_in (with_value s i x')) at y b value
     take_leaf_done t value ev has ib y h =

@@ -46,6 +46,7 @@ module _ {P : Type 0} (s : Slab (Slot P)) where
   pub slot_seen : (i : ℕ) (x : Slot P) → get s i ≡ Some x → get (nodes_in s) (257 * i) ≡ Some (slot_node i x)
   slot_seen i x e = get_slot s i ∙ ap (λ o. in_slot i o 0) e
 
+  -- where a node stands under a slot's first name, the slot isn't vacant
   pub slot_there : (i : ℕ) → ContainsKey (nodes_in s) (257 * i) → ContainsKey s i
   slot_there i h = of (get s i) (subst IsSome (get_slot s i) h)
     where
@@ -61,6 +62,7 @@ module _ {P : Type 0} (s : Slab (Slot P)) where
     pub child : map.get (children_of node) b ≡ Some (Value lone)
     pub seen : get (nodes_in s) (257 * i + (b + 1)) ≡ Some (lone_node lone)
 
+  -- what stands under a byte's name of a slot is a leaf with one value in its node's place
   pub lone_there : (i b : ℕ) → b < 256 → ContainsKey (nodes_in s) (257 * i + (b + 1)) → LoneAt i b
   lone_there i b l h = of (get s i) refl (subst IsSome (get_inline s i b l) h)
     where
@@ -129,14 +131,17 @@ module _ {P : Type 0} (i : ℕ) where
   seen_form (Inner n) = with_form (inner_child i) n
   seen_form (Leaf n) = with_form leaf_child n
 
+  -- the tree sees the prefix of the slot's node
   pub seen_prefix : (x : Slot P) → prefix_of (slot_node i x) ≡ prefix_in x
   seen_prefix (Inner n) = with_prefix (inner_child i) n
   seen_prefix (Leaf n) = with_prefix leaf_child n
 
+  -- it sees as many children
   pub seen_len : (x : Slot P) → map.len (children_of (slot_node i x)) ≡ len_in x
   seen_len (Inner n) = with_len (inner_child i) n
   seen_len (Leaf n) = with_len leaf_child n
 
+  -- it sees the node full where it is
   pub seen_full : (x : Slot P) → is_full_of (slot_node i x) ≡ full_in x
   seen_full (Inner n) = with_full (inner_child i) n
   seen_full (Leaf n) = with_full leaf_child n
@@ -160,27 +165,32 @@ own_byte at i (Some b) e low own = absurd (omega (arith, e, low, own))
 
 -- a name by its parts
 module _ {P : Type 0} (s : Slab (Slot P)) (v : Nodes P) (is : nodes_in s ≡ v) (at i : ℕ) (byte : Option ℕ) (name : 257 * i + offset_of byte ≡ at) where
+  -- a name without a byte under which a node stands is of a slot that isn't vacant
   pub named_slot : byte ≡ None → ContainsKey v at → ContainsKey s i
   named_slot e h =
       let n : at ≡ 257 * i = sym name ∙ (ap (λ b. 257 * i + offset_of b) e ∙ omega arith) in
       let Q : ℕ → Type 0 = λ k. ContainsKey v k in let R : Nodes P → Type 0 = λ w. ContainsKey w (257 * i) in
       slot_there s i (subst R (sym is) (subst Q n h))
 
+  -- what stands under such a name is the slot's node
   pub named_seen : byte ≡ None → (x : Slot P) (y : Node ℕ P) → get s i ≡ Some x → get v at ≡ Some y → slot_node i x ≡ y
   named_seen e x y g h =
       let n : at ≡ 257 * i = sym name ∙ (ap (λ b. 257 * i + offset_of b) e ∙ omega arith) in
       let z : Some (slot_node i x) ≡ Some y = sym (slot_seen s i x g) ∙ (ap (λ w. get w (257 * i)) is ∙ (ap (get v) (sym n) ∙ h)) in cc
 
+  -- a name with a byte under which a node stands is that of the byte's place
   pub named_lone : (b : ℕ) → byte ≡ Some b → ContainsKey v at → ContainsKey v (257 * i + (b + 1))
   named_lone b e h =
       let n : at ≡ 257 * i + (b + 1) = sym name ∙ ap (λ b. 257 * i + offset_of b) e in
       let Q : ℕ → Type 0 = λ k. ContainsKey v k in subst Q n h
 
+  -- what stands under it is the leaf in that place
   pub named_lone_seen : (b : ℕ) (lone : Lone P) (y : Node ℕ P) → byte ≡ Some b → get v (257 * i + (b + 1)) ≡ Some (lone_node lone) → get v at ≡ Some y → lone_node lone ≡ y
   named_lone_seen b lone y e g h =
       let n : at ≡ 257 * i + (b + 1) = sym name ∙ ap (λ b. 257 * i + offset_of b) e in
       let z : Some (lone_node lone) ≡ Some y = sym g ∙ (ap (get v) (sym n) ∙ h) in cc
 
+  -- the slot's node has a leaf with one value in its place there
   pub named_lone_at : (b : ℕ) → byte ≡ Some b → IsByte byte → ContainsKey v at → LoneAt s i b
   named_lone_at b e l h =
       let R : Nodes P → Type 0 = λ w. ContainsKey w (257 * i + (b + 1)) in
@@ -193,6 +203,7 @@ module _ {P : Type 0} (s : Slab (Slot P)) (v : Nodes P) (is : nodes_in s ≡ v) 
       let R : Nodes P → Type 0 = λ w. get w (257 * i + (b + 1)) ≡ Some (lone_node L.lone) in
       (L.lone, named_lone_seen b L.lone y e (subst R is L.seen) h)
 
+  -- a name of a byte's place under which a node stands has such a leaf
   pub lone_in_view : (b : ℕ) → b < 256 → ContainsKey v (257 * i + (b + 1)) → LoneAt s i b
   lone_in_view b l h = let R : Nodes P → Type 0 = λ w. ContainsKey w (257 * i + (b + 1)) in lone_there s i b l (subst R (sym is) h)
 
@@ -224,9 +235,11 @@ module _ {P : Type 0} (v : Nodes P) (name : ℕ) (lone : Lone P) (key : List ℕ
       let n : heap_of v name ≡ node_of (Some (lone_node lone)) = ap node_of e in
       rw (n, lone_seven) h
 
+  -- the leaf's value, where the key ends with the byte of the leaf's key
   pub lone_holds : get_or lone.key 7 0 ≡ get_or key 7 0 → child_for (heap_of v name) key ≡ Holds lone.value
   lone_holds q = lone_has (Holds lone.value) (ap hung_in (ap (map.get (children_of (lone_node lone))) (sym q) ∙ insert_at map.empty (get_or lone.key 7 0) (Value lone.value)))
 
+  -- nothing, where it ends with another byte
   pub lone_misses : (get_or lone.key 7 0 ≡ get_or key 7 0 → ⊥) → child_for (heap_of v name) key ≡ Nothing
   lone_misses ne = lone_has Nothing (ap hung_in (insert_beside map.empty (get_or lone.key 7 0) (Value lone.value) (get_or key 7 0) (λ q. ne (sym q)) ∙ map.get-empty _ (get_or key 7 0)))
 
@@ -251,9 +264,11 @@ module _ {P : Type 0} (s : Slab (Slot P)) (v : Nodes P) (is : nodes_in s ≡ v) 
         ap (λ m. map.get m (get_or key len 0)) (with_mapped f n) ∙ (get_mapped f (children_of n) (get_or key len 0) ∙ ap (option_map (f (get_or key len 0))) (sym read)) in
         ap (λ w. child_for w key) h ∙ (ap (λ k. hung_in (map.get (children_of (with_children f n)) (get_or key k 0))) l ∙ ap hung_in g)
 
+    -- nothing, where nothing was read
     pub inner_nothing : o ≡ None → child_for (heap_of v (257 * i)) key ≡ Nothing
     inner_nothing c = inner_is ∙ ap (λ r. hung_in (option_map (inner_child i (get_or key len 0)) r)) c
 
+    -- the child that was read
     pub inner_leads : (y : Child ℕ (Lone P)) → o ≡ Some y → child_for (heap_of v (257 * i)) key ≡ hung_in (Some (inner_child i (get_or key len 0) y))
     inner_leads y c = inner_is ∙ ap (λ r. hung_in (option_map (inner_child i (get_or key len 0)) r)) c
 
@@ -280,9 +295,11 @@ module _ {P : Type 0} (s : Slab (Slot P)) (v : Nodes P) (is : nodes_in s ≡ v) 
         ap (λ m. map.get m (get_or key len 0)) (with_mapped leaf_child n) ∙ (get_mapped leaf_child (children_of n) (get_or key len 0) ∙ ap (option_map (leaf_child (get_or key len 0))) (sym read)) in
         ap (λ w. child_for w key) h ∙ (ap (λ k. hung_in (map.get (children_of (with_children leaf_child n)) (get_or key k 0))) l ∙ ap hung_in g)
 
+    -- a leaf has nothing for a key at whose byte nothing was read
     pub leaf_nothing : o ≡ None → child_for (heap_of v (257 * i)) key ≡ Nothing
     leaf_nothing c = leaf_is ∙ ap (λ r. hung_in (option_map (leaf_child (get_or key len 0)) (option_copied r))) c
 
+    -- and for another key the child that was read
     pub leaf_leads : (f : Bor (Child ℕ P)) (y : Child ℕ P) → o ≡ Some f → f.now ≡ y → child_for (heap_of v (257 * i)) key ≡ hung_in (Some (leaf_child (get_or key len 0) y))
     leaf_leads f y c h =
         leaf_is ∙ (ap (λ r. hung_in (option_map (leaf_child (get_or key len 0)) (option_copied r))) c ∙ ap (λ z. hung_in (Some (leaf_child (get_or key len 0) z))) h)
@@ -294,6 +311,7 @@ leads_turn v key at name (Held x) e t = absurd t
 leads_turn v key at name (Below c) e t = (e ∙ ap Under (sym t.0), t.1)
 leads_turn v key at name (Apart c) e t = (e ∙ ap Under (sym t.0), t.1)
 
+-- the same where the way on was told through a leaf in its parent's place
 pub leads_turn_on : {P : Type 0} (v : Nodes P) (key : List ℕ) (at name : ℕ) (w : Onward P) → child_for (heap_of v at) key ≡ Under name → IsTurnOn v key name w → LeadsOn v key at w
 leads_turn_on v key at name GoesFree e t = absurd t
 leads_turn_on v key at name (GoesHeld x) e t = absurd t
@@ -311,9 +329,11 @@ module _ {P : Type 0} (s : Slab (Slot P)) (v : Nodes P) (is : nodes_in s ≡ v) 
     inner_map : mapped (inner_child i) (children_of n) ≡ children_of y
     inner_map = sym (with_mapped (inner_child i) n) ∙ ap children_of (sym (ap (slot_node i) q) ∙ same_seen)
 
+    -- of an inner node it is the first in the slot, as the tree sees it
     pub inner_first : (b : ℕ) (c : Child ℕ (Lone P)) → IsFirst (children_of n) from b c → IsFirst (children_of y) from b (inner_child i b c)
     inner_first b c k = subst (λ m. IsFirst m from b (inner_child i b c)) inner_map (first_mapped (inner_child i) (children_of n) from b c k)
 
+    -- where an inner node has no child from there on, the tree sees none
     pub inner_last : ((b : ℕ) → from ≤ b → map.get (children_of n) b ≡ None) → (b : ℕ) → from ≤ b → map.get (children_of y) b ≡ None
     inner_last k b l = ap (λ m. map.get m b) (sym inner_map) ∙ none_mapped (inner_child i) (children_of n) b (k b l)
 
@@ -321,9 +341,11 @@ module _ {P : Type 0} (s : Slab (Slot P)) (v : Nodes P) (is : nodes_in s ≡ v) 
     leaf_map : mapped leaf_child (children_of n) ≡ children_of y
     leaf_map = sym (with_mapped leaf_child n) ∙ ap children_of (sym (ap (slot_node i) q) ∙ same_seen)
 
+    -- of a leaf it is the first in the slot, as the tree sees it
     pub leaf_first : (b : ℕ) (c : Child ℕ P) → IsFirst (children_of n) from b c → IsFirst (children_of y) from b (leaf_child b c)
     leaf_first b c k = subst (λ m. IsFirst m from b (leaf_child b c)) leaf_map (first_mapped leaf_child (children_of n) from b c k)
 
+    -- where a leaf has no value from there on, the tree sees none
     pub leaf_last : ((b : ℕ) → from ≤ b → map.get (children_of n) b ≡ None) → (b : ℕ) → from ≤ b → map.get (children_of y) b ≡ None
     leaf_last k b l = ap (λ m. map.get m b) (sym leaf_map) ∙ none_mapped leaf_child (children_of n) b (k b l)
 
@@ -404,6 +426,7 @@ module _ {P : Type 0} (v : Nodes P) (name : ℕ) (lone : Lone P) (e : get v name
   lone_beside : (q : ℕ) → q ≢ get_or lone.key 7 0 → map.get (children_of x) q ≡ None
   lone_beside q ne = ap (λ n. map.get (children_of n) q) (sym lone_same) ∙ (insert_beside map.empty (get_or lone.key 7 0) (Value lone.value) q ne ∙ map.get-empty _ q)
 
+  -- from its key's last byte or one before it on, it is the first
   pub lone_first : from ≤ get_or lone.key 7 0 → IsFirst (children_of x) from (get_or lone.key 7 0) (Value lone.value)
   lone_first l = record {
     past = l;
@@ -411,5 +434,6 @@ module _ {P : Type 0} (v : Nodes P) (name : ℕ) (lone : Lone P) (e : get v name
     before = λ q lo hi. lone_beside q (λ z. absurd (omega (arith, z, hi)));
   }
 
+  -- after that byte the leaf has nothing
   pub lone_last : get_or lone.key 7 0 < from → (b : ℕ) → from ≤ b → map.get (children_of x) b ≡ None
   lone_last l b lo = lone_beside b (λ z. absurd (omega (arith, z, lo, l)))
