@@ -47,6 +47,7 @@ module _ {P : Type 0} (v : Nodes P) (at leaf : ℕ) (stands : ContainsKey v at) 
   here : map.get (children_of lies.0) has.last ≡ Some (Value has.value)
   here = ap (λ m. map.get m has.last) has.lone.children ∙ insert_at map.empty has.last (Value has.value)
 
+  -- what is read as the leaf's prefix has seven bytes
   pub fold_whole : (p : List ℕ) → ((x : Node ℕ P) → get v leaf ≡ Some x → p ≡ prefix_of x) → length p ≡ 7
   fold_whole p prefix = ap length (prefix lies.0 lies.1) ∙ has.lone.prefix
 
@@ -68,6 +69,7 @@ module _ {P : Type 0} (v : Nodes P) (at leaf : ℕ) (stands : ContainsKey v at) 
     holds : map.get (children_of lies.0) last ≡ Some (Value has.value)
     holds = ap (map.get (children_of lies.0)) last_is ∙ here
 
+    -- it is one
     pub fold_value : (x : Node ℕ P) → get v leaf ≡ Some x → IsValue (map.get (children_of x) last)
     fold_value x h =
         let q : lies.0 ≡ x = one_node v leaf lies.0 x lies.1 h in
@@ -78,9 +80,11 @@ module _ {P : Type 0} (v : Nodes P) (at leaf : ℕ) (stands : ContainsKey v at) 
       taken : Sets v v1 leaf lies.0 (map.remove (children_of lies.0) last)
       taken = takes lies.0 lies.1
 
+      -- the leaf still stands
       pub fold_left : ContainsKey v1 leaf
       fold_left = rw taken.updates.changed refl
 
+      -- it still has a prefix of seven bytes
       pub fold_seven : (x : Node ℕ P) → get v1 leaf ≡ Some x → length (prefix_of x) ≡ 7
       fold_seven x h =
           let q : taken.node ≡ x = one_node v1 leaf taken.node x taken.updates.changed h in
@@ -91,12 +95,15 @@ module _ {P : Type 0} (v : Nodes P) (at leaf : ℕ) (stands : ContainsKey v at) 
         kept : get v2 at ≡ get v at
         kept = gone.others at fold_apart ∙ taken.updates.others at fold_apart
 
+        -- the node above still stands
         pub fold_stands : ContainsKey v2 at
         fold_stands = rw (kept ∙ there.1) refl
 
+        -- it still is an inner node
         pub fold_inner : (y : Node ℕ P) → get v2 at ≡ Some y → length (prefix_of y) < 7
         fold_inner y h = inner y (sym kept ∙ h)
 
+        -- there is room for one more node
         pub fold_room : HasRoomFor v 0 → v1.capacity ≡ v.capacity → v2.capacity ≡ v1.capacity → HasRoomFor v2 1
         fold_room room c1 c2 =
             let l1 = len_update v v1 leaf (Some taken.node) taken.updates in
@@ -111,6 +118,7 @@ module _ {P : Type 0} (v : Nodes P) (at leaf : ℕ) (stands : ContainsKey v at) 
         fold_first b begins key p prefix first x h = first ∙ (ap (λ q. get_or q 0 0) (prefix lies.0 lies.1) ∙ begins x lies.0 (sym kept ∙ h) lies.1)
 
         module _ (b : ℕ) (present : (y : Node ℕ P) → get v at ≡ Some y → map.get (children_of y) b ≡ Some (Sub leaf)) (own : HasOwnSlot leaf) where
+          -- under the byte that led to the leaf the node above still has a child with a slot
           pub fold_present : (y : Node ℕ P) → get v2 at ≡ Some y → HasNode (map.get (children_of y) b)
           fold_present y h = subst HasNode (sym (present y (sym kept ∙ h))) own
 

@@ -127,10 +127,12 @@ module _ {P : Type 0} where
   filled_where s e zero x ne at = absurd (ne refl)
   filled_where s e (suc n) x ne at = each_enough (drop 1 s.slots) e n x (beside_root s.slots n ∙ at)
 
+  -- nodes that all have enough children lack none
   pub lacking_none : (s : Nodes P) → NodesFilled s → lacking_of s ≡ 0
   unfolding lacking_of
   lacking_none s h = none_lacks (drop 1 s.slots) (λ j x e. h (suc j) x (omega arith) (sym (beside_root s.slots j) ∙ e))
 
+  -- nodes that are the same lack as many
   pub same_lacking : (s s' : Nodes P) → SameNodes s s' → lacking_of s' ≡ lacking_of s
   unfolding lacking_of
   same_lacking s s' e = lacks_same (drop 1 s.slots) (drop 1 s'.slots) (λ j. beside_root s'.slots j ∙ (e (suc j) ∙ sym (beside_root s.slots j)))
@@ -231,9 +233,11 @@ module _ {X : Type 0} where
   len_kept : (m : map.FinMap nat_cmp X) (k : ℕ) (x y : X) → map.get m k ≡ Some y → map.len (map.insert m k x) ≡ map.len m
   len_kept m k x y e = let c : map.contains_key m k ≡ true = ap is_some e in map.len-insert nat_cmp_total m k x ∙ rw c refl
 
+  -- a pair at a new key is one more
   pub len_more : (m : map.FinMap nat_cmp X) (k : ℕ) (x : X) → map.get m k ≡ None → map.len (map.insert m k x) ≡ suc (map.len m)
   len_more m k x e = let c : map.contains_key m k ≡ false = ap is_some e in map.len-insert nat_cmp_total m k x ∙ rw c (omega arith)
 
+  -- a map with pairs at two keys has two at least
   pub len_two : (m : map.FinMap nat_cmp X) (k l : ℕ) (x y : X) → k ≢ l → map.get m k ≡ Some x → map.get m l ≡ Some y → 2 ≤ map.len m
   len_two m k l x y ne e f =
       let c : map.contains_key m k ≡ true = ap is_some e in
@@ -275,6 +279,7 @@ module _ {P : Type 0} where
     | inr apart ↦ h n x ne apart (sym (others n apart) ∙ e)
   ]
 
+  -- where all nodes have enough children, all but one have
   pub others_filled : (s : Nodes P) (at : ℕ) → NodesFilled s → OthersFilled s at
   others_filled s at h n x ne apart e = h n x ne e
 
@@ -288,6 +293,7 @@ module _ {P : Type 0} where
       let n : map.len (children_of y) ≡ map.len (children_of x) = ap map.len b.children ∙ len_kept (children_of x) byte c d there in
       enough_more x y b.form b.prefix (omega (arith, n)) f
 
+  -- another child in the place of one leaves the nodes enough children if they had
   pub set_filled : (s s' : Nodes P) (at : ℕ) (x : Form ℕ P) (byte : ℕ) (c d : Child ℕ P) → get s at ≡ Some x → map.get (children_of x) byte ≡ Some d → Sets s s' at x (map.insert (children_of x) byte c) → NodesFilled s → NodesFilled s'
   set_filled s s' at x byte c d e there k h =
       filled_but s s' at k.node (others_filled s at h) (λ ne. changed_enough x k.node byte c d there k.becomes (h at x ne e)) k.updates.changed k.updates.others

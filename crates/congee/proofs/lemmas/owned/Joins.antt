@@ -76,6 +76,7 @@ module _ {P : Type 0} where
   note_same : (s s' : Nodes P) (parent parent' : ℕ → ℕ) (m : ℕ) → is_some (get s' m) ≡ is_some (get s m) → parent' m ≡ parent m → ledger_of s' parent' m ≡ ledger_of s parent m
   note_same s s' parent parent' m e f = rw (e, f) refl
 
+  -- a node with the key's value alone is a leaf of the key's for the tree
   pub leaf_of : (s : Nodes P) (key : List ℕ) (d : ℕ) (n : Form ℕ P) (v : P) → length key ≡ 8 → get s d ≡ Some n → IsLeafOf n key v → Leaf (heap_of s) d key v
   leaf_of s key d n v len e l =
       let h : heap_of s d ≡ node_of (Some n) = ap node_of e in
@@ -120,6 +121,7 @@ module _ {P : Type 0} where
     ]
   ]
 
+  -- a leaf that came in below a node with nothing at the key's byte is the key's insertion in the tree
   pub add_leaf_done : (s s' : Nodes P) (key : List ℕ) (at leaf : ℕ) (v : P) → length key ≡ 8 → IsTree s → OnWay s key at
       → length (heap_of s at).prefix < 7 → child_for (heap_of s at) key ≡ Nothing → AddsLeaf s s' key at leaf v
       → IsTree s' × MapChange s s' key None (Some v)
@@ -154,6 +156,7 @@ module _ {P : Type 0} where
         record { was = m.0; now = m.1; others = m.2 },
       )
 
+  -- a leaf with the key's value alone that went is the key's removal from the tree
   pub drop_leaf_done : (s s' : Nodes P) (key : List ℕ) (above at : ℕ) (v : P) → length key ≡ 8 → IsTree s → OnWay s key at → Hangs s key above at
       → length (heap_of s at).prefix ≡ 7 → DropsLeaf s s' key above at v
       → IsTree s' × MapChange s s' key (Some v) None
@@ -204,6 +207,7 @@ module _ {P : Type 0} where
         record { was = m.0; now = same key ∙ m.1; others = λ x lx ne. same x ∙ m.2 x lx ne },
       )
 
+  -- a fork that came in over a node with another prefix is the key's insertion in the tree
   pub add_fork_done : (s s' : Nodes P) (key : List ℕ) (at below common over leaf : ℕ) (v : P) → length key ≡ 8 → IsTree s → OnWay s key at
       → child_for (heap_of s at) key ≡ Below below → fits (heap_of s below).prefix key ≡ false → DiffersAt key (heap_of s below).prefix common
       → AddsFork s s' key at below common over leaf v

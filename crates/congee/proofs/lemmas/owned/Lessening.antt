@@ -48,6 +48,7 @@ module _ {P : Type 0} (s : Slab (Slot P)) (v : Nodes P) (is : nodes_in s ≡ v) 
   great_name : at ≡ 257 * i
   great_name = sym name ∙ (ap (λ b. 257 * i + offset_of b) great_own ∙ omega arith)
 
+  -- the slot to which its name belongs isn't vacant
   pub great_slot : ContainsKey s i
   great_slot = slot_there s i (subst (λ w. ContainsKey w (257 * i)) (sym is) (subst (ContainsKey v) great_name stands))
 
@@ -63,6 +64,7 @@ module _ {P : Type 0} (s : Slab (Slot P)) (v : Nodes P) (is : nodes_in s ≡ v) 
     great_form : (y : Node ℕ P) → get v at ≡ Some y → form_of y ≡ form_in x
     great_form y h = sym (ap form_of (great_seen y h)) ∙ seen_form x
 
+    -- children that fit in the form below for the tree fit there in the slot
     pub great_room : ((y : Node ℕ P) → get v at ≡ Some y → map.len (children_of y) ≤ capacity_of (form_below (form_of y))) → len_in x ≤ capacity_of (form_below (form_in x))
     great_room room =
         let y = node_at v at stands in
@@ -146,6 +148,7 @@ module _ {P : Type 0} (s : Slab (Slot P)) (v : Nodes P) (is : nodes_in s ≡ v) 
             ]
 
       module _ {U V : Type 0} (r : Result U V) where
+        -- the slots are sound, whether the node took the form below or memory was refused
         pub shrink_stored : OnOk r (Shrunk x x') → OnErr r (x' ≡ x) → IsStored (with_value s i x') inline
         shrink_stored a b = of r a b
           where
@@ -153,6 +156,7 @@ module _ {P : Type 0} (s : Slab (Slot P)) (v : Nodes P) (is : nodes_in s ≡ v) 
             of (Ok u) a b = shrunk_stored a
             of (Err w) a b = still_stored b
 
+        -- where it took it, it did so for the tree
         pub shrink_done : OnOk r (Shrunk x x') → OnOk r ((y : Node ℕ P) → get v at ≡ Some y → ShrinksTo v (nodes_in (with_value s i x')) at y)
         shrink_done a = of r a
           where
@@ -160,6 +164,7 @@ module _ {P : Type 0} (s : Slab (Slot P)) (v : Nodes P) (is : nodes_in s ≡ v) 
             of (Ok u) a = shrunk_done a
             of (Err w) a = tt
 
+        -- where memory was refused, every name has the node that it had
         pub shrink_kept : OnErr r (x' ≡ x) → OnErr r (SameValues v (nodes_in (with_value s i x')))
         shrink_kept b = of r b
           where
@@ -167,6 +172,7 @@ module _ {P : Type 0} (s : Slab (Slot P)) (v : Nodes P) (is : nodes_in s ≡ v) 
             of (Ok u) b = tt
             of (Err w) b = still_done b
 
+        -- memory is never refused for the least form
         pub shrink_memory : OnErr r (form_below (form_in x) ≢ N4) → OnErr r ((y : Node ℕ P) → get v at ≡ Some y → form_below (form_of y) ≢ N4)
         shrink_memory b = of r b
           where
@@ -212,6 +218,7 @@ module _ {P : Type 0} (s s' : Nodes P) (at : ℕ) (x y : Node ℕ P) (t : IsTree
       (subst IsFilled (sym u.changed) (filled_some y (λ seven. subst (λ c. 0 < map.len c) (sym children) (t.filled at x was (ap length (sym prefix) ∙ seven)))))
       (λ ne. subst IsFilled (sym (u.others n ne)) (t.filled n))
 
+  -- the nodes are a tree with the same map
   pub reformed : SameMap s s'
   reformed = record {
     tree = record {
@@ -223,6 +230,7 @@ module _ {P : Type 0} (s s' : Nodes P) (at : ℕ) (x y : Node ℕ P) (t : IsTree
     values = λ key len. renamed_map (λ n. n) (ledger_of s t.parent) (heap_of s) (ledger_of s' t.parent) (heap_of s') t.tree as_named key;
   }
 
+  -- the sizes change by those of the two forms
   pub reformed_bytes : bytes_of s' + size_of (form_of x) ≡ bytes_of s + size_of (form_of y)
   reformed_bytes =
       let r = bytes_update s s' at (Some y) u in

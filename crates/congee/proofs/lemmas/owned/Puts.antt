@@ -17,6 +17,7 @@ module _ {V : Type 0} where
   put_no_node None c e = cc
   put_no_node (Some v) c e = cc
 
+  -- where a value hangs, or nothing, it is what is found there
   pub put_value : (o : Option V) (go : ℕ → Option V) (x : Hung V) → x ≡ put_child o → Rattle.congee.specs.Heap.of_child go x ≡ o
   put_value None go x e = rw e refl
   put_value (Some v) go x e = rw e refl
@@ -51,6 +52,7 @@ module _ {V : Type 0} (a : ℕ → Note) (h h' : ℕ → Node V) (n : ℕ) (key 
       let Q : ℕ → Type 0 = λ y. (h' n).children y ≡ x in
       sym k.child ∙ subst Q q (subst P p e)
 
+  -- a leaf whose value for a key changed leaves a tree
   pub put_tree : Tree a h → Puts a h h' n key old new → Tree a h'
   put_tree t k =
       let g : Graft a h a h' n (get_or key (length (h n).prefix) 0) = put_graft k in
@@ -73,6 +75,7 @@ module _ {V : Type 0} (a : ℕ → Note) (h h' : ℕ → Node V) (n : ℕ) (key 
             (λ x. put_no_node old m (sym k.before ∙ x)) (t.up m l ne).linked;
       }
 
+  -- the map has the new value at the key, where it had the old one, and is the same elsewhere
   pub put_map : length key ≡ 8 → Tree a h → Puts a h h' n key old new
       → (value_at h key ≡ old) × (value_at h' key ≡ new) × ((k : List ℕ) → length k ≡ 8 → k ≢ key → value_at h' k ≡ value_at h k)
   put_map len t k =

@@ -33,18 +33,23 @@ module _ {P : Type 0} (s : Nodes P) (g b p : ℕ) (r : MayLift s g b p) where
   upper_is : (s1 : Nodes P) → get s1 g ≡ get s g → (x : Node ℕ P) → get s1 g ≡ Some x → r.upper ≡ x
   upper_is s1 same x e = one_node s1 g r.upper x (same ∙ r.was) e
 
+  -- the lower node is no leaf
   pub lower_inner : (y : Node ℕ P) → get s p ≡ Some y → length (prefix_of y) < 7
   lower_inner y e = subst (λ z. length (prefix_of z) < 7) (one_node s p r.lower y r.stood e) r.inner_below
 
+  -- one node hangs in it, and nothing else
   pub lower_one : (y : Node ℕ P) → get s p ≡ Some y → HasOneNode y
   lower_one y e = subst HasOneNode (one_node s p r.lower y r.stood e) r.one
 
+  -- the upper node, as it was, is no leaf
   pub upper_inner : (s1 : Nodes P) → get s1 g ≡ get s g → (x : Node ℕ P) → get s1 g ≡ Some x → length (prefix_of x) < 7
   upper_inner s1 same x e = subst (λ z. length (prefix_of z) < 7) (upper_is s1 same x e) r.inner
 
+  -- the upper node, as it was, has a node with a slot under the byte
   pub upper_node : (s1 : Nodes P) → get s1 g ≡ get s g → HasOwnSlot p → (x : Node ℕ P) → get s1 g ≡ Some x → HasNode (map.get (children_of x) b)
   upper_node s1 same own x e = subst (λ z. HasNode (map.get (children_of z) b)) (upper_is s1 same x e) (subst HasNode (sym r.hung) own)
 
+  -- the upper node, as it was, stands
   pub upper_stands : (s1 : Nodes P) → get s1 g ≡ get s g → ContainsKey s1 g
   upper_stands s1 same = stands_at s1 g r.upper (same ∙ r.was)
 
@@ -56,6 +61,7 @@ module _ {P : Type 0} (s : Nodes P) (g b p : ℕ) (r : MayLift s g b p) where
 
   -- the child has a slot of its own
   module _ (s1 : Nodes P) (o : ℕ) (k : GivesNode s s1 p r.lower o) where
+    -- where the lower node went, the upper one is as it was
     pub node_above : get s1 g ≡ get s g
     node_above = k.gone.others g r.apart
 
@@ -66,6 +72,7 @@ module _ {P : Type 0} (s : Nodes P) (g b p : ℕ) (r : MayLift s g b p) where
       node_is_child : o ≡ r.one.child
       node_is_child = child_is k.byte o k.only
 
+      -- the child under its own name, put in the lower node's place, moves up
       pub node_moves : MovesUp s s2 g b p r
       node_moves = record {
         name = o;
@@ -78,6 +85,7 @@ module _ {P : Type 0} (s : Nodes P) (g b p : ℕ) (r : MayLift s g b p) where
         others = λ m mg mp mo mn. put.updates.others m mg ∙ k.gone.others m mp;
       }
 
+      -- the sizes fall by that of the lower node
       pub node_bytes : bytes_of s2 + size_of (form_of r.lower) ≡ bytes_of s
       node_bytes =
           let u = bytes_update s s1 p None k.gone in
@@ -96,6 +104,7 @@ module _ {P : Type 0} (s : Nodes P) (g b p : ℕ) (r : MayLift s g b p) where
     node_is : r.node ≡ lone_node lone
     node_is = one_node s r.one.child r.node (lone_node lone) r.child (ap (get s) (sym leaf_is) ∙ k.stood)
 
+    -- where the lower node went with the leaf, the upper one is as it was
     pub leaf_above : get s1 g ≡ get s g
     leaf_above = k.others g r.apart (not_leaf g (λ e. r.child_apart (sym e)))
 
@@ -108,6 +117,7 @@ module _ {P : Type 0} (s : Nodes P) (g b p : ℕ) (r : MayLift s g b p) where
     apart : p ≢ k.leaf
     apart e = r.child_apart_below (sym (e ∙ leaf_is))
 
+    -- there is room for one more node
     pub leaf_room : s1.capacity ≡ s.capacity → HasRoomFor s 0 → HasRoomFor s1 1
     leaf_room cap room =
         let u = len_two s s1 p k.leaf apart k.others in
@@ -127,6 +137,7 @@ module _ {P : Type 0} (s : Nodes P) (g b p : ℕ) (r : MayLift s g b p) where
       not_p : put_leaf.leaf ≢ p
       not_p e = put_leaf.inline (let Q : ℕ → Type 0 = λ z. HasOwnSlot z in subst Q (sym e) own)
 
+      -- the leaf under a new name, put in the lower node's place, moves up
       pub leaf_moves : MovesUp s s2 g b p r
       leaf_moves = record {
         name = put_leaf.leaf;
@@ -145,6 +156,7 @@ module _ {P : Type 0} (s : Nodes P) (g b p : ℕ) (r : MayLift s g b p) where
         others = λ m mg mp mo mn. put_leaf.others m mg mn ∙ k.others m mp (not_leaf m mo);
       }
 
+      -- the sizes fall by that of the lower node
       pub leaf_bytes : bytes_of s2 + size_of (form_of r.lower) ≡ bytes_of s
       leaf_bytes =
           let one = bytes_two s s1 p k.leaf apart k.others in

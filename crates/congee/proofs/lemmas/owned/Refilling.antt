@@ -14,6 +14,7 @@ pub record IsMoving {P : Type 0} (old empty left moved : Places P) (from : ℕ) 
   pub entries : HavePoured (entries_in old) (entries_in left) (entries_in moved) from
 
 module _ {P : Type 0} where
+  -- places with fewer entries than their form has room for aren't full
   pub has_room : (n : Places P) → map.len (entries_in n) < capacity_of (form_in n) → full_in n ≡ false
   has_room (N4 n) l = grind (arith, nat_tests, l)
   has_room (N16 n) l = grind (arith, nat_tests, l)

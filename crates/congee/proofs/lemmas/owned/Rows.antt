@@ -61,6 +61,7 @@ module _ {X : Type 0} {ks : List ℕ} {ys : List X} (ok : IsSorted ks ys) where
           let low = is_byte ok (get_or ks p 0) (subst IsSome (sym first.here) refl) in
           subst (Lists (sorted_map ks ys) from) (sym (drop_more ys p d (omega (arith, there, ok.same)))) (get_or ks p 0, low, first, rest)
 
+  -- children from a byte's place on are those from the byte on, in order
   pub lists_from : (n from p : ℕ) → IsPlaceOf from p ks → p + n ≡ length ks → Lists (sorted_map ks ys) from (drop p ys)
   lists_from zero from p s e = subst (Lists (sorted_map ks ys) from) (sym (drop_all p ys (omega (arith, e, ok.same)))) (none_from ok from p s (omega (arith, e)))
   lists_from (suc n) from p s e =
@@ -73,6 +74,7 @@ module _ {X : Type 0} (m : map.FinMap nat_cmp X) (byte i : ℕ) (xs : List X) (l
       let z : drop i xs ≡ x ∷ drop (i + 1) xs = drop_more xs i x h ∙ ap (λ y. y ∷ drop (i + 1) xs) (sym e) in
       subst (Lists m byte) z l
 
+  -- past the last one there is no child
   pub list_end : length xs ≤ i → (b : ℕ) → byte ≤ b → map.get m b ≡ None
   list_end h = subst (Lists m byte) (drop_all i xs h) l
 
@@ -80,6 +82,7 @@ begins_with : (bytes : List ℕ) (first : ℕ) → (length bytes ≡ 0 → ⊥) 
 begins_with [] first some e = absurd (some refl)
 begins_with (x ∷ rest) first some e = (rest, ap (λ y. y ∷ rest) (sym e))
 
+-- a name without a byte is its slot's first one
 pub name_at : (at slot : ℕ) (byte : Option ℕ) → 257 * slot + offset_of byte ≡ at → byte ≡ None → 257 * slot ≡ at
 name_at at slot byte name e =
     let z : 257 * slot ≡ 257 * slot + offset_of None = omega arith in
@@ -104,6 +107,7 @@ module _ {P : Type 0} where
           children = are;
         }
 
+    -- the row that was read of the node is that of its stem
     pub sees_row : (from : ℕ) (row : Row P) → IsRow n from row → SeesRow s (record { slot = slot; first = first }) from row
     sees_row from (Few list) r = (record { entries = r.0; sees = sees_entries r.0 r.1; from = from; lists = r.2 }, refl)
     sees_row from (Wide form) r = sees_entries form.now r
@@ -121,6 +125,7 @@ module _ {P : Type 0} (s : Nodes P) (stem : Stem) (entries : map.FinMap nat_cmp 
       → IsFirst (children_of x) from b (inner_child stem.slot b (child_by (prefix_of sees.node) b e))
   entry_first from b e f x is = inner_first s (257 * stem.slot) from x is stem.slot sees.node sees.sees b (child_by (prefix_of sees.node) b e) (entry_here from b e f)
 
+  -- where the entries have none from a byte on, the node has no child there for the tree
   pub entry_last : (from : ℕ) → ((b : ℕ) → from ≤ b → map.get entries b ≡ None) → (x : Node ℕ P) → get s (257 * stem.slot) ≡ Some x
       → (b : ℕ) → from ≤ b → map.get (children_of x) b ≡ None
   entry_last from none x is = inner_last s (257 * stem.slot) from x is stem.slot sees.node sees.sees
@@ -136,12 +141,14 @@ module _ {P : Type 0} (s : Nodes P) (t : IsTree s) (stem : Stem) (entry : Entry 
   there : (e : Entry P) → entry ≡ e → (x : Node ℕ P) → get s (257 * stem.slot) ≡ Some x → IsFirst (children_of x) h.from h.byte (inner_child stem.slot h.byte (child_by (prefix_of h.sees.node) h.byte e))
   there e is = entry_first s stem h.entries h.sees h.from h.byte e (subst (λ y. IsFirst h.entries h.from h.byte y) is h.first)
 
+  -- an entry that is the first from a byte on isn't blank
   pub entry_filled : entry ≡ Blank → ⊥
   entry_filled is =
       let x = standing s (257 * stem.slot) stands in
       nothing_blank s t (257 * stem.slot) h.byte stands
       (child_there s (257 * stem.slot) h.byte x.node _ _ x.is (there Blank is x.node x.is).here refl)
 
+  -- a node in an entry stands, with a longer prefix than the one above, of seven bytes at most
   pub entry_below : (below : ℕ) → entry ≡ Sub below
       → ContainsKey s (257 * below) × ((length (heap_of s (257 * stem.slot)).prefix < length (heap_of s (257 * below)).prefix) × (length (heap_of s (257 * below)).prefix ≤ 7))
   entry_below below is =
@@ -149,6 +156,7 @@ module _ {P : Type 0} (s : Nodes P) (t : IsTree s) (stem : Stem) (entry : Entry 
       child_stands s (257 * stem.slot) x.node h.from h.byte (SubChild (257 * below)) (257 * below) t stands x.is (there (Sub below) is x.node x.is) refl
 
   module _ {E : Type 0} (put : ℕ → P → E) (last count : ℕ) (out : List E) (within : count ≤ length out) where
+    -- a pair written from a leaf in an entry writes the entry's byte
     pub entry_leaf : (tail : Tail) (value : P) (key : ℕ) → entry ≡ Leaf tail value → key_bytes key ≡ stem.first ∷ tail.bytes → key < 2 ^ 64
         → (new : List E) (w : Written) → WritesPair s put last key value count out new w → WritesByte s put last (257 * stem.slot) h.from h.byte count out new w
     entry_leaf tail value key is bytes large new w p =
@@ -159,6 +167,7 @@ module _ {P : Type 0} (s : Nodes P) (t : IsTree s) (stem : Stem) (entry : Entry 
         (wrote_leaf s put last t (257 * stem.slot) h.from count out h.from count out (sets_out s put last (257 * stem.slot) h.from count out within) h.byte h.low
         key (257 * stem.slot + (h.byte + 1)) value large (there (Leaf tail value) is) leaf new w p).on
 
+    -- the pairs of a node in an entry, written, write the entry's byte
     pub entry_node : (below : ℕ) → entry ≡ Sub below → (new : List E) (w : Written) → Fills count out new w → WritesNode s put last (257 * below) 0 count out new w
         → WritesByte s put last (257 * stem.slot) h.from h.byte count out new w
     entry_node below is new w f writes =
@@ -176,6 +185,7 @@ pair_fills s put last key value count out new w within p = of w.over refl
 
 -- the pairs under one byte more are written
 module _ {P E : Type 0} (s : Nodes P) (put : ℕ → P → E) (last : ℕ) (t : IsTree s) where
+  -- what was written up to a byte, and then of the byte, is written up to and with that byte
   pub wrote_byte : (at start first : ℕ) (old : List E) (byte count : ℕ) (out : List E) → SoFar s put last at start first old byte count out
       → (b : ℕ) (new : List E) (w : Written) → Fills count out new w → WritesByte s put last at byte b count out new w → Wrote s put last t at start first old b new w
   wrote_byte at start first old byte count out so b new w f writes = record {
@@ -188,6 +198,7 @@ module _ {P E : Type 0} (s : Nodes P) (put : ℕ → P → E) (last : ℕ) (t : 
 
 -- the pairs below the first entries of a list are written
 module _ {P E : Type 0} (s : Nodes P) (put : ℕ → P → E) (last : ℕ) (stem : Stem) (list : List (Entry P)) where
+  -- the pairs of a list's first entries are written
   pub record ListSoFar (seen : SeesList s stem list) (first : ℕ) (old : List E) (i count : ℕ) (new : List E) : Type 0 where
     pub byte : ℕ
     pub rest : Lists seen.entries byte (drop i list)
@@ -198,6 +209,7 @@ module _ {P E : Type 0} (s : Nodes P) (put : ℕ → P → E) (last : ℕ) (stem
     list_begins l = record { byte = seen.from; rest = seen.lists; so = sets_out s put last (257 * stem.slot) seen.from first old l }
 
     module _ (i count : ℕ) (new : List E) (l : ListSoFar seen first old i count new) (entry : Entry P) (h : i < length list) (e : entry ≡ get_or list i entry) where
+      -- the next entry of the list hangs in the node
       pub list_hangs : Hangs s stem entry
       list_hangs =
           let n = list_next seen.entries l.byte i list l.rest entry h e in
@@ -209,6 +221,7 @@ module _ {P E : Type 0} (s : Nodes P) (put : ℕ → P → E) (last : ℕ) (stem
         pub rest : Lists seen.entries (byte + 1) (drop (i + 1) list)
         pub wrote : Wrote s put last t (257 * stem.slot) seen.from first old byte after w
 
+      -- what was written of it, after the entries before it, is so
       pub list_wrote : (t : IsTree s) (after : List E) (w : Written) → Fills count new after w
           → ((h : Hangs s stem entry) → WritesByte s put last (257 * stem.slot) h.from h.byte count new after w) → ListWrote t after w
       list_wrote t after w f writes =
@@ -220,6 +233,7 @@ module _ {P E : Type 0} (s : Nodes P) (put : ℕ → P → E) (last : ℕ) (stem
             wrote = wrote_byte s put last t (257 * stem.slot) seen.from first old l.byte count new l.so n.0 after w f (writes hangs);
           }
 
+      -- where it wasn't over, the entries with it are the first of those written
       pub list_on : (t : IsTree s) (after : List E) (w : Written) → ListWrote t after w → w.over ≡ false → ListSoFar seen first old (i + 1) w.count after
       list_on t after w d o = record {
         byte = d.byte + 1;

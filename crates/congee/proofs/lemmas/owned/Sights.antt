@@ -36,6 +36,7 @@ use Rattle.congee.proofs.lemmas.owned.Stored.{slot_seen}
 
 -- a node by the parts of its name
 module _ {P : Type 0} (s : Slab (Slot P)) (v : Nodes P) (is : nodes_in s ≡ v) (at i : ℕ) (byte : Option ℕ) (name : 257 * i + offset_of byte ≡ at) where
+  -- a leaf that lies in its parent's place under the byte is what stands under the name
   pub sees_inline : (b : ℕ) (lone : Lone P) → byte ≡ Some b → get v (257 * i + (b + 1)) ≡ Some (lone_node lone) → get v at ≡ Some (lone_node lone)
   sees_inline b lone e h =
       let n : at ≡ 257 * i + (b + 1) = sym name ∙ ap (λ b. 257 * i + offset_of b) e in
@@ -46,12 +47,14 @@ module _ {P : Type 0} (s : Slab (Slot P)) (v : Nodes P) (is : nodes_in s ≡ v) 
       let n : at ≡ 257 * i = sym name ∙ (ap (λ b. 257 * i + offset_of b) e ∙ omega arith) in
       ap (get v) n ∙ (ap (λ w. get w (257 * i)) (sym is) ∙ slot_seen s i x g)
 
+  -- an inner node in the slot is what stands under a name without a byte
   pub sees_inner : byte ≡ None → (x : Slot P) (n : Node ℕ (Lone P)) → get s i ≡ Some x → x ≡ Inner n → SeesInner v at i n
   sees_inner e x n g q = record {
     is = sees_slot e x g ∙ ap (λ y. Some (slot_node i y)) q;
     inline = λ b lone low h. ap (λ w. get w (257 * i + (b + 1))) (sym is) ∙ (get_inline s i b low ∙ (ap (λ z. in_slot i z (suc b)) (g ∙ ap Some q) ∙ ap lone_in h));
   }
 
+  -- so is a leaf, with the key that it would have at byte 0
   pub sees_leaf : byte ≡ None → (x : Slot P) (n : Node ℕ P) → get s i ≡ Some x → x ≡ Leaf n → (least : ℕ) (p : List ℕ) → length (prefix_of n) ≡ 7 → p ≡ prefix_of n
       → fits p (key_bytes least) ≡ true → get_or (key_bytes least) 7 0 ≡ 0 → SeesLeaf v at least n
   sees_leaf e x n g q least p seven prefix begins ends = record {
@@ -74,9 +77,11 @@ module _ {P : Type 0} (s : Nodes P) (at from : ℕ) (x : Node ℕ P) (h : get s 
         let e : with_children (inner_child slot) n ≡ x = cc in
         sym (with_mapped (inner_child slot) n) ∙ ap children_of e
 
+    -- of an inner node the first child in the slot, as the tree sees it
     pub inner_first : (b : ℕ) (c : Child ℕ (Lone P)) → IsFirst (children_of n) from b c → IsFirst (children_of x) from b (inner_child slot b c)
     inner_first b c f = subst (λ m. IsFirst m from b (inner_child slot b c)) inner_map (first_mapped (inner_child slot) (children_of n) from b c f)
 
+    -- where an inner node in the slot has none from there on, the tree sees none
     pub inner_last : ((b : ℕ) → from ≤ b → map.get (children_of n) b ≡ None) → (b : ℕ) → from ≤ b → map.get (children_of x) b ≡ None
     inner_last f b l = ap (λ m. map.get m b) (sym inner_map) ∙ none_mapped (inner_child slot) (children_of n) b (f b l)
 
@@ -87,9 +92,11 @@ module _ {P : Type 0} (s : Nodes P) (at from : ℕ) (x : Node ℕ P) (h : get s 
         let e : with_children leaf_child n ≡ x = cc in
         sym (with_mapped leaf_child n) ∙ ap children_of e
 
+    -- of a leaf the first value in the slot, as the tree sees it
     pub leaf_first : (b : ℕ) (c : Child ℕ P) → IsFirst (children_of n) from b c → IsFirst (children_of x) from b (leaf_child b c)
     leaf_first b c f = subst (λ m. IsFirst m from b (leaf_child b c)) leaf_map (first_mapped leaf_child (children_of n) from b c f)
 
+    -- where a leaf in the slot has none from there on, the tree sees none
     pub leaf_last : ((b : ℕ) → from ≤ b → map.get (children_of n) b ≡ None) → (b : ℕ) → from ≤ b → map.get (children_of x) b ≡ None
     leaf_last f b l = ap (λ m. map.get m b) (sym leaf_map) ∙ none_mapped leaf_child (children_of n) b (f b l)
 

@@ -52,14 +52,17 @@ module _ {P : Type 0} where
       let r : bytes_in ys + bytes_at (get_or xs at None) ≡ bytes_in xs + bytes_at (get_or ys at None) = bytes_in_update xs ys at (λ j ne. e (suc j) (omega (arith, ne))) in
       omega (arith, h, r)
 
+  -- nodes that are the same take the same room
   pub bytes_same : (s s' : Nodes P) → SameNodes s s' → bytes_of s' ≡ bytes_of s
   bytes_same s s' e = bytes_in_same s.slots s'.slots e
 
+  -- another node under a name changes the sizes by those of both
   pub bytes_update : (s s' : Nodes P) (at : ℕ) (o : Option (Node ℕ P)) → Updates s s' at o → bytes_of s' + bytes_at (get s at) ≡ bytes_of s + bytes_at o
   bytes_update s s' at o u =
       let r : bytes_of s' + bytes_at (get s at) ≡ bytes_of s + bytes_at (get s' at) = bytes_in_update s.slots s'.slots at u.others in
       r ∙ ap (λ z. bytes_of s + bytes_at z) u.changed
 
+  -- a node that gets other children takes the same room
   pub sets_bytes : (s s' : Nodes P) (at : ℕ) (x : Node ℕ P) (m : _) → get s at ≡ Some x → Sets s s' at x m → bytes_of s' ≡ bytes_of s
   sets_bytes s s' at x m e k =
       let u : bytes_of s' + bytes_at (get s at) ≡ bytes_of s + bytes_at (Some k.node) = bytes_update s s' at (Some k.node) k.updates in
@@ -67,6 +70,7 @@ module _ {P : Type 0} where
       let f : size_of (form_of k.node) ≡ size_of (form_of x) = ap size_of k.becomes.form in
       omega (arith, u, b, f)
 
+  -- a least node that comes in takes 64 bytes more
   pub makes_bytes : (s s' : Nodes P) (name : ℕ) (p : List ℕ) → Makes s s' name p → bytes_of s' ≡ bytes_of s + 64
   makes_bytes s s' name p k =
       let u : bytes_of s' + bytes_at (get s name) ≡ bytes_of s + bytes_at (Some k.node) = bytes_update s s' name (Some k.node) k.updates in
@@ -111,5 +115,6 @@ module _ {P : Type 0} where
       of (x ∷ xs) zero l = absurd (omega (arith, l))
       of (x ∷ xs) (suc n) l = of xs n (omega (arith, l))
 
+  -- the sizes of the nodes are those of the names below any bound past the slots
   pub bytes_named : (s : Nodes P) (bound : ℕ) → length s.slots ≤ bound → bytes_of s ≡ total (λ n. bytes_at (get s n)) bound
   bytes_named s bound l = bytes_total s.slots ∙ sym (total_beyond (λ n. bytes_at (get s n)) (length s.slots) bound l (λ i h. ap bytes_at (past_slots s i h)))
