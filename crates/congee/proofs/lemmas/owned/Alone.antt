@@ -34,7 +34,7 @@ module _ {P : Type 0} (s s' : Slab (Slot P)) (empty : s.slots ≡ []) (i : ℕ) 
       let w = subst (λ k. Updates s s' k (Some (Inner n))) first u in
       record { changed = w.changed; others = λ m ne. w.others m ne ∙ ap (λ l. get_or l m None) empty }
 
-  -- slots with a new inner node alone are sound, with no leaf in its parent's place
+  -- slots with a new inner node alone are sound, and no leaf lies in its parent's place
   pub alone_stored : length (prefix_of n) < 7 → i < s'.capacity → IsStored s' 0
   alone_stored short low = comes_stored blank s' (nodes_in blank) refl 0 blank_stored 0 n refl comes bare short refl (omega (arith, low))
 
@@ -76,7 +76,7 @@ module _ {P : Type 0} (s : Slab (Slot P)) (v : Nodes P) (is : nodes_in s ≡ v) 
     comes_back : (y : Node ℕ P) (k : AtInner s v 0 0 y) → Updates s0 s' i (Some (Inner (after y k).node))
     comes_back y k = subst (λ z. Updates s0 s' i (Some z)) (after y k).is u
 
-    -- the slots with the root alone are sound, with no leaf in its parent's place
+    -- slots to which the root alone came back are sound, and no leaf lies in its parent's place
     pub root_left_stored : i < s'.capacity → IsStored s' 0
     root_left_stored low =
         let y = node_at v 0 stands in

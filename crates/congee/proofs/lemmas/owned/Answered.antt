@@ -30,7 +30,7 @@ module _ {P : Type 0} where
   pub at_free : (s : Nodes P) (key : List ℕ) (n : ℕ) → IsTree s → OnWay s key n → child_for (heap_of s n) key ≡ Nothing → value_at (heap_of s) key ≡ None
   at_free s key n t w e = finds _ (heap_of s) t.tree n key Nothing (linked_of s t.parent n w.stands) w.fitted e
 
-  -- nor has one whose way comes to a node with another prefix
+  -- a key whose way comes to a node with another prefix has no value
   pub at_apart : (s : Nodes P) (key : List ℕ) (n c : ℕ) → IsTree s → OnWay s key n → child_for (heap_of s n) key ≡ Below c → fits (heap_of s c).prefix key ≡ false → value_at (heap_of s) key ≡ None
   at_apart s key n c t w e f = misses _ (heap_of s) t.tree n c key (linked_of s t.parent n w.stands) w.fitted e f
 
@@ -38,7 +38,7 @@ module _ {P : Type 0} where
   pub located_free : (s : Nodes P) (key : List ℕ) (p : Place) → IsTree s → Located s key p → p.spot ≡ Free → value_at (heap_of s) key ≡ None
   located_free s key p t l e = at_free s key p.at t l.reached.way (let E : Spot → Type 0 = λ x. EndsAt s key p.at x in subst E e l.ends)
 
-  -- nor has one whose place is beside a node with another prefix
+  -- a key whose place is beside a node with another prefix has no value
   pub located_apart : (s : Nodes P) (key : List ℕ) (p : Place) (c : ℕ) → IsTree s → Located s key p → p.spot ≡ Apart c → value_at (heap_of s) key ≡ None
   located_apart s key p c t l e =
       let E : Spot → Type 0 = λ x. EndsAt s key p.at x in
@@ -52,7 +52,7 @@ module _ {P : Type 0} where
       let d : EndsAt s key p.at Held = subst E e l.ends in
       record { value = d.0; holds = d.1 }
 
-  -- and hangs in the node above it
+  -- the node at a key's place that is held hangs in the node above it
   pub located_hangs : (s : Nodes P) (key : List ℕ) (p : Place) → IsTree s → Located s key p → p.spot ≡ Held → Hangs s key p.above p.at
   located_hangs s key p t l e =
       let h = located_held s key p t l e in

@@ -75,7 +75,7 @@ module _ {P A : Type 0} (same : P → P → Bool) (charged limit : A → ℕ) (o
       → MapChange old.nodes new.nodes (key_bytes k) (Some v) after
   present_at r v after going found f = at_key (Some v) after (present_change old.nodes new.nodes key r v after f.edits.change found)
 
-  -- so is a compute of a present key
+  -- a compute of a present key on the arena is the one on its pairs
   pub present_told : (r : Option P) (v : P) (after : Option P) (going : Option Going) → Some v ≡ value_at (heap_of old.nodes) key → Frees charged limit old new key r (settled r after) going
       → Told (call.ComputePresent k after) (reply.ComputePresent (Some (v, after)))
   present_told r v after going found f =
@@ -170,7 +170,7 @@ module _ {A D : Type 0} (charged limit : A → ℕ) (d : D) (old new : Arena ℕ
       keeps = keeps r.balance r.same_limit;
     }
 
-    -- a removal is one
+    -- a removal on the arena is one as contracts see it
     pub removes : (before : Option ℕ) → Frees charged limit old new key before None (goes_at (heap_of old.nodes) key)
         → Modifies nat_eq charged limit (content charged d old) (content charged d new) (map.get (goes_of old.nodes) k) (call.Remove k) (reply.Remove before)
     removes before f = record {
@@ -180,7 +180,7 @@ module _ {A D : Type 0} (charged limit : A → ℕ) (d : D) (old new : Arena ℕ
       keeps = keeps f.edits.balance f.edits.same_limit;
     }
 
-    -- a compute of a present key is one
+    -- a compute of a present key on the arena is one as contracts see it
     pub settles : (r : Option ℕ) (v : ℕ) (after : Option ℕ) → Some v ≡ value_at (heap_of old.nodes) key
         → Frees charged limit old new key r (settled r after) (going_by after (goes_at (heap_of old.nodes) key))
         → Modifies nat_eq charged limit (content charged d old) (content charged d new) (going_by after (map.get (goes_of old.nodes) k)) (call.ComputePresent k after) (reply.ComputePresent (Some (v, after)))
@@ -191,7 +191,7 @@ module _ {A D : Type 0} (charged limit : A → ℕ) (d : D) (old new : Arena ℕ
       keeps = keeps f.edits.balance f.edits.same_limit;
     }
 
-    -- an exchange whose expected value is there is one
+    -- an exchange whose expected value is there is one as contracts see it
     pub exchanges : (r : Option ℕ) (v : ℕ) (after : Option ℕ) → Some v ≡ value_at (heap_of old.nodes) key
         → Frees charged limit old new key r (settled r after) (going_by after (goes_at (heap_of old.nodes) key))
         → Modifies nat_eq charged limit (content charged d old) (content charged d new) (going_by after (map.get (goes_of old.nodes) k)) (call.Exchange k v after) (reply.Exchange (Ok after))

@@ -70,19 +70,19 @@ module _ {P : Type 0} (s0 s1 s2 : Nodes P) (key : List ℕ) (common over other b
     same_over : get s2 over ≡ get s3 over
     same_over = hangs.now ∙ sym over_now
 
-    -- it stands after the leaf in its way went
+    -- the new node stands after the leaf in its way went
     pub cover_stands : ContainsKey s3 over
     cover_stands = rw over_now refl
 
-    -- it is an inner node
+    -- the new node is no leaf
     pub cover_inner : length (take common key) < 7 → (x : Node ℕ P) → get s3 over ≡ Some x → length (prefix_of x) < 7
     cover_inner short x e = hung_inner s0 s1 s2 over _ _ key v made hangs short x (same_over ∙ e)
 
-    -- it has nothing at the byte of the leaf that went
+    -- the new node has nothing at the byte of the leaf that went
     pub cover_absent : get_or key common 0 ≢ other → (x : Node ℕ P) → get s3 over ≡ Some x → map.get (children_of x) other ≡ None
     cover_absent ne x e = hung_absent s0 s1 s2 over _ _ key v made hangs other ne x (same_over ∙ e)
 
-    -- it isn't full
+    -- the new node isn't full
     pub cover_full : (x : Node ℕ P) → get s3 over ≡ Some x → is_full_of x ≡ false
     cover_full x e = hung_room s0 s1 s2 over _ _ key v made hangs x (same_over ∙ e)
 
@@ -206,7 +206,7 @@ module _ {P : Type 0} (s0 s1 s2 : Nodes P) (key : List ℕ) (common over other b
         renaming : Renamed hanging s4
         renaming = renamed hanging s4 over other below put.leaf hung.0.0 renames
 
-        -- the nodes are a tree
+        -- the nodes are a tree with the leaf under its new name
         pub cover_tree : IsTree s4
         cover_tree = renaming.tree
 
@@ -214,7 +214,7 @@ module _ {P : Type 0} (s0 s1 s2 : Nodes P) (key : List ℕ) (common over other b
         pub cover_change : MapChange s0 s4 key None (Some v)
         cover_change = renamed_change s0 hanging s4 key None (Some v) hung.0.1 renaming
 
-        -- the sizes grow by those of a node and a leaf
+        -- the sizes grow by those of the new node and of one leaf
         pub cover_bytes : bytes_of s4 ≡ bytes_of s0 + 128
         cover_bytes = renaming.bytes ∙ hung.1
 

@@ -59,14 +59,14 @@ module _ {P : Type 0} (x : List ℕ) where
   form_by (N48 n) = refl
   form_by (N256 n) = refl
 
-  -- it has that prefix
+  -- a node by its prefix and its places has that prefix
   pub prefix_by : (p : Places P) → prefix_of (node_by x p) ≡ x
   prefix_by (N4 n) = refl
   prefix_by (N16 n) = refl
   prefix_by (N48 n) = refl
   prefix_by (N256 n) = refl
 
-  -- its children are what the entries keep
+  -- a node by its prefix and its places has what the entries keep as its children
   pub children_by : (p : Places P) → children_of (node_by x p) ≡ mapped (child_by x) (entries_in p)
   children_by (N4 n) = refl
   children_by (N16 n) = refl
@@ -77,7 +77,7 @@ module _ {P : Type 0} (x : List ℕ) where
   pub bare_by : (p : Places P) → entries_in p ≡ map.empty → children_of (node_by x p) ≡ map.empty
   bare_by p e = children_by p ∙ (ap (mapped (child_by x)) e ∙ mapped_empty (child_by x))
 
-  -- it is full where the places are
+  -- a node by its prefix and its places is full exactly where the places are
   pub full_by : (p : Places P) → is_full_of (node_by x p) ≡ full_in p
   full_by (N4 n) = rw (len_mapped (child_by x) n) refl
   full_by (N16 n) = rw (len_mapped (child_by x) n.value.children) refl
@@ -97,7 +97,7 @@ module _ {P : Type 0} (x : List ℕ) (p : Places P) (n : Node ℕ (Lone P)) (is 
   pub prefix_at : prefix_of n ≡ x
   prefix_at = ap prefix_of (sym is) ∙ prefix_by x p
 
-  -- its children are what the entries keep
+  -- the node's children are what the entries keep
   pub children_at : mapped (child_by x) (entries_in p) ≡ children_of n
   children_at = sym (children_by x p) ∙ ap children_of is
 

@@ -69,7 +69,7 @@ module _ {P : Type 0} (v : Nodes P) (at leaf : ℕ) (stands : ContainsKey v at) 
     holds : map.get (children_of lies.0) last ≡ Some (Value has.value)
     holds = ap (map.get (children_of lies.0)) last_is ∙ here
 
-    -- it is one
+    -- the first child of the leaf is a value
     pub fold_value : (x : Node ℕ P) → get v leaf ≡ Some x → IsValue (map.get (children_of x) last)
     fold_value x h =
         let q : lies.0 ≡ x = one_node v leaf lies.0 x lies.1 h in
@@ -80,11 +80,11 @@ module _ {P : Type 0} (v : Nodes P) (at leaf : ℕ) (stands : ContainsKey v at) 
       taken : Sets v v1 leaf lies.0 (map.remove (children_of lies.0) last)
       taken = takes lies.0 lies.1
 
-      -- the leaf still stands
+      -- the leaf still stands after its value was taken
       pub fold_left : ContainsKey v1 leaf
       fold_left = rw taken.updates.changed refl
 
-      -- it still has a prefix of seven bytes
+      -- the leaf still has a prefix of seven bytes after its value was taken
       pub fold_seven : (x : Node ℕ P) → get v1 leaf ≡ Some x → length (prefix_of x) ≡ 7
       fold_seven x h =
           let q : taken.node ≡ x = one_node v1 leaf taken.node x taken.updates.changed h in
@@ -95,15 +95,15 @@ module _ {P : Type 0} (v : Nodes P) (at leaf : ℕ) (stands : ContainsKey v at) 
         kept : get v2 at ≡ get v at
         kept = gone.others at fold_apart ∙ taken.updates.others at fold_apart
 
-        -- the node above still stands
+        -- the node above still stands after the leaf went
         pub fold_stands : ContainsKey v2 at
         fold_stands = rw (kept ∙ there.1) refl
 
-        -- it still is an inner node
+        -- the node above still is an inner node after the leaf went
         pub fold_inner : (y : Node ℕ P) → get v2 at ≡ Some y → length (prefix_of y) < 7
         fold_inner y h = inner y (sym kept ∙ h)
 
-        -- there is room for one more node
+        -- after the leaf went there is room for one more node
         pub fold_room : HasRoomFor v 0 → v1.capacity ≡ v.capacity → v2.capacity ≡ v1.capacity → HasRoomFor v2 1
         fold_room room c1 c2 =
             let l1 = len_update v v1 leaf (Some taken.node) taken.updates in

@@ -127,7 +127,7 @@ module _ {P : Type 0} where
   filled_where s e zero x ne at = absurd (ne refl)
   filled_where s e (suc n) x ne at = each_enough (drop 1 s.slots) e n x (beside_root s.slots n ∙ at)
 
-  -- nodes that all have enough children lack none
+  -- nodes of which each but the root has enough children lack none
   pub lacking_none : (s : Nodes P) → NodesFilled s → lacking_of s ≡ 0
   unfolding lacking_of
   lacking_none s h = none_lacks (drop 1 s.slots) (λ j x e. h (suc j) x (omega arith) (sym (beside_root s.slots j) ∙ e))

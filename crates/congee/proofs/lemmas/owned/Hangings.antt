@@ -470,7 +470,7 @@ module _ {P : Type 0} where
         let q : length (prefix_of x) ≡ length p = ap length (ap prefix_of (one_node s'' n x h.node e h.now) ∙ (h.becomes.prefix ∙ m.prefixed)) in
         omega (arith, q, l)
 
-    -- it has nothing under the other bytes
+    -- a new inner node that got a leaf has nothing under the other bytes
     pub hung_absent : (other : ℕ) → byte ≢ other → (x : Form ℕ P) → get s'' n ≡ Some x → map.get (children_of x) other ≡ None
     hung_absent other ne x e =
         ap (λ y. map.get (children_of y) other) (one_node s'' n x h.node e h.now)
@@ -478,7 +478,7 @@ module _ {P : Type 0} where
         ∙ (insert_beside (children_of m.node) byte (Sub h.leaf) other (λ q. ne (sym q))
         ∙ (ap (λ z. map.get z other) m.children ∙ map.get-empty _ other)))
 
-    -- and it isn't full
+    -- a new inner node that got a leaf isn't full
     pub hung_room : (x : Form ℕ P) → get s'' n ≡ Some x → is_full_of x ≡ false
     hung_room x e =
         let c : children_of h.node ≡ map.insert map.empty byte (Sub h.leaf) = h.becomes.children ∙ ap (λ z. map.insert z byte (Sub h.leaf)) m.children in

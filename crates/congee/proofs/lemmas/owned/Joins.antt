@@ -76,7 +76,7 @@ module _ {P : Type 0} where
   note_same : (s s' : Nodes P) (parent parent' : ℕ → ℕ) (m : ℕ) → is_some (get s' m) ≡ is_some (get s m) → parent' m ≡ parent m → ledger_of s' parent' m ≡ ledger_of s parent m
   note_same s s' parent parent' m e f = rw (e, f) refl
 
-  -- a node with the key's value alone is a leaf of the key's for the tree
+  -- a node that has the key's value alone is a leaf of the key's for the tree
   pub leaf_of : (s : Nodes P) (key : List ℕ) (d : ℕ) (n : Form ℕ P) (v : P) → length key ≡ 8 → get s d ≡ Some n → IsLeafOf n key v → Leaf (heap_of s) d key v
   leaf_of s key d n v len e l =
       let h : heap_of s d ≡ node_of (Some n) = ap node_of e in

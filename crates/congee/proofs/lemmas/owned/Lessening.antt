@@ -48,7 +48,7 @@ module _ {P : Type 0} (s : Slab (Slot P)) (v : Nodes P) (is : nodes_in s ≡ v) 
   great_name : at ≡ 257 * i
   great_name = sym name ∙ (ap (λ b. 257 * i + offset_of b) great_own ∙ omega arith)
 
-  -- the slot to which its name belongs isn't vacant
+  -- a node of a greater form has a slot that isn't vacant
   pub great_slot : ContainsKey s i
   great_slot = slot_there s i (subst (λ w. ContainsKey w (257 * i)) (sym is) (subst (ContainsKey v) great_name stands))
 
@@ -156,7 +156,7 @@ module _ {P : Type 0} (s : Slab (Slot P)) (v : Nodes P) (is : nodes_in s ≡ v) 
             of (Ok u) a b = shrunk_stored a
             of (Err w) a b = still_stored b
 
-        -- where it took it, it did so for the tree
+        -- where it took the form below, it did so for the tree
         pub shrink_done : OnOk r (Shrunk x x') → OnOk r ((y : Node ℕ P) → get v at ≡ Some y → ShrinksTo v (nodes_in (with_value s i x')) at y)
         shrink_done a = of r a
           where
@@ -218,7 +218,7 @@ module _ {P : Type 0} (s s' : Nodes P) (at : ℕ) (x y : Node ℕ P) (t : IsTree
       (subst IsFilled (sym u.changed) (filled_some y (λ seven. subst (λ c. 0 < map.len c) (sym children) (t.filled at x was (ap length (sym prefix) ∙ seven)))))
       (λ ne. subst IsFilled (sym (u.others n ne)) (t.filled n))
 
-  -- the nodes are a tree with the same map
+  -- a node in another form, with the same prefix and children, leaves the tree and its map
   pub reformed : SameMap s s'
   reformed = record {
     tree = record {
@@ -230,7 +230,7 @@ module _ {P : Type 0} (s s' : Nodes P) (at : ℕ) (x y : Node ℕ P) (t : IsTree
     values = λ key len. renamed_map (λ n. n) (ledger_of s t.parent) (heap_of s) (ledger_of s' t.parent) (heap_of s') t.tree as_named key;
   }
 
-  -- the sizes change by those of the two forms
+  -- a node in another form changes the sizes by those of the two forms
   pub reformed_bytes : bytes_of s' + size_of (form_of x) ≡ bytes_of s + size_of (form_of y)
   reformed_bytes =
       let r = bytes_update s s' at (Some y) u in

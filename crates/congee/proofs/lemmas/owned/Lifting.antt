@@ -268,7 +268,7 @@ module _ {P : Type 0} (s s' : Nodes P) (g b p : ℕ) (t : IsTree s) (r : MayLift
   pub moved_apart : o ≢ 0
   moved_apart e = ro (sym e)
 
-  -- the nodes are a tree with the same map
+  -- an only child in the place of its node leaves the tree and its map
   pub moved_up : SameMap s s'
   moved_up = record {
     tree = record {

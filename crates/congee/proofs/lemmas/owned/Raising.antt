@@ -85,7 +85,7 @@ module _ {P : Type 0} (s : Nodes P) (g b p : ℕ) (r : MayLift s g b p) where
         others = λ m mg mp mo mn. put.updates.others m mg ∙ k.gone.others m mp;
       }
 
-      -- the sizes fall by that of the lower node
+      -- where the child moves up under its own name, the sizes fall by that of the lower node
       pub node_bytes : bytes_of s2 + size_of (form_of r.lower) ≡ bytes_of s
       node_bytes =
           let u = bytes_update s s1 p None k.gone in
@@ -117,7 +117,7 @@ module _ {P : Type 0} (s : Nodes P) (g b p : ℕ) (r : MayLift s g b p) where
     apart : p ≢ k.leaf
     apart e = r.child_apart_below (sym (e ∙ leaf_is))
 
-    -- there is room for one more node
+    -- where the lower node went with the leaf, there is room for one more node
     pub leaf_room : s1.capacity ≡ s.capacity → HasRoomFor s 0 → HasRoomFor s1 1
     leaf_room cap room =
         let u = len_two s s1 p k.leaf apart k.others in
@@ -156,7 +156,7 @@ module _ {P : Type 0} (s : Nodes P) (g b p : ℕ) (r : MayLift s g b p) where
         others = λ m mg mp mo mn. put_leaf.others m mg mn ∙ k.others m mp (not_leaf m mo);
       }
 
-      -- the sizes fall by that of the lower node
+      -- where the leaf moves up under a new name, the sizes fall by that of the lower node
       pub leaf_bytes : bytes_of s2 + size_of (form_of r.lower) ≡ bytes_of s
       leaf_bytes =
           let one = bytes_two s s1 p k.leaf apart k.others in

@@ -111,7 +111,7 @@ module _ {A : Type 0} (charged limit : A → ℕ) (c0 c1 : A) where
   charges_true false f true e k = absurd (k.charges)
   charges_true b f false e k = absurd (let z : false ≡ true = e in cc)
 
-  -- where none was charged, the charge is as it was
+  -- where no lesser node was charged, the charge is as it was
   pub charges_false : (b : Bool) (f : NodeType) (r : Bool) → r ≡ false → Charges charged limit c0 c1 (lesser_if b f) r → charged c1 ≡ charged c0
   charges_false true f false e k = k.charges.0
   charges_false false f false e k = k.charges
@@ -132,7 +132,7 @@ module _ {A : Type 0} (charged limit : A → ℕ) (c0 c1 : A) where
 
   -- one was, after which nodes of so many bytes went
   module _ (cm bm cn bn : ℕ) where
-    -- the sizes moved as where a node gives way to a lesser one
+    -- where a lesser node was charged, the sizes move as where a node gives way
     pub gave_way : (b : Bool) (f : NodeType) (r : Bool) (before gone : ℕ) → r ≡ true → Charges charged limit c0 c1 (lesser_if b f) r → bm + gone ≡ before → LessensBy cm bm cn bn f
         → GaveWay (charged c0) (limit c0) before bn gone (lesser_if b f)
     gave_way false f true before gone q k e l = absurd (k.charges)
@@ -142,7 +142,7 @@ module _ {A : Type 0} (charged limit : A → ℕ) (c0 c1 : A) where
     ]
     gave_way b f false before gone q k e l = absurd (let z : false ≡ true = q in cc)
 
-    -- the charge moved as the nodes' sizes did
+    -- where a lesser node was charged, and its coming is done, the charge moves as the nodes' sizes do
     pub gave_balance : (b : Bool) (f : NodeType) (r : Bool) (before gone : ℕ) → r ≡ true → Charges charged limit c0 c1 (lesser_if b f) r → cm + gone ≡ charged c1 → bm + gone ≡ before → LessensBy cm bm cn bn f
         → cn + before ≡ charged c0 + bn
     gave_balance b f r before gone q k c e l =
@@ -161,11 +161,11 @@ module _ {A : Type 0} (charged limit : A → ℕ) (c0 c1 : A) where
     form_there : (x : Node ℕ P) → get mid at ≡ Some x → form_of x ≡ f
     form_there x e = ap form_of (one_node mid at x new e now) ∙ (form ∙ sym ef)
 
-    -- the node isn't of the least form
+    -- a node for which a lesser one was charged isn't of the least form
     pub ready_greater : (x : Node ℕ P) → get mid at ≡ Some x → form_of x ≢ T4
     ready_greater x e q = shrinks_greater f n small (sym (form_there x e) ∙ q)
 
-    -- its children fit in the form below
+    -- the children of a node for which a lesser one was charged fit in the form below
     pub ready_room : (x : Node ℕ P) → get mid at ≡ Some x → map.len (children_of x) ≤ capacity_of (form_below (form_of x))
     ready_room x e =
         let l : map.len (children_of x) ≡ map.len (children_of new) = ap (λ y. map.len (children_of y)) (one_node mid at x new e now) in
@@ -173,7 +173,7 @@ module _ {A : Type 0} (charged limit : A → ℕ) (c0 c1 : A) where
         let m = shrinks_room f n small in
         omega (arith, l, c, m, en, fewer)
 
-    -- the charge covers the nodes' sizes and that of the lesser node
+    -- the charge covers the sizes of the nodes and of a lesser one that was charged
     pub ready_covered : (cm gone : ℕ) → cm + gone ≡ charged c1 → bytes_of mid + gone ≤ charged c0 → (x : Node ℕ P) → get mid at ≡ Some x → bytes_of mid + size_of (form_below (form_of x)) ≤ cm
     ready_covered cm gone e b x h =
         let c : size_of (form_below (form_of x)) ≡ size_of (form_below f) = ap (λ y. size_of (form_below y)) (form_there x h) in
@@ -232,7 +232,7 @@ module _ {P : Type 0} where
     child_lost : map.get (children_of k.old) (get_or key (length (prefix_of k.old)) 0) ≡ Some (Sub at)
     child_lost = child_there s t key above at h.way.stands h.child k.old k.was _ (ap (λ p. get_or key (length p) 0) (sym (prefix_at s above k.old k.was)))
 
-    -- it has one child fewer
+    -- a node that lost a child has one child fewer
     pub fewer : map.len (children_of k.new) ≡ map.len (children_of k.old) - 1
     fewer = ap map.len k.becomes.children ∙ len_fewer (children_of k.old) _ (Sub at) child_lost
 
@@ -326,7 +326,7 @@ module _ {P : Type 0} where
         k.others top (above_apart s t key top above higher)
         (λ e. let z : length (heap_of s top).prefix ≡ length (heap_of s at).prefix = ap (λ y. length (heap_of s y).prefix) e in absurd (omega (arith, l, m, z)))
 
-    -- it stands
+    -- the node above the one that loses its child stands
     pub top_stands : ContainsKey mid top
     top_stands = subst IsSome (sym top_same) higher.way.stands
 

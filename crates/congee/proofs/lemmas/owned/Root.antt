@@ -33,7 +33,7 @@ module _ {P : Type 0} (s0 s : Nodes P) (root : Form ℕ P) (none : (n : ℕ) →
   empty_prefix : (heap_of s 0).prefix ≡ []
   empty_prefix = rw root_is prefix
 
-  -- it is a tree
+  -- a root alone is a tree
   pub root_tree : IsTree s
   root_tree = record {
     parent = λ _. 0;
@@ -52,11 +52,11 @@ module _ {P : Type 0} (s0 s : Nodes P) (root : Form ℕ P) (none : (n : ℕ) →
     ];
   }
 
-  -- no key has a value in it
+  -- in a root alone no key has a value
   pub root_empty : (key : List ℕ) → value_at (heap_of s) key ≡ None
   root_empty key = finds _ (heap_of s) root_tree.tree 0 key Nothing root_tree.tree.root (rw empty_prefix refl) (nothing _)
 
-  -- it takes 2,104 bytes
+  -- a root alone takes 2,104 bytes
   pub root_bytes : bytes_of s0 ≡ 0 → bytes_of s ≡ 2104
   root_bytes z =
       let u = bytes_update s0 s 0 (Some root) puts in

@@ -74,7 +74,7 @@ module _ {X : Type 0} (m : map.FinMap nat_cmp X) (byte i : ℕ) (xs : List X) (l
       let z : drop i xs ≡ x ∷ drop (i + 1) xs = drop_more xs i x h ∙ ap (λ y. y ∷ drop (i + 1) xs) (sym e) in
       subst (Lists m byte) z l
 
-  -- past the last one there is no child
+  -- past the last child of a list from a byte on there is none
   pub list_end : length xs ≤ i → (b : ℕ) → byte ≤ b → map.get m b ≡ None
   list_end h = subst (Lists m byte) (drop_all i xs h) l
 
@@ -221,7 +221,7 @@ module _ {P E : Type 0} (s : Nodes P) (put : ℕ → P → E) (last : ℕ) (stem
         pub rest : Lists seen.entries (byte + 1) (drop (i + 1) list)
         pub wrote : Wrote s put last t (257 * stem.slot) seen.from first old byte after w
 
-      -- what was written of it, after the entries before it, is so
+      -- what was written of the next entry, after those before it, is what was written of the list with it
       pub list_wrote : (t : IsTree s) (after : List E) (w : Written) → Fills count new after w
           → ((h : Hangs s stem entry) → WritesByte s put last (257 * stem.slot) h.from h.byte count new after w) → ListWrote t after w
       list_wrote t after w f writes =
@@ -233,7 +233,7 @@ module _ {P E : Type 0} (s : Nodes P) (put : ℕ → P → E) (last : ℕ) (stem
             wrote = wrote_byte s put last t (257 * stem.slot) seen.from first old l.byte count new l.so n.0 after w f (writes hangs);
           }
 
-      -- where it wasn't over, the entries with it are the first of those written
+      -- where what was written with the next entry isn't over, the pairs of so many entries are written
       pub list_on : (t : IsTree s) (after : List E) (w : Written) → ListWrote t after w → w.over ≡ false → ListSoFar seen first old (i + 1) w.count after
       list_on t after w d o = record {
         byte = d.byte + 1;

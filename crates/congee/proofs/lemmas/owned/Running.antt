@@ -28,6 +28,6 @@ module _ {V : Type 0} where
   owner_filled old new (OwnerModified going call reply m none) e = m.filled e none
   owner_filled old new (OwnerLeft u) e = ap (λ (t : Owners V). t.lacking) u ∙ e
 
-  -- the same of a tree of owners
+  -- the nodes of a tree of owners that are filled where they lack nothing stay so after such a run
   pub owners_filled : (now : Owners V) → (now.lacking ≡ 0 → AllFilled now.nodes) → OwnersStayFilled now
   owners_filled now f first calls e r = f (kept OwnerGoesOn (λ (t : Owners V). t.lacking ≡ 0) owner_filled first calls now r e)

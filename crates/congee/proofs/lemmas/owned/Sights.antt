@@ -54,7 +54,7 @@ module _ {P : Type 0} (s : Slab (Slot P)) (v : Nodes P) (is : nodes_in s ≡ v) 
     inline = λ b lone low h. ap (λ w. get w (257 * i + (b + 1))) (sym is) ∙ (get_inline s i b low ∙ (ap (λ z. in_slot i z (suc b)) (g ∙ ap Some q) ∙ ap lone_in h));
   }
 
-  -- so is a leaf, with the key that it would have at byte 0
+  -- a leaf in the slot, with the key that it would have at byte 0, is what stands under such a name
   pub sees_leaf : byte ≡ None → (x : Slot P) (n : Node ℕ P) → get s i ≡ Some x → x ≡ Leaf n → (least : ℕ) (p : List ℕ) → length (prefix_of n) ≡ 7 → p ≡ prefix_of n
       → fits p (key_bytes least) ≡ true → get_or (key_bytes least) 7 0 ≡ 0 → SeesLeaf v at least n
   sees_leaf e x n g q least p seven prefix begins ends = record {

@@ -131,17 +131,17 @@ module _ {P : Type 0} (i : ℕ) where
   seen_form (Inner n) = with_form (inner_child i) n
   seen_form (Leaf n) = with_form leaf_child n
 
-  -- the tree sees the prefix of the slot's node
+  -- the tree sees a slot's node with the prefix that it has
   pub seen_prefix : (x : Slot P) → prefix_of (slot_node i x) ≡ prefix_in x
   seen_prefix (Inner n) = with_prefix (inner_child i) n
   seen_prefix (Leaf n) = with_prefix leaf_child n
 
-  -- it sees as many children
+  -- the tree sees a slot's node with as many children as it has
   pub seen_len : (x : Slot P) → map.len (children_of (slot_node i x)) ≡ len_in x
   seen_len (Inner n) = with_len (inner_child i) n
   seen_len (Leaf n) = with_len leaf_child n
 
-  -- it sees the node full where it is
+  -- the tree sees a slot's node full exactly where it is
   pub seen_full : (x : Slot P) → is_full_of (slot_node i x) ≡ full_in x
   seen_full (Inner n) = with_full (inner_child i) n
   seen_full (Leaf n) = with_full leaf_child n
@@ -172,7 +172,7 @@ module _ {P : Type 0} (s : Slab (Slot P)) (v : Nodes P) (is : nodes_in s ≡ v) 
       let Q : ℕ → Type 0 = λ k. ContainsKey v k in let R : Nodes P → Type 0 = λ w. ContainsKey w (257 * i) in
       slot_there s i (subst R (sym is) (subst Q n h))
 
-  -- what stands under such a name is the slot's node
+  -- what stands under a name without a byte is the slot's node
   pub named_seen : byte ≡ None → (x : Slot P) (y : Node ℕ P) → get s i ≡ Some x → get v at ≡ Some y → slot_node i x ≡ y
   named_seen e x y g h =
       let n : at ≡ 257 * i = sym name ∙ (ap (λ b. 257 * i + offset_of b) e ∙ omega arith) in
@@ -184,13 +184,13 @@ module _ {P : Type 0} (s : Slab (Slot P)) (v : Nodes P) (is : nodes_in s ≡ v) 
       let n : at ≡ 257 * i + (b + 1) = sym name ∙ ap (λ b. 257 * i + offset_of b) e in
       let Q : ℕ → Type 0 = λ k. ContainsKey v k in subst Q n h
 
-  -- what stands under it is the leaf in that place
+  -- what stands under a name with a byte is the leaf in the byte's place
   pub named_lone_seen : (b : ℕ) (lone : Lone P) (y : Node ℕ P) → byte ≡ Some b → get v (257 * i + (b + 1)) ≡ Some (lone_node lone) → get v at ≡ Some y → lone_node lone ≡ y
   named_lone_seen b lone y e g h =
       let n : at ≡ 257 * i + (b + 1) = sym name ∙ ap (λ b. 257 * i + offset_of b) e in
       let z : Some (lone_node lone) ≡ Some y = sym g ∙ (ap (get v) (sym n) ∙ h) in cc
 
-  -- the slot's node has a leaf with one value in its place there
+  -- where a node stands under a name with a byte, the slot's node has a leaf in its place there
   pub named_lone_at : (b : ℕ) → byte ≡ Some b → IsByte byte → ContainsKey v at → LoneAt s i b
   named_lone_at b e l h =
       let R : Nodes P → Type 0 = λ w. ContainsKey w (257 * i + (b + 1)) in
@@ -203,7 +203,7 @@ module _ {P : Type 0} (s : Slab (Slot P)) (v : Nodes P) (is : nodes_in s ≡ v) 
       let R : Nodes P → Type 0 = λ w. get w (257 * i + (b + 1)) ≡ Some (lone_node L.lone) in
       (L.lone, named_lone_seen b L.lone y e (subst R is L.seen) h)
 
-  -- a name of a byte's place under which a node stands has such a leaf
+  -- what stands under a byte's name of the slot is a leaf with one value in its node's place
   pub lone_in_view : (b : ℕ) → b < 256 → ContainsKey v (257 * i + (b + 1)) → LoneAt s i b
   lone_in_view b l h = let R : Nodes P → Type 0 = λ w. ContainsKey w (257 * i + (b + 1)) in lone_there s i b l (subst R (sym is) h)
 
@@ -235,11 +235,11 @@ module _ {P : Type 0} (v : Nodes P) (name : ℕ) (lone : Lone P) (key : List ℕ
       let n : heap_of v name ≡ node_of (Some (lone_node lone)) = ap node_of e in
       rw (n, lone_seven) h
 
-  -- the leaf's value, where the key ends with the byte of the leaf's key
+  -- a leaf with one value has it for a key that ends with its own last byte
   pub lone_holds : get_or lone.key 7 0 ≡ get_or key 7 0 → child_for (heap_of v name) key ≡ Holds lone.value
   lone_holds q = lone_has (Holds lone.value) (ap hung_in (ap (map.get (children_of (lone_node lone))) (sym q) ∙ insert_at map.empty (get_or lone.key 7 0) (Value lone.value)))
 
-  -- nothing, where it ends with another byte
+  -- a leaf with one value has nothing for a key that ends with another byte
   pub lone_misses : (get_or lone.key 7 0 ≡ get_or key 7 0 → ⊥) → child_for (heap_of v name) key ≡ Nothing
   lone_misses ne = lone_has Nothing (ap hung_in (insert_beside map.empty (get_or lone.key 7 0) (Value lone.value) (get_or key 7 0) (λ q. ne (sym q)) ∙ map.get-empty _ (get_or key 7 0)))
 
@@ -264,11 +264,11 @@ module _ {P : Type 0} (s : Slab (Slot P)) (v : Nodes P) (is : nodes_in s ≡ v) 
         ap (λ m. map.get m (get_or key len 0)) (with_mapped f n) ∙ (get_mapped f (children_of n) (get_or key len 0) ∙ ap (option_map (f (get_or key len 0))) (sym read)) in
         ap (λ w. child_for w key) h ∙ (ap (λ k. hung_in (map.get (children_of (with_children f n)) (get_or key k 0))) l ∙ ap hung_in g)
 
-    -- nothing, where nothing was read
+    -- an inner node has nothing for a key at whose byte nothing was read
     pub inner_nothing : o ≡ None → child_for (heap_of v (257 * i)) key ≡ Nothing
     inner_nothing c = inner_is ∙ ap (λ r. hung_in (option_map (inner_child i (get_or key len 0)) r)) c
 
-    -- the child that was read
+    -- an inner node has for a key the child that was read at its byte
     pub inner_leads : (y : Child ℕ (Lone P)) → o ≡ Some y → child_for (heap_of v (257 * i)) key ≡ hung_in (Some (inner_child i (get_or key len 0) y))
     inner_leads y c = inner_is ∙ ap (λ r. hung_in (option_map (inner_child i (get_or key len 0)) r)) c
 
@@ -299,7 +299,7 @@ module _ {P : Type 0} (s : Slab (Slot P)) (v : Nodes P) (is : nodes_in s ≡ v) 
     pub leaf_nothing : o ≡ None → child_for (heap_of v (257 * i)) key ≡ Nothing
     leaf_nothing c = leaf_is ∙ ap (λ r. hung_in (option_map (leaf_child (get_or key len 0)) (option_copied r))) c
 
-    -- and for another key the child that was read
+    -- a leaf has for a key the value that was read at its byte
     pub leaf_leads : (f : Bor (Child ℕ P)) (y : Child ℕ P) → o ≡ Some f → f.now ≡ y → child_for (heap_of v (257 * i)) key ≡ hung_in (Some (leaf_child (get_or key len 0) y))
     leaf_leads f y c h =
         leaf_is ∙ (ap (λ r. hung_in (option_map (leaf_child (get_or key len 0)) (option_copied r))) c ∙ ap (λ z. hung_in (Some (leaf_child (get_or key len 0) z))) h)
@@ -426,7 +426,7 @@ module _ {P : Type 0} (v : Nodes P) (name : ℕ) (lone : Lone P) (e : get v name
   lone_beside : (q : ℕ) → q ≢ get_or lone.key 7 0 → map.get (children_of x) q ≡ None
   lone_beside q ne = ap (λ n. map.get (children_of n) q) (sym lone_same) ∙ (insert_beside map.empty (get_or lone.key 7 0) (Value lone.value) q ne ∙ map.get-empty _ q)
 
-  -- from its key's last byte or one before it on, it is the first
+  -- a leaf with one value has it first from its last byte, or one before it, on
   pub lone_first : from ≤ get_or lone.key 7 0 → IsFirst (children_of x) from (get_or lone.key 7 0) (Value lone.value)
   lone_first l = record {
     past = l;
@@ -434,6 +434,6 @@ module _ {P : Type 0} (v : Nodes P) (name : ℕ) (lone : Lone P) (e : get v name
     before = λ q lo hi. lone_beside q (λ z. absurd (omega (arith, z, hi)));
   }
 
-  -- after that byte the leaf has nothing
+  -- a leaf with one value has nothing after its last byte
   pub lone_last : get_or lone.key 7 0 < from → (b : ℕ) → from ≤ b → map.get (children_of x) b ≡ None
   lone_last l b lo = lone_beside b (λ z. absurd (omega (arith, z, lo, l)))
