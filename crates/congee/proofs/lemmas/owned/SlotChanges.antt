@@ -46,6 +46,7 @@ module _ {P : Type 0} (s : Slab (Slot P)) (v : Nodes P) (is : nodes_in s ≡ v) 
   own_name : byte ≡ None → at ≡ 257 * i
   own_name e = sym name ∙ (ap (λ b. 257 * i + offset_of b) e ∙ omega arith)
 
+  -- a node with a prefix of less than seven bytes is the inner node in the slot of its name
   pub at_inner : ((j : ℕ) → HasKind (get s j)) → (y : Node ℕ P) → get v at ≡ Some y → length (prefix_of y) < 7 → AtInner s v at i y
   at_inner kinds y h short =
       let own = inner_own y h short in
@@ -61,17 +62,21 @@ module _ {P : Type 0} (s : Slab (Slot P)) (v : Nodes P) (is : nodes_in s ≡ v) 
           absurd (omega (arith, l, p, short))
 
 module _ {P : Type 0} (s : Slab (Slot P)) (v : Nodes P) (at i : ℕ) (y : Node ℕ P) (k : AtInner s v at i y) (x : Slot P) (e : get s i ≡ Some x) where
+  -- what stands in the slot of an inner node is that node
   pub inner_slot : x ≡ Inner k.node
   inner_slot = let z : Some x ≡ Some (Inner k.node) = sym e ∙ k.stands in cc
 
+  -- the slot has an inner node
   pub is_inner : IsInner x
   is_inner = subst IsInner (sym inner_slot) tt
 
+  -- a byte at which the tree sees nothing has nothing in the slot
   pub inner_absent : (b : ℕ) → map.get (children_of y) b ≡ None → inner_get x b ≡ None
   inner_absent b n =
       ap (λ w. inner_get w b) inner_slot
       ∙ mapped_none (inner_child i) (children_of k.node) b (sym (ap (λ m. map.get m b) (with_mapped (inner_child i) k.node)) ∙ (ap (λ w. map.get (children_of w) b) k.seen ∙ n))
 
+  -- an inner node that isn't full for the tree isn't full in its slot
   pub inner_room : is_full_of y ≡ false → full_in x ≡ false
   inner_room n = ap full_in inner_slot ∙ (sym (with_full (inner_child i) k.node) ∙ (ap is_full_of k.seen ∙ n))
 
@@ -98,15 +103,19 @@ module _ {P : Type 0} (s : Slab (Slot P)) (i : ℕ) (n n' : Node ℕ (Lone P)) (
   updates : Updates s after i (Some (Inner n'))
   updates = Updates-with_value s i (Inner n') (rw stands refl)
 
+  -- the slot's first name has the changed node
   pub seen_after : get (nodes_in after) (257 * i) ≡ Some (with_children (inner_child i) n')
   seen_after = slot_seen after i (Inner n') updates.changed
 
+  -- the byte's name had the leaf that lay in the node's place there, if one did
   pub lone_before : get (nodes_in s) (257 * i + (b + 1)) ≡ lone_in (map.get (children_of n) b)
   lone_before = get_inline s i b low ∙ ap (λ z. in_slot i z (suc b)) stands
 
+  -- the byte's name has the leaf that lies in the changed node's place there, if one does
   pub lone_after : get (nodes_in after) (257 * i + (b + 1)) ≡ lone_in (map.get (children_of n') b)
   lone_after = get_inline after i b low ∙ ap (λ z. in_slot i z (suc b)) updates.changed
 
+  -- all other names have the nodes that they had
   pub others_after : (m : ℕ) → m ≢ 257 * i → m ≢ 257 * i + (b + 1) → get (nodes_in after) m ≡ get (nodes_in s) m
   others_after = byte_beside s after i n n' b stands updates same
 
@@ -125,6 +134,7 @@ module _ {P : Type 0} (s : Slab (Slot P)) (i : ℕ) (n n' : Node ℕ (Lone P)) (
       let f : counted (get (nodes_in after) (257 * i + (b + 1))) ≡ counted (lone_in (map.get (children_of n') b)) = ap counted lone_after in
       omega (arith, two, a, c, d, f)
 
+  -- the slots are sound, with as many leaves in places as the change left
   pub stored_after : (inline inline' : ℕ) → IsStored s inline → inline' + counted (lone_in (map.get (children_of n) b)) ≡ inline + counted (lone_in (map.get (children_of n') b)) → slab_len s + inline' ≤ s.capacity
       → IsStored after inline'
   stored_after inline inline' k e r = record {

@@ -75,12 +75,14 @@ module _ {P : Type 0} (s s' : Slab (Slot P)) (v : Nodes P) (is : nodes_in s ≡ 
   none_there : (b : ℕ) → in_slot i (Some (Inner n)) (suc b) ≡ in_slot i (get s i) (suc b)
   none_there b = ap lone_in (ap (λ m. map.get m b) empty ∙ map.get-empty _ b) ∙ sym (ap (λ o. in_slot i o (suc b)) free)
 
+  -- the slots are sound after an inner node without children came into a free one
   pub comes_stored : length (prefix_of n) < 7 → s'.capacity ≡ s.capacity → slab_len s + inline + 1 ≤ s.capacity → IsStored s' inline
   comes_stored short cap room =
       let l = len_update s s' i (Some (Inner n)) u in
       let c : counted (get s i) ≡ 0 = ap counted free in
       slot_stored s s' i inline (Some (Inner n)) st u none_there short cap (omega (arith, l, c, cap, room))
 
+  -- an inner node without children in a free slot is one that was made, under the slot's name
   pub comes_made : (prefix : List ℕ) → form_of n ≡ N4 → prefix_of n ≡ prefix → (name : ℕ) → name ≡ 257 * i → Makes v (nodes_in s') name prefix
   comes_made prefix form p name e =
       let w = slot_updates s s' i (Some (Inner n)) u none_there in
@@ -100,12 +102,14 @@ module _ {P : Type 0} (s s' : Slab (Slot P)) (v : Nodes P) (is : nodes_in s ≡ 
   no_inline : (b : ℕ) → in_slot i (Some (Leaf n)) (suc b) ≡ in_slot i (get s i) (suc b)
   no_inline b = sym (ap (λ o. in_slot i o (suc b)) free)
 
+  -- the slots are sound after a leaf came into a free one
   pub leaf_comes_stored : length (prefix_of n) ≡ 7 → s'.capacity ≡ s.capacity → slab_len s + inline + 1 ≤ s.capacity → IsStored s' inline
   leaf_comes_stored seven cap room =
       let l = len_update s s' i (Some (Leaf n)) u in
       let c : counted (get s i) ≡ 0 = ap counted free in
       slot_stored s s' i inline (Some (Leaf n)) st u no_inline seven cap (omega (arith, l, c, cap, room))
 
+  -- a leaf in a free slot is one that was made, under the slot's name
   pub leaf_comes_made : (key : List ℕ) (value : P) → form_of n ≡ N4 → prefix_of n ≡ take 7 key → children_of n ≡ map.insert map.empty (get_or key 7 0) (Value value) → (name : ℕ) → name ≡ 257 * i → MakesLeaf v (nodes_in s') name key value
   leaf_comes_made key value form p ch name e =
       let w = slot_updates s s' i (Some (Leaf n)) u no_inline in
@@ -147,9 +151,11 @@ module _ {P : Type 0} (s s' : Slab (Slot P)) (v : Nodes P) (is : nodes_in s ≡ 
           let k : length (prefix_of n) < 7 = subst HasKind e (st.kinds i) in
           absurd (let w = seven y.0 y.1 in omega (arith, p, k, w))
 
+  -- the slots are sound after a leaf left its slot
   pub leaves_stored : s'.capacity ≡ s.capacity → slab_len s' + 1 ≡ slab_len s → IsStored s' inline
   leaves_stored cap len = let r = st.room in slot_stored s s' i inline None st u no_lone tt cap (omega (arith, r, cap, len))
 
+  -- where a leaf left its slot, its name alone has no node any more
   pub leaves_done : Updates v (nodes_in s') at None
   leaves_done =
       let w = slot_updates s s' i None u no_lone in
@@ -171,6 +177,7 @@ module _ {P : Type 0} (s : Slab (Slot P)) (v : Nodes P) (is : nodes_in s ≡ v) 
   full_name : at ≡ 257 * i
   full_name = sym name ∙ (ap (λ b. 257 * i + offset_of b) full_own ∙ omega arith)
 
+  -- a full node has a slot that isn't vacant
   pub full_slot : ContainsKey s i
   full_slot = slot_there s i (subst (λ w. ContainsKey w (257 * i)) (sym is) (subst (ContainsKey v) full_name stands))
 
@@ -247,6 +254,7 @@ module _ {P : Type 0} (s : Slab (Slot P)) (v : Nodes P) (is : nodes_in s ≡ v) 
 
     -- whichever it was
     module _ {U V : Type 0} (r : Result U V) where
+      -- the slots are sound, whether the node took its next form or memory was refused
       pub grow_stored : OnOk r (Grown x x') → OnErr r (x' ≡ x) → IsStored (with_value s i x') inline
       grow_stored a b = of r a b
         where
@@ -254,6 +262,7 @@ module _ {P : Type 0} (s : Slab (Slot P)) (v : Nodes P) (is : nodes_in s ≡ v) 
           of (Ok u) a b = grown_stored a
           of (Err w) a b = kept_stored b
 
+      -- where it took its next form, it did so for the tree
       pub grow_done : OnOk r (Grown x x') → OnOk r ((y : Node ℕ P) → get v at ≡ Some y → GrowsTo v (nodes_in (with_value s i x')) at y)
       grow_done a = of r a
         where
@@ -261,6 +270,7 @@ module _ {P : Type 0} (s : Slab (Slot P)) (v : Nodes P) (is : nodes_in s ≡ v) 
           of (Ok u) a = grown_done a
           of (Err w) a = a
 
+      -- where memory was refused, every name has the node that it had
       pub grow_kept : OnErr r (x' ≡ x) → OnErr r (SameValues v (nodes_in (with_value s i x')))
       grow_kept b = of r b
         where

@@ -65,6 +65,7 @@ module _ {P : Type 0} (s : Slab (Slot P)) (v : Nodes P) (is : nodes_in s ≡ v) 
   at_is : at ≡ 257 * i
   at_is = own_slot at i byte name low own
 
+  -- the slot of a leaf with a name of its own isn't vacant
   pub leaf_slot : ContainsKey s i
   leaf_slot = slot_there s i (subst (λ w. ContainsKey w (257 * i)) (sym is) (subst (ContainsKey v) at_is stands))
 
@@ -97,25 +98,30 @@ module _ {P : Type 0} (s : Slab (Slot P)) (v : Nodes P) (is : nodes_in s ≡ v) 
     children_seen y k = sym (with_mapped leaf_child k.node) ∙ ap children_of k.seen
 
     module _ (seven : (y : Node ℕ P) → get v at ≡ Some y → length (prefix_of y) ≡ 7) where
+      -- the slot has a leaf
       pub leaf_is : IsLeaf x
       leaf_is = subst IsLeaf (sym (slot_is there.0 (at_seven x e there.0 there.1 (seven there.0 there.1)))) tt
 
+      -- a byte at which the tree sees nothing has nothing in the slot
       pub leaf_absent : (b : ℕ) → ((y : Node ℕ P) → get v at ≡ Some y → map.get (children_of y) b ≡ None) → leaf_get x b ≡ None
       leaf_absent b free =
           let k = at_seven x e there.0 there.1 (seven there.0 there.1) in
           ap (λ w. leaf_get w b) (slot_is there.0 k) ∙ mapped_none leaf_child (children_of k.node) b (ap (λ m. map.get m b) (children_seen there.0 k) ∙ free there.0 there.1)
 
+      -- a leaf that isn't full for the tree isn't full in its slot
       pub leaf_room : ((y : Node ℕ P) → get v at ≡ Some y → is_full_of y ≡ false) → full_in x ≡ false
       leaf_room room =
           let k = at_seven x e there.0 there.1 (seven there.0 there.1) in
           ap full_in (slot_is there.0 k) ∙ (sym (with_full leaf_child k.node) ∙ (ap is_full_of k.seen ∙ room there.0 there.1))
 
+    -- a byte at which the tree sees a value has one in the slot
     pub leaf_value : (b : ℕ) → ((y : Node ℕ P) → get v at ≡ Some y → IsValue (map.get (children_of y) b)) → IsValue (leaf_get x b)
     leaf_value b has =
         let k = at_value x e there.0 there.1 b (has there.0 there.1) in
         let g : map.get (children_of there.0) b ≡ option_map (leaf_child b) (map.get (children_of k.node) b) = ap (λ m. map.get m b) (sym (children_seen there.0 k)) ∙ get_mapped leaf_child (children_of k.node) b in
         subst IsValue (sym (ap (λ w. leaf_get w b) (slot_is there.0 k))) (value_behind b (map.get (children_of k.node) b) (subst IsValue g (has there.0 there.1)))
 
+    -- the value that the slot has at a byte is the one that the tree sees there
     pub leaf_was : (b : ℕ) (value : P) → ((y : Node ℕ P) → get v at ≡ Some y → IsValue (map.get (children_of y) b)) → leaf_get x b ≡ Some (Value value) → (y : Node ℕ P) → get v at ≡ Some y → Some (Value value) ≡ map.get (children_of y) b
     leaf_was b value has was y h =
         let k = at_value x e y h b (has y h) in
@@ -173,26 +179,32 @@ module _ {P : Type 0} (s : Slab (Slot P)) (v : Nodes P) (is : nodes_in s ≡ v) 
           let a = leaf_after x x' k.node (λ m. map.insert m b (Value value)) (slot_is y k) lb in
           leaf_stored k.node a.node (slot_is y k) a.is a.becomes.prefix
 
+      -- the slots are sound after a value came into a leaf
       pub hang_value_stored : ((y : Node ℕ P) → get v at ≡ Some y → length (prefix_of y) ≡ 7) → (b : ℕ) (value : P) → LeafBecomes x x' (λ m. map.insert m b (Value value)) → IsStored (with_value s i x') inline
       hang_value_stored seven b value lb = put_stored there.0 (at_seven x e there.0 there.1 (seven there.0 there.1)) b value lb
 
+      -- where a value came into the slot's leaf, the tree sees the leaf get it
       pub hang_value_done : ((y : Node ℕ P) → get v at ≡ Some y → length (prefix_of y) ≡ 7) → (b : ℕ) (value : P) → LeafBecomes x x' (λ m. map.insert m b (Value value))
           → (y : Node ℕ P) → get v at ≡ Some y → Sets v (nodes_in (with_value s i x')) at y (map.insert (children_of y) b (Value value))
       hang_value_done seven b value lb y h = put_sets y (at_seven x e y h (seven y h)) b value lb
 
+      -- the slots are sound after another value came in the place of one
       pub swap_value_stored : (b : ℕ) (value : P) → ((y : Node ℕ P) → get v at ≡ Some y → IsValue (map.get (children_of y) b)) → LeafBecomes x x' (λ m. map.insert m b (Value value)) → IsStored (with_value s i x') inline
       swap_value_stored b value has lb = put_stored there.0 (at_value x e there.0 there.1 b (has there.0 there.1)) b value lb
 
+      -- where another value came in the place of one, the tree sees the leaf get it
       pub swap_value_done : (b : ℕ) (value : P) → ((y : Node ℕ P) → get v at ≡ Some y → IsValue (map.get (children_of y) b)) → LeafBecomes x x' (λ m. map.insert m b (Value value))
           → (y : Node ℕ P) → get v at ≡ Some y → Sets v (nodes_in (with_value s i x')) at y (map.insert (children_of y) b (Value value))
       swap_value_done b value has lb y h = put_sets y (at_value x e y h b (has y h)) b value lb
 
+      -- the slots are sound after a value left a leaf
       pub take_value_stored : (b : ℕ) → ((y : Node ℕ P) → get v at ≡ Some y → IsValue (map.get (children_of y) b)) → LeafBecomes x x' (λ m. map.remove m b) → IsStored (with_value s i x') inline
       take_value_stored b has lb =
           let k = at_value x e there.0 there.1 b (has there.0 there.1) in
           let a = leaf_after x x' k.node (λ m. map.remove m b) (slot_is there.0 k) lb in
           leaf_stored k.node a.node (slot_is there.0 k) a.is a.becomes.prefix
 
+      -- where a value left the slot's leaf, the tree sees the leaf lose it
       pub take_value_done : (b : ℕ) → ((y : Node ℕ P) → get v at ≡ Some y → IsValue (map.get (children_of y) b)) → LeafBecomes x x' (λ m. map.remove m b)
           → (y : Node ℕ P) → get v at ≡ Some y → Sets v (nodes_in (with_value s i x')) at y (map.remove (children_of y) b)
       take_value_done b has lb y h =

@@ -22,14 +22,17 @@ module _ {T : Type 0} where
   none_past (x ∷ xs) zero l = absurd (omega (arith, l))
   none_past (x ∷ xs) (suc n) l = none_past xs n (omega (arith, l))
 
+  -- as many nodes stand as names below any bound past the slots count
   pub len_named : (s : Slab T) (bound : ℕ) → length s.slots ≤ bound → slab_len s ≡ total (λ n. counted (get s n)) bound
   len_named s bound l = counted_all s.slots ∙ sym (total_beyond (λ n. counted (get s n)) (length s.slots) bound l (λ i h. ap counted (none_past s.slots i h)))
 
+  -- where every name has its node as before, as many stand
   pub len_same : (s s' : Slab T) → SameValues s s' → slab_len s' ≡ slab_len s
   len_same s s' e =
       let b = length s.slots + length s'.slots in
       len_named s' b (omega arith) ∙ (total_same _ _ b (λ i l. ap counted (e i)) ∙ sym (len_named s b (omega arith)))
 
+  -- another node or none under a name changes how many stand by what both count
   pub len_update : (s s' : Slab T) (at : ℕ) (o : Option T) → Updates s s' at o → slab_len s' + counted (get s at) ≡ slab_len s + counted o
   len_update s s' at o u =
       let b = length s.slots + length s'.slots + at + 1 in

@@ -89,6 +89,7 @@ module _ {P : Type 0} (s : Slab (Slot P)) (v : Nodes P) (is : nodes_in s ≡ v) 
   it : LoneAt s i place
   it = named_lone_at s v is at i byte name place placed fits stands
 
+  -- the slot of a leaf in its parent's place isn't vacant
   pub inline_slot : ContainsKey s i
   inline_slot = rw it.stands refl
 
@@ -113,21 +114,27 @@ module _ {P : Type 0} (s : Slab (Slot P)) (v : Nodes P) (is : nodes_in s ≡ v) 
     here : inner_get x place ≡ Some (Value it.lone)
     here = ap (λ w. inner_get w place) is_slot ∙ it.child
 
+    -- the slot has a value under the leaf's byte
     pub inline_holds : IsValue (inner_get x place)
     inline_holds = subst IsValue (sym here) tt
 
+    -- the leaf that is read under that byte is the one that stands under its name
     pub inline_reads : (lone : Lone P) → inner_get x place ≡ Some (Value lone) → get v (257 * i + (place + 1)) ≡ Some (lone_node lone)
     inline_reads lone read = lone_seen s v is i place it x lone e read
 
+    -- the first byte of the keys under that byte is the same by each reading of the slot's node
     pub inline_first : (z : Slot P) → get s i ≡ Some z → (first : ℕ) → first ≡ first_byte (prefix_in z) place → first ≡ first_byte (prefix_in x) place
     inline_first z h first f = let w : Some z ≡ Some x = sym h ∙ e in let q : z ≡ x = cc in f ∙ ap (λ y. first_byte (prefix_in y) place) q
 
+    -- the slot has something under the leaf's byte
     pub inline_present : IsSome (inner_get x place)
     inline_present = rw here refl
 
+    -- nothing else than a leaf is read under that byte
     pub inline_only : (r : Child ℕ (Lone P)) → inner_get x place ≡ Some r → ((l : Lone P) → r ≡ Value l → ⊥) → ⊥
     inline_only r read ne = ne it.lone (let z : Some r ≡ Some (Value it.lone) = sym read ∙ here in cc)
 
+    -- the value of the leaf that is read there is the one at the byte that the tree sees
     pub inline_was : (old : Lone P) (r : Child ℕ (Lone P)) → inner_get x place ≡ Some r → r ≡ Value old → (y : Node ℕ P) → get v at ≡ Some y → Some (Value old.value) ≡ map.get (children_of y) b
     inline_was old r read q y h = was_there old (lone_seen s v is i place it x old e (read ∙ ap Some q)) y h
 
@@ -142,6 +149,7 @@ module _ {P : Type 0} (s : Slab (Slot P)) (v : Nodes P) (is : nodes_in s ≡ v) 
       now_here : lone_in (map.get (children_of after.node) place) ≡ Some (lone_node new)
       now_here = ap lone_in (ap (λ m. map.get m place) after.becomes.children ∙ insert_at (children_of it.node) place (Value new))
 
+      -- the slots are sound with a leaf of the same key in its place
       pub inline_stored : IsStored (with_value s i x') inline
       inline_stored =
           let c : counted (lone_in (map.get (children_of it.node) place)) ≡ 1 = ap (λ o. counted (lone_in o)) it.child in
@@ -169,6 +177,7 @@ module _ {P : Type 0} (s : Slab (Slot P)) (v : Nodes P) (is : nodes_in s ≡ v) 
             ];
           }
 
+      -- and the tree sees the value alone change
       pub inline_swaps : (y : Node ℕ P) → get v at ≡ Some y → Sets v (nodes_in (with_value s i x')) at y (map.insert (children_of y) b (Value new.value))
       inline_swaps y h =
           let k = get_or lone.key 7 0 in

@@ -134,18 +134,22 @@ lines_all levels i l = ap (flat_map level_line) (take_all i (enumerate_from 0 le
 
 -- the lines for the whole as they are written
 module _ (all : LevelStats) where
+  -- the line of counts, as it is written part by part
   pub count_written : codes "Overall node count: " ++ (decimal (nodes_in all) ++ (codes ", entry count: " ++ (decimal (entries_in all) ++ newline))) ≡ count_line all
   unfolding count_line
   count_written = simp append_assoc
 
+  -- the line of the load, as it is written part by part
   pub load_line_written : codes "Load factor: " ++ (load_text (filled_in all) (768 * nodes_in all) ++ newline) ≡ load_line all
   unfolding load_line
   load_line_written = simp append_assoc
 
+  -- the line of the memory, as it is written part by part
   pub memory_written : codes "Active memory usage: " ++ (decimal (bytes_in all / 1048576) ++ (codes " Mb" ++ newline)) ≡ memory_line all
   unfolding memory_line
   memory_written = simp append_assoc
 
+  -- the lines for the whole, one after the other
   pub whole_written : (pairs : ℕ) → count_line all ++ (load_line all ++ (memory_line all ++ (codes "KV count: " ++ (decimal pairs ++ newline)))) ≡ whole_text all pairs
   unfolding whole_text pairs_line
   whole_written pairs = simp append_assoc

@@ -29,6 +29,7 @@ module _ {P : Type 0} where
   under_same go other (Below c) e = e c refl
   under_same go other (Holds v) e = refl
 
+  -- the nodes under two trees' bytes are the same if those under each child are
   pub bytes_same : (go other : ℕ → List Shape) (children : ℕ → Hung P) (n : ℕ) → ((b c : ℕ) → children b ≡ Below c → go c ≡ other c)
       → under_bytes go children n ≡ under_bytes other children n
   unfolding under_bytes
@@ -177,6 +178,7 @@ module _ {P : Type 0} (s : Nodes P) where
       ∙ ap (λ l. shape_of 0 root ∷ l) (none_more (next 0) (at_bytes root) 0 256 (omega arith) (λ q lo hi. nothing q))
       ∙ rw (f, c, empty, map.len-empty nat_cmp (Child ℕ P)) refl
 
+  -- statistics of nothing are those of no nodes
   pub none_counted : (stats : NodeStats) → ((level : ℕ) (form : NodeType) → info_at stats level form ≡ no_nodes) → vec_len stats.levels ≡ 0 → stats.kv_pairs ≡ 0 → IsTally stats [] 0
   none_counted stats infos levels pairs = record { infos = infos; levels = levels; kv_pairs = pairs }
 

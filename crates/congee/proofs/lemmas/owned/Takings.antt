@@ -43,6 +43,7 @@ module _ {X : Type 0} (m : map.FinMap nat_cmp X) (one : map.len m ≡ 1) where
         | inr ne ↦ (let z : Some x ≡ None = sym here ∙ (ap (λ z. map.get z b) e ∙ (insert_beside map.empty k y b ne ∙ map.get-empty _ b)) in absurd (cc))
       ]
 
+  -- a map of one child has one from byte 0 on
   pub never_bare : ((q : ℕ) → 0 ≤ q → map.get m q ≡ None) → ⊥
   never_bare none =
       let p = only_pair m one in
@@ -69,6 +70,7 @@ module _ {P : Type 0} (s : Slab (Slot P)) (v : Nodes P) (is : nodes_in s ≡ v) 
     is_here : x ≡ Inner here.node
     is_here = inner_slot s v at i there.0 here x e
 
+    -- the slot's node has one child
     pub only_len : len_in x ≡ 1
     only_len = ap len_in is_here ∙ (sym (with_len (inner_child i) here.node) ∙ (ap (λ n. map.len (children_of n)) here.seen ∙ (ap map.len hangs.children ∙ len_one hangs.byte (Sub hangs.child))))
 
@@ -97,6 +99,7 @@ module _ {P : Type 0} (s : Slab (Slot P)) (v : Nodes P) (is : nodes_in s ≡ v) 
           | inr ne ↦ sym (beside b ne)
         ]
 
+        -- where a node with a slot was given, the slots are sound, with as many leaves in places
         pub plain_stored : s'.capacity ≡ s.capacity → slab_len s' + 1 ≡ slab_len s → IsStored s' inline
         plain_stored cap len = let r = st.room in slot_stored s s' i inline None st u none tt cap (omega (arith, r, cap, len))
 
@@ -135,11 +138,13 @@ module _ {P : Type 0} (s : Slab (Slot P)) (v : Nodes P) (is : nodes_in s ≡ v) 
         was_leaf : get v leaf ≡ Some (lone_node lone)
         was_leaf = ap (λ w. get w leaf) (sym is) ∙ in_view
 
+        -- where a leaf was given, some leaf lay in its parent's place
         pub lone_some : 0 < inline
         lone_some =
             let more = lone_counts s i only.byte only.low (subst IsSome (sym in_view) refl) in
             let k = st.counted in omega (arith, more, k)
 
+        -- where a leaf was given, the slots are sound, with one leaf less in a place
         pub lone_stored : s'.capacity ≡ s.capacity → slab_len s' + 1 ≡ slab_len s → IsStored s' (inline - 1)
         lone_stored cap len =
             let a = here.name in
@@ -182,5 +187,6 @@ module _ {P : Type 0} (s : Slab (Slot P)) (v : Nodes P) (is : nodes_in s ≡ v) 
             others = others lone q;
           }
 
+      -- the tree sees the node go and its only child given
       pub take_gives : (y : Node ℕ P) → get v at ≡ Some y → GivesOnly v (nodes_in s') at y c
       take_gives y h = subst (λ z. GivesOnly v (nodes_in s') at z c) (one_node v at there.0 y there.1 h) given

@@ -91,6 +91,7 @@ module _ {P : Type 0} (s : Slab (Slot P)) (v : Nodes P) (is : nodes_in s ≡ v) 
   lone_here : LoneAt s i b
   lone_here = lone_in_view s v is at i byte name b low (inline_seen_there s v is inline st at i byte name fits stands inner b low has)
 
+  -- the slot has a value under the leaf's byte
   pub inline_value : (x : Slot P) → get s i ≡ Some x → IsValue (inner_get x b)
   inline_value x e = lone_value s i b lone_here x e
 
@@ -121,6 +122,7 @@ module _ {P : Type 0} (s : Slab (Slot P)) (v : Nodes P) (is : nodes_in s ≡ v) 
     stays : (y : Node ℕ P) (h : get v at ≡ Some y) → get v2 at ≡ Some (takes y h).node
     stays y h = let k = takes y h in made.updates.others at (apart_of v1 at to k.node k.now made.vacant) ∙ k.now
 
+    -- the node above stands after the leaf went and came again
     pub unfold_stands : ContainsKey v2 at
     unfold_stands = rw (stays there.0 there.1) refl
 
@@ -128,6 +130,7 @@ module _ {P : Type 0} (s : Slab (Slot P)) (v : Nodes P) (is : nodes_in s ≡ v) 
       same_node : (takes there.0 there.1).node ≡ z
       same_node = one_node v2 at (takes there.0 there.1).node z (stays there.0 there.1) h
 
+      -- the node above is no leaf then
       pub unfold_inner : length (prefix_of z) < 7
       unfold_inner =
           let k = takes there.0 there.1 in
@@ -135,11 +138,13 @@ module _ {P : Type 0} (s : Slab (Slot P)) (v : Nodes P) (is : nodes_in s ≡ v) 
           let l = inner there.0 there.1 in
           omega (arith, p, l)
 
+      -- the node above has nothing under the leaf's byte then
       pub unfold_absent : map.get (children_of z) b ≡ None
       unfold_absent =
           let k = takes there.0 there.1 in
           ap (λ w. map.get (children_of w) b) (sym same_node) ∙ (ap (λ m. map.get m b) k.becomes.children ∙ remove_at (children_of there.0) b)
 
+      -- the node above isn't full then
       pub unfold_room : len_in x ≤ capacity_of (form_in x) → is_full_of z ≡ false
       unfold_room fit =
           let y = there.0 in
@@ -155,12 +160,14 @@ module _ {P : Type 0} (s : Slab (Slot P)) (v : Nodes P) (is : nodes_in s ≡ v) 
 
     -- and hangs where it lay
     module _ (v3 : Nodes P) (own : HasOwnSlot to) (hangs : (z : Node ℕ P) → get v2 at ≡ Some z → Sets v2 v3 at z (map.insert (children_of z) b (Sub to))) where
+      -- the leaf, hung where it lay under its new name, took another name alone
       pub unfold_renames : (y : Node ℕ P) (leaf : ℕ) → get v at ≡ Some y → map.get (children_of y) b ≡ Some (Sub leaf) → Renames v v3 at b leaf to
       unfold_renames y leaf h child =
           let q : leaf ≡ 257 * i + (b + 1) = same_sub (map.get (children_of y) b) leaf (257 * i + (b + 1)) child (inline_child y h) in
           let puts : Updates v1 v2 to (Some (takes y h).was) = subst (λ n. Updates v1 v2 to (Some n)) (node_is y h) made.updates in
           unfold_done v v1 v2 v3 at b leaf to y value h child (takes y h) made.vacant puts (λ w. absurd (omega (arith, q, w, own, low))) hangs
 
+      -- the leaf under its new name has one value
       pub unfold_one : (z : Node ℕ P) → get v3 to ≡ Some z → HasOne z
       unfold_one z h =
           let k = hangs (takes there.0 there.1).node (stays there.0 there.1) in
@@ -179,6 +186,7 @@ module _ {P : Type 0} (s : Slab (Slot P)) (v : Nodes P) (is : nodes_in s ≡ v) 
           } in
           subst HasOne q one
 
+      -- the leaf under its new name leaves room for as many further nodes
       pub unfold_keeps : v1.capacity ≡ v.capacity → v2.capacity ≡ v1.capacity → v3.capacity ≡ v2.capacity → (n : ℕ) → HasRoomFor v n → HasRoomFor v3 n
       unfold_keeps c1 c2 c3 n room =
           let k = hangs (takes there.0 there.1).node (stays there.0 there.1) in

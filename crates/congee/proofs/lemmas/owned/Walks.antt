@@ -37,9 +37,11 @@ pub record GoesDown {P : Type 0} (s : Nodes P) (before old above : List Branch) 
   pub on : GoesOn s before old (above ++ step below 0 ∷ [])
 
 module _ {P : Type 0} (s : Nodes P) (t : IsTree s) (xs : List Branch) (n from : ℕ) (way : IsCursor s (xs ++ step n from ∷ [])) where
+  -- the node of a walk's last step stands
   pub stands_there : ContainsKey s n
   stands_there = (last_of s t xs (step n from) way).stands
 
+  -- above a walk's last step there are fewer than eight
   pub room_there : length xs < 8
   room_there = few_before s t xs (step n from) way
 

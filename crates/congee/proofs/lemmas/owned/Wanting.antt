@@ -78,6 +78,7 @@ module _ {V X : Type 0} (apart : X) (last : Node V → Hung V → X) where
             lead_up a h t (a n).parent u.byte n key u.linked u.holds f (λ g. lead a h t d (a n).parent key small u.linked g)
       ]
 
+  -- what the end of a key's way says is what its last node says
   pub ends : (s : Nodes V) (key : List ℕ) (n : ℕ) (x : Hung V) → IsTree s → OnWay s key n → child_for (heap_of s n) key ≡ x
       → descend apart last (heap_of s) 8 0 key ≡ at_end last (heap_of s n) (λ c. descend apart last (heap_of s) 7 c key) x
   ends s key n x t w e =
@@ -109,6 +110,7 @@ module _ {P : Type 0} where
   unfolding wants_at
   wants_held s key n v t w e = ends (Some (64 ∷ 64 ∷ [])) last_wants s key n (Holds v) t w e
 
+  -- an insertion beside a node with another prefix makes two nodes of the least size
   pub wants_apart : (s : Nodes P) (key : List ℕ) (n c : ℕ) → IsTree s → OnWay s key n → child_for (heap_of s n) key ≡ Below c → fits (heap_of s c).prefix key ≡ false
       → wants_at (heap_of s) key ≡ Some (64 ∷ 64 ∷ [])
   unfolding wants_at
@@ -132,18 +134,21 @@ module _ {P : Type 0} where
   full_room (N48 n) e = rw e refl
   full_room (N256 n) e = absurd (cc e)
 
+  -- room in a node that isn't full takes no other
   pub roomy_none : (x : Form ℕ P) → is_full_of x ≡ false → room_for (node_of (Some x)) ≡ []
   roomy_none (N4 n) e = rw e refl
   roomy_none (N16 n) e = rw e refl
   roomy_none (N48 n) e = rw e refl
   roomy_none (N256 n) e = refl
 
+  -- the size of a full node, with what the sizes grow by, is that of the next form
   pub grown_by : (x : Form ℕ P) → is_full_of x ≡ true → size_of (form_of x) + net (size_of (next_form (form_of x))) ≡ size_of (next_form (form_of x))
   grown_by (N4 n) e = refl
   grown_by (N16 n) e = refl
   grown_by (N48 n) e = refl
   grown_by (N256 n) e = absurd (cc e)
 
+  -- the size by a node's places is that of its form
   pub sized : (x : Form ℕ P) → size_by (node_of (Some x)).capacity ≡ size_of (form_of x)
   sized (N4 n) = refl
   sized (N16 n) = refl
@@ -164,9 +169,11 @@ module _ {P : Type 0} where
       let e2 : get s2 at ≡ Some j.node = k.updates.others at (λ q. ne (sym q)) ∙ j.updates.changed in
       ap bytes_at e2 ∙ (ap size_of j.becomes.form ∙ (sym (sized l.0) ∙ ap (λ o. size_by (node_of o).capacity) (sym l.1)))
 
+  -- an insertion at a leaf's free byte makes what its room takes
   pub free_leaf : (n : Node P) → length n.prefix ≡ 7 → free_wants n ≡ room_for n
   free_leaf n e = rw e refl
 
+  -- an insertion at another node's free byte makes a leaf, and what its room takes
   pub free_inner : (n : Node P) → length n.prefix ≢ 7 → free_wants n ≡ 64 ∷ room_for n
   free_inner n ne =
       let f : (length n.prefix == 7) ≡ false = elim (eqb_tells (length n.prefix) 7) [ inl q ↦ absurd (ne q.1) | inr q ↦ q.0 ] in
@@ -200,21 +207,25 @@ module _ {P : Type 0} where
       let h = located_held s key p t l e in
       wants_held s key p.at h.value t l.reached.way h.holds
 
+  -- where a key's place is free, its insertion makes what the last node's free byte takes
   pub located_wants_free : (s : Nodes P) (key : List ℕ) (p : Place) → IsTree s → Located s key p → p.spot ≡ Free → wants_at (heap_of s) key ≡ Some (free_wants (heap_of s p.at))
   located_wants_free s key p t l e =
       let E : Spot → Type 0 = λ x. EndsAt s key p.at x in
       wants_free s key p.at t l.reached.way (subst E e l.ends)
 
+  -- where a key's place is beside a node with another prefix, it makes two least nodes
   pub located_wants_apart : (s : Nodes P) (key : List ℕ) (p : Place) (c : ℕ) → IsTree s → Located s key p → p.spot ≡ Apart c → wants_at (heap_of s) key ≡ Some (64 ∷ 64 ∷ [])
   located_wants_apart s key p c t l e =
       let E : Spot → Type 0 = λ x. EndsAt s key p.at x in
       let d : EndsAt s key p.at (Apart c) = subst E e l.ends in
       wants_apart s key p.at c t l.reached.way d.0 d.1
 
+  -- what the map of wants has for a key is what its insertion makes
   pub get_wants : (s : Nodes P) (k : ℕ) → k < 2 ^ 64 → map.get (wants_of s) k ≡ wants_at (heap_of s) (key_bytes k)
   unfolding wants_of
   get_wants s k small = table_below (λ k. wants_at (heap_of s) (key_bytes k)) (2 ^ 64) k small
 
+  -- on nodes that are the same the same is made for each key
   pub same_wants : (s s' : Nodes P) → SameNodes s s' → wants_of s' ≡ wants_of s
   unfolding wants_of
   same_wants s s' e =

@@ -20,6 +20,7 @@ module _ {P : Type 0} where
       → get s n ≡ Some x → r ≡ map.get (children_of x) (get_or key (length (prefix_of x)) 0) → child_for (heap_of s n) key ≡ hung_in r
   child_is s key n x r e f = rw (e, f) refl
 
+  -- the prefix that the tree sees of a node is the node's
   pub prefix_is : (s : Nodes P) (n : ℕ) (x : Form ℕ P) → get s n ≡ Some x → (heap_of s n).prefix ≡ prefix_of x
   prefix_is s n x e = rw e refl
 
@@ -31,6 +32,7 @@ module _ {P : Type 0} where
       of None h = absurd (cc h)
       of (Some x) h = refl
 
+  -- a name that is in the tree has a node
   pub stands_of : (s : Nodes P) (parent : ℕ → ℕ) (n : ℕ) → (ledger_of s parent n).status ≡ Linked → ContainsKey s n
   stands_of s parent n h = of (get s n) h
     where
@@ -45,13 +47,16 @@ module _ {P : Type 0} where
     hangs = λ ne. absurd (ne refl);
   }
 
+  -- a node that hangs at the key's byte of one that stands is its child
   pub is_child : (s : Nodes P) (t : IsTree s) (n c : ℕ) (key : List ℕ) → ContainsKey s n → child_for (heap_of s n) key ≡ Below c
       → IsChild (ledger_of s t.parent) (heap_of s) n (get_or key (length (heap_of s n).prefix) 0) c
   is_child s t n c key h e = t.tree.down n _ c (linked_of s t.parent n h) e
 
+  -- a node that hangs in one of the tree stands
   pub below_stands : (s : Nodes P) → IsTree s → (n c : ℕ) (key : List ℕ) → ContainsKey s n → child_for (heap_of s n) key ≡ Below c → ContainsKey s c
   below_stands s t n c key h e = stands_of s t.parent c (is_child s t n c key h e).linked
 
+  -- no node of a tree has a prefix of more than seven bytes
   pub short_prefix : (s : Nodes P) → IsTree s → (n : ℕ) → ContainsKey s n → length (heap_of s n).prefix ≤ 7
   short_prefix s t n h = t.tree.short n (linked_of s t.parent n h)
 
@@ -68,6 +73,7 @@ module _ {P : Type 0} where
       → Reached s key top above → Reached s key above at → EndsAt s key at spot → Located s key p
   located_at s key p top above at spot a b c d h r e = record { reached = rw (b, c) r; higher = rw (a, b) h; ends = rw (c, d) e }
 
+  -- a node's child has fewer bytes left of eight than the node
   pub falls : (s : Nodes P) → IsTree s → (key : List ℕ) (n c : ℕ) → ContainsKey s n → child_for (heap_of s n) key ≡ Below c
       → 8 - length (heap_of s c).prefix < 8 - length (heap_of s n).prefix
   falls s t key n c h e = let i = is_child s t n c key h e in omega (arith, i.longer, short_prefix s t c (below_stands s t n c key h e))
@@ -79,6 +85,7 @@ module _ {P : Type 0} where
       let z : length (heap_of s 0).prefix ≡ 0 = ap length t.tree.empty in
       absurd (omega (arith, i.longer, z))
 
+  -- a node isn't the one that it hangs in
   pub above_apart : (s : Nodes P) → IsTree s → (key : List ℕ) (above n : ℕ) → Hangs s key above n → above ≢ n
   above_apart s t key above n h q =
       let i = is_child s t above n key h.way.stands h.child in

@@ -38,6 +38,7 @@ module _ {E : Type 0} where
       let n : a + (b - a) ≡ b = omega (arith, l) in
       sym (ap (λ k. drop k xs) n) ∙ (sym (drop-drop (b - a) a xs) ∙ (ap (drop (b - a)) e ∙ (drop-drop (b - a) a ys ∙ ap (λ k. drop k ys) n)))
 
+  -- before anything is written no place is
   pub filled_none : (count : ℕ) (out : List E) → count ≤ length out → Filled count count out out
   filled_none count out l = record { more = omega arith; within = l; long = refl; past = refl }
 
@@ -50,9 +51,11 @@ module _ {E : Type 0} where
     past = m.past ∙ drop_more count w.count out old m.more f.past;
   }
 
+  -- what is written so far is written, and it isn't over
   pub filled_fills : (first count : ℕ) (old new : List E) → Filled first count old new → Fills first old new (record { count = count; over = false })
   filled_fills first count old new f = record { more = f.more; within = f.within; long = f.long; past = f.past }
 
+  -- what two writings one after the other write is written
   pub fills_on : (first : ℕ) (old out new : List E) (w now : Written) → Fills first old out w → Fills w.count out new now → Fills first old new now
   fills_on first old out new w now f m = record {
     more = omega (arith, f.more, m.more);
@@ -72,6 +75,7 @@ module _ {E : Type 0} where
         past = ap (drop w.count) p.set_is ∙ (ap (λ k. drop k (set old count entry)) p.count_is ∙ (rest_kept old old count entry p.room refl ∙ ap (λ k. drop k old) (sym p.count_is)));
       }
 
+  -- where nothing is written, the places are as they were
   pub fills_nothing : (count : ℕ) (old new : List E) (w : Written) → count ≤ length old → PutsNothing count old new w → Fills count old new w
   fills_nothing count old new w l p = record {
     more = omega (arith, p.count_is);
@@ -101,6 +105,7 @@ module _ {P E : Type 0} (s : Nodes P) (entry : ℕ → P → E) (last : ℕ) whe
     pub on : (above : List Branch) (from : ℕ) → IsCursor s (above ++ step at start ∷ []) → IsAt s (above ++ step at start ∷ []) from
         → Ongoing above at byte count new (with_pairs s entry last old first from)
 
+  -- before the first of the bytes the pairs of none are written
   pub sets_out : (at start first : ℕ) (old : List E) → first ≤ length old → SoFar at start first old start first old
   sets_out at start first old l = record {
     filled = filled_none first old l;
@@ -113,10 +118,12 @@ module _ {P E : Type 0} (s : Nodes P) (entry : ℕ → P → E) (last : ℕ) whe
       range_ended out (entries_by entry (in_range from (last + 1) (map.entries (pairs_of s)))) all count (length out - count) h
       (ap (entries_by entry) (range_none (pairs_of s) from (last + 1) none))
 
+  -- where no place is left, the places written are all that were to be
   pub no_place : (out all : List E) (count from : ℕ) → length out ≤ count → with_pairs s entry last out count from ≡ all → take count out ≡ all
   no_place out all count from full h =
       no_room_left out (entries_by entry (in_range from (last + 1) (map.entries (pairs_of s)))) all count (length out - count) (omega (arith, full)) h
 
+  -- the first of the pairs ahead, written in the next place, leaves those after it
   pub one_more : (out all : List E) (count from key : ℕ) (v : P) → IsFirst (pairs_of s) from key v → key ≤ last → count < length out
       → with_pairs s entry last out count from ≡ all → with_pairs s entry last (set out count (entry key v)) (count + 1) (key + 1) ≡ all
   one_more out all count from key v first l room h =
@@ -177,6 +184,7 @@ module _ {P E : Type 0} (s : Nodes P) (entry : ℕ → P → E) (last : ℕ) whe
         abbrev pub HangsNext : Child ℕ P → Type 0
         HangsNext c = (x : Form ℕ P) → get s at ≡ Some x → IsFirst (children_of x) byte b c
 
+        -- a value's pair, written next, is what hangs under its byte, written
         pub wrote_value : (key : ℕ) (v : P) → key < 2 ^ 64 → HangsNext (Value v)
             → (fits (heap_of s at).prefix (key_bytes key) ≡ true) × (get_or (key_bytes key) (length (heap_of s at).prefix) 0 ≡ b)
             → (new : List E) (w : Written) → WritesPair key v count out new w → Wrote at start first old b new w
@@ -189,6 +197,7 @@ module _ {P E : Type 0} (s : Nodes P) (entry : ℕ → P → E) (last : ℕ) whe
               (passes.way, passed steps steps (above ++ step at (b + 1) ∷ []) key v count out (with_pairs s entry last old first from) new w passes o.rest p);
         }
 
+        -- the pair of a leaf in its parent's place, written next, is what hangs under its byte, written
         pub wrote_leaf : (key below : ℕ) (v : P) → key < 2 ^ 64 → HangsNext (Sub below) → StandsWith s below key v
             → (new : List E) (w : Written) → WritesPair key v count out new w → Wrote at start first old b new w
         wrote_leaf key below v large next leaf new w p = record {
@@ -231,6 +240,7 @@ module _ {P E : Type 0} (s : Nodes P) (entry : ℕ → P → E) (last : ℕ) whe
       pub ends_fills : Fills first old new w
       ends_fills = record { more = did.filled.more; within = did.filled.within; long = did.filled.long; past = did.filled.past }
 
+      -- where it is over then, the node's pairs are written
       pub ends_writes : w.over ≡ true → WritesNode s entry last at start first old new w
       ends_writes o above from way here =
           let both = did.on above from way here in
@@ -253,6 +263,7 @@ module _ {P E : Type 0} (s : Nodes P) (entry : ℕ → P → E) (last : ℕ) whe
         let there : IsAt s (above ++ step node byte ∷ []) c.from = subst (λ xs. IsAt s xs c.from) e c.at in
         subst (Remains s entry last above new now) c.pairs (writes above c.from (subst (IsCursor s) e way) there)
 
+    -- where no step is above, the places written are all that were to be
     pub none_above : (steps : List Branch) (out all : List E) (w : Written) → steps ≡ [] → w.over ≡ false → Remains s entry last steps out w all → take w.count out ≡ all
     none_above steps out all w e o rest =
         let c = rest.next o in
@@ -270,6 +281,7 @@ module _ {P E : Type 0} (s : Nodes P) (entry : ℕ → P → E) (last : ℕ) whe
       nothing [] = refl
       nothing (x ∷ xs) = refl
 
+  -- as many places are written as the range has pairs that the slice has room for
   pub whole_count : (old new : List E) (start count : ℕ) → count ≤ length new → take count new ≡ with_pairs s entry last old 0 start
       → count ≡ length (take (length old) (in_range start (last + 1) (map.entries (pairs_of s))))
   whole_count old new start count l e =
