@@ -84,6 +84,7 @@ module _ {X : Type 0} where
       less_all [] a l = tt
       less_all ((j, z) ∷ r) a l = (omega (arith, a.0), less_all r a.1 l)
 
+  -- a map's look-up is one in its list
   pub get_find : (m : map.FinMap nat_cmp X) (q : ℕ) → map.get m q ≡ find q (map.entries m)
   get_find m q = map.get-entries m q ∙ find_std q (map.entries m)
 
@@ -97,6 +98,7 @@ module _ {X : Type 0} where
 
   -- ---- the child at a place
 
+  -- what holds for each key that a list has holds for all its pairs
   pub all_found : (P : ℕ → Type 0) (es : List (ℕ × X)) → ((b : ℕ) → IsSome (find b es) → P b) → AllKeys P es
   all_found P [] h = tt
   all_found P ((k, x) ∷ es) h =
@@ -112,9 +114,11 @@ module _ {X : Type 0} where
   all_between [] a = refl
   all_between ((k, x) ∷ es) a = grind (arith, nat_tests, a.0, all_between es a.1)
 
+  -- the pairs between bytes 0 and 255 of a map whose keys are bytes are all of them
   pub between_all : (m : map.FinMap nat_cmp X) → ((b : ℕ) → IsSome (map.get m b) → b < 256) → between 0 255 (map.entries m) ≡ map.entries m
   between_all m h = all_between (map.entries m) (all_found (λ b. b < 256) (map.entries m) (λ b s. h b (subst IsSome (sym (get_find m b)) s)))
 
+  -- the first child from a byte on of a map whose keys are bytes is at 255 or before it
   pub first_byte : (m : map.FinMap nat_cmp X) (from b : ℕ) (x : X) → ((b : ℕ) → IsSome (map.get m b) → b < 256) → IsFirst m from b x → b ≤ 255
   first_byte m from b x h f = let some : IsSome (map.get m b) = cc f.here in omega (arith, h b some)
 

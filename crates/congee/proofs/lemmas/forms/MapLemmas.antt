@@ -50,27 +50,34 @@ module _ {X : Type 0} where
   entries_of : (es : List (ℕ × X)) → Rises es → map.entries (map_of es) ≡ es
   entries_of es r = map.entries-from_sorted nat_cmp es (is_sorted_std es r)
 
+  -- the map of a rising list has what is found in the list
   pub get_of : (es : List (ℕ × X)) (q : ℕ) → Rises es → map.get (map_of es) q ≡ find q es
   get_of es q r = map.get-from_sorted nat_cmp es q (is_sorted_std es r) ∙ find_std q es
 
+  -- the map of a rising list is as long as the list
   pub len_of : (es : List (ℕ × X)) → Rises es → map.len (map_of es) ≡ length es
   len_of es r = map.len-entries (map_of es) ∙ ap length (entries_of es r)
 
+  -- a pair put in a rising list is put in its map
   pub put_of : (es : List (ℕ × X)) (q : ℕ) (x : X) → Rises es → map_of (put q x es) ≡ map.insert (map_of es) q x
   put_of es q x r = map.same_entries_map _ _ (entries_of (put q x es) (rises_put q x es r) ∙ sym (map.entries-insert nat_cmp_total (map_of es) q x ∙ ap (map.put nat_cmp q x) (entries_of es r) ∙ put_std q x es))
 
+  -- a pair taken out of a rising list is taken out of its map
   pub del_of : (es : List (ℕ × X)) (q : ℕ) → Rises es → map_of (del q es) ≡ map.remove (map_of es) q
   del_of es q r = map.same_map nat_cmp_total map.nat_cmp-IsAntisymmetric _ _ (λ k.
       get_of (del q es) k (rises_del q es r) ∙ find_del q k es
       ∙ sym (map.get-remove nat_cmp_total (map_of es) q k ∙ rw (same_is k q, get_of es k r) refl))
 
 module _ {X : Type 0} (m : map.FinMap nat_cmp X) (k : ℕ) where
+  -- an insert of a new key lengthens a map by one
   pub len_new : (x : X) → map.get m k ≡ None → map.len (map.insert m k x) ≡ map.len m + 1
   len_new x e = map.len-insert nat_cmp_total m k x ∙ rw e refl
 
+  -- an insert of a key that is there leaves the length
   pub len_again : (x : X) → IsSome (map.get m k) → map.len (map.insert m k x) ≡ map.len m
   len_again x s = map.len-insert nat_cmp_total m k x ∙ rw s refl
 
+  -- a map that has a key isn't empty
   pub some_len : IsSome (map.get m k) → 0 < map.len m
   some_len s =
       elim (cases_eq (map.len m) 0) [
@@ -78,5 +85,6 @@ module _ {X : Type 0} (m : map.FinMap nat_cmp X) (k : ℕ) where
         | inr n ↦ omega (arith, n)
       ]
 
+  -- the removal of a key that is there shortens a map by one
   pub len_less : IsSome (map.get m k) → map.len (map.remove m k) + 1 ≡ map.len m
   len_less s = let e : map.len (map.remove m k) ≡ map.len m - 1 = map.len-remove nat_cmp_total m k ∙ rw s refl in omega (arith, some_len s)

@@ -26,6 +26,7 @@ eq_other : (q k : ℕ) → q ≢ k → eqb q k ≡ false
 eq_other q k n = grind (arith, nat_tests, n)
 
 module _ {X : Type 0} where
+  -- before the first child none has moved
   pub none_moved : (m : map.FinMap nat_cmp X) → HaveMoved m m map.empty 0
   none_moved m = record {
     below = λ q l. absurd (omega arith);
@@ -70,6 +71,7 @@ module _ {X : Type 0} where
         some_here : IsSome (map.get kept b)
         some_here = let e = f.here in cc e
 
+    -- while a child is left, fewer have moved than there are
     pub room_left : map.len moved < map.len m
     room_left = let some : IsSome (map.get kept b) = cc f.here in omega (arith, is.count, some_len kept b some)
 
@@ -81,10 +83,12 @@ module _ {X : Type 0} where
     | inr n ↦ get_cut_other m b q n ∙ elim (cases_lt q from) [ inl h ↦ gone q h | inr h ↦ f.before q h (omega (arith, n, l)) ]
   ]
 
+  -- a map without a child below a byte, and without one from there on, is empty
   pub all_gone : (m : map.FinMap nat_cmp X) (from : ℕ) → ((q : ℕ) → q < from → map.get m q ≡ None) → ((q : ℕ) → from ≤ q → map.get m q ≡ None) → m ≡ map.empty
   all_gone m from gone none =
       map.same_map nat_cmp_total map.nat_cmp-IsAntisymmetric m map.empty (λ q. elim (cases_lt q from) [ inl h ↦ gone q h | inr h ↦ none q h ] ∙ sym (map.get-empty nat_cmp q))
 
+  -- where no child is left, nothing is kept, and all have moved
   pub all_moved : (m kept moved : map.FinMap nat_cmp X) (from : ℕ) → HaveMoved m kept moved from → ((q : ℕ) → from ≤ q → map.get kept q ≡ None) → (kept ≡ map.empty) × (moved ≡ m)
   all_moved m kept moved from is none = (
     map.same_map nat_cmp_total map.nat_cmp-IsAntisymmetric kept map.empty (λ q. elim (cases_lt q from) [ inl h ↦ is.gone q h | inr h ↦ none q h ] ∙ sym (map.get-empty nat_cmp q)),
@@ -98,6 +102,7 @@ pub record HavePoured {X : Type 0} (m left moved : map.FinMap nat_cmp X) (from :
   pub above : (q : ℕ) → from ≤ q → map.get left q ≡ map.get m q
 
 module _ {X : Type 0} where
+  -- before the first child none has moved, and no blank has come
   pub none_poured : (m : map.FinMap nat_cmp X) → HavePoured m m map.empty 0
   none_poured m = record { kept = m; moves = none_moved m; above = λ q l. refl }
 
@@ -110,6 +115,7 @@ module _ {X : Type 0} where
       before = λ q l h. is.moves.above q l ∙ (sym (is.above q l) ∙ f.before q l h);
     }
 
+    -- the next child moves, and a blank comes into its place
     pub one_poured : (blank : X) → HavePoured m (map.insert left b blank) (map.insert moved b x) (b + 1)
     one_poured blank = record {
       kept = map.remove is.kept b;
@@ -117,9 +123,11 @@ module _ {X : Type 0} where
       above = λ q l. get_put_other left b q blank (omega arith) ∙ is.above q (omega (arith, f.past));
     }
 
+    -- while a child is left from there on, fewer have moved than there are
     pub room_poured : map.len moved < map.len m
     room_poured = room_left is.moves first_kept
 
+  -- where no child is left from there on, all have moved
   pub all_poured : (m left moved : map.FinMap nat_cmp X) (from : ℕ) → HavePoured m left moved from → ((q : ℕ) → from ≤ q → map.get left q ≡ None) → moved ≡ m
   all_poured m left moved from is none = (all_moved m is.kept moved from is.moves (λ q l. is.moves.above q l ∙ (sym (is.above q l) ∙ none q l))).1
 
@@ -138,6 +146,7 @@ pub record IsPouring {C P : Type 0} (old empty left moved : Node C P) (from : �
   pub children : HavePoured (children_of old) (children_of left) (children_of moved) from
 
 module _ {C P : Type 0} where
+  -- a node with fewer children than its form has places isn't full
   pub has_room : (n : Node C P) → map.len (children_of n) < capacity_of (form_of n) → is_full_of n ≡ false
   has_room (N4 n) l = grind (arith, nat_tests, l)
   has_room (N16 n) l = grind (arith, nat_tests, l)

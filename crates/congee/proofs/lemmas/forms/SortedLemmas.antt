@@ -132,15 +132,19 @@ module _ {X : Type 0} {ks : List ℕ} {ys : List X} (ok : IsSorted ks ys) where
   get_is : (b : ℕ) → map.get (sorted_map ks ys) b ≡ find b (pairs ks ys)
   get_is b = get_of (pairs ks ys) b ok.rises
 
+  -- a byte that stands at its place has the child beside it
   pub get_found : (b p : ℕ) (d : X) → IsPlaceOf b p ks → p < length ks → get_or ks p 0 ≡ b → map.get (sorted_map ks ys) b ≡ Some (get_or ys p d)
   get_found b p d s l e = get_is b ∙ find_found b p ks ys d ok.same s l e
 
+  -- a byte that is less than the one at its place has no child
   pub get_absent : (b p : ℕ) → IsPlaceOf b p ks → (p < length ks → b < get_or ks p 0) → map.get (sorted_map ks ys) b ≡ None
   get_absent b p s h = get_is b ∙ find_absent b p ks ys ok.same ok.rises s h
 
+  -- there are as many children as bytes
   pub len_is : map.len (sorted_map ks ys) ≡ length ks
   len_is = len_of (pairs ks ys) ok.rises ∙ length_pairs ks ys ok.same
 
+  -- what has a child is a byte
   pub is_byte : (b : ℕ) → IsSome (map.get (sorted_map ks ys) b) → b < 256
   is_byte b s = found_all (λ c. c < 256) b (pairs ks ys) ok.bytes (subst IsSome (get_is b) s)
 
@@ -148,6 +152,7 @@ module _ {X : Type 0} {ks : List ℕ} {ys : List X} (ok : IsSorted ks ys) where
   pub stands_there : (b p : ℕ) → IsPlaceOf b p ks → IsSome (map.get (sorted_map ks ys) b) → (p < length ks) × (get_or ks p 0 ≡ b)
   stands_there b p s h = there_of b p ks ys ok.same ok.rises s (subst IsSome (get_is b) h)
 
+  -- a new byte and its child at the byte's place are put in the map, in order
   pub insert_map : (b p : ℕ) (y : X) → b < 256 → IsPlaceOf b p ks → map.get (sorted_map ks ys) b ≡ None
       → IsSorted (insert ks p b) (insert ys p y) × (sorted_map (insert ks p b) (insert ys p y) ≡ map.insert (sorted_map ks ys) b y)
   insert_map b p y byte s none =
@@ -161,6 +166,7 @@ module _ {X : Type 0} {ks : List ℕ} {ys : List X} (ok : IsSorted ks ys) where
         rw e (put_of (pairs ks ys) b y ok.rises),
       )
 
+  -- a byte and its child, taken from their place, are taken out of the map, in order
   pub remove_map : (b p : ℕ) → IsPlaceOf b p ks → IsSome (map.get (sorted_map ks ys) b)
       → IsSorted (remove ks p) (remove ys p) × (sorted_map (remove ks p) (remove ys p) ≡ map.remove (sorted_map ks ys) b)
   remove_map b p s h =
@@ -174,6 +180,7 @@ module _ {X : Type 0} {ks : List ℕ} {ys : List X} (ok : IsSorted ks ys) where
         rw e (del_of (pairs ks ys) b ok.rises),
       )
 
+  -- another child at a byte's place is put in the map for the byte
   pub change_map : (b p : ℕ) (y : X) → b < 256 → IsPlaceOf b p ks → IsSome (map.get (sorted_map ks ys) b)
       → IsSorted ks (set ys p y) × (sorted_map ks (set ys p y) ≡ map.insert (sorted_map ks ys) b y)
   change_map b p y byte s h =
@@ -197,10 +204,12 @@ module _ {X : Type 0} {ks : List ℕ} {ys : List X} (ok : IsSorted ks ys) where
         before = λ q h g. get_absent q p (record { within = s.within; below = λ i m. omega (arith, s.below i m); at = λ m. omega arith }) (λ m. g);
       }
 
+  -- where a byte's place is past the last one, no byte from it on has a child
   pub none_from : (from p : ℕ) → IsPlaceOf from p ks → p ≡ length ks → (b : ℕ) → from ≤ b → map.get (sorted_map ks ys) b ≡ None
   none_from from p s e b h = get_absent b p (record { within = s.within; below = λ i m. omega (arith, s.below i m); at = λ m. absurd (omega arith) }) (λ m. absurd (omega arith))
 
 module _ {X : Type 0} where
+  -- no bytes hold the empty map
   pub no_pairs : (ks : List ℕ) (ys : List X) → ks ≡ [] → sorted_map ks ys ≡ map.empty
   no_pairs ks ys e = rw e (map.empty_of_len _ (len_of [] tt))
 
