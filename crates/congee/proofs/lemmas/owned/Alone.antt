@@ -38,7 +38,7 @@ module _ {P : Type 0} (s s' : Slab (Slot P)) (empty : s.slots ≡ []) (i : ℕ) 
   pub alone_stored : length (prefix_of n) < 7 → i < s'.capacity → IsStored s' 0
   alone_stored short low = comes_stored blank s' (nodes_in blank) refl 0 blank_stored 0 n refl comes bare short refl (omega (arith, low))
 
-  -- the node in them is the root, and stands alone
+  -- a new inner node alone in the slots is the root, which stands alone
   pub alone : IsAlone (nodes_in s') (with_children (inner_child 0) n)
   unfolding nodes_in
   alone = record {

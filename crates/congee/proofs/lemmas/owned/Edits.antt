@@ -16,7 +16,7 @@ use Rattle.congee.proofs.lemmas.owned.Filled.{filled_at}
 use Rattle.congee.proofs.lemmas.owned.Ways.{linked_of}
 
 module _ {P : Type 0} where
-  -- a value as what hangs at a byte, if there is one
+  -- a value as a child of a node, if there is one
   abbrev pub child_of : Option P → Option (Child ℕ P)
   child_of None = None
   child_of (Some v) = Some (Value v)

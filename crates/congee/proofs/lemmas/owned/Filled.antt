@@ -36,7 +36,7 @@ module _ {P : Type 0} where
       let i : y ≡ x = (let z : Some y ≡ Some x = e in cc) in
       subst (λ z. 0 < map.len (children_of z)) i (h (subst (λ z. length (prefix_of z) ≡ 7) (sym i) seven))
 
-  -- nor is what isn't there
+  -- a name without a node has no empty leaf
   pub filled_none : IsFilled {P = P} None
   filled_none x e = absurd (cc)
 

@@ -112,7 +112,7 @@ module _ {P : Type 0} where
         subst (λ w. FilledAs (length (prefix_of f.forks.node)) (map.len (children_of f.forks.node)) (capacity_of w)) (sym form)
         (filled_least (length (prefix_of f.forks.node)) (map.len (children_of f.forks.node)) (omega (arith, n)) (λ _. n))
 
-    -- put in its place above, it leaves the nodes enough children if they had
+    -- a fork put in its place above leaves the nodes enough children if they had
     pub fork_filled : ((x : Form ℕ P) → get s3 at ≡ Some x → map.get (children_of x) byte ≡ Some (Sub below))
         → ((x : Form ℕ P) → get s3 at ≡ Some x → Sets s3 s4 at x (map.insert (children_of x) byte (Sub over))) → NodesFilled s0 → NodesFilled s4
     fork_filled there sets h =
@@ -169,14 +169,14 @@ module _ {P : Type 0} where
     before : FilledAs (length (prefix_of x)) (suc (map.len (children_of y))) (capacity_of (form_of x))
     before = subst (λ n. FilledAs (length (prefix_of x)) n (capacity_of (form_of x))) (sym fewer) enough
 
-    -- if x wasn't to give place to a lesser node, it still has enough children
+    -- a node that lost a child, and wasn't to give place to a lesser one, has enough children
     pub less_enough : shrinks (form_of x) (map.len (children_of x)) ≡ false → HasEnough y
     less_enough s =
         let f = filled_less (length (prefix_of x)) (map.len (children_of y)) (form_of x) (ap (shrinks (form_of x)) fewer ∙ s) some two_left in
         subst (λ w. FilledAs (length (prefix_of y)) (map.len (children_of y)) (capacity_of w)) (sym form)
         (subst (λ n. FilledAs n (map.len (children_of y)) (capacity_of (form_of x))) (sym size) f)
 
-    -- in any case it has enough for the form below
+    -- a node that lost a child has enough for the form below
     pub lesser_enough : FilledIn (capacity_of (form_below (form_of y))) y
     lesser_enough =
         let f = filled_lesser (length (prefix_of x)) (map.len (children_of y)) (form_of x) before some two_left in

@@ -333,7 +333,7 @@ module _ {P : Type 0} where
         sets_bytes s3 s4 at r.node _ r.now k,
       )
 
-  -- a fresh node with two nodes put in at different bytes is a fork over them, of the same size
+  -- a fresh node with two nodes put in at different bytes is a fork over them, and the sizes stay
   pub forked : (s s1 s2 : Nodes P) (n : ℕ) (p : List ℕ) (byte leaf other below : ℕ) → (f : FreshNode s n p) → byte ≢ other
       → Sets s s1 n f.node (map.insert (children_of f.node) byte (Sub leaf))
       → ((x : Form ℕ P) → get s1 n ≡ Some x → Sets s1 s2 n x (map.insert (children_of x) other (Sub below)))

@@ -37,7 +37,7 @@ module _ {P : Type 0} (s : Nodes P) (g b p : ℕ) (r : MayLift s g b p) where
   pub lower_inner : (y : Node ℕ P) → get s p ≡ Some y → length (prefix_of y) < 7
   lower_inner y e = subst (λ z. length (prefix_of z) < 7) (one_node s p r.lower y r.stood e) r.inner_below
 
-  -- one node hangs in it, and nothing else
+  -- one node hangs in the lower node, and nothing else
   pub lower_one : (y : Node ℕ P) → get s p ≡ Some y → HasOneNode y
   lower_one y e = subst HasOneNode (one_node s p r.lower y r.stood e) r.one
 

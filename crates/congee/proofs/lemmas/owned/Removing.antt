@@ -203,7 +203,7 @@ module _ {P : Type 0} where
       same_name : (o : Option (Child ℕ P)) (m n : ℕ) → o ≡ Some (Sub m) → o ≡ Some (Sub n) → m ≡ n
       same_name o m n e h = let a : Child ℕ P = Sub m in let d : Child ℕ P = Sub n in let z : Some a ≡ Some d = sym e ∙ h in cc
 
-  -- a leaf that loses its value, then its parent's place and its slot, is a child that its parent loses
+  -- a leaf whose value, place above and slot go one after the other is a child that its parent loses
   pub dropped_child : (s0 s1 s2 s3 : Nodes P) (key : List ℕ) (above at byte up : ℕ) → IsTree s0 → OnWay s0 key at → Hangs s0 key above at
       → ((x : Node ℕ P) → get s0 at ≡ Some x → Sets s0 s1 at x (map.remove (children_of x) byte))
       → up ≡ get_or key (length (heap_of s1 above).prefix) 0
@@ -330,7 +330,7 @@ module _ {P : Type 0} where
     pub top_stands : ContainsKey mid top
     top_stands = subst IsSome (sym top_same) higher.way.stands
 
-    -- a node that had two children and lost one has its other child moved up
+    -- a node that had two children and lost one may give its place to the other
     pub lift_ready : (up : ℕ) → IsTree mid → up ≡ get_or key (length (heap_of mid top).prefix) 0 → ((x : Node ℕ P) → get s above ≡ Some x → map.len (children_of x) ≡ 2) → MayLift mid top up above
     lift_ready up t' b two =
         let u = node_at s top higher.way.stands in

@@ -177,7 +177,7 @@ module _ {P : Type 0} where
     others = λ k l ne. c.others k l ne ∙ r.values k;
   }
 
-  -- a change of the map before a renaming is one of the map from before to after it
+  -- a change of the map is one with a renaming after it
   pub renamed_change : (s s' s'' : Nodes P) (key : List ℕ) (before after : Option P) → MapChange s s' key before after → Renamed s' s'' → MapChange s s'' key before after
   renamed_change s s' s'' key before after c r = record {
     was = c.was;
@@ -196,7 +196,7 @@ module _ {P A : Type 0} (charged limit : A → ℕ) (old mid new : Arena P A) (k
       same_limit = e.same_limit ∙ ap limit same;
     }
 
-    -- an insertion after a renaming is one from before it
+    -- an insertion after a renaming is one on the arena before the renaming
     pub adds_renamed : (before : Option P) (value : P) (wants : Option (List ℕ)) → Adds charged limit mid new key before value wants → Adds charged limit old new key before value wants
     adds_renamed before value wants a = record {
       edits = edits_renamed before (Some value) a.edits;

@@ -156,7 +156,7 @@ module _ {P : Type 0} (s : Nodes P) (t : IsTree s) (stem : Stem) (entry : Entry 
       child_stands s (257 * stem.slot) x.node h.from h.byte (SubChild (257 * below)) (257 * below) t stands x.is (there (Sub below) is x.node x.is) refl
 
   module _ {E : Type 0} (put : ℕ → P → E) (last count : ℕ) (out : List E) (within : count ≤ length out) where
-    -- a pair written from a leaf in an entry writes the entry's byte
+    -- where an entry is a leaf, its pair, written, is what hangs under the byte, written
     pub entry_leaf : (tail : Tail) (value : P) (key : ℕ) → entry ≡ Leaf tail value → key_bytes key ≡ stem.first ∷ tail.bytes → key < 2 ^ 64
         → (new : List E) (w : Written) → WritesPair s put last key value count out new w → WritesByte s put last (257 * stem.slot) h.from h.byte count out new w
     entry_leaf tail value key is bytes large new w p =
@@ -167,7 +167,7 @@ module _ {P : Type 0} (s : Nodes P) (t : IsTree s) (stem : Stem) (entry : Entry 
         (wrote_leaf s put last t (257 * stem.slot) h.from count out h.from count out (sets_out s put last (257 * stem.slot) h.from count out within) h.byte h.low
         key (257 * stem.slot + (h.byte + 1)) value large (there (Leaf tail value) is) leaf new w p).on
 
-    -- the pairs of a node in an entry, written, write the entry's byte
+    -- where an entry is a node, the pairs below it, written, are what hangs under the byte, written
     pub entry_node : (below : ℕ) → entry ≡ Sub below → (new : List E) (w : Written) → Fills count out new w → WritesNode s put last (257 * below) 0 count out new w
         → WritesByte s put last (257 * stem.slot) h.from h.byte count out new w
     entry_node below is new w f writes =

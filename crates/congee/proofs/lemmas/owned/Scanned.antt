@@ -14,7 +14,7 @@ module _ {V : Type 0} where
   something_first : (m : FinMap nat_cmp V) (k : ℕ) (v : V) → IsFirst m 0 k v → m ≢ empty
   something_first m k v f e = let n : get m k ≡ None = ap (λ x. get x k) e ∙ get-empty _ k in absurd (cc (n, f.here))
 
-  -- that no least key was found tells that the map is empty
+  -- whether no least key was found tells whether the map is empty
   pub empty_told : {T : Type 0} (m : FinMap nat_cmp V) (key : T → ℕ) (value : T → V) (o : Option T) (b : Bool) → is_some o ≡ not b
       → MatchOption o ((q : ℕ) → 0 ≤ q → get m q ≡ None) (λ r. IsFirst m 0 (key r) (value r)) → IsTrue b ↔ (m ≡ empty)
   empty_told m key value None true e h = (λ t. nothing_first m h, λ e. refl)

@@ -77,11 +77,11 @@ module _ {P : Type 0} (s : Nodes P) (at from : ℕ) (x : Node ℕ P) (h : get s 
         let e : with_children (inner_child slot) n ≡ x = cc in
         sym (with_mapped (inner_child slot) n) ∙ ap children_of e
 
-    -- of an inner node the first child in the slot, as the tree sees it
+    -- the first child of an inner node that was read is the first that the tree sees
     pub inner_first : (b : ℕ) (c : Child ℕ (Lone P)) → IsFirst (children_of n) from b c → IsFirst (children_of x) from b (inner_child slot b c)
     inner_first b c f = subst (λ m. IsFirst m from b (inner_child slot b c)) inner_map (first_mapped (inner_child slot) (children_of n) from b c f)
 
-    -- where an inner node in the slot has none from there on, the tree sees none
+    -- where an inner node that was read has no child from there on, the tree sees none
     pub inner_last : ((b : ℕ) → from ≤ b → map.get (children_of n) b ≡ None) → (b : ℕ) → from ≤ b → map.get (children_of x) b ≡ None
     inner_last f b l = ap (λ m. map.get m b) (sym inner_map) ∙ none_mapped (inner_child slot) (children_of n) b (f b l)
 
@@ -92,11 +92,11 @@ module _ {P : Type 0} (s : Nodes P) (at from : ℕ) (x : Node ℕ P) (h : get s 
         let e : with_children leaf_child n ≡ x = cc in
         sym (with_mapped leaf_child n) ∙ ap children_of e
 
-    -- of a leaf the first value in the slot, as the tree sees it
+    -- the first value of a leaf that was read is the first that the tree sees
     pub leaf_first : (b : ℕ) (c : Child ℕ P) → IsFirst (children_of n) from b c → IsFirst (children_of x) from b (leaf_child b c)
     leaf_first b c f = subst (λ m. IsFirst m from b (leaf_child b c)) leaf_map (first_mapped leaf_child (children_of n) from b c f)
 
-    -- where a leaf in the slot has none from there on, the tree sees none
+    -- where a leaf that was read has no value from there on, the tree sees none
     pub leaf_last : ((b : ℕ) → from ≤ b → map.get (children_of n) b ≡ None) → (b : ℕ) → from ≤ b → map.get (children_of x) b ≡ None
     leaf_last f b l = ap (λ m. map.get m b) (sym leaf_map) ∙ none_mapped leaf_child (children_of n) b (f b l)
 

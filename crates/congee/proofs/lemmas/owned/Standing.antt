@@ -13,7 +13,7 @@ module _ {P : Type 0} where
     pub node : Form ℕ P
     pub is : get s n ≡ Some node
 
-  -- a name that has a node has it standing there
+  -- a name under which a node stands has that node
   pub standing : (s : Nodes P) (n : ℕ) → ContainsKey s n → Standing s n
   standing s n h =
       let it = of (get s n) h in

@@ -149,7 +149,7 @@ module _ (all : LevelStats) where
   unfolding memory_line
   memory_written = simp append_assoc
 
-  -- the lines for the whole, one after the other
+  -- the lines for the whole, one after the other, are the text for the whole
   pub whole_written : (pairs : ℕ) → count_line all ++ (load_line all ++ (memory_line all ++ (codes "KV count: " ++ (decimal pairs ++ newline)))) ≡ whole_text all pairs
   unfolding whole_text pairs_line
   whole_written pairs = simp append_assoc

@@ -311,7 +311,7 @@ leads_turn v key at name (Held x) e t = absurd t
 leads_turn v key at name (Below c) e t = (e ∙ ap Under (sym t.0), t.1)
 leads_turn v key at name (Apart c) e t = (e ∙ ap Under (sym t.0), t.1)
 
--- the same where the way on was told through a leaf in its parent's place
+-- the way on leads to a node of which it was told whether the key has its prefix
 pub leads_turn_on : {P : Type 0} (v : Nodes P) (key : List ℕ) (at name : ℕ) (w : Onward P) → child_for (heap_of v at) key ≡ Under name → IsTurnOn v key name w → LeadsOn v key at w
 leads_turn_on v key at name GoesFree e t = absurd t
 leads_turn_on v key at name (GoesHeld x) e t = absurd t
@@ -329,11 +329,11 @@ module _ {P : Type 0} (s : Slab (Slot P)) (v : Nodes P) (is : nodes_in s ≡ v) 
     inner_map : mapped (inner_child i) (children_of n) ≡ children_of y
     inner_map = sym (with_mapped (inner_child i) n) ∙ ap children_of (sym (ap (slot_node i) q) ∙ same_seen)
 
-    -- of an inner node it is the first in the slot, as the tree sees it
+    -- the first child of an inner node in its slot is the first that the tree sees
     pub inner_first : (b : ℕ) (c : Child ℕ (Lone P)) → IsFirst (children_of n) from b c → IsFirst (children_of y) from b (inner_child i b c)
     inner_first b c k = subst (λ m. IsFirst m from b (inner_child i b c)) inner_map (first_mapped (inner_child i) (children_of n) from b c k)
 
-    -- where an inner node has no child from there on, the tree sees none
+    -- where an inner node in its slot has no child from there on, the tree sees none
     pub inner_last : ((b : ℕ) → from ≤ b → map.get (children_of n) b ≡ None) → (b : ℕ) → from ≤ b → map.get (children_of y) b ≡ None
     inner_last k b l = ap (λ m. map.get m b) (sym inner_map) ∙ none_mapped (inner_child i) (children_of n) b (k b l)
 
@@ -341,11 +341,11 @@ module _ {P : Type 0} (s : Slab (Slot P)) (v : Nodes P) (is : nodes_in s ≡ v) 
     leaf_map : mapped leaf_child (children_of n) ≡ children_of y
     leaf_map = sym (with_mapped leaf_child n) ∙ ap children_of (sym (ap (slot_node i) q) ∙ same_seen)
 
-    -- of a leaf it is the first in the slot, as the tree sees it
+    -- the first value of a leaf in its slot is the first that the tree sees
     pub leaf_first : (b : ℕ) (c : Child ℕ P) → IsFirst (children_of n) from b c → IsFirst (children_of y) from b (leaf_child b c)
     leaf_first b c k = subst (λ m. IsFirst m from b (leaf_child b c)) leaf_map (first_mapped leaf_child (children_of n) from b c k)
 
-    -- where a leaf has no value from there on, the tree sees none
+    -- where a leaf in its slot has no value from there on, the tree sees none
     pub leaf_last : ((b : ℕ) → from ≤ b → map.get (children_of n) b ≡ None) → (b : ℕ) → from ≤ b → map.get (children_of y) b ≡ None
     leaf_last k b l = ap (λ m. map.get m b) (sym leaf_map) ∙ none_mapped leaf_child (children_of n) b (k b l)
 

@@ -130,7 +130,7 @@ module _ {P : Type 0} (s : Slab (Slot P)) (v : Nodes P) (is : nodes_in s ≡ v) 
       same_node : (takes there.0 there.1).node ≡ z
       same_node = one_node v2 at (takes there.0 there.1).node z (stays there.0 there.1) h
 
-      -- the node above is no leaf then
+      -- the node above is no leaf after the leaf went and came again
       pub unfold_inner : length (prefix_of z) < 7
       unfold_inner =
           let k = takes there.0 there.1 in
@@ -138,13 +138,13 @@ module _ {P : Type 0} (s : Slab (Slot P)) (v : Nodes P) (is : nodes_in s ≡ v) 
           let l = inner there.0 there.1 in
           omega (arith, p, l)
 
-      -- the node above has nothing under the leaf's byte then
+      -- the node above has nothing under the leaf's byte after the leaf went and came again
       pub unfold_absent : map.get (children_of z) b ≡ None
       unfold_absent =
           let k = takes there.0 there.1 in
           ap (λ w. map.get (children_of w) b) (sym same_node) ∙ (ap (λ m. map.get m b) k.becomes.children ∙ remove_at (children_of there.0) b)
 
-      -- the node above isn't full then
+      -- the node above isn't full after the leaf went and came again
       pub unfold_room : len_in x ≤ capacity_of (form_in x) → is_full_of z ≡ false
       unfold_room fit =
           let y = there.0 in

@@ -78,7 +78,7 @@ module _ {V X : Type 0} (apart : X) (last : Node V → Hung V → X) where
             lead_up a h t (a n).parent u.byte n key u.linked u.holds f (λ g. lead a h t d (a n).parent key small u.linked g)
       ]
 
-  -- what the end of a key's way says is what its last node says
+  -- what is said at the end of a key's way is what is said from a node on it
   pub ends : (s : Nodes V) (key : List ℕ) (n : ℕ) (x : Hung V) → IsTree s → OnWay s key n → child_for (heap_of s n) key ≡ x
       → descend apart last (heap_of s) 8 0 key ≡ at_end last (heap_of s n) (λ c. descend apart last (heap_of s) 7 c key) x
   ends s key n x t w e =
@@ -213,7 +213,7 @@ module _ {P : Type 0} where
       let E : Spot → Type 0 = λ x. EndsAt s key p.at x in
       wants_free s key p.at t l.reached.way (subst E e l.ends)
 
-  -- where a key's place is beside a node with another prefix, it makes two least nodes
+  -- where a key's place is beside a node with another prefix, its insertion makes two least nodes
   pub located_wants_apart : (s : Nodes P) (key : List ℕ) (p : Place) (c : ℕ) → IsTree s → Located s key p → p.spot ≡ Apart c → wants_at (heap_of s) key ≡ Some (64 ∷ 64 ∷ [])
   located_wants_apart s key p c t l e =
       let E : Spot → Type 0 = λ x. EndsAt s key p.at x in
