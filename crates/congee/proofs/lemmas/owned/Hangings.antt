@@ -485,7 +485,7 @@ module _ {P : Type 0} where
         ap is_full_of (one_node s'' n x h.node e h.now)
         ∙ (full_is h.node ∙ (ap (λ t. full_at t (map.len (children_of h.node))) (h.becomes.form ∙ m.form) ∙ (ap (λ z. full_at N4 (map.len z)) c ∙ ap (full_at N4) (len_one byte (Sub h.leaf)))))
 
-  -- what stands at the byte of a key on whose way a node lies hangs below that node
+  -- a node at the key's byte of one on the key's way hangs in that one
   pub fork_hangs : (s : Nodes P) (key : List ℕ) (at below : ℕ) → OnWay s key at → child_for (heap_of s at) key ≡ Below below → Hangs s key at below
   fork_hangs s key at below w h = record { way = w; child = h }
 
