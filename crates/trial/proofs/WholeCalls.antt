@@ -223,7 +223,7 @@ rests_beside laws w op t closure m s s' told e b g =
     rests_after m s.world s'.world b c.holds (subst P e (plays_call w op closure s s' told c laws m b))
 
 -- a call's reply is no answer while the call is in flight
-pub no_answer_yet : (ps : List (ℕ × ℕ)) (o : Outcome ℕ) → is_running o ≡ true → IsAnswer (reply_of ps o) → ⊥
+no_answer_yet : (ps : List (ℕ × ℕ)) (o : Outcome ℕ) → is_running o ≡ true → IsAnswer (reply_of ps o) → ⊥
 no_answer_yet ps outcome.Running e a = a
 no_answer_yet ps (outcome.Asks found) e a = a
 no_answer_yet ps (outcome.Found place key value) e a = a

@@ -16,11 +16,11 @@ pub some_is : {A : Type 0} {x y : A} → Some x ≡ Some y → x ≡ y
 some_is e = cc
 
 -- the node that was put stands under its number
-pub put_same : {V : Type 0} (h : ℕ → Node V) (n : ℕ) (x : Node V) → put h n x n ≡ x
+put_same : {V : Type 0} (h : ℕ → Node V) (n : ℕ) (x : Node V) → put h n x n ≡ x
 put_same h n x = rw (same_test n n refl) refl
 
 -- every other node is as it was where one is put
-pub put_other : {V : Type 0} (h : ℕ → Node V) (n : ℕ) (x : Node V) (m : ℕ) → m ≢ n → put h n x m ≡ h m
+put_other : {V : Type 0} (h : ℕ → Node V) (n : ℕ) (x : Node V) (m : ℕ) → m ≢ n → put h n x m ≡ h m
 put_other h n x m e = rw (other_test m n e) refl
 
 -- the nodes on both sides after a step that makes none
@@ -84,7 +84,7 @@ module _ {V : Type 0} (order : List ℕ) (h : ℕ → Node V) (g : ℕ → Node 
       changed c n h' (put g n y) at others (put_other g n y) (λ t. subst Q (sym (put_same g n y)) (here t)) made stood
 
   -- one node changes its lock word or its marks
-  pub pair_but : (c n : ℕ) (h' : ℕ → Node V) (y : Node V → Node V) → slice_get order n ≡ Some c → Stands (h c) → SameBut h c (y (h c)) h'
+  pair_but : (c n : ℕ) (h' : ℕ → Node V) (y : Node V → Node V) → slice_get order n ≡ Some c → Stands (h c) → SameBut h c (y (h c)) h'
       → ((a b : Node V) → NodeAlike order a b → NodeAlike order (y a) (y b)) → (y (h c)).made ≡ (h c).made → Pair order h h' (put g n (y (g n)))
   pair_but c n h' y at s k f m =
       let P : Node V → Type 0 = λ z. NodeAlike order z (y (g n)) in
@@ -228,7 +228,7 @@ module _ {V : Type 0} (order : List ℕ) (h : ℕ → Node V) (g : ℕ → Node 
   abbrev over : ℕ → (ℕ → Node V) → ℕ → Node V
   over c h' = put h c (h' c)
 
-  pub pair_over : (m c mn cn : ℕ) (h' : ℕ → Node V) → slice_get order mn ≡ Some m → slice_get order cn ≡ Some c → Stands (h m) → Stands (h c) → TakeOverGives h m c h' → Pair order h (over c h') (copy g mn cn)
+  pair_over : (m c mn cn : ℕ) (h' : ℕ → Node V) → slice_get order mn ≡ Some m → slice_get order cn ≡ Some c → Stands (h m) → Stands (h c) → TakeOverGives h m c h' → Pair order h (over c h') (copy g mn cn)
   pair_over m c mn cn h' am ac sm sc k =
       let here : over c h' c ≡ h' c = put_same h c (h' c) in
       let P : Node V → Type 0 = λ z. NodeAlike order z (record (g cn) { children = (g mn).children; count = (g mn).count }) in
@@ -295,13 +295,13 @@ one_place (x ∷ xs) c zero d e = inl e
 one_place (x ∷ xs) c (suc k) d e = elim (one_place xs c k d e) [ inl p ↦ inl p | inr q ↦ inr (ap suc q.0, q.1) ]
 
 -- what hangs alike on both sides does so by an order that has each place of the one before
-pub hung_later : {V : Type 0} (order order' : List ℕ) → ((k d : ℕ) → slice_get order k ≡ Some d → slice_get order' k ≡ Some d) → (a b : Hung V) → HungAlike order a b → HungAlike order' a b
+hung_later : {V : Type 0} (order order' : List ℕ) → ((k d : ℕ) → slice_get order k ≡ Some d → slice_get order' k ≡ Some d) → (a b : Hung V) → HungAlike order a b → HungAlike order' a b
 hung_later order order' f Nothing b e = e
 hung_later order order' f (Below c) b e = (e.0, e.1, f _ _ e.2)
 hung_later order order' f (Holds v) b e = e
 
 -- nodes that are alike on both sides are so by an order that has each place of the one before
-pub node_later : {V : Type 0} (order order' : List ℕ) → ((k d : ℕ) → slice_get order k ≡ Some d → slice_get order' k ≡ Some d) → (a b : Node V) → NodeAlike order a b → NodeAlike order' a b
+node_later : {V : Type 0} (order order' : List ℕ) → ((k d : ℕ) → slice_get order k ≡ Some d → slice_get order' k ≡ Some d) → (a b : Node V) → NodeAlike order a b → NodeAlike order' a b
 node_later order order' f a b e = record {
   stands = e.stands;
   prefix = e.prefix;

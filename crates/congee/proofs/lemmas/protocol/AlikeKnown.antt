@@ -64,7 +64,7 @@ module _ {C V : Type 0} (order order' : List ℕ) (number : C → ℕ) (f : (n c
   still_stage j a a' always r s (stage.Check u w) x = still_seated j a a' r u.at x.1.seated
   still_stage j a a' always r s _ x = tt
 
-  pub still_known : (same : V → V → Bool) (always : Bool) (j : ℕ) (a a' : ℕ → Note) (k : ℕ) (key : List ℕ) (kind : Kind V) (given : Option V) → Rely (λ _. Unit {0}) j a h a' h' → (p : Phase C V) → Known number same always j a h k key kind given p
+  still_known : (same : V → V → Bool) (always : Bool) (j : ℕ) (a a' : ℕ → Note) (k : ℕ) (key : List ℕ) (kind : Kind V) (given : Option V) → Rely (λ _. Unit {0}) j a h a' h' → (p : Phase C V) → Known number same always j a h k key kind given p
       → StillTaken order order' number f h h' p
   still_known same always j a a' k key kind given r (Check s c) x = still_seated j a a' r s.at x.1.fresh.seated
   still_known same always j a a' k key kind given r (Sweep s) x = still_stage j a a' always r s s.stage x
@@ -78,7 +78,7 @@ module _ {C V : Type 0} (order order' : List ℕ) (number : C → ℕ) (f : (n c
   spared_stage s (stage.Check r w) x = still_same r.at (All-contains (λ n. h' n ≡ h n) (names_sweep_at number s (stage.Check r w)) (number r.at.node) x (0, omega arith, refl))
   spared_stage s _ x = tt
 
-  pub spared_phase : (p : Phase C V) → All (λ n. h' n ≡ h n) (names number p) → StillTaken order order' number f h h' p
+  spared_phase : (p : Phase C V) → All (λ n. h' n ≡ h n) (names number p) → StillTaken order order' number f h h' p
   spared_phase (Check s c) x = still_same s.at (All-contains (λ n. h' n ≡ h n) (names_site number s) (number s.at.node) x (0, omega arith, refl))
   spared_phase (Sweep s) x = spared_stage s s.stage x
   spared_phase _ x = tt

@@ -38,18 +38,18 @@ module _ {C : Type 0} (order order' : List ℕ) (number : C → ℕ) (f : (n c :
   pub parent_later : (p : Parent C) (q : Parent ℕ) → ParentAlike order number p q → ParentAlike order' number p q
   parent_later p q x = record { seat = seat_later p.seat q.seat x.seat; byte = x.byte; depth = x.depth; count = x.count; form = x.form }
 
-  pub top_later : (p : Option (Parent C)) (q : Option (Parent ℕ)) → TopAlike order number p q → TopAlike order' number p q
+  top_later : (p : Option (Parent C)) (q : Option (Parent ℕ)) → TopAlike order number p q → TopAlike order' number p q
   top_later None q x = x
   top_later (Some p) q x = (x.0, x.1, parent_later p x.0 x.2)
 
   over_later : (u : Over C) (w : Over ℕ) → OverAlike order number u w → OverAlike order' number u w
   over_later u w x = record { near = parent_later u.near w.near x.near; far = top_later u.far w.far x.far }
 
-  pub above_later : (p : Option (Over C)) (q : Option (Over ℕ)) → AboveAlike order number p q → AboveAlike order' number p q
+  above_later : (p : Option (Over C)) (q : Option (Over ℕ)) → AboveAlike order number p q → AboveAlike order' number p q
   above_later None q x = x
   above_later (Some p) q x = (x.0, x.1, over_later p x.0 x.2)
 
-  pub seated_later : (p : Option (Stamp C)) (q : Option (Stamp ℕ)) → SeatedAlike order number p q → SeatedAlike order' number p q
+  seated_later : (p : Option (Stamp C)) (q : Option (Stamp ℕ)) → SeatedAlike order number p q → SeatedAlike order' number p q
   seated_later None q x = x
   seated_later (Some p) q x = (x.0, x.1, seat_later p x.0 x.2)
 
@@ -57,7 +57,7 @@ module _ {C : Type 0} (order order' : List ℕ) (number : C → ℕ) (f : (n c :
   made_later None q x = x
   made_later (Some c) q x = (x.0, x.1, named_later c x.0 x.2)
 
-  pub site_later : (s : Site C) (u : Site ℕ) → SiteAlike order number s u → SiteAlike order' number s u
+  site_later : (s : Site C) (u : Site ℕ) → SiteAlike order number s u → SiteAlike order' number s u
   site_later s u x = record { above = above_later s.above u.above x.above; at = seat_later s.at u.at x.at; depth = x.depth; byte = x.byte; form = x.form }
 
   pub read_later : (s : Site C) (u : Site ℕ) → ReadAlike order number s u → ReadAlike order' number s u
@@ -79,7 +79,7 @@ module _ {C : Type 0} (order order' : List ℕ) (number : C → ℕ) (f : (n c :
   double_later (GrowLink c leaf byte) u x = (x.0, x.1, x.2, named_later c x.0 x.3, named_later leaf x.1 x.4)
   double_later (Split top leaf common byte) u x = (x.0, x.1, x.2, named_later top x.0 x.3, named_later leaf x.1 x.4)
 
-  pub two_later : (s : Two C) (u : Two ℕ) → TwoAlike order number s u → TwoAlike order' number s u
+  two_later : (s : Two C) (u : Two ℕ) → TwoAlike order number s u → TwoAlike order' number s u
   two_later s u x = record { top = top_later s.top u.top x.top; above = parent_later s.above u.above x.above; at = seat_later s.at u.at x.at; change = double_later s.change u.change x.change }
 
   plan_later : (s : Plan C) (u : Plan ℕ) → PlanAlike order number s u → PlanAlike order' number s u
@@ -139,7 +139,7 @@ module _ {C : Type 0} (order order' : List ℕ) (number : C → ℕ) (f : (n c :
         stage = stage_later s.stage t.stage k x.stage;
       }
 
-      pub phase_later : (p : Phase C V) (q : Phase ℕ V) → StillTaken p → PhaseAlike order number h p q → PhaseAlike order' number h' p q
+      phase_later : (p : Phase C V) (q : Phase ℕ V) → StillTaken p → PhaseAlike order number h p q → PhaseAlike order' number h' p q
       phase_later New q k x = x
       phase_later (Version above c) q k x = (x.0, x.1, x.2, above_later above x.0 x.3, named_later c x.1 x.4)
       phase_later (Read above at) q k x = (x.0, x.1, x.2, above_later above x.0 x.3, seat_later at x.1 x.4)

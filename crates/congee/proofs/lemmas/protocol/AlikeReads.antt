@@ -65,7 +65,7 @@ told_byte byte None = refl
 told_byte byte (Some x) = refl
 
 module _ {C V : Type 0} (order : List ℕ) (number : C → ℕ) where
-  pub child_alike : (c : Child C V) (a b : Hung V) → hung number c ≡ a → HungAlike order a b → ChildAlike order number c (child_of b)
+  child_alike : (c : Child C V) (a b : Hung V) → hung number c ≡ a → HungAlike order a b → ChildAlike order number c (child_of b)
   child_alike child.Blank a b e x = let P : Hung V → Type 0 = λ z. HungAlike order z b in ap child_of (subst P (sym e) x)
   child_alike (child.Node c) a b e x = let P : Hung V → Type 0 = λ z. HungAlike order z b in let y : (n : ℕ) × (b ≡ Below n) × (slice_get order n ≡ Some (number c)) = subst P (sym e) x in (y.0, ap child_of y.1, y.2)
   child_alike (child.Value v) a b e x = let P : Hung V → Type 0 = λ z. HungAlike order z b in ap child_of (subst P (sym e) x)
@@ -170,7 +170,7 @@ module _ {C V : Type 0} (order : List ℕ) (number : C → ℕ) where
     within : (q from last : ℕ) → from ≤ q → q < from + (last + 1 - from) → q ≤ last
     within q from last a b = omega (arith, a, b)
 
-    pub least_found : (from last : ℕ) (r : Least C V) → LeastTruly number x from last r → LeastAlike order number r (least_from y (last + 1 - from) from)
+    least_found : (from last : ℕ) (r : Least C V) → LeastTruly number x from last r → LeastAlike order number r (least_from y (last + 1 - from) from)
     least_found from last least.Nothing t = none_from (last + 1 - from) from (λ q a b. t q a (within q from last a b))
     least_found from last (least.Node byte c) t =
         let P : Hung V → Type 0 = λ z. HungAlike order z (y.children byte) in

@@ -38,7 +38,7 @@ module _ {C V : Type 0} (order : List ℕ) (number : C → ℕ) (h : ℕ → Nod
   pub quiet_alike : (p : Phase C V) (q : Phase ℕ V) → PhaseAlike order number h p q → Alike (quiet p) (quiet q)
   quiet_alike p q x = record { report = refl; phase = x }
 
-  pub asking_alike : (p : Phase C V) (q : Phase ℕ V) (o : Option V) → PhaseAlike order number h p q → Alike (asking p o) (asking q o)
+  asking_alike : (p : Phase C V) (q : Phase ℕ V) (o : Option V) → PhaseAlike order number h p q → Alike (asking p o) (asking q o)
   asking_alike p q o x = record { report = refl; phase = x }
 
   pub decided_alike : (p : Phase C V) (q : Phase ℕ V) → PhaseAlike order number h p q → Alike (decided p) (decided q)
@@ -69,7 +69,7 @@ module _ {C V : Type 0} (order : List ℕ) (number : C → ℕ) (h : ℕ → Nod
   version_alike root m above o c n (Some v) r a x = quiet_alike (Read above (record { node = c; version = v })) (Read o (record { node = n; version = v })) (o, record { node = n; version = v }, refl, a, record { node = x; version = refl })
 
   -- the node at hand as the one above the next, and the nodes above that
-  pub parent_alike : (s : Site C) (u : Site ℕ) → ReadAlike order number s u → ParentAlike order number (here_of s) (here_of u)
+  parent_alike : (s : Site C) (u : Site ℕ) → ReadAlike order number s u → ParentAlike order number (here_of s) (here_of u)
   parent_alike s u x = record { seat = x.site.at; byte = x.site.byte; depth = x.site.depth; count = x.count; form = x.site.form }
 
   near_alike : (above : Option (Over C)) (o : Option (Over ℕ)) → AboveAlike order number above o → TopAlike order number (near_of above) (near_of o)
@@ -79,7 +79,7 @@ module _ {C V : Type 0} (order : List ℕ) (number : C → ℕ) (h : ℕ → Nod
   below_alike : (s : Site C) (u : Site ℕ) → ReadAlike order number s u → OverAlike order number (below s) (below u)
   below_alike s u x = record { near = parent_alike s u x; far = near_alike s.above u.above x.site.above }
 
-  pub down_alike : (b : Bool) (s : Site C) (u : Site ℕ) (above : Option (Over C)) (o : Option (Over ℕ)) (c : C) (n : ℕ) → ReadAlike order number s u → AboveAlike order number above o → Named order number c n
+  down_alike : (b : Bool) (s : Site C) (u : Site ℕ) (above : Option (Over C)) (o : Option (Over ℕ)) (c : C) (n : ℕ) → ReadAlike order number s u → AboveAlike order number above o → Named order number c n
       → Alike (down b s above c) (down b u o n)
   down_alike false s u above o c n x a y = quiet_alike (Version (Some (below s)) c) (Version (Some (below u)) n) (Some (below u), n, refl, (below u, refl, below_alike s u x), y)
   down_alike true s u None o c n x a y =
@@ -89,7 +89,7 @@ module _ {C V : Type 0} (order : List ℕ) (number : C → ℕ) (h : ℕ → Nod
       alike_to (down true s (Some p) c) (down true u (Some a.0) n) (down true u o n) (ap (λ z. down true u z n) a.1)
       (quiet_alike (CheckDown p.near.seat (below s) c) (CheckDown a.0.near.seat (below u) n) (a.0.near.seat, below u, n, refl, a.2.near.seat, below_alike s u x, y))
 
-  pub started_alike : (plan : Plan C) (y : Plan ℕ) (r : Reply V) → PlanAlike order number plan y → Alike (started plan r) (started y r)
+  started_alike : (plan : Plan C) (y : Plan ℕ) (r : Reply V) → PlanAlike order number plan y → Alike (started plan r) (started y r)
   started_alike (Here None one) y r x =
       alike_to _ (started (Here None x.1) r) (started y r) (ap (λ z. started z r) (x.2 ∙ ap (λ z. Here z x.1) x.3)) (quiet_alike (UpgradeOne one r) (UpgradeOne x.1 r) (x.1, refl, x.4))
   started_alike (Here (Some p) one) y r x =
@@ -131,7 +131,7 @@ module _ {C V : Type 0} (order : List ℕ) (number : C → ℕ) (h : ℕ → Nod
       each true = full_alike kind s u s.full s.above u.above None None Set Set x x.site.above refl refl
       each false = quiet_alike (MakeLeaf s) (MakeLeaf u) (u, refl, x, f)
 
-  pub absent_alike : (kind : Kind V) (s : Site C) (u : Site ℕ) → ReadAlike order number s u → u.full ≡ s.full → Alike (absent kind s) (absent kind u)
+  absent_alike : (kind : Kind V) (s : Site C) (u : Site ℕ) → ReadAlike order number s u → u.full ≡ s.full → Alike (absent kind s) (absent kind u)
   absent_alike kind s u x f = by (adds kind) where
     by : (b : Bool) → Alike (cond b (missing kind s) (answered (absent_reply kind))) (cond b (missing kind u) (answered (absent_reply kind)))
     by true = missing_alike kind s u x f
@@ -145,7 +145,7 @@ module _ {C V : Type 0} (order : List ℕ) (number : C → ℕ) (h : ℕ → Nod
   confirm_alike : (at : Stamp C) (a : Stamp ℕ) (r : Reply V) → SeatAlike order number at a → Alike (quiet (Confirm at r)) (quiet (Confirm a r))
   confirm_alike at a r x = quiet_alike (Confirm at r) (Confirm a r) (a, refl, x)
 
-  pub replaced_alike : (s : Site C) (u : Site ℕ) (b : Bool) (r : Reply V) → SiteAlike order number s u → Alike (replaced s b r) (replaced u b r)
+  replaced_alike : (s : Site C) (u : Site ℕ) (b : Bool) (r : Reply V) → SiteAlike order number s u → Alike (replaced s b r) (replaced u b r)
   replaced_alike s u true r x = confirm_alike s.at u.at r x.at
   replaced_alike s u false r x = set_alike s u r x
 
@@ -184,7 +184,7 @@ module _ {C V : Type 0} (order : List ℕ) (number : C → ℕ) (h : ℕ → Nod
       each false true = quiet_alike (MakeLesser s w.near None r) (MakeLesser u a.0.near None r) (u, a.0.near, None, refl, x, a.2.near, refl)
       each false false = set_alike s u r x.site
 
-  pub emptied_alike : (s : Site C) (u : Site ℕ) (r : Reply V) → ReadAlike order number s u → Alike (emptied s r) (emptied u r)
+  emptied_alike : (s : Site C) (u : Site ℕ) (r : Reply V) → ReadAlike order number s u → Alike (emptied s r) (emptied u r)
   emptied_alike s u r x = taken_alike s u s.above u.above r x x.site.above
 
   -- no copy failed
@@ -193,7 +193,7 @@ module _ {C V : Type 0} (order : List ℕ) (number : C → ℕ) (h : ℕ → Nod
       let e : refusal.Count ≡ refusal.Exhausted = n refusal.Count (ap (λ z. z.report.outcome) x.1) in
       cc
 
-  pub asked_alike : (always : Bool) (s : Site C) (u : Site ℕ) (v : V) (t : NextPhase C V) → ReadAlike order number s u → IsUnrefused t.report.outcome → IsAsked always s v t → Alike t (asked u v)
+  asked_alike : (always : Bool) (s : Site C) (u : Site ℕ) (v : V) (t : NextPhase C V) → ReadAlike order number s u → IsUnrefused t.report.outcome → IsAsked always s v t → Alike t (asked u v)
   asked_alike always s u v t x n (inl e) = alike_at t _ (asked u v) e (asking_alike (AskOld s v) (AskOld u v) (Some v) (u, refl, x))
   asked_alike always s u v t x n (inr f) = absurd (copied always t n f)
 
@@ -309,7 +309,7 @@ module _ {C V : Type 0} (order : List ℕ) (number : C → ℕ) (h : ℕ → Nod
       alike_to _ (after_change u r (Split e.0 e.1 common byte)) _ (ap (after_change u r) e.2)
       (decided_alike (UnlockBelow two.at.node two.above.seat.node r) (UnlockBelow u.at.node u.above.seat.node r) (u.at.node, u.above.seat.node, refl, x.at.node, x.above.seat.node))
 
-  pub unwound_alike : (root : C) (n : ℕ) (e : Option Refusal) → Named order number root n → Alike (unwound root e) (unwound n e)
+  unwound_alike : (root : C) (n : ℕ) (e : Option Refusal) → Named order number root n → Alike (unwound root e) (unwound n e)
   unwound_alike root n None x = again_alike root n x
   unwound_alike root n (Some e) x = refused_alike e
 

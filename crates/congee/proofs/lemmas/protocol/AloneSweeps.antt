@@ -35,7 +35,7 @@ module _ (g : ℕ → ℕ) where
   term_past from b l = low_no b from 0 (g b) l
 
   -- from a later byte on, where those between have nothing
-  pub sum_skip : (from to k : ℕ) → from ≤ to → ((q : ℕ) → from ≤ q → q < to → g q ≡ 0) → sum_from g from k ≡ sum_from g to k
+  sum_skip : (from to k : ℕ) → from ≤ to → ((q : ℕ) → from ≤ q → q < to → g q ≡ 0) → sum_from g from k ≡ sum_from g to k
   unfolding sum_from
   sum_skip from to zero l none = refl
   sum_skip from to (suc b) l none =
@@ -50,13 +50,13 @@ module _ (g : ℕ → ℕ) where
       cc
 
   -- none past the bound
-  pub sum_none : (from k : ℕ) → k ≤ from → sum_from g from k ≡ 0
+  sum_none : (from k : ℕ) → k ≤ from → sum_from g from k ≡ 0
   unfolding sum_from
   sum_none from zero l = refl
   sum_none from (suc b) l = let s = sum_none from b (omega (arith, l)) in let t = term_before from b (omega (arith, l)) in omega (arith, s, t)
 
   -- the first of them, and the others
-  pub sum_first : (b k : ℕ) → b < k → sum_from g b k ≡ g b + sum_from g (b + 1) k
+  sum_first : (b k : ℕ) → b < k → sum_from g b k ≡ g b + sum_from g (b + 1) k
   unfolding sum_from
   sum_first b zero l = absurd (omega (arith, l))
   sum_first b (suc c) l = elim (cases_lt b c) [
@@ -76,7 +76,7 @@ module _ (g : ℕ → ℕ) where
   ]
 
   -- from a byte on they are at most as many as from the first one on
-  pub sum_less : (from k : ℕ) → sum_from g from k ≤ sum_from g 0 k
+  sum_less : (from k : ℕ) → sum_from g from k ≤ sum_from g 0 k
   unfolding sum_from
   sum_less from zero = omega arith
   sum_less from (suc b) =
@@ -89,12 +89,12 @@ module _ (g : ℕ → ℕ) where
 
 module _ {V : Type 0} (h : ℕ → Node V) where
   -- what a scan takes at least at a node that it looks at
-  pub under_two : (f n from : ℕ) → 0 < f → 2 ≤ steps_under h f n from
+  under_two : (f n from : ℕ) → 0 < f → 2 ≤ steps_under h f n from
   unfolding steps_under
   under_two zero n from l = absurd (omega (arith, l))
   under_two (suc f) n from l = omega arith
 
-  pub under_less : (f n from : ℕ) → steps_under h f n from ≤ steps_under h f n 0
+  under_less : (f n from : ℕ) → steps_under h f n from ≤ steps_under h f n 0
   unfolding steps_under
   under_less zero n from = omega arith
   under_less (suc f) n from = let s = sum_less (λ b. steps_at (λ c. steps_under h f c 0) ((h n).children b)) from 256 in omega (arith, s)
@@ -143,7 +143,7 @@ module _ {C V : Type 0} (number : C → ℕ) (h : ℕ → Node V) where
 
   module _ (n : ℕ) where
     -- a scan that has fewer than n steps left, and tells its end
-    abbrev pub NearScan : Swung C V → Type 0
+    abbrev NearScan : Swung C V → Type 0
     NearScan u = (AreTaken number h (seats_sweep u.0 u.0.stage) × IsFreeAt number h u.0.stage) × (steps_sweep number h u.0 u.0.stage < n) × (u.0.stage ≡ stage.Over → goes_on (outcome_of u.1) ≡ false)
 
     scan_to : (x y : Swung C V) → y ≡ x → NearScan x → NearScan y

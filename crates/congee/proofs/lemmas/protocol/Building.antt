@@ -59,7 +59,7 @@ module _ {C V : Type 0} (number : C → ℕ) (same : V → V → Bool) (always :
   answers_after false turn h' h'' e x = λ y l. x y l ∙ e y l
 
   -- a turn after a step that left the map
-  pub kept_after : (given' : Option V) (turn : NextPhase C V) (a' : ℕ → Note) (h' : ℕ → Node V) → KeepsMap i a h a' h' → Sound number same always i k kind given h' given' turn a' h' → Kept number same always i a h k kind given given' turn h'
+  kept_after : (given' : Option V) (turn : NextPhase C V) (a' : ℕ → Note) (h' : ℕ → Node V) → KeepsMap i a h a' h' → Sound number same always i k kind given h' given' turn a' h' → Kept number same always i a h k kind given given' turn h'
   kept_after given' turn a' h' e s = record { notes = a'; effect = e.effect; sound = record { known = s.known; answer = answers_after turn.report.decided turn h' h' e.map s.answer } }
 
   pub kept_at : (given' : Option V) (x y : NextPhase C V) (h' : ℕ → Node V) → y ≡ x → Kept number same always i a h k kind given given' x h' → Kept number same always i a h k kind given given' y h'

@@ -71,7 +71,7 @@ module _ {C : Type 0} (number : C → ℕ) (K : ℕ → Type 0) (n : ℕ) where
   leaf_named (Some leaf) s e x = at_name leaf x e.0
 
   module _ {V : Type 0} where
-    pub made_named : (s : Phase C V) → Each K (names number s) → MadeBy number s n → K n
+    made_named : (s : Phase C V) → Each K (names number s) → MadeBy number s n → K n
     made_named (MakeGreater s p leaf) e x = leaf_named leaf s (left K (name_made number leaf) (names_site number s) e.1) x
     made_named (MakeBeside p at common byte top) e x = at_name top x e.1.1.0
     made_named (AskNew plan) e x = plan_named plan e x
@@ -84,7 +84,7 @@ module _ {C : Type 0} (number : C → ℕ) (K : ℕ → Type 0) (n : ℕ) where
     made_named (ChangeTwo two r) e x = made_for_two two e x
     made_named _ e x = absurd x
 
-    pub locked_named : (s : Phase C V) → Each K (names number s) → LockedBy number s n → K n
+    locked_named : (s : Phase C V) → Each K (names number s) → LockedBy number s n → K n
     locked_named (ChangeOne one r) e x = at_name one.at.node x e.0
     locked_named (UpgradeAbove two r) e x = top_named two e x
     locked_named (UpgradeBelow two r) e (inl x) = at_name two.above.seat.node x e.0

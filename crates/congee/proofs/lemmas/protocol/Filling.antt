@@ -11,7 +11,7 @@ use Rattle.congee.proofs.lemmas.Tree.{same_or_not}
 use Rattle.congee.proofs.lemmas.protocol.Unlinking.{linked_in}
 
 -- forms by their places
-pub least_same : (x y : NodeType) → places x ≡ places y → least_in x ≡ least_in y
+least_same : (x y : NodeType) → places x ≡ places y → least_in x ≡ least_in y
 least_same N4 N4 e = refl
 least_same N4 N16 e = absurd (omega (arith, e))
 least_same N4 N48 e = absurd (omega (arith, e))

@@ -88,7 +88,7 @@ module _ {C V : Type 0} (number : C → ℕ) (i : ℕ) (a : ℕ → Note) (h : �
   one_filled one x given h' o fit fills g = by_single one x given h' one.change o.holding o.placed.byte o.wanted.child o.made fit fills g
 
   -- a node that hangs in the tree isn't the root
-  pub below_root : (p b m : ℕ) → (a p).status ≡ Linked → (h p).children b ≡ Below m → m ≢ 0
+  below_root : (p b m : ℕ) → (a p).status ≡ Linked → (h p).children b ≡ Below m → m ≢ 0
   below_root p b m l e q = let z : length (h m).prefix ≡ length (h 0).prefix = ap (λ y. length (h y).prefix) q in let y : length (h 0).prefix ≡ 0 = ap length t.empty in absurd (omega (arith, z, y, (t.down p b m l e).longer))
 
   -- the node above keeps as many children

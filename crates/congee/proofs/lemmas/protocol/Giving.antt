@@ -28,7 +28,7 @@ use Rattle.congee.proofs.lemmas.Graft.{on_test}
 use Rattle.congee.proofs.lemmas.protocol.Lasting.{stands_changed, stands_over}
 
 -- each node that stood stands, or is one of M
-abbrev pub Loses : {V : Type 0} → (ℕ → Type 0) → (ℕ → Node V) → (ℕ → Node V) → Type 0
+abbrev Loses : {V : Type 0} → (ℕ → Type 0) → (ℕ → Node V) → (ℕ → Node V) → Type 0
 Loses M h h' = (n : ℕ) → Stands (h n) → Stands (h' n) ⊎ M n
 
 module _ {V : Type 0} (M : ℕ → Type 0) where

@@ -80,7 +80,7 @@ made_idle : {V : Type 0} (i : ℕ) (a : ℕ → Note) (h : ℕ → Node V) (key 
 made_idle i a h key c size least m = unretired_idle (h c) m.unretired
 
 -- what a call hands over has left the tree, so no path leads to what waits
-pub waiting_out : {V : Type 0} (a : ℕ → Note) (h : ℕ → Node V) (n : ℕ) → Tree a h → LockWords a h → is_waiting (h n) ≡ true → IsOut h n
+waiting_out : {V : Type 0} (a : ℕ → Note) (h : ℕ → Node V) (n : ℕ) → Tree a h → LockWords a h → is_waiting (h n) ≡ true → IsOut h n
 waiting_out a h n t w e = unlinked_out a h n t (λ l. let z : true ≡ false = sym e ∙ linked_idle a h n w l in cc)
 
 -- each node is as it was, or doesn't wait, before and after
@@ -175,7 +175,7 @@ module _ {C V : Type 0} (number : C → ℕ) (i : ℕ) (a : ℕ → Note) (h : �
       spares_then h g.1 h' s2 (spares_change g.1 h' p _ _ (still_idle h g.1 p s2 e) g.4)
 
   -- the node above both doesn't wait
-  abbrev pub TopIdle : Option (Parent C) → Type 0
+  abbrev TopIdle : Option (Parent C) → Type 0
   TopIdle None = Unit {0}
   TopIdle (Some top) = is_waiting (h (number top.seat.node)) ≡ false
 

@@ -40,11 +40,11 @@ pub own_rely : {V : Type 0} (i : ℕ) (a : ℕ → Note) (h : ℕ → Node V) (a
 own_rely i a h a' h' e = e.others (suc i) (λ z. omega (arith, z))
 
 -- what is true of a node as long as its word is the one taken stays so over the call's own step
-pub own_fresh : {V : Type 0} (i : ℕ) (a : ℕ → Note) (h : ℕ → Node V) (a' : ℕ → Note) (h' : ℕ → Node V) → Effect i a h a' h' → (n v : ℕ) (Q : Node V → Type 0) → Fresh a h n v Q → Fresh a' h' n v Q
+own_fresh : {V : Type 0} (i : ℕ) (a : ℕ → Note) (h : ℕ → Node V) (a' : ℕ → Note) (h' : ℕ → Node V) → Effect i a h a' h' → (n v : ℕ) (Q : Node V → Type 0) → Fresh a h n v Q → Fresh a' h' n v Q
 own_fresh i a h a' h' e n v Q f = fresh_kept (λ _. Unit {0}) (suc i) a h a' h' (own_rely i a h a' h' e) n v Q tt f
 
 -- a node that is or was in reach keeps its prefix over a call's own step
-pub own_prefix : {V : Type 0} (i : ℕ) (a : ℕ → Note) (h : ℕ → Node V) (a' : ℕ → Note) (h' : ℕ → Node V) → Effect i a h a' h' → (n : ℕ) → is_published (a n).status ≡ true → (h' n).prefix ≡ (h n).prefix
+own_prefix : {V : Type 0} (i : ℕ) (a : ℕ → Note) (h : ℕ → Node V) (a' : ℕ → Note) (h' : ℕ → Node V) → Effect i a h a' h' → (n : ℕ) → is_published (a n).status ≡ true → (h' n).prefix ≡ (h n).prefix
 own_prefix i a h a' h' e n p = (own_rely i a h a' h' e).prefix n tt p
 
 -- a made node that the step leaves alone
@@ -72,14 +72,14 @@ pub record OnOne {V : Type 0} (a : ℕ → Note) (h : ℕ → Node V) (a' : ℕ 
   pub notes : (m : ℕ) → m ≢ n → a' m ≡ a m
 
 module _ {C V : Type 0} (number : C → ℕ) (i : ℕ) (a : ℕ → Note) (h : ℕ → Node V) (a' : ℕ → Note) (h' : ℕ → Node V) (key : List ℕ) (n : ℕ) (o : OnOne a h a' h' n) where
-  pub made_on : (c size least : ℕ) → Made i a h key c size least → Made i a' h' key c size least
+  made_on : (c size least : ℕ) → Made i a h key c size least → Made i a' h' key c size least
   made_on c size least m = let ne : c ≢ n = made_apart i a h key c size least n m o.published in made_same i a h a' h' key c size least (o.nodes c ne) (o.notes c ne) m
 
-  pub made_one_on : (change : Single C) → MadeOne number i a h key change → MadeOne number i a' h' key change
+  made_one_on : (change : Single C) → MadeOne number i a h key change → MadeOne number i a' h' key change
   made_one_on Set m = tt
   made_one_on (Link leaf) m = made_on (number leaf) 7 0 m
 
-  pub made_two_on : (p : Parent C) (change : Double C) (size size' q : ℕ) → size' ≡ size → MadeTwo number i a h key p change size q → MadeTwo number i a' h' key p change size' q
+  made_two_on : (p : Parent C) (change : Double C) (size size' q : ℕ) → size' ≡ size → MadeTwo number i a h key p change size q → MadeTwo number i a' h' key p change size' q
   made_two_on p Unlink size size' q e m = tt
   made_two_on p Collapse size size' q e m = m
   made_two_on p (Shrink c) size size' q e m = let P : ℕ → Type 0 = λ x. Made i a' h' key (number c) x q in subst P (sym e) (made_on (number c) size q m)
@@ -93,7 +93,7 @@ module _ {C V : Type 0} (number : C → ℕ) (i : ℕ) (a : ℕ → Note) (h : �
   made_two_on p (Split top leaf common byte) size size' q e m = (made_on (number top) common 1 m.0, made_on (number leaf) 7 0 m.1, m.2)
 
   -- a locked node, but for this one, and what it holds
-  pub above_on : (p : Parent C) (m : ℕ) → number p.seat.node ≢ n → AboveLocked number i a h key p m → AboveLocked number i a' h' key p m
+  above_on : (p : Parent C) (m : ℕ) → number p.seat.node ≢ n → AboveLocked number i a h key p m → AboveLocked number i a' h' key p m
   above_on p m ne x =
       let e : h' (number p.seat.node) ≡ h (number p.seat.node) = o.nodes (number p.seat.node) ne in
       let f : a' (number p.seat.node) ≡ a (number p.seat.node) = o.notes (number p.seat.node) ne in
@@ -107,7 +107,7 @@ module _ {C V : Type 0} (number : C → ℕ) (i : ℕ) (a : ℕ → Note) (h : �
         form = rw e x.form;
       }
 
-  pub top_on : (top : Option (Parent C)) (m : ℕ) → ((p : Parent C) → AboveLocked number i a h key p m → number p.seat.node ≢ n) → TopLocked number i a h key top m → TopLocked number i a' h' key top m
+  top_on : (top : Option (Parent C)) (m : ℕ) → ((p : Parent C) → AboveLocked number i a h key p m → number p.seat.node ≢ n) → TopLocked number i a h key top m → TopLocked number i a' h' key top m
   top_on None m ne x = tt
   top_on (Some p) m ne x = above_on p m (ne p x) x
 
@@ -125,7 +125,7 @@ locked_taken most n v fail e = by_limit (v == most) e where
 module _ {C V : Type 0} (number : C → ℕ) (same : V → V → Bool) (always : Bool) (i : ℕ) (a : ℕ → Note) (h : ℕ → Node V) (k : ℕ) (kind : Kind V) (given : Option V)
     (t : Tree a h) (w : LockWords a h) where
   -- a still step after which the call knows what its next phase says
-  pub still_kept : (a' : ℕ → Note) (h' : ℕ → Node V) (s : Phase C V) → KeepsMap i a h a' h' → Known number same always i a' h' k (key_bytes k) kind given s → Kept number same always i a h k kind given given (quiet s) h'
+  still_kept : (a' : ℕ → Note) (h' : ℕ → Node V) (s : Phase C V) → KeepsMap i a h a' h' → Known number same always i a' h' k (key_bytes k) kind given s → Kept number same always i a h k kind given given (quiet s) h'
   still_kept a' h' s e m = record { notes = a'; effect = e.effect; sound = record { known = m; answer = e.map } }
 
   pub lock_one : (one : One C) (r : Reply V) (h' : ℕ → Node V) → Known number same always i a h k (key_bytes k) kind given (UpgradeOne one r) → is_taken (h (number one.at.node)) one.at.version ≡ true

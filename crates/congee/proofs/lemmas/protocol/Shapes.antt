@@ -62,7 +62,7 @@ asks_for ComputeInsert e = tt
 asks_for _ e = absurd cc
 
 -- a call that puts no value at an absent key may answer there at once
-pub fair_absent : {V : Type 0} (kind : Kind V) (q : Question V) → adds kind ≡ false → Ripe (absent_reply kind) q
+fair_absent : {V : Type 0} (kind : Kind V) (q : Question V) → adds kind ≡ false → Ripe (absent_reply kind) q
 fair_absent ComputeInsert q e = absurd cc
 fair_absent _ q e = tt
 

@@ -103,7 +103,7 @@ module _ {C V : Type 0} (number : C → ℕ) (same : V → V → Bool) (always :
   miss_value p n common c q z = misses a h t (number p.seat.node) n (key_bytes k) (taken_linked a h w (number p.seat.node) p.seat.version c.fresh.seated.published z) c.fitted (c.fresh.holds z).0 (parts_differ (h n).prefix (key_bytes k) common q)
 
   -- the node at hand as the one above its child
-  pub here_child : (s : Site C) (c : ℕ) → Knows number a h (key_bytes k) s (Below c) → ChildOf number a h (key_bytes k) (here_of s) c
+  here_child : (s : Site C) (c : ℕ) → Knows number a h (key_bytes k) s (Below c) → ChildOf number a h (key_bytes k) (here_of s) c
   here_child s c m = record {
     fitted = m.fitted;
     byte = m.byte;
@@ -112,7 +112,7 @@ module _ {C V : Type 0} (number : C → ℕ) (same : V → V → Bool) (always :
     fresh = fresh_map a h (number s.at.node) s.at.version _ _ (λ z. (z.child, z.count, z.form)) m.fresh;
   }
 
-  pub far_above : (p : Option (Over C)) (n : ℕ) → IsAbove number a h (key_bytes k) p n → IsFar number a h (key_bytes k) (near_of p) n
+  far_above : (p : Option (Over C)) (n : ℕ) → IsAbove number a h (key_bytes k) p n → IsFar number a h (key_bytes k) (near_of p) n
   far_above None n m = m
   far_above (Some u) n m = m.0
 

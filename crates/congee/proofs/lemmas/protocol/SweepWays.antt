@@ -69,7 +69,7 @@ module _ {C : Type 0} where
 
 module _ {C V : Type 0} (start end : ℕ) where
   -- with one map more
-  pub gap_later : (m : FinMap nat_cmp V) (states : List (FinMap nat_cmp V)) (r : Rung C) (x : Region) → Gap start end states r x → Gap start end (m ∷ states) r x
+  gap_later : (m : FinMap nat_cmp V) (states : List (FinMap nat_cmp V)) (r : Rung C) (x : Region) → Gap start end states r x → Gap start end (m ∷ states) r x
   gap_later m states r x g = record { inside = g.inside; aim = g.aim; lacked = λ k lo hi a b. inr (g.lacked k lo hi a b) }
 
   leads_later : (m : FinMap nat_cmp V) (states : List (FinMap nat_cmp V)) (r : Rung C) (rest : List (Rung C)) (x : Region) → LeadsOn start end states r rest x → LeadsOn start end (m ∷ states) r rest x

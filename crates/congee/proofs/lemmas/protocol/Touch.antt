@@ -211,7 +211,7 @@ module _ {V : Type 0} (i : ℕ) (a : ℕ → Note) (h : ℕ → Node V) (a' : �
   }
 
 -- what a lock word tells
-pub taken_free : {V : Type 0} (n : Node V) (v : ℕ) → is_taken n v ≡ true → is_free n ≡ true
+taken_free : {V : Type 0} (n : Node V) (v : ℕ) → is_taken n v ≡ true → is_free n ≡ true
 taken_free n v t = (both_true (n.version == v) (is_free n) t).1
 
 -- the word of a locked node is none that was taken

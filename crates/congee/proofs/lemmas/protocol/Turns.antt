@@ -283,7 +283,7 @@ module _ {C V : Type 0} (number : C → ℕ) (same : V → V → Bool) (always :
       (w.0, w.1, w.2, w.3, chain_more h0 ms0 (map flight ms0) m ss ds h ms r.1 r.0 s d h' ms' w.1 w.0 r.4 w.2 w.3 (next_weaker number same always most near (why h) h ms (slice_get ms s.who) s d h' ms' f q.next) w.4)
 
   -- one step more
-  pub plays_more : (near : NodeType → Refusal → Type 0) (h0 : ℕ → Node V) (ms0 : List (Machine C V)) (ss : List (Step C V)) (ds : List (Move V)) (h : ℕ → Node V) (ms : List (Machine C V)) (s : Step C V) (d : Move V) (h' : ℕ → Node V) (ms' : List (Machine C V))
+  plays_more : (near : NodeType → Refusal → Type 0) (h0 : ℕ → Node V) (ms0 : List (Machine C V)) (ss : List (Step C V)) (ds : List (Move V)) (h : ℕ → Node V) (ms : List (Machine C V)) (s : Step C V) (d : Move V) (h' : ℕ → Node V) (ms' : List (Machine C V))
       → ((form : NodeType) (e : Refusal) → near form e → why h form e) → Plays number same always most why h0 ms0 ss ds h ms → StepPlays number same always most near h ms s d h' ms' → Plays number same always most why h0 ms0 (ss ++ s ∷ []) (ds ++ d ∷ []) h' ms'
   plays_more near h0 ms0 ss ds h ms s d h' ms' f p q = record {
     protocol = q.protocol;

@@ -107,7 +107,7 @@ module _ {C V : Type 0} (same : V → V → Bool) (k : ℕ) (kind : Kind V) (v v
       let rr : r ≡ x.0 = cc in
       (y.next, y.stands, (y.call, x.0, subst P (sym o) y.is_call, heeds same k kind v (get m k) y.call q r y.is_call (y.reply ∙ sym rr) fa, y.answer, f ∙ ap Decided rr))
 
-  pub from_shape : (t : NextPhase C V) → StepShape k kind v v1 v' q t → StepAnswers same k kind v h t h' → Out t
+  from_shape : (t : NextPhase C V) → StepShape k kind v v1 v' q t → StepAnswers same k kind v h t h' → Out t
   from_shape t (GoesOn st q' e f c) = subst Then (sym e) (λ x. (m, standing_same h h' m x s, ((q', c, f), refl)))
   from_shape t (Skips st q' e f c) = subst Then (sym e) (λ x. (m, standing_same h h' m x s, ((q', c, f), refl)))
   from_shape t (Wonders st o e w f) = subst Then (sym e) (λ x. (m, standing_same h h' m x s, ((w, f), refl)))

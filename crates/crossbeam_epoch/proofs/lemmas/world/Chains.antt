@@ -81,7 +81,7 @@ nothing_first [] ys none = refl
 nothing_first (x ∷ xs) ys none = absurd (cc none)
 
 -- the second of two lists that have nothing together has nothing
-pub nothing_last : {B : Type 0} (xs ys : List B) → xs ++ ys ≡ [] → ys ≡ []
+nothing_last : {B : Type 0} (xs ys : List B) → xs ++ ys ≡ [] → ys ≡ []
 nothing_last [] ys none = none
 nothing_last (x ∷ xs) ys none = absurd (cc none)
 

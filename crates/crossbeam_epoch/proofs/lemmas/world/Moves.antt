@@ -351,7 +351,7 @@ module _ {T J : Type 0} where
   due_front : (s : State T J) (answered : ℕ) → is_due s answered ≡ true → (0 < length s.queue) × ((slice_index_or s.queue 0 no_bag).seal + s.limits.expiry ≤ answered)
   due_front s answered due = (grind (arith, nat_tests), grind (arith, nat_tests))
 
-  pub fits_taken : (h : List Mark) (s : State T J) (who answered bags : ℕ) → who < length s.table → (place s who).phase ≡ Take answered bags → is_due s answered ≡ true → Fits h s → Fits h (taken s who answered bags)
+  fits_taken : (h : List Mark) (s : State T J) (who answered bags : ℕ) → who < length s.table → (place s who).phase ≡ Take answered bags → is_due s answered ≡ true → Fits h s → Fits h (taken s who answered bags)
   fits_taken h s who answered bags in_table is due f =
       let past : answered ≤ s.epoch = rw is at (f.places who).phase in
       let none : (place s who).hand ≡ [] = rw is at (f.places who).spare in

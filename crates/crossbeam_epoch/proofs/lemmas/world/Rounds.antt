@@ -478,7 +478,7 @@ module _ {T J : Type 0} where
       by true e = (quiet.idle q e, quiet.unpinned q e)
       by false e = let is = table.free q e in (ap (λ (p : Participant J). p.phase) is, ap (λ (p : Participant J). p.word) is)
 
-  pub quiet_round : (s s' : State T J) (who : ℕ) (h : List Mark) → Fits h s → IsTable s.limits.participants s.table → Orderly s → IsSealing s → IsQuiet s → (r : IsRound s who s') → IsRounded s who s' r
+  quiet_round : (s s' : State T J) (who : ℕ) (h : List Mark) → Fits h s → IsTable s.limits.participants s.table → Orderly s → IsSealing s → IsQuiet s → (r : IsRound s who s') → IsRounded s who s' r
   quiet_round s s' who h f table o i quiet r = round s s' who h f o i (λ q. (all_idle s table quiet q).1) r
 
   pub quiet_advances : (s s' : State T J) (who : ℕ) (h : List Mark) → Fits h s → IsTable s.limits.participants s.table → Orderly s → IsSealing s → IsQuiet s → IsRound s who s' → s'.epoch ≡ s.epoch + 1

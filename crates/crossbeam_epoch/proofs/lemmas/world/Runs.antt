@@ -59,7 +59,7 @@ no_quiet next None e = refl
 no_quiet next (Some f) e = absurd (cc e)
 
 -- where a removal has no fault, its deferral has none
-pub no_destroy_fault : (b : Bool) (x : Option Fault) → (if b then x else Some F.Unknown) ≡ None → x ≡ None
+no_destroy_fault : (b : Bool) (x : Option Fault) → (if b then x else Some F.Unknown) ≡ None → x ≡ None
 no_destroy_fault true x e = e
 no_destroy_fault false x e = absurd (cc e)
 

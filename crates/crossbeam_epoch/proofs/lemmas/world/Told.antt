@@ -89,14 +89,14 @@ apart j n ge ne = elim (cases_lt n j) [ inl lt ↦ lt | inr le ↦ absurd (ne (o
 
 module _ {T : Type 0} where
   -- whether a name isn't destroyed
-  abbrev pub lives : Store T → Name → Bool
+  abbrev lives : Store T → Name → Bool
   lives st n = is_some (value_at st n)
 
   same_ends : {A : Type 0} (st st' : Store T) (n : Name) → st' ≡ st → lives st n ≡ true → lives st' n ≡ false → A
   same_ends st st' n is live gone = absurd (cc (live, ap (λ (x : Store T). lives x n) is, gone))
 
   -- a cell that is emptied takes one name with it
-  pub emptied_gone : (st : Store T) (name n : Name) → is_some (value_at st name) ≡ true → is_some (value_at st n) ≡ true → is_some (value_at (emptied st name.cell) n) ≡ false → name ≡ n
+  emptied_gone : (st : Store T) (name n : Name) → is_some (value_at st name) ≡ true → is_some (value_at st n) ≡ true → is_some (value_at (emptied st name.cell) n) ≡ false → name ≡ n
   emptied_gone st name n stood live gone = elim (cases_eq n.cell name.cell) [
     | inl is ↦
         let a = turn_of (cell_at st name.cell) name.turn stood in
@@ -361,7 +361,7 @@ module _ {T J : Type 0} where
   tells_replaced names s v st name x (Ok y) is on back = at_store names s v Quiet (replaced v.store name.cell x) st is on.1 (replaced_told names v name.cell x)
   tells_replaced names s v st name x (Err y) is on back = at_store names s v Quiet v.store st is back.2 (still_told names v)
 
-  pub opened_told : {E : Type 0} (names : T → List Name) (limits : Limits) (roots : ℕ) (r : Result (State T J) E) → IfOk r (λ s. s ≡ opened limits roots) → IfOk r (λ s. limits.expiry ≡ 2 → HasMoments names (moment names Quiet s ∷ []) s)
+  opened_told : {E : Type 0} (names : T → List Name) (limits : Limits) (roots : ℕ) (r : Result (State T J) E) → IfOk r (λ s. s ≡ opened limits roots) → IfOk r (λ s. limits.expiry ≡ 2 → HasMoments names (moment names Quiet s ∷ []) s)
   opened_told names limits roots (Ok s) is = λ two. tells_opened names limits roots s is two
   opened_told names limits roots (Err e) is = tt
 
