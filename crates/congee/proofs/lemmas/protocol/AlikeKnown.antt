@@ -47,6 +47,7 @@ module _ {C V : Type 0} (number : C → ℕ) (same : V → V → Bool) (always :
   holds_for (GrowLink c leaf byte) n p b d l z = inner_holds a h n t d.linked z.1
   holds_for _ n p b d l z = tt
 
+  -- of a call before its change of two nodes, a leaf that gives way holds values, and an inner node nodes
   pub holds_right : (p : Phase C V) → Known number same always i a h k key kind given p → HoldsRight number h p
   holds_right (ChangeTwo two r) x =
       let e : TwoLocked number i a h key two x.0 x.1 = x.2 in
@@ -95,6 +96,7 @@ others_alike number same always order order' i j a a' h h' m q ne l e k x =
 
 -- over a destruction of nodes that no call names
 module _ {C V : Type 0} (number : C → ℕ) (order : List ℕ) (h h' : ℕ → Node V) (ms : List (Machine C V)) (d : Destroys number h ms h') where
+  -- a call that was the same by numbers is so after nodes that no call names were destroyed
   pub spared_call : (i : ℕ) (m : Machine C V) (q : Machine ℕ V) → slice_get ms i ≡ Some m → CallAlike order number h m q → CallAlike order number h' m q
   spared_call i m q at x = call_later order order number (λ n c e. e) h h' m q (spared_phase order order number (λ n c e. e) h h' m.phase (d.named i m at)) x
 
@@ -104,6 +106,7 @@ module _ {C V : Type 0} (number : C → ℕ) (order : List ℕ) (h h' : ℕ → 
     | inr l ↦ absurd (let a : (h' c).destroyed ≡ true = l.destroyed in let b : (h' c).destroyed ≡ false = s.kept in cc)
   ]
 
+  -- nodes that were alike on both sides are so after nodes that no call names were destroyed
   pub spared_heap : (g : ℕ → Node V) → HeapAlike order h g → HeapAlike order h' g
   spared_heap g x n c e s =
       let same : h' c ≡ h c = stands_still c s in
@@ -119,6 +122,7 @@ module _ {C V : Type 0} (number : C → ℕ) (order : List ℕ) (h h' : ℕ → 
       | inr l ↦ was c l.handed
     ]
 
+    -- the order has each made node once after some were destroyed, where what was handed over had been made
     pub spared_order : Ordered order h → Ordered order h'
     spared_order o = record {
       made = λ n c e. elim (d.each c) [

@@ -278,11 +278,14 @@ spared_notes number a h ms h' d n = note_after (a n) (h n) (h' n) (d.each n)
 
 module _ {C V : Type 0} (number : C → ℕ) (same : V → V → Bool) (always : Bool) (a : ℕ → Note) (h : ℕ → Node V) (ms : List (Machine C V)) (h' : ℕ → Node V)
     (p : ProtocolAt number same always a h ms) (s : Holdings number a h ms) (d : Destroys number h ms h') where
+  -- over the destruction a call may count on each node that is as it was
   pub spared_rely : (i : ℕ) → Rely (λ n. h' n ≡ h n) i a h (spared_notes number a h ms h' d) h'
   spared_rely i = rely number same always a h ms (spared_notes number a h ms h' d) h' p s d (λ n. fate_after (a n) (h n) (h' n) (d.each n)) i
 
+  -- each node that a call names is as it was
   pub spared_named : (i : ℕ) (m : Machine C V) → slice_get ms i ≡ Some m → Each (λ n. h' n ≡ h n) (names number m.phase)
   spared_named i m e = named number same always a h ms (spared_notes number a h ms h' d) h' p s d (λ n. fate_after (a n) (h n) (h' n) (d.each n)) i m e
 
+  -- each node of the tree is as it was
   pub spared_linked : (n : ℕ) → (a n).status ≡ Linked → h' n ≡ h n
   spared_linked n l = (linked_stays number same always a h ms (spared_notes number a h ms h' d) h' p s d (λ n. fate_after (a n) (h n) (h' n) (d.each n)) n l).0

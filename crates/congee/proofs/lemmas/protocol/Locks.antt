@@ -128,6 +128,7 @@ module _ {C V : Type 0} (number : C → ℕ) (same : V → V → Bool) (always :
   still_kept : (a' : ℕ → Note) (h' : ℕ → Node V) (s : Phase C V) → KeepsMap i a h a' h' → Known number same always i a' h' k (key_bytes k) kind given s → Kept number same always i a h k kind given given (quiet s) h'
   still_kept a' h' s e m = record { notes = a'; effect = e.effect; sound = record { known = m; answer = e.map } }
 
+  -- once its one node is locked, a call knows what its change of it wants
   pub lock_one : (one : One C) (r : Reply V) (h' : ℕ → Node V) → Known number same always i a h k (key_bytes k) kind given (UpgradeOne one r) → is_taken (h (number one.at.node)) one.at.version ≡ true
       → SameBut h (number one.at.node) (record (h (number one.at.node)) { locked = true }) h' → Kept number same always i a h k kind given given (quiet (ChangeOne one r)) h'
   lock_one one r h' m q g =
@@ -156,9 +157,11 @@ module _ {C V : Type 0} (number : C → ℕ) (same : V → V → Bool) (always :
   pub above_longer : (p : Parent C) (m : ℕ) → AboveLocked number i a h (key_bytes k) p m → length (h (number p.seat.node)).prefix < length (h m).prefix
   above_longer p m x = (t.down (number p.seat.node) _ m x.holding.linked x.child).longer
 
+  -- a node of a shorter prefix is another node
   pub by_prefix : (x y : ℕ) → length (h x).prefix < length (h y).prefix → x ≢ y
   by_prefix x y l e = let z : length (h x).prefix ≡ length (h y).prefix = ap (λ b. length (h b).prefix) e in absurd (omega (arith, l))
 
+  -- once the node above both is locked, a call knows what the lock of the upper one wants
   pub lock_top : (top : Parent C) (two : Two C) (r : Reply V) (h' : ℕ → Node V) → Known number same always i a h k (key_bytes k) kind given (UpgradeTop top two r) → is_taken (h (number top.seat.node)) top.seat.version ≡ true
       → SameBut h (number top.seat.node) (record (h (number top.seat.node)) { locked = true }) h' → Kept number same always i a h k kind given given (quiet (UpgradeAbove (record two { top = Some top }) r)) h'
   lock_top top two r h' m q g =
@@ -196,6 +199,7 @@ module _ {C V : Type 0} (number : C → ℕ) (same : V → V → Bool) (always :
         ),
       )
 
+  -- once the upper node is locked, a call knows what the lock of the lower one wants
   pub lock_above : (two : Two C) (r : Reply V) (h' : ℕ → Node V) → Known number same always i a h k (key_bytes k) kind given (UpgradeAbove two r) → is_taken (h (number two.above.seat.node)) two.above.seat.version ≡ true
       → SameBut h (number two.above.seat.node) (record (h (number two.above.seat.node)) { locked = true }) h' → Kept number same always i a h k kind given given (quiet (UpgradeBelow two r)) h'
   lock_above two r h' m q g =
@@ -239,6 +243,7 @@ module _ {C V : Type 0} (number : C → ℕ) (same : V → V → Bool) (always :
       let c : IsChild a h p (get_or (key_bytes k) (length (h p).prefix) 0) n = t.down p _ n l e in
       let z : length (h p).prefix ≡ length (h n).prefix = ap (λ y. length (h y).prefix) q in absurd (omega (arith, c.longer))
 
+  -- once both nodes are locked, a call knows what its change of them wants
   pub lock_both : (two : Two C) (r : Reply V) (h' : ℕ → Node V) → Known number same always i a h k (key_bytes k) kind given (UpgradeBelow two r) → is_taken (h (number two.at.node)) two.at.version ≡ true
       → SameBut h (number two.at.node) (record (h (number two.at.node)) { locked = true }) h' → Kept number same always i a h k kind given given (quiet (ChangeTwo two r)) h'
   lock_both two r h' m q g =
@@ -287,11 +292,13 @@ module _ {C V : Type 0} (number : C → ℕ) (same : V → V → Bool) (always :
   out_on a' h' n None nodes notes x = tt
   out_on a' h' n (Some c) nodes notes x = (rw (notes (number c) x.3) x.0, rw (notes (number c) x.3) x.1, rw (nodes (number c) x.3) x.2, x.3)
 
+  -- once a node that it took out is marked, a call knows what handing it over wants
   pub marked : (n : C) (next : Option C) (p : C) (r : Reply V) (h' : ℕ → Node V) → Known number same always i a h k (key_bytes k) kind given (Obsolete n next p r) → ObsoleteGives h (number n) h'
       → Kept number same always i a h k kind given given (quiet (Retire n next p r)) h'
   marked n next p r h' m g = still_kept a h' (Retire n next p r) (obsolete_still i a h (number p) (number n) h' t w m.0 g)
       (record { above = m.0.above; owner = m.0.owner; gone = m.0.gone; unretired = rw g.after m.0.unretired }, out_on a h' (number n) next g.others (λ x _. refl) m.1, rw g.after refl)
 
+  -- once a node is handed over, a call knows what marking the next one wants, or letting the last lock go
   pub handed_over : (n : C) (next : Option C) (p : C) (r : Reply V) (h' : ℕ → Node V) → Known number same always i a h k (key_bytes k) kind given (Retire n next p r) → RetireGives h (number n) h'
       → Kept number same always i a h k kind given given (after_retire next p r) h'
   handed_over n next p r h' m g =
@@ -306,16 +313,19 @@ module _ {C V : Type 0} (number : C → ℕ) (same : V → V → Bool) (always :
       by_next None e held o = still_kept (own a (number n) None) h' (Unlock p r) e held
       by_next (Some c) e held o = still_kept (own a (number n) None) h' (Obsolete c None p r) e (record { above = held; owner = o.0; gone = o.1; unretired = o.2 }, tt)
 
+  -- once the lower node is unlocked, a call still holds the upper one
   pub unlocked_below : (n p : C) (r : Reply V) (h' : ℕ → Node V) → Known number same always i a h k (key_bytes k) kind given (UnlockBelow n p r) → UnlockGives h (number n) h' → Kept number same always i a h k kind given given (quiet (Unlock p r)) h'
   unlocked_below n p r h' m g =
       let np : own a (number n) None (number p) ≡ a (number p) = noted_other a (number n) _ (number p) (λ e. m.2 (sym e)) in
       still_kept (own a (number n) None) h' (Unlock p r) (unlock_still i a h (number n) h' t w m.0 g) (record { owner = rw np m.1.owner; linked = rw np m.1.linked })
 
+  -- a call that lets its last lock go has ended, and the map is as it was
   pub unlocked_last : (n : C) (r : Reply V) (h' : ℕ → Node V) → Known number same always i a h k (key_bytes k) kind given (Unlock n r) → UnlockGives h (number n) h' → Kept number same always i a h k kind given given (finished r) h'
   unlocked_last n r h' m g =
       let e : KeepsMap i a h (own a (number n) None) h' = unlock_still i a h (number n) h' t w m g in
       record { notes = own a (number n) None; effect = e.effect; sound = record { known = tt; answer = e.map } }
 
+  -- once a lock of a given-up attempt is let go, the map is as it was, and a call knows what comes next wants
   pub unwinds : (root : C) → number root ≡ 0 → (n : C) (next : Option C) (refusal : Option Refusal) (h' : ℕ → Node V) → Known number same always i a h k (key_bytes k) kind given (Unwind n next refusal) → UnlockGives h (number n) h'
       → Kept number same always i a h k kind given given (after_unwind root next refusal) h'
   unwinds root z n (Some c) refusal h' m g =

@@ -37,6 +37,7 @@ rely_still K i a h = record {
 }
 
 module _ {C V : Type 0} (number : C → ℕ) (key : List ℕ) (K : ℕ → Type 0) (i : ℕ) (a : ℕ → Note) (h : ℕ → Node V) (a' : ℕ → Note) (h' : ℕ → Node V) (r : Rely K i a h a' h') where
+  -- that a node was read in the one above stays known over the steps of others
   pub child_kept : (p : Parent C) (n : ℕ) → K (number p.seat.node) → ChildOf number a h key p n → ChildOf number a' h' key p n
   child_kept p n k c = record {
     fitted = fits_kept K i a h a' h' r (number p.seat.node) key true k c.fresh.seated.published c.fitted;
@@ -50,10 +51,12 @@ module _ {C V : Type 0} (number : C → ℕ) (key : List ℕ) (K : ℕ → Type 
   far_kept None n k e = e
   far_kept (Some p) n k c = child_kept p n k.0 c
 
+  -- what is known of the nodes above one stays known over the steps of others
   pub above_kept : (p : Option (Over C)) (n : ℕ) → Each K (names_over number p) → IsAbove number a h key p n → IsAbove number a' h' key p n
   above_kept None n k e = e
   above_kept (Some u) n k c = (child_kept u.near n k.0 c.0, far_kept u.far (number u.near.seat.node) k.1 c.1)
 
+  -- what is known of the node at hand, and of what hangs there, stays known over the steps of others
   pub knows_kept : (s : Site C) (x : Hung V) → Each K (names_over number s.above) → K (number s.at.node) → Knows number a h key s x → Knows number a' h' key s x
   knows_kept s x ka k w =
       let e : (h' (number s.at.node)).prefix ≡ (h (number s.at.node)).prefix = r.prefix (number s.at.node) k w.fresh.seated.published in
