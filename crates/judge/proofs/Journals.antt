@@ -13,6 +13,7 @@ module _ {P : Type 0} (same : P → P → Bool) where
   Legal-append m between n [] ys is rest = subst (λ x. Legal same x ys n) (sym is) rest
   Legal-append m between n (x ∷ xs) ys is rest = (is.0, Legal-append (answer same m x.call).1 between n xs ys is.1 rest)
 
+  -- legal entries, and one more that the map answers, are legal
   pub Legal-push : (m between n : Pairs P) (xs : List (Entry P)) (e : Entry P) → Legal same m xs between → Answers same between e n → Legal same m (xs ++ e ∷ []) n
   Legal-push m between n xs e is step = Legal-append m between n xs (e ∷ []) is (ap (λ p. p.0) step, ap (λ p. p.1) step)
 
@@ -51,6 +52,7 @@ module _ {P : Type 0} (same : P → P → Bool) where
   legal_up_to : (p q : ℕ) (es : List (Entry P)) → p ≤ q → IsLegal same (take q es) → IsLegal same (take p es)
   legal_up_to p q es below is = subst (IsLegal same) (take-take p q es below) (IsLegal-take p (take q es) is)
 
+  -- a journal is wrong at an entry whose reply isn't the map's, where those before it are legal
   pub wrong_at : (n : Pairs P) (es : List (Entry P)) (i : ℕ) (d : Entry P) (r : Reply P) → i < length es → Legal same empty (take i es) n → r ≡ (answer same n (get_or es i d).call).0 → (r ≡ (get_or es i d).reply → ⊥) → IsWrongAt same es i
   wrong_at n es i d r room is reply other =
       ((n, is), λ all. not_legal_after empty n (take i es) (get_or es i d) is (λ told. other (reply ∙ told)) all.0 (subst (λ xs. Legal same empty xs all.0) (take_more es i d room) all.1))

@@ -201,9 +201,11 @@ called w op closure s s' told g =
     }
 
 module _ (w : ℕ) (op : Op ℕ) (closure : Option Closure) (s s' : OpenTree) (told : Outcome ℕ) (c : Called w op closure s s' told) where
+  -- the call's first step, as the tree took it
   abbrev pub first_of : Taken ℕ
   first_of = record { step = record { worker = w; event = Begin op }; report = c.report; after = c.mid.world }
 
+  -- the last question of the call that was answered, with its answer
   abbrev pub last_of : Last ℕ
   last_of = answered_after c.report.outcome None c.rest.steps
 

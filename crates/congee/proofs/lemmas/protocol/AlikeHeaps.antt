@@ -77,7 +77,7 @@ module _ {V : Type 0} (order : List ℕ) (h : ℕ → Node V) (g : ℕ → Node 
     ];
   }
 
-  -- both sides are alike after one node changed, where the new node is given by numbers too
+  -- both sides are alike after one node changed, into two that are alike
   pub touched : (c n : ℕ) (h' : ℕ → Node V) (y : Node V) → slice_get order n ≡ Some c → ((m : ℕ) → m ≢ c → h' m ≡ h m)
       → (Stands (h' c) → NodeAlike order (h' c) y) → (h' c).made ≡ (h c).made → (Stands (h' c) → Stands (h c)) → Pair order h h' (put g n y)
   touched c n h' y at others here made stood =
@@ -268,14 +268,14 @@ module _ {V : Type 0} (order : List ℕ) (h : ℕ → Node V) (g : ℕ → Node 
   made_here : (h' m).made ≡ (put h c (h' c) m).made
   made_here = k.made_old ∙ ap (λ z. z.made) (sym here)
 
-  -- both sides are alike after a node of inner nodes was copied into a new one, and the old one keeps its children
+  -- both sides are alike after a node's children, all of them nodes, were copied into another one
   pub pair_copied : HoldsNodes (h m) → Pair order h h' (copy g mn cn)
   pair_copied n =
       let Q : Node V → Type 0 = λ z. NodeAlike order (h' m) z in
       pair_then order h (put h c (h' c)) h' (copy g mn cn) first.made first.stands (changed order (put h c (h' c)) (copy g mn cn) (ordered_still order h (put h c (h' c)) first.made o) first.alike m mn h' (copy g mn cn) am
       (over_others order h g o x m c h' k) (λ z e. refl) (λ t. subst Q (sym there) (left_nodes order h g o x m c h' (g mn) k n (x mn m am sm))) made_here (λ t. stands_here))
 
-  -- both sides are alike after a leaf's values went into a new node, and the old one has none
+  -- both sides are alike after a node's children, all of them values, were moved into another one
   pub pair_cleared : HoldsValues (h m) → Pair order h h' (clear (copy g mn cn) mn)
   pair_cleared n =
       let y : Node V → Node V = λ z. record z { children = λ b. Nothing; count = 0 } in

@@ -47,7 +47,7 @@ module _ {C V : Type 0} (number : C → ℕ) (same : V → V → Bool) (always :
   holds_for (GrowLink c leaf byte) n p b d l z = inner_holds a h n t d.linked z.1
   holds_for _ n p b d l z = tt
 
-  -- of a call before its change of two nodes, a leaf that gives way holds values, and an inner node nodes
+  -- a call that knows what its phase says has the right children where its change of two nodes takes them over
   pub holds_right : (p : Phase C V) → Known number same always i a h k key kind given p → HoldsRight number h p
   holds_right (ChangeTwo two r) x =
       let e : TwoLocked number i a h key two x.0 x.1 = x.2 in

@@ -306,7 +306,7 @@ module _ {C V : Type 0} (order : List ℕ) (number : C → ℕ) (h : ℕ → Nod
       (decided_alike (Obsolete two.at.node (Some two.above.seat.node) top.seat.node r) (Obsolete u.at.node (Some u.above.seat.node) a.0.seat.node r)
       (u.at.node, Some u.above.seat.node, a.0.seat.node, refl, x.at.node, (u.above.seat.node, refl, x.above.seat.node), a.2.seat.node))
 
-  -- the node above both is the same made node on both sides, or there is none on either
+  -- the name of the node above both is the same on both sides, or neither has one
   pub node_alike : (top : Option (Parent C)) (o : Option (Parent ℕ)) → TopAlike order number top o → MadeAlike order number (node_of top) (node_of o)
   node_alike None o a = ap node_of a
   node_alike (Some top) o a = (a.0.seat.node, ap node_of a.1, a.2.seat.node)
@@ -317,7 +317,7 @@ module _ {C V : Type 0} (order : List ℕ) (number : C → ℕ) (h : ℕ → Nod
   retired_alike (Some c) o p q r a y =
       alike_to _ (after_retire (Some a.0) q r) _ (ap (λ z. after_retire z q r) a.1) (quiet_alike (Obsolete c None p r) (Obsolete a.0 None q r) (a.0, None, q, refl, a.2, refl, y))
 
-  -- after a change of two nodes both sides take the same nodes out, or unlock the same
+  -- after a change of two nodes both sides mark the same node next, or unlock the same one
   pub change_alike : (two : Two C) (u : Two ℕ) (r : Reply V) → TwoAlike order number two u → (d : Double C) (y : Double ℕ) → DoubleAlike order number d y → Alike (after_change two r d) (after_change u r y)
   change_alike two u r x (Shrink c) y e = alike_to _ (after_change u r (Shrink e.0)) _ (ap (after_change u r) e.1) (out two u r x)
   change_alike two u r x Collapse y e = alike_to _ (after_change u r Collapse) _ (ap (after_change u r) e) (top_alike two u r x two.top u.top x.top)

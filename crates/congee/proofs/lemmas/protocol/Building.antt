@@ -81,7 +81,7 @@ module _ {C V : Type 0} (number : C → ℕ) (same : V → V → Bool) (always :
   seated_after : (a' : ℕ → Note) (h' : ℕ → Node V) → Effect i a h a' h' → (n v : ℕ) → Seated a h n v → Seated a' h' n v
   seated_after a' h' e n v m = seated_kept (λ _. Unit {0}) (suc i) a h a' h' (own_rely i a h a' h' e) n v tt m
 
-  -- once its leaf was made or refused, a call knows what comes next wants
+  -- once its leaf was made or refused, a call knows what its next step wants
   pub leaf_made : (s : Site C) (turn : NextPhase C V) (h' : ℕ → Node V) (r : Result C Refusal) → Known number same always i a h k (key_bytes k) kind given (MakeLeaf s) → MadeLeaf number kind s h (key_bytes k) r h' turn
       → Kept number same always i a h k kind given given turn h'
   leaf_made s turn h' (Err e) m g = kept_at number same always i a h k kind given given _ turn h' g.1 (refused_back number same always i a h k kind given h' e (back_none i a h h' t w g.0))
@@ -136,7 +136,7 @@ module _ {C V : Type 0} (number : C → ℕ) (same : V → V → Bool) (always :
       let z : leaf ≡ d = cc in
       (made_before i a h (number c) form (key_bytes k) size h' g (number leaf) 7 0 l.1).0 (ap number z ∙ sym q)
 
-  -- once its greater node was made or refused, a call knows what comes next wants
+  -- once its greater node was made or refused, a call knows what its next step wants
   pub greater_made : (s : Site C) (p : Parent C) (leaf : Option C) (turn : NextPhase C V) (h' : ℕ → Node V) (r : Result C Refusal) → Known number same always i a h k (key_bytes k) kind given (MakeGreater s p leaf)
       → MadeGreater number kind s p leaf h (key_bytes k) r h' turn → Kept number same always i a h k kind given given turn h'
   greater_made s p None turn h' (Err e) m g = kept_at number same always i a h k kind given given _ turn h' g.1 (refused_back number same always i a h k kind given h' e (back_none i a h h' t w g.0))
@@ -155,7 +155,7 @@ module _ {C V : Type 0} (number : C → ℕ) (same : V → V → Bool) (always :
   byte_after : (a' : ℕ → Note) (h' : ℕ → Node V) → Effect i a h a' h' → (n common byte : ℕ) → is_published (a n).status ≡ true → byte ≡ get_or (h n).prefix common 0 → byte ≡ get_or (h' n).prefix common 0
   byte_after a' h' e n common byte pu q = let P : List ℕ → Type 0 = λ y. byte ≡ get_or y common 0 in subst P (sym ((own_rely i a h a' h' e).prefix n tt pu)) q
 
-  -- once the node where ways part was made or refused, a call knows what comes next wants
+  -- once the node where ways part was made or refused, a call knows what its next step wants
   pub top_made : (p : Parent C) (at : Stamp C) (common byte : ℕ) (turn : NextPhase C V) (h' : ℕ → Node V) (r : Result C Refusal) → Known number same always i a h k (key_bytes k) kind given (MakeTop p at common byte)
       → MadeTop number p at common byte h (key_bytes k) r h' turn → Kept number same always i a h k kind given given turn h'
   top_made p at common byte turn h' (Err e) m g = kept_at number same always i a h k kind given given _ turn h' g.1 (refused_back number same always i a h k kind given h' e (back_none i a h h' t w g.0))
@@ -178,7 +178,7 @@ module _ {C V : Type 0} (number : C → ℕ) (same : V → V → Bool) (always :
         };
       })
 
-  -- once the leaf beside was made or refused, a call knows what comes next wants
+  -- once the leaf beside was made or refused, a call knows what its next step wants
   pub beside_made : (p : Parent C) (at : Stamp C) (common byte : ℕ) (top : C) (turn : NextPhase C V) (h' : ℕ → Node V) (r : Result C Refusal) → Known number same always i a h k (key_bytes k) kind given (MakeBeside p at common byte top)
       → MadeBeside number kind p at common byte top h (key_bytes k) r h' turn → Kept number same always i a h k kind given given turn h'
   beside_made p at common byte top turn h' (Err e) m g = kept_at number same always i a h k kind given given _ turn h' g.1 (refused_back number same always i a h k kind given h' e (back_node i a h (key_bytes k) (number top) common 1 h' t w m.6 g.0))

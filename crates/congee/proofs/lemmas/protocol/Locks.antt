@@ -157,7 +157,7 @@ module _ {C V : Type 0} (number : C → ℕ) (same : V → V → Bool) (always :
   pub above_longer : (p : Parent C) (m : ℕ) → AboveLocked number i a h (key_bytes k) p m → length (h (number p.seat.node)).prefix < length (h m).prefix
   above_longer p m x = (t.down (number p.seat.node) _ m x.holding.linked x.child).longer
 
-  -- a node of a shorter prefix is another node
+  -- two nodes of which one has a shorter prefix are not one
   pub by_prefix : (x y : ℕ) → length (h x).prefix < length (h y).prefix → x ≢ y
   by_prefix x y l e = let z : length (h x).prefix ≡ length (h y).prefix = ap (λ b. length (h b).prefix) e in absurd (omega (arith, l))
 
@@ -325,7 +325,7 @@ module _ {C V : Type 0} (number : C → ℕ) (same : V → V → Bool) (always :
       let e : KeepsMap i a h (own a (number n) None) h' = unlock_still i a h (number n) h' t w m g in
       record { notes = own a (number n) None; effect = e.effect; sound = record { known = tt; answer = e.map } }
 
-  -- once a lock of a given-up attempt is let go, the map is as it was, and a call knows what comes next wants
+  -- once a lock of a given-up attempt is let go, the map is as it was, and a call knows what its next step wants
   pub unwinds : (root : C) → number root ≡ 0 → (n : C) (next : Option C) (refusal : Option Refusal) (h' : ℕ → Node V) → Known number same always i a h k (key_bytes k) kind given (Unwind n next refusal) → UnlockGives h (number n) h'
       → Kept number same always i a h k kind given given (after_unwind root next refusal) h'
   unwinds root z n (Some c) refusal h' m g =

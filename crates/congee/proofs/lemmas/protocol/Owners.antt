@@ -203,13 +203,13 @@ module _ {C V : Type 0} (number : C → ℕ) (same : V → V → Bool) (always :
   mine_is : (k : Machine C V) → slice_get ms i ≡ Some k → k ≡ m
   mine_is k g = let z : Some k ≡ Some m = sym g ∙ e in cc
 
-  -- a lock that the ledger gave the call before the step is one that its phase had
+  -- what the ledger had as locked by the call before the step, its phase had locked
   pub own_before : (n : ℕ) → (a n).owner ≡ Some i → LockedBy number m.phase n
   own_before n o =
       let x : (k : Machine C V) × (slice_get ms i ≡ Some k) × LockedBy number k.phase n = s.owned n i o in
       let P : Machine C V → Type 0 = λ y. LockedBy number y.phase n in subst P (mine_is x.0 x.1) x.2
 
-  -- a node that the ledger held for the call before the step is one that its phase had made
+  -- what the ledger had as held by the call before the step, its phase had made
   pub mine_before : (n : ℕ) → (a n).status ≡ Held i → MadeBy number m.phase n
   mine_before n o =
       let x : (k : Machine C V) × (slice_get ms i ≡ Some k) × MadeBy number k.phase n = s.held n i o in

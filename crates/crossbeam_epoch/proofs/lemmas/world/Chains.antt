@@ -183,6 +183,7 @@ module _ {B Q : Type 0} (items : Q → List B) where
     pub blocks_made : (first last block : Q) (between : List Q) → Blocks first between last → capacity block ≡ 32 → Blocks first between block
     blocks_made first last block between a made = record { filled = a.filled; alone = a.alone; gone = a.gone; whole = inr made; more = λ _. made }
 
+    -- behind a first block that has nothing the last one may be none
     pub blocks_none : (first last block : Q) (between : List Q) → Blocks first between last → items first ≡ [] → capacity block ≡ 0 → Blocks first between block
     blocks_none first last block between a none given = record { filled = a.filled; alone = a.alone; gone = a.gone; whole = inl given; more = λ some. absurd (some none) }
 
@@ -196,6 +197,7 @@ module _ {B Q : Type 0} (items : Q → List B) where
       more = λ _. made;
     }
 
+    -- behind a first block that has something, filled ones may stand between, and a made one last
     pub blocks_added : (first last block : Q) (between between' : List Q) → Blocks first between last → (items first ≡ [] → ⊥) → AreFilled len between' → capacity block ≡ 32 → Blocks first between' block
     blocks_added first last block between between' a some filled made = record {
       filled = filled;

@@ -41,6 +41,7 @@ module _ {J : Type 0} where
     ];
   }
 
+  -- a new table has its places, all blank
   pub table_new : (places : ℕ) → IsTable places (replicate places (blank {J = J}))
   table_new places = record {
     long = length-replicate places blank;
