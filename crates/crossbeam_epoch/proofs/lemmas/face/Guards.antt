@@ -90,7 +90,7 @@ two_behind : (s seal seen : ℕ) → s ≡ seal → seal + 2 ≤ seen → s + 2 
 two_behind s seal seen same now = omega (arith, same, now)
 
 -- the greatest seal of some bags and of one more is due where all are
-later_due : (seen seal : ℕ) (newest newest' : Option ℕ) → IsDue seen newest → seal + 2 ≤ seen
+pub later_due : (seen seal : ℕ) (newest newest' : Option ℕ) → IsDue seen newest → seal + 2 ≤ seen
     → (s : ℕ) × (newest' ≡ Some s) × (seal ≤ s) × IfSome newest (λ n. n ≤ s) × ((s ≡ seal) ⊎ (newest ≡ Some s)) → IsDue seen newest'
 later_due seen seal newest newest' due now told = subst (λ (n : Option ℕ). IsDue seen n) (sym told.1) (elim told.4 [
   | inl same ↦ two_behind told.0 seal seen same now
