@@ -129,7 +129,7 @@ module _ {C V : Type 0} (number : C → ℕ) (h h' : ℕ → Node V) where
   PlacesOne Set = Unit {0}
   PlacesOne (Link leaf) = (h' (number leaf)).capacity ≡ (h (number leaf)).capacity
 
-  -- those of a change of two nodes do
+  -- the made nodes of a change of two have as many places
   abbrev pub PlacesTwo : Double C → Type 0
   PlacesTwo Unlink = Unit {0}
   PlacesTwo Collapse = Unit {0}

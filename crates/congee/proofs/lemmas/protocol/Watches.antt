@@ -89,7 +89,7 @@ module _ {C V : Type 0} (same : V → V → Bool) (k : ℕ) (kind : Kind V) (v v
   abbrev pub Out : NextPhase C V → Type 0
   Out t = (m' : Pairs V) × IsMapOf h' m' × PendingMoves same k kind v1 q m t.report.decided t.report.outcome (flight_in k kind v' t.phase) m'
 
-  -- so it is where the turn answers as the map
+  -- some map stands after a turn that answers as the map, and it is one of a call that had not taken effect
   abbrev pub Then : NextPhase C V → Type 0
   Then t = StepAnswers same k kind v h t h' → Out t
 

@@ -48,7 +48,7 @@ module _ {T J : Type 0} where
         next = refl;
       })
 
-  -- a call whose next step isn't one that leaves it in flight is whole with that step
+  -- a call whose next step leaves it in flight no more is whole with that step
   pub call_ends : (s : State T J) (who : ℕ) (op : Op) (n most : ℕ) (newest : Option Report) (event : Event) (now new : State T J) (r : Report) → n < most → IsGoing s who op n newest event now → IsReport now who event r → new ≡ after now who event r.outcome → (r.outcome ≡ Running → ⊥)
       → (reports : List Report) × IsCall s who op most reports (Some r) new
   call_ends s who op n most newest event now new r lt g is on ended =
