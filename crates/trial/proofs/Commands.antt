@@ -134,7 +134,7 @@ lt_true : (n m : ℕ) → n < m → nat_lt n m ≡ true
 lt_true n m h = grind (arith, nat_tests)
 
 -- the words of a call are parsed as that call
-pub call_complete : (c : Call) → CallFits c → call_of (call_words c) ≡ Some c
+call_complete : (c : Call) → CallFits c → call_of (call_words c) ≡ Some c
 call_complete call.Pin h = refl
 call_complete call.Unpin h = refl
 call_complete call.Repin h = refl

@@ -39,7 +39,7 @@ lines_last b [] h = rw (false_from_unequal b 10 (not_feed b [] h)) refl
 lines_last b (c ∷ line) h = rw (false_from_unequal b 10 (not_feed b (c ∷ line) h)) (ap (onto_first b) (lines_last c line (unfed_rest b (c ∷ line) h)))
 
 -- the lines of bytes that begin with whole ones are these, and then those of the rest
-pub lines_fed : (before : List (List ℕ)) (rest : List ℕ) → AllByRecursion NoFeed before → lines_of (fed before ++ rest) ≡ before ++ lines_of rest
+lines_fed : (before : List (List ℕ)) (rest : List ℕ) → AllByRecursion NoFeed before → lines_of (fed before ++ rest) ≡ before ++ lines_of rest
 lines_fed [] rest h = refl
 lines_fed (l ∷ ls) rest h =
     ap lines_of (append_assoc l (10 ∷ fed ls) rest) ∙ lines_line l (fed ls ++ rest) h.0 ∙ ap (λ xs. l ∷ xs) (lines_fed ls rest h.1)
@@ -100,7 +100,7 @@ whole_lines : (had left held holds : Option (List ℕ)) (p : Program) → (g : G
 whole_lines had left held holds p g = record { rest = p.unread.items; whole = g.whole; feeds = g.feeds; unfed = g.unfed }
 
 -- the lines that were whole are answered
-pub reading_end : (had mid left held holds : Option (List ℕ)) (p : Program) → Going had mid held holds p → Keeps mid left → Ends had left held holds p end.Reading
+reading_end : (had mid left held holds : Option (List ℕ)) (p : Program) → Going had mid held holds p → Keeps mid left → Ends had left held holds p end.Reading
 reading_end None mid left held holds p g k = tt
 reading_end (Some input) mid left held holds p g k =
     (g.given, g.text, Consumes-kept (Some input) mid left g.given g.read k, (g.before, whole_lines (Some input) mid held holds p g, (p.script.session, g.answers)), g.passes)
@@ -185,7 +185,7 @@ up_to_bad input replies before after bad new n e a b m =
     (before, after, bad, replies, (e, (new, a)), b, ap (λ k. replies ++ bad_line_text (k + 1)) m)
 
 -- the writer took a front of what was due
-pub cut_short : (input : List ℕ) (left held holds holds' : Option (List ℕ)) (given text due out : List ℕ) → Consumes (Some input) left given → Passes held [] holds out text
+cut_short : (input : List ℕ) (left held holds holds' : Option (List ℕ)) (given text due out : List ℕ) → Consumes (Some input) left given → Passes held [] holds out text
     → Breaks holds out holds' due → SomeLines AreAnswered input (text ++ due) ⊎ UpToBad AreAnswered input (text ++ due) → Ran AreAnswered (Some input) left held holds' end.Writing
 cut_short input left held holds holds' given text due out c p b d =
     let all = breaks_last _ _ _ _ _ _ _ p b in

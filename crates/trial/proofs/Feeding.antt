@@ -22,7 +22,7 @@ pub record Reached (old : Script) (held : Option (List ℕ)) (bytes : List ℕ) 
   pub few : new.lines ≤ old.lines + start
 
 -- before the first byte no line was answered
-pub at_start : (old : Script) (held : Option (List ℕ)) (bytes : List ℕ) → Reached old held bytes 0 0 old held
+at_start : (old : Script) (held : Option (List ℕ)) (bytes : List ℕ) → Reached old held bytes 0 0 old held
 at_start old held bytes = record {
   goes = record { before = []; text = []; whole = refl; feeds = tt; answers = (refl, refl); passes = passes_none held old.output; lines = omega arith };
   below = omega arith;

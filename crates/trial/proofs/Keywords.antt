@@ -116,7 +116,7 @@ abbrev pub named : List ℕ → Option Keyword
 named bytes = find (λ k. bytes_eq (text_of k) bytes) all
 
 -- each keyword's text spells that keyword
-pub named_text : (k : Keyword) → named (text_of k) ≡ Some k
+named_text : (k : Keyword) → named (text_of k) ≡ Some k
 named_text key.New = refl
 named_text key.Limit = refl
 named_text key.Version = refl
@@ -188,7 +188,7 @@ begins_with_letter key.Waiting = lit< tt
 begins_with_letter key.Close = lit< tt
 
 -- no keyword's text is empty
-pub is_not_empty : (k : Keyword) → 0 < length (text_of k)
+is_not_empty : (k : Keyword) → 0 < length (text_of k)
 is_not_empty key.New = lit< tt
 is_not_empty key.Limit = lit< tt
 is_not_empty key.Version = lit< tt

@@ -229,7 +229,7 @@ call_at laws w call.Stats s s' r m b g a =
     (surveyed_at w survey.Stats op.Stats s g.1 s' g.0 m b g.2 x g.3.0, tt)
 
 -- nothing is open, or a tree with these pairs
-abbrev pub AtMap : Session → Pairs ℕ → Type 0
+abbrev AtMap : Session → Pairs ℕ → Type 0
 AtMap None m = m ≡ empty
 AtMap (Some s) m = At s m
 
@@ -353,7 +353,7 @@ answered_lines (bytes ∷ more) old new text h =
     answered_line h.3.0 bytes more old h.0 text h.1 h.2 h.3.1 h.3.2 h.5 (answered_lines more h.0 new h.2 h.4)
 
 -- what lines are replied to is the map's
-pub map_answers : MapLaws → (lines : List (List ℕ)) (new : Session) (text : List ℕ) → LinesAnswer None lines new text → MapAnswers lines text
+map_answers : MapLaws → (lines : List (List ℕ)) (new : Session) (text : List ℕ) → LinesAnswer None lines new text → MapAnswers lines text
 map_answers laws lines new text h =
     let x = answered_lines lines None new text h in
     record {
@@ -366,7 +366,7 @@ map_answers laws lines new text h =
     }
 
 -- what the lines of a script print is what they print as the map says, however the script ends
-pub prints_by : (A B : List (List ℕ) → List ℕ → Type 0) → ((lines : List (List ℕ)) (text : List ℕ) → A lines text → B lines text) → (input given : List ℕ) (e : End) (text : List ℕ)
+prints_by : (A B : List (List ℕ) → List ℕ → Type 0) → ((lines : List (List ℕ)) (text : List ℕ) → A lines text → B lines text) → (input given : List ℕ) (e : End) (text : List ℕ)
     → Prints A input given e text → Prints B input given e text
 prints_by A B f input given end.Done text p = (p.0, (p.1.0, f _ text p.1.1))
 prints_by A B f input given end.BadLine text p = (p.0, p.1, p.2, p.3, (p.4.0, f _ _ p.4.1), p.5, p.6)

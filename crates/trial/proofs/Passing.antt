@@ -14,7 +14,7 @@ pub passes_none : (had : Option (List ℕ)) (old : List ℕ) → Passes had old 
 passes_none had old = record { out = []; wrote = Appends-nil had; rest = append-nil old }
 
 -- a text that fits
-pub passes_within : (had : Option (List ℕ)) (old new text : List ℕ) → new ≡ old ++ text → Passes had old had new text
+passes_within : (had : Option (List ℕ)) (old new text : List ℕ) → new ≡ old ++ text → Passes had old had new text
 passes_within had old new text e = record { out = []; wrote = Appends-nil had; rest = sym e }
 
 -- a text that is held back alone

@@ -166,7 +166,7 @@ word_plain (Number n) p = digits_plain (decimal n) (decimal_is_IsNumeral n p).0.
 word_plain Other p = absurd p
 
 -- a line that is spelled by plain words splits into them
-pub split_spelling : (w : Word) (ws : List Word) → ArePlain (w ∷ ws) → slice_split is_space (spelling (w ∷ ws)) ≡ map spelled (w ∷ ws)
+split_spelling : (w : Word) (ws : List Word) → ArePlain (w ∷ ws) → slice_split is_space (spelling (w ∷ ws)) ≡ map spelled (w ∷ ws)
 split_spelling w [] p = slice_split_none is_space (spelled w) (word_plain w p.0)
 split_spelling w (v ∷ vs) p =
     slice_split_at is_space (spelled w) 32 (spelling (v ∷ vs)) (word_plain w p.0) refl ∙ ap (λ xs. spelled w ∷ xs) (split_spelling v vs p.1)

@@ -201,9 +201,11 @@ called w op closure s s' told g =
     }
 
 module _ (w : ℕ) (op : Op ℕ) (closure : Option Closure) (s s' : OpenTree) (told : Outcome ℕ) (c : Called w op closure s s' told) where
+  -- the call's first step, as the tree took it
   abbrev pub first_of : Taken ℕ
   first_of = record { step = record { worker = w; event = Begin op }; report = c.report; after = c.mid.world }
 
+  -- the last question of the call that was answered, with its answer
   abbrev pub last_of : Last ℕ
   last_of = answered_after c.report.outcome None c.rest.steps
 
@@ -223,7 +225,7 @@ rests_beside laws w op t closure m s s' told e b g =
     rests_after m s.world s'.world b c.holds (subst P e (plays_call w op closure s s' told c laws m b))
 
 -- a call's reply is no answer while the call is in flight
-pub no_answer_yet : (ps : List (ℕ × ℕ)) (o : Outcome ℕ) → is_running o ≡ true → IsAnswer (reply_of ps o) → ⊥
+no_answer_yet : (ps : List (ℕ × ℕ)) (o : Outcome ℕ) → is_running o ≡ true → IsAnswer (reply_of ps o) → ⊥
 no_answer_yet ps outcome.Running e a = a
 no_answer_yet ps (outcome.Asks found) e a = a
 no_answer_yet ps (outcome.Found place key value) e a = a

@@ -28,6 +28,7 @@ module _ {C V : Type 0} (number : C → ℕ) (same : V → V → Bool) (always :
   protocol_of : (a : ℕ → Note) (h : ℕ → Node V) (ms : List (Machine C V)) → ProtocolAt number same always a h ms → Protocol number same always h ms
   protocol_of a h ms p = record { notes = a; tree = p.tree; words = p.words; each = p.each }
 
+  -- a step that refuses no node and no copy leaves call and nodes the same as the step by numbers does
   pub step_alike : (most : ℕ) (why : NodeType → Refusal → Type 0) → ((form : NodeType) → why form refusal.Exhausted → ⊥) → (seen : Option (Seen Mark V)) (i : ℕ) (a : ℕ → Note) (h g h' : ℕ → Node V) (ms : List (Machine C V)) (m m' : Machine C V) (d : Move V)
       (fail : Bool) (answer : Option (Option V)) (order : List ℕ) (q : Machine ℕ V) (k : ℕ) → ProtocolAt number same always a h ms → slice_get ms i ≡ Some m → Stepped number same always most why m h fail answer m' h' d → IsUnrefused d.outcome → d.skipped ≡ false
       → Ordered order h → HeapAlike order h g → k ≡ length order → CallAlike order number h m q
@@ -68,5 +69,6 @@ module _ {C V : Type 0} (number : C → ℕ) where
   new_call order h root n (op.RangeInclusive start last size) e = new_scan order h root n start last (cond (leb start last) size 0)
   new_call order h root n _ e = refl
 
+  -- a call that has not begun is the same by numbers
   pub begun_alike : (order : List ℕ) (h : ℕ → Node V) (root : C) (n : ℕ) (o : Op V) → slice_get order n ≡ Some (number root) → CallAlike order number h (begun root o) (begun n o)
   begun_alike order h root n o e = record { root = e; key = refl; kind = refl; given = refl; phase = new_call order h root n o e }

@@ -71,6 +71,7 @@ module _ {C V : Type 0} (order : List ℕ) (number : C → ℕ) where
         next h h1 h' (back g na) (back (back g na) nb) o (pair_back order h g o x (number a) na h1 ea sa k)
         (λ o1 x1. pair_back order h1 (back g na) o1 x1 (number b) nb h' eb (stands_at (h1 (number b)) (h (number b)) (k.others (number b) ne) sb) k')
 
+    -- both sides are alike after the made nodes of a change of two nodes went back
     pub back_two_pair : (c : Double C) (y : Double ℕ) → DoubleAlike order number c y → MayBackTwo number h c → BackTwo number h c h' → Pair order h h' (back_two y g)
     back_two_pair Unlink y e may k = let P : Double ℕ → Type 0 = λ z. Pair order h h' (back_two z g) in subst P (sym e) (pair_same order h h' g k x)
     back_two_pair (Shrink c) y e may k = let P : Double ℕ → Type 0 = λ z. Pair order h h' (back_two z g) in subst P (sym e.1) (pair_back order h g o x (number c) e.0 h' e.2 may k)
@@ -209,6 +210,7 @@ module _ {C V : Type 0} (order : List ℕ) (number : C → ℕ) where
         (λ o3 x3. hung_above k.2 _ (Below (number top)) (Below m) o3 x3
         (stands_changed k.1 (number top) _ _ k.2 p k.5 (stands_changed k.0 (number top) _ _ k.1 p k.4 (stands_changed h (number leaf) _ _ k.0 p k.3 may.0.stands))) (m, refl, at) k.6)))
 
+    -- both sides are alike after the same change of two nodes
     pub change_two_pair : (new : Option V) (c : Double C) (y : Double ℕ) → DoubleAlike order number c y → HoldsFor c (h n) (h p) → MayChangeTwo number key new two c h → ChangedTwo number key new two c h h' → Pair order h h' (change_two key new u y g)
     change_two_pair new Unlink y d holds may k =
         let P : Double ℕ → Type 0 = λ z. Pair order h h' (change_two key new u z g) in

@@ -29,37 +29,42 @@ use Rattle.congee.specs.protocol.SweepSteps.{slots}
 use Rattle.congee.specs.protocol.Alike.{Named, SeatAlike, ParentAlike, TopAlike, OverAlike, AboveAlike, SeatedAlike, MadeAlike, SiteAlike, ReadAlike, SingleAlike, OneAlike, DoubleAlike, TwoAlike, PlanAlike, ChildAlike, SeesAlike, RungAlike, PlaceAlike, LeastAlike, IsTaken, StageAlike, ScanAlike, PhaseAlike, CallAlike}
 
 module _ {C : Type 0} (order order' : List ℕ) (number : C → ℕ) (f : (n c : ℕ) → slice_get order n ≡ Some c → slice_get order' n ≡ Some c) where
+  -- a name's number stays its number in the longer order
   pub named_later : (c : C) (n : ℕ) → Named order number c n → Named order' number c n
   named_later c n x = f n (number c) x
 
+  -- the same node at the same version stays so in the longer order
   pub seat_later : (s : Stamp C) (u : Stamp ℕ) → SeatAlike order number s u → SeatAlike order' number s u
   seat_later s u x = record { node = named_later s.node u.node x.node; version = x.version }
 
+  -- the same node above, with what was read there, stays the same in the longer order
   pub parent_later : (p : Parent C) (q : Parent ℕ) → ParentAlike order number p q → ParentAlike order' number p q
   parent_later p q x = record { seat = seat_later p.seat q.seat x.seat; byte = x.byte; depth = x.depth; count = x.count; form = x.form }
 
-  pub top_later : (p : Option (Parent C)) (q : Option (Parent ℕ)) → TopAlike order number p q → TopAlike order' number p q
+  top_later : (p : Option (Parent C)) (q : Option (Parent ℕ)) → TopAlike order number p q → TopAlike order' number p q
   top_later None q x = x
   top_later (Some p) q x = (x.0, x.1, parent_later p x.0 x.2)
 
   over_later : (u : Over C) (w : Over ℕ) → OverAlike order number u w → OverAlike order' number u w
   over_later u w x = record { near = parent_later u.near w.near x.near; far = top_later u.far w.far x.far }
 
-  pub above_later : (p : Option (Over C)) (q : Option (Over ℕ)) → AboveAlike order number p q → AboveAlike order' number p q
+  above_later : (p : Option (Over C)) (q : Option (Over ℕ)) → AboveAlike order number p q → AboveAlike order' number p q
   above_later None q x = x
   above_later (Some p) q x = (x.0, x.1, over_later p x.0 x.2)
 
-  pub seated_later : (p : Option (Stamp C)) (q : Option (Stamp ℕ)) → SeatedAlike order number p q → SeatedAlike order' number p q
+  seated_later : (p : Option (Stamp C)) (q : Option (Stamp ℕ)) → SeatedAlike order number p q → SeatedAlike order' number p q
   seated_later None q x = x
   seated_later (Some p) q x = (x.0, x.1, seat_later p x.0 x.2)
 
+  -- the same made node, or none, stays so in the longer order
   pub made_later : (p : Option C) (q : Option ℕ) → MadeAlike order number p q → MadeAlike order' number p q
   made_later None q x = x
   made_later (Some c) q x = (x.0, x.1, named_later c x.0 x.2)
 
-  pub site_later : (s : Site C) (u : Site ℕ) → SiteAlike order number s u → SiteAlike order' number s u
+  site_later : (s : Site C) (u : Site ℕ) → SiteAlike order number s u → SiteAlike order' number s u
   site_later s u x = record { above = above_later s.above u.above x.above; at = seat_later s.at u.at x.at; depth = x.depth; byte = x.byte; form = x.form }
 
+  -- the same node at hand, with what was read there, stays the same in the longer order
   pub read_later : (s : Site C) (u : Site ℕ) → ReadAlike order number s u → ReadAlike order' number s u
   read_later s u x = record { site = site_later s u x.site; count = x.count }
 
@@ -67,6 +72,7 @@ module _ {C : Type 0} (order order' : List ℕ) (number : C → ℕ) (f : (n c :
   single_later Set u x = x
   single_later (Link leaf) u x = (x.0, x.1, named_later leaf x.0 x.2)
 
+  -- the same change of one node stays so in the longer order
   pub one_later : (s : One C) (u : One ℕ) → OneAlike order number s u → OneAlike order' number s u
   one_later s u x = record { at = seat_later s.at u.at x.at; byte = x.byte; change = single_later s.change u.change x.change }
 
@@ -79,7 +85,7 @@ module _ {C : Type 0} (order order' : List ℕ) (number : C → ℕ) (f : (n c :
   double_later (GrowLink c leaf byte) u x = (x.0, x.1, x.2, named_later c x.0 x.3, named_later leaf x.1 x.4)
   double_later (Split top leaf common byte) u x = (x.0, x.1, x.2, named_later top x.0 x.3, named_later leaf x.1 x.4)
 
-  pub two_later : (s : Two C) (u : Two ℕ) → TwoAlike order number s u → TwoAlike order' number s u
+  two_later : (s : Two C) (u : Two ℕ) → TwoAlike order number s u → TwoAlike order' number s u
   two_later s u x = record { top = top_later s.top u.top x.top; above = parent_later s.above u.above x.above; at = seat_later s.at u.at x.at; change = double_later s.change u.change x.change }
 
   plan_later : (s : Plan C) (u : Plan ℕ) → PlanAlike order number s u → PlanAlike order' number s u
@@ -113,10 +119,12 @@ module _ {C : Type 0} (order order' : List ℕ) (number : C → ℕ) (f : (n c :
       abbrev pub Still : Stamp C → Type 0
       Still s = IsTaken order number h' s → IsTaken order number h s
 
+      -- the same of the node that a scan is about to check
       abbrev pub StillAt : Stage C V → Type 0
       StillAt (stage.Check r x) = Still r.at
       StillAt _ = Unit {0}
 
+      -- the same of the node that the call, or its scan, is about to check
       abbrev pub StillTaken : Phase C V → Type 0
       StillTaken (Check s c) = Still s.at
       StillTaken (Sweep s) = StillAt s.stage
@@ -139,7 +147,7 @@ module _ {C : Type 0} (order order' : List ℕ) (number : C → ℕ) (f : (n c :
         stage = stage_later s.stage t.stage k x.stage;
       }
 
-      pub phase_later : (p : Phase C V) (q : Phase ℕ V) → StillTaken p → PhaseAlike order number h p q → PhaseAlike order' number h' p q
+      phase_later : (p : Phase C V) (q : Phase ℕ V) → StillTaken p → PhaseAlike order number h p q → PhaseAlike order' number h' p q
       phase_later New q k x = x
       phase_later (Version above c) q k x = (x.0, x.1, x.2, above_later above x.0 x.3, named_later c x.1 x.4)
       phase_later (Read above at) q k x = (x.0, x.1, x.2, above_later above x.0 x.3, seat_later at x.1 x.4)
@@ -171,5 +179,6 @@ module _ {C : Type 0} (order order' : List ℕ) (number : C → ℕ) (f : (n c :
       phase_later (Sweep s) q k x = (x.0, x.1, scan_later s x.0 k x.2)
       phase_later Ended q k x = x
 
+      -- a call stays the same by numbers in the longer order, where a word that now is the one taken was so before
       pub call_later : (m : Machine C V) (q : Machine ℕ V) → StillTaken m.phase → CallAlike order number h m q → CallAlike order' number h' m q
       call_later m q k x = record { root = named_later m.root q.root x.root; key = x.key; kind = x.kind; given = x.given; phase = phase_later m.phase q.phase k x.phase }

@@ -65,7 +65,7 @@ told_byte byte None = refl
 told_byte byte (Some x) = refl
 
 module _ {C V : Type 0} (order : List ℕ) (number : C → ℕ) where
-  pub child_alike : (c : Child C V) (a b : Hung V) → hung number c ≡ a → HungAlike order a b → ChildAlike order number c (child_of b)
+  child_alike : (c : Child C V) (a b : Hung V) → hung number c ≡ a → HungAlike order a b → ChildAlike order number c (child_of b)
   child_alike child.Blank a b e x = let P : Hung V → Type 0 = λ z. HungAlike order z b in ap child_of (subst P (sym e) x)
   child_alike (child.Node c) a b e x = let P : Hung V → Type 0 = λ z. HungAlike order z b in let y : (n : ℕ) × (b ≡ Below n) × (slice_get order n ≡ Some (number c)) = subst P (sym e) x in (y.0, ap child_of y.1, y.2)
   child_alike (child.Value v) a b e x = let P : Hung V → Type 0 = λ z. HungAlike order z b in ap child_of (subst P (sym e) x)
@@ -116,6 +116,7 @@ module _ {C V : Type 0} (order : List ℕ) (number : C → ℕ) where
     abbrev site_of : ℕ → Seen ℕ V → Site ℕ
     site_of depth s = record { above = o; at = a; depth = depth; byte = s.byte; count = s.count; full = s.full; form = form_of y.capacity }
 
+    -- after a read of the same node both sides go on alike
     pub read_alike : (w : Reading C V) → ReadGives number always x at.version key w → TurnAlike order number h (after_read root above at w) (after_read m o a (reading y a.version key seen))
     read_alike (Differs c b) k =
         let no : fits y.prefix key ≡ false = ap (λ z. fits z key) e.prefix ∙ parts_differ x.prefix key c k.0 in
@@ -170,7 +171,7 @@ module _ {C V : Type 0} (order : List ℕ) (number : C → ℕ) where
     within : (q from last : ℕ) → from ≤ q → q < from + (last + 1 - from) → q ≤ last
     within q from last a b = omega (arith, a, b)
 
-    pub least_found : (from last : ℕ) (r : Least C V) → LeastTruly number x from last r → LeastAlike order number r (least_from y (last + 1 - from) from)
+    least_found : (from last : ℕ) (r : Least C V) → LeastTruly number x from last r → LeastAlike order number r (least_from y (last + 1 - from) from)
     least_found from last least.Nothing t = none_from (last + 1 - from) from (λ q a b. t q a (within q from last a b))
     least_found from last (least.Node byte c) t =
         let P : Hung V → Type 0 = λ z. HungAlike order z (y.children byte) in
@@ -182,6 +183,7 @@ module _ {C V : Type 0} (order : List ℕ) (number : C → ℕ) where
         found_from (last + 1 - from) from byte (least.Value byte v) t.past (fuel byte from last t.past t.within) t.before (λ rest. ap (λ z. least_or byte z rest) w)
     least_found from last least.Uncopied t = tt
 
+  -- the least child of a node whose word is the one taken is the same on both sides
   pub least_alike : (always : Bool) (x y : Node V) (v w from from' last last' : ℕ) (seen : Option (Seen Mark V)) (r : Least C V) → NodeAlike order x y → w ≡ v → from' ≡ from → last' ≡ last → LeastGives number always x v from last r
       → is_taken x v ≡ true → LeastAlike order number r (least_of y w from' last' seen)
   least_alike always x y v w from from' last last' seen r e f a b k t =

@@ -98,6 +98,7 @@ module _ {C V : Type 0} (order : List ℕ) (number : C → ℕ) (h : ℕ → Nod
   at_alike : (s : Scan C V) (Q : Path ℕ) (z : Stage ℕ V) (count : ℕ) (P' : Path C) (Q' : Path ℕ) (x : Stage C V) (y : Stage ℕ V) → WayAlike P' Q' → StageAlike order number h x y → ScanAlike order number h (sweep_at s count P' x) (sweep_at (twin s Q z) count Q' y)
   at_alike s Q z count P' Q' x y w e = record { start = refl; last = refl; size = refl; count = refl; len = w.len; way = w.way; stage = e }
 
+  -- after a step both scans tell the same and stand at the same stage of the same way
   pub record SwungAlike (u : Swung C V) (w : Swung ℕ V) : Type 0 where
     pub told : w.1 ≡ u.1
     pub scan : ScanAlike order number h u.0 w.0

@@ -32,24 +32,30 @@ use Rattle.congee.specs.protocol.PlainSteps.{asked, at_old, added, exchanged, pr
 use Rattle.congee.specs.declared.forms.prefix.TheConstants.{MAX_PREFIX_LEN}
 
 module _ {C V : Type 0} (order : List ℕ) (number : C → ℕ) (h : ℕ → Node V) where
+  -- a turn on the store and one by numbers report the same, and go on in the same phase
   abbrev pub Alike : NextPhase C V → NextPhase ℕ V → Type 0
   Alike t u = TurnAlike order number h t u
 
+  -- turns that report nothing and go on in the same phase are alike on both sides
   pub quiet_alike : (p : Phase C V) (q : Phase ℕ V) → PhaseAlike order number h p q → Alike (quiet p) (quiet q)
   quiet_alike p q x = record { report = refl; phase = x }
 
-  pub asking_alike : (p : Phase C V) (q : Phase ℕ V) (o : Option V) → PhaseAlike order number h p q → Alike (asking p o) (asking q o)
+  asking_alike : (p : Phase C V) (q : Phase ℕ V) (o : Option V) → PhaseAlike order number h p q → Alike (asking p o) (asking q o)
   asking_alike p q o x = record { report = refl; phase = x }
 
+  -- turns that report that the call took effect, and go on in the same phase, are alike on both sides
   pub decided_alike : (p : Phase C V) (q : Phase ℕ V) → PhaseAlike order number h p q → Alike (decided p) (decided q)
   decided_alike p q x = record { report = refl; phase = x }
 
+  -- the turn that takes effect and ends with a reply is alike on both sides
   pub answered_alike : (r : Reply V) → Alike (answered r) (answered r)
   answered_alike r = record { report = refl; phase = refl }
 
+  -- the turn that ends with a reply after the call took effect is alike on both sides
   pub finished_alike : (r : Reply V) → Alike (finished r) (finished r)
   finished_alike r = record { report = refl; phase = refl }
 
+  -- the turn that ends with a refusal is alike on both sides
   pub refused_alike : (e : Refusal) → Alike (refused e) (refused e)
   refused_alike e = record { report = refl; phase = refl }
 
@@ -57,19 +63,22 @@ module _ {C V : Type 0} (order : List ℕ) (number : C → ℕ) (h : ℕ → Nod
   pub alike_at : (t s : NextPhase C V) (u : NextPhase ℕ V) → t ≡ s → Alike s u → Alike t u
   alike_at t s u e x = let P : NextPhase C V → Type 0 = λ z. Alike z u in subst P (sym e) x
 
+  -- the turn by numbers may go by another name for the same one
   pub alike_to : (t : NextPhase C V) (u w : NextPhase ℕ V) → w ≡ u → Alike t u → Alike t w
   alike_to t u w e x = let P : NextPhase ℕ V → Type 0 = λ z. Alike t z in subst P (sym e) x
 
+  -- a call that begins anew at the root does so on both sides
   pub again_alike : (root : C) (n : ℕ) → Named order number root n → Alike (again root) (again n)
   again_alike root n x = quiet_alike (Version None root) (Version None n) (None, n, refl, refl, x)
 
+  -- after a version is read both sides read the node, or begin anew where there was none
   pub version_alike : (root : C) (m : ℕ) (above : Option (Over C)) (o : Option (Over ℕ)) (c : C) (n : ℕ) (v : Option ℕ) → Named order number root m → AboveAlike order number above o → Named order number c n
       → Alike (after_version root above c v) (after_version m o n v)
   version_alike root m above o c n None r a x = again_alike root m r
   version_alike root m above o c n (Some v) r a x = quiet_alike (Read above (record { node = c; version = v })) (Read o (record { node = n; version = v })) (o, record { node = n; version = v }, refl, a, record { node = x; version = refl })
 
   -- the node at hand as the one above the next, and the nodes above that
-  pub parent_alike : (s : Site C) (u : Site ℕ) → ReadAlike order number s u → ParentAlike order number (here_of s) (here_of u)
+  parent_alike : (s : Site C) (u : Site ℕ) → ReadAlike order number s u → ParentAlike order number (here_of s) (here_of u)
   parent_alike s u x = record { seat = x.site.at; byte = x.site.byte; depth = x.site.depth; count = x.count; form = x.site.form }
 
   near_alike : (above : Option (Over C)) (o : Option (Over ℕ)) → AboveAlike order number above o → TopAlike order number (near_of above) (near_of o)
@@ -79,7 +88,7 @@ module _ {C V : Type 0} (order : List ℕ) (number : C → ℕ) (h : ℕ → Nod
   below_alike : (s : Site C) (u : Site ℕ) → ReadAlike order number s u → OverAlike order number (below s) (below u)
   below_alike s u x = record { near = parent_alike s u x; far = near_alike s.above u.above x.site.above }
 
-  pub down_alike : (b : Bool) (s : Site C) (u : Site ℕ) (above : Option (Over C)) (o : Option (Over ℕ)) (c : C) (n : ℕ) → ReadAlike order number s u → AboveAlike order number above o → Named order number c n
+  down_alike : (b : Bool) (s : Site C) (u : Site ℕ) (above : Option (Over C)) (o : Option (Over ℕ)) (c : C) (n : ℕ) → ReadAlike order number s u → AboveAlike order number above o → Named order number c n
       → Alike (down b s above c) (down b u o n)
   down_alike false s u above o c n x a y = quiet_alike (Version (Some (below s)) c) (Version (Some (below u)) n) (Some (below u), n, refl, (below u, refl, below_alike s u x), y)
   down_alike true s u None o c n x a y =
@@ -89,7 +98,7 @@ module _ {C V : Type 0} (order : List ℕ) (number : C → ℕ) (h : ℕ → Nod
       alike_to (down true s (Some p) c) (down true u (Some a.0) n) (down true u o n) (ap (λ z. down true u z n) a.1)
       (quiet_alike (CheckDown p.near.seat (below s) c) (CheckDown a.0.near.seat (below u) n) (a.0.near.seat, below u, n, refl, a.2.near.seat, below_alike s u x, y))
 
-  pub started_alike : (plan : Plan C) (y : Plan ℕ) (r : Reply V) → PlanAlike order number plan y → Alike (started plan r) (started y r)
+  started_alike : (plan : Plan C) (y : Plan ℕ) (r : Reply V) → PlanAlike order number plan y → Alike (started plan r) (started y r)
   started_alike (Here None one) y r x =
       alike_to _ (started (Here None x.1) r) (started y r) (ap (λ z. started z r) (x.2 ∙ ap (λ z. Here z x.1) x.3)) (quiet_alike (UpgradeOne one r) (UpgradeOne x.1 r) (x.1, refl, x.4))
   started_alike (Here (Some p) one) y r x =
@@ -97,6 +106,7 @@ module _ {C V : Type 0} (order : List ℕ) (number : C → ℕ) (h : ℕ → Nod
   started_alike (Above two) y r x =
       alike_to _ (started (Above x.0) r) (started y r) (ap (λ z. started z r) x.1) (quiet_alike (UpgradeAbove two r) (UpgradeAbove x.0 r) (x.0, refl, x.2))
 
+  -- a plan on both sides begins on both, or its closure is asked first on both
   pub ready_alike : (kind : Kind V) (plan : Plan C) (y : Plan ℕ) → PlanAlike order number plan y → Alike (ready kind plan) (ready kind y)
   ready_alike kind plan y x = by (asks_new kind) where
     by : (b : Bool) → Alike (cond b (asking (AskNew plan) None) (started plan (absent_reply kind))) (cond b (asking (AskNew y) None) (started y (absent_reply kind)))
@@ -110,6 +120,7 @@ module _ {C V : Type 0} (order : List ℕ) (number : C → ℕ) (h : ℕ → Nod
   here_alike : (s : Site C) (u : Site ℕ) (change : Single C) (y : Single ℕ) → SiteAlike order number s u → SingleAlike order number change y → PlanAlike order number (plan_here s change) (plan_here u y)
   here_alike s u change y x a = (seat_above u.above, record { at = u.at; byte = u.byte; change = y }, refl, seated_above s.above u.above x.above, record { at = x.at; byte = x.byte; change = a })
 
+  -- a full node gives way to a greater one on both sides, and a node with room is changed on both
   pub full_alike : (kind : Kind V) (s : Site C) (u : Site ℕ) (b : Bool) (above : Option (Over C)) (o : Option (Over ℕ)) (leaf : Option C) (l : Option ℕ) (change : Single C) (y : Single ℕ)
       → ReadAlike order number s u → AboveAlike order number above o → MadeAlike order number leaf l → SingleAlike order number change y → Alike (unless_full kind s b above leaf change) (unless_full kind u b o l y)
   full_alike kind s u true (Some p) o leaf l change y x a m d =
@@ -131,7 +142,7 @@ module _ {C V : Type 0} (order : List ℕ) (number : C → ℕ) (h : ℕ → Nod
       each true = full_alike kind s u s.full s.above u.above None None Set Set x x.site.above refl refl
       each false = quiet_alike (MakeLeaf s) (MakeLeaf u) (u, refl, x, f)
 
-  pub absent_alike : (kind : Kind V) (s : Site C) (u : Site ℕ) → ReadAlike order number s u → u.full ≡ s.full → Alike (absent kind s) (absent kind u)
+  absent_alike : (kind : Kind V) (s : Site C) (u : Site ℕ) → ReadAlike order number s u → u.full ≡ s.full → Alike (absent kind s) (absent kind u)
   absent_alike kind s u x f = by (adds kind) where
     by : (b : Bool) → Alike (cond b (missing kind s) (answered (absent_reply kind))) (cond b (missing kind u) (answered (absent_reply kind)))
     by true = missing_alike kind s u x f
@@ -145,7 +156,7 @@ module _ {C V : Type 0} (order : List ℕ) (number : C → ℕ) (h : ℕ → Nod
   confirm_alike : (at : Stamp C) (a : Stamp ℕ) (r : Reply V) → SeatAlike order number at a → Alike (quiet (Confirm at r)) (quiet (Confirm a r))
   confirm_alike at a r x = quiet_alike (Confirm at r) (Confirm a r) (a, refl, x)
 
-  pub replaced_alike : (s : Site C) (u : Site ℕ) (b : Bool) (r : Reply V) → SiteAlike order number s u → Alike (replaced s b r) (replaced u b r)
+  replaced_alike : (s : Site C) (u : Site ℕ) (b : Bool) (r : Reply V) → SiteAlike order number s u → Alike (replaced s b r) (replaced u b r)
   replaced_alike s u true r x = confirm_alike s.at u.at r x.at
   replaced_alike s u false r x = set_alike s u r x
 
@@ -184,7 +195,7 @@ module _ {C V : Type 0} (order : List ℕ) (number : C → ℕ) (h : ℕ → Nod
       each false true = quiet_alike (MakeLesser s w.near None r) (MakeLesser u a.0.near None r) (u, a.0.near, None, refl, x, a.2.near, refl)
       each false false = set_alike s u r x.site
 
-  pub emptied_alike : (s : Site C) (u : Site ℕ) (r : Reply V) → ReadAlike order number s u → Alike (emptied s r) (emptied u r)
+  emptied_alike : (s : Site C) (u : Site ℕ) (r : Reply V) → ReadAlike order number s u → Alike (emptied s r) (emptied u r)
   emptied_alike s u r x = taken_alike s u s.above u.above r x x.site.above
 
   -- no copy failed
@@ -193,10 +204,11 @@ module _ {C V : Type 0} (order : List ℕ) (number : C → ℕ) (h : ℕ → Nod
       let e : refusal.Count ≡ refusal.Exhausted = n refusal.Count (ap (λ z. z.report.outcome) x.1) in
       cc
 
-  pub asked_alike : (always : Bool) (s : Site C) (u : Site ℕ) (v : V) (t : NextPhase C V) → ReadAlike order number s u → IsUnrefused t.report.outcome → IsAsked always s v t → Alike t (asked u v)
+  asked_alike : (always : Bool) (s : Site C) (u : Site ℕ) (v : V) (t : NextPhase C V) → ReadAlike order number s u → IsUnrefused t.report.outcome → IsAsked always s v t → Alike t (asked u v)
   asked_alike always s u v t x n (inl e) = alike_at t _ (asked u v) e (asking_alike (AskOld s v) (AskOld u v) (Some v) (u, refl, x))
   asked_alike always s u v t x n (inr f) = absurd (copied always t n f)
 
+  -- at a value that stands both sides put the call's value, or ask, unless a copy was refused
   pub old_alike : (always : Bool) (same : V → V → Bool) (kind : Kind V) (new : Option V) (s : Site C) (u : Site ℕ) (v : V) (t : NextPhase C V) → ReadAlike order number s u → IsUnrefused t.report.outcome → IsAtOld always same kind new s v t
       → Alike t (at_old same kind new u v)
   old_alike always same Insert new s u v t x n e = alike_at t _ _ e (replaced_alike s u (is_same same v new) (reply.Insert (Some v)) x.site)
@@ -229,6 +241,7 @@ module _ {C V : Type 0} (order : List ℕ) (number : C → ℕ) (h : ℕ → Nod
   present_alike always same ComputeInsert new s u v t x n e = added_alike always same ComputeInsert new s u s.above u.above v t x x.site.above n e
   present_alike always same (Exchange old) new s u v t x n e = compared_alike always same (same v old) new s u v t x n e
 
+  -- after a check that succeeded both sides go on alike from the child that was read, unless a copy was refused
   pub checked_alike : (always : Bool) (same : V → V → Bool) (kind : Kind V) (new : Option V) (s : Site C) (c : Child C V) (u : Site ℕ) (d : Child ℕ V) (t : NextPhase C V) → SiteAlike order number s u → SeesAlike order number s c u d
       → IsUnrefused t.report.outcome → IsChecked always same kind new s c t → Alike t (checked same kind new u d)
   checked_alike always same kind new s child.Blank u d t x y n e =
@@ -238,6 +251,7 @@ module _ {C V : Type 0} (order : List ℕ) (number : C → ℕ) (h : ℕ → Nod
   checked_alike always same kind new s (child.Value v) u d t x y n e =
       alike_to t (checked same kind new u (child.Value v)) (checked same kind new u d) (ap (checked same kind new u) y.hangs) (present_alike always same kind new s u v t (record { site = x; count = y.count }) n e)
 
+  -- where the key's way parts within a prefix both sides make a node there, or both answer
   pub miss_alike : (kind : Kind V) (p : Parent C) (q : Parent ℕ) (at : Stamp C) (a : Stamp ℕ) (common byte : ℕ) → ParentAlike order number p q → SeatAlike order number at a → Alike (after_miss kind p at common byte) (after_miss kind q a common byte)
   miss_alike kind p q at a common byte x y = by (adds kind) where
     by : (b : Bool) → Alike (cond b (quiet (MakeTop p at common byte)) (answered (absent_reply kind))) (cond b (quiet (MakeTop q a common byte)) (answered (absent_reply kind)))
@@ -254,6 +268,7 @@ module _ {C V : Type 0} (order : List ℕ) (number : C → ℕ) (h : ℕ → Nod
   some_given always same s u v y t x n (inl e) = alike_at t _ _ e (replaced_alike s u (same v y) (reply.ComputePresent (Some (v, Some y))) x.site)
   some_given always same s u v y t x n (inr f) = absurd (copied always t n f)
 
+  -- a closure's answer about a value that stands gives both sides the same new value and the same turn
   pub given_alike : (always : Bool) (same : V → V → Bool) (kind : Kind V) (s : Site C) (u : Site ℕ) (v : V) (answer : Option (Option V)) (new new' : Option V) (t : NextPhase C V) → ReadAlike order number s u → IsUnrefused t.report.outcome
       → IsGiven always same kind s v answer new new' t → GivenAlike new' t (given_old same kind u v answer new)
   given_alike always same kind s u v None new new' t x n e = record { given = sym e.0; turn = asked_alike always s u v t x n e.1 }
@@ -270,11 +285,13 @@ module _ {C V : Type 0} (order : List ℕ) (number : C → ℕ) (h : ℕ → Nod
   given_alike always same ComputePresent s u v (Some (Some y)) new new' t x n e = record { given = sym e.0; turn = some_given always same s u v y t x n e.1 }
   given_alike always same (Exchange old) s u v (Some (Some y)) new new' t x n e = record { given = sym e.0; turn = some_given always same s u v y t x n e.1 }
 
+  -- a closure's answer about an absent key gives both sides the same new value and the same turn
   pub new_alike : (plan : Plan C) (y : Plan ℕ) (answer : Option (Option V)) (new new' : Option V) (t : NextPhase C V) → PlanAlike order number plan y → IsGivenNew plan answer new new' t → GivenAlike new' t (given_new y answer new)
   new_alike plan y (Some (Some v)) new new' t x e = record { given = sym e.0; turn = alike_at t _ _ e.1 (started_alike plan y (reply.ComputeInsert None) x) }
   new_alike plan y (Some None) new new' t x e = record { given = sym e.0; turn = alike_at t _ _ e.1 (asking_alike (AskNew plan) (AskNew y) None (y, refl, x)) }
   new_alike plan y None new new' t x e = record { given = sym e.0; turn = alike_at t _ _ e.1 (asking_alike (AskNew plan) (AskNew y) None (y, refl, x)) }
 
+  -- the change to a greater node, with a leaf or without, is the same on both sides
   pub greater_alike : (s : Site C) (u : Site ℕ) (leaf : Option C) (l : Option ℕ) (c : C) (n : ℕ) → SiteAlike order number s u → MadeAlike order number leaf l → Named order number c n → DoubleAlike order number (greater s leaf c) (greater u l n)
   greater_alike s u None l c n x m y = (n, ap (λ z. greater u z n) m, y)
   greater_alike s u (Some leaf) l c n x m y = (n, m.0, ap (λ z. greater u z n) m.1 ∙ ap (λ z. GrowLink n m.0 z) x.byte, y, m.2)
@@ -289,15 +306,18 @@ module _ {C V : Type 0} (order : List ℕ) (number : C → ℕ) (h : ℕ → Nod
       (decided_alike (Obsolete two.at.node (Some two.above.seat.node) top.seat.node r) (Obsolete u.at.node (Some u.above.seat.node) a.0.seat.node r)
       (u.at.node, Some u.above.seat.node, a.0.seat.node, refl, x.at.node, (u.above.seat.node, refl, x.above.seat.node), a.2.seat.node))
 
+  -- the name of the node above both is the same on both sides, or neither has one
   pub node_alike : (top : Option (Parent C)) (o : Option (Parent ℕ)) → TopAlike order number top o → MadeAlike order number (node_of top) (node_of o)
   node_alike None o a = ap node_of a
   node_alike (Some top) o a = (a.0.seat.node, ap node_of a.1, a.2.seat.node)
 
+  -- after a node was handed over both sides mark the same next one, or let the last lock go
   pub retired_alike : (next : Option C) (o : Option ℕ) (p : C) (q : ℕ) (r : Reply V) → MadeAlike order number next o → Named order number p q → Alike (after_retire next p r) (after_retire o q r)
   retired_alike None o p q r a y = alike_to _ (after_retire None q r) _ (ap (λ z. after_retire z q r) a) (quiet_alike (Unlock p r) (Unlock q r) (q, refl, y))
   retired_alike (Some c) o p q r a y =
       alike_to _ (after_retire (Some a.0) q r) _ (ap (λ z. after_retire z q r) a.1) (quiet_alike (Obsolete c None p r) (Obsolete a.0 None q r) (a.0, None, q, refl, a.2, refl, y))
 
+  -- after a change of two nodes both sides mark the same node next, or unlock the same one
   pub change_alike : (two : Two C) (u : Two ℕ) (r : Reply V) → TwoAlike order number two u → (d : Double C) (y : Double ℕ) → DoubleAlike order number d y → Alike (after_change two r d) (after_change u r y)
   change_alike two u r x (Shrink c) y e = alike_to _ (after_change u r (Shrink e.0)) _ (ap (after_change u r) e.1) (out two u r x)
   change_alike two u r x Collapse y e = alike_to _ (after_change u r Collapse) _ (ap (after_change u r) e) (top_alike two u r x two.top u.top x.top)
@@ -309,14 +329,16 @@ module _ {C V : Type 0} (order : List ℕ) (number : C → ℕ) (h : ℕ → Nod
       alike_to _ (after_change u r (Split e.0 e.1 common byte)) _ (ap (after_change u r) e.2)
       (decided_alike (UnlockBelow two.at.node two.above.seat.node r) (UnlockBelow u.at.node u.above.seat.node r) (u.at.node, u.above.seat.node, refl, x.at.node, x.above.seat.node))
 
-  pub unwound_alike : (root : C) (n : ℕ) (e : Option Refusal) → Named order number root n → Alike (unwound root e) (unwound n e)
+  unwound_alike : (root : C) (n : ℕ) (e : Option Refusal) → Named order number root n → Alike (unwound root e) (unwound n e)
   unwound_alike root n None x = again_alike root n x
   unwound_alike root n (Some e) x = refused_alike e
 
+  -- after a lock of a given-up attempt was let go both sides let the same next one go, or end alike
   pub left_alike : (root : C) (n : ℕ) (next : Option C) (o : Option ℕ) (e : Option Refusal) → Named order number root n → MadeAlike order number next o → Alike (after_unwind root next e) (after_unwind n o e)
   left_alike root n None o e x a = alike_to _ (after_unwind n None e) _ (ap (λ z. after_unwind n z e) a) (unwound_alike root n e x)
   left_alike root n (Some c) o e x a = alike_to _ (after_unwind n (Some a.0) e) _ (ap (λ z. after_unwind n z e) a.1) (quiet_alike (Unwind c None e) (Unwind a.0 None e) (a.0, None, refl, a.2, refl))
 
+  -- an attempt that is given up lets the same node above go on both sides, or ends alike
   pub given_up_alike : (root : C) (n : ℕ) (top : Option (Parent C)) (o : Option (Parent ℕ)) (e : Option Refusal) → Named order number root n → TopAlike order number top o → Alike (given_up root top e) (given_up n o e)
   given_up_alike root n None o e x a = alike_to _ (given_up n None e) _ (ap (λ z. given_up n z e) a) (unwound_alike root n e x)
   given_up_alike root n (Some top) o e x a =

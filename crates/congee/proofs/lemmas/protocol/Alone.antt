@@ -56,12 +56,14 @@ module _ {C V : Type 0} (number : C → ℕ) (same : V → V → Bool) (always :
   phase_on most why root z k kind new Ended h' new' t answer known u free ask ne g = absurd (ne tt)
   phase_on most why root z k kind new s h' new' t answer known u free ask ne g = points_on number same always most why i a h h' p.tree p.words k root z kind new s answer new' t known u free ask tt g
 
+  -- where no other call holds a lock, an undisturbed call has fewer steps left after a step, and tells its end
   pub near_on : (most : ℕ) (why : NodeType → Refusal → Type 0) (h' : ℕ → Node V) (m' : Machine C V) (d : Move V) (answer : Option (Option V)) → IsUndisturbed number h m.phase → HasAnswer m.kind m.phase answer → (IsPast m.phase → ⊥)
       → Stepped number same always most why m h false answer m' h' d → Nearer number h' (steps_left number h m.phase) (record { phase = m'.phase; report = d })
   near_on most why h' m' d answer u ask ne g =
       let k : EachKnown number same always a h i m = p.each i m here in
       phase_on most why m.root k.root m.key m.kind m.given m.phase h' m'.given (record { phase = m'.phase; report = d }) answer k.known u free_now ask ne g.step
 
+  -- where no other call holds a lock, an undisturbed call is so after a step, with fewer steps left
   pub step_on : (most : ℕ) (why : NodeType → Refusal → Type 0) (h' : ℕ → Node V) (m' : Machine C V) (d : Move V) (answer : Option (Option V)) → IsUndisturbed number h m.phase → HasAnswer m.kind m.phase answer → (IsPast m.phase → ⊥)
       → Stepped number same always most why m h false answer m' h' d → StepsOn number h m.phase h' m'.phase
   step_on most why h' m' d answer u ask ne g = let x = near_on most why h' m' d answer u ask ne g in record { undisturbed = x.0; nearer = x.1 }

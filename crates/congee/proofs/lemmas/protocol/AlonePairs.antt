@@ -258,6 +258,7 @@ module _ {V : Type 0} (a : ℕ → Note) (h : ℕ → Node V) (t : Tree a h) (w 
   root_region : IsRegion (h 0).prefix 0 0
   root_region = record { depth_is = sym (ap length t.empty); short = omega arith; small = omega arith; fitted = rw t.empty refl; even = refl }
 
+  -- the values that hang in a tree are as many as the pairs of its map
   pub pairs_counted : tree_pairs h ≡ len m
   pairs_counted =
       let e = under 8 0 0 0 t.root root_region (omega arith) in

@@ -31,11 +31,12 @@ module _ (g : ℕ → ℕ) where
   term_before : (from b : ℕ) → b < from → term from b ≡ 0
   term_before from b l = low_yes b from 0 (g b) l
 
+  -- a byte that isn't before the first one counts in full
   pub term_past : (from b : ℕ) → from ≤ b → term from b ≡ g b
   term_past from b l = low_no b from 0 (g b) l
 
   -- from a later byte on, where those between have nothing
-  pub sum_skip : (from to k : ℕ) → from ≤ to → ((q : ℕ) → from ≤ q → q < to → g q ≡ 0) → sum_from g from k ≡ sum_from g to k
+  sum_skip : (from to k : ℕ) → from ≤ to → ((q : ℕ) → from ≤ q → q < to → g q ≡ 0) → sum_from g from k ≡ sum_from g to k
   unfolding sum_from
   sum_skip from to zero l none = refl
   sum_skip from to (suc b) l none =
@@ -50,13 +51,13 @@ module _ (g : ℕ → ℕ) where
       cc
 
   -- none past the bound
-  pub sum_none : (from k : ℕ) → k ≤ from → sum_from g from k ≡ 0
+  sum_none : (from k : ℕ) → k ≤ from → sum_from g from k ≡ 0
   unfolding sum_from
   sum_none from zero l = refl
   sum_none from (suc b) l = let s = sum_none from b (omega (arith, l)) in let t = term_before from b (omega (arith, l)) in omega (arith, s, t)
 
   -- the first of them, and the others
-  pub sum_first : (b k : ℕ) → b < k → sum_from g b k ≡ g b + sum_from g (b + 1) k
+  sum_first : (b k : ℕ) → b < k → sum_from g b k ≡ g b + sum_from g (b + 1) k
   unfolding sum_from
   sum_first b zero l = absurd (omega (arith, l))
   sum_first b (suc c) l = elim (cases_lt b c) [
@@ -76,7 +77,7 @@ module _ (g : ℕ → ℕ) where
   ]
 
   -- from a byte on they are at most as many as from the first one on
-  pub sum_less : (from k : ℕ) → sum_from g from k ≤ sum_from g 0 k
+  sum_less : (from k : ℕ) → sum_from g from k ≤ sum_from g 0 k
   unfolding sum_from
   sum_less from zero = omega arith
   sum_less from (suc b) =
@@ -89,12 +90,12 @@ module _ (g : ℕ → ℕ) where
 
 module _ {V : Type 0} (h : ℕ → Node V) where
   -- what a scan takes at least at a node that it looks at
-  pub under_two : (f n from : ℕ) → 0 < f → 2 ≤ steps_under h f n from
+  under_two : (f n from : ℕ) → 0 < f → 2 ≤ steps_under h f n from
   unfolding steps_under
   under_two zero n from l = absurd (omega (arith, l))
   under_two (suc f) n from l = omega arith
 
-  pub under_less : (f n from : ℕ) → steps_under h f n from ≤ steps_under h f n 0
+  under_less : (f n from : ℕ) → steps_under h f n from ≤ steps_under h f n 0
   unfolding steps_under
   under_less zero n from = omega arith
   under_less (suc f) n from = let s = sum_less (λ b. steps_at (λ c. steps_under h f c 0) ((h n).children b)) from 256 in omega (arith, s)
@@ -109,6 +110,7 @@ module _ {V : Type 0} (h : ℕ → Node V) where
       let e : steps_at (λ c. steps_under h f c 0) ((h n).children byte) ≡ steps_at (λ c. steps_under h f c 0) x = ap (steps_at (λ c. steps_under h f c 0)) here in
       omega (arith, s, t, e)
 
+  -- from the byte of a node on, a scan takes three steps, those below the node, and those behind the byte
   pub at_node : (f n from byte c : ℕ) → 0 < f → byte < 256 → from ≤ byte → (h n).children byte ≡ Below c → ((q : ℕ) → from ≤ q → q < byte → (h n).children q ≡ Nothing)
       → steps_under h f n from ≡ 3 + steps_under h (f - 1) c 0 + steps_under h f n (byte + 1)
   at_node zero n from byte c p small l here none = absurd (omega (arith, p))
@@ -118,6 +120,7 @@ module _ {V : Type 0} (h : ℕ → Node V) where
       let t : steps_under h (suc f - 1) c 0 ≡ steps_under h f c 0 = ap (λ y. steps_under h y c 0) e in
       omega (arith, s, t)
 
+  -- from the byte of a value on, a scan takes two steps, and those behind the byte
   pub at_value : (f n from byte : ℕ) (v : V) → 0 < f → byte < 256 → from ≤ byte → (h n).children byte ≡ Holds v → ((q : ℕ) → from ≤ q → q < byte → (h n).children q ≡ Nothing)
       → steps_under h f n from ≡ 2 + steps_under h f n (byte + 1)
   at_value zero n from byte v p small l here none = absurd (omega (arith, p))
@@ -143,7 +146,7 @@ module _ {C V : Type 0} (number : C → ℕ) (h : ℕ → Node V) where
 
   module _ (n : ℕ) where
     -- a scan that has fewer than n steps left, and tells its end
-    abbrev pub NearScan : Swung C V → Type 0
+    abbrev NearScan : Swung C V → Type 0
     NearScan u = (AreTaken number h (seats_sweep u.0 u.0.stage) × IsFreeAt number h u.0.stage) × (steps_sweep number h u.0 u.0.stage < n) × (u.0.stage ≡ stage.Over → goes_on (outcome_of u.1) ≡ false)
 
     scan_to : (x y : Swung C V) → y ≡ x → NearScan x → NearScan y
@@ -205,6 +208,7 @@ module _ {C V : Type 0} (number : C → ℕ) (always : Bool) (a : ℕ → Note) 
       scan_to number h _ _ u e (fills number h _ s r byte v t.0 t.1 (omega (arith, two)) (omega arith))
   follows s r least.Uncopied u short t l truly e = scan_to number h _ _ u e ((tt, tt), omega arith, λ _. refl)
 
+  -- a scan that nobody disturbs has fewer steps left after a step, and tells its end
   pub scans_on : (s : Sweep C V) (x : Stage C V) (u : Swung C V) → SweepKnownAt number always a h s x → AreTaken number h (seats_sweep s x) → IsFreeAt number h x → (x ≡ stage.Over → ⊥) → SweptAt number always root s x h u
       → NearScan number h (steps_sweep number h s x) u
   scans_on s stage.New u k t f ne e =
@@ -246,6 +250,7 @@ hung_counts a h tr f n l below b (Below c) e = let i = tr.down n b c l e in let 
 hung_counts a h tr f n l below b (Holds v) e = refl
 
 module _ {V : Type 0} (a : ℕ → Note) (h : ℕ → Node V) (tr : Tree a h) where
+  -- below a node of the tree a scan takes five steps a node and two a pair, less three
   pub under_counts : (f n : ℕ) → (a n).status ≡ Linked → 8 ≤ f + length (h n).prefix → steps_under h f n 0 + 3 ≡ 5 * nodes_under h f n + 2 * pairs_under h f n
   unfolding steps_under nodes_under pairs_under
   under_counts zero n l deep = absurd (let s = tr.short n l in omega (arith, s, deep))

@@ -177,6 +177,7 @@ module _ {C V : Type 0} (number : C → ℕ) (most : ℕ) (h h' : ℕ → Node V
   two_changed key new two (Split top leaf common byte) g =
       changed most g.2 h' (number two.above.seat.node) _ _ g.6 (changed most g.1 g.2 (number top) _ _ g.5 (changed most g.0 g.1 (number top) _ _ g.4 (changed most h g.0 (number leaf) _ _ g.3 w)))
 
+  -- a step of a call leaves the versions of all nodes that stand within their limit
   pub step_within : (same_as : V → V → Bool) (always : Bool) (why : NodeType → Refusal → Type 0) (root : C) (key : List ℕ) (kind : Kind V) (fail : Bool) (answer : Option (Option V)) (new : Option V) (s : Phase C V) (new' : Option V) (t : NextPhase C V)
       → MayStep number root key new s h → PhaseStepped number same_as always most why root key kind fail answer new s h new' t h' → Within most h'
   step_within same_as always why root key kind fail answer new (MakeLeaf s) new' t may g = leaf_made kind s key g.1.0 t g.1.1

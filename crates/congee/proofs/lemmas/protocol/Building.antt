@@ -59,12 +59,14 @@ module _ {C V : Type 0} (number : C → ℕ) (same : V → V → Bool) (always :
   answers_after false turn h' h'' e x = λ y l. x y l ∙ e y l
 
   -- a turn after a step that left the map
-  pub kept_after : (given' : Option V) (turn : NextPhase C V) (a' : ℕ → Note) (h' : ℕ → Node V) → KeepsMap i a h a' h' → Sound number same always i k kind given h' given' turn a' h' → Kept number same always i a h k kind given given' turn h'
+  kept_after : (given' : Option V) (turn : NextPhase C V) (a' : ℕ → Note) (h' : ℕ → Node V) → KeepsMap i a h a' h' → Sound number same always i k kind given h' given' turn a' h' → Kept number same always i a h k kind given given' turn h'
   kept_after given' turn a' h' e s = record { notes = a'; effect = e.effect; sound = record { known = s.known; answer = answers_after turn.report.decided turn h' h' e.map s.answer } }
 
+  -- a turn by another name keeps ledger, tree and knowledge where the turn does
   pub kept_at : (given' : Option V) (x y : NextPhase C V) (h' : ℕ → Node V) → y ≡ x → Kept number same always i a h k kind given given' x h' → Kept number same always i a h k kind given given' y h'
   kept_at given' x y h' e m = let P : NextPhase C V → Type 0 = λ z. Kept number same always i a h k kind given given' z h' in subst P (sym e) m
 
+  -- a call that is refused once its made nodes went back leaves tree and map as they were
   pub refused_back : (h' : ℕ → Node V) (e : Refusal) → Backed i a h h' → Kept number same always i a h k kind given given (refused e) h'
   refused_back h' e b = record { notes = b.notes; effect = b.still.effect; sound = record { known = tt; answer = b.still.map } }
 
@@ -79,6 +81,7 @@ module _ {C V : Type 0} (number : C → ℕ) (same : V → V → Bool) (always :
   seated_after : (a' : ℕ → Note) (h' : ℕ → Node V) → Effect i a h a' h' → (n v : ℕ) → Seated a h n v → Seated a' h' n v
   seated_after a' h' e n v m = seated_kept (λ _. Unit {0}) (suc i) a h a' h' (own_rely i a h a' h' e) n v tt m
 
+  -- once its leaf was made or refused, a call knows what its next step wants
   pub leaf_made : (s : Site C) (turn : NextPhase C V) (h' : ℕ → Node V) (r : Result C Refusal) → Known number same always i a h k (key_bytes k) kind given (MakeLeaf s) → MadeLeaf number kind s h (key_bytes k) r h' turn
       → Kept number same always i a h k kind given given turn h'
   leaf_made s turn h' (Err e) m g = kept_at number same always i a h k kind given given _ turn h' g.1 (refused_back number same always i a h k kind given h' e (back_none i a h h' t w g.0))
@@ -133,6 +136,7 @@ module _ {C V : Type 0} (number : C → ℕ) (same : V → V → Bool) (always :
       let z : leaf ≡ d = cc in
       (made_before i a h (number c) form (key_bytes k) size h' g (number leaf) 7 0 l.1).0 (ap number z ∙ sym q)
 
+  -- once its greater node was made or refused, a call knows what its next step wants
   pub greater_made : (s : Site C) (p : Parent C) (leaf : Option C) (turn : NextPhase C V) (h' : ℕ → Node V) (r : Result C Refusal) → Known number same always i a h k (key_bytes k) kind given (MakeGreater s p leaf)
       → MadeGreater number kind s p leaf h (key_bytes k) r h' turn → Kept number same always i a h k kind given given turn h'
   greater_made s p None turn h' (Err e) m g = kept_at number same always i a h k kind given given _ turn h' g.1 (refused_back number same always i a h k kind given h' e (back_none i a h h' t w g.0))
@@ -151,6 +155,7 @@ module _ {C V : Type 0} (number : C → ℕ) (same : V → V → Bool) (always :
   byte_after : (a' : ℕ → Note) (h' : ℕ → Node V) → Effect i a h a' h' → (n common byte : ℕ) → is_published (a n).status ≡ true → byte ≡ get_or (h n).prefix common 0 → byte ≡ get_or (h' n).prefix common 0
   byte_after a' h' e n common byte pu q = let P : List ℕ → Type 0 = λ y. byte ≡ get_or y common 0 in subst P (sym ((own_rely i a h a' h' e).prefix n tt pu)) q
 
+  -- once the node where ways part was made or refused, a call knows what its next step wants
   pub top_made : (p : Parent C) (at : Stamp C) (common byte : ℕ) (turn : NextPhase C V) (h' : ℕ → Node V) (r : Result C Refusal) → Known number same always i a h k (key_bytes k) kind given (MakeTop p at common byte)
       → MadeTop number p at common byte h (key_bytes k) r h' turn → Kept number same always i a h k kind given given turn h'
   top_made p at common byte turn h' (Err e) m g = kept_at number same always i a h k kind given given _ turn h' g.1 (refused_back number same always i a h k kind given h' e (back_none i a h h' t w g.0))
@@ -173,6 +178,7 @@ module _ {C V : Type 0} (number : C → ℕ) (same : V → V → Bool) (always :
         };
       })
 
+  -- once the leaf beside was made or refused, a call knows what its next step wants
   pub beside_made : (p : Parent C) (at : Stamp C) (common byte : ℕ) (top : C) (turn : NextPhase C V) (h' : ℕ → Node V) (r : Result C Refusal) → Known number same always i a h k (key_bytes k) kind given (MakeBeside p at common byte top)
       → MadeBeside number kind p at common byte top h (key_bytes k) r h' turn → Kept number same always i a h k kind given given turn h'
   beside_made p at common byte top turn h' (Err e) m g = kept_at number same always i a h k kind given given _ turn h' g.1 (refused_back number same always i a h k kind given h' e (back_node i a h (key_bytes k) (number top) common 1 h' t w m.6 g.0))

@@ -354,6 +354,7 @@ module _ {C V : Type 0} (number : C → ℕ) (same : V → V → Bool) (always :
   by_outcome s (Refused e) f = f e refl
   by_outcome s _ f = tt
 
+  -- a step that is refused has its cause
   pub caused : (new : Option V) (s : Phase C V) (new' : Option V) (t : NextPhase C V) → Known number same always i a h k key kind new s → PhaseStepped number same always most why root key kind fail answer new s h new' t h' → IsCause why most always s t.report.outcome
   caused new s new' t x g = by_outcome s t.report.outcome (only new s new' t x g)
 
@@ -383,6 +384,7 @@ module _ {C V : Type 0} (number : C → ℕ) (same : V → V → Bool) (always :
   is_weaker s (Refused e) f x = cause_weaker s e f x
   is_weaker s _ f x = tt
 
+  -- a step on a store that refuses nodes for some reasons is one on a store that may do so for more
   pub next_weaker : (h : ℕ → Node V) (ms : List (Machine C V)) (o : Option (Machine C V)) (s : Step C V) (d : Move V) (h' : ℕ → Node V) (ms' : List (Machine C V)) → ((form : NodeType) (e : Refusal) → near form e → far form e)
       → NextAt number same always most near h ms o s d h' ms' → NextAt number same always most far h ms o s d h' ms'
   next_weaker h ms None s d h' ms' f g = g

@@ -71,7 +71,7 @@ module _ {C : Type 0} (number : C → ℕ) (K : ℕ → Type 0) (n : ℕ) where
   leaf_named (Some leaf) s e x = at_name leaf x e.0
 
   module _ {V : Type 0} where
-    pub made_named : (s : Phase C V) → Each K (names number s) → MadeBy number s n → K n
+    made_named : (s : Phase C V) → Each K (names number s) → MadeBy number s n → K n
     made_named (MakeGreater s p leaf) e x = leaf_named leaf s (left K (name_made number leaf) (names_site number s) e.1) x
     made_named (MakeBeside p at common byte top) e x = at_name top x e.1.1.0
     made_named (AskNew plan) e x = plan_named plan e x
@@ -84,7 +84,7 @@ module _ {C : Type 0} (number : C → ℕ) (K : ℕ → Type 0) (n : ℕ) where
     made_named (ChangeTwo two r) e x = made_for_two two e x
     made_named _ e x = absurd x
 
-    pub locked_named : (s : Phase C V) → Each K (names number s) → LockedBy number s n → K n
+    locked_named : (s : Phase C V) → Each K (names number s) → LockedBy number s n → K n
     locked_named (ChangeOne one r) e x = at_name one.at.node x e.0
     locked_named (UpgradeAbove two r) e x = top_named two e x
     locked_named (UpgradeBelow two r) e (inl x) = at_name two.above.seat.node x e.0
@@ -278,11 +278,14 @@ spared_notes number a h ms h' d n = note_after (a n) (h n) (h' n) (d.each n)
 
 module _ {C V : Type 0} (number : C → ℕ) (same : V → V → Bool) (always : Bool) (a : ℕ → Note) (h : ℕ → Node V) (ms : List (Machine C V)) (h' : ℕ → Node V)
     (p : ProtocolAt number same always a h ms) (s : Holdings number a h ms) (d : Destroys number h ms h') where
+  -- over the destruction a call may count on each node that is as it was
   pub spared_rely : (i : ℕ) → Rely (λ n. h' n ≡ h n) i a h (spared_notes number a h ms h' d) h'
   spared_rely i = rely number same always a h ms (spared_notes number a h ms h' d) h' p s d (λ n. fate_after (a n) (h n) (h' n) (d.each n)) i
 
+  -- each node that a call names is as it was
   pub spared_named : (i : ℕ) (m : Machine C V) → slice_get ms i ≡ Some m → Each (λ n. h' n ≡ h n) (names number m.phase)
   spared_named i m e = named number same always a h ms (spared_notes number a h ms h' d) h' p s d (λ n. fate_after (a n) (h n) (h' n) (d.each n)) i m e
 
+  -- each node of the tree is as it was
   pub spared_linked : (n : ℕ) → (a n).status ≡ Linked → h' n ≡ h n
   spared_linked n l = (linked_stays number same always a h ms (spared_notes number a h ms h' d) h' p s d (λ n. fate_after (a n) (h n) (h' n) (d.each n)) n l).0

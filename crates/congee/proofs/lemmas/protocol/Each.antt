@@ -3,17 +3,21 @@ use Rattle.std.proofs.Common.{ℕ, List, [], ◌∷◌, ◌++◌}
 use Rattle.std.specs.List.{AllByRecursion}
 
 module _ (K : ℕ → Type 0) where
+  -- the property is true of each of the list's elements
   abbrev pub Each : List ℕ → Type 0
   Each = AllByRecursion K
 
+  -- what is true of each element of two lists is true of each of both together
   pub each_append : (xs ys : List ℕ) → Each xs → Each ys → Each (xs ++ ys)
   each_append [] ys e f = f
   each_append (x ∷ xs) ys e f = (e.0, each_append xs ys e.1 f)
 
+  -- what is true of each element of two lists together is true of each of the first
   pub left : (xs ys : List ℕ) → Each (xs ++ ys) → Each xs
   left [] ys e = tt
   left (x ∷ xs) ys e = (e.0, left xs ys e.1)
 
+  -- what is true of each element of two lists together is true of each of the second
   pub right : (xs ys : List ℕ) → Each (xs ++ ys) → Each ys
   right [] ys e = e
   right (x ∷ xs) ys e = right xs ys e.1

@@ -83,12 +83,13 @@ module _ {C V : Type 0} (number : C → ℕ) (i : ℕ) (a : ℕ → Note) (h : �
   by_single one x None h' (Link leaf) o eb ex m fit fills g = absurd fit
   by_single one x (Some v) h' (Link leaf) o eb ex m fit fills g = leaf_in (number one.at.node) one.byte (number leaf) (get_or key 7 0) v g.0 h' o.linked m fills g.1 g.2
 
+  -- all nodes are filled after a change of one locked node that leaves it filled
   pub one_filled : (one : One C) (x : Hung V) (given : Option V) (h' : ℕ → Node V) → OneLocked number i a h key one x → FitsOne one.change x given
       → FillsOne number h one.change given (number one.at.node) (h (number one.at.node)) → ChangedOne number key given one one.change h h' → AllFilled h'
   one_filled one x given h' o fit fills g = by_single one x given h' one.change o.holding o.placed.byte o.wanted.child o.made fit fills g
 
   -- a node that hangs in the tree isn't the root
-  pub below_root : (p b m : ℕ) → (a p).status ≡ Linked → (h p).children b ≡ Below m → m ≢ 0
+  below_root : (p b m : ℕ) → (a p).status ≡ Linked → (h p).children b ≡ Below m → m ≢ 0
   below_root p b m l e q = let z : length (h m).prefix ≡ length (h 0).prefix = ap (λ y. length (h y).prefix) q in let y : length (h 0).prefix ≡ 0 = ap length t.empty in absurd (omega (arith, z, y, (t.down p b m l e).longer))
 
   -- the node above keeps as many children
@@ -297,6 +298,7 @@ module _ {C V : Type 0} (number : C → ℕ) (i : ℕ) (a : ℕ → Note) (h : �
       let hung : (h (number two.above.seat.node)).children two.above.byte ≡ Below (number two.at.node) = at_byte (number two.above.seat.node) two.above.byte (Below (number two.at.node)) o.byte o.child in
       fork_in (number two.above.seat.node) two.above.byte (number two.at.node) (number top) (number leaf) common byte v g.0 g.1 g.2 h' o.holding.linked hung m.0 m.1 m.2 (λ e. p.0.apart (sym p.1 ∙ e)) fills.0 fills.1 g.3 g.4 g.5 g.6
 
+  -- all nodes are filled after a change of two locked nodes that leaves them filled
   pub two_filled : (two : Two C) (given found : Option V) (q : ℕ) (h' : ℕ → Node V) → TopLocked number i a h key two.top (number two.above.seat.node) → AboveLocked number i a h key two.above (number two.at.node)
       → PlacedTwo key two.change (h (number two.at.node)).prefix → WantedTwo key two.change found q (h (number two.at.node)) → MadeTwo number i a h key two.above two.change (length (h (number two.at.node)).prefix) q → FitsTwo two.change found given
       → FillsTwo number h two.change (number two.above.seat.node) (h (number two.above.seat.node)) (number two.at.node) (h (number two.at.node)) → ChangedTwo number key given two two.change h h' → AllFilled h'

@@ -191,6 +191,7 @@ module _ {C V : Type 0} (number : C → ℕ) (key : List ℕ) (K : ℕ → Type 
   small_on s None m x = tt
   small_on s (Some leaf) m x = held_places (number leaf) 7 0 m.1 ∙ x
 
+  -- what a call is about to do leaves the tree filled over the steps of others
   pub fills_kept : (same : V → V → Bool) (always : Bool) (k : ℕ) (kind : Kind V) (given : Option V) (s : Phase C V) → Each K (names number s) → Known number same always i a h k key kind given s → Fills number h given s → Fills number h' given s
   fills_kept same always k kind given (MakeGreater s p leaf) e m x = small_on s leaf m.3 x
   fills_kept same always k kind given (MakeBeside p at common byte top) e m x = held_places (number top) common 1 m.6 ∙ x

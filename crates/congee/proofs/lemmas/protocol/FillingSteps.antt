@@ -85,9 +85,11 @@ grown n = by_test (λ (x : NodeType). least_in x ≤ suc n) (ltb n 4) _ _ (λ _.
     at_least n m e = grind (arith, nat_tests)
 
 module _ {V : Type 0} (a : ℕ → Note) (h : ℕ → Node V) (w : LockWords a h) where
+  -- where no node changed, what was in the tree is as it was
   pub still_equal : (h' : ℕ → Node V) → h' ≡ h → Still a h h'
   still_equal h' e n l = alike (h n) (h' n) (ap (λ g. g n) e)
 
+  -- where one node alone changed, and kept prefix, children and places, what was in the tree is as it was
   pub still_but : (h' : ℕ → Node V) (c : ℕ) (x : Node V) → Alike (h c) x → SameBut h c x h' → Still a h h'
   still_but h' c x s g n l = elim (same_or_not n c) [
     | inl e ↦ (let P : ℕ → Type 0 = λ y. Alike (h y) (h' y) in let Q : Node V → Type 0 = λ y. Alike (h c) y in subst P (sym e) (subst Q (sym g.after) s))
@@ -101,6 +103,7 @@ module _ {V : Type 0} (a : ℕ → Note) (h : ℕ → Node V) (w : LockWords a h
   published_made : (n : ℕ) → is_published (a n).status ≡ true → (h n).made ≡ true
   published_made n p = ((w.each n).stands p).made
 
+  -- where a new node was made, what was in the tree is as it was
   pub still_new : (h' : ℕ → Node V) (c : ℕ) (form : NodeType) (key : List ℕ) (size : ℕ) → NewNode h c form key size h' → Still a h h'
   still_new h' c form key size g n l = alike (h n) (h' n) (g.others n (new_apart h' c form key size n g (published_made n (ap is_published l))))
 
@@ -126,6 +129,7 @@ module _ {C V : Type 0} (number : C → ℕ) (h h' : ℕ → Node V) where
   PlacesOne Set = Unit {0}
   PlacesOne (Link leaf) = (h' (number leaf)).capacity ≡ (h (number leaf)).capacity
 
+  -- the made nodes of a change of two have as many places
   abbrev pub PlacesTwo : Double C → Type 0
   PlacesTwo Unlink = Unit {0}
   PlacesTwo Collapse = Unit {0}
@@ -151,11 +155,13 @@ module _ {C V : Type 0} (number : C → ℕ) (h h' : ℕ → Node V) where
   without_on : (s s' c c' k k' : ℕ) → s' ≡ s → c' ≡ c → k' ≡ k → FilledWithout s c k → FilledWithout s' c' k'
   without_on s s' c c' k k' es ec ek x j e = filled_same s j k s' j k' es refl ek (x j (e ∙ ec))
 
+  -- what a change of one node leaves filled, it leaves so where the node is alike
   pub fills_one_on : (change : Single C) (given : Option V) (k : ℕ) (n n' : Node V) → Alike n n' → PlacesOne change → FillsOne number h change given k n → FillsOne number h' change given k n'
   fills_one_on (Link leaf) given k n n' s e x = e ∙ x
   fills_one_on Set None k n n' s e x = λ nz. without_on (length n.prefix) (length n'.prefix) n.count n'.count n.capacity n'.capacity (ap length s.prefix) s.count s.capacity (x nz)
   fills_one_on Set (Some v) k n n' s e x = tt
 
+  -- what a change of two nodes leaves filled, it leaves so where both nodes are alike
   pub fills_two_on : (change : Double C) (m : ℕ) (q q' : Node V) (k : ℕ) (n n' : Node V) → Alike q q' → Alike n n' → PlacesTwo change → FillsTwo number h change m q k n → FillsTwo number h' change m q' k n'
   fills_two_on Unlink m q q' k n n' sq sn e x = λ nz. without_on (length q.prefix) (length q'.prefix) q.count q'.count q.capacity q'.capacity (ap length sq.prefix) sq.count sq.capacity (x nz)
   fills_two_on Collapse m q q' k n n' sq sn e x = tt
@@ -168,6 +174,7 @@ module _ {C V : Type 0} (number : C → ℕ) (h h' : ℕ → Node V) where
 
 -- what the call is about to do, after a step that leaves the nodes
 module _ {C V : Type 0} (number : C → ℕ) (h : ℕ → Node V) where
+  -- what the call does next leaves the tree filled
   abbrev pub Next : Option V → NextPhase C V → Type 0
   Next given turn = Fills number h given turn.phase
 

@@ -28,7 +28,7 @@ use Rattle.congee.proofs.lemmas.Graft.{on_test}
 use Rattle.congee.proofs.lemmas.protocol.Lasting.{stands_changed, stands_over}
 
 -- each node that stood stands, or is one of M
-abbrev pub Loses : {V : Type 0} → (ℕ → Type 0) → (ℕ → Node V) → (ℕ → Node V) → Type 0
+abbrev Loses : {V : Type 0} → (ℕ → Type 0) → (ℕ → Node V) → (ℕ → Node V) → Type 0
 Loses M h h' = (n : ℕ) → Stands (h n) → Stands (h' n) ⊎ M n
 
 module _ {V : Type 0} (M : ℕ → Type 0) where
@@ -144,6 +144,7 @@ module _ {C V : Type 0} (number : C → ℕ) (h h' : ℕ → Node V) where
   two_changed M key new two (GrowLink c leaf byte) g = loses_none M h h' (λ n s. stands_changed g.2 h' _ _ n _ g.6 (stands_changed g.1 g.2 _ _ n _ g.5 (stands_over g.0 g.1 _ _ n g.4 (stands_changed h g.0 _ _ n _ g.3 s))))
   two_changed M key new two (Split top leaf common byte) g = loses_none M h h' (λ n s. stands_changed g.2 h' _ _ n _ g.6 (stands_changed g.1 g.2 _ _ n _ g.5 (stands_changed g.0 g.1 _ _ n _ g.4 (stands_changed h g.0 _ _ n _ g.3 s))))
 
+  -- a node that stood before a call's step stands after it, or is one that the call had made
   pub step_loses : (same : V → V → Bool) (always : Bool) (most : ℕ) (why : NodeType → Refusal → Type 0) (root : C) (key : List ℕ) (kind : Kind V) (fail : Bool) (answer : Option (Option V)) (new : Option V) (s : Phase C V) (new' : Option V) (t : NextPhase C V)
       → PhaseStepped number same always most why root key kind fail answer new s h new' t h' → Loses (MadeBy number s) h h'
   step_loses same always most why root key kind fail answer new (MakeLeaf s) new' t g = leaf_made _ kind s key g.1.0 t g.1.1

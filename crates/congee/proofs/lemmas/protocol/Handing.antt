@@ -80,7 +80,7 @@ made_idle : {V : Type 0} (i : ℕ) (a : ℕ → Note) (h : ℕ → Node V) (key 
 made_idle i a h key c size least m = unretired_idle (h c) m.unretired
 
 -- what a call hands over has left the tree, so no path leads to what waits
-pub waiting_out : {V : Type 0} (a : ℕ → Note) (h : ℕ → Node V) (n : ℕ) → Tree a h → LockWords a h → is_waiting (h n) ≡ true → IsOut h n
+waiting_out : {V : Type 0} (a : ℕ → Note) (h : ℕ → Node V) (n : ℕ) → Tree a h → LockWords a h → is_waiting (h n) ≡ true → IsOut h n
 waiting_out a h n t w e = unlinked_out a h n t (λ l. let z : true ≡ false = sym e ∙ linked_idle a h n w l in cc)
 
 -- each node is as it was, or doesn't wait, before and after
@@ -175,7 +175,7 @@ module _ {C V : Type 0} (number : C → ℕ) (i : ℕ) (a : ℕ → Note) (h : �
       spares_then h g.1 h' s2 (spares_change g.1 h' p _ _ (still_idle h g.1 p s2 e) g.4)
 
   -- the node above both doesn't wait
-  abbrev pub TopIdle : Option (Parent C) → Type 0
+  abbrev TopIdle : Option (Parent C) → Type 0
   TopIdle None = Unit {0}
   TopIdle (Some top) = is_waiting (h (number top.seat.node)) ≡ false
 
@@ -486,10 +486,12 @@ module _ {C V : Type 0} (number : C → ℕ) (h : ℕ → Node V) (ms : List (Ma
   given_apart : (n : ℕ) → Gives number h m.phase n h' m'.phase → Untouched h h'
   given_apart n g c x = g.others c (λ q. let y : is_waiting (h c) ≡ false = (let P : ℕ → Type 0 = λ z. is_waiting (h z) ≡ false in subst P (sym q) g.before) in let z : true ≡ false = sym x ∙ y in cc)
 
+  -- a call's step hands over nothing, or one node that the call took out
   pub stepped_hands : ((c : ℕ) → IsLeaving m.phase c → IsLeaving m'.phase c) → SparesWaiting h h' ⊎ ((n : ℕ) × Gives number h m.phase n h' m'.phase) → StepHands number h ms i h' (set ms i m')
   stepped_hands f (inl s) = hands_nothing f s
   stepped_hands f (inr g) = hands_node g.0 g.1
 
+  -- a call's step leaves what was handed over as it is
   pub stepped_apart : SparesWaiting h h' ⊎ ((n : ℕ) × Gives number h m.phase n h' m'.phase) → Untouched h h'
   stepped_apart (inl s) = spared s
   stepped_apart (inr g) = given_apart g.0 g.1
@@ -621,6 +623,7 @@ module _ {C V : Type 0} (by : ℕ → List ℕ) (h0 : ℕ → Node V) (ss : List
       untouched = λ c y. u c (ap is_waiting (p.untouched c y) ∙ y) ∙ p.untouched c y;
     }
 
+  -- what a run handed over, with one step more: each node once, by one call, and out of the tree
   pub handing_more : HandsAt by h s.who by' h' → Handing by' h0 (ss ++ s ∷ []) h' ms'
   handing_more (inl x) = more_nothing x
   handing_more (inr x) = more_node x.0 x.1

@@ -303,6 +303,7 @@ module _ {C V : Type 0} (number : C → ℕ) (i : ℕ) (a : ℕ → Note) (h : �
 
 module _ {C V : Type 0} (number : C → ℕ) (same : V → V → Bool) (always : Bool) (i : ℕ) (a : ℕ → Note) (h : ℕ → Node V) (a' : ℕ → Note) (h' : ℕ → Node V) (k : ℕ)
     (w : LockWords a h) (t : Tree a h) (w' : LockWords a' h') (t' : Tree a' h') (f : (n : ℕ) → Fares i (a n) (a' n) (h n) (h' n)) where
+  -- after the step the call's locks and made nodes are those that its next phase has
   abbrev pub Now : Phase C V → Type 0
   Now s = Holds_now number same always i a h a' h' (key_bytes k) w w' t' f s
 

@@ -90,6 +90,7 @@ module _ {V : Type 0} where
     | inr ne ↦ subst Stands (sym (g.others n ne)) s
   ]
 
+  -- a node that stood stands after the children of one node went over into another
   pub stands_over : (h h' : ℕ → Node V) (m c n : ℕ) → TakeOverGives h m c h' → Stands (h n) → Stands (h' n)
   stands_over h h' m c n g s = elim (cases_eq n c) [
     | inl e ↦ (let P : ℕ → Type 0 = λ y. Stands (h y) → Stands (h' y) in subst P (sym e) (λ z. record { made = g.made ∙ z.made; kept = g.destroyed ∙ z.kept }) s)
@@ -226,6 +227,7 @@ module _ {C V : Type 0} (number : C → ℕ) (h h' : ℕ → Node V) where
       (still_then h2 h3 h' (still_change h2 h3 (number top) _ _ t2 g.5)
       (still_change h3 h' (number two.above.seat.node) _ _ up3 g.6)))
 
+  -- a step of a call leaves used names used, and destroyed nodes as they are
   pub step_still : (same : V → V → Bool) (always : Bool) (most : ℕ) (why : NodeType → Refusal → Type 0) (root : C) (key : List ℕ) (kind : Kind V) (fail : Bool) (answer : Option (Option V)) (new : Option V) (s : Phase C V) (new' : Option V) (t : NextPhase C V)
       → MayStep number root key new s h → PhaseStepped number same always most why root key kind fail answer new s h new' t h' → Still h h'
   step_still same always most why root key kind fail answer new (MakeLeaf s) new' t may g = leaf_made kind s key g.1.0 t g.1.1

@@ -128,19 +128,19 @@ unfoldable pub collapsed : (ℕ → Note) → ℕ → ℕ → ℕ → ℕ → �
 collapsed a i g p n o = noted (noted (noted a o (below_note (a o) g)) p (out_note i g)) n (out_note i p)
 
 module _ (a : ℕ → Note) (i g p n o : ℕ) where
-  pub collapsed_leaf : collapsed a i g p n o n ≡ out_note i p
+  collapsed_leaf : collapsed a i g p n o n ≡ out_note i p
   unfolding collapsed
   collapsed_leaf = noted_same _ n _
 
-  pub collapsed_above : p ≢ n → collapsed a i g p n o p ≡ out_note i g
+  collapsed_above : p ≢ n → collapsed a i g p n o p ≡ out_note i g
   unfolding collapsed
   collapsed_above pn = noted_other _ n _ p pn ∙ noted_same _ p _
 
-  pub collapsed_child : o ≢ n → o ≢ p → collapsed a i g p n o o ≡ below_note (a o) g
+  collapsed_child : o ≢ n → o ≢ p → collapsed a i g p n o o ≡ below_note (a o) g
   unfolding collapsed
   collapsed_child on op = noted_other _ n _ o on ∙ (noted_other _ p _ o op ∙ noted_same a o _)
 
-  pub collapsed_rest : (x : ℕ) → x ≢ n → x ≢ p → x ≢ o → collapsed a i g p n o x ≡ a x
+  collapsed_rest : (x : ℕ) → x ≢ n → x ≢ p → x ≢ o → collapsed a i g p n o x ≡ a x
   unfolding collapsed
   collapsed_rest x xn xp xo = noted_other _ n _ x xn ∙ (noted_other _ p _ x xp ∙ noted_other a o _ x xo)
 
@@ -149,11 +149,11 @@ unfoldable pub lessened : (ℕ → Note) → ℕ → ℕ → ℕ → ℕ → ℕ
 lessened a i g p n c = noted (regrown a i g p c c) n (out_note i p)
 
 module _ (a : ℕ → Note) (i g p n c : ℕ) where
-  pub lessened_leaf : lessened a i g p n c n ≡ out_note i p
+  lessened_leaf : lessened a i g p n c n ≡ out_note i p
   unfolding lessened
   lessened_leaf = noted_same _ n _
 
-  pub lessened_other : (x : ℕ) → x ≢ n → lessened a i g p n c x ≡ regrown a i g p c c x
+  lessened_other : (x : ℕ) → x ≢ n → lessened a i g p n c x ≡ regrown a i g p c c x
   unfolding lessened
   lessened_other x xn = noted_other _ n _ x xn
 

@@ -40,11 +40,11 @@ pub own_rely : {V : Type 0} (i : ℕ) (a : ℕ → Note) (h : ℕ → Node V) (a
 own_rely i a h a' h' e = e.others (suc i) (λ z. omega (arith, z))
 
 -- what is true of a node as long as its word is the one taken stays so over the call's own step
-pub own_fresh : {V : Type 0} (i : ℕ) (a : ℕ → Note) (h : ℕ → Node V) (a' : ℕ → Note) (h' : ℕ → Node V) → Effect i a h a' h' → (n v : ℕ) (Q : Node V → Type 0) → Fresh a h n v Q → Fresh a' h' n v Q
+own_fresh : {V : Type 0} (i : ℕ) (a : ℕ → Note) (h : ℕ → Node V) (a' : ℕ → Note) (h' : ℕ → Node V) → Effect i a h a' h' → (n v : ℕ) (Q : Node V → Type 0) → Fresh a h n v Q → Fresh a' h' n v Q
 own_fresh i a h a' h' e n v Q f = fresh_kept (λ _. Unit {0}) (suc i) a h a' h' (own_rely i a h a' h' e) n v Q tt f
 
 -- a node that is or was in reach keeps its prefix over a call's own step
-pub own_prefix : {V : Type 0} (i : ℕ) (a : ℕ → Note) (h : ℕ → Node V) (a' : ℕ → Note) (h' : ℕ → Node V) → Effect i a h a' h' → (n : ℕ) → is_published (a n).status ≡ true → (h' n).prefix ≡ (h n).prefix
+own_prefix : {V : Type 0} (i : ℕ) (a : ℕ → Note) (h : ℕ → Node V) (a' : ℕ → Note) (h' : ℕ → Node V) → Effect i a h a' h' → (n : ℕ) → is_published (a n).status ≡ true → (h' n).prefix ≡ (h n).prefix
 own_prefix i a h a' h' e n p = (own_rely i a h a' h' e).prefix n tt p
 
 -- a made node that the step leaves alone
@@ -72,14 +72,14 @@ pub record OnOne {V : Type 0} (a : ℕ → Note) (h : ℕ → Node V) (a' : ℕ 
   pub notes : (m : ℕ) → m ≢ n → a' m ≡ a m
 
 module _ {C V : Type 0} (number : C → ℕ) (i : ℕ) (a : ℕ → Note) (h : ℕ → Node V) (a' : ℕ → Note) (h' : ℕ → Node V) (key : List ℕ) (n : ℕ) (o : OnOne a h a' h' n) where
-  pub made_on : (c size least : ℕ) → Made i a h key c size least → Made i a' h' key c size least
+  made_on : (c size least : ℕ) → Made i a h key c size least → Made i a' h' key c size least
   made_on c size least m = let ne : c ≢ n = made_apart i a h key c size least n m o.published in made_same i a h a' h' key c size least (o.nodes c ne) (o.notes c ne) m
 
-  pub made_one_on : (change : Single C) → MadeOne number i a h key change → MadeOne number i a' h' key change
+  made_one_on : (change : Single C) → MadeOne number i a h key change → MadeOne number i a' h' key change
   made_one_on Set m = tt
   made_one_on (Link leaf) m = made_on (number leaf) 7 0 m
 
-  pub made_two_on : (p : Parent C) (change : Double C) (size size' q : ℕ) → size' ≡ size → MadeTwo number i a h key p change size q → MadeTwo number i a' h' key p change size' q
+  made_two_on : (p : Parent C) (change : Double C) (size size' q : ℕ) → size' ≡ size → MadeTwo number i a h key p change size q → MadeTwo number i a' h' key p change size' q
   made_two_on p Unlink size size' q e m = tt
   made_two_on p Collapse size size' q e m = m
   made_two_on p (Shrink c) size size' q e m = let P : ℕ → Type 0 = λ x. Made i a' h' key (number c) x q in subst P (sym e) (made_on (number c) size q m)
@@ -93,7 +93,7 @@ module _ {C V : Type 0} (number : C → ℕ) (i : ℕ) (a : ℕ → Note) (h : �
   made_two_on p (Split top leaf common byte) size size' q e m = (made_on (number top) common 1 m.0, made_on (number leaf) 7 0 m.1, m.2)
 
   -- a locked node, but for this one, and what it holds
-  pub above_on : (p : Parent C) (m : ℕ) → number p.seat.node ≢ n → AboveLocked number i a h key p m → AboveLocked number i a' h' key p m
+  above_on : (p : Parent C) (m : ℕ) → number p.seat.node ≢ n → AboveLocked number i a h key p m → AboveLocked number i a' h' key p m
   above_on p m ne x =
       let e : h' (number p.seat.node) ≡ h (number p.seat.node) = o.nodes (number p.seat.node) ne in
       let f : a' (number p.seat.node) ≡ a (number p.seat.node) = o.notes (number p.seat.node) ne in
@@ -107,7 +107,7 @@ module _ {C V : Type 0} (number : C → ℕ) (i : ℕ) (a : ℕ → Note) (h : �
         form = rw e x.form;
       }
 
-  pub top_on : (top : Option (Parent C)) (m : ℕ) → ((p : Parent C) → AboveLocked number i a h key p m → number p.seat.node ≢ n) → TopLocked number i a h key top m → TopLocked number i a' h' key top m
+  top_on : (top : Option (Parent C)) (m : ℕ) → ((p : Parent C) → AboveLocked number i a h key p m → number p.seat.node ≢ n) → TopLocked number i a h key top m → TopLocked number i a' h' key top m
   top_on None m ne x = tt
   top_on (Some p) m ne x = above_on p m (ne p x) x
 
@@ -125,9 +125,10 @@ locked_taken most n v fail e = by_limit (v == most) e where
 module _ {C V : Type 0} (number : C → ℕ) (same : V → V → Bool) (always : Bool) (i : ℕ) (a : ℕ → Note) (h : ℕ → Node V) (k : ℕ) (kind : Kind V) (given : Option V)
     (t : Tree a h) (w : LockWords a h) where
   -- a still step after which the call knows what its next phase says
-  pub still_kept : (a' : ℕ → Note) (h' : ℕ → Node V) (s : Phase C V) → KeepsMap i a h a' h' → Known number same always i a' h' k (key_bytes k) kind given s → Kept number same always i a h k kind given given (quiet s) h'
+  still_kept : (a' : ℕ → Note) (h' : ℕ → Node V) (s : Phase C V) → KeepsMap i a h a' h' → Known number same always i a' h' k (key_bytes k) kind given s → Kept number same always i a h k kind given given (quiet s) h'
   still_kept a' h' s e m = record { notes = a'; effect = e.effect; sound = record { known = m; answer = e.map } }
 
+  -- once its one node is locked, a call knows what its change of it wants
   pub lock_one : (one : One C) (r : Reply V) (h' : ℕ → Node V) → Known number same always i a h k (key_bytes k) kind given (UpgradeOne one r) → is_taken (h (number one.at.node)) one.at.version ≡ true
       → SameBut h (number one.at.node) (record (h (number one.at.node)) { locked = true }) h' → Kept number same always i a h k kind given given (quiet (ChangeOne one r)) h'
   lock_one one r h' m q g =
@@ -156,9 +157,11 @@ module _ {C V : Type 0} (number : C → ℕ) (same : V → V → Bool) (always :
   pub above_longer : (p : Parent C) (m : ℕ) → AboveLocked number i a h (key_bytes k) p m → length (h (number p.seat.node)).prefix < length (h m).prefix
   above_longer p m x = (t.down (number p.seat.node) _ m x.holding.linked x.child).longer
 
+  -- two nodes of which one has a shorter prefix are not one
   pub by_prefix : (x y : ℕ) → length (h x).prefix < length (h y).prefix → x ≢ y
   by_prefix x y l e = let z : length (h x).prefix ≡ length (h y).prefix = ap (λ b. length (h b).prefix) e in absurd (omega (arith, l))
 
+  -- once the node above both is locked, a call knows what the lock of the upper one wants
   pub lock_top : (top : Parent C) (two : Two C) (r : Reply V) (h' : ℕ → Node V) → Known number same always i a h k (key_bytes k) kind given (UpgradeTop top two r) → is_taken (h (number top.seat.node)) top.seat.version ≡ true
       → SameBut h (number top.seat.node) (record (h (number top.seat.node)) { locked = true }) h' → Kept number same always i a h k kind given given (quiet (UpgradeAbove (record two { top = Some top }) r)) h'
   lock_top top two r h' m q g =
@@ -196,6 +199,7 @@ module _ {C V : Type 0} (number : C → ℕ) (same : V → V → Bool) (always :
         ),
       )
 
+  -- once the upper node is locked, a call knows what the lock of the lower one wants
   pub lock_above : (two : Two C) (r : Reply V) (h' : ℕ → Node V) → Known number same always i a h k (key_bytes k) kind given (UpgradeAbove two r) → is_taken (h (number two.above.seat.node)) two.above.seat.version ≡ true
       → SameBut h (number two.above.seat.node) (record (h (number two.above.seat.node)) { locked = true }) h' → Kept number same always i a h k kind given given (quiet (UpgradeBelow two r)) h'
   lock_above two r h' m q g =
@@ -239,6 +243,7 @@ module _ {C V : Type 0} (number : C → ℕ) (same : V → V → Bool) (always :
       let c : IsChild a h p (get_or (key_bytes k) (length (h p).prefix) 0) n = t.down p _ n l e in
       let z : length (h p).prefix ≡ length (h n).prefix = ap (λ y. length (h y).prefix) q in absurd (omega (arith, c.longer))
 
+  -- once both nodes are locked, a call knows what its change of them wants
   pub lock_both : (two : Two C) (r : Reply V) (h' : ℕ → Node V) → Known number same always i a h k (key_bytes k) kind given (UpgradeBelow two r) → is_taken (h (number two.at.node)) two.at.version ≡ true
       → SameBut h (number two.at.node) (record (h (number two.at.node)) { locked = true }) h' → Kept number same always i a h k kind given given (quiet (ChangeTwo two r)) h'
   lock_both two r h' m q g =
@@ -287,11 +292,13 @@ module _ {C V : Type 0} (number : C → ℕ) (same : V → V → Bool) (always :
   out_on a' h' n None nodes notes x = tt
   out_on a' h' n (Some c) nodes notes x = (rw (notes (number c) x.3) x.0, rw (notes (number c) x.3) x.1, rw (nodes (number c) x.3) x.2, x.3)
 
+  -- once a node that it took out is marked, a call knows what handing it over wants
   pub marked : (n : C) (next : Option C) (p : C) (r : Reply V) (h' : ℕ → Node V) → Known number same always i a h k (key_bytes k) kind given (Obsolete n next p r) → ObsoleteGives h (number n) h'
       → Kept number same always i a h k kind given given (quiet (Retire n next p r)) h'
   marked n next p r h' m g = still_kept a h' (Retire n next p r) (obsolete_still i a h (number p) (number n) h' t w m.0 g)
       (record { above = m.0.above; owner = m.0.owner; gone = m.0.gone; unretired = rw g.after m.0.unretired }, out_on a h' (number n) next g.others (λ x _. refl) m.1, rw g.after refl)
 
+  -- once a node is handed over, a call knows what marking the next one wants, or letting the last lock go
   pub handed_over : (n : C) (next : Option C) (p : C) (r : Reply V) (h' : ℕ → Node V) → Known number same always i a h k (key_bytes k) kind given (Retire n next p r) → RetireGives h (number n) h'
       → Kept number same always i a h k kind given given (after_retire next p r) h'
   handed_over n next p r h' m g =
@@ -306,16 +313,19 @@ module _ {C V : Type 0} (number : C → ℕ) (same : V → V → Bool) (always :
       by_next None e held o = still_kept (own a (number n) None) h' (Unlock p r) e held
       by_next (Some c) e held o = still_kept (own a (number n) None) h' (Obsolete c None p r) e (record { above = held; owner = o.0; gone = o.1; unretired = o.2 }, tt)
 
+  -- once the lower node is unlocked, a call still holds the upper one
   pub unlocked_below : (n p : C) (r : Reply V) (h' : ℕ → Node V) → Known number same always i a h k (key_bytes k) kind given (UnlockBelow n p r) → UnlockGives h (number n) h' → Kept number same always i a h k kind given given (quiet (Unlock p r)) h'
   unlocked_below n p r h' m g =
       let np : own a (number n) None (number p) ≡ a (number p) = noted_other a (number n) _ (number p) (λ e. m.2 (sym e)) in
       still_kept (own a (number n) None) h' (Unlock p r) (unlock_still i a h (number n) h' t w m.0 g) (record { owner = rw np m.1.owner; linked = rw np m.1.linked })
 
+  -- a call that lets its last lock go has ended, and the map is as it was
   pub unlocked_last : (n : C) (r : Reply V) (h' : ℕ → Node V) → Known number same always i a h k (key_bytes k) kind given (Unlock n r) → UnlockGives h (number n) h' → Kept number same always i a h k kind given given (finished r) h'
   unlocked_last n r h' m g =
       let e : KeepsMap i a h (own a (number n) None) h' = unlock_still i a h (number n) h' t w m g in
       record { notes = own a (number n) None; effect = e.effect; sound = record { known = tt; answer = e.map } }
 
+  -- once a lock of a given-up attempt is let go, the map is as it was, and a call knows what its next step wants
   pub unwinds : (root : C) → number root ≡ 0 → (n : C) (next : Option C) (refusal : Option Refusal) (h' : ℕ → Node V) → Known number same always i a h k (key_bytes k) kind given (Unwind n next refusal) → UnlockGives h (number n) h'
       → Kept number same always i a h k kind given given (after_unwind root next refusal) h'
   unwinds root z n (Some c) refusal h' m g =

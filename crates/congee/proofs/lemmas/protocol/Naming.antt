@@ -151,6 +151,7 @@ module _ {C V : Type 0} (number : C → ℕ) (same : V → V → Bool) (always :
     names_known kind given (Sweep s) x = up _ (names_sweep number s) (sweep_at s s.stage x)
     names_known kind given Ended x = tt
 
+    -- each node that a call names is or was in reach, or is one that it has made
     pub named : (kind : Kind V) (given : Option V) (s : Phase C V) → Known number same always i a h k key kind given s → (n : ℕ) → Contains (names number s) n → (is_published (a n).status ≡ true) ⊎ MadeBy number s n
     named kind given s x n c = All-contains (Or (MadeBy number s)) (names number s) n (All-from_recursion (Or (MadeBy number s)) (names number s) (names_known kind given s x)) c
 

@@ -43,6 +43,7 @@ unfolding opened
 opened_root = refl
 
 module _ {V : Type 0} (h : ℕ → Node V) (r : RootAlone h) where
+  -- a root alone is a tree
   pub opening_tree : Tree opened h
   opening_tree = record {
     root = opened_root;
@@ -53,6 +54,7 @@ module _ {V : Type 0} (h : ℕ → Node V) (r : RootAlone h) where
     up = λ n l ne. absurd (ne (opened_linked n l));
   }
 
+  -- where the root stands alone, each node's lock word and life agree with the ledger
   pub opening_words : LockWords opened h
   opening_words = record {
     each = λ n. record {

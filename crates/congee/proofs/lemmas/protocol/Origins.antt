@@ -278,7 +278,7 @@ module _ {C : Type 0} (V : Type 0) (number : C → ℕ) (K : ℕ → Type 0) whe
       found s c m q n e = hangs (number s.at.node) (slice_index (key_bytes k) (length (h (number s.at.node)).prefix)) n
           (taken_linked a h w (number s.at.node) s.at.version m.fresh.seated.published q) ((m.fresh.holds q).child ∙ e)
 
-      pub step_names : (s : Phase C V) → Known number same always i a h k (key_bytes k) kind given s → PhaseStepped number same always most why root (key_bytes k) kind fail answer given s h given' turn h' → Each K (names number s) → Leaves turn
+      step_names : (s : Phase C V) → Known number same always i a h k (key_bytes k) kind given s → PhaseStepped number same always most why root (key_bytes k) kind fail answer given s h given' turn h' → Each K (names number s) → Leaves turn
       step_names New m g e = at_turn turn _ g.2 (of_version root top None root _ top tt)
       step_names (Version p c) m g e = at_turn turn _ g.2 (of_version root top p c _ e.0 e.1)
       step_names (Read p at) m g e = at_turn turn _ g.2.2 (of_read root top p at g.2.0 e.0 e.1)

@@ -24,13 +24,13 @@ use Rattle.congee.proofs.lemmas.Graft.{on_test}
 use Rattle.congee.proofs.lemmas.Fits.{equal}
 
 -- a node that was made is one of the list
-pub made_within : (nodes : List PlainNode) (i : ℕ) → (plain_heap nodes i).made ≡ true → i < length nodes
+made_within : (nodes : List PlainNode) (i : ℕ) → (plain_heap nodes i).made ≡ true → i < length nodes
 made_within [] i m = absurd (let z : false ≡ true = m in cc)
 made_within (x ∷ nodes) zero m = omega arith
 made_within (x ∷ nodes) (suc i) m = omega (arith, made_within nodes i m)
 
 -- a node that was made is the one in its place, whatever is read past the end
-pub heap_is : (nodes : List PlainNode) (i : ℕ) (z : PlainNode) → (plain_heap nodes i).made ≡ true → plain_heap nodes i ≡ plain_node_of (Some (get_or nodes i z))
+heap_is : (nodes : List PlainNode) (i : ℕ) (z : PlainNode) → (plain_heap nodes i).made ≡ true → plain_heap nodes i ≡ plain_node_of (Some (get_or nodes i z))
 heap_is [] i z m = absurd (let q : false ≡ true = m in cc)
 heap_is (x ∷ nodes) zero z m = refl
 heap_is (x ∷ nodes) (suc i) z m = heap_is nodes i z m
@@ -40,13 +40,13 @@ pub heap_at : (nodes : List PlainNode) (i : ℕ) (x : PlainNode) → (plain_heap
 heap_at nodes i x m e = heap_is nodes i x m ∙ ap (λ y. plain_node_of (Some y)) (sym e)
 
 -- a node that was set stands under its number
-pub heap_set : (nodes : List PlainNode) (i : ℕ) (y : PlainNode) → i < length nodes → plain_heap (set nodes i y) i ≡ plain_node_of (Some y)
+heap_set : (nodes : List PlainNode) (i : ℕ) (y : PlainNode) → i < length nodes → plain_heap (set nodes i y) i ≡ plain_node_of (Some y)
 heap_set [] i y l = absurd (omega arith)
 heap_set (x ∷ nodes) zero y l = refl
 heap_set (x ∷ nodes) (suc i) y l = heap_set nodes i y (omega arith)
 
 -- every other node is as it was where one is set
-pub heap_beside : (nodes : List PlainNode) (i : ℕ) (y : PlainNode) (m : ℕ) → m ≢ i → plain_heap (set nodes i y) m ≡ plain_heap nodes m
+heap_beside : (nodes : List PlainNode) (i : ℕ) (y : PlainNode) (m : ℕ) → m ≢ i → plain_heap (set nodes i y) m ≡ plain_heap nodes m
 heap_beside [] i y m ne = refl
 heap_beside (x ∷ nodes) zero y zero ne = absurd (ne refl)
 heap_beside (x ∷ nodes) zero y (suc m) ne = refl
@@ -54,17 +54,17 @@ heap_beside (x ∷ nodes) (suc i) y zero ne = refl
 heap_beside (x ∷ nodes) (suc i) y (suc m) ne = heap_beside nodes i y m (λ e. ne (ap suc e))
 
 -- a node that comes last stands under the next number
-pub heap_push : (nodes : List PlainNode) (y : PlainNode) → plain_heap (nodes ++ y ∷ []) (length nodes) ≡ plain_node_of (Some y)
+heap_push : (nodes : List PlainNode) (y : PlainNode) → plain_heap (nodes ++ y ∷ []) (length nodes) ≡ plain_node_of (Some y)
 heap_push [] y = refl
 heap_push (x ∷ nodes) y = heap_push nodes y
 
 -- under the next number no node was made
-pub heap_past : (nodes : List PlainNode) → plain_heap nodes (length nodes) ≡ plain_node_of None
+heap_past : (nodes : List PlainNode) → plain_heap nodes (length nodes) ≡ plain_node_of None
 heap_past [] = refl
 heap_past (x ∷ nodes) = heap_past nodes
 
 -- every other node is as it was where one comes last
-pub heap_before : (nodes : List PlainNode) (y : PlainNode) (m : ℕ) → m ≢ length nodes → plain_heap (nodes ++ y ∷ []) m ≡ plain_heap nodes m
+heap_before : (nodes : List PlainNode) (y : PlainNode) (m : ℕ) → m ≢ length nodes → plain_heap (nodes ++ y ∷ []) m ≡ plain_heap nodes m
 heap_before [] y zero ne = absurd (ne refl)
 heap_before [] y (suc m) ne = refl
 heap_before (x ∷ nodes) y zero ne = refl

@@ -10,11 +10,11 @@ use Rattle.congee.specs.protocol.Events.{hung, weight, kept}
 use Rattle.congee.specs.protocol.Plain.{is_there, count_of, child_at, NamesStay}
 
 -- places without a child have none with one more blank
-pub count_blank : (xs : List (Child ℕ ℕ)) → count_of xs ≡ 0 → count_of (xs ++ Blank ∷ []) ≡ 0
+count_blank : (xs : List (Child ℕ ℕ)) → count_of xs ≡ 0 → count_of (xs ++ Blank ∷ []) ≡ 0
 count_blank xs e = sum_by_push (λ x. cond (is_there x) 1 0) xs Blank ∙ rw e refl
 
 -- places where nothing hangs are so with one more blank
-pub blank_more : (xs : List (Child ℕ ℕ)) → ((b : ℕ) → child_at xs b ≡ Nothing) → (b : ℕ) → child_at (xs ++ Blank ∷ []) b ≡ Nothing
+blank_more : (xs : List (Child ℕ ℕ)) → ((b : ℕ) → child_at xs b ≡ Nothing) → (b : ℕ) → child_at (xs ++ Blank ∷ []) b ≡ Nothing
 blank_more [] e zero = refl
 blank_more [] e (suc b) = refl
 blank_more (x ∷ xs) e zero = e 0
@@ -27,7 +27,7 @@ past (x ∷ xs) zero l = absurd (omega arith)
 past (x ∷ xs) (suc b) l = past xs b (omega arith)
 
 -- the same children hang alike
-pub same_hung : (x y : Child ℕ ℕ) → x ≡ y → hung (λ n. n) x ≡ hung (λ n. n) y
+same_hung : (x y : Child ℕ ℕ) → x ≡ y → hung (λ n. n) x ≡ hung (λ n. n) y
 same_hung x y e = ap (λ z. hung (λ n. n) z) e
 
 -- what is read in a place hangs at its byte
@@ -51,7 +51,7 @@ child_beside (y ∷ xs) (suc i) x zero ne = refl
 child_beside (y ∷ xs) (suc i) x (suc b) ne = child_beside xs i x b (λ e. ne (ap suc e))
 
 -- what is in a place counts one, and a blank nothing
-pub weight_is : (x : Child ℕ ℕ) → weight (hung (λ n. n) x) ≡ cond (is_there x) 1 0
+weight_is : (x : Child ℕ ℕ) → weight (hung (λ n. n) x) ≡ cond (is_there x) 1 0
 weight_is Blank = refl
 weight_is (Node c) = refl
 weight_is (Value v) = refl
@@ -134,11 +134,11 @@ lacking (x ∷ xs) zero l e = (let w : weight (hung (λ n. n) x) ≡ 0 = ap weig
 lacking (x ∷ xs) (suc i) l e = omega (arith, lacking xs i (omega arith) e, at_most x, count_cons x xs)
 
 -- the names below a bound are copied
-abbrev pub NamesBelow : ℕ → List (Child ℕ ℕ) → List (Child ℕ ℕ) → Type 0
+abbrev NamesBelow : ℕ → List (Child ℕ ℕ) → List (Child ℕ ℕ) → Type 0
 NamesBelow i from to = (b : ℕ) → b < i → child_at to b ≡ kept (child_at from b)
 
 -- what hangs at a byte within the places, whatever is read past their end
-pub child_any : (xs : List (Child ℕ ℕ)) (b : ℕ) (z : Child ℕ ℕ) → b < length xs → hung (λ n. n) (get_or xs b z) ≡ child_at xs b
+child_any : (xs : List (Child ℕ ℕ)) (b : ℕ) (z : Child ℕ ℕ) → b < length xs → hung (λ n. n) (get_or xs b z) ≡ child_at xs b
 child_any [] b z l = absurd (omega arith)
 child_any (y ∷ xs) zero z l = refl
 child_any (y ∷ xs) (suc b) z l = child_any xs b z (omega arith)

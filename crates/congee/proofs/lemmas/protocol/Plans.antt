@@ -64,12 +64,14 @@ module _ {C V : Type 0} (number : C → ℕ) (same : V → V → Bool) (always :
       by_decided true z = absurd cc
       by_decided false z = λ x _. refl
 
+  -- a call that begins on its plan knows what its next step wants
   pub started_sound : (kind : Kind V) (given : Option V) (v : V) (plan : Plan C) (r : Reply V) → HasGift kind (Some v) → PlanKnown number i a h (key_bytes k) plan → Settles same k kind (Some v) None r (Some v)
       → Sound number same always i k kind given h (Some v) (started plan r) a h
   started_sound kind given v (Here None one) r g p s = record { known = (g, (Nothing, p.1, fits_one_new one.change v, s)); answer = λ x _. refl }
   started_sound kind given v (Here (Some q) one) r g p s = record { known = (g, p.0, p.1, fits_one_new one.change v, s); answer = λ x _. refl }
   started_sound kind given v (Above two) r g p s = record { known = (g, (None, p.0.0, p.0.1, has_no_top two.change two.top p.1 p.2, fits_two_new two.change v p.1, s)); answer = λ x _. refl }
 
+  -- a call that begins on its plan, or asks its closure first, knows what its next step wants
   pub ready_sound : (kind : Kind V) (given : Option V) (plan : Plan C) → adds kind ≡ true → HasGift kind given → PlanKnown number i a h (key_bytes k) plan → Sound number same always i k kind given h given (ready kind plan) a h
   ready_sound ComputeInsert given plan e g p = record { known = (p, refl); answer = λ x _. refl }
   ready_sound Insert given plan e g p =
@@ -112,6 +114,7 @@ module _ {C V : Type 0} (number : C → ℕ) (same : V → V → Bool) (always :
       less : (n : ℕ) → n ≤ 7 → n ≢ 7 → n < 7
       less n l ne = omega (arith, l, ne)
 
+  -- a call whose key is absent answers as the map, or knows what its insertion wants
   pub absent_sound : (kind : Kind V) (given : Option V) (s : Site C) → HasGift kind given → Knows number a h (key_bytes k) s Nothing → is_taken (h (number s.at.node)) s.at.version ≡ true
       → Sound number same always i k kind given h given (absent kind s) a h
   absent_sound kind given s g m q = by_test (λ (x : NextPhase C V). Sound number same always i k kind given h given x a h) (adds kind) _ _
@@ -123,6 +126,7 @@ module _ {C V : Type 0} (number : C → ℕ) (same : V → V → Bool) (always :
   pub at_leaf : (s : Site C) (v : V) → Knows number a h (key_bytes k) s (Holds v) → is_taken (h (number s.at.node)) s.at.version ≡ true → s.depth ≡ 7
   at_leaf s v m q = m.depth ∙ t.leaves (number s.at.node) _ v (taken_linked a h w (number s.at.node) s.at.version m.fresh.seated.published q) (m.fresh.holds q).child
 
+  -- at a leaf that holds the key's value, a call knows what putting another one there wants
   pub one_set : (s : Site C) (v : V) → Knows number a h (key_bytes k) s (Holds v) → s.depth ≡ 7 → OneKnown number i a h (key_bytes k) (record { at = s.at; byte = s.byte; change = Set }) (Holds v)
   one_set s v m d = record {
     placed = record { fitted = m.fitted; byte = m.byte; size = sym m.depth ∙ d };
@@ -197,13 +201,16 @@ module _ {C V : Type 0} (number : C → ℕ) (same : V → V → Bool) (always :
       (λ q. record { known = (g, (v, m, z), d, refl, ab.0, q); answer = λ y _. refl })
       (λ _. set_out kind given s v r g m d z))
 
+  -- a call that takes the value out of its leaf knows what its next step wants
   pub emptied_sound : (kind : Kind V) (given : Option V) (s : Site C) (v : V) (r : Reply V) → HasGift kind None → Knows number a h (key_bytes k) s (Holds v) → s.depth ≡ 7
       → Settles same k kind None (Some v) r None → Sound number same always i k kind given h None (emptied s r) a h
   emptied_sound kind given s v r g m d z = taken_sound kind given s v r s.above m.above g m d z
 
+  -- a turn by another name is sound where the turn is
   pub turn_at : (kind : Kind V) (given given' : Option V) (x y : NextPhase C V) → y ≡ x → Sound number same always i k kind given h given' x a h → Sound number same always i k kind given h given' y a h
   turn_at kind given given' x y e s = let P : NextPhase C V → Type 0 = λ z. Sound number same always i k kind given h given' z a h in subst P (sym e) s
 
+  -- a call that asks about a value that stands, or couldn't copy it, knows what its next step wants
   pub asked_sound : (kind : Kind V) (given : Option V) (s : Site C) (v : V) (turn : NextPhase C V) → IsAsked always s v turn → HasGift kind given → Asking kind → Knows number a h (key_bytes k) s (Holds v) → s.depth ≡ 7
       → Sound number same always i k kind given h given turn a h
   asked_sound kind given s v turn (inl e) g ask m d = turn_at kind given given _ turn e (record { known = (g, m, ask, d); answer = λ y _. refl })

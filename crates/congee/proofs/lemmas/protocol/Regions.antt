@@ -61,6 +61,7 @@ module _ (p : List ℕ) (base depth : ℕ) (r : IsRegion p base depth) where
       let z : top k depth * span depth ≡ base = ap (λ n. n * span depth) e ∙ b in
       (omega (arith, z, q.0), omega (arith, z, q.1))
 
+  -- a key of the region begins with the prefix
   pub within_keys : (k : ℕ) → k < 2 ^ 64 → base ≤ k → k < base + span depth → fits p (key_bytes k) ≡ true
   within_keys k l lo hi =
       let b = top_base in
@@ -97,6 +98,7 @@ module _ (p : List ℕ) (base depth : ℕ) (r : IsRegion p base depth) where
       let more : (get_or (key_bytes k) (length p) 0 + 1) * span (depth + 1) ≡ get_or (key_bytes k) (length p) 0 * span (depth + 1) + span (depth + 1) = omega arith in
       between_one (span (depth + 1)) c (get_or (key_bytes k) (length p) 0) (omega (arith, w.1, lo, more))
 
+  -- a key that begins with the prefix, below a byte's first, has a lesser byte after it
   pub byte_high : (k c : ℕ) → k < 2 ^ 64 → fits p (key_bytes k) ≡ true → k < start_at base depth c → get_or (key_bytes k) (length p) 0 < c
   byte_high k c l f hi =
       let w = byte_within k l f in
@@ -109,5 +111,6 @@ module _ (p : List ℕ) (base depth : ℕ) (r : IsRegion p base depth) where
   pub whole : start_at base depth 256 ≡ base + span depth
   whole = let s = span_step depth (omega (arith, r.short)) in omega (arith, s)
 
+  -- the keys of a later byte begin no earlier
   pub start_mono : (b c : ℕ) → b ≤ c → start_at base depth b ≤ start_at base depth c
   start_mono b c l = let m : b * span (depth + 1) ≤ c * span (depth + 1) = mul-le-mul_right (span (depth + 1)) l in omega (arith, m)

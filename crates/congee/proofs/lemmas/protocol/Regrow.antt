@@ -25,14 +25,17 @@ regrown a i p m c d x = cond (x == c) (joined p) (cond (x == d) (joined c) (cond
     (cond (is_published (a x).status && ((a x).parent == m)) (below_note (a x) c) (a x))))
 
 module _ (a : ℕ → Note) (i p m c d : ℕ) where
+  -- the greater node is in the tree, below the node above
   pub regrown_new : regrown a i p m c d c ≡ joined p
   unfolding regrown
   regrown_new = rw (same_test c c refl) refl
 
+  -- the new leaf, where there is one, is in the tree, below the greater node
   pub regrown_leaf : d ≢ c → regrown a i p m c d d ≡ joined c
   unfolding regrown
   regrown_leaf ne = by_test (λ (n : Note). n ≡ joined c) (d == c) _ _ (λ q. absurd (ne (equal d c q))) (λ _. rw (same_test d d refl) refl)
 
+  -- the full node is out of the tree, and still locked by the call
   pub regrown_old : m ≢ c → m ≢ d → regrown a i p m c d m ≡ out_note i p
   unfolding regrown
   regrown_old nc nd = by_test (λ (n : Note). n ≡ out_note i p) (m == c) _ _ (λ q. absurd (nc (equal m c q)))
@@ -46,20 +49,25 @@ module _ (a : ℕ → Note) (i p m c d : ℕ) where
       (λ _. by_test P (x == d) _ _ (λ q. absurd (nd (equal x d q)))
       (λ _. by_test P (x == m) _ _ (λ q. absurd (nm (equal x m q))) (λ _. refl)))
 
+  -- each other node has the status that it had
   pub regrown_status : (x : ℕ) → x ≢ c → x ≢ d → x ≢ m → (regrown a i p m c d x).status ≡ (a x).status
   regrown_status x nc nd nm = rw (regrown_rest x nc nd nm) (by_test (λ (n : Note). n.status ≡ (a x).status) (is_published (a x).status && ((a x).parent == m)) _ _ (λ _. refl) (λ _. refl))
 
+  -- each other node's lock is whose it was
   pub regrown_owner : (x : ℕ) → x ≢ c → x ≢ d → x ≢ m → (regrown a i p m c d x).owner ≡ (a x).owner
   regrown_owner x nc nd nm = rw (regrown_rest x nc nd nm) (by_test (λ (n : Note). n.owner ≡ (a x).owner) (is_published (a x).status && ((a x).parent == m)) _ _ (λ _. refl) (λ _. refl))
 
+  -- each other node that didn't hang below the full one hangs where it did
   pub regrown_same : (x : ℕ) → x ≢ c → x ≢ d → x ≢ m → (a x).parent ≢ m → (regrown a i p m c d x).parent ≡ (a x).parent
   regrown_same x nc nd nm ne = rw (regrown_rest x nc nd nm) (by_test (λ (n : Note). n.parent ≡ (a x).parent) (is_published (a x).status && ((a x).parent == m)) _ _
       (λ q. absurd (ne (equal (a x).parent m (both_true (is_published (a x).status) _ q).1))) (λ _. refl))
 
+  -- each other node in reach that hung below the full one hangs below the greater one
   pub regrown_moved : (x : ℕ) → x ≢ c → x ≢ d → x ≢ m → is_published (a x).status ≡ true → (a x).parent ≡ m → (regrown a i p m c d x).parent ≡ c
   regrown_moved x nc nd nm pu e = rw (regrown_rest x nc nd nm) (by_test (λ (n : Note). n.parent ≡ c) (is_published (a x).status && ((a x).parent == m)) _ _
       (λ _. refl) (λ q. absurd (let z : is_published (a x).status && ((a x).parent == m) ≡ true = and_true _ _ pu (same_test (a x).parent m e) in cc)))
 
+  -- each other node out of reach has the note that it had
   pub regrown_hidden : (x : ℕ) → x ≢ c → x ≢ d → x ≢ m → is_published (a x).status ≡ false → regrown a i p m c d x ≡ a x
   regrown_hidden x nc nd nm pu = rw (regrown_rest x nc nd nm) (by_test (λ (n : Note). n ≡ a x) (is_published (a x).status && ((a x).parent == m)) _ _
       (λ q. absurd (let z : is_published (a x).status ≡ true = (both_true (is_published (a x).status) _ q).0 in cc)) (λ _. refl))

@@ -26,7 +26,7 @@ pub use Rattle.congee.proofs.lemmas.protocol.Seats.{seated_kept, fresh_kept, fit
 use Rattle.congee.proofs.lemmas.protocol.SweepRely.{sweep_known_kept}
 
 -- where nothing changes, all stands that a call counts on
-pub rely_still : {V : Type 0} (K : ℕ → Type 0) (i : ℕ) (a : ℕ → Note) (h : ℕ → Node V) → Rely K i a h a h
+rely_still : {V : Type 0} (K : ℕ → Type 0) (i : ℕ) (a : ℕ → Note) (h : ℕ → Node V) → Rely K i a h a h
 rely_still K i a h = record {
   version = λ n k p. omega arith;
   prefix = λ n k p. refl;
@@ -37,6 +37,7 @@ rely_still K i a h = record {
 }
 
 module _ {C V : Type 0} (number : C → ℕ) (key : List ℕ) (K : ℕ → Type 0) (i : ℕ) (a : ℕ → Note) (h : ℕ → Node V) (a' : ℕ → Note) (h' : ℕ → Node V) (r : Rely K i a h a' h') where
+  -- that a node was read in the one above stays known over the steps of others
   pub child_kept : (p : Parent C) (n : ℕ) → K (number p.seat.node) → ChildOf number a h key p n → ChildOf number a' h' key p n
   child_kept p n k c = record {
     fitted = fits_kept K i a h a' h' r (number p.seat.node) key true k c.fresh.seated.published c.fitted;
@@ -46,14 +47,16 @@ module _ {C V : Type 0} (number : C → ℕ) (key : List ℕ) (K : ℕ → Type 
     fresh = fresh_kept K i a h a' h' r (number p.seat.node) p.seat.version _ k c.fresh;
   }
 
-  pub far_kept : (p : Option (Parent C)) (n : ℕ) → Each K (name_above number p) → IsFar number a h key p n → IsFar number a' h' key p n
+  far_kept : (p : Option (Parent C)) (n : ℕ) → Each K (name_above number p) → IsFar number a h key p n → IsFar number a' h' key p n
   far_kept None n k e = e
   far_kept (Some p) n k c = child_kept p n k.0 c
 
+  -- what is known of the nodes above one stays known over the steps of others
   pub above_kept : (p : Option (Over C)) (n : ℕ) → Each K (names_over number p) → IsAbove number a h key p n → IsAbove number a' h' key p n
   above_kept None n k e = e
   above_kept (Some u) n k c = (child_kept u.near n k.0 c.0, far_kept u.far (number u.near.seat.node) k.1 c.1)
 
+  -- what is known of the node at hand, and of what hangs there, stays known over the steps of others
   pub knows_kept : (s : Site C) (x : Hung V) → Each K (names_over number s.above) → K (number s.at.node) → Knows number a h key s x → Knows number a' h' key s x
   knows_kept s x ka k w =
       let e : (h' (number s.at.node)).prefix ≡ (h (number s.at.node)).prefix = r.prefix (number s.at.node) k w.fresh.seated.published in
@@ -66,11 +69,11 @@ module _ {C V : Type 0} (number : C → ℕ) (key : List ℕ) (K : ℕ → Type 
         fresh = fresh_kept K i a h a' h' r (number s.at.node) s.at.version _ k w.fresh;
       }
 
-  pub made_one_kept : (change : Single C) → MadeOne number i a h key change → MadeOne number i a' h' key change
+  made_one_kept : (change : Single C) → MadeOne number i a h key change → MadeOne number i a' h' key change
   made_one_kept Set m = tt
   made_one_kept (Link leaf) m = made_kept K i a h a' h' r key (number leaf) 7 0 m
 
-  pub made_two_kept : (p : Parent C) (change : Double C) (size size' q : ℕ) → size' ≡ size → MadeTwo number i a h key p change size q → MadeTwo number i a' h' key p change size' q
+  made_two_kept : (p : Parent C) (change : Double C) (size size' q : ℕ) → size' ≡ size → MadeTwo number i a h key p change size q → MadeTwo number i a' h' key p change size' q
   made_two_kept p Unlink size size' q e m = tt
   made_two_kept p Collapse size size' q e m = m
   made_two_kept p (Shrink c) size size' q e m = let P : ℕ → Type 0 = λ x. Made i a' h' key (number c) x q in subst P (sym e) (made_kept K i a h a' h' r key (number c) size q m)
@@ -84,20 +87,20 @@ module _ {C V : Type 0} (number : C → ℕ) (key : List ℕ) (K : ℕ → Type 
   made_two_kept p (Split top leaf common byte) size size' q e m =
       (made_kept K i a h a' h' r key (number top) common 1 m.0, made_kept K i a h a' h' r key (number leaf) 7 0 m.1, m.2)
 
-  pub placed_one_kept : (change : Single C) (byte : ℕ) (p p' : List ℕ) → p' ≡ p → PlacedOne key change byte p → PlacedOne key change byte p'
+  placed_one_kept : (change : Single C) (byte : ℕ) (p p' : List ℕ) → p' ≡ p → PlacedOne key change byte p → PlacedOne key change byte p'
   placed_one_kept change byte p p' e x = let P : List ℕ → Type 0 = λ y. PlacedOne key change byte y in subst P (sym e) x
 
-  pub placed_two_kept : (change : Double C) (p p' : List ℕ) → p' ≡ p → PlacedTwo key change p → PlacedTwo key change p'
+  placed_two_kept : (change : Double C) (p p' : List ℕ) → p' ≡ p → PlacedTwo key change p → PlacedTwo key change p'
   placed_two_kept change p p' e x = let P : List ℕ → Type 0 = λ y. PlacedTwo key change y in subst P (sym e) x
 
-  pub one_kept : (one : One C) (x : Hung V) → K (number one.at.node) → OneKnown number i a h key one x → OneKnown number i a' h' key one x
+  one_kept : (one : One C) (x : Hung V) → K (number one.at.node) → OneKnown number i a h key one x → OneKnown number i a' h' key one x
   one_kept one x k o = record {
     placed = placed_one_kept one.change one.byte _ _ (r.prefix (number one.at.node) k o.fresh.seated.published) o.placed;
     fresh = fresh_kept K i a h a' h' r (number one.at.node) one.at.version _ k o.fresh;
     made = made_one_kept one.change o.made;
   }
 
-  pub one_locked_kept : (one : One C) (x : Hung V) → OneLocked number i a h key one x → OneLocked number i a' h' key one x
+  one_locked_kept : (one : One C) (x : Hung V) → OneLocked number i a h key one x → OneLocked number i a' h' key one x
   one_locked_kept one x o =
       let e : h' (number one.at.node) ≡ h (number one.at.node) = (r.mine (number one.at.node) o.holding.owner).0 in
       record {
@@ -107,7 +110,7 @@ module _ {C V : Type 0} (number : C → ℕ) (key : List ℕ) (K : ℕ → Type 
         made = made_one_kept one.change o.made;
       }
 
-  pub above_locked_kept : (p : Parent C) (n : ℕ) → AboveLocked number i a h key p n → AboveLocked number i a' h' key p n
+  above_locked_kept : (p : Parent C) (n : ℕ) → AboveLocked number i a h key p n → AboveLocked number i a' h' key p n
   above_locked_kept p n o =
       let e : h' (number p.seat.node) ≡ h (number p.seat.node) = (r.mine (number p.seat.node) o.holding.owner).0 in
       record {
@@ -120,11 +123,11 @@ module _ {C V : Type 0} (number : C → ℕ) (key : List ℕ) (K : ℕ → Type 
         form = rw e o.form;
       }
 
-  pub top_kept : (p : Option (Parent C)) (n : ℕ) → TopLocked number i a h key p n → TopLocked number i a' h' key p n
+  top_kept : (p : Option (Parent C)) (n : ℕ) → TopLocked number i a h key p n → TopLocked number i a' h' key p n
   top_kept None n o = tt
   top_kept (Some g) n o = above_locked_kept g n o
 
-  pub two_kept : (two : Two C) (found : Option V) (q : ℕ) → K (number two.above.seat.node) → K (number two.at.node) → TwoKnown number i a h key two found q → TwoKnown number i a' h' key two found q
+  two_kept : (two : Two C) (found : Option V) (q : ℕ) → K (number two.above.seat.node) → K (number two.at.node) → TwoKnown number i a h key two found q → TwoKnown number i a' h' key two found q
   two_kept two found q kp k o =
       let e : (h' (number two.at.node)).prefix ≡ (h (number two.at.node)).prefix = r.prefix (number two.at.node) k o.fresh.seated.published in
       record {
@@ -135,7 +138,7 @@ module _ {C V : Type 0} (number : C → ℕ) (key : List ℕ) (K : ℕ → Type 
         made = made_two_kept two.above two.change _ _ q (ap length e) o.made;
       }
 
-  pub half_kept : (two : Two C) (found : Option V) (q : ℕ) → K (number two.at.node) → HalfLocked number i a h key two found q → HalfLocked number i a' h' key two found q
+  half_kept : (two : Two C) (found : Option V) (q : ℕ) → K (number two.at.node) → HalfLocked number i a h key two found q → HalfLocked number i a' h' key two found q
   half_kept two found q k o =
       let e : (h' (number two.at.node)).prefix ≡ (h (number two.at.node)).prefix = r.prefix (number two.at.node) k o.fresh.seated.published in
       record {
@@ -146,7 +149,7 @@ module _ {C V : Type 0} (number : C → ℕ) (key : List ℕ) (K : ℕ → Type 
         made = made_two_kept two.above two.change _ _ q (ap length e) o.made;
       }
 
-  pub two_locked_kept : (two : Two C) (found : Option V) (q : ℕ) → TwoLocked number i a h key two found q → TwoLocked number i a' h' key two found q
+  two_locked_kept : (two : Two C) (found : Option V) (q : ℕ) → TwoLocked number i a h key two found q → TwoLocked number i a' h' key two found q
   two_locked_kept two found q o =
       let e : (h' (number two.at.node) ≡ h (number two.at.node)) × ((a' (number two.at.node)).status ≡ (a (number two.at.node)).status) × ((a' (number two.at.node)).owner ≡ (a (number two.at.node)).owner) = r.mine (number two.at.node) o.owner in
       record {
@@ -158,7 +161,7 @@ module _ {C V : Type 0} (number : C → ℕ) (key : List ℕ) (K : ℕ → Type 
         made = made_two_kept two.above two.change _ _ q (ap (λ z. length z.prefix) e.0) o.made;
       }
 
-  pub taken_kept : (p n : ℕ) → TakenOut i a h p n → TakenOut i a' h' p n
+  taken_kept : (p n : ℕ) → TakenOut i a h p n → TakenOut i a' h' p n
   taken_kept p n o =
       let e : (h' n ≡ h n) × ((a' n).status ≡ (a n).status) × ((a' n).owner ≡ (a n).owner) = r.mine n o.owner in
       record {
@@ -168,29 +171,29 @@ module _ {C V : Type 0} (number : C → ℕ) (key : List ℕ) (K : ℕ → Type 
         unretired = rw e.0 o.unretired;
       }
 
-  pub also_out_kept : (n : ℕ) (next : Option C) → AlsoOut number i a h n next → AlsoOut number i a' h' n next
+  also_out_kept : (n : ℕ) (next : Option C) → AlsoOut number i a h n next → AlsoOut number i a' h' n next
   also_out_kept n None o = tt
   also_out_kept n (Some c) o =
       let e : (h' (number c) ≡ h (number c)) × ((a' (number c)).status ≡ (a (number c)).status) × ((a' (number c)).owner ≡ (a (number c)).owner) = r.mine (number c) o.0 in
       (e.2 ∙ o.0, e.1 ∙ o.1, rw e.0 o.2, o.3)
 
-  pub also_holding_kept : (n : ℕ) (next : Option C) → AlsoHolding number i a n next → AlsoHolding number i a' n next
+  also_holding_kept : (n : ℕ) (next : Option C) → AlsoHolding number i a n next → AlsoHolding number i a' n next
   also_holding_kept n None o = tt
   also_holding_kept n (Some c) o = (holding_kept K i a h a' h' r (number c) o.0, o.1)
 
-  pub lesser_kept : (s : Site C) (p : Parent C) (g : Option (Parent C)) → Each K (name_above number g) → IsLesser number a h key s p g → IsLesser number a' h' key s p g
+  lesser_kept : (s : Site C) (p : Parent C) (g : Option (Parent C)) → Each K (name_above number g) → IsLesser number a h key s p g → IsLesser number a' h' key s p g
   lesser_kept s p None k o = o
   lesser_kept s p (Some g) k o = (child_kept g (number p.seat.node) k.0 o.0, o.1, o.2, o.3)
 
-  pub seated_if_kept : (p : Option (Stamp C)) → Each K (name_seated number p) → SeatedIf number a h p → SeatedIf number a' h' p
+  seated_if_kept : (p : Option (Stamp C)) → Each K (name_seated number p) → SeatedIf number a h p → SeatedIf number a' h' p
   seated_if_kept None k s = tt
   seated_if_kept (Some p) k s = seated_kept K i a h a' h' r (number p.node) p.version k.0 s
 
-  pub plan_kept : (plan : Plan C) → Each K (names_plan number plan) → PlanKnown number i a h key plan → PlanKnown number i a' h' key plan
+  plan_kept : (plan : Plan C) → Each K (names_plan number plan) → PlanKnown number i a h key plan → PlanKnown number i a' h' key plan
   plan_kept (Here check one) k x = (seated_if_kept check (left K (name_seated number check) (names_one number one) k) x.0, one_kept one _ (right K (name_seated number check) (names_one number one) k).0 x.1)
   plan_kept (Above two) k x = ((x.0.0, two_kept two None x.0.0 k.0 k.1.0 x.0.1), x.1, x.2)
 
-  pub made_leaf_kept : (s : Site C) (leaf : Option C) → MadeLeafFor number i a h key s leaf → MadeLeafFor number i a' h' key s leaf
+  made_leaf_kept : (s : Site C) (leaf : Option C) → MadeLeafFor number i a h key s leaf → MadeLeafFor number i a' h' key s leaf
   made_leaf_kept s None x = x
   made_leaf_kept s (Some leaf) x = (x.0, made_kept K i a h a' h' r key (number leaf) 7 0 x.1)
 

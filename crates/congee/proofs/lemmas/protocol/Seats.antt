@@ -6,9 +6,11 @@ use Rattle.congee.specs.Notes.{Note, Held, is_published}
 use Rattle.congee.specs.protocol.Protocol.{Seated, Fresh, Made, Holding, Rely}
 
 module _ {V : Type 0} (K : ℕ → Type 0) (i : ℕ) (a : ℕ → Note) (h : ℕ → Node V) (a' : ℕ → Note) (h' : ℕ → Node V) (r : Rely K i a h a' h') where
+  -- a node of which a version was taken stays one over the steps of others
   pub seated_kept : (n v : ℕ) → K n → Seated a h n v → Seated a' h' n v
   seated_kept n v k s = record { published = r.published n k s.published; up = omega (arith, s.up, r.version n k s.published) }
 
+  -- what is true of a node as long as its word is the one taken stays so over the steps of others
   pub fresh_kept : (n v : ℕ) (Q : Node V → Type 0) → K n → Fresh a h n v Q → Fresh a' h' n v Q
   fresh_kept n v Q k f = record {
     seated = seated_kept n v k f.seated;
@@ -16,13 +18,16 @@ module _ {V : Type 0} (K : ℕ → Type 0) (i : ℕ) (a : ℕ → Note) (h : ℕ
         subst Q (sym e) (f.holds (let P : Node V → Type 0 = λ x. is_taken x v ≡ true in subst P e t));
   }
 
+  -- whether the prefix of a node in reach fits a key stays so over the steps of others
   pub fits_kept : (n : ℕ) (key : List ℕ) (b : Bool) → K n → is_published (a n).status ≡ true → fits (h n).prefix key ≡ b → fits (h' n).prefix key ≡ b
   fits_kept n key b k p e = rw (r.prefix n k p) e
 
+  -- a node of the tree that the call has locked stays so over the steps of others
   pub holding_kept : (n : ℕ) → Holding i a n → Holding i a' n
   holding_kept n x = let e : (h' n ≡ h n) × ((a' n).status ≡ (a n).status) × ((a' n).owner ≡ (a n).owner) = r.mine n x.owner in
       record { owner = e.2 ∙ x.owner; linked = e.1 ∙ x.linked }
 
+  -- a node that the call has made stays so over the steps of others
   pub made_kept : (key : List ℕ) (c size least : ℕ) → Made i a h key c size least → Made i a' h' key c size least
   made_kept key c size least x = let e : (h' c ≡ h c) × (a' c ≡ a c) = r.held c x.held in
       let P : Note → Node V → Type 0 = λ y z. (y.status ≡ Held i) × (y.owner ≡ None) × (fits z.prefix key ≡ true) × (length z.prefix ≡ size) in

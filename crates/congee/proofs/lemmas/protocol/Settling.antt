@@ -163,6 +163,7 @@ module _ {C V : Type 0} (number : C → ℕ) (same : V → V → Bool) (always :
           let e : noted a c (joined n) n ≡ a n = noted_other a c _ n (λ z. made_apart i a h (key_bytes k) c 7 0 n m (ap is_published o.linked) (sym z)) in
           record { owner = rw e o.owner; linked = rw e o.linked }
 
+  -- a change of one locked node answers as the map, and leaves the call its lock
   pub changed_one : (one : One C) (r : Reply V) (given given' : Option V) (h' : ℕ → Node V) → Known number same always i a h k (key_bytes k) kind given (ChangeOne one r)
       → ChangedOne number (key_bytes k) given one one.change h h' → Kept number same always i a h k kind given given' (decided (Unlock one.at.node r)) h'
   changed_one one r given given' h' m g = by_single one r given given' m.0 h' one.change m.1.holding m.1.placed m.1.wanted m.1.made m.2 m.3 g
@@ -246,6 +247,7 @@ module _ {C V : Type 0} (number : C → ℕ) (same : V → V → Bool) (always :
         };
       }
 
+  -- a change of two locked nodes answers as the map, and leaves the call what it has to hand over and unlock
   pub changed_two : (two : Two C) (r : Reply V) (given given' : Option V) (h' : ℕ → Node V) → Known number same always i a h k (key_bytes k) kind given (ChangeTwo two r)
       → ChangedTwo number (key_bytes k) given two two.change h h' → Kept number same always i a h k kind given given' (after_change two r two.change) h'
   changed_two two r given given' h' m g = by_double two r given given' m.0 m.1 h' two.change m.2.top m.2.above m.2.owner m.2.placed m.2.wanted m.2.made m.4 m.5 g

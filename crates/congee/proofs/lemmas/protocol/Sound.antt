@@ -57,6 +57,7 @@ module _ {C V : Type 0} (number : C → ℕ) (same : V → V → Bool) (always :
   pub goes_on : (s : Phase C V) → Known number same always i a h k (key_bytes k) kind given s → Sound number same always i k kind given h given (quiet s) a h
   goes_on s m = record { known = m; answer = λ x _. refl }
 
+  -- a call that begins anew at the root knows what its next step wants
   pub begins_anew : (root : C) → number root ≡ 0 → HasGift kind given → Sound number same always i k kind given h given (again root) a h
   begins_anew root e g = goes_on (Version None root) (g, e, (let P : ℕ → Type 0 = λ x. is_published (a x).status ≡ true in subst P (sym e) (ap is_published t.root)))
 
@@ -64,6 +65,7 @@ module _ {C V : Type 0} (number : C → ℕ) (same : V → V → Bool) (always :
   pub answers_now : (r : Reply V) (found : Option V) → Settles same k kind given found r found → value_at h (key_bytes k) ≡ found → Sound number same always i k kind given h given (answered r) a h
   answers_now r found s e = record { known = tt; answer = (r, refl, record { found = found; after = found; settles = s; before = e; now = e; rest = λ x _ _. refl }) }
 
+  -- a call that took a node's version, or found none, knows what its next step wants
   pub version_sound : (root : C) → number root ≡ 0 → (p : Option (Over C)) (n : C) → HasGift kind given → IsAbove number a h (key_bytes k) p (number n) → is_published (a (number n)).status ≡ true
       → (b : Bool) → Sound number same always i k kind given h given (after_version root p n (cond b (Some (h (number n)).version) None)) a h
   version_sound root e p n g m pu true = goes_on (Read p (record { node = n; version = (h (number n)).version })) (g, m, record { published = pu; up = omega arith })
@@ -85,6 +87,7 @@ module _ {C V : Type 0} (number : C → ℕ) (same : V → V → Bool) (always :
     };
   }
 
+  -- a call that read a node knows what its next step wants
   pub read_sound : (root : C) → number root ≡ 0 → (p : Option (Over C)) (at : Stamp C) → HasGift kind given → IsAbove number a h (key_bytes k) p (number at.node) → Seated a h (number at.node) at.version
       → (r : Reading C V) → ReadGives number always (h (number at.node)) at.version (key_bytes k) r → Sound number same always i k kind given h given (after_read root p at r) a h
   read_sound root e None at g m s (Differs common byte) q = begins_anew root e g
@@ -99,11 +102,12 @@ module _ {C V : Type 0} (number : C → ℕ) (same : V → V → Bool) (always :
       → value_at h (key_bytes k) ≡ of_child (λ c. walk h 7 c (key_bytes k)) x
   stands_at n v x Q f c fit q = finds a h t n (key_bytes k) x (taken_linked a h w n v f.seated.published q) fit (c (f.holds q))
 
+  -- where the key's way parts within the prefix of a child, no value stands at the key
   pub miss_value : (p : Parent C) (n common : ℕ) → ChildOf number a h (key_bytes k) p n → Parts (h n).prefix (key_bytes k) common → is_taken (h (number p.seat.node)) p.seat.version ≡ true → value_at h (key_bytes k) ≡ None
   miss_value p n common c q z = misses a h t (number p.seat.node) n (key_bytes k) (taken_linked a h w (number p.seat.node) p.seat.version c.fresh.seated.published z) c.fitted (c.fresh.holds z).0 (parts_differ (h n).prefix (key_bytes k) common q)
 
   -- the node at hand as the one above its child
-  pub here_child : (s : Site C) (c : ℕ) → Knows number a h (key_bytes k) s (Below c) → ChildOf number a h (key_bytes k) (here_of s) c
+  here_child : (s : Site C) (c : ℕ) → Knows number a h (key_bytes k) s (Below c) → ChildOf number a h (key_bytes k) (here_of s) c
   here_child s c m = record {
     fitted = m.fitted;
     byte = m.byte;
@@ -112,7 +116,7 @@ module _ {C V : Type 0} (number : C → ℕ) (same : V → V → Bool) (always :
     fresh = fresh_map a h (number s.at.node) s.at.version _ _ (λ z. (z.child, z.count, z.form)) m.fresh;
   }
 
-  pub far_above : (p : Option (Over C)) (n : ℕ) → IsAbove number a h (key_bytes k) p n → IsFar number a h (key_bytes k) (near_of p) n
+  far_above : (p : Option (Over C)) (n : ℕ) → IsAbove number a h (key_bytes k) p n → IsFar number a h (key_bytes k) (near_of p) n
   far_above None n m = m
   far_above (Some u) n m = m.0
 

@@ -130,7 +130,7 @@ module _ {C V : Type 0} (number : C → ℕ) (same : V → V → Bool) (always :
       (unwind_back two.above.seat.node (node_of two.top) (Some refusal.Exhausted) h' refl m.0 m.1.2.above.holding (also_top two.top two.above.seat.node m.1.2.top) (back_two number i a h (key_bytes k) two.above two.change _ _ h' t w m.1.2.made g.0))
 
 -- every step
-pub step_kept : {C V : Type 0} (number : C → ℕ) (same : V → V → Bool) (always : Bool) (most : ℕ) (why : NodeType → Refusal → Type 0) → ((p q : V) → same p q ≡ true → p ≡ q)
+step_kept : {C V : Type 0} (number : C → ℕ) (same : V → V → Bool) (always : Bool) (most : ℕ) (why : NodeType → Refusal → Type 0) → ((p q : V) → same p q ≡ true → p ≡ q)
     → (i : ℕ) (a : ℕ → Note) (h : ℕ → Node V) (root : C) → number root ≡ 0 → (k : ℕ) (kind : Kind V) (fail : Bool) (answer : Option (Option V)) (given : Option V) (s : Phase C V) (given' : Option V) (turn : NextPhase C V) (h' : ℕ → Node V)
     → Tree a h → LockWords a h → Known number same always i a h k (key_bytes k) kind given s → PhaseStepped number same always most why root (key_bytes k) kind fail answer given s h given' turn h'
     → Kept number same always i a h k kind given given' turn h'

@@ -50,12 +50,13 @@ module _ (x : Region) where
   within start last ge = low_no last x.base true (beyond start) ge
 
   -- the greatest byte
-  pub last_small : (last : ℕ) → last_byte last x ≤ 255
+  last_small : (last : ℕ) → last_byte last x ≤ 255
   last_small last = elim (cases_lt 255 ((last - x.base) / width x.depth)) [
     | inl l ↦ (let e : last_byte last x ≡ 255 = low_yes 255 ((last - x.base) / width x.depth) 255 ((last - x.base) / width x.depth) l in omega (arith, e))
     | inr l ↦ (let e : last_byte last x ≡ (last - x.base) / width x.depth = low_no 255 ((last - x.base) / width x.depth) 255 ((last - x.base) / width x.depth) l in omega (arith, e, l))
   ]
 
+  -- where the region begins within the range, so do the keys of its last byte
   pub last_within : (last : ℕ) → x.base ≤ last → start_at x.base x.depth (last_byte last x) ≤ last
   last_within last b =
       let q : (last - x.base) / width x.depth ≡ (last - x.base) / span (x.depth + 1) = quotient (last - x.base) in
@@ -107,6 +108,7 @@ module _ (x : Region) where
     | inl lt ↦ (let f : is_outside start last x ≡ true = low_yes last x.base true (beyond start) lt in absurd (let z : false ≡ true = sym e ∙ f in cc))
   ]
 
+  -- the first byte is at most 255
   pub first_small : (start : ℕ) → first_byte start x ≤ 255
   first_small start = elim (cases_lt x.base start) [
     | inr ge ↦ (let e : first_byte start x ≡ 0 = low_no x.base start (cond (ltb 255 ((start - x.base) / width x.depth)) 255 ((start - x.base) / width x.depth)) 0 ge in omega (arith, e))
@@ -135,6 +137,7 @@ module _ (x : Region) where
               let g : ltb 255 ((start - x.base) / width x.depth) ≡ true = grind (arith, nat_tests, l) in let z : false ≡ true = sym e ∙ f ∙ g in cc)
         ]
 
+  -- where the region has keys of the range, the range begins before the end of the first byte's keys
   pub first_aims : (start last : ℕ) → is_outside start last x ≡ false → start < start_at x.base x.depth (first_byte start x) + span (x.depth + 1)
   first_aims start last e = elim (cases_lt x.base start) [
     | inr ge ↦ (let p = span_pos (x.depth + 1) in omega (arith, ge, p))

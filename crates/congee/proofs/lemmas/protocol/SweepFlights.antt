@@ -52,12 +52,14 @@ module _ {V : Type 0} (same : V → V → Bool) where
 
 -- calls and how they are watched, one beside the other
 module _ {C V : Type 0} where
+  -- each call has its watch at the same place
   pub follow_at : (ms : List (Machine C V)) (fs : List (Flight V)) (i : ℕ) (m : Machine C V) → Following ms fs → slice_get ms i ≡ Some m → (f : Flight V) × (slice_get fs i ≡ Some f) × Follows m f
   follow_at [] fs i m w e = absurd cc
   follow_at (x ∷ ms) [] i m w e = absurd w
   follow_at (x ∷ ms) (f ∷ fs) zero m w e = (f, refl, (let z : Some x ≡ Some m = e in let y : x ≡ m = cc in subst (λ n. Follows n f) y w.0))
   follow_at (x ∷ ms) (f ∷ fs) (suc i) m w e = follow_at ms fs i m w.1 e
 
+  -- where no call is, there is no watch
   pub follow_none : (ms : List (Machine C V)) (fs : List (Flight V)) (i : ℕ) → Following ms fs → length ms ≤ i → slice_get fs i ≡ None
   follow_none [] [] i w l = refl
   follow_none [] (f ∷ fs) i w l = absurd w
@@ -65,6 +67,7 @@ module _ {C V : Type 0} where
   follow_none (x ∷ ms) (f ∷ fs) zero w l = absurd (omega (arith, l))
   follow_none (x ∷ ms) (f ∷ fs) (suc i) w l = follow_none ms fs i w.1 (omega (arith, l))
 
+  -- where a call and its watch are set at one place, each call still has its watch
   pub follow_set : (ms : List (Machine C V)) (fs : List (Flight V)) (i : ℕ) (m : Machine C V) (f : Flight V) → Following ms fs → Follows m f → Following (set ms i m) (set fs i f)
   follow_set [] [] i m f w g = tt
   follow_set [] (y ∷ fs) i m f w g = absurd w
@@ -77,6 +80,7 @@ module _ {C V : Type 0} where
   begin_point k kind given (Sweep s) m e a b c n = inr (s, e, inl (refl, n.0))
   begin_point k kind given _ m e a b c n = absurd n
 
+  -- calls that have not begun are watched as such
   pub follow_new : (ms : List (Machine C V)) → ((i : ℕ) (m : Machine C V) → slice_get ms i ≡ Some m → IsNew m) → Following ms (map flight ms)
   follow_new [] n = tt
   follow_new (m ∷ ms) n = (begin_point m.key m.kind m.given m.phase m refl refl refl refl (n 0 m refl).begins, follow_new ms (λ i x e. n (suc i) x e))

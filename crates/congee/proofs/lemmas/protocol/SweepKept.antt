@@ -31,12 +31,15 @@ module _ {V : Type 0} (a : ℕ → Note) (h : ℕ → Node V) (t : Tree a h) (n 
       let w = byte_within (h n).prefix base depth r k s g in
       subst (λ q. (start_at base depth q ≤ k) × (k < start_at base depth (q + 1))) is w
 
+  -- the child is deeper than the node above
   pub child_deeper : depth < x.depth
   child_deeper = let i = child.longer in omega (arith, i, r.depth_is, rx.depth_is)
 
+  -- the child's keys begin no earlier than the byte's
   pub child_after : start_at base depth b ≤ x.base
   child_after = (under_byte x.base rx.small rx.fitted).0
 
+  -- the child's keys end no later than the byte's
   pub child_before : end_of x ≤ start_at base depth (b + 1)
   child_before =
       let top = region_top (h c).prefix x.base x.depth rx in

@@ -86,5 +86,6 @@ module _ {C V : Type 0} (number : C → ℕ) (always : Bool) (a : ℕ → Note) 
   has_at s stage.Full u k f e = has_as (over s (told.Done s.count)) u f tt
   has_at s stage.Over u k f e = has_as (over s told.Running) u f tt
 
+  -- what is true of the root, of all that hangs in the tree and of a scan's names is so of its names after a step
   pub sweep_names : (s : Sweep C V) (u : Swung C V) → SweepKnown number always a h s → SweptAt number always root s s.stage h u → Each K (names_sweep number s) → Each K (names_sweep number u.0)
   sweep_names s u k f e = has_at s s.stage u k f e

@@ -48,6 +48,7 @@ module _ {C V : Type 0} where
     ];
   })
 
+  -- a scan that has no place where its start is past its last key has a range
   pub range_through : (s : Scan C V) (root : C) (start last size : ℕ) → s ≡ new_sweep root start last (cond (leb start last) size 0) → last < 2 ^ 64 → HasRange s
   range_through s root start last size e b = subst (λ x. HasRange x) (sym e) (record {
     bound = b;
@@ -57,6 +58,7 @@ module _ {C V : Type 0} where
     ];
   })
 
+  -- a call that has not begun is watched as a scan of its range, or as a call on one key
   pub of_range : (root : C) (o : Op V) → IsOfRange (range_of o) (flight (begun root o))
   of_range root (op.Range start end size) = elim (cases_lt start end) [
     | inl l ↦ (let to : suc (end - 1) ≡ end = omega (arith, l) in

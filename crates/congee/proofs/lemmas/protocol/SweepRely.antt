@@ -42,5 +42,6 @@ module _ {C V : Type 0} (number : C → ℕ) (always : Bool) (K : ℕ → Type 0
   kept_at s stage.Full k g = tt
   kept_at s stage.Over k g = tt
 
+  -- what a scan knows stays known over the steps of others, where they may count on the nodes that it names
   pub sweep_known_kept : (s : Sweep C V) → Each K (names_sweep number s) → SweepKnown number always a h s → SweepKnown number always a' h' s
   sweep_known_kept s k g = kept_at s s.stage k g

@@ -143,5 +143,6 @@ module _ {C V : Type 0} (number : C → ℕ) (always : Bool) (a : ℕ → Note) 
   stays_at s stage.Full u k e = stays_as (over s (told.Done s.count)) u e tt
   stays_at s stage.Over u k e = stays_as (over s told.Running) u e tt
 
+  -- after a step a scan knows what its next stage says
   pub sweep_stays : (s : Sweep C V) (u : Swung C V) → SweepKnown number always a h s → SweptAt number always root s s.stage h u → SweepKnown number always a h u.0
   sweep_stays s u k e = stays_at s s.stage u k e

@@ -41,5 +41,6 @@ module _ {C V : Type 0} (number : C → ℕ) (always : Bool) (a : ℕ → Note) 
   wants_at s stage.Full k = tt
   wants_at s stage.Over k = tt
 
+  -- what the store wants of a scan's next step the scan knows
   pub sweep_wants : (s : Sweep C V) → SweepKnown number always a h s → MaySweep number root s h
   sweep_wants s k = wants_at s s.stage k

@@ -34,6 +34,7 @@ pick_true true x y e = refl
 pick_true false x y e = absurd cc
 
 module _ {C : Type 0} where
+  -- a node that is put in one of the eight places is set there in the list of them
   pub put_slots : (i : ℕ) (r : Rung C) (p : Path C) → i < 8 → slots (put_rung i r p) ≡ set (slots p) i r
   put_slots zero r p l = refl
   put_slots (suc zero) r p l = refl
@@ -45,9 +46,11 @@ module _ {C : Type 0} where
   put_slots (suc (suc (suc (suc (suc (suc (suc zero))))))) r p l = refl
   put_slots (suc (suc (suc (suc (suc (suc (suc (suc i)))))))) r p l = absurd (omega (arith, l))
 
+  -- a way with a node more has that node last
   pub path_pushed : (p : Path C) (r : Rung C) → p.len < 8 → rungs_of (pushed p r) ≡ rungs_of p ++ r ∷ []
   path_pushed p r l = ap (λ xs. take (p.len + 1) xs) (put_slots p.len r p l) ∙ take-set_at (slots p) p.len (p.len + 1) r refl l
 
+  -- a cleared way has no nodes
   pub path_empty : (p : Path C) → rungs_of (cleared p) ≡ []
   path_empty p = take_zero (slots p)
 
@@ -64,18 +67,20 @@ module _ {C : Type 0} where
           let f : (suc n == 0) ≡ false = other_test (suc n) 0 (λ q. absurd (let z : suc n ≡ 0 = q in omega (arith, z))) in
           inr (h.0, pick_false (suc n == 0) None (slice_get xs (suc n - 1)) f ∙ ap (slice_get xs) e ∙ h.1, h.2 ∙ ap (λ m. take m xs ++ h.0 ∷ []) (sym e), omega arith)
 
+  -- a way has as many nodes as its length says
   pub path_count : (p : Path C) → p.len ≤ 8 → length (rungs_of p) ≡ p.len
   path_count p l = length-take-le p.len (slots p) l
 
 module _ {C V : Type 0} (start end : ℕ) where
   -- with one map more
-  pub gap_later : (m : FinMap nat_cmp V) (states : List (FinMap nat_cmp V)) (r : Rung C) (x : Region) → Gap start end states r x → Gap start end (m ∷ states) r x
+  gap_later : (m : FinMap nat_cmp V) (states : List (FinMap nat_cmp V)) (r : Rung C) (x : Region) → Gap start end states r x → Gap start end (m ∷ states) r x
   gap_later m states r x g = record { inside = g.inside; aim = g.aim; lacked = λ k lo hi a b. inr (g.lacked k lo hi a b) }
 
   leads_later : (m : FinMap nat_cmp V) (states : List (FinMap nat_cmp V)) (r : Rung C) (rest : List (Rung C)) (x : Region) → LeadsOn start end states r rest x → LeadsOn start end (m ∷ states) r rest x
   leads_later m states r [] x g = gap_later m states r x g
   leads_later m states r (q ∷ rest) x g = (gap_later m states r q.region g.0, leads_later m states q rest x g.1)
 
+  -- a way stays one where one more map was seen
   pub way_later : (m : FinMap nat_cmp V) (states : List (FinMap nat_cmp V)) (rungs : List (Rung C)) (x : Region) → IsWay start end states rungs x → IsWay start end (m ∷ states) rungs x
   way_later m states [] x w = w
   way_later m states (r ∷ rest) x w = (w.0, leads_later m states r rest x w.1)
@@ -85,6 +90,7 @@ module _ {C V : Type 0} (start end : ℕ) where
   leads_longer states q [] r x l g = (l, g)
   leads_longer states q (y ∷ rest) r x l g = (l.0, leads_longer states y rest r x l.1 g)
 
+  -- a way with a node more at its end is one, where the keys between were lacking in some map
   pub way_longer : (states : List (FinMap nat_cmp V)) (rungs : List (Rung C)) (r : Rung C) (x : Region) → IsWay start end states rungs r.region → Gap start end states r x → IsWay start end states (rungs ++ r ∷ []) x
   way_longer states [] r x w g = (w, g)
   way_longer states (q ∷ rest) r x w g = (w.0, leads_longer states q rest r x w.1 g)
@@ -93,15 +99,18 @@ module _ {C V : Type 0} (start end : ℕ) where
   leads_shorter states q [] r x l = (l.0, l.1)
   leads_shorter states q (y ∷ rest) r x l = let h = leads_shorter states y rest r x l.1 in ((l.0, h.0), h.1)
 
+  -- a way without its last node is one, and the keys between were lacking in some map
   pub way_shorter : (states : List (FinMap nat_cmp V)) (rungs : List (Rung C)) (r : Rung C) (x : Region) → IsWay start end states (rungs ++ r ∷ []) x → IsWay start end states rungs r.region × Gap start end states r x
   way_shorter states [] r x w = (w.0, w.1)
   way_shorter states (q ∷ rest) r x w = let h = leads_shorter states q rest r x w.1 in ((w.0, h.0), h.1)
 
 module _ {C V : Type 0} (number : C → ℕ) (a : ℕ → Note) (h : ℕ → Node V) (end : ℕ) where
+  -- the nodes of a way with a known one more at its end are known
   pub rungs_longer : (above : ℕ) (rungs : List (Rung C)) (r : Rung C) → RungsKnown number a h end above rungs → RungKnown number a h end (above + length rungs) r → RungsKnown number a h end above (rungs ++ r ∷ [])
   rungs_longer above [] r k g = (let e : above + 0 ≡ above = omega arith in subst (λ n. RungKnown number a h end n r) e g, tt)
   rungs_longer above (q ∷ rest) r k g = (k.0, rungs_longer (suc above) rest r k.1 (let e : above + length (q ∷ rest) ≡ suc above + length rest = omega arith in subst (λ n. RungKnown number a h end n r) e g))
 
+  -- the nodes of a way without its last one are known, and so is that one
   pub rungs_shorter : (above : ℕ) (rungs : List (Rung C)) (r : Rung C) → RungsKnown number a h end above (rungs ++ r ∷ []) → RungsKnown number a h end above rungs × RungKnown number a h end (above + length rungs) r
   rungs_shorter above [] r k = (tt, (let e : above ≡ above + 0 = omega arith in subst (λ n. RungKnown number a h end n r) e k.0))
   rungs_shorter above (q ∷ rest) r k = let g = rungs_shorter (suc above) rest r k.1 in ((k.0, g.0), (let e : suc above + length rest ≡ above + length (q ∷ rest) = omega arith in subst (λ n. RungKnown number a h end n r) e g.1))

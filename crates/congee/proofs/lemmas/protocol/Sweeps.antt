@@ -9,7 +9,7 @@ use Rattle.congee.specs.protocol.Sweeps.{HasKey, Stood, AllStood, Lacked, Throug
 
 module _ {V : Type 0} where
   -- keys of lists
-  pub keys_map : (P Q : ℕ → Type 0) → ((k : ℕ) → P k → Q k) → (found : List (ℕ × V)) → AllKeys P found → AllKeys Q found
+  keys_map : (P Q : ℕ → Type 0) → ((k : ℕ) → P k → Q k) → (found : List (ℕ × V)) → AllKeys P found → AllKeys Q found
   keys_map P Q f [] a = tt
   keys_map P Q f ((k, v) ∷ r) a = (f k a.0, keys_map P Q f r a.1)
 

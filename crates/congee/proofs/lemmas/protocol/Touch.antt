@@ -195,6 +195,7 @@ module _ {V : Type 0} (i : ℕ) (a : ℕ → Note) (h : ℕ → Node V) (a' : �
   touch_fares n (under_lock q q' pre up nt nobody w k) = k
   touch_fares n (out_of_reach q nobody o w k) = k
 
+  -- a step that leaves a tree and touches each node in one of these ways leaves what other calls count on
   pub effect : LockWords a h → Tree a' h' → (h' 0).capacity ≡ (h 0).capacity → ((n : ℕ) → Touched i a h a' h' n) → Effect i a h a' h'
   effect w t c touch = record {
     tree = t;
@@ -211,7 +212,7 @@ module _ {V : Type 0} (i : ℕ) (a : ℕ → Note) (h : ℕ → Node V) (a' : �
   }
 
 -- what a lock word tells
-pub taken_free : {V : Type 0} (n : Node V) (v : ℕ) → is_taken n v ≡ true → is_free n ≡ true
+taken_free : {V : Type 0} (n : Node V) (v : ℕ) → is_taken n v ≡ true → is_free n ≡ true
 taken_free n v t = (both_true (n.version == v) (is_free n) t).1
 
 -- the word of a locked node is none that was taken

@@ -161,9 +161,11 @@ module _ {C V : Type 0} (number : C → ℕ) (same : V → V → Bool) (always :
       let l = steps_end h ms (take n ts) who (parts o).1 false (steps_left number h (first_phase root o)) z x (traced_front h ms n ts e) next on in
       within h o (length (take n ts)) (steps_left number h (first_phase root o)) l (whole_left number z.0 h root o z.1.tree)
 
+  -- at each step of a trace a call that begins and is left alone ends within so many steps
   pub all_end_alone : (h : ℕ → Node V) (ms : List (Machine C V)) (ts : List (Traced C V)) → Sound h ms → AreTraced number same always most why h ms ts → AllEndAlone number h ms ts
   all_end_alone h ms [] z e = tt
   all_end_alone h ms (t ∷ ts) z e = (ends_alone h ms (t ∷ ts) z e, all_end_alone t.nodes t.calls ts (settled_next h ms t.step t.move t.nodes t.calls (slice_get ms t.step.who) refl z e.0) e.1)
 
+  -- so it does at each step of a trace from a new index
   pub fresh_end_alone : (h : ℕ → Node V) (ms : List (Machine C V)) (ts : List (Traced C V)) → Begins number h ms → FreshRoot h → AreTraced number same always most why h ms ts → AllEndAlone number h ms ts
   fresh_end_alone h ms ts b f e = all_end_alone h ms ts ((plays_none number same always most why h ms b).settled_fresh f) e

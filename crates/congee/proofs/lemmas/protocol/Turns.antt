@@ -193,6 +193,7 @@ module _ {C V : Type 0} (number : C → ℕ) (same : V → V → Bool) (always :
     takes = λ a x y. idle_takes number h ms s.who (idle_hands number h ms s.who) (λ by l j. refl);
   }
 
+  -- a call that has not begun knows what its phase says
   pub begin_known : (i : ℕ) (a : ℕ → Note) (h : ℕ → Node V) (k : ℕ) (kind : Kind V) (given : Option V) (x : Phase C V) → IsBegin kind given x → Known number same always i a h k (key_bytes k) kind given x
   begin_known i a h k kind given New n = n
   begin_known i a h k kind given (Sweep s) n = let P : Stage C V → Type 0 = λ y. SweepKnownAt number always a h s y in subst P (sym n.0) n.1
@@ -283,7 +284,7 @@ module _ {C V : Type 0} (number : C → ℕ) (same : V → V → Bool) (always :
       (w.0, w.1, w.2, w.3, chain_more h0 ms0 (map flight ms0) m ss ds h ms r.1 r.0 s d h' ms' w.1 w.0 r.4 w.2 w.3 (next_weaker number same always most near (why h) h ms (slice_get ms s.who) s d h' ms' f q.next) w.4)
 
   -- one step more
-  pub plays_more : (near : NodeType → Refusal → Type 0) (h0 : ℕ → Node V) (ms0 : List (Machine C V)) (ss : List (Step C V)) (ds : List (Move V)) (h : ℕ → Node V) (ms : List (Machine C V)) (s : Step C V) (d : Move V) (h' : ℕ → Node V) (ms' : List (Machine C V))
+  plays_more : (near : NodeType → Refusal → Type 0) (h0 : ℕ → Node V) (ms0 : List (Machine C V)) (ss : List (Step C V)) (ds : List (Move V)) (h : ℕ → Node V) (ms : List (Machine C V)) (s : Step C V) (d : Move V) (h' : ℕ → Node V) (ms' : List (Machine C V))
       → ((form : NodeType) (e : Refusal) → near form e → why h form e) → Plays number same always most why h0 ms0 ss ds h ms → StepPlays number same always most near h ms s d h' ms' → Plays number same always most why h0 ms0 (ss ++ s ∷ []) (ds ++ d ∷ []) h' ms'
   plays_more near h0 ms0 ss ds h ms s d h' ms' f p q = record {
     protocol = q.protocol;
@@ -327,6 +328,7 @@ module _ {C V : Type 0} (number : C → ℕ) (same : V → V → Bool) (always :
       of kind given (Sweep s) g x = x
       of kind given _ g x = g
 
+  -- calls that have not begun have played no steps
   pub plays_none : (h : ℕ → Node V) (ms : List (Machine C V)) → Begins number h ms → Plays number same always most why h ms [] [] h ms
   plays_none h ms b = record {
     protocol = begun_protocol h ms b;
@@ -349,6 +351,7 @@ module _ {C V : Type 0} (number : C → ℕ) (same : V → V → Bool) (always :
     pub plays : Plays number same always most why h0 ms0 taken ds h ms
     pub trace : IsTrace number same always most why h0 ms0 taken ds h ms
 
+  -- before the first step none is taken, and all are left
   pub progress_none : (h : ℕ → Node V) (ms : List (Machine C V)) (all rest : List (Step C V)) (done : ℕ) (ds : List (Move V)) → rest ≡ all → done ≡ 0 → ds ≡ [] → Begins number h ms → Progress h ms all rest done ds h ms
   progress_none h ms all rest done ds e n q b = record {
     taken = [];
@@ -358,6 +361,7 @@ module _ {C V : Type 0} (number : C → ℕ) (same : V → V → Bool) (always :
     trace = record { traced = []; each = tt; steps_are = refl; moves_are = sym q; nodes_are = refl; calls_are = refl };
   }
 
+  -- with one step more that one is taken, and one fewer is left
   pub progress_more : (near : NodeType → Refusal → Type 0) (h0 : ℕ → Node V) (ms0 : List (Machine C V)) (all rest rest' : List (Step C V)) (done done1 done' : ℕ) (ds ds1 ds' : List (Move V)) (h : ℕ → Node V) (ms : List (Machine C V)) (s : Step C V) (d : Move V) (h' : ℕ → Node V) (ms' : List (Machine C V))
       → Progress h0 ms0 all rest done ds h ms → rest ≡ s ∷ rest' → done1 ≡ done → done' ≡ done1 + 1 → ds1 ≡ ds → ds' ≡ ds1 ++ d ∷ [] → ((form : NodeType) (e : Refusal) → near form e → why h form e) → StepPlays number same always most near h ms s d h' ms' → Progress h0 ms0 all rest' done' ds' h' ms'
   progress_more near h0 ms0 all rest rest' done done1 done' ds ds1 ds' h ms s d h' ms' p e n1 n q1 q f x = record {
@@ -374,6 +378,7 @@ module _ {C V : Type 0} (number : C → ℕ) (same : V → V → Bool) (always :
   taken_first : (h0 : ℕ → Node V) (ms0 : List (Machine C V)) (all rest : List (Step C V)) (done done' : ℕ) (ds : List (Move V)) (h : ℕ → Node V) (ms : List (Machine C V)) → (p : Progress h0 ms0 all rest done ds h ms) → done' ≡ done → take done' all ≡ p.taken
   taken_first h0 ms0 all rest done done' ds h ms p n = ap (λ x. take x all) (n ∙ sym p.count) ∙ (ap (take (length p.taken)) p.split ∙ take-append_seam p.taken rest)
 
+  -- the steps taken, so many of all, are played
   pub progress_end : (h0 : ℕ → Node V) (ms0 : List (Machine C V)) (all rest : List (Step C V)) (done done' : ℕ) (ds ds' : List (Move V)) (h : ℕ → Node V) (ms : List (Machine C V))
       → Progress h0 ms0 all rest done ds h ms → done' ≡ done → ds' ≡ ds → Plays number same always most why h0 ms0 (take done' all) ds' h ms
   progress_end h0 ms0 all rest done done' ds ds' h ms p n q =
@@ -381,6 +386,7 @@ module _ {C V : Type 0} (number : C → ℕ) (same : V → V → Bool) (always :
       let P : List (Step C V) → Type 0 = λ x. Plays number same always most why h0 ms0 x ds' h ms in
       let Q : List (Move V) → Type 0 = λ x. Plays number same always most why h0 ms0 p.taken x h ms in subst P (sym e) (subst Q (sym q) p.plays)
 
+  -- the steps taken, so many of all, are a trace
   pub trace_end : (h0 : ℕ → Node V) (ms0 : List (Machine C V)) (all rest : List (Step C V)) (done done' : ℕ) (ds ds' : List (Move V)) (h : ℕ → Node V) (ms : List (Machine C V))
       → Progress h0 ms0 all rest done ds h ms → done' ≡ done → ds' ≡ ds → IsTrace number same always most why h0 ms0 (take done' all) ds' h ms
   trace_end h0 ms0 all rest done done' ds ds' h ms p n q =

@@ -105,6 +105,7 @@ one_taken number (Obsolete m next p r) = inl (number m, inl refl)
 one_taken number (Retire m next p r) = inl (number m, inl refl)
 one_taken number _ = inr (λ c q. q)
 
+-- a node that a call took out is locked by it
 pub taken_locked : {C V : Type 0} (number : C → ℕ) (s : Phase C V) (n : ℕ) → TakenBy number s n → LockedBy number s n
 taken_locked number (Obsolete m next p r) n (inl x) = inl (inr x)
 taken_locked number (Obsolete m next p r) n (inr x) = inr x

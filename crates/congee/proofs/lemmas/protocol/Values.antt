@@ -23,6 +23,7 @@ use Rattle.congee.proofs.lemmas.protocol.Plans.{turn_at, absent_sound, at_leaf, 
 
 module _ {C V : Type 0} (number : C → ℕ) (same : V → V → Bool) (always : Bool) (i : ℕ) (a : ℕ → Note) (h : ℕ → Node V) (k : ℕ) (t : Tree a h) (w : LockWords a h)
     (law : (p q : V) → same p q ≡ true → p ≡ q) where
+  -- a call that adds and stands at a value answers as the map, or knows what its next step wants
   pub at_old_sound : (kind : Kind V) (given : Option V) (s : Site C) (v : V) (turn : NextPhase C V) → IsAtOld always same kind given s v turn → adds kind ≡ true → HasGift kind given → Knows number a h (key_bytes k) s (Holds v) → s.depth ≡ 7
       → Sound number same always i k kind given h given turn a h
   at_old_sound ComputeInsert given s v turn e z g m d = asked_sound number same always i a h k t w ComputeInsert given s v turn e g tt m d
@@ -77,6 +78,7 @@ module _ {C V : Type 0} (number : C → ℕ) (same : V → V → Bool) (always :
       subst P (sym g) (turn_at number same always i a h k t w Remove None None _ turn e
       (emptied_sound number same always i a h k t w Remove None s v _ refl m (at_leaf number same always i a h k t w s v m q) (record { call = call.Remove k; is_call = refl; reply = refl; left = refl })))
 
+  -- after a check that succeeded a call answers as the map, or knows what its next step wants
   pub checked_sound : (kind : Kind V) (given : Option V) (s : Site C) (c : Child C V) (turn : NextPhase C V) → IsChecked always same kind given s c turn → HasGift kind given → Knows number a h (key_bytes k) s (hung number c)
       → is_taken (h (number s.at.node)) s.at.version ≡ true → Sound number same always i k kind given h given turn a h
   checked_sound kind given s child.Blank turn e g m q = turn_at number same always i a h k t w kind given given _ turn e (absent_sound number same always i a h k t w kind given s g m q)

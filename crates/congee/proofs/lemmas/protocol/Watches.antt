@@ -85,9 +85,11 @@ heeds {V} same k ComputeInsert (Some v) found c q r i e f =
 heeds same k (Exchange x) given found c q r i e f = tt
 
 module _ {C V : Type 0} (same : V → V → Bool) (k : ℕ) (kind : Kind V) (v v1 v' : Option V) (q : Question V) (h h' : ℕ → Node V) (m : Pairs V) (p : k < 2 ^ 64) (s : IsMapOf h m) where
+  -- some map stands after the turn, and the turn is one of a call that had not taken effect
   abbrev pub Out : NextPhase C V → Type 0
   Out t = (m' : Pairs V) × IsMapOf h' m' × PendingMoves same k kind v1 q m t.report.decided t.report.outcome (flight_in k kind v' t.phase) m'
 
+  -- some map stands after a turn that answers as the map, and it is one of a call that had not taken effect
   abbrev pub Then : NextPhase C V → Type 0
   Then t = StepAnswers same k kind v h t h' → Out t
 
@@ -107,7 +109,7 @@ module _ {C V : Type 0} (same : V → V → Bool) (k : ℕ) (kind : Kind V) (v v
       let rr : r ≡ x.0 = cc in
       (y.next, y.stands, (y.call, x.0, subst P (sym o) y.is_call, heeds same k kind v (get m k) y.call q r y.is_call (y.reply ∙ sym rr) fa, y.answer, f ∙ ap Decided rr))
 
-  pub from_shape : (t : NextPhase C V) → StepShape k kind v v1 v' q t → StepAnswers same k kind v h t h' → Out t
+  from_shape : (t : NextPhase C V) → StepShape k kind v v1 v' q t → StepAnswers same k kind v h t h' → Out t
   from_shape t (GoesOn st q' e f c) = subst Then (sym e) (λ x. (m, standing_same h h' m x s, ((q', c, f), refl)))
   from_shape t (Skips st q' e f c) = subst Then (sym e) (λ x. (m, standing_same h h' m x s, ((q', c, f), refl)))
   from_shape t (Wonders st o e w f) = subst Then (sym e) (λ x. (m, standing_same h h' m x s, ((w, f), refl)))
@@ -123,12 +125,14 @@ module _ {C V : Type 0} (same : V → V → Bool) (k : ℕ) (kind : Kind V) (v v
       let P : NextPhase C V → Type 0 = λ z. StepAnswers same k kind v h z h' → (m' : Pairs V) × IsMapOf h' m' × Watched same (Decided r) m None z.report (flight_in k kind v' z.phase) m' in
       subst P (sym e) (λ x. (m, standing_same h h' m x s, (refl, f, refl)))
 
+  -- a call that took effect and ends with its reply is watched to its end
   pub ends : (r : Reply V) (t : NextPhase C V) → t ≡ finished r → StepAnswers same k kind v h t h'
       → (m' : Pairs V) × IsMapOf h' m' × Watched same (Decided r) m None t.report (flight_in k kind v' t.phase) m'
   ends r t e =
       let P : NextPhase C V → Type 0 = λ z. StepAnswers same k kind v h z h' → (m' : Pairs V) × IsMapOf h' m' × Watched same (Decided r) m None z.report (flight_in k kind v' z.phase) m' in
       subst P (sym e) (λ x. (m, standing_same h h' m x s, (refl, (refl, refl), refl)))
 
+  -- a call that is over and stays so is watched as over, with the map as it was
   pub rests : (t : NextPhase C V) → t ≡ quiet Ended → StepAnswers same k kind v h t h'
       → (m' : Pairs V) × IsMapOf h' m' × Watched same Over m None t.report (flight_in k kind v' t.phase) m'
   rests t e =
@@ -148,6 +152,7 @@ closed _ = tt
 
 module _ {C V : Type 0} (number : C → ℕ) (same : V → V → Bool) (always : Bool) (most : ℕ) (why : NodeType → Refusal → Type 0) (i : ℕ) (a : ℕ → Note) (h : ℕ → Node V) (root : C) (k : ℕ) (kind : Kind V)
     (fail : Bool) (told : Option (Option V)) (v v' : Option V) (t : NextPhase C V) (h' : ℕ → Node V) (p : k < 2 ^ 64) (m : Pairs V) (st : IsMapOf h m) where
+  -- some map stands after the turn, and the watch allows the turn
   abbrev pub Next : Flight V → Type 0
   Next f = (m' : Pairs V) × IsMapOf h' m' × Watched same f m told t.report (flight_in k kind v' t.phase) m'
 

@@ -32,7 +32,7 @@ pub record Reworded {V : Type 0} (i : ℕ) (a : ℕ → Note) (h : ℕ → Node 
   pub fares : Fares i (a n) (a' n) (h n) (h' n)
 
 -- another owner, lock word or mark of one published node leaves the map
-pub reworded : {V : Type 0} (i : ℕ) (a : ℕ → Note) (h : ℕ → Node V) (a' : ℕ → Note) (h' : ℕ → Node V) (n : ℕ) → Tree a h → LockWords a h → Reworded i a h a' h' n → KeepsMap i a h a' h'
+reworded : {V : Type 0} (i : ℕ) (a : ℕ → Note) (h : ℕ → Node V) (a' : ℕ → Note) (h' : ℕ → Node V) (n : ℕ) → Tree a h → LockWords a h → Reworded i a h a' h' n → KeepsMap i a h a' h'
 reworded {V} i a h a' h' n t w r =
     let pr : (m : ℕ) → (h' m).prefix ≡ (h m).prefix = but_one (λ y z. y.prefix ≡ z.prefix) h h' n (λ x. refl) r.nodes r.prefix in
     let ch : (m b : ℕ) → (h' m).children b ≡ (h m).children b = λ m b. but_one (λ y z. y.children b ≡ z.children b) h h' n (λ x. refl) r.nodes (r.children b) m in
@@ -213,7 +213,7 @@ off_tree i a h a' h' c t o =
     }
 
 -- a change of a node that isn't in reach leaves the map
-pub off_still : {V : Type 0} (i : ℕ) (a : ℕ → Note) (h : ℕ → Node V) (a' : ℕ → Note) (h' : ℕ → Node V) (c : ℕ) → Tree a h → LockWords a h → Off i a h a' h' c → KeepsMap i a h a' h'
+off_still : {V : Type 0} (i : ℕ) (a : ℕ → Note) (h : ℕ → Node V) (a' : ℕ → Note) (h' : ℕ → Node V) (c : ℕ) → Tree a h → LockWords a h → Off i a h a' h' c → KeepsMap i a h a' h'
 off_still i a h a' h' c t w o = record {
   effect = effect i a h a' h' w (off_tree i a h a' h' c t o)
       (ap (λ z. z.capacity) (o.nodes 0 (off_other a c 0 o.before t.root)))

@@ -81,7 +81,7 @@ nothing_first [] ys none = refl
 nothing_first (x ∷ xs) ys none = absurd (cc none)
 
 -- the second of two lists that have nothing together has nothing
-pub nothing_last : {B : Type 0} (xs ys : List B) → xs ++ ys ≡ [] → ys ≡ []
+nothing_last : {B : Type 0} (xs ys : List B) → xs ++ ys ≡ [] → ys ≡ []
 nothing_last [] ys none = none
 nothing_last (x ∷ xs) ys none = absurd (cc none)
 
@@ -183,6 +183,7 @@ module _ {B Q : Type 0} (items : Q → List B) where
     pub blocks_made : (first last block : Q) (between : List Q) → Blocks first between last → capacity block ≡ 32 → Blocks first between block
     blocks_made first last block between a made = record { filled = a.filled; alone = a.alone; gone = a.gone; whole = inr made; more = λ _. made }
 
+    -- behind a first block that has nothing the last one may be none
     pub blocks_none : (first last block : Q) (between : List Q) → Blocks first between last → items first ≡ [] → capacity block ≡ 0 → Blocks first between block
     blocks_none first last block between a none given = record { filled = a.filled; alone = a.alone; gone = a.gone; whole = inl given; more = λ some. absurd (some none) }
 
@@ -196,6 +197,7 @@ module _ {B Q : Type 0} (items : Q → List B) where
       more = λ _. made;
     }
 
+    -- behind a first block that has something, filled ones may stand between, and a made one last
     pub blocks_added : (first last block : Q) (between between' : List Q) → Blocks first between last → (items first ≡ [] → ⊥) → AreFilled len between' → capacity block ≡ 32 → Blocks first between' block
     blocks_added first last block between between' a some filled made = record {
       filled = filled;

@@ -111,6 +111,7 @@ module _ {T J : Type 0} where
       let blanks : (q : ℕ) → place s q ≡ blank = λ q. all_blank s q t.table none in
       omega (arith, f.once.count, blanks_weigh_none one s.table blanks, jobs_weigh one s.queue, all_one (jobs_of s.queue))
 
+  -- with nobody registered, once all jobs that are left are called each was called once, and none while blocked
   pub tells_ended : (names : T → List Name) (h : List Moment) (s : State T J) → registered_in s ≡ 0 → HasMoments names h s → IsEnded (history_of_calls s.store (jobs_of s.queue) (marks_of h)) s.next
   tells_ended names h s none t = fits_ended (marks_of h) s (λ q. all_blank s q t.table none) t.fits
 
@@ -118,21 +119,26 @@ not_empty : (n : ℕ) → false ≡ (n == 0) → 0 < n
 not_empty n e = grind (arith, nat_tests)
 
 module _ {J : Type 0} where
+  -- jobs whose count isn't zero are some
   pub some_jobs : (jobs : List (Deferral J)) → false ≡ (length jobs == 0) → 0 < length jobs
   some_jobs jobs e = not_empty (length jobs) e
 
+  -- one less, and less the jobs behind the first, is as much as less all jobs
   pub one_less : (jobs : List (Deferral J)) (n : ℕ) → 0 < length jobs → n - 1 - length (remove jobs 0) ≡ n - length jobs
   one_less [] n lt = absurd (omega arith)
   one_less (x ∷ jobs) n lt = omega arith
 
+  -- the jobs behind the first are fewer
   pub fewer : (jobs : List (Deferral J)) → 0 < length jobs → length (remove jobs 0) < length jobs
   fewer [] lt = absurd (omega arith)
   fewer (x ∷ jobs) lt = omega arith
 
+  -- jobs whose count is zero are none
   pub no_jobs : (jobs : List (Deferral J)) → true ≡ (length jobs == 0) → jobs ≡ []
   no_jobs [] e = refl
   no_jobs (x ∷ jobs) e = absurd (grind (arith, nat_tests))
 
+  -- the bags behind the first are fewer
   pub fewer_bags : (b : Sealed J) (queue queue' : List (Sealed J)) → queue ≡ b ∷ queue' → length queue' < length queue
   fewer_bags b queue queue' is = let more = ap (λ (q : List (Sealed J)). length q) is in omega (arith, more)
 
@@ -141,6 +147,7 @@ module _ {J : Type 0} where
   none_left [] queue' same rest = refl
   none_left (b ∷ queue) queue' same rest = let long = ap (λ (q : List (Sealed J)). length q) (same ∙ rest) in absurd (omega (arith, long))
 
+  -- less the first bag's jobs, and less those of the bags behind, is as much as less all jobs
   pub bag_less : (b : Sealed J) (queue queue' : List (Sealed J)) (n : ℕ) → queue ≡ b ∷ queue' → n - length b.jobs - length (jobs_of queue') ≡ n - length (jobs_of queue)
   bag_less b queue queue' n is = rw is (omega (arith, length-append b.jobs (jobs_of queue')))
 
@@ -155,8 +162,10 @@ module _ {T J : Type 0} where
   after_both st [] ys = refl
   after_both st (x ∷ xs) ys = after_both (after_work st x.work) xs ys
 
+  -- the first bag's jobs called, and then those of the bags behind, leave the cells as all jobs called do
   pub bag_after : (st : Store T) (b : Sealed J) (queue queue' : List (Sealed J)) → queue ≡ b ∷ queue' → after_jobs (after_jobs st b.jobs) (jobs_of queue') ≡ after_jobs st (jobs_of queue)
   bag_after st b queue queue' is = rw is (sym (after_both st b.jobs (jobs_of queue')))
 
+  -- with one more place counted, the count is that of the registered ones below the next
   pub registered_more : (s : State T J) (n m k : ℕ) (b : Bool) → m ≡ suc n → (place s n).registered ≡ b → k ≡ registered_below s n + (if b then 1 else 0) → k ≡ registered_below s m
   registered_more s n m k b is at count = count ∙ ap (λ (x : Bool). registered_below s n + (if x then 1 else 0)) (sym at) ∙ sym (ap (registered_below s) is)

@@ -66,7 +66,7 @@ open_set_other : {T : Type 0} (cells : List (Cell T)) (at turn_max i : ℕ) (c :
 open_set_other cells at turn_max i c ne = rw (length-set, get_or-set_other cells at i c fresh ne) refl
 
 -- one cell changes, and the list with it
-pub fits_set : {T : Type 0} (cells : List (Cell T)) (free free' : List ℕ) (at most turn_max : ℕ) (c : Cell T)
+fits_set : {T : Type 0} (cells : List (Cell T)) (free free' : List ℕ) (at most turn_max : ℕ) (c : Cell T)
     → at < length cells → FitsFree cells free most turn_max
     → ((i : ℕ) → i ≢ at → times i free' ≡ times i free) → times at free' ≡ (if is_reusable turn_max c then 1 else 0)
     → length free' + not_reusable turn_max c ≡ length free + not_reusable turn_max (get_or cells at fresh)
@@ -184,7 +184,7 @@ fits_pushed {T} cells most turn_max turns v f lt =
     }
 
 -- an empty list of free cells, and no cell left
-pub none_usable : {T : Type 0} (cells : List (Cell T)) (most turn_max : ℕ) → FitsFree cells [] most turn_max → most ≤ length cells → (i : ℕ) → is_usable (record { cells = cells; most = most; turn_max = turn_max }) i ≡ false
+none_usable : {T : Type 0} (cells : List (Cell T)) (most turn_max : ℕ) → FitsFree cells [] most turn_max → most ≤ length cells → (i : ℕ) → is_usable (record { cells = cells; most = most; turn_max = turn_max }) i ≡ false
 none_usable {T} cells most turn_max f le i =
     let closed = none_is_false (is_reusable_at cells turn_max i) (sym (f.each i)) in
     by_inside (nat_lt i most) (is_none (get_or cells i fresh).value) (nat_le (get_or cells i fresh).turns turn_max) (nat_lt i (length cells)) (grind (arith, nat_tests)) closed
@@ -240,7 +240,7 @@ some_usable cells (x ∷ xs) most turn_max f e =
     (x, grind (arith, nat_tests))
 
 -- a cell that was never used is usable
-pub next_usable : {T : Type 0} (cells : List (Cell T)) (most turn_max : ℕ) → length cells < most → (i : ℕ) × (is_usable (record { cells = cells; most = most; turn_max = turn_max }) i ≡ true)
+next_usable : {T : Type 0} (cells : List (Cell T)) (most turn_max : ℕ) → length cells < most → (i : ℕ) × (is_usable (record { cells = cells; most = most; turn_max = turn_max }) i ≡ true)
 next_usable cells most turn_max lt = (length cells, rw (past cells) (grind (arith, nat_tests)))
   where
     past : {T : Type 0} (cells : List (Cell T)) → get_or cells (length cells) fresh ≡ fresh

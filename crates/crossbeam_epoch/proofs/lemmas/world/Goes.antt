@@ -154,7 +154,7 @@ module _ {T J : Type 0} where
       ]
 
   -- a step that finds no memory
-  pub goes_without : (s s' : State T J) (who : ℕ) (phase : Phase) (r : Report) → (place s who).registered ≡ true → (place s who).phase ≡ phase → event_fault Go phase (place s who) ≡ None
+  goes_without : (s s' : State T J) (who : ℕ) (phase : Phase) (r : Report) → (place s who).registered ≡ true → (place s who).phase ≡ phase → event_fault Go phase (place s who) ≡ None
       → needs_memory Go phase ≡ true → s.room ≡ 0 → r ≡ record { called = None; outcome = Refused F.Memory } → s' ≡ in_phase s who Idle → Goes s s' who r
   goes_without s s' who phase r reg is none needs full at st =
       let free = no_fault s who phase reg is none in

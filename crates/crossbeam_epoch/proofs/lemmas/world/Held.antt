@@ -52,6 +52,7 @@ module _ {T J : Type 0} where
   pub found : (s v : State T J) (xs : List (Participant J)) (at : ℕ) (p : Participant J) → v ≡ s → xs ≡ v.table → true ≡ nat_lt at (length xs) → p ≡ get_or xs at p → p ≡ place s at
   found s v xs at p is same inside read = get_or_read xs at p (is_within at (length xs) inside) read blank ∙ ap (λ (ys : List (Participant J)). get_or ys at blank) (same ∙ ap (λ (x : State T J). x.table) is)
 
+  -- a look that found an index in the table was at one of its places
   pub found_within : (s v : State T J) (xs : List (Participant J)) (at : ℕ) → v ≡ s → xs ≡ v.table → true ≡ nat_lt at (length xs) → at < length s.table
   found_within s v xs at is same inside = subst (λ (ys : List (Participant J)). at < length ys) (same ∙ ap (λ (x : State T J). x.table) is) (is_within at (length xs) inside)
 
@@ -150,6 +151,7 @@ module _ {T J : Type 0} where
       ap (λ (y : State T J). record y { epoch = seen + 1 }) (placed_at s v who x old (λ p. record p { phase = Take (seen + 1) 0 }) is lt read made)
       ∙ sym (ap (λ b. if b then record (in_phase s who (Take (seen + 1) 0)) { epoch = seen + 1 } else in_phase s who (Take seen 0)) (is_below seen s.limits.epoch_max (subst (λ (y : State T J). seen < y.limits.epoch_max) is below)))
 
+  -- a collection that passed all places at the greatest epoch leaves it, and goes on to take bags
   pub stayed_at : (s v : State T J) (who seen : ℕ) (x old : Participant J) → v ≡ s → who < length s.table → old ≡ get_or v.table who old → x ≡ record old { phase = Take seen 0 } → v.limits.epoch_max ≤ seen → with_place v who x ≡ advanced s who seen
   stayed_at s v who seen x old is lt read made past =
       placed_at s v who x old (λ p. record p { phase = Take seen 0 }) is lt read made
@@ -194,6 +196,7 @@ module _ {T J : Type 0} where
   pub after_put : (s : State T J) (who : ℕ) (work : Work J) → (length (place s who).bag == 64) ≡ false → deferred s who work ≡ after_deferral s who work
   after_put s who work free = sym (ap (λ b. if b then deferred_anew s who work else deferred s who work) free)
 
+  -- a deferral into a full bag is one into a new bag
   pub after_anew : (s : State T J) (who : ℕ) (work : Work J) → (length (place s who).bag == 64) ≡ true → deferred_anew s who work ≡ after_deferral s who work
   after_anew s who work full = sym (ap (λ b. if b then deferred_anew s who work else deferred s who work) full)
 

@@ -152,6 +152,7 @@ module _ {T J : Type 0} where
       no_items (x ∷ xs) e = absurd (grind (arith, nat_tests))
   by_empty h s who answered bags seal false in_table is e f = fits_called_one h s who answered bags seal in_table is (grind (arith, nat_tests)) f
 
+  -- a history with the call of a job in hand fits the state after the call
   pub fits_called : (h : List Mark) (s : State T J) (who answered bags seal : ℕ) → who < length s.table → (place s who).phase ≡ Call answered bags seal → Fits h s
       → Fits (call_marks (called_by s.store (Call answered bags seal) (place s who).hand) h) (called s who answered bags seal)
   fits_called h s who answered bags seal in_table is f = by_empty h s who answered bags seal (length (place s who).hand == 0) in_table is refl f
@@ -199,5 +200,6 @@ module _ {T J : Type 0} where
   by_full h s who work true lt is f = fits_deferred_anew h s who work lt is f
   by_full h s who work false lt is f = fits_deferred h s who work lt is f
 
+  -- a history with a job's deferral fits the state after it
   pub fits_after_deferral : (h : List Mark) (s : State T J) (who : ℕ) (work : Work J) → who < length s.table → (place s who).phase ≡ Idle → Fits h s → Fits (Deferred s.next (name_of work) ∷ h) (after_deferral s who work)
   fits_after_deferral h s who work lt is f = by_full h s who work (length (place s who).bag == 64) lt is f

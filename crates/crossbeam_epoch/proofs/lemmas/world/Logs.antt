@@ -437,6 +437,7 @@ module _ {T J : Type 0} where
   shows_run log h s (step ∷ steps) (r ∷ reports) are w =
       shows_run (Stepped step r ∷ log) (marks s step.who step.event r h) (after s step.who step.event r.outcome) steps reports are.1 (shows_step log h s step r are.0 w)
 
+  -- an empty log shows an empty history, and a new collector
   pub shows_opened : (limits : Limits) (roots : ℕ) → Shows {T = T} {J = J} [] [] (opened limits roots)
   shows_opened limits roots = record { history = refl; places = λ q. rw (blank_at limits.participants q) (record { count = refl; pinned = refl; phase = refl }) }
 
@@ -448,6 +449,7 @@ module _ {T J : Type 0} where
       let s' = after s step.who step.event r.outcome in
       moments_marks names (moment names (step_act s step.who step.event r) s' ∷ h) s' steps reports ∙ ap (λ g. history_after s' steps reports g) (marks_act s step.who step.event r (marks_of h))
 
+  -- the log after a run shows the marks of its moments, and the state after it
   pub shows_moments : (names : T → List Name) (log : List LogLine) (h : List Moment) (s : State T J) (steps : List Step) (reports : List Report) → AreReports s steps reports → Shows log (marks_of h) s
       → Shows (log_after steps reports log) (marks_of (moments_after names s steps reports h)) (state_after s steps reports)
   shows_moments names log h s steps reports are w =
@@ -464,6 +466,7 @@ module _ {T J : Type 0} where
     | inr ne ↦ rw (put_off s s' who p q e ne) (all q)
   ]
 
+  -- the log shows the state after a registration
   pub shows_registered : (log : List LogLine) (h : List Mark) (s : State T J) (n : ℕ) → Shows log h s → Shows log h (registered s n)
   shows_registered log h s n w =
       let a = w.places n in
@@ -483,12 +486,15 @@ module _ {T J : Type 0} where
         places = stays_at log s (deferred s who work) who (record (place s who) { bag = (place s who).bag ++ record { ticket = s.next; work = work } ∷ [] }) refl (record { count = a.count; pinned = a.pinned; phase = a.phase }) w.places;
       }
 
+  -- the log with an accepted job shows its deferral, and the state after it
   pub shows_deferred : (log : List LogLine) (h : List Mark) (s : State T J) (who : ℕ) (work : Work J) → Shows log h s → Shows (Accepted s.next (name_of work) ∷ log) (Deferred s.next (name_of work) ∷ h) (after_deferral s who work)
   shows_deferred log h s who work w = by_full log h s who work (length (place s who).bag == 64) w
 
+  -- the log shows the state after its cells changed
   pub shows_stored : (log : List LogLine) (h : List Mark) (s : State T J) (st : Store T) → Shows log h s → Shows log h (with_store s st)
   shows_stored log h s st w = record { history = w.history; places = w.places }
 
+  -- the log shows the state after its roots changed
   pub shows_rooted : (log : List LogLine) (h : List Mark) (s : State T J) (roots : List Ptr) → Shows log h s → Shows log h (with_roots s roots)
   shows_rooted log h s roots w = record { history = w.history; places = w.places }
 
@@ -496,9 +502,11 @@ module _ {T J : Type 0} where
   pub log_graceful : (log : List LogLine) (h : List Mark) (s : State T J) → Shows log h s → Fits h s → IsGraceful (history_of log)
   log_graceful log h s w f = subst (λ g. IsGraceful g) w.history (undated_graceful h f.graceful)
 
+  -- by the log, only removals that were accepted destroy a cell
   pub log_later : (log : List LogLine) (h : List Mark) (s : State T J) → Shows log h s → Fits h s → AreCalledLater (history_of log)
   log_later log h s w f = subst (λ g. AreCalledLater g) w.history (undated_later h f.later)
 
+  -- by the log, each job below the next ticket was accepted once, and stands in one bag or was called once
   pub log_once : (log : List LogLine) (h : List Mark) (s : State T J) (t : ℕ) → Shows log h s → Fits h s
       → (times_held s t + times_called (history_of log) t ≡ deferrals (history_of log) t) × (deferrals (history_of log) t ≡ (if nat_lt t s.next then 1 else 0))
   log_once log h s t w f =
@@ -506,12 +514,14 @@ module _ {T J : Type 0} where
       let given : deferrals (history_of log) t ≡ deferrals h t = sym (ap (λ g. deferrals g t) w.history) ∙ undated_deferrals h t in
       (ap (λ n. times_held s t + n) called ∙ f.once.each t ∙ sym given, given ∙ f.once.tickets t)
 
+  -- by the log, a participant is pinned, and has a stretch, just where some of its guards are out
   pub log_pinned : (log : List LogLine) (h : List Mark) (s : State T J) (q : ℕ) → Shows log h s → Fits h s
       → (is_some (place s q).word ≡ nat_lt 0 (guards log q)) × (is_some (began (history_of log) q) ≡ nat_lt 0 (guards log q))
   log_pinned log h s q w f =
       let a = w.places q in
       (a.pinned, sym (ap (λ g. is_some (began g q)) w.history) ∙ undated_began h q ∙ bounds_some (began h q) (place s q).word s.epoch (f.places q).bounds ∙ a.pinned)
 
+  -- by the log, what was in reach in the stretch of a participant with guards isn't destroyed
   pub log_stands : (names : T → List Name) (log : List LogLine) (h : List Moment) (s : State T J) (p : ℕ) (n : Name) → Shows log (marks_of h) s → HasMoments names h s → IsCareful h → 0 < guards log p → Visible h p n → is_some (value_at s.store n) ≡ true
   log_stands names log h s p n w t u out seen =
       let a = w.places p in

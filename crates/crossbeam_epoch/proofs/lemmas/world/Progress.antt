@@ -54,6 +54,7 @@ module _ {J : Type 0} where
   first_job f [] lt = absurd (omega arith)
   first_job f (x ∷ rest) lt = omega (arith, sum_by-append f (x ∷ []) rest)
 
+  -- some jobs are one more than those behind the first
   pub one_less : (jobs : List (Deferral J)) → 0 < length jobs → length jobs ≡ suc (length (remove jobs 0))
   one_less [] lt = absurd (omega arith)
   one_less (x ∷ rest) lt = refl
@@ -90,6 +91,7 @@ module _ {J : Type 0} where
   empty_hand Go (Take answered bags) hand e fits = absurd (cc e)
   empty_hand Go (Call answered bags seal) hand e fits = absurd (cc e)
 
+  -- a new collector has no jobs, whatever each would weigh
   pub opened_weighs : (T : Type 0) (limits : Limits) (roots : ℕ) (f : Deferral J → ℕ) → weight f (opened {T = T} limits roots) ≡ 0
   opened_weighs T limits roots f = omega (arith, blanks_weigh_none f limits.participants)
 
@@ -319,6 +321,7 @@ module _ {T J : Type 0} where
   by_outcome s who event None Running is k o = moving s who event is o
   by_outcome s who event None Done is k o = subst (λ c. Moves s who c (moved s who event)) (done_called s who event) (moving s who event is o)
 
+  -- a step calls the job that it tells, or none, and changes the place of its participant alone
   pub moves : (s : State T J) (who : ℕ) (event : Event) (r : Report) → Orderly s → IsReport s who event r → Moves s who r.called (after s who event r.outcome)
   moves s who event r o is = subst (λ c. Moves s who c (after s who event r.outcome)) (sym is.job) (by_outcome s who event (fault s who event) r.outcome refl is.outcome o)
 
@@ -352,12 +355,15 @@ module _ {T J : Type 0} where
   begin_none s who op Running = refl
   begin_none s who op Done = refl
 
+  -- a step of a call that doesn't collect yet calls no job
   pub no_call_yet : (s : State T J) (who : ℕ) (r : Report) → collects (place s who).phase ≡ false → IsReport s who Go r → r.called ≡ None
   no_call_yet s who r e is = is.job ∙ no_call_in s who r.outcome e
 
+  -- a begin calls no job
   pub no_call_begins : (s : State T J) (who : ℕ) (op : Op) (r : Report) → IsReport s who (Begin op) r → r.called ≡ None
   no_call_begins s who op r is = is.job ∙ begin_none s who op r.outcome
 
+  -- a new collector has no calls in flight
   pub opened_rests : (limits : Limits) (roots : ℕ) → IsResting {T = T} {J = J} (opened limits roots)
   opened_rests limits roots = record {
     orderly = record {
@@ -400,12 +406,14 @@ module _ {T J : Type 0} where
     sealed = λ b m. o.sealed b (subst (λ (xs : List (Sealed J)). Contains xs b) queue m);
   }
 
+  -- a registration leaves calls, cells and jobs as they stood
   pub registered_keeps : (s : State T J) (n : ℕ) → n < length s.table → Orderly s → KeepsCalls s (registered s n) (λ f. 0)
   registered_keeps s n lt o =
       let p = record (place s n) { registered = true; pins = 0 } in
       kept s (registered s n) n (stays s n p s.epoch lt o (o.hands n) refl refl) (ap (λ (x : Participant J). x.phase) (get_or-set_same s.table n p blank lt))
       (λ op i. subst (λ (x : Participant J). IsOn op x) (sym (get_or-set_same s.table n p blank lt)) (refl, i.1))
 
+  -- a job that goes into a bag with a place leaves calls and cells, and is the one job more
   pub deferred_keeps : (s : State T J) (who : ℕ) (work : Work J) → who < length s.table → length (place s who).bag < 64 → Orderly s → KeepsCalls s (deferred s who work) (λ f. f (record { ticket = s.next; work = work }))
   deferred_keeps s who work lt room o =
       let old = place s who in
@@ -480,6 +488,7 @@ module _ {T J : Type 0} where
       let room : length (place s who).bag < 64 = grind (arith, nat_tests) in
       deferred_keeps s who work lt room o
 
+  -- a job that is accepted leaves calls and cells, and is the one job more
   pub deferral_keeps : (s : State T J) (who : ℕ) (work : Work J) → defer_fault s who ≡ None → Orderly s → KeepsCalls s (after_deferral s who work) (λ f. f (record { ticket = s.next; work = work }))
   deferral_keeps s who work e o =
       let k = known (place s who).registered (or_count s.next (quiet_fault (place s who).phase (place s who))) e in

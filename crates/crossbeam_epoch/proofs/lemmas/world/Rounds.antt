@@ -91,22 +91,27 @@ module _ {J : Type 0} where
   flush_collects old new who expiry found bag epoch queue p (Take answered bags) sealed own c = (sealed, own, c)
   flush_collects old new who expiry found bag epoch queue p (Call answered bags seal) sealed own c = (sealed, own, c)
 
+  -- a bag that isn't empty is sealed as one bag with its jobs
   pub sealed_own : (bag jobs : List (Deferral J)) (seal : ℕ) → jobs ≡ bag → (bag ≡ [] → ⊥) → IsSealedBag bag ((record { seal = seal; jobs = jobs }) ∷ [])
   sealed_own [] jobs seal is some = absurd (some refl)
   sealed_own (e ∷ bag) jobs seal is some = (seal, ap (λ (x : List (Deferral J)). (record { seal = seal; jobs = x }) ∷ []) is)
 
+  -- an empty bag isn't sealed
   pub sealed_none : (bag : List (Deferral J)) → bag ≡ [] → IsSealedBag bag []
   sealed_none [] e = refl
   sealed_none (x ∷ bag) e = absurd (cc e)
 
+  -- a bag whose count of jobs isn't zero isn't empty
   pub some_jobs : (bag : List (Deferral J)) → (length bag == 0) ≡ false → bag ≡ [] → ⊥
   some_jobs [] e is = absurd (cc e)
   some_jobs (x ∷ bag) e is = absurd (cc is)
 
+  -- a bag whose count of jobs is zero is empty
   pub no_jobs : (bag : List (Deferral J)) → (length bag == 0) ≡ true → bag ≡ []
   no_jobs [] e = refl
   no_jobs (x ∷ bag) e = absurd (grind (arith, nat_tests))
 
+  -- a participant whose call may go on isn't between calls
   pub busy : (phase : Phase) (p : Participant J) → event_fault Go phase p ≡ None → phase ≡ Idle → ⊥
   busy phase p e is = let x = rw is at e in absurd (cc x)
 
@@ -126,6 +131,7 @@ module _ {T J : Type 0} where
   fewer_jobs s s' None f j = let e = j.2 f in omega (arith, e)
   fewer_jobs s s' (Some c) f j = let e = j.4 f in omega (arith, e)
 
+  -- what stays of a state while one participant steps stays over one step more
   pub kept_step : (s : State T J) (who : ℕ) (now : State T J) (event : Event) (r : Report) → IsKept s who now → IsReport now who event r → IsKept s who (after now who event r.outcome)
   kept_step s who now event r k is =
       let m = moves now who event r k.orderly is in
@@ -140,9 +146,11 @@ module _ {T J : Type 0} where
         fewer = λ f. (let a = fewer_jobs now (after now who event r.outcome) r.called f m.jobs in let b = k.fewer f in omega (arith, a, b));
       }
 
+  -- what is to stay of a state holds of the state itself
   pub kept_from : (s : State T J) (who : ℕ) (h : List Mark) → Fits h s → Orderly s → IsSealing s → IsKept s who s
   kept_from s who h f o i = record { past = h; fits = f; orderly = o; sealing = i; limits = refl; long = refl; others = λ q ne. refl; fewer = λ w. omega arith }
 
+  -- what stays of a state to a second one, and of that to a third, stays to the third
   pub kept_on : (s now later : State T J) (who : ℕ) → IsKept s who now → IsKept now who later → IsKept s who later
   kept_on s now later who a b = record { past = b.past; fits = b.fits; orderly = b.orderly; sealing = b.sealing; limits = b.limits ∙ a.limits; long = b.long ∙ a.long; others = λ q ne. b.others q ne ∙ a.others q ne; fewer = λ f. (let x = a.fewer f in let y = b.fewer f in omega (arith, x, y)) }
 
@@ -368,6 +376,7 @@ module _ {J : Type 0} where
       none_left (b ∷ rest) none all = absurd (let le = all b (0, omega arith, refl) in omega arith)
 
 module _ {T J : Type 0} where
+  -- a round while nobody is pinned moves the epoch on, seals the bag, and takes what is due
   pub round : (s s' : State T J) (who : ℕ) (h : List Mark) → Fits h s → Orderly s → IsSealing s → ((q : ℕ) → (place s q).word ≡ None) → (r : IsRound s who s') → IsRounded s who s' r
   round s s' who h f o i un r =
       let new = next_epoch s.epoch s.limits.epoch_max in
@@ -478,12 +487,14 @@ module _ {T J : Type 0} where
       by true e = (quiet.idle q e, quiet.unpinned q e)
       by false e = let is = table.free q e in (ap (λ (p : Participant J). p.phase) is, ap (λ (p : Participant J). p.word) is)
 
-  pub quiet_round : (s s' : State T J) (who : ℕ) (h : List Mark) → Fits h s → IsTable s.limits.participants s.table → Orderly s → IsSealing s → IsQuiet s → (r : IsRound s who s') → IsRounded s who s' r
+  quiet_round : (s s' : State T J) (who : ℕ) (h : List Mark) → Fits h s → IsTable s.limits.participants s.table → Orderly s → IsSealing s → IsQuiet s → (r : IsRound s who s') → IsRounded s who s' r
   quiet_round s s' who h f table o i quiet r = round s s' who h f o i (λ q. (all_idle s table quiet q).1) r
 
+  -- a quiet round moves the epoch on by one
   pub quiet_advances : (s s' : State T J) (who : ℕ) (h : List Mark) → Fits h s → IsTable s.limits.participants s.table → Orderly s → IsSealing s → IsQuiet s → IsRound s who s' → s'.epoch ≡ s.epoch + 1
   quiet_advances s s' who h f table o i quiet r = let far = quiet.far in (quiet_round s s' who h f table o i quiet r).epoch ∙ next_below s.epoch s.limits.epoch_max (omega arith)
 
+  -- after the flush of a quiet round each seal is at most the next epoch
   pub quiet_seals : (s s' : State T J) (who : ℕ) (h : List Mark) → Fits h s → IsTable s.limits.participants s.table → Orderly s → IsSealing s → IsQuiet s → (r : IsRound s who s') → (b : Sealed J) → Contains r.flushed.queue b → b.seal ≤ s.epoch + 1
   quiet_seals s s' who h f table o i quiet r b m =
       let far = quiet.far in

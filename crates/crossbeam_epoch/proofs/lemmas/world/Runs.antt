@@ -59,7 +59,7 @@ no_quiet next None e = refl
 no_quiet next (Some f) e = absurd (cc e)
 
 -- where a removal has no fault, its deferral has none
-pub no_destroy_fault : (b : Bool) (x : Option Fault) → (if b then x else Some F.Unknown) ≡ None → x ≡ None
+no_destroy_fault : (b : Bool) (x : Option Fault) → (if b then x else Some F.Unknown) ≡ None → x ≡ None
 no_destroy_fault true x e = e
 no_destroy_fault false x e = absurd (cc e)
 
@@ -113,6 +113,7 @@ module _ {J : Type 0} where
   pub blank_at : (n q : ℕ) → get_or (replicate n (blank {J = J})) q blank ≡ blank
   blank_at n q = elim (cases_lt q n) [ inl lt ↦ get_or-replicate n q blank blank lt | inr ge ↦ get_or_past (replicate n blank) q blank (rw length-replicate ge) ]
 
+  -- blank places have no jobs, whatever each would weigh
   pub blanks_weigh_none : (w : Deferral J → ℕ) (n : ℕ) → sum_by (at_place w) (replicate n blank) ≡ 0
   blanks_weigh_none w zero = refl
   blanks_weigh_none w (suc n) = blanks_weigh_none w n
@@ -202,6 +203,7 @@ module _ {T J : Type 0} where
   running_begin s who op (Take answered bags) = refl
   running_begin s who op (Call answered bags seal) = refl
 
+  -- after a begin the place is as the call begins, or as it was where there is a fault
   pub begin_after : (s : State T J) (who : ℕ) (op : Op) (fault : Option Fault)
       → after s who (Begin op) (outcome_or fault (begun_at op (place s who))) ≡ with_place s who (place_or fault (begun_at op (place s who)) (place s who))
   begin_after s who op (Some f) = refused_begin s who op f ∙ sym (ap (λ t. record s { table = t }) (set-get_or s.table who blank))
@@ -313,6 +315,7 @@ module _ {T J : Type 0} where
   state_more s (y ∷ steps) [] step r e = absurd (omega arith)
   state_more s (y ∷ steps) (x ∷ reports) step r e = state_more (after s y.who y.event x.outcome) steps reports step r (omega arith)
 
+  -- reports that may be given of a run may be with one more that may be given of the next step
   pub legal_more : (s : State T J) (steps : List Step) (reports : List Report) (step : Step) (r : Report) → length steps ≡ length reports → AreReports s steps reports
       → IsReport (state_after s steps reports) step.who step.event r → AreReports s (steps ++ step ∷ []) (reports ++ r ∷ [])
   legal_more s [] [] step r e are is = (is, tt)
@@ -320,6 +323,7 @@ module _ {T J : Type 0} where
   legal_more s (y ∷ steps) [] step r e are is = absurd (omega arith)
   legal_more s (y ∷ steps) (x ∷ reports) step r e are is = (are.0, legal_more (after s y.who y.event x.outcome) steps reports step r (omega arith) are.1 is)
 
+  -- a run so far, with the report of its next step, is the run so far and that step
   pub run_more : (s : State T J) (all : List Step) (i : ℕ) (d : Step) (reports reports' : List Report) (r : Report) (now new : State T J) → i < length all → length reports ≡ i
       → AreReports s (take i all) reports → now ≡ state_after s (take i all) reports → IsReport now (get_or all i d).who (get_or all i d).event r → new ≡ after now (get_or all i d).who (get_or all i d).event r.outcome
       → reports' ≡ reports ++ r ∷ [] → AreReports s (take (i + 1) all) reports' × (new ≡ state_after s (take (i + 1) all) reports')
@@ -331,6 +335,7 @@ module _ {T J : Type 0} where
         rw (take_more all i d lt, more, on, is) (sym (state_more s (take i all) reports step r even)),
       )
 
+  -- the empty history fits a new collector
   pub fits_opened : (limits : Limits) (roots : ℕ) → 2 ≤ limits.expiry → Fits {T = T} {J = J} [] (opened limits roots)
   fits_opened limits roots le = record {
     graceful = tt;
@@ -345,6 +350,7 @@ module _ {T J : Type 0} where
     };
   }
 
+  -- the history fits after a registration
   pub fits_registered : (h : List Mark) (s : State T J) (n : ℕ) → n < length s.table → Fits h s → Fits h (registered s n)
   fits_registered h s n lt f =
       let at = f.places n in
@@ -354,6 +360,7 @@ module _ {T J : Type 0} where
   pub fits_store : (h : List Mark) (s s' : State T J) → s' ≡ with_store s s'.store → Fits h s → Fits h s'
   fits_store h s s' is f = rw is (record { graceful = f.graceful; later = f.later; wait = f.wait; places = f.places; queued = f.queued; once = record { each = f.once.each; tickets = f.once.tickets; count = f.once.count } })
 
+  -- the history fits after the roots changed
   pub fits_roots : (h : List Mark) (s : State T J) (roots : List Ptr) → Fits h s → Fits h (with_roots s roots)
   fits_roots h s roots f = record { graceful = f.graceful; later = f.later; wait = f.wait; places = f.places; queued = f.queued; once = record { each = f.once.each; tickets = f.once.tickets; count = f.once.count } }
 

@@ -262,9 +262,11 @@ module _ {T J : Type 0} where
   by_outcome h s who event None Running is o f i = moving h s who event is f i
   by_outcome h s who event None Done is o f i = moving h s who event is f i
 
+  -- after a step no empty bag is queued, and no seal is past the epoch
   pub sealing_after : (h : List Mark) (s : State T J) (who : ℕ) (event : Event) (r : Report) → IsReport s who event r → Fits h s → IsSealing s → IsSealing (after s who event r.outcome)
   sealing_after h s who event r is f i = by_outcome h s who event (fault s who event) r.outcome refl is.outcome f i
 
+  -- after a run no empty bag is queued, and no seal is past the epoch
   pub sealing_run : (h : List Mark) (s : State T J) (steps : List Step) (reports : List Report) → AreReports s steps reports → Fits h s → IsSealing s → IsSealing (state_after s steps reports)
   sealing_run h s [] [] are f i = i
   sealing_run h s [] (r ∷ reports) are f i = absurd are
@@ -272,6 +274,7 @@ module _ {T J : Type 0} where
   sealing_run h s (step ∷ steps) (r ∷ reports) are f i =
       sealing_run (marks s step.who step.event r h) (after s step.who step.event r.outcome) steps reports are.1 (fits_after h s step.who step.event r are.0 f) (sealing_after h s step.who step.event r are.0 f i)
 
+  -- of a new collector no empty bag is queued, and no seal is past the epoch
   pub sealing_opened : (limits : Limits) (roots : ℕ) → IsSealing {T = T} {J = J} (opened limits roots)
   sealing_opened limits roots = record {
     filled = λ b m. absurd (none_in b m);
@@ -279,9 +282,11 @@ module _ {T J : Type 0} where
     places = λ q. rw (blank_at limits.participants q) tt;
   }
 
+  -- after a registration no empty bag is queued, and no seal is past the epoch
   pub sealing_registered : (s : State T J) (n : ℕ) → n < length s.table → IsSealing s → IsSealing (registered s n)
   sealing_registered s n lt i = stay s n (record (place s n) { registered = true; pins = 0 }) lt i (i.places n)
 
+  -- with other cells and roots no empty bag is queued, and no seal is past the epoch
   pub sealing_beside : (s : State T J) (st : Store T) (roots : List Ptr) → IsSealing s → IsSealing (record s { store = st; roots = roots })
   sealing_beside s st roots i = record { filled = i.filled; past = i.past; places = i.places }
 
@@ -297,6 +302,7 @@ module _ {T J : Type 0} where
       let bag = old.bag ++ record { ticket = s.next; work = work } ∷ [] in
       put s (deferred s who work) who (record old { bag = bag }) refl (omega arith) lt i (quiet (length bag)) i.filled i.past
 
+  -- after an accepted job no empty bag is queued, and no seal is past the epoch
   pub sealing_deferral : (s : State T J) (who : ℕ) (work : Work J) → defer_fault s who ≡ None → IsSealing s → IsSealing (after_deferral s who work)
   sealing_deferral s who work e i =
       let k = known (place s who).registered (or_count s.next (quiet_fault (place s who).phase (place s who))) e in

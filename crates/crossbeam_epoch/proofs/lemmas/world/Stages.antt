@@ -458,6 +458,7 @@ module _ {T J : Type 0} where
   faultless : (s : State T J) (who : ℕ) (op : Op) → IsOn op (place s who) → fault s who Go ≡ None
   faultless s who op on = ap (λ b. if b then event_fault Go (place s who).phase (place s who) else Some F.Unknown) on.0 ∙ no_fault op (place s who).phase (place s who) on.1
 
+  -- a step of a call in flight leaves it fewer steps, ends it, or finds no memory for its bag
   pub goes_on : (s : State T J) (who : ℕ) (op : Op) (r : Report) → Orderly s → IsOn op (place s who) → IsReport s who Go r → GoesOn s who op r.outcome (after s who Go r.outcome)
   goes_on s who op r o on is =
       let P : Option Fault → Type 0 = λ f. IsOutcome s who Go f r.outcome in
@@ -521,6 +522,7 @@ module _ {T J : Type 0} where
   begins_by s who op Running idle is = begun_running s who op (refusal s who op) refl idle is
   begins_by s who op Done idle is = begun_done s who op (refusal s who op) refl is
 
+  -- a begin between calls goes on, ends at once, or is refused for its first cause and changes nothing
   pub begins : (s : State T J) (who : ℕ) (op : Op) (r : Report) → (place s who).phase ≡ Idle → IsReport s who (Begin op) r → Begins s who op r.outcome (after s who (Begin op) r.outcome)
   begins s who op r idle is =
       let same : fault s who (Begin op) ≡ refusal s who op = ap (λ ph. if (place s who).registered then event_fault (Begin op) ph (place s who) else Some F.Unknown) idle in

@@ -23,13 +23,13 @@ use Rattle.crossbeam_epoch.proofs.lemmas.world.Runs.{known}
 
 module _ {J : Type 0} where
   -- nobody's place is blank
-  abbrev pub IsSpare : Participant J → Type 0
+  abbrev IsSpare : Participant J → Type 0
   IsSpare p = p.registered ≡ false → p ≡ blank
 
   held : (p p' : Participant J) → p'.registered ≡ p.registered → p.registered ≡ true → IsSpare p'
   held p p' same is = λ no. absurd (cc (same, is, no))
 
-  pub table_put : (places : ℕ) (table : List (Participant J)) (who : ℕ) (p : Participant J) → IsSpare p → IsTable places table → IsTable places (set table who p)
+  table_put : (places : ℕ) (table : List (Participant J)) (who : ℕ) (p : Participant J) → IsSpare p → IsTable places table → IsTable places (set table who p)
   table_put places table who p spare t = record {
     long = rw length-set t.long;
     free = λ q. elim (cases_eq q who) [
@@ -41,6 +41,7 @@ module _ {J : Type 0} where
     ];
   }
 
+  -- a new table has its places, all blank
   pub table_new : (places : ℕ) → IsTable places (replicate places (blank {J = J}))
   table_new places = record {
     long = length-replicate places blank;
@@ -69,7 +70,7 @@ module _ {J : Type 0} where
 
 module _ {T J : Type 0} where
   -- the table of a state has its places
-  abbrev pub HasTable : State T J → Type 0
+  abbrev HasTable : State T J → Type 0
   HasTable s = IsTable s.limits.participants s.table
 
   acted : (s : State T J) (who : ℕ) (p : Participant J) → p.registered ≡ (place s who).registered → (place s who).registered ≡ true → HasTable s → IsTable s.limits.participants (set s.table who p)

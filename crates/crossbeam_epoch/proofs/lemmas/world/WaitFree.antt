@@ -144,6 +144,7 @@ module _ {T J : Type 0} where
         rw other (other_step s who q op n Go r ne o on is next)
   ]
 
+  -- a call in flight is left so by fewer steps than it has left
   pub in_time : (s : State T J) (who : ℕ) (op : Op) (steps : List Step) (reports : List Report) → Orderly s → IsOn op (place s who) → AreReports s steps reports → steps_in_flight who steps reports < steps_left s who
   in_time s who op [] reports o on are = some_left (length s.table) (length (place s who).hand) op (place s who).phase on.1
   in_time s who op (step ∷ steps) [] o on are = some_left (length s.table) (length (place s who).hand) op (place s who).phase on.1
@@ -176,6 +177,7 @@ module _ {T J : Type 0} where
       let same : most_steps (length s'.table) op ≡ most_steps (length s.table) op = ap (λ w. most_steps w op) long in
       omega (arith, less, most, same)
 
+  -- each call that begins in a run ends within its most steps
   pub all_in_time : (s : State T J) (steps : List Step) (reports : List Report) → Orderly s → AreReports s steps reports → AllEndInTime (length s.table) steps reports
   all_in_time s [] reports o are = tt
   all_in_time s (step ∷ steps) [] o are = tt
@@ -199,6 +201,7 @@ module _ {T J : Type 0} where
       let n = all_counted who rs (λ x m. all x (contains_tail r rs x m)) in
       omega (arith, less, n)
 
+  -- a whole call that may take its most steps is over at its end
   pub call_over : (s : State T J) (who : ℕ) (op : Op) (most : ℕ) (reports : List Report) (newest : Option Report) (s' : State T J) → Orderly s → IsCall s who op most reports newest s' → most_steps (length s.table) op ≤ most → IsOver newest
   call_over s who op most reports None s' o c le = let none : most ≡ 0 = c.stops in let some = some_steps (length s.table) op in omega (arith, none, le, some)
   call_over s who op most reports (Some r) s' o c le = λ runs.
