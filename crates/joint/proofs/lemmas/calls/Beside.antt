@@ -67,7 +67,7 @@ module _ {V : Type 0} (same : V → V → Bool) (always : Bool) where
     proceeds (Begin op) r x = begins (target op) r x
     proceeds (Go noise) r x = goes (slice_get s.calls w) noise r x
 
-    pub step_beside : (event : Event V) (o : Option Fault) (r : Report V) → Does same always s w event o r s' → IsBeside s.forest s'.forest
+    step_beside : (event : Event V) (o : Option Fault) (r : Report V) → Does same always s w event o r s' → IsBeside s.forest s'.forest
     step_beside event None r x = proceeds event r x
     step_beside event (Some f) r x = alike s.forest s'.forest (ap (λ y. y.forest) x.1)
 

@@ -265,7 +265,7 @@ module _ {V : Type 0} (k : Census) (s : Nodes V) (ms : List (Machine Id V)) (c :
   pub is_empty : (b : Bool) → b ≡ (k.pairs == 0) → (m : Pairs V) → IsMapOf (nodes s) m → IsEmptiness m b
   is_empty b e m st = emptiness m k.pairs (sym (count_of m st)) b (sym e)
 
-  pub pairs_few : k.pairs ≤ 2 ^ 64
+  pairs_few : k.pairs ≤ 2 ^ 64
   pairs_few = let l = len_few c.pairs c.stand.none_beyond in omega (arith, l, c.count)
 
   pub taken_few : length ms ≤ 256 → k.taken.nodes ≤ 512
@@ -294,7 +294,7 @@ module _ {V : Type 0} (k : Census) (s : Nodes V) (ms : List (Machine Id V)) (c :
         bytes = omega (arith, a, b, e, c.bytes);
       }
 
-  pub counted_same : (s' : Nodes V) → nodes s' ≡ nodes s → AreCounted k s' ms
+  counted_same : (s' : Nodes V) → nodes s' ≡ nodes s → AreCounted k s' ms
   counted_same s' e = counted_on s' (let P : (ℕ → Node V) → Type 0 = λ h. SameMap (nodes s) h in subst P (sym e) (λ x l. refl)) (λ j m n at t. ap (λ h. h n) e)
 
   pub counted_collected : (s' : Nodes V) → SameMap (nodes s) (nodes s') → Destroys id_number (nodes s) ms (nodes s') → AreCounted k s' ms
@@ -303,7 +303,7 @@ module _ {V : Type 0} (k : Census) (s : Nodes V) (ms : List (Machine Id V)) (c :
       All-contains P (names id_number m.phase) n (d.named j m at) (taken_named m.phase n t))
 
   -- a call that has taken nothing out comes in place of another
-  pub counted_set : (i : ℕ) (y : Machine Id V) → ((x : Machine Id V) → slice_get ms i ≡ Some x → taken_by x ≡ []) → taken_by y ≡ [] → AreCounted k s (set ms i y)
+  counted_set : (i : ℕ) (y : Machine Id V) → ((x : Machine Id V) → slice_get ms i ≡ Some x → taken_by x ≡ []) → taken_by y ≡ [] → AreCounted k s (set ms i y)
   counted_set i y old none = by (slice_get ms i) refl where
     by : (o : Option (Machine Id V)) → slice_get ms i ≡ o → AreCounted k s (set ms i y)
     by None e = let R : List (Machine Id V) → Type 0 = λ x. AreCounted k s x in subst R (sym (set_none ms i e)) c

@@ -164,7 +164,7 @@ module _ {V : Type 0} (same : V → V → Bool) (always : Bool) (yes : always �
             apart_after step.worker step.event (is_in_flight x.told.outcome) i n (before i (sym (ap is_busy (ap_here.calls.other i n)) ∙ idle)))
       ])
 
-  pub step_unasked : (step : Step V) (r : Report V) → IsStep same always s step r s' → IdleUnasked s'
+  step_unasked : (step : Step V) (r : Report V) → IsStep same always s step r s' → IdleUnasked s'
   step_unasked step r x = unasked_after step r (finds_journal_full s step.worker step.event) x.does
 
 module _ {V : Type 0} (same : V → V → Bool) (always : Bool) (yes : always ≡ true) where

@@ -319,7 +319,7 @@ module _ {V : Type 0} (same : V → V → Bool) (always : Bool) (laws : CallLaws
       ]
     ]
 
-    pub rightly : LeavesRightly s t
+    rightly : LeavesRightly s t
     rightly = record {
       leaves = λ n i. elim (parts.leaves n i) [
         | inl y ↦ inl y
@@ -351,7 +351,7 @@ module _ {V : Type 0} (same : V → V → Bool) (always : Bool) (laws : CallLaws
     ]
 
     -- what left stays locked
-    pub left_locked : LeftLocked s → LeftLocked t.after
+    left_locked : LeftLocked s → LeftLocked t.after
     left_locked all n y = elim (waits_as t.after x.holds n y) [
       | inl e ↦ (let kept = (waits_is (nodes t.after.forest n) e).1.kept in elim (cases_Bool (is_waiting (nodes s.forest n))) [
         | inl b ↦ elim (parts.waits n b) [

@@ -110,7 +110,7 @@ module _ {V : Type 0} (same : V → V → Bool) (always : Bool) where
         k.1 ∙ ap Some (taken_walks k.0 (place_of s i) x.0 n (holds.0.each i k.0 x.0 k.1 x.1) x.2)
 
   -- a call that has taken effect takes no node out any more
-  pub reply_taken : (most : ℕ) (why : NodeType → Cause → Type 0) (root : Id) (k : ℕ) (kind : Kind V) (fail : Bool) (answer : Option (Option V)) (given given' : Option V) (p : Phase Id V) (h h' : ℕ → Node V) (t : Said Id V) (r : Reply V) (n : ℕ)
+  reply_taken : (most : ℕ) (why : NodeType → Cause → Type 0) (root : Id) (k : ℕ) (kind : Kind V) (fail : Bool) (answer : Option (Option V)) (given given' : Option V) (p : Phase Id V) (h h' : ℕ → Node V) (t : Said Id V) (r : Reply V) (n : ℕ)
       → flight_in k kind given p ≡ Decided r → PhaseStepped id_number same always most why root (key_bytes k) kind fail answer given p h given' t h' → TakenBy id_number t.phase n → (c : ℕ) × TakenBy id_number p c
   reply_taken most why root k kind fail answer given given' (Obsolete c next q u) h h' t r n e x y = (id_number c, inl refl)
   reply_taken most why root k kind fail answer given given' (Retire c next q u) h h' t r n e x y = (id_number c, inl refl)

@@ -39,7 +39,7 @@ use Rattle.joint.proofs.lemmas.calls.AloneScans.{Sweeps, scan_plays, sweeps}
 
 module _ {V : Type 0} (m : Pairs V) where
   -- a call of one step has ended
-  pub told_ended : (k : Survey) (o : Outcome V) → MapTells m k o → is_in_flight o ≡ false
+  told_ended : (k : Survey) (o : Outcome V) → MapTells m k o → is_in_flight o ≡ false
   told_ended k (Refused e) t = refl
   told_ended k (Done d) t = refl
   told_ended k (Registered n) t = refl

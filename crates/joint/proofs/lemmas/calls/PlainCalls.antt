@@ -133,7 +133,7 @@ module _ {V : Type 0} (same : V → V → Bool) (always : Bool) where
           → ((m : Machine Id V) → slice_get s'.machines w ≡ Some m → InPlain order (nodes s'.forest) k' m (p.calls w)) → Agree s' order p
       collected_agrees k' ec em here = exchanged s s' w order order p p k' ec (spared.order_is (made_before s.forest) a.ordered) a.root a.made (spared.nodes p.heap a.heap) here (λ i k m n ak am. others i k m ak (em i m n am))
 
-    pub idle_after : (o : CollectorOutcome) (op : CollectorOp) (h : ℕ → Node V) (m : Machine Id V) (q : Machine ℕ V) → InPlain order h (call_after o (Collecting op)) m q
+    idle_after : (o : CollectorOutcome) (op : CollectorOp) (h : ℕ → Node V) (m : Machine Id V) (q : Machine ℕ V) → InPlain order h (call_after o (Collecting op)) m q
     idle_after collector_outcome.Running op h m q = tt
     idle_after collector_outcome.Done op h m q = tt
     idle_after (collector_outcome.Refused f) op h m q = tt
@@ -182,7 +182,7 @@ module _ {V : Type 0} (same : V → V → Bool) (always : Bool) where
           absurd (fault_apart f (un (of_fault f) z))
 
     -- a call begins
-    pub plain_here : (q : Plain V) (i : ℕ) (m : Machine ℕ V) → (with_call q i m).calls i ≡ m
+    plain_here : (q : Plain V) (i : ℕ) (m : Machine ℕ V) → (with_call q i m).calls i ≡ m
     plain_here q i m = ap (λ b. cond b m (q.calls i)) (eqb_same i)
 
     plain_apart : (q : Plain V) (i j : ℕ) (m : Machine ℕ V) → j ≢ i → (with_call q i m).calls j ≡ q.calls j

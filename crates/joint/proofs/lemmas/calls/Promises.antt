@@ -20,7 +20,7 @@ use Rattle.joint.proofs.lemmas.calls.Scans.{scans_hold, empty_scans_hold}
 
 module _ {V : Type 0} (same : V → V → Bool) (always : Bool) where
   -- what always holds does after the first of some steps
-  pub holds_on : (s : World V) (before rest : List (Taken V)) → Holds same always s → AllHold same always (before ++ rest) → Holds same always (after_all s before)
+  holds_on : (s : World V) (before rest : List (Taken V)) → Holds same always s → AllHold same always (before ++ rest) → Holds same always (after_all s before)
   holds_on s [] rest h all = h
   holds_on s (t ∷ ts) rest h all = holds_on t.after ts rest all.0 all.1
 

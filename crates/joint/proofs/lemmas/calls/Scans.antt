@@ -58,7 +58,7 @@ module _ {V : Type 0} where
   has_more [] all k more t = tt
   has_more (m ∷ few) all k more t = (has_one m all k (more m (inl refl)) t, has_more few all k (λ x a. more x (inr a)) t)
 
-  pub scan_more : (start end size : ℕ) (few all : List (Pairs V)) (found : List (ℕ × V)) → ((x : Pairs V) → Among few x → Among all x) → IsScan start end size few found → IsScan start end size all found
+  scan_more : (start end size : ℕ) (few all : List (Pairs V)) (found : List (ℕ × V)) → ((x : Pairs V) → Among few x → Among all x) → IsScan start end size few found → IsScan start end size all found
   scan_more start end size few all found more s = record {
     rises = s.rises;
     few = s.few;

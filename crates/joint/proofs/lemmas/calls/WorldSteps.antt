@@ -326,7 +326,7 @@ module _ {V : Type 0} (same : V → V → Bool) (always : Bool) where
   no_entries [] r p e l = refl
   no_entries (x ∷ es) r p e l = absurd (omega (arith, e, l))
 
-  pub journal_none : (s : World V) → Holds same always s → s.log.places ≡ 0 → s.log.entries ≡ []
+  journal_none : (s : World V) → Holds same always s → s.log.places ≡ 0 → s.log.entries ≡ []
   journal_none s h e = no_entries s.log.entries s.log.reserved s.log.places e h.2.room
 
   pub journal_legal : (s : World V) → Holds same always s → IsLegal same s.log.entries

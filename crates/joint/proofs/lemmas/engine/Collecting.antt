@@ -119,7 +119,7 @@ set_here (z ∷ xs) zero x y e = refl
 set_here (z ∷ xs) (suc i) x y e = set_here xs i x y e
 
 -- a writing call that makes its places free
-pub securing_call : {V : Type 0} (x : Option (InFlight V)) → IsSecuring x → (op : Point V) × (x ≡ Some (Securing op))
+securing_call : {V : Type 0} (x : Option (InFlight V)) → IsSecuring x → (op : Point V) × (x ≡ Some (Securing op))
 securing_call (Some (Securing op)) s = (op, refl)
 securing_call (Some Idle) s = absurd s
 securing_call (Some (Collecting op)) s = absurd s

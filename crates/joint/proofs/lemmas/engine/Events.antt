@@ -20,7 +20,7 @@ use Rattle.joint.specs.engine.Engine.{World, EngineHolds, Does, IsEngineStep, Pr
 use Rattle.joint.proofs.lemmas.engine.Reported.{in_flight}
 
 -- a call that begins unless there is a cause against it does what the event asks
-pub does_begin : {V : Type 0} (same : V → V → Bool) (always : Bool) (w : World V) (who : ℕ) (op : Op V) (m : Option Fault) (r : Report V) (w' : World V) → BeginsUnless same always w who (target op) m r w' → Does same always w who (Begin op) m r w'
+does_begin : {V : Type 0} (same : V → V → Bool) (always : Bool) (w : World V) (who : ℕ) (op : Op V) (m : Option Fault) (r : Report V) (w' : World V) → BeginsUnless same always w who (target op) m r w' → Does same always w who (Begin op) m r w'
 does_begin same always w who op None r w' b = b
 does_begin same always w who op (Some f) r w' b = b
 

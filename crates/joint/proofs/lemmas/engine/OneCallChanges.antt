@@ -40,7 +40,7 @@ pub one_set : {A : Type 0} (xs ys : List A) (w : ℕ) (x : A) → ys ≡ set xs 
 one_set xs ys w x e = record { other = λ i n. ap (λ zs. slice_get zs i) e ∙ set_other xs w i x n; long = ap length e ∙ length-set xs w x }
 
 -- and one that was changed there twice
-pub one_after : {A : Type 0} (xs ys zs : List A) (w : ℕ) → AtOne xs ys w → AtOne ys zs w → AtOne xs zs w
+one_after : {A : Type 0} (xs ys zs : List A) (w : ℕ) → AtOne xs ys w → AtOne ys zs w → AtOne xs zs w
 one_after xs ys zs w a b = record { other = λ i n. b.other i n ∙ a.other i n; long = b.long ∙ a.long }
 
 -- the calls in flight and the machines, but for one worker's, are as before

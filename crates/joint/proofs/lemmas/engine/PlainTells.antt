@@ -45,7 +45,7 @@ module _ {V : Type 0} (order : List ℕ) (h g : ℕ → Node V) (x : HeapAlike o
   pub map_here : (m : Pairs V) → IsMapOf h m → IsMapOf g m
   map_here m s = record { at = λ k l. s.at k l ∙ sym (value_alike (key_bytes k)); none_beyond = s.none_beyond }
 
-  pub map_there : (m : Pairs V) → IsMapOf g m → IsMapOf h m
+  map_there : (m : Pairs V) → IsMapOf g m → IsMapOf h m
   map_there m s = record { at = λ k l. s.at k l ∙ value_alike (key_bytes k); none_beyond = s.none_beyond }
 
   -- the nodes by levels
@@ -74,7 +74,7 @@ module _ {V : Type 0} (order : List ℕ) (h g : ℕ → Node V) (x : HeapAlike o
       ap (λ s. s ∷ under_bytes (λ d. nodes_from g f (level + 1) d) (g n).children 256) (shape_alike level (h c) (g n) q)
       ∙ ap (λ s. shape_of level (h c) ∷ s) (all_spread (h c).children (g n).children (λ d. nodes_from g f (level + 1) d) (λ d. nodes_from h f (level + 1) d) 256 q.children (λ b d m z at. spread f (level + 1) m d at (t.down c b d l z).linked))
 
-  pub nodes_alike : nodes_of g ≡ nodes_of h
+  nodes_alike : nodes_of g ≡ nodes_of h
   unfolding nodes_of
   nodes_alike = spread 8 0 0 0 root t.root
 

@@ -139,7 +139,7 @@ module _ {V : Type 0} (ms between : List (Machine Id V)) (who : ℕ) (old now : 
   cleared_is = ap (λ o. cleared_at o between who) now_between ∙ by_done (is_done now.phase)
 
 -- as many machines are left where a scan that is done leaves its place
-pub cleared_long : {V : Type 0} (ms : List (Machine Id V)) (who : ℕ) → length (cleared ms who) ≡ length ms
+cleared_long : {V : Type 0} (ms : List (Machine Id V)) (who : ℕ) → length (cleared ms who) ≡ length ms
 cleared_long {V} ms who = at (slice_get ms who)
   where
     by : (b : Bool) → length (if b then slice_set ms who resting else ms) ≡ length ms
@@ -186,7 +186,7 @@ module _ {V : Type 0} where
   following number h s r (least.Value byte v) u f = by u (filled s r byte v) f (fills V _ _)
   following number h s r least.Uncopied u f = by u _ f refl
 
-  pub swept_tells : (number : Id → ℕ) (always : Bool) (root : Id) (s : Scan Id V) (x : Stage Id V) (h : ℕ → Node V) (u : Swung Id V) → is_past x ≡ false → SweptAt number always root s x h u → Tells u
+  swept_tells : (number : Id → ℕ) (always : Bool) (root : Id) (s : Scan Id V) (x : Stage Id V) (h : ℕ → Node V) (u : Swung Id V) → is_past x ≡ false → SweptAt number always root s x h u → Tells u
   swept_tells number always root s stage.New h u n f = by u (begins root s (version_of (h (number root)))) f (by_cond (s.size == 0) _ _ refl (entering root (anew root s).0 root whole (version_of (h (number root)))))
   swept_tells number always root s (stage.Enter c x) h u n f = by u _ f (entering root s c x (version_of (h (number c))))
   swept_tells number always root s (stage.Look r) h u n f = by u _ f.2 refl

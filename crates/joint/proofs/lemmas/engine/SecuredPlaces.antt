@@ -242,7 +242,7 @@ module _ {C V : Type 0} where
 
   module _ (number : C → ℕ) (same : V → V → Bool) (always : Bool) (most : ℕ) (why : NodeType → Refusal → Type 0) (root : C) (key : List ℕ) (kind : Kind V) (fail : Bool) (answer : Option (Option V)) (new new' : Option V) (h h' : ℕ → Node V) (t : NextPhase C V) where
     -- a step from any other phase leaves the call owing nothing
-    pub step_light : (s : Phase C V) → (Unlinks s → ⊥) → PhaseStepped number same always most why root key kind fail answer new s h new' t h' → Light t
+    step_light : (s : Phase C V) → (Unlinks s → ⊥) → PhaseStepped number same always most why root key kind fail answer new s h new' t h' → Light t
     step_light New never g = version_light root None root _ t g.2
     step_light (Version above n) never g = version_light root above n _ t g.2
     step_light (Read above s) never g = at t _ g.2.2 (read_light root above s g.2.0)

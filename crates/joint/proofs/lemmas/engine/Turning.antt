@@ -105,16 +105,16 @@ module _ {V : Type 0} (same : V → V → Bool) (always : Bool) (w : World V) (w
     tells : (k : Survey) (r : Report V) → unready {V = V} (target.Survey k) (place c who) ≡ None → Surveys w k r w → Begun same always w who (target.Survey k) r w
     tells k r u b = proceeds (target.Survey k) r w (past (target.Survey k) reg idle ∙ u) b
 
-    pub tells_keys : (r : Report V) → Surveys w survey.Keys r w → Begun same always w who (target.Survey survey.Keys) r w
+    tells_keys : (r : Report V) → Surveys w survey.Keys r w → Begun same always w who (target.Survey survey.Keys) r w
     tells_keys r b = tells survey.Keys r refl b
 
-    pub tells_stats : (r : Report V) → Surveys w survey.Stats r w → Begun same always w who (target.Survey survey.Stats) r w
+    tells_stats : (r : Report V) → Surveys w survey.Stats r w → Begun same always w who (target.Survey survey.Stats) r w
     tells_stats r b = tells survey.Stats r refl b
 
-    pub tells_empty : (r : Report V) → is_some (place c who).word ≡ true → Surveys w survey.IsEmpty r w → Begun same always w who (target.Survey survey.IsEmpty) r w
+    tells_empty : (r : Report V) → is_some (place c who).word ≡ true → Surveys w survey.IsEmpty r w → Begun same always w who (target.Survey survey.IsEmpty) r w
     tells_empty r p b = tells survey.IsEmpty r (word (place c who).word p) b
 
-    pub asks_unpinned : (r : Report V) → is_some (place c who).word ≡ false → r ≡ quiet kind.Tree (outcome.Refused (of_fault fault.Unpinned)) → Begun same always w who (target.Survey survey.IsEmpty) r w
+    asks_unpinned : (r : Report V) → is_some (place c who).word ≡ false → r ≡ quiet kind.Tree (outcome.Refused (of_fault fault.Unpinned)) → Begun same always w who (target.Survey survey.IsEmpty) r w
     asks_unpinned r p q = refused (target.Survey survey.IsEmpty) fault.Unpinned r (past (target.Survey survey.IsEmpty) reg idle ∙ no_word (place c who).word p) q
 
     enter : (op : Point V) (r : Report V) (w' : World V) → finds_none op ≡ false → writes op ≡ false → Enters w who op r w' → BeginsOnTree same always w who op r w'

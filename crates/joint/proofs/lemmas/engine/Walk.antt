@@ -33,17 +33,17 @@ module _ {V : Type 0} (same : V → V → Bool) (always : Bool) (cells : CellLaw
   clock = ap (λ x. with_store x.collector s'.collector.store) fr
 
   -- no node is marked
-  pub walked_none : retiring_at (slice_get ms step.who) ≡ None → IsSafeOrOwes same always (retiring_at (slice_get ms step.who)) s' ms' step.who → Walked same always s ms step d s' ms'
+  walked_none : retiring_at (slice_get ms step.who) ≡ None → IsSafeOrOwes same always (retiring_at (slice_get ms step.who)) s' ms' step.who → Walked same always s ms step d s' ms'
   walked_none e safe =
       let P : Option Id → Type 0 = λ x. IsSafeOrOwes same always x s' ms' step.who in
       let Q : Option Id → Type 0 = λ x. s'.collector ≡ after_walk x (with_store s.collector s'.collector.store) step.who in
       record { safe = subst P e safe; plays = plays; beside = beside; clock = subst Q (sym e) clock; filed = filed_walked cells same always s s' ms ms' step d plays clock e }
 
-  pub owes_some : (n : Id) → retiring_at (slice_get ms step.who) ≡ Some n → IsSafeOrOwes same always (retiring_at (slice_get ms step.who)) s' ms' step.who → Owes same always s' ms' step.who n
+  owes_some : (n : Id) → retiring_at (slice_get ms step.who) ≡ Some n → IsSafeOrOwes same always (retiring_at (slice_get ms step.who)) s' ms' step.who → Owes same always s' ms' step.who n
   owes_some n e safe = let P : Option Id → Type 0 = λ x. IsSafeOrOwes same always x s' ms' step.who in subst P e safe
 
   -- one is, and is handed over
-  pub walked_some : (n : Id) → retiring_at (slice_get ms step.who) ≡ Some n → (s2 : Nodes V) → s2 ≡ with_collector s' (deferred s'.collector step.who (Remove n.name)) → IsSafe same always s ms → Owes same always s' ms' step.who n → IsSafe same always s2 ms' → Walked same always s ms step d s2 ms'
+  walked_some : (n : Id) → retiring_at (slice_get ms step.who) ≡ Some n → (s2 : Nodes V) → s2 ≡ with_collector s' (deferred s'.collector step.who (Remove n.name)) → IsSafe same always s ms → Owes same always s' ms' step.who n → IsSafe same always s2 ms' → Walked same always s ms step d s2 ms'
   walked_some n e s2 is before owes safe =
       let store : s2.collector.store ≡ s'.collector.store = ap (λ x. x.collector.store) is in
       let P : Store (Slot V) → Type 0 = λ st. StepPlays id_number same always s.version_max (Refuses s) (nodes s) ms step d (heap st) ms' in

@@ -191,10 +191,10 @@ module _ {P : Type 0} (F F' : Nodes P) (k : Counts) (kept : IsKept k F) (orderly
     long_in true e = inl (length-set k.cell_marks.items n.cell new_tally, (let l : n.cell < length k.cell_marks.items = grind (arith, nat_tests, e) in l))
     long_in false e = inr (length_push k.cell_marks.items new_tally, (let g : length k.cell_marks.items ≤ n.cell = grind (arith, nat_tests, e) in omega (arith, g, near)))
 
-    pub tally_here : mark_at k'.cell_marks.items n.cell ≡ new_tally
+    tally_here : mark_at k'.cell_marks.items n.cell ≡ new_tally
     tally_here = ap (λ ts. mark_at ts n.cell) cell_marks ∙ here_in (nat_lt n.cell (length k.cell_marks.items)) refl
 
-    pub tally_apart : (i : ℕ) → i ≢ n.cell → mark_at k'.cell_marks.items i ≡ mark_at k.cell_marks.items i
+    tally_apart : (i : ℕ) → i ≢ n.cell → mark_at k'.cell_marks.items i ≡ mark_at k.cell_marks.items i
     tally_apart i ne = ap (λ ts. mark_at ts i) cell_marks ∙ apart_in (nat_lt n.cell (length k.cell_marks.items)) refl i ne
 
     total_is : (f : Slot P → ℕ) → total f st' ≡ total f st + f s

@@ -32,7 +32,7 @@ inside st n v e = elim (cases_lt n.cell (length st.cells)) [
 ]
 
 -- a value that is replaced under its name is altered
-pub replaced_alters : {T : Type 0} (st : Store T) (n : Name) (old new : T) → value_at st n ≡ Some old → Sets st n (Some new) (replaced st n.cell new) → Alters st n old new (replaced st n.cell new)
+replaced_alters : {T : Type 0} (st : Store T) (n : Name) (old new : T) → value_at st n ≡ Some old → Sets st n (Some new) (replaced st n.cell new) → Alters st n old new (replaced st n.cell new)
 replaced_alters {T} st n old new e sets =
     let at : n.cell < length st.cells = inside st n old e in
     let here : (cell_at st n.cell).value ≡ Some old = (cell_of (cell_at st n.cell) n.turn old e).1 in

@@ -44,7 +44,7 @@ module _ {X : Type 0} where
   any ((k, x) ∷ es) = (omega arith, any es)
 
   -- a map of bytes has 256 at most
-  pub len_256 : (m : map.FinMap nat_cmp X) → ((b : ℕ) → IsSome (map.get m b) → b < 256) → map.len m ≤ 256
+  len_256 : (m : map.FinMap nat_cmp X) → ((b : ℕ) → IsSome (map.get m b) → b < 256) → map.len m ≤ 256
   len_256 m bytes =
       let found : (b : ℕ) → IsSome (map.get m b) → b < 256 = bytes in
       let all : AllKeys (λ b. b < 256) (map.entries m) = all_found (λ b. b < 256) (map.entries m) (λ b s. bytes b (subst IsSome (sym (get_find m b)) s)) in
@@ -73,7 +73,7 @@ module _ {P : Type 0} where
   is_some_of_hung None ne = absurd (ne refl)
   is_some_of_hung (Some x) ne = refl
 
-  pub not_there : (o : Option (Child Id P)) → (o ≡ Some Blank → ⊥) → hung_at o ≡ Nothing → o ≡ None
+  not_there : (o : Option (Child Id P)) → (o ≡ Some Blank → ⊥) → hung_at o ≡ Nothing → o ≡ None
   not_there None solid e = refl
   not_there (Some Blank) solid e = absurd (solid refl)
   not_there (Some (Sub c)) solid e = absurd (cc e)

@@ -35,7 +35,7 @@ module _ {X : Type 0} where
       head = rw (eq-eqb k k refl) refl
 
   -- a part of a map is no longer than it
-  pub sub_len : (n : ℕ) (p m : map.FinMap nat_cmp X) → map.len p ≡ n → Sub_map p m → n ≤ map.len m
+  sub_len : (n : ℕ) (p m : map.FinMap nat_cmp X) → map.len p ≡ n → Sub_map p m → n ≤ map.len m
   sub_len zero p m e s = omega arith
   sub_len (suc n) p m e s =
       let long : length (map.entries p) ≡ suc n = sym (map.len-entries p) ∙ e in
@@ -111,7 +111,7 @@ module _ {P : Type 0} where
   values_first n b x u (inl values) one e k d q = values k d q
   values_first n b x u (inr names) one e k d q = names b u (ap hung_at (one.here ∙ ap Some e))
 
-  pub none_first : (n : Form Id P) → ((b : ℕ) → 0 ≤ b → map.get (children_of n) b ≡ None) → (k d : ℕ) → child_at n k ≡ Below d → ⊥
+  none_first : (n : Form Id P) → ((b : ℕ) → 0 ≤ b → map.get (children_of n) b ≡ None) → (k d : ℕ) → child_at n k ≡ Below d → ⊥
   none_first n none k d q = let z : Nothing ≡ Below d = sym (ap hung_at (none k (omega arith))) ∙ q in cc z
 
   -- a child that isn't a name, or isn't a child

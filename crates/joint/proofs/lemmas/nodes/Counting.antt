@@ -135,5 +135,5 @@ module _ {V : Type 0} (h : ℕ → Node V) where
   all_counted stats pairs count is e = record { infos = is.infos; levels = is.levels; kv_pairs = e }
 
   -- the root is in the tree
-  pub root_in : IsTree h → IsNodeIn h 0
+  root_in : IsTree h → IsNodeIn h 0
   root_in t = record { tree = t; linked = t.tree.root }

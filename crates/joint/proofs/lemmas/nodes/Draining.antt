@@ -77,7 +77,7 @@ module _ {X : Type 0} (start mid end : ℕ) (order : start ≤ mid) where
         | inr l ↦ grind (arith, nat_tests, l, order, rest)
       ]
 
-  pub range_skip : (m : Pairs X) → ((q : ℕ) → start ≤ q → q < mid → map.get m q ≡ None) → in_range start end (map.entries m) ≡ in_range mid end (map.entries m)
+  range_skip : (m : Pairs X) → ((q : ℕ) → start ≤ q → q < mid → map.get m q ≡ None) → in_range start end (map.entries m) ≡ in_range mid end (map.entries m)
   range_skip m none = skips (map.entries m) (all_found (λ k. (k < start) ⊎ (mid ≤ k)) (map.entries m) (λ k s. elim (cases_lt k start) [
     | inl l ↦ inl l
     | inr l ↦ elim (cases_lt k mid) [

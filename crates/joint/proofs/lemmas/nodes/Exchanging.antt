@@ -121,7 +121,7 @@ module _ {P : Type 0} (F : Nodes P) (c' : State (Slot P) (Unit {0})) (beside : c
       }
 
   module _ (G : Nodes P) (view_is : F ≡ G) where
-    pub frame_exchanged : frame (with_collector F c') ≡ frame G
+    frame_exchanged : frame (with_collector F c') ≡ frame G
     frame_exchanged = same_frame F c' beside ex.most ex.turn_max ∙ ap frame view_is
 
     pub gives_exchanged : TakeOverGives (nodes G) (number m) (number n) (heap c'.store)

@@ -65,12 +65,12 @@ module _ {P : Type 0} where
   room_in n b x y e t may none = room_for n b y t (subst (λ z. MayChange (shape n no_word) b (hung id_number z)) e may) none
 
   module _ (m : map.FinMap nat_cmp (Child Id P)) (b : ℕ) where
-    pub hang_here : (x : Child Id P) → hung_at (map.get (hang m b x) b) ≡ hung id_number x
+    hang_here : (x : Child Id P) → hung_at (map.get (hang m b x) b) ≡ hung id_number x
     hang_here Blank = ap hung_at (taken_here m b)
     hang_here (Sub c) = ap hung_at (put_here m b (Sub c))
     hang_here (Value v) = ap hung_at (put_here m b (Value v))
 
-    pub hang_beside : (x : Child Id P) (c : ℕ) → c ≢ b → map.get (hang m b x) c ≡ map.get m c
+    hang_beside : (x : Child Id P) (c : ℕ) → c ≢ b → map.get (hang m b x) c ≡ map.get m c
     hang_beside Blank c ne = taken_beside m b c ne
     hang_beside (Sub d) c ne = put_beside m b (Sub d) c ne
     hang_beside (Value v) c ne = put_beside m b (Value v) c ne
@@ -80,7 +80,7 @@ module _ {P : Type 0} where
     solid_at (Sub c) o e t q = (let z : hung_at {P = P} (Some Blank) ≡ Below (id_number c) = ap hung_at (sym q) ∙ e in cc)
     solid_at (Value v) o e t q = (let z : hung_at {P = P} (Some Blank) ≡ Holds v = ap hung_at (sym q) ∙ e in cc)
 
-    pub hang_solid : (x : Child Id P) → IsSolid m → IsSolid (hang m b x)
+    hang_solid : (x : Child Id P) → IsSolid m → IsSolid (hang m b x)
     hang_solid Blank solid c q = elim (cases_eq c b) [
       | inl e ↦ (let z : map.get (map.remove m b) c ≡ None = ap (map.get (map.remove m b)) e ∙ taken_here m b in cc)
       | inr ne ↦ solid c (sym (taken_beside m b c ne) ∙ q)
@@ -108,7 +108,7 @@ module _ {P : Type 0} where
         let o : weight (hung_at (Some y)) ≡ 1 = weight_there (Some y) refl solid in
         omega (arith, z, o))
 
-    pub hang_count : (x : Child Id P) → IsSolid m → (x ≡ Blank → IsSome (map.get m b)) → map.len (hang m b x) + weight (hung_at (map.get m b)) ≡ map.len m + weight (hung id_number x)
+    hang_count : (x : Child Id P) → IsSolid m → (x ≡ Blank → IsSome (map.get m b)) → map.len (hang m b x) + weight (hung_at (map.get m b)) ≡ map.len m + weight (hung id_number x)
     hang_count Blank solid some = (
         let s : IsSome (map.get m b) = some refl in
         let o : weight (hung_at (map.get m b)) ≡ 1 = weight_there (map.get m b) s (solid b) in

@@ -103,7 +103,7 @@ module _ {T : Type 0} where
       at_place (suc i) cs j d (let m : suc j < suc (length cs) = l in omega (arith, m)) ∙ ap (λ k. last_name k (get_or cs j fresh)) z
 
   -- no name twice
-  pub names_once : (cs : List (Cell T)) → AllPairs (λ m n. m ≢ n) (last_names 0 cs)
+  names_once : (cs : List (Cell T)) → AllPairs (λ m n. m ≢ n) (last_names 0 cs)
   names_once cs i j d l m e =
       let n : length (last_names 0 cs) ≡ length cs = long 0 cs in
       let a : get_or (last_names 0 cs) i d ≡ last_name (0 + i) (get_or cs i fresh) = at_place 0 cs i d (omega (arith, l, m, n)) in
@@ -113,7 +113,7 @@ module _ {T : Type 0} where
       omega (arith, l, z)
 
   -- what stands, stands under a last name
-  pub stands_last : (st : Store T) (n : Name) (v : T) → value_at st n ≡ Some v → Contains (last_names 0 st.cells) (number n)
+  stands_last : (st : Store T) (n : Name) (v : T) → value_at st n ≡ Some v → Contains (last_names 0 st.cells) (number n)
   stands_last st n v e =
       let at : n.cell < length st.cells = inside st n v e in
       let l : length (last_names 0 st.cells) ≡ length st.cells = long 0 st.cells in
@@ -136,7 +136,7 @@ module _ {T : Type 0} where
       let b = sum_by-cons w c cs in
       omega (arith, here, rest, a, b)
 
-  pub last_value : (st : Store T) (i : ℕ) → 1 ≤ (cell_at st i).turns → value_at st (record { cell = i; turn = (cell_at st i).turns - 1 }) ≡ (cell_at st i).value
+  last_value : (st : Store T) (i : ℕ) → 1 ≤ (cell_at st i).turns → value_at st (record { cell = i; turn = (cell_at st i).turns - 1 }) ≡ (cell_at st i).value
   last_value st i l =
       let e : ((cell_at st i).turns == (cell_at st i).turns - 1 + 1) ≡ true = (let q : (cell_at st i).turns ≡ (cell_at st i).turns - 1 + 1 = omega (arith, l) in grind (arith, nat_tests, q)) in
       ap (λ b. cond b (cell_at st i).value None) e
@@ -166,7 +166,7 @@ module _ {P : Type 0} (test : Node P → Bool) (q : Slot P → Bool) (none : (g 
   weigh g f n None e gf = ap (λ b. cond b (g (number n)) 0) (tested n ∙ ap (λ v. test (view (was_given st n) v)) e ∙ none (was_given st n))
   weigh g f n (Some v) e gf = ap (λ b. cond b (g (number n)) 0) (tested n ∙ ap (λ x. test (view (was_given st n) x)) e ∙ some (was_given st n) v) ∙ ap (λ k. cond (q v) k 0) (gf v e)
 
-  pub summed : ((i : ℕ) → i < length st.cells → 1 ≤ (cell_at st i).turns) → (g : ℕ → ℕ) (f : Slot P → ℕ) → ((n : Name) (v : Slot P) → value_at st n ≡ Some v → g (number n) ≡ f v)
+  summed : ((i : ℕ) → i < length st.cells → 1 ≤ (cell_at st i).turns) → (g : ℕ → ℕ) (f : Slot P → ℕ) → ((n : Name) (v : Slot P) → value_at st n ≡ Some v → g (number n) ≡ f v)
       → sum_by g (nodes_that test F) ≡ total (λ v. cond (q v) (f v) 0) st
   summed used g f gf = sum_kept node_test g (of_cell (λ v. cond (q v) (f v) 0)) 0 st.cells (λ j l.
       let z : 0 + j ≡ j = omega arith in

@@ -19,7 +19,7 @@ drop_next {P} (x ∷ es) zero e q = let z : x ≡ e = ap (from x) q in ap (λ y.
 drop_next {P} (x ∷ es) (suc k) e q = (let z : suc k + 1 ≡ suc (k + 1) = omega arith in drop_next es k e q ∙ ap (λ j. and_name e.1 (names_in (drop j (x ∷ es)))) (sym z))
 
 -- past the last child there are no names
-pub drop_end : {P : Type 0} (es : List (ℕ × Child Id P)) (k : ℕ) → length es ≤ k → names_in (drop k es) ≡ []
+drop_end : {P : Type 0} (es : List (ℕ × Child Id P)) (k : ℕ) → length es ≤ k → names_in (drop k es) ≡ []
 drop_end [] zero l = refl
 drop_end [] (suc k) l = refl
 drop_end (x ∷ es) zero l = absurd (omega (arith, l))

@@ -46,18 +46,18 @@ module _ {P : Type 0} (st : Store (Slot P)) (n : Name) where
   is_there x = stands_in (was_given st n) (value_at st n) (subst Stands node_here x)
 
 module _ {P : Type 0} (st : Store (Slot P)) (n : Name) (s s' : Slot P) (st' : Store (Slot P)) (alters : Alters st n s s' st') where
-  pub node_old : heap st (number n) ≡ node_of s
+  node_old : heap st (number n) ≡ node_of s
   node_old = node_is st n s alters.was
 
-  pub node_new : heap st' (number n) ≡ node_of s'
+  node_new : heap st' (number n) ≡ node_of s'
   node_new = node_is st' n s' alters.sets.value
 
-  pub nodes_apart : (k : ℕ) → k ≢ number n → heap st' k ≡ heap st k
+  nodes_apart : (k : ℕ) → k ≢ number n → heap st' k ≡ heap st k
   nodes_apart k ne =
       let apart : named k ≢ n = λ e. ne (sym (number_named k) ∙ ap number e) in
       ap (λ g. view g (value_at st' (named k))) (alters.sets.given (named k) apart) ∙ ap (λ v. view (was_given st (named k)) v) (alters.sets.others (named k) apart)
 
-  pub node_altered : SameBut (heap st) (number n) (node_of s') (heap st')
+  node_altered : SameBut (heap st) (number n) (node_of s') (heap st')
   node_altered = record { after = node_new; others = nodes_apart }
 
 -- a collector stays orderly where its cells alone change
@@ -77,7 +77,7 @@ module _ {P : Type 0} (F : Nodes P) (c' : State (Slot P) (Unit {0})) (beside : c
 
   module _ (n : Name) (s s' : Slot P) (alters : Alters F.collector.store n s s' c'.store) (k : Counts) (kept : IsKept k F) where
     -- where its size and its mark are as before
-    pub kept_altered : size s' ≡ size s → s'.word.retired ≡ s.word.retired → IsWhole s'.node → IsKept k (with_collector F c')
+    kept_altered : size s' ≡ size s → s'.word.retired ≡ s.word.retired → IsWhole s'.node → IsKept k (with_collector F c')
     kept_altered sz mark whole =
         let e0 : sizes c'.store + size s ≡ sizes F.collector.store + size s' = alters.sums size in
         let e1 : waiting c'.store + waits s ≡ waiting F.collector.store + waits s' = alters.sums waits in

@@ -197,7 +197,7 @@ module _ {P : Type 0} (limits : Limits) (F : Nodes P) (k : Counts) (planted : Is
       let apart : named n ≢ top = λ e. ne (sym (number_named n) ∙ ap number e) in
       ap (λ g. view g (value_at st (named n))) (fills.sets.given (named n) apart ∙ empty_given (named n)) ∙ ap (λ v. view false v) (fills.sets.others (named n) apart ∙ empty_value (named n))
 
-  pub fresh_root : FreshRoot (nodes F)
+  fresh_root : FreshRoot (nodes F)
   fresh_root = record {
     alone = record {
       empty = ap (λ x. x.prefix) root_node ∙ new.prefix_is;
@@ -211,7 +211,7 @@ module _ {P : Type 0} (limits : Limits) (F : Nodes P) (k : Counts) (planted : Is
     others = λ n ne. ap (λ x. x.made) (other_node n ne);
   }
 
-  pub within_root : (most : ℕ) → Within most (nodes F)
+  within_root : (most : ℕ) → Within most (nodes F)
   within_root most n stands = elim (cases_eq n 0) [
     | inl e ↦ (
         let v : (nodes F n).version ≡ 0 = ap (λ i. (nodes F i).version) e ∙ ap (λ x. x.version) root_node ∙ ap (λ w. w.version) new.word in

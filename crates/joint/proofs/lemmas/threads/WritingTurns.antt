@@ -184,7 +184,7 @@ module _ (watched : Entry ℕ → Bool) (who : ℕ) (o : Op ℕ) where
       abbrev Gives : S → Step ℕ → Report ℕ → S → Type 0
       Gives s step r s' = IsWritingTurn watched (worker s) (oper s) (call s) step r (call s') × (worker s' ≡ worker s) × (oper s' ≡ oper s)
 
-      pub by_anyone : (ts : List (Turn ℕ)) (s : S) (f : F) (last : Option (Report ℕ)) (places : List Q) (s' : S) (places' : List Q) (out : Outcome ℕ) → worker s ≡ who → oper s ≡ o → AreTurns Gives calls pair who o s f last places ts s' places' out
+      by_anyone : (ts : List (Turn ℕ)) (s : S) (f : F) (last : Option (Report ℕ)) (places : List Q) (s' : S) (places' : List Q) (out : Outcome ℕ) → worker s ≡ who → oper s ≡ o → AreTurns Gives calls pair who o s f last places ts s' places' out
           → Are (call s) f last places ts (call s') places' out
       by_anyone [] s f last places s' places' out w q x = (ap call x.0, x.1, x.2)
       by_anyone (t ∷ ts) s f last places s' places' out w q x =

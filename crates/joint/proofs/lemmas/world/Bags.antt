@@ -39,7 +39,7 @@ module _ {X : Type 0} where
   sum_by_none (x ∷ xs) = let rest = sum_by_none xs in omega (arith, rest, sum_by-cons (λ y. 0) x xs)
 
   -- a sum above none has a term above none, and each term is within its sum
-  pub some_term : (f : X → ℕ) (xs : List X) → 1 ≤ sum_by f xs → (x : X) × (1 ≤ f x) × ((g : X → ℕ) → g x ≤ sum_by g xs)
+  some_term : (f : X → ℕ) (xs : List X) → 1 ≤ sum_by f xs → (x : X) × (1 ≤ f x) × ((g : X → ℕ) → g x ≤ sum_by g xs)
   some_term f [] le = absurd (omega arith)
   some_term f (x ∷ xs) le = elim (cases_lt 0 (f x)) [
     | inl lt ↦ (x, omega arith, λ g. omega (arith, sum_by-cons g x xs))

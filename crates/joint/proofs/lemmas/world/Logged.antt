@@ -88,7 +88,7 @@ module _ {V : Type 0} (same : V → V → Bool) (always : Bool) (s s' : World V)
   apart = step_apart same always (engine_of s) (engine_of s') w holds step.event (misuse (engine_of s) w step.event) told e.does
 
   -- a place is counted for each call that has one
-  pub now_counted : 0 < s.log.places → s'.log.reserved ≡ recounted s.log.places before after s.log.reserved → s'.log.reserved ≡ places_of s'.calls s'.machines
+  now_counted : 0 < s.log.places → s'.log.reserved ≡ recounted s.log.places before after s.log.reserved → s'.log.reserved ≡ places_of s'.calls s'.machines
   now_counted p r = r ∙ recounted_on s.log.places before after s.log.reserved p ∙ ap (counted before after) (h.2.reserved p) ∙ places_counted (engine_of s) (engine_of s') w h.0.machines apart
 
   has_places : room ≡ true → 0 < s.log.places
@@ -158,7 +158,7 @@ module _ {V : Type 0} (same : V → V → Bool) (always : Bool) (s s' : World V)
         | inr l ↦ absurd (false≢true (sym r ∙ writes_room d p l))
       ]
 
-      pub legal_on : 0 < s.log.places → Legal same empty s.log.entries m → Fits kept event_maps.pairs
+      legal_on : 0 < s.log.places → Legal same empty s.log.entries m → Fits kept event_maps.pairs
       legal_on p l = elim (cases_Bool told.decided) [
         | inl d ↦ elim (cases_Bool room) [
           | inl r ↦ subst (λ o. Fits o event_maps.pairs) (sym (kept_is d r)) (Legal-push same empty m event_maps.pairs s.log.entries (took d).entry l (took d).answers)
@@ -228,7 +228,7 @@ module _ {V : Type 0} (same : V → V → Bool) (always : Bool) (s s' : World V)
         subst P (sym (x.requests a)) (asked_after same always s s' w holds here.flights here.pairs (fl here.flights here.pairs here.stand here.in_flight here.asked) here.long (here.asked a) step.event
         (line here.flights here.pairs here.stand here.in_flight here.asked) now.flights refl e.does now.step i)
 
-    pub logged : IsLogged same always s'
+    logged : IsLogged same always s'
     logged = record {
       room = room_left;
       copies = λ p. here.copies (was p);

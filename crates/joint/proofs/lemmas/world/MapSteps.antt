@@ -96,7 +96,7 @@ only_memory c who fault.Memory x = refl
 only_memory c who _ x = absurd x
 
 -- a further step that makes places free is refused for want of memory alone
-pub wants_memory : {T J : Type 0} (c : State T J) (who : ℕ) (f : Fault) → IsOn (Secure 2) (place c who) → IsOutcome c who collector_event.Go (fault_of c who collector_event.Go) (collector_outcome.Refused f) → f ≡ fault.Memory
+wants_memory : {T J : Type 0} (c : State T J) (who : ℕ) (f : Fault) → IsOn (Secure 2) (place c who) → IsOutcome c who collector_event.Go (fault_of c who collector_event.Go) (collector_outcome.Refused f) → f ≡ fault.Memory
 wants_memory c who f on x =
     let P : Bool → Type 0 = λ b. IsOutcome c who collector_event.Go (if b then event_fault collector_event.Go (place c who).phase (place c who) else Some fault.Unknown) (collector_outcome.Refused f) in
     let Q : Option Fault → Type 0 = λ o. IsOutcome c who collector_event.Go o (collector_outcome.Refused f) in
