@@ -124,6 +124,7 @@ module _ {T : Type 0} (law : ReplacedSets T) (st st1 : Store T) (m n : Name) (a 
   out_first : Alters st m a mid st1
   out_first = subst (Alters st m a mid) (sym t1) (replaced_alters st m a mid w1 (law st m mid (ap is_some w1)))
 
+  -- the second value stood as it did before the first was taken out
   pub was_second : value_at st n ≡ Some b
   was_second = sym (out_first.sets.others n (λ e. apart (sym e))) ∙ w2
 
@@ -137,9 +138,11 @@ module _ {T : Type 0} (law : ReplacedSets T) (st st1 : Store T) (m n : Name) (a 
     still_out : value_at st3 m ≡ Some mid
     still_out = back_second.sets.others m apart ∙ out_second.sets.others m apart ∙ out_first.sets.value
 
+    -- the cell of the first still has a value when the second is back
     pub still_there : is_some (value_at st3 m) ≡ true
     still_there = ap is_some still_out
 
+    -- once both are back, those two values are others, and nothing else is
     pub both_back : (st4 : Store T) → st4 ≡ replaced st3 m.cell a' → Exchanges st m n a b a' b' st4
     both_back st4 t4 =
         let last : Alters st3 m mid a' st4 = subst (Alters st3 m mid a') (sym t4) (replaced_alters st3 m mid a' still_out (law st3 m a' still_there)) in

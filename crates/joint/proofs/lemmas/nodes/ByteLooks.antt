@@ -69,6 +69,7 @@ module _ {X : Type 0} where
       sym other ∙ ap (λ n. map.get n b) none ∙ map.get-empty nat_cmp b
 
 module _ {P : Type 0} where
+  -- where something hangs at a byte, there is a child
   pub is_some_of_hung : (o : Option (Child Id P)) → hung_at o ≢ Nothing → IsSome o
   is_some_of_hung None ne = absurd (ne refl)
   is_some_of_hung (Some x) ne = refl
@@ -79,6 +80,7 @@ module _ {P : Type 0} where
   not_there (Some (Sub c)) solid e = absurd (cc e)
   not_there (Some (Value v)) solid e = absurd (cc e)
 
+  -- what a look at a key's byte finds of a solid node is true of that node under any lock word
   pub seen_truly : (n : Form Id P) (w : LockWord) (key : List ℕ) (b : ℕ) (s : Seen Id P) → IsSolid (children_of n) → slice_index key (length (prefix_of n)) ≡ b → IsLook n b s → SeenTruly id_number (shape n w) key s
   seen_truly n w key b s solid at look = record {
     child = look.child ∙ ap (child_at n) (sym at);

@@ -40,6 +40,7 @@ module _ {V D : Type 0} (drains : D → ℕ → V → D → Type 0) (h : ℕ →
   abbrev at : ℕ → ℕ
   at b = start_at x.base x.depth b
 
+  -- before the first byte of a node nothing is taken
   pub begun : IsRegion (h n).prefix x.base x.depth → TakenSoFar drains h n x 0 before h before
   begun r = record {
     bound = omega arith;
@@ -82,6 +83,7 @@ module _ {V D : Type 0} (drains : D → ℕ → V → D → Type 0) (h : ℕ →
         abbrev here : (h1 n).children b ≡ hung_at (Some child)
         here = hangs b (Some child) first.here
 
+        -- where the child at a byte is a value, the node holds it there
         pub holds : (v : V) → child ≡ Value v → (h1 n).children b ≡ Holds v
         holds v is = here ∙ ap (λ z. hung_at (Some z)) is
 
@@ -99,6 +101,7 @@ module _ {V D : Type 0} (drains : D → ℕ → V → D → Type 0) (h : ℕ →
           upto : Takes drains h x.base before h1 (at b) mid
           upto = past b first.past (omega (arith, small)) (λ q lo hi. hangs q None (first.before q lo hi))
 
+          -- once what stands below the child at a byte is taken, so is all before the next byte
           pub went_below : (c : Id) → child ≡ Sub c → (h2 : ℕ → Node V) (after : D) → TakesBelow drains h1 (id_number c) mid h2 after → TakenSoFar drains h n x (b + 1) before h2 after
           went_below c is h2 after p =
               let z : Region = record { base = p.base; depth = p.depth } in
@@ -136,6 +139,7 @@ module _ {V D : Type 0} (drains : D → ℕ → V → D → Type 0) (h : ℕ →
                 tree = λ a t l. still_tree h1 n b value h2 k was a (so.tree a t l) l;
               }
 
+          -- with a blank at a byte, what was taken before it is all before the next byte
           pub went_blank : child ≡ Blank → TakenSoFar drains h n x (b + 1) before h1 mid
           went_blank is = record {
             bound = omega (arith, small);
@@ -152,6 +156,7 @@ module _ {V D : Type 0} (drains : D → ℕ → V → D → Type 0) (h : ℕ →
             tree = so.tree;
           }
 
+      -- where no child is left, the drainer took the pairs at and below the node
       pub ended : ((b : ℕ) → from ≤ b → map.get (children_of y) b ≡ None) → TakesBelow drains h n before h1 mid
       ended none = record {
         base = x.base;

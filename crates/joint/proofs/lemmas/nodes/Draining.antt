@@ -21,12 +21,14 @@ use Rattle.joint.specs.nodes.Survey.{NoneStand}
 
 -- a value goes out of the node where it hung
 module _ {V : Type 0} (h : ℕ → Node V) (n b : ℕ) (value : V) (h' : ℕ → Node V) (k : ChangeGives h n b Nothing h') (was : (h n).children b ≡ Holds value) where
+  -- every node has the prefix that it had
   pub same_prefix : (m : ℕ) → (h' m).prefix ≡ (h m).prefix
   same_prefix m = elim (same_or_not m n) [
     | inl e ↦ (let P : ℕ → Type 0 = λ x. (h' x).prefix ≡ (h x).prefix in subst P (sym e) k.prefix)
     | inr ne ↦ ap (λ x. x.prefix) (k.others m ne)
   ]
 
+  -- every node that stood stands
   pub stands_still : (m : ℕ) → Stands (h m) → Stands (h' m)
   stands_still m s = elim (same_or_not m n) [
     | inl e ↦ (let P : ℕ → Type 0 = λ x. Stands (h x) → Stands (h' x) in subst P (sym e) (λ t. record { made = k.made ∙ t.made; kept = k.destroyed ∙ t.kept }) s)
@@ -49,6 +51,7 @@ module _ {V : Type 0} (h : ℕ → Node V) (n b : ℕ) (value : V) (h' : ℕ →
       parents = λ m _ _ _. refl;
     }
 
+    -- the nodes are a tree still, where the value's node is linked in it
     pub still_tree : Tree a h'
     still_tree = record {
       root = t.root;
@@ -149,9 +152,11 @@ module _ {V D : Type 0} (drains : D → ℕ → V → D → Type 0) where
         subst Q (sym (range_skip from to (2 ^ 64) order m (λ q lo hi. agrees q lo (omega (arith, hi, small)) ∙ none q lo hi))) l;
   }
 
+  -- a drainer that took nothing took all pairs from a key to before the same
   pub takes_begin : (h : ℕ → Node V) (from : ℕ) (before : D) → Takes drains h from before h from before
   takes_begin h from before = record { rest = λ q lo s. refl; drained = λ m agrees final l. l }
 
+  -- who took the pairs up to a key and then those from there on took them all
   pub takes_more : (h h1 h2 : ℕ → Node V) (from mid to : ℕ) (before between after : D) → from ≤ mid → mid ≤ to → Takes drains h from before h1 mid between → Takes drains h1 mid between h2 to after
       → Takes drains h from before h2 to after
   takes_more h h1 h2 from mid to before between after l u x y = record {

@@ -88,6 +88,7 @@ module _ {V : Type 0} (m : Pairs V) where
   lacks k (inl e) = e
   lacks k (inr x) = absurd x
 
+  -- the keys below 2 ^ 64 are all keys of the map
   pub keys_all : (h : ℕ → Node V) → IsMapOf h m → (ks : List ℕ) → AreKeysBelow m (2 ^ 64) ks → AreKeys m ks
   keys_all h st ks a = record {
     ascend = a.ascend;
@@ -130,6 +131,7 @@ module _ {V : Type 0} (h : ℕ → Node V) (n : ℕ) (i : IsNodeIn h n) (x : Reg
       let w = within b q small (omega (arith, lo)) hi in
       lacks m q (lacks_bytes a h t m st [] n x.base x.depth i.linked r from b q w.0 (omega (arith, lo)) w.1 lo hi none)) k
 
+  -- before the first byte of a node no key of it is put
   pub starts : (old : List ℕ) → PutSoFar h n x 0 old old
   starts old = record {
     bound = omega arith;
@@ -158,6 +160,7 @@ module _ {V : Type 0} (h : ℕ → Node V) (n : ℕ) (i : IsNodeIn h n) (x : Reg
         upto : (m : Pairs V) → IsMapOf h m → AreKeysBelow m x.base old → AreKeysBelow m (at b) mid
         upto m st k = past m st from b mid first.past (omega (arith, small)) before (so.keys m st k)
 
+        -- once the keys below the child at a byte are put, so are all before the next byte
         pub put_below : (c : Id) (new : List ℕ) → child ≡ Sub c → PutsKeys h (id_number c) mid new → PutSoFar h n x (b + 1) old new
         put_below c new is p =
             let hung : (h n).children b ≡ Below (id_number c) = here ∙ ap (λ z. hung_at (Some z)) is in
@@ -194,6 +197,7 @@ module _ {V : Type 0} (h : ℕ → Node V) (n : ℕ) (i : IsNodeIn h n) (x : Reg
               subst R next (one_more m key mid (subst Q ks some) (subst P (sym ek) (upto m st k)));
         }
 
+        -- with a blank at a byte, what was put before it is all before the next byte
         pub put_none : child ≡ Blank → PutSoFar h n x (b + 1) old mid
         put_none is = record {
           bound = omega (arith, small);
@@ -204,6 +208,7 @@ module _ {V : Type 0} (h : ℕ → Node V) (n : ℕ) (i : IsNodeIn h n) (x : Reg
               subst P q_is (here ∙ ap (λ z. hung_at (Some z)) is)) (upto m st k);
         }
 
+    -- where no child is left, the keys at and below the node are put
     pub ended : (from : ℕ) (old new : List ℕ) → PutSoFar h n x from old new → ((b : ℕ) → from ≤ b → get (children_of y) b ≡ None) → PutsKeys h n old new
     ended from old new so none = record {
       base = x.base;

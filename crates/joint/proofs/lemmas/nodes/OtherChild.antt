@@ -77,6 +77,7 @@ module _ {P : Type 0} (n : Form Id P) (solid : IsSolid (children_of n)) (two : m
   pub some_first : ((k : ℕ) → 0 ≤ k → map.get (children_of n) k ≡ None) → ⊥
   some_first none = (let z = none byte (omega arith) in let s = here in absurd (cc (s, z)))
 
+  -- where the first child is the one at the byte, another comes after it
   pub some_next : (at : ℕ) (x : Child Id P) → IsFirst (children_of n) 0 at x → at ≡ byte → ((k : ℕ) → byte + 1 ≤ k → map.get (children_of n) k ≡ None) → ⊥
   some_next at x one e none =
       let key = second (children_of n) byte here two in
