@@ -98,6 +98,7 @@ module _ {V : Type 0} (same : V → V → Bool) (always : Bool) (s s' : World V)
     abbrev fl : AreInFlight (engine_of s) fs
     fl = record { each = flown.each; beyond = flown.beyond }
 
+    -- the step is one on the map, from the pairs and the calls in flight that are given
     pub event_maps : Result same always (engine_of s) (engine_of s') w holds fs m st fl step.event told (λ l f'. EventMap same fs m step.event l f')
     event_maps = on_map same always (engine_of s) (engine_of s') w holds fs m st fl step.event told e.does
 
@@ -123,6 +124,7 @@ module _ {V : Type 0} (same : V → V → Bool) (always : Bool) (s s' : World V)
     abbrev Same : Option (Entry V) → Type 0
     Same o = o ≡ (if is_some o then event_maps.entry else None)
 
+    -- the entry that is kept, where one is, is that of the step on the map
     pub kept_line : Same kept
     kept_line = elim (cases_Bool told.decided) [
       | inl d ↦ elim (cases_Bool room) [
@@ -195,6 +197,7 @@ module _ {V : Type 0} (same : V → V → Bool) (always : Bool) (s s' : World V)
   abbrev now : Result same always (engine_of s) (engine_of s') w holds here.flights here.pairs here.stand (fl here.flights here.pairs here.stand here.in_flight here.asked) step.event told (λ l f'. EventMap same here.flights here.pairs step.event l f')
   now = event_maps here.flights here.pairs here.stand here.in_flight here.asked
 
+  -- a call comes to have a place only where the journal isn't full
   pub raises : finds_journal_full s w step.event ≡ false → before ≡ false → after ≡ true → is_full s.log ≡ false
   raises g b a = raises_by here.flights here.pairs here.stand here.in_flight here.asked step.event now g b a (even_or_go step.event e.does)
 
@@ -242,6 +245,7 @@ module _ {V : Type 0} (same : V → V → Bool) (always : Bool) (s s' : World V)
       legal = λ p. subst (λ es. Legal same empty es now.pairs) (sym x.entries) (legal_on here.flights here.pairs here.stand here.in_flight here.asked (λ q. now_counted q x.reserved) (was p) (here.legal (was p)));
     }
 
+    -- with what is written down it is a step of the whole machine
     pub steps : (r : Report V) → r ≡ record told { kept = is_some kept } → IsStep same always s step r s'
     steps r q =
         let P : Bool → Type 0 = λ b. StepsUnless same always b s step r s' in

@@ -117,6 +117,7 @@ module _ {V : Type 0} (same : V → V → Bool) (always : Bool) (s s' : World V)
   abbrev line : Event V → Report V → Option (Entry V) → Pairs V → Line V
   line event r e m' = record { step = record { worker = w; event = event }; report = r; entry = e; pairs = m' }
 
+  -- the step with this report is one on the map, as `map` says, and these pairs and calls stand after it
   pub record Result (event : Event V) (r : Report V) (map : Line V → Flights V → Type 0) : Type 0 where
     pub entry : Option (Entry V)
     pub pairs : Pairs V

@@ -21,6 +21,7 @@ module _ {V : Type 0} (same : V → V → Bool) (always : Bool) where
   safe_tree : (s : Nodes V) (ms : List (Machine Id V)) → IsSafe same always s ms → IsTree (nodes s)
   safe_tree s ms safe = settled_tree _ same always (nodes s) ms safe.sound.sound.settled
 
+  -- where what always holds of nodes and calls holds, the nodes are a tree that stands
   pub intact_tree : (s : Nodes V) (ms : List (Machine Id V)) (ks : List (InFlight V)) → IsIntact same always s ms ks → IsTree (nodes s)
   intact_tree s ms ks i = safe_tree s ms i.safe
 

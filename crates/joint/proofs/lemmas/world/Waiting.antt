@@ -88,9 +88,11 @@ module _ {P : Type 0} (F : Nodes P) (k : Counts) (kept : IsKept k F) where
       let w : sum_by (bytes_of F) (standing_nodes F) ≡ sizes F.collector.store = weighed_nodes is_standing (λ v. true) (none_stands P) some_stands F kept.used in
       omega (arith, c, w)
 
+  -- so many nodes are counted as waiting as stand and were handed over
   pub handed_count : k.waiting ≡ length (handed_nodes F)
   handed_count = kept.count_is ∙ sym (counted_nodes is_waiting (λ v. v.word.retired) (none_waits P) some_waits F kept.used)
 
+  -- so many bytes are counted as waiting as these have
   pub handed_weight : k.waiting_bytes ≡ sum_by (bytes_of F) (handed_nodes F)
   handed_weight = kept.bytes_is ∙ sym (weighed_nodes is_waiting (λ v. v.word.retired) (none_waits P) some_waits F kept.used)
 
@@ -222,6 +224,7 @@ module _ {V : Type 0} (same : V → V → Bool) (always : Bool) (laws : CallLaws
       let w = given taken_by s.machines n c in
       (w.0, (w.1, w.2, taken_is w.1.phase n w.3))
 
+  -- the list of the nodes that wait has each of them once, and no other
   pub waiting_listed : IsListOf (IsWaiting s) (waiting_nodes s)
   waiting_listed = record {
     once = pairs_append (λ m n. m ≢ n) (handed_nodes s.forest) (flat_map taken_by s.machines) (nodes_once is_waiting (λ v. v.word.retired) (none_waits V) some_waits s.forest)
