@@ -122,6 +122,7 @@ module _ {V : Type 0} (same : V → V → Bool) (always : Bool) (s s' : World V)
   proceeds (Begin op) r x = begins (target op) r x
   proceeds (Go noise) r x = goes (slice_get s.calls w) noise r refl x
 
+  -- a step changes one worker's call and machine, and no other's
   pub step_apart : (event : Event V) (o : Option Fault) (r : Report V) → Does same always s w event o r s' → Apart s s' w
   step_apart event None r x = proceeds event r x
   step_apart event (Some f) r x = unchanged x.1
@@ -146,6 +147,7 @@ head_same : {A : Type 0} (x y : A) (xs ys : List A) (w : ℕ) → AtOne (x ∷ x
 head_same x y xs ys w a = let q : Some y ≡ Some x = a.other 0 (λ e. let z : 0 ≡ suc w = e in omega (arith, z)) in cc
 
 module _ {V : Type 0} where
+  -- 1 where the worker's call has a place of the journal reserved, and 0 where it has none
   abbrev pub count_at : List (InFlight V) → List (Machine Id V) → ℕ → ℕ
   count_at ks ms w = one_where (has_place (slice_get ks w) (slice_get ms w))
 

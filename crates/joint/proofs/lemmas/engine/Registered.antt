@@ -114,6 +114,7 @@ module _ {V : Type 0} (same : V → V → Bool) (always : Bool) (cells : CellLaw
   at_here (Securing op) m x = absurd (let z : (place c n).registered ≡ true = x.0.0 in cc)
   at_here Walking m x = x
 
+  -- the machine is intact with the worker registered
   pub taken : IsIntact same always (with_collector s c') ms ks
   taken = record {
     safe = record { sound = record { top = intact.safe.sound.top; past = now ∷ past; sound = still_sound }; within = intact.safe.within };

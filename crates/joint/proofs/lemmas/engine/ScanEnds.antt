@@ -66,6 +66,7 @@ module _ {V : Type 0} where
   no_taken (Sweep s) n e x = x
   no_taken _ n e x = absurd (cc e)
 
+  -- a worker's place never has a scan that is done, once that has left it
   pub not_done : (m : Machine Id V) → is_done (rested m).phase ≡ false
   not_done m = elim (cases_Bool (is_done m.phase)) [
     | inl e ↦ (let P : Bool → Type 0 = λ b. is_done (if b then resting else m).phase ≡ false in subst P (sym e) refl)
@@ -118,6 +119,7 @@ module _ {V : Type 0} (same : V → V → Bool) (always : Bool) (s : Nodes V) (m
           within = safe.within;
         }
 
+  -- all is safe where a scan that is done leaves its place
   pub cleared_safe : IsSafe same always s ms → IsSafe same always s (cleared ms who)
   cleared_safe safe =
       let P : Option (Machine Id V) → Type 0 = λ o. IsSafe same always s (cleared_at o ms who) in
@@ -128,6 +130,7 @@ module _ {V : Type 0} (same : V → V → Bool) (always : Bool) (s : Nodes V) (m
       ])
 
 module _ {V : Type 0} (ms between : List (Machine Id V)) (who : ℕ) (old now : Machine Id V) (here : slice_get ms who ≡ Some old) (calls : between ≡ set ms who now) where
+  -- the worker's machine between the step and the leaving is the one that took the step
   pub now_between : slice_get between who ≡ Some now
   now_between = ap (λ xs. slice_get xs who) calls ∙ set_here ms who now old here
 
@@ -135,6 +138,7 @@ module _ {V : Type 0} (ms between : List (Machine Id V)) (who : ℕ) (old now : 
   by_done true = ap (λ xs. set xs who resting) calls ∙ set-set ms who now resting
   by_done false = calls
 
+  -- the machines are as before, but for the worker's: that of the step, or one at rest after a scan that is done
   pub cleared_is : cleared between who ≡ set ms who (rested now)
   cleared_is = ap (λ o. cleared_at o between who) now_between ∙ by_done (is_done now.phase)
 
@@ -235,6 +239,7 @@ module _ {V : Type 0} where
   scan_over start end size states places (told.Done count) f e x = x.2
   scan_over start end size states places (told.Refused c) f e x = x
 
+  -- once a scan that is done has left, its machine is watched as over, and any other as before
   pub rest_follows : (now : Machine Id V) (f : Flight V) → (is_done now.phase ≡ true → f ≡ Over) → Follows now f → Follows (rested now) f
   rest_follows now f over x =
       let P : Bool → Type 0 = λ b. Follows (if b then resting else now) f in
@@ -289,6 +294,7 @@ module _ {V : Type 0} (same : V → V → Bool) (always : Bool) (most : ℕ) (wh
   kind_of (Sweep s) = inr (s, refl)
   kind_of _ = inl tt
 
+  -- the call in the worker's place has ended just where the step doesn't tell that it goes on
   pub told_final : IsUnderWay m.phase → is_done m.phase ≡ false → is_over (rested now).phase ≡ not (continues d.outcome)
   told_final u n = elim (kind_of m.phase) [
     | inl k ↦ key_final u k
@@ -306,6 +312,7 @@ module _ {V : Type 0} (same : V → V → Bool) (always : Bool) (most : ℕ) (wh
     points : IsOfPoint f' → is_done now.phase ≡ true → f' ≡ Over
     points o e = let s = sweep_of now.phase e in point_over now s.0 f' s.1 o after
 
+    -- a scan that is done after the step is watched as over
     pub done_over : Watched same f pairs told_answer d f' pairs' → is_done now.phase ≡ true → f' ≡ Over
     done_over w e = by_flight f refl before w
       where

@@ -337,6 +337,7 @@ module _ {C V : Type 0} where
   two_left ComputeInsert _ = omega arith
   two_left (Exchange old) _ = omega arith
 
+  -- two free places in the bag are enough in any phase
   pub with_room : (kind : Kind V) (s : Phase C V) (jobs : ℕ) → jobs + 2 ≤ 64 → IsSecured kind s jobs
   with_room kind s jobs x = let n : most_left kind s ≤ 2 = two_left kind s in let y : jobs + most_left kind s ≤ 64 = omega (arith, x, n) in y
 
@@ -412,6 +413,7 @@ module _ {C V : Type 0} where
           omega (arith, z))
     ]
 
+    -- a step of a call leaves it a place in the bag for each node that it may still hand over
     pub secured_step : (s : Phase C V) (jobs : ℕ) → IsSecured kind s jobs → Known number same always i a h k key kind new s → PhaseStepped number same always most why root key kind fail answer new s h new' t h' → IsSecured kind t.phase jobs
     secured_step s jobs x known g =
         let y : jobs + most_left kind s ≤ 64 = x in

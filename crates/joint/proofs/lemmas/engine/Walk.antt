@@ -78,12 +78,15 @@ module _ {V : Type 0} (same : V → V → Bool) (always : Bool) (cells : CellLaw
   at_items : (o : Option Id) → o ≡ retiring_at (slice_get read step.who) → retiring_at (slice_get items step.who) ≡ o
   at_items o e = sym (e ∙ ap (λ xs. retiring_at (slice_get xs step.who)) seen)
 
+  -- where a node was marked, all is safe but for its deferral
   pub owed : (o : Id) → Some o ≡ retiring_at (slice_get read step.who) → Owes same always s' back step.who o
   owed o e = let P : List (Machine Id V) → Type 0 = λ xs. Owes same always s' xs step.who o in subst P (sym whole) (owes_some same always cells s s' items new step d played fr o (at_items (Some o) e) safe_or)
 
+  -- where no node was marked, the call on the tree has taken its step
   pub walked : None ≡ retiring_at (slice_get read step.who) → Walked same always s items step d s' back
   walked e = let P : List (Machine Id V) → Type 0 = λ xs. Walked same always s items step d s' xs in subst P (sym whole) (walked_none same always cells s s' items new step d played fr (at_items None e) safe_or)
 
+  -- where one was, it has taken it once that node's removal is deferred and all is safe
   pub walked_over : (o : Id) → Some o ≡ retiring_at (slice_get read step.who) → (s2 : Nodes V) (ms2 : List (Machine Id V)) → ms2 ≡ back → s2 ≡ with_collector s' (deferred s'.collector step.who (Remove o.name)) → IsSafe same always s items → IsSafe same always s2 ms2
       → Walked same always s items step d s2 ms2
   walked_over o e s2 ms2 same2 is before ok =
