@@ -82,6 +82,7 @@ module _ {V : Type 0} (same : V → V → Bool) (always : Bool) where
   one : (s s' : World V) (step : Step V) (r : Report V) → IsStep same always s step r s' → IsRun same always s (step ∷ []) (r ∷ []) s'
   one s s' step r x = record { taken = record { step = step; report = r; after = s' } ∷ []; each = (x, tt); steps_are = refl; reports_are = refl; last = refl }
 
+  -- once its begin is taken a call has come one step
   pub calling_first : (s s' : World V) (who : ℕ) (op : Op V) (most left : ℕ) (places places' : List (ℕ × V)) (r r' : Report V) → IsStep same always s (record { worker = who; event = Begin op }) r s' → left + 1 ≡ most → r' ≡ kept_report r → places' ≡ put r.outcome places
       → Calling s who op most left places r' places' s'
   calling_first s s' who op most left places places' r r' x n k f = record {
@@ -97,6 +98,7 @@ module _ {V : Type 0} (same : V → V → Bool) (always : Bool) where
     flight = λ m. x.flight tt m ∙ sym (away_flight r.outcome) ∙ sym (ap (λ y. is_in_flight y.outcome) k);
   }
 
+  -- a call that goes on comes one step further with the next one
   pub calling_more : (s s1 s2 : World V) (who : ℕ) (op : Op V) (most left left' : ℕ) (places places1 places2 : List (ℕ × V)) (q r r' : Report V) → Calling s who op most left places q places1 s1 → goes_on q.outcome ≡ true → IsStep same always s1 (next_step who) r s2
       → left ≡ left' + 1 → r' ≡ kept_report r → places2 ≡ put r.outcome places1 → Calling s who op most left' places r' places2 s2
   calling_more s s1 s2 who op most left left' places places1 places2 q r r' c g x n k f =

@@ -43,6 +43,7 @@ use Rattle.joint.proofs.lemmas.world.JournaledSteps.{Mapped, mapped}
 
 -- flights that are the same one by one
 module _ {V : Type 0} where
+  -- calls watched alike one by one are watched beside the same machines
   pub same_flights : (s : World V) (fs gs : Flights V) → ((i : ℕ) → fs i ≡ gs i) → AreInFlight s fs → AreInFlight s gs
   same_flights s fs gs same fl = record {
     each = λ i k m a b. subst (λ (f : Flight V). IsInFlight k m f) (same i) (fl.each i k m a b);
@@ -57,6 +58,7 @@ module _ {V : Type 0} where
         | inr e ↦ subst P (sym e) refl
       ]
 
+  -- where a worker's flight was put twice, the last one counts
   pub once_more : (s : World V) (fs : Flights V) (w : ℕ) (f g : Flight V) → AreInFlight s (with_flight (with_flight fs w f) w g) → AreInFlight s (with_flight fs w g)
   once_more s fs w f g fl = same_flights s _ _ (set_again fs w f g) fl
 
@@ -68,6 +70,7 @@ module _ {V : Type 0} where
         | inr e ↦ subst P (sym e) refl
       ]
 
+  -- with a worker's flight put as over that was over before, the flights are as before
   pub as_before : (s : World V) (fs : Flights V) (w : ℕ) → fs w ≡ Over → AreInFlight s (with_flight fs w Over) → AreInFlight s fs
   as_before s fs w over fl = same_flights s _ _ (set_back fs w over) fl
 

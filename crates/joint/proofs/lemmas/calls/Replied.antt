@@ -93,6 +93,7 @@ module _ {V : Type 0} (same : V → V → Bool) (fs : Flights V) (m : Pairs V) (
   scan_keeps who (Registered n) is x = absurd (cc is)
   scan_keeps who (Refused e) is x = absurd (cc is)
 
+  -- a whole call that ended with a reply leaves the other calls in flight
   pub replied_keeps : (who : ℕ) (o : Op V) (told : Report V) → IsSome (reply_in told.outcome) → CallPlays same fs m who o (Some told) s → AreInFlight s fs
   replied_keeps who (op.Get k) t is x = key_keeps who (point.Get k) t.outcome is x
   replied_keeps who (op.Insert k v) t is x = key_keeps who (point.Insert k v) t.outcome is x

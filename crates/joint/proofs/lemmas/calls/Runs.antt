@@ -61,6 +61,7 @@ module _ {V : Type 0} (same : V → V → Bool) (always : Bool) where
   first_kept None es = refl
   first_kept (Some e) es = refl
 
+  -- the journal keeps the entries of the steps' lines, those of all writing calls among them
   pub runs_journal : (s : World V) (taken : List (Taken V)) (fs : Flights V) (m : Pairs V) (h : Holds same always s) (x : AreTaken same always s taken) (st : IsMapOf (nodes s.forest) m) (fl : AreInFlight s fs) → Journals s taken (runs_map s taken fs m h x st fl).lines
   unfolding runs_map
   runs_journal s [] fs m h x st fl = record { entries = sym (append-nil s.log.entries); writes = λ p. tt; places = refl }
@@ -89,6 +90,7 @@ module _ {V : Type 0} (same : V → V → Bool) (always : Bool) where
   after_on s [] b = refl
   after_on s (t ∷ a) b = after_on t.after a b
 
+  -- a run after a run is one of the steps of both
   pub runs_join : (s s1 s2 : World V) (a b : List (Step V)) (q r : List (Report V)) → IsRun same always s a q s1 → IsRun same always s1 b r s2 → IsRun same always s (a ++ b) (q ++ r) s2
   runs_join s s1 s2 a b q r x y =
       let P : World V → Type 0 = λ z. AreTaken same always z y.taken in

@@ -207,6 +207,7 @@ module _ {V : Type 0} where
   go_worker who (Done d) step g = absurd g
   go_worker who (Refused e) step g = absurd g
 
+  -- a turn of a worker's call is a step of that worker's
   pub turn_worker : (who : ℕ) (op : Op V) (last : Option (Report V)) (step : Step V) → IsTurn who op last step → step.worker ≡ who
   turn_worker who op None step t = ap (λ (x : Step V). x.worker) t
   turn_worker who op (Some r) step t = go_worker who r.outcome step t

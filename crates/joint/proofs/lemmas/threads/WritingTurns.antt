@@ -175,6 +175,7 @@ module _ (watched : Entry ℕ → Bool) (who : ℕ) (o : Op ℕ) where
       by (done.Empty b) f = absurd f
       by (done.Stats stats) f = absurd f
 
+    -- a whole writing call answers its entry's reply, and its share counts that entry where it is watched
     pub counts : (ts : List (Turn ℕ)) (share : ShareView) (f : F) (places : List Q) (p' : Progress) (places' : List Q) (end : End ℕ) → Are (unwritten share) f None places ts p' places' (ended end) → Counts watched who o ts share p'.share end
     counts ts share f places p' places' end x =
         counts_by ts share p' end (ends_fit ts (unwritten share) f None places p' places' (ended end) (λ r q. absurd (cc q)) x) (comes ts (unwritten share) f None places p' places' (ended end) None refl x)
