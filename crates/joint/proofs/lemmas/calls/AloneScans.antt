@@ -220,7 +220,7 @@ module _ {V : Type 0} (same : V → V → Bool) (always : Bool) (fs : Flights V)
     begun_so (Found place key value) is z = in_flight z
     begun_so (Registered n) is z = in_flight z
 
-  -- a whole scan
+  -- a scan that no other worker's step comes between stands so after its steps, from its begin on
   pub sweeps : (op : Op V) (asked : Point V) (s : World V) (first : Taken V) (more : List (Taken V)) → target op ≡ target.Tree asked → range_of asked ≡ Some (start, end, size) → flight (begun root asked) ≡ Unbegun from to many → Holds same always s → KeepsAll fs m s
       → IsStep same always s (begin_of w op) first.report first.after → AreTaken same always first.after more → AllGoOn w first.report.outcome more
       → Sweeps (told_places [] more) (told_after first.report.outcome more) (after_all first.after more)

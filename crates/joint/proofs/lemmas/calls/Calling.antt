@@ -127,7 +127,7 @@ module _ {V : Type 0} (same : V → V → Bool) (always : Bool) where
     pub goes : goes_on report.outcome ≡ true
     pub more : 0 < left
 
-  -- a call of no steps
+  -- a call for which no steps are given is a whole call, with no report and the state as it was
   pub calling_none : (s : World V) (who : ℕ) (op : Op V) (most : ℕ) (places : List (ℕ × V)) → most ≡ 0 → IsCalled same always s who op most places None places s
   calling_none s who op most places e = record {
     reports = [];
@@ -141,7 +141,7 @@ module _ {V : Type 0} (same : V → V → Bool) (always : Bool) where
     flight = λ m r is. absurd cc;
   }
 
-  -- the call stops
+  -- a call that goes on no further, or has no step left, is a whole call with its last report
   pub calling_end : (s : World V) (who : ℕ) (op : Op V) (most left : ℕ) (places : List (ℕ × V)) (report : Report V) (places' : List (ℕ × V)) (s' : World V) → Calling s who op most left places report places' s' → (0 < left → goes_on report.outcome ≡ false)
       → IsCalled same always s who op most places (Some report) places' s'
   calling_end s who op most left places report places' s' c stop = record {

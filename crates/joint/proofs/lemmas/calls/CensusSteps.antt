@@ -362,7 +362,7 @@ module _ {V : Type 0} (same : V → V → Bool) (always : Bool) where
     few_machines = let e = intact.machines in let l = intact.few in omega (arith, e, l)
 
     module _ (k : Census) (c : AreCounted k s ms) where
-      -- the next step of a call that makes its places free
+      -- the next step of a call that makes its places free leaves the counts right
       pub counted_secured : (who : ℕ) (op : Point V) → slice_get calls who ≡ Some (Securing op) → (r : Collection) (s' : Nodes V) (ms' : List (Machine Id V)) (calls' : List (InFlight V)) → Secured same always s ms calls who r s' ms' calls' → AreCounted k s' ms'
       counted_secured who op at r s' ms' calls' x =
           let d : AreCounted k s' ms = counted_collected k s ms c s' x.collected.map x.collected.destroys in
@@ -374,7 +374,7 @@ module _ {V : Type 0} (same : V → V → Bool) (always : Bool) where
           by collector_outcome.Done d = counted_set k s' ms d who (begun root op) (λ m here. ended_none m ((intact.each who (Securing op) m at here).2)) (begun_none op)
           by (collector_outcome.Refused f) d = d
 
-  -- a worker takes a place
+  -- a registration leaves the counts right
   pub counted_registered : (s s' : World V) (k : Census) → AreCounted k s.forest s.machines → (r : Report V) → Proceeds same always s 0 Register r s' → AreCounted k s'.forest s'.machines
   counted_registered s s' k c r (inl x) = let P : World V → Type 0 = λ y. AreCounted k y.forest y.machines in subst P (sym x.1.state) (counted_same k s.forest s.machines c _ refl)
   counted_registered s s' k c r (inr x) = let P : World V → Type 0 = λ y. AreCounted k y.forest y.machines in subst P (sym x.state) c

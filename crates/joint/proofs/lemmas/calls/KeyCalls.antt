@@ -204,7 +204,7 @@ module _ {V : Type 0} where
   never_at_once fs m p (done.Empty e) l fs' u x = x
   never_at_once fs m p (done.Stats stats) l fs' u x = x
 
--- a call's first step, and a further one
+-- a call's first step
 abbrev pub begin_of : {V : Type 0} → ℕ → Op V → Step V
 begin_of w op = record { worker = w; event = Begin op }
 
@@ -212,7 +212,7 @@ begin_of w op = record { worker = w; event = Begin op }
 abbrev pub gone : {V : Type 0} → ℕ → Noise Id V → Step V
 gone w noise = record { worker = w; event = Go noise }
 
--- a step in which no call on the tree goes on
+-- a step in which no call on the tree goes on keeps the pairs and the calls in flight
 pub stays_keeps_all : {V : Type 0} (fs : Flights V) (m : Pairs V) (l : Line V) (fs' : Flights V) (s : World V) → Stays fs m l fs' → IsMapOf (nodes s.forest) l.pairs → AreInFlight s fs' → KeepsAll fs m s
 stays_keeps_all {V} fs m l fs' s x st fl =
     let P : Pairs V → Type 0 = λ n. IsMapOf (nodes s.forest) n in
@@ -405,7 +405,7 @@ module _ {V : Type 0} (same : V → V → Bool) (always : Bool) (fs : Flights V)
     begun_so (Registered n) is z = in_flight z
     begun_so (Done d) is z = absurd (never_at_once fs m p d l y.flights on_key z)
 
-  -- the whole call
+  -- a call on one key that no other worker's step comes between plays on the map as such a call does
   pub key_plays : (op : Op V) (s : World V) (first : Taken V) (more : List (Taken V)) → target op ≡ target.Tree p → Holds same always s → IsMapOf (nodes s.forest) m → AreInFlight s fs
       → IsStep same always s (begin_of w op) first.report first.after → AreTaken same always first.after more → AllGoOn w first.report.outcome more
       → PlaysKey same fs m w (answered_after first.report.outcome None more) p (told_after first.report.outcome more) (after_all first.after more)

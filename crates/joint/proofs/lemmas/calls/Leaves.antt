@@ -105,7 +105,7 @@ module _ {V : Type 0} where
       by i n None at c = absurd (nothing n c)
       by i n (Some m) at c = (m, at, taken_is m.phase n c)
 
-  -- a call that has a node taken out has no scan that is done
+  -- a call that has taken a node out has it still once a scan that is done has left its place
   pub taken_stays : (m : Machine Id V) (n : ℕ) → TakenBy id_number m.phase n → TakenBy id_number (rested m).phase n
   taken_stays m n x = by (is_done m.phase) (undone m.phase n x) where
     undone : (p : Phase Id V) (n : ℕ) → TakenBy id_number p n → is_done p ≡ false
@@ -123,7 +123,7 @@ module _ {V : Type 0} where
     Hands : (m : Id) (next : Option Id) (q : Id) (r : Reply V) → p ≡ Retire m next q r → n ≡ id_number m → SameBut h n (record (h n) { retired = true }) h' → Owes h h' p p' n
     Waits : TakenBy id_number p' n → h' n ≡ h n → Owes h h' p p' n
 
-  -- a path of nodes that stay as they are
+  -- a path of linked nodes leads to the same node where they stay as they are
   pub leads_same : (h h' : ℕ → Node V) (a : ℕ → Note) → ((n b c : ℕ) → (a n).status ≡ Linked → (h n).children b ≡ Below c → (a c).status ≡ Linked) → ((n : ℕ) → (a n).status ≡ Linked → h' n ≡ h n)
       → (path : List ℕ) (n c : ℕ) → (a n).status ≡ Linked → Leads h n path c → Leads h' n path c
   leads_same h h' a down keep [] n c l x = x

@@ -244,7 +244,7 @@ module _ {V : Type 0} (same : V → V → Bool) (always : Bool) (laws : (f : Nod
       (λ order' p' a'. all_follow top t.after ts order' p' (beside.versions ∙ e) x.0.holds x.1 un.1 a') in
       record { told = f.0; now = f.1.0; longer = f.1.1; agree = f.1.2 }
 
-  -- a run
+  -- a run that refuses nothing tells on the tree what the plain run tells, and leaves both agreeing
   pub run_follows : (s s' : World V) (steps : List (Step V)) (reports : List (Report V)) (order : List ℕ) (p : Plain V) → Holds same always s → IsRun same always s steps reports s' → AreUnrefused reports → Agree s order p
       → FollowsRun same s.forest.version_max steps reports s' order p
   run_follows s s' steps reports order p holds run un a =

@@ -424,7 +424,7 @@ module _ {V : Type 0} (same : V → V → Bool) (always : Bool) (calls : CallLaw
       let b = high.0 in
       came_back s who rounds h quiet are taken (omega (arith, a, b, few, enough))
 
--- the same of a run
+-- what came back after rounds came back at the end of a run of just these
 pub in_run : {V : Type 0} (same : V → V → Bool) (always : Bool) (s s' : World V) (steps : List (Step V)) (reports : List (Report V)) (who : ℕ) (rounds : List (Round V))
     → (AreTaken same always s (steps_in rounds) → CameBack (after_all s (steps_in rounds)) who) → (run : IsRun same always s steps reports s') → run.taken ≡ steps_in rounds → CameBack s' who
 in_run {V} same always s s' steps reports who rounds law run is =

@@ -111,7 +111,7 @@ module _ {V : Type 0} (same : V → V → Bool) (always : Bool) where
   pub run_fresh : (s : World V) (steps : List (Step V)) (reports : List (Report V)) (s' : World V) → IsFresh s → Holds same always s → IsRun same always s steps reports s' → RunsMap same no_flights empty steps reports s'
   run_fresh s steps reports s' fresh h r = run_map s steps reports s' no_flights empty h r (standing_empty same always (nodes s.forest) fresh.alone) (fresh_flights same always s fresh)
 
-  -- and what it makes of the journal
+  -- a run plays on the map, and its journal goes on with its entries
   pub run_journal : (s : World V) (steps : List (Step V)) (reports : List (Report V)) (s' : World V) (fs : Flights V) (m : Pairs V) → Holds same always s → IsRun same always s steps reports s' → IsMapOf (nodes s.forest) m → AreInFlight s fs
       → RunsJournal same fs m s steps reports s'
   unfolding run_map

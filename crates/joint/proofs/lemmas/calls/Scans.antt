@@ -148,7 +148,7 @@ module _ {V : Type 0} (same : V → V → Bool) where
         let b = both (l.step.worker == w) (is_go l.step.event) g in
         go_step fs m places l fs1 l.step.event refl am u (eqb-true l.step.worker w b.0) b.1 x
 
-    -- the scan is done
+    -- a scan that is done has found what a scan promises by all maps that stood
     pub ends : (fs : Flights V) (m : Pairs V) (places : List (ℕ × V)) (l : Line V) (fs1 : Flights V) (count : ℕ) → Next fs m places l fs1 → l.report.outcome ≡ Done (Scanned count) → (count ≤ length places) × IsScan start end size all (take count places)
     ends fs m places l fs1 count n done = by_outcome n.step.outcome (sym n.step.told_so ∙ done) n.step.tells
       where
@@ -164,7 +164,7 @@ module _ {V : Type 0} (same : V → V → Bool) where
         by_outcome (moved.Done r) e t = absurd t
         by_outcome (moved.Refused c) e t = absurd (cc e)
 
-    -- or goes on
+    -- a scan that goes on is under way still, and its pair comes to its place
     pub goes_further : (fs : Flights V) (m : Pairs V) (places : List (ℕ × V)) (l : Line V) (fs1 : Flights V) → Next fs m places l fs1 → goes_on l.report.outcome ≡ true
         → Comes true l.report.outcome places × Under fs1 (placed true l.report.outcome places)
     goes_further fs m places l fs1 n on =
@@ -217,7 +217,7 @@ module _ {V : Type 0} (same : V → V → Bool) where
     event_apart fs m places l fs1 (Go noise) g u x =
         go_apart fs m l fs1 noise.answer (fs l.step.worker) (λ e. eqb-false l.step.worker w (not_both (l.step.worker == w) g) (sym e)) x
 
-    -- whatever the lines, up to its end
+    -- over whatever lines up to its end a scan fills its places in order, with what a scan promises
     pub during_lines : (fs : Flights V) (m : Pairs V) (places : List (ℕ × V)) (during after : List (Line V)) (end_line : Line V) (fs' : Flights V) (count : ℕ) → Among all m → ((x : Pairs V) → Among (map (λ l. l.pairs) during) x → Among all x) → Under fs places
         → IsMapRun same fs m (during ++ end_line ∷ after) fs' → GoesOn w during → EndsScan w count end_line
         → AllCome w during places × (count ≤ length (told_to w during places)) × IsScan start end size all (take count (told_to w during places))

@@ -188,7 +188,7 @@ module _ {V : Type 0} (same : V → V → Bool) (always : Bool) where
       ap (λ y. is_question y.outcome) x.report
       ∙ does_quiet (engine_of s) (engine_of s') step.worker (holds.0, holds.1) fs (record { each = fl.each; beyond = fl.beyond }) over noise (misuse (engine_of s) step.worker (Go noise)) x.told (subst P e x.engine.does)
 
-  -- what each call wants after a step
+  -- a call wants an answer after a step of its own that asks, and after another's where it did before
   pub step_wants : (s : World V) (step : Step V) (r : Report V) (s' : World V) (w : ℕ) → Holds same always s → IsStep same always s step r s'
       → asks_at (slice_get s'.machines w) ≡ wants_if (asks_at (slice_get s.machines w)) (step.worker == w) step.event r.outcome
   step_wants s step r s' w h x =

@@ -76,7 +76,7 @@ module _ {V : Type 0} (same : V → V → Bool) (always : Bool) where
       still s s' (record { worker = worker; event = Register }) told h e d refl (register_even same always (engine_of s) (engine_of s') worker (h.0, h.1) told e.does)
       (ap (λ (y : Log V). y.entries) l) (ap (λ (y : Log V). y.places) l) (ap (λ (y : Log V). y.reserved) l) (λ a. ap (λ (y : Log V). y.requests) l) (ap (λ (y : Log V). length y.requests) l)
 
-  -- a begin
+  -- a begin of the engine, with what was asked for written down, is a step of the whole machine
   pub begin_step : (s s' : World V) (worker : ℕ) (op : Op V) (q : Option (Request V)) (told : Report V) → Holds same always s → IsEngineStep same always (engine_of s) (record { worker = worker; event = Begin op }) told (engine_of s')
       → (always ≡ true → q ≡ asked op) → s'.log ≡ with_request s.log worker (is_in_flight told.outcome) q → IsStep same always s (record { worker = worker; event = Begin op }) told s'
   begin_step s s' worker op q told h e i l =
@@ -327,7 +327,7 @@ module _ {V : Type 0} (same : V → V → Bool) (always : Bool) where
     legal = λ p. (let P : Log V → Type 0 = λ y. Legal same empty y.entries empty in subst P (sym l) refl);
   }
 
-  -- its journal
+  -- two maps that stand in the same nodes are one
   pub one_map : (hp : ℕ → Node V) (m n : Pairs V) → IsMapOf hp m → IsMapOf hp n → m ≡ n
   one_map hp m n a b = same_pairs m n by where
     by : (q : ℕ) → get m q ≡ get n q

@@ -30,7 +30,7 @@ use Rattle.joint.specs.engine.Laws.{ProgressLaws}
 use Rattle.joint.specs.engine.Safety.{Rests, Collected}
 use Rattle.joint.proofs.lemmas.engine.SecuredPlaces.{with_room}
 
--- what stands in a list after one of its places was exchanged
+-- in a list with one place set stands what was put there, and elsewhere what stood
 pub either : {A : Type 0} → (xs : List A) (i j : ℕ) (x y : A) → slice_get (set xs i x) j ≡ Some y → ((j ≡ i) × (x ≡ y)) ⊎ ((j ≢ i) × (slice_get xs j ≡ Some y))
 either [] i j x y e = absurd cc
 either (z ∷ xs) zero zero x y e = inl (refl, cc)
@@ -47,7 +47,7 @@ get_inside [] i l = absurd (omega (arith, l))
 get_inside (x ∷ xs) zero l = (x, refl)
 get_inside (x ∷ xs) (suc i) l = get_inside xs i (omega (arith, l))
 
--- the machine under other names
+-- an intact machine is intact under other names
 pub intact_at : {V : Type 0} (same : V → V → Bool) (always : Bool) (s s' : Nodes V) (ms ms' : List (Machine Id V)) (calls calls' : List (InFlight V)) → s' ≡ s → ms' ≡ ms → calls' ≡ calls → IsIntact same always s ms calls → IsIntact same always s' ms' calls'
 intact_at {V} same always s s' ms ms' calls calls' es em ec i =
     let P : Nodes V → Type 0 = λ x. IsIntact same always x ms' calls' in
@@ -55,7 +55,7 @@ intact_at {V} same always s s' ms ms' calls calls' es em ec i =
     let R : List (InFlight V) → Type 0 = λ x. IsIntact same always s ms x in
     subst P (sym es) (subst Q (sym em) (subst R (sym ec) i))
 
--- a step of the collector, with the nodes and the calls under other names
+-- a step of the collector is one with the nodes and the calls under other names
 pub collected_at : {V : Type 0} (same : V → V → Bool) (always : Bool) (s1 s s' : Nodes V) (ms1 ms : List (Machine Id V)) (who : ℕ) (event : Event) (r : Report) → s1 ≡ s → ms1 ≡ ms → Collected same always s1 ms1 who event r s' → Collected same always s ms who event r s'
 collected_at {V} same always s1 s s' ms1 ms who event r es em c =
     subst (λ (x : Nodes V). Collected same always x ms who event r s') es (subst (λ (x : List (Machine Id V)). Collected same always s1 x who event r s') em c)
@@ -155,7 +155,7 @@ module _ {V : Type 0} (same : V → V → Bool) (always : Bool) (s : Nodes V) (m
     fits : (o : Outcome) → r.outcome ≡ o → (m : Machine Id V) → slice_get ms who ≡ Some m → GoesOn s.collector who (Secure 2) o s'.collector
     fits o e m here = let P : Outcome → Type 0 = λ y. GoesOn s.collector who (Secure 2) y s'.collector in subst P e (goes m here)
 
-    -- it goes on
+    -- where it goes on, the step is one that makes places free
     pub secures_on : r.outcome ≡ Running → (ms' : List (Machine Id V)) (calls' : List (InFlight V)) → ms' ≡ ms → calls' ≡ set (set calls who Idle) who (Securing op) → Secured same always s ms calls who r s' ms' calls'
     secures_on e ms' calls' em ec =
         let q : calls' ≡ set calls who (Securing op) = ec ∙ set-set calls who Idle (Securing op) in
@@ -170,7 +170,7 @@ module _ {V : Type 0} (same : V → V → Bool) (always : Bool) (s : Nodes V) (m
           machine = em ∙ sym (ap (λ o. secured_machines o (slice_get calls who) ms who) e);
         }
 
-    -- it finds no memory
+    -- where it is refused, the step is one that makes places free, and leaves the worker idle
     pub refused_then : (f : Fault) → r.outcome ≡ Refused f → (ms' : List (Machine Id V)) (calls' : List (InFlight V)) → ms' ≡ ms → calls' ≡ set calls who Idle → Secured same always s ms calls who r s' ms' calls'
     refused_then f e ms' calls' em ec =
         let i : IsIntact same always s' ms (set calls who Idle) = after_step same always s ms calls intact who Go r s' Idle c (λ m here.
@@ -184,7 +184,7 @@ module _ {V : Type 0} (same : V → V → Bool) (always : Bool) (s : Nodes V) (m
           machine = em ∙ sym (ap (λ o. secured_machines o (slice_get calls who) ms who) e);
         }
 
-    -- the places are free
+    -- once the places are free, the machine is intact with the worker idle
     pub free_intact : r.outcome ≡ Done → IsIntact same always s' ms (set calls who Idle)
     free_intact e = after_step same always s ms calls intact who Go r s' Idle c (λ m here.
         let x : IsAt (Securing op) (place s.collector who) m = intact.each who (Securing op) m at here in

@@ -154,7 +154,7 @@ module _ {V : Type 0} (same : V → V → Bool) (always : Bool) (cells : CellLaw
         within = owes.safe.within;
       })
 
-  -- so no fault stands
+  -- the deferral is refused for no fault
   pub never_refused : (f : Fault) → MatchOption (destroy_fault c who node.name) ((f ≡ Memory) × (length (place c who).bag ≡ 64) × (c.room ≡ 0)) (λ x. f ≡ x) → ⊥
   never_refused f m =
       let P : Option Fault → Type 0 = λ o. MatchOption o ((f ≡ Memory) × (length (place c who).bag ≡ 64) × (c.room ≡ 0)) (λ x. f ≡ x) in

@@ -151,7 +151,7 @@ module _ {V : Type 0} where
   abbrev pub count_at : List (InFlight V) → List (Machine Id V) → ℕ → ℕ
   count_at ks ms w = one_where (has_place (slice_get ks w) (slice_get ms w))
 
-  -- the count before with the call's part after, and the count after with its part before
+  -- the count after, with the call's part before, is the count before with its part after
   pub places_at : (ks ks' : List (InFlight V)) (ms ms' : List (Machine Id V)) (w : ℕ) → length ms ≡ length ks → AtOne ks ks' w → AtOne ms ms' w → places_of ks' ms' + count_at ks ms w ≡ places_of ks ms + count_at ks' ms' w
   places_at [] [] [] [] w l a b = refl
   places_at [] (k' ∷ ks') ms ms' w l a b = absurd (let n : length (k' ∷ ks') ≡ 0 = a.long in omega (arith, n))
@@ -179,7 +179,7 @@ count_is true false n n' e = omega (arith, e)
 count_is false true n n' e = omega (arith, e)
 count_is false false n n' e = omega (arith, e)
 
--- the count after a step
+-- the count after a step is the one before, counted anew for the worker's call
 pub places_counted : {V : Type 0} (s s' : World V) (w : ℕ) → length s.machines ≡ length s.calls → Apart s s' w
     → counted (has_place (slice_get s.calls w) (slice_get s.machines w)) (has_place (slice_get s'.calls w) (slice_get s'.machines w)) (places_of s.calls s.machines) ≡ places_of s'.calls s'.machines
 places_counted s s' w l a = count_is _ _ _ _ (places_at s.calls s'.calls s.machines s'.machines w l a.calls a.machines)

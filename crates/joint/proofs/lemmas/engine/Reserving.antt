@@ -40,7 +40,7 @@ reserving_call None e = absurd (cc e)
 
 -- what it leaves
 module _ {V : Type 0} (same : V → V → Bool) (always : Bool) (s : Nodes V) (ms : List (Machine Id V)) (calls : List (InFlight V)) (who : ℕ) (s' : Nodes V) (ms' : List (Machine Id V)) (calls' : List (InFlight V)) (b : BeginsSecuring same always s ms calls who s' ms' calls') where
-  -- no job was called
+  -- the nodes are as before, since no job was called
   pub same_nodes : nodes s' ≡ nodes s
   same_nodes =
       let none : b.turn.called ≡ None = b.collected.report.job ∙ ap (called_in s.collector who (Begin (Secure 2))) b.running in
@@ -73,7 +73,7 @@ module _ {V : Type 0} (same : V → V → Bool) (always : Bool) (s : Nodes V) (m
     ];
   }
 
-  -- a writing call that begins for a pinned worker without one leaves the machine intact
+  -- a writing call that an idle pinned worker begins leaves the machine intact
   pub reserved : (op : Op V) → slice_get calls who ≡ Some Idle → (place s.collector who).registered ≡ true → is_some (place s.collector who).word ≡ true → writes op ≡ true → IsIntact same always s ms (set calls who (Reserving op))
   reserved op at reg pin w = exchanged (Reserving op) (λ m here. let x : IsAt Idle (place s.collector who) m = intact.each who Idle m at here in (reg, pin, x.0, x.1, w))
 
@@ -139,7 +139,7 @@ module _ {V : Type 0} (same : V → V → Bool) (always : Bool) (s : Nodes V) (m
     begun : Begins c who (Secure 2) Running s'.collector
     begun = let P : Outcome → Type 0 = λ o. Begins c who (Secure 2) o s'.collector in subst P runs begins
 
-    -- the collector's step leaves a writing call that begins to make its places free, and runs on
+    -- with that step of the collector taken, the writing call begins to make its places free, which runs on
     pub begins_securing : (s2 : Nodes V) (ms' : List (Machine Id V)) (calls' : List (InFlight V)) → s2 ≡ s' → ms' ≡ ms → calls' ≡ set (set calls who Idle) who (Securing op) → BeginsSecuring same always s ms calls who s2 ms' calls'
     begins_securing s2 ms' calls' es em ec =
         let q : calls' ≡ set calls who (Securing op) = ec ∙ set-set calls who Idle (Securing op) in

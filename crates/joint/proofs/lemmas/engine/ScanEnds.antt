@@ -154,13 +154,14 @@ cleared_long {V} ms who = at (slice_get ms who)
     at None = refl
     at (Some m) = by (is_done m.phase)
 
--- a scan has told its end exactly where it is past
+-- whether a scan's report tells its end
 abbrev pub is_end : {V : Type 0} → ScanReport V → Bool
 is_end told.Running = false
 is_end (told.Found place k v) = false
 is_end (told.Done count) = true
 is_end (told.Refused e) = true
 
+-- a scan has told its end exactly where it is past
 abbrev Tells : {V : Type 0} → Swung Id V → Type 0
 Tells u = is_past u.0.stage ≡ is_end u.1
 

@@ -366,7 +366,7 @@ module _ {C V : Type 0} where
       let w : suc jobs + most_left kind t.phase ≤ 64 = omega (arith, y, z) in
       w
 
-  -- and there was one for it
+  -- a node that is to be handed over has a free place in the bag
   pub retiring_room : (kind : Kind V) (n : C) (next : Option C) (p : C) (r : Reply V) (jobs : ℕ) → IsSecured kind (Retire n next p r) jobs → suc jobs ≤ 64
   retiring_room kind n None p r jobs x = let y : jobs + 1 ≤ 64 = x in omega (arith, y)
   retiring_room kind n (Some m) p r jobs x = let y : jobs + 2 ≤ 64 = x in omega (arith, y)

@@ -56,7 +56,7 @@ module _ {P : Type 0} (F : Nodes P) (k : Counts) (kept : IsKept k F) where
     U : IsTally s cell_mark
     U = kept.tallied n s em.was
 
-    -- what can be taken off
+    -- the cell of a node that stands is among those that have a mark
     pub is_inside : n.cell < length k.cell_marks.items
     is_inside = (let a = inside F.collector.store n s em.was in omega (arith, a, kept.wide))
 
@@ -93,7 +93,7 @@ module _ {P : Type 0} (F : Nodes P) (k : Counts) (kept : IsKept k F) where
         omega (arith, e, e0, a, U.size_is))
 
 module _ {P : Type 0} (F F' : Nodes P) (k : Counts) (kept : IsKept k F) (orderly : Orderly F'.collector) where
-  -- where the cells and the charge are as before
+  -- where the cells and the charge are as before, the counts are those of the cells
   pub kept_same : F'.collector.store ≡ F.collector.store → F'.charge ≡ F.charge → F'.base ≡ F.base → IsKept k F'
   kept_same st charge base =
       let e : sizes F'.collector.store ≡ sizes F.collector.store = ap sizes st in
@@ -122,7 +122,7 @@ module _ {P : Type 0} (F F' : Nodes P) (k : Counts) (kept : IsKept k F) (orderly
     T : IsTally s t
     T = kept.tallied n s em.was
 
-    -- where a node goes
+    -- where a node goes, with its charge and its part of the counts, the counts are those of the cells
     pub kept_emptied : (k' : Counts) → k'.standing + 1 ≡ k.standing → F'.charge + size_of t.form ≡ F.charge → F'.base ≡ F.base → k'.cell_marks ≡ k.cell_marks → k'.waiting + (if t.waits then 1 else 0) ≡ k.waiting
         → k'.waiting_bytes + (if t.waits then size_of t.form else 0) ≡ k.waiting_bytes → IsKept k' F'
     kept_emptied k' standing charge base cell_marks count bytes =
@@ -401,7 +401,7 @@ gone_node {P} F G view_is n s st' em =
           ap (λ g. view g (value_at st' (named j))) (em.sets.given (named j) apart) ∙ ap (λ v. view (was_given F.collector.store (named j)) v) (em.sets.others (named j) apart) ∙ ap (λ x. nodes x j) view_is;
     }
 
--- a new node
+-- a new slot under the next name is a new node
 pub new_node : {P : Type 0} (F G : Nodes P) (view_is : F ≡ G) (n : Name) (s : Slot P) (st' : Store (Slot P)) (form : NodeType) (prefix key : List ℕ) (size : ℕ)
     → Fills F.collector.store n s st' → IsNewSlot s form prefix → fits prefix key ≡ true → length prefix ≡ size → NewNode (nodes G) (number n) form key size (heap st')
 new_node {P} F G view_is n s st' form prefix key size fills fresh fit long =

@@ -74,7 +74,7 @@ twice st st1 st2 n a b c x y = record {
 abbrev pub ReplacedSets : Type 0 → Type 0
 ReplacedSets T = (st : Store T) (n : Name) (v : T) → is_some (value_at st n) ≡ true → Sets st n (Some v) (replaced st n.cell v)
 
--- a value that is taken out and put back changed
+-- a value that is taken out and put back changed is altered, and nothing else is
 pub swapped : {T : Type 0} (law : ReplacedSets T) (st : Store T) (n : Name) (old mid new : T) → value_at st n ≡ Some old → Alters st n old new (replaced (replaced st n.cell mid) n.cell new)
 swapped law st n old mid new e =
     let first : Alters st n old mid (replaced st n.cell mid) = replaced_alters st n old mid e (law st n mid (ap is_some e)) in
@@ -95,7 +95,7 @@ same_or m n = elim (cases_eq m.cell n.cell) [
 pub given : {T : Type 0} (st : Store T) (q : Name) (v : T) → value_at st q ≡ Some v → was_given st q ≡ true
 given st q v e = let t : (cell_at st q.cell).turns ≡ q.turn + 1 = (cell_of (cell_at st q.cell) q.turn v e).0 in grind (arith, nat_tests)
 
--- two of them at once
+-- a value altered twice, and between that another once, are exchanged, and nothing else is
 pub exchanged : {T : Type 0} (st st1 st2 st3 : Store T) (m n : Name) (a b mid a' b' : T) → m ≢ n → Alters st m a mid st1 → Alters st1 n b b' st2 → Alters st2 m mid a' st3 → Exchanges st m n a b a' b' st3
 exchanged st st1 st2 st3 m n a b mid a' b' apart x y z =
     let back : n ≢ m = λ e. apart (sym e) in

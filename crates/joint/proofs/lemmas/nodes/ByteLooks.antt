@@ -22,7 +22,7 @@ use Rattle.joint.specs.nodes.Solid.{IsSolid, IsLook}
 use Rattle.joint.specs.nodes.View.{id_number, hung_at, child_at, shape}
 use Rattle.joint.proofs.lemmas.nodes.SlotViews.{rises_entries}
 
--- the places of a form
+-- a form has as many places by the protocol as by its capacity
 pub places_of : (form : NodeType) → places form ≡ capacity_of form
 places_of N4 = refl
 places_of N16 = refl
@@ -50,7 +50,7 @@ module _ {X : Type 0} where
       let all : AllKeys (λ b. b < 256) (map.entries m) = all_found (λ b. b < 256) (map.entries m) (λ b s. bytes b (subst IsSome (sym (get_find m b)) s)) in
       omega (arith, map.len-entries m, few (map.entries m) 0 256 (rises_entries m) (any (map.entries m)) all (omega arith))
 
-  -- and fewer where it lacks one
+  -- a map of bytes that lacks one has fewer than 256
   pub lacking : (m : map.FinMap nat_cmp X) (k : ℕ) (x : X) → ((b : ℕ) → IsSome (map.get m b) → b < 256) → k < 256 → map.get m k ≡ None → map.len m < 256
   lacking m k x bytes small none =
       let grown : map.len (map.insert m k x) ≡ map.len m + 1 = map.len-insert nat_cmp_total m k x ∙ rw none refl in

@@ -106,7 +106,7 @@ module _ {P : Type 0} where
     ]);
   }
 
-  -- what the first child tells of the others
+  -- where the first child is a node, none of the others is a value
   pub names_first : (n : Form Id P) (b : ℕ) (x : Child Id P) (d : Id) → AreAlike n → IsFirst (children_of n) 0 b x → x ≡ Sub d → (k : ℕ) (v : P) → child_at n k ≡ Holds v → ⊥
   names_first n b x d (inl values) one e k v q = values b _ (ap hung_at (one.here ∙ ap Some e))
   names_first n b x d (inr names) one e k v q = names k v q
@@ -119,7 +119,7 @@ module _ {P : Type 0} where
   none_first : (n : Form Id P) → ((b : ℕ) → 0 ≤ b → map.get (children_of n) b ≡ None) → (k d : ℕ) → child_at n k ≡ Below d → ⊥
   none_first n none k d q = let z : Nothing ≡ Below d = sym (ap hung_at (none k (omega arith))) ∙ q in cc z
 
-  -- a child that isn't a name, or isn't a child
+  -- where no child is a value, neither is the first one from a byte on
   pub no_value : (n : Form Id P) (from b : ℕ) (x : Child Id P) (u : P) → ((k : ℕ) (v : P) → child_at n k ≡ Holds v → ⊥) → IsFirst (children_of n) from b x → x ≡ Value u → ⊥
   no_value n from b x u names one e = names b u (ap hung_at (one.here ∙ ap Some e))
 

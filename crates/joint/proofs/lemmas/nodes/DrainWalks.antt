@@ -90,7 +90,7 @@ module _ {V D : Type 0} (drains : D → ℕ → V → D → Type 0) (h : ℕ →
         hung : (c : Id) → child ≡ Sub c → (h1 n).children b ≡ Below (id_number c)
         hung c is = here ∙ ap (λ z. hung_at (Some z)) is
 
-        -- the node at the byte
+        -- the node at the byte is in the tree, and has a longer prefix, of 7 bytes at most
         pub below_in : (c : Id) → child ≡ Sub c → IsNodeIn h1 (id_number c) × (length (h n).prefix < length (h1 (id_number c)).prefix) × (length (h1 (id_number c)).prefix ≤ 7)
         below_in c is =
             let d = node_in.tree.tree.down n b (id_number c) node_in.linked (hung c is) in
@@ -124,7 +124,7 @@ module _ {V D : Type 0} (drains : D → ℕ → V → D → Type 0) (h : ℕ →
                 tree = λ a t l. (let t1 = so.tree a t l in p.tree a t1 (t1.down n b (id_number c) l (hung c is)).linked);
               }
 
-          -- a value at the byte
+          -- once the value at the byte is taken, so is all before the next byte
           pub went_value : (v : V) → child ≡ Value v → (value : V) → (h1 n).children b ≡ Holds value → (h2 : ℕ → Node V) → ChangeGives h1 n b Nothing h2 → (key : ℕ) → key ≡ at b → (after : D) → drains mid key value after
               → TakenSoFar drains h n x (b + 1) before h2 after
           went_value v is value was h2 k key ek after d =
@@ -168,7 +168,7 @@ module _ {V D : Type 0} (drains : D → ℕ → V → D → Type 0) (h : ℕ →
         tree = so.tree;
       }
 
--- from the root on these are all
+-- what is taken at and below the root are all pairs, in ascending order of their keys
 pub all_taken : {V D : Type 0} (drains : D → ℕ → V → D → Type 0) (h : ℕ → Node V) → IsTree h → (before : D) (h' : ℕ → Node V) (after : D) → TakesBelow drains h 0 before h' after → (m : Pairs V) → IsMapOf h m → Drained drains before (map.entries m) after
 all_taken drains h t before h' after p m st =
     let d : p.depth ≡ 0 = p.region.depth_is ∙ ap length t.tree.empty in

@@ -143,7 +143,7 @@ module _ {V : Type 0} (h : ℕ → Node V) (n : ℕ) (i : IsNodeIn h n) (x : Reg
       })
 
 module _ {V D : Type 0} (drains : D → ℕ → V → D → Type 0) where
-  -- none stands from one key to before another
+  -- where no pair stands from a key to before another, a drainer that takes nothing took them all
   pub takes_none : (h : ℕ → Node V) (from to : ℕ) (before : D) → from ≤ to → to ≤ 2 ^ 64 → NoneStand h from to → Takes drains h from before h to before
   takes_none h from to before order small none = record {
     rest = λ q lo s. refl;
@@ -164,7 +164,7 @@ module _ {V D : Type 0} (drains : D → ℕ → V → D → Type 0) where
     drained = λ m agrees final d. x.drained m agrees final (y.drained m (λ q lo s. agrees q (omega (arith, lo, l)) s ∙ sym (x.rest q lo s)) final d);
   }
 
-  -- it has all pairs
+  -- who took the pairs from the first key to the last took all of the map
   pub takes_all : (h h' : ℕ → Node V) (before after : D) → Takes drains h 0 before h' (2 ^ 64) after → (m : Pairs V) → IsMapOf h m → Drained drains before (map.entries m) after
   takes_all h h' before after x m st =
       let Q : List (ℕ × V) → Type 0 = λ es. Drained drains before es after in

@@ -32,7 +32,7 @@ bare_view {P} g (Some s) e b = by s.node e where
   by None e = refl
   by (Some n) e = ap (λ m. hung_at (map.get m b)) (map.empty_of_len (children_of n.value) e) ∙ ap hung_at (map.get-empty nat_cmp b)
 
--- it takes over from itself
+-- where a node may take over from itself, the nodes are as such a take-over gives them
 pub same_gives : {P : Type 0} (F : Nodes P) (m n : ℕ) → m ≡ n → TakesOver (nodes F m) (nodes F n) → TakeOverGives (nodes F) m n (nodes F)
 same_gives F m n q t = subst (λ k. TakeOverGives (nodes F) m k (nodes F)) q (itself (subst (λ k. TakesOver (nodes F m) (nodes F k)) (sym q) t)) where
   itself : TakesOver (nodes F m) (nodes F m) → TakeOverGives (nodes F) m m (nodes F)

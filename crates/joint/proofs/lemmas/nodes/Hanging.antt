@@ -162,7 +162,7 @@ module _ {P : Type 0} where
   hangs_slot s n n' b x e solid may becomes =
       subst (λ o. Hangs (slot_with s o) b x (record { node = Some (with_value n n'); word = s.word })) (sym e) (hangs_box n s.word n' b x solid (room_of s n b x s.word e may) becomes)
 
-  -- a value goes out
+  -- where a slot's node holds a value at a byte, so does the node in its box
   pub holds_in : (s : Slot P) (n : Box (Form Id P) Global) (b : ℕ) → s.node ≡ Some n → (v : P) × ((node_of s).children b ≡ Holds v) → (v : P) × (child_at n.value b ≡ Holds v)
   holds_in s n b e h = (h.0, sym (ap (λ o. child_in o b) e) ∙ h.1)
 

@@ -150,7 +150,7 @@ module _ {V : Type 0} (h : ℕ → Node V) (n : ℕ) (i : IsNodeIn h n) (x : Reg
       before : (q : ℕ) → from ≤ q → q < b → (h n).children q ≡ Nothing
       before q lo hi = hangs q None (first.before q lo hi)
 
-      -- the node at the byte
+      -- the node at the byte is in the tree, and has a longer prefix, of 7 bytes at most
       pub below_in : (c : Id) → child ≡ Sub c → IsNodeIn h (id_number c) × (length (h n).prefix < length (h (id_number c)).prefix) × (length (h (id_number c)).prefix ≤ 7)
       below_in c is =
           let d = t.down n b (id_number c) i.linked (here ∙ ap (λ z. hung_at (Some z)) is) in
@@ -178,7 +178,7 @@ module _ {V : Type 0} (h : ℕ → Node V) (n : ℕ) (i : IsNodeIn h n) (x : Reg
                   gap m (end_of z) (at (b + 1)) new hi (λ q f g. beside q (omega (arith, f, lo)) g (inr f)) (p.keys m st first_part);
             }
 
-        -- a value at the byte
+        -- once the key of the value at the byte is put, so are all before the next byte
         pub put_key : (v : V) (key : ℕ) → child ≡ Value v → key ≡ at b → PutSoFar h n x (b + 1) old (mid ++ key ∷ [])
         put_key v key is ek = record {
           bound = omega (arith, small);
@@ -219,7 +219,7 @@ module _ {V : Type 0} (h : ℕ → Node V) (n : ℕ) (i : IsNodeIn h n) (x : Reg
           subst P (whole (h n).prefix x.base x.depth r) (past m st from 256 new so.bound (omega arith) (λ q lo hi. hangs q None (none q lo)) (so.keys m st k));
     }
 
--- from the root on these are all
+-- what is put at and below the root are all keys below 2 ^ 64
 pub all_put : {V : Type 0} (h : ℕ → Node V) → IsTree h → (ks : List ℕ) → PutsKeys h 0 [] ks → (m : Pairs V) → IsMapOf h m → AreKeysBelow m (2 ^ 64) ks
 all_put h t ks p m st =
     let d : p.depth ≡ 0 = p.region.depth_is ∙ ap length t.tree.empty in

@@ -25,7 +25,7 @@ drop_end [] (suc k) l = refl
 drop_end (x ∷ es) zero l = absurd (omega (arith, l))
 drop_end (x ∷ es) (suc k) l = drop_end es k (omega (arith, l))
 
--- the first name from a child on
+-- the first name from a child on that is a node is its own
 pub name_here : {P : Type 0} (es : List (ℕ × Child Id P)) (k left b : ℕ) (c : Child Id P) (id : Id) (r : Option Name) → Some (b, c) ≡ slice_get es k → c ≡ Sub id → left ≡ 0
     → slice_get (names_in (drop k es)) left ≡ r → Some id.name ≡ r
 name_here es k left b c id r q e z v =

@@ -80,7 +80,7 @@ module _ {P : Type 0} (F : Nodes P) (c' : State (Slot P) (Unit {0})) (beside : c
       ∙ ap (λ x. frame (with_collector F (with_store F.collector (record F.collector.store { turn_max = x })))) t
 
   module _ (n : Name) (s s' : Slot P) (alters : Alters F.collector.store n s s' c'.store) (k : Counts) (kept : IsKept k F) where
-    -- where its size and its mark are as before
+    -- where its size and its mark are as before, the counts are those of the cells
     kept_altered : size s' ≡ size s → s'.word.retired ≡ s.word.retired → IsWhole s'.node → IsKept k (with_collector F c')
     kept_altered sz mark whole =
         let e0 : sizes c'.store + size s ≡ sizes F.collector.store + size s' = alters.sums size in
@@ -149,11 +149,11 @@ module _ {P : Type 0} (F G : Nodes P) (view_is : F ≡ G) (n : Name) where
     after_in : nodes (with_collector F c') (number n) ≡ node_of s'
     after_in = node_new F.collector.store n s s' c'.store altered_in
 
-    -- the node is told by the one before
+    -- where the slot's node is told by the one before, so is the node in the forest, and no other changes
     pub same_in : (f : Node P → Node P) → node_of s' ≡ f (node_of s) → SameBut (nodes G) (number n) (f (nodes G (number n))) (nodes (with_collector F c'))
     same_in f e = record { after = after_in ∙ e ∙ ap f (sym (node_in s was)); others = others_in }
 
-    -- where its size and its mark are as before
+    -- where its size and its mark are as before, the counts are those of the cells
     pub kept_in : (k : Counts) → IsKept k F → size s' ≡ size s → s'.word.retired ≡ s.word.retired → IsWhole s'.node → IsKept k (with_collector F c')
     kept_in = kept_altered F c' beside n s s' altered_in
 

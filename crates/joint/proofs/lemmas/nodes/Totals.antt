@@ -36,7 +36,7 @@ module _ {T : Type 0} where
   bound_in f most h None = omega arith
   bound_in f most h (Some v) = h v
 
-  -- no more than the greatest for each cell
+  -- a sum over cells is no more than the greatest that it adds, for each cell
   pub total_bound : (f : T → ℕ) (most : ℕ) → ((v : T) → f v ≤ most) → (cs : List (Cell T)) → sum_by (of_cell f) cs ≤ most * length cs
   total_bound f most h [] = omega arith
   total_bound f most h (c ∷ cs) = (

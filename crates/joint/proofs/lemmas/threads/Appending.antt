@@ -178,7 +178,7 @@ module _ (s s' : World ℕ) (who : ℕ) (h : Holds nat_eq true s) where
     went : IsStep nat_eq true s go r s' → Appends
     went x = either (finds_journal_full s who (Go noise)) x.does
 
--- a step of a call
+-- a step of a call that may be taken appends nothing, or the entry of that call
 pub steps_on : (s s' : World ℕ) (step : Step ℕ) (o : Op ℕ) (given : Option (Option ℕ)) (r : Report ℕ) → Holds nat_eq true s → IsStep nat_eq true s step r s' → MayStep s step.worker o given step.event
     → (kept : Option (Entry ℕ)) × Appended s s' step.worker o given step.event kept
 steps_on s s' step o given r h x may = by step.event x may where

@@ -16,7 +16,7 @@ module _ (watched : Entry ℕ → Bool) where
   one_more [] e = omega arith
   one_more (x ∷ xs) e = let rest = one_more xs e in omega (arith, rest)
 
-  -- a step that appends nothing, a look-up, or a writing call
+  -- a step that appends nothing leaves the number of watched entries
   pub none_watched : (xs ys : List (Entry ℕ)) (o : Option (Entry ℕ)) → ys ≡ xs ++ in_list o → o ≡ None → count_watched watched ys ≡ count_watched watched xs
   none_watched xs ys o q n = ap (count_watched watched) (q ∙ ap (λ y. xs ++ in_list y) n ∙ append-nil xs)
 
@@ -41,7 +41,7 @@ module _ (watched : Entry ℕ → Bool) where
   count_bounded [] = omega arith
   count_bounded (x ∷ xs) = let rest = count_bounded xs in let one = one_or_none (is_watched watched x) in omega (arith, rest, one)
 
--- what holds of a machine with so many places
+-- where a journal has places, it is legal and replays to the pairs that stand
 pub journaled : (s : World ℕ) → Holds nat_eq true s → HasPlaces s.log.places → IsJournaled s
 journaled s h p = record {
   places = p;

@@ -20,7 +20,7 @@ use Rattle.joint.specs.threads.Threads.{End, Serves, computed, either_words, exc
 use Rattle.joint.specs.threads.Writing.{Counts}
 use Rattle.joint.proofs.lemmas.nodes.NodesInvariant.{some_injective}
 
--- a call by the index's own tokens, and another
+-- a call by the index's own tokens is served as it does
 pub served : {B : Type 0} (b : Bool) (does : Result B Refusal → Type 0) (r : Result B Refusal) → b ≡ true → does r → Serves b does r
 served true does r q d = d
 served false does r q d = absurd (false≢true q)
@@ -30,7 +30,7 @@ pub foreign : {B : Type 0} (b : Bool) (does : Result B Refusal → Type 0) → b
 foreign true does q = absurd (false≢true (sym q))
 foreign false does q = refl
 
--- whatever the answer's type
+-- what holds of a refusal holds of it whatever the answer's type
 pub words_refused : {B : Type 0} (of : ℕ → B) (P : Refusal → Type 0) (r : Result (Option ℕ) Refusal) → IfErr r P → IfErr (words of r) P
 words_refused of P (Ok v) x = x
 words_refused of P (Err e) x = x

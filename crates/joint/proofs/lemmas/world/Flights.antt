@@ -54,7 +54,7 @@ module _ {V : Type 0} where
   ends_stays fs m op (done.Empty b) l fs' x = absurd x
   ends_stays fs m op (done.Stats stats) l fs' x = absurd x
 
-  -- a call that may hand a node over, and has not begun
+  -- a writing call that has not begun is watched as one that has yet to take effect, and hasn't asked
   pub pending : (op : Point V) → writes op ≡ true → flight (begun root op) ≡ Pending (parts op).0 (parts op).1 (parts op).2 Unasked
   pending (point.Get k) p = absurd (cc p)
   pending (point.Insert k v) p = refl
@@ -126,7 +126,7 @@ module _ {V : Type 0} where
     following ks ms fs (suc i) (omega (arith, l)) (λ j x y a b. let P : ℕ → Type 0 = λ n. IsInFlight x y (fs n) in subst P (omega arith) (each (suc j) x y a b)) (λ j x y a b. rest (suc j) x y a b),
   )
 
-  -- what is watched of one machine
+  -- where a list follows the machines, each machine is watched as its place of the list says
   pub followed : (ms : List (Machine Id V)) (fs : List (Flight V)) (i : ℕ) (m : Machine Id V) (f : Flight V) → Following ms fs → slice_get ms i ≡ Some m → slice_get fs i ≡ Some f → Follows m f
   followed [] [] i m f x a b = absurd cc
   followed [] (g ∷ gs) i m f x a b = absurd x

@@ -138,7 +138,7 @@ module _ {V : Type 0} (same : V → V → Bool) (always : Bool) (s s' : World V)
       writes_room : (d : told.decided ≡ true) → 0 < s.log.places → looks_up (took d).entry.call ≡ false → room ≡ true
       writes_room d p l = room_for s s' w h.0.machines apart ((took d).had ∙ ap not l) (took d).has h.2.room (h.2.reserved p) (reserved p)
 
-      -- of each writing call
+      -- where a journal is kept, so is the entry of each writing call that takes effect
       pub writes_kept : 0 < s.log.places → (x : Entry V) → event_maps.entry ≡ Some x → looks_up x.call ≡ false → is_some kept ≡ true
       writes_kept p x q l = elim (cases_Bool told.decided) [
         | inl d ↦ (

@@ -30,7 +30,7 @@ use Rattle.joint.specs.Reports.{target}
 use Rattle.joint.specs.world.World.{value_of, IsOnKey, IsRequestOf, IsQuestionOf, IsAsked}
 
 module _ {V : Type 0} where
-  -- whether a call that is watched so asks, has yet to take effect and may write then, or has which reply
+  -- whether a question was asked, and has no answer yet
   abbrev pub is_asked : Question V → Bool
   is_asked (Asked found) = true
   is_asked _ = false

@@ -40,7 +40,7 @@ use Rattle.joint.specs.engine.Engine.{World}
 use Rattle.joint.proofs.lemmas.nodes.Listing.{pairs_append, gives, given, once, nodes_once, counted_nodes, weighed_nodes, bytes_are, listed, unlisted}
 use Rattle.joint.proofs.lemmas.world.Whereabouts.{gone_waits, somewhere}
 
--- tests that what doesn't stand fails
+-- what doesn't stand doesn't wait
 pub none_waits : (P : Type 0) (g : Bool) → is_waiting (view {P = P} g None) ≡ false
 none_waits P g = refl
 
@@ -69,7 +69,7 @@ of_both true false a b = refl
 of_both true true a b = absurd (cc b)
 of_both false d a b = absurd (cc a)
 
--- the nodes that stand are listed
+-- the list of the nodes that stand has each of them once, and no other
 pub standing_listed : {V : Type 0} (F : Nodes V) → IsListOf (λ n. Stands (nodes F n)) (standing_nodes F)
 standing_listed {V} F = record {
   once = nodes_once is_standing (λ v. true) (none_stands V) some_stands F;
@@ -81,7 +81,7 @@ standing_listed {V} F = record {
 
 -- as many as are counted in the cells, and as many bytes
 module _ {P : Type 0} (F : Nodes P) (k : Counts) (kept : IsKept k F) where
-  -- and charged
+  -- the charge is the base and the bytes of the nodes that stand
   pub standing_weight : F.charge ≡ F.base + sum_by (bytes_of F) (standing_nodes F)
   standing_weight =
       let c : F.charge ≡ F.base + sizes F.collector.store = kept.charged in
