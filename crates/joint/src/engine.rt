@@ -1,9 +1,10 @@
 //! The calls on the tree and the collector, one step at a time.
 //!
-//! A worker has one call `in_flight` at most; a `step` begins one or goes on with it, by its event. A writing call reserves
-//! its place in a journal, secures places of its worker's bag for the nodes that it may hand over, and then walks the tree; a
-//! reading one walks at once. `census` and `waiting` count the pairs and what calls have taken out; `journaling` and `request`
-//! tell what a journal wants of a call and what its worker asked for; `close` ends them all.
+//! A worker has one call `in_flight` at most. Each event has its own function of `step`: `step_in` takes a worker in,
+//! `step_begin` begins a call, and `step_on` goes on with it. A writing call reserves its place in a journal, secures
+//! places of its worker's bag for the nodes that it may hand over, and then walks the tree; a reading one walks at once.
+//! `census` and `waiting` count the pairs and what calls have taken out; `journaling` and `request` tell what a journal
+//! wants of a call and what its worker asked for; `close` ends them all.
 
 pub(crate) mod census;
 pub(crate) mod close;

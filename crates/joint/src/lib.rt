@@ -43,7 +43,7 @@ pub use calls::promises::keeps_promises;
 pub use calls::replies::pairs_stand;
 pub use calls::run_laws::{
     alone_by_reports, answers_wanted, calls_answer, calls_end, guards_keep, locks_apart,
-    nodes_leave, readers_refused, runs_journal,
+    nodes_filled, nodes_leave, readers_refused, runs_journal,
 };
 pub use id::Id;
 pub use limits::Limits;

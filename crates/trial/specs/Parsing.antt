@@ -64,15 +64,17 @@ worker_command_of w (Key key.Round ∷ Number n ∷ []) = counted n (command.Rou
 worker_command_of w (Key key.Fail ∷ []) = Some (command.Fail w)
 worker_command_of w words = option_map (command.Call w) (call_of words)
 
--- an option's number where its keyword stands first, and the words after it
+-- the number of the limit where its keyword stands first, and the words after it
 abbrev pub limit_of : List Word → Option ℕ × List Word
 limit_of (Key key.Limit ∷ Number n ∷ words) = (Some n, words)
 limit_of words = (None, words)
 
+-- the same of the greatest version
 abbrev pub version_of : List Word → Option ℕ × List Word
 version_of (Key key.Version ∷ Number n ∷ words) = (Some n, words)
 version_of words = (None, words)
 
+-- the same of the journal's places
 abbrev pub journal_of : List Word → Option ℕ × List Word
 journal_of (Key key.Journal ∷ Number n ∷ words) = (Some n, words)
 journal_of words = (None, words)

@@ -61,11 +61,12 @@ module _ {P : Type 0} where
   IsLeaf (Inner n) = ⊥
   IsLeaf (Leaf n) = Unit {0}
 
-  -- what an inner node has under a byte, and what a leaf has
+  -- what an inner node has under a byte
   abbrev pub inner_get : Slot P → ℕ → Option (Child ℕ (Lone P))
   inner_get (Inner n) byte = map.get (children_of n) byte
   inner_get (Leaf n) byte = None
 
+  -- what a leaf has under a byte
   abbrev pub leaf_get : Slot P → ℕ → Option (Child ℕ P)
   leaf_get (Inner n) byte = None
   leaf_get (Leaf n) byte = map.get (children_of n) byte

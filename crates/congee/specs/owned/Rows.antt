@@ -40,6 +40,7 @@ module _ {P : Type 0} where
     pub from : ℕ
     pub lists : Lists entries from list
 
+  -- a row tells its entries: those from a byte on as a list, or those of a wide form whole
   abbrev pub SeesRow : Nodes P → Stem → ℕ → Row P → Type 0
   SeesRow s stem from (Few list) = (seen : SeesList s stem list.now) × (seen.from ≡ from)
   SeesRow s stem from (Wide form) = SeesEntries s stem form.now

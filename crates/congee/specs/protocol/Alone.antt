@@ -159,12 +159,13 @@ steps_next None k = 0
 steps_next (Some c) k = k
 
 module _ {V : Type 0} where
-  -- the nodes, and the pairs, at and below what hangs at a byte
+  -- the nodes at and below what hangs at a byte
   abbrev pub nodes_at : (ℕ → ℕ) → Hung V → ℕ
   nodes_at go Nothing = 0
   nodes_at go (Below c) = go c
   nodes_at go (Holds v) = 0
 
+  -- the pairs at and below what hangs at a byte
   abbrev pub pairs_at : (ℕ → ℕ) → Hung V → ℕ
   pairs_at go Nothing = 0
   pairs_at go (Below c) = go c

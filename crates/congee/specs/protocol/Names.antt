@@ -23,7 +23,7 @@ use Rattle.congee.specs.Notes.{Note, Tree, LockWords}
 use Rattle.congee.specs.protocol.Protocol.{Known}
 use Rattle.congee.specs.protocol.SweepKnown.{names_sweep}
 
--- the node above, a node with its version, a made leaf, where there is one
+-- the node above, where there is one
 abbrev pub name_above : {C : Type 0} → (C → ℕ) → Option (Parent C) → List ℕ
 name_above number None = []
 name_above number (Some p) = number p.seat.node ∷ []
@@ -33,10 +33,12 @@ abbrev pub names_over : {C : Type 0} → (C → ℕ) → Option (Over C) → Lis
 names_over number None = []
 names_over number (Some u) = number u.near.seat.node ∷ name_above number u.far
 
+-- a node with its version, where there is one
 abbrev pub name_seated : {C : Type 0} → (C → ℕ) → Option (Stamp C) → List ℕ
 name_seated number None = []
 name_seated number (Some p) = number p.node ∷ []
 
+-- a leaf that was made, where there is one
 abbrev pub name_made : {C : Type 0} → (C → ℕ) → Option C → List ℕ
 name_made number None = []
 name_made number (Some c) = number c ∷ []

@@ -58,19 +58,23 @@ Mark = Unit {0}
 abbrev pub put : {V : Type 0} → (ℕ → Node V) → ℕ → Node V → ℕ → Node V
 put h n x m = cond (m == n) x (h m)
 
--- locked; unlocked, with the next version; marked; handed over; given back
+-- a node is locked
 abbrev pub lock : {V : Type 0} → (ℕ → Node V) → ℕ → ℕ → Node V
 lock h n = put h n (record (h n) { locked = true })
 
+-- it is unlocked, with the next version
 abbrev pub free : {V : Type 0} → (ℕ → Node V) → ℕ → ℕ → Node V
 free h n = put h n (record (h n) { version = (h n).version + 1; locked = false })
 
+-- it is marked obsolete
 abbrev pub mark : {V : Type 0} → (ℕ → Node V) → ℕ → ℕ → Node V
 mark h n = put h n (record (h n) { obsolete = true })
 
+-- it is handed over
 abbrev pub hand : {V : Type 0} → (ℕ → Node V) → ℕ → ℕ → Node V
 hand h n = put h n (record (h n) { retired = true })
 
+-- it is given back
 abbrev pub back : {V : Type 0} → (ℕ → Node V) → ℕ → ℕ → Node V
 back h n = put h n (record (h n) { destroyed = true; locked = false })
 
@@ -82,10 +86,11 @@ with_child n b x = record n { children = λ c. cond (c == b) x (n.children c); c
 abbrev pub hang : {V : Type 0} → (ℕ → Node V) → ℕ → ℕ → Hung V → ℕ → Node V
 hang h n b x = put h n (with_child (h n) b x)
 
--- node c has the children of node m; node m has none any more
+-- node c has the children of node m
 abbrev pub copy : {V : Type 0} → (ℕ → Node V) → ℕ → ℕ → ℕ → Node V
 copy h m c = put h c (record (h c) { children = (h m).children; count = (h m).count })
 
+-- node m has no children any more
 abbrev pub clear : {V : Type 0} → (ℕ → Node V) → ℕ → ℕ → Node V
 clear h m = put h m (record (h m) { children = λ b. Nothing; count = 0 })
 
@@ -122,10 +127,11 @@ unmarked child.Blank = child.Blank
 unmarked (child.Node m) = child.Node 0
 unmarked (child.Value v) = child.Value v
 
--- what a read finds at a node as it is, and at a changed one
+-- what a read finds at a node as it is
 abbrev pub looks : {V : Type 0} → Node V → List ℕ → Seen ℕ V
 looks n key = record { child = child_of (child_for n key); byte = slice_index key (length n.prefix); full = n.count == n.capacity; count = n.count }
 
+-- what a read finds at a changed node
 abbrev pub told_of : {V : Type 0} → ℕ → Option (Seen Mark V) → Seen ℕ V
 told_of byte None = record { child = child.Blank; byte = byte; full = false; count = 0 }
 told_of byte (Some x) = record { child = unmarked x.child; byte = byte; full = x.full; count = x.count }

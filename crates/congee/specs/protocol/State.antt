@@ -23,6 +23,7 @@ abbrev pub is_past : {C V : Type 0} → Stage C V → Bool
 is_past Over = true
 is_past _ = false
 
+-- the call is a scan that has told its end
 abbrev pub is_done : {C V : Type 0} → Phase C V → Bool
 is_done (Sweep s) = is_past s.stage
 is_done _ = false

@@ -46,26 +46,31 @@ use Rattle.congee.specs.declared.forms.prefix.TheConstants.{MAX_PREFIX_LEN}
 abbrev pub next_phase_of : {C V : Type 0} → Phase C V → Move V → NextPhase C V
 next_phase_of s d = record { phase = s; report = d }
 
--- what a step leaves: it goes on, begins anew, answers in this step, ends with an answer given before, is refused,
--- takes effect and goes on, or asks
+-- what a step leaves that goes on, and decides nothing
 abbrev pub quiet : {C V : Type 0} → Phase C V → NextPhase C V
 quiet s = record { phase = s; report = record { decided = false; skipped = false; outcome = Running } }
 
+-- what one leaves that begins anew from the root
 abbrev pub again : {C V : Type 0} → C → NextPhase C V
 again root = quiet (Version None root)
 
+-- what one leaves that takes effect, and is done with this reply
 abbrev pub answered : {C V : Type 0} → Reply V → NextPhase C V
 answered r = record { phase = Ended; report = record { decided = true; skipped = false; outcome = Done r } }
 
+-- what one leaves that is done with a reply given before
 abbrev pub finished : {C V : Type 0} → Reply V → NextPhase C V
 finished r = record { phase = Ended; report = record { decided = false; skipped = false; outcome = Done r } }
 
+-- what one leaves that is refused
 abbrev pub refused : {C V : Type 0} → Refusal → NextPhase C V
 refused e = record { phase = Ended; report = record { decided = false; skipped = false; outcome = Refused e } }
 
+-- what one leaves that takes effect, and goes on
 abbrev pub decided : {C V : Type 0} → Phase C V → NextPhase C V
 decided s = record { phase = s; report = record { decided = true; skipped = false; outcome = Running } }
 
+-- what one leaves that asks the closure about what stands at the key
 abbrev pub asking : {C V : Type 0} → Phase C V → Option V → NextPhase C V
 asking s o = record { phase = s; report = record { decided = false; skipped = false; outcome = Asks o } }
 
@@ -149,10 +154,11 @@ after_read root (Some u) at (Differs common byte) = quiet (CheckMiss u.near at c
 after_read root above at (Fits depth form s) = quiet (Check (record { above = above; at = at; depth = depth; byte = s.byte; count = s.count; full = s.full; form = form }) s.child)
 after_read root above at Uncopied = quiet (CheckUncopied at)
 
--- a child is followed; an insertion first checks the node above
+-- the two nodes above a child that is followed
 abbrev pub below : {C : Type 0} → Site C → Over C
 below s = record { near = here_of s; far = near_of s.above }
 
+-- a child is followed; an insertion first checks the node above
 abbrev pub down : {C V : Type 0} → Bool → Site C → Option (Over C) → C → NextPhase C V
 down false s above c = quiet (Version (Some (below s)) c)
 down true s None c = quiet (Version (Some (below s)) c)

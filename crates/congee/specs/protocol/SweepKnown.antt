@@ -76,10 +76,11 @@ names_sweep_at number s stage.Over = []
 abbrev pub names_sweep : {C V : Type 0} → (C → ℕ) → Sweep C V → List ℕ
 names_sweep number s = names_sweep_at number s s.stage
 
--- the first number past the keys below a node, and the least key that a node on the way has yet to look at
+-- the first number past the keys below a node
 abbrev pub end_of : Region → ℕ
 end_of x = x.base + span x.depth
 
+-- the least key that a node on the way has yet to look at
 abbrev pub start_of : {C : Type 0} → Rung C → ℕ
 start_of r = start_at r.region.base r.region.depth r.from
 

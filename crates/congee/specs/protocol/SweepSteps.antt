@@ -29,10 +29,11 @@ whole = record { base = 0; depth = 0 }
 abbrev pub is_outside : ℕ → ℕ → Region → Bool
 is_outside start last x = cond (ltb last x.base) true (cond (ltb x.base start) (ltb 255 ((start - x.base) / width x.depth)) false)
 
--- the least byte, and the greatest, that a key of the range has after the prefix
+-- the least byte that a key of the range has after the prefix
 abbrev pub first_byte : ℕ → Region → ℕ
 first_byte start x = cond (ltb x.base start) (cond (ltb 255 ((start - x.base) / width x.depth)) 255 ((start - x.base) / width x.depth)) 0
 
+-- the greatest byte that a key of the range has after the prefix
 abbrev pub last_byte : ℕ → Region → ℕ
 last_byte last x = cond (ltb 255 ((last - x.base) / width x.depth)) 255 ((last - x.base) / width x.depth)
 

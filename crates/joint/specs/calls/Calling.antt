@@ -41,11 +41,12 @@ abbrev pub last_of : {V : Type 0} → List (Report V) → Option (Report V)
 last_of [] = None
 last_of (r ∷ rs) = Some (last_or r rs)
 
--- the caller's places after a pair that is found is written to its own, and after these reports
+-- the caller's places after a pair that is found is written to its own
 abbrev pub put : {V : Type 0} → Outcome V → List (ℕ × V) → List (ℕ × V)
 put (Found place key value) places = slice_set places place (key, value)
 put _ places = places
 
+-- the caller's places after these reports
 abbrev pub put_all : {V : Type 0} → List (Report V) → List (ℕ × V) → List (ℕ × V)
 put_all [] places = places
 put_all (r ∷ rs) places = put_all rs (put r.outcome places)

@@ -10,11 +10,12 @@ use Rattle.joint.specs.declared.steps.Outcome.TheVariants.{Running, Found, Done}
 use Rattle.joint.specs.Reports.{goes_on, range_of}
 use Rattle.joint.specs.world.MapSteps.{Line}
 
--- whether the line is a further step of the worker's call in flight
+-- whether an event is a further step of a call in flight
 abbrev pub is_go : {V : Type 0} → Event V → Bool
 is_go (Go noise) = true
 is_go _ = false
 
+-- whether a line is a further step of this worker's call in flight
 abbrev pub goes : {V : Type 0} → ℕ → Line V → Bool
 goes w l = (l.step.worker == w) && is_go l.step.event
 

@@ -168,7 +168,7 @@ EventMap same fs m (Go noise) l fs' = GoMap same fs (fs l.step.worker) m noise.a
 abbrev pub MapStep : {V : Type 0} → (V → V → Bool) → Flights V → Pairs V → Line V → Flights V → Type 0
 MapStep same fs m l fs' = EventMap same fs m l.step.event l fs'
 
--- it keeps that of each writing call that took effect
+-- whether the call of an entry is a look-up
 abbrev pub looks_up : {V : Type 0} → Entered V → Bool
 looks_up (entered.Get k) = true
 looks_up _ = false

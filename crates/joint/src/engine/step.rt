@@ -1,4 +1,4 @@
-//! One step of the machine, by its event.
+//! One step of the machine: `step_in` for a registration, `step_begin` for a begin, `step_on` for a further step of a call.
 
 ghost use Rattle.std.specs.Prelude.{◌≡◌, ◌<◌, Some, length, slice_get, true, false};
 ghost use Rattle.judge.specs.Answer.{Pairs};

@@ -379,12 +379,14 @@ module _ {V : Type 0} (same : V → V → Bool) (always : Bool) (laws : CallLaws
   taken_front s (suc n) [] x = tt
   taken_front s (suc n) (t ∷ ts) x = (x.0, taken_front t.after n ts x.1)
 
+  -- a call that begins while no other holds a lock isn't in flight after so many steps of its own alone
   pub ends_here : (s : World V) (t : Taken V) (ts : List (Taken V)) (w : ℕ) (o : Op V) → Holds same always s → AreTaken same always s (t ∷ ts) → t.step ≡ record { worker = w; event = Begin o } → OthersUnlocked s w → AreNext w t.after ts → AllInFlight (t ∷ ts) → length (t ∷ ts) < steps_alone s o
   ends_here s t ts w o h x e free next on =
       let f = first_on s t w o h x.0 e free on.0 in
       let r = steps_end t.after ts w f.0.0 x.0.holds x.1 f.1 next on.1 f.0.1 in
       let k = f.0.2 in omega (arith, r, k)
 
+  -- so ends each call that begins in a run
   pub all_end_alone : (s : World V) (ts : List (Taken V)) → Holds same always s → AreTaken same always s ts → AllEndAlone s ts
   all_end_alone s [] h x = tt
   all_end_alone s (t ∷ ts) h x = ((λ w n o e free next on. ends_here s t (take n ts) w o h (x.0, taken_front t.after n ts x.1) e free next on), all_end_alone t.after ts x.0.holds x.1)

@@ -200,6 +200,7 @@ module _ {V : Type 0} (same : V → V → Bool) (always : Bool) where
         let m : length qs ≡ length ts = length-map ts (λ (y : Taken V). y.report) in
         omega (arith, short, n, m, le, long)
 
+    -- a whole call that is given that many steps while no other holds a lock ends, or wants an answer
     pub call_ends : (s : World V) (w : ℕ) (o : Op V) (most : ℕ) (places : List (ℕ × V)) (result : Option (Report V)) (places' : List (ℕ × V)) (s' : World V) → Holds same always s → IsCalled same always s w o most places result places' s' → CallEndsAlone s w o most result
     call_ends s w o most places result places' s' h x free le r is = elim (cases_lt (length x.reports) most) [
       | inl l ↦ x.stops r is l

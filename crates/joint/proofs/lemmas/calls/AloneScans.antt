@@ -68,6 +68,7 @@ module _ {V : Type 0} (same : V → V → Bool) (always : Bool) (fs : Flights V)
   abbrev pub Watches : List (ℕ × V) → Flight V → Type 0
   Watches places f = ((f ≡ Unbegun from to many) × (places ≡ [])) ⊎ ((states : List (Pairs V)) × (f ≡ Scanning from to many states places) × AllOne m states)
 
+  -- the scan is in flight, with these pairs told for its places, and the pairs of the map stand
   pub record InScan (places : List (ℕ × V)) (s : World V) : Type 0 where
     pub free : fs w ≡ Over
     pub flight : Flight V
@@ -75,10 +76,12 @@ module _ {V : Type 0} (same : V → V → Bool) (always : Bool) (fs : Flights V)
     pub in_flight : AreInFlight s (with_flight fs w flight)
     pub stand : IsMapOf (nodes s.forest) m
 
+  -- the scan is done: its places have what a scan promises, and the pairs and the other calls stay
   abbrev pub EndsWith : List (ℕ × V) → Answer V → World V → Type 0
   EndsWith places (done.Scanned count) s = HasScanned start end size count m places × KeepsAll fs m s
   EndsWith places _ s = ⊥
 
+  -- how the scan stands after a step that told this, with these pairs told for its places
   abbrev pub Sweeps : List (ℕ × V) → Outcome V → World V → Type 0
   Sweeps places Running s = InScan places s
   Sweeps places (Found place key value) s = InScan places s
@@ -102,6 +105,7 @@ module _ {V : Type 0} (same : V → V → Bool) (always : Bool) (fs : Flights V)
   done_keeps places (done.Empty b) s x = absurd x
   done_keeps places (done.Stats stats) s x = absurd x
 
+  -- a scan that stands so plays as a scan on the map does
   pub scan_plays : (places : List (ℕ × V)) (said : Outcome V) (s : World V) → Sweeps places said s → PlaysScan fs m w said s
   scan_plays places Running s x = scanning_of places s x
   scan_plays places (Found place key value) s x = scanning_of places s x
@@ -216,7 +220,7 @@ module _ {V : Type 0} (same : V → V → Bool) (always : Bool) (fs : Flights V)
     begun_so (Found place key value) is z = in_flight z
     begun_so (Registered n) is z = in_flight z
 
-  -- a whole scan
+  -- a scan that no other worker's step comes between stands so after its steps, from its begin on
   pub sweeps : (op : Op V) (asked : Point V) (s : World V) (first : Taken V) (more : List (Taken V)) → target op ≡ target.Tree asked → range_of asked ≡ Some (start, end, size) → flight (begun root asked) ≡ Unbegun from to many → Holds same always s → KeepsAll fs m s
       → IsStep same always s (begin_of w op) first.report first.after → AreTaken same always first.after more → AllGoOn w first.report.outcome more
       → Sweeps (told_places [] more) (told_after first.report.outcome more) (after_all first.after more)

@@ -268,6 +268,7 @@ module _ {V : Type 0} (same : V → V → Bool) (always : Bool) where
       stays true c r = refl
       stays false c r = refl
 
+  -- where each call that is taken alone ends, it ends so too by the steps that its worker was told to take
   pub all_told : (s : World V) (ts : List (Taken V)) → Holds same always s → AreTaken same always s ts → AllEndAlone s ts → AllEndAloneTold s ts
   all_told s [] h x all = tt
   all_told s (t ∷ ts) h x all = (

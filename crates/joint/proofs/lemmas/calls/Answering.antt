@@ -91,6 +91,7 @@ module _ {V : Type 0} (same : V → V → Bool) where
   next_here : (fs fs' : Flights V) (w u : ℕ) (f : Flight V) → u ≡ w → fs' ≡ with_flight fs u f → fs' w ≡ f
   next_here fs fs' w u f q e = let P : ℕ → Type 0 = λ j. fs' j ≡ f in subst P q (ap (λ (y : Flights V). y u) e ∙ flight_here fs u f)
 
+  -- a call that took effect decides no more, and is done with that reply if it is done
   pub answers : (w : ℕ) (r : Reply V) (fs : Flights V) (m : Pairs V) (ls : List (Line V)) (fs' : Flights V) → fs w ≡ Decided r → IsMapRun same fs m ls fs' → Answers w r ls
   answers w r fs m [] fs' e x = tt
   answers w r fs m (l ∷ ls) fs' e x = either_by ((l.step.worker == w) && is_go l.step.event) _ _
@@ -111,6 +112,7 @@ module _ {V : Type 0} (same : V → V → Bool) where
   undecided_on k kd v q (moved.Found i y z) f Rest g x = absurd x
   undecided_on k kd v q (moved.Scanned n) f Rest g x = absurd x
 
+  -- a call on one key takes effect in one step at most, with its entry, and is done with the reply of that
   pub decides : (w : ℕ) (k : ℕ) (kd : Kind V) (v : Option V) (u : Question V) (fs : Flights V) (m : Pairs V) (ls : List (Line V)) (fs' : Flights V) → fs w ≡ Pending k kd v u → IsMapRun same fs m ls fs' → Decides w ls
   decides w k kd v u fs m [] fs' e x = tt
   decides w k kd v u fs m (l ∷ ls) fs' e x = either_by ((l.step.worker == w) && is_go l.step.event) _ _
@@ -151,6 +153,7 @@ module _ {V : Type 0} (same : V → V → Bool) where
   accepted fs m p (Done d) l fs' on x = absurd (false≢true on)
   accepted fs m p _ l fs' on x = x.begins
 
+  -- each call on one key that begins in a run does
   pub all_decide : (fs : Flights V) (m : Pairs V) (ls : List (Line V)) (fs' : Flights V) → IsMapRun same fs m ls fs' → AllDecide ls
   all_decide fs m [] fs' x = tt
   all_decide fs m (l ∷ ls) fs' x = (

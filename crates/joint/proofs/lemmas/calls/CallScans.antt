@@ -217,6 +217,7 @@ module _ {V : Type 0} (same : V → V → Bool) (w : ℕ) (fs : Flights V) (m : 
       by_last None q e = absurd (cc e)
       by_last (Some raw) q e = (raw, q, cc)
 
+  -- a whole call of a scan that is done has filled the first of the caller's places with what a scan promises
   pub fills : (op : Op V) (reports : List (Report V)) (places : List (ℕ × V)) (result : Option (Report V)) (places' : List (ℕ × V)) (steps : List (Step V)) → steps ≡ steps_of w op (length reports) → (x : (lines : List (Line V)) × (fs' : Flights V) × (map (λ (l : Line V). l.step) lines ≡ steps) × (told lines ≡ reports) × IsMapRun same fs m lines fs')
       → GoOn reports → option_map kept_report (last_of reports) ≡ result → places' ≡ put_all reports places → FillsPlaces m op result places'
   fills op reports places result places' steps is x on last found = by_range (range_of op) refl result last

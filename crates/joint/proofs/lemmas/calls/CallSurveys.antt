@@ -36,6 +36,7 @@ module _ {V : Type 0} where
   put_away_over (Done d) e = refl
   put_away_over (Refused e) q = refl
 
+  -- what these lines told
   abbrev pub told : List (Line V) → List (Report V)
   told lines = map (λ (l : Line V). l.report) lines
 
@@ -60,6 +61,7 @@ module _ {V : Type 0} (same : V → V → Bool) (w : ℕ) (fs : Flights V) (m : 
       let P : List (Report V) → Type 0 = λ rs. option_map kept_report (last_of rs) ≡ Some r in
       by_lines op k e x.0 x.1 (x.2 ∙ is ∙ ap (λ rs. steps_of w op (length rs)) (sym x.3)) x.4 (subst GoOn (sym x.3) on) r (subst P (sym x.3) last)
 
+  -- a whole call of one step, where it is done, told of the pairs that stood
   pub tells : (op : Op V) (reports : List (Report V)) (result : Option (Report V)) (steps : List (Step V)) → steps ≡ steps_of w op (length reports)
       → (x : (lines : List (Line V)) × (fs' : Flights V) × (map (λ (l : Line V). l.step) lines ≡ steps) × (told lines ≡ reports) × IsMapRun same fs m lines fs') → GoOn reports
       → option_map kept_report (last_of reports) ≡ result → TellsMap m op result

@@ -82,6 +82,7 @@ module _ {V : Type 0} (same : V → V → Bool) (always : Bool) where
   one : (s s' : World V) (step : Step V) (r : Report V) → IsStep same always s step r s' → IsRun same always s (step ∷ []) (r ∷ []) s'
   one s s' step r x = record { taken = record { step = step; report = r; after = s' } ∷ []; each = (x, tt); steps_are = refl; reports_are = refl; last = refl }
 
+  -- once its begin is taken a call has come one step
   pub calling_first : (s s' : World V) (who : ℕ) (op : Op V) (most left : ℕ) (places places' : List (ℕ × V)) (r r' : Report V) → IsStep same always s (record { worker = who; event = Begin op }) r s' → left + 1 ≡ most → r' ≡ kept_report r → places' ≡ put r.outcome places
       → Calling s who op most left places r' places' s'
   calling_first s s' who op most left places places' r r' x n k f = record {
@@ -97,6 +98,7 @@ module _ {V : Type 0} (same : V → V → Bool) (always : Bool) where
     flight = λ m. x.flight tt m ∙ sym (away_flight r.outcome) ∙ sym (ap (λ y. is_in_flight y.outcome) k);
   }
 
+  -- a call that goes on comes one step further with the next one
   pub calling_more : (s s1 s2 : World V) (who : ℕ) (op : Op V) (most left left' : ℕ) (places places1 places2 : List (ℕ × V)) (q r r' : Report V) → Calling s who op most left places q places1 s1 → goes_on q.outcome ≡ true → IsStep same always s1 (next_step who) r s2
       → left ≡ left' + 1 → r' ≡ kept_report r → places2 ≡ put r.outcome places1 → Calling s who op most left' places r' places2 s2
   calling_more s s1 s2 who op most left left' places places1 places2 q r r' c g x n k f =
@@ -125,7 +127,7 @@ module _ {V : Type 0} (same : V → V → Bool) (always : Bool) where
     pub goes : goes_on report.outcome ≡ true
     pub more : 0 < left
 
-  -- a call of no steps
+  -- a call for which no steps are given is a whole call, with no report and the state as it was
   pub calling_none : (s : World V) (who : ℕ) (op : Op V) (most : ℕ) (places : List (ℕ × V)) → most ≡ 0 → IsCalled same always s who op most places None places s
   calling_none s who op most places e = record {
     reports = [];
@@ -139,7 +141,7 @@ module _ {V : Type 0} (same : V → V → Bool) (always : Bool) where
     flight = λ m r is. absurd cc;
   }
 
-  -- the call stops
+  -- a call that goes on no further, or has no step left, is a whole call with its last report
   pub calling_end : (s : World V) (who : ℕ) (op : Op V) (most left : ℕ) (places : List (ℕ × V)) (report : Report V) (places' : List (ℕ × V)) (s' : World V) → Calling s who op most left places report places' s' → (0 < left → goes_on report.outcome ≡ false)
       → IsCalled same always s who op most places (Some report) places' s'
   calling_end s who op most left places report places' s' c stop = record {

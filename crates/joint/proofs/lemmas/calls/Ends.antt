@@ -57,6 +57,7 @@ module _ {V : Type 0} (same : V → V → Bool) (always : Bool) where
       let k = get_inside s.calls w l in
       ended_by k.0 (place_of s w) m (sym (ap is_busy k.1) ∙ e) (h.0.each w k.0 m k.1 at)
 
+  -- a worker without a call in flight holds no lock, and has no node made or taken out
   pub between : (s : World V) (w : ℕ) → Holds same always s → is_busy (slice_get s.calls w) ≡ false → IsBetween s w
   between s w h e = record {
     idle = e;
@@ -87,6 +88,7 @@ module _ {V : Type 0} (same : V → V → Bool) (always : Bool) where
         let d : Does same always (engine_of s) t.step.worker t.step.event (Some f) y.told (engine_of t.after) = subst P e y.engine.does in
         (ap (λ z. z.outcome) y.report ∙ ap (λ z. z.outcome) d.0, ap (λ z. z.forest) d.1, ap (λ z. z.machines) d.1, ap (λ z. z.calls) d.1)
 
+  -- each step of a run after which a call is over leaves its worker so, and a misused one leaves all
   pub all_end_well : (s : World V) (ts : List (Taken V)) → Holds same always s → AreTaken same always s ts → AllEndWell s ts
   all_end_well s [] h x = tt
   all_end_well s (t ∷ ts) h x = ((step_between s t x.0, step_misused s t h x.0), all_end_well t.after ts x.0.holds x.1)
@@ -164,10 +166,11 @@ module _ {V : Type 0} (same : V → V → Bool) (always : Bool) (yes : always �
             apart_after step.worker step.event (is_in_flight x.told.outcome) i n (before i (sym (ap is_busy (ap_here.calls.other i n)) ∙ idle)))
       ])
 
-  pub step_unasked : (step : Step V) (r : Report V) → IsStep same always s step r s' → IdleUnasked s'
+  step_unasked : (step : Step V) (r : Report V) → IsStep same always s step r s' → IdleUnasked s'
   step_unasked step r x = unasked_after step r (finds_journal_full s step.worker step.event) x.does
 
 module _ {V : Type 0} (same : V → V → Bool) (always : Bool) (yes : always ≡ true) where
+  -- after a run too nothing is written down as asked of a worker without a call in flight
   pub all_unasked : (s : World V) (ts : List (Taken V)) → Holds same always s → AreTaken same always s ts → IdleUnasked s → IdleUnasked (after_all s ts)
   all_unasked s [] h x u = u
   all_unasked s (t ∷ ts) h x u = all_unasked t.after ts x.0.holds x.1 (step_unasked same always yes s t.after h u t.step t.report x.0)

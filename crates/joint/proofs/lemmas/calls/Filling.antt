@@ -179,10 +179,12 @@ module _ {V : Type 0} (same : V → V → Bool) (always : Bool) (laws : CallLaws
   step s t h f none true y = unchanged s t.after t.step.worker (h.0, h.1) f (ap (λ z. nodes z.forest) y.state) (ap (λ z. z.machines) y.state)
   step s t h f none false y = does (engine_of s) (engine_of t.after) t.step.worker (h.0, h.1) f t.step.event (misuse s t.step.worker t.step.event) y.told y.engine.does (sym (ap (λ z. z.skipped) y.report) ∙ none)
 
+  -- a run in which no step goes on without a node leaves each node of the tree filled
   pub all_filled : (s : World V) (ts : List (Taken V)) → Holds same always s → AreTaken same always s ts → NoneSkipped ts → StaysFilled s → StaysFilled (after_all s ts)
   all_filled s [] h x none f = f
   all_filled s (t ∷ ts) h x none f = all_filled t.after ts x.0.holds x.1 none.1 (step s t h f none.0 (finds_journal_full s t.step.worker t.step.event) x.0.does)
 
+  -- an index as it opens has each node of its tree but the root filled
   pub opens_filled : (limits : Limits) (s : World V) → IsNew limits s → Holds same always s → StaysFilled s
   opens_filled limits s new h = record {
     tree = (fills.opens (nodes s.forest) [] new.opened.2.fresh (λ i m e. absurd (cc e))).tree;

@@ -43,6 +43,7 @@ use Rattle.joint.proofs.lemmas.world.JournaledSteps.{Mapped, mapped}
 
 -- flights that are the same one by one
 module _ {V : Type 0} where
+  -- calls watched alike one by one are watched beside the same machines
   pub same_flights : (s : World V) (fs gs : Flights V) → ((i : ℕ) → fs i ≡ gs i) → AreInFlight s fs → AreInFlight s gs
   same_flights s fs gs same fl = record {
     each = λ i k m a b. subst (λ (f : Flight V). IsInFlight k m f) (same i) (fl.each i k m a b);
@@ -57,6 +58,7 @@ module _ {V : Type 0} where
         | inr e ↦ subst P (sym e) refl
       ]
 
+  -- where a worker's flight was put twice, the last one counts
   pub once_more : (s : World V) (fs : Flights V) (w : ℕ) (f g : Flight V) → AreInFlight s (with_flight (with_flight fs w f) w g) → AreInFlight s (with_flight fs w g)
   once_more s fs w f g fl = same_flights s _ _ (set_again fs w f g) fl
 
@@ -68,6 +70,7 @@ module _ {V : Type 0} where
         | inr e ↦ subst P (sym e) refl
       ]
 
+  -- with a worker's flight put as over that was over before, the flights are as before
   pub as_before : (s : World V) (fs : Flights V) (w : ℕ) → fs w ≡ Over → AreInFlight s (with_flight fs w Over) → AreInFlight s fs
   as_before s fs w over fl = same_flights s _ _ (set_back fs w over) fl
 
@@ -201,7 +204,7 @@ module _ {V : Type 0} where
   never_at_once fs m p (done.Empty e) l fs' u x = x
   never_at_once fs m p (done.Stats stats) l fs' u x = x
 
--- a call's first step, and a further one
+-- a call's first step
 abbrev pub begin_of : {V : Type 0} → ℕ → Op V → Step V
 begin_of w op = record { worker = w; event = Begin op }
 
@@ -209,7 +212,7 @@ begin_of w op = record { worker = w; event = Begin op }
 abbrev pub gone : {V : Type 0} → ℕ → Noise Id V → Step V
 gone w noise = record { worker = w; event = Go noise }
 
--- a step in which no call on the tree goes on
+-- a step in which no call on the tree goes on keeps the pairs and the calls in flight
 pub stays_keeps_all : {V : Type 0} (fs : Flights V) (m : Pairs V) (l : Line V) (fs' : Flights V) (s : World V) → Stays fs m l fs' → IsMapOf (nodes s.forest) l.pairs → AreInFlight s fs' → KeepsAll fs m s
 stays_keeps_all {V} fs m l fs' s x st fl =
     let P : Pairs V → Type 0 = λ n. IsMapOf (nodes s.forest) n in
@@ -402,7 +405,7 @@ module _ {V : Type 0} (same : V → V → Bool) (always : Bool) (fs : Flights V)
     begun_so (Registered n) is z = in_flight z
     begun_so (Done d) is z = absurd (never_at_once fs m p d l y.flights on_key z)
 
-  -- the whole call
+  -- a call on one key that no other worker's step comes between plays on the map as such a call does
   pub key_plays : (op : Op V) (s : World V) (first : Taken V) (more : List (Taken V)) → target op ≡ target.Tree p → Holds same always s → IsMapOf (nodes s.forest) m → AreInFlight s fs
       → IsStep same always s (begin_of w op) first.report first.after → AreTaken same always first.after more → AllGoOn w first.report.outcome more
       → PlaysKey same fs m w (answered_after first.report.outcome None more) p (told_after first.report.outcome more) (after_all first.after more)

@@ -319,7 +319,7 @@ module _ {V : Type 0} (same : V → V → Bool) (always : Bool) (laws : CallLaws
       ]
     ]
 
-    pub rightly : LeavesRightly s t
+    rightly : LeavesRightly s t
     rightly = record {
       leaves = λ n i. elim (parts.leaves n i) [
         | inl y ↦ inl y
@@ -351,7 +351,7 @@ module _ {V : Type 0} (same : V → V → Bool) (always : Bool) (laws : CallLaws
     ]
 
     -- what left stays locked
-    pub left_locked : LeftLocked s → LeftLocked t.after
+    left_locked : LeftLocked s → LeftLocked t.after
     left_locked all n y = elim (waits_as t.after x.holds n y) [
       | inl e ↦ (let kept = (waits_is (nodes t.after.forest n) e).1.kept in elim (cases_Bool (is_waiting (nodes s.forest n))) [
         | inl b ↦ elim (parts.waits n b) [
@@ -439,6 +439,7 @@ module _ {V : Type 0} (same : V → V → Bool) (always : Bool) (laws : CallLaws
   hands_none n s [] h x y = tt
   hands_none n s (t ∷ ts) h x y = (hands_again s t h x.0 t.step.worker n y, hands_none n t.after ts x.0.holds x.1 (still_handed s t h x.0 n y))
 
+  -- in a run each node leaves the tree by one step of one call, and is handed over once
   pub all_leave_once : (s : World V) (ts : List (Taken V)) → Holds same always s → AreTaken same always s ts → AllLeaveOnce s ts
   all_leave_once s [] h x = tt
   all_leave_once s (t ∷ ts) h x = (
@@ -450,6 +451,7 @@ module _ {V : Type 0} (same : V → V → Bool) (always : Bool) (laws : CallLaws
     all_leave_once t.after ts x.0.holds x.1,
   )
 
+  -- where each node that has left the tree is locked, it is so after a run
   pub all_left_locked : (s : World V) (ts : List (Taken V)) → Holds same always s → AreTaken same always s ts → LeftLocked s → LeftLocked (after_all s ts)
   all_left_locked s [] h x l = l
   all_left_locked s (t ∷ ts) h x l = all_left_locked t.after ts x.0.holds x.1 (left_locked s t h x.0 l)

@@ -103,6 +103,7 @@ module _ {V : Type 0} (same : V → V → Bool) (always : Bool) where
   taken_walks (Securing op) p m n a x = absurd (let P : Phase Id V → Type 0 = λ y. TakenBy id_number y n in subst P a.2 x)
 
   module _ (s : World V) (holds : EngineHolds same always s) where
+    -- a worker whose call has taken a node out has its call on the tree
     pub walking_of : (i n : ℕ) → IsTakenBy s i n → slice_get s.calls i ≡ Some Walking
     walking_of i n x =
         let l : i < length s.calls = subst (λ k. i < k) holds.0.machines (slice_get_within s.machines i x.0 x.1) in
@@ -110,7 +111,7 @@ module _ {V : Type 0} (same : V → V → Bool) (always : Bool) where
         k.1 ∙ ap Some (taken_walks k.0 (place_of s i) x.0 n (holds.0.each i k.0 x.0 k.1 x.1) x.2)
 
   -- a call that has taken effect takes no node out any more
-  pub reply_taken : (most : ℕ) (why : NodeType → Cause → Type 0) (root : Id) (k : ℕ) (kind : Kind V) (fail : Bool) (answer : Option (Option V)) (given given' : Option V) (p : Phase Id V) (h h' : ℕ → Node V) (t : Said Id V) (r : Reply V) (n : ℕ)
+  reply_taken : (most : ℕ) (why : NodeType → Cause → Type 0) (root : Id) (k : ℕ) (kind : Kind V) (fail : Bool) (answer : Option (Option V)) (given given' : Option V) (p : Phase Id V) (h h' : ℕ → Node V) (t : Said Id V) (r : Reply V) (n : ℕ)
       → flight_in k kind given p ≡ Decided r → PhaseStepped id_number same always most why root (key_bytes k) kind fail answer given p h given' t h' → TakenBy id_number t.phase n → (c : ℕ) × TakenBy id_number p c
   reply_taken most why root k kind fail answer given given' (Obsolete c next q u) h h' t r n e x y = (id_number c, inl refl)
   reply_taken most why root k kind fail answer given given' (Retire c next q u) h h' t r n e x y = (id_number c, inl refl)
@@ -322,6 +323,7 @@ module _ {V : Type 0} (same : V → V → Bool) (always : Bool) (laws : CallLaws
     goes (Some (Securing op)) noise is e a x = destroyed x.step.collected.destroys x.step.collected.moves.next (apart_keeps a (λ q. let z : Some (Securing op) ≡ Some Walking = sym e ∙ q in cc))
     goes (Some Walking) noise is e a x = walks noise is e x
 
+  -- a node in the tree stays or is taken out, one taken out stays so or is handed over, and one handed over may go
   pub step_parts : (s s' : World V) (w : ℕ) (holds : EngineHolds same always s) (event : Event V) (o : Option Fault) (r : Report V) → misuse s w event ≡ o → Does same always s w event o r s' → Parts s s' w event
   step_parts s s' w holds event (Some f) r e x = unchanged s s' w holds event r x.1
   step_parts s s' w holds Register None r e (inl x) = calm s s' w holds Register r (ap (λ y. nodes y.forest) x.1.state) (ap (λ y. y.forest.collector.next) x.1.state) (λ i n y. (y.0, ap (λ z. slice_get z.machines i) x.1.state ∙ y.1, y.2))

@@ -39,7 +39,7 @@ use Rattle.joint.proofs.lemmas.calls.AloneScans.{Sweeps, scan_plays, sweeps}
 
 module _ {V : Type 0} (m : Pairs V) where
   -- a call of one step has ended
-  pub told_ended : (k : Survey) (o : Outcome V) → MapTells m k o → is_in_flight o ≡ false
+  told_ended : (k : Survey) (o : Outcome V) → MapTells m k o → is_in_flight o ≡ false
   told_ended k (Refused e) t = refl
   told_ended k (Done d) t = refl
   told_ended k (Registered n) t = refl
@@ -168,6 +168,7 @@ module _ {V : Type 0} (same : V → V → Bool) (always : Bool) (fs : Flights V)
   away (target.Survey k) last said s x = (subst (λ o. MapTells m k o) (away_told said (told_ended m k said x.0)) x.0, x.1)
 
 module _ {V : Type 0} (same : V → V → Bool) (always : Bool) where
+  -- a call that no other worker's step comes between plays on the map as such a call does
   pub plays_call : (s : World V) (first : Taken V) (more : List (Taken V)) (fs : Flights V) (m : Pairs V) (who : ℕ) (op : Op V) → Holds same always s → AreTaken same always s (first ∷ more) → IsMapOf (nodes s.forest) m → AreInFlight s fs
       → AreOfCall who op first more → PlaysCall same fs m who (answered_after first.report.outcome None more) (target op) (told_after first.report.outcome more) (after_all s (first ∷ more))
   plays_call s first more fs m who op h x st fl c =
@@ -193,6 +194,7 @@ module _ {V : Type 0} (same : V → V → Bool) (always : Bool) where
       let y : Q (Done (Scanned count)) = subst Q e (sweeps same always fs m who start end size k.from k.to k.places k.promises op asked s first more on ranged k.unbegun h (st, fl) (subst P c.begins x.0) x.1 c.goes_on) in
       y.0
 
+  -- a scan so taken that is done has told for the first of its places what a scan promises
   pub scanned : (s : World V) (first : Taken V) (more : List (Taken V)) (fs : Flights V) (m : Pairs V) (who : ℕ) (op : Op V) (start end size count : ℕ) → Holds same always s → AreTaken same always s (first ∷ more) → IsMapOf (nodes s.forest) m → AreInFlight s fs
       → range_of op ≡ Some (start, end, size) → AreOfCall who op first more → told_after first.report.outcome more ≡ Done (Scanned count) → HasScanned start end size count m (told_places [] more)
   scanned s first more fs m who (ops.Range a b n) start end size count h x st fl ranged c e = scanned_so s first more fs m who (ops.Range a b n) (point.Range a b n) start end size count refl ranged h x st fl c e
@@ -262,6 +264,7 @@ module _ {V : Type 0} (same : V → V → Bool) (always : Bool) (s : World V) (f
       let y : Q (last_or t.report (reports_of who ts)).outcome = subst Q (told_last who ts t.report) (subst P (unanswered who ts t.report.outcome _ more) z) in
       subst (λ r. CallPlays same fs m who op r s') last (away same always fs m who (target op) None _ s' y)
 
+  -- a whole call to which no answer comes plays on the map as such a call does
   pub called_plays : (most : ℕ) (places : List (ℕ × V)) (result : Option (Report V)) (places' : List (ℕ × V)) (s' : World V) → IsCalled same always s who op most places result places' s' → CallPlays same fs m who op result s'
   called_plays most places result places' s' c =
       let ts : List (Taken V) = c.run.taken in

@@ -81,7 +81,7 @@ module _ {V : Type 0} (same : V → V → Bool) (most : ℕ) where
       (x.0 ∙ sym y.0, both a.outcome b.outcome (told (plain_went same most p w noise).turn.report.outcome) x.1 y.1 (told_itself (plain_went same most p w noise).turn.report.outcome))
 
   -- two plain runs of the same steps
-  pub told_again : (p : Plain V) (ts : List (TreeStep V)) (rs qs : List (Report V)) → AreTold same most p ts rs → AreTold same most p ts qs → AreUnrefused rs → AreUnrefused qs → AreSame rs qs
+  told_again : (p : Plain V) (ts : List (TreeStep V)) (rs qs : List (Report V)) → AreTold same most p ts rs → AreTold same most p ts qs → AreUnrefused rs → AreUnrefused qs → AreSame rs qs
   told_again p [] [] [] x y u v = tt
   told_again p [] [] (b ∷ qs) x y u v = absurd y
   told_again p [] (a ∷ rs) qs x y u v = absurd x

@@ -129,15 +129,17 @@ module _ {V : Type 0} (same : V → V → Bool) (always : Bool) where
       others : (i : ℕ) (k : InFlight V) (m : Machine Id V) → slice_get s.calls i ≡ Some k → slice_get s.machines i ≡ Some m → InPlain order (nodes s'.forest) k m (p.calls i)
       others i k m ak am = kept_call order order (nodes s.forest) (nodes s'.forest) k m (p.calls i) (spared.calls i m (p.calls i) am) (a.calls i k m ak am)
 
+      -- after a step of the collector the machine agrees with the same plain state, where the worker's call does
       pub collected_agrees : (k' : InFlight V) → s'.calls ≡ set s.calls w k' → ((i : ℕ) (m : Machine Id V) → i ≢ w → slice_get s'.machines i ≡ Some m → slice_get s.machines i ≡ Some m)
           → ((m : Machine Id V) → slice_get s'.machines w ≡ Some m → InPlain order (nodes s'.forest) k' m (p.calls w)) → Agree s' order p
       collected_agrees k' ec em here = exchanged s s' w order order p p k' ec (spared.order_is (made_before s.forest) a.ordered) a.root a.made (spared.nodes p.heap a.heap) here (λ i k m n ak am. others i k m ak (em i m n am))
 
-    pub idle_after : (o : CollectorOutcome) (op : CollectorOp) (h : ℕ → Node V) (m : Machine Id V) (q : Machine ℕ V) → InPlain order h (call_after o (Collecting op)) m q
+    idle_after : (o : CollectorOutcome) (op : CollectorOp) (h : ℕ → Node V) (m : Machine Id V) (q : Machine ℕ V) → InPlain order h (call_after o (Collecting op)) m q
     idle_after collector_outcome.Running op h m q = tt
     idle_after collector_outcome.Done op h m q = tt
     idle_after (collector_outcome.Refused f) op h m q = tt
 
+    -- a step of a call on the collector leaves the machine agreeing with the same plain state
     pub collects : (s' : World V) (event : CollectorEvent) (op : CollectorOp) (r : Report V) → Agree s order p → Collects same always s w event (Collecting op) r s' → Agree s' order p
     collects s' event op r a k = collected_agrees s' event k.turn k.step a (call_after k.turn.outcome (Collecting op)) k.calls
         (λ i m n b. let P : List (Machine Id V) → Type 0 = λ ms. slice_get ms i ≡ Some m in subst P k.machines b) (λ m b. idle_after k.turn.outcome op (nodes s'.forest) m (p.calls w))
@@ -147,6 +149,7 @@ module _ {V : Type 0} (same : V → V → Bool) (always : Bool) where
       machine_here : (m : Machine Id V) → slice_get s.machines w ≡ Some m → p.calls w ≡ begun 0 op
       machine_here m b = a.calls w (Securing op) m here b
 
+      -- a step that makes places free, and isn't refused, leaves the machine agreeing with the same plain state
       pub secures : (s' : World V) (r : Report V) (o : CollectorOutcome) → IsUnrefused r.outcome → (x : GoesOnReserving same always s w r s') → x.turn.outcome ≡ o → ((m : Machine Id V) → slice_get s'.machines w ≡ Some m → (n : Machine Id V) × (slice_get s.machines w ≡ Some n)) → Agree s' order p
       secures s' r collector_outcome.Running un x e there =
           let P : Option (InFlight V) → Type 0 = λ k. s'.calls ≡ set s.calls w (secured_call x.turn.outcome k) in
@@ -182,12 +185,13 @@ module _ {V : Type 0} (same : V → V → Bool) (always : Bool) where
           absurd (fault_apart f (un (of_fault f) z))
 
     -- a call begins
-    pub plain_here : (q : Plain V) (i : ℕ) (m : Machine ℕ V) → (with_call q i m).calls i ≡ m
+    plain_here : (q : Plain V) (i : ℕ) (m : Machine ℕ V) → (with_call q i m).calls i ≡ m
     plain_here q i m = ap (λ b. cond b m (q.calls i)) (eqb_same i)
 
     plain_apart : (q : Plain V) (i j : ℕ) (m : Machine ℕ V) → j ≢ i → (with_call q i m).calls j ≡ q.calls j
     plain_apart q i j m n = ap (λ b. cond b m (q.calls j)) (ne_eqb j i n)
 
+    -- once a reading call has begun, the machine agrees with the plain state in which it begins
     pub enters : (s' : World V) (op : Point V) (r : Report V) → Agree s order p → Enters s w op r s' → Agree s' order (with_call p w (begun 0 op))
     enters s' op r a k =
         let P : World V → Type 0 = λ y. Agree y order (with_call p w (begun 0 op)) in
@@ -207,6 +211,7 @@ module _ {V : Type 0} (same : V → V → Bool) (always : Bool) where
           | inr z ↦ subst U (sym (plain_apart p w i (begun 0 op) n)) (a.calls i k m ak z.1)
         ]))
 
+    -- once a writing call has begun, with its places to make free, it agrees with that in which the call begins
     pub reserves : (s' : World V) (op : Point V) (r : Report V) → Agree s order p → Reserves s w op r s' → Agree s' order (with_call p w (begun 0 op))
     reserves s' op r a k =
         let P : World V → Type 0 = λ y. Agree y order (with_call p w (begun 0 op)) in
@@ -223,6 +228,7 @@ module _ {V : Type 0} (same : V → V → Bool) (always : Bool) where
       abbrev walked : Walked same always s.forest s.machines (record { who = w; noise = noise }) x.move s'.forest x.step.between
       walked = x.step.walked
 
+      -- the step is one of the tree's protocol
       pub moves : IsMoved id_number same always s.forest.version_max (Refuses s.forest) (nodes s.forest) s.machines m (record { who = w; noise = noise }) x.move (nodes s'.forest) x.step.between
       moves = walked.plays.moved m hm
 
@@ -244,6 +250,7 @@ module _ {V : Type 0} (same : V → V → Bool) (always : Bool) where
       abbrev went : Went V
       went = plain_step same s.forest.version_max q (unnamed noise) p.heap p.made
 
+      -- the plain run's step of the same call is the same by numbers
       pub moved_alike : MovedAlike order id_number (nodes s'.forest) moves.now x.move q went
       moved_alike = laws.steps (unnamed_seen noise.seen) w safe.sound.sound.settled.0 (nodes s.forest) p.heap (nodes s'.forest) s.machines m moves.now x.move noise.fail noise.answer order q p.made no_version protocol hm moves.step unrefused unskipped a.ordered a.heap a.made
           (a.calls w Walking m hk hm)
@@ -278,6 +285,7 @@ module _ {V : Type 0} (same : V → V → Bool) (always : Bool) where
           or_idle true = tt
           or_idle false = moved_alike.call
 
+      -- after a step of a call on the tree the machine agrees with the plain state after the same step
       pub walked_agrees : Agree s' now p'
       walked_agrees = exchanged s s' w order now p p' (if over_at (slice_get s'.machines w) then Idle else Walking) x.calls moved_alike.went.ordered root_now moved_alike.went.made moved_alike.went.heap
           (λ y b.

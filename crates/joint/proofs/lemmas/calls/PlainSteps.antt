@@ -45,11 +45,11 @@ use Rattle.joint.proofs.lemmas.calls.PlainCalls.{fault_apart, collects, collecte
 use Rattle.joint.proofs.lemmas.engine.PlainTells.{map_here, tells_alike}
 
 -- where no node is made the list of the made ones stays
-pub same_longer : (order : List ℕ) → Longer order order
+same_longer : (order : List ℕ) → Longer order order
 same_longer order = ([], sym (append-nil order))
 
 -- what is made in two steps comes behind what was made before both
-pub then_longer : (a b c : List ℕ) → Longer a b → Longer b c → Longer a c
+then_longer : (a b c : List ℕ) → Longer a b → Longer b c → Longer a c
 then_longer a b c x y = (x.0 ++ y.0, y.1 ∙ ap (λ z. z ++ y.0) x.1 ∙ append_assoc a x.0 y.0)
 
 module _ {V : Type 0} (same : V → V → Bool) (always : Bool) (laws : (f : Nodes V) → NumberLaws {C = Id} {V = V} id_number same always f.version_max (Refuses f)) where
@@ -208,7 +208,7 @@ module _ {V : Type 0} (same : V → V → Bool) (always : Bool) (laws : (f : Nod
     kept_too None r k x = x
     kept_too (Some t) r k x = x
 
-    pub unless_at : (event : Event V) (b : Bool) (r : Report V) → IsUnhindered r → StepsUnless same always b s (record { worker = w; event = event }) r s' → FollowsStep same most (step_at w event r.kind) s' r order p
+    unless_at : (event : Event V) (b : Bool) (r : Report V) → IsUnhindered r → StepsUnless same always b s (record { worker = w; event = event }) r s' → FollowsStep same most (step_at w event r.kind) s' r order p
     unless_at event true r un x =
         let z : JournalFull ≡ Exhausted = un.0 JournalFull (ap (λ y. y.outcome) x.report) in
         absurd cc
@@ -218,7 +218,7 @@ module _ {V : Type 0} (same : V → V → Bool) (always : Bool) (laws : (f : Nod
         subst P (sym x.report) (kept_too (step_at w event x.told.kind) x.told _ (again (step_at w event x.told.kind) x.told (does_at event (misuse (engine_of s) w event) x.told (subst Q x.report un) x.engine.does)))
 
   -- a step of the machine
-  pub step_follows : (s s' : World V) (step : Step V) (r : Report V) (order : List ℕ) (p : Plain V) → Holds same always s → IsStep same always s step r s' → IsUnhindered r → Agree s order p
+  step_follows : (s s' : World V) (step : Step V) (r : Report V) (order : List ℕ) (p : Plain V) → Holds same always s → IsStep same always s step r s' → IsUnhindered r → Agree s order p
       → FollowsStep same s.forest.version_max (tree_step step r) s' r order p
   step_follows s s' step r order p holds x un a = unless_at s s' step.worker order p holds a step.event (finds_journal_full s step.worker step.event) r un x.does
 
@@ -244,7 +244,7 @@ module _ {V : Type 0} (same : V → V → Bool) (always : Bool) (laws : (f : Nod
       (λ order' p' a'. all_follow top t.after ts order' p' (beside.versions ∙ e) x.0.holds x.1 un.1 a') in
       record { told = f.0; now = f.1.0; longer = f.1.1; agree = f.1.2 }
 
-  -- a run
+  -- a run that refuses nothing tells on the tree what the plain run tells, and leaves both agreeing
   pub run_follows : (s s' : World V) (steps : List (Step V)) (reports : List (Report V)) (order : List ℕ) (p : Plain V) → Holds same always s → IsRun same always s steps reports s' → AreUnrefused reports → Agree s order p
       → FollowsRun same s.forest.version_max steps reports s' order p
   run_follows s s' steps reports order p holds run un a =

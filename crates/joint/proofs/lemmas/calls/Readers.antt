@@ -248,7 +248,7 @@ module _ {V : Type 0} (same : V → V → Bool) (always : Bool) (turns : Progres
     goes (Some (Securing p)) o noise r e at u x = absurd u
     goes (Some (Collecting _)) o noise r e at u x = absurd u
 
-    pub reader_goes : (noise : Noise Id V) (o : Option Fault) (r : Report V) → misuse s w (Go noise) ≡ o → o ≡ None → ReaderAt s w → Does same always s w (Go noise) o r s' → Goes r
+    reader_goes : (noise : Noise Id V) (o : Option Fault) (r : Report V) → misuse s w (Go noise) ≡ o → o ≡ None → ReaderAt s w → Does same always s w (Go noise) o r s' → Goes r
     reader_goes noise None r e n u x = goes (slice_get s.calls w) (slice_get s.machines w) noise r refl refl u x
     reader_goes noise (Some f) r e n u x = absurd (cc n)
 
@@ -441,6 +441,7 @@ module _ {V : Type 0} (same : V → V → Bool) (always : Bool) (turns : Progres
   all_refuse i s [] h x u = tt
   all_refuse i s (t ∷ ts) h x u = let k = kept s t h x.0 i u in (k.0, λ b. all_refuse i t.after ts x.0.holds x.1 (k.1 b))
 
+  -- in a run each reading call is refused for misuse or as Count alone, to its end
   pub readers : (s : World V) (ts : List (Taken V)) → Holds same always s → AreTaken same always s ts → ReadersRefused s ts
   readers s [] h x = tt
   readers s (t ∷ ts) h x = (

@@ -115,10 +115,12 @@ of_registered true x e = refl
 of_registered false x e = absurd (cc e)
 
 module _ {V : Type 0} (same : V → V → Bool) (always : Bool) where
+  -- steps one after another are those up to any point, and those from there on
   pub split : (s : World V) (a b : List (Taken V)) → AreTaken same always s (a ++ b) → AreTaken same always s a × AreTaken same always (after_all s a) b
   split s [] b x = (tt, x)
   split s (t ∷ a) b x = let y = split t.after a b x.1 in ((x.0, y.0), y.1)
 
+  -- after two lists of steps the state is the one after the second from that after the first
   pub after_both : (s : World V) (a b : List (Taken V)) → after_all s (a ++ b) ≡ after_all (after_all s a) b
   after_both s [] b = refl
   after_both s (t ∷ a) b = after_both t.after a b
@@ -385,6 +387,7 @@ module _ {V : Type 0} (same : V → V → Bool) (always : Bool) (calls : CallLaw
             ]
           ]
 
+  -- after as many rounds as the queued bags want, what stands is in the tree or in other workers' unsealed bags
   pub came_back : (s : World V) (who : ℕ) (rounds : List (Round V)) → Holds same always s → IsQuiet s → AreRounds who rounds → AreTaken same always s (steps_in rounds) → rounds_wanted (bags_left s rounds) ≤ length rounds → CameBack (after_all s (steps_in rounds)) who
   came_back s who [] h quiet are taken enough = absurd (omega (arith, enough))
   came_back s who (r ∷ rs) h quiet are taken enough =
@@ -411,6 +414,7 @@ module _ {V : Type 0} (same : V → V → Bool) (always : Bool) (calls : CallLaw
       let jobs = jobs_waiting s h.0.filed in
       omega (arith, few, e, jobs)
 
+  -- so it is after as many rounds as the nodes that wait want
   pub all_came_back : (s : World V) (who : ℕ) (rounds : List (Round V)) → Holds same always s → IsQuiet s → AreRounds who rounds → AreTaken same always s (steps_in rounds) → rounds_wanted (length (waiting_nodes s)) ≤ length rounds → CameBack (after_all s (steps_in rounds)) who
   all_came_back s who rounds h quiet are taken enough =
       let few = bags_few s who rounds h quiet are taken (omega (arith, enough)) in
@@ -420,7 +424,7 @@ module _ {V : Type 0} (same : V → V → Bool) (always : Bool) (calls : CallLaw
       let b = high.0 in
       came_back s who rounds h quiet are taken (omega (arith, a, b, few, enough))
 
--- the same of a run
+-- what came back after rounds came back at the end of a run of just these
 pub in_run : {V : Type 0} (same : V → V → Bool) (always : Bool) (s s' : World V) (steps : List (Step V)) (reports : List (Report V)) (who : ℕ) (rounds : List (Round V))
     → (AreTaken same always s (steps_in rounds) → CameBack (after_all s (steps_in rounds)) who) → (run : IsRun same always s steps reports s') → run.taken ≡ steps_in rounds → CameBack s' who
 in_run {V} same always s s' steps reports who rounds law run is =

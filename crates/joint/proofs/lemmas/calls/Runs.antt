@@ -35,7 +35,7 @@ use Rattle.joint.proofs.lemmas.world.Flights.{ends_stays}
 use Rattle.joint.proofs.lemmas.world.JournaledSteps.{Mapped, mapped}
 
 module _ {V : Type 0} (same : V → V → Bool) (always : Bool) where
-  -- the pairs stand and the calls are watched from step to step
+  -- steps play on the map: from step to step the pairs stand and the calls are watched
   pub runs_map : (s : World V) (taken : List (Taken V)) (fs : Flights V) (m : Pairs V) → Holds same always s → AreTaken same always s taken → IsMapOf (nodes s.forest) m → AreInFlight s fs → PlaysMap same fs m s taken
   runs_map s [] fs m h x st fl = record { lines = []; flights = fs; are_lines = tt; run = refl; stand = st; in_flight = fl }
   runs_map s (t ∷ ts) fs m h x st fl =
@@ -61,6 +61,7 @@ module _ {V : Type 0} (same : V → V → Bool) (always : Bool) where
   first_kept None es = refl
   first_kept (Some e) es = refl
 
+  -- the journal keeps the entries of the steps' lines, those of all writing calls among them
   pub runs_journal : (s : World V) (taken : List (Taken V)) (fs : Flights V) (m : Pairs V) (h : Holds same always s) (x : AreTaken same always s taken) (st : IsMapOf (nodes s.forest) m) (fl : AreInFlight s fs) → Journals s taken (runs_map s taken fs m h x st fl).lines
   unfolding runs_map
   runs_journal s [] fs m h x st fl = record { entries = sym (append-nil s.log.entries); writes = λ p. tt; places = refl }
@@ -75,12 +76,12 @@ module _ {V : Type 0} (same : V → V → Bool) (always : Bool) where
         places = on.places ∙ a.places;
       }
 
-  -- in each state what always holds
+  -- in each state after one of these steps holds what always holds
   pub all_hold : (s : World V) (taken : List (Taken V)) → AreTaken same always s taken → AllHold same always taken
   all_hold s [] x = tt
   all_hold s (t ∷ ts) x = (x.0.holds, all_hold t.after ts x.1)
 
-  -- steps after steps
+  -- steps, and steps from where these led, are taken as one list
   pub taken_on : (s : World V) (a b : List (Taken V)) → AreTaken same always s a → AreTaken same always (after_all s a) b → AreTaken same always s (a ++ b)
   taken_on s [] b x y = y
   taken_on s (t ∷ a) b x y = (x.0, taken_on t.after a b x.1 y)
@@ -89,6 +90,7 @@ module _ {V : Type 0} (same : V → V → Bool) (always : Bool) where
   after_on s [] b = refl
   after_on s (t ∷ a) b = after_on t.after a b
 
+  -- a run after a run is one of the steps of both
   pub runs_join : (s s1 s2 : World V) (a b : List (Step V)) (q r : List (Report V)) → IsRun same always s a q s1 → IsRun same always s1 b r s2 → IsRun same always s (a ++ b) (q ++ r) s2
   runs_join s s1 s2 a b q r x y =
       let P : World V → Type 0 = λ z. AreTaken same always z y.taken in
@@ -169,6 +171,6 @@ module _ {V : Type 0} (same : V → V → Bool) (always : Bool) where
     beyond = λ i l. refl;
   }
 
-  -- from the empty map on
+  -- steps from a root alone play on the map from the empty one
   pub runs_fresh : (s : World V) (taken : List (Taken V)) → IsFresh s → Holds same always s → AreTaken same always s taken → PlaysMap same no_flights empty s taken
   runs_fresh s taken fresh h x = runs_map s taken no_flights empty h x (standing_empty (nodes s.forest) fresh.alone) (fresh_flights s fresh)

@@ -58,7 +58,7 @@ module _ {V : Type 0} where
   has_more [] all k more t = tt
   has_more (m ∷ few) all k more t = (has_one m all k (more m (inl refl)) t, has_more few all k (λ x a. more x (inr a)) t)
 
-  pub scan_more : (start end size : ℕ) (few all : List (Pairs V)) (found : List (ℕ × V)) → ((x : Pairs V) → Among few x → Among all x) → IsScan start end size few found → IsScan start end size all found
+  scan_more : (start end size : ℕ) (few all : List (Pairs V)) (found : List (ℕ × V)) → ((x : Pairs V) → Among few x → Among all x) → IsScan start end size few found → IsScan start end size all found
   scan_more start end size few all found more s = record {
     rises = s.rises;
     few = s.few;
@@ -73,6 +73,7 @@ module _ {V : Type 0} where
     pub on_tree : target op ≡ target.Tree point
     pub range : range_in point ≡ Some (start, end, size)
 
+  -- a call with this range is a scan of it
   pub on_range : (op : Op V) (start end size : ℕ) → range_of op ≡ Some (start, end, size) → OnRange op start end size
   on_range (call.Range a b c) start end size e = record { point = point.Range a b c; on_tree = refl; range = e }
   on_range (call.RangeInclusive a b c) start end size e = record { point = point.RangeInclusive a b c; on_tree = refl; range = e }
@@ -141,12 +142,13 @@ module _ {V : Type 0} (same : V → V → Bool) where
     both true false e = absurd (cc e)
     both false c e = absurd (cc e)
 
+    -- a further step of the scan under way is one of a scan by the maps that stood
     pub goes_step : (fs : Flights V) (m : Pairs V) (places : List (ℕ × V)) (l : Line V) (fs1 : Flights V) → Among all m → Under fs places → goes w l ≡ true → MapStep same fs m l fs1 → Next fs m places l fs1
     goes_step fs m places l fs1 am u g x =
         let b = both (l.step.worker == w) (is_go l.step.event) g in
         go_step fs m places l fs1 l.step.event refl am u (eqb-true l.step.worker w b.0) b.1 x
 
-    -- the scan is done
+    -- a scan that is done has found what a scan promises by all maps that stood
     pub ends : (fs : Flights V) (m : Pairs V) (places : List (ℕ × V)) (l : Line V) (fs1 : Flights V) (count : ℕ) → Next fs m places l fs1 → l.report.outcome ≡ Done (Scanned count) → (count ≤ length places) × IsScan start end size all (take count places)
     ends fs m places l fs1 count n done = by_outcome n.step.outcome (sym n.step.told_so ∙ done) n.step.tells
       where
@@ -162,7 +164,7 @@ module _ {V : Type 0} (same : V → V → Bool) where
         by_outcome (moved.Done r) e t = absurd t
         by_outcome (moved.Refused c) e t = absurd (cc e)
 
-    -- or goes on
+    -- a scan that goes on is under way still, and its pair comes to its place
     pub goes_further : (fs : Flights V) (m : Pairs V) (places : List (ℕ × V)) (l : Line V) (fs1 : Flights V) → Next fs m places l fs1 → goes_on l.report.outcome ≡ true
         → Comes true l.report.outcome places × Under fs1 (placed true l.report.outcome places)
     goes_further fs m places l fs1 n on =
@@ -215,7 +217,7 @@ module _ {V : Type 0} (same : V → V → Bool) where
     event_apart fs m places l fs1 (Go noise) g u x =
         go_apart fs m l fs1 noise.answer (fs l.step.worker) (λ e. eqb-false l.step.worker w (not_both (l.step.worker == w) g) (sym e)) x
 
-    -- whatever the lines, up to its end
+    -- over whatever lines up to its end a scan fills its places in order, with what a scan promises
     pub during_lines : (fs : Flights V) (m : Pairs V) (places : List (ℕ × V)) (during after : List (Line V)) (end_line : Line V) (fs' : Flights V) (count : ℕ) → Among all m → ((x : Pairs V) → Among (map (λ l. l.pairs) during) x → Among all x) → Under fs places
         → IsMapRun same fs m (during ++ end_line ∷ after) fs' → GoesOn w during → EndsScan w count end_line
         → AllCome w during places × (count ≤ length (told_to w during places)) × IsScan start end size all (take count (told_to w during places))
@@ -243,6 +245,7 @@ module _ {V : Type 0} (same : V → V → Bool) where
     pub promises : (states : List (Pairs V)) (found : List (ℕ × V)) → IsScan from to places states found → IsScan start end size states found
     pub same_pairs : l.pairs ≡ m
 
+  -- a scan that begins is in flight, by the pairs that stand then
   pub begins_at : (fs : Flights V) (m : Pairs V) (w start end size : ℕ) (all : List (Pairs V)) (l : Line V) (fs1 : Flights V) → BeginsScan w start end size l → MapStep same fs m l fs1 → BegunScan w start end size all m l fs1
   begins_at fs m w start end size all l fs1 b x =
       let r = on_range b.op start end size b.range in
@@ -262,6 +265,7 @@ module _ {V : Type 0} (same : V → V → Bool) where
         same_pairs = y.same_pairs;
       }
 
+  -- each scan that begins and is done in a map's run found what a scan promises
   pub scans_hold : (fs : Flights V) (m : Pairs V) (lines : List (Line V)) (fs' : Flights V) → IsMapRun same fs m lines fs' → ScansHold lines
   scans_hold fs m lines fs' r before during after b e w start end size count is begins on ends =
       let P : List (Line V) → Type 0 = λ ls. IsMapRun same fs m ls fs' in
@@ -271,6 +275,7 @@ module _ {V : Type 0} (same : V → V → Bool) where
       let z = during_lines w y.from y.to y.places all x.1.0 b.pairs [] during after e fs' count (inl refl) (λ p i. inr i) y.under x.1.2 on ends in
       record { in_order = z.0; filled = z.1; scan = y.promises all (take count (told_to w during [])) z.2 }
 
+  -- each scan that is done as it begins in a map's run found nothing, as a scan promises
   pub empty_scans_hold : (fs : Flights V) (m : Pairs V) (lines : List (Line V)) (fs' : Flights V) → IsMapRun same fs m lines fs' → EmptyScansHold lines
   empty_scans_hold fs m lines fs' r before after l op start end size count is begins range done =
       let q = on_range op start end size range in

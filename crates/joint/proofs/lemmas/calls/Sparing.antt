@@ -119,6 +119,7 @@ module _ {V : Type 0} (same : V → V → Bool) (always : Bool) (leaves : (s : N
     proceeds (Begin op) r x = begins (target op) r x
     proceeds (Go noise) r x = goes (slice_get s.calls w) noise r refl x
 
+    -- a step destroys nodes alone that waited without a name in a call, or that its worker's own call had made
     pub step_spares : (event : Event V) (o : Option Fault) (r : Report V) → Does same always s w event o r s' → SparesUsed s w s'
     step_spares event None r x = proceeds event r x
     step_spares event (Some f) r x = unchanged x.1
@@ -131,6 +132,7 @@ module _ {V : Type 0} (same : V → V → Bool) (always : Bool) (leaves : (s : N
     | inr (inr y) ↦ inr (inr y)
   ]
 
+  -- no step of a run destroys a node in use
   pub all_spare : (s : World V) (taken : List (Taken V)) → Holds same always s → AreTaken same always s taken → AllSpare s taken
   all_spare s [] h x = tt
   all_spare s (t ∷ ts) h x = (whole_step s t.step t.report t.after (finds_journal_full s t.step.worker t.step.event) h x.0.does, all_spare t.after ts x.0.holds x.1)

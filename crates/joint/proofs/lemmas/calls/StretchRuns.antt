@@ -292,6 +292,7 @@ module _ {V : Type 0} (same : V → V → Bool) (always : Bool) (laws : CallLaws
     goes (Some (Securing c)) noise r e calm x l = securing s s' w holds c r e x l
     goes (Some Walking) noise r e calm x l = walks s s' w holds noise r e x l
 
+    -- a step that doesn't end the stretch leaves the node standing, its removals blocked and no call holding it
     pub does : (event : Event V) (o : Option Fault) (r : Report V) → misuse s w event ≡ o → (w ≡ p → misuse s w event ≡ None → turns_stretch event (place_of s w) ≡ false) → Does same always s w event o r s' → Lasts s → Lasts s'
     does event (Some f) r e calm x l = same_forest s s' w holds (ap (λ y. y.forest) x.1) (still s s' w holds (ap (λ y. y.machines) x.1)) l
     does Register None r e calm (inl x) l = lasts s s' w holds (subst (λ (f : Nodes V). On f) (sym (ap (λ y. y.forest) x.1.state)) ((l.on.0.0, joined p it l.on.0.0 s.forest.collector x.0 x.1.inside l.on.0.1), l.on.1)) (still s s' w holds (ap (λ y. y.machines) x.1.state)) l
@@ -371,5 +372,6 @@ module _ {V : Type 0} (same : V → V → Bool) (always : Bool) (laws : CallLaws
               from seen st (λ j y. let R : ℕ → Type 0 = λ k. MadeBy id_number y.0.phase k in sound.unseen j y.0 it y.1 (subst R (sym (number_named n)) y.2) (cells.visible_was h.0.safe.sound.past p it seen)))
         ]
 
+  -- a node that a pinned worker sees stands after each step until the worker's stretch ends
   pub stands_on : (s : World V) (ts : List (Taken V)) → Holds same always s → AreTaken same always s ts → SeesNode s p n → StandsOn p n s ts
   stands_on s ts h y v = all_stand s ts h y (sees s h v)

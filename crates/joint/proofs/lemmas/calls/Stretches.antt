@@ -100,12 +100,15 @@ module _ {T J : Type 0} (p : ℕ) (n : Name) where
     all = λ t d. blocked_mark k h p t n e b.on d (b.all t);
   }
 
+  -- where the cells alone change, what the stretch blocks stays blocked
   pub stored : (h : List Mark) (s s' : State T J) → s' ≡ with_store s s'.store → IsBlocked p n h s → IsBlocked p n h s'
   stored h s s' e b = record { fits = fits_store h s s' e b.fits; on = b.on; all = b.all }
 
+  -- a registration leaves what the stretch blocks
   pub joined : (h : List Mark) (s : State T J) (q : ℕ) → q < length s.table → IsBlocked p n h s → IsBlocked p n h (registered s q)
   joined h s q l b = record { fits = fits_registered h s q l b.fits; on = b.on; all = b.all }
 
+  -- a deferral leaves what the stretch blocks, and is blocked itself where it is of that name
   pub deferring : (h : List Mark) (s : State T J) (who : ℕ) (c : Name) → who < length s.table → (place s who).phase ≡ stage.Idle → length (place s who).bag < bag_places → IsBlocked p n h s → IsBlocked p n (Deferred s.next (Some c) ∷ h) (deferred s who (Remove c))
   deferring h s who c l idle room b = marked (Deferred s.next (Some c)) h s (deferred s who (Remove c)) refl b (by (length (place s who).bag == bag_places) refl (fits_after_deferral h s who (Remove c) l idle b.fits))
     where
@@ -152,6 +155,7 @@ module _ {T J : Type 0} (p : ℕ) (n : Name) where
   called_fits h s who Go Done k s' q f = f
 
   module _ {names : T → List Name} (cells : CellLaws {T = T} J names) where
+    -- a step of the collector doesn't take out a value whose removals are blocked
     pub live_on : (h : List Mark) (s s' : State T J) (who : ℕ) (event : Event) (r : Report) → IsReport s who event r → Moves s who r.called s' → IsBlocked p n h s → is_some (value_at s.store n) ≡ true → is_some (value_at s'.store n) ≡ true
     live_on h s s' who event r is m b live = by r.called refl m.cells
       where

@@ -188,7 +188,7 @@ module _ {V : Type 0} (same : V → V → Bool) (always : Bool) where
       ap (λ y. is_question y.outcome) x.report
       ∙ does_quiet (engine_of s) (engine_of s') step.worker (holds.0, holds.1) fs (record { each = fl.each; beyond = fl.beyond }) over noise (misuse (engine_of s) step.worker (Go noise)) x.told (subst P e x.engine.does)
 
-  -- what each call wants after a step
+  -- a call wants an answer after a step of its own that asks, and after another's where it did before
   pub step_wants : (s : World V) (step : Step V) (r : Report V) (s' : World V) (w : ℕ) → Holds same always s → IsStep same always s step r s'
       → asks_at (slice_get s'.machines w) ≡ wants_if (asks_at (slice_get s.machines w)) (step.worker == w) step.event r.outcome
   step_wants s step r s' w h x =
@@ -199,9 +199,11 @@ module _ {V : Type 0} (same : V → V → Bool) (always : Bool) where
       let quiet : (noise : Noise Id V) → step.event ≡ Go noise → h.2.flights step.worker ≡ Over → is_question r.outcome ≡ false = λ noise e over. step_quiet s s' step r (finds_journal_full s step.worker step.event) h h.2.flights h.2.in_flight noise e over x.does in
       after ∙ event_tells same h.2.flights h.2.pairs step.event l a.flights w quiet a.map (step.worker == w) refl ∙ sym (ap (λ b. wants_if b (step.worker == w) step.event r.outcome) before)
 
+  -- after any steps a call wants an answer just where what its worker was told says so
   pub run_wants : (s : World V) (ts : List (Taken V)) (w : ℕ) → Holds same always s → AreTaken same always s ts → asks_at (slice_get (after_all s ts).machines w) ≡ wants_after w (asks_at (slice_get s.machines w)) ts
   run_wants s [] w h x = refl
   run_wants s (t ∷ ts) w h x = run_wants t.after ts w x.0.holds x.1 ∙ ap (λ b. wants_after w b ts) (step_wants s t.step t.report t.after w h x.0)
 
+  -- from a root alone on it wants one just where what the worker was told since says so
   pub fresh_wants : (s : World V) (ts : List (Taken V)) (w : ℕ) → IsFresh s → Holds same always s → AreTaken same always s ts → asks_at (slice_get (after_all s ts).machines w) ≡ wants_after w false ts
   fresh_wants s ts w fresh h x = run_wants s ts w h x ∙ ap (λ b. wants_after w b ts) (asks_here same always s w (h.0, h.1) no_flights (fresh_flights same always s fresh))

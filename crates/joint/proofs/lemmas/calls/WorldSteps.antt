@@ -68,6 +68,7 @@ module _ {V : Type 0} (same : V → V → Bool) (always : Bool) where
           long = long;
         }) g told (unchanged ∙ ap (λ o. record told { kept = is_some o }) (sym none))
 
+  -- a registration of the engine is a step of the whole machine that writes nothing down
   pub register_step : (s s' : World V) (worker : ℕ) (told : Report V) → Holds same always s → IsEngineStep same always (engine_of s) (record { worker = worker; event = Register }) told (engine_of s') → s'.log ≡ s.log
       → IsStep same always s (record { worker = worker; event = Register }) told s'
   register_step s s' worker told h e l =
@@ -75,7 +76,7 @@ module _ {V : Type 0} (same : V → V → Bool) (always : Bool) where
       still s s' (record { worker = worker; event = Register }) told h e d refl (register_even same always (engine_of s) (engine_of s') worker (h.0, h.1) told e.does)
       (ap (λ (y : Log V). y.entries) l) (ap (λ (y : Log V). y.places) l) (ap (λ (y : Log V). y.reserved) l) (λ a. ap (λ (y : Log V). y.requests) l) (ap (λ (y : Log V). length y.requests) l)
 
-  -- a begin
+  -- a begin of the engine, with what was asked for written down, is a step of the whole machine
   pub begin_step : (s s' : World V) (worker : ℕ) (op : Op V) (q : Option (Request V)) (told : Report V) → Holds same always s → IsEngineStep same always (engine_of s) (record { worker = worker; event = Begin op }) told (engine_of s')
       → (always ≡ true → q ≡ asked op) → s'.log ≡ with_request s.log worker (is_in_flight told.outcome) q → IsStep same always s (record { worker = worker; event = Begin op }) told s'
   begin_step s s' worker op q told h e i l =
@@ -154,15 +155,19 @@ module _ {V : Type 0} (same : V → V → Bool) (always : Bool) where
   abbrev kept_of : Log V → Bool → Option (Entry V) → Log V
   kept_of l d x = record l { entries = l.entries ++ in_list (kept_if d (has_room l) x) }
 
+  -- a request that is taken out of its place and put back changes nothing but that place
   pub hear_put : (l l1 l2 : Log V) (w : ℕ) (h : Option (Request V)) → l1 ≡ heard_of l w None → l2 ≡ heard_of l1 w h → l2 ≡ heard_of l w h
   hear_put l l1 l2 w h e1 e2 = e2 ∙ ap (λ (y : Log V). heard_of y w h) e1 ∙ ap (λ qs. record l { requests = qs }) (set-set l.requests w None h)
 
+  -- the request in a worker's place is the one that was put there
   pub hear_left : (l l' : Log V) (w : ℕ) (h : Option (Request V)) → l' ≡ heard_of l w h → l' ≡ heard_of l w (request_at l'.requests w)
   hear_left l l' w h e = e ∙ ap (λ qs. record l { requests = qs }) (put_here l.requests w h) ∙ ap (λ (y : Log V). heard_of l w (request_at y.requests w)) (sym e)
 
+  -- the request in a worker's place is the one before with the answer that it heard
   pub hear_heard : (l l' : Log V) (w : ℕ) (answer : Option (Option V)) (h : Option (Request V)) → l' ≡ heard_of l w h → h ≡ answered_if true answer (request_at l.requests w) → request_at l'.requests w ≡ answered_if true answer (request_at l.requests w)
   hear_heard l l' w answer h e i = ap (λ (y : Log V). request_at y.requests w) e ∙ heard_here l.requests w answer h i
 
+  -- the parts of what is written down in a further step, one after another, are the whole of it
   pub went_by : (l l1 l2 l3 l4 : Log V) (worker : ℕ) (b a b' a' d : Bool) (x : Option (Entry V)) (on on' : Bool) (q : Option (Request V)) → l1 ≡ heard_of l worker q → l2 ≡ count_of l1 b a → recounted l.places b a l.reserved ≡ recounted l.places b' a' l.reserved → l3 ≡ kept_of l2 d x → l4 ≡ with_request l3 worker (not on) None → on ≡ on'
       → l4 ≡ went_log l worker b' a' d x on' q
   went_by l l1 l2 l3 l4 worker b a b' a' d x on on' q e1 e2 ec e3 e4 eo =
@@ -170,15 +175,18 @@ module _ {V : Type 0} (same : V → V → Bool) (always : Bool) where
       ∙ ap (λ n. with_request (kept_of (record (heard_of l worker q) { reserved = n }) d x) worker (not on) None) ec
       ∙ ap (λ y. with_request (kept_of (count_of (heard_of l worker q) b' a') d x) worker (not y) None) eo
 
+  -- there is room for the entry just where there is once the places are counted anew
   pub room_by : (l l1 l2 : Log V) (worker : ℕ) (q : Option (Request V)) (b a b' a' : Bool) → l1 ≡ heard_of l worker q → l2 ≡ count_of l1 b a → recounted l.places b a l.reserved ≡ recounted l.places b' a' l.reserved → has_room l2 ≡ has_room (record l { reserved = recounted l.places b' a' l.reserved })
   room_by l l1 l2 worker q b a b' a' e1 e2 ec =
       ap has_room e2 ∙ ap (λ (y : Log V). has_room (count_of y b a)) e1 ∙ ap (λ n. has_room (record (heard_of l worker q) { reserved = n })) ec
 
+  -- the report says that the journal kept the call just where its entry is written down
   pub kept_by : (l l1 l2 : Log V) (worker : ℕ) (q : Option (Request V)) (b a b' a' d k : Bool) (x : Option (Entry V)) (told r : Report V) → l1 ≡ heard_of l worker q → l2 ≡ count_of l1 b a → recounted l.places b a l.reserved ≡ recounted l.places b' a' l.reserved → k ≡ is_some (kept_if d (has_room l2) x) → r ≡ record told { kept = k }
       → r ≡ record told { kept = is_some (kept_if d (has_room (record l { reserved = recounted l.places b' a' l.reserved })) x) }
   kept_by l l1 l2 worker q b a b' a' d k x told r e1 e2 ec ek er =
       er ∙ ap (λ y. record told { kept = y }) (ek ∙ ap (λ y. is_some (kept_if d y x)) (room_by l l1 l2 worker q b a b' a' e1 e2 ec))
 
+  -- the places counted anew are as many where the same calls have one
   pub recounted_same : (places : ℕ) (b a b' a' : Bool) (n : ℕ) → b ≡ b' → a ≡ a' → recounted places b a n ≡ recounted places b' a' n
   recounted_same places b a b' a' n eb ea = ap (λ y. recounted places y a n) eb ∙ ap (λ y. recounted places b' y n) ea
 
@@ -215,6 +223,7 @@ module _ {V : Type 0} (same : V → V → Bool) (always : Bool) where
         same_kept counted told.decided x (entry_at s worker (Go noise) told s') (λ d z. y (room_always z) d z ∙ ap (λ o. entry_of worker o (reply_by told.outcome (slice_get s'.machines worker))) (i (room_always z)))
         ∙ ap (λ b. kept_if told.decided b (entry_at s worker (Go noise) told s')) (sym (same_room l))
 
+    -- a further step of the engine, with this written down, is a step of the whole machine
     pub go_step : s'.log ≡ left → (always ≡ true → told.decided ≡ true → has_room counted ≡ true → x ≡ entry_of worker q (reply_by told.outcome (slice_get s'.machines worker))) → r ≡ record told { kept = is_some (kept_if told.decided (has_room counted) x) }
         → IsStep same always s (record { worker = worker; event = Go noise }) r s'
     go_step l y is =
@@ -254,6 +263,7 @@ module _ {V : Type 0} (same : V → V → Bool) (always : Bool) where
       ∙ ap (λ n. with_request (record (heard_of l w q) { entries = l.entries ++ in_list (kept_if d (has_room (record (heard_of l w q) { reserved = recounted l.places b a l.reserved })) None); reserved = n }) w (not on) None) (sym (unkept_count l.places b a l.reserved e))
       ∙ ap (λ y. with_request (kept_of (count_of (heard_of l w q) b a) d None) w (not y) None) eo
 
+  -- so is one where no journal is kept, of which the request alone is written down
   pub unkept_step : (s s' : World V) (worker : ℕ) (noise : Noise Id V) (q : Option (Request V)) (l1 : Log V) (on : Bool) (told : Report V) → Holds same always s → IsEngineStep same always (engine_of s) (record { worker = worker; event = Go noise }) told (engine_of s') → ltb 0 s.log.places ≡ false
       → (always ≡ true → q ≡ answered_request s worker (Go noise)) → l1 ≡ heard_of s.log worker q → s'.log ≡ with_request l1 worker (not on) None → on ≡ is_in_flight told.outcome → IsStep same always s (record { worker = worker; event = Go noise }) told s'
   unkept_step s s' worker noise q l1 on told h e z i e1 e2 eo =
@@ -271,14 +281,17 @@ module _ {V : Type 0} (same : V → V → Bool) (always : Bool) where
   none_heard true None = refl
   none_heard false q = refl
 
+  -- where both of two tests hold, the first does
   pub and_left : (a b : Bool) → (a && b) ≡ true → a ≡ true
   and_left true b e = refl
   and_left false b e = e
 
+  -- where both of two tests hold, the second does
   pub and_right : (a b : Bool) → (a && b) ≡ true → b ≡ true
   and_right true b e = e
   and_right false b e = absurd (cc e)
 
+  -- a writing call that finds the journal full and is given up is a step of the whole machine
   pub give_up_step : (s s' : World V) (worker : ℕ) (noise : Noise Id V) (r : Report V) (h : Holds same always s) (b : is_reserving (slice_get s.calls worker) ≡ true) → is_full s.log ≡ true → EngineHolds same always s'
       → s' ≡ given_up same always s worker h b → r ≡ quiet OfCollector (Refused JournalFull) → IsStep same always s (record { worker = worker; event = Go noise }) r s'
   give_up_step s s' worker noise r h b f h' e q =
@@ -299,6 +312,7 @@ module _ {V : Type 0} (same : V → V → Bool) (always : Bool) where
       let rest : places_of ks ms ≡ 0 = none_reserved ks ms (λ i y q. f (suc i) y q) in
       omega (arith, z, rest)
 
+  -- with nothing written down and no call in flight, what is written down fits
   pub opened_logged : (s : World V) (n places : ℕ) → IsFresh s → s.log ≡ opened_log n places → length s.calls ≡ n → (0 < places → always ≡ true) → IsLogged same always s
   opened_logged s n places fresh l long copies = record {
     room = (let P : Log V → Type 0 = λ y. length y.entries + y.reserved ≤ y.places in subst P (sym l) (omega arith));
@@ -313,7 +327,7 @@ module _ {V : Type 0} (same : V → V → Bool) (always : Bool) where
     legal = λ p. (let P : Log V → Type 0 = λ y. Legal same empty y.entries empty in subst P (sym l) refl);
   }
 
-  -- its journal
+  -- two maps that stand in the same nodes are one
   pub one_map : (hp : ℕ → Node V) (m n : Pairs V) → IsMapOf hp m → IsMapOf hp n → m ≡ n
   one_map hp m n a b = same_pairs m n by where
     by : (q : ℕ) → get m q ≡ get n q
@@ -326,14 +340,16 @@ module _ {V : Type 0} (same : V → V → Bool) (always : Bool) where
   no_entries [] r p e l = refl
   no_entries (x ∷ es) r p e l = absurd (omega (arith, e, l))
 
-  pub journal_none : (s : World V) → Holds same always s → s.log.places ≡ 0 → s.log.entries ≡ []
+  journal_none : (s : World V) → Holds same always s → s.log.places ≡ 0 → s.log.entries ≡ []
   journal_none s h e = no_entries s.log.entries s.log.reserved s.log.places e h.2.room
 
+  -- the journal's entries are legal from the empty map on
   pub journal_legal : (s : World V) → Holds same always s → IsLegal same s.log.entries
   journal_legal s h = by s.log.places refl where
     by : (p : ℕ) → s.log.places ≡ p → IsLegal same s.log.entries
     by zero e = let P : List (Entry V) → Type 0 = λ es. IsLegal same es in subst P (sym (journal_none s h e)) (empty, refl)
     by (suc p) e = (h.2.pairs, h.2.legal (omega (arith, e)))
 
+  -- and lead to the pairs that stand
   pub journal_replays : (s : World V) → Holds same always s → (m : Pairs V) → 0 < s.log.places → IsMapOf (nodes s.forest) m → Legal same empty s.log.entries m
   journal_replays s h m p st = subst (λ n. Legal same empty s.log.entries n) (one_map (nodes s.forest) h.2.pairs m h.2.stand st) (h.2.legal p)

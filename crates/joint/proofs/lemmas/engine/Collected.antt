@@ -119,6 +119,7 @@ module _ {T J C V : Type 0} (tnames : T → List Name) (view : Bool → Option T
   no_gift : (n : Name) (x : Act) → IsBy who x → x ≡ GivenBack n → ⊥
   no_gift n x b e = let P : Act → Type 0 = λ y. IsBy who y in subst P e b
 
+  -- with this step's moment the history still is as the collector's promise on reach asks
   pub careful : IsCareful (now ∷ past)
   careful = record {
     leaves = (λ t n d i. never t n (cells.deferred_before (marks_of past) who t n a by d) (before n i), sound.careful.leaves);
@@ -178,6 +179,7 @@ module _ {T J C V : Type 0} (tnames : T → List Name) (view : Bool → Option T
         made = ap (λ x. x.made) q ∙ ok.used;
       }
 
+  -- nodes go that had been handed over and that no call names, and each other one is as it was
   pub destroys : Destroys num (heap_of view s.store) ms (heap_of view s'.store)
   destroys = record {
     each = λ k. elim (fate (named k)) [
@@ -189,6 +191,7 @@ module _ {T J C V : Type 0} (tnames : T → List Name) (view : Bool → Option T
         as_it_was (named k) (kept i m (named k) at (subst P (sym (number_named k)) c))) (names num m.phase) (All-contains_itself (names num m.phase));
   }
 
+  -- the calls know and hold the nodes as before, and the map is the same
   pub spares_all : Settled num same always (heap_of view s'.store) ms × SameMap (heap_of view s.store) (heap_of view s'.store)
   spares_all = calls.spares (heap_of view s.store) ms notes (heap_of view s'.store) sound.settled.1 sound.settled.2 destroys
 
@@ -201,6 +204,7 @@ module _ {T J C V : Type 0} (tnames : T → List Name) (view : Bool → Option T
     | inr gone ↦ absurd (let f : is_some (value_at s'.store n) ≡ false = is_none_false (value_at s'.store n) gone.1 in cc)
   ]
 
+  -- tree, calls and history are sound after the step
   pub collected : Sound tnames view num same always top (now ∷ past) s' ms
   collected = record {
     orderly = moves.orderly;

@@ -30,7 +30,7 @@ use Rattle.joint.specs.engine.Laws.{ProgressLaws}
 use Rattle.joint.specs.engine.Safety.{Rests, Collected}
 use Rattle.joint.proofs.lemmas.engine.SecuredPlaces.{with_room}
 
--- what stands in a list after one of its places was exchanged
+-- in a list with one place set stands what was put there, and elsewhere what stood
 pub either : {A : Type 0} → (xs : List A) (i j : ℕ) (x y : A) → slice_get (set xs i x) j ≡ Some y → ((j ≡ i) × (x ≡ y)) ⊎ ((j ≢ i) × (slice_get xs j ≡ Some y))
 either [] i j x y e = absurd cc
 either (z ∷ xs) zero zero x y e = inl (refl, cc)
@@ -47,7 +47,7 @@ get_inside [] i l = absurd (omega (arith, l))
 get_inside (x ∷ xs) zero l = (x, refl)
 get_inside (x ∷ xs) (suc i) l = get_inside xs i (omega (arith, l))
 
--- the machine under other names
+-- an intact machine is intact under other names
 pub intact_at : {V : Type 0} (same : V → V → Bool) (always : Bool) (s s' : Nodes V) (ms ms' : List (Machine Id V)) (calls calls' : List (InFlight V)) → s' ≡ s → ms' ≡ ms → calls' ≡ calls → IsIntact same always s ms calls → IsIntact same always s' ms' calls'
 intact_at {V} same always s s' ms ms' calls calls' es em ec i =
     let P : Nodes V → Type 0 = λ x. IsIntact same always x ms' calls' in
@@ -55,24 +55,29 @@ intact_at {V} same always s s' ms ms' calls calls' es em ec i =
     let R : List (InFlight V) → Type 0 = λ x. IsIntact same always s ms x in
     subst P (sym es) (subst Q (sym em) (subst R (sym ec) i))
 
--- a step of the collector, with the nodes and the calls under other names
+-- a step of the collector is one with the nodes and the calls under other names
 pub collected_at : {V : Type 0} (same : V → V → Bool) (always : Bool) (s1 s s' : Nodes V) (ms1 ms : List (Machine Id V)) (who : ℕ) (event : Event) (r : Report) → s1 ≡ s → ms1 ≡ ms → Collected same always s1 ms1 who event r s' → Collected same always s ms who event r s'
 collected_at {V} same always s1 s s' ms1 ms who event r es em c =
     subst (λ (x : Nodes V). Collected same always x ms who event r s') es (subst (λ (x : List (Machine Id V)). Collected same always s1 x who event r s') em c)
 
 module _ {V : Type 0} (same : V → V → Bool) (always : Bool) (s : Nodes V) (ms : List (Machine Id V)) (calls : List (InFlight V)) (intact : IsIntact same always s ms calls) (who : ℕ) where
+  -- a worker that has a call in flight or is idle has its place among the calls
   pub inside : (k : InFlight V) → slice_get calls who ≡ Some k → who < length calls
   inside k at = slice_get_within calls who k at
 
+  -- and so it has among the machines
   pub inside_machines : (k : InFlight V) → slice_get calls who ≡ Some k → who < length ms
   inside_machines k at = subst (λ (n : ℕ). who < n) (sym intact.machines) (inside k at)
 
+  -- an idle worker has no call on the tree in flight
   pub idle_rests : slice_get calls who ≡ Some Idle → Rests ms who
   idle_rests at m here = (intact.each who Idle m at here).1
 
+  -- a worker whose call is on the collector has no call on the tree in flight
   pub on_rests : (op : Op) → slice_get calls who ≡ Some (Collecting op) → Rests ms who
   on_rests op at m here = (intact.each who (Collecting op) m at here).1
 
+  -- after a step of the collector the machine is intact with a call of the worker that fits its place and machine
   pub after_step : (event : Event) (r : Report) (s' : Nodes V) (k' : InFlight V) → Collected same always s ms who event r s' → ((m : Machine Id V) → slice_get ms who ≡ Some m → IsAt k' (place s'.collector who) m) → IsIntact same always s' ms (set calls who k')
   after_step event r s' k' c now = record {
     safe = c.safe;
@@ -95,6 +100,7 @@ module _ {V : Type 0} (same : V → V → Bool) (always : Bool) (laws : Progress
   begun_at op Done c c' m i e b = (b.1, e)
   begun_at op (Refused f) c c' m i e b = (ap (λ x. (place x who).phase) b.1 ∙ i, e)
 
+  -- a call on the collector that begins leaves the machine intact
   pub begun : (op : Op) (r : Report) (s' : Nodes V) → slice_get calls who ≡ Some Idle → Collected same always s ms who (Begin op) r s' → IsIntact same always s' ms (set calls who (call_after r.outcome (Collecting op)))
   begun op r s' at c = after_step same always s ms calls intact who (Begin op) r s' (call_after r.outcome (Collecting op)) c (λ m here.
       let x : ((place s.collector who).phase ≡ stage.Idle) × (m.phase ≡ Ended) = intact.each who Idle m at here in
@@ -106,6 +112,7 @@ module _ {V : Type 0} (same : V → V → Bool) (always : Bool) (laws : Progress
   gone_at op Done c c' m e b = (b.0, e)
   gone_at op (Refused f) c c' m e b = (b.2, e)
 
+  -- a call on the collector that goes on leaves the machine intact
   pub gone : (op : Op) (r : Report) (s' : Nodes V) → slice_get calls who ≡ Some (Collecting op) → Collected same always s ms who Go r s' → IsIntact same always s' ms (set calls who (call_after r.outcome (Collecting op)))
   gone op r s' at c = after_step same always s ms calls intact who Go r s' (call_after r.outcome (Collecting op)) c (λ m here.
       let x : IsOn op (place s.collector who) × (m.phase ≡ Ended) = intact.each who (Collecting op) m at here in
@@ -119,7 +126,7 @@ set_here (z ∷ xs) zero x y e = refl
 set_here (z ∷ xs) (suc i) x y e = set_here xs i x y e
 
 -- a writing call that makes its places free
-pub securing_call : {V : Type 0} (x : Option (InFlight V)) → IsSecuring x → (op : Point V) × (x ≡ Some (Securing op))
+securing_call : {V : Type 0} (x : Option (InFlight V)) → IsSecuring x → (op : Point V) × (x ≡ Some (Securing op))
 securing_call (Some (Securing op)) s = (op, refl)
 securing_call (Some Idle) s = absurd s
 securing_call (Some (Collecting op)) s = absurd s
@@ -128,11 +135,13 @@ securing_call (Some Walking) s = absurd s
 securing_call None s = absurd s
 
 module _ {V : Type 0} (same : V → V → Bool) (always : Bool) (s : Nodes V) (ms : List (Machine Id V)) (calls : List (InFlight V)) (intact : IsIntact same always s ms calls) (who : ℕ) where
+  -- a worker that makes its places free has no call on the tree in flight
   pub securing_rests : IsSecuring (slice_get calls who) → Rests ms who
   securing_rests q m here =
       let k : (op : Point V) × (slice_get calls who ≡ Some (Securing op)) = securing_call (slice_get calls who) q in
       (intact.each who (Securing k.0) m k.1 here).2
 
+  -- a worker that makes its places free has its place among the calls
   pub securing_inside : IsSecuring (slice_get calls who) → who < length calls
   securing_inside q = let k : (op : Point V) × (slice_get calls who ≡ Some (Securing op)) = securing_call (slice_get calls who) q in inside same always s ms calls intact who (Securing k.0) k.1
 
@@ -146,7 +155,7 @@ module _ {V : Type 0} (same : V → V → Bool) (always : Bool) (s : Nodes V) (m
     fits : (o : Outcome) → r.outcome ≡ o → (m : Machine Id V) → slice_get ms who ≡ Some m → GoesOn s.collector who (Secure 2) o s'.collector
     fits o e m here = let P : Outcome → Type 0 = λ y. GoesOn s.collector who (Secure 2) y s'.collector in subst P e (goes m here)
 
-    -- it goes on
+    -- where it goes on, the step is one that makes places free
     pub secures_on : r.outcome ≡ Running → (ms' : List (Machine Id V)) (calls' : List (InFlight V)) → ms' ≡ ms → calls' ≡ set (set calls who Idle) who (Securing op) → Secured same always s ms calls who r s' ms' calls'
     secures_on e ms' calls' em ec =
         let q : calls' ≡ set calls who (Securing op) = ec ∙ set-set calls who Idle (Securing op) in
@@ -161,7 +170,7 @@ module _ {V : Type 0} (same : V → V → Bool) (always : Bool) (s : Nodes V) (m
           machine = em ∙ sym (ap (λ o. secured_machines o (slice_get calls who) ms who) e);
         }
 
-    -- it finds no memory
+    -- where it is refused, the step is one that makes places free, and leaves the worker idle
     pub refused_then : (f : Fault) → r.outcome ≡ Refused f → (ms' : List (Machine Id V)) (calls' : List (InFlight V)) → ms' ≡ ms → calls' ≡ set calls who Idle → Secured same always s ms calls who r s' ms' calls'
     refused_then f e ms' calls' em ec =
         let i : IsIntact same always s' ms (set calls who Idle) = after_step same always s ms calls intact who Go r s' Idle c (λ m here.
@@ -175,16 +184,18 @@ module _ {V : Type 0} (same : V → V → Bool) (always : Bool) (s : Nodes V) (m
           machine = em ∙ sym (ap (λ o. secured_machines o (slice_get calls who) ms who) e);
         }
 
-    -- the places are free
+    -- once the places are free, the machine is intact with the worker idle
     pub free_intact : r.outcome ≡ Done → IsIntact same always s' ms (set calls who Idle)
     free_intact e = after_step same always s ms calls intact who Go r s' Idle c (λ m here.
         let x : IsAt (Securing op) (place s.collector who) m = intact.each who (Securing op) m at here in
         let g : GoesOn s.collector who (Secure 2) Done s'.collector = fits Done e m here in
         (g.0, x.2))
 
+    -- with its call put away the worker is idle
     pub free_idle : slice_get (set calls who Idle) who ≡ Some Idle
     free_idle = set_here calls who Idle (Securing op) at
 
+    -- once its places are free, the worker may begin the call on the tree
     pub free_may : r.outcome ≡ Done → MayStart s'.collector who op
     free_may e =
         let w : (m : Machine Id V) × (slice_get ms who ≡ Some m) = get_inside ms who (inside_machines same always s ms calls intact who (Securing op) at) in
@@ -193,6 +204,7 @@ module _ {V : Type 0} (same : V → V → Bool) (always : Bool) (s : Nodes V) (m
         let l : length (place s'.collector who).bag + 2 ≤ 64 = g.1.2 g.0 (omega arith) in
         record { registered = g.1.1 ∙ x.0.0; pinned = ap is_some g.1.0 ∙ x.1; room = with_room {C = Id} (parts op).1 New (length (place s'.collector who).bag) l }
 
+    -- once its places are free and its call on the tree has begun, that was the last step of making them free
     pub started_then : r.outcome ≡ Done → (s2 : Nodes V) (ms' : List (Machine Id V)) (calls' : List (InFlight V)) → s2 ≡ s' → ms' ≡ set ms who (first_machine root op) → calls' ≡ set (set calls who Idle) who Walking → IsIntact same always s2 ms' calls' → Secured same always s ms calls who r s2 ms' calls'
     started_then e s2 ms' calls' es em ec i = record {
       intact = i;

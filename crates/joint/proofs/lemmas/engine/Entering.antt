@@ -72,9 +72,11 @@ module _ {V : Type 0} (same : V → V → Bool) (always : Bool) (s s' : World V)
   free_by false busy f u e = absurd (cc e)
 
   module _ (op : Op V) (none : misuse s w (Begin op) ≡ None) where
+    -- the worker has its place among the calls
     pub begin_within : w < length s.calls
     begin_within = registered_by (place_of s w).registered _ refl none
 
+    -- the worker has no call in flight
     pub begin_idle : is_busy (slice_get s.calls w) ≡ false
     begin_idle = free_by (place_of s w).registered (is_busy (slice_get s.calls w)) _ _ none
 
@@ -113,9 +115,11 @@ module _ {V : Type 0} (same : V → V → Bool) (always : Bool) (s s' : World V)
   begin_by op r None e x = begins op e (target op) r x
   begin_by op r (Some f) e x = unchanged x.1
 
+  -- a begin leaves the worker with a place of the journal just where it had one
   pub begin_even : (op : Op V) (r : Report V) → Does same always s w (Begin op) (misuse s w (Begin op)) r s' → after ≡ before
   begin_even op r x = begin_by op r (misuse s w (Begin op)) refl x
 
+  -- a registration leaves the worker with a place of the journal just where it had one
   pub register_even : (r : Report V) → Does same always s w Register (misuse s w Register) r s' → after ≡ before
   register_even r (inl x) = ap (λ y. has_place (slice_get y.calls w) (slice_get y.machines w)) x.1.state
   register_even r (inr x) = unchanged x.state
@@ -137,6 +141,7 @@ module _ {V : Type 0} (same : V → V → Bool) (always : Bool) (s s' : World V)
   accepted_by op r None e x i = e
   accepted_by op r (Some f) e x i = absurd (false≢true (sym (ap (λ y. is_in_flight y.outcome) x.0) ∙ i))
 
+  -- a call that begins and stays in flight is of a worker of the machine whose call was watched as over
   pub begin_free : (fs : Flights V) → AreInFlight s fs → (op : Op V) (r : Report V) → Does same always s w (Begin op) (misuse s w (Begin op)) r s' → is_in_flight r.outcome ≡ true → (fs w ≡ Over) × (w < length s.calls)
   begin_free fs fl op r x i =
       let n : misuse s w (Begin op) ≡ None = accepted_by op r (misuse s w (Begin op)) refl x i in
@@ -155,5 +160,6 @@ module _ {V : Type 0} (same : V → V → Bool) (always : Bool) (s s' : World V)
   first_case noise r None e x = first_by (slice_get s.calls w) noise r e x
   first_case noise r (Some f) e x = ap (λ y. y.decided) x.0
 
+  -- a writing call doesn't take effect in its first step
   pub first_undecided : (noise : Noise Id V) (r : Report V) → is_reserving (slice_get s.calls w) ≡ true → Does same always s w (Go noise) (misuse s w (Go noise)) r s' → r.decided ≡ false
   first_undecided noise r e x = first_case noise r (misuse s w (Go noise)) e x

@@ -20,7 +20,7 @@ use Rattle.joint.specs.engine.Engine.{World, EngineHolds, Does, IsEngineStep, Pr
 use Rattle.joint.proofs.lemmas.engine.Reported.{in_flight}
 
 -- a call that begins unless there is a cause against it does what the event asks
-pub does_begin : {V : Type 0} (same : V → V → Bool) (always : Bool) (w : World V) (who : ℕ) (op : Op V) (m : Option Fault) (r : Report V) (w' : World V) → BeginsUnless same always w who (target op) m r w' → Does same always w who (Begin op) m r w'
+does_begin : {V : Type 0} (same : V → V → Bool) (always : Bool) (w : World V) (who : ℕ) (op : Op V) (m : Option Fault) (r : Report V) (w' : World V) → BeginsUnless same always w who (target op) m r w' → Does same always w who (Begin op) m r w'
 does_begin same always w who op None r w' b = b
 does_begin same always w who op (Some f) r w' b = b
 
@@ -31,13 +31,16 @@ module _ {V : Type 0} (same : V → V → Bool) (always : Bool) (laws : CallLaws
       let does : Does same always w step.worker step.event (misuse w step.worker step.event) r w' = subst P (sym q) d in
       record { does = does; flight = in_flight same always laws w w' step.worker holds step.event r does; holds = (intact, charged) }
 
+  -- what a registration does is a step of the engine
   pub registers : step.event ≡ Register → Proceeds same always w 0 Register r w' → IsEngineStep same always w step r w'
   registers e d = by_event Register e d
 
+  -- what a begin does, or its refusal for its first cause, is a step of the engine
   pub begins : (op : Op V) (t : Target V) → step.event ≡ Begin op → t ≡ target op → Begun same always w step.worker t r w' → IsEngineStep same always w step r w'
   begins op t e q b =
       let P : Target V → Type 0 = λ x. Begun same always w step.worker x r w' in
       by_event (Begin op) e (does_begin same always w step.worker op (misuse w step.worker (Begin op)) r w' (subst P q b))
 
+  -- what a further step does is a step of the engine
   pub go_is_step : (noise : Noise Id V) → step.event ≡ Go noise → Does same always w step.worker (Go noise) (misuse w step.worker (Go noise)) r w' → IsEngineStep same always w step r w'
   go_is_step noise e d = by_event (Go noise) e d

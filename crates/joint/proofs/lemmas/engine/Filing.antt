@@ -65,7 +65,7 @@ lost_waits_not x d e = let s = waits_stands x e in let k : x.destroyed ≡ false
 unretired_waits_not : {V : Type 0} (x : Node V) → x.retired ≡ false → is_waiting x ≡ true → ⊥
 unretired_waits_not x r e = let q : false && (x.made && not x.destroyed) ≡ true = ap (λ b. b && (x.made && not x.destroyed)) (sym r) ∙ e in absurd (cc q)
 
--- names are told apart
+-- two names that pass the test are the same
 pub is_name_same : (m n : Name) → is_name m n ≡ true → m ≡ n
 is_name_same m n e =
     let a : m.cell ≡ n.cell = grind (arith, nat_tests) in
@@ -150,7 +150,7 @@ module _ {V : Type 0} (cells : CellLaws {T = Slot V} (Unit {0}) slot_names) wher
   fewer s s' None f j none = j.2 f ∙ none
   fewer s s' (Some c) f j none = let e = j.4 f in omega (arith, e, none)
 
-  -- a step of the collector
+  -- after a step of the collector the bags have just the removals of the nodes that wait
   pub filed_collected : (s s' : Nodes V) (who : ℕ) (event : Event) (r : Report) (h : List Mark) → Fits h s.collector → IsReport s.collector who event r → s'.collector ≡ after s.collector who event r.outcome
       → Moves s.collector who r.called s'.collector → IsFiled s → IsFiled s'
   filed_collected s s' who event r h fits report e m f = record {
@@ -204,7 +204,7 @@ module _ {V : Type 0} (cells : CellLaws {T = Slot V} (Unit {0}) slot_names) wher
     as_before : (k : ℕ) → ((node : Id) → retiring_at (slice_get ms step.who) ≡ Some node → k ≡ id_number node → ⊥) → is_waiting (nodes s' k) ≡ is_waiting (nodes s k)
     as_before k apart = by_both (is_waiting (nodes s' k)) (is_waiting (nodes s k)) (λ w. elim (waits_before k w) [ inl was ↦ was | inr new ↦ absurd (apart new.0 new.1 new.2) ]) (λ w. ap is_waiting (plays.untouched k w) ∙ w)
 
-    -- one that marks none
+    -- so they have after a step on the tree that hands no node over
     pub filed_walked : s'.collector ≡ with_store s.collector s'.collector.store → retiring_at (slice_get ms step.who) ≡ None → IsFiled s → IsFiled s'
     filed_walked clock none f = record {
       expiry = ap (λ c. c.limits.expiry) clock ∙ f.expiry;
@@ -213,7 +213,7 @@ module _ {V : Type 0} (cells : CellLaws {T = Slot V} (Unit {0}) slot_names) wher
       only = ap (weight others) clock ∙ f.only;
     }
 
-    -- and one whose node is handed over
+    -- and after one whose node is handed over, with its removal deferred
     pub filed_handed : (node : Id) → retiring_at (slice_get ms step.who) ≡ Some node → s'.collector ≡ with_store s.collector s'.collector.store → IsSafe same always s ms → Owes same always s' ms' step.who node → (s2 : Nodes V)
         → s2 ≡ with_collector s' (deferred s'.collector step.who (Remove node.name)) → IsFiled s → IsFiled s2
     filed_handed node some clock safe owes s2 is f =
@@ -284,7 +284,7 @@ module _ {V : Type 0} (cells : CellLaws {T = Slot V} (Unit {0}) slot_names) wher
             absurd cc) in
             (let z : later ≡ before = omega (arith, more, zero) in z) ∙ old ∙ ap bit (sym stays)
 
-  -- a place is given out
+  -- and after a registration
   pub filed_registered : (s : Nodes V) (n : ℕ) → n < length s.collector.table → Orderly s.collector → IsFiled s → IsFiled (with_collector s (registered s.collector n))
   filed_registered s n inside orderly f =
       let keeps = cells.registered_jobs s.collector n inside orderly in
@@ -295,7 +295,7 @@ module _ {V : Type 0} (cells : CellLaws {T = Slot V} (Unit {0}) slot_names) wher
         only = (let more = keeps.jobs others in let old = f.only in omega (arith, more, old));
       }
 
-  -- a root alone
+  -- and in a root alone, where none waits
   pub filed_opened : (limits : Limits) (charge limit : ℕ) (s : Nodes V) → IsOpened limits charge limit s → IsFiled s
   filed_opened limits charge limit s begin = record {
     expiry = ap (λ c. c.limits.expiry) begin.clock ∙ begin.allowed.expiry;

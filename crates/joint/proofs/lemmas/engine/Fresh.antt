@@ -56,6 +56,7 @@ module _ {V : Type 0} (same : V → V → Bool) (always : Bool) (cells : CellLaw
   table : length s.collector.table ≡ n
   table = ap (λ x. length x.table) begin.clock ∙ length-replicate n _
 
+  -- with every worker idle and no call begun the machine is intact
   pub intact : IsIntact same always s ms ks
   intact = record {
     safe = record {
@@ -73,8 +74,10 @@ module _ {V : Type 0} (same : V → V → Bool) (always : Bool) (cells : CellLaw
     each = at_first;
   }
 
+  -- what always holds of the engine holds of it
   pub holds : EngineHolds same always (record { forest = s; machines = ms; calls = ks; log = no_log })
   holds = (intact, charged)
 
+  -- it is a root alone with no call in flight
   pub fresh : IsFresh (record { forest = s; machines = ms; calls = ks; log = no_log })
   fresh = record { alone = begin.fresh.alone; idle = λ i k at. sym (one_of n Idle i k at) }

@@ -102,6 +102,7 @@ module _ {V : Type 0} (same : V → V → Bool) (always : Bool) (cells : CellLaw
   abbrev work : Work (Unit {0})
   work = Remove node.name
 
+  -- the node's removal comes into the worker's bag, which isn't full
   pub into_place : after_deferral c who work ≡ deferred c who work
   into_place = ap (λ (b : Bool). if b then deferred_anew c who work else deferred c who work) no_full
 
@@ -136,6 +137,7 @@ module _ {V : Type 0} (same : V → V → Bool) (always : Bool) (cells : CellLaw
     | inr ne ↦ subst (λ (p : Participant (Unit {0})). Guards p m) (sym (place_apart i ne)) (owes.safe.sound.sound.guarded i m at)
   ]
 
+  -- once the removal is deferred all is safe
   pub handed_safe : (t : ℕ) (s' : Nodes V) → s' ≡ with_collector s (after_deferral c who work) → t ≡ c.next
       → ((h : List Moment) → HasMoments slot_names h c → HasMoments slot_names (moment slot_names (Marked (Deferred t (Some node.name))) s'.collector ∷ h) s'.collector) → IsSafe same always s' ms
   handed_safe t s' e ticket told =
@@ -152,7 +154,7 @@ module _ {V : Type 0} (same : V → V → Bool) (always : Bool) (cells : CellLaw
         within = owes.safe.within;
       })
 
-  -- so no fault stands
+  -- the deferral is refused for no fault
   pub never_refused : (f : Fault) → MatchOption (destroy_fault c who node.name) ((f ≡ Memory) × (length (place c who).bag ≡ 64) × (c.room ≡ 0)) (λ x. f ≡ x) → ⊥
   never_refused f m =
       let P : Option Fault → Type 0 = λ o. MatchOption o ((f ≡ Memory) × (length (place c who).bag ≡ 64) × (c.room ≡ 0)) (λ x. f ≡ x) in

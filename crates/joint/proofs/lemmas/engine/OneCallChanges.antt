@@ -40,7 +40,7 @@ pub one_set : {A : Type 0} (xs ys : List A) (w : ℕ) (x : A) → ys ≡ set xs 
 one_set xs ys w x e = record { other = λ i n. ap (λ zs. slice_get zs i) e ∙ set_other xs w i x n; long = ap length e ∙ length-set xs w x }
 
 -- and one that was changed there twice
-pub one_after : {A : Type 0} (xs ys zs : List A) (w : ℕ) → AtOne xs ys w → AtOne ys zs w → AtOne xs zs w
+one_after : {A : Type 0} (xs ys zs : List A) (w : ℕ) → AtOne xs ys w → AtOne ys zs w → AtOne xs zs w
 one_after xs ys zs w a b = record { other = λ i n. b.other i n ∙ a.other i n; long = b.long ∙ a.long }
 
 -- the calls in flight and the machines, but for one worker's, are as before
@@ -122,6 +122,7 @@ module _ {V : Type 0} (same : V → V → Bool) (always : Bool) (s s' : World V)
   proceeds (Begin op) r x = begins (target op) r x
   proceeds (Go noise) r x = goes (slice_get s.calls w) noise r refl x
 
+  -- a step changes one worker's call and machine, and no other's
   pub step_apart : (event : Event V) (o : Option Fault) (r : Report V) → Does same always s w event o r s' → Apart s s' w
   step_apart event None r x = proceeds event r x
   step_apart event (Some f) r x = unchanged x.1
@@ -146,10 +147,11 @@ head_same : {A : Type 0} (x y : A) (xs ys : List A) (w : ℕ) → AtOne (x ∷ x
 head_same x y xs ys w a = let q : Some y ≡ Some x = a.other 0 (λ e. let z : 0 ≡ suc w = e in omega (arith, z)) in cc
 
 module _ {V : Type 0} where
+  -- 1 where the worker's call has a place of the journal reserved, and 0 where it has none
   abbrev pub count_at : List (InFlight V) → List (Machine Id V) → ℕ → ℕ
   count_at ks ms w = one_where (has_place (slice_get ks w) (slice_get ms w))
 
-  -- the count before with the call's part after, and the count after with its part before
+  -- the count after, with the call's part before, is the count before with its part after
   pub places_at : (ks ks' : List (InFlight V)) (ms ms' : List (Machine Id V)) (w : ℕ) → length ms ≡ length ks → AtOne ks ks' w → AtOne ms ms' w → places_of ks' ms' + count_at ks ms w ≡ places_of ks ms + count_at ks' ms' w
   places_at [] [] [] [] w l a b = refl
   places_at [] (k' ∷ ks') ms ms' w l a b = absurd (let n : length (k' ∷ ks') ≡ 0 = a.long in omega (arith, n))
@@ -177,7 +179,7 @@ count_is true false n n' e = omega (arith, e)
 count_is false true n n' e = omega (arith, e)
 count_is false false n n' e = omega (arith, e)
 
--- the count after a step
+-- the count after a step is the one before, counted anew for the worker's call
 pub places_counted : {V : Type 0} (s s' : World V) (w : ℕ) → length s.machines ≡ length s.calls → Apart s s' w
     → counted (has_place (slice_get s.calls w) (slice_get s.machines w)) (has_place (slice_get s'.calls w) (slice_get s'.machines w)) (places_of s.calls s.machines) ≡ places_of s'.calls s'.machines
 places_counted s s' w l a = count_is _ _ _ _ (places_at s.calls s'.calls s.machines s'.machines w l a.calls a.machines)

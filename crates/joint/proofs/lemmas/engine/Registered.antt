@@ -114,6 +114,7 @@ module _ {V : Type 0} (same : V → V → Bool) (always : Bool) (cells : CellLaw
   at_here (Securing op) m x = absurd (let z : (place c n).registered ≡ true = x.0.0 in cc)
   at_here Walking m x = x
 
+  -- the machine is intact with the worker registered
   pub taken : IsIntact same always (with_collector s c') ms ks
   taken = record {
     safe = record { sound = record { top = intact.safe.sound.top; past = now ∷ past; sound = still_sound }; within = intact.safe.within };
@@ -129,7 +130,7 @@ module _ {V : Type 0} (same : V → V → Bool) (always : Bool) (cells : CellLaw
     ];
   }
 
--- the same of the state that is left
+-- whatever state is left so is intact
 pub taken_at : {V : Type 0} (same : V → V → Bool) (always : Bool) → CellLaws {T = Slot V} (Unit {0}) slot_names → CallLaws {C = Id} {V = V} id_number same always → (s s' : Nodes V) (ms : List (Machine Id V)) (ks : List (InFlight V)) → IsIntact same always s ms ks → (n : ℕ)
     → n < length s.collector.table → (place s.collector n).registered ≡ false → s' ≡ with_collector s (registered s.collector n)
     → ((h : List Moment) → HasMoments slot_names h s.collector → HasMoments slot_names (moment slot_names Quiet s'.collector ∷ h) s'.collector) → IsIntact same always s' ms ks

@@ -43,6 +43,7 @@ after_walk V true = refl
 after_walk V false = refl
 
 module _ {V : Type 0} where
+  -- a report of a step on the tree says that the call is in flight just where it goes on
   pub told_goes : (o : Moved V) → is_in_flight (told o) ≡ goes_on_after o
   told_goes moved.Running = refl
   told_goes (moved.Asks found) = refl
@@ -82,6 +83,7 @@ module _ {V : Type 0} (same : V → V → Bool) (always : Bool) (s : World V) (w
       let x = get_inside s.machines w (subst (λ n. w < n) (sym holds.0.machines) (slice_get_within s.calls w Walking e)) in
       (holds.0.safe.sound.sound.guarded w x.0 x.1).registered (holds.0.each w Walking x.0 e x.1).0)
 
+  -- a further step of a worker with a call in flight isn't misused
   pub may_go : (noise : Noise Id V) → is_busy (slice_get s.calls w) ≡ true → misuse s w (Go noise) ≡ None
   may_go noise b =
       let r : (place_of s w).registered ≡ true = busy_registered (slice_get s.calls w) refl b in
@@ -155,6 +157,7 @@ module _ {V : Type 0} (same : V → V → Bool) (always : Bool) (laws : CallLaws
   proceeds (Begin op) r c m x = begins (target op) r (free (place_of s w).registered (is_busy (slice_get s.calls w)) _ _ m) (may_begin (place_of s w).registered _ refl m) x
   proceeds (Go noise) r c m x = on (slice_get s.calls w) noise r refl x
 
+  -- after a step that isn't misused a worker has a call in flight exactly where the report says so
   pub in_flight : (event : Event V) (r : Report V) → Does same always s w event (misuse s w event) r s' → IsOfCall event → misuse s w event ≡ None → is_busy (slice_get s'.calls w) ≡ is_in_flight r.outcome
   in_flight event r x c m =
       let P : Option Fault → Type 0 = λ o. Does same always s w event o r s' in

@@ -40,16 +40,18 @@ reserving_call None e = absurd (cc e)
 
 -- what it leaves
 module _ {V : Type 0} (same : V → V → Bool) (always : Bool) (s : Nodes V) (ms : List (Machine Id V)) (calls : List (InFlight V)) (who : ℕ) (s' : Nodes V) (ms' : List (Machine Id V)) (calls' : List (InFlight V)) (b : BeginsSecuring same always s ms calls who s' ms' calls') where
-  -- no job was called
+  -- the nodes are as before, since no job was called
   pub same_nodes : nodes s' ≡ nodes s
   same_nodes =
       let none : b.turn.called ≡ None = b.collected.report.job ∙ ap (called_in s.collector who (Begin (Secure 2))) b.running in
       let P : Option (ℕ × Option Name) → Type 0 = λ o. Empties s.collector.store o s'.collector.store in
       ap heap (subst P none b.collected.moves.cells)
 
+  -- the worker's call is the one that makes its places free, and the others are as before
   pub next_calls : (op : Op V) → slice_get calls who ≡ Some (Reserving op) → calls' ≡ set calls who (Securing op)
   next_calls op e = b.call ∙ ap (λ k. set calls who (securing_of k)) e
 
+  -- that is the call in the worker's place
   pub next_here : (op : Op V) → slice_get calls who ≡ Some (Reserving op) → slice_get calls' who ≡ Some (Securing op)
   next_here op e = ap (λ ks. slice_get ks who) (next_calls op e) ∙ set_here calls who (Securing op) (Reserving op) e
 
@@ -71,6 +73,7 @@ module _ {V : Type 0} (same : V → V → Bool) (always : Bool) (s : Nodes V) (m
     ];
   }
 
+  -- a writing call that an idle pinned worker begins leaves the machine intact
   pub reserved : (op : Op V) → slice_get calls who ≡ Some Idle → (place s.collector who).registered ≡ true → is_some (place s.collector who).word ≡ true → writes op ≡ true → IsIntact same always s ms (set calls who (Reserving op))
   reserved op at reg pin w = exchanged (Reserving op) (λ m here. let x : IsAt Idle (place s.collector who) m = intact.each who Idle m at here in (reg, pin, x.0, x.1, w))
 
@@ -81,12 +84,15 @@ module _ {V : Type 0} (same : V → V → Bool) (always : Bool) (s : Nodes V) (m
     at : (m : Machine Id V) → slice_get ms who ≡ Some m → IsAt (Reserving call.0) (place s.collector who) m
     at m here = intact.each who (Reserving call.0) m call.1 here
 
+    -- the worker has its place among the calls
     pub reserving_inside : who < length calls
     reserving_inside = inside same always s ms calls intact who (Reserving call.0) call.1
 
+    -- it has no call on the tree in flight
     pub reserving_rests : Rests ms who
     reserving_rests m here = (at m here).3
 
+    -- with the call put away before its first step the machine is intact
     pub abandoned : IsIntact same always s ms (set calls who Idle)
     abandoned = exchanged Idle (λ m here. ((at m here).2, (at m here).3))
 
@@ -133,6 +139,7 @@ module _ {V : Type 0} (same : V → V → Bool) (always : Bool) (s : Nodes V) (m
     begun : Begins c who (Secure 2) Running s'.collector
     begun = let P : Outcome → Type 0 = λ o. Begins c who (Secure 2) o s'.collector in subst P runs begins
 
+    -- with that step of the collector taken, the writing call begins to make its places free, which runs on
     pub begins_securing : (s2 : Nodes V) (ms' : List (Machine Id V)) (calls' : List (InFlight V)) → s2 ≡ s' → ms' ≡ ms → calls' ≡ set (set calls who Idle) who (Securing op) → BeginsSecuring same always s ms calls who s2 ms' calls'
     begins_securing s2 ms' calls' es em ec =
         let q : calls' ≡ set calls who (Securing op) = ec ∙ set-set calls who Idle (Securing op) in

@@ -66,6 +66,7 @@ module _ {V : Type 0} where
   no_taken (Sweep s) n e x = x
   no_taken _ n e x = absurd (cc e)
 
+  -- a worker's place never has a scan that is done, once that has left it
   pub not_done : (m : Machine Id V) → is_done (rested m).phase ≡ false
   not_done m = elim (cases_Bool (is_done m.phase)) [
     | inl e ↦ (let P : Bool → Type 0 = λ b. is_done (if b then resting else m).phase ≡ false in subst P (sym e) refl)
@@ -118,6 +119,7 @@ module _ {V : Type 0} (same : V → V → Bool) (always : Bool) (s : Nodes V) (m
           within = safe.within;
         }
 
+  -- all is safe where a scan that is done leaves its place
   pub cleared_safe : IsSafe same always s ms → IsSafe same always s (cleared ms who)
   cleared_safe safe =
       let P : Option (Machine Id V) → Type 0 = λ o. IsSafe same always s (cleared_at o ms who) in
@@ -128,6 +130,7 @@ module _ {V : Type 0} (same : V → V → Bool) (always : Bool) (s : Nodes V) (m
       ])
 
 module _ {V : Type 0} (ms between : List (Machine Id V)) (who : ℕ) (old now : Machine Id V) (here : slice_get ms who ≡ Some old) (calls : between ≡ set ms who now) where
+  -- the worker's machine between the step and the leaving is the one that took the step
   pub now_between : slice_get between who ≡ Some now
   now_between = ap (λ xs. slice_get xs who) calls ∙ set_here ms who now old here
 
@@ -135,11 +138,12 @@ module _ {V : Type 0} (ms between : List (Machine Id V)) (who : ℕ) (old now : 
   by_done true = ap (λ xs. set xs who resting) calls ∙ set-set ms who now resting
   by_done false = calls
 
+  -- the machines are as before, but for the worker's: that of the step, or one at rest after a scan that is done
   pub cleared_is : cleared between who ≡ set ms who (rested now)
   cleared_is = ap (λ o. cleared_at o between who) now_between ∙ by_done (is_done now.phase)
 
 -- as many machines are left where a scan that is done leaves its place
-pub cleared_long : {V : Type 0} (ms : List (Machine Id V)) (who : ℕ) → length (cleared ms who) ≡ length ms
+cleared_long : {V : Type 0} (ms : List (Machine Id V)) (who : ℕ) → length (cleared ms who) ≡ length ms
 cleared_long {V} ms who = at (slice_get ms who)
   where
     by : (b : Bool) → length (if b then slice_set ms who resting else ms) ≡ length ms
@@ -150,13 +154,14 @@ cleared_long {V} ms who = at (slice_get ms who)
     at None = refl
     at (Some m) = by (is_done m.phase)
 
--- a scan has told its end exactly where it is past
+-- whether a scan's report tells its end
 abbrev pub is_end : {V : Type 0} → ScanReport V → Bool
 is_end told.Running = false
 is_end (told.Found place k v) = false
 is_end (told.Done count) = true
 is_end (told.Refused e) = true
 
+-- a scan has told its end exactly where it is past
 abbrev Tells : {V : Type 0} → Swung Id V → Type 0
 Tells u = is_past u.0.stage ≡ is_end u.1
 
@@ -186,7 +191,7 @@ module _ {V : Type 0} where
   following number h s r (least.Value byte v) u f = by u (filled s r byte v) f (fills V _ _)
   following number h s r least.Uncopied u f = by u _ f refl
 
-  pub swept_tells : (number : Id → ℕ) (always : Bool) (root : Id) (s : Scan Id V) (x : Stage Id V) (h : ℕ → Node V) (u : Swung Id V) → is_past x ≡ false → SweptAt number always root s x h u → Tells u
+  swept_tells : (number : Id → ℕ) (always : Bool) (root : Id) (s : Scan Id V) (x : Stage Id V) (h : ℕ → Node V) (u : Swung Id V) → is_past x ≡ false → SweptAt number always root s x h u → Tells u
   swept_tells number always root s stage.New h u n f = by u (begins root s (version_of (h (number root)))) f (by_cond (s.size == 0) _ _ refl (entering root (anew root s).0 root whole (version_of (h (number root)))))
   swept_tells number always root s (stage.Enter c x) h u n f = by u _ f (entering root s c x (version_of (h (number c))))
   swept_tells number always root s (stage.Look r) h u n f = by u _ f.2 refl
@@ -235,6 +240,7 @@ module _ {V : Type 0} where
   scan_over start end size states places (told.Done count) f e x = x.2
   scan_over start end size states places (told.Refused c) f e x = x
 
+  -- once a scan that is done has left, its machine is watched as over, and any other as before
   pub rest_follows : (now : Machine Id V) (f : Flight V) → (is_done now.phase ≡ true → f ≡ Over) → Follows now f → Follows (rested now) f
   rest_follows now f over x =
       let P : Bool → Type 0 = λ b. Follows (if b then resting else now) f in
@@ -289,6 +295,7 @@ module _ {V : Type 0} (same : V → V → Bool) (always : Bool) (most : ℕ) (wh
   kind_of (Sweep s) = inr (s, refl)
   kind_of _ = inl tt
 
+  -- the call in the worker's place has ended just where the step doesn't tell that it goes on
   pub told_final : IsUnderWay m.phase → is_done m.phase ≡ false → is_over (rested now).phase ≡ not (continues d.outcome)
   told_final u n = elim (kind_of m.phase) [
     | inl k ↦ key_final u k
@@ -306,6 +313,7 @@ module _ {V : Type 0} (same : V → V → Bool) (always : Bool) (most : ℕ) (wh
     points : IsOfPoint f' → is_done now.phase ≡ true → f' ≡ Over
     points o e = let s = sweep_of now.phase e in point_over now s.0 f' s.1 o after
 
+    -- a scan that is done after the step is watched as over
     pub done_over : Watched same f pairs told_answer d f' pairs' → is_done now.phase ≡ true → f' ≡ Over
     done_over w e = by_flight f refl before w
       where

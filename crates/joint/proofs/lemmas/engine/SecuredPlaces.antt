@@ -242,7 +242,7 @@ module _ {C V : Type 0} where
 
   module _ (number : C → ℕ) (same : V → V → Bool) (always : Bool) (most : ℕ) (why : NodeType → Refusal → Type 0) (root : C) (key : List ℕ) (kind : Kind V) (fail : Bool) (answer : Option (Option V)) (new new' : Option V) (h h' : ℕ → Node V) (t : NextPhase C V) where
     -- a step from any other phase leaves the call owing nothing
-    pub step_light : (s : Phase C V) → (Unlinks s → ⊥) → PhaseStepped number same always most why root key kind fail answer new s h new' t h' → Light t
+    step_light : (s : Phase C V) → (Unlinks s → ⊥) → PhaseStepped number same always most why root key kind fail answer new s h new' t h' → Light t
     step_light New never g = version_light root None root _ t g.2
     step_light (Version above n) never g = version_light root above n _ t g.2
     step_light (Read above s) never g = at t _ g.2.2 (read_light root above s g.2.0)
@@ -337,6 +337,7 @@ module _ {C V : Type 0} where
   two_left ComputeInsert _ = omega arith
   two_left (Exchange old) _ = omega arith
 
+  -- two free places in the bag are enough in any phase
   pub with_room : (kind : Kind V) (s : Phase C V) (jobs : ℕ) → jobs + 2 ≤ 64 → IsSecured kind s jobs
   with_room kind s jobs x = let n : most_left kind s ≤ 2 = two_left kind s in let y : jobs + most_left kind s ≤ 64 = omega (arith, x, n) in y
 
@@ -365,7 +366,7 @@ module _ {C V : Type 0} where
       let w : suc jobs + most_left kind t.phase ≤ 64 = omega (arith, y, z) in
       w
 
-  -- and there was one for it
+  -- a node that is to be handed over has a free place in the bag
   pub retiring_room : (kind : Kind V) (n : C) (next : Option C) (p : C) (r : Reply V) (jobs : ℕ) → IsSecured kind (Retire n next p r) jobs → suc jobs ≤ 64
   retiring_room kind n None p r jobs x = let y : jobs + 1 ≤ 64 = x in omega (arith, y)
   retiring_room kind n (Some m) p r jobs x = let y : jobs + 2 ≤ 64 = x in omega (arith, y)
@@ -412,6 +413,7 @@ module _ {C V : Type 0} where
           omega (arith, z))
     ]
 
+    -- a step of a call leaves it a place in the bag for each node that it may still hand over
     pub secured_step : (s : Phase C V) (jobs : ℕ) → IsSecured kind s jobs → Known number same always i a h k key kind new s → PhaseStepped number same always most why root key kind fail answer new s h new' t h' → IsSecured kind t.phase jobs
     secured_step s jobs x known g =
         let y : jobs + most_left kind s ≤ 64 = x in

@@ -150,6 +150,7 @@ module _ {T J C V : Type 0} (tnames : T → List Name) (view : Bool → Option T
   no_gift : (n : Name) → Quiet ≡ GivenBack n → ⊥
   no_gift n e = subst gift_of (sym e) tt
 
+  -- with this step's moment the history still is as the collector's promise on reach asks
   pub careful : IsCareful (now ∷ past')
   careful = record {
     leaves = (λ t n w r. never_now t n (let P : List Mark → Type 0 = λ x. WasDeferred x t n in subst P (same_marks tnames s past back) w) r, careful'.leaves);
@@ -167,6 +168,7 @@ module _ {T J C V : Type 0} (tnames : T → List Name) (view : Bool → Option T
       by_view false (Some x) f e = f refl
       by_view false None f e = absurd (let z : (view false None).made ≡ false = ok.unmade in cc)
 
+  -- the moments with those of what was given back and the step's lead to the state after it
   pub tells : HasMoments tnames (now ∷ past') s'
   tells = record {
     fits = (let P : List Mark → Type 0 = λ x. Fits x s' in subst P (sym (same_marks tnames s past back)) (cells.fits_stored (marks_of past) s st' sound.tells.fits));
@@ -280,6 +282,7 @@ module _ {T J C V : Type 0} (tnames : T → List Name) (view : Bool → Option T
   orderly' : Orderly s'
   orderly' = record { hands = sound.orderly.hands; bags = sound.orderly.bags; held = sound.orderly.held; sealed = sound.orderly.sealed }
 
+  -- tree, calls and history are sound after the step
   pub stepped : Sound tnames view num same always top (now ∷ past') s' ms'
   stepped = record {
     orderly = orderly';

@@ -72,6 +72,7 @@ module _ {T J C V : Type 0} (tnames : T → List Name) (view : Bool → Option T
     | inr old ↦ sound.deferred u x old live
   ]
 
+  -- tree, calls and history are sound after the deferral
   pub handed : Sound tnames view num same always top (now ∷ past) s' ms
   handed = record {
     orderly = orderly;

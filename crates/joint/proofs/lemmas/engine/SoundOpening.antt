@@ -41,6 +41,7 @@ module _ {T J C V : Type 0} (tnames : T → List Name) (view : Bool → Option T
       let l : (settled.0 (number n)).status ≡ Linked = calls.leads settled.0 (heap_of view s.store) settled.1.tree p.0 0 (number n) settled.1.tree.root p.1 in
       (ties tnames view ok s.store).live n ((settled.1.words.each (number n)).stands (rw l refl))
 
+  -- with no call under way and nothing deferred, tree, calls and history are sound
   pub opened : Sound tnames view num same always top (now ∷ []) s ms
   opened = record {
     orderly = orderly;

@@ -68,6 +68,7 @@ module _ {V : Type 0} (same : V → V → Bool) (always : Bool) (laws : CallLaws
         secured = begins.secured (length (place s.collector who).bag) (subst P (sym is) may.room);
       }
 
+  -- the machine is intact with the call on the tree begun
   pub started : IsIntact same always s (set ms who m) (set calls who Walking)
   started = record {
     safe = record {

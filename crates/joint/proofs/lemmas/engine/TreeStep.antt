@@ -167,10 +167,12 @@ module _ {V : Type 0} (same : V → V → Bool) (always : Bool) (cells : CellLaw
       let k : (next : Option Id) × (p : Id) × (r : Reply V) × (m.phase ≡ Retire n next p r) = retiring_some m.phase n e in
       owes n k.0 k.1 k.2 k.3
 
+  -- after the step all is safe, but for the deferral of the node that it marks, if it marks one
   pub stepped_safe : IsSafeOrOwes same always (retiring_at (slice_get ms step.who)) s' ms' step.who
   stepped_safe =
       let P : Option (Machine Id V) → Type 0 = λ x. IsSafeOrOwes same always (retiring_at x) s' ms' step.who in
       subst P (sym run.1) (by_phase (retiring m.phase) refl)
 
+  -- there are as many machines as before
   pub same_length : length ms' ≡ length ms
   same_length = ap length moved.calls ∙ length-set ms step.who moved.now

@@ -71,12 +71,14 @@ module _ {V : Type 0} (same : V → V → Bool) (always : Bool) (w : World V) (w
   refused : (t : Target V) (f : Fault) (r : Report V) → begin_misuse t (slice_get w.calls who) (place c who) ≡ Some f → r ≡ quiet (kind_of t) (outcome.Refused (of_fault f)) → Begun same always w who t r w
   refused t f r e q = let P : Option Fault → Type 0 = λ m. Or t m r w in subst P (sym e) (q, refl)
 
+  -- a begin of a worker that isn't registered is refused as Unknown
   pub unknown : (t : Target V) (r : Report V) → (place c who).registered ≡ false → r ≡ quiet (kind_of t) (outcome.Refused (of_fault fault.Unknown)) → Begun same always w who t r w
   unknown t r e q = refused t fault.Unknown r (ap (λ b. if b then (if is_busy (slice_get w.calls who) then Some (interruption t) else unready t (place c who)) else Some fault.Unknown) e) q
 
   at_place : (t : Target V) → (place c who).registered ≡ true → begin_misuse t (slice_get w.calls who) (place c who) ≡ (if is_busy (slice_get w.calls who) then Some (interruption t) else unready t (place c who))
   at_place t e = ap (λ b. if b then (if is_busy (slice_get w.calls who) then Some (interruption t) else unready t (place c who)) else Some fault.Unknown) e
 
+  -- a begin of a worker with a call in flight is refused as an interruption
   pub busy : (t : Target V) (r : Report V) → (place c who).registered ≡ true → is_busy (slice_get w.calls who) ≡ true → r ≡ quiet (kind_of t) (outcome.Refused (of_fault (interruption t))) → Begun same always w who t r w
   busy t r e b q = refused t (interruption t) r (at_place t e ∙ ap (λ x. if x then Some (interruption t) else unready t (place c who)) b) q
 
@@ -95,6 +97,7 @@ module _ {V : Type 0} (same : V → V → Bool) (always : Bool) (w : World V) (w
   word (Some y) q = refl
 
   module _ (reg : (place c who).registered ≡ true) (idle : slice_get w.calls who ≡ Some Idle) where
+    -- a call on the tree of a worker without a guard is refused as Unpinned
     pub unpinned : (op : Point V) (r : Report V) → is_some (place c who).word ≡ false → r ≡ quiet kind.Tree (outcome.Refused (of_fault fault.Unpinned)) → Begun same always w who (Tree op) r w
     unpinned op r p q = refused (Tree op) fault.Unpinned r (past (Tree op) reg idle ∙ no_word (place c who).word p) q
 
@@ -105,16 +108,16 @@ module _ {V : Type 0} (same : V → V → Bool) (always : Bool) (w : World V) (w
     tells : (k : Survey) (r : Report V) → unready {V = V} (target.Survey k) (place c who) ≡ None → Surveys w k r w → Begun same always w who (target.Survey k) r w
     tells k r u b = proceeds (target.Survey k) r w (past (target.Survey k) reg idle ∙ u) b
 
-    pub tells_keys : (r : Report V) → Surveys w survey.Keys r w → Begun same always w who (target.Survey survey.Keys) r w
+    tells_keys : (r : Report V) → Surveys w survey.Keys r w → Begun same always w who (target.Survey survey.Keys) r w
     tells_keys r b = tells survey.Keys r refl b
 
-    pub tells_stats : (r : Report V) → Surveys w survey.Stats r w → Begun same always w who (target.Survey survey.Stats) r w
+    tells_stats : (r : Report V) → Surveys w survey.Stats r w → Begun same always w who (target.Survey survey.Stats) r w
     tells_stats r b = tells survey.Stats r refl b
 
-    pub tells_empty : (r : Report V) → is_some (place c who).word ≡ true → Surveys w survey.IsEmpty r w → Begun same always w who (target.Survey survey.IsEmpty) r w
+    tells_empty : (r : Report V) → is_some (place c who).word ≡ true → Surveys w survey.IsEmpty r w → Begun same always w who (target.Survey survey.IsEmpty) r w
     tells_empty r p b = tells survey.IsEmpty r (word (place c who).word p) b
 
-    pub asks_unpinned : (r : Report V) → is_some (place c who).word ≡ false → r ≡ quiet kind.Tree (outcome.Refused (of_fault fault.Unpinned)) → Begun same always w who (target.Survey survey.IsEmpty) r w
+    asks_unpinned : (r : Report V) → is_some (place c who).word ≡ false → r ≡ quiet kind.Tree (outcome.Refused (of_fault fault.Unpinned)) → Begun same always w who (target.Survey survey.IsEmpty) r w
     asks_unpinned r p q = refused (target.Survey survey.IsEmpty) fault.Unpinned r (past (target.Survey survey.IsEmpty) reg idle ∙ no_word (place c who).word p) q
 
     enter : (op : Point V) (r : Report V) (w' : World V) → finds_none op ≡ false → writes op ≡ false → Enters w who op r w' → BeginsOnTree same always w who op r w'
@@ -148,15 +151,18 @@ module _ {V : Type 0} (same : V → V → Bool) (always : Bool) (w : World V) (w
     at_once (point.ComputeInsert k) r n q = absurd (cc n)
     at_once (point.Exchange k old new) r n q = absurd (cc n)
 
+    -- a scan that can find nothing is done as it begins
     pub ends_at_once : (op : Point V) (r : Report V) → is_some (place c who).word ≡ true → finds_none op ≡ true → r ≡ quiet kind.Tree (outcome.Done (Scanned 0)) → Begun same always w who (Tree op) r w
     ends_at_once op r p n q = on_tree op r w p (at_once op r n q)
 
+    -- a look-up or a scan of a pinned worker begins on the tree at once
     pub enters : (op : Point V) (r : Report V) (w' : World V) → is_some (place c who).word ≡ true → finds_none op ≡ false → writes op ≡ false → w'.forest ≡ w.forest → w'.machines ≡ set w.machines who (begun root op) → w'.calls ≡ set w.calls who Walking → w'.log ≡ w.log → r ≡ quiet kind.Tree outcome.Running → Begun same always w who (Tree op) r w'
     enters op r w' p n e ef em ec el q =
         let state : w' ≡ record w { machines = set w.machines who (begun root op); calls = set w.calls who Walking } =
         ap (λ y. record { forest = y; machines = w'.machines; calls = w'.calls; log = w'.log }) ef ∙ ap (λ y. record { forest = w.forest; machines = y; calls = w'.calls; log = w'.log }) em ∙ ap (λ y. record { forest = w.forest; machines = set w.machines who (begun root op); calls = y; log = w'.log }) ec ∙ ap (λ y. record { forest = w.forest; machines = set w.machines who (begun root op); calls = set w.calls who Walking; log = y }) el in
         on_tree op r w' p (enter op r w' n e (record { state = state; report = q }))
 
+    -- a writing call of a pinned worker begins, and has its places to make free first
     pub reserves : (op : Point V) (r : Report V) (w' : World V) → is_some (place c who).word ≡ true → writes op ≡ true → w'.forest ≡ w.forest → w'.machines ≡ w.machines → w'.calls ≡ set w.calls who (Reserving op) → w'.log ≡ w.log → r ≡ quiet kind.Tree outcome.Running → Begun same always w who (Tree op) r w'
     reserves op r w' p e ef em ec el q =
         let state : w' ≡ record w { calls = set w.calls who (Reserving op) } =
@@ -201,6 +207,7 @@ module _ {V : Type 0} (same : V → V → Bool) (always : Bool) (w : World V) (w
             let P : Option Fault → Type 0 = λ m. Or (Collector op) m r w' in
             subst P (sym (fault_is ∙ b.0)) (q ∙ told, is)
 
+        -- a call on the collector begins, or is refused for its first cause
         pub turns : Begun same always w who (Collector op) r w'
         turns = by_outcome x.outcome refl begins
 
@@ -208,6 +215,7 @@ module _ {V : Type 0} (same : V → V → Bool) (always : Bool) (w : World V) (w
   go_refused : (noise : Noise Id V) (f : Fault) (r : Report V) → misuse w who (Go noise) ≡ Some f → r ≡ quiet kind.Collection (outcome.Refused (of_fault f)) → Does same always w who (Go noise) (misuse w who (Go noise)) r w
   go_refused noise f r e q = let P : Option Fault → Type 0 = λ m. Does same always w who (Go noise) m r w in subst P (sym e) (q, refl)
 
+  -- a further step of a worker that isn't registered is refused as Unknown
   pub go_unknown : (noise : Noise Id V) (r : Report V) → (place c who).registered ≡ false → r ≡ quiet kind.Collection (outcome.Refused (of_fault fault.Unknown)) → Does same always w who (Go noise) (misuse w who (Go noise)) r w
   go_unknown noise r e q = go_refused noise fault.Unknown r (ap (λ b. if b then (if is_busy (slice_get w.calls who) then None else Some fault.Idle) else Some fault.Unknown) e) q
 
@@ -215,9 +223,11 @@ module _ {V : Type 0} (same : V → V → Bool) (always : Bool) (w : World V) (w
     placed : (noise : Noise Id V) → misuse w who (Go noise) ≡ (if is_busy (slice_get w.calls who) then None else Some fault.Idle)
     placed noise = ap (λ b. if b then (if is_busy (slice_get w.calls who) then None else Some fault.Idle) else Some fault.Unknown) reg
 
+    -- a further step of a worker without a call in flight is refused as Idle
     pub go_idle : (noise : Noise Id V) (r : Report V) → slice_get w.calls who ≡ Some Idle → r ≡ quiet kind.Collection (outcome.Refused (of_fault fault.Idle)) → Does same always w who (Go noise) (misuse w who (Go noise)) r w
     go_idle noise r e q = go_refused noise fault.Idle r (placed noise ∙ ap (λ o. if is_busy o then None else Some fault.Idle) e) q
 
+    -- a further step of a call in flight is taken, by what that call is about
     pub goes_on : (noise : Noise Id V) (r : Report V) (w' : World V) (k : InFlight V) → slice_get w.calls who ≡ Some k → is_busy (Some k) ≡ true → GoesAt same always w who (Some k) noise r w' → Does same always w who (Go noise) (misuse w who (Go noise)) r w'
     goes_on noise r w' k e b d =
         let none : misuse w who (Go noise) ≡ None = placed noise ∙ ap (λ o. if is_busy o then None else Some fault.Idle) e ∙ ap (λ x. if x then None else Some fault.Idle) b in

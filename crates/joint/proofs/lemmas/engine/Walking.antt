@@ -72,9 +72,11 @@ module _ {V : Type 0} (same : V → V → Bool) (always : Bool) (laws : CallLaws
   abbrev old : (x : Machine Id V) × (slice_get ms step.who ≡ Some x)
   old = get_inside ms step.who (inside_machines same always s ms calls intact step.who Walking on)
 
+  -- the worker has a call on the tree under way
   abbrev pub runs : Runs ms step.who
   runs = (old.0, old.1, (intact.each step.who Walking old.0 on old.1).0)
 
+  -- there are as many machines as before
   pub long_walk : (d : Move V) (s' : Nodes V) (ms' : List (Machine Id V)) → Walked same always s ms step d s' ms' → length ms' ≡ length ms
   long_walk d s' ms' walked = let moved = walked.plays.moved old.0 old.1 in ap length moved.calls ∙ length-set ms step.who moved.now
 
@@ -88,6 +90,7 @@ module _ {V : Type 0} (same : V → V → Bool) (always : Bool) (laws : CallLaws
     abbrev final : Machine Id V
     final = rested moved.now
 
+    -- the worker's machine is the one that took the step, or at rest after a scan that is done, and the others stay
     pub final_is : ms' ≡ set ms step.who final
     final_is = on_walked.machines ∙ cleared_is ms on_walked.between step.who old.0 moved.now old.1 moved.calls
 
@@ -116,6 +119,7 @@ module _ {V : Type 0} (same : V → V → Bool) (always : Bool) (laws : CallLaws
         let l : step.who < length s.collector.table = held_place s.collector.table step.who ((intact.safe.sound.sound.guarded step.who old.0 old.1).registered runs.2) in
         ap (λ c. (place c step.who).phase) walked.clock ∙ walk_phase mid step.who owed l ∙ (intact.safe.sound.sound.guarded step.who old.0 old.1).idle runs.2
 
+    -- that machine stands in the worker's place
     pub now_here : slice_get ms' step.who ≡ Some final
     now_here = ap (λ xs. slice_get xs step.who) final_is ∙ set_here ms step.who final old.0 old.1
 
@@ -125,6 +129,7 @@ module _ {V : Type 0} (same : V → V → Bool) (always : Bool) (laws : CallLaws
         let k : IsAt Walking (place s.collector step.who) old.0 = intact.each step.who Walking old.0 on old.1 in
         told_final same always s.version_max (Refuses s) old.0 moved.now (nodes s) (nodes s') step.noise.fail step.noise.answer d moved.step k.0 k.1
 
+    -- the call on the tree has ended just where the step doesn't tell that it goes on
     pub over_now : over_at (slice_get ms' step.who) ≡ not (goes_on_after d.outcome)
     over_now = ap over_at now_here ∙ told
 
@@ -140,6 +145,7 @@ module _ {V : Type 0} (same : V → V → Bool) (always : Bool) (laws : CallLaws
         let P : Option (Machine Id V) → Type 0 = λ x. IsAt (if over_at x then Idle else Walking) (place s'.collector step.who) final in
         subst P (sym now_here) (by_end (is_over final.phase) refl)
 
+    -- the machine is intact with the worker idle where its call on the tree has ended
     pub walked_on : IsIntact same always s' ms' (set calls step.who next)
     walked_on = record {
       safe = safe;

@@ -41,6 +41,7 @@ one_standing st m n x y e f q =
     ap (λ i. record { cell = i; turn = m.turn }) q ∙ ap (λ i. record { cell = n.cell; turn = i }) t
 
 module _ {P : Type 0} (F : Nodes P) (k : Counts) (kept : IsKept k F) where
+  -- the cell of a name that stands is among those that have a mark
   pub standing_inside : (n : Name) → is_some (value_at F.collector.store n) ≡ true → n.cell < length k.cell_marks.items
   standing_inside n e = go (value_at F.collector.store n) refl
     where
@@ -55,31 +56,36 @@ module _ {P : Type 0} (F : Nodes P) (k : Counts) (kept : IsKept k F) where
     U : IsTally s cell_mark
     U = kept.tallied n s em.was
 
-    -- what can be taken off
+    -- the cell of a node that stands is among those that have a mark
     pub is_inside : n.cell < length k.cell_marks.items
     is_inside = (let a = inside F.collector.store n s em.was in omega (arith, a, kept.wide))
 
+    -- where a node stands that can be taken out, at least one is counted as standing
     pub standing_some : 1 ≤ k.standing
     standing_some = (let c = counted (λ x. 1) F.collector.store n s em.was in omega (arith, c, kept.standing_is))
 
+    -- where it waits, at least one is counted as waiting
     pub waits_some : cell_mark.waits ≡ true → 1 ≤ k.waiting
     waits_some e =
         let one : waits s ≡ 1 = ap (λ (b : Bool). if b then 1 else 0) (U.waits_is ∙ e) in
         let c = counted waits F.collector.store n s em.was in
         omega (arith, one, c, kept.count_is)
 
+    -- where it waits, the bytes counted as waiting are no fewer than its own
     pub bytes_some : cell_mark.waits ≡ true → size_of cell_mark.form ≤ k.waiting_bytes
     bytes_some e =
         let one : waiting_size s ≡ size s = ap (λ (b : Bool). if b then size s else 0) (U.waits_is ∙ e) in
         let c = counted waiting_size F.collector.store n s em.was in
         omega (arith, one, c, kept.bytes_is, U.size_is)
 
+    -- its bytes are no more than what is charged
     pub charge_some : size_of cell_mark.form ≤ F.charge
     charge_some = (
         let c = counted size F.collector.store n s em.was in
         let a : F.charge ≡ F.base + sizes F.collector.store = kept.charged in
         omega (arith, c, a, U.size_is))
 
+    -- once it is out, the charge without its bytes is the base and the sizes of the nodes left
     pub charged_less : (charge : ℕ) → charge + size_of cell_mark.form ≡ F.charge → charge ≡ F.base + sizes st'
     charged_less charge e = (
         let e0 : sizes st' + size s ≡ sizes F.collector.store = em.sums size in
@@ -87,7 +93,7 @@ module _ {P : Type 0} (F : Nodes P) (k : Counts) (kept : IsKept k F) where
         omega (arith, e, e0, a, U.size_is))
 
 module _ {P : Type 0} (F F' : Nodes P) (k : Counts) (kept : IsKept k F) (orderly : Orderly F'.collector) where
-  -- where the cells and the charge are as before
+  -- where the cells and the charge are as before, the counts are those of the cells
   pub kept_same : F'.collector.store ≡ F.collector.store → F'.charge ≡ F.charge → F'.base ≡ F.base → IsKept k F'
   kept_same st charge base =
       let e : sizes F'.collector.store ≡ sizes F.collector.store = ap sizes st in
@@ -116,7 +122,7 @@ module _ {P : Type 0} (F F' : Nodes P) (k : Counts) (kept : IsKept k F) (orderly
     T : IsTally s t
     T = kept.tallied n s em.was
 
-    -- where a node goes
+    -- where a node goes, with its charge and its part of the counts, the counts are those of the cells
     pub kept_emptied : (k' : Counts) → k'.standing + 1 ≡ k.standing → F'.charge + size_of t.form ≡ F.charge → F'.base ≡ F.base → k'.cell_marks ≡ k.cell_marks → k'.waiting + (if t.waits then 1 else 0) ≡ k.waiting
         → k'.waiting_bytes + (if t.waits then size_of t.form else 0) ≡ k.waiting_bytes → IsKept k' F'
     kept_emptied k' standing charge base cell_marks count bytes =
@@ -191,10 +197,10 @@ module _ {P : Type 0} (F F' : Nodes P) (k : Counts) (kept : IsKept k F) (orderly
     long_in true e = inl (length-set k.cell_marks.items n.cell new_tally, (let l : n.cell < length k.cell_marks.items = grind (arith, nat_tests, e) in l))
     long_in false e = inr (length_push k.cell_marks.items new_tally, (let g : length k.cell_marks.items ≤ n.cell = grind (arith, nat_tests, e) in omega (arith, g, near)))
 
-    pub tally_here : mark_at k'.cell_marks.items n.cell ≡ new_tally
+    tally_here : mark_at k'.cell_marks.items n.cell ≡ new_tally
     tally_here = ap (λ ts. mark_at ts n.cell) cell_marks ∙ here_in (nat_lt n.cell (length k.cell_marks.items)) refl
 
-    pub tally_apart : (i : ℕ) → i ≢ n.cell → mark_at k'.cell_marks.items i ≡ mark_at k.cell_marks.items i
+    tally_apart : (i : ℕ) → i ≢ n.cell → mark_at k'.cell_marks.items i ≡ mark_at k.cell_marks.items i
     tally_apart i ne = ap (λ ts. mark_at ts i) cell_marks ∙ apart_in (nat_lt n.cell (length k.cell_marks.items)) refl i ne
 
     total_is : (f : Slot P → ℕ) → total f st' ≡ total f st + f s
@@ -248,6 +254,7 @@ module _ {P : Type 0} (F F' : Nodes P) (k : Counts) (kept : IsKept k F) (orderly
               let p = kept.used i low in omega (arith, a, z, p))
         ]
 
+    -- a new node with its charge, its mark and one more counted leaves the counts those of the cells
     pub kept_filled : IsKept k' F'
     kept_filled =
         let e0 : sizes st' ≡ sizes st + size s = total_is size in
@@ -300,6 +307,7 @@ module _ {P : Type 0} (F F' : Nodes P) (k : Counts) (kept : IsKept k F) (orderly
     at : n.cell < length k.cell_marks.items
     at = (let a = inside F.collector.store n s alters.was in omega (arith, a, kept.wide))
 
+    -- a node that begins to wait, marked and counted so, leaves the counts those of the cells
     pub kept_marked : IsKept k' F'
     kept_marked =
         let U : IsTally s (mark_at k.cell_marks.items n.cell) = kept.tallied n s alters.was in
@@ -343,15 +351,18 @@ module _ {P : Type 0} (F F' : Nodes P) (k : Counts) (kept : IsKept k F) (orderly
         }
 
 module _ {P : Type 0} (F : Nodes P) (k : Counts) (kept : IsKept k F) where
+  -- at most 16,777,215 nodes wait
   pub count_few : k.waiting ≤ 16777215
   count_few = (let a = waiting_few F.collector.store in omega (arith, a, kept.count_is, kept.bounded, kept.few))
 
+  -- at most 16,777,215 nodes stand
   pub standing_few : k.standing ≤ 16777215
   standing_few = (let a = total_bound (λ x. 1) 1 (λ v. one) F.collector.store.cells in omega (arith, a, kept.standing_is, kept.bounded, kept.few))
     where
       one : 1 ≤ 1
       one = omega arith
 
+  -- the nodes that wait have at most 2,104 bytes for each of 16,777,215 cells
   pub bytes_small : k.waiting_bytes ≤ 2104 * 16777215
   bytes_small = (let a = bytes_few F.collector.store in omega (arith, a, kept.bytes_is, kept.bounded, kept.few))
 
@@ -390,7 +401,7 @@ gone_node {P} F G view_is n s st' em =
           ap (λ g. view g (value_at st' (named j))) (em.sets.given (named j) apart) ∙ ap (λ v. view (was_given F.collector.store (named j)) v) (em.sets.others (named j) apart) ∙ ap (λ x. nodes x j) view_is;
     }
 
--- a new node
+-- a new slot under the next name is a new node
 pub new_node : {P : Type 0} (F G : Nodes P) (view_is : F ≡ G) (n : Name) (s : Slot P) (st' : Store (Slot P)) (form : NodeType) (prefix key : List ℕ) (size : ℕ)
     → Fills F.collector.store n s st' → IsNewSlot s form prefix → fits prefix key ≡ true → length prefix ≡ size → NewNode (nodes G) (number n) form key size (heap st')
 new_node {P} F G view_is n s st' form prefix key size fills fresh fit long =

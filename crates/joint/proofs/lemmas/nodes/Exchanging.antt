@@ -32,7 +32,7 @@ bare_view {P} g (Some s) e b = by s.node e where
   by None e = refl
   by (Some n) e = ap (λ m. hung_at (map.get m b)) (map.empty_of_len (children_of n.value) e) ∙ ap hung_at (map.get-empty nat_cmp b)
 
--- it takes over from itself
+-- where a node may take over from itself, the nodes are as such a take-over gives them
 pub same_gives : {P : Type 0} (F : Nodes P) (m n : ℕ) → m ≡ n → TakesOver (nodes F m) (nodes F n) → TakeOverGives (nodes F) m n (nodes F)
 same_gives F m n q t = subst (λ k. TakeOverGives (nodes F) m k (nodes F)) q (itself (subst (λ k. TakesOver (nodes F m) (nodes F k)) (sym q) t)) where
   itself : TakesOver (nodes F m) (nodes F m) → TakeOverGives (nodes F) m m (nodes F)
@@ -77,6 +77,7 @@ module _ {P : Type 0} (F : Nodes P) (c' : State (Slot P) (Unit {0})) (beside : c
   same_waiting : (s s' : Slot P) → s'.word.retired ≡ s.word.retired → size s' ≡ size s → waiting_size s' ≡ waiting_size s
   same_waiting s s' e z = ap (λ (t : Bool). if t then size s' else 0) e ∙ ap (λ (x : ℕ). if s.word.retired then x else 0) z
 
+  -- the counts are those of the cells where one slot's children went over into another
   pub kept_exchanged : (k : Counts) → IsKept k F → IsKept k (with_collector F c')
   kept_exchanged k kept =
       let e0 : sizes c'.store + size a + size b ≡ sizes st + size a' + size b' = ex.sums size in
@@ -121,9 +122,10 @@ module _ {P : Type 0} (F : Nodes P) (c' : State (Slot P) (Unit {0})) (beside : c
       }
 
   module _ (G : Nodes P) (view_is : F ≡ G) where
-    pub frame_exchanged : frame (with_collector F c') ≡ frame G
+    frame_exchanged : frame (with_collector F c') ≡ frame G
     frame_exchanged = same_frame F c' beside ex.most ex.turn_max ∙ ap frame view_is
 
+    -- the nodes then are those that a take-over of the first node's children by the second gives
     pub gives_exchanged : TakeOverGives (nodes G) (number m) (number n) (heap c'.store)
     gives_exchanged =
         let oa : nodes G (number m) ≡ node_of a = node_in F G view_is m a ex.was_old in

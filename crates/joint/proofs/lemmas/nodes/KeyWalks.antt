@@ -88,6 +88,7 @@ module _ {V : Type 0} (m : Pairs V) where
   lacks k (inl e) = e
   lacks k (inr x) = absurd x
 
+  -- the keys below 2 ^ 64 are all keys of the map
   pub keys_all : (h : ℕ → Node V) → IsMapOf h m → (ks : List ℕ) → AreKeysBelow m (2 ^ 64) ks → AreKeys m ks
   keys_all h st ks a = record {
     ascend = a.ascend;
@@ -130,6 +131,7 @@ module _ {V : Type 0} (h : ℕ → Node V) (n : ℕ) (i : IsNodeIn h n) (x : Reg
       let w = within b q small (omega (arith, lo)) hi in
       lacks m q (lacks_bytes a h t m st [] n x.base x.depth i.linked r from b q w.0 (omega (arith, lo)) w.1 lo hi none)) k
 
+  -- before the first byte of a node no key of it is put
   pub starts : (old : List ℕ) → PutSoFar h n x 0 old old
   starts old = record {
     bound = omega arith;
@@ -148,7 +150,7 @@ module _ {V : Type 0} (h : ℕ → Node V) (n : ℕ) (i : IsNodeIn h n) (x : Reg
       before : (q : ℕ) → from ≤ q → q < b → (h n).children q ≡ Nothing
       before q lo hi = hangs q None (first.before q lo hi)
 
-      -- the node at the byte
+      -- the node at the byte is in the tree, and has a longer prefix, of 7 bytes at most
       pub below_in : (c : Id) → child ≡ Sub c → IsNodeIn h (id_number c) × (length (h n).prefix < length (h (id_number c)).prefix) × (length (h (id_number c)).prefix ≤ 7)
       below_in c is =
           let d = t.down n b (id_number c) i.linked (here ∙ ap (λ z. hung_at (Some z)) is) in
@@ -158,6 +160,7 @@ module _ {V : Type 0} (h : ℕ → Node V) (n : ℕ) (i : IsNodeIn h n) (x : Reg
         upto : (m : Pairs V) → IsMapOf h m → AreKeysBelow m x.base old → AreKeysBelow m (at b) mid
         upto m st k = past m st from b mid first.past (omega (arith, small)) before (so.keys m st k)
 
+        -- once the keys below the child at a byte are put, so are all before the next byte
         pub put_below : (c : Id) (new : List ℕ) → child ≡ Sub c → PutsKeys h (id_number c) mid new → PutSoFar h n x (b + 1) old new
         put_below c new is p =
             let hung : (h n).children b ≡ Below (id_number c) = here ∙ ap (λ z. hung_at (Some z)) is in
@@ -175,7 +178,7 @@ module _ {V : Type 0} (h : ℕ → Node V) (n : ℕ) (i : IsNodeIn h n) (x : Reg
                   gap m (end_of z) (at (b + 1)) new hi (λ q f g. beside q (omega (arith, f, lo)) g (inr f)) (p.keys m st first_part);
             }
 
-        -- a value at the byte
+        -- once the key of the value at the byte is put, so are all before the next byte
         pub put_key : (v : V) (key : ℕ) → child ≡ Value v → key ≡ at b → PutSoFar h n x (b + 1) old (mid ++ key ∷ [])
         put_key v key is ek = record {
           bound = omega (arith, small);
@@ -194,6 +197,7 @@ module _ {V : Type 0} (h : ℕ → Node V) (n : ℕ) (i : IsNodeIn h n) (x : Reg
               subst R next (one_more m key mid (subst Q ks some) (subst P (sym ek) (upto m st k)));
         }
 
+        -- with a blank at a byte, what was put before it is all before the next byte
         pub put_none : child ≡ Blank → PutSoFar h n x (b + 1) old mid
         put_none is = record {
           bound = omega (arith, small);
@@ -204,6 +208,7 @@ module _ {V : Type 0} (h : ℕ → Node V) (n : ℕ) (i : IsNodeIn h n) (x : Reg
               subst P q_is (here ∙ ap (λ z. hung_at (Some z)) is)) (upto m st k);
         }
 
+    -- where no child is left, the keys at and below the node are put
     pub ended : (from : ℕ) (old new : List ℕ) → PutSoFar h n x from old new → ((b : ℕ) → from ≤ b → get (children_of y) b ≡ None) → PutsKeys h n old new
     ended from old new so none = record {
       base = x.base;
@@ -214,7 +219,7 @@ module _ {V : Type 0} (h : ℕ → Node V) (n : ℕ) (i : IsNodeIn h n) (x : Reg
           subst P (whole (h n).prefix x.base x.depth r) (past m st from 256 new so.bound (omega arith) (λ q lo hi. hangs q None (none q lo)) (so.keys m st k));
     }
 
--- from the root on these are all
+-- what is put at and below the root are all keys below 2 ^ 64
 pub all_put : {V : Type 0} (h : ℕ → Node V) → IsTree h → (ks : List ℕ) → PutsKeys h 0 [] ks → (m : Pairs V) → IsMapOf h m → AreKeysBelow m (2 ^ 64) ks
 all_put h t ks p m st =
     let d : p.depth ≡ 0 = p.region.depth_is ∙ ap length t.tree.empty in

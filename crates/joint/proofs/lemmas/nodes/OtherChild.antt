@@ -65,18 +65,19 @@ module _ {P : Type 0} (n : Form Id P) (solid : IsSolid (children_of n)) (two : m
       none k nb na None g = ap hung_at g
       none k nb na (Some y) g = absurd (two_only (children_of n) byte at k (λ z. apart (sym z)) here (subst IsSome (sym e) refl) two nb na (subst IsSome (sym g) refl))
 
-  -- the first child is another one
+  -- where the first child isn't the one at the byte, it is the other one
   pub first_other : (w : LockWord) (at : ℕ) (x : Child Id P) (c : Id) → at < 256 → at ≢ byte → IsFirst (children_of n) 0 at x → x ≡ Sub c → IsOther (shape n w) byte (id_number c)
   first_other w at x c fits apart one q = other_is w at x c fits apart one.here q
 
-  -- or the next one is
+  -- the first child after the one at the byte is the other one
   pub next_other : (w : LockWord) (at : ℕ) (x : Child Id P) (c : Id) → at < 256 → IsFirst (children_of n) (byte + 1) at x → x ≡ Sub c → IsOther (shape n w) byte (id_number c)
   next_other w at x c fits one q = other_is w at x c fits (λ e. (let p = one.past in omega (arith, p, e))) one.here q
 
-  -- there are two
+  -- a node with two children has a first one
   pub some_first : ((k : ℕ) → 0 ≤ k → map.get (children_of n) k ≡ None) → ⊥
   some_first none = (let z = none byte (omega arith) in let s = here in absurd (cc (s, z)))
 
+  -- where the first child is the one at the byte, another comes after it
   pub some_next : (at : ℕ) (x : Child Id P) → IsFirst (children_of n) 0 at x → at ≡ byte → ((k : ℕ) → byte + 1 ≤ k → map.get (children_of n) k ≡ None) → ⊥
   some_next at x one e none =
       let key = second (children_of n) byte here two in
@@ -85,7 +86,7 @@ module _ {P : Type 0} (n : Form Id P) (solid : IsSolid (children_of n)) (two : m
         | inr g ↦ (let z = none key.0 (let a = key.1.0 in let d : byte ≢ key.0 = λ q. a (sym q) in omega (arith, g, e, d)) in let s = key.1.1 in absurd (cc (s, z)))
       ]
 
--- and no child is a value, or a blank
+-- where no child is a value, neither is the first one from a byte on
 pub no_value : {P : Type 0} (n : Form Id P) (from at : ℕ) (x : Child Id P) (v : P) → ((k : ℕ) (u : P) → child_at n k ≡ Holds u → ⊥) → IsFirst (children_of n) from at x → x ≡ Value v → ⊥
 no_value n from at x v nodes one e = nodes at v (ap hung_at (one.here ∙ ap Some e))
 

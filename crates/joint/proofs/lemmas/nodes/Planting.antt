@@ -62,6 +62,7 @@ module _ {P : Type 0} (limits : EpochLimits) (s0 c1 c2 : State (Slot P) (Unit {0
   abbrev pointer : Ptr
   pointer = record { name = Some name; tag = 0 }
 
+  -- the first name that is given is the root's
   pub is_top : name ≡ top
   is_top = next_top limits.cells limits.turn_max name (subst (λ x. IsNext x.store name) opens fills.next)
 
@@ -71,15 +72,18 @@ module _ {P : Type 0} (limits : EpochLimits) (s0 c1 c2 : State (Slot P) (Unit {0
   came : c2 ≡ with_roots (with_store o c1.store) (pointer ∷ [])
   came = stored ∙ ap (λ x. with_roots x (slice_set x.roots 0 pointer)) (beside ∙ ap (λ x. with_store x c1.store) opens)
 
+  -- the collector is a fresh one but for its cells and its root
   pub clock_is : c2 ≡ with_roots (with_store o c2.store) top_roots
   clock_is = came ∙ ap (λ n. with_roots (with_store o c1.store) (record { name = Some n; tag = 0 } ∷ [])) is_top ∙ ap (λ st. with_roots (with_store o st) top_roots) (sym same_store)
 
+  -- the root's slot is put under the first name of empty cells
   pub root_is : Fills (opened_store limits.cells limits.turn_max) top slot c2.store
   root_is =
       subst (λ st. Fills (opened_store limits.cells limits.turn_max) top slot st) (sym same_store)
       (subst (λ n. Fills (opened_store limits.cells limits.turn_max) n slot c1.store) is_top
       (subst (λ x. Fills x.store name slot c1.store) opens fills))
 
+  -- this one moment, at which nothing is done, leads to the collector as it stands
   pub told_is : HasMoments slot_names (moment slot_names Quiet c2 ∷ []) c2
   told_is =
       let told : HasMoments slot_names (moment slot_names Quiet o ∷ []) o = subst (λ x. HasMoments slot_names (moment slot_names Quiet x ∷ []) x) opens told0 in
@@ -92,6 +96,7 @@ module _ {P : Type 0} (limits : EpochLimits) (s0 c1 c2 : State (Slot P) (Unit {0
         given = λ n w. elim w [ inl l ↦ live_given c2.store n l | inr x ↦ absurd x ];
       }
 
+  -- no call on the collector is in flight
   pub resting_is : IsResting c2
   resting_is =
       let r : IsResting (with_roots (with_store o c1.store) (pointer ∷ [])) = record {
@@ -150,6 +155,7 @@ module _ {P : Type 0} (limits : Limits) (F : Nodes P) (k : Counts) (planted : Is
   free : s.word.retired ≡ false
   free = ap (λ w. w.retired) new.word
 
+  -- where the root alone is charged, the counts are those of the cells
   pub kept_planted : F.charge ≡ F.base + 2104 → IsKept k F
   kept_planted charge =
       let w1 : waits s ≡ 0 = ap (λ (b : Bool). if b then 1 else 0) free in
@@ -197,7 +203,7 @@ module _ {P : Type 0} (limits : Limits) (F : Nodes P) (k : Counts) (planted : Is
       let apart : named n ≢ top = λ e. ne (sym (number_named n) ∙ ap number e) in
       ap (λ g. view g (value_at st (named n))) (fills.sets.given (named n) apart ∙ empty_given (named n)) ∙ ap (λ v. view false v) (fills.sets.others (named n) apart ∙ empty_value (named n))
 
-  pub fresh_root : FreshRoot (nodes F)
+  fresh_root : FreshRoot (nodes F)
   fresh_root = record {
     alone = record {
       empty = ap (λ x. x.prefix) root_node ∙ new.prefix_is;
@@ -211,7 +217,7 @@ module _ {P : Type 0} (limits : Limits) (F : Nodes P) (k : Counts) (planted : Is
     others = λ n ne. ap (λ x. x.made) (other_node n ne);
   }
 
-  pub within_root : (most : ℕ) → Within most (nodes F)
+  within_root : (most : ℕ) → Within most (nodes F)
   within_root most n stands = elim (cases_eq n 0) [
     | inl e ↦ (
         let v : (nodes F n).version ≡ 0 = ap (λ i. (nodes F i).version) e ∙ ap (λ x. x.version) root_node ∙ ap (λ w. w.version) new.word in
@@ -220,6 +226,7 @@ module _ {P : Type 0} (limits : Limits) (F : Nodes P) (k : Counts) (planted : Is
     | inr ne ↦ (let bad : true ≡ false = sym stands.made ∙ ap (λ x. x.made) (other_node n ne) in absurd (cc bad))
   ]
 
+  -- with the root charged within the limit, the nodes are opened: a root alone
   pub is_opened : (charge limit : ℕ) → charge + 2104 ≤ limit → F.base ≡ charge → F.charge ≡ charge + 2104 → F.limit ≡ limit → F.version_max ≡ limits.version_max → IsOpened limits charge limit F
   is_opened charge limit fits base charged limit_is versions = record {
     allowed = allowed;

@@ -33,7 +33,7 @@ pub both_left : (a b : Bool) → a && b ≡ true → a ≡ true
 both_left true b e = refl
 both_left false b e = e
 
--- and the second
+-- where both of two tests hold, the second does
 pub both_right : (a b : Bool) → a && b ≡ true → b ≡ true
 both_right true b e = e
 both_right false b e = absurd (cc e)
@@ -51,6 +51,7 @@ module _ {X : Type 0} where
   rises_true [] e = tt
   rises_true ((k, x) ∷ r) e = (below_of k r (both_left _ _ e), rises_true r (both_right _ _ e))
 
+  -- the entries of a map stand in ascending order of their keys
   pub rises_entries : (m : map.FinMap nat_cmp X) → Rises (map.entries m)
   rises_entries m = rises_true (map.entries m) (true_of_T _ (map.entries_sorted m))
 

@@ -41,14 +41,14 @@ module _ {V : Type 0} (h : ℕ → Node V) (n : ℕ) (i : IsNodeIn h n) (x : Reg
       let top = region_top (h n).prefix x.base x.depth r in
       (omega (arith, hi, up, e, top), omega (arith, hi, up, e))
 
-  -- bytes at which nothing hangs
+  -- no key stands under bytes at which nothing hangs
   pub none_bytes : (from b : ℕ) → b ≤ 256 → ((q : ℕ) → from ≤ q → q < b → (h n).children q ≡ Nothing) → NoneStand h (at from) (at b)
   none_bytes from b small none k lo hi =
       let w = within b k small hi in
       let f = within_keys (h n).prefix x.base x.depth r k w.0 (omega (arith, lo)) w.1 in
       finds a h t n (key_bytes k) Nothing i.linked f (none _ (byte_low (h n).prefix x.base x.depth r k from w.0 f lo) (byte_high (h n).prefix x.base x.depth r k b w.0 f hi))
 
-  -- the keys of a byte beside those of the node that hangs there
+  -- no key stands under a byte beside those that begin with the prefix of the node there
   pub none_beside : (b c : ℕ) (z : Region) → b < 256 → (h n).children b ≡ Below c → IsRegion (h c).prefix z.base z.depth
       → (k : ℕ) → at b ≤ k → k < at (b + 1) → (k < z.base) ⊎ (end_of z ≤ k) → value_at h (key_bytes k) ≡ None
   none_beside b c z small e rz k lo hi ne =

@@ -178,7 +178,7 @@ module _ (s s' : World ℕ) (who : ℕ) (h : Holds nat_eq true s) where
     went : IsStep nat_eq true s go r s' → Appends
     went x = either (finds_journal_full s who (Go noise)) x.does
 
--- a step of a call
+-- a step of a call that may be taken appends nothing, or the entry of that call
 pub steps_on : (s s' : World ℕ) (step : Step ℕ) (o : Op ℕ) (given : Option (Option ℕ)) (r : Report ℕ) → Holds nat_eq true s → IsStep nat_eq true s step r s' → MayStep s step.worker o given step.event
     → (kept : Option (Entry ℕ)) × Appended s s' step.worker o given step.event kept
 steps_on s s' step o given r h x may = by step.event x may where
@@ -198,10 +198,10 @@ appended_at xs ys o q = ap (λ l. slice_get l (length xs)) q ∙ at xs o where
   at (x ∷ xs) o = at xs o
 
 -- what a worker has in flight, as it is told
-pub flight_is : (o : Option (Request ℕ)) (c : Op ℕ) (given : Option (Option ℕ)) → (option_map {U = Op ℕ × Option (Option ℕ)} (λ (q : Request ℕ). (q.op, q.answer)) o ≡ Some (c, given) → o ≡ Some (record { op = c; answer = given }))
+flight_is : (o : Option (Request ℕ)) (c : Op ℕ) (given : Option (Option ℕ)) → (option_map {U = Op ℕ × Option (Option ℕ)} (λ (q : Request ℕ). (q.op, q.answer)) o ≡ Some (c, given) → o ≡ Some (record { op = c; answer = given }))
 flight_is None c given q = absurd (cc q)
 flight_is (Some r) c given q = let same : (r.op, r.answer) ≡ (c, given) = some_injective _ _ q in ap (λ (y : Op ℕ × Option (Option ℕ)). Some (record { op = y.0; answer = y.1 })) same
 
 -- what a worker has in flight is told so
-pub flight_tells : (o : Option (Request ℕ)) (c : Op ℕ) (given : Option (Option ℕ)) → o ≡ Some (record { op = c; answer = given }) → option_map {U = Op ℕ × Option (Option ℕ)} (λ (q : Request ℕ). (q.op, q.answer)) o ≡ Some (c, given)
+flight_tells : (o : Option (Request ℕ)) (c : Op ℕ) (given : Option (Option ℕ)) → o ≡ Some (record { op = c; answer = given }) → option_map {U = Op ℕ × Option (Option ℕ)} (λ (q : Request ℕ). (q.op, q.answer)) o ≡ Some (c, given)
 flight_tells o c given q = ap (option_map {U = Op ℕ × Option (Option ℕ)} (λ (q : Request ℕ). (q.op, q.answer))) q

@@ -207,6 +207,7 @@ module _ {V : Type 0} where
   go_worker who (Done d) step g = absurd g
   go_worker who (Refused e) step g = absurd g
 
+  -- a turn of a worker's call is a step of that worker's
   pub turn_worker : (who : ℕ) (op : Op V) (last : Option (Report V)) (step : Step V) → IsTurn who op last step → step.worker ≡ who
   turn_worker who op None step t = ap (λ (x : Step V). x.worker) t
   turn_worker who op (Some r) step t = go_worker who r.outcome step t
@@ -226,7 +227,7 @@ module _ {V Q : Type 0} (hold : ℕ → Op V → Step V → Report V → Type 0)
   abbrev Gives : S → Step V → Report V → S → Type 0
   Gives s step r s' = hold (worker s) (oper s) step r × (worker s' ≡ worker s) × (oper s' ≡ oper s)
 
-  -- the turns, whoever gave them
+  -- turns given by a state that keeps worker and call are turns of that call, whoever gave them
   pub anyhow : {F : Type 0} (calls : F → Option V → Option V → F → Type 0) (ts : List (OneTurn V)) (s : S) (f : F) (last : Option (Report V)) (places : List Q) (s' : S) (places' : List Q) (o : Outcome V) → worker s ≡ who → oper s ≡ op
       → AreTurns Gives calls pair who op s f last places ts s' places' o
       → AreTurns {S = Unit {0}} (λ _ step r _. hold who op step r) calls pair who op (tt {0}) f last places ts (tt {0}) places' o
@@ -248,7 +249,7 @@ module _ {V S Q : Type 0} (gives : S → Step V → Report V → S → Type 0) (
   turns_mute calls None f step f' t = (t.0, refl)
   turns_mute calls (Some r) f step f' t = goes_mute calls r.outcome f step f' t
 
-  -- and whatever answered
+  -- and they are turns whatever closure answered
   pub mute : {F : Type 0} (calls : F → Option V → Option V → F → Type 0) (ts : List (OneTurn V)) (s : S) (f : F) (last : Option (Report V)) (places : List Q) (s' : S) (places' : List Q) (o : Outcome V) → AreTurns gives calls pair who op s f last places ts s' places' o
       → AreTurns {F = Unit {0}} gives (λ _ _ _ _. Unit {0}) pair who op s (tt {0}) last places ts s' places' o
   mute calls [] s f last places s' places' o h = h

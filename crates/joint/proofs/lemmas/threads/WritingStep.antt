@@ -21,7 +21,7 @@ use Rattle.joint.proofs.lemmas.threads.Appending.{entry_changes}
 use Rattle.joint.proofs.lemmas.threads.Watching.{look_up_watched, none_watched, write_watched}
 
 -- what a call with an entry tells is told in a call
-pub settled_tells : (e : Option (Entry ℕ)) → IsToldInCall (settled e)
+settled_tells : (e : Option (Entry ℕ)) → IsToldInCall (settled e)
 settled_tells None = tt {0}
 settled_tells (Some e) = tt {0}
 

@@ -67,6 +67,7 @@ module _ {V : Type 0} where
   request_apart : (qs : List (Option (Request V))) (w i : ℕ) (o : Option (Request V)) → i ≢ w → request_at (slice_set qs w o) i ≡ request_at qs i
   request_apart qs w i o n = get_or-set_other qs w i o None n
 
+  -- where one worker's request and its call changed, and they agree, every worker's request agrees with its call
   pub asked_set : (qs : List (Option (Request V))) (fs : Flights V) (w : ℕ) (o : Option (Request V)) (f' : Flight V) → ((i : ℕ) → IsAsked (request_at qs i) (fs i)) → IsAsked (request_at (slice_set qs w o) w) f'
       → (fs' : Flights V) → fs' w ≡ f' → ((i : ℕ) → i ≢ w → fs' i ≡ fs i) → (i : ℕ) → IsAsked (request_at (slice_set qs w o) i) (fs' i)
   asked_set qs fs w o f' each here fs' e apart i = elim (cases_Bool (i == w)) [
@@ -136,6 +137,7 @@ module _ {V : Type 0} (same : V → V → Bool) (always : Bool) (s s' : World V)
     past_or_in : (n i : ℕ) → (n ≤ i) ⊎ (i < n)
     past_or_in n i = grind arith
 
+  -- a call that hasn't taken effect hears the step's answer, and its request then has that value
   pub pending_next : (noise : Noise Id V) (k : ℕ) (kd : Kind V) (v : Option V) (q : Question V) → fs w ≡ Pending k kd v q → TakesAnswer (answered_if (asks_at (slice_get s.machines w)) noise.answer (request_at qs w)) k kd (value_answered kd q noise.answer v) (resolved kd q noise.answer)
   pending_next noise k kd v q e =
       let a : IsAsked (request_at qs w) (Pending k kd v q) = subst (λ (x : Flight V). IsAsked (request_at qs w) x) e (each w) in
@@ -163,6 +165,7 @@ module _ {V : Type 0} (same : V → V → Bool) (always : Bool) (s s' : World V)
   go_case noise (Unbegun start end size) l fs' on e we o x = gone noise on fs' x.next (x.advances ∙ ap (λ j. with_flight fs j x.next) we) (scan_asked _ start end size (m ∷ []) [] x.step.outcome x.next x.step.tells)
   go_case noise (Scanning start end size states places) l fs' on e we o x = gone noise on fs' x.next (x.advances ∙ ap (λ j. with_flight fs j x.next) we) (scan_asked _ start end size (m ∷ states) places x.step.outcome x.next x.step.tells)
 
+  -- after a step each worker's request agrees with its call
   pub asked_after : (event : Event V) (l : Line V) (fs' : Flights V) → l.step.worker ≡ w → Does same always (engine_of s) w event (misuse (engine_of s) w event) l.report (engine_of s') → EventMap same fs m event l fs'
       → (i : ℕ) → IsAsked (request_at (requests_after s w event (is_in_flight l.report.outcome)) i) (fs' i)
   asked_after Register l fs' we does x = λ i. subst (λ (g : Flights V). IsAsked (request_at qs i) (g i)) (sym x.same_flights) (each i)

@@ -137,6 +137,7 @@ module _ {V : Type 0} (same : V → V → Bool) (always : Bool) (s s' : World V)
   go_effect noise (Unbegun start end size) e d n x = absurd (false≢true (sym x.step.undecided ∙ d))
   go_effect noise (Scanning start end size states places) e d n x = absurd (false≢true (sym x.step.undecided ∙ d))
 
+  -- no call takes effect in the step in which it begins
   pub begin_undecided : (t : Target V) (o : Outcome V) → l.report.outcome ≡ o → BeginMap fs m t l fs' → l.report.decided ≡ false
   begin_undecided (target.Collector op) o e x = x.undecided
   begin_undecided (target.Survey k) o e x = x.stays.undecided
@@ -149,6 +150,7 @@ module _ {V : Type 0} (same : V → V → Bool) (always : Bool) (s s' : World V)
     by (Found place key value) z = z.undecided
     by (Registered n) z = z.undecided
 
+  -- a step that decides has the entry of the call that took effect
   pub effect : (event : Event V) → l.report.decided ≡ true → Does same always (engine_of s) w event (misuse (engine_of s) w event) l.report (engine_of s') → EventMap same fs m event l fs' → Effect event
   effect Register d does x = absurd (false≢true (sym x.undecided ∙ d))
   effect (Begin op) d does x = absurd (false≢true (sym (begin_undecided (target op) l.report.outcome refl x) ∙ d))
@@ -192,6 +194,7 @@ module _ {V : Type 0} (same : V → V → Bool) (always : Bool) (s s' : World V)
     by (Found place key value) z = record { no_entry = z.no_entry; same_pairs = z.same_pairs }
     by (Registered n) z = record { no_entry = z.no_entry; same_pairs = z.same_pairs }
 
+  -- a step that doesn't decide has no entry, and the pairs stay
   pub leaves : (event : Event V) → l.report.decided ≡ false → EventMap same fs m event l fs' → Leaves
   leaves Register d x = of_stays x
   leaves (Begin op) d x = begin_leaves (target op) l.report.outcome refl x

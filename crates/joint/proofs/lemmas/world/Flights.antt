@@ -29,9 +29,11 @@ set_at (y ∷ xs) zero x l = refl
 set_at (y ∷ xs) (suc i) x l = set_at xs i x (omega (arith, l))
 
 module _ {V : Type 0} where
+  -- the worker whose call was put has that call
   pub flight_here : (fs : Flights V) (w : ℕ) (f : Flight V) → with_flight fs w f w ≡ f
   flight_here fs w f = let P : Bool → Type 0 = λ b. (if b then f else fs w) ≡ f in subst P (sym (eqb_same w)) refl
 
+  -- each other worker has the call that it had
   pub flight_apart : (fs : Flights V) (w i : ℕ) (f : Flight V) → i ≢ w → with_flight fs w f i ≡ fs i
   flight_apart fs w i f n = elim (cases_Bool (i == w)) [
     | inl e ↦ absurd (n (eqb-true i w e))
@@ -43,6 +45,7 @@ module _ {V : Type 0} where
   empty_stays None count fs m l fs' x = absurd x
   empty_stays (Some (start, end, size)) count fs m l fs' x = x.stays
 
+  -- a call that is done as it begins leaves the map, and the calls in flight
   pub ends_stays : (fs : Flights V) (m : Pairs V) (op : Point V) (d : Answer V) (l : Line V) (fs' : Flights V) → EndsAtOnce fs m op d l fs' → Stays fs m l fs'
   ends_stays fs m op (done.Scanned count) l fs' x = empty_stays (range_of op) count fs m l fs' x
   ends_stays fs m op done.Unit l fs' x = absurd x
@@ -51,7 +54,7 @@ module _ {V : Type 0} where
   ends_stays fs m op (done.Empty b) l fs' x = absurd x
   ends_stays fs m op (done.Stats stats) l fs' x = absurd x
 
-  -- a call that may hand a node over, and has not begun
+  -- a writing call that has not begun is watched as one that has yet to take effect, and hasn't asked
   pub pending : (op : Point V) → writes op ≡ true → flight (begun root op) ≡ Pending (parts op).0 (parts op).1 (parts op).2 Unasked
   pending (point.Get k) p = absurd (cc p)
   pending (point.Insert k v) p = refl
@@ -62,6 +65,7 @@ module _ {V : Type 0} where
   pending (point.Range start end size) p = absurd (cc p)
   pending (point.RangeInclusive start last size) p = absurd (cc p)
 
+  -- the machine of a call that begins is watched as that call
   pub begun_follows : (op : Point V) → Follows (begun root op) (flight (begun root op))
   begun_follows (point.Get k) = inl (tt, refl)
   begun_follows (point.Insert k v) = inl (tt, refl)
@@ -85,10 +89,12 @@ module _ {V : Type 0} where
   own (Reserving op) f = Over
   own (Securing op) f = Over
 
+  -- those of the workers whose calls these are, the first of whom has this number
   abbrev pub listed : List (InFlight V) → Flights V → ℕ → List (Flight V)
   listed [] fs i = []
   listed (k ∷ ks) fs i = own k (fs i) ∷ listed ks fs (suc i)
 
+  -- where a worker's call is on the tree, its place in the list has its flight
   pub listed_at : (ks : List (InFlight V)) (fs : Flights V) (i j : ℕ) → slice_get ks j ≡ Some Walking → slice_get (listed ks fs i) j ≡ Some (fs (i + j))
   listed_at [] fs i j e = absurd cc
   listed_at (k ∷ ks) fs i zero e =
@@ -107,6 +113,7 @@ module _ {V : Type 0} where
   own_follows (Securing op) m f i e = ended_follows m (e (λ q. cc))
   own_follows Walking m f i e = i
 
+  -- where each call is watched beside its machine, the list follows the machines
   pub following : (ks : List (InFlight V)) (ms : List (Machine Id V)) (fs : Flights V) (i : ℕ) → length ms ≡ length ks
       → ((j : ℕ) (k : InFlight V) (m : Machine Id V) → slice_get ks j ≡ Some k → slice_get ms j ≡ Some m → IsInFlight k m (fs (i + j)))
       → ((j : ℕ) (k : InFlight V) (m : Machine Id V) → slice_get ks j ≡ Some k → slice_get ms j ≡ Some m → (k ≡ Walking → ⊥) → m.phase ≡ Ended)
@@ -119,7 +126,7 @@ module _ {V : Type 0} where
     following ks ms fs (suc i) (omega (arith, l)) (λ j x y a b. let P : ℕ → Type 0 = λ n. IsInFlight x y (fs n) in subst P (omega arith) (each (suc j) x y a b)) (λ j x y a b. rest (suc j) x y a b),
   )
 
-  -- what is watched of one machine
+  -- where a list follows the machines, each machine is watched as its place of the list says
   pub followed : (ms : List (Machine Id V)) (fs : List (Flight V)) (i : ℕ) (m : Machine Id V) (f : Flight V) → Following ms fs → slice_get ms i ≡ Some m → slice_get fs i ≡ Some f → Follows m f
   followed [] [] i m f x a b = absurd cc
   followed [] (g ∷ gs) i m f x a b = absurd x

@@ -60,6 +60,7 @@ module _ {V : Type 0} (same : V → V → Bool) (always : Bool) (s : World V) (w
       let Q : Report V → Type 0 = λ y. GoMap same fs (Pending (parts call.0).0 (parts call.0).1 (parts call.0).2 Unasked) m noise.answer (record { step = record { worker = w; event = Go noise }; report = y; entry = None; pairs = m }) (with_flight fs w Over) in
       subst P (sym waits) (subst Q (sym q) (record { next = Over; step = inr (record { full = refl; undecided = refl; over = refl; no_entry = refl; same_pairs = refl }); advances = refl }))
 
+  -- the other calls are watched as before, and the refused one no longer
   pub refused_flights : (fs : Flights V) (m : Pairs V) → IsMapOf (nodes s.forest) m → AreInFlight s fs → AreInFlight given_up (with_flight fs w Over)
   refused_flights fs m st fl = over_flights fs m st fl
 
@@ -90,8 +91,10 @@ module _ {V : Type 0} (same : V → V → Bool) (always : Bool) (s : World V) (w
     legal = here.legal;
   }
 
+  -- what is written down still fits the calls in flight and the pairs
   pub gives_up_logged : (s' : World V) → s' ≡ given_up → IsLogged same always s'
   gives_up_logged s' e = let P : World V → Type 0 = λ y. IsLogged same always y in subst P (sym e) given_logged
 
+  -- the worker has no call in flight, as the report says
   pub gives_up_flight : (s' : World V) (rep : Report V) → s' ≡ given_up → rep ≡ quiet OfCollector (Refused JournalFull) → is_busy (slice_get s'.calls w) ≡ is_in_flight rep.outcome
   gives_up_flight s' rep e q = ap (λ y. is_busy (slice_get y.calls w)) e ∙ ap is_busy idle_here ∙ sym (ap (λ y. is_in_flight y.outcome) q)

@@ -38,6 +38,7 @@ module _ {V : Type 0} where
   begun_writes (point.Range start end size) e = absurd (cc e)
   begun_writes (point.RangeInclusive start last size) e = absurd (cc e)
 
+  -- a call that begins doesn't ask
   pub begun_asks : (op : Point V) → asks (flight (begun root op)) ≡ false
   begun_asks (point.Get k) = refl
   begun_asks (point.Insert k v) = refl
@@ -129,9 +130,11 @@ module _ {V : Type 0} (same : V → V → Bool) (always : Bool) (s : World V) (w
       let x : (x : Machine Id V) × (slice_get s.machines w ≡ Some x) = machine_at k e in
       ap (has_place (Some k)) x.1 ∙ call_writes k (place_of s w) x.0 (fs w) (holds.0.each w k x.0 e x.1) (fl.each w k x.0 e x.1) r
 
+  -- past its first step a call has a place just where it has yet to take effect and may write
   pub place_here : is_reserving (slice_get s.calls w) ≡ false → has_place (slice_get s.calls w) (slice_get s.machines w) ≡ writes_on (fs w)
   place_here r = here_by (slice_get s.calls w) refl r
 
+  -- a writing call before its first step has no place
   pub reserving_none : (k : Option (InFlight V)) (o : Option (Machine Id V)) → is_reserving k ≡ true → has_place k o ≡ false
   reserving_none (Some (Reserving op)) o e = refl
   reserving_none (Some Idle) o e = absurd (cc e)
@@ -153,6 +156,7 @@ module _ {V : Type 0} (same : V → V → Bool) (always : Bool) (s : World V) (w
       let x : (x : Machine Id V) × (slice_get s.machines w ≡ Some x) = machine_at k e in
       ap asks_at x.1 ∙ call_asks k (place_of s w) x.0 (fs w) (holds.0.each w k x.0 e x.1) (fl.each w k x.0 e x.1)
 
+  -- a machine asks just where its call is watched as asking
   pub asks_here : asks_at (slice_get s.machines w) ≡ asks (fs w)
   asks_here = asks_by (slice_get s.calls w) refl
 
@@ -162,6 +166,7 @@ module _ {V : Type 0} (same : V → V → Bool) (always : Bool) (s : World V) (w
       let x : (x : Machine Id V) × (slice_get s.machines w ≡ Some x) = machine_at k e in
       ap reply_at x.1 ∙ call_replied k x.0 (fs w) r (fl.each w k x.0 e x.1) q
 
+  -- a call that is watched as having a reply has that reply in its machine
   pub reply_here : (r : Reply V) → fs w ≡ Decided r → reply_at (slice_get s.machines w) ≡ Some r
   reply_here r e = reply_by (slice_get s.calls w) r refl (ap replied e)
 
@@ -175,6 +180,7 @@ module _ {V : Type 0} where
   undecided_writes k kd v q (moved.Found place key x) f' u e = absurd u
   undecided_writes k kd v q (moved.Scanned count) f' u e = absurd u
 
+  -- a call that took effect may not write any more
   pub concluded_writes : (r : Reply V) (m : Moved V) (f' : Flight V) → Concludes r m f' → writes_on f' ≡ false
   concluded_writes r moved.Running f' u = ap writes_on u
   concluded_writes r (moved.Asks x) f' u = absurd u
@@ -200,6 +206,7 @@ module _ {V : Type 0} where
     advanced_writes : (fs fs' : Flights V) (w : ℕ) (f' : Flight V) → fs' ≡ with_flight fs w f' → writes_on f' ≡ false → writes_on (fs' w) ≡ false
     advanced_writes fs fs' w f' e n = ap (λ (g : Flights V). writes_on (g w)) e ∙ ap writes_on (flight_here fs w f') ∙ n
 
+    -- a call that may not write may not after a further step either
     pub go_writes : (fs : Flights V) (f : Flight V) (m : Pairs V) (answer : Option (Option V)) (l : Line V) (fs' : Flights V) → fs l.step.worker ≡ f → GoMap same fs f m answer l fs' → writes_on f ≡ false → writes_on (fs' l.step.worker) ≡ false
     go_writes fs (Pending k kd v q) m answer l fs' e x n =
         advanced_writes fs fs' l.step.worker x.next x.advances (pending_writes k kd (value_answered kd q answer v) (resolved kd q answer) m l.report.decided l x.next x.step n)

@@ -49,7 +49,7 @@ module _ {V : Type 0} where
   same_asked o Walking m f g x y a = walking_asked o m f g x y a
 
 module _ {V : Type 0} (same : V → V → Bool) (always : Bool) where
-  pub asked_any : (s : World V) (fs : Flights V) → Holds same always s → AreInFlight s fs → always ≡ true → (i : ℕ) → IsAsked (request_at s.log.requests i) (fs i)
+  asked_any : (s : World V) (fs : Flights V) → Holds same always s → AreInFlight s fs → always ≡ true → (i : ℕ) → IsAsked (request_at s.log.requests i) (fs i)
   asked_any s fs h fl a i = by (slice_get s.calls i) refl where
     by : (k : Option (InFlight V)) → slice_get s.calls i ≡ k → IsAsked (request_at s.log.requests i) (fs i)
     by None e = elim (slice_get_cases s.calls i).1 [
@@ -131,5 +131,6 @@ module _ {V : Type 0} (same : V → V → Bool) (always : Bool) where
     by_case true r e x = gives step.event r refl e x
     by_case false r e x = takes r x
 
+    -- a step of the whole machine is one on the map, and the journal keeps its entry where the report says so
     pub mapped : (r : Report V) → IsStep same always s step r s' → Mapped s step r s' fs m
     mapped r x = by_case (finds_journal_full s step.worker step.event) r refl x.does

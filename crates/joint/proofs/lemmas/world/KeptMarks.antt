@@ -18,6 +18,7 @@ use Rattle.joint.specs.world.MapSteps.{EventMap, GoMap, PendingStep, BeginMap, B
 use Rattle.joint.specs.engine.Flying.{Flights}
 
 module _ {V : Type 0} (b : Bool) where
+  -- the line with this mark in its report
   abbrev pub rekept : Line V → Line V
   rekept l = record { step = l.step; report = record l.report { kept = b }; entry = l.entry; pairs = l.pairs }
 
@@ -68,6 +69,7 @@ module _ {V : Type 0} (b : Bool) where
     go_map fs (Scanning start end size states places) m answer l fs' x =
         record { next = x.next; step = record { undecided = x.step.undecided; outcome = x.step.outcome; told_so = x.step.told_so; tells = x.step.tells; no_entry = x.step.no_entry; same_pairs = x.step.same_pairs }; advances = x.advances }
 
+    -- a step on the map is one with any mark too
     pub event_map : (fs : Flights V) (m : Pairs V) (event : Event V) (l : Line V) (fs' : Flights V) → EventMap same fs m event l fs' → EventMap same fs m event (rekept l) fs'
     event_map fs m Register l fs' x = stays fs m l fs' x
     event_map fs m (Begin op) l fs' x = begin_map fs m (target op) l fs' x

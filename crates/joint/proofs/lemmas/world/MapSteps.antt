@@ -96,7 +96,7 @@ only_memory c who fault.Memory x = refl
 only_memory c who _ x = absurd x
 
 -- a further step that makes places free is refused for want of memory alone
-pub wants_memory : {T J : Type 0} (c : State T J) (who : ℕ) (f : Fault) → IsOn (Secure 2) (place c who) → IsOutcome c who collector_event.Go (fault_of c who collector_event.Go) (collector_outcome.Refused f) → f ≡ fault.Memory
+wants_memory : {T J : Type 0} (c : State T J) (who : ℕ) (f : Fault) → IsOn (Secure 2) (place c who) → IsOutcome c who collector_event.Go (fault_of c who collector_event.Go) (collector_outcome.Refused f) → f ≡ fault.Memory
 wants_memory c who f on x =
     let P : Bool → Type 0 = λ b. IsOutcome c who collector_event.Go (if b then event_fault collector_event.Go (place c who).phase (place c who) else Some fault.Unknown) (collector_outcome.Refused f) in
     let Q : Option Fault → Type 0 = λ o. IsOutcome c who collector_event.Go o (collector_outcome.Refused f) in
@@ -117,6 +117,7 @@ module _ {V : Type 0} (same : V → V → Bool) (always : Bool) (s s' : World V)
   abbrev line : Event V → Report V → Option (Entry V) → Pairs V → Line V
   line event r e m' = record { step = record { worker = w; event = event }; report = r; entry = e; pairs = m' }
 
+  -- the step with this report is one on the map, as `map` says, and these pairs and calls stand after it
   pub record Result (event : Event V) (r : Report V) (map : Line V → Flights V → Type 0) : Type 0 where
     pub entry : Option (Entry V)
     pub pairs : Pairs V
@@ -169,7 +170,7 @@ module _ {V : Type 0} (same : V → V → Bool) (always : Bool) (s s' : World V)
   stays : (event : Event V) (r : Report V) (m' : Pairs V) → r.decided ≡ false → Stays fs m (line event r None m) fs
   stays event r m' d = record { undecided = d; no_entry = refl; same_pairs = refl; same_flights = refl }
 
-  -- one worker's call was exchanged
+  -- where one worker's call was exchanged, all are watched with its flight exchanged
   pub set_in_flight : (fs' : Flights V) (k' : InFlight V) → w < length s.calls → s'.calls ≡ slice_set s.calls w k'
       → ((i : ℕ) (x : Machine Id V) → i ≢ w → slice_get s'.machines i ≡ Some x → slice_get s.machines i ≡ Some x)
       → ((x : Machine Id V) → slice_get s'.machines w ≡ Some x → IsInFlight k' x (fs' w)) → ((i : ℕ) → i ≢ w → fs' i ≡ fs i) → AreInFlight s' fs'
@@ -617,7 +618,7 @@ module _ {V : Type 0} (same : V → V → Bool) (always : Bool) (s s' : World V)
       let P : Option (InFlight V) → Type 0 = λ c. GoesAt same always s w c noise r s' in
       walks noise r e (subst P e x)
 
-  -- whatever the step is
+  -- whatever the event, the step is one on the map
   pub on_map : (event : Event V) (r : Report V) → Acts same always s w event (misuse s w event) r s' → Result event r (λ l f'. EventMap same fs m event l f')
   on_map Register r x = registers r x
   on_map (Begin op) r x = begin_case op r (target op) (misuse s w (Begin op)) refl refl x

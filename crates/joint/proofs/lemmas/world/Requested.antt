@@ -30,19 +30,22 @@ use Rattle.joint.specs.Reports.{target}
 use Rattle.joint.specs.world.World.{value_of, IsOnKey, IsRequestOf, IsQuestionOf, IsAsked}
 
 module _ {V : Type 0} where
-  -- whether a call that is watched so asks, has yet to take effect and may write then, or has which reply
+  -- whether a question was asked, and has no answer yet
   abbrev pub is_asked : Question V → Bool
   is_asked (Asked found) = true
   is_asked _ = false
 
+  -- whether a call that is watched so asks
   abbrev pub asks : Flight V → Bool
   asks (Pending k kind v q) = is_asked q
   asks _ = false
 
+  -- whether it has yet to take effect, and may write then
   abbrev pub writes_on : Flight V → Bool
   writes_on (Pending k kind v q) = may_write kind
   writes_on _ = false
 
+  -- the reply that it has, if it took effect
   abbrev pub replied : Flight V → Option (Reply V)
   replied (Decided r) = Some r
   replied _ = None
@@ -56,6 +59,7 @@ module _ {V : Type 0} where
   heeds_none (reply.ComputeInsert o) = refl
   heeds_none (reply.Exchange o) = refl
 
+  -- a call is watched as asking just where its phase asks
   pub phase_asks : (k : ℕ) (kind : Kind V) (v : Option V) (p : Phase Id V) → asks (flight_in k kind v p) ≡ is_asking p
   phase_asks k kind v (phase.Confirm at r) = heeds_none r
   phase_asks k kind v (phase.CheckAbove p one r) = heeds_none r
@@ -68,10 +72,12 @@ module _ {V : Type 0} where
   phase_asks k kind v (phase.ChangeTwo two r) = heeds_none r
   phase_asks k kind v _ = refl
 
+  -- it may yet write just where its phase has not taken effect and its kind may write
   pub phase_writes : (k : ℕ) (kind : Kind V) (v : Option V) (p : Phase Id V) → writes_on (flight_in k kind v p) ≡ (is_pending p && may_write kind)
   phase_writes k kind v phase.Ended = refl
   phase_writes k kind v _ = refl
 
+  -- it has the reply that its phase has
   pub phase_replied : (k : ℕ) (kind : Kind V) (v : Option V) (p : Phase Id V) → replied (flight_in k kind v p) ≡ reply_in p
   phase_replied k kind v phase.Ended = refl
   phase_replied k kind v _ = refl
@@ -132,6 +138,7 @@ module _ {V : Type 0} where
     pub of : IsRequestOf request k kd v
     pub question : IsQuestionOf kd u request.answer
 
+  -- a request that hears the answer of a step is of the call with its value and question after that step
   pub heard_is : (q : Request V) (k : ℕ) (kd : Kind V) (v : Option V) (u : Question V) (answer : Option (Option V)) → IsRequestOf q k kd v → IsQuestionOf kd u q.answer
       → TakesAnswer (answered_if (is_asked u) answer (Some q)) k kd (value_answered kd u answer v) (resolved kd u answer)
   heard_is q k kd v Unasked answer r a = record { request = q; is = refl; of = r; question = a }
@@ -186,6 +193,7 @@ module _ {V : Type 0} where
   call_by (RangeInclusive start last size) answer same p v found c t n q i = absurd (let e : point.RangeInclusive start last size ≡ p = cc in subst (λ (x : Point V). IsOnKey x) (sym e) n)
   call_by _ answer same p v found c t n q i = absurd (cc t)
 
+  -- the call that a request makes with the reply is the one that the map answers
   pub request_call : (q : Request V) (same : V → V → Bool) (k : ℕ) (kd : Kind V) (v found : Option V) (c : Entered V) → IsRequestOf q k kd v → IsCall k kd v found c → call_of q.op q.answer (reply_on same c found) ≡ Some c
   request_call q same k kd v found c r i =
       let P : ℕ → Type 0 = λ x. IsCall x kd v found c in
@@ -210,6 +218,7 @@ module _ {V : Type 0} where
       subst (λ x. IsQuestionOf kind.ComputeInsert x answer) h1 (subst (λ (x : Point V). IsQuestionOf (parts x).1 u answer) (sym e) a)
   answered_by _ answer same p v found c u t i h a = tt
 
+  -- where the map answers the call, the request has what answer of a closure it wants
   pub request_answered : (q : Request V) (same : V → V → Bool) (k : ℕ) (kd : Kind V) (v found : Option V) (c : Entered V) (u : Question V) → IsRequestOf q k kd v → IsCall k kd v found c → Heeds kd found u → IsQuestionOf kd u q.answer
       → HasAnswer q.op q.answer (reply_on same c found)
   request_answered q same k kd v found c u r i h a =
@@ -232,6 +241,7 @@ module _ {V : Type 0} where
   begins_as : (op : Op V) (p : Point V) → target op ≡ Tree p → IsOnKey p → IsAsked (asked op) (Pending (parts p).0 (parts p).1 (parts p).2 Unasked)
   begins_as op p t n = (record { op = op; answer = None }, refl, record { point = p; on_tree = t; on_key = n; key = refl; same_kind = refl; value = value_begins op p t n }, tt)
 
+  -- a request as its call begins agrees with that call
   pub begins_asked : (op : Op V) (p : Point V) → target op ≡ Tree p → IsAsked (asked op) (flight (begun root p))
   begins_asked op (point.Range start end size) t = tt
   begins_asked op (point.RangeInclusive start last size) t = tt
@@ -248,6 +258,7 @@ module _ {V : Type 0} where
   carried o k kd v q (Replied x) h c = (h.request, h.is, h.of, subst (λ u. IsQuestionOf kd u h.request.answer) c h.question)
   carried o k kd v q (Asked x) h c = absurd c
 
+  -- after a step that doesn't decide, a request that was heard agrees with its call
   pub undecided_asked : (o : Option (Request V)) (k : ℕ) (kd : Kind V) (v : Option V) (q : Question V) (m : Moved V) (f' : Flight V) → TakesAnswer o k kd v q → Undecided k kd v q m f' → IsAsked o f'
   undecided_asked o k kd v q moved.Running f' h u = subst (λ (x : Flight V). IsAsked o x) (sym u.2) (carried o k kd v q u.0 h u.1)
   undecided_asked o k kd v q (moved.Asks x) f' h u = subst (λ (y : Flight V). IsAsked o y) (sym u.1) (h.request, h.is, h.of, u.0)

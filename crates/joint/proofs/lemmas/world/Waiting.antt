@@ -40,7 +40,7 @@ use Rattle.joint.specs.engine.Engine.{World}
 use Rattle.joint.proofs.lemmas.nodes.Listing.{pairs_append, gives, given, once, nodes_once, counted_nodes, weighed_nodes, bytes_are, listed, unlisted}
 use Rattle.joint.proofs.lemmas.world.Whereabouts.{gone_waits, somewhere}
 
--- tests that what doesn't stand fails
+-- what doesn't stand doesn't wait
 pub none_waits : (P : Type 0) (g : Bool) → is_waiting (view {P = P} g None) ≡ false
 none_waits P g = refl
 
@@ -69,7 +69,7 @@ of_both true false a b = refl
 of_both true true a b = absurd (cc b)
 of_both false d a b = absurd (cc a)
 
--- the nodes that stand are listed
+-- the list of the nodes that stand has each of them once, and no other
 pub standing_listed : {V : Type 0} (F : Nodes V) → IsListOf (λ n. Stands (nodes F n)) (standing_nodes F)
 standing_listed {V} F = record {
   once = nodes_once is_standing (λ v. true) (none_stands V) some_stands F;
@@ -81,16 +81,18 @@ standing_listed {V} F = record {
 
 -- as many as are counted in the cells, and as many bytes
 module _ {P : Type 0} (F : Nodes P) (k : Counts) (kept : IsKept k F) where
-  -- and charged
+  -- the charge is the base and the bytes of the nodes that stand
   pub standing_weight : F.charge ≡ F.base + sum_by (bytes_of F) (standing_nodes F)
   standing_weight =
       let c : F.charge ≡ F.base + sizes F.collector.store = kept.charged in
       let w : sum_by (bytes_of F) (standing_nodes F) ≡ sizes F.collector.store = weighed_nodes is_standing (λ v. true) (none_stands P) some_stands F kept.used in
       omega (arith, c, w)
 
+  -- so many nodes are counted as waiting as stand and were handed over
   pub handed_count : k.waiting ≡ length (handed_nodes F)
   handed_count = kept.count_is ∙ sym (counted_nodes is_waiting (λ v. v.word.retired) (none_waits P) some_waits F kept.used)
 
+  -- so many bytes are counted as waiting as these have
   pub handed_weight : k.waiting_bytes ≡ sum_by (bytes_of F) (handed_nodes F)
   handed_weight = kept.bytes_is ∙ sym (weighed_nodes is_waiting (λ v. v.word.retired) (none_waits P) some_waits F kept.used)
 
@@ -222,6 +224,7 @@ module _ {V : Type 0} (same : V → V → Bool) (always : Bool) (laws : CallLaws
       let w = given taken_by s.machines n c in
       (w.0, (w.1, w.2, taken_is w.1.phase n w.3))
 
+  -- the list of the nodes that wait has each of them once, and no other
   pub waiting_listed : IsListOf (IsWaiting s) (waiting_nodes s)
   waiting_listed = record {
     once = pairs_append (λ m n. m ≢ n) (handed_nodes s.forest) (flat_map taken_by s.machines) (nodes_once is_waiting (λ v. v.word.retired) (none_waits V) some_waits s.forest)

@@ -17,6 +17,7 @@ use Rattle.joint.specs.world.World.{Holds}
 use Rattle.joint.specs.engine.Engine.{World, IsHeldBy}
 
 module _ {V : Type 0} (same : V → V → Bool) (always : Bool) (laws : CallLaws {C = Id} {V = V} id_number same always) (s : World V) (holds : Holds same always s) (n : ℕ) (made : (nodes s.forest n).made ≡ true) where
+  -- locks and nodes are held by calls alone that are between their steps
   abbrev pub settled : Settled id_number same always (nodes s.forest) s.machines
   settled = holds.0.safe.sound.sound.settled
 
@@ -89,6 +90,7 @@ module _ {V : Type 0} (same : V → V → Bool) (always : Bool) (laws : CallLaws
   handed Back e w = absurd (standing w.stands (record { gone = holdings.spent n (ap is_spent e) }))
   handed Destroyed e w = absurd (standing w.stands (record { gone = holdings.spent n (ap is_spent e) }))
 
+  -- the node is in exactly one of the four places
   pub somewhere : IsSomewhere s n
   somewhere = record {
     one = one;
