@@ -61,7 +61,7 @@ count_from-requires g t c κs within =
     let s = c.args.self.now.nodes in
     let x = standing s c.args.at c.requires.stands in
     let below = child_stands s c.args.at x.node c.loop-byte.from c.in-Some.byte (child_of c.in-Some.child) c.in-Node.below c.requires.tree c.requires.stands x.is
-        (c.in-Some.ensures.first s c.args.at x.node c.sight-sight.ensures x.is) (named c.in-Some.child c.in-Node.below c.in-Node.is) in
+    (c.in-Some.ensures.first s c.args.at x.node c.sight-sight.ensures x.is) (named c.in-Some.child c.in-Node.below c.in-Node.is) in
     let smaller : 8 - length (heap_of s c.in-Node.below).prefix < 8 - length (heap_of s c.args.at).prefix = omega (arith, below.1.0, below.1.1) in
     let level : c.args.level + 1 ≤ length (heap_of s c.in-Node.below).prefix = omega (arith, below.1.0, c.requires.level) in
     let opened : c.args.level + 1 ≤ vec_len c.loop-byte.stats.levels = let o = (c.loop-byte.invariant x.node x.is).0.opened in omega (arith, o) in
