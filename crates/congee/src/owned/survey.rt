@@ -20,7 +20,7 @@ use crate::owned::stats::NodeStats;
 use std::alloc::{AllocError, Global};
 
 impl<P: Stored, A: Allocator> Arena<P, A> {
-    /// Counts a node on a level, and the nodes below it.
+    /// Counts a node on a level, and the nodes below it: a leaf has none, and its values are told by their number.
     fn count_from(&self, at: Name, level: usize, stats: &mut NodeStats) -> Result<(), AllocError>
         requires tree { IsTree self.now.nodes }
         requires stands { ContainsKey self.now.nodes at }
