@@ -1,4 +1,17 @@
-//! Trees of one owner. Their nodes stand in an `arena`, children by name; `congee` has the tree itself.
+//! Trees of one owner, in layers, from the nodes up to the trees.
+//!
+//! `nodes` is the storage: a slot for each node, an inner one or a leaf (`slots`, `slot_node`). An inner node (`inner`) has a
+//! prefix and by form its `places`, whose `entries` are nodes by their slots, or leaves with one value (`lone`), which have no
+//! slot and lie there. Each has a name (`names`), and to contracts each is a node of those that shared trees have.
+//!
+//! Over it, `looks` tells what a node has for a key, `parting` where a key leaves a prefix, and `hangings` changes what hangs
+//! in a node. An `arena` is the nodes and their budget. It goes down a key's way, whose end is a `place`; there `edit` puts
+//! values in and splits, and `removing` takes them out, with the nodes that go or shrink. `pairs` has these as calls on a
+//! map, and `close` ends a tree, with a `drainer`.
+//!
+//! A walk reads each node once, as a `sight`: `scan` gives the pairs in order, `writing` puts a range of them into a slice,
+//! and `survey` counts the nodes, for `stats`. The trees are `congee`, of words, `u64_congee`, whose keys are numbers, and
+//! `congee_arc`, of shared values.
 mod arena;
 mod close;
 mod congee;

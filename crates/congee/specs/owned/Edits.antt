@@ -1,6 +1,7 @@
 -- What a writing call does to an arena: to its pairs, to the sizes of its nodes, and to its budget.
 use Rattle.std.specs.Prelude.{◌≡◌, ℕ, ◌+◌, List, Option, None, Some}
 use Rattle.congee.specs.Heap.{value_at}
+use Rattle.congee.specs.forms.Forms.{size_of}
 use Rattle.congee.specs.owned.Arena.{IsTree, heap_of}
 use Rattle.congee.specs.owned.Changes.{MapChange}
 use Rattle.congee.specs.owned.Charge.{Balances, KeepsLimit}
@@ -10,6 +11,7 @@ use Rattle.congee.specs.owned.OwnedSteps.{SameNodes}
 use Rattle.congee.specs.owned.Sizes.{bytes_of}
 use Rattle.congee.specs.owned.Wanted.{InsertionFits, IsRefused, gain_of, size_by}
 use Rattle.congee.specs.declared.allocator.OOMError.{OOMError}
+use Rattle.congee.specs.declared.forms.base_node.NodeType.TheVariants.{N4}
 use Rattle.congee.specs.declared.owned.arena.Arena.{Arena}
 
 module _ {P A : Type 0} where
@@ -25,6 +27,15 @@ module _ {P A : Type 0} where
     pub tree : IsTree new.nodes
     pub change : MapChange old.nodes new.nodes key before after
     pub bytes : bytes_of new.nodes ≡ bytes_of old.nodes
+    pub filled : NodesFilled old.nodes → NodesFilled new.nodes
+    pub allocator : new.allocator ≡ old.allocator
+
+  -- a leaf for the key forks off with the value: it comes in, and a node over it and over what hung there, both of the least form;
+  -- the budget isn't touched
+  pub record ForksOff (old new : Arena P A) (key : List ℕ) (value : P) : Type 0 where
+    pub tree : IsTree new.nodes
+    pub change : MapChange old.nodes new.nodes key None (Some value)
+    pub bytes : bytes_of new.nodes ≡ bytes_of old.nodes + size_of N4 + size_of N4
     pub filled : NodesFilled old.nodes → NodesFilled new.nodes
     pub allocator : new.allocator ≡ old.allocator
 

@@ -57,7 +57,7 @@ pub record FreshNode {P : Type 0} (s : Nodes P) (name : ℕ) (prefix : List ℕ)
   pub children : children_of node ≡ map.empty
 
 -- a fresh node becomes a leaf with the key's value
-pub record Fills {P : Type 0} (s s' : Nodes P) (name : ℕ) (key : List ℕ) (v : P) : Type 0 where
+pub record BecomesLeaf {P : Type 0} (s s' : Nodes P) (name : ℕ) (key : List ℕ) (v : P) : Type 0 where
   pub node : Node ℕ P
   pub leaf : IsLeafOf node key v
   pub updates : Updates s s' name (Some node)

@@ -46,7 +46,7 @@ module _ {P : Type 0} where
   SeesRow s stem from (Wide form) = SeesEntries s stem form.now
 
   -- an entry is the first of such a node from a byte on
-  pub record Hangs (s : Nodes P) (stem : Stem) (entry : Entry P) : Type 0 where
+  pub record SeesEntry (s : Nodes P) (stem : Stem) (entry : Entry P) : Type 0 where
     pub entries : map.FinMap nat_cmp (Entry P)
     pub sees : SeesEntries s stem entries
     pub from : ℕ

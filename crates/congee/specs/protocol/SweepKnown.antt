@@ -92,14 +92,14 @@ pub record Gap {C V : Type 0} (start end : ℕ) (states : List (FinMap nat_cmp V
   pub lacked : (k : ℕ) → start ≤ k → k < end → end_of x ≤ k → k < start_of r → Lacked states k
 
 -- the same from node to node along the way
-abbrev pub LeadsOn : {C V : Type 0} → ℕ → ℕ → List (FinMap nat_cmp V) → Rung C → List (Rung C) → Region → Type 0
-LeadsOn start end states r [] x = Gap start end states r x
-LeadsOn start end states r (q ∷ rest) x = Gap start end states r q.region × LeadsOn start end states q rest x
+abbrev pub Gaps : {C V : Type 0} → ℕ → ℕ → List (FinMap nat_cmp V) → Rung C → List (Rung C) → Region → Type 0
+Gaps start end states r [] x = Gap start end states r x
+Gaps start end states r (q ∷ rest) x = Gap start end states r q.region × Gaps start end states q rest x
 
 -- nothing of the range is past the keys of the first node
 abbrev pub IsWay : {C V : Type 0} → ℕ → ℕ → List (FinMap nat_cmp V) → List (Rung C) → Region → Type 0
 IsWay start end states [] x = end ≤ end_of x
-IsWay start end states (r ∷ rest) x = (end ≤ end_of r.region) × LeadsOn start end states r rest x
+IsWay start end states (r ∷ rest) x = (end ≤ end_of r.region) × Gaps start end states r rest x
 
 -- a scan at a region, with the keys below a number settled by what it found
 pub record Under {C V : Type 0} (s : Sweep C V) (states : List (FinMap nat_cmp V)) (places : List (ℕ × V)) (x : Region) (upto : ℕ) : Type 0 where

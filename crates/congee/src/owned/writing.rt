@@ -1,8 +1,8 @@
 //! The pairs within a range of keys, written to a slice node by node.
 ghost use Rattle.std.specs.Prelude.{◌≡◌, ◌<◌, ◌≤◌, ◌*◌, length, true, false};
 ghost use Rattle.congee.specs.owned.Arena.{IsTree};
-ghost use Rattle.congee.specs.owned.Rows.{Hangs, SeesEntries, SeesList};
-ghost use Rattle.congee.specs.owned.Writes.{Fills, PutsNothing, PutsOne, WritesByte, WritesNode};
+ghost use Rattle.congee.specs.owned.Rows.{SeesEntries, SeesEntry, SeesList};
+ghost use Rattle.congee.specs.owned.Writes.{PutsNothing, PutsOne, WritesByte, WritesMore, WritesNode};
 ghost use Rattle.slab.specs.Slab.{ContainsKey};
 
 use crate::forms::masked::Masked;
@@ -56,7 +56,7 @@ impl Nodes<u64> {
         requires tree { IsTree self.now }
         requires stands { ContainsKey self.now at }
         requires within { count ≤ length out.old }
-        ensures fills { Fills count out.old out.new result }
+        ensures fills { WritesMore count out.old out.new result }
         ensures pairs { WritesNode self.now E.entry last at from count out.old out.new result }
     {
         match self.row(at, from) {
@@ -81,7 +81,7 @@ impl Nodes<u64> {
         requires tree { IsTree self.now }
         requires stands { ContainsKey self.now at }
         requires within { count ≤ length out.old }
-        ensures fills { Fills count out.old out.new result }
+        ensures fills { WritesMore count out.old out.new result }
         ensures pairs { WritesNode self.now E.entry last at from count out.old out.new result }
     {
         let sight = self.sight(at);
@@ -117,7 +117,7 @@ impl Nodes<u64> {
         requires tree { IsTree self.now }
         requires sees { SeesList self.now stem list.now }
         requires within { count ≤ length out.old }
-        ensures fills { Fills count out.old out.new result }
+        ensures fills { WritesMore count out.old out.new result }
         ensures pairs { (seen : SeesList self.now stem list.now) → WritesNode self.now E.entry last (257 * stem.slot) seen.from count out.old out.new result }
     {
         let mut count = count;
@@ -143,10 +143,10 @@ impl Nodes<u64> {
         count: usize,
     ) -> Written
         requires tree { IsTree self.now }
-        requires hangs { Hangs self.now stem entry.now }
+        requires hangs { SeesEntry self.now stem entry.now }
         requires within { count ≤ length out.old }
-        ensures fills { Fills count out.old out.new result }
-        ensures pairs { (h : Hangs self.now stem entry.now) → WritesByte self.now E.entry last (257 * stem.slot) h.from h.byte count out.old out.new result }
+        ensures fills { WritesMore count out.old out.new result }
+        ensures pairs { (h : SeesEntry self.now stem entry.now) → WritesByte self.now E.entry last (257 * stem.slot) h.from h.byte count out.old out.new result }
     {
         match entry {
             Entry::Blank => unreachable!(),
@@ -174,7 +174,7 @@ impl Nodes<u64> {
         requires tree { IsTree self.now }
         requires sees { SeesEntries self.now stem form.now }
         requires within { count ≤ length out.old }
-        ensures fills { Fills count out.old out.new result }
+        ensures fills { WritesMore count out.old out.new result }
         ensures pairs { WritesNode self.now E.entry last (257 * stem.slot) from count out.old out.new result }
     {
         let mut from = from;
@@ -207,10 +207,10 @@ impl Nodes<u64> {
         count: usize,
     ) -> Written
         requires tree { IsTree self.now }
-        requires hangs { Hangs self.now stem entry.now }
+        requires hangs { SeesEntry self.now stem entry.now }
         requires within { count ≤ length out.old }
-        ensures fills { Fills count out.old out.new result }
-        ensures pairs { (h : Hangs self.now stem entry.now) → WritesByte self.now E.entry last (257 * stem.slot) h.from h.byte count out.old out.new result }
+        ensures fills { WritesMore count out.old out.new result }
+        ensures pairs { (h : SeesEntry self.now stem entry.now) → WritesByte self.now E.entry last (257 * stem.slot) h.from h.byte count out.old out.new result }
     {
         match entry {
             Entry::Node(below) => self.write_below(Name::of(*below), last, out, count),
@@ -225,7 +225,7 @@ impl Nodes<u64> {
         requires tree { IsTree self.now }
         requires stands { ContainsKey self.now at }
         requires within { count ≤ length out.old }
-        ensures fills { Fills count out.old out.new result }
+        ensures fills { WritesMore count out.old out.new result }
         ensures pairs { WritesNode self.now E.entry last at 0 count out.old out.new result }
     {
         match self.row(at, 0) {

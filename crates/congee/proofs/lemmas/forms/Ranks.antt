@@ -9,7 +9,7 @@ use Rattle.std.specs.Prelude.{Option}
 use Rattle.std.specs.FinMap as map
 use Rattle.congee.specs.forms.Places.{pairs, AllKeys, Rises, IsSorted, sorted_map}
 use Rattle.congee.proofs.lemmas.forms.SortedLemmas.{is_byte}
-use Rattle.congee.specs.forms.Ranks.{IsRow, IsOrdered, IsRising}
+use Rattle.congee.specs.forms.Ranks.{IsPadded, IsOrdered, IsRising}
 
 -- count bytes of the first i are lower than b, and they come first
 pub record IsCount (bs : List ℕ) (b count i : ℕ) : Type 0 where
@@ -50,7 +50,7 @@ module _ (bs : List ℕ) (b : ℕ) where
       }
 
 -- bytes that are all 255 are a row without any that count
-pub new_row : (n : ℕ) → n < 256 → IsRow n (replicate n 255) 0
+pub new_row : (n : ℕ) → n < 256 → IsPadded n (replicate n 255) 0
 new_row n l = record {
   narrow = l;
   fits = omega arith;
@@ -62,7 +62,7 @@ new_row n l = record {
 }
 
 -- what a row's place is among those that count
-module _ (n : ℕ) (bytes : List ℕ) (len : ℕ) (row : IsRow n bytes len) (size : length bytes ≡ n) where
+module _ (n : ℕ) (bytes : List ℕ) (len : ℕ) (row : IsPadded n bytes len) (size : length bytes ≡ n) where
   kept : length (take len bytes) ≡ len
   kept = length-take-le len bytes (omega (arith, row.fits, size))
 
@@ -98,7 +98,7 @@ module _ (n : ℕ) (bytes : List ℕ) (len : ℕ) (row : IsRow n bytes len) (siz
     row_at at l = rw (get_or-take len bytes p 0 (omega (arith, l, kept))) (at (omega (arith, l, kept, row.fits)))
 
 -- bytes moved within a row
-module _ (n : ℕ) (xs ys : List ℕ) (len from to m : ℕ) (row : IsRow n xs len) (size : length xs ≡ n) (same : length ys ≡ length xs) (copied : CopiedTo xs ys from to m) (front : SameBelow xs ys to) (back : SameFrom xs ys (to + m)) where
+module _ (n : ℕ) (xs ys : List ℕ) (len from to m : ℕ) (row : IsPadded n xs len) (size : length xs ≡ n) (same : length ys ≡ length xs) (copied : CopiedTo xs ys from to m) (front : SameBelow xs ys to) (back : SameFrom xs ys (to + m)) where
   low_still : (i : ℕ) → get_or ys i 0 < 256
   low_still i = elim (cases_lt i to) [
     | inl less ↦ rw (front i 0 less) (row.low i)
@@ -117,10 +117,10 @@ module _ (n : ℕ) (xs ys : List ℕ) (len from to m : ℕ) (row : IsRow n xs le
     ]
   ]
 
-module _ (n : ℕ) (xs ys : List ℕ) (len p b : ℕ) (row : IsRow n xs len) (size : length xs ≡ n) (same : length ys ≡ length xs) (small : b < 256) where
+module _ (n : ℕ) (xs ys : List ℕ) (len p b : ℕ) (row : IsPadded n xs len) (size : length xs ≡ n) (same : length ys ≡ length xs) (small : b < 256) where
   module _ (within : p ≤ len) (room : len < n) (copied : CopiedTo xs ys p (p + 1) (len - p)) (front : SameBelow xs ys (p + 1)) (back : SameFrom xs ys (p + 1 + (len - p))) where
     -- a row with a byte put in its place, the others moved up, is a row with one more
-    pub insert_row : IsRow n (set ys p b) (len + 1)
+    pub insert_row : IsPadded n (set ys p b) (len + 1)
     insert_row = record {
       narrow = row.narrow;
       fits = omega (arith, room);
@@ -153,7 +153,7 @@ module _ (n : ℕ) (xs ys : List ℕ) (len p b : ℕ) (row : IsRow n xs len) (si
 
   module _ (within : p < len) (copied : CopiedTo xs ys (p + 1) p (len - (p + 1))) (front : SameBelow xs ys p) (back : SameFrom xs ys (p + (len - (p + 1)))) where
     -- a row with a byte moved over, and 255 at the end, is a row with one less
-    pub remove_row : b ≡ 255 → IsRow n (set ys (len - 1) b) (len - 1)
+    pub remove_row : b ≡ 255 → IsPadded n (set ys (len - 1) b) (len - 1)
     remove_row full = record {
       narrow = row.narrow;
       fits = omega (arith, row.fits);

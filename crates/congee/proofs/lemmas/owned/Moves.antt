@@ -11,7 +11,7 @@ use Rattle.congee.specs.forms.Forms.{prefix_of, children_of, form_of, capacity_o
 use Rattle.congee.specs.owned.Arena.{Nodes, hung_in, node_of, heap_of, IsFilled, IsTree, OnWay, Hangs}
 use Rattle.congee.specs.owned.Sizes.{bytes_of}
 use Rattle.congee.specs.owned.Changes.{Differs, MapChange, AddsLeaf, AddsFork, DropsLeaf, DiffersAt}
-use Rattle.congee.specs.owned.OwnedSteps.{Sets, Makes, MakesRoom, FreshNode, Fills, Forks, IsHeld}
+use Rattle.congee.specs.owned.OwnedSteps.{Sets, Makes, MakesRoom, FreshNode, BecomesLeaf, Forks, IsHeld}
 use Rattle.congee.specs.declared.forms.base_node.Node.{Node as Form}
 use Rattle.congee.specs.declared.forms.base_node.NodeType.TheVariants.{N4}
 use Rattle.congee.specs.declared.forms.child.Child.{Child}
@@ -146,7 +146,7 @@ module _ {P : Type 0} where
   fresh_made s s' s'' n p k e = record { node = k.node; stands = e ∙ k.updates.changed; form = k.form; prefixed = k.prefixed; children = k.children }
 
   fill_done : (s s' : Nodes P) (n : ℕ) (key : List ℕ) (v : P) → (f : FreshNode s n (take 7 key)) → Sets s s' n f.node (map.insert (children_of f.node) (get_or key 7 0) (Value v))
-      → Fills s s' n key v
+      → BecomesLeaf s s' n key v
   fill_done s s' n key v f k =
       let d = differs_insert f.node k.node (get_or key 7 0) (Value v) k.becomes in
       record {
@@ -290,7 +290,7 @@ module _ {P : Type 0} where
 
   -- a node that was made, beside one that is given room
   made_roomy : (s0 s1 s2 s3 : Nodes P) (at leaf : ℕ) (p key : List ℕ) (v : P) → ContainsKey s0 at → Makes s0 s1 leaf p
-      → ((x : Form ℕ P) → get s1 at ≡ Some x → MakesRoom s1 s2 at x) → Fills s2 s3 leaf key v → Roomy s0 s3 at
+      → ((x : Form ℕ P) → get s1 at ≡ Some x → MakesRoom s1 s2 at x) → BecomesLeaf s2 s3 leaf key v → Roomy s0 s3 at
   made_roomy s0 s1 s2 s3 at leaf p key v st m g f =
       let n = node_at s0 at st in
       let ne : at ≢ leaf = apart_of s0 at leaf n.0 n.1 m.vacant in
@@ -308,7 +308,7 @@ module _ {P : Type 0} where
 
   leaf_added : (s0 s1 s2 s3 s4 : Nodes P) (key : List ℕ) (at leaf byte : ℕ) (v : P) → length key ≡ 8 → IsTree s0 → OnWay s0 key at
       → child_for (heap_of s0 at) key ≡ Nothing → length (heap_of s0 at).prefix < 7
-      → Makes s0 s1 leaf (take 7 key) → ((x : Form ℕ P) → get s1 at ≡ Some x → MakesRoom s1 s2 at x) → Fills s2 s3 leaf key v
+      → Makes s0 s1 leaf (take 7 key) → ((x : Form ℕ P) → get s1 at ≡ Some x → MakesRoom s1 s2 at x) → BecomesLeaf s2 s3 leaf key v
       → byte ≡ get_or key (length (heap_of s3 at).prefix) 0
       → ((x : Form ℕ P) → get s3 at ≡ Some x → Sets s3 s4 at x (map.insert (children_of x) byte (Sub leaf)))
       → (IsTree s4 × MapChange s0 s4 key None (Some v)) × (bytes_of s4 ≡ bytes_of s3)
@@ -379,7 +379,7 @@ module _ {P : Type 0} where
     pub other_is : other ≡ get_or (prefix_of lower) common 0
     pub over_made : Makes s0 s1 over (take common key)
     pub leaf_made : Makes s1 s2 leaf (take 7 key)
-    pub fills : Fills s2 s3 leaf key v
+    pub fills : BecomesLeaf s2 s3 leaf key v
     pub forks : Forks s3 s4 over (take common key) (get_or key common 0) leaf other below
 
   -- a fork that is built beside a node leaves that node as it was

@@ -14,10 +14,10 @@ use Rattle.congee.specs.forms.Places.{IsSorted, sorted_map}
 use Rattle.congee.specs.owned.Arena.{Nodes, IsTree, heap_of}
 use Rattle.congee.specs.owned.Entries.{child_by, entries_in, first_byte, leaf_by, node_by}
 use Rattle.congee.specs.owned.Naming.{offset_of}
-use Rattle.congee.specs.owned.Rows.{AreEntries, Hangs, IsRow, SeesEntries, SeesList, SeesRow}
+use Rattle.congee.specs.owned.Rows.{AreEntries, IsRow, SeesEntries, SeesEntry, SeesList, SeesRow}
 use Rattle.congee.specs.owned.Sights.{SeesInner}
 use Rattle.congee.specs.owned.Slots.{inner_child}
-use Rattle.congee.specs.owned.Writes.{Fills, Remains, WritesByte, WritesNode}
+use Rattle.congee.specs.owned.Writes.{Remains, WritesByte, WritesMore, WritesNode}
 use Rattle.congee.specs.declared.forms.base_node.Node.{Node}
 use Rattle.congee.specs.declared.forms.child.Child.TheVariants.{Node as SubChild}
 use Rattle.congee.specs.declared.owned.entries.Entry.{Entry}
@@ -134,7 +134,7 @@ module _ {P : Type 0} (s : Nodes P) (stem : Stem) (entries : map.FinMap nat_cmp 
   leaf_first_byte : (b : ℕ) → first_byte (prefix_of sees.node) b ≡ stem.first
   leaf_first_byte b = ap (λ q. first_byte q b) sees.prefix
 
-module _ {P : Type 0} (s : Nodes P) (t : IsTree s) (stem : Stem) (entry : Entry P) (h : Hangs s stem entry) where
+module _ {P : Type 0} (s : Nodes P) (t : IsTree s) (stem : Stem) (entry : Entry P) (h : SeesEntry s stem entry) where
   stands : ContainsKey s (257 * stem.slot)
   stands = stem_stands s stem h.entries h.sees
 
@@ -168,7 +168,7 @@ module _ {P : Type 0} (s : Nodes P) (t : IsTree s) (stem : Stem) (entry : Entry 
         key (257 * stem.slot + (h.byte + 1)) value large (there (Leaf tail value) is) leaf new w p).on
 
     -- where an entry is a node, the pairs below it, written, are what hangs under the byte, written
-    pub entry_node : (below : ℕ) → entry ≡ Sub below → (new : List E) (w : Written) → Fills count out new w → WritesNode s put last (257 * below) 0 count out new w
+    pub entry_node : (below : ℕ) → entry ≡ Sub below → (new : List E) (w : Written) → WritesMore count out new w → WritesNode s put last (257 * below) 0 count out new w
         → WritesByte s put last (257 * stem.slot) h.from h.byte count out new w
     entry_node below is new w f writes =
         (wrote_node s put last t (257 * stem.slot) h.from count out h.from count out (sets_out s put last (257 * stem.slot) h.from count out within) h.byte h.low
@@ -176,10 +176,10 @@ module _ {P : Type 0} (s : Nodes P) (t : IsTree s) (stem : Stem) (entry : Entry 
 
 -- what a pair does to the slice
 pub pair_fills : {P E : Type 0} (s : Nodes P) (put : ℕ → P → E) (last key : ℕ) (value : P) (count : ℕ) (out new : List E) (w : Written) → count ≤ length out
-    → WritesPair s put last key value count out new w → Fills count out new w
+    → WritesPair s put last key value count out new w → WritesMore count out new w
 pair_fills s put last key value count out new w within p = of w.over refl
   where
-    of : (b : Bool) → w.over ≡ b → Fills count out new w
+    of : (b : Bool) → w.over ≡ b → WritesMore count out new w
     of true e = fills_nothing count out new w within (p.over e)
     of false e = fills_one count (put key value) out new w (p.written e)
 
@@ -187,7 +187,7 @@ pair_fills s put last key value count out new w within p = of w.over refl
 module _ {P E : Type 0} (s : Nodes P) (put : ℕ → P → E) (last : ℕ) (t : IsTree s) where
   -- what was written up to a byte, and then of the byte, is written up to and with that byte
   pub wrote_byte : (at start first : ℕ) (old : List E) (byte count : ℕ) (out : List E) → SoFar s put last at start first old byte count out
-      → (b : ℕ) (new : List E) (w : Written) → Fills count out new w → WritesByte s put last at byte b count out new w → Wrote s put last t at start first old b new w
+      → (b : ℕ) (new : List E) (w : Written) → WritesMore count out new w → WritesByte s put last at byte b count out new w → Wrote s put last t at start first old b new w
   wrote_byte at start first old byte count out so b new w f writes = record {
     filled = filled_more first count old out new w so.filled f;
     on = λ above from way here.
@@ -210,7 +210,7 @@ module _ {P E : Type 0} (s : Nodes P) (put : ℕ → P → E) (last : ℕ) (stem
 
     module _ (i count : ℕ) (new : List E) (l : ListSoFar seen first old i count new) (entry : Entry P) (h : i < length list) (e : entry ≡ get_or list i entry) where
       -- the next entry of the list hangs in the node
-      pub list_hangs : Hangs s stem entry
+      pub list_hangs : SeesEntry s stem entry
       list_hangs =
           let n = list_next seen.entries l.byte i list l.rest entry h e in
           record { entries = seen.entries; sees = seen.sees; from = l.byte; byte = n.0; low = n.1; first = n.2 }
@@ -222,11 +222,11 @@ module _ {P E : Type 0} (s : Nodes P) (put : ℕ → P → E) (last : ℕ) (stem
         pub wrote : Wrote s put last t (257 * stem.slot) seen.from first old byte after w
 
       -- what was written of the next entry, after those before it, is what was written of the list with it
-      pub list_wrote : (t : IsTree s) (after : List E) (w : Written) → Fills count new after w
-          → ((h : Hangs s stem entry) → WritesByte s put last (257 * stem.slot) h.from h.byte count new after w) → ListWrote t after w
+      pub list_wrote : (t : IsTree s) (after : List E) (w : Written) → WritesMore count new after w
+          → ((h : SeesEntry s stem entry) → WritesByte s put last (257 * stem.slot) h.from h.byte count new after w) → ListWrote t after w
       list_wrote t after w f writes =
           let n = list_next seen.entries l.byte i list l.rest entry h e in
-          let hangs : Hangs s stem entry = record { entries = seen.entries; sees = seen.sees; from = l.byte; byte = n.0; low = n.1; first = n.2 } in
+          let hangs : SeesEntry s stem entry = record { entries = seen.entries; sees = seen.sees; from = l.byte; byte = n.0; low = n.1; first = n.2 } in
           record {
             byte = n.0;
             rest = n.3;

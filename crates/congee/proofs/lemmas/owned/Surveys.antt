@@ -1,6 +1,6 @@
 -- The nodes of an owned tree, counted from a node down.
 use Rattle.std.proofs.Common.{◌≡◌, ℕ, zero, suc, ◌<◌, ◌≤◌, ◌+◌, List, [], ◌∷◌, ◌++◌, length, inl, inr, refl, sym, ap, ◌∙◌, subst, arith}
-use Rattle.std.specs.Prelude.{Option, None, Some, vec_len}
+use Rattle.std.specs.Prelude.{Option, None, Some, IsSome, vec_len}
 use Rattle.std.proofs.lemmas.Bool.{cases_lt}
 use Rattle.std.proofs.lemmas.List.{append-nil, append_assoc}
 use Rattle.std.specs.Ordering.{nat_cmp}
@@ -53,6 +53,26 @@ module _ {P : Type 0} where
   unfolding under_bytes
   one_more go children from b l none =
       ap (under_bytes go children) (let e : b + 1 ≡ suc b = omega arith in e) ∙ ap (λ l. l ++ under_byte go (children b)) (none_more go children from b l none)
+
+  no_node_adds : (go : ℕ → List Shape) (h : Hung P) → ((c : ℕ) → h ≡ Below c → ⊥) → under_byte go h ≡ []
+  no_node_adds go Nothing none = refl
+  no_node_adds go (Below c) none = absurd (none c refl)
+  no_node_adds go (Holds v) none = refl
+
+  -- bytes without nodes add nothing
+  no_nodes_add : (go : ℕ → List Shape) (children : ℕ → Hung P) (n : ℕ) → ((b c : ℕ) → children b ≡ Below c → ⊥) → under_bytes go children n ≡ under_bytes go children 0
+  unfolding under_bytes
+  no_nodes_add go children zero none = refl
+  no_nodes_add go children (suc b) none =
+      ap (λ l. under_bytes go children b ++ l) (no_node_adds go (children b) (none b)) ∙ append-nil (under_bytes go children b) ∙ no_nodes_add go children b none
+
+  none_from : (o : Option (Child ℕ P)) (b : ℕ) → (IsSome o → b < 256) → 256 ≤ b → o ≡ None
+  none_from None b low l = refl
+  none_from (Some y) b low l = let lt = low refl in absurd (omega (arith, lt, l))
+
+  -- where children hang at bytes, none hangs past them
+  pub none_past : (x : Form ℕ P) → ((b : ℕ) → IsSome (map.get (children_of x) b) → b < 256) → (b : ℕ) → 256 ≤ b → map.get (children_of x) b ≡ None
+  none_past x low b l = none_from (map.get (children_of x) b) b (low b) l
 
   with_same : (go other : ℕ → List Shape) (level : ℕ) (o : Option (Form ℕ P))
       → ((x : Form ℕ P) (b c : ℕ) → o ≡ Some x → hung_in (map.get (children_of x) b) ≡ Below c → go c ≡ other c) → with_node go level o ≡ with_node other level o
@@ -110,6 +130,23 @@ module _ {P : Type 0} (s : Nodes P) where
     tally = λ seen is. IsTally-counted old new (shape_of level x) counts seen 0 is;
     opened = let e = counts.levels in omega (arith, e);
     levels = let e = counts.levels in omega (arith, e);
+  }
+
+  -- a leaf has no nodes below it
+  pub none_below : (n : ℕ) (x : Form ℕ P) → IsTree s → ContainsKey s n → get s n ≡ Some x → length (prefix_of x) ≡ 7 → (b c : ℕ) → at_bytes x b ≡ Below c → ⊥
+  none_below n x t h e seven b c d =
+      let i : IsChild (ledger_of s t.parent) (heap_of s) n b c = child_of t n x b c h e d in
+      let len : length (heap_of s n).prefix ≡ length (prefix_of x) = ap (λ o. length (node_of o).prefix) e in
+      let short : length (heap_of s c).prefix ≤ 7 = t.tree.short c i.linked in
+      omega (arith, i.longer, len, seven, short)
+
+  -- so all of its bytes are passed
+  pub leaf_counted : (old new : NodeStats) (level : ℕ) (x : Form ℕ P) → ((b c : ℕ) → at_bytes x b ≡ Below c → ⊥) → Counted old new level x 0 → Counted old new level x 256
+  leaf_counted old new level x none c = record {
+    bound = omega arith;
+    tally = λ seen is. subst (λ l. IsTally new (seen ++ shape_of level x ∷ l) 0) (sym (no_nodes_add (next level) (at_bytes x) 256 none)) (c.tally seen is);
+    opened = c.opened;
+    levels = c.levels;
   }
 
   -- and the next child

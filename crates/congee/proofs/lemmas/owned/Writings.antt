@@ -14,7 +14,7 @@ use Rattle.congee.specs.owned.Cursor.{IsCursor, IsAt}
 use Rattle.congee.specs.owned.Ranges.{entries_by, in_range}
 use Rattle.congee.specs.owned.Stores.{StandsWith}
 use Rattle.congee.specs.owned.Table.{pairs_of}
-use Rattle.congee.specs.owned.Writes.{Fills, PutsNothing, PutsOne, with_pairs, Continues, Remains, WritesNode}
+use Rattle.congee.specs.owned.Writes.{PutsNothing, PutsOne, with_pairs, Continues, Remains, WritesMore, WritesNode}
 use Rattle.congee.specs.declared.forms.base_node.Node.{Node as Form}
 use Rattle.congee.specs.declared.forms.child.Child.{Child}
 use Rattle.congee.specs.declared.forms.child.Child.TheVariants.{Node as Sub, Value}
@@ -43,7 +43,7 @@ module _ {E : Type 0} where
   filled_none count out l = record { more = omega arith; within = l; long = refl; past = refl }
 
   -- a node below wrote its pairs, and a pair came
-  pub filled_more : (first count : ℕ) (old out new : List E) (w : Written) → Filled first count old out → Fills count out new w → Filled first w.count old new
+  pub filled_more : (first count : ℕ) (old out new : List E) (w : Written) → Filled first count old out → WritesMore count out new w → Filled first w.count old new
   filled_more first count old out new w f m = record {
     more = omega (arith, f.more, m.more);
     within = m.within;
@@ -52,11 +52,11 @@ module _ {E : Type 0} where
   }
 
   -- what is written so far is written, and it isn't over
-  pub filled_fills : (first count : ℕ) (old new : List E) → Filled first count old new → Fills first old new (record { count = count; over = false })
+  pub filled_fills : (first count : ℕ) (old new : List E) → Filled first count old new → WritesMore first old new (record { count = count; over = false })
   filled_fills first count old new f = record { more = f.more; within = f.within; long = f.long; past = f.past }
 
   -- what two writings one after the other write is written
-  pub fills_on : (first : ℕ) (old out new : List E) (w now : Written) → Fills first old out w → Fills w.count out new now → Fills first old new now
+  pub fills_on : (first : ℕ) (old out new : List E) (w now : Written) → WritesMore first old out w → WritesMore w.count out new now → WritesMore first old new now
   fills_on first old out new w now f m = record {
     more = omega (arith, f.more, m.more);
     within = m.within;
@@ -65,7 +65,7 @@ module _ {E : Type 0} where
   }
 
   -- a pair alone
-  pub fills_one : (count : ℕ) (entry : E) (old new : List E) (w : Written) → PutsOne count entry old new w → Fills count old new w
+  pub fills_one : (count : ℕ) (entry : E) (old new : List E) (w : Written) → PutsOne count entry old new w → WritesMore count old new w
   fills_one count entry old new w p =
       let long : length new ≡ length old = ap length p.set_is ∙ length-set old count entry in
       record {
@@ -76,7 +76,7 @@ module _ {E : Type 0} where
       }
 
   -- where nothing is written, the places are as they were
-  pub fills_nothing : (count : ℕ) (old new : List E) (w : Written) → count ≤ length old → PutsNothing count old new w → Fills count old new w
+  pub fills_nothing : (count : ℕ) (old new : List E) (w : Written) → count ≤ length old → PutsNothing count old new w → WritesMore count old new w
   fills_nothing count old new w l p = record {
     more = omega (arith, p.count_is);
     within = omega (arith, p.count_is, ap length p.same, l);
@@ -172,10 +172,10 @@ module _ {P E : Type 0} (s : Nodes P) (entry : ℕ → P → E) (last : ℕ) whe
 
     module _ (at start first : ℕ) (old : List E) (byte count : ℕ) (out : List E) (so : SoFar at start first old byte count out) where
       -- a pair
-      fills_pair : (key : ℕ) (v : P) (new : List E) (w : Written) → WritesPair key v count out new w → Fills count out new w
+      fills_pair : (key : ℕ) (v : P) (new : List E) (w : Written) → WritesPair key v count out new w → WritesMore count out new w
       fills_pair key v new w p = of w.over refl
         where
-          of : (b : Bool) → w.over ≡ b → Fills count out new w
+          of : (b : Bool) → w.over ≡ b → WritesMore count out new w
           of true e = fills_nothing count out new w so.filled.within (p.over e)
           of false e = fills_one count (entry key v) out new w (p.written e)
 
@@ -210,7 +210,7 @@ module _ {P E : Type 0} (s : Nodes P) (entry : ℕ → P → E) (last : ℕ) whe
         }
 
         -- a node with a slot of its own
-        pub wrote_node : (below : ℕ) → HangsNext (Sub below) → (new : List E) (w : Written) → Fills count out new w → WritesNode s entry last below 0 count out new w
+        pub wrote_node : (below : ℕ) → HangsNext (Sub below) → (new : List E) (w : Written) → WritesMore count out new w → WritesNode s entry last below 0 count out new w
             → Wrote at start first old b new w
         wrote_node below next new w f writes = record {
           filled = filled_more first count old out new w so.filled f;
@@ -237,7 +237,7 @@ module _ {P E : Type 0} (s : Nodes P) (entry : ℕ → P → E) (last : ℕ) whe
 
     module _ (at start first : ℕ) (old : List E) (b : ℕ) (new : List E) (w : Written) (did : Wrote at start first old b new w) where
       -- no other pair comes
-      pub ends_fills : Fills first old new w
+      pub ends_fills : WritesMore first old new w
       ends_fills = record { more = did.filled.more; within = did.filled.within; long = did.filled.long; past = did.filled.past }
 
       -- where it is over then, the node's pairs are written

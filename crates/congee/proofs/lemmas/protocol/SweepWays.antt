@@ -11,7 +11,7 @@ use Rattle.congee.specs.declared.protocol.sweep.Path.{Path}
 use Rattle.congee.specs.Heap.{Node}
 use Rattle.congee.specs.Notes.{Note}
 use Rattle.congee.specs.protocol.SweepSteps.{slots, put_rung, rungs_of, pushed, popped, cleared, last_of}
-use Rattle.congee.specs.protocol.SweepKnown.{RungKnown, RungsKnown, Gap, LeadsOn, IsWay}
+use Rattle.congee.specs.protocol.SweepKnown.{RungKnown, RungsKnown, Gap, Gaps, IsWay}
 use Rattle.congee.proofs.lemmas.Fits.{other_test}
 
 take_last : {A : Type 0} (xs : List A) (j : ℕ) → j < length xs → (x : A) × (slice_get xs j ≡ Some x) × (take (suc j) xs ≡ take j xs ++ x ∷ [])
@@ -76,7 +76,7 @@ module _ {C V : Type 0} (start end : ℕ) where
   gap_later : (m : FinMap nat_cmp V) (states : List (FinMap nat_cmp V)) (r : Rung C) (x : Region) → Gap start end states r x → Gap start end (m ∷ states) r x
   gap_later m states r x g = record { inside = g.inside; aim = g.aim; lacked = λ k lo hi a b. inr (g.lacked k lo hi a b) }
 
-  leads_later : (m : FinMap nat_cmp V) (states : List (FinMap nat_cmp V)) (r : Rung C) (rest : List (Rung C)) (x : Region) → LeadsOn start end states r rest x → LeadsOn start end (m ∷ states) r rest x
+  leads_later : (m : FinMap nat_cmp V) (states : List (FinMap nat_cmp V)) (r : Rung C) (rest : List (Rung C)) (x : Region) → Gaps start end states r rest x → Gaps start end (m ∷ states) r rest x
   leads_later m states r [] x g = gap_later m states r x g
   leads_later m states r (q ∷ rest) x g = (gap_later m states r q.region g.0, leads_later m states q rest x g.1)
 
@@ -86,7 +86,7 @@ module _ {C V : Type 0} (start end : ℕ) where
   way_later m states (r ∷ rest) x w = (w.0, leads_later m states r rest x w.1)
 
   -- one node longer, or shorter
-  leads_longer : (states : List (FinMap nat_cmp V)) (q : Rung C) (rest : List (Rung C)) (r : Rung C) (x : Region) → LeadsOn start end states q rest r.region → Gap start end states r x → LeadsOn start end states q (rest ++ r ∷ []) x
+  leads_longer : (states : List (FinMap nat_cmp V)) (q : Rung C) (rest : List (Rung C)) (r : Rung C) (x : Region) → Gaps start end states q rest r.region → Gap start end states r x → Gaps start end states q (rest ++ r ∷ []) x
   leads_longer states q [] r x l g = (l, g)
   leads_longer states q (y ∷ rest) r x l g = (l.0, leads_longer states y rest r x l.1 g)
 
@@ -95,7 +95,7 @@ module _ {C V : Type 0} (start end : ℕ) where
   way_longer states [] r x w g = (w, g)
   way_longer states (q ∷ rest) r x w g = (w.0, leads_longer states q rest r x w.1 g)
 
-  leads_shorter : (states : List (FinMap nat_cmp V)) (q : Rung C) (rest : List (Rung C)) (r : Rung C) (x : Region) → LeadsOn start end states q (rest ++ r ∷ []) x → LeadsOn start end states q rest r.region × Gap start end states r x
+  leads_shorter : (states : List (FinMap nat_cmp V)) (q : Rung C) (rest : List (Rung C)) (r : Rung C) (x : Region) → Gaps start end states q (rest ++ r ∷ []) x → Gaps start end states q rest r.region × Gap start end states r x
   leads_shorter states q [] r x l = (l.0, l.1)
   leads_shorter states q (y ∷ rest) r x l = let h = leads_shorter states y rest r x l.1 in ((l.0, h.0), h.1)
 
