@@ -37,12 +37,34 @@ impl<V: Drop> Small for ArcPayload<V> {
     ghost small = { Prim.search rules };
 }
 
-impl<V: Drop> Stored for ArcPayload<V> {
+impl<V: Drop> Small for Option<ArcPayload<V>> {
     ghost use Rattle.std.proofs.Common.{rules};
 
-    ghost leaf_fits = { Prim.search rules };
+    ghost small = { Prim.search rules };
+}
 
-    ghost fits = { Prim.search rules };
+impl<V: Drop> Stored for ArcPayload<V> {
+    type Kept = Option<ArcPayload<V>>;
+
+    ghost value_in = { λ kept. kept };
+
+    #[inline(always)]
+    fn keep(self) -> Option<ArcPayload<V>> {
+        Some(self)
+    }
+
+    #[inline(always)]
+    fn give(kept: Option<ArcPayload<V>>) -> ArcPayload<V> {
+        match kept {
+            Some(payload) => payload,
+            None => unreachable!(),
+        }
+    }
+
+    #[inline(always)]
+    fn look(kept: &Option<ArcPayload<V>>) -> Option<&ArcPayload<V>> {
+        kept.as_ref()
+    }
 }
 
 /// An ordered map from words to shared values for one thread: an adaptive radix tree over the keys' eight bytes.
