@@ -41,15 +41,15 @@ value_only (Some Blank) x h e ne = h
 value_only (Some (Sub c)) x h e ne = h
 value_only (Some (Value v)) x h e ne = ne v (let z : Some x ≡ Some (Value v) = sym e in cc)
 
-module _ {P : Type 0} (s : Slab (Slot P)) where
+module _ {P K : Type 0} (s : Slab (Slot P K)) where
   -- the slot's node, by the slot's first name
-  pub slot_seen : (i : ℕ) (x : Slot P) → get s i ≡ Some x → get (nodes_in s) (257 * i) ≡ Some (slot_node i x)
+  pub slot_seen : (i : ℕ) (x : Slot P K) → get s i ≡ Some x → get (nodes_in s) (257 * i) ≡ Some (slot_node i x)
   slot_seen i x e = get_slot s i ∙ ap (λ o. in_slot i o 0) e
 
   pub slot_there : (i : ℕ) → ContainsKey (nodes_in s) (257 * i) → ContainsKey s i
   slot_there i h = of (get s i) (subst IsSome (get_slot s i) h)
     where
-      of : (o : Option (Slot P)) → IsSome (in_slot i o 0) → IsSome o
+      of : (o : Option (Slot P K)) → IsSome (in_slot i o 0) → IsSome o
       of None h = h
       of (Some x) h = refl
 
@@ -76,12 +76,12 @@ module _ {P : Type 0} (s : Slab (Slot P)) where
         seen = get_inline s i b l ∙ (ap (λ o. in_slot i o (suc b)) e ∙ ap lone_in c);
       }
 
-      of : (o : Option (Slot P)) → get s i ≡ o → IsSome (in_slot i o (suc b)) → LoneAt i b
+      of : (o : Option (Slot P K)) → get s i ≡ o → IsSome (in_slot i o (suc b)) → LoneAt i b
       of None e h = absurd (cc h)
       of (Some (Leaf n)) e h = absurd (cc h)
       of (Some (Inner n)) e h = inner n e (map.get (children_of n) b) refl h
 
-module _ {P : Type 0} (s s' : Slab (Slot P)) (i : ℕ) where
+module _ {P K : Type 0} (s s' : Slab (Slot P K)) (i : ℕ) where
   -- an inner node changes at one byte: no other names change than its own and that byte's
   pub byte_beside : (n n' : Node ℕ (Lone P)) (b : ℕ) → get s i ≡ Some (Inner n) → Updates s s' i (Some (Inner n'))
       → ((q : ℕ) → q ≢ b → map.get (children_of n') q ≡ map.get (children_of n) q)
@@ -93,10 +93,10 @@ module _ {P : Type 0} (s s' : Slab (Slot P)) (i : ℕ) where
         subst Q (sym k) (of k (m % 257) refl))
   ]
     where
-      at : (o : ℕ) → o < 257 → (z : Option (Slot P)) → get s i ≡ z → get (nodes_in s) (257 * i + o) ≡ in_slot i z o
+      at : (o : ℕ) → o < 257 → (z : Option (Slot P K)) → get s i ≡ z → get (nodes_in s) (257 * i + o) ≡ in_slot i z o
       at o l z e = get_offset s i o l ∙ ap (λ y. in_slot i y o) e
 
-      at' : (o : ℕ) → o < 257 → (z : Option (Slot P)) → get s' i ≡ z → get (nodes_in s') (257 * i + o) ≡ in_slot i z o
+      at' : (o : ℕ) → o < 257 → (z : Option (Slot P K)) → get s' i ≡ z → get (nodes_in s') (257 * i + o) ≡ in_slot i z o
       at' o l z e = get_offset s' i o l ∙ ap (λ y. in_slot i y o) e
 
       of : m ≡ 257 * i + m % 257 → (o : ℕ) → m % 257 ≡ o → get (nodes_in s') (257 * i + m % 257) ≡ get (nodes_in s) (257 * i + m % 257)
@@ -123,21 +123,21 @@ module _ {P : Type 0} (s s' : Slab (Slot P)) (i : ℕ) where
       of zero ne l = absurd (ne refl)
       of (suc c) ne l = get_offset s' i (suc c) l ∙ (ap (λ z. in_slot i z (suc c)) u.changed ∙ sym (get_offset s i (suc c) l ∙ ap (λ z. in_slot i z (suc c)) e))
 
-module _ {P : Type 0} (i : ℕ) where
+module _ {P K : Type 0} (i : ℕ) where
   -- what is seen of a slot's node
-  pub seen_form : (x : Slot P) → form_of (slot_node i x) ≡ form_in x
+  pub seen_form : (x : Slot P K) → form_of (slot_node i x) ≡ form_in x
   seen_form (Inner n) = with_form (inner_child i) n
   seen_form (Leaf n) = with_form leaf_child n
 
-  pub seen_prefix : (x : Slot P) → prefix_of (slot_node i x) ≡ prefix_in x
+  pub seen_prefix : (x : Slot P K) → prefix_of (slot_node i x) ≡ prefix_in x
   seen_prefix (Inner n) = with_prefix (inner_child i) n
   seen_prefix (Leaf n) = with_prefix leaf_child n
 
-  pub seen_len : (x : Slot P) → map.len (children_of (slot_node i x)) ≡ len_in x
+  pub seen_len : (x : Slot P K) → map.len (children_of (slot_node i x)) ≡ len_in x
   seen_len (Inner n) = with_len (inner_child i) n
   seen_len (Leaf n) = with_len leaf_child n
 
-  pub seen_full : (x : Slot P) → is_full_of (slot_node i x) ≡ full_in x
+  pub seen_full : (x : Slot P K) → is_full_of (slot_node i x) ≡ full_in x
   seen_full (Inner n) = with_full (inner_child i) n
   seen_full (Leaf n) = with_full leaf_child n
 
@@ -159,14 +159,14 @@ own_byte at i None e low own = refl
 own_byte at i (Some b) e low own = absurd (omega (arith, e, low, own))
 
 -- a name by its parts
-module _ {P : Type 0} (s : Slab (Slot P)) (v : Nodes P) (is : nodes_in s ≡ v) (at i : ℕ) (byte : Option ℕ) (name : 257 * i + offset_of byte ≡ at) where
+module _ {P K : Type 0} (s : Slab (Slot P K)) (v : Nodes P) (is : nodes_in s ≡ v) (at i : ℕ) (byte : Option ℕ) (name : 257 * i + offset_of byte ≡ at) where
   pub named_slot : byte ≡ None → ContainsKey v at → ContainsKey s i
   named_slot e h =
       let n : at ≡ 257 * i = sym name ∙ (ap (λ b. 257 * i + offset_of b) e ∙ omega arith) in
       let Q : ℕ → Type 0 = λ k. ContainsKey v k in let R : Nodes P → Type 0 = λ w. ContainsKey w (257 * i) in
       slot_there s i (subst R (sym is) (subst Q n h))
 
-  pub named_seen : byte ≡ None → (x : Slot P) (y : Node ℕ P) → get s i ≡ Some x → get v at ≡ Some y → slot_node i x ≡ y
+  pub named_seen : byte ≡ None → (x : Slot P K) (y : Node ℕ P) → get s i ≡ Some x → get v at ≡ Some y → slot_node i x ≡ y
   named_seen e x y g h =
       let n : at ≡ 257 * i = sym name ∙ (ap (λ b. 257 * i + offset_of b) e ∙ omega arith) in
       let z : Some (slot_node i x) ≡ Some y = sym (slot_seen s i x g) ∙ (ap (λ w. get w (257 * i)) is ∙ (ap (get v) (sym n) ∙ h)) in cc
@@ -197,14 +197,14 @@ module _ {P : Type 0} (s : Slab (Slot P)) (v : Nodes P) (is : nodes_in s ≡ v) 
   lone_in_view b l h = let R : Nodes P → Type 0 = λ w. ContainsKey w (257 * i + (b + 1)) in lone_there s i b l (subst R (sym is) h)
 
 -- its place holds a value
-pub lone_value : {P : Type 0} (s : Slab (Slot P)) (i b : ℕ) → LoneAt s i b → (x : Slot P) → get s i ≡ Some x → IsValue (inner_get x b)
+pub lone_value : {P K : Type 0} (s : Slab (Slot P K)) (i b : ℕ) → LoneAt s i b → (x : Slot P K) → get s i ≡ Some x → IsValue (inner_get x b)
 lone_value s i b k x e =
     let z : Some (Inner k.node) ≡ Some x = sym k.stands ∙ e in
     let y : Inner k.node ≡ x = cc in
     subst (λ w. IsValue (inner_get w b)) y (subst IsValue (sym k.child) tt)
 
 -- and this one is seen there
-pub lone_seen : {P : Type 0} (s : Slab (Slot P)) (v : Nodes P) (is : nodes_in s ≡ v) (i b : ℕ) → LoneAt s i b → (x : Slot P) (lone : Lone P) → get s i ≡ Some x → inner_get x b ≡ Some (Value lone)
+pub lone_seen : {P K : Type 0} (s : Slab (Slot P K)) (v : Nodes P) (is : nodes_in s ≡ v) (i b : ℕ) → LoneAt s i b → (x : Slot P K) (lone : Lone P) → get s i ≡ Some x → inner_get x b ≡ Some (Value lone)
     → get v (257 * i + (b + 1)) ≡ Some (lone_node lone)
 lone_seen s v is i b k x lone e q =
     let z : Some (Inner k.node) ≡ Some x = sym k.stands ∙ e in
@@ -231,13 +231,13 @@ module _ {P : Type 0} (v : Nodes P) (name : ℕ) (lone : Lone P) (key : List ℕ
   lone_misses ne = lone_has Nothing (ap hung_in (insert_beside map.empty (get_or lone.key 7 0) (Value lone.value) (get_or key 7 0) (λ q. ne (sym q)) ∙ map.get-empty _ (get_or key 7 0)))
 
 -- whether a slot's node has a prefix of the key
-pub slot_fits : {P : Type 0} (s : Slab (Slot P)) (v : Nodes P) (is : nodes_in s ≡ v) (i : ℕ) (x : Slot P) (key : List ℕ) → get s i ≡ Some x → fits (heap_of v (257 * i)).prefix key ≡ fits (prefix_in x) key
+pub slot_fits : {P K : Type 0} (s : Slab (Slot P K)) (v : Nodes P) (is : nodes_in s ≡ v) (i : ℕ) (x : Slot P K) (key : List ℕ) → get s i ≡ Some x → fits (heap_of v (257 * i)).prefix key ≡ fits (prefix_in x) key
 slot_fits s v is i x key e =
     let n : heap_of v (257 * i) ≡ node_of (Some (slot_node i x)) = ap node_of (ap (λ w. get w (257 * i)) (sym is) ∙ slot_seen s i x e) in
     ap (λ w. fits w.prefix key) n ∙ ap (λ p. fits p key) (seen_prefix i x)
 
 -- what an inner node in a slot has for a key, as it was read
-module _ {P : Type 0} (s : Slab (Slot P)) (v : Nodes P) (is : nodes_in s ≡ v) (i : ℕ) (x : Slot P) (key : List ℕ) (e : get s i ≡ Some x) where
+module _ {P K : Type 0} (s : Slab (Slot P K)) (v : Nodes P) (is : nodes_in s ≡ v) (i : ℕ) (x : Slot P K) (key : List ℕ) (e : get s i ≡ Some x) where
   seen_node : (n : Node ℕ P) → slot_node i x ≡ n → heap_of v (257 * i) ≡ node_of (Some n)
   seen_node n q = ap node_of (ap (λ w. get w (257 * i)) (sym is) ∙ (slot_seen s i x e ∙ ap Some q))
 
@@ -303,7 +303,7 @@ leads_turn_on v key at name (GoesBelow slot) e t = (e ∙ ap Under (sym t.0), t.
 leads_turn_on v key at name (GoesApart c) e t = (e ∙ ap Under (sym t.0), t.1)
 
 -- the first child from a byte on, as the tree sees it
-module _ {P : Type 0} (s : Slab (Slot P)) (v : Nodes P) (is : nodes_in s ≡ v) (i from : ℕ) (x : Slot P) (e : get s i ≡ Some x) (y : Node ℕ P) (h : get v (257 * i) ≡ Some y) where
+module _ {P K : Type 0} (s : Slab (Slot P K)) (v : Nodes P) (is : nodes_in s ≡ v) (i from : ℕ) (x : Slot P K) (e : get s i ≡ Some x) (y : Node ℕ P) (h : get v (257 * i) ≡ Some y) where
   same_seen : slot_node i x ≡ y
   same_seen = let z : Some (slot_node i x) ≡ Some y = sym (slot_seen s i x e) ∙ (ap (λ w. get w (257 * i)) is ∙ h) in cc
 
@@ -328,14 +328,14 @@ module _ {P : Type 0} (s : Slab (Slot P)) (v : Nodes P) (is : nodes_in s ≡ v) 
     leaf_last k b l = ap (λ m. map.get m b) (sym leaf_map) ∙ none_mapped leaf_child (children_of n) b (k b l)
 
 -- what was read there
-pub lone_read : {P : Type 0} (s : Slab (Slot P)) (i b : ℕ) (k : LoneAt s i b) (x : Slot P) (n : Node ℕ (Lone P)) → get s i ≡ Some x → x ≡ Inner n → map.get (children_of n) b ≡ Some (Value k.lone)
+pub lone_read : {P K : Type 0} (s : Slab (Slot P K)) (i b : ℕ) (k : LoneAt s i b) (x : Slot P K) (n : Node ℕ (Lone P)) → get s i ≡ Some x → x ≡ Inner n → map.get (children_of n) b ≡ Some (Value k.lone)
 lone_read s i b k x n e q =
     let z : Some (Inner k.node) ≡ Some (Inner n) = sym k.stands ∙ (e ∙ ap Some q) in
     let y : k.node ≡ n = cc in
     subst (λ m. map.get (children_of m) b ≡ Some (Value k.lone)) y k.child
 
 -- fewer nodes stand in slots than have names
-module _ {P : Type 0} (s : Slab (Slot P)) where
+module _ {P K : Type 0} (s : Slab (Slot P K)) where
   slots_at_most : (f g : ℕ → ℕ) (n : ℕ) → ((i : ℕ) → g i ≤ f (257 * i)) → total g n ≤ total f (257 * n)
   unfolding total
   slots_at_most f g zero h = omega arith
@@ -364,7 +364,7 @@ module _ {P : Type 0} (s : Slab (Slot P)) where
       let c = slots_at_most (λ n. counted (get (nodes_in s) n)) (λ i. counted (get s i)) (length s.slots) (λ i. at i (get s i) refl) in
       omega (arith, a, b, c)
     where
-      at : (i : ℕ) (o : Option (Slot P)) → get s i ≡ o → counted (get s i) ≤ counted (get (nodes_in s) (257 * i))
+      at : (i : ℕ) (o : Option (Slot P K)) → get s i ≡ o → counted (get s i) ≤ counted (get (nodes_in s) (257 * i))
       at i None e = let z : counted (get s i) ≡ 0 = ap counted e in omega (arith, z)
       at i (Some x) e =
           let z : counted (get s i) ≡ 1 = ap counted e in
@@ -389,7 +389,7 @@ module _ {P : Type 0} (s : Slab (Slot P)) where
       let w = at k (get s k) refl in omega (arith, apart, w)) in
       omega (arith, x, y, t, one, none, c)
     where
-      at : (i : ℕ) (o : Option (Slot P)) → get s i ≡ o → counted (get s i) ≤ counted (get (nodes_in s) (257 * i))
+      at : (i : ℕ) (o : Option (Slot P K)) → get s i ≡ o → counted (get s i) ≤ counted (get (nodes_in s) (257 * i))
       at i None e = let z : counted (get s i) ≡ 0 = ap counted e in omega (arith, z)
       at i (Some x) e =
           let z : counted (get s i) ≡ 1 = ap counted e in
