@@ -52,9 +52,9 @@ record ClearedTo {P K : Type 0} (n : Node ℕ (Lone P)) (x' : Slot P K) : Type 0
   pub becomes : Becomes n node map.empty
 
 cleared_to : {P K : Type 0} (x x' : Slot P K) (n : Node ℕ (Lone P)) → x ≡ Inner n → Cleared x x' → ClearedTo n x'
-cleared_to x x' n e k = of x' (subst (λ z. Cleared z x') e k)
+cleared_to {P} {K} x x' n e k = of x' (subst (λ z. Cleared z x') e k)
   where
-    of : (z : Slot _ _) → Cleared (Inner n) z → ClearedTo n z
+    of : (z : Slot P K) → Cleared (Inner n) z → ClearedTo n z
     of (Inner m) k = record { node = m; is = refl; becomes = k }
     of (Leaf m) k = absurd k
 

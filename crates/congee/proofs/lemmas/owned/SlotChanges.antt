@@ -83,9 +83,9 @@ pub record InnerAfter {P K : Type 0} (n : Node ℕ (Lone P)) (x' : Slot P K) (m 
 
 -- an inner node whose children were changed is one with the changed children
 pub inner_after : {P K : Type 0} (x x' : Slot P K) (n : Node ℕ (Lone P)) (f : map.FinMap nat_cmp (Child ℕ (Lone P)) → map.FinMap nat_cmp (Child ℕ (Lone P))) → x ≡ Inner n → InnerBecomes x x' f → InnerAfter n x' (f (children_of n))
-inner_after x x' n f e b = of x' (subst (λ w. InnerBecomes w x' f) e b)
+inner_after {P} {K} x x' n f e b = of x' (subst (λ w. InnerBecomes w x' f) e b)
   where
-    of : (z : Slot _ _) → InnerBecomes (Inner n) z f → InnerAfter n z (f (children_of n))
+    of : (z : Slot P K) → InnerBecomes (Inner n) z f → InnerAfter n z (f (children_of n))
     of (Inner m) b = record { node = m; is = refl; becomes = b }
     of (Leaf m) b = absurd b
 

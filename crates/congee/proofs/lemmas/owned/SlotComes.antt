@@ -72,7 +72,7 @@ module _ {P K : Type 0} (s s' : Slab (Slot P K)) (i : ℕ) where
 -- a node without children comes into a free slot
 module _ {P K : Type 0} (s s' : Slab (Slot P K)) (v : Nodes P) (is : nodes_in s ≡ v) (inline : ℕ) (st : IsStored s inline) (i : ℕ) (n : Node ℕ (Lone P)) (free : get s i ≡ None) (u : Updates s s' i (Some (Inner n)))
     (empty : children_of n ≡ map.empty) where
-  none_there : (b : ℕ) → in_slot i (Some (Inner n)) (suc b) ≡ in_slot i (get s i) (suc b)
+  none_there : (b : ℕ) → in_slot {K = K} i (Some (Inner n)) (suc b) ≡ in_slot i (get s i) (suc b)
   none_there b = ap lone_in (ap (λ m. map.get m b) empty ∙ map.get-empty _ b) ∙ sym (ap (λ o. in_slot i o (suc b)) free)
 
   pub comes_stored : length (prefix_of n) < 7 → s'.capacity ≡ s.capacity → slab_len s + inline + 1 ≤ s.capacity → IsStored s' inline
@@ -97,7 +97,7 @@ module _ {P K : Type 0} (s s' : Slab (Slot P K)) (v : Nodes P) (is : nodes_in s 
 
 -- a leaf with one value comes into a free slot
 module _ {P K : Type 0} (s s' : Slab (Slot P K)) (v : Nodes P) (is : nodes_in s ≡ v) (inline : ℕ) (st : IsStored s inline) (i : ℕ) (n : Node ℕ P) (free : get s i ≡ None) (u : Updates s s' i (Some (Leaf n))) where
-  no_inline : (b : ℕ) → in_slot i (Some (Leaf n)) (suc b) ≡ in_slot i (get s i) (suc b)
+  no_inline : (b : ℕ) → in_slot {K = K} i (Some (Leaf n)) (suc b) ≡ in_slot i (get s i) (suc b)
   no_inline b = sym (ap (λ o. in_slot i o (suc b)) free)
 
   pub leaf_comes_stored : length (prefix_of n) ≡ 7 → s'.capacity ≡ s.capacity → slab_len s + inline + 1 ≤ s.capacity → IsStored s' inline
@@ -131,7 +131,7 @@ module _ {P K : Type 0} (s s' : Slab (Slot P K)) (v : Nodes P) (is : nodes_in s 
   at_is : at ≡ 257 * i
   at_is = own_slot at i byte name low own
 
-  no_lone : (b : ℕ) → in_slot {P = P} i None (suc b) ≡ in_slot i (get s i) (suc b)
+  no_lone : (b : ℕ) → in_slot {P = P} {K = K} i None (suc b) ≡ in_slot i (get s i) (suc b)
   no_lone b =
       let there = slot_there s i (subst (λ w. ContainsKey w (257 * i)) (sym is) (subst (ContainsKey v) at_is stands)) in
       of (get s i) refl there

@@ -42,9 +42,9 @@ pub record LeafAfter {P K : Type 0} (n : Node ℕ P) (x' : Slot P K) (m : map.Fi
   pub becomes : Becomes n node m
 
 leaf_after : {P K : Type 0} (x x' : Slot P K) (n : Node ℕ P) (f : map.FinMap nat_cmp (Child ℕ P) → map.FinMap nat_cmp (Child ℕ P)) → x ≡ Leaf n → LeafBecomes x x' f → LeafAfter n x' (f (children_of n))
-leaf_after x x' n f e b = of x' (subst (λ w. LeafBecomes w x' f) e b)
+leaf_after {P} {K} x x' n f e b = of x' (subst (λ w. LeafBecomes w x' f) e b)
   where
-    of : (z : Slot _ _) → LeafBecomes (Leaf n) z f → LeafAfter n z (f (children_of n))
+    of : (z : Slot P K) → LeafBecomes (Leaf n) z f → LeafAfter n z (f (children_of n))
     of (Leaf m) b = record { node = m; is = refl; becomes = b }
     of (Inner m) b = absurd b
 

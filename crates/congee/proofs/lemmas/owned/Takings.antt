@@ -91,7 +91,7 @@ module _ {P K : Type 0} (s : Slab (Slot P K)) (v : Nodes P) (is : nodes_in s ≡
 
       -- a node with a slot of its own
       module _ (plain : lone_in (Some c) ≡ None) where
-        none : (b : ℕ) → in_slot {P = P} i None (suc b) ≡ in_slot i (get s i) (suc b)
+        none : (b : ℕ) → in_slot {P = P} {K = K} i None (suc b) ≡ in_slot i (get s i) (suc b)
         none b = elim (same_or_not b only.byte) [
           | inl q ↦ (let Q : ℕ → Type 0 = λ z. None ≡ in_slot i (get s i) (suc z) in subst Q (sym q) (sym (lies ∙ plain)))
           | inr ne ↦ sym (beside b ne)
