@@ -122,9 +122,13 @@ impl<P: Stored> LeafNode<P> {
         ensures { MatchOption result ((b : ℕ) → from ≤ b → map.get (children_of self.now) b ≡ None)
             (λ r. IsFirst (children_of self.now) from r.0 (Value r.1.now)) }
     {
-        let (byte, kept) = self.values.first_from(from)?;
-        let value = P::look(kept)?;
-        Some((byte, value))
+        match self.values.first_from(from) {
+            None => None,
+            Some((byte, kept)) => match P::look(kept) {
+                None => unreachable!(),
+                Some(value) => Some((byte, value)),
+            },
+        }
     }
 
     /// Adds a value under a byte that has none, to a leaf that is not full.
