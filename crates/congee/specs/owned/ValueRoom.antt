@@ -6,20 +6,17 @@ use denote.Param.{layout}
 use denote.RattleType.{RattleType}
 use prog.Memory.{size}
 use Rattle.congee.specs.forms.Room.{IsSmall}
-use Rattle.congee.specs.forms.RoomLemmas.{FitsIn, no_fields, field, struct, no_cases, case, enum, prefix, prefix_ty}
-use Rattle.congee.specs.owned.EntryRoom.{entry, entry_ty}
+use Rattle.congee.specs.forms.RoomLemmas.{FitsIn, prefix_ty}
+use Rattle.congee.specs.owned.EntryRoom.{entry_ty}
 use Rattle.congee.specs.owned.PlaceRoom.{boxed, boxed_ty, fits, forms, forms_ty, indexed, indexed_ty, masked, masked_ty, room, sorted, sorted_ty}
 
 -- a prefix beside the places of a form
-abbrev node_ty : Ty → Ty
+abbrev pub node_ty : Ty → Ty
 node_ty τ = ty_struct [] (tcons prefix_ty (tcons (forms_ty τ) tnil))
 
--- an inner node or a leaf
-abbrev slot_ty : Ty → Ty → Ty
-slot_ty τ σ = ty_enum [] (ttcons (tcons (node_ty τ) tnil) (ttcons (tcons (node_ty σ) tnil) ttnil))
-
-node : {τ : Ty} → FitsIn τ 1000000 → FitsIn (node_ty τ) 600000000
-node e = let w = struct (field prefix (field (forms e) no_fields)) in record { bytes = omega (arith, w.bytes); aligned = w.aligned }
+-- an inner node or a leaf, as code lays it out
+abbrev pub slot_ty : Ty → Ty → Ty
+slot_ty τ σ = ty_enum [] (ttcons (tcons (node_ty (entry_ty τ)) tnil) (ttcons (tcons (node_ty σ) tnil) ttnil))
 
 module _ (K : RattleType) (k : IsSmall (layout K)) where
   kept : FitsIn (layout K) 1000000
@@ -52,11 +49,3 @@ module _ (K : RattleType) (k : IsSmall (layout K)) where
   -- the values of any form fit in memory
   pub values_fits : size (forms_ty (layout K)) < 2 ^ 63
   values_fits = fits (forms kept)
-
-  -- so does a leaf
-  pub leaf_fits : size (node_ty (layout K)) < 2 ^ 63
-  leaf_fits = let w = node kept in omega (arith, w.bytes)
-
-  -- and the node of a slot
-  pub slot_fits : (P : RattleType) → IsSmall (layout P) → size (slot_ty (entry_ty (layout P)) (layout K)) < 2 ^ 63
-  slot_fits P p = let w = enum (case (field (node (entry P p)) no_fields) (case (field (node kept) no_fields) no_cases)) in omega (arith, w.bytes)

@@ -14,6 +14,11 @@ use std::alloc::Global;
 
 /// What an owned tree holds, and what a leaf with a slot of its own keeps of it in a place.
 pub trait Stored: Small {
+    ghost use denote.Param.{layout};
+    ghost use prog.Memory.{size};
+    ghost use Rattle.std.specs.Prelude.{◌<◌, ◌^◌};
+    ghost use Rattle.congee.specs.owned.ValueRoom.{node_ty, slot_ty};
+
     /// A value, or a default where no byte uses the place.
     type Kept: Default + Small;
 
@@ -31,6 +36,10 @@ pub trait Stored: Small {
     /// The value that a place keeps, where it lies.
     fn look(kept: &Self::Kept) -> Option<&Self>
         ensures { option_copied result ≡ value_in kept.now };
+
+    ghost leaf_fits: { size (node_ty (layout Self.Kept.row)) < 2 ^ 63 };
+
+    ghost fits: { size (slot_ty (layout Self.row) (layout Self.Kept.row)) < 2 ^ 63 };
 }
 
 /// The nodes of a tree by their names, the root's is 0, and the budget that they are charged to.
@@ -133,6 +142,8 @@ impl<P: Stored, A: Allocator> Arena<P, A> {
 }
 
 impl Stored for u64 {
+    ghost use Rattle.std.proofs.Common.{rules};
+
     type Kept = u64;
 
     ghost value_in = { λ kept. Some kept };
@@ -151,4 +162,8 @@ impl Stored for u64 {
     fn look(kept: &u64) -> Option<&u64> {
         Some(kept)
     }
+
+    ghost leaf_fits = { Prim.search rules };
+
+    ghost fits = { Prim.search rules };
 }

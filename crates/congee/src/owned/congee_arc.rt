@@ -44,6 +44,8 @@ impl<V: Drop> Small for Option<ArcPayload<V>> {
 }
 
 impl<V: Drop> Stored for ArcPayload<V> {
+    ghost use Rattle.std.proofs.Common.{rules};
+
     type Kept = Option<ArcPayload<V>>;
 
     ghost value_in = { λ kept. kept };
@@ -65,6 +67,10 @@ impl<V: Drop> Stored for ArcPayload<V> {
     fn look(kept: &Option<ArcPayload<V>>) -> Option<&ArcPayload<V>> {
         kept.as_ref()
     }
+
+    ghost leaf_fits = { Prim.search rules };
+
+    ghost fits = { Prim.search rules };
 }
 
 /// An ordered map from words to shared values for one thread: an adaptive radix tree over the keys' eight bytes.

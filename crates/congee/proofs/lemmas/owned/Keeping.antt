@@ -41,18 +41,18 @@ module _ {P K : Type 0} (value : K → Option P) where
   pub insert_held : (v v' : Values K) (b : ℕ) (k : K) (w : P) → value k ≡ Some w → kept_in v' ≡ map.insert (kept_in v) b k → HoldsValues value v → HoldsValues value v'
   insert_held v v' b k w is e h q =
       subst (IsHeld value) (sym (ap (λ m. map.get m q) e ∙ map.get-insert nat_cmp_total (kept_in v) b k q)) (of (eq_by_cmp nat_cmp q b))
-      where
-        of : (t : Bool) → IsHeld value (cond t (Some k) (map.get (kept_in v) q))
-        of true = subst IsSome (sym is) refl
-        of false = h q
+    where
+      of : (t : Bool) → IsHeld value (cond t (Some k) (map.get (kept_in v) q))
+      of true = subst IsSome (sym is) refl
+      of false = h q
 
   pub remove_held : (v v' : Values K) (b : ℕ) → kept_in v' ≡ map.remove (kept_in v) b → HoldsValues value v → HoldsValues value v'
   remove_held v v' b e h q =
       subst (IsHeld value) (sym (ap (λ m. map.get m q) e ∙ map.get-remove nat_cmp_total (kept_in v) b q)) (of (eq_by_cmp nat_cmp q b))
-      where
-        of : (t : Bool) → IsHeld value (cond t None (map.get (kept_in v) q))
-        of true = tt
-        of false = h q
+    where
+      of : (t : Bool) → IsHeld value (cond t None (map.get (kept_in v) q))
+      of true = tt
+      of false = h q
 
   -- where a value is kept, it is there to be seen
   pub never_gone : (k : K) (o : Option P) → IsSome (value k) → o ≡ value k → o ≡ None → ⊥

@@ -34,13 +34,6 @@ use Rattle.congee.proofs.lemmas.owned.SlotLens.{counted, len_named}
 use Rattle.congee.proofs.lemmas.owned.Slots.{get_offset, get_slot, get_inline, beside_slot, in_offset, low_offset, with_mapped, with_form, with_prefix, with_len, with_full}
 use Rattle.congee.proofs.lemmas.owned.Totals.{total, total_update}
 
--- a child that is a value is no other
-pub value_only : {P : Type 0} (o : Option (Child ℕ P)) (x : Child ℕ P) → IsValue o → o ≡ Some x → ((v : P) → x ≡ Value v → ⊥) → ⊥
-value_only None x h e ne = h
-value_only (Some Blank) x h e ne = h
-value_only (Some (Sub c)) x h e ne = h
-value_only (Some (Value v)) x h e ne = ne v (let z : Some x ≡ Some (Value v) = sym e in cc)
-
 module _ {P K : Type 0} (s : Slab (Slot P K)) where
   -- the slot's node, by the slot's first name
   pub slot_seen : (i : ℕ) (x : Slot P K) → get s i ≡ Some x → get (nodes_in s) (257 * i) ≡ Some (slot_node i x)
@@ -271,21 +264,20 @@ module _ {P K : Type 0} (s : Slab (Slot P K)) (v : Nodes P) (is : nodes_in s ≡
         let h' : heap_of v (257 * i + (get_or key len 0 + 1)) ≡ node_of (Some (lone_node lone)) = ap node_of (lone_lies lone l c) in
         ap (λ w. fits w.prefix key) h'
 
-  module _ (n : Node ℕ P) (q : x ≡ Leaf n) (len : ℕ) (count : len ≡ length (prefix_of n)) (o : Option (Bor (Child ℕ P))) (read : option_copied o ≡ map.get (children_of n) (get_or key len 0)) where
-    leaf_is : child_for (heap_of v (257 * i)) key ≡ hung_in (option_map (leaf_child (get_or key len 0)) (option_copied o))
+  module _ (n : Node ℕ P) (q : x ≡ Leaf n) (len : ℕ) (count : len ≡ length (prefix_of n)) (o : Option (Bor P)) (read : option_map Value (option_copied o) ≡ map.get (children_of n) (get_or key len 0)) where
+    leaf_is : child_for (heap_of v (257 * i)) key ≡ hung_in (option_map (leaf_child (get_or key len 0)) (option_map Value (option_copied o)))
     leaf_is =
         let h : heap_of v (257 * i) ≡ node_of (Some (with_children leaf_child n)) = seen_node (with_children leaf_child n) (ap (slot_node i) q) in
         let l : length (prefix_of (with_children leaf_child n)) ≡ len = ap length (with_prefix leaf_child n) ∙ sym count in
-        let g : map.get (children_of (with_children leaf_child n)) (get_or key len 0) ≡ option_map (leaf_child (get_or key len 0)) (option_copied o) =
+        let g : map.get (children_of (with_children leaf_child n)) (get_or key len 0) ≡ option_map (leaf_child (get_or key len 0)) (option_map Value (option_copied o)) =
         ap (λ m. map.get m (get_or key len 0)) (with_mapped leaf_child n) ∙ (get_mapped leaf_child (children_of n) (get_or key len 0) ∙ ap (option_map (leaf_child (get_or key len 0))) (sym read)) in
         ap (λ w. child_for w key) h ∙ (ap (λ k. hung_in (map.get (children_of (with_children leaf_child n)) (get_or key k 0))) l ∙ ap hung_in g)
 
     pub leaf_nothing : o ≡ None → child_for (heap_of v (257 * i)) key ≡ Nothing
-    leaf_nothing c = leaf_is ∙ ap (λ r. hung_in (option_map (leaf_child (get_or key len 0)) (option_copied r))) c
+    leaf_nothing c = leaf_is ∙ ap (λ r. hung_in (option_map (leaf_child (get_or key len 0)) (option_map Value (option_copied r)))) c
 
-    pub leaf_leads : (f : Bor (Child ℕ P)) (y : Child ℕ P) → o ≡ Some f → f.now ≡ y → child_for (heap_of v (257 * i)) key ≡ hung_in (Some (leaf_child (get_or key len 0) y))
-    leaf_leads f y c h =
-        leaf_is ∙ (ap (λ r. hung_in (option_map (leaf_child (get_or key len 0)) (option_copied r))) c ∙ ap (λ z. hung_in (Some (leaf_child (get_or key len 0) z))) h)
+    pub leaf_holds : (f : Bor P) → o ≡ Some f → child_for (heap_of v (257 * i)) key ≡ Holds f.now
+    leaf_holds f c = leaf_is ∙ ap (λ r. hung_in (option_map (leaf_child (get_or key len 0)) (option_map Value (option_copied r)))) c
 
 -- to a node of which it was told whether the key has its prefix
 pub leads_turn : {P : Type 0} (v : Nodes P) (key : List ℕ) (at name : ℕ) (w : Way P) → child_for (heap_of v at) key ≡ Under name → IsTurn v key name w → Leads v key at w
