@@ -1,5 +1,5 @@
 -- The room that the entries of an inner node take: what stands in a box fits in memory.
-use Rattle.std.specs.Prelude.{ℕ, ◌≤◌, ◌<◌, ◌+◌, ◌*◌, ◌^◌, []}
+use Rattle.std.specs.Prelude.{◌<◌, ◌^◌, []}
 use native.Mathlib.Omega.{arith}
 use mir.Syntax.{Ty, w8, w64, ty_int, ty_array, ty_struct, ty_enum, tnil, tcons, ttnil, ttcons}
 use denote.Param.{layout}

@@ -1,5 +1,5 @@
 -- The room that the values of a leaf take, and a slot's node: what stands in a box fits in memory.
-use Rattle.std.specs.Prelude.{ℕ, ◌≤◌, ◌<◌, ◌+◌, ◌*◌, ◌^◌, []}
+use Rattle.std.specs.Prelude.{◌<◌, ◌^◌, []}
 use native.Mathlib.Omega.{arith}
 use mir.Syntax.{Ty, ty_struct, ty_enum, tnil, tcons, ttnil, ttcons}
 use denote.Param.{layout}

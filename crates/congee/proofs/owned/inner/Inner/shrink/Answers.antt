@@ -1,4 +1,4 @@
-use Rattle.std.proofs.Common.{◌≡◌, sym, ap, arith}
+use Rattle.std.proofs.Common.{◌≡◌, ap, arith}
 use Rattle.congee.specs.forms.Forms.{capacity_of, form_of}
 use Rattle.congee.specs.owned.EntryRoom.{places_fits}
 use Rattle.congee.specs.owned.Entries.{form_in}
