@@ -6,7 +6,6 @@ ghost use Rattle.std.specs.FinMap as map;
 ghost use Rattle.congee.specs.forms.Bytes.{IsFirst, between};
 ghost use Rattle.congee.specs.forms.Forms.{capacity_of, size_of, next_form, form_of, prefix_of, children_of, is_full_of, Becomes};
 ghost use Rattle.congee.specs.forms.Scan.{rest};
-ghost use Rattle.congee.specs.protocol.Steps.{form_below};
 
 use crate::forms::child::{Child, Small};
 use crate::forms::indexed::Indexed;
