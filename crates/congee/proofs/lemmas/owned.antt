@@ -15,6 +15,7 @@ pub mod Freeing
 pub mod Fulls
 pub mod FullSteps
 pub mod Joins
+pub mod Keeping
 pub mod Moves
 pub mod OwnerLemmas
 pub mod Walks

@@ -104,7 +104,8 @@ child_ty τ σ = ty_enum [] (ttcons tnil (ttcons (tcons τ tnil) (ttcons (tcons 
 abbrev pub array_vec_ty : Ty → ℕ → Ty
 array_vec_ty τ n = ty_struct [] (tcons (ty_struct [] (tcons (ty_array τ n) tnil)) (tcons (ty_int w64) (tcons ty_unit tnil)))
 
-abbrev prefix_ty : Ty
+-- a prefix
+abbrev pub prefix_ty : Ty
 prefix_ty = ty_struct [] (tcons (ty_array (ty_int w8) 8) tnil)
 
 -- bytes in the order in which they are counted
@@ -136,7 +137,8 @@ node_ty τ = ty_struct [] (tcons prefix_ty (tcons τ tnil))
 abbrev any_node_ty : Ty → Ty → Ty
 any_node_ty τ σ = ty_enum [] (ttcons (tcons (node_ty (sorted_ty 4 τ σ)) tnil) (ttcons (tcons ty_ptr tnil) (ttcons (tcons ty_ptr tnil) (ttcons (tcons ty_ptr tnil) ttnil))))
 
-prefix : FitsIn prefix_ty 200000
+-- a prefix has few bytes
+pub prefix : FitsIn prefix_ty 200000
 prefix = let w = struct (field (array 8 byte) no_fields) in record { bytes = omega (arith, w.bytes); aligned = w.aligned }
 
 module _ (C P : RattleType) (c : IsSmall (layout C)) (p : IsSmall (layout P)) where

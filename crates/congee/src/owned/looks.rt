@@ -6,7 +6,6 @@ ghost use Rattle.congee.specs.forms.Forms.{children_of};
 ghost use Rattle.congee.specs.declared.keys.TheConstants.{KEY_BYTES};
 ghost use Rattle.congee.specs.declared.forms.prefix.TheConstants.{MAX_PREFIX_LEN};
 
-use crate::forms::child::Child;
 use crate::forms::prefix::MAX_PREFIX_LEN;
 use crate::keys::{KEY_BYTES, key_of_bytes};
 use crate::owned::arena::Stored;
@@ -94,9 +93,7 @@ impl<P: Stored> Nodes<P> {
             }
             Slot::Leaf(n) => match n.get_child(key[n.prefix_len()]) {
                 None => Way::Free,
-                Some(Child::Blank) => unreachable!(),
-                Some(Child::Node(below)) => self.turn(*below, key),
-                Some(Child::Value(value)) => Way::Held(value),
+                Some(value) => Way::Held(value),
             },
         }
     }
@@ -129,9 +126,7 @@ impl<P: Stored> Nodes<P> {
             }
             Slot::Leaf(n) => match n.get_child(key[n.prefix_len()]) {
                 None => Onward::Free,
-                Some(Child::Blank) => unreachable!(),
-                Some(Child::Node(below)) => self.turn_on(*below, key),
-                Some(Child::Value(value)) => Onward::Held(value),
+                Some(value) => Onward::Held(value),
             },
         }
     }
@@ -224,9 +219,7 @@ impl<P: Stored> Nodes<P> {
             },
             Slot::Leaf(n) => match n.first_from(from) {
                 None => None,
-                Some((byte, Child::Blank)) => Some((byte, Found::Blank)),
-                Some((byte, Child::Node(below))) => Some((byte, Found::Node(Name::of(*below)))),
-                Some((byte, Child::Value(value))) => Some((byte, Found::Value(value))),
+                Some((byte, value)) => Some((byte, Found::Value(value))),
             },
         }
     }

@@ -6,22 +6,23 @@ ghost use Rattle.congee.specs.declared.keys.TheConstants.{KEY_BYTES};
 ghost use Rattle.congee.specs.declared.forms.prefix.TheConstants.{MAX_PREFIX_LEN};
 
 use crate::forms::base_node::NodeType;
-use crate::forms::child::{Child, Small};
+use crate::forms::child::Child;
 use crate::keys::KEY_BYTES;
+use crate::owned::arena::Stored;
 use crate::owned::entries::{Hung, Seen};
 use crate::owned::inner::Inner;
+use crate::owned::leaf_node::LeafNode;
 use crate::owned::lone::Lone;
-use crate::owned::slot_node::SlotNode;
 use std::alloc::{AllocError, Global};
 
 /// A node with a slot of its own. A child of an inner node is a node by its slot, or a leaf with one value.
 #[derive(Drop)]
-pub(crate) enum Slot<P: Small> {
+pub(crate) enum Slot<P: Stored> {
     Inner(Inner<P>),
-    Leaf(SlotNode<P>),
+    Leaf(LeafNode<P>),
 }
 
-impl<P: Small> Slot<P> {
+impl<P: Stored> Slot<P> {
     ghost use Rattle.congee.specs.Heap.{fits};
     ghost use Rattle.congee.specs.forms.Forms.{capacity_of};
     ghost use Rattle.congee.specs.declared.forms.child.Child.TheVariants.{Value};
@@ -146,7 +147,7 @@ impl<P: Small> Slot<P> {
         ensures { LeafBecomes self.old self.new (λ m. map.insert m byte (Value value)) }
     {
         match self {
-            Slot::Leaf(n) => n.insert(byte, Child::Value(value)),
+            Slot::Leaf(n) => n.insert(byte, value),
             Slot::Inner(_) => unreachable!(),
         }
     }
@@ -159,10 +160,7 @@ impl<P: Small> Slot<P> {
         ensures now { LeafBecomes self.old self.new (λ m. map.insert m byte (Value value)) }
     {
         match self {
-            Slot::Leaf(n) => match n.change(byte, Child::Value(value)) {
-                Child::Value(old) => old,
-                _ => unreachable!(),
-            },
+            Slot::Leaf(n) => n.change(byte, value),
             Slot::Inner(_) => unreachable!(),
         }
     }
@@ -174,10 +172,7 @@ impl<P: Small> Slot<P> {
         ensures now { LeafBecomes self.old self.new (λ m. map.remove m byte) }
     {
         match self {
-            Slot::Leaf(n) => match n.remove(byte) {
-                Child::Value(old) => old,
-                _ => unreachable!(),
-            },
+            Slot::Leaf(n) => n.remove(byte),
             Slot::Inner(_) => unreachable!(),
         }
     }

@@ -34,11 +34,11 @@ use Rattle.congee.proofs.lemmas.owned.Wanting.{get_wants, same_wants}
 use Rattle.congee.proofs.lemmas.owned.Ways.{same_tree}
 
 -- where the charge moves as the nodes' sizes do, what was charged before them stays
-base_kept : {P A : Type 0} (charged : A → ℕ) (old new : Arena P A) → Covers charged old → Balances charged old new
+base_kept : {P A K : Type 0} (charged : A → ℕ) (old new : Arena P A K) → Covers charged old → Balances charged old new
     → charged new.allocator - bytes_of new.nodes ≡ charged old.allocator - bytes_of old.nodes
 base_kept charged old new c b = omega (arith, c, b)
 
-module _ {P A : Type 0} (charged limit : A → ℕ) (old new : Arena P A) where
+module _ {P A K : Type 0} (charged limit : A → ℕ) (old new : Arena P A K) where
   -- a refused insertion leaves a tree, and what its charge covers
   pub denied_tree : (key : List ℕ) (v : P) (wants : Option (List ℕ)) (refusal : OOMError × P) → IsTree old.nodes → Denies charged limit old new key v wants refusal → IsTree new.nodes
   denied_tree key v wants refusal t d = same_tree old.nodes new.nodes d.same t
@@ -48,7 +48,7 @@ module _ {P A : Type 0} (charged limit : A → ℕ) (old new : Arena P A) where
   denied_bytes key v wants refusal d = bytes_same old.nodes new.nodes d.same
 
 -- a key by its number, and the bytes that a call on the arena takes
-module _ {P A : Type 0} (same : P → P → Bool) (charged limit : A → ℕ) (old new : Arena P A) (k : ℕ) (small : k < 2 ^ 64) (key : List ℕ) (is : key ≡ key_bytes k) where
+module _ {P A K : Type 0} (same : P → P → Bool) (charged limit : A → ℕ) (old new : Arena P A K) (k : ℕ) (small : k < 2 ^ 64) (key : List ℕ) (is : key ≡ key_bytes k) where
   -- the call on the pairs
   abbrev Told : Call P → Reply P → Type 0
   Told call reply = answer same (pairs_of old.nodes) call ≡ (reply, pairs_of new.nodes)
@@ -99,26 +99,26 @@ module _ {P A : Type 0} (same : P → P → Bool) (charged limit : A → ℕ) (o
       still_none old.nodes new.nodes (λ h. f.filled h none) e
 
 -- what is found at a key stands in the pairs
-pub found_at : {P A : Type 0} (t : Arena P A) (k : ℕ) → k < 2 ^ 64 → (key : List ℕ) → key ≡ key_bytes k → (o : Option P) → o ≡ value_at (heap_of t.nodes) key → o ≡ map.get (pairs_of t.nodes) k
+pub found_at : {P A K : Type 0} (t : Arena P A K) (k : ℕ) → k < 2 ^ 64 → (key : List ℕ) → key ≡ key_bytes k → (o : Option P) → o ≡ value_at (heap_of t.nodes) key → o ≡ map.get (pairs_of t.nodes) k
 found_at t k small key is o e = get_pairs t.nodes k small o (e ∙ ap (value_at (heap_of t.nodes)) is)
 
 -- that an insertion fitted
-pub fitted_at : {P A : Type 0} (t : Arena P A) (k : ℕ) → k < 2 ^ 64 → (key : List ℕ) → key ≡ key_bytes k → (charged limit : ℕ) → InsertionFits (wants_at (heap_of t.nodes) key) charged limit
+pub fitted_at : {P A K : Type 0} (t : Arena P A K) (k : ℕ) → k < 2 ^ 64 → (key : List ℕ) → key ≡ key_bytes k → (charged limit : ℕ) → InsertionFits (wants_at (heap_of t.nodes) key) charged limit
     → InsertionFits (map.get (wants_of t.nodes) k) charged limit
 fitted_at t k small key is charged limit f =
     subst (λ z. InsertionFits z charged limit) (ap (wants_at (heap_of t.nodes)) is ∙ sym (get_wants t.nodes k small)) f
 
 -- why an insertion was refused
-pub refused_at : {P A : Type 0} (t : Arena P A) (k : ℕ) → k < 2 ^ 64 → (key : List ℕ) → key ≡ key_bytes k → (charged limit : ℕ) (e : OOMError) → IsRefused (wants_at (heap_of t.nodes) key) charged limit e
+pub refused_at : {P A K : Type 0} (t : Arena P A K) (k : ℕ) → k < 2 ^ 64 → (key : List ℕ) → key ≡ key_bytes k → (charged limit : ℕ) (e : OOMError) → IsRefused (wants_at (heap_of t.nodes) key) charged limit e
     → IsRefused (map.get (wants_of t.nodes) k) charged limit e
 refused_at t k small key is charged limit e r =
     subst (λ z. IsRefused z charged limit e) (ap (wants_at (heap_of t.nodes)) is ∙ sym (get_wants t.nodes k small)) r
 
 -- an arena with its drainer, as contracts see it
-abbrev pub content : {A D : Type 0} → (A → ℕ) → D → Arena ℕ A → Content ℕ A D
+abbrev pub content : {A D : Type 0} → (A → ℕ) → D → Arena ℕ A ℕ → Content ℕ A D
 content charged d t = record { pairs = pairs_of t.nodes; nodes = nodes_of t.nodes; bytes = bytes_of t.nodes; lacking = lacking_of t.nodes; base = charged t.allocator - bytes_of t.nodes; wants = wants_of t.nodes; goes = goes_of t.nodes; allocator = t.allocator; drainer = d }
 
-module _ {A D : Type 0} (charged limit : A → ℕ) (d : D) (old new : Arena ℕ A) where
+module _ {A D : Type 0} (charged limit : A → ℕ) (d : D) (old new : Arena ℕ A ℕ) where
   keeps : Balances charged old new → KeepsLimit limit old new → KeepsCharge charged limit (content charged d old) (content charged d new)
   keeps b l = record { balance = b; same_limit = l; drainer = refl }
 
@@ -203,7 +203,7 @@ module _ {A D : Type 0} (charged limit : A → ℕ) (d : D) (old new : Arena ℕ
       keeps = keeps f.edits.balance f.edits.same_limit;
     }
 
-module _ {A D : Type 0} (charged limit : A → ℕ) (d : D) (t : Arena ℕ A) (k : ℕ) (small : k < 2 ^ 64) (key : List ℕ) (is : key ≡ key_bytes k) where
+module _ {A D : Type 0} (charged limit : A → ℕ) (d : D) (t : Arena ℕ A ℕ) (k : ℕ) (small : k < 2 ^ 64) (key : List ℕ) (is : key ≡ key_bytes k) where
   leaves : (call : Call ℕ) (reply : Reply ℕ) → Answered nat_eq t.nodes t.nodes call reply → ChangesNothing nat_eq charged limit (content charged d t) (content charged d t) call reply
   leaves call reply a = record {
     answers = answer_pairs nat_eq t.nodes t.nodes call reply a;

@@ -508,7 +508,7 @@ module _ {P : Type 0} where
   same_way s s' key n e w = record { stands = same_stands s s' n e w.stands; fitted = ap (λ z. fits z.prefix key) (same_heap s s' n e) ∙ w.fitted }
 
 -- an insertion into a leaf with room is never refused
-pub never_denied : {P A : Type 0} (charged limit : A → ℕ) (old new : Arena P A) (key : List ℕ) (v : P) (wants : List ℕ) (refusal : OOMError × P)
+pub never_denied : {P A K : Type 0} (charged limit : A → ℕ) (old new : Arena P A K) (key : List ℕ) (v : P) (wants : List ℕ) (refusal : OOMError × P)
     → wants ≡ [] → Denies charged limit old new key v (Some wants) refusal → ⊥
 never_denied charged limit old new key v wants refusal e d = subst (λ w. IsRefused (Some w) (charged old.allocator) (limit old.allocator) refusal.0) e d.cause
 

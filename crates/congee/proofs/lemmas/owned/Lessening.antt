@@ -33,7 +33,7 @@ use Rattle.congee.proofs.lemmas.owned.Stored.{slot_seen, slot_there, inline_seen
 use Rattle.congee.proofs.lemmas.owned.Ways.{same_tree}
 
 -- a node of a greater form has a slot, and takes the form below there
-module _ {P : Type 0} (s : Slab (Slot P)) (v : Nodes P) (is : nodes_in s ≡ v) (inline : ℕ) (st : IsStored s inline) (at i : ℕ) (byte : Option ℕ) (name : 257 * i + offset_of byte ≡ at) (low : IsByte byte)
+module _ {P K : Type 0} (s : Slab (Slot P K)) (v : Nodes P) (is : nodes_in s ≡ v) (inline : ℕ) (st : IsStored s inline) (at i : ℕ) (byte : Option ℕ) (name : 257 * i + offset_of byte ≡ at) (low : IsByte byte)
     (stands : ContainsKey v at) (greater : (y : Node ℕ P) → get v at ≡ Some y → form_of y ≢ N4) where
   great_own : byte ≡ None
   great_own = of byte refl
@@ -52,12 +52,12 @@ module _ {P : Type 0} (s : Slab (Slot P)) (v : Nodes P) (is : nodes_in s ≡ v) 
   pub great_slot : ContainsKey s i
   great_slot = slot_there s i (subst (λ w. ContainsKey w (257 * i)) (sym is) (subst (ContainsKey v) great_name stands))
 
-  module _ (x : Slot P) (e : get s i ≡ Some x) where
+  module _ (x : Slot P K) (e : get s i ≡ Some x) where
     great_seen : (y : Node ℕ P) → get v at ≡ Some y → slot_node i x ≡ y
     great_seen y h =
         let z : Some (slot_node i x) ≡ Some y = sym (slot_seen s i x e) ∙ (ap (λ w. get w (257 * i)) is ∙ (ap (get v) (sym great_name) ∙ h)) in cc
 
-    seen_form : (x : Slot P) → form_of (slot_node i x) ≡ form_in x
+    seen_form : (x : Slot P K) → form_of (slot_node i x) ≡ form_in x
     seen_form (Inner n) = with_form (inner_child i) n
     seen_form (Leaf n) = with_form leaf_child n
 
@@ -76,17 +76,17 @@ module _ {P : Type 0} (s : Slab (Slot P)) (v : Nodes P) (is : nodes_in s ≡ v) 
     great_memory : form_below (form_in x) ≢ N4 → (y : Node ℕ P) → get v at ≡ Some y → form_below (form_of y) ≢ N4
     great_memory ne y h q = ne (ap form_below (sym (great_form y h)) ∙ q)
 
-    module _ (x' : Slot P) where
+    module _ (x' : Slot P K) where
       updates : Updates s (with_value s i x') i (Some x')
       updates = Updates-with_value s i x' (rw e refl)
 
-      same_inline : (x x' : Slot P) → Shrunk x x' → (b : ℕ) → inline_at x' b ≡ inline_at x b
+      same_inline : (x x' : Slot P K) → Shrunk x x' → (b : ℕ) → inline_at x' b ≡ inline_at x b
       same_inline (Inner n) (Inner m) k b = ap (λ c. lone_in (map.get c b)) k.children
       same_inline (Leaf n) (Leaf m) k b = refl
       same_inline (Inner n) (Leaf m) k b = absurd k
       same_inline (Leaf n) (Inner m) k b = absurd k
 
-      same_kind : (x x' : Slot P) → Shrunk x x' → HasKind (Some x) → HasKind (Some x')
+      same_kind : (x x' : Slot P K) → Shrunk x x' → HasKind (Some x) → HasKind (Some x')
       same_kind (Inner n) (Inner m) k h = (let p : length (prefix_of m) ≡ length (prefix_of n) = ap length k.prefix in omega (arith, p, h))
       same_kind (Leaf n) (Leaf m) k h = ap length k.prefix ∙ h
       same_kind (Inner n) (Leaf m) k h = absurd k
@@ -105,7 +105,7 @@ module _ {P : Type 0} (s : Slab (Slot P)) (v : Nodes P) (is : nodes_in s ≡ v) 
       shrunk_stored : Shrunk x x' → IsStored (with_value s i x') inline
       shrunk_stored k = slot_stored s (with_value s i x') i inline (Some x') st updates (inlines k) (same_kind x x' k (subst HasKind e (st.kinds i))) refl length_kept
 
-      shrunk_node : (x x' : Slot P) → Shrunk x x' → (form_of (slot_node i x') ≡ form_below (form_of (slot_node i x))) × (prefix_of (slot_node i x') ≡ prefix_of (slot_node i x)) × (children_of (slot_node i x') ≡ children_of (slot_node i x))
+      shrunk_node : (x x' : Slot P K) → Shrunk x x' → (form_of (slot_node i x') ≡ form_below (form_of (slot_node i x))) × (prefix_of (slot_node i x') ≡ prefix_of (slot_node i x)) × (children_of (slot_node i x') ≡ children_of (slot_node i x))
       shrunk_node (Inner n) (Inner m) k = (
         with_form (inner_child i) m ∙ (k.form ∙ ap form_below (sym (with_form (inner_child i) n))),
         with_prefix (inner_child i) m ∙ (k.prefix ∙ sym (with_prefix (inner_child i) n)),

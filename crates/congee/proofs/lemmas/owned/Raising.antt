@@ -172,7 +172,7 @@ module _ {P : Type 0} (s : Nodes P) (g b p : ℕ) (r : MayLift s g b p) where
           omega (arith, one, a, c, d, f, two, h, j, l, n)
 
 -- an inner node has a slot of its own
-pub inner_has_slot : {P : Type 0} (s : Slab (Slot P)) (v : Nodes P) → nodes_in s ≡ v → (at : ℕ) (y : Node ℕ P) → get v at ≡ Some y → length (prefix_of y) < 7 → HasOwnSlot at
+pub inner_has_slot : {P K : Type 0} (s : Slab (Slot P K)) (v : Nodes P) → nodes_in s ≡ v → (at : ℕ) (y : Node ℕ P) → get v at ≡ Some y → length (prefix_of y) < 7 → HasOwnSlot at
 inner_has_slot s v is at y e short = own_none at (at / 257) (byte_of (at % 257)) name (inner_own s v is at (at / 257) (byte_of (at % 257)) name (low (at % 257) (low_offset at)) y e short)
   where
     back : (m : ℕ) → offset_of (byte_of m) ≡ m

@@ -185,7 +185,7 @@ module _ {P : Type 0} where
     others = λ k l ne. r.values k ∙ c.others k l ne;
   }
 
-module _ {P A : Type 0} (charged limit : A → ℕ) (old mid new : Arena P A) (key : List ℕ) where
+module _ {P A K : Type 0} (charged limit : A → ℕ) (old mid new : Arena P A K) (key : List ℕ) where
   -- an edit after a renaming
   module _ (r : Renamed old.nodes mid.nodes) (same : mid.allocator ≡ old.allocator) where
     edits_renamed : (before after : Option P) → Edits charged limit mid new key before after → Edits charged limit old new key before after

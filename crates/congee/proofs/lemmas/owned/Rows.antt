@@ -32,7 +32,7 @@ use Rattle.congee.specs.declared.owned.writing.Written.{Written}
 use Rattle.congee.proofs.lemmas.forms.MappedLemmas.{first_mapped, none_mapped}
 use Rattle.congee.proofs.lemmas.forms.SortedLemmas.{IsPlaceOf, is_byte, is_first, none_from}
 use Rattle.congee.proofs.lemmas.owned.Cursors.{child_there, nothing_blank, step}
-use Rattle.congee.proofs.lemmas.owned.Entering.{children_by, prefix_by}
+use Rattle.congee.proofs.lemmas.owned.Entering.{children_at, prefix_at}
 use Rattle.congee.proofs.lemmas.forms.Ranks.{rising_of}
 use Rattle.congee.proofs.lemmas.owned.Sights.{inline_found, inner_first, inner_last}
 use Rattle.congee.proofs.lemmas.owned.Standing.{standing}
@@ -91,7 +91,7 @@ name_at at slot byte name e =
 module _ {P : Type 0} where
   -- the entries of a node's places
   pub row_at : (prefix : List ℕ) (places : Places P) (n : Node ℕ (Lone P)) → node_by prefix places ≡ n → AreEntries n (entries_in places)
-  row_at prefix places n e = subst (λ m. AreEntries m (entries_in places)) e (children_by prefix places ∙ ap (λ q. mapped (child_by q) (entries_in places)) (sym (prefix_by prefix places)))
+  row_at prefix places n e = sym (children_at prefix places n e) ∙ ap (λ q. mapped (child_by q) (entries_in places)) (sym (prefix_at prefix places n e))
 
   -- an inner node with a prefix, as it was read
   module _ (s : Nodes P) (at slot first : ℕ) (n : Node ℕ (Lone P)) (sees : SeesInner s at slot n) (name : 257 * slot ≡ at)

@@ -35,27 +35,27 @@ use Rattle.congee.proofs.lemmas.owned.Slots.{get_inline, with_mapped, with_prefi
 use Rattle.congee.proofs.lemmas.owned.Stored.{slot_seen}
 
 -- a node by the parts of its name
-module _ {P : Type 0} (s : Slab (Slot P)) (v : Nodes P) (is : nodes_in s ≡ v) (at i : ℕ) (byte : Option ℕ) (name : 257 * i + offset_of byte ≡ at) where
+module _ {P K : Type 0} (s : Slab (Slot P K)) (v : Nodes P) (is : nodes_in s ≡ v) (at i : ℕ) (byte : Option ℕ) (name : 257 * i + offset_of byte ≡ at) where
   -- a leaf that lies in its parent's place under the byte is what stands under the name
   pub sees_inline : (b : ℕ) (lone : Lone P) → byte ≡ Some b → get v (257 * i + (b + 1)) ≡ Some (lone_node lone) → get v at ≡ Some (lone_node lone)
   sees_inline b lone e h =
       let n : at ≡ 257 * i + (b + 1) = sym name ∙ ap (λ b. 257 * i + offset_of b) e in
       ap (get v) n ∙ h
 
-  sees_slot : byte ≡ None → (x : Slot P) → get s i ≡ Some x → get v at ≡ Some (slot_node i x)
+  sees_slot : byte ≡ None → (x : Slot P K) → get s i ≡ Some x → get v at ≡ Some (slot_node i x)
   sees_slot e x g =
       let n : at ≡ 257 * i = sym name ∙ (ap (λ b. 257 * i + offset_of b) e ∙ omega arith) in
       ap (get v) n ∙ (ap (λ w. get w (257 * i)) (sym is) ∙ slot_seen s i x g)
 
   -- an inner node in the slot is what stands under a name without a byte
-  pub sees_inner : byte ≡ None → (x : Slot P) (n : Node ℕ (Lone P)) → get s i ≡ Some x → x ≡ Inner n → SeesInner v at i n
+  pub sees_inner : byte ≡ None → (x : Slot P K) (n : Node ℕ (Lone P)) → get s i ≡ Some x → x ≡ Inner n → SeesInner v at i n
   sees_inner e x n g q = record {
     is = sees_slot e x g ∙ ap (λ y. Some (slot_node i y)) q;
     inline = λ b lone low h. ap (λ w. get w (257 * i + (b + 1))) (sym is) ∙ (get_inline s i b low ∙ (ap (λ z. in_slot i z (suc b)) (g ∙ ap Some q) ∙ ap lone_in h));
   }
 
   -- a leaf in the slot, with the key that it would have at byte 0, is what stands under such a name
-  pub sees_leaf : byte ≡ None → (x : Slot P) (n : Node ℕ P) → get s i ≡ Some x → x ≡ Leaf n → (least : ℕ) (p : List ℕ) → length (prefix_of n) ≡ 7 → p ≡ prefix_of n
+  pub sees_leaf : byte ≡ None → (x : Slot P K) (n : Node ℕ P) → get s i ≡ Some x → x ≡ Leaf n → (least : ℕ) (p : List ℕ) → length (prefix_of n) ≡ 7 → p ≡ prefix_of n
       → fits p (key_bytes least) ≡ true → get_or (key_bytes least) 7 0 ≡ 0 → SeesLeaf v at least n
   sees_leaf e x n g q least p seven prefix begins ends = record {
     is = sees_slot e x g ∙ ap (λ y. Some (slot_node i y)) q;
@@ -65,7 +65,7 @@ module _ {P : Type 0} (s : Slab (Slot P)) (v : Nodes P) (is : nodes_in s ≡ v) 
   }
 
 -- a leaf in a slot has a prefix of seven bytes
-pub leaf_seven : {P : Type 0} (s : Slab (Slot P)) (inline i : ℕ) → IsStored s inline → (x : Slot P) (n : Node ℕ P) → get s i ≡ Some x → x ≡ Leaf n → length (prefix_of n) ≡ 7
+pub leaf_seven : {P K : Type 0} (s : Slab (Slot P K)) (inline i : ℕ) → IsStored s inline → (x : Slot P K) (n : Node ℕ P) → get s i ≡ Some x → x ≡ Leaf n → length (prefix_of n) ≡ 7
 leaf_seven s inline i k x n g q = subst HasKind (g ∙ ap Some q) (k.kinds i)
 
 -- the first child from a byte on, as the tree sees it

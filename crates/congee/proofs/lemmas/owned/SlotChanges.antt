@@ -24,13 +24,13 @@ use Rattle.congee.proofs.lemmas.owned.Slots.{get_inline, with_prefix, with_mappe
 use Rattle.congee.proofs.lemmas.owned.Stored.{slot_seen, named_slot, named_seen, inline_seen, byte_beside}
 
 -- the node of this name is the inner node in a slot
-pub record AtInner {P : Type 0} (s : Slab (Slot P)) (v : Nodes P) (at i : ℕ) (y : Node ℕ P) : Type 0 where
+pub record AtInner {P K : Type 0} (s : Slab (Slot P K)) (v : Nodes P) (at i : ℕ) (y : Node ℕ P) : Type 0 where
   pub node : Node ℕ (Lone P)
   pub stands : get s i ≡ Some (Inner node)
   pub name : at ≡ 257 * i
   pub seen : with_children (inner_child i) node ≡ y
 
-module _ {P : Type 0} (s : Slab (Slot P)) (v : Nodes P) (is : nodes_in s ≡ v) (at i : ℕ) (byte : Option ℕ) (name : 257 * i + offset_of byte ≡ at) (low : IsByte byte) where
+module _ {P K : Type 0} (s : Slab (Slot P K)) (v : Nodes P) (is : nodes_in s ≡ v) (at i : ℕ) (byte : Option ℕ) (name : 257 * i + offset_of byte ≡ at) (low : IsByte byte) where
   -- a node with a prefix of less than seven bytes has a slot
   pub inner_own : (y : Node ℕ P) → get v at ≡ Some y → length (prefix_of y) < 7 → byte ≡ None
   inner_own y h short = of byte refl
@@ -52,7 +52,7 @@ module _ {P : Type 0} (s : Slab (Slot P)) (v : Nodes P) (is : nodes_in s ≡ v) 
       let own = inner_own y h short in
       of (get s i) refl (named_slot s v is at i byte name own (let z : ContainsKey v at = rw h refl in z)) own (kinds i)
     where
-      of : (o : Option (Slot P)) → get s i ≡ o → IsSome (get s i) → byte ≡ None → HasKind (get s i) → AtInner s v at i y
+      of : (o : Option (Slot P K)) → get s i ≡ o → IsSome (get s i) → byte ≡ None → HasKind (get s i) → AtInner s v at i y
       of None e there own k = absurd (cc (subst IsSome e there))
       of (Some (Inner n)) e there own k = record { node = n; stands = e; name = own_name own; seen = named_seen s v is at i byte name own (Inner n) y e h }
       of (Some (Leaf n)) e there own k =
@@ -61,7 +61,7 @@ module _ {P : Type 0} (s : Slab (Slot P)) (v : Nodes P) (is : nodes_in s ≡ v) 
           let p : length (prefix_of y) ≡ length (prefix_of n) = ap (λ w. length (prefix_of w)) (sym z) ∙ ap length (with_prefix leaf_child n) in
           absurd (omega (arith, l, p, short))
 
-module _ {P : Type 0} (s : Slab (Slot P)) (v : Nodes P) (at i : ℕ) (y : Node ℕ P) (k : AtInner s v at i y) (x : Slot P) (e : get s i ≡ Some x) where
+module _ {P K : Type 0} (s : Slab (Slot P K)) (v : Nodes P) (at i : ℕ) (y : Node ℕ P) (k : AtInner s v at i y) (x : Slot P K) (e : get s i ≡ Some x) where
   -- what stands in the slot of an inner node is that node
   pub inner_slot : x ≡ Inner k.node
   inner_slot = let z : Some x ≡ Some (Inner k.node) = sym e ∙ k.stands in cc
@@ -81,23 +81,23 @@ module _ {P : Type 0} (s : Slab (Slot P)) (v : Nodes P) (at i : ℕ) (y : Node �
   inner_room n = ap full_in inner_slot ∙ (sym (with_full (inner_child i) k.node) ∙ (ap is_full_of k.seen ∙ n))
 
 -- what an inner node became
-pub record InnerAfter {P : Type 0} (n : Node ℕ (Lone P)) (x' : Slot P) (m : map.FinMap nat_cmp (Child ℕ (Lone P))) : Type 0 where
+pub record InnerAfter {P K : Type 0} (n : Node ℕ (Lone P)) (x' : Slot P K) (m : map.FinMap nat_cmp (Child ℕ (Lone P))) : Type 0 where
   pub node : Node ℕ (Lone P)
   pub is : x' ≡ Inner node
   pub becomes : Becomes n node m
 
 -- an inner node whose children were changed is one with the changed children
-pub inner_after : {P : Type 0} (x x' : Slot P) (n : Node ℕ (Lone P)) (f : map.FinMap nat_cmp (Child ℕ (Lone P)) → map.FinMap nat_cmp (Child ℕ (Lone P))) → x ≡ Inner n → InnerBecomes x x' f → InnerAfter n x' (f (children_of n))
-inner_after x x' n f e b = of x' (subst (λ w. InnerBecomes w x' f) e b)
+pub inner_after : {P K : Type 0} (x x' : Slot P K) (n : Node ℕ (Lone P)) (f : map.FinMap nat_cmp (Child ℕ (Lone P)) → map.FinMap nat_cmp (Child ℕ (Lone P))) → x ≡ Inner n → InnerBecomes x x' f → InnerAfter n x' (f (children_of n))
+inner_after {P} {K} x x' n f e b = of x' (subst (λ w. InnerBecomes w x' f) e b)
   where
-    of : (z : Slot _) → InnerBecomes (Inner n) z f → InnerAfter n z (f (children_of n))
+    of : (z : Slot P K) → InnerBecomes (Inner n) z f → InnerAfter n z (f (children_of n))
     of (Inner m) b = record { node = m; is = refl; becomes = b }
     of (Leaf m) b = absurd b
 
 -- one byte of an inner node changed
-module _ {P : Type 0} (s : Slab (Slot P)) (i : ℕ) (n n' : Node ℕ (Lone P)) (b : ℕ) (stands : get s i ≡ Some (Inner n)) (low : b < 256) (prefix : prefix_of n' ≡ prefix_of n)
+module _ {P K : Type 0} (s : Slab (Slot P K)) (i : ℕ) (n n' : Node ℕ (Lone P)) (b : ℕ) (stands : get s i ≡ Some (Inner n)) (low : b < 256) (prefix : prefix_of n' ≡ prefix_of n)
     (same : (q : ℕ) → q ≢ b → map.get (children_of n') q ≡ map.get (children_of n) q) where
-  abbrev after : Slab (Slot P)
+  abbrev after : Slab (Slot P K)
   after = with_value s i (Inner n')
 
   updates : Updates s after i (Some (Inner n'))

@@ -29,22 +29,22 @@ use Rattle.congee.proofs.lemmas.owned.Slots.{with_prefix, with_mapped, with_full
 use Rattle.congee.proofs.lemmas.owned.Stored.{slot_seen, slot_there, leaf_beside}
 
 -- the node of this name is the leaf in a slot
-record AtLeaf {P : Type 0} (s : Slab (Slot P)) (v : Nodes P) (at i : ℕ) (y : Node ℕ P) : Type 0 where
+record AtLeaf {P K : Type 0} (s : Slab (Slot P K)) (v : Nodes P) (at i : ℕ) (y : Node ℕ P) : Type 0 where
   pub node : Node ℕ P
   pub stands : get s i ≡ Some (Leaf node)
   pub name : at ≡ 257 * i
   pub seen : with_children leaf_child node ≡ y
 
 -- what a leaf became
-record LeafAfter {P : Type 0} (n : Node ℕ P) (x' : Slot P) (m : map.FinMap nat_cmp (Child ℕ P)) : Type 0 where
+record LeafAfter {P K : Type 0} (n : Node ℕ P) (x' : Slot P K) (m : map.FinMap nat_cmp (Child ℕ P)) : Type 0 where
   pub node : Node ℕ P
   pub is : x' ≡ Leaf node
   pub becomes : Becomes n node m
 
-leaf_after : {P : Type 0} (x x' : Slot P) (n : Node ℕ P) (f : map.FinMap nat_cmp (Child ℕ P) → map.FinMap nat_cmp (Child ℕ P)) → x ≡ Leaf n → LeafBecomes x x' f → LeafAfter n x' (f (children_of n))
-leaf_after x x' n f e b = of x' (subst (λ w. LeafBecomes w x' f) e b)
+leaf_after : {P K : Type 0} (x x' : Slot P K) (n : Node ℕ P) (f : map.FinMap nat_cmp (Child ℕ P) → map.FinMap nat_cmp (Child ℕ P)) → x ≡ Leaf n → LeafBecomes x x' f → LeafAfter n x' (f (children_of n))
+leaf_after {P} {K} x x' n f e b = of x' (subst (λ w. LeafBecomes w x' f) e b)
   where
-    of : (z : Slot _) → LeafBecomes (Leaf n) z f → LeafAfter n z (f (children_of n))
+    of : (z : Slot P K) → LeafBecomes (Leaf n) z f → LeafAfter n z (f (children_of n))
     of (Leaf m) b = record { node = m; is = refl; becomes = b }
     of (Inner m) b = absurd b
 
@@ -60,7 +60,7 @@ no_value i b (Some Blank) h = h
 no_value i b (Some (Sub c)) h = h
 no_value i b (Some (Value w)) h = h
 
-module _ {P : Type 0} (s : Slab (Slot P)) (v : Nodes P) (is : nodes_in s ≡ v) (inline : ℕ) (st : IsStored s inline) (at i : ℕ) (byte : Option ℕ) (name : 257 * i + offset_of byte ≡ at) (low : IsByte byte)
+module _ {P K : Type 0} (s : Slab (Slot P K)) (v : Nodes P) (is : nodes_in s ≡ v) (inline : ℕ) (st : IsStored s inline) (at i : ℕ) (byte : Option ℕ) (name : 257 * i + offset_of byte ≡ at) (low : IsByte byte)
     (own : HasOwnSlot at) (stands : ContainsKey v at) where
   at_is : at ≡ 257 * i
   at_is = own_slot at i byte name low own
@@ -69,28 +69,28 @@ module _ {P : Type 0} (s : Slab (Slot P)) (v : Nodes P) (is : nodes_in s ≡ v) 
   pub leaf_slot : ContainsKey s i
   leaf_slot = slot_there s i (subst (λ w. ContainsKey w (257 * i)) (sym is) (subst (ContainsKey v) at_is stands))
 
-  seen_at : (x : Slot P) → get s i ≡ Some x → (y : Node ℕ P) → get v at ≡ Some y → slot_node i x ≡ y
+  seen_at : (x : Slot P K) → get s i ≡ Some x → (y : Node ℕ P) → get v at ≡ Some y → slot_node i x ≡ y
   seen_at x e y h =
       let z : Some (slot_node i x) ≡ Some y = sym (slot_seen s i x e) ∙ (ap (λ w. get w (257 * i)) is ∙ (ap (get v) (sym at_is) ∙ h)) in cc
 
   there : (y : Node ℕ P) × (get v at ≡ Some y)
   there = node_at v at stands
 
-  at_seven : (x : Slot P) → get s i ≡ Some x → (y : Node ℕ P) → get v at ≡ Some y → length (prefix_of y) ≡ 7 → AtLeaf s v at i y
+  at_seven : (x : Slot P K) → get s i ≡ Some x → (y : Node ℕ P) → get v at ≡ Some y → length (prefix_of y) ≡ 7 → AtLeaf s v at i y
   at_seven (Leaf n) e y h seven = record { node = n; stands = e; name = at_is; seen = seen_at (Leaf n) e y h }
   at_seven (Inner n) e y h seven =
       let l : length (prefix_of n) < 7 = subst HasKind e (st.kinds i) in
       let p : length (prefix_of y) ≡ length (prefix_of n) = ap (λ w. length (prefix_of w)) (sym (seen_at (Inner n) e y h)) ∙ ap length (with_prefix (inner_child i) n) in
       absurd (omega (arith, l, p, seven))
 
-  at_value : (x : Slot P) → get s i ≡ Some x → (y : Node ℕ P) → get v at ≡ Some y → (b : ℕ) → IsValue (map.get (children_of y) b) → AtLeaf s v at i y
+  at_value : (x : Slot P K) → get s i ≡ Some x → (y : Node ℕ P) → get v at ≡ Some y → (b : ℕ) → IsValue (map.get (children_of y) b) → AtLeaf s v at i y
   at_value (Leaf n) e y h b k = record { node = n; stands = e; name = at_is; seen = seen_at (Leaf n) e y h }
   at_value (Inner n) e y h b k =
       let g : map.get (children_of y) b ≡ option_map (inner_child i b) (map.get (children_of n) b) =
       ap (λ w. map.get (children_of w) b) (sym (seen_at (Inner n) e y h)) ∙ (ap (λ m. map.get m b) (with_mapped (inner_child i) n) ∙ get_mapped (inner_child i) (children_of n) b) in
       absurd (no_value i b (map.get (children_of n) b) (subst IsValue g k))
 
-  module _ (x : Slot P) (e : get s i ≡ Some x) where
+  module _ (x : Slot P K) (e : get s i ≡ Some x) where
     slot_is : (y : Node ℕ P) (k : AtLeaf s v at i y) → x ≡ Leaf k.node
     slot_is y k = let z : Some x ≡ Some (Leaf k.node) = sym e ∙ k.stands in cc
 
@@ -129,7 +129,7 @@ module _ {P : Type 0} (s : Slab (Slot P)) (v : Nodes P) (is : nodes_in s ≡ v) 
         sym (ap (λ m. map.get m b) (sym (children_seen y k)) ∙ some_mapped leaf_child (children_of k.node) b (Value value) here)
 
     -- what the slab is afterwards
-    module _ (x' : Slot P) where
+    module _ (x' : Slot P K) where
       leaf_updates : (n n' : Node ℕ P) → x ≡ Leaf n → x' ≡ Leaf n' → Updates (nodes_in s) (nodes_in (with_value s i x')) (257 * i) (Some (with_children leaf_child n'))
       leaf_updates n n' q q' =
           let u : Updates s (with_value s i x') i (Some x') = Updates-with_value s i x' (rw e refl) in

@@ -99,7 +99,7 @@ lone_leaf lone key e = record {
 }
 
 -- a leaf that was found in its parent's place stands under its name
-pub inline_stands : {P : Type 0} (s : Slab (Slot P)) (v : Nodes P) (is : nodes_in s ≡ v) (i b key : ℕ) (x : Slot P) (n : Node ℕ (Lone P)) (lone : Lone P) → b < 256
+pub inline_stands : {P K : Type 0} (s : Slab (Slot P K)) (v : Nodes P) (is : nodes_in s ≡ v) (i b key : ℕ) (x : Slot P K) (n : Node ℕ (Lone P)) (lone : Lone P) → b < 256
     → get s i ≡ Some x → x ≡ Inner n → map.get (children_of n) b ≡ Some (Value lone) → lone.key ≡ key_bytes key → StandsWith v (257 * i + (b + 1)) key lone.value
 inline_stands s v is i b key x n lone low e q h k = record {
   leaf = lone_node lone;
@@ -107,7 +107,7 @@ inline_stands s v is i b key x n lone low e q h k = record {
   has = lone_leaf lone (key_bytes key) k;
 }
 
-module _ {P : Type 0} (s : Slab (Slot P)) (v : Nodes P) (is : nodes_in s ≡ v) (at i b : ℕ) (y : Node ℕ P) (k : AtInner s v at i y) (low : b < 256) (n' : Node ℕ (Lone P)) where
+module _ {P K : Type 0} (s : Slab (Slot P K)) (v : Nodes P) (is : nodes_in s ≡ v) (at i b : ℕ) (y : Node ℕ P) (k : AtInner s v at i y) (low : b < 256) (n' : Node ℕ (Lone P)) where
   abbrev new : Nodes P
   new = nodes_in (with_value s i (Inner n'))
 
@@ -233,7 +233,7 @@ module _ {P : Type 0} (s : Slab (Slot P)) (v : Nodes P) (is : nodes_in s ≡ v) 
     }
 
 -- so many more leaves may come into their parents' places
-pub spare_room : {P : Type 0} (s : Slab (Slot P)) (v : Nodes P) → nodes_in s ≡ v → (inline : ℕ) → IsStored s inline → (n : ℕ) → HasRoomFor v n → slab_len s + inline + n ≤ s.capacity
+pub spare_room : {P K : Type 0} (s : Slab (Slot P K)) (v : Nodes P) → nodes_in s ≡ v → (inline : ℕ) → IsStored s inline → (n : ℕ) → HasRoomFor v n → slab_len s + inline + n ≤ s.capacity
 unfolding nodes_in
 spare_room s v is inline st n r =
     let a : slab_len (nodes_in s) ≡ slab_len v = ap slab_len is in
@@ -241,12 +241,12 @@ spare_room s v is inline st n r =
     let k = st.counted in omega (arith, a, c, k, r)
 
 -- a change of one slot leaves the room
-pub same_room : {P : Type 0} (s : Slab (Slot P)) (v : Nodes P) → nodes_in s ≡ v → (i : ℕ) (x' : Slot P) → (nodes_in (with_value s i x')).capacity ≡ v.capacity
+pub same_room : {P K : Type 0} (s : Slab (Slot P K)) (v : Nodes P) → nodes_in s ≡ v → (i : ℕ) (x' : Slot P K) → (nodes_in (with_value s i x')).capacity ≡ v.capacity
 unfolding nodes_in
 same_room s v is i x' = ap (λ w. w.capacity) is
 
 -- slots with the same room give the nodes the same
-pub same_view_room : {P : Type 0} (s s' : Slab (Slot P)) (v : Nodes P) → nodes_in s ≡ v → s'.capacity ≡ s.capacity → (nodes_in s').capacity ≡ v.capacity
+pub same_view_room : {P K : Type 0} (s s' : Slab (Slot P K)) (v : Nodes P) → nodes_in s ≡ v → s'.capacity ≡ s.capacity → (nodes_in s').capacity ≡ v.capacity
 unfolding nodes_in
 same_view_room s s' v is e = e ∙ ap (λ w. w.capacity) is
 
@@ -256,7 +256,7 @@ own_slot at i None e l o = omega (arith, e)
 own_slot at i (Some b) e l o = absurd (omega (arith, e, l, o))
 
 -- what an operation on an inner node needs, and what it leaves
-module _ {P : Type 0} (s : Slab (Slot P)) (v : Nodes P) (is : nodes_in s ≡ v) (inline : ℕ) (st : IsStored s inline) (at i : ℕ) (byte : Option ℕ) (name : 257 * i + offset_of byte ≡ at) (fits : IsByte byte)
+module _ {P K : Type 0} (s : Slab (Slot P K)) (v : Nodes P) (is : nodes_in s ≡ v) (inline : ℕ) (st : IsStored s inline) (at i : ℕ) (byte : Option ℕ) (name : 257 * i + offset_of byte ≡ at) (fits : IsByte byte)
     (stands : ContainsKey v at) (inner : (y : Node ℕ P) → get v at ≡ Some y → length (prefix_of y) < 7) where
   at_node : (y : Node ℕ P) → get v at ≡ Some y → AtInner s v at i y
   at_node y h = at_inner s v is at i byte name fits st.kinds y h (inner y h)
@@ -269,26 +269,26 @@ module _ {P : Type 0} (s : Slab (Slot P)) (v : Nodes P) (is : nodes_in s ≡ v) 
   has_slot = rw (at_node there.0 there.1).stands refl
 
   -- the slot has an inner node
-  pub slot_inner : (x : Slot P) → get s i ≡ Some x → IsInner x
+  pub slot_inner : (x : Slot P K) → get s i ≡ Some x → IsInner x
   slot_inner x e = is_inner s v at i there.0 (at_node there.0 there.1) x e
 
   -- a byte at which the tree sees nothing has nothing in the slot
-  pub slot_absent : (x : Slot P) → get s i ≡ Some x → (b : ℕ) → ((y : Node ℕ P) → get v at ≡ Some y → map.get (children_of y) b ≡ None) → inner_get x b ≡ None
+  pub slot_absent : (x : Slot P K) → get s i ≡ Some x → (b : ℕ) → ((y : Node ℕ P) → get v at ≡ Some y → map.get (children_of y) b ≡ None) → inner_get x b ≡ None
   slot_absent x e b h = inner_absent s v at i there.0 (at_node there.0 there.1) x e b (h there.0 there.1)
 
   -- a node that isn't full for the tree isn't full in its slot
-  pub slot_room : (x : Slot P) → get s i ≡ Some x → ((y : Node ℕ P) → get v at ≡ Some y → is_full_of y ≡ false) → full_in x ≡ false
+  pub slot_room : (x : Slot P K) → get s i ≡ Some x → ((y : Node ℕ P) → get v at ≡ Some y → is_full_of y ≡ false) → full_in x ≡ false
   slot_room x e h = inner_room s v at i there.0 (at_node there.0 there.1) x e (h there.0 there.1)
 
   -- the first byte of the keys under a byte
-  pub slot_first : (x : Slot P) → get s i ≡ Some x → (b first : ℕ) → ((y : Node ℕ P) → get v at ≡ Some y → first ≡ first_byte (prefix_of y) b) → first ≡ first_byte (prefix_in x) b
+  pub slot_first : (x : Slot P K) → get s i ≡ Some x → (b first : ℕ) → ((y : Node ℕ P) → get v at ≡ Some y → first ≡ first_byte (prefix_of y) b) → first ≡ first_byte (prefix_in x) b
   slot_first x e b first h =
       let k = at_node there.0 there.1 in
       let p : prefix_of there.0 ≡ prefix_in x = ap prefix_of (sym k.seen) ∙ (with_prefix (inner_child i) k.node ∙ ap prefix_in (sym (inner_slot s v at i there.0 k x e))) in
       h there.0 there.1 ∙ ap (λ p. first_byte p b) p
 
   -- the nodes with another one in this slot have the room that they had
-  pub same_capacity : (x x' : Slot P) → (nodes_in (with_value s i x')).capacity ≡ v.capacity
+  pub same_capacity : (x x' : Slot P K) → (nodes_in (with_value s i x')).capacity ≡ v.capacity
   unfolding nodes_in
   same_capacity x x' = ap (λ w. w.capacity) is
 
@@ -300,7 +300,7 @@ module _ {P : Type 0} (s : Slab (Slot P)) (v : Nodes P) (is : nodes_in s ≡ v) 
       let seen = ap (λ w. get w (257 * i + (b + 1))) (sym is) ∙ (lone_before s i k.node k.node b k.stands low refl (λ r ne. refl) ∙ ap lone_in l.here) in
       rw seen refl
 
-  module _ (x x' : Slot P) (e : get s i ≡ Some x) (b : ℕ) (low : b < 256) where
+  module _ (x x' : Slot P K) (e : get s i ≡ Some x) (b : ℕ) (low : b < 256) where
     kept : (y : Node ℕ P) → (k : AtInner s v at i y) → x ≡ Inner k.node
     kept y k = inner_slot s v at i y k x e
 

@@ -78,7 +78,7 @@ value_byte lone b h = elim (same_or_not b (get_or lone.key 7 0)) [
   | inr ne ↦ (let n : map.get (children_of (lone_node lone)) b ≡ None = insert_beside map.empty (get_or lone.key 7 0) (Value lone.value) b ne ∙ map.get-empty _ b in absurd (subst IsValue n h))
 ]
 
-module _ {P : Type 0} (s : Slab (Slot P)) (v : Nodes P) (is : nodes_in s ≡ v) (inline : ℕ) (st : IsStored s inline) (at i : ℕ) (byte : Option ℕ) (name : 257 * i + offset_of byte ≡ at) (fits : IsByte byte)
+module _ {P K : Type 0} (s : Slab (Slot P K)) (v : Nodes P) (is : nodes_in s ≡ v) (inline : ℕ) (st : IsStored s inline) (at i : ℕ) (byte : Option ℕ) (name : 257 * i + offset_of byte ≡ at) (fits : IsByte byte)
     (place : ℕ) (placed : byte ≡ Some place) (stands : ContainsKey v at) (b : ℕ) (present : (y : Node ℕ P) → get v at ≡ Some y → IsValue (map.get (children_of y) b)) where
   at_is : at ≡ 257 * i + (place + 1)
   at_is = sym name ∙ ap (λ o. 257 * i + offset_of o) placed
@@ -107,7 +107,7 @@ module _ {P : Type 0} (s : Slab (Slot P)) (v : Nodes P) (is : nodes_in s ≡ v) 
         let c : map.get (children_of (lone_node lone)) b ≡ Some (Value lone.value) = ap (map.get (children_of (lone_node lone))) (same_byte y h) ∙ insert_at map.empty k (Value lone.value) in
         sym c ∙ ap (λ n. map.get (children_of n) b) (same_node y h)
 
-  module _ (x : Slot P) (e : get s i ≡ Some x) where
+  module _ (x : Slot P K) (e : get s i ≡ Some x) where
     is_slot : x ≡ Inner it.node
     is_slot = let z : Some x ≡ Some (Inner it.node) = sym e ∙ it.stands in cc
 
@@ -123,7 +123,7 @@ module _ {P : Type 0} (s : Slab (Slot P)) (v : Nodes P) (is : nodes_in s ≡ v) 
     inline_reads lone read = lone_seen s v is i place it x lone e read
 
     -- the first byte of the keys under that byte is the same by each reading of the slot's node
-    pub inline_first : (z : Slot P) → get s i ≡ Some z → (first : ℕ) → first ≡ first_byte (prefix_in z) place → first ≡ first_byte (prefix_in x) place
+    pub inline_first : (z : Slot P K) → get s i ≡ Some z → (first : ℕ) → first ≡ first_byte (prefix_in z) place → first ≡ first_byte (prefix_in x) place
     inline_first z h first f = let w : Some z ≡ Some x = sym h ∙ e in let q : z ≡ x = cc in f ∙ ap (λ y. first_byte (prefix_in y) place) q
 
     -- the slot has something under the leaf's byte
@@ -139,7 +139,7 @@ module _ {P : Type 0} (s : Slab (Slot P)) (v : Nodes P) (is : nodes_in s ≡ v) 
     inline_was old r read q y h = was_there old (lone_seen s v is i place it x old e (read ∙ ap Some q)) y h
 
     -- another leaf for the key lies there then
-    module _ (lone new : Lone P) (seen : get v (257 * i + (place + 1)) ≡ Some (lone_node lone)) (key : new.key ≡ lone.key) (x' : Slot P) (ib : InnerBecomes x x' (λ m. map.insert m place (Value new))) where
+    module _ (lone new : Lone P) (seen : get v (257 * i + (place + 1)) ≡ Some (lone_node lone)) (key : new.key ≡ lone.key) (x' : Slot P K) (ib : InnerBecomes x x' (λ m. map.insert m place (Value new))) where
       after : InnerAfter it.node x' (map.insert (children_of it.node) place (Value new))
       after = inner_after x x' it.node (λ m. map.insert m place (Value new)) is_slot ib
 

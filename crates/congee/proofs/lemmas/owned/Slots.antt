@@ -27,7 +27,7 @@ in_offset slot name e = omega (arith, e)
 pub low_offset : (name : ℕ) → name % 257 < 257
 low_offset name = omega arith
 
-module _ {P : Type 0} (s : Slab (Slot P)) where
+module _ {P K : Type 0} (s : Slab (Slot P K)) where
   -- every name has the node of its slot or place
   pub get_named : (name : ℕ) → get (nodes_in s) name ≡ node_named s.slots name
   unfolding nodes_in
@@ -53,9 +53,9 @@ module _ {P : Type 0} (s : Slab (Slot P)) where
   pub get_inline : (slot byte : ℕ) → byte < 256 → get (nodes_in s) (inline_name slot byte) ≡ in_slot slot (get s slot) (suc byte)
   get_inline slot byte l = ap (λ o. get (nodes_in s) (257 * slot + o)) (let z : byte + 1 ≡ suc byte = omega arith in z) ∙ get_offset slot (suc byte) (omega (arith, l))
 
-module _ {P : Type 0} where
+module _ {P K : Type 0} where
   -- names of other slots
-  pub beside_slot : (s s' : Slab (Slot P)) (slot : ℕ) (o : Option (Slot P)) → Updates s s' slot o → (name : ℕ) → name / 257 ≢ slot
+  pub beside_slot : (s s' : Slab (Slot P K)) (slot : ℕ) (o : Option (Slot P K)) → Updates s s' slot o → (name : ℕ) → name / 257 ≢ slot
       → get (nodes_in s') name ≡ get (nodes_in s) name
   beside_slot s s' slot o u name ne =
       get_named s' name ∙ (ap (λ x. in_slot (name / 257) x (name % 257)) (u.others (name / 257) ne) ∙ sym (get_named s name))

@@ -55,7 +55,7 @@ no_lone Blank ne = refl
 no_lone (Sub slot) ne = refl
 no_lone (Value lone) ne = absurd (ne lone refl)
 
-module _ {P : Type 0} (s : Slab (Slot P)) (v : Nodes P) (is : nodes_in s ≡ v) (inline : ℕ) (st : IsStored s inline) (at i : ℕ) (byte : Option ℕ) (name : 257 * i + offset_of byte ≡ at) (fits : IsByte byte)
+module _ {P K : Type 0} (s : Slab (Slot P K)) (v : Nodes P) (is : nodes_in s ≡ v) (inline : ℕ) (st : IsStored s inline) (at i : ℕ) (byte : Option ℕ) (name : 257 * i + offset_of byte ≡ at) (fits : IsByte byte)
     (stands : ContainsKey v at) (inner : (y : Node ℕ P) → get v at ≡ Some y → length (prefix_of y) < 7) (alone : (y : Node ℕ P) → get v at ≡ Some y → HasOneNode y) where
   there : (y : Node ℕ P) × (get v at ≡ Some y)
   there = node_at v at stands
@@ -66,7 +66,7 @@ module _ {P : Type 0} (s : Slab (Slot P)) (v : Nodes P) (is : nodes_in s ≡ v) 
   here : AtInner s v at i there.0
   here = at_inner s v is at i byte name fits st.kinds there.0 there.1 (inner there.0 there.1)
 
-  module _ (x : Slot P) (e : get s i ≡ Some x) where
+  module _ (x : Slot P K) (e : get s i ≡ Some x) where
     is_here : x ≡ Inner here.node
     is_here = inner_slot s v at i there.0 here x e
 
@@ -75,7 +75,7 @@ module _ {P : Type 0} (s : Slab (Slot P)) (v : Nodes P) (is : nodes_in s ≡ v) 
     only_len = ap len_in is_here ∙ (sym (with_len (inner_child i) here.node) ∙ (ap (λ n. map.len (children_of n)) here.seen ∙ (ap map.len hangs.children ∙ len_one hangs.byte (Sub hangs.child))))
 
     -- what it had
-    module _ (c : Child ℕ (Lone P)) (has : HasOnly x c) (s' : Slab (Slot P)) (u : Updates s s' i None) where
+    module _ (c : Child ℕ (Lone P)) (has : HasOnly x c) (s' : Slab (Slot P K)) (u : Updates s s' i None) where
       only : IsOnly (children_of here.node) c
       only = subst (λ w. HasOnly w c) is_here has
 
@@ -93,7 +93,7 @@ module _ {P : Type 0} (s : Slab (Slot P)) (v : Nodes P) (is : nodes_in s ≡ v) 
 
       -- a node with a slot of its own
       module _ (plain : lone_in (Some c) ≡ None) where
-        none : (b : ℕ) → in_slot {P = P} i None (suc b) ≡ in_slot i (get s i) (suc b)
+        none : (b : ℕ) → in_slot {P = P} {K = K} i None (suc b) ≡ in_slot i (get s i) (suc b)
         none b = elim (same_or_not b only.byte) [
           | inl q ↦ (let Q : ℕ → Type 0 = λ z. None ≡ in_slot i (get s i) (suc z) in subst Q (sym q) (sym (lies ∙ plain)))
           | inr ne ↦ sym (beside b ne)

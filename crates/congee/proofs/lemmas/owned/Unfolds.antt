@@ -50,7 +50,7 @@ less_not_full N256 n l = refl
 
 module _ {P : Type 0} where
   -- there is room for the nodes that stand
-  pub fits_room : (s : Slab (Slot P)) (v : Nodes P) → nodes_in s ≡ v → (inline : ℕ) → IsStored s inline → HasRoomFor v 0
+  pub fits_room : {K : Type 0} (s : Slab (Slot P K)) (v : Nodes P) → nodes_in s ≡ v → (inline : ℕ) → IsStored s inline → HasRoomFor v 0
   unfolding nodes_in
   fits_room s v is inline st =
       let a : slab_len (nodes_in s) ≡ slab_len v = ap slab_len is in
@@ -77,7 +77,7 @@ module _ {P : Type 0} where
       let l = loses_len v v1 at b y.0 value y.1 (takes y.0 y.1) in
       omega (arith, l, room, cap)
 
-module _ {P : Type 0} (s : Slab (Slot P)) (v : Nodes P) (is : nodes_in s ≡ v) (inline : ℕ) (st : IsStored s inline) (at i : ℕ) (byte : Option ℕ) (name : 257 * i + offset_of byte ≡ at) (fits : IsByte byte)
+module _ {P K : Type 0} (s : Slab (Slot P K)) (v : Nodes P) (is : nodes_in s ≡ v) (inline : ℕ) (st : IsStored s inline) (at i : ℕ) (byte : Option ℕ) (name : 257 * i + offset_of byte ≡ at) (fits : IsByte byte)
     (stands : ContainsKey v at) (inner : (y : Node ℕ P) → get v at ≡ Some y → length (prefix_of y) < 7) (b : ℕ) (low : b < 256) (has : (y : Node ℕ P) → get v at ≡ Some y → HasInline (map.get (children_of y) b)) where
   there : (y : Node ℕ P) × (get v at ≡ Some y)
   there = node_at v at stands
@@ -92,11 +92,11 @@ module _ {P : Type 0} (s : Slab (Slot P)) (v : Nodes P) (is : nodes_in s ≡ v) 
   lone_here = lone_in_view s v is at i byte name b low (inline_seen_there s v is inline st at i byte name fits stands inner b low has)
 
   -- the slot has a value under the leaf's byte
-  pub inline_value : (x : Slot P) → get s i ≡ Some x → IsValue (inner_get x b)
+  pub inline_value : (x : Slot P K) → get s i ≡ Some x → IsValue (inner_get x b)
   inline_value x e = lone_value s i b lone_here x e
 
   -- the leaf went and comes again
-  module _ (x : Slot P) (e : get s i ≡ Some x) (lone : Lone P) (read : inner_get x b ≡ Some (Value lone)) (v1 v2 : Nodes P) (value : P) (to : ℕ) (takes : (y : Node ℕ P) → get v at ≡ Some y → LosesLeaf v v1 at y b value)
+  module _ (x : Slot P K) (e : get s i ≡ Some x) (lone : Lone P) (read : inner_get x b ≡ Some (Value lone)) (v1 v2 : Nodes P) (value : P) (to : ℕ) (takes : (y : Node ℕ P) → get v at ≡ Some y → LosesLeaf v v1 at y b value)
       (made : MakesLeaf v1 v2 to lone.key value) where
     leaf_is : (y : Node ℕ P) (h : get v at ≡ Some y) → (takes y h).leaf ≡ 257 * i + (b + 1)
     leaf_is y h = let k = takes y h in same_sub (map.get (children_of y) b) k.leaf (257 * i + (b + 1)) k.child (inline_child y h)

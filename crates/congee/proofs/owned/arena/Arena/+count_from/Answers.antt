@@ -65,7 +65,7 @@ count_from-requires g t c κs within =
     let smaller : 8 - length (heap_of s c.in-Node.below).prefix < 8 - length (heap_of s c.args.at).prefix = omega (arith, below.1.0, below.1.1) in
     let level : c.args.level + 1 ≤ length (heap_of s c.in-Node.below).prefix = omega (arith, below.1.0, c.requires.level) in
     let opened : c.args.level + 1 ≤ vec_len c.loop-byte.stats.levels = let o = (c.loop-byte.invariant x.node x.is).0.opened in omega (arith, o) in
-    (search rules, (within.0, (within.1, (c.requires.tree, (below.0, (level, opened))))))
+    (search rules, (within.0, (within.1.0, (within.1.1, (c.requires.tree, (below.0, (level, opened)))))))
 
 pub loop-byte-smaller : goal.loop-byte-smaller
 loop-byte-smaller g t c =

@@ -1,50 +1,55 @@
-//! A node as a slot keeps it: beside it stands a copy of its prefix.
+//! A leaf with a slot of its own: its prefix, and its values by their bytes.
 ghost use Rattle.std.specs.Prelude.{◌≡◌, ◌≢◌, ◌<◌, ◌≤◌, ℕ, length, false, None, Some, IsSome, MatchOption, OnOk, OnErr};
-ghost use Rattle.std.specs.Option.{option_copied};
+ghost use Rattle.std.specs.Option.{option_copied, option_map};
 ghost use Rattle.std.specs.FinMap as map;
 ghost use Rattle.congee.specs.Heap.{fits};
 ghost use Rattle.congee.specs.forms.Bytes.{IsFirst};
 ghost use Rattle.congee.specs.forms.Forms.{Becomes, capacity_of, children_of, form_of, is_full_of, next_form, prefix_of};
 ghost use Rattle.congee.specs.protocol.Steps.{form_below};
 ghost use Rattle.congee.specs.declared.forms.base_node.NodeType.TheVariants.{N4};
+ghost use Rattle.congee.specs.declared.forms.child.Child.TheVariants.{Value};
 
-use crate::forms::base_node::{Node, NodeType};
-use crate::forms::child::{Child, Small};
+use crate::forms::base_node::NodeType;
 use crate::forms::prefix::{MAX_PREFIX_LEN, Prefix};
 use crate::keys::KEY_BYTES;
+use crate::owned::arena::Stored;
+use crate::owned::values::Values;
 use std::alloc::{AllocError, Global};
 use std::marker::Model;
 
-/// A node, and a copy of its prefix. A greater form lies in a box, and the copy is read without it.
+/// The prefix of a leaf, and its values. To contracts it is a node whose children are values.
 #[derive(Drop)]
-pub(crate) struct SlotNode<P: Small> {
+pub(crate) struct LeafNode<P: Stored> {
     prefix: Prefix,
-    node: Node<usize, P>,
+    values: Values<P::Kept>,
 }
 
-impl<P: Small> Model for SlotNode<P> {
-    ghost use Rattle.std.specs.Prelude.{ℕ, ◌≡◌};
+impl<P: Stored> Model for LeafNode<P> {
+    ghost use Rattle.std.specs.Prelude.{ℕ};
     ghost use Rattle.congee.specs.declared.forms.base_node.Node.{Node};
-    ghost use Rattle.congee.specs.forms.Forms.{prefix_of};
     ghost use Rattle.congee.specs.owned.Codes.{node_code};
+    ghost use Rattle.congee.specs.owned.Values.{HoldsValues, node_with};
 
     ghost Value = { Node ℕ P };
 
     ghost coded = { node_code P.code };
 
-    ghost view = { λ p. p.node };
+    ghost view = { λ n. node_with P.value_in n.prefix n.values };
 
-    ghost invariant = { λ p. p.prefix ≡ prefix_of p.node };
+    ghost invariant = { λ n. HoldsValues P.value_in n.values };
 }
 
-impl<P: Small> SlotNode<P> {
-    /// The node in its place.
-    pub(crate) fn new(node: Node<usize, P>) -> Self
-        ensures { result ≡ node }
+impl<P: Stored> LeafNode<P> {
+    /// A leaf of the least form without values.
+    pub(crate) fn least(prefix: &[u8]) -> Self
+        requires fits { length prefix.now ≤ MAX_PREFIX_LEN }
+        ensures form { form_of result ≡ N4 }
+        ensures prefix { prefix_of result ≡ prefix.now }
+        ensures children { children_of result ≡ map.empty }
     {
-        SlotNode {
-            prefix: Prefix::new(node.prefix()),
-            node,
+        LeafNode {
+            prefix: Prefix::new(prefix),
+            values: Values::least(),
         }
     }
 
@@ -53,10 +58,10 @@ impl<P: Small> SlotNode<P> {
     pub(crate) fn node_type(&self) -> NodeType
         ensures { result ≡ form_of self.now }
     {
-        self.node.node_type()
+        self.values.node_type()
     }
 
-    /// The first bytes of every key below the node.
+    /// The first bytes of every key in the leaf.
     #[inline(always)]
     pub(crate) fn prefix(&self) -> &[u8]
         ensures bytes { result.now ≡ prefix_of self.now }
@@ -82,90 +87,99 @@ impl<P: Small> SlotNode<P> {
         self.prefix.is_prefix_of(key)
     }
 
-    /// How many children there are.
+    /// How many values there are.
     #[inline(always)]
     pub(crate) fn len(&self) -> usize
         ensures count { result ≡ map.len (children_of self.now) }
         ensures fits { result ≤ capacity_of (form_of self.now) }
         ensures bytes { (b : ℕ) → IsSome (map.get (children_of self.now) b) → b < 256 }
     {
-        self.node.len()
+        self.values.len()
     }
 
-    /// Whether no further child fits.
+    /// Whether no further value fits.
     #[inline(always)]
     pub(crate) fn is_full(&self) -> bool
         ensures { result ≡ is_full_of self.now }
     {
-        self.node.is_full()
+        self.values.is_full()
     }
 
-    /// The child of a byte.
+    /// The value of a byte.
     #[inline(always)]
-    pub(crate) fn get_child(&self, byte: u8) -> Option<&Child<usize, P>>
-        ensures { option_copied result ≡ map.get (children_of self.now) byte }
+    pub(crate) fn get_child(&self, byte: u8) -> Option<&P>
+        ensures { option_map Value (option_copied result) ≡ map.get (children_of self.now) byte }
     {
-        self.node.get_child(byte)
+        match self.values.get_child(byte) {
+            None => None,
+            Some(kept) => P::look(kept),
+        }
     }
 
-    /// The child of the least byte from `from` on.
+    /// The value of the least byte from `from` on.
     #[inline(always)]
-    pub(crate) fn first_from(&self, from: usize) -> Option<(u8, &Child<usize, P>)>
+    pub(crate) fn first_from(&self, from: usize) -> Option<(u8, &P)>
         ensures { MatchOption result ((b : ℕ) → from ≤ b → map.get (children_of self.now) b ≡ None)
-            (λ r. IsFirst (children_of self.now) from r.0 r.1.now) }
+            (λ r. IsFirst (children_of self.now) from r.0 (Value r.1.now)) }
     {
-        self.node.first_from(from)
+        match self.values.first_from(from) {
+            None => None,
+            Some((byte, kept)) => match P::look(kept) {
+                None => unreachable!(),
+                Some(value) => Some((byte, value)),
+            },
+        }
     }
 
-    /// Adds a child under a byte that has none, to a node that is not full.
+    /// Adds a value under a byte that has none, to a leaf that is not full.
     #[inline(always)]
-    pub(crate) fn insert(&mut self, byte: u8, child: Child<usize, P>)
+    pub(crate) fn insert(&mut self, byte: u8, value: P)
         requires absent { map.get (children_of self.old) byte ≡ None }
         requires room { is_full_of self.old ≡ false }
-        ensures { Becomes self.old self.new (map.insert (children_of self.old) byte child) }
+        ensures { Becomes self.old self.new (map.insert (children_of self.old) byte (Value value)) }
     {
-        self.node.insert(byte, child)
+        self.values.insert(byte, value.keep())
     }
 
-    /// Puts another child under a byte that has one, and gives the one before.
+    /// Puts another value under a byte that has one, and gives the one before.
     #[inline(always)]
-    pub(crate) fn change(&mut self, byte: u8, child: Child<usize, P>) -> Child<usize, P>
+    pub(crate) fn change(&mut self, byte: u8, value: P) -> P
         requires present { IsSome (map.get (children_of self.old) byte) }
-        ensures before { map.get (children_of self.old) byte ≡ Some result }
-        ensures after { Becomes self.old self.new (map.insert (children_of self.old) byte child) }
+        ensures before { map.get (children_of self.old) byte ≡ Some (Value result) }
+        ensures after { Becomes self.old self.new (map.insert (children_of self.old) byte (Value value)) }
     {
-        self.node.change(byte, child)
+        P::give(self.values.change(byte, value.keep()))
     }
 
-    /// Takes out the child of a byte that has one.
+    /// Takes out the value of a byte that has one.
     #[inline(always)]
-    pub(crate) fn remove(&mut self, byte: u8) -> Child<usize, P>
+    pub(crate) fn remove(&mut self, byte: u8) -> P
         requires present { IsSome (map.get (children_of self.old) byte) }
-        ensures before { map.get (children_of self.old) byte ≡ Some result }
+        ensures before { map.get (children_of self.old) byte ≡ Some (Value result) }
         ensures after { Becomes self.old self.new (map.remove (children_of self.old) byte) }
     {
-        self.node.remove(byte)
+        P::give(self.values.remove(byte))
     }
 
-    /// Takes every child out.
+    /// Takes every value out.
     pub(crate) fn clear(&mut self)
         ensures { Becomes self.old self.new map.empty }
     {
-        self.node.clear()
+        self.values.clear()
     }
 
-    /// Becomes a node of the next greater form. Where memory is refused, the node stays as it was.
+    /// Becomes a leaf of the next greater form. Where memory is refused, the leaf stays as it was.
     pub(crate) fn grow(&mut self, alloc: Global) -> Result<(), AllocError>
         ensures form { OnOk result (form_of self.new ≡ next_form (form_of self.old)) }
         ensures prefix { OnOk result (prefix_of self.new ≡ prefix_of self.old) }
         ensures children { OnOk result (children_of self.new ≡ children_of self.old) }
         ensures refused { OnErr result (self.new ≡ self.old) }
     {
-        self.node.grow(alloc)
+        self.values.grow(alloc)
     }
 
-    /// Becomes a node of the form below, where its children fit. Where memory is refused, which the least form doesn't want, the
-    /// node stays as it was.
+    /// Becomes a leaf of the form below, where its values fit. Where memory is refused, which the least form doesn't want, the
+    /// leaf stays as it was.
     pub(crate) fn shrink(&mut self, alloc: Global) -> Result<(), AllocError>
         requires room { map.len (children_of self.old) ≤ capacity_of (form_below (form_of self.old)) }
         ensures form { OnOk result (form_of self.new ≡ form_below (form_of self.old)) }
@@ -174,6 +188,6 @@ impl<P: Small> SlotNode<P> {
         ensures refused { OnErr result (self.new ≡ self.old) }
         ensures memory { OnErr result (form_below (form_of self.old) ≢ N4) }
     {
-        self.node.shrink(alloc)
+        self.values.shrink(alloc)
     }
 }
