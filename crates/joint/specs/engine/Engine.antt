@@ -40,7 +40,8 @@ use Rattle.joint.specs.declared.steps.Survey.TheVariants as survey
 use Rattle.joint.specs.declared.steps.Target.{Target}
 use Rattle.joint.specs.declared.steps.Target.TheVariants as target
 use Rattle.joint.specs.nodes.Nodes.{Nodes, nodes, total, with_collector, IsCharged}
-use Rattle.joint.specs.engine.Intact.{IsIntact, BeginsSecuring, Secured, WalkedOn, call_after, over_at, root}
+use Rattle.joint.specs.engine.Intact.{IsIntact, BeginsSecuring, Secured, WalkedOn, call_after, over_at}
+use Rattle.joint.specs.Names.{root}
 use Rattle.joint.specs.engine.Log.{Log, no_log}
 use Rattle.joint.specs.engine.Safety.{Collected}
 use Rattle.joint.specs.Refusals.{of_fault}

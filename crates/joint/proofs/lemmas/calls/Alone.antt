@@ -38,7 +38,8 @@ use Rattle.joint.specs.declared.steps.Survey.TheVariants as survey
 use Rattle.joint.specs.declared.steps.Step.{Step}
 use Rattle.joint.specs.calls.Alone.{OthersUnlocked, IsNext, AreNext, AllInFlight, steps_alone, AllEndAlone}
 use Rattle.joint.specs.nodes.Nodes.{Nodes, nodes, Refuses}
-use Rattle.joint.specs.engine.Intact.{IsAt, IsIntact, call_after, over_at, rested, resting, root, secured_call, secured_machines, writes}
+use Rattle.joint.specs.engine.Intact.{IsAt, IsIntact, call_after, over_at, rested, resting, secured_call, secured_machines, writes}
+use Rattle.joint.specs.Names.{root}
 use Rattle.joint.specs.engine.Laws.{CallLaws, AloneLaw, WholeLaw, ProgressLaws}
 use Rattle.joint.specs.Reports.{target, collected}
 use Rattle.joint.specs.calls.Runs.{Taken, AreTaken}

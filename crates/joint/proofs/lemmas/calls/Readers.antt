@@ -56,7 +56,8 @@ use Rattle.joint.specs.declared.steps.Outcome.TheVariants.{Running, Asks, Found,
 use Rattle.joint.specs.declared.steps.Report.{Report}
 use Rattle.joint.specs.calls.Ends.{RefusesReader, AllRefuseReader, ReadersRefused, is_reading}
 use Rattle.joint.specs.nodes.Nodes.{nodes, Refuses}
-use Rattle.joint.specs.engine.Intact.{IsAt, is_reserving, call_after, over_at, rested, resting, root}
+use Rattle.joint.specs.engine.Intact.{IsAt, is_reserving, call_after, over_at, rested, resting}
+use Rattle.joint.specs.Names.{root}
 use Rattle.joint.specs.engine.Laws.{ProgressLaws}
 use Rattle.joint.specs.Refusals.{of_fault, of_tree}
 use Rattle.joint.specs.Reports.{collected, told}

@@ -22,7 +22,8 @@ use Rattle.joint.specs.declared.steps.Op.{Op}
 use Rattle.joint.specs.declared.steps.Report.{Report}
 use Rattle.joint.specs.declared.steps.Target.{Target}
 use Rattle.joint.specs.declared.steps.Target.TheVariants as target
-use Rattle.joint.specs.engine.Intact.{call_after, is_reserving, root}
+use Rattle.joint.specs.engine.Intact.{call_after, is_reserving}
+use Rattle.joint.specs.Names.{root}
 use Rattle.joint.specs.engine.Journaling.{has_place}
 use Rattle.joint.specs.Reports.{target}
 use Rattle.joint.specs.engine.Flying.{Flights, AreInFlight}
