@@ -1,7 +1,7 @@
 //! Pointers that threads share.
 
 ghost use Rattle.std.specs.Prelude.{◌≡◌, ◌≢◌, ◌⊎◌, ◌%◌, ◌<◌, true, false, MatchResult, IfErr, IfSome, IsErr, MatchOption};
-ghost use Rattle.crossbeam_epoch.specs.Face.Exchange.{IsExchange, GaveNext, GaveNone};
+ghost use Rattle.crossbeam_epoch.specs.Face.Exchange.{GaveNext, GaveNone, IsExchange, IsRefused, RefusesForeign};
 ghost use Rattle.crossbeam_epoch.specs.Face.Pointer.{is_foreign};
 
 use crate::face::atomic_link::AtomicLink;
@@ -151,7 +151,7 @@ impl<T: Pointable + Drop> Atomic<T> {
         _order: Ordering,
         guard: &Guard<'_, T, J>,
     ) -> Result<(), (Fault, P)>
-        ensures refused { IfErr result (λ e. (e.0 ≡ P.refused_as) × (P.is_refusable new guard.now.collector.now.id ≡ true) × (e.1 ≡ new)) }
+        ensures refused { IfErr result (IsRefused P.Pointer guard.now.collector.now.id new) }
         ensures foreign { P.leads_elsewhere new guard.now.collector.now.id ≡ true → IsErr result }
     {
         let tagged = new.enter(rt, guard)?;
@@ -167,7 +167,7 @@ impl<T: Pointable + Drop> Atomic<T> {
         _order: Ordering,
         guard: &'g Guard<'_, T, J>,
     ) -> Result<Shared<'g, T>, (Fault, P)>
-        ensures refused { MatchResult result (λ s. s.link.tag < T.ALIGN) (λ e. (e.0 ≡ P.refused_as) × (P.is_refusable new guard.now.collector.now.id ≡ true) × (e.1 ≡ new)) }
+        ensures refused { MatchResult result (λ s. s.link.tag < T.ALIGN) (IsRefused P.Pointer guard.now.collector.now.id new) }
         ensures foreign { P.leads_elsewhere new guard.now.collector.now.id ≡ true → IsErr result }
     {
         let tagged = new.enter(rt, guard)?;
@@ -185,8 +185,8 @@ impl<T: Pointable + Drop> Atomic<T> {
         _failure: Ordering,
         guard: &'g Guard<'_, T, J>,
     ) -> Result<Exchanged<'g, T, P>, (Fault, P)>
-        ensures answer { IsExchange P.tag_bits T.ALIGN P.leads_to P.leads_elsewhere P.is_refusable P.refused_as guard.now.collector.now.id current.entry.link new result }
-        ensures foreign { P.leads_elsewhere new guard.now.collector.now.id ≡ true → IfErr result (λ e. e.0 ≡ Fault.Foreign) × IsErr result }
+        ensures answer { IsExchange P.Pointer T.ALIGN guard.now.collector.now.id current.entry.link new result }
+        ensures foreign { RefusesForeign P.Pointer guard.now.collector.now.id new result }
     {
         if new.is_foreign(guard.collector.id()) {
             return Err((Fault::Foreign, new));
@@ -216,7 +216,7 @@ impl<T: Pointable + Drop> Atomic<T> {
         guard: &'g Guard<'_, T, J>,
     ) -> Result<Exchanged<'g, T, P>, (Fault, P)>
         requires here { P.leads_elsewhere new guard.now.collector.now.id ≡ false }
-        ensures answer { IsExchange P.tag_bits T.ALIGN P.leads_to P.leads_elsewhere P.is_refusable P.refused_as guard.now.collector.now.id current new result }
+        ensures answer { IsExchange P.Pointer T.ALIGN guard.now.collector.now.id current new result }
     {
         let found = self.link.load(rt);
         if found != current {
@@ -242,8 +242,8 @@ impl<T: Pointable + Drop> Atomic<T> {
         failure: Ordering,
         guard: &'g Guard<'_, T, J>,
     ) -> Result<Exchanged<'g, T, P>, (Fault, P)>
-        ensures answer { IsExchange P.tag_bits T.ALIGN P.leads_to P.leads_elsewhere P.is_refusable P.refused_as guard.now.collector.now.id current.entry.link new result }
-        ensures foreign { P.leads_elsewhere new guard.now.collector.now.id ≡ true → IfErr result (λ e. e.0 ≡ Fault.Foreign) × IsErr result }
+        ensures answer { IsExchange P.Pointer T.ALIGN guard.now.collector.now.id current.entry.link new result }
+        ensures foreign { RefusesForeign P.Pointer guard.now.collector.now.id new result }
     {
         self.compare_exchange(rt, current, new, success, failure, guard)
     }
@@ -257,8 +257,8 @@ impl<T: Pointable + Drop> Atomic<T> {
         order: O,
         guard: &'g Guard<'_, T, J>,
     ) -> Result<Exchanged<'g, T, P>, (Fault, P)>
-        ensures answer { IsExchange P.tag_bits T.ALIGN P.leads_to P.leads_elsewhere P.is_refusable P.refused_as guard.now.collector.now.id current.entry.link new result }
-        ensures foreign { P.leads_elsewhere new guard.now.collector.now.id ≡ true → IfErr result (λ e. e.0 ≡ Fault.Foreign) × IsErr result }
+        ensures answer { IsExchange P.Pointer T.ALIGN guard.now.collector.now.id current.entry.link new result }
+        ensures foreign { RefusesForeign P.Pointer guard.now.collector.now.id new result }
     {
         self.compare_exchange(rt, current, new, order.success(), order.failure(), guard)
     }
@@ -272,8 +272,8 @@ impl<T: Pointable + Drop> Atomic<T> {
         order: O,
         guard: &'g Guard<'_, T, J>,
     ) -> Result<Exchanged<'g, T, P>, (Fault, P)>
-        ensures answer { IsExchange P.tag_bits T.ALIGN P.leads_to P.leads_elsewhere P.is_refusable P.refused_as guard.now.collector.now.id current.entry.link new result }
-        ensures foreign { P.leads_elsewhere new guard.now.collector.now.id ≡ true → IfErr result (λ e. e.0 ≡ Fault.Foreign) × IsErr result }
+        ensures answer { IsExchange P.Pointer T.ALIGN guard.now.collector.now.id current.entry.link new result }
+        ensures foreign { RefusesForeign P.Pointer guard.now.collector.now.id new result }
     {
         self.compare_exchange_weak(rt, current, new, order.success(), order.failure(), guard)
     }
