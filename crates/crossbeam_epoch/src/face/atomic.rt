@@ -13,6 +13,7 @@ use crate::face::pointer::Pointer;
 use crate::face::shared::Shared;
 use crate::fault::Fault;
 use crate::names::Pointable;
+use crate::tag::TagCall;
 use crate::task::Task;
 use std::alloc::Global;
 use std::fmt;
@@ -319,7 +320,7 @@ impl<T: Pointable + Drop> Atomic<T> {
     ) -> Shared<'g, T>
         ensures { result.link.tag < T.ALIGN }
     {
-        Shared::of(self.link.fetch_and(rt, tag))
+        Shared::of(self.link.change(rt, TagCall::And, tag))
     }
 
     /// Adds the bits of the number modulo `T::ALIGN` to the tag, and gives the pointer before.
@@ -332,7 +333,7 @@ impl<T: Pointable + Drop> Atomic<T> {
     ) -> Shared<'g, T>
         ensures { result.link.tag < T.ALIGN }
     {
-        Shared::of(self.link.fetch_or(rt, tag))
+        Shared::of(self.link.change(rt, TagCall::Or, tag))
     }
 
     /// Flips the bits of the number modulo `T::ALIGN` in the tag, and gives the pointer before.
@@ -345,7 +346,7 @@ impl<T: Pointable + Drop> Atomic<T> {
     ) -> Shared<'g, T>
         ensures { result.link.tag < T.ALIGN }
     {
-        Shared::of(self.link.fetch_xor(rt, tag))
+        Shared::of(self.link.change(rt, TagCall::Xor, tag))
     }
 
     /// Takes the value out of its cell, which is destroyed. `None` as for `Shared::into_owned`.
