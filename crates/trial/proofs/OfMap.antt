@@ -20,7 +20,7 @@ use Rattle.joint.specs.declared.steps.Survey.{Survey}
 use Rattle.joint.specs.declared.steps.Survey.TheVariants as survey
 use Rattle.joint.specs.declared.steps.Target.TheVariants as target
 use Rattle.joint.specs.calls.MapCalls.{Answered as Last, IsPresent, IsComputed}
-use Rattle.joint.specs.Reports.{target}
+use Rattle.joint.specs.Reports.{target, is_in_flight}
 use Rattle.joint.specs.engine.Flying.{no_flights}
 use Rattle.joint.specs.engine.Engine.{World}
 use Rattle.trial.specs.declared.caller.Caller.{Caller}
@@ -40,7 +40,7 @@ use Rattle.trial.specs.declared.reply.Refused.TheVariants as refused
 use Rattle.trial.specs.declared.reply.Reply.{Reply}
 use Rattle.trial.specs.declared.reply.Reply.TheVariants as reply
 use Rattle.trial.specs.Callers.{answer_of, fresh}
-use Rattle.trial.specs.Calling.{is_running, Registers, Begins, GoesOn, stays, ends, goes, Calls}
+use Rattle.trial.specs.Calling.{Registers, Begins, GoesOn, stays, ends, goes, Calls}
 use Rattle.trial.specs.Line.{IsLine}
 use Rattle.trial.specs.MapReplies.{wrapped, or_wrapped, answer_to, map_after, with_reply, map_replies, is_on_keys, key_replies, IsWhole, IsAnswer, AreCommands, MapAnswers}
 use Rattle.trial.specs.Replies.{reply_to, reply_of}
@@ -69,7 +69,7 @@ registers_at laws s s' told m b g =
 
 -- as many scans as before
 begun_scans : (w : ℕ) (o : Op ℕ) (f : Option Closure) (s s' : OpenTree) (told : Outcome ℕ) → length s.scans.items ≡ 256 → Begins s w o f told s' → length s'.scans.items ≡ 256
-begun_scans w o f s s' told e g = ap length g.2 ∙ as_long (is_running told) s.scans.items w [] e
+begun_scans w o f s s' told e g = ap length g.2 ∙ as_long (is_in_flight told) s.scans.items w [] e
 
 gone_on_scans : (w left : ℕ) (s : OpenTree) (stands told : Outcome ℕ) (s' : OpenTree) → GoesOn w left s stands told s' → length s.scans.items ≡ 256 → length s'.scans.items ≡ 256
 gone_on_scans w left s stands told s' (stays s1 t1) e = e
@@ -88,7 +88,7 @@ gone_on_callers w left s stands told s' (goes n s1 mid s2 st next t1 run step mo
     gone_on_callers w n mid next told s' more (ap length step.1 ∙ length-set s1.callers.items w _ ∙ e)
 
 called_callers : (w : ℕ) (o : Op ℕ) (f : Option Closure) (s s' : OpenTree) (told : Outcome ℕ) → length s.callers.items ≡ 256 → Calls s w o f told s' → length s'.callers.items ≡ 256
-called_callers w o f s s' told e g = gone_on_callers w 9999 g.0 g.1 told s' g.3 (ap length g.2.1 ∙ as_long (is_running g.1) s.callers.items w (fresh f) e)
+called_callers w o f s s' told e g = gone_on_callers w 9999 g.0 g.1 told s' g.3 (ap length g.2.1 ∙ as_long (is_in_flight g.1) s.callers.items w (fresh f) e)
 
 calls_at : MapLaws → (w : ℕ) (o : Op ℕ) (t : _) (f : Option Closure) (s s' : OpenTree) (told : Outcome ℕ) (m : Pairs ℕ) → target o ≡ target.Collector t → At s m → Calls s w o f told s' → At s' m
 calls_at laws w o t f s s' told m e b g = (rests_beside laws w o t f m s s' told e b.0 g, called_callers w o f s s' told b.1 g, called_scans w o f s s' told b.2 g)

@@ -18,18 +18,18 @@ use Rattle.joint.specs.declared.steps.Target.{Target}
 use Rattle.joint.specs.declared.steps.Target.TheVariants as target
 use Rattle.joint.specs.nodes.Nodes.{nodes}
 use Rattle.joint.specs.calls.MapCalls.{AllGoOn, Answered as Last, answered_by, answered_after, IsOnMap, TookEffect, PlaysKey, PlaysCall, told_after, told_places}
-use Rattle.joint.specs.Reports.{target}
+use Rattle.joint.specs.Reports.{target, is_in_flight}
 use Rattle.joint.specs.calls.Runs.{Taken, AreTaken, after_all}
 use Rattle.joint.specs.engine.Flying.{Flights, AreInFlight}
 use Rattle.joint.specs.calls.Scans.{placed}
 use Rattle.joint.specs.world.World.{Holds, IsOnKey, IsStep}
-use Rattle.joint.specs.engine.Engine.{World, is_in_flight}
+use Rattle.joint.specs.engine.Engine.{World}
 use Rattle.trial.specs.declared.caller.Caller.{Caller}
 use Rattle.trial.specs.declared.caller.Closure.{Closure}
 use Rattle.trial.specs.declared.open_tree.OpenTree.{OpenTree}
 use Rattle.trial.specs.declared.reply.Reply.{Reply}
 use Rattle.trial.specs.Callers.{answer_of, fresh, noise_of, after_step, caller_at}
-use Rattle.trial.specs.Calling.{is_running, Begins, Goes, GoesOn, stays, ends, goes, Calls}
+use Rattle.trial.specs.Calling.{Begins, Goes, GoesOn, stays, ends, goes, Calls}
 use Rattle.trial.specs.MapReplies.{IsAnswer}
 use Rattle.trial.specs.Places.{places_at, filled}
 use Rattle.trial.specs.Replies.{reply_to, reply_of}
@@ -83,14 +83,6 @@ by_answer closure (outcome.Registered who) (Some x) last a b = absurd a
 by_answer closure (outcome.Done d) (Some x) last a b = absurd a
 by_answer closure (outcome.Refused e) (Some x) last a b = absurd a
 
-running : (o : Outcome ℕ) → is_running o ≡ true → is_in_flight o ≡ true
-running outcome.Running e = refl
-running (outcome.Asks found) e = refl
-running (outcome.Found place key value) e = refl
-running (outcome.Registered who) e = absurd (cc e)
-running (outcome.Done d) e = absurd (cc e)
-running (outcome.Refused r) e = absurd (cc e)
-
 -- after a step as many workers have places as before
 pub filled_length : (scans : List (List (ℕ × ℕ))) (w : ℕ) (o : Outcome ℕ) → length (filled scans w o) ≡ length scans
 filled_length scans w outcome.Running = refl
@@ -127,7 +119,7 @@ pub record Went (w : ℕ) (closure : Option Closure) (s : OpenTree) (stands : Ou
 abbrev went_none : (w : ℕ) (closure : Option Closure) (s : OpenTree) (stands : Outcome ℕ) → Went w closure s stands s stands
 went_none w closure s stands = record { steps = []; each = tt; goes_on = tt; told_last = refl; after = refl; answers = λ last b. b; places = λ l. refl }
 
-went_more : (w : ℕ) (closure : Option Closure) (s mid s' : OpenTree) (stands next told : Outcome ℕ) → is_running stands ≡ true → Behind closure stands (caller_at s.callers.items w) → Goes s w false next mid
+went_more : (w : ℕ) (closure : Option Closure) (s mid s' : OpenTree) (stands next told : Outcome ℕ) → is_in_flight stands ≡ true → Behind closure stands (caller_at s.callers.items w) → Goes s w false next mid
     → Went w closure mid next s' told → Went w closure s stands s' told
 went_more w closure s mid s' stands next told on b g more =
     let P : Outcome ℕ → Type 0 = λ o. Went w closure mid o s' told in
@@ -136,7 +128,7 @@ went_more w closure s mid s' stands next told on b g more =
     record {
       steps = record { step = record { worker = w; event = Go (noise_of (caller_at s.callers.items w) false) }; report = g.0.0; after = mid.world } ∷ rest.steps;
       each = (g.0.1, rest.each);
-      goes_on = (record { in_flight = running stands on; noise = noise_of (caller_at s.callers.items w) false; step = refl }, rest.goes_on);
+      goes_on = (record { in_flight = on; noise = noise_of (caller_at s.callers.items w) false; step = refl }, rest.goes_on);
       told_last = rest.told_last;
       after = rest.after;
       answers = λ last c. rest.answers _ (by_answer closure stands (caller_at s.callers.items w).answer last b.0 c);
@@ -162,9 +154,9 @@ begun_behind w closure callers callers' first b on e =
     subst Q (sym (subst P on e)) (behind_set closure first callers w (fresh closure) (tt, inl refl))
 
 -- the steps after the first one; a call that ended as it began has none
-first_then : (w left : ℕ) (closure : Option Closure) (op : Op ℕ) (s mid : OpenTree) (first told : Outcome ℕ) (s' : OpenTree) (b : Bool) → is_running first ≡ b → Begins s w op closure first mid → GoesOn w left mid first told s'
+first_then : (w left : ℕ) (closure : Option Closure) (op : Op ℕ) (s mid : OpenTree) (first told : Outcome ℕ) (s' : OpenTree) (b : Bool) → is_in_flight first ≡ b → Begins s w op closure first mid → GoesOn w left mid first told s'
     → (x : Went w closure mid first s' told) × ((x.steps ≡ []) ⊎ (b ≡ true))
-first_then w left closure op s mid first told s' true run g more = (went w closure left mid first told s' (begun_behind w closure s.callers.items mid.callers.items first (is_running first) run g.1) more, inr refl)
+first_then w left closure op s mid first told s' true run g more = (went w closure left mid first told s' (begun_behind w closure s.callers.items mid.callers.items first (is_in_flight first) run g.1) more, inr refl)
 first_then w left closure op s mid first told s' false run g (stays s1 t1) = (went_none w closure mid first, inl refl)
 first_then w left closure op s mid first told s' false run g (ends n s1 t1 e) = (went_none w closure mid first, inl refl)
 first_then w left closure op s mid first told s' false run g (goes n s1 mid2 s2 st next t1 on step more) = absurd (let f : true ≡ false = sym on ∙ run in cc f)
@@ -180,21 +172,21 @@ pub record Called (w : ℕ) (op : Op ℕ) (closure : Option Closure) (s s' : Ope
   pub mid : OpenTree
   pub report : Report ℕ
   pub step : IsStep nat_eq true s.world (record { worker = w; event = Begin op }) report mid.world
-  pub scans : mid.scans.items ≡ (if is_running report.outcome then slice_set s.scans.items w [] else s.scans.items)
+  pub scans : mid.scans.items ≡ (if is_in_flight report.outcome then slice_set s.scans.items w [] else s.scans.items)
   pub rest : Went w closure mid report.outcome s' told
-  pub ran : (rest.steps ≡ []) ⊎ (is_running report.outcome ≡ true)
+  pub ran : (rest.steps ≡ []) ⊎ (is_in_flight report.outcome ≡ true)
   pub holds : Holds nat_eq true s'.world
 
 -- what a line takes of a call is such a whole call
 pub called : (w : ℕ) (op : Op ℕ) (closure : Option Closure) (s s' : OpenTree) (told : Outcome ℕ) → Calls s w op closure told s' → Called w op closure s s' told
 called w op closure s s' told g =
-    let P : Outcome ℕ → Type 0 = λ o. (x : Went w closure g.0 o s' told) × ((x.steps ≡ []) ⊎ (is_running o ≡ true)) in
-    let more = subst P g.2.0.2 (first_then w 9999 closure op s g.0 g.1 told s' (is_running g.1) refl g.2 g.3) in
+    let P : Outcome ℕ → Type 0 = λ o. (x : Went w closure g.0 o s' told) × ((x.steps ≡ []) ⊎ (is_in_flight o ≡ true)) in
+    let more = subst P g.2.0.2 (first_then w 9999 closure op s g.0 g.1 told s' (is_in_flight g.1) refl g.2 g.3) in
     record {
       mid = g.0;
       report = g.2.0.0;
       step = g.2.0.1;
-      scans = g.2.2 ∙ ap (λ (o : Outcome ℕ). if is_running o then slice_set s.scans.items w [] else s.scans.items) g.2.0.2;
+      scans = g.2.2 ∙ ap (λ (o : Outcome ℕ). if is_in_flight o then slice_set s.scans.items w [] else s.scans.items) g.2.0.2;
       rest = more.0;
       ran = more.1;
       holds = holds_after w 9999 g.0 g.1 told s' g.2.0.1.holds g.3;
@@ -225,7 +217,7 @@ rests_beside laws w op t closure m s s' told e b g =
     rests_after m s.world s'.world b c.holds (subst P e (plays_call w op closure s s' told c laws m b))
 
 -- a call's reply is no answer while the call is in flight
-no_answer_yet : (ps : List (ℕ × ℕ)) (o : Outcome ℕ) → is_running o ≡ true → IsAnswer (reply_of ps o) → ⊥
+no_answer_yet : (ps : List (ℕ × ℕ)) (o : Outcome ℕ) → is_in_flight o ≡ true → IsAnswer (reply_of ps o) → ⊥
 no_answer_yet ps outcome.Running e a = a
 no_answer_yet ps (outcome.Asks found) e a = a
 no_answer_yet ps (outcome.Found place key value) e a = a

@@ -9,7 +9,7 @@ use Rattle.joint.specs.declared.steps.Outcome.TheVariants as outcome
 use Rattle.trial.specs.declared.reply.Refused.TheVariants as refused
 use Rattle.trial.specs.declared.reply.Reply.{Reply}
 use Rattle.trial.specs.declared.reply.Reply.TheVariants as reply
-use Rattle.trial.specs.Calling.{is_running}
+use Rattle.joint.specs.Reports.{is_in_flight}
 
 -- what a compute found, and what it put there
 abbrev pub pair_of : Option (ℕ × Option ℕ) → Reply
@@ -45,4 +45,4 @@ reply_of places (outcome.Refused r) = reply.Refused (refused.Tree r)
 
 -- the reply to a call that is only begun
 abbrev pub begun_of : List (ℕ × ℕ) → Outcome ℕ → Reply
-begun_of places o = if is_running o then reply.Begun else reply_of places o
+begun_of places o = if is_in_flight o then reply.Begun else reply_of places o

@@ -144,8 +144,7 @@ impl Region {
         ensures { result ≡ first_byte start self }
     {
         if self.base < start {
-            let byte = (start - self.base) >> self.shift();
-            if byte > 255 { 255 } else { byte as u8 }
+            ((start - self.base) >> self.shift()).min(255) as u8
         } else {
             0
         }
@@ -157,8 +156,7 @@ impl Region {
         requires within { self.base ≤ last }
         ensures { result ≡ last_byte last self }
     {
-        let byte = (last - self.base) >> self.shift();
-        if byte > 255 { 255 } else { byte as u8 }
+        ((last - self.base) >> self.shift()).min(255) as u8
     }
 }
 

@@ -1,10 +1,10 @@
 //! Handles of participants.
 
-ghost use Rattle.std.specs.Prelude.{ℕ, ◌≡◌, ◌<◌, ◌≤◌, ◌+◌, ◌-◌, ◌++◌, ◌∷◌, [], true, false, nat_lt, nat_le, nat_eq};
+ghost use Rattle.std.specs.Prelude.{ℕ, ◌≡◌, ◌<◌, ◌≤◌, ◌+◌, ◌-◌, [], true, false, nat_lt};
 ghost use Rattle.std.specs.Prelude.{length, Err, None, MatchResult, MatchOption, IfOk, IfErr, OnOk, IsSomeAnd};
 ghost use Rattle.std.specs.Bool.{MatchBool};
-ghost use Rattle.crossbeam_epoch.specs.Face.Handle.{owns, with_room, SealsUnder};
-ghost use Rattle.crossbeam_epoch.specs.Face.Pinned.{IsPinnedFor, IsUnpinnedAfter};
+ghost use Rattle.crossbeam_epoch.specs.Face.Handle.{ChangesBag, ChangesBagUnder, IsRefusedUnder, LacksRoom, PutsOff, SealsFull, SealsUnder, owns, with_room};
+ghost use Rattle.crossbeam_epoch.specs.Face.Pinned.{IsPinnedFor, IsUnpinnedAfter, MovesIfAlone, MovesPin, RefusesToMove};
 ghost use Rattle.crossbeam_epoch.specs.Face.Participant.{IsPinned};
 ghost use Rattle.crossbeam_epoch.specs.Face.Pins.{IsDue};
 ghost use Rattle.crossbeam_epoch.specs.Face.Tokens.{known, IsOf, unpinned_view};
@@ -297,7 +297,7 @@ impl<'c, T: Drop, J: Task> LocalHandle<'c, T, J> {
 
     /// Seals the bag, unless it is empty, with an epoch that it reads first.
     fn seal<R: Wait>(&mut self, rt: &R) -> Result<(), Fault>
-        ensures ok { OnOk result ((self.new.bag ≡ []) × (self.new ≡ record self.old { bag = self.new.bag; seals = record self.old.seals { queued = self.new.seals.queued }; knows = self.new.knows })) }
+        ensures ok { OnOk result ((self.new.bag ≡ []) × ChangesBag self.old self.new) }
         ensures sealed { OnOk result (0 < self.old.guards → SealsUnder (nat_lt 0 (length self.old.bag)) self.old.epoch self.old.seals.queued self.new.seals.queued) }
         ensures told { OnOk result (0 < length self.old.bag → IsSomeAnd self.new.seals.queued (λ q. q.seal ≡ self.new.knows.seen)) }
         ensures err { IfErr result (λ e. (e ≡ Fault.Memory) × (self.new ≡ record self.old { knows = self.new.knows }) × (0 < length self.old.bag)) }
@@ -317,9 +317,9 @@ impl<'c, T: Drop, J: Task> LocalHandle<'c, T, J> {
 
     /// Makes a place in the bag: a full one is sealed.
     fn make_room<R: Wait>(&mut self, rt: &R) -> Result<(), Fault>
-        ensures ok { OnOk result (self.new ≡ record self.old { bag = self.new.bag; seals = record self.old.seals { queued = self.new.seals.queued }; knows = self.new.knows }) }
+        ensures ok { OnOk result (ChangesBag self.old self.new) }
         ensures bag { OnOk result (self.new.bag ≡ with_room self.old.bag) }
-        ensures sealed { OnOk result (0 < self.old.guards → SealsUnder (nat_le bag_places (length self.old.bag)) self.old.epoch self.old.seals.queued self.new.seals.queued) }
+        ensures sealed { OnOk result (0 < self.old.guards → SealsFull self.old self.new) }
         ensures err { IfErr result (λ e. (e ≡ Fault.Memory) × (self.new ≡ record self.old { knows = self.new.knows }) × (bag_places ≤ length self.old.bag)) }
     {
         if !self.bag.is_full() {
@@ -336,11 +336,10 @@ impl<'c, T: Drop, J: Task> LocalHandle<'c, T, J> {
         guard: &Guard<'_, T, J>,
         job: J,
     ) -> Result<(), (Fault, J)>
-        ensures ok { OnOk result ((owns self.old.guards self.old.seat guard.now.seat ≡ true) × (self.new ≡ record self.old { bag = self.new.bag; seals = record self.old.seals { queued = self.new.seals.queued }; knows = self.new.knows })) }
-        ensures sealed { OnOk result (SealsUnder (nat_le bag_places (length self.old.bag)) self.old.epoch self.old.seals.queued self.new.seals.queued) }
-        ensures bag { OnOk result (self.new.bag ≡ with_room self.old.bag ++ record { ticket = 0; work = Work.Run job } ∷ []) }
-        ensures err { IfErr result (λ e. (e.1 ≡ job) × (self.new ≡ record self.old { knows = self.new.knows })
-            × MatchBool (owns self.old.guards self.old.seat guard.now.seat) ((e.0 ≡ Fault.Memory) × (bag_places ≤ length self.old.bag)) (e.0 ≡ Fault.Foreign)) }
+        ensures ok { OnOk result (ChangesBagUnder guard.now.seat self.old self.new) }
+        ensures sealed { OnOk result (SealsFull self.old self.new) }
+        ensures bag { OnOk result (PutsOff (Work.Run job) self.old self.new) }
+        ensures err { IfErr result (λ e. (e.1 ≡ job) × IsRefusedUnder guard.now.seat (LacksRoom self.old e.0) e.0 self.old self.new) }
     {
         if !self.owns(guard) {
             return Err((Fault::Foreign, job));
@@ -359,11 +358,10 @@ impl<'c, T: Drop, J: Task> LocalHandle<'c, T, J> {
         guard: &Guard<'_, T, J>,
         job: J,
     ) -> Result<(), (Fault, J)>
-        ensures ok { OnOk result ((owns self.old.guards self.old.seat guard.now.seat ≡ true) × (self.new ≡ record self.old { bag = self.new.bag; seals = record self.old.seals { queued = self.new.seals.queued }; knows = self.new.knows })) }
-        ensures sealed { OnOk result (SealsUnder (nat_le bag_places (length self.old.bag)) self.old.epoch self.old.seals.queued self.new.seals.queued) }
-        ensures bag { OnOk result (self.new.bag ≡ with_room self.old.bag ++ record { ticket = 0; work = Work.Run job } ∷ []) }
-        ensures err { IfErr result (λ e. (e.1 ≡ job) × (self.new ≡ record self.old { knows = self.new.knows })
-            × MatchBool (owns self.old.guards self.old.seat guard.now.seat) ((e.0 ≡ Fault.Memory) × (bag_places ≤ length self.old.bag)) (e.0 ≡ Fault.Foreign)) }
+        ensures ok { OnOk result (ChangesBagUnder guard.now.seat self.old self.new) }
+        ensures sealed { OnOk result (SealsFull self.old self.new) }
+        ensures bag { OnOk result (PutsOff (Work.Run job) self.old self.new) }
+        ensures err { IfErr result (λ e. (e.1 ≡ job) × IsRefusedUnder guard.now.seat (LacksRoom self.old e.0) e.0 self.old self.new) }
     {
         self.defer(rt, guard, job)
     }
@@ -378,8 +376,7 @@ impl<'c, T: Drop, J: Task> LocalHandle<'c, T, J> {
         ensures bags { OnOk result (TakesAll self.new.knows.seen self.new.seals.called) }
         ensures saw { OnOk result ((self.old.epoch ≤ self.new.knows.seen) × (self.new.knows.seen ≤ self.old.epoch + 1)) }
         ensures word { OnOk result (IsPinned self.new.guards self.new.epoch self.new.knows) }
-        ensures err { IfErr result (λ e. (self.new ≡ record self.old { knows = self.new.knows })
-            × MatchBool (owns self.old.guards self.old.seat guard.now.seat) ((e ≡ Fault.Memory) × (0 < length self.old.bag)) (e ≡ Fault.Foreign)) }
+        ensures err { IfErr result (λ e. IsRefusedUnder guard.now.seat ((e ≡ Fault.Memory) × (0 < length self.old.bag)) e self.old self.new) }
     {
         if !self.owns(guard) {
             return Err(Fault::Foreign);
@@ -405,14 +402,10 @@ impl<'c, T: Drop, J: Task> LocalHandle<'c, T, J> {
     /// Pins the participant anew, where this is its only guard and the epoch isn't the one that its word publishes. Refused
     /// as `Foreign`. It takes no lock.
     pub fn repin(&mut self, guard: &mut Guard<'_, T, J>) -> Result<(), Fault>
-        ensures ok { OnOk result ((owns self.old.guards self.old.seat guard.old.seat ≡ true)
-            × (self.new ≡ record self.old { epoch = self.new.epoch; knows = self.new.knows }) × (guard.new ≡ record guard.old { epoch = guard.new.epoch })) }
-        ensures epoch { OnOk result (MatchBool (nat_eq self.old.guards 1)
-            ((guard.new.epoch ≡ self.new.epoch) × (self.new.knows.seen ≡ self.new.epoch))
-            ((self.new.epoch ≡ self.old.epoch) × (guard.new.epoch ≡ guard.old.epoch))) }
+        ensures ok { OnOk result ((owns self.old.guards self.old.seat guard.old.seat ≡ true) × MovesPin self.old guard.old self.new guard.new) }
+        ensures epoch { OnOk result (MovesIfAlone self.old guard.old self.new guard.new) }
         ensures word { IsPinned self.new.guards self.new.epoch self.new.knows }
-        ensures err { IfErr result (λ e. (e ≡ Fault.Foreign) × (owns self.old.guards self.old.seat guard.old.seat ≡ false)
-            × (self.new ≡ self.old) × (guard.new ≡ guard.old)) }
+        ensures err { IfErr result (λ e. RefusesToMove e self.old guard.old self.new guard.new) }
     {
         if !self.owns(guard) {
             return Err(Fault::Foreign);
@@ -437,13 +430,10 @@ impl<'c, T: Drop, J: Task> LocalHandle<'c, T, J> {
         F: Drop,
         requires { F.pre f }
         ensures ok { IfOk result (λ o. (owns self.old.guards self.old.seat guard.old.seat ≡ true) × F.post f o) }
-        ensures state { OnOk result ((self.new ≡ record self.old { epoch = self.new.epoch; knows = self.new.knows }) × (guard.new ≡ record guard.old { epoch = guard.new.epoch })) }
-        ensures epoch { OnOk result (MatchBool (nat_eq self.old.guards 1)
-            ((guard.new.epoch ≡ self.new.epoch) × (self.new.knows.seen ≡ self.new.epoch))
-            ((self.new.epoch ≡ self.old.epoch) × (guard.new.epoch ≡ guard.old.epoch))) }
+        ensures state { OnOk result (MovesPin self.old guard.old self.new guard.new) }
+        ensures epoch { OnOk result (MovesIfAlone self.old guard.old self.new guard.new) }
         ensures word { IsPinned self.new.guards self.new.epoch self.new.knows }
-        ensures err { IfErr result (λ e. (e ≡ Fault.Foreign) × (owns self.old.guards self.old.seat guard.old.seat ≡ false)
-            × (self.new ≡ self.old) × (guard.new ≡ guard.old)) }
+        ensures err { IfErr result (λ e. RefusesToMove e self.old guard.old self.new guard.new) }
     {
         if !self.owns(guard) {
             return Err(Fault::Foreign);
@@ -468,15 +458,13 @@ impl<T: Pointable + Drop, J: Task> LocalHandle<'_, T, J> {
         guard: &Guard<'_, T, J>,
         pointer: Shared<'s, T>,
     ) -> Result<(), (Fault, Shared<'s, T>)>
-        ensures ok { OnOk result ((owns self.old.guards self.old.seat guard.now.seat ≡ true) × (self.new ≡ record self.old { bag = self.new.bag; seals = record self.old.seals { queued = self.new.seals.queued }; knows = self.new.knows })) }
-        ensures sealed { OnOk result (SealsUnder (nat_le bag_places (length self.old.bag)) self.old.epoch self.old.seals.queued self.new.seals.queued) }
+        ensures ok { OnOk result (ChangesBagUnder guard.now.seat self.old self.new) }
+        ensures sealed { OnOk result (SealsFull self.old self.new) }
         ensures bag { OnOk result (MatchResult (name_in pointer.entry.link.site self.old.collector.now.id)
-            (λ n. self.new.bag ≡ with_room self.old.bag ++ record { ticket = 0; work = Work.Remove n } ∷ [])
+            (λ n. PutsOff (Work.Remove n) self.old self.new)
             (λ e. ⊥)) }
-        ensures err { IfErr result (λ e. (e.1 ≡ pointer.entry) × (self.new ≡ record self.old { knows = self.new.knows })
-            × MatchBool (owns self.old.guards self.old.seat guard.now.seat)
-            (MatchResult (name_in pointer.entry.link.site self.old.collector.now.id) (λ _. (e.0 ≡ Fault.Memory) × (bag_places ≤ length self.old.bag)) (λ f. e.0 ≡ f))
-            (e.0 ≡ Fault.Foreign)) }
+        ensures err { IfErr result (λ e. (e.1 ≡ pointer.entry) × IsRefusedUnder guard.now.seat
+            (MatchResult (name_in pointer.entry.link.site self.old.collector.now.id) (λ _. LacksRoom self.old e.0) (λ f. e.0 ≡ f)) e.0 self.old self.new) }
     {
         if !self.owns(guard) {
             return Err((Fault::Foreign, pointer));

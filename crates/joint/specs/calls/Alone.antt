@@ -8,11 +8,11 @@ use Rattle.joint.specs.declared.steps.Event.TheVariants.{Begin, Go}
 use Rattle.joint.specs.declared.steps.Op.{Op}
 use Rattle.joint.specs.declared.steps.Op.TheVariants.{Pin, Unpin, Repin, Flush, Release, Range, RangeInclusive, Keys, IsEmpty, Stats}
 use Rattle.joint.specs.declared.steps.Report.{Report}
-use Rattle.joint.specs.Reports.{goes_on}
+use Rattle.joint.specs.Reports.{goes_on, is_in_flight}
 use Rattle.joint.specs.nodes.Nodes.{nodes}
 use Rattle.joint.specs.calls.Runs.{Taken}
 use Rattle.joint.specs.nodes.View.{id_number}
-use Rattle.joint.specs.engine.Engine.{World, is_in_flight}
+use Rattle.joint.specs.engine.Engine.{World}
 
 -- no call of another worker holds a lock
 abbrev pub OthersUnlocked : {V : Type 0} → World V → ℕ → Type 0

@@ -10,10 +10,9 @@ use Rattle.joint.specs.declared.steps.Op.{Op}
 use Rattle.joint.specs.declared.steps.Outcome.{Outcome}
 use Rattle.joint.specs.declared.steps.Outcome.TheVariants.{Running, Asks, Done, Refused}
 use Rattle.joint.specs.declared.steps.Target.TheVariants.{Tree}
-use Rattle.joint.specs.Reports.{target}
+use Rattle.joint.specs.Reports.{target, is_in_flight}
 use Rattle.joint.specs.world.MapSteps.{Line}
 use Rattle.joint.specs.world.World.{IsOnKey}
-use Rattle.joint.specs.engine.Engine.{is_in_flight}
 use Rattle.joint.specs.calls.Scans.{is_go}
 
 -- a further step of the worker's call

@@ -11,10 +11,10 @@ use Rattle.joint.specs.declared.steps.Outcome.TheVariants.{Running, Found, Done}
 use Rattle.joint.specs.declared.steps.Report.{Report}
 use Rattle.joint.specs.declared.steps.Step.{Step}
 use Rattle.joint.specs.declared.steps.Survey.TheVariants as survey
-use Rattle.joint.specs.Reports.{range_of, goes_on}
+use Rattle.joint.specs.Reports.{range_of, goes_on, is_in_flight}
 use Rattle.joint.specs.calls.Runs.{IsRun}
 use Rattle.joint.specs.engine.Surveys.{MapTells}
-use Rattle.joint.specs.engine.Engine.{World, is_busy, is_in_flight, misuse}
+use Rattle.joint.specs.engine.Engine.{World, is_busy, misuse}
 
 -- a further step of the worker's call, to which nothing comes from outside
 abbrev pub next_step : {V : Type 0} → ℕ → Step V

@@ -15,7 +15,8 @@ use Rattle.joint.specs.nodes.Nodes.{Nodes, nodes}
 use Rattle.joint.specs.Names.{number}
 use Rattle.joint.specs.calls.Runs.{Taken}
 use Rattle.joint.specs.world.Whereabouts.{IsWaiting, IsDestroyed, IsTakenBy}
-use Rattle.joint.specs.engine.Engine.{World, is_in_flight}
+use Rattle.joint.specs.engine.Engine.{World}
+use Rattle.joint.specs.Reports.{is_in_flight}
 
 -- a worker's step takes the node out of the tree, and with it one other at most: its call had taken out none, and has this
 -- one then

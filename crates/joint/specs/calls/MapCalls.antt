@@ -26,11 +26,11 @@ use Rattle.joint.specs.declared.steps.Target.{Target}
 use Rattle.joint.specs.declared.steps.Target.TheVariants as target
 use Rattle.joint.specs.engine.Flying.{Flights, with_flight, AreInFlight}
 use Rattle.joint.specs.nodes.Nodes.{nodes}
-use Rattle.joint.specs.Reports.{target, reply_in}
+use Rattle.joint.specs.Reports.{target, reply_in, is_in_flight}
 use Rattle.joint.specs.calls.Runs.{Taken}
 use Rattle.joint.specs.calls.Scans.{placed}
 use Rattle.joint.specs.engine.Surveys.{MapTells}
-use Rattle.joint.specs.engine.Engine.{World, is_in_flight}
+use Rattle.joint.specs.engine.Engine.{World}
 
 -- a further step of a worker's call, which is in flight after a step that told this
 pub record GoesOn {V : Type 0} (who : ℕ) (told : Outcome V) (t : Taken V) : Type 0 where

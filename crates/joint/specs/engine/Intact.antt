@@ -24,6 +24,7 @@ use Rattle.joint.specs.engine.Filed.{IsFiled}
 use Rattle.joint.specs.nodes.Nodes.{Nodes}
 use Rattle.joint.specs.engine.Safety.{IsSafe, Collected, Walked}
 use Rattle.joint.specs.engine.Sound.{IsUnderWay, IsSecured}
+use Rattle.joint.specs.Names.{root}
 
 -- whether a call may hand nodes over
 abbrev pub writes : {V : Type 0} → Op V → Bool
@@ -54,10 +55,6 @@ abbrev pub call_after : {V : Type 0} → Outcome → InFlight V → InFlight V
 call_after Running k = k
 call_after Done k = Idle
 call_after (Refused f) k = Idle
-
--- the tree's root
-abbrev pub root : Id
-root = record { name = record { cell = 0; turn = 0 } }
 
 -- a worker's call on the tree before its first
 abbrev pub resting : {V : Type 0} → Machine Id V

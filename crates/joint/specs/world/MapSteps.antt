@@ -17,7 +17,7 @@ use Rattle.joint.specs.declared.steps.Report.{Report}
 use Rattle.joint.specs.declared.steps.Step.{Step}
 use Rattle.joint.specs.engine.Flying.{Flights, with_flight}
 use Rattle.joint.specs.declared.steps.Outcome.TheVariants.{Running, Done, Refused}
-use Rattle.joint.specs.engine.Intact.{root}
+use Rattle.joint.specs.Names.{root}
 use Rattle.joint.specs.declared.steps.Done.{Done as Answer}
 use Rattle.joint.specs.declared.steps.Done.TheVariants.{Scanned}
 use Rattle.joint.specs.declared.steps.Outcome.{Outcome}

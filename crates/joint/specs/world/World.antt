@@ -22,13 +22,13 @@ use Rattle.joint.specs.declared.steps.Outcome.TheVariants.{Refused}
 use Rattle.joint.specs.declared.steps.Report.{Report}
 use Rattle.joint.specs.declared.steps.Step.{Step}
 use Rattle.joint.specs.declared.steps.Target.TheVariants.{Tree}
-use Rattle.joint.specs.engine.Engine.{World, engine_of, is_busy, misuse, quiet, IsOfCall, is_in_flight, IsEngineStep, IsFresh}
+use Rattle.joint.specs.engine.Engine.{World, engine_of, is_busy, misuse, quiet, IsOfCall, IsEngineStep, IsFresh}
 use Rattle.joint.specs.engine.Flying.{Flights, AreInFlight}
 use Rattle.joint.specs.nodes.Nodes.{nodes, IsCharged}
 use Rattle.joint.specs.engine.Intact.{IsIntact, is_reserving}
 use Rattle.joint.specs.engine.Journaling.{asks_at, entry_of, given_by, in_list, kept_if, places_of, reply_by}
 use Rattle.joint.specs.engine.Log.{asked, has_room, answered_if, is_full, request_at}
-use Rattle.joint.specs.Reports.{target}
+use Rattle.joint.specs.Reports.{target, is_in_flight}
 use Rattle.joint.specs.declared.limits.Limits.{Limits}
 use Rattle.joint.specs.nodes.Opening.{IsOpened}
 

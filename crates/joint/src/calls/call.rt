@@ -77,7 +77,7 @@ impl<P: Payload + Small, A: Allocator> World<P, A> {
 }
 
 /// Writes a pair to its place, if there is that place.
-fn put_at<P: Drop>(found: &mut [(u64, P)], place: usize, pair: (u64, P))
+pub(crate) fn put_at<Q: Drop>(found: &mut [Q], place: usize, pair: Q)
     ensures { found.new ≡ slice_set found.old place pair }
 {
     if place < found.len() {

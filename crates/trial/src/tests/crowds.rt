@@ -3,9 +3,7 @@
 //! that stand are charged, and what waits goes in quiet rounds.
 
 use super::interleavings::entry;
-use super::machine::{
-    Index, are_rounds_done, beginning, call, going, is_done, is_in_flight, noise, op_of,
-};
+use super::machine::{Index, are_rounds_done, beginning, call, going, is_done, noise, op_of};
 use super::schedules::next;
 use congee::{Child, Limited, NodeStats, Noise, Seen};
 use crossbeam_epoch::Name;
@@ -209,7 +207,7 @@ fn heard(
         seat.place = Some(told.len());
         told.push(entry(Call::Get(0), Reply::Get(None)))?;
     }
-    seat.is_going = is_in_flight(&report.outcome);
+    seat.is_going = report.outcome.is_in_flight();
     seat.has_asked = matches!(report.outcome, Outcome::Asks(_));
     if let Outcome::Done(Done::Reply(reply)) = report.outcome {
         put_reply(told, worker, seat, reply);

@@ -38,14 +38,15 @@ use Rattle.joint.specs.declared.steps.Survey.TheVariants as survey
 use Rattle.joint.specs.declared.steps.Step.{Step}
 use Rattle.joint.specs.calls.Alone.{OthersUnlocked, IsNext, AreNext, AllInFlight, steps_alone, AllEndAlone}
 use Rattle.joint.specs.nodes.Nodes.{Nodes, nodes, Refuses}
-use Rattle.joint.specs.engine.Intact.{IsAt, IsIntact, call_after, over_at, rested, resting, root, secured_call, secured_machines, writes}
+use Rattle.joint.specs.engine.Intact.{IsAt, IsIntact, call_after, over_at, rested, resting, secured_call, secured_machines, writes}
+use Rattle.joint.specs.Names.{root}
 use Rattle.joint.specs.engine.Laws.{CallLaws, AloneLaw, WholeLaw, ProgressLaws}
-use Rattle.joint.specs.Reports.{target, collected}
+use Rattle.joint.specs.Reports.{target, collected, is_in_flight}
 use Rattle.joint.specs.calls.Runs.{Taken, AreTaken}
 use Rattle.joint.specs.engine.Sound.{IsUnderWay}
 use Rattle.joint.specs.nodes.View.{id_number}
 use Rattle.joint.specs.world.World.{Holds, IsStep, StepsUnless, finds_journal_full}
-use Rattle.joint.specs.engine.Engine.{World, EngineHolds, BeginsAt, Collects, Does, EntersUnless, Enters, GoesAt, GoesOnReserving, Reserves, Surveys, Walks, engine_of, finds_none, is_busy, is_in_flight, misuse, reserving}
+use Rattle.joint.specs.engine.Engine.{World, EngineHolds, BeginsAt, Collects, Does, EntersUnless, Enters, GoesAt, GoesOnReserving, Reserves, Surveys, Walks, engine_of, finds_none, is_busy, misuse, reserving}
 use Rattle.joint.proofs.lemmas.engine.Collecting.{either, get_inside, inside_machines, set_here}
 use Rattle.joint.proofs.lemmas.engine.Entering.{begin_within, begin_idle}
 use Rattle.joint.proofs.lemmas.engine.Reported.{may_go}

@@ -27,13 +27,13 @@ use Rattle.joint.specs.declared.steps.Target.{Target}
 use Rattle.joint.specs.declared.steps.Target.TheVariants as target
 use Rattle.joint.specs.calls.Alone.{OthersUnlocked, AreNext, AllInFlight, steps_alone, CallEndsAlone}
 use Rattle.joint.specs.calls.Calling.{next_step, steps_of, GoOn, last_of, last_or, put_away, kept_report, IsCalled}
-use Rattle.joint.specs.Reports.{goes_on, target, told}
+use Rattle.joint.specs.Reports.{goes_on, target, told, is_in_flight}
 use Rattle.joint.specs.engine.Journaling.{asks_at}
 use Rattle.joint.specs.calls.Runs.{Taken, AreTaken}
 use Rattle.joint.specs.world.MapSteps.{GoMap, PendingStep, BeginMap, BeginsOr, Line}
 use Rattle.joint.specs.engine.Flying.{Flights}
 use Rattle.joint.specs.world.World.{Holds, IsStep}
-use Rattle.joint.specs.engine.Engine.{World, engine_of, is_in_flight}
+use Rattle.joint.specs.engine.Engine.{World, engine_of}
 use Rattle.joint.proofs.lemmas.engine.Entering.{begin_free}
 use Rattle.joint.proofs.lemmas.world.Flights.{flight_here}
 use Rattle.joint.proofs.lemmas.world.JournaledSteps.{mapped}

@@ -22,15 +22,15 @@ use Rattle.joint.specs.declared.steps.Step.{Step}
 use Rattle.joint.specs.declared.steps.Target.{Target}
 use Rattle.joint.specs.declared.steps.Target.TheVariants as target
 use Rattle.joint.specs.nodes.Nodes.{nodes}
-use Rattle.joint.specs.engine.Intact.{root}
+use Rattle.joint.specs.Names.{root}
 use Rattle.joint.specs.calls.MapCalls.{AllGoOn, told_after, IsOfScan, KeepsAll, told_places, HasScanned, IsScanning, IsScanDone, PlaysScan}
-use Rattle.joint.specs.Reports.{target, told}
+use Rattle.joint.specs.Reports.{target, told, is_in_flight}
 use Rattle.joint.specs.calls.Runs.{Taken, AreTaken, after_all}
 use Rattle.joint.specs.world.MapSteps.{GoMap, Advances, BeginMap, BeginsOr, EndsAtOnce, EndsEmpty, FindsNone, BeginsFlight, Line}
 use Rattle.joint.specs.engine.Flying.{Flights, with_flight, AreInFlight}
 use Rattle.joint.specs.calls.Scans.{placed}
 use Rattle.joint.specs.world.World.{Holds, IsStep}
-use Rattle.joint.specs.engine.Engine.{World, is_in_flight}
+use Rattle.joint.specs.engine.Engine.{World}
 use Rattle.joint.proofs.lemmas.world.Flights.{flight_here}
 use Rattle.joint.proofs.lemmas.world.JournaledSteps.{Mapped, mapped}
 use Rattle.joint.proofs.lemmas.calls.KeyCalls.{as_before, begin_of, gone, once_more, stays_keeps_all}

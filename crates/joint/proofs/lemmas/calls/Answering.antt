@@ -20,13 +20,12 @@ use Rattle.joint.specs.declared.steps.Target.{Target}
 use Rattle.joint.specs.declared.steps.Target.TheVariants as target
 use Rattle.joint.specs.calls.Answering.{Either, GoesOrAnswers, GoesOrRefused, Answers, TakesEffectAt, Decides, AllDecide}
 use Rattle.joint.specs.calls.Scans.{is_go}
-use Rattle.joint.specs.engine.Intact.{root}
-use Rattle.joint.specs.Reports.{target, told}
+use Rattle.joint.specs.Names.{root}
+use Rattle.joint.specs.Reports.{target, told, is_in_flight}
 use Rattle.joint.specs.calls.Runs.{IsMapRun}
 use Rattle.joint.specs.world.MapSteps.{EventMap, GoMap, PendingStep, BeginMap, BeginsOr, Line}
 use Rattle.joint.specs.engine.Flying.{Flights, with_flight}
 use Rattle.joint.specs.world.World.{IsOnKey}
-use Rattle.joint.specs.engine.Engine.{is_in_flight}
 use Rattle.joint.proofs.lemmas.world.Flights.{ends_stays, flight_here, flight_apart}
 
 either_by : (b : Bool) (A B : Type 0) → (b ≡ true → A) → (b ≡ false → B) → Either b A B

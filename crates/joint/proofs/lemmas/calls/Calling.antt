@@ -9,10 +9,10 @@ use Rattle.joint.specs.declared.steps.Step.{Step}
 use Rattle.joint.specs.declared.steps.Outcome.{Outcome}
 use Rattle.joint.specs.declared.steps.Outcome.TheVariants.{Running, Asks, Found, Registered, Done, Refused}
 use Rattle.joint.specs.calls.Calling.{next_step, steps_of, GoOn, last_of, put, put_all, put_away, kept_report, IsCalled}
-use Rattle.joint.specs.Reports.{goes_on}
+use Rattle.joint.specs.Reports.{goes_on, is_in_flight}
 use Rattle.joint.specs.calls.Runs.{IsRun}
 use Rattle.joint.specs.world.World.{Holds, IsStep}
-use Rattle.joint.specs.engine.Engine.{World, is_busy, is_in_flight, misuse}
+use Rattle.joint.specs.engine.Engine.{World, is_busy, misuse}
 use Rattle.joint.proofs.lemmas.engine.Reported.{may_go}
 use Rattle.joint.proofs.lemmas.calls.Runs.{runs_join}
 

@@ -51,7 +51,8 @@ use Rattle.joint.specs.declared.steps.Target.TheVariants as target
 use Rattle.joint.specs.engine.Beginning.{BeginsUnless, Begun}
 use Rattle.joint.specs.engine.Census.{AreCounted, effect_by, effect_of, fewer, more, taken_at, taken_by}
 use Rattle.joint.specs.nodes.Nodes.{Nodes, nodes, of_value, size, size_in, Refuses}
-use Rattle.joint.specs.engine.Intact.{IsIntact, Secured, WalkedOn, rested, resting, root, secured_machines}
+use Rattle.joint.specs.engine.Intact.{IsIntact, Secured, WalkedOn, rested, resting, secured_machines}
+use Rattle.joint.specs.Names.{root}
 use Rattle.joint.specs.engine.Journaling.{reply_at}
 use Rattle.joint.specs.engine.Laws.{CallLaws}
 use Rattle.joint.specs.nodes.Levels.{form_with}

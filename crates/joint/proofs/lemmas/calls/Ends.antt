@@ -29,7 +29,8 @@ use Rattle.joint.specs.Refusals.{of_fault}
 use Rattle.joint.specs.calls.Runs.{Taken, AreTaken, after_all}
 use Rattle.joint.specs.nodes.View.{id_number}
 use Rattle.joint.specs.world.World.{Holds, IsStep, StepsUnless, finds_journal_full, answered_request, requests_after}
-use Rattle.joint.specs.engine.Engine.{World, IsOfCall, Does, engine_of, is_busy, is_in_flight, misuse, place_of}
+use Rattle.joint.specs.engine.Engine.{World, IsOfCall, Does, engine_of, is_busy, misuse, place_of}
+use Rattle.joint.specs.Reports.{is_in_flight}
 use Rattle.joint.proofs.lemmas.engine.OneCallChanges.{Apart, one_set, step_apart}
 use Rattle.joint.proofs.lemmas.engine.Collecting.{get_inside}
 use Rattle.joint.proofs.lemmas.engine.Entering.{begin_idle}

@@ -27,7 +27,8 @@ use Rattle.joint.specs.declared.steps.Target.{Target}
 use Rattle.joint.specs.declared.steps.Target.TheVariants as target
 use Rattle.joint.specs.calls.Filling.{NoneSkipped, StaysFilled}
 use Rattle.joint.specs.nodes.Nodes.{Nodes, nodes, Refuses}
-use Rattle.joint.specs.engine.Intact.{rested, resting, root, secured_machines}
+use Rattle.joint.specs.engine.Intact.{rested, resting, secured_machines}
+use Rattle.joint.specs.Names.{root}
 use Rattle.joint.specs.engine.Laws.{CallLaws, FilledLaws, FillingLaw}
 use Rattle.joint.specs.world.World.{IsNew, Holds, StepsUnless, finds_journal_full}
 use Rattle.joint.specs.Reports.{target}

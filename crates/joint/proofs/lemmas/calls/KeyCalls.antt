@@ -30,14 +30,14 @@ use Rattle.joint.specs.declared.steps.Step.{Step}
 use Rattle.joint.specs.declared.steps.Target.{Target}
 use Rattle.joint.specs.declared.steps.Target.TheVariants as target
 use Rattle.joint.specs.nodes.Nodes.{nodes}
-use Rattle.joint.specs.engine.Intact.{root}
+use Rattle.joint.specs.Names.{root}
 use Rattle.joint.specs.calls.MapCalls.{AllGoOn, told_after, Answered, answered_by, answer_in, answered_after, IsPresent, IsComputed, IsOnMap, TookEffect, IsUndecided, IsDecided, KeepsAll, IsDoneWith, PlaysKey}
-use Rattle.joint.specs.Reports.{target, told}
+use Rattle.joint.specs.Reports.{target, told, is_in_flight}
 use Rattle.joint.specs.calls.Runs.{Taken, AreTaken, after_all}
 use Rattle.joint.specs.world.MapSteps.{GoMap, Advances, PendingStep, BeginMap, BeginsOr, EndsAtOnce, EndsEmpty, BeginsFlight, Stays, Line}
 use Rattle.joint.specs.engine.Flying.{Flights, with_flight, IsInFlight, AreInFlight}
 use Rattle.joint.specs.world.World.{Holds, IsOnKey, IsStep}
-use Rattle.joint.specs.engine.Engine.{World, is_in_flight}
+use Rattle.joint.specs.engine.Engine.{World}
 use Rattle.joint.proofs.lemmas.world.Flights.{flight_here}
 use Rattle.joint.proofs.lemmas.world.JournaledSteps.{Mapped, mapped}
 

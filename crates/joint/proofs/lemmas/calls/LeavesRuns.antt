@@ -48,14 +48,14 @@ use Rattle.joint.specs.engine.Intact.{call_after, is_reserving, over_at, rested,
 use Rattle.joint.specs.engine.Laws.{CallLaws, LeavesLaw}
 use Rattle.joint.specs.calls.Leaving.{TakesOut, HandsOver, StaysLeft, LeavesRightly, LeftLocked, BeginsAnew, TakesNone, HandsNone, AllLeaveOnce}
 use Rattle.joint.specs.world.World.{IsNew, Holds, IsStep, StepsUnless, FindsJournalFull, finds_journal_full}
-use Rattle.joint.specs.Reports.{target}
+use Rattle.joint.specs.Reports.{target, is_in_flight}
 use Rattle.joint.specs.engine.Sound.{IsUnderWay}
 use Rattle.joint.specs.calls.Runs.{Taken, AreTaken, after_all}
 use Rattle.joint.specs.world.MapSteps.{EventMap, GoMap, PendingStep, Line}
 use Rattle.joint.specs.engine.Flying.{Flights}
 use Rattle.joint.specs.nodes.View.{id_number}
 use Rattle.joint.specs.world.Whereabouts.{IsWaiting, IsDestroyed, IsTakenBy}
-use Rattle.joint.specs.engine.Engine.{World, EngineHolds, BeginsAt, BeginsOnTree, Collects, Does, EntersUnless, GoesAt, Walks, engine_of, finds_none, is_in_flight, misuse, quiet}
+use Rattle.joint.specs.engine.Engine.{World, EngineHolds, BeginsAt, BeginsOnTree, Collects, Does, EntersUnless, GoesAt, Walks, engine_of, finds_none, misuse, quiet}
 use Rattle.joint.proofs.lemmas.engine.OneCallChanges.{Apart, one_same, one_set, step_apart}
 use Rattle.joint.proofs.lemmas.calls.Ends.{and_left}
 use Rattle.joint.proofs.lemmas.engine.Entering.{begin_within}

@@ -22,16 +22,16 @@ use Rattle.joint.specs.declared.steps.Survey.TheVariants as survey
 use Rattle.joint.specs.declared.steps.Target.{Target}
 use Rattle.joint.specs.declared.steps.Target.TheVariants as target
 use Rattle.joint.specs.calls.Calling.{IsCalled, next_step, steps_of, GoOn, last_of, last_or, put_away, kept_report}
-use Rattle.joint.specs.Reports.{goes_on, range_of, target}
+use Rattle.joint.specs.Reports.{goes_on, range_of, target, is_in_flight}
 use Rattle.joint.specs.nodes.Nodes.{nodes}
-use Rattle.joint.specs.engine.Intact.{root}
+use Rattle.joint.specs.Names.{root}
 use Rattle.joint.specs.calls.MapCalls.{AllGoOn, AreOfCall, told_after, Answered, answered_by, answer_in, answered_after, KeepsAll, told_places, HasScanned, PlaysKey, PlaysScan, PlaysCall, CallPlays}
 use Rattle.joint.specs.calls.Runs.{Taken, AreTaken, after_all}
 use Rattle.joint.specs.world.MapSteps.{GoMap, BeginMap, Line}
 use Rattle.joint.specs.engine.Flying.{Flights, AreInFlight}
 use Rattle.joint.specs.engine.Surveys.{MapTells}
 use Rattle.joint.specs.world.World.{Holds, IsStep}
-use Rattle.joint.specs.engine.Engine.{World, engine_of, is_in_flight}
+use Rattle.joint.specs.engine.Engine.{World, engine_of}
 use Rattle.joint.proofs.lemmas.engine.Entering.{begin_free}
 use Rattle.joint.proofs.lemmas.world.JournaledSteps.{Mapped, mapped}
 use Rattle.joint.proofs.lemmas.calls.KeyCalls.{begin_of, gone, key_plays, stays_keeps_all}

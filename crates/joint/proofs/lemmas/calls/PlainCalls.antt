@@ -34,14 +34,14 @@ use Rattle.joint.specs.declared.refusal.Refusal.TheVariants.{Exhausted}
 use Rattle.joint.specs.declared.steps.Outcome.TheVariants.{Refused}
 use Rattle.joint.specs.declared.steps.Report.{Report}
 use Rattle.joint.specs.nodes.Nodes.{Nodes, nodes, Refuses}
-use Rattle.joint.specs.engine.Intact.{call_after, secured_call, secured_machines, over_at, resting, rested, root}
+use Rattle.joint.specs.engine.Intact.{call_after, secured_call, secured_machines, over_at, resting, rested}
 use Rattle.joint.specs.engine.Laws.{NumberLaws}
 use Rattle.joint.specs.engine.Safety.{IsSafe, Collected, Walked}
 use Rattle.joint.specs.calls.Plain.{unnamed, unnamed_seen, IsUnrefused, IsUnhindered, InPlain, Agree}
 use Rattle.joint.specs.Refusals.{of_tree, of_fault}
 use Rattle.joint.specs.Reports.{told}
 use Rattle.joint.specs.nodes.View.{view, id_number}
-use Rattle.joint.specs.Names.{named}
+use Rattle.joint.specs.Names.{named, root}
 use Rattle.joint.specs.engine.Engine.{World, Collects, Enters, Reserves, reserving, GoesOnReserving, Walks}
 use Rattle.joint.proofs.lemmas.engine.Collecting.{either}
 use Rattle.joint.proofs.lemmas.engine.ScanEnds.{cleared_is}

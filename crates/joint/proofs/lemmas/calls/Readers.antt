@@ -56,15 +56,16 @@ use Rattle.joint.specs.declared.steps.Outcome.TheVariants.{Running, Asks, Found,
 use Rattle.joint.specs.declared.steps.Report.{Report}
 use Rattle.joint.specs.calls.Ends.{RefusesReader, AllRefuseReader, ReadersRefused, is_reading}
 use Rattle.joint.specs.nodes.Nodes.{nodes, Refuses}
-use Rattle.joint.specs.engine.Intact.{IsAt, is_reserving, call_after, over_at, rested, resting, root}
+use Rattle.joint.specs.engine.Intact.{IsAt, is_reserving, call_after, over_at, rested, resting}
+use Rattle.joint.specs.Names.{root}
 use Rattle.joint.specs.engine.Laws.{ProgressLaws}
 use Rattle.joint.specs.Refusals.{of_fault, of_tree}
-use Rattle.joint.specs.Reports.{collected, told}
+use Rattle.joint.specs.Reports.{collected, told, is_in_flight}
 use Rattle.joint.specs.calls.Runs.{Taken, AreTaken}
 use Rattle.joint.specs.engine.Surveys.{TellsEmpty}
 use Rattle.joint.specs.nodes.View.{id_number}
 use Rattle.joint.specs.world.World.{Holds, IsStep, StepsUnless, finds_journal_full}
-use Rattle.joint.specs.engine.Engine.{World, EngineHolds, IsOfCall, Collects, Does, EntersUnless, Enters, GoesAt, Walks, engine_of, finds_none, is_busy, is_in_flight, misuse, place_of}
+use Rattle.joint.specs.engine.Engine.{World, EngineHolds, IsOfCall, Collects, Does, EntersUnless, Enters, GoesAt, Walks, engine_of, finds_none, is_busy, misuse, place_of}
 use Rattle.joint.proofs.lemmas.engine.OneCallChanges.{Apart, one_set, step_apart}
 use Rattle.joint.proofs.lemmas.engine.Collecting.{get_inside}
 use Rattle.joint.proofs.lemmas.calls.Ends.{and_left}

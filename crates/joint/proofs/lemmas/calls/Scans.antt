@@ -20,7 +20,7 @@ use Rattle.joint.specs.declared.steps.Outcome.TheVariants.{Running, Asks, Found,
 use Rattle.joint.specs.declared.steps.Target.{Target}
 use Rattle.joint.specs.declared.steps.Target.TheVariants as target
 use Rattle.joint.specs.Reports.{goes_on, range_of, target, told}
-use Rattle.joint.specs.engine.Intact.{root}
+use Rattle.joint.specs.Names.{root}
 use Rattle.joint.specs.calls.Runs.{IsMapRun, pairs_after}
 use Rattle.joint.specs.world.MapSteps.{MapStep, EventMap, GoMap, Scans, BeginMap, BeginsOr, EndsEmpty, Line}
 use Rattle.joint.specs.engine.Flying.{Flights, with_flight}

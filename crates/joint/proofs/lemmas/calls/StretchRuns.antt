@@ -48,12 +48,12 @@ use Rattle.joint.specs.declared.steps.Op.{Op}
 use Rattle.joint.specs.declared.steps.Op.TheVariants as op
 use Rattle.joint.specs.declared.steps.Report.{Report}
 use Rattle.joint.specs.nodes.Nodes.{Nodes, nodes, Refuses}
-use Rattle.joint.specs.engine.Intact.{BeginsSecuring, IsAt, rested, resting, root, secured_machines}
+use Rattle.joint.specs.engine.Intact.{BeginsSecuring, IsAt, rested, resting, secured_machines}
 use Rattle.joint.specs.engine.Laws.{CallLaws, CellLaws, LeavesLaw}
 use Rattle.joint.specs.engine.Safety.{Collected, retiring_at, after_walk}
 use Rattle.joint.specs.nodes.Slots.{slot_names}
 use Rattle.joint.specs.NameLemmas.{number_named}
-use Rattle.joint.specs.Names.{named}
+use Rattle.joint.specs.Names.{named, root}
 use Rattle.joint.specs.calls.Runs.{Taken, AreTaken}
 use Rattle.joint.specs.engine.Sound.{Guards, IsSecured, IsUnderWay, Sound}
 use Rattle.joint.specs.calls.Stretches.{EndsStretch, HasChecked, SeesNode, StandsOn, publishes, turns_stretch}

@@ -29,7 +29,8 @@ use Rattle.joint.specs.declared.steps.Report.{Report}
 use Rattle.joint.specs.declared.steps.Step.{Step}
 use Rattle.joint.specs.declared.steps.Target.{Target}
 use Rattle.joint.specs.declared.steps.Target.TheVariants as target
-use Rattle.joint.specs.engine.Intact.{IsAt, root}
+use Rattle.joint.specs.engine.Intact.{IsAt}
+use Rattle.joint.specs.Names.{root}
 use Rattle.joint.specs.engine.Journaling.{asks_at}
 use Rattle.joint.specs.Reports.{collected, target, told}
 use Rattle.joint.specs.calls.Runs.{Taken, AreTaken, after_all}

@@ -27,8 +27,8 @@ use Rattle.joint.specs.nodes.Nodes.{nodes}
 use Rattle.joint.specs.engine.Intact.{is_reserving}
 use Rattle.joint.specs.engine.Journaling.{entry_of, has_place, in_list, kept_if, one_where, places_of, reply_by}
 use Rattle.joint.specs.engine.Log.{Log, asked, has_room, answered_if, is_full, with_request, opened_log, recounted, request_at}
-use Rattle.joint.specs.Reports.{target}
-use Rattle.joint.specs.engine.Engine.{IsFresh, World, EngineHolds, IsEngineStep, engine_of, is_in_flight, quiet}
+use Rattle.joint.specs.Reports.{target, is_in_flight}
+use Rattle.joint.specs.engine.Engine.{IsFresh, World, EngineHolds, IsEngineStep, engine_of, quiet}
 use Rattle.joint.specs.engine.Flying.{no_flights}
 use Rattle.joint.specs.world.World.{Holds, IsLogged, IsStep, StepsUnless, entry_at, finds_journal_full, answered_request, kept_at, requests_after}
 use Rattle.joint.proofs.lemmas.world.Effects.{begin_undecided}

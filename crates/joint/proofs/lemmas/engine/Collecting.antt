@@ -25,7 +25,8 @@ use Rattle.joint.specs.declared.engine.in_flight.InFlight.TheVariants.{Idle, Col
 use Rattle.joint.specs.declared.id.Id.{Id}
 use Rattle.joint.specs.declared.nodes.slot.Slot.{Slot}
 use Rattle.joint.specs.nodes.Nodes.{Nodes}
-use Rattle.joint.specs.engine.Intact.{IsAt, IsIntact, IsSecuring, MayStart, Secured, call_after, secured_call, secured_machines, root}
+use Rattle.joint.specs.engine.Intact.{IsAt, IsIntact, IsSecuring, MayStart, Secured, call_after, secured_call, secured_machines}
+use Rattle.joint.specs.Names.{root}
 use Rattle.joint.specs.engine.Laws.{ProgressLaws}
 use Rattle.joint.specs.engine.Safety.{Rests, Collected}
 use Rattle.joint.proofs.lemmas.engine.SecuredPlaces.{with_room}

@@ -22,11 +22,12 @@ use Rattle.joint.specs.declared.steps.Op.{Op}
 use Rattle.joint.specs.declared.steps.Report.{Report}
 use Rattle.joint.specs.declared.steps.Target.{Target}
 use Rattle.joint.specs.declared.steps.Target.TheVariants as target
-use Rattle.joint.specs.engine.Intact.{call_after, is_reserving, root}
+use Rattle.joint.specs.engine.Intact.{call_after, is_reserving}
+use Rattle.joint.specs.Names.{root}
 use Rattle.joint.specs.engine.Journaling.{has_place}
-use Rattle.joint.specs.Reports.{target}
+use Rattle.joint.specs.Reports.{target, is_in_flight}
 use Rattle.joint.specs.engine.Flying.{Flights, AreInFlight}
-use Rattle.joint.specs.engine.Engine.{World, EngineHolds, BeginsAt, BeginsOnTree, Does, EntersUnless, GoesAt, finds_none, is_busy, is_in_flight, misuse, place_of}
+use Rattle.joint.specs.engine.Engine.{World, EngineHolds, BeginsAt, BeginsOnTree, Does, EntersUnless, GoesAt, finds_none, is_busy, misuse, place_of}
 use Rattle.joint.proofs.lemmas.engine.Collecting.{set_here, get_inside}
 use Rattle.joint.proofs.lemmas.engine.HandOver.{held_place}
 

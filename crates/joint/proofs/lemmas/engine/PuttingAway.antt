@@ -9,8 +9,7 @@ use Rattle.joint.specs.declared.engine.in_flight.InFlight.TheVariants.{Idle, Wal
 use Rattle.joint.specs.declared.id.Id.{Id}
 use Rattle.joint.specs.nodes.Nodes.{Nodes}
 use Rattle.joint.specs.nodes.View.{id_number}
-use Rattle.joint.specs.Reports.{told}
-use Rattle.joint.specs.engine.Engine.{is_in_flight}
+use Rattle.joint.specs.Reports.{told, is_in_flight}
 use Rattle.joint.specs.engine.Intact.{IsIntact, WalkedOn, cleared, over_at}
 use Rattle.joint.specs.engine.Laws.{CallLaws}
 use Rattle.joint.specs.engine.Safety.{Walked}

@@ -24,9 +24,9 @@ use Rattle.joint.specs.declared.steps.Target.TheVariants as target
 use Rattle.joint.specs.nodes.Nodes.{nodes}
 use Rattle.joint.specs.engine.Intact.{call_after, secured_call, over_at}
 use Rattle.joint.specs.engine.Laws.{CallLaws}
-use Rattle.joint.specs.Reports.{target, told, collected}
+use Rattle.joint.specs.Reports.{target, told, collected, is_in_flight}
 use Rattle.joint.specs.nodes.View.{id_number}
-use Rattle.joint.specs.engine.Engine.{World, EngineHolds, Does, Proceeds, BeginsAt, BeginsOnTree, EntersUnless, finds_none, GoesAt, Collects, Walks, GoesOnReserving, SecuresFirst, IsOfCall, is_busy, is_in_flight, misuse, place_of, reserving}
+use Rattle.joint.specs.engine.Engine.{World, EngineHolds, Does, Proceeds, BeginsAt, BeginsOnTree, EntersUnless, finds_none, GoesAt, Collects, Walks, GoesOnReserving, SecuresFirst, IsOfCall, is_busy, misuse, place_of, reserving}
 use Rattle.joint.proofs.lemmas.engine.Collecting.{set_here, get_inside}
 use Rattle.joint.proofs.lemmas.engine.Ending.{goes_on_after}
 use Rattle.joint.proofs.lemmas.engine.HandOver.{held_place}

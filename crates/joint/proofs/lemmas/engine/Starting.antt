@@ -21,7 +21,8 @@ use Rattle.joint.specs.declared.engine.in_flight.InFlight.TheVariants.{Idle, Wal
 use Rattle.joint.specs.declared.id.Id.{Id}
 use Rattle.joint.specs.nodes.Nodes.{Nodes}
 use Rattle.joint.specs.nodes.Heap.{heap_of}
-use Rattle.joint.specs.engine.Intact.{IsAt, IsIntact, MayStart, root, writes}
+use Rattle.joint.specs.engine.Intact.{IsAt, IsIntact, MayStart, writes}
+use Rattle.joint.specs.Names.{root}
 use Rattle.joint.specs.engine.Laws.{CallLaws}
 use Rattle.joint.specs.nodes.Slots.{slot_names}
 use Rattle.joint.specs.engine.Sound.{IsUnderWay, IsSecured, Guards, most_left}

@@ -9,9 +9,8 @@ use Rattle.joint.specs.declared.steps.Outcome.{Outcome}
 use Rattle.joint.specs.declared.steps.Outcome.TheVariants.{Running, Asks, Found, Registered, Done, Refused}
 use Rattle.joint.specs.declared.steps.Survey.{Survey}
 use Rattle.joint.specs.declared.steps.Survey.TheVariants as survey
-use Rattle.joint.specs.Reports.{goes_on}
+use Rattle.joint.specs.Reports.{goes_on, is_in_flight}
 use Rattle.joint.specs.engine.Surveys.{MapTells, TellsOf}
-use Rattle.joint.specs.engine.Engine.{is_in_flight}
 
 module _ {V : Type 0} (h : ℕ → Node V) where
   -- a call of one step has ended

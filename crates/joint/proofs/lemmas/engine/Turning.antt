@@ -33,7 +33,8 @@ use Rattle.congee.specs.declared.protocol.machine.Noise.{Noise}
 use Rattle.joint.specs.declared.steps.Event.TheVariants.{Go}
 use Rattle.joint.specs.engine.Beginning.{BeginsUnless, Begun}
 use Rattle.joint.specs.nodes.Nodes.{IsCharged, sizes}
-use Rattle.joint.specs.engine.Intact.{IsIntact, call_after, root, writes}
+use Rattle.joint.specs.engine.Intact.{IsIntact, call_after, writes}
+use Rattle.joint.specs.Names.{root}
 use Rattle.joint.specs.engine.Laws.{ProgressLaws}
 use Rattle.joint.specs.engine.Safety.{Collected}
 use Rattle.joint.specs.Refusals.{of_fault}

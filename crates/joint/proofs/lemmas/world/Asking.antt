@@ -21,14 +21,14 @@ use Rattle.joint.specs.declared.steps.Outcome.TheVariants.{Running, Asks, Found,
 use Rattle.joint.specs.declared.steps.Report.{Report}
 use Rattle.joint.specs.declared.steps.Target.{Target}
 use Rattle.joint.specs.declared.steps.Target.TheVariants as target
-use Rattle.joint.specs.engine.Intact.{root}
+use Rattle.joint.specs.Names.{root}
 use Rattle.joint.specs.engine.Journaling.{asks_at}
 use Rattle.joint.specs.engine.Log.{asked, answered_if, request_at}
-use Rattle.joint.specs.Reports.{target, told}
+use Rattle.joint.specs.Reports.{target, told, is_in_flight}
 use Rattle.joint.specs.world.MapSteps.{EventMap, GoMap, PendingStep, BeginMap, BeginsOr, Stays, Line}
 use Rattle.joint.specs.engine.Flying.{Flights, AreInFlight, with_flight}
 use Rattle.joint.specs.world.World.{IsAsked, requests_after}
-use Rattle.joint.specs.engine.Engine.{World, EngineHolds, Does, is_in_flight, misuse, engine_of}
+use Rattle.joint.specs.engine.Engine.{World, EngineHolds, Does, misuse, engine_of}
 use Rattle.joint.proofs.lemmas.world.Flights.{ends_stays, flight_here, flight_apart}
 use Rattle.joint.proofs.lemmas.world.Requested.{TakesAnswer, asks, is_asked, heard_is, undecided_asked, begins_asked}
 use Rattle.joint.proofs.lemmas.world.JournalPlaces.{asks_here}

@@ -14,7 +14,8 @@ use Rattle.joint.specs.declared.engine.in_flight.InFlight.TheVariants.{Idle, Col
 use Rattle.joint.specs.declared.id.Id.{Id}
 use Rattle.joint.specs.declared.steps.Done.{Done as Answer}
 use Rattle.joint.specs.declared.steps.Done.TheVariants as done
-use Rattle.joint.specs.engine.Intact.{root, writes}
+use Rattle.joint.specs.engine.Intact.{writes}
+use Rattle.joint.specs.Names.{root}
 use Rattle.joint.specs.world.MapSteps.{EndsAtOnce, EndsEmpty, Stays, Line}
 use Rattle.joint.specs.engine.Flying.{Flights, with_flight, IsInFlight}
 

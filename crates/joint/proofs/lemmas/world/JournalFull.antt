@@ -23,7 +23,8 @@ use Rattle.joint.specs.engine.Log.{counted}
 use Rattle.joint.specs.world.MapSteps.{GoMap}
 use Rattle.joint.specs.engine.Flying.{Flights, AreInFlight, with_flight}
 use Rattle.joint.specs.world.World.{Holds, IsLogged}
-use Rattle.joint.specs.engine.Engine.{World, engine_of, is_busy, is_in_flight, quiet}
+use Rattle.joint.specs.engine.Engine.{World, engine_of, is_busy, quiet}
+use Rattle.joint.specs.Reports.{is_in_flight}
 use Rattle.joint.proofs.lemmas.engine.OneCallChanges.{Apart, one_same, one_set, places_counted}
 use Rattle.joint.proofs.lemmas.world.Asking.{asked_set}
 use Rattle.joint.proofs.lemmas.engine.Collecting.{set_here, get_inside}

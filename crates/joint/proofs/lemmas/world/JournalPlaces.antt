@@ -19,7 +19,8 @@ use Rattle.congee.specs.protocol.Answers.{reply_in}
 use Rattle.joint.specs.declared.engine.in_flight.InFlight.{InFlight}
 use Rattle.joint.specs.declared.engine.in_flight.InFlight.TheVariants.{Idle, Collecting, Reserving, Securing, Walking}
 use Rattle.joint.specs.declared.id.Id.{Id}
-use Rattle.joint.specs.engine.Intact.{IsAt, is_reserving, root, writes}
+use Rattle.joint.specs.engine.Intact.{IsAt, is_reserving, writes}
+use Rattle.joint.specs.Names.{root}
 use Rattle.joint.specs.engine.Journaling.{asks_at, has_place, is_writing, reply_at}
 use Rattle.joint.specs.world.MapSteps.{GoMap, PendingStep, Line}
 use Rattle.joint.specs.engine.Flying.{Flights, IsInFlight, AreInFlight, with_flight}

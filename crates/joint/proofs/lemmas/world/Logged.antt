@@ -25,7 +25,8 @@ use Rattle.joint.specs.engine.Log.{counted, has_room, is_full, recounted, reques
 use Rattle.joint.specs.world.MapSteps.{looks_up, EventMap, Line}
 use Rattle.joint.specs.engine.Flying.{Flights, AreInFlight}
 use Rattle.joint.specs.world.World.{Holds, IsAsked, IsLogged, IsStep, StepsUnless, entry_at, finds_journal_full, kept_at, requests_after}
-use Rattle.joint.specs.engine.Engine.{World, EngineHolds, IsEngineStep, Does, engine_of, is_in_flight, misuse}
+use Rattle.joint.specs.engine.Engine.{World, EngineHolds, IsEngineStep, Does, engine_of, misuse}
+use Rattle.joint.specs.Reports.{is_in_flight}
 use Rattle.joint.proofs.lemmas.engine.OneCallChanges.{Apart, places_counted, step_apart}
 use Rattle.joint.proofs.lemmas.world.Asking.{asked_after}
 use Rattle.joint.proofs.lemmas.world.Effects.{Effect, Leaves, effect, leaves, room_for}

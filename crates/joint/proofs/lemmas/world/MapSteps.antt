@@ -52,7 +52,8 @@ use Rattle.joint.specs.declared.steps.Report.{Report}
 use Rattle.joint.specs.declared.steps.Target.{Target}
 use Rattle.joint.specs.declared.steps.Target.TheVariants as target
 use Rattle.joint.specs.nodes.Nodes.{nodes, Refuses}
-use Rattle.joint.specs.engine.Intact.{IsAt, IsIntact, call_after, secured_call, secured_machines, over_at, rested, root, writes}
+use Rattle.joint.specs.engine.Intact.{IsAt, IsIntact, call_after, secured_call, secured_machines, over_at, rested, writes}
+use Rattle.joint.specs.Names.{root}
 use Rattle.joint.specs.Refusals.{of_fault}
 use Rattle.joint.specs.Reports.{target, told}
 use Rattle.joint.specs.engine.Surveys.{MapTells}

@@ -23,7 +23,7 @@ use Rattle.joint.specs.declared.engine.request.Request.{Request}
 use Rattle.joint.specs.declared.steps.Op.{Op}
 use Rattle.joint.specs.declared.steps.Op.TheVariants.{Get, Insert, Remove, ComputePresent, ComputeInsert, Exchange, Range, RangeInclusive}
 use Rattle.joint.specs.declared.steps.Target.TheVariants.{Tree}
-use Rattle.joint.specs.engine.Intact.{root}
+use Rattle.joint.specs.Names.{root}
 use Rattle.joint.specs.engine.Journaling.{HasAnswer, call_of}
 use Rattle.joint.specs.engine.Log.{asked, with_answer, answered_if}
 use Rattle.joint.specs.Reports.{target}

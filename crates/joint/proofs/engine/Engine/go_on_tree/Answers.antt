@@ -2,10 +2,10 @@ use Rattle.std.proofs.Common.{◌≡◌, ◌+◌, ◌-◌, ◌<◌, ℕ, false, 
 use Rattle.std.specs.Prelude.{slice_set, if◌then◌else◌}
 use Rattle.std.proofs.lemmas.List.{length-set}
 use Rattle.joint.specs.declared.engine.in_flight.InFlight.TheVariants.{Idle, Walking}
-use Rattle.joint.specs.Reports.{told}
+use Rattle.joint.specs.Reports.{told, is_in_flight}
 use Rattle.joint.specs.engine.Census.{more}
 use Rattle.joint.specs.declared.steps.Kind.TheVariants.{Tree}
-use Rattle.joint.specs.engine.Engine.{is_in_flight, standing}
+use Rattle.joint.specs.engine.Engine.{standing}
 use Rattle.joint.proofs.lemmas.engine.Collecting.{inside, inside_machines}
 use Rattle.joint.proofs.lemmas.calls.CensusSteps.{bytes_small, counted_walk, few_machines, had, had_bytes, pairs_room, pairs_there, taken_few}
 use Rattle.joint.proofs.lemmas.engine.PuttingAway.{calls_put, still_intact, walked_on}
