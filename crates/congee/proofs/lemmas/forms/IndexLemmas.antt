@@ -94,9 +94,6 @@ module _ {X : Type 0} {x : Index} {xs : List X} (ok : IsIndexed x xs) where
   pub get_there : (b : ℕ) (d : X) → b < 256 → place_of x b ≢ 48 → map.get (indexed_map x xs) b ≡ Some (get_or xs (place_of x b) d)
   get_there b d l n = get_is b l ∙ slice_get-get_or xs (place_of x b) d (omega (arith, n, ok.index.bounded b l, ok.places))
 
-  place_within : (b : ℕ) → b < 256 → place_of x b ≢ 48 → place_of x b < length xs
-  place_within b l n = omega (arith, n, ok.index.bounded b l, ok.places)
-
   -- the first byte with a place from one on is the first with a child
   pub is_first : (from b : ℕ) (d : X) → b < 256 → from ≤ b → place_of x b ≢ 48 → ((q : ℕ) → from ≤ q → q < b → place_of x q ≡ 48) → IsFirst (indexed_map x xs) from b (get_or xs (place_of x b) d)
   is_first from b d l h n before = record { past = h; here = get_there b d l n; before = λ q g m. get_blank q (omega arith) (before q g m) }

@@ -3,13 +3,13 @@ use Rattle.std.proofs.Common.{◌≡◌, ◌≢◌, ℕ, zero, suc, ◌+◌, ◌
 use Rattle.std.specs.Prelude.{None, Some, ◌==◌}
 use Rattle.std.proofs.lemmas.Bool.Decides.{eqb_tells}
 use Rattle.std.specs.FinMap as map
-use Rattle.slab.specs.Slab.{get, ContainsKey}
+use Rattle.slab.specs.Slab.{get}
 use Rattle.congee.specs.Heap.{Hung, Nothing, Below, Holds, Node, fits, child_for}
 use Rattle.congee.specs.Notes.{Linked, Note, IsChild, HasParent, Tree}
 use Rattle.congee.specs.forms.Forms.{form_of, prefix_of, children_of, size_of, next_form, is_full_of}
 use Rattle.congee.specs.owned.Arena.{Nodes, hung_in, heap_of, node_of, IsTree, OnWay, Hangs}
 use Rattle.congee.specs.Keys.{key_bytes}
-use Rattle.congee.specs.owned.OwnedSteps.{SameNodes, Sets, Makes, IsRefusal}
+use Rattle.congee.specs.owned.OwnedSteps.{SameNodes, Sets, IsRefusal}
 use Rattle.congee.specs.owned.Place.{Located, EndsAt}
 use Rattle.congee.specs.declared.owned.place.Place.{Place}
 use Rattle.congee.specs.declared.owned.place.Spot.{Spot}
@@ -25,7 +25,7 @@ use Rattle.congee.proofs.lemmas.Fits.{fits_trans, fits_byte}
 use Rattle.congee.proofs.lemmas.owned.Tables.{table_below}
 use Rattle.congee.proofs.lemmas.Tree.{same_or_not}
 use Rattle.congee.proofs.lemmas.owned.Ways.{linked_of, above_apart}
-use Rattle.congee.proofs.lemmas.owned.Moves.{node_at, apart_of}
+use Rattle.congee.proofs.lemmas.owned.Moves.{node_at}
 use Rattle.congee.proofs.lemmas.owned.Answered.{located_held}
 
 module _ {V X : Type 0} (apart : X) (last : Node V → Hung V → X) where
@@ -178,12 +178,6 @@ module _ {P : Type 0} where
   free_inner n ne =
       let f : (length n.prefix == 7) ≡ false = elim (eqb_tells (length n.prefix) 7) [ inl q ↦ absurd (ne q.1) | inr q ↦ q.0 ] in
       ap (λ b. cond b (room_for n) (64 ∷ room_for n)) f
-
-  -- a node as it was before another was made
-  pub made_same : (s s1 : Nodes P) (at leaf : ℕ) (p : List ℕ) → ContainsKey s at → Makes s s1 leaf p → heap_of s1 at ≡ heap_of s at
-  made_same s s1 at leaf p st m =
-      let n = node_at s at st in
-      ap node_of (m.updates.others at (apart_of s at leaf n.0 n.1 m.vacant))
 
   -- room that was found after a leaf was made
   pub fit_after : (n n' : Node P) (c c' l l' : ℕ) → n' ≡ n → c' ≡ c + 64 → l' ≡ l → c + 64 ≤ l → AllFit (room_for n') c' l' → AllFit (64 ∷ room_for n) c l

@@ -68,9 +68,6 @@ module _ {J : Type 0} where
   hand_after (x ∷ rest) answered bags seal true e = rw e tt
   hand_after (x ∷ rest) answered bags seal false e = absurd (grind (arith, nat_tests))
 
-  empty_small : (hand : List (Deferral J)) → hand ≡ [] → length hand ≤ 64
-  empty_small hand e = omega (arith, ap length e)
-
   empty_hand : (event : Event) (phase : Phase) (hand : List (Deferral J)) → needs_memory event phase ≡ true → HandFits phase hand → hand ≡ []
   empty_hand (Begin op) phase hand e fits = absurd (cc e)
   empty_hand Go (Queue seal) hand e fits = fits

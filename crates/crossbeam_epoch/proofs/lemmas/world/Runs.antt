@@ -58,11 +58,6 @@ no_quiet : (next : ℕ) (q : Option Fault) → or_count next q ≡ None → q �
 no_quiet next None e = refl
 no_quiet next (Some f) e = absurd (cc e)
 
--- where a removal has no fault, its deferral has none
-no_destroy_fault : (b : Bool) (x : Option Fault) → (if b then x else Some F.Unknown) ≡ None → x ≡ None
-no_destroy_fault true x e = e
-no_destroy_fault false x e = absurd (cc e)
-
 module _ {J : Type 0} where
   no_items : (xs : List (Deferral J)) → (length xs == 0) ≡ true → xs ≡ []
   no_items [] e = refl

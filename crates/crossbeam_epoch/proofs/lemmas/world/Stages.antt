@@ -41,14 +41,6 @@ flushing_collects O.Repin e = absurd (cc e)
 flushing_collects O.Release e = absurd (cc e)
 flushing_collects (O.Secure n) e = absurd (cc e)
 
-securing_seals : (op : Op) (m : ℕ) → comes_by (Securing (Some m)) op ≡ true → comes_by (Securing None) op ≡ true
-securing_seals (O.Secure n) m e = refl
-securing_seals O.Pin m e = absurd (cc e)
-securing_seals O.Unpin m e = absurd (cc e)
-securing_seals O.Repin m e = absurd (cc e)
-securing_seals O.Flush m e = absurd (cc e)
-securing_seals O.Release m e = absurd (cc e)
-
 flushing_queues : (op : Op) → comes_by Flushing op ≡ true → queues op ≡ true
 flushing_queues O.Flush e = refl
 flushing_queues O.Pin e = absurd (cc e)

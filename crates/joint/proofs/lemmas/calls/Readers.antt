@@ -13,7 +13,6 @@ use Rattle.crossbeam_epoch.specs.declared.world.report.Outcome.TheVariants as co
 use Rattle.crossbeam_epoch.specs.World.Machine.{State, place}
 use Rattle.crossbeam_epoch.specs.World.Progress.{Begins, GoesOn, refusal}
 use Rattle.crossbeam_epoch.specs.World.Steps.{begin_fault}
-use Rattle.judge.specs.declared.journal.Reply.{Reply}
 use Rattle.congee.specs.declared.forms.child.Child.{Child}
 use Rattle.congee.specs.declared.forms.child.Child.TheVariants as child
 use Rattle.congee.specs.declared.forms.base_node.NodeType.{NodeType}
@@ -39,7 +38,7 @@ use Rattle.congee.specs.Heap.{Node}
 use Rattle.congee.specs.Keys.{key_bytes}
 use Rattle.congee.specs.protocol.Causes.{Causes, IsCause}
 use Rattle.congee.specs.protocol.Play.{IsMoved, begun}
-use Rattle.congee.specs.protocol.Steps.{PhaseStepped, IsIf, IsChecked, after_version, after_read, after_miss, again, answered, refused}
+use Rattle.congee.specs.protocol.Steps.{PhaseStepped, IsIf, IsChecked, after_version, after_read, after_miss, again, refused}
 use Rattle.congee.specs.protocol.State.{is_done}
 use Rattle.joint.specs.declared.engine.in_flight.InFlight.{InFlight}
 use Rattle.joint.specs.declared.engine.in_flight.InFlight.TheVariants.{Idle, Collecting, Reserving, Securing, Walking}
@@ -102,9 +101,6 @@ version_reads V r above n (Some v) = tt
 module _ {V : Type 0} where
   at_again : (r : Id) (t : NextPhase Id V) → t ≡ again r → Reads t.phase
   at_again r t e = let P : NextPhase Id V → Type 0 = λ y. Reads y.phase in subst P (sym e) tt
-
-  at_answer : (r : Reply V) (t : NextPhase Id V) → t ≡ answered r → Reads t.phase
-  at_answer r t e = let P : NextPhase Id V → Type 0 = λ y. Reads y.phase in subst P (sym e) tt
 
   read_reads : (r : Id) (above : Option (Over Id)) (at : Stamp Id) (x : Reading Id V) → Reads {V = V} (after_read r above at x).phase
   read_reads r None at (Differs common byte) = tt

@@ -275,12 +275,6 @@ module _ {V : Type 0} (same : V → V → Bool) (always : Bool) where
       (λ y d r. absurd (unkept_room counted z r))
       (ap (λ k. record told { kept = k }) (unkept same always (engine_of s) (engine_of s') worker (Go noise) _ told e.does) ∙ ap (λ o. record told { kept = is_some o }) (sym (kept_nothing told.decided (has_room counted))))
 
-  -- without an answer there is nothing to hear
-  none_heard : (b : Bool) (q : Option (Request V)) → answered_if b None q ≡ q
-  none_heard true (Some q) = refl
-  none_heard true None = refl
-  none_heard false q = refl
-
   -- where both of two tests hold, the first does
   pub and_left : (a b : Bool) → (a && b) ≡ true → a ≡ true
   and_left true b e = refl

@@ -13,7 +13,7 @@ use Rattle.congee.specs.declared.forms.base_node.Node.{Node as Form}
 use Rattle.congee.specs.forms.Bytes.{IsFirst}
 use Rattle.congee.specs.protocol.Events.{HoldsAlike}
 use Rattle.congee.specs.forms.Forms.{children_of, form_of, prefix_of, capacity_of, size_of, is_full_of, Becomes}
-use Rattle.congee.specs.Heap.{Nothing, Below, Holds}
+use Rattle.congee.specs.Heap.{Below, Holds}
 use Rattle.congee.proofs.Laws.{get_find, find, len_less, kept_node, kept_value}
 use Rattle.joint.specs.declared.id.Id.{Id}
 use Rattle.joint.specs.declared.nodes.slot.Slot.{Slot}
@@ -116,16 +116,9 @@ module _ {P : Type 0} where
   values_first n b x u (inl values) one e k d q = values k d q
   values_first n b x u (inr names) one e k d q = names b u (ap hung_at (one.here ∙ ap Some e))
 
-  none_first : (n : Form Id P) → ((b : ℕ) → 0 ≤ b → map.get (children_of n) b ≡ None) → (k d : ℕ) → child_at n k ≡ Below d → ⊥
-  none_first n none k d q = let z : Nothing ≡ Below d = sym (ap hung_at (none k (omega arith))) ∙ q in cc z
-
   -- where no child is a value, neither is the first one from a byte on
   pub no_value : (n : Form Id P) (from b : ℕ) (x : Child Id P) (u : P) → ((k : ℕ) (v : P) → child_at n k ≡ Holds v → ⊥) → IsFirst (children_of n) from b x → x ≡ Value u → ⊥
   no_value n from b x u names one e = names b u (ap hung_at (one.here ∙ ap Some e))
-
-  -- the first child from a byte on of a solid node is no blank
-  pub no_blank : (n : Form Id P) (from b : ℕ) (x : Child Id P) → IsSolid (children_of n) → IsFirst (children_of n) from b x → x ≡ Blank → ⊥
-  no_blank n from b x solid one e = solid b (one.here ∙ ap Some e)
 
   -- a map without a key
   no_key : (m : map.FinMap nat_cmp (Child Id P)) → ((k : ℕ) → map.get m k ≡ None) → map.len m ≡ 0

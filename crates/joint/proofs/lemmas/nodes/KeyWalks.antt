@@ -131,14 +131,6 @@ module _ {V : Type 0} (h : ℕ → Node V) (n : ℕ) (i : IsNodeIn h n) (x : Reg
       let w = within b q small (omega (arith, lo)) hi in
       lacks m q (lacks_bytes a h t m st [] n x.base x.depth i.linked r from b q w.0 (omega (arith, lo)) w.1 lo hi none)) k
 
-  -- before the first byte of a node no key of it is put
-  pub starts : (old : List ℕ) → PutSoFar h n x 0 old old
-  starts old = record {
-    bound = omega arith;
-    region = r;
-    keys = λ m st k. (let e : x.base ≡ at 0 = omega arith in let P : ℕ → Type 0 = λ b. AreKeysBelow m b old in subst P e k);
-  }
-
   module _ (y : Form Id V) (w : LockWord) (e : shape y w ≡ h n) where
     hangs : (b : ℕ) (o : Option (Child Id V)) → get (children_of y) b ≡ o → (h n).children b ≡ hung_at o
     hangs b o g = sym (ap (λ (z : Node V). z.children b) e) ∙ ap hung_at g

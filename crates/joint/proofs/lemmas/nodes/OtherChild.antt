@@ -4,7 +4,7 @@ use Rattle.std.specs.Ordering.{nat_cmp}
 use Rattle.std.specs.FinMap as map
 use Rattle.std.proofs.lemmas.Bool.{cases_lt, eq-eqb}
 use Rattle.congee.specs.declared.forms.child.Child.{Child}
-use Rattle.congee.specs.declared.forms.child.Child.TheVariants.{Blank, Node as Sub, Value}
+use Rattle.congee.specs.declared.forms.child.Child.TheVariants.{Node as Sub, Value}
 use Rattle.congee.specs.declared.forms.base_node.Node.{Node as Form}
 use Rattle.congee.specs.forms.Bytes.{IsFirst}
 use Rattle.congee.specs.forms.Forms.{children_of}
@@ -89,7 +89,3 @@ module _ {P : Type 0} (n : Form Id P) (solid : IsSolid (children_of n)) (two : m
 -- where no child is a value, neither is the first one from a byte on
 pub no_value : {P : Type 0} (n : Form Id P) (from at : ℕ) (x : Child Id P) (v : P) → ((k : ℕ) (u : P) → child_at n k ≡ Holds u → ⊥) → IsFirst (children_of n) from at x → x ≡ Value v → ⊥
 no_value n from at x v nodes one e = nodes at v (ap hung_at (one.here ∙ ap Some e))
-
--- the first child from a byte on is no blank where no byte has one
-pub no_blank : {P : Type 0} (n : Form Id P) (from at : ℕ) (x : Child Id P) → IsSolid (children_of n) → IsFirst (children_of n) from at x → x ≡ Blank → ⊥
-no_blank n from at x solid one e = solid at (one.here ∙ ap Some e)
