@@ -53,12 +53,9 @@ module _ {X : Type 0} where
   ]
 
 module _ {X : Type 0} {x : Index} {xs : List X} (ok : IsIndexed x xs) where
-  byte_of : (b : ℕ) → IsSome (map.get (indexed_map x xs) b) → b < 256
-  byte_of b s = omega (arith, within_by (at_places x.places xs) b s, length_at x.places xs, ok.index.places_len)
-
   -- what has a child is a byte
   pub is_byte : (b : ℕ) → IsSome (map.get (indexed_map x xs) b) → b < 256
-  is_byte = byte_of
+  is_byte b s = omega (arith, within_by (at_places x.places xs) b s, length_at x.places xs, ok.index.places_len)
 
   -- a byte's child is what stands at its place
   pub get_is : (b : ℕ) → b < 256 → map.get (indexed_map x xs) b ≡ slice_get xs (place_of x b)

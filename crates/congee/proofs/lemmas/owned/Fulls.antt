@@ -29,6 +29,7 @@ use Rattle.congee.proofs.lemmas.Tree.{same_or_not}
 use Rattle.congee.proofs.lemmas.owned.Filled.{has_pair}
 use Rattle.congee.proofs.lemmas.owned.Moves.{remove_beside}
 use Rattle.congee.proofs.lemmas.owned.Ways.{linked_of}
+use Rattle.congee.proofs.lemmas.owned.Totals.{sum_same}
 
 -- a form by its places
 by_places : (form : NodeType) → form_by (places form) ≡ form
@@ -103,19 +104,7 @@ module _ {P : Type 0} where
   each_enough (o ∷ xs) e (suc j) x at = each_enough xs (omega (arith, e)) j x at
 
   lacks_same : (xs ys : List (Option (Form ℕ P))) → ((j : ℕ) → get_or ys j None ≡ get_or xs j None) → lacks_all ys ≡ lacks_all xs
-  lacks_same [] [] e = refl
-  lacks_same [] (y ∷ ys) e =
-      let h : lacks y ≡ 0 = ap lacks (e 0) in
-      let r : lacks_all ys ≡ 0 = lacks_same [] ys (λ j. e (suc j)) in
-      omega (arith, h, r)
-  lacks_same (x ∷ xs) [] e =
-      let h : 0 ≡ lacks x = ap lacks (e 0) in
-      let r : 0 ≡ lacks_all xs = lacks_same xs [] (λ j. e (suc j)) in
-      omega (arith, h, r)
-  lacks_same (x ∷ xs) (y ∷ ys) e =
-      let h : lacks y ≡ lacks x = ap lacks (e 0) in
-      let r : lacks_all ys ≡ lacks_all xs = lacks_same xs ys (λ j. e (suc j)) in
-      omega (arith, h, r)
+  lacks_same = sum_same lacks lacks_all refl refl (λ x xs. refl)
 
   beside_root : (xs : List (Option (Form ℕ P))) (j : ℕ) → get_or (drop 1 xs) j None ≡ get_or xs (suc j) None
   beside_root [] j = refl

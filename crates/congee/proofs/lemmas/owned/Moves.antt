@@ -23,25 +23,11 @@ use Rattle.congee.proofs.lemmas.owned.Sizes.{sets_bytes}
 use Rattle.congee.proofs.lemmas.forms.Full.{full_at, full_is}
 use Rattle.congee.proofs.lemmas.owned.Edits.{child_of, put_done}
 use Rattle.congee.proofs.lemmas.owned.Joins.{drop_leaf_done}
+pub use Rattle.congee.proofs.lemmas.owned.Joins.{stands_at}
+pub use Rattle.congee.proofs.lemmas.forms.MapLemmas.{insert_at, insert_beside, remove_at, remove_beside}
 
 -- look-ups in a map of children after a change at one byte
 module _ {X : Type 0} where
-  -- where a pair was put in, the map has it
-  pub insert_at : (m : map.FinMap nat_cmp X) (k : ℕ) (x : X) → map.get (map.insert m k x) k ≡ Some x
-  insert_at m k x = grind (gets, rules)
-
-  -- a pair that is put in changes nothing at other keys
-  pub insert_beside : (m : map.FinMap nat_cmp X) (k : ℕ) (x : X) (q : ℕ) → q ≢ k → map.get (map.insert m k x) q ≡ map.get m q
-  insert_beside m k x q ne = grind (gets, rules, ne)
-
-  -- where a pair was taken out, the map has nothing
-  pub remove_at : (m : map.FinMap nat_cmp X) (k : ℕ) → map.get (map.remove m k) k ≡ None
-  remove_at m k = grind (gets, rules)
-
-  -- a pair that is taken out changes nothing at other keys
-  pub remove_beside : (m : map.FinMap nat_cmp X) (k : ℕ) (q : ℕ) → q ≢ k → map.get (map.remove m k) q ≡ map.get m q
-  remove_beside m k q ne = grind (gets, rules, ne)
-
   -- an empty map into which a pair is put has one
   pub len_one : (k : ℕ) (x : X) → map.len (map.insert {R = nat_cmp} map.empty k x) ≡ 1
   len_one k x = grind (gets, rules)
@@ -189,10 +175,6 @@ module _ {P : Type 0} where
   -- the prefix that the tree sees under a name is that of the node there
   pub prefix_at : (s : Nodes P) (at : ℕ) (x : Form ℕ P) → get s at ≡ Some x → (heap_of s at).prefix ≡ prefix_of x
   prefix_at s at x e = rw e refl
-
-  -- where a node is read, one stands
-  pub stands_at : (s : Nodes P) (at : ℕ) (x : Form ℕ P) → get s at ≡ Some x → ContainsKey s at
-  stands_at s at x e = rw e refl
 
   -- a name with a node and one without are two
   pub apart_of : (s : Nodes P) (m n : ℕ) (x : Form ℕ P) → get s m ≡ Some x → get s n ≡ None → m ≢ n

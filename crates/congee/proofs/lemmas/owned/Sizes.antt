@@ -2,7 +2,7 @@
 use Rattle.std.proofs.Common.{◌≡◌, ◌≢◌, ℕ, zero, suc, ◌+◌, ◌≤◌, List, [], ◌∷◌, length, get_or, refl, sym, ap, ◌∙◌, arith}
 use Rattle.std.specs.Prelude.{Option, None, Some}
 use Rattle.slab.specs.Slab.{get, Updates}
-use Rattle.congee.proofs.lemmas.owned.Totals.{total, total_first, total_beyond}
+use Rattle.congee.proofs.lemmas.owned.Totals.{total, total_first, total_beyond, sum_same}
 use Rattle.congee.specs.forms.Forms.{form_of, size_of}
 use Rattle.congee.specs.owned.Arena.{Nodes}
 use Rattle.congee.specs.owned.Sizes.{bytes_at, bytes_in, bytes_of}
@@ -11,19 +11,7 @@ use Rattle.congee.specs.declared.forms.base_node.Node.{Node}
 
 module _ {P : Type 0} where
   bytes_in_same : (xs ys : List (Option (Node ℕ P))) → ((j : ℕ) → get_or ys j None ≡ get_or xs j None) → bytes_in ys ≡ bytes_in xs
-  bytes_in_same [] [] e = refl
-  bytes_in_same [] (y ∷ ys) e =
-      let h : bytes_at y ≡ 0 = ap bytes_at (e 0) in
-      let r : bytes_in ys ≡ 0 = bytes_in_same [] ys (λ j. e (suc j)) in
-      omega (arith, h, r)
-  bytes_in_same (x ∷ xs) [] e =
-      let h : 0 ≡ bytes_at x = ap bytes_at (e 0) in
-      let r : 0 ≡ bytes_in xs = bytes_in_same xs [] (λ j. e (suc j)) in
-      omega (arith, h, r)
-  bytes_in_same (x ∷ xs) (y ∷ ys) e =
-      let h : bytes_at y ≡ bytes_at x = ap bytes_at (e 0) in
-      let r : bytes_in ys ≡ bytes_in xs = bytes_in_same xs ys (λ j. e (suc j)) in
-      omega (arith, h, r)
+  bytes_in_same = sum_same bytes_at bytes_in refl refl (λ x xs. refl)
 
   bytes_in_update : (xs ys : List (Option (Node ℕ P))) (at : ℕ) → ((j : ℕ) → j ≢ at → get_or ys j None ≡ get_or xs j None)
       → bytes_in ys + bytes_at (get_or xs at None) ≡ bytes_in xs + bytes_at (get_or ys at None)
