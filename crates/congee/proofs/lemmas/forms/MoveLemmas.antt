@@ -1,5 +1,5 @@
 -- Children that move from one node to another, in the order of their bytes.
-use Rattle.std.proofs.Common.{◌≡◌, ◌≢◌, ℕ, ◌<◌, ◌≤◌, ◌+◌, true, false, eqb, None, IsSome, refl, inl, inr, sym, ◌∙◌, subst, arith}
+use Rattle.std.proofs.Common.{◌≡◌, ℕ, ◌<◌, ◌≤◌, ◌+◌, false, None, IsSome, refl, inl, inr, sym, ◌∙◌, subst, arith}
 use Rattle.std.proofs.lemmas.Bool.Decides.{nat_tests}
 use Rattle.std.proofs.lemmas.Bool.{cases_lt, cases_eq}
 use Rattle.std.specs.Ordering.{nat_cmp}
@@ -18,12 +18,6 @@ pub record HaveMoved {X : Type 0} (m kept moved : map.FinMap nat_cmp X) (from : 
   pub above : (q : ℕ) → from ≤ q → map.get kept q ≡ map.get m q
   pub free : (q : ℕ) → from ≤ q → map.get moved q ≡ None
   pub count : map.len moved + map.len kept ≡ map.len m
-
-eq_same : (k : ℕ) → eqb k k ≡ true
-eq_same k = grind (arith, nat_tests)
-
-eq_other : (q k : ℕ) → q ≢ k → eqb q k ≡ false
-eq_other q k n = grind (arith, nat_tests, n)
 
 module _ {X : Type 0} where
   -- before the first child none has moved

@@ -66,10 +66,10 @@ use Rattle.joint.specs.world.World.{Holds, IsStep, StepsUnless, finds_journal_fu
 use Rattle.joint.specs.engine.Engine.{World, EngineHolds, IsOfCall, Collects, Does, EntersUnless, Enters, GoesAt, Walks, engine_of, finds_none, is_busy, is_in_flight, misuse, place_of}
 use Rattle.joint.proofs.lemmas.engine.OneCallChanges.{Apart, one_set, step_apart}
 use Rattle.joint.proofs.lemmas.engine.Collecting.{get_inside}
-use Rattle.joint.proofs.lemmas.calls.Ends.{and_left}
-use Rattle.joint.proofs.lemmas.engine.Entering.{begin_idle, begin_within}
+use Rattle.joint.proofs.lemmas.engine.Entering.{begin_within, begins_idle}
 use Rattle.joint.proofs.lemmas.world.Flights.{set_at}
 use Rattle.joint.proofs.lemmas.engine.ScanEnds.{cleared_is}
+use Rattle.joint.proofs.lemmas.nodes.SlotViews.{both_left}
 
 -- the phases of a call that only reads
 abbrev pub Reads : {V : Type 0} → Phase Id V → Type 0
@@ -257,15 +257,7 @@ module _ {V : Type 0} (same : V → V → Bool) (always : Bool) (turns : Progres
       within = begin_within same always s s' w holds o none
 
       idle : slice_get s.calls w ≡ Some Idle
-      idle = idle_at (slice_get s.calls w) (get_inside s.calls w within) (begin_idle same always s s' w holds o none)
-        where
-          idle_at : (k : Option (InFlight V)) → (x : InFlight V) × (k ≡ Some x) → is_busy k ≡ false → k ≡ Some Idle
-          idle_at None x e = absurd (let q : None ≡ Some x.0 = x.1 in cc)
-          idle_at (Some Idle) x e = refl
-          idle_at (Some (Collecting c)) x e = absurd (cc e)
-          idle_at (Some (Reserving p)) x e = absurd (cc e)
-          idle_at (Some (Securing p)) x e = absurd (cc e)
-          idle_at (Some Walking) x e = absurd (cc e)
+      idle = begins_idle same always s s' w holds o none
 
       enters : (p : Point V) (r : Report V) → (begun root p).kind ≡ kind.Get → Reads (begun root p).phase → Enters s w p r s' → Begun r
       enters p r k u x = (
@@ -377,7 +369,7 @@ module _ {V : Type 0} (same : V → V → Bool) (always : Bool) (turns : Progres
       by : (event : Event V) → finds_journal_full s w event ≡ true → ⊥
       by Register e = false≢true e
       by (Begin op) e = false≢true e
-      by (Go noise) e = unreserving (slice_get s.calls w) (slice_get s.machines w) u (and_left _ _ e)
+      by (Go noise) e = unreserving (slice_get s.calls w) (slice_get s.machines w) u (both_left _ _ e)
     own false g u x =
         let y = own_by t.step.event (misuse s w t.step.event) x.told refl u x.engine.does in (
           (λ e c f q. elim (y.0 c f (sym (ap (λ z. z.outcome) x.report) ∙ q)) [

@@ -22,6 +22,7 @@ use Rattle.joint.specs.nodes.Altering.{MovesTo}
 use Rattle.joint.specs.nodes.Solid.{AreAlike, IsLeft, IsSolid, IsWhole}
 use Rattle.joint.specs.nodes.View.{hung_at, child_at, node_of}
 use Rattle.joint.proofs.lemmas.nodes.Hanging.{put_here, put_beside, taken_here, taken_beside, full_is, empty_solid}
+pub use Rattle.joint.proofs.lemmas.nodes.OtherChild.{no_value}
 
 module _ {X : Type 0} where
   abbrev Sub_map : map.FinMap nat_cmp X → map.FinMap nat_cmp X → Type 0
@@ -115,10 +116,6 @@ module _ {P : Type 0} where
   pub values_first : (n : Form Id P) (b : ℕ) (x : Child Id P) (u : P) → AreAlike n → IsFirst (children_of n) 0 b x → x ≡ Value u → (k d : ℕ) → child_at n k ≡ Below d → ⊥
   values_first n b x u (inl values) one e k d q = values k d q
   values_first n b x u (inr names) one e k d q = names b u (ap hung_at (one.here ∙ ap Some e))
-
-  -- where no child is a value, neither is the first one from a byte on
-  pub no_value : (n : Form Id P) (from b : ℕ) (x : Child Id P) (u : P) → ((k : ℕ) (v : P) → child_at n k ≡ Holds v → ⊥) → IsFirst (children_of n) from b x → x ≡ Value u → ⊥
-  no_value n from b x u names one e = names b u (ap hung_at (one.here ∙ ap Some e))
 
   -- a map without a key
   no_key : (m : map.FinMap nat_cmp (Child Id P)) → ((k : ℕ) → map.get m k ≡ None) → map.len m ≡ 0

@@ -16,6 +16,7 @@ use Rattle.joint.specs.declared.nodes.slot.LockWord.{LockWord}
 use Rattle.joint.specs.nodes.Solid.{IsSolid}
 use Rattle.joint.specs.nodes.View.{child_at, hung_at, id_number, shape}
 use Rattle.joint.proofs.lemmas.nodes.Hanging.{taken_here, taken_beside}
+use Rattle.joint.proofs.lemmas.nodes.ByteLooks.{is_some_of_hung}
 
 module _ {X : Type 0} where
   -- a map of two keys has no third
@@ -45,12 +46,8 @@ module _ {X : Type 0} where
       (key.0, (apart, subst IsSome (taken_beside m a key.0 apart) key.1))
 
 module _ {P : Type 0} (n : Form Id P) (solid : IsSolid (children_of n)) (two : map.len (children_of n) ≡ 2) (byte : ℕ) (there : child_at n byte ≢ Nothing) where
-  hung_is : (o : Option (Child Id P)) → hung_at o ≢ Nothing → IsSome o
-  hung_is None f = absurd (f refl)
-  hung_is (Some x) f = refl
-
   here : IsSome (map.get (children_of n) byte)
-  here = hung_is (map.get (children_of n) byte) there
+  here = is_some_of_hung (map.get (children_of n) byte) there
 
   other_is : (w : LockWord) (at : ℕ) (x : Child Id P) (c : Id) → at < 256 → at ≢ byte → map.get (children_of n) at ≡ Some x → x ≡ Sub c → IsOther (shape n w) byte (id_number c)
   other_is w at x c fits apart e q = record {
