@@ -35,7 +35,7 @@ use Rattle.joint.proofs.lemmas.engine.Collecting.{get_inside}
 use Rattle.joint.proofs.lemmas.engine.Entering.{begin_idle}
 use Rattle.joint.proofs.lemmas.engine.Reported.{may_go}
 use Rattle.joint.proofs.lemmas.engine.Reserving.{reserving_call}
-use Rattle.joint.proofs.lemmas.nodes.SlotViews.{both_left}
+use Rattle.congee.proofs.Laws.{both_true}
 
 -- where no call is in flight the worker's machine has ended
 pub ended_by : {V : Type 0} (k : InFlight V) (p : Participant (Unit {0})) (m : Machine Id V) → is_busy (Some k) ≡ false → IsAt k p m → m.phase ≡ Ended
@@ -70,7 +70,7 @@ module _ {V : Type 0} (same : V → V → Bool) (always : Bool) where
   unmisused s w h Register f g e = false≢true g
   unmisused s w h (Begin op) f g e = false≢true g
   unmisused s w h (Go noise) f g e =
-      let k : (op : Point V) × (slice_get s.calls w ≡ Some (Reserving op)) = reserving_call (slice_get s.calls w) (both_left _ _ g) in
+      let k : (op : Point V) × (slice_get s.calls w ≡ Some (Reserving op)) = reserving_call (slice_get s.calls w) (both_true _ _ g).0 in
       let n : misuse s w (Go noise) ≡ None = may_go same always s w (h.0, h.1) noise (ap is_busy k.1) in
       let q : None ≡ Some f = sym n ∙ e in cc
 

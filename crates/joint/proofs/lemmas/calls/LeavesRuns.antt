@@ -65,8 +65,8 @@ use Rattle.joint.proofs.lemmas.world.JournaledSteps.{mapped}
 use Rattle.joint.proofs.lemmas.engine.ScanEnds.{cleared_is}
 use Rattle.joint.proofs.lemmas.calls.Sparing.{all_spare}
 use Rattle.joint.proofs.lemmas.world.Whereabouts.{somewhere}
-use Rattle.joint.proofs.lemmas.nodes.SlotViews.{both_left}
 use Rattle.joint.proofs.lemmas.world.Waiting.{handed_waits}
+use Rattle.congee.proofs.Laws.{both_true}
 
 module _ {V : Type 0} where
   -- a call that has a node taken out has taken effect
@@ -403,7 +403,7 @@ module _ {V : Type 0} (same : V → V → Bool) (always : Bool) (laws : CallLaws
       not_given : (event : Event V) → finds_journal_full s w event ≡ true → ⊥
       not_given Register e = false≢true e
       not_given (Begin op) e = false≢true e
-      not_given (Go noise) e = past_reserves (slice_get s.calls w) (slice_get s.machines w) u (both_left _ _ e)
+      not_given (Go noise) e = past_reserves (slice_get s.calls w) (slice_get s.machines w) u (both_true _ _ e).0
 
       by : (b : Bool) → finds_journal_full s w t.step.event ≡ b → StepsUnless same always b s t.step t.report t.after → BeginsAnew w t ⊎ IsPast (slice_get t.after.calls w) (slice_get t.after.machines w)
       by true e y = absurd (not_given t.step.event e)

@@ -69,7 +69,7 @@ use Rattle.joint.proofs.lemmas.engine.Collecting.{get_inside}
 use Rattle.joint.proofs.lemmas.engine.Entering.{begin_within, begins_idle}
 use Rattle.joint.proofs.lemmas.world.Flights.{set_at}
 use Rattle.joint.proofs.lemmas.engine.ScanEnds.{cleared_is}
-use Rattle.joint.proofs.lemmas.nodes.SlotViews.{both_left}
+use Rattle.congee.proofs.Laws.{both_true}
 
 -- the phases of a call that only reads
 abbrev pub Reads : {V : Type 0} → Phase Id V → Type 0
@@ -369,7 +369,7 @@ module _ {V : Type 0} (same : V → V → Bool) (always : Bool) (turns : Progres
       by : (event : Event V) → finds_journal_full s w event ≡ true → ⊥
       by Register e = false≢true e
       by (Begin op) e = false≢true e
-      by (Go noise) e = unreserving (slice_get s.calls w) (slice_get s.machines w) u (both_left _ _ e)
+      by (Go noise) e = unreserving (slice_get s.calls w) (slice_get s.machines w) u (both_true _ _ e).0
     own false g u x =
         let y = own_by t.step.event (misuse s w t.step.event) x.told refl u x.engine.does in (
           (λ e c f q. elim (y.0 c f (sym (ap (λ z. z.outcome) x.report) ∙ q)) [

@@ -28,7 +28,7 @@ use Rattle.joint.specs.engine.Engine.{World}
 use Rattle.joint.proofs.lemmas.world.JournalFull.{refused_flights, refused_map}
 use Rattle.joint.proofs.lemmas.world.Logged.{event_maps, kept_line, writes_kept}
 use Rattle.joint.proofs.lemmas.world.KeptMarks.{event_map}
-use Rattle.joint.proofs.lemmas.nodes.SlotViews.{both_left}
+use Rattle.congee.proofs.Laws.{both_true}
 
 -- what a worker asked for agrees with its call however it is watched
 module _ {V : Type 0} where
@@ -105,7 +105,7 @@ module _ {V : Type 0} (same : V → V → Bool) (always : Bool) where
     gives Register r q g x = absurd (cc g)
     gives (Begin op) r q g x = absurd (cc g)
     gives (Go noise) r q g x =
-        let b : is_reserving (slice_get s.calls step.worker) ≡ true = both_left _ _ g in
+        let b : is_reserving (slice_get s.calls step.worker) ≡ true = (both_true _ _ g).0 in
         let P : World V → Type 0 = λ y. AreInFlight y (with_flight fs step.worker Over) in
         let Q : Event V → Type 0 = λ y. EventMap same fs m y (record { step = record { worker = step.worker; event = y }; report = r; entry = None; pairs = m }) (with_flight fs step.worker Over) in
         let R : Event V → Type 0 = λ y. EventMap same fs m step.event (record { step = record { worker = step.worker; event = y }; report = r; entry = None; pairs = m }) (with_flight fs step.worker Over) in
