@@ -2,7 +2,7 @@
 use Rattle.std.proofs.Common.{rules, ◌≡◌, ◌≢◌, ℕ, ◌<◌, ◌≤◌, ◌-◌, true, List, length, get_or, refl, sym, ap, subst, ◌∙◌, arith}
 use Rattle.std.specs.Prelude.{Option, Some, None, is_some, cond, IsSome}
 use Rattle.slab.specs.Slab.{get, ContainsKey}
-use Rattle.congee.specs.Heap.{Below, fits, child_for}
+use Rattle.congee.specs.Heap.{Nothing, Below, fits, child_for}
 use Rattle.congee.specs.Notes.{Linked, Gone, IsChild}
 use Rattle.congee.specs.forms.Forms.{prefix_of}
 use Rattle.congee.specs.declared.forms.base_node.Node.{Node as Form}
@@ -44,6 +44,16 @@ module _ {P : Type 0} where
   pub is_child : (s : Nodes P) (t : IsTree s) (n c : ℕ) (key : List ℕ) → ContainsKey s n → child_for (heap_of s n) key ≡ Below c
       → IsChild (ledger_of s t.parent) (heap_of s) n (get_or key (length (heap_of s n).prefix) 0) c
   is_child s t n c key h e = t.tree.down n _ c (linked_of s t.parent n h) e
+
+  -- what hangs at any byte is a child, of a node that stands
+  pub hung_child : (s : Nodes P) (t : IsTree s) (n b c : ℕ) → (heap_of s n).children b ≡ Below c → ContainsKey s n × IsChild (ledger_of s t.parent) (heap_of s) n b c
+  hung_child s t n b c e =
+      let h : ContainsKey s n = there (get s n) e in
+      (h, t.tree.down n b c (linked_of s t.parent n h) e)
+    where
+      there : (o : Option (Form ℕ P)) → (node_of o).children b ≡ Below c → IsSome o
+      there None e = absurd (let z : Nothing ≡ Below c = e in cc)
+      there (Some x) e = refl
 
   -- a node that hangs in one of the tree stands
   pub below_stands : (s : Nodes P) → IsTree s → (n c : ℕ) (key : List ℕ) → ContainsKey s n → child_for (heap_of s n) key ≡ Below c → ContainsKey s c

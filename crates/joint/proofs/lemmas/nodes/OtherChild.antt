@@ -29,7 +29,8 @@ module _ {X : Type 0} where
       let lx = len_less (map.remove (map.remove m a) b) x px2 in
       absurd (omega (arith, la, lb, lx, two))
 
-  some_key : (m : map.FinMap nat_cmp X) (es : List (ℕ × X)) → map.entries m ≡ es → 0 < length es → (k : ℕ) × IsSome (map.get m k)
+  -- a map that isn't empty has a key
+  pub some_key : (m : map.FinMap nat_cmp X) (es : List (ℕ × X)) → map.entries m ≡ es → 0 < length es → (k : ℕ) × IsSome (map.get m k)
   some_key m [] e l = absurd (omega (arith, l))
   some_key m ((k, x) ∷ es) e l = (k, subst IsSome (sym (get_find m k ∙ ap (find k) e ∙ head)) refl)
     where
