@@ -8,6 +8,8 @@ pub use Rattle.congee.proofs.lemmas.Tree.{same_or_not}
 pub use Rattle.congee.proofs.lemmas.Keys.{key_length}
 -- different keys have different bytes
 pub use Rattle.congee.proofs.lemmas.Keys.{key_apart}
+-- where two tests together are true, each is
+pub use Rattle.congee.proofs.lemmas.Fits.{both_true}
 -- two keys with one prefix of all but one byte, and that byte, are one
 pub use Rattle.congee.proofs.lemmas.Fits.{same_key}
 -- the first bytes of a key are a prefix of it
@@ -18,6 +20,12 @@ pub use Rattle.congee.proofs.lemmas.forms.Entries.{find}
 pub use Rattle.congee.proofs.lemmas.forms.BetweenLemmas.{get_find}
 -- what holds for each key that a list has holds for all its pairs
 pub use Rattle.congee.proofs.lemmas.forms.BetweenLemmas.{all_found}
+-- a test that is known to hold is true
+pub use Rattle.congee.proofs.lemmas.forms.BetweenLemmas.{true_of_T}
+-- a number that compares as less is less
+pub use Rattle.congee.proofs.lemmas.forms.BetweenLemmas.{less_of_cmp}
+-- the entries of a map stand in ascending order of their keys
+pub use Rattle.congee.proofs.lemmas.forms.BetweenLemmas.{rises_entries}
 -- the map's test of two keys is the test of two numbers
 pub use Rattle.congee.proofs.lemmas.forms.MapLemmas.{same_is}
 -- an insert of a new key lengthens a map by one

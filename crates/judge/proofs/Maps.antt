@@ -61,14 +61,6 @@ is_set_at m n k o at_k other =
 pub set_at-standing : {P : Type 0} (m : Pairs P) (k : ℕ) (o : Option P) → get m k ≡ o → set_at m k o ≡ m
 set_at-standing m k o at_k = sym (is_set_at m m k o at_k (λ q ne. refl))
 
--- to insert the value that stands there changes nothing
-insert-standing : {P : Type 0} (m : Pairs P) (k : ℕ) (v : P) → get m k ≡ Some v → insert m k v ≡ m
-insert-standing m k v at_k = set_at-standing m k (Some v) at_k
-
--- to remove a key that isn't there changes nothing
-remove-absent : {P : Type 0} (m : Pairs P) (k : ℕ) → get m k ≡ None → remove m k ≡ m
-remove-absent m k at_k = set_at-standing m k None at_k
-
 pair_up : {A B : Type 0} (a b : A) (c d : B) → a ≡ b → c ≡ d → ◌≡◌ {A = A × B} (a, c) (b, d)
 pair_up a b c d e f = λ i. (e i, f i)
 

@@ -14,9 +14,9 @@ use Rattle.trial.specs.Script.{LinesAnswer, AreAnswered, lines_of, NoFeed, fed, 
 use Rattle.trial.specs.Texts.{bad_line_text}
 use Rattle.trial.specs.Output.{Passes, Breaks}
 use Rattle.trial.specs.Turns.{LineGoes, LineStops, LinesGo, LinesStop, FirstStops, IsDue, IsDueFirst, BeginsBad}
-use Rattle.trial.specs.Going.{Going, Ends, EndsBy, Ran, IsAtStart, IsWritten}
+use Rattle.trial.specs.Going.{Going, Ends, EndsBy, Ran, IsWritten}
 use Rattle.trial.proofs.Feeding.{answers_more, long_is_bad}
-use Rattle.trial.proofs.Passing.{passes_none, passes_both, breaks_last}
+use Rattle.trial.proofs.Passing.{passes_both, breaks_last}
 use Rattle.trial.proofs.Splitting.{false_from_unequal, equal_from_true}
 use Rattle.std.proofs.Math.Dec.{eqb}
 use Rattle.std.proofs.lemmas.Bool.{true≢false}
@@ -522,26 +522,6 @@ going_written had left held between holds old new g w a =
       taken = g.taken ∙ sym w.taken;
       bound = omega (arith, w.taken, g.bound);
       short = omega (arith, ap length w.unread, g.short);
-    }
-
--- nothing is read or printed yet
-pub at_first : (had held : Option (List ℕ)) (p : Program) → IsAtStart p → Going had had held held p
-at_first had held p f =
-    let N : List ℕ → Type 0 = NoFeed in
-    record {
-      given = [];
-      before = [];
-      text = [];
-      read = Consumes-nil had;
-      whole = sym f.unread;
-      feeds = tt;
-      unfed = subst N (sym f.unread) (λ k d below. absurd (omega arith));
-      answers = (f.session, refl);
-      passes = let P : List ℕ → Type 0 = λ b. Passes held [] held b [] in subst P (sym f.output) (passes_none held []);
-      lines = f.lines;
-      taken = sym f.taken;
-      bound = omega (arith, f.taken);
-      short = omega (arith, ap length f.unread);
     }
 
 -- at an end that is a failed read, the lines that were whole are answered

@@ -11,9 +11,6 @@ some_or_none : {A : Type 0} (o : Option A) → IsSome o ⊎ (o ≡ None)
 some_or_none None = inr refl
 some_or_none (Some x) = inl refl
 
-some_is : {A : Type 0} (o : Option A) (x : A) → o ≡ Some x → IsSome o
-some_is o x e = subst IsSome (sym e) refl
-
 module _ {V : Type 0} (m : FinMap nat_cmp V) where
   -- each pair is one of the map's
   abbrev AllOf : List (ℕ × V) → Type 0

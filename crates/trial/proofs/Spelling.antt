@@ -33,13 +33,6 @@ abbrev pub ArePlain : List Word → Type 0
 ArePlain [] = Unit {0}
 ArePlain (w ∷ ws) = IsPlain w × ArePlain ws
 
--- the numbers of plain words are below 2 ^ 64
-pub small : (ws : List Word) → ArePlain ws → Small ws
-small [] h = tt
-small (Key k ∷ ws) h = small ws h.1
-small (Number n ∷ ws) h = (h.0, small ws h.1)
-small (Other ∷ ws) h = absurd h.0
-
 -- what is read holds numbers below 2 ^ 64
 pub small_from_read : (parts : List (List ℕ)) (ws : List Word) → AllZip Reads parts ws → Small ws
 small_from_read [] [] h = tt

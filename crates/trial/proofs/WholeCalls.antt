@@ -216,15 +216,6 @@ rests_beside laws w op t closure m s s' told e b g =
     let P : Target ℕ → Type 0 = λ y. PlaysCall nat_eq b.flights m w (last_of w op closure s s' told c) y told s'.world in
     rests_after m s.world s'.world b c.holds (subst P e (plays_call w op closure s s' told c laws m b))
 
--- a call's reply is no answer while the call is in flight
-no_answer_yet : (ps : List (ℕ × ℕ)) (o : Outcome ℕ) → is_in_flight o ≡ true → IsAnswer (reply_of ps o) → ⊥
-no_answer_yet ps outcome.Running e a = a
-no_answer_yet ps (outcome.Asks found) e a = a
-no_answer_yet ps (outcome.Found place key value) e a = a
-no_answer_yet ps (outcome.Registered who) e a = cc
-no_answer_yet ps (outcome.Done d) e a = cc
-no_answer_yet ps (outcome.Refused r) e a = cc
-
 -- the call has ended as the map says
 pub record Finished (m : Pairs ℕ) (p : Point ℕ) (s : OpenTree) (r : Reply) : Type 0 where
   pub rests : Rests s.world (answer nat_eq m p).1

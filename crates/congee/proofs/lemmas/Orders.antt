@@ -43,9 +43,6 @@ top_step q j l =
 top_none : (q : ℕ) → q < 2 ^ 64 → top q 0 ≡ 0
 top_none q l = omega (arith, l)
 
-top_all : (q : ℕ) → top q 8 ≡ q
-top_all q = div-one q
-
 -- numbers with the same first bytes have the same number of these
 pub same_top : (a b d : ℕ) → a < 2 ^ 64 → b < 2 ^ 64 → d ≤ 8 → ((j : ℕ) → j < d → get_or (key_bytes a) j 0 ≡ get_or (key_bytes b) j 0) → top a d ≡ top b d
 same_top a b zero la lb l h = top_none a la ∙ sym (top_none b lb)

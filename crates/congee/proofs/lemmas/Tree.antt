@@ -1,5 +1,5 @@
 -- The tree in the heap: its invariant, and the walk through a node of it.
-use Rattle.std.proofs.Common.{◌≡◌, ◌≢◌, ℕ, zero, suc, ◌+◌, ◌≤◌, ◌⊎◌, inl, inr, Bool, true, false, cond, List, length, get_or, refl, sym, ◌∙◌, subst, arith}
+use Rattle.std.proofs.Common.{◌≡◌, ◌≢◌, ℕ, zero, suc, ◌+◌, ◌≤◌, ◌⊎◌, inl, inr, Bool, true, false, cond, List, length, get_or, refl, sym, ◌∙◌, subst, arith, ◌<◌, ap}
 use Rattle.std.specs.Prelude.{Option, None}
 use Rattle.std.proofs.lemmas.Bool.Decides.{eqb_tells}
 use Rattle.congee.specs.Heap.{Hung, Nothing, Below, Holds, Node, fits, child_for, of_child, walk, value_at}
@@ -9,6 +9,10 @@ use Rattle.congee.proofs.lemmas.Fits.{fits_trans, fits_byte}
 -- two numbers are the same or they aren't
 pub same_or_not : (m n : ℕ) → (m ≡ n) ⊎ (m ≢ n)
 same_or_not m n = elim (eqb_tells m n) [ inl p ↦ inl p.1 | inr p ↦ inr p.1 ]
+
+-- a node with a shorter prefix is another node
+pub by_length : {V : Type 0} (h : ℕ → Node V) (x y : ℕ) → length (h x).prefix < length (h y).prefix → x ≢ y
+by_length h x y l e = let z : length (h x).prefix ≡ length (h y).prefix = ap (λ b. length (h b).prefix) e in absurd (omega (arith, l))
 
 -- what is found by a child is the same where it is so by the node that hangs there, if one does
 pub of_child_same : {V : Type 0} (f g : ℕ → Option V) (x : Hung V) → ((c : ℕ) → x ≡ Below c → f c ≡ g c) → of_child f x ≡ of_child g x
@@ -43,32 +47,34 @@ pub enter : {V : Type 0} (h : ℕ → Node V) (f n : ℕ) (key : List ℕ) (x : 
     → walk h (suc f) n key ≡ of_child (λ c. walk h f c key) x
 enter h f n key x p e = rw (p, e) refl
 
-lead_up : {V : Type 0} (a : ℕ → Note) (h : ℕ → Node V) → Tree a h → (p b n : ℕ) (key : List ℕ) → (a p).status ≡ Linked → (h p).children b ≡ Below n
-    → fits (h n).prefix key ≡ true → (fits (h p).prefix key ≡ true → walk h 8 0 key ≡ walk h 8 p key) → walk h 8 0 key ≡ walk h 8 n key
-lead_up a h t p b n key l e f before =
-    let i : IsChild a h p b n = t.down p b n l e in
-    let g : fits (h p).prefix key ≡ true = fits_trans (h p).prefix (h n).prefix key i.fitted f in
-    let same : get_or key (length (h p).prefix) 0 ≡ b = fits_byte (h n).prefix key (length (h p).prefix) f i.longer ∙ i.byte in
-    let x : (h p).children (get_or key (length (h p).prefix) 0) ≡ Below n = rw same e in
-    before g ∙ (enter h 7 p key (Below n) g x ∙ stable a h t 7 8 n key i.linked (omega (arith, i.longer)) (omega arith))
+-- what holds of the root, and at each step of a key's way of the node below if of the one above, holds of each linked node whose prefix the key has
+pub down_to : {V : Type 0} (a : ℕ → Note) (h : ℕ → Node V) → Tree a h → (key : List ℕ) (P : ℕ → Type 0) → P 0
+    → ((p b n : ℕ) → IsChild a h p b n → fits (h p).prefix key ≡ true → child_for (h p) key ≡ Below n → P p → P n)
+    → (d n : ℕ) → length (h n).prefix ≤ d → (a n).status ≡ Linked → fits (h n).prefix key ≡ true → P n
+down_to a h t key P root step zero n d l f =
+    elim (same_or_not n 0) [
+      | inl e ↦ subst P (sym e) root
+      | inr ne ↦ let u : HasParent a h n = t.up n l ne in
+          let i : IsChild a h (a n).parent u.byte n = t.down (a n).parent u.byte n u.linked u.holds in absurd (omega (arith, i.longer))
+    ]
+down_to a h t key P root step (suc d) n le l f =
+    elim (same_or_not n 0) [
+      | inl e ↦ subst P (sym e) root
+      | inr ne ↦ let u : HasParent a h n = t.up n l ne in
+          let i : IsChild a h (a n).parent u.byte n = t.down (a n).parent u.byte n u.linked u.holds in
+          let g : fits (h (a n).parent).prefix key ≡ true = fits_trans (h (a n).parent).prefix (h n).prefix key i.fitted f in
+          let same : get_or key (length (h (a n).parent).prefix) 0 ≡ u.byte = fits_byte (h n).prefix key (length (h (a n).parent).prefix) f i.longer ∙ i.byte in
+          let x : (h (a n).parent).children (get_or key (length (h (a n).parent).prefix) 0) ≡ Below n = rw same u.holds in
+          let small : length (h (a n).parent).prefix ≤ d = omega (arith, i.longer) in
+          step (a n).parent u.byte n i g x (down_to a h t key P root step d (a n).parent small u.linked g)
+    ]
 
 -- the walk of a key leads through each linked node whose prefix it has
 lead : {V : Type 0} (a : ℕ → Note) (h : ℕ → Node V) → Tree a h → (d n : ℕ) (key : List ℕ) → length (h n).prefix ≤ d → (a n).status ≡ Linked
     → fits (h n).prefix key ≡ true → walk h 8 0 key ≡ walk h 8 n key
-lead a h t zero n key d l f =
-    elim (same_or_not n 0) [
-      | inl e ↦ rw e refl
-      | inr ne ↦ let u : HasParent a h n = t.up n l ne in
-          let i : IsChild a h (a n).parent u.byte n = t.down (a n).parent u.byte n u.linked u.holds in absurd (omega (arith, i.longer))
-    ]
-lead a h t (suc d) n key le l f =
-    elim (same_or_not n 0) [
-      | inl e ↦ rw e refl
-      | inr ne ↦ let u : HasParent a h n = t.up n l ne in
-          let i : IsChild a h (a n).parent u.byte n = t.down (a n).parent u.byte n u.linked u.holds in
-          let small : length (h (a n).parent).prefix ≤ d = omega (arith, i.longer) in
-          lead_up a h t (a n).parent u.byte n key u.linked u.holds f (λ g. lead a h t d (a n).parent key small u.linked g)
-    ]
+lead a h t d n key =
+    down_to a h t key (λ m. walk h 8 0 key ≡ walk h 8 m key) refl
+    (λ p b m i g x before. before ∙ (enter h 7 p key (Below m) g x ∙ stable a h t 7 8 m key i.linked (omega (arith, i.longer)) (omega arith))) d n
 
 -- what stands at the key's byte in a linked node whose prefix the key has decides the key's value
 pub finds : {V : Type 0} (a : ℕ → Note) (h : ℕ → Node V) → Tree a h → (n : ℕ) (key : List ℕ) (x : Hung V) → (a n).status ≡ Linked

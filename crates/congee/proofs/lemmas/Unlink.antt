@@ -1,8 +1,9 @@
 -- A leaf with one value goes out of the tree.
-use Rattle.std.proofs.Common.{◌≡◌, ◌≢◌, ℕ, inl, inr, true, List, length, get_or, refl, sym, ◌∙◌, ap, subst, arith}
+use Rattle.std.proofs.Common.{◌≡◌, ◌≢◌, ℕ, inl, inr, true, List, length, get_or, refl, sym, ◌∙◌, ap, subst, arith, ◌==◌, cond}
 use Rattle.std.specs.Prelude.{None, Some}
 use Rattle.congee.specs.Heap.{Nothing, Below, Holds, Node, fits, child_for, value_at}
-use Rattle.congee.specs.Notes.{Linked, Note, IsChild, HasParent, Tree}
+use Rattle.congee.specs.Notes.{Linked, Gone, Note, IsChild, HasParent, Tree}
+use Rattle.congee.proofs.lemmas.Fits.{same_test, other_test}
 use Rattle.congee.proofs.lemmas.Tree.{same_or_not, finds}
 use Rattle.congee.proofs.lemmas.Graft.{Graft, old_down, old_leaves, old_up, untouched, on_test}
 use Rattle.congee.proofs.lemmas.Link.{Leaf, leaf_no_node, leaf_value, leaf_other, child_moved}
@@ -19,6 +20,38 @@ pub record Unlinks {V : Type 0} (a : ℕ → Note) (h : ℕ → Node V) (a' : �
   pub left : (a' m).status ≢ Linked
   pub notes : (x : ℕ) → x ≢ m → a' x ≡ a x
   pub nodes : (x : ℕ) → x ≢ n → h' x ≡ h x
+
+-- leaf m alone goes, of the nodes and of their notes
+pub record LeafOut {V : Type 0} (a : ℕ → Note) (h : ℕ → Node V) (n m : ℕ) (key : List ℕ) (v : V) : Type 0 where
+  pub notes : ℕ → Note
+  pub nodes : ℕ → Node V
+  pub out : Unlinks a h notes nodes n m key v
+  pub gone : (notes m).status ≡ Gone
+
+-- a leaf with the key's value alone can go
+pub leaf_out : {V : Type 0} (a : ℕ → Note) (h : ℕ → Node V) (n m : ℕ) (key : List ℕ) (v : V) → (a n).status ≡ Linked → fits (h n).prefix key ≡ true
+    → child_for (h n) key ≡ Below m → Leaf h m key v → LeafOut a h n m key v
+leaf_out {V} a h n m key v linked fitted hung last =
+    let at : ℕ = get_or key (length (h n).prefix) 0 in
+    let here : n == n ≡ true = same_test n n refl in
+    let note : m == m ≡ true = same_test m m refl in
+    record {
+      notes = λ x. cond (x == m) (record (a m) { status = Gone }) (a x);
+      nodes = λ x. cond (x == n) (record (h n) { children = λ c. cond (c == at) Nothing ((h n).children c) }) (h x);
+      out = record {
+        linked = linked;
+        fitted = fitted;
+        hung = hung;
+        last = last;
+        prefix = rw here refl;
+        child = rw (here, same_test at at refl) refl;
+        beside = λ c ne. rw (here, other_test c at ne) refl;
+        left = λ l. let z : Gone ≡ Linked = rw note at l in cc;
+        notes = λ x ne. rw (other_test x m ne) refl;
+        nodes = λ x ne. rw (other_test x n ne) refl;
+      };
+      gone = rw note refl;
+    }
 
 unlink_graft : {V : Type 0} (a : ℕ → Note) (h : ℕ → Node V) (a' : ℕ → Note) (h' : ℕ → Node V) (n m : ℕ) (key : List ℕ) (v : V) → Unlinks a h a' h' n m key v
     → Graft a h a' h' n (get_or key (length (h n).prefix) 0)

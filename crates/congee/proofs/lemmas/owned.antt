@@ -7,7 +7,6 @@ pub mod Cursors
 pub mod Drains
 pub mod Edits
 pub mod Entering
-pub mod EntrySizes
 pub mod Filled
 pub mod Firsts
 pub mod Folding

@@ -5,7 +5,8 @@ use Rattle.congee.specs.forms.Places.{AllKeys, Rises}
 use Rattle.congee.proofs.lemmas.forms.Entries.{find, put, del}
 
 module _ {X : Type 0} where
-  AllKeys-map : (P Q : ℕ → Type 0) → ((k : ℕ) → P k → Q k) → (es : List (ℕ × X)) → AllKeys P es → AllKeys Q es
+  -- what holds for each key of a list, and leads to something else, leads there for each
+  pub AllKeys-map : (P Q : ℕ → Type 0) → ((k : ℕ) → P k → Q k) → (es : List (ℕ × X)) → AllKeys P es → AllKeys Q es
   AllKeys-map P Q f [] a = tt
   AllKeys-map P Q f ((k, x) ∷ r) a = (f k a.0, AllKeys-map P Q f r a.1)
 

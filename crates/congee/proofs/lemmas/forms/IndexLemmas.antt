@@ -53,12 +53,9 @@ module _ {X : Type 0} where
   ]
 
 module _ {X : Type 0} {x : Index} {xs : List X} (ok : IsIndexed x xs) where
-  byte_of : (b : ℕ) → IsSome (map.get (indexed_map x xs) b) → b < 256
-  byte_of b s = omega (arith, within_by (at_places x.places xs) b s, length_at x.places xs, ok.index.places_len)
-
   -- what has a child is a byte
   pub is_byte : (b : ℕ) → IsSome (map.get (indexed_map x xs) b) → b < 256
-  is_byte = byte_of
+  is_byte b s = omega (arith, within_by (at_places x.places xs) b s, length_at x.places xs, ok.index.places_len)
 
   -- a byte's child is what stands at its place
   pub get_is : (b : ℕ) → b < 256 → map.get (indexed_map x xs) b ≡ slice_get xs (place_of x b)
@@ -93,9 +90,6 @@ module _ {X : Type 0} {x : Index} {xs : List X} (ok : IsIndexed x xs) where
   -- a byte with a place has the child there
   pub get_there : (b : ℕ) (d : X) → b < 256 → place_of x b ≢ 48 → map.get (indexed_map x xs) b ≡ Some (get_or xs (place_of x b) d)
   get_there b d l n = get_is b l ∙ slice_get-get_or xs (place_of x b) d (omega (arith, n, ok.index.bounded b l, ok.places))
-
-  place_within : (b : ℕ) → b < 256 → place_of x b ≢ 48 → place_of x b < length xs
-  place_within b l n = omega (arith, n, ok.index.bounded b l, ok.places)
 
   -- the first byte with a place from one on is the first with a child
   pub is_first : (from b : ℕ) (d : X) → b < 256 → from ≤ b → place_of x b ≢ 48 → ((q : ℕ) → from ≤ q → q < b → place_of x q ≡ 48) → IsFirst (indexed_map x xs) from b (get_or xs (place_of x b) d)

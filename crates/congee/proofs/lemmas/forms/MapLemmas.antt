@@ -1,14 +1,16 @@
 -- A rising list is a finite map, and its words are the map's.
-use Rattle.std.proofs.Common.{◌≡◌, ℕ, ◌<◌, ◌+◌, ◌-◌, inl, inr, Bool, true, cond, eqb, ◌&&◌, T, List, [], ◌∷◌, length, None, Some, IsSome, refl, sym, ap, ◌∙◌, subst, arith}
+use Rattle.std.proofs.Common.{◌≡◌, ℕ, ◌<◌, ◌+◌, ◌-◌, inl, inr, true, cond, eqb, T, List, [], ◌∷◌, length, None, Some, IsSome, refl, sym, ap, ◌∙◌, subst, arith, rules, ◌≢◌}
 use Rattle.std.proofs.lemmas.Bool.Decides.{nat_tests}
 use Rattle.std.proofs.lemmas.Bool.{cases_eq}
 use Rattle.std.specs.Ordering.{nat_cmp, is_lt, eq_by_cmp}
 use Rattle.std.specs.Cmp.{nat_cmp_total}
 use Rattle.std.specs.FinMap as map
 use Rattle.std.specs.FinMap.Entries.{below_all}
+use Rattle.std.specs.FinMap.{gets}
 use Rattle.congee.specs.forms.Places.{AllKeys, Rises}
 use Rattle.congee.proofs.lemmas.forms.Entries.{find, put, del}
 use Rattle.congee.proofs.lemmas.forms.EntryLemmas.{rises_put, rises_del, find_del}
+use Rattle.congee.proofs.lemmas.Fits.{and_true}
 
 -- the map's test of equal keys is that of equal numbers
 pub same_is : (a b : ℕ) → eq_by_cmp nat_cmp a b ≡ eqb a b
@@ -24,19 +26,16 @@ put_std : {X : Type 0} (q : ℕ) (v : X) (es : List (ℕ × X)) → map.put nat_
 put_std q v [] = refl
 put_std q v ((k, x) ∷ r) = grind (arith, nat_tests, put_std q v r)
 
-both_true : (a b : Bool) → a ≡ true → b ≡ true → a && b ≡ true
-both_true a b e f = rw (e, f)
-
 less_is : (a b : ℕ) → a < b → is_lt (nat_cmp a b) ≡ true
 less_is a b l = grind (arith, nat_tests)
 
 below_all_std : {X : Type 0} (k : ℕ) (es : List (ℕ × X)) → AllKeys (λ j. k < j) es → below_all nat_cmp k es ≡ true
 below_all_std k [] a = refl
-below_all_std k ((j, x) ∷ r) a = both_true _ _ (less_is k j a.0) (below_all_std k r a.1)
+below_all_std k ((j, x) ∷ r) a = and_true _ _ (less_is k j a.0) (below_all_std k r a.1)
 
 is_sorted_true : {X : Type 0} (es : List (ℕ × X)) → Rises es → map.is_sorted nat_cmp es ≡ true
 is_sorted_true [] r = refl
-is_sorted_true ((k, x) ∷ es) r = both_true _ _ (below_all_std k es r.0) (is_sorted_true es r.1)
+is_sorted_true ((k, x) ∷ es) r = and_true _ _ (below_all_std k es r.0) (is_sorted_true es r.1)
 
 -- a rising list is sorted as the map wants it
 is_sorted_std : {X : Type 0} (es : List (ℕ × X)) → Rises es → T (map.is_sorted nat_cmp es)
@@ -88,3 +87,20 @@ module _ {X : Type 0} (m : map.FinMap nat_cmp X) (k : ℕ) where
   -- the removal of a key that is there shortens a map by one
   pub len_less : IsSome (map.get m k) → map.len (map.remove m k) + 1 ≡ map.len m
   len_less s = let e : map.len (map.remove m k) ≡ map.len m - 1 = map.len-remove nat_cmp_total m k ∙ rw s refl in omega (arith, some_len s)
+
+module _ {X : Type 0} where
+  -- where a pair was put in, the map has it
+  pub insert_at : (m : map.FinMap nat_cmp X) (k : ℕ) (x : X) → map.get (map.insert m k x) k ≡ Some x
+  insert_at m k x = grind (gets, rules)
+
+  -- a pair that is put in changes nothing at other keys
+  pub insert_beside : (m : map.FinMap nat_cmp X) (k : ℕ) (x : X) (q : ℕ) → q ≢ k → map.get (map.insert m k x) q ≡ map.get m q
+  insert_beside m k x q ne = grind (gets, rules, ne)
+
+  -- where a pair was taken out, the map has nothing
+  pub remove_at : (m : map.FinMap nat_cmp X) (k : ℕ) → map.get (map.remove m k) k ≡ None
+  remove_at m k = grind (gets, rules)
+
+  -- a pair that is taken out changes nothing at other keys
+  pub remove_beside : (m : map.FinMap nat_cmp X) (k : ℕ) (q : ℕ) → q ≢ k → map.get (map.remove m k) q ≡ map.get m q
+  remove_beside m k q ne = grind (gets, rules, ne)

@@ -87,19 +87,6 @@ module _ {X Y : Type 0} (f : ℕ → X → Y) where
       of None e = refl
       of (Some x) e = absurd (cc)
 
-  -- the value that was changed
-  pub record Before (m : map.FinMap nat_cmp X) (q : ℕ) (y : Y) : Type 0 where
-    pub value : X
-    pub here : map.get m q ≡ Some value
-    pub is : f q value ≡ y
-
-  mapped_some : (m : map.FinMap nat_cmp X) (q : ℕ) (y : Y) → map.get (mapped f m) q ≡ Some y → Before m q y
-  mapped_some m q y e = of (map.get m q) refl (sym (get_mapped m q) ∙ e)
-    where
-      of : (o : Option X) → map.get m q ≡ o → option_map (f q) o ≡ Some y → Before m q y
-      of None h e = absurd (cc)
-      of (Some x) h e = record { value = x; here = h; is = (let z : Some (f q x) ≡ Some y = e in cc) }
-
   -- the first pair from a key on, changed, is the first of the changed map
   pub first_mapped : (m : map.FinMap nat_cmp X) (from b : ℕ) (x : X) → IsFirst m from b x → IsFirst (mapped f m) from b (f b x)
   first_mapped m from b x i = record { past = i.past; here = some_mapped m b x i.here; before = λ q lo hi. none_mapped m q (i.before q lo hi) }

@@ -79,12 +79,6 @@ module _ {P : Type 0} where
     unchanged : (o : Option P) → value_at (heap_of s) (key_bytes k) ≡ o → (m : Pairs P) → HoldsPairs s m → HoldsPairs s (set_at m k o)
     unchanged o e m st = rw (set_at-standing m k o (st.at k small ∙ e)) st
 
-    answered_get : (o : Option P) → value_at (heap_of s) (key_bytes k) ≡ o → Answered same s s (call.Get k) (reply.Get o)
-    answered_get o e = record {
-      replies = λ m st. ap reply.Get (st.at k small ∙ e);
-      leaves = λ m st. rw (st.at k small ∙ e) (unchanged o e m st);
-    }
-
     -- a key's new value, whatever was there, is the map's insertion
     pub answered_insert : (before : Option P) (v : P) → MapChange s s' (key_bytes k) before (Some v) → Answered same s s' (call.Insert k v) (reply.Insert before)
     answered_insert before v c = record { replies = λ m st. ap reply.Insert (st.at k small ∙ c.was); leaves = changed before (Some v) c }

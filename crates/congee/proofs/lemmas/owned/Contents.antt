@@ -1,5 +1,5 @@
 -- What contracts see of a writing call on an arena.
-use Rattle.std.proofs.Common.{◌≡◌, ◌≢◌, ℕ, ◌<◌, ◌^◌, ◌+◌, ◌-◌, List, refl, sym, ap, subst, ◌∙◌, arith}
+use Rattle.std.proofs.Common.{◌≡◌, ◌≢◌, ℕ, ◌<◌, ◌^◌, ◌+◌, ◌-◌, List, refl, sym, ap, subst, ◌∙◌}
 use Rattle.std.specs.Prelude.{Option, None, Some, Ok, Err, Bool, nat_eq}
 use Rattle.std.specs.FinMap as map
 use Rattle.judge.specs.Answer.{answer}
@@ -11,7 +11,7 @@ use Rattle.congee.specs.Heap.{value_at}
 use Rattle.congee.specs.Keys.{key_bytes}
 use Rattle.congee.specs.owned.Arena.{IsTree, heap_of}
 use Rattle.congee.specs.owned.Changes.{MapChange}
-use Rattle.congee.specs.owned.Charge.{Balances, Covers, KeepsLimit}
+use Rattle.congee.specs.owned.Charge.{Balances, KeepsLimit}
 use Rattle.congee.specs.owned.Content.{Content, KeepsCharge, Unchanged, Inserts, Modifies, ChangesNothing, Refuses}
 use Rattle.congee.specs.owned.Edits.{Adds, Denies, Frees}
 use Rattle.congee.specs.owned.Full.{NoneSkipped, lacking_of}
@@ -32,11 +32,6 @@ use Rattle.congee.proofs.lemmas.owned.Tables.{answer_pairs, get_pairs, same_pair
 use Rattle.congee.proofs.lemmas.owned.Goings.{get_goes, same_goes}
 use Rattle.congee.proofs.lemmas.owned.Wanting.{get_wants, same_wants}
 use Rattle.congee.proofs.lemmas.owned.Ways.{same_tree}
-
--- where the charge moves as the nodes' sizes do, what was charged before them stays
-base_kept : {P A K : Type 0} (charged : A → ℕ) (old new : Arena P A K) → Covers charged old → Balances charged old new
-    → charged new.allocator - bytes_of new.nodes ≡ charged old.allocator - bytes_of old.nodes
-base_kept charged old new c b = omega (arith, c, b)
 
 module _ {P A K : Type 0} (charged limit : A → ℕ) (old new : Arena P A K) where
   -- a refused insertion leaves a tree, and what its charge covers

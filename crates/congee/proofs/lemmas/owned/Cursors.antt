@@ -279,10 +279,6 @@ module _ {P : Type 0} (s : Nodes P) (t : IsTree s) where
       let short = t.tree.short below i.linked in
       omega (arith, last.deep, i.longer, short)
 
-  -- a node of a tree in which a value hangs has a prefix of seven bytes
-  pub seven : (n b : ℕ) (v : P) → ContainsKey s n → (heap_of s n).children b ≡ Holds v → length (heap_of s n).prefix ≡ 7
-  seven n b v c e = t.tree.leaves n b v (linked_of s t.parent n c) e
-
   -- above the last step of a way there are fewer than eight
   pub few_before : (steps : List Branch) (b : Branch) → IsCursor s (steps ++ b ∷ []) → length steps < 8
   few_before steps b h =

@@ -1,6 +1,6 @@
 -- How full the nodes of an arena are: what they lack, and those of the tree, each with its level.
 use Rattle.std.proofs.Common.{◌≡◌, ◌≢◌, ℕ, zero, suc, ◌+◌, ◌-◌, ◌<◌, ◌≤◌, ◌⊎◌, Bool, true, false, cond, leb, ltb, List, [], ◌∷◌, length, drop, get_or, inl, inr, refl, sym, ap, subst, ◌∙◌, arith}
-use Rattle.std.specs.Prelude.{Option, None, Some, IsSome, is_some}
+use Rattle.std.specs.Prelude.{Option, None, Some, is_some}
 use Rattle.std.specs.Ordering.{nat_cmp}
 use Rattle.std.specs.Cmp.{nat_cmp_total}
 use Rattle.std.proofs.lemmas.List.Elements.{All-append, All-cons, All-nil}
@@ -8,11 +8,10 @@ use Rattle.std.proofs.lemmas.Bool.{lt-ltb}
 use Rattle.std.proofs.lemmas.Bool.Decides.{nat_tests}
 use Rattle.std.specs.FinMap as map
 use borrow.Author.Tests.{ltb-true}
-use Rattle.slab.specs.Slab.{get, ContainsKey}
+use Rattle.slab.specs.Slab.{get}
 use Rattle.congee.specs.Heap.{Hung, Nothing, Below, Holds}
-use Rattle.congee.specs.Notes.{IsChild}
 use Rattle.congee.specs.forms.Forms.{Becomes, capacity_of, children_of, form_of, next_form, prefix_of}
-use Rattle.congee.specs.owned.Arena.{Nodes, hung_in, node_of, heap_of, ledger_of, IsTree}
+use Rattle.congee.specs.owned.Arena.{Nodes, hung_in, node_of, heap_of, IsTree}
 use Rattle.congee.specs.owned.Full.{AllFilled, HasEnough, NodesFilled, OthersFilled, fewest, lacks, lacks_all, lacking_of}
 use Rattle.congee.specs.owned.Levels.{shape_of, under_byte, under_bytes, with_node, nodes_from, nodes_of}
 use Rattle.congee.specs.owned.OwnedSteps.{SameNodes, Sets}
@@ -28,7 +27,8 @@ use Rattle.congee.specs.declared.forms.child.Child.{Child}
 use Rattle.congee.proofs.lemmas.Tree.{same_or_not}
 use Rattle.congee.proofs.lemmas.owned.Filled.{has_pair}
 use Rattle.congee.proofs.lemmas.owned.Moves.{remove_beside}
-use Rattle.congee.proofs.lemmas.owned.Ways.{linked_of}
+use Rattle.congee.proofs.lemmas.owned.Totals.{sum_same}
+use Rattle.congee.proofs.lemmas.owned.Ways.{hung_child}
 
 -- a form by its places
 by_places : (form : NodeType) → form_by (places form) ≡ form
@@ -103,19 +103,7 @@ module _ {P : Type 0} where
   each_enough (o ∷ xs) e (suc j) x at = each_enough xs (omega (arith, e)) j x at
 
   lacks_same : (xs ys : List (Option (Form ℕ P))) → ((j : ℕ) → get_or ys j None ≡ get_or xs j None) → lacks_all ys ≡ lacks_all xs
-  lacks_same [] [] e = refl
-  lacks_same [] (y ∷ ys) e =
-      let h : lacks y ≡ 0 = ap lacks (e 0) in
-      let r : lacks_all ys ≡ 0 = lacks_same [] ys (λ j. e (suc j)) in
-      omega (arith, h, r)
-  lacks_same (x ∷ xs) [] e =
-      let h : 0 ≡ lacks x = ap lacks (e 0) in
-      let r : 0 ≡ lacks_all xs = lacks_same xs [] (λ j. e (suc j)) in
-      omega (arith, h, r)
-  lacks_same (x ∷ xs) (y ∷ ys) e =
-      let h : lacks y ≡ lacks x = ap lacks (e 0) in
-      let r : lacks_all ys ≡ lacks_all xs = lacks_same xs ys (λ j. e (suc j)) in
-      omega (arith, h, r)
+  lacks_same = sum_same lacks lacks_all refl refl (λ x xs. refl)
 
   beside_root : (xs : List (Option (Form ℕ P))) (j : ℕ) → get_or (drop 1 xs) j None ≡ get_or xs (suc j) None
   beside_root [] j = refl
@@ -161,19 +149,10 @@ module _ {P : Type 0} where
   all_with go level (Some x) below h = All-cons Full (shape_of level x) _ (λ ne. h x refl ne) (all_under go (λ b. hung_in (map.get (children_of x) b)) 256 below)
 
 module _ {P : Type 0} (s : Nodes P) (t : IsTree s) where
-  child_of : (n b c : ℕ) → (heap_of s n).children b ≡ Below c → ContainsKey s n × IsChild (ledger_of s t.parent) (heap_of s) n b c
-  child_of n b c e =
-      let h : ContainsKey s n = there (get s n) e in
-      (h, t.tree.down n b c (linked_of s t.parent n h) e)
-    where
-      there : (o : Option (Form ℕ P)) → (node_of o).children b ≡ Below c → IsSome o
-      there None e = absurd (let z : Nothing ≡ Below c = e in cc)
-      there (Some x) e = refl
-
   -- the root hangs nowhere
   not_root : (n b c : ℕ) → (heap_of s n).children b ≡ Below c → c ≢ 0
   not_root n b c e z =
-      let i = (child_of n b c e).1 in
+      let i = (hung_child s t n b c e).1 in
       let l : length (heap_of s c).prefix ≡ 0 = ap (λ k. length (heap_of s k).prefix) z ∙ ap length t.tree.empty in
       absurd (omega (arith, i.longer, l))
 

@@ -70,8 +70,9 @@ module _ {P : Type 0} where
   root_not : (s : Nodes P) (t : IsTree s) (n : ℕ) → get s n ≡ None → 0 ≢ n
   root_not s t n e q = let Q : ℕ → Type 0 = λ y. (ledger_of s t.parent y).status ≡ Linked in vacant_not s t.parent n e (subst Q q t.tree.root)
 
-  stands_some : (s : Nodes P) (n : ℕ) (x : Form ℕ P) → get s n ≡ Some x → ContainsKey s n
-  stands_some s n x e = rw e refl
+  -- where a node is read, one stands
+  pub stands_at : (s : Nodes P) (n : ℕ) (x : Form ℕ P) → get s n ≡ Some x → ContainsKey s n
+  stands_at s n x e = rw e refl
 
   note_same : (s s' : Nodes P) (parent parent' : ℕ → ℕ) (m : ℕ) → is_some (get s' m) ≡ is_some (get s m) → parent' m ≡ parent m → ledger_of s' parent' m ≡ ledger_of s parent m
   note_same s s' parent parent' m e f = rw (e, f) refl
@@ -141,7 +142,7 @@ module _ {P : Type 0} where
         child = rw (hx, hy) (ap hung_in k.differs.here);
         beside = λ c ne. let ne' : c ≢ get_or key (length (prefix_of k.before)) 0 = rw hx at ne in rw (hx, hy) (ap hung_in (k.differs.beside c ne'));
         leaf = leaf_of s' key d k.made v len k.taken k.has;
-        joined = linked_of s' parent' d (stands_some s' d k.made k.taken);
+        joined = linked_of s' parent' d (stands_at s' d k.made k.taken);
         parent = rw (same_test d d refl) refl;
         notes = λ m ne. note_same s s' t.parent parent' m
             (elim (same_or_not m at) [
@@ -230,7 +231,7 @@ module _ {P : Type 0} where
       let past : length (heap_of s at).prefix < n = parted_below (heap_of s at).prefix (heap_of s b).prefix key n w.fitted i.fitted i.longer (sym i.byte) parts in
       let ab : at ≢ b = (λ q. let z : length (heap_of s at).prefix ≡ length (heap_of s b).prefix = ap (λ y. length (heap_of s y).prefix) q in absurd (omega (arith, i.longer))) in
       let stands_not : (m x : ℕ) → ContainsKey s m → get s x ≡ None → m ≢ x = λ m x st e q. (let Q : ℕ → Type 0 = λ y. ContainsKey s y in let z : ContainsKey s x = subst Q q st in let y : false ≡ true = rw e at z in cc) in
-      let bs : ContainsKey s b = stands_some s b k.lower k.stands in
+      let bs : ContainsKey s b = stands_at s b k.lower k.stands in
       let splits : Splits a (heap_of s) a' (heap_of s') at b c d key v = record {
         linked = linked_of s t.parent at w.stands;
         fitted = w.fitted;
@@ -250,11 +251,11 @@ module _ {P : Type 0} where
         prefix = rw (hx, hy) k.differs.prefix;
         child = rw (hx, hy) (ap hung_in k.differs.here);
         beside = λ x ne. let ne' : x ≢ get_or key (length (prefix_of k.before)) 0 = rw hx at ne in rw (hx, hy) (ap hung_in (k.differs.beside x ne'));
-        joined_above = linked_of s' parent' c (stands_some s' c k.fork k.taken_over);
+        joined_above = linked_of s' parent' c (stands_at s' c k.fork k.taken_over);
         parent_above = rw (same_test c c refl) refl;
-        joined_leaf = linked_of s' parent' d (stands_some s' d k.made k.taken_leaf);
+        joined_leaf = linked_of s' parent' d (stands_at s' d k.made k.taken_leaf);
         parent_leaf = rw (other_test d c (λ q. k.apart (sym q)), same_test d d refl) refl;
-        stays_old = linked_of s' parent' b (stands_some s' b k.lower (k.others b (stands_not b c bs k.vacant_over) (stands_not b d bs k.vacant_leaf) (λ q. ab (sym q)) ∙ k.stands));
+        stays_old = linked_of s' parent' b (stands_at s' b k.lower (k.others b (stands_not b c bs k.vacant_over) (stands_not b d bs k.vacant_leaf) (λ q. ab (sym q)) ∙ k.stands));
         parent_old = rw (other_test b c (stands_not b c bs k.vacant_over), other_test b d (stands_not b d bs k.vacant_leaf), same_test b b refl) refl;
         notes = λ m nc nd nb. note_same s s' t.parent parent' m
             (elim (same_or_not m at) [

@@ -1,5 +1,5 @@
 -- A node's only child takes the node's place: the tree and its map stay.
-use Rattle.std.proofs.Common.{◌≡◌, ◌≢◌, ℕ, ◌==◌, ◌<◌, inl, inr, true, false, cond, length, refl, sym, ap, subst, ◌∙◌, arith}
+use Rattle.std.proofs.Common.{◌≡◌, ◌≢◌, ℕ, ◌==◌, inl, inr, true, false, cond, length, refl, sym, ap, subst, ◌∙◌, arith}
 use Rattle.std.specs.Prelude.{None, Some, IsSome}
 use Rattle.std.specs.FinMap as map
 use Rattle.slab.specs.Slab.{get, ContainsKey}
@@ -14,7 +14,7 @@ use Rattle.congee.proofs.lemmas.Fits.{same_test, other_test}
 use Rattle.congee.proofs.lemmas.Graft.{one_place}
 use Rattle.congee.proofs.lemmas.Lift.{lift_tree, lift_map}
 use Rattle.congee.proofs.lemmas.Rename.{Renamed, Named, named, in_place, renamed_tree, renamed_map}
-use Rattle.congee.proofs.lemmas.Tree.{same_or_not}
+use Rattle.congee.proofs.lemmas.Tree.{same_or_not, by_length}
 use Rattle.congee.proofs.lemmas.owned.Edits.{wide_after}
 use Rattle.congee.proofs.lemmas.owned.Filled.{filled_at, filled_with, filled_none}
 use Rattle.congee.proofs.lemmas.owned.Moves.{insert_at, insert_beside, stands_at}
@@ -79,26 +79,23 @@ module _ {P : Type 0} (s s' : Nodes P) (g b p : ℕ) (t : IsTree s) (r : MayLift
   child_o : IsChild a h p r.one.byte o
   child_o = t.tree.down p r.one.byte o child_p.linked only_o
 
-  by_length : (u w : ℕ) → length (h u).prefix < length (h w).prefix → u ≢ w
-  by_length u w l e = let z : length (h u).prefix ≡ length (h w).prefix = ap (λ v. length (h v).prefix) e in absurd (omega (arith, l))
-
   gp : g ≢ p
-  gp = by_length g p child_p.longer
+  gp = by_length h g p child_p.longer
 
   po : p ≢ o
-  po = by_length p o child_o.longer
+  po = by_length h p o child_o.longer
 
   go : g ≢ o
-  go = by_length g o (omega (arith, child_p.longer, child_o.longer))
+  go = by_length h g o (omega (arith, child_p.longer, child_o.longer))
 
   root_length : length (h 0).prefix ≡ 0
   root_length = ap length t.tree.empty
 
   rp : 0 ≢ p
-  rp = by_length 0 p (omega (arith, child_p.longer, root_length))
+  rp = by_length h 0 p (omega (arith, child_p.longer, root_length))
 
   ro : 0 ≢ o
-  ro = by_length 0 o (omega (arith, child_o.longer, root_length))
+  ro = by_length h 0 o (omega (arith, child_o.longer, root_length))
 
   lifts : Lifts a h a1 h1 g b p r.one.byte o
   lifts = record {

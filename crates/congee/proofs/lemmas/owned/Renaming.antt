@@ -7,7 +7,7 @@ use Rattle.congee.specs.Notes.{Linked, Gone, IsChild}
 use Rattle.congee.specs.forms.Forms.{form_of, size_of}
 use Rattle.congee.specs.owned.Arena.{Nodes, hung_in, node_of, heap_of, ledger_of, IsFilled, IsTree}
 use Rattle.congee.specs.owned.Changes.{Differs, MapChange}
-use Rattle.congee.specs.owned.Edits.{Edits, Swaps, Adds}
+use Rattle.congee.specs.owned.Edits.{Edits, Adds}
 use Rattle.congee.specs.owned.Full.{HasEnough, NodesFilled}
 use Rattle.congee.specs.owned.Renames.{Renames, Renamed}
 use Rattle.congee.specs.owned.Sizes.{bytes_at, bytes_of}
@@ -46,9 +46,6 @@ module _ {P : Type 0} (s s' : Nodes P) (p b n m : ℕ) (t : IsTree s) (k : Renam
 
   hangs : IsChild (ledger_of s t.parent) (heap_of s) p b n
   hangs = t.tree.down p b n above hung
-
-  above_apart : p ≢ n
-  above_apart e = let z : length (heap_of s p).prefix ≡ length (heap_of s n).prefix = ap (λ y. length (heap_of s y).prefix) e in absurd (omega (arith, hangs.longer))
 
   root_apart : 0 ≢ n
   root_apart e =
@@ -203,35 +200,4 @@ module _ {P A K : Type 0} (charged limit : A → ℕ) (old mid new : Arena P A K
       fits = subst (λ t. InsertionFits wants (charged t) (limit t)) same a.fits;
       bytes = a.bytes ∙ ap (λ n. n + gain_of wants) r.bytes;
       filled = λ h. a.filled (r.filled h);
-    }
-
-    swaps_renamed : (before after : Option P) → Swaps mid new key before after → Swaps old new key before after
-    swaps_renamed before after w = record {
-      tree = w.tree;
-      change = change_renamed old.nodes mid.nodes new.nodes key before after r w.change;
-      bytes = w.bytes ∙ r.bytes;
-      filled = λ h. w.filled (r.filled h);
-      allocator = w.allocator ∙ same;
-    }
-
-  -- a renaming after an edit
-  module _ (r : Renamed mid.nodes new.nodes) (same : new.allocator ≡ mid.allocator) where
-    renamed_edits : (before after : Option P) → Edits charged limit old mid key before after → Edits charged limit old new key before after
-    renamed_edits before after e = record {
-      tree = r.tree;
-      change = renamed_change old.nodes mid.nodes new.nodes key before after e.change r;
-      balance = (let b = e.balance in let c : charged new.allocator ≡ charged mid.allocator = ap charged same in omega (arith, b, c, r.bytes));
-      same_limit = ap limit same ∙ e.same_limit;
-    }
-
-    renamed_adds : (before : Option P) (value : P) (wants : Option (List ℕ)) → Adds charged limit old mid key before value wants → Adds charged limit old new key before value wants
-    renamed_adds before value wants a = record { edits = renamed_edits before (Some value) a.edits; fits = a.fits; bytes = r.bytes ∙ a.bytes; filled = λ h. r.filled (a.filled h) }
-
-    renamed_swaps : (before after : Option P) → Swaps old mid key before after → Swaps old new key before after
-    renamed_swaps before after w = record {
-      tree = r.tree;
-      change = renamed_change old.nodes mid.nodes new.nodes key before after w.change r;
-      bytes = r.bytes ∙ w.bytes;
-      filled = λ h. r.filled (w.filled h);
-      allocator = same ∙ w.allocator;
     }

@@ -205,9 +205,6 @@ module _ {P E : Type 0} (s : Nodes P) (put : ℕ → P → E) (last : ℕ) (stem
     pub so : SoFar s put last (257 * stem.slot) seen.from first old byte count new
 
   module _ (seen : SeesList s stem list) (first : ℕ) (old : List E) where
-    list_begins : first ≤ length old → ListSoFar seen first old 0 first old
-    list_begins l = record { byte = seen.from; rest = seen.lists; so = sets_out s put last (257 * stem.slot) seen.from first old l }
-
     module _ (i count : ℕ) (new : List E) (l : ListSoFar seen first old i count new) (entry : Entry P) (h : i < length list) (e : entry ≡ get_or list i entry) where
       -- the next entry of the list hangs in the node
       pub list_hangs : SeesEntry s stem entry

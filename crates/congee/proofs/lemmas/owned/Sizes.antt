@@ -1,10 +1,8 @@
 -- The room that the nodes take, after a change of one of them.
-use Rattle.std.proofs.Common.{◌≡◌, ◌≢◌, ℕ, zero, suc, ◌+◌, ◌≤◌, List, [], ◌∷◌, length, get_or, refl, sym, ap, subst, ◌∙◌, arith, inl, inr}
+use Rattle.std.proofs.Common.{◌≡◌, ◌≢◌, ℕ, zero, suc, ◌+◌, ◌≤◌, List, [], ◌∷◌, length, get_or, refl, sym, ap, ◌∙◌, arith}
 use Rattle.std.specs.Prelude.{Option, None, Some}
-use Rattle.slab.specs.Slab.{get, Updates, ContainsKey, with_value, entries, entries_from}
-use Rattle.slab.proofs.SlabLemmas.{Updates-with_value}
-use Rattle.congee.proofs.lemmas.Tree.{same_or_not}
-use Rattle.congee.proofs.lemmas.owned.Totals.{total, total_first, total_beyond}
+use Rattle.slab.specs.Slab.{get, Updates}
+use Rattle.congee.proofs.lemmas.owned.Totals.{total, total_first, total_beyond, sum_same}
 use Rattle.congee.specs.forms.Forms.{form_of, size_of}
 use Rattle.congee.specs.owned.Arena.{Nodes}
 use Rattle.congee.specs.owned.Sizes.{bytes_at, bytes_in, bytes_of}
@@ -13,19 +11,7 @@ use Rattle.congee.specs.declared.forms.base_node.Node.{Node}
 
 module _ {P : Type 0} where
   bytes_in_same : (xs ys : List (Option (Node ℕ P))) → ((j : ℕ) → get_or ys j None ≡ get_or xs j None) → bytes_in ys ≡ bytes_in xs
-  bytes_in_same [] [] e = refl
-  bytes_in_same [] (y ∷ ys) e =
-      let h : bytes_at y ≡ 0 = ap bytes_at (e 0) in
-      let r : bytes_in ys ≡ 0 = bytes_in_same [] ys (λ j. e (suc j)) in
-      omega (arith, h, r)
-  bytes_in_same (x ∷ xs) [] e =
-      let h : 0 ≡ bytes_at x = ap bytes_at (e 0) in
-      let r : 0 ≡ bytes_in xs = bytes_in_same xs [] (λ j. e (suc j)) in
-      omega (arith, h, r)
-  bytes_in_same (x ∷ xs) (y ∷ ys) e =
-      let h : bytes_at y ≡ bytes_at x = ap bytes_at (e 0) in
-      let r : bytes_in ys ≡ bytes_in xs = bytes_in_same xs ys (λ j. e (suc j)) in
-      omega (arith, h, r)
+  bytes_in_same = sum_same bytes_at bytes_in refl refl (λ x xs. refl)
 
   bytes_in_update : (xs ys : List (Option (Node ℕ P))) (at : ℕ) → ((j : ℕ) → j ≢ at → get_or ys j None ≡ get_or xs j None)
       → bytes_in ys + bytes_at (get_or xs at None) ≡ bytes_in xs + bytes_at (get_or ys at None)
@@ -77,28 +63,6 @@ module _ {P : Type 0} where
       let b : bytes_at (get s name) ≡ 0 = ap bytes_at k.vacant in
       let f : size_of (form_of k.node) ≡ 64 = ap size_of k.form in
       omega (arith, u, b, f)
-
-  -- a node written back as it was
-  same_written : (s : Nodes P) (at : ℕ) (x y : Node ℕ P) → ContainsKey s at → get s at ≡ Some x → y ≡ x → SameNodes s (with_value s at y)
-  same_written s at x y h e q name =
-      let u : Updates s (with_value s at y) at (Some y) = Updates-with_value s at y h in
-      elim (same_or_not name at) [
-        | inl p ↦ (let Q : ℕ → Type 0 = λ n. get (with_value s at y) n ≡ get s n in subst Q (sym p) (u.changed ∙ (ap Some q ∙ sym e)))
-        | inr ne ↦ u.others name ne
-      ]
-
-  -- the sizes of the nodes that a walk over the slab has still to come to
-  abbrev bytes_left : List (ℕ × Node ℕ P) → ℕ
-  bytes_left [] = 0
-  bytes_left ((key, node) ∷ rest) = size_of (form_of node) + bytes_left rest
-
-  left_from : (key : ℕ) (slots : List (Option (Node ℕ P))) → bytes_left (entries_from key slots) ≡ bytes_in slots
-  left_from key [] = refl
-  left_from key (None ∷ rest) = let r = left_from (key + 1) rest in omega (arith, r)
-  left_from key (Some node ∷ rest) = ap (λ n. size_of (form_of node) + n) (left_from (key + 1) rest)
-
-  bytes_left_first : (s : Nodes P) → bytes_left (entries s) ≡ bytes_of s
-  bytes_left_first s = left_from 0 s.slots
 
   -- the sizes by name
   pub bytes_total : (xs : List (Option (Node ℕ P))) → bytes_in xs ≡ total (λ n. bytes_at (get_or xs n None)) (length xs)

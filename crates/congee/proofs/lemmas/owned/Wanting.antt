@@ -3,13 +3,13 @@ use Rattle.std.proofs.Common.{◌≡◌, ◌≢◌, ℕ, zero, suc, ◌+◌, ◌
 use Rattle.std.specs.Prelude.{None, Some, ◌==◌}
 use Rattle.std.proofs.lemmas.Bool.Decides.{eqb_tells}
 use Rattle.std.specs.FinMap as map
-use Rattle.slab.specs.Slab.{get, ContainsKey}
+use Rattle.slab.specs.Slab.{get}
 use Rattle.congee.specs.Heap.{Hung, Nothing, Below, Holds, Node, fits, child_for}
-use Rattle.congee.specs.Notes.{Linked, Note, IsChild, HasParent, Tree}
+use Rattle.congee.specs.Notes.{Linked, Note, IsChild, Tree}
 use Rattle.congee.specs.forms.Forms.{form_of, prefix_of, children_of, size_of, next_form, is_full_of}
 use Rattle.congee.specs.owned.Arena.{Nodes, hung_in, heap_of, node_of, IsTree, OnWay, Hangs}
 use Rattle.congee.specs.Keys.{key_bytes}
-use Rattle.congee.specs.owned.OwnedSteps.{SameNodes, Sets, Makes, IsRefusal}
+use Rattle.congee.specs.owned.OwnedSteps.{SameNodes, Sets, IsRefusal}
 use Rattle.congee.specs.owned.Place.{Located, EndsAt}
 use Rattle.congee.specs.declared.owned.place.Place.{Place}
 use Rattle.congee.specs.declared.owned.place.Spot.{Spot}
@@ -21,11 +21,10 @@ use Rattle.congee.specs.owned.Wanted.{size_by, net, at_end, descend, room_for, f
 use Rattle.congee.specs.declared.forms.base_node.Node.{Node as Form}
 use Rattle.congee.specs.declared.forms.base_node.Node.TheVariants.{N4, N16, N48, N256}
 use Rattle.congee.specs.declared.forms.base_node.NodeType.TheVariants.{N256 as T256}
-use Rattle.congee.proofs.lemmas.Fits.{fits_trans, fits_byte}
 use Rattle.congee.proofs.lemmas.owned.Tables.{table_below}
-use Rattle.congee.proofs.lemmas.Tree.{same_or_not}
+use Rattle.congee.proofs.lemmas.Tree.{down_to}
 use Rattle.congee.proofs.lemmas.owned.Ways.{linked_of, above_apart}
-use Rattle.congee.proofs.lemmas.owned.Moves.{node_at, apart_of}
+use Rattle.congee.proofs.lemmas.owned.Moves.{node_at}
 use Rattle.congee.proofs.lemmas.owned.Answered.{located_held}
 
 module _ {V X : Type 0} (apart : X) (last : Node V → Hung V → X) where
@@ -51,32 +50,12 @@ module _ {V X : Type 0} (apart : X) (last : Node V → Hung V → X) where
       → descend apart last h (suc f) n key ≡ at_end last (h n) (λ c. descend apart last h f c key) x
   enter h f n key x p e = rw (p, e) refl
 
-  lead_up : (a : ℕ → Note) (h : ℕ → Node V) → Tree a h → (p b n : ℕ) (key : List ℕ) → (a p).status ≡ Linked → (h p).children b ≡ Below n
-      → fits (h n).prefix key ≡ true → (fits (h p).prefix key ≡ true → descend apart last h 8 0 key ≡ descend apart last h 8 p key) → descend apart last h 8 0 key ≡ descend apart last h 8 n key
-  lead_up a h t p b n key l e f before =
-      let i : IsChild a h p b n = t.down p b n l e in
-      let g : fits (h p).prefix key ≡ true = fits_trans (h p).prefix (h n).prefix key i.fitted f in
-      let same : get_or key (length (h p).prefix) 0 ≡ b = fits_byte (h n).prefix key (length (h p).prefix) f i.longer ∙ i.byte in
-      let x : (h p).children (get_or key (length (h p).prefix) 0) ≡ Below n = rw same e in
-      before g ∙ (enter h 7 p key (Below n) g x ∙ stable a h t 7 8 n key i.linked (omega (arith, i.longer)) (omega arith))
-
   -- the way of a key leads through each linked node whose prefix it has
   lead : (a : ℕ → Note) (h : ℕ → Node V) → Tree a h → (d n : ℕ) (key : List ℕ) → length (h n).prefix ≤ d → (a n).status ≡ Linked
       → fits (h n).prefix key ≡ true → descend apart last h 8 0 key ≡ descend apart last h 8 n key
-  lead a h t zero n key d l f =
-      elim (same_or_not n 0) [
-        | inl e ↦ rw e refl
-        | inr ne ↦ let u : HasParent a h n = t.up n l ne in
-            let i : IsChild a h (a n).parent u.byte n = t.down (a n).parent u.byte n u.linked u.holds in absurd (omega (arith, i.longer))
-      ]
-  lead a h t (suc d) n key le l f =
-      elim (same_or_not n 0) [
-        | inl e ↦ rw e refl
-        | inr ne ↦ let u : HasParent a h n = t.up n l ne in
-            let i : IsChild a h (a n).parent u.byte n = t.down (a n).parent u.byte n u.linked u.holds in
-            let small : length (h (a n).parent).prefix ≤ d = omega (arith, i.longer) in
-            lead_up a h t (a n).parent u.byte n key u.linked u.holds f (λ g. lead a h t d (a n).parent key small u.linked g)
-      ]
+  lead a h t d n key =
+      down_to a h t key (λ m. descend apart last h 8 0 key ≡ descend apart last h 8 m key) refl
+      (λ p b m i g x before. before ∙ (enter h 7 p key (Below m) g x ∙ stable a h t 7 8 m key i.linked (omega (arith, i.longer)) (omega arith))) d n
 
   -- what is said at the end of a key's way is what is said from a node on it
   pub ends : (s : Nodes V) (key : List ℕ) (n : ℕ) (x : Hung V) → IsTree s → OnWay s key n → child_for (heap_of s n) key ≡ x
@@ -178,12 +157,6 @@ module _ {P : Type 0} where
   free_inner n ne =
       let f : (length n.prefix == 7) ≡ false = elim (eqb_tells (length n.prefix) 7) [ inl q ↦ absurd (ne q.1) | inr q ↦ q.0 ] in
       ap (λ b. cond b (room_for n) (64 ∷ room_for n)) f
-
-  -- a node as it was before another was made
-  pub made_same : (s s1 : Nodes P) (at leaf : ℕ) (p : List ℕ) → ContainsKey s at → Makes s s1 leaf p → heap_of s1 at ≡ heap_of s at
-  made_same s s1 at leaf p st m =
-      let n = node_at s at st in
-      ap node_of (m.updates.others at (apart_of s at leaf n.0 n.1 m.vacant))
 
   -- room that was found after a leaf was made
   pub fit_after : (n n' : Node P) (c c' l l' : ℕ) → n' ≡ n → c' ≡ c + 64 → l' ≡ l → c + 64 ≤ l → AllFit (room_for n') c' l' → AllFit (64 ∷ room_for n) c l

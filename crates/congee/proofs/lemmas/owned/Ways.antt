@@ -2,24 +2,17 @@
 use Rattle.std.proofs.Common.{rules, ◌≡◌, ◌≢◌, ℕ, ◌<◌, ◌≤◌, ◌-◌, true, List, length, get_or, refl, sym, ap, subst, ◌∙◌, arith}
 use Rattle.std.specs.Prelude.{Option, Some, None, is_some, cond, IsSome}
 use Rattle.slab.specs.Slab.{get, ContainsKey}
-use Rattle.congee.specs.Heap.{Below, fits, child_for}
+use Rattle.congee.specs.Heap.{Nothing, Below, fits, child_for}
 use Rattle.congee.specs.Notes.{Linked, Gone, IsChild}
-use Rattle.std.specs.FinMap as map
-use Rattle.congee.specs.forms.Forms.{prefix_of, children_of}
+use Rattle.congee.specs.forms.Forms.{prefix_of}
 use Rattle.congee.specs.declared.forms.base_node.Node.{Node as Form}
 use Rattle.congee.specs.owned.OwnedSteps.{SameNodes}
-use Rattle.congee.specs.owned.Arena.{Nodes, hung_in, node_of, heap_of, ledger_of, IsFilled, IsTree, Hangs, Reached}
-use Rattle.congee.specs.declared.forms.child.Child.{Child}
+use Rattle.congee.specs.owned.Arena.{Nodes, node_of, heap_of, ledger_of, IsFilled, IsTree, Hangs, Reached}
 use Rattle.congee.specs.owned.Place.{EndsAt, Located}
 use Rattle.congee.specs.declared.owned.place.Place.{Place}
 use Rattle.congee.specs.declared.owned.place.Spot.{Spot}
 
 module _ {P : Type 0} where
-  -- what a node has for a key
-  pub child_is : (s : Nodes P) (key : List ℕ) (n : ℕ) (x : Form ℕ P) (r : Option (Child ℕ P))
-      → get s n ≡ Some x → r ≡ map.get (children_of x) (get_or key (length (prefix_of x)) 0) → child_for (heap_of s n) key ≡ hung_in r
-  child_is s key n x r e f = rw (e, f) refl
-
   -- the prefix that the tree sees of a node is the node's
   pub prefix_is : (s : Nodes P) (n : ℕ) (x : Form ℕ P) → get s n ≡ Some x → (heap_of s n).prefix ≡ prefix_of x
   prefix_is s n x e = rw e refl
@@ -51,6 +44,16 @@ module _ {P : Type 0} where
   pub is_child : (s : Nodes P) (t : IsTree s) (n c : ℕ) (key : List ℕ) → ContainsKey s n → child_for (heap_of s n) key ≡ Below c
       → IsChild (ledger_of s t.parent) (heap_of s) n (get_or key (length (heap_of s n).prefix) 0) c
   is_child s t n c key h e = t.tree.down n _ c (linked_of s t.parent n h) e
+
+  -- what hangs at any byte is a child, of a node that stands
+  pub hung_child : (s : Nodes P) (t : IsTree s) (n b c : ℕ) → (heap_of s n).children b ≡ Below c → ContainsKey s n × IsChild (ledger_of s t.parent) (heap_of s) n b c
+  hung_child s t n b c e =
+      let h : ContainsKey s n = there (get s n) e in
+      (h, t.tree.down n b c (linked_of s t.parent n h) e)
+    where
+      there : (o : Option (Form ℕ P)) → (node_of o).children b ≡ Below c → IsSome o
+      there None e = absurd (let z : Nothing ≡ Below c = e in cc)
+      there (Some x) e = refl
 
   -- a node that hangs in one of the tree stands
   pub below_stands : (s : Nodes P) → IsTree s → (n c : ℕ) (key : List ℕ) → ContainsKey s n → child_for (heap_of s n) key ≡ Below c → ContainsKey s c

@@ -1,5 +1,5 @@
 -- What a step does to one node of a store, and to the same node by its number.
-use Rattle.std.proofs.Common.{◌≡◌, ◌≢◌, ℕ, zero, suc, ◌+◌, ◌-◌, ◌<◌, ◌==◌, true, false, cond, List, [], ◌∷◌, ◌++◌, length, take, refl, sym, ◌∙◌, ap, subst, inl, inr, ◌⊎◌, arith}
+use Rattle.std.proofs.Common.{◌≡◌, ◌≢◌, ℕ, zero, suc, ◌+◌, ◌-◌, ◌<◌, ◌==◌, true, false, cond, List, [], ◌∷◌, ◌++◌, length, take, refl, sym, ◌∙◌, ap, subst, inl, inr, ◌⊎◌, arith, Bool}
 use Rattle.std.specs.Prelude.{Some, slice_get}
 use Rattle.std.proofs.lemmas.Option.{slice_get_within}
 use Rattle.congee.specs.declared.forms.base_node.NodeType.{NodeType}
@@ -91,61 +91,36 @@ module _ {V : Type 0} (order : List ℕ) (h : ℕ → Node V) (g : ℕ → Node 
       let P : Node V → Type 0 = λ z. NodeAlike order z (y (g n)) in
       touched c n h' (y (g n)) at k.others (λ t. subst P (sym k.after) (f (h c) (g n) (x n c at s))) (ap (λ z. z.made) k.after ∙ m) (λ t. s)
 
-  -- both sides are alike after the same node was locked
-  pub pair_locked : (c n : ℕ) (h' : ℕ → Node V) → slice_get order n ≡ Some c → Stands (h c) → SameBut h c (record (h c) { locked = true }) h' → Pair order h h' (lock g n)
-  pair_locked c n h' at s k = pair_but c n h' (λ z. record z { locked = true }) at s k (λ a b e. record {
+  -- two nodes that are alike are so with other words and marks that are the same
+  worded : (a b : Node V) → NodeAlike order a b → (v v' : ℕ) (l l' o o' r r' : Bool) → v' ≡ v → l' ≡ l → o' ≡ o → r' ≡ r
+      → NodeAlike order (record a { version = v; locked = l; obsolete = o; retired = r }) (record b { version = v'; locked = l'; obsolete = o'; retired = r' })
+  worded a b e v v' l l' o o' r r' ev el eo er = record {
     stands = record { made = e.stands.made; kept = e.stands.kept };
     prefix = e.prefix;
     count = e.count;
     capacity = e.capacity;
-    version = e.version;
-    locked = refl;
-    obsolete = e.obsolete;
-    retired = e.retired;
+    version = ev;
+    locked = el;
+    obsolete = eo;
+    retired = er;
     children = e.children;
-  }) refl
+  }
+
+  -- both sides are alike after the same node was locked
+  pub pair_locked : (c n : ℕ) (h' : ℕ → Node V) → slice_get order n ≡ Some c → Stands (h c) → SameBut h c (record (h c) { locked = true }) h' → Pair order h h' (lock g n)
+  pair_locked c n h' at s k = pair_but c n h' (λ z. record z { locked = true }) at s k (λ a b e. worded a b e _ _ _ _ _ _ _ _ e.version refl e.obsolete e.retired) refl
 
   -- both sides are alike after the same node was unlocked
   pub pair_freed : (c n : ℕ) (h' : ℕ → Node V) → slice_get order n ≡ Some c → Stands (h c) → UnlockGives h c h' → Pair order h h' (free g n)
-  pair_freed c n h' at s k = pair_but c n h' (λ z. record z { version = z.version + 1; locked = false }) at s k (λ a b e. record {
-    stands = record { made = e.stands.made; kept = e.stands.kept };
-    prefix = e.prefix;
-    count = e.count;
-    capacity = e.capacity;
-    version = ap (λ z. z + 1) e.version;
-    locked = refl;
-    obsolete = e.obsolete;
-    retired = e.retired;
-    children = e.children;
-  }) refl
+  pair_freed c n h' at s k = pair_but c n h' (λ z. record z { version = z.version + 1; locked = false }) at s k (λ a b e. worded a b e _ _ _ _ _ _ _ _ (ap (λ z. z + 1) e.version) refl e.obsolete e.retired) refl
 
   -- both sides are alike after the same node was marked as obsolete
   pub pair_marked : (c n : ℕ) (h' : ℕ → Node V) → slice_get order n ≡ Some c → Stands (h c) → ObsoleteGives h c h' → Pair order h h' (mark g n)
-  pair_marked c n h' at s k = pair_but c n h' (λ z. record z { obsolete = true }) at s k (λ a b e. record {
-    stands = record { made = e.stands.made; kept = e.stands.kept };
-    prefix = e.prefix;
-    count = e.count;
-    capacity = e.capacity;
-    version = e.version;
-    locked = e.locked;
-    obsolete = refl;
-    retired = e.retired;
-    children = e.children;
-  }) refl
+  pair_marked c n h' at s k = pair_but c n h' (λ z. record z { obsolete = true }) at s k (λ a b e. worded a b e _ _ _ _ _ _ _ _ e.version e.locked refl e.retired) refl
 
   -- both sides are alike after the same node was handed over
   pub pair_handed : (c n : ℕ) (h' : ℕ → Node V) → slice_get order n ≡ Some c → Stands (h c) → RetireGives h c h' → Pair order h h' (hand g n)
-  pair_handed c n h' at s k = pair_but c n h' (λ z. record z { retired = true }) at s k (λ a b e. record {
-    stands = record { made = e.stands.made; kept = e.stands.kept };
-    prefix = e.prefix;
-    count = e.count;
-    capacity = e.capacity;
-    version = e.version;
-    locked = e.locked;
-    obsolete = e.obsolete;
-    retired = refl;
-    children = e.children;
-  }) refl
+  pair_handed c n h' at s k = pair_but c n h' (λ z. record z { retired = true }) at s k (λ a b e. worded a b e _ _ _ _ _ _ _ _ e.version e.locked e.obsolete refl) refl
 
   -- one goes back
   pub pair_back : (c n : ℕ) (h' : ℕ → Node V) → slice_get order n ≡ Some c → Stands (h c) → BackGives h c h' → Pair order h h' (back g n)

@@ -1,7 +1,6 @@
 -- What reads of a node on a store find, and of the same node by its number.
 use Rattle.std.proofs.Common.{◌≡◌, ◌≢◌, ℕ, zero, suc, ◌+◌, ◌*◌, ◌-◌, ◌%◌, ◌^◌, ◌<◌, ◌≤◌, ◌==◌, Bool, true, false, cond, List, [], ◌∷◌, length, get_or, refl, sym, ◌∙◌, ap, subst, inl, inr, arith}
 use Rattle.std.specs.Prelude.{Option, None, Some, slice_get, slice_index}
-use Rattle.std.proofs.lemmas.Bool.{cases_Bool}
 use Rattle.congee.specs.declared.forms.base_node.NodeType.{NodeType}
 use Rattle.congee.specs.declared.forms.base_node.NodeType.TheVariants.{N4}
 use Rattle.congee.specs.declared.forms.child.Child.{Child}
@@ -29,6 +28,7 @@ use Rattle.congee.proofs.lemmas.Orders.{top, top_step}
 use Rattle.congee.proofs.lemmas.Tree.{same_or_not}
 use Rattle.congee.proofs.lemmas.protocol.Regions.{multiple}
 use Rattle.congee.proofs.lemmas.protocol.AlikeTurns.{quiet_alike, again_alike, alike_to}
+use Rattle.congee.proofs.lemmas.protocol.Parting.{parts_differ}
 
 -- lock words
 pub taken_alike : {V : Type 0} (order : List ℕ) (x y : Node V) (v w : ℕ) → NodeAlike order x y → w ≡ v → is_taken y w ≡ is_taken x v
@@ -37,13 +37,6 @@ taken_alike order x y v w e f = rw (e.version, e.locked, e.obsolete, f) refl
 -- nodes that are alike on both sides tell the same version
 pub version_same : {V : Type 0} (order : List ℕ) (x y : Node V) → NodeAlike order x y → version_of y ≡ version_of x
 version_same order x y e = rw (e.version, e.locked, e.obsolete) refl
-
--- a prefix that differs
-parts_differ : (p key : List ℕ) (c : ℕ) → Parts p key c → fits p key ≡ false
-parts_differ p key c x = elim (cases_Bool (fits p key)) [
-  | inl t ↦ absurd (x.apart (sym (fits_byte p key c t x.short)))
-  | inr f ↦ f
-]
 
 common_is : (p key : List ℕ) (c : ℕ) → c < length p → c < length key → ((i : ℕ) → i < c → get_or p i 0 ≡ get_or key i 0) → get_or p c 0 ≢ get_or key c 0 → common p key ≡ c
 common_is [] key c l k a d = absurd (omega (arith, l))

@@ -51,11 +51,11 @@ under_touch i a h a' h' n w u =
     })
     (fares_mine i (a n) (a' n) (h n) (h' n) u.owner u.owner_after u.published_after u.retired)
 
--- a node whose children a change touched
-pub under_change : {V : Type 0} (i : ℕ) (a : ℕ → Note) (h : ℕ → Node V) (a' : ℕ → Note) (h1 h' : ℕ → Node V) (n b : ℕ) (x : Hung V) → Holding i a n → a' n ≡ a n → h1 n ≡ h n → ChangeGives h1 n b x h' → StaysLocked i a h a' h' n
-under_change i a h a' h1 h' n b x o e f k = record {
+-- the node above, locked before and after, with one of its children changed
+pub under_above : {V : Type 0} (i : ℕ) (a : ℕ → Note) (h : ℕ → Node V) (a' : ℕ → Note) (g h' : ℕ → Node V) (n b : ℕ) (x : Hung V) → Holding i a n → (a' n).status ≡ (a n).status → (a' n).owner ≡ (a n).owner → g n ≡ h n → ChangeGives g n b x h' → StaysLocked i a h a' h' n
+under_above i a h a' g h' n b x o e eo f k = record {
   owner = o.owner;
-  owner_after = rw e o.owner;
+  owner_after = eo ∙ o.owner;
   published = ap is_published o.linked;
   published_after = rw e (ap is_published o.linked);
   linked = λ _. o.linked;
@@ -67,6 +67,10 @@ under_change i a h a' h1 h' n b x o e f k = record {
   retired = k.retired ∙ ap (λ z. z.retired) f;
   obsolete = k.obsolete ∙ ap (λ z. z.obsolete) f;
 }
+
+-- a node whose children a change touched
+pub under_change : {V : Type 0} (i : ℕ) (a : ℕ → Note) (h : ℕ → Node V) (a' : ℕ → Note) (h1 h' : ℕ → Node V) (n b : ℕ) (x : Hung V) → Holding i a n → a' n ≡ a n → h1 n ≡ h n → ChangeGives h1 n b x h' → StaysLocked i a h a' h' n
+under_change i a h a' h1 h' n b x o e f k = under_above i a h a' h1 h' n b x o (ap (λ z. z.status) e) (ap (λ z. z.owner) e) f k
 
 -- a made node that comes into the tree
 pub record Live {V : Type 0} (n : Node V) : Type 0 where
@@ -103,23 +107,6 @@ live_made i a h key c size least m = record { made = m.made; kept = m.kept; unre
 -- so it can after one of its children changed
 pub live_changed : {V : Type 0} (h : ℕ → Node V) (c b : ℕ) (x : Hung V) (h' : ℕ → Node V) → ChangeGives h c b x h' → Live (h c) → Live (h' c)
 live_changed h c b x h' k l = record { made = k.made ∙ l.made; kept = k.destroyed ∙ l.kept; unretired = k.retired ∙ l.unretired; unlocked = k.locked ∙ l.unlocked; live = k.obsolete ∙ l.live; keyed = rw k.prefix l.keyed }
-
--- the node above, locked before and after, with one of its children changed
-pub under_above : {V : Type 0} (i : ℕ) (a : ℕ → Note) (h : ℕ → Node V) (a' : ℕ → Note) (g h' : ℕ → Node V) (n b : ℕ) (x : Hung V) → Holding i a n → (a' n).status ≡ (a n).status → (a' n).owner ≡ (a n).owner → g n ≡ h n → ChangeGives g n b x h' → StaysLocked i a h a' h' n
-under_above i a h a' g h' n b x o e eo f k = record {
-  owner = o.owner;
-  owner_after = eo ∙ o.owner;
-  published = ap is_published o.linked;
-  published_after = rw e (ap is_published o.linked);
-  linked = λ _. o.linked;
-  prefix = k.prefix ∙ ap (λ z. z.prefix) f;
-  version = k.version ∙ ap (λ z. z.version) f;
-  locked = k.locked ∙ ap (λ z. z.locked) f;
-  made = k.made ∙ ap (λ z. z.made) f;
-  destroyed = k.destroyed ∙ ap (λ z. z.destroyed) f;
-  retired = k.retired ∙ ap (λ z. z.retired) f;
-  obsolete = k.obsolete ∙ ap (λ z. z.obsolete) f;
-}
 
 -- the old node, whose values may have been moved
 pub under_taken : {V : Type 0} (i : ℕ) (a : ℕ → Note) (h : ℕ → Node V) (a' : ℕ → Note) (g g1 h' : ℕ → Node V) (m c : ℕ) → (a m).owner ≡ Some i → (a m).status ≡ Linked → is_published (a' m).status ≡ true → (a' m).owner ≡ Some i

@@ -50,9 +50,6 @@ use Rattle.congee.proofs.lemmas.protocol.Filling.{enough, filled_same, Alike, al
 less_or : (n m : ℕ) → leb n m ≡ false → m < n
 less_or n m e = grind (arith, nat_tests)
 
-more_than : (n : ℕ) → ltb 2 n ≡ true → 2 < n
-more_than n e = grind (arith, nat_tests)
-
 not_one : (n : ℕ) → n == 1 ≡ false → n ≢ 1
 not_one n e q = let z : n == 1 ≡ true = same_test n 1 q in cc
 
@@ -341,9 +338,6 @@ module _ {C V : Type 0} (number : C → ℕ) (same : V → V → Bool) (always :
   checked_next kind given s child.Blank turn g m q e = turn_at number h given _ turn e (absent_next number h kind given s g)
   checked_next kind given s (child.Node c) turn g m q e = turn_at number h given _ turn e (down_next number h given (adds kind) s s.above c)
   checked_next kind given s (child.Value v) turn g m q e = present_next kind given s v turn g m (at_leaf number same always i a h k t w s v m q) e
-
-  given_as : (given given' : Option V) (turn : NextPhase C V) → given' ≡ given → Next number h given turn → Next number h given' turn
-  given_as given given' turn e n = let P : Option V → Type 0 = λ o. Next number h o turn in subst P (sym e) n
 
   out_next : (given' : Option V) (s : Site C) (v : V) (r : Reply V) (turn : NextPhase C V) → Knows number a h (key_bytes k) s (Holds v) → s.depth ≡ 7 → (given' ≡ None) × (turn ≡ emptied s r) → Next number h given' turn
   out_next given' s v r turn m d e = turn_at number h given' _ turn e.1 (emptied_as given' s v r e.0 m d)

@@ -55,10 +55,6 @@ and_not : (b c : Bool) → c ≡ false → (b && c) ≡ false
 and_not true c e = e
 and_not false c e = refl
 
-and_left : (b c : Bool) → (b && c) ≡ true → b ≡ true
-and_left true c e = refl
-and_left false c e = absurd cc
-
 module _ {V : Type 0} where
   unretired_idle : (n : Node V) → n.retired ≡ false → is_waiting n ≡ false
   unretired_idle n e = rw e refl

@@ -1,5 +1,6 @@
 -- What a step leaves a call of locks and made nodes.
 use Rattle.std.proofs.Common.{◌≡◌, ◌≢◌, ℕ, ◌+◌, ◌⊎◌, inl, inr, Bool, true, false, List, get_or, refl, sym, ◌∙◌, ap, subst}
+use Rattle.std.proofs.lemmas.Bool.{true_from_ne_false}
 use Rattle.std.specs.Prelude.{Option, None, Some, Result, Ok, Err}
 use Rattle.judge.specs.declared.journal.Reply.{Reply}
 use Rattle.congee.specs.declared.forms.base_node.NodeType.{NodeType}
@@ -33,10 +34,6 @@ use Rattle.congee.proofs.lemmas.Graft.{on_test}
 use Rattle.congee.proofs.lemmas.Tree.{same_or_not}
 use Rattle.congee.proofs.lemmas.protocol.Touch.{by_test, owner_locked}
 use Rattle.congee.proofs.lemmas.protocol.Change.{made_apart}
-
-made_if : (b : Bool) → (b ≡ false → ⊥) → b ≡ true
-made_if true f = refl
-made_if false f = absurd (f refl)
 
 -- where the made nodes of a plan are, when it begins
 started_made : {C V : Type 0} (number : C → ℕ) (plan : Plan C) (r : Reply V) (n : ℕ) → MadeForPlan number plan n → MadeBy number (started plan r).phase n
@@ -146,7 +143,7 @@ module _ {C V : Type 0} (number : C → ℕ) (same : V → V → Bool) (always :
   mine_now : (n : ℕ) → (a' n).status ≡ Held i → (((a n).status ≡ Held i) × (h' n ≡ h n)) ⊎ (((h n).made ≡ false) × ((h' n).made ≡ true))
   mine_now n e = elim ((f n).held i e) [
     | inl x ↦ inl x
-    | inr x ↦ inr (x.1, made_if (h' n).made (λ z. let y : (a' n).status ≡ Unmade = (w'.each n).unmade z in let q : Unmade ≡ Held i = sym y ∙ e in cc))
+    | inr x ↦ inr (x.1, true_from_ne_false (h' n).made (λ z. let y : (a' n).status ≡ Unmade = (w'.each n).unmade z in let q : Unmade ≡ Held i = sym y ∙ e in cc))
   ]
 
   -- where no lock is taken and no node is made

@@ -27,6 +27,7 @@ use Rattle.congee.proofs.lemmas.protocol.Touch.{noted_same, noted_other, own, ow
 use Rattle.congee.proofs.lemmas.protocol.Words.{KeepsMap, lock_still, unlock_still, obsolete_still, retire_still}
 use Rattle.congee.proofs.lemmas.protocol.Change.{made_apart}
 use Rattle.congee.proofs.lemmas.protocol.Sound.{Sound}
+use Rattle.congee.proofs.lemmas.Tree.{by_length}
 
 -- a step of the call, with the ledger after it
 pub record Kept {C V : Type 0} (number : C → ℕ) (same : V → V → Bool) (always : Bool) (i : ℕ) (a : ℕ → Note) (h : ℕ → Node V) (k : ℕ) (kind : Kind V) (given : Option V)
@@ -157,10 +158,6 @@ module _ {C V : Type 0} (number : C → ℕ) (same : V → V → Bool) (always :
   pub above_longer : (p : Parent C) (m : ℕ) → AboveLocked number i a h (key_bytes k) p m → length (h (number p.seat.node)).prefix < length (h m).prefix
   above_longer p m x = (t.down (number p.seat.node) _ m x.holding.linked x.child).longer
 
-  -- two nodes of which one has a shorter prefix are not one
-  pub by_prefix : (x y : ℕ) → length (h x).prefix < length (h y).prefix → x ≢ y
-  by_prefix x y l e = let z : length (h x).prefix ≡ length (h y).prefix = ap (λ b. length (h b).prefix) e in absurd (omega (arith, l))
-
   -- once the node above both is locked, a call knows what the lock of the upper one wants
   pub lock_top : (top : Parent C) (two : Two C) (r : Reply V) (h' : ℕ → Node V) → Known number same always i a h k (key_bytes k) kind given (UpgradeTop top two r) → is_taken (h (number top.seat.node)) top.seat.version ≡ true
       → SameBut h (number top.seat.node) (record (h (number top.seat.node)) { locked = true }) h' → Kept number same always i a h k kind given given (quiet (UpgradeAbove (record two { top = Some top }) r)) h'
@@ -217,7 +214,7 @@ module _ {C V : Type 0} (number : C → ℕ) (same : V → V → Bool) (always :
           m.1.0,
           m.1.1,
           record {
-            top = top_on number i a h _ h' (key_bytes k) (number two.above.seat.node) on two.top (number two.above.seat.node) (λ p y. by_prefix _ _ (above_longer p (number two.above.seat.node) y)) x.top;
+            top = top_on number i a h _ h' (key_bytes k) (number two.above.seat.node) on two.top (number two.above.seat.node) (λ p y. by_length h _ _ (above_longer p (number two.above.seat.node) y)) x.top;
             above = record {
               holding = record { owner = rw same_note refl; linked = rw same_note l };
               fitted = rw g.after c.fitted;
@@ -259,7 +256,7 @@ module _ {C V : Type 0} (number : C → ℕ) (same : V → V → Bool) (always :
         m.1.1,
         record {
           top = top_on number i a h _ h' (key_bytes k) (number two.at.node) on two.top (number two.above.seat.node)
-              (λ p y. by_prefix _ _ (further _ _ _ (above_longer p (number two.above.seat.node) y) (above_longer two.above (number two.at.node) x.above))) x.top;
+              (λ p y. by_length h _ _ (further _ _ _ (above_longer p (number two.above.seat.node) y) (above_longer two.above (number two.at.node) x.above))) x.top;
           above = above_on number i a h _ h' (key_bytes k) (number two.at.node) on two.above (number two.at.node) pn x.above;
           owner = rw same_note refl;
           placed = (let P : List ℕ → Type 0 = λ y. PlacedTwo (key_bytes k) two.change y in subst P (sym pre) x.placed);

@@ -1,6 +1,6 @@
 -- The places of a plain node.
 use Rattle.std.proofs.Common.{◌≡◌, ◌≢◌, ℕ, zero, suc, ◌<◌, ◌≤◌, ◌+◌, List, [], ◌∷◌, ◌++◌, length, get_or, set, take, drop, refl, ◌∙◌, ap, subst, arith, inl, inr, cond, sym}
-use Rattle.std.proofs.lemmas.List.Sums.{sum_by_push, sum_by-cons, sum_by-set, count_by-le-length}
+use Rattle.std.proofs.lemmas.List.Sums.{sum_by-cons, sum_by-set, count_by-le-length}
 use Rattle.std.proofs.Math.Seq.{take-append_seam}
 use Rattle.std.proofs.lemmas.Bool.{cases_lt}
 use Rattle.congee.specs.declared.forms.child.Child.{Child}
@@ -9,32 +9,11 @@ use Rattle.congee.specs.Heap.{Nothing}
 use Rattle.congee.specs.protocol.Events.{hung, weight, kept}
 use Rattle.congee.specs.protocol.Plain.{is_there, count_of, child_at, NamesStay}
 
--- places without a child have none with one more blank
-count_blank : (xs : List (Child ℕ ℕ)) → count_of xs ≡ 0 → count_of (xs ++ Blank ∷ []) ≡ 0
-count_blank xs e = sum_by_push (λ x. cond (is_there x) 1 0) xs Blank ∙ rw e refl
-
--- places where nothing hangs are so with one more blank
-blank_more : (xs : List (Child ℕ ℕ)) → ((b : ℕ) → child_at xs b ≡ Nothing) → (b : ℕ) → child_at (xs ++ Blank ∷ []) b ≡ Nothing
-blank_more [] e zero = refl
-blank_more [] e (suc b) = refl
-blank_more (x ∷ xs) e zero = e 0
-blank_more (x ∷ xs) e (suc b) = blank_more xs (λ k. e (suc k)) b
-
 -- nothing hangs past the end of the places
 pub past : (xs : List (Child ℕ ℕ)) (b : ℕ) → length xs ≤ b → child_at xs b ≡ Nothing
 past [] b l = refl
 past (x ∷ xs) zero l = absurd (omega arith)
 past (x ∷ xs) (suc b) l = past xs b (omega arith)
-
--- the same children hang alike
-same_hung : (x y : Child ℕ ℕ) → x ≡ y → hung (λ n. n) x ≡ hung (λ n. n) y
-same_hung x y e = ap (λ z. hung (λ n. n) z) e
-
--- what is read in a place hangs at its byte
-pub child_is : (xs : List (Child ℕ ℕ)) (b : ℕ) (x : Child ℕ ℕ) → b < length xs → x ≡ get_or xs b x → hung (λ n. n) x ≡ child_at xs b
-child_is [] b x l e = absurd (omega arith)
-child_is (y ∷ xs) zero x l e = ap (λ z. hung (λ n. n) z) e
-child_is (y ∷ xs) (suc b) x l e = child_is xs b x (omega arith) e
 
 -- what is put in a place hangs at its byte
 pub child_set : (xs : List (Child ℕ ℕ)) (i : ℕ) (x : Child ℕ ℕ) → i < length xs → child_at (set xs i x) i ≡ hung (λ n. n) x

@@ -23,8 +23,7 @@ use Rattle.congee.specs.Heap.{Node, Nothing, Holds, is_taken}
 use Rattle.congee.specs.protocol.Steps.{quiet, shrinks, set_at, both, last_out, adds, absent_reply, seat_above, started, ready, plan_here, unless_full, missing, absent, IsAsked, replaced, taken_out, emptied}
 use Rattle.congee.specs.Keys.{key_bytes}
 use Rattle.congee.specs.Notes.{Note, Tree, LockWords}
-use Rattle.congee.specs.protocol.Protocol.{Fresh, ChildOf, IsFar, IsAbove, IsAlone, HasTop, Sees, Knows, WantedOne, MadeOne, IsLeafAt, FitsOne, OneKnown, FitsTwo, HasGift, Asking, Adding, SeatedIf, PlanKnown, MadeLeafFor, Settles, Known}
-use Rattle.congee.specs.protocol.Answers.{AnswersIf}
+use Rattle.congee.specs.protocol.Protocol.{Fresh, ChildOf, IsFar, IsAbove, IsAlone, HasTop, Sees, Knows, WantedOne, MadeOne, IsLeafAt, FitsOne, OneKnown, FitsTwo, HasGift, Asking, Adding, SeatedIf, PlanKnown, MadeLeafFor, Settles}
 use Rattle.congee.proofs.lemmas.Fits.{equal, same_test, both_true}
 use Rattle.congee.proofs.lemmas.protocol.Touch.{by_test, taken_linked}
 use Rattle.congee.proofs.lemmas.Graft.{on_test}
@@ -52,18 +51,7 @@ seated_if number a h key (Some p) n m = m.0.fresh.seated
 settle_insert : {V : Type 0} (same : V → V → Bool) (k : ℕ) (v : V) → Settles same k Insert (Some v) None (reply.Insert None) (Some v)
 settle_insert same k v = record { call = call.Insert k v; is_call = refl; reply = refl; left = refl }
 
-settle_compute : {V : Type 0} (same : V → V → Bool) (k : ℕ) (v : V) → Settles same k ComputeInsert (Some v) None (reply.ComputeInsert None) (Some v)
-settle_compute same k v = record { call = call.ComputeInsert k v; is_call = refl; reply = refl; left = refl }
-
 module _ {C V : Type 0} (number : C → ℕ) (same : V → V → Bool) (always : Bool) (i : ℕ) (a : ℕ → Note) (h : ℕ → Node V) (k : ℕ) (t : Tree a h) (w : LockWords a h) where
-  -- a turn that doesn't decide
-  known_only : (kind : Kind V) (given given' : Option V) (turn : NextPhase C V) → turn.report.decided ≡ false → Known number same always i a h k (key_bytes k) kind given' turn.phase → Sound number same always i k kind given h given' turn a h
-  known_only kind given given' turn e m = record { known = m; answer = by_decided turn.report.decided e }
-    where
-      by_decided : (b : Bool) → b ≡ false → AnswersIf b same k kind given h turn h
-      by_decided true z = absurd cc
-      by_decided false z = λ x _. refl
-
   -- a call that begins on its plan knows what its next step wants
   pub started_sound : (kind : Kind V) (given : Option V) (v : V) (plan : Plan C) (r : Reply V) → HasGift kind (Some v) → PlanKnown number i a h (key_bytes k) plan → Settles same k kind (Some v) None r (Some v)
       → Sound number same always i k kind given h (Some v) (started plan r) a h

@@ -1,5 +1,5 @@
 -- What a call may count on over the steps of others, and that its knowledge is kept by them.
-use Rattle.std.proofs.Common.{◌≡◌, ℕ, Bool, true, List, length, refl, sym, ◌∙◌, ap, subst, arith}
+use Rattle.std.proofs.Common.{◌≡◌, ℕ, Bool, true, List, length, sym, ◌∙◌, ap, subst}
 use Rattle.std.specs.Prelude.{Option, None, Some}
 use Rattle.congee.specs.declared.protocol.phase.Parent.{Parent}
 use Rattle.congee.specs.declared.protocol.phase.Above.{Above as Over}
@@ -24,17 +24,6 @@ use Rattle.congee.specs.protocol.Names.{name_above, names_over, name_seated, nam
 use Rattle.congee.proofs.lemmas.protocol.Each.{Each, left, right}
 pub use Rattle.congee.proofs.lemmas.protocol.Seats.{seated_kept, fresh_kept, fits_kept, holding_kept, made_kept}
 use Rattle.congee.proofs.lemmas.protocol.SweepRely.{sweep_known_kept}
-
--- where nothing changes, all stands that a call counts on
-rely_still : {V : Type 0} (K : ℕ → Type 0) (i : ℕ) (a : ℕ → Note) (h : ℕ → Node V) → Rely K i a h a h
-rely_still K i a h = record {
-  version = λ n k p. omega arith;
-  prefix = λ n k p. refl;
-  published = λ n k p. p;
-  word = λ n v k p q t. refl;
-  mine = λ n e. (refl, refl, refl);
-  held = λ n e. (refl, refl);
-}
 
 module _ {C V : Type 0} (number : C → ℕ) (key : List ℕ) (K : ℕ → Type 0) (i : ℕ) (a : ℕ → Note) (h : ℕ → Node V) (a' : ℕ → Note) (h' : ℕ → Node V) (r : Rely K i a h a' h') where
   -- that a node was read in the one above stays known over the steps of others

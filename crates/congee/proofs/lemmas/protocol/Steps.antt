@@ -28,11 +28,12 @@ use Rattle.congee.proofs.lemmas.protocol.Touch.{by_test}
 use Rattle.congee.proofs.lemmas.protocol.Sound.{Sound, same_effect, settle_absent, goes_on, begins_anew, answers_now, version_sound, read_sound, stands_at, miss_value}
 use Rattle.congee.proofs.lemmas.protocol.Plans.{turn_at}
 use Rattle.congee.proofs.lemmas.protocol.Values.{at_old_sound, checked_sound, given_sound, given_new_sound}
-use Rattle.congee.proofs.lemmas.protocol.Locks.{Kept, locked_taken, above_longer, by_prefix, lock_one, lock_top, lock_above, lock_both, marked, handed_over, unlocked_below, unlocked_last, unwinds}
+use Rattle.congee.proofs.lemmas.protocol.Locks.{Kept, locked_taken, above_longer, lock_one, lock_top, lock_above, lock_both, marked, handed_over, unlocked_below, unlocked_last, unwinds}
 use Rattle.congee.proofs.lemmas.protocol.Makes.{Backed, back_one, back_two}
 use Rattle.congee.proofs.lemmas.protocol.Building.{kept_at, refused_back, leaf_made, greater_made, top_made, beside_made, lesser_made}
 use Rattle.congee.proofs.lemmas.protocol.SweepStays.{sweep_stays}
 use Rattle.congee.proofs.lemmas.protocol.Settling.{changed_one, changed_two}
+use Rattle.congee.proofs.lemmas.Tree.{by_length}
 
 module _ {C V : Type 0} (number : C → ℕ) (same : V → V → Bool) (always : Bool) (i : ℕ) (a : ℕ → Note) (h : ℕ → Node V) (k : ℕ) (kind : Kind V) (given : Option V)
     (t : Tree a h) (w : LockWords a h) where
@@ -84,7 +85,7 @@ module _ {C V : Type 0} (number : C → ℕ) (same : V → V → Bool) (always :
   -- the node above both is locked, where there is one, and is another one than the node above
   also_top : (top : Option (Parent C)) (p : C) → TopLocked number i a h (key_bytes k) top (number p) → AlsoHolding number i a (number p) (node_of top)
   also_top None p o = tt
-  also_top (Some g) p o = (o.holding, by_prefix number same always i a h k kind given t w _ _ (above_longer number same always i a h k kind given t w g (number p) o))
+  also_top (Some g) p o = (o.holding, by_length h _ _ (above_longer number same always i a h k kind given t w g (number p) o))
 
   -- an attempt is given up with that one locked, or none
   gives_up : (root : C) → number root ≡ 0 → (top : Option (Parent C)) (n : ℕ) (e : Option Refusal) (h' : ℕ → Node V) → IsFailure e → HasGift kind given → TopLocked number i a h (key_bytes k) top n → Backed i a h h'

@@ -49,13 +49,6 @@ module _ (x : Region) where
   within : (start last : ℕ) → x.base ≤ last → is_outside start last x ≡ beyond start
   within start last ge = low_no last x.base true (beyond start) ge
 
-  -- the greatest byte
-  last_small : (last : ℕ) → last_byte last x ≤ 255
-  last_small last = elim (cases_lt 255 ((last - x.base) / width x.depth)) [
-    | inl l ↦ (let e : last_byte last x ≡ 255 = low_yes 255 ((last - x.base) / width x.depth) 255 ((last - x.base) / width x.depth) l in omega (arith, e))
-    | inr l ↦ (let e : last_byte last x ≡ (last - x.base) / width x.depth = low_no 255 ((last - x.base) / width x.depth) 255 ((last - x.base) / width x.depth) l in omega (arith, e, l))
-  ]
-
   -- where the region begins within the range, so do the keys of its last byte
   pub last_within : (last : ℕ) → x.base ≤ last → start_at x.base x.depth (last_byte last x) ≤ last
   last_within last b =

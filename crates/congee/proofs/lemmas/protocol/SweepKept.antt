@@ -52,9 +52,6 @@ module _ {V : Type 0} (a : ℕ → Note) (h : ℕ → Node V) (t : Tree a h) (n 
 -- the keys that a linked node settles now
 module _ {V : Type 0} (a : ℕ → Note) (h : ℕ → Node V) (t : Tree a h) (m : FinMap nat_cmp V) (st : IsMapOf h m) (states : List (FinMap nat_cmp V))
     (n base depth : ℕ) (l : (a n).status ≡ Linked) (r : IsRegion (h n).prefix base depth) where
-  byte_of : ℕ → ℕ
-  byte_of k = get_or (key_bytes k) (length (h n).prefix) 0
-
   -- nothing hangs at the key's byte
   lacks_free : (k : ℕ) → k < 2 ^ 64 → fits (h n).prefix (key_bytes k) ≡ true → (h n).children (get_or (key_bytes k) (length (h n).prefix) 0) ≡ Nothing → Lacked (m ∷ states) k
   lacks_free k s f e = inl (st.at k s ∙ finds a h t n (key_bytes k) Nothing l f e)

@@ -21,7 +21,7 @@ use Rattle.congee.proofs.lemmas.Fits.{same_test}
 use Rattle.congee.proofs.lemmas.Graft.{on_test}
 use Rattle.congee.proofs.lemmas.protocol.Touch.{taken_linked}
 use Rattle.congee.proofs.lemmas.protocol.SweepBytes.{is_some, inside_last, first_small}
-use Rattle.congee.proofs.lemmas.protocol.SweepWays.{pick_false, pick_true, path_pushed, path_empty, path_last, path_count, rungs_longer, rungs_shorter}
+use Rattle.congee.proofs.lemmas.protocol.SweepWays.{pick_false, pick_true, path_pushed, path_empty, path_last, path_count, rungs_longer, rungs_shorter, way_at}
 use Rattle.congee.proofs.lemmas.protocol.SweepKept.{child_deeper}
 
 -- numbers that fail the test of equality differ
@@ -34,9 +34,6 @@ module _ {C V : Type 0} (number : C → ℕ) (always : Bool) (a : ℕ → Note) 
 
   stays_as : (u v : Swung C V) → v ≡ u → Stays u → Stays v
   stays_as u v e o = subst Stays (sym e) o
-
-  way_at : (s : Sweep C V) (x : Stage C V) → WayKnown number a h s → WayKnown number a h (sweep_at s s.count s.above x)
-  way_at s x k = record { range = k.range; bound = k.bound; room = k.room; fits = k.fits; rungs = k.rungs }
 
   anew_stays : (s : Sweep C V) → s.start ≤ s.last → s.last < 2 ^ 64 → 0 < s.size → Stays (anew root s)
   anew_stays s lt b room =
@@ -71,7 +68,7 @@ module _ {C V : Type 0} (number : C → ℕ) (always : Bool) (a : ℕ → Note) 
       (on_test (is_outside s.start s.last x)
       (λ out. stays_as (left s) (entered root s n x (Some (h (number n)).version)) (pick_true (is_outside s.start s.last x) (left s) (seen (h (number n)).version) out) (left_stays s k.0))
       (λ ins. stays_as (seen (h (number n)).version) (entered root s n x (Some (h (number n)).version)) (pick_false (is_outside s.start s.last x) (left s) (seen (h (number n)).version) ins) (
-        way_at s _ k.0,
+        way_at number a h s _ k.0,
         record {
           seated = record { published = k.1; up = omega arith };
           region = k.2;
@@ -136,7 +133,7 @@ module _ {C V : Type 0} (number : C → ℕ) (always : Bool) (a : ℕ → Note) 
       (λ y. stays_as none (begins root s o) (pick_true (s.size == 0) none some y) tt)
       (λ n. stays_as some (begins root s o) (pick_false (s.size == 0) none some n) (entered_stays (anew root s).0 root whole (anew_stays s (k.range (is_some s.size n)) k.bound (is_some s.size n)))))
   stays_at s (stage.Enter n x) u k e = stays_as (entered root s n x (version_of (h (number n)))) u e (entered_stays s n x k)
-  stays_at s (stage.Look r) u k e = stays_as (goes s s.above (stage.Check r e.0)) u e.2 (way_at s _ k.0, k.1, e.1.0, record { seated = k.1.seated; holds = e.1.1 })
+  stays_at s (stage.Look r) u k e = stays_as (goes s s.above (stage.Check r e.0)) u e.2 (way_at number a h s _ k.0, k.1, e.1.0, record { seated = k.1.seated; holds = e.1.1 })
   stays_at s (stage.Check r found) u k e = on_test (is_taken (h (number r.at.node)) r.at.version)
       (λ y. followed_stays s r found u k.0 k.1 k.2 (taken_linked a h w (number r.at.node) r.at.version k.1.seated.published y) (k.3.holds y) (e.goes_on y))
       (λ n. stays_as (anew root s) u (e.goes_back n) (anew_stays s k.0.range k.0.bound (let r = k.0.room in omega (arith, r))))

@@ -29,7 +29,7 @@ use Rattle.congee.proofs.lemmas.protocol.Touch.{taken_linked}
 use Rattle.congee.proofs.lemmas.protocol.Regions.{span_pos, whole as all_bytes, start_mono}
 use Rattle.congee.proofs.lemmas.protocol.Sweeps.{sweep_none, sweep_later, sweep_on, sweep_found, sweep_ends, sweep_full, written_counts}
 use Rattle.congee.proofs.lemmas.protocol.SweepBytes.{is_some, last_within, outside, inside_last, first_small, first_before, first_aims}
-use Rattle.congee.proofs.lemmas.protocol.SweepWays.{pick_false, pick_true, path_pushed, path_empty, path_last, path_count, way_later, way_longer, way_shorter, rungs_longer, rungs_shorter}
+use Rattle.congee.proofs.lemmas.protocol.SweepWays.{pick_false, pick_true, path_pushed, path_empty, path_last, path_count, way_later, way_longer, way_shorter, rungs_longer, rungs_shorter, way_at}
 use Rattle.congee.proofs.lemmas.protocol.SweepKept.{lacks_bytes, lacks_rest, has_value, child_deeper, child_after, child_before, lacks_beside}
 use Rattle.congee.proofs.lemmas.protocol.SweepStays.{differ_of_test}
 
@@ -58,10 +58,6 @@ module _ {C V : Type 0} (number : C → ℕ) (always : Bool) (a : ℕ → Note) 
     way = u.way;
     swept = sweep_on s.start (suc s.last) s.size upto to (m ∷ states) (take s.count places) l gap u.swept;
   }
-
-  -- another next step
-  way_at : (s : Sweep C V) (x : Stage C V) → WayKnown number a h s → WayKnown number a h (sweep_at s s.count s.above x)
-  way_at s x k = record { range = k.range; bound = k.bound; room = k.room; fits = k.fits; rungs = k.rungs }
 
   under_at : (s : Sweep C V) (x : Stage C V) (y : Region) (upto : ℕ) → Under s (m ∷ states) places y upto → Under (sweep_at s s.count s.above x) (m ∷ states) places y upto
   under_at s x y upto u = record { counted = u.counted; way = u.way; swept = u.swept }
@@ -137,7 +133,7 @@ module _ {C V : Type 0} (number : C → ℕ) (always : Bool) (a : ℕ → Note) 
       (left_out s x k.0 (under_on s x x.base (end_of x) (omega arith) (λ q lo hi at un. absurd (outside x s.start s.last q k.2.short out lo (omega (arith, hi)) at un)) u)))
       (λ ins. out_as s (seen (h (number n)).version) (entered root s n x (Some (h (number n)).version)) (pick_false (is_outside s.start s.last x) (left s) (seen (h (number n)).version) ins) (
         (
-          way_at s _ k.0,
+          way_at number a h s _ k.0,
           record {
             seated = record { published = k.1; up = omega arith };
             region = k.2;
@@ -329,7 +325,7 @@ module _ {C V : Type 0} (number : C → ℕ) (always : Bool) (a : ℕ → Note) 
       (λ y. out_as s none (begins root s o) (pick_true (s.size == 0) none some y) (nothing_out s (equal s.size 0 y)))
       (λ n. out_as s some (begins root s o) (pick_false (s.size == 0) none some n) (begun_out s (k.range (is_some s.size n)) k.bound (is_some s.size n))))
   stepped_out s (stage.Enter n x) u k tr e = out_as s (entered root s n x (version_of (h (number n)))) u e (entered_out s n x k (under_later s x x.base tr))
-  stepped_out s (stage.Look r) u k tr e = out_as s (goes s s.above (stage.Check r e.0)) u e.2 ((way_at s _ k.0, k.1, e.1.0, record { seated = k.1.seated; holds = e.1.1 }), aimed_at s _ r (aimed_later s r tr), tt, record { start_is = refl; last_is = refl; size_is = refl })
+  stepped_out s (stage.Look r) u k tr e = out_as s (goes s s.above (stage.Check r e.0)) u e.2 ((way_at number a h s _ k.0, k.1, e.1.0, record { seated = k.1.seated; holds = e.1.1 }), aimed_at s _ r (aimed_later s r tr), tt, record { start_is = refl; last_is = refl; size_is = refl })
   stepped_out s (stage.Check r found) u k tr e = on_test (is_taken (h (number r.at.node)) r.at.version)
       (λ y. followed_out s r found u k.0 k.1 k.2 (taken_linked a h w (number r.at.node) r.at.version k.1.seated.published y) (k.3.holds y) (aimed_later s r tr) (e.goes_on y))
       (λ n. out_as s (anew root s) u (e.goes_back n) (anew_out s k.0.range k.0.bound (let r = k.0.room in omega (arith, r))))

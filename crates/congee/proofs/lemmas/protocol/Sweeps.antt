@@ -6,13 +6,9 @@ use Rattle.std.proofs.lemmas.Bool.{cases_lt}
 use Rattle.std.proofs.lemmas.List.{length-append}
 use Rattle.congee.specs.forms.Places.{AllKeys, Rises}
 use Rattle.congee.specs.protocol.Sweeps.{HasKey, Stood, AllStood, Lacked, Throughout, IsScan, Swept, written}
+use Rattle.congee.proofs.lemmas.forms.EntryLemmas.{AllKeys-map}
 
 module _ {V : Type 0} where
-  -- keys of lists
-  keys_map : (P Q : ℕ → Type 0) → ((k : ℕ) → P k → Q k) → (found : List (ℕ × V)) → AllKeys P found → AllKeys Q found
-  keys_map P Q f [] a = tt
-  keys_map P Q f ((k, v) ∷ r) a = (f k a.0, keys_map P Q f r a.1)
-
   keys_one_more : (P : ℕ → Type 0) (found : List (ℕ × V)) (k : ℕ) (v : V) → AllKeys P found → P k → AllKeys P (found ++ (k, v) ∷ [])
   keys_one_more P [] k v a p = (p, tt)
   keys_one_more P (x ∷ r) k v a p = (a.0, keys_one_more P r k v a.1 p)
@@ -75,7 +71,7 @@ module _ {V : Type 0} (start end size : ℕ) where
     rises = s.rises;
     few = s.few;
     within = s.within;
-    below = keys_map (λ k. k < upto) (λ k. k < to) (λ k b. omega (arith, b, l)) found s.below;
+    below = AllKeys-map (λ k. k < upto) (λ k. k < to) (λ k b. omega (arith, b, l)) found s.below;
     stood = s.stood;
     settled = λ k lo hi b. elim (cases_lt k upto) [ inl lt ↦ s.settled k lo hi lt | inr ge ↦ inr (gap k lo hi ge b) ];
   }
@@ -84,10 +80,10 @@ module _ {V : Type 0} (start end size : ℕ) where
   pub sweep_found : (upto k : ℕ) (v : V) (states : List (FinMap nat_cmp V)) (found : List (ℕ × V)) → start ≤ k → k < end → upto ≤ k → length found < size → Stood states k v
       → ((q : ℕ) → start ≤ q → q < end → upto ≤ q → q < k → Lacked states q) → Swept start end size upto states found → Swept start end size (k + 1) states (found ++ (k, v) ∷ [])
   sweep_found upto k v states found lo hi past room stands gap s = record {
-    rises = rises_more found k v s.rises (keys_map (λ q. q < upto) (λ q. q < k) (λ q b. omega (arith, b, past)) found s.below);
+    rises = rises_more found k v s.rises (AllKeys-map (λ q. q < upto) (λ q. q < k) (λ q b. omega (arith, b, past)) found s.below);
     few = let e = length-append found ((k, v) ∷ []) in omega (arith, e, room);
     within = keys_one_more (λ q. (start ≤ q) × (q < end)) found k v s.within (lo, hi);
-    below = keys_one_more (λ q. q < k + 1) found k v (keys_map (λ q. q < upto) (λ q. q < k + 1) (λ q b. omega (arith, b, past)) found s.below) (omega arith);
+    below = keys_one_more (λ q. q < k + 1) found k v (AllKeys-map (λ q. q < upto) (λ q. q < k + 1) (λ q b. omega (arith, b, past)) found s.below) (omega arith);
     stood = stood_more states found k v s.stood stands;
     settled = λ q l h b. elim (cases_lt q upto) [
       | inl lt ↦ elim (s.settled q l h lt) [ inl x ↦ inl (has_more found k v q x) | inr x ↦ inr x ]
@@ -117,7 +113,7 @@ module _ {V : Type 0} (start end size : ℕ) where
     stood = s.stood;
     complete = λ k lo hi t. elim (cases_lt k upto) [
       | inl lt ↦ elim (s.settled k lo hi lt) [ inl h ↦ inl h | inr x ↦ absurd (lacked_not states k t x) ]
-      | inr ge ↦ inr (full, keys_map (λ q. q < upto) (λ q. q < k) (λ q b. omega (arith, b, ge)) found s.below)
+      | inr ge ↦ inr (full, AllKeys-map (λ q. q < upto) (λ q. q < k) (λ q b. omega (arith, b, ge)) found s.below)
     ];
   }
 

@@ -1,5 +1,6 @@
 -- How one node may fare in a step, and what a step leaves that touches each node in one of these ways.
 use Rattle.std.proofs.Common.{◌≡◌, ◌≢◌, ℕ, zero, suc, ◌≤◌, ◌==◌, not, Bool, true, false, cond, List, refl, sym, ◌∙◌, ap, subst, inl, inr, arith}
+use Rattle.std.proofs.lemmas.Bool.{true_from_ne_false}
 use Rattle.std.specs.Prelude.{Option, None, Some}
 use Rattle.congee.specs.Heap.{Node, walk, is_taken, is_free}
 use Rattle.congee.specs.Notes.{Note, Status, Unmade, Held, Linked, Gone, Back, Destroyed, is_published, is_spent, IsChild, HasParent, Tree, WordAt, LockWords}
@@ -232,13 +233,9 @@ taken_not_locked n v t = unlocked n.locked (both_true (not n.locked) (not n.obso
 pub locked_not_free : {V : Type 0} (n : Node V) → n.locked ≡ true → is_free n ≡ false
 locked_not_free n l = rw l refl
 
-locked_if : (b : Bool) → (b ≡ false → ⊥) → b ≡ true
-locked_if true f = refl
-locked_if false f = absurd (f refl)
-
 -- a node that a call owns is locked
 pub owner_locked : {V : Type 0} (a : ℕ → Note) (h : ℕ → Node V) → LockWords a h → (n i : ℕ) → (a n).owner ≡ Some i → (h n).locked ≡ true
-owner_locked a h w n i o = locked_if (h n).locked (λ f. let e : (a n).owner ≡ None = (w.each n).free f in cc)
+owner_locked a h w n i o = true_from_ne_false (h n).locked (λ f. let e : (a n).owner ≡ None = (w.each n).free f in cc)
 
 -- a node that was taken is in the tree
 linked_from : (s : Status) → is_published s ≡ true → (s ≡ Gone → ⊥) → s ≡ Linked

@@ -1,6 +1,6 @@
 -- What a handle knows while guards of it are out.
-use Rattle.std.proofs.Common.{◌≡◌, ◌≢◌, ℕ, ◌+◌, ◌<◌, ◌≤◌, Bool, true, false, refl, sym, ap, ◌∙◌, subst, inl, inr, arith, Option, Some, None, List, [], length, Result, Ok, Err}
-use Rattle.std.specs.Prelude.{nat_lt, nat_le, nat_eq, OnOk, IfErr, IfSome, ◌⊎◌}
+use Rattle.std.proofs.Common.{◌≡◌, ◌≢◌, ℕ, ◌+◌, ◌<◌, ◌≤◌, Bool, true, false, refl, sym, ap, ◌∙◌, subst, arith, Option, Some, None, List, [], length, Result, Ok, Err}
+use Rattle.std.specs.Prelude.{nat_lt, nat_le, nat_eq, OnOk, IfErr}
 use Rattle.std.specs.Bool.{MatchBool}
 use Rattle.std.proofs.lemmas.Bool.{true≢false, eq-eqb, lt-ltb, ltb-true}
 use Rattle.std.proofs.lemmas.Bool.Decides.{nat_tests}
@@ -12,7 +12,7 @@ use Rattle.crossbeam_epoch.specs.declared.bag.Deferral.{Deferral}
 use Rattle.crossbeam_epoch.specs.Face.Handle.{owns, with_room, SealsUnder}
 use Rattle.crossbeam_epoch.specs.Face.Participant.{IsPinned}
 use Rattle.crossbeam_epoch.specs.Limits.{bag_places}
-use Rattle.crossbeam_epoch.specs.Face.Pins.{with_seen, IsRead, IsDue}
+use Rattle.crossbeam_epoch.specs.Face.Pins.{with_seen, IsRead}
 use Rattle.crossbeam_epoch.specs.Face.Tokens.{with_guards, pinned_view}
 
 out_is : (n : ℕ) → 0 < n → nat_lt 0 n ≡ true
@@ -85,17 +85,6 @@ not_sealed b q before none = rw none refl
 -- a full bag is sealed as one that holds a job
 pub full_seals : (n m q : ℕ) (before after : Option Queued) → 0 < m → m ≤ n → SealsUnder (nat_lt 0 n) q before after → SealsUnder (nat_le m n) q before after
 full_seals n m q before after some full s = let x : nat_lt 0 n ≡ true = grind (arith, nat_tests, some, full) in let y : nat_le m n ≡ true = grind (arith, nat_tests, full) in rw y (rw x at s)
-
-two_behind : (s seal seen : ℕ) → s ≡ seal → seal + 2 ≤ seen → s + 2 ≤ seen
-two_behind s seal seen same now = omega (arith, same, now)
-
--- the greatest seal of some bags and of one more is due where all are
-pub later_due : (seen seal : ℕ) (newest newest' : Option ℕ) → IsDue seen newest → seal + 2 ≤ seen
-    → (s : ℕ) × (newest' ≡ Some s) × (seal ≤ s) × IfSome newest (λ n. n ≤ s) × ((s ≡ seal) ⊎ (newest ≡ Some s)) → IsDue seen newest'
-later_due seen seal newest newest' due now told = subst (λ (n : Option ℕ). IsDue seen n) (sym told.1) (elim told.4 [
-  | inl same ↦ two_behind told.0 seal seen same now
-  | inr same ↦ subst (λ (n : Option ℕ). IsDue seen n) same due
-])
 
 -- a bag that isn't empty holds a job
 pub some_job : (n : ℕ) (b : Bool) → b ≡ nat_eq n 0 → b ≡ false → 0 < n

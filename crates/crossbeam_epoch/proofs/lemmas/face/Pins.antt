@@ -1,5 +1,5 @@
 -- Each kind of step keeps the rule of the epoch and the participants' words.
-use Rattle.std.proofs.Common.{◌≡◌, ◌≢◌, ℕ, ◌+◌, ◌*◌, ◌^◌, ◌<◌, ◌≤◌, ◌⊎◌, eqb, List, [], ◌∷◌, ◌++◌, map, length, replicate, get_or, set, sym, refl, ap, ◌∙◌, subst, ⊎_elim, inl, inr, arith, Option, Some, None, length-set, get_or-set_other, get_or-set_same, eq-eqb, ne_eqb, unwrap_or}
+use Rattle.std.proofs.Common.{◌≡◌, ◌≢◌, ℕ, ◌+◌, ◌*◌, ◌<◌, ◌≤◌, ◌⊎◌, eqb, List, [], ◌∷◌, ◌++◌, map, length, replicate, get_or, set, sym, refl, ap, ◌∙◌, subst, ⊎_elim, inl, inr, arith, Option, Some, None, length-set, get_or-set_other, get_or-set_same, eq-eqb, ne_eqb, unwrap_or}
 use mathlib.Core.Logic.{dite}
 use mathlib.Core.Option as maybe
 use mathlib.Core.Option.{some, some-injective, some-ne-none}
@@ -7,7 +7,7 @@ use native.Mathlib.Decide.{ℕ_discrete, dec_le}
 use lib.ListN.{get_elem?}
 use lib.Seq.{set-get_or}
 use prog.Atomic.{either}
-use Rattle.atomic_table.specs.Table.{State, Me, step, keeps, stepped, Allows, Enters, Splits, opening}
+use Rattle.atomic_table.specs.Table.{State, Me, step, keeps, stepped, Allows, Enters, Splits}
 use Rattle.atomic_table.proofs.Lists.{at_set, at_snoc, set_here, set_else, set_again, at_longer}
 use Rattle.crossbeam_epoch.specs.declared.face.seats.View.{View}
 use Rattle.crossbeam_epoch.specs.Face.Pins.{word_of, epoch_of, number_of, newcomer, ViewHolds, At, IsKept, with_seen, noted, seat_arrived, seat_claimed, seat_counted, seat_looked, seat_published, seat_confirmed, seat_left, seat_released, Passes, seat_inspected, seat_advanced, PinsHoldEpoch}
@@ -127,30 +127,6 @@ module _ {S : Type 0} (places last : ℕ) where
       (λ p' q _ e. absurd (nothing q e))
       (λ k u p' q n a e f l. (let t = r.passed id k v u p' q at a e f (omega (arith, passed)) in omega (arith, seen)))
       (λ j u p' q n a _ e. absurd (nothing q e))
-
-  -- words that are all free under an epoch of 0 keep the rule, with a seat that has seen nothing
-  pub starts : (words : List ℕ) → length words ≡ word_of places → ((i : ℕ) → get_or words i 0 ≡ 0) → last ≤ 2 ^ 62 → Rule (opening words [] newcomer)
-  starts words wide free low = record {
-    wide = wide;
-    bounded = ((let z = free 0 in omega (arith, z)), low);
-    seats = λ j u a. subst (ViewHolds places words) (first_view j u a) new_stands;
-    owned = λ p l h. absurd (let z = free (word_of p) in omega (arith, z));
-    alone = λ j k x u p a b e f. absurd (none_some p (ap (λ (y : View). y.place) (first_view j x a) ∙ e));
-    passed = λ j k x u p q a b e f l. absurd (none_some p (ap (λ (y : View). y.place) (first_view k u b) ∙ e));
-  }
-    where
-      first_view : (j : ℕ) (u : View) → At (newcomer ∷ []) j u → newcomer ≡ u
-      first_view Rattle.std.proofs.Common.zero u a = some-injective newcomer u a
-      first_view (Rattle.std.proofs.Common.suc j) u a = absurd (some-ne-none u (sym a))
-
-      new_stands : ViewHolds places words newcomer
-      new_stands = record {
-        seen = omega arith;
-        own = λ p e. absurd (none_some p e);
-        published = λ e f. absurd (none_some e f);
-        confirmed = λ q e. absurd (none_some q e);
-        placed = λ q e. absurd (none_some q e);
-      }
 
   -- a seat comes that has no place, and saw an epoch that isn't past the present one
   comes : (s : State S View) (r : Rule s) (e : ℕ) → e ≤ epoch_of s.words → Rule record { words = s.words; homes = s.homes; views = s.views ++ with_seen newcomer e ∷ [] }

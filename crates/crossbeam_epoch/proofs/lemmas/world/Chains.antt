@@ -40,12 +40,6 @@ module _ {B Q : Type 0} (items : Q → List B) where
   moved first last to block between none bare same fresh =
       ap (λ b. to ++ (joined items b ++ block)) bare ∙ ap (λ l. to ++ l) fresh ∙ append-nil to ∙ same ∙ sym (alone first last between none bare)
 
-  -- the last block goes behind those between
-  pub added : (between : List Q) (q : Q) (block : List B) → block ≡ [] → joined items (between ++ q ∷ []) ++ block ≡ joined items between ++ items q
-  added [] q block fresh = ap (λ l. items q ++ [] ++ l) fresh ∙ append-nil (items q ++ []) ∙ append-nil (items q)
-  added (p ∷ ps) q block fresh =
-      append_assoc (items p) (joined items (ps ++ q ∷ [])) block ∙ ap (λ l. items p ++ l) (added ps q block fresh) ∙ sym (append_assoc (items p) (joined items ps) (items q))
-
   -- the first of them is taken where the first block holds nothing
   pub taken_last : (r : Option B) (first first' last last' all : List B) (between : List Q) → first ++ (joined items between ++ last) ≡ all → first ≡ [] → first' ≡ [] → between ≡ []
       → MatchOption r ((last ≡ []) × (last' ≡ [])) (λ b. last ≡ b ∷ last')
@@ -79,11 +73,6 @@ all_filled len (p ∷ ps) q are some = (are.0, all_filled len ps q are.1 some)
 pub nothing_first : {B : Type 0} (xs ys : List B) → xs ++ ys ≡ [] → xs ≡ []
 nothing_first [] ys none = refl
 nothing_first (x ∷ xs) ys none = absurd (cc none)
-
--- the second of two lists that have nothing together has nothing
-nothing_last : {B : Type 0} (xs ys : List B) → xs ++ ys ≡ [] → ys ≡ []
-nothing_last [] ys none = none
-nothing_last (x ∷ xs) ys none = absurd (cc none)
 
 -- what is taken off the front of a block
 pub taken_off : {B : Type 0} (r : Option B) (xs ys : List B) → xs ≡ option_to_list r ++ ys → ys ≡ drop 1 xs → MatchOption r ((xs ≡ []) × (ys ≡ [])) (λ b. xs ≡ b ∷ ys)

@@ -5,7 +5,7 @@ use Rattle.std.specs.List.{Contains, sum_by}
 use Rattle.std.proofs.lemmas.Bool.{cases_lt}
 use Rattle.std.proofs.lemmas.Bool.Decides.{nat_tests}
 use Rattle.std.proofs.lemmas.List.{get_or_past}
-use Rattle.std.proofs.lemmas.List.Sums.{sum_by-append}
+use Rattle.std.proofs.lemmas.List.Sums.{sum_by-append, sum_by-cons}
 use Rattle.std.proofs.lemmas.List.Elements.{Contains-append_cases}
 use Rattle.crossbeam_epoch.specs.declared.bag.Deferral.{Deferral}
 use Rattle.crossbeam_epoch.specs.declared.bag.Work.TheVariants.{Remove}
@@ -24,9 +24,6 @@ use Rattle.crossbeam_epoch.proofs.lemmas.world.Moves.{none_in, contains_tail, un
 
 contains_head : {A : Type 0} (x : A) (xs : List A) → Contains (x ∷ xs) x
 contains_head x xs = (0, omega arith, refl)
-
-sum_cons : {A : Type 0} (f : A → ℕ) (x : A) (xs : List A) → sum_by f (x ∷ xs) ≡ f x + sum_by f xs
-sum_cons f x xs = omega (arith, sum_by-append f (x ∷ []) xs)
 
 -- who has no stretch blocks no job
 none_blocks : (h : List Mark) (q t : ℕ) → began h q ≡ None → blocks h q t ≡ false
@@ -47,16 +44,17 @@ module _ {J : Type 0} where
   blanks_weigh_none f (p ∷ table) blanks =
       let first : at_place f p ≡ 0 = ap (at_place f) (blanks 0) in
       let rest : sum_by (at_place f) table ≡ 0 = blanks_weigh_none f table (λ q. blanks (suc q)) in
-      omega (arith, first, rest, sum_cons (at_place f) p table)
+      omega (arith, first, rest, sum_by-cons (at_place f) p table)
 
   -- the jobs of all bags weigh what the bags weigh
   jobs_weigh : (f : Deferral J → ℕ) (queue : List (Sealed J)) → sum_by (in_bag f) queue ≡ sum_by f (jobs_of queue)
   jobs_weigh f [] = refl
-  jobs_weigh f (b ∷ queue) = omega (arith, sum_by-append f b.jobs (jobs_of queue), jobs_weigh f queue, sum_cons (in_bag f) b queue)
+  jobs_weigh f (b ∷ queue) = omega (arith, sum_by-append f b.jobs (jobs_of queue), jobs_weigh f queue, sum_by-cons (in_bag f) b queue)
 
-  all_one : (jobs : List (Deferral J)) → sum_by one jobs ≡ length jobs
+  -- jobs that weigh one each weigh as many as they are
+  pub all_one : (jobs : List (Deferral J)) → sum_by one jobs ≡ length jobs
   all_one [] = refl
-  all_one (e ∷ jobs) = omega (arith, all_one jobs, sum_cons one e jobs)
+  all_one (e ∷ jobs) = omega (arith, all_one jobs, sum_by-cons one e jobs)
 
   -- a job that is left stands in some bag
   in_some_bag : (queue : List (Sealed J)) (e : Deferral J) → Contains (jobs_of queue) e → (b : Sealed J) × Contains queue b × Contains b.jobs e
@@ -85,7 +83,7 @@ module _ {T J : Type 0} where
 
   calls_over : (st : Store T) (jobs : List (Deferral J)) (h : List Mark) (t : ℕ) → times_called (history_of_calls st jobs h) t ≡ sum_by (has_ticket t) jobs + times_called h t
   calls_over st [] h t = omega arith
-  calls_over st (e ∷ jobs) h t = let rest = calls_over (after_work st e.work) jobs (Called e.ticket (destroys st e.work) ∷ h) t in omega (arith, rest, sum_cons (has_ticket t) e jobs)
+  calls_over st (e ∷ jobs) h t = let rest = calls_over (after_work st e.work) jobs (Called e.ticket (destroys st e.work) ∷ h) t in omega (arith, rest, sum_by-cons (has_ticket t) e jobs)
 
   graceful_over : (st : Store T) (jobs : List (Deferral J)) (h : List Mark) → ((q t : ℕ) → blocks h q t ≡ false) → IsGraceful h → IsGraceful (history_of_calls st jobs h)
   graceful_over st [] h free g = g

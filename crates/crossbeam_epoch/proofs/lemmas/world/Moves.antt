@@ -55,9 +55,10 @@ at_word : (epoch seen e : ℕ) (w : Option ℕ) → Bounds (Some e) w epoch → 
 at_word epoch seen e None o p = absurd o
 at_word epoch seen e (Some x) o p = let same : x ≡ seen = passes (Some x) seen x p refl in let le = o.0 in omega arith
 
-both : (a b : Bool) → (a && b) ≡ true → a ≡ true
-both true b e = refl
-both false b e = e
+-- where both_left of two tests hold, the first does
+pub both_left : (a b : Bool) → (a && b) ≡ true → a ≡ true
+both_left true b e = refl
+both_left false b e = e
 
 module _ {J : Type 0} where
   -- without a job in hand
@@ -96,13 +97,15 @@ module _ {J : Type 0} where
     | inr is ↦ subst (λ (d : Sealed J). IsSealed h next d.jobs d.seal) is one
   ]
 
-  contains_drop : (xs : List (Sealed J)) (y : Sealed J) → Contains (drop 1 xs) y → Contains xs y
+  -- what is behind the first bag is in the queue
+  pub contains_drop : (xs : List (Sealed J)) (y : Sealed J) → Contains (drop 1 xs) y → Contains xs y
   contains_drop [] y m = m
   contains_drop (x ∷ xs) y m = contains_tail x xs y m
 
-  first_and_rest : (f : Sealed J → ℕ) (queue : List (Sealed J)) → 0 < length queue → sum_by f queue ≡ f (slice_index_or queue 0 no_bag) + sum_by f (drop 1 queue)
-  first_and_rest f [] lt = absurd (omega arith)
-  first_and_rest f (b ∷ rest) lt = omega (arith, sum_by-append f (b ∷ []) rest)
+  -- the first bag of a queue and the others make up its sum
+  pub front_bag : (f : Sealed J → ℕ) (queue : List (Sealed J)) → 0 < length queue → sum_by f queue ≡ f (slice_index_or queue 0 no_bag) + sum_by f (drop 1 queue)
+  front_bag f [] lt = absurd (omega arith)
+  front_bag f (b ∷ rest) lt = omega (arith, sum_by-append f (b ∷ []) rest)
 
 module _ {T J : Type 0} where
   -- each stretch began at most one epoch ago
@@ -388,13 +391,13 @@ module _ {T J : Type 0} where
       (record { bounds = (f.places who).bounds; phase = (past, omega arith, f.queued b (Contains-get_or s.queue 0 no_bag some)); accepted = (f.places who).accepted; spare = tt })
       (λ c m. f.queued c (contains_drop s.queue c m))
       (carries_move h s who p (drop 1 s.queue) f.once (λ w.
-      let rest = first_and_rest (in_bag w) s.queue some in
+      let rest = front_bag (in_bag w) s.queue some in
       let e : sum_by w (place s who).hand ≡ 0 = ap (sum_by w) none in
       omega arith)))
 
   by_due : (h : List Mark) (s : State T J) (who answered bags : ℕ) (due : Bool) → who < length s.table → (place s who).phase ≡ Take answered bags → (is_due s answered && nat_lt bags 8) ≡ due → Fits h s
       → Fits h (if due then taken s who answered bags else in_phase s who Idle)
-  by_due h s who answered bags true in_table is due f = fits_taken h s who answered bags in_table is (both (is_due s answered) (nat_lt bags 8) due) f
+  by_due h s who answered bags true in_table is due f = fits_taken h s who answered bags in_table is (both_left (is_due s answered) (nat_lt bags 8) due) f
   by_due h s who answered bags false in_table is due f = fits_idle h s who in_table (rw is at (f.places who).spare) f
 
   -- the history fits after a collection has taken the front bag, or ended

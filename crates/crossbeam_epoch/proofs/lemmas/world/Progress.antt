@@ -31,8 +31,9 @@ use Rattle.crossbeam_epoch.specs.World.Machine.{State, place, blank, with_place,
 use Rattle.crossbeam_epoch.specs.World.Steps.{fault, event_fault, begun, gone, moved, needs_memory, after, quiet_fault, or_count, defer_fault, called_entry, called_by, called_in, IsOutcome, IsReport}
 use Rattle.crossbeam_epoch.specs.World.Store.{Store, value_at, emptied}
 use Rattle.crossbeam_epoch.specs.World.Progress.{Orderly, JobsAfter, EmptiesAt, Empties, Moves, KeepsCalls, IsOn, IsResting, collects}
-use Rattle.crossbeam_epoch.proofs.lemmas.world.Moves.{none_in, contains_tail, none_in_hand}
-use Rattle.crossbeam_epoch.proofs.lemmas.world.Runs.{in_table, known, begin_idle, blank_at, blanks_weigh_none}
+use Rattle.crossbeam_epoch.proofs.lemmas.world.Moves.{none_in, none_in_hand, contains_drop, front_bag}
+use Rattle.crossbeam_epoch.proofs.lemmas.world.Jobs.{first_job, no_items, hand_after}
+use Rattle.crossbeam_epoch.proofs.lemmas.world.Runs.{in_table, known, begin_idle, blank_at, blanks_weigh_none, empty_hand, done_called}
 
 module _ {J : Type 0} where
   -- a queue of small bags with one more, or one less
@@ -42,54 +43,10 @@ module _ {J : Type 0} where
     | inr is ↦ subst (λ (d : Sealed J). length d.jobs ≤ 64) is one
   ]
 
-  contains_drop : (xs : List (Sealed J)) (y : Sealed J) → Contains (drop 1 xs) y → Contains xs y
-  contains_drop [] y m = m
-  contains_drop (x ∷ xs) y m = contains_tail x xs y m
-
-  front_bag : (f : Sealed J → ℕ) (queue : List (Sealed J)) → 0 < length queue → sum_by f queue ≡ f (slice_index_or queue 0 no_bag) + sum_by f (drop 1 queue)
-  front_bag f [] lt = absurd (omega arith)
-  front_bag f (b ∷ rest) lt = omega (arith, sum_by-append f (b ∷ []) rest)
-
-  first_job : (f : Deferral J → ℕ) (jobs : List (Deferral J)) → 0 < length jobs → sum_by f jobs ≡ f (slice_index_or jobs 0 no_entry) + sum_by f (remove jobs 0)
-  first_job f [] lt = absurd (omega arith)
-  first_job f (x ∷ rest) lt = omega (arith, sum_by-append f (x ∷ []) rest)
-
   -- some jobs are one more than those behind the first
   pub one_less : (jobs : List (Deferral J)) → 0 < length jobs → length jobs ≡ suc (length (remove jobs 0))
   one_less [] lt = absurd (omega arith)
   one_less (x ∷ rest) lt = refl
-
-  no_items : (xs : List (Deferral J)) → (length xs == 0) ≡ true → xs ≡ []
-  no_items [] e = refl
-  no_items (x ∷ xs) e = absurd (grind (arith, nat_tests))
-
-  hand_after : (rest : List (Deferral J)) (answered bags seal : ℕ) (b : Bool) → nat_lt 0 (length rest) ≡ b → HandFits (after_call (length rest) answered bags seal) rest
-  hand_after [] answered bags seal b e = none_in_hand (after_call 0 answered bags seal) [] refl
-  hand_after (x ∷ rest) answered bags seal true e = rw e tt
-  hand_after (x ∷ rest) answered bags seal false e = absurd (grind (arith, nat_tests))
-
-  empty_small : (hand : List (Deferral J)) → hand ≡ [] → length hand ≤ 64
-  empty_small hand e = omega (arith, ap length e)
-
-  empty_hand : (event : Event) (phase : Phase) (hand : List (Deferral J)) → needs_memory event phase ≡ true → HandFits phase hand → hand ≡ []
-  empty_hand (Begin op) phase hand e fits = absurd (cc e)
-  empty_hand Go (Queue seal) hand e fits = fits
-  empty_hand Go (ReleaseQueue seal) hand e fits = fits
-  empty_hand Go (SecureQueue seal) hand e fits = fits
-  empty_hand Go Idle hand e fits = absurd (cc e)
-  empty_hand Go Look hand e fits = absurd (cc e)
-  empty_hand Go (Publish seen) hand e fits = absurd (cc e)
-  empty_hand Go RepinLook hand e fits = absurd (cc e)
-  empty_hand Go (RepinPublish seen) hand e fits = absurd (cc e)
-  empty_hand Go Seal hand e fits = absurd (cc e)
-  empty_hand Go ReleaseSeal hand e fits = absurd (cc e)
-  empty_hand Go (Secure n) hand e fits = absurd (cc e)
-  empty_hand Go SecureSeal hand e fits = absurd (cc e)
-  empty_hand Go Load hand e fits = absurd (cc e)
-  empty_hand Go (Inspect seen at) hand e fits = absurd (cc e)
-  empty_hand Go (Advance seen) hand e fits = absurd (cc e)
-  empty_hand Go (Take answered bags) hand e fits = absurd (cc e)
-  empty_hand Go (Call answered bags seal) hand e fits = absurd (cc e)
 
   -- a new collector has no jobs, whatever each would weigh
   pub opened_weighs : (T : Type 0) (limits : Limits) (roots : ℕ) (f : Deferral J → ℕ) → weight f (opened {T = T} limits roots) ≡ 0
@@ -309,10 +266,6 @@ module _ {T J : Type 0} where
   refused s who event F.Idle o = nothing s who o
   refused s who event F.Limits o = nothing s who o
   refused s who event F.InCall o = nothing s who o
-
-  done_called : (s : State T J) (who : ℕ) (event : Event) → called_in s who event Running ≡ called_in s who event Done
-  done_called s who (Begin op) = refl
-  done_called s who Go = refl
 
   by_outcome : (s : State T J) (who : ℕ) (event : Event) (e : Option Fault) (outcome : Outcome) → fault s who event ≡ e → IsOutcome s who event e outcome → Orderly s → Moves s who (called_in s who event outcome) (after s who event outcome)
   by_outcome s who event e (Refused x) is k o = refused s who event x o

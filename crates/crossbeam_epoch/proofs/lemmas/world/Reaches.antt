@@ -32,18 +32,6 @@ one_before Quiet h one = one
 one_before (Marked k) h one = λ t. let le = deferrals_before k h t in let few = one t in omega arith
 one_before (GivenBack name) h one = one
 
-deferred_once : (h : List Mark) (t : ℕ) (n : Name) → WasDeferred h t n → 1 ≤ deferrals h t
-deferred_once [] t n d = absurd d
-deferred_once (Pinned who epoch ∷ h) t n d = deferred_once h t n d
-deferred_once (Repinned who epoch ∷ h) t n d = deferred_once h t n d
-deferred_once (Unpinned who ∷ h) t n d = deferred_once h t n d
-deferred_once (Deferred ticket name ∷ h) t n d = by_place (ticket == t) (eq-eqb ticket t) d (deferred_once h t n)
-  where
-    by_place : (b : Bool) → (ticket ≡ t → b ≡ true) → ((ticket ≡ t) × (name ≡ Some n)) ⊎ WasDeferred h t n → (WasDeferred h t n → 1 ≤ deferrals h t) → 1 ≤ (if b then 1 else 0) + deferrals h t
-    by_place true same d on = omega arith
-    by_place false same d on = elim d [ inl here ↦ absurd (cc (same here.0)) | inr earlier ↦ (let le = on earlier in omega arith) ]
-deferred_once (Called ticket name ∷ h) t n d = deferred_once h t n d
-
 began_steady : (k : Mark) (h : List Mark) (p : ℕ) → mark_changes_pin k p ≡ false → began (k ∷ h) p ≡ began h p
 began_steady (Pinned who epoch) h p e = steady (who == p) (Some epoch) (began h p) e
 began_steady (Repinned who epoch) h p e = steady (who == p) (Some epoch) (began h p) e

@@ -27,6 +27,8 @@ use Rattle.crossbeam_epoch.specs.World.Steps.{event_fault, gone, after, marks, I
 use Rattle.crossbeam_epoch.specs.World.Sealing.{IsSealing}
 use Rattle.crossbeam_epoch.specs.World.Rounds.{Finishes, IsRound, AreRounds, IsQuiet, IsNotDue, TakesOff, IsSealedBag, IsEmptied}
 use Rattle.crossbeam_epoch.proofs.lemmas.world.Collecting.{IsNear, next_epoch, IsHeld, CollectAt, IsAlone, collect_goes}
+use Rattle.crossbeam_epoch.proofs.lemmas.world.Endings.{all_one}
+use Rattle.crossbeam_epoch.proofs.lemmas.world.Jobs.{no_items}
 use Rattle.crossbeam_epoch.proofs.lemmas.world.Moves.{contains_tail}
 use Rattle.crossbeam_epoch.proofs.lemmas.world.Progress.{moves}
 use Rattle.crossbeam_epoch.proofs.lemmas.world.Runs.{in_table, known, begin_idle, fits_after}
@@ -105,11 +107,6 @@ module _ {J : Type 0} where
   pub some_jobs : (bag : List (Deferral J)) → (length bag == 0) ≡ false → bag ≡ [] → ⊥
   some_jobs [] e is = absurd (cc e)
   some_jobs (x ∷ bag) e is = absurd (cc is)
-
-  -- a bag whose count of jobs is zero is empty
-  pub no_jobs : (bag : List (Deferral J)) → (length bag == 0) ≡ true → bag ≡ []
-  no_jobs [] e = refl
-  no_jobs (x ∷ bag) e = absurd (grind (arith, nat_tests))
 
   -- a participant whose call may go on isn't between calls
   pub busy : (phase : Phase) (p : Participant J) → event_fault Go phase p ≡ None → phase ≡ Idle → ⊥
@@ -250,7 +247,7 @@ module _ {T J : Type 0} (old new who expiry : ℕ) (found : List (Sealed J)) (ba
   begins_flush : (s : State T J) (none : Bool) → who < length s.table → (length (place s who).bag == 0) ≡ none → IsHeld old bag (place s who) → IsNear old new s.epoch → s.queue ≡ found
       → Flushes (with_place s who (record (place s who) { phase = if none then Load else Seal }))
   begins_flush s true lt is h near q =
-      let none : bag ≡ [] = sym h.jobs ∙ no_jobs (place s who).bag is in
+      let none : bag ≡ [] = sym h.jobs ∙ no_items (place s who).bag is in
       put_flush (with_place s who (record (place s who) { phase = Load })) s.table (record (place s who) { phase = Load }) refl lt
       ([], sealed_none bag none, (record { word = h.word; one = h.one; jobs = h.jobs ∙ none }, near, q ∙ sym (append-nil found)))
   begins_flush s false lt is h near q =
@@ -352,16 +349,12 @@ module _ {J : Type 0} where
   shed_in : (queue queue' : List (Sealed J)) → Sheds queue queue' → (b : Sealed J) → Contains queue' b → Contains queue b
   shed_in queue queue' s b m = rw s.1 (Contains-append_right s.0 queue' b m)
 
-  jobs_counted : (jobs : List (Deferral J)) → sum_by one jobs ≡ length jobs
-  jobs_counted [] = refl
-  jobs_counted (e ∷ jobs) = let rest = jobs_counted jobs in omega (arith, rest, sum_by-cons one e jobs)
-
   filled_bags : (queue : List (Sealed J)) → ((b : Sealed J) → Contains queue b → 0 < length b.jobs) → length queue ≤ sum_by (in_bag one) queue
   filled_bags [] all = omega arith
   filled_bags (b ∷ queue) all =
       let rest = filled_bags queue (λ c m. all c (contains_tail b queue c m)) in
       let here = all b (0, omega arith, refl) in
-      omega (arith, rest, here, jobs_counted b.jobs, sum_by-cons (in_bag one) b queue)
+      omega (arith, rest, here, all_one b.jobs, sum_by-cons (in_bag one) b queue)
 
   -- a collection to which every bag is due leaves none, or eight fewer
   takes_due : (expiry answered : ℕ) (queue queue' : List (Sealed J)) → TakesOff expiry answered queue queue' → ((b : Sealed J) → Contains queue b → b.seal + expiry ≤ answered)

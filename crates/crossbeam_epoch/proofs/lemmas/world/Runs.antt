@@ -28,7 +28,7 @@ use Rattle.crossbeam_epoch.specs.World.Machine.{State, place, blank, with_place,
 use Rattle.crossbeam_epoch.specs.World.Steps.{quiet_fault, or_count, defer_fault, when, outcome_at, outcome_or, place_or, begin_fault, event_fault, fault, begun_at, begun, gone, moved, needs_memory, after, called_by, called_in, IsOutcome, IsReport, begin_marks, phase_marks, moved_marks, unless_refused, marks, state_after, history_after, AreReports}
 use Rattle.crossbeam_epoch.specs.World.Fits.{Fits, HandFits, at_place, has_ticket, one}
 use Rattle.crossbeam_epoch.proofs.lemmas.world.Moves.{fits_stay, fits_phase, fits_guards, fits_idle, fits_look, fits_relooked, fits_repinned, fits_seal, fits_release_seal, fits_secure_seal, fits_secured, fits_load, fits_inspected, fits_advanced, fits_published, fits_unpinned, fits_queued, fits_left, fits_gone, fits_took, unpinned_now, pinned_now, none_in, none_accepted}
-use Rattle.crossbeam_epoch.proofs.lemmas.world.Jobs.{fits_called, call_marks, fits_after_deferral}
+use Rattle.crossbeam_epoch.proofs.lemmas.world.Jobs.{fits_called, call_marks, fits_after_deferral, no_items}
 
 -- a test of a fault that isn't given
 pub off : (b : Bool) (f : Fault) → when b f ≡ None → b ≡ false
@@ -54,22 +54,14 @@ pub known : (b : Bool) (x : Option Fault) → (if b then x else Some F.Unknown) 
 known true x e = (refl, e)
 known false x e = absurd (cc e)
 
-no_quiet : (next : ℕ) (q : Option Fault) → or_count next q ≡ None → q ≡ None
+-- where there is a next ticket, an answer without a fault had none
+pub no_quiet : (next : ℕ) (q : Option Fault) → or_count next q ≡ None → q ≡ None
 no_quiet next None e = refl
 no_quiet next (Some f) e = absurd (cc e)
 
--- where a removal has no fault, its deferral has none
-no_destroy_fault : (b : Bool) (x : Option Fault) → (if b then x else Some F.Unknown) ≡ None → x ≡ None
-no_destroy_fault true x e = e
-no_destroy_fault false x e = absurd (cc e)
-
 module _ {J : Type 0} where
-  no_items : (xs : List (Deferral J)) → (length xs == 0) ≡ true → xs ≡ []
-  no_items [] e = refl
-  no_items (x ∷ xs) e = absurd (grind (arith, nat_tests))
-
   -- a call that may find no memory has no job in hand
-  empty_hand : (event : Event) (phase : Phase) (hand : List (Deferral J)) → needs_memory event phase ≡ true → HandFits phase hand → hand ≡ []
+  pub empty_hand : (event : Event) (phase : Phase) (hand : List (Deferral J)) → needs_memory event phase ≡ true → HandFits phase hand → hand ≡ []
   empty_hand (Begin op) phase hand e fits = absurd (cc e)
   empty_hand Go (Queue seal) hand e fits = fits
   empty_hand Go (ReleaseQueue seal) hand e fits = fits
@@ -281,7 +273,8 @@ module _ {T J : Type 0} where
       let k = known (place s who).registered (event_fault Go (place s who).phase (place s who)) e in
       fits_going h s who (place s who).phase (in_table s who k.0) refl f
 
-  done_called : (s : State T J) (who : ℕ) (event : Event) → called_in s who event Running ≡ called_in s who event Done
+  -- an end calls the jobs that a step on the way calls
+  pub done_called : (s : State T J) (who : ℕ) (event : Event) → called_in s who event Running ≡ called_in s who event Done
   done_called s who (Begin op) = refl
   done_called s who Go = refl
 

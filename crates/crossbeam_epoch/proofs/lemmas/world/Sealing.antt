@@ -1,6 +1,6 @@
 -- No empty bag is queued, and no seal is past the epoch, whatever steps led there.
 use Rattle.std.proofs.Common.{◌≡◌, ℕ, ◌+◌, ◌-◌, ◌<◌, ◌≤◌, Bool, true, false, List, [], ◌∷◌, ◌++◌, ◌==◌, ◌&&◌, Option, Some, None, refl, subst, inl, inr, length, arith, get_or-set_same, get_or-set_other}
-use Rattle.std.specs.Prelude.{slice_index_or, if◌then◌else◌, nat_lt, nat_le, is_none, drop, remove, slice_set, not}
+use Rattle.std.specs.Prelude.{slice_index_or, if◌then◌else◌, nat_lt, nat_le, is_none, remove, slice_set, not}
 use Rattle.std.specs.List.{Contains}
 use Rattle.std.proofs.lemmas.Bool.{cases_eq, cases_lt}
 use Rattle.std.proofs.lemmas.Bool.Decides.{nat_tests}
@@ -31,8 +31,8 @@ use Rattle.crossbeam_epoch.specs.World.Machine.{State, place, blank, with_place,
 use Rattle.crossbeam_epoch.specs.World.Steps.{fault, event_fault, begin_fault, when, begun, gone, moved, needs_memory, after, marks, state_after, AreReports, defer_fault, or_count, quiet_fault, IsOutcome, IsReport}
 use Rattle.crossbeam_epoch.specs.World.Store.{Store}
 use Rattle.crossbeam_epoch.specs.World.Sealing.{SealsAt, IsSealing}
-use Rattle.crossbeam_epoch.proofs.lemmas.world.Moves.{none_in, contains_tail, top_now}
-use Rattle.crossbeam_epoch.proofs.lemmas.world.Runs.{in_table, known, begin_idle, blank_at, fits_after}
+use Rattle.crossbeam_epoch.proofs.lemmas.world.Moves.{none_in, top_now, contains_drop}
+use Rattle.crossbeam_epoch.proofs.lemmas.world.Runs.{in_table, known, begin_idle, blank_at, fits_after, no_quiet}
 
 -- a later epoch does
 later : (e e' bag : ℕ) (phase : Phase) → e ≤ e' → SealsAt e bag phase → SealsAt e' bag phase
@@ -94,10 +94,6 @@ few_secured : (n : ℕ) (a : Bool) → (if a then Some F.Unpinned else when (not
 few_secured n true e = absurd (cc e)
 few_secured n false e = few_places n (nat_lt 0 n) (nat_le n 64) refl e
 
-no_quiet : (next : ℕ) (x : Option Fault) → or_count next x ≡ None → x ≡ None
-no_quiet next None e = refl
-no_quiet next (Some y) e = absurd (cc e)
-
 module _ {J : Type 0} where
   quiet_idle : (phase : Phase) (p : Participant J) (e n : ℕ) → quiet_fault phase p ≡ None → SealsAt e n phase
   quiet_idle Idle p e n q = tt
@@ -117,10 +113,6 @@ module _ {J : Type 0} where
   quiet_idle (Advance seen) p e n q = absurd (cc q)
   quiet_idle (Take answered bags) p e n q = absurd (cc q)
   quiet_idle (Call answered bags seal) p e n q = absurd (cc q)
-
-  drop_in : (xs : List (Sealed J)) (y : Sealed J) → Contains (drop 1 xs) y → Contains xs y
-  drop_in [] y m = m
-  drop_in (x ∷ xs) y m = contains_tail x xs y m
 
   push_filled : (queue : List (Sealed J)) (b : Sealed J) → ((c : Sealed J) → Contains queue c → 0 < length c.jobs) → 0 < length b.jobs → (c : Sealed J) → Contains (queue ++ b ∷ []) c → 0 < length c.jobs
   push_filled queue b all one c m = elim (Contains-push_cases queue b c m) [
@@ -165,7 +157,7 @@ module _ {T J : Type 0} where
   takes : (s : State T J) (who answered bags : ℕ) (b : Bool) → who < length s.table → IsSealing s → IsSealing (if b then taken s who answered bags else in_phase s who Idle)
   takes s who answered bags true lt i =
       let b = slice_index_or s.queue 0 (record { seal = 0; jobs = [] }) in
-      put s (taken s who answered bags) who (record (place s who) { hand = b.jobs; phase = Call answered (bags + 1) b.seal }) refl (omega arith) lt i tt (λ c m. i.filled c (drop_in s.queue c m)) (λ c m. i.past c (drop_in s.queue c m))
+      put s (taken s who answered bags) who (record (place s who) { hand = b.jobs; phase = Call answered (bags + 1) b.seal }) refl (omega arith) lt i tt (λ c m. i.filled c (contains_drop s.queue c m)) (λ c m. i.past c (contains_drop s.queue c m))
   takes s who answered bags false lt i = stay s who (record (place s who) { phase = Idle }) lt i tt
 
   calls_one : (s : State T J) (who answered bags seal : ℕ) (b : Bool) → who < length s.table → IsSealing s → IsSealing (if b then in_phase s who Idle else called_one s who answered bags seal)

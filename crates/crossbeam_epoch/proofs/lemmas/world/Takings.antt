@@ -21,7 +21,8 @@ use Rattle.crossbeam_epoch.specs.World.Sealing.{IsSealing}
 use Rattle.crossbeam_epoch.specs.World.Steps.{event_fault, gone, after, IsReport}
 use Rattle.crossbeam_epoch.specs.World.Rounds.{Finishes, TakesOff, IsSealedBag}
 use Rattle.crossbeam_epoch.proofs.lemmas.world.Collecting.{IsTaking, due_front, no_more, none_taken, not_due, one_more}
-use Rattle.crossbeam_epoch.proofs.lemmas.world.Rounds.{IsKept, busy, kept_from, kept_step, no_jobs, sealed_none, sealed_own, some_jobs}
+use Rattle.crossbeam_epoch.proofs.lemmas.world.Jobs.{no_items}
+use Rattle.crossbeam_epoch.proofs.lemmas.world.Rounds.{IsKept, busy, kept_from, kept_step, sealed_none, sealed_own, some_jobs}
 use Rattle.crossbeam_epoch.proofs.lemmas.world.Runs.{in_table, known}
 use Rattle.crossbeam_epoch.proofs.lemmas.world.Wholes.{Unrefused, faultless, as_moved, finishing}
 
@@ -116,7 +117,7 @@ module _ {T J : Type 0} (who expiry : ℕ) (found : List (Sealed J)) (bag : List
 
   begins : (s : State T J) (none : Bool) → who < length s.table → (length (place s who).bag == 0) ≡ none → s.queue ≡ found → (place s who).bag ≡ bag → Takings (with_place s who (record (place s who) { phase = if none then Load else Seal }))
   begins s true lt is q b =
-      put (with_place s who (record (place s who) { phase = Load })) s.table (record (place s who) { phase = Load }) refl lt ([], sealed_none bag (sym b ∙ no_jobs (place s who).bag is), q ∙ sym (append-nil found))
+      put (with_place s who (record (place s who) { phase = Load })) s.table (record (place s who) { phase = Load }) refl lt ([], sealed_none bag (sym b ∙ no_items (place s who).bag is), q ∙ sym (append-nil found))
   begins s false lt is q b = put (with_place s who (record (place s who) { phase = Seal })) s.table (record (place s who) { phase = Seal }) refl lt (q, b, λ none. some_jobs (place s who).bag is (b ∙ none))
 
 -- a flush takes what is due by the epoch that it leaves

@@ -372,10 +372,6 @@ module _ {T J : Type 0} where
   tells_replaced names s v st name x (Ok y) is on back = at_store names s v Quiet (replaced v.store name.cell x) st is on.1 (replaced_told names v name.cell x)
   tells_replaced names s v st name x (Err y) is on back = at_store names s v Quiet v.store st is back.2 (still_told names v)
 
-  opened_told : {E : Type 0} (names : T → List Name) (limits : Limits) (roots : ℕ) (r : Result (State T J) E) → IfOk r (λ s. s ≡ opened limits roots) → IfOk r (λ s. limits.expiry ≡ 2 → HasMoments names (moment names Quiet s ∷ []) s)
-  opened_told names limits roots (Ok s) is = λ two. tells_opened names limits roots s is two
-  opened_told names limits roots (Err e) is = tt
-
   -- a name that is placed was never live before
   pub placed_new : (names : T → List Name) (s : State T J) (name : Name) → IsNext s.store name → (h : List Moment) → HasMoments names h s → WasLive h name → ⊥
   placed_new names s name next = λ h t was. next_new s.store name next (t.given name was)

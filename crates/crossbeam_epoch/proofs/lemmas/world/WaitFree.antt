@@ -71,15 +71,6 @@ some_steps w O.Flush = omega arith
 some_steps w O.Release = omega arith
 some_steps w (O.Secure n) = omega arith
 
--- no call has more steps than 527 and one for each place
-pub at_most : (w : ℕ) (op : Op) → most_steps w op ≤ w + 527
-at_most w O.Pin = omega arith
-at_most w O.Unpin = omega arith
-at_most w O.Repin = omega arith
-at_most w O.Flush = omega arith
-at_most w O.Release = omega arith
-at_most w (O.Secure n) = omega arith
-
 -- where each step goes on, each is counted
 all_counted : (who : ℕ) (rs : List Report) → ((x : Report) → Contains rs x → x.outcome ≡ Running) → steps_in_flight who (go_steps who (length rs)) rs ≡ length rs
 all_counted who [] all = refl

@@ -80,7 +80,3 @@ module _ {T J : Type 0} where
       by_newest : (o : Option Report) → EndsWith g.reports o → MatchOption o (most ≡ 0) (λ r. r.outcome ≡ Running → length g.reports ≡ most)
       by_newest None e = sym same ∙ sym g.long ∙ ap length e
       by_newest (Some r) e = λ runs. g.long ∙ same
-
-  -- a call of some steps has a newest report
-  some_newest : (s : State T J) (who : ℕ) (op : Op) (most : ℕ) (reports : List Report) (s' : State T J) → 0 < most → IsCall s who op most reports None s' → ⊥
-  some_newest s who op most reports s' lt c = let none : most ≡ 0 = c.stops in omega (arith, none, lt)

@@ -48,7 +48,7 @@ use Rattle.joint.specs.nodes.View.{id_number}
 use Rattle.joint.specs.world.World.{Holds, IsStep, StepsUnless, finds_journal_full}
 use Rattle.joint.specs.engine.Engine.{World, EngineHolds, BeginsAt, Collects, Does, EntersUnless, Enters, GoesAt, GoesOnReserving, Reserves, Surveys, Walks, engine_of, finds_none, is_busy, misuse, reserving}
 use Rattle.joint.proofs.lemmas.engine.Collecting.{either, get_inside, inside_machines, set_here}
-use Rattle.joint.proofs.lemmas.engine.Entering.{begin_within, begin_idle}
+use Rattle.joint.proofs.lemmas.engine.Entering.{begin_within, begins_idle}
 use Rattle.joint.proofs.lemmas.engine.Reported.{may_go}
 use Rattle.joint.proofs.lemmas.engine.Reserving.{next_here}
 use Rattle.joint.proofs.lemmas.engine.Telling.{survey_ends}
@@ -260,15 +260,7 @@ module _ {V : Type 0} (same : V → V → Bool) (always : Bool) (laws : CallLaws
       within = begin_within same always s s' w holds o none
 
       idle : slice_get s.calls w ≡ Some Idle
-      idle = idle_at (slice_get s.calls w) (get_inside s.calls w within) (begin_idle same always s s' w holds o none)
-        where
-          idle_at : (k : Option (InFlight V)) → (x : InFlight V) × (k ≡ Some x) → is_busy k ≡ false → k ≡ Some Idle
-          idle_at None x e = absurd (let q : None ≡ Some x.0 = x.1 in cc)
-          idle_at (Some Idle) x e = refl
-          idle_at (Some (Collecting c)) x e = absurd (cc e)
-          idle_at (Some (Reserving p)) x e = absurd (cc e)
-          idle_at (Some (Securing p)) x e = absurd (cc e)
-          idle_at (Some Walking) x e = absurd (cc e)
+      idle = begins_idle same always s s' w holds o none
 
       turn_begins : (c : CollectorOp) (r : Report V) → OthersUnlocked s w → Collects same always s w (collector_event.Begin c) (Collecting c) r s' → is_in_flight r.outcome ≡ true → Begun (length s.forest.collector.table + 530)
       turn_begins c r free x on =

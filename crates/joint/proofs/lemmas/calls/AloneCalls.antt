@@ -26,7 +26,7 @@ use Rattle.joint.specs.declared.steps.Step.{Step}
 use Rattle.joint.specs.declared.steps.Target.{Target}
 use Rattle.joint.specs.declared.steps.Target.TheVariants as target
 use Rattle.joint.specs.calls.Alone.{OthersUnlocked, AreNext, AllInFlight, steps_alone, CallEndsAlone}
-use Rattle.joint.specs.calls.Calling.{next_step, steps_of, GoOn, last_of, last_or, put_away, kept_report, IsCalled}
+use Rattle.joint.specs.calls.Calling.{next_step, steps_of, GoOn, last_of, last_or, kept_report, IsCalled}
 use Rattle.joint.specs.Reports.{goes_on, target, told, is_in_flight}
 use Rattle.joint.specs.engine.Journaling.{asks_at}
 use Rattle.joint.specs.calls.Runs.{Taken, AreTaken}
@@ -39,6 +39,7 @@ use Rattle.joint.proofs.lemmas.world.Flights.{flight_here}
 use Rattle.joint.proofs.lemmas.world.JournaledSteps.{mapped}
 use Rattle.joint.proofs.lemmas.world.JournalPlaces.{asks_here, begun_asks}
 use Rattle.joint.proofs.lemmas.world.Requested.{asks, is_asked}
+use Rattle.joint.proofs.lemmas.calls.Calling.{going, away_goes}
 
 module _ {V : Type 0} where
   -- a call that goes on without a question has none open
@@ -102,22 +103,6 @@ module _ {V : Type 0} where
   none_wanted kd (AskOld s v) e = absurd (cc e)
   none_wanted kd (AskNew plan) e = absurd (cc e)
   none_wanted kd _ e = tt
-
-  going : (o : Outcome V) → goes_on o ≡ true → is_in_flight o ≡ true
-  going Running e = refl
-  going (Asks found) e = refl
-  going (Found place key value) e = refl
-  going (Registered n) e = absurd (cc e)
-  going (Done done) e = absurd (cc e)
-  going (Refused refusal) e = absurd (cc e)
-
-  away : (o : Outcome V) → goes_on (put_away o) ≡ goes_on o
-  away Running = refl
-  away (Asks x) = refl
-  away (Found a b c) = refl
-  away (Registered n) = refl
-  away (Done d) = refl
-  away (Refused e) = refl
 
   -- each report says that the call goes on
   abbrev AllGoOn : List (Taken V) → Type 0
@@ -191,7 +176,7 @@ module _ {V : Type 0} (same : V → V → Bool) (always : Bool) where
         let go : GoOn (t.report ∷ qs) = subst (λ ys. GoOn ys) (sym er) g in
         let last : option_map kept_report (last_of (t.report ∷ qs)) ≡ Some r = ap (λ ys. option_map kept_report (last_of ys)) er ∙ l in
         let kept : kept_report (last_or t.report qs) ≡ r = cc in
-        let goes : goes_on (last_or t.report qs).outcome ≡ true = sym (away (last_or t.report qs).outcome) ∙ (ap (λ y. goes_on y.outcome) kept ∙ on) in
+        let goes : goes_on (last_or t.report qs).outcome ≡ true = sym (away_goes (last_or t.report qs).outcome) ∙ (ap (λ y. goes_on y.outcome) kept ∙ on) in
         let all = all_go_on t ts go goes in
         let flying = in_flight (t ∷ ts) all in
         let next = are_next t.after w (length qs) ts x.0.holds x.1 more all.1 (quiet_first s t w o h x.0 first flying.0 all.0) in

@@ -6,7 +6,6 @@ use Rattle.judge.specs.declared.journal.Reply.{Reply}
 use Rattle.judge.specs.Answer.{Pairs}
 use Rattle.crossbeam_epoch.specs.declared.fault.Fault.{Fault}
 use Rattle.crossbeam_epoch.specs.declared.world.participant.Participant.{Participant}
-use Rattle.crossbeam_epoch.specs.declared.world.report.Outcome.TheVariants as collector_outcome
 use Rattle.congee.specs.declared.protocol.machine.Machine.{Machine}
 use Rattle.congee.specs.declared.protocol.machine.Outcome.{Outcome as Moved}
 use Rattle.congee.specs.declared.protocol.machine.Outcome.TheVariants as moved

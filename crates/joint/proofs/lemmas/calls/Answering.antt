@@ -27,6 +27,7 @@ use Rattle.joint.specs.world.MapSteps.{EventMap, GoMap, PendingStep, BeginMap, B
 use Rattle.joint.specs.engine.Flying.{Flights, with_flight}
 use Rattle.joint.specs.world.World.{IsOnKey}
 use Rattle.joint.proofs.lemmas.world.Flights.{ends_stays, flight_here, flight_apart}
+use Rattle.congee.proofs.Laws.{both_true}
 
 either_by : (b : Bool) (A B : Type 0) → (b ≡ true → A) → (b ≡ false → B) → Either b A B
 either_by true A B f g = f refl
@@ -55,10 +56,6 @@ module _ {V : Type 0} (same : V → V → Bool) where
   and_false false e = refl
   and_false true e = e
 
-  and_true : (a b : Bool) → (a && b) ≡ true → (a ≡ true) × (b ≡ true)
-  and_true true b e = (refl, e)
-  and_true false b e = absurd (false≢true e)
-
   keeps : (fs : Flights V) (m : Pairs V) (event : Event V) (l : Line V) (fs' : Flights V) (w : ℕ) → (fs w ≡ Over → ⊥) → ((l.step.worker == w) && is_go event) ≡ false → EventMap same fs m event l fs' → fs' w ≡ fs w
   keeps fs m Register l fs' w n b x = ap (λ (y : Flights V). y w) x.same_flights
   keeps fs m (Begin op) l fs' w n b x = target_keeps fs m (target op) l fs' w n x
@@ -66,10 +63,10 @@ module _ {V : Type 0} (same : V → V → Bool) where
 
   -- one that is takes the step of its flight
   goes_at : (fs : Flights V) (m : Pairs V) (event : Event V) (l : Line V) (fs' : Flights V) (w : ℕ) (f : Flight V) → fs w ≡ f → ((l.step.worker == w) && is_go event) ≡ true → EventMap same fs m event l fs' → (l.step.worker ≡ w) × ((noise : Noise Id V) × GoMap same fs f m noise.answer l fs')
-  goes_at fs m Register l fs' w f e b x = absurd (false≢true (and_true (l.step.worker == w) false b).1)
-  goes_at fs m (Begin op) l fs' w f e b x = absurd (false≢true (and_true (l.step.worker == w) false b).1)
+  goes_at fs m Register l fs' w f e b x = absurd (false≢true (both_true (l.step.worker == w) false b).1)
+  goes_at fs m (Begin op) l fs' w f e b x = absurd (false≢true (both_true (l.step.worker == w) false b).1)
   goes_at fs m (Go noise) l fs' w f e b x =
-      let q : l.step.worker ≡ w = eqb-true l.step.worker w (and_true (l.step.worker == w) true b).0 in
+      let q : l.step.worker ≡ w = eqb-true l.step.worker w (both_true (l.step.worker == w) true b).0 in
       let P : Flight V → Type 0 = λ y. GoMap same fs y m noise.answer l fs' in
       (q, (noise, subst P (ap fs q ∙ e) x))
 

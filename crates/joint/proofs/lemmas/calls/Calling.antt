@@ -34,7 +34,8 @@ module _ {V : Type 0} where
   put_more [] r places = refl
   put_more (q ∷ qs) r places = put_more qs r (put q.outcome places)
 
-  away_goes : (o : Outcome V) → goes_on (put_away o) ≡ goes_on o
+  -- what is put away goes on where it did
+  pub away_goes : (o : Outcome V) → goes_on (put_away o) ≡ goes_on o
   away_goes Running = refl
   away_goes (Asks x) = refl
   away_goes (Found a b c) = refl
@@ -57,7 +58,7 @@ module _ {V : Type 0} where
       ap (λ xs. record { worker = who; event = Begin op } ∷ xs) (replicate_more (length qs) (next_step who) ∙ ap (λ k. replicate k (next_step who)) (sym n))
 
 -- a call that goes on is in flight
-going : {V : Type 0} (o : Outcome V) → goes_on o ≡ true → is_in_flight o ≡ true
+pub going : {V : Type 0} (o : Outcome V) → goes_on o ≡ true → is_in_flight o ≡ true
 going Running e = refl
 going (Asks found) e = refl
 going (Found place key value) e = refl

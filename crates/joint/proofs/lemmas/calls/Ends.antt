@@ -1,6 +1,6 @@
 -- What a call leaves at its end: nothing that it held, and nothing written down.
 use Rattle.std.proofs.Common.{◌≡◌, ◌≢◌, ◌==◌, ◌<◌, ℕ, zero, suc, Bool, true, false, List, [], ◌∷◌, length, refl, sym, ◌∙◌, ap, subst, inl, inr}
-use Rattle.std.specs.Prelude.{Option, None, Some, ◌&&◌, replicate, slice_get, if◌then◌else◌}
+use Rattle.std.specs.Prelude.{Option, None, Some, replicate, slice_get, if◌then◌else◌}
 use Rattle.std.proofs.Math.ListN.{set}
 use Rattle.std.proofs.lemmas.List.{get_or-set_other}
 use Rattle.std.proofs.lemmas.Bool.{cases_Bool, eqb-true, eqb-false, false≢true}
@@ -36,6 +36,7 @@ use Rattle.joint.proofs.lemmas.engine.Collecting.{get_inside}
 use Rattle.joint.proofs.lemmas.engine.Entering.{begin_idle}
 use Rattle.joint.proofs.lemmas.engine.Reported.{may_go}
 use Rattle.joint.proofs.lemmas.engine.Reserving.{reserving_call}
+use Rattle.congee.proofs.Laws.{both_true}
 
 -- where no call is in flight the worker's machine has ended
 pub ended_by : {V : Type 0} (k : InFlight V) (p : Participant (Unit {0})) (m : Machine Id V) → is_busy (Some k) ≡ false → IsAt k p m → m.phase ≡ Ended
@@ -44,11 +45,6 @@ ended_by (Collecting op) p m e a = absurd (false≢true (sym e))
 ended_by (Reserving op) p m e a = absurd (false≢true (sym e))
 ended_by (Securing op) p m e a = absurd (false≢true (sym e))
 ended_by Walking p m e a = absurd (false≢true (sym e))
-
--- where both of two tests hold, the first does
-pub and_left : (a b : Bool) → (a && b) ≡ true → a ≡ true
-and_left true b e = refl
-and_left false b e = e
 
 module _ {V : Type 0} (same : V → V → Bool) (always : Bool) where
   -- the machine of a worker that has no call in flight has ended
@@ -75,7 +71,7 @@ module _ {V : Type 0} (same : V → V → Bool) (always : Bool) where
   unmisused s w h Register f g e = false≢true g
   unmisused s w h (Begin op) f g e = false≢true g
   unmisused s w h (Go noise) f g e =
-      let k : (op : Point V) × (slice_get s.calls w ≡ Some (Reserving op)) = reserving_call (slice_get s.calls w) (and_left _ _ g) in
+      let k : (op : Point V) × (slice_get s.calls w ≡ Some (Reserving op)) = reserving_call (slice_get s.calls w) (both_true _ _ g).0 in
       let n : misuse s w (Go noise) ≡ None = may_go same always s w (h.0, h.1) noise (ap is_busy k.1) in
       let q : None ≡ Some f = sym n ∙ e in cc
 

@@ -101,9 +101,3 @@ module _ {V : Type 0} (same : V → V → Bool) (always : Bool) (laws : CallLaws
   -- each node that was marked obsolete and stands has left the tree
   pub marked_left : MarkedLeft s
   marked_left n st e = waits_by n st (λ i x. false≢true (sym (blank i n x).live ∙ e)) (λ x. false≢true (sym ((ledger.1.words.each n).live (linked n x)) ∙ e))
-
-  -- a node that was handed over and stands waits
-  pub retired_waits : (n : ℕ) → is_waiting (nodes s.forest n) ≡ true → IsWaiting s n
-  retired_waits n e =
-      let y = waits_is (nodes s.forest n) e in
-      waits_by n y.1 (λ i x. false≢true (sym (blank i n x).unretired ∙ y.0)) (λ x. false≢true (sym (unretired n x) ∙ y.0))

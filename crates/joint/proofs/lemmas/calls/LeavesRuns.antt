@@ -57,15 +57,16 @@ use Rattle.joint.specs.nodes.View.{id_number}
 use Rattle.joint.specs.world.Whereabouts.{IsWaiting, IsDestroyed, IsTakenBy}
 use Rattle.joint.specs.engine.Engine.{World, EngineHolds, BeginsAt, BeginsOnTree, Collects, Does, EntersUnless, GoesAt, Walks, engine_of, finds_none, misuse, quiet}
 use Rattle.joint.proofs.lemmas.engine.OneCallChanges.{Apart, one_same, one_set, step_apart}
-use Rattle.joint.proofs.lemmas.calls.Ends.{and_left}
 use Rattle.joint.proofs.lemmas.engine.Entering.{begin_within}
 use Rattle.joint.proofs.lemmas.world.Flights.{flight_here, set_at}
 use Rattle.joint.proofs.lemmas.calls.LeavesSteps.{IsTaking, IsLost, Parts, SameLeft, same_left, step_parts, walking_of}
-use Rattle.joint.proofs.lemmas.calls.HeldNodes.{blank, is_locked, taken_waits, taken_stands, retired_waits, waits_is}
+use Rattle.joint.proofs.lemmas.calls.HeldNodes.{blank, is_locked, taken_waits, taken_stands, waits_is}
 use Rattle.joint.proofs.lemmas.world.JournaledSteps.{mapped}
 use Rattle.joint.proofs.lemmas.engine.ScanEnds.{cleared_is}
 use Rattle.joint.proofs.lemmas.calls.Sparing.{all_spare}
 use Rattle.joint.proofs.lemmas.world.Whereabouts.{somewhere}
+use Rattle.joint.proofs.lemmas.world.Waiting.{handed_waits}
+use Rattle.congee.proofs.Laws.{both_true}
 
 module _ {V : Type 0} where
   -- a call that has a node taken out has taken effect
@@ -304,13 +305,13 @@ module _ {V : Type 0} (same : V → V → Bool) (always : Bool) (laws : CallLaws
       | inr o ↦ (
           let st = taken_stands same always laws s h i n y in
           let now : Stands (nodes t.after.forest n) = record { made = z.made ∙ st.made; kept = z.kept ∙ st.kept } in
-          stays_left n z (retired_waits same always laws t.after x.holds n (stands_waits (nodes t.after.forest n) o.1.after now)))
+          stays_left n z (handed_waits same always laws t.after x.holds n (stands_waits (nodes t.after.forest n) o.1.after now)))
     ]
 
     left : (n : ℕ) → IsWaiting s n → StaysLeft s t.after n ⊎ IsDestroyed t.after n
     left n y = elim (waits_as s h n y) [
       | inl e ↦ elim (parts.waits n e) [
-        | inl q ↦ inl (stays_left n (same_left (nodes s.forest n) (nodes t.after.forest n) q) (retired_waits same always laws t.after x.holds n (ap is_waiting q ∙ e)))
+        | inl q ↦ inl (stays_left n (same_left (nodes s.forest n) (nodes t.after.forest n) q) (handed_waits same always laws t.after x.holds n (ap is_waiting q ∙ e)))
         | inr l ↦ inr (record { gone = l.destroyed })
       ]
       | inr e ↦ elim (parts.taken e.0 n e.1) [
@@ -355,7 +356,7 @@ module _ {V : Type 0} (same : V → V → Bool) (always : Bool) (laws : CallLaws
     left_locked all n y = elim (waits_as t.after x.holds n y) [
       | inl e ↦ (let kept = (waits_is (nodes t.after.forest n) e).1.kept in elim (cases_Bool (is_waiting (nodes s.forest n))) [
         | inl b ↦ elim (parts.waits n b) [
-          | inl q ↦ ap (λ z. z.locked) q ∙ all n (retired_waits same always laws s h n b)
+          | inl q ↦ ap (λ z. z.locked) q ∙ all n (handed_waits same always laws s h n b)
           | inr l ↦ absurd (false≢true (sym kept ∙ l.destroyed))
         ]
         | inr b ↦ (let z = parts.handed n b e in elim (parts.taken w n z.0) [
@@ -402,7 +403,7 @@ module _ {V : Type 0} (same : V → V → Bool) (always : Bool) (laws : CallLaws
       not_given : (event : Event V) → finds_journal_full s w event ≡ true → ⊥
       not_given Register e = false≢true e
       not_given (Begin op) e = false≢true e
-      not_given (Go noise) e = past_reserves (slice_get s.calls w) (slice_get s.machines w) u (and_left _ _ e)
+      not_given (Go noise) e = past_reserves (slice_get s.calls w) (slice_get s.machines w) u (both_true _ _ e).0
 
       by : (b : Bool) → finds_journal_full s w t.step.event ≡ b → StepsUnless same always b s t.step t.report t.after → BeginsAnew w t ⊎ IsPast (slice_get t.after.calls w) (slice_get t.after.machines w)
       by true e y = absurd (not_given t.step.event e)

@@ -57,9 +57,6 @@ module _ {V : Type 0} (same : V → V → Bool) (always : Bool) (laws : (f : Nod
     abbrev e : World V
     e = engine_of s
 
-    abbrev e' : World V
-    e' = engine_of s'
-
     abbrev most : ℕ
     most = s.forest.version_max
 

@@ -13,7 +13,6 @@ use Rattle.crossbeam_epoch.specs.declared.world.report.Outcome.TheVariants as co
 use Rattle.crossbeam_epoch.specs.World.Machine.{State, place}
 use Rattle.crossbeam_epoch.specs.World.Progress.{Begins, GoesOn, refusal}
 use Rattle.crossbeam_epoch.specs.World.Steps.{begin_fault}
-use Rattle.judge.specs.declared.journal.Reply.{Reply}
 use Rattle.congee.specs.declared.forms.child.Child.{Child}
 use Rattle.congee.specs.declared.forms.child.Child.TheVariants as child
 use Rattle.congee.specs.declared.forms.base_node.NodeType.{NodeType}
@@ -39,7 +38,7 @@ use Rattle.congee.specs.Heap.{Node}
 use Rattle.congee.specs.Keys.{key_bytes}
 use Rattle.congee.specs.protocol.Causes.{Causes, IsCause}
 use Rattle.congee.specs.protocol.Play.{IsMoved, begun}
-use Rattle.congee.specs.protocol.Steps.{PhaseStepped, IsIf, IsChecked, after_version, after_read, after_miss, again, answered, refused}
+use Rattle.congee.specs.protocol.Steps.{PhaseStepped, IsIf, IsChecked, after_version, after_read, after_miss, again, refused}
 use Rattle.congee.specs.protocol.State.{is_done}
 use Rattle.joint.specs.declared.engine.in_flight.InFlight.{InFlight}
 use Rattle.joint.specs.declared.engine.in_flight.InFlight.TheVariants.{Idle, Collecting, Reserving, Securing, Walking}
@@ -68,10 +67,10 @@ use Rattle.joint.specs.world.World.{Holds, IsStep, StepsUnless, finds_journal_fu
 use Rattle.joint.specs.engine.Engine.{World, EngineHolds, IsOfCall, Collects, Does, EntersUnless, Enters, GoesAt, Walks, engine_of, finds_none, is_busy, misuse, place_of}
 use Rattle.joint.proofs.lemmas.engine.OneCallChanges.{Apart, one_set, step_apart}
 use Rattle.joint.proofs.lemmas.engine.Collecting.{get_inside}
-use Rattle.joint.proofs.lemmas.calls.Ends.{and_left}
-use Rattle.joint.proofs.lemmas.engine.Entering.{begin_idle, begin_within}
+use Rattle.joint.proofs.lemmas.engine.Entering.{begin_within, begins_idle}
 use Rattle.joint.proofs.lemmas.world.Flights.{set_at}
 use Rattle.joint.proofs.lemmas.engine.ScanEnds.{cleared_is}
+use Rattle.congee.proofs.Laws.{both_true}
 
 -- the phases of a call that only reads
 abbrev pub Reads : {V : Type 0} → Phase Id V → Type 0
@@ -103,9 +102,6 @@ version_reads V r above n (Some v) = tt
 module _ {V : Type 0} where
   at_again : (r : Id) (t : NextPhase Id V) → t ≡ again r → Reads t.phase
   at_again r t e = let P : NextPhase Id V → Type 0 = λ y. Reads y.phase in subst P (sym e) tt
-
-  at_answer : (r : Reply V) (t : NextPhase Id V) → t ≡ answered r → Reads t.phase
-  at_answer r t e = let P : NextPhase Id V → Type 0 = λ y. Reads y.phase in subst P (sym e) tt
 
   read_reads : (r : Id) (above : Option (Over Id)) (at : Stamp Id) (x : Reading Id V) → Reads {V = V} (after_read r above at x).phase
   read_reads r None at (Differs common byte) = tt
@@ -262,15 +258,7 @@ module _ {V : Type 0} (same : V → V → Bool) (always : Bool) (turns : Progres
       within = begin_within same always s s' w holds o none
 
       idle : slice_get s.calls w ≡ Some Idle
-      idle = idle_at (slice_get s.calls w) (get_inside s.calls w within) (begin_idle same always s s' w holds o none)
-        where
-          idle_at : (k : Option (InFlight V)) → (x : InFlight V) × (k ≡ Some x) → is_busy k ≡ false → k ≡ Some Idle
-          idle_at None x e = absurd (let q : None ≡ Some x.0 = x.1 in cc)
-          idle_at (Some Idle) x e = refl
-          idle_at (Some (Collecting c)) x e = absurd (cc e)
-          idle_at (Some (Reserving p)) x e = absurd (cc e)
-          idle_at (Some (Securing p)) x e = absurd (cc e)
-          idle_at (Some Walking) x e = absurd (cc e)
+      idle = begins_idle same always s s' w holds o none
 
       enters : (p : Point V) (r : Report V) → (begun root p).kind ≡ kind.Get → Reads (begun root p).phase → Enters s w p r s' → Begun r
       enters p r k u x = (
@@ -382,7 +370,7 @@ module _ {V : Type 0} (same : V → V → Bool) (always : Bool) (turns : Progres
       by : (event : Event V) → finds_journal_full s w event ≡ true → ⊥
       by Register e = false≢true e
       by (Begin op) e = false≢true e
-      by (Go noise) e = unreserving (slice_get s.calls w) (slice_get s.machines w) u (and_left _ _ e)
+      by (Go noise) e = unreserving (slice_get s.calls w) (slice_get s.machines w) u (both_true _ _ e).0
     own false g u x =
         let y = own_by t.step.event (misuse s w t.step.event) x.told refl u x.engine.does in (
           (λ e c f q. elim (y.0 c f (sym (ap (λ z. z.outcome) x.report) ∙ q)) [

@@ -33,6 +33,7 @@ use Rattle.joint.specs.engine.Flying.{Flights, no_flights, IsInFlight, AreInFlig
 use Rattle.joint.specs.world.World.{Holds}
 use Rattle.joint.proofs.lemmas.world.Flights.{ends_stays}
 use Rattle.joint.proofs.lemmas.world.JournaledSteps.{Mapped, mapped}
+use Rattle.joint.proofs.lemmas.calls.Rounds.{after_both}
 
 module _ {V : Type 0} (same : V → V → Bool) (always : Bool) where
   -- steps play on the map: from step to step the pairs stand and the calls are watched
@@ -86,10 +87,6 @@ module _ {V : Type 0} (same : V → V → Bool) (always : Bool) where
   taken_on s [] b x y = y
   taken_on s (t ∷ a) b x y = (x.0, taken_on t.after a b x.1 y)
 
-  after_on : (s : World V) (a b : List (Taken V)) → after_all s (a ++ b) ≡ after_all (after_all s a) b
-  after_on s [] b = refl
-  after_on s (t ∷ a) b = after_on t.after a b
-
   -- a run after a run is one of the steps of both
   pub runs_join : (s s1 s2 : World V) (a b : List (Step V)) (q r : List (Report V)) → IsRun same always s a q s1 → IsRun same always s1 b r s2 → IsRun same always s (a ++ b) (q ++ r) s2
   runs_join s s1 s2 a b q r x y =
@@ -99,7 +96,7 @@ module _ {V : Type 0} (same : V → V → Bool) (always : Bool) where
         each = taken_on s x.taken y.taken x.each (subst P (sym x.last) y.each);
         steps_are = map-append (λ (t : Taken V). t.step) x.taken y.taken ∙ (ap (λ l. l ++ map (λ t. t.step) y.taken) x.steps_are ∙ ap (λ l. a ++ l) y.steps_are);
         reports_are = map-append (λ (t : Taken V). t.report) x.taken y.taken ∙ (ap (λ l. l ++ map (λ t. t.report) y.taken) x.reports_are ∙ ap (λ l. q ++ l) y.reports_are);
-        last = after_on s x.taken y.taken ∙ (ap (λ z. after_all z y.taken) x.last ∙ y.last);
+        last = after_both same always s x.taken y.taken ∙ (ap (λ z. after_all z y.taken) x.last ∙ y.last);
       }
 
   -- what a step makes of the map is one entry or nothing

@@ -25,7 +25,7 @@ use Rattle.joint.specs.calls.Runs.{IsMapRun, pairs_after}
 use Rattle.joint.specs.world.MapSteps.{MapStep, EventMap, GoMap, Scans, BeginMap, BeginsOr, EndsEmpty, Line}
 use Rattle.joint.specs.engine.Flying.{Flights, with_flight}
 use Rattle.joint.specs.calls.Scans.{is_go, goes, placed, told_to, Comes, AllCome, BeginsScan, GoesOn, EndsScan, ScansHold, EmptyScansHold}
-use Rattle.congee.proofs.Laws.{of_range}
+use Rattle.congee.proofs.Laws.{of_range, both_true}
 use Rattle.joint.proofs.lemmas.world.Flights.{ends_stays, flight_here, flight_apart}
 
 -- one of several
@@ -137,15 +137,10 @@ module _ {V : Type 0} (same : V → V → Bool) where
     go_step fs m places l fs1 Register q am u e g x = absurd (cc g)
     go_step fs m places l fs1 (Begin op) q am u e g x = absurd (cc g)
 
-    both : (b c : Bool) → (b && c) ≡ true → (b ≡ true) × (c ≡ true)
-    both true true e = (refl, refl)
-    both true false e = absurd (cc e)
-    both false c e = absurd (cc e)
-
     -- a further step of the scan under way is one of a scan by the maps that stood
     pub goes_step : (fs : Flights V) (m : Pairs V) (places : List (ℕ × V)) (l : Line V) (fs1 : Flights V) → Among all m → Under fs places → goes w l ≡ true → MapStep same fs m l fs1 → Next fs m places l fs1
     goes_step fs m places l fs1 am u g x =
-        let b = both (l.step.worker == w) (is_go l.step.event) g in
+        let b = both_true (l.step.worker == w) (is_go l.step.event) g in
         go_step fs m places l fs1 l.step.event refl am u (eqb-true l.step.worker w b.0) b.1 x
 
     -- a scan that is done has found what a scan promises by all maps that stood

@@ -1,5 +1,5 @@
 -- While a stretch lasts, the nodes that it saw stand: it blocks the removal of each.
-use Rattle.std.proofs.Common.{◌≡◌, ◌==◌, ◌<◌, ◌≤◌, ℕ, arith, Bool, true, false, List, [], ◌∷◌, length, refl, sym, ◌∙◌, ap, subst, inl, inr, ◌⊎◌}
+use Rattle.std.proofs.Common.{◌≡◌, ◌==◌, ◌<◌, ℕ, arith, Bool, true, false, List, [], ◌∷◌, length, refl, sym, ◌∙◌, ap, subst, inl, inr, ◌⊎◌}
 use Rattle.std.specs.Prelude.{Option, None, Some, is_some, nat_le, if◌then◌else◌}
 use Rattle.std.proofs.lemmas.Bool.{cases_Bool, cases_eq, eqb-true, eqb-false, false≢true}
 use Rattle.crossbeam_epoch.specs.Limits.{bag_places}
@@ -16,7 +16,7 @@ use Rattle.crossbeam_epoch.specs.declared.world.report.Outcome.{Outcome}
 use Rattle.crossbeam_epoch.specs.declared.world.report.Outcome.TheVariants.{Running, Done, Refused}
 use Rattle.crossbeam_epoch.specs.declared.world.report.Report.{Report}
 use Rattle.crossbeam_epoch.specs.World.Fits.{Fits}
-use Rattle.crossbeam_epoch.specs.World.History.{Mark, Pinned, Repinned, Unpinned, Deferred, Called, began, blocks, deferrals, WasDeferred}
+use Rattle.crossbeam_epoch.specs.World.History.{Mark, Pinned, Repinned, Unpinned, Deferred, Called, began, blocks, WasDeferred}
 use Rattle.crossbeam_epoch.specs.World.Machine.{State, place, deferred, deferred_anew, registered, with_store}
 use Rattle.crossbeam_epoch.specs.World.Progress.{Moves, Empties, EmptiesAt}
 use Rattle.crossbeam_epoch.specs.World.Reach.{Act, Quiet, Marked, GivenBack, Moment, with_act, marks_of, changes_pin, mark_changes_pin, LeavesFirst, Visible}
@@ -31,21 +31,6 @@ use Rattle.joint.specs.calls.Stretches.{publishes}
 steady : {A : Type 0} (b : Bool) (x y : A) → b ≡ false → (if b then x else y) ≡ y
 steady false x y e = refl
 steady true x y e = absurd (false≢true (sym e))
-
-abbrev OneTicket : List Mark → Type 0
-OneTicket h = (t : ℕ) → deferrals h t ≤ 1
-
-fewer : (k : Mark) (h : List Mark) (t : ℕ) → deferrals h t ≤ deferrals (k ∷ h) t
-fewer (Pinned who epoch) h t = omega arith
-fewer (Repinned who epoch) h t = omega arith
-fewer (Unpinned who) h t = omega arith
-fewer (Deferred ticket name) h t = omega arith
-fewer (Called ticket name) h t = omega arith
-
-one_before : (a : Act) (h : List Mark) → OneTicket (with_act a h) → OneTicket h
-one_before Quiet h one = one
-one_before (Marked k) h one = λ t. let le = fewer k h t in let few = one t in omega (arith, le, few)
-one_before (GivenBack name) h one = one
 
 -- a mark that isn't the stretch's own leaves what it blocks; a deferral under it is blocked
 blocked_mark : (k : Mark) (h : List Mark) (p t : ℕ) (n : Name) → mark_changes_pin k p ≡ false → is_some (began h p) ≡ true → WasDeferred (k ∷ h) t n → (WasDeferred h t n → blocks h p t ≡ true) → blocks (k ∷ h) p t ≡ true

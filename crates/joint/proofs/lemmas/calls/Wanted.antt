@@ -131,11 +131,6 @@ module _ {V : Type 0} where
   target_stays fs m (target.Tree p) l fs' w x = begins_stays fs m p l.report.outcome l fs' w x
   target_stays fs m (target.Survey k) l fs' w x = ap (λ (y : Flights V). asks (y w)) x.stays.same_flights
 
-  wants_apart : (before : Bool) (event : Event V) (o : Outcome V) → wants_if before false event o ≡ before
-  wants_apart before Register o = refl
-  wants_apart before (Begin op) o = refl
-  wants_apart before (Go noise) o = refl
-
   event_tells : (same : V → V → Bool) (fs : Flights V) (m : Pairs V) (event : Event V) (l : Line V) (fs' : Flights V) (w : ℕ) → ((noise : Noise Id V) → event ≡ Go noise → fs l.step.worker ≡ Over → is_question l.report.outcome ≡ false) → EventMap same fs m event l fs'
       → (b : Bool) → (l.step.worker == w) ≡ b → asks (fs' w) ≡ wants_if (asks (fs w)) b event l.report.outcome
   event_tells same fs m Register l fs' w n x true e = ap (λ (y : Flights V). asks (y w)) x.same_flights

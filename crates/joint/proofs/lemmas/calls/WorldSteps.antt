@@ -38,6 +38,7 @@ use Rattle.joint.proofs.lemmas.world.Logged.{event_maps, steps}
 use Rattle.joint.proofs.lemmas.engine.Recounting.{has_room_is}
 use Rattle.joint.proofs.lemmas.calls.Runs.{standing_empty, fresh_flights}
 use Rattle.joint.proofs.lemmas.engine.UnkeptReports.{unkept}
+use Rattle.joint.proofs.lemmas.world.RunJournals.{none_kept as journal_none}
 
 recounted_even : (p : ℕ) (b : Bool) (n : ℕ) → recounted p b b n ≡ n
 recounted_even zero b n = refl
@@ -275,12 +276,6 @@ module _ {V : Type 0} (same : V → V → Bool) (always : Bool) where
       (λ y d r. absurd (unkept_room counted z r))
       (ap (λ k. record told { kept = k }) (unkept same always (engine_of s) (engine_of s') worker (Go noise) _ told e.does) ∙ ap (λ o. record told { kept = is_some o }) (sym (kept_nothing told.decided (has_room counted))))
 
-  -- without an answer there is nothing to hear
-  none_heard : (b : Bool) (q : Option (Request V)) → answered_if b None q ≡ q
-  none_heard true (Some q) = refl
-  none_heard true None = refl
-  none_heard false q = refl
-
   -- where both of two tests hold, the first does
   pub and_left : (a b : Bool) → (a && b) ≡ true → a ≡ true
   and_left true b e = refl
@@ -336,18 +331,11 @@ module _ {V : Type 0} (same : V → V → Bool) (always : Bool) where
       | inr x ↦ (let l : 2 ^ 64 ≤ q = ltb-false q (2 ^ 64) x in a.none_beyond q l ∙ sym (b.none_beyond q l))
     ]
 
-  no_entries : (es : List (Entry V)) (r p : ℕ) → p ≡ 0 → length es + r ≤ p → es ≡ []
-  no_entries [] r p e l = refl
-  no_entries (x ∷ es) r p e l = absurd (omega (arith, e, l))
-
-  journal_none : (s : World V) → Holds same always s → s.log.places ≡ 0 → s.log.entries ≡ []
-  journal_none s h e = no_entries s.log.entries s.log.reserved s.log.places e h.2.room
-
   -- the journal's entries are legal from the empty map on
   pub journal_legal : (s : World V) → Holds same always s → IsLegal same s.log.entries
   journal_legal s h = by s.log.places refl where
     by : (p : ℕ) → s.log.places ≡ p → IsLegal same s.log.entries
-    by zero e = let P : List (Entry V) → Type 0 = λ es. IsLegal same es in subst P (sym (journal_none s h e)) (empty, refl)
+    by zero e = let P : List (Entry V) → Type 0 = λ es. IsLegal same es in subst P (sym (journal_none same always s h e)) (empty, refl)
     by (suc p) e = (h.2.pairs, h.2.legal (omega (arith, e)))
 
   -- and lead to the pairs that stand

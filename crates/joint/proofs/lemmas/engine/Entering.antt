@@ -81,6 +81,17 @@ module _ {V : Type 0} (same : V → V → Bool) (always : Bool) (s s' : World V)
     pub begin_idle : is_busy (slice_get s.calls w) ≡ false
     begin_idle = free_by (place_of s w).registered (is_busy (slice_get s.calls w)) _ _ none
 
+    -- it says that it has none
+    pub begins_idle : slice_get s.calls w ≡ Some Idle
+    begins_idle = by (slice_get s.calls w) (get_inside s.calls w begin_within) begin_idle where
+      by : (k : Option (InFlight V)) → (x : InFlight V) × (k ≡ Some x) → is_busy k ≡ false → k ≡ Some Idle
+      by None x e = absurd (let q : None ≡ Some x.0 = x.1 in cc)
+      by (Some Idle) x e = refl
+      by (Some (Collecting c)) x e = absurd (cc e)
+      by (Some (Reserving p)) x e = absurd (cc e)
+      by (Some (Securing p)) x e = absurd (cc e)
+      by (Some Walking) x e = absurd (cc e)
+
     even : after ≡ false → after ≡ before
     even e = e ∙ sym (idle_place (slice_get s.calls w) (slice_get s.machines w) begin_idle)
 

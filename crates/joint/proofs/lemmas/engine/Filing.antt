@@ -59,9 +59,6 @@ waits_stands x e = by x.retired x.made x.destroyed refl refl e
     by true false d' m d e = absurd (cc e)
     by false m' d' m d e = absurd (cc e)
 
-lost_waits_not : {V : Type 0} (x : Node V) → x.destroyed ≡ true → is_waiting x ≡ true → ⊥
-lost_waits_not x d e = let s = waits_stands x e in let k : x.destroyed ≡ false = s.kept in absurd cc
-
 unretired_waits_not : {V : Type 0} (x : Node V) → x.retired ≡ false → is_waiting x ≡ true → ⊥
 unretired_waits_not x r e = let q : false && (x.made && not x.destroyed) ≡ true = ap (λ b. b && (x.made && not x.destroyed)) (sym r) ∙ e in absurd (cc q)
 
@@ -90,12 +87,6 @@ by_both false false f g = refl
 not_true : (b : Bool) → (b ≡ true → ⊥) → b ≡ false
 not_true true f = absurd (f refl)
 not_true false f = refl
-
-removes_itself : (J : Type 0) (n : Name) (t : ℕ) → removes {J = J} n (record { ticket = t; work = Remove n }) ≡ 1
-removes_itself J n t = rw (is_name_itself n) refl
-
-removes_apart : (J : Type 0) (m n : Name) (t : ℕ) → (m ≡ n → ⊥) → removes {J = J} n (record { ticket = t; work = Remove m }) ≡ 0
-removes_apart J m n t apart = let e = not_true (is_name m n) (λ q. apart (is_name_same m n q)) in rw e refl
 
 -- a node is read off its name's value
 same_node : {V : Type 0} (st st' : Store (Slot V)) (n : Name) → value_at st' n ≡ value_at st n → was_given st' n ≡ was_given st n → heap st' (number n) ≡ heap st (number n)

@@ -19,7 +19,7 @@ use Rattle.joint.specs.engine.Intact.{IsAt, IsIntact, resting}
 use Rattle.joint.specs.engine.Laws.{CellLaws, CallLaws}
 use Rattle.joint.specs.nodes.Slots.{slot_names}
 use Rattle.joint.specs.nodes.Opening.{IsOpened, top}
-use Rattle.joint.specs.engine.Engine.{IsFresh, EngineHolds}
+use Rattle.joint.specs.engine.Engine.{IsFresh}
 use Rattle.joint.specs.nodes.View.{view, id_number}
 use Rattle.joint.proofs.lemmas.engine.Filing.{filed_opened}
 use Rattle.joint.proofs.lemmas.engine.SoundOpening as open_it
@@ -73,10 +73,6 @@ module _ {V : Type 0} (same : V → V → Bool) (always : Bool) (cells : CellLaw
     filed = filed_opened cells limits charge limit s begin;
     each = at_first;
   }
-
-  -- what always holds of the engine holds of it
-  pub holds : EngineHolds same always (record { forest = s; machines = ms; calls = ks; log = no_log })
-  holds = (intact, charged)
 
   -- it is a root alone with no call in flight
   pub fresh : IsFresh (record { forest = s; machines = ms; calls = ks; log = no_log })

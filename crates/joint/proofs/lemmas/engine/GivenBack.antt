@@ -12,6 +12,7 @@ use Rattle.joint.specs.Names.{number}
 use Rattle.joint.specs.engine.Laws.{CellLaws}
 use Rattle.joint.specs.NameLemmas.{same_name}
 use Rattle.joint.proofs.lemmas.engine.ReachMoments.{Reaches, was_in}
+use Rattle.congee.proofs.Laws.{both_true}
 
 abbrev of_gift : Name → Act → Name
 of_gift x Quiet = x
@@ -94,14 +95,10 @@ module _ {T J : Type 0} (names : T → List Name) (s : State T J) where
     ends_backs e [] = e
     ends_backs e (x ∷ xs) = ends_next xs (given_back xs x) (λ n l g. live_before xs x n l g) (ends_backs e xs)
 
-    left_live : (b c : Bool) → (b && c) ≡ true → b ≡ true
-    left_live true c e = refl
-    left_live false c e = absurd (cc e)
-
     -- what is live after they are given back stood before
     pub lived_first : (xs : List Name) (n : Name) → lived xs n ≡ true → is_some (value_at s.store n) ≡ true
     lived_first [] n l = l
-    lived_first (x ∷ xs) n l = lived_first xs n (left_live (lived xs n) (not (number n == number x)) l)
+    lived_first (x ∷ xs) n l = lived_first xs n (both_true (lived xs n) (not (number n == number x)) l).0
 
     -- what is live after them wasn't given back
     pub lived_apart : (xs : List Name) (n : Name) → lived xs n ≡ true → Contains xs n → ⊥
@@ -111,7 +108,7 @@ module _ {T J : Type 0} (names : T → List Name) (s : State T J) where
         last : (b : Bool) → (b && not true) ≡ false
         last true = refl
         last false = refl
-    lived_apart (x ∷ xs) n l (suc k, lt, e) = lived_apart xs n (left_live (lived xs n) (not (number n == number x)) l) (k, omega (arith, lt), e)
+    lived_apart (x ∷ xs) n l (suc k, lt, e) = lived_apart xs n (both_true (lived xs n) (not (number n == number x)) l).0 (k, omega (arith, lt), e)
 
     -- each name that was live by the longer history was given
     pub given_backs : ((n : Name) → WasLive past n → was_given s.store n ≡ true) → (xs : List Name) (n : Name) → WasLive (backs past xs) n → was_given s.store n ≡ true

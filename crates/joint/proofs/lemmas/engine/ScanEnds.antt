@@ -3,7 +3,7 @@ use Rattle.std.proofs.Common.{◌≡◌, ◌≢◌, ◌⊎◌, ◌+◌, ◌≤�
 use Rattle.std.proofs.Math.ListN.{set}
 use Rattle.std.specs.Prelude.{◌==◌, not, Option, None, Some, slice_get, slice_set, if◌then◌else◌}
 use Rattle.std.proofs.lemmas.Bool.{cases_Bool, cases_eq}
-use Rattle.std.proofs.lemmas.List.{length-set, set-set}
+use Rattle.std.proofs.lemmas.List.{set-set}
 use Rattle.judge.specs.declared.journal.Reply.{Reply}
 use Rattle.judge.specs.Answer.{Pairs}
 use Rattle.crossbeam_epoch.specs.World.Machine.{place}
@@ -141,18 +141,6 @@ module _ {V : Type 0} (ms between : List (Machine Id V)) (who : ℕ) (old now : 
   -- the machines are as before, but for the worker's: that of the step, or one at rest after a scan that is done
   pub cleared_is : cleared between who ≡ set ms who (rested now)
   cleared_is = ap (λ o. cleared_at o between who) now_between ∙ by_done (is_done now.phase)
-
--- as many machines are left where a scan that is done leaves its place
-cleared_long : {V : Type 0} (ms : List (Machine Id V)) (who : ℕ) → length (cleared ms who) ≡ length ms
-cleared_long {V} ms who = at (slice_get ms who)
-  where
-    by : (b : Bool) → length (if b then slice_set ms who resting else ms) ≡ length ms
-    by true = length-set ms who resting
-    by false = refl
-
-    at : (o : Option (Machine Id V)) → length (cleared_at o ms who) ≡ length ms
-    at None = refl
-    at (Some m) = by (is_done m.phase)
 
 -- whether a scan's report tells its end
 abbrev pub is_end : {V : Type 0} → ScanReport V → Bool

@@ -84,9 +84,6 @@ module _ {T J C V : Type 0} (tnames : T → List Name) (view : Bool → Option T
   tied' : Ties tnames st' h'
   tied' = ties tnames view ok st'
 
-  was_used : (n : Name) → is_some (value_at s.store n) ≡ true → was_given s.store n ≡ true
-  was_used n l = cells.live_given s.store n l
-
   -- paths and the tree, before and after
   linked_reach : (n : Name) → (notes (number n)).status ≡ Linked → Reaches tnames s n
   linked_reach n l = in_reach tnames s.store h s.roots top tied sound.rooted n (calls.linked notes h (number n) sound.settled.1.tree l)
@@ -197,9 +194,6 @@ module _ {T J C V : Type 0} (tnames : T → List Name) (view : Bool → Option T
     ]
     | inr made ↦ inl made
   ]
-
-  held_before : (n : Name) → MadeBy num m.phase (number n) → WasIn past n → ⊥
-  held_before n made w = sound.unseen i m n at made w
 
   published_was : (n : Name) → is_published (notes (number n)).status ≡ true → MadeBy num m.phase (number n) → ⊥
   published_was n p made =

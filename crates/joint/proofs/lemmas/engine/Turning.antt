@@ -25,9 +25,6 @@ use Rattle.joint.specs.declared.steps.Kind.TheVariants as kind
 use Rattle.joint.specs.declared.steps.Outcome.TheVariants as outcome
 use Rattle.joint.specs.declared.steps.Report.{Report}
 use Rattle.joint.specs.declared.steps.Target.{Target}
-use Rattle.joint.specs.declared.steps.Survey.{Survey}
-use Rattle.joint.specs.declared.steps.Survey.TheVariants as survey
-use Rattle.joint.specs.declared.steps.Target.TheVariants as target
 use Rattle.joint.specs.declared.steps.Target.TheVariants.{Collector, Tree}
 use Rattle.congee.specs.declared.protocol.machine.Noise.{Noise}
 use Rattle.joint.specs.declared.steps.Event.TheVariants.{Go}
@@ -39,7 +36,7 @@ use Rattle.joint.specs.engine.Laws.{ProgressLaws}
 use Rattle.joint.specs.engine.Safety.{Collected}
 use Rattle.joint.specs.Refusals.{of_fault}
 use Rattle.joint.specs.Reports.{collected}
-use Rattle.joint.specs.engine.Engine.{World, is_busy, unready, interruption, kind_of, quiet, collection, misuse, finds_none, BeginsAt, BeginsOnTree, GoesAt, Does, Enters, EntersUnless, Reserves, Surveys, begin_misuse}
+use Rattle.joint.specs.engine.Engine.{World, is_busy, unready, interruption, kind_of, quiet, collection, misuse, finds_none, BeginsAt, BeginsOnTree, GoesAt, Does, Enters, EntersUnless, Reserves, begin_misuse}
 use Rattle.joint.proofs.lemmas.engine.Collecting.{get_inside, inside_machines}
 
 -- what stands there, written once more, changes nothing
@@ -104,22 +101,6 @@ module _ {V : Type 0} (same : V → V → Bool) (always : Bool) (w : World V) (w
 
     on_tree : (op : Point V) (r : Report V) (w' : World V) → is_some (place c who).word ≡ true → BeginsOnTree same always w who op r w' → Begun same always w who (Tree op) r w'
     on_tree op r w' p b = proceeds (Tree op) r w' (past (Tree op) reg idle ∙ word (place c who).word p) b
-
-    -- a call of one step
-    tells : (k : Survey) (r : Report V) → unready {V = V} (target.Survey k) (place c who) ≡ None → Surveys w k r w → Begun same always w who (target.Survey k) r w
-    tells k r u b = proceeds (target.Survey k) r w (past (target.Survey k) reg idle ∙ u) b
-
-    tells_keys : (r : Report V) → Surveys w survey.Keys r w → Begun same always w who (target.Survey survey.Keys) r w
-    tells_keys r b = tells survey.Keys r refl b
-
-    tells_stats : (r : Report V) → Surveys w survey.Stats r w → Begun same always w who (target.Survey survey.Stats) r w
-    tells_stats r b = tells survey.Stats r refl b
-
-    tells_empty : (r : Report V) → is_some (place c who).word ≡ true → Surveys w survey.IsEmpty r w → Begun same always w who (target.Survey survey.IsEmpty) r w
-    tells_empty r p b = tells survey.IsEmpty r (word (place c who).word p) b
-
-    asks_unpinned : (r : Report V) → is_some (place c who).word ≡ false → r ≡ quiet kind.Tree (outcome.Refused (of_fault fault.Unpinned)) → Begun same always w who (target.Survey survey.IsEmpty) r w
-    asks_unpinned r p q = refused (target.Survey survey.IsEmpty) fault.Unpinned r (past (target.Survey survey.IsEmpty) reg idle ∙ no_word (place c who).word p) q
 
     enter : (op : Point V) (r : Report V) (w' : World V) → finds_none op ≡ false → writes op ≡ false → Enters w who op r w' → BeginsOnTree same always w who op r w'
     enter (point.Get k) r w' n e b = b

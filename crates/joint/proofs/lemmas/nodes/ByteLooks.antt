@@ -15,12 +15,11 @@ use Rattle.congee.specs.protocol.Events.{SeenTruly, places}
 use Rattle.congee.specs.forms.Forms.{capacity_of, children_of, prefix_of}
 use Rattle.congee.specs.Heap.{Nothing}
 use Rattle.congee.specs.forms.Places.{AllKeys, Rises}
-use Rattle.congee.proofs.Laws.{get_find, all_found, same_is}
+use Rattle.congee.proofs.Laws.{get_find, all_found, same_is, rises_entries}
 use Rattle.joint.specs.declared.id.Id.{Id}
 use Rattle.joint.specs.declared.nodes.slot.LockWord.{LockWord}
 use Rattle.joint.specs.nodes.Solid.{IsSolid, IsLook}
 use Rattle.joint.specs.nodes.View.{id_number, hung_at, child_at, shape}
-use Rattle.joint.proofs.lemmas.nodes.SlotViews.{rises_entries}
 
 -- a form has as many places by the protocol as by its capacity
 pub places_of : (form : NodeType) → places form ≡ capacity_of form

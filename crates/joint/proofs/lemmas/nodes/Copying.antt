@@ -1,20 +1,20 @@
 -- The children of a node as they are copied or moved into another.
-use Rattle.std.proofs.Common.{◌≡◌, ℕ, zero, suc, ◌+◌, ◌<◌, ◌≤◌, true, false, List, [], ◌∷◌, length, Option, None, Some, IsSome, refl, sym, ◌∙◌, ap, subst, inl, inr, arith}
+use Rattle.std.proofs.Common.{◌≡◌, ℕ, zero, suc, ◌+◌, ◌<◌, ◌≤◌, true, false, [], length, Option, None, Some, IsSome, refl, sym, ◌∙◌, ap, subst, inl, inr, arith}
 use Rattle.std.specs.Prelude.{Box}
 use Rattle.std.specs.Box.{with_value}
 use Rattle.std.specs.declared.alloc.Global.{Global}
 use Rattle.std.specs.Ordering.{nat_cmp}
 use Rattle.std.specs.Cmp.{nat_cmp_total}
 use Rattle.std.specs.FinMap as map
-use Rattle.std.proofs.lemmas.Bool.{cases_eq, cases_lt, ne_eqb, eq-eqb}
+use Rattle.std.proofs.lemmas.Bool.{cases_eq, cases_lt, ne_eqb}
 use Rattle.congee.specs.declared.forms.child.Child.{Child}
 use Rattle.congee.specs.declared.forms.child.Child.TheVariants.{Blank, Node as Sub, Value}
 use Rattle.congee.specs.declared.forms.base_node.Node.{Node as Form}
 use Rattle.congee.specs.forms.Bytes.{IsFirst}
 use Rattle.congee.specs.protocol.Events.{HoldsAlike}
 use Rattle.congee.specs.forms.Forms.{children_of, form_of, prefix_of, capacity_of, size_of, is_full_of, Becomes}
-use Rattle.congee.specs.Heap.{Nothing, Below, Holds}
-use Rattle.congee.proofs.Laws.{get_find, find, len_less, kept_node, kept_value}
+use Rattle.congee.specs.Heap.{Below, Holds}
+use Rattle.congee.proofs.Laws.{len_less, kept_node, kept_value}
 use Rattle.joint.specs.declared.id.Id.{Id}
 use Rattle.joint.specs.declared.nodes.slot.Slot.{Slot}
 use Rattle.joint.specs.declared.nodes.slot.LockWord.{LockWord}
@@ -22,17 +22,12 @@ use Rattle.joint.specs.nodes.Altering.{MovesTo}
 use Rattle.joint.specs.nodes.Solid.{AreAlike, IsLeft, IsSolid, IsWhole}
 use Rattle.joint.specs.nodes.View.{hung_at, child_at, node_of}
 use Rattle.joint.proofs.lemmas.nodes.Hanging.{put_here, put_beside, taken_here, taken_beside, full_is, empty_solid}
+use Rattle.joint.proofs.lemmas.nodes.OtherChild.{some_key}
+pub use Rattle.joint.proofs.lemmas.nodes.OtherChild.{no_value}
 
 module _ {X : Type 0} where
   abbrev Sub_map : map.FinMap nat_cmp X → map.FinMap nat_cmp X → Type 0
   Sub_map p m = (k : ℕ) → IsSome (map.get p k) → IsSome (map.get m k)
-
-  some_key : (m : map.FinMap nat_cmp X) (es : List (ℕ × X)) → map.entries m ≡ es → 0 < length es → (k : ℕ) × IsSome (map.get m k)
-  some_key m [] e l = absurd (omega (arith, l))
-  some_key m ((k, x) ∷ es) e l = (k, subst IsSome (sym (get_find m k ∙ ap (find k) e ∙ head)) refl)
-    where
-      head : find k ((k, x) ∷ es) ≡ Some x
-      head = rw (eq-eqb k k refl) refl
 
   -- a part of a map is no longer than it
   sub_len : (n : ℕ) (p m : map.FinMap nat_cmp X) → map.len p ≡ n → Sub_map p m → n ≤ map.len m
@@ -115,17 +110,6 @@ module _ {P : Type 0} where
   pub values_first : (n : Form Id P) (b : ℕ) (x : Child Id P) (u : P) → AreAlike n → IsFirst (children_of n) 0 b x → x ≡ Value u → (k d : ℕ) → child_at n k ≡ Below d → ⊥
   values_first n b x u (inl values) one e k d q = values k d q
   values_first n b x u (inr names) one e k d q = names b u (ap hung_at (one.here ∙ ap Some e))
-
-  none_first : (n : Form Id P) → ((b : ℕ) → 0 ≤ b → map.get (children_of n) b ≡ None) → (k d : ℕ) → child_at n k ≡ Below d → ⊥
-  none_first n none k d q = let z : Nothing ≡ Below d = sym (ap hung_at (none k (omega arith))) ∙ q in cc z
-
-  -- where no child is a value, neither is the first one from a byte on
-  pub no_value : (n : Form Id P) (from b : ℕ) (x : Child Id P) (u : P) → ((k : ℕ) (v : P) → child_at n k ≡ Holds v → ⊥) → IsFirst (children_of n) from b x → x ≡ Value u → ⊥
-  no_value n from b x u names one e = names b u (ap hung_at (one.here ∙ ap Some e))
-
-  -- the first child from a byte on of a solid node is no blank
-  pub no_blank : (n : Form Id P) (from b : ℕ) (x : Child Id P) → IsSolid (children_of n) → IsFirst (children_of n) from b x → x ≡ Blank → ⊥
-  no_blank n from b x solid one e = solid b (one.here ∙ ap Some e)
 
   -- a map without a key
   no_key : (m : map.FinMap nat_cmp (Child Id P)) → ((k : ℕ) → map.get m k ≡ None) → map.len m ≡ 0

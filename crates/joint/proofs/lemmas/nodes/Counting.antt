@@ -19,7 +19,6 @@ use Rattle.congee.proofs.Laws.{bytes_same, none_more, one_more, IsTally-counted}
 use Rattle.joint.specs.declared.id.Id.{Id}
 use Rattle.joint.specs.declared.nodes.slot.LockWord.{LockWord}
 use Rattle.joint.specs.nodes.Levels.{form_with, shape_of, nodes_from, nodes_of, IsNodeIn}
-use Rattle.joint.specs.nodes.Survey.{IsTree}
 use Rattle.joint.specs.nodes.View.{id_number, hung_at, shape}
 
 form_back : (form : NodeType) → form_with (capacity_of form) ≡ form
@@ -133,7 +132,3 @@ module _ {V : Type 0} (h : ℕ → Node V) where
       → IsTally (record { levels = stats.levels; kv_pairs = count }) (nodes_of h) pairs
   unfolding nodes_of
   all_counted stats pairs count is e = record { infos = is.infos; levels = is.levels; kv_pairs = e }
-
-  -- the root is in the tree
-  root_in : IsTree h → IsNodeIn h 0
-  root_in t = record { tree = t; linked = t.tree.root }

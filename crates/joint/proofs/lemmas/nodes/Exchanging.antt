@@ -15,14 +15,14 @@ use Rattle.congee.specs.declared.forms.base_node.Node.{Node as Form}
 use Rattle.joint.specs.declared.id.Id.{Id}
 use Rattle.joint.specs.declared.nodes.slot.Slot.{Slot}
 use Rattle.joint.specs.nodes.Altering.{Exchanges, MovesTo}
-use Rattle.joint.specs.nodes.Nodes.{Nodes, nodes, with_collector, frame, size, waits, waiting_size, sizes, waiting, waiting_bytes, IsTally, IsKept}
+use Rattle.joint.specs.nodes.Nodes.{Nodes, nodes, with_collector, size, waits, waiting_size, sizes, waiting, waiting_bytes, IsTally, IsKept}
 use Rattle.joint.specs.NameLemmas.{number_named}
 use Rattle.joint.specs.Names.{number, named}
 use Rattle.joint.specs.nodes.Solid.{IsWhole}
 use Rattle.joint.specs.nodes.CellMarks.{mark_at}
 use Rattle.joint.specs.nodes.View.{heap, view, hung_at, count_in, child_in, node_of}
 use Rattle.joint.proofs.lemmas.nodes.Altering.{same_or}
-use Rattle.joint.proofs.lemmas.nodes.NodesInvariant.{some_injective, node_is, node_in, orderly_stored, same_frame}
+use Rattle.joint.proofs.lemmas.nodes.NodesInvariant.{some_injective, node_is, node_in, orderly_stored}
 
 -- an empty node has no children
 bare_view : {P : Type 0} (g : Bool) (v : Option (Slot P)) → (view g v).count ≡ 0 → (b : ℕ) → (view g v).children b ≡ Nothing
@@ -122,9 +122,6 @@ module _ {P : Type 0} (F : Nodes P) (c' : State (Slot P) (Unit {0})) (beside : c
       }
 
   module _ (G : Nodes P) (view_is : F ≡ G) where
-    frame_exchanged : frame (with_collector F c') ≡ frame G
-    frame_exchanged = same_frame F c' beside ex.most ex.turn_max ∙ ap frame view_is
-
     -- the nodes then are those that a take-over of the first node's children by the second gives
     pub gives_exchanged : TakeOverGives (nodes G) (number m) (number n) (heap c'.store)
     gives_exchanged =

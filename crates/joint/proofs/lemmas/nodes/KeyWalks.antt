@@ -17,12 +17,13 @@ use Rattle.congee.specs.Notes.{Note, Tree}
 use Rattle.congee.specs.protocol.Regions.{IsRegion, span, start_at}
 use Rattle.congee.specs.protocol.Sweeps.{Lacked}
 use Rattle.congee.specs.protocol.SweepKnown.{end_of}
-use Rattle.congee.proofs.Laws.{whole, start_mono, span_pos, region_top, child_after, child_before, lacks_bytes, lacks_beside, has_value}
+use Rattle.congee.proofs.Laws.{whole, start_mono, span_pos, child_after, child_before, lacks_bytes, lacks_beside, has_value}
 use Rattle.joint.specs.declared.id.Id.{Id}
 use Rattle.joint.specs.declared.nodes.slot.LockWord.{LockWord}
 use Rattle.joint.specs.nodes.Levels.{IsNodeIn}
 use Rattle.joint.specs.nodes.Survey.{IsTree, AllAbove, Ascend, Has, AreKeys, AreKeysBelow, PutsKeys}
 use Rattle.joint.specs.nodes.View.{id_number, hung_at, shape}
+use Rattle.joint.proofs.lemmas.nodes.Surveying.{within}
 
 is_none : {V : Type 0} (o : Option V) → o ≡ None → IsSome o → ⊥
 is_none {V} o e s = let z : IsSome {T = V} None = subst IsSome e s in cc z
@@ -117,27 +118,12 @@ module _ {V : Type 0} (h : ℕ → Node V) (n : ℕ) (i : IsNodeIn h n) (x : Reg
   abbrev at : ℕ → ℕ
   at b = start_at x.base x.depth b
 
-  within : (b k : ℕ) → b ≤ 256 → x.base ≤ k → k < at b → (k < 2 ^ 64) × (k < x.base + span x.depth)
-  within b k small lo hi =
-      let up = start_mono (h n).prefix x.base x.depth r b 256 small in
-      let e = whole (h n).prefix x.base x.depth r in
-      let top = region_top (h n).prefix x.base x.depth r in
-      (omega (arith, hi, up, e, top), omega (arith, hi, up, e))
-
   -- bytes at which nothing hangs
   past : (m : Pairs V) → IsMapOf h m → (from b : ℕ) (ks : List ℕ) → from ≤ b → b ≤ 256 → ((q : ℕ) → from ≤ q → q < b → (h n).children q ≡ Nothing) → AreKeysBelow m (at from) ks → AreKeysBelow m (at b) ks
   past m st from b ks l small none k =
       gap m (at from) (at b) ks (start_mono (h n).prefix x.base x.depth r from b l) (λ q lo hi.
-      let w = within b q small (omega (arith, lo)) hi in
+      let w = within h n i x r b q small hi in
       lacks m q (lacks_bytes a h t m st [] n x.base x.depth i.linked r from b q w.0 (omega (arith, lo)) w.1 lo hi none)) k
-
-  -- before the first byte of a node no key of it is put
-  pub starts : (old : List ℕ) → PutSoFar h n x 0 old old
-  starts old = record {
-    bound = omega arith;
-    region = r;
-    keys = λ m st k. (let e : x.base ≡ at 0 = omega arith in let P : ℕ → Type 0 = λ b. AreKeysBelow m b old in subst P e k);
-  }
 
   module _ (y : Form Id V) (w : LockWord) (e : shape y w ≡ h n) where
     hangs : (b : ℕ) (o : Option (Child Id V)) → get (children_of y) b ≡ o → (h n).children b ≡ hung_at o
@@ -173,7 +159,7 @@ module _ {V : Type 0} (h : ℕ → Node V) (n : ℕ) (i : IsNodeIn h n) (x : Reg
               region = r;
               keys = λ m st k.
                   let beside : (q : ℕ) → at b ≤ q → q < at (b + 1) → (q < z.base) ⊎ (end_of z ≤ q) → get m q ≡ None =
-                  (λ q f g ne. lacks m q (lacks_beside a h t m st [] n x.base x.depth i.linked r b (id_number c) z small hung p.region q (within (b + 1) q (omega (arith, small)) (omega (arith, f)) g).0 f g ne)) in
+                  (λ q f g ne. lacks m q (lacks_beside a h t m st [] n x.base x.depth i.linked r b (id_number c) z small hung p.region q (within h n i x r (b + 1) q (omega (arith, small)) g).0 f g ne)) in
                   let first_part : AreKeysBelow m z.base mid = gap m (at b) z.base mid lo (λ q f g. beside q f (omega (arith, g, hi, pos)) (inl g)) (upto m st k) in
                   gap m (end_of z) (at (b + 1)) new hi (λ q f g. beside q (omega (arith, f, lo)) g (inr f)) (p.keys m st first_part);
             }

@@ -9,7 +9,7 @@ use Rattle.std.proofs.lemmas.Bool.Decides.{nat_tests}
 use Rattle.std.proofs.lemmas.List.{length-map}
 use Rattle.judge.specs.Answer.{Pairs}
 use Rattle.joint.specs.nodes.Survey.{AllAbove, Ascend, Has, AreKeys, keys_of}
-use Rattle.joint.proofs.lemmas.nodes.SlotViews.{true_of_T, less_of_cmp}
+use Rattle.congee.proofs.Laws.{true_of_T, less_of_cmp}
 
 both : (a b : Bool) → T (a && b) → T a × T b
 both true b t = (tt, t)

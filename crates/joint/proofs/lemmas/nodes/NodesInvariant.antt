@@ -21,10 +21,6 @@ use Rattle.joint.specs.nodes.CellMarks.{mark_at}
 use Rattle.joint.specs.nodes.View.{heap, view, node_of, id_number, out}
 use Rattle.joint.proofs.lemmas.nodes.Altering.{same_or, swapped, ReplacedSets}
 
-from : {A : Type 0} → A → Option A → A
-from d None = d
-from d (Some y) = y
-
 -- two values are the same where the options with them are
 pub some_injective : {A : Type 0} (x y : A) → Some x ≡ Some y → x ≡ y
 some_injective x y e = cc
@@ -48,9 +44,6 @@ module _ {P : Type 0} (st : Store (Slot P)) (n : Name) where
   is_there x = stands_in (was_given st n) (value_at st n) (subst Stands node_here x)
 
 module _ {P : Type 0} (st : Store (Slot P)) (n : Name) (s s' : Slot P) (st' : Store (Slot P)) (alters : Alters st n s s' st') where
-  node_old : heap st (number n) ≡ node_of s
-  node_old = node_is st n s alters.was
-
   node_new : heap st' (number n) ≡ node_of s'
   node_new = node_is st' n s' alters.sets.value
 
@@ -58,9 +51,6 @@ module _ {P : Type 0} (st : Store (Slot P)) (n : Name) (s s' : Slot P) (st' : St
   nodes_apart k ne =
       let apart : named k ≢ n = λ e. ne (sym (number_named k) ∙ ap number e) in
       ap (λ g. view g (value_at st' (named k))) (alters.sets.given (named k) apart) ∙ ap (λ v. view (was_given st (named k)) v) (alters.sets.others (named k) apart)
-
-  node_altered : SameBut (heap st) (number n) (node_of s') (heap st')
-  node_altered = record { after = node_new; others = nodes_apart }
 
 -- a collector stays orderly where its cells alone change
 pub orderly_stored : {P : Type 0} (s c' : State (Slot P) (Unit {0})) → c' ≡ with_store s c'.store → Orderly s → Orderly c'

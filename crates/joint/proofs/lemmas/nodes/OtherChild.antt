@@ -4,7 +4,7 @@ use Rattle.std.specs.Ordering.{nat_cmp}
 use Rattle.std.specs.FinMap as map
 use Rattle.std.proofs.lemmas.Bool.{cases_lt, eq-eqb}
 use Rattle.congee.specs.declared.forms.child.Child.{Child}
-use Rattle.congee.specs.declared.forms.child.Child.TheVariants.{Blank, Node as Sub, Value}
+use Rattle.congee.specs.declared.forms.child.Child.TheVariants.{Node as Sub, Value}
 use Rattle.congee.specs.declared.forms.base_node.Node.{Node as Form}
 use Rattle.congee.specs.forms.Bytes.{IsFirst}
 use Rattle.congee.specs.forms.Forms.{children_of}
@@ -16,6 +16,7 @@ use Rattle.joint.specs.declared.nodes.slot.LockWord.{LockWord}
 use Rattle.joint.specs.nodes.Solid.{IsSolid}
 use Rattle.joint.specs.nodes.View.{child_at, hung_at, id_number, shape}
 use Rattle.joint.proofs.lemmas.nodes.Hanging.{taken_here, taken_beside}
+use Rattle.joint.proofs.lemmas.nodes.ByteLooks.{is_some_of_hung}
 
 module _ {X : Type 0} where
   -- a map of two keys has no third
@@ -28,7 +29,8 @@ module _ {X : Type 0} where
       let lx = len_less (map.remove (map.remove m a) b) x px2 in
       absurd (omega (arith, la, lb, lx, two))
 
-  some_key : (m : map.FinMap nat_cmp X) (es : List (ℕ × X)) → map.entries m ≡ es → 0 < length es → (k : ℕ) × IsSome (map.get m k)
+  -- a map that isn't empty has a key
+  pub some_key : (m : map.FinMap nat_cmp X) (es : List (ℕ × X)) → map.entries m ≡ es → 0 < length es → (k : ℕ) × IsSome (map.get m k)
   some_key m [] e l = absurd (omega (arith, l))
   some_key m ((k, x) ∷ es) e l = (k, subst IsSome (sym (get_find m k ∙ ap (find k) e ∙ head)) refl)
     where
@@ -45,12 +47,8 @@ module _ {X : Type 0} where
       (key.0, (apart, subst IsSome (taken_beside m a key.0 apart) key.1))
 
 module _ {P : Type 0} (n : Form Id P) (solid : IsSolid (children_of n)) (two : map.len (children_of n) ≡ 2) (byte : ℕ) (there : child_at n byte ≢ Nothing) where
-  hung_is : (o : Option (Child Id P)) → hung_at o ≢ Nothing → IsSome o
-  hung_is None f = absurd (f refl)
-  hung_is (Some x) f = refl
-
   here : IsSome (map.get (children_of n) byte)
-  here = hung_is (map.get (children_of n) byte) there
+  here = is_some_of_hung (map.get (children_of n) byte) there
 
   other_is : (w : LockWord) (at : ℕ) (x : Child Id P) (c : Id) → at < 256 → at ≢ byte → map.get (children_of n) at ≡ Some x → x ≡ Sub c → IsOther (shape n w) byte (id_number c)
   other_is w at x c fits apart e q = record {
@@ -89,7 +87,3 @@ module _ {P : Type 0} (n : Form Id P) (solid : IsSolid (children_of n)) (two : m
 -- where no child is a value, neither is the first one from a byte on
 pub no_value : {P : Type 0} (n : Form Id P) (from at : ℕ) (x : Child Id P) (v : P) → ((k : ℕ) (u : P) → child_at n k ≡ Holds u → ⊥) → IsFirst (children_of n) from at x → x ≡ Value v → ⊥
 no_value n from at x v nodes one e = nodes at v (ap hung_at (one.here ∙ ap Some e))
-
--- the first child from a byte on is no blank where no byte has one
-pub no_blank : {P : Type 0} (n : Form Id P) (from at : ℕ) (x : Child Id P) → IsSolid (children_of n) → IsFirst (children_of n) from at x → x ≡ Blank → ⊥
-no_blank n from at x solid one e = solid at (one.here ∙ ap Some e)

@@ -34,7 +34,8 @@ module _ {V : Type 0} (h : ℕ → Node V) (n : ℕ) (i : IsNodeIn h n) (x : Reg
   abbrev at : ℕ → ℕ
   at b = start_at x.base x.depth b
 
-  within : (b k : ℕ) → b ≤ 256 → k < at b → (k < 2 ^ 64) × (k < x.base + span x.depth)
+  -- the keys before a byte's first are in the node's range, if its first is
+  pub within : (b k : ℕ) → b ≤ 256 → k < at b → (k < 2 ^ 64) × (k < x.base + span x.depth)
   within b k small hi =
       let up = start_mono (h n).prefix x.base x.depth r b 256 small in
       let e = whole (h n).prefix x.base x.depth r in

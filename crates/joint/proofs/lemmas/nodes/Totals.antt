@@ -18,7 +18,7 @@ use Rattle.joint.specs.declared.nodes.slot.Slot.{Slot}
 use Rattle.joint.specs.nodes.Altering.{Empties}
 use Rattle.joint.specs.nodes.Nodes.{of_value, of_cell, total, size_in, size, waits, waiting_size, waiting, waiting_bytes}
 use Rattle.joint.proofs.lemmas.nodes.Altering.{cell_of, inside}
-use Rattle.joint.proofs.lemmas.nodes.SlotViews.{both_left, both_right}
+use Rattle.congee.proofs.Laws.{both_true}
 
 -- a node has at most 2,104 bytes
 pub size_bound : (f : NodeType) → size_of f ≤ 2104
@@ -95,12 +95,12 @@ module _ {T : Type 0} where
       let low : Bool = nat_lt n.cell st.most in
       let none : Bool = is_none (cell_at st n.cell).value in
       let free : Bool = nat_le (cell_at st n.cell).turns st.turn_max in
-      let u : (low && none) ≡ true = both_left (low && none) free next.usable in
-      let a : nat_lt n.cell st.most ≡ true = both_left low none u in
-      let d : nat_le (cell_at st n.cell).turns st.turn_max ≡ true = both_right (low && none) free next.usable in
+      let u : (low && none) ≡ true = (both_true (low && none) free next.usable).0 in
+      let a : nat_lt n.cell st.most ≡ true = (both_true low none u).0 in
+      let d : nat_le (cell_at st n.cell).turns st.turn_max ≡ true = (both_true (low && none) free next.usable).1 in
       record {
         below = grind (arith, nat_tests, a);
-        empty = nothing_in (cell_at st n.cell).value (both_right low none u);
+        empty = nothing_in (cell_at st n.cell).value (both_true low none u).1;
         turn = next.turn;
         last = (let t : (cell_at st n.cell).turns ≤ st.turn_max = grind (arith, nat_tests, d) in omega (arith, t, next.turn));
         near = next.near;

@@ -1,6 +1,6 @@
 -- The entry that a step of a call in flight appends to the journal.
 use Rattle.std.proofs.Common.{◌≡◌, ℕ, Bool, true, false, List, [], ◌∷◌, ◌++◌, length, refl, sym, ◌∙◌, ap, subst}
-use Rattle.std.specs.Prelude.{Option, None, Some, not, nat_eq, option_map, slice_get}
+use Rattle.std.specs.Prelude.{Option, None, Some, not, nat_eq, slice_get}
 use Rattle.std.proofs.lemmas.Bool.{false≢true}
 use Rattle.std.proofs.lemmas.List.{append-nil}
 use Rattle.judge.specs.declared.journal.Call.{Call as Entered}
@@ -196,12 +196,3 @@ appended_at xs ys o q = ap (λ l. slice_get l (length xs)) q ∙ at xs o where
   at [] None = refl
   at [] (Some a) = refl
   at (x ∷ xs) o = at xs o
-
--- what a worker has in flight, as it is told
-flight_is : (o : Option (Request ℕ)) (c : Op ℕ) (given : Option (Option ℕ)) → (option_map {U = Op ℕ × Option (Option ℕ)} (λ (q : Request ℕ). (q.op, q.answer)) o ≡ Some (c, given) → o ≡ Some (record { op = c; answer = given }))
-flight_is None c given q = absurd (cc q)
-flight_is (Some r) c given q = let same : (r.op, r.answer) ≡ (c, given) = some_injective _ _ q in ap (λ (y : Op ℕ × Option (Option ℕ)). Some (record { op = y.0; answer = y.1 })) same
-
--- what a worker has in flight is told so
-flight_tells : (o : Option (Request ℕ)) (c : Op ℕ) (given : Option (Option ℕ)) → o ≡ Some (record { op = c; answer = given }) → option_map {U = Op ℕ × Option (Option ℕ)} (λ (q : Request ℕ). (q.op, q.answer)) o ≡ Some (c, given)
-flight_tells o c given q = ap (option_map {U = Op ℕ × Option (Option ℕ)} (λ (q : Request ℕ). (q.op, q.answer))) q

@@ -105,9 +105,6 @@ module _ {V : Type 0} (same : V → V → Bool) (always : Bool) (s s' : World V)
   abbrev Begun : Op V → Outcome V → Flights V → Type 0
   Begun op o fs' = Agrees (if is_in_flight o then slice_set qs w (asked op) else qs) fs'
 
-  accepted_as : (op : Op V) (o : Outcome V) (fs' : Flights V) → o ≡ Running → Agrees (slice_set qs w (asked op)) fs' → Begun op o fs'
-  accepted_as op o fs' e x = let P : Outcome V → Type 0 = λ y. Begun op y fs' in subst P (sym e) x
-
   tree_begin : (op : Op V) (p : Point V) (r : Report V) (l : Line V) (fs' : Flights V) (o : Outcome V) → target op ≡ target.Tree p → l.step.worker ≡ w → l.report.outcome ≡ o → (is_in_flight o ≡ true → (fs w ≡ Over) × (w < length s.calls)) → BeginsOr fs m p o l fs' → Begun op o fs'
   tree_begin op p r l fs' (Refused e) t we q over x = stays_begin op r l fs' false (λ z. absurd (false≢true z)) x
   tree_begin op p r l fs' (Done d) t we q over x = stays_begin op r l fs' false (λ z. absurd (false≢true z)) (ends_stays fs m p d l fs' x)

@@ -1,6 +1,6 @@
 -- One step of the whole machine, on the map and in the journal.
 use Rattle.std.proofs.Common.{◌≡◌, ◌<◌, ◌≤◌, ℕ, arith, Bool, true, false, ◌++◌, length, refl, sym, ◌∙◌, ap, subst, inl, inr}
-use Rattle.std.specs.Prelude.{Option, None, Some, ◌&&◌, is_some, slice_get, if◌then◌else◌}
+use Rattle.std.specs.Prelude.{Option, None, Some, is_some, slice_get, if◌then◌else◌}
 use Rattle.std.proofs.lemmas.List.{append-nil}
 use Rattle.std.proofs.lemmas.Option.{slice_get_cases}
 use Rattle.judge.specs.declared.journal.Entry.{Entry}
@@ -28,6 +28,7 @@ use Rattle.joint.specs.engine.Engine.{World}
 use Rattle.joint.proofs.lemmas.world.JournalFull.{refused_flights, refused_map}
 use Rattle.joint.proofs.lemmas.world.Logged.{event_maps, kept_line, writes_kept}
 use Rattle.joint.proofs.lemmas.world.KeptMarks.{event_map}
+use Rattle.congee.proofs.Laws.{both_true}
 
 -- what a worker asked for agrees with its call however it is watched
 module _ {V : Type 0} where
@@ -100,15 +101,11 @@ module _ {V : Type 0} (same : V → V → Bool) (always : Bool) where
           places = x.places;
         }
 
-    and_left : (a b : Bool) → (a && b) ≡ true → a ≡ true
-    and_left true b e = refl
-    and_left false b e = e
-
     gives : (event : Event V) (r : Report V) → step.event ≡ event → finds_journal_full s step.worker event ≡ true → FindsJournalFull s step.worker r s' → Mapped s step r s' fs m
     gives Register r q g x = absurd (cc g)
     gives (Begin op) r q g x = absurd (cc g)
     gives (Go noise) r q g x =
-        let b : is_reserving (slice_get s.calls step.worker) ≡ true = and_left _ _ g in
+        let b : is_reserving (slice_get s.calls step.worker) ≡ true = (both_true _ _ g).0 in
         let P : World V → Type 0 = λ y. AreInFlight y (with_flight fs step.worker Over) in
         let Q : Event V → Type 0 = λ y. EventMap same fs m y (record { step = record { worker = step.worker; event = y }; report = r; entry = None; pairs = m }) (with_flight fs step.worker Over) in
         let R : Event V → Type 0 = λ y. EventMap same fs m step.event (record { step = record { worker = step.worker; event = y }; report = r; entry = None; pairs = m }) (with_flight fs step.worker Over) in

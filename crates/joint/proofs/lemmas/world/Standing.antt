@@ -10,8 +10,6 @@ use Rattle.joint.specs.nodes.Nodes.{Nodes, nodes}
 use Rattle.joint.specs.engine.Intact.{IsIntact}
 use Rattle.joint.specs.engine.Safety.{IsSafe}
 use Rattle.joint.specs.nodes.Survey.{IsTree}
-use Rattle.joint.specs.world.World.{Holds}
-use Rattle.joint.specs.engine.Engine.{World}
 
 -- the nodes are a tree that stands, where locks and nodes are held by calls alone that are between their steps
 settled_tree : {C V : Type 0} (num : C → ℕ) (same : V → V → Bool) (always : Bool) (h : ℕ → Node V) (ms : List (Machine C V)) → Settled num same always h ms → IsTree h
@@ -24,6 +22,3 @@ module _ {V : Type 0} (same : V → V → Bool) (always : Bool) where
   -- where what always holds of nodes and calls holds, the nodes are a tree that stands
   pub intact_tree : (s : Nodes V) (ms : List (Machine Id V)) (ks : List (InFlight V)) → IsIntact same always s ms ks → IsTree (nodes s)
   intact_tree s ms ks i = safe_tree s ms i.safe
-
-  holds_tree : (s : World V) → Holds same always s → IsTree (nodes s.forest)
-  holds_tree s h = intact_tree s.forest s.machines s.calls h.0

@@ -206,7 +206,8 @@ module _ {V : Type 0} (same : V → V → Bool) (always : Bool) (laws : CallLaws
   marked_waits n Back e w = absurd (let q : false ≡ true = sym w.2 ∙ holdings.spent n (ap is_spent e) in false≢true q)
   marked_waits n Destroyed e w = absurd (let q : false ≡ true = sym w.2 ∙ holdings.spent n (ap is_spent e) in false≢true q)
 
-  handed_waits : (n : ℕ) → is_waiting (nodes s.forest n) ≡ true → IsWaiting s n
+  -- a node that was handed over and stands waits
+  pub handed_waits : (n : ℕ) → is_waiting (nodes s.forest n) ≡ true → IsWaiting s n
   handed_waits n w = marked_waits n (notes n).status refl (parts_of (nodes s.forest n).retired (nodes s.forest n).made (nodes s.forest n).destroyed w)
 
   -- one that a call has taken out
