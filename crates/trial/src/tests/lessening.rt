@@ -85,7 +85,7 @@ const LEAF: [(u64, u64); 18] = [
     (0, 0),
 ];
 
-/// The same of the children of an inner node, which stands over two of them or more.
+/// The same of the children of an inner node. There is none over a single child.
 const INNER: [(u64, u64); 20] = [
     (1, 0),
     (2, 64),
@@ -109,8 +109,8 @@ const INNER: [(u64, u64); 20] = [
     (0, 0),
 ];
 
-/// The distance of an inner node's children, by which its prefix has six bytes to one; how far the second of two keys below each
-/// child is from the first; and the sizes of the nodes below each.
+/// How far the children of an inner node are apart, whose prefix has six bytes at the least distance and one at the greatest; how
+/// far the second key below each child is from the first; and the size of the nodes below each.
 const CHILDREN: [(u64, u64, u64); 17] = [
     // One key alone: its leaf lies in its parent's place, and counts as a least node.
     (1 << 8, 0, 64),
@@ -161,8 +161,8 @@ fn brings(
     Ok(())
 }
 
-/// Whether a node goes up and down as the rows say, with its children at this distance, two keys below each, or one where they are
-/// the same, and nodes of so many bytes.
+/// Whether a node goes up and down as the rows say, whose children stand at this distance, each with two keys, or one where both
+/// are the same, and with nodes of so many bytes. Each key that is there is found at each row, and the root is charged as well.
 fn goes(
     alloc: Global,
     distance: u64,
@@ -172,20 +172,20 @@ fn goes(
 ) -> Result<bool, Fail> {
     let mut tree = with_keys(alloc, DefaultAllocator::new(), 0, 0, 1)?;
     let mut now = 0;
-    let mut goes = true;
+    let mut is_right = true;
     for (count, size) in rows {
         brings(&mut tree, now, *count, distance, beside)?;
         now = *count;
         let children = now.wrapping_mul(below);
-        goes &= tree.charged() == size.wrapping_add(children).wrapping_add(2104);
+        is_right &= tree.charged() == size.wrapping_add(children).wrapping_add(2104);
         for place in 0..now {
             let key = key_at(place, distance);
             let other = key.wrapping_add(beside);
-            goes &= tree.get(&key) == Some(key);
-            goes &= tree.get(&other) == Some(other);
+            is_right &= tree.get(&key) == Some(key);
+            is_right &= tree.get(&other) == Some(other);
         }
     }
-    Ok(goes && tree.is_empty())
+    Ok(is_right && tree.is_empty())
 }
 
 #[test]
