@@ -61,32 +61,10 @@ fn with_keys<A: Allocator>(
     Ok(tree)
 }
 
-/// How many values a leaf comes to have, one row after another, and its size then. It goes up and then down: a greater form comes
-/// with the value that no longer fits, a lesser one with the removal that leaves 40, 12 or 3; one that has come stays where a
-/// few values come back. Without a value it goes.
-const LEAF: [(u64, u64); 18] = [
-    (1, 64),
-    (4, 64),
-    (5, 168),
-    (16, 168),
-    (17, 672),
-    (48, 672),
-    (49, 2104),
-    (41, 2104),
-    (40, 672),
-    (48, 672),
-    (13, 672),
-    (12, 168),
-    (16, 168),
-    (4, 168),
-    (3, 64),
-    (4, 64),
-    (1, 64),
-    (0, 0),
-];
-
-/// The same of the children of an inner node. There is none over a single child.
-const INNER: [(u64, u64); 20] = [
+/// How many children a node comes to have, one row after another, and its size then. It goes up and then down: a greater form comes
+/// with the child that no longer fits, a lesser one with the removal that leaves 40, 12 or 3, and one that has come stays where a
+/// few come back. There is no inner node over a single child.
+const ROWS: [(u64, u64); 20] = [
     (1, 0),
     (2, 64),
     (4, 64),
@@ -109,10 +87,13 @@ const INNER: [(u64, u64); 20] = [
     (0, 0),
 ];
 
-/// How far the children of an inner node are apart, whose prefix has six bytes at the least distance and one at the greatest; how
-/// far the second key below each child is from the first; and the size of the nodes below each.
-const CHILDREN: [(u64, u64, u64); 17] = [
-    // One key alone: its leaf lies in its parent's place, and counts as a least node.
+/// How far the children of a node are apart: those of a leaf, whose prefix has seven bytes, and those of an inner node, whose prefix
+/// has six bytes at the least distance and one at the greatest; how far the second key below each child is from the first; and the
+/// size of the nodes below each.
+const NODES: [(u64, u64, u64); 18] = [
+    // A leaf's values.
+    (1, 0, 0),
+    // One key below each child: its leaf lies in its parent's place, and counts as a least node.
     (1 << 8, 0, 64),
     (1 << 16, 0, 64),
     (1 << 24, 0, 64),
@@ -163,20 +144,16 @@ fn brings(
 
 /// Whether a node goes up and down as the rows say, whose children stand at this distance, each with two keys, or one where both
 /// are the same, and with nodes of so many bytes. Each key that is there is found at each row, and the root is charged as well.
-fn goes(
-    alloc: Global,
-    distance: u64,
-    beside: u64,
-    below: u64,
-    rows: &[(u64, u64)],
-) -> Result<bool, Fail> {
+fn goes(alloc: Global, distance: u64, beside: u64, below: u64) -> Result<bool, Fail> {
     let mut tree = with_keys(alloc, DefaultAllocator::new(), 0, 0, 1)?;
     let mut now = 0;
     let mut is_right = true;
-    for (count, size) in rows {
-        brings(&mut tree, now, *count, distance, beside)?;
-        now = *count;
-        let children = now.wrapping_mul(below);
+    for (count, size) in ROWS {
+        brings(&mut tree, now, count, distance, beside)?;
+        now = count;
+        // A value that is alone has a least leaf.
+        let each = if now == 1 { below.max(64) } else { below };
+        let children = now.wrapping_mul(each);
         is_right &= tree.charged() == size.wrapping_add(children).wrapping_add(2104);
         for place in 0..now {
             let key = key_at(place, distance);
@@ -190,10 +167,9 @@ fn goes(
 
 #[test]
 fn nodes_go_up_and_down_through_all_forms(rt: HostRuntime) -> Result<(), Fail> {
-    assert!(rt; goes(rt.alloc(), 1, 0, 0, &LEAF)?);
-    for (distance, beside, below) in CHILDREN {
+    for (distance, beside, below) in NODES {
         assert!(rt;
-            goes(rt.alloc(), distance, beside, below, &INNER)?,
+            goes(rt.alloc(), distance, beside, below)?,
             "{distance} and {beside}"
         );
     }
