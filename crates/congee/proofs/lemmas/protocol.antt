@@ -42,7 +42,7 @@ pub mod SweepRely
 pub mod SweepNames
 pub mod SweepFlights
 pub mod SweepRanges
-pub mod Seats
+pub mod Stamps
 pub mod RegionBytes
 pub mod Bounds
 pub mod Causes

@@ -26,75 +26,75 @@ use Rattle.congee.specs.declared.keys.TheConstants.{KEY_BYTES}
 use Rattle.congee.specs.declared.forms.prefix.TheConstants.{MAX_PREFIX_LEN}
 
 -- the nodes whose lock words a call is yet to compare with the ones that it took
-abbrev pub seats_if : {C : Type 0} → Option (Stamp C) → List (Stamp C)
-seats_if None = []
-seats_if (Some p) = p ∷ []
+abbrev pub stamps_if : {C : Type 0} → Option (Stamp C) → List (Stamp C)
+stamps_if None = []
+stamps_if (Some p) = p ∷ []
 
 -- that of the node above both, if there is one
-abbrev pub seats_top : {C : Type 0} → Option (Parent C) → List (Stamp C)
-seats_top None = []
-seats_top (Some p) = p.seat ∷ []
+abbrev pub stamps_top : {C : Type 0} → Option (Parent C) → List (Stamp C)
+stamps_top None = []
+stamps_top (Some p) = p.stamp ∷ []
 
 -- those of the nodes above, if there are any
-abbrev pub seats_over : {C : Type 0} → Option (Over C) → List (Stamp C)
-seats_over None = []
-seats_over (Some u) = u.near.seat ∷ seats_top u.far
+abbrev pub stamps_over : {C : Type 0} → Option (Over C) → List (Stamp C)
+stamps_over None = []
+stamps_over (Some u) = u.near.stamp ∷ stamps_top u.far
 
 -- those of the node at hand and of the nodes above
-abbrev pub seats_site : {C : Type 0} → Site C → List (Stamp C)
-seats_site s = s.at ∷ seats_over s.above
+abbrev pub stamps_site : {C : Type 0} → Site C → List (Stamp C)
+stamps_site s = s.at ∷ stamps_over s.above
 
 -- those of a plan
-abbrev pub seats_plan : {C : Type 0} → Plan C → List (Stamp C)
-seats_plan (Here check one) = one.at ∷ seats_if check
-seats_plan (Above two) = two.above.seat ∷ two.at ∷ []
+abbrev pub stamps_plan : {C : Type 0} → Plan C → List (Stamp C)
+stamps_plan (Here check one) = one.at ∷ stamps_if check
+stamps_plan (Above two) = two.above.stamp ∷ two.at ∷ []
 
 -- those of a scan's way
-abbrev pub seats_rungs : {C : Type 0} → List (Rung C) → List (Stamp C)
-seats_rungs [] = []
-seats_rungs (r ∷ rest) = r.at ∷ seats_rungs rest
+abbrev pub stamps_rungs : {C : Type 0} → List (Rung C) → List (Stamp C)
+stamps_rungs [] = []
+stamps_rungs (r ∷ rest) = r.at ∷ stamps_rungs rest
 
 -- those of a scan, by its stage
-abbrev pub seats_sweep : {C V : Type 0} → Scan C V → Stage C V → List (Stamp C)
-seats_sweep s stage.New = []
-seats_sweep s (stage.Enter n x) = seats_rungs (rungs_of s.above)
-seats_sweep s (stage.Look r) = r.at ∷ seats_rungs (rungs_of s.above)
-seats_sweep s (stage.Check r x) = r.at ∷ seats_rungs (rungs_of s.above)
-seats_sweep s stage.Full = []
-seats_sweep s stage.Over = []
+abbrev pub stamps_scan : {C V : Type 0} → Scan C V → Stage C V → List (Stamp C)
+stamps_scan s stage.New = []
+stamps_scan s (stage.Enter n x) = stamps_rungs (rungs_of s.above)
+stamps_scan s (stage.Look r) = r.at ∷ stamps_rungs (rungs_of s.above)
+stamps_scan s (stage.Check r x) = r.at ∷ stamps_rungs (rungs_of s.above)
+stamps_scan s stage.Full = []
+stamps_scan s stage.Over = []
 
 -- those of a call, by its phase
-abbrev pub seats : {C V : Type 0} → Phase C V → List (Stamp C)
-seats New = []
-seats (Version above n) = seats_over above
-seats (Read above at) = at ∷ seats_over above
-seats (Check s c) = seats_site s
-seats (CheckUncopied at) = at ∷ []
-seats (CheckMiss p at common byte) = p.seat ∷ at ∷ []
-seats (CheckDown p at c) = p ∷ at.near.seat ∷ seats_top at.far
-seats (CheckOld p s v) = p ∷ seats_site s
-seats (MakeLeaf s) = seats_site s
-seats (MakeGreater s p leaf) = p.seat ∷ s.at ∷ []
-seats (MakeTop p at common byte) = p.seat ∷ at ∷ []
-seats (MakeBeside p at common byte top) = p.seat ∷ at ∷ []
-seats (MakeLesser s p g r) = p.seat ∷ s.at ∷ seats_top g
-seats (AskOld s v) = seats_site s
-seats (AskNew plan) = seats_plan plan
-seats (Confirm at r) = at ∷ []
-seats (CheckAbove p one r) = p ∷ one.at ∷ []
-seats (UpgradeOne one r) = one.at ∷ []
-seats (ChangeOne one r) = []
-seats (UpgradeTop g two r) = g.seat ∷ two.above.seat ∷ two.at ∷ []
-seats (UpgradeAbove two r) = two.above.seat ∷ two.at ∷ []
-seats (UpgradeBelow two r) = two.at ∷ []
-seats (ChangeTwo two r) = []
-seats (Obsolete n next p r) = []
-seats (Retire n next p r) = []
-seats (UnlockBelow n p r) = []
-seats (Unlock n r) = []
-seats (Unwind n next e) = []
-seats (Sweep s) = seats_sweep s s.stage
-seats Ended = []
+abbrev pub stamps : {C V : Type 0} → Phase C V → List (Stamp C)
+stamps New = []
+stamps (Version above n) = stamps_over above
+stamps (Read above at) = at ∷ stamps_over above
+stamps (Check s c) = stamps_site s
+stamps (CheckUncopied at) = at ∷ []
+stamps (CheckMiss p at common byte) = p.stamp ∷ at ∷ []
+stamps (CheckDown p at c) = p ∷ at.near.stamp ∷ stamps_top at.far
+stamps (CheckOld p s v) = p ∷ stamps_site s
+stamps (MakeLeaf s) = stamps_site s
+stamps (MakeGreater s p leaf) = p.stamp ∷ s.at ∷ []
+stamps (MakeTop p at common byte) = p.stamp ∷ at ∷ []
+stamps (MakeBeside p at common byte top) = p.stamp ∷ at ∷ []
+stamps (MakeLesser s p g r) = p.stamp ∷ s.at ∷ stamps_top g
+stamps (AskOld s v) = stamps_site s
+stamps (AskNew plan) = stamps_plan plan
+stamps (Confirm at r) = at ∷ []
+stamps (CheckAbove p one r) = p ∷ one.at ∷ []
+stamps (UpgradeOne one r) = one.at ∷ []
+stamps (ChangeOne one r) = []
+stamps (UpgradeTop g two r) = g.stamp ∷ two.above.stamp ∷ two.at ∷ []
+stamps (UpgradeAbove two r) = two.above.stamp ∷ two.at ∷ []
+stamps (UpgradeBelow two r) = two.at ∷ []
+stamps (ChangeTwo two r) = []
+stamps (Obsolete n next p r) = []
+stamps (Retire n next p r) = []
+stamps (UnlockBelow n p r) = []
+stamps (Unlock n r) = []
+stamps (Unwind n next e) = []
+stamps (Sweep s) = stamps_scan s s.stage
+stamps Ended = []
 
 -- each lock word is the one taken
 abbrev pub AreTaken : {C V : Type 0} → (C → ℕ) → (ℕ → Node V) → List (Stamp C) → Type 0
@@ -114,7 +114,7 @@ IsClear number h _ = Unit {0}
 
 -- nobody has changed what the call is yet to rely on
 abbrev pub IsUndisturbed : {C V : Type 0} → (C → ℕ) → (ℕ → Node V) → Phase C V → Type 0
-IsUndisturbed number h s = AreTaken number h (seats s) × IsClear number h s
+IsUndisturbed number h s = AreTaken number h (stamps s) × IsClear number h s
 
 -- no other call holds a lock
 abbrev pub NoOtherLocks : {C V : Type 0} → (C → ℕ) → ℕ → List (Machine C V) → Type 0

@@ -218,7 +218,7 @@ at_old same _ new s v = asked s v
 -- it does so where nothing is above; else the node above is checked first
 abbrev pub added : {V : Type 0} → (V → V → Bool) → Kind V → Option V → Site ℕ → Option (Over ℕ) → V → NextPhase ℕ V
 added same kind new s None v = at_old same kind new s v
-added same kind new s (Some u) v = quiet (CheckOld u.near.seat s v)
+added same kind new s (Some u) v = quiet (CheckOld u.near.stamp s v)
 
 -- an exchange that found its old value
 abbrev pub exchanged : {V : Type 0} → (V → V → Bool) → Option V → Site ℕ → V → NextPhase ℕ V
@@ -275,23 +275,23 @@ change_one key new one (Link leaf) h = hang (hang h leaf (slice_index key MAX_PR
 
 -- the change of the node above both
 abbrev pub change_top : {V : Type 0} → Two ℕ → Double ℕ → Option (Parent ℕ) → (ℕ → Node V) → ℕ → Node V
-change_top two Collapse (Some g) h = hang h g.seat.node g.byte (Below (other_of (h two.above.seat.node) two.above.byte))
-change_top two (ShrinkAbove c) (Some g) h = hang (hang (copy h two.above.seat.node c) c two.above.byte Nothing) g.seat.node g.byte (Below c)
+change_top two Collapse (Some g) h = hang h g.stamp.node g.byte (Below (other_of (h two.above.stamp.node) two.above.byte))
+change_top two (ShrinkAbove c) (Some g) h = hang (hang (copy h two.above.stamp.node c) c two.above.byte Nothing) g.stamp.node g.byte (Below c)
 change_top two _ top h = h
 
 -- a change of two nodes
 abbrev pub change_two : {V : Type 0} → List ℕ → Option V → Two ℕ → Double ℕ → (ℕ → Node V) → ℕ → Node V
-change_two key new two Unlink h = hang h two.above.seat.node two.above.byte Nothing
+change_two key new two Unlink h = hang h two.above.stamp.node two.above.byte Nothing
 change_two key new two (Shrink c) h =
-    hang (hang (clear (copy h two.at.node c) two.at.node) c (slice_index key MAX_PREFIX_LEN) Nothing) two.above.seat.node two.above.byte (Below c)
+    hang (hang (clear (copy h two.at.node c) two.at.node) c (slice_index key MAX_PREFIX_LEN) Nothing) two.above.stamp.node two.above.byte (Below c)
 change_two key new two Collapse h = change_top two Collapse two.top h
 change_two key new two (ShrinkAbove c) h = change_top two (ShrinkAbove c) two.top h
 change_two key new two (Grow c) h =
-    hang (hang (clear (copy h two.at.node c) two.at.node) c (slice_index key MAX_PREFIX_LEN) (value_hung new)) two.above.seat.node two.above.byte (Below c)
+    hang (hang (clear (copy h two.at.node c) two.at.node) c (slice_index key MAX_PREFIX_LEN) (value_hung new)) two.above.stamp.node two.above.byte (Below c)
 change_two key new two (GrowLink c leaf byte) h =
-    hang (hang (copy (hang h leaf (slice_index key MAX_PREFIX_LEN) (value_hung new)) two.at.node c) c byte (Below leaf)) two.above.seat.node two.above.byte (Below c)
+    hang (hang (copy (hang h leaf (slice_index key MAX_PREFIX_LEN) (value_hung new)) two.at.node c) c byte (Below leaf)) two.above.stamp.node two.above.byte (Below c)
 change_two key new two (Split top leaf common byte) h =
-    hang (hang (hang (hang h leaf (slice_index key MAX_PREFIX_LEN) (value_hung new)) top byte (Below two.at.node)) top (slice_index key common) (Below leaf)) two.above.seat.node two.above.byte (Below top)
+    hang (hang (hang (hang h leaf (slice_index key MAX_PREFIX_LEN) (value_hung new)) top byte (Below two.at.node)) top (slice_index key common) (Below leaf)) two.above.stamp.node two.above.byte (Below top)
 
 -- what a step leaves: the call's value, its next phase with what the step reports, the nodes, and how many were made
 pub record Went (V : Type 0) : Type 0 where
@@ -325,21 +325,21 @@ upgraded_one root new h k one r Exhausted = went new (refused refusal.Exhausted)
 
 -- that of the node above both
 abbrev pub upgraded_top : {V : Type 0} → ℕ → Option V → (ℕ → Node V) → ℕ → Parent ℕ → Two ℕ → Reply V → Upgrade → Went V
-upgraded_top root new h k g two r Locked = went new (quiet (UpgradeAbove (record two { top = Some g }) r)) (lock h g.seat.node) k
+upgraded_top root new h k g two r Locked = went new (quiet (UpgradeAbove (record two { top = Some g }) r)) (lock h g.stamp.node) k
 upgraded_top root new h k g two r Failed = went new (again root) (back_two two.change h) k
 upgraded_top root new h k g two r Exhausted = went new (refused refusal.Exhausted) (back_two two.change h) k
 
 -- that of the upper one of two
 abbrev pub upgraded_above : {V : Type 0} → ℕ → Option V → (ℕ → Node V) → ℕ → Two ℕ → Reply V → Upgrade → Went V
-upgraded_above root new h k two r Locked = went new (quiet (UpgradeBelow two r)) (lock h two.above.seat.node) k
+upgraded_above root new h k two r Locked = went new (quiet (UpgradeBelow two r)) (lock h two.above.stamp.node) k
 upgraded_above root new h k two r Failed = went new (given_up root two.top None) (back_two two.change h) k
 upgraded_above root new h k two r Exhausted = went new (given_up root two.top (Some refusal.Exhausted)) (back_two two.change h) k
 
 -- that of the lower one of two
 abbrev pub upgraded_below : {V : Type 0} → Option V → (ℕ → Node V) → ℕ → Two ℕ → Reply V → Upgrade → Went V
 upgraded_below new h k two r Locked = went new (quiet (ChangeTwo two r)) (lock h two.at.node) k
-upgraded_below new h k two r Failed = went new (quiet (Unwind two.above.seat.node (node_of two.top) None)) (back_two two.change h) k
-upgraded_below new h k two r Exhausted = went new (quiet (Unwind two.above.seat.node (node_of two.top) (Some refusal.Exhausted))) (back_two two.change h) k
+upgraded_below new h k two r Failed = went new (quiet (Unwind two.above.stamp.node (node_of two.top) None)) (back_two two.change h) k
+upgraded_below new h k two r Exhausted = went new (quiet (Unwind two.above.stamp.node (node_of two.top) (Some refusal.Exhausted))) (back_two two.change h) k
 
 -- the check before one node is changed: the node made goes back where it fails
 abbrev pub passed_above : {V : Type 0} → Bool → ℕ → Option V → (ℕ → Node V) → ℕ → One ℕ → Reply V → Went V
@@ -353,7 +353,7 @@ phase_step same most root key kind fail seen answer new (Version above n) h k = 
 phase_step same most root key kind fail seen answer new (Read above at) h k = went new (after_read root above at (reading (h at.node) at.version key seen)) h k
 phase_step same most root key kind fail seen answer new (Check s c) h k = went new (passes h s.at root (checked same kind new s c)) h k
 phase_step same most root key kind fail seen answer new (CheckUncopied at) h k = went new (passes h at root (refused refusal.Count)) h k
-phase_step same most root key kind fail seen answer new (CheckMiss p at common byte) h k = went new (passes h p.seat root (after_miss kind p at common byte)) h k
+phase_step same most root key kind fail seen answer new (CheckMiss p at common byte) h k = went new (passes h p.stamp root (after_miss kind p at common byte)) h k
 phase_step same most root key kind fail seen answer new (CheckDown p at c) h k = went new (passes h p root (quiet (Version (Some at) c))) h k
 phase_step same most root key kind fail seen answer new (CheckOld p s v) h k = went new (passes h p root (at_old same kind new s v)) h k
 phase_step same most root key kind fail seen answer new (MakeLeaf s) h k = making N4 key MAX_PREFIX_LEN new h k (λ leaf. unless_full kind s s.full s.above (Some leaf) (Link leaf))
@@ -367,8 +367,8 @@ phase_step same most root key kind fail seen answer new (Confirm at r) h k = wen
 phase_step same most root key kind fail seen answer new (CheckAbove p one r) h k = passed_above (is_taken (h p.node) p.version) root new h k one r
 phase_step same most root key kind fail seen answer new (UpgradeOne one r) h k = upgraded_one root new h k one r (upgrade_gives most (h one.at.node) one.at.version fail)
 phase_step same most root key kind fail seen answer new (ChangeOne one r) h k = went None (decided (Unlock one.at.node r)) (change_one key new one one.change h) k
-phase_step same most root key kind fail seen answer new (UpgradeTop g two r) h k = upgraded_top root new h k g two r (upgrade_gives most (h g.seat.node) g.seat.version fail)
-phase_step same most root key kind fail seen answer new (UpgradeAbove two r) h k = upgraded_above root new h k two r (upgrade_gives most (h two.above.seat.node) two.above.seat.version fail)
+phase_step same most root key kind fail seen answer new (UpgradeTop g two r) h k = upgraded_top root new h k g two r (upgrade_gives most (h g.stamp.node) g.stamp.version fail)
+phase_step same most root key kind fail seen answer new (UpgradeAbove two r) h k = upgraded_above root new h k two r (upgrade_gives most (h two.above.stamp.node) two.above.stamp.version fail)
 phase_step same most root key kind fail seen answer new (UpgradeBelow two r) h k = upgraded_below new h k two r (upgrade_gives most (h two.at.node) two.at.version fail)
 phase_step same most root key kind fail seen answer new (ChangeTwo two r) h k = went None (after_change two r two.change) (change_two key new two two.change h) k
 phase_step same most root key kind fail seen answer new (Obsolete n next p r) h k = went new (quiet (Retire n next p r)) (mark h n) k

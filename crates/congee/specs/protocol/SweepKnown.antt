@@ -11,7 +11,7 @@ use Rattle.congee.specs.declared.protocol.sweep.ScanReport.{ScanReport}
 use Rattle.congee.specs.declared.protocol.sweep.ScanReport.TheVariants as told
 use Rattle.congee.specs.Heap.{Node}
 use Rattle.congee.specs.Notes.{Note, is_published}
-use Rattle.congee.specs.protocol.Stamps.{Seated, Fresh}
+use Rattle.congee.specs.protocol.Stamps.{Stamped, Fresh}
 use Rattle.congee.specs.protocol.Regions.{span, IsRegion, start_at}
 use Rattle.congee.specs.protocol.Sweeps.{Lacked, IsScan, Swept, written}
 use Rattle.congee.specs.protocol.SweepEvents.{IsAny, LeastTruly}
@@ -20,7 +20,7 @@ use Rattle.congee.specs.declared.keys.TheConstants.{KEY_BYTES}
 
 -- a node on the way, with so many above it: its keys are those of the region, and the first is at most the range's last
 pub record RungKnown {C V : Type 0} (number : C → ℕ) (a : ℕ → Note) (h : ℕ → Node V) (last above : ℕ) (r : Rung C) : Type 0 where
-  pub seated : Seated a h (number r.at.node) r.at.version
+  pub stamped : Stamped a h (number r.at.node) r.at.version
   pub region : IsRegion (h (number r.at.node)).prefix r.region.base r.region.depth
   pub deep : above ≤ r.region.depth
   pub within : r.region.base ≤ last

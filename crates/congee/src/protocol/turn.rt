@@ -266,7 +266,7 @@ impl<C: NodeName, P: Payload> Phase<C, P> {
         };
         match (adds, above) {
             (true, Some(above)) => self.quiet(Phase::CheckDown {
-                above: above.near.seat,
+                above: above.near.stamp,
                 at: here,
                 node,
             }),
@@ -493,7 +493,7 @@ impl<C: NodeName, P: Payload> Phase<C, P> {
         match above {
             None => self.at_old(kind, new, site, old),
             Some(above) => self.quiet(Phase::CheckOld {
-                above: above.near.seat,
+                above: above.near.stamp,
                 site,
                 old,
             }),
@@ -611,7 +611,7 @@ impl<C: NodeName, P: Payload> Phase<C, P> {
             Some(top) => self.decided(Phase::Obsolete {
                 node,
                 next: Some(above),
-                above: top.seat.node,
+                above: top.stamp.node,
                 reply,
             }),
         }
@@ -663,7 +663,7 @@ impl<C: NodeName, P: Payload> Phase<C, P> {
         match top {
             None => self.unwound(root, refusal),
             Some(top) => self.quiet(Phase::Unwind {
-                node: top.seat.node,
+                node: top.stamp.node,
                 next: None,
                 refusal,
             }),

@@ -22,7 +22,7 @@ use Rattle.congee.specs.protocol.Destroys.{Destroys}
 use Rattle.congee.specs.protocol.Events.{HoldsValues, HoldsNodes}
 use Rattle.congee.specs.protocol.Names.{names, names_site}
 use Rattle.congee.specs.protocol.Protocol.{Known, PlacedTwo, TwoLocked, Rely, Effect}
-use Rattle.congee.specs.protocol.Stamps.{Seated}
+use Rattle.congee.specs.protocol.Stamps.{Stamped}
 use Rattle.congee.specs.protocol.SweepKnown.{SweepKnownAt, names_sweep_at}
 use Rattle.congee.proofs.lemmas.protocol.AlikeChanges.{HoldsFor, HoldsRight}
 use Rattle.congee.proofs.lemmas.protocol.AlikeHeaps.{later_place}
@@ -51,23 +51,23 @@ module _ {C V : Type 0} (number : C → ℕ) (same : V → V → Bool) (always :
   pub holds_right : (p : Phase C V) → Known number same always i a h k key kind given p → HoldsRight number h p
   holds_right (ChangeTwo two r) x =
       let e : TwoLocked number i a h key two x.0 x.1 = x.2 in
-      holds_for two.change (number two.at.node) (number two.above.seat.node) _ (t.down (number two.above.seat.node) _ (number two.at.node) e.above.holding.linked e.above.child) e.above.holding.linked e.placed
+      holds_for two.change (number two.at.node) (number two.above.stamp.node) _ (t.down (number two.above.stamp.node) _ (number two.at.node) e.above.holding.linked e.above.child) e.above.holding.linked e.placed
   holds_right _ x = tt
 
 module _ {C V : Type 0} (order order' : List ℕ) (number : C → ℕ) (f : (n c : ℕ) → slice_get order n ≡ Some c → slice_get order' n ≡ Some c) (h h' : ℕ → Node V) where
   -- a word that was taken and still stands
-  still_seated : (j : ℕ) (a a' : ℕ → Note) → Rely (λ _. Unit {0}) j a h a' h' → (s : Stamp C) → Seated a h (number s.node) s.version → Still order order' number f h h' s
-  still_seated j a a' r s x t =
+  still_stamped : (j : ℕ) (a a' : ℕ → Note) → Rely (λ _. Unit {0}) j a h a' h' → (s : Stamp C) → Stamped a h (number s.node) s.version → Still order order' number f h h' s
+  still_stamped j a a' r s x t =
       let e : h' (number s.node) ≡ h (number s.node) = r.word (number s.node) s.version tt x.published x.up t in
       ap (λ z. is_taken z s.version) (sym e) ∙ t
 
   still_stage : (j : ℕ) (a a' : ℕ → Note) (always : Bool) → Rely (λ _. Unit {0}) j a h a' h' → (s : Scan C V) (x : Stage C V) → SweepKnownAt number always a h s x → StillAt order order' number f h h' x
-  still_stage j a a' always r s (stage.Check u w) x = still_seated j a a' r u.at x.1.seated
+  still_stage j a a' always r s (stage.Check u w) x = still_stamped j a a' r u.at x.1.stamped
   still_stage j a a' always r s _ x = tt
 
   still_known : (same : V → V → Bool) (always : Bool) (j : ℕ) (a a' : ℕ → Note) (k : ℕ) (key : List ℕ) (kind : Kind V) (given : Option V) → Rely (λ _. Unit {0}) j a h a' h' → (p : Phase C V) → Known number same always j a h k key kind given p
       → StillTaken order order' number f h h' p
-  still_known same always j a a' k key kind given r (Check s c) x = still_seated j a a' r s.at x.1.fresh.seated
+  still_known same always j a a' k key kind given r (Check s c) x = still_stamped j a a' r s.at x.1.fresh.stamped
   still_known same always j a a' k key kind given r (Sweep s) x = still_stage j a a' always r s s.stage x
   still_known same always j a a' k key kind given r _ x = tt
 

@@ -17,7 +17,7 @@ use Rattle.congee.specs.declared.protocol.phase.Site.{Site}
 use Rattle.congee.specs.declared.protocol.phase.Phase.TheVariants.{Check, CheckUncopied, CheckMiss}
 use Rattle.congee.specs.Heap.{Node, Hung, Nothing, Below, Holds, fits, child_for, is_taken, version_of}
 use Rattle.congee.specs.Keys.{key_bytes}
-use Rattle.congee.specs.protocol.Alike.{HungAlike, NodeAlike, Named, SeatAlike, AboveAlike, ChildAlike, SeesAlike, LeastAlike, TurnAlike}
+use Rattle.congee.specs.protocol.Alike.{HungAlike, NodeAlike, Named, StampAlike, AboveAlike, ChildAlike, SeesAlike, LeastAlike, TurnAlike}
 use Rattle.congee.specs.protocol.Events.{hung, places, Parts, SeenTruly, ReadGives}
 use Rattle.congee.specs.protocol.PlainSteps.{Mark, form_of, common, child_of, looks, told_of, reading, least_or, least_from, least_told, least_of, front, region_of}
 use Rattle.congee.specs.protocol.Regions.{span, IsRegion}
@@ -65,7 +65,7 @@ module _ {C V : Type 0} (order : List ℕ) (number : C → ℕ) where
 
   -- what a read finds
   module _ (h g : ℕ → Node V) (root : C) (m : ℕ) (r : Named order number root m) (key : List ℕ) (len : length key ≡ 8) (always : Bool) (above : Option (Over C)) (o : Option (Over ℕ)) (ab : AboveAlike order number above o)
-      (at : Stamp C) (a : Stamp ℕ) (st : SeatAlike order number at a) (e : NodeAlike order (h (number at.node)) (g a.node)) (seen : Option (Seen Mark V)) where
+      (at : Stamp C) (a : Stamp ℕ) (st : StampAlike order number at a) (e : NodeAlike order (h (number at.node)) (g a.node)) (seen : Option (Seen Mark V)) where
     abbrev x : Node V
     x = h (number at.node)
 

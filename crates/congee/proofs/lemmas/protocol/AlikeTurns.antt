@@ -26,8 +26,8 @@ use Rattle.congee.specs.declared.protocol.phase.Phase.{Phase}
 use Rattle.congee.specs.declared.protocol.phase.Phase.TheVariants.{Version, Read, CheckDown, CheckOld, MakeLeaf, MakeGreater, MakeTop, MakeLesser, AskOld, AskNew, Confirm, CheckAbove, UpgradeOne, UpgradeTop, UpgradeAbove, Obsolete, UnlockBelow, Unlock, Unwind}
 use Rattle.congee.specs.declared.protocol.turn.NextPhase.{NextPhase}
 use Rattle.congee.specs.Heap.{Node}
-use Rattle.congee.specs.protocol.Alike.{Named, SeatAlike, ParentAlike, TopAlike, OverAlike, AboveAlike, SeatedAlike, MadeAlike, SiteAlike, ReadAlike, SingleAlike, DoubleAlike, TwoAlike, PlanAlike, SeesAlike, PhaseAlike, TurnAlike, IsUnrefused}
-use Rattle.congee.specs.protocol.Steps.{shrinks, here_of, near_of, node_of, below, set_at, both, last_out, after_top, after_retire, after_unwind, given_up, quiet, again, answered, finished, refused, decided, asking, adds, asks_new, absent_reply, after_version, down, started, ready, seat_above, plan_here, unless_full, missing, absent, CopyFailed, IsAsked, replaced, taken_out, emptied, is_same, IsAtOld, IsAdded, IsExchanged, IsCompared, IsPresent, IsChecked, after_miss, IsGiven, IsGivenNew, greater, after_change, unwound}
+use Rattle.congee.specs.protocol.Alike.{Named, StampAlike, ParentAlike, TopAlike, OverAlike, AboveAlike, StampedAlike, MadeAlike, SiteAlike, ReadAlike, SingleAlike, DoubleAlike, TwoAlike, PlanAlike, SeesAlike, PhaseAlike, TurnAlike, IsUnrefused}
+use Rattle.congee.specs.protocol.Steps.{shrinks, here_of, near_of, node_of, below, set_at, both, last_out, after_top, after_retire, after_unwind, given_up, quiet, again, answered, finished, refused, decided, asking, adds, asks_new, absent_reply, after_version, down, started, ready, stamp_above, plan_here, unless_full, missing, absent, CopyFailed, IsAsked, replaced, taken_out, emptied, is_same, IsAtOld, IsAdded, IsExchanged, IsCompared, IsPresent, IsChecked, after_miss, IsGiven, IsGivenNew, greater, after_change, unwound}
 use Rattle.congee.specs.protocol.PlainSteps.{asked, at_old, added, exchanged, present, checked, given_old, given_new}
 use Rattle.congee.specs.declared.forms.prefix.TheConstants.{MAX_PREFIX_LEN}
 
@@ -79,7 +79,7 @@ module _ {C V : Type 0} (order : List ℕ) (number : C → ℕ) (h : ℕ → Nod
 
   -- the node at hand as the one above the next, and the nodes above that
   parent_alike : (s : Site C) (u : Site ℕ) → ReadAlike order number s u → ParentAlike order number (here_of s) (here_of u)
-  parent_alike s u x = record { seat = x.site.at; byte = x.site.byte; depth = x.site.depth; count = x.count; form = x.site.form }
+  parent_alike s u x = record { stamp = x.site.at; byte = x.site.byte; depth = x.site.depth; count = x.count; form = x.site.form }
 
   near_alike : (above : Option (Over C)) (o : Option (Over ℕ)) → AboveAlike order number above o → TopAlike order number (near_of above) (near_of o)
   near_alike None o a = ap near_of a
@@ -96,7 +96,7 @@ module _ {C V : Type 0} (order : List ℕ) (number : C → ℕ) (h : ℕ → Nod
       (quiet_alike (Version (Some (below s)) c) (Version (Some (below u)) n) (Some (below u), n, refl, (below u, refl, below_alike s u x), y))
   down_alike true s u (Some p) o c n x a y =
       alike_to (down true s (Some p) c) (down true u (Some a.0) n) (down true u o n) (ap (λ z. down true u z n) a.1)
-      (quiet_alike (CheckDown p.near.seat (below s) c) (CheckDown a.0.near.seat (below u) n) (a.0.near.seat, below u, n, refl, a.2.near.seat, below_alike s u x, y))
+      (quiet_alike (CheckDown p.near.stamp (below s) c) (CheckDown a.0.near.stamp (below u) n) (a.0.near.stamp, below u, n, refl, a.2.near.stamp, below_alike s u x, y))
 
   started_alike : (plan : Plan C) (y : Plan ℕ) (r : Reply V) → PlanAlike order number plan y → Alike (started plan r) (started y r)
   started_alike (Here None one) y r x =
@@ -113,12 +113,12 @@ module _ {C V : Type 0} (order : List ℕ) (number : C → ℕ) (h : ℕ → Nod
     by true = asking_alike (AskNew plan) (AskNew y) None (y, refl, x)
     by false = started_alike plan y (absent_reply kind) x
 
-  seated_above : (above : Option (Over C)) (o : Option (Over ℕ)) → AboveAlike order number above o → SeatedAlike order number (seat_above above) (seat_above o)
-  seated_above None o x = ap seat_above x
-  seated_above (Some p) o x = (x.0.near.seat, ap seat_above x.1, x.2.near.seat)
+  stamped_above : (above : Option (Over C)) (o : Option (Over ℕ)) → AboveAlike order number above o → StampedAlike order number (stamp_above above) (stamp_above o)
+  stamped_above None o x = ap stamp_above x
+  stamped_above (Some p) o x = (x.0.near.stamp, ap stamp_above x.1, x.2.near.stamp)
 
   here_alike : (s : Site C) (u : Site ℕ) (change : Single C) (y : Single ℕ) → SiteAlike order number s u → SingleAlike order number change y → PlanAlike order number (plan_here s change) (plan_here u y)
-  here_alike s u change y x a = (seat_above u.above, record { at = u.at; byte = u.byte; change = y }, refl, seated_above s.above u.above x.above, record { at = x.at; byte = x.byte; change = a })
+  here_alike s u change y x a = (stamp_above u.above, record { at = u.at; byte = u.byte; change = y }, refl, stamped_above s.above u.above x.above, record { at = x.at; byte = x.byte; change = a })
 
   -- a full node gives way to a greater one on both sides, and a node with room is changed on both
   pub full_alike : (kind : Kind V) (s : Site C) (u : Site ℕ) (b : Bool) (above : Option (Over C)) (o : Option (Over ℕ)) (leaf : Option C) (l : Option ℕ) (change : Single C) (y : Single ℕ)
@@ -153,7 +153,7 @@ module _ {C V : Type 0} (order : List ℕ) (number : C → ℕ) (h : ℕ → Nod
   set_alike s u r x = quiet_alike (UpgradeOne (record { at = s.at; byte = s.byte; change = Set }) r) (UpgradeOne (record { at = u.at; byte = u.byte; change = Set }) r)
       (record { at = u.at; byte = u.byte; change = Set }, refl, record { at = x.at; byte = x.byte; change = refl })
 
-  confirm_alike : (at : Stamp C) (a : Stamp ℕ) (r : Reply V) → SeatAlike order number at a → Alike (quiet (Confirm at r)) (quiet (Confirm a r))
+  confirm_alike : (at : Stamp C) (a : Stamp ℕ) (r : Reply V) → StampAlike order number at a → Alike (quiet (Confirm at r)) (quiet (Confirm a r))
   confirm_alike at a r x = quiet_alike (Confirm at r) (Confirm a r) (a, refl, x)
 
   replaced_alike : (s : Site C) (u : Site ℕ) (b : Bool) (r : Reply V) → SiteAlike order number s u → Alike (replaced s b r) (replaced u b r)
@@ -219,7 +219,7 @@ module _ {C V : Type 0} (order : List ℕ) (number : C → ℕ) (h : ℕ → Nod
   added_alike always same kind new s u None o v t x a n e = alike_to t (added same kind new u None v) (added same kind new u o v) (ap (λ z. added same kind new u z v) a) (old_alike always same kind new s u v t x n e)
   added_alike always same kind new s u (Some p) o v t x a n e =
       alike_to t (added same kind new u (Some a.0) v) (added same kind new u o v) (ap (λ z. added same kind new u z v) a.1)
-      (alike_at t _ _ e (quiet_alike (CheckOld p.near.seat s v) (CheckOld a.0.near.seat u v) (a.0.near.seat, u, refl, a.2.near.seat, x)))
+      (alike_at t _ _ e (quiet_alike (CheckOld p.near.stamp s v) (CheckOld a.0.near.stamp u v) (a.0.near.stamp, u, refl, a.2.near.stamp, x)))
 
   exchanged_alike : (always : Bool) (same : V → V → Bool) (new : Option V) (s : Site C) (u : Site ℕ) (v : V) (t : NextPhase C V) → ReadAlike order number s u → IsUnrefused t.report.outcome → IsExchanged always same new s v t
       → Alike t (exchanged same new u v)
@@ -252,7 +252,7 @@ module _ {C V : Type 0} (order : List ℕ) (number : C → ℕ) (h : ℕ → Nod
       alike_to t (checked same kind new u (child.Value v)) (checked same kind new u d) (ap (checked same kind new u) y.hangs) (present_alike always same kind new s u v t (record { site = x; count = y.count }) n e)
 
   -- where the key's way parts within a prefix both sides make a node there, or both answer
-  pub miss_alike : (kind : Kind V) (p : Parent C) (q : Parent ℕ) (at : Stamp C) (a : Stamp ℕ) (common byte : ℕ) → ParentAlike order number p q → SeatAlike order number at a → Alike (after_miss kind p at common byte) (after_miss kind q a common byte)
+  pub miss_alike : (kind : Kind V) (p : Parent C) (q : Parent ℕ) (at : Stamp C) (a : Stamp ℕ) (common byte : ℕ) → ParentAlike order number p q → StampAlike order number at a → Alike (after_miss kind p at common byte) (after_miss kind q a common byte)
   miss_alike kind p q at a common byte x y = by (adds kind) where
     by : (b : Bool) → Alike (cond b (quiet (MakeTop p at common byte)) (answered (absent_reply kind))) (cond b (quiet (MakeTop q a common byte)) (answered (absent_reply kind)))
     by true = quiet_alike (MakeTop p at common byte) (MakeTop q a common byte) (q, a, refl, x, y)
@@ -296,20 +296,20 @@ module _ {C V : Type 0} (order : List ℕ) (number : C → ℕ) (h : ℕ → Nod
   greater_alike s u None l c n x m y = (n, ap (λ z. greater u z n) m, y)
   greater_alike s u (Some leaf) l c n x m y = (n, m.0, ap (λ z. greater u z n) m.1 ∙ ap (λ z. GrowLink n m.0 z) x.byte, y, m.2)
 
-  out : (two : Two C) (u : Two ℕ) (r : Reply V) → TwoAlike order number two u → Alike (decided (Obsolete two.at.node None two.above.seat.node r)) (decided (Obsolete u.at.node None u.above.seat.node r))
-  out two u r x = decided_alike (Obsolete two.at.node None two.above.seat.node r) (Obsolete u.at.node None u.above.seat.node r) (u.at.node, None, u.above.seat.node, refl, x.at.node, refl, x.above.seat.node)
+  out : (two : Two C) (u : Two ℕ) (r : Reply V) → TwoAlike order number two u → Alike (decided (Obsolete two.at.node None two.above.stamp.node r)) (decided (Obsolete u.at.node None u.above.stamp.node r))
+  out two u r x = decided_alike (Obsolete two.at.node None two.above.stamp.node r) (Obsolete u.at.node None u.above.stamp.node r) (u.at.node, None, u.above.stamp.node, refl, x.at.node, refl, x.above.stamp.node)
 
   top_alike : (two : Two C) (u : Two ℕ) (r : Reply V) → TwoAlike order number two u → (top : Option (Parent C)) (o : Option (Parent ℕ)) → TopAlike order number top o → Alike (after_top two r top) (after_top u r o)
-  top_alike two u r x None o a = alike_to _ (after_top u r None) _ (ap (after_top u r) a) (decided_alike (Unlock two.above.seat.node r) (Unlock u.above.seat.node r) (u.above.seat.node, refl, x.above.seat.node))
+  top_alike two u r x None o a = alike_to _ (after_top u r None) _ (ap (after_top u r) a) (decided_alike (Unlock two.above.stamp.node r) (Unlock u.above.stamp.node r) (u.above.stamp.node, refl, x.above.stamp.node))
   top_alike two u r x (Some top) o a =
       alike_to _ (after_top u r (Some a.0)) _ (ap (after_top u r) a.1)
-      (decided_alike (Obsolete two.at.node (Some two.above.seat.node) top.seat.node r) (Obsolete u.at.node (Some u.above.seat.node) a.0.seat.node r)
-      (u.at.node, Some u.above.seat.node, a.0.seat.node, refl, x.at.node, (u.above.seat.node, refl, x.above.seat.node), a.2.seat.node))
+      (decided_alike (Obsolete two.at.node (Some two.above.stamp.node) top.stamp.node r) (Obsolete u.at.node (Some u.above.stamp.node) a.0.stamp.node r)
+      (u.at.node, Some u.above.stamp.node, a.0.stamp.node, refl, x.at.node, (u.above.stamp.node, refl, x.above.stamp.node), a.2.stamp.node))
 
   -- the name of the node above both is the same on both sides, or neither has one
   pub node_alike : (top : Option (Parent C)) (o : Option (Parent ℕ)) → TopAlike order number top o → MadeAlike order number (node_of top) (node_of o)
   node_alike None o a = ap node_of a
-  node_alike (Some top) o a = (a.0.seat.node, ap node_of a.1, a.2.seat.node)
+  node_alike (Some top) o a = (a.0.stamp.node, ap node_of a.1, a.2.stamp.node)
 
   -- after a node was handed over both sides mark the same next one, or let the last lock go
   pub retired_alike : (next : Option C) (o : Option ℕ) (p : C) (q : ℕ) (r : Reply V) → MadeAlike order number next o → Named order number p q → Alike (after_retire next p r) (after_retire o q r)
@@ -327,7 +327,7 @@ module _ {C V : Type 0} (order : List ℕ) (number : C → ℕ) (h : ℕ → Nod
   change_alike two u r x (GrowLink c leaf byte) y e = alike_to _ (after_change u r (GrowLink e.0 e.1 byte)) _ (ap (after_change u r) e.2) (out two u r x)
   change_alike two u r x (Split top leaf common byte) y e =
       alike_to _ (after_change u r (Split e.0 e.1 common byte)) _ (ap (after_change u r) e.2)
-      (decided_alike (UnlockBelow two.at.node two.above.seat.node r) (UnlockBelow u.at.node u.above.seat.node r) (u.at.node, u.above.seat.node, refl, x.at.node, x.above.seat.node))
+      (decided_alike (UnlockBelow two.at.node two.above.stamp.node r) (UnlockBelow u.at.node u.above.stamp.node r) (u.at.node, u.above.stamp.node, refl, x.at.node, x.above.stamp.node))
 
   unwound_alike : (root : C) (n : ℕ) (e : Option Refusal) → Named order number root n → Alike (unwound root e) (unwound n e)
   unwound_alike root n None x = again_alike root n x
@@ -342,4 +342,4 @@ module _ {C V : Type 0} (order : List ℕ) (number : C → ℕ) (h : ℕ → Nod
   pub given_up_alike : (root : C) (n : ℕ) (top : Option (Parent C)) (o : Option (Parent ℕ)) (e : Option Refusal) → Named order number root n → TopAlike order number top o → Alike (given_up root top e) (given_up n o e)
   given_up_alike root n None o e x a = alike_to _ (given_up n None e) _ (ap (λ z. given_up n z e) a) (unwound_alike root n e x)
   given_up_alike root n (Some top) o e x a =
-      alike_to _ (given_up n (Some a.0) e) _ (ap (λ z. given_up n z e) a.1) (quiet_alike (Unwind top.seat.node None e) (Unwind a.0.seat.node None e) (a.0.seat.node, None, refl, a.2.seat.node, refl))
+      alike_to _ (given_up n (Some a.0) e) _ (ap (λ z. given_up n z e) a.1) (quiet_alike (Unwind top.stamp.node None e) (Unwind a.0.stamp.node None e) (a.0.stamp.node, None, refl, a.2.stamp.node, refl))

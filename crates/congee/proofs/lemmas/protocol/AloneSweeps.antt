@@ -18,7 +18,7 @@ use Rattle.congee.specs.protocol.SweepSteps.{whole, is_outside, first_byte, last
 use Rattle.congee.specs.protocol.SweepKnown.{SweepKnownAt}
 use Rattle.congee.specs.protocol.Steps.{outcome_of}
 use Rattle.congee.specs.protocol.Trace.{goes_on}
-use Rattle.congee.specs.protocol.Alone.{seats_rungs, seats_sweep, AreTaken, IsFreeAt, sum_from, nodes_at, pairs_at, nodes_under, pairs_under, steps_at, steps_under, steps_way, steps_found, steps_sweep}
+use Rattle.congee.specs.protocol.Alone.{stamps_rungs, stamps_scan, AreTaken, IsFreeAt, sum_from, nodes_at, pairs_at, nodes_under, pairs_under, steps_at, steps_under, steps_way, steps_found, steps_sweep}
 use Rattle.congee.proofs.lemmas.protocol.Touch.{by_test, taken_linked}
 use Rattle.congee.proofs.lemmas.protocol.SweepBytes.{low_yes, low_no}
 use Rattle.congee.proofs.lemmas.protocol.SweepWays.{path_pushed, path_empty, path_last, path_count}
@@ -136,28 +136,28 @@ module _ {C V : Type 0} (number : C → ℕ) (h : ℕ → Node V) where
       let t : steps_under h (f - 1 - length rest) (number r.at.node) r.from ≡ steps_under h (f - length (q ∷ rest)) (number r.at.node) r.from = ap (λ y. steps_under h y (number r.at.node) r.from) e in
       omega (arith, s, t)
 
-  taken_more : (rungs : List (Rung C)) (r : Rung C) → AreTaken number h (seats_rungs rungs) → is_taken (h (number r.at.node)) r.at.version ≡ true → AreTaken number h (seats_rungs (rungs ++ r ∷ []))
+  taken_more : (rungs : List (Rung C)) (r : Rung C) → AreTaken number h (stamps_rungs rungs) → is_taken (h (number r.at.node)) r.at.version ≡ true → AreTaken number h (stamps_rungs (rungs ++ r ∷ []))
   taken_more [] r t e = (e, tt)
   taken_more (q ∷ rest) r t e = (t.0, taken_more rest r t.1 e)
 
-  taken_fewer : (rungs : List (Rung C)) (r : Rung C) → AreTaken number h (seats_rungs (rungs ++ r ∷ [])) → AreTaken number h (r.at ∷ seats_rungs rungs)
+  taken_fewer : (rungs : List (Rung C)) (r : Rung C) → AreTaken number h (stamps_rungs (rungs ++ r ∷ [])) → AreTaken number h (r.at ∷ stamps_rungs rungs)
   taken_fewer [] r t = (t.0, tt)
   taken_fewer (q ∷ rest) r t = let u = taken_fewer rest r t.1 in (u.0, (t.0, u.1))
 
   module _ (n : ℕ) where
     -- a scan that has fewer than n steps left, and tells its end
     abbrev NearScan : Swung C V → Type 0
-    NearScan u = (AreTaken number h (seats_sweep u.0 u.0.stage) × IsFreeAt number h u.0.stage) × (steps_sweep number h u.0 u.0.stage < n) × (u.0.stage ≡ stage.Over → goes_on (outcome_of u.1) ≡ false)
+    NearScan u = (AreTaken number h (stamps_scan u.0 u.0.stage) × IsFreeAt number h u.0.stage) × (steps_sweep number h u.0 u.0.stage < n) × (u.0.stage ≡ stage.Over → goes_on (outcome_of u.1) ≡ false)
 
     scan_to : (x y : Swung C V) → y ≡ x → NearScan x → NearScan y
     scan_to x y p f = subst NearScan (sym p) f
 
-    lefts : (s : Sweep C V) → s.above.len ≤ 8 → AreTaken number h (seats_rungs (rungs_of s.above)) → steps_way number h 8 (rungs_of s.above) < n → NearScan (left s)
+    lefts : (s : Sweep C V) → s.above.len ≤ 8 → AreTaken number h (stamps_rungs (rungs_of s.above)) → steps_way number h 8 (rungs_of s.above) < n → NearScan (left s)
     lefts s fits t l = elim (path_last s.above fits) [
       | inl e ↦ scan_to (over s (told.Done s.count)) (left s) (ap (left_to s) e.0) ((tt, tt), omega (arith, l), λ _. refl)
       | inr e ↦ (
           let r : Rung C = e.0 in
-          let T : List (Rung C) → Type 0 = λ xs. AreTaken number h (seats_rungs xs) in
+          let T : List (Rung C) → Type 0 = λ xs. AreTaken number h (stamps_rungs xs) in
           let W : List (Rung C) → Type 0 = λ xs. steps_way number h 8 xs < n in
           let w = subst W e.2 l in
           let more = way_more 8 (rungs_of (popped s.above)) r in
@@ -167,14 +167,14 @@ module _ {C V : Type 0} (number : C → ℕ) (h : ℕ → Node V) where
           scan_to (goes s (popped s.above) (stage.Look r)) (left s) (ap (left_to s) e.1) ((taken_fewer (rungs_of (popped s.above)) r (subst T e.2 t), tt), omega (arith, w, more, u), λ q. absurd (cc q)))
     ]
 
-    enters : (root : C) (s : Sweep C V) (c : C) (x : Region) → is_free (h (number c)) ≡ true → s.above.len ≤ 8 → AreTaken number h (seats_rungs (rungs_of s.above))
+    enters : (root : C) (s : Sweep C V) (c : C) (x : Region) → is_free (h (number c)) ≡ true → s.above.len ≤ 8 → AreTaken number h (stamps_rungs (rungs_of s.above))
         → steps_under h (8 - s.above.len) (number c) 0 + steps_way number h 8 (rungs_of s.above) < n → NearScan (entered root s c x (version_of (h (number c))))
     enters root s c x free fits t l =
         scan_to (entered root s c x (Some (h (number c)).version)) (entered root s c x (version_of (h (number c)))) (ap (entered root s c x) (version_free (h (number c)) free))
         (by_test (λ (z : Swung C V). NearScan z) (is_outside s.start s.last x) _ _ (λ _. lefts s fits t (omega (arith, l)))
         (λ _. (((taken_now (h (number c)) free, t), tt), (let u = under_less h (8 - s.above.len) (number c) (first_byte s.start x) in omega (arith, l, u)), λ q. absurd (cc q))))
 
-    fills : (s : Sweep C V) (r : Rung C) (byte : ℕ) (v : V) → is_taken (h (number r.at.node)) r.at.version ≡ true → AreTaken number h (seats_rungs (rungs_of s.above)) → 1 < n
+    fills : (s : Sweep C V) (r : Rung C) (byte : ℕ) (v : V) → is_taken (h (number r.at.node)) r.at.version ≡ true → AreTaken number h (stamps_rungs (rungs_of s.above)) → 1 < n
         → steps_under h (8 - s.above.len) (number r.at.node) (byte + 1) + steps_way number h 8 (rungs_of s.above) < n → NearScan (filled s r byte v)
     fills s r byte v taken t one l = by_test (λ (z : Stage C V). NearScan (sweep_at s (s.count + 1) s.above z, told.Found s.count (r.region.base + byte) v)) (s.count + 1 == s.size) _ _ (λ _. ((tt, tt), one, λ q. absurd (cc q))) (λ _. (((taken, t), tt), l, λ q. absurd (cc q)))
 
@@ -186,12 +186,12 @@ module _ {C V : Type 0} (number : C → ℕ) (always : Bool) (a : ℕ → Note) 
   found_fewer f r (least.Value byte v) last p any truly = let t = at_value h f (number r.at.node) r.from byte v p any truly.past truly.here truly.before in omega (arith, t)
   found_fewer f r least.Uncopied last p any truly = let t = under_two h f (number r.at.node) r.from p in omega (arith, t)
 
-  follows : (s : Sweep C V) (r : Rung C) (x : Least C V) (u : Swung C V) → s.above.len < 8 → AreTaken number h (r.at ∷ seats_rungs (rungs_of s.above)) → (a (number r.at.node)).status ≡ Linked
+  follows : (s : Sweep C V) (r : Rung C) (x : Least C V) (u : Swung C V) → s.above.len < 8 → AreTaken number h (r.at ∷ stamps_rungs (rungs_of s.above)) → (a (number r.at.node)).status ≡ Linked
       → LeastTruly number (h (number r.at.node)) r.from (last_byte s.last r.region) x → IsFollowed number h s r x u → NearScan number h (steps_found number h (8 - s.above.len) r x + steps_way number h 8 (rungs_of s.above)) u
   follows s r least.Nothing u short t l truly e = scan_to number h _ _ u e (lefts number h _ s (omega (arith, short)) t.1 (omega arith))
   follows s r (least.Node byte c) u short t l truly e =
       let path : rungs_of (pushed s.above (moved r byte)) ≡ rungs_of s.above ++ moved r byte ∷ [] = path_pushed s.above (moved r byte) short in
-      let T : List (Rung C) → Type 0 = λ xs. AreTaken number h (seats_rungs xs) in
+      let T : List (Rung C) → Type 0 = λ xs. AreTaken number h (stamps_rungs xs) in
       let more = way_more number h 8 (rungs_of s.above) (moved r byte) in
       let counts = path_count s.above (omega (arith, short)) in
       let way : steps_way number h 8 (rungs_of (pushed s.above (moved r byte))) ≡ steps_way number h 8 (rungs_of s.above ++ moved r byte ∷ []) = ap (steps_way number h 8) path in
@@ -209,12 +209,12 @@ module _ {C V : Type 0} (number : C → ℕ) (always : Bool) (a : ℕ → Note) 
   follows s r least.Uncopied u short t l truly e = scan_to number h _ _ u e ((tt, tt), omega arith, λ _. refl)
 
   -- a scan that nobody disturbs has fewer steps left after a step, and tells its end
-  pub scans_on : (s : Sweep C V) (x : Stage C V) (u : Swung C V) → SweepKnownAt number always a h s x → AreTaken number h (seats_sweep s x) → IsFreeAt number h x → (x ≡ stage.Over → ⊥) → SweptAt number always root s x h u
+  pub scans_on : (s : Sweep C V) (x : Stage C V) (u : Swung C V) → SweepKnownAt number always a h s x → AreTaken number h (stamps_scan s x) → IsFreeAt number h x → (x ≡ stage.Over → ⊥) → SweptAt number always root s x h u
       → NearScan number h (steps_sweep number h s x) u
   scans_on s stage.New u k t f ne e =
       let o : Option ℕ = version_of (h (number root)) in
       let cl : Sweep C V = (anew root s).0 in
-      let T : List (Rung C) → Type 0 = λ xs. AreTaken number h (seats_rungs xs) in
+      let T : List (Rung C) → Type 0 = λ xs. AreTaken number h (stamps_rungs xs) in
       let none : steps_way number h 8 (rungs_of (cleared s.above)) ≡ 0 = ap (steps_way number h 8) (path_empty s.above) in
       let top : steps_under h 8 (number root) 0 ≡ steps_under h 8 0 0 = ap (λ y. steps_under h 8 y 0) z in
       let at_root : (a (number root)).status ≡ Linked = (let P : ℕ → Type 0 = λ y. (a y).status ≡ Linked in subst P (sym z) tr.root) in
@@ -226,7 +226,7 @@ module _ {C V : Type 0} (number : C → ℕ) (always : Bool) (a : ℕ → Note) 
       scan_to number h _ (goes s s.above (stage.Check r e.0)) u e.2 ((t, tt), (let x = found_fewer (8 - s.above.len) r e.0 (last_byte s.last r.region) (omega (arith, short)) e.1.0 (e.1.1 t.0) in omega (arith, x)), λ q. absurd (cc q))
   scans_on s (stage.Check r x) u k t f ne e =
       let short : s.above.len < 8 = (let d = k.1.deep in let sh = k.1.region.short in omega (arith, d, sh)) in
-      follows s r x u short t (taken_linked a h w (number r.at.node) r.at.version k.1.seated.published t.0) (k.3.holds t.0) (e.goes_on t.0)
+      follows s r x u short t (taken_linked a h w (number r.at.node) r.at.version k.1.stamped.published t.0) (k.3.holds t.0) (e.goes_on t.0)
   scans_on s stage.Full u k t f ne e = scan_to number h _ _ u e ((tt, tt), omega arith, λ _. refl)
   scans_on s stage.Over u k t f ne e = absurd (ne refl)
 

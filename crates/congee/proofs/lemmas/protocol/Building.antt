@@ -20,9 +20,9 @@ use Rattle.congee.specs.protocol.Events.{NewNode, Parts, places}
 use Rattle.congee.specs.protocol.Steps.{shrinks, form_below, both, refused, form_above, greater, MadeLeaf, MadeGreater, MadeTop, MadeBeside, MadeLesser}
 use Rattle.congee.specs.Keys.{key_bytes}
 use Rattle.congee.specs.Notes.{Note, is_published, Tree, LockWords}
-use Rattle.congee.specs.protocol.Protocol.{Seated, ChildOf, Sees, Knows, Made, FitsOne, Goes, Settles, MadeLeafFor, PlanKnown, Known, Effect}
+use Rattle.congee.specs.protocol.Protocol.{Stamped, ChildOf, Sees, Knows, Made, FitsOne, Goes, Settles, MadeLeafFor, PlanKnown, Known, Effect}
 use Rattle.congee.specs.protocol.Answers.{SameMap, AnswersIf}
-use Rattle.congee.proofs.lemmas.protocol.Rely.{knows_kept, child_kept, seated_kept}
+use Rattle.congee.proofs.lemmas.protocol.Rely.{knows_kept, child_kept, stamped_kept}
 use Rattle.congee.specs.protocol.Names.{names_over}
 use Rattle.congee.proofs.lemmas.protocol.Each.{each_any}
 use Rattle.congee.proofs.lemmas.protocol.Touch.{by_test}
@@ -78,8 +78,8 @@ module _ {C V : Type 0} (number : C → ℕ) (same : V → V → Bool) (always :
   child_after : (a' : ℕ → Note) (h' : ℕ → Node V) → Effect i a h a' h' → (p : Parent C) (n : ℕ) → ChildOf number a h (key_bytes k) p n → ChildOf number a' h' (key_bytes k) p n
   child_after a' h' e p n m = child_kept number (key_bytes k) (λ _. Unit {0}) (suc i) a h a' h' (own_rely i a h a' h' e) p n tt m
 
-  seated_after : (a' : ℕ → Note) (h' : ℕ → Node V) → Effect i a h a' h' → (n v : ℕ) → Seated a h n v → Seated a' h' n v
-  seated_after a' h' e n v m = seated_kept (λ _. Unit {0}) (suc i) a h a' h' (own_rely i a h a' h' e) n v tt m
+  stamped_after : (a' : ℕ → Note) (h' : ℕ → Node V) → Effect i a h a' h' → (n v : ℕ) → Stamped a h n v → Stamped a' h' n v
+  stamped_after a' h' e n v m = stamped_kept (λ _. Unit {0}) (suc i) a h a' h' (own_rely i a h a' h' e) n v tt m
 
   -- once its leaf was made or refused, a call knows what its next step wants
   pub leaf_made : (s : Site C) (turn : NextPhase C V) (h' : ℕ → Node V) (r : Result C Refusal) → Known number same always i a h k (key_bytes k) kind given (MakeLeaf s) → MadeLeaf number kind s h (key_bytes k) r h' turn
@@ -168,7 +168,7 @@ module _ {C V : Type 0} (number : C → ℕ) (same : V → V → Bool) (always :
           known = (
             m.0,
             child_after _ h' e.effect p (number at.node) m.1,
-            seated_after _ h' e.effect (number at.node) at.version m.2,
+            stamped_after _ h' e.effect (number at.node) at.version m.2,
             parts_after _ h' e.effect (number at.node) common m.2.published m.3,
             byte_after _ h' e.effect (number at.node) common byte m.2.published m.4,
             m.5,
@@ -185,7 +185,7 @@ module _ {C V : Type 0} (number : C → ℕ) (same : V → V → Bool) (always :
   beside_made p at common byte top turn h' (Ok c) m g =
       let e : KeepsMap i a h (making a i (number c)) h' = make_still i a h (number c) N4 (key_bytes k) 7 h' t w g.0 in
       let old : (number top ≢ number c) × Made i (making a i (number c)) h' (key_bytes k) (number top) common 1 = made_before i a h (number c) N4 (key_bytes k) 7 h' g.0 (number top) common 1 m.6 in
-      let seat : Seated (making a i (number c)) h' (number at.node) at.version = seated_after _ h' e.effect (number at.node) at.version m.2 in
+      let stamp : Stamped (making a i (number c)) h' (number at.node) at.version = stamped_after _ h' e.effect (number at.node) at.version m.2 in
       kept_at number same always i a h k kind given given _ turn h' g.1
       (kept_after number same always i a h k kind given given _ (making a i (number c)) h' e
       (ready_sound number same always i (making a i (number c)) h' k e.effect.tree e.effect.words kind given _ m.5 m.0 (
@@ -195,7 +195,7 @@ module _ {C V : Type 0} (number : C → ℕ) (same : V → V → Bool) (always :
             top = tt;
             above = child_after _ h' e.effect p (number at.node) m.1;
             placed = (parts_after _ h' e.effect (number at.node) common m.2.published m.3, byte_after _ h' e.effect (number at.node) common byte m.2.published m.4);
-            fresh = record { seated = seat; holds = λ _. tt };
+            fresh = record { stamped = stamp; holds = λ _. tt };
             made = (old.1, made_new i a h (number c) N4 k 7 0 h' g.0 (omega arith), old.0);
           },
         ),
@@ -316,7 +316,7 @@ module _ {C V : Type 0} (number : C → ℕ) (same : V → V → Bool) (always :
               (let P : Option V → Type 0 = λ o. Goes (Some m.1.0) o in subst P (sym m.3) tt),
               (let P : Option V → Type 0 = λ o. Settles same k kind given (Some m.1.0) r o in subst P (sym m.3) m.1.2),
             ),
-            child_after _ h' e.effect top (number p.seat.node) m.5.0,
+            child_after _ h' e.effect top (number p.stamp.node) m.5.0,
             tt,
             refl,
           );

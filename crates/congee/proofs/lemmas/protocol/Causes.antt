@@ -114,11 +114,11 @@ module _ (C V : Type 0) (Q : Refusal → Type 0) where
   downs true s None c = runs
   downs true s (Some p) c = runs
 
-  reads : (root : C) (above : Option (Over C)) (seat : Stamp C) (r : Reading C V) → Only (after_read root above seat r)
-  reads root None seat (Differs common byte) = runs
-  reads root (Some p) seat (Differs common byte) = runs
-  reads root above seat (Fits depth form s) = runs
-  reads root above seat Uncopied = runs
+  reads : (root : C) (above : Option (Over C)) (stamp : Stamp C) (r : Reading C V) → Only (after_read root above stamp r)
+  reads root None stamp (Differs common byte) = runs
+  reads root (Some p) stamp (Differs common byte) = runs
+  reads root above stamp (Fits depth form s) = runs
+  reads root above stamp Uncopied = runs
 
   versions : (root : C) (above : Option (Over C)) (n : C) (o : Option ℕ) → Only (after_version root above n o)
   versions root above n None = runs
@@ -127,8 +127,8 @@ module _ (C V : Type 0) (Q : Refusal → Type 0) where
   if_taken : (taken : Bool) (root : C) (T : Type 0) (t : NextPhase C V) → (taken ≡ true → T) × (taken ≡ false → t ≡ again root) → (T → Only t) → Only t
   if_taken taken root T t x f = on_test taken (λ p. f (x.0 p)) (λ p. to _ t (x.1 p) runs)
 
-  misses : (kind : Kind V) (p : Parent C) (seat : Stamp C) (common byte : ℕ) → Only (after_miss kind p seat common byte)
-  misses kind p seat common byte = by_test (λ (z : NextPhase C V). Only z) (adds kind) _ _ (λ _. runs) (λ _. answers (absent_reply kind))
+  misses : (kind : Kind V) (p : Parent C) (stamp : Stamp C) (common byte : ℕ) → Only (after_miss kind p stamp common byte)
+  misses kind p stamp common byte = by_test (λ (z : NextPhase C V). Only z) (adds kind) _ _ (λ _. runs) (λ _. answers (absent_reply kind))
 
   tops : (two : Two C) (r : Reply V) (top : Option (Parent C)) → Only (after_top two r top)
   tops two r None = runs
@@ -293,23 +293,23 @@ module _ {C V : Type 0} (number : C → ℕ) (same : V → V → Bool) (always :
   one_upgraded one r Failed t q g = to C V _ _ t g.1 (runs C V _)
   one_upgraded one r Exhausted t q g = to C V _ _ t g.1 (stops C V _ refusal.Exhausted (none_left (h (number one.at.node)) one.at.version q))
 
-  above_upgraded : (two : Two C) (r : Reply V) (u : Upgrade) (t : NextPhase C V) → u ≡ upgrade_gives most (h (number two.above.seat.node)) two.above.seat.version fail → UpgradedAbove number root two r h u h' t → Only C V (NoneLeft most two.above.seat.version) t
+  above_upgraded : (two : Two C) (r : Reply V) (u : Upgrade) (t : NextPhase C V) → u ≡ upgrade_gives most (h (number two.above.stamp.node)) two.above.stamp.version fail → UpgradedAbove number root two r h u h' t → Only C V (NoneLeft most two.above.stamp.version) t
   above_upgraded two r Locked t q g = to C V _ _ t g.1 (runs C V _)
   above_upgraded two r Failed t q g = to C V _ _ t g.1 (gives_up two.top)
     where
-      gives_up : (top : Option (Parent C)) → Only C V (NoneLeft most two.above.seat.version) (given_up root top None)
+      gives_up : (top : Option (Parent C)) → Only C V (NoneLeft most two.above.stamp.version) (given_up root top None)
       gives_up None = runs C V _
       gives_up (Some top) = runs C V _
   above_upgraded two r Exhausted t q g = to C V _ _ t g.1 (gives_up two.top)
     where
-      gives_up : (top : Option (Parent C)) → Only C V (NoneLeft most two.above.seat.version) (given_up root top (Some refusal.Exhausted))
-      gives_up None = stops C V _ refusal.Exhausted (none_left (h (number two.above.seat.node)) two.above.seat.version q)
+      gives_up : (top : Option (Parent C)) → Only C V (NoneLeft most two.above.stamp.version) (given_up root top (Some refusal.Exhausted))
+      gives_up None = stops C V _ refusal.Exhausted (none_left (h (number two.above.stamp.node)) two.above.stamp.version q)
       gives_up (Some top) = runs C V _
 
-  top_upgraded : (top : Parent C) (two : Two C) (r : Reply V) (u : Upgrade) (t : NextPhase C V) → u ≡ upgrade_gives most (h (number top.seat.node)) top.seat.version fail → UpgradedTop number root top two r h u h' t → Only C V (NoneLeft most top.seat.version) t
+  top_upgraded : (top : Parent C) (two : Two C) (r : Reply V) (u : Upgrade) (t : NextPhase C V) → u ≡ upgrade_gives most (h (number top.stamp.node)) top.stamp.version fail → UpgradedTop number root top two r h u h' t → Only C V (NoneLeft most top.stamp.version) t
   top_upgraded top two r Locked t q g = to C V _ _ t g.1 (runs C V _)
   top_upgraded top two r Failed t q g = to C V _ _ t g.1 (runs C V _)
-  top_upgraded top two r Exhausted t q g = to C V _ _ t g.1 (stops C V _ refusal.Exhausted (none_left (h (number top.seat.node)) top.seat.version q))
+  top_upgraded top two r Exhausted t q g = to C V _ _ t g.1 (stops C V _ refusal.Exhausted (none_left (h (number top.stamp.node)) top.stamp.version q))
 
   both_upgraded : (two : Two C) (r : Reply V) (u : Upgrade) (t : NextPhase C V) → UpgradedBelow number two r h u h' t → Only C V (λ _. ⊥) t
   both_upgraded two r Locked t g = to C V _ _ t g.1 (runs C V _)

@@ -20,7 +20,7 @@ use Rattle.congee.specs.Notes.{Note, Status, Unmade, Held, Linked, Gone, Destroy
 use Rattle.congee.specs.protocol.Protocol.{Rely}
 use Rattle.congee.specs.protocol.Answers.{SameMap}
 use Rattle.congee.specs.protocol.Holdings.{IsTop, LockedBy, MadeForOne, MadeForTwo, MadeForPlan, IsMade, MadeBy, Holdings}
-use Rattle.congee.specs.protocol.Names.{name_above, name_seated, name_made, names_for_one, names_for_two, names_site, names_one, names_two, names_plan, names}
+use Rattle.congee.specs.protocol.Names.{name_above, name_stamped, name_made, names_for_one, names_for_two, names_site, names_one, names_two, names_plan, names}
 use Rattle.congee.specs.protocol.Play.{EachKnown, ProtocolAt, Settled}
 use Rattle.congee.specs.protocol.Destroys.{Lost, Destroys, Spares}
 use Rattle.congee.proofs.lemmas.protocol.Each.{Each, left, right}
@@ -53,7 +53,7 @@ module _ {C : Type 0} (number : C → ℕ) (K : ℕ → Type 0) (n : ℕ) where
 
   above_named : (top : Option (Parent C)) → Each K (name_above number top) → IsTop number top n → K n
   above_named None e x = absurd x
-  above_named (Some p) e x = at_name p.seat.node x e.0
+  above_named (Some p) e x = at_name p.stamp.node x e.0
 
   top_named : (two : Two C) → Each K (names_two number two) → IsTop number two.top n → K n
   top_named two e x = above_named two.top (left K (name_above number two.top) (names_for_two number two.change) e.1.1) x
@@ -63,7 +63,7 @@ module _ {C : Type 0} (number : C → ℕ) (K : ℕ → Type 0) (n : ℕ) where
   next_named (Some c) e x = at_name c x e.0
 
   plan_named : (plan : Plan C) → Each K (names_plan number plan) → MadeForPlan number plan n → K n
-  plan_named (Here check one) e x = one_named one.change (right K (name_seated number check) (names_one number one) e).1 x
+  plan_named (Here check one) e x = one_named one.change (right K (name_stamped number check) (names_one number one) e).1 x
   plan_named (Above two) e x = made_for_two two e x
 
   leaf_named : (leaf : Option C) (s : Site C) → Each K (name_made number leaf) → IsMade number leaf n → K n
@@ -87,9 +87,9 @@ module _ {C : Type 0} (number : C → ℕ) (K : ℕ → Type 0) (n : ℕ) where
     locked_named : (s : Phase C V) → Each K (names number s) → LockedBy number s n → K n
     locked_named (ChangeOne one r) e x = at_name one.at.node x e.0
     locked_named (UpgradeAbove two r) e x = top_named two e x
-    locked_named (UpgradeBelow two r) e (inl x) = at_name two.above.seat.node x e.0
+    locked_named (UpgradeBelow two r) e (inl x) = at_name two.above.stamp.node x e.0
     locked_named (UpgradeBelow two r) e (inr x) = top_named two e x
-    locked_named (ChangeTwo two r) e (inl (inl x)) = at_name two.above.seat.node x e.0
+    locked_named (ChangeTwo two r) e (inl (inl x)) = at_name two.above.stamp.node x e.0
     locked_named (ChangeTwo two r) e (inl (inr x)) = at_name two.at.node x e.1.0
     locked_named (ChangeTwo two r) e (inr x) = top_named two e x
     locked_named (Obsolete m next p r) e (inl (inl x)) = at_name p x e.1.0

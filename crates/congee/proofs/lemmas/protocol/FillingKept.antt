@@ -27,7 +27,7 @@ use Rattle.congee.specs.Notes.{Note, Linked, is_published, Tree, LockWords}
 use Rattle.congee.specs.protocol.Events.{BackGives}
 use Rattle.congee.specs.protocol.Steps.{BackOne, BackTwo, BackLeaf, MadeLeaf, MadeGreater, MadeTop, MadeBeside, MadeLesser, UpgradedOne, UpgradedTop, UpgradedAbove, UpgradedBelow, PhaseStepped}
 use Rattle.congee.specs.protocol.Protocol.{Made, MadeOne, MadeTwo, MadeLeafFor, OneKnown, TwoKnown, HalfLocked, PlanKnown, Rely, Known}
-use Rattle.congee.specs.protocol.Names.{names, names_plan, name_seated, names_one}
+use Rattle.congee.specs.protocol.Names.{names, names_plan, name_stamped, names_one}
 use Rattle.congee.specs.protocol.Filled.{AllFilled, FillsAt, MayFillOne, MayFillHalf, MayFillTwo, MayFillPlan, IsSmall, Fills}
 use Rattle.congee.proofs.lemmas.Graft.{on_test}
 use Rattle.congee.proofs.lemmas.protocol.Each.{Each, right}
@@ -104,12 +104,12 @@ module _ {C V : Type 0} (number : C → ℕ) (same : V → V → Bool) (always :
   two_back two size q m g = stays (two_back_still number i a h h' (key_bytes k) w two.above two.change size q m g)
 
   top_upgraded : (root : C) (top : Parent C) (two : Two C) (r : Reply V) (turn : NextPhase C V) (u : Upgrade) (size q : ℕ) → MadeTwo number i a h (key_bytes k) two.above two.change size q → UpgradedTop number root top two r h u h' turn → AllFilled h'
-  top_upgraded root top two r turn Locked size q m g = locked (number top.seat.node) (locked_alike h (number top.seat.node) h' g.0)
+  top_upgraded root top two r turn Locked size q m g = locked (number top.stamp.node) (locked_alike h (number top.stamp.node) h' g.0)
   top_upgraded root top two r turn Failed size q m g = two_back two size q m g.0
   top_upgraded root top two r turn Exhausted size q m g = two_back two size q m g.0
 
   above_upgraded : (root : C) (two : Two C) (r : Reply V) (turn : NextPhase C V) (u : Upgrade) (size q : ℕ) → MadeTwo number i a h (key_bytes k) two.above two.change size q → UpgradedAbove number root two r h u h' turn → AllFilled h'
-  above_upgraded root two r turn Locked size q m g = locked (number two.above.seat.node) (locked_alike h (number two.above.seat.node) h' g.0)
+  above_upgraded root two r turn Locked size q m g = locked (number two.above.stamp.node) (locked_alike h (number two.above.stamp.node) h' g.0)
   above_upgraded root two r turn Failed size q m g = two_back two size q m g.0
   above_upgraded root two r turn Exhausted size q m g = two_back two size q m g.0
 
@@ -160,31 +160,31 @@ module _ {C V : Type 0} (number : C → ℕ) (key : List ℕ) (K : ℕ → Type 
 
   one_on : (given : Option V) (one : One C) (x : Hung V) → K (number one.at.node) → OneKnown number i a h key one x → MayFillOne number h given one → MayFillOne number h' given one
   one_on given one x kn m fills q =
-      let e : h' (number one.at.node) ≡ h (number one.at.node) = r.word (number one.at.node) one.at.version kn m.fresh.seated.published m.fresh.seated.up q in
+      let e : h' (number one.at.node) ≡ h (number one.at.node) = r.word (number one.at.node) one.at.version kn m.fresh.stamped.published m.fresh.stamped.up q in
       let P : Node V → Type 0 = λ y. is_taken y one.at.version ≡ true in
       fills_one_on number h h' one.change given (number one.at.node) (h (number one.at.node)) (h' (number one.at.node)) (alike (h (number one.at.node)) (h' (number one.at.node)) e) (one_places one.change m.made) (fills (subst P e q))
 
-  at_on : (two : Two C) (size q : ℕ) → MadeTwo number i a h key two.above two.change size q → h' (number two.above.seat.node) ≡ h (number two.above.seat.node) → h' (number two.at.node) ≡ h (number two.at.node) → FillsAt number h two → FillsAt number h' two
-  at_on two size q m ep en x = fills_two_on number h h' two.change (number two.above.seat.node) (h (number two.above.seat.node)) (h' (number two.above.seat.node)) (number two.at.node) (h (number two.at.node)) (h' (number two.at.node))
-      (alike (h (number two.above.seat.node)) (h' (number two.above.seat.node)) ep) (alike (h (number two.at.node)) (h' (number two.at.node)) en) (two_places two.above two.change size q m) x
+  at_on : (two : Two C) (size q : ℕ) → MadeTwo number i a h key two.above two.change size q → h' (number two.above.stamp.node) ≡ h (number two.above.stamp.node) → h' (number two.at.node) ≡ h (number two.at.node) → FillsAt number h two → FillsAt number h' two
+  at_on two size q m ep en x = fills_two_on number h h' two.change (number two.above.stamp.node) (h (number two.above.stamp.node)) (h' (number two.above.stamp.node)) (number two.at.node) (h (number two.at.node)) (h' (number two.at.node))
+      (alike (h (number two.above.stamp.node)) (h' (number two.above.stamp.node)) ep) (alike (h (number two.at.node)) (h' (number two.at.node)) en) (two_places two.above two.change size q m) x
 
-  two_on : (two : Two C) (found : Option V) (q : ℕ) → K (number two.above.seat.node) → K (number two.at.node) → TwoKnown number i a h key two found q → MayFillTwo number h two → MayFillTwo number h' two
+  two_on : (two : Two C) (found : Option V) (q : ℕ) → K (number two.above.stamp.node) → K (number two.at.node) → TwoKnown number i a h key two found q → MayFillTwo number h two → MayFillTwo number h' two
   two_on two found q kp kn m fills tp tn =
-      let ep : h' (number two.above.seat.node) ≡ h (number two.above.seat.node) = r.word (number two.above.seat.node) two.above.seat.version kp m.above.fresh.seated.published m.above.fresh.seated.up tp in
-      let en : h' (number two.at.node) ≡ h (number two.at.node) = r.word (number two.at.node) two.at.version kn m.fresh.seated.published m.fresh.seated.up tn in
-      let P : Node V → Type 0 = λ y. is_taken y two.above.seat.version ≡ true in
+      let ep : h' (number two.above.stamp.node) ≡ h (number two.above.stamp.node) = r.word (number two.above.stamp.node) two.above.stamp.version kp m.above.fresh.stamped.published m.above.fresh.stamped.up tp in
+      let en : h' (number two.at.node) ≡ h (number two.at.node) = r.word (number two.at.node) two.at.version kn m.fresh.stamped.published m.fresh.stamped.up tn in
+      let P : Node V → Type 0 = λ y. is_taken y two.above.stamp.version ≡ true in
       let Q : Node V → Type 0 = λ y. is_taken y two.at.version ≡ true in
       at_on two _ q m.made ep en (fills (subst P ep tp) (subst Q en tn))
 
   half_on : (two : Two C) (found : Option V) (q : ℕ) → K (number two.at.node) → HalfLocked number i a h key two found q → MayFillHalf number h two → MayFillHalf number h' two
   half_on two found q kn m fills tn =
-      let ep : h' (number two.above.seat.node) ≡ h (number two.above.seat.node) = (r.mine (number two.above.seat.node) m.above.holding.owner).0 in
-      let en : h' (number two.at.node) ≡ h (number two.at.node) = r.word (number two.at.node) two.at.version kn m.fresh.seated.published m.fresh.seated.up tn in
+      let ep : h' (number two.above.stamp.node) ≡ h (number two.above.stamp.node) = (r.mine (number two.above.stamp.node) m.above.holding.owner).0 in
+      let en : h' (number two.at.node) ≡ h (number two.at.node) = r.word (number two.at.node) two.at.version kn m.fresh.stamped.published m.fresh.stamped.up tn in
       let Q : Node V → Type 0 = λ y. is_taken y two.at.version ≡ true in
       at_on two _ q m.made ep en (fills (subst Q en tn))
 
   plan_on : (v : V) (plan : Plan C) → Each K (names_plan number plan) → PlanKnown number i a h key plan → MayFillPlan number h v plan → MayFillPlan number h' v plan
-  plan_on v (Here check one) e m x = one_on (Some v) one _ (right K (name_seated number check) (names_one number one) e).0 m.1 x
+  plan_on v (Here check one) e m x = one_on (Some v) one _ (right K (name_stamped number check) (names_one number one) e).0 m.1 x
   plan_on v (Above two) e m x = two_on two None m.0.0 e.0 e.1.0 m.0.1 x
 
   small_on : (s : Site C) (leaf : Option C) → MadeLeafFor number i a h key s leaf → IsSmall number h leaf → IsSmall number h' leaf
@@ -203,5 +203,5 @@ module _ {C V : Type 0} (number : C → ℕ) (key : List ℕ) (K : ℕ → Type 
   fills_kept same always k kind given (UpgradeTop g two r') e m x = two_on two m.1.0 m.1.1 e.1.0 e.1.1.0 m.1.2 x
   fills_kept same always k kind given (UpgradeAbove two r') e m x = two_on two m.1.0 m.1.1 e.0 e.1.0 m.1.2 x
   fills_kept same always k kind given (UpgradeBelow two r') e m x = half_on two m.1.0 m.1.1 e.1.0 m.1.2 x
-  fills_kept same always k kind given (ChangeTwo two r') e m x = at_on two _ m.1 m.2.made (r.mine (number two.above.seat.node) m.2.above.holding.owner).0 (r.mine (number two.at.node) m.2.owner).0 x
+  fills_kept same always k kind given (ChangeTwo two r') e m x = at_on two _ m.1 m.2.made (r.mine (number two.above.stamp.node) m.2.above.holding.owner).0 (r.mine (number two.at.node) m.2.owner).0 x
   fills_kept same always k kind given _ e m x = tt

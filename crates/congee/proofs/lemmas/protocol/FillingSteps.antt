@@ -272,7 +272,7 @@ module _ {C V : Type 0} (number : C → ℕ) (same : V → V → Bool) (always :
   stays_next : (s : Site C) (v : V) (r : Reply V) → Knows number a h (key_bytes k) s (Holds v) → s.depth ≡ 7 → s.count == 1 ≡ false → shrinks s.form s.count ≡ false → Next number h None (quiet (UpgradeOne (set_at s) r))
   stays_next s v r m d one large = λ q nz j e.
       let y : Sees (key_bytes k) s (Holds v) (h (number s.at.node)) = m.fresh.holds q in
-      let x : IsFilled (h (number s.at.node)) = was_filled a h t f (number s.at.node) (taken_linked a h w (number s.at.node) s.at.version m.fresh.seated.published q) nz in
+      let x : IsFilled (h (number s.at.node)) = was_filled a h t f (number s.at.node) (taken_linked a h w (number s.at.node) s.at.version m.fresh.stamped.published q) nz in
       record {
         some = omega (arith, e, x.some, y.count, not_one s.count one);
         branches = λ z. absurd (omega (arith, z, m.depth, d));
@@ -281,19 +281,19 @@ module _ {C V : Type 0} (number : C → ℕ) (same : V → V → Bool) (always :
 
   above_next : (s : Site C) (r : Reply V) (p : Parent C) → ChildOf number a h (key_bytes k) p (number s.at.node) → p.count == 2 ≡ false → ltb 2 p.count && shrinks p.form p.count ≡ false → Next number h None (quiet (UpgradeAbove (both p s Unlink) r))
   above_next s r p c two large = λ q _ nz j e.
-      let y : (child_for (h (number p.seat.node)) (key_bytes k) ≡ Below (number s.at.node)) × ((h (number p.seat.node)).count ≡ p.count) × ((h (number p.seat.node)).capacity ≡ places p.form) = c.fresh.holds q in
-      let l : (a (number p.seat.node)).status ≡ Linked = taken_linked a h w (number p.seat.node) p.seat.version c.fresh.seated.published q in
-      let ch : IsChild a h (number p.seat.node) _ (number s.at.node) = t.down (number p.seat.node) _ (number s.at.node) l y.0 in
-      let x : IsFilled (h (number p.seat.node)) = was_filled a h t f (number p.seat.node) l nz in
-      let least : 2 ≤ (h (number p.seat.node)).count = x.branches (omega (arith, ch.longer, t.short (number s.at.node) ch.linked)) in
+      let y : (child_for (h (number p.stamp.node)) (key_bytes k) ≡ Below (number s.at.node)) × ((h (number p.stamp.node)).count ≡ p.count) × ((h (number p.stamp.node)).capacity ≡ places p.form) = c.fresh.holds q in
+      let l : (a (number p.stamp.node)).status ≡ Linked = taken_linked a h w (number p.stamp.node) p.stamp.version c.fresh.stamped.published q in
+      let ch : IsChild a h (number p.stamp.node) _ (number s.at.node) = t.down (number p.stamp.node) _ (number s.at.node) l y.0 in
+      let x : IsFilled (h (number p.stamp.node)) = was_filled a h t f (number p.stamp.node) l nz in
+      let least : 2 ≤ (h (number p.stamp.node)).count = x.branches (omega (arith, ch.longer, t.short (number s.at.node) ch.linked)) in
       let more : 2 < p.count = omega (arith, least, y.1, not_two p.count two) in
       record {
         some = omega (arith, e, y.1, more);
         branches = λ _. omega (arith, e, y.1, more);
-        least = enough p.form j (h (number p.seat.node)).capacity y.2 (spared p.form p.count j (both_false (ltb 2 p.count) (shrinks p.form p.count) large (two_below p.count more)) (e ∙ y.1));
+        least = enough p.form j (h (number p.stamp.node)).capacity y.2 (spared p.form p.count j (both_false (ltb 2 p.count) (shrinks p.form p.count) large (two_below p.count more)) (e ∙ y.1));
       }
 
-  last_next : (s : Site C) (r : Reply V) (p : Parent C) (far : Option (Parent C)) → ChildOf number a h (key_bytes k) p (number s.at.node) → IsFar number a h (key_bytes k) far (number p.seat.node) → Next number h None (last_out s p far r)
+  last_next : (s : Site C) (r : Reply V) (p : Parent C) (far : Option (Parent C)) → ChildOf number a h (key_bytes k) p (number s.at.node) → IsFar number a h (key_bytes k) far (number p.stamp.node) → Next number h None (last_out s p far r)
   last_next s r p None c z = λ _ _ nz. absurd (nz z)
   last_next s r p (Some top) c z = by_test (λ (x : NextPhase C V). Next number h None x) (p.count == 2) _ _ (λ _. λ _ _. tt)
       (λ two. by_test (λ (x : NextPhase C V). Next number h None x) (ltb 2 p.count && shrinks p.form p.count) _ _ (λ _. tt) (λ large. above_next s r p c two large))
@@ -379,7 +379,7 @@ module _ {C V : Type 0} (number : C → ℕ) (same : V → V → Bool) (always :
   greater_fills : (s : Site C) (c : C) → Knows number a h (key_bytes k) s Nothing → NewNode h (number c) (form_above s.count) (key_bytes k) s.depth h' → is_taken (h' (number s.at.node)) s.at.version ≡ true → number s.at.node ≢ 0
       → FilledAs (length (h' (number s.at.node)).prefix) (suc (h' (number s.at.node)).count) (h' (number c)).capacity
   greater_fills s c m g q nz =
-      let pu : is_published (a (number s.at.node)).status ≡ true = m.fresh.seated.published in
+      let pu : is_published (a (number s.at.node)).status ≡ true = m.fresh.stamped.published in
       let e : h' (number s.at.node) ≡ h (number s.at.node) = g.others (number s.at.node) (new_apart a h w h' (number c) _ (key_bytes k) s.depth (number s.at.node) g (published_made a h w (number s.at.node) pu)) in
       let q' : is_taken (h (number s.at.node)) s.at.version ≡ true = was (number s.at.node) s.at.version e q in
       let y : Sees (key_bytes k) s Nothing (h (number s.at.node)) = m.fresh.holds q' in
@@ -416,7 +416,7 @@ module _ {C V : Type 0} (number : C → ℕ) (same : V → V → Bool) (always :
   leaf_fills : (s : Site C) (c : C) (v : V) → Knows number a h (key_bytes k) s (Holds v) → s.depth ≡ 7 → shrinks s.form s.count ≡ true → NewNode h (number c) (form_below s.form) (key_bytes k) s.depth h' → is_taken (h' (number s.at.node)) s.at.version ≡ true
       → number s.at.node ≢ 0 → FilledWithout (length (h' (number s.at.node)).prefix) (h' (number s.at.node)).count (h' (number c)).capacity
   leaf_fills s c v m d small g q nz j ej =
-      let pu : is_published (a (number s.at.node)).status ≡ true = m.fresh.seated.published in
+      let pu : is_published (a (number s.at.node)).status ≡ true = m.fresh.stamped.published in
       let e : h' (number s.at.node) ≡ h (number s.at.node) = g.others (number s.at.node) (new_apart a h w h' (number c) _ (key_bytes k) s.depth (number s.at.node) g (published_made a h w (number s.at.node) pu)) in
       let q' : is_taken (h (number s.at.node)) s.at.version ≡ true = was (number s.at.node) s.at.version e q in
       let y : Sees (key_bytes k) s (Holds v) (h (number s.at.node)) = m.fresh.holds q' in
@@ -431,17 +431,17 @@ module _ {C V : Type 0} (number : C → ℕ) (same : V → V → Bool) (always :
       })
 
   -- a lesser node with the other children of the node above
-  above_fills : (p : Parent C) (n : ℕ) (c : C) → ChildOf number a h (key_bytes k) p n → 2 < p.count → NewNode h (number c) (form_below p.form) (key_bytes k) p.depth h' → is_taken (h' (number p.seat.node)) p.seat.version ≡ true
-      → number p.seat.node ≢ 0 → FilledWithout (length (h' (number p.seat.node)).prefix) (h' (number p.seat.node)).count (h' (number c)).capacity
+  above_fills : (p : Parent C) (n : ℕ) (c : C) → ChildOf number a h (key_bytes k) p n → 2 < p.count → NewNode h (number c) (form_below p.form) (key_bytes k) p.depth h' → is_taken (h' (number p.stamp.node)) p.stamp.version ≡ true
+      → number p.stamp.node ≢ 0 → FilledWithout (length (h' (number p.stamp.node)).prefix) (h' (number p.stamp.node)).count (h' (number c)).capacity
   above_fills p n c ch more g q nz j ej =
-      let pu : is_published (a (number p.seat.node)).status ≡ true = ch.fresh.seated.published in
-      let e : h' (number p.seat.node) ≡ h (number p.seat.node) = g.others (number p.seat.node) (new_apart a h w h' (number c) _ (key_bytes k) p.depth (number p.seat.node) g (published_made a h w (number p.seat.node) pu)) in
-      let q' : is_taken (h (number p.seat.node)) p.seat.version ≡ true = was (number p.seat.node) p.seat.version e q in
-      let y : (child_for (h (number p.seat.node)) (key_bytes k) ≡ Below n) × ((h (number p.seat.node)).count ≡ p.count) × ((h (number p.seat.node)).capacity ≡ places p.form) = ch.fresh.holds q' in
-      let x : IsFilled (h (number p.seat.node)) = was_filled a h t f (number p.seat.node) (taken_linked a h w (number p.seat.node) p.seat.version pu q') nz in
+      let pu : is_published (a (number p.stamp.node)).status ≡ true = ch.fresh.stamped.published in
+      let e : h' (number p.stamp.node) ≡ h (number p.stamp.node) = g.others (number p.stamp.node) (new_apart a h w h' (number c) _ (key_bytes k) p.depth (number p.stamp.node) g (published_made a h w (number p.stamp.node) pu)) in
+      let q' : is_taken (h (number p.stamp.node)) p.stamp.version ≡ true = was (number p.stamp.node) p.stamp.version e q in
+      let y : (child_for (h (number p.stamp.node)) (key_bytes k) ≡ Below n) × ((h (number p.stamp.node)).count ≡ p.count) × ((h (number p.stamp.node)).capacity ≡ places p.form) = ch.fresh.holds q' in
+      let x : IsFilled (h (number p.stamp.node)) = was_filled a h t f (number p.stamp.node) (taken_linked a h w (number p.stamp.node) p.stamp.version pu q') nz in
       let l : least_in p.form ≤ p.count = omega (arith, y.1, x.least p.form (sym y.2)) in
       let es : suc j ≡ p.count = ej ∙ (ap (λ z. z.count) e ∙ y.1) in
-      filled_same (length (h (number p.seat.node)).prefix) j (h' (number c)).capacity (length (h' (number p.seat.node)).prefix) j (h' (number c)).capacity (ap (λ z. length z.prefix) e) refl refl
+      filled_same (length (h (number p.stamp.node)).prefix) j (h' (number c)).capacity (length (h' (number p.stamp.node)).prefix) j (h' (number c)).capacity (ap (λ z. length z.prefix) e) refl refl
       (record {
         some = omega (arith, es, more);
         branches = λ _. omega (arith, es, more);
@@ -465,24 +465,24 @@ module _ {C V : Type 0} (number : C → ℕ) (same : V → V → Bool) (always :
 
   -- over a lock of node n
   over_lock : (n : ℕ) (two : Two C) → SameBut h n (record (h n) { locked = true }) h' → FillsAt number h two → FillsAt number h' two
-  over_lock n two g x = fills_two_on number h h' two.change (number two.above.seat.node) (h (number two.above.seat.node)) (h' (number two.above.seat.node)) (number two.at.node) (h (number two.at.node)) (h' (number two.at.node))
-      (locked_alike h n h' g (number two.above.seat.node)) (locked_alike h n h' g (number two.at.node)) (places_two number h h' two.change (λ m. (locked_alike h n h' g m).capacity)) x
+  over_lock n two g x = fills_two_on number h h' two.change (number two.above.stamp.node) (h (number two.above.stamp.node)) (h' (number two.above.stamp.node)) (number two.at.node) (h (number two.at.node)) (h' (number two.at.node))
+      (locked_alike h n h' g (number two.above.stamp.node)) (locked_alike h n h' g (number two.at.node)) (places_two number h h' two.change (λ m. (locked_alike h n h' g m).capacity)) x
 
-  top_locked_next : (most : ℕ) (fail : Bool) (root : C) (top : Parent C) (two : Two C) (r : Reply V) (turn : NextPhase C V) (u : Upgrade) → MayFillTwo number h two → u ≡ upgrade_gives most (h (number top.seat.node)) top.seat.version fail
+  top_locked_next : (most : ℕ) (fail : Bool) (root : C) (top : Parent C) (two : Two C) (r : Reply V) (turn : NextPhase C V) (u : Upgrade) → MayFillTwo number h two → u ≡ upgrade_gives most (h (number top.stamp.node)) top.stamp.version fail
       → UpgradedTop number root top two r h u h' turn → Next number h' given turn
   top_locked_next most fail root top two r turn Failed x e g = turn_at number h' given _ turn g.1 tt
   top_locked_next most fail root top two r turn Exhausted x e g = turn_at number h' given _ turn g.1 tt
-  top_locked_next most fail root top two r turn Locked x e g = turn_at number h' given _ turn g.1 (λ p q. over_lock (number top.seat.node) two g.0
-      (x (was (number two.above.seat.node) two.above.seat.version (free_after h (number top.seat.node) h' g.0 (number two.above.seat.node) two.above.seat.version p) p)
-      (was (number two.at.node) two.at.version (free_after h (number top.seat.node) h' g.0 (number two.at.node) two.at.version q) q)))
+  top_locked_next most fail root top two r turn Locked x e g = turn_at number h' given _ turn g.1 (λ p q. over_lock (number top.stamp.node) two g.0
+      (x (was (number two.above.stamp.node) two.above.stamp.version (free_after h (number top.stamp.node) h' g.0 (number two.above.stamp.node) two.above.stamp.version p) p)
+      (was (number two.at.node) two.at.version (free_after h (number top.stamp.node) h' g.0 (number two.at.node) two.at.version q) q)))
 
-  above_locked_next : (most : ℕ) (fail : Bool) (root : C) (two : Two C) (r : Reply V) (turn : NextPhase C V) (u : Upgrade) → MayFillTwo number h two → u ≡ upgrade_gives most (h (number two.above.seat.node)) two.above.seat.version fail
+  above_locked_next : (most : ℕ) (fail : Bool) (root : C) (two : Two C) (r : Reply V) (turn : NextPhase C V) (u : Upgrade) → MayFillTwo number h two → u ≡ upgrade_gives most (h (number two.above.stamp.node)) two.above.stamp.version fail
       → UpgradedAbove number root two r h u h' turn → Next number h' given turn
   above_locked_next most fail root two r turn Failed x e g = turn_at number h' given _ turn g.1 (given_up_next number h' given root two.top _)
   above_locked_next most fail root two r turn Exhausted x e g = turn_at number h' given _ turn g.1 (given_up_next number h' given root two.top _)
-  above_locked_next most fail root two r turn Locked x e g = turn_at number h' given _ turn g.1 (λ q. over_lock (number two.above.seat.node) two g.0
-      (x (locked_taken most (h (number two.above.seat.node)) two.above.seat.version fail e)
-      (was (number two.at.node) two.at.version (free_after h (number two.above.seat.node) h' g.0 (number two.at.node) two.at.version q) q)))
+  above_locked_next most fail root two r turn Locked x e g = turn_at number h' given _ turn g.1 (λ q. over_lock (number two.above.stamp.node) two g.0
+      (x (locked_taken most (h (number two.above.stamp.node)) two.above.stamp.version fail e)
+      (was (number two.at.node) two.at.version (free_after h (number two.above.stamp.node) h' g.0 (number two.at.node) two.at.version q) q)))
 
   both_locked_next : (most : ℕ) (fail : Bool) (two : Two C) (r : Reply V) (turn : NextPhase C V) (u : Upgrade) → MayFillHalf number h two → u ≡ upgrade_gives most (h (number two.at.node)) two.at.version fail
       → UpgradedBelow number two r h u h' turn → Next number h' given turn

@@ -106,12 +106,12 @@ module _ {C V : Type 0} (number : C → ℕ) (h h' : ℕ → Node V) where
   one_upgraded root one r Exhausted t g = one_back one.change g.0
 
   top_upgraded : (root : C) (top : Parent C) (two : Two C) (r : Reply V) (u : Upgrade) (t : NextPhase C V) → UpgradedTop number root top two r h u h' t → Loses (MadeForTwo number two.change) h h'
-  top_upgraded root top two r Locked t g = loses_but _ h h' (number top.seat.node) _ refl refl g.0
+  top_upgraded root top two r Locked t g = loses_but _ h h' (number top.stamp.node) _ refl refl g.0
   top_upgraded root top two r Failed t g = two_back two.change g.0
   top_upgraded root top two r Exhausted t g = two_back two.change g.0
 
   above_upgraded : (root : C) (two : Two C) (r : Reply V) (u : Upgrade) (t : NextPhase C V) → UpgradedAbove number root two r h u h' t → Loses (MadeForTwo number two.change) h h'
-  above_upgraded root two r Locked t g = loses_but _ h h' (number two.above.seat.node) _ refl refl g.0
+  above_upgraded root two r Locked t g = loses_but _ h h' (number two.above.stamp.node) _ refl refl g.0
   above_upgraded root two r Failed t g = two_back two.change g.0
   above_upgraded root two r Exhausted t g = two_back two.change g.0
 

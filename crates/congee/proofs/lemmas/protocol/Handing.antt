@@ -173,40 +173,40 @@ module _ {C V : Type 0} (number : C → ℕ) (i : ℕ) (a : ℕ → Note) (h : �
   -- the node above both doesn't wait
   abbrev TopIdle : Option (Parent C) → Type 0
   TopIdle None = Unit {0}
-  TopIdle (Some top) = is_waiting (h (number top.seat.node)) ≡ false
+  TopIdle (Some top) = is_waiting (h (number top.stamp.node)) ≡ false
 
   collapsed : (two : Two C) (top : Option (Parent C)) → TopIdle top → Collapses number two top h h' → SparesWaiting h h'
   collapsed two None e g = absurd g
-  collapsed two (Some top) e g = spares_change h h' (number top.seat.node) _ _ e g.2
+  collapsed two (Some top) e g = spares_change h h' (number top.stamp.node) _ _ e g.2
 
-  lessened_top : (two : Two C) (c : C) (size q : ℕ) (top : Option (Parent C)) → TopIdle top → is_waiting (h (number two.above.seat.node)) ≡ false → Made i a h key (number c) size q → Lessens number two c top h h' → SparesWaiting h h'
+  lessened_top : (two : Two C) (c : C) (size q : ℕ) (top : Option (Parent C)) → TopIdle top → is_waiting (h (number two.above.stamp.node)) ≡ false → Made i a h key (number c) size q → Lessens number two c top h h' → SparesWaiting h h'
   lessened_top two c size q None e f made g = absurd g
   lessened_top two c size q (Some top) e f made g = lessened _ _ _ _ _ size q e f made g
 
-  changed_two : (new : Option V) (two : Two C) (change : Double C) (size q : ℕ) → TopIdle two.top → is_waiting (h (number two.above.seat.node)) ≡ false → is_waiting (h (number two.at.node)) ≡ false → MadeTwo number i a h key two.above change size q
+  changed_two : (new : Option V) (two : Two C) (change : Double C) (size q : ℕ) → TopIdle two.top → is_waiting (h (number two.above.stamp.node)) ≡ false → is_waiting (h (number two.at.node)) ≡ false → MadeTwo number i a h key two.above change size q
       → ChangedTwo number key new two change h h' → SparesWaiting h h'
   changed_two new two Unlink size q u e f m g = spares_change h h' _ _ _ e g
   changed_two new two (Shrink c) size q u e f m g = lessened _ _ _ _ _ size q e f m g
   changed_two new two Collapse size q u e f m g = collapsed two two.top u g
   changed_two new two (ShrinkAbove c) size q u e f m g = lessened_top two c _ q two.top u e m.0 g
   changed_two new two (Grow c) size q u e f m g =
-      let p : ℕ = number two.above.seat.node in
+      let p : ℕ = number two.above.stamp.node in
       let ec : is_waiting (h (number c)) ≡ false = idle_made (number c) size q m in
       let s1 : SparesWaiting h g.0 = spares_take h g.0 (number two.at.node) (number c) f ec g.2 in
       let s2 : SparesWaiting h g.1 = spares_then h g.0 g.1 s1 (spares_change g.0 g.1 (number c) _ _ (still_idle h g.0 (number c) s1 ec) g.3) in
-      spares_then h g.1 h' s2 (spares_change g.1 h' (number two.above.seat.node) _ _ (still_idle h g.1 (number two.above.seat.node) s2 e) g.4)
+      spares_then h g.1 h' s2 (spares_change g.1 h' (number two.above.stamp.node) _ _ (still_idle h g.1 (number two.above.stamp.node) s2 e) g.4)
   changed_two new two (GrowLink c leaf byte) size q u e f m g =
       let ec : is_waiting (h (number c)) ≡ false = idle_made (number c) size q m.0 in
       let s1 : SparesWaiting h g.0 = spares_change h g.0 (number leaf) _ _ (idle_made (number leaf) 7 0 m.1) g.3 in
       let s2 : SparesWaiting h g.1 = spares_then h g.0 g.1 s1 (spares_take g.0 g.1 (number two.at.node) (number c) (still_idle h g.0 (number two.at.node) s1 f) (still_idle h g.0 (number c) s1 ec) g.4) in
       let s3 : SparesWaiting h g.2 = spares_then h g.1 g.2 s2 (spares_change g.1 g.2 (number c) _ _ (still_idle h g.1 (number c) s2 ec) g.5) in
-      spares_then h g.2 h' s3 (spares_change g.2 h' (number two.above.seat.node) _ _ (still_idle h g.2 (number two.above.seat.node) s3 e) g.6)
+      spares_then h g.2 h' s3 (spares_change g.2 h' (number two.above.stamp.node) _ _ (still_idle h g.2 (number two.above.stamp.node) s3 e) g.6)
   changed_two new two (Split top leaf common byte) size q u e f m g =
       let ec : is_waiting (h (number top)) ≡ false = idle_made (number top) common 1 m.0 in
       let s1 : SparesWaiting h g.0 = spares_change h g.0 (number leaf) _ _ (idle_made (number leaf) 7 0 m.1) g.3 in
       let s2 : SparesWaiting h g.1 = spares_then h g.0 g.1 s1 (spares_change g.0 g.1 (number top) _ _ (still_idle h g.0 (number top) s1 ec) g.4) in
       let s3 : SparesWaiting h g.2 = spares_then h g.1 g.2 s2 (spares_change g.1 g.2 (number top) _ _ (still_idle h g.1 (number top) s2 ec) g.5) in
-      spares_then h g.2 h' s3 (spares_change g.2 h' (number two.above.seat.node) _ _ (still_idle h g.2 (number two.above.seat.node) s3 e) g.6)
+      spares_then h g.2 h' s3 (spares_change g.2 h' (number two.above.stamp.node) _ _ (still_idle h g.2 (number two.above.stamp.node) s3 e) g.6)
 
   -- nodes are made
   leaf_made : (kind : Kind V) (s : Site C) (r : Result C Refusal) (turn : NextPhase C V) → MadeLeaf number kind s h key r h' turn → SparesWaiting h h'
@@ -242,15 +242,15 @@ module _ {C V : Type 0} (number : C → ℕ) (i : ℕ) (a : ℕ → Note) (h : �
   one_upgraded root one r most fail Failed turn w p m e g = back_one one.change m g.0
   one_upgraded root one r most fail Exhausted turn w p m e g = back_one one.change m g.0
 
-  top_upgraded : (root : C) (top : Parent C) (two : Two C) (r : Reply V) (size q most : ℕ) (fail : Bool) (u : Upgrade) (turn : NextPhase C V) → LockWords a h → is_published (a (number top.seat.node)).status ≡ true → MadeTwo number i a h key two.above two.change size q
-      → u ≡ upgrade_gives most (h (number top.seat.node)) top.seat.version fail → UpgradedTop number root top two r h u h' turn → SparesWaiting h h'
-  top_upgraded root top two r size q most fail Locked turn w p m e g = locked_spares most (number top.seat.node) top.seat.version fail w p e g.0
+  top_upgraded : (root : C) (top : Parent C) (two : Two C) (r : Reply V) (size q most : ℕ) (fail : Bool) (u : Upgrade) (turn : NextPhase C V) → LockWords a h → is_published (a (number top.stamp.node)).status ≡ true → MadeTwo number i a h key two.above two.change size q
+      → u ≡ upgrade_gives most (h (number top.stamp.node)) top.stamp.version fail → UpgradedTop number root top two r h u h' turn → SparesWaiting h h'
+  top_upgraded root top two r size q most fail Locked turn w p m e g = locked_spares most (number top.stamp.node) top.stamp.version fail w p e g.0
   top_upgraded root top two r size q most fail Failed turn w p m e g = back_two two.above two.change size q m g.0
   top_upgraded root top two r size q most fail Exhausted turn w p m e g = back_two two.above two.change size q m g.0
 
-  above_upgraded : (root : C) (two : Two C) (r : Reply V) (size q most : ℕ) (fail : Bool) (u : Upgrade) (turn : NextPhase C V) → LockWords a h → is_published (a (number two.above.seat.node)).status ≡ true → MadeTwo number i a h key two.above two.change size q
-      → u ≡ upgrade_gives most (h (number two.above.seat.node)) two.above.seat.version fail → UpgradedAbove number root two r h u h' turn → SparesWaiting h h'
-  above_upgraded root two r size q most fail Locked turn w p m e g = locked_spares most (number two.above.seat.node) two.above.seat.version fail w p e g.0
+  above_upgraded : (root : C) (two : Two C) (r : Reply V) (size q most : ℕ) (fail : Bool) (u : Upgrade) (turn : NextPhase C V) → LockWords a h → is_published (a (number two.above.stamp.node)).status ≡ true → MadeTwo number i a h key two.above two.change size q
+      → u ≡ upgrade_gives most (h (number two.above.stamp.node)) two.above.stamp.version fail → UpgradedAbove number root two r h u h' turn → SparesWaiting h h'
+  above_upgraded root two r size q most fail Locked turn w p m e g = locked_spares most (number two.above.stamp.node) two.above.stamp.version fail w p e g.0
   above_upgraded root two r size q most fail Failed turn w p m e g = back_two two.above two.change size q m g.0
   above_upgraded root two r size q most fail Exhausted turn w p m e g = back_two two.above two.change size q m g.0
 
@@ -278,7 +278,7 @@ module _ {C V : Type 0} (number : C → ℕ) (same : V → V → Bool) (always :
 
   top_idle : (top : Option (Parent C)) (n : ℕ) → TopLocked number i a h (key_bytes k) top n → TopIdle number i a h h' (key_bytes k) top
   top_idle None n o = tt
-  top_idle (Some top) n o = linked_idle a h (number top.seat.node) w o.holding.linked
+  top_idle (Some top) n o = linked_idle a h (number top.stamp.node) w o.holding.linked
 
   -- every step
   pub step_hands : (most : ℕ) (why : NodeType → Refusal → Type 0) (root : C) (kind : Kind V) (fail : Bool) (answer : Option (Option V)) (given : Option V) (s : Phase C V) (given' : Option V) (turn : NextPhase C V)
@@ -293,18 +293,18 @@ module _ {C V : Type 0} (number : C → ℕ) (same : V → V → Bool) (always :
       (λ y. spares_same h h' (g.1.goes_on y).0)
       (λ y. back_one number i a h h' (key_bytes k) one.change x.2.made (g.1.goes_back y).0))
   step_hands most why root kind fail answer given (UpgradeOne one r) given' turn x g =
-      inl (one_upgraded number i a h h' (key_bytes k) root one r most fail g.1.0 turn w x.1.1.fresh.seated.published x.1.1.made g.1.1 g.1.2)
+      inl (one_upgraded number i a h h' (key_bytes k) root one r most fail g.1.0 turn w x.1.1.fresh.stamped.published x.1.1.made g.1.1 g.1.2)
   step_hands most why root kind fail answer given (ChangeOne one r) given' turn x g =
       inl (changed_one number i a h h' (key_bytes k) given one one.change (linked_idle a h (number one.at.node) w x.1.holding.linked) x.1.made g.1)
   step_hands most why root kind fail answer given (UpgradeTop top two r) given' turn x g =
-      inl (top_upgraded number i a h h' (key_bytes k) root top two r _ _ most fail g.1.0 turn w x.2.fresh.seated.published x.1.2.made g.1.1 g.1.2)
+      inl (top_upgraded number i a h h' (key_bytes k) root top two r _ _ most fail g.1.0 turn w x.2.fresh.stamped.published x.1.2.made g.1.1 g.1.2)
   step_hands most why root kind fail answer given (UpgradeAbove two r) given' turn x g =
-      inl (above_upgraded number i a h h' (key_bytes k) root two r _ _ most fail g.1.0 turn w x.1.2.above.fresh.seated.published x.1.2.made g.1.1 g.1.2)
+      inl (above_upgraded number i a h h' (key_bytes k) root two r _ _ most fail g.1.0 turn w x.1.2.above.fresh.stamped.published x.1.2.made g.1.1 g.1.2)
   step_hands most why root kind fail answer given (UpgradeBelow two r) given' turn x g =
-      inl (both_upgraded number i a h h' (key_bytes k) two r _ _ most fail g.1.0 turn w x.1.2.fresh.seated.published x.1.2.made g.1.1 g.1.2)
+      inl (both_upgraded number i a h h' (key_bytes k) two r _ _ most fail g.1.0 turn w x.1.2.fresh.stamped.published x.1.2.made g.1.1 g.1.2)
   step_hands most why root kind fail answer given (ChangeTwo two r) given' turn x g =
-      inl (changed_two number i a h h' (key_bytes k) given two two.change _ _ (top_idle two.top _ x.2.top) (linked_idle a h (number two.above.seat.node) w x.2.above.holding.linked)
-      (linked_idle a h (number two.at.node) w (t.down (number two.above.seat.node) _ (number two.at.node) x.2.above.holding.linked x.2.above.child).linked) x.2.made g.1)
+      inl (changed_two number i a h h' (key_bytes k) given two two.change _ _ (top_idle two.top _ x.2.top) (linked_idle a h (number two.above.stamp.node) w x.2.above.holding.linked)
+      (linked_idle a h (number two.at.node) w (t.down (number two.above.stamp.node) _ (number two.at.node) x.2.above.holding.linked x.2.above.child).linked) x.2.made g.1)
   step_hands most why root kind fail answer given (Obsolete n next p r) given' turn x g =
       let q : is_waiting (h (number n)) ≡ false = unretired_idle (h (number n)) x.0.unretired in inl (spares_but h h' (number n) _ q q g.1)
   step_hands most why root kind fail answer given (Retire n next p r) given' turn x g = inr (

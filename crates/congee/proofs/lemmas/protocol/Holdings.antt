@@ -408,7 +408,7 @@ module _ {C V : Type 0} (number : C → ℕ) (same : V → V → Bool) (always :
 
   top_upgraded : (root : C) (top : Parent C) (two : Two C) (r : Reply V) (size q : ℕ) (u : Upgrade) (turn : NextPhase C V) → Own (λ _. ⊥) → Mine (MadeForTwo number two.change) → MadeTwo number i a h (key_bytes k) two.above two.change size q
       → UpgradedTop number root top two r h u h' turn → Now turn.phase
-  top_upgraded root top two r size q Locked turn o m l g = at_turn _ turn g.1 (lock_holds (λ _. ⊥) (MadeForTwo number two.change) (number top.seat.node) g.0 o m (UpgradeAbove (record two { top = Some top }) r) (only (number top.seat.node)) (λ n x. x))
+  top_upgraded root top two r size q Locked turn o m l g = at_turn _ turn g.1 (lock_holds (λ _. ⊥) (MadeForTwo number two.change) (number top.stamp.node) g.0 o m (UpgradeAbove (record two { top = Some top }) r) (only (number top.stamp.node)) (λ n x. x))
   top_upgraded root top two r size q Failed turn o m l g = at_turn _ turn g.1 (back_bare o (MadeForTwo number two.change) m (all_two number i a h h' (key_bytes k) two.above two.change size q l g.0) _)
   top_upgraded root top two r size q Exhausted turn o m l g = at_turn _ turn g.1 (back_bare o (MadeForTwo number two.change) m (all_two number i a h h' (key_bytes k) two.above two.change size q l g.0) _)
 
@@ -422,7 +422,7 @@ module _ {C V : Type 0} (number : C → ℕ) (same : V → V → Bool) (always :
   gives_up : (root : C) (top : Option (Parent C)) (refusal : Option Refusal) (M : ℕ → Type 0) → Own (IsTop number top) → Mine M → AllBack number i a h h' (key_bytes k) M → Now (given_up {V = V} root top refusal).phase
   gives_up root None None M o m g = back_bare o M m g _
   gives_up root None (Some e) M o m g = back_bare o M m g _
-  gives_up root (Some top) refusal M o m g = back_locked top.seat.node None refusal M (λ n x. inl (o n x)) m g
+  gives_up root (Some top) refusal M o m g = back_locked top.stamp.node None refusal M (λ n x. inl (o n x)) m g
 
   swap : (L M : Type 0) → L ⊎ M → M ⊎ L
   swap L M (inl x) = inr x
@@ -430,7 +430,7 @@ module _ {C V : Type 0} (number : C → ℕ) (same : V → V → Bool) (always :
 
   above_upgraded : (root : C) (two : Two C) (r : Reply V) (size q : ℕ) (u : Upgrade) (turn : NextPhase C V) → Own (IsTop number two.top) → Mine (MadeForTwo number two.change) → MadeTwo number i a h (key_bytes k) two.above two.change size q
       → UpgradedAbove number root two r h u h' turn → Now turn.phase
-  above_upgraded root two r size q Locked turn o m l g = at_turn _ turn g.1 (lock_holds (IsTop number two.top) (MadeForTwo number two.change) (number two.above.seat.node) g.0 o m (UpgradeBelow two r) (λ n x. swap _ _ x) (λ n x. x))
+  above_upgraded root two r size q Locked turn o m l g = at_turn _ turn g.1 (lock_holds (IsTop number two.top) (MadeForTwo number two.change) (number two.above.stamp.node) g.0 o m (UpgradeBelow two r) (λ n x. swap _ _ x) (λ n x. x))
   above_upgraded root two r size q Failed turn o m l g = at_turn _ turn g.1 (gives_up root two.top None (MadeForTwo number two.change) o m (all_two number i a h h' (key_bytes k) two.above two.change size q l g.0))
   above_upgraded root two r size q Exhausted turn o m l g = at_turn _ turn g.1 (gives_up root two.top _ (MadeForTwo number two.change) o m (all_two number i a h h' (key_bytes k) two.above two.change size q l g.0))
 
@@ -438,23 +438,23 @@ module _ {C V : Type 0} (number : C → ℕ) (same : V → V → Bool) (always :
   top_is None n x = x
   top_is (Some top) n x = x
 
-  above_or_top : (two : Two C) (n : ℕ) → (n ≡ number two.above.seat.node) ⊎ IsTop number two.top n → (n ≡ number two.above.seat.node) ⊎ IsMade number (node_of two.top) n
+  above_or_top : (two : Two C) (n : ℕ) → (n ≡ number two.above.stamp.node) ⊎ IsTop number two.top n → (n ≡ number two.above.stamp.node) ⊎ IsMade number (node_of two.top) n
   above_or_top two n (inl x) = inl x
   above_or_top two n (inr x) = inr (top_is two.top n x)
 
-  all_locked : (two : Two C) (n : ℕ) → ((n ≡ number two.above.seat.node) ⊎ IsTop number two.top n) ⊎ (n ≡ number two.at.node) → ((n ≡ number two.above.seat.node) ⊎ (n ≡ number two.at.node)) ⊎ IsTop number two.top n
+  all_locked : (two : Two C) (n : ℕ) → ((n ≡ number two.above.stamp.node) ⊎ IsTop number two.top n) ⊎ (n ≡ number two.at.node) → ((n ≡ number two.above.stamp.node) ⊎ (n ≡ number two.at.node)) ⊎ IsTop number two.top n
   all_locked two n (inl (inl x)) = inl (inl x)
   all_locked two n (inl (inr x)) = inr x
   all_locked two n (inr x) = inl (inr x)
 
-  both_upgraded : (two : Two C) (r : Reply V) (size q : ℕ) (u : Upgrade) (turn : NextPhase C V) → Own (λ n. (n ≡ number two.above.seat.node) ⊎ IsTop number two.top n) → Mine (MadeForTwo number two.change) → MadeTwo number i a h (key_bytes k) two.above two.change size q
+  both_upgraded : (two : Two C) (r : Reply V) (size q : ℕ) (u : Upgrade) (turn : NextPhase C V) → Own (λ n. (n ≡ number two.above.stamp.node) ⊎ IsTop number two.top n) → Mine (MadeForTwo number two.change) → MadeTwo number i a h (key_bytes k) two.above two.change size q
       → UpgradedBelow number two r h u h' turn → Now turn.phase
   both_upgraded two r size q Locked turn o m l g = at_turn _ turn g.1
-      (lock_holds (λ n. (n ≡ number two.above.seat.node) ⊎ IsTop number two.top n) (MadeForTwo number two.change) (number two.at.node) g.0 o m (ChangeTwo two r) (all_locked two) (λ n x. x))
+      (lock_holds (λ n. (n ≡ number two.above.stamp.node) ⊎ IsTop number two.top n) (MadeForTwo number two.change) (number two.at.node) g.0 o m (ChangeTwo two r) (all_locked two) (λ n x. x))
   both_upgraded two r size q Failed turn o m l g = at_turn _ turn g.1
-      (back_locked two.above.seat.node (node_of two.top) None (MadeForTwo number two.change) (λ n x. above_or_top two n (o n x)) m (all_two number i a h h' (key_bytes k) two.above two.change size q l g.0))
+      (back_locked two.above.stamp.node (node_of two.top) None (MadeForTwo number two.change) (λ n x. above_or_top two n (o n x)) m (all_two number i a h h' (key_bytes k) two.above two.change size q l g.0))
   both_upgraded two r size q Exhausted turn o m l g = at_turn _ turn g.1
-      (back_locked two.above.seat.node (node_of two.top) _ (MadeForTwo number two.change) (λ n x. above_or_top two n (o n x)) m (all_two number i a h h' (key_bytes k) two.above two.change size q l g.0))
+      (back_locked two.above.stamp.node (node_of two.top) _ (MadeForTwo number two.change) (λ n x. above_or_top two n (o n x)) m (all_two number i a h h' (key_bytes k) two.above two.change size q l g.0))
 
   -- what hangs in the tree is held by no call
   hung_free : (n m b c : ℕ) → (a' m).status ≡ Linked → (h' m).children b ≡ Below c → n ≡ c → (a' n).status ≡ Held i → ⊥
@@ -469,37 +469,37 @@ module _ {C V : Type 0} (number : C → ℕ) (same : V → V → Bool) (always :
 
   -- the changed node stays in the tree
   abbrev StaysIn : Two C → Double C → Option (Parent C) → Type 0
-  StaysIn two Collapse (Some top) = (a' (number top.seat.node)).status ≡ Linked
-  StaysIn two (ShrinkAbove c) (Some top) = (a' (number top.seat.node)).status ≡ Linked
+  StaysIn two Collapse (Some top) = (a' (number top.stamp.node)).status ≡ Linked
+  StaysIn two (ShrinkAbove c) (Some top) = (a' (number top.stamp.node)).status ≡ Linked
   StaysIn two Collapse None = Unit {0}
   StaysIn two (ShrinkAbove c) None = Unit {0}
-  StaysIn two _ top = (a' (number two.above.seat.node)).status ≡ Linked
+  StaysIn two _ top = (a' (number two.above.stamp.node)).status ≡ Linked
 
   lesser_hung : (two : Two C) (c : C) (top : Option (Parent C)) → StaysIn two (ShrinkAbove c) top → Lessens number two c top h h' → (n : ℕ) → n ≡ number c → (a' n).status ≡ Held i → ⊥
   lesser_hung two c None l g n y x = g
-  lesser_hung two c (Some top) l g n y x = hung_free n (number top.seat.node) top.byte (number c) l g.4.child y x
+  lesser_hung two c (Some top) l g n y x = hung_free n (number top.stamp.node) top.byte (number c) l g.4.child y x
 
-  two_changed : (given : Option V) (two : Two C) (change : Double C) (size q : ℕ) → (a (number two.above.seat.node)).status ≡ Linked → StaysIn two change two.top → MadeTwo number i a h (key_bytes k) two.above change size q
+  two_changed : (given : Option V) (two : Two C) (change : Double C) (size q : ℕ) → (a (number two.above.stamp.node)).status ≡ Linked → StaysIn two change two.top → MadeTwo number i a h (key_bytes k) two.above change size q
       → ChangedTwo number (key_bytes k) given two change h h' → (n : ℕ) → MadeForTwo number change n → (a' n).status ≡ Held i → ⊥
   two_changed given two Unlink size q l0 l m g n y x = y
   two_changed given two Collapse size q l0 l m g n y x = y
-  two_changed given two (Shrink c) size q l0 l m g n y x = hung_free n (number two.above.seat.node) two.above.byte (number c) l g.4.child y x
+  two_changed given two (Shrink c) size q l0 l m g n y x = hung_free n (number two.above.stamp.node) two.above.byte (number c) l g.4.child y x
   two_changed given two (ShrinkAbove c) size q l0 l m g n y x = lesser_hung two c two.top l g n y x
-  two_changed given two (Grow c) size q l0 l m g n y x = hung_free n (number two.above.seat.node) two.above.byte (number c) l g.4.child y x
-  two_changed given two (GrowLink c leaf byte) size q l0 l m g n (inl y) x = hung_free n (number two.above.seat.node) two.above.byte (number c) l g.6.child y x
+  two_changed given two (Grow c) size q l0 l m g n y x = hung_free n (number two.above.stamp.node) two.above.byte (number c) l g.4.child y x
+  two_changed given two (GrowLink c leaf byte) size q l0 l m g n (inl y) x = hung_free n (number two.above.stamp.node) two.above.byte (number c) l g.6.child y x
   two_changed given two (GrowLink c leaf byte) size q l0 l m g n (inr y) x =
-      let cl : (a' (number c)).status ≡ Linked = (t'.down (number two.above.seat.node) two.above.byte (number c) l g.6.child).linked in
-      let e : h' (number c) ≡ g.2 (number c) = g.6.others (number c) (made_apart i a h (key_bytes k) (number c) size q (number two.above.seat.node) m.0 (ap is_published l0)) in
+      let cl : (a' (number c)).status ≡ Linked = (t'.down (number two.above.stamp.node) two.above.byte (number c) l g.6.child).linked in
+      let e : h' (number c) ≡ g.2 (number c) = g.6.others (number c) (made_apart i a h (key_bytes k) (number c) size q (number two.above.stamp.node) m.0 (ap is_published l0)) in
       hung_free n (number c) byte (number leaf) cl (rw e g.5.child) y x
-  two_changed given two (Split top leaf common byte) size q l0 l m g n (inl y) x = hung_free n (number two.above.seat.node) two.above.byte (number top) l g.6.child y x
+  two_changed given two (Split top leaf common byte) size q l0 l m g n (inl y) x = hung_free n (number two.above.stamp.node) two.above.byte (number top) l g.6.child y x
   two_changed given two (Split top leaf common byte) size q l0 l m g n (inr y) x =
-      let cl : (a' (number top)).status ≡ Linked = (t'.down (number two.above.seat.node) two.above.byte (number top) l g.6.child).linked in
-      let e : h' (number top) ≡ g.2 (number top) = g.6.others (number top) (made_apart i a h (key_bytes k) (number top) common 1 (number two.above.seat.node) m.0 (ap is_published l0)) in
+      let cl : (a' (number top)).status ≡ Linked = (t'.down (number two.above.stamp.node) two.above.byte (number top) l g.6.child).linked in
+      let e : h' (number top) ≡ g.2 (number top) = g.6.others (number top) (made_apart i a h (key_bytes k) (number top) common 1 (number two.above.stamp.node) m.0 (ap is_published l0)) in
       hung_free n (number top) (get_or (key_bytes k) common 0) (number leaf) cl (rw e g.5.child) y x
 
   -- the locks that a change of two nodes leaves, or of three
   abbrev Locks : Two C → Option (Parent C) → ℕ → Type 0
-  Locks two top n = ((n ≡ number two.above.seat.node) ⊎ (n ≡ number two.at.node)) ⊎ IsTop number top n
+  Locks two top n = ((n ≡ number two.above.stamp.node) ⊎ (n ≡ number two.at.node)) ⊎ IsTop number top n
 
   abbrev Goes : Two C → Double C → Option (Parent C) → Phase C V → Type 0
   Goes two change top s = StaysIn two change top × ((n : ℕ) → Locks two top n → LockedBy number s n)
@@ -508,33 +508,33 @@ module _ {C V : Type 0} (number : C → ℕ) (same : V → V → Bool) (always :
   no_top None n e x = x
   no_top (Some top) n e x = absurd cc
 
-  marks : (two : Two C) (r : Reply V) (turn : NextPhase C V) (given' : Option V) (kind : Kind V) (top : Option (Parent C)) → turn ≡ decided (Obsolete two.at.node None two.above.seat.node r) → top ≡ None → Known number same always i a' h' k (key_bytes k) kind given' turn.phase
-      → ((a' (number two.above.seat.node)).status ≡ Linked) × ((n : ℕ) → Locks two top n → LockedBy number turn.phase n)
+  marks : (two : Two C) (r : Reply V) (turn : NextPhase C V) (given' : Option V) (kind : Kind V) (top : Option (Parent C)) → turn ≡ decided (Obsolete two.at.node None two.above.stamp.node r) → top ≡ None → Known number same always i a' h' k (key_bytes k) kind given' turn.phase
+      → ((a' (number two.above.stamp.node)).status ≡ Linked) × ((n : ℕ) → Locks two top n → LockedBy number turn.phase n)
   marks two r turn given' kind top e z =
-      let P : NextPhase C V → Type 0 = λ y. Known number same always i a' h' k (key_bytes k) kind given' y.phase → ((a' (number two.above.seat.node)).status ≡ Linked) × ((n : ℕ) → Locks two top n → LockedBy number y.phase n) in
+      let P : NextPhase C V → Type 0 = λ y. Known number same always i a' h' k (key_bytes k) kind given' y.phase → ((a' (number two.above.stamp.node)).status ≡ Linked) × ((n : ℕ) → Locks two top n → LockedBy number y.phase n) in
       subst P (sym e) (λ x. (x.0.above.linked, by_lock))
     where
-      by_lock : (n : ℕ) → Locks two top n → ((n ≡ number two.above.seat.node) ⊎ (n ≡ number two.at.node)) ⊎ ⊥
+      by_lock : (n : ℕ) → Locks two top n → ((n ≡ number two.above.stamp.node) ⊎ (n ≡ number two.at.node)) ⊎ ⊥
       by_lock n (inl y) = inl y
       by_lock n (inr y) = inr (no_top top n z y)
 
-  lets_go : (two : Two C) (r : Reply V) (turn : NextPhase C V) (given' : Option V) (kind : Kind V) (top : Option (Parent C)) → turn ≡ decided (UnlockBelow two.at.node two.above.seat.node r) → top ≡ None → Known number same always i a' h' k (key_bytes k) kind given' turn.phase
-      → ((a' (number two.above.seat.node)).status ≡ Linked) × ((n : ℕ) → Locks two top n → LockedBy number turn.phase n)
+  lets_go : (two : Two C) (r : Reply V) (turn : NextPhase C V) (given' : Option V) (kind : Kind V) (top : Option (Parent C)) → turn ≡ decided (UnlockBelow two.at.node two.above.stamp.node r) → top ≡ None → Known number same always i a' h' k (key_bytes k) kind given' turn.phase
+      → ((a' (number two.above.stamp.node)).status ≡ Linked) × ((n : ℕ) → Locks two top n → LockedBy number turn.phase n)
   lets_go two r turn given' kind top e z =
-      let P : NextPhase C V → Type 0 = λ y. Known number same always i a' h' k (key_bytes k) kind given' y.phase → ((a' (number two.above.seat.node)).status ≡ Linked) × ((n : ℕ) → Locks two top n → LockedBy number y.phase n) in
+      let P : NextPhase C V → Type 0 = λ y. Known number same always i a' h' k (key_bytes k) kind given' y.phase → ((a' (number two.above.stamp.node)).status ≡ Linked) × ((n : ℕ) → Locks two top n → LockedBy number y.phase n) in
       subst P (sym e) (λ x. (x.1.linked, by_lock))
     where
-      by_lock : (n : ℕ) → Locks two top n → (n ≡ number two.above.seat.node) ⊎ (n ≡ number two.at.node)
+      by_lock : (n : ℕ) → Locks two top n → (n ≡ number two.above.stamp.node) ⊎ (n ≡ number two.at.node)
       by_lock n (inl y) = y
       by_lock n (inr y) = absurd (no_top top n z y)
 
   tops : (two : Two C) (r : Reply V) (turn : NextPhase C V) (given' : Option V) (kind : Kind V) (top : Parent C) → turn ≡ after_top two r (Some top) → Known number same always i a' h' k (key_bytes k) kind given' turn.phase
-      → ((a' (number top.seat.node)).status ≡ Linked) × ((n : ℕ) → Locks two (Some top) n → LockedBy number turn.phase n)
+      → ((a' (number top.stamp.node)).status ≡ Linked) × ((n : ℕ) → Locks two (Some top) n → LockedBy number turn.phase n)
   tops two r turn given' kind top e =
-      let P : NextPhase C V → Type 0 = λ y. Known number same always i a' h' k (key_bytes k) kind given' y.phase → ((a' (number top.seat.node)).status ≡ Linked) × ((n : ℕ) → Locks two (Some top) n → LockedBy number y.phase n) in
+      let P : NextPhase C V → Type 0 = λ y. Known number same always i a' h' k (key_bytes k) kind given' y.phase → ((a' (number top.stamp.node)).status ≡ Linked) × ((n : ℕ) → Locks two (Some top) n → LockedBy number y.phase n) in
       subst P (sym e) (λ x. (x.0.above.linked, by_lock))
     where
-      by_lock : (n : ℕ) → Locks two (Some top) n → ((n ≡ number top.seat.node) ⊎ (n ≡ number two.at.node)) ⊎ (n ≡ number two.above.seat.node)
+      by_lock : (n : ℕ) → Locks two (Some top) n → ((n ≡ number top.stamp.node) ⊎ (n ≡ number two.at.node)) ⊎ (n ≡ number two.above.stamp.node)
       by_lock n (inl (inl y)) = inr y
       by_lock n (inl (inr y)) = inl (inr y)
       by_lock n (inr y) = inl (inl y)

@@ -94,10 +94,10 @@ module _ {C V : Type 0} (number : C → ℕ) (i : ℕ) (a : ℕ → Note) (h : �
   made_two_on p (Split top leaf common byte) size size' q e m = (made_on (number top) common 1 m.0, made_on (number leaf) 7 0 m.1, m.2)
 
   -- a locked node, but for this one, and what it holds
-  above_on : (p : Parent C) (m : ℕ) → number p.seat.node ≢ n → AboveLocked number i a h key p m → AboveLocked number i a' h' key p m
+  above_on : (p : Parent C) (m : ℕ) → number p.stamp.node ≢ n → AboveLocked number i a h key p m → AboveLocked number i a' h' key p m
   above_on p m ne x =
-      let e : h' (number p.seat.node) ≡ h (number p.seat.node) = o.nodes (number p.seat.node) ne in
-      let f : a' (number p.seat.node) ≡ a (number p.seat.node) = o.notes (number p.seat.node) ne in
+      let e : h' (number p.stamp.node) ≡ h (number p.stamp.node) = o.nodes (number p.stamp.node) ne in
+      let f : a' (number p.stamp.node) ≡ a (number p.stamp.node) = o.notes (number p.stamp.node) ne in
       record {
         holding = record { owner = rw f x.holding.owner; linked = rw f x.holding.linked };
         fitted = rw e x.fitted;
@@ -108,7 +108,7 @@ module _ {C V : Type 0} (number : C → ℕ) (i : ℕ) (a : ℕ → Note) (h : �
         form = rw e x.form;
       }
 
-  top_on : (top : Option (Parent C)) (m : ℕ) → ((p : Parent C) → AboveLocked number i a h key p m → number p.seat.node ≢ n) → TopLocked number i a h key top m → TopLocked number i a' h' key top m
+  top_on : (top : Option (Parent C)) (m : ℕ) → ((p : Parent C) → AboveLocked number i a h key p m → number p.stamp.node ≢ n) → TopLocked number i a h key top m → TopLocked number i a' h' key top m
   top_on None m ne x = tt
   top_on (Some p) m ne x = above_on p m (ne p x) x
 
@@ -137,9 +137,9 @@ module _ {C V : Type 0} (number : C → ℕ) (same : V → V → Bool) (always :
       let f : Fresh a h (number one.at.node) one.at.version (WantedOne (key_bytes k) m.1.0) = m.1.1.fresh in
       let a' : ℕ → Note = own a (number one.at.node) (Some i) in
       let same_note : own a (number one.at.node) (Some i) (number one.at.node) ≡ owned (a (number one.at.node)) (Some i) = noted_same a (number one.at.node) _ in
-      let l : (a (number one.at.node)).status ≡ Linked = taken_linked a h w (number one.at.node) one.at.version f.seated.published q in
-      let e : KeepsMap i a h (own a (number one.at.node) (Some i)) h' = lock_still i a h (number one.at.node) one.at.version h' t w f.seated q g in
-      let on : OnOne a h (own a (number one.at.node) (Some i)) h' (number one.at.node) = record { published = f.seated.published; nodes = g.others; notes = noted_other a (number one.at.node) _ } in
+      let l : (a (number one.at.node)).status ≡ Linked = taken_linked a h w (number one.at.node) one.at.version f.stamped.published q in
+      let e : KeepsMap i a h (own a (number one.at.node) (Some i)) h' = lock_still i a h (number one.at.node) one.at.version h' t w f.stamped q g in
+      let on : OnOne a h (own a (number one.at.node) (Some i)) h' (number one.at.node) = record { published = f.stamped.published; nodes = g.others; notes = noted_other a (number one.at.node) _ } in
       let pre : (h' (number one.at.node)).prefix ≡ (h (number one.at.node)).prefix = rw g.after refl in
       let wanted : WantedOne (key_bytes k) m.1.0 (h (number one.at.node)) = f.holds q in
       still_kept (own a (number one.at.node) (Some i)) h' (ChangeOne one r) e (
@@ -155,22 +155,22 @@ module _ {C V : Type 0} (number : C → ℕ) (same : V → V → Bool) (always :
       )
 
   -- a locked node is another one than what it holds, and than what that holds
-  pub above_longer : (p : Parent C) (m : ℕ) → AboveLocked number i a h (key_bytes k) p m → length (h (number p.seat.node)).prefix < length (h m).prefix
-  above_longer p m x = (t.down (number p.seat.node) _ m x.holding.linked x.child).longer
+  pub above_longer : (p : Parent C) (m : ℕ) → AboveLocked number i a h (key_bytes k) p m → length (h (number p.stamp.node)).prefix < length (h m).prefix
+  above_longer p m x = (t.down (number p.stamp.node) _ m x.holding.linked x.child).longer
 
   -- once the node above both is locked, a call knows what the lock of the upper one wants
-  pub lock_top : (top : Parent C) (two : Two C) (r : Reply V) (h' : ℕ → Node V) → Known number same always i a h k (key_bytes k) kind given (UpgradeTop top two r) → is_taken (h (number top.seat.node)) top.seat.version ≡ true
-      → SameBut h (number top.seat.node) (record (h (number top.seat.node)) { locked = true }) h' → Kept number same always i a h k kind given given (quiet (UpgradeAbove (record two { top = Some top }) r)) h'
+  pub lock_top : (top : Parent C) (two : Two C) (r : Reply V) (h' : ℕ → Node V) → Known number same always i a h k (key_bytes k) kind given (UpgradeTop top two r) → is_taken (h (number top.stamp.node)) top.stamp.version ≡ true
+      → SameBut h (number top.stamp.node) (record (h (number top.stamp.node)) { locked = true }) h' → Kept number same always i a h k kind given given (quiet (UpgradeAbove (record two { top = Some top }) r)) h'
   lock_top top two r h' m q g =
       let x : TwoKnown number i a h (key_bytes k) two m.1.0 m.1.1 = m.1.2 in
-      let c : ChildOf number a h (key_bytes k) top (number two.above.seat.node) = m.2 in
-      let same_note : own a (number top.seat.node) (Some i) (number top.seat.node) ≡ owned (a (number top.seat.node)) (Some i) = noted_same a (number top.seat.node) _ in
-      let l : (a (number top.seat.node)).status ≡ Linked = taken_linked a h w (number top.seat.node) top.seat.version c.fresh.seated.published q in
-      let e : KeepsMap i a h (own a (number top.seat.node) (Some i)) h' = lock_still i a h (number top.seat.node) top.seat.version h' t w c.fresh.seated q g in
-      let on : OnOne a h (own a (number top.seat.node) (Some i)) h' (number top.seat.node) = record { published = c.fresh.seated.published; nodes = g.others; notes = noted_other a (number top.seat.node) _ } in
-      let pre : (h' (number two.at.node)).prefix ≡ (h (number two.at.node)).prefix = own_prefix i a h _ h' e.effect (number two.at.node) x.fresh.seated.published in
-      let hung : (child_for (h (number top.seat.node)) (key_bytes k) ≡ Below (number two.above.seat.node)) × ((h (number top.seat.node)).count ≡ top.count) × ((h (number top.seat.node)).capacity ≡ places top.form) = c.fresh.holds q in
-      still_kept (own a (number top.seat.node) (Some i)) h' (UpgradeAbove (record two { top = Some top }) r) e (
+      let c : ChildOf number a h (key_bytes k) top (number two.above.stamp.node) = m.2 in
+      let same_note : own a (number top.stamp.node) (Some i) (number top.stamp.node) ≡ owned (a (number top.stamp.node)) (Some i) = noted_same a (number top.stamp.node) _ in
+      let l : (a (number top.stamp.node)).status ≡ Linked = taken_linked a h w (number top.stamp.node) top.stamp.version c.fresh.stamped.published q in
+      let e : KeepsMap i a h (own a (number top.stamp.node) (Some i)) h' = lock_still i a h (number top.stamp.node) top.stamp.version h' t w c.fresh.stamped q g in
+      let on : OnOne a h (own a (number top.stamp.node) (Some i)) h' (number top.stamp.node) = record { published = c.fresh.stamped.published; nodes = g.others; notes = noted_other a (number top.stamp.node) _ } in
+      let pre : (h' (number two.at.node)).prefix ≡ (h (number two.at.node)).prefix = own_prefix i a h _ h' e.effect (number two.at.node) x.fresh.stamped.published in
+      let hung : (child_for (h (number top.stamp.node)) (key_bytes k) ≡ Below (number two.above.stamp.node)) × ((h (number top.stamp.node)).count ≡ top.count) × ((h (number top.stamp.node)).capacity ≡ places top.form) = c.fresh.holds q in
+      still_kept (own a (number top.stamp.node) (Some i)) h' (UpgradeAbove (record two { top = Some top }) r) e (
         m.0,
         (
           m.1.0,
@@ -188,7 +188,7 @@ module _ {C V : Type 0} (number : C → ℕ) (same : V → V → Bool) (always :
             above = child_kept number (key_bytes k) (λ _. Unit {0}) (suc i) a h _ h' (own_rely i a h _ h' e.effect) two.above (number two.at.node) tt x.above;
             placed = (let P : List ℕ → Type 0 = λ y. PlacedTwo (key_bytes k) two.change y in subst P (sym pre) x.placed);
             fresh = own_fresh i a h _ h' e.effect (number two.at.node) two.at.version _ x.fresh;
-            made = made_two_on number i a h (own a (number top.seat.node) (Some i)) h' (key_bytes k) (number top.seat.node) on two.above two.change _ _ m.1.1 (ap length pre) x.made;
+            made = made_two_on number i a h (own a (number top.stamp.node) (Some i)) h' (key_bytes k) (number top.stamp.node) on two.above two.change _ _ m.1.1 (ap length pre) x.made;
           },
           m.3,
           m.1.3,
@@ -197,24 +197,24 @@ module _ {C V : Type 0} (number : C → ℕ) (same : V → V → Bool) (always :
       )
 
   -- once the upper node is locked, a call knows what the lock of the lower one wants
-  pub lock_above : (two : Two C) (r : Reply V) (h' : ℕ → Node V) → Known number same always i a h k (key_bytes k) kind given (UpgradeAbove two r) → is_taken (h (number two.above.seat.node)) two.above.seat.version ≡ true
-      → SameBut h (number two.above.seat.node) (record (h (number two.above.seat.node)) { locked = true }) h' → Kept number same always i a h k kind given given (quiet (UpgradeBelow two r)) h'
+  pub lock_above : (two : Two C) (r : Reply V) (h' : ℕ → Node V) → Known number same always i a h k (key_bytes k) kind given (UpgradeAbove two r) → is_taken (h (number two.above.stamp.node)) two.above.stamp.version ≡ true
+      → SameBut h (number two.above.stamp.node) (record (h (number two.above.stamp.node)) { locked = true }) h' → Kept number same always i a h k kind given given (quiet (UpgradeBelow two r)) h'
   lock_above two r h' m q g =
       let x : TwoKnown number i a h (key_bytes k) two m.1.0 m.1.1 = m.1.2 in
       let c : ChildOf number a h (key_bytes k) two.above (number two.at.node) = x.above in
-      let same_note : own a (number two.above.seat.node) (Some i) (number two.above.seat.node) ≡ owned (a (number two.above.seat.node)) (Some i) = noted_same a (number two.above.seat.node) _ in
-      let l : (a (number two.above.seat.node)).status ≡ Linked = taken_linked a h w (number two.above.seat.node) two.above.seat.version c.fresh.seated.published q in
-      let e : KeepsMap i a h (own a (number two.above.seat.node) (Some i)) h' = lock_still i a h (number two.above.seat.node) two.above.seat.version h' t w c.fresh.seated q g in
-      let on : OnOne a h (own a (number two.above.seat.node) (Some i)) h' (number two.above.seat.node) = record { published = c.fresh.seated.published; nodes = g.others; notes = noted_other a (number two.above.seat.node) _ } in
-      let pre : (h' (number two.at.node)).prefix ≡ (h (number two.at.node)).prefix = own_prefix i a h _ h' e.effect (number two.at.node) x.fresh.seated.published in
-      let hung : (child_for (h (number two.above.seat.node)) (key_bytes k) ≡ Below (number two.at.node)) × ((h (number two.above.seat.node)).count ≡ two.above.count) × ((h (number two.above.seat.node)).capacity ≡ places two.above.form) = c.fresh.holds q in
-      still_kept (own a (number two.above.seat.node) (Some i)) h' (UpgradeBelow two r) e (
+      let same_note : own a (number two.above.stamp.node) (Some i) (number two.above.stamp.node) ≡ owned (a (number two.above.stamp.node)) (Some i) = noted_same a (number two.above.stamp.node) _ in
+      let l : (a (number two.above.stamp.node)).status ≡ Linked = taken_linked a h w (number two.above.stamp.node) two.above.stamp.version c.fresh.stamped.published q in
+      let e : KeepsMap i a h (own a (number two.above.stamp.node) (Some i)) h' = lock_still i a h (number two.above.stamp.node) two.above.stamp.version h' t w c.fresh.stamped q g in
+      let on : OnOne a h (own a (number two.above.stamp.node) (Some i)) h' (number two.above.stamp.node) = record { published = c.fresh.stamped.published; nodes = g.others; notes = noted_other a (number two.above.stamp.node) _ } in
+      let pre : (h' (number two.at.node)).prefix ≡ (h (number two.at.node)).prefix = own_prefix i a h _ h' e.effect (number two.at.node) x.fresh.stamped.published in
+      let hung : (child_for (h (number two.above.stamp.node)) (key_bytes k) ≡ Below (number two.at.node)) × ((h (number two.above.stamp.node)).count ≡ two.above.count) × ((h (number two.above.stamp.node)).capacity ≡ places two.above.form) = c.fresh.holds q in
+      still_kept (own a (number two.above.stamp.node) (Some i)) h' (UpgradeBelow two r) e (
         m.0,
         (
           m.1.0,
           m.1.1,
           record {
-            top = top_on number i a h _ h' (key_bytes k) (number two.above.seat.node) on two.top (number two.above.seat.node) (λ p y. by_length h _ _ (above_longer p (number two.above.seat.node) y)) x.top;
+            top = top_on number i a h _ h' (key_bytes k) (number two.above.stamp.node) on two.top (number two.above.stamp.node) (λ p y. by_length h _ _ (above_longer p (number two.above.stamp.node) y)) x.top;
             above = record {
               holding = record { owner = rw same_note refl; linked = rw same_note l };
               fitted = rw g.after c.fitted;
@@ -226,7 +226,7 @@ module _ {C V : Type 0} (number : C → ℕ) (same : V → V → Bool) (always :
             };
             placed = (let P : List ℕ → Type 0 = λ y. PlacedTwo (key_bytes k) two.change y in subst P (sym pre) x.placed);
             fresh = own_fresh i a h _ h' e.effect (number two.at.node) two.at.version _ x.fresh;
-            made = made_two_on number i a h (own a (number two.above.seat.node) (Some i)) h' (key_bytes k) (number two.above.seat.node) on two.above two.change _ _ m.1.1 (ap length pre) x.made;
+            made = made_two_on number i a h (own a (number two.above.stamp.node) (Some i)) h' (key_bytes k) (number two.above.stamp.node) on two.above two.change _ _ m.1.1 (ap length pre) x.made;
           },
           m.1.3,
           m.1.4,
@@ -246,17 +246,17 @@ module _ {C V : Type 0} (number : C → ℕ) (same : V → V → Bool) (always :
   lock_both two r h' m q g =
       let x : HalfLocked number i a h (key_bytes k) two m.1.0 m.1.1 = m.1.2 in
       let same_note : own a (number two.at.node) (Some i) (number two.at.node) ≡ owned (a (number two.at.node)) (Some i) = noted_same a (number two.at.node) _ in
-      let e : KeepsMap i a h (own a (number two.at.node) (Some i)) h' = lock_still i a h (number two.at.node) two.at.version h' t w x.fresh.seated q g in
-      let on : OnOne a h (own a (number two.at.node) (Some i)) h' (number two.at.node) = record { published = x.fresh.seated.published; nodes = g.others; notes = noted_other a (number two.at.node) _ } in
-      let pn : number two.above.seat.node ≢ number two.at.node = above_apart (number two.above.seat.node) (number two.at.node) x.above.holding.linked x.above.child in
+      let e : KeepsMap i a h (own a (number two.at.node) (Some i)) h' = lock_still i a h (number two.at.node) two.at.version h' t w x.fresh.stamped q g in
+      let on : OnOne a h (own a (number two.at.node) (Some i)) h' (number two.at.node) = record { published = x.fresh.stamped.published; nodes = g.others; notes = noted_other a (number two.at.node) _ } in
+      let pn : number two.above.stamp.node ≢ number two.at.node = above_apart (number two.above.stamp.node) (number two.at.node) x.above.holding.linked x.above.child in
       let pre : (h' (number two.at.node)).prefix ≡ (h (number two.at.node)).prefix = rw g.after refl in
       let wanted : WantedTwo (key_bytes k) two.change m.1.0 m.1.1 (h (number two.at.node)) = x.fresh.holds q in
       still_kept (own a (number two.at.node) (Some i)) h' (ChangeTwo two r) e (
         m.1.0,
         m.1.1,
         record {
-          top = top_on number i a h _ h' (key_bytes k) (number two.at.node) on two.top (number two.above.seat.node)
-              (λ p y. by_length h _ _ (further _ _ _ (above_longer p (number two.above.seat.node) y) (above_longer two.above (number two.at.node) x.above))) x.top;
+          top = top_on number i a h _ h' (key_bytes k) (number two.at.node) on two.top (number two.above.stamp.node)
+              (λ p y. by_length h _ _ (further _ _ _ (above_longer p (number two.above.stamp.node) y) (above_longer two.above (number two.at.node) x.above))) x.top;
           above = above_on number i a h _ h' (key_bytes k) (number two.at.node) on two.above (number two.at.node) pn x.above;
           owner = rw same_note refl;
           placed = (let P : List ℕ → Type 0 = λ y. PlacedTwo (key_bytes k) two.change y in subst P (sym pre) x.placed);

@@ -36,11 +36,11 @@ use Rattle.congee.specs.declared.protocol.turn.NextPhase.{NextPhase}
 use Rattle.congee.specs.declared.protocol.machine.Machine.{Machine}
 use Rattle.congee.specs.Heap.{Node, Below, is_taken}
 use Rattle.congee.specs.protocol.Events.{hung}
-use Rattle.congee.specs.protocol.Steps.{skipping, shrinks, set_at, both as both_of, last_out, near_of, node_of, given_up, after_top, after_retire, after_unwind, quiet, swept, again, answered, finished, refused, decided, CopyFailed, adds, asks_new, absent_reply, seat_above, after_version, after_read, down, started, ready, plan_here, unless_full, absent, IsAsked, replaced, taken_out, emptied, is_same, IsAtOld, IsAdded, IsExchanged, IsPresent, IsChecked, after_miss, IsGiven, IsGivenNew, MadeLeaf, greater, MadeGreater, MadeTop, MadeBeside, MadeLesser, UpgradedOne, UpgradedTop, UpgradedAbove, UpgradedBelow, after_change, unwound, PhaseStepped}
+use Rattle.congee.specs.protocol.Steps.{skipping, shrinks, set_at, both as both_of, last_out, near_of, node_of, given_up, after_top, after_retire, after_unwind, quiet, swept, again, answered, finished, refused, decided, CopyFailed, adds, asks_new, absent_reply, stamp_above, after_version, after_read, down, started, ready, plan_here, unless_full, absent, IsAsked, replaced, taken_out, emptied, is_same, IsAtOld, IsAdded, IsExchanged, IsPresent, IsChecked, after_miss, IsGiven, IsGivenNew, MadeLeaf, greater, MadeGreater, MadeTop, MadeBeside, MadeLesser, UpgradedOne, UpgradedTop, UpgradedAbove, UpgradedBelow, after_change, unwound, PhaseStepped}
 use Rattle.congee.specs.Keys.{key_bytes}
 use Rattle.congee.specs.Notes.{Note, Linked, LockWords}
 use Rattle.congee.specs.protocol.Protocol.{Knows, Known}
-use Rattle.congee.specs.protocol.Names.{name_above, names_over, name_seated, name_made, names_for_one, names_for_two, names_site, names_one, names_two, names_plan, names, Comes, Had, Top, New_made, Hangs, KeepsOrigin}
+use Rattle.congee.specs.protocol.Names.{name_above, names_over, name_stamped, name_made, names_for_one, names_for_two, names_site, names_one, names_two, names_plan, names, Comes, Had, Top, New_made, Hangs, KeepsOrigin}
 use Rattle.congee.proofs.lemmas.protocol.Each.{Each, each_append, left, right}
 use Rattle.congee.proofs.lemmas.Graft.{on_test}
 use Rattle.congee.proofs.lemmas.protocol.Touch.{by_test, taken_linked}
@@ -55,9 +55,9 @@ module _ {C : Type 0} (V : Type 0) (number : C → ℕ) (K : ℕ → Type 0) whe
   at_turn : (t u : NextPhase C V) → t ≡ u → Leaves u → Leaves t
   at_turn t u e l = subst Leaves (sym e) l
 
-  seated : (p : Option (Over C)) → Each K (names_over number p) → Each K (name_seated number (seat_above p))
-  seated None e = tt
-  seated (Some u) e = (e.0, tt)
+  stamped : (p : Option (Over C)) → Each K (names_over number p) → Each K (name_stamped number (stamp_above p))
+  stamped None e = tt
+  stamped (Some u) e = (e.0, tt)
 
   nearest : (p : Option (Over C)) → Each K (names_over number p) → Each K (name_above number (near_of p))
   nearest None e = tt
@@ -89,7 +89,7 @@ module _ {C : Type 0} (V : Type 0) (number : C → ℕ) (K : ℕ → Type 0) whe
   of_ready kind plan e = by_test Leaves (asks_new kind) _ _ (λ _. e) (λ _. of_started plan (absent_reply kind) e)
 
   of_here : (kind : Kind V) (s : Site C) (change : Single C) → Each K (names_site number s) → Each K (names_for_one number change) → Leaves (ready kind (plan_here s change))
-  of_here kind s change e f = of_ready kind (plan_here s change) (each_append K (name_seated number (seat_above s.above)) _ (seated s.above e.1) (e.0, f))
+  of_here kind s change e f = of_ready kind (plan_here s change) (each_append K (name_stamped number (stamp_above s.above)) _ (stamped s.above e.1) (e.0, f))
 
   of_unless_full : (kind : Kind V) (s : Site C) (full : Bool) (p : Option (Over C)) (leaf : Option C) (change : Single C) → Each K (names_site number s) → Each K (names_over number p) → Each K (name_made number leaf)
       → Each K (names_for_one number change) → Leaves (unless_full kind s full p leaf change)
@@ -111,7 +111,7 @@ module _ {C : Type 0} (V : Type 0) (number : C → ℕ) (K : ℕ → Type 0) whe
   of_replaced s false r e = (e.0, tt)
 
   -- a value's going
-  of_last_out : (s : Site C) (p : Parent C) (top : Option (Parent C)) (r : Reply V) → Each K (names_site number s) → K (number p.seat.node) → Each K (name_above number top) → Leaves (last_out s p top r)
+  of_last_out : (s : Site C) (p : Parent C) (top : Option (Parent C)) (r : Reply V) → Each K (names_site number s) → K (number p.stamp.node) → Each K (name_above number top) → Leaves (last_out s p top r)
   of_last_out s p None r e k f = (k, (e.0, tt))
   of_last_out s p (Some top) r e k f = by_test Leaves (p.count == 2) _ _ (λ _. (f.0, (k, (e.0, tt))))
       (λ _. by_test Leaves (ltb 2 p.count && shrinks p.form p.count) _ _ (λ _. (k, (f.0, e))) (λ _. (k, (e.0, tt))))
@@ -158,7 +158,7 @@ module _ {C : Type 0} (V : Type 0) (number : C → ℕ) (K : ℕ → Type 0) whe
   of_if : (root : C) → K (number root) → (taken : Bool) (T : Type 0) (t : NextPhase C V) → (taken ≡ true → T) × (taken ≡ false → t ≡ again root) → (taken ≡ true → T → Leaves t) → Leaves t
   of_if root r taken T t x f = on_test taken (λ q. f q (x.0 q)) (λ q. at_turn t _ (x.1 q) (r, tt))
 
-  of_miss : (kind : Kind V) (p : Parent C) (at : Stamp C) (common byte : ℕ) → K (number p.seat.node) → K (number at.node) → Leaves (after_miss kind p at common byte)
+  of_miss : (kind : Kind V) (p : Parent C) (at : Stamp C) (common byte : ℕ) → K (number p.stamp.node) → K (number at.node) → Leaves (after_miss kind p at common byte)
   of_miss kind p at common byte k l = by_test Leaves (adds kind) _ _ (λ _. (k, (l, tt))) (λ _. tt)
 
   of_either : (always : Bool) (s : Site C) (same : Bool) (r : Reply V) (t : NextPhase C V) → (t ≡ replaced s same r) ⊎ CopyFailed always t → Each K (names_site number s) → Leaves t
@@ -190,7 +190,7 @@ module _ {C : Type 0} (V : Type 0) (number : C → ℕ) (K : ℕ → Type 0) whe
   of_greater s None c e k = (k, tt)
   of_greater s (Some leaf) c e k = (k, e)
 
-  of_top : (two : Two C) (r : Reply V) (top : Option (Parent C)) → K (number two.above.seat.node) → K (number two.at.node) → Each K (name_above number top) → Leaves (after_top two r top)
+  of_top : (two : Two C) (r : Reply V) (top : Option (Parent C)) → K (number two.above.stamp.node) → K (number two.at.node) → Each K (name_above number top) → Leaves (after_top two r top)
   of_top two r None k l e = (k, tt)
   of_top two r (Some top) k l e = (l, (e.0, (k, tt)))
 
@@ -227,21 +227,21 @@ module _ {C : Type 0} (V : Type 0) (number : C → ℕ) (K : ℕ → Type 0) whe
         at_turn t _ x.1 (of_unless_full kind s s.full s.above (Some leaf) (Link leaf) e e.1 (k, tt) (k, tt))
     of_leaf s (Err e') t x e = at_turn t (refused e') x.1 tt
 
-    of_made_greater : (s : Site C) (p : Parent C) (leaf : Option C) (r : Result C Refusal) (t : NextPhase C V) → MadeGreater number kind s p leaf h (key_bytes k) r h' t → K (number p.seat.node) → Each K (name_made number leaf)
+    of_made_greater : (s : Site C) (p : Parent C) (leaf : Option C) (r : Result C Refusal) (t : NextPhase C V) → MadeGreater number kind s p leaf h (key_bytes k) r h' t → K (number p.stamp.node) → Each K (name_made number leaf)
         → Each K (names_site number s) → Leaves t
     of_made_greater s p leaf (Ok c) t x k l e = at_turn t _ x.1 (of_ready kind _ (k, (e.0, of_greater s leaf c l (fresh (number c) x.0.unmade x.0.made))))
     of_made_greater s p leaf (Err e') t x k l e = at_turn t (refused e') x.1 tt
 
-    of_made_top : (p : Parent C) (at : Stamp C) (common byte : ℕ) (r : Result C Refusal) (t : NextPhase C V) → MadeTop number p at common byte h (key_bytes k) r h' t → K (number p.seat.node) → K (number at.node) → Leaves t
+    of_made_top : (p : Parent C) (at : Stamp C) (common byte : ℕ) (r : Result C Refusal) (t : NextPhase C V) → MadeTop number p at common byte h (key_bytes k) r h' t → K (number p.stamp.node) → K (number at.node) → Leaves t
     of_made_top p at common byte (Ok c) t x k l = at_turn t _ x.1 (k, (l, (fresh (number c) x.0.unmade x.0.made, tt)))
     of_made_top p at common byte (Err e') t x k l = at_turn t (refused e') x.1 tt
 
-    of_made_beside : (p : Parent C) (at : Stamp C) (common byte : ℕ) (c : C) (r : Result C Refusal) (t : NextPhase C V) → MadeBeside number kind p at common byte c h (key_bytes k) r h' t → K (number p.seat.node) → K (number at.node)
+    of_made_beside : (p : Parent C) (at : Stamp C) (common byte : ℕ) (c : C) (r : Result C Refusal) (t : NextPhase C V) → MadeBeside number kind p at common byte c h (key_bytes k) r h' t → K (number p.stamp.node) → K (number at.node)
         → K (number c) → Leaves t
     of_made_beside p at common byte c (Ok leaf) t x k l m = at_turn t _ x.1 (of_ready kind _ (k, (l, (m, (fresh (number leaf) x.0.unmade x.0.made, tt)))))
     of_made_beside p at common byte c (Err e') t x k l m = at_turn t (refused e') x.1 tt
 
-    of_made_lesser : (s : Site C) (p : Parent C) (g : Option (Parent C)) (r : Reply V) (x : Result C Refusal) (t : NextPhase C V) → MadeLesser number s p g r h (key_bytes k) x h' t → K (number p.seat.node) → Each K (name_above number g) → Each K (names_site number s) → Leaves t
+    of_made_lesser : (s : Site C) (p : Parent C) (g : Option (Parent C)) (r : Reply V) (x : Result C Refusal) (t : NextPhase C V) → MadeLesser number s p g r h (key_bytes k) x h' t → K (number p.stamp.node) → Each K (name_above number g) → Each K (names_site number s) → Leaves t
     of_made_lesser s p None r (Ok c) t x k f e = at_turn t _ x.1 (k, (e.0, (fresh (number c) x.0.unmade x.0.made, tt)))
     of_made_lesser s p None r (Err e') t x k f e = at_turn t (skipping (UpgradeOne (set_at s) r)) x.1 (e.0, tt)
     of_made_lesser s p (Some g) r (Ok c) t x k f e = at_turn t _ x.1 (f.0, (k, (e.0, (fresh (number c) x.0.unmade x.0.made, tt))))
@@ -260,7 +260,7 @@ module _ {C : Type 0} (V : Type 0) (number : C → ℕ) (K : ℕ → Type 0) whe
     of_upgraded_above two r Failed t x e = at_turn t _ x.1 (of_given_up root top two.top None (tops two e))
     of_upgraded_above two r Exhausted t x e = at_turn t _ x.1 (of_given_up root top two.top (Some refusal.Exhausted) (tops two e))
 
-    of_upgraded_top : (g : Parent C) (two : Two C) (r : Reply V) (u : Upgrade) (t : NextPhase C V) → UpgradedTop number root g two r h u h' t → K (number g.seat.node) → Each K (names_two number two) → Leaves t
+    of_upgraded_top : (g : Parent C) (two : Two C) (r : Reply V) (u : Upgrade) (t : NextPhase C V) → UpgradedTop number root g two r h u h' t → K (number g.stamp.node) → Each K (names_two number two) → Leaves t
     of_upgraded_top g two r Locked t x k e = at_turn t _ x.1 (e.0, (e.1.0, (k, right K (name_above number two.top) (names_for_two number two.change) e.1.1)))
     of_upgraded_top g two r Failed t x k e = at_turn t _ x.1 (top, tt)
     of_upgraded_top g two r Exhausted t x k e = at_turn t (refused refusal.Exhausted) x.1 tt
@@ -276,7 +276,7 @@ module _ {C : Type 0} (V : Type 0) (number : C → ℕ) (K : ℕ → Type 0) whe
       -- a child that was read in a node whose lock word is the one taken
       found : (s : Site C) (c : Child C V) → Knows number a h (key_bytes k) s (hung number c) → is_taken (h (number s.at.node)) s.at.version ≡ true → (n : ℕ) → hung number c ≡ Below n → K n
       found s c m q n e = hangs (number s.at.node) (slice_index (key_bytes k) (length (h (number s.at.node)).prefix)) n
-          (taken_linked a h w (number s.at.node) s.at.version m.fresh.seated.published q) ((m.fresh.holds q).child ∙ e)
+          (taken_linked a h w (number s.at.node) s.at.version m.fresh.stamped.published q) ((m.fresh.holds q).child ∙ e)
 
       step_names : (s : Phase C V) → Known number same always i a h k (key_bytes k) kind given s → PhaseStepped number same always most why root (key_bytes k) kind fail answer given s h given' turn h' → Each K (names number s) → Leaves turn
       step_names New m g e = at_turn turn _ g.2 (of_version root top None root _ top tt)

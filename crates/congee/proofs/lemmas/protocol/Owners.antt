@@ -136,7 +136,7 @@ module _ {C V : Type 0} (number : C → ℕ) (same : V → V → Bool) (always :
 
   locks_top : (T : Type 0) (top : Option (Parent C)) (m : ℕ) → TopLocked number i a h key top m → IsTop number top n → Locks T
   locks_top T None m x l = absurd l
-  locks_top T (Some g) m x l = locks_at T (number g.seat.node) x.holding l
+  locks_top T (Some g) m x l = locks_at T (number g.stamp.node) x.holding l
 
   locks_next : (T : Type 0) (next : Option C) (m : ℕ) → AlsoHolding number i a m next → IsMade number next n → Locks T
   locks_next T None m x l = absurd l
@@ -150,10 +150,10 @@ module _ {C V : Type 0} (number : C → ℕ) (same : V → V → Bool) (always :
   locks_are : (s : Phase C V) → Known number same always i a h k key kind given s → LockedBy number s n → Locks (TakenBy number s n)
   locks_are (ChangeOne one r) x l = locks_at _ (number one.at.node) x.1.holding l
   locks_are (UpgradeAbove two r) x l = locks_top _ two.top _ x.1.2.top l
-  locks_are (UpgradeBelow two r) x (inl l) = locks_at _ (number two.above.seat.node) x.1.2.above.holding l
+  locks_are (UpgradeBelow two r) x (inl l) = locks_at _ (number two.above.stamp.node) x.1.2.above.holding l
   locks_are (UpgradeBelow two r) x (inr l) = locks_top _ two.top _ x.1.2.top l
-  locks_are (ChangeTwo two r) x (inl (inl l)) = locks_at _ (number two.above.seat.node) x.2.above.holding l
-  locks_are (ChangeTwo two r) x (inl (inr l)) = (owned_at (number two.at.node) x.2.owner l, λ t. inl (linked_at (number two.at.node) (t.down (number two.above.seat.node) _ (number two.at.node) x.2.above.holding.linked x.2.above.child).linked l))
+  locks_are (ChangeTwo two r) x (inl (inl l)) = locks_at _ (number two.above.stamp.node) x.2.above.holding l
+  locks_are (ChangeTwo two r) x (inl (inr l)) = (owned_at (number two.at.node) x.2.owner l, λ t. inl (linked_at (number two.at.node) (t.down (number two.above.stamp.node) _ (number two.at.node) x.2.above.holding.linked x.2.above.child).linked l))
   locks_are (ChangeTwo two r) x (inr l) = locks_top _ two.top _ x.2.top l
   locks_are (Obsolete m next p r) x l = locks_out m p next x.0 x.1 l
   locks_are (Retire m next p r) x l = locks_out m p next x.0 x.1 l

@@ -20,10 +20,10 @@ use Rattle.congee.specs.declared.protocol.phase.Plan.TheVariants.{Here, Above}
 use Rattle.congee.specs.declared.protocol.phase.Phase.TheVariants.{UpgradeOne, UpgradeAbove}
 use Rattle.congee.specs.declared.protocol.turn.NextPhase.{NextPhase}
 use Rattle.congee.specs.Heap.{Node, Nothing, Holds, is_taken}
-use Rattle.congee.specs.protocol.Steps.{quiet, shrinks, set_at, both, last_out, adds, absent_reply, seat_above, started, ready, plan_here, unless_full, missing, absent, IsAsked, replaced, taken_out, emptied}
+use Rattle.congee.specs.protocol.Steps.{quiet, shrinks, set_at, both, last_out, adds, absent_reply, stamp_above, started, ready, plan_here, unless_full, missing, absent, IsAsked, replaced, taken_out, emptied}
 use Rattle.congee.specs.Keys.{key_bytes}
 use Rattle.congee.specs.Notes.{Note, Tree, LockWords}
-use Rattle.congee.specs.protocol.Protocol.{Fresh, ChildOf, IsFar, IsAbove, IsAlone, HasTop, Sees, Knows, WantedOne, MadeOne, IsLeafAt, FitsOne, OneKnown, FitsTwo, HasGift, Asking, Adding, SeatedIf, PlanKnown, MadeLeafFor, Settles}
+use Rattle.congee.specs.protocol.Protocol.{Fresh, ChildOf, IsFar, IsAbove, IsAlone, HasTop, Sees, Knows, WantedOne, MadeOne, IsLeafAt, FitsOne, OneKnown, FitsTwo, HasGift, Asking, Adding, StampedIf, PlanKnown, MadeLeafFor, Settles}
 use Rattle.congee.proofs.lemmas.Fits.{equal, same_test, both_true}
 use Rattle.congee.proofs.lemmas.protocol.Touch.{by_test, taken_linked}
 use Rattle.congee.proofs.lemmas.Graft.{on_test}
@@ -44,9 +44,9 @@ has_no_top Collapse top d e = absurd d
 has_no_top (ShrinkAbove c) top d e = absurd d
 has_no_top _ top d e = e
 
-seated_if : {C V : Type 0} (number : C → ℕ) (a : ℕ → Note) (h : ℕ → Node V) (key : List ℕ) (p : Option (Over C)) (n : ℕ) → IsAbove number a h key p n → SeatedIf number a h (seat_above p)
-seated_if number a h key None n m = tt
-seated_if number a h key (Some p) n m = m.0.fresh.seated
+stamped_if : {C V : Type 0} (number : C → ℕ) (a : ℕ → Note) (h : ℕ → Node V) (key : List ℕ) (p : Option (Over C)) (n : ℕ) → IsAbove number a h key p n → StampedIf number a h (stamp_above p)
+stamped_if number a h key None n m = tt
+stamped_if number a h key (Some p) n m = m.0.fresh.stamped
 
 settle_insert : {V : Type 0} (same : V → V → Bool) (k : ℕ) (v : V) → Settles same k Insert (Some v) None (reply.Insert None) (Some v)
 settle_insert same k v = record { call = call.Insert k v; is_call = refl; reply = refl; left = refl }
@@ -70,10 +70,10 @@ module _ {C V : Type 0} (number : C → ℕ) (same : V → V → Bool) (always :
   here_known : (s : Site C) (change : Single C) → Knows number a h (key_bytes k) s Nothing → (is_taken (h (number s.at.node)) s.at.version ≡ true → ((h (number s.at.node)).count == (h (number s.at.node)).capacity) ≡ false)
       → IsLeafAt change s.depth → MadeOne number i a h (key_bytes k) change → PlanKnown number i a h (key_bytes k) (plan_here s change)
   here_known s change m room size made = (
-    seated_if number a h (key_bytes k) s.above (number s.at.node) m.above,
+    stamped_if number a h (key_bytes k) s.above (number s.at.node) m.above,
     record {
       placed = record { fitted = m.fitted; byte = m.byte; size = (let P : ℕ → Type 0 = λ x. IsLeafAt change x in subst P m.depth size) };
-      fresh = record { seated = m.fresh.seated; holds = λ q. record { child = (m.fresh.holds q).child; room = λ _. room q } };
+      fresh = record { stamped = m.fresh.stamped; holds = λ q. record { child = (m.fresh.holds q).child; room = λ _. room q } };
       made = made;
     },
   )
@@ -112,7 +112,7 @@ module _ {C V : Type 0} (number : C → ℕ) (same : V → V → Bool) (always :
 
   -- a value that stands in a node is in a leaf
   pub at_leaf : (s : Site C) (v : V) → Knows number a h (key_bytes k) s (Holds v) → is_taken (h (number s.at.node)) s.at.version ≡ true → s.depth ≡ 7
-  at_leaf s v m q = m.depth ∙ t.leaves (number s.at.node) _ v (taken_linked a h w (number s.at.node) s.at.version m.fresh.seated.published q) (m.fresh.holds q).child
+  at_leaf s v m q = m.depth ∙ t.leaves (number s.at.node) _ v (taken_linked a h w (number s.at.node) s.at.version m.fresh.stamped.published q) (m.fresh.holds q).child
 
   -- at a leaf that holds the key's value, a call knows what putting another one there wants
   pub one_set : (s : Site C) (v : V) → Knows number a h (key_bytes k) s (Holds v) → s.depth ≡ 7 → OneKnown number i a h (key_bytes k) (record { at = s.at; byte = s.byte; change = Set }) (Holds v)
@@ -157,7 +157,7 @@ module _ {C V : Type 0} (number : C → ℕ) (same : V → V → Bool) (always :
   }
 
   -- and with it the node above, or that one gives way to a lesser node
-  last_sound : (kind : Kind V) (given : Option V) (s : Site C) (v : V) (r : Reply V) (p : Parent C) (f : Option (Parent C)) → ChildOf number a h (key_bytes k) p (number s.at.node) → IsFar number a h (key_bytes k) f (number p.seat.node) → s.count ≡ 1
+  last_sound : (kind : Kind V) (given : Option V) (s : Site C) (v : V) (r : Reply V) (p : Parent C) (f : Option (Parent C)) → ChildOf number a h (key_bytes k) p (number s.at.node) → IsFar number a h (key_bytes k) f (number p.stamp.node) → s.count ≡ 1
       → HasGift kind None → Knows number a h (key_bytes k) s (Holds v) → s.depth ≡ 7 → Settles same k kind None (Some v) r None → Sound number same always i k kind given h None (last_out s p f r) a h
   last_sound kind given s v r p None c f one g m d z = leaf_out kind given s v r p c one g m d z
   last_sound kind given s v r p (Some top) c f one g m d z = by_test (λ (x : NextPhase C V). Sound number same always i k kind given h None x a h) (p.count == 2) _ _

@@ -19,21 +19,21 @@ use Rattle.congee.specs.declared.protocol.store.Stamp.{Stamp}
 use Rattle.congee.specs.Heap.{Node, Hung}
 use Rattle.congee.specs.protocol.Events.{hung, Parts}
 use Rattle.congee.specs.Notes.{Note}
-use Rattle.congee.specs.protocol.Protocol.{ChildOf, IsFar, IsAbove, TopLocked, AlsoOut, AlsoHolding, IsLesser, Knows, Made, PlacedOne, WantedOne, MadeOne, OneKnown, OneLocked, PlacedTwo, WantedTwo, MadeTwo, TwoKnown, AboveLocked, HalfLocked, TwoLocked, TakenOut, SeatedIf, PlanKnown, MadeLeafFor, Known, Rely}
-use Rattle.congee.specs.protocol.Names.{name_above, names_over, name_seated, name_made, names_site, names_one, names_plan, names}
+use Rattle.congee.specs.protocol.Protocol.{ChildOf, IsFar, IsAbove, TopLocked, AlsoOut, AlsoHolding, IsLesser, Knows, Made, PlacedOne, WantedOne, MadeOne, OneKnown, OneLocked, PlacedTwo, WantedTwo, MadeTwo, TwoKnown, AboveLocked, HalfLocked, TwoLocked, TakenOut, StampedIf, PlanKnown, MadeLeafFor, Known, Rely}
+use Rattle.congee.specs.protocol.Names.{name_above, names_over, name_stamped, name_made, names_site, names_one, names_plan, names}
 use Rattle.congee.proofs.lemmas.protocol.Each.{Each, left, right}
-pub use Rattle.congee.proofs.lemmas.protocol.Seats.{seated_kept, fresh_kept, fits_kept, holding_kept, made_kept}
+pub use Rattle.congee.proofs.lemmas.protocol.Stamps.{stamped_kept, fresh_kept, fits_kept, holding_kept, made_kept}
 use Rattle.congee.proofs.lemmas.protocol.SweepRely.{sweep_known_kept}
 
 module _ {C V : Type 0} (number : C → ℕ) (key : List ℕ) (K : ℕ → Type 0) (i : ℕ) (a : ℕ → Note) (h : ℕ → Node V) (a' : ℕ → Note) (h' : ℕ → Node V) (r : Rely K i a h a' h') where
   -- that a node was read in the one above stays known over the steps of others
-  pub child_kept : (p : Parent C) (n : ℕ) → K (number p.seat.node) → ChildOf number a h key p n → ChildOf number a' h' key p n
+  pub child_kept : (p : Parent C) (n : ℕ) → K (number p.stamp.node) → ChildOf number a h key p n → ChildOf number a' h' key p n
   child_kept p n k c = record {
-    fitted = fits_kept K i a h a' h' r (number p.seat.node) key true k c.fresh.seated.published c.fitted;
-    byte = rw (r.prefix (number p.seat.node) k c.fresh.seated.published) c.byte;
-    depth = rw (r.prefix (number p.seat.node) k c.fresh.seated.published) c.depth;
+    fitted = fits_kept K i a h a' h' r (number p.stamp.node) key true k c.fresh.stamped.published c.fitted;
+    byte = rw (r.prefix (number p.stamp.node) k c.fresh.stamped.published) c.byte;
+    depth = rw (r.prefix (number p.stamp.node) k c.fresh.stamped.published) c.depth;
     short = c.short;
-    fresh = fresh_kept K i a h a' h' r (number p.seat.node) p.seat.version _ k c.fresh;
+    fresh = fresh_kept K i a h a' h' r (number p.stamp.node) p.stamp.version _ k c.fresh;
   }
 
   far_kept : (p : Option (Parent C)) (n : ℕ) → Each K (name_above number p) → IsFar number a h key p n → IsFar number a' h' key p n
@@ -43,12 +43,12 @@ module _ {C V : Type 0} (number : C → ℕ) (key : List ℕ) (K : ℕ → Type 
   -- what is known of the nodes above one stays known over the steps of others
   pub above_kept : (p : Option (Over C)) (n : ℕ) → Each K (names_over number p) → IsAbove number a h key p n → IsAbove number a' h' key p n
   above_kept None n k e = e
-  above_kept (Some u) n k c = (child_kept u.near n k.0 c.0, far_kept u.far (number u.near.seat.node) k.1 c.1)
+  above_kept (Some u) n k c = (child_kept u.near n k.0 c.0, far_kept u.far (number u.near.stamp.node) k.1 c.1)
 
   -- what is known of the node at hand, and of what hangs there, stays known over the steps of others
   pub knows_kept : (s : Site C) (x : Hung V) → Each K (names_over number s.above) → K (number s.at.node) → Knows number a h key s x → Knows number a' h' key s x
   knows_kept s x ka k w =
-      let e : (h' (number s.at.node)).prefix ≡ (h (number s.at.node)).prefix = r.prefix (number s.at.node) k w.fresh.seated.published in
+      let e : (h' (number s.at.node)).prefix ≡ (h (number s.at.node)).prefix = r.prefix (number s.at.node) k w.fresh.stamped.published in
       record {
         above = above_kept s.above (number s.at.node) ka w.above;
         fitted = rw e w.fitted;
@@ -84,7 +84,7 @@ module _ {C V : Type 0} (number : C → ℕ) (key : List ℕ) (K : ℕ → Type 
 
   one_kept : (one : One C) (x : Hung V) → K (number one.at.node) → OneKnown number i a h key one x → OneKnown number i a' h' key one x
   one_kept one x k o = record {
-    placed = placed_one_kept one.change one.byte _ _ (r.prefix (number one.at.node) k o.fresh.seated.published) o.placed;
+    placed = placed_one_kept one.change one.byte _ _ (r.prefix (number one.at.node) k o.fresh.stamped.published) o.placed;
     fresh = fresh_kept K i a h a' h' r (number one.at.node) one.at.version _ k o.fresh;
     made = made_one_kept one.change o.made;
   }
@@ -101,9 +101,9 @@ module _ {C V : Type 0} (number : C → ℕ) (key : List ℕ) (K : ℕ → Type 
 
   above_locked_kept : (p : Parent C) (n : ℕ) → AboveLocked number i a h key p n → AboveLocked number i a' h' key p n
   above_locked_kept p n o =
-      let e : h' (number p.seat.node) ≡ h (number p.seat.node) = (r.mine (number p.seat.node) o.holding.owner).0 in
+      let e : h' (number p.stamp.node) ≡ h (number p.stamp.node) = (r.mine (number p.stamp.node) o.holding.owner).0 in
       record {
-        holding = holding_kept K i a h a' h' r (number p.seat.node) o.holding;
+        holding = holding_kept K i a h a' h' r (number p.stamp.node) o.holding;
         fitted = rw e o.fitted;
         byte = rw e o.byte;
         child = rw e o.child;
@@ -116,11 +116,11 @@ module _ {C V : Type 0} (number : C → ℕ) (key : List ℕ) (K : ℕ → Type 
   top_kept None n o = tt
   top_kept (Some g) n o = above_locked_kept g n o
 
-  two_kept : (two : Two C) (found : Option V) (q : ℕ) → K (number two.above.seat.node) → K (number two.at.node) → TwoKnown number i a h key two found q → TwoKnown number i a' h' key two found q
+  two_kept : (two : Two C) (found : Option V) (q : ℕ) → K (number two.above.stamp.node) → K (number two.at.node) → TwoKnown number i a h key two found q → TwoKnown number i a' h' key two found q
   two_kept two found q kp k o =
-      let e : (h' (number two.at.node)).prefix ≡ (h (number two.at.node)).prefix = r.prefix (number two.at.node) k o.fresh.seated.published in
+      let e : (h' (number two.at.node)).prefix ≡ (h (number two.at.node)).prefix = r.prefix (number two.at.node) k o.fresh.stamped.published in
       record {
-        top = top_kept two.top (number two.above.seat.node) o.top;
+        top = top_kept two.top (number two.above.stamp.node) o.top;
         above = child_kept two.above (number two.at.node) kp o.above;
         placed = placed_two_kept two.change _ _ e o.placed;
         fresh = fresh_kept K i a h a' h' r (number two.at.node) two.at.version _ k o.fresh;
@@ -129,9 +129,9 @@ module _ {C V : Type 0} (number : C → ℕ) (key : List ℕ) (K : ℕ → Type 
 
   half_kept : (two : Two C) (found : Option V) (q : ℕ) → K (number two.at.node) → HalfLocked number i a h key two found q → HalfLocked number i a' h' key two found q
   half_kept two found q k o =
-      let e : (h' (number two.at.node)).prefix ≡ (h (number two.at.node)).prefix = r.prefix (number two.at.node) k o.fresh.seated.published in
+      let e : (h' (number two.at.node)).prefix ≡ (h (number two.at.node)).prefix = r.prefix (number two.at.node) k o.fresh.stamped.published in
       record {
-        top = top_kept two.top (number two.above.seat.node) o.top;
+        top = top_kept two.top (number two.above.stamp.node) o.top;
         above = above_locked_kept two.above (number two.at.node) o.above;
         placed = placed_two_kept two.change _ _ e o.placed;
         fresh = fresh_kept K i a h a' h' r (number two.at.node) two.at.version _ k o.fresh;
@@ -142,7 +142,7 @@ module _ {C V : Type 0} (number : C → ℕ) (key : List ℕ) (K : ℕ → Type 
   two_locked_kept two found q o =
       let e : (h' (number two.at.node) ≡ h (number two.at.node)) × ((a' (number two.at.node)).status ≡ (a (number two.at.node)).status) × ((a' (number two.at.node)).owner ≡ (a (number two.at.node)).owner) = r.mine (number two.at.node) o.owner in
       record {
-        top = top_kept two.top (number two.above.seat.node) o.top;
+        top = top_kept two.top (number two.above.stamp.node) o.top;
         above = above_locked_kept two.above (number two.at.node) o.above;
         owner = e.2 ∙ o.owner;
         placed = placed_two_kept two.change _ _ (ap (λ z. z.prefix) e.0) o.placed;
@@ -172,14 +172,14 @@ module _ {C V : Type 0} (number : C → ℕ) (key : List ℕ) (K : ℕ → Type 
 
   lesser_kept : (s : Site C) (p : Parent C) (g : Option (Parent C)) → Each K (name_above number g) → IsLesser number a h key s p g → IsLesser number a' h' key s p g
   lesser_kept s p None k o = o
-  lesser_kept s p (Some g) k o = (child_kept g (number p.seat.node) k.0 o.0, o.1, o.2, o.3)
+  lesser_kept s p (Some g) k o = (child_kept g (number p.stamp.node) k.0 o.0, o.1, o.2, o.3)
 
-  seated_if_kept : (p : Option (Stamp C)) → Each K (name_seated number p) → SeatedIf number a h p → SeatedIf number a' h' p
-  seated_if_kept None k s = tt
-  seated_if_kept (Some p) k s = seated_kept K i a h a' h' r (number p.node) p.version k.0 s
+  stamped_if_kept : (p : Option (Stamp C)) → Each K (name_stamped number p) → StampedIf number a h p → StampedIf number a' h' p
+  stamped_if_kept None k s = tt
+  stamped_if_kept (Some p) k s = stamped_kept K i a h a' h' r (number p.node) p.version k.0 s
 
   plan_kept : (plan : Plan C) → Each K (names_plan number plan) → PlanKnown number i a h key plan → PlanKnown number i a' h' key plan
-  plan_kept (Here check one) k x = (seated_if_kept check (left K (name_seated number check) (names_one number one) k) x.0, one_kept one _ (right K (name_seated number check) (names_one number one) k).0 x.1)
+  plan_kept (Here check one) k x = (stamped_if_kept check (left K (name_stamped number check) (names_one number one) k) x.0, one_kept one _ (right K (name_stamped number check) (names_one number one) k).0 x.1)
   plan_kept (Above two) k x = ((x.0.0, two_kept two None x.0.0 k.0 k.1.0 x.0.1), x.1, x.2)
 
   made_leaf_kept : (s : Site C) (leaf : Option C) → MadeLeafFor number i a h key s leaf → MadeLeafFor number i a' h' key s leaf
@@ -194,21 +194,21 @@ known_kept number same always K i a h a' h' r k key kind given New n m = m
 known_kept number same always K i a h a' h' r k key kind given (Version p c) n m =
     (m.0, above_kept number key K i a h a' h' r p (number c) n.1 m.1, r.published (number c) n.0 m.2)
 known_kept number same always K i a h a' h' r k key kind given (Read p at) n m =
-    (m.0, above_kept number key K i a h a' h' r p (number at.node) n.1 m.1, seated_kept K i a h a' h' r (number at.node) at.version n.0 m.2)
+    (m.0, above_kept number key K i a h a' h' r p (number at.node) n.1 m.1, stamped_kept K i a h a' h' r (number at.node) at.version n.0 m.2)
 known_kept number same always K i a h a' h' r k key kind given (Check s c) n m = (m.0, knows_kept number key K i a h a' h' r s (hung number c) n.1 n.0 m.1)
-known_kept number same always K i a h a' h' r k key kind given (CheckUncopied at) n m = (m.0, seated_kept K i a h a' h' r (number at.node) at.version n.0 m.1, m.2)
+known_kept number same always K i a h a' h' r k key kind given (CheckUncopied at) n m = (m.0, stamped_kept K i a h a' h' r (number at.node) at.version n.0 m.1, m.2)
 known_kept number same always K i a h a' h' r k key kind given (CheckMiss p at common byte) n m =
     let e : (h' (number at.node)).prefix ≡ (h (number at.node)).prefix = r.prefix (number at.node) n.1.0 m.2.published in (
       m.0,
       child_kept number key K i a h a' h' r p (number at.node) n.0 m.1,
-      seated_kept K i a h a' h' r (number at.node) at.version n.1.0 m.2,
+      stamped_kept K i a h a' h' r (number at.node) at.version n.1.0 m.2,
       (let P : List ℕ → Type 0 = λ y. Parts y key common in subst P (sym e) m.3),
       rw e m.4,
     )
 known_kept number same always K i a h a' h' r k key kind given (CheckDown p at c) n m =
-    (m.0, seated_kept K i a h a' h' r (number p.node) p.version n.0 m.1, above_kept number key K i a h a' h' r (Some at) (number c) n.1.1 m.2, r.published (number c) n.1.0 m.3)
+    (m.0, stamped_kept K i a h a' h' r (number p.node) p.version n.0 m.1, above_kept number key K i a h a' h' r (Some at) (number c) n.1.1 m.2, r.published (number c) n.1.0 m.3)
 known_kept number same always K i a h a' h' r k key kind given (CheckOld p s v) n m =
-    (m.0, seated_kept K i a h a' h' r (number p.node) p.version n.0 m.1, knows_kept number key K i a h a' h' r s _ n.1.1 n.1.0 m.2, m.3, m.4)
+    (m.0, stamped_kept K i a h a' h' r (number p.node) p.version n.0 m.1, knows_kept number key K i a h a' h' r s _ n.1.1 n.1.0 m.2, m.3, m.4)
 known_kept number same always K i a h a' h' r k key kind given (MakeLeaf s) n m = (m.0, knows_kept number key K i a h a' h' r s _ n.1 n.0 m.1, m.2, m.3, m.4)
 known_kept number same always K i a h a' h' r k key kind given (MakeGreater s p leaf) n m =
     (m.0, knows_kept number key K i a h a' h' r s _ (right K (name_made number leaf) (names_site number s) n.1).1 (right K (name_made number leaf) (names_site number s) n.1).0 m.1, child_kept number key K i a h a' h' r p (number s.at.node) n.0 m.2, made_leaf_kept number key K i a h a' h' r s leaf m.3, m.4, m.5)
@@ -216,7 +216,7 @@ known_kept number same always K i a h a' h' r k key kind given (MakeTop p at com
     let e : (h' (number at.node)).prefix ≡ (h (number at.node)).prefix = r.prefix (number at.node) n.1.0 m.2.published in (
       m.0,
       child_kept number key K i a h a' h' r p (number at.node) n.0 m.1,
-      seated_kept K i a h a' h' r (number at.node) at.version n.1.0 m.2,
+      stamped_kept K i a h a' h' r (number at.node) at.version n.1.0 m.2,
       (let P : List ℕ → Type 0 = λ y. Parts y key common in subst P (sym e) m.3),
       rw e m.4,
       m.5,
@@ -225,7 +225,7 @@ known_kept number same always K i a h a' h' r k key kind given (MakeBeside p at 
     let e : (h' (number at.node)).prefix ≡ (h (number at.node)).prefix = r.prefix (number at.node) n.1.0 m.2.published in (
       m.0,
       child_kept number key K i a h a' h' r p (number at.node) n.0 m.1,
-      seated_kept K i a h a' h' r (number at.node) at.version n.1.0 m.2,
+      stamped_kept K i a h a' h' r (number at.node) at.version n.1.0 m.2,
       (let P : List ℕ → Type 0 = λ y. Parts y key common in subst P (sym e) m.3),
       rw e m.4,
       m.5,
@@ -247,20 +247,20 @@ known_kept number same always K i a h a' h' r k key kind given (Confirm at reply
   (
     m.1.0,
     record {
-      fitted = fits_kept K i a h a' h' r (number at.node) key true n.0 m.1.1.fresh.seated.published m.1.1.fitted;
+      fitted = fits_kept K i a h a' h' r (number at.node) key true n.0 m.1.1.fresh.stamped.published m.1.1.fitted;
       fresh = fresh_kept K i a h a' h' r (number at.node) at.version _ n.0 m.1.1.fresh;
     },
     m.1.2,
   ),
 )
 known_kept number same always K i a h a' h' r k key kind given (CheckAbove p one reply) n m =
-    (m.0, seated_kept K i a h a' h' r (number p.node) p.version n.0 m.1, one_kept number key K i a h a' h' r one _ n.1.0 m.2, m.3, m.4)
+    (m.0, stamped_kept K i a h a' h' r (number p.node) p.version n.0 m.1, one_kept number key K i a h a' h' r one _ n.1.0 m.2, m.3, m.4)
 known_kept number same always K i a h a' h' r k key kind given (UpgradeOne one reply) n m =
     (m.0, (m.1.0, one_kept number key K i a h a' h' r one _ n.0 m.1.1, m.1.2, m.1.3))
 known_kept number same always K i a h a' h' r k key kind given (ChangeOne one reply) n m =
     (m.0, one_locked_kept number key K i a h a' h' r one _ m.1, m.2, m.3)
 known_kept number same always K i a h a' h' r k key kind given (UpgradeTop g two reply) n m =
-    (m.0, (m.1.0, m.1.1, two_kept number key K i a h a' h' r two _ _ n.1.0 n.1.1.0 m.1.2, m.1.3, m.1.4), child_kept number key K i a h a' h' r g (number two.above.seat.node) n.0 m.2, m.3, m.4)
+    (m.0, (m.1.0, m.1.1, two_kept number key K i a h a' h' r two _ _ n.1.0 n.1.1.0 m.1.2, m.1.3, m.1.4), child_kept number key K i a h a' h' r g (number two.above.stamp.node) n.0 m.2, m.3, m.4)
 known_kept number same always K i a h a' h' r k key kind given (UpgradeAbove two reply) n m =
     (m.0, (m.1.0, m.1.1, two_kept number key K i a h a' h' r two _ _ n.0 n.1.0 m.1.2, m.1.3, m.1.4, m.1.5))
 known_kept number same always K i a h a' h' r k key kind given (UpgradeBelow two reply) n m =

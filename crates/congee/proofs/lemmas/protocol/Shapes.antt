@@ -146,7 +146,7 @@ module _ {C V : Type 0} (k : ℕ) (v v1 v' : Option V) (e : v' ≡ v1) (q : Ques
 
   adds_at : (always : Bool) (same : V → V → Bool) (kind : Kind V) (new : Option V) (s : Site C) (above : Option (Over C)) (old : V) (t : NextPhase C V) → adds kind ≡ true → IsAdded always same kind new s above old t → StepShape k kind v v1 v' q t
   adds_at always same kind new s None old t w x = at_old always same kind new s old t w x
-  adds_at always same kind new s (Some u) old t w x = to kind _ t x (on kind (CheckOld u.near.seat s old) refl)
+  adds_at always same kind new s (Some u) old t w x = to kind _ t x (on kind (CheckOld u.near.stamp s old) refl)
 
   exchanges : (always : Bool) (same : V → V → Bool) (w : V) (new : Option V) (s : Site C) (old : V) (t : NextPhase C V) → IsExchanged always same new s old t → StepShape k (Exchange w) v v1 v' q t
   exchanges always same w None s old t x = to (Exchange w) _ t x (empties (Exchange w) s (reply.Exchange (Ok None)) tt)
@@ -155,7 +155,7 @@ module _ {C V : Type 0} (k : ℕ) (v v1 v' : Option V) (e : v' ≡ v1) (q : Ques
   downs : (kind : Kind V) (b : Bool) (s : Site C) (above : Option (Over C)) (c : C) → StepShape k kind v v1 v' q (down b s above c)
   downs kind false s above c = on kind (Version _ c) refl
   downs kind true s None c = on kind (Version _ c) refl
-  downs kind true s (Some u) c = on kind (CheckDown u.near.seat _ c) refl
+  downs kind true s (Some u) c = on kind (CheckDown u.near.stamp _ c) refl
 
 -- before an answer was wanted
 pub presents : {C V : Type 0} (k : ℕ) (v v' : Option V) (e : v' ≡ v) (q : Question V) (always : Bool) (same : V → V → Bool) (kind : Kind V) (new : Option V) (s : Site C) (old : V) (t : NextPhase C V)
@@ -199,11 +199,11 @@ module _ {C V : Type 0} (number : C → ℕ) (k : ℕ) (kind : Kind V) (v v' : O
   checks always same new s (child.Value old) t x = presents k v v' e q always same kind new s old t x
 
   -- what a call does after a read is a step that it may take
-  pub reads : (root : C) (above : Option (Over C)) (seat : Stamp C) (r : Reading C V) → StepShape k kind v v v' q (after_read root above seat r)
-  reads root None seat (Differs common byte) = back root
-  reads root (Some u) seat (Differs common byte) = go (CheckMiss u.near seat common byte) refl
-  reads root above seat (Fits depth form s) = go (Check _ s.child) refl
-  reads root above seat Uncopied = go (CheckUncopied seat) refl
+  pub reads : (root : C) (above : Option (Over C)) (stamp : Stamp C) (r : Reading C V) → StepShape k kind v v v' q (after_read root above stamp r)
+  reads root None stamp (Differs common byte) = back root
+  reads root (Some u) stamp (Differs common byte) = go (CheckMiss u.near stamp common byte) refl
+  reads root above stamp (Fits depth form s) = go (Check _ s.child) refl
+  reads root above stamp Uncopied = go (CheckUncopied stamp) refl
 
   -- what a call does after it took a version, or found none, is a step that it may take
   pub versions : (root : C) (above : Option (Over C)) (n : C) (o : Option ℕ) → StepShape k kind v v v' q (after_version root above n o)
@@ -215,8 +215,8 @@ module _ {C V : Type 0} (number : C → ℕ) (k : ℕ) (kind : Kind V) (v v' : O
   if_taken taken root T t x f = on_test taken (λ p. f (x.0 p)) (λ p. at _ t (x.1 p) (back root))
 
   -- what a call does where its key's way parts within a prefix is a step that it may take
-  pub misses_at : (p : Parent C) (seat : Stamp C) (common byte : ℕ) → StepShape k kind v v v' q (after_miss kind p seat common byte)
-  misses_at p seat common byte = by_test (λ (z : NextPhase C V). StepShape k kind v v v' q z) (adds kind) _ _ (λ _. go (MakeTop p seat common byte) refl) (λ w. answers (absent_reply kind) (fair_absent kind q w))
+  pub misses_at : (p : Parent C) (stamp : Stamp C) (common byte : ℕ) → StepShape k kind v v v' q (after_miss kind p stamp common byte)
+  misses_at p stamp common byte = by_test (λ (z : NextPhase C V). StepShape k kind v v v' q z) (adds kind) _ _ (λ _. go (MakeTop p stamp common byte) refl) (λ w. answers (absent_reply kind) (fair_absent kind q w))
 
   -- a call may be refused
   pub halts : (r : Refusal) (t : NextPhase C V) → t ≡ refused r → StepShape k kind v v v' q t
@@ -233,15 +233,15 @@ module _ {C V : Type 0} (number : C → ℕ) (k : ℕ) (kind : Kind V) (v v' : O
   greater_made s p leaf h key (Err r) h' t w x = halts r t x.1
 
   -- what a call does once the node where ways part was made or refused is a step that it may take
-  pub top_made : (p : Parent C) (seat : Stamp C) (common byte : ℕ) (h : ℕ → Node V) (key : List ℕ) (r : Result C Refusal) (h' : ℕ → Node V) (t : NextPhase C V) → MadeTop number p seat common byte h key r h' t → StepShape k kind v v v' q t
-  top_made p seat common byte h key (Ok top) h' t x = at _ t x.1 (go (MakeBeside p seat common byte top) refl)
-  top_made p seat common byte h key (Err r) h' t x = halts r t x.1
+  pub top_made : (p : Parent C) (stamp : Stamp C) (common byte : ℕ) (h : ℕ → Node V) (key : List ℕ) (r : Result C Refusal) (h' : ℕ → Node V) (t : NextPhase C V) → MadeTop number p stamp common byte h key r h' t → StepShape k kind v v v' q t
+  top_made p stamp common byte h key (Ok top) h' t x = at _ t x.1 (go (MakeBeside p stamp common byte top) refl)
+  top_made p stamp common byte h key (Err r) h' t x = halts r t x.1
 
   -- what a call that adds does once the leaf beside was made or refused is a step that it may take
-  pub beside_made : (p : Parent C) (seat : Stamp C) (common byte : ℕ) (top : C) (h : ℕ → Node V) (key : List ℕ) (r : Result C Refusal) (h' : ℕ → Node V) (t : NextPhase C V) → adds kind ≡ true → MadeBeside number kind p seat common byte top h key r h' t
+  pub beside_made : (p : Parent C) (stamp : Stamp C) (common byte : ℕ) (top : C) (h : ℕ → Node V) (key : List ℕ) (r : Result C Refusal) (h' : ℕ → Node V) (t : NextPhase C V) → adds kind ≡ true → MadeBeside number kind p stamp common byte top h key r h' t
       → StepShape k kind v v v' q t
-  beside_made p seat common byte top h key (Ok leaf) h' t w x = at _ t x.1 (readies k v v v' e q kind _ w)
-  beside_made p seat common byte top h key (Err r) h' t w x = halts r t x.1
+  beside_made p stamp common byte top h key (Ok leaf) h' t w x = at _ t x.1 (readies k v v v' e q kind _ w)
+  beside_made p stamp common byte top h key (Err r) h' t w x = halts r t x.1
 
   skips_to : (r : Reply V) (s : Phase C V) → Ripe r q → flight_in k kind v' s ≡ Pending k kind v' (heeding r) → StepShape k kind v v v' q (skipping s)
   skips_to r s c f = Skips s (heeding r) refl (f ∙ ap (λ x. Pending k kind x (heeding r)) e) c
@@ -262,7 +262,7 @@ module _ {C V : Type 0} (number : C → ℕ) (k : ℕ) (kind : Kind V) (v v' : O
   gives_up : (root : C) (top : Option (Parent C)) (o : Option Refusal) (t : NextPhase C V) → t ≡ given_up root top o → StepShape k kind v v v' q t
   gives_up root None None t x = at _ t x (back root)
   gives_up root None (Some r) t x = halts r t x
-  gives_up root (Some top) o t x = at _ t x (go (Unwind top.seat.node None o) refl)
+  gives_up root (Some top) o t x = at _ t x (go (Unwind top.stamp.node None o) refl)
 
   -- what a ripe call does once it locked the upper of two nodes, or couldn't, is a step that it may take
   pub above_upgraded : (root : C) (two : Two C) (r : Reply V) (h : ℕ → Node V) (u : Upgrade) (h' : ℕ → Node V) (t : NextPhase C V) → Ripe r q → UpgradedAbove number root two r h u h' t → StepShape k kind v v v' q t

@@ -92,7 +92,7 @@ module _ {C V : Type 0} (number : C → ℕ) (same : V → V → Bool) (always :
       → Kept number same always i a h k kind given given (given_up root top e) h'
   gives_up root z None n None h' f g o b = again_back root z h' g b
   gives_up root z None n (Some e) h' f g o b = refused_back number same always i a h k kind given h' e b
-  gives_up root z (Some top) n e h' f g o b = unwind_back top.seat.node None e h' f g o.holding tt b
+  gives_up root z (Some top) n e h' f g o b = unwind_back top.stamp.node None e h' f g o.holding tt b
 
   upgraded_one : (root : C) → number root ≡ 0 → (most : ℕ) (fail : Bool) (one : One C) (r : Reply V) (turn : NextPhase C V) (h' : ℕ → Node V) (u : Upgrade) → Known number same always i a h k (key_bytes k) kind given (UpgradeOne one r)
       → u ≡ upgrade_gives most (h (number one.at.node)) one.at.version fail → UpgradedOne number root one r h u h' turn → Kept number same always i a h k kind given given turn h'
@@ -104,18 +104,18 @@ module _ {C V : Type 0} (number : C → ℕ) (same : V → V → Bool) (always :
       (refused_back number same always i a h k kind given h' refusal.Exhausted (back_one number i a h (key_bytes k) one.change h' t w m.1.1.made g.0))
 
   upgraded_above : (root : C) → number root ≡ 0 → (most : ℕ) (fail : Bool) (two : Two C) (r : Reply V) (turn : NextPhase C V) (h' : ℕ → Node V) (u : Upgrade) → Known number same always i a h k (key_bytes k) kind given (UpgradeAbove two r)
-      → u ≡ upgrade_gives most (h (number two.above.seat.node)) two.above.seat.version fail → UpgradedAbove number root two r h u h' turn → Kept number same always i a h k kind given given turn h'
+      → u ≡ upgrade_gives most (h (number two.above.stamp.node)) two.above.stamp.version fail → UpgradedAbove number root two r h u h' turn → Kept number same always i a h k kind given given turn h'
   upgraded_above root z most fail two r turn h' Locked m e g = kept_at number same always i a h k kind given given _ turn h' g.1
-      (lock_above number same always i a h k kind given t w two r h' m (locked_taken most (h (number two.above.seat.node)) two.above.seat.version fail e) g.0)
+      (lock_above number same always i a h k kind given t w two r h' m (locked_taken most (h (number two.above.stamp.node)) two.above.stamp.version fail e) g.0)
   upgraded_above root z most fail two r turn h' Failed m e g = kept_at number same always i a h k kind given given _ turn h' g.1
-      (gives_up root z two.top (number two.above.seat.node) None h' tt m.0 m.1.2.top (back_two number i a h (key_bytes k) two.above two.change _ _ h' t w m.1.2.made g.0))
+      (gives_up root z two.top (number two.above.stamp.node) None h' tt m.0 m.1.2.top (back_two number i a h (key_bytes k) two.above two.change _ _ h' t w m.1.2.made g.0))
   upgraded_above root z most fail two r turn h' Exhausted m e g = kept_at number same always i a h k kind given given _ turn h' g.1
-      (gives_up root z two.top (number two.above.seat.node) (Some refusal.Exhausted) h' refl m.0 m.1.2.top (back_two number i a h (key_bytes k) two.above two.change _ _ h' t w m.1.2.made g.0))
+      (gives_up root z two.top (number two.above.stamp.node) (Some refusal.Exhausted) h' refl m.0 m.1.2.top (back_two number i a h (key_bytes k) two.above two.change _ _ h' t w m.1.2.made g.0))
 
   upgraded_top : (root : C) → number root ≡ 0 → (most : ℕ) (fail : Bool) (top : Parent C) (two : Two C) (r : Reply V) (turn : NextPhase C V) (h' : ℕ → Node V) (u : Upgrade) → Known number same always i a h k (key_bytes k) kind given (UpgradeTop top two r)
-      → u ≡ upgrade_gives most (h (number top.seat.node)) top.seat.version fail → UpgradedTop number root top two r h u h' turn → Kept number same always i a h k kind given given turn h'
+      → u ≡ upgrade_gives most (h (number top.stamp.node)) top.stamp.version fail → UpgradedTop number root top two r h u h' turn → Kept number same always i a h k kind given given turn h'
   upgraded_top root z most fail top two r turn h' Locked m e g = kept_at number same always i a h k kind given given _ turn h' g.1
-      (lock_top number same always i a h k kind given t w top two r h' m (locked_taken most (h (number top.seat.node)) top.seat.version fail e) g.0)
+      (lock_top number same always i a h k kind given t w top two r h' m (locked_taken most (h (number top.stamp.node)) top.stamp.version fail e) g.0)
   upgraded_top root z most fail top two r turn h' Failed m e g = kept_at number same always i a h k kind given given _ turn h' g.1
       (again_back root z h' m.0 (back_two number i a h (key_bytes k) two.above two.change _ _ h' t w m.1.2.made g.0))
   upgraded_top root z most fail top two r turn h' Exhausted m e g = kept_at number same always i a h k kind given given _ turn h' g.1
@@ -126,9 +126,9 @@ module _ {C V : Type 0} (number : C → ℕ) (same : V → V → Bool) (always :
   upgraded_both most fail two r turn h' Locked m e g = kept_at number same always i a h k kind given given _ turn h' g.1
       (lock_both number same always i a h k kind given t w two r h' m (locked_taken most (h (number two.at.node)) two.at.version fail e) g.0)
   upgraded_both most fail two r turn h' Failed m e g = kept_at number same always i a h k kind given given _ turn h' g.1
-      (unwind_back two.above.seat.node (node_of two.top) None h' tt m.0 m.1.2.above.holding (also_top two.top two.above.seat.node m.1.2.top) (back_two number i a h (key_bytes k) two.above two.change _ _ h' t w m.1.2.made g.0))
+      (unwind_back two.above.stamp.node (node_of two.top) None h' tt m.0 m.1.2.above.holding (also_top two.top two.above.stamp.node m.1.2.top) (back_two number i a h (key_bytes k) two.above two.change _ _ h' t w m.1.2.made g.0))
   upgraded_both most fail two r turn h' Exhausted m e g = kept_at number same always i a h k kind given given _ turn h' g.1
-      (unwind_back two.above.seat.node (node_of two.top) (Some refusal.Exhausted) h' refl m.0 m.1.2.above.holding (also_top two.top two.above.seat.node m.1.2.top) (back_two number i a h (key_bytes k) two.above two.change _ _ h' t w m.1.2.made g.0))
+      (unwind_back two.above.stamp.node (node_of two.top) (Some refusal.Exhausted) h' refl m.0 m.1.2.above.holding (also_top two.top two.above.stamp.node m.1.2.top) (back_two number i a h (key_bytes k) two.above two.change _ _ h' t w m.1.2.made g.0))
 
 -- every step
 step_kept : {C V : Type 0} (number : C → ℕ) (same : V → V → Bool) (always : Bool) (most : ℕ) (why : NodeType → Refusal → Type 0) → ((p q : V) → same p q ≡ true → p ≡ q)

@@ -81,7 +81,7 @@ module _ {C V : Type 0} (number : C → ℕ) (always : Bool) (a : ℕ → Note) 
   has_at s (stage.Enter n x) u k f e = has_as (entered root s n x (version_of (h (number n)))) u f (entered_has s n x (version_of (h (number n))) k.0 e.0 e.1)
   has_at s (stage.Look r) u k f e = has_as (goes s s.above (stage.Check r f.0)) u f.2 e
   has_at s (stage.Check r found) u k f e = on_test (is_taken (h (number r.at.node)) r.at.version)
-      (λ y. followed_has s r found u k.0 k.1 e.0 e.1 (taken_linked a h w (number r.at.node) r.at.version k.1.seated.published y) (k.3.holds y) (f.goes_on y))
+      (λ y. followed_has s r found u k.0 k.1 e.0 e.1 (taken_linked a h w (number r.at.node) r.at.version k.1.stamped.published y) (k.3.holds y) (f.goes_on y))
       (λ n. has_as (anew root s) u (f.goes_back n) (anew_has s))
   has_at s stage.Full u k f e = has_as (over s (told.Done s.count)) u f tt
   has_at s stage.Over u k f e = has_as (over s told.Running) u f tt

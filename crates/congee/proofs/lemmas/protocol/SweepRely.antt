@@ -12,7 +12,7 @@ use Rattle.congee.specs.protocol.Regions.{IsRegion}
 use Rattle.congee.specs.protocol.SweepSteps.{rungs_of}
 use Rattle.congee.specs.protocol.SweepKnown.{RungKnown, RungsKnown, WayKnown, SweepKnownAt, SweepKnown, names_rungs, names_sweep_at, names_sweep}
 use Rattle.congee.proofs.lemmas.protocol.Each.{Each}
-use Rattle.congee.proofs.lemmas.protocol.Seats.{seated_kept, fresh_kept}
+use Rattle.congee.proofs.lemmas.protocol.Stamps.{stamped_kept, fresh_kept}
 
 module _ {C V : Type 0} (number : C → ℕ) (always : Bool) (K : ℕ → Type 0) (i : ℕ) (a : ℕ → Note) (h : ℕ → Node V) (a' : ℕ → Note) (h' : ℕ → Node V) (r : Rely K i a h a' h') where
   region_kept : (n : ℕ) (x : Region) → K n → is_published (a n).status ≡ true → IsRegion (h n).prefix x.base x.depth → IsRegion (h' n).prefix x.base x.depth
@@ -20,8 +20,8 @@ module _ {C V : Type 0} (number : C → ℕ) (always : Bool) (K : ℕ → Type 0
 
   rung_kept : (last above : ℕ) (x : Rung C) → K (number x.at.node) → RungKnown number a h last above x → RungKnown number a' h' last above x
   rung_kept last above x k g = record {
-    seated = seated_kept K i a h a' h' r (number x.at.node) x.at.version k g.seated;
-    region = region_kept (number x.at.node) x.region k g.seated.published g.region;
+    stamped = stamped_kept K i a h a' h' r (number x.at.node) x.at.version k g.stamped;
+    region = region_kept (number x.at.node) x.region k g.stamped.published g.region;
     deep = g.deep;
     within = g.within;
     bound = g.bound;

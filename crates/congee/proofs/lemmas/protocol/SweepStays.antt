@@ -70,7 +70,7 @@ module _ {C V : Type 0} (number : C → ℕ) (always : Bool) (a : ℕ → Note) 
       (λ ins. stays_as (seen (h (number n)).version) (entered root s n x (Some (h (number n)).version)) (pick_false (is_outside s.start s.last x) (left s) (seen (h (number n)).version) ins) (
         way_at number a h s _ k.0,
         record {
-          seated = record { published = k.1; up = omega arith };
+          stamped = record { published = k.1; up = omega arith };
           region = k.2;
           deep = k.3;
           within = inside_last x s.start s.last ins;
@@ -84,7 +84,7 @@ module _ {C V : Type 0} (number : C → ℕ) (always : Bool) (a : ℕ → Note) 
       seen v = goes s s.above (stage.Look (record { at = record { node = n; version = v }; region = x; from = first_byte s.start x }))
 
   moved_known : (s : Sweep C V) (r : Rung C) (byte : ℕ) → byte < 256 → RungKnown number a h s.last s.above.len r → RungKnown number a h s.last s.above.len (moved r byte)
-  moved_known s r byte small q = record { seated = q.seated; region = q.region; deep = q.deep; within = q.within; bound = omega (arith, small) }
+  moved_known s r byte small q = record { stamped = q.stamped; region = q.region; deep = q.deep; within = q.within; bound = omega (arith, small) }
 
   followed_stays : (s : Sweep C V) (r : Rung C) (found : Least C V) (u : Swung C V) → WayKnown number a h s → RungKnown number a h s.last s.above.len r → IsAny always found
       → (a (number r.at.node)).status ≡ Linked → LeastTruly number (h (number r.at.node)) r.from (last_byte s.last r.region) found → IsFollowed number h s r found u → Stays u
@@ -133,9 +133,9 @@ module _ {C V : Type 0} (number : C → ℕ) (always : Bool) (a : ℕ → Note) 
       (λ y. stays_as none (begins root s o) (pick_true (s.size == 0) none some y) tt)
       (λ n. stays_as some (begins root s o) (pick_false (s.size == 0) none some n) (entered_stays (anew root s).0 root whole (anew_stays s (k.range (is_some s.size n)) k.bound (is_some s.size n)))))
   stays_at s (stage.Enter n x) u k e = stays_as (entered root s n x (version_of (h (number n)))) u e (entered_stays s n x k)
-  stays_at s (stage.Look r) u k e = stays_as (goes s s.above (stage.Check r e.0)) u e.2 (way_at number a h s _ k.0, k.1, e.1.0, record { seated = k.1.seated; holds = e.1.1 })
+  stays_at s (stage.Look r) u k e = stays_as (goes s s.above (stage.Check r e.0)) u e.2 (way_at number a h s _ k.0, k.1, e.1.0, record { stamped = k.1.stamped; holds = e.1.1 })
   stays_at s (stage.Check r found) u k e = on_test (is_taken (h (number r.at.node)) r.at.version)
-      (λ y. followed_stays s r found u k.0 k.1 k.2 (taken_linked a h w (number r.at.node) r.at.version k.1.seated.published y) (k.3.holds y) (e.goes_on y))
+      (λ y. followed_stays s r found u k.0 k.1 k.2 (taken_linked a h w (number r.at.node) r.at.version k.1.stamped.published y) (k.3.holds y) (e.goes_on y))
       (λ n. stays_as (anew root s) u (e.goes_back n) (anew_stays s k.0.range k.0.bound (let r = k.0.room in omega (arith, r))))
   stays_at s stage.Full u k e = stays_as (over s (told.Done s.count)) u e tt
   stays_at s stage.Over u k e = stays_as (over s told.Running) u e tt

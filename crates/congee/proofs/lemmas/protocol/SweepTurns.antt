@@ -135,7 +135,7 @@ module _ {C V : Type 0} (number : C → ℕ) (always : Bool) (a : ℕ → Note) 
         (
           way_at number a h s _ k.0,
           record {
-            seated = record { published = k.1; up = omega arith };
+            stamped = record { published = k.1; up = omega arith };
             region = k.2;
             deep = k.3;
             within = inside_last x s.start s.last ins;
@@ -199,7 +199,7 @@ module _ {C V : Type 0} (number : C → ℕ) (always : Bool) (a : ℕ → Note) 
             room = k.room;
             fits = (let d = q.deep in let sh = q.region.short in omega (arith, d, sh));
             rungs = subst P (sym path) (rungs_longer number a h s.last 0 (rungs_of s.above) (moved r byte) k.rungs (subst (λ i. RungKnown number a h s.last i (moved r byte)) (sym count) (record {
-              seated = q.seated;
+              stamped = q.stamped;
               region = q.region;
               deep = q.deep;
               within = q.within;
@@ -267,7 +267,7 @@ module _ {C V : Type 0} (number : C → ℕ) (always : Bool) (a : ℕ → Note) 
             fits = k.fits;
             rungs = k.rungs;
           },
-          record { seated = q.seated; region = q.region; deep = q.deep; within = q.within; bound = omega (arith, small) },
+          record { stamped = q.stamped; region = q.region; deep = q.deep; within = q.within; bound = omega (arith, small) },
         ),
         record {
           under = record {
@@ -325,9 +325,9 @@ module _ {C V : Type 0} (number : C → ℕ) (always : Bool) (a : ℕ → Note) 
       (λ y. out_as s none (begins root s o) (pick_true (s.size == 0) none some y) (nothing_out s (equal s.size 0 y)))
       (λ n. out_as s some (begins root s o) (pick_false (s.size == 0) none some n) (begun_out s (k.range (is_some s.size n)) k.bound (is_some s.size n))))
   stepped_out s (stage.Enter n x) u k tr e = out_as s (entered root s n x (version_of (h (number n)))) u e (entered_out s n x k (under_later s x x.base tr))
-  stepped_out s (stage.Look r) u k tr e = out_as s (goes s s.above (stage.Check r e.0)) u e.2 ((way_at number a h s _ k.0, k.1, e.1.0, record { seated = k.1.seated; holds = e.1.1 }), aimed_at s _ r (aimed_later s r tr), tt, record { start_is = refl; last_is = refl; size_is = refl })
+  stepped_out s (stage.Look r) u k tr e = out_as s (goes s s.above (stage.Check r e.0)) u e.2 ((way_at number a h s _ k.0, k.1, e.1.0, record { stamped = k.1.stamped; holds = e.1.1 }), aimed_at s _ r (aimed_later s r tr), tt, record { start_is = refl; last_is = refl; size_is = refl })
   stepped_out s (stage.Check r found) u k tr e = on_test (is_taken (h (number r.at.node)) r.at.version)
-      (λ y. followed_out s r found u k.0 k.1 k.2 (taken_linked a h w (number r.at.node) r.at.version k.1.seated.published y) (k.3.holds y) (aimed_later s r tr) (e.goes_on y))
+      (λ y. followed_out s r found u k.0 k.1 k.2 (taken_linked a h w (number r.at.node) r.at.version k.1.stamped.published y) (k.3.holds y) (aimed_later s r tr) (e.goes_on y))
       (λ n. out_as s (anew root s) u (e.goes_back n) (anew_out s k.0.range k.0.bound (let r = k.0.room in omega (arith, r))))
   stepped_out s stage.Full u k tr e = out_as s (over s (told.Done s.count)) u e (tt, tt, (tr.counted, sweep_full s.start (suc s.last) s.size tr.upto (m ∷ states) (take s.count places) (length-take-le s.count places tr.counted ∙ tr.all) (sweep_later s.start (suc s.last) s.size tr.upto m states (take s.count places) tr.swept), refl), record { start_is = refl; last_is = refl; size_is = refl })
   stepped_out s stage.Over u k tr e = out_as s (over s told.Running) u e (tt, tt, tt, record { start_is = refl; last_is = refl; size_is = refl })

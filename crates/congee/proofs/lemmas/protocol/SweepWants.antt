@@ -31,12 +31,12 @@ module _ {C V : Type 0} (number : C → ℕ) (always : Bool) (a : ℕ → Note) 
   wants_at : (s : Sweep C V) (x : Stage C V) → SweepKnownAt number always a h s x → MaySweepAt number root s x h
   wants_at s stage.New k = (w.each (number root)).stands (let U : ℕ → Type 0 = λ n. is_published (a n).status ≡ true in subst U (sym z) (ap is_published t.root))
   wants_at s (stage.Enter n x) k = ((w.each (number n)).stands k.1, k.2.short, k.0.fits)
-  wants_at s (stage.Look r) k = ((w.each (number r.at.node)).stands k.1.seated.published, k.1.region.short, k.1.within)
+  wants_at s (stage.Look r) k = ((w.each (number r.at.node)).stands k.1.stamped.published, k.1.region.short, k.1.within)
   wants_at s (stage.Check r x) k = (
-    (w.each (number r.at.node)).stands k.1.seated.published,
+    (w.each (number r.at.node)).stands k.1.stamped.published,
     (let d = k.1.deep in let q = k.1.region.short in omega (arith, d, q)),
     k.0.room,
-    (λ y. may_follow s r x k.1 k.2 (taken_linked a h w (number r.at.node) r.at.version k.1.seated.published y) (k.3.holds y)),
+    (λ y. may_follow s r x k.1 k.2 (taken_linked a h w (number r.at.node) r.at.version k.1.stamped.published y) (k.3.holds y)),
   )
   wants_at s stage.Full k = tt
   wants_at s stage.Over k = tt

@@ -38,7 +38,7 @@ module _ {C V : Type 0} (number : C → ℕ) (same : V → V → Bool) (always :
   added_sound kind given s None v turn e ep z g m d = at_old_sound kind given s v turn e z g m d
   added_sound kind given s (Some p) v turn e ep z g m d =
       let ab : IsAbove number a h (key_bytes k) (Some p) (number s.at.node) = (let P : Option (Over C) → Type 0 = λ x. IsAbove number a h (key_bytes k) x (number s.at.node) in subst P ep m.above) in
-      turn_at number same always i a h k t w kind given given _ turn e (record { known = (g, ab.0.fresh.seated, m, z, d); answer = λ y _. refl })
+      turn_at number same always i a h k t w kind given given _ turn e (record { known = (g, ab.0.fresh.stamped, m, z, d); answer = λ y _. refl })
 
   exchanged_sound : (old : V) (given : Option V) (s : Site C) (v : V) (turn : NextPhase C V) → same v old ≡ true → IsExchanged always same given s v turn → Knows number a h (key_bytes k) s (Holds v) → s.depth ≡ 7
       → Sound number same always i k (Exchange old) given h given turn a h

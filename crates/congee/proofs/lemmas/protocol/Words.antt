@@ -5,7 +5,7 @@ use Rattle.congee.specs.declared.forms.base_node.NodeType.{NodeType}
 use Rattle.congee.specs.Heap.{Node, Stands, walk, value_at, is_taken}
 use Rattle.congee.specs.protocol.Events.{SameBut, NewNode, BackGives, ObsoleteGives, RetireGives, UnlockGives}
 use Rattle.congee.specs.Notes.{Note, Unmade, Held, Linked, Gone, Back, is_published, IsChild, HasParent, Tree, WordAt, LockWords}
-use Rattle.congee.specs.protocol.Protocol.{Seated, Made, Holding, TakenOut, Fares, Effect}
+use Rattle.congee.specs.protocol.Protocol.{Stamped, Made, Holding, TakenOut, Fares, Effect}
 use Rattle.congee.proofs.lemmas.Fits.{both_true, equal}
 use Rattle.congee.proofs.lemmas.Tree.{step_same}
 use Rattle.congee.proofs.lemmas.protocol.Touch.{fares_locked, fares_free, fares_mine, fares_retired, fares_made, fares_back, noted, noted_same, noted_other, own, owned, under_lock, out_of_reach, effect, not_taken, taken_linked, taken_not_locked, locked_not_free, owner_locked, tree_same, same_map, but_one, but_note, touch_one}
@@ -45,7 +45,7 @@ reworded {V} i a h a' h' n t w r =
     }
 
 -- the lock of a node that was taken
-pub lock_still : {V : Type 0} (i : ℕ) (a : ℕ → Note) (h : ℕ → Node V) (n v : ℕ) (h' : ℕ → Node V) → Tree a h → LockWords a h → Seated a h n v → is_taken (h n) v ≡ true
+pub lock_still : {V : Type 0} (i : ℕ) (a : ℕ → Note) (h : ℕ → Node V) (n v : ℕ) (h' : ℕ → Node V) → Tree a h → LockWords a h → Stamped a h n v → is_taken (h n) v ≡ true
     → SameBut h n (record (h n) { locked = true }) h' → KeepsMap i a h (own a n (Some i)) h'
 lock_still i a h n v h' t w s k g =
     let l : (a n).status ≡ Linked = taken_linked a h w n v s.published k in

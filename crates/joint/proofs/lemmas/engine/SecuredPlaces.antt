@@ -248,7 +248,7 @@ module _ {C V : Type 0} where
     step_light (Read above s) never g = at t _ g.2.2 (read_light root above s g.2.0)
     step_light (Check s c) never g = if_light (is_taken (h (number s.at.node)) s.at.version) root (IsChecked always same kind new s c) t (λ u x. checked_light always same kind new s c u x) g.2
     step_light (CheckUncopied s) never g = if_this (is_taken (h (number s.node)) s.version) root (refused refusal.Count) t tt g.2
-    step_light (CheckMiss p s common byte) never g = if_this (is_taken (h (number p.seat.node)) p.seat.version) root (after_miss kind p s common byte) t (miss_light kind p s common byte) g.2
+    step_light (CheckMiss p s common byte) never g = if_this (is_taken (h (number p.stamp.node)) p.stamp.version) root (after_miss kind p s common byte) t (miss_light kind p s common byte) g.2
     step_light (CheckDown p s c) never g = if_this (is_taken (h (number p.node)) p.version) root (quiet (Version (Some s) c)) t tt g.2
     step_light (CheckOld p s v) never g = if_light (is_taken (h (number p.node)) p.version) root (IsAtOld always same kind new s v) t (λ u x. old_light always same kind new s v u x) g.2
     step_light (MakeLeaf s) never g = leaf_light number kind s h key g.1.0 h' t g.1.1

@@ -3,18 +3,18 @@ use Rattle.std.proofs.Common.{◌≡◌, ℕ, Bool, true, List, length, sym, ◌
 use Rattle.std.specs.Prelude.{None}
 use Rattle.congee.specs.Heap.{Node, fits, is_taken}
 use Rattle.congee.specs.Notes.{Note, Held, is_published}
-use Rattle.congee.specs.protocol.Protocol.{Seated, Fresh, Made, Holding, Rely}
+use Rattle.congee.specs.protocol.Protocol.{Stamped, Fresh, Made, Holding, Rely}
 
 module _ {V : Type 0} (K : ℕ → Type 0) (i : ℕ) (a : ℕ → Note) (h : ℕ → Node V) (a' : ℕ → Note) (h' : ℕ → Node V) (r : Rely K i a h a' h') where
   -- a node of which a version was taken stays one over the steps of others
-  pub seated_kept : (n v : ℕ) → K n → Seated a h n v → Seated a' h' n v
-  seated_kept n v k s = record { published = r.published n k s.published; up = omega (arith, s.up, r.version n k s.published) }
+  pub stamped_kept : (n v : ℕ) → K n → Stamped a h n v → Stamped a' h' n v
+  stamped_kept n v k s = record { published = r.published n k s.published; up = omega (arith, s.up, r.version n k s.published) }
 
   -- what is true of a node as long as its word is the one taken stays so over the steps of others
   pub fresh_kept : (n v : ℕ) (Q : Node V → Type 0) → K n → Fresh a h n v Q → Fresh a' h' n v Q
   fresh_kept n v Q k f = record {
-    seated = seated_kept n v k f.seated;
-    holds = λ t. let e : h' n ≡ h n = r.word n v k f.seated.published f.seated.up t in
+    stamped = stamped_kept n v k f.stamped;
+    holds = λ t. let e : h' n ≡ h n = r.word n v k f.stamped.published f.stamped.up t in
         subst Q (sym e) (f.holds (let P : Node V → Type 0 = λ x. is_taken x v ≡ true in subst P e t));
   }
 
