@@ -16,7 +16,7 @@ use Rattle.congee.specs.forms.Forms.{capacity_of}
 use Rattle.congee.specs.protocol.Events.{hung, places, ChangeGives, HoldsValues, HoldsNodes, IsOther, TakeOverGives, NewNode, UpgradeGives, SeenTruly}
 use Rattle.congee.specs.protocol.Bounds.{Within}
 use Rattle.congee.specs.protocol.Plain.{count_of, child_at}
-use Rattle.congee.specs.protocol.PlainHeap.{plain_node_of, plain_heap, IsFresh, IsTruly, SameWord, HandsOver}
+use Rattle.congee.specs.protocol.PlainHeap.{plain_node_of, plain_heap, IsFresh, IsTruly, SameWord, MovesTo}
 use Rattle.congee.proofs.lemmas.protocol.PlainLemmas.{child_set, child_beside, count_set, alone, pair_alone, one_left, past, lacking, none_left, all_left}
 use Rattle.congee.proofs.lemmas.protocol.Leftovers.{kept_node, kept_value}
 use Rattle.congee.proofs.lemmas.owned.Joins.{front_fits}
@@ -120,7 +120,7 @@ get_or_drop (x ∷ xs) (suc n) d = get_or_drop xs n d
 
 -- the children of one node go over into another
 taken_over : (nodes : List PlainNode) (i n : ℕ) (x y x' y' : PlainNode) → plain_heap nodes i ≡ plain_node_of (Some x) → plain_heap nodes n ≡ plain_node_of (Some y)
-    → HandsOver x y x' y' → (h' : ℕ → Node ℕ) → h' i ≡ plain_node_of (Some x') → h' n ≡ plain_node_of (Some y') → ((m : ℕ) → m ≢ n → m ≢ i → h' m ≡ plain_heap nodes m)
+    → MovesTo x y x' y' → (h' : ℕ → Node ℕ) → h' i ≡ plain_node_of (Some x') → h' n ≡ plain_node_of (Some y') → ((m : ℕ) → m ≢ n → m ≢ i → h' m ≡ plain_heap nodes m)
     → TakeOverGives (plain_heap nodes) i n h'
 taken_over nodes i n x y x' y' from to hands h' ei en others = record {
   children = λ b. rw (en, from, hands.moved) refl;
@@ -159,7 +159,7 @@ two_set nodes i n x y ne li ln = (
 
 -- children go over to a node further back in the list, which was cut before that one
 pub handed_on : (nodes f k : List PlainNode) (size i n : ℕ) (z w x' y' : PlainNode) → size ≡ length nodes → f ≡ take n nodes → k ≡ drop n nodes → i < n
-    → (plain_heap nodes i).made ≡ true → (plain_heap nodes n).made ≡ true → HandsOver (get_or f i z) (get_or k 0 w) x' y'
+    → (plain_heap nodes i).made ≡ true → (plain_heap nodes n).made ≡ true → MovesTo (get_or f i z) (get_or k 0 w) x' y'
     → TakeOverGives (plain_heap nodes) i n (plain_heap (take size (set f i x' ++ set k 0 y' ++ drop (length (set f i x' ++ set k 0 y')) nodes)))
 handed_on nodes f k size i n z w x' y' s ef ek l mi mn hands =
     let ne : i ≢ n = λ e. absurd (omega (arith, e, l)) in
@@ -173,7 +173,7 @@ handed_on nodes f k size i n z w x' y' s ef ek l mi mn hands =
 
 -- children go over to a node further in front in the list, which was cut before the one that gives them
 pub handed_back : (nodes f k : List PlainNode) (size i n : ℕ) (z w x' y' : PlainNode) → size ≡ length nodes → f ≡ take i nodes → k ≡ drop i nodes → n < i
-    → (plain_heap nodes i).made ≡ true → (plain_heap nodes n).made ≡ true → HandsOver (get_or k 0 z) (get_or f n w) x' y'
+    → (plain_heap nodes i).made ≡ true → (plain_heap nodes n).made ≡ true → MovesTo (get_or k 0 z) (get_or f n w) x' y'
     → TakeOverGives (plain_heap nodes) i n (plain_heap (take size (set f n y' ++ set k 0 x' ++ drop (length (set f n y' ++ set k 0 x')) nodes)))
 handed_back nodes f k size i n z w x' y' s ef ek l mi mn hands =
     let ne : i ≢ n = λ e. absurd (omega (arith, e, l)) in

@@ -1,6 +1,6 @@
 use Rattle.std.proofs.Common.{◌≡◌, refl, ap, ◌∙◌, length, arith}
 use Rattle.congee.proofs.lemmas.protocol.PlainLemmas.{all_written}
-use Rattle.congee.proofs.protocol.plain_node.PlainNode.hand_over.Goals as goal
+use Rattle.congee.proofs.protocol.plain_node.PlainNode.move_to.Goals as goal
 
 pub returns : goal.returns
 returns c =
