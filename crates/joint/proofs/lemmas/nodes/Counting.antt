@@ -59,7 +59,7 @@ module _ {V : Type 0} (h : ℕ → Node V) where
   -- these are counted
   pub record Counted (old new : NodeStats) (level n from : ℕ) : Type 0 where
     pub bound : from ≤ 256
-    pub cell_mark : (seen : List Shape) → IsTally old seen 0 → IsTally new (seen ++ so_far level n from) 0
+    pub tally : (seen : List Shape) → IsTally old seen 0 → IsTally new (seen ++ so_far level n from) 0
     pub opened : level < vec_len new.levels
     pub levels : vec_len old.levels ≤ vec_len new.levels
 
@@ -72,7 +72,7 @@ module _ {V : Type 0} (h : ℕ → Node V) where
         let c : Counts old new level (form_with (h n).capacity) (h n).count = subst P e (subst (λ f. Counts old new level f (map.len (children_of x))) (sym (form_back (form_of x))) counts) in
         record {
           bound = omega arith;
-          cell_mark = λ seen is. IsTally-counted old new (shape_of level (h n)) c seen 0 is;
+          tally = λ seen is. IsTally-counted old new (shape_of level (h n)) c seen 0 is;
           opened = let l = counts.levels in omega (arith, l);
           levels = let l = counts.levels in omega (arith, l);
         }
@@ -86,13 +86,13 @@ module _ {V : Type 0} (h : ℕ → Node V) where
           → ((seen : List Shape) → IsTally mid seen 0 → IsTally new (seen ++ under_byte (next level) (hung_at (Some y))) 0) → Counted old new level n (b + 1)
       went_on old mid new c small more on = record {
         bound = omega (arith, small);
-        cell_mark = λ seen is.
+        tally = λ seen is.
             let grown : under_bytes (next level) (h n).children (b + 1) ≡ under_bytes (next level) (h n).children from ++ under_byte (next level) (hung_at (Some y)) =
             one_more (next level) (h n).children from b first.past (λ q lo hi. hangs q None (first.before q lo hi))
             ∙ ap (λ z. under_bytes (next level) (h n).children from ++ under_byte (next level) z) (hangs b (Some y) first.here) in
             let all : (seen ++ so_far level n from) ++ under_byte (next level) (hung_at (Some y)) ≡ seen ++ so_far level n (b + 1) =
             append_assoc seen (so_far level n from) (under_byte (next level) (hung_at (Some y))) ∙ ap (λ l. seen ++ shape_of level (h n) ∷ l) (sym grown) in
-            subst (λ l. IsTally new l 0) all (on (seen ++ so_far level n from) (c.cell_mark seen is));
+            subst (λ l. IsTally new l 0) all (on (seen ++ so_far level n from) (c.tally seen is));
         opened = let o = c.opened in omega (arith, o, more);
         levels = let o = c.levels in omega (arith, o, more);
       }
@@ -125,7 +125,7 @@ module _ {V : Type 0} (h : ℕ → Node V) where
     ended old new level from i c none seen is =
         let all : so_far level n from ≡ nodes_from h 8 level n =
         ap (λ l. shape_of level (h n) ∷ l) (sym (none_more (next level) (h n).children from 256 c.bound (λ q lo hi. hangs q None (none q lo)))) ∙ sym (nodes_at i.tree.notes i.tree.tree level n i.linked) in
-        subst (λ l. IsTally new (seen ++ l) 0) all (c.cell_mark seen is)
+        subst (λ l. IsTally new (seen ++ l) 0) all (c.tally seen is)
 
   -- with the root and all below it counted, and so many pairs, the statistics are those of the tree
   pub all_counted : (stats : NodeStats) (pairs count : ℕ) → IsTally stats ([] ++ nodes_from h 8 0 0) 0 → count ≡ capped pairs

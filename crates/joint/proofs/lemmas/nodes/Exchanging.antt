@@ -15,7 +15,7 @@ use Rattle.congee.specs.declared.forms.base_node.Node.{Node as Form}
 use Rattle.joint.specs.declared.id.Id.{Id}
 use Rattle.joint.specs.declared.nodes.slot.Slot.{Slot}
 use Rattle.joint.specs.nodes.Altering.{Exchanges, MovesTo}
-use Rattle.joint.specs.nodes.Nodes.{Nodes, nodes, with_collector, size, waits, waiting_size, sizes, waiting, waiting_bytes, IsTally, IsKept}
+use Rattle.joint.specs.nodes.Nodes.{Nodes, nodes, with_collector, size, waits, waiting_size, sizes, waiting, waiting_bytes, IsMark, IsKept}
 use Rattle.joint.specs.NameLemmas.{number_named}
 use Rattle.joint.specs.Names.{number, named}
 use Rattle.joint.specs.nodes.Solid.{IsWhole}
@@ -88,10 +88,10 @@ module _ {P : Type 0} (F : Nodes P) (c' : State (Slot P) (Unit {0})) (beside : c
       let z1 = same_waiting a a' mark_old hands.size_old in
       let z2 = same_waiting b b' mark hands.size_is in
       let c : F.charge ≡ F.base + sizes st = kept.charged in
-      let p : IsTally a (mark_at k.cell_marks.items m.cell) = kept.tallied m a ex.was_old in
-      let q : IsTally b (mark_at k.cell_marks.items n.cell) = kept.tallied n b ex.was in
-      let p' : IsTally a' (mark_at k.cell_marks.items m.cell) = record { size_is = hands.size_old ∙ p.size_is; waits_is = mark_old ∙ p.waits_is } in
-      let q' : IsTally b' (mark_at k.cell_marks.items n.cell) = record { size_is = hands.size_is ∙ q.size_is; waits_is = mark ∙ q.waits_is } in
+      let p : IsMark a (mark_at k.cell_marks.items m.cell) = kept.marks_are m a ex.was_old in
+      let q : IsMark b (mark_at k.cell_marks.items n.cell) = kept.marks_are n b ex.was in
+      let p' : IsMark a' (mark_at k.cell_marks.items m.cell) = record { size_is = hands.size_old ∙ p.size_is; waits_is = mark_old ∙ p.waits_is } in
+      let q' : IsMark b' (mark_at k.cell_marks.items n.cell) = record { size_is = hands.size_is ∙ q.size_is; waits_is = mark ∙ q.waits_is } in
       record {
         orderly = orderly_stored F.collector c' beside kept.orderly;
         charged = omega (arith, c, e0, hands.size_old, hands.size_is);
@@ -105,11 +105,11 @@ module _ {P : Type 0} (F : Nodes P) (c' : State (Slot P) (Unit {0})) (beside : c
             | inr nn ↦ kept.whole x s (sym (ex.others x nm nn) ∙ e)
           ]
         ];
-        tallied = λ x s e. elim (same_or x m) [
-          | inl y ↦ (let z : a' ≡ s = some_injective a' s (sym ex.is_old ∙ ap (value_at c'.store) (sym y) ∙ e) in subst (λ (t : Slot P). IsTally t (mark_at k.cell_marks.items x.cell)) z (subst (λ (t : Name). IsTally a' (mark_at k.cell_marks.items t.cell)) (sym y) p'))
+        marks_are = λ x s e. elim (same_or x m) [
+          | inl y ↦ (let z : a' ≡ s = some_injective a' s (sym ex.is_old ∙ ap (value_at c'.store) (sym y) ∙ e) in subst (λ (t : Slot P). IsMark t (mark_at k.cell_marks.items x.cell)) z (subst (λ (t : Name). IsMark a' (mark_at k.cell_marks.items t.cell)) (sym y) p'))
           | inr nm ↦ elim (same_or x n) [
-            | inl y ↦ (let z : b' ≡ s = some_injective b' s (sym ex.is ∙ ap (value_at c'.store) (sym y) ∙ e) in subst (λ (t : Slot P). IsTally t (mark_at k.cell_marks.items x.cell)) z (subst (λ (t : Name). IsTally b' (mark_at k.cell_marks.items t.cell)) (sym y) q'))
-            | inr nn ↦ kept.tallied x s (sym (ex.others x nm nn) ∙ e)
+            | inl y ↦ (let z : b' ≡ s = some_injective b' s (sym ex.is ∙ ap (value_at c'.store) (sym y) ∙ e) in subst (λ (t : Slot P). IsMark t (mark_at k.cell_marks.items x.cell)) z (subst (λ (t : Name). IsMark b' (mark_at k.cell_marks.items t.cell)) (sym y) q'))
+            | inr nn ↦ kept.marks_are x s (sym (ex.others x nm nn) ∙ e)
           ]
         ];
         wide = kept.wide ∙ sym ex.wide;

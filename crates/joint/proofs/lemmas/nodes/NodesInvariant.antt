@@ -13,7 +13,7 @@ use Rattle.joint.specs.declared.id.Id.{Id}
 use Rattle.joint.specs.declared.nodes.slot.Slot.{Slot}
 use Rattle.joint.specs.declared.nodes.counts.Counts.{Counts}
 use Rattle.joint.specs.nodes.Altering.{Alters, Hangs, Pulls}
-use Rattle.joint.specs.nodes.Nodes.{Nodes, nodes, with_collector, frame, size, waits, waiting_size, sizes, waiting, waiting_bytes, IsTally, IsKept}
+use Rattle.joint.specs.nodes.Nodes.{Nodes, nodes, with_collector, frame, size, waits, waiting_size, sizes, waiting, waiting_bytes, IsMark, IsKept}
 use Rattle.joint.specs.NameLemmas.{number_named, named_number}
 use Rattle.joint.specs.Names.{number, named}
 use Rattle.joint.specs.nodes.Solid.{IsWhole}
@@ -88,13 +88,13 @@ module _ {P : Type 0} (F : Nodes P) (c' : State (Slot P) (Unit {0})) (beside : c
             | inl q ↦ (let z : s' ≡ x = some_injective s' x (sym alters.sets.value ∙ ap (value_at c'.store) (sym q) ∙ e) in subst (λ (y : Slot P). IsWhole y.node) z whole)
             | inr ne ↦ kept.whole m x (sym (alters.sets.others m ne) ∙ e)
           ];
-          tallied = λ m x e. elim (same_or m n) [
+          marks_are = λ m x e. elim (same_or m n) [
             | inl q ↦ (
                 let z : s' ≡ x = some_injective s' x (sym alters.sets.value ∙ ap (value_at c'.store) (sym q) ∙ e) in
-                let T : IsTally s (mark_at k.cell_marks.items n.cell) = kept.tallied n s alters.was in
-                let U : IsTally s' (mark_at k.cell_marks.items n.cell) = record { size_is = sz ∙ T.size_is; waits_is = mark ∙ T.waits_is } in
-                subst (λ (y : Slot P). IsTally y (mark_at k.cell_marks.items m.cell)) z (subst (λ (y : Name). IsTally s' (mark_at k.cell_marks.items y.cell)) (sym q) U))
-            | inr ne ↦ kept.tallied m x (sym (alters.sets.others m ne) ∙ e)
+                let T : IsMark s (mark_at k.cell_marks.items n.cell) = kept.marks_are n s alters.was in
+                let U : IsMark s' (mark_at k.cell_marks.items n.cell) = record { size_is = sz ∙ T.size_is; waits_is = mark ∙ T.waits_is } in
+                subst (λ (y : Slot P). IsMark y (mark_at k.cell_marks.items m.cell)) z (subst (λ (y : Name). IsMark s' (mark_at k.cell_marks.items y.cell)) (sym q) U))
+            | inr ne ↦ kept.marks_are m x (sym (alters.sets.others m ne) ∙ e)
           ];
           wide = kept.wide ∙ sym alters.wide;
           bounded = (let p = kept.bounded in omega (arith, p, alters.wide, alters.most));

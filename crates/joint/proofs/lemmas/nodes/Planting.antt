@@ -23,7 +23,7 @@ use Rattle.joint.specs.declared.nodes.counts.CellMark.{CellMark}
 use Rattle.joint.specs.declared.limits.Limits.{Limits}
 use Rattle.joint.specs.declared.nodes.slot.Slot.{Slot}
 use Rattle.joint.specs.nodes.Altering.{Fills, IsNewSlot}
-use Rattle.joint.specs.nodes.Nodes.{Nodes, nodes, of_cell, total, size, waits, waiting_size, sizes, waiting, waiting_bytes, IsTally, IsKept}
+use Rattle.joint.specs.nodes.Nodes.{Nodes, nodes, of_cell, total, size, waits, waiting_size, sizes, waiting, waiting_bytes, IsMark, IsKept}
 use Rattle.joint.specs.Limits.{AreAllowed}
 use Rattle.joint.specs.nodes.Slots.{slot_names}
 use Rattle.joint.specs.NameLemmas.{number_named}
@@ -105,12 +105,12 @@ module _ {P : Type 0} (limits : EpochLimits) (s0 c1 c2 : State (Slot P) (Unit {0
       } in
       subst IsResting (sym came) r
 
-abbrev root_tally : CellMark
-root_tally = record { form = N256; waits = false }
+abbrev root_mark : CellMark
+root_mark = record { form = N256; waits = false }
 
 -- the root's mark is the only one where no cell had one before
-pub noted_root : (ts : List CellMark) (old : List CellMark) (n : Name) → ts ≡ with_mark old n.cell root_tally → old ≡ [] → n ≡ top → ts ≡ root_tally ∷ []
-noted_root ts old n e none is = e ∙ ap (λ x. with_mark x n.cell root_tally) none ∙ ap (λ (x : Name). with_mark [] x.cell root_tally) is
+pub noted_root : (ts : List CellMark) (old : List CellMark) (n : Name) → ts ≡ with_mark old n.cell root_mark → old ≡ [] → n ≡ top → ts ≡ root_mark ∷ []
+noted_root ts old n e none is = e ∙ ap (λ x. with_mark x n.cell root_mark) none ∙ ap (λ (x : Name). with_mark [] x.cell root_mark) is
 
 -- the cells with a root alone
 module _ {P : Type 0} (limits : Limits) (F : Nodes P) (k : Counts) (planted : IsPlanted limits.epoch F.collector k) (allowed : AreAllowed limits) where
@@ -167,7 +167,7 @@ module _ {P : Type 0} (limits : Limits) (F : Nodes P) (k : Counts) (planted : Is
       let most : st.most ≡ limits.epoch.cells = ap (λ y. y.most) store_is in
       let last : st.turn_max ≡ limits.epoch.turn_max = ap (λ y. y.turn_max) store_is in
       let long : length st.cells ≡ 1 = ap (λ y. length y.cells) store_is in
-      let cell_mark : IsTally s (mark_at k.cell_marks.items 0) = subst (λ ts. IsTally s (mark_at ts 0)) (sym planted.cell_marks) (record { size_is = new.size_is; waits_is = free }) in
+      let cell_mark : IsMark s (mark_at k.cell_marks.items 0) = subst (λ ts. IsMark s (mark_at ts 0)) (sym planted.cell_marks) (record { size_is = new.size_is; waits_is = free }) in
       record {
         orderly = planted.resting.orderly;
         charged = omega (arith, charge, e0, z);
@@ -175,7 +175,7 @@ module _ {P : Type 0} (limits : Limits) (F : Nodes P) (k : Counts) (planted : Is
         count_is = omega (arith, planted.none, e1, w1);
         bytes_is = omega (arith, planted.no_bytes, e2, w2);
         whole = λ n x e. subst (λ (y : Slot P). IsWhole y.node) (of_one n x e).1 new.whole;
-        tallied = λ n x e. subst (λ (y : Slot P). IsTally y (mark_at k.cell_marks.items n.cell)) (of_one n x e).1 (subst (λ i. IsTally s (mark_at k.cell_marks.items i)) (sym (of_one n x e).0) cell_mark);
+        marks_are = λ n x e. subst (λ (y : Slot P). IsMark y (mark_at k.cell_marks.items n.cell)) (of_one n x e).1 (subst (λ i. IsMark s (mark_at k.cell_marks.items i)) (sym (of_one n x e).0) cell_mark);
         wide = ap length planted.cell_marks ∙ sym long;
         bounded = omega (arith, long, most, allowed.some_cell);
         few = omega (arith, most, allowed.cells);

@@ -97,12 +97,12 @@ module _ {P : Type 0} (F : Nodes P) (k : Counts) (kept : IsKept k F) where
   handed_weight = kept.bytes_is ∙ sym (weighed_nodes is_waiting (λ v. v.word.retired) (none_waits P) some_waits F kept.used)
 
   -- a cell's mark tells what is charged
-  pub tallied_bytes : (n : Name) → is_some (value_at F.collector.store n) ≡ true → size_of (mark_at k.cell_marks.items n.cell).form ≡ bytes_of F (number n)
-  tallied_bytes n e = go (value_at F.collector.store n) refl e
+  pub marked_bytes : (n : Name) → is_some (value_at F.collector.store n) ≡ true → size_of (mark_at k.cell_marks.items n.cell).form ≡ bytes_of F (number n)
+  marked_bytes n e = go (value_at F.collector.store n) refl e
     where
       go : (o : Option (Slot P)) → value_at F.collector.store n ≡ o → is_some o ≡ true → size_of (mark_at k.cell_marks.items n.cell).form ≡ bytes_of F (number n)
       go None q t = absurd (cc t)
-      go (Some v) q t = sym (kept.tallied n v q).size_is ∙ sym (bytes_are F n v q)
+      go (Some v) q t = sym (kept.marks_are n v q).size_is ∙ sym (bytes_are F n v q)
 
 -- what waits was handed over, and stands
 parts_of : (r m d : Bool) → r && (m && not d) ≡ true → (r ≡ true) × (m ≡ true) × (d ≡ false)
