@@ -89,19 +89,19 @@ pub use Rattle.congee.proofs.lemmas.protocol.Regions.{whole}
 -- the first keys of greater bytes aren't less
 pub use Rattle.congee.proofs.lemmas.protocol.Regions.{start_mono}
 -- the last of the keys below a node is a key
-pub use Rattle.congee.proofs.lemmas.protocol.SweepBytes.{region_top}
+pub use Rattle.congee.proofs.lemmas.protocol.ScanBytes.{region_top}
 -- the keys below a child begin with its byte's first one or after it
-pub use Rattle.congee.proofs.lemmas.protocol.SweepKept.{child_after}
+pub use Rattle.congee.proofs.lemmas.protocol.ScanKept.{child_after}
 -- and end before the next byte's first one
-pub use Rattle.congee.proofs.lemmas.protocol.SweepKept.{child_before}
+pub use Rattle.congee.proofs.lemmas.protocol.ScanKept.{child_before}
 -- the keys between two bytes between which nothing hangs are lacking
-pub use Rattle.congee.proofs.lemmas.protocol.SweepKept.{lacks_bytes}
+pub use Rattle.congee.proofs.lemmas.protocol.ScanKept.{lacks_bytes}
 -- so are the other keys of a byte under which a node hangs
-pub use Rattle.congee.proofs.lemmas.protocol.SweepKept.{lacks_beside}
+pub use Rattle.congee.proofs.lemmas.protocol.ScanKept.{lacks_beside}
 -- the value under a byte of a leaf is its key's
-pub use Rattle.congee.proofs.lemmas.protocol.SweepKept.{has_value}
+pub use Rattle.congee.proofs.lemmas.protocol.ScanKept.{has_value}
 -- the scan of a call, before its begin, is of the call's range
-pub use Rattle.congee.proofs.lemmas.protocol.SweepRanges.{of_range}
+pub use Rattle.congee.proofs.lemmas.protocol.ScanRanges.{of_range}
 -- the nodes under two trees' bytes are the same if those under each child are
 pub use Rattle.congee.proofs.lemmas.owned.Surveys.{bytes_same}
 -- bytes at which nothing hangs add no nodes
@@ -111,4 +111,4 @@ pub use Rattle.congee.proofs.lemmas.owned.Surveys.{one_more}
 -- statistics that counted one more node are those of the list with it
 pub use Rattle.congee.proofs.lemmas.owned.Tallies.{IsTally-counted}
 -- a byte that isn't passed adds its part to a sum over the bytes that are left
-pub use Rattle.congee.proofs.lemmas.protocol.AloneSweeps.{term_past}
+pub use Rattle.congee.proofs.lemmas.protocol.AloneScans.{term_past}

@@ -23,7 +23,7 @@
 //! | the same below a node that one child is left in, or few | `AskOld`, for few `MakeLesser`, `UpgradeTop`, `UpgradeAbove`, `UpgradeBelow`, `ChangeTwo`, `Obsolete` and `Retire` of both, `Unlock` |
 //! | a lower lock not free | `Unwind` at each lock that is held, then anew, or refused |
 //!
-//! Only a call with a closure asks. A scan is one phase, `Sweep`, with stages of its own in `sweep`.
+//! Only a call with a closure asks. A scan is one phase, `Scan`, with stages of its own in `scan`.
 mod acts;
 mod laws;
 mod machine;
@@ -32,9 +32,9 @@ mod phase;
 mod plain;
 mod plain_node;
 mod run;
+mod scan;
 mod state;
 mod store;
-mod sweep;
 mod turn;
 
 pub use machine::{Machine, Move, Noise, Outcome};
@@ -43,6 +43,6 @@ pub use phase::{Above, Double, Kind, One, Parent, Phase, Plan, Single, Site, Two
 pub use plain::PlainStore;
 pub use plain_node::{PlainNode, first_difference};
 pub use run::{Played, Step, play, step_of};
+pub use scan::{Path, Rung, ScanReport, ScanState, Stage};
 pub use store::{Least, NodeName, Reading, Refusal, Region, Seen, Stamp, Store, Upgrade};
-pub use sweep::{Path, Rung, ScanReport, Stage, Sweep};
 pub use turn::NextPhase;

@@ -1,7 +1,7 @@
 -- Places that a scan fills.
 use Rattle.std.proofs.Common.{◌≡◌, ℕ, ◌<◌, ◌≤◌, zero, suc, arith, List, [], ◌∷◌, ◌++◌, length, set, Result, Ok, Err, refl, ap}
 use Rattle.std.specs.Prelude.{IfOk}
-use Rattle.congee.specs.protocol.Sweeps.{written}
+use Rattle.congee.specs.protocol.Scans.{written}
 
 module _ {V : Type 0} where
   -- a pair is written into a place that is there by setting it

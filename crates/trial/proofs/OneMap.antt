@@ -4,7 +4,7 @@ use Rattle.std.specs.Ordering.{nat_cmp}
 use Rattle.std.specs.FinMap.{FinMap, get, entries}
 use Rattle.congee.specs.forms.Places.{AllKeys, Rises}
 use Rattle.congee.specs.owned.Ranges.{in_range}
-use Rattle.congee.specs.protocol.Sweeps.{HasKey, Stood, AllStood, IsScan}
+use Rattle.congee.specs.protocol.Scans.{HasKey, Stood, AllStood, IsScan}
 use Rattle.congee.proofs.Laws.{range_none, range_first}
 
 some_or_none : {A : Type 0} (o : Option A) → IsSome o ⊎ (o ≡ None)

@@ -20,18 +20,18 @@ use Rattle.congee.specs.declared.protocol.phase.Two.{Two}
 use Rattle.congee.specs.declared.protocol.phase.Plan.{Plan}
 use Rattle.congee.specs.declared.protocol.phase.Plan.TheVariants.{Here, Above}
 use Rattle.congee.specs.declared.protocol.phase.Phase.{Phase}
-use Rattle.congee.specs.declared.protocol.phase.Phase.TheVariants.{New, Version, Read, Check, CheckUncopied, CheckMiss, CheckDown, CheckOld, MakeLeaf, MakeGreater, MakeTop, MakeBeside, MakeLesser, AskOld, AskNew, Confirm, CheckAbove, UpgradeOne, ChangeOne, UpgradeTop, UpgradeAbove, UpgradeBelow, ChangeTwo, Obsolete, Retire, UnlockBelow, Unlock, Unwind, Sweep, Ended}
-use Rattle.congee.specs.declared.protocol.sweep.Rung.{Rung}
-use Rattle.congee.specs.declared.protocol.sweep.Stage.{Stage}
-use Rattle.congee.specs.declared.protocol.sweep.Stage.TheVariants as stage
-use Rattle.congee.specs.declared.protocol.sweep.Sweep.{Sweep as Scan}
+use Rattle.congee.specs.declared.protocol.phase.Phase.TheVariants.{New, Version, Read, Check, CheckUncopied, CheckMiss, CheckDown, CheckOld, MakeLeaf, MakeGreater, MakeTop, MakeBeside, MakeLesser, AskOld, AskNew, Confirm, CheckAbove, UpgradeOne, ChangeOne, UpgradeTop, UpgradeAbove, UpgradeBelow, ChangeTwo, Obsolete, Retire, UnlockBelow, Unlock, Unwind, Scan, Ended}
+use Rattle.congee.specs.declared.protocol.scan.Rung.{Rung}
+use Rattle.congee.specs.declared.protocol.scan.Stage.{Stage}
+use Rattle.congee.specs.declared.protocol.scan.Stage.TheVariants as stage
+use Rattle.congee.specs.declared.protocol.scan.ScanState.{ScanState as ScanState}
 use Rattle.congee.specs.declared.protocol.turn.NextPhase.{NextPhase}
 use Rattle.congee.specs.declared.protocol.machine.Machine.{Machine}
 use Rattle.congee.specs.declared.protocol.machine.Move.{Move}
 use Rattle.congee.specs.declared.protocol.machine.Outcome.{Outcome}
 use Rattle.congee.specs.declared.protocol.machine.Outcome.TheVariants.{Refused}
 use Rattle.congee.specs.Heap.{Node, Hung, Nothing, Below, Holds, Stands, is_taken}
-use Rattle.congee.specs.protocol.SweepSteps.{slots}
+use Rattle.congee.specs.protocol.ScanSteps.{slots}
 use Rattle.congee.specs.protocol.PlainSteps.{Went, call_after}
 
 -- the nodes in the order in which they were made, by the store's numbers: each that was made has one place
@@ -197,7 +197,7 @@ module _ {C : Type 0} (order : List ℕ) (number : C → ℕ) where
       StageAlike stage.Over x = x ≡ stage.Over
 
       -- the same scan on the same way
-      pub record ScanAlike (s : Scan C V) (t : Scan ℕ V) : Type 0 where
+      pub record ScanAlike (s : ScanState C V) (t : ScanState ℕ V) : Type 0 where
         pub start : t.start ≡ s.start
         pub last : t.last ≡ s.last
         pub size : t.size ≡ s.size
@@ -236,7 +236,7 @@ module _ {C : Type 0} (order : List ℕ) (number : C → ℕ) where
       PhaseAlike (UnlockBelow c p r) x = (n : ℕ) × (q : ℕ) × (x ≡ UnlockBelow n q r) × Named c n × Named p q
       PhaseAlike (Unlock c r) x = (n : ℕ) × (x ≡ Unlock n r) × Named c n
       PhaseAlike (Unwind c next e) x = (n : ℕ) × (o : Option ℕ) × (x ≡ Unwind n o e) × Named c n × MadeAlike next o
-      PhaseAlike (Sweep s) x = (t : Scan ℕ V) × (x ≡ Sweep t) × ScanAlike s t
+      PhaseAlike (Scan s) x = (t : ScanState ℕ V) × (x ≡ Scan t) × ScanAlike s t
       PhaseAlike Ended x = x ≡ Ended
 
       -- a step's report, and the phase after it

@@ -13,15 +13,15 @@ use Rattle.congee.specs.declared.protocol.phase.Site.{Site}
 use Rattle.congee.specs.declared.protocol.phase.Plan.{Plan}
 use Rattle.congee.specs.declared.protocol.phase.Plan.TheVariants.{Here, Above}
 use Rattle.congee.specs.declared.protocol.phase.Phase.{Phase}
-use Rattle.congee.specs.declared.protocol.phase.Phase.TheVariants.{New, Version, Read, Check, CheckUncopied, CheckMiss, CheckDown, CheckOld, MakeLeaf, MakeGreater, MakeTop, MakeBeside, MakeLesser, AskOld, AskNew, Confirm, CheckAbove, UpgradeOne, ChangeOne, UpgradeTop, UpgradeAbove, UpgradeBelow, ChangeTwo, Obsolete, Retire, UnlockBelow, Unlock, Unwind, Sweep, Ended}
+use Rattle.congee.specs.declared.protocol.phase.Phase.TheVariants.{New, Version, Read, Check, CheckUncopied, CheckMiss, CheckDown, CheckOld, MakeLeaf, MakeGreater, MakeTop, MakeBeside, MakeLesser, AskOld, AskNew, Confirm, CheckAbove, UpgradeOne, ChangeOne, UpgradeTop, UpgradeAbove, UpgradeBelow, ChangeTwo, Obsolete, Retire, UnlockBelow, Unlock, Unwind, Scan, Ended}
 use Rattle.congee.specs.declared.protocol.machine.Machine.{Machine}
-use Rattle.congee.specs.declared.protocol.sweep.Rung.{Rung}
-use Rattle.congee.specs.declared.protocol.sweep.Stage.{Stage}
-use Rattle.congee.specs.declared.protocol.sweep.Stage.TheVariants as stage
-use Rattle.congee.specs.declared.protocol.sweep.Sweep.{Sweep as Scan}
+use Rattle.congee.specs.declared.protocol.scan.Rung.{Rung}
+use Rattle.congee.specs.declared.protocol.scan.Stage.{Stage}
+use Rattle.congee.specs.declared.protocol.scan.Stage.TheVariants as stage
+use Rattle.congee.specs.declared.protocol.scan.ScanState.{ScanState as ScanState}
 use Rattle.congee.specs.Heap.{Node, Hung, Nothing, Below, Holds, is_free, is_taken}
 use Rattle.congee.specs.protocol.Holdings.{LockedBy}
-use Rattle.congee.specs.protocol.SweepSteps.{rungs_of}
+use Rattle.congee.specs.protocol.ScanSteps.{rungs_of}
 use Rattle.congee.specs.declared.keys.TheConstants.{KEY_BYTES}
 use Rattle.congee.specs.declared.forms.prefix.TheConstants.{MAX_PREFIX_LEN}
 
@@ -55,7 +55,7 @@ stamps_rungs [] = []
 stamps_rungs (r ∷ rest) = r.at ∷ stamps_rungs rest
 
 -- those of a scan, by its stage
-abbrev pub stamps_scan : {C V : Type 0} → Scan C V → Stage C V → List (Stamp C)
+abbrev pub stamps_scan : {C V : Type 0} → ScanState C V → Stage C V → List (Stamp C)
 stamps_scan s stage.New = []
 stamps_scan s (stage.Enter n x) = stamps_rungs (rungs_of s.above)
 stamps_scan s (stage.Look r) = r.at ∷ stamps_rungs (rungs_of s.above)
@@ -93,7 +93,7 @@ stamps (Retire n next p r) = []
 stamps (UnlockBelow n p r) = []
 stamps (Unlock n r) = []
 stamps (Unwind n next e) = []
-stamps (Sweep s) = stamps_scan s s.stage
+stamps (Scan s) = stamps_scan s s.stage
 stamps Ended = []
 
 -- each lock word is the one taken
@@ -109,7 +109,7 @@ IsFreeAt number h _ = Unit {0}
 -- the same of a call, by its phase
 abbrev pub IsClear : {C V : Type 0} → (C → ℕ) → (ℕ → Node V) → Phase C V → Type 0
 IsClear number h (Unwind n next None) = ⊥
-IsClear number h (Sweep s) = IsFreeAt number h s.stage
+IsClear number h (Scan s) = IsFreeAt number h s.stage
 IsClear number h _ = Unit {0}
 
 -- nobody has changed what the call is yet to rely on
@@ -134,13 +134,13 @@ HasAnswer kind _ answer = Unit {0}
 
 -- the call has ended
 abbrev pub IsPast : {C V : Type 0} → Phase C V → Type 0
-IsPast (Sweep s) = s.stage ≡ stage.Over
+IsPast (Scan s) = s.stage ≡ stage.Over
 IsPast Ended = Unit {0}
 IsPast _ = ⊥
 
 -- it is one on a key, and has not ended
 abbrev pub IsPoint : {C V : Type 0} → Phase C V → Type 0
-IsPoint (Sweep s) = ⊥
+IsPoint (Scan s) = ⊥
 IsPoint Ended = ⊥
 IsPoint _ = Unit {0}
 
@@ -214,13 +214,13 @@ module _ {V : Type 0} where
   steps_found number h f r least.Uncopied = 1
 
   -- the steps that a scan takes at most from here on
-  abbrev pub steps_sweep : {C : Type 0} → (C → ℕ) → (ℕ → Node V) → Scan C V → Stage C V → ℕ
-  steps_sweep number h s stage.New = 1 + steps_under h KEY_BYTES 0 0
-  steps_sweep number h s (stage.Enter n x) = 1 + steps_under h (KEY_BYTES - s.above.len) (number n) 0 + steps_way number h KEY_BYTES (rungs_of s.above)
-  steps_sweep number h s (stage.Look r) = steps_under h (KEY_BYTES - s.above.len) (number r.at.node) r.from + steps_way number h KEY_BYTES (rungs_of s.above)
-  steps_sweep number h s (stage.Check r x) = steps_found number h (KEY_BYTES - s.above.len) r x + steps_way number h KEY_BYTES (rungs_of s.above)
-  steps_sweep number h s stage.Full = 1
-  steps_sweep number h s stage.Over = 0
+  abbrev pub steps_scan : {C : Type 0} → (C → ℕ) → (ℕ → Node V) → ScanState C V → Stage C V → ℕ
+  steps_scan number h s stage.New = 1 + steps_under h KEY_BYTES 0 0
+  steps_scan number h s (stage.Enter n x) = 1 + steps_under h (KEY_BYTES - s.above.len) (number n) 0 + steps_way number h KEY_BYTES (rungs_of s.above)
+  steps_scan number h s (stage.Look r) = steps_under h (KEY_BYTES - s.above.len) (number r.at.node) r.from + steps_way number h KEY_BYTES (rungs_of s.above)
+  steps_scan number h s (stage.Check r x) = steps_found number h (KEY_BYTES - s.above.len) r x + steps_way number h KEY_BYTES (rungs_of s.above)
+  steps_scan number h s stage.Full = 1
+  steps_scan number h s stage.Over = 0
 
   -- the steps that a call takes at most from here on
   abbrev pub steps_left : {C : Type 0} → (C → ℕ) → (ℕ → Node V) → Phase C V → ℕ
@@ -252,7 +252,7 @@ module _ {V : Type 0} where
   steps_left number h (UnlockBelow n p r) = 2
   steps_left number h (Unlock n r) = 1
   steps_left number h (Unwind n next e) = 1 + steps_next next 1
-  steps_left number h (Sweep s) = steps_sweep number h s s.stage
+  steps_left number h (Scan s) = steps_scan number h s s.stage
   steps_left number h Ended = 0
 
 -- and a whole call after its begin: on one key, or a scan

@@ -5,7 +5,7 @@ use Rattle.congee.specs.declared.forms.base_node.NodeType.TheVariants.{N4}
 use Rattle.congee.specs.declared.protocol.store.Refusal.{Refusal}
 use Rattle.congee.specs.declared.protocol.store.Refusal.TheVariants as refusal
 use Rattle.congee.specs.declared.protocol.phase.Phase.{Phase}
-use Rattle.congee.specs.declared.protocol.phase.Phase.TheVariants.{Check, CheckUncopied, CheckOld, MakeLeaf, MakeGreater, MakeTop, MakeBeside, AskOld, UpgradeOne, UpgradeTop, UpgradeAbove, Unwind, Sweep}
+use Rattle.congee.specs.declared.protocol.phase.Phase.TheVariants.{Check, CheckUncopied, CheckOld, MakeLeaf, MakeGreater, MakeTop, MakeBeside, AskOld, UpgradeOne, UpgradeTop, UpgradeAbove, Unwind, Scan}
 use Rattle.congee.specs.declared.protocol.machine.Outcome.{Outcome}
 use Rattle.congee.specs.declared.protocol.machine.Outcome.TheVariants.{Refused}
 use Rattle.congee.specs.Heap.{Node}
@@ -36,7 +36,7 @@ Causes why most always (Check s c) e = Uncounted always e
 Causes why most always (CheckUncopied at) e = Uncounted always e
 Causes why most always (CheckOld p s v) e = Uncounted always e
 Causes why most always (AskOld s v) e = Uncounted always e
-Causes why most always (Sweep s) e = Uncounted always e
+Causes why most always (Scan s) e = Uncounted always e
 Causes why most always _ e = ⊥
 
 -- a step that is refused has that cause

@@ -14,14 +14,14 @@ use Rattle.congee.specs.declared.protocol.phase.Two.{Two}
 use Rattle.congee.specs.declared.protocol.phase.Plan.{Plan}
 use Rattle.congee.specs.declared.protocol.phase.Plan.TheVariants.{Here, Above}
 use Rattle.congee.specs.declared.protocol.phase.Phase.{Phase}
-use Rattle.congee.specs.declared.protocol.phase.Phase.TheVariants.{New, Version, Read, Check, CheckUncopied, CheckMiss, CheckDown, CheckOld, MakeLeaf, MakeGreater, MakeTop, MakeBeside, MakeLesser, AskOld, AskNew, Confirm, CheckAbove, UpgradeOne, ChangeOne, UpgradeTop, UpgradeAbove, UpgradeBelow, ChangeTwo, Obsolete, Retire, UnlockBelow, Unlock, Unwind, Sweep, Ended}
+use Rattle.congee.specs.declared.protocol.phase.Phase.TheVariants.{New, Version, Read, Check, CheckUncopied, CheckMiss, CheckDown, CheckOld, MakeLeaf, MakeGreater, MakeTop, MakeBeside, MakeLesser, AskOld, AskNew, Confirm, CheckAbove, UpgradeOne, ChangeOne, UpgradeTop, UpgradeAbove, UpgradeBelow, ChangeTwo, Obsolete, Retire, UnlockBelow, Unlock, Unwind, Scan, Ended}
 use Rattle.congee.specs.declared.protocol.machine.Machine.{Machine}
 use Rattle.congee.specs.Heap.{Node, Below}
 use Rattle.congee.specs.protocol.Handing.{InTree}
 use Rattle.congee.specs.Keys.{key_bytes}
 use Rattle.congee.specs.Notes.{Note, Tree, LockWords}
 use Rattle.congee.specs.protocol.Protocol.{Known}
-use Rattle.congee.specs.protocol.SweepKnown.{names_sweep}
+use Rattle.congee.specs.protocol.ScanKnown.{names_scan}
 
 -- the node above, where there is one
 abbrev pub name_above : {C : Type 0} → (C → ℕ) → Option (Parent C) → List ℕ
@@ -106,7 +106,7 @@ names number (Retire n next p r) = number n ∷ number p ∷ name_made number ne
 names number (UnlockBelow n p r) = number n ∷ number p ∷ []
 names number (Unlock n r) = number n ∷ []
 names number (Unwind n next e) = number n ∷ name_made number next
-names number (Sweep s) = names_sweep number s
+names number (Scan s) = names_scan number s
 names number Ended = []
 
 -- where a call has a name from after a step: it had it before; it is the root's; the step made the node; or the node

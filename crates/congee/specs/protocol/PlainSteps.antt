@@ -32,12 +32,12 @@ use Rattle.congee.specs.declared.protocol.phase.Two.{Two}
 use Rattle.congee.specs.declared.protocol.phase.Plan.{Plan}
 use Rattle.congee.specs.declared.protocol.phase.Plan.TheVariants.{Above}
 use Rattle.congee.specs.declared.protocol.phase.Phase.{Phase}
-use Rattle.congee.specs.declared.protocol.phase.Phase.TheVariants.{New, Version, Read, Check, CheckUncopied, CheckMiss, CheckDown, CheckOld, MakeLeaf, MakeGreater, MakeTop, MakeBeside, MakeLesser, AskOld, AskNew, Confirm, CheckAbove, UpgradeOne, ChangeOne, UpgradeTop, UpgradeAbove, UpgradeBelow, ChangeTwo, Obsolete, Retire, UnlockBelow, Unlock, Unwind, Sweep, Ended}
-use Rattle.congee.specs.declared.protocol.sweep.Rung.{Rung}
-use Rattle.congee.specs.declared.protocol.sweep.Stage.{Stage}
-use Rattle.congee.specs.declared.protocol.sweep.Stage.TheVariants as stage
-use Rattle.congee.specs.declared.protocol.sweep.Sweep.{Sweep as Scan}
-use Rattle.congee.specs.declared.protocol.sweep.ScanReport.TheVariants as told
+use Rattle.congee.specs.declared.protocol.phase.Phase.TheVariants.{New, Version, Read, Check, CheckUncopied, CheckMiss, CheckDown, CheckOld, MakeLeaf, MakeGreater, MakeTop, MakeBeside, MakeLesser, AskOld, AskNew, Confirm, CheckAbove, UpgradeOne, ChangeOne, UpgradeTop, UpgradeAbove, UpgradeBelow, ChangeTwo, Obsolete, Retire, UnlockBelow, Unlock, Unwind, Scan, Ended}
+use Rattle.congee.specs.declared.protocol.scan.Rung.{Rung}
+use Rattle.congee.specs.declared.protocol.scan.Stage.{Stage}
+use Rattle.congee.specs.declared.protocol.scan.Stage.TheVariants as stage
+use Rattle.congee.specs.declared.protocol.scan.ScanState.{ScanState as ScanState}
+use Rattle.congee.specs.declared.protocol.scan.ScanReport.TheVariants as told
 use Rattle.congee.specs.declared.protocol.turn.NextPhase.{NextPhase}
 use Rattle.congee.specs.declared.protocol.machine.Machine.{Machine}
 use Rattle.congee.specs.declared.protocol.machine.Noise.{Noise}
@@ -46,8 +46,8 @@ use Rattle.congee.specs.Keys.{key_bytes}
 use Rattle.congee.specs.protocol.Events.{upgrade_gives, places, weight}
 use Rattle.congee.specs.protocol.Regions.{span}
 use Rattle.congee.specs.protocol.Seeing.{least_seen}
-use Rattle.congee.specs.protocol.Steps.{quiet, again, answered, finished, refused, decided, asking, adds, form_above, form_below, node_of, both, after_version, after_read, down, started, ready, unless_full, absent, replaced, emptied, is_same, after_miss, greater, value_hung, after_change, after_retire, after_unwind, given_up, swept}
-use Rattle.congee.specs.protocol.SweepSteps.{last_byte, pushed, moved, Swung, goes, over, anew, left, entered, filled, begins}
+use Rattle.congee.specs.protocol.Steps.{quiet, again, answered, finished, refused, decided, asking, adds, form_above, form_below, node_of, both, after_version, after_read, down, started, ready, unless_full, absent, replaced, emptied, is_same, after_miss, greater, value_hung, after_change, after_retire, after_unwind, given_up, after_scan}
+use Rattle.congee.specs.protocol.ScanSteps.{last_byte, pushed, moved, NextScan, goes, over, anew, left, entered, filled, begins}
 use Rattle.congee.specs.declared.forms.prefix.TheConstants.{MAX_PREFIX_LEN}
 
 -- what stands for each name in what an event says of a changed node
@@ -191,20 +191,20 @@ abbrev pub region_of : List ℕ → Region
 region_of p = record { base = front 0 p * span (length p); depth = length p }
 
 -- the step of a scan
-abbrev pub followed : {V : Type 0} → (ℕ → Node V) → Scan ℕ V → Rung ℕ → Least ℕ V → Swung ℕ V
+abbrev pub followed : {V : Type 0} → (ℕ → Node V) → ScanState ℕ V → Rung ℕ → Least ℕ V → NextScan ℕ V
 followed h s r least.Nothing = left s
 followed h s r (least.Node byte c) = goes s (pushed s.above (moved r byte)) (stage.Enter c (region_of (h c).prefix))
 followed h s r (least.Value byte v) = filled s r byte v
 followed h s r least.Uncopied = over s (told.Refused refusal.Count)
 
 -- a scan's step, by its stage
-abbrev pub swung : {V : Type 0} → ℕ → Option (Seen Mark V) → (ℕ → Node V) → Scan ℕ V → Stage ℕ V → Swung ℕ V
-swung root seen h s stage.New = begins root s (version_of (h root))
-swung root seen h s (stage.Enter n x) = entered root s n x (version_of (h n))
-swung root seen h s (stage.Look r) = goes s s.above (stage.Check r (least_of (h r.at.node) r.at.version r.from (last_byte s.last r.region) seen))
-swung root seen h s (stage.Check r x) = cond (is_taken (h r.at.node) r.at.version) (followed h s r x) (anew root s)
-swung root seen h s stage.Full = over s (told.Done s.count)
-swung root seen h s stage.Over = over s told.Running
+abbrev pub next_scan : {V : Type 0} → ℕ → Option (Seen Mark V) → (ℕ → Node V) → ScanState ℕ V → Stage ℕ V → NextScan ℕ V
+next_scan root seen h s stage.New = begins root s (version_of (h root))
+next_scan root seen h s (stage.Enter n x) = entered root s n x (version_of (h n))
+next_scan root seen h s (stage.Look r) = goes s s.above (stage.Check r (least_of (h r.at.node) r.at.version r.from (last_byte s.last r.region) seen))
+next_scan root seen h s (stage.Check r x) = cond (is_taken (h r.at.node) r.at.version) (followed h s r x) (anew root s)
+next_scan root seen h s stage.Full = over s (told.Done s.count)
+next_scan root seen h s stage.Over = over s told.Running
 
 -- what a call does that stands at a value
 abbrev pub asked : {V : Type 0} → Site ℕ → V → NextPhase ℕ V
@@ -376,7 +376,7 @@ phase_step same most root key kind fail seen answer new (Retire n next p r) h k 
 phase_step same most root key kind fail seen answer new (UnlockBelow n p r) h k = went new (quiet (Unlock p r)) (free h n) k
 phase_step same most root key kind fail seen answer new (Unlock n r) h k = went new (finished r) (free h n) k
 phase_step same most root key kind fail seen answer new (Unwind n next e) h k = went new (after_unwind root next e) (free h n) k
-phase_step same most root key kind fail seen answer new (Sweep s) h k = went new (swept (swung root seen h s s.stage).0 (swung root seen h s s.stage).1) h k
+phase_step same most root key kind fail seen answer new (Scan s) h k = went new (after_scan (next_scan root seen h s s.stage).0 (next_scan root seen h s s.stage).1) h k
 phase_step same most root key kind fail seen answer new Ended h k = went new (quiet Ended) h k
 
 -- the next step of a call

@@ -21,11 +21,11 @@ use Rattle.congee.specs.declared.protocol.phase.Two.{Two}
 use Rattle.congee.specs.declared.protocol.phase.Plan.{Plan}
 use Rattle.congee.specs.declared.protocol.phase.Plan.TheVariants.{Here, Above}
 use Rattle.congee.specs.declared.protocol.phase.Phase.{Phase}
-use Rattle.congee.specs.declared.protocol.phase.Phase.TheVariants.{New, Version, Read, Check, CheckUncopied, CheckMiss, CheckDown, CheckOld, MakeLeaf, MakeGreater, MakeTop, MakeBeside, MakeLesser, AskOld, AskNew, Confirm, CheckAbove, UpgradeOne, ChangeOne, UpgradeTop, UpgradeAbove, UpgradeBelow, ChangeTwo, Obsolete, Retire, UnlockBelow, Unlock, Unwind, Sweep, Ended}
+use Rattle.congee.specs.declared.protocol.phase.Phase.TheVariants.{New, Version, Read, Check, CheckUncopied, CheckMiss, CheckDown, CheckOld, MakeLeaf, MakeGreater, MakeTop, MakeBeside, MakeLesser, AskOld, AskNew, Confirm, CheckAbove, UpgradeOne, ChangeOne, UpgradeTop, UpgradeAbove, UpgradeBelow, ChangeTwo, Obsolete, Retire, UnlockBelow, Unlock, Unwind, Scan, Ended}
 use Rattle.congee.specs.Heap.{Node, Hung, Nothing, Below, Holds, fits, child_for, is_taken}
 use Rattle.congee.specs.protocol.Events.{hung, places, Parts}
 use Rattle.congee.specs.protocol.Steps.{adds, shrinks}
-use Rattle.congee.specs.protocol.SweepKnown.{SweepKnown}
+use Rattle.congee.specs.protocol.ScanKnown.{ScanKnown}
 pub use Rattle.congee.specs.protocol.Stamps.{Stamped, Fresh}
 use Rattle.congee.specs.Notes.{Note, Unmade, Held, Linked, Gone, is_published, is_spent, BeginsKey, Tree, LockWords}
 use Rattle.congee.specs.declared.forms.prefix.TheConstants.{MAX_PREFIX_LEN}
@@ -362,7 +362,7 @@ Known number same always i a h k key kind given (Retire n next p r) = TakenOut i
 Known number same always i a h k key kind given (UnlockBelow n p r) = Holding i a (number n) × Holding i a (number p) × (number n ≢ number p)
 Known number same always i a h k key kind given (Unlock n r) = Holding i a (number n)
 Known number same always i a h k key kind given (Unwind n next e) = HasGift kind given × Holding i a (number n) × AlsoHolding number i a (number n) next × IsFailure e
-Known number same always i a h k key kind given (Sweep s) = SweepKnown number always a h s
+Known number same always i a h k key kind given (Scan s) = ScanKnown number always a h s
 Known number same always i a h k key kind given Ended = Unit {0}
 
 -- what call i may count on over a step of others, as far as the nodes of K go: a word that was taken and still

@@ -27,13 +27,13 @@ use Rattle.congee.specs.declared.protocol.phase.Two.{Two}
 use Rattle.congee.specs.declared.protocol.phase.Plan.{Plan}
 use Rattle.congee.specs.declared.protocol.phase.Plan.TheVariants.{Here, Above}
 use Rattle.congee.specs.declared.protocol.phase.Phase.{Phase}
-use Rattle.congee.specs.declared.protocol.phase.Phase.TheVariants.{New, Version, Read, Check, CheckUncopied, CheckMiss, CheckDown, CheckOld, MakeLeaf, MakeGreater, MakeTop, MakeBeside, MakeLesser, AskOld, AskNew, Confirm, CheckAbove, UpgradeOne, ChangeOne, UpgradeTop, UpgradeAbove, UpgradeBelow, ChangeTwo, Obsolete, Retire, UnlockBelow, Unlock, Unwind, Sweep, Ended}
+use Rattle.congee.specs.declared.protocol.phase.Phase.TheVariants.{New, Version, Read, Check, CheckUncopied, CheckMiss, CheckDown, CheckOld, MakeLeaf, MakeGreater, MakeTop, MakeBeside, MakeLesser, AskOld, AskNew, Confirm, CheckAbove, UpgradeOne, ChangeOne, UpgradeTop, UpgradeAbove, UpgradeBelow, ChangeTwo, Obsolete, Retire, UnlockBelow, Unlock, Unwind, Scan, Ended}
 use Rattle.congee.specs.declared.protocol.machine.Outcome.{Outcome}
 use Rattle.congee.specs.declared.protocol.machine.Outcome.TheVariants.{Running, Asks, Found, Done, Scanned, Refused}
-use Rattle.congee.specs.declared.protocol.sweep.Sweep.{Sweep as Scan}
-use Rattle.congee.specs.declared.protocol.sweep.ScanReport.{ScanReport}
-use Rattle.congee.specs.declared.protocol.sweep.ScanReport.TheVariants as told
-use Rattle.congee.specs.protocol.SweepSteps.{SweepStepped, MaySweep}
+use Rattle.congee.specs.declared.protocol.scan.ScanState.{ScanState as ScanState}
+use Rattle.congee.specs.declared.protocol.scan.ScanReport.{ScanReport}
+use Rattle.congee.specs.declared.protocol.scan.ScanReport.TheVariants as told
+use Rattle.congee.specs.protocol.ScanSteps.{ScanStepped, MayScan}
 use Rattle.congee.specs.declared.protocol.machine.Move.{Move}
 use Rattle.congee.specs.declared.protocol.turn.NextPhase.{NextPhase}
 use Rattle.congee.specs.declared.protocol.machine.Machine.{Machine}
@@ -469,8 +469,8 @@ outcome_of (told.Done count) = Scanned count
 outcome_of (told.Refused e) = Refused e
 
 -- a scan's step with what it tells
-abbrev pub swept : {C V : Type 0} → Scan C V → ScanReport V → NextPhase C V
-swept s o = record { phase = Sweep s; report = record { decided = false; skipped = false; outcome = outcome_of o } }
+abbrev pub after_scan : {C V : Type 0} → ScanState C V → ScanReport V → NextPhase C V
+after_scan s o = record { phase = Scan s; report = record { decided = false; skipped = false; outcome = outcome_of o } }
 
 -- the step of a call in a phase: on the nodes, the closure's answer and the failing of an exchange, it gives the
 -- call's new value, what it leaves, and the nodes after it
@@ -532,8 +532,8 @@ PhaseStepped number same always most why root key kind fail answer new (Unlock n
     (new' ≡ new) × UnlockGives h (number n) h' × (t ≡ finished r)
 PhaseStepped number same always most why root key kind fail answer new (Unwind n next e) h new' t h' =
     (new' ≡ new) × UnlockGives h (number n) h' × (t ≡ after_unwind root next e)
-PhaseStepped {C} {V} number same always most why root key kind fail answer new (Sweep s) h new' t h' =
-    (h' ≡ h) × (new' ≡ new) × ((s' : Scan C V) × (o : ScanReport V) × SweepStepped number always root s h s' o × (t ≡ swept s' o))
+PhaseStepped {C} {V} number same always most why root key kind fail answer new (Scan s) h new' t h' =
+    (h' ≡ h) × (new' ≡ new) × ((s' : ScanState C V) × (o : ScanReport V) × ScanStepped number always root s h s' o × (t ≡ after_scan s' o))
 PhaseStepped number same always most why root key kind fail answer new Ended h new' t h' =
     (h' ≡ h) × (new' ≡ new) × (t ≡ quiet Ended)
 
@@ -718,7 +718,7 @@ MayStep number root key new New h = Stands (h (number root))
 MayStep number root key new (MakeLeaf s) h = Unit {0}
 MayStep number root key new (AskOld s v) h = Unit {0}
 MayStep number root key new (AskNew plan) h = Unit {0}
-MayStep number root key new (Sweep s) h = MaySweep number root s h
+MayStep number root key new (Scan s) h = MayScan number root s h
 MayStep number root key new Ended h = Unit {0}
 
 -- the same of a call

@@ -159,7 +159,7 @@ impl<C: NodeName, P: Payload> Machine<C, P> {
                 let (above, at, node) = (*above, *at, *node);
                 self.check_down(store, above, at, node)
             }
-            Phase::Sweep { sweep } => sweep.step(store, root, &mut noise.seen).report(),
+            Phase::Scan { scan } => scan.step(store, root, &mut noise.seen).report(),
             // The phases past the way: each has its arm there.
             _ => self.settle(store, noise),
         }

@@ -5,8 +5,8 @@ ghost use Rattle.congee.specs.protocol.Steps.{plan_here, greater, here_of, near_
 
 use crate::forms::base_node::NodeType;
 use crate::forms::child::Child;
+use crate::protocol::scan::ScanState;
 use crate::protocol::store::{NodeName, Refusal, Stamp};
-use crate::protocol::sweep::Sweep;
 use judge::Reply;
 use std::mem;
 
@@ -310,8 +310,8 @@ pub enum Phase<C: NodeName, P> {
         refusal: Option<Refusal>,
     },
     /// A scan's step.
-    Sweep {
-        sweep: Sweep<C, P>,
+    Scan {
+        scan: ScanState<C, P>,
     },
     /// The call has ended.
     Ended,

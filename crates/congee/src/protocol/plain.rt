@@ -6,7 +6,7 @@ ghost use Rattle.congee.specs.Heap.{Node, Stands, is_taken};
 ghost use Rattle.congee.specs.protocol.Play.{Begins, begun};
 ghost use Rattle.std.specs.Vec.{vec_len};
 ghost use Rattle.congee.specs.protocol.Events.{hung, ReadGives, UpgradeGives, MayChange, ChangeGives};
-ghost use Rattle.congee.specs.protocol.SweepEvents.{LeastGives};
+ghost use Rattle.congee.specs.protocol.ScanEvents.{LeastGives};
 ghost use Rattle.congee.specs.protocol.Seeing.{ReadSees, LeastSees};
 
 use crate::forms::base_node::NodeType;

@@ -106,7 +106,7 @@ fn copy_names(from: &[Child<usize, u64>], to: &mut [Child<usize, u64>])
 impl PlainNode {
     ghost use Rattle.std.specs.Prelude.{Some};
     ghost use Rattle.congee.specs.Heap.{is_taken};
-    ghost use Rattle.congee.specs.protocol.SweepEvents.{IsAny, LeastTruly, LeastGives};
+    ghost use Rattle.congee.specs.protocol.ScanEvents.{IsAny, LeastTruly, LeastGives};
     ghost use Rattle.congee.specs.protocol.Seeing.{IsSeen, ReadSees, LeastSees};
     ghost use Rattle.congee.specs.protocol.PlainHeap.{plain_node_of, IsFresh, IsTruly, MovesTo};
 

@@ -13,8 +13,8 @@ use crate::protocol::machine::{Move, Outcome};
 use crate::protocol::phase::{
     Above, Double, Kind, Parent, Phase, Plan, Single, Site, Two, near_of,
 };
+use crate::protocol::scan::ScanReport;
 use crate::protocol::store::{NodeName, Reading, Refusal, Stamp};
-use crate::protocol::sweep::ScanReport;
 use judge::{Payload, Reply};
 
 /// What a step leaves: the call's next step, and what is reported. Contracts speak of both as one; a step changes the

@@ -1,6 +1,6 @@
 -- What a scan finds, by the lines of a run: from the one in which it begins to the one in which it is done.
 use Rattle.std.specs.Prelude.{◌≡◌, ℕ, ◌==◌, ◌&&◌, ◌≤◌, Bool, true, false, List, [], ◌∷◌, ◌++◌, length, map, take, Some}
-use Rattle.congee.specs.protocol.Sweeps.{IsScan, written}
+use Rattle.congee.specs.protocol.Scans.{IsScan, written}
 use Rattle.joint.specs.declared.steps.Done.TheVariants.{Scanned}
 use Rattle.joint.specs.declared.steps.Event.{Event}
 use Rattle.joint.specs.declared.steps.Event.TheVariants.{Begin, Go}

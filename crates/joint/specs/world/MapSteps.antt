@@ -4,7 +4,7 @@ use Rattle.judge.specs.declared.journal.Entry.{Entry}
 use Rattle.judge.specs.Answer.{Pairs}
 use Rattle.congee.specs.declared.protocol.op.Op.{Op as Point}
 use Rattle.congee.specs.protocol.Play.{Over, begun, flight, range_of, Flight, Question, Undecided, Heeds, Concludes, ScanTells, Pending, Decided, Unbegun, Scanning, value_answered, resolved}
-use Rattle.congee.specs.protocol.Sweeps.{IsScan}
+use Rattle.congee.specs.protocol.Scans.{IsScan}
 use Rattle.congee.specs.declared.protocol.machine.Outcome.{Outcome as Moved}
 use Rattle.congee.specs.declared.protocol.phase.Kind.{Kind}
 use Rattle.std.specs.FinMap.{get}

@@ -4,7 +4,7 @@ ghost use Rattle.std.specs.Prelude.{◌≡◌, ◌≤◌, IfOk, OnOk};
 ghost use Rattle.congee.specs.declared.forms.prefix.TheConstants.{MAX_PREFIX_LEN};
 ghost use Rattle.congee.specs.Keys.{IsMapOf};
 ghost use Rattle.congee.specs.protocol.Regions.{start_at};
-ghost use Rattle.congee.specs.protocol.SweepSteps.{width};
+ghost use Rattle.congee.specs.protocol.ScanSteps.{width};
 ghost use Rattle.judge.specs.Answer.{Pairs};
 ghost use Rattle.joint.specs.nodes.Nodes.{nodes};
 ghost use Rattle.joint.specs.nodes.Levels.{IsNodeIn};

@@ -3,7 +3,7 @@ use Rattle.std.proofs.Common.{◌≡◌, ℕ, ◌-◌, Bool, false, cond, List, 
 use Rattle.std.specs.Prelude.{Option, Some, slice_get, ltb, leb}
 use Rattle.congee.specs.declared.forms.base_node.NodeType.{NodeType}
 use Rattle.congee.specs.declared.protocol.op.Op.{Op}
-use Rattle.congee.specs.declared.protocol.phase.Phase.TheVariants.{Sweep}
+use Rattle.congee.specs.declared.protocol.phase.Phase.TheVariants.{Scan}
 use Rattle.congee.specs.declared.protocol.op.Op.TheVariants as op
 use Rattle.congee.specs.declared.protocol.store.Refusal.{Refusal}
 use Rattle.congee.specs.declared.protocol.store.Refusal.TheVariants as refusal
@@ -17,7 +17,7 @@ use Rattle.congee.specs.protocol.Alike.{Ordered, HeapAlike, Named, PhaseAlike, C
 use Rattle.congee.specs.protocol.PlainSteps.{Mark, plain_step}
 use Rattle.congee.specs.protocol.Play.{EachKnown, Protocol, ProtocolAt, begun, first_phase}
 use Rattle.congee.specs.protocol.Steps.{Stepped}
-use Rattle.congee.specs.protocol.SweepSteps.{new_sweep}
+use Rattle.congee.specs.protocol.ScanSteps.{new_scan}
 use Rattle.congee.proofs.lemmas.Keys.{key_length}
 use Rattle.congee.proofs.lemmas.protocol.AlikeKnown.{holds_right, longer_place}
 use Rattle.congee.proofs.lemmas.protocol.AlikeLater.{named_later}
@@ -61,12 +61,12 @@ module _ {C V : Type 0} (number : C → ℕ) (same : V → V → Bool) (always :
 
 -- a call that has not begun
 module _ {C V : Type 0} (number : C → ℕ) where
-  new_scan : (order : List ℕ) (h : ℕ → Node V) (root : C) (n start last size : ℕ) → PhaseAlike order number h (Sweep (new_sweep root start last size)) (Sweep (new_sweep n start last size))
-  new_scan order h root n start last size = (new_sweep n start last size, refl, record { start = refl; last = refl; size = refl; count = refl; len = refl; way = λ i l. absurd (omega (arith, l)); stage = refl })
+  new_scan_alike : (order : List ℕ) (h : ℕ → Node V) (root : C) (n start last size : ℕ) → PhaseAlike order number h (Scan (new_scan root start last size)) (Scan (new_scan n start last size))
+  new_scan_alike order h root n start last size = (new_scan n start last size, refl, record { start = refl; last = refl; size = refl; count = refl; len = refl; way = λ i l. absurd (omega (arith, l)); stage = refl })
 
   new_call : (order : List ℕ) (h : ℕ → Node V) (root : C) (n : ℕ) (o : Op V) → Named order number root n → PhaseAlike order number h (first_phase root o) (first_phase n o)
-  new_call order h root n (op.Range start end size) e = new_scan order h root n start (end - 1) (cond (ltb start end) size 0)
-  new_call order h root n (op.RangeInclusive start last size) e = new_scan order h root n start last (cond (leb start last) size 0)
+  new_call order h root n (op.Range start end size) e = new_scan_alike order h root n start (end - 1) (cond (ltb start end) size 0)
+  new_call order h root n (op.RangeInclusive start last size) e = new_scan_alike order h root n start last (cond (leb start last) size 0)
   new_call order h root n _ e = refl
 
   -- a call that has not begun is the same by numbers

@@ -9,10 +9,10 @@ use Rattle.congee.specs.declared.protocol.phase.Kind.{Kind}
 use Rattle.congee.specs.declared.protocol.phase.Double.{Double}
 use Rattle.congee.specs.declared.protocol.phase.Double.TheVariants.{Grow, GrowLink, Shrink, ShrinkAbove}
 use Rattle.congee.specs.declared.protocol.phase.Phase.{Phase}
-use Rattle.congee.specs.declared.protocol.phase.Phase.TheVariants.{Check, ChangeTwo, Sweep}
-use Rattle.congee.specs.declared.protocol.sweep.Stage.{Stage}
-use Rattle.congee.specs.declared.protocol.sweep.Stage.TheVariants as stage
-use Rattle.congee.specs.declared.protocol.sweep.Sweep.{Sweep as Scan}
+use Rattle.congee.specs.declared.protocol.phase.Phase.TheVariants.{Check, ChangeTwo, Scan}
+use Rattle.congee.specs.declared.protocol.scan.Stage.{Stage}
+use Rattle.congee.specs.declared.protocol.scan.Stage.TheVariants as stage
+use Rattle.congee.specs.declared.protocol.scan.ScanState.{ScanState as ScanState}
 use Rattle.congee.specs.declared.protocol.machine.Machine.{Machine}
 use Rattle.congee.specs.Heap.{Node, Stands, is_taken}
 use Rattle.congee.specs.Keys.{key_bytes}
@@ -23,7 +23,7 @@ use Rattle.congee.specs.protocol.Events.{HoldsValues, HoldsNodes}
 use Rattle.congee.specs.protocol.Names.{names, names_site}
 use Rattle.congee.specs.protocol.Protocol.{Known, PlacedTwo, TwoLocked, Rely, Effect}
 use Rattle.congee.specs.protocol.Stamps.{Stamped}
-use Rattle.congee.specs.protocol.SweepKnown.{SweepKnownAt, names_sweep_at}
+use Rattle.congee.specs.protocol.ScanKnown.{ScanKnownAt, names_scan_at}
 use Rattle.congee.proofs.lemmas.protocol.AlikeChanges.{HoldsFor, HoldsRight}
 use Rattle.congee.proofs.lemmas.protocol.AlikeHeaps.{later_place}
 use Rattle.congee.proofs.lemmas.protocol.AlikeLater.{Still, StillAt, StillTaken, call_later}
@@ -61,27 +61,27 @@ module _ {C V : Type 0} (order order' : List ℕ) (number : C → ℕ) (f : (n c
       let e : h' (number s.node) ≡ h (number s.node) = r.word (number s.node) s.version tt x.published x.up t in
       ap (λ z. is_taken z s.version) (sym e) ∙ t
 
-  still_stage : (j : ℕ) (a a' : ℕ → Note) (always : Bool) → Rely (λ _. Unit {0}) j a h a' h' → (s : Scan C V) (x : Stage C V) → SweepKnownAt number always a h s x → StillAt order order' number f h h' x
+  still_stage : (j : ℕ) (a a' : ℕ → Note) (always : Bool) → Rely (λ _. Unit {0}) j a h a' h' → (s : ScanState C V) (x : Stage C V) → ScanKnownAt number always a h s x → StillAt order order' number f h h' x
   still_stage j a a' always r s (stage.Check u w) x = still_stamped j a a' r u.at x.1.stamped
   still_stage j a a' always r s _ x = tt
 
   still_known : (same : V → V → Bool) (always : Bool) (j : ℕ) (a a' : ℕ → Note) (k : ℕ) (key : List ℕ) (kind : Kind V) (given : Option V) → Rely (λ _. Unit {0}) j a h a' h' → (p : Phase C V) → Known number same always j a h k key kind given p
       → StillTaken order order' number f h h' p
   still_known same always j a a' k key kind given r (Check s c) x = still_stamped j a a' r s.at x.1.fresh.stamped
-  still_known same always j a a' k key kind given r (Sweep s) x = still_stage j a a' always r s s.stage x
+  still_known same always j a a' k key kind given r (Scan s) x = still_stage j a a' always r s s.stage x
   still_known same always j a a' k key kind given r _ x = tt
 
   -- a node that is as it was
   still_same : (s : Stamp C) → h' (number s.node) ≡ h (number s.node) → Still order order' number f h h' s
   still_same s e t = ap (λ z. is_taken z s.version) (sym e) ∙ t
 
-  spared_stage : (s : Scan C V) (x : Stage C V) → All (λ n. h' n ≡ h n) (names_sweep_at number s x) → StillAt order order' number f h h' x
-  spared_stage s (stage.Check r w) x = still_same r.at (All-contains (λ n. h' n ≡ h n) (names_sweep_at number s (stage.Check r w)) (number r.at.node) x (0, omega arith, refl))
+  spared_stage : (s : ScanState C V) (x : Stage C V) → All (λ n. h' n ≡ h n) (names_scan_at number s x) → StillAt order order' number f h h' x
+  spared_stage s (stage.Check r w) x = still_same r.at (All-contains (λ n. h' n ≡ h n) (names_scan_at number s (stage.Check r w)) (number r.at.node) x (0, omega arith, refl))
   spared_stage s _ x = tt
 
   spared_phase : (p : Phase C V) → All (λ n. h' n ≡ h n) (names number p) → StillTaken order order' number f h h' p
   spared_phase (Check s c) x = still_same s.at (All-contains (λ n. h' n ≡ h n) (names_site number s) (number s.at.node) x (0, omega arith, refl))
-  spared_phase (Sweep s) x = spared_stage s s.stage x
+  spared_phase (Scan s) x = spared_stage s s.stage x
   spared_phase _ x = tt
 
 -- a node keeps its number where some more are made

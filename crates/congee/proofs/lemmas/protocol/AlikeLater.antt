@@ -18,14 +18,14 @@ use Rattle.congee.specs.declared.protocol.phase.Two.{Two}
 use Rattle.congee.specs.declared.protocol.phase.Plan.{Plan}
 use Rattle.congee.specs.declared.protocol.phase.Plan.TheVariants.{Here, Above}
 use Rattle.congee.specs.declared.protocol.phase.Phase.{Phase}
-use Rattle.congee.specs.declared.protocol.phase.Phase.TheVariants.{New, Version, Read, Check, CheckUncopied, CheckMiss, CheckDown, CheckOld, MakeLeaf, MakeGreater, MakeTop, MakeBeside, MakeLesser, AskOld, AskNew, Confirm, CheckAbove, UpgradeOne, ChangeOne, UpgradeTop, UpgradeAbove, UpgradeBelow, ChangeTwo, Obsolete, Retire, UnlockBelow, Unlock, Unwind, Sweep, Ended}
-use Rattle.congee.specs.declared.protocol.sweep.Rung.{Rung}
-use Rattle.congee.specs.declared.protocol.sweep.Stage.{Stage}
-use Rattle.congee.specs.declared.protocol.sweep.Stage.TheVariants as stage
-use Rattle.congee.specs.declared.protocol.sweep.Sweep.{Sweep as Scan}
+use Rattle.congee.specs.declared.protocol.phase.Phase.TheVariants.{New, Version, Read, Check, CheckUncopied, CheckMiss, CheckDown, CheckOld, MakeLeaf, MakeGreater, MakeTop, MakeBeside, MakeLesser, AskOld, AskNew, Confirm, CheckAbove, UpgradeOne, ChangeOne, UpgradeTop, UpgradeAbove, UpgradeBelow, ChangeTwo, Obsolete, Retire, UnlockBelow, Unlock, Unwind, Scan, Ended}
+use Rattle.congee.specs.declared.protocol.scan.Rung.{Rung}
+use Rattle.congee.specs.declared.protocol.scan.Stage.{Stage}
+use Rattle.congee.specs.declared.protocol.scan.Stage.TheVariants as stage
+use Rattle.congee.specs.declared.protocol.scan.ScanState.{ScanState as ScanState}
 use Rattle.congee.specs.declared.protocol.machine.Machine.{Machine}
 use Rattle.congee.specs.Heap.{Node}
-use Rattle.congee.specs.protocol.SweepSteps.{slots}
+use Rattle.congee.specs.protocol.ScanSteps.{slots}
 use Rattle.congee.specs.protocol.Alike.{Named, StampAlike, ParentAlike, TopAlike, OverAlike, AboveAlike, StampedAlike, MadeAlike, SiteAlike, ReadAlike, SingleAlike, OneAlike, DoubleAlike, TwoAlike, PlanAlike, ChildAlike, SeesAlike, RungAlike, PlaceAlike, LeastAlike, IsTaken, StageAlike, ScanAlike, PhaseAlike, CallAlike}
 
 module _ {C : Type 0} (order order' : List ℕ) (number : C → ℕ) (f : (n c : ℕ) → slice_get order n ≡ Some c → slice_get order' n ≡ Some c) where
@@ -127,7 +127,7 @@ module _ {C : Type 0} (order order' : List ℕ) (number : C → ℕ) (f : (n c :
       -- the same of the node that the call, or its scan, is about to check
       abbrev pub StillTaken : Phase C V → Type 0
       StillTaken (Check s c) = Still s.at
-      StillTaken (Sweep s) = StillAt s.stage
+      StillTaken (Scan s) = StillAt s.stage
       StillTaken _ = Unit {0}
 
       stage_later : (x : Stage C V) (y : Stage ℕ V) → StillAt x → StageAlike order number h x y → StageAlike order' number h' x y
@@ -136,8 +136,8 @@ module _ {C : Type 0} (order order' : List ℕ) (number : C → ℕ) (f : (n c :
       stage_later (stage.Check r x) y s e = (e.0, e.1, e.2, rung_later r e.0 e.3, λ t. least_later x e.1 (e.4 (s t)))
       stage_later _ y s e = e
 
-      scan_later : (s : Scan C V) (t : Scan ℕ V) → StillAt s.stage → ScanAlike order number h s t → ScanAlike order' number h' s t
-      scan_later s t k x = record {
+      scan_alike_later : (s : ScanState C V) (t : ScanState ℕ V) → StillAt s.stage → ScanAlike order number h s t → ScanAlike order' number h' s t
+      scan_alike_later s t k x = record {
         start = x.start;
         last = x.last;
         size = x.size;
@@ -176,7 +176,7 @@ module _ {C : Type 0} (order order' : List ℕ) (number : C → ℕ) (f : (n c :
       phase_later (UnlockBelow c p r) q k x = (x.0, x.1, x.2, named_later c x.0 x.3, named_later p x.1 x.4)
       phase_later (Unlock c r) q k x = (x.0, x.1, named_later c x.0 x.2)
       phase_later (Unwind c next e) q k x = (x.0, x.1, x.2, named_later c x.0 x.3, made_later next x.1 x.4)
-      phase_later (Sweep s) q k x = (x.0, x.1, scan_later s x.0 k x.2)
+      phase_later (Scan s) q k x = (x.0, x.1, scan_alike_later s x.0 k x.2)
       phase_later Ended q k x = x
 
       -- a call stays the same by numbers in the longer order, where a word that now is the one taken was so before

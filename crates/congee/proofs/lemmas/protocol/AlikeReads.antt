@@ -22,7 +22,7 @@ use Rattle.congee.specs.protocol.Events.{hung, places, Parts, SeenTruly, ReadGiv
 use Rattle.congee.specs.protocol.PlainSteps.{Mark, form_of, common, child_of, looks, told_of, reading, least_or, least_from, least_told, least_of, front, region_of}
 use Rattle.congee.specs.protocol.Regions.{span, IsRegion}
 use Rattle.congee.specs.protocol.Steps.{quiet, again, after_read}
-use Rattle.congee.specs.protocol.SweepEvents.{LeastTruly, LeastGives}
+use Rattle.congee.specs.protocol.ScanEvents.{LeastTruly, LeastGives}
 use Rattle.congee.proofs.lemmas.Fits.{fits_byte, same_test, other_test}
 use Rattle.congee.proofs.lemmas.Orders.{top, top_step}
 use Rattle.congee.proofs.lemmas.Tree.{same_or_not}

@@ -21,19 +21,19 @@ use Rattle.congee.specs.declared.protocol.phase.Double.TheVariants.{Unlink, Spli
 use Rattle.congee.specs.declared.protocol.phase.Two.{Two}
 use Rattle.congee.specs.declared.protocol.phase.Plan.TheVariants.{Above}
 use Rattle.congee.specs.declared.protocol.phase.Phase.{Phase}
-use Rattle.congee.specs.declared.protocol.phase.Phase.TheVariants.{New, Version, Read, Check, CheckUncopied, CheckMiss, CheckDown, CheckOld, MakeLeaf, MakeGreater, MakeTop, MakeBeside, MakeLesser, AskOld, AskNew, Confirm, CheckAbove, UpgradeOne, ChangeOne, UpgradeTop, UpgradeAbove, UpgradeBelow, ChangeTwo, Obsolete, Retire, UnlockBelow, Unlock, Unwind, Sweep, Ended}
+use Rattle.congee.specs.declared.protocol.phase.Phase.TheVariants.{New, Version, Read, Check, CheckUncopied, CheckMiss, CheckDown, CheckOld, MakeLeaf, MakeGreater, MakeTop, MakeBeside, MakeLesser, AskOld, AskNew, Confirm, CheckAbove, UpgradeOne, ChangeOne, UpgradeTop, UpgradeAbove, UpgradeBelow, ChangeTwo, Obsolete, Retire, UnlockBelow, Unlock, Unwind, Scan, Ended}
 use Rattle.congee.specs.declared.protocol.turn.NextPhase.{NextPhase}
 use Rattle.congee.specs.Heap.{Node, Stands, is_taken, version_of}
 use Rattle.congee.specs.protocol.Alike.{Ordered, NodeAlike, HeapAlike, Named, StampAlike, ParentAlike, TopAlike, MadeAlike, ReadAlike, OneAlike, TwoAlike, PhaseAlike, TurnAlike, IsUnrefused, WentAlike}
 use Rattle.congee.specs.protocol.Events.{upgrade_gives, NewNode}
-use Rattle.congee.specs.protocol.PlainSteps.{Mark, made_lesser, upgraded_top, put, lock, new_node, reading, swung, checked, at_old, given_old, given_new, back_one, back_two, Went, went, passes, making, upgraded_one, upgraded_above, upgraded_below, passed_above, phase_step}
-use Rattle.congee.specs.protocol.Steps.{quiet, skipping, set_at, both, form_below, node_of, given_up, again, answered, refused, form_above, after_version, after_read, after_miss, ready, unless_full, IsIf, IsChecked, IsAtOld, MadeLeaf, greater, MadeGreater, MadeTop, MadeBeside, MadeLesser, IsCheckedAbove, UpgradedOne, UpgradedTop, UpgradedAbove, UpgradedBelow, outcome_of, swept, PhaseStepped, MayBackOne, MayBackTwo, MayStep}
+use Rattle.congee.specs.protocol.PlainSteps.{Mark, made_lesser, upgraded_top, put, lock, new_node, reading, next_scan, checked, at_old, given_old, given_new, back_one, back_two, Went, went, passes, making, upgraded_one, upgraded_above, upgraded_below, passed_above, phase_step}
+use Rattle.congee.specs.protocol.Steps.{quiet, skipping, set_at, both, form_below, node_of, given_up, again, answered, refused, form_above, after_version, after_read, after_miss, ready, unless_full, IsIf, IsChecked, IsAtOld, MadeLeaf, greater, MadeGreater, MadeTop, MadeBeside, MadeLesser, IsCheckedAbove, UpgradedOne, UpgradedTop, UpgradedAbove, UpgradedBelow, outcome_of, after_scan, PhaseStepped, MayBackOne, MayBackTwo, MayStep}
 use Rattle.congee.specs.declared.forms.prefix.TheConstants.{MAX_PREFIX_LEN}
 use Rattle.congee.proofs.lemmas.protocol.AlikeChanges.{HoldsRight, back_one_pair, back_two_pair, change_one_pair, change_two_pair}
 use Rattle.congee.proofs.lemmas.protocol.AlikeHeaps.{Pair, pair_same, ordered_still, pair_locked, pair_freed, pair_marked, pair_handed, later_place, new_place, new_ordered, new_alike}
 use Rattle.congee.proofs.lemmas.protocol.AlikeLater.{named_later, stamp_later, parent_later, made_later, read_later}
 use Rattle.congee.proofs.lemmas.protocol.AlikeReads.{taken_alike, version_same, read_alike}
-use Rattle.congee.proofs.lemmas.protocol.AlikeScans.{SwungAlike, swung_alike}
+use Rattle.congee.proofs.lemmas.protocol.AlikeScans.{NextScanAlike, next_scan_alike}
 use Rattle.congee.proofs.lemmas.protocol.AlikeTurns.{quiet_alike, answered_alike, refused_alike, finished_alike, decided_alike, alike_at, alike_to, again_alike, version_alike, checked_alike, miss_alike, old_alike, full_alike, greater_alike, ready_alike, GivenAlike, given_alike, change_alike, node_alike, retired_alike, left_alike, given_up_alike}
 use Rattle.congee.proofs.lemmas.protocol.AlikeTurns.{new_alike as answer_alike}
 
@@ -391,14 +391,14 @@ module _ {C V : Type 0} (number : C → ℕ) (same : V → V → Bool) (always :
   phase_alike (Unwind c next z) q h' new' t e may holds un sk i =
       let P : Phase ℕ V → Type 0 = λ z. Goal new' t h' (steps z) in
       subst P (sym e.2) (paired h' _ new' new t _ (pair_freed order h g o x (number c) e.0 h' e.3 may.0 i.1) i.0 (alike_at order number h' t _ _ i.2 (left_alike order number h' root m next e.1 z r e.4)))
-  phase_alike (Sweep s) q h' new' t e may holds un sk i =
+  phase_alike (Scan s) q h' new' t e may holds un sk i =
       let P : Phase ℕ V → Type 0 = λ z. Goal new' t h' (steps z) in
-      let Q : (ℕ → Node V) → Type 0 = λ z. TurnAlike order number z t (swept (swung m seen g e.0 e.0.stage).0 (swung m seen g e.0 e.0.stage).1) in
+      let Q : (ℕ → Node V) → Type 0 = λ z. TurnAlike order number z t (after_scan (next_scan m seen g e.0 e.0.stage).0 (next_scan m seen g e.0 e.0.stage).1) in
       let R : NextPhase C V → Type 0 = λ z. IsUnrefused z.report.outcome in
-      let a : SwungAlike order number h (i.2.0, i.2.1) (swung m seen g e.0 e.0.stage) = swung_alike order number h g x always root m r seen s e.0 (i.2.0, i.2.1) e.2 may (subst R i.2.3 un) i.2.2 in
+      let a : NextScanAlike order number h (i.2.0, i.2.1) (next_scan m seen g e.0 e.0.stage) = next_scan_alike order number h g x always root m r seen s e.0 (i.2.0, i.2.1) e.2 may (subst R i.2.3 un) i.2.2 in
       subst P (sym e.1) (still h' new' new t _ i.0 i.1 (subst Q (sym i.0) (alike_at order number h t _ _ i.2.3 (record {
         report = ap (λ y. record { decided = false; skipped = false; outcome = outcome_of y }) a.told;
-        phase = ((swung m seen g e.0 e.0.stage).0, refl, a.scan);
+        phase = ((next_scan m seen g e.0 e.0.stage).0, refl, a.scan);
       }))))
   phase_alike Ended q h' new' t e may holds un sk i =
       let P : Phase ℕ V → Type 0 = λ z. Goal new' t h' (steps z) in

@@ -15,15 +15,15 @@ use Rattle.congee.specs.Keys.{key_bytes, IsMapOf}
 use Rattle.congee.specs.Notes.{Note, Linked, BeginsKey, Tree, LockWords}
 use Rattle.congee.specs.protocol.Alone.{sum_from, pairs_at, pairs_under, tree_pairs}
 use Rattle.congee.specs.protocol.Regions.{span, IsRegion, start_at}
-use Rattle.congee.specs.protocol.Sweeps.{Lacked}
-use Rattle.congee.specs.protocol.SweepKnown.{end_of}
+use Rattle.congee.specs.protocol.Scans.{Lacked}
+use Rattle.congee.specs.protocol.ScanKnown.{end_of}
 use Rattle.congee.proofs.lemmas.Fits.{fits_byte}
 use Rattle.congee.proofs.lemmas.Orders.{top, same_bytes, byte_small}
 use Rattle.congee.proofs.lemmas.forms.Prefixes.{fits_every}
-use Rattle.congee.proofs.lemmas.protocol.AloneSweeps.{term_past}
+use Rattle.congee.proofs.lemmas.protocol.AloneScans.{term_past}
 use Rattle.congee.proofs.lemmas.protocol.Regions.{span_pos, multiple_bounds, whole, start_mono}
-use Rattle.congee.proofs.lemmas.protocol.SweepBytes.{low_yes, low_no, region_top}
-use Rattle.congee.proofs.lemmas.protocol.SweepKept.{child_after, child_before, lacks_bytes, lacks_beside, has_value}
+use Rattle.congee.proofs.lemmas.protocol.ScanBytes.{low_yes, low_no, region_top}
+use Rattle.congee.proofs.lemmas.protocol.ScanKept.{child_after, child_before, lacks_bytes, lacks_beside, has_value}
 use Rattle.congee.proofs.lemmas.forms.BetweenLemmas.{true_of_T, less_of_cmp}
 
 -- 1 where the number is at least `lo` and below `hi`

@@ -28,9 +28,9 @@ use Rattle.congee.specs.declared.protocol.phase.Two.{Two}
 use Rattle.congee.specs.declared.protocol.phase.Plan.{Plan}
 use Rattle.congee.specs.declared.protocol.phase.Plan.TheVariants.{Here, Above}
 use Rattle.congee.specs.declared.protocol.phase.Phase.{Phase}
-use Rattle.congee.specs.declared.protocol.phase.Phase.TheVariants.{New, Version, Read, Check, CheckUncopied, CheckMiss, CheckDown, CheckOld, MakeLeaf, MakeGreater, MakeTop, MakeBeside, MakeLesser, AskOld, AskNew, Confirm, CheckAbove, UpgradeOne, ChangeOne, UpgradeTop, UpgradeAbove, UpgradeBelow, ChangeTwo, Obsolete, Retire, UnlockBelow, Unlock, Unwind, Sweep, Ended}
+use Rattle.congee.specs.declared.protocol.phase.Phase.TheVariants.{New, Version, Read, Check, CheckUncopied, CheckMiss, CheckDown, CheckOld, MakeLeaf, MakeGreater, MakeTop, MakeBeside, MakeLesser, AskOld, AskNew, Confirm, CheckAbove, UpgradeOne, ChangeOne, UpgradeTop, UpgradeAbove, UpgradeBelow, ChangeTwo, Obsolete, Retire, UnlockBelow, Unlock, Unwind, Scan, Ended}
 use Rattle.congee.specs.declared.protocol.machine.Outcome.{Outcome}
-use Rattle.congee.specs.declared.protocol.sweep.Stage.TheVariants as stage
+use Rattle.congee.specs.declared.protocol.scan.Stage.TheVariants as stage
 use Rattle.congee.specs.declared.protocol.turn.NextPhase.{NextPhase}
 use Rattle.congee.specs.Heap.{Node, Nothing, is_free, is_taken, version_of}
 use Rattle.congee.specs.Keys.{key_bytes}
@@ -44,7 +44,7 @@ use Rattle.congee.specs.protocol.Trace.{goes_on, is_asked}
 use Rattle.congee.proofs.lemmas.Fits.{and_true, same_test}
 use Rattle.congee.proofs.lemmas.Graft.{on_test}
 use Rattle.congee.proofs.lemmas.protocol.Touch.{by_test, taken_linked}
-use Rattle.congee.proofs.lemmas.protocol.SweepWays.{pick_true}
+use Rattle.congee.proofs.lemmas.protocol.ScanWays.{pick_true}
 
 -- a version that is taken of a free node is the one that stands
 pub version_free : {V : Type 0} (n : Node V) → is_free n ≡ true → version_of n ≡ Some n.version
@@ -69,7 +69,7 @@ gives most n v taken e = by_limit (v == most) (by_word (is_taken n v) taken) e w
 abbrev pub Tells : {C V : Type 0} → Phase C V → Outcome V → Type 0
 Tells (AskOld s v) o = is_asked o ≡ true
 Tells (AskNew plan) o = is_asked o ≡ true
-Tells (Sweep s) o = s.stage ≡ stage.Over → goes_on o ≡ false
+Tells (Scan s) o = s.stage ≡ stage.Over → goes_on o ≡ false
 Tells Ended o = goes_on o ≡ false
 Tells _ o = Unit {0}
 
@@ -392,5 +392,5 @@ module _ {C V : Type 0} (number : C → ℕ) (same : V → V → Bool) (always :
   points_on new (Unwind n next None) answer new' t x u free ask p g = absurd u.1
   points_on new (Unwind n None (Some e)) answer new' t x u free ask p g = near_to number h' 1 _ t g.2 (stops number h' 1 (omega arith) e)
   points_on new (Unwind n (Some c) (Some e)) answer new' t x u free ask p g = near_to number h' 2 _ t g.2 ((tt, tt), omega arith, tt)
-  points_on new (Sweep s) answer new' t x u free ask p g = absurd p
+  points_on new (Scan s) answer new' t x u free ask p g = absurd p
   points_on new Ended answer new' t x u free ask p g = absurd p

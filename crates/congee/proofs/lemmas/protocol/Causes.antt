@@ -32,7 +32,7 @@ use Rattle.congee.specs.declared.protocol.phase.Two.{Two}
 use Rattle.congee.specs.declared.protocol.phase.Plan.{Plan}
 use Rattle.congee.specs.declared.protocol.phase.Plan.TheVariants.{Here, Above}
 use Rattle.congee.specs.declared.protocol.phase.Phase.{Phase}
-use Rattle.congee.specs.declared.protocol.phase.Phase.TheVariants.{New, Version, Read, Check, CheckUncopied, CheckMiss, CheckDown, CheckOld, MakeLeaf, MakeGreater, MakeTop, MakeBeside, MakeLesser, AskOld, AskNew, Confirm, CheckAbove, UpgradeOne, UpgradeTop, UpgradeAbove, UpgradeBelow, ChangeTwo, Retire, Unlock, Unwind, Sweep}
+use Rattle.congee.specs.declared.protocol.phase.Phase.TheVariants.{New, Version, Read, Check, CheckUncopied, CheckMiss, CheckDown, CheckOld, MakeLeaf, MakeGreater, MakeTop, MakeBeside, MakeLesser, AskOld, AskNew, Confirm, CheckAbove, UpgradeOne, UpgradeTop, UpgradeAbove, UpgradeBelow, ChangeTwo, Retire, Unlock, Unwind, Scan}
 use Rattle.congee.specs.declared.protocol.machine.Outcome.{Outcome}
 use Rattle.congee.specs.declared.protocol.machine.Outcome.TheVariants.{Running, Asks, Found, Done, Scanned, Refused}
 use Rattle.congee.specs.declared.protocol.machine.Move.{Move}
@@ -41,20 +41,20 @@ use Rattle.congee.specs.declared.protocol.run.Step.{Step}
 use Rattle.congee.specs.declared.protocol.turn.NextPhase.{NextPhase}
 use Rattle.congee.specs.Keys.{key_bytes}
 use Rattle.congee.specs.protocol.Play.{NextAt}
-use Rattle.congee.specs.declared.protocol.sweep.Rung.{Rung}
-use Rattle.congee.specs.declared.protocol.sweep.Stage.{Stage}
-use Rattle.congee.specs.declared.protocol.sweep.Stage.TheVariants as stage
-use Rattle.congee.specs.declared.protocol.sweep.Sweep.{Sweep as Scan}
-use Rattle.congee.specs.declared.protocol.sweep.ScanReport.{ScanReport}
-use Rattle.congee.specs.declared.protocol.sweep.ScanReport.TheVariants as told
+use Rattle.congee.specs.declared.protocol.scan.Rung.{Rung}
+use Rattle.congee.specs.declared.protocol.scan.Stage.{Stage}
+use Rattle.congee.specs.declared.protocol.scan.Stage.TheVariants as stage
+use Rattle.congee.specs.declared.protocol.scan.ScanState.{ScanState as ScanState}
+use Rattle.congee.specs.declared.protocol.scan.ScanReport.{ScanReport}
+use Rattle.congee.specs.declared.protocol.scan.ScanReport.TheVariants as told
 use Rattle.congee.specs.Heap.{Node, is_taken}
 use Rattle.congee.specs.protocol.Events.{upgrade_gives}
 use Rattle.congee.specs.Notes.{Note}
 use Rattle.congee.specs.protocol.Causes.{NoneLeft, Uncounted, Causes, IsCause}
 use Rattle.congee.specs.protocol.Protocol.{IsFailure, Known}
-use Rattle.congee.specs.protocol.SweepEvents.{IsAny}
-use Rattle.congee.specs.protocol.SweepKnown.{SweepKnownAt}
-use Rattle.congee.specs.protocol.SweepSteps.{whole, is_outside, last_of, Swung, anew, left_to, entered, begins, IsFollowed, SweptAt}
+use Rattle.congee.specs.protocol.ScanEvents.{IsAny}
+use Rattle.congee.specs.protocol.ScanKnown.{ScanKnownAt}
+use Rattle.congee.specs.protocol.ScanSteps.{whole, is_outside, last_of, NextScan, anew, left_to, entered, begins, IsFollowed, ScanSteppedAt}
 use Rattle.congee.specs.protocol.Steps.{shrinks, lesser_form, both, last_out, after_top, after_retire, after_unwind, given_up, again, refused, asking, CopyFailed as Uncopied_turn, adds, asks_new, absent_reply, form_above, greater, after_version, after_read, down, started, ready, plan_here, unless_full, absent, IsAsked, replaced, taken_out, is_same, IsAtOld, IsAdded, IsExchanged, IsPresent, IsChecked, after_miss, IsGiven, IsGivenNew, MadeLeaf, MadeGreater, MadeTop, MadeBeside, MadeLesser, UpgradedOne, UpgradedTop, UpgradedAbove, UpgradedBelow, after_change, outcome_of, PhaseStepped}
 use Rattle.congee.proofs.lemmas.Fits.{equal}
 use Rattle.congee.proofs.lemmas.Graft.{on_test}
@@ -209,12 +209,12 @@ last_version most n v fail e = equal v most (by_limit (v == most) _ (λ b. by_wo
   by_limit false c f x = absurd (f c x)
 
 -- a scan is refused where a value could not be copied
-module _ {C V : Type 0} (number : C → ℕ) (always : Bool) (root : C) (s : Scan C V) where
-  abbrev Told_only : Swung C V → Type 0
+module _ {C V : Type 0} (number : C → ℕ) (always : Bool) (root : C) (s : ScanState C V) where
+  abbrev Told_only : NextScan C V → Type 0
   Told_only u = (e : Refusal) → u.1 ≡ told.Refused e → Uncounted always e
 
-  told_to : (x y : Swung C V) → y ≡ x → Told_only x → Told_only y
-  told_to x y p f = subst (λ (z : Swung C V). Told_only z) (sym p) f
+  told_to : (x y : NextScan C V) → y ≡ x → Told_only x → Told_only y
+  told_to x y p f = subst (λ (z : NextScan C V). Told_only z) (sym p) f
 
   told_runs : (e : Refusal) → ◌≡◌ {A = ScanReport V} told.Running (told.Refused e) → Uncounted always e
   told_runs e p = let z : ◌≡◌ {A = ScanReport V} told.Running (told.Refused e) = p in absurd cc
@@ -222,30 +222,30 @@ module _ {C V : Type 0} (number : C → ℕ) (always : Bool) (root : C) (s : Sca
   told_done : (n : ℕ) (e : Refusal) → ◌≡◌ {A = ScanReport V} (told.Done n) (told.Refused e) → Uncounted always e
   told_done n e p = let z : ◌≡◌ {A = ScanReport V} (told.Done n) (told.Refused e) = p in absurd cc
 
-  told_left : (y : Scan C V) (o : Option (Rung C)) → Told_only (left_to y o)
+  told_left : (y : ScanState C V) (o : Option (Rung C)) → Told_only (left_to y o)
   told_left y None = told_done _
   told_left y (Some r) = told_runs
 
-  told_entered : (y : Scan C V) (n : C) (x : Region) (o : Option ℕ) → Told_only (entered root y n x o)
+  told_entered : (y : ScanState C V) (n : C) (x : Region) (o : Option ℕ) → Told_only (entered root y n x o)
   told_entered y n x None = told_runs
-  told_entered y n x (Some v) = by_test (λ (z : Swung C V). Told_only z) (is_outside y.start y.last x) _ _ (λ _. told_left y (last_of y.above)) (λ _. told_runs)
+  told_entered y n x (Some v) = by_test (λ (z : NextScan C V). Told_only z) (is_outside y.start y.last x) _ _ (λ _. told_left y (last_of y.above)) (λ _. told_runs)
 
   told_begun : (o : Option ℕ) → Told_only (begins root s o)
-  told_begun o = by_test (λ (z : Swung C V). Told_only z) (s.size == 0) _ _ (λ _. told_done _) (λ _. told_entered (anew root s).0 root whole o)
+  told_begun o = by_test (λ (z : NextScan C V). Told_only z) (s.size == 0) _ _ (λ _. told_done _) (λ _. told_entered (anew root s).0 root whole o)
 
-  told_followed : (h : ℕ → Node V) (r : Rung C) (x : Least C V) (u : Swung C V) → IsAny always x → IsFollowed number h s r x u → Told_only u
+  told_followed : (h : ℕ → Node V) (r : Rung C) (x : Least C V) (u : NextScan C V) → IsAny always x → IsFollowed number h s r x u → Told_only u
   told_followed h r least.Nothing u a p = told_to _ u p (told_left s (last_of s.above))
   told_followed h r (least.Node byte c) u a p = told_to _ u p.2 told_runs
   told_followed h r (least.Value byte v) u a p = told_to _ u p (λ e q. let z : ◌≡◌ {A = ScanReport V} (told.Found s.count _ v) (told.Refused e) = q in absurd cc)
   told_followed h r least.Uncopied u a p = told_to _ u p (λ e q. let z : ◌≡◌ {A = ScanReport V} (told.Refused refusal.Count) (told.Refused e) = q in record { count = let y : refusal.Count ≡ e = cc in sym y; may_fail = a })
 
-  told_swept : (a : ℕ → Note) (h : ℕ → Node V) (x : Stage C V) (u : Swung C V) → SweepKnownAt number always a h s x → SweptAt number always root s x h u → Told_only u
-  told_swept a h stage.New u k p = told_to _ u p (told_begun _)
-  told_swept a h (stage.Enter n x) u k p = told_to _ u p (told_entered s n x _)
-  told_swept a h (stage.Look r) u k p = told_to _ u p.2 told_runs
-  told_swept a h (stage.Check r x) u k p = on_test (is_taken (h (number r.at.node)) r.at.version) (λ t. told_followed h r x u k.2 (p.goes_on t)) (λ t. told_to _ u (p.goes_back t) told_runs)
-  told_swept a h stage.Full u k p = told_to _ u p (told_done _)
-  told_swept a h stage.Over u k p = told_to _ u p told_runs
+  told_after_scan : (a : ℕ → Note) (h : ℕ → Node V) (x : Stage C V) (u : NextScan C V) → ScanKnownAt number always a h s x → ScanSteppedAt number always root s x h u → Told_only u
+  told_after_scan a h stage.New u k p = told_to _ u p (told_begun _)
+  told_after_scan a h (stage.Enter n x) u k p = told_to _ u p (told_entered s n x _)
+  told_after_scan a h (stage.Look r) u k p = told_to _ u p.2 told_runs
+  told_after_scan a h (stage.Check r x) u k p = on_test (is_taken (h (number r.at.node)) r.at.version) (λ t. told_followed h r x u k.2 (p.goes_on t)) (λ t. told_to _ u (p.goes_back t) told_runs)
+  told_after_scan a h stage.Full u k p = told_to _ u p (told_done _)
+  told_after_scan a h stage.Over u k p = told_to _ u p told_runs
 
   told_cause : (o : ScanReport V) → ((e : Refusal) → o ≡ told.Refused e → Uncounted always e) → (e : Refusal) → outcome_of o ≡ Refused e → Uncounted always e
   told_cause told.Running f e p = let z : ◌≡◌ {A = Outcome V} Running (Refused e) = p in absurd cc
@@ -347,7 +347,7 @@ module _ {C V : Type 0} (number : C → ℕ) (same : V → V → Bool) (always :
   only new (Retire n next p r) new' t x g = to C V _ _ t g.2 (hands_on C V _ next p r)
   only new (Unlock n r) new' t x g = to C V _ _ t g.2 (answers C V _ r)
   only new (Unwind n next e) new' t x g = unwinds next e t x.3 g.2
-  only new (Sweep s) new' t x g = λ e p. told_cause number always root s g.2.1 (told_swept number always root s a h s.stage (g.2.0, g.2.1) x g.2.2) e (sym (ap (λ (u : NextPhase C V). u.report.outcome) g.2.3) ∙ p)
+  only new (Scan s) new' t x g = λ e p. told_cause number always root s g.2.1 (told_after_scan number always root s a h s.stage (g.2.0, g.2.1) x g.2.2) e (sym (ap (λ (u : NextPhase C V). u.report.outcome) g.2.3) ∙ p)
   only new _ new' t x g = to C V _ _ t g.2 (runs C V _)
 
   by_outcome : (s : Phase C V) (o : Outcome V) → ((e : Refusal) → o ≡ Refused e → By s e) → IsCause why most always s o

@@ -6,7 +6,7 @@ use Rattle.congee.specs.declared.forms.base_node.NodeType.{NodeType}
 use Rattle.congee.specs.declared.protocol.store.Refusal.{Refusal}
 use Rattle.congee.specs.declared.protocol.phase.Kind.{Kind}
 use Rattle.congee.specs.declared.protocol.phase.Phase.{Phase}
-use Rattle.congee.specs.declared.protocol.phase.Phase.TheVariants.{New, Sweep}
+use Rattle.congee.specs.declared.protocol.phase.Phase.TheVariants.{New, Scan}
 use Rattle.congee.specs.declared.protocol.machine.Machine.{Machine}
 use Rattle.congee.specs.declared.protocol.machine.Move.{Move}
 use Rattle.congee.specs.Heap.{Node, Nothing, Below}
@@ -29,7 +29,7 @@ use Rattle.congee.proofs.lemmas.protocol.Destroys.{spared_named, spared_rely, sp
 
 begin_fills : {C V : Type 0} (number : C → ℕ) (h : ℕ → Node V) (kind : Kind V) (given : Option V) (s : Phase C V) → IsBegin kind given s → Fills number h given s
 begin_fills number h kind given New b = tt
-begin_fills number h kind given (Sweep s) b = tt
+begin_fills number h kind given (Scan s) b = tt
 begin_fills number h kind given _ b = absurd b
 
 -- a root alone leads to itself

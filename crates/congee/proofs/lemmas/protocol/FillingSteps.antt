@@ -29,7 +29,7 @@ use Rattle.congee.specs.declared.protocol.phase.Two.{Two}
 use Rattle.congee.specs.declared.protocol.phase.Plan.{Plan}
 use Rattle.congee.specs.declared.protocol.phase.Plan.TheVariants.{Here, Above}
 use Rattle.congee.specs.declared.protocol.phase.Phase.{Phase}
-use Rattle.congee.specs.declared.protocol.phase.Phase.TheVariants.{New, Version, Read, Check, CheckUncopied, CheckMiss, CheckDown, CheckOld, MakeLeaf, MakeGreater, MakeTop, MakeBeside, MakeLesser, AskOld, AskNew, Confirm, CheckAbove, UpgradeOne, UpgradeTop, UpgradeAbove, UpgradeBelow, ChangeTwo, Retire, Unwind, Sweep}
+use Rattle.congee.specs.declared.protocol.phase.Phase.TheVariants.{New, Version, Read, Check, CheckUncopied, CheckMiss, CheckDown, CheckOld, MakeLeaf, MakeGreater, MakeTop, MakeBeside, MakeLesser, AskOld, AskNew, Confirm, CheckAbove, UpgradeOne, UpgradeTop, UpgradeAbove, UpgradeBelow, ChangeTwo, Retire, Unwind, Scan}
 use Rattle.congee.specs.declared.protocol.turn.NextPhase.{NextPhase}
 use Rattle.congee.specs.Heap.{Node, Nothing, Below, Holds, child_for, is_taken, is_free, version_of}
 use Rattle.congee.specs.Notes.{Note, Linked, is_published, IsChild, Tree, LockWords}
@@ -526,5 +526,5 @@ module _ {C V : Type 0} (number : C → ℕ) (same : V → V → Bool) (always :
   step_next most why root fail answer (ChangeTwo two r) given' turn m x z g = turn_at number h' given' _ turn g.2 (change_next number h' given' two r two.change)
   step_next most why root fail answer (Retire n next p r) given' turn m x z g = turn_at number h' given' _ turn g.2 (retire_next number h' given' next p r)
   step_next most why root fail answer (Unwind n next e) given' turn m x z g = turn_at number h' given' _ turn g.2 (unwind_next number h' given' root next e)
-  step_next most why root fail answer (Sweep s) given' turn m x z g = turn_at number h' given' _ turn g.2.3 tt
+  step_next most why root fail answer (Scan s) given' turn m x z g = turn_at number h' given' _ turn g.2.3 tt
   step_next most why root fail answer _ given' turn m x z g = turn_at number h' given' _ turn g.2 tt

@@ -17,13 +17,13 @@ use Rattle.congee.specs.declared.protocol.phase.Two.{Two}
 use Rattle.congee.specs.declared.protocol.phase.Plan.{Plan}
 use Rattle.congee.specs.declared.protocol.phase.Plan.TheVariants.{Here, Above}
 use Rattle.congee.specs.declared.protocol.phase.Phase.{Phase}
-use Rattle.congee.specs.declared.protocol.phase.Phase.TheVariants.{New, Version, Read, Check, CheckUncopied, CheckMiss, CheckDown, CheckOld, MakeLeaf, MakeGreater, MakeTop, MakeBeside, MakeLesser, AskOld, AskNew, Confirm, CheckAbove, UpgradeOne, ChangeOne, UpgradeTop, UpgradeAbove, UpgradeBelow, ChangeTwo, Obsolete, Retire, UnlockBelow, Unlock, Unwind, Sweep, Ended}
-use Rattle.congee.specs.declared.protocol.sweep.Rung.{Rung}
-use Rattle.congee.specs.declared.protocol.sweep.Stage.{Stage}
-use Rattle.congee.specs.declared.protocol.sweep.Stage.TheVariants as stage
-use Rattle.congee.specs.declared.protocol.sweep.Sweep.{Sweep as Scan}
-use Rattle.congee.specs.protocol.SweepSteps.{rungs_of}
-use Rattle.congee.specs.protocol.SweepKnown.{RungsKnown, SweepKnownAt, names_rungs, names_sweep_at, names_sweep}
+use Rattle.congee.specs.declared.protocol.phase.Phase.TheVariants.{New, Version, Read, Check, CheckUncopied, CheckMiss, CheckDown, CheckOld, MakeLeaf, MakeGreater, MakeTop, MakeBeside, MakeLesser, AskOld, AskNew, Confirm, CheckAbove, UpgradeOne, ChangeOne, UpgradeTop, UpgradeAbove, UpgradeBelow, ChangeTwo, Obsolete, Retire, UnlockBelow, Unlock, Unwind, Scan, Ended}
+use Rattle.congee.specs.declared.protocol.scan.Rung.{Rung}
+use Rattle.congee.specs.declared.protocol.scan.Stage.{Stage}
+use Rattle.congee.specs.declared.protocol.scan.Stage.TheVariants as stage
+use Rattle.congee.specs.declared.protocol.scan.ScanState.{ScanState as ScanState}
+use Rattle.congee.specs.protocol.ScanSteps.{rungs_of}
+use Rattle.congee.specs.protocol.ScanKnown.{RungsKnown, ScanKnownAt, names_rungs, names_scan_at, names_scan}
 use Rattle.congee.specs.Heap.{Node, Hung, Below, child_for}
 use Rattle.congee.specs.Notes.{Note, Linked, is_published, Tree}
 use Rattle.congee.specs.protocol.Protocol.{Known, Knows, TopLocked, AlsoOut, AlsoHolding, IsFar, IsAbove, IsLesser, StampedIf, PlanKnown}
@@ -109,11 +109,11 @@ module _ {C V : Type 0} (number : C → ℕ) (same : V → V → Bool) (always :
   rungs_in end above [] x = tt
   rungs_in end above (r ∷ rs) x = (x.0.stamped.published, rungs_in end (suc above) rs x.1)
 
-  sweep_at : (s : Scan C V) (x : Stage C V) → SweepKnownAt number always a h s x → Each In (names_sweep_at number s x)
-  sweep_at s (stage.Enter n y) x = (x.1, rungs_in s.last 0 (rungs_of s.above) x.0.rungs)
-  sweep_at s (stage.Look r) x = (x.1.stamped.published, rungs_in s.last 0 (rungs_of s.above) x.0.rungs)
-  sweep_at s (stage.Check r y) x = (x.1.stamped.published, rungs_in s.last 0 (rungs_of s.above) x.0.rungs)
-  sweep_at s _ x = tt
+  scan_at : (s : ScanState C V) (x : Stage C V) → ScanKnownAt number always a h s x → Each In (names_scan_at number s x)
+  scan_at s (stage.Enter n y) x = (x.1, rungs_in s.last 0 (rungs_of s.above) x.0.rungs)
+  scan_at s (stage.Look r) x = (x.1.stamped.published, rungs_in s.last 0 (rungs_of s.above) x.0.rungs)
+  scan_at s (stage.Check r y) x = (x.1.stamped.published, rungs_in s.last 0 (rungs_of s.above) x.0.rungs)
+  scan_at s _ x = tt
 
   module _ (t : Tree a h) (k : ℕ) where
     below_in : (p n : ℕ) → (a p).status ≡ Linked → child_for (h p) key ≡ Below n → In n
@@ -148,7 +148,7 @@ module _ {C V : Type 0} (number : C → ℕ) (same : V → V → Bool) (always :
     names_known kind given (UnlockBelow n p r) x = (inl (tree_in _ x.0.linked), (inl (tree_in _ x.1.linked), tt))
     names_known kind given (Unlock n r) x = (inl (tree_in _ x.linked), tt)
     names_known kind given (Unwind n next e) x = (inl (tree_in _ x.1.linked), up _ (name_made number next) (holding_in next (number n) x.2))
-    names_known kind given (Sweep s) x = up _ (names_sweep number s) (sweep_at s s.stage x)
+    names_known kind given (Scan s) x = up _ (names_scan number s) (scan_at s s.stage x)
     names_known kind given Ended x = tt
 
     -- each node that a call names is or was in reach, or is one that it has made

@@ -31,12 +31,12 @@ use Rattle.congee.specs.declared.protocol.phase.Two.{Two}
 use Rattle.congee.specs.declared.protocol.phase.Plan.{Plan}
 use Rattle.congee.specs.declared.protocol.phase.Plan.TheVariants.{Here, Above}
 use Rattle.congee.specs.declared.protocol.phase.Phase.{Phase}
-use Rattle.congee.specs.declared.protocol.phase.Phase.TheVariants.{New, Version, Read, Check, CheckUncopied, CheckMiss, CheckDown, CheckOld, MakeLeaf, MakeGreater, MakeTop, MakeBeside, MakeLesser, AskOld, AskNew, Confirm, CheckAbove, UpgradeOne, ChangeOne, UpgradeTop, UpgradeAbove, UpgradeBelow, ChangeTwo, Obsolete, Retire, UnlockBelow, Unlock, Unwind, Sweep, Ended}
+use Rattle.congee.specs.declared.protocol.phase.Phase.TheVariants.{New, Version, Read, Check, CheckUncopied, CheckMiss, CheckDown, CheckOld, MakeLeaf, MakeGreater, MakeTop, MakeBeside, MakeLesser, AskOld, AskNew, Confirm, CheckAbove, UpgradeOne, ChangeOne, UpgradeTop, UpgradeAbove, UpgradeBelow, ChangeTwo, Obsolete, Retire, UnlockBelow, Unlock, Unwind, Scan, Ended}
 use Rattle.congee.specs.declared.protocol.turn.NextPhase.{NextPhase}
 use Rattle.congee.specs.declared.protocol.machine.Machine.{Machine}
 use Rattle.congee.specs.Heap.{Node, Below, is_taken}
 use Rattle.congee.specs.protocol.Events.{hung}
-use Rattle.congee.specs.protocol.Steps.{skipping, shrinks, set_at, both as both_of, last_out, near_of, node_of, given_up, after_top, after_retire, after_unwind, quiet, swept, again, answered, finished, refused, decided, CopyFailed, adds, asks_new, absent_reply, stamp_above, after_version, after_read, down, started, ready, plan_here, unless_full, absent, IsAsked, replaced, taken_out, emptied, is_same, IsAtOld, IsAdded, IsExchanged, IsPresent, IsChecked, after_miss, IsGiven, IsGivenNew, MadeLeaf, greater, MadeGreater, MadeTop, MadeBeside, MadeLesser, UpgradedOne, UpgradedTop, UpgradedAbove, UpgradedBelow, after_change, unwound, PhaseStepped}
+use Rattle.congee.specs.protocol.Steps.{skipping, shrinks, set_at, both as both_of, last_out, near_of, node_of, given_up, after_top, after_retire, after_unwind, quiet, after_scan, again, answered, finished, refused, decided, CopyFailed, adds, asks_new, absent_reply, stamp_above, after_version, after_read, down, started, ready, plan_here, unless_full, absent, IsAsked, replaced, taken_out, emptied, is_same, IsAtOld, IsAdded, IsExchanged, IsPresent, IsChecked, after_miss, IsGiven, IsGivenNew, MadeLeaf, greater, MadeGreater, MadeTop, MadeBeside, MadeLesser, UpgradedOne, UpgradedTop, UpgradedAbove, UpgradedBelow, after_change, unwound, PhaseStepped}
 use Rattle.congee.specs.Keys.{key_bytes}
 use Rattle.congee.specs.Notes.{Note, Linked, LockWords}
 use Rattle.congee.specs.protocol.Protocol.{Knows, Known}
@@ -44,7 +44,7 @@ use Rattle.congee.specs.protocol.Names.{name_above, names_over, name_stamped, na
 use Rattle.congee.proofs.lemmas.protocol.Each.{Each, each_append, left, right}
 use Rattle.congee.proofs.lemmas.Graft.{on_test}
 use Rattle.congee.proofs.lemmas.protocol.Touch.{by_test, taken_linked}
-use Rattle.congee.proofs.lemmas.protocol.SweepNames.{sweep_names}
+use Rattle.congee.proofs.lemmas.protocol.ScanNames.{scan_names}
 use Rattle.congee.proofs.lemmas.protocol.Unlinking.{linked_in}
 
 -- the names of a next phase all have what the names before it, the root's and the new ones have
@@ -310,7 +310,7 @@ module _ {C : Type 0} (V : Type 0) (number : C → ℕ) (K : ℕ → Type 0) whe
       step_names (UnlockBelow n p r) m g e = at_turn turn (quiet (Unlock p r)) g.2 (e.1.0, tt)
       step_names (Unlock n r) m g e = at_turn turn (finished r) g.2 tt
       step_names (Unwind n next r) m g e = at_turn turn _ g.2 (of_after_unwind root top next r e.1)
-      step_names (Sweep s) m g e = at_turn turn (swept g.2.0 g.2.1) g.2.3 (sweep_names number always a h K root top hangs w s (g.2.0, g.2.1) m g.2.2 e)
+      step_names (Scan s) m g e = at_turn turn (after_scan g.2.0 g.2.1) g.2.3 (scan_names number always a h K root top hangs w s (g.2.0, g.2.1) m g.2.2 e)
       step_names Ended m g e = at_turn turn (quiet Ended) g.2 tt
 
 -- a step by the table gives the call names of known origin

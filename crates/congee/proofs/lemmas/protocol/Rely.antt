@@ -14,7 +14,7 @@ use Rattle.congee.specs.declared.protocol.phase.Plan.{Plan}
 use Rattle.congee.specs.declared.protocol.phase.Plan.TheVariants.{Here, Above}
 use Rattle.congee.specs.declared.protocol.phase.Kind.{Kind}
 use Rattle.congee.specs.declared.protocol.phase.Phase.{Phase}
-use Rattle.congee.specs.declared.protocol.phase.Phase.TheVariants.{New, Version, Read, Check, CheckUncopied, CheckMiss, CheckDown, CheckOld, MakeLeaf, MakeGreater, MakeTop, MakeBeside, MakeLesser, AskOld, AskNew, Confirm, CheckAbove, UpgradeOne, ChangeOne, UpgradeTop, UpgradeAbove, UpgradeBelow, ChangeTwo, Obsolete, Retire, UnlockBelow, Unlock, Unwind, Sweep, Ended}
+use Rattle.congee.specs.declared.protocol.phase.Phase.TheVariants.{New, Version, Read, Check, CheckUncopied, CheckMiss, CheckDown, CheckOld, MakeLeaf, MakeGreater, MakeTop, MakeBeside, MakeLesser, AskOld, AskNew, Confirm, CheckAbove, UpgradeOne, ChangeOne, UpgradeTop, UpgradeAbove, UpgradeBelow, ChangeTwo, Obsolete, Retire, UnlockBelow, Unlock, Unwind, Scan, Ended}
 use Rattle.congee.specs.declared.protocol.store.Stamp.{Stamp}
 use Rattle.congee.specs.Heap.{Node, Hung}
 use Rattle.congee.specs.protocol.Events.{hung, Parts}
@@ -23,7 +23,7 @@ use Rattle.congee.specs.protocol.Protocol.{ChildOf, IsFar, IsAbove, TopLocked, A
 use Rattle.congee.specs.protocol.Names.{name_above, names_over, name_stamped, name_made, names_site, names_one, names_plan, names}
 use Rattle.congee.proofs.lemmas.protocol.Each.{Each, left, right}
 pub use Rattle.congee.proofs.lemmas.protocol.Stamps.{stamped_kept, fresh_kept, fits_kept, holding_kept, made_kept}
-use Rattle.congee.proofs.lemmas.protocol.SweepRely.{sweep_known_kept}
+use Rattle.congee.proofs.lemmas.protocol.ScanRely.{scan_known_kept}
 
 module _ {C V : Type 0} (number : C → ℕ) (key : List ℕ) (K : ℕ → Type 0) (i : ℕ) (a : ℕ → Note) (h : ℕ → Node V) (a' : ℕ → Note) (h' : ℕ → Node V) (r : Rely K i a h a' h') where
   -- that a node was read in the one above stays known over the steps of others
@@ -276,5 +276,5 @@ known_kept number same always K i a h a' h' r k key kind given (UnlockBelow c p 
 known_kept number same always K i a h a' h' r k key kind given (Unlock c reply) n m = holding_kept K i a h a' h' r (number c) m
 known_kept number same always K i a h a' h' r k key kind given (Unwind c next e) n m =
     (m.0, holding_kept K i a h a' h' r (number c) m.1, also_holding_kept number key K i a h a' h' r (number c) next m.2, m.3)
-known_kept number same always K i a h a' h' r k key kind given (Sweep s) n m = sweep_known_kept number always K i a h a' h' r s n m
+known_kept number same always K i a h a' h' r k key kind given (Scan s) n m = scan_known_kept number always K i a h a' h' r s n m
 known_kept number same always K i a h a' h' r k key kind given Ended n m = tt

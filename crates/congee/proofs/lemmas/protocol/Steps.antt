@@ -12,11 +12,11 @@ use Rattle.congee.specs.declared.protocol.phase.Parent.{Parent}
 use Rattle.congee.specs.declared.protocol.phase.One.{One}
 use Rattle.congee.specs.declared.protocol.phase.Two.{Two}
 use Rattle.congee.specs.declared.protocol.phase.Phase.{Phase}
-use Rattle.congee.specs.declared.protocol.phase.Phase.TheVariants.{New, Version, Read, Check, CheckUncopied, CheckMiss, CheckDown, CheckOld, MakeLeaf, MakeGreater, MakeTop, MakeBeside, MakeLesser, AskOld, AskNew, Confirm, CheckAbove, UpgradeOne, ChangeOne, UpgradeTop, UpgradeAbove, UpgradeBelow, ChangeTwo, Obsolete, Retire, UnlockBelow, Unlock, Unwind, Sweep, Ended}
+use Rattle.congee.specs.declared.protocol.phase.Phase.TheVariants.{New, Version, Read, Check, CheckUncopied, CheckMiss, CheckDown, CheckOld, MakeLeaf, MakeGreater, MakeTop, MakeBeside, MakeLesser, AskOld, AskNew, Confirm, CheckAbove, UpgradeOne, ChangeOne, UpgradeTop, UpgradeAbove, UpgradeBelow, ChangeTwo, Obsolete, Retire, UnlockBelow, Unlock, Unwind, Scan, Ended}
 use Rattle.congee.specs.declared.protocol.turn.NextPhase.{NextPhase}
 use Rattle.congee.specs.Heap.{Node, Nothing, Holds, child_for, is_taken, is_free}
 use Rattle.congee.specs.protocol.Events.{upgrade_gives}
-use Rattle.congee.specs.protocol.Steps.{quiet, swept, again, refused, node_of, given_up, adds, absent_reply, UpgradedOne, UpgradedTop, UpgradedAbove, UpgradedBelow, PhaseStepped, Stepped}
+use Rattle.congee.specs.protocol.Steps.{quiet, after_scan, again, refused, node_of, given_up, adds, absent_reply, UpgradedOne, UpgradedTop, UpgradedAbove, UpgradedBelow, PhaseStepped, Stepped}
 use Rattle.congee.specs.Keys.{key_bytes}
 use Rattle.congee.specs.Notes.{Note, is_published, Tree, LockWords}
 use Rattle.congee.specs.declared.protocol.machine.Machine.{Machine}
@@ -31,7 +31,7 @@ use Rattle.congee.proofs.lemmas.protocol.Values.{at_old_sound, checked_sound, gi
 use Rattle.congee.proofs.lemmas.protocol.Locks.{Kept, locked_taken, above_longer, lock_one, lock_top, lock_above, lock_both, marked, handed_over, unlocked_below, unlocked_last, unwinds}
 use Rattle.congee.proofs.lemmas.protocol.Makes.{Backed, back_one, back_two}
 use Rattle.congee.proofs.lemmas.protocol.Building.{kept_at, refused_back, leaf_made, greater_made, top_made, beside_made, lesser_made}
-use Rattle.congee.proofs.lemmas.protocol.SweepStays.{sweep_stays}
+use Rattle.congee.proofs.lemmas.protocol.ScanStays.{scan_stays}
 use Rattle.congee.proofs.lemmas.protocol.Settling.{changed_one, changed_two}
 use Rattle.congee.proofs.lemmas.Tree.{by_length}
 
@@ -202,8 +202,8 @@ step_kept number same always most why law i a h root z k kind fail answer given 
     (kept_at number same always i a h k kind given given _ turn h' g.2 (unlocked_last number same always i a h k kind given t w n r h' m g.1))
 step_kept number same always most why law i a h root z k kind fail answer given (Unwind n next e) given' turn h' t w m g = given_at number same always i a h k kind given t w given' turn h' g.0
     (kept_at number same always i a h k kind given given _ turn h' g.2 (unwinds number same always i a h k kind given t w root z n next e h' m g.1))
-step_kept number same always most why law i a h root z k kind fail answer given (Sweep s) given' turn h' t w m g = sound_kept number same always i a h k kind given t w given' turn h' g.0 g.1
-    (at_turn number same always i a h k kind given t w (swept g.2.0 g.2.1) turn g.2.3 (record { known = sweep_stays number always a h t w root z s (g.2.0, g.2.1) m g.2.2; answer = λ y _. refl }))
+step_kept number same always most why law i a h root z k kind fail answer given (Scan s) given' turn h' t w m g = sound_kept number same always i a h k kind given t w given' turn h' g.0 g.1
+    (at_turn number same always i a h k kind given t w (after_scan g.2.0 g.2.1) turn g.2.3 (record { known = scan_stays number always a h t w root z s (g.2.0, g.2.1) m g.2.2; answer = λ y _. refl }))
 step_kept number same always most why law i a h root z k kind fail answer given Ended given' turn h' t w m g = sound_kept number same always i a h k kind given t w given' turn h' g.0 g.1
     (at_turn number same always i a h k kind given t w (quiet Ended) turn g.2 (record { known = tt; answer = λ y _. refl }))
 

@@ -9,7 +9,7 @@ use Rattle.congee.specs.declared.protocol.op.Op.{Op}
 use Rattle.congee.specs.declared.protocol.op.Op.TheVariants as op
 use Rattle.congee.specs.declared.protocol.phase.Kind.{Kind}
 use Rattle.congee.specs.declared.protocol.phase.Phase.{Phase}
-use Rattle.congee.specs.declared.protocol.phase.Phase.TheVariants.{AskOld, AskNew, Sweep, Ended}
+use Rattle.congee.specs.declared.protocol.phase.Phase.TheVariants.{AskOld, AskNew, Scan, Ended}
 use Rattle.congee.specs.declared.protocol.machine.Outcome.{Outcome}
 use Rattle.congee.specs.declared.protocol.machine.Machine.{Machine}
 use Rattle.congee.specs.declared.protocol.machine.Move.{Move}
@@ -45,7 +45,7 @@ module _ {C V : Type 0} where
 
   -- one that goes on has not ended
   not_past : (x : Phase C V) (o : Outcome V) → Tells x o → goes_on o ≡ true → IsPast x → ⊥
-  not_past (Sweep s) o t g p = false≢true (sym (t p) ∙ g)
+  not_past (Scan s) o t g p = false≢true (sym (t p) ∙ g)
   not_past Ended o t g p = false≢true (sym t ∙ g)
   not_past _ o t g p = p
 

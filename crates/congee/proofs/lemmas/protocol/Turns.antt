@@ -20,11 +20,11 @@ use Rattle.congee.specs.Heap.{Node}
 use Rattle.congee.specs.Keys.{key_bytes, IsMapOf}
 use Rattle.congee.specs.Notes.{Note, Held, Tree, LockWords}
 use Rattle.congee.specs.protocol.Protocol.{Rely, Fares, Known}
-use Rattle.congee.specs.protocol.Steps.{swept, PhaseStepped, MayStep, Stepped}
-use Rattle.congee.specs.protocol.SweepKnown.{SweepKnownAt}
-use Rattle.congee.specs.declared.protocol.sweep.Sweep.{Sweep as Scan}
-use Rattle.congee.specs.declared.protocol.sweep.Stage.{Stage}
-use Rattle.congee.specs.declared.protocol.phase.Phase.TheVariants.{New, Sweep}
+use Rattle.congee.specs.protocol.Steps.{after_scan, PhaseStepped, MayStep, Stepped}
+use Rattle.congee.specs.protocol.ScanKnown.{ScanKnownAt}
+use Rattle.congee.specs.declared.protocol.scan.ScanState.{ScanState as ScanState}
+use Rattle.congee.specs.declared.protocol.scan.Stage.{Stage}
+use Rattle.congee.specs.declared.protocol.phase.Phase.TheVariants.{New, Scan}
 use Rattle.congee.specs.protocol.Answers.{StepAnswers, Keeps, KeepsProtocol}
 use Rattle.congee.specs.protocol.Play.{Flight, Watched, WatchedAt, IsOfPoint, IsBegin, Follows, Following, flight_in, flight, EachKnown, Protocol, ProtocolAt, Settled, Begins, NextAt, Chain, Plays, IsMoved, StepPlays}
 use Rattle.congee.specs.protocol.Trace.{Traced, AreTraced, nodes_after, calls_after, IsTrace}
@@ -44,7 +44,7 @@ use Rattle.congee.proofs.lemmas.protocol.Wants.{wants}
 use Rattle.congee.proofs.lemmas.protocol.Causes.{caused, next_weaker}
 use Rattle.congee.specs.protocol.Causes.{IsCause}
 use Rattle.congee.proofs.lemmas.protocol.Watches.{watched}
-use Rattle.congee.proofs.lemmas.protocol.SweepFlights.{point_stays, follow_at, follow_none, follow_set, follow_new, scan_watched}
+use Rattle.congee.proofs.lemmas.protocol.ScanFlights.{point_stays, follow_at, follow_none, follow_set, follow_new, scan_watched}
 
 module _ {C V : Type 0} (number : C → ℕ) (same : V → V → Bool) (always : Bool) where
   -- a call of the protocol may step
@@ -127,12 +127,12 @@ module _ {C V : Type 0} (number : C → ℕ) (same : V → V → Bool) (always :
       let S : Flight V → Type 0 = λ u. Watched same u pairs answer d (flight m') y.0 in
       (y.0, flight m', y.1, inl (point_stays same (flight m) pairs answer d (flight m') y.0 (subst IsOfPoint x.1 x.0) v, refl), subst S (sym x.1) v)
   watched_as most why h m m' h' d i fail answer a t w o g n pairs f st (inr x) =
-      let s : Scan C V = x.0 in
+      let s : ScanState C V = x.0 in
       let P : Phase C V → Type 0 = λ y. PhaseStepped number same always most why m.root (key_bytes m.key) m.kind fail answer m.given y h m'.given (record { phase = m'.phase; report = d }) h' in
-      let step : PhaseStepped number same always most why m.root (key_bytes m.key) m.kind fail answer m.given (Sweep s) h m'.given (record { phase = m'.phase; report = d }) h' = subst P x.1 g.step in
+      let step : PhaseStepped number same always most why m.root (key_bytes m.key) m.kind fail answer m.given (Scan s) h m'.given (record { phase = m'.phase; report = d }) h' = subst P x.1 g.step in
       let K : Phase C V → Type 0 = λ y. Known number same always i a h m.key (key_bytes m.key) m.kind m.given y in
       let y = scan_watched number same always a h t w pairs st m.root o.root answer s step.2.0 step.2.1 f x.2 (subst K x.1 o.known) step.2.2 in
-      let is : ◌≡◌ {A = NextPhase C V} (record { phase = m'.phase; report = d }) (swept step.2.0 step.2.1) = step.2.3 in
+      let is : ◌≡◌ {A = NextPhase C V} (record { phase = m'.phase; report = d }) (after_scan step.2.0 step.2.1) = step.2.3 in
       let H : (ℕ → Node V) → Type 0 = λ u. IsMapOf u pairs in
       let D : Move V → Type 0 = λ u. Watched same f pairs answer u y.0 pairs in
       (pairs, y.0, subst H (sym step.0) st, inr (step.2.0, ap (λ (u : NextPhase C V). u.phase) is, y.2), subst D (sym (ap (λ (u : NextPhase C V). u.report) is)) y.1)
@@ -196,7 +196,7 @@ module _ {C V : Type 0} (number : C → ℕ) (same : V → V → Bool) (always :
   -- a call that has not begun knows what its phase says
   pub begin_known : (i : ℕ) (a : ℕ → Note) (h : ℕ → Node V) (k : ℕ) (kind : Kind V) (given : Option V) (x : Phase C V) → IsBegin kind given x → Known number same always i a h k (key_bytes k) kind given x
   begin_known i a h k kind given New n = n
-  begin_known i a h k kind given (Sweep s) n = let P : Stage C V → Type 0 = λ y. SweepKnownAt number always a h s y in subst P (sym n.0) n.1
+  begin_known i a h k kind given (Scan s) n = let P : Stage C V → Type 0 = λ y. ScanKnownAt number always a h s y in subst P (sym n.0) n.1
   begin_known i a h k kind given _ n = absurd n
 
   -- a tree at rest, beside calls that have not begun
@@ -325,7 +325,7 @@ module _ {C V : Type 0} (number : C → ℕ) (same : V → V → Bool) (always :
     where
       of : (kind : Kind V) (given : Option V) (y : Phase C V) → IsBegin kind given y → TakenBy number y n → ⊥
       of kind given New g x = x
-      of kind given (Sweep s) g x = x
+      of kind given (Scan s) g x = x
       of kind given _ g x = g
 
   -- calls that have not begun have played no steps

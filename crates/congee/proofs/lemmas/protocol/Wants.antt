@@ -11,7 +11,7 @@ use Rattle.congee.specs.declared.protocol.phase.Double.{Double}
 use Rattle.congee.specs.declared.protocol.phase.Double.TheVariants.{Unlink, Grow, GrowLink, Split, Shrink, Collapse, ShrinkAbove}
 use Rattle.congee.specs.declared.protocol.phase.Two.{Two}
 use Rattle.congee.specs.declared.protocol.phase.Phase.{Phase}
-use Rattle.congee.specs.declared.protocol.phase.Phase.TheVariants.{New, Version, Read, Check, CheckUncopied, CheckMiss, CheckDown, CheckOld, MakeGreater, MakeTop, MakeBeside, MakeLesser, Confirm, CheckAbove, UpgradeOne, ChangeOne, UpgradeTop, UpgradeAbove, UpgradeBelow, ChangeTwo, Obsolete, Retire, UnlockBelow, Unlock, Unwind, Sweep}
+use Rattle.congee.specs.declared.protocol.phase.Phase.TheVariants.{New, Version, Read, Check, CheckUncopied, CheckMiss, CheckDown, CheckOld, MakeGreater, MakeTop, MakeBeside, MakeLesser, Confirm, CheckAbove, UpgradeOne, ChangeOne, UpgradeTop, UpgradeAbove, UpgradeBelow, ChangeTwo, Obsolete, Retire, UnlockBelow, Unlock, Unwind, Scan}
 use Rattle.congee.specs.Heap.{Node, Hung, Nothing, Below, Holds, Stands, child_for}
 use Rattle.congee.specs.protocol.Events.{MayChange, HoldsNodes, HoldsAlike, Parts}
 use Rattle.congee.specs.protocol.Steps.{value_hung, MayBackOne, MayBackTwo, MayBackLeaf, Changeable, Blank, MayTop, MayChangeOne, MayChangeTwo, MayStep}
@@ -22,7 +22,7 @@ use Rattle.congee.proofs.lemmas.Fits.{equal, same_test}
 use Rattle.congee.proofs.lemmas.Graft.{on_test}
 use Rattle.congee.proofs.lemmas.protocol.Touch.{owner_locked}
 use Rattle.congee.proofs.lemmas.protocol.Change.{made_apart}
-use Rattle.congee.proofs.lemmas.protocol.SweepWants.{sweep_wants}
+use Rattle.congee.proofs.lemmas.protocol.ScanWants.{scan_wants}
 
 -- a node of the tree holds values where its prefix has seven bytes, and nodes where it is shorter
 pub holds_alike : {V : Type 0} (a : ℕ → Note) (h : ℕ → Node V) → Tree a h → (n : ℕ) → (a n).status ≡ Linked → HoldsAlike (h n)
@@ -260,5 +260,5 @@ module _ {C V : Type 0} (number : C → ℕ) (same : V → V → Bool) (always :
   wants root z kind given (UnlockBelow n p r) m = held_there (number n) m.0
   wants root z kind given (Unlock n r) m = held_there (number n) m
   wants root z kind given (Unwind n next e) m = held_there (number n) m.1
-  wants root z kind given (Sweep s) m = sweep_wants number always a h t w root z s m
+  wants root z kind given (Scan s) m = scan_wants number always a h t w root z s m
   wants root z kind given _ m = tt

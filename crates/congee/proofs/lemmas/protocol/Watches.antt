@@ -13,7 +13,7 @@ use Rattle.congee.specs.declared.protocol.store.Refusal.{Refusal}
 use Rattle.congee.specs.declared.protocol.phase.Kind.{Kind}
 use Rattle.congee.specs.declared.protocol.phase.Kind.TheVariants.{Get, Insert, Remove, ComputePresent, ComputeInsert, Exchange}
 use Rattle.congee.specs.declared.protocol.phase.Phase.{Phase}
-use Rattle.congee.specs.declared.protocol.phase.Phase.TheVariants.{New, Version, Read, Check, CheckUncopied, CheckMiss, CheckDown, CheckOld, MakeLeaf, MakeGreater, MakeTop, MakeBeside, MakeLesser, AskOld, AskNew, Confirm, CheckAbove, UpgradeOne, ChangeOne, UpgradeTop, UpgradeAbove, UpgradeBelow, ChangeTwo, Obsolete, Retire, UnlockBelow, Unlock, Unwind, Sweep, Ended}
+use Rattle.congee.specs.declared.protocol.phase.Phase.TheVariants.{New, Version, Read, Check, CheckUncopied, CheckMiss, CheckDown, CheckOld, MakeLeaf, MakeGreater, MakeTop, MakeBeside, MakeLesser, AskOld, AskNew, Confirm, CheckAbove, UpgradeOne, ChangeOne, UpgradeTop, UpgradeAbove, UpgradeBelow, ChangeTwo, Obsolete, Retire, UnlockBelow, Unlock, Unwind, Scan, Ended}
 use Rattle.congee.specs.declared.protocol.turn.NextPhase.{NextPhase}
 use Rattle.congee.specs.Heap.{Node, is_taken, version_of}
 use Rattle.congee.specs.protocol.Steps.{after_retire, quiet, answered, finished, decided, PhaseStepped}
@@ -209,5 +209,5 @@ module _ {C V : Type 0} (number : C → ℕ) (same : V → V → Bool) (always :
   watched (UnlockBelow x q r) pf c g n = settled same k kind v v v' h h' m p st r (Unlock q r) t g.2 refl n
   watched (Unlock x r) pf c g n = ends same k kind v v v' h h' m p st r t g.2 n
   watched (Unwind x next e) pf c g n = by_shape n (unwinds number k kind v v' g.0 Unasked root next e t g.2)
-  watched (Sweep s) pf c g n = absurd pf
+  watched (Scan s) pf c g n = absurd pf
   watched Ended pf c g n = rests same k kind v v v' h h' m p st t g.2 n

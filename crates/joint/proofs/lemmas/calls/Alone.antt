@@ -19,7 +19,7 @@ use Rattle.congee.specs.declared.protocol.machine.Noise.{Noise}
 use Rattle.congee.specs.declared.protocol.op.Op.{Op as Point}
 use Rattle.congee.specs.declared.protocol.op.Op.TheVariants as point
 use Rattle.congee.specs.declared.protocol.phase.Phase.{Phase}
-use Rattle.congee.specs.declared.protocol.phase.Phase.TheVariants.{Sweep, Ended}
+use Rattle.congee.specs.declared.protocol.phase.Phase.TheVariants.{Scan, Ended}
 use Rattle.congee.specs.Heap.{Node}
 use Rattle.congee.specs.protocol.Alone.{NoOtherLocks, IsUndisturbed, HasAnswer, IsPast, StepsOn, steps_left, steps_whole, tree_nodes, tree_pairs}
 use Rattle.congee.specs.protocol.Play.{Settled, begun, first_phase}
@@ -107,7 +107,7 @@ module _ {V : Type 0} where
 
   -- a call that is under way has not ended
   not_past : (x : Phase Id V) → IsUnderWay x → is_done x ≡ false → IsPast x → ⊥
-  not_past (Sweep s) u d p = let q : is_past s.stage ≡ true = ap is_past p in absurd (false≢true (sym d ∙ q))
+  not_past (Scan s) u d p = let q : is_past s.stage ≡ true = ap is_past p in absurd (false≢true (sym d ∙ q))
   not_past Ended u d p = u
   not_past _ u d p = p
 

@@ -9,7 +9,7 @@ use Rattle.congee.specs.declared.protocol.machine.Outcome.TheVariants as moved
 use Rattle.congee.specs.declared.protocol.op.Op.{Op as Point}
 use Rattle.congee.specs.Keys.{IsMapOf}
 use Rattle.congee.specs.protocol.Play.{Flight, Over, begun, range_of, flight, Unbegun, Scanning, ScanTells}
-use Rattle.congee.specs.protocol.Sweeps.{Stood, AllStood, Throughout, IsScan}
+use Rattle.congee.specs.protocol.Scans.{Stood, AllStood, Throughout, IsScan}
 use Rattle.joint.specs.declared.id.Id.{Id}
 use Rattle.joint.specs.declared.steps.Done.{Done as Answer}
 use Rattle.joint.specs.declared.steps.Done.TheVariants as done
@@ -82,13 +82,13 @@ module _ {V : Type 0} (same : V → V → Bool) (always : Bool) (fs : Flights V)
   EndsWith places _ s = ⊥
 
   -- how the scan stands after a step that told this, with these pairs told for its places
-  abbrev pub Sweeps : List (ℕ × V) → Outcome V → World V → Type 0
-  Sweeps places Running s = InScan places s
-  Sweeps places (Found place key value) s = InScan places s
-  Sweeps places (Done d) s = EndsWith places d s
-  Sweeps places (Refused e) s = KeepsAll fs m s
-  Sweeps places (Asks found) s = ⊥
-  Sweeps places (Registered n) s = ⊥
+  abbrev pub Scans : List (ℕ × V) → Outcome V → World V → Type 0
+  Scans places Running s = InScan places s
+  Scans places (Found place key value) s = InScan places s
+  Scans places (Done d) s = EndsWith places d s
+  Scans places (Refused e) s = KeepsAll fs m s
+  Scans places (Asks found) s = ⊥
+  Scans places (Registered n) s = ⊥
 
   of_scan : (places : List (ℕ × V)) (f : Flight V) → Watches places f → IsOfScan f
   of_scan places f (inl x) = let P : Flight V → Type 0 = λ y. IsOfScan y in subst P (sym x.0) tt
@@ -106,7 +106,7 @@ module _ {V : Type 0} (same : V → V → Bool) (always : Bool) (fs : Flights V)
   done_keeps places (done.Stats stats) s x = absurd x
 
   -- a scan that stands so plays as a scan on the map does
-  pub scan_plays : (places : List (ℕ × V)) (said : Outcome V) (s : World V) → Sweeps places said s → PlaysScan fs m w said s
+  pub scan_plays : (places : List (ℕ × V)) (said : Outcome V) (s : World V) → Scans places said s → PlaysScan fs m w said s
   scan_plays places Running s x = scanning_of places s x
   scan_plays places (Found place key value) s x = scanning_of places s x
   scan_plays places (Done d) s x = done_keeps places d s x
@@ -115,26 +115,26 @@ module _ {V : Type 0} (same : V → V → Bool) (always : Bool) (fs : Flights V)
   scan_plays places (Registered n) s x = absurd x
 
   scan_told : (states : List (Pairs V)) (places : List (ℕ × V)) (o : Moved V) (f : Flight V) (said : Outcome V) (s : World V) → fs w ≡ Over → AllOne m states → said ≡ told o
-      → ScanTells from to many states places o f → AreInFlight s (with_flight fs w f) → IsMapOf (nodes s.forest) m → Sweeps (placed true said places) said s
+      → ScanTells from to many states places o f → AreInFlight s (with_flight fs w f) → IsMapOf (nodes s.forest) m → Scans (placed true said places) said s
   scan_told states places moved.Running f said s free a e u fl st =
-      let P : Outcome V → Type 0 = λ y. Sweeps (placed true y places) y s in
+      let P : Outcome V → Type 0 = λ y. Scans (placed true y places) y s in
       subst P (sym e) (record { free = free; flight = f; watched = inr (states, u, a); in_flight = fl; stand = st })
   scan_told states places (moved.Found place key x) f said s free a e u fl st =
-      let P : Outcome V → Type 0 = λ y. Sweeps (placed true y places) y s in
+      let P : Outcome V → Type 0 = λ y. Scans (placed true y places) y s in
       subst P (sym e) (record { free = free; flight = f; watched = inr (states, u.1, a); in_flight = fl; stand = st })
   scan_told states places (moved.Scanned count) f said s free a e u fl st =
-      let P : Outcome V → Type 0 = λ y. Sweeps (placed true y places) y s in
+      let P : Outcome V → Type 0 = λ y. Scans (placed true y places) y s in
       let Q : Flight V → Type 0 = λ y. AreInFlight s (with_flight fs w y) in
       subst P (sym e) (record { filled = u.0; scan = scan_of_one m start end size states (take count places) a (promises states (take count places) u.1) }, (st, as_before s fs w free (subst Q u.2 fl)))
   scan_told states places (moved.Refused cause) f said s free a e u fl st =
-      let P : Outcome V → Type 0 = λ y. Sweeps (placed true y places) y s in
+      let P : Outcome V → Type 0 = λ y. Scans (placed true y places) y s in
       let Q : Flight V → Type 0 = λ y. AreInFlight s (with_flight fs w y) in
       subst P (sym e) (st, as_before s fs w free (subst Q u fl))
   scan_told states places (moved.Asks o) f said s free a e u fl st = absurd u
   scan_told states places (moved.Done r) f said s free a e u fl st = absurd u
 
   scan_step : (noise : Noise Id V) (places : List (ℕ × V)) (s : World V) (r : Report V) (s' : World V) → Holds same always s → InScan places s → IsStep same always s (gone w noise) r s'
-      → Sweeps (placed true r.outcome places) r.outcome s'
+      → Scans (placed true r.outcome places) r.outcome s'
   scan_step noise places s r s' h b x = by_watched b.watched where
     on : Flights V
     on = with_flight fs w b.flight
@@ -154,18 +154,18 @@ module _ {V : Type 0} (same : V → V → Bool) (always : Bool) (fs : Flights V)
     flying : (f : Flight V) → y.flights ≡ with_flight (with_flight fs w b.flight) w f → AreInFlight s' (with_flight fs w f)
     flying f e = let P : Flights V → Type 0 = λ n. AreInFlight s' n in once_more s' fs w b.flight f (subst P e y.in_flight)
 
-    by_watched : Watches places b.flight → Sweeps (placed true r.outcome places) r.outcome s'
+    by_watched : Watches places b.flight → Scans (placed true r.outcome places) r.outcome s'
     by_watched (inl e) =
         let P : Flight V → Type 0 = λ z. GoMap same (with_flight fs w b.flight) z m noise.answer l y.flights in
         let a : Advances same (with_flight fs w b.flight) (Unbegun from to many) m noise.answer l y.flights = subst P e.0 moves in
-        let Q : List (ℕ × V) → Type 0 = λ z. Sweeps (placed true r.outcome z) r.outcome s' in
+        let Q : List (ℕ × V) → Type 0 = λ z. Scans (placed true r.outcome z) r.outcome s' in
         subst Q (sym e.1) (scan_told (m ∷ []) [] a.step.outcome a.next r.outcome s' b.free (refl, tt) a.step.told_so a.step.tells (flying a.next a.advances) (stand a.step.same_pairs))
     by_watched (inr e) =
         let P : Flight V → Type 0 = λ z. GoMap same (with_flight fs w b.flight) z m noise.answer l y.flights in
         let a : Advances same (with_flight fs w b.flight) (Scanning from to many e.0 places) m noise.answer l y.flights = subst P e.1 moves in
         scan_told (m ∷ e.0) places a.step.outcome a.next r.outcome s' b.free (refl, e.2) a.step.told_so a.step.tells (flying a.next a.advances) (stand a.step.same_pairs)
 
-  scanning : (places : List (ℕ × V)) (said : Outcome V) (s : World V) → is_in_flight said ≡ true → Sweeps places said s → InScan places s
+  scanning : (places : List (ℕ × V)) (said : Outcome V) (s : World V) → is_in_flight said ≡ true → Scans places said s → InScan places s
   scanning places Running s on x = x
   scanning places (Found place key value) s on x = x
   scanning places (Done d) s on x = absurd (cc on)
@@ -173,15 +173,15 @@ module _ {V : Type 0} (same : V → V → Bool) (always : Bool) (fs : Flights V)
   scanning places (Asks found) s on x = absurd x
   scanning places (Registered n) s on x = absurd x
 
-  scan_steps : (more : List (Taken V)) (places : List (ℕ × V)) (said : Outcome V) (s : World V) → Holds same always s → Sweeps places said s → AreTaken same always s more → AllGoOn w said more
-      → Sweeps (told_places places more) (told_after said more) (after_all s more)
+  scan_steps : (more : List (Taken V)) (places : List (ℕ × V)) (said : Outcome V) (s : World V) → Holds same always s → Scans places said s → AreTaken same always s more → AllGoOn w said more
+      → Scans (told_places places more) (told_after said more) (after_all s more)
   scan_steps [] places said s h b x g = b
   scan_steps (t ∷ ts) places said s h b x g =
       let P : Step V → Type 0 = λ y. IsStep same always s y t.report t.after in
       scan_steps ts (placed true t.report.outcome places) t.report.outcome t.after x.0.holds (scan_step g.0.noise places s t.report t.after h (scanning places said s g.0.in_flight b) (subst P g.0.step x.0)) x.1 g.1
 
   scan_begins : (op : Op V) (asked : Point V) (s : World V) (r : Report V) (s' : World V) → target op ≡ target.Tree asked → range_of asked ≡ Some (start, end, size) → flight (begun root asked) ≡ Unbegun from to many → Holds same always s → KeepsAll fs m s → IsStep same always s (begin_of w op) r s'
-      → Sweeps [] r.outcome s'
+      → Scans [] r.outcome s'
   scan_begins op asked s r s' e ranged starts h b x = begun_so r.outcome refl begin where
     y : Mapped same always s (begin_of w op) r s' fs m
     y = mapped same always s (begin_of w op) s' fs m h x.holds b.0 b.1 r x
@@ -192,16 +192,16 @@ module _ {V : Type 0} (same : V → V → Bool) (always : Bool) (fs : Flights V)
     begin : BeginsOr fs m asked r.outcome l y.flights
     begin = let P : Target V → Type 0 = λ t. BeginMap fs m t l y.flights in subst P e y.map
 
-    in_flight : BeginsFlight fs m asked l y.flights → Sweeps [] r.outcome s'
+    in_flight : BeginsFlight fs m asked l y.flights → Scans [] r.outcome s'
     in_flight z =
-        let P : Outcome V → Type 0 = λ o. Sweeps [] o s' in
+        let P : Outcome V → Type 0 = λ o. Scans [] o s' in
         let Q : Pairs V → Type 0 = λ n. IsMapOf (nodes s'.forest) n in
         let R : Flights V → Type 0 = λ n. AreInFlight s' n in
         subst P (sym z.accepted) (record { free = z.free; flight = Unbegun from to many; watched = inl (refl, refl); in_flight = subst R (z.begins ∙ ap (with_flight fs w) starts) y.in_flight; stand = subst Q z.same_pairs y.stand })
 
-    at_once : (d : Answer V) → r.outcome ≡ Done d → EndsAtOnce fs m asked d l y.flights → Sweeps [] r.outcome s'
+    at_once : (d : Answer V) → r.outcome ≡ Done d → EndsAtOnce fs m asked d l y.flights → Scans [] r.outcome s'
     at_once (done.Scanned count) is z =
-        let P : Outcome V → Type 0 = λ o. Sweeps [] o s' in
+        let P : Outcome V → Type 0 = λ o. Scans [] o s' in
         let Q : ℕ → Type 0 = λ n. HasScanned {V = V} start end size n m [] in
         let R : Option (ℕ × ℕ × ℕ) → Type 0 = λ a. EndsEmpty a count fs m l y.flights in
         let none : FindsNone start end size count fs m l y.flights = subst R ranged z in
@@ -212,8 +212,8 @@ module _ {V : Type 0} (same : V → V → Bool) (always : Bool) (fs : Flights V)
     at_once (done.Empty a) is z = absurd z
     at_once (done.Stats stats) is z = absurd z
 
-    begun_so : (o : Outcome V) → r.outcome ≡ o → BeginsOr fs m asked o l y.flights → Sweeps [] r.outcome s'
-    begun_so (Refused a) is z = let P : Outcome V → Type 0 = λ o. Sweeps [] o s' in subst P (sym is) (stays_keeps_all fs m l y.flights s' z y.stand y.in_flight)
+    begun_so : (o : Outcome V) → r.outcome ≡ o → BeginsOr fs m asked o l y.flights → Scans [] r.outcome s'
+    begun_so (Refused a) is z = let P : Outcome V → Type 0 = λ o. Scans [] o s' in subst P (sym is) (stays_keeps_all fs m l y.flights s' z y.stand y.in_flight)
     begun_so (Done d) is z = at_once d is z
     begun_so Running is z = in_flight z
     begun_so (Asks found) is z = in_flight z
@@ -221,7 +221,7 @@ module _ {V : Type 0} (same : V → V → Bool) (always : Bool) (fs : Flights V)
     begun_so (Registered n) is z = in_flight z
 
   -- a scan that no other worker's step comes between stands so after its steps, from its begin on
-  pub sweeps : (op : Op V) (asked : Point V) (s : World V) (first : Taken V) (more : List (Taken V)) → target op ≡ target.Tree asked → range_of asked ≡ Some (start, end, size) → flight (begun root asked) ≡ Unbegun from to many → Holds same always s → KeepsAll fs m s
+  pub scans : (op : Op V) (asked : Point V) (s : World V) (first : Taken V) (more : List (Taken V)) → target op ≡ target.Tree asked → range_of asked ≡ Some (start, end, size) → flight (begun root asked) ≡ Unbegun from to many → Holds same always s → KeepsAll fs m s
       → IsStep same always s (begin_of w op) first.report first.after → AreTaken same always first.after more → AllGoOn w first.report.outcome more
-      → Sweeps (told_places [] more) (told_after first.report.outcome more) (after_all first.after more)
-  sweeps op asked s first more e ranged starts h b x y g = scan_steps more [] first.report.outcome first.after x.holds (scan_begins op asked s first.report first.after e ranged starts h b x) y g
+      → Scans (told_places [] more) (told_after first.report.outcome more) (after_all first.after more)
+  scans op asked s first more e ranged starts h b x y g = scan_steps more [] first.report.outcome first.after x.holds (scan_begins op asked s first.report first.after e ranged starts h b x) y g

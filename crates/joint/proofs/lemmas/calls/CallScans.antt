@@ -4,7 +4,7 @@ use Rattle.std.proofs.Math.ListN.{set}
 use Rattle.std.specs.Prelude.{Option, None, Some, length, map, take, replicate, option_map}
 use Rattle.std.proofs.lemmas.List.{length-take-le}
 use Rattle.judge.specs.Answer.{Pairs}
-use Rattle.congee.specs.protocol.Sweeps.{IsScan, written}
+use Rattle.congee.specs.protocol.Scans.{IsScan, written}
 use Rattle.joint.specs.declared.steps.Done.TheVariants.{Scanned}
 use Rattle.joint.specs.declared.steps.Event.{Event}
 use Rattle.joint.specs.declared.steps.Event.TheVariants.{Begin}

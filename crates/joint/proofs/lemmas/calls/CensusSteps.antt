@@ -24,7 +24,7 @@ use Rattle.congee.specs.declared.protocol.machine.Move.{Move}
 use Rattle.congee.specs.declared.protocol.op.Op.{Op as Point}
 use Rattle.congee.specs.declared.protocol.op.Op.TheVariants as point
 use Rattle.congee.specs.declared.protocol.phase.Phase.{Phase}
-use Rattle.congee.specs.declared.protocol.phase.Phase.TheVariants.{Obsolete, Retire, Sweep, Ended}
+use Rattle.congee.specs.declared.protocol.phase.Phase.TheVariants.{Obsolete, Retire, Scan, Ended}
 use Rattle.congee.specs.declared.protocol.run.Step.{Step}
 use Rattle.congee.specs.forms.Forms.{capacity_of, form_of, size_of}
 use Rattle.congee.specs.Heap.{Node}
@@ -347,7 +347,7 @@ goes_of Same n l e = omega arith
 
 -- a scan that is done has no reply
 done_none : {V : Type 0} (p : Phase Id V) → is_done p ≡ true → reply_in p ≡ None
-done_none (Sweep s) e = refl
+done_none (Scan s) e = refl
 done_none _ e = absurd (cc e)
 
 rested_reply : {V : Type 0} (m : Machine Id V) → reply_in (rested m).phase ≡ reply_in m.phase

@@ -35,7 +35,7 @@ use Rattle.joint.specs.engine.Engine.{World, engine_of}
 use Rattle.joint.proofs.lemmas.engine.Entering.{begin_free}
 use Rattle.joint.proofs.lemmas.world.JournaledSteps.{Mapped, mapped}
 use Rattle.joint.proofs.lemmas.calls.KeyCalls.{begin_of, gone, key_plays, stays_keeps_all}
-use Rattle.joint.proofs.lemmas.calls.AloneScans.{Sweeps, scan_plays, sweeps}
+use Rattle.joint.proofs.lemmas.calls.AloneScans.{Scans, scan_plays, scans}
 
 module _ {V : Type 0} (m : Pairs V) where
   -- a call of one step has ended
@@ -114,7 +114,7 @@ module _ {V : Type 0} (same : V → V → Bool) (always : Bool) (fs : Flights V)
       → IsStep same always s (begin_of w op) first.report first.after → AreTaken same always first.after more → AllGoOn w first.report.outcome more → PlaysScan fs m w (told_after first.report.outcome more) (after_all first.after more)
   scan_call op asked start end size ranged s first more e h b x y g =
       let k = scan_of asked start end size ranged in
-      scan_plays same always fs m w start end size k.from k.to k.places k.promises _ _ _ (sweeps same always fs m w start end size k.from k.to k.places k.promises op asked s first more e ranged k.unbegun h b x y g)
+      scan_plays same always fs m w start end size k.from k.to k.places k.promises _ _ _ (scans same always fs m w start end size k.from k.to k.places k.promises op asked s first more e ranged k.unbegun h b x y g)
 
   -- any call
   by_target : (op : Op V) (t : Target V) (s : World V) (first : Taken V) (more : List (Taken V)) → target op ≡ t → Holds same always s → KeepsAll fs m s → IsStep same always s (begin_of w op) first.report first.after
@@ -190,8 +190,8 @@ module _ {V : Type 0} (same : V → V → Bool) (always : Bool) where
   scanned_so s first more fs m who op asked start end size count on ranged h x st fl c e =
       let k = scan_of asked start end size ranged in
       let P : Step V → Type 0 = λ y. IsStep same always s y first.report first.after in
-      let Q : Outcome V → Type 0 = λ o. Sweeps same always fs m who start end size k.from k.to k.places k.promises (told_places [] more) o (after_all first.after more) in
-      let y : Q (Done (Scanned count)) = subst Q e (sweeps same always fs m who start end size k.from k.to k.places k.promises op asked s first more on ranged k.unbegun h (st, fl) (subst P c.begins x.0) x.1 c.goes_on) in
+      let Q : Outcome V → Type 0 = λ o. Scans same always fs m who start end size k.from k.to k.places k.promises (told_places [] more) o (after_all first.after more) in
+      let y : Q (Done (Scanned count)) = subst Q e (scans same always fs m who start end size k.from k.to k.places k.promises op asked s first more on ranged k.unbegun h (st, fl) (subst P c.begins x.0) x.1 c.goes_on) in
       y.0
 
   -- a scan so taken that is done has told for the first of its places what a scan promises

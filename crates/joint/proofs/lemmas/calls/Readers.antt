@@ -26,7 +26,7 @@ use Rattle.congee.specs.declared.protocol.phase.Kind.{Kind}
 use Rattle.congee.specs.declared.protocol.phase.Kind.TheVariants as kind
 use Rattle.congee.specs.declared.protocol.phase.Above.{Above as Over}
 use Rattle.congee.specs.declared.protocol.phase.Phase.{Phase}
-use Rattle.congee.specs.declared.protocol.phase.Phase.TheVariants.{New, Version, Read, Check, CheckUncopied, CheckMiss, Sweep, Ended}
+use Rattle.congee.specs.declared.protocol.phase.Phase.TheVariants.{New, Version, Read, Check, CheckUncopied, CheckMiss, Scan, Ended}
 use Rattle.congee.specs.declared.protocol.phase.Site.{Site}
 use Rattle.congee.specs.declared.protocol.store.Reading.{Reading}
 use Rattle.congee.specs.declared.protocol.store.Reading.TheVariants.{Differs, Fits, Uncopied}
@@ -80,7 +80,7 @@ Reads (Read above at) = Unit {0}
 Reads (Check s c) = Unit {0}
 Reads (CheckUncopied at) = Unit {0}
 Reads (CheckMiss p at common byte) = Unit {0}
-Reads (Sweep s) = Unit {0}
+Reads (Scan s) = Unit {0}
 Reads Ended = Unit {0}
 Reads _ = ⊥
 
@@ -128,14 +128,14 @@ module _ {V : Type 0} where
   phase_reads same always most why r key fail answer new (Check s c) h new' t h' u x = if_reads _ r (IsChecked {C = Id} {V = V} always same kind.Get new s c) t (checked_reads same always new s c t) x.2
   phase_reads same always most why r key fail answer new (CheckUncopied at) h new' t h' u x = if_reads _ r (λ (y : NextPhase Id V). y ≡ refused cause.Count) t (λ e. let P : NextPhase Id V → Type 0 = λ y. Reads y.phase in subst P (sym e) tt) x.2
   phase_reads same always most why r key fail answer new (CheckMiss p at common byte) h new' t h' u x = if_reads _ r (λ (y : NextPhase Id V). y ≡ after_miss kind.Get p at common byte) t (λ e. let P : NextPhase Id V → Type 0 = λ y. Reads y.phase in subst P (sym e) tt) x.2
-  phase_reads same always most why r key fail answer new (Sweep s) h new' t h' u x = let P : NextPhase Id V → Type 0 = λ y. Reads y.phase in subst P (sym x.2.3) tt
+  phase_reads same always most why r key fail answer new (Scan s) h new' t h' u x = let P : NextPhase Id V → Type 0 = λ y. Reads y.phase in subst P (sym x.2.3) tt
   phase_reads same always most why r key fail answer new Ended h new' t h' u x = let P : NextPhase Id V → Type 0 = λ y. Reads y.phase in subst P (sym x.2) tt
   phase_reads same always most why r key fail answer new _ h new' t h' u x = absurd u
 
   cause_count : (always : Bool) (most : ℕ) (why : NodeType → Cause → Type 0) (p : Phase Id V) (e : Cause) → Reads p → Causes why most always p e → e ≡ cause.Count
   cause_count always most why (Check s c) e u x = x.count
   cause_count always most why (CheckUncopied at) e u x = x.count
-  cause_count always most why (Sweep s) e u x = x.count
+  cause_count always most why (Scan s) e u x = x.count
   cause_count always most why New e u x = absurd x
   cause_count always most why (Version above n) e u x = absurd x
   cause_count always most why (Read above at) e u x = absurd x

@@ -9,7 +9,7 @@ use Rattle.congee.specs.declared.protocol.machine.Outcome.TheVariants as moved
 use Rattle.congee.specs.declared.protocol.op.Op.{Op as Point}
 use Rattle.congee.specs.declared.protocol.op.Op.TheVariants as point
 use Rattle.congee.specs.protocol.Play.{Flight, Pending, Decided, Over, Unbegun, Scanning, ScanTells, IsScanOf, IsOfRange, begun, flight, range_of as range_in}
-use Rattle.congee.specs.protocol.Sweeps.{IsScan, Stood, AllStood, Throughout}
+use Rattle.congee.specs.protocol.Scans.{IsScan, Stood, AllStood, Throughout}
 use Rattle.joint.specs.declared.steps.Done.TheVariants.{Scanned}
 use Rattle.joint.specs.declared.steps.Event.{Event}
 use Rattle.joint.specs.declared.steps.Event.TheVariants.{Register, Begin, Go}

@@ -14,8 +14,8 @@ use Rattle.congee.specs.declared.protocol.machine.Outcome.TheVariants as moved
 use Rattle.congee.specs.declared.protocol.op.Op.{Op as Point}
 use Rattle.congee.specs.declared.protocol.phase.Kind.{Kind}
 use Rattle.congee.specs.declared.protocol.phase.Phase.{Phase}
-use Rattle.congee.specs.declared.protocol.phase.Phase.TheVariants.{Sweep, Ended}
-use Rattle.congee.specs.declared.protocol.sweep.Sweep.{Sweep as Scan}
+use Rattle.congee.specs.declared.protocol.phase.Phase.TheVariants.{Scan, Ended}
+use Rattle.congee.specs.declared.protocol.scan.ScanState.{ScanState as ScanState}
 use Rattle.congee.specs.protocol.Play.{Flight, Pending, Decided, Over, Unbegun, Scanning, Question, Unasked, Asked, Replied, Carries, Undecided, Concludes, ScanTells, Follows, ScanFollows, begun, flight, flight_in}
 use Rattle.congee.specs.protocol.State.{is_done, is_past}
 use Rattle.joint.specs.declared.engine.in_flight.InFlight.{InFlight}
@@ -147,7 +147,7 @@ module _ {V : Type 0} where
   pointed k kd v Ended u e = u
   pointed k kd v _ u e = cc e
 
-  scanned : (s : Scan Id V) → is_done {V = V} (Sweep s) ≡ false → ScanFollows s Over → ⊥
+  scanned : (s : ScanState Id V) → is_done {V = V} (Scan s) ≡ false → ScanFollows s Over → ⊥
   scanned s d (inl x) = let e = x.0 in cc e
   scanned s d (inr (inl x)) = absurd (false≢true (sym d ∙ ap is_past x.1))
   scanned s d (inr (inr x)) = let e = x.2 in cc e

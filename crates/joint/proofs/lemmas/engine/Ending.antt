@@ -17,7 +17,7 @@ use Rattle.congee.specs.declared.protocol.phase.One.{One}
 use Rattle.congee.specs.declared.protocol.phase.Above.{Above as Over}
 use Rattle.congee.specs.declared.protocol.phase.Parent.{Parent}
 use Rattle.congee.specs.declared.protocol.phase.Phase.{Phase}
-use Rattle.congee.specs.declared.protocol.phase.Phase.TheVariants.{New, Version, Read, Check, CheckUncopied, CheckMiss, CheckDown, CheckOld, MakeLeaf, MakeGreater, MakeTop, MakeBeside, MakeLesser, AskOld, AskNew, Confirm, CheckAbove, UpgradeOne, ChangeOne, UpgradeTop, UpgradeAbove, UpgradeBelow, ChangeTwo, Obsolete, Retire, UnlockBelow, Unlock, Unwind, Sweep, Ended}
+use Rattle.congee.specs.declared.protocol.phase.Phase.TheVariants.{New, Version, Read, Check, CheckUncopied, CheckMiss, CheckDown, CheckOld, MakeLeaf, MakeGreater, MakeTop, MakeBeside, MakeLesser, AskOld, AskNew, Confirm, CheckAbove, UpgradeOne, ChangeOne, UpgradeTop, UpgradeAbove, UpgradeBelow, ChangeTwo, Obsolete, Retire, UnlockBelow, Unlock, Unwind, Scan, Ended}
 use Rattle.congee.specs.declared.protocol.phase.Plan.{Plan}
 use Rattle.congee.specs.declared.protocol.phase.Plan.TheVariants.{Here, Above}
 use Rattle.congee.specs.declared.protocol.phase.Single.{Single}
@@ -40,7 +40,7 @@ use Rattle.joint.specs.engine.Sound.{IsUnderWay}
 
 -- the call is one on a key, and no scan
 abbrev pub IsOnKey : {V : Type 0} → Phase Id V → Type 0
-IsOnKey (Sweep s) = ⊥
+IsOnKey (Scan s) = ⊥
 IsOnKey _ = Unit {0}
 
 -- whether the call goes on after such a report
@@ -269,7 +269,7 @@ module _ {V : Type 0} (number : Id → ℕ) (same : V → V → Bool) (always : 
   tells (UnlockBelow n p r) u k x = by t _ x.2 (refl, tt)
   tells (Unlock n r) u k x = by t _ x.2 (refl, tt)
   tells (Unwind n next e) u k x = by t _ x.2 (going_back V root next e)
-  tells (Sweep s) u k x = absurd k
+  tells (Scan s) u k x = absurd k
   tells Ended u k x = absurd u
 
 -- a step of a call on a key ends it exactly where it reports its end, and leaves no scan

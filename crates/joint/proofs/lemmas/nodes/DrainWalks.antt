@@ -16,7 +16,7 @@ use Rattle.congee.specs.Keys.{IsMapOf}
 use Rattle.congee.specs.Notes.{Note, Tree, Linked}
 use Rattle.congee.specs.protocol.Events.{ChangeGives}
 use Rattle.congee.specs.protocol.Regions.{IsRegion, span, start_at}
-use Rattle.congee.specs.protocol.SweepKnown.{end_of}
+use Rattle.congee.specs.protocol.ScanKnown.{end_of}
 use Rattle.congee.proofs.Laws.{whole, start_mono, span_pos, region_top, child_after, child_before}
 use Rattle.joint.specs.declared.id.Id.{Id}
 use Rattle.joint.specs.declared.nodes.slot.LockWord.{LockWord}

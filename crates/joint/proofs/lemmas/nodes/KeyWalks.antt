@@ -15,8 +15,8 @@ use Rattle.congee.specs.Heap.{Node, Nothing, Below}
 use Rattle.congee.specs.Keys.{IsMapOf}
 use Rattle.congee.specs.Notes.{Note, Tree}
 use Rattle.congee.specs.protocol.Regions.{IsRegion, span, start_at}
-use Rattle.congee.specs.protocol.Sweeps.{Lacked}
-use Rattle.congee.specs.protocol.SweepKnown.{end_of}
+use Rattle.congee.specs.protocol.Scans.{Lacked}
+use Rattle.congee.specs.protocol.ScanKnown.{end_of}
 use Rattle.congee.proofs.Laws.{whole, start_mono, span_pos, child_after, child_before, lacks_bytes, lacks_beside, has_value}
 use Rattle.joint.specs.declared.id.Id.{Id}
 use Rattle.joint.specs.declared.nodes.slot.LockWord.{LockWord}

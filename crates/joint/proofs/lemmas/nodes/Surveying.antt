@@ -7,8 +7,8 @@ use Rattle.congee.specs.Heap.{Node, Nothing, Below, fits, value_at}
 use Rattle.congee.specs.Keys.{key_bytes}
 use Rattle.congee.specs.Notes.{Note, Tree}
 use Rattle.congee.specs.protocol.Regions.{span, IsRegion, start_at}
-use Rattle.congee.specs.protocol.SweepKnown.{end_of}
-use Rattle.congee.specs.protocol.SweepSteps.{width}
+use Rattle.congee.specs.protocol.ScanKnown.{end_of}
+use Rattle.congee.specs.protocol.ScanSteps.{width}
 use Rattle.congee.proofs.Laws.{on_test, finds, misses, span_pos, span_step, keys_within, within_keys, byte_low, byte_high, whole, start_mono, region_top}
 use Rattle.joint.specs.nodes.Levels.{IsNodeIn}
 use Rattle.joint.specs.nodes.Survey.{IsRegionOf, NoneStand}

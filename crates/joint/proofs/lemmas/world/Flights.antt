@@ -6,7 +6,7 @@ use Rattle.std.proofs.lemmas.Bool.{cases_Bool, eqb-true, eqb-false, true_from_ne
 use Rattle.congee.specs.declared.protocol.machine.Machine.{Machine}
 use Rattle.congee.specs.declared.protocol.op.Op.{Op as Point}
 use Rattle.congee.specs.declared.protocol.op.Op.TheVariants as point
-use Rattle.congee.specs.declared.protocol.phase.Phase.TheVariants.{Ended, Sweep}
+use Rattle.congee.specs.declared.protocol.phase.Phase.TheVariants.{Ended, Scan}
 use Rattle.judge.specs.Answer.{Pairs}
 use Rattle.congee.specs.protocol.Play.{Flight, Pending, Over, Unasked, begun, parts, range_of, flight, Follows, Following}
 use Rattle.joint.specs.declared.engine.in_flight.InFlight.{InFlight}
@@ -80,7 +80,7 @@ module _ {V : Type 0} where
   -- a call that has ended is watched no longer
   pub ended : (m : Machine Id V) (f : Flight V) → m.phase ≡ Ended → Follows m f → f ≡ Over
   ended m f e (inl x) = x.1 ∙ (let P : _ → Type 0 = λ p. flight (record m { phase = p }) ≡ Over in subst P (sym e) refl)
-  ended m f e (inr (s, p, x)) = absurd (let q : Ended ≡ Sweep s = sym e ∙ p in cc)
+  ended m f e (inr (s, p, x)) = absurd (let q : Ended ≡ Scan s = sym e ∙ p in cc)
 
   -- each machine's own flight, for those whose call is on the tree
   abbrev pub own : InFlight V → Flight V → Flight V

@@ -12,7 +12,7 @@ use Rattle.congee.specs.declared.protocol.machine.Outcome.TheVariants as moved
 use Rattle.congee.specs.declared.protocol.op.Op.{Op as Point}
 use Rattle.congee.specs.declared.protocol.op.Op.TheVariants as point
 use Rattle.congee.specs.declared.protocol.phase.Kind.{Kind}
-use Rattle.congee.specs.declared.protocol.sweep.Sweep.{Sweep as Scan}
+use Rattle.congee.specs.declared.protocol.scan.ScanState.{ScanState as ScanState}
 use Rattle.congee.specs.protocol.Play.{Flight, Pending, Decided, Over, Unbegun, Scanning, Question, value_answered, resolved, Undecided, Concludes, ScanTells, ScanFollows, Follows, begun, flight}
 use Rattle.congee.specs.protocol.State.{is_asking, is_pending, may_write}
 use Rattle.congee.specs.protocol.Answers.{reply_in}
@@ -66,7 +66,7 @@ module _ {V : Type 0} where
     pub asks_none : asks f ≡ false
     pub replies_none : replied f ≡ None
 
-  scan_is : (s : Scan Id V) (f : Flight V) → ScanFollows s f → OfScan f
+  scan_is : (s : ScanState Id V) (f : Flight V) → ScanFollows s f → OfScan f
   scan_is s f (inl x) = record { writes_none = ap writes_on x.0; asks_none = ap asks x.0; replies_none = ap replied x.0 }
   scan_is s f (inr (inl x)) = record { writes_none = ap writes_on x.0; asks_none = ap asks x.0; replies_none = ap replied x.0 }
   scan_is s f (inr (inr x)) = record { writes_none = ap writes_on x.2; asks_none = ap asks x.2; replies_none = ap replied x.2 }

@@ -6,7 +6,7 @@ use Rattle.std.proofs.lemmas.Option.{slice_get_cases}
 use Rattle.judge.specs.declared.journal.Entry.{Entry}
 use Rattle.judge.specs.Answer.{Pairs}
 use Rattle.congee.specs.declared.protocol.machine.Machine.{Machine}
-use Rattle.congee.specs.declared.protocol.sweep.Sweep.{Sweep as Scan}
+use Rattle.congee.specs.declared.protocol.scan.ScanState.{ScanState as ScanState}
 use Rattle.congee.specs.Keys.{IsMapOf}
 use Rattle.congee.specs.protocol.Play.{Flight, Over, Follows, ScanFollows, flight}
 use Rattle.joint.specs.declared.engine.in_flight.InFlight.{InFlight}
@@ -32,7 +32,7 @@ use Rattle.congee.proofs.Laws.{both_true}
 
 -- what a worker asked for agrees with its call however it is watched
 module _ {V : Type 0} where
-  scan_asked : (o : Option (Request V)) (s : Scan Id V) (f : Flight V) → ScanFollows s f → IsAsked o f
+  scan_asked : (o : Option (Request V)) (s : ScanState Id V) (f : Flight V) → ScanFollows s f → IsAsked o f
   scan_asked o s f (inl x) = subst (λ (y : Flight V). IsAsked o y) (sym x.0) tt
   scan_asked o s f (inr (inl x)) = subst (λ (y : Flight V). IsAsked o y) (sym x.0) tt
   scan_asked o s f (inr (inr x)) = subst (λ (y : Flight V). IsAsked o y) (sym x.2) tt

@@ -33,7 +33,7 @@ use Rattle.congee.specs.declared.protocol.phase.Phase.{Phase}
 use Rattle.congee.specs.declared.protocol.phase.Phase.TheVariants.{Ended}
 use Rattle.congee.specs.declared.protocol.store.Refusal.TheVariants as cause
 use Rattle.congee.specs.protocol.Answers.{SameMap}
-use Rattle.congee.specs.protocol.Sweeps.{IsScan}
+use Rattle.congee.specs.protocol.Scans.{IsScan}
 use Rattle.congee.specs.Heap.{Node}
 use Rattle.congee.specs.Keys.{IsMapOf, key_bytes}
 use Rattle.congee.specs.protocol.Play.{Flight, Pending, Decided, Over, Unbegun, Scanning, Question, Unasked, value_answered, resolved, begun, parts, flight, Follows, Following, Watched, WatchedAt, PendingMoves}

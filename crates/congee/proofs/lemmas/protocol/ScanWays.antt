@@ -6,14 +6,14 @@ use Rattle.std.specs.FinMap.{FinMap}
 use Rattle.std.proofs.lemmas.Grind.{take-set_at}
 use Rattle.std.proofs.lemmas.List.{length-take-le}
 use Rattle.congee.specs.declared.protocol.store.Region.{Region}
-use Rattle.congee.specs.declared.protocol.sweep.Rung.{Rung}
-use Rattle.congee.specs.declared.protocol.sweep.Path.{Path}
+use Rattle.congee.specs.declared.protocol.scan.Rung.{Rung}
+use Rattle.congee.specs.declared.protocol.scan.Path.{Path}
 use Rattle.congee.specs.Heap.{Node}
 use Rattle.congee.specs.Notes.{Note}
-use Rattle.congee.specs.protocol.SweepSteps.{slots, put_rung, rungs_of, pushed, popped, cleared, last_of, sweep_at}
-use Rattle.congee.specs.protocol.SweepKnown.{RungKnown, RungsKnown, Gap, Gaps, IsWay, WayKnown}
-use Rattle.congee.specs.declared.protocol.sweep.Sweep.{Sweep}
-use Rattle.congee.specs.declared.protocol.sweep.Stage.{Stage}
+use Rattle.congee.specs.protocol.ScanSteps.{slots, put_rung, rungs_of, pushed, popped, cleared, last_of, scan_at}
+use Rattle.congee.specs.protocol.ScanKnown.{RungKnown, RungsKnown, Gap, Gaps, IsWay, WayKnown}
+use Rattle.congee.specs.declared.protocol.scan.ScanState.{ScanState}
+use Rattle.congee.specs.declared.protocol.scan.Stage.{Stage}
 use Rattle.congee.proofs.lemmas.Fits.{other_test}
 
 take_last : {A : Type 0} (xs : List A) (j : ℕ) → j < length xs → (x : A) × (slice_get xs j ≡ Some x) × (take (suc j) xs ≡ take j xs ++ x ∷ [])
@@ -118,5 +118,5 @@ module _ {C V : Type 0} (number : C → ℕ) (a : ℕ → Note) (h : ℕ → Nod
   rungs_shorter above (q ∷ rest) r k = let g = rungs_shorter (suc above) rest r k.1 in ((k.0, g.0), (let e : suc above + length rest ≡ above + length (q ∷ rest) = omega arith in subst (λ n. RungKnown number a h end n r) e g.1))
 
 -- what is known of a scan's way says nothing of its next stage
-pub way_at : {C V : Type 0} (number : C → ℕ) (a : ℕ → Note) (h : ℕ → Node V) (s : Sweep C V) (x : Stage C V) → WayKnown number a h s → WayKnown number a h (sweep_at s s.count s.above x)
+pub way_at : {C V : Type 0} (number : C → ℕ) (a : ℕ → Note) (h : ℕ → Node V) (s : ScanState C V) (x : Stage C V) → WayKnown number a h s → WayKnown number a h (scan_at s s.count s.above x)
 way_at number a h s x k = record { range = k.range; bound = k.bound; room = k.room; fits = k.fits; rungs = k.rungs }

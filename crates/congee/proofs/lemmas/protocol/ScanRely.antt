@@ -1,16 +1,16 @@
 -- The steps of others keep what a scan knows.
 use Rattle.std.proofs.Common.{◌≡◌, ℕ, suc, Bool, true, List, [], ◌∷◌, sym, subst}
 use Rattle.congee.specs.declared.protocol.store.Region.{Region}
-use Rattle.congee.specs.declared.protocol.sweep.Rung.{Rung}
-use Rattle.congee.specs.declared.protocol.sweep.Stage.{Stage}
-use Rattle.congee.specs.declared.protocol.sweep.Stage.TheVariants as stage
-use Rattle.congee.specs.declared.protocol.sweep.Sweep.{Sweep}
+use Rattle.congee.specs.declared.protocol.scan.Rung.{Rung}
+use Rattle.congee.specs.declared.protocol.scan.Stage.{Stage}
+use Rattle.congee.specs.declared.protocol.scan.Stage.TheVariants as stage
+use Rattle.congee.specs.declared.protocol.scan.ScanState.{ScanState}
 use Rattle.congee.specs.Heap.{Node}
 use Rattle.congee.specs.Notes.{Note, is_published}
 use Rattle.congee.specs.protocol.Protocol.{Rely}
 use Rattle.congee.specs.protocol.Regions.{IsRegion}
-use Rattle.congee.specs.protocol.SweepSteps.{rungs_of}
-use Rattle.congee.specs.protocol.SweepKnown.{RungKnown, RungsKnown, WayKnown, SweepKnownAt, SweepKnown, names_rungs, names_sweep_at, names_sweep}
+use Rattle.congee.specs.protocol.ScanSteps.{rungs_of}
+use Rattle.congee.specs.protocol.ScanKnown.{RungKnown, RungsKnown, WayKnown, ScanKnownAt, ScanKnown, names_rungs, names_scan_at, names_scan}
 use Rattle.congee.proofs.lemmas.protocol.Each.{Each}
 use Rattle.congee.proofs.lemmas.protocol.Stamps.{stamped_kept, fresh_kept}
 
@@ -31,10 +31,10 @@ module _ {C V : Type 0} (number : C → ℕ) (always : Bool) (K : ℕ → Type 0
   rungs_kept last above [] k g = tt
   rungs_kept last above (x ∷ xs) k g = (rung_kept last above x k.0 g.0, rungs_kept last (suc above) xs k.1 g.1)
 
-  way_kept : (s : Sweep C V) → Each K (names_rungs number (rungs_of s.above)) → WayKnown number a h s → WayKnown number a' h' s
+  way_kept : (s : ScanState C V) → Each K (names_rungs number (rungs_of s.above)) → WayKnown number a h s → WayKnown number a' h' s
   way_kept s k g = record { range = g.range; bound = g.bound; room = g.room; fits = g.fits; rungs = rungs_kept s.last 0 (rungs_of s.above) k g.rungs }
 
-  kept_at : (s : Sweep C V) (x : Stage C V) → Each K (names_sweep_at number s x) → SweepKnownAt number always a h s x → SweepKnownAt number always a' h' s x
+  kept_at : (s : ScanState C V) (x : Stage C V) → Each K (names_scan_at number s x) → ScanKnownAt number always a h s x → ScanKnownAt number always a' h' s x
   kept_at s stage.New k g = g
   kept_at s (stage.Enter n x) k g = (way_kept s k.1 g.0, r.published (number n) k.0 g.1, region_kept (number n) x k.0 g.1 g.2, g.3)
   kept_at s (stage.Look x) k g = (way_kept s k.1 g.0, rung_kept s.last s.above.len x k.0 g.1)
@@ -43,5 +43,5 @@ module _ {C V : Type 0} (number : C → ℕ) (always : Bool) (K : ℕ → Type 0
   kept_at s stage.Over k g = tt
 
   -- what a scan knows stays known over the steps of others, where they may count on the nodes that it names
-  pub sweep_known_kept : (s : Sweep C V) → Each K (names_sweep number s) → SweepKnown number always a h s → SweepKnown number always a' h' s
-  sweep_known_kept s k g = kept_at s s.stage k g
+  pub scan_known_kept : (s : ScanState C V) → Each K (names_scan number s) → ScanKnown number always a h s → ScanKnown number always a' h' s
+  scan_known_kept s k g = kept_at s s.stage k g

@@ -6,22 +6,22 @@ use Rattle.std.proofs.lemmas.Bool.{cases_lt}
 use Rattle.congee.specs.declared.protocol.store.Region.{Region}
 use Rattle.congee.specs.declared.protocol.store.Least.{Least}
 use Rattle.congee.specs.declared.protocol.store.Least.TheVariants as least
-use Rattle.congee.specs.declared.protocol.sweep.Rung.{Rung}
-use Rattle.congee.specs.declared.protocol.sweep.Stage.{Stage}
-use Rattle.congee.specs.declared.protocol.sweep.Stage.TheVariants as stage
-use Rattle.congee.specs.declared.protocol.sweep.Sweep.{Sweep}
-use Rattle.congee.specs.declared.protocol.sweep.ScanReport.TheVariants as told
+use Rattle.congee.specs.declared.protocol.scan.Rung.{Rung}
+use Rattle.congee.specs.declared.protocol.scan.Stage.{Stage}
+use Rattle.congee.specs.declared.protocol.scan.Stage.TheVariants as stage
+use Rattle.congee.specs.declared.protocol.scan.ScanState.{ScanState}
+use Rattle.congee.specs.declared.protocol.scan.ScanReport.TheVariants as told
 use Rattle.congee.specs.Heap.{Node, Hung, Nothing, Below, Holds, version_of, is_taken, is_free}
 use Rattle.congee.specs.Notes.{Note, Linked, Tree, LockWords}
-use Rattle.congee.specs.protocol.SweepEvents.{LeastTruly, IsAny}
-use Rattle.congee.specs.protocol.SweepSteps.{whole, is_outside, first_byte, last_byte, rungs_of, pushed, popped, cleared, moved, sweep_at, Swung, goes, over, anew, left_to, left, entered, filled, IsFollowed, SweptAt}
-use Rattle.congee.specs.protocol.SweepKnown.{SweepKnownAt}
+use Rattle.congee.specs.protocol.ScanEvents.{LeastTruly, IsAny}
+use Rattle.congee.specs.protocol.ScanSteps.{whole, is_outside, first_byte, last_byte, rungs_of, pushed, popped, cleared, moved, scan_at, NextScan, goes, over, anew, left_to, left, entered, filled, IsFollowed, ScanSteppedAt}
+use Rattle.congee.specs.protocol.ScanKnown.{ScanKnownAt}
 use Rattle.congee.specs.protocol.Steps.{outcome_of}
 use Rattle.congee.specs.protocol.Trace.{goes_on}
-use Rattle.congee.specs.protocol.Alone.{stamps_rungs, stamps_scan, AreTaken, IsFreeAt, sum_from, nodes_at, pairs_at, nodes_under, pairs_under, steps_at, steps_under, steps_way, steps_found, steps_sweep}
+use Rattle.congee.specs.protocol.Alone.{stamps_rungs, stamps_scan, AreTaken, IsFreeAt, sum_from, nodes_at, pairs_at, nodes_under, pairs_under, steps_at, steps_under, steps_way, steps_found, steps_scan}
 use Rattle.congee.proofs.lemmas.protocol.Touch.{by_test, taken_linked}
-use Rattle.congee.proofs.lemmas.protocol.SweepBytes.{low_yes, low_no}
-use Rattle.congee.proofs.lemmas.protocol.SweepWays.{path_pushed, path_empty, path_last, path_count}
+use Rattle.congee.proofs.lemmas.protocol.ScanBytes.{low_yes, low_no}
+use Rattle.congee.proofs.lemmas.protocol.ScanWays.{path_pushed, path_empty, path_last, path_count}
 use Rattle.congee.proofs.lemmas.protocol.AlonePoints.{version_free, taken_now}
 
 module _ (g : ℕ → ℕ) where
@@ -146,13 +146,13 @@ module _ {C V : Type 0} (number : C → ℕ) (h : ℕ → Node V) where
 
   module _ (n : ℕ) where
     -- a scan that has fewer than n steps left, and tells its end
-    abbrev NearScan : Swung C V → Type 0
-    NearScan u = (AreTaken number h (stamps_scan u.0 u.0.stage) × IsFreeAt number h u.0.stage) × (steps_sweep number h u.0 u.0.stage < n) × (u.0.stage ≡ stage.Over → goes_on (outcome_of u.1) ≡ false)
+    abbrev NearScan : NextScan C V → Type 0
+    NearScan u = (AreTaken number h (stamps_scan u.0 u.0.stage) × IsFreeAt number h u.0.stage) × (steps_scan number h u.0 u.0.stage < n) × (u.0.stage ≡ stage.Over → goes_on (outcome_of u.1) ≡ false)
 
-    scan_to : (x y : Swung C V) → y ≡ x → NearScan x → NearScan y
+    scan_to : (x y : NextScan C V) → y ≡ x → NearScan x → NearScan y
     scan_to x y p f = subst NearScan (sym p) f
 
-    lefts : (s : Sweep C V) → s.above.len ≤ 8 → AreTaken number h (stamps_rungs (rungs_of s.above)) → steps_way number h 8 (rungs_of s.above) < n → NearScan (left s)
+    lefts : (s : ScanState C V) → s.above.len ≤ 8 → AreTaken number h (stamps_rungs (rungs_of s.above)) → steps_way number h 8 (rungs_of s.above) < n → NearScan (left s)
     lefts s fits t l = elim (path_last s.above fits) [
       | inl e ↦ scan_to (over s (told.Done s.count)) (left s) (ap (left_to s) e.0) ((tt, tt), omega (arith, l), λ _. refl)
       | inr e ↦ (
@@ -167,16 +167,16 @@ module _ {C V : Type 0} (number : C → ℕ) (h : ℕ → Node V) where
           scan_to (goes s (popped s.above) (stage.Look r)) (left s) (ap (left_to s) e.1) ((taken_fewer (rungs_of (popped s.above)) r (subst T e.2 t), tt), omega (arith, w, more, u), λ q. absurd (cc q)))
     ]
 
-    enters : (root : C) (s : Sweep C V) (c : C) (x : Region) → is_free (h (number c)) ≡ true → s.above.len ≤ 8 → AreTaken number h (stamps_rungs (rungs_of s.above))
+    enters : (root : C) (s : ScanState C V) (c : C) (x : Region) → is_free (h (number c)) ≡ true → s.above.len ≤ 8 → AreTaken number h (stamps_rungs (rungs_of s.above))
         → steps_under h (8 - s.above.len) (number c) 0 + steps_way number h 8 (rungs_of s.above) < n → NearScan (entered root s c x (version_of (h (number c))))
     enters root s c x free fits t l =
         scan_to (entered root s c x (Some (h (number c)).version)) (entered root s c x (version_of (h (number c)))) (ap (entered root s c x) (version_free (h (number c)) free))
-        (by_test (λ (z : Swung C V). NearScan z) (is_outside s.start s.last x) _ _ (λ _. lefts s fits t (omega (arith, l)))
+        (by_test (λ (z : NextScan C V). NearScan z) (is_outside s.start s.last x) _ _ (λ _. lefts s fits t (omega (arith, l)))
         (λ _. (((taken_now (h (number c)) free, t), tt), (let u = under_less h (8 - s.above.len) (number c) (first_byte s.start x) in omega (arith, l, u)), λ q. absurd (cc q))))
 
-    fills : (s : Sweep C V) (r : Rung C) (byte : ℕ) (v : V) → is_taken (h (number r.at.node)) r.at.version ≡ true → AreTaken number h (stamps_rungs (rungs_of s.above)) → 1 < n
+    fills : (s : ScanState C V) (r : Rung C) (byte : ℕ) (v : V) → is_taken (h (number r.at.node)) r.at.version ≡ true → AreTaken number h (stamps_rungs (rungs_of s.above)) → 1 < n
         → steps_under h (8 - s.above.len) (number r.at.node) (byte + 1) + steps_way number h 8 (rungs_of s.above) < n → NearScan (filled s r byte v)
-    fills s r byte v taken t one l = by_test (λ (z : Stage C V). NearScan (sweep_at s (s.count + 1) s.above z, told.Found s.count (r.region.base + byte) v)) (s.count + 1 == s.size) _ _ (λ _. ((tt, tt), one, λ q. absurd (cc q))) (λ _. (((taken, t), tt), l, λ q. absurd (cc q)))
+    fills s r byte v taken t one l = by_test (λ (z : Stage C V). NearScan (scan_at s (s.count + 1) s.above z, told.Found s.count (r.region.base + byte) v)) (s.count + 1 == s.size) _ _ (λ _. ((tt, tt), one, λ q. absurd (cc q))) (λ _. (((taken, t), tt), l, λ q. absurd (cc q)))
 
 module _ {C V : Type 0} (number : C → ℕ) (always : Bool) (a : ℕ → Note) (h : ℕ → Node V) (tr : Tree a h) (w : LockWords a h) (root : C) (z : number root ≡ 0)
     (free : (n : ℕ) → (a n).status ≡ Linked → is_free (h n) ≡ true) where
@@ -186,7 +186,7 @@ module _ {C V : Type 0} (number : C → ℕ) (always : Bool) (a : ℕ → Note) 
   found_fewer f r (least.Value byte v) last p any truly = let t = at_value h f (number r.at.node) r.from byte v p any truly.past truly.here truly.before in omega (arith, t)
   found_fewer f r least.Uncopied last p any truly = let t = under_two h f (number r.at.node) r.from p in omega (arith, t)
 
-  follows : (s : Sweep C V) (r : Rung C) (x : Least C V) (u : Swung C V) → s.above.len < 8 → AreTaken number h (r.at ∷ stamps_rungs (rungs_of s.above)) → (a (number r.at.node)).status ≡ Linked
+  follows : (s : ScanState C V) (r : Rung C) (x : Least C V) (u : NextScan C V) → s.above.len < 8 → AreTaken number h (r.at ∷ stamps_rungs (rungs_of s.above)) → (a (number r.at.node)).status ≡ Linked
       → LeastTruly number (h (number r.at.node)) r.from (last_byte s.last r.region) x → IsFollowed number h s r x u → NearScan number h (steps_found number h (8 - s.above.len) r x + steps_way number h 8 (rungs_of s.above)) u
   follows s r least.Nothing u short t l truly e = scan_to number h _ _ u e (lefts number h _ s (omega (arith, short)) t.1 (omega arith))
   follows s r (least.Node byte c) u short t l truly e =
@@ -209,16 +209,16 @@ module _ {C V : Type 0} (number : C → ℕ) (always : Bool) (a : ℕ → Note) 
   follows s r least.Uncopied u short t l truly e = scan_to number h _ _ u e ((tt, tt), omega arith, λ _. refl)
 
   -- a scan that nobody disturbs has fewer steps left after a step, and tells its end
-  pub scans_on : (s : Sweep C V) (x : Stage C V) (u : Swung C V) → SweepKnownAt number always a h s x → AreTaken number h (stamps_scan s x) → IsFreeAt number h x → (x ≡ stage.Over → ⊥) → SweptAt number always root s x h u
-      → NearScan number h (steps_sweep number h s x) u
+  pub scans_on : (s : ScanState C V) (x : Stage C V) (u : NextScan C V) → ScanKnownAt number always a h s x → AreTaken number h (stamps_scan s x) → IsFreeAt number h x → (x ≡ stage.Over → ⊥) → ScanSteppedAt number always root s x h u
+      → NearScan number h (steps_scan number h s x) u
   scans_on s stage.New u k t f ne e =
       let o : Option ℕ = version_of (h (number root)) in
-      let cl : Sweep C V = (anew root s).0 in
+      let cl : ScanState C V = (anew root s).0 in
       let T : List (Rung C) → Type 0 = λ xs. AreTaken number h (stamps_rungs xs) in
       let none : steps_way number h 8 (rungs_of (cleared s.above)) ≡ 0 = ap (steps_way number h 8) (path_empty s.above) in
       let top : steps_under h 8 (number root) 0 ≡ steps_under h 8 0 0 = ap (λ y. steps_under h 8 y 0) z in
       let at_root : (a (number root)).status ≡ Linked = (let P : ℕ → Type 0 = λ y. (a y).status ≡ Linked in subst P (sym z) tr.root) in
-      scan_to number h _ _ u e (by_test (λ (y : Swung C V). NearScan number h (1 + steps_under h 8 0 0) y) (s.size == 0) _ _ (λ _. ((tt, tt), omega arith, λ _. refl))
+      scan_to number h _ _ u e (by_test (λ (y : NextScan C V). NearScan number h (1 + steps_under h 8 0 0) y) (s.size == 0) _ _ (λ _. ((tt, tt), omega arith, λ _. refl))
       (λ _. enters number h _ root cl root whole (free (number root) at_root) (omega arith) (subst T (sym (path_empty s.above)) tt) (omega (arith, none, top))))
   scans_on s (stage.Enter n x) u k t f ne e = scan_to number h _ _ u e (enters number h _ root s n x f k.0.fits t (omega arith))
   scans_on s (stage.Look r) u k t f ne e =

@@ -41,7 +41,7 @@ pub record IsScan {V : Type 0} (start end size : ℕ) (states : List (FinMap nat
 
 -- a scan under way, which has settled the keys below a number: those that it found are below it, and each other key of
 -- the range below it was lacking in one of the maps
-pub record Swept {V : Type 0} (start end size upto : ℕ) (states : List (FinMap nat_cmp V)) (found : List (ℕ × V)) : Type 0 where
+pub record ScannedTo {V : Type 0} (start end size upto : ℕ) (states : List (FinMap nat_cmp V)) (found : List (ℕ × V)) : Type 0 where
   pub rises : Rises found
   pub few : length found ≤ size
   pub within : AllKeys (λ k. (start ≤ k) × (k < end)) found

@@ -5,7 +5,7 @@ use Rattle.std.specs.FinMap.{FinMap, get}
 use Rattle.std.proofs.lemmas.Bool.{cases_lt}
 use Rattle.std.proofs.lemmas.List.{length-append}
 use Rattle.congee.specs.forms.Places.{AllKeys, Rises}
-use Rattle.congee.specs.protocol.Sweeps.{HasKey, Stood, AllStood, Lacked, Throughout, IsScan, Swept, written}
+use Rattle.congee.specs.protocol.Scans.{HasKey, Stood, AllStood, Lacked, Throughout, IsScan, ScannedTo, written}
 use Rattle.congee.proofs.lemmas.forms.EntryLemmas.{AllKeys-map}
 
 module _ {V : Type 0} where
@@ -43,8 +43,8 @@ module _ {V : Type 0} where
 
 module _ {V : Type 0} (start end size : ℕ) where
   -- before the first key
-  pub sweep_none : (upto : ℕ) (states : List (FinMap nat_cmp V)) → upto ≤ start → Swept start end size upto states []
-  sweep_none upto states l = record {
+  pub scan_none : (upto : ℕ) (states : List (FinMap nat_cmp V)) → upto ≤ start → ScannedTo start end size upto states []
+  scan_none upto states l = record {
     rises = tt;
     few = omega arith;
     within = tt;
@@ -54,8 +54,8 @@ module _ {V : Type 0} (start end size : ℕ) where
   }
 
   -- one more map stands
-  pub sweep_later : (upto : ℕ) (m : FinMap nat_cmp V) (states : List (FinMap nat_cmp V)) (found : List (ℕ × V)) → Swept start end size upto states found → Swept start end size upto (m ∷ states) found
-  sweep_later upto m states found s = record {
+  pub scan_later : (upto : ℕ) (m : FinMap nat_cmp V) (states : List (FinMap nat_cmp V)) (found : List (ℕ × V)) → ScannedTo start end size upto states found → ScannedTo start end size upto (m ∷ states) found
+  scan_later upto m states found s = record {
     rises = s.rises;
     few = s.few;
     within = s.within;
@@ -65,9 +65,9 @@ module _ {V : Type 0} (start end size : ℕ) where
   }
 
   -- the keys from there to here were lacking
-  pub sweep_on : (upto to : ℕ) (states : List (FinMap nat_cmp V)) (found : List (ℕ × V)) → upto ≤ to → ((k : ℕ) → start ≤ k → k < end → upto ≤ k → k < to → Lacked states k)
-      → Swept start end size upto states found → Swept start end size to states found
-  sweep_on upto to states found l gap s = record {
+  pub scan_on : (upto to : ℕ) (states : List (FinMap nat_cmp V)) (found : List (ℕ × V)) → upto ≤ to → ((k : ℕ) → start ≤ k → k < end → upto ≤ k → k < to → Lacked states k)
+      → ScannedTo start end size upto states found → ScannedTo start end size to states found
+  scan_on upto to states found l gap s = record {
     rises = s.rises;
     few = s.few;
     within = s.within;
@@ -77,9 +77,9 @@ module _ {V : Type 0} (start end size : ℕ) where
   }
 
   -- a pair is found
-  pub sweep_found : (upto k : ℕ) (v : V) (states : List (FinMap nat_cmp V)) (found : List (ℕ × V)) → start ≤ k → k < end → upto ≤ k → length found < size → Stood states k v
-      → ((q : ℕ) → start ≤ q → q < end → upto ≤ q → q < k → Lacked states q) → Swept start end size upto states found → Swept start end size (k + 1) states (found ++ (k, v) ∷ [])
-  sweep_found upto k v states found lo hi past room stands gap s = record {
+  pub scan_found : (upto k : ℕ) (v : V) (states : List (FinMap nat_cmp V)) (found : List (ℕ × V)) → start ≤ k → k < end → upto ≤ k → length found < size → Stood states k v
+      → ((q : ℕ) → start ≤ q → q < end → upto ≤ q → q < k → Lacked states q) → ScannedTo start end size upto states found → ScannedTo start end size (k + 1) states (found ++ (k, v) ∷ [])
+  scan_found upto k v states found lo hi past room stands gap s = record {
     rises = rises_more found k v s.rises (AllKeys-map (λ q. q < upto) (λ q. q < k) (λ q b. omega (arith, b, past)) found s.below);
     few = let e = length-append found ((k, v) ∷ []) in omega (arith, e, room);
     within = keys_one_more (λ q. (start ≤ q) × (q < end)) found k v s.within (lo, hi);
@@ -95,8 +95,8 @@ module _ {V : Type 0} (start end size : ℕ) where
   }
 
   -- the range is at its end
-  pub sweep_ends : (upto : ℕ) (states : List (FinMap nat_cmp V)) (found : List (ℕ × V)) → end ≤ upto → Swept start end size upto states found → IsScan start end size states found
-  sweep_ends upto states found l s = record {
+  pub scan_ends : (upto : ℕ) (states : List (FinMap nat_cmp V)) (found : List (ℕ × V)) → end ≤ upto → ScannedTo start end size upto states found → IsScan start end size states found
+  scan_ends upto states found l s = record {
     rises = s.rises;
     few = s.few;
     within = s.within;
@@ -105,8 +105,8 @@ module _ {V : Type 0} (start end size : ℕ) where
   }
 
   -- every place is taken
-  pub sweep_full : (upto : ℕ) (states : List (FinMap nat_cmp V)) (found : List (ℕ × V)) → length found ≡ size → Swept start end size upto states found → IsScan start end size states found
-  sweep_full upto states found full s = record {
+  pub scan_full : (upto : ℕ) (states : List (FinMap nat_cmp V)) (found : List (ℕ × V)) → length found ≡ size → ScannedTo start end size upto states found → IsScan start end size states found
+  scan_full upto states found full s = record {
     rises = s.rises;
     few = s.few;
     within = s.within;

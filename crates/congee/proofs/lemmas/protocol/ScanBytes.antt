@@ -7,7 +7,7 @@ use Rattle.std.proofs.lemmas.Bool.Decides.{nat_tests}
 use Rattle.std.proofs.Math.Nat.{mul-le-mul_right}
 use Rattle.congee.specs.declared.protocol.store.Region.{Region}
 use Rattle.congee.specs.protocol.Regions.{span, IsRegion, start_at}
-use Rattle.congee.specs.protocol.SweepSteps.{width, is_outside, first_byte, last_byte}
+use Rattle.congee.specs.protocol.ScanSteps.{width, is_outside, first_byte, last_byte}
 use Rattle.congee.proofs.lemmas.protocol.Regions.{span_pos, span_step, multiple_bounds, between_one, multiple}
 
 -- the least test, and its cases

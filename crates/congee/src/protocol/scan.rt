@@ -2,8 +2,8 @@
 ghost use Rattle.std.specs.Prelude.{◌≡◌, ◌+◌, ◌*◌, ◌-◌, ◌<◌, ◌≤◌, ◌==◌, length, true, cond};
 ghost use Rattle.congee.specs.Heap.{Stands, is_taken, version_of};
 ghost use Rattle.congee.specs.protocol.Regions.{IsRegion};
-ghost use Rattle.congee.specs.declared.protocol.sweep.Stage.TheVariants as stage;
-ghost use Rattle.congee.specs.protocol.SweepSteps.{whole, is_outside, first_byte, last_byte, pushed, popped, last_of, moved, goes, over, anew, left, entered, filled, begins, new_sweep, IsFollowed, IsFollowedIf, SweepStepped, MayFollow, MaySweep};
+ghost use Rattle.congee.specs.declared.protocol.scan.Stage.TheVariants as stage;
+ghost use Rattle.congee.specs.protocol.ScanSteps.{whole, is_outside, first_byte, last_byte, pushed, popped, last_of, moved, goes, over, anew, left, entered, filled, begins, new_scan, IsFollowed, IsFollowedIf, ScanStepped, MayFollow, MayScan};
 
 use crate::forms::prefix::MAX_PREFIX_LEN;
 use crate::keys::KEY_BYTES;
@@ -78,7 +78,7 @@ pub enum ScanReport<P> {
 /// A scan of the keys from `start` to `last`, into so many places at most. One that has no place can have any two numbers
 /// for its range.
 #[derive(Drop)]
-pub struct Sweep<C: NodeName, P> {
+pub struct ScanState<C: NodeName, P> {
     /// The least key.
     pub start: u64,
     /// The greatest key of the range.
@@ -210,10 +210,10 @@ impl<C: NodeName> Rung<C> {
     }
 }
 
-impl<C: NodeName, P> Sweep<C, P> {
+impl<C: NodeName, P> ScanState<C, P> {
     /// A scan before its begin.
     pub(crate) fn new(root: C, start: u64, last: u64, size: usize) -> Self
-        ensures { result ≡ new_sweep root start last size }
+        ensures { result ≡ new_scan root start last size }
     {
         let first = Rung {
             at: Stamp {
@@ -223,7 +223,7 @@ impl<C: NodeName, P> Sweep<C, P> {
             region: Region::whole(),
             from: 0,
         };
-        Sweep {
+        ScanState {
             start,
             last,
             size,
@@ -244,7 +244,7 @@ impl<C: NodeName, P> Sweep<C, P> {
     }
 }
 
-impl<C: NodeName, P: Payload> Sweep<C, P> {
+impl<C: NodeName, P: Payload> ScanState<C, P> {
     /// The next step, which changes the scan where it lies.
     pub(crate) fn step<S: Store<C, P>>(
         &mut self,
@@ -252,8 +252,8 @@ impl<C: NodeName, P: Payload> Sweep<C, P> {
         root: C,
         seen: &mut Option<Seen<C, P>>,
     ) -> ScanReport<P>
-        requires { MaySweep C.number root self.old (S.heap store.now) }
-        ensures { SweepStepped C.number P.always_copies root self.old (S.heap store.now) self.new result }
+        requires { MayScan C.number root self.old (S.heap store.now) }
+        ensures { ScanStepped C.number P.always_copies root self.old (S.heap store.now) self.new result }
     {
         match &mut self.stage {
             Stage::New => self.begin(store, root),

@@ -5,12 +5,12 @@ use Rattle.std.proofs.lemmas.Bool.{cases_lt, le-leb, lt-leb}
 use Rattle.judge.specs.Answer.{Pairs}
 use Rattle.congee.specs.declared.protocol.op.Op.{Op}
 use Rattle.congee.specs.declared.protocol.op.Op.TheVariants as op
-use Rattle.congee.specs.declared.protocol.sweep.Sweep.{Sweep as Scan}
+use Rattle.congee.specs.declared.protocol.scan.ScanState.{ScanState as ScanState}
 use Rattle.congee.specs.protocol.Play.{Flight, Unbegun, IsScanOf, IsOfRange, range_of, begun, flight}
-use Rattle.congee.specs.protocol.Sweeps.{IsScan}
-use Rattle.congee.specs.protocol.SweepSteps.{new_sweep}
-use Rattle.congee.specs.protocol.SweepKnown.{HasRange}
-use Rattle.congee.proofs.lemmas.protocol.SweepBytes.{low_yes, low_no}
+use Rattle.congee.specs.protocol.Scans.{IsScan}
+use Rattle.congee.specs.protocol.ScanSteps.{new_scan}
+use Rattle.congee.specs.protocol.ScanKnown.{HasRange}
+use Rattle.congee.proofs.lemmas.protocol.ScanBytes.{low_yes, low_no}
 
 -- the places of a scan, by whether its range has a key
 all_places : (start last size : ℕ) → start ≤ last → cond (leb start last) size 0 ≡ size
@@ -39,7 +39,7 @@ module _ {V : Type 0} where
 
 module _ {C V : Type 0} where
   -- a scan's range has a key where there is a place
-  pub range_before : (s : Scan C V) (root : C) (start end size : ℕ) → s ≡ new_sweep root start (end - 1) (cond (ltb start end) size 0) → end < 2 ^ 64 → HasRange s
+  pub range_before : (s : ScanState C V) (root : C) (start end size : ℕ) → s ≡ new_scan root start (end - 1) (cond (ltb start end) size 0) → end < 2 ^ 64 → HasRange s
   range_before s root start end size e b = subst (λ x. HasRange x) (sym e) (record {
     bound = omega (arith, b);
     range = λ p. elim (cases_lt start end) [
@@ -49,7 +49,7 @@ module _ {C V : Type 0} where
   })
 
   -- a scan that has no place where its start is past its last key has a range
-  pub range_through : (s : Scan C V) (root : C) (start last size : ℕ) → s ≡ new_sweep root start last (cond (leb start last) size 0) → last < 2 ^ 64 → HasRange s
+  pub range_through : (s : ScanState C V) (root : C) (start last size : ℕ) → s ≡ new_scan root start last (cond (leb start last) size 0) → last < 2 ^ 64 → HasRange s
   range_through s root start last size e b = subst (λ x. HasRange x) (sym e) (record {
     bound = b;
     range = λ p. elim (cases_lt last start) [

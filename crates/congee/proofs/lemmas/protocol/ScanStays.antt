@@ -6,36 +6,36 @@ use Rattle.congee.specs.declared.protocol.store.Region.{Region}
 use Rattle.congee.specs.declared.protocol.store.Least.{Least}
 use Rattle.congee.specs.declared.protocol.store.Least.TheVariants as least
 use Rattle.congee.specs.declared.protocol.store.Refusal.TheVariants as refusal
-use Rattle.congee.specs.declared.protocol.sweep.Rung.{Rung}
-use Rattle.congee.specs.declared.protocol.sweep.Stage.{Stage}
-use Rattle.congee.specs.declared.protocol.sweep.Stage.TheVariants as stage
-use Rattle.congee.specs.declared.protocol.sweep.Sweep.{Sweep}
-use Rattle.congee.specs.declared.protocol.sweep.ScanReport.TheVariants as told
+use Rattle.congee.specs.declared.protocol.scan.Rung.{Rung}
+use Rattle.congee.specs.declared.protocol.scan.Stage.{Stage}
+use Rattle.congee.specs.declared.protocol.scan.Stage.TheVariants as stage
+use Rattle.congee.specs.declared.protocol.scan.ScanState.{ScanState}
+use Rattle.congee.specs.declared.protocol.scan.ScanReport.TheVariants as told
 use Rattle.congee.specs.Heap.{Node, version_of, is_taken, is_free}
 use Rattle.congee.specs.Notes.{Note, Linked, is_published, Tree, LockWords}
 use Rattle.congee.specs.protocol.Regions.{IsRegion}
-use Rattle.congee.specs.protocol.SweepEvents.{LeastTruly, IsAny}
-use Rattle.congee.specs.protocol.SweepSteps.{whole, is_outside, first_byte, last_byte, rungs_of, pushed, popped, moved, sweep_at, Swung, goes, over, anew, left_to, left, entered, filled, IsFollowed, begins, SweptAt}
-use Rattle.congee.specs.protocol.SweepKnown.{RungKnown, RungsKnown, WayKnown, SweepKnownAt, SweepKnown}
+use Rattle.congee.specs.protocol.ScanEvents.{LeastTruly, IsAny}
+use Rattle.congee.specs.protocol.ScanSteps.{whole, is_outside, first_byte, last_byte, rungs_of, pushed, popped, moved, scan_at, NextScan, goes, over, anew, left_to, left, entered, filled, IsFollowed, begins, ScanSteppedAt}
+use Rattle.congee.specs.protocol.ScanKnown.{RungKnown, RungsKnown, WayKnown, ScanKnownAt, ScanKnown}
 use Rattle.congee.proofs.lemmas.Fits.{same_test}
 use Rattle.congee.proofs.lemmas.Graft.{on_test}
 use Rattle.congee.proofs.lemmas.protocol.Touch.{taken_linked}
-use Rattle.congee.proofs.lemmas.protocol.SweepBytes.{is_some, inside_last, first_small}
-use Rattle.congee.proofs.lemmas.protocol.SweepWays.{pick_false, pick_true, path_pushed, path_empty, path_last, path_count, rungs_longer, rungs_shorter, way_at}
-use Rattle.congee.proofs.lemmas.protocol.SweepKept.{child_deeper}
+use Rattle.congee.proofs.lemmas.protocol.ScanBytes.{is_some, inside_last, first_small}
+use Rattle.congee.proofs.lemmas.protocol.ScanWays.{pick_false, pick_true, path_pushed, path_empty, path_last, path_count, rungs_longer, rungs_shorter, way_at}
+use Rattle.congee.proofs.lemmas.protocol.ScanKept.{child_deeper}
 
 -- numbers that fail the test of equality differ
 pub differ_of_test : (x y : ℕ) → (x == y) ≡ false → x ≢ y
 differ_of_test x y f e = let t : (x == y) ≡ true = same_test x y e in let z : true ≡ false = sym t ∙ f in absurd cc
 
 module _ {C V : Type 0} (number : C → ℕ) (always : Bool) (a : ℕ → Note) (h : ℕ → Node V) (t : Tree a h) (w : LockWords a h) (root : C) (z : number root ≡ 0) where
-  abbrev Stays : Swung C V → Type 0
-  Stays u = SweepKnown number always a h u.0
+  abbrev Stays : NextScan C V → Type 0
+  Stays u = ScanKnown number always a h u.0
 
-  stays_as : (u v : Swung C V) → v ≡ u → Stays u → Stays v
+  stays_as : (u v : NextScan C V) → v ≡ u → Stays u → Stays v
   stays_as u v e o = subst Stays (sym e) o
 
-  anew_stays : (s : Sweep C V) → s.start ≤ s.last → s.last < 2 ^ 64 → 0 < s.size → Stays (anew root s)
+  anew_stays : (s : ScanState C V) → s.start ≤ s.last → s.last < 2 ^ 64 → 0 < s.size → Stays (anew root s)
   anew_stays s lt b room =
       let P : List (Rung C) → Type 0 = λ xs. RungsKnown number a h s.last 0 xs in
       let U : ℕ → Type 0 = λ n. is_published (a n).status ≡ true in
@@ -46,7 +46,7 @@ module _ {C V : Type 0} (number : C → ℕ) (always : Bool) (a : ℕ → Note) 
         omega arith,
       )
 
-  left_stays : (s : Sweep C V) → WayKnown number a h s → Stays (left s)
+  left_stays : (s : ScanState C V) → WayKnown number a h s → Stays (left s)
   left_stays s k = elim (path_last s.above k.fits) [
     | inl e ↦ stays_as (over s (told.Done s.count)) (left s) (ap (left_to s) e.0) tt
     | inr e ↦ (
@@ -62,7 +62,7 @@ module _ {C V : Type 0} (number : C → ℕ) (always : Bool) (a : ℕ → Note) 
         )
   ]
 
-  entered_stays : (s : Sweep C V) (n : C) (x : Region) → SweepKnownAt number always a h s (stage.Enter n x) → Stays (entered root s n x (version_of (h (number n))))
+  entered_stays : (s : ScanState C V) (n : C) (x : Region) → ScanKnownAt number always a h s (stage.Enter n x) → Stays (entered root s n x (version_of (h (number n))))
   entered_stays s n x k = on_test (is_free (h (number n)))
       (λ free. stays_as (entered root s n x (Some (h (number n)).version)) (entered root s n x (version_of (h (number n)))) (ap (entered root s n x) (pick_true (is_free (h (number n))) (Some (h (number n)).version) None free))
       (on_test (is_outside s.start s.last x)
@@ -80,13 +80,13 @@ module _ {C V : Type 0} (number : C → ℕ) (always : Bool) (a : ℕ → Note) 
       (λ held. stays_as (anew root s) (entered root s n x (version_of (h (number n)))) (ap (entered root s n x) (pick_false (is_free (h (number n))) (Some (h (number n)).version) None held))
       (anew_stays s k.0.range k.0.bound (let r = k.0.room in omega (arith, r))))
     where
-      seen : ℕ → Swung C V
+      seen : ℕ → NextScan C V
       seen v = goes s s.above (stage.Look (record { at = record { node = n; version = v }; region = x; from = first_byte s.start x }))
 
-  moved_known : (s : Sweep C V) (r : Rung C) (byte : ℕ) → byte < 256 → RungKnown number a h s.last s.above.len r → RungKnown number a h s.last s.above.len (moved r byte)
+  moved_known : (s : ScanState C V) (r : Rung C) (byte : ℕ) → byte < 256 → RungKnown number a h s.last s.above.len r → RungKnown number a h s.last s.above.len (moved r byte)
   moved_known s r byte small q = record { stamped = q.stamped; region = q.region; deep = q.deep; within = q.within; bound = omega (arith, small) }
 
-  followed_stays : (s : Sweep C V) (r : Rung C) (found : Least C V) (u : Swung C V) → WayKnown number a h s → RungKnown number a h s.last s.above.len r → IsAny always found
+  followed_stays : (s : ScanState C V) (r : Rung C) (found : Least C V) (u : NextScan C V) → WayKnown number a h s → RungKnown number a h s.last s.above.len r → IsAny always found
       → (a (number r.at.node)).status ≡ Linked → LeastTruly number (h (number r.at.node)) r.from (last_byte s.last r.region) found → IsFollowed number h s r found u → Stays u
   followed_stays s r least.Nothing u k q any l truly e = stays_as (left s) u e (left_stays s k)
   followed_stays s r (least.Node byte c) u k q small l truly e =
@@ -109,10 +109,10 @@ module _ {C V : Type 0} (number : C → ℕ) (always : Bool) (a : ℕ → Note) 
         (let d = q.deep in omega (arith, d, deeper)),
       )
   followed_stays s r (least.Value byte v) u k q small l truly e = stays_as (filled s r byte v) u e (on_test (s.count + 1 == s.size)
-      (λ full. stays_as (sweep_at s (s.count + 1) s.above stage.Full, told.Found s.count (r.region.base + byte) v) (filled s r byte v)
-      (ap (λ x. (sweep_at s (s.count + 1) s.above x, told.Found s.count (r.region.base + byte) v)) (pick_true (s.count + 1 == s.size) stage.Full (stage.Look (moved r byte)) full)) tt)
-      (λ free. stays_as (sweep_at s (s.count + 1) s.above (stage.Look (moved r byte)), told.Found s.count (r.region.base + byte) v) (filled s r byte v)
-      (ap (λ x. (sweep_at s (s.count + 1) s.above x, told.Found s.count (r.region.base + byte) v)) (pick_false (s.count + 1 == s.size) stage.Full (stage.Look (moved r byte)) free)) (
+      (λ full. stays_as (scan_at s (s.count + 1) s.above stage.Full, told.Found s.count (r.region.base + byte) v) (filled s r byte v)
+      (ap (λ x. (scan_at s (s.count + 1) s.above x, told.Found s.count (r.region.base + byte) v)) (pick_true (s.count + 1 == s.size) stage.Full (stage.Look (moved r byte)) full)) tt)
+      (λ free. stays_as (scan_at s (s.count + 1) s.above (stage.Look (moved r byte)), told.Found s.count (r.region.base + byte) v) (filled s r byte v)
+      (ap (λ x. (scan_at s (s.count + 1) s.above x, told.Found s.count (r.region.base + byte) v)) (pick_false (s.count + 1 == s.size) stage.Full (stage.Look (moved r byte)) free)) (
         record {
           range = k.range;
           bound = k.bound;
@@ -124,11 +124,11 @@ module _ {C V : Type 0} (number : C → ℕ) (always : Bool) (a : ℕ → Note) 
       )))
   followed_stays s r least.Uncopied u k q any l truly e = stays_as (over s (told.Refused refusal.Count)) u e tt
 
-  stays_at : (s : Sweep C V) (x : Stage C V) (u : Swung C V) → SweepKnownAt number always a h s x → SweptAt number always root s x h u → Stays u
+  stays_at : (s : ScanState C V) (x : Stage C V) (u : NextScan C V) → ScanKnownAt number always a h s x → ScanSteppedAt number always root s x h u → Stays u
   stays_at s stage.New u k e =
       let o : Option ℕ = version_of (h (number root)) in
-      let none : Swung C V = over s (told.Done 0) in
-      let some : Swung C V = entered root (anew root s).0 root whole o in
+      let none : NextScan C V = over s (told.Done 0) in
+      let some : NextScan C V = entered root (anew root s).0 root whole o in
       stays_as (begins root s o) u e (on_test (s.size == 0)
       (λ y. stays_as none (begins root s o) (pick_true (s.size == 0) none some y) tt)
       (λ n. stays_as some (begins root s o) (pick_false (s.size == 0) none some n) (entered_stays (anew root s).0 root whole (anew_stays s (k.range (is_some s.size n)) k.bound (is_some s.size n)))))
@@ -141,5 +141,5 @@ module _ {C V : Type 0} (number : C → ℕ) (always : Bool) (a : ℕ → Note) 
   stays_at s stage.Over u k e = stays_as (over s told.Running) u e tt
 
   -- after a step a scan knows what its next stage says
-  pub sweep_stays : (s : Sweep C V) (u : Swung C V) → SweepKnown number always a h s → SweptAt number always root s s.stage h u → SweepKnown number always a h u.0
-  sweep_stays s u k e = stays_at s s.stage u k e
+  pub scan_stays : (s : ScanState C V) (u : NextScan C V) → ScanKnown number always a h s → ScanSteppedAt number always root s s.stage h u → ScanKnown number always a h u.0
+  scan_stays s u k e = stays_at s s.stage u k e

@@ -8,15 +8,15 @@ use Rattle.congee.specs.Heap.{Node, Nothing, Below, Holds, fits, child_for}
 use Rattle.congee.specs.Keys.{key_bytes, IsMapOf}
 use Rattle.congee.specs.Notes.{Note, Linked, IsChild, Tree}
 use Rattle.congee.specs.protocol.Regions.{span, IsRegion, start_at}
-use Rattle.congee.specs.protocol.Sweeps.{Lacked}
-use Rattle.congee.specs.protocol.SweepSteps.{last_byte}
-use Rattle.congee.specs.protocol.SweepKnown.{end_of}
+use Rattle.congee.specs.protocol.Scans.{Lacked}
+use Rattle.congee.specs.protocol.ScanSteps.{last_byte}
+use Rattle.congee.specs.protocol.ScanKnown.{end_of}
 use Rattle.congee.proofs.lemmas.Fits.{fits_trans, fits_byte}
 use Rattle.congee.proofs.lemmas.Graft.{on_test}
 use Rattle.congee.proofs.lemmas.Orders.{byte_small}
 use Rattle.congee.proofs.lemmas.Tree.{finds, misses}
 use Rattle.congee.proofs.lemmas.protocol.Regions.{span_pos, keys_within, within_keys, byte_within, byte_low, byte_high, whole as all_bytes, start_mono}
-use Rattle.congee.proofs.lemmas.protocol.SweepBytes.{region_top, last_covers}
+use Rattle.congee.proofs.lemmas.protocol.ScanBytes.{region_top, last_covers}
 
 -- the node under a byte of a linked node: its keys are some of the byte's
 module _ {V : Type 0} (a : ℕ → Note) (h : ℕ → Node V) (t : Tree a h) (n base depth : ℕ) (l : (a n).status ≡ Linked) (r : IsRegion (h n).prefix base depth)

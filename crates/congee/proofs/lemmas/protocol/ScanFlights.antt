@@ -5,24 +5,24 @@ use Rattle.std.specs.Prelude.{Option, None, Some, slice_get}
 use Rattle.judge.specs.Answer.{Pairs}
 use Rattle.congee.specs.declared.protocol.phase.Kind.{Kind}
 use Rattle.congee.specs.declared.protocol.phase.Phase.{Phase}
-use Rattle.congee.specs.declared.protocol.phase.Phase.TheVariants.{New, Sweep}
+use Rattle.congee.specs.declared.protocol.phase.Phase.TheVariants.{New, Scan}
 use Rattle.congee.specs.declared.protocol.machine.Outcome.{Outcome}
 use Rattle.congee.specs.declared.protocol.machine.Outcome.TheVariants.{Running, Asks, Found, Done, Scanned, Refused}
 use Rattle.congee.specs.declared.protocol.machine.Move.{Move}
 use Rattle.congee.specs.declared.protocol.machine.Machine.{Machine}
-use Rattle.congee.specs.declared.protocol.sweep.Sweep.{Sweep as Scan}
-use Rattle.congee.specs.declared.protocol.sweep.Stage.{Stage}
-use Rattle.congee.specs.declared.protocol.sweep.Stage.TheVariants as stage
-use Rattle.congee.specs.declared.protocol.sweep.ScanReport.{ScanReport}
-use Rattle.congee.specs.declared.protocol.sweep.ScanReport.TheVariants as told
+use Rattle.congee.specs.declared.protocol.scan.ScanState.{ScanState as ScanState}
+use Rattle.congee.specs.declared.protocol.scan.Stage.{Stage}
+use Rattle.congee.specs.declared.protocol.scan.Stage.TheVariants as stage
+use Rattle.congee.specs.declared.protocol.scan.ScanReport.{ScanReport}
+use Rattle.congee.specs.declared.protocol.scan.ScanReport.TheVariants as told
 use Rattle.congee.specs.Heap.{Node}
 use Rattle.congee.specs.Keys.{IsMapOf}
 use Rattle.congee.specs.Notes.{Note, Tree, LockWords}
 use Rattle.congee.specs.protocol.Steps.{outcome_of}
-use Rattle.congee.specs.protocol.SweepSteps.{Swung, over, SweptAt, SweepStepped}
-use Rattle.congee.specs.protocol.SweepKnown.{SweepKnown, TracksAt, Tracks, placed, Tells, SameCall}
+use Rattle.congee.specs.protocol.ScanSteps.{NextScan, over, ScanSteppedAt, ScanStepped}
+use Rattle.congee.specs.protocol.ScanKnown.{ScanKnown, TracksAt, Tracks, placed, Tells, SameCall}
 use Rattle.congee.specs.protocol.Play.{Question, Flight, Pending, Decided, Over, Unbegun, Scanning, Concludes, PendingMoves, ScanTells, Watched, IsOfPoint, IsNew, IsBegin, flight, flight_in, ScanFollows, Follows, Following}
-use Rattle.congee.proofs.lemmas.protocol.SweepTurns.{Out, stepped_out}
+use Rattle.congee.proofs.lemmas.protocol.ScanSettles.{Out, stepped_out}
 
 module _ {V : Type 0} (same : V → V → Bool) where
   of_point : (f g : Flight V) → f ≡ g → IsOfPoint g → IsOfPoint f
@@ -77,7 +77,7 @@ module _ {C V : Type 0} where
 
   begin_point : (k : ℕ) (kind : Kind V) (given : Option V) (x : Phase C V) (m : Machine C V) → m.phase ≡ x → m.key ≡ k → m.kind ≡ kind → m.given ≡ given → IsBegin kind given x → Follows m (flight_in k kind given x)
   begin_point k kind given New m e a b c n = inl (tt, rw (e, a, b, c) refl)
-  begin_point k kind given (Sweep s) m e a b c n = inr (s, e, inl (refl, n.0))
+  begin_point k kind given (Scan s) m e a b c n = inr (s, e, inl (refl, n.0))
   begin_point k kind given _ m e a b c n = absurd n
 
   -- calls that have not begun are watched as such
@@ -87,11 +87,11 @@ module _ {C V : Type 0} where
 
 module _ {C V : Type 0} (number : C → ℕ) (same : V → V → Bool) (always : Bool) (a : ℕ → Note) (h : ℕ → Node V) (t : Tree a h) (w : LockWords a h) (m : Pairs V) (st : IsMapOf h m)
     (root : C) (z : number root ≡ 0) (heard : Option (Option V)) where
-  abbrev Watches : Scan C V → Flight V → Scan C V → ScanReport V → Type 0
+  abbrev Watches : ScanState C V → Flight V → ScanState C V → ScanReport V → Type 0
   Watches s f s' o = (f' : Flight V) × Watched same f m heard (record { decided = false; skipped = false; outcome = outcome_of o }) f' m × ScanFollows s' f'
 
   -- a scan under way
-  tells : (s s' : Scan C V) (states : List (Pairs V)) (places : List (ℕ × V)) (o : ScanReport V) → Tracks s' (m ∷ states) (placed places o) → Tells s (m ∷ states) places s'.stage o → SameCall s s'
+  tells : (s s' : ScanState C V) (states : List (Pairs V)) (places : List (ℕ × V)) (o : ScanReport V) → Tracks s' (m ∷ states) (placed places o) → Tells s (m ∷ states) places s'.stage o → SameCall s s'
       → (f' : Flight V) × ScanTells s.start (suc s.last) s.size (m ∷ states) places (outcome_of o) f' × ScanFollows s' f'
   tells s s' states places told.Running tr te sc = (Scanning s.start (suc s.last) s.size (m ∷ states) places, refl, inr (inr (m ∷ states, places, rw (sc.start_is, sc.last_is, sc.size_is) refl, tr)))
   tells s s' states places (told.Found place k v) tr te sc =
@@ -100,17 +100,17 @@ module _ {C V : Type 0} (number : C → ℕ) (same : V → V → Bool) (always :
   tells s s' states places (told.Refused e) tr te sc = (Over, refl, inr (inl (refl, te)))
 
   -- every step of a scan
-  pub scan_watched : (s s' : Scan C V) (o : ScanReport V) (f : Flight V) → ScanFollows s f → SweepKnown number always a h s → SweepStepped number always root s h s' o → Watches s f s' o
+  pub scan_watched : (s s' : ScanState C V) (o : ScanReport V) (f : Flight V) → ScanFollows s f → ScanKnown number always a h s → ScanStepped number always root s h s' o → Watches s f s' o
   scan_watched s s' o f (inl e) k g =
       let tr : Tracks s [] [] = (let P : Stage C V → Type 0 = λ x. TracksAt s [] [] x in subst P (sym e.1) tt) in
       let out : Out number always a h t w m st [] [] root z s (s', o) = stepped_out number always a h t w m st [] [] root z s s.stage (s', o) k tr g in
       let y = tells s s' [] [] o out.1 out.2 out.3 in
       (y.0, subst (λ x. Watched same x m heard (record { decided = false; skipped = false; outcome = outcome_of o }) y.0 m) (sym e.0) (refl, y.1, refl), y.2)
   scan_watched s s' o f (inr (inl e)) k g =
-      let P : Stage C V → Type 0 = λ x. SweptAt number always root s x h (s', o) in
+      let P : Stage C V → Type 0 = λ x. ScanSteppedAt number always root s x h (s', o) in
       let q : (s', o) ≡ over s told.Running = subst P e.1 g in
-      let is : o ≡ told.Running = ap (λ (u : Swung C V). u.1) q in
-      let rests : s'.stage ≡ stage.Over = ap (λ (u : Swung C V). u.0.stage) q in
+      let is : o ≡ told.Running = ap (λ (u : NextScan C V). u.1) q in
+      let rests : s'.stage ≡ stage.Over = ap (λ (u : NextScan C V). u.0.stage) q in
       (Over, subst (λ x. Watched same x m heard (record { decided = false; skipped = false; outcome = outcome_of o }) Over m) (sym e.0) (ap (λ y. record { decided = false; skipped = false; outcome = outcome_of y }) is, refl, refl), inr (inl (refl, rests)))
   scan_watched s s' o f (inr (inr e)) k g =
       let out : Out number always a h t w m st e.0 e.1 root z s (s', o) = stepped_out number always a h t w m st e.0 e.1 root z s s.stage (s', o) k e.3 g in
