@@ -7,7 +7,7 @@
 //! a step of its own, and the call begins anew at the root. Locks are taken from the upper node down.
 //!
 //! A `machine` is one call. Its `phase` is the next step, which each step changes where it lies; `acts` has the steps that
-//! make, lock or change nodes, and `turn` says where the store's answer leads. `state` has what a call says of itself between
+//! make, lock or change nodes, and `next_phase` says where the store's answer leads. `state` has what a call says of itself between
 //! two steps, to whoever keeps it. The ways on:
 //!
 //! | The call finds | Its phases |
@@ -27,6 +27,7 @@
 mod acts;
 mod laws;
 mod machine;
+mod next_phase;
 mod op;
 mod phase;
 mod plain;
@@ -35,9 +36,9 @@ mod run;
 mod scan;
 mod state;
 mod store;
-mod turn;
 
 pub use machine::{Machine, Move, Noise, Outcome};
+pub use next_phase::NextPhase;
 pub use op::Op;
 pub use phase::{Above, Double, Kind, One, Parent, Phase, Plan, Single, Site, Two};
 pub use plain::PlainStore;
@@ -45,4 +46,3 @@ pub use plain_node::{PlainNode, first_difference};
 pub use run::{Played, Step, play, step_of};
 pub use scan::{Path, Rung, ScanReport, ScanState, Stage};
 pub use store::{Least, NodeName, Reading, Refusal, Region, Seen, Stamp, Store, Upgrade};
-pub use turn::NextPhase;

@@ -23,7 +23,7 @@ pub mod Shapes
 pub mod Watches
 pub mod Handing
 pub mod Unlinking
-pub mod Turns
+pub mod ManyCalls
 pub mod Traces
 pub mod Opening
 pub mod PlainHeaps
@@ -57,7 +57,7 @@ pub mod AlonePairs
 pub mod Alone
 pub mod Leftovers
 pub mod AlikeHeaps
-pub mod AlikeTurns
+pub mod AlikeNextPhases
 pub mod AlikeReads
 pub mod AlikeScans
 pub mod AlikeLater

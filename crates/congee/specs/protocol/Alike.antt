@@ -25,7 +25,7 @@ use Rattle.congee.specs.declared.protocol.scan.Rung.{Rung}
 use Rattle.congee.specs.declared.protocol.scan.Stage.{Stage}
 use Rattle.congee.specs.declared.protocol.scan.Stage.TheVariants as stage
 use Rattle.congee.specs.declared.protocol.scan.ScanState.{ScanState as ScanState}
-use Rattle.congee.specs.declared.protocol.turn.NextPhase.{NextPhase}
+use Rattle.congee.specs.declared.protocol.next_phase.NextPhase.{NextPhase}
 use Rattle.congee.specs.declared.protocol.machine.Machine.{Machine}
 use Rattle.congee.specs.declared.protocol.machine.Move.{Move}
 use Rattle.congee.specs.declared.protocol.machine.Outcome.{Outcome}
@@ -240,7 +240,7 @@ module _ {C : Type 0} (order : List ℕ) (number : C → ℕ) where
       PhaseAlike Ended x = x ≡ Ended
 
       -- a step's report, and the phase after it
-      pub record TurnAlike (t : NextPhase C V) (u : NextPhase ℕ V) : Type 0 where
+      pub record NextPhaseAlike (t : NextPhase C V) (u : NextPhase ℕ V) : Type 0 where
         pub report : u.report ≡ t.report
         pub phase : PhaseAlike t.phase u.phase
 
@@ -268,7 +268,7 @@ pub record WentAlike {C V : Type 0} (order : List ℕ) (number : C → ℕ) (h :
   pub ordered : Ordered now h
   pub made : w.made ≡ length now
   pub given_is : w.given ≡ given
-  pub turn : TurnAlike now number h t w.turn
+  pub next_phase : NextPhaseAlike now number h t w.next_phase
   pub heap : HeapAlike now h w.heap
 
 -- and the call is the same after it

@@ -38,7 +38,7 @@ use Rattle.congee.specs.declared.protocol.scan.Stage.{Stage}
 use Rattle.congee.specs.declared.protocol.scan.Stage.TheVariants as stage
 use Rattle.congee.specs.declared.protocol.scan.ScanState.{ScanState as ScanState}
 use Rattle.congee.specs.declared.protocol.scan.ScanReport.TheVariants as told
-use Rattle.congee.specs.declared.protocol.turn.NextPhase.{NextPhase}
+use Rattle.congee.specs.declared.protocol.next_phase.NextPhase.{NextPhase}
 use Rattle.congee.specs.declared.protocol.machine.Machine.{Machine}
 use Rattle.congee.specs.declared.protocol.machine.Noise.{Noise}
 use Rattle.congee.specs.Heap.{Node, Hung, Nothing, Below, Holds, fits, child_for, version_of, is_taken}
@@ -296,13 +296,13 @@ change_two key new two (Split top leaf common byte) h =
 -- what a step leaves: the call's value, its next phase with what the step reports, the nodes, and how many were made
 pub record Went (V : Type 0) : Type 0 where
   pub given : Option V
-  pub turn : NextPhase ℕ V
+  pub next_phase : NextPhase ℕ V
   pub heap : ℕ → Node V
   pub made : ℕ
 
 -- a step that leaves these
 abbrev pub went : {V : Type 0} → Option V → NextPhase ℕ V → (ℕ → Node V) → ℕ → Went V
-went new t h k = record { given = new; turn = t; heap = h; made = k }
+went new t h k = record { given = new; next_phase = t; heap = h; made = k }
 
 -- a check, and what follows where it succeeds
 abbrev pub passes : {V : Type 0} → (ℕ → Node V) → Stamp ℕ → ℕ → NextPhase ℕ V → NextPhase ℕ V
@@ -395,4 +395,4 @@ with_call s i m = record s { calls = λ j. cond (j == i) m (s.calls j) }
 
 -- a worker's call after its next step
 abbrev pub call_after : {V : Type 0} → Machine ℕ V → Went V → Machine ℕ V
-call_after m w = record m { given = w.given; phase = w.turn.phase }
+call_after m w = record m { given = w.given; phase = w.next_phase.phase }

@@ -35,7 +35,7 @@ use Rattle.congee.specs.declared.protocol.scan.ScanReport.{ScanReport}
 use Rattle.congee.specs.declared.protocol.scan.ScanReport.TheVariants as told
 use Rattle.congee.specs.protocol.ScanSteps.{ScanStepped, MayScan}
 use Rattle.congee.specs.declared.protocol.machine.Move.{Move}
-use Rattle.congee.specs.declared.protocol.turn.NextPhase.{NextPhase}
+use Rattle.congee.specs.declared.protocol.next_phase.NextPhase.{NextPhase}
 use Rattle.congee.specs.declared.protocol.machine.Machine.{Machine}
 use Rattle.congee.specs.Heap.{Node, Hung, Nothing, Below, Holds, Stands, version_of, is_taken}
 use Rattle.congee.specs.protocol.Events.{ReadGives, SameBut, upgrade_gives, MakeGives, MayChange, ChangeGives, TakeOverGives, BackGives, ObsoleteGives, RetireGives, UnlockGives, HoldsAlike, HoldsNodes, IsOther}

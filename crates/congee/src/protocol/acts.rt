@@ -16,9 +16,9 @@ use crate::forms::child::Child;
 use crate::forms::prefix::MAX_PREFIX_LEN;
 use crate::keys::KEY_BYTES;
 use crate::protocol::machine::{Machine, Move, Outcome};
+use crate::protocol::next_phase::value_child;
 use crate::protocol::phase::{Double, One, Parent, Phase, Single, Site, Two, taken};
 use crate::protocol::store::{NodeName, Refusal, Stamp, Store, Upgrade};
-use crate::protocol::turn::value_child;
 use judge::{Payload, Reply};
 
 impl<C: NodeName, P: Payload> Machine<C, P> {
@@ -493,7 +493,7 @@ impl<C: NodeName, P: Payload> Machine<C, P> {
         ensures limit { S.version_max store.new ≡ S.version_max store.old }
         ensures rest { S.rest store.new ≡ S.rest store.old }
         ensures changed { ChangedOne C.number (key_bytes self.old.key) self.old.given one one.change (S.heap store.old) (S.heap store.new) }
-        ensures turn { next_phase_of self.new.phase result ≡ decided (phase.Unlock one.at.node reply) }
+        ensures next_phase { next_phase_of self.new.phase result ≡ decided (phase.Unlock one.at.node reply) }
     {
         let value = value_child(self.given.take());
         let One { at, byte, change } = one;
@@ -518,7 +518,7 @@ impl<C: NodeName, P: Payload> Machine<C, P> {
         ensures limit { S.version_max store.new ≡ S.version_max store.old }
         ensures rest { S.rest store.new ≡ S.rest store.old }
         ensures changed { ChangedTwo C.number (key_bytes self.old.key) self.old.given two two.change (S.heap store.old) (S.heap store.new) }
-        ensures turn { next_phase_of self.new.phase result ≡ after_change two reply two.change }
+        ensures next_phase { next_phase_of self.new.phase result ≡ after_change two reply two.change }
     {
         put_two(store, two, &self.key.to_be_bytes(), self.given.take());
         self.phase.after_change(two, reply)

@@ -156,7 +156,7 @@ module _ {V : Type 0} (same : V → V → Bool) (most : ℕ) where
   abbrev pub EventTells : Plain V → ℕ → TreeEvent V → Bool → Outcome V → Type 0
   EventTells s who (Starts op) decided o = (decided ≡ false) × (o ≡ start_told (finds_none op))
   EventTells s who (Tells k) decided o = (decided ≡ false) × ((m : Pairs V) × IsMapOf s.heap m) × TellsOf s.heap k o
-  EventTells s who (Goes noise) decided o = (decided ≡ (plain_went s who noise).turn.report.decided) × (o ≡ told (plain_went s who noise).turn.report.outcome)
+  EventTells s who (Goes noise) decided o = (decided ≡ (plain_went s who noise).next_phase.report.decided) × (o ≡ told (plain_went s who noise).next_phase.report.outcome)
 
   -- the same of a step with its report
   abbrev pub StepTells : Plain V → TreeStep V → Report V → Type 0

@@ -160,11 +160,11 @@ pub record FindsNoPlace {V : Type 0} (s : World V) (r : Report V) (s' : World V)
 
 -- a call on the collector begins, or goes on, until it ends
 pub record Collects {V : Type 0} (same : V → V → Bool) (always : Bool) (s : World V) (who : ℕ) (event : CollectorEvent) (call : InFlight V) (r : Report V) (s' : World V) : Type 0 where
-  pub turn : Collection
-  pub step : Collected same always s.forest s.machines who event turn s'.forest
+  pub collector_report : Collection
+  pub step : Collected same always s.forest s.machines who event collector_report s'.forest
   pub machines : s'.machines ≡ s.machines
-  pub calls : s'.calls ≡ slice_set s.calls who (call_after turn.outcome call)
-  pub report : r ≡ collection turn (collected turn.outcome)
+  pub calls : s'.calls ≡ slice_set s.calls who (call_after collector_report.outcome call)
+  pub report : r ≡ collection collector_report (collected collector_report.outcome)
 
 -- a reading call begins on the tree
 pub record Enters {V : Type 0} (s : World V) (who : ℕ) (op : Point V) (r : Report V) (s' : World V) : Type 0 where
@@ -199,9 +199,9 @@ reserving o = collected o
 
 -- a further step of that
 pub record GoesOnReserving {V : Type 0} (same : V → V → Bool) (always : Bool) (s : World V) (who : ℕ) (r : Report V) (s' : World V) : Type 0 where
-  pub turn : Collection
-  pub step : Secured same always s.forest s.machines s.calls who turn s'.forest s'.machines s'.calls
-  pub report : r ≡ collection turn (reserving turn.outcome)
+  pub collector_report : Collection
+  pub step : Secured same always s.forest s.machines s.calls who collector_report s'.forest s'.machines s'.calls
+  pub report : r ≡ collection collector_report (reserving collector_report.outcome)
 
 -- its first step begins to make the places free, and goes on with that at once
 pub record SecuresFirst {V : Type 0} (same : V → V → Bool) (always : Bool) (s : World V) (who : ℕ) (r : Report V) (s' : World V) : Type 0 where

@@ -98,9 +98,9 @@ securing_of _ = Idle
 -- a writing call begins to make its places free, which runs on
 pub record BeginsSecuring {V : Type 0} (same : V → V → Bool) (always : Bool) (s : Nodes V) (ms : List (Machine Id V)) (calls : List (InFlight V)) (who : ℕ) (s' : Nodes V) (ms' : List (Machine Id V)) (calls' : List (InFlight V)) : Type 0 where
   pub intact : IsIntact same always s' ms' calls'
-  pub turn : Report
-  pub collected : Collected same always s ms who (Begin (Secure 2)) turn s'
-  pub running : turn.outcome ≡ Running
+  pub collector_report : Report
+  pub collected : Collected same always s ms who (Begin (Secure 2)) collector_report s'
+  pub running : collector_report.outcome ≡ Running
   pub call : calls' ≡ slice_set calls who (securing_of (slice_get calls who))
   pub machine : ms' ≡ ms
 

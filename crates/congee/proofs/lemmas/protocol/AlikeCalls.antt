@@ -22,7 +22,7 @@ use Rattle.congee.proofs.lemmas.Keys.{key_length}
 use Rattle.congee.proofs.lemmas.protocol.AlikeKnown.{holds_right, longer_place}
 use Rattle.congee.proofs.lemmas.protocol.AlikeLater.{named_later}
 use Rattle.congee.proofs.lemmas.protocol.AlikeSteps.{phase_alike}
-use Rattle.congee.proofs.lemmas.protocol.Turns.{may_step}
+use Rattle.congee.proofs.lemmas.protocol.ManyCalls.{may_step}
 
 module _ {C V : Type 0} (number : C → ℕ) (same : V → V → Bool) (always : Bool) where
   protocol_of : (a : ℕ → Note) (h : ℕ → Node V) (ms : List (Machine C V)) → ProtocolAt number same always a h ms → Protocol number same always h ms
@@ -55,7 +55,7 @@ module _ {C V : Type 0} (number : C → ℕ) (same : V → V → Bool) (always :
           key = c.key ∙ sym s.key;
           kind = c.kind ∙ sym s.kind;
           given = w.given_is;
-          phase = w.turn.phase;
+          phase = w.next_phase.phase;
         };
       }
 

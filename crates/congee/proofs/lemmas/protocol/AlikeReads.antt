@@ -17,7 +17,7 @@ use Rattle.congee.specs.declared.protocol.phase.Site.{Site}
 use Rattle.congee.specs.declared.protocol.phase.Phase.TheVariants.{Check, CheckUncopied, CheckMiss}
 use Rattle.congee.specs.Heap.{Node, Hung, Nothing, Below, Holds, fits, child_for, is_taken, version_of}
 use Rattle.congee.specs.Keys.{key_bytes}
-use Rattle.congee.specs.protocol.Alike.{HungAlike, NodeAlike, Named, StampAlike, AboveAlike, ChildAlike, SeesAlike, LeastAlike, TurnAlike}
+use Rattle.congee.specs.protocol.Alike.{HungAlike, NodeAlike, Named, StampAlike, AboveAlike, ChildAlike, SeesAlike, LeastAlike, NextPhaseAlike}
 use Rattle.congee.specs.protocol.Events.{hung, places, Parts, SeenTruly, ReadGives}
 use Rattle.congee.specs.protocol.PlainSteps.{Mark, form_of, common, child_of, looks, told_of, reading, least_or, least_from, least_told, least_of, front, region_of}
 use Rattle.congee.specs.protocol.Regions.{span, IsRegion}
@@ -27,7 +27,7 @@ use Rattle.congee.proofs.lemmas.Fits.{fits_byte, same_test, other_test}
 use Rattle.congee.proofs.lemmas.Orders.{top, top_step}
 use Rattle.congee.proofs.lemmas.Tree.{same_or_not}
 use Rattle.congee.proofs.lemmas.protocol.Regions.{multiple}
-use Rattle.congee.proofs.lemmas.protocol.AlikeTurns.{quiet_alike, again_alike, alike_to}
+use Rattle.congee.proofs.lemmas.protocol.AlikeNextPhases.{quiet_alike, again_alike, alike_to}
 use Rattle.congee.proofs.lemmas.protocol.Parting.{parts_differ}
 
 -- lock words
@@ -99,7 +99,7 @@ module _ {C V : Type 0} (order : List ℕ) (number : C → ℕ) where
         }
 
     differs : (up : Option (Over C)) (q : Option (Over ℕ)) → AboveAlike order number up q → (c b : ℕ) → c ≡ common y.prefix key → b ≡ slice_index y.prefix (common y.prefix key)
-        → TurnAlike order number h (after_read root up at (Differs c b)) (after_read m q a fork)
+        → NextPhaseAlike order number h (after_read root up at (Differs c b)) (after_read m q a fork)
     differs None q z c b ec eb = alike_to order number h _ (again m) _ (ap (λ w. after_read m w a fork) z) (again_alike order number h root m r)
     differs (Some p) q z c b ec eb =
         alike_to order number h _ (quiet (CheckMiss z.0.near a c b)) _
@@ -110,7 +110,7 @@ module _ {C V : Type 0} (order : List ℕ) (number : C → ℕ) where
     site_of depth s = record { above = o; at = a; depth = depth; byte = s.byte; count = s.count; full = s.full; form = form_of y.capacity }
 
     -- after a read of the same node both sides go on alike
-    pub read_alike : (w : Reading C V) → ReadGives number always x at.version key w → TurnAlike order number h (after_read root above at w) (after_read m o a (reading y a.version key seen))
+    pub read_alike : (w : Reading C V) → ReadGives number always x at.version key w → NextPhaseAlike order number h (after_read root above at w) (after_read m o a (reading y a.version key seen))
     read_alike (Differs c b) k =
         let no : fits y.prefix key ≡ false = ap (λ z. fits z key) e.prefix ∙ parts_differ x.prefix key c k.0 in
         let here : common y.prefix key ≡ c = ap (λ z. common z key) e.prefix ∙ parts_common x.prefix key c len k.0 in

@@ -22,9 +22,9 @@ use Rattle.congee.specs.declared.protocol.phase.Two.{Two}
 use Rattle.congee.specs.declared.protocol.phase.Plan.TheVariants.{Above}
 use Rattle.congee.specs.declared.protocol.phase.Phase.{Phase}
 use Rattle.congee.specs.declared.protocol.phase.Phase.TheVariants.{New, Version, Read, Check, CheckUncopied, CheckMiss, CheckDown, CheckOld, MakeLeaf, MakeGreater, MakeTop, MakeBeside, MakeLesser, AskOld, AskNew, Confirm, CheckAbove, UpgradeOne, ChangeOne, UpgradeTop, UpgradeAbove, UpgradeBelow, ChangeTwo, Obsolete, Retire, UnlockBelow, Unlock, Unwind, Scan, Ended}
-use Rattle.congee.specs.declared.protocol.turn.NextPhase.{NextPhase}
+use Rattle.congee.specs.declared.protocol.next_phase.NextPhase.{NextPhase}
 use Rattle.congee.specs.Heap.{Node, Stands, is_taken, version_of}
-use Rattle.congee.specs.protocol.Alike.{Ordered, NodeAlike, HeapAlike, Named, StampAlike, ParentAlike, TopAlike, MadeAlike, ReadAlike, OneAlike, TwoAlike, PhaseAlike, TurnAlike, IsUnrefused, WentAlike}
+use Rattle.congee.specs.protocol.Alike.{Ordered, NodeAlike, HeapAlike, Named, StampAlike, ParentAlike, TopAlike, MadeAlike, ReadAlike, OneAlike, TwoAlike, PhaseAlike, NextPhaseAlike, IsUnrefused, WentAlike}
 use Rattle.congee.specs.protocol.Events.{upgrade_gives, NewNode}
 use Rattle.congee.specs.protocol.PlainSteps.{Mark, made_lesser, upgraded_top, put, lock, new_node, reading, next_scan, checked, at_old, given_old, given_new, back_one, back_two, Went, went, passes, making, upgraded_one, upgraded_above, upgraded_below, passed_above, phase_step}
 use Rattle.congee.specs.protocol.Steps.{quiet, skipping, set_at, both, form_below, node_of, given_up, again, answered, refused, form_above, after_version, after_read, after_miss, ready, unless_full, IsIf, IsChecked, IsAtOld, MadeLeaf, greater, MadeGreater, MadeTop, MadeBeside, MadeLesser, IsCheckedAbove, UpgradedOne, UpgradedTop, UpgradedAbove, UpgradedBelow, outcome_of, after_scan, PhaseStepped, MayBackOne, MayBackTwo, MayStep}
@@ -34,8 +34,8 @@ use Rattle.congee.proofs.lemmas.protocol.AlikeHeaps.{Pair, pair_same, ordered_st
 use Rattle.congee.proofs.lemmas.protocol.AlikeLater.{named_later, stamp_later, parent_later, made_later, read_later}
 use Rattle.congee.proofs.lemmas.protocol.AlikeReads.{taken_alike, version_same, read_alike}
 use Rattle.congee.proofs.lemmas.protocol.AlikeScans.{NextScanAlike, next_scan_alike}
-use Rattle.congee.proofs.lemmas.protocol.AlikeTurns.{quiet_alike, answered_alike, refused_alike, finished_alike, decided_alike, alike_at, alike_to, again_alike, version_alike, checked_alike, miss_alike, old_alike, full_alike, greater_alike, ready_alike, GivenAlike, given_alike, change_alike, node_alike, retired_alike, left_alike, given_up_alike}
-use Rattle.congee.proofs.lemmas.protocol.AlikeTurns.{new_alike as answer_alike}
+use Rattle.congee.proofs.lemmas.protocol.AlikeNextPhases.{quiet_alike, answered_alike, refused_alike, finished_alike, decided_alike, alike_at, alike_to, again_alike, version_alike, checked_alike, miss_alike, old_alike, full_alike, greater_alike, ready_alike, GivenAlike, given_alike, change_alike, node_alike, retired_alike, left_alike, given_up_alike}
+use Rattle.congee.proofs.lemmas.protocol.AlikeNextPhases.{new_alike as answer_alike}
 
 length_one : (order : List ℕ) (c : ℕ) → length (order ++ c ∷ []) ≡ suc (length order)
 length_one [] c = refl
@@ -47,18 +47,18 @@ module _ {C V : Type 0} (number : C → ℕ) (same : V → V → Bool) (always :
   abbrev Goal : Option V → NextPhase C V → (ℕ → Node V) → Went V → Type 0
   Goal new' t h' w = WentAlike order number h' new' t w
 
-  paired : (h' g' : ℕ → Node V) (new' own : Option V) (t : NextPhase C V) (u : NextPhase ℕ V) → Pair order h h' g' → new' ≡ own → TurnAlike order number h' t u → Goal new' t h' (went own u g' k)
+  paired : (h' g' : ℕ → Node V) (new' own : Option V) (t : NextPhase C V) (u : NextPhase ℕ V) → Pair order h h' g' → new' ≡ own → NextPhaseAlike order number h' t u → Goal new' t h' (went own u g' k)
   paired h' g' new' own t u p e a = record {
     now = order;
     longer = ([], sym (append-nil order));
     ordered = ordered_still order h h' p.made o;
     made = count;
     given_is = sym e;
-    turn = a;
+    next_phase = a;
     heap = p.alike;
   }
 
-  still : (h' : ℕ → Node V) (new' own : Option V) (t : NextPhase C V) (u : NextPhase ℕ V) → h' ≡ h → new' ≡ own → TurnAlike order number h' t u → Goal new' t h' (went own u g k)
+  still : (h' : ℕ → Node V) (new' own : Option V) (t : NextPhase C V) (u : NextPhase ℕ V) → h' ≡ h → new' ≡ own → NextPhaseAlike order number h' t u → Goal new' t h' (went own u g k)
   still h' new' own t u e f a = paired h' g new' own t u (pair_same order h h' g e x) f a
 
   node : (c : C) (n : ℕ) → Named order number c n → Stands (h (number c)) → NodeAlike order (h (number c)) (g n)
@@ -66,7 +66,7 @@ module _ {C V : Type 0} (number : C → ℕ) (same : V → V → Bool) (always :
 
   -- a check
   passed : (h' : ℕ → Node V) (at : Stamp C) (a : Stamp ℕ) (Then : NextPhase C V → Type 0) (t : NextPhase C V) (u : NextPhase ℕ V) → StampAlike order number at a → Stands (h (number at.node)) → IsIf (is_taken (h (number at.node)) at.version) root Then t
-      → (is_taken (h (number at.node)) at.version ≡ true → Then t → TurnAlike order number h' t u) → TurnAlike order number h' t (passes g a m u)
+      → (is_taken (h (number at.node)) at.version ≡ true → Then t → NextPhaseAlike order number h' t u) → NextPhaseAlike order number h' t (passes g a m u)
   passed h' at a Then t u e s i f =
       let same_word : is_taken (g a.node) a.version ≡ is_taken (h (number at.node)) at.version = taken_alike order (h (number at.node)) (g a.node) at.version a.version (node at.node a.node e.node s) e.version in
       elim (cases_Bool (is_taken (h (number at.node)) at.version)) [
@@ -85,7 +85,7 @@ module _ {C V : Type 0} (number : C → ℕ) (same : V → V → Bool) (always :
     named : Named now number c k
     named = let P : ℕ → Type 0 = λ z. slice_get now z ≡ Some (number c) in subst P (sym count) (new_place order (number c))
 
-    makes : TurnAlike now number h' t (u k) → Goal new' t h' (making form key size new g k u)
+    makes : NextPhaseAlike now number h' t (u k) → Goal new' t h' (making form key size new g k u)
     makes a =
         let P : ℕ → Type 0 = λ z. HeapAlike now h' (put g z (new_node form (take size key))) in
         record {
@@ -94,7 +94,7 @@ module _ {C V : Type 0} (number : C → ℕ) (same : V → V → Bool) (always :
           ordered = new_ordered order h g o x (number c) form key size h' made;
           made = ap suc count ∙ sym (length_one order (number c));
           given_is = sym e;
-          turn = a;
+          next_phase = a;
           heap = subst P (sym count) (new_alike order h g o x (number c) form key size h' made);
         }
 
@@ -301,7 +301,7 @@ module _ {C V : Type 0} (number : C → ℕ) (same : V → V → Bool) (always :
       (version_alike order number h' root m above e.0 c e.1 (version_of (h (number c))) r e.3 e.4))))
   phase_alike (Read above at) q h' new' t e may holds un sk i =
       let P : Phase ℕ V → Type 0 = λ z. Goal new' t h' (steps z) in
-      let Q : (ℕ → Node V) → Type 0 = λ z. TurnAlike order number z t (after_read m e.0 e.1 (reading (g e.1.node) e.1.version key seen)) in
+      let Q : (ℕ → Node V) → Type 0 = λ z. NextPhaseAlike order number z t (after_read m e.0 e.1 (reading (g e.1.node) e.1.version key seen)) in
       subst P (sym e.2) (still h' new' new t _ i.0 i.1 (subst Q (sym i.0) (alike_at order number h t _ _ i.2.2
       (read_alike order number h g root m r key len always above e.0 e.3 at e.1 e.4 (node at.node e.1.node e.4.node may) seen i.2.0 i.2.1))))
   phase_alike (Check s c) q h' new' t e may holds un sk i =
@@ -338,11 +338,11 @@ module _ {C V : Type 0} (number : C → ℕ) (same : V → V → Bool) (always :
   phase_alike (AskOld s v) q h' new' t e may holds un sk i =
       let P : Phase ℕ V → Type 0 = λ z. Goal new' t h' (steps z) in
       let a : GivenAlike order number h' new' t (given_old same kind e.0 v answer new) = given_alike order number h' always same kind s e.0 v answer new new' t e.2 un i.1 in
-      subst P (sym e.1) (still h' new' _ t _ i.0 (sym a.given) a.turn)
+      subst P (sym e.1) (still h' new' _ t _ i.0 (sym a.given) a.next_phase)
   phase_alike (AskNew plan) q h' new' t e may holds un sk i =
       let P : Phase ℕ V → Type 0 = λ z. Goal new' t h' (steps z) in
       let a : GivenAlike order number h' new' t (given_new e.0 answer new) = answer_alike order number h' plan e.0 answer new new' t e.2 i.1 in
-      subst P (sym e.1) (still h' new' _ t _ i.0 (sym a.given) a.turn)
+      subst P (sym e.1) (still h' new' _ t _ i.0 (sym a.given) a.next_phase)
   phase_alike (Confirm at y) q h' new' t e may holds un sk i =
       let P : Phase ℕ V → Type 0 = λ z. Goal new' t h' (steps z) in
       subst P (sym e.1) (still h' new' new t _ i.0 i.1 (passed h' at e.0 (λ (w : NextPhase C V). w ≡ answered y) t (answered y) e.2 may i.2 (λ w z. alike_at order number h' t _ _ z (answered_alike order number h' y))))
@@ -393,7 +393,7 @@ module _ {C V : Type 0} (number : C → ℕ) (same : V → V → Bool) (always :
       subst P (sym e.2) (paired h' _ new' new t _ (pair_freed order h g o x (number c) e.0 h' e.3 may.0 i.1) i.0 (alike_at order number h' t _ _ i.2 (left_alike order number h' root m next e.1 z r e.4)))
   phase_alike (Scan s) q h' new' t e may holds un sk i =
       let P : Phase ℕ V → Type 0 = λ z. Goal new' t h' (steps z) in
-      let Q : (ℕ → Node V) → Type 0 = λ z. TurnAlike order number z t (after_scan (next_scan m seen g e.0 e.0.stage).0 (next_scan m seen g e.0 e.0.stage).1) in
+      let Q : (ℕ → Node V) → Type 0 = λ z. NextPhaseAlike order number z t (after_scan (next_scan m seen g e.0 e.0.stage).0 (next_scan m seen g e.0 e.0.stage).1) in
       let R : NextPhase C V → Type 0 = λ z. IsUnrefused z.report.outcome in
       let a : NextScanAlike order number h (i.2.0, i.2.1) (next_scan m seen g e.0 e.0.stage) = next_scan_alike order number h g x always root m r seen s e.0 (i.2.0, i.2.1) e.2 may (subst R i.2.3 un) i.2.2 in
       subst P (sym e.1) (still h' new' new t _ i.0 i.1 (subst Q (sym i.0) (alike_at order number h t _ _ i.2.3 (record {

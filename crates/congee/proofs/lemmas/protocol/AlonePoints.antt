@@ -31,7 +31,7 @@ use Rattle.congee.specs.declared.protocol.phase.Phase.{Phase}
 use Rattle.congee.specs.declared.protocol.phase.Phase.TheVariants.{New, Version, Read, Check, CheckUncopied, CheckMiss, CheckDown, CheckOld, MakeLeaf, MakeGreater, MakeTop, MakeBeside, MakeLesser, AskOld, AskNew, Confirm, CheckAbove, UpgradeOne, ChangeOne, UpgradeTop, UpgradeAbove, UpgradeBelow, ChangeTwo, Obsolete, Retire, UnlockBelow, Unlock, Unwind, Scan, Ended}
 use Rattle.congee.specs.declared.protocol.machine.Outcome.{Outcome}
 use Rattle.congee.specs.declared.protocol.scan.Stage.TheVariants as stage
-use Rattle.congee.specs.declared.protocol.turn.NextPhase.{NextPhase}
+use Rattle.congee.specs.declared.protocol.next_phase.NextPhase.{NextPhase}
 use Rattle.congee.specs.Heap.{Node, Nothing, is_free, is_taken, version_of}
 use Rattle.congee.specs.Keys.{key_bytes}
 use Rattle.congee.specs.Notes.{Note, Linked, is_published, IsChild, Tree, LockWords}
@@ -78,7 +78,7 @@ deeper : (more k : ℕ) (p q : List ℕ) → length p < length q → length q �
 deeper more k p q l short m = omega (arith, l, short, m)
 
 module _ {C V : Type 0} (number : C → ℕ) (h : ℕ → Node V) (n : ℕ) where
-  -- a turn that leaves fewer than n steps, and tells an end and a question
+  -- a next phase that leaves fewer than n steps, and tells an end and a question
   abbrev pub Nearer : NextPhase C V → Type 0
   Nearer t = IsUndisturbed number h t.phase × (steps_left number h t.phase < n) × Tells t.phase t.report.outcome
 

@@ -14,7 +14,7 @@ use Rattle.congee.specs.declared.protocol.phase.Site.{Site}
 use Rattle.congee.specs.declared.protocol.phase.Single.TheVariants.{Set, Link}
 use Rattle.congee.specs.declared.protocol.phase.Plan.TheVariants.{Above}
 use Rattle.congee.specs.declared.protocol.phase.Phase.TheVariants.{MakeLeaf, MakeGreater, MakeTop, MakeBeside, MakeLesser}
-use Rattle.congee.specs.declared.protocol.turn.NextPhase.{NextPhase}
+use Rattle.congee.specs.declared.protocol.next_phase.NextPhase.{NextPhase}
 use Rattle.congee.specs.Heap.{Node, Hung, Nothing, Holds, fits}
 use Rattle.congee.specs.protocol.Events.{NewNode, Parts, places}
 use Rattle.congee.specs.protocol.Steps.{shrinks, form_below, both, refused, form_above, greater, MadeLeaf, MadeGreater, MadeTop, MadeBeside, MadeLesser}
@@ -43,8 +43,8 @@ room_above n l = by_test (λ (f : NodeType). n < places f) (ltb n 4) _ _ (λ q. 
     (λ _. by_test (λ (f : NodeType). n < places f) (ltb n 48) _ _ (λ q. grind (arith, nat_tests)) (λ _. l)))
 
 module _ {C V : Type 0} (number : C → ℕ) (same : V → V → Bool) (always : Bool) (i : ℕ) (a : ℕ → Note) (h : ℕ → Node V) (k : ℕ) (kind : Kind V) (given : Option V) where
-  answers_after : (b : Bool) (turn : NextPhase C V) (h' h'' : ℕ → Node V) → SameMap h h' → AnswersIf b same k kind given h' turn h'' → AnswersIf b same k kind given h turn h''
-  answers_after true turn h' h'' e x = (
+  answers_after : (b : Bool) (next_phase : NextPhase C V) (h' h'' : ℕ → Node V) → SameMap h h' → AnswersIf b same k kind given h' next_phase h'' → AnswersIf b same k kind given h next_phase h''
+  answers_after true next_phase h' h'' e x = (
     x.0,
     x.1,
     record {
@@ -56,11 +56,11 @@ module _ {C V : Type 0} (number : C → ℕ) (same : V → V → Bool) (always :
       rest = λ y l ne. x.2.rest y l ne ∙ e y l;
     },
   )
-  answers_after false turn h' h'' e x = λ y l. x y l ∙ e y l
+  answers_after false next_phase h' h'' e x = λ y l. x y l ∙ e y l
 
-  -- a turn after a step that left the map
-  kept_after : (given' : Option V) (turn : NextPhase C V) (a' : ℕ → Note) (h' : ℕ → Node V) → KeepsMap i a h a' h' → Sound number same always i k kind given h' given' turn a' h' → Kept number same always i a h k kind given given' turn h'
-  kept_after given' turn a' h' e s = record { notes = a'; effect = e.effect; sound = record { known = s.known; answer = answers_after turn.report.decided turn h' h' e.map s.answer } }
+  -- a next phase after a step that left the map
+  kept_after : (given' : Option V) (next_phase : NextPhase C V) (a' : ℕ → Note) (h' : ℕ → Node V) → KeepsMap i a h a' h' → Sound number same always i k kind given h' given' next_phase a' h' → Kept number same always i a h k kind given given' next_phase h'
+  kept_after given' next_phase a' h' e s = record { notes = a'; effect = e.effect; sound = record { known = s.known; answer = answers_after next_phase.report.decided next_phase h' h' e.map s.answer } }
 
   -- a turn by another name keeps ledger, tree and knowledge where the turn does
   pub kept_at : (given' : Option V) (x y : NextPhase C V) (h' : ℕ → Node V) → y ≡ x → Kept number same always i a h k kind given given' x h' → Kept number same always i a h k kind given given' y h'
@@ -82,13 +82,13 @@ module _ {C V : Type 0} (number : C → ℕ) (same : V → V → Bool) (always :
   stamped_after a' h' e n v m = stamped_kept (λ _. Unit {0}) (suc i) a h a' h' (own_rely i a h a' h' e) n v tt m
 
   -- once its leaf was made or refused, a call knows what its next step wants
-  pub leaf_made : (s : Site C) (turn : NextPhase C V) (h' : ℕ → Node V) (r : Result C Refusal) → Known number same always i a h k (key_bytes k) kind given (MakeLeaf s) → MadeLeaf number kind s h (key_bytes k) r h' turn
-      → Kept number same always i a h k kind given given turn h'
-  leaf_made s turn h' (Err e) m g = kept_at number same always i a h k kind given given _ turn h' g.1 (refused_back number same always i a h k kind given h' e (back_none i a h h' t w g.0))
-  leaf_made s turn h' (Ok c) m g =
+  pub leaf_made : (s : Site C) (next_phase : NextPhase C V) (h' : ℕ → Node V) (r : Result C Refusal) → Known number same always i a h k (key_bytes k) kind given (MakeLeaf s) → MadeLeaf number kind s h (key_bytes k) r h' next_phase
+      → Kept number same always i a h k kind given given next_phase h'
+  leaf_made s next_phase h' (Err e) m g = kept_at number same always i a h k kind given given _ next_phase h' g.1 (refused_back number same always i a h k kind given h' e (back_none i a h h' t w g.0))
+  leaf_made s next_phase h' (Ok c) m g =
       let e : KeepsMap i a h (making a i (number c)) h' = make_still i a h (number c) N4 (key_bytes k) 7 h' t w g.0 in
       let leaf : Made i (making a i (number c)) h' (key_bytes k) (number c) 7 0 = made_new i a h (number c) N4 k 7 0 h' g.0 (omega arith) in
-      kept_at number same always i a h k kind given given _ turn h' g.1
+      kept_at number same always i a h k kind given given _ next_phase h' g.1
       (kept_after number same always i a h k kind given given _ (making a i (number c)) h' e
       (unless_full_sound number same always i (making a i (number c)) h' k e.effect.tree e.effect.words kind given s (Some c) (Link c) s.full s.above refl refl m.3 m.4 m.0
       (knows_after _ h' e.effect s Nothing m.1) (m.2, leaf) m.2 leaf))
@@ -137,14 +137,14 @@ module _ {C V : Type 0} (number : C → ℕ) (same : V → V → Bool) (always :
       (made_before i a h (number c) form (key_bytes k) size h' g (number leaf) 7 0 l.1).0 (ap number z ∙ sym q)
 
   -- once its greater node was made or refused, a call knows what its next step wants
-  pub greater_made : (s : Site C) (p : Parent C) (leaf : Option C) (turn : NextPhase C V) (h' : ℕ → Node V) (r : Result C Refusal) → Known number same always i a h k (key_bytes k) kind given (MakeGreater s p leaf)
-      → MadeGreater number kind s p leaf h (key_bytes k) r h' turn → Kept number same always i a h k kind given given turn h'
-  greater_made s p None turn h' (Err e) m g = kept_at number same always i a h k kind given given _ turn h' g.1 (refused_back number same always i a h k kind given h' e (back_none i a h h' t w g.0))
-  greater_made s p (Some leaf) turn h' (Err e) m g = kept_at number same always i a h k kind given given _ turn h' g.1 (refused_back number same always i a h k kind given h' e (back_node i a h (key_bytes k) (number leaf) 7 0 h' t w m.3.1 g.0))
-  greater_made s p leaf turn h' (Ok c) m g =
+  pub greater_made : (s : Site C) (p : Parent C) (leaf : Option C) (next_phase : NextPhase C V) (h' : ℕ → Node V) (r : Result C Refusal) → Known number same always i a h k (key_bytes k) kind given (MakeGreater s p leaf)
+      → MadeGreater number kind s p leaf h (key_bytes k) r h' next_phase → Kept number same always i a h k kind given given next_phase h'
+  greater_made s p None next_phase h' (Err e) m g = kept_at number same always i a h k kind given given _ next_phase h' g.1 (refused_back number same always i a h k kind given h' e (back_none i a h h' t w g.0))
+  greater_made s p (Some leaf) next_phase h' (Err e) m g = kept_at number same always i a h k kind given given _ next_phase h' g.1 (refused_back number same always i a h k kind given h' e (back_node i a h (key_bytes k) (number leaf) 7 0 h' t w m.3.1 g.0))
+  greater_made s p leaf next_phase h' (Ok c) m g =
       let e : KeepsMap i a h (making a i (number c)) h' = make_still i a h (number c) (form_above s.count) (key_bytes k) s.depth h' t w g.0 in
       let new : Made i (making a i (number c)) h' (key_bytes k) (number c) s.depth s.count = made_new i a h (number c) (form_above s.count) k s.depth s.count h' g.0 (room_above s.count m.5) in
-      kept_at number same always i a h k kind given given _ turn h' g.1
+      kept_at number same always i a h k kind given given _ next_phase h' g.1
       (kept_after number same always i a h k kind given given _ (making a i (number c)) h' e
       (ready_sound number same always i (making a i (number c)) h' k e.effect.tree e.effect.words kind given _ m.4 m.0
       (greater_known _ h' s p leaf c (child_after _ h' e.effect p (number s.at.node) m.2) (knows_after _ h' e.effect s Nothing m.1) (leaf_before c _ s.depth h' s leaf g.0 m.3) (leaf_other c _ s.depth h' s leaf g.0 m.3) new)))
@@ -156,12 +156,12 @@ module _ {C V : Type 0} (number : C → ℕ) (same : V → V → Bool) (always :
   byte_after a' h' e n common byte pu q = let P : List ℕ → Type 0 = λ y. byte ≡ get_or y common 0 in subst P (sym ((own_rely i a h a' h' e).prefix n tt pu)) q
 
   -- once the node where ways part was made or refused, a call knows what its next step wants
-  pub top_made : (p : Parent C) (at : Stamp C) (common byte : ℕ) (turn : NextPhase C V) (h' : ℕ → Node V) (r : Result C Refusal) → Known number same always i a h k (key_bytes k) kind given (MakeTop p at common byte)
-      → MadeTop number p at common byte h (key_bytes k) r h' turn → Kept number same always i a h k kind given given turn h'
-  top_made p at common byte turn h' (Err e) m g = kept_at number same always i a h k kind given given _ turn h' g.1 (refused_back number same always i a h k kind given h' e (back_none i a h h' t w g.0))
-  top_made p at common byte turn h' (Ok c) m g =
+  pub top_made : (p : Parent C) (at : Stamp C) (common byte : ℕ) (next_phase : NextPhase C V) (h' : ℕ → Node V) (r : Result C Refusal) → Known number same always i a h k (key_bytes k) kind given (MakeTop p at common byte)
+      → MadeTop number p at common byte h (key_bytes k) r h' next_phase → Kept number same always i a h k kind given given next_phase h'
+  top_made p at common byte next_phase h' (Err e) m g = kept_at number same always i a h k kind given given _ next_phase h' g.1 (refused_back number same always i a h k kind given h' e (back_none i a h h' t w g.0))
+  top_made p at common byte next_phase h' (Ok c) m g =
       let e : KeepsMap i a h (making a i (number c)) h' = make_still i a h (number c) N4 (key_bytes k) common h' t w g.0 in
-      kept_at number same always i a h k kind given given _ turn h' g.1 (record {
+      kept_at number same always i a h k kind given given _ next_phase h' g.1 (record {
         notes = making a i (number c);
         effect = e.effect;
         sound = record {
@@ -179,14 +179,14 @@ module _ {C V : Type 0} (number : C → ℕ) (same : V → V → Bool) (always :
       })
 
   -- once the leaf beside was made or refused, a call knows what its next step wants
-  pub beside_made : (p : Parent C) (at : Stamp C) (common byte : ℕ) (top : C) (turn : NextPhase C V) (h' : ℕ → Node V) (r : Result C Refusal) → Known number same always i a h k (key_bytes k) kind given (MakeBeside p at common byte top)
-      → MadeBeside number kind p at common byte top h (key_bytes k) r h' turn → Kept number same always i a h k kind given given turn h'
-  beside_made p at common byte top turn h' (Err e) m g = kept_at number same always i a h k kind given given _ turn h' g.1 (refused_back number same always i a h k kind given h' e (back_node i a h (key_bytes k) (number top) common 1 h' t w m.6 g.0))
-  beside_made p at common byte top turn h' (Ok c) m g =
+  pub beside_made : (p : Parent C) (at : Stamp C) (common byte : ℕ) (top : C) (next_phase : NextPhase C V) (h' : ℕ → Node V) (r : Result C Refusal) → Known number same always i a h k (key_bytes k) kind given (MakeBeside p at common byte top)
+      → MadeBeside number kind p at common byte top h (key_bytes k) r h' next_phase → Kept number same always i a h k kind given given next_phase h'
+  beside_made p at common byte top next_phase h' (Err e) m g = kept_at number same always i a h k kind given given _ next_phase h' g.1 (refused_back number same always i a h k kind given h' e (back_node i a h (key_bytes k) (number top) common 1 h' t w m.6 g.0))
+  beside_made p at common byte top next_phase h' (Ok c) m g =
       let e : KeepsMap i a h (making a i (number c)) h' = make_still i a h (number c) N4 (key_bytes k) 7 h' t w g.0 in
       let old : (number top ≢ number c) × Made i (making a i (number c)) h' (key_bytes k) (number top) common 1 = made_before i a h (number c) N4 (key_bytes k) 7 h' g.0 (number top) common 1 m.6 in
       let stamp : Stamped (making a i (number c)) h' (number at.node) at.version = stamped_after _ h' e.effect (number at.node) at.version m.2 in
-      kept_at number same always i a h k kind given given _ turn h' g.1
+      kept_at number same always i a h k kind given given _ next_phase h' g.1
       (kept_after number same always i a h k kind given given _ (making a i (number c)) h' e
       (ready_sound number same always i (making a i (number c)) h' k e.effect.tree e.effect.words kind given _ m.5 m.0 (
         (
@@ -219,11 +219,11 @@ module _ {C V : Type 0} (number : C → ℕ) (same : V → V → Bool) (always :
       some_place N256 = omega arith
 
   -- the lesser node was made, or the call goes on without it
-  pub lesser_made : (s : Site C) (p : Parent C) (top : Option (Parent C)) (r : Reply V) (turn : NextPhase C V) (h' : ℕ → Node V) (x : Result C Refusal) → Known number same always i a h k (key_bytes k) kind given (MakeLesser s p top r)
-      → MadeLesser number s p top r h (key_bytes k) x h' turn → Kept number same always i a h k kind given given turn h'
-  lesser_made s p None r turn h' (Err e) m g =
+  pub lesser_made : (s : Site C) (p : Parent C) (top : Option (Parent C)) (r : Reply V) (next_phase : NextPhase C V) (h' : ℕ → Node V) (x : Result C Refusal) → Known number same always i a h k (key_bytes k) kind given (MakeLesser s p top r)
+      → MadeLesser number s p top r h (key_bytes k) x h' next_phase → Kept number same always i a h k kind given given next_phase h'
+  lesser_made s p None r next_phase h' (Err e) m g =
       let b : Backed i a h h' = back_none i a h h' t w g.0 in
-      kept_at number same always i a h k kind given given _ turn h' g.1 (record {
+      kept_at number same always i a h k kind given given _ next_phase h' g.1 (record {
         notes = b.notes;
         effect = b.still.effect;
         sound = record {
@@ -239,9 +239,9 @@ module _ {C V : Type 0} (number : C → ℕ) (same : V → V → Bool) (always :
           answer = b.still.map;
         };
       })
-  lesser_made s p (Some top) r turn h' (Err e) m g =
+  lesser_made s p (Some top) r next_phase h' (Err e) m g =
       let b : Backed i a h h' = back_none i a h h' t w g.0 in
-      kept_at number same always i a h k kind given given _ turn h' g.1 (record {
+      kept_at number same always i a h k kind given given _ next_phase h' g.1 (record {
         notes = b.notes;
         effect = b.still.effect;
         sound = record {
@@ -265,11 +265,11 @@ module _ {C V : Type 0} (number : C → ℕ) (same : V → V → Bool) (always :
           answer = b.still.map;
         };
       })
-  lesser_made s p None r turn h' (Ok c) m g =
+  lesser_made s p None r next_phase h' (Ok c) m g =
       let e : KeepsMap i a h (making a i (number c)) h' = make_still i a h (number c) (form_below s.form) (key_bytes k) s.depth h' t w g.0 in
       let s' : Knows number (making a i (number c)) h' (key_bytes k) s (Holds m.1.0) = knows_after _ h' e.effect s (Holds m.1.0) m.1.1 in
       let new : Made i (making a i (number c)) h' (key_bytes k) (number c) s.depth (s.count - 1) = made_new i a h (number c) (form_below s.form) k s.depth (s.count - 1) h' g.0 (less s.form s.count m.5) in
-      kept_at number same always i a h k kind given given _ turn h' g.1 (record {
+      kept_at number same always i a h k kind given given _ next_phase h' g.1 (record {
         notes = making a i (number c);
         effect = e.effect;
         sound = record {
@@ -293,11 +293,11 @@ module _ {C V : Type 0} (number : C → ℕ) (same : V → V → Bool) (always :
           answer = e.map;
         };
       })
-  lesser_made s p (Some top) r turn h' (Ok c) m g =
+  lesser_made s p (Some top) r next_phase h' (Ok c) m g =
       let e : KeepsMap i a h (making a i (number c)) h' = make_still i a h (number c) (form_below p.form) (key_bytes k) p.depth h' t w g.0 in
       let s' : Knows number (making a i (number c)) h' (key_bytes k) s (Holds m.1.0) = knows_after _ h' e.effect s (Holds m.1.0) m.1.1 in
       let new : Made i (making a i (number c)) h' (key_bytes k) (number c) p.depth (p.count - 1) = made_new i a h (number c) (form_below p.form) k p.depth (p.count - 1) h' g.0 (less p.form p.count m.5.3) in
-      kept_at number same always i a h k kind given given _ turn h' g.1 (record {
+      kept_at number same always i a h k kind given given _ next_phase h' g.1 (record {
         notes = making a i (number c);
         effect = e.effect;
         sound = record {

@@ -38,7 +38,7 @@ use Rattle.congee.specs.declared.protocol.machine.Outcome.TheVariants.{Running, 
 use Rattle.congee.specs.declared.protocol.machine.Move.{Move}
 use Rattle.congee.specs.declared.protocol.machine.Machine.{Machine}
 use Rattle.congee.specs.declared.protocol.run.Step.{Step}
-use Rattle.congee.specs.declared.protocol.turn.NextPhase.{NextPhase}
+use Rattle.congee.specs.declared.protocol.next_phase.NextPhase.{NextPhase}
 use Rattle.congee.specs.Keys.{key_bytes}
 use Rattle.congee.specs.protocol.Play.{NextAt}
 use Rattle.congee.specs.declared.protocol.scan.Rung.{Rung}
@@ -55,7 +55,7 @@ use Rattle.congee.specs.protocol.Protocol.{IsFailure, Known}
 use Rattle.congee.specs.protocol.ScanEvents.{IsAny}
 use Rattle.congee.specs.protocol.ScanKnown.{ScanKnownAt}
 use Rattle.congee.specs.protocol.ScanSteps.{whole, is_outside, last_of, NextScan, anew, left_to, entered, begins, IsFollowed, ScanSteppedAt}
-use Rattle.congee.specs.protocol.Steps.{shrinks, lesser_form, both, last_out, after_top, after_retire, after_unwind, given_up, again, refused, asking, CopyFailed as Uncopied_turn, adds, asks_new, absent_reply, form_above, greater, after_version, after_read, down, started, ready, plan_here, unless_full, absent, IsAsked, replaced, taken_out, is_same, IsAtOld, IsAdded, IsExchanged, IsPresent, IsChecked, after_miss, IsGiven, IsGivenNew, MadeLeaf, MadeGreater, MadeTop, MadeBeside, MadeLesser, UpgradedOne, UpgradedTop, UpgradedAbove, UpgradedBelow, after_change, outcome_of, PhaseStepped}
+use Rattle.congee.specs.protocol.Steps.{shrinks, lesser_form, both, last_out, after_top, after_retire, after_unwind, given_up, again, refused, asking, CopyFailed as UncopiedNext, adds, asks_new, absent_reply, form_above, greater, after_version, after_read, down, started, ready, plan_here, unless_full, absent, IsAsked, replaced, taken_out, is_same, IsAtOld, IsAdded, IsExchanged, IsPresent, IsChecked, after_miss, IsGiven, IsGivenNew, MadeLeaf, MadeGreater, MadeTop, MadeBeside, MadeLesser, UpgradedOne, UpgradedTop, UpgradedAbove, UpgradedBelow, after_change, outcome_of, PhaseStepped}
 use Rattle.congee.proofs.lemmas.Fits.{equal}
 use Rattle.congee.proofs.lemmas.Graft.{on_test}
 use Rattle.congee.proofs.lemmas.protocol.Touch.{by_test}
@@ -150,7 +150,7 @@ module _ (C V : Type 0) (Q : Refusal → Type 0) where
 
   -- where copies may fail, Q has their refusal
   module _ (always : Bool) (count : always ≡ false → Q refusal.Count) where
-    uncounted : (x t : NextPhase C V) → (t ≡ x) ⊎ Uncopied_turn always t → Only x → Only t
+    uncounted : (x t : NextPhase C V) → (t ≡ x) ⊎ UncopiedNext always t → Only x → Only t
     uncounted x t (inl p) f = to x t p f
     uncounted x t (inr p) f = to (refused refusal.Count) t p.1 (stops refusal.Count (count p.0))
 

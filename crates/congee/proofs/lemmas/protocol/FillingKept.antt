@@ -20,7 +20,7 @@ use Rattle.congee.specs.declared.protocol.phase.Plan.{Plan}
 use Rattle.congee.specs.declared.protocol.phase.Plan.TheVariants.{Here, Above}
 use Rattle.congee.specs.declared.protocol.phase.Phase.{Phase}
 use Rattle.congee.specs.declared.protocol.phase.Phase.TheVariants.{MakeLeaf, MakeGreater, MakeTop, MakeBeside, MakeLesser, AskNew, CheckAbove, UpgradeOne, ChangeOne, UpgradeTop, UpgradeAbove, UpgradeBelow, ChangeTwo, Obsolete, Retire, UnlockBelow, Unlock, Unwind}
-use Rattle.congee.specs.declared.protocol.turn.NextPhase.{NextPhase}
+use Rattle.congee.specs.declared.protocol.next_phase.NextPhase.{NextPhase}
 use Rattle.congee.specs.Heap.{Node, Hung, is_taken}
 use Rattle.congee.specs.Keys.{key_bytes}
 use Rattle.congee.specs.Notes.{Note, Linked, is_published, Tree, LockWords}
@@ -70,75 +70,75 @@ module _ {C V : Type 0} (number : C → ℕ) (same : V → V → Bool) (always :
   equal : h' ≡ h → AllFilled h'
   equal e = stays (still_equal a h w h' e)
 
-  leaf_made : (s : Site C) (turn : NextPhase C V) (x : Result C Refusal) → MadeLeaf number kind s h (key_bytes k) x h' turn → AllFilled h'
-  leaf_made s turn (Ok c) g = stays (still_new a h w h' (number c) _ (key_bytes k) 7 g.0)
-  leaf_made s turn (Err e) g = equal g.0
+  leaf_made : (s : Site C) (next_phase : NextPhase C V) (x : Result C Refusal) → MadeLeaf number kind s h (key_bytes k) x h' next_phase → AllFilled h'
+  leaf_made s next_phase (Ok c) g = stays (still_new a h w h' (number c) _ (key_bytes k) 7 g.0)
+  leaf_made s next_phase (Err e) g = equal g.0
 
-  greater_made : (s : Site C) (p : Parent C) (leaf : Option C) (turn : NextPhase C V) (x : Result C Refusal) → MadeLeafFor number i a h (key_bytes k) s leaf → MadeGreater number kind s p leaf h (key_bytes k) x h' turn → AllFilled h'
-  greater_made s p leaf turn (Ok c) m g = stays (still_new a h w h' (number c) _ (key_bytes k) s.depth g.0)
-  greater_made s p leaf turn (Err e) m g = stays (leaf_back_still number i a h h' (key_bytes k) w s leaf m g.0)
+  greater_made : (s : Site C) (p : Parent C) (leaf : Option C) (next_phase : NextPhase C V) (x : Result C Refusal) → MadeLeafFor number i a h (key_bytes k) s leaf → MadeGreater number kind s p leaf h (key_bytes k) x h' next_phase → AllFilled h'
+  greater_made s p leaf next_phase (Ok c) m g = stays (still_new a h w h' (number c) _ (key_bytes k) s.depth g.0)
+  greater_made s p leaf next_phase (Err e) m g = stays (leaf_back_still number i a h h' (key_bytes k) w s leaf m g.0)
 
-  top_made : (p : Parent C) (at : Stamp C) (common byte : ℕ) (turn : NextPhase C V) (x : Result C Refusal) → MadeTop number p at common byte h (key_bytes k) x h' turn → AllFilled h'
-  top_made p at common byte turn (Ok c) g = stays (still_new a h w h' (number c) _ (key_bytes k) common g.0)
-  top_made p at common byte turn (Err e) g = equal g.0
+  top_made : (p : Parent C) (at : Stamp C) (common byte : ℕ) (next_phase : NextPhase C V) (x : Result C Refusal) → MadeTop number p at common byte h (key_bytes k) x h' next_phase → AllFilled h'
+  top_made p at common byte next_phase (Ok c) g = stays (still_new a h w h' (number c) _ (key_bytes k) common g.0)
+  top_made p at common byte next_phase (Err e) g = equal g.0
 
-  beside_made : (p : Parent C) (at : Stamp C) (common byte : ℕ) (top : C) (turn : NextPhase C V) (x : Result C Refusal) → Made i a h (key_bytes k) (number top) common 1 → MadeBeside number kind p at common byte top h (key_bytes k) x h' turn → AllFilled h'
-  beside_made p at common byte top turn (Ok c) m g = stays (still_new a h w h' (number c) _ (key_bytes k) 7 g.0)
-  beside_made p at common byte top turn (Err e) m g = stays (back_still number i a h h' (key_bytes k) w (number top) common 1 m g.0)
+  beside_made : (p : Parent C) (at : Stamp C) (common byte : ℕ) (top : C) (next_phase : NextPhase C V) (x : Result C Refusal) → Made i a h (key_bytes k) (number top) common 1 → MadeBeside number kind p at common byte top h (key_bytes k) x h' next_phase → AllFilled h'
+  beside_made p at common byte top next_phase (Ok c) m g = stays (still_new a h w h' (number c) _ (key_bytes k) 7 g.0)
+  beside_made p at common byte top next_phase (Err e) m g = stays (back_still number i a h h' (key_bytes k) w (number top) common 1 m g.0)
 
-  lesser_made : (s : Site C) (p : Parent C) (top : Option (Parent C)) (r : Reply V) (turn : NextPhase C V) (x : Result C Refusal) → MadeLesser number s p top r h (key_bytes k) x h' turn → AllFilled h'
-  lesser_made s p None r turn (Ok c) g = stays (still_new a h w h' (number c) _ (key_bytes k) s.depth g.0)
-  lesser_made s p None r turn (Err e) g = equal g.0
-  lesser_made s p (Some top) r turn (Ok c) g = stays (still_new a h w h' (number c) _ (key_bytes k) p.depth g.0)
-  lesser_made s p (Some top) r turn (Err e) g = equal g.0
+  lesser_made : (s : Site C) (p : Parent C) (top : Option (Parent C)) (r : Reply V) (next_phase : NextPhase C V) (x : Result C Refusal) → MadeLesser number s p top r h (key_bytes k) x h' next_phase → AllFilled h'
+  lesser_made s p None r next_phase (Ok c) g = stays (still_new a h w h' (number c) _ (key_bytes k) s.depth g.0)
+  lesser_made s p None r next_phase (Err e) g = equal g.0
+  lesser_made s p (Some top) r next_phase (Ok c) g = stays (still_new a h w h' (number c) _ (key_bytes k) p.depth g.0)
+  lesser_made s p (Some top) r next_phase (Err e) g = equal g.0
 
   locked : (n : ℕ) → ((m : ℕ) → Alike (h m) (h' m)) → AllFilled h'
   locked n e = stays (λ m _. e m)
 
-  one_upgraded : (root : C) (one : One C) (r : Reply V) (turn : NextPhase C V) (u : Upgrade) → MadeOne number i a h (key_bytes k) one.change → UpgradedOne number root one r h u h' turn → AllFilled h'
-  one_upgraded root one r turn Locked m g = locked (number one.at.node) (locked_alike h (number one.at.node) h' g.0)
-  one_upgraded root one r turn Failed m g = stays (one_back_still number i a h h' (key_bytes k) w one.change m g.0)
-  one_upgraded root one r turn Exhausted m g = stays (one_back_still number i a h h' (key_bytes k) w one.change m g.0)
+  one_upgraded : (root : C) (one : One C) (r : Reply V) (next_phase : NextPhase C V) (u : Upgrade) → MadeOne number i a h (key_bytes k) one.change → UpgradedOne number root one r h u h' next_phase → AllFilled h'
+  one_upgraded root one r next_phase Locked m g = locked (number one.at.node) (locked_alike h (number one.at.node) h' g.0)
+  one_upgraded root one r next_phase Failed m g = stays (one_back_still number i a h h' (key_bytes k) w one.change m g.0)
+  one_upgraded root one r next_phase Exhausted m g = stays (one_back_still number i a h h' (key_bytes k) w one.change m g.0)
 
   two_back : (two : Two C) (size q : ℕ) → MadeTwo number i a h (key_bytes k) two.above two.change size q → BackTwo number h two.change h' → AllFilled h'
   two_back two size q m g = stays (two_back_still number i a h h' (key_bytes k) w two.above two.change size q m g)
 
-  top_upgraded : (root : C) (top : Parent C) (two : Two C) (r : Reply V) (turn : NextPhase C V) (u : Upgrade) (size q : ℕ) → MadeTwo number i a h (key_bytes k) two.above two.change size q → UpgradedTop number root top two r h u h' turn → AllFilled h'
-  top_upgraded root top two r turn Locked size q m g = locked (number top.stamp.node) (locked_alike h (number top.stamp.node) h' g.0)
-  top_upgraded root top two r turn Failed size q m g = two_back two size q m g.0
-  top_upgraded root top two r turn Exhausted size q m g = two_back two size q m g.0
+  top_upgraded : (root : C) (top : Parent C) (two : Two C) (r : Reply V) (next_phase : NextPhase C V) (u : Upgrade) (size q : ℕ) → MadeTwo number i a h (key_bytes k) two.above two.change size q → UpgradedTop number root top two r h u h' next_phase → AllFilled h'
+  top_upgraded root top two r next_phase Locked size q m g = locked (number top.stamp.node) (locked_alike h (number top.stamp.node) h' g.0)
+  top_upgraded root top two r next_phase Failed size q m g = two_back two size q m g.0
+  top_upgraded root top two r next_phase Exhausted size q m g = two_back two size q m g.0
 
-  above_upgraded : (root : C) (two : Two C) (r : Reply V) (turn : NextPhase C V) (u : Upgrade) (size q : ℕ) → MadeTwo number i a h (key_bytes k) two.above two.change size q → UpgradedAbove number root two r h u h' turn → AllFilled h'
-  above_upgraded root two r turn Locked size q m g = locked (number two.above.stamp.node) (locked_alike h (number two.above.stamp.node) h' g.0)
-  above_upgraded root two r turn Failed size q m g = two_back two size q m g.0
-  above_upgraded root two r turn Exhausted size q m g = two_back two size q m g.0
+  above_upgraded : (root : C) (two : Two C) (r : Reply V) (next_phase : NextPhase C V) (u : Upgrade) (size q : ℕ) → MadeTwo number i a h (key_bytes k) two.above two.change size q → UpgradedAbove number root two r h u h' next_phase → AllFilled h'
+  above_upgraded root two r next_phase Locked size q m g = locked (number two.above.stamp.node) (locked_alike h (number two.above.stamp.node) h' g.0)
+  above_upgraded root two r next_phase Failed size q m g = two_back two size q m g.0
+  above_upgraded root two r next_phase Exhausted size q m g = two_back two size q m g.0
 
-  both_upgraded : (two : Two C) (r : Reply V) (turn : NextPhase C V) (u : Upgrade) (size q : ℕ) → MadeTwo number i a h (key_bytes k) two.above two.change size q → UpgradedBelow number two r h u h' turn → AllFilled h'
-  both_upgraded two r turn Locked size q m g = locked (number two.at.node) (locked_alike h (number two.at.node) h' g.0)
-  both_upgraded two r turn Failed size q m g = two_back two size q m g.0
-  both_upgraded two r turn Exhausted size q m g = two_back two size q m g.0
+  both_upgraded : (two : Two C) (r : Reply V) (next_phase : NextPhase C V) (u : Upgrade) (size q : ℕ) → MadeTwo number i a h (key_bytes k) two.above two.change size q → UpgradedBelow number two r h u h' next_phase → AllFilled h'
+  both_upgraded two r next_phase Locked size q m g = locked (number two.at.node) (locked_alike h (number two.at.node) h' g.0)
+  both_upgraded two r next_phase Failed size q m g = two_back two size q m g.0
+  both_upgraded two r next_phase Exhausted size q m g = two_back two size q m g.0
 
   -- every step
-  pub step_filled : (most : ℕ) (why : NodeType → Refusal → Type 0) (root : C) (fail : Bool) (answer : Option (Option V)) (s : Phase C V) (given' : Option V) (turn : NextPhase C V) → Known number same always i a h k (key_bytes k) kind given s → Fills number h given s
-      → PhaseStepped number same always most why root (key_bytes k) kind fail answer given s h given' turn h' → AllFilled h'
-  step_filled most why root fail answer (MakeLeaf s) given' turn m x g = leaf_made s turn g.1.0 g.1.1
-  step_filled most why root fail answer (MakeGreater s p leaf) given' turn m x g = greater_made s p leaf turn g.1.0 m.3 g.1.1
-  step_filled most why root fail answer (MakeTop p at common byte) given' turn m x g = top_made p at common byte turn g.1.0 g.1.1
-  step_filled most why root fail answer (MakeBeside p at common byte top) given' turn m x g = beside_made p at common byte top turn g.1.0 m.6 g.1.1
-  step_filled most why root fail answer (MakeLesser s p top r) given' turn m x g = lesser_made s p top r turn g.1.0 g.1.1
-  step_filled most why root fail answer (CheckAbove p one r) given' turn m x g = on_test (is_taken (h (number p.node)) p.version) (λ q. equal (g.1.goes_on q).0) (λ q. stays (one_back_still number i a h h' (key_bytes k) w one.change m.2.made (g.1.goes_back q).0))
-  step_filled most why root fail answer (UpgradeOne one r) given' turn m x g = one_upgraded root one r turn g.1.0 m.1.1.made g.1.2
-  step_filled most why root fail answer (ChangeOne one r) given' turn m x g = one_filled number i a h (key_bytes k) t w f one m.0 given h' m.1 m.2 x g.1
-  step_filled most why root fail answer (UpgradeTop top two r) given' turn m x g = top_upgraded root top two r turn g.1.0 _ m.1.1 m.1.2.made g.1.2
-  step_filled most why root fail answer (UpgradeAbove two r) given' turn m x g = above_upgraded root two r turn g.1.0 _ m.1.1 m.1.2.made g.1.2
-  step_filled most why root fail answer (UpgradeBelow two r) given' turn m x g = both_upgraded two r turn g.1.0 _ m.1.1 m.1.2.made g.1.2
-  step_filled most why root fail answer (ChangeTwo two r) given' turn m x g = two_filled number i a h (key_bytes k) t w f two given m.0 m.1 h' m.2.top m.2.above m.2.placed m.2.wanted m.2.made m.4 x g.1
-  step_filled most why root fail answer (Obsolete n next p r) given' turn m x g = stays (still_but a h w h' (number n) _ (record { prefix = refl; children = λ b. refl; count = refl; capacity = refl }) g.1)
-  step_filled most why root fail answer (Retire n next p r) given' turn m x g = stays (still_but a h w h' (number n) _ (record { prefix = refl; children = λ b. refl; count = refl; capacity = refl }) g.1)
-  step_filled most why root fail answer (UnlockBelow n p r) given' turn m x g = stays (still_but a h w h' (number n) _ (record { prefix = refl; children = λ b. refl; count = refl; capacity = refl }) g.1)
-  step_filled most why root fail answer (Unlock n r) given' turn m x g = stays (still_but a h w h' (number n) _ (record { prefix = refl; children = λ b. refl; count = refl; capacity = refl }) g.1)
-  step_filled most why root fail answer (Unwind n next e) given' turn m x g = stays (still_but a h w h' (number n) _ (record { prefix = refl; children = λ b. refl; count = refl; capacity = refl }) g.1)
-  step_filled most why root fail answer _ given' turn m x g = equal g.0
+  pub step_filled : (most : ℕ) (why : NodeType → Refusal → Type 0) (root : C) (fail : Bool) (answer : Option (Option V)) (s : Phase C V) (given' : Option V) (next_phase : NextPhase C V) → Known number same always i a h k (key_bytes k) kind given s → Fills number h given s
+      → PhaseStepped number same always most why root (key_bytes k) kind fail answer given s h given' next_phase h' → AllFilled h'
+  step_filled most why root fail answer (MakeLeaf s) given' next_phase m x g = leaf_made s next_phase g.1.0 g.1.1
+  step_filled most why root fail answer (MakeGreater s p leaf) given' next_phase m x g = greater_made s p leaf next_phase g.1.0 m.3 g.1.1
+  step_filled most why root fail answer (MakeTop p at common byte) given' next_phase m x g = top_made p at common byte next_phase g.1.0 g.1.1
+  step_filled most why root fail answer (MakeBeside p at common byte top) given' next_phase m x g = beside_made p at common byte top next_phase g.1.0 m.6 g.1.1
+  step_filled most why root fail answer (MakeLesser s p top r) given' next_phase m x g = lesser_made s p top r next_phase g.1.0 g.1.1
+  step_filled most why root fail answer (CheckAbove p one r) given' next_phase m x g = on_test (is_taken (h (number p.node)) p.version) (λ q. equal (g.1.goes_on q).0) (λ q. stays (one_back_still number i a h h' (key_bytes k) w one.change m.2.made (g.1.goes_back q).0))
+  step_filled most why root fail answer (UpgradeOne one r) given' next_phase m x g = one_upgraded root one r next_phase g.1.0 m.1.1.made g.1.2
+  step_filled most why root fail answer (ChangeOne one r) given' next_phase m x g = one_filled number i a h (key_bytes k) t w f one m.0 given h' m.1 m.2 x g.1
+  step_filled most why root fail answer (UpgradeTop top two r) given' next_phase m x g = top_upgraded root top two r next_phase g.1.0 _ m.1.1 m.1.2.made g.1.2
+  step_filled most why root fail answer (UpgradeAbove two r) given' next_phase m x g = above_upgraded root two r next_phase g.1.0 _ m.1.1 m.1.2.made g.1.2
+  step_filled most why root fail answer (UpgradeBelow two r) given' next_phase m x g = both_upgraded two r next_phase g.1.0 _ m.1.1 m.1.2.made g.1.2
+  step_filled most why root fail answer (ChangeTwo two r) given' next_phase m x g = two_filled number i a h (key_bytes k) t w f two given m.0 m.1 h' m.2.top m.2.above m.2.placed m.2.wanted m.2.made m.4 x g.1
+  step_filled most why root fail answer (Obsolete n next p r) given' next_phase m x g = stays (still_but a h w h' (number n) _ (record { prefix = refl; children = λ b. refl; count = refl; capacity = refl }) g.1)
+  step_filled most why root fail answer (Retire n next p r) given' next_phase m x g = stays (still_but a h w h' (number n) _ (record { prefix = refl; children = λ b. refl; count = refl; capacity = refl }) g.1)
+  step_filled most why root fail answer (UnlockBelow n p r) given' next_phase m x g = stays (still_but a h w h' (number n) _ (record { prefix = refl; children = λ b. refl; count = refl; capacity = refl }) g.1)
+  step_filled most why root fail answer (Unlock n r) given' next_phase m x g = stays (still_but a h w h' (number n) _ (record { prefix = refl; children = λ b. refl; count = refl; capacity = refl }) g.1)
+  step_filled most why root fail answer (Unwind n next e) given' next_phase m x g = stays (still_but a h w h' (number n) _ (record { prefix = refl; children = λ b. refl; count = refl; capacity = refl }) g.1)
+  step_filled most why root fail answer _ given' next_phase m x g = equal g.0
 
 -- the steps of others, and nodes that are destroyed, leave what a call is about to do
 module _ {C V : Type 0} (number : C → ℕ) (key : List ℕ) (K : ℕ → Type 0) (i : ℕ) (a : ℕ → Note) (h : ℕ → Node V) (a' : ℕ → Note) (h' : ℕ → Node V) (r : Rely K i a h a' h') where

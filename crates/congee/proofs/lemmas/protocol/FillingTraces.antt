@@ -13,7 +13,7 @@ use Rattle.congee.specs.protocol.Play.{Begins, Settled, NextAt}
 use Rattle.congee.specs.protocol.Trace.{Traced, AreTraced, IsTrace, nodes_after}
 use Rattle.congee.proofs.lemmas.protocol.Steps.{stepped_keeps}
 use Rattle.congee.proofs.lemmas.protocol.Traces.{settled_next}
-use Rattle.congee.proofs.lemmas.protocol.Turns.{plays_none}
+use Rattle.congee.proofs.lemmas.protocol.ManyCalls.{plays_none}
 use Rattle.congee.proofs.lemmas.protocol.FillingCalls.{begun_filled, filled_step}
 
 module _ {C V : Type 0} (number : C → ℕ) (same : V → V → Bool) (always : Bool) (most : ℕ) (why : (ℕ → Node V) → NodeType → Refusal → Type 0) (law : (p q : V) → same p q ≡ true → p ≡ q) where

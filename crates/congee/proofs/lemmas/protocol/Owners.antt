@@ -16,7 +16,7 @@ use Rattle.congee.specs.declared.protocol.phase.Plan.{Plan}
 use Rattle.congee.specs.declared.protocol.phase.Plan.TheVariants.{Here, Above}
 use Rattle.congee.specs.declared.protocol.phase.Phase.{Phase}
 use Rattle.congee.specs.declared.protocol.phase.Phase.TheVariants.{MakeGreater, MakeBeside, AskNew, CheckAbove, UpgradeOne, ChangeOne, UpgradeTop, UpgradeAbove, UpgradeBelow, ChangeTwo, Obsolete, Retire, UnlockBelow, Unlock, Unwind}
-use Rattle.congee.specs.declared.protocol.turn.NextPhase.{NextPhase}
+use Rattle.congee.specs.declared.protocol.next_phase.NextPhase.{NextPhase}
 use Rattle.congee.specs.declared.protocol.machine.Machine.{Machine}
 use Rattle.congee.specs.Heap.{Node}
 use Rattle.congee.specs.protocol.Steps.{after_retire, PhaseStepped}
@@ -190,12 +190,12 @@ module _ {C V : Type 0} (number : C → ℕ) (same : V → V → Bool) (always :
   next_out (Some c) p r l = inl l
 
   -- it is marked, and then handed over
-  pub taken_on : (most : ℕ) (why : NodeType → Refusal → Type 0) (root : C) (fail : Bool) (answer : Option (Option V)) (s : Phase C V) (given' : Option V) (turn : NextPhase C V) (h' : ℕ → Node V) → PhaseStepped number same always most why root (key_bytes k) kind fail answer given s h given' turn h'
-      → TakenBy number s n → ((h' n).retired ≡ true) ⊎ TakenBy number turn.phase n
-  taken_on most why root fail answer (Obsolete m next p r) given' turn h' g l = let P : NextPhase C V → Type 0 = λ y. TakenBy number y.phase n in inr (subst P (sym g.2) l)
-  taken_on most why root fail answer (Retire m next p r) given' turn h' g (inl l) = let P : ℕ → Type 0 = λ y. (h' y).retired ≡ true in inl (subst P (sym l) (rw g.1.after refl))
-  taken_on most why root fail answer (Retire m next p r) given' turn h' g (inr l) = let P : NextPhase C V → Type 0 = λ y. TakenBy number y.phase n in inr (subst P (sym g.2) (next_out next p r l))
-  taken_on most why root fail answer _ given' turn h' g l = absurd l
+  pub taken_on : (most : ℕ) (why : NodeType → Refusal → Type 0) (root : C) (fail : Bool) (answer : Option (Option V)) (s : Phase C V) (given' : Option V) (next_phase : NextPhase C V) (h' : ℕ → Node V) → PhaseStepped number same always most why root (key_bytes k) kind fail answer given s h given' next_phase h'
+      → TakenBy number s n → ((h' n).retired ≡ true) ⊎ TakenBy number next_phase.phase n
+  taken_on most why root fail answer (Obsolete m next p r) given' next_phase h' g l = let P : NextPhase C V → Type 0 = λ y. TakenBy number y.phase n in inr (subst P (sym g.2) l)
+  taken_on most why root fail answer (Retire m next p r) given' next_phase h' g (inl l) = let P : ℕ → Type 0 = λ y. (h' y).retired ≡ true in inl (subst P (sym l) (rw g.1.after refl))
+  taken_on most why root fail answer (Retire m next p r) given' next_phase h' g (inr l) = let P : NextPhase C V → Type 0 = λ y. TakenBy number y.phase n in inr (subst P (sym g.2) (next_out next p r l))
+  taken_on most why root fail answer _ given' next_phase h' g l = absurd l
 
 module _ {C V : Type 0} (number : C → ℕ) (same : V → V → Bool) (always : Bool) (i : ℕ) (a : ℕ → Note) (h : ℕ → Node V) (a' : ℕ → Note) (h' : ℕ → Node V) (ms : List (Machine C V)) (m m' : Machine C V)
     (e : slice_get ms i ≡ Some m) (w : LockWords a h) (t : Tree a h) (w' : LockWords a' h') (t' : Tree a' h') (f : (n : ℕ) → Fares i (a n) (a' n) (h n) (h' n)) (s : Holdings number a h ms) where

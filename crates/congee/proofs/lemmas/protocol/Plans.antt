@@ -18,7 +18,7 @@ use Rattle.congee.specs.declared.protocol.phase.Double.TheVariants.{Unlink, Grow
 use Rattle.congee.specs.declared.protocol.phase.Plan.{Plan}
 use Rattle.congee.specs.declared.protocol.phase.Plan.TheVariants.{Here, Above}
 use Rattle.congee.specs.declared.protocol.phase.Phase.TheVariants.{UpgradeOne, UpgradeAbove}
-use Rattle.congee.specs.declared.protocol.turn.NextPhase.{NextPhase}
+use Rattle.congee.specs.declared.protocol.next_phase.NextPhase.{NextPhase}
 use Rattle.congee.specs.Heap.{Node, Nothing, Holds, is_taken}
 use Rattle.congee.specs.protocol.Steps.{quiet, shrinks, set_at, both, last_out, adds, absent_reply, stamp_above, started, ready, plan_here, unless_full, missing, absent, IsAsked, replaced, taken_out, emptied}
 use Rattle.congee.specs.Keys.{key_bytes}
@@ -195,11 +195,11 @@ module _ {C V : Type 0} (number : C → ℕ) (same : V → V → Bool) (always :
   emptied_sound kind given s v r g m d z = taken_sound kind given s v r s.above m.above g m d z
 
   -- a turn by another name is sound where the turn is
-  pub turn_at : (kind : Kind V) (given given' : Option V) (x y : NextPhase C V) → y ≡ x → Sound number same always i k kind given h given' x a h → Sound number same always i k kind given h given' y a h
-  turn_at kind given given' x y e s = let P : NextPhase C V → Type 0 = λ z. Sound number same always i k kind given h given' z a h in subst P (sym e) s
+  pub next_phase_at : (kind : Kind V) (given given' : Option V) (x y : NextPhase C V) → y ≡ x → Sound number same always i k kind given h given' x a h → Sound number same always i k kind given h given' y a h
+  next_phase_at kind given given' x y e s = let P : NextPhase C V → Type 0 = λ z. Sound number same always i k kind given h given' z a h in subst P (sym e) s
 
   -- a call that asks about a value that stands, or couldn't copy it, knows what its next step wants
-  pub asked_sound : (kind : Kind V) (given : Option V) (s : Site C) (v : V) (turn : NextPhase C V) → IsAsked always s v turn → HasGift kind given → Asking kind → Knows number a h (key_bytes k) s (Holds v) → s.depth ≡ 7
-      → Sound number same always i k kind given h given turn a h
-  asked_sound kind given s v turn (inl e) g ask m d = turn_at kind given given _ turn e (record { known = (g, m, ask, d); answer = λ y _. refl })
-  asked_sound kind given s v turn (inr e) g ask m d = turn_at kind given given _ turn e.1 (record { known = tt; answer = λ y _. refl })
+  pub asked_sound : (kind : Kind V) (given : Option V) (s : Site C) (v : V) (next_phase : NextPhase C V) → IsAsked always s v next_phase → HasGift kind given → Asking kind → Knows number a h (key_bytes k) s (Holds v) → s.depth ≡ 7
+      → Sound number same always i k kind given h given next_phase a h
+  asked_sound kind given s v next_phase (inl e) g ask m d = next_phase_at kind given given _ next_phase e (record { known = (g, m, ask, d); answer = λ y _. refl })
+  asked_sound kind given s v next_phase (inr e) g ask m d = next_phase_at kind given given _ next_phase e.1 (record { known = tt; answer = λ y _. refl })

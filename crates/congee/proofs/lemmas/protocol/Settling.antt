@@ -133,9 +133,9 @@ module _ {V : Type 0} (i : ℕ) (a : ℕ → Note) (h : ℕ → Node V) (key : L
 module _ {C V : Type 0} (number : C → ℕ) (same : V → V → Bool) (always : Bool) (i : ℕ) (a : ℕ → Note) (h : ℕ → Node V) (k : ℕ) (kind : Kind V)
     (t : Tree a h) (w : LockWords a h) where
   -- a change as the call's answer
-  settled : (given found : Option V) (r : Reply V) (turn : Phase C V) (given' : Option V) (a' : ℕ → Note) (h' : ℕ → Node V)
+  settled : (given found : Option V) (r : Reply V) (next_phase : Phase C V) (given' : Option V) (a' : ℕ → Note) (h' : ℕ → Node V)
       → Settles same k kind given found r given → Changed i a h (key_bytes k) found given a' h' → Decides same k kind given h r h'
-  settled given found r turn given' a' h' s c = record { found = found; after = given; settles = s; before = c.before; now = c.after; rest = c.rest }
+  settled given found r next_phase given' a' h' s c = record { found = found; after = given; settles = s; before = c.before; now = c.after; rest = c.rest }
 
   by_single : (one : One C) (r : Reply V) (given given' : Option V) (x : Hung V) (h' : ℕ → Node V) (change : Single C)
       → Holding i a (number one.at.node) → PlacedOne (key_bytes k) change one.byte (h (number one.at.node)).prefix → WantedOne (key_bytes k) x (h (number one.at.node))

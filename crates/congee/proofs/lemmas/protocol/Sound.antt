@@ -16,7 +16,7 @@ use Rattle.congee.specs.declared.forms.base_node.NodeType.{NodeType}
 use Rattle.congee.specs.declared.protocol.phase.Site.{Site}
 use Rattle.congee.specs.declared.protocol.phase.Phase.{Phase}
 use Rattle.congee.specs.declared.protocol.phase.Phase.TheVariants.{Version, Read, CheckUncopied, CheckMiss, CheckDown}
-use Rattle.congee.specs.declared.protocol.turn.NextPhase.{NextPhase}
+use Rattle.congee.specs.declared.protocol.next_phase.NextPhase.{NextPhase}
 use Rattle.congee.specs.Heap.{Node, Hung, Below, fits, child_for, of_child, walk, value_at, is_taken}
 use Rattle.congee.specs.protocol.Events.{hung, Parts, ReadGives, SeenTruly}
 use Rattle.congee.specs.protocol.Steps.{quiet, again, answered, adds, absent_reply, near_of, here_of, below, after_version, after_read, down}
@@ -28,7 +28,7 @@ use Rattle.congee.proofs.lemmas.Tree.{finds, misses}
 use Rattle.congee.proofs.lemmas.protocol.Parting.{parts_differ}
 use Rattle.congee.proofs.lemmas.protocol.Touch.{taken_linked, as_it_was, effect}
 
--- what a turn leaves the call
+-- what a step leaves the call
 pub record Sound {C V : Type 0} (number : C → ℕ) (same : V → V → Bool) (always : Bool) (i k : ℕ) (kind : Kind V) (given : Option V) (h : ℕ → Node V)
     (given' : Option V) (t : NextPhase C V) (a' : ℕ → Note) (h' : ℕ → Node V) : Type 0 where
   pub known : Known number same always i a' h' k (key_bytes k) kind given' t.phase

@@ -24,7 +24,7 @@ use Rattle.congee.proofs.lemmas.protocol.Alone.{near_on, begins_on, whole_left}
 use Rattle.congee.proofs.lemmas.protocol.AlonePoints.{Nearer, Tells}
 use Rattle.congee.proofs.lemmas.protocol.Owners.{get_set, set_here}
 use Rattle.congee.proofs.lemmas.protocol.Steps.{stepped_keeps}
-use Rattle.congee.proofs.lemmas.protocol.Turns.{turned_at, plays_none}
+use Rattle.congee.proofs.lemmas.protocol.ManyCalls.{step_leaves, plays_none}
 
 module _ {C V : Type 0} where
   -- a call waits for its closure's answer only where it was asked
@@ -70,7 +70,7 @@ module _ {C V : Type 0} (number : C → ℕ) (same : V → V → Bool) (always :
       let P : (ℕ → Node V) → Type 0 = λ y. Sound y ms' in
       let Q : List (Machine C V) → Type 0 = λ y. Sound h y in subst P (sym n.1) (subst Q (sym n.2) x)
   settled_next h ms s d h' ms' (Some m) e x n =
-      let z = turned_at number same always most (why h) h ms s.who s.noise.fail s.noise.answer m n.0 h' d x.0 x.1 e n.1 (stepped_keeps number same always most (why h) law m h s.noise.fail s.noise.answer n.0 h' d n.1) in
+      let z = step_leaves number same always most (why h) h ms s.who s.noise.fail s.noise.answer m n.0 h' d x.0 x.1 e n.1 (stepped_keeps number same always most (why h) law m h s.noise.fail s.noise.answer n.0 h' d n.1) in
       let Q : List (Machine C V) → Type 0 = λ y. Sound h' y in subst Q (sym n.3) (z.0, z.1, (z.2 x.2).0)
 
   -- a call in flight, which nobody has disturbed, with n steps left at most

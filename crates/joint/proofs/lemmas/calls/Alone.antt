@@ -185,9 +185,9 @@ module _ {V : Type 0} (same : V → V → Bool) (always : Bool) (laws : CallLaws
 
       secures : (r : Report V) (n : ℕ) → GoesOnReserving same always b w r s' → is_in_flight r.outcome ≡ true → turns_left b.forest.collector w + 43 ≤ n → After n
       secures r n x on le =
-          let P : State (Slot V) (Unit {0}) → Type 0 = λ y. GoesOn b.forest.collector w (collector_op.Secure 2) x.turn.outcome y in
-          let g = subst P (sym x.step.collected.state) (turns.goes_on b.forest.collector w (collector_op.Secure 2) x.turn intact.safe.sound.sound.orderly is_at.0 x.step.collected.report) in
-          secures_by x.turn.outcome n g x.step.call x.step.machine (sym (ap (λ y. is_in_flight y.outcome) x.report) ∙ on) le
+          let P : State (Slot V) (Unit {0}) → Type 0 = λ y. GoesOn b.forest.collector w (collector_op.Secure 2) x.collector_report.outcome y in
+          let g = subst P (sym x.step.collected.state) (turns.goes_on b.forest.collector w (collector_op.Secure 2) x.collector_report intact.safe.sound.sound.orderly is_at.0 x.step.collected.report) in
+          secures_by x.collector_report.outcome n g x.step.call x.step.machine (sym (ap (λ y. is_in_flight y.outcome) x.report) ∙ on) le
 
     -- a step on the tree
     walks : (noise : Noise Id V) (r : Report V) (n : ℕ) → slice_get s.calls w ≡ Some Walking → noise.fail ≡ false → ((m : Machine Id V) → slice_get s.machines w ≡ Some m → HasAnswer m.kind m.phase noise.answer) → OthersUnlocked s w
@@ -214,10 +214,10 @@ module _ {V : Type 0} (same : V → V → Bool) (always : Bool) (laws : CallLaws
         let l = slice_get_within s.calls w (Collecting c) e in
         let m : (m : Machine Id V) × (slice_get s.machines w ≡ Some m) = get_inside s.machines w (subst (λ i. w < i) (sym holds.0.machines) l) in
         let at : IsAt (Collecting c) (place s.forest.collector w) m.0 = holds.0.each w (Collecting c) m.0 e m.1 in
-        let P : State (Slot V) (Unit {0}) → Type 0 = λ y. GoesOn s.forest.collector w c x.turn.outcome y in
-        let g = subst P (sym x.step.state) (turns.goes_on s.forest.collector w c x.turn holds.0.safe.sound.sound.orderly at.0 x.step.report) in
+        let P : State (Slot V) (Unit {0}) → Type 0 = λ y. GoesOn s.forest.collector w c x.collector_report.outcome y in
+        let g = subst P (sym x.step.state) (turns.goes_on s.forest.collector w c x.collector_report holds.0.safe.sound.sound.orderly at.0 x.step.report) in
         let left : left_of s.forest w (slice_get s.calls w) (slice_get s.machines w) ≡ turns_left s.forest.collector w = ap (λ y. left_of s.forest w y (slice_get s.machines w)) e in
-        collects_by x.turn.outcome c n (subst (λ ms. NoOtherLocks id_number w ms) (sym x.machines) al.unlocked) g x.calls l (sym (ap (λ y. is_in_flight y.outcome) x.report) ∙ on) (let y = al.left in omega (arith, left, y))
+        collects_by x.collector_report.outcome c n (subst (λ ms. NoOtherLocks id_number w ms) (sym x.machines) al.unlocked) g x.calls l (sym (ap (λ y. is_in_flight y.outcome) x.report) ∙ on) (let y = al.left in omega (arith, left, y))
     goes (Some (Reserving p)) noise r n e unfailed answers al x on busy =
         let b = x.between in
         let at = next_here same always s.forest s.machines s.calls w b.forest b.machines b.calls x.begins p e in
@@ -266,15 +266,15 @@ module _ {V : Type 0} (same : V → V → Bool) (always : Bool) (laws : CallLaws
       turn_begins c r free x on =
           let m : (m : Machine Id V) × (slice_get s.machines w ≡ Some m) = get_inside s.machines w (subst (λ i. w < i) (sym holds.0.machines) within) in
           let at : IsAt Idle (place s.forest.collector w) m.0 = holds.0.each w Idle m.0 idle m.1 in
-          let P : State (Slot V) (Unit {0}) → Type 0 = λ y. Begins s.forest.collector w c x.turn.outcome y in
-          let g = subst P (sym x.step.state) (turns.begins s.forest.collector w c x.turn at.0 x.step.report) in
-          begins_by x.turn.outcome c (subst (λ ms. NoOtherLocks id_number w ms) (sym x.machines) free) g x.calls within (sym (ap (λ y. is_in_flight y.outcome) x.report) ∙ on)
+          let P : State (Slot V) (Unit {0}) → Type 0 = λ y. Begins s.forest.collector w c x.collector_report.outcome y in
+          let g = subst P (sym x.step.state) (turns.begins s.forest.collector w c x.collector_report at.0 x.step.report) in
+          begins_by x.collector_report.outcome c (subst (λ ms. NoOtherLocks id_number w ms) (sym x.machines) free) g x.calls within (sym (ap (λ y. is_in_flight y.outcome) x.report) ∙ on)
 
       unpin_ends : (r : Report V) → Collects same always s w (collector_event.Begin collector_op.Unpin) (Collecting collector_op.Unpin) r s' → is_in_flight r.outcome ≡ true → ⊥
       unpin_ends r x on =
           let m : (m : Machine Id V) × (slice_get s.machines w ≡ Some m) = get_inside s.machines w (subst (λ i. w < i) (sym holds.0.machines) within) in
           let at : IsAt Idle (place s.forest.collector w) m.0 = holds.0.each w Idle m.0 idle m.1 in
-          unpins V s.forest.collector _ w x.turn.outcome (turns.begins s.forest.collector w collector_op.Unpin x.turn at.0 x.step.report) (sym (ap (λ y. is_in_flight y.outcome) x.report) ∙ on)
+          unpins V s.forest.collector _ w x.collector_report.outcome (turns.begins s.forest.collector w collector_op.Unpin x.collector_report at.0 x.step.report) (sym (ap (λ y. is_in_flight y.outcome) x.report) ∙ on)
 
       enters : (p : Point V) (r : Report V) (k most : ℕ) → OthersUnlocked s w → Enters s w p r s' → steps_left id_number (nodes s.forest) (first_phase root p) ≤ k → k + 2 ≤ most → Begun most
       enters p r k most free x le room = (

@@ -194,7 +194,7 @@ module _ {V : Type 0} (same : V → V → Bool) (always : Bool) where
   tree_quiet s s' w (point.Exchange k a b) r x = ap (λ y. is_question y.outcome) x.report
 
   begin_quiet : (s s' : World V) (w : ℕ) (t : Target V) (r : Report V) → BeginsAt same always s w t r s' → is_question r.outcome ≡ false
-  begin_quiet s s' w (target.Collector c) r x = ap (λ y. is_question y.outcome) x.report ∙ of_collector V x.turn.outcome
+  begin_quiet s s' w (target.Collector c) r x = ap (λ y. is_question y.outcome) x.report ∙ of_collector V x.collector_report.outcome
   begin_quiet s s' w (target.Tree p) r x = tree_quiet s s' w p r x
   begin_quiet s s' w (target.Survey k) r x = ap (λ y. is_question y.outcome) x.report ∙ unasked x.outcome (survey_ends (nodes s.forest) k x.outcome x.tells)
 

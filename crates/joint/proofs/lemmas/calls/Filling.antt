@@ -144,7 +144,7 @@ module _ {V : Type 0} (same : V → V → Bool) (always : Bool) (laws : CallLaws
     reserved : (r : Report V) → GoesOnReserving same always s w r s' → StaysFilled s'
     reserved r x =
         let Q : List (Machine Id V) → Type 0 = λ ms. KeepsFilled id_number (nodes s'.forest) ms in
-        subst Q (sym x.step.machine) (secured_filled (nodes s'.forest) x.turn.outcome (slice_get s.calls w) s.machines w (spared x.step.collected.destroys))
+        subst Q (sym x.step.machine) (secured_filled (nodes s'.forest) x.collector_report.outcome (slice_get s.calls w) s.machines w (spared x.step.collected.destroys))
 
     -- a call on the tree takes a step
     walks : (noise : Noise Id V) (r : Report V) → slice_get s.calls w ≡ Some Walking → Walks same always s w noise r s' → r.skipped ≡ false → StaysFilled s'

@@ -10,7 +10,7 @@ use Rattle.congee.specs.declared.protocol.machine.Move.{Move}
 use Rattle.congee.specs.declared.protocol.phase.Phase.{Phase}
 use Rattle.congee.specs.declared.protocol.phase.Phase.TheVariants.{Obsolete, Retire}
 use Rattle.congee.specs.declared.protocol.run.Step.{Step as TreeStep}
-use Rattle.congee.specs.declared.protocol.turn.NextPhase.{NextPhase as Said}
+use Rattle.congee.specs.declared.protocol.next_phase.NextPhase.{NextPhase}
 use Rattle.judge.specs.declared.journal.Reply.{Reply}
 use Rattle.congee.specs.Heap.{Node, Below}
 use Rattle.congee.specs.Keys.{key_bytes}
@@ -225,19 +225,19 @@ module _ {V : Type 0} (same : V → V → Bool) (always : Bool) (laws : CallLaws
   apart c None n x y = absurd y
   apart c (Some k) n x y = λ e. x.3 (sym y ∙ e)
 
-  later : (next : Option Id) (q : Id) (r : Reply V) (t : Said Id V) (n : ℕ) → t ≡ after_retire next q r → IsMade id_number next n → TakenBy id_number t.phase n
+  later : (next : Option Id) (q : Id) (r : Reply V) (t : NextPhase Id V) (n : ℕ) → t ≡ after_retire next q r → IsMade id_number next n → TakenBy id_number t.phase n
   later None q r t n e y = absurd y
-  later (Some k) q r t n e y = let P : Said Id V → Type 0 = λ z. TakenBy id_number z.phase n in subst P (sym e) (inl y)
+  later (Some k) q r t n e y = let P : NextPhase Id V → Type 0 = λ z. TakenBy id_number z.phase n in subst P (sym e) (inl y)
 
-  phase_owes : (n : ℕ) (p : Phase Id V) (t : Said Id V) → Known id_number same always who settled.0 (nodes f) m.key (key_bytes m.key) m.kind m.given p
+  phase_owes : (n : ℕ) (p : Phase Id V) (t : NextPhase Id V) → Known id_number same always who settled.0 (nodes f) m.key (key_bytes m.key) m.kind m.given p
       → PhaseStepped id_number same always f.version_max (Refuses f) m.root (key_bytes m.key) m.kind step.noise.fail step.noise.answer m.given p (nodes f) moved.now.given t (nodes f') → TakenBy id_number p n
       → Owes (nodes f) (nodes f') p t.phase n
   phase_owes n (Obsolete c next q r) t k x (inl y) =
-      let P : Said Id V → Type 0 = λ z. TakenBy id_number z.phase n in
+      let P : NextPhase Id V → Type 0 = λ z. TakenBy id_number z.phase n in
       let Q : ℕ → Type 0 = λ k. SameBut (nodes f) k (record (nodes f k) { obsolete = true }) (nodes f') in
       Marks (subst P (sym x.2) (inl y)) (subst Q (sym y) x.1)
   phase_owes n (Obsolete c next q r) t k x (inr y) =
-      let P : Said Id V → Type 0 = λ z. TakenBy id_number z.phase n in
+      let P : NextPhase Id V → Type 0 = λ z. TakenBy id_number z.phase n in
       Waits (subst P (sym x.2) (inr y)) (x.1.others n (apart c next n k.1 y))
   phase_owes n (Retire c next q r) t k x (inl y) =
       let Q : ℕ → Type 0 = λ k. SameBut (nodes f) k (record (nodes f k) { retired = true }) (nodes f') in

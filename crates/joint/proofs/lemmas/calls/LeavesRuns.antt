@@ -20,7 +20,7 @@ use Rattle.congee.specs.declared.forms.base_node.NodeType.{NodeType}
 use Rattle.congee.specs.declared.protocol.op.Op.{Op as Point}
 use Rattle.congee.specs.declared.protocol.op.Op.TheVariants as point
 use Rattle.congee.specs.declared.protocol.store.Refusal.{Refusal as Cause}
-use Rattle.congee.specs.declared.protocol.turn.NextPhase.{NextPhase as Said}
+use Rattle.congee.specs.declared.protocol.next_phase.NextPhase.{NextPhase}
 use Rattle.congee.specs.protocol.Steps.{PhaseStepped, after_retire}
 use Rattle.congee.specs.Keys.{key_bytes}
 use Rattle.congee.specs.declared.protocol.phase.Kind.{Kind}
@@ -142,12 +142,12 @@ module _ {V : Type 0} where
   past_next None q r = tt
   past_next (Some k) q r = tt
 
-  past_phase : (same : V → V → Bool) (always : Bool) (most : ℕ) (why : NodeType → Cause → Type 0) (root : Id) (key : List ℕ) (kind : Kind V) (fail : Bool) (answer : Option (Option V)) (given given' : Option V) (p : Phase Id V) (h h' : ℕ → Node V) (t : Said Id V)
+  past_phase : (same : V → V → Bool) (always : Bool) (most : ℕ) (why : NodeType → Cause → Type 0) (root : Id) (key : List ℕ) (kind : Kind V) (fail : Bool) (answer : Option (Option V)) (given given' : Option V) (p : Phase Id V) (h h' : ℕ → Node V) (t : NextPhase Id V)
       → Past p → PhaseStepped id_number same always most why root key kind fail answer given p h given' t h' → Past t.phase
-  past_phase same always most why root key kind fail answer given given' (Obsolete c next q r) h h' t u x = let P : Said Id V → Type 0 = λ z. Past z.phase in subst P (sym x.2) tt
-  past_phase same always most why root key kind fail answer given given' (Retire c next q r) h h' t u x = let P : Said Id V → Type 0 = λ z. Past z.phase in subst P (sym x.2) (past_next next q r)
-  past_phase same always most why root key kind fail answer given given' (Unlock c r) h h' t u x = let P : Said Id V → Type 0 = λ z. Past z.phase in subst P (sym x.2) tt
-  past_phase same always most why root key kind fail answer given given' Ended h h' t u x = let P : Said Id V → Type 0 = λ z. Past z.phase in subst P (sym x.2) tt
+  past_phase same always most why root key kind fail answer given given' (Obsolete c next q r) h h' t u x = let P : NextPhase Id V → Type 0 = λ z. Past z.phase in subst P (sym x.2) tt
+  past_phase same always most why root key kind fail answer given given' (Retire c next q r) h h' t u x = let P : NextPhase Id V → Type 0 = λ z. Past z.phase in subst P (sym x.2) (past_next next q r)
+  past_phase same always most why root key kind fail answer given given' (Unlock c r) h h' t u x = let P : NextPhase Id V → Type 0 = λ z. Past z.phase in subst P (sym x.2) tt
+  past_phase same always most why root key kind fail answer given given' Ended h h' t u x = let P : NextPhase Id V → Type 0 = λ z. Past z.phase in subst P (sym x.2) tt
   past_phase same always most why root key kind fail answer given given' _ h h' t u x = absurd u
 
   past_rested : (m : Machine Id V) → Past m.phase → Past (rested m).phase
@@ -185,7 +185,7 @@ module _ {V : Type 0} (same : V → V → Bool) (always : Bool) (s s' : World V)
   collects_past : (event : CollectorEvent) (op : CollectorOp) (r : Report V) → w < length s.calls → Collects same always s w event (Collecting op) r s' → After
   collects_past event op r l x =
       let P : Option (InFlight V) → Type 0 = λ k. IsPast k (slice_get s'.machines w) in
-      subst P (sym (placed (call_after x.turn.outcome (Collecting op)) l x.calls)) (past_collects x.turn.outcome op (slice_get s'.machines w))
+      subst P (sym (placed (call_after x.collector_report.outcome (Collecting op)) l x.calls)) (past_collects x.collector_report.outcome op (slice_get s'.machines w))
 
   module _ (op : Op V) (none : misuse s w (Begin op) ≡ None) (u : IsPast (slice_get s.calls w) (slice_get s.machines w)) where
     enters_on : (r : Report V) → r ≡ quiet TreeKind Running → is_in_flight r.outcome ≡ false → ⊥

@@ -141,8 +141,8 @@ module _ {V : Type 0} (same : V → V → Bool) (always : Bool) where
 
     -- a step of a call on the collector leaves the machine agreeing with the same plain state
     pub collects : (s' : World V) (event : CollectorEvent) (op : CollectorOp) (r : Report V) → Agree s order p → Collects same always s w event (Collecting op) r s' → Agree s' order p
-    collects s' event op r a k = collected_agrees s' event k.turn k.step a (call_after k.turn.outcome (Collecting op)) k.calls
-        (λ i m n b. let P : List (Machine Id V) → Type 0 = λ ms. slice_get ms i ≡ Some m in subst P k.machines b) (λ m b. idle_after k.turn.outcome op (nodes s'.forest) m (p.calls w))
+    collects s' event op r a k = collected_agrees s' event k.collector_report k.step a (call_after k.collector_report.outcome (Collecting op)) k.calls
+        (λ i m n b. let P : List (Machine Id V) → Type 0 = λ ms. slice_get ms i ≡ Some m in subst P k.machines b) (λ m b. idle_after k.collector_report.outcome op (nodes s'.forest) m (p.calls w))
 
     -- a writing call makes its places free
     module _ (op : Point V) (here : slice_get s.calls w ≡ Some (Securing op)) (a : Agree s order p) where
@@ -150,22 +150,22 @@ module _ {V : Type 0} (same : V → V → Bool) (always : Bool) where
       machine_here m b = a.calls w (Securing op) m here b
 
       -- a step that makes places free, and isn't refused, leaves the machine agreeing with the same plain state
-      pub secures : (s' : World V) (r : Report V) (o : CollectorOutcome) → IsUnrefused r.outcome → (x : GoesOnReserving same always s w r s') → x.turn.outcome ≡ o → ((m : Machine Id V) → slice_get s'.machines w ≡ Some m → (n : Machine Id V) × (slice_get s.machines w ≡ Some n)) → Agree s' order p
+      pub secures : (s' : World V) (r : Report V) (o : CollectorOutcome) → IsUnrefused r.outcome → (x : GoesOnReserving same always s w r s') → x.collector_report.outcome ≡ o → ((m : Machine Id V) → slice_get s'.machines w ≡ Some m → (n : Machine Id V) × (slice_get s.machines w ≡ Some n)) → Agree s' order p
       secures s' r collector_outcome.Running un x e there =
-          let P : Option (InFlight V) → Type 0 = λ k. s'.calls ≡ set s.calls w (secured_call x.turn.outcome k) in
+          let P : Option (InFlight V) → Type 0 = λ k. s'.calls ≡ set s.calls w (secured_call x.collector_report.outcome k) in
           let Q : CollectorOutcome → Type 0 = λ z. s'.calls ≡ set s.calls w (secured_call z (Some (Securing op))) in
-          let R : Option (InFlight V) → Type 0 = λ k. s'.machines ≡ secured_machines x.turn.outcome k s.machines w in
+          let R : Option (InFlight V) → Type 0 = λ k. s'.machines ≡ secured_machines x.collector_report.outcome k s.machines w in
           let S : CollectorOutcome → Type 0 = λ z. s'.machines ≡ secured_machines z (Some (Securing op)) s.machines w in
           let em : s'.machines ≡ s.machines = subst S e (subst R here x.step.machine) in
-          collected_agrees s' collector_event.Go x.turn x.step.collected a (Securing op) (subst Q e (subst P here x.step.call))
+          collected_agrees s' collector_event.Go x.collector_report x.step.collected a (Securing op) (subst Q e (subst P here x.step.call))
           (λ i m n b. let T : List (Machine Id V) → Type 0 = λ ms. slice_get ms i ≡ Some m in subst T em b) (λ m b. machine_here (there m b).0 (there m b).1)
       secures s' r collector_outcome.Done un x e there =
-          let P : Option (InFlight V) → Type 0 = λ k. s'.calls ≡ set s.calls w (secured_call x.turn.outcome k) in
+          let P : Option (InFlight V) → Type 0 = λ k. s'.calls ≡ set s.calls w (secured_call x.collector_report.outcome k) in
           let Q : CollectorOutcome → Type 0 = λ z. s'.calls ≡ set s.calls w (secured_call z (Some (Securing op))) in
-          let R : Option (InFlight V) → Type 0 = λ k. s'.machines ≡ secured_machines x.turn.outcome k s.machines w in
+          let R : Option (InFlight V) → Type 0 = λ k. s'.machines ≡ secured_machines x.collector_report.outcome k s.machines w in
           let S : CollectorOutcome → Type 0 = λ z. s'.machines ≡ secured_machines z (Some (Securing op)) s.machines w in
           let em : s'.machines ≡ set s.machines w (begun root op) = subst S e (subst R here x.step.machine) in
-          collected_agrees s' collector_event.Go x.turn x.step.collected a Walking (subst Q e (subst P here x.step.call))
+          collected_agrees s' collector_event.Go x.collector_report x.step.collected a Walking (subst Q e (subst P here x.step.call))
           (λ i m n b.
           let T : List (Machine Id V) → Type 0 = λ ms. slice_get ms i ≡ Some m in
           elim (either s.machines w i (begun root op) m (subst T em b)) [

@@ -155,22 +155,22 @@ module _ {V : Type 0} (same : V → V → Bool) (always : Bool) (laws : (f : Nod
         subst P (sym x.report) (collects same always (engine_of s) law order p w (engine_of s') collector_event.Go op r a x)
     call_at (Some (Securing op)) noise r q un x =
         let P : Report V → Type 0 = λ z. Goal (go_of noise z.kind) z in
-        subst P (sym x.report) (secures same always (engine_of s) law order p w op q a (engine_of s') r x.turn.outcome un.0 x refl (λ m b. machine_at (Securing op) q))
+        subst P (sym x.report) (secures same always (engine_of s) law order p w op q a (engine_of s') r x.collector_report.outcome un.0 x refl (λ m b. machine_at (Securing op) q))
     call_at (Some (Reserving op)) noise r q un x =
         let P : Report V → Type 0 = λ z. Goal (go_of noise z.kind) z in
         let calls : x.between.calls ≡ set s.calls w (Securing op) = x.begins.call ∙ ap (λ (k : Option (InFlight V)). set s.calls w (securing_of k)) q in
         let here : slice_get x.between.calls w ≡ Some (Securing op) = ap (λ (ks : List (InFlight V)). slice_get ks w) calls ∙ set_here s.calls w (Securing op) (Reserving op) q in
         let T : List (Machine Id V) → Type 0 = λ ms. (n : Machine Id V) × (slice_get ms w ≡ Some n) in
-        let middle : Agree x.between order p = collected_agrees same always (engine_of s) law order p w x.between (collector_event.Begin (Secure 2)) x.begins.turn x.begins.collected a (Securing op) calls
+        let middle : Agree x.between order p = collected_agrees same always (engine_of s) law order p w x.between (collector_event.Begin (Secure 2)) x.begins.collector_report x.begins.collected a (Securing op) calls
         (λ i m n b. let R : List (Machine Id V) → Type 0 = λ ms. slice_get ms i ≡ Some m in subst R x.begins.machine b)
         (λ m b. let R : List (Machine Id V) → Type 0 = λ ms. slice_get ms w ≡ Some m in whole_agrees.calls w (Reserving op) m q (subst R x.begins.machine b)) in
-        subst P (sym x.goes.report) (secures same always x.between (laws x.between.forest) order p w op here middle (engine_of s') r x.goes.turn.outcome un.0 x.goes refl (λ m b. subst T (sym x.begins.machine) (machine_at (Reserving op) q)))
+        subst P (sym x.goes.report) (secures same always x.between (laws x.between.forest) order p w op here middle (engine_of s') r x.goes.collector_report.outcome un.0 x.goes refl (λ m b. subst T (sym x.begins.machine) (machine_at (Reserving op) q)))
     call_at (Some Walking) noise r q un x =
         let m = machine_at Walking q in
         let P : Report V → Type 0 = λ z. Goal (go_of noise z.kind) z in
         let went = moved_alike same always (engine_of s) law order p w (engine_of s') noise r m.0 q m.1 holds.0.safe a x un in
         subst P (sym x.report) (
-          (ap (λ z. z.decided) (sym went.went.turn.report), ap (λ z. told z.outcome) (sym went.went.turn.report)),
+          (ap (λ z. z.decided) (sym went.went.next_phase.report), ap (λ z. told z.outcome) (sym went.went.next_phase.report)),
           (went.went.now, went.went.longer, walked_agrees same always (engine_of s) law order p w (engine_of s') noise r m.0 q m.1 holds.0.safe a x un),
         )
 

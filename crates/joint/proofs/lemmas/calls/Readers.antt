@@ -33,7 +33,7 @@ use Rattle.congee.specs.declared.protocol.store.Reading.TheVariants.{Differs, Fi
 use Rattle.congee.specs.declared.protocol.store.Refusal.{Refusal as Cause}
 use Rattle.congee.specs.declared.protocol.store.Refusal.TheVariants as cause
 use Rattle.congee.specs.declared.protocol.store.Stamp.{Stamp}
-use Rattle.congee.specs.declared.protocol.turn.NextPhase.{NextPhase}
+use Rattle.congee.specs.declared.protocol.next_phase.NextPhase.{NextPhase}
 use Rattle.congee.specs.Heap.{Node}
 use Rattle.congee.specs.Keys.{key_bytes}
 use Rattle.congee.specs.protocol.Causes.{Causes, IsCause}
@@ -199,13 +199,13 @@ module _ {V : Type 0} (same : V → V → Bool) (always : Bool) (turns : Progres
     placed : (k : InFlight V) → w < length s.calls → s'.calls ≡ set s.calls w k → slice_get s'.calls w ≡ Some k
     placed k l e = ap (λ xs. slice_get xs w) e ∙ set_at s.calls w k l
 
-    pins : (event : _) (r : Report V) → w < length s.calls → ((f : Fault) (x : Collects same always s w event (Collecting collector_op.Pin) r s') → x.turn.outcome ≡ collector_outcome.Refused f → ⊥) → Collects same always s w event (Collecting collector_op.Pin) r s' → Goes r
+    pins : (event : _) (r : Report V) → w < length s.calls → ((f : Fault) (x : Collects same always s w event (Collecting collector_op.Pin) r s') → x.collector_report.outcome ≡ collector_outcome.Refused f → ⊥) → Collects same always s w event (Collecting collector_op.Pin) r s' → Goes r
     pins event r l n x = (
-      (λ e q. absurd (not_refused {V = V} x.turn.outcome e (λ f. n f x) (sym (ap (λ y. y.outcome) x.report) ∙ q))),
+      (λ e q. absurd (not_refused {V = V} x.collector_report.outcome e (λ f. n f x) (sym (ap (λ y. y.outcome) x.report) ∙ q))),
       (λ b.
-          let at : slice_get s'.calls w ≡ Some (call_after x.turn.outcome (Collecting collector_op.Pin)) = placed _ l x.calls in
+          let at : slice_get s'.calls w ≡ Some (call_after x.collector_report.outcome (Collecting collector_op.Pin)) = placed _ l x.calls in
           let P : Option (InFlight V) → Type 0 = λ k. IsReader k (slice_get s'.machines w) in
-          subst P (sym at) (pin_on x.turn.outcome (sym (ap is_busy at) ∙ b) (slice_get s'.machines w))),
+          subst P (sym at) (pin_on x.collector_report.outcome (sym (ap is_busy at) ∙ b) (slice_get s'.machines w))),
     )
 
     machine_at : (k : InFlight V) → slice_get s.calls w ≡ Some k → (m : Machine Id V) × (slice_get s.machines w ≡ Some m)
@@ -215,7 +215,7 @@ module _ {V : Type 0} (same : V → V → Bool) (always : Bool) (turns : Progres
     pin_goes noise r e x =
         let m : (m : Machine Id V) × (slice_get s.machines w ≡ Some m) = machine_at _ e in
         let at : IsAt (Collecting collector_op.Pin) (place s.forest.collector w) m.0 = holds.0.each w (Collecting collector_op.Pin) m.0 e m.1 in
-        pins collector_event.Go r (slice_get_within s.calls w _ e) (λ f y q. goes_refused s.forest.collector _ w y.turn.outcome f (turns.goes_on s.forest.collector w collector_op.Pin y.turn holds.0.safe.sound.sound.orderly at.0 y.step.report) q) x
+        pins collector_event.Go r (slice_get_within s.calls w _ e) (λ f y q. goes_refused s.forest.collector _ w y.collector_report.outcome f (turns.goes_on s.forest.collector w collector_op.Pin y.collector_report holds.0.safe.sound.sound.orderly at.0 y.step.report) q) x
 
     walks : (noise : Noise Id V) (r : Report V) (m : Machine Id V) → slice_get s.calls w ≡ Some Walking → slice_get s.machines w ≡ Some m → (m.kind ≡ kind.Get) × Reads m.phase → Walks same always s w noise r s' → Goes r
     walks noise r m e at u x =
@@ -291,9 +291,9 @@ module _ {V : Type 0} (same : V → V → Bool) (always : Bool) (turns : Progres
         let m : (m : Machine Id V) × (slice_get s.machines w ≡ Some m) = machine_at Idle (idle op.Pin n) in
         let at : IsAt Idle (place s.forest.collector w) m.0 = holds.0.each w Idle m.0 (idle op.Pin n) m.1 in
         let f : refusal s.forest.collector w collector_op.Pin ≡ None = unready_is (place_of s w).registered (is_busy (slice_get s.calls w)) _ (begin_fault collector_op.Pin (place_of s w)) n in
-        let g = pins (collector_event.Begin collector_op.Pin) r (within op.Pin n) (λ e y z. begins_refused s.forest.collector _ w y.turn.outcome e f (turns.begins s.forest.collector w collector_op.Pin y.turn at.0 y.step.report) z) x in (
-          (λ e z. not_refused {V = V} x.turn.outcome e (λ b y. begins_refused s.forest.collector _ w x.turn.outcome b f (turns.begins s.forest.collector w collector_op.Pin x.turn at.0 x.step.report) y) (sym (ap (λ y. y.outcome) x.report) ∙ z)),
-          (λ b. g.1 (busy_after x.turn.outcome (placed _ (within op.Pin n) x.calls) (sym (ap (λ y. is_in_flight y.outcome) x.report) ∙ b))),
+        let g = pins (collector_event.Begin collector_op.Pin) r (within op.Pin n) (λ e y z. begins_refused s.forest.collector _ w y.collector_report.outcome e f (turns.begins s.forest.collector w collector_op.Pin y.collector_report at.0 y.step.report) z) x in (
+          (λ e z. not_refused {V = V} x.collector_report.outcome e (λ b y. begins_refused s.forest.collector _ w x.collector_report.outcome b f (turns.begins s.forest.collector w collector_op.Pin x.collector_report at.0 x.step.report) y) (sym (ap (λ y. y.outcome) x.report) ∙ z)),
+          (λ b. g.1 (busy_after x.collector_report.outcome (placed _ (within op.Pin n) x.calls) (sym (ap (λ y. is_in_flight y.outcome) x.report) ∙ b))),
         )
       where
         busy_after : (o : CollectorOutcome) → slice_get s'.calls w ≡ Some (call_after o (Collecting collector_op.Pin)) → is_in_flight {V = V} (collected o) ≡ true → is_busy (slice_get s'.calls w) ≡ true

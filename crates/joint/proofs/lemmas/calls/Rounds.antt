@@ -131,11 +131,11 @@ module _ {V : Type 0} (same : V → V → Bool) (always : Bool) where
 
   -- a step of a call on the collector
   pub record CallStep (s : World V) (who : ℕ) (event : CollectorEvent) (k : InFlight V) (o : Outcome V) (s' : World V) : Type 0 where
-    pub turn : Collection
-    pub step : Collected same always s.forest s.machines who event turn s'.forest
+    pub collector_report : Collection
+    pub step : Collected same always s.forest s.machines who event collector_report s'.forest
     pub machines : s'.machines ≡ s.machines
-    pub calls : s'.calls ≡ slice_set s.calls who (call_after turn.outcome k)
-    pub outcome : o ≡ collected turn.outcome
+    pub calls : s'.calls ≡ slice_set s.calls who (call_after collector_report.outcome k)
+    pub outcome : o ≡ collected collector_report.outcome
     pub inside : who < length s.calls
 
   by_misuse : (s s' : World V) (who : ℕ) (event : Event V) (x : Option Fault) (told : Report V) → Does same always s who event x told s' → Unrefused told.outcome → (x ≡ None) × Proceeds same always s who event told s'
@@ -143,7 +143,7 @@ module _ {V : Type 0} (same : V → V → Bool) (always : Bool) where
   by_misuse s s' who event (Some f) told d u = absurd (not_refused told.outcome u (of_fault f) (ap (λ (r : Report V). r.outcome) d.0))
 
   as_step : (s s' : World V) (who : ℕ) (event : CollectorEvent) (k : InFlight V) (told : Report V) (o : Outcome V) → told.outcome ≡ o → who < length s.calls → Collects same always (engine_of s) who event k told (engine_of s') → CallStep s who event k o s'
-  as_step s s' who event k told o e inside c = record { turn = c.turn; step = c.step; machines = c.machines; calls = c.calls; outcome = sym e ∙ ap (λ (r : Report V). r.outcome) c.report; inside = inside }
+  as_step s s' who event k told o e inside c = record { collector_report = c.collector_report; step = c.step; machines = c.machines; calls = c.calls; outcome = sym e ∙ ap (λ (r : Report V). r.outcome) c.report; inside = inside }
 
   begins : (s : World V) (t : Taken V) (who : ℕ) (o : Op V) (x : CollectorOp) → Holds same always s → target o ≡ target.Collector x → IsStep same always s t.step t.report t.after → t.step ≡ record { worker = who; event = Begin o } → Unrefused t.report.outcome
       → CallStep s who (collector_event.Begin x) (Collecting x) t.report.outcome t.after
@@ -183,21 +183,21 @@ module _ {V : Type 0} (same : V → V → Bool) (always : Bool) where
         → AreTaken same always now ts → GoesToEnd who o ts
         → collector.Finishes c0 who x (after_all now ts).forest.collector × ((after_all now ts).machines ≡ s.machines) × ((after_all now ts).calls ≡ slice_set s.calls who Idle)
     to_end c0 who x [] s now n newest event o g c are end =
-        let over : c.turn.outcome ≡ collector_outcome.Done = was_done {V = V} c.turn.outcome (sym c.outcome ∙ end) in
-        let ended = laws.ends c0 s.forest.collector now.forest.collector who x n (suc n) newest event c.turn (omega arith) g c.step.report c.step.state (λ r. absurd (cc (over, r))) in (
-          record { most = suc n; reports = ended.0; newest = c.turn; call = ended.1; done = over },
+        let over : c.collector_report.outcome ≡ collector_outcome.Done = was_done {V = V} c.collector_report.outcome (sym c.outcome ∙ end) in
+        let ended = laws.ends c0 s.forest.collector now.forest.collector who x n (suc n) newest event c.collector_report (omega arith) g c.step.report c.step.state (λ r. absurd (cc (over, r))) in (
+          record { most = suc n; reports = ended.0; newest = c.collector_report; call = ended.1; done = over },
           c.machines,
           c.calls ∙ ap (λ (y : CollectorOutcome). slice_set s.calls who (call_after y (Collecting x))) over,
         )
     to_end c0 who x (t ∷ ts) s now n newest event o g c are end =
-        let on : c.turn.outcome ≡ collector_outcome.Running = was_running {V = V} c.turn.outcome (sym c.outcome ∙ end.0) in
+        let on : c.collector_report.outcome ≡ collector_outcome.Running = was_running {V = V} c.collector_report.outcome (sym c.outcome ∙ end.0) in
         let calls : now.calls ≡ slice_set s.calls who (Collecting x) = c.calls ∙ ap (λ (y : CollectorOutcome). slice_set s.calls who (call_after y (Collecting x))) on in
         let old = get_inside s.calls who c.inside in
         let here : slice_get now.calls who ≡ Some (Collecting x) = ap (λ (ks : List (InFlight V)). slice_get ks who) calls ∙ set_here s.calls who (Collecting x) old.0 old.1 in
         let inside : who < length now.calls = slice_get_within now.calls who (Collecting x) here in
         let next = goes now t who end.1.0 x inside here are.0 end.1.1 (by_end who t.report.outcome ts end.2) in
-        let more = laws.more c0 s.forest.collector now.forest.collector who x n newest event c.turn g c.step.report c.step.state on in
-        let r = to_end c0 who x ts now t.after (n + 1) (Some c.turn) collector_event.Go t.report.outcome more next are.1 end.2 in (
+        let more = laws.more c0 s.forest.collector now.forest.collector who x n newest event c.collector_report g c.step.report c.step.state on in
+        let r = to_end c0 who x ts now t.after (n + 1) (Some c.collector_report) collector_event.Go t.report.outcome more next are.1 end.2 in (
           r.0,
           r.1 ∙ c.machines,
           r.2 ∙ ap (λ (ks : List (InFlight V)). slice_set ks who Idle) calls ∙ set-set s.calls who (Collecting x) Idle,

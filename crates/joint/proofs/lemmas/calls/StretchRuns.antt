@@ -158,7 +158,7 @@ module _ {V : Type 0} (same : V → V → Bool) (always : Bool) (laws : CallLaws
     reserves o r x l = same_forest (ap (λ y. y.forest) x.state) (still (ap (λ y. y.machines) x.state)) l
 
     collects : (event : CollectorEvent) (k : InFlight V) (r : Report V) → (w ≡ p → turns event (place_of s w) ≡ false) → Collects same always s w event k r s' → Lasts s → Lasts s'
-    collects event k r calm x l = lasts (collected s.forest s'.forest s.machines w event x.turn calm x.step l.on) (still x.machines) l
+    collects event k r calm x l = lasts (collected s.forest s'.forest s.machines w event x.collector_report calm x.step l.on) (still x.machines) l
 
     secured_unheld : (o : CollectorOutcome) (k : Option (InFlight V)) (ms : List (Machine Id V)) → s.machines ≡ ms → s'.machines ≡ secured_machines o k ms w → Unheld
     secured_unheld collector_outcome.Done (Some (Securing c)) ms e e' = instead ms (begun root c) (begun_unmade c n) e e'
@@ -177,22 +177,22 @@ module _ {V : Type 0} (same : V → V → Bool) (always : Bool) (laws : CallLaws
     securing c r e x l =
         let m : (m : Machine Id V) × (slice_get s.machines w ≡ Some m) = machine_at (Securing c) e in
         let at : IsAt (Securing c) (place_of s w) m.0 = holds.0.each w (Securing c) m.0 e m.1 in
-        lasts (collected s.forest s'.forest s.machines w collector_event.Go x.turn (λ z. secure_calm (place_of s w).phase at.0.1) x.step.collected l.on)
-        (secured_unheld x.turn.outcome (slice_get s.calls w) s.machines refl x.step.machine) l
+        lasts (collected s.forest s'.forest s.machines w collector_event.Go x.collector_report (λ z. secure_calm (place_of s w).phase at.0.1) x.step.collected l.on)
+        (secured_unheld x.collector_report.outcome (slice_get s.calls w) s.machines refl x.step.machine) l
 
     -- a call on the tree takes a step
     module _ (noise : Noise Id V) (r : Report V) (on : slice_get s.calls w ≡ Some Walking) (k : Walks same always s w noise r s') where
-      abbrev turn : TreeStep Id V
-      turn = record { who = w; noise = noise }
+      abbrev tree_step : TreeStep Id V
+      tree_step = record { who = w; noise = noise }
 
       old : (m : Machine Id V) × (slice_get s.machines w ≡ Some m)
       old = machine_at Walking on
 
-      abbrev moved : IsMoved id_number same always s.forest.version_max (Refuses s.forest) (nodes s.forest) s.machines old.0 turn k.move (nodes s'.forest) k.step.between
+      abbrev moved : IsMoved id_number same always s.forest.version_max (Refuses s.forest) (nodes s.forest) s.machines old.0 tree_step k.move (nodes s'.forest) k.step.between
       moved = k.step.walked.plays.moved old.0 old.1
 
       abbrev keeps : Keeps id_number same always w settled.0 old.0 (nodes s.forest) moved.now (nodes s'.forest) k.move
-      keeps = leaves.keeps same always laws s.forest s'.forest s.machines k.step.between turn k.move holds.0.safe k.step.walked old.0 old.1
+      keeps = leaves.keeps same always laws s.forest s'.forest s.machines k.step.between tree_step k.move holds.0.safe k.step.walked old.0 old.1
 
       left : StepLeaves id_number w settled.0 keeps.notes (nodes s.forest) (nodes s'.forest) old.0 moved.now
       left = leaves_law s.forest w settled.0 (nodes s.forest) (nodes s'.forest) s.machines old.0 moved.now k.move noise.fail noise.answer settled.1 settled.2 old.1 keeps moved.step
@@ -278,7 +278,7 @@ module _ {V : Type 0} (same : V → V → Bool) (always : Bool) (laws : CallLaws
   -- a writing call begins to make its place free
   begins_securing : (s b : World V) (w : ℕ) → BeginsSecuring same always s.forest s.machines s.calls w b.forest b.machines b.calls → Lasts s → Lasts b
   begins_securing s b w x l = record {
-    on = collected s.forest b.forest s.machines w (collector_event.Begin (collector_op.Secure 2)) x.turn (λ z. refl) x.collected l.on;
+    on = collected s.forest b.forest s.machines w (collector_event.Begin (collector_op.Secure 2)) x.collector_report (λ z. refl) x.collected l.on;
     unheld = λ j y. l.unheld j (y.0, sym (ap (λ ms. slice_get ms j) x.machine) ∙ y.1, y.2);
   }
 

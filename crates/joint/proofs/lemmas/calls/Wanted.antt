@@ -168,9 +168,9 @@ module _ {V : Type 0} (same : V → V → Bool) (always : Bool) where
     goes_quiet : (k : Option (InFlight V)) (noise : Noise Id V) (r : Report V) → slice_get s.calls w ≡ k → GoesAt same always s w k noise r s' → is_question r.outcome ≡ false
     goes_quiet None noise r e x = absurd x
     goes_quiet (Some Idle) noise r e x = absurd x
-    goes_quiet (Some (Collecting c)) noise r e x = ap (λ y. is_question y.outcome) x.report ∙ of_collector V x.turn.outcome
-    goes_quiet (Some (Reserving p)) noise r e x = ap (λ y. is_question y.outcome) x.goes.report ∙ of_reserving V x.goes.turn.outcome
-    goes_quiet (Some (Securing p)) noise r e x = ap (λ y. is_question y.outcome) x.report ∙ of_reserving V x.turn.outcome
+    goes_quiet (Some (Collecting c)) noise r e x = ap (λ y. is_question y.outcome) x.report ∙ of_collector V x.collector_report.outcome
+    goes_quiet (Some (Reserving p)) noise r e x = ap (λ y. is_question y.outcome) x.goes.report ∙ of_reserving V x.goes.collector_report.outcome
+    goes_quiet (Some (Securing p)) noise r e x = ap (λ y. is_question y.outcome) x.report ∙ of_reserving V x.collector_report.outcome
     goes_quiet (Some Walking) noise r e x = absurd (none_walks e)
 
     does_quiet : (noise : Noise Id V) (o : Option Fault) (r : Report V) → Does same always s w (Go noise) o r s' → is_question r.outcome ≡ false

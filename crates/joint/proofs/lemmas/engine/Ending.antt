@@ -31,7 +31,7 @@ use Rattle.congee.specs.declared.protocol.store.Refusal.TheVariants as refusal
 use Rattle.congee.specs.declared.protocol.store.Stamp.{Stamp}
 use Rattle.congee.specs.declared.protocol.store.Upgrade.{Upgrade}
 use Rattle.congee.specs.declared.protocol.store.Upgrade.TheVariants.{Locked, Failed, Exhausted}
-use Rattle.congee.specs.declared.protocol.turn.NextPhase.{NextPhase}
+use Rattle.congee.specs.declared.protocol.next_phase.NextPhase.{NextPhase}
 use Rattle.congee.specs.Heap.{Node, is_taken}
 use Rattle.congee.specs.protocol.Steps.{quiet, again, answered, refused, adds, asks_new, absent_reply, after_version, after_read, down, started, ready, unless_full, missing, absent, CopyFailed, IsAsked, replaced, last_out, taken_out, shrinks, IsAtOld, IsAdded, IsExchanged, IsCompared, IsPresent, IsChecked, IsIf, after_miss, IsGiven, IsGivenNew, MadeLeaf, MadeGreater, MadeTop, MadeBeside, MadeLesser, IsCheckedAbove, UpgradedOne, UpgradedTop, UpgradedAbove, UpgradedBelow, after_change, after_top, after_retire, after_unwind, given_up, unwound, PhaseStepped, Stepped}
 use Rattle.congee.specs.protocol.State.{is_over}

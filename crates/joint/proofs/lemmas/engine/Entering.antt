@@ -118,7 +118,7 @@ module _ {V : Type 0} (same : V → V → Bool) (always : Bool) (s s' : World V)
     begins_tree (point.Exchange k old new) r x = none_at _ (ap (λ y. y.calls) x.state) (λ o. refl)
 
     begins : (t : Target V) (r : Report V) → BeginsAt same always s w t r s' → after ≡ before
-    begins (target.Collector op) r x = none_at (call_after x.turn.outcome (Collecting op)) x.calls (collecting_place x.turn.outcome op)
+    begins (target.Collector op) r x = none_at (call_after x.collector_report.outcome (Collecting op)) x.calls (collecting_place x.collector_report.outcome op)
     begins (target.Tree p) r x = begins_tree p r x
     begins (target.Survey k) r x = unchanged x.state
 

@@ -85,7 +85,7 @@ module _ {V : Type 0} (same : V → V → Bool) (always : Bool) (s s' : World V)
   reserving_on : (b : World V) (r : Report V) → GoesOnReserving same always b w r s' → Apart b s' w
   reserving_on b r x = record {
     calls = one_set b.calls s'.calls w _ x.step.call;
-    machines = (let P : List (Machine Id V) → Type 0 = λ ms. AtOne b.machines ms w in subst P (sym x.step.machine) (secured_one x.turn.outcome (slice_get b.calls w) b.machines w));
+    machines = (let P : List (Machine Id V) → Type 0 = λ ms. AtOne b.machines ms w in subst P (sym x.step.machine) (secured_one x.collector_report.outcome (slice_get b.calls w) b.machines w));
   }
 
   machine_at : (k : InFlight V) → slice_get s.calls w ≡ Some k → (x : Machine Id V) × (slice_get s.machines w ≡ Some x)

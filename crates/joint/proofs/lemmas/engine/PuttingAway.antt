@@ -16,7 +16,7 @@ use Rattle.joint.specs.engine.Safety.{Walked}
 use Rattle.joint.proofs.lemmas.engine.Collecting.{intact_at}
 use Rattle.joint.proofs.lemmas.engine.Ending.{goes_on_after}
 use Rattle.joint.proofs.lemmas.engine.Reported.{told_goes}
-use Rattle.joint.proofs.lemmas.engine.Turning.{set_again}
+use Rattle.joint.proofs.lemmas.engine.Proceeding.{set_again}
 use Rattle.joint.proofs.lemmas.engine.Walking as walking
 
 module _ {V : Type 0} (same : V → V → Bool) (always : Bool) (laws : CallLaws {C = Id} {V = V} id_number same always) (s : Nodes V) (ms : List (Machine Id V)) (calls : List (InFlight V)) (intact : IsIntact same always s ms calls) (step : Step Id V)

@@ -53,10 +53,10 @@ module _ {V : Type 0} where
   told_goes (moved.Refused cause) = refl
 
   -- a call of the collector's goes on, or there is none
-  after_turn : (k : InFlight V) → is_busy (Some k) ≡ true → (o : CollectorOutcome) → is_busy (Some (call_after o k)) ≡ is_in_flight {V = V} (collected o)
-  after_turn k b collector_outcome.Running = b
-  after_turn k b collector_outcome.Done = refl
-  after_turn k b (collector_outcome.Refused f) = refl
+  after_collection : (k : InFlight V) → is_busy (Some k) ≡ true → (o : CollectorOutcome) → is_busy (Some (call_after o k)) ≡ is_in_flight {V = V} (collected o)
+  after_collection k b collector_outcome.Running = b
+  after_collection k b collector_outcome.Done = refl
+  after_collection k b (collector_outcome.Refused f) = refl
 
   after_securing : (op : Point V) (o : CollectorOutcome) → is_busy (Some (secured_call o (Some (Securing op)))) ≡ is_in_flight {V = V} (reserving o)
   after_securing op collector_outcome.Running = refl
@@ -98,10 +98,10 @@ module _ {V : Type 0} (same : V → V → Bool) (always : Bool) (laws : CallLaws
   put r k l e b = ap is_busy (at_place s.calls s'.calls w k l e) ∙ b
 
   collects : (event : CollectorEvent) (k : InFlight V) (r : Report V) → is_busy (Some k) ≡ true → w < length s.calls → Collects same always s w event k r s' → Tells r
-  collects event k r b l x = put r (call_after x.turn.outcome k) l x.calls (after_turn k b x.turn.outcome ∙ sym (ap (λ y. is_in_flight y.outcome) x.report))
+  collects event k r b l x = put r (call_after x.collector_report.outcome k) l x.calls (after_collection k b x.collector_report.outcome ∙ sym (ap (λ y. is_in_flight y.outcome) x.report))
 
   securing : (op : Point V) (r : Report V) (b : World V) → slice_get b.calls w ≡ Some (Securing op) → GoesOnReserving same always b w r s' → Tells r
-  securing op r b e x = securing_goes b.calls s'.calls w op x.turn.outcome e x.step.call ∙ sym (ap (λ y. is_in_flight y.outcome) x.report)
+  securing op r b e x = securing_goes b.calls s'.calls w op x.collector_report.outcome e x.step.call ∙ sym (ap (λ y. is_in_flight y.outcome) x.report)
 
   secures_first : (op : Point V) (r : Report V) → slice_get s.calls w ≡ Some (Reserving op) → SecuresFirst same always s w r s' → Tells r
   secures_first op r e x = securing op r x.between (next_here same always s.forest s.machines s.calls w x.between.forest x.between.machines x.between.calls x.begins op e) x.goes

@@ -43,7 +43,7 @@ module _ {V : Type 0} (same : V → V → Bool) (always : Bool) (s : Nodes V) (m
   -- the nodes are as before, since no job was called
   pub same_nodes : nodes s' ≡ nodes s
   same_nodes =
-      let none : b.turn.called ≡ None = b.collected.report.job ∙ ap (called_in s.collector who (Begin (Secure 2))) b.running in
+      let none : b.collector_report.called ≡ None = b.collected.report.job ∙ ap (called_in s.collector who (Begin (Secure 2))) b.running in
       let P : Option (ℕ × Option Name) → Type 0 = λ o. Empties s.collector.store o s'.collector.store in
       ap heap (subst P none b.collected.moves.cells)
 
@@ -148,7 +148,7 @@ module _ {V : Type 0} (same : V → V → Bool) (always : Bool) (s : Nodes V) (m
         (begun.1, ap is_some begun.3.0 ∙ x.1, x.3, x.4)) in
         record {
           intact = intact_at same always s' s2 ms ms' (set calls who (Securing op)) calls' es em q i;
-          turn = r;
+          collector_report = r;
           collected = subst (λ (y : Nodes V). Collected same always s ms who (Begin (Secure 2)) r y) (sym es) did;
           running = runs;
           call = q ∙ sym (ap (λ k. set calls who (securing_of k)) on);

@@ -142,8 +142,8 @@ module _ {V : Type 0} (same : V → V → Bool) (always : Bool) (s s' : World V)
 
   collects : (b : World V) (event : CollectorEvent) (k : InFlight V) (r : Report V) → Collects same always b who event k r s' → Tells r
   collects b event k r x =
-      so r (collected x.turn.outcome) (ap (λ r. r.outcome) x.report)
-      (collected_tells V b.forest.collector who event _ x.turn.outcome (fault_own b.forest.collector who event) x.step.report.outcome)
+      so r (collected x.collector_report.outcome) (ap (λ r. r.outcome) x.report)
+      (collected_tells V b.forest.collector who event _ x.collector_report.outcome (fault_own b.forest.collector who event) x.step.report.outcome)
 
   enters : (none : Bool) (op : Point V) (r : Report V) → EntersUnless none s who op r s' → Tells r
   enters true op r x = so r (Done (done.Scanned 0)) (ap (λ r. r.outcome) x.report) (tt {0})
@@ -169,11 +169,11 @@ module _ {V : Type 0} (same : V → V → Bool) (always : Bool) (s s' : World V)
   goes (Some call.Idle) noise r x = absurd x
   goes (Some (call.Collecting op)) noise r x = collects s collector_event.Go (call.Collecting op) r x
   goes (Some (call.Reserving op)) noise r x =
-      so r (reserving x.goes.turn.outcome) (ap (λ r. r.outcome) x.goes.report)
-      (reserving_tells V x.goes.turn.outcome (collected_tells V x.between.forest.collector who collector_event.Go _ x.goes.turn.outcome (fault_own x.between.forest.collector who collector_event.Go) x.goes.step.collected.report.outcome))
+      so r (reserving x.goes.collector_report.outcome) (ap (λ r. r.outcome) x.goes.report)
+      (reserving_tells V x.goes.collector_report.outcome (collected_tells V x.between.forest.collector who collector_event.Go _ x.goes.collector_report.outcome (fault_own x.between.forest.collector who collector_event.Go) x.goes.step.collected.report.outcome))
   goes (Some (call.Securing op)) noise r x =
-      so r (reserving x.turn.outcome) (ap (λ r. r.outcome) x.report)
-      (reserving_tells V x.turn.outcome (collected_tells V s.forest.collector who collector_event.Go _ x.turn.outcome (fault_own s.forest.collector who collector_event.Go) x.step.collected.report.outcome))
+      so r (reserving x.collector_report.outcome) (ap (λ r. r.outcome) x.report)
+      (reserving_tells V x.collector_report.outcome (collected_tells V s.forest.collector who collector_event.Go _ x.collector_report.outcome (fault_own s.forest.collector who collector_event.Go) x.step.collected.report.outcome))
   goes (Some call.Walking) noise r x = so r (told x.move.outcome) (ap (λ r. r.outcome) x.report) (moved_tells x.move.outcome)
 
   proceeds : (event : Event V) (r : Report V) → IsOfCall event → Proceeds same always s who event r s' → Tells r

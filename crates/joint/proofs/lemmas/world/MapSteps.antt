@@ -193,17 +193,17 @@ module _ {V : Type 0} (same : V → V → Bool) (always : Bool) (s s' : World V)
   }
 
   -- a call on the collector
-  collects : (event : Event V) (turn : CollectorEvent) (op : CollectorOp) (r : Report V) (map : Line V → Flights V → Type 0) → fs w ≡ Over → w < length s.calls → Collects same always s w turn (Collecting op) r s'
+  collects : (event : Event V) (collector_report : CollectorEvent) (op : CollectorOp) (r : Report V) (map : Line V → Flights V → Type 0) → fs w ≡ Over → w < length s.calls → Collects same always s w collector_report (Collecting op) r s'
       → (r.decided ≡ false → map (line event r None m) fs) → Result event r map
-  collects event turn op r map f l k x = record {
+  collects event collector_report op r map f l k x = record {
     entry = None;
     pairs = m;
     flights = fs;
     stand = stands_on (nodes s.forest) (nodes s'.forest) m k.step.map st;
     step = x (ap (λ y. y.decided) k.report);
-    in_flight = set_in_flight fs (call_after k.turn.outcome (Collecting op)) l k.calls
+    in_flight = set_in_flight fs (call_after k.collector_report.outcome (Collecting op)) l k.calls
         (λ i y n b. let P : List (Machine Id V) → Type 0 = λ ms. slice_get ms i ≡ Some y in subst P k.machines b)
-        (λ y b. collecting_over k.turn.outcome op y (fs w) f) (λ i n. refl);
+        (λ y b. collecting_over k.collector_report.outcome op y (fs w) f) (λ i n. refl);
   }
 
   -- a call begins on the tree, or its worker first makes places free
@@ -333,14 +333,14 @@ module _ {V : Type 0} (same : V → V → Bool) (always : Bool) (s s' : World V)
     same_machines : s'.machines ≡ s.machines → (i : ℕ) (x : Machine Id V) → i ≢ w → slice_get s'.machines i ≡ Some x → slice_get s.machines i ≡ Some x
     same_machines q i x n b = let P : List (Machine Id V) → Type 0 = λ ms. slice_get ms i ≡ Some x in subst P q b
 
-    reserving_case : (turn : Collection) (o : CollectorOutcome) → s'.calls ≡ slice_set s.calls w (secured_call o (Some (Securing op))) → s'.machines ≡ secured_machines o (Some (Securing op)) s.machines w
-        → ((f : Fault) → o ≡ collector_outcome.Refused f → f ≡ fault.Memory) → SameMap (nodes s.forest) (nodes s'.forest) → Went (collection turn (reserving o))
-    reserving_case turn collector_outcome.Running ec em only map = record {
+    reserving_case : (collector_report : Collection) (o : CollectorOutcome) → s'.calls ≡ slice_set s.calls w (secured_call o (Some (Securing op))) → s'.machines ≡ secured_machines o (Some (Securing op)) s.machines w
+        → ((f : Fault) → o ≡ collector_outcome.Refused f → f ≡ fault.Memory) → SameMap (nodes s.forest) (nodes s'.forest) → Went (collection collector_report (reserving o))
+    reserving_case collector_report collector_outcome.Running ec em only map = record {
       entry = None;
       pairs = m;
       flights = with_flight fs w waiting;
       stand = stands_on (nodes s.forest) (nodes s'.forest) m map st;
-      step = advances waiting (Go noise) noise.answer (collection turn Running) None m waiting (λ q. cc) waits (inl (record {
+      step = advances waiting (Go noise) noise.answer (collection collector_report Running) None m waiting (λ q. cc) waits (inl (record {
         outcome = moved.Running;
         told_so = refl;
         undecided = (Unasked, tt, refl);
@@ -350,12 +350,12 @@ module _ {V : Type 0} (same : V → V → Bool) (always : Bool) (s s' : World V)
       in_flight = set_in_flight (with_flight fs w waiting) (Securing op) len ec (same_machines em)
           (λ y b. flight_here fs w waiting ∙ sym (pending op writing)) (λ i n. flight_apart fs w i waiting n);
     }
-    reserving_case turn collector_outcome.Done ec em only map = record {
+    reserving_case collector_report collector_outcome.Done ec em only map = record {
       entry = None;
       pairs = m;
       flights = with_flight fs w waiting;
       stand = stands_on (nodes s.forest) (nodes s'.forest) m map st;
-      step = advances waiting (Go noise) noise.answer (collection turn Running) None m waiting (λ q. cc) waits (inl (record {
+      step = advances waiting (Go noise) noise.answer (collection collector_report Running) None m waiting (λ q. cc) waits (inl (record {
         outcome = moved.Running;
         told_so = refl;
         undecided = (Unasked, tt, refl);
@@ -379,12 +379,12 @@ module _ {V : Type 0} (same : V → V → Bool) (always : Bool) (s s' : World V)
           ]))
           (λ i n. flight_apart fs w i waiting n);
     }
-    reserving_case turn (collector_outcome.Refused f) ec em only map = record {
+    reserving_case collector_report (collector_outcome.Refused f) ec em only map = record {
       entry = None;
       pairs = m;
       flights = with_flight fs w Over;
       stand = stands_on (nodes s.forest) (nodes s'.forest) m map st;
-      step = advances waiting (Go noise) noise.answer (collection turn (Refused (of_fault f))) None m Over (λ q. cc) waits (inl (record {
+      step = advances waiting (Go noise) noise.answer (collection collector_report (Refused (of_fault f))) None m Over (λ q. cc) waits (inl (record {
         outcome = moved.Refused cause.Memory;
         told_so = ap (λ g. Refused (of_fault g)) (only f refl);
         undecided = refl;
@@ -399,11 +399,11 @@ module _ {V : Type 0} (same : V → V → Bool) (always : Bool) (s s' : World V)
     reserving_from : (b : World V) (x : Machine Id V) → IsAt (Securing op) (place_of b w) x → slice_get b.calls w ≡ Some (Securing op) → nodes b.forest ≡ nodes s.forest → b.machines ≡ s.machines → ((k : InFlight V) → slice_set b.calls w k ≡ slice_set s.calls w k)
         → (r : Report V) → GoesOnReserving same always b w r s' → Went r
     reserving_from b x at e en em ec r k =
-        let P : Option (InFlight V) → Type 0 = λ c. s'.calls ≡ slice_set b.calls w (secured_call k.turn.outcome c) in
-        let Q : Option (InFlight V) → Type 0 = λ c. s'.machines ≡ secured_machines k.turn.outcome c b.machines w in
+        let P : Option (InFlight V) → Type 0 = λ c. s'.calls ≡ slice_set b.calls w (secured_call k.collector_report.outcome c) in
+        let Q : Option (InFlight V) → Type 0 = λ c. s'.machines ≡ secured_machines k.collector_report.outcome c b.machines w in
         let R : CollectorOutcome → Type 0 = λ o. IsOutcome b.forest.collector w collector_event.Go (fault_of b.forest.collector w collector_event.Go) o in
         let S : (ℕ → Node V) → Type 0 = λ h. SameMap h (nodes s'.forest) in
-        subst Went (sym k.report) (reserving_case k.turn k.turn.outcome (subst P e k.step.call ∙ ec _) (subst Q e k.step.machine ∙ ap (λ ms. secured_machines k.turn.outcome (Some (Securing op)) ms w) em)
+        subst Went (sym k.report) (reserving_case k.collector_report k.collector_report.outcome (subst P e k.step.call ∙ ec _) (subst Q e k.step.machine ∙ ap (λ ms. secured_machines k.collector_report.outcome (Some (Securing op)) ms w) em)
         (λ f q. wants_memory b.forest.collector w f at.0 (subst R q k.step.collected.report.outcome)) (subst S en k.step.collected.map))
 
   reserving_on : (op : Point V) (noise : Noise Id V) → slice_get s.calls w ≡ Some (Securing op) → (r : Report V) → GoesOnReserving same always s w r s' → Result (Go noise) r (λ l f'. GoMap same fs (fs w) m noise.answer l f')

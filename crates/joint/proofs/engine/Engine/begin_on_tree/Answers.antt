@@ -6,7 +6,7 @@ use Rattle.joint.specs.declared.engine.in_flight.InFlight.TheVariants.{Idle}
 use Rattle.joint.proofs.lemmas.engine.Collecting.{inside, intact_at}
 use Rattle.joint.proofs.lemmas.engine.Reserving.{reserved}
 use Rattle.joint.proofs.lemmas.engine.Starting.{reader_may}
-use Rattle.joint.proofs.lemmas.engine.Turning.{unpinned, ends_at_once, enters, reserves, word_is}
+use Rattle.joint.proofs.lemmas.engine.Proceeding.{unpinned, ends_at_once, enters, reserves, word_is}
 use Rattle.joint.proofs.engine.Engine.begin_on_tree.Goals as goal
 
 pub set_call-requires : goal.set_call-requires

@@ -10,8 +10,8 @@ use Rattle.joint.specs.nodes.Nodes.{Nodes, IsCharged}
 use Rattle.joint.specs.Refusals.{of_fault}
 use Rattle.joint.specs.engine.Engine.{is_busy, quiet, kind_of}
 use Rattle.joint.proofs.lemmas.calls.CensusSteps.{counted_at, counted_begun}
-use Rattle.joint.proofs.lemmas.engine.Events.{begins}
-use Rattle.joint.proofs.lemmas.engine.Turning.{unknown, busy, idle_call}
+use Rattle.joint.proofs.lemmas.engine.StepsByEvent.{begins}
+use Rattle.joint.proofs.lemmas.engine.Proceeding.{unknown, busy, idle_call}
 use Rattle.joint.proofs.engine.Engine.step_begin.Goals as goal
 
 pub is_busy-requires : goal.is_busy-requires

@@ -2,7 +2,7 @@ use Rattle.std.proofs.Common.{refl}
 use Rattle.joint.specs.declared.steps.Event.TheVariants.{Register}
 use Rattle.joint.specs.engine.Log.{no_log}
 use Rattle.joint.proofs.lemmas.calls.CensusSteps.{counted_at, counted_registered}
-use Rattle.joint.proofs.lemmas.engine.Events.{registers}
+use Rattle.joint.proofs.lemmas.engine.StepsByEvent.{registers}
 use Rattle.joint.proofs.engine.Engine.step_in.Goals as goal
 
 pub returns-clause-step : goal.returns-clause-step

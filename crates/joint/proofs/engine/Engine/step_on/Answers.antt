@@ -3,8 +3,8 @@ use Rattle.std.specs.Prelude.{Some, slice_get}
 use Rattle.joint.specs.declared.steps.Event.TheVariants.{Go}
 use Rattle.joint.specs.declared.engine.in_flight.InFlight.TheVariants.{Walking}
 use Rattle.joint.specs.engine.Log.{no_log}
-use Rattle.joint.proofs.lemmas.engine.Events.{go_is_step}
-use Rattle.joint.proofs.lemmas.engine.Turning.{goes_on}
+use Rattle.joint.proofs.lemmas.engine.StepsByEvent.{go_is_step}
+use Rattle.joint.proofs.lemmas.engine.Proceeding.{goes_on}
 use Rattle.joint.proofs.lemmas.engine.Walking.{registered}
 use Rattle.joint.proofs.engine.Engine.step_on.Goals as goal
 

@@ -24,9 +24,9 @@ use Rattle.congee.specs.declared.protocol.phase.Plan.{Plan}
 use Rattle.congee.specs.declared.protocol.phase.Plan.TheVariants.{Here, Above}
 use Rattle.congee.specs.declared.protocol.phase.Phase.{Phase}
 use Rattle.congee.specs.declared.protocol.phase.Phase.TheVariants.{Version, Read, CheckDown, CheckOld, MakeLeaf, MakeGreater, MakeTop, MakeLesser, AskOld, AskNew, Confirm, CheckAbove, UpgradeOne, UpgradeTop, UpgradeAbove, Obsolete, UnlockBelow, Unlock, Unwind}
-use Rattle.congee.specs.declared.protocol.turn.NextPhase.{NextPhase}
+use Rattle.congee.specs.declared.protocol.next_phase.NextPhase.{NextPhase}
 use Rattle.congee.specs.Heap.{Node}
-use Rattle.congee.specs.protocol.Alike.{Named, StampAlike, ParentAlike, TopAlike, OverAlike, AboveAlike, StampedAlike, MadeAlike, SiteAlike, ReadAlike, SingleAlike, DoubleAlike, TwoAlike, PlanAlike, SeesAlike, PhaseAlike, TurnAlike, IsUnrefused}
+use Rattle.congee.specs.protocol.Alike.{Named, StampAlike, ParentAlike, TopAlike, OverAlike, AboveAlike, StampedAlike, MadeAlike, SiteAlike, ReadAlike, SingleAlike, DoubleAlike, TwoAlike, PlanAlike, SeesAlike, PhaseAlike, NextPhaseAlike, IsUnrefused}
 use Rattle.congee.specs.protocol.Steps.{shrinks, here_of, near_of, node_of, below, set_at, both, last_out, after_top, after_retire, after_unwind, given_up, quiet, again, answered, finished, refused, decided, asking, adds, asks_new, absent_reply, after_version, down, started, ready, stamp_above, plan_here, unless_full, missing, absent, CopyFailed, IsAsked, replaced, taken_out, emptied, is_same, IsAtOld, IsAdded, IsExchanged, IsCompared, IsPresent, IsChecked, after_miss, IsGiven, IsGivenNew, greater, after_change, unwound}
 use Rattle.congee.specs.protocol.PlainSteps.{asked, at_old, added, exchanged, present, checked, given_old, given_new}
 use Rattle.congee.specs.declared.forms.prefix.TheConstants.{MAX_PREFIX_LEN}
@@ -34,7 +34,7 @@ use Rattle.congee.specs.declared.forms.prefix.TheConstants.{MAX_PREFIX_LEN}
 module _ {C V : Type 0} (order : List ℕ) (number : C → ℕ) (h : ℕ → Node V) where
   -- a turn on the store and one by numbers report the same, and go on in the same phase
   abbrev pub Alike : NextPhase C V → NextPhase ℕ V → Type 0
-  Alike t u = TurnAlike order number h t u
+  Alike t u = NextPhaseAlike order number h t u
 
   -- turns that report nothing and go on in the same phase are alike on both sides
   pub quiet_alike : (p : Phase C V) (q : Phase ℕ V) → PhaseAlike order number h p q → Alike (quiet p) (quiet q)
@@ -59,7 +59,7 @@ module _ {C V : Type 0} (order : List ℕ) (number : C → ℕ) (h : ℕ → Nod
   pub refused_alike : (e : Refusal) → Alike (refused e) (refused e)
   refused_alike e = record { report = refl; phase = refl }
 
-  -- one side's turn by another name
+  -- one side's next phase by another name
   pub alike_at : (t s : NextPhase C V) (u : NextPhase ℕ V) → t ≡ s → Alike s u → Alike t u
   alike_at t s u e x = let P : NextPhase C V → Type 0 = λ z. Alike z u in subst P (sym e) x
 
@@ -261,7 +261,7 @@ module _ {C V : Type 0} (order : List ℕ) (number : C → ℕ) (h : ℕ → Nod
   -- the closure's answer
   pub record GivenAlike (new' : Option V) (t : NextPhase C V) (w : Option V × NextPhase ℕ V) : Type 0 where
     pub given : w.0 ≡ new'
-    pub turn : Alike t w.1
+    pub next_phase : Alike t w.1
 
   some_given : (always : Bool) (same : V → V → Bool) (s : Site C) (u : Site ℕ) (v y : V) (t : NextPhase C V) → ReadAlike order number s u → IsUnrefused t.report.outcome
       → (t ≡ replaced s (same v y) (reply.ComputePresent (Some (v, Some y)))) ⊎ CopyFailed always t → Alike t (replaced u (same v y) (reply.ComputePresent (Some (v, Some y))))
@@ -271,25 +271,25 @@ module _ {C V : Type 0} (order : List ℕ) (number : C → ℕ) (h : ℕ → Nod
   -- a closure's answer about a value that stands gives both sides the same new value and the same turn
   pub given_alike : (always : Bool) (same : V → V → Bool) (kind : Kind V) (s : Site C) (u : Site ℕ) (v : V) (answer : Option (Option V)) (new new' : Option V) (t : NextPhase C V) → ReadAlike order number s u → IsUnrefused t.report.outcome
       → IsGiven always same kind s v answer new new' t → GivenAlike new' t (given_old same kind u v answer new)
-  given_alike always same kind s u v None new new' t x n e = record { given = sym e.0; turn = asked_alike always s u v t x n e.1 }
-  given_alike always same ComputeInsert s u v (Some None) new new' t x n e = record { given = sym e.0; turn = asked_alike always s u v t x n e.1 }
-  given_alike always same ComputeInsert s u v (Some (Some y)) new new' t x n e = record { given = sym e.0; turn = alike_at t _ _ e.1 (replaced_alike s u (same v y) (reply.ComputeInsert (Some v)) x.site) }
-  given_alike always same Get s u v (Some None) new new' t x n e = record { given = sym e.0; turn = alike_at t _ _ e.1 (emptied_alike s u (reply.ComputePresent (Some (v, None))) x) }
-  given_alike always same Insert s u v (Some None) new new' t x n e = record { given = sym e.0; turn = alike_at t _ _ e.1 (emptied_alike s u (reply.ComputePresent (Some (v, None))) x) }
-  given_alike always same Remove s u v (Some None) new new' t x n e = record { given = sym e.0; turn = alike_at t _ _ e.1 (emptied_alike s u (reply.ComputePresent (Some (v, None))) x) }
-  given_alike always same ComputePresent s u v (Some None) new new' t x n e = record { given = sym e.0; turn = alike_at t _ _ e.1 (emptied_alike s u (reply.ComputePresent (Some (v, None))) x) }
-  given_alike always same (Exchange old) s u v (Some None) new new' t x n e = record { given = sym e.0; turn = alike_at t _ _ e.1 (emptied_alike s u (reply.ComputePresent (Some (v, None))) x) }
-  given_alike always same Get s u v (Some (Some y)) new new' t x n e = record { given = sym e.0; turn = some_given always same s u v y t x n e.1 }
-  given_alike always same Insert s u v (Some (Some y)) new new' t x n e = record { given = sym e.0; turn = some_given always same s u v y t x n e.1 }
-  given_alike always same Remove s u v (Some (Some y)) new new' t x n e = record { given = sym e.0; turn = some_given always same s u v y t x n e.1 }
-  given_alike always same ComputePresent s u v (Some (Some y)) new new' t x n e = record { given = sym e.0; turn = some_given always same s u v y t x n e.1 }
-  given_alike always same (Exchange old) s u v (Some (Some y)) new new' t x n e = record { given = sym e.0; turn = some_given always same s u v y t x n e.1 }
+  given_alike always same kind s u v None new new' t x n e = record { given = sym e.0; next_phase = asked_alike always s u v t x n e.1 }
+  given_alike always same ComputeInsert s u v (Some None) new new' t x n e = record { given = sym e.0; next_phase = asked_alike always s u v t x n e.1 }
+  given_alike always same ComputeInsert s u v (Some (Some y)) new new' t x n e = record { given = sym e.0; next_phase = alike_at t _ _ e.1 (replaced_alike s u (same v y) (reply.ComputeInsert (Some v)) x.site) }
+  given_alike always same Get s u v (Some None) new new' t x n e = record { given = sym e.0; next_phase = alike_at t _ _ e.1 (emptied_alike s u (reply.ComputePresent (Some (v, None))) x) }
+  given_alike always same Insert s u v (Some None) new new' t x n e = record { given = sym e.0; next_phase = alike_at t _ _ e.1 (emptied_alike s u (reply.ComputePresent (Some (v, None))) x) }
+  given_alike always same Remove s u v (Some None) new new' t x n e = record { given = sym e.0; next_phase = alike_at t _ _ e.1 (emptied_alike s u (reply.ComputePresent (Some (v, None))) x) }
+  given_alike always same ComputePresent s u v (Some None) new new' t x n e = record { given = sym e.0; next_phase = alike_at t _ _ e.1 (emptied_alike s u (reply.ComputePresent (Some (v, None))) x) }
+  given_alike always same (Exchange old) s u v (Some None) new new' t x n e = record { given = sym e.0; next_phase = alike_at t _ _ e.1 (emptied_alike s u (reply.ComputePresent (Some (v, None))) x) }
+  given_alike always same Get s u v (Some (Some y)) new new' t x n e = record { given = sym e.0; next_phase = some_given always same s u v y t x n e.1 }
+  given_alike always same Insert s u v (Some (Some y)) new new' t x n e = record { given = sym e.0; next_phase = some_given always same s u v y t x n e.1 }
+  given_alike always same Remove s u v (Some (Some y)) new new' t x n e = record { given = sym e.0; next_phase = some_given always same s u v y t x n e.1 }
+  given_alike always same ComputePresent s u v (Some (Some y)) new new' t x n e = record { given = sym e.0; next_phase = some_given always same s u v y t x n e.1 }
+  given_alike always same (Exchange old) s u v (Some (Some y)) new new' t x n e = record { given = sym e.0; next_phase = some_given always same s u v y t x n e.1 }
 
   -- a closure's answer about an absent key gives both sides the same new value and the same turn
   pub new_alike : (plan : Plan C) (y : Plan ℕ) (answer : Option (Option V)) (new new' : Option V) (t : NextPhase C V) → PlanAlike order number plan y → IsGivenNew plan answer new new' t → GivenAlike new' t (given_new y answer new)
-  new_alike plan y (Some (Some v)) new new' t x e = record { given = sym e.0; turn = alike_at t _ _ e.1 (started_alike plan y (reply.ComputeInsert None) x) }
-  new_alike plan y (Some None) new new' t x e = record { given = sym e.0; turn = alike_at t _ _ e.1 (asking_alike (AskNew plan) (AskNew y) None (y, refl, x)) }
-  new_alike plan y None new new' t x e = record { given = sym e.0; turn = alike_at t _ _ e.1 (asking_alike (AskNew plan) (AskNew y) None (y, refl, x)) }
+  new_alike plan y (Some (Some v)) new new' t x e = record { given = sym e.0; next_phase = alike_at t _ _ e.1 (started_alike plan y (reply.ComputeInsert None) x) }
+  new_alike plan y (Some None) new new' t x e = record { given = sym e.0; next_phase = alike_at t _ _ e.1 (asking_alike (AskNew plan) (AskNew y) None (y, refl, x)) }
+  new_alike plan y None new new' t x e = record { given = sym e.0; next_phase = alike_at t _ _ e.1 (asking_alike (AskNew plan) (AskNew y) None (y, refl, x)) }
 
   -- the change to a greater node, with a leaf or without, is the same on both sides
   pub greater_alike : (s : Site C) (u : Site ℕ) (leaf : Option C) (l : Option ℕ) (c : C) (n : ℕ) → SiteAlike order number s u → MadeAlike order number leaf l → Named order number c n → DoubleAlike order number (greater s leaf c) (greater u l n)

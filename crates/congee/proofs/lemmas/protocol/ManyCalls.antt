@@ -11,7 +11,7 @@ use Rattle.congee.specs.declared.forms.base_node.NodeType.{NodeType}
 use Rattle.congee.specs.declared.protocol.store.Refusal.{Refusal}
 use Rattle.congee.specs.declared.protocol.phase.Kind.{Kind}
 use Rattle.congee.specs.declared.protocol.phase.Phase.{Phase}
-use Rattle.congee.specs.declared.protocol.turn.NextPhase.{NextPhase}
+use Rattle.congee.specs.declared.protocol.next_phase.NextPhase.{NextPhase}
 use Rattle.congee.specs.declared.protocol.machine.Move.{Move}
 use Rattle.congee.specs.declared.protocol.machine.Outcome.TheVariants.{Running}
 use Rattle.congee.specs.declared.protocol.machine.Machine.{Machine}
@@ -72,10 +72,10 @@ module _ {C V : Type 0} (number : C → ℕ) (same : V → V → Bool) (always :
   Now_after i a h a' h' m m' w t w' t' f = Holds_now number same always i a h a' h' (key_bytes m.key) w w' t' f m'.phase
 
   -- the step of one call, on a ledger
-  pub turned_at : (most : ℕ) (why : NodeType → Refusal → Type 0) (h : ℕ → Node V) (ms : List (Machine C V)) (i : ℕ) (fail : Bool) (answer : Option (Option V)) (m m' : Machine C V) (h' : ℕ → Node V) (d : Move V) (a : ℕ → Note)
+  pub step_leaves : (most : ℕ) (why : NodeType → Refusal → Type 0) (h : ℕ → Node V) (ms : List (Machine C V)) (i : ℕ) (fail : Bool) (answer : Option (Option V)) (m m' : Machine C V) (h' : ℕ → Node V) (d : Move V) (a : ℕ → Note)
       → ProtocolAt number same always a h ms → slice_get ms i ≡ Some m → Stepped number same always most why m h fail answer m' h' d → KeepsProtocol number same always m h m' h' d
       → After h ms i m' h' a
-  turned_at most why h ms i fail answer m m' h' d a p e g keeps =
+  step_leaves most why h ms i fail answer m m' h' d a p e g keeps =
       let o : EachKnown number same always a h i m = p.each i m e in
       let r : Keeps number same always i a m h m' h' d = keeps i a o.root p.tree p.words o.known in
       let KP : ℕ → Kind V → Type 0 = λ x y. Known number same always i r.notes h' x (key_bytes x) y m'.given m'.phase in
@@ -138,10 +138,10 @@ module _ {C V : Type 0} (number : C → ℕ) (same : V → V → Bool) (always :
       (pairs, y.0, subst H (sym step.0) st, inr (step.2.0, ap (λ (u : NextPhase C V). u.phase) is, y.2), subst D (sym (ap (λ (u : NextPhase C V). u.report) is)) y.1)
 
   -- the step of one call
-  pub turned : (most : ℕ) (why : NodeType → Refusal → Type 0) (h : ℕ → Node V) (ms : List (Machine C V)) (s : Step C V) (m m' : Machine C V) (h' : ℕ → Node V) (d : Move V)
+  pub step_plays : (most : ℕ) (why : NodeType → Refusal → Type 0) (h : ℕ → Node V) (ms : List (Machine C V)) (s : Step C V) (m m' : Machine C V) (h' : ℕ → Node V) (d : Move V)
       → Protocol number same always h ms → slice_get ms s.who ≡ Some m → Stepped number same always most why m h s.noise.fail s.noise.answer m' h' d → KeepsProtocol number same always m h m' h' d
       → KeepsOrigin number same always m h m' h' → StepPlays number same always most why h ms s d h' (set ms s.who m')
-  turned most why h ms s m m' h' d p e g keeps origin =
+  step_plays most why h ms s m m' h' d p e g keeps origin =
       let o : EachKnown number same always p.notes h s.who m = p.each s.who m e in
       let r : Keeps number same always s.who p.notes m h m' h' d = keeps s.who p.notes o.root p.tree p.words o.known in
       let t : NextPhase C V = record { phase = m'.phase; report = d } in
@@ -150,7 +150,7 @@ module _ {C V : Type 0} (number : C → ℕ) (same : V → V → Bool) (always :
       (leaves_on number same always s.who p.notes h h' m.key p.words p.tree most why m.root m.kind s.noise.fail s.noise.answer m.given m.phase m'.given t g.step) does in
       let cause : IsCause why most always m.phase d.outcome
       = caused number same always most why s.who p.notes h h' m.key (key_bytes m.key) m.root m.kind s.noise.fail s.noise.answer m.given m.phase m'.given t o.known g.step in
-      let q : After h ms s.who m' h' p.notes = turned_at most why h ms s.who s.noise.fail s.noise.answer m m' h' d p.notes (at_hand h ms p) e g keeps in
+      let q : After h ms s.who m' h' p.notes = step_leaves most why h ms s.who s.noise.fail s.noise.answer m m' h' d p.notes (at_hand h ms p) e g keeps in
       record {
         protocol = record {
           notes = q.0;
@@ -165,8 +165,8 @@ module _ {C V : Type 0} (number : C → ℕ) (same : V → V → Bool) (always :
             let P : Machine C V → Type 0 = λ x. IsMoved number same always most why h ms x s d h' (set ms s.who m') in
             subst P q (record { now = m'; calls = refl; step = g; keeps = keeps; origin = origin; cause = cause });
         settled = λ a x y.
-            let z : After h ms s.who m' h' a = turned_at most why h ms s.who s.noise.fail s.noise.answer m m' h' d a x e g keeps in (z.0, z.1, (z.2 y).0);
-        takes = λ a x y. let z : After h ms s.who m' h' a = turned_at most why h ms s.who s.noise.fail s.noise.answer m m' h' d a x e g keeps in (z.2 y).1 hands;
+            let z : After h ms s.who m' h' a = step_leaves most why h ms s.who s.noise.fail s.noise.answer m m' h' d a x e g keeps in (z.0, z.1, (z.2 y).0);
+        takes = λ a x y. let z : After h ms s.who m' h' a = step_leaves most why h ms s.who s.noise.fail s.noise.answer m m' h' d a x e g keeps in (z.2 y).1 hands;
         watched = λ pairs fs st fl.
             let at = follow_at ms fs s.who m fl e in
             let w : (m1 : Pairs V) × (f1 : Flight V) × IsMapOf h' m1 × Follows m' f1 × Watched same at.0 pairs s.noise.answer d f1 m1

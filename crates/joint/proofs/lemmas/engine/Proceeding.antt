@@ -175,7 +175,7 @@ module _ {V : Type 0} (same : V → V → Bool) (always : Bool) (w : World V) (w
 
       module _ (charged : IsCharged w.forest) (ms : w'.machines ≡ w.machines) (calls : w'.calls ≡ set w.calls who (call_after x.outcome (Collecting op))) (log : w'.log ≡ w.log) (r : Report V) (q : r ≡ collection x (collected x.outcome)) where
         goes : refusal c who op ≡ None → Begun same always w who (Collector op) r w'
-        goes e = proceeds (Collector op) r w' (fault_is ∙ e) (record { turn = x; step = did; machines = ms; calls = calls; report = q })
+        goes e = proceeds (Collector op) r w' (fault_is ∙ e) (record { collector_report = x; step = did; machines = ms; calls = calls; report = q })
 
         by_outcome : (o : CollectorOutcome) → x.outcome ≡ o → Begins c who op o w'.forest.collector → Begun same always w who (Collector op) r w'
         by_outcome collector_outcome.Running e b = goes b.0
