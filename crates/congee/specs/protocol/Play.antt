@@ -265,7 +265,7 @@ pub record Protocol {C V : Type 0} (number : C → ℕ) (same : V → V → Bool
   pub words : LockWords notes h
   pub each : (i : ℕ) (m : Machine C V) → slice_get ms i ≡ Some m → EachKnown number same always notes h i m
 
--- the same on a ledger at hand
+-- the same with notes at hand
 pub record ProtocolAt {C V : Type 0} (number : C → ℕ) (same : V → V → Bool) (always : Bool) (a : ℕ → Note) (h : ℕ → Node V) (ms : List (Machine C V)) : Type 0 where
   pub tree : Tree a h
   pub words : LockWords a h

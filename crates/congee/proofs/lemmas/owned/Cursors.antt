@@ -9,7 +9,7 @@ use Rattle.std.specs.FinMap as map
 use Rattle.slab.specs.Slab.{get, ContainsKey}
 use Rattle.congee.specs.Heap.{Hung, Below, Nothing, Holds, fits, child_for, value_at}
 use Rattle.congee.specs.Keys.{key_bytes}
-use Rattle.congee.specs.owned.Arena.{Nodes, hung_in, heap_of, ledger_of, IsTree, OnWay}
+use Rattle.congee.specs.owned.Arena.{Nodes, hung_in, heap_of, notes_of, IsTree, OnWay}
 use Rattle.congee.specs.Notes.{IsChild}
 use Rattle.congee.specs.forms.Bytes.{IsFirst}
 use Rattle.congee.specs.owned.Changes.{DiffersAt}
@@ -238,7 +238,7 @@ module _ {P : Type 0} (s : Nodes P) (t : IsTree s) where
   ]
 
   -- what hangs below a step
-  child_of : (a b : Branch) → ContainsKey s a.node → (l : HangsBelow s a b) → IsChild (ledger_of s t.parent) (heap_of s) a.node l.byte b.node
+  child_of : (a b : Branch) → ContainsKey s a.node → (l : HangsBelow s a b) → IsChild (notes_of s t.parent) (heap_of s) a.node l.byte b.node
   child_of a b c l = t.tree.down a.node l.byte b.node (linked_of s t.parent a.node c) l.hangs
 
   child_stands : (a b : Branch) → ContainsKey s a.node → HangsBelow s a b → ContainsKey s b.node

@@ -7,7 +7,7 @@ use Rattle.slab.specs.Slab.{get, ContainsKey}
 use Rattle.congee.specs.Heap.{Node, Below, Nothing, fits, child_for, walk, value_at}
 use Rattle.congee.specs.Notes.{Linked, Gone, Note, Tree, IsChild, HasParent}
 use Rattle.congee.specs.forms.Forms.{prefix_of}
-use Rattle.congee.specs.owned.Arena.{Nodes, hung_in, node_of, heap_of, ledger_of, IsFilled, IsTree, OnWay, Hangs}
+use Rattle.congee.specs.owned.Arena.{Nodes, hung_in, node_of, heap_of, notes_of, IsFilled, IsTree, OnWay, Hangs}
 use Rattle.congee.specs.owned.Changes.{MapChange, IsLeafOf, AddsLeaf, AddsFork, DropsLeaf, DiffersAt}
 use Rattle.congee.specs.declared.forms.base_node.Node.{Node as Form}
 use Rattle.congee.proofs.lemmas.Fits.{same_test, other_test, fits_byte}
@@ -64,17 +64,17 @@ parted_below p q key n f g l e parts = elim (cases_lt (length p) n) [
 ]
 
 module _ {P : Type 0} where
-  vacant_not : (s : Nodes P) (parent : ℕ → ℕ) (n : ℕ) → get s n ≡ None → (ledger_of s parent n).status ≢ Linked
+  vacant_not : (s : Nodes P) (parent : ℕ → ℕ) (n : ℕ) → get s n ≡ None → (notes_of s parent n).status ≢ Linked
   vacant_not s parent n e h = let z : Gone ≡ Linked = rw e at h in cc
 
   root_not : (s : Nodes P) (t : IsTree s) (n : ℕ) → get s n ≡ None → 0 ≢ n
-  root_not s t n e q = let Q : ℕ → Type 0 = λ y. (ledger_of s t.parent y).status ≡ Linked in vacant_not s t.parent n e (subst Q q t.tree.root)
+  root_not s t n e q = let Q : ℕ → Type 0 = λ y. (notes_of s t.parent y).status ≡ Linked in vacant_not s t.parent n e (subst Q q t.tree.root)
 
   -- where a node is read, one stands
   pub stands_at : (s : Nodes P) (n : ℕ) (x : Form ℕ P) → get s n ≡ Some x → ContainsKey s n
   stands_at s n x e = rw e refl
 
-  note_same : (s s' : Nodes P) (parent parent' : ℕ → ℕ) (m : ℕ) → is_some (get s' m) ≡ is_some (get s m) → parent' m ≡ parent m → ledger_of s' parent' m ≡ ledger_of s parent m
+  note_same : (s s' : Nodes P) (parent parent' : ℕ → ℕ) (m : ℕ) → is_some (get s' m) ≡ is_some (get s m) → parent' m ≡ parent m → notes_of s' parent' m ≡ notes_of s parent m
   note_same s s' parent parent' m e f = rw (e, f) refl
 
   -- a node that has the key's value alone is a leaf of the key's for the tree
@@ -130,8 +130,8 @@ module _ {P : Type 0} where
       let hx : heap_of s at ≡ node_of (Some k.before) = ap node_of k.was in
       let hy : heap_of s' at ≡ node_of (Some k.after) = ap node_of k.now in
       let parent' : ℕ → ℕ = λ n. cond (n == d) at (t.parent n) in
-      let a : ℕ → Note = ledger_of s t.parent in
-      let a' : ℕ → Note = ledger_of s' parent' in
+      let a : ℕ → Note = notes_of s t.parent in
+      let a' : ℕ → Note = notes_of s' parent' in
       let links : Links a (heap_of s) a' (heap_of s') at d key v = record {
         linked = linked_of s t.parent at w.stands;
         fitted = w.fitted;
@@ -165,8 +165,8 @@ module _ {P : Type 0} where
       let hx : heap_of s above ≡ node_of (Some k.before) = ap node_of k.was in
       let hy : heap_of s' above ≡ node_of (Some k.after) = ap node_of k.now in
       let hl : heap_of s at ≡ node_of (Some k.last) = ap node_of k.stood in
-      let a : ℕ → Note = ledger_of s t.parent in
-      let a' : ℕ → Note = ledger_of s' t.parent in
+      let a : ℕ → Note = notes_of s t.parent in
+      let a' : ℕ → Note = notes_of s' t.parent in
       let last : Leaf (heap_of s) at key v = record {
         fitted = w.fitted;
         seven = seven;
@@ -219,8 +219,8 @@ module _ {P : Type 0} where
       let hb : heap_of s b ≡ node_of (Some k.lower) = ap node_of k.stands in
       let hc : heap_of s' c ≡ node_of (Some k.fork) = ap node_of k.taken_over in
       let parent' : ℕ → ℕ = λ m. cond (m == c) at (cond (m == d) c (cond (m == b) c (t.parent m))) in
-      let a : ℕ → Note = ledger_of s t.parent in
-      let a' : ℕ → Note = ledger_of s' parent' in
+      let a : ℕ → Note = notes_of s t.parent in
+      let a' : ℕ → Note = notes_of s' parent' in
       let i : IsChild a (heap_of s) at (get_or key (length (heap_of s at).prefix) 0) b = is_child s t at b key w.stands hangs in
       let short : length (heap_of s b).prefix ≤ 7 = short_prefix s t b (below_stands s t at b key w.stands hangs) in
       let here : n < length (heap_of s b).prefix = parts.within in

@@ -8,7 +8,7 @@ use Rattle.congee.specs.Heap.{Hung, Nothing, Below, Holds, value_at}
 use Rattle.congee.specs.Notes.{Linked, Gone}
 use Rattle.congee.specs.forms.Forms.{capacity_of, children_of, form_of, prefix_of, size_of}
 use Rattle.congee.specs.forms.Mapped.{mapped}
-use Rattle.congee.specs.owned.Arena.{Nodes, hung_in, node_of, heap_of, ledger_of, IsFilled, IsTree}
+use Rattle.congee.specs.owned.Arena.{Nodes, hung_in, node_of, heap_of, notes_of, IsFilled, IsTree}
 use Rattle.congee.specs.owned.Lesser.{Shrunk, ShrinksTo, SameMap}
 use Rattle.congee.specs.owned.Naming.{offset_of, IsByte}
 use Rattle.congee.specs.owned.OwnedSteps.{SameNodes}
@@ -189,7 +189,7 @@ module _ {P : Type 0} (s s' : Nodes P) (at : ℕ) (x y : Node ℕ P) (t : IsTree
     | inr ne ↦ o ne
   ]
 
-  linked_same : (n : ℕ) → (ledger_of s' t.parent n).status ≡ (ledger_of s t.parent n).status
+  linked_same : (n : ℕ) → (notes_of s' t.parent n).status ≡ (notes_of s t.parent n).status
   linked_same n = ap (λ b. cond b Linked Gone) (here_or (λ m. is_some (get s' m) ≡ is_some (get s m)) n (rw (u.changed, was) refl) (λ ne. ap is_some (u.others n ne)))
 
   prefix_same : (n : ℕ) → (heap_of s' n).prefix ≡ (heap_of s n).prefix
@@ -203,7 +203,7 @@ module _ {P : Type 0} (s s' : Nodes P) (at : ℕ) (x y : Node ℕ P) (t : IsTree
   same_named (Below c) = refl
   same_named (Holds v) = refl
 
-  as_named : Renamed (λ n. n) (ledger_of s t.parent) (heap_of s) (ledger_of s' t.parent) (heap_of s')
+  as_named : Renamed (λ n. n) (notes_of s t.parent) (heap_of s) (notes_of s' t.parent) (heap_of s')
   as_named = record {
     root = refl;
     linked = λ n l. linked_same n ∙ l;
@@ -223,11 +223,11 @@ module _ {P : Type 0} (s s' : Nodes P) (at : ℕ) (x y : Node ℕ P) (t : IsTree
   reformed = record {
     tree = record {
       parent = t.parent;
-      tree = renamed_tree (λ n. n) (ledger_of s t.parent) (heap_of s) (ledger_of s' t.parent) (heap_of s') t.tree as_named;
+      tree = renamed_tree (λ n. n) (notes_of s t.parent) (heap_of s) (notes_of s' t.parent) (heap_of s') t.tree as_named;
       wide = ap (λ o. (node_of o).capacity) (u.others 0 (λ e. below (sym e))) ∙ t.wide;
       filled = filled_same;
     };
-    values = λ key len. renamed_map (λ n. n) (ledger_of s t.parent) (heap_of s) (ledger_of s' t.parent) (heap_of s') t.tree as_named key;
+    values = λ key len. renamed_map (λ n. n) (notes_of s t.parent) (heap_of s) (notes_of s' t.parent) (heap_of s') t.tree as_named key;
   }
 
   -- a node in another form changes the sizes by those of the two forms

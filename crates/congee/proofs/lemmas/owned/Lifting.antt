@@ -6,7 +6,7 @@ use Rattle.slab.specs.Slab.{get, ContainsKey}
 use Rattle.congee.specs.Heap.{Node as Seen, Hung, Nothing, Below, Holds}
 use Rattle.congee.specs.Notes.{Linked, Gone, Note, Tree, IsChild, Lifts}
 use Rattle.congee.specs.forms.Forms.{capacity_of, children_of}
-use Rattle.congee.specs.owned.Arena.{Nodes, hung_in, node_of, heap_of, ledger_of, IsFilled, IsTree}
+use Rattle.congee.specs.owned.Arena.{Nodes, hung_in, node_of, heap_of, notes_of, IsFilled, IsTree}
 use Rattle.congee.specs.owned.Lesser.{SameMap}
 use Rattle.congee.specs.owned.Lifting.{MayLift, MovesUp}
 use Rattle.congee.specs.declared.forms.child.Child.TheVariants.{Node as Sub}
@@ -43,7 +43,7 @@ module _ {P : Type 0} (s s' : Nodes P) (g b p : ℕ) (t : IsTree s) (r : MayLift
   m = k.name
 
   abbrev a : ℕ → Note
-  a = ledger_of s t.parent
+  a = notes_of s t.parent
 
   abbrev h : ℕ → Seen P
   h = heap_of s
@@ -143,7 +143,7 @@ module _ {P : Type 0} (s s' : Nodes P) (g b p : ℕ) (t : IsTree s) (r : MayLift
   parent' n = cond (n == m) g (in_place o m (t.parent n))
 
   abbrev a' : ℕ → Note
-  a' = ledger_of s' parent'
+  a' = notes_of s' parent'
 
   same_node : (n : ℕ) → ContainsKey s n → n ≢ g → n ≢ p → n ≢ o → get s' n ≡ get s n
   same_node n st ng np nv = k.others n ng np nv (free_name n st nv)

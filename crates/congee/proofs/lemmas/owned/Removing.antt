@@ -10,7 +10,7 @@ use Rattle.slab.specs.Slab.{get, ContainsKey, Updates}
 use Rattle.congee.specs.Heap.{Node as Seen}
 use Rattle.congee.specs.Notes.{IsChild, Linked}
 use Rattle.congee.specs.forms.Forms.{Becomes, capacity_of, children_of, form_of, prefix_of, size_of}
-use Rattle.congee.specs.owned.Arena.{Nodes, hung_in, node_of, heap_of, ledger_of, IsTree, OnWay, Hangs}
+use Rattle.congee.specs.owned.Arena.{Nodes, hung_in, node_of, heap_of, notes_of, IsTree, OnWay, Hangs}
 use Rattle.congee.specs.owned.Changes.{MapChange}
 use Rattle.congee.specs.owned.Entries.{first_byte}
 use Rattle.congee.specs.owned.Going.{GaveWay, going_from, going_last, going_one, lesser_if, lesser_of}
@@ -249,7 +249,7 @@ module _ {P : Type 0} where
       pair : (k : ℕ) × (x : Child ℕ P) × (children_of y ≡ map.insert map.empty k x)
       pair = only_pair (children_of y) one
 
-      linked : (ledger_of s t.parent n).status ≡ Linked
+      linked : (notes_of s t.parent n).status ≡ Linked
       linked = linked_of s t.parent n (stands_at s n y e)
 
       seen : (heap_of s n).children pair.0 ≡ hung_in (Some pair.1)
@@ -271,9 +271,9 @@ module _ {P : Type 0} where
       → length (prefix_of lower) < 7 → map.len (children_of lower) ≡ 1 → MayLift s above byte at
   may_lift s t above byte at upper lower was stood hung inner one =
       let o = has_one_node s t at lower stood inner one in
-      let i : IsChild (ledger_of s t.parent) (heap_of s) above byte at = t.tree.down above byte at (linked_of s t.parent above (stands_at s above upper was)) (ap (λ z. (node_of z).children byte) was ∙ ap hung_in hung) in
+      let i : IsChild (notes_of s t.parent) (heap_of s) above byte at = t.tree.down above byte at (linked_of s t.parent above (stands_at s above upper was)) (ap (λ z. (node_of z).children byte) was ∙ ap hung_in hung) in
       let here : map.get (children_of lower) o.byte ≡ Some (Sub o.child) = ap (λ m. map.get m o.byte) o.children ∙ insert_at map.empty o.byte (Sub o.child) in
-      let j : IsChild (ledger_of s t.parent) (heap_of s) at o.byte o.child = t.tree.down at o.byte o.child i.linked (ap (λ z. (node_of z).children o.byte) stood ∙ ap hung_in here) in
+      let j : IsChild (notes_of s t.parent) (heap_of s) at o.byte o.child = t.tree.down at o.byte o.child i.linked (ap (λ z. (node_of z).children o.byte) stood ∙ ap hung_in here) in
       let n = node_at s o.child (stands_of s t.parent o.child j.linked) in
       let l = i.longer in let m = j.longer in
       let pu : length (heap_of s above).prefix ≡ length (prefix_of upper) = ap length (prefix_at s above upper was) in
@@ -312,10 +312,10 @@ module _ {P : Type 0} where
       absurd (omega (arith, l, y, z))
 
   module _ (s mid : Nodes P) (key : List ℕ) (top above at : ℕ) (t : IsTree s) (h : Hangs s key above at) (higher : Hangs s key top above) (k : LosesChild s mid key above at) where
-    above_child : IsChild (ledger_of s t.parent) (heap_of s) above (get_or key (length (heap_of s above).prefix) 0) at
+    above_child : IsChild (notes_of s t.parent) (heap_of s) above (get_or key (length (heap_of s above).prefix) 0) at
     above_child = is_child s t above at key h.way.stands h.child
 
-    top_child : IsChild (ledger_of s t.parent) (heap_of s) top (get_or key (length (heap_of s top).prefix) 0) above
+    top_child : IsChild (notes_of s t.parent) (heap_of s) top (get_or key (length (heap_of s top).prefix) 0) above
     top_child = is_child s t top above key higher.way.stands higher.child
 
     -- the node above the one that loses its child

@@ -5,7 +5,7 @@ use Rattle.slab.specs.Slab.{get}
 use Rattle.congee.specs.Heap.{Below, value_at}
 use Rattle.congee.specs.Notes.{Linked, Gone, IsChild}
 use Rattle.congee.specs.forms.Forms.{form_of, size_of}
-use Rattle.congee.specs.owned.Arena.{Nodes, hung_in, node_of, heap_of, ledger_of, IsFilled, IsTree}
+use Rattle.congee.specs.owned.Arena.{Nodes, hung_in, node_of, heap_of, notes_of, IsFilled, IsTree}
 use Rattle.congee.specs.owned.Changes.{Differs, MapChange}
 use Rattle.congee.specs.owned.Edits.{Edits, Adds}
 use Rattle.congee.specs.owned.Full.{HasEnough, NodesFilled}
@@ -38,13 +38,13 @@ module _ {P : Type 0} (s s' : Nodes P) (p b n m : ℕ) (t : IsTree s) (k : Renam
   abbrev parent : ℕ → ℕ
   parent x = cond (x == m) p (in_place n m (t.parent x))
 
-  above : (ledger_of s t.parent p).status ≡ Linked
+  above : (notes_of s t.parent p).status ≡ Linked
   above = linked_of s t.parent p (stands_at s p k.old k.was)
 
   hung : (heap_of s p).children b ≡ Below n
   hung = rw hp (ap hung_in k.child)
 
-  hangs : IsChild (ledger_of s t.parent) (heap_of s) p b n
+  hangs : IsChild (notes_of s t.parent) (heap_of s) p b n
   hangs = t.tree.down p b n above hung
 
   root_apart : 0 ≢ n
@@ -53,19 +53,19 @@ module _ {P : Type 0} (s s' : Nodes P) (p b n m : ℕ) (t : IsTree s) (k : Renam
       let y : length (heap_of s 0).prefix ≡ 0 = ap length t.tree.empty in
       absurd (omega (arith, hangs.longer))
 
-  unlinked : (ledger_of s t.parent m).status ≢ Linked
+  unlinked : (notes_of s t.parent m).status ≢ Linked
   unlinked h = let z : Gone ≡ Linked = rw k.free at h in cc
 
-  left : (ledger_of s' parent n).status ≢ Linked
+  left : (notes_of s' parent n).status ≢ Linked
   left h = let z : Gone ≡ Linked = rw k.left at h in cc
 
-  stays : (x : ℕ) → x ≢ n → x ≢ m → (ledger_of s' parent x).status ≡ (ledger_of s t.parent x).status
+  stays : (x : ℕ) → x ≢ n → x ≢ m → (notes_of s' parent x).status ≡ (notes_of s t.parent x).status
   stays x nn nm = ap (λ o. cond o Linked Gone) (elim (same_or_not x p) [
     | inl e ↦ (let Q : ℕ → Type 0 = λ y. is_some (get s' y) ≡ is_some (get s y) in subst Q (sym e) (rw (k.now, k.was) refl))
     | inr np ↦ ap is_some (k.others x np nn nm)
   ])
 
-  moves : Moves (ledger_of s t.parent) (heap_of s) (ledger_of s' parent) (heap_of s') p b n m
+  moves : Moves (notes_of s t.parent) (heap_of s) (notes_of s' parent) (heap_of s') p b n m
   moves = record {
     above = above;
     hung = hung;
@@ -80,7 +80,7 @@ module _ {P : Type 0} (s s' : Nodes P) (p b n m : ℕ) (t : IsTree s) (k : Renam
     left = left;
     stays = stays;
     parent = rw (same_test m m refl) refl;
-    parents = λ x l nn. rw (other_test x m (λ e. unlinked (let Q : ℕ → Type 0 = λ y. (ledger_of s t.parent y).status ≡ Linked in subst Q e l))) refl;
+    parents = λ x l nn. rw (other_test x m (λ e. unlinked (let Q : ℕ → Type 0 = λ y. (notes_of s t.parent y).status ≡ Linked in subst Q e l))) refl;
   }
 
   filled : (x : ℕ) → IsFilled (get s' x)
@@ -96,17 +96,17 @@ module _ {P : Type 0} (s s' : Nodes P) (p b n m : ℕ) (t : IsTree s) (k : Renam
   ]
 
   root_new : 0 ≢ m
-  root_new e = unlinked (let Q : ℕ → Type 0 = λ y. (ledger_of s t.parent y).status ≡ Linked in subst Q e t.tree.root)
+  root_new e = unlinked (let Q : ℕ → Type 0 = λ y. (notes_of s t.parent y).status ≡ Linked in subst Q e t.tree.root)
 
   renamed_is : IsTree s' × ((key : List ℕ) → value_at (heap_of s') key ≡ value_at (heap_of s) key)
   renamed_is = (
     record {
       parent = parent;
-      tree = move_tree (ledger_of s t.parent) (heap_of s) (ledger_of s' parent) (heap_of s') p b n m t.tree moves;
+      tree = move_tree (notes_of s t.parent) (heap_of s) (notes_of s' parent) (heap_of s') p b n m t.tree moves;
       wide = wide_after s s' p k.old k.new t.wide k.was k.now differs.wide (λ ne. k.others 0 ne root_apart root_new);
       filled = filled;
     },
-    move_map (ledger_of s t.parent) (heap_of s) (ledger_of s' parent) (heap_of s') p b n m t.tree moves,
+    move_map (notes_of s t.parent) (heap_of s) (notes_of s' parent) (heap_of s') p b n m t.tree moves,
   )
 
   -- what a name weighs before, with the old name given up, and with the new one taken
@@ -126,7 +126,7 @@ module _ {P : Type 0} (s s' : Nodes P) (p b n m : ℕ) (t : IsTree s) (k : Renam
   renamed_bytes : bytes_of s' ≡ bytes_of s
   unfolding weight weight_left weight_after bound
   renamed_bytes =
-      let mn : m ≢ n = (λ e. unlinked (let Q : ℕ → Type 0 = λ y. (ledger_of s t.parent y).status ≡ Linked in subst Q (sym e) hangs.linked)) in
+      let mn : m ≢ n = (λ e. unlinked (let Q : ℕ → Type 0 = λ y. (notes_of s t.parent y).status ≡ Linked in subst Q (sym e) hangs.linked)) in
       let old = bytes_named s bound (omega arith) in
       let new = bytes_named s' bound (omega arith) in
       let gone = total_update weight weight_left bound n (omega arith) (λ x ne. rw (other_test x n ne) refl) in

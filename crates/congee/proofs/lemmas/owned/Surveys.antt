@@ -10,7 +10,7 @@ use Rattle.congee.specs.forms.Bytes.{IsFirst}
 use Rattle.congee.specs.Heap.{Hung, Nothing, Below, Holds}
 use Rattle.congee.specs.Notes.{IsChild}
 use Rattle.congee.specs.forms.Forms.{form_of, prefix_of, children_of}
-use Rattle.congee.specs.owned.Arena.{Nodes, hung_in, node_of, heap_of, ledger_of, IsTree}
+use Rattle.congee.specs.owned.Arena.{Nodes, hung_in, node_of, heap_of, notes_of, IsTree}
 use Rattle.congee.specs.owned.Stats.{capped, no_nodes, info_at, Counts, Shape, IsTally, root_alone}
 use Rattle.congee.specs.owned.Levels.{shape_of, under_byte, under_bytes, with_node, nodes_from, nodes_of}
 use Rattle.congee.specs.owned.OwnedSteps.{SameNodes}
@@ -94,7 +94,7 @@ module _ {P : Type 0} (s : Nodes P) where
 
   module _ (t : IsTree s) where
     child_of : (n : ℕ) (x : Form ℕ P) (b c : ℕ) → ContainsKey s n → get s n ≡ Some x → at_bytes x b ≡ Below c
-        → IsChild (ledger_of s t.parent) (heap_of s) n b c
+        → IsChild (notes_of s t.parent) (heap_of s) n b c
     child_of n x b c h e d = t.tree.down n b c (linked_of s t.parent n h) (rw e d)
 
     -- any number of levels that is enough gives the same nodes
@@ -135,7 +135,7 @@ module _ {P : Type 0} (s : Nodes P) where
   -- a leaf has no nodes below it
   pub none_below : (n : ℕ) (x : Form ℕ P) → IsTree s → ContainsKey s n → get s n ≡ Some x → length (prefix_of x) ≡ 7 → (b c : ℕ) → at_bytes x b ≡ Below c → ⊥
   none_below n x t h e seven b c d =
-      let i : IsChild (ledger_of s t.parent) (heap_of s) n b c = child_of t n x b c h e d in
+      let i : IsChild (notes_of s t.parent) (heap_of s) n b c = child_of t n x b c h e d in
       let len : length (heap_of s n).prefix ≡ length (prefix_of x) = ap (λ o. length (node_of o).prefix) e in
       let short : length (heap_of s c).prefix ≤ 7 = t.tree.short c i.linked in
       omega (arith, i.longer, len, seven, short)
@@ -170,7 +170,7 @@ module _ {P : Type 0} (s : Nodes P) where
   pub child_stands : (n : ℕ) (x : Form ℕ P) (from b : ℕ) (y : Child ℕ P) (c : ℕ) → IsTree s → ContainsKey s n → get s n ≡ Some x → IsFirst (children_of x) from b y → y ≡ Sub c
       → ContainsKey s c × ((length (heap_of s n).prefix < length (heap_of s c).prefix) × (length (heap_of s c).prefix ≤ 7))
   child_stands n x from b y c t h e first is =
-      let i : IsChild (ledger_of s t.parent) (heap_of s) n b c = child_of t n x b c h e (ap hung_in first.here ∙ ap (λ z. hung_in (Some z)) is) in
+      let i : IsChild (notes_of s t.parent) (heap_of s) n b c = child_of t n x b c h e (ap hung_in first.here ∙ ap (λ z. hung_in (Some z)) is) in
       (stands_of s t.parent c i.linked, (i.longer, t.tree.short c i.linked))
 
   -- with the nodes below a byte
@@ -184,7 +184,7 @@ module _ {P : Type 0} (s : Nodes P) where
   value_adds : (n : ℕ) (x : Form ℕ P) (from b : ℕ) (y : Child ℕ P) (level : ℕ) → IsTree s → ContainsKey s n → get s n ≡ Some x → IsFirst (children_of x) from b y
       → ((c : ℕ) → y ≡ Sub c → ⊥) → under_byte (next level) (hung_in (Some y)) ≡ []
   value_adds n x from b Blank level t h e first other =
-      let i : IsChild (ledger_of s t.parent) (heap_of s) n b 0 = child_of t n x b 0 h e (ap hung_in first.here) in
+      let i : IsChild (notes_of s t.parent) (heap_of s) n b 0 = child_of t n x b 0 h e (ap hung_in first.here) in
       let z : length (heap_of s 0).prefix ≡ 0 = ap length t.tree.empty in
       absurd (omega (arith, i.longer, z))
   value_adds n x from b (Sub c) level t h e first other = absurd (other c refl)

@@ -7,7 +7,7 @@ use Rattle.congee.specs.Notes.{Linked, Gone, IsChild}
 use Rattle.congee.specs.forms.Forms.{prefix_of}
 use Rattle.congee.specs.declared.forms.base_node.Node.{Node as Form}
 use Rattle.congee.specs.owned.OwnedSteps.{SameNodes}
-use Rattle.congee.specs.owned.Arena.{Nodes, node_of, heap_of, ledger_of, IsFilled, IsTree, Hangs, Reached}
+use Rattle.congee.specs.owned.Arena.{Nodes, node_of, heap_of, notes_of, IsFilled, IsTree, Hangs, Reached}
 use Rattle.congee.specs.owned.Place.{EndsAt, Located}
 use Rattle.congee.specs.declared.owned.place.Place.{Place}
 use Rattle.congee.specs.declared.owned.place.Spot.{Spot}
@@ -18,7 +18,7 @@ module _ {P : Type 0} where
   prefix_is s n x e = rw e refl
 
   -- a place is a node of the tree exactly where it has a node
-  pub linked_of : (s : Nodes P) (parent : ℕ → ℕ) (n : ℕ) → ContainsKey s n → (ledger_of s parent n).status ≡ Linked
+  pub linked_of : (s : Nodes P) (parent : ℕ → ℕ) (n : ℕ) → ContainsKey s n → (notes_of s parent n).status ≡ Linked
   linked_of s parent n h = of (get s n) h
     where
       of : (o : Option (Form ℕ P)) → IsSome o → cond (is_some o) Linked Gone ≡ Linked
@@ -26,7 +26,7 @@ module _ {P : Type 0} where
       of (Some x) h = refl
 
   -- a name that is in the tree has a node
-  pub stands_of : (s : Nodes P) (parent : ℕ → ℕ) (n : ℕ) → (ledger_of s parent n).status ≡ Linked → ContainsKey s n
+  pub stands_of : (s : Nodes P) (parent : ℕ → ℕ) (n : ℕ) → (notes_of s parent n).status ≡ Linked → ContainsKey s n
   stands_of s parent n h = of (get s n) h
     where
       of : (o : Option (Form ℕ P)) → cond (is_some o) Linked Gone ≡ Linked → IsSome o
@@ -42,11 +42,11 @@ module _ {P : Type 0} where
 
   -- a node that hangs at the key's byte of one that stands is its child
   pub is_child : (s : Nodes P) (t : IsTree s) (n c : ℕ) (key : List ℕ) → ContainsKey s n → child_for (heap_of s n) key ≡ Below c
-      → IsChild (ledger_of s t.parent) (heap_of s) n (get_or key (length (heap_of s n).prefix) 0) c
+      → IsChild (notes_of s t.parent) (heap_of s) n (get_or key (length (heap_of s n).prefix) 0) c
   is_child s t n c key h e = t.tree.down n _ c (linked_of s t.parent n h) e
 
   -- what hangs at any byte is a child, of a node that stands
-  pub hung_child : (s : Nodes P) (t : IsTree s) (n b c : ℕ) → (heap_of s n).children b ≡ Below c → ContainsKey s n × IsChild (ledger_of s t.parent) (heap_of s) n b c
+  pub hung_child : (s : Nodes P) (t : IsTree s) (n b c : ℕ) → (heap_of s n).children b ≡ Below c → ContainsKey s n × IsChild (notes_of s t.parent) (heap_of s) n b c
   hung_child s t n b c e =
       let h : ContainsKey s n = there (get s n) e in
       (h, t.tree.down n b c (linked_of s t.parent n h) e)
@@ -99,5 +99,5 @@ module _ {P : Type 0} where
   pub same_tree : (s s' : Nodes P) → SameNodes s s' → IsTree s → IsTree s'
   same_tree s s' e t =
       let h : heap_of s ≡ heap_of s' = λ i n. ap node_of (sym (e n)) i in
-      let a : ledger_of s t.parent ≡ ledger_of s' t.parent = λ i n. ap (λ o. record { status = cond (is_some o) Linked Gone; owner = None; parent = t.parent n }) (sym (e n)) i in
+      let a : notes_of s t.parent ≡ notes_of s' t.parent = λ i n. ap (λ o. record { status = cond (is_some o) Linked Gone; owner = None; parent = t.parent n }) (sym (e n)) i in
       record { parent = t.parent; tree = rw (← h, ← a) t.tree; wide = ap (λ o. (node_of o).capacity) (e 0) ∙ t.wide; filled = λ n. subst IsFilled (sym (e n)) (t.filled n) }

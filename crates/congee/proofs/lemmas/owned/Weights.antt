@@ -8,7 +8,7 @@ use Rattle.slab.specs.Slab.{get, ContainsKey}
 use Rattle.congee.specs.Heap.{Hung, Nothing, Below, Holds}
 use Rattle.congee.specs.Notes.{HasParent}
 use Rattle.congee.specs.forms.Forms.{form_of, children_of, size_of}
-use Rattle.congee.specs.owned.Arena.{Nodes, hung_in, node_of, heap_of, ledger_of, IsTree}
+use Rattle.congee.specs.owned.Arena.{Nodes, hung_in, node_of, heap_of, notes_of, IsTree}
 use Rattle.congee.specs.owned.Levels.{under_byte, under_bytes, with_node, nodes_from, nodes_of}
 use Rattle.congee.specs.owned.Sizes.{bytes_at, bytes_of}
 use Rattle.congee.specs.owned.Stats.{Shape}
@@ -185,7 +185,7 @@ module _ {P : Type 0} (s : Nodes P) (t : IsTree s) where
       → total (λ n. total (λ b. at_hung ((heap_of s n).children b) m (whole m)) 256) (length s.slots) ≡ whole m
   share bytes m ne = elim (some_or_none (get s m)) [
     | inl h ↦
-        (let u : HasParent (ledger_of s t.parent) (heap_of s) m = t.tree.up m (linked_of s t.parent m h) ne in
+        (let u : HasParent (notes_of s t.parent) (heap_of s) m = t.tree.up m (linked_of s t.parent m h) ne in
         let p = t.parent m in
         let sp : ContainsKey s p = (hung_child s t p u.byte m u.holds).0 in
         let i = (hung_child s t p u.byte m u.holds).1 in

@@ -120,7 +120,7 @@ module _ {V : Type 0} (i : ℕ) (a : ℕ → Note) (h : ℕ → Node V) (key : L
         },
       )
 
--- the ledger after a leaf and the node above it went, with the other child in that one's place
+-- the notes after a leaf and the node above it went, with the other child in that one's place
 unfoldable pub collapsed : (ℕ → Note) → ℕ → ℕ → ℕ → ℕ → ℕ → ℕ → Note
 collapsed a i g p n o = noted (noted (noted a o (below_note (a o) g)) p (out_note i g)) n (out_note i p)
 

@@ -29,7 +29,7 @@ use Rattle.congee.proofs.lemmas.protocol.Change.{made_apart}
 use Rattle.congee.proofs.lemmas.protocol.Sound.{Sound}
 use Rattle.congee.proofs.lemmas.Tree.{by_length}
 
--- a step of the call, with the ledger after it
+-- a step of the call, with the notes after it
 pub record Kept {C V : Type 0} (number : C → ℕ) (same : V → V → Bool) (always : Bool) (i : ℕ) (a : ℕ → Note) (h : ℕ → Node V) (k : ℕ) (kind : Kind V) (given : Option V)
     (given' : Option V) (t : NextPhase C V) (h' : ℕ → Node V) : Type 0 where
   pub notes : ℕ → Note

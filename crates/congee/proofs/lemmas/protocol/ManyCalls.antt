@@ -64,14 +64,14 @@ module _ {C V : Type 0} (number : C → ℕ) (same : V → V → Bool) (always :
     })
   ]
 
-  -- what a step of one call leaves, on a ledger
+  -- what a step of one call leaves, with notes before and after it
   abbrev pub After : (ℕ → Node V) → List (Machine C V) → ℕ → Machine C V → (ℕ → Node V) → (ℕ → Note) → Type 0
   After h ms i m' h' a = (a' : ℕ → Note) × ProtocolAt number same always a' h' (set ms i m') × (Holdings number a h ms → Holdings number a' h' (set ms i m') × ((hands : StepHands number h ms i h' (set ms i m')) → StepTakes number h ms i h' (set ms i m') hands))
 
   abbrev Now_after : (i : ℕ) → (a : ℕ → Note) → (h : ℕ → Node V) → (a' : ℕ → Note) → (h' : ℕ → Node V) → (m m' : Machine C V) → LockWords a h → Tree a h → LockWords a' h' → Tree a' h' → ((n : ℕ) → Fares i (a n) (a' n) (h n) (h' n)) → Type 0
   Now_after i a h a' h' m m' w t w' t' f = Holds_now number same always i a h a' h' (key_bytes m.key) w w' t' f m'.phase
 
-  -- the step of one call, on a ledger
+  -- the step of one call, with notes before and after it
   pub step_leaves : (most : ℕ) (why : NodeType → Refusal → Type 0) (h : ℕ → Node V) (ms : List (Machine C V)) (i : ℕ) (fail : Bool) (answer : Option (Option V)) (m m' : Machine C V) (h' : ℕ → Node V) (d : Move V) (a : ℕ → Note)
       → ProtocolAt number same always a h ms → slice_get ms i ≡ Some m → Stepped number same always most why m h fail answer m' h' d → KeepsProtocol number same always m h m' h' d
       → After h ms i m' h' a

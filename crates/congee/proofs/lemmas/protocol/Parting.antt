@@ -34,7 +34,7 @@ parts_below q p key common k f g e = below (length q) common
       below : (m n : ℕ) → (n < m → ⊥) → (m ≡ n → ⊥) → m < n
       below m n f g = omega (arith, g, f)
 
--- the ledger after a split: c hangs below p, d and the old node m below c
+-- the notes after a split: c hangs below p, d and the old node m below c
 unfoldable pub parted : (ℕ → Note) → ℕ → ℕ → ℕ → ℕ → ℕ → Note
 parted a p m c d = noted (noted (noted a m (record { status = (a m).status; owner = (a m).owner; parent = c })) d (joined c)) c (joined p)
 

@@ -282,7 +282,7 @@ module _ {V : Type 0} (same : V → V → Bool) (always : Bool) (laws : CallLaws
         pinned = g.pinned on;
         idle = g.idle on;
         room = retiring_room m.kind c next q r (length (place f.collector who).bag) (subst Q e g.secured);
-        deferral = walked.clock ∙ ap (λ y. after_walk y (with_store f.collector f'.collector.store) who) (ap retiring_at at ∙ ap retiring e);
+        deferral = walked.collector_is ∙ ap (λ y. after_walk y (with_store f.collector f'.collector.store) who) (ap retiring_at at ∙ ap retiring e);
       }
 
   -- the step of a call that has marked its node hands it over

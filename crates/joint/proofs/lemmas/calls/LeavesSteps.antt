@@ -274,7 +274,7 @@ module _ {V : Type 0} (same : V → V → Bool) (always : Bool) (laws : CallLaws
       walks_defers (Retire c next q u) e =
           let P : Phase Id V → Type 0 = λ y. TakenBy id_number y (id_number c) in
           inr (id_number c, (old.0, old.1, subst P (sym e) (inl refl)), leaves.retires same always laws s.forest s'.forest s.machines k.step.between collector_report k.move holds.0.safe k.step.walked old.0 old.1 c next q u e)
-      walks_defers _ e = inl (ap (λ c. c.next) (k.step.walked.clock ∙ ap (λ o. after_walk o (with_store s.forest.collector s'.forest.collector.store) w) (ap retiring_at old.1 ∙ ap retiring e)))
+      walks_defers _ e = inl (ap (λ c. c.next) (k.step.walked.collector_is ∙ ap (λ o. after_walk o (with_store s.forest.collector s'.forest.collector.store) w) (ap retiring_at old.1 ∙ ap retiring e)))
 
       left : StepLeaves id_number w settled.0 (leaves.keeps same always laws s.forest s'.forest s.machines k.step.between collector_report k.move holds.0.safe k.step.walked old.0 old.1).notes (nodes s.forest) (nodes s'.forest) old.0 moved.now
       left = leaves_law s.forest w settled.0 (nodes s.forest) (nodes s'.forest) s.machines old.0 moved.now k.move noise.fail noise.answer settled.1 settled.2 old.1

@@ -228,7 +228,7 @@ module _ {V : Type 0} (same : V → V → Bool) (always : Bool) (laws : CallLaws
         quiet : retiring_at (slice_get s.machines w) ≡ None → At s'.forest.collector
         quiet e =
             let P : State (Slot V) (Unit {0}) → Type 0 = λ c. IsBlocked p it h c in
-            (h, subst P (sym (k.step.walked.clock ∙ ap (λ o. after_walk o mid w) e)) (stored p it h s.forest.collector mid refl b))
+            (h, subst P (sym (k.step.walked.collector_is ∙ ap (λ o. after_walk o mid w) e)) (stored p it h s.forest.collector mid refl b))
 
         by : (q : Phase Id V) → old.0.phase ≡ q → At s'.forest.collector
         by (Retire c next q u) e =
@@ -239,7 +239,7 @@ module _ {V : Type 0} (same : V → V → Bool) (always : Bool) (laws : CallLaws
             let under : IsUnderWay old.0.phase = subst P (sym e) tt in
             let is : retiring_at (slice_get s.machines w) ≡ Some c = ap retiring_at old.1 ∙ ap retiring e in (
               Deferred s.forest.collector.next (Some c.name) ∷ h,
-              subst R (sym (k.step.walked.clock ∙ ap (λ o. after_walk o mid w) is))
+              subst R (sym (k.step.walked.collector_is ∙ ap (λ o. after_walk o mid w) is))
                   (deferring p it h mid w c.name (held_place s.forest.collector.table w (g.registered under)) (g.idle under) (retiring_room old.0.kind c next q u (length (place s.forest.collector w).bag) (subst Q e g.secured)) (stored p it h s.forest.collector mid refl b)),
             )
         by _ e = quiet (ap retiring_at old.1 ∙ ap retiring e)

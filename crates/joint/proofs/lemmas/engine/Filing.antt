@@ -197,31 +197,31 @@ module _ {V : Type 0} (cells : CellLaws {T = Slot V} (Unit {0}) slot_names) wher
 
     -- so they have after a step on the tree that hands no node over
     pub filed_walked : s'.collector ≡ with_store s.collector s'.collector.store → retiring_at (slice_get ms step.who) ≡ None → IsFiled s → IsFiled s'
-    filed_walked clock none f = record {
-      expiry = ap (λ c. c.limits.expiry) clock ∙ f.expiry;
-      sealing = subst (λ (x : State (Slot V) (Unit {0})). IsSealing x) (sym clock) (cells.seals_stored s.collector s'.collector.store s.collector.roots f.sealing);
-      filed = λ n. ap (weight (removes n)) clock ∙ f.filed n ∙ ap bit (sym (as_before (number n) (λ node some is. absurd (cc (none, some)))));
-      only = ap (weight others) clock ∙ f.only;
+    filed_walked collector_is none f = record {
+      expiry = ap (λ c. c.limits.expiry) collector_is ∙ f.expiry;
+      sealing = subst (λ (x : State (Slot V) (Unit {0})). IsSealing x) (sym collector_is) (cells.seals_stored s.collector s'.collector.store s.collector.roots f.sealing);
+      filed = λ n. ap (weight (removes n)) collector_is ∙ f.filed n ∙ ap bit (sym (as_before (number n) (λ node some is. absurd (cc (none, some)))));
+      only = ap (weight others) collector_is ∙ f.only;
     }
 
     -- and after one whose node is handed over, with its removal deferred
     pub filed_handed : (node : Id) → retiring_at (slice_get ms step.who) ≡ Some node → s'.collector ≡ with_store s.collector s'.collector.store → IsSafe same always s ms → Owes same always s' ms' step.who node → (s2 : Nodes V)
         → s2 ≡ with_collector s' (deferred s'.collector step.who (Remove node.name)) → IsFiled s → IsFiled s2
-    filed_handed node some clock safe owes s2 is f =
+    filed_handed node some collector_is safe owes s2 is f =
         let c' = s'.collector in
         let entry : Deferral (Unit {0}) = record { ticket = c'.next; work = Remove node.name } in
         let inside = held_place c'.table step.who owes.registered in
         let keeps = cells.deferred_orderly c' step.who (Remove node.name) inside owes.room owes.safe.sound.sound.orderly in
-        let between : IsSealing c' = subst (λ (x : State (Slot V) (Unit {0})). IsSealing x) (sym clock) (cells.seals_stored s.collector c'.store s.collector.roots f.sealing) in
+        let between : IsSealing c' = subst (λ (x : State (Slot V) (Unit {0})). IsSealing x) (sym collector_is) (cells.seals_stored s.collector c'.store s.collector.roots f.sealing) in
         let P : Nodes V → Type 0 = λ x. IsFiled x in
         subst P (sym is) (record {
-          expiry = ap (λ c. c.limits.expiry) clock ∙ f.expiry;
+          expiry = ap (λ c. c.limits.expiry) collector_is ∙ f.expiry;
           sealing = sealing_more c' step.who entry inside owes.idle between;
           filed = λ n.
               let more = keeps.jobs (removes n) in
-              let old : weight (removes n) c' ≡ bit (is_waiting (nodes s (number n))) = ap (weight (removes n)) clock ∙ f.filed n in
+              let old : weight (removes n) c' ≡ bit (is_waiting (nodes s (number n))) = ap (weight (removes n)) collector_is ∙ f.filed n in
               by_node n (is_name node.name n) refl (weight (removes n) c') (weight (removes n) (deferred c' step.who (Remove node.name))) more old;
-          only = (let more = keeps.jobs others in let old : weight others c' ≡ 0 = ap (weight others) clock ∙ f.only in omega (arith, more, old));
+          only = (let more = keeps.jobs others in let old : weight others c' ≡ 0 = ap (weight others) collector_is ∙ f.only in omega (arith, more, old));
         })
       where
         sealing_more : (c : State (Slot V) (Unit {0})) (who : ℕ) (entry : Deferral (Unit {0})) → who < length c.table → (place c who).phase ≡ stage.Idle → IsSealing c
@@ -289,10 +289,10 @@ module _ {V : Type 0} (cells : CellLaws {T = Slot V} (Unit {0}) slot_names) wher
   -- and in a root alone, where none waits
   pub filed_opened : (limits : Limits) (charge limit : ℕ) (s : Nodes V) → IsOpened limits charge limit s → IsFiled s
   filed_opened limits charge limit s begin = record {
-    expiry = ap (λ c. c.limits.expiry) begin.clock ∙ begin.allowed.expiry;
-    sealing = subst (λ (x : State (Slot V) (Unit {0})). IsSealing x) (sym begin.clock) (cells.seals_stored (opened limits.epoch 1) s.collector.store top_roots (cells.seals_opened limits.epoch 1));
-    filed = λ n. ap (weight (removes n)) begin.clock ∙ cells.opened_jobs limits.epoch 1 (removes n) ∙ ap bit (sym (not_true (is_waiting (nodes s (number n))) (none_waits (number n))));
-    only = ap (weight others) begin.clock ∙ cells.opened_jobs limits.epoch 1 others;
+    expiry = ap (λ c. c.limits.expiry) begin.collector_is ∙ begin.allowed.expiry;
+    sealing = subst (λ (x : State (Slot V) (Unit {0})). IsSealing x) (sym begin.collector_is) (cells.seals_stored (opened limits.epoch 1) s.collector.store top_roots (cells.seals_opened limits.epoch 1));
+    filed = λ n. ap (weight (removes n)) begin.collector_is ∙ cells.opened_jobs limits.epoch 1 (removes n) ∙ ap bit (sym (not_true (is_waiting (nodes s (number n))) (none_waits (number n))));
+    only = ap (weight others) begin.collector_is ∙ cells.opened_jobs limits.epoch 1 others;
   }
     where
       none_waits : (k : ℕ) → is_waiting (nodes s k) ≡ true → ⊥

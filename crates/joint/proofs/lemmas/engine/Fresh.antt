@@ -54,7 +54,7 @@ module _ {V : Type 0} (same : V → V → Bool) (always : Bool) (cells : CellLaw
   at_first i k m here at = let P : InFlight V → Type 0 = λ x. IsAt x (place s.collector i) m in subst P (one_of n Idle i k here) (begin.resting.idle i, over i m at)
 
   table : length s.collector.table ≡ n
-  table = ap (λ x. length x.table) begin.clock ∙ length-replicate n _
+  table = ap (λ x. length x.table) begin.collector_is ∙ length-replicate n _
 
   -- with every worker idle and no call begun the machine is intact
   pub intact : IsIntact same always s ms ks
@@ -63,7 +63,7 @@ module _ {V : Type 0} (same : V → V → Bool) (always : Bool) (cells : CellLaw
       sound = record {
         top = top;
         past = moment slot_names Quiet s.collector ∷ [];
-        sound = open_it.opened slot_names view slot_view id_number same always cells calls top s.collector ms begin.resting.orderly begin.rooted settled begin.told.fits begin.told.table (ap (λ x. x.next) begin.clock) over;
+        sound = open_it.opened slot_names view slot_view id_number same always cells calls top s.collector ms begin.resting.orderly begin.rooted settled begin.told.fits begin.told.table (ap (λ x. x.next) begin.collector_is) over;
       };
       within = subst (λ (k : ℕ). Within k (nodes s)) (sym begin.versions) begin.within;
     };

@@ -57,8 +57,8 @@ module _ {V : Type 0} (same : V → V → Bool) (always : Bool) (cells : CellLaw
   abbrev moved : IsMoved id_number same always s.version_max (Refuses s) (nodes s) ms m step d (nodes s') ms'
   moved = plays.moved m run.1
 
-  clock : s'.collector ≡ with_store s.collector st'
-  clock = ap (λ x. with_store x.collector st') fr
+  collector_is : s'.collector ≡ with_store s.collector st'
+  collector_is = ap (λ x. with_store x.collector st') fr
 
   abbrev guards : Guards (place s.collector step.who) m
   guards = safe.sound.sound.guarded step.who m run.1
@@ -80,7 +80,7 @@ module _ {V : Type 0} (same : V → V → Bool) (always : Bool) (cells : CellLaw
       (λ a p h. let P : List (Machine Id V) → Type 0 = λ x. Settled id_number same always (nodes s') x in subst P moved.calls (plays.settled a p h)) plays.untouched in
       let P : List (Machine Id V) → Type 0 = λ x. Went same always safe.sound.past (with_store s.collector st') x in
       let Q : State (Slot V) (Unit {0}) → Type 0 = λ x. Went same always safe.sound.past x ms' in
-      subst Q (sym clock) (subst P (sym moved.calls) w)
+      subst Q (sym collector_is) (subst P (sym moved.calls) w)
 
   abbrev now_safe : IsSafe same always s' ms'
   now_safe = record { sound = all.sound; within = within }
@@ -132,7 +132,7 @@ module _ {V : Type 0} (same : V → V → Bool) (always : Bool) (cells : CellLaw
     room = retiring_room m.kind n next p r (length (place s.collector step.who).bag) places
 
     same_place : place s'.collector step.who ≡ place s.collector step.who
-    same_place = ap (λ x. place x step.who) clock
+    same_place = ap (λ x. place x step.who) collector_is
 
     secured_then : (x : Machine Id V) → slice_get ms' step.who ≡ Some x → IsSecured x.kind x.phase (suc (length (place s'.collector step.who).bag))
     secured_then x got =

@@ -29,15 +29,15 @@ module _ {V : Type 0} (same : V → V → Bool) (always : Bool) (cells : CellLaw
   beside : IsBeside s s'
   beside = record { base = ap (λ x. x.base) fr; limit = ap (λ x. x.limit) fr; versions = ap (λ x. x.version_max) fr }
 
-  clock : s'.collector ≡ with_store s.collector s'.collector.store
-  clock = ap (λ x. with_store x.collector s'.collector.store) fr
+  collector_is : s'.collector ≡ with_store s.collector s'.collector.store
+  collector_is = ap (λ x. with_store x.collector s'.collector.store) fr
 
   -- no node is marked
   walked_none : retiring_at (slice_get ms step.who) ≡ None → IsSafeOrOwes same always (retiring_at (slice_get ms step.who)) s' ms' step.who → Walked same always s ms step d s' ms'
   walked_none e safe =
       let P : Option Id → Type 0 = λ x. IsSafeOrOwes same always x s' ms' step.who in
       let Q : Option Id → Type 0 = λ x. s'.collector ≡ after_walk x (with_store s.collector s'.collector.store) step.who in
-      record { safe = subst P e safe; plays = plays; beside = beside; clock = subst Q (sym e) clock; filed = filed_walked cells same always s s' ms ms' step d plays clock e }
+      record { safe = subst P e safe; plays = plays; beside = beside; collector_is = subst Q (sym e) collector_is; filed = filed_walked cells same always s s' ms ms' step d plays collector_is e }
 
   owes_some : (n : Id) → retiring_at (slice_get ms step.who) ≡ Some n → IsSafeOrOwes same always (retiring_at (slice_get ms step.who)) s' ms' step.who → Owes same always s' ms' step.who n
   owes_some n e safe = let P : Option Id → Type 0 = λ x. IsSafeOrOwes same always x s' ms' step.who in subst P e safe
@@ -49,13 +49,13 @@ module _ {V : Type 0} (same : V → V → Bool) (always : Bool) (cells : CellLaw
       let P : Store (Slot V) → Type 0 = λ st. StepPlays id_number same always s.version_max (Refuses s) (nodes s) ms step d (heap st) ms' in
       let Q : Option Id → Type 0 = λ x. s2.collector ≡ after_walk x (with_store s.collector s2.collector.store) step.who in
       let here : s2.collector ≡ deferred (with_store s.collector s2.collector.store) step.who (Remove n.name) =
-      ap (λ x. x.collector) is ∙ ap (λ c. deferred c step.who (Remove n.name)) clock ∙ ap (λ st. deferred (with_store s.collector st) step.who (Remove n.name)) (sym store) in
+      ap (λ x. x.collector) is ∙ ap (λ c. deferred c step.who (Remove n.name)) collector_is ∙ ap (λ st. deferred (with_store s.collector st) step.who (Remove n.name)) (sym store) in
       record {
         safe = safe;
         plays = subst P (sym store) plays;
         beside = record { base = ap (λ x. x.base) is ∙ beside.base; limit = ap (λ x. x.limit) is ∙ beside.limit; versions = ap (λ x. x.version_max) is ∙ beside.versions };
-        clock = subst Q (sym e) here;
-        filed = filed_handed cells same always s s' ms ms' step d plays n e clock before owes s2 is;
+        collector_is = subst Q (sym e) here;
+        filed = filed_handed cells same always s s' ms ms' step d plays n e collector_is before owes s2 is;
       }
 
 -- the same over the vector of the calls, as it is lent out and written back

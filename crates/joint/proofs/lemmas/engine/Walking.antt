@@ -109,15 +109,15 @@ module _ {V : Type 0} (same : V → V → Bool) (always : Bool) (laws : CallLaws
     long = ap length final_is ∙ length-set ms step.who final
 
     table : length s'.collector.table ≡ length s.collector.table
-    table = ap (λ c. length c.table) walked.clock ∙ walk_table mid step.who owed
+    table = ap (λ c. length c.table) walked.collector_is ∙ walk_table mid step.who owed
 
     others : (i : ℕ) → i ≢ step.who → place s'.collector i ≡ place s.collector i
-    others i ne = ap (λ c. place c i) walked.clock ∙ walk_others mid step.who owed i ne
+    others i ne = ap (λ c. place c i) walked.collector_is ∙ walk_others mid step.who owed i ne
 
     place_idle : (place s'.collector step.who).phase ≡ stage.Idle
     place_idle =
         let l : step.who < length s.collector.table = held_place s.collector.table step.who ((intact.safe.sound.sound.guarded step.who old.0 old.1).registered runs.2) in
-        ap (λ c. (place c step.who).phase) walked.clock ∙ walk_phase mid step.who owed l ∙ (intact.safe.sound.sound.guarded step.who old.0 old.1).idle runs.2
+        ap (λ c. (place c step.who).phase) walked.collector_is ∙ walk_phase mid step.who owed l ∙ (intact.safe.sound.sound.guarded step.who old.0 old.1).idle runs.2
 
     -- that machine stands in the worker's place
     pub now_here : slice_get ms' step.who ≡ Some final

@@ -73,8 +73,8 @@ module _ {P : Type 0} (limits : EpochLimits) (s0 c1 c2 : State (Slot P) (Unit {0
   came = stored ∙ ap (λ x. with_roots x (slice_set x.roots 0 pointer)) (beside ∙ ap (λ x. with_store x c1.store) opens)
 
   -- the collector is a fresh one but for its cells and its root
-  pub clock_is : c2 ≡ with_roots (with_store o c2.store) top_roots
-  clock_is = came ∙ ap (λ n. with_roots (with_store o c1.store) (record { name = Some n; tag = 0 } ∷ [])) is_top ∙ ap (λ st. with_roots (with_store o st) top_roots) (sym same_store)
+  pub opened_collector : c2 ≡ with_roots (with_store o c2.store) top_roots
+  opened_collector = came ∙ ap (λ n. with_roots (with_store o c1.store) (record { name = Some n; tag = 0 } ∷ [])) is_top ∙ ap (λ st. with_roots (with_store o st) top_roots) (sym same_store)
 
   -- the root's slot is put under the first name of empty cells
   pub root_is : Fills (opened_store limits.cells limits.turn_max) top slot c2.store
@@ -237,9 +237,9 @@ module _ {P : Type 0} (limits : Limits) (F : Nodes P) (k : Counts) (planted : Is
       live = ap (λ x. x.obsolete) root_node ∙ ap (λ w. w.obsolete) new.word;
     };
     within = within_root limits.version_max;
-    rooted = record { only = ap (λ x. x.roots) planted.clock; first = refl };
+    rooted = record { only = ap (λ x. x.roots) planted.collector_is; first = refl };
     resting = planted.resting;
-    clock = planted.clock;
+    collector_is = planted.collector_is;
     told = planted.told;
     base = base;
     fits = fits;
