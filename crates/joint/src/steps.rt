@@ -1,7 +1,7 @@
 //! What a worker asks of the machine, and what it is told.
 
 ghost use Rattle.std.specs.Prelude.{◌≡◌};
-ghost use Rattle.joint.specs.Asked.{changes};
+ghost use Rattle.joint.specs.Changes.{changes};
 ghost use Rattle.joint.specs.Reports.{reply_in, is_in_flight, target, told, collected};
 
 use crate::id::Id;

@@ -26,8 +26,8 @@ use Rattle.joint.specs.engine.Engine.{World}
 use Rattle.trial.specs.declared.caller.Caller.{Caller}
 use Rattle.trial.specs.declared.caller.Closure.{Closure}
 use Rattle.trial.specs.declared.caller.Closure.TheVariants as closure
-use Rattle.trial.specs.declared.command.Call.{Call}
-use Rattle.trial.specs.declared.command.Call.TheVariants as call
+use Rattle.trial.specs.declared.command.LineCall.{LineCall}
+use Rattle.trial.specs.declared.command.LineCall.TheVariants as call
 use Rattle.trial.specs.declared.command.Command.{Command}
 use Rattle.trial.specs.declared.command.Command.TheVariants as command
 use Rattle.trial.specs.declared.end.End.{End}
@@ -179,7 +179,7 @@ surveyed_at w k o s mid s' stands m b c x g = replied_at w mid s' stands m (x.re
 told_answer : (r told : Reply) → r ≡ told → IsAnswer r → IsAnswer told
 told_answer r told e a = subst IsAnswer e a
 
-call_at : MapLaws → (w : ℕ) (c : Call) (s s' : OpenTree) (r : Reply) (m : Pairs ℕ) → At s m → CallReplies (op_of c) (closure_of c) s w s' r → IsAnswer r
+call_at : MapLaws → (w : ℕ) (c : LineCall) (s s' : OpenTree) (r : Reply) (m : Pairs ℕ) → At s m → CallReplies (op_of c) (closure_of c) s w s' r → IsAnswer r
     → At s' (map_after m (command.Call w c)) × Agrees (is_on_keys (command.Call w c)) (answer_to m (command.Call w c)) r
 call_at laws w (call.Get k) s s' r m b g a =
     finished w (op.Get k) None m (point.Get k) s g.1 s' g.0 r b g.2 g.3

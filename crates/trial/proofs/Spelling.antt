@@ -7,8 +7,8 @@ use Rattle.std.proofs.lemmas.List.Splits.{slice_split_at, slice_split_none}
 use Rattle.std.proofs.lemmas.List.{get_or_default}
 use Rattle.std.proofs.lemmas.Fmt.{decimal_is_IsNumeral, decimal_injective}
 use Rattle.std.proofs.lemmas.Str.Parse.{digit_at}
-use Rattle.trial.specs.declared.command.Call.{Call}
-use Rattle.trial.specs.declared.command.Call.TheVariants as call
+use Rattle.trial.specs.declared.command.LineCall.{LineCall}
+use Rattle.trial.specs.declared.command.LineCall.TheVariants as call
 use Rattle.trial.specs.declared.command.Command.{Command}
 use Rattle.trial.specs.declared.command.Command.TheVariants as command
 use Rattle.trial.specs.declared.keyword.Keyword.{Keyword}
@@ -173,7 +173,7 @@ option_plain : (k : Keyword) (o : Option ℕ) → IfSome o IsNumber → ArePlain
 option_plain k None h = tt
 option_plain k (Some n) h = (tt, (h, tt))
 
-call_plain : (c : Call) → CallFits c → ArePlain (call_words c)
+call_plain : (c : LineCall) → CallFits c → ArePlain (call_words c)
 call_plain call.Pin h = (tt, tt)
 call_plain call.Unpin h = (tt, tt)
 call_plain call.Repin h = (tt, tt)
@@ -234,7 +234,7 @@ option_few : (k : Keyword) (o : Option ℕ) → length (option_words k o) ≤ 2
 option_few k None = omega arith
 option_few k (Some n) = omega arith
 
-call_few : (c : Call) → length (call_words c) ≤ 4
+call_few : (c : LineCall) → length (call_words c) ≤ 4
 call_few call.Pin = omega arith
 call_few call.Unpin = omega arith
 call_few call.Repin = omega arith

@@ -4,9 +4,9 @@ use Rattle.std.specs.Prelude.{slice_set}
 use Rattle.std.proofs.lemmas.List.{length-set}
 use Rattle.judge.specs.Answer.{Pairs, answer}
 use Rattle.judge.specs.declared.journal.Call.{Call as Point}
-use Rattle.judge.specs.declared.journal.Reply.{Reply as Told}
-use Rattle.congee.specs.declared.protocol.op.Op.{Op as Asked}
-use Rattle.congee.specs.declared.protocol.op.Op.TheVariants as asks
+use Rattle.judge.specs.declared.journal.Reply.{Reply as MapReply}
+use Rattle.congee.specs.declared.protocol.op.Op.{Op as TreeOp}
+use Rattle.congee.specs.declared.protocol.op.Op.TheVariants as tree_op
 use Rattle.congee.specs.Keys.{IsMapOf}
 use Rattle.joint.specs.declared.steps.Done.TheVariants as done
 use Rattle.joint.specs.declared.steps.Event.TheVariants.{Begin, Go}
@@ -222,11 +222,11 @@ pub record Finished (m : Pairs ℕ) (p : Point ℕ) (s : OpenTree) (r : Reply) :
   pub reply : r ≡ reply_to (answer nat_eq m p).0
 
 -- the call that takes effect, with its closure's answer
-abbrev pub Decides : Pairs ℕ → Asked ℕ → Option Closure → Point ℕ → Type 0
+abbrev pub Decides : Pairs ℕ → TreeOp ℕ → Option Closure → Point ℕ → Type 0
 Decides m a closure p = (last : Last ℕ) (c : Point ℕ) → ByClosure closure last → IsOnMap m last a c → c ≡ p
 
 module _ (w : ℕ) (m : Pairs ℕ) where
-  took_effect : (a : Asked ℕ) (closure : Option Closure) (p : Point ℕ) (last : Last ℕ) (r : Told ℕ) (s : OpenTree) (b : Rests s.world m) (s' : OpenTree) → Decides m a closure p → ByClosure closure last
+  took_effect : (a : TreeOp ℕ) (closure : Option Closure) (p : Point ℕ) (last : Last ℕ) (r : MapReply ℕ) (s : OpenTree) (b : Rests s.world m) (s' : OpenTree) → Decides m a closure p → ByClosure closure last
       → Holds nat_eq true s'.world → TookEffect nat_eq m last a r s'.world × AreInFlight s'.world b.flights → Finished m p s' (reply_to r)
   took_effect a closure p last r s b s' d c h x =
       let e : x.0.call ≡ p = d last x.0.call c x.0.on_map in
@@ -236,7 +236,7 @@ module _ (w : ℕ) (m : Pairs ℕ) where
         reply = ap reply_to (sym x.0.answers) ∙ ap (λ q. reply_to (answer nat_eq m q).0) e;
       }
 
-  by_told : (a : Asked ℕ) (closure : Option Closure) (p : Point ℕ) (last : Last ℕ) (told : Outcome ℕ) (ps : List (ℕ × ℕ)) (s : OpenTree) (b : Rests s.world m) (s' : OpenTree) → Decides m a closure p → ByClosure closure last
+  by_told : (a : TreeOp ℕ) (closure : Option Closure) (p : Point ℕ) (last : Last ℕ) (told : Outcome ℕ) (ps : List (ℕ × ℕ)) (s : OpenTree) (b : Rests s.world m) (s' : OpenTree) → Decides m a closure p → ByClosure closure last
       → Holds nat_eq true s'.world → PlaysKey nat_eq b.flights m w last a told s'.world → IsAnswer (reply_of ps told) → Finished m p s' (reply_of ps told)
   by_told a closure p last (outcome.Done (done.Reply r)) ps s b s' d c h x i = took_effect a closure p last r s b s' d c h x
   by_told a closure p last (outcome.Done done.Unit) ps s b s' d c h x i = absurd x
@@ -250,18 +250,18 @@ module _ (w : ℕ) (m : Pairs ℕ) where
   by_told a closure p last (outcome.Registered who) ps s b s' d c h x i = absurd x
   by_told a closure p last (outcome.Refused e) ps s b s' d c h x i = absurd i
 
-  plays_key : (fs : Flights ℕ) (last : Last ℕ) (a : Asked ℕ) (told : Outcome ℕ) (s : World ℕ) → IsOnKey a → PlaysCall nat_eq fs m w last (target.Tree a) told s → PlaysKey nat_eq fs m w last a told s
-  plays_key fs last (asks.Get k) told s u x = x
-  plays_key fs last (asks.Insert k v) told s u x = x
-  plays_key fs last (asks.Remove k) told s u x = x
-  plays_key fs last (asks.ComputePresent k) told s u x = x
-  plays_key fs last (asks.ComputeInsert k) told s u x = x
-  plays_key fs last (asks.Exchange k old new) told s u x = x
-  plays_key fs last (asks.Range start end size) told s u x = absurd u
-  plays_key fs last (asks.RangeInclusive start greatest size) told s u x = absurd u
+  plays_key : (fs : Flights ℕ) (last : Last ℕ) (a : TreeOp ℕ) (told : Outcome ℕ) (s : World ℕ) → IsOnKey a → PlaysCall nat_eq fs m w last (target.Tree a) told s → PlaysKey nat_eq fs m w last a told s
+  plays_key fs last (tree_op.Get k) told s u x = x
+  plays_key fs last (tree_op.Insert k v) told s u x = x
+  plays_key fs last (tree_op.Remove k) told s u x = x
+  plays_key fs last (tree_op.ComputePresent k) told s u x = x
+  plays_key fs last (tree_op.ComputeInsert k) told s u x = x
+  plays_key fs last (tree_op.Exchange k old new) told s u x = x
+  plays_key fs last (tree_op.Range start end size) told s u x = absurd u
+  plays_key fs last (tree_op.RangeInclusive start greatest size) told s u x = absurd u
 
 -- a whole call
-pub call_finishes : MapLaws → (w : ℕ) (op : Op ℕ) (a : Asked ℕ) (closure : Option Closure) (m : Pairs ℕ) (p : Point ℕ) (s s' : OpenTree) (told : Outcome ℕ) (ps : List (ℕ × ℕ)) → target op ≡ target.Tree a → IsOnKey a
+pub call_finishes : MapLaws → (w : ℕ) (op : Op ℕ) (a : TreeOp ℕ) (closure : Option Closure) (m : Pairs ℕ) (p : Point ℕ) (s s' : OpenTree) (told : Outcome ℕ) (ps : List (ℕ × ℕ)) → target op ≡ target.Tree a → IsOnKey a
     → Decides m a closure p → Rests s.world m → Calls s w op closure told s' → IsAnswer (reply_of ps told) → Finished m p s' (reply_of ps told)
 call_finishes laws w op a closure m p s s' told ps on_tree on_key d b g i =
     let c = called w op closure s s' told g in

@@ -1,6 +1,6 @@
 -- The replies to what the tree tells.
 use Rattle.std.specs.Prelude.{ℕ, List, take, Option, None, Some, if◌then◌else◌}
-use Rattle.judge.specs.declared.journal.Reply.{Reply as Told}
+use Rattle.judge.specs.declared.journal.Reply.{Reply as MapReply}
 use Rattle.judge.specs.declared.journal.Reply.TheVariants as told
 use Rattle.joint.specs.declared.steps.Done.{Done}
 use Rattle.joint.specs.declared.steps.Done.TheVariants as done
@@ -17,7 +17,7 @@ pair_of None = reply.Value None
 pair_of (Some pair) = reply.Pair pair.0 pair.1
 
 -- the reply to a call on one key
-abbrev pub reply_to : Told ℕ → Reply
+abbrev pub reply_to : MapReply ℕ → Reply
 reply_to (told.Get found) = reply.Value found
 reply_to (told.Insert found) = reply.Value found
 reply_to (told.Remove found) = reply.Value found

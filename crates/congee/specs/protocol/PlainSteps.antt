@@ -37,7 +37,7 @@ use Rattle.congee.specs.declared.protocol.scan.Rung.{Rung}
 use Rattle.congee.specs.declared.protocol.scan.Stage.{Stage}
 use Rattle.congee.specs.declared.protocol.scan.Stage.TheVariants as stage
 use Rattle.congee.specs.declared.protocol.scan.ScanState.{ScanState as ScanState}
-use Rattle.congee.specs.declared.protocol.scan.ScanReport.TheVariants as told
+use Rattle.congee.specs.declared.protocol.scan.ScanReport.TheVariants as scan_report
 use Rattle.congee.specs.declared.protocol.next_phase.NextPhase.{NextPhase}
 use Rattle.congee.specs.declared.protocol.machine.Machine.{Machine}
 use Rattle.congee.specs.declared.protocol.machine.Noise.{Noise}
@@ -195,7 +195,7 @@ abbrev pub followed : {V : Type 0} → (ℕ → Node V) → ScanState ℕ V → 
 followed h s r least.Nothing = left s
 followed h s r (least.Node byte c) = goes s (pushed s.above (moved r byte)) (stage.Enter c (region_of (h c).prefix))
 followed h s r (least.Value byte v) = filled s r byte v
-followed h s r least.Uncopied = over s (told.Refused refusal.Count)
+followed h s r least.Uncopied = over s (scan_report.Refused refusal.Count)
 
 -- a scan's step, by its stage
 abbrev pub next_scan : {V : Type 0} → ℕ → Option (Seen Mark V) → (ℕ → Node V) → ScanState ℕ V → Stage ℕ V → NextScan ℕ V
@@ -203,8 +203,8 @@ next_scan root seen h s stage.New = begins root s (version_of (h root))
 next_scan root seen h s (stage.Enter n x) = entered root s n x (version_of (h n))
 next_scan root seen h s (stage.Look r) = goes s s.above (stage.Check r (least_of (h r.at.node) r.at.version r.from (last_byte s.last r.region) seen))
 next_scan root seen h s (stage.Check r x) = cond (is_taken (h r.at.node) r.at.version) (followed h s r x) (anew root s)
-next_scan root seen h s stage.Full = over s (told.Done s.count)
-next_scan root seen h s stage.Over = over s told.Running
+next_scan root seen h s stage.Full = over s (scan_report.Done s.count)
+next_scan root seen h s stage.Over = over s scan_report.Running
 
 -- what a call does that stands at a value
 abbrev pub asked : {V : Type 0} → Site ℕ → V → NextPhase ℕ V

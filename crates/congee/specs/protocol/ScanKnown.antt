@@ -8,7 +8,7 @@ use Rattle.congee.specs.declared.protocol.scan.Stage.{Stage}
 use Rattle.congee.specs.declared.protocol.scan.Stage.TheVariants as stage
 use Rattle.congee.specs.declared.protocol.scan.ScanState.{ScanState}
 use Rattle.congee.specs.declared.protocol.scan.ScanReport.{ScanReport}
-use Rattle.congee.specs.declared.protocol.scan.ScanReport.TheVariants as told
+use Rattle.congee.specs.declared.protocol.scan.ScanReport.TheVariants as scan_report
 use Rattle.congee.specs.Heap.{Node}
 use Rattle.congee.specs.Notes.{Note, is_published}
 use Rattle.congee.specs.protocol.Stamps.{Stamped, Fresh}
@@ -135,17 +135,17 @@ Tracks s states places = TracksAt s states places s.stage
 
 -- what the caller has after a step
 abbrev pub placed : {V : Type 0} → List (ℕ × V) → ScanReport V → List (ℕ × V)
-placed places told.Running = places
-placed places (told.Found place k v) = written places place (k, v)
-placed places (told.Done count) = places
-placed places (told.Refused e) = places
+placed places scan_report.Running = places
+placed places (scan_report.Found place k v) = written places place (k, v)
+placed places (scan_report.Done count) = places
+placed places (scan_report.Refused e) = places
 
 -- a scan that is done has told what it promises, and has ended
 abbrev pub Tells : {C V : Type 0} → ScanState C V → List (FinMap nat_cmp V) → List (ℕ × V) → Stage C V → ScanReport V → Type 0
-Tells s states places x told.Running = Unit {0}
-Tells s states places x (told.Found place k v) = place ≤ length places
-Tells s states places x (told.Done count) = (count ≤ length places) × IsScan s.start (suc s.last) s.size states (take count places) × (x ≡ stage.Over)
-Tells s states places x (told.Refused e) = x ≡ stage.Over
+Tells s states places x scan_report.Running = Unit {0}
+Tells s states places x (scan_report.Found place k v) = place ≤ length places
+Tells s states places x (scan_report.Done count) = (count ≤ length places) × IsScan s.start (suc s.last) s.size states (take count places) × (x ≡ stage.Over)
+Tells s states places x (scan_report.Refused e) = x ≡ stage.Over
 
 -- the same range and places
 pub record SameCall {C V : Type 0} (s s' : ScanState C V) : Type 0 where

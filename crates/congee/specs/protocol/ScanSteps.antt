@@ -10,7 +10,7 @@ use Rattle.congee.specs.declared.protocol.scan.Stage.{Stage}
 use Rattle.congee.specs.declared.protocol.scan.Stage.TheVariants as stage
 use Rattle.congee.specs.declared.protocol.scan.ScanState.{ScanState}
 use Rattle.congee.specs.declared.protocol.scan.ScanReport.{ScanReport}
-use Rattle.congee.specs.declared.protocol.scan.ScanReport.TheVariants as told
+use Rattle.congee.specs.declared.protocol.scan.ScanReport.TheVariants as scan_report
 use Rattle.congee.specs.Heap.{Node, Stands, version_of, is_taken}
 use Rattle.congee.specs.protocol.Regions.{IsRegion}
 use Rattle.congee.specs.protocol.ScanEvents.{LeastGives}
@@ -94,7 +94,7 @@ NextScan C V = ScanState C V × ScanReport V
 
 -- a scan goes on
 abbrev pub goes : {C V : Type 0} → ScanState C V → Path C → Stage C V → NextScan C V
-goes s above x = (scan_at s s.count above x, told.Running)
+goes s above x = (scan_at s s.count above x, scan_report.Running)
 
 -- a scan is over
 abbrev pub over : {C V : Type 0} → ScanState C V → ScanReport V → NextScan C V
@@ -102,11 +102,11 @@ over s t = (scan_at s s.count s.above stage.Over, t)
 
 -- a scan begins anew, with no place filled
 abbrev pub anew : {C V : Type 0} → C → ScanState C V → NextScan C V
-anew root s = (scan_at s 0 (cleared s.above) (stage.Enter root whole), told.Running)
+anew root s = (scan_at s 0 (cleared s.above) (stage.Enter root whole), scan_report.Running)
 
 -- a node is left: the one above goes on, and above the root nothing does
 abbrev pub left_to : {C V : Type 0} → ScanState C V → Option (Rung C) → NextScan C V
-left_to s None = over s (told.Done s.count)
+left_to s None = over s (scan_report.Done s.count)
 left_to s (Some r) = goes s (popped s.above) (stage.Look r)
 
 -- the node at hand is left
@@ -123,7 +123,7 @@ entered root s n x (Some v) = cond (is_outside s.start s.last x) (left s)
 abbrev pub filled : {C V : Type 0} → ScanState C V → Rung C → ℕ → V → NextScan C V
 filled s r byte v = (
   scan_at s (s.count + 1) s.above (cond (s.count + 1 == s.size) stage.Full (stage.Look (moved r byte))),
-  told.Found s.count (r.region.base + byte) v,
+  scan_report.Found s.count (r.region.base + byte) v,
 )
 
 -- the check after a read succeeded
@@ -131,7 +131,7 @@ abbrev pub IsFollowed : {C V : Type 0} → (C → ℕ) → (ℕ → Node V) → 
 IsFollowed number h s r least.Nothing u = u ≡ left s
 IsFollowed number h s r (least.Node byte c) u = (x : Region) × IsRegion (h (number c)).prefix x.base x.depth × (u ≡ goes s (pushed s.above (moved r byte)) (stage.Enter c x))
 IsFollowed number h s r (least.Value byte v) u = u ≡ filled s r byte v
-IsFollowed number h s r least.Uncopied u = u ≡ over s (told.Refused refusal.Count)
+IsFollowed number h s r least.Uncopied u = u ≡ over s (scan_report.Refused refusal.Count)
 
 -- the check succeeded, or the scan begins anew
 pub record IsFollowedIf {C V : Type 0} (taken : Bool) (number : C → ℕ) (h : ℕ → Node V) (root : C) (s : ScanState C V) (r : Rung C) (x : Least C V) (u : NextScan C V) : Type 0 where
@@ -140,7 +140,7 @@ pub record IsFollowedIf {C V : Type 0} (taken : Bool) (number : C → ℕ) (h : 
 
 -- the root is entered; without a place the scan is over
 abbrev pub begins : {C V : Type 0} → C → ScanState C V → Option ℕ → NextScan C V
-begins root s o = cond (s.size == 0) (over s (told.Done 0)) (entered root (anew root s).0 root whole o)
+begins root s o = cond (s.size == 0) (over s (scan_report.Done 0)) (entered root (anew root s).0 root whole o)
 
 -- the step of a scan
 abbrev pub ScanSteppedAt : {C V : Type 0} → (C → ℕ) → Bool → C → ScanState C V → Stage C V → (ℕ → Node V) → NextScan C V → Type 0
@@ -148,8 +148,8 @@ ScanSteppedAt number always root s stage.New h u = u ≡ begins root s (version_
 ScanSteppedAt number always root s (stage.Enter n x) h u = u ≡ entered root s n x (version_of (h (number n)))
 ScanSteppedAt {C} {V} number always root s (stage.Look r) h u = (x : Least C V) × LeastGives number always (h (number r.at.node)) r.at.version r.from (last_byte s.last r.region) x × (u ≡ goes s s.above (stage.Check r x))
 ScanSteppedAt number always root s (stage.Check r x) h u = IsFollowedIf (is_taken (h (number r.at.node)) r.at.version) number h root s r x u
-ScanSteppedAt number always root s stage.Full h u = u ≡ over s (told.Done s.count)
-ScanSteppedAt number always root s stage.Over h u = u ≡ over s told.Running
+ScanSteppedAt number always root s stage.Full h u = u ≡ over s (scan_report.Done s.count)
+ScanSteppedAt number always root s stage.Over h u = u ≡ over s scan_report.Running
 
 -- the same by its own stage
 abbrev pub ScanStepped : {C V : Type 0} → (C → ℕ) → Bool → C → ScanState C V → (ℕ → Node V) → ScanState C V → ScanReport V → Type 0

@@ -32,7 +32,7 @@ use Rattle.congee.specs.declared.protocol.machine.Outcome.{Outcome}
 use Rattle.congee.specs.declared.protocol.machine.Outcome.TheVariants.{Running, Asks, Found, Done, Scanned, Refused}
 use Rattle.congee.specs.declared.protocol.scan.ScanState.{ScanState as ScanState}
 use Rattle.congee.specs.declared.protocol.scan.ScanReport.{ScanReport}
-use Rattle.congee.specs.declared.protocol.scan.ScanReport.TheVariants as told
+use Rattle.congee.specs.declared.protocol.scan.ScanReport.TheVariants as scan_report
 use Rattle.congee.specs.protocol.ScanSteps.{ScanStepped, MayScan}
 use Rattle.congee.specs.declared.protocol.machine.Move.{Move}
 use Rattle.congee.specs.declared.protocol.next_phase.NextPhase.{NextPhase}
@@ -463,10 +463,10 @@ after_unwind root (Some n) e = quiet (Unwind n None e)
 
 -- what a scan's step tells, as a report
 abbrev pub outcome_of : {V : Type 0} → ScanReport V → Outcome V
-outcome_of told.Running = Running
-outcome_of (told.Found place key v) = Found place key v
-outcome_of (told.Done count) = Scanned count
-outcome_of (told.Refused e) = Refused e
+outcome_of scan_report.Running = Running
+outcome_of (scan_report.Found place key v) = Found place key v
+outcome_of (scan_report.Done count) = Scanned count
+outcome_of (scan_report.Refused e) = Refused e
 
 -- a scan's step with what it tells
 abbrev pub after_scan : {C V : Type 0} → ScanState C V → ScanReport V → NextPhase C V

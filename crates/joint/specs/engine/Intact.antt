@@ -1,7 +1,7 @@
 -- What always holds of the machine: tree, calls and collector are safe, and each worker has one call in flight at most.
 use Rattle.std.specs.Prelude.{◌≡◌, ◌≤◌, ℕ, Bool, true, false, List, Option, None, Some, is_some, if◌then◌else◌, length, slice_get, slice_set}
 use Rattle.crossbeam_epoch.specs.declared.world.participant.Participant.{Participant}
-use Rattle.crossbeam_epoch.specs.declared.world.participant.Phase.TheVariants as stage
+use Rattle.crossbeam_epoch.specs.declared.world.participant.Phase.TheVariants as collector_phase
 use Rattle.crossbeam_epoch.specs.declared.world.report.Op.TheVariants.{Secure}
 use Rattle.crossbeam_epoch.specs.declared.world.report.Event.TheVariants.{Begin, Go}
 use Rattle.crossbeam_epoch.specs.declared.world.report.Report.{Report}
@@ -35,9 +35,9 @@ writes _ = true
 
 -- what a worker's call in flight says of its place in the collector and of its call on the tree
 abbrev pub IsAt : {V J : Type 0} → InFlight V → Participant J → Machine Id V → Type 0
-IsAt Idle p m = (p.phase ≡ stage.Idle) × (m.phase ≡ Ended)
+IsAt Idle p m = (p.phase ≡ collector_phase.Idle) × (m.phase ≡ Ended)
 IsAt (Collecting op) p m = IsOn op p × (m.phase ≡ Ended)
-IsAt (Reserving op) p m = (p.registered ≡ true) × (is_some p.word ≡ true) × (p.phase ≡ stage.Idle) × (m.phase ≡ Ended) × (writes op ≡ true)
+IsAt (Reserving op) p m = (p.registered ≡ true) × (is_some p.word ≡ true) × (p.phase ≡ collector_phase.Idle) × (m.phase ≡ Ended) × (writes op ≡ true)
 IsAt (Securing op) p m = IsOn (Secure 2) p × (is_some p.word ≡ true) × (m.phase ≡ Ended) × (writes op ≡ true)
 IsAt Walking p m = IsUnderWay m.phase × (is_done m.phase ≡ false)
 

@@ -77,7 +77,7 @@ BeginsOr fs m op (Done done) l fs' = EndsAtOnce fs m op done l fs'
 BeginsOr fs m op _ l fs' = BeginsFlight fs m op l fs'
 
 -- a call of one step tells of the map as it stands
-pub record Told {V : Type 0} (k : Survey) (fs : Flights V) (m : Pairs V) (l : Line V) (fs' : Flights V) : Type 0 where
+pub record TellsSurvey {V : Type 0} (k : Survey) (fs : Flights V) (m : Pairs V) (l : Line V) (fs' : Flights V) : Type 0 where
   pub tells : MapTells m k l.report.outcome
   pub stays : Stays fs m l fs'
 
@@ -85,7 +85,7 @@ pub record Told {V : Type 0} (k : Survey) (fs : Flights V) (m : Pairs V) (l : Li
 abbrev pub BeginMap : {V : Type 0} → Flights V → Pairs V → Target V → Line V → Flights V → Type 0
 BeginMap fs m (target.Collector op) l fs' = Stays fs m l fs'
 BeginMap fs m (target.Tree op) l fs' = BeginsOr fs m op l.report.outcome l fs'
-BeginMap fs m (target.Survey k) l fs' = Told k fs m l fs'
+BeginMap fs m (target.Survey k) l fs' = TellsSurvey k fs m l fs'
 
 -- a step of a call on one key before it took effect: it goes on, asks, or is refused
 pub record IsPending {V : Type 0} (k : ℕ) (kind : Kind V) (v : Option V) (q : Question V) (m : Pairs V) (l : Line V) (f' : Flight V) : Type 0 where

@@ -14,7 +14,7 @@ use Rattle.congee.specs.declared.protocol.scan.Stage.{Stage}
 use Rattle.congee.specs.declared.protocol.scan.Stage.TheVariants as stage
 use Rattle.congee.specs.declared.protocol.scan.ScanState.{ScanState as ScanState}
 use Rattle.congee.specs.declared.protocol.scan.ScanReport.{ScanReport}
-use Rattle.congee.specs.declared.protocol.scan.ScanReport.TheVariants as told
+use Rattle.congee.specs.declared.protocol.scan.ScanReport.TheVariants as scan_report
 use Rattle.congee.specs.Heap.{Node, Stands, version_of, is_taken}
 use Rattle.congee.specs.protocol.Alike.{NodeAlike, HeapAlike, Named, RungAlike, PlaceAlike, LeastAlike, StageAlike, ScanAlike, IsUnrefused}
 use Rattle.congee.specs.protocol.PlainSteps.{Mark, least_of, region_of, followed, next_scan}
@@ -119,7 +119,7 @@ module _ {C V : Type 0} (order : List ℕ) (number : C → ℕ) (h : ℕ → Nod
     left_alike : NextScanAlike (left s) (left t)
     left_alike = by (last_of s.above) (last_of Q) (last_alike s.above Q w) where
       by : (o : Option (Rung C)) (p : Option (Rung ℕ)) → PlaceAlike order number o p → NextScanAlike (left_to s o) (left_to t p)
-      by None p e = let A : Option (Rung ℕ) → Type 0 = λ y. NextScanAlike (left_to s None) (left_to t y) in subst A (sym e) (over_alike (told.Done s.count))
+      by None p e = let A : Option (Rung ℕ) → Type 0 = λ y. NextScanAlike (left_to s None) (left_to t y) in subst A (sym e) (over_alike (scan_report.Done s.count))
       by (Some r) p e =
           let A : Option (Rung ℕ) → Type 0 = λ y. NextScanAlike (left_to s (Some r)) (left_to t y) in
           subst A (sym e.1) (goes_alike (popped s.above) (popped Q) (stage.Look r) (stage.Look e.0) (way_popped s.above Q w) (e.0, refl, e.2))
@@ -136,7 +136,7 @@ module _ {C V : Type 0} (order : List ℕ) (number : C → ℕ) (h : ℕ → Nod
     moved_alike r q byte e = record { at = e.at; region = e.region; from = refl }
 
     filled_alike : (r : Rung C) (q : Rung ℕ) (byte : ℕ) (v : V) → RungAlike order number r q → NextScanAlike (filled s r byte v) (filled t q byte v)
-    filled_alike r q byte v e = record { told = ap (λ y. told.Found s.count (y.base + byte) v) e.region; scan = at_alike s Q z (s.count + 1) s.above Q _ _ w (by (s.count + 1 == s.size)) } where
+    filled_alike r q byte v e = record { told = ap (λ y. scan_report.Found s.count (y.base + byte) v) e.region; scan = at_alike s Q z (s.count + 1) s.above Q _ _ w (by (s.count + 1 == s.size)) } where
       by : (b : Bool) → StageAlike order number h (cond b stage.Full (stage.Look (moved r byte))) (cond b stage.Full (stage.Look (moved q byte)))
       by true = refl
       by false = (moved q byte, refl, moved_alike r q byte e)
@@ -173,8 +173,8 @@ module _ {C V : Type 0} (order : List ℕ) (number : C → ℕ) (h : ℕ → Nod
     next_scan_at stage.New y u a may un k =
         to_alike u (begins m q (version_of (h (number root)))) _ (ap (next_scan m seen g q) a ∙ ap (begins m q) (version_here root m r may)) (at_alike_next u _ _ k (by (s.size == 0)))
       where
-        by : (d : Bool) → NextScanAlike (cond d (over s (told.Done 0)) (entered root (anew root s).0 root whole (version_of (h (number root))))) (cond d (over q (told.Done 0)) (entered m (anew m q).0 m whole (version_of (h (number root)))))
-        by true = over_alike s Q z w (told.Done 0)
+        by : (d : Bool) → NextScanAlike (cond d (over s (scan_report.Done 0)) (entered root (anew root s).0 root whole (version_of (h (number root))))) (cond d (over q (scan_report.Done 0)) (entered m (anew m q).0 m whole (version_of (h (number root)))))
+        by true = over_alike s Q z w (scan_report.Done 0)
         by false = entered_alike (anew root s).0 (cleared Q) (stage.Enter m whole) (way_cleared s.above Q) root m root m whole (version_of (h (number root))) r r
     next_scan_at (stage.Enter c b) y u a may un k =
         to_alike u (entered m q a.0 b (version_of (h (number c)))) _ (ap (next_scan m seen g q) a.1 ∙ ap (entered m q a.0 b) (version_here c a.0 a.2 may.0)) (at_alike_next u _ _ k (entered_alike s Q z w root m c a.0 b (version_of (h (number c))) r a.2))
@@ -197,8 +197,8 @@ module _ {C V : Type 0} (order : List ℕ) (number : C → ℕ) (h : ℕ → Nod
           | inl t ↦ to_alike u (followed g q a.0 a.1) _ (ap (λ b. cond b (followed g q a.0 a.1) (anew m q)) t) (followed_alike ru a.0 f a.1 u may.1 (may.3 t) un a.3 (a.4 t) (k.goes_on t))
           | inr t ↦ to_alike u (anew m q) _ (ap (λ b. cond b (followed g q a.0 a.1) (anew m q)) t) (at_alike_next u _ _ (k.goes_back t) (anew_alike s Q z w root m r))
         ])
-    next_scan_at stage.Full y u a may un k = to_alike u (over q (told.Done s.count)) _ (ap (next_scan m seen g q) a) (at_alike_next u _ _ k (over_alike s Q z w (told.Done s.count)))
-    next_scan_at stage.Over y u a may un k = to_alike u (over q told.Running) _ (ap (next_scan m seen g q) a) (at_alike_next u _ _ k (over_alike s Q z w told.Running))
+    next_scan_at stage.Full y u a may un k = to_alike u (over q (scan_report.Done s.count)) _ (ap (next_scan m seen g q) a) (at_alike_next u _ _ k (over_alike s Q z w (scan_report.Done s.count)))
+    next_scan_at stage.Over y u a may un k = to_alike u (over q scan_report.Running) _ (ap (next_scan m seen g q) a) (at_alike_next u _ _ k (over_alike s Q z w scan_report.Running))
 
   -- a step of the scan
   pub next_scan_alike : (g : ℕ → Node V) → HeapAlike order h g → (always : Bool) (root : C) (m : ℕ) → Named order number root m → (seen : Option (Seen Mark V)) (s : ScanState C V) (t : ScanState ℕ V) (u : NextScan C V) → ScanAlike order number h s t

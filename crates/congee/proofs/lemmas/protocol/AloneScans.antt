@@ -10,7 +10,7 @@ use Rattle.congee.specs.declared.protocol.scan.Rung.{Rung}
 use Rattle.congee.specs.declared.protocol.scan.Stage.{Stage}
 use Rattle.congee.specs.declared.protocol.scan.Stage.TheVariants as stage
 use Rattle.congee.specs.declared.protocol.scan.ScanState.{ScanState}
-use Rattle.congee.specs.declared.protocol.scan.ScanReport.TheVariants as told
+use Rattle.congee.specs.declared.protocol.scan.ScanReport.TheVariants as scan_report
 use Rattle.congee.specs.Heap.{Node, Hung, Nothing, Below, Holds, version_of, is_taken, is_free}
 use Rattle.congee.specs.Notes.{Note, Linked, Tree, LockWords}
 use Rattle.congee.specs.protocol.ScanEvents.{LeastTruly, IsAny}
@@ -154,7 +154,7 @@ module _ {C V : Type 0} (number : C → ℕ) (h : ℕ → Node V) where
 
     lefts : (s : ScanState C V) → s.above.len ≤ 8 → AreTaken number h (stamps_rungs (rungs_of s.above)) → steps_way number h 8 (rungs_of s.above) < n → NearScan (left s)
     lefts s fits t l = elim (path_last s.above fits) [
-      | inl e ↦ scan_to (over s (told.Done s.count)) (left s) (ap (left_to s) e.0) ((tt, tt), omega (arith, l), λ _. refl)
+      | inl e ↦ scan_to (over s (scan_report.Done s.count)) (left s) (ap (left_to s) e.0) ((tt, tt), omega (arith, l), λ _. refl)
       | inr e ↦ (
           let r : Rung C = e.0 in
           let T : List (Rung C) → Type 0 = λ xs. AreTaken number h (stamps_rungs xs) in
@@ -176,7 +176,7 @@ module _ {C V : Type 0} (number : C → ℕ) (h : ℕ → Node V) where
 
     fills : (s : ScanState C V) (r : Rung C) (byte : ℕ) (v : V) → is_taken (h (number r.at.node)) r.at.version ≡ true → AreTaken number h (stamps_rungs (rungs_of s.above)) → 1 < n
         → steps_under h (8 - s.above.len) (number r.at.node) (byte + 1) + steps_way number h 8 (rungs_of s.above) < n → NearScan (filled s r byte v)
-    fills s r byte v taken t one l = by_test (λ (z : Stage C V). NearScan (scan_at s (s.count + 1) s.above z, told.Found s.count (r.region.base + byte) v)) (s.count + 1 == s.size) _ _ (λ _. ((tt, tt), one, λ q. absurd (cc q))) (λ _. (((taken, t), tt), l, λ q. absurd (cc q)))
+    fills s r byte v taken t one l = by_test (λ (z : Stage C V). NearScan (scan_at s (s.count + 1) s.above z, scan_report.Found s.count (r.region.base + byte) v)) (s.count + 1 == s.size) _ _ (λ _. ((tt, tt), one, λ q. absurd (cc q))) (λ _. (((taken, t), tt), l, λ q. absurd (cc q)))
 
 module _ {C V : Type 0} (number : C → ℕ) (always : Bool) (a : ℕ → Note) (h : ℕ → Node V) (tr : Tree a h) (w : LockWords a h) (root : C) (z : number root ≡ 0)
     (free : (n : ℕ) → (a n).status ≡ Linked → is_free (h n) ≡ true) where

@@ -46,7 +46,7 @@ use Rattle.congee.specs.declared.protocol.scan.Stage.{Stage}
 use Rattle.congee.specs.declared.protocol.scan.Stage.TheVariants as stage
 use Rattle.congee.specs.declared.protocol.scan.ScanState.{ScanState as ScanState}
 use Rattle.congee.specs.declared.protocol.scan.ScanReport.{ScanReport}
-use Rattle.congee.specs.declared.protocol.scan.ScanReport.TheVariants as told
+use Rattle.congee.specs.declared.protocol.scan.ScanReport.TheVariants as scan_report
 use Rattle.congee.specs.Heap.{Node, is_taken}
 use Rattle.congee.specs.protocol.Events.{upgrade_gives}
 use Rattle.congee.specs.Notes.{Note}
@@ -211,16 +211,16 @@ last_version most n v fail e = equal v most (by_limit (v == most) _ (λ b. by_wo
 -- a scan is refused where a value could not be copied
 module _ {C V : Type 0} (number : C → ℕ) (always : Bool) (root : C) (s : ScanState C V) where
   abbrev Told_only : NextScan C V → Type 0
-  Told_only u = (e : Refusal) → u.1 ≡ told.Refused e → Uncounted always e
+  Told_only u = (e : Refusal) → u.1 ≡ scan_report.Refused e → Uncounted always e
 
   told_to : (x y : NextScan C V) → y ≡ x → Told_only x → Told_only y
   told_to x y p f = subst (λ (z : NextScan C V). Told_only z) (sym p) f
 
-  told_runs : (e : Refusal) → ◌≡◌ {A = ScanReport V} told.Running (told.Refused e) → Uncounted always e
-  told_runs e p = let z : ◌≡◌ {A = ScanReport V} told.Running (told.Refused e) = p in absurd cc
+  told_runs : (e : Refusal) → ◌≡◌ {A = ScanReport V} scan_report.Running (scan_report.Refused e) → Uncounted always e
+  told_runs e p = let z : ◌≡◌ {A = ScanReport V} scan_report.Running (scan_report.Refused e) = p in absurd cc
 
-  told_done : (n : ℕ) (e : Refusal) → ◌≡◌ {A = ScanReport V} (told.Done n) (told.Refused e) → Uncounted always e
-  told_done n e p = let z : ◌≡◌ {A = ScanReport V} (told.Done n) (told.Refused e) = p in absurd cc
+  told_done : (n : ℕ) (e : Refusal) → ◌≡◌ {A = ScanReport V} (scan_report.Done n) (scan_report.Refused e) → Uncounted always e
+  told_done n e p = let z : ◌≡◌ {A = ScanReport V} (scan_report.Done n) (scan_report.Refused e) = p in absurd cc
 
   told_left : (y : ScanState C V) (o : Option (Rung C)) → Told_only (left_to y o)
   told_left y None = told_done _
@@ -236,8 +236,8 @@ module _ {C V : Type 0} (number : C → ℕ) (always : Bool) (root : C) (s : Sca
   told_followed : (h : ℕ → Node V) (r : Rung C) (x : Least C V) (u : NextScan C V) → IsAny always x → IsFollowed number h s r x u → Told_only u
   told_followed h r least.Nothing u a p = told_to _ u p (told_left s (last_of s.above))
   told_followed h r (least.Node byte c) u a p = told_to _ u p.2 told_runs
-  told_followed h r (least.Value byte v) u a p = told_to _ u p (λ e q. let z : ◌≡◌ {A = ScanReport V} (told.Found s.count _ v) (told.Refused e) = q in absurd cc)
-  told_followed h r least.Uncopied u a p = told_to _ u p (λ e q. let z : ◌≡◌ {A = ScanReport V} (told.Refused refusal.Count) (told.Refused e) = q in record { count = let y : refusal.Count ≡ e = cc in sym y; may_fail = a })
+  told_followed h r (least.Value byte v) u a p = told_to _ u p (λ e q. let z : ◌≡◌ {A = ScanReport V} (scan_report.Found s.count _ v) (scan_report.Refused e) = q in absurd cc)
+  told_followed h r least.Uncopied u a p = told_to _ u p (λ e q. let z : ◌≡◌ {A = ScanReport V} (scan_report.Refused refusal.Count) (scan_report.Refused e) = q in record { count = let y : refusal.Count ≡ e = cc in sym y; may_fail = a })
 
   told_after_scan : (a : ℕ → Note) (h : ℕ → Node V) (x : Stage C V) (u : NextScan C V) → ScanKnownAt number always a h s x → ScanSteppedAt number always root s x h u → Told_only u
   told_after_scan a h stage.New u k p = told_to _ u p (told_begun _)
@@ -247,11 +247,11 @@ module _ {C V : Type 0} (number : C → ℕ) (always : Bool) (root : C) (s : Sca
   told_after_scan a h stage.Full u k p = told_to _ u p (told_done _)
   told_after_scan a h stage.Over u k p = told_to _ u p told_runs
 
-  told_cause : (o : ScanReport V) → ((e : Refusal) → o ≡ told.Refused e → Uncounted always e) → (e : Refusal) → outcome_of o ≡ Refused e → Uncounted always e
-  told_cause told.Running f e p = let z : ◌≡◌ {A = Outcome V} Running (Refused e) = p in absurd cc
-  told_cause (told.Found place key v) f e p = let z : ◌≡◌ {A = Outcome V} (Found place key v) (Refused e) = p in absurd cc
-  told_cause (told.Done n) f e p = let z : ◌≡◌ {A = Outcome V} (Scanned n) (Refused e) = p in absurd cc
-  told_cause (told.Refused r) f e p = let z : ◌≡◌ {A = Outcome V} (Refused r) (Refused e) = p in let y : r ≡ e = cc in subst (Uncounted always) y (f r refl)
+  told_cause : (o : ScanReport V) → ((e : Refusal) → o ≡ scan_report.Refused e → Uncounted always e) → (e : Refusal) → outcome_of o ≡ Refused e → Uncounted always e
+  told_cause scan_report.Running f e p = let z : ◌≡◌ {A = Outcome V} Running (Refused e) = p in absurd cc
+  told_cause (scan_report.Found place key v) f e p = let z : ◌≡◌ {A = Outcome V} (Found place key v) (Refused e) = p in absurd cc
+  told_cause (scan_report.Done n) f e p = let z : ◌≡◌ {A = Outcome V} (Scanned n) (Refused e) = p in absurd cc
+  told_cause (scan_report.Refused r) f e p = let z : ◌≡◌ {A = Outcome V} (Refused r) (Refused e) = p in let y : r ≡ e = cc in subst (Uncounted always) y (f r refl)
 
 module _ {C V : Type 0} (number : C → ℕ) (same : V → V → Bool) (always : Bool) (most : ℕ) (why : NodeType → Refusal → Type 0) (i : ℕ) (a : ℕ → Note) (h h' : ℕ → Node V) (k : ℕ) (key : List ℕ) (root : C) (kind : Kind V) (fail : Bool) (answer : Option (Option V)) where
   abbrev By : Phase C V → Refusal → Type 0

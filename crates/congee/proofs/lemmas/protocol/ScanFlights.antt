@@ -14,7 +14,7 @@ use Rattle.congee.specs.declared.protocol.scan.ScanState.{ScanState as ScanState
 use Rattle.congee.specs.declared.protocol.scan.Stage.{Stage}
 use Rattle.congee.specs.declared.protocol.scan.Stage.TheVariants as stage
 use Rattle.congee.specs.declared.protocol.scan.ScanReport.{ScanReport}
-use Rattle.congee.specs.declared.protocol.scan.ScanReport.TheVariants as told
+use Rattle.congee.specs.declared.protocol.scan.ScanReport.TheVariants as scan_report
 use Rattle.congee.specs.Heap.{Node}
 use Rattle.congee.specs.Keys.{IsMapOf}
 use Rattle.congee.specs.Notes.{Note, Tree, LockWords}
@@ -93,11 +93,11 @@ module _ {C V : Type 0} (number : C → ℕ) (same : V → V → Bool) (always :
   -- a scan under way
   tells : (s s' : ScanState C V) (states : List (Pairs V)) (places : List (ℕ × V)) (o : ScanReport V) → Tracks s' (m ∷ states) (placed places o) → Tells s (m ∷ states) places s'.stage o → SameCall s s'
       → (f' : Flight V) × ScanTells s.start (suc s.last) s.size (m ∷ states) places (outcome_of o) f' × ScanFollows s' f'
-  tells s s' states places told.Running tr te sc = (Scanning s.start (suc s.last) s.size (m ∷ states) places, refl, inr (inr (m ∷ states, places, rw (sc.start_is, sc.last_is, sc.size_is) refl, tr)))
-  tells s s' states places (told.Found place k v) tr te sc =
-      (Scanning s.start (suc s.last) s.size (m ∷ states) (placed places (told.Found place k v)), (te, refl), inr (inr (m ∷ states, placed places (told.Found place k v), rw (sc.start_is, sc.last_is, sc.size_is) refl, tr)))
-  tells s s' states places (told.Done count) tr te sc = (Over, (te.0, te.1, refl), inr (inl (refl, te.2)))
-  tells s s' states places (told.Refused e) tr te sc = (Over, refl, inr (inl (refl, te)))
+  tells s s' states places scan_report.Running tr te sc = (Scanning s.start (suc s.last) s.size (m ∷ states) places, refl, inr (inr (m ∷ states, places, rw (sc.start_is, sc.last_is, sc.size_is) refl, tr)))
+  tells s s' states places (scan_report.Found place k v) tr te sc =
+      (Scanning s.start (suc s.last) s.size (m ∷ states) (placed places (scan_report.Found place k v)), (te, refl), inr (inr (m ∷ states, placed places (scan_report.Found place k v), rw (sc.start_is, sc.last_is, sc.size_is) refl, tr)))
+  tells s s' states places (scan_report.Done count) tr te sc = (Over, (te.0, te.1, refl), inr (inl (refl, te.2)))
+  tells s s' states places (scan_report.Refused e) tr te sc = (Over, refl, inr (inl (refl, te)))
 
   -- every step of a scan
   pub scan_watched : (s s' : ScanState C V) (o : ScanReport V) (f : Flight V) → ScanFollows s f → ScanKnown number always a h s → ScanStepped number always root s h s' o → Watches s f s' o
@@ -108,8 +108,8 @@ module _ {C V : Type 0} (number : C → ℕ) (same : V → V → Bool) (always :
       (y.0, subst (λ x. Watched same x m heard (record { decided = false; skipped = false; outcome = outcome_of o }) y.0 m) (sym e.0) (refl, y.1, refl), y.2)
   scan_watched s s' o f (inr (inl e)) k g =
       let P : Stage C V → Type 0 = λ x. ScanSteppedAt number always root s x h (s', o) in
-      let q : (s', o) ≡ over s told.Running = subst P e.1 g in
-      let is : o ≡ told.Running = ap (λ (u : NextScan C V). u.1) q in
+      let q : (s', o) ≡ over s scan_report.Running = subst P e.1 g in
+      let is : o ≡ scan_report.Running = ap (λ (u : NextScan C V). u.1) q in
       let rests : s'.stage ≡ stage.Over = ap (λ (u : NextScan C V). u.0.stage) q in
       (Over, subst (λ x. Watched same x m heard (record { decided = false; skipped = false; outcome = outcome_of o }) Over m) (sym e.0) (ap (λ y. record { decided = false; skipped = false; outcome = outcome_of y }) is, refl, refl), inr (inl (refl, rests)))
   scan_watched s s' o f (inr (inr e)) k g =

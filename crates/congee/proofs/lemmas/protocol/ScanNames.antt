@@ -9,7 +9,7 @@ use Rattle.congee.specs.declared.protocol.scan.Rung.{Rung}
 use Rattle.congee.specs.declared.protocol.scan.Stage.{Stage}
 use Rattle.congee.specs.declared.protocol.scan.Stage.TheVariants as stage
 use Rattle.congee.specs.declared.protocol.scan.ScanState.{ScanState}
-use Rattle.congee.specs.declared.protocol.scan.ScanReport.TheVariants as told
+use Rattle.congee.specs.declared.protocol.scan.ScanReport.TheVariants as scan_report
 use Rattle.congee.specs.Heap.{Node, Below, version_of, is_taken}
 use Rattle.congee.specs.Notes.{Note, Linked, LockWords}
 use Rattle.congee.specs.protocol.ScanEvents.{LeastTruly}
@@ -42,7 +42,7 @@ module _ {C V : Type 0} (number : C → ℕ) (always : Bool) (a : ℕ → Note) 
 
   left_has : (s : ScanState C V) → WayKnown number a h s → Each K (names_rungs number (rungs_of s.above)) → Has (left s)
   left_has s k e = elim (path_last s.above k.fits) [
-    | inl x ↦ has_as (over s (told.Done s.count)) (left s) (ap (left_to s) x.0) tt
+    | inl x ↦ has_as (over s (scan_report.Done s.count)) (left s) (ap (left_to s) x.0) tt
     | inr x ↦ (let y = names_shorter (rungs_of (popped s.above)) x.0 (subst (λ xs. Each K (names_rungs number xs)) x.2 e) in has_as (goes s (popped s.above) (stage.Look x.0)) (left s) (ap (left_to s) x.1) (y.1, y.0))
   ]
 
@@ -60,11 +60,11 @@ module _ {C V : Type 0} (number : C → ℕ) (always : Bool) (a : ℕ → Note) 
     subst (λ xs. Each K (names_rungs number xs)) (sym (path_pushed s.above (moved r byte) (let d = q.deep in let sh = q.region.short in omega (arith, d, sh)))) (names_longer (rungs_of s.above) (moved r byte) e y),
   )
   followed_has s r (least.Value byte v) u k q y e l truly f = has_as (filled s r byte v) u f (on_test (s.count + 1 == s.size)
-      (λ full. has_as (scan_at s (s.count + 1) s.above stage.Full, told.Found s.count (r.region.base + byte) v) (filled s r byte v)
-      (ap (λ x. (scan_at s (s.count + 1) s.above x, told.Found s.count (r.region.base + byte) v)) (pick_true (s.count + 1 == s.size) stage.Full (stage.Look (moved r byte)) full)) tt)
-      (λ free. has_as (scan_at s (s.count + 1) s.above (stage.Look (moved r byte)), told.Found s.count (r.region.base + byte) v) (filled s r byte v)
-      (ap (λ x. (scan_at s (s.count + 1) s.above x, told.Found s.count (r.region.base + byte) v)) (pick_false (s.count + 1 == s.size) stage.Full (stage.Look (moved r byte)) free)) (y, e)))
-  followed_has s r least.Uncopied u k q y e l truly f = has_as (over s (told.Refused refusal.Count)) u f tt
+      (λ full. has_as (scan_at s (s.count + 1) s.above stage.Full, scan_report.Found s.count (r.region.base + byte) v) (filled s r byte v)
+      (ap (λ x. (scan_at s (s.count + 1) s.above x, scan_report.Found s.count (r.region.base + byte) v)) (pick_true (s.count + 1 == s.size) stage.Full (stage.Look (moved r byte)) full)) tt)
+      (λ free. has_as (scan_at s (s.count + 1) s.above (stage.Look (moved r byte)), scan_report.Found s.count (r.region.base + byte) v) (filled s r byte v)
+      (ap (λ x. (scan_at s (s.count + 1) s.above x, scan_report.Found s.count (r.region.base + byte) v)) (pick_false (s.count + 1 == s.size) stage.Full (stage.Look (moved r byte)) free)) (y, e)))
+  followed_has s r least.Uncopied u k q y e l truly f = has_as (over s (scan_report.Refused refusal.Count)) u f tt
 
   -- no node is above the root
   way_anew : (s : ScanState C V) → s.start ≤ s.last → s.last < 2 ^ 64 → 0 < s.size → WayKnown number a h (anew root s).0
@@ -73,7 +73,7 @@ module _ {C V : Type 0} (number : C → ℕ) (always : Bool) (a : ℕ → Note) 
   has_at : (s : ScanState C V) (x : Stage C V) (u : NextScan C V) → ScanKnownAt number always a h s x → ScanSteppedAt number always root s x h u → Each K (names_scan_at number s x) → Has u
   has_at s stage.New u k f e =
       let o : Option ℕ = version_of (h (number root)) in
-      let none : NextScan C V = over s (told.Done 0) in
+      let none : NextScan C V = over s (scan_report.Done 0) in
       let some : NextScan C V = entered root (anew root s).0 root whole o in
       has_as (begins root s o) u f (on_test (s.size == 0)
       (λ y. has_as none (begins root s o) (pick_true (s.size == 0) none some y) tt)
@@ -83,8 +83,8 @@ module _ {C V : Type 0} (number : C → ℕ) (always : Bool) (a : ℕ → Note) 
   has_at s (stage.Check r found) u k f e = on_test (is_taken (h (number r.at.node)) r.at.version)
       (λ y. followed_has s r found u k.0 k.1 e.0 e.1 (taken_linked a h w (number r.at.node) r.at.version k.1.stamped.published y) (k.3.holds y) (f.goes_on y))
       (λ n. has_as (anew root s) u (f.goes_back n) (anew_has s))
-  has_at s stage.Full u k f e = has_as (over s (told.Done s.count)) u f tt
-  has_at s stage.Over u k f e = has_as (over s told.Running) u f tt
+  has_at s stage.Full u k f e = has_as (over s (scan_report.Done s.count)) u f tt
+  has_at s stage.Over u k f e = has_as (over s scan_report.Running) u f tt
 
   -- what is true of the root, of all that hangs in the tree and of a scan's names is so of its names after a step
   pub scan_names : (s : ScanState C V) (u : NextScan C V) → ScanKnown number always a h s → ScanSteppedAt number always root s s.stage h u → Each K (names_scan number s) → Each K (names_scan number u.0)

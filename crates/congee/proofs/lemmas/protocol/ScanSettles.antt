@@ -14,7 +14,7 @@ use Rattle.congee.specs.declared.protocol.scan.Stage.{Stage}
 use Rattle.congee.specs.declared.protocol.scan.Stage.TheVariants as stage
 use Rattle.congee.specs.declared.protocol.scan.ScanState.{ScanState}
 use Rattle.congee.specs.declared.protocol.scan.ScanReport.{ScanReport}
-use Rattle.congee.specs.declared.protocol.scan.ScanReport.TheVariants as told
+use Rattle.congee.specs.declared.protocol.scan.ScanReport.TheVariants as scan_report
 use Rattle.congee.specs.Heap.{Node, version_of, is_taken, is_free}
 use Rattle.congee.specs.Keys.{IsMapOf}
 use Rattle.congee.specs.Notes.{Note, Linked, is_published, Tree, LockWords}
@@ -95,7 +95,7 @@ module _ {C V : Type 0} (number : C → ℕ) (always : Bool) (a : ℕ → Note) 
     | inl e ↦ (
         let Q : List (Rung C) → Type 0 = λ xs. IsWay s.start (suc s.last) (m ∷ states) xs x in
         let ends : suc s.last ≤ end_of x = subst Q e.1 u.way in
-        out_as s (over s (told.Done s.count)) (left s) (ap (left_to s) e.0) (tt, tt, (u.counted, scan_ends s.start (suc s.last) s.size (end_of x) (m ∷ states) (take s.count places) ends u.scanned_to, refl), record { start_is = refl; last_is = refl; size_is = refl })
+        out_as s (over s (scan_report.Done s.count)) (left s) (ap (left_to s) e.0) (tt, tt, (u.counted, scan_ends s.start (suc s.last) s.size (end_of x) (m ∷ states) (take s.count places) ends u.scanned_to, refl), record { start_is = refl; last_is = refl; size_is = refl })
         )
     | inr e ↦ (
         let r : Rung C = e.0 in
@@ -254,11 +254,11 @@ module _ {C V : Type 0} (number : C → ℕ) (always : Bool) (a : ℕ → Note) 
       let all_scanned : ScannedTo s.start (suc s.last) s.size (base + byte + 1) (m ∷ states) (take (s.count + 1) (written places s.count (base + byte, v))) = subst T suc_is (subst S (sym put.0) scanned_to) in
       let counted : s.count + 1 ≤ length (written places s.count (base + byte, v)) = (let p = put.1 in omega (arith, p)) in
       out_as s (filled s r byte v) u e (on_test (s.count + 1 == s.size)
-      (λ full. out_as s (scan_at s (s.count + 1) s.above stage.Full, told.Found s.count (base + byte) v) (filled s r byte v)
-      (ap (λ x. (scan_at s (s.count + 1) s.above x, told.Found s.count (base + byte) v)) (pick_true (s.count + 1 == s.size) stage.Full (stage.Look (moved r byte)) full))
+      (λ full. out_as s (scan_at s (s.count + 1) s.above stage.Full, scan_report.Found s.count (base + byte) v) (filled s r byte v)
+      (ap (λ x. (scan_at s (s.count + 1) s.above x, scan_report.Found s.count (base + byte) v)) (pick_true (s.count + 1 == s.size) stage.Full (stage.Look (moved r byte)) full))
       (tt, record { counted = counted; all = equal (s.count + 1) s.size full; upto = base + byte + 1; scanned_to = all_scanned }, un.counted, record { start_is = refl; last_is = refl; size_is = refl }))
-      (λ free. out_as s (scan_at s (s.count + 1) s.above (stage.Look (moved r byte)), told.Found s.count (base + byte) v) (filled s r byte v)
-      (ap (λ x. (scan_at s (s.count + 1) s.above x, told.Found s.count (base + byte) v)) (pick_false (s.count + 1 == s.size) stage.Full (stage.Look (moved r byte)) free)) (
+      (λ free. out_as s (scan_at s (s.count + 1) s.above (stage.Look (moved r byte)), scan_report.Found s.count (base + byte) v) (filled s r byte v)
+      (ap (λ x. (scan_at s (s.count + 1) s.above x, scan_report.Found s.count (base + byte) v)) (pick_false (s.count + 1 == s.size) stage.Full (stage.Look (moved r byte)) free)) (
         (
           record {
             range = k.range;
@@ -280,10 +280,10 @@ module _ {C V : Type 0} (number : C → ℕ) (always : Bool) (a : ℕ → Note) 
         un.counted,
         record { start_is = refl; last_is = refl; size_is = refl },
       )))
-  followed_out s r least.Uncopied u k q any l truly tr e = out_as s (over s (told.Refused refusal.Count)) u e (tt, tt, refl, record { start_is = refl; last_is = refl; size_is = refl })
+  followed_out s r least.Uncopied u k q any l truly tr e = out_as s (over s (scan_report.Refused refusal.Count)) u e (tt, tt, refl, record { start_is = refl; last_is = refl; size_is = refl })
 
   -- a scan without a place
-  nothing_out : (s : ScanState C V) → s.size ≡ 0 → Out s (over s (told.Done 0))
+  nothing_out : (s : ScanState C V) → s.size ≡ 0 → Out s (over s (scan_report.Done 0))
   nothing_out s none =
       let R : List (ℕ × V) → Type 0 = λ xs. IsScan s.start (suc s.last) s.size (m ∷ states) xs in (
         tt,
@@ -304,7 +304,7 @@ module _ {C V : Type 0} (number : C → ℕ) (always : Bool) (a : ℕ → Note) 
 
   -- a scan that begins anew is on the same range, with the same places
   tells_anew : (s : ScanState C V) (x : Stage C V) (o : ScanReport V) → Tells (anew root s).0 (m ∷ states) places x o → Tells s (m ∷ states) places x o
-  tells_anew s x told.Running e = e
+  tells_anew s x scan_report.Running e = e
   tells_anew s x _ e = e
 
   out_anew : (s : ScanState C V) (u : NextScan C V) → Out (anew root s).0 u → Out s u
@@ -319,7 +319,7 @@ module _ {C V : Type 0} (number : C → ℕ) (always : Bool) (a : ℕ → Note) 
   pub stepped_out : (s : ScanState C V) (x : Stage C V) (u : NextScan C V) → ScanKnownAt number always a h s x → TracksAt s states places x → ScanSteppedAt number always root s x h u → Out s u
   stepped_out s stage.New u k tr e =
       let o : Option ℕ = version_of (h (number root)) in
-      let none : NextScan C V = over s (told.Done 0) in
+      let none : NextScan C V = over s (scan_report.Done 0) in
       let some : NextScan C V = entered root (anew root s).0 root whole o in
       out_as s (begins root s o) u e (on_test (s.size == 0)
       (λ y. out_as s none (begins root s o) (pick_true (s.size == 0) none some y) (nothing_out s (equal s.size 0 y)))
@@ -329,5 +329,5 @@ module _ {C V : Type 0} (number : C → ℕ) (always : Bool) (a : ℕ → Note) 
   stepped_out s (stage.Check r found) u k tr e = on_test (is_taken (h (number r.at.node)) r.at.version)
       (λ y. followed_out s r found u k.0 k.1 k.2 (taken_linked a h w (number r.at.node) r.at.version k.1.stamped.published y) (k.3.holds y) (aimed_later s r tr) (e.goes_on y))
       (λ n. out_as s (anew root s) u (e.goes_back n) (anew_out s k.0.range k.0.bound (let r = k.0.room in omega (arith, r))))
-  stepped_out s stage.Full u k tr e = out_as s (over s (told.Done s.count)) u e (tt, tt, (tr.counted, scan_full s.start (suc s.last) s.size tr.upto (m ∷ states) (take s.count places) (length-take-le s.count places tr.counted ∙ tr.all) (scan_later s.start (suc s.last) s.size tr.upto m states (take s.count places) tr.scanned_to), refl), record { start_is = refl; last_is = refl; size_is = refl })
-  stepped_out s stage.Over u k tr e = out_as s (over s told.Running) u e (tt, tt, tt, record { start_is = refl; last_is = refl; size_is = refl })
+  stepped_out s stage.Full u k tr e = out_as s (over s (scan_report.Done s.count)) u e (tt, tt, (tr.counted, scan_full s.start (suc s.last) s.size tr.upto (m ∷ states) (take s.count places) (length-take-le s.count places tr.counted ∙ tr.all) (scan_later s.start (suc s.last) s.size tr.upto m states (take s.count places) tr.scanned_to), refl), record { start_is = refl; last_is = refl; size_is = refl })
+  stepped_out s stage.Over u k tr e = out_as s (over s scan_report.Running) u e (tt, tt, tt, record { start_is = refl; last_is = refl; size_is = refl })

@@ -10,7 +10,7 @@ use Rattle.congee.specs.declared.protocol.scan.Rung.{Rung}
 use Rattle.congee.specs.declared.protocol.scan.Stage.{Stage}
 use Rattle.congee.specs.declared.protocol.scan.Stage.TheVariants as stage
 use Rattle.congee.specs.declared.protocol.scan.ScanState.{ScanState}
-use Rattle.congee.specs.declared.protocol.scan.ScanReport.TheVariants as told
+use Rattle.congee.specs.declared.protocol.scan.ScanReport.TheVariants as scan_report
 use Rattle.congee.specs.Heap.{Node, version_of, is_taken, is_free}
 use Rattle.congee.specs.Notes.{Note, Linked, is_published, Tree, LockWords}
 use Rattle.congee.specs.protocol.Regions.{IsRegion}
@@ -48,7 +48,7 @@ module _ {C V : Type 0} (number : C → ℕ) (always : Bool) (a : ℕ → Note) 
 
   left_stays : (s : ScanState C V) → WayKnown number a h s → Stays (left s)
   left_stays s k = elim (path_last s.above k.fits) [
-    | inl e ↦ stays_as (over s (told.Done s.count)) (left s) (ap (left_to s) e.0) tt
+    | inl e ↦ stays_as (over s (scan_report.Done s.count)) (left s) (ap (left_to s) e.0) tt
     | inr e ↦ (
         let r : Rung C = e.0 in
         let P : List (Rung C) → Type 0 = λ xs. RungsKnown number a h s.last 0 xs in
@@ -109,10 +109,10 @@ module _ {C V : Type 0} (number : C → ℕ) (always : Bool) (a : ℕ → Note) 
         (let d = q.deep in omega (arith, d, deeper)),
       )
   followed_stays s r (least.Value byte v) u k q small l truly e = stays_as (filled s r byte v) u e (on_test (s.count + 1 == s.size)
-      (λ full. stays_as (scan_at s (s.count + 1) s.above stage.Full, told.Found s.count (r.region.base + byte) v) (filled s r byte v)
-      (ap (λ x. (scan_at s (s.count + 1) s.above x, told.Found s.count (r.region.base + byte) v)) (pick_true (s.count + 1 == s.size) stage.Full (stage.Look (moved r byte)) full)) tt)
-      (λ free. stays_as (scan_at s (s.count + 1) s.above (stage.Look (moved r byte)), told.Found s.count (r.region.base + byte) v) (filled s r byte v)
-      (ap (λ x. (scan_at s (s.count + 1) s.above x, told.Found s.count (r.region.base + byte) v)) (pick_false (s.count + 1 == s.size) stage.Full (stage.Look (moved r byte)) free)) (
+      (λ full. stays_as (scan_at s (s.count + 1) s.above stage.Full, scan_report.Found s.count (r.region.base + byte) v) (filled s r byte v)
+      (ap (λ x. (scan_at s (s.count + 1) s.above x, scan_report.Found s.count (r.region.base + byte) v)) (pick_true (s.count + 1 == s.size) stage.Full (stage.Look (moved r byte)) full)) tt)
+      (λ free. stays_as (scan_at s (s.count + 1) s.above (stage.Look (moved r byte)), scan_report.Found s.count (r.region.base + byte) v) (filled s r byte v)
+      (ap (λ x. (scan_at s (s.count + 1) s.above x, scan_report.Found s.count (r.region.base + byte) v)) (pick_false (s.count + 1 == s.size) stage.Full (stage.Look (moved r byte)) free)) (
         record {
           range = k.range;
           bound = k.bound;
@@ -122,12 +122,12 @@ module _ {C V : Type 0} (number : C → ℕ) (always : Bool) (a : ℕ → Note) 
         },
         moved_known s r byte small q,
       )))
-  followed_stays s r least.Uncopied u k q any l truly e = stays_as (over s (told.Refused refusal.Count)) u e tt
+  followed_stays s r least.Uncopied u k q any l truly e = stays_as (over s (scan_report.Refused refusal.Count)) u e tt
 
   stays_at : (s : ScanState C V) (x : Stage C V) (u : NextScan C V) → ScanKnownAt number always a h s x → ScanSteppedAt number always root s x h u → Stays u
   stays_at s stage.New u k e =
       let o : Option ℕ = version_of (h (number root)) in
-      let none : NextScan C V = over s (told.Done 0) in
+      let none : NextScan C V = over s (scan_report.Done 0) in
       let some : NextScan C V = entered root (anew root s).0 root whole o in
       stays_as (begins root s o) u e (on_test (s.size == 0)
       (λ y. stays_as none (begins root s o) (pick_true (s.size == 0) none some y) tt)
@@ -137,8 +137,8 @@ module _ {C V : Type 0} (number : C → ℕ) (always : Bool) (a : ℕ → Note) 
   stays_at s (stage.Check r found) u k e = on_test (is_taken (h (number r.at.node)) r.at.version)
       (λ y. followed_stays s r found u k.0 k.1 k.2 (taken_linked a h w (number r.at.node) r.at.version k.1.stamped.published y) (k.3.holds y) (e.goes_on y))
       (λ n. stays_as (anew root s) u (e.goes_back n) (anew_stays s k.0.range k.0.bound (let r = k.0.room in omega (arith, r))))
-  stays_at s stage.Full u k e = stays_as (over s (told.Done s.count)) u e tt
-  stays_at s stage.Over u k e = stays_as (over s told.Running) u e tt
+  stays_at s stage.Full u k e = stays_as (over s (scan_report.Done s.count)) u e tt
+  stays_at s stage.Over u k e = stays_as (over s scan_report.Running) u e tt
 
   -- after a step a scan knows what its next stage says
   pub scan_stays : (s : ScanState C V) (u : NextScan C V) → ScanKnown number always a h s → ScanSteppedAt number always root s s.stage h u → ScanKnown number always a h u.0

@@ -5,8 +5,8 @@ use Rattle.std.specs.Prelude.{Option, None, Some, slice_get, if◌then◌else◌
 use Rattle.std.proofs.lemmas.Bool.{false≢true}
 use Rattle.std.proofs.lemmas.Option.{slice_get_within}
 use Rattle.crossbeam_epoch.specs.declared.fault.Fault.{Fault}
-use Rattle.crossbeam_epoch.specs.declared.world.participant.Phase.{Phase as Collecting_phase}
-use Rattle.crossbeam_epoch.specs.declared.world.participant.Phase.TheVariants as stage
+use Rattle.crossbeam_epoch.specs.declared.world.participant.Phase.{Phase as CollectorPhase}
+use Rattle.crossbeam_epoch.specs.declared.world.participant.Phase.TheVariants as collector_phase
 use Rattle.crossbeam_epoch.specs.declared.world.report.Event.TheVariants as collector_event
 use Rattle.crossbeam_epoch.specs.declared.world.report.Op.{Op as CollectorOp}
 use Rattle.crossbeam_epoch.specs.declared.world.report.Op.TheVariants as collector_op
@@ -74,8 +74,8 @@ record Alone {V : Type 0} (s : World V) (who n : ℕ) : Type 0 where
   pub left : left_of s.forest who (slice_get s.calls who) (slice_get s.machines who) ≤ n
 
 -- an unpin ends as it begins
-unpin_never : (x : Collecting_phase) → comes_by (stage_of x) collector_op.Unpin ≡ true → ⊥
-unpin_never stage.Idle e = cc e
+unpin_never : (x : CollectorPhase) → comes_by (stage_of x) collector_op.Unpin ≡ true → ⊥
+unpin_never collector_phase.Idle e = cc e
 unpin_never _ e = cc e
 
 unpins : (V : Type 0) {T J : Type 0} (s s' : State T J) (w : ℕ) (o : CollectorOutcome) → Begins s w collector_op.Unpin o s' → is_in_flight {V = V} (collected o) ≡ true → ⊥
@@ -84,10 +84,10 @@ unpins V s s' w collector_outcome.Done g on = cc on
 unpins V s s' w (collector_outcome.Refused f) g on = cc on
 
 -- a securing takes three steps at most
-secures_in : (places hand : ℕ) (x : Collecting_phase) → comes_by (stage_of x) (collector_op.Secure 2) ≡ true → (0 < left_in places x hand) × (left_in places x hand ≤ 3)
-secures_in places hand (stage.Secure n) e = (omega arith, omega arith)
-secures_in places hand stage.SecureSeal e = (omega arith, omega arith)
-secures_in places hand (stage.SecureQueue seal) e = (omega arith, omega arith)
+secures_in : (places hand : ℕ) (x : CollectorPhase) → comes_by (stage_of x) (collector_op.Secure 2) ≡ true → (0 < left_in places x hand) × (left_in places x hand ≤ 3)
+secures_in places hand (collector_phase.Secure n) e = (omega arith, omega arith)
+secures_in places hand collector_phase.SecureSeal e = (omega arith, omega arith)
+secures_in places hand (collector_phase.SecureQueue seal) e = (omega arith, omega arith)
 secures_in places hand _ e = absurd (cc e)
 
 at_place : {A : Type 0} (xs ys : List A) (w : ℕ) (x : A) → w < length xs → ys ≡ set xs w x → slice_get ys w ≡ Some x

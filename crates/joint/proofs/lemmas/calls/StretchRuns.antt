@@ -6,8 +6,8 @@ use Rattle.std.proofs.lemmas.Bool.{cases_Bool, eqb-true, eqb-false, false≢true
 use Rattle.std.proofs.lemmas.Option.{slice_get_within}
 use Rattle.crossbeam_epoch.specs.declared.fault.Fault.{Fault}
 use Rattle.crossbeam_epoch.specs.declared.names.Name.{Name}
-use Rattle.crossbeam_epoch.specs.declared.world.participant.Phase.{Phase as Stand}
-use Rattle.crossbeam_epoch.specs.declared.world.participant.Phase.TheVariants as stage
+use Rattle.crossbeam_epoch.specs.declared.world.participant.Phase.{Phase as CollectorPhase}
+use Rattle.crossbeam_epoch.specs.declared.world.participant.Phase.TheVariants as collector_phase
 use Rattle.crossbeam_epoch.specs.declared.world.report.Event.{Event as CollectorEvent}
 use Rattle.crossbeam_epoch.specs.declared.world.report.Event.TheVariants as collector_event
 use Rattle.crossbeam_epoch.specs.declared.world.report.Op.TheVariants as collector_op
@@ -72,9 +72,9 @@ use Rattle.joint.proofs.lemmas.calls.Stretches.{IsBlocked, sees_blocks, stored, 
 use Rattle.joint.proofs.lemmas.nodes.Views.{ties}
 
 -- a securing doesn't publish
-secure_calm : (s : Stand) → comes_by (stage_of s) (collector_op.Secure 2) ≡ true → publishes s ≡ false
-secure_calm (stage.Publish seen) e = absurd (false≢true e)
-secure_calm (stage.RepinPublish seen) e = absurd (false≢true e)
+secure_calm : (s : CollectorPhase) → comes_by (stage_of s) (collector_op.Secure 2) ≡ true → publishes s ≡ false
+secure_calm (collector_phase.Publish seen) e = absurd (false≢true e)
+secure_calm (collector_phase.RepinPublish seen) e = absurd (false≢true e)
 secure_calm _ e = refl
 
 module _ {V : Type 0} where

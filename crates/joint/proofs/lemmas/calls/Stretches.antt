@@ -7,7 +7,7 @@ use Rattle.crossbeam_epoch.specs.declared.bag.Work.TheVariants.{Remove}
 use Rattle.crossbeam_epoch.specs.declared.names.Name.{Name}
 use Rattle.crossbeam_epoch.specs.declared.world.participant.Participant.{Participant}
 use Rattle.crossbeam_epoch.specs.declared.world.participant.Phase.{Phase}
-use Rattle.crossbeam_epoch.specs.declared.world.participant.Phase.TheVariants as stage
+use Rattle.crossbeam_epoch.specs.declared.world.participant.Phase.TheVariants as collector_phase
 use Rattle.crossbeam_epoch.specs.declared.world.report.Event.{Event}
 use Rattle.crossbeam_epoch.specs.declared.world.report.Event.TheVariants.{Begin, Go}
 use Rattle.crossbeam_epoch.specs.declared.world.report.Op.{Op}
@@ -94,7 +94,7 @@ module _ {T J : Type 0} (p : ℕ) (n : Name) where
   joined h s q l b = record { fits = fits_registered h s q l b.fits; on = b.on; all = b.all }
 
   -- a deferral leaves what the stretch blocks, and is blocked itself where it is of that name
-  pub deferring : (h : List Mark) (s : State T J) (who : ℕ) (c : Name) → who < length s.table → (place s who).phase ≡ stage.Idle → length (place s who).bag < bag_places → IsBlocked p n h s → IsBlocked p n (Deferred s.next (Some c) ∷ h) (deferred s who (Remove c))
+  pub deferring : (h : List Mark) (s : State T J) (who : ℕ) (c : Name) → who < length s.table → (place s who).phase ≡ collector_phase.Idle → length (place s who).bag < bag_places → IsBlocked p n h s → IsBlocked p n (Deferred s.next (Some c) ∷ h) (deferred s who (Remove c))
   deferring h s who c l idle room b = marked (Deferred s.next (Some c)) h s (deferred s who (Remove c)) refl b (by (length (place s who).bag == bag_places) refl (fits_after_deferral h s who (Remove c) l idle b.fits))
     where
       by : (x : Bool) → (length (place s who).bag == bag_places) ≡ x → Fits (Deferred s.next (Some c) ∷ h) (if x then deferred_anew s who (Remove c) else deferred s who (Remove c)) → Fits (Deferred s.next (Some c) ∷ h) (deferred s who (Remove c))
@@ -111,8 +111,8 @@ module _ {T J : Type 0} (p : ℕ) (n : Name) where
 
   marks_gone : (h : List Mark) (s s' : State T J) (who epoch : ℕ) (x : Phase) (c : Option (ℕ × Option Name)) → (who ≡ p → publishes x ≡ false) → IsBlocked p n h s → Fits (phase_marks epoch who x c h) s' → IsBlocked p n (phase_marks epoch who x c h) s'
   marks_gone h s s' who epoch x (Some c) calm b f = marked (Called c.0 c.1) h s s' refl b f
-  marks_gone h s s' who epoch (stage.Publish seen) None calm b f = marked (Pinned who epoch) h s s' (other p who (λ z. false≢true (sym (calm z)))) b f
-  marks_gone h s s' who epoch (stage.RepinPublish seen) None calm b f = marked (Repinned who epoch) h s s' (other p who (λ z. false≢true (sym (calm z)))) b f
+  marks_gone h s s' who epoch (collector_phase.Publish seen) None calm b f = marked (Pinned who epoch) h s s' (other p who (λ z. false≢true (sym (calm z)))) b f
+  marks_gone h s s' who epoch (collector_phase.RepinPublish seen) None calm b f = marked (Repinned who epoch) h s s' (other p who (λ z. false≢true (sym (calm z)))) b f
   marks_gone h s s' who epoch _ None calm b f = record { fits = f; on = b.on; all = b.all }
 
   marks_moved : (h : List Mark) (s s' : State T J) (who : ℕ) (event : Event) (c : Option (ℕ × Option Name)) → (who ≡ p → turns event (place s who) ≡ false) → IsBlocked p n h s → Fits (moved_marks s who event c h) s' → IsBlocked p n (moved_marks s who event c h) s'

@@ -5,7 +5,7 @@ use Rattle.std.specs.Prelude.{Option, None, Some, is_some, length, slice_get}
 use Rattle.std.proofs.lemmas.List.{length-set, set-set}
 use Rattle.std.proofs.lemmas.Option.{slice_get_within}
 use Rattle.crossbeam_epoch.specs.declared.world.participant.Participant.{Participant}
-use Rattle.crossbeam_epoch.specs.declared.world.participant.Phase.TheVariants as stage
+use Rattle.crossbeam_epoch.specs.declared.world.participant.Phase.TheVariants as collector_phase
 use Rattle.crossbeam_epoch.specs.declared.world.report.Event.{Event}
 use Rattle.crossbeam_epoch.specs.declared.world.report.Event.TheVariants.{Begin, Go}
 use Rattle.crossbeam_epoch.specs.declared.world.report.Op.{Op}
@@ -96,7 +96,7 @@ module _ {V : Type 0} (same : V → V → Bool) (always : Bool) (s : Nodes V) (m
   }
 
 module _ {V : Type 0} (same : V → V → Bool) (always : Bool) (laws : ProgressLaws (Slot V) (Unit {0})) (s : Nodes V) (ms : List (Machine Id V)) (calls : List (InFlight V)) (intact : IsIntact same always s ms calls) (who : ℕ) where
-  begun_at : (op : Op) (o : Outcome) (c c' : State (Slot V) (Unit {0})) (m : Machine Id V) → (place c who).phase ≡ stage.Idle → m.phase ≡ Ended → Begins c who op o c' → IsAt (call_after o (Collecting op)) (place c' who) m
+  begun_at : (op : Op) (o : Outcome) (c c' : State (Slot V) (Unit {0})) (m : Machine Id V) → (place c who).phase ≡ collector_phase.Idle → m.phase ≡ Ended → Begins c who op o c' → IsAt (call_after o (Collecting op)) (place c' who) m
   begun_at op Running c c' m i e b = (b.1, e)
   begun_at op Done c c' m i e b = (b.1, e)
   begun_at op (Refused f) c c' m i e b = (ap (λ x. (place x who).phase) b.1 ∙ i, e)
@@ -104,7 +104,7 @@ module _ {V : Type 0} (same : V → V → Bool) (always : Bool) (laws : Progress
   -- a call on the collector that begins leaves the machine intact
   pub begun : (op : Op) (r : Report) (s' : Nodes V) → slice_get calls who ≡ Some Idle → Collected same always s ms who (Begin op) r s' → IsIntact same always s' ms (set calls who (call_after r.outcome (Collecting op)))
   begun op r s' at c = after_step same always s ms calls intact who (Begin op) r s' (call_after r.outcome (Collecting op)) c (λ m here.
-      let x : ((place s.collector who).phase ≡ stage.Idle) × (m.phase ≡ Ended) = intact.each who Idle m at here in
+      let x : ((place s.collector who).phase ≡ collector_phase.Idle) × (m.phase ≡ Ended) = intact.each who Idle m at here in
       let P : State (Slot V) (Unit {0}) → Type 0 = λ y. Begins s.collector who op r.outcome y in
       begun_at op r.outcome s.collector s'.collector m x.0 x.1 (subst P (sym c.state) (laws.begins s.collector who op r x.0 c.report)))
 

@@ -8,7 +8,7 @@ use Rattle.crossbeam_epoch.specs.declared.bag.Deferral.{Deferral}
 use Rattle.crossbeam_epoch.specs.declared.bag.Work.{Work}
 use Rattle.crossbeam_epoch.specs.declared.bag.Work.TheVariants.{Blank, Remove, Run}
 use Rattle.crossbeam_epoch.specs.declared.names.Name.{Name}
-use Rattle.crossbeam_epoch.specs.declared.world.participant.Phase.TheVariants as stage
+use Rattle.crossbeam_epoch.specs.declared.world.participant.Phase.TheVariants as collector_phase
 use Rattle.crossbeam_epoch.specs.declared.world.report.Event.{Event}
 use Rattle.crossbeam_epoch.specs.declared.world.report.Report.{Report}
 use Rattle.crossbeam_epoch.specs.World.Fits.{Fits, weight}
@@ -224,7 +224,7 @@ module _ {V : Type 0} (cells : CellLaws {T = Slot V} (Unit {0}) slot_names) wher
           only = (let more = keeps.jobs others in let old : weight others c' ≡ 0 = ap (weight others) collector_is ∙ f.only in omega (arith, more, old));
         })
       where
-        sealing_more : (c : State (Slot V) (Unit {0})) (who : ℕ) (entry : Deferral (Unit {0})) → who < length c.table → (place c who).phase ≡ stage.Idle → IsSealing c
+        sealing_more : (c : State (Slot V) (Unit {0})) (who : ℕ) (entry : Deferral (Unit {0})) → who < length c.table → (place c who).phase ≡ collector_phase.Idle → IsSealing c
             → IsSealing (record c { table = slice_set c.table who (record (place c who) { bag = (place c who).bag ++ entry ∷ [] }); next = c.next + 1; waiting = c.waiting + 1 })
         sealing_more c who entry inside idle i =
             let p = record (place c who) { bag = (place c who).bag ++ entry ∷ [] } in

@@ -9,7 +9,7 @@ use Rattle.crossbeam_epoch.specs.declared.fault.Fault.{Fault}
 use Rattle.crossbeam_epoch.specs.declared.fault.Fault.TheVariants.{Memory, Unpinned, Count, Unknown}
 use Rattle.crossbeam_epoch.specs.declared.names.Name.{Name}
 use Rattle.crossbeam_epoch.specs.declared.world.participant.Participant.{Participant}
-use Rattle.crossbeam_epoch.specs.declared.world.participant.Phase.{Phase as Stage}
+use Rattle.crossbeam_epoch.specs.declared.world.participant.Phase.{Phase as CollectorPhase}
 use Rattle.crossbeam_epoch.specs.World.History.{Deferred, WasDeferred}
 use Rattle.crossbeam_epoch.specs.World.Machine.{State, blank, place, deferred, deferred_anew, after_deferral}
 use Rattle.crossbeam_epoch.specs.World.Reach.{Marked, Moment, marks_of, moment, HasMoments}
@@ -91,7 +91,7 @@ module _ {V : Type 0} (same : V → V → Bool) (always : Bool) (cells : CellLaw
   no_fault : destroy_fault c who node.name ≡ None
   no_fault =
       let p : Participant (Unit {0}) = place c who in
-      let quiet : quiet_fault p.phase p ≡ None = ap (λ (x : Stage). quiet_fault x p) owes.idle ∙ ap (λ (b : Bool). when b Unpinned) (pinned p.word owes.pinned) in
+      let quiet : quiet_fault p.phase p ≡ None = ap (λ (x : CollectorPhase). quiet_fault x p) owes.idle ∙ ap (λ (b : Bool). when b Unpinned) (pinned p.word owes.pinned) in
       let count : or_count c.next (quiet_fault p.phase p) ≡ None = ap (or_count c.next) quiet ∙ ap (λ (b : Bool). when b Count) no_count in
       let held : defer_fault c who ≡ or_count c.next (quiet_fault p.phase p) = ap (λ (b : Bool). if b then or_count c.next (quiet_fault p.phase p) else Some Unknown) owes.registered in
       ap (λ (b : Bool). if b then defer_fault c who else Some Unknown) owes.stands ∙ held ∙ count

@@ -6,7 +6,7 @@ use Rattle.std.proofs.lemmas.List.{length-set, set-set, get_or-set_same}
 use Rattle.crossbeam_epoch.specs.declared.fault.Fault.TheVariants.{Unpinned, Unknown}
 use Rattle.crossbeam_epoch.specs.declared.names.Name.{Name}
 use Rattle.crossbeam_epoch.specs.declared.world.participant.Participant.{Participant}
-use Rattle.crossbeam_epoch.specs.declared.world.participant.Phase.TheVariants as stage
+use Rattle.crossbeam_epoch.specs.declared.world.participant.Phase.TheVariants as collector_phase
 use Rattle.crossbeam_epoch.specs.declared.world.report.Event.TheVariants.{Begin}
 use Rattle.crossbeam_epoch.specs.declared.world.report.Op.TheVariants.{Secure}
 use Rattle.crossbeam_epoch.specs.declared.world.report.Outcome.{Outcome}
@@ -120,12 +120,12 @@ module _ {V : Type 0} (same : V → V → Bool) (always : Bool) (s : Nodes V) (m
     no_fault : refusal c who (Secure 2) ≡ None
     no_fault = ap (λ b. if b then begin_fault (Secure 2) (place c who) else Some Unknown) now.0 ∙ free (place c who).word now.1
 
-    not_done : r.outcome ≡ Done → (place s'.collector who).phase ≡ stage.Idle → ⊥
+    not_done : r.outcome ≡ Done → (place s'.collector who).phase ≡ collector_phase.Idle → ⊥
     not_done e idle =
         let inside : who < length c.table = held_place c.table who now.0 in
         let at : s'.collector ≡ with_place c who put = did.state ∙ ap (after c who (Begin (Secure 2))) e in
         let q : place s'.collector who ≡ put = ap (λ y. place y who) at ∙ get_or-set_same c.table who put blank inside in
-        let z : stage.Idle ≡ stage.Secure 2 = sym idle ∙ ap (λ y. y.phase) q in
+        let z : collector_phase.Idle ≡ collector_phase.Secure 2 = sym idle ∙ ap (λ y. y.phase) q in
         cc
 
     runs_by : (o : Outcome) → r.outcome ≡ o → Begins c who (Secure 2) o s'.collector → r.outcome ≡ Running

@@ -23,7 +23,7 @@ use Rattle.congee.specs.declared.protocol.scan.Stage.{Stage}
 use Rattle.congee.specs.declared.protocol.scan.Stage.TheVariants as stage
 use Rattle.congee.specs.declared.protocol.scan.ScanState.{ScanState as ScanState}
 use Rattle.congee.specs.declared.protocol.scan.ScanReport.{ScanReport}
-use Rattle.congee.specs.declared.protocol.scan.ScanReport.TheVariants as told
+use Rattle.congee.specs.declared.protocol.scan.ScanReport.TheVariants as scan_report
 use Rattle.congee.specs.declared.forms.base_node.NodeType.{NodeType}
 use Rattle.congee.specs.Heap.{Node, version_of, is_taken}
 use Rattle.congee.specs.Keys.{key_bytes}
@@ -144,10 +144,10 @@ module _ {V : Type 0} (ms between : List (Machine Id V)) (who : ℕ) (old now : 
 
 -- whether a scan's report tells its end
 abbrev pub is_end : {V : Type 0} → ScanReport V → Bool
-is_end told.Running = false
-is_end (told.Found place k v) = false
-is_end (told.Done count) = true
-is_end (told.Refused e) = true
+is_end scan_report.Running = false
+is_end (scan_report.Found place k v) = false
+is_end (scan_report.Done count) = true
+is_end (scan_report.Refused e) = true
 
 -- a scan has told its end exactly where it is past
 abbrev Tells : {V : Type 0} → NextScan Id V → Type 0
@@ -223,10 +223,10 @@ module _ {V : Type 0} where
 
   -- a scan that told its end
   scan_over : (start end size : ℕ) (states : List (Pairs V)) (places : List (ℕ × V)) (o : ScanReport V) (f : Flight V) → is_end o ≡ true → ScanTells start end size states places (outcome_of o) f → f ≡ Over
-  scan_over start end size states places told.Running f e x = absurd (cc e)
-  scan_over start end size states places (told.Found a b c) f e x = absurd (cc e)
-  scan_over start end size states places (told.Done count) f e x = x.2
-  scan_over start end size states places (told.Refused c) f e x = x
+  scan_over start end size states places scan_report.Running f e x = absurd (cc e)
+  scan_over start end size states places (scan_report.Found a b c) f e x = absurd (cc e)
+  scan_over start end size states places (scan_report.Done count) f e x = x.2
+  scan_over start end size states places (scan_report.Refused c) f e x = x
 
   -- once a scan that is done has left, its machine is watched as over, and any other as before
   pub rest_follows : (now : Machine Id V) (f : Flight V) → (is_done now.phase ≡ true → f ≡ Over) → Follows now f → Follows (rested now) f
@@ -253,10 +253,10 @@ module _ {V : Type 0} (same : V → V → Bool) (always : Bool) (most : ℕ) (wh
 
   -- its call has ended in its worker's place exactly where the step reports so
   end_continues : (o : ScanReport V) → is_end o ≡ not (continues (outcome_of o))
-  end_continues told.Running = refl
-  end_continues (told.Found a b c) = refl
-  end_continues (told.Done count) = refl
-  end_continues (told.Refused e) = refl
+  end_continues scan_report.Running = refl
+  end_continues (scan_report.Found a b c) = refl
+  end_continues (scan_report.Done count) = refl
+  end_continues (scan_report.Refused e) = refl
 
   over_by : (b : Bool) (s1 : ScanState Id V) → now.phase ≡ Scan s1 → is_over (if b then resting else now).phase ≡ b
   over_by true s1 q = refl

@@ -4,7 +4,7 @@ use Rattle.std.proofs.Math.ListN.{set}
 use Rattle.std.specs.Prelude.{Some, is_some, length, slice_get}
 use Rattle.std.proofs.lemmas.List.{length-set}
 use Rattle.std.proofs.lemmas.Option.{slice_get_within}
-use Rattle.crossbeam_epoch.specs.declared.world.participant.Phase.TheVariants as stage
+use Rattle.crossbeam_epoch.specs.declared.world.participant.Phase.TheVariants as collector_phase
 use Rattle.crossbeam_epoch.specs.World.Machine.{place}
 use Rattle.congee.specs.declared.protocol.machine.Machine.{Machine}
 use Rattle.congee.specs.declared.protocol.op.Op.{Op}
@@ -56,7 +56,7 @@ module _ {V : Type 0} (same : V → V → Bool) (always : Bool) (laws : CallLaws
   begins : Begins m.kind m.phase
   begins = let P : Machine Id V → Type 0 = λ x. Begins x.kind x.phase in subst P (sym is) (first op)
 
-  at_idle : ((place s.collector who).phase ≡ stage.Idle) × (old.0.phase ≡ Ended)
+  at_idle : ((place s.collector who).phase ≡ collector_phase.Idle) × (old.0.phase ≡ Ended)
   at_idle = intact.each who Idle old.0 idle old.1
 
   guards : Guards (place s.collector who) m

@@ -5,7 +5,7 @@ use Rattle.std.specs.Prelude.{Option, None, Some, length, not, slice_get, slice_
 use Rattle.std.proofs.lemmas.List.{length-set, get_or-set_other, get_or-set_same}
 use Rattle.crossbeam_epoch.specs.declared.bag.Work.TheVariants.{Remove}
 use Rattle.crossbeam_epoch.specs.declared.world.participant.Participant.{Participant}
-use Rattle.crossbeam_epoch.specs.declared.world.participant.Phase.TheVariants as stage
+use Rattle.crossbeam_epoch.specs.declared.world.participant.Phase.TheVariants as collector_phase
 use Rattle.crossbeam_epoch.specs.World.Machine.{State, blank, place, with_store}
 use Rattle.congee.specs.declared.protocol.run.Step.{Step}
 use Rattle.congee.specs.declared.protocol.machine.Machine.{Machine}
@@ -114,7 +114,7 @@ module _ {V : Type 0} (same : V → V → Bool) (always : Bool) (laws : CallLaws
     others : (i : ℕ) → i ≢ step.who → place s'.collector i ≡ place s.collector i
     others i ne = ap (λ c. place c i) walked.collector_is ∙ walk_others mid step.who owed i ne
 
-    place_idle : (place s'.collector step.who).phase ≡ stage.Idle
+    place_idle : (place s'.collector step.who).phase ≡ collector_phase.Idle
     place_idle =
         let l : step.who < length s.collector.table = held_place s.collector.table step.who ((intact.safe.sound.sound.guarded step.who old.0 old.1).registered runs.2) in
         ap (λ c. (place c step.who).phase) walked.collector_is ∙ walk_phase mid step.who owed l ∙ (intact.safe.sound.sound.guarded step.who old.0 old.1).idle runs.2

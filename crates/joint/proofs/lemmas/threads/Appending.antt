@@ -16,7 +16,7 @@ use Rattle.joint.specs.declared.steps.Op.{Op}
 use Rattle.joint.specs.declared.steps.Op.TheVariants as op
 use Rattle.joint.specs.declared.steps.Report.{Report}
 use Rattle.joint.specs.declared.steps.Step.{Step}
-use Rattle.joint.specs.Asked.{changes}
+use Rattle.joint.specs.Changes.{changes}
 use Rattle.joint.specs.engine.Journaling.{HasAnswer, asks_at, call_of, entry_of, has_place, in_list, kept_if, on_insert, on_present, reply_by, with_call}
 use Rattle.joint.specs.engine.Log.{has_room, answered_if, with_answer}
 use Rattle.joint.specs.Reports.{target}

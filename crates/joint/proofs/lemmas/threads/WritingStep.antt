@@ -9,7 +9,7 @@ use Rattle.joint.specs.declared.steps.Outcome.{Outcome}
 use Rattle.joint.specs.declared.steps.Outcome.TheVariants.{Running, Asks, Found, Registered, Done, Refused}
 use Rattle.joint.specs.declared.steps.Report.{Report}
 use Rattle.joint.specs.declared.steps.Step.{Step}
-use Rattle.joint.specs.Asked.{changes}
+use Rattle.joint.specs.Changes.{changes}
 use Rattle.joint.specs.threads.Driving.{IsToldInCall}
 use Rattle.joint.specs.engine.Journaling.{has_place}
 use Rattle.joint.specs.threads.Journals.{count_watched}

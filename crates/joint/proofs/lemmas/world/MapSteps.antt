@@ -10,8 +10,8 @@ use Rattle.judge.specs.Answer.{Pairs}
 use Rattle.crossbeam_epoch.specs.declared.fault.Fault.{Fault}
 use Rattle.crossbeam_epoch.specs.declared.fault.Fault.TheVariants as fault
 use Rattle.crossbeam_epoch.specs.declared.world.participant.Participant.{Participant}
-use Rattle.crossbeam_epoch.specs.declared.world.participant.Phase.{Phase as Stage}
-use Rattle.crossbeam_epoch.specs.declared.world.participant.Phase.TheVariants as stage
+use Rattle.crossbeam_epoch.specs.declared.world.participant.Phase.{Phase as CollectorPhase}
+use Rattle.crossbeam_epoch.specs.declared.world.participant.Phase.TheVariants as collector_phase
 use Rattle.crossbeam_epoch.specs.declared.world.report.Event.{Event as CollectorEvent}
 use Rattle.crossbeam_epoch.specs.declared.world.report.Event.TheVariants as collector_event
 use Rattle.crossbeam_epoch.specs.declared.world.report.Op.{Op as CollectorOp}
@@ -88,8 +88,8 @@ scan_of_none start end size m none = record {
 }
 
 -- a step that goes on with making places free is refused for want of memory alone
-go_free : {J : Type 0} (phase : Stage) (p : Participant J) → comes_by (stage_of phase) (Secure 2) ≡ true → event_fault collector_event.Go phase p ≡ None
-go_free stage.Idle p e = absurd cc
+go_free : {J : Type 0} (phase : CollectorPhase) (p : Participant J) → comes_by (stage_of phase) (Secure 2) ≡ true → event_fault collector_event.Go phase p ≡ None
+go_free collector_phase.Idle p e = absurd cc
 go_free _ p e = refl
 
 only_memory : {T J : Type 0} (c : State T J) (who : ℕ) (f : Fault) → IsOutcome c who collector_event.Go None (collector_outcome.Refused f) → f ≡ fault.Memory
