@@ -72,10 +72,10 @@ is_in_flight (Done done) = false
 is_in_flight (Refused refusal) = false
 
 -- whether the call takes its next step with nothing from outside: it has not ended, and wants no answer
-abbrev pub goes_on : {V : Type 0} → Outcome V → Bool
-goes_on Running = true
-goes_on (Asks found) = false
-goes_on (Found place key value) = true
-goes_on (Registered n) = false
-goes_on (Done done) = false
-goes_on (Refused refusal) = false
+abbrev pub goes_unasked : {V : Type 0} → Outcome V → Bool
+goes_unasked Running = true
+goes_unasked (Asks found) = false
+goes_unasked (Found place key value) = true
+goes_unasked (Registered n) = false
+goes_unasked (Done done) = false
+goes_unasked (Refused refusal) = false

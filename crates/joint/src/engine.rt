@@ -87,7 +87,7 @@ fn call_after<P: Payload + Small>(outcome: Outcome, call: InFlight<P>) -> InFlig
 }
 
 /// Whether a call on the tree is in flight after a step with this outcome.
-fn goes_on<P>(outcome: &congee::Outcome<P>) -> bool
+fn is_in_flight<P>(outcome: &congee::Outcome<P>) -> bool
     ensures { result ≡ is_in_flight (told outcome.now) }
 {
     match outcome {
@@ -363,7 +363,7 @@ impl<P: Payload + Small, A: Allocator> Engine<P, A> {
         ensures nodes { self.new.nodes ≡ self.old.nodes }
         ensures census { self.new.census ≡ self.old.census }
     {
-        if goes_on(outcome) {
+        if is_in_flight(outcome) {
             return;
         }
         let scanned = self.machines[who].has_scanned();

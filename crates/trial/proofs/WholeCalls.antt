@@ -59,13 +59,13 @@ behind_answered closure None found k = (tt, inr refl)
 behind_answered closure (Some f) found (inl e) = ((f, sym e, refl), inl e)
 behind_answered closure (Some f) found (inr e) = absurd (cc e)
 
-behind_heard : (closure : Option Closure) (stands next : Outcome ℕ) (c : Caller) → Behind closure stands c → Behind closure next (after_step c next)
-behind_heard closure stands outcome.Running c b = (tt, b.1)
-behind_heard closure stands (outcome.Asks found) c b = behind_answered closure c.closure found b.1
-behind_heard closure stands (outcome.Found place key value) c b = (tt, b.1)
-behind_heard closure stands (outcome.Registered who) c b = (tt, b.1)
-behind_heard closure stands (outcome.Done d) c b = (tt, b.1)
-behind_heard closure stands (outcome.Refused e) c b = (tt, b.1)
+behind_after : (closure : Option Closure) (stands next : Outcome ℕ) (c : Caller) → Behind closure stands c → Behind closure next (after_step c next)
+behind_after closure stands outcome.Running c b = (tt, b.1)
+behind_after closure stands (outcome.Asks found) c b = behind_answered closure c.closure found b.1
+behind_after closure stands (outcome.Found place key value) c b = (tt, b.1)
+behind_after closure stands (outcome.Registered who) c b = (tt, b.1)
+behind_after closure stands (outcome.Done d) c b = (tt, b.1)
+behind_after closure stands (outcome.Refused e) c b = (tt, b.1)
 
 behind_set : (closure : Option Closure) (stands : Outcome ℕ) (callers : List Caller) (w : ℕ) (c : Caller) → Behind closure stands c → Behind closure stands (caller_at (slice_set callers w c) w)
 behind_set closure stands [] w c b = behind_nothing closure stands
@@ -143,7 +143,7 @@ went w closure left s stands told s' b (ends n s1 t1 e) = went_none w closure s 
 went w closure left s stands told s' b (goes n s1 mid s2 st next t1 on step more) =
     let P : List Caller → Type 0 = λ callers. Behind closure next (caller_at callers w) in
     let c : Behind closure next (caller_at mid.callers.items w) =
-    subst P (sym step.1) (behind_set closure next s.callers.items w _ (behind_heard closure stands next (caller_at s.callers.items w) b)) in
+    subst P (sym step.1) (behind_set closure next s.callers.items w _ (behind_after closure stands next (caller_at s.callers.items w) b)) in
     went_more w closure s mid s' stands next told on b step (went w closure n mid next told s' c more)
 
 begun_behind : (w : ℕ) (closure : Option Closure) (callers callers' : List Caller) (first : Outcome ℕ) (b : Bool) → b ≡ true → callers' ≡ (if b then slice_set callers w (fresh closure) else callers)

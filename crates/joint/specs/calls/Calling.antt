@@ -11,7 +11,7 @@ use Rattle.joint.specs.declared.steps.Outcome.TheVariants.{Running, Found, Done}
 use Rattle.joint.specs.declared.steps.Report.{Report}
 use Rattle.joint.specs.declared.steps.Step.{Step}
 use Rattle.joint.specs.declared.steps.Survey.TheVariants as survey
-use Rattle.joint.specs.Reports.{range_of, goes_on, is_in_flight}
+use Rattle.joint.specs.Reports.{range_of, goes_unasked, is_in_flight}
 use Rattle.joint.specs.calls.Runs.{IsRun}
 use Rattle.joint.specs.engine.Surveys.{MapTells}
 use Rattle.joint.specs.engine.Engine.{World, is_busy, misuse}
@@ -29,7 +29,7 @@ steps_of who op (suc n) = record { worker = who; event = Begin op } ∷ replicat
 abbrev pub GoOn : {V : Type 0} → List (Report V) → Type 0
 GoOn [] = Unit {0}
 GoOn (r ∷ []) = Unit {0}
-GoOn (r ∷ (q ∷ rs)) = (goes_on r.outcome ≡ true) × GoOn (q ∷ rs)
+GoOn (r ∷ (q ∷ rs)) = (goes_unasked r.outcome ≡ true) × GoOn (q ∷ rs)
 
 -- the last of a report and those after it
 abbrev pub last_or : {V : Type 0} → Report V → List (Report V) → Report V
@@ -69,7 +69,7 @@ pub record IsCalled {V : Type 0} (same : V → V → Bool) (always : Bool) (s : 
   pub goes : GoOn reports
   pub last : option_map kept_report (last_of reports) ≡ result
   pub found : places' ≡ put_all reports places
-  pub stops : (r : Report V) → result ≡ Some r → length reports < most → goes_on r.outcome ≡ false
+  pub stops : (r : Report V) → result ≡ Some r → length reports < most → goes_unasked r.outcome ≡ false
   pub begins : 0 < most → IsSome result
   -- where its begin isn't misused, it stays in flight exactly where the last report says so
   pub flight : misuse s who (Begin op) ≡ None → (r : Report V) → result ≡ Some r → is_busy (slice_get s'.calls who) ≡ is_in_flight r.outcome

@@ -7,7 +7,7 @@ use Rattle.joint.specs.declared.steps.Event.TheVariants.{Begin, Go}
 use Rattle.joint.specs.declared.steps.Op.{Op}
 use Rattle.joint.specs.declared.steps.Outcome.{Outcome}
 use Rattle.joint.specs.declared.steps.Outcome.TheVariants.{Running, Found, Done}
-use Rattle.joint.specs.Reports.{goes_on, range_of}
+use Rattle.joint.specs.Reports.{goes_unasked, range_of}
 use Rattle.joint.specs.world.MapSteps.{Line}
 
 -- whether an event is a further step of a call in flight
@@ -50,7 +50,7 @@ pub record BeginsScan {V : Type 0} (w start end size : ℕ) (l : Line V) : Type 
 -- the worker's call in flight doesn't end in these lines
 abbrev pub GoesOn : {V : Type 0} → ℕ → List (Line V) → Type 0
 GoesOn w [] = Unit {0}
-GoesOn w (l ∷ ls) = (goes w l ≡ true → goes_on l.report.outcome ≡ true) × GoesOn w ls
+GoesOn w (l ∷ ls) = (goes w l ≡ true → goes_unasked l.report.outcome ≡ true) × GoesOn w ls
 
 -- and is done in this one, with so many places filled
 pub record EndsScan {V : Type 0} (w count : ℕ) (l : Line V) : Type 0 where

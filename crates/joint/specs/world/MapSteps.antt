@@ -109,7 +109,7 @@ pub record TakesEffect {V : Type 0} (same : V → V → Bool) (k : ℕ) (kind : 
   pub concludes : Concludes entry.reply outcome f'
 
 -- one that finds no place in the journal, and is refused for that
-pub record IsGivenUp {V : Type 0} (m : Pairs V) (l : Line V) (f' : Flight V) : Type 0 where
+pub record EndsFull {V : Type 0} (m : Pairs V) (l : Line V) (f' : Flight V) : Type 0 where
   pub full : l.report.outcome ≡ Refused JournalFull
   pub undecided : l.report.decided ≡ false
   pub over : f' ≡ Over
@@ -118,7 +118,7 @@ pub record IsGivenUp {V : Type 0} (m : Pairs V) (l : Line V) (f' : Flight V) : T
 
 -- a step of a call on one key that has not taken effect, by whether it does now
 abbrev pub PendingStep : {V : Type 0} → (V → V → Bool) → ℕ → Kind V → Option V → Question V → Pairs V → Bool → Line V → Flight V → Type 0
-PendingStep same k kind v q m false l f' = IsPending k kind v q m l f' ⊎ IsGivenUp m l f'
+PendingStep same k kind v q m false l f' = IsPending k kind v q m l f' ⊎ EndsFull m l f'
 PendingStep same k kind v q m true l f' = TakesEffect same k kind v q m l f'
 
 -- one after it: it goes on, or is done with its entry's reply

@@ -122,7 +122,7 @@ fn take_answer<P: Payload + Small, A: Allocator>(
     who: usize,
     answer: &Option<Option<P>>,
 )
-    ensures heard { P.always_copies ≡ true → request_at log.new.requests who ≡ answered_if (asks_at (slice_get engine.now.machines.items who)) answer.now (request_at log.old.requests who) }
+    ensures answered { P.always_copies ≡ true → request_at log.new.requests who ≡ answered_if (asks_at (slice_get engine.now.machines.items who)) answer.now (request_at log.old.requests who) }
     ensures left { log.new ≡ record log.old { requests = slice_set log.old.requests who (request_at log.new.requests who) } }
 {
     if answer.is_none() {

@@ -196,7 +196,7 @@ fn put_reply(told: &mut Vec<Entry<u64>>, worker: u32, seat: Seat, reply: Reply<u
 }
 
 /// How a worker's call stands after a step that told this.
-fn heard(
+fn after_report(
     told: &mut Vec<Entry<u64>>,
     worker: u32,
     seat: Seat,
@@ -218,7 +218,7 @@ fn heard(
 /// A step of a worker, which leaves its call so.
 fn steps(crowd: &mut Crowd, worker: u32, seat: Seat, step: Step<u64>) -> Result<(), AllocError> {
     let report = crowd.index.step(step);
-    let seat = heard(&mut crowd.told, worker, seat, report)?;
+    let seat = after_report(&mut crowd.told, worker, seat, report)?;
     if let Some(place) = crowd.seats.get_mut(worker as usize) {
         *place = seat;
     }

@@ -43,12 +43,12 @@ module _ {V : Type 0} (same : V → V → Bool) where
   pending_point k kind v q m false (Scanned count) f m' g = absurd g.0
 
   -- a point call stays one
-  pub point_stays : (f : Flight V) (m : Pairs V) (heard : Option (Option V)) (d : Move V) (f' : Flight V) (m' : Pairs V) → IsOfPoint f → Watched same f m heard d f' m' → IsOfPoint f'
-  point_stays (Pending k kind v q) m heard d f' m' p w = pending_point k kind _ _ m d.decided d.outcome f' m' w
-  point_stays (Decided r) m heard d f' m' p w = concludes_point r d.outcome f' w.1
-  point_stays Over m heard d f' m' p w = of_point f' Over w.1 tt
-  point_stays (Unbegun start end size) m heard d f' m' p w = absurd p
-  point_stays (Scanning start end size states places) m heard d f' m' p w = absurd p
+  pub point_stays : (f : Flight V) (m : Pairs V) (answer : Option (Option V)) (d : Move V) (f' : Flight V) (m' : Pairs V) → IsOfPoint f → Watched same f m answer d f' m' → IsOfPoint f'
+  point_stays (Pending k kind v q) m answer d f' m' p w = pending_point k kind _ _ m d.decided d.outcome f' m' w
+  point_stays (Decided r) m answer d f' m' p w = concludes_point r d.outcome f' w.1
+  point_stays Over m answer d f' m' p w = of_point f' Over w.1 tt
+  point_stays (Unbegun start end size) m answer d f' m' p w = absurd p
+  point_stays (Scanning start end size states places) m answer d f' m' p w = absurd p
 
 -- calls and how they are watched, one beside the other
 module _ {C V : Type 0} where
@@ -86,9 +86,9 @@ module _ {C V : Type 0} where
   follow_new (m ∷ ms) n = (begin_point m.key m.kind m.given m.phase m refl refl refl refl (n 0 m refl).begins, follow_new ms (λ i x e. n (suc i) x e))
 
 module _ {C V : Type 0} (number : C → ℕ) (same : V → V → Bool) (always : Bool) (a : ℕ → Note) (h : ℕ → Node V) (t : Tree a h) (w : LockWords a h) (m : Pairs V) (st : IsMapOf h m)
-    (root : C) (z : number root ≡ 0) (heard : Option (Option V)) where
+    (root : C) (z : number root ≡ 0) (answer : Option (Option V)) where
   abbrev Watches : ScanState C V → Flight V → ScanState C V → ScanReport V → Type 0
-  Watches s f s' o = (f' : Flight V) × Watched same f m heard (record { decided = false; skipped = false; outcome = outcome_of o }) f' m × ScanFollows s' f'
+  Watches s f s' o = (f' : Flight V) × Watched same f m answer (record { decided = false; skipped = false; outcome = outcome_of o }) f' m × ScanFollows s' f'
 
   -- a scan under way
   tells : (s s' : ScanState C V) (states : List (Pairs V)) (places : List (ℕ × V)) (o : ScanReport V) → Tracks s' (m ∷ states) (placed places o) → Tells s (m ∷ states) places s'.stage o → SameCall s s'
@@ -105,14 +105,14 @@ module _ {C V : Type 0} (number : C → ℕ) (same : V → V → Bool) (always :
       let tr : Tracks s [] [] = (let P : Stage C V → Type 0 = λ x. TracksAt s [] [] x in subst P (sym e.1) tt) in
       let out : Out number always a h t w m st [] [] root z s (s', o) = stepped_out number always a h t w m st [] [] root z s s.stage (s', o) k tr g in
       let y = tells s s' [] [] o out.1 out.2 out.3 in
-      (y.0, subst (λ x. Watched same x m heard (record { decided = false; skipped = false; outcome = outcome_of o }) y.0 m) (sym e.0) (refl, y.1, refl), y.2)
+      (y.0, subst (λ x. Watched same x m answer (record { decided = false; skipped = false; outcome = outcome_of o }) y.0 m) (sym e.0) (refl, y.1, refl), y.2)
   scan_watched s s' o f (inr (inl e)) k g =
       let P : Stage C V → Type 0 = λ x. ScanSteppedAt number always root s x h (s', o) in
       let q : (s', o) ≡ over s scan_report.Running = subst P e.1 g in
       let is : o ≡ scan_report.Running = ap (λ (u : NextScan C V). u.1) q in
       let rests : s'.stage ≡ stage.Over = ap (λ (u : NextScan C V). u.0.stage) q in
-      (Over, subst (λ x. Watched same x m heard (record { decided = false; skipped = false; outcome = outcome_of o }) Over m) (sym e.0) (ap (λ y. record { decided = false; skipped = false; outcome = outcome_of y }) is, refl, refl), inr (inl (refl, rests)))
+      (Over, subst (λ x. Watched same x m answer (record { decided = false; skipped = false; outcome = outcome_of o }) Over m) (sym e.0) (ap (λ y. record { decided = false; skipped = false; outcome = outcome_of y }) is, refl, refl), inr (inl (refl, rests)))
   scan_watched s s' o f (inr (inr e)) k g =
       let out : Out number always a h t w m st e.0 e.1 root z s (s', o) = stepped_out number always a h t w m st e.0 e.1 root z s s.stage (s', o) k e.3 g in
       let y = tells s s' e.0 e.1 o out.1 out.2 out.3 in
-      (y.0, subst (λ x. Watched same x m heard (record { decided = false; skipped = false; outcome = outcome_of o }) y.0 m) (sym e.2) (refl, y.1, refl), y.2)
+      (y.0, subst (λ x. Watched same x m answer (record { decided = false; skipped = false; outcome = outcome_of o }) y.0 m) (sym e.2) (refl, y.1, refl), y.2)

@@ -15,7 +15,7 @@ use Rattle.joint.specs.declared.steps.Survey.TheVariants as survey
 use Rattle.joint.specs.declared.steps.Target.{Target}
 use Rattle.joint.specs.declared.steps.Target.TheVariants as target
 use Rattle.joint.specs.calls.Calling.{steps_of, GoOn, last_of, put_away, kept_report, TellsMap}
-use Rattle.joint.specs.Reports.{goes_on, target}
+use Rattle.joint.specs.Reports.{goes_unasked, target}
 use Rattle.joint.specs.calls.Runs.{IsMapRun}
 use Rattle.joint.specs.world.MapSteps.{EventMap, BeginMap, Line}
 use Rattle.joint.specs.engine.Flying.{Flights}
@@ -24,11 +24,11 @@ use Rattle.joint.proofs.lemmas.engine.Telling.{not_going}
 
 module _ {V : Type 0} where
   -- a report that doesn't go on is the last
-  lone : (r : Report V) (rs : List (Report V)) → goes_on r.outcome ≡ false → GoOn (r ∷ rs) → last_of (r ∷ rs) ≡ Some r
+  lone : (r : Report V) (rs : List (Report V)) → goes_unasked r.outcome ≡ false → GoOn (r ∷ rs) → last_of (r ∷ rs) ≡ Some r
   lone r [] e on = refl
   lone r (q ∷ rs) e on = absurd (let f : true ≡ false = sym on.0 ∙ e in cc f)
 
-  put_away_over : (o : Outcome V) → goes_on o ≡ false → put_away o ≡ o
+  put_away_over : (o : Outcome V) → goes_unasked o ≡ false → put_away o ≡ o
   put_away_over (Found place key value) e = absurd (cc e)
   put_away_over Running e = refl
   put_away_over (Asks found) e = refl
@@ -49,7 +49,7 @@ module _ {V : Type 0} (same : V → V → Bool) (w : ℕ) (fs : Flights V) (m : 
       let P : Event V → Type 0 = λ x. EventMap same fs m x l run.0 in
       let Q : Target V → Type 0 = λ x. BeginMap fs m x l run.0 in
       let begun : Q (target.Survey k) = subst Q e (subst P (ap (λ s. s.event) asked) run.1) in
-      let over : goes_on l.report.outcome ≡ false = not_going m k l.report.outcome begun.tells in
+      let over : goes_unasked l.report.outcome ≡ false = not_going m k l.report.outcome begun.tells in
       let one : last_of (told (l ∷ ls)) ≡ Some l.report = lone l.report (told ls) over on in
       let kept : kept_report l.report ≡ r = (let q : Some (kept_report l.report) ≡ Some r = sym (ap (option_map kept_report) one) ∙ last in cc q) in
       subst (MapTells m k) (sym (put_away_over l.report.outcome over) ∙ ap (λ x. x.outcome) kept) begun.tells

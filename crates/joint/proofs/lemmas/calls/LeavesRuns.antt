@@ -275,8 +275,8 @@ module _ {V : Type 0} (same : V → V → Bool) (always : Bool) (laws : CallLaws
         (λ u e. g.pending u (decided_is g.old (h.2.flights w) u e (h.2.in_flight.each w Walking g.old g.walking g.at))) now.1 m
 
     -- where it is refused for want of a place of the journal nothing happens to the nodes
-    given_up : FindsJournalFull s w t.report t.after → Here
-    given_up y = record {
+    finds_full : FindsJournalFull s w t.report t.after → Here
+    finds_full y = record {
       leaves = λ n i. inl (let P : (ℕ → Node V) → Type 0 = λ z. InTree z n in subst P (sym nodes_same) i);
       owed = λ i n z. inl (z.0, ap (λ v. slice_get v.machines i) y.state ∙ z.1, z.2);
       handed = λ n b a. absurd (false≢true (sym b ∙ sym (ap (λ z. is_waiting (z n)) nodes_same) ∙ a));
@@ -290,7 +290,7 @@ module _ {V : Type 0} (same : V → V → Bool) (always : Bool) (laws : CallLaws
         nodes_same = ap (λ z. nodes z.forest) y.state
 
     parts_by : (b : Bool) → StepsUnless same always b s t.step t.report t.after → Here
-    parts_by true y = given_up y
+    parts_by true y = finds_full y
     parts_by false y = step_parts same always laws leaves_law (engine_of s) (engine_of t.after) w (h.0, h.1) t.step.event (misuse s w t.step.event) y.told refl y.engine.does
 
     abbrev parts : Here

@@ -22,7 +22,7 @@ use Rattle.joint.specs.declared.steps.Survey.TheVariants as survey
 use Rattle.joint.specs.declared.steps.Target.{Target}
 use Rattle.joint.specs.declared.steps.Target.TheVariants as target
 use Rattle.joint.specs.calls.Calling.{IsCalled, next_step, steps_of, GoOn, last_of, last_or, put_away, kept_report}
-use Rattle.joint.specs.Reports.{goes_on, range_of, target, is_in_flight}
+use Rattle.joint.specs.Reports.{goes_unasked, range_of, target, is_in_flight}
 use Rattle.joint.specs.nodes.Nodes.{nodes}
 use Rattle.joint.specs.Names.{root}
 use Rattle.joint.specs.calls.MapCalls.{AllGoOn, AreOfCall, told_after, Answered, answered_by, answer_in, answered_after, KeepsAll, told_places, HasScanned, PlaysKey, PlaysScan, PlaysCall, CallPlays}
@@ -221,7 +221,7 @@ module _ {V : Type 0} (who : ℕ) where
   abbrev steps_in : List (Taken V) → List (Step V)
   steps_in ts = map (λ (t : Taken V). t.step) ts
 
-  in_flight_on : (o : Outcome V) → goes_on o ≡ true → is_in_flight o ≡ true
+  in_flight_on : (o : Outcome V) → goes_unasked o ≡ true → is_in_flight o ≡ true
   in_flight_on Running e = refl
   in_flight_on (Found place key value) e = refl
   in_flight_on (Asks found) e = absurd (cc e)

@@ -19,7 +19,7 @@ use Rattle.joint.specs.declared.steps.Outcome.{Outcome}
 use Rattle.joint.specs.declared.steps.Outcome.TheVariants.{Running, Asks, Found, Registered, Done, Refused}
 use Rattle.joint.specs.declared.steps.Target.{Target}
 use Rattle.joint.specs.declared.steps.Target.TheVariants as target
-use Rattle.joint.specs.Reports.{goes_on, range_of, target, told}
+use Rattle.joint.specs.Reports.{goes_unasked, range_of, target, told}
 use Rattle.joint.specs.Names.{root}
 use Rattle.joint.specs.calls.Runs.{IsMapRun, pairs_after}
 use Rattle.joint.specs.world.MapSteps.{MapStep, EventMap, GoMap, Scans, BeginMap, BeginsOr, EndsEmpty, Line}
@@ -160,16 +160,16 @@ module _ {V : Type 0} (same : V → V → Bool) where
         by_outcome (moved.Refused c) e t = absurd (cc e)
 
     -- a scan that goes on is under way still, and its pair comes to its place
-    pub goes_further : (fs : Flights V) (m : Pairs V) (places : List (ℕ × V)) (l : Line V) (fs1 : Flights V) → Next fs m places l fs1 → goes_on l.report.outcome ≡ true
+    pub goes_further : (fs : Flights V) (m : Pairs V) (places : List (ℕ × V)) (l : Line V) (fs1 : Flights V) → Next fs m places l fs1 → goes_unasked l.report.outcome ≡ true
         → Comes true l.report.outcome places × Under fs1 (placed true l.report.outcome places)
     goes_further fs m places l fs1 n on =
         let P : Outcome V → Type 0 = λ o. Comes true o places × Under fs1 (placed true o places) in
-        subst P (sym n.step.told_so) (by_outcome n.step.outcome (ap goes_on (sym n.step.told_so) ∙ on) n.step.tells)
+        subst P (sym n.step.told_so) (by_outcome n.step.outcome (ap goes_unasked (sym n.step.told_so) ∙ on) n.step.tells)
       where
         here : fs1 w ≡ n.next
         here = ap (λ g. g w) n.flights ∙ flight_here fs w n.next
 
-        by_outcome : (o : Moved V) → goes_on (told o) ≡ true → ScanTells start end size n.states places o n.next → Comes true (told o) places × Under fs1 (placed true (told o) places)
+        by_outcome : (o : Moved V) → goes_unasked (told o) ≡ true → ScanTells start end size n.states places o n.next → Comes true (told o) places × Under fs1 (placed true (told o) places)
         by_outcome moved.Running e t = (tt, inr (n.states, here ∙ t, n.among))
         by_outcome (moved.Found place key x) e t = (t.0, inr (n.states, here ∙ t.1, n.among))
         by_outcome (moved.Scanned c) e t = absurd (cc e)

@@ -33,7 +33,7 @@ use Rattle.joint.specs.engine.Flying.{no_flights}
 use Rattle.joint.specs.world.World.{Holds, IsLogged, IsStep, StepsUnless, entry_at, finds_journal_full, answered_request, kept_at, requests_after}
 use Rattle.joint.proofs.lemmas.world.Effects.{begin_undecided}
 use Rattle.joint.proofs.lemmas.engine.Entering.{begin_even, register_even}
-use Rattle.joint.proofs.lemmas.world.JournalFull.{given_up, gives_up_flight, gives_up_logged}
+use Rattle.joint.proofs.lemmas.world.JournalFull.{after_full, after_full_flight, after_full_logged}
 use Rattle.joint.proofs.lemmas.world.Logged.{event_maps, steps}
 use Rattle.joint.proofs.lemmas.engine.Recounting.{has_room_is}
 use Rattle.joint.proofs.lemmas.calls.Runs.{standing_empty, fresh_flights}
@@ -113,8 +113,8 @@ module _ {V : Type 0} (same : V → V → Bool) (always : Bool) where
   -- down where there is room, and what it asked for goes where its call doesn't go on
   abbrev pub went_log : Log V → ℕ → Bool → Bool → Bool → Option (Entry V) → Bool → Option (Request V) → Log V
   went_log l worker before after decided entry on q =
-      let heard : Log V = record l { requests = slice_set l.requests worker q } in
-      let counted : Log V = record heard { reserved = recounted l.places before after l.reserved } in
+      let taken_log : Log V = record l { requests = slice_set l.requests worker q } in
+      let counted : Log V = record taken_log { reserved = recounted l.places before after l.reserved } in
       let kept : Log V = record counted { entries = l.entries ++ in_list (kept_if decided (has_room counted) entry) } in
       with_request kept worker (not on) None
 
@@ -134,9 +134,9 @@ module _ {V : Type 0} (same : V → V → Bool) (always : Bool) where
   went_requests l worker b a d x true q = refl
   went_requests l worker b a d x false q = set-set l.requests worker q None
 
-  -- the request in a worker's place once it has heard an answer; beyond the places there is none
-  heard_here : (qs : List (Option (Request V))) (w : ℕ) (answer : Option (Option V)) (o : Option (Request V)) → o ≡ answered_if true answer (request_at qs w) → request_at (slice_set qs w o) w ≡ answered_if true answer (request_at qs w)
-  heard_here qs w answer o e = elim (cases_Bool (ltb w (length qs))) [
+  -- the request in a worker's place once it has taken an answer; beyond the places there is none
+  answered_here : (qs : List (Option (Request V))) (w : ℕ) (answer : Option (Option V)) (o : Option (Request V)) → o ≡ answered_if true answer (request_at qs w) → request_at (slice_set qs w o) w ≡ answered_if true answer (request_at qs w)
+  answered_here qs w answer o e = elim (cases_Bool (ltb w (length qs))) [
     | inl x ↦ get_or-set_same qs w o None (ltb-true w (length qs) x) ∙ e
     | inr x ↦ (let p : length qs ≤ w = ltb-false w (length qs) x in
         get_or_past (slice_set qs w o) w None (let n : length (slice_set qs w o) ≡ length qs = length-set qs w o in omega (arith, p, n))
@@ -147,8 +147,8 @@ module _ {V : Type 0} (same : V → V → Bool) (always : Bool) where
   put_here qs w o = sym (set-get_or (slice_set qs w o) w None) ∙ set-set qs w o (request_at (slice_set qs w o) w)
 
   -- by its parts
-  abbrev heard_of : Log V → ℕ → Option (Request V) → Log V
-  heard_of l worker q = record l { requests = slice_set l.requests worker q }
+  abbrev answered_log : Log V → ℕ → Option (Request V) → Log V
+  answered_log l worker q = record l { requests = slice_set l.requests worker q }
 
   abbrev count_of : Log V → Bool → Bool → Log V
   count_of l b a = record l { reserved = recounted l.places b a l.reserved }
@@ -157,32 +157,32 @@ module _ {V : Type 0} (same : V → V → Bool) (always : Bool) where
   kept_of l d x = record l { entries = l.entries ++ in_list (kept_if d (has_room l) x) }
 
   -- a request that is taken out of its place and put back changes nothing but that place
-  pub hear_put : (l l1 l2 : Log V) (w : ℕ) (h : Option (Request V)) → l1 ≡ heard_of l w None → l2 ≡ heard_of l1 w h → l2 ≡ heard_of l w h
-  hear_put l l1 l2 w h e1 e2 = e2 ∙ ap (λ (y : Log V). heard_of y w h) e1 ∙ ap (λ qs. record l { requests = qs }) (set-set l.requests w None h)
+  pub answer_put : (l l1 l2 : Log V) (w : ℕ) (h : Option (Request V)) → l1 ≡ answered_log l w None → l2 ≡ answered_log l1 w h → l2 ≡ answered_log l w h
+  answer_put l l1 l2 w h e1 e2 = e2 ∙ ap (λ (y : Log V). answered_log y w h) e1 ∙ ap (λ qs. record l { requests = qs }) (set-set l.requests w None h)
 
   -- the request in a worker's place is the one that was put there
-  pub hear_left : (l l' : Log V) (w : ℕ) (h : Option (Request V)) → l' ≡ heard_of l w h → l' ≡ heard_of l w (request_at l'.requests w)
-  hear_left l l' w h e = e ∙ ap (λ qs. record l { requests = qs }) (put_here l.requests w h) ∙ ap (λ (y : Log V). heard_of l w (request_at y.requests w)) (sym e)
+  pub answer_left : (l l' : Log V) (w : ℕ) (h : Option (Request V)) → l' ≡ answered_log l w h → l' ≡ answered_log l w (request_at l'.requests w)
+  answer_left l l' w h e = e ∙ ap (λ qs. record l { requests = qs }) (put_here l.requests w h) ∙ ap (λ (y : Log V). answered_log l w (request_at y.requests w)) (sym e)
 
   -- the request in a worker's place is the one before with the answer that it heard
-  pub hear_heard : (l l' : Log V) (w : ℕ) (answer : Option (Option V)) (h : Option (Request V)) → l' ≡ heard_of l w h → h ≡ answered_if true answer (request_at l.requests w) → request_at l'.requests w ≡ answered_if true answer (request_at l.requests w)
-  hear_heard l l' w answer h e i = ap (λ (y : Log V). request_at y.requests w) e ∙ heard_here l.requests w answer h i
+  pub answer_taken : (l l' : Log V) (w : ℕ) (answer : Option (Option V)) (h : Option (Request V)) → l' ≡ answered_log l w h → h ≡ answered_if true answer (request_at l.requests w) → request_at l'.requests w ≡ answered_if true answer (request_at l.requests w)
+  answer_taken l l' w answer h e i = ap (λ (y : Log V). request_at y.requests w) e ∙ answered_here l.requests w answer h i
 
   -- the parts of what is written down in a further step, one after another, are the whole of it
-  pub went_by : (l l1 l2 l3 l4 : Log V) (worker : ℕ) (b a b' a' d : Bool) (x : Option (Entry V)) (on on' : Bool) (q : Option (Request V)) → l1 ≡ heard_of l worker q → l2 ≡ count_of l1 b a → recounted l.places b a l.reserved ≡ recounted l.places b' a' l.reserved → l3 ≡ kept_of l2 d x → l4 ≡ with_request l3 worker (not on) None → on ≡ on'
+  pub went_by : (l l1 l2 l3 l4 : Log V) (worker : ℕ) (b a b' a' d : Bool) (x : Option (Entry V)) (on on' : Bool) (q : Option (Request V)) → l1 ≡ answered_log l worker q → l2 ≡ count_of l1 b a → recounted l.places b a l.reserved ≡ recounted l.places b' a' l.reserved → l3 ≡ kept_of l2 d x → l4 ≡ with_request l3 worker (not on) None → on ≡ on'
       → l4 ≡ went_log l worker b' a' d x on' q
   went_by l l1 l2 l3 l4 worker b a b' a' d x on on' q e1 e2 ec e3 e4 eo =
       e4 ∙ ap (λ (y : Log V). with_request y worker (not on) None) e3 ∙ ap (λ (y : Log V). with_request (kept_of y d x) worker (not on) None) e2 ∙ ap (λ (y : Log V). with_request (kept_of (count_of y b a) d x) worker (not on) None) e1
-      ∙ ap (λ n. with_request (kept_of (record (heard_of l worker q) { reserved = n }) d x) worker (not on) None) ec
-      ∙ ap (λ y. with_request (kept_of (count_of (heard_of l worker q) b' a') d x) worker (not y) None) eo
+      ∙ ap (λ n. with_request (kept_of (record (answered_log l worker q) { reserved = n }) d x) worker (not on) None) ec
+      ∙ ap (λ y. with_request (kept_of (count_of (answered_log l worker q) b' a') d x) worker (not y) None) eo
 
   -- there is room for the entry just where there is once the places are counted anew
-  pub room_by : (l l1 l2 : Log V) (worker : ℕ) (q : Option (Request V)) (b a b' a' : Bool) → l1 ≡ heard_of l worker q → l2 ≡ count_of l1 b a → recounted l.places b a l.reserved ≡ recounted l.places b' a' l.reserved → has_room l2 ≡ has_room (record l { reserved = recounted l.places b' a' l.reserved })
+  pub room_by : (l l1 l2 : Log V) (worker : ℕ) (q : Option (Request V)) (b a b' a' : Bool) → l1 ≡ answered_log l worker q → l2 ≡ count_of l1 b a → recounted l.places b a l.reserved ≡ recounted l.places b' a' l.reserved → has_room l2 ≡ has_room (record l { reserved = recounted l.places b' a' l.reserved })
   room_by l l1 l2 worker q b a b' a' e1 e2 ec =
-      ap has_room e2 ∙ ap (λ (y : Log V). has_room (count_of y b a)) e1 ∙ ap (λ n. has_room (record (heard_of l worker q) { reserved = n })) ec
+      ap has_room e2 ∙ ap (λ (y : Log V). has_room (count_of y b a)) e1 ∙ ap (λ n. has_room (record (answered_log l worker q) { reserved = n })) ec
 
   -- the report says that the journal kept the call just where its entry is written down
-  pub kept_by : (l l1 l2 : Log V) (worker : ℕ) (q : Option (Request V)) (b a b' a' d k : Bool) (x : Option (Entry V)) (told r : Report V) → l1 ≡ heard_of l worker q → l2 ≡ count_of l1 b a → recounted l.places b a l.reserved ≡ recounted l.places b' a' l.reserved → k ≡ is_some (kept_if d (has_room l2) x) → r ≡ record told { kept = k }
+  pub kept_by : (l l1 l2 : Log V) (worker : ℕ) (q : Option (Request V)) (b a b' a' d k : Bool) (x : Option (Entry V)) (told r : Report V) → l1 ≡ answered_log l worker q → l2 ≡ count_of l1 b a → recounted l.places b a l.reserved ≡ recounted l.places b' a' l.reserved → k ≡ is_some (kept_if d (has_room l2) x) → r ≡ record told { kept = k }
       → r ≡ record told { kept = is_some (kept_if d (has_room (record l { reserved = recounted l.places b' a' l.reserved })) x) }
   kept_by l l1 l2 worker q b a b' a' d k x told r e1 e2 ec ek er =
       er ∙ ap (λ y. record told { kept = y }) (ek ∙ ap (λ y. is_some (kept_if d y x)) (room_by l l1 l2 worker q b a b' a' e1 e2 ec))
@@ -256,17 +256,17 @@ module _ {V : Type 0} (same : V → V → Bool) (always : Bool) where
     by true f = f
     by false f = refl
 
-  unkept_log : (l l1 l' : Log V) (w : ℕ) (b a d on on' : Bool) (q : Option (Request V)) → ltb 0 l.places ≡ false → l1 ≡ heard_of l w q → l' ≡ with_request l1 w (not on) None → on ≡ on' → l' ≡ went_log l w b a d None on' q
+  unkept_log : (l l1 l' : Log V) (w : ℕ) (b a d on on' : Bool) (q : Option (Request V)) → ltb 0 l.places ≡ false → l1 ≡ answered_log l w q → l' ≡ with_request l1 w (not on) None → on ≡ on' → l' ≡ went_log l w b a d None on' q
   unkept_log l l1 l' w b a d on on' q e e1 e2 eo =
       e2 ∙ ap (λ (y : Log V). with_request y w (not on) None) e1
-      ∙ ap (λ es. with_request (record (heard_of l w q) { entries = es }) w (not on) None) (sym (append-nil l.entries))
-      ∙ ap (λ o. with_request (record (heard_of l w q) { entries = l.entries ++ in_list o }) w (not on) None) (sym (kept_nothing d (has_room (record (heard_of l w q) { reserved = recounted l.places b a l.reserved }))))
-      ∙ ap (λ n. with_request (record (heard_of l w q) { entries = l.entries ++ in_list (kept_if d (has_room (record (heard_of l w q) { reserved = recounted l.places b a l.reserved })) None); reserved = n }) w (not on) None) (sym (unkept_count l.places b a l.reserved e))
-      ∙ ap (λ y. with_request (kept_of (count_of (heard_of l w q) b a) d None) w (not y) None) eo
+      ∙ ap (λ es. with_request (record (answered_log l w q) { entries = es }) w (not on) None) (sym (append-nil l.entries))
+      ∙ ap (λ o. with_request (record (answered_log l w q) { entries = l.entries ++ in_list o }) w (not on) None) (sym (kept_nothing d (has_room (record (answered_log l w q) { reserved = recounted l.places b a l.reserved }))))
+      ∙ ap (λ n. with_request (record (answered_log l w q) { entries = l.entries ++ in_list (kept_if d (has_room (record (answered_log l w q) { reserved = recounted l.places b a l.reserved })) None); reserved = n }) w (not on) None) (sym (unkept_count l.places b a l.reserved e))
+      ∙ ap (λ y. with_request (kept_of (count_of (answered_log l w q) b a) d None) w (not y) None) eo
 
   -- so is one where no journal is kept, of which the request alone is written down
   pub unkept_step : (s s' : World V) (worker : ℕ) (noise : Noise Id V) (q : Option (Request V)) (l1 : Log V) (on : Bool) (told : Report V) → Holds same always s → IsEngineStep same always (engine_of s) (record { worker = worker; event = Go noise }) told (engine_of s') → ltb 0 s.log.places ≡ false
-      → (always ≡ true → q ≡ answered_request s worker (Go noise)) → l1 ≡ heard_of s.log worker q → s'.log ≡ with_request l1 worker (not on) None → on ≡ is_in_flight told.outcome → IsStep same always s (record { worker = worker; event = Go noise }) told s'
+      → (always ≡ true → q ≡ answered_request s worker (Go noise)) → l1 ≡ answered_log s.log worker q → s'.log ≡ with_request l1 worker (not on) None → on ≡ is_in_flight told.outcome → IsStep same always s (record { worker = worker; event = Go noise }) told s'
   unkept_step s s' worker noise q l1 on told h e z i e1 e2 eo =
       let b = has_place (slice_get s.calls worker) (slice_get s.machines worker) in
       let a = has_place (slice_get s'.calls worker) (slice_get s'.machines worker) in
@@ -287,15 +287,15 @@ module _ {V : Type 0} (same : V → V → Bool) (always : Bool) where
   and_right false b e = absurd (cc e)
 
   -- a writing call that finds the journal full and is given up is a step of the whole machine
-  pub give_up_step : (s s' : World V) (worker : ℕ) (noise : Noise Id V) (r : Report V) (h : Holds same always s) (b : is_reserving (slice_get s.calls worker) ≡ true) → is_full s.log ≡ true → EngineHolds same always s'
-      → s' ≡ given_up same always s worker h b → r ≡ quiet OfCollector (Refused JournalFull) → IsStep same always s (record { worker = worker; event = Go noise }) r s'
-  give_up_step s s' worker noise r h b f h' e q =
+  pub tell_full_step : (s s' : World V) (worker : ℕ) (noise : Noise Id V) (r : Report V) (h : Holds same always s) (b : is_reserving (slice_get s.calls worker) ≡ true) → is_full s.log ≡ true → EngineHolds same always s'
+      → s' ≡ after_full same always s worker h b → r ≡ quiet OfCollector (Refused JournalFull) → IsStep same always s (record { worker = worker; event = Go noise }) r s'
+  tell_full_step s s' worker noise r h b f h' e q =
       let g : (is_reserving (slice_get s.calls worker) && is_full s.log) ≡ true = ap (λ c. c && is_full s.log) b ∙ f in
       let P : Bool → Type 0 = λ c. StepsUnless same always c s (record { worker = worker; event = Go noise }) r s' in
       record {
         does = subst P (sym g) (record { report = q; state = e });
-        flight = λ c n. gives_up_flight same always s worker h b s' r e q;
-        holds = (h'.0, h'.1, gives_up_logged same always s worker h b s' e);
+        flight = λ c n. after_full_flight same always s worker h b s' r e q;
+        holds = (h'.0, h'.1, after_full_logged same always s worker h b s' e);
       }
 
   -- the whole machine as it begins

@@ -45,16 +45,16 @@ entry_called : (who : ℕ) (q : Request ℕ) (o : Option (Reply ℕ)) (e : Entry
 entry_called who q None e x a = absurd (cc x)
 entry_called who q (Some r) e x a = called_by who q r (call_of q.op q.answer r) e refl x a
 
--- a call hears the answer that is wanted
-heard_wanted : (asks : Bool) (answer : Option (Option ℕ)) (q : Request ℕ) → ((a : Option ℕ) → answer ≡ Some a → asks ≡ true) → answered_if asks answer (Some q) ≡ Some (with_answer answer q)
-heard_wanted true answer q w = refl
-heard_wanted false None q w = refl
-heard_wanted false (Some a) q w = absurd (false≢true (w a refl))
+-- a call takes the answer that is wanted
+answered_wanted : (asks : Bool) (answer : Option (Option ℕ)) (q : Request ℕ) → ((a : Option ℕ) → answer ≡ Some a → asks ≡ true) → answered_if asks answer (Some q) ≡ Some (with_answer answer q)
+answered_wanted true answer q w = refl
+answered_wanted false None q w = refl
+answered_wanted false (Some a) q w = absurd (false≢true (w a refl))
 
-hears_op : (answer : Option (Option ℕ)) (q : Request ℕ) → (with_answer answer q).op ≡ q.op
-hears_op None q = refl
-hears_op (Some None) q = refl
-hears_op (Some (Some a)) q = refl
+answer_keeps_op : (answer : Option (Option ℕ)) (q : Request ℕ) → (with_answer answer q).op ≡ q.op
+answer_keeps_op None q = refl
+answer_keeps_op (Some None) q = refl
+answer_keeps_op (Some (Some a)) q = refl
 
 -- only a look-up has an entry that doesn't write
 insert_writes : (k : ℕ) (o : Option ℕ) (c : Entered ℕ) → on_insert k o ≡ Some c → looks_up c ≡ false
@@ -125,15 +125,15 @@ module _ (s s' : World ℕ) (who : ℕ) (h : Holds nat_eq true s) where
     abbrev Appends : Type 0
     Appends = (kept : Option (Entry ℕ)) × Appended s s' who o given (Go noise) kept
 
-    abbrev hearing : Request ℕ
-    hearing = with_answer noise.answer asked
+    abbrev answering : Request ℕ
+    answering = with_answer noise.answer asked
 
-    heard : answered_request s who (Go noise) ≡ Some hearing
-    heard = ap (answered_if (asks_at (slice_get s.machines who)) noise.answer) own ∙ heard_wanted _ noise.answer asked wanted
+    answering_is : answered_request s who (Go noise) ≡ Some answering
+    answering_is = ap (answered_if (asks_at (slice_get s.machines who)) noise.answer) own ∙ answered_wanted _ noise.answer asked wanted
 
     -- the entry that is kept has its closure's answer, and its place where it writes
     record Keeps (e : Entry ℕ) : Type 0 where
-      pub answered : HasAnswer hearing.op hearing.answer e.reply
+      pub answered : HasAnswer answering.op answering.answer e.reply
       pub had : has_place (slice_get s.calls who) (slice_get s.machines who) ≡ not (looks_up e.call)
 
     keeps : (t : TakesStep nat_eq true s go r s') (e : Entry ℕ) → kept_at s who (Go noise) t.told s' ≡ Some e → Keeps e
@@ -143,7 +143,7 @@ module _ (s s' : World ℕ) (who : ℕ) (h : Holds nat_eq true s) where
         let x = effect nat_eq true s s' who (h.0, h.1) t.engine.holds h.2.flights on.flights h.2.pairs (record { each = h.2.in_flight.each; beyond = h.2.in_flight.beyond }) on.in_flight h.2.long
         (record { step = go; report = t.told; entry = on.entry; pairs = on.pairs }) refl (Go noise) k.0 t.engine.does on.step in
         let same : x.entry ≡ e = some_injective _ _ (sym (x.noted (h.2.asked refl)) ∙ k.1) in
-        subst Keeps same (record { answered = x.answered (h.2.asked refl) hearing heard; had = x.had })
+        subst Keeps same (record { answered = x.answered (h.2.asked refl) answering answering_is; had = x.had })
 
     taken : TakesStep nat_eq true s go r s' → Appends
     taken t = (
@@ -154,14 +154,14 @@ module _ (s s' : World ℕ) (who : ℕ) (h : Holds nat_eq true s) where
         of = λ e q.
             let x : entry_at s who (Go noise) t.told s' ≡ Some e = (kept_decides _ _ _ e q).1 in
             let told : Option (Reply ℕ) = reply_by t.told.outcome (slice_get s'.machines who) in
-            let is : IsEntryOf who hearing.op hearing.answer e = entry_called who hearing told e (ap (λ y. entry_of who y told) (sym heard) ∙ x) (keeps t e q).answered in
-            subst (λ c. IsEntryOf who c hearing.answer e) (hears_op noise.answer asked) is;
+            let is : IsEntryOf who answering.op answering.answer e = entry_called who answering told e (ap (λ y. entry_of who y told) (sym answering_is) ∙ x) (keeps t e q).answered in
+            subst (λ c. IsEntryOf who c answering.answer e) (answer_keeps_op noise.answer asked) is;
         had = λ e q. (keeps t e q).had;
       },
     )
 
-    given_up : FindsJournalFull s who r s' → Appends
-    given_up t = (
+    finds_full : FindsJournalFull s who r s' → Appends
+    finds_full t = (
       None,
       record {
         entries = ap (λ (y : World ℕ). y.log.entries) t.state ∙ sym (append-nil s.log.entries);
@@ -172,7 +172,7 @@ module _ (s s' : World ℕ) (who : ℕ) (h : Holds nat_eq true s) where
     )
 
     either : (b : Bool) → StepsUnless nat_eq true b s go r s' → Appends
-    either true x = given_up x
+    either true x = finds_full x
     either false x = taken x
 
     went : IsStep nat_eq true s go r s' → Appends

@@ -30,7 +30,7 @@ use Rattle.joint.specs.engine.Flying.{Flights, AreInFlight, with_flight}
 use Rattle.joint.specs.world.World.{IsAsked, requests_after}
 use Rattle.joint.specs.engine.Engine.{World, EngineHolds, Does, misuse, engine_of}
 use Rattle.joint.proofs.lemmas.world.Flights.{ends_stays, flight_here, flight_apart}
-use Rattle.joint.proofs.lemmas.world.Requested.{TakesAnswer, asks, is_asked, heard_is, undecided_asked, begins_asked}
+use Rattle.joint.proofs.lemmas.world.Requested.{TakesAnswer, asks, is_asked, answered_is, undecided_asked, begins_asked}
 use Rattle.joint.proofs.lemmas.world.JournalPlaces.{asks_here}
 use Rattle.joint.proofs.lemmas.engine.Entering.{begin_free}
 
@@ -141,7 +141,7 @@ module _ {V : Type 0} (same : V → V → Bool) (always : Bool) (s s' : World V)
       let b : asks_at (slice_get s.machines w) ≡ is_asked q = asks_here same always (engine_of s) w holds fs fl ∙ ap asks e in
       let P : Bool → Type 0 = λ z. TakesAnswer (answered_if z noise.answer (request_at qs w)) k kd (value_answered kd q noise.answer v) (resolved kd q noise.answer) in
       let Q : Option (Request V) → Type 0 = λ o. TakesAnswer (answered_if (is_asked q) noise.answer o) k kd (value_answered kd q noise.answer v) (resolved kd q noise.answer) in
-      subst P (sym b) (subst Q (sym a.1) (heard_is a.0 k kd v q noise.answer a.2 a.3))
+      subst P (sym b) (subst Q (sym a.1) (answered_is a.0 k kd v q noise.answer a.2 a.3))
 
   pending_case : (noise : Noise Id V) (k : ℕ) (kd : Kind V) (v : Option V) (q : Question V) (l : Line V) (d : Bool) (f' : Flight V) (on : Bool) → fs w ≡ Pending k kd v q → is_in_flight l.report.outcome ≡ on
       → PendingStep same k kd (value_answered kd q noise.answer v) (resolved kd q noise.answer) m d l f' → IsAsked (request_at (slice_set qs w (next noise on)) w) f'

@@ -63,7 +63,7 @@ module _ {V : Type 0} where
   call_looks k kind.ComputeInsert (Some x) found c i = sym (ap (λ x. not (looks_up x)) i)
   call_looks k (kind.Exchange old) v found c i = sym (ap (λ x. not (looks_up x)) i)
 
-  -- the entry of a call that was heard
+  -- the entry of a call that took its answer
   entry_is : (w : ℕ) (o : Option (Request V)) (q : Request V) (ro : Option (Reply V)) (r : Reply V) (c : Entered V) (e : Entry V) → o ≡ Some q → ro ≡ Some r → call_of q.op q.answer r ≡ Some c → e.worker ≡ w → e.call ≡ c → e.reply ≡ r
       → entry_of w o ro ≡ Some e
   entry_is w o q ro r c e oq ror oc ew ec er =

@@ -35,8 +35,8 @@ use Rattle.joint.proofs.lemmas.engine.Reserving.{reserving_call}
 
 module _ {V : Type 0} (same : V → V → Bool) (always : Bool) (s : World V) (w : ℕ) (h : Holds same always s) (r : is_reserving (slice_get s.calls w) ≡ true) where
   -- the machine after it
-  abbrev pub given_up : World V
-  given_up = record s { calls = slice_set s.calls w Idle; log = record s.log { requests = slice_set s.log.requests w None } }
+  abbrev pub after_full : World V
+  after_full = record s { calls = slice_set s.calls w Idle; log = record s.log { requests = slice_set s.log.requests w None } }
 
   abbrev call : (op : Point V) × (slice_get s.calls w ≡ Some (Reserving op))
   call = reserving_call (slice_get s.calls w) r
@@ -47,8 +47,8 @@ module _ {V : Type 0} (same : V → V → Bool) (always : Bool) (s : World V) (w
   idle_here : slice_get (set s.calls w Idle) w ≡ Some Idle
   idle_here = set_here s.calls w Idle (Reserving call.0) call.1
 
-  over_flights : (fs : Flights V) (m : Pairs V) → IsMapOf (nodes s.forest) m → AreInFlight s fs → AreInFlight given_up (with_flight fs w Over)
-  over_flights fs m st fl = set_in_flight same always s given_up w (h.0, h.1) fs m st fl (with_flight fs w Over) Idle within refl (λ i x n b. b) (λ x b. flight_here fs w Over) (λ i n. flight_apart fs w i Over n)
+  over_flights : (fs : Flights V) (m : Pairs V) → IsMapOf (nodes s.forest) m → AreInFlight s fs → AreInFlight after_full (with_flight fs w Over)
+  over_flights fs m st fl = set_in_flight same always s after_full w (h.0, h.1) fs m st fl (with_flight fs w Over) Idle within refl (λ i x n b. b) (λ x b. flight_here fs w Over) (λ i n. flight_apart fs w i Over n)
 
   -- on the map it is refused before it took effect
   pub refused_map : (fs : Flights V) (m : Pairs V) → AreInFlight s fs → (noise : Noise Id V) (rep : Report V) → rep ≡ quiet OfCollector (Refused JournalFull)
@@ -62,13 +62,13 @@ module _ {V : Type 0} (same : V → V → Bool) (always : Bool) (s : World V) (w
       subst P (sym waits) (subst Q (sym q) (record { next = Over; step = inr (record { full = refl; undecided = refl; over = refl; no_entry = refl; same_pairs = refl }); advances = refl }))
 
   -- the other calls are watched as before, and the refused one no longer
-  pub refused_flights : (fs : Flights V) (m : Pairs V) → IsMapOf (nodes s.forest) m → AreInFlight s fs → AreInFlight given_up (with_flight fs w Over)
+  pub refused_flights : (fs : Flights V) (m : Pairs V) → IsMapOf (nodes s.forest) m → AreInFlight s fs → AreInFlight after_full (with_flight fs w Over)
   refused_flights fs m st fl = over_flights fs m st fl
 
   abbrev here : IsLogged same always s
   here = h.2
 
-  apart : Apart (engine_of s) (engine_of given_up) w
+  apart : Apart (engine_of s) (engine_of after_full) w
   apart = record { calls = one_set s.calls (set s.calls w Idle) w Idle refl; machines = one_same s.machines s.machines w refl }
 
   still_counted : places_of s.calls s.machines ≡ places_of (set s.calls w Idle) s.machines
@@ -76,9 +76,9 @@ module _ {V : Type 0} (same : V → V → Bool) (always : Bool) (s : World V) (w
       let b : has_place (slice_get s.calls w) (slice_get s.machines w) ≡ false = reserving_none same always (engine_of s) w (h.0, h.1) here.flights (record { each = here.in_flight.each; beyond = here.in_flight.beyond }) (slice_get s.calls w) (slice_get s.machines w) r in
       let a : has_place (slice_get (set s.calls w Idle) w) (slice_get s.machines w) ≡ false = ap (λ k. has_place k (slice_get s.machines w)) idle_here in
       let P : Bool → Bool → Type 0 = λ x y. counted x y (places_of s.calls s.machines) ≡ places_of (set s.calls w Idle) s.machines in
-      subst (λ x. P false x) a (subst (λ x. P x (has_place (slice_get (set s.calls w Idle) w) (slice_get s.machines w))) b (places_counted (engine_of s) (engine_of given_up) w h.0.machines apart))
+      subst (λ x. P false x) a (subst (λ x. P x (has_place (slice_get (set s.calls w Idle) w) (slice_get s.machines w))) b (places_counted (engine_of s) (engine_of after_full) w h.0.machines apart))
 
-  given_logged : IsLogged same always given_up
+  given_logged : IsLogged same always after_full
   given_logged = record {
     room = here.room;
     copies = here.copies;
@@ -93,9 +93,9 @@ module _ {V : Type 0} (same : V → V → Bool) (always : Bool) (s : World V) (w
   }
 
   -- what is written down still fits the calls in flight and the pairs
-  pub gives_up_logged : (s' : World V) → s' ≡ given_up → IsLogged same always s'
-  gives_up_logged s' e = let P : World V → Type 0 = λ y. IsLogged same always y in subst P (sym e) given_logged
+  pub after_full_logged : (s' : World V) → s' ≡ after_full → IsLogged same always s'
+  after_full_logged s' e = let P : World V → Type 0 = λ y. IsLogged same always y in subst P (sym e) given_logged
 
   -- the worker has no call in flight, as the report says
-  pub gives_up_flight : (s' : World V) (rep : Report V) → s' ≡ given_up → rep ≡ quiet OfCollector (Refused JournalFull) → is_busy (slice_get s'.calls w) ≡ is_in_flight rep.outcome
-  gives_up_flight s' rep e q = ap (λ y. is_busy (slice_get y.calls w)) e ∙ ap is_busy idle_here ∙ sym (ap (λ y. is_in_flight y.outcome) q)
+  pub after_full_flight : (s' : World V) (rep : Report V) → s' ≡ after_full → rep ≡ quiet OfCollector (Refused JournalFull) → is_busy (slice_get s'.calls w) ≡ is_in_flight rep.outcome
+  after_full_flight s' rep e q = ap (λ y. is_busy (slice_get y.calls w)) e ∙ ap is_busy idle_here ∙ sym (ap (λ y. is_in_flight y.outcome) q)

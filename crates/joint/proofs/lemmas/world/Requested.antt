@@ -82,35 +82,35 @@ module _ {V : Type 0} where
   phase_replied k kind v phase.Ended = refl
   phase_replied k kind v _ = refl
 
-  -- a request that is heard is of the same call with the value that it has then
-  hear_none : (op : Op V) (answer : Option (Option V)) (kd : Kind V) (v : Option V) (p : Point V) → target op ≡ Tree p → (parts p).1 ≡ kd → Asking kd → value_of op answer ≡ v
+  -- a request that takes its answer is of the same call with the value that it has then
+  answer_none : (op : Op V) (answer : Option (Option V)) (kd : Kind V) (v : Option V) (p : Point V) → target op ≡ Tree p → (parts p).1 ≡ kd → Asking kd → value_of op answer ≡ v
       → value_of op (with_answer (Some None) (record { op = op; answer = answer })).answer ≡ (value_answered kd (Asked None) (Some None) v)
-  hear_none (ComputePresent k) answer kd v p t e a q =
+  answer_none (ComputePresent k) answer kd v p t e a q =
       let i : point.ComputePresent k ≡ p = cc in
       let P : Kind V → Type 0 = λ x. None ≡ value_answered x (Asked None) (Some None) v in
       subst P (ap (λ (y : Point V). (parts y).1) i ∙ e) refl
-  hear_none (ComputeInsert k) answer kd v p t e a q =
+  answer_none (ComputeInsert k) answer kd v p t e a q =
       let i : point.ComputeInsert k ≡ p = cc in
       let P : Kind V → Type 0 = λ x. value_of (ComputeInsert k) answer ≡ value_answered x (Asked None) (Some None) v in
       subst P (ap (λ (y : Point V). (parts y).1) i ∙ e) q
-  hear_none (Get k) answer kd v p t e a q = absurd (let i : point.Get k ≡ p = cc in subst (λ (x : Kind V). Asking x) (sym (ap (λ (y : Point V). (parts y).1) i ∙ e)) a)
-  hear_none (Insert k w) answer kd v p t e a q = absurd (let i : point.Insert k w ≡ p = cc in subst (λ (x : Kind V). Asking x) (sym (ap (λ (y : Point V). (parts y).1) i ∙ e)) a)
-  hear_none (Remove k) answer kd v p t e a q = absurd (let i : point.Remove k ≡ p = cc in subst (λ (x : Kind V). Asking x) (sym (ap (λ (y : Point V). (parts y).1) i ∙ e)) a)
-  hear_none (Exchange k old new) answer kd v p t e a q = absurd (let i : point.Exchange k old new ≡ p = cc in subst (λ (x : Kind V). Asking x) (sym (ap (λ (y : Point V). (parts y).1) i ∙ e)) a)
-  hear_none (Range start end size) answer kd v p t e a q = absurd (let i : point.Range start end size ≡ p = cc in subst (λ (x : Kind V). Asking x) (sym (ap (λ (y : Point V). (parts y).1) i ∙ e)) a)
-  hear_none (RangeInclusive start last size) answer kd v p t e a q = absurd (let i : point.RangeInclusive start last size ≡ p = cc in subst (λ (x : Kind V). Asking x) (sym (ap (λ (y : Point V). (parts y).1) i ∙ e)) a)
-  hear_none _ answer kd v p t e a q = absurd (cc t)
+  answer_none (Get k) answer kd v p t e a q = absurd (let i : point.Get k ≡ p = cc in subst (λ (x : Kind V). Asking x) (sym (ap (λ (y : Point V). (parts y).1) i ∙ e)) a)
+  answer_none (Insert k w) answer kd v p t e a q = absurd (let i : point.Insert k w ≡ p = cc in subst (λ (x : Kind V). Asking x) (sym (ap (λ (y : Point V). (parts y).1) i ∙ e)) a)
+  answer_none (Remove k) answer kd v p t e a q = absurd (let i : point.Remove k ≡ p = cc in subst (λ (x : Kind V). Asking x) (sym (ap (λ (y : Point V). (parts y).1) i ∙ e)) a)
+  answer_none (Exchange k old new) answer kd v p t e a q = absurd (let i : point.Exchange k old new ≡ p = cc in subst (λ (x : Kind V). Asking x) (sym (ap (λ (y : Point V). (parts y).1) i ∙ e)) a)
+  answer_none (Range start end size) answer kd v p t e a q = absurd (let i : point.Range start end size ≡ p = cc in subst (λ (x : Kind V). Asking x) (sym (ap (λ (y : Point V). (parts y).1) i ∙ e)) a)
+  answer_none (RangeInclusive start last size) answer kd v p t e a q = absurd (let i : point.RangeInclusive start last size ≡ p = cc in subst (λ (x : Kind V). Asking x) (sym (ap (λ (y : Point V). (parts y).1) i ∙ e)) a)
+  answer_none _ answer kd v p t e a q = absurd (cc t)
 
-  hear_some : (op : Op V) (x : V) (kd : Kind V) (p : Point V) → target op ≡ Tree p → (parts p).1 ≡ kd → Asking kd → value_of op (Some (Some x)) ≡ Some x
-  hear_some (ComputePresent k) x kd p t e a = refl
-  hear_some (ComputeInsert k) x kd p t e a = refl
-  hear_some (Get k) x kd p t e a = absurd (let i : point.Get k ≡ p = cc in subst (λ (y : Kind V). Asking y) (sym (ap (λ (y : Point V). (parts y).1) i ∙ e)) a)
-  hear_some (Insert k w) x kd p t e a = absurd (let i : point.Insert k w ≡ p = cc in subst (λ (y : Kind V). Asking y) (sym (ap (λ (y : Point V). (parts y).1) i ∙ e)) a)
-  hear_some (Remove k) x kd p t e a = absurd (let i : point.Remove k ≡ p = cc in subst (λ (y : Kind V). Asking y) (sym (ap (λ (y : Point V). (parts y).1) i ∙ e)) a)
-  hear_some (Exchange k old new) x kd p t e a = absurd (let i : point.Exchange k old new ≡ p = cc in subst (λ (y : Kind V). Asking y) (sym (ap (λ (y : Point V). (parts y).1) i ∙ e)) a)
-  hear_some (Range start end size) x kd p t e a = absurd (let i : point.Range start end size ≡ p = cc in subst (λ (y : Kind V). Asking y) (sym (ap (λ (y : Point V). (parts y).1) i ∙ e)) a)
-  hear_some (RangeInclusive start last size) x kd p t e a = absurd (let i : point.RangeInclusive start last size ≡ p = cc in subst (λ (y : Kind V). Asking y) (sym (ap (λ (y : Point V). (parts y).1) i ∙ e)) a)
-  hear_some _ x kd p t e a = absurd (cc t)
+  answer_some : (op : Op V) (x : V) (kd : Kind V) (p : Point V) → target op ≡ Tree p → (parts p).1 ≡ kd → Asking kd → value_of op (Some (Some x)) ≡ Some x
+  answer_some (ComputePresent k) x kd p t e a = refl
+  answer_some (ComputeInsert k) x kd p t e a = refl
+  answer_some (Get k) x kd p t e a = absurd (let i : point.Get k ≡ p = cc in subst (λ (y : Kind V). Asking y) (sym (ap (λ (y : Point V). (parts y).1) i ∙ e)) a)
+  answer_some (Insert k w) x kd p t e a = absurd (let i : point.Insert k w ≡ p = cc in subst (λ (y : Kind V). Asking y) (sym (ap (λ (y : Point V). (parts y).1) i ∙ e)) a)
+  answer_some (Remove k) x kd p t e a = absurd (let i : point.Remove k ≡ p = cc in subst (λ (y : Kind V). Asking y) (sym (ap (λ (y : Point V). (parts y).1) i ∙ e)) a)
+  answer_some (Exchange k old new) x kd p t e a = absurd (let i : point.Exchange k old new ≡ p = cc in subst (λ (y : Kind V). Asking y) (sym (ap (λ (y : Point V). (parts y).1) i ∙ e)) a)
+  answer_some (Range start end size) x kd p t e a = absurd (let i : point.Range start end size ≡ p = cc in subst (λ (y : Kind V). Asking y) (sym (ap (λ (y : Point V). (parts y).1) i ∙ e)) a)
+  answer_some (RangeInclusive start last size) x kd p t e a = absurd (let i : point.RangeInclusive start last size ≡ p = cc in subst (λ (y : Kind V). Asking y) (sym (ap (λ (y : Point V). (parts y).1) i ∙ e)) a)
+  answer_some _ x kd p t e a = absurd (cc t)
 
   -- the question is settled by no value too, but where one is wanted
   none_settles : (op : Op V) (answer : Option (Option V)) (kd : Kind V) (found : Option V) (p : Point V) → target op ≡ Tree p → (parts p).1 ≡ kd → Asking kd
@@ -131,7 +131,7 @@ module _ {V : Type 0} where
   none_settles (RangeInclusive start last size) answer kd found p t e a = absurd (let i : point.RangeInclusive start last size ≡ p = cc in subst (λ (x : Kind V). Asking x) (sym (ap (λ (y : Point V). (parts y).1) i ∙ e)) a)
   none_settles _ answer kd found p t e a = absurd (cc t)
 
-  -- what the step of a call hears
+  -- the answer that the step of a call takes
   pub record TakesAnswer (o : Option (Request V)) (k : ℕ) (kd : Kind V) (v : Option V) (u : Question V) : Type 0 where
     pub request : Request V
     pub is : o ≡ Some request
@@ -139,21 +139,21 @@ module _ {V : Type 0} where
     pub question : IsQuestionOf kd u request.answer
 
   -- a request that hears the answer of a step is of the call with its value and question after that step
-  pub heard_is : (q : Request V) (k : ℕ) (kd : Kind V) (v : Option V) (u : Question V) (answer : Option (Option V)) → IsRequestOf q k kd v → IsQuestionOf kd u q.answer
+  pub answered_is : (q : Request V) (k : ℕ) (kd : Kind V) (v : Option V) (u : Question V) (answer : Option (Option V)) → IsRequestOf q k kd v → IsQuestionOf kd u q.answer
       → TakesAnswer (answered_if (is_asked u) answer (Some q)) k kd (value_answered kd u answer v) (resolved kd u answer)
-  heard_is q k kd v Unasked answer r a = record { request = q; is = refl; of = r; question = a }
-  heard_is q k kd v (Replied o) answer r a = record { request = q; is = refl; of = r; question = a }
-  heard_is q k kd v (Asked o) None r a = record { request = q; is = refl; of = r; question = a }
-  heard_is q k kd v (Asked o) (Some None) r a = record {
+  answered_is q k kd v Unasked answer r a = record { request = q; is = refl; of = r; question = a }
+  answered_is q k kd v (Replied o) answer r a = record { request = q; is = refl; of = r; question = a }
+  answered_is q k kd v (Asked o) None r a = record { request = q; is = refl; of = r; question = a }
+  answered_is q k kd v (Asked o) (Some None) r a = record {
     request = with_answer (Some None) q;
     is = refl;
-    of = record { point = r.point; on_tree = r.on_tree; on_key = r.on_key; key = r.key; same_kind = r.same_kind; value = hear_none q.op q.answer kd v r.point r.on_tree r.same_kind a r.value };
+    of = record { point = r.point; on_tree = r.on_tree; on_key = r.on_key; key = r.key; same_kind = r.same_kind; value = answer_none q.op q.answer kd v r.point r.on_tree r.same_kind a r.value };
     question = none_settles q.op q.answer kd o r.point r.on_tree r.same_kind a;
   }
-  heard_is q k kd v (Asked o) (Some (Some x)) r a = record {
+  answered_is q k kd v (Asked o) (Some (Some x)) r a = record {
     request = with_answer (Some (Some x)) q;
     is = refl;
-    of = record { point = r.point; on_tree = r.on_tree; on_key = r.on_key; key = r.key; same_kind = r.same_kind; value = hear_some q.op x kd r.point r.on_tree r.same_kind a };
+    of = record { point = r.point; on_tree = r.on_tree; on_key = r.on_key; key = r.key; same_kind = r.same_kind; value = answer_some q.op x kd r.point r.on_tree r.same_kind a };
     question = refl;
   }
 
@@ -252,7 +252,7 @@ module _ {V : Type 0} where
   begins_asked op (point.ComputeInsert k) t = begins_as op (point.ComputeInsert k) t tt
   begins_asked op (point.Exchange k old new) t = begins_as op (point.Exchange k old new) t tt
 
-  -- a step that doesn't decide leaves the request of a call that stays in flight as it was heard
+  -- a step that doesn't decide leaves the request of a call that stays in flight as it took its answer
   carried : (o : Option (Request V)) (k : ℕ) (kd : Kind V) (v : Option V) (q q' : Question V) → TakesAnswer o k kd v q → Carries q q' → IsAsked o (Pending k kd v q')
   carried o k kd v q Unasked h c = (h.request, h.is, h.of, tt)
   carried o k kd v q (Replied x) h c = (h.request, h.is, h.of, subst (λ u. IsQuestionOf kd u h.request.answer) c h.question)
