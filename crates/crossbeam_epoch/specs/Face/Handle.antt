@@ -10,7 +10,7 @@ use Rattle.crossbeam_epoch.specs.declared.fault.Fault.TheVariants.{Foreign, Memo
 use Rattle.crossbeam_epoch.specs.Face.Participant.{Handle}
 use Rattle.crossbeam_epoch.specs.Limits.{bag_places}
 
--- so many guards of a handle's seat are out, and a guard of this seat is one of them
+-- so many guards of a handle's row are out, and a guard of this row is one of them
 abbrev pub owns : ℕ → Row → Row → Bool
 owns guards handle guard = nat_lt 0 guards && nat_eq guard.collector handle.collector && nat_eq guard.place handle.place
 

@@ -126,7 +126,7 @@ own_guard b A B own a = rw own a
 pub other_guard : (b : Bool) (A B : Type 0) → b ≡ false → B → MatchBool b A B
 other_guard b A B other x = rw other x
 
--- a guard of a handle is still its own where the handle has the seat and the number of guards that it had
+-- a guard of a handle is still its own where the handle has the row and the number of guards that it had
 pub still_own : (n m : ℕ) (mine was guard : Row) → n ≡ m → mine ≡ was → owns m was guard ≡ true → owns n mine guard ≡ false → ⊥
 still_own n m mine was guard same place own other = true≢false (sym own ∙ sym (ap (λ (k : ℕ). owns k was guard) same) ∙ sym (ap (λ (x : Row). owns n x guard) place) ∙ other)
 
