@@ -388,10 +388,10 @@ stops_too_long (Some input) mid left held between holds fresh over rest p s g c 
     )
 
 -- the script goes on
-pub goes_on : (had mid left held between holds : Option (List ℕ)) (fresh over rest : List ℕ) (p new : Program) → Going had mid held between p → Consumes mid left (fresh ++ over)
+pub script_goes_on : (had mid left held between holds : Option (List ℕ)) (fresh over rest : List ℕ) (p new : Program) → Going had mid held between p → Consumes mid left (fresh ++ over)
     → (l : LinesGo p.script between (p.unread.items ++ fresh) new.script holds rest) → NoFeed rest → length rest ≤ 1000 → new.unread.items ≡ rest → length over ≡ 0
     → new.taken ≡ p.taken + length fresh → new.taken ≤ input_max → Going had left held holds new
-goes_on had mid left held between holds fresh over rest p new g c l unfed short u none taken bound =
+script_goes_on had mid left held between holds fresh over rest p new g c l unfed short u none taken bound =
     let N : List ℕ → Type 0 = NoFeed in
     let L : List ℕ → Type 0 = λ r. length r ≤ 1000 in
     record {

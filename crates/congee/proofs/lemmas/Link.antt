@@ -3,7 +3,7 @@ use Rattle.std.proofs.Common.{◌≡◌, ◌≢◌, ℕ, suc, ◌<◌, ◌≤◌
 use Rattle.std.specs.Prelude.{None, Some}
 use Rattle.congee.specs.Heap.{Hung, Nothing, Below, Holds, Node, fits, child_for, walk, value_at}
 use Rattle.congee.specs.Notes.{Linked, Note, IsChild, HasParent, Tree}
-use Rattle.congee.proofs.lemmas.Fits.{fits_byte, same_key, both_true, and_true, equal, same_test}
+use Rattle.congee.proofs.lemmas.Fits.{fits_byte, same_key, both_true, and_true, equal_of_test, same_test}
 use Rattle.congee.proofs.lemmas.Tree.{same_or_not, enter, finds}
 use Rattle.congee.proofs.lemmas.Graft.{Graft, old_down, old_leaves, old_up, untouched, on_test}
 
@@ -81,7 +81,7 @@ fits_between (x ∷ p) (y ∷ q) [] a b l = absurd cc
 fits_between (x ∷ p) (y ∷ q) (z ∷ key) a b l =
     let a' : (x == z ≡ true) × (fits p key ≡ true) = both_true _ _ a in
     let b' : (y == z ≡ true) × (fits q key ≡ true) = both_true _ _ b in
-    let e : x ≡ y = equal x z a'.0 ∙ sym (equal y z b'.0) in
+    let e : x ≡ y = equal_of_test x z a'.0 ∙ sym (equal_of_test y z b'.0) in
     and_true _ _ (let P : ℕ → Type 0 = λ w. x == w ≡ true in subst P e (same_test x x refl)) (fits_between p q key a'.1 b'.1 (omega arith))
 
 -- the nodes are a tree after a leaf came in

@@ -7,7 +7,7 @@ use Rattle.std.specs.FinMap as map
 use Rattle.std.specs.FinMap.Entries.{below_all}
 use Rattle.congee.specs.forms.Bytes.{IsFirst}
 use Rattle.congee.specs.forms.Mapped.{pairs_by, mapped}
-use Rattle.congee.proofs.lemmas.Fits.{equal}
+use Rattle.congee.proofs.lemmas.Fits.{equal_of_test}
 use Rattle.congee.proofs.lemmas.forms.MapLemmas.{same_is}
 
 module _ {X Y : Type 0} (f : ℕ → X → Y) where
@@ -29,7 +29,7 @@ module _ {X Y : Type 0} (f : ℕ → X → Y) where
     where
       of : (t : Bool) → eq_by_cmp nat_cmp q b ≡ t → map.find nat_cmp q (pairs_by f es) ≡ option_map (f q) (map.find nat_cmp q es)
           → cond t (Some (f b x)) (map.find nat_cmp q (pairs_by f es)) ≡ option_map (f q) (cond t (Some x) (map.find nat_cmp q es))
-      of true e later = let p : q ≡ b = equal q b (sym (same_is q b) ∙ e) in ap (λ k. Some (f k x)) (sym p)
+      of true e later = let p : q ≡ b = equal_of_test q b (sym (same_is q b) ∙ e) in ap (λ k. Some (f k x)) (sym p)
       of false e later = later
 
   entries_mapped : (m : map.FinMap nat_cmp X) → map.entries (mapped f m) ≡ pairs_by f (map.entries m)
@@ -59,7 +59,7 @@ module _ {X Y : Type 0} (f : ℕ → X → Y) where
       get_mapped (map.insert m k x) q ∙ (ap (option_map (f q)) (map.get-insert nat_cmp_total m k x q) ∙ (of q (eq_by_cmp nat_cmp q k) refl ∙ sym (map.get-insert nat_cmp_total (mapped f m) k (f k x) q))))
     where
       of : (q : ℕ) (t : Bool) → eq_by_cmp nat_cmp q k ≡ t → option_map (f q) (cond t (Some x) (map.get m q)) ≡ cond t (Some (f k x)) (map.get (mapped f m) q)
-      of q true e = let p : q ≡ k = equal q k (sym (same_is q k) ∙ e) in ap (λ n. Some (f n x)) p
+      of q true e = let p : q ≡ k = equal_of_test q k (sym (same_is q k) ∙ e) in ap (λ n. Some (f n x)) p
       of q false e = sym (get_mapped m q)
 
   -- a pair taken out before the change is taken out after it

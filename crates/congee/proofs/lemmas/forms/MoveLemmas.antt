@@ -129,8 +129,8 @@ pub record IsPouring {C P : Type 0} (old empty left moved : Node C P) (from : �
 
 module _ {C P : Type 0} where
   -- a node with fewer children than its form has places isn't full
-  pub has_room : (n : Node C P) → map.len (children_of n) < capacity_of (form_of n) → is_full_of n ≡ false
-  has_room (N4 n) l = grind (arith, nat_tests, l)
-  has_room (N16 n) l = grind (arith, nat_tests, l)
-  has_room (N48 n) l = grind (arith, nat_tests, l)
-  has_room (N256 n) l = refl
+  pub is_full_of_room : (n : Node C P) → map.len (children_of n) < capacity_of (form_of n) → is_full_of n ≡ false
+  is_full_of_room (N4 n) l = grind (arith, nat_tests, l)
+  is_full_of_room (N16 n) l = grind (arith, nat_tests, l)
+  is_full_of_room (N48 n) l = grind (arith, nat_tests, l)
+  is_full_of_room (N256 n) l = refl

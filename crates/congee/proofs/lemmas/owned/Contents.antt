@@ -81,9 +81,9 @@ module _ {P A K : Type 0} (same : P → P → Bool) (charged limit : A → ℕ) 
   grown before v a = a.bytes ∙ ap (λ z. bytes_of old.nodes + gain_of z) (ap (wants_at (heap_of old.nodes)) is ∙ sym (get_wants old.nodes k small))
 
   -- and those that go
-  pub went : {Y : Type 0} (by : Option Y) (before after : Option P) → Frees charged limit old new key before after (going_by by (goes_at (heap_of old.nodes) key))
+  pub frees_going : {Y : Type 0} (by : Option Y) (before after : Option P) → Frees charged limit old new key before after (going_by by (goes_at (heap_of old.nodes) key))
       → Went (charged old.allocator) (limit old.allocator) (bytes_of old.nodes) (bytes_of new.nodes) (going_by by (map.get (goes_of old.nodes) k))
-  went by before after f =
+  frees_going by before after f =
       subst (λ z. Went (charged old.allocator) (limit old.allocator) (bytes_of old.nodes) (bytes_of new.nodes) (going_by by z)) (ap (goes_at (heap_of old.nodes)) is ∙ sym (get_goes old.nodes k small)) f.bytes
 
   -- and what is left then, if no lesser node was skipped
@@ -170,7 +170,7 @@ module _ {A D : Type 0} (charged limit : A → ℕ) (d : D) (old new : Arena ℕ
         → Modifies nat_eq charged limit (content charged d old) (content charged d new) (map.get (goes_of old.nodes) k) (call.Remove k) (reply.Remove before)
     removes before f = record {
       answers = remove_told nat_eq charged limit old new k small key is before _ f;
-      bytes = went nat_eq charged limit old new k small key is {Y = ℕ} None before None f;
+      bytes = frees_going nat_eq charged limit old new k small key is {Y = ℕ} None before None f;
       filled = filled_still nat_eq charged limit old new k small key is {Y = ℕ} None before None f;
       keeps = keeps f.edits.balance f.edits.same_limit;
     }
@@ -181,7 +181,7 @@ module _ {A D : Type 0} (charged limit : A → ℕ) (d : D) (old new : Arena ℕ
         → Modifies nat_eq charged limit (content charged d old) (content charged d new) (going_by after (map.get (goes_of old.nodes) k)) (call.ComputePresent k after) (reply.ComputePresent (Some (v, after)))
     settles r v after found f = record {
       answers = present_told nat_eq charged limit old new k small key is r v after _ found f;
-      bytes = went nat_eq charged limit old new k small key is after r (settled r after) f;
+      bytes = frees_going nat_eq charged limit old new k small key is after r (settled r after) f;
       filled = filled_still nat_eq charged limit old new k small key is after r (settled r after) f;
       keeps = keeps f.edits.balance f.edits.same_limit;
     }
@@ -193,7 +193,7 @@ module _ {A D : Type 0} (charged limit : A → ℕ) (d : D) (old new : Arena ℕ
     exchanges r v after found f = record {
       answers = answer_pairs nat_eq old.nodes new.nodes (call.Exchange k v after) (reply.Exchange (Ok after))
           (exchange_done old.nodes new.nodes k small v after (present_at nat_eq charged limit old new k small key is r v after _ found f));
-      bytes = went nat_eq charged limit old new k small key is after r (settled r after) f;
+      bytes = frees_going nat_eq charged limit old new k small key is after r (settled r after) f;
       filled = filled_still nat_eq charged limit old new k small key is after r (settled r after) f;
       keeps = keeps f.edits.balance f.edits.same_limit;
     }

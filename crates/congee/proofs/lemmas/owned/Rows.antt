@@ -31,13 +31,13 @@ use Rattle.congee.specs.declared.owned.sight.Stem.{Stem}
 use Rattle.congee.specs.declared.owned.writing.Written.{Written}
 use Rattle.congee.proofs.lemmas.forms.MappedLemmas.{first_mapped, none_mapped}
 use Rattle.congee.proofs.lemmas.forms.SortedLemmas.{IsPlaceOf, is_byte, is_first, none_from}
-use Rattle.congee.proofs.lemmas.owned.Cursors.{child_there, nothing_blank, step}
+use Rattle.congee.proofs.lemmas.owned.Cursors.{child_there, nothing_blank, branch_at}
 use Rattle.congee.proofs.lemmas.owned.Entering.{children_at, prefix_at}
 use Rattle.congee.proofs.lemmas.forms.Ranks.{rising_of}
 use Rattle.congee.proofs.lemmas.owned.Sights.{inline_found, inner_first, inner_last}
 use Rattle.congee.proofs.lemmas.owned.Standing.{standing}
 use Rattle.congee.proofs.lemmas.owned.Surveys.{child_stands}
-use Rattle.congee.proofs.lemmas.owned.Writings.{SoFar, Wrote, WritesPair, filled_more, fills_nothing, fills_one, goes_on, sets_out, wrote_leaf, wrote_node}
+use Rattle.congee.proofs.lemmas.owned.Writings.{SoFar, Wrote, WritesPair, filled_more, fills_nothing, fills_one, so_far_on, sets_out, wrote_leaf, wrote_node}
 
 -- children in the order of their bytes, from a place on
 module _ {X : Type 0} {ks : List ℕ} {ys : List X} (ok : IsSorted ks ys) where
@@ -193,7 +193,7 @@ module _ {P E : Type 0} (s : Nodes P) (put : ℕ → P → E) (last : ℕ) (t : 
     on = λ above from way here.
         let o = so.on above from way here in
         let r = writes above o.rest.from o.way o.rest.at in
-        (r.0, subst (Remains s put last (above ++ step at (b + 1) ∷ []) new w) o.rest.pairs r.1);
+        (r.0, subst (Remains s put last (above ++ branch_at at (b + 1) ∷ []) new w) o.rest.pairs r.1);
   }
 
 -- the pairs below the first entries of a list are written
@@ -235,5 +235,5 @@ module _ {P E : Type 0} (s : Nodes P) (put : ℕ → P → E) (last : ℕ) (stem
       list_on t after w d o = record {
         byte = d.byte + 1;
         rest = d.rest;
-        so = goes_on s put last t (257 * stem.slot) seen.from first old d.byte after w d.wrote o;
+        so = so_far_on s put last t (257 * stem.slot) seen.from first old d.byte after w d.wrote o;
       }

@@ -26,7 +26,7 @@ use Rattle.congee.specs.declared.owned.slots.Slot.TheVariants.{Inner, Leaf}
 use Rattle.congee.proofs.lemmas.Fits.{fits_byte}
 use Rattle.congee.proofs.lemmas.Keys.{key_length}
 use Rattle.congee.proofs.lemmas.Link.{Leaf as LeafAt}
-use Rattle.congee.proofs.lemmas.Orders.{byte_small, same_bytes, top, top_step}
+use Rattle.congee.proofs.lemmas.Orders.{byte_small, same_bytes, first_bytes, top_step}
 use Rattle.congee.proofs.lemmas.forms.MappedLemmas.{first_mapped, none_mapped}
 use Rattle.congee.proofs.lemmas.forms.Prefixes.{fits_every}
 use Rattle.congee.proofs.lemmas.owned.Joins.{leaf_of}
@@ -119,14 +119,14 @@ module _ {P : Type 0} (s : Nodes P) (at : ℕ) where
   leaf_key least b key n k low e =
       let seven : length (prefix_of n) ≡ 7 = k.seven in
       let ends : get_or (key_bytes least) 7 0 ≡ 0 = k.ends in
-      let x : top least 8 ≡ 256 * top least 7 + get_or (key_bytes least) 7 0 = top_step least 7 (omega arith) in
-      let y : top key 8 ≡ 256 * top key 7 + get_or (key_bytes key) 7 0 = top_step key 7 (omega arith) in
-      let u : top least 8 ≡ least = div-one least in
-      let w : top key 8 ≡ key = div-one key in
+      let x : first_bytes least 8 ≡ 256 * first_bytes least 7 + get_or (key_bytes least) 7 0 = top_step least 7 (omega arith) in
+      let y : first_bytes key 8 ≡ 256 * first_bytes key 7 + get_or (key_bytes key) 7 0 = top_step key 7 (omega arith) in
+      let u : first_bytes least 8 ≡ least = div-one least in
+      let w : first_bytes key 8 ≡ key = div-one key in
       let small = byte_small key 7 (omega arith) in
-      let q : least ≡ top least 7 * 2 ^ 8 = omega (arith, x, u, ends) in
-      let sum : key ≡ least + b = e ∙ (ap (λ z. bit_or z b) q ∙ (or_shifted (top least 7) 8 b low ∙ ap (λ z. z + b) (sym q))) in
-      let same : top key 7 ≡ top least 7 = omega (arith, sum, q, y, w, small, low) in
+      let q : least ≡ first_bytes least 7 * 2 ^ 8 = omega (arith, x, u, ends) in
+      let sum : key ≡ least + b = e ∙ (ap (λ z. bit_or z b) q ∙ (or_shifted (first_bytes least 7) 8 b low ∙ ap (λ z. z + b) (sym q))) in
+      let same : first_bytes key 7 ≡ first_bytes least 7 = omega (arith, sum, q, y, w, small, low) in
       let last : get_or (key_bytes key) 7 0 ≡ b = omega (arith, sum, q, y, w, same) in
       let p : (heap_of s at).prefix ≡ prefix_of n = ap (λ o. (node_of o).prefix) k.is ∙ with_prefix leaf_child n in
       let fitted : fits (prefix_of n) (key_bytes key) ≡ true =

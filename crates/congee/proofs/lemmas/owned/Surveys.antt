@@ -123,9 +123,9 @@ module _ {P : Type 0} (s : Nodes P) where
     pub levels : vec_len old.levels ≤ vec_len new.levels
 
   -- the node alone
-  pub begun : (old new : NodeStats) (level : ℕ) (x : Form ℕ P) → Counts old new level (form_of x) (map.len (children_of x)) → Counted old new level x 0
+  pub node_counted : (old new : NodeStats) (level : ℕ) (x : Form ℕ P) → Counts old new level (form_of x) (map.len (children_of x)) → Counted old new level x 0
   unfolding under_bytes
-  begun old new level x counts = record {
+  node_counted old new level x counts = record {
     bound = omega arith;
     tally = λ seen is. IsTally-counted old new (shape_of level x) counts seen 0 is;
     opened = let e = counts.levels in omega (arith, e);
@@ -198,9 +198,9 @@ module _ {P : Type 0} (s : Nodes P) where
       (λ seen has. subst (λ l. IsTally mid l 0) (sym (ap (λ l. seen ++ l) (value_adds n x from b y level t h e first other) ∙ append-nil seen)) has)
 
   -- no child is left
-  pub ended : (old new : NodeStats) (level n : ℕ) (x : Form ℕ P) (from : ℕ) → IsTree s → ContainsKey s n → get s n ≡ Some x → Counted old new level x from
+  pub survey_counted : (old new : NodeStats) (level n : ℕ) (x : Form ℕ P) (from : ℕ) → IsTree s → ContainsKey s n → get s n ≡ Some x → Counted old new level x from
       → ((b : ℕ) → from ≤ b → map.get (children_of x) b ≡ None) → (seen : List Shape) → IsTally old seen 0 → IsTally new (seen ++ nodes_from (get s) 8 level n) 0
-  ended old new level n x from t h e c none seen is =
+  survey_counted old new level n x from t h e c none seen is =
       let all : shape_of level x ∷ under_bytes (next level) (at_bytes x) from ≡ nodes_from (get s) 8 level n =
       ap (λ l. shape_of level x ∷ l) (sym (none_more (next level) (at_bytes x) from 256 c.bound (λ q lo hi. ap hung_in (none q lo)))) ∙ sym (nodes_at t level n x h e) in
       subst (λ l. IsTally new (seen ++ l) 0) all (c.tally seen is)

@@ -20,7 +20,7 @@ use Rattle.congee.specs.declared.forms.child.Child.{Child}
 use Rattle.congee.specs.declared.forms.child.Child.TheVariants.{Node as Sub, Value}
 use Rattle.congee.specs.declared.owned.scan.Branch.{Branch}
 use Rattle.congee.specs.declared.owned.writing.Written.{Written}
-use Rattle.congee.proofs.lemmas.owned.Cursors.{SameAhead, step, cursor_cut, ended}
+use Rattle.congee.proofs.lemmas.owned.Cursors.{SameAhead, branch_at, cursor_cut, none_ahead}
 use Rattle.congee.proofs.lemmas.owned.EntryRanges.{count_entries, no_room_left, take_entries}
 use Rattle.congee.proofs.lemmas.owned.RangeLemmas.{counted, range_none, range_first, pair_written, rest_kept, range_ended}
 use Rattle.congee.proofs.lemmas.owned.Walks.{Passes, goes_down, goes_up, passes_leaf, passes_value}
@@ -96,13 +96,13 @@ same_ahead s steps = record { same = λ q h. (λ a. a, λ a. a) }
 module _ {P E : Type 0} (s : Nodes P) (entry : ℕ → P → E) (last : ℕ) where
   -- the way to a node, with the pairs of its bytes below `byte` written
   pub record Ongoing (above : List Branch) (at byte count : ℕ) (out all : List E) : Type 0 where
-    pub way : IsCursor s (above ++ step at byte ∷ [])
-    pub rest : Continues s entry last (above ++ step at byte ∷ []) out count all
+    pub way : IsCursor s (above ++ branch_at at byte ∷ [])
+    pub rest : Continues s entry last (above ++ branch_at at byte ∷ []) out count all
 
   -- the pairs of a node's bytes from `start` to `byte` are written
   pub record SoFar (at start first : ℕ) (old : List E) (byte count : ℕ) (new : List E) : Type 0 where
     pub filled : Filled first count old new
-    pub on : (above : List Branch) (from : ℕ) → IsCursor s (above ++ step at start ∷ []) → IsAt s (above ++ step at start ∷ []) from
+    pub on : (above : List Branch) (from : ℕ) → IsCursor s (above ++ branch_at at start ∷ []) → IsAt s (above ++ branch_at at start ∷ []) from
         → Ongoing above at byte count new (with_pairs s entry last old first from)
 
   -- before the first of the bytes the pairs of none are written
@@ -167,8 +167,8 @@ module _ {P E : Type 0} (s : Nodes P) (entry : ℕ → P → E) (last : ℕ) whe
     -- what hangs in a node under a byte is written
     pub record Wrote (at start first : ℕ) (old : List E) (b : ℕ) (new : List E) (w : Written) : Type 0 where
       pub filled : Filled first w.count old new
-      pub on : (above : List Branch) (from : ℕ) → IsCursor s (above ++ step at start ∷ []) → IsAt s (above ++ step at start ∷ []) from
-          → IsCursor s (above ++ step at (b + 1) ∷ []) × Remains s entry last (above ++ step at (b + 1) ∷ []) new w (with_pairs s entry last old first from)
+      pub on : (above : List Branch) (from : ℕ) → IsCursor s (above ++ branch_at at start ∷ []) → IsAt s (above ++ branch_at at start ∷ []) from
+          → IsCursor s (above ++ branch_at at (b + 1) ∷ []) × Remains s entry last (above ++ branch_at at (b + 1) ∷ []) new w (with_pairs s entry last old first from)
 
     module _ (at start first : ℕ) (old : List E) (byte count : ℕ) (out : List E) (so : SoFar at start first old byte count out) where
       -- a pair
@@ -192,9 +192,9 @@ module _ {P E : Type 0} (s : Nodes P) (entry : ℕ → P → E) (last : ℕ) whe
           filled = filled_more first count old out new w so.filled (fills_pair key v new w p);
           on = λ above from way here.
               let o = so.on above from way here in
-              let steps = above ++ step at byte ∷ [] in
+              let steps = above ++ branch_at at byte ∷ [] in
               let passes = passes_value s t above at byte o.way steps (same_ahead s steps) b low key v large next has in
-              (passes.way, passed steps steps (above ++ step at (b + 1) ∷ []) key v count out (with_pairs s entry last old first from) new w passes o.rest p);
+              (passes.way, passed steps steps (above ++ branch_at at (b + 1) ∷ []) key v count out (with_pairs s entry last old first from) new w passes o.rest p);
         }
 
         -- the pair of a leaf in its parent's place, written next, is what hangs under its byte, written
@@ -204,9 +204,9 @@ module _ {P E : Type 0} (s : Nodes P) (entry : ℕ → P → E) (last : ℕ) whe
           filled = filled_more first count old out new w so.filled (fills_pair key v new w p);
           on = λ above from way here.
               let o = so.on above from way here in
-              let steps = above ++ step at byte ∷ [] in
+              let steps = above ++ branch_at at byte ∷ [] in
               let passes = passes_leaf s t above at byte o.way steps (same_ahead s steps) b low key below v large next leaf in
-              (passes.way, passed steps steps (above ++ step at (b + 1) ∷ []) key v count out (with_pairs s entry last old first from) new w passes o.rest p);
+              (passes.way, passed steps steps (above ++ branch_at at (b + 1) ∷ []) key v count out (with_pairs s entry last old first from) new w passes o.rest p);
         }
 
         -- a node with a slot of its own
@@ -216,11 +216,11 @@ module _ {P E : Type 0} (s : Nodes P) (entry : ℕ → P → E) (last : ℕ) whe
           filled = filled_more first count old out new w so.filled f;
           on = λ above from way here.
               let o = so.on above from way here in
-              let steps = above ++ step at byte ∷ [] in
-              let passed_by = above ++ step at (b + 1) ∷ [] in
+              let steps = above ++ branch_at at byte ∷ [] in
+              let passed_by = above ++ branch_at at (b + 1) ∷ [] in
               let down = goes_down s t above at byte o.way steps (same_ahead s steps) b low below next in
-              let rest = writes passed_by o.rest.from down.on.way (same_at s steps (passed_by ++ step below 0 ∷ []) o.rest.from down.on.same o.rest.at) in
-              (cursor_cut s passed_by (step below 0) down.on.way, subst (Remains s entry last passed_by new w) o.rest.pairs rest);
+              let rest = writes passed_by o.rest.from down.on.way (same_at s steps (passed_by ++ branch_at below 0 ∷ []) o.rest.from down.on.same o.rest.at) in
+              (cursor_cut s passed_by (branch_at below 0) down.on.way, subst (Remains s entry last passed_by new w) o.rest.pairs rest);
         }
 
       -- nothing is left in the node
@@ -228,7 +228,7 @@ module _ {P E : Type 0} (s : Nodes P) (entry : ℕ → P → E) (last : ℕ) whe
           → WritesNode s entry last at start first old out (record { count = count; over = false })
       wrote_all none above from way here =
           let o = so.on above from way here in
-          let steps = above ++ step at byte ∷ [] in
+          let steps = above ++ branch_at at byte ∷ [] in
           let up = goes_up s t above at byte o.way steps (same_ahead s steps) none in
           record {
             over = λ e. absurd (cc e);
@@ -247,8 +247,8 @@ module _ {P E : Type 0} (s : Nodes P) (entry : ℕ → P → E) (last : ℕ) whe
           record { over = λ e. both.1.over e; next = λ e. absurd (cc (o, e)) }
 
       -- or some may
-      pub goes_on : w.over ≡ false → SoFar at start first old (b + 1) w.count new
-      goes_on o = record {
+      pub so_far_on : w.over ≡ false → SoFar at start first old (b + 1) w.count new
+      so_far_on o = record {
         filled = did.filled;
         on = λ above from way here.
             let both = did.on above from way here in
@@ -256,11 +256,11 @@ module _ {P E : Type 0} (s : Nodes P) (entry : ℕ → P → E) (last : ℕ) whe
       }
 
     -- the node of the last step is written, then the steps above are left
-    pub up_from : (steps above : List Branch) (node byte : ℕ) (out new all : List E) (w now : Written) → steps ≡ above ++ step node byte ∷ [] → IsCursor s steps
+    pub up_from : (steps above : List Branch) (node byte : ℕ) (out new all : List E) (w now : Written) → steps ≡ above ++ branch_at node byte ∷ [] → IsCursor s steps
         → w.over ≡ false → Remains s entry last steps out w all → WritesNode s entry last node byte w.count out new now → Remains s entry last above new now all
     up_from steps above node byte out new all w now e way o rest writes =
         let c = rest.next o in
-        let there : IsAt s (above ++ step node byte ∷ []) c.from = subst (λ xs. IsAt s xs c.from) e c.at in
+        let there : IsAt s (above ++ branch_at node byte ∷ []) c.from = subst (λ xs. IsAt s xs c.from) e c.at in
         subst (Remains s entry last above new now) c.pairs (writes above c.from (subst (IsCursor s) e way) there)
 
     -- where no step is above, the places written are all that were to be
@@ -268,7 +268,7 @@ module _ {P E : Type 0} (s : Nodes P) (entry : ℕ → P → E) (last : ℕ) whe
     none_above steps out all w e o rest =
         let c = rest.next o in
         let there : IsAt s [] c.from = subst (λ xs. IsAt s xs c.from) e c.at in
-        none_more out all w.count c.from (λ q lo hi. ended s t [] c.from (same_ahead s []) there q lo) c.pairs
+        none_more out all w.count c.from (λ q lo hi. none_ahead s t [] c.from (same_ahead s []) there q lo) c.pairs
 
   -- a slice that nothing is written to yet is to have these pairs
   pub whole : (old : List E) (start : ℕ) → with_pairs s entry last old 0 start ≡ entries_by entry (take (length old) (in_range start (last + 1) (map.entries (pairs_of s))))

@@ -7,7 +7,7 @@ use Rattle.congee.specs.Heap.{Node, Hung, Nothing, Below, Holds, Stands, fits}
 use Rattle.congee.specs.protocol.Alike.{Ordered, HungAlike, NodeAlike, HeapAlike}
 use Rattle.congee.specs.protocol.Events.{SameBut, NewNode, weight, ChangeGives, HoldsValues, HoldsNodes, TakeOverGives, BackGives, ObsoleteGives, RetireGives, UnlockGives}
 use Rattle.congee.specs.protocol.PlainSteps.{put, lock, free, mark, hand, back, with_child, hang, copy, clear, new_node}
-use Rattle.congee.proofs.lemmas.Fits.{both_true, equal, same_test, other_test}
+use Rattle.congee.proofs.lemmas.Fits.{both_true, equal_of_test, same_test, other_test}
 use Rattle.congee.proofs.lemmas.Tree.{same_or_not}
 use Rattle.congee.proofs.lemmas.protocol.Leftovers.{kept_node, kept_value}
 
@@ -302,7 +302,7 @@ fits_take [] key f = refl
 fits_take (x ∷ p) [] f = absurd cc
 fits_take (x ∷ p) (y ∷ key) f =
     let b : (x == y ≡ true) × (fits p key ≡ true) = both_true _ _ f in
-    let e : x ≡ y = equal x y b.0 in
+    let e : x ≡ y = equal_of_test x y b.0 in
     let r : p ≡ take (length p) key = fits_take p key b.1 in
     ap (λ z. z ∷ p) e ∙ ap (λ z. y ∷ z) r
 

@@ -24,7 +24,7 @@ use Rattle.congee.specs.protocol.Regions.{span, IsRegion}
 use Rattle.congee.specs.protocol.Steps.{quiet, again, after_read}
 use Rattle.congee.specs.protocol.ScanEvents.{LeastTruly, LeastGives}
 use Rattle.congee.proofs.lemmas.Fits.{fits_byte, same_test, other_test}
-use Rattle.congee.proofs.lemmas.Orders.{top, top_step}
+use Rattle.congee.proofs.lemmas.Orders.{first_bytes, top_step}
 use Rattle.congee.proofs.lemmas.Tree.{same_or_not}
 use Rattle.congee.proofs.lemmas.protocol.Regions.{multiple}
 use Rattle.congee.proofs.lemmas.protocol.AlikeNextPhases.{quiet_alike, again_alike, alike_to}
@@ -187,21 +187,21 @@ module _ {C V : Type 0} (order : List ℕ) (number : C → ℕ) where
       subst P (sym same) (least_found x y e.children from last r (k.1 t))
 
 -- a region is that of its prefix
-front_is : (base j : ℕ) (rest : List ℕ) → j + length rest ≤ 8 → ((i : ℕ) → i < length rest → get_or (key_bytes base) (j + i) 0 ≡ get_or rest i 0) → front (top base j) rest ≡ top base (j + length rest)
-front_is base j [] l s = ap (top base) (omega arith)
+front_is : (base j : ℕ) (rest : List ℕ) → j + length rest ≤ 8 → ((i : ℕ) → i < length rest → get_or (key_bytes base) (j + i) 0 ≡ get_or rest i 0) → front (first_bytes base j) rest ≡ first_bytes base (j + length rest)
+front_is base j [] l s = ap (first_bytes base) (omega arith)
 front_is base j (b ∷ rest) l s =
-    let step : top base (j + 1) ≡ 256 * top base j + get_or (key_bytes base) j 0 = top_step base j (omega (arith, l)) in
+    let step : first_bytes base (j + 1) ≡ 256 * first_bytes base j + get_or (key_bytes base) j 0 = top_step base j (omega (arith, l)) in
     let here : get_or (key_bytes base) j 0 ≡ b = ap (λ z. get_or (key_bytes base) z 0) (let z : j ≡ j + 0 = omega arith in z) ∙ s 0 (omega arith) in
-    ap (λ z. front z rest) (ap (λ z. 256 * top base j + z) (sym here) ∙ sym step)
+    ap (λ z. front z rest) (ap (λ z. 256 * first_bytes base j + z) (sym here) ∙ sym step)
     ∙ front_is base (j + 1) rest (omega (arith, l)) (λ i k. ap (λ z. get_or (key_bytes base) z 0) (let z : j + 1 + i ≡ j + suc i = omega arith in z) ∙ s (suc i) (omega (arith, k)))
-    ∙ ap (top base) (omega arith)
+    ∙ ap (first_bytes base) (omega arith)
 
 -- the region of a prefix is the one computed from its bytes
 pub region_is : (p : List ℕ) (x : Region) → IsRegion p x.base x.depth → region_of p ≡ x
 region_is p x k =
-    let zero_top : top x.base 0 ≡ 0 = (let s : x.base < 2 ^ 64 = k.small in omega (arith, s)) in
-    let f : front (top x.base 0) p ≡ top x.base (0 + length p) = front_is x.base 0 p (let s : x.depth ≤ 7 = k.short in let d : x.depth ≡ length p = k.depth_is in omega (arith, s, d)) (λ i l. ap (λ z. get_or (key_bytes x.base) z 0) (let z : 0 + i ≡ i = omega arith in z) ∙ fits_byte p (key_bytes x.base) i k.fitted l) in
-    let g : front 0 p ≡ top x.base (length p) = ap (λ z. front z p) (sym zero_top) ∙ f ∙ ap (top x.base) (let z : 0 + length p ≡ length p = omega arith in z) in
+    let zero_top : first_bytes x.base 0 ≡ 0 = (let s : x.base < 2 ^ 64 = k.small in omega (arith, s)) in
+    let f : front (first_bytes x.base 0) p ≡ first_bytes x.base (0 + length p) = front_is x.base 0 p (let s : x.depth ≤ 7 = k.short in let d : x.depth ≡ length p = k.depth_is in omega (arith, s, d)) (λ i l. ap (λ z. get_or (key_bytes x.base) z 0) (let z : 0 + i ≡ i = omega arith in z) ∙ fits_byte p (key_bytes x.base) i k.fitted l) in
+    let g : front 0 p ≡ first_bytes x.base (length p) = ap (λ z. front z p) (sym zero_top) ∙ f ∙ ap (first_bytes x.base) (let z : 0 + length p ≡ length p = omega arith in z) in
     let even : x.base % span (length p) ≡ 0 = ap (λ z. x.base % span z) (sym k.depth_is) ∙ k.even in
     let b : front 0 p * span (length p) ≡ x.base = ap (λ z. z * span (length p)) g ∙ multiple x.base (span (length p)) even in
     ap (λ z. record { base = z; depth = length p }) b ∙ ap (λ z. record { base = x.base; depth = z }) (sym k.depth_is)

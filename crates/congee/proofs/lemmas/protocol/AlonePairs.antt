@@ -18,7 +18,7 @@ use Rattle.congee.specs.protocol.Regions.{span, IsRegion, start_at}
 use Rattle.congee.specs.protocol.Scans.{Lacked}
 use Rattle.congee.specs.protocol.ScanKnown.{end_of}
 use Rattle.congee.proofs.lemmas.Fits.{fits_byte}
-use Rattle.congee.proofs.lemmas.Orders.{top, same_bytes, byte_small}
+use Rattle.congee.proofs.lemmas.Orders.{first_bytes, same_bytes, byte_small}
 use Rattle.congee.proofs.lemmas.forms.Prefixes.{fits_every}
 use Rattle.congee.proofs.lemmas.protocol.AloneScans.{term_past}
 use Rattle.congee.proofs.lemmas.protocol.Regions.{span_pos, multiple_bounds, whole, start_mono}
@@ -173,7 +173,7 @@ region_in p short b =
     let k : ℕ = from_be_bytes w64 (key_bytes b.0) in
     let same : key_bytes k ≡ key_bytes b.0 = be_bytes_8 (key_bytes b.0) k refl (bytes_small b.0) refl in
     let s = multiple_bounds k (span d) (span_pos d) in
-    let up : top (k / span d * span d) d ≡ top k d = mul-div_cancel (k / span d) (span_pos d) in (
+    let up : first_bytes (k / span d * span d) d ≡ first_bytes k d = mul-div_cancel (k / span d) (span_pos d) in (
       record { base = k / span d * span d; depth = d },
       record {
         depth_is = refl;
@@ -203,8 +203,8 @@ module _ {V : Type 0} (a : ℕ → Note) (h : ℕ → Node V) (t : Tree a h) (w 
     within b k small lo hi =
         let up = start_mono (h n).prefix base depth r (b + 1) 256 (omega (arith, small)) in
         let e = whole (h n).prefix base depth r in
-        let top = region_top (h n).prefix base depth r in
-        (omega (arith, hi, up, e, top), omega (arith, lo), omega (arith, hi, up, e))
+        let most = region_top (h n).prefix base depth r in
+        (omega (arith, hi, up, e, most), omega (arith, lo), omega (arith, hi, up, e))
 
     -- the values at and below a byte are the pairs with the keys under it
     at_byte : (b : ℕ) (x : Hung V) → b < 256 → (h n).children b ≡ x → pairs_at (λ c. pairs_under h f c) x ≡ pairs (start_at base depth b) (start_at base depth (b + 1))

@@ -25,7 +25,7 @@ use Rattle.congee.specs.Heap.{Node, Hung, Stands, is_taken}
 use Rattle.congee.specs.protocol.Bounds.{Bounded, Within}
 use Rattle.congee.specs.protocol.Events.{SameBut, NewNode, ChangeGives, TakeOverGives, BackGives, UnlockGives, upgrade_gives}
 use Rattle.congee.specs.protocol.Steps.{BackOne, BackTwo, BackLeaf, MadeLeaf, MadeGreater, MadeTop, MadeBeside, MadeLesser, UpgradedOne, UpgradedTop, UpgradedAbove, UpgradedBelow, PutsLesser, Collapses, Lessens, ChangedOne, ChangedTwo, PhaseStepped, MayStep}
-use Rattle.congee.proofs.lemmas.Fits.{equal, both_true}
+use Rattle.congee.proofs.lemmas.Fits.{equal_of_test, both_true}
 use Rattle.congee.proofs.lemmas.Graft.{on_test}
 use Rattle.congee.proofs.lemmas.protocol.Locks.{locked_taken}
 
@@ -79,7 +79,7 @@ module _ {V : Type 0} (most : ℕ) where
 
   locks : (h h' : ℕ → Node V) (c v : ℕ) (fail : Bool) → Stands (h c) → Locked ≡ upgrade_gives most (h c) v fail → SameBut h c (record (h c) { locked = true }) h' → Within most h → Within most h'
   locks h h' c v fail s e g w =
-      let at : (h c).version ≡ v = equal (h c).version v (both_true _ _ (locked_taken most (h c) v fail e)).0 in
+      let at : (h c).version ≡ v = equal_of_test (h c).version v (both_true _ _ (locked_taken most (h c) v fail e)).0 in
       let ne : v ≢ most = locked_below most (h c) v fail e in
       let x : Bounded most (h c) = w c s in
       but h h' c (record (h c) { locked = true }) (record { low = x.low; locked = λ l. omega (arith, x.low, at, ne) }) g w

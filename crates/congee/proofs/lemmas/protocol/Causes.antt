@@ -56,7 +56,7 @@ use Rattle.congee.specs.protocol.ScanEvents.{IsAny}
 use Rattle.congee.specs.protocol.ScanKnown.{ScanKnownAt}
 use Rattle.congee.specs.protocol.ScanSteps.{whole, is_outside, last_of, NextScan, anew, left_to, entered, begins, IsFollowed, ScanSteppedAt}
 use Rattle.congee.specs.protocol.Steps.{shrinks, lesser_form, both, last_out, after_top, after_retire, after_unwind, given_up, again, refused, asking, CopyFailed as UncopiedNext, adds, asks_new, absent_reply, form_above, greater, after_version, after_read, down, started, ready, plan_here, unless_full, absent, IsAsked, replaced, taken_out, is_same, IsAtOld, IsAdded, IsExchanged, IsPresent, IsChecked, after_miss, IsGiven, IsGivenNew, MadeLeaf, MadeGreater, MadeTop, MadeBeside, MadeLesser, UpgradedOne, UpgradedTop, UpgradedAbove, UpgradedBelow, after_change, outcome_of, PhaseStepped}
-use Rattle.congee.proofs.lemmas.Fits.{equal}
+use Rattle.congee.proofs.lemmas.Fits.{equal_of_test}
 use Rattle.congee.proofs.lemmas.Graft.{on_test}
 use Rattle.congee.proofs.lemmas.protocol.Touch.{by_test}
 
@@ -199,7 +199,7 @@ module _ (C V : Type 0) (Q : Refusal → Type 0) where
 
 -- an upgrade is refused at the limit alone
 last_version : {V : Type 0} (most : ℕ) (n : Node V) (v : ℕ) (fail : Bool) → Exhausted ≡ upgrade_gives most n v fail → v ≡ most
-last_version most n v fail e = equal v most (by_limit (v == most) _ (λ b. by_word b) e) where
+last_version most n v fail e = equal_of_test v most (by_limit (v == most) _ (λ b. by_word b) e) where
   by_word : (b : Bool) → Exhausted ≡ cond b Locked Failed → ⊥
   by_word true x = absurd cc
   by_word false x = absurd cc

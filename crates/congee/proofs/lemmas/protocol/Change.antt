@@ -10,7 +10,7 @@ use Rattle.congee.proofs.lemmas.Fits.{same_key}
 use Rattle.congee.proofs.lemmas.Tree.{same_or_not, finds, aside}
 use Rattle.congee.proofs.lemmas.Link.{Leaf, Links, link_tree, link_map}
 use Rattle.congee.proofs.lemmas.Unlink.{Unlinks, unlink_tree, unlink_map}
-use Rattle.congee.proofs.lemmas.protocol.Touch.{fares_free, fares_mine, noted, noted_same, noted_other, Touched, as_it_was, under_lock, out_of_reach, effect, not_taken, locked_not_free, owner_locked, but_one, touch_one}
+use Rattle.congee.proofs.lemmas.protocol.Touch.{fares_free, fares_mine, noted, noted_same, noted_other, Touched, as_it_was, under_lock, out_of_reach, touched_effect, not_taken, locked_not_free, owner_locked, but_one, touch_one}
 
 -- a change of the map at one key
 pub record Changed {V : Type 0} (i : ℕ) (a : ℕ → Note) (h : ℕ → Node V) (key : List ℕ) (found : Option V) (given : Option V) (a' : ℕ → Note) (h' : ℕ → Node V) : Type 0 where
@@ -234,7 +234,7 @@ set_changed i a h key n b x given h' len t w o fit seven eb ex vx k =
     let pr : (m : ℕ) → (h' m).prefix ≡ (h m).prefix = but_one (λ y z. y.prefix ≡ z.prefix) h h' n (λ y. refl) k.others k.prefix in
     let there : child_for (h' n) key ≡ value_hung given = rw (pr n) (rw (← eb) k.child) in
     record {
-      effect = effect i a h a h' w t' (but_one (λ y z. y.capacity ≡ z.capacity) h h' n (λ y. refl) k.others k.capacity 0)
+      effect = touched_effect i a h a h' w t' (but_one (λ y z. y.capacity ≡ z.capacity) h h' n (λ y. refl) k.others k.capacity 0)
           (touch_one i a h a h' n k.others (λ m _. refl) (under_touch i a h a h' n w (under_change i a h a h h' n b (value_hung given) o refl refl k)));
       before = finds a h t n key x o.linked fit ex ∙ found_is _ x vx;
       after = finds a h' t' n key (value_hung given) o.linked (rw (pr n) fit) there ∙ given_is _ given;
@@ -281,7 +281,7 @@ link_changed i a h key n b c v h1 h' len t w o fit inner eb none m f k =
     ] in
     let root : 0 ≢ c = (λ e. let z : (a c).status ≡ Linked = (let P : ℕ → Type 0 = λ y. (a y).status ≡ Linked in subst P e t.root) in let z' : (a c).status ≡ Held i = m.held in cc) in
     record {
-      effect = effect i a h _ h' w (link_tree a h _ h' n c key v t links)
+      effect = touched_effect i a h _ h' w (link_tree a h _ h' n c key v t links)
           (but_one (λ y z. y.capacity ≡ z.capacity) h1 h' n (λ y. refl) k.others k.capacity 0 ∙ ap (λ z. z.capacity) (f.others 0 root)) touch;
       before = map.0;
       after = map.1;
@@ -340,7 +340,7 @@ unlink_changed i a h key p b m v h' len t w o fit eb hung om leaf k =
       ]
     ] in (
       record {
-        effect = effect i a h _ h' w (unlink_tree a h _ h' p m key v t u) (but_one (λ y z. y.capacity ≡ z.capacity) h h' p (λ y. refl) k.others k.capacity 0) touch;
+        effect = touched_effect i a h _ h' w (unlink_tree a h _ h' p m key v t u) (but_one (λ y z. y.capacity ≡ z.capacity) h h' p (λ y. refl) k.others k.capacity 0) touch;
         before = map.0;
         after = map.1;
         rest = map.2;

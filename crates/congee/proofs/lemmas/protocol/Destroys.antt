@@ -23,7 +23,7 @@ use Rattle.congee.specs.protocol.Holdings.{IsTop, LockedBy, MadeForOne, MadeForT
 use Rattle.congee.specs.protocol.Names.{name_above, name_stamped, name_made, names_for_one, names_for_two, names_site, names_one, names_two, names_plan, names}
 use Rattle.congee.specs.protocol.Play.{EachKnown, ProtocolAt, Settled}
 use Rattle.congee.specs.protocol.Destroys.{Lost, Destroys, Spares}
-use Rattle.congee.proofs.lemmas.protocol.Each.{Each, left, right}
+use Rattle.congee.proofs.lemmas.protocol.Each.{Each, each_left, each_right}
 use Rattle.congee.proofs.lemmas.Tree.{step_same}
 use Rattle.congee.proofs.lemmas.protocol.Rely.{known_kept}
 
@@ -49,21 +49,21 @@ module _ {C : Type 0} (number : C → ℕ) (K : ℕ → Type 0) (n : ℕ) where
 
   -- what a change of two nodes names behind the two
   made_for_two : (two : Two C) → Each K (names_two number two) → MadeForTwo number two.change n → K n
-  made_for_two two e x = two_named two.change (right K (name_above number two.top) (names_for_two number two.change) e.1.1) x
+  made_for_two two e x = two_named two.change (each_right K (name_above number two.top) (names_for_two number two.change) e.1.1) x
 
   above_named : (top : Option (Parent C)) → Each K (name_above number top) → IsTop number top n → K n
   above_named None e x = absurd x
   above_named (Some p) e x = at_name p.stamp.node x e.0
 
   top_named : (two : Two C) → Each K (names_two number two) → IsTop number two.top n → K n
-  top_named two e x = above_named two.top (left K (name_above number two.top) (names_for_two number two.change) e.1.1) x
+  top_named two e x = above_named two.top (each_left K (name_above number two.top) (names_for_two number two.change) e.1.1) x
 
   next_named : (next : Option C) → Each K (name_made number next) → IsMade number next n → K n
   next_named None e x = absurd x
   next_named (Some c) e x = at_name c x e.0
 
   plan_named : (plan : Plan C) → Each K (names_plan number plan) → MadeForPlan number plan n → K n
-  plan_named (Here check one) e x = one_named one.change (right K (name_stamped number check) (names_one number one) e).1 x
+  plan_named (Here check one) e x = one_named one.change (each_right K (name_stamped number check) (names_one number one) e).1 x
   plan_named (Above two) e x = made_for_two two e x
 
   leaf_named : (leaf : Option C) (s : Site C) → Each K (name_made number leaf) → IsMade number leaf n → K n
@@ -72,7 +72,7 @@ module _ {C : Type 0} (number : C → ℕ) (K : ℕ → Type 0) (n : ℕ) where
 
   module _ {V : Type 0} where
     made_named : (s : Phase C V) → Each K (names number s) → MadeBy number s n → K n
-    made_named (MakeGreater s p leaf) e x = leaf_named leaf s (left K (name_made number leaf) (names_site number s) e.1) x
+    made_named (MakeGreater s p leaf) e x = leaf_named leaf s (each_left K (name_made number leaf) (names_site number s) e.1) x
     made_named (MakeBeside p at common byte top) e x = at_name top x e.1.1.0
     made_named (AskNew plan) e x = plan_named plan e x
     made_named (CheckAbove p one r) e x = one_named one.change e.1.1 x

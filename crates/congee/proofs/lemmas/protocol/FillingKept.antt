@@ -30,7 +30,7 @@ use Rattle.congee.specs.protocol.Protocol.{Made, MadeOne, MadeTwo, MadeLeafFor, 
 use Rattle.congee.specs.protocol.Names.{names, names_plan, name_stamped, names_one}
 use Rattle.congee.specs.protocol.Filled.{AllFilled, FillsAt, MayFillOne, MayFillHalf, MayFillTwo, MayFillPlan, IsSmall, Fills}
 use Rattle.congee.proofs.lemmas.Graft.{on_test}
-use Rattle.congee.proofs.lemmas.protocol.Each.{Each, right}
+use Rattle.congee.proofs.lemmas.protocol.Each.{Each, each_right}
 use Rattle.congee.proofs.lemmas.protocol.Change.{made_apart}
 use Rattle.congee.proofs.lemmas.protocol.Filling.{Alike, alike, Still, still_filled}
 use Rattle.congee.proofs.lemmas.protocol.FillingChanges.{one_filled, two_filled}
@@ -184,7 +184,7 @@ module _ {C V : Type 0} (number : C → ℕ) (key : List ℕ) (K : ℕ → Type 
       at_on two _ q m.made ep en (fills (subst Q en tn))
 
   plan_on : (v : V) (plan : Plan C) → Each K (names_plan number plan) → PlanKnown number i a h key plan → MayFillPlan number h v plan → MayFillPlan number h' v plan
-  plan_on v (Here check one) e m x = one_on (Some v) one _ (right K (name_stamped number check) (names_one number one) e).0 m.1 x
+  plan_on v (Here check one) e m x = one_on (Some v) one _ (each_right K (name_stamped number check) (names_one number one) e).0 m.1 x
   plan_on v (Above two) e m x = two_on two None m.0.0 e.0 e.1.0 m.0.1 x
 
   small_on : (s : Site C) (leaf : Option C) → MadeLeafFor number i a h key s leaf → IsSmall number h leaf → IsSmall number h' leaf

@@ -6,14 +6,14 @@ use Rattle.congee.specs.Notes.{Note, Linked, Gone, is_published, IsChild, Tree, 
 use Rattle.congee.specs.protocol.Events.{ChangeGives, TakeOverGives, IsOther}
 use Rattle.congee.specs.protocol.Steps.{PutsLesser}
 use Rattle.congee.specs.protocol.Protocol.{Made, Holding, TakenOut}
-use Rattle.congee.proofs.lemmas.Fits.{equal, same_test, fits_same}
+use Rattle.congee.proofs.lemmas.Fits.{equal_of_test, same_test, fits_same}
 use Rattle.congee.proofs.lemmas.Tree.{same_or_not, by_length}
 use Rattle.congee.proofs.lemmas.Graft.{on_test}
 use Rattle.congee.proofs.lemmas.Link.{Leaf}
 use Rattle.congee.proofs.lemmas.Collapse.{collapse_tree, collapse_map}
 use Rattle.congee.proofs.lemmas.Lessen.{lessen_tree, lessen_map}
 use Rattle.congee.proofs.lemmas.Shrink.{shrink_tree, shrink_map}
-use Rattle.congee.proofs.lemmas.protocol.Touch.{by_test, but_one, noted, noted_same, noted_other, Touched, as_it_was, moved, effect}
+use Rattle.congee.proofs.lemmas.protocol.Touch.{by_test, but_one, noted, noted_same, noted_other, Touched, as_it_was, moved, touched_effect}
 use Rattle.congee.proofs.lemmas.protocol.Change.{Changed, StaysLocked, under_touch, under_change, under_above, under_taken, Live, live_made, live_changed, live_same, live_taken, joined, joined_touch, made_apart}
 use Rattle.congee.proofs.lemmas.protocol.Regrow.{out_note, below_note, regrown, regrown_new, regrown_old, regrown_status, regrown_owner, regrown_same, regrown_moved, regrown_hidden}
 
@@ -52,7 +52,7 @@ lesser_put h m c b p up h' mc pc pm k =
 
 in_place : (a : ℕ → Note) (i p m c : ℕ) (x : ℕ) → x ≢ c → x ≢ m → is_published (a x).status ≡ true → (regrown a i p m c c x).parent ≡ in_place_of m c (a x).parent
 in_place a i p m c x xc xm pu = by_test (λ (y : ℕ). (regrown a i p m c c x).parent ≡ y) ((a x).parent == m) _ _
-    (λ q. regrown_moved a i p m c c x xc xc xm pu (equal (a x).parent m q))
+    (λ q. regrown_moved a i p m c c x xc xc xm pu (equal_of_test (a x).parent m q))
     (λ q. regrown_same a i p m c c x xc xc xm (λ e. let z : (a x).parent == m ≡ true = (let P : ℕ → Type 0 = λ y. y == m ≡ true in subst P (sym e) (same_test m m refl)) in cc))
 
 module _ {V : Type 0} (i : ℕ) (a : ℕ → Note) (h : ℕ → Node V) (key : List ℕ) (len : length key ≡ 8) (t : Tree a h) (w : LockWords a h) where
@@ -111,7 +111,7 @@ module _ {V : Type 0} (i : ℕ) (a : ℕ → Note) (h : ℕ → Node V) (key : L
         | inl z ↦ (let P : ℕ → Type 0 = λ y. (h' y).capacity ≡ (h y).capacity in subst P (sym z) (l.above.capacity ∙ ap (λ y. y.capacity) l.above_same))
         | inr xp ↦ ap (λ z. z.capacity) (l.nodes 0 (apart 0 (ap is_published t.root)) (by_length h 0 m (let z : length (h 0).prefix ≡ 0 = ap length t.empty in omega (arith, ch.longer))) xp)
       ] in (
-        record { effect = effect i a h _ h' w (shrink_tree a h _ h' p _ m c key v t s) root touch; before = map.0; after = map.1; rest = map.2 },
+        record { effect = touched_effect i a h _ h' w (shrink_tree a h _ h' p _ m c key v t s) root touch; before = map.0; after = map.1; rest = map.2 },
         record {
           above = record { owner = regrown_owner a i p m c c p pc pc pm ∙ o.owner; linked = regrown_status a i p m c c p pc pc pm ∙ o.linked };
           owner = rw old refl;
@@ -242,7 +242,7 @@ module _ {V : Type 0} (i : ℕ) (a : ℕ → Note) (h : ℕ → Node V) (key : L
         ]
       ] in (
         record {
-          effect = effect i a h _ h' w (collapse_tree a h _ h' g _ p n is.at o key v t s) (but_one (λ y z. y.capacity ≡ z.capacity) h h' g (λ y. refl) k.others k.capacity 0) touch;
+          effect = touched_effect i a h _ h' w (collapse_tree a h _ h' g _ p n is.at o key v t s) (but_one (λ y z. y.capacity ≡ z.capacity) h h' g (λ y. refl) k.others k.capacity 0) touch;
           before = map.0;
           after = map.1;
           rest = map.2;
@@ -330,7 +330,7 @@ module _ {V : Type 0} (i : ℕ) (a : ℕ → Note) (h : ℕ → Node V) (key : L
         | inl z ↦ (let P : ℕ → Type 0 = λ y. (h' y).capacity ≡ (h y).capacity in subst P (sym z) (l.above.capacity ∙ ap (λ y. y.capacity) l.above_same))
         | inr xg ↦ ap (λ z. z.capacity) (l.nodes 0 (apart 0 (ap is_published t.root)) (by_length h 0 p (let z : length (h 0).prefix ≡ 0 = ap length t.empty in omega (arith, cp.longer))) xg)
       ] in (
-        record { effect = effect i a h _ h' w (lessen_tree a h _ h' g _ p n c key v t s) root touch; before = map.0; after = map.1; rest = map.2 },
+        record { effect = touched_effect i a h _ h' w (lessen_tree a h _ h' g _ p n c key v t s) root touch; before = map.0; after = map.1; rest = map.2 },
         record {
           above = record { owner = owner g gc gp gn ∙ og.owner; linked = status g gc gp gn ∙ og.linked };
           owner = rw leaf_is refl;

@@ -23,7 +23,7 @@ use Rattle.congee.specs.Notes.{Note, Linked, Gone, is_published, IsChild, Tree, 
 use Rattle.congee.specs.protocol.Protocol.{Rely, Holding, Fresh, ChildOf, Made, PlacedOne, WantedOne, MadeOne, PlacedTwo, WantedTwo, MadeTwo, TwoKnown, AboveLocked, TopLocked, AlsoOut, HalfLocked, Known, Effect}
 use Rattle.congee.proofs.lemmas.Fits.{both_true}
 use Rattle.congee.proofs.lemmas.protocol.Rely.{fresh_kept, child_kept}
-use Rattle.congee.proofs.lemmas.protocol.Touch.{noted_same, noted_other, own, owned, taken_linked}
+use Rattle.congee.proofs.lemmas.protocol.Touch.{noted_same, noted_other, with_owner, owned, taken_linked}
 use Rattle.congee.proofs.lemmas.protocol.Words.{KeepsMap, lock_still, unlock_still, obsolete_still, retire_still}
 use Rattle.congee.proofs.lemmas.protocol.Change.{made_apart}
 use Rattle.congee.proofs.lemmas.protocol.Sound.{Sound}
@@ -135,20 +135,20 @@ module _ {C V : Type 0} (number : C → ℕ) (same : V → V → Bool) (always :
   lock_one one r h' m q g =
       let n : ℕ = number one.at.node in
       let f : Fresh a h (number one.at.node) one.at.version (WantedOne (key_bytes k) m.1.0) = m.1.1.fresh in
-      let a' : ℕ → Note = own a (number one.at.node) (Some i) in
-      let same_note : own a (number one.at.node) (Some i) (number one.at.node) ≡ owned (a (number one.at.node)) (Some i) = noted_same a (number one.at.node) _ in
+      let a' : ℕ → Note = with_owner a (number one.at.node) (Some i) in
+      let same_note : with_owner a (number one.at.node) (Some i) (number one.at.node) ≡ owned (a (number one.at.node)) (Some i) = noted_same a (number one.at.node) _ in
       let l : (a (number one.at.node)).status ≡ Linked = taken_linked a h w (number one.at.node) one.at.version f.stamped.published q in
-      let e : KeepsMap i a h (own a (number one.at.node) (Some i)) h' = lock_still i a h (number one.at.node) one.at.version h' t w f.stamped q g in
-      let on : OnOne a h (own a (number one.at.node) (Some i)) h' (number one.at.node) = record { published = f.stamped.published; nodes = g.others; notes = noted_other a (number one.at.node) _ } in
+      let e : KeepsMap i a h (with_owner a (number one.at.node) (Some i)) h' = lock_still i a h (number one.at.node) one.at.version h' t w f.stamped q g in
+      let on : OnOne a h (with_owner a (number one.at.node) (Some i)) h' (number one.at.node) = record { published = f.stamped.published; nodes = g.others; notes = noted_other a (number one.at.node) _ } in
       let pre : (h' (number one.at.node)).prefix ≡ (h (number one.at.node)).prefix = rw g.after refl in
       let wanted : WantedOne (key_bytes k) m.1.0 (h (number one.at.node)) = f.holds q in
-      still_kept (own a (number one.at.node) (Some i)) h' (ChangeOne one r) e (
+      still_kept (with_owner a (number one.at.node) (Some i)) h' (ChangeOne one r) e (
         m.1.0,
         record {
           holding = record { owner = rw same_note refl; linked = rw same_note l };
           placed = (let P : List ℕ → Type 0 = λ y. PlacedOne (key_bytes k) one.change one.byte y in subst P (sym pre) m.1.1.placed);
           wanted = record { child = rw g.after wanted.child; room = λ z. rw g.after (wanted.room z) };
-          made = made_one_on number i a h (own a (number one.at.node) (Some i)) h' (key_bytes k) (number one.at.node) on one.change m.1.1.made;
+          made = made_one_on number i a h (with_owner a (number one.at.node) (Some i)) h' (key_bytes k) (number one.at.node) on one.change m.1.1.made;
         },
         m.1.2,
         m.1.3,
@@ -164,13 +164,13 @@ module _ {C V : Type 0} (number : C → ℕ) (same : V → V → Bool) (always :
   lock_top top two r h' m q g =
       let x : TwoKnown number i a h (key_bytes k) two m.1.0 m.1.1 = m.1.2 in
       let c : ChildOf number a h (key_bytes k) top (number two.above.stamp.node) = m.2 in
-      let same_note : own a (number top.stamp.node) (Some i) (number top.stamp.node) ≡ owned (a (number top.stamp.node)) (Some i) = noted_same a (number top.stamp.node) _ in
+      let same_note : with_owner a (number top.stamp.node) (Some i) (number top.stamp.node) ≡ owned (a (number top.stamp.node)) (Some i) = noted_same a (number top.stamp.node) _ in
       let l : (a (number top.stamp.node)).status ≡ Linked = taken_linked a h w (number top.stamp.node) top.stamp.version c.fresh.stamped.published q in
-      let e : KeepsMap i a h (own a (number top.stamp.node) (Some i)) h' = lock_still i a h (number top.stamp.node) top.stamp.version h' t w c.fresh.stamped q g in
-      let on : OnOne a h (own a (number top.stamp.node) (Some i)) h' (number top.stamp.node) = record { published = c.fresh.stamped.published; nodes = g.others; notes = noted_other a (number top.stamp.node) _ } in
+      let e : KeepsMap i a h (with_owner a (number top.stamp.node) (Some i)) h' = lock_still i a h (number top.stamp.node) top.stamp.version h' t w c.fresh.stamped q g in
+      let on : OnOne a h (with_owner a (number top.stamp.node) (Some i)) h' (number top.stamp.node) = record { published = c.fresh.stamped.published; nodes = g.others; notes = noted_other a (number top.stamp.node) _ } in
       let pre : (h' (number two.at.node)).prefix ≡ (h (number two.at.node)).prefix = own_prefix i a h _ h' e.effect (number two.at.node) x.fresh.stamped.published in
       let hung : (child_for (h (number top.stamp.node)) (key_bytes k) ≡ Below (number two.above.stamp.node)) × ((h (number top.stamp.node)).count ≡ top.count) × ((h (number top.stamp.node)).capacity ≡ places top.form) = c.fresh.holds q in
-      still_kept (own a (number top.stamp.node) (Some i)) h' (UpgradeAbove (record two { top = Some top }) r) e (
+      still_kept (with_owner a (number top.stamp.node) (Some i)) h' (UpgradeAbove (record two { top = Some top }) r) e (
         m.0,
         (
           m.1.0,
@@ -188,7 +188,7 @@ module _ {C V : Type 0} (number : C → ℕ) (same : V → V → Bool) (always :
             above = child_kept number (key_bytes k) (λ _. Unit {0}) (suc i) a h _ h' (own_rely i a h _ h' e.effect) two.above (number two.at.node) tt x.above;
             placed = (let P : List ℕ → Type 0 = λ y. PlacedTwo (key_bytes k) two.change y in subst P (sym pre) x.placed);
             fresh = own_fresh i a h _ h' e.effect (number two.at.node) two.at.version _ x.fresh;
-            made = made_two_on number i a h (own a (number top.stamp.node) (Some i)) h' (key_bytes k) (number top.stamp.node) on two.above two.change _ _ m.1.1 (ap length pre) x.made;
+            made = made_two_on number i a h (with_owner a (number top.stamp.node) (Some i)) h' (key_bytes k) (number top.stamp.node) on two.above two.change _ _ m.1.1 (ap length pre) x.made;
           },
           m.3,
           m.1.3,
@@ -202,13 +202,13 @@ module _ {C V : Type 0} (number : C → ℕ) (same : V → V → Bool) (always :
   lock_above two r h' m q g =
       let x : TwoKnown number i a h (key_bytes k) two m.1.0 m.1.1 = m.1.2 in
       let c : ChildOf number a h (key_bytes k) two.above (number two.at.node) = x.above in
-      let same_note : own a (number two.above.stamp.node) (Some i) (number two.above.stamp.node) ≡ owned (a (number two.above.stamp.node)) (Some i) = noted_same a (number two.above.stamp.node) _ in
+      let same_note : with_owner a (number two.above.stamp.node) (Some i) (number two.above.stamp.node) ≡ owned (a (number two.above.stamp.node)) (Some i) = noted_same a (number two.above.stamp.node) _ in
       let l : (a (number two.above.stamp.node)).status ≡ Linked = taken_linked a h w (number two.above.stamp.node) two.above.stamp.version c.fresh.stamped.published q in
-      let e : KeepsMap i a h (own a (number two.above.stamp.node) (Some i)) h' = lock_still i a h (number two.above.stamp.node) two.above.stamp.version h' t w c.fresh.stamped q g in
-      let on : OnOne a h (own a (number two.above.stamp.node) (Some i)) h' (number two.above.stamp.node) = record { published = c.fresh.stamped.published; nodes = g.others; notes = noted_other a (number two.above.stamp.node) _ } in
+      let e : KeepsMap i a h (with_owner a (number two.above.stamp.node) (Some i)) h' = lock_still i a h (number two.above.stamp.node) two.above.stamp.version h' t w c.fresh.stamped q g in
+      let on : OnOne a h (with_owner a (number two.above.stamp.node) (Some i)) h' (number two.above.stamp.node) = record { published = c.fresh.stamped.published; nodes = g.others; notes = noted_other a (number two.above.stamp.node) _ } in
       let pre : (h' (number two.at.node)).prefix ≡ (h (number two.at.node)).prefix = own_prefix i a h _ h' e.effect (number two.at.node) x.fresh.stamped.published in
       let hung : (child_for (h (number two.above.stamp.node)) (key_bytes k) ≡ Below (number two.at.node)) × ((h (number two.above.stamp.node)).count ≡ two.above.count) × ((h (number two.above.stamp.node)).capacity ≡ places two.above.form) = c.fresh.holds q in
-      still_kept (own a (number two.above.stamp.node) (Some i)) h' (UpgradeBelow two r) e (
+      still_kept (with_owner a (number two.above.stamp.node) (Some i)) h' (UpgradeBelow two r) e (
         m.0,
         (
           m.1.0,
@@ -226,7 +226,7 @@ module _ {C V : Type 0} (number : C → ℕ) (same : V → V → Bool) (always :
             };
             placed = (let P : List ℕ → Type 0 = λ y. PlacedTwo (key_bytes k) two.change y in subst P (sym pre) x.placed);
             fresh = own_fresh i a h _ h' e.effect (number two.at.node) two.at.version _ x.fresh;
-            made = made_two_on number i a h (own a (number two.above.stamp.node) (Some i)) h' (key_bytes k) (number two.above.stamp.node) on two.above two.change _ _ m.1.1 (ap length pre) x.made;
+            made = made_two_on number i a h (with_owner a (number two.above.stamp.node) (Some i)) h' (key_bytes k) (number two.above.stamp.node) on two.above two.change _ _ m.1.1 (ap length pre) x.made;
           },
           m.1.3,
           m.1.4,
@@ -245,13 +245,13 @@ module _ {C V : Type 0} (number : C → ℕ) (same : V → V → Bool) (always :
       → SameBut h (number two.at.node) (record (h (number two.at.node)) { locked = true }) h' → Kept number same always i a h k kind given given (quiet (ChangeTwo two r)) h'
   lock_both two r h' m q g =
       let x : HalfLocked number i a h (key_bytes k) two m.1.0 m.1.1 = m.1.2 in
-      let same_note : own a (number two.at.node) (Some i) (number two.at.node) ≡ owned (a (number two.at.node)) (Some i) = noted_same a (number two.at.node) _ in
-      let e : KeepsMap i a h (own a (number two.at.node) (Some i)) h' = lock_still i a h (number two.at.node) two.at.version h' t w x.fresh.stamped q g in
-      let on : OnOne a h (own a (number two.at.node) (Some i)) h' (number two.at.node) = record { published = x.fresh.stamped.published; nodes = g.others; notes = noted_other a (number two.at.node) _ } in
+      let same_note : with_owner a (number two.at.node) (Some i) (number two.at.node) ≡ owned (a (number two.at.node)) (Some i) = noted_same a (number two.at.node) _ in
+      let e : KeepsMap i a h (with_owner a (number two.at.node) (Some i)) h' = lock_still i a h (number two.at.node) two.at.version h' t w x.fresh.stamped q g in
+      let on : OnOne a h (with_owner a (number two.at.node) (Some i)) h' (number two.at.node) = record { published = x.fresh.stamped.published; nodes = g.others; notes = noted_other a (number two.at.node) _ } in
       let pn : number two.above.stamp.node ≢ number two.at.node = above_apart (number two.above.stamp.node) (number two.at.node) x.above.holding.linked x.above.child in
       let pre : (h' (number two.at.node)).prefix ≡ (h (number two.at.node)).prefix = rw g.after refl in
       let wanted : WantedTwo (key_bytes k) two.change m.1.0 m.1.1 (h (number two.at.node)) = x.fresh.holds q in
-      still_kept (own a (number two.at.node) (Some i)) h' (ChangeTwo two r) e (
+      still_kept (with_owner a (number two.at.node) (Some i)) h' (ChangeTwo two r) e (
         m.1.0,
         m.1.1,
         record {
@@ -261,7 +261,7 @@ module _ {C V : Type 0} (number : C → ℕ) (same : V → V → Bool) (always :
           owner = rw same_note refl;
           placed = (let P : List ℕ → Type 0 = λ y. PlacedTwo (key_bytes k) two.change y in subst P (sym pre) x.placed);
           wanted = wanted_locked two.change m.1.0 m.1.1 wanted;
-          made = made_two_on number i a h (own a (number two.at.node) (Some i)) h' (key_bytes k) (number two.at.node) on two.above two.change _ _ m.1.1 (ap length pre) x.made;
+          made = made_two_on number i a h (with_owner a (number two.at.node) (Some i)) h' (key_bytes k) (number two.at.node) on two.above two.change _ _ m.1.1 (ap length pre) x.made;
         },
         m.1.3,
         m.1.4,
@@ -300,45 +300,45 @@ module _ {C V : Type 0} (number : C → ℕ) (same : V → V → Bool) (always :
       → Kept number same always i a h k kind given given (after_retire next p r) h'
   handed_over n next p r h' m g =
       let ne : number p ≢ number n = (λ e. let z : (a (number n)).status ≡ Linked = (let P : ℕ → Type 0 = λ y. (a y).status ≡ Linked in subst P e m.0.above.linked) in let y : (a (number n)).status ≡ Gone = m.0.gone in cc) in
-      let np : own a (number n) None (number p) ≡ a (number p) = noted_other a (number n) _ (number p) ne in
-      let e : KeepsMap i a h (own a (number n) None) h' = retire_still i a h (number p) (number n) h' t w m.0 g in
-      let held : Holding i (own a (number n) None) (number p) = record { owner = rw np m.0.above.owner; linked = rw np m.0.above.linked } in
+      let np : with_owner a (number n) None (number p) ≡ a (number p) = noted_other a (number n) _ (number p) ne in
+      let e : KeepsMap i a h (with_owner a (number n) None) h' = retire_still i a h (number p) (number n) h' t w m.0 g in
+      let held : Holding i (with_owner a (number n) None) (number p) = record { owner = rw np m.0.above.owner; linked = rw np m.0.above.linked } in
       by_next next e held (out_on _ h' (number n) next g.others (noted_other a (number n) _) m.1)
     where
-      by_next : (next : Option C) → KeepsMap i a h (own a (number n) None) h' → Holding i (own a (number n) None) (number p) → AlsoOut number i (own a (number n) None) h' (number n) next
+      by_next : (next : Option C) → KeepsMap i a h (with_owner a (number n) None) h' → Holding i (with_owner a (number n) None) (number p) → AlsoOut number i (with_owner a (number n) None) h' (number n) next
           → Kept number same always i a h k kind given given (after_retire next p r) h'
-      by_next None e held o = still_kept (own a (number n) None) h' (Unlock p r) e held
-      by_next (Some c) e held o = still_kept (own a (number n) None) h' (Obsolete c None p r) e (record { above = held; owner = o.0; gone = o.1; unretired = o.2 }, tt)
+      by_next None e held o = still_kept (with_owner a (number n) None) h' (Unlock p r) e held
+      by_next (Some c) e held o = still_kept (with_owner a (number n) None) h' (Obsolete c None p r) e (record { above = held; owner = o.0; gone = o.1; unretired = o.2 }, tt)
 
   -- once the lower node is unlocked, a call still holds the upper one
   pub unlocked_below : (n p : C) (r : Reply V) (h' : ℕ → Node V) → Known number same always i a h k (key_bytes k) kind given (UnlockBelow n p r) → UnlockGives h (number n) h' → Kept number same always i a h k kind given given (quiet (Unlock p r)) h'
   unlocked_below n p r h' m g =
-      let np : own a (number n) None (number p) ≡ a (number p) = noted_other a (number n) _ (number p) (λ e. m.2 (sym e)) in
-      still_kept (own a (number n) None) h' (Unlock p r) (unlock_still i a h (number n) h' t w m.0 g) (record { owner = rw np m.1.owner; linked = rw np m.1.linked })
+      let np : with_owner a (number n) None (number p) ≡ a (number p) = noted_other a (number n) _ (number p) (λ e. m.2 (sym e)) in
+      still_kept (with_owner a (number n) None) h' (Unlock p r) (unlock_still i a h (number n) h' t w m.0 g) (record { owner = rw np m.1.owner; linked = rw np m.1.linked })
 
   -- a call that lets its last lock go has ended, and the map is as it was
   pub unlocked_last : (n : C) (r : Reply V) (h' : ℕ → Node V) → Known number same always i a h k (key_bytes k) kind given (Unlock n r) → UnlockGives h (number n) h' → Kept number same always i a h k kind given given (finished r) h'
   unlocked_last n r h' m g =
-      let e : KeepsMap i a h (own a (number n) None) h' = unlock_still i a h (number n) h' t w m g in
-      record { notes = own a (number n) None; effect = e.effect; sound = record { known = tt; answer = e.map } }
+      let e : KeepsMap i a h (with_owner a (number n) None) h' = unlock_still i a h (number n) h' t w m g in
+      record { notes = with_owner a (number n) None; effect = e.effect; sound = record { known = tt; answer = e.map } }
 
   -- once a lock of a given-up attempt is let go, the map is as it was, and a call knows what its next step wants
   pub unwinds : (root : C) → number root ≡ 0 → (n : C) (next : Option C) (refusal : Option Refusal) (h' : ℕ → Node V) → Known number same always i a h k (key_bytes k) kind given (Unwind n next refusal) → UnlockGives h (number n) h'
       → Kept number same always i a h k kind given given (after_unwind root next refusal) h'
   unwinds root z n (Some c) refusal h' m g =
-      let nc : own a (number n) None (number c) ≡ a (number c) = noted_other a (number n) _ (number c) m.2.1 in
-      still_kept (own a (number n) None) h' (Unwind c None refusal) (unlock_still i a h (number n) h' t w m.1 g)
+      let nc : with_owner a (number n) None (number c) ≡ a (number c) = noted_other a (number n) _ (number c) m.2.1 in
+      still_kept (with_owner a (number n) None) h' (Unwind c None refusal) (unlock_still i a h (number n) h' t w m.1 g)
       (m.0, record { owner = rw nc m.2.0.owner; linked = rw nc m.2.0.linked }, tt, m.3)
   unwinds root z n None None h' m g =
-      let e : KeepsMap i a h (own a (number n) None) h' = unlock_still i a h (number n) h' t w m.1 g in
+      let e : KeepsMap i a h (with_owner a (number n) None) h' = unlock_still i a h (number n) h' t w m.1 g in
       record {
-        notes = own a (number n) None;
+        notes = with_owner a (number n) None;
         effect = e.effect;
         sound = record {
-          known = (m.0, z, (let P : ℕ → Type 0 = λ x. is_published (own a (number n) None x).status ≡ true in subst P (sym z) (ap is_published e.effect.tree.root)));
+          known = (m.0, z, (let P : ℕ → Type 0 = λ x. is_published (with_owner a (number n) None x).status ≡ true in subst P (sym z) (ap is_published e.effect.tree.root)));
           answer = e.map;
         };
       }
   unwinds root z n None (Some refusal) h' m g =
-      let e : KeepsMap i a h (own a (number n) None) h' = unlock_still i a h (number n) h' t w m.1 g in
-      record { notes = own a (number n) None; effect = e.effect; sound = record { known = tt; answer = e.map } }
+      let e : KeepsMap i a h (with_owner a (number n) None) h' = unlock_still i a h (number n) h' t w m.1 g in
+      record { notes = with_owner a (number n) None; effect = e.effect; sound = record { known = tt; answer = e.map } }

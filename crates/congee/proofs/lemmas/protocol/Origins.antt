@@ -41,7 +41,7 @@ use Rattle.congee.specs.Keys.{key_bytes}
 use Rattle.congee.specs.Notes.{Note, Linked, LockWords}
 use Rattle.congee.specs.protocol.Protocol.{Knows, Known}
 use Rattle.congee.specs.protocol.Names.{name_above, names_over, name_stamped, name_made, names_for_one, names_for_two, names_site, names_one, names_two, names_plan, names, Comes, Had, Top, New_made, Hangs, KeepsOrigin}
-use Rattle.congee.proofs.lemmas.protocol.Each.{Each, each_append, left, right}
+use Rattle.congee.proofs.lemmas.protocol.Each.{Each, each_append, each_left, each_right}
 use Rattle.congee.proofs.lemmas.Graft.{on_test}
 use Rattle.congee.proofs.lemmas.protocol.Touch.{by_test, taken_linked}
 use Rattle.congee.proofs.lemmas.protocol.ScanNames.{scan_names}
@@ -195,8 +195,8 @@ module _ {C : Type 0} (V : Type 0) (number : C → ℕ) (K : ℕ → Type 0) whe
   of_top two r (Some top) k l e = (l, (e.0, (k, tt)))
 
   of_change : (two : Two C) (r : Reply V) (change : Double C) → Each K (names_two number two) → Leaves (after_change two r change)
-  of_change two r Collapse e = of_top two r two.top e.0 e.1.0 (left K (name_above number two.top) (names_for_two number two.change) e.1.1)
-  of_change two r (ShrinkAbove c) e = of_top two r two.top e.0 e.1.0 (left K (name_above number two.top) (names_for_two number two.change) e.1.1)
+  of_change two r Collapse e = of_top two r two.top e.0 e.1.0 (each_left K (name_above number two.top) (names_for_two number two.change) e.1.1)
+  of_change two r (ShrinkAbove c) e = of_top two r two.top e.0 e.1.0 (each_left K (name_above number two.top) (names_for_two number two.change) e.1.1)
   of_change two r _ e = (e.1.0, (e.0, tt))
 
   of_retired : (next : Option C) (p : C) (r : Reply V) → K (number p) → Each K (name_made number next) → Leaves (after_retire next p r)
@@ -253,7 +253,7 @@ module _ {C : Type 0} (V : Type 0) (number : C → ℕ) (K : ℕ → Type 0) whe
     of_upgraded_one one r Exhausted t x e = at_next_phase t (refused refusal.Exhausted) x.1 tt
 
     tops : (two : Two C) → Each K (names_two number two) → Each K (name_above number two.top)
-    tops two e = left K (name_above number two.top) (names_for_two number two.change) e.1.1
+    tops two e = each_left K (name_above number two.top) (names_for_two number two.change) e.1.1
 
     of_upgraded_above : (two : Two C) (r : Reply V) (u : Upgrade) (t : NextPhase C V) → UpgradedAbove number root two r h u h' t → Each K (names_two number two) → Leaves t
     of_upgraded_above two r Locked t x e = at_next_phase t _ x.1 e
@@ -261,7 +261,7 @@ module _ {C : Type 0} (V : Type 0) (number : C → ℕ) (K : ℕ → Type 0) whe
     of_upgraded_above two r Exhausted t x e = at_next_phase t _ x.1 (of_given_up root top two.top (Some refusal.Exhausted) (tops two e))
 
     of_upgraded_top : (g : Parent C) (two : Two C) (r : Reply V) (u : Upgrade) (t : NextPhase C V) → UpgradedTop number root g two r h u h' t → K (number g.stamp.node) → Each K (names_two number two) → Leaves t
-    of_upgraded_top g two r Locked t x k e = at_next_phase t _ x.1 (e.0, (e.1.0, (k, right K (name_above number two.top) (names_for_two number two.change) e.1.1)))
+    of_upgraded_top g two r Locked t x k e = at_next_phase t _ x.1 (e.0, (e.1.0, (k, each_right K (name_above number two.top) (names_for_two number two.change) e.1.1)))
     of_upgraded_top g two r Failed t x k e = at_next_phase t _ x.1 (top, tt)
     of_upgraded_top g two r Exhausted t x k e = at_next_phase t (refused refusal.Exhausted) x.1 tt
 
@@ -289,10 +289,10 @@ module _ {C : Type 0} (V : Type 0) (number : C → ℕ) (K : ℕ → Type 0) whe
       step_names (CheckOld p s v) m g e = of_if root top _ _ next_phase g.2 (λ y x. of_old always same kind given s v next_phase x e.1)
       step_names (MakeLeaf s) m g e = of_leaf s g.1.0 next_phase g.1.1 e
       step_names (MakeGreater s p leaf) m g e = of_made_greater s p leaf g.1.0 next_phase g.1.1 e.0
-          (left K (name_made number leaf) (names_site number s) e.1) (right K (name_made number leaf) (names_site number s) e.1)
+          (each_left K (name_made number leaf) (names_site number s) e.1) (each_right K (name_made number leaf) (names_site number s) e.1)
       step_names (MakeTop p at common byte) m g e = of_made_top p at common byte g.1.0 next_phase g.1.1 e.0 e.1.0
       step_names (MakeBeside p at common byte c) m g e = of_made_beside p at common byte c g.1.0 next_phase g.1.1 e.0 e.1.0 e.1.1.0
-      step_names (MakeLesser s p top r) m g e = of_made_lesser s p top r g.1.0 next_phase g.1.1 e.0 (left K (name_above number top) (names_site number s) e.1) (right K (name_above number top) (names_site number s) e.1)
+      step_names (MakeLesser s p top r) m g e = of_made_lesser s p top r g.1.0 next_phase g.1.1 e.0 (each_left K (name_above number top) (names_site number s) e.1) (each_right K (name_above number top) (names_site number s) e.1)
       step_names (AskOld s v) m g e = of_given always same kind s v answer given given' next_phase g.1 e
       step_names (AskNew plan) m g e = of_new plan answer given given' next_phase g.1 e
       step_names (Confirm at r) m g e = of_if root top _ _ next_phase g.2 (λ y x. at_next_phase next_phase (answered r) x tt)

@@ -9,7 +9,7 @@ use Rattle.congee.proofs.lemmas.Fits.{both_true, and_true, fits_byte}
 use Rattle.congee.proofs.lemmas.Tree.{same_or_not}
 use Rattle.congee.proofs.lemmas.Graft.{on_test}
 use Rattle.congee.proofs.lemmas.Split.{Splits, split_tree, split_map}
-use Rattle.congee.proofs.lemmas.protocol.Touch.{noted, noted_same, noted_other, Touched, as_it_was, moved, effect, but_one}
+use Rattle.congee.proofs.lemmas.protocol.Touch.{noted, noted_same, noted_other, Touched, as_it_was, moved, touched_effect, but_one}
 use Rattle.congee.proofs.lemmas.protocol.Change.{Changed, under_touch, under_change, live_made, live_changed, live_same, joined, joined_touch, leaf_filled, leaf_same, made_apart}
 
 -- a prefix that begins another one of the key's bytes as far as they are alike
@@ -135,7 +135,7 @@ split_changed i a h key p b m c d common byte v h1 h2 h3 h' len t w o fit eb hun
     let root_c : 0 ≢ c = (λ e. made_apart i a h key c common 1 0 mc (ap is_published t.root) (sym e)) in
     let root_d : 0 ≢ d = (λ e. made_apart i a h key d 7 0 0 md (ap is_published t.root) (sym e)) in (
       record {
-        effect = effect i a h _ h' w (split_tree a h _ h' p m c d key v t s)
+        effect = touched_effect i a h _ h' w (split_tree a h _ h' p m c d key v t s)
             (but_one (λ y z. y.capacity ≡ z.capacity) h3 h' p (λ y. refl) k4.others k4.capacity 0
             ∙ ap (λ z. z.capacity) (k3.others 0 root_c ∙ (k2.others 0 root_c ∙ k1.others 0 root_d))) touch;
         before = map.0;

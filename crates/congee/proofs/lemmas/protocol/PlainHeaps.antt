@@ -17,11 +17,11 @@ use Rattle.congee.specs.protocol.Events.{hung, places, ChangeGives, HoldsValues,
 use Rattle.congee.specs.protocol.Bounds.{Within}
 use Rattle.congee.specs.protocol.Plain.{count_of, child_at}
 use Rattle.congee.specs.protocol.PlainHeap.{plain_node_of, plain_heap, IsFresh, IsTruly, SameWord, MovesTo}
-use Rattle.congee.proofs.lemmas.protocol.PlainLemmas.{child_set, child_beside, count_set, alone, pair_alone, one_left, past, lacking, none_left, all_left}
+use Rattle.congee.proofs.lemmas.protocol.PlainLemmas.{child_set, child_beside, count_set, none_beside_one, pair_alone, one_left, past, lacking, none_left, all_left}
 use Rattle.congee.proofs.lemmas.protocol.Leftovers.{kept_node, kept_value}
 use Rattle.congee.proofs.lemmas.owned.Joins.{front_fits}
 use Rattle.congee.proofs.lemmas.Graft.{on_test}
-use Rattle.congee.proofs.lemmas.Fits.{equal}
+use Rattle.congee.proofs.lemmas.Fits.{equal_of_test}
 
 -- a node that was made is one of the list
 made_within : (nodes : List PlainNode) (i : ℕ) → (plain_heap nodes i).made ≡ true → i < length nodes
@@ -222,7 +222,7 @@ fresh_within x form prefix most f zero s = record {
 fresh_within x form prefix most f (suc n) s = absurd (let z : false ≡ true = s.made in cc)
 
 differ : (a b : ℕ) → a ≢ b → (a == b) ≡ false
-differ a b ne = on_test (a == b) (λ t. absurd (ne (equal a b t))) (λ f. f)
+differ a b ne = on_test (a == b) (λ t. absurd (ne (equal_of_test a b t))) (λ f. f)
 
 -- a lock word that isn't the one taken
 pub not_locked : (nodes : List PlainNode) (i v most : ℕ) (x : PlainNode) (fail : Bool) → v ≢ most → (plain_heap nodes i).made ≡ true → x ≡ get_or nodes i x
@@ -253,7 +253,7 @@ seen_truly n key b depth s ed e l t =
       child = child;
       count = t.count_is;
       full = λ _. t.full_is ∙ ap (λ y. y == capacity_of n.form) t.count_is;
-      alone = λ one ne. alone n.children.items (slice_index key (length n.prefix)) one (λ q. ne (child ∙ q));
+      alone = λ one ne. none_beside_one n.children.items (slice_index key (length n.prefix)) one (λ q. ne (child ∙ q));
       room = λ q. (let w : count_of n.children.items < length n.children.items = lacking n.children.items (slice_index key (length n.prefix)) within (sym child ∙ q) in omega (arith, w, n.wide));
     }
 

@@ -69,12 +69,12 @@ some_there (x ∷ xs) zero ne = omega (arith, there x ne, count_cons x xs)
 some_there (x ∷ xs) (suc b) ne = omega (arith, some_there xs b ne, count_cons x xs)
 
 -- a node with one child has nothing else
-pub alone : (xs : List (Child ℕ ℕ)) (i : ℕ) → count_of xs ≡ 1 → child_at xs i ≢ Nothing → (b : ℕ) → b ≢ i → child_at xs b ≡ Nothing
-alone [] i e ne b d = refl
-alone (x ∷ xs) zero e ne zero d = absurd (d refl)
-alone (x ∷ xs) zero e ne (suc b) d = none_there xs (omega (arith, e, there x ne, count_cons x xs)) b
-alone (x ∷ xs) (suc i) e ne zero d = empty_at x (omega (arith, e, some_there xs i ne, count_cons x xs))
-alone (x ∷ xs) (suc i) e ne (suc b) d = alone xs i (omega (arith, e, some_there xs i ne, count_cons x xs, count_by-le-length is_there (x ∷ xs))) ne b (λ q. d (ap suc q))
+pub none_beside_one : (xs : List (Child ℕ ℕ)) (i : ℕ) → count_of xs ≡ 1 → child_at xs i ≢ Nothing → (b : ℕ) → b ≢ i → child_at xs b ≡ Nothing
+none_beside_one [] i e ne b d = refl
+none_beside_one (x ∷ xs) zero e ne zero d = absurd (d refl)
+none_beside_one (x ∷ xs) zero e ne (suc b) d = none_there xs (omega (arith, e, there x ne, count_cons x xs)) b
+none_beside_one (x ∷ xs) (suc i) e ne zero d = empty_at x (omega (arith, e, some_there xs i ne, count_cons x xs))
+none_beside_one (x ∷ xs) (suc i) e ne (suc b) d = none_beside_one xs i (omega (arith, e, some_there xs i ne, count_cons x xs, count_by-le-length is_there (x ∷ xs))) ne b (λ q. d (ap suc q))
 
 -- a list of blanks has no child
 pub none_left : (xs : List (Child ℕ ℕ)) → ((b : ℕ) → child_at xs b ≡ Nothing) → count_of xs ≡ 0
@@ -93,9 +93,9 @@ pub pair_alone : (xs : List (Child ℕ ℕ)) (i j : ℕ) → count_of xs ≡ 2 �
 pair_alone [] i j e ne ci cj b di dj = refl
 pair_alone (x ∷ xs) zero zero e ne ci cj b di dj = absurd (ne refl)
 pair_alone (x ∷ xs) zero (suc j) e ne ci cj zero di dj = absurd (di refl)
-pair_alone (x ∷ xs) zero (suc j) e ne ci cj (suc b) di dj = alone xs j (omega (arith, e, there x ci, count_cons x xs)) cj b (λ q. dj (ap suc q))
+pair_alone (x ∷ xs) zero (suc j) e ne ci cj (suc b) di dj = none_beside_one xs j (omega (arith, e, there x ci, count_cons x xs)) cj b (λ q. dj (ap suc q))
 pair_alone (x ∷ xs) (suc i) zero e ne ci cj zero di dj = absurd (dj refl)
-pair_alone (x ∷ xs) (suc i) zero e ne ci cj (suc b) di dj = alone xs i (omega (arith, e, there x cj, count_cons x xs)) ci b (λ q. di (ap suc q))
+pair_alone (x ∷ xs) (suc i) zero e ne ci cj (suc b) di dj = none_beside_one xs i (omega (arith, e, there x cj, count_cons x xs)) ci b (λ q. di (ap suc q))
 pair_alone (x ∷ xs) (suc i) (suc j) e ne ci cj zero di dj = empty_at x (omega (arith, e, two_there xs i j (λ q. ne (ap suc q)) ci cj, count_cons x xs))
 pair_alone (x ∷ xs) (suc i) (suc j) e ne ci cj (suc b) di dj =
     pair_alone xs i j (omega (arith, e, two_there xs i j (λ q. ne (ap suc q)) ci cj, count_cons x xs)) (λ q. ne (ap suc q)) ci cj b (λ q. di (ap suc q)) (λ q. dj (ap suc q))

@@ -24,7 +24,7 @@ use Rattle.congee.specs.protocol.Steps.{quiet, shrinks, set_at, both, last_out, 
 use Rattle.congee.specs.Keys.{key_bytes}
 use Rattle.congee.specs.Notes.{Note, Tree, LockWords}
 use Rattle.congee.specs.protocol.Protocol.{Fresh, ChildOf, IsFar, IsAbove, IsAlone, HasTop, Sees, Knows, WantedOne, MadeOne, IsLeafAt, FitsOne, OneKnown, FitsTwo, HasGift, Asking, Adding, StampedIf, PlanKnown, MadeLeafFor, Settles}
-use Rattle.congee.proofs.lemmas.Fits.{equal, same_test, both_true}
+use Rattle.congee.proofs.lemmas.Fits.{equal_of_test, same_test, both_true}
 use Rattle.congee.proofs.lemmas.protocol.Touch.{by_test, taken_linked}
 use Rattle.congee.proofs.lemmas.Graft.{on_test}
 use Rattle.congee.proofs.lemmas.protocol.Sound.{Sound, fresh_map, settle_absent, answers_now, stands_at}
@@ -90,13 +90,13 @@ module _ {C V : Type 0} (number : C → ℕ) (same : V → V → Bool) (always :
       let z : number s.at.node ≡ 0 = (let P : Option (Over C) → Type 0 = λ x. IsAbove number a h (key_bytes k) x (number s.at.node) in subst P ep m.above) in
       let wide : (h (number s.at.node)).capacity ≡ 256 = (let P : ℕ → Type 0 = λ x. (h x).capacity ≡ 256 in subst P (sym z) w.wide) in
       on_test ((h (number s.at.node)).count == (h (number s.at.node)).capacity)
-      (λ b. let c : (h (number s.at.node)).count ≡ (h (number s.at.node)).capacity = equal _ _ b in absurd (omega (arith, y.room refl, wide, c))) (λ b. b)) size one)
+      (λ b. let c : (h (number s.at.node)).count ≡ (h (number s.at.node)).capacity = equal_of_test _ _ b in absurd (omega (arith, y.room refl, wide, c))) (λ b. b)) size one)
   unless_full_sound kind given s leaf change false p ef ep e few g m made size one = ready_sound kind given (plan_here s change) e g (here_known s change m
       (λ q. let y : Sees (key_bytes k) s Nothing (h (number s.at.node)) = m.fresh.holds q in sym (y.full refl) ∙ ef) size one)
 
   missing_sound : (kind : Kind V) (given : Option V) (s : Site C) → adds kind ≡ true → s.count < 256 → HasGift kind given → Knows number a h (key_bytes k) s Nothing → Sound number same always i k kind given h given (missing kind s) a h
   missing_sound kind given s e few g m = by_test (λ (x : NextPhase C V). Sound number same always i k kind given h given x a h) (s.depth == 7) _ _
-      (λ q. let z : s.depth ≡ 7 = equal s.depth 7 q in unless_full_sound kind given s None Set s.full s.above refl refl e few g m z z tt)
+      (λ q. let z : s.depth ≡ 7 = equal_of_test s.depth 7 q in unless_full_sound kind given s None Set s.full s.above refl refl e few g m z z tt)
       (λ q. record { known = (g, m, less s.depth m.short (λ z. let y : s.depth == 7 ≡ true = same_test s.depth 7 z in cc), e, few); answer = λ x _. refl })
     where
       less : (n : ℕ) → n ≤ 7 → n ≢ 7 → n < 7
@@ -164,7 +164,7 @@ module _ {C V : Type 0} (number : C → ℕ) (same : V → V → Bool) (always :
       (λ q. record {
         known = (
           g,
-          (Some v, 0, record { top = tt; above = c; placed = (m.fitted, sym m.depth ∙ d); fresh = left_alone s v one m; made = equal p.count 2 q }, tt, z),
+          (Some v, 0, record { top = tt; above = c; placed = (m.fitted, sym m.depth ∙ d); fresh = left_alone s v one m; made = equal_of_test p.count 2 q }, tt, z),
           f,
           tt,
           refl,
@@ -184,7 +184,7 @@ module _ {C V : Type 0} (number : C → ℕ) (same : V → V → Bool) (always :
       → Settles same k kind None (Some v) r None → Sound number same always i k kind given h None (taken_out s p r) a h
   taken_sound kind given s v r None ab g m d z = set_out kind given s v r g m d z
   taken_sound kind given s v r (Some u) ab g m d z = by_test (λ (x : NextPhase C V). Sound number same always i k kind given h None x a h) (s.count == 1) _ _
-      (λ q. last_sound kind given s v r u.near u.far ab.0 ab.1 (equal s.count 1 q) g m d z)
+      (λ q. last_sound kind given s v r u.near u.far ab.0 ab.1 (equal_of_test s.count 1 q) g m d z)
       (λ _. by_test (λ (x : NextPhase C V). Sound number same always i k kind given h None x a h) (shrinks s.form s.count) _ _
       (λ q. record { known = (g, (v, m, z), d, refl, ab.0, q); answer = λ y _. refl })
       (λ _. set_out kind given s v r g m d z))

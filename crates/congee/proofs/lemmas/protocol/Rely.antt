@@ -21,7 +21,7 @@ use Rattle.congee.specs.protocol.Events.{hung, Parts}
 use Rattle.congee.specs.Notes.{Note}
 use Rattle.congee.specs.protocol.Protocol.{ChildOf, IsFar, IsAbove, TopLocked, AlsoOut, AlsoHolding, IsLesser, Knows, Made, PlacedOne, WantedOne, MadeOne, OneKnown, OneLocked, PlacedTwo, WantedTwo, MadeTwo, TwoKnown, AboveLocked, HalfLocked, TwoLocked, TakenOut, StampedIf, PlanKnown, MadeLeafFor, Known, Rely}
 use Rattle.congee.specs.protocol.Names.{name_above, names_over, name_stamped, name_made, names_site, names_one, names_plan, names}
-use Rattle.congee.proofs.lemmas.protocol.Each.{Each, left, right}
+use Rattle.congee.proofs.lemmas.protocol.Each.{Each, each_left, each_right}
 pub use Rattle.congee.proofs.lemmas.protocol.Stamps.{stamped_kept, fresh_kept, fits_kept, holding_kept, made_kept}
 use Rattle.congee.proofs.lemmas.protocol.ScanRely.{scan_known_kept}
 
@@ -179,7 +179,7 @@ module _ {C V : Type 0} (number : C → ℕ) (key : List ℕ) (K : ℕ → Type 
   stamped_if_kept (Some p) k s = stamped_kept K i a h a' h' r (number p.node) p.version k.0 s
 
   plan_kept : (plan : Plan C) → Each K (names_plan number plan) → PlanKnown number i a h key plan → PlanKnown number i a' h' key plan
-  plan_kept (Here check one) k x = (stamped_if_kept check (left K (name_stamped number check) (names_one number one) k) x.0, one_kept one _ (right K (name_stamped number check) (names_one number one) k).0 x.1)
+  plan_kept (Here check one) k x = (stamped_if_kept check (each_left K (name_stamped number check) (names_one number one) k) x.0, one_kept one _ (each_right K (name_stamped number check) (names_one number one) k).0 x.1)
   plan_kept (Above two) k x = ((x.0.0, two_kept two None x.0.0 k.0 k.1.0 x.0.1), x.1, x.2)
 
   made_leaf_kept : (s : Site C) (leaf : Option C) → MadeLeafFor number i a h key s leaf → MadeLeafFor number i a' h' key s leaf
@@ -211,7 +211,7 @@ known_kept number same always K i a h a' h' r k key kind given (CheckOld p s v) 
     (m.0, stamped_kept K i a h a' h' r (number p.node) p.version n.0 m.1, knows_kept number key K i a h a' h' r s _ n.1.1 n.1.0 m.2, m.3, m.4)
 known_kept number same always K i a h a' h' r k key kind given (MakeLeaf s) n m = (m.0, knows_kept number key K i a h a' h' r s _ n.1 n.0 m.1, m.2, m.3, m.4)
 known_kept number same always K i a h a' h' r k key kind given (MakeGreater s p leaf) n m =
-    (m.0, knows_kept number key K i a h a' h' r s _ (right K (name_made number leaf) (names_site number s) n.1).1 (right K (name_made number leaf) (names_site number s) n.1).0 m.1, child_kept number key K i a h a' h' r p (number s.at.node) n.0 m.2, made_leaf_kept number key K i a h a' h' r s leaf m.3, m.4, m.5)
+    (m.0, knows_kept number key K i a h a' h' r s _ (each_right K (name_made number leaf) (names_site number s) n.1).1 (each_right K (name_made number leaf) (names_site number s) n.1).0 m.1, child_kept number key K i a h a' h' r p (number s.at.node) n.0 m.2, made_leaf_kept number key K i a h a' h' r s leaf m.3, m.4, m.5)
 known_kept number same always K i a h a' h' r k key kind given (MakeTop p at common byte) n m =
     let e : (h' (number at.node)).prefix ≡ (h (number at.node)).prefix = r.prefix (number at.node) n.1.0 m.2.published in (
       m.0,
@@ -232,13 +232,13 @@ known_kept number same always K i a h a' h' r k key kind given (MakeBeside p at 
       made_kept K i a h a' h' r key (number top) common 1 m.6,
     )
 known_kept number same always K i a h a' h' r k key kind given (MakeLesser s p g reply) n m =
-    let site : Each K (names_site number s) = right K (name_above number g) (names_site number s) n.1 in (
+    let site : Each K (names_site number s) = each_right K (name_above number g) (names_site number s) n.1 in (
       m.0,
       (m.1.0, knows_kept number key K i a h a' h' r s _ site.1 site.0 m.1.1, m.1.2),
       m.2,
       m.3,
       child_kept number key K i a h a' h' r p (number s.at.node) n.0 m.4,
-      lesser_kept number key K i a h a' h' r s p g (left K (name_above number g) (names_site number s) n.1) m.5,
+      lesser_kept number key K i a h a' h' r s p g (each_left K (name_above number g) (names_site number s) n.1) m.5,
     )
 known_kept number same always K i a h a' h' r k key kind given (AskOld s v) n m = (m.0, knows_kept number key K i a h a' h' r s _ n.1 n.0 m.1, m.2, m.3)
 known_kept number same always K i a h a' h' r k key kind given (AskNew plan) n m = (plan_kept number key K i a h a' h' r plan n m.0, m.1)

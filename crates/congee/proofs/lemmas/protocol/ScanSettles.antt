@@ -23,7 +23,7 @@ use Rattle.congee.specs.protocol.Scans.{Lacked, IsScan, ScannedTo, written}
 use Rattle.congee.specs.protocol.ScanEvents.{LeastTruly, IsAny}
 use Rattle.congee.specs.protocol.ScanSteps.{whole, is_outside, first_byte, last_byte, rungs_of, pushed, popped, moved, scan_at, NextScan, goes, over, anew, left_to, left, entered, filled, IsFollowed, begins, ScanSteppedAt}
 use Rattle.congee.specs.protocol.ScanKnown.{RungKnown, RungsKnown, WayKnown, ScanKnownAt, ScanKnown, end_of, start_of, Gap, IsWay, Under, Aimed, TracksAt, Tracks, placed, Tells, SameCall}
-use Rattle.congee.proofs.lemmas.Fits.{equal}
+use Rattle.congee.proofs.lemmas.Fits.{equal_of_test}
 use Rattle.congee.proofs.lemmas.Graft.{on_test}
 use Rattle.congee.proofs.lemmas.protocol.Touch.{taken_linked}
 use Rattle.congee.proofs.lemmas.protocol.Regions.{span_pos, whole as all_bytes, start_mono}
@@ -256,7 +256,7 @@ module _ {C V : Type 0} (number : C → ℕ) (always : Bool) (a : ℕ → Note) 
       out_as s (filled s r byte v) u e (on_test (s.count + 1 == s.size)
       (λ full. out_as s (scan_at s (s.count + 1) s.above stage.Full, scan_report.Found s.count (base + byte) v) (filled s r byte v)
       (ap (λ x. (scan_at s (s.count + 1) s.above x, scan_report.Found s.count (base + byte) v)) (pick_true (s.count + 1 == s.size) stage.Full (stage.Look (moved r byte)) full))
-      (tt, record { counted = counted; all = equal (s.count + 1) s.size full; upto = base + byte + 1; scanned_to = all_scanned }, un.counted, record { start_is = refl; last_is = refl; size_is = refl }))
+      (tt, record { counted = counted; all = equal_of_test (s.count + 1) s.size full; upto = base + byte + 1; scanned_to = all_scanned }, un.counted, record { start_is = refl; last_is = refl; size_is = refl }))
       (λ free. out_as s (scan_at s (s.count + 1) s.above (stage.Look (moved r byte)), scan_report.Found s.count (base + byte) v) (filled s r byte v)
       (ap (λ x. (scan_at s (s.count + 1) s.above x, scan_report.Found s.count (base + byte) v)) (pick_false (s.count + 1 == s.size) stage.Full (stage.Look (moved r byte)) free)) (
         (
@@ -322,7 +322,7 @@ module _ {C V : Type 0} (number : C → ℕ) (always : Bool) (a : ℕ → Note) 
       let none : NextScan C V = over s (scan_report.Done 0) in
       let some : NextScan C V = entered root (anew root s).0 root whole o in
       out_as s (begins root s o) u e (on_test (s.size == 0)
-      (λ y. out_as s none (begins root s o) (pick_true (s.size == 0) none some y) (nothing_out s (equal s.size 0 y)))
+      (λ y. out_as s none (begins root s o) (pick_true (s.size == 0) none some y) (nothing_out s (equal_of_test s.size 0 y)))
       (λ n. out_as s some (begins root s o) (pick_false (s.size == 0) none some n) (begun_out s (k.range (is_some s.size n)) k.bound (is_some s.size n))))
   stepped_out s (stage.Enter n x) u k tr e = out_as s (entered root s n x (version_of (h (number n)))) u e (entered_out s n x k (under_later s x x.base tr))
   stepped_out s (stage.Look r) u k tr e = out_as s (goes s s.above (stage.Check r e.0)) u e.2 ((way_at number a h s _ k.0, k.1, e.1.0, record { stamped = k.1.stamped; holds = e.1.1 }), aimed_at s _ r (aimed_later s r tr), tt, record { start_is = refl; last_is = refl; size_is = refl })

@@ -26,7 +26,7 @@ use Rattle.congee.specs.protocol.Protocol.{Stamped, Fresh, ChildOf, IsFar, IsAbo
 use Rattle.congee.specs.protocol.Answers.{StepAnswers}
 use Rattle.congee.proofs.lemmas.Tree.{finds, misses}
 use Rattle.congee.proofs.lemmas.protocol.Parting.{parts_differ}
-use Rattle.congee.proofs.lemmas.protocol.Touch.{taken_linked, as_it_was, effect}
+use Rattle.congee.proofs.lemmas.protocol.Touch.{taken_linked, as_it_was, touched_effect}
 
 -- what a step leaves the call
 pub record Sound {C V : Type 0} (number : C → ℕ) (same : V → V → Bool) (always : Bool) (i k : ℕ) (kind : Kind V) (given : Option V) (h : ℕ → Node V)
@@ -36,7 +36,7 @@ pub record Sound {C V : Type 0} (number : C → ℕ) (same : V → V → Bool) (
 
 -- a step that changes nothing has its effect
 pub same_effect : {V : Type 0} (i : ℕ) (a : ℕ → Note) (h : ℕ → Node V) → Tree a h → LockWords a h → Effect i a h a h
-same_effect i a h t w = effect i a h a h w t refl (λ n. as_it_was refl refl)
+same_effect i a h t w = touched_effect i a h a h w t refl (λ n. as_it_was refl refl)
 
 -- what follows from what is true of a node as long as its word is the one taken is so too
 pub fresh_map : {V : Type 0} (a : ℕ → Note) (h : ℕ → Node V) (n v : ℕ) (Q R : Node V → Type 0) → (Q (h n) → R (h n)) → Fresh a h n v Q → Fresh a h n v R
@@ -54,12 +54,12 @@ settle_absent same k (Exchange old) given e = record { call = call.Exchange k ol
 module _ {C V : Type 0} (number : C → ℕ) (same : V → V → Bool) (always : Bool) (i : ℕ) (a : ℕ → Note) (h : ℕ → Node V) (k : ℕ) (kind : Kind V) (given : Option V)
     (t : Tree a h) (w : LockWords a h) where
   -- the call goes on
-  pub goes_on : (s : Phase C V) → Known number same always i a h k (key_bytes k) kind given s → Sound number same always i k kind given h given (quiet s) a h
-  goes_on s m = record { known = m; answer = λ x _. refl }
+  pub quiet_sound : (s : Phase C V) → Known number same always i a h k (key_bytes k) kind given s → Sound number same always i k kind given h given (quiet s) a h
+  quiet_sound s m = record { known = m; answer = λ x _. refl }
 
   -- a call that begins anew at the root knows what its next step wants
   pub begins_anew : (root : C) → number root ≡ 0 → HasGift kind given → Sound number same always i k kind given h given (again root) a h
-  begins_anew root e g = goes_on (Version None root) (g, e, (let P : ℕ → Type 0 = λ x. is_published (a x).status ≡ true in subst P (sym e) (ap is_published t.root)))
+  begins_anew root e g = quiet_sound (Version None root) (g, e, (let P : ℕ → Type 0 = λ x. is_published (a x).status ≡ true in subst P (sym e) (ap is_published t.root)))
 
   -- it answers and changes nothing
   pub answers_now : (r : Reply V) (found : Option V) → Settles same k kind given found r found → value_at h (key_bytes k) ≡ found → Sound number same always i k kind given h given (answered r) a h
@@ -68,7 +68,7 @@ module _ {C V : Type 0} (number : C → ℕ) (same : V → V → Bool) (always :
   -- a call that took a node's version, or found none, knows what its next step wants
   pub version_sound : (root : C) → number root ≡ 0 → (p : Option (Over C)) (n : C) → HasGift kind given → IsAbove number a h (key_bytes k) p (number n) → is_published (a (number n)).status ≡ true
       → (b : Bool) → Sound number same always i k kind given h given (after_version root p n (cond b (Some (h (number n)).version) None)) a h
-  version_sound root e p n g m pu true = goes_on (Read p (record { node = n; version = (h (number n)).version })) (g, m, record { published = pu; up = omega arith })
+  version_sound root e p n g m pu true = quiet_sound (Read p (record { node = n; version = (h (number n)).version })) (g, m, record { published = pu; up = omega arith })
   version_sound root e p n g m pu false = begins_anew root e g
 
   -- what a read of a node on the key's way saw
@@ -91,11 +91,11 @@ module _ {C V : Type 0} (number : C → ℕ) (same : V → V → Bool) (always :
   pub read_sound : (root : C) → number root ≡ 0 → (p : Option (Over C)) (at : Stamp C) → HasGift kind given → IsAbove number a h (key_bytes k) p (number at.node) → Stamped a h (number at.node) at.version
       → (r : Reading C V) → ReadGives number always (h (number at.node)) at.version (key_bytes k) r → Sound number same always i k kind given h given (after_read root p at r) a h
   read_sound root e None at g m s (Differs common byte) q = begins_anew root e g
-  read_sound root e (Some p) at g m s (Differs common byte) q = goes_on (CheckMiss p.near at common byte) (g, m.0, s, q.0, q.1)
-  read_sound root e None at g m s (Fits depth form x) q = goes_on _ (g, saw None at m s depth form x q)
-  read_sound root e (Some p) at g m s (Fits depth form x) q = goes_on _ (g, saw (Some p) at m s depth form x q)
-  read_sound root e None at g m s Uncopied q = goes_on (CheckUncopied at) (g, s, q.1)
-  read_sound root e (Some p) at g m s Uncopied q = goes_on (CheckUncopied at) (g, s, q.1)
+  read_sound root e (Some p) at g m s (Differs common byte) q = quiet_sound (CheckMiss p.near at common byte) (g, m.0, s, q.0, q.1)
+  read_sound root e None at g m s (Fits depth form x) q = quiet_sound _ (g, saw None at m s depth form x q)
+  read_sound root e (Some p) at g m s (Fits depth form x) q = quiet_sound _ (g, saw (Some p) at m s depth form x q)
+  read_sound root e None at g m s Uncopied q = quiet_sound (CheckUncopied at) (g, s, q.1)
+  read_sound root e (Some p) at g m s Uncopied q = quiet_sound (CheckUncopied at) (g, s, q.1)
 
   -- the value at the key by what was read of a node whose lock word is the one taken
   pub stands_at : (n v : ℕ) (x : Hung V) (Q : Node V → Type 0) → Fresh a h n v Q → (Q (h n) → child_for (h n) (key_bytes k) ≡ x) → fits (h n).prefix (key_bytes k) ≡ true → is_taken (h n) v ≡ true
@@ -131,6 +131,6 @@ module _ {C V : Type 0} (number : C → ℕ) (same : V → V → Bool) (always :
     where
       by_above : (b : Bool) (p : Option (Over C)) → IsAbove number a h (key_bytes k) p (number s.at.node) → is_published (a (number c)).status ≡ true → IsAbove number a h (key_bytes k) (Some (below s)) (number c)
           → Sound number same always i k kind given h given (down b s p c) a h
-      by_above false p ab pu z = goes_on (Version (Some (below s)) c) (g, z, pu)
-      by_above true None ab pu z = goes_on (Version (Some (below s)) c) (g, z, pu)
-      by_above true (Some p) ab pu z = goes_on (CheckDown p.near.stamp (below s) c) (g, ab.0.fresh.stamped, z, pu)
+      by_above false p ab pu z = quiet_sound (Version (Some (below s)) c) (g, z, pu)
+      by_above true None ab pu z = quiet_sound (Version (Some (below s)) c) (g, z, pu)
+      by_above true (Some p) ab pu z = quiet_sound (CheckDown p.near.stamp (below s) c) (g, ab.0.fresh.stamped, z, pu)

@@ -25,7 +25,7 @@ use Rattle.congee.specs.protocol.Answers.{KeepsProtocol}
 use Rattle.congee.specs.protocol.Protocol.{HasGift, Holding, AlsoHolding, TopLocked, Known, IsFailure}
 use Rattle.congee.proofs.lemmas.Graft.{on_test}
 use Rattle.congee.proofs.lemmas.protocol.Touch.{by_test}
-use Rattle.congee.proofs.lemmas.protocol.Sound.{Sound, same_effect, settle_absent, goes_on, begins_anew, answers_now, version_sound, read_sound, stands_at, miss_value}
+use Rattle.congee.proofs.lemmas.protocol.Sound.{Sound, same_effect, settle_absent, quiet_sound, begins_anew, answers_now, version_sound, read_sound, stands_at, miss_value}
 use Rattle.congee.proofs.lemmas.protocol.Plans.{next_phase_at}
 use Rattle.congee.proofs.lemmas.protocol.Values.{at_old_sound, checked_sound, given_sound, given_new_sound}
 use Rattle.congee.proofs.lemmas.protocol.Locks.{Kept, locked_taken, above_longer, lock_one, lock_top, lock_above, lock_both, marked, handed_over, unlocked_below, unlocked_last, unwinds}
@@ -148,10 +148,10 @@ step_kept number same always most why law i a h root z k kind fail answer given 
 step_kept {C} {V} number same always most why law i a h root z k kind fail answer given (CheckMiss p at common byte) given' next_phase h' t w m g = sound_kept number same always i a h k kind given t w given' next_phase h' g.0 g.1
     (if_sound number same always i a h k kind given t w _ root z _ next_phase g.2 m.0 (λ q x. at_next_phase number same always i a h k kind given t w _ next_phase x
     (by_test (λ (y : NextPhase C V). Sound number same always i k kind given h given y a h) (adds kind) _ _
-    (λ e. goes_on number same always i a h k kind given t w (MakeTop p at common byte) (m.0, m.1, m.2, m.3, m.4, e))
+    (λ e. quiet_sound number same always i a h k kind given t w (MakeTop p at common byte) (m.0, m.1, m.2, m.3, m.4, e))
     (λ e. answers_now number same always i a h k kind given t w (absent_reply kind) None (settle_absent same k kind given e) (miss_value number same always i a h k kind given t w p (number at.node) common m.1 m.3 q)))))
 step_kept number same always most why law i a h root z k kind fail answer given (CheckDown p at c) given' next_phase h' t w m g = sound_kept number same always i a h k kind given t w given' next_phase h' g.0 g.1
-    (if_sound number same always i a h k kind given t w _ root z _ next_phase g.2 m.0 (λ q x. at_next_phase number same always i a h k kind given t w _ next_phase x (goes_on number same always i a h k kind given t w (Version (Some at) c) (m.0, m.2, m.3))))
+    (if_sound number same always i a h k kind given t w _ root z _ next_phase g.2 m.0 (λ q x. at_next_phase number same always i a h k kind given t w _ next_phase x (quiet_sound number same always i a h k kind given t w (Version (Some at) c) (m.0, m.2, m.3))))
 step_kept number same always most why law i a h root z k kind fail answer given (CheckOld p s v) given' next_phase h' t w m g = sound_kept number same always i a h k kind given t w given' next_phase h' g.0 g.1
     (if_sound number same always i a h k kind given t w _ root z _ next_phase g.2 m.0 (λ q x. at_old_sound number same always i a h k t w law kind given s v next_phase x m.3 m.0 m.2 m.4))
 step_kept number same always most why law i a h root z k kind fail answer given (MakeLeaf s) given' next_phase h' t w m g = given_at number same always i a h k kind given t w given' next_phase h' g.0
@@ -177,7 +177,7 @@ step_kept {C} {V} number same always most why law i a h root z k kind fail answe
 step_kept number same always most why law i a h root z k kind fail answer given (CheckAbove p one r) given' next_phase h' t w m g = given_at number same always i a h k kind given t w given' next_phase h' g.0
     (on_test (is_taken (h (number p.node)) p.version)
     (λ q. quiet_kept number same always i a h k kind given t w given next_phase h' (g.1.goes_on q).0
-    (at_next_phase number same always i a h k kind given t w _ next_phase (g.1.goes_on q).1 (goes_on number same always i a h k kind given t w (UpgradeOne one r) (m.0, (Nothing, m.2, m.3, m.4)))))
+    (at_next_phase number same always i a h k kind given t w _ next_phase (g.1.goes_on q).1 (quiet_sound number same always i a h k kind given t w (UpgradeOne one r) (m.0, (Nothing, m.2, m.3, m.4)))))
     (λ q. kept_at number same always i a h k kind given given _ next_phase h' (g.1.goes_back q).1
     (again_back number same always i a h k kind given t w root z h' m.0 (back_one number i a h (key_bytes k) one.change h' t w m.2.made (g.1.goes_back q).0))))
 step_kept number same always most why law i a h root z k kind fail answer given (UpgradeOne one r) given' next_phase h' t w m g = given_at number same always i a h k kind given t w given' next_phase h' g.0

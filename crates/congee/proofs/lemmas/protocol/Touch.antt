@@ -32,8 +32,8 @@ abbrev pub owned : Note → Option ℕ → Note
 owned x o = record { status = x.status; owner = o; parent = x.parent }
 
 -- the notes with another owner of one node
-abbrev pub own : (ℕ → Note) → ℕ → Option ℕ → ℕ → Note
-own a n o = noted a n (owned (a n) o)
+abbrev pub with_owner : (ℕ → Note) → ℕ → Option ℕ → ℕ → Note
+with_owner a n o = noted a n (owned (a n) o)
 
 -- a node and a note that stay, but for the parent
 pub fares_same : {V : Type 0} (i : ℕ) (x y : Note) (p q : Node V) → q ≡ p → y.status ≡ x.status → y.owner ≡ x.owner → Fares i x y p q
@@ -197,8 +197,8 @@ module _ {V : Type 0} (i : ℕ) (a : ℕ → Note) (h : ℕ → Node V) (a' : �
   touch_fares n (out_of_reach q nobody o w k) = k
 
   -- a step that leaves a tree and touches each node in one of these ways leaves what other calls count on
-  pub effect : LockWords a h → Tree a' h' → (h' 0).capacity ≡ (h 0).capacity → ((n : ℕ) → Touched i a h a' h' n) → Effect i a h a' h'
-  effect w t c touch = record {
+  pub touched_effect : LockWords a h → Tree a' h' → (h' 0).capacity ≡ (h 0).capacity → ((n : ℕ) → Touched i a h a' h' n) → Effect i a h a' h'
+  touched_effect w t c touch = record {
     tree = t;
     words = record { each = λ n. touch_at n (w.each n) (touch n); wide = c ∙ w.wide };
     others = λ j ne. record {

@@ -18,7 +18,7 @@ use Rattle.congee.specs.protocol.Steps.{value_hung, MayBackOne, MayBackTwo, MayB
 use Rattle.congee.specs.Keys.{key_bytes}
 use Rattle.congee.specs.Notes.{Note, Linked, is_published, IsChild, Tree, LockWords}
 use Rattle.congee.specs.protocol.Protocol.{Made, Holding, MadeOne, MadeTwo, MadeLeafFor, FitsOne, FitsTwo, OneLocked, TwoLocked, TopLocked, HasTop, WantedTwo, PlacedTwo, Known}
-use Rattle.congee.proofs.lemmas.Fits.{equal, same_test}
+use Rattle.congee.proofs.lemmas.Fits.{equal_of_test, same_test}
 use Rattle.congee.proofs.lemmas.Graft.{on_test}
 use Rattle.congee.proofs.lemmas.protocol.Touch.{owner_locked}
 use Rattle.congee.proofs.lemmas.protocol.Change.{made_apart}
@@ -30,7 +30,7 @@ holds_alike {V} a h t n l = on_test (length (h n).prefix == 7) leaf inner where
   leaf : (length (h n).prefix == 7) ≡ true → HoldsAlike (h n)
   leaf e = inl (λ b c x.
       let y : IsChild a h n b c = t.down n b c l x in
-      let long : length (h n).prefix ≡ 7 = equal (length (h n).prefix) 7 e in
+      let long : length (h n).prefix ≡ 7 = equal_of_test (length (h n).prefix) 7 e in
       absurd (omega (arith, y.longer, t.short c y.linked, long)))
 
   inner : (length (h n).prefix == 7) ≡ false → HoldsAlike (h n)

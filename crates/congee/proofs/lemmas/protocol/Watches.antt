@@ -24,7 +24,7 @@ use Rattle.congee.specs.protocol.Answers.{Decides, StepAnswers, reply_in}
 use Rattle.congee.specs.protocol.Play.{Question, Unasked, Asked, Replied, Flight, Pending, Decided, Over, value_answered, resolved, Heeds, Watched, PendingMoves, heeding, flight_in, IsOfPoint}
 use Rattle.congee.proofs.lemmas.Graft.{on_test}
 use Rattle.congee.proofs.lemmas.Keys.{standing_same, standing_changed}
-use Rattle.congee.proofs.lemmas.protocol.Shapes.{Ripe, ripe_at_work, StepShape, GoesOn, Skips, Wonders, Stops, Replies, Takes, go, goes_to_work, back, at, answers, checks, reads, versions, if_taken, misses_at, halts, leaf_made, greater_made, top_made, beside_made, lesser_made, one_upgraded, top_upgraded, above_upgraded, both_upgraded, unwinds, at_old, change_shape, given_shape, given_new_shape_at}
+use Rattle.congee.proofs.lemmas.protocol.Shapes.{Ripe, ripe_at_work, StepShape, GoesOn, Skips, Wonders, Stops, Replies, Takes, quiet_shape, goes_to_work, again_shape, shape_at, answers, checks, reads, versions, if_taken, misses_at, halts, leaf_made, greater_made, top_made, beside_made, lesser_made, one_upgraded, top_upgraded, above_upgraded, both_upgraded, unwinds, at_old, change_shape, given_shape, given_new_shape_at}
 
 -- the call is on its key
 call_key : {V : Type 0} (k : ℕ) (kind : Kind V) (given found : Option V) (c : Call V) → IsCall k kind given found c → key_of c ≡ k
@@ -179,13 +179,13 @@ module _ {C V : Type 0} (number : C → ℕ) (same : V → V → Bool) (always :
   -- every step
   pub watched : (s : Phase C V) → IsOfPoint (flight_in k kind v s) → Known number same always i a h k (key_bytes k) kind v s → PhaseStepped number same always most why root (key_bytes k) kind fail told v s h v' t h'
       → StepAnswers same k kind v h t h' → Next (flight_in k kind v s)
-  watched New pf c g n = by_shape n (at number k kind v v' g.1 Unasked _ t g.2 (versions number k kind v v' g.1 Unasked root None root (version_of (h (number root)))))
-  watched (Version above x) pf c g n = by_shape n (at number k kind v v' g.1 Unasked _ t g.2 (versions number k kind v v' g.1 Unasked root above x (version_of (h (number x)))))
-  watched (Read above stamp) pf c g n = by_shape n (at number k kind v v' g.1 Unasked _ t g.2.2 (reads number k kind v v' g.1 Unasked root above stamp g.2.0))
+  watched New pf c g n = by_shape n (shape_at number k kind v v' g.1 Unasked _ t g.2 (versions number k kind v v' g.1 Unasked root None root (version_of (h (number root)))))
+  watched (Version above x) pf c g n = by_shape n (shape_at number k kind v v' g.1 Unasked _ t g.2 (versions number k kind v v' g.1 Unasked root above x (version_of (h (number x)))))
+  watched (Read above stamp) pf c g n = by_shape n (shape_at number k kind v v' g.1 Unasked _ t g.2.2 (reads number k kind v v' g.1 Unasked root above stamp g.2.0))
   watched (Check s x) pf c g n = by_shape n (if_taken number k kind v v' g.1 Unasked _ root _ t g.2 (λ y. checks number k kind v v' g.1 Unasked always same v s x t y))
   watched (CheckUncopied stamp) pf c g n = by_shape n (if_taken number k kind v v' g.1 Unasked _ root _ t g.2 (λ y. halts number k kind v v' g.1 Unasked _ t y))
-  watched (CheckMiss q stamp common byte) pf c g n = by_shape n (if_taken number k kind v v' g.1 Unasked _ root _ t g.2 (λ y. at number k kind v v' g.1 Unasked _ t y (misses_at number k kind v v' g.1 Unasked q stamp common byte)))
-  watched (CheckDown q stamp x) pf c g n = by_shape n (if_taken number k kind v v' g.1 Unasked _ root _ t g.2 (λ y. at number k kind v v' g.1 Unasked _ t y (go number k kind v v' g.1 Unasked (Version _ x) refl)))
+  watched (CheckMiss q stamp common byte) pf c g n = by_shape n (if_taken number k kind v v' g.1 Unasked _ root _ t g.2 (λ y. shape_at number k kind v v' g.1 Unasked _ t y (misses_at number k kind v v' g.1 Unasked q stamp common byte)))
+  watched (CheckDown q stamp x) pf c g n = by_shape n (if_taken number k kind v v' g.1 Unasked _ root _ t g.2 (λ y. shape_at number k kind v v' g.1 Unasked _ t y (quiet_shape number k kind v v' g.1 Unasked (Version _ x) refl)))
   watched (CheckOld q s old) pf c g n = by_shape n (if_taken number k kind v v' g.1 Unasked _ root _ t g.2 (λ y. at_old k v v v' g.1 Unasked always same kind v s old t c.3 y))
   watched (MakeLeaf s) pf c g n = by_shape n (leaf_made number k kind v v' g.0 Unasked s h (key_bytes k) g.1.0 h' t c.3 g.1.1)
   watched (MakeGreater s q leaf) pf c g n = by_shape n (greater_made number k kind v v' g.0 Unasked s q leaf h (key_bytes k) g.1.0 h' t c.4 g.1.1)
@@ -194,10 +194,10 @@ module _ {C V : Type 0} (number : C → ℕ) (same : V → V → Bool) (always :
   watched (MakeLesser s q top r) pf c g n = by_work r n (lesser_made number k kind v v' g.0 (heeding r) s q top r h (key_bytes k) g.1.0 h' t (ripe_at_work r) g.1.1)
   watched (AskOld s old) pf c g n = by_answer (Some old) n (given_shape always same k kind s old told v v' t c.2 g.1)
   watched (AskNew plan) pf c g n = by_answer None n (given_new_shape_at k kind plan told v v' t c.1 g.1)
-  watched (Confirm stamp r) pf c g n = by_work r n (if_taken number k kind v v' g.1 (heeding r) _ root _ t g.2 (λ y. at number k kind v v' g.1 (heeding r) _ t y (answers number k kind v v' g.1 (heeding r) r (ripe_at_work r))))
+  watched (Confirm stamp r) pf c g n = by_work r n (if_taken number k kind v v' g.1 (heeding r) _ root _ t g.2 (λ y. shape_at number k kind v v' g.1 (heeding r) _ t y (answers number k kind v v' g.1 (heeding r) r (ripe_at_work r))))
   watched (CheckAbove q one r) pf c g n = by_work r n (on_test (is_taken (h (number q.node)) q.version)
-      (λ y. at number k kind v v' g.0 (heeding r) _ t (g.1.goes_on y).1 (goes_to_work number k kind v v' g.0 (heeding r) r (UpgradeOne one r) (ripe_at_work r) refl))
-      (λ y. at number k kind v v' g.0 (heeding r) _ t (g.1.goes_back y).1 (back number k kind v v' g.0 (heeding r) root)))
+      (λ y. shape_at number k kind v v' g.0 (heeding r) _ t (g.1.goes_on y).1 (goes_to_work number k kind v v' g.0 (heeding r) r (UpgradeOne one r) (ripe_at_work r) refl))
+      (λ y. shape_at number k kind v v' g.0 (heeding r) _ t (g.1.goes_back y).1 (again_shape number k kind v v' g.0 (heeding r) root)))
   watched (UpgradeOne one r) pf c g n = by_work r n (one_upgraded number k kind v v' g.0 (heeding r) root one r h g.1.0 h' t (ripe_at_work r) g.1.2)
   watched (ChangeOne one r) pf c g n = by_work r n (Takes (Unlock one.at.node r) r g.2 refl refl refl (ripe_at_work r))
   watched (UpgradeTop top two r) pf c g n = by_work r n (top_upgraded number k kind v v' g.0 (heeding r) root top two r h g.1.0 h' t (ripe_at_work r) g.1.2)

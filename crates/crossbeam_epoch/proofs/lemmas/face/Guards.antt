@@ -95,8 +95,8 @@ pub no_job : {J : Type 0} (bag : List (Deferral J)) (b : Bool) → b ≡ nat_eq 
 no_job bag b is none = let h : nat_eq (length bag) 0 ≡ true = sym is ∙ none in nil_from_length bag (grind (arith, nat_tests, h))
 
 -- a bag that isn't full has a free place, and no other bag is made for it
-pub has_room : {J : Type 0} (bag : List (Deferral J)) (b : Bool) → b ≡ nat_eq (length bag) bag_places → length bag ≤ bag_places → b ≡ false → (bag ≡ with_room bag) × (nat_le bag_places (length bag) ≡ false)
-has_room bag b is fits free =
+pub with_room_unfull : {J : Type 0} (bag : List (Deferral J)) (b : Bool) → b ≡ nat_eq (length bag) bag_places → length bag ≤ bag_places → b ≡ false → (bag ≡ with_room bag) × (nat_le bag_places (length bag) ≡ false)
+with_room_unfull bag b is fits free =
     let h : nat_eq (length bag) bag_places ≡ false = sym is ∙ free in
     let x : nat_lt (length bag) bag_places ≡ true = grind (arith, nat_tests, h, fits) in
     let y : nat_le bag_places (length bag) ≡ false = grind (arith, nat_tests, h, fits) in

@@ -7,9 +7,9 @@ use Rattle.std.proofs.lemmas.List.{append_assoc, append-nil, nil_from_length, le
 use Rattle.crossbeam_epoch.specs.Chain.{joined, AreFilled, AreBlocks, refilled, room_freed, room_left}
 
 -- a length below a capacity leaves room
-pub has_room : (len capacity n m room : ℕ) → len ≡ n → capacity ≡ m → len < capacity → m - n ≡ room → room ≡ refilled room
-has_room len capacity n m zero is same lt free = absurd (omega (arith, is, same, lt, free))
-has_room len capacity n m (suc room) is same lt free = refl
+pub refilled_same : (len capacity n m room : ℕ) → len ≡ n → capacity ≡ m → len < capacity → m - n ≡ room → room ≡ refilled room
+refilled_same len capacity n m zero is same lt free = absurd (omega (arith, is, same, lt, free))
+refilled_same len capacity n m (suc room) is same lt free = refl
 
 -- what is read at the front of a list, if it has one
 pub seen_first : {B R : Type 0} (now : R → B) (r : Option R) (xs : List B) (n : ℕ) → n ≡ length xs → IsSome r ↔ (0 < n) → IfSome r (λ b. now b ≡ slice_index_or xs 0 (now b))
@@ -32,24 +32,24 @@ not_nothing (x ∷ xs) n long some is = absurd (cc is)
 
 module _ {B Q : Type 0} (items : Q → List B) where
   -- the first block has nothing, so there are none between: the last one is all
-  pub alone : (first last : List B) (between : List Q) → first ≡ [] → between ≡ [] → first ++ (joined items between ++ last) ≡ last
-  alone first last between none bare = ap (λ f. f ++ (joined items between ++ last)) none ∙ ap (λ b. joined items b ++ last) bare
+  pub last_alone : (first last : List B) (between : List Q) → first ≡ [] → between ≡ [] → first ++ (joined items between ++ last) ≡ last
+  last_alone first last between none bare = ap (λ f. f ++ (joined items between ++ last)) none ∙ ap (λ b. joined items b ++ last) bare
 
   -- the last block becomes the first one
   pub moved : (first last to block : List B) (between : List Q) → first ≡ [] → between ≡ [] → to ≡ last → block ≡ [] → to ++ (joined items between ++ block) ≡ first ++ (joined items between ++ last)
   moved first last to block between none bare same fresh =
-      ap (λ b. to ++ (joined items b ++ block)) bare ∙ ap (λ l. to ++ l) fresh ∙ append-nil to ∙ same ∙ sym (alone first last between none bare)
+      ap (λ b. to ++ (joined items b ++ block)) bare ∙ ap (λ l. to ++ l) fresh ∙ append-nil to ∙ same ∙ sym (last_alone first last between none bare)
 
   -- the first of them is taken where the first block holds nothing
   pub taken_last : (r : Option B) (first first' last last' all : List B) (between : List Q) → first ++ (joined items between ++ last) ≡ all → first ≡ [] → first' ≡ [] → between ≡ []
       → MatchOption r ((last ≡ []) × (last' ≡ [])) (λ b. last ≡ b ∷ last')
       → MatchOption r ((all ≡ []) × (first' ++ (joined items between ++ last') ≡ [])) (λ b. all ≡ b ∷ (first' ++ (joined items between ++ last')))
   taken_last None first first' last last' all between are none none' bare took = (
-    sym are ∙ alone first last between none bare ∙ took.0,
-    alone first' last' between none' bare ∙ took.1,
+    sym are ∙ last_alone first last between none bare ∙ took.0,
+    last_alone first' last' between none' bare ∙ took.1,
   )
   taken_last (Some b) first first' last last' all between are none none' bare took =
-      sym are ∙ alone first last between none bare ∙ took ∙ ap (λ l. b ∷ l) (sym (alone first' last' between none' bare))
+      sym are ∙ last_alone first last between none bare ∙ took ∙ ap (λ l. b ∷ l) (sym (last_alone first' last' between none' bare))
 
   -- the first of them is taken from the first block
   pub taken_first : (first first' last all : List B) (b : B) (between : List Q) → first ++ (joined items between ++ last) ≡ all → first ≡ b ∷ first' → all ≡ b ∷ (first' ++ (joined items between ++ last))

@@ -32,7 +32,7 @@ use Rattle.crossbeam_epoch.specs.World.Steps.{outcome_at, begin_fault, event_fau
 use Rattle.crossbeam_epoch.proofs.lemmas.world.Reaches.{seen_stands}
 use Rattle.crossbeam_epoch.proofs.lemmas.world.Told.{marks_act}
 use Rattle.crossbeam_epoch.proofs.lemmas.world.Undated.{undated_began, undated_graceful, undated_calls, undated_deferrals, undated_later}
-use Rattle.crossbeam_epoch.proofs.lemmas.world.Runs.{in_table, known, begin_idle, refused_begin, off, blank_at, word_none as is_none_now, not_some as not_some_now}
+use Rattle.crossbeam_epoch.proofs.lemmas.world.Runs.{in_table, known_if_faultless, begin_idle, refused_begin, off, blank_at, word_none as is_none_now, not_some as not_some_now}
 
 past_more_by : (op : Op) (n : ℕ) → IsPastBy op n → IsPastBy op (n + 1)
 past_more_by O.Pin n p = omega arith
@@ -324,11 +324,11 @@ module _ {T J : Type 0} where
   moving : (event : Event) (o : Outcome) (f : Option Flight) (n : ℕ) (s : State T J) (who : ℕ) → fault s who event ≡ None → outcome_at (place (moved s who event) who).phase ≡ o → AgreesAt f n (place s who)
       → Turns (flight_after event o f) (guards_after event o f n) s who (moved s who event)
   moving (Begin op) o f n s who e k a =
-      let x = known (place s who).registered (event_fault (Begin op) (place s who).phase (place s who)) e in
+      let x = known_if_faultless (place s who).registered (event_fault (Begin op) (place s who).phase (place s who)) e in
       let idle = begin_idle op (place s who).phase (place s who) x.1 in
       landed (Begin op) o f n s who (begun s who op) (in_table s who x.0) (puts (Begin op) f n s who (begun_at op (place s who)) _ refl (first f n op (place s who) (rw idle at x.1) a idle)) k
   moving Go o f n s who e k a =
-      let x = known (place s who).registered (event_fault Go (place s who).phase (place s who)) e in
+      let x = known_if_faultless (place s who).registered (event_fault Go (place s who).phase (place s who)) e in
       landed Go o f n s who (gone s who (place s who).phase) (in_table s who x.0) (going f n s who (place s who).phase x.1 a a.phase) k
 
   -- a step that finds no memory
@@ -343,7 +343,7 @@ module _ {T J : Type 0} where
       let same : Some F.Memory ≡ Some x = ap (λ (y : Outcome). fault_of y) o in
       absurd (no_such_fault (place s who).registered (place s who).phase (place s who) (is ∙ sym same))
   no_memory f n s who None is o a =
-      let k = known (place s who).registered (event_fault Go (place s who).phase (place s who)) is in
+      let k = known_if_faultless (place s who).registered (event_fault Go (place s who).phase (place s who)) is in
       gives_up f n s who (needs_memory Go (place s who).phase) (in_table s who k.0) o.0 a
 
   refused_go : (f : Option Flight) (n : ℕ) (s : State T J) (who : ℕ) (e : Option Fault) (x : Fault) → fault s who Go ≡ e → IsOutcome s who Go e (Refused x) → AgreesAt f n (place s who)
@@ -399,7 +399,7 @@ module _ {T J : Type 0} where
   marked_move : (f : Option Flight) (n : ℕ) (s : State T J) (who : ℕ) (event : Event) (c : Option (ℕ × Option Name)) (h : List Mark) → fault s who event ≡ None → AgreesAt f n (place s who)
       → undated (moved_marks s who event c h) ≡ event_marks who event c f n (undated h)
   marked_move f n s who (Begin op) c h e a =
-      let x = known (place s who).registered (event_fault (Begin op) (place s who).phase (place s who)) e in
+      let x = known_if_faultless (place s who).registered (event_fault (Begin op) (place s who).phase (place s who)) e in
       let idle = begin_idle op (place s who).phase (place s who) x.1 in
       marked_begin f n who (place s who) op c h (rw idle at x.1) a
   marked_move f n s who Go c h e a = marked_call f n s who s.epoch (place s who).phase c h a.phase

@@ -33,7 +33,7 @@ use Rattle.crossbeam_epoch.specs.World.Store.{Store, value_at, emptied}
 use Rattle.crossbeam_epoch.specs.World.Progress.{Orderly, JobsAfter, EmptiesAt, Empties, Moves, KeepsCalls, IsOn, IsResting, collects}
 use Rattle.crossbeam_epoch.proofs.lemmas.world.Moves.{none_in, none_in_hand, contains_drop, front_bag}
 use Rattle.crossbeam_epoch.proofs.lemmas.world.Jobs.{first_job, no_items, hand_after}
-use Rattle.crossbeam_epoch.proofs.lemmas.world.Runs.{in_table, known, begin_idle, blank_at, blanks_weigh_none, empty_hand, done_called}
+use Rattle.crossbeam_epoch.proofs.lemmas.world.Runs.{in_table, known_if_faultless, begin_idle, blank_at, blanks_weigh_none, empty_hand, done_called}
 
 module _ {J : Type 0} where
   -- a queue of small bags with one more, or one less
@@ -238,10 +238,10 @@ module _ {T J : Type 0} where
 
   moving : (s : State T J) (who : ℕ) (event : Event) → fault s who event ≡ None → Orderly s → Moves s who (called_in s who event Running) (moved s who event)
   moving s who (Begin op) e o =
-      let k = known (place s who).registered (event_fault (Begin op) (place s who).phase (place s who)) e in
+      let k = known_if_faultless (place s who).registered (event_fault (Begin op) (place s who).phase (place s who)) e in
       beginning s who op (in_table s who k.0) o (begin_idle op (place s who).phase (place s who) k.1)
   moving s who Go e o =
-      let k = known (place s who).registered (event_fault Go (place s who).phase (place s who)) e in
+      let k = known_if_faultless (place s who).registered (event_fault Go (place s who).phase (place s who)) e in
       going s who (place s who).phase (in_table s who k.0) o (o.hands who)
 
   -- a call that found no memory
@@ -444,5 +444,5 @@ module _ {T J : Type 0} where
   -- a job that is accepted leaves calls and cells, and is the one job more
   pub deferral_keeps : (s : State T J) (who : ℕ) (work : Work J) → defer_fault s who ≡ None → Orderly s → KeepsCalls s (after_deferral s who work) (λ f. f (record { ticket = s.next; work = work }))
   deferral_keeps s who work e o =
-      let k = known (place s who).registered (or_count s.next (quiet_fault (place s who).phase (place s who))) e in
+      let k = known_if_faultless (place s who).registered (or_count s.next (quiet_fault (place s who).phase (place s who))) e in
       by_full s who work (length (place s who).bag == 64) refl (in_table s who k.0) o

@@ -50,9 +50,9 @@ not_some None e = refl
 not_some (Some x) e = absurd (cc e)
 
 -- where there is no fault, the participant is known and has none further
-pub known : (b : Bool) (x : Option Fault) → (if b then x else Some F.Unknown) ≡ None → (b ≡ true) × (x ≡ None)
-known true x e = (refl, e)
-known false x e = absurd (cc e)
+pub known_if_faultless : (b : Bool) (x : Option Fault) → (if b then x else Some F.Unknown) ≡ None → (b ≡ true) × (x ≡ None)
+known_if_faultless true x e = (refl, e)
+known_if_faultless false x e = absurd (cc e)
 
 -- where there is a next ticket, an answer without a fault had none
 pub no_quiet : (next : ℕ) (q : Option Fault) → or_count next q ≡ None → q ≡ None
@@ -266,11 +266,11 @@ module _ {T J : Type 0} where
   fits_moved : (h : List Mark) (s : State T J) (who : ℕ) (event : Event) → fault s who event ≡ None → Fits h s
       → Fits (moved_marks s who event (called_in s who event Running) h) (moved s who event)
   fits_moved h s who (Begin op) e f =
-      let k = known (place s who).registered (event_fault (Begin op) (place s who).phase (place s who)) e in
+      let k = known_if_faultless (place s who).registered (event_fault (Begin op) (place s who).phase (place s who)) e in
       let idle = begin_idle op (place s who).phase (place s who) k.1 in
       fits_begun h s who op (in_table s who k.0) idle (rw idle at k.1) f
   fits_moved h s who Go e f =
-      let k = known (place s who).registered (event_fault Go (place s who).phase (place s who)) e in
+      let k = known_if_faultless (place s who).registered (event_fault Go (place s who).phase (place s who)) e in
       fits_going h s who (place s who).phase (in_table s who k.0) refl f
 
   -- an end calls the jobs that a step on the way calls
@@ -360,6 +360,6 @@ module _ {T J : Type 0} where
   -- who may defer a job has a place and no call in flight
   pub fits_deferring : (h : List Mark) (s : State T J) (who : ℕ) (work : Work J) → defer_fault s who ≡ None → Fits h s → Fits (Deferred s.next (name_of work) ∷ h) (after_deferral s who work)
   fits_deferring h s who work e f =
-      let k = known (place s who).registered (or_count s.next (quiet_fault (place s who).phase (place s who))) e in
+      let k = known_if_faultless (place s who).registered (or_count s.next (quiet_fault (place s who).phase (place s who))) e in
       let idle = quiet_idle (place s who).phase (place s who) (no_quiet s.next (quiet_fault (place s who).phase (place s who)) k.1) in
       fits_after_deferral h s who work (in_table s who k.0) idle f

@@ -32,7 +32,7 @@ use Rattle.crossbeam_epoch.specs.World.Steps.{fault, event_fault, begin_fault, w
 use Rattle.crossbeam_epoch.specs.World.Store.{Store}
 use Rattle.crossbeam_epoch.specs.World.Sealing.{SealsAt, IsSealing}
 use Rattle.crossbeam_epoch.proofs.lemmas.world.Moves.{none_in, top_now, contains_drop}
-use Rattle.crossbeam_epoch.proofs.lemmas.world.Runs.{in_table, known, begin_idle, blank_at, fits_after, no_quiet}
+use Rattle.crossbeam_epoch.proofs.lemmas.world.Runs.{in_table, known_if_faultless, begin_idle, blank_at, fits_after, no_quiet}
 
 -- a later epoch does
 later : (e e' bag : ℕ) (phase : Phase) → e ≤ e' → SealsAt e bag phase → SealsAt e' bag phase
@@ -218,11 +218,11 @@ module _ {T J : Type 0} where
 
   moving : (h : List Mark) (s : State T J) (who : ℕ) (event : Event) → fault s who event ≡ None → Fits h s → IsSealing s → IsSealing (moved s who event)
   moving h s who (Begin op) e f i =
-      let k = known (place s who).registered (event_fault (Begin op) (place s who).phase (place s who)) e in
+      let k = known_if_faultless (place s who).registered (event_fault (Begin op) (place s who).phase (place s who)) e in
       let idle = begin_idle op (place s who).phase (place s who) k.1 in
       beginning s who op (in_table s who k.0) idle (rw idle at k.1) i
   moving h s who Go e f i =
-      let k = known (place s who).registered (event_fault Go (place s who).phase (place s who)) e in
+      let k = known_if_faultless (place s who).registered (event_fault Go (place s who).phase (place s who)) e in
       going h s who (place s who).phase (in_table s who k.0) refl f (i.places who) i
 
   gives_up : (s : State T J) (who : ℕ) (b : Bool) → IsSealing s → IsSealing (if b then in_phase s who Idle else s)
@@ -297,6 +297,6 @@ module _ {T J : Type 0} where
   -- after an accepted job no empty bag is queued, and no seal is past the epoch
   pub sealing_deferral : (s : State T J) (who : ℕ) (work : Work J) → defer_fault s who ≡ None → IsSealing s → IsSealing (after_deferral s who work)
   sealing_deferral s who work e i =
-      let k = known (place s who).registered (or_count s.next (quiet_fault (place s who).phase (place s who))) e in
+      let k = known_if_faultless (place s who).registered (or_count s.next (quiet_fault (place s who).phase (place s who))) e in
       by_full s who work (length (place s who).bag == 64) refl (in_table s who k.0)
       (λ n. quiet_idle (place s who).phase (place s who) s.epoch n (no_quiet s.next (quiet_fault (place s who).phase (place s who)) k.1)) i

@@ -19,7 +19,7 @@ use Rattle.crossbeam_epoch.specs.World.Steps.{fault, event_fault, begin_fault, o
 use Rattle.crossbeam_epoch.specs.World.Progress.{Orderly, Stage, Resting, Pinning, Repinning, Flushing, Releasing, Securing, Collecting, stage, comes_by, IsOn, Secures, left_in, refusal, Begins, queues, collects, GoesOn}
 use Rattle.crossbeam_epoch.proofs.lemmas.world.Moves.{both_left}
 use Rattle.crossbeam_epoch.proofs.lemmas.world.Progress.{one_less}
-use Rattle.crossbeam_epoch.proofs.lemmas.world.Runs.{in_table, known, refused_begin}
+use Rattle.crossbeam_epoch.proofs.lemmas.world.Runs.{in_table, known_if_faultless, refused_begin}
 
 abbrev securing : Stage → Bool
 securing (Securing n) = true
@@ -448,8 +448,8 @@ module _ {T J : Type 0} where
   faultless s who op on = ap (λ b. if b then event_fault Go (place s who).phase (place s who) else Some F.Unknown) on.0 ∙ no_fault op (place s who).phase (place s who) on.1
 
   -- a step of a call in flight leaves it fewer steps, ends it, or finds no memory for its bag
-  pub goes_on : (s : State T J) (who : ℕ) (op : Op) (r : Report) → Orderly s → IsOn op (place s who) → IsReport s who Go r → GoesOn s who op r.outcome (after s who Go r.outcome)
-  goes_on s who op r o on is =
+  pub reported_goes_on : (s : State T J) (who : ℕ) (op : Op) (r : Report) → Orderly s → IsOn op (place s who) → IsReport s who Go r → GoesOn s who op r.outcome (after s who Go r.outcome)
+  reported_goes_on s who op r o on is =
       let P : Option Fault → Type 0 = λ f. IsOutcome s who Go f r.outcome in
       by_outcome s who op r.outcome o on (subst P (faultless s who op on) is.outcome)
 
@@ -477,7 +477,7 @@ module _ {T J : Type 0} where
   begun_running : (s : State T J) (who : ℕ) (op : Op) (e : Option Fault) → refusal s who op ≡ e → (place s who).phase ≡ Idle → IsOutcome s who (Begin op) e Running → Begins s who op Running (begun s who op)
   begun_running s who op (Some f) why idle is = absurd (cc is)
   begun_running s who op None why idle is =
-      let k = known (place s who).registered (begin_fault op (place s who)) why in
+      let k = known_if_faultless (place s who).registered (begin_fault op (place s who)) why in
       let lt = in_table s who k.0 in
       let at : place (begun s who op) who ≡ begun_at op (place s who) = get_or-set_same s.table who (begun_at op (place s who)) blank lt in
       let f = first (length s.table) op (place s who) k.0 idle in
@@ -497,8 +497,8 @@ module _ {T J : Type 0} where
   begins_by s who op Done idle is = begun_done s who op (refusal s who op) refl is
 
   -- a begin between calls goes on, ends at once, or is refused for its first cause and changes nothing
-  pub begins : (s : State T J) (who : ℕ) (op : Op) (r : Report) → (place s who).phase ≡ Idle → IsReport s who (Begin op) r → Begins s who op r.outcome (after s who (Begin op) r.outcome)
-  begins s who op r idle is =
+  pub reported_begins : (s : State T J) (who : ℕ) (op : Op) (r : Report) → (place s who).phase ≡ Idle → IsReport s who (Begin op) r → Begins s who op r.outcome (after s who (Begin op) r.outcome)
+  reported_begins s who op r idle is =
       let same : fault s who (Begin op) ≡ refusal s who op = ap (λ ph. if (place s who).registered then event_fault (Begin op) ph (place s who) else Some F.Unknown) idle in
       let P : Option Fault → Type 0 = λ f. IsOutcome s who (Begin op) f r.outcome in
       begins_by s who op r.outcome idle (subst P same is.outcome)

@@ -26,8 +26,8 @@ use Rattle.crossbeam_epoch.specs.World.Steps.{fault, busy_fault, event_fault, af
 use Rattle.crossbeam_epoch.specs.World.WaitFree.{most_steps, is_own, counted, steps_in_flight, AllEndInTime, IsOver}
 use Rattle.crossbeam_epoch.proofs.lemmas.world.Moves.{contains_tail}
 use Rattle.crossbeam_epoch.proofs.lemmas.world.Progress.{moves}
-use Rattle.crossbeam_epoch.proofs.lemmas.world.Runs.{known, begin_idle, refused_begin}
-use Rattle.crossbeam_epoch.proofs.lemmas.world.Stages.{begins, goes_on}
+use Rattle.crossbeam_epoch.proofs.lemmas.world.Runs.{known_if_faultless, begin_idle, refused_begin}
+use Rattle.crossbeam_epoch.proofs.lemmas.world.Stages.{reported_begins, reported_goes_on}
 use Rattle.crossbeam_epoch.proofs.lemmas.world.Wholes.{Unrefused, faultless, go_steps, from_front}
 
 -- a call in flight has a step left
@@ -129,7 +129,7 @@ module _ {T J : Type 0} where
         let own : (q == who) ≡ true = grind (arith, nat_tests) in
         let is' = subst (λ x. IsReport s x Go r) (sym same) is in
         let next' = subst (λ x. IsOn op (place (after s x Go r.outcome) who) → n < steps_left (after s x Go r.outcome) who) (sym same) next in
-        rw own (own_step s who op n r.outcome on (goes_on s who op r o on is') next')
+        rw own (own_step s who op n r.outcome on (reported_goes_on s who op r o on is') next')
     | inr ne ↦
         let other : (q == who) ≡ false = grind (arith, nat_tests) in
         rw other (other_step s who q op n Go r ne o on is next)
@@ -147,10 +147,10 @@ module _ {T J : Type 0} where
   begun_on : (s : State T J) (who : ℕ) (op : Op) (r : Report) → IsReport s who (Begin op) r → r.outcome ≡ Running → Begins s who op Running (after s who (Begin op) Running)
   begun_on s who op r is runs =
       let u : Unrefused r.outcome = subst (λ o. Unrefused o) (sym runs) tt in
-      let k = known (place s who).registered (event_fault (Begin op) (place s who).phase (place s who)) (faultless s who (Begin op) r is u) in
+      let k = known_if_faultless (place s who).registered (event_fault (Begin op) (place s who).phase (place s who)) (faultless s who (Begin op) r is u) in
       let idle = begin_idle op (place s who).phase (place s who) k.1 in
       let P : Outcome → Type 0 = λ x. Begins s who op x (after s who (Begin op) x) in
-      subst P runs (begins s who op r idle is)
+      subst P runs (reported_begins s who op r idle is)
 
   first_in_time : (s : State T J) (who : ℕ) (op : Op) (r : Report) (steps : List Step) (reports : List Report) → Orderly s → IsReport s who (Begin op) r → r.outcome ≡ Running → AreReports (after s who (Begin op) r.outcome) steps reports
       → 1 + steps_in_flight who steps reports < most_steps (length s.table) op

@@ -47,7 +47,7 @@ use Rattle.joint.specs.engine.Sound.{IsUnderWay}
 use Rattle.joint.specs.nodes.View.{id_number}
 use Rattle.joint.specs.world.World.{Holds, IsStep, StepsUnless, finds_journal_full}
 use Rattle.joint.specs.engine.Engine.{World, EngineHolds, BeginsAt, Collects, Does, EntersUnless, Enters, GoesAt, GoesOnReserving, Reserves, Surveys, Walks, engine_of, finds_none, is_busy, misuse, reserving}
-use Rattle.joint.proofs.lemmas.engine.Collecting.{either, get_inside, inside_machines, set_here}
+use Rattle.joint.proofs.lemmas.engine.Collecting.{get_set_either, get_inside, inside_machines, set_here}
 use Rattle.joint.proofs.lemmas.engine.Entering.{begin_within, begins_idle}
 use Rattle.joint.proofs.lemmas.engine.Reported.{may_go}
 use Rattle.joint.proofs.lemmas.engine.Reserving.{next_here}
@@ -113,7 +113,7 @@ module _ {V : Type 0} where
 
   -- the calls of others stay
   unlocked_set : (who : ℕ) (ms ms' : List (Machine Id V)) (m : Machine Id V) → ms' ≡ set ms who m → NoOtherLocks id_number who ms → NoOtherLocks id_number who ms'
-  unlocked_set who ms ms' m e free j n k ne at locked = elim (either ms who j m k (subst (λ xs. slice_get xs j ≡ Some k) e at)) [
+  unlocked_set who ms ms' m e free j n k ne at locked = elim (get_set_either ms who j m k (subst (λ xs. slice_get xs j ≡ Some k) e at)) [
     | inl x ↦ absurd (ne x.0)
     | inr x ↦ free j n k ne x.1 locked
   ]

@@ -33,7 +33,7 @@ use Rattle.joint.specs.world.World.{Holds, IsStep}
 use Rattle.joint.specs.engine.Engine.{World}
 use Rattle.joint.proofs.lemmas.world.Flights.{flight_here}
 use Rattle.joint.proofs.lemmas.world.JournaledSteps.{Mapped, mapped}
-use Rattle.joint.proofs.lemmas.calls.KeyCalls.{as_before, begin_of, gone, once_more, stays_keeps_all}
+use Rattle.joint.proofs.lemmas.calls.KeyCalls.{as_before, begin_of, further_step, once_more, stays_keeps_all}
 
 module _ {V : Type 0} (m : Pairs V) where
   -- the maps that stood at its steps are all the one
@@ -133,17 +133,17 @@ module _ {V : Type 0} (same : V → V → Bool) (always : Bool) (fs : Flights V)
   scan_told states places (moved.Asks o) f said s free a e u fl st = absurd u
   scan_told states places (moved.Done r) f said s free a e u fl st = absurd u
 
-  scan_step : (noise : Noise Id V) (places : List (ℕ × V)) (s : World V) (r : Report V) (s' : World V) → Holds same always s → InScan places s → IsStep same always s (gone w noise) r s'
+  scan_step : (noise : Noise Id V) (places : List (ℕ × V)) (s : World V) (r : Report V) (s' : World V) → Holds same always s → InScan places s → IsStep same always s (further_step w noise) r s'
       → Scans (placed true r.outcome places) r.outcome s'
   scan_step noise places s r s' h b x = by_watched b.watched where
     on : Flights V
     on = with_flight fs w b.flight
 
-    y : Mapped same always s (gone w noise) r s' (with_flight fs w b.flight) m
-    y = mapped same always s (gone w noise) s' (with_flight fs w b.flight) m h x.holds b.stand b.in_flight r x
+    y : Mapped same always s (further_step w noise) r s' (with_flight fs w b.flight) m
+    y = mapped same always s (further_step w noise) s' (with_flight fs w b.flight) m h x.holds b.stand b.in_flight r x
 
     l : Line V
-    l = record { step = gone w noise; report = r; entry = y.entry; pairs = y.pairs }
+    l = record { step = further_step w noise; report = r; entry = y.entry; pairs = y.pairs }
 
     moves : GoMap same (with_flight fs w b.flight) b.flight m noise.answer l y.flights
     moves = let P : Flight V → Type 0 = λ z. GoMap same (with_flight fs w b.flight) z m noise.answer l y.flights in subst P (flight_here fs w b.flight) y.map

@@ -209,8 +209,8 @@ abbrev pub begin_of : {V : Type 0} → ℕ → Op V → Step V
 begin_of w op = record { worker = w; event = Begin op }
 
 -- a further step of a call in flight
-abbrev pub gone : {V : Type 0} → ℕ → Noise Id V → Step V
-gone w noise = record { worker = w; event = Go noise }
+abbrev pub further_step : {V : Type 0} → ℕ → Noise Id V → Step V
+further_step w noise = record { worker = w; event = Go noise }
 
 -- a step in which no call on the tree goes on keeps the pairs and the calls in flight
 pub stays_keeps_all : {V : Type 0} (fs : Flights V) (m : Pairs V) (l : Line V) (fs' : Flights V) (s : World V) → Stays fs m l fs' → IsMapOf (nodes s.forest) l.pairs → AreInFlight s fs' → KeepsAll fs m s
@@ -312,25 +312,25 @@ module _ {V : Type 0} (same : V → V → Bool) (always : Bool) (fs : Flights V)
       })
 
   -- a further step
-  from_before : (noise : Noise Id V) (last : Answered V) (said : Outcome V) (s : World V) (r : Report V) (s' : World V) → Holds same always s → Before last said s → IsStep same always s (gone w noise) r s'
+  from_before : (noise : Noise Id V) (last : Answered V) (said : Outcome V) (s : World V) (r : Report V) (s' : World V) → Holds same always s → Before last said s → IsStep same always s (further_step w noise) r s'
       → Course (answered_by noise.answer said last) r.outcome s'
   from_before noise last said s r s' h b x =
       let f : Flight V = Pending (parts p).0 (parts p).1 b.value b.question in
-      let y : Mapped same always s (gone w noise) r s' (with_flight fs w f) m = mapped same always s (gone w noise) s' (with_flight fs w f) m h x.holds b.stand b.in_flight r x in
-      let l : Line V = record { step = gone w noise; report = r; entry = y.entry; pairs = y.pairs } in
+      let y : Mapped same always s (further_step w noise) r s' (with_flight fs w f) m = mapped same always s (further_step w noise) s' (with_flight fs w f) m h x.holds b.stand b.in_flight r x in
+      let l : Line V = record { step = further_step w noise; report = r; entry = y.entry; pairs = y.pairs } in
       let P : Flight V → Type 0 = λ z. GoMap same (with_flight fs w f) z m noise.answer l y.flights in
       let a : Advances same (with_flight fs w f) f m noise.answer l y.flights = subst P (flight_here fs w f) y.map in
       let fl : AreInFlight s' (with_flight fs w a.next) = once_more s' fs w f a.next (subst (λ (z : Flights V). AreInFlight s' z) a.advances y.in_flight) in
       pending (value_answered (parts p).1 b.question noise.answer b.value) (resolved (parts p).1 b.question noise.answer) r.decided l a.next (answered_by noise.answer said last) s' b.free
       (ready (parts p).1 (parts p).2 b.value b.question last said noise.answer b.tied) a.step fl y.stand
 
-  from_decided : (noise : Noise Id V) (last : Answered V) (s : World V) (r : Report V) (s' : World V) → Holds same always s → IsDecided same fs m w last p s → IsStep same always s (gone w noise) r s'
+  from_decided : (noise : Noise Id V) (last : Answered V) (s : World V) (r : Report V) (s' : World V) → Holds same always s → IsDecided same fs m w last p s → IsStep same always s (further_step w noise) r s'
       → Course last r.outcome s'
   from_decided noise last s r s' h b x =
       let f : Flight V = Decided b.reply in
       let n : Pairs V = (answer same m b.effect.call).1 in
-      let y : Mapped same always s (gone w noise) r s' (with_flight fs w f) n = mapped same always s (gone w noise) s' (with_flight fs w f) n h x.holds b.effect.stand b.in_flight r x in
-      let l : Line V = record { step = gone w noise; report = r; entry = y.entry; pairs = y.pairs } in
+      let y : Mapped same always s (further_step w noise) r s' (with_flight fs w f) n = mapped same always s (further_step w noise) s' (with_flight fs w f) n h x.holds b.effect.stand b.in_flight r x in
+      let l : Line V = record { step = further_step w noise; report = r; entry = y.entry; pairs = y.pairs } in
       let P : Flight V → Type 0 = λ z. GoMap same (with_flight fs w f) z n noise.answer l y.flights in
       let a : Advances same (with_flight fs w f) f n noise.answer l y.flights = subst P (flight_here fs w f) y.map in
       let fl : AreInFlight s' (with_flight fs w a.next) = once_more s' fs w f a.next (subst (λ (z : Flights V). AreInFlight s' z) a.advances y.in_flight) in
@@ -347,7 +347,7 @@ module _ {V : Type 0} (same : V → V → Bool) (always : Bool) (fs : Flights V)
   keeps_last (Some x) last = refl
 
   further : (noise : Noise Id V) (last : Answered V) (said : Outcome V) (s : World V) (r : Report V) (s' : World V) → Holds same always s → is_in_flight said ≡ true → Course last said s
-      → IsStep same always s (gone w noise) r s' → Course (answered_by noise.answer said last) r.outcome s'
+      → IsStep same always s (further_step w noise) r s' → Course (answered_by noise.answer said last) r.outcome s'
   further noise last Running s r s' h on (inl b) x = from_before noise last Running s r s' h b x
   further noise last Running s r s' h on (inr b) x =
       let P : Answered V → Type 0 = λ y. Course y r.outcome s' in

@@ -34,7 +34,7 @@ use Rattle.joint.specs.world.World.{Holds, IsStep}
 use Rattle.joint.specs.engine.Engine.{World, engine_of}
 use Rattle.joint.proofs.lemmas.engine.Entering.{begin_free}
 use Rattle.joint.proofs.lemmas.world.JournaledSteps.{Mapped, mapped}
-use Rattle.joint.proofs.lemmas.calls.KeyCalls.{begin_of, gone, key_plays, stays_keeps_all}
+use Rattle.joint.proofs.lemmas.calls.KeyCalls.{begin_of, further_step, key_plays, stays_keeps_all}
 use Rattle.joint.proofs.lemmas.calls.AloneScans.{Scans, scan_plays, scans}
 
 module _ {V : Type 0} (m : Pairs V) where
@@ -60,10 +60,10 @@ module _ {V : Type 0} (same : V → V → Bool) (always : Bool) (fs : Flights V)
       (begin_free same always (engine_of s) (engine_of s') w (h.0, h.1) fs (record { each = fl.each; beyond = fl.beyond }) op x.does.told x.does.engine.does (sym (ap (λ z. is_in_flight z.outcome) x.does.report) ∙ on)).0
 
   -- a call that isn't on the tree
-  quiet_step : (noise : Noise Id V) (s : World V) (r : Report V) (s' : World V) → fs w ≡ Over → Holds same always s → KeepsAll fs m s → IsStep same always s (gone w noise) r s' → KeepsAll fs m s'
+  quiet_step : (noise : Noise Id V) (s : World V) (r : Report V) (s' : World V) → fs w ≡ Over → Holds same always s → KeepsAll fs m s → IsStep same always s (further_step w noise) r s' → KeepsAll fs m s'
   quiet_step noise s r s' free h b x =
-      let y : Mapped same always s (gone w noise) r s' fs m = mapped same always s (gone w noise) s' fs m h x.holds b.0 b.1 r x in
-      let l : Line V = record { step = gone w noise; report = r; entry = y.entry; pairs = y.pairs } in
+      let y : Mapped same always s (further_step w noise) r s' fs m = mapped same always s (further_step w noise) s' fs m h x.holds b.0 b.1 r x in
+      let l : Line V = record { step = further_step w noise; report = r; entry = y.entry; pairs = y.pairs } in
       let P : Flight V → Type 0 = λ z. GoMap same fs z m noise.answer l y.flights in
       stays_keeps_all fs m l y.flights s' (subst P free y.map) y.stand y.in_flight
 

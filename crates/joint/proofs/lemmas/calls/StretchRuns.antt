@@ -60,7 +60,7 @@ use Rattle.joint.specs.calls.Stretches.{EndsStretch, HasChecked, SeesNode, Stand
 use Rattle.joint.specs.nodes.View.{view, id_number}
 use Rattle.joint.specs.world.World.{Holds, StepsUnless, finds_journal_full}
 use Rattle.joint.specs.engine.Engine.{World, EngineHolds, IsHeldBy, BeginsOnTree, Collects, Does, EntersUnless, Enters, GoesAt, GoesOnReserving, Reserves, Walks, engine_of, finds_none, misuse, place_of}
-use Rattle.joint.proofs.lemmas.engine.Collecting.{either, get_inside}
+use Rattle.joint.proofs.lemmas.engine.Collecting.{get_set_either, get_inside}
 use Rattle.joint.proofs.lemmas.engine.HandOver.{held_place}
 use Rattle.joint.proofs.lemmas.calls.Leaves as leaves
 use Rattle.joint.proofs.lemmas.nodes.Paths.{in_reach}
@@ -69,7 +69,7 @@ use Rattle.joint.proofs.lemmas.engine.ScanEnds.{cleared_is}
 use Rattle.joint.proofs.lemmas.engine.SecuredPlaces.{retiring_room}
 use Rattle.joint.proofs.lemmas.nodes.SlotViews.{slot_view}
 use Rattle.joint.proofs.lemmas.calls.Stretches.{IsBlocked, sees_blocks, stored, joined, deferring, turned, live_on, turns}
-use Rattle.joint.proofs.lemmas.nodes.Views.{ties}
+use Rattle.joint.proofs.lemmas.nodes.Views.{heap_ties}
 
 -- a securing doesn't publish
 secure_calm : (s : CollectorPhase) → comes_by (stage_of s) (collector_op.Secure 2) ≡ true → publishes s ≡ false
@@ -103,10 +103,10 @@ module _ {V : Type 0} (same : V → V → Bool) (always : Bool) (laws : CallLaws
   At c = (h : List Mark) × IsBlocked p it h c
 
   live : (f : Nodes V) → Stands (nodes f n) → is_some (value_at f.collector.store it) ≡ true
-  live f st = let P : ℕ → Type 0 = λ k. Stands (nodes f k) in (ties slot_names view slot_view f.collector.store).live it (subst P (sym (number_named n)) st)
+  live f st = let P : ℕ → Type 0 = λ k. Stands (nodes f k) in (heap_ties slot_names view slot_view f.collector.store).live it (subst P (sym (number_named n)) st)
 
   stands : (f : Nodes V) → is_some (value_at f.collector.store it) ≡ true → Stands (nodes f n)
-  stands f e = let P : ℕ → Type 0 = λ k. Stands (nodes f k) in subst P (number_named n) ((ties slot_names view slot_view f.collector.store).stands it e)
+  stands f e = let P : ℕ → Type 0 = λ k. Stands (nodes f k) in subst P (number_named n) ((heap_ties slot_names view slot_view f.collector.store).stands it e)
 
   abbrev On : Nodes V → Type 0
   On f = At f.collector × Stands (nodes f n)
@@ -136,7 +136,7 @@ module _ {V : Type 0} (same : V → V → Bool) (always : Bool) (laws : CallLaws
 
     -- another machine comes into the worker's place that has made nothing
     instead : (ms : List (Machine Id V)) (m : Machine Id V) → (MadeBy id_number m.phase n → ⊥) → s.machines ≡ ms → s'.machines ≡ set ms w m → Unheld
-    instead ms m none e e' j y = elim (either ms w j m y.0 (sym (ap (λ xs. slice_get xs j) e') ∙ y.1)) [
+    instead ms m none e e' j y = elim (get_set_either ms w j m y.0 (sym (ap (λ xs. slice_get xs j) e') ∙ y.1)) [
       | inl z ↦ absurd (none (let P : Machine Id V → Type 0 = λ k. MadeBy id_number k.phase n in subst P (sym z.1) y.2))
       | inr z ↦ (y.0, ap (λ xs. slice_get xs j) e ∙ z.1, y.2)
     ]
@@ -202,7 +202,7 @@ module _ {V : Type 0} (same : V → V → Bool) (always : Bool) (laws : CallLaws
 
       -- what it has made it had made before, or is a new node
       walks_held : Stands (nodes s.forest n) → Unheld
-      walks_held st j y = elim (either s.machines w j (rested moved.now) y.0 (sym (ap (λ xs. slice_get xs j) machines_are) ∙ y.1)) [
+      walks_held st j y = elim (get_set_either s.machines w j (rested moved.now) y.0 (sym (ap (λ xs. slice_get xs j) machines_are) ∙ y.1)) [
         | inl z ↦ (
             let P : Machine Id V → Type 0 = λ m. MadeBy id_number m.phase n in
             let made : MadeBy id_number moved.now.phase n = rested_made moved.now n (subst P (sym z.1) y.2) in
@@ -359,7 +359,7 @@ module _ {V : Type 0} (same : V → V → Bool) (always : Bool) (laws : CallLaws
     by (inl i) =
         let l : (sound.settled.0 n).status ≡ Linked = laws.leads sound.settled.0 (nodes s.forest) sound.settled.1.tree i.0 0 n sound.settled.1.tree.root i.1 in
         let P : ℕ → Type 0 = λ k. InTree (nodes s.forest) k in
-        from (cells.seen_now h.0.safe.sound.past s.forest.collector p it sound.tells.now (in_reach slot_names s.forest.collector.store (nodes s.forest) s.forest.collector.roots h.0.safe.sound.top (ties slot_names view slot_view s.forest.collector.store) sound.rooted it (subst P (sym (number_named n)) i)))
+        from (cells.seen_now h.0.safe.sound.past s.forest.collector p it sound.tells.now (in_reach slot_names s.forest.collector.store (nodes s.forest) s.forest.collector.roots h.0.safe.sound.top (heap_ties slot_names view slot_view s.forest.collector.store) sound.rooted it (subst P (sym (number_named n)) i)))
         ((sound.settled.1.words.each n).stands (ap is_published l))
         (λ j y. let q : Held j ≡ Linked = sym (held_status j y) ∙ l in cc)
     by (inr c) =

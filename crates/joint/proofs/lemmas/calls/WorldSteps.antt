@@ -34,7 +34,7 @@ use Rattle.joint.specs.world.World.{Holds, IsLogged, IsStep, StepsUnless, entry_
 use Rattle.joint.proofs.lemmas.world.Effects.{begin_undecided}
 use Rattle.joint.proofs.lemmas.engine.Entering.{begin_even, register_even}
 use Rattle.joint.proofs.lemmas.world.JournalFull.{after_full, after_full_flight, after_full_logged}
-use Rattle.joint.proofs.lemmas.world.Logged.{event_maps, steps}
+use Rattle.joint.proofs.lemmas.world.Logged.{event_maps, logged_step}
 use Rattle.joint.proofs.lemmas.engine.Recounting.{has_room_is}
 use Rattle.joint.proofs.lemmas.calls.Runs.{standing_empty, fresh_flights}
 use Rattle.joint.proofs.lemmas.engine.UnkeptReports.{unkept}
@@ -61,7 +61,7 @@ module _ {V : Type 0} (same : V → V → Bool) (always : Bool) where
         let none : kept_at s w step.event told s' ≡ None = kept_none d in
         let P : Bool → Type 0 = λ b. told ≡ record told { kept = b } in
         let unchanged : told ≡ record told { kept = false } = ap (λ b. record told { kept = b }) (unkept same always (engine_of s) (engine_of s') w step.event _ told e.does) in
-        steps same always s s' step told h e (record {
+        logged_step same always s s' step told h e (record {
           entries = entries ∙ sym (append-nil s.log.entries) ∙ ap (λ o. s.log.entries ++ in_list o) (sym none);
           places = places;
           reserved = reserved ∙ sym (recounted_even s.log.places (has_place (slice_get s.calls w) (slice_get s.machines w)) s.log.reserved) ∙ ap (λ b. recounted s.log.places (has_place (slice_get s.calls w) (slice_get s.machines w)) b s.log.reserved) (sym even);
@@ -229,7 +229,7 @@ module _ {V : Type 0} (same : V → V → Bool) (always : Bool) where
         → IsStep same always s (record { worker = worker; event = Go noise }) r s'
     go_step l y is =
         let on : Bool = is_in_flight told.outcome in
-        steps same always s s' (record { worker = worker; event = Go noise }) told h e (record {
+        logged_step same always s s' (record { worker = worker; event = Go noise }) told h e (record {
           entries = ap (λ (z : Log V). z.entries) l ∙ went_entries s.log worker before after told.decided x on q ∙ ap (λ o. s.log.entries ++ in_list o) (kept_same l y);
           places = ap (λ (z : Log V). z.places) l ∙ went_places s.log worker before after told.decided x on q;
           reserved = ap (λ (z : Log V). z.reserved) l ∙ went_reserved s.log worker before after told.decided x on q;

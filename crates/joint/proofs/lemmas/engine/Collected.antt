@@ -27,7 +27,7 @@ use Rattle.joint.specs.engine.Laws.{CellLaws, CallLaws}
 use Rattle.joint.specs.engine.Sound.{Guards, Sound}
 use Rattle.joint.proofs.lemmas.engine.NamesInStretch.{deferred_on, pinned_stretch, ended_guards, no_names}
 use Rattle.joint.specs.NameLemmas.{number_named, same_name}
-use Rattle.joint.proofs.lemmas.nodes.Views.{ties, heap_of_number, stands_at}
+use Rattle.joint.proofs.lemmas.nodes.Views.{heap_ties, heap_of_number, stands_at}
 use Rattle.joint.proofs.lemmas.nodes.Paths.{in_tree}
 use Rattle.joint.proofs.lemmas.engine.ReachMoments.{Reaches, was_in}
 
@@ -105,7 +105,7 @@ module _ {T J C V : Type 0} (tnames : T → List Name) (view : Bool → Option T
 
   in_it : (n : Name) → Reaches tnames s n → (notes (number n)).status ≡ Linked
   in_it n r =
-      let i : InTree (heap_of view s.store) (number n) = in_tree tnames s.store (heap_of view s.store) s.roots top (ties tnames view ok s.store) sound.rooted r in
+      let i : InTree (heap_of view s.store) (number n) = in_tree tnames s.store (heap_of view s.store) s.roots top (heap_ties tnames view ok s.store) sound.rooted r in
       calls.leads notes (heap_of view s.store) sound.settled.1.tree i.0 0 (number n) sound.settled.1.tree.root i.1
 
   never : (t : ℕ) (n : Name) → WasDeferred (marks_of past) t n → Reaches tnames s n → ⊥
@@ -113,7 +113,7 @@ module _ {T J C V : Type 0} (tnames : T → List Name) (view : Bool → Option T
       let l : (notes (number n)).status ≡ Linked = in_it n r in
       let u : (heap_of view s.store (number n)).retired ≡ false = (sound.settled.1.words.each (number n)).unretired l in
       let st : Stands (heap_of view s.store (number n)) = (sound.settled.1.words.each (number n)).stands (rw l refl) in
-      let y : (heap_of view s.store (number n)).retired ≡ true = sound.deferred t n d ((ties tnames view ok s.store).live n st) in
+      let y : (heap_of view s.store (number n)).retired ≡ true = sound.deferred t n d ((heap_ties tnames view ok s.store).live n st) in
       cc
 
   no_gift : (n : Name) (x : Act) → IsBy who x → x ≡ GivenBack n → ⊥

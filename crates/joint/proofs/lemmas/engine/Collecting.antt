@@ -32,12 +32,12 @@ use Rattle.joint.specs.engine.Safety.{Rests, Collected}
 use Rattle.joint.proofs.lemmas.engine.SecuredPlaces.{with_room}
 
 -- in a list with one place set stands what was put there, and elsewhere what stood
-pub either : {A : Type 0} → (xs : List A) (i j : ℕ) (x y : A) → slice_get (set xs i x) j ≡ Some y → ((j ≡ i) × (x ≡ y)) ⊎ ((j ≢ i) × (slice_get xs j ≡ Some y))
-either [] i j x y e = absurd cc
-either (z ∷ xs) zero zero x y e = inl (refl, cc)
-either (z ∷ xs) zero (suc j) x y e = inr ((λ q. absurd (omega arith)), e)
-either (z ∷ xs) (suc i) zero x y e = inr ((λ q. absurd (omega arith)), e)
-either (z ∷ xs) (suc i) (suc j) x y e = elim (either xs i j x y e) [
+pub get_set_either : {A : Type 0} → (xs : List A) (i j : ℕ) (x y : A) → slice_get (set xs i x) j ≡ Some y → ((j ≡ i) × (x ≡ y)) ⊎ ((j ≢ i) × (slice_get xs j ≡ Some y))
+get_set_either [] i j x y e = absurd cc
+get_set_either (z ∷ xs) zero zero x y e = inl (refl, cc)
+get_set_either (z ∷ xs) zero (suc j) x y e = inr ((λ q. absurd (omega arith)), e)
+get_set_either (z ∷ xs) (suc i) zero x y e = inr ((λ q. absurd (omega arith)), e)
+get_set_either (z ∷ xs) (suc i) (suc j) x y e = elim (get_set_either xs i j x y e) [
   | inl p ↦ inl (ap suc p.0, p.1)
   | inr p ↦ inr ((λ q. p.0 (omega arith)), p.1)
 ]
@@ -86,7 +86,7 @@ module _ {V : Type 0} (same : V → V → Bool) (always : Bool) (s : Nodes V) (m
     table = c.moves.table ∙ intact.table ∙ sym (length-set calls who k');
     few = rw (length-set calls who k') intact.few;
     filed = c.filed intact.filed;
-    each = λ i k m at here. elim (either calls who i k' k at) [
+    each = λ i k m at here. elim (get_set_either calls who i k' k at) [
       | inl e ↦ (
           let P : ℕ → Type 0 = λ j. IsAt k' (place s'.collector j) m in
           let Q : InFlight V → Type 0 = λ x. IsAt x (place s'.collector i) m in
@@ -102,8 +102,8 @@ module _ {V : Type 0} (same : V → V → Bool) (always : Bool) (laws : Progress
   begun_at op (Refused f) c c' m i e b = (ap (λ x. (place x who).phase) b.1 ∙ i, e)
 
   -- a call on the collector that begins leaves the machine intact
-  pub begun : (op : Op) (r : Report) (s' : Nodes V) → slice_get calls who ≡ Some Idle → Collected same always s ms who (Begin op) r s' → IsIntact same always s' ms (set calls who (call_after r.outcome (Collecting op)))
-  begun op r s' at c = after_step same always s ms calls intact who (Begin op) r s' (call_after r.outcome (Collecting op)) c (λ m here.
+  pub begin_collecting_intact : (op : Op) (r : Report) (s' : Nodes V) → slice_get calls who ≡ Some Idle → Collected same always s ms who (Begin op) r s' → IsIntact same always s' ms (set calls who (call_after r.outcome (Collecting op)))
+  begin_collecting_intact op r s' at c = after_step same always s ms calls intact who (Begin op) r s' (call_after r.outcome (Collecting op)) c (λ m here.
       let x : ((place s.collector who).phase ≡ collector_phase.Idle) × (m.phase ≡ Ended) = intact.each who Idle m at here in
       let P : State (Slot V) (Unit {0}) → Type 0 = λ y. Begins s.collector who op r.outcome y in
       begun_at op r.outcome s.collector s'.collector m x.0 x.1 (subst P (sym c.state) (laws.begins s.collector who op r x.0 c.report)))
@@ -114,8 +114,8 @@ module _ {V : Type 0} (same : V → V → Bool) (always : Bool) (laws : Progress
   gone_at op (Refused f) c c' m e b = (b.2, e)
 
   -- a call on the collector that goes on leaves the machine intact
-  pub gone : (op : Op) (r : Report) (s' : Nodes V) → slice_get calls who ≡ Some (Collecting op) → Collected same always s ms who Go r s' → IsIntact same always s' ms (set calls who (call_after r.outcome (Collecting op)))
-  gone op r s' at c = after_step same always s ms calls intact who Go r s' (call_after r.outcome (Collecting op)) c (λ m here.
+  pub go_collecting_intact : (op : Op) (r : Report) (s' : Nodes V) → slice_get calls who ≡ Some (Collecting op) → Collected same always s ms who Go r s' → IsIntact same always s' ms (set calls who (call_after r.outcome (Collecting op)))
+  go_collecting_intact op r s' at c = after_step same always s ms calls intact who Go r s' (call_after r.outcome (Collecting op)) c (λ m here.
       let x : IsOn op (place s.collector who) × (m.phase ≡ Ended) = intact.each who (Collecting op) m at here in
       let P : State (Slot V) (Unit {0}) → Type 0 = λ y. GoesOn s.collector who op r.outcome y in
       gone_at op r.outcome s.collector s'.collector m x.1 (subst P (sym c.state) (laws.goes_on s.collector who op r intact.safe.sound.sound.orderly x.0 c.report)))

@@ -273,6 +273,6 @@ module _ {V : Type 0} (number : Id → ℕ) (same : V → V → Bool) (always : 
   tells Ended u k x = absurd u
 
 -- a step of a call on a key ends it exactly where it reports its end, and leaves no scan
-pub ends : {V : Type 0} (number : Id → ℕ) (same : V → V → Bool) (always : Bool) (most : ℕ) (why : NodeType → Refusal → Type 0) (m m' : Machine Id V) (h h' : ℕ → Node V) (fail : Bool) (answer : Option (Option V)) (d : Move V)
+pub step_ends : {V : Type 0} (number : Id → ℕ) (same : V → V → Bool) (always : Bool) (most : ℕ) (why : NodeType → Refusal → Type 0) (m m' : Machine Id V) (h h' : ℕ → Node V) (fail : Bool) (answer : Option (Option V)) (d : Move V)
     → IsUnderWay m.phase → IsOnKey m.phase → Stepped number same always most why m h fail answer m' h' d → (is_over m'.phase ≡ not (goes_on_after d.outcome)) × IsOnKey m'.phase
-ends number same always most why m m' h h' fail answer d u k x = tells number same always most why m.root _ m.kind fail answer m.given m'.given h h' (record { phase = m'.phase; report = d }) m.phase u k x.step
+step_ends number same always most why m m' h h' fail answer d u k x = tells number same always most why m.root _ m.kind fail answer m.given m'.given h h' (record { phase = m'.phase; report = d }) m.phase u k x.step

@@ -47,7 +47,7 @@ use Rattle.joint.specs.nodes.View.{view, heap, id_number}
 use Rattle.joint.proofs.lemmas.engine.HandOver.{held_place}
 use Rattle.joint.proofs.lemmas.engine.Retiring.{retiring_some}
 use Rattle.joint.proofs.lemmas.nodes.SlotViews.{slot_view}
-use Rattle.joint.proofs.lemmas.nodes.Views.{heap_of_number, ties}
+use Rattle.joint.proofs.lemmas.nodes.Views.{heap_of_number, heap_ties}
 
 -- what waits for its destruction stands
 waits_stands : {V : Type 0} (x : Node V) → is_waiting x ≡ true → Stands x
@@ -98,7 +98,7 @@ gone_node {V} st n v = ap is_waiting (heap_of_number slot_names view slot_view s
 
 module _ {V : Type 0} (cells : CellLaws {T = Slot V} (Unit {0}) slot_names) where
   live_of : (st : Store (Slot V)) (n : Name) → is_waiting (heap st (number n)) ≡ true → is_some (value_at st n) ≡ true
-  live_of st n e = (ties slot_names view slot_view st).live n (waits_stands (heap st (number n)) e)
+  live_of st n e = (heap_ties slot_names view slot_view st).live n (waits_stands (heap st (number n)) e)
 
   -- a called job that is this name's removal leaves no such node, and every other leaves the node
   by_work : (n : Name) (before : ℕ) (st st' : Store (Slot V)) (w : Work (Unit {0})) → st' ≡ after_work st w → before ≡ bit (is_waiting (heap st (number n)))
@@ -239,7 +239,7 @@ module _ {V : Type 0} (cells : CellLaws {T = Slot V} (Unit {0}) slot_names) wher
 
         now_waits : is_waiting (nodes s' (id_number node)) ≡ true
         now_waits =
-            let st : Stands (nodes s' (id_number node)) = (ties slot_names view slot_view s'.collector.store).stands node.name owes.stands in
+            let st : Stands (nodes s' (id_number node)) = (heap_ties slot_names view slot_view s'.collector.store).stands node.name owes.stands in
             let r : (nodes s' (id_number node)).retired ≡ true = owes.marked in
             let m : (nodes s' (id_number node)).made ≡ true = st.made in
             let k : (nodes s' (id_number node)).destroyed ≡ false = st.kept in

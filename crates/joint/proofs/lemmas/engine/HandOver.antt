@@ -29,7 +29,7 @@ use Rattle.joint.proofs.lemmas.engine.SoundHandOver.{handed}
 use Rattle.joint.proofs.lemmas.engine.ReachMoments.{entered_live}
 use Rattle.joint.proofs.lemmas.nodes.SlotViews.{slot_view}
 use Rattle.joint.proofs.lemmas.nodes.Tickets.{at_most_by_relation}
-use Rattle.joint.proofs.lemmas.nodes.Views.{ties}
+use Rattle.joint.proofs.lemmas.nodes.Views.{heap_ties}
 
 -- a participant that is registered has a place in the table
 pub held_place : {J : Type 0} (table : List (Participant J)) (who : ℕ) → (slice_index_or table who blank).registered ≡ true → who < length table
@@ -52,7 +52,7 @@ module _ {V : Type 0} (same : V → V → Bool) (always : Bool) (cells : CellLaw
   -- what was deferred was made
   deferred_made : (t : ℕ) (n : Name) → WasDeferred (marks_of past) t n → (nodes s (number n)).made ≡ true
   deferred_made t n w =
-      (ties slot_names view slot_view c.store).given n (owes.safe.sound.sound.tells.given n (entered_live past owes.safe.sound.sound.careful.enters n (owes.safe.sound.sound.left t n w)))
+      (heap_ties slot_names view slot_view c.store).given n (owes.safe.sound.sound.tells.given n (entered_live past owes.safe.sound.sound.careful.enters n (owes.safe.sound.sound.left t n w)))
 
   -- the names that the tickets have, with the one that is to come
   abbrev Has : ℕ → ℕ → Type 0
@@ -66,7 +66,7 @@ module _ {V : Type 0} (same : V → V → Bool) (always : Bool) (cells : CellLaw
 
   bound : (t k : ℕ) → t < c.next + 1 → Has t k → k < 2 ^ 64 - 1
   bound t k l (inl d) = few k (subst (λ (y : ℕ). (nodes s y).made ≡ true) (number_named k) (deferred_made t (named k) d))
-  bound t k l (inr e) = subst (λ (y : ℕ). y < 2 ^ 64 - 1) (sym e.1) (few (id_number node) ((ties slot_names view slot_view c.store).stands node.name owes.stands).made)
+  bound t k l (inr e) = subst (λ (y : ℕ). y < 2 ^ 64 - 1) (sym e.1) (few (id_number node) ((heap_ties slot_names view slot_view c.store).stands node.name owes.stands).made)
 
   never : (t k : ℕ) → WasDeferred (marks_of past) t (named k) → k ≡ id_number node → ⊥
   never t k d e = owes.fresh t (subst (λ (n : Name). WasDeferred (marks_of past) t n) (ap named e ∙ named_number node.name) d)

@@ -210,8 +210,8 @@ module _ {V : Type 0} (same : V → V → Bool) (always : Bool) (w : World V) (w
     go_idle noise r e q = go_refused noise fault.Idle r (placed noise ∙ ap (λ o. if is_busy o then None else Some fault.Idle) e) q
 
     -- a further step of a call in flight is taken, by what that call is about
-    pub goes_on : (noise : Noise Id V) (r : Report V) (w' : World V) (k : InFlight V) → slice_get w.calls who ≡ Some k → is_busy (Some k) ≡ true → GoesAt same always w who (Some k) noise r w' → Does same always w who (Go noise) (misuse w who (Go noise)) r w'
-    goes_on noise r w' k e b d =
+    pub go_does : (noise : Noise Id V) (r : Report V) (w' : World V) (k : InFlight V) → slice_get w.calls who ≡ Some k → is_busy (Some k) ≡ true → GoesAt same always w who (Some k) noise r w' → Does same always w who (Go noise) (misuse w who (Go noise)) r w'
+    go_does noise r w' k e b d =
         let none : misuse w who (Go noise) ≡ None = placed noise ∙ ap (λ o. if is_busy o then None else Some fault.Idle) e ∙ ap (λ x. if x then None else Some fault.Idle) b in
         let P : Option Fault → Type 0 = λ m. Does same always w who (Go noise) m r w' in
         let Q : Option (InFlight V) → Type 0 = λ o. GoesAt same always w who o noise r w' in

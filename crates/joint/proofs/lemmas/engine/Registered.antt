@@ -26,7 +26,7 @@ use Rattle.joint.proofs.lemmas.engine.Filing.{filed_registered}
 use Rattle.joint.proofs.lemmas.nodes.Paths.{in_tree}
 use Rattle.joint.proofs.lemmas.engine.ReachMoments.{Reaches, was_in}
 use Rattle.joint.proofs.lemmas.nodes.SlotViews.{slot_view}
-use Rattle.joint.proofs.lemmas.nodes.Views.{ties}
+use Rattle.joint.proofs.lemmas.nodes.Views.{heap_ties}
 
 abbrev is_gift : Act → Type 0
 is_gift Quiet = ⊥
@@ -62,14 +62,14 @@ module _ {V : Type 0} (same : V → V → Bool) (always : Bool) (cells : CellLaw
 
   in_it : (x : Name) → Reaches slot_names c x → (sound.settled.0 (number x)).status ≡ Linked
   in_it x r =
-      let i : InTree (heap c.store) (number x) = in_tree slot_names c.store (heap c.store) c.roots intact.safe.sound.top (ties slot_names view slot_view c.store) sound.rooted r in
+      let i : InTree (heap c.store) (number x) = in_tree slot_names c.store (heap c.store) c.roots intact.safe.sound.top (heap_ties slot_names view slot_view c.store) sound.rooted r in
       calls.leads sound.settled.0 (heap c.store) sound.settled.1.tree i.0 0 (number x) sound.settled.1.tree.root i.1
 
   never : (t : ℕ) (x : Name) → WasDeferred (marks_of past) t x → Reaches slot_names c x → ⊥
   never t x d r =
       let l : (sound.settled.0 (number x)).status ≡ Linked = in_it x r in
       let u : (heap c.store (number x)).retired ≡ false = (sound.settled.1.words.each (number x)).unretired l in
-      let y : (heap c.store (number x)).retired ≡ true = sound.deferred t x d ((ties slot_names view slot_view c.store).live x ((sound.settled.1.words.each (number x)).stands (rw l refl))) in
+      let y : (heap c.store (number x)).retired ≡ true = sound.deferred t x d ((heap_ties slot_names view slot_view c.store).live x ((sound.settled.1.words.each (number x)).stands (rw l refl))) in
       cc
 
   no_gift : (x : Name) → Quiet ≡ GivenBack x → ⊥

@@ -26,7 +26,7 @@ use Rattle.joint.specs.nodes.Heap.{IsView, heap_of}
 use Rattle.joint.specs.nodes.Ties.{Ties}
 use Rattle.joint.specs.engine.Laws.{CellLaws, CallLaws}
 use Rattle.joint.specs.engine.Sound.{Guards, Sound}
-use Rattle.joint.proofs.lemmas.nodes.Views.{ties, heap_of_number}
+use Rattle.joint.proofs.lemmas.nodes.Views.{heap_ties, heap_of_number}
 use Rattle.joint.proofs.lemmas.nodes.Paths.{in_tree, in_reach}
 use Rattle.joint.proofs.lemmas.engine.ReachMoments.{Reaches, was_in, entered_live}
 use Rattle.joint.proofs.lemmas.engine.GivenBack.{backs, same_marks, still_in, still_seen, newest_in, careful_backs, ends_next, ends_backs, lived_first, lived_apart, given_backs}
@@ -79,10 +79,10 @@ module _ {T J C V : Type 0} (tnames : T → List Name) (view : Bool → Option T
   notes = sound.settled.0
 
   tied : Ties tnames s.store h
-  tied = ties tnames view ok s.store
+  tied = heap_ties tnames view ok s.store
 
   tied' : Ties tnames st' h'
-  tied' = ties tnames view ok st'
+  tied' = heap_ties tnames view ok st'
 
   -- paths and the tree, before and after
   linked_reach : (n : Name) → (notes (number n)).status ≡ Linked → Reaches tnames s n

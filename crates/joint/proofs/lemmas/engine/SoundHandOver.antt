@@ -18,7 +18,7 @@ use Rattle.joint.specs.Names.{number}
 use Rattle.joint.specs.nodes.Heap.{IsView, heap_of}
 use Rattle.joint.specs.engine.Laws.{CellLaws, CallLaws}
 use Rattle.joint.specs.engine.Sound.{Guards, Sound}
-use Rattle.joint.proofs.lemmas.nodes.Views.{ties}
+use Rattle.joint.proofs.lemmas.nodes.Views.{heap_ties}
 use Rattle.joint.proofs.lemmas.nodes.Paths.{in_tree}
 use Rattle.joint.proofs.lemmas.engine.ReachMoments.{Reaches, was_in}
 
@@ -50,7 +50,7 @@ module _ {T J C V : Type 0} (tnames : T → List Name) (view : Bool → Option T
 
   in_it : (x : Name) → Reaches tnames s x → (sound.settled.0 (number x)).status ≡ Linked
   in_it x r =
-      let i : InTree h (number x) = in_tree tnames s.store h s.roots top (ties tnames view ok s.store) sound.rooted r in
+      let i : InTree h (number x) = in_tree tnames s.store h s.roots top (heap_ties tnames view ok s.store) sound.rooted r in
       calls.leads sound.settled.0 h sound.settled.1.tree i.0 0 (number x) sound.settled.1.tree.root i.1
 
   -- nothing in reach was handed over
@@ -58,7 +58,7 @@ module _ {T J C V : Type 0} (tnames : T → List Name) (view : Bool → Option T
   unhanded x y r = let u : (h (number x)).retired ≡ false = (sound.settled.1.words.each (number x)).unretired (in_it x r) in cc
 
   reach_live : (x : Name) → Reaches tnames s x → is_some (value_at s.store x) ≡ true
-  reach_live x r = (ties tnames view ok s.store).live x ((sound.settled.1.words.each (number x)).stands (rw (in_it x r) refl))
+  reach_live x r = (heap_ties tnames view ok s.store).live x ((sound.settled.1.words.each (number x)).stands (rw (in_it x r) refl))
 
   same_n : (x : Name) → Some n ≡ Some x → x ≡ n
   same_n x e = sym (ap (name_of n) e)

@@ -32,12 +32,12 @@ module _ {V : Type 0} (same : V → V → Bool) (always : Bool) (laws : CallLaws
       record { does = does; flight = in_flight same always laws w w' step.worker holds step.event r does; holds = (intact, charged) }
 
   -- what a registration does is a step of the engine
-  pub registers : step.event ≡ Register → Proceeds same always w 0 Register r w' → IsEngineStep same always w step r w'
-  registers e d = by_event Register e d
+  pub register_is_step : step.event ≡ Register → Proceeds same always w 0 Register r w' → IsEngineStep same always w step r w'
+  register_is_step e d = by_event Register e d
 
   -- what a begin does, or its refusal for its first cause, is a step of the engine
-  pub begins : (op : Op V) (t : Target V) → step.event ≡ Begin op → t ≡ target op → Begun same always w step.worker t r w' → IsEngineStep same always w step r w'
-  begins op t e q b =
+  pub begin_is_step : (op : Op V) (t : Target V) → step.event ≡ Begin op → t ≡ target op → Begun same always w step.worker t r w' → IsEngineStep same always w step r w'
+  begin_is_step op t e q b =
       let P : Target V → Type 0 = λ x. Begun same always w step.worker x r w' in
       by_event (Begin op) e (does_begin same always w step.worker op (misuse w step.worker (Begin op)) r w' (subst P q b))
 

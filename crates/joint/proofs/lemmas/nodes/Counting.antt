@@ -65,9 +65,9 @@ module _ {V : Type 0} (h : ℕ → Node V) where
 
   module _ (n : ℕ) (x : Form Id V) (w : LockWord) (e : shape x w ≡ h n) where
     -- with the node itself counted, so is all before its first byte
-    pub begun : (old new : NodeStats) (level : ℕ) → Counts old new level (form_of x) (map.len (children_of x)) → Counted old new level n 0
+    pub node_counted : (old new : NodeStats) (level : ℕ) → Counts old new level (form_of x) (map.len (children_of x)) → Counted old new level n 0
     unfolding under_bytes
-    begun old new level counts =
+    node_counted old new level counts =
         let P : Node V → Type 0 = λ y. Counts old new level (form_with y.capacity) y.count in
         let c : Counts old new level (form_with (h n).capacity) (h n).count = subst P e (subst (λ f. Counts old new level f (map.len (children_of x))) (sym (form_back (form_of x))) counts) in
         record {
@@ -120,9 +120,9 @@ module _ {V : Type 0} (h : ℕ → Node V) where
           nothing_below (Value v) o = refl
 
     -- where no child is left, the node and all below it are counted
-    pub ended : (old new : NodeStats) (level from : ℕ) → IsNodeIn h n → Counted old new level n from → ((b : ℕ) → from ≤ b → map.get (children_of x) b ≡ None)
+    pub survey_counted : (old new : NodeStats) (level from : ℕ) → IsNodeIn h n → Counted old new level n from → ((b : ℕ) → from ≤ b → map.get (children_of x) b ≡ None)
         → (seen : List Shape) → IsTally old seen 0 → IsTally new (seen ++ nodes_from h 8 level n) 0
-    ended old new level from i c none seen is =
+    survey_counted old new level from i c none seen is =
         let all : so_far level n from ≡ nodes_from h 8 level n =
         ap (λ l. shape_of level (h n) ∷ l) (sym (none_more (next level) (h n).children from 256 c.bound (λ q lo hi. hangs q None (none q lo)))) ∙ sym (nodes_at i.tree.notes i.tree.tree level n i.linked) in
         subst (λ l. IsTally new (seen ++ l) 0) all (c.tally seen is)

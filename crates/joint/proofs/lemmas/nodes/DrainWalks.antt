@@ -41,8 +41,8 @@ module _ {V D : Type 0} (drains : D → ℕ → V → D → Type 0) (h : ℕ →
   at b = start_at x.base x.depth b
 
   -- before the first byte of a node nothing is taken
-  pub begun : IsRegion (h n).prefix x.base x.depth → TakenSoFar drains h n x 0 before h before
-  begun r = record {
+  pub drain_begun : IsRegion (h n).prefix x.base x.depth → TakenSoFar drains h n x 0 before h before
+  drain_begun r = record {
     bound = omega arith;
     region = r;
     takes = (let e : x.base ≡ at 0 = omega arith in let P : ℕ → Type 0 = λ b. Takes drains h x.base before h b before in subst P e (takes_begin drains h x.base before));
@@ -157,8 +157,8 @@ module _ {V D : Type 0} (drains : D → ℕ → V → D → Type 0) (h : ℕ →
           }
 
       -- where no child is left, the drainer took the pairs at and below the node
-      pub ended : ((b : ℕ) → from ≤ b → map.get (children_of y) b ≡ None) → TakesBelow drains h n before h1 mid
-      ended none = record {
+      pub drain_ended : ((b : ℕ) → from ≤ b → map.get (children_of y) b ≡ None) → TakesBelow drains h n before h1 mid
+      drain_ended none = record {
         base = x.base;
         depth = x.depth;
         region = so.region;

@@ -195,8 +195,8 @@ module _ {V : Type 0} (h : ℕ → Node V) (n : ℕ) (i : IsNodeIn h n) (x : Reg
         }
 
     -- where no child is left, the keys at and below the node are put
-    pub ended : (from : ℕ) (old new : List ℕ) → PutSoFar h n x from old new → ((b : ℕ) → from ≤ b → get (children_of y) b ≡ None) → PutsKeys h n old new
-    ended from old new so none = record {
+    pub keys_put : (from : ℕ) (old new : List ℕ) → PutSoFar h n x from old new → ((b : ℕ) → from ≤ b → get (children_of y) b ≡ None) → PutsKeys h n old new
+    keys_put from old new so none = record {
       base = x.base;
       depth = x.depth;
       region = r;

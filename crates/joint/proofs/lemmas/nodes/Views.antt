@@ -40,8 +40,8 @@ module _ {T V : Type 0} (names : T → List Name) (view : Bool → Option T → 
   heap_of_number st n = ap (node_at view st) (named_number n)
 
   -- the nodes read off the cells stand, are made and have links just where the cells say so
-  pub ties : (st : Store T) → Ties names st (heap_of view st)
-  ties st =
+  pub heap_ties : (st : Store T) → Ties names st (heap_of view st)
+  heap_ties st =
       let At : (Node V → Type 0) → (n : Name) → node_at view st n ≡ node_at view st n → Type 0 = λ P n _. P (heap_of view st (number n)) in
       record {
         live = λ n s. live_at (was_given st n) (value_at st n) (subst Stands (heap_of_number st n) s);

@@ -24,7 +24,7 @@ use Rattle.joint.specs.world.MapSteps.{looks_up}
 use Rattle.joint.specs.world.World.{FindsJournalFull, Holds, IsStep, StepsUnless, TakesStep, entry_at, finds_journal_full, answered_request, kept_at}
 use Rattle.joint.specs.engine.Engine.{World}
 use Rattle.joint.specs.threads.Writing.{Appended, IsEntryOf, IsInFlight, MayStep}
-use Rattle.joint.proofs.lemmas.world.Effects.{begin_undecided, effect}
+use Rattle.joint.proofs.lemmas.world.Effects.{begin_undecided, decided_effect}
 use Rattle.joint.proofs.lemmas.nodes.NodesInvariant.{some_injective}
 use Rattle.joint.proofs.lemmas.world.Logged.{event_maps}
 
@@ -140,7 +140,7 @@ module _ (s s' : World ℕ) (who : ℕ) (h : Holds nat_eq true s) where
     keeps t e q =
         let k = kept_decides _ _ _ e q in
         let on = event_maps nat_eq true s s' go t.told h t.engine h.2.flights h.2.pairs h.2.stand h.2.in_flight h.2.asked in
-        let x = effect nat_eq true s s' who (h.0, h.1) t.engine.holds h.2.flights on.flights h.2.pairs (record { each = h.2.in_flight.each; beyond = h.2.in_flight.beyond }) on.in_flight h.2.long
+        let x = decided_effect nat_eq true s s' who (h.0, h.1) t.engine.holds h.2.flights on.flights h.2.pairs (record { each = h.2.in_flight.each; beyond = h.2.in_flight.beyond }) on.in_flight h.2.long
         (record { step = go; report = t.told; entry = on.entry; pairs = on.pairs }) refl (Go noise) k.0 t.engine.does on.step in
         let same : x.entry ≡ e = some_injective _ _ (sym (x.noted (h.2.asked refl)) ∙ k.1) in
         subst Keeps same (record { answered = x.answered (h.2.asked refl) answering answering_is; had = x.had })

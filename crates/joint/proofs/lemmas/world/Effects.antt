@@ -151,10 +151,10 @@ module _ {V : Type 0} (same : V → V → Bool) (always : Bool) (s s' : World V)
     by (Registered n) z = z.undecided
 
   -- a step that decides has the entry of the call that took effect
-  pub effect : (event : Event V) → l.report.decided ≡ true → Does same always (engine_of s) w event (misuse (engine_of s) w event) l.report (engine_of s') → EventMap same fs m event l fs' → Effect event
-  effect Register d does x = absurd (false≢true (sym x.undecided ∙ d))
-  effect (Begin op) d does x = absurd (false≢true (sym (begin_undecided (target op) l.report.outcome refl x) ∙ d))
-  effect (Go noise) d does x =
+  pub decided_effect : (event : Event V) → l.report.decided ≡ true → Does same always (engine_of s) w event (misuse (engine_of s) w event) l.report (engine_of s') → EventMap same fs m event l fs' → Effect event
+  decided_effect Register d does x = absurd (false≢true (sym x.undecided ∙ d))
+  decided_effect (Begin op) d does x = absurd (false≢true (sym (begin_undecided (target op) l.report.outcome refl x) ∙ d))
+  decided_effect (Go noise) d does x =
       let P : ℕ → Type 0 = λ j. GoMap same fs (fs j) m noise.answer l fs' in
       let first : is_reserving (slice_get s.calls w) ≡ false = elim (cases_Bool (is_reserving (slice_get s.calls w))) [
         | inl e ↦ absurd (false≢true (sym (first_undecided same always (engine_of s) (engine_of s') w holds noise l.report e does) ∙ d))

@@ -78,9 +78,9 @@ module _ {V : Type 0} where
   begun_follows (point.RangeInclusive start last size) = inr (_, refl, inl (refl, refl))
 
   -- a call that has ended is watched no longer
-  pub ended : (m : Machine Id V) (f : Flight V) → m.phase ≡ Ended → Follows m f → f ≡ Over
-  ended m f e (inl x) = x.1 ∙ (let P : _ → Type 0 = λ p. flight (record m { phase = p }) ≡ Over in subst P (sym e) refl)
-  ended m f e (inr (s, p, x)) = absurd (let q : Ended ≡ Scan s = sym e ∙ p in cc)
+  pub over_when_ended : (m : Machine Id V) (f : Flight V) → m.phase ≡ Ended → Follows m f → f ≡ Over
+  over_when_ended m f e (inl x) = x.1 ∙ (let P : _ → Type 0 = λ p. flight (record m { phase = p }) ≡ Over in subst P (sym e) refl)
+  over_when_ended m f e (inr (s, p, x)) = absurd (let q : Ended ≡ Scan s = sym e ∙ p in cc)
 
   -- each machine's own flight, for those whose call is on the tree
   abbrev pub own : InFlight V → Flight V → Flight V

@@ -29,7 +29,7 @@ use Rattle.joint.specs.engine.Engine.{World, EngineHolds, IsEngineStep, Does, en
 use Rattle.joint.specs.Reports.{is_in_flight}
 use Rattle.joint.proofs.lemmas.engine.OneCallChanges.{Apart, places_counted, step_apart}
 use Rattle.joint.proofs.lemmas.world.Asking.{asked_after}
-use Rattle.joint.proofs.lemmas.world.Effects.{Effect, Leaves, effect, leaves, room_for}
+use Rattle.joint.proofs.lemmas.world.Effects.{Effect, Leaves, decided_effect, leaves, room_for}
 use Rattle.joint.proofs.lemmas.engine.Entering.{begin_even, register_even}
 use Rattle.joint.proofs.lemmas.world.MapSteps.{Result, on_map}
 use Rattle.joint.proofs.lemmas.world.JournalPlaces.{go_writes, place_here, place_writes}
@@ -107,7 +107,7 @@ module _ {V : Type 0} (same : V → V → Bool) (always : Bool) (s s' : World V)
     line = record { step = record { worker = w; event = step.event }; report = told; entry = event_maps.entry; pairs = event_maps.pairs }
 
     took : told.decided ≡ true → Effect same always s s' w holds e.holds fs event_maps.flights m fl event_maps.in_flight h.2.long line refl step.event
-    took d = effect same always s s' w holds e.holds fs event_maps.flights m fl event_maps.in_flight h.2.long line refl step.event d e.does event_maps.step
+    took d = decided_effect same always s s' w holds e.holds fs event_maps.flights m fl event_maps.in_flight h.2.long line refl step.event d e.does event_maps.step
 
     left : told.decided ≡ false → Leaves same always s s' w holds e.holds fs event_maps.flights m fl event_maps.in_flight h.2.long line refl
     left d = leaves same always s s' w holds e.holds fs event_maps.flights m fl event_maps.in_flight h.2.long line refl step.event d event_maps.step
@@ -247,8 +247,8 @@ module _ {V : Type 0} (same : V → V → Bool) (always : Bool) (s s' : World V)
     }
 
     -- with what is written down it is a step of the whole machine
-    pub steps : (r : Report V) → r ≡ record told { kept = is_some kept } → IsStep same always s step r s'
-    steps r q =
+    pub logged_step : (r : Report V) → r ≡ record told { kept = is_some kept } → IsStep same always s step r s'
+    logged_step r q =
         let P : Bool → Type 0 = λ b. StepsUnless same always b s step r s' in
         record {
           does = subst P (sym g) (record { told = told; engine = e; report = q; entries = x.entries; places = x.places; requests = x.requests });

@@ -60,11 +60,11 @@ use Rattle.joint.specs.engine.Surveys.{MapTells}
 use Rattle.joint.specs.world.MapSteps.{EventMap, GoMap, FlightStep, PendingStep, BeginMap, BeginsOr, EndsAtOnce, FindsNone, Stays, Line}
 use Rattle.joint.specs.engine.Flying.{Flights, with_flight, IsInFlight, AreInFlight}
 use Rattle.joint.specs.engine.Engine.{World, EngineHolds, misuse, is_busy, place_of, quiet, collection, finds_none, Collects, Enters, EntersUnless, Reserves, GoesOnReserving, SecuresFirst, reserving, Walks, BeginsAt, BeginsOnTree, GoesAt, Proceeds, Does as Acts}
-use Rattle.joint.proofs.lemmas.engine.Collecting.{either}
+use Rattle.joint.proofs.lemmas.engine.Collecting.{get_set_either}
 use Rattle.joint.proofs.lemmas.engine.Reserving.{same_nodes, next_calls, next_here}
 use Rattle.joint.proofs.lemmas.engine.Telling.{map_tells}
 use Rattle.joint.proofs.lemmas.engine.ScanEnds.{cleared_is, done_over, rest_follows}
-use Rattle.joint.proofs.lemmas.world.Flights.{set_at, flight_here, flight_apart, pending, begun_follows, ended, listed, listed_at, following, followed}
+use Rattle.joint.proofs.lemmas.world.Flights.{set_at, flight_here, flight_apart, pending, begun_follows, over_when_ended, listed, listed_at, following, followed}
 
 -- the pairs stand on where the map is the same
 pub stands_on : {V : Type 0} (h h' : ℕ → Node V) (m : Pairs V) → SameMap h h' → IsMapOf h m → IsMapOf h' m
@@ -178,7 +178,7 @@ module _ {V : Type 0} (same : V → V → Bool) (always : Bool) (s s' : World V)
   set_in_flight fs' k' l ec em here apart = record {
     each = λ i k x a b.
         let P : List (InFlight V) → Type 0 = λ ks. slice_get ks i ≡ Some k in
-        elim (either s.calls w i k' k (subst P ec a)) [
+        elim (get_set_either s.calls w i k' k (subst P ec a)) [
           | inl e ↦ (
               let Q : InFlight V → Type 0 = λ y. IsInFlight y x (fs' i) in
               let R : ℕ → Type 0 = λ j. IsInFlight k' x (fs' j) in
@@ -225,7 +225,7 @@ module _ {V : Type 0} (same : V → V → Bool) (always : Bool) (s s' : World V)
     in_flight = set_in_flight (starts op) Walking l (ap (λ y. y.calls) k.state)
         (λ i y n b.
         let P : List (Machine Id V) → Type 0 = λ ms. slice_get ms i ≡ Some y in
-        elim (either s.machines w i (begun root op) y (subst P (ap (λ z. z.machines) k.state) b)) [
+        elim (get_set_either s.machines w i (begun root op) y (subst P (ap (λ z. z.machines) k.state) b)) [
           | inl e ↦ absurd (n e.0)
           | inr e ↦ e.1
         ])
@@ -233,7 +233,7 @@ module _ {V : Type 0} (same : V → V → Bool) (always : Bool) (s s' : World V)
         let P : List (Machine Id V) → Type 0 = λ ms. slice_get ms w ≡ Some y in
         let Q : Flight V → Type 0 = λ g. Follows y g in
         let R : Machine Id V → Type 0 = λ z. Follows z (flight (begun root op)) in
-        subst Q (sym (flight_here fs w (flight (begun root op)))) (elim (either s.machines w w (begun root op) y (subst P (ap (λ z. z.machines) k.state) b)) [
+        subst Q (sym (flight_here fs w (flight (begun root op)))) (elim (get_set_either s.machines w w (begun root op) y (subst P (ap (λ z. z.machines) k.state) b)) [
           | inl e ↦ subst R e.1 (begun_follows op)
           | inr e ↦ absurd (e.0 refl)
         ]))
@@ -365,7 +365,7 @@ module _ {V : Type 0} (same : V → V → Bool) (always : Bool) (s s' : World V)
       in_flight = set_in_flight (with_flight fs w waiting) Walking len ec
           (λ i y n b.
           let P : List (Machine Id V) → Type 0 = λ ms. slice_get ms i ≡ Some y in
-          elim (either s.machines w i (begun root op) y (subst P em b)) [
+          elim (get_set_either s.machines w i (begun root op) y (subst P em b)) [
             | inl q ↦ absurd (n q.0)
             | inr q ↦ q.1
           ])
@@ -373,7 +373,7 @@ module _ {V : Type 0} (same : V → V → Bool) (always : Bool) (s s' : World V)
           let P : List (Machine Id V) → Type 0 = λ ms. slice_get ms w ≡ Some y in
           let Q : Flight V → Type 0 = λ g. Follows y g in
           let R : Machine Id V → Type 0 = λ z. Follows z (flight (begun root op)) in
-          subst Q (pending op writing ∙ sym (flight_here fs w waiting)) (elim (either s.machines w w (begun root op) y (subst P em b)) [
+          subst Q (pending op writing ∙ sym (flight_here fs w waiting)) (elim (get_set_either s.machines w w (begun root op) y (subst P em b)) [
             | inl q ↦ subst R q.1 (begun_follows op)
             | inr q ↦ absurd (q.0 refl)
           ]))
@@ -505,7 +505,7 @@ module _ {V : Type 0} (same : V → V → Bool) (always : Bool) (s s' : World V)
       let P : Option (Machine Id V) → Type 0 = λ o. IsInFlight (if over_at o then Idle else Walking) y g in
       let Q : Bool → Type 0 = λ c. IsInFlight (if c then Idle else Walking) y g in
       subst P (sym b) (elim (cases_Bool (is_over y.phase)) [
-        | inl c ↦ subst Q (sym c) (ended y g (is_ended y.phase c) f)
+        | inl c ↦ subst Q (sym c) (over_when_ended y g (is_ended y.phase c) f)
         | inr c ↦ subst Q (sym c) f
       ])
 
@@ -534,7 +534,7 @@ module _ {V : Type 0} (same : V → V → Bool) (always : Bool) (s s' : World V)
         in_flight = set_in_flight fly.flights (if over_at (slice_get s'.machines w) then Idle else Walking) (slice_get_within s.calls w Walking e) k.calls
             (λ i y n b.
             let Q : List (Machine Id V) → Type 0 = λ ms. slice_get ms i ≡ Some y in
-            elim (either s.machines w i (rested moved.now) y (subst Q final_is b)) [
+            elim (get_set_either s.machines w i (rested moved.now) y (subst Q final_is b)) [
               | inl q ↦ absurd (n q.0)
               | inr q ↦ q.1
             ])

@@ -9,7 +9,7 @@ use Rattle.joint.specs.engine.Intact.{IsSecuring, is_reserving}
 use Rattle.joint.specs.engine.Engine.{collection}
 use Rattle.joint.proofs.lemmas.calls.CensusSteps.{counted_at, counted_collected, counted_secured}
 use Rattle.joint.proofs.lemmas.engine.Reserving.{next_here}
-use Rattle.joint.proofs.lemmas.engine.Proceeding.{go_unknown, go_idle, goes_on}
+use Rattle.joint.proofs.lemmas.engine.Proceeding.{go_unknown, go_idle, go_does}
 use Rattle.joint.proofs.engine.Engine.go_other.Goals as goal
 
 pub index-requires : goal.index-requires
@@ -43,12 +43,12 @@ returns-in-Idle-clause-does g c noise = go_idle g.P.Payload.same_as g.P.Payload.
 
 pub returns-in-Collecting-clause-does : goal.returns-in-Collecting-clause-does
 returns-in-Collecting-clause-does g c noise =
-    goes_on g.P.Payload.same_as g.P.Payload.always_copies (record { forest = c.args.self.now.nodes; machines = c.args.self.now.machines.items; calls = c.args.self.now.calls.items; log = no_log }) c.args.who (sym (c.is_registered.ensures.value ∙ (ap (λ s. (place s.nodes.collector c.args.who).registered) c.self.view_is)) ∙ c.if-not-is_registered.false) noise c.collection.result (record { forest = c.go_collecting-collector_report.new.self.nodes; machines = c.go_collecting-collector_report.new.self.machines.items; calls = c.go_collecting-collector_report.new.self.calls.items; log = no_log }) (Collecting c.in-Collecting.op) (sym (ap (λ e. slice_get e.calls.items c.args.who) c.self.view_is) ∙ slice_get_read _ _ c.args.who c.index.result.now refl (subst (λ (n : ℕ). c.args.who < n) (sym (ap (λ e. length e.calls.items) c.self.view_is)) (subst (λ (n : ℕ). c.args.who < n) (ap (λ s. length s.nodes.collector.table) c.self.view_is ∙ c.requires.intact.table) (c.is_registered.ensures.inside c.if-not-is_registered.false))) c.index.ensures ∙ ap Some c.in-Collecting.is) refl
+    go_does g.P.Payload.same_as g.P.Payload.always_copies (record { forest = c.args.self.now.nodes; machines = c.args.self.now.machines.items; calls = c.args.self.now.calls.items; log = no_log }) c.args.who (sym (c.is_registered.ensures.value ∙ (ap (λ s. (place s.nodes.collector c.args.who).registered) c.self.view_is)) ∙ c.if-not-is_registered.false) noise c.collection.result (record { forest = c.go_collecting-collector_report.new.self.nodes; machines = c.go_collecting-collector_report.new.self.machines.items; calls = c.go_collecting-collector_report.new.self.calls.items; log = no_log }) (Collecting c.in-Collecting.op) (sym (ap (λ e. slice_get e.calls.items c.args.who) c.self.view_is) ∙ slice_get_read _ _ c.args.who c.index.result.now refl (subst (λ (n : ℕ). c.args.who < n) (sym (ap (λ e. length e.calls.items) c.self.view_is)) (subst (λ (n : ℕ). c.args.who < n) (ap (λ s. length s.nodes.collector.table) c.self.view_is ∙ c.requires.intact.table) (c.is_registered.ensures.inside c.if-not-is_registered.false))) c.index.ensures ∙ ap Some c.in-Collecting.is) refl
     (record { collector_report = c.go_collecting-collector_report.result; step = c.go_collecting-collector_report.ensures.collected; machines = ap (λ v. v.items) c.go_collecting-collector_report.ensures.machines; calls = c.go_collecting-collector_report.ensures.calls; report = c.collection.ensures ∙ ap (collection c.go_collecting-collector_report.result) c.of_collector.ensures })
 
 pub returns-in-Reserving-clause-does : goal.returns-in-Reserving-clause-does
 returns-in-Reserving-clause-does g c noise =
-    goes_on g.P.Payload.same_as g.P.Payload.always_copies (record { forest = c.args.self.now.nodes; machines = c.args.self.now.machines.items; calls = c.args.self.now.calls.items; log = no_log }) c.args.who (sym (c.is_registered.ensures.value ∙ (ap (λ s. (place s.nodes.collector c.args.who).registered) c.self.view_is)) ∙ c.if-not-is_registered.false) noise c.collection-in-Reserving.result (record { forest = c.go_securing-collector_report.new.self.nodes; machines = c.go_securing-collector_report.new.self.machines.items; calls = c.go_securing-collector_report.new.self.calls.items; log = no_log }) (Reserving c.in-Reserving.field-0) (sym (ap (λ e. slice_get e.calls.items c.args.who) c.self.view_is) ∙ slice_get_read _ _ c.args.who c.index.result.now refl (subst (λ (n : ℕ). c.args.who < n) (sym (ap (λ e. length e.calls.items) c.self.view_is)) (subst (λ (n : ℕ). c.args.who < n) (ap (λ s. length s.nodes.collector.table) c.self.view_is ∙ c.requires.intact.table) (c.is_registered.ensures.inside c.if-not-is_registered.false))) c.index.ensures ∙ ap Some c.in-Reserving.is) refl
+    go_does g.P.Payload.same_as g.P.Payload.always_copies (record { forest = c.args.self.now.nodes; machines = c.args.self.now.machines.items; calls = c.args.self.now.calls.items; log = no_log }) c.args.who (sym (c.is_registered.ensures.value ∙ (ap (λ s. (place s.nodes.collector c.args.who).registered) c.self.view_is)) ∙ c.if-not-is_registered.false) noise c.collection-in-Reserving.result (record { forest = c.go_securing-collector_report.new.self.nodes; machines = c.go_securing-collector_report.new.self.machines.items; calls = c.go_securing-collector_report.new.self.calls.items; log = no_log }) (Reserving c.in-Reserving.field-0) (sym (ap (λ e. slice_get e.calls.items c.args.who) c.self.view_is) ∙ slice_get_read _ _ c.args.who c.index.result.now refl (subst (λ (n : ℕ). c.args.who < n) (sym (ap (λ e. length e.calls.items) c.self.view_is)) (subst (λ (n : ℕ). c.args.who < n) (ap (λ s. length s.nodes.collector.table) c.self.view_is ∙ c.requires.intact.table) (c.is_registered.ensures.inside c.if-not-is_registered.false))) c.index.ensures ∙ ap Some c.in-Reserving.is) refl
     (record {
       between = record { forest = c.begin_securing.new.self.nodes; machines = c.begin_securing.new.self.machines.items; calls = c.begin_securing.new.self.calls.items; log = no_log };
       begins = c.begin_securing.ensures.begins;
@@ -57,7 +57,7 @@ returns-in-Reserving-clause-does g c noise =
 
 pub returns-in-Securing-clause-does : goal.returns-in-Securing-clause-does
 returns-in-Securing-clause-does g c noise =
-    goes_on g.P.Payload.same_as g.P.Payload.always_copies (record { forest = c.args.self.now.nodes; machines = c.args.self.now.machines.items; calls = c.args.self.now.calls.items; log = no_log }) c.args.who (sym (c.is_registered.ensures.value ∙ (ap (λ s. (place s.nodes.collector c.args.who).registered) c.self.view_is)) ∙ c.if-not-is_registered.false) noise c.collection-in-Securing.result (record { forest = c.go_securing-collector_report-in-Securing.new.self.nodes; machines = c.go_securing-collector_report-in-Securing.new.self.machines.items; calls = c.go_securing-collector_report-in-Securing.new.self.calls.items; log = no_log }) (Securing c.in-Securing.field-0) (sym (ap (λ e. slice_get e.calls.items c.args.who) c.self.view_is) ∙ slice_get_read _ _ c.args.who c.index.result.now refl (subst (λ (n : ℕ). c.args.who < n) (sym (ap (λ e. length e.calls.items) c.self.view_is)) (subst (λ (n : ℕ). c.args.who < n) (ap (λ s. length s.nodes.collector.table) c.self.view_is ∙ c.requires.intact.table) (c.is_registered.ensures.inside c.if-not-is_registered.false))) c.index.ensures ∙ ap Some c.in-Securing.is) refl
+    go_does g.P.Payload.same_as g.P.Payload.always_copies (record { forest = c.args.self.now.nodes; machines = c.args.self.now.machines.items; calls = c.args.self.now.calls.items; log = no_log }) c.args.who (sym (c.is_registered.ensures.value ∙ (ap (λ s. (place s.nodes.collector c.args.who).registered) c.self.view_is)) ∙ c.if-not-is_registered.false) noise c.collection-in-Securing.result (record { forest = c.go_securing-collector_report-in-Securing.new.self.nodes; machines = c.go_securing-collector_report-in-Securing.new.self.machines.items; calls = c.go_securing-collector_report-in-Securing.new.self.calls.items; log = no_log }) (Securing c.in-Securing.field-0) (sym (ap (λ e. slice_get e.calls.items c.args.who) c.self.view_is) ∙ slice_get_read _ _ c.args.who c.index.result.now refl (subst (λ (n : ℕ). c.args.who < n) (sym (ap (λ e. length e.calls.items) c.self.view_is)) (subst (λ (n : ℕ). c.args.who < n) (ap (λ s. length s.nodes.collector.table) c.self.view_is ∙ c.requires.intact.table) (c.is_registered.ensures.inside c.if-not-is_registered.false))) c.index.ensures ∙ ap Some c.in-Securing.is) refl
     (record { collector_report = c.go_securing-collector_report-in-Securing.result; step = c.go_securing-collector_report-in-Securing.ensures.secured; report = c.collection-in-Securing.ensures ∙ ap (collection c.go_securing-collector_report-in-Securing.result) c.reserving-in-Securing.ensures })
 
 pub returns-in-Collecting-clause-counted : goal.returns-in-Collecting-clause-counted

@@ -13,7 +13,7 @@ use Rattle.congee.specs.declared.owned.sight.Next.TheVariants.{Blank as NextBlan
 use Rattle.congee.specs.declared.owned.stats.NodeStats.{NodeStats}
 use Rattle.congee.proofs.lemmas.owned.Standing.{standing}
 use Rattle.congee.proofs.lemmas.owned.Weights.{passes, passed_all, below_is, no_node}
-use Rattle.congee.proofs.lemmas.owned.Surveys.{Counted, begun, none_below, none_past, leaf_counted, went_below, went_past, child_stands, ended}
+use Rattle.congee.proofs.lemmas.owned.Surveys.{Counted, node_counted, none_below, none_past, leaf_counted, went_below, went_past, child_stands, survey_counted}
 use Rattle.congee.proofs.owned.arena.Arena.+count_from.Goals as goal
 use Rattle.congee.proofs.owned.arena.Arena.+count_from.Goals.{in-Node+in_ok-count_from-in-Node, in_default-child}
 
@@ -38,8 +38,8 @@ returns-then-is_leaf-clause-counted g t c =
     let none = none_below s c.args.at x.node c.requires.tree c.requires.stands x.is ((c.is_leaf.ensures x.node x.is).0 c.if-is_leaf.true) in
     let form = c.node_type.ensures x.node x.is in
     let count = c.len.ensures.count x.node x.is in
-    let alone = begun s c.args.stats.now c.count.new.self c.args.level x.node (rw (← form, ← count) c.in_ok-count.ensures.counted) in
-    ended s c.args.stats.now c.count.new.self c.args.level c.args.at x.node 256 c.requires.tree c.requires.stands x.is
+    let alone = node_counted s c.args.stats.now c.count.new.self c.args.level x.node (rw (← form, ← count) c.in_ok-count.ensures.counted) in
+    survey_counted s c.args.stats.now c.count.new.self c.args.level c.args.at x.node 256 c.requires.tree c.requires.stands x.is
     (leaf_counted s c.args.stats.now c.count.new.self c.args.level x.node none alone) (none_past x.node (c.len.ensures.bytes x.node x.is))
 
 pub returns-then-is_leaf-clause-bytes : goal.returns-then-is_leaf-clause-bytes
@@ -54,7 +54,7 @@ pub loop-byte-init : goal.loop-byte-init
 loop-byte-init g t c = λ x is.
     let form = c.node_type.ensures x is in
     let count = c.len.ensures.count x is in
-    (begun c.args.self.now.nodes c.args.stats.now c.count.new.self c.args.level x (rw (← form, ← count) c.in_ok-count.ensures.counted), λ b d l e. absurd (omega (arith, l)))
+    (node_counted c.args.self.now.nodes c.args.stats.now c.count.new.self c.args.level x (rw (← form, ← count) c.in_ok-count.ensures.counted), λ b d l e. absurd (omega (arith, l)))
 
 pub count_from-requires : goal.count_from-requires
 count_from-requires g t c κs within =
@@ -101,7 +101,7 @@ pub returns-clause-counted : goal.returns-clause-counted
 returns-clause-counted g t c =
     let s = c.args.self.now.nodes in
     let x = standing s c.args.at c.requires.stands in
-    ended s c.args.stats.now c.loop-byte.stats c.args.level c.args.at x.node c.loop-byte.from c.requires.tree c.requires.stands x.is (c.loop-byte.invariant x.node x.is).0
+    survey_counted s c.args.stats.now c.loop-byte.stats c.args.level c.args.at x.node c.loop-byte.from c.requires.tree c.requires.stands x.is (c.loop-byte.invariant x.node x.is).0
     (c.in_default.ensures.first s c.args.at x.node c.sight-sight.ensures x.is)
 
 pub returns-clause-levels : goal.returns-clause-levels
