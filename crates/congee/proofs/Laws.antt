@@ -41,11 +41,11 @@ pub use Rattle.congee.proofs.lemmas.owned.RangeLemmas.{range_first}
 -- the pairs of a range that holds every key are the map's
 pub use Rattle.congee.proofs.lemmas.owned.RangeLemmas.{range_all}
 -- what stands at the key's byte in a linked node whose prefix the key has decides the key's value
-pub use Rattle.congee.proofs.lemmas.Tree.{finds}
+pub use Rattle.congee.proofs.lemmas.Tree.{value_at_linked}
 -- a key that lacks the prefix of the node at its byte has no value
-pub use Rattle.congee.proofs.lemmas.Tree.{misses}
+pub use Rattle.congee.proofs.lemmas.Tree.{value_at_unfit}
 -- a change at one byte of a node leaves each walk as it was that doesn't take that byte there
-pub use Rattle.congee.proofs.lemmas.Tree.{aside}
+pub use Rattle.congee.proofs.lemmas.Tree.{walk_aside}
 -- what a change at one byte of one node leaves, where nodes come into the tree or leave it: all but what hung there
 pub use Rattle.congee.proofs.lemmas.Graft.{Graft}
 -- after it: the children of the nodes that stood before are children
@@ -85,7 +85,7 @@ pub use Rattle.congee.proofs.lemmas.protocol.Regions.{byte_low}
 -- a key before a byte's first one has a lesser byte
 pub use Rattle.congee.proofs.lemmas.protocol.Regions.{byte_high}
 -- the whole of the keys below a node lies between its byte 0 and its byte 256
-pub use Rattle.congee.proofs.lemmas.protocol.Regions.{whole}
+pub use Rattle.congee.proofs.lemmas.protocol.Regions.{start_at_end}
 -- the first keys of greater bytes aren't less
 pub use Rattle.congee.proofs.lemmas.protocol.Regions.{start_mono}
 -- the last of the keys below a node is a key

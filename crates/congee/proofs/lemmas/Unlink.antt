@@ -4,8 +4,8 @@ use Rattle.std.specs.Prelude.{None, Some}
 use Rattle.congee.specs.Heap.{Nothing, Below, Holds, Node, fits, child_for, value_at}
 use Rattle.congee.specs.Notes.{Linked, Gone, Note, IsChild, HasParent, Tree}
 use Rattle.congee.proofs.lemmas.Fits.{same_test, other_test}
-use Rattle.congee.proofs.lemmas.Tree.{same_or_not, finds}
-use Rattle.congee.proofs.lemmas.Graft.{Graft, old_down, old_leaves, old_up, untouched, on_test}
+use Rattle.congee.proofs.lemmas.Tree.{same_or_not, value_at_linked}
+use Rattle.congee.proofs.lemmas.Graft.{Graft, old_down, old_leaves, old_up, walk_untouched, on_test}
 use Rattle.congee.proofs.lemmas.Link.{Leaf, leaf_no_node, leaf_value, leaf_other, child_moved}
 
 -- before and after: leaf m, which has the key's value alone, no longer hangs below node n
@@ -110,12 +110,12 @@ unlink_map a h a' h' n m key v len t k =
     let i : IsChild a h n (get_or key (length (h n).prefix) 0) m = t.down n _ m k.linked k.hung in
     let other : n ≢ m = (λ e. let z : length (h n).prefix ≡ length (h m).prefix = ap (λ y. length (h y).prefix) e in absurd (omega (arith, i.longer))) in
     let l' : (a' n).status ≡ Linked = rw (k.notes n other) k.linked in (
-      finds a h t n key (Below m) k.linked k.fitted k.hung ∙ leaf_value h 6 m key v k.last,
-      finds a' h' t' n key Nothing l' (rw k.prefix k.fitted) (rw k.prefix k.child),
+      value_at_linked a h t n key (Below m) k.linked k.fitted k.hung ∙ leaf_value h 6 m key v k.last,
+      value_at_linked a' h' t' n key Nothing l' (rw k.prefix k.fitted) (rw k.prefix k.child),
       (λ x lx ne. on_test (fits (h n).prefix x)
           (λ q. elim (same_or_not (get_or x (length (h n).prefix) 0) (get_or key (length (h n).prefix) 0)) [
-            | inl e ↦ finds a' h' t' n x Nothing l' (rw k.prefix q) (rw k.prefix (rw e k.child)) ∙ sym (finds a h t n x (Below m) k.linked q (child_moved (h n) key x (Below m) e k.hung) ∙ leaf_other h 6 m key v x len lx ne k.last)
-            | inr e ↦ untouched a h a' h' n _ t t' g 8 0 x t.root t'.root (inr (λ _ y. e y))
+            | inl e ↦ value_at_linked a' h' t' n x Nothing l' (rw k.prefix q) (rw k.prefix (rw e k.child)) ∙ sym (value_at_linked a h t n x (Below m) k.linked q (child_moved (h n) key x (Below m) e k.hung) ∙ leaf_other h 6 m key v x len lx ne k.last)
+            | inr e ↦ walk_untouched a h a' h' n _ t t' g 8 0 x t.root t'.root (inr (λ _ y. e y))
           ])
-          (λ q. untouched a h a' h' n _ t t' g 8 0 x t.root t'.root (inr (λ y _. cc)))),
+          (λ q. walk_untouched a h a' h' n _ t t' g 8 0 x t.root t'.root (inr (λ y _. cc)))),
     )

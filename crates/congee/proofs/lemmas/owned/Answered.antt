@@ -18,21 +18,21 @@ use Rattle.congee.specs.declared.owned.place.Spot.TheVariants.{Held, Free, Apart
 use Rattle.congee.specs.declared.owned.place.Spot.{Spot}
 use Rattle.congee.proofs.lemmas.owned.Moves.{held_seven}
 use Rattle.congee.proofs.lemmas.Keys.{standing_changed}
-use Rattle.congee.proofs.lemmas.Tree.{finds, misses}
+use Rattle.congee.proofs.lemmas.Tree.{value_at_linked, value_at_unfit}
 use Rattle.congee.proofs.lemmas.owned.Ways.{linked_of}
 
 module _ {P : Type 0} where
   -- what a key's way tells of its value
   pub at_held : (s : Nodes P) (key : List ℕ) (n : ℕ) (v : P) → IsTree s → OnWay s key n → child_for (heap_of s n) key ≡ Holds v → value_at (heap_of s) key ≡ Some v
-  at_held s key n v t w e = finds _ (heap_of s) t.tree n key (Holds v) (linked_of s t.parent n w.stands) w.fitted e
+  at_held s key n v t w e = value_at_linked _ (heap_of s) t.tree n key (Holds v) (linked_of s t.parent n w.stands) w.fitted e
 
   -- a key whose way ends where nothing hangs has no value
   pub at_free : (s : Nodes P) (key : List ℕ) (n : ℕ) → IsTree s → OnWay s key n → child_for (heap_of s n) key ≡ Nothing → value_at (heap_of s) key ≡ None
-  at_free s key n t w e = finds _ (heap_of s) t.tree n key Nothing (linked_of s t.parent n w.stands) w.fitted e
+  at_free s key n t w e = value_at_linked _ (heap_of s) t.tree n key Nothing (linked_of s t.parent n w.stands) w.fitted e
 
   -- a key whose way comes to a node with another prefix has no value
   pub at_apart : (s : Nodes P) (key : List ℕ) (n c : ℕ) → IsTree s → OnWay s key n → child_for (heap_of s n) key ≡ Below c → fits (heap_of s c).prefix key ≡ false → value_at (heap_of s) key ≡ None
-  at_apart s key n c t w e f = misses _ (heap_of s) t.tree n c key (linked_of s t.parent n w.stands) w.fitted e f
+  at_apart s key n c t w e f = value_at_unfit _ (heap_of s) t.tree n c key (linked_of s t.parent n w.stands) w.fitted e f
 
   -- a key whose place is free has no value
   pub located_free : (s : Nodes P) (key : List ℕ) (p : Place) → IsTree s → Located s key p → p.spot ≡ Free → value_at (heap_of s) key ≡ None

@@ -19,7 +19,7 @@ use Rattle.congee.specs.declared.forms.child.Child.TheVariants.{Node as Sub, Val
 use Rattle.congee.proofs.lemmas.Tree.{same_or_not}
 use Rattle.congee.proofs.lemmas.owned.Folding.{fold_done}
 use Rattle.congee.proofs.lemmas.owned.Moves.{insert_at, insert_beside, node_at, one_node}
-use Rattle.congee.proofs.lemmas.owned.SlotLens.{counted, len_update}
+use Rattle.congee.proofs.lemmas.owned.SlotLens.{count_if_some, len_update}
 
 -- a key's first seven bytes
 key_prefix : (p key : List ℕ) → length p ≡ 7 → length key ≡ 8 → ((j : ℕ) → j < 7 → get_or key j 0 ≡ get_or p j 0) → take 7 key ≡ p
@@ -107,9 +107,9 @@ module _ {P : Type 0} (v : Nodes P) (at leaf : ℕ) (stands : ContainsKey v at) 
         pub fold_room : HasRoomFor v 0 → v1.capacity ≡ v.capacity → v2.capacity ≡ v1.capacity → HasRoomFor v2 1
         fold_room room c1 c2 =
             let l1 = len_update v v1 leaf (Some taken.node) taken.updates in
-            let a : counted (get v leaf) ≡ 1 = ap counted lies.1 in
+            let a : count_if_some (get v leaf) ≡ 1 = ap count_if_some lies.1 in
             let l2 = len_update v1 v2 leaf None gone in
-            let d : counted (get v1 leaf) ≡ 1 = ap counted taken.updates.changed in
+            let d : count_if_some (get v1 leaf) ≡ 1 = ap count_if_some taken.updates.changed in
             omega (arith, l1, a, l2, d, room, c1, c2)
 
         -- its key begins with the byte that led to it

@@ -31,7 +31,7 @@ use Rattle.congee.proofs.lemmas.owned.Joins.{add_leaf_done, drop_leaf_done, add_
 use Rattle.congee.proofs.lemmas.owned.Moves.{node_at, one_node, apart_of, prefix_at, stands_at, differs_insert, differs_remove, insert_at, insert_beside, len_one, single, held_is, held_seven, Roomy, roomy_byte}
 use Rattle.congee.proofs.lemmas.owned.Renaming.{renamed}
 use Rattle.congee.proofs.lemmas.owned.Sizes.{bytes_named, bytes_same, sets_bytes, makes_bytes}
-use Rattle.congee.proofs.lemmas.owned.SlotLens.{counted, len_update}
+use Rattle.congee.proofs.lemmas.owned.SlotLens.{count_if_some, len_update}
 use Rattle.congee.proofs.lemmas.owned.Totals.{total_update}
 use Rattle.congee.proofs.lemmas.owned.Wanting.{sized, roomy_none}
 use Rattle.congee.proofs.lemmas.owned.Ways.{linked_of, is_child, short_prefix, below_stands, no_blank, above_apart, same_tree}
@@ -60,14 +60,14 @@ module _ {P : Type 0} where
   pub room_made : (s s' : Nodes P) (name n : ℕ) (p : List ℕ) → Makes s s' name p → s'.capacity ≡ s.capacity → HasRoomFor s (n + 1) → HasRoomFor s' n
   room_made s s' name n p m c r =
       let u = len_update s s' name (Some m.node) m.updates in
-      let z : counted (get s name) ≡ 0 = ap counted m.vacant in
+      let z : count_if_some (get s name) ≡ 0 = ap count_if_some m.vacant in
       omega (arith, u, z, c, r)
 
   -- another node in the place of one leaves as much room for further nodes
   pub room_set : (s s' : Nodes P) (at n : ℕ) (x y : Form ℕ P) → get s at ≡ Some x → Updates s s' at (Some y) → s'.capacity ≡ s.capacity → HasRoomFor s n → HasRoomFor s' n
   room_set s s' at n x y e u c r =
       let k = len_update s s' at (Some y) u in
-      let z : counted (get s at) ≡ 1 = ap counted e in
+      let z : count_if_some (get s at) ≡ 1 = ap count_if_some e in
       omega (arith, k, z, c, r)
 
   hangs_bytes : (s s' : Nodes P) (at : ℕ) (x : Form ℕ P) (byte : ℕ) (key : List ℕ) (v : P) → get s at ≡ Some x → HangsLeaf s s' at x byte key v → bytes_of s' ≡ bytes_of s + 64

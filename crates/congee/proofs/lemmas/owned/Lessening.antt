@@ -27,7 +27,7 @@ use Rattle.congee.proofs.lemmas.owned.Filled.{filled_some}
 use Rattle.congee.proofs.lemmas.owned.Moves.{node_at}
 use Rattle.congee.proofs.lemmas.owned.Sizes.{bytes_update}
 use Rattle.congee.proofs.lemmas.owned.SlotComes.{slot_updates, slot_stored}
-use Rattle.congee.proofs.lemmas.owned.SlotLens.{counted, len_update}
+use Rattle.congee.proofs.lemmas.owned.SlotLens.{count_if_some, len_update}
 use Rattle.congee.proofs.lemmas.owned.Slots.{with_form, with_prefix, with_mapped}
 use Rattle.congee.proofs.lemmas.owned.Stored.{slot_seen, slot_there, inline_seen, seen_len}
 use Rattle.congee.proofs.lemmas.owned.Ways.{same_tree}
@@ -98,7 +98,7 @@ module _ {P K : Type 0} (s : Slab (Slot P K)) (v : Nodes P) (is : nodes_in s ≡
       length_kept : slab_len (with_value s i x') + inline ≤ s.capacity
       length_kept =
           let l = len_update s (with_value s i x') i (Some x') updates in
-          let c : counted (get s i) ≡ 1 = ap counted e in
+          let c : count_if_some (get s i) ≡ 1 = ap count_if_some e in
           let r = st.room in
           omega (arith, l, c, r)
 

@@ -4,8 +4,8 @@ use Rattle.std.specs.Prelude.{Option, None, Some}
 use Rattle.congee.specs.Heap.{Node, Hung, Nothing, Below, Holds, fits, child_for, value_at}
 use Rattle.congee.specs.Notes.{Linked, Note, Tree}
 use Rattle.congee.proofs.lemmas.Fits.{same_key}
-use Rattle.congee.proofs.lemmas.Tree.{same_or_not, finds}
-use Rattle.congee.proofs.lemmas.Graft.{Graft, old_down, old_up, old_leaves, untouched, on_test}
+use Rattle.congee.proofs.lemmas.Tree.{same_or_not, value_at_linked}
+use Rattle.congee.proofs.lemmas.Graft.{Graft, old_down, old_up, old_leaves, walk_untouched, on_test}
 
 -- a value as a child, or no child
 abbrev pub put_child : {V : Type 0} → Option V → Hung V
@@ -82,9 +82,9 @@ module _ {V : Type 0} (a : ℕ → Note) (h h' : ℕ → Node V) (n : ℕ) (key 
       let g : Graft a h a h' n (get_or key (length (h n).prefix) 0) = put_graft k in
       let t' : Tree a h' = put_tree t k in
       let there : child_for (h' n) key ≡ put_child new = rw k.prefix k.child in (
-        finds a h t n key (put_child old) k.linked k.fitted k.before ∙ put_value old _ _ refl,
-        finds a h' t' n key (put_child new) k.linked (rw k.prefix k.fitted) there ∙ put_value new _ _ refl,
+        value_at_linked a h t n key (put_child old) k.linked k.fitted k.before ∙ put_value old _ _ refl,
+        value_at_linked a h' t' n key (put_child new) k.linked (rw k.prefix k.fitted) there ∙ put_value new _ _ refl,
         (λ x lx ne. on_test (fits (h n).prefix x)
-            (λ q. untouched a h a h' n _ t t' g 8 0 x t.root t'.root (inr (λ _ y. ne (same_key (h n).prefix x key q k.fitted (omega (arith, k.seven)) (omega (arith, k.seven)) y))))
-            (λ q. untouched a h a h' n _ t t' g 8 0 x t.root t'.root (inr (λ y _. cc)))),
+            (λ q. walk_untouched a h a h' n _ t t' g 8 0 x t.root t'.root (inr (λ _ y. ne (same_key (h n).prefix x key q k.fitted (omega (arith, k.seven)) (omega (arith, k.seven)) y))))
+            (λ q. walk_untouched a h a h' n _ t t' g 8 0 x t.root t'.root (inr (λ y _. cc)))),
       )

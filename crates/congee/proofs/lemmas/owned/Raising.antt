@@ -24,7 +24,7 @@ use Rattle.congee.proofs.lemmas.owned.Hangings.{bytes_two}
 use Rattle.congee.proofs.lemmas.owned.Moves.{apart_of, one_node, stands_at}
 use Rattle.congee.proofs.lemmas.owned.Sizes.{bytes_update, sets_bytes}
 use Rattle.congee.proofs.lemmas.owned.SlotChanges.{inner_own}
-use Rattle.congee.proofs.lemmas.owned.SlotLens.{counted, len_two}
+use Rattle.congee.proofs.lemmas.owned.SlotLens.{count_if_some, len_two}
 use Rattle.congee.proofs.lemmas.owned.Slots.{in_offset, low_offset}
 use Rattle.congee.proofs.lemmas.owned.SlotValues.{own_none}
 use Rattle.congee.proofs.lemmas.owned.Unfolds.{one_value}
@@ -121,10 +121,10 @@ module _ {P : Type 0} (s : Nodes P) (g b p : ℕ) (r : MayLift s g b p) where
     pub leaf_room : s1.capacity ≡ s.capacity → HasRoomFor s 0 → HasRoomFor s1 1
     leaf_room cap room =
         let u = len_two s s1 p k.leaf apart k.others in
-        let a : counted (get s p) ≡ 1 = ap counted r.stood in
-        let c : counted (get s k.leaf) ≡ 1 = ap counted k.stood in
-        let d : counted (get s1 p) ≡ 0 = ap counted k.gone in
-        let f : counted (get s1 k.leaf) ≡ 0 = ap counted k.left in
+        let a : count_if_some (get s p) ≡ 1 = ap count_if_some r.stood in
+        let c : count_if_some (get s k.leaf) ≡ 1 = ap count_if_some k.stood in
+        let d : count_if_some (get s1 p) ≡ 0 = ap count_if_some k.gone in
+        let f : count_if_some (get s1 k.leaf) ≡ 0 = ap count_if_some k.left in
         omega (arith, u, a, c, d, f, cap, room)
 
     module _ (s2 : Nodes P) (puts : (x : Node ℕ P) → get s1 g ≡ Some x → HangsLeaf s1 s2 g x b lone.key lone.value) where

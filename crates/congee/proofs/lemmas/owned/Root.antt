@@ -10,7 +10,7 @@ use Rattle.congee.specs.owned.Sizes.{bytes_of, bytes_at}
 use Rattle.congee.specs.owned.Arena.{Nodes, hung_in, node_of, heap_of, notes_of, IsFilled, IsTree}
 use Rattle.congee.specs.declared.forms.base_node.Node.{Node as Form}
 use Rattle.congee.specs.declared.forms.base_node.NodeType.TheVariants.{N256}
-use Rattle.congee.proofs.lemmas.Tree.{same_or_not, finds}
+use Rattle.congee.proofs.lemmas.Tree.{same_or_not, value_at_linked}
 use Rattle.congee.proofs.lemmas.owned.Filled.{filled_at, filled_some, filled_none}
 use Rattle.congee.proofs.lemmas.owned.Sizes.{bytes_update}
 
@@ -54,7 +54,7 @@ module _ {P : Type 0} (s0 s : Nodes P) (root : Form ℕ P) (none : (n : ℕ) →
 
   -- in a root alone no key has a value
   pub root_empty : (key : List ℕ) → value_at (heap_of s) key ≡ None
-  root_empty key = finds _ (heap_of s) root_tree.tree 0 key Nothing root_tree.tree.root (rw empty_prefix refl) (nothing _)
+  root_empty key = value_at_linked _ (heap_of s) root_tree.tree 0 key Nothing root_tree.tree.root (rw empty_prefix refl) (nothing _)
 
   -- a root alone takes 2,104 bytes
   pub root_bytes : bytes_of s0 ≡ 0 → bytes_of s ≡ 2104

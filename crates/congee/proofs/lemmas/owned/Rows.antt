@@ -35,7 +35,7 @@ use Rattle.congee.proofs.lemmas.owned.Cursors.{child_there, nothing_blank, branc
 use Rattle.congee.proofs.lemmas.owned.Entering.{children_at, prefix_at}
 use Rattle.congee.proofs.lemmas.forms.Ranks.{rising_of}
 use Rattle.congee.proofs.lemmas.owned.Sights.{inline_found, inner_first, inner_last}
-use Rattle.congee.proofs.lemmas.owned.Standing.{standing}
+use Rattle.congee.proofs.lemmas.owned.Standing.{standing_at}
 use Rattle.congee.proofs.lemmas.owned.Surveys.{child_stands}
 use Rattle.congee.proofs.lemmas.owned.Writings.{SoFar, Wrote, WritesPair, filled_more, fills_nothing, fills_one, so_far_on, sets_out, wrote_leaf, wrote_node}
 
@@ -144,7 +144,7 @@ module _ {P : Type 0} (s : Nodes P) (t : IsTree s) (stem : Stem) (entry : Entry 
   -- an entry that is the first from a byte on isn't blank
   pub entry_filled : entry ≡ Blank → ⊥
   entry_filled is =
-      let x = standing s (257 * stem.slot) stands in
+      let x = standing_at s (257 * stem.slot) stands in
       nothing_blank s t (257 * stem.slot) h.byte stands
       (child_there s (257 * stem.slot) h.byte x.node _ _ x.is (there Blank is x.node x.is).here refl)
 
@@ -152,7 +152,7 @@ module _ {P : Type 0} (s : Nodes P) (t : IsTree s) (stem : Stem) (entry : Entry 
   pub entry_below : (below : ℕ) → entry ≡ Sub below
       → ContainsKey s (257 * below) × ((length (heap_of s (257 * stem.slot)).prefix < length (heap_of s (257 * below)).prefix) × (length (heap_of s (257 * below)).prefix ≤ 7))
   entry_below below is =
-      let x = standing s (257 * stem.slot) stands in
+      let x = standing_at s (257 * stem.slot) stands in
       child_stands s (257 * stem.slot) x.node h.from h.byte (SubChild (257 * below)) (257 * below) t stands x.is (there (Sub below) is x.node x.is) refl
 
   module _ {E : Type 0} (put : ℕ → P → E) (last count : ℕ) (out : List E) (within : count ≤ length out) where

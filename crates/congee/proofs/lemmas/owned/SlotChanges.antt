@@ -19,7 +19,7 @@ use Rattle.congee.specs.declared.owned.slots.Slot.TheVariants.{Inner, Leaf}
 use Rattle.std.proofs.lemmas.List.{length-take-le}
 use Rattle.congee.proofs.lemmas.Tree.{same_or_not}
 use Rattle.congee.proofs.lemmas.forms.MappedLemmas.{mapped_none}
-use Rattle.congee.proofs.lemmas.owned.SlotLens.{counted, len_two, len_update}
+use Rattle.congee.proofs.lemmas.owned.SlotLens.{count_if_some, len_two, len_update}
 use Rattle.congee.proofs.lemmas.owned.Slots.{get_inline, with_prefix, with_mapped, with_full}
 use Rattle.congee.proofs.lemmas.owned.Stored.{slot_seen, named_slot, named_seen, inline_seen, byte_beside}
 
@@ -122,20 +122,20 @@ module _ {P K : Type 0} (s : Slab (Slot P K)) (i : ℕ) (n n' : Node ℕ (Lone P
   len_after : slab_len after ≡ slab_len s
   len_after =
       let l = len_update s after i (Some (Inner n')) updates in
-      let c : counted (get s i) ≡ 1 = ap counted stands in
+      let c : count_if_some (get s i) ≡ 1 = ap count_if_some stands in
       omega (arith, l, c)
 
-  names_after : slab_len (nodes_in after) + counted (lone_in (map.get (children_of n) b)) ≡ slab_len (nodes_in s) + counted (lone_in (map.get (children_of n') b))
+  names_after : slab_len (nodes_in after) + count_if_some (lone_in (map.get (children_of n) b)) ≡ slab_len (nodes_in s) + count_if_some (lone_in (map.get (children_of n') b))
   names_after =
       let two = len_two (nodes_in s) (nodes_in after) (257 * i) (257 * i + (b + 1)) (λ q. absurd (omega (arith, q))) others_after in
-      let a : counted (get (nodes_in s) (257 * i)) ≡ 1 = ap counted (slot_seen s i (Inner n) stands) in
-      let c : counted (get (nodes_in after) (257 * i)) ≡ 1 = ap counted seen_after in
-      let d : counted (get (nodes_in s) (257 * i + (b + 1))) ≡ counted (lone_in (map.get (children_of n) b)) = ap counted lone_before in
-      let f : counted (get (nodes_in after) (257 * i + (b + 1))) ≡ counted (lone_in (map.get (children_of n') b)) = ap counted lone_after in
+      let a : count_if_some (get (nodes_in s) (257 * i)) ≡ 1 = ap count_if_some (slot_seen s i (Inner n) stands) in
+      let c : count_if_some (get (nodes_in after) (257 * i)) ≡ 1 = ap count_if_some seen_after in
+      let d : count_if_some (get (nodes_in s) (257 * i + (b + 1))) ≡ count_if_some (lone_in (map.get (children_of n) b)) = ap count_if_some lone_before in
+      let f : count_if_some (get (nodes_in after) (257 * i + (b + 1))) ≡ count_if_some (lone_in (map.get (children_of n') b)) = ap count_if_some lone_after in
       omega (arith, two, a, c, d, f)
 
   -- the slots are sound, with as many leaves in places as the change left
-  pub stored_after : (inline inline' : ℕ) → IsStored s inline → inline' + counted (lone_in (map.get (children_of n) b)) ≡ inline + counted (lone_in (map.get (children_of n') b)) → slab_len s + inline' ≤ s.capacity
+  pub stored_after : (inline inline' : ℕ) → IsStored s inline → inline' + count_if_some (lone_in (map.get (children_of n) b)) ≡ inline + count_if_some (lone_in (map.get (children_of n') b)) → slab_len s + inline' ≤ s.capacity
       → IsStored after inline'
   stored_after inline inline' k e r = record {
     counted = (let l = len_after in let m = names_after in let c = k.counted in omega (arith, l, m, c, e));

@@ -25,7 +25,7 @@ use Rattle.congee.proofs.lemmas.Tree.{same_or_not}
 use Rattle.congee.proofs.lemmas.forms.MappedLemmas.{mapped_empty, mapped_insert}
 use Rattle.congee.proofs.lemmas.forms.Full.{full_at, full_is}
 use Rattle.congee.proofs.lemmas.owned.Moves.{node_at, insert_at, insert_beside}
-use Rattle.congee.proofs.lemmas.owned.SlotLens.{counted, len_update}
+use Rattle.congee.proofs.lemmas.owned.SlotLens.{count_if_some, len_update}
 use Rattle.congee.proofs.lemmas.owned.SlotOps.{own_slot}
 use Rattle.congee.proofs.lemmas.owned.Slots.{get_offset, beside_slot, in_offset, low_offset, with_form, with_prefix, with_mapped}
 use Rattle.congee.proofs.lemmas.owned.Stored.{slot_seen, slot_there, inline_seen, lone_full}
@@ -53,8 +53,8 @@ module _ {P K : Type 0} (s s' : Slab (Slot P K)) (i : ℕ) where
   slot_stored inline o st u same kind cap room =
       let l = len_update s s' i o u in
       let m = len_update (nodes_in s) (nodes_in s') (257 * i) (in_slot i o 0) (slot_updates o u same) in
-      let a : counted (get (nodes_in s) (257 * i)) ≡ counted (get s i) = ap counted (ap (get (nodes_in s)) (let z : 257 * i ≡ 257 * i + 0 = omega arith in z) ∙ get_offset s i 0 (omega arith)) ∙ head (get s i) in
-      let b : counted (in_slot i o 0) ≡ counted o = head o in
+      let a : count_if_some (get (nodes_in s) (257 * i)) ≡ count_if_some (get s i) = ap count_if_some (ap (get (nodes_in s)) (let z : 257 * i ≡ 257 * i + 0 = omega arith in z) ∙ get_offset s i 0 (omega arith)) ∙ head (get s i) in
+      let b : count_if_some (in_slot i o 0) ≡ count_if_some o = head o in
       let c = st.counted in
       record {
         counted = omega (arith, l, m, a, b, c);
@@ -65,7 +65,7 @@ module _ {P K : Type 0} (s s' : Slab (Slot P K)) (i : ℕ) where
         ];
       }
     where
-      head : (o : Option (Slot P K)) → counted (in_slot i o 0) ≡ counted o
+      head : (o : Option (Slot P K)) → count_if_some (in_slot i o 0) ≡ count_if_some o
       head None = refl
       head (Some x) = refl
 
@@ -79,7 +79,7 @@ module _ {P K : Type 0} (s s' : Slab (Slot P K)) (v : Nodes P) (is : nodes_in s 
   pub comes_stored : length (prefix_of n) < 7 → s'.capacity ≡ s.capacity → slab_len s + inline + 1 ≤ s.capacity → IsStored s' inline
   comes_stored short cap room =
       let l = len_update s s' i (Some (Inner n)) u in
-      let c : counted (get s i) ≡ 0 = ap counted free in
+      let c : count_if_some (get s i) ≡ 0 = ap count_if_some free in
       slot_stored s s' i inline (Some (Inner n)) st u none_there short cap (omega (arith, l, c, cap, room))
 
   -- an inner node without children in a free slot is one that was made, under the slot's name
@@ -106,7 +106,7 @@ module _ {P K : Type 0} (s s' : Slab (Slot P K)) (v : Nodes P) (is : nodes_in s 
   pub leaf_comes_stored : length (prefix_of n) ≡ 7 → s'.capacity ≡ s.capacity → slab_len s + inline + 1 ≤ s.capacity → IsStored s' inline
   leaf_comes_stored seven cap room =
       let l = len_update s s' i (Some (Leaf n)) u in
-      let c : counted (get s i) ≡ 0 = ap counted free in
+      let c : count_if_some (get s i) ≡ 0 = ap count_if_some free in
       slot_stored s s' i inline (Some (Leaf n)) st u no_inline seven cap (omega (arith, l, c, cap, room))
 
   -- a leaf in a free slot is one that was made, under the slot's name
@@ -203,7 +203,7 @@ module _ {P K : Type 0} (s : Slab (Slot P K)) (v : Nodes P) (is : nodes_in s ≡
     grown_stored : Grown x x' → IsStored (with_value s i x') inline
     grown_stored k =
         let l = len_update s (with_value s i x') i (Some x') updates in
-        let c : counted (get s i) ≡ 1 = ap counted e in
+        let c : count_if_some (get s i) ≡ 1 = ap count_if_some e in
         let r = st.room in
         slot_stored s (with_value s i x') i inline (Some x') st updates (inlines k) (same_kind x x' k (subst HasKind e (st.kinds i))) refl (omega (arith, l, c, r))
 
@@ -239,7 +239,7 @@ module _ {P K : Type 0} (s : Slab (Slot P K)) (v : Nodes P) (is : nodes_in s ≡
     kept_stored : x' ≡ x → IsStored (with_value s i x') inline
     kept_stored q =
         let l = len_update s (with_value s i x') i (Some x') updates in
-        let c : counted (get s i) ≡ 1 = ap counted e in
+        let c : count_if_some (get s i) ≡ 1 = ap count_if_some e in
         let r = st.room in
         slot_stored s (with_value s i x') i inline (Some x') st updates (λ b. ap (λ w. in_slot i (Some w) (suc b)) q ∙ sym (ap (λ o. in_slot i o (suc b)) e)) (subst (λ w. HasKind (Some w)) (sym q) (subst HasKind e (st.kinds i))) refl (omega (arith, l, c, r))
 

@@ -23,7 +23,7 @@ use Rattle.congee.specs.declared.owned.slots.Slot.TheVariants.{Inner, Leaf}
 use Rattle.congee.proofs.lemmas.Tree.{same_or_not}
 use Rattle.congee.proofs.lemmas.forms.MappedLemmas.{get_mapped, mapped_none, some_mapped, mapped_insert, mapped_remove}
 use Rattle.congee.proofs.lemmas.owned.Moves.{node_at}
-use Rattle.congee.proofs.lemmas.owned.SlotLens.{counted, len_update}
+use Rattle.congee.proofs.lemmas.owned.SlotLens.{count_if_some, len_update}
 use Rattle.congee.proofs.lemmas.owned.SlotOps.{own_slot}
 use Rattle.congee.proofs.lemmas.owned.Slots.{with_prefix, with_mapped, with_full, with_becomes}
 use Rattle.congee.proofs.lemmas.owned.Stored.{slot_seen, slot_there, leaf_beside}
@@ -139,9 +139,9 @@ module _ {P K : Type 0} (s : Slab (Slot P K)) (v : Nodes P) (is : nodes_in s ≡
       leaf_stored n n' q q' p =
           let u : Updates s (with_value s i x') i (Some x') = Updates-with_value s i x' (rw e refl) in
           let l = len_update s (with_value s i x') i (Some x') u in
-          let c : counted (get s i) ≡ 1 = ap counted e in
+          let c : count_if_some (get s i) ≡ 1 = ap count_if_some e in
           let m = len_update (nodes_in s) (nodes_in (with_value s i x')) (257 * i) _ (leaf_updates n n' q q') in
-          let d : counted (get (nodes_in s) (257 * i)) ≡ 1 = ap counted (slot_seen s i x e) in
+          let d : count_if_some (get (nodes_in s) (257 * i)) ≡ 1 = ap count_if_some (slot_seen s i x e) in
           let a = st.counted in let r = st.room in
           record {
             counted = omega (arith, l, c, m, d, a);

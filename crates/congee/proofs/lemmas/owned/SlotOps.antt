@@ -28,7 +28,7 @@ use Rattle.congee.proofs.lemmas.Tree.{same_or_not}
 use Rattle.congee.proofs.lemmas.forms.MappedLemmas.{get_mapped, none_mapped, mapped_insert, mapped_remove, mapped_none}
 use Rattle.congee.proofs.lemmas.owned.Moves.{node_at, insert_at, insert_beside, remove_at, remove_beside}
 use Rattle.congee.proofs.lemmas.owned.SlotChanges.{AtInner, at_inner, inner_after, inner_slot, is_inner, inner_absent, inner_room, seen_after, lone_before, lone_after, others_after, stored_after}
-use Rattle.congee.proofs.lemmas.owned.SlotLens.{counted}
+use Rattle.congee.proofs.lemmas.owned.SlotLens.{count_if_some}
 use Rattle.congee.proofs.lemmas.owned.Stored.{lone_counts}
 use Rattle.congee.proofs.lemmas.owned.Slots.{get_inline, with_mapped, with_becomes, with_prefix}
 
@@ -149,10 +149,10 @@ module _ {P K : Type 0} (s : Slab (Slot P K)) (v : Nodes P) (is : nodes_in s ≡
       updates = plain bec.prefix same_insert o (ap lone_in here_insert ∙ p);
     }
 
-    stored_insert : (inline inline' : ℕ) → IsStored s inline → inline' + counted (lone_in (map.get (children_of k.node) b)) ≡ inline + counted (lone_in (Some c)) → slab_len s + inline' ≤ s.capacity
+    stored_insert : (inline inline' : ℕ) → IsStored s inline → inline' + count_if_some (lone_in (map.get (children_of k.node) b)) ≡ inline + count_if_some (lone_in (Some c)) → slab_len s + inline' ≤ s.capacity
         → IsStored (with_value s i (Inner n')) inline'
     stored_insert inline inline' st e r =
-        stored_after s i k.node n' b k.stands low bec.prefix same_insert inline inline' st (let h : counted (lone_in (map.get (children_of n') b)) ≡ counted (lone_in (Some c)) = ap (λ o. counted (lone_in o)) here_insert in omega (arith, e, h)) r
+        stored_after s i k.node n' b k.stands low bec.prefix same_insert inline inline' st (let h : count_if_some (lone_in (map.get (children_of n') b)) ≡ count_if_some (lone_in (Some c)) = ap (λ o. count_if_some (lone_in o)) here_insert in omega (arith, e, h)) r
 
   -- a leaf for the key comes there
   hangs_leaf : (lone : Lone P) (key : List ℕ) (value : P) → lone.key ≡ key → lone.value ≡ value → lone_in (map.get (children_of k.node) b) ≡ None → Becomes k.node n' (map.insert (children_of k.node) b (Value lone)) → HangsLeaf v new at y b key value
@@ -207,10 +207,10 @@ module _ {P K : Type 0} (s : Slab (Slot P K)) (v : Nodes P) (is : nodes_in s ≡
       updates = plain bec.prefix same_remove o (ap lone_in here_remove);
     }
 
-    stored_remove : (inline inline' : ℕ) → IsStored s inline → inline' + counted (lone_in (map.get (children_of k.node) b)) ≡ inline → slab_len s + inline' ≤ s.capacity
+    stored_remove : (inline inline' : ℕ) → IsStored s inline → inline' + count_if_some (lone_in (map.get (children_of k.node) b)) ≡ inline → slab_len s + inline' ≤ s.capacity
         → IsStored (with_value s i (Inner n')) inline'
     stored_remove inline inline' st e r =
-        stored_after s i k.node n' b k.stands low bec.prefix same_remove inline inline' st (let h : counted (lone_in (map.get (children_of n') b)) ≡ 0 = ap (λ o. counted (lone_in o)) here_remove in omega (arith, e, h)) r
+        stored_after s i k.node n' b k.stands low bec.prefix same_remove inline inline' st (let h : count_if_some (lone_in (map.get (children_of n') b)) ≡ 0 = ap (λ o. count_if_some (lone_in o)) here_remove in omega (arith, e, h)) r
 
     -- a leaf that lies there goes
     loses_leaf : (lone : Lone P) (value : P) → lone.value ≡ value → map.get (children_of k.node) b ≡ Some (Value lone) → HasInline (map.get (children_of y) b) → LosesLeaf v new at y b value
@@ -310,7 +310,7 @@ module _ {P K : Type 0} (s : Slab (Slot P K)) (v : Nodes P) (is : nodes_in s ≡
         let k = at_node there.0 there.1 in
         let a = inner_after x x' k.node (λ m. map.insert m b (Value lone)) (kept there.0 k) ib in
         let r = spare_room s v is inline st 1 room in
-        let c : counted (lone_in (map.get (children_of k.node) b)) ≡ 0 = ap counted (free there.0 k there.1) in
+        let c : count_if_some (lone_in (map.get (children_of k.node) b)) ≡ 0 = ap count_if_some (free there.0 k there.1) in
         subst (λ z. IsStored (with_value s i z) (inline + 1)) (sym a.is)
         (stored_insert s v is at i b there.0 k low a.node (Value lone) a.becomes inline (inline + 1) st (omega (arith, c)) (omega (arith, r)))
 
@@ -327,7 +327,7 @@ module _ {P K : Type 0} (s : Slab (Slot P K)) (v : Nodes P) (is : nodes_in s ≡
     put_node_stored below free ib =
         let k = at_node there.0 there.1 in
         let a = inner_after x x' k.node (λ m. map.insert m b (Sub below)) (kept there.0 k) ib in
-        let c : counted (lone_in (map.get (children_of k.node) b)) ≡ 0 = ap counted (free there.0 k there.1) in
+        let c : count_if_some (lone_in (map.get (children_of k.node) b)) ≡ 0 = ap count_if_some (free there.0 k there.1) in
         let r = st.room in
         subst (λ z. IsStored (with_value s i z) inline) (sym a.is)
         (stored_insert s v is at i b there.0 k low a.node (Sub below) a.becomes inline inline st (omega (arith, c)) r)
@@ -360,7 +360,7 @@ module _ {P K : Type 0} (s : Slab (Slot P K)) (v : Nodes P) (is : nodes_in s ≡
     take_node_stored has ib =
         let k = at_node there.0 there.1 in
         let a = inner_after x x' k.node (λ m. map.remove m b) (kept there.0 k) ib in
-        let c : counted (lone_in (map.get (children_of k.node) b)) ≡ 0 = ap counted (node_free has there.0 k there.1) in
+        let c : count_if_some (lone_in (map.get (children_of k.node) b)) ≡ 0 = ap count_if_some (node_free has there.0 k there.1) in
         let r = st.room in
         subst (λ z. IsStored (with_value s i z) inline) (sym a.is) (stored_remove s v is at i b there.0 k low a.node a.becomes inline inline st (omega (arith, c)) r)
 
@@ -406,7 +406,7 @@ module _ {P K : Type 0} (s : Slab (Slot P K)) (v : Nodes P) (is : nodes_in s ≡
         let k = at_node there.0 there.1 in
         let a = inner_after x x' k.node (λ m. map.insert m b (Sub below)) (kept there.0 k) ib in
         let here : map.get (children_of k.node) b ≡ Some (Value t.lone) = sym (ap (λ w. inner_get w b) (kept there.0 k)) ∙ t.here in
-        let c : counted (lone_in (map.get (children_of k.node) b)) ≡ 1 = ap (λ o. counted (lone_in o)) here in
+        let c : count_if_some (lone_in (map.get (children_of k.node) b)) ≡ 1 = ap (λ o. count_if_some (lone_in o)) here in
         let r = st.room in let z = t.some in
         subst (λ z. IsStored (with_value s i z) (inline - 1)) (sym a.is)
         (stored_insert s v is at i b there.0 k low a.node (Sub below) a.becomes inline (inline - 1) st (omega (arith, c, z)) (omega (arith, r)))
@@ -427,7 +427,7 @@ module _ {P K : Type 0} (s : Slab (Slot P K)) (v : Nodes P) (is : nodes_in s ≡
         let k = at_node there.0 there.1 in
         let a = inner_after x x' k.node (λ m. map.remove m b) (kept there.0 k) ib in
         let here : map.get (children_of k.node) b ≡ Some (Value t.lone) = sym (ap (λ w. inner_get w b) (kept there.0 k)) ∙ t.here in
-        let c : counted (lone_in (map.get (children_of k.node) b)) ≡ 1 = ap (λ o. counted (lone_in o)) here in
+        let c : count_if_some (lone_in (map.get (children_of k.node) b)) ≡ 1 = ap (λ o. count_if_some (lone_in o)) here in
         let r = st.room in let z = t.some in
         subst (λ z. IsStored (with_value s i z) (inline - 1)) (sym a.is) (stored_remove s v is at i b there.0 k low a.node a.becomes inline (inline - 1) st (omega (arith, c, z)) (omega (arith, r)))
 

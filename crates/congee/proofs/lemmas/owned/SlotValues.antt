@@ -27,7 +27,7 @@ use Rattle.congee.proofs.lemmas.Tree.{same_or_not}
 use Rattle.congee.proofs.lemmas.forms.MappedLemmas.{mapped_insert, same_answers, some_mapped}
 use Rattle.congee.proofs.lemmas.owned.Moves.{insert_at, insert_beside, one_node}
 use Rattle.congee.proofs.lemmas.owned.SlotChanges.{InnerAfter, inner_after, lone_after, others_after, seen_after, stored_after}
-use Rattle.congee.proofs.lemmas.owned.SlotLens.{counted}
+use Rattle.congee.proofs.lemmas.owned.SlotLens.{count_if_some}
 use Rattle.congee.proofs.lemmas.owned.Stored.{LoneAt, lone_seen, named_lone_at, slot_seen}
 
 module _ {X : Type 0} (m : map.FinMap nat_cmp X) (k : ℕ) (x : X) where
@@ -152,8 +152,8 @@ module _ {P K : Type 0} (s : Slab (Slot P K)) (v : Nodes P) (is : nodes_in s ≡
       -- the slots are sound with a leaf of the same key in its place
       pub inline_stored : IsStored (with_value s i x') inline
       inline_stored =
-          let c : counted (lone_in (map.get (children_of it.node) place)) ≡ 1 = ap (λ o. counted (lone_in o)) it.child in
-          let d : counted (lone_in (map.get (children_of after.node) place)) ≡ 1 = ap counted now_here in
+          let c : count_if_some (lone_in (map.get (children_of it.node) place)) ≡ 1 = ap (λ o. count_if_some (lone_in o)) it.child in
+          let d : count_if_some (lone_in (map.get (children_of after.node) place)) ≡ 1 = ap count_if_some now_here in
           let r = st.room in
           subst (λ z. IsStored (with_value s i z) inline) (sym after.is) (stored_after s i it.node after.node place it.stands low after.becomes.prefix beside inline inline st (omega (arith, c, d)) r)
 

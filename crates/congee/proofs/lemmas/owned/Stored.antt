@@ -30,7 +30,7 @@ use Rattle.congee.proofs.lemmas.Fits.{same_test, other_test}
 use Rattle.congee.proofs.lemmas.Tree.{same_or_not}
 use Rattle.congee.proofs.lemmas.forms.MappedLemmas.{get_mapped, first_mapped, none_mapped}
 use Rattle.congee.proofs.lemmas.owned.Moves.{len_one, insert_at, insert_beside}
-use Rattle.congee.proofs.lemmas.owned.SlotLens.{counted, len_named}
+use Rattle.congee.proofs.lemmas.owned.SlotLens.{count_if_some, len_named}
 use Rattle.congee.proofs.lemmas.owned.Slots.{get_offset, get_slot, get_inline, beside_slot, in_offset, low_offset, with_mapped, with_form, with_prefix, with_len, with_full}
 use Rattle.congee.proofs.lemmas.owned.Totals.{total, total_update}
 
@@ -374,14 +374,14 @@ module _ {P K : Type 0} (s : Slab (Slot P K)) where
   slots_have_names =
       let a = len_named s (length s.slots) (omega arith) in
       let b = len_named (nodes_in s) (257 * length s.slots) (omega (arith, length-map-range_with_len (node_named s.slots) 0 (257 * length s.slots))) in
-      let c = slots_at_most (λ n. counted (get (nodes_in s) n)) (λ i. counted (get s i)) (length s.slots) (λ i. at i (get s i) refl) in
+      let c = slots_at_most (λ n. count_if_some (get (nodes_in s) n)) (λ i. count_if_some (get s i)) (length s.slots) (λ i. at i (get s i) refl) in
       omega (arith, a, b, c)
     where
-      at : (i : ℕ) (o : Option (Slot P K)) → get s i ≡ o → counted (get s i) ≤ counted (get (nodes_in s) (257 * i))
-      at i None e = let z : counted (get s i) ≡ 0 = ap counted e in omega (arith, z)
+      at : (i : ℕ) (o : Option (Slot P K)) → get s i ≡ o → count_if_some (get s i) ≤ count_if_some (get (nodes_in s) (257 * i))
+      at i None e = let z : count_if_some (get s i) ≡ 0 = ap count_if_some e in omega (arith, z)
       at i (Some x) e =
-          let z : counted (get s i) ≡ 1 = ap counted e in
-          let y : counted (get (nodes_in s) (257 * i)) ≡ 1 = ap counted (slot_seen s i x e) in
+          let z : count_if_some (get s i) ≡ 1 = ap count_if_some e in
+          let y : count_if_some (get (nodes_in s) (257 * i)) ≡ 1 = ap count_if_some (slot_seen s i x e) in
           omega (arith, z, y)
 
   -- and a leaf in the place of its parent has a further one
@@ -390,23 +390,23 @@ module _ {P K : Type 0} (s : Slab (Slot P K)) where
   lone_counts i b low there =
       let n = length s.slots + i + 1 in
       let name = 257 * i + (b + 1) in
-      let f : ℕ → ℕ = λ k. counted (get (nodes_in s) k) in
+      let f : ℕ → ℕ = λ k. count_if_some (get (nodes_in s) k) in
       let h : ℕ → ℕ = λ k. cond (k == name) 0 (f k) in
       let x = len_named s n (omega arith) in
       let y = len_named (nodes_in s) (257 * n) (omega (arith, length-map-range_with_len (node_named s.slots) 0 (257 * length s.slots))) in
       let t = total_update f h (257 * n) name (omega (arith, low)) (λ k ne. ap (λ q. cond q 0 (f k)) (other_test k name ne)) in
       let one : f name ≡ 1 = ap (λ q. cond q 1 0) there in
       let none : h name ≡ 0 = ap (λ q. cond q 0 (f name)) (same_test name name refl) in
-      let c = slots_at_most h (λ k. counted (get s k)) n (λ k.
+      let c = slots_at_most h (λ k. count_if_some (get s k)) n (λ k.
       let apart : h (257 * k) ≡ f (257 * k) = ap (λ q. cond q 0 (f (257 * k))) (other_test (257 * k) name (λ q. absurd (omega (arith, q, low)))) in
       let w = at k (get s k) refl in omega (arith, apart, w)) in
       omega (arith, x, y, t, one, none, c)
     where
-      at : (i : ℕ) (o : Option (Slot P K)) → get s i ≡ o → counted (get s i) ≤ counted (get (nodes_in s) (257 * i))
-      at i None e = let z : counted (get s i) ≡ 0 = ap counted e in omega (arith, z)
+      at : (i : ℕ) (o : Option (Slot P K)) → get s i ≡ o → count_if_some (get s i) ≤ count_if_some (get (nodes_in s) (257 * i))
+      at i None e = let z : count_if_some (get s i) ≡ 0 = ap count_if_some e in omega (arith, z)
       at i (Some x) e =
-          let z : counted (get s i) ≡ 1 = ap counted e in
-          let y : counted (get (nodes_in s) (257 * i)) ≡ 1 = ap counted (slot_seen s i x e) in
+          let z : count_if_some (get s i) ≡ 1 = ap count_if_some e in
+          let y : count_if_some (get (nodes_in s) (257 * i)) ≡ 1 = ap count_if_some (slot_seen s i x e) in
           omega (arith, z, y)
 
 -- the pair of a leaf with one value

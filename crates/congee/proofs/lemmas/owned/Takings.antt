@@ -25,7 +25,7 @@ use Rattle.congee.proofs.lemmas.owned.Hangings.{only_pair}
 use Rattle.congee.proofs.lemmas.owned.Moves.{insert_at, insert_beside, len_one, node_at, one_node}
 use Rattle.congee.proofs.lemmas.owned.SlotChanges.{AtInner, at_inner, inner_slot}
 use Rattle.congee.proofs.lemmas.owned.SlotComes.{slot_stored, slot_updates}
-use Rattle.congee.proofs.lemmas.owned.SlotLens.{counted, len_two}
+use Rattle.congee.proofs.lemmas.owned.SlotLens.{count_if_some, len_two}
 use Rattle.congee.proofs.lemmas.owned.Slots.{beside_slot, get_inline, get_offset, get_slot, in_offset, low_offset, with_len, with_mapped}
 use Rattle.congee.proofs.lemmas.owned.Stored.{lone_counts}
 use Rattle.congee.proofs.lemmas.owned.Unfolds.{one_value}
@@ -149,10 +149,10 @@ module _ {P K : Type 0} (s : Slab (Slot P K)) (v : Nodes P) (is : nodes_in s ≡
         lone_stored cap len =
             let a = here.name in
             let two = len_two v (nodes_in s') at leaf (λ w. absurd (omega (arith, w, a))) others in
-            let b : counted (get v at) ≡ 1 = ap counted there.1 in
-            let d : counted (get v leaf) ≡ 1 = ap counted was_leaf in
-            let f : counted (get (nodes_in s') at) ≡ 0 = ap counted now_at in
-            let h : counted (get (nodes_in s') leaf) ≡ 0 = ap counted now_leaf in
+            let b : count_if_some (get v at) ≡ 1 = ap count_if_some there.1 in
+            let d : count_if_some (get v leaf) ≡ 1 = ap count_if_some was_leaf in
+            let f : count_if_some (get (nodes_in s') at) ≡ 0 = ap count_if_some now_at in
+            let h : count_if_some (get (nodes_in s') leaf) ≡ 0 = ap count_if_some now_leaf in
             let l : slab_len (nodes_in s) ≡ slab_len v = ap slab_len is in
             let k = st.counted in let r = st.room in let z = lone_some in
             record {

@@ -28,7 +28,7 @@ use Rattle.congee.proofs.lemmas.forms.MapLemmas.{len_less}
 use Rattle.congee.proofs.lemmas.owned.Folding.{one_child, same_least, unfold_done}
 use Rattle.congee.proofs.lemmas.owned.Moves.{apart_of, insert_at, insert_beside, node_at, one_node, remove_at}
 use Rattle.congee.proofs.lemmas.owned.SlotChanges.{AtInner, at_inner, inner_slot}
-use Rattle.congee.proofs.lemmas.owned.SlotLens.{counted, len_two, len_update}
+use Rattle.congee.proofs.lemmas.owned.SlotLens.{count_if_some, len_two, len_update}
 use Rattle.congee.proofs.lemmas.owned.SlotOps.{inline_in, inline_seen_there}
 use Rattle.congee.proofs.lemmas.owned.Stored.{LoneAt, lone_in_view, lone_seen, lone_value, seen_form, seen_len}
 
@@ -64,10 +64,10 @@ module _ {P : Type 0} where
   loses_len v v1 at b y value e k =
       let apart : at ≢ k.leaf = (λ w. let z : Some k.node ≡ None = sym k.now ∙ (ap (get v1) w ∙ k.left) in cc) in
       let two = len_two v v1 at k.leaf apart k.others in
-      let a : counted (get v at) ≡ 1 = ap counted e in
-      let c : counted (get v k.leaf) ≡ 1 = ap counted k.stood in
-      let d : counted (get v1 at) ≡ 1 = ap counted k.now in
-      let f : counted (get v1 k.leaf) ≡ 0 = ap counted k.left in
+      let a : count_if_some (get v at) ≡ 1 = ap count_if_some e in
+      let c : count_if_some (get v k.leaf) ≡ 1 = ap count_if_some k.stood in
+      let d : count_if_some (get v1 at) ≡ 1 = ap count_if_some k.now in
+      let f : count_if_some (get v1 k.leaf) ≡ 0 = ap count_if_some k.left in
       omega (arith, two, a, c, d, f)
 
   -- a leaf that went left room for one node
@@ -192,7 +192,7 @@ module _ {P K : Type 0} (s : Slab (Slot P K)) (v : Nodes P) (is : nodes_in s ≡
           let k = hangs (takes there.0 there.1).node (stays there.0 there.1) in
           let l1 = loses_len v v1 at b there.0 value there.1 (takes there.0 there.1) in
           let l2 = len_update v1 v2 to (Some made.node) made.updates in
-          let a : counted (get v1 to) ≡ 0 = ap counted made.vacant in
+          let a : count_if_some (get v1 to) ≡ 0 = ap count_if_some made.vacant in
           let l3 = len_update v2 v3 at (Some k.node) k.updates in
-          let d : counted (get v2 at) ≡ 1 = ap counted (stays there.0 there.1) in
+          let d : count_if_some (get v2 at) ≡ 1 = ap count_if_some (stays there.0 there.1) in
           omega (arith, l1, l2, a, l3, d, c1, c2, c3, room)

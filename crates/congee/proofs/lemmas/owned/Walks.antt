@@ -16,7 +16,7 @@ use Rattle.congee.specs.declared.forms.child.Child.{Child}
 use Rattle.congee.specs.declared.forms.child.Child.TheVariants.{Blank, Node as Sub, Value}
 use Rattle.congee.specs.declared.owned.scan.Branch.{Branch}
 use Rattle.congee.proofs.lemmas.owned.Cursors.{SameAhead, branch_at, left_popped, left_passed, left_entered, nothing_there, nothing_more, child_there, cursor_cut, cursor_moved, cursor_down, few_below, few_before, last_of, nothing_blank, popped, entered, found, found_inline}
-use Rattle.congee.proofs.lemmas.owned.Standing.{Standing, standing}
+use Rattle.congee.proofs.lemmas.owned.Standing.{Standing, standing_at}
 
 -- it goes on to other steps, with the same pairs ahead
 pub record GoesOn {P : Type 0} (s : Nodes P) (before old new : List Branch) : Type 0 where
@@ -47,7 +47,7 @@ module _ {P : Type 0} (s : Nodes P) (t : IsTree s) (xs : List Branch) (n from : 
 
   -- the node there
   there : Standing s n
-  there = standing s n stands_there
+  there = standing_at s n stands_there
 
   module _ (before : List Branch) (same : SameAhead s before (xs ++ branch_at n from ∷ [])) where
     -- the node has nothing left

@@ -77,9 +77,9 @@ module _ {P : Type 0} where
   located_at s key p top above at spot a b c d h r e = record { reached = rw (b, c) r; higher = rw (a, b) h; ends = rw (c, d) e }
 
   -- a node's child has fewer bytes left of eight than the node
-  pub falls : (s : Nodes P) → IsTree s → (key : List ℕ) (n c : ℕ) → ContainsKey s n → child_for (heap_of s n) key ≡ Below c
+  pub depth_falls : (s : Nodes P) → IsTree s → (key : List ℕ) (n c : ℕ) → ContainsKey s n → child_for (heap_of s n) key ≡ Below c
       → 8 - length (heap_of s c).prefix < 8 - length (heap_of s n).prefix
-  falls s t key n c h e = let i = is_child s t n c key h e in omega (arith, i.longer, short_prefix s t c (below_stands s t n c key h e))
+  depth_falls s t key n c h e = let i = is_child s t n c key h e in omega (arith, i.longer, short_prefix s t c (below_stands s t n c key h e))
 
   -- no blank hangs anywhere
   pub no_blank : (s : Nodes P) → IsTree s → (key : List ℕ) (n : ℕ) → ContainsKey s n → child_for (heap_of s n) key ≡ Below 0 → ⊥

@@ -21,7 +21,7 @@ use Rattle.congee.proofs.lemmas.Fits.{fits_byte}
 use Rattle.congee.proofs.lemmas.Orders.{first_bytes, same_bytes, byte_small}
 use Rattle.congee.proofs.lemmas.forms.Prefixes.{fits_every}
 use Rattle.congee.proofs.lemmas.protocol.AloneScans.{term_past}
-use Rattle.congee.proofs.lemmas.protocol.Regions.{span_pos, multiple_bounds, whole, start_mono}
+use Rattle.congee.proofs.lemmas.protocol.Regions.{span_pos, multiple_bounds, start_at_end, start_mono}
 use Rattle.congee.proofs.lemmas.protocol.ScanBytes.{low_yes, low_no, region_top}
 use Rattle.congee.proofs.lemmas.protocol.ScanKept.{child_after, child_before, lacks_bytes, lacks_beside, has_value}
 use Rattle.congee.proofs.lemmas.forms.BetweenLemmas.{true_of_T, less_of_cmp}
@@ -202,7 +202,7 @@ module _ {V : Type 0} (a : ℕ → Note) (h : ℕ → Node V) (t : Tree a h) (w 
     within : (b k : ℕ) → b < 256 → start_at base depth b ≤ k → k < start_at base depth (b + 1) → (k < 2 ^ 64) × (base ≤ k) × (k < base + span depth)
     within b k small lo hi =
         let up = start_mono (h n).prefix base depth r (b + 1) 256 (omega (arith, small)) in
-        let e = whole (h n).prefix base depth r in
+        let e = start_at_end (h n).prefix base depth r in
         let most = region_top (h n).prefix base depth r in
         (omega (arith, hi, up, e, most), omega (arith, lo), omega (arith, hi, up, e))
 
@@ -253,7 +253,7 @@ module _ {V : Type 0} (a : ℕ → Note) (h : ℕ → Node V) (t : Tree a h) (w 
   under zero n base depth l r deep = absurd (let s = t.short n l in omega (arith, s, deep))
   under (suc f) n base depth l r deep =
       sums n base depth l r f (λ c x i longer y. under f c x.base x.depth i y (omega (arith, longer, deep))) 256 (omega arith)
-      ∙ ap (λ y. pairs base y) (whole (h n).prefix base depth r)
+      ∙ ap (λ y. pairs base y) (start_at_end (h n).prefix base depth r)
 
   root_region : IsRegion (h 0).prefix 0 0
   root_region = record { depth_is = sym (ap length t.empty); short = omega arith; small = omega arith; fitted = rw t.empty refl; even = refl }

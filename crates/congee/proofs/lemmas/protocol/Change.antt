@@ -7,7 +7,7 @@ use Rattle.congee.specs.protocol.Steps.{value_hung}
 use Rattle.congee.specs.Notes.{Note, Unmade, Held, Linked, Gone, is_published, BeginsKey, IsChild, HasParent, Tree, LockWords}
 use Rattle.congee.specs.protocol.Protocol.{Made, Holding, TakenOut, IsValue, value_in, Effect}
 use Rattle.congee.proofs.lemmas.Fits.{same_key}
-use Rattle.congee.proofs.lemmas.Tree.{same_or_not, finds, aside}
+use Rattle.congee.proofs.lemmas.Tree.{same_or_not, value_at_linked, walk_aside}
 use Rattle.congee.proofs.lemmas.Link.{Leaf, Links, link_tree, link_map}
 use Rattle.congee.proofs.lemmas.Unlink.{Unlinks, unlink_tree, unlink_map}
 use Rattle.congee.proofs.lemmas.protocol.Touch.{fares_free, fares_mine, noted, noted_same, noted_other, Touched, as_it_was, under_lock, out_of_reach, touched_effect, not_taken, locked_not_free, owner_locked, but_one, touch_one}
@@ -236,9 +236,9 @@ set_changed i a h key n b x given h' len t w o fit seven eb ex vx k =
     record {
       effect = touched_effect i a h a h' w t' (but_one (λ y z. y.capacity ≡ z.capacity) h h' n (λ y. refl) k.others k.capacity 0)
           (touch_one i a h a h' n k.others (λ m _. refl) (under_touch i a h a h' n w (under_change i a h a h h' n b (value_hung given) o refl refl k)));
-      before = finds a h t n key x o.linked fit ex ∙ found_is _ x vx;
-      after = finds a h' t' n key (value_hung given) o.linked (rw (pr n) fit) there ∙ given_is _ given;
-      rest = λ y ly ny. aside a h h' n b t (record { prefix = λ m _. pr m; others = λ m c _ ne. ap (λ z. z.children c) (k.others m ne); beside = k.beside }) 8 0 y t.root
+      before = value_at_linked a h t n key x o.linked fit ex ∙ found_is _ x vx;
+      after = value_at_linked a h' t' n key (value_hung given) o.linked (rw (pr n) fit) there ∙ given_is _ given;
+      rest = λ y ly ny. walk_aside a h h' n b t (record { prefix = λ m _. pr m; others = λ m c _ ne. ap (λ z. z.children c) (k.others m ne); beside = k.beside }) 8 0 y t.root
           (λ fy by. ny (same_key (h n).prefix y key fy fit (omega arith) (omega arith) (by ∙ eb)));
     }
 

@@ -61,8 +61,8 @@ pub record Alike {V : Type 0} (n n' : Node V) : Type 0 where
   pub capacity : n'.capacity ≡ n.capacity
 
 -- a node that is as it was has prefix, children and places as they were
-pub alike : {V : Type 0} (n n' : Node V) → n' ≡ n → Alike n n'
-alike n n' e = record { prefix = ap (λ x. x.prefix) e; children = λ b. ap (λ x. x.children b) e; count = ap (λ x. x.count) e; capacity = ap (λ x. x.capacity) e }
+pub alike_same : {V : Type 0} (n n' : Node V) → n' ≡ n → Alike n n'
+alike_same n n' e = record { prefix = ap (λ x. x.prefix) e; children = λ b. ap (λ x. x.children b) e; count = ap (λ x. x.count) e; capacity = ap (λ x. x.capacity) e }
 
 -- a filled node stays so with prefix, children and places as they were
 pub filled_alike : {V : Type 0} (n n' : Node V) → Alike n n' → IsFilled n → IsFilled n'
@@ -163,7 +163,7 @@ module _ {V : Type 0} (a : ℕ → Note) (h : ℕ → Node V) (t : Tree a h) (f 
       ]) r.0 0 m t.root r.1 in
       elim (same_or_not m n) [
         | inl e ↦ (let P : ℕ → Type 0 = λ y. IsFilled (h' y) in let Q : ℕ → Type 0 = λ y. (a y).status ≡ Linked in subst P (sym e) (here (λ z. ne (e ∙ z)) (subst Q e l)))
-        | inr mn ↦ filled_alike (h m) (h' m) (alike (h m) (h' m) (k.others m mn)) (was_filled m l ne)
+        | inr mn ↦ filled_alike (h m) (h' m) (alike_same (h m) (h' m) (k.others m mn)) (was_filled m l ne)
       ]
 
   -- nodes c and e come into the tree, where nothing or a node of the tree hung

@@ -16,7 +16,7 @@ use Rattle.congee.specs.protocol.Protocol.{Made, MadeOne, Holding, OneLocked, Fi
 use Rattle.congee.specs.protocol.Filled.{FilledAs, IsFilled, AllFilled, FilledWithout, FillsOne, FillsTwo}
 use Rattle.congee.proofs.lemmas.Tree.{same_or_not}
 use Rattle.congee.proofs.lemmas.protocol.Change.{made_apart}
-use Rattle.congee.proofs.lemmas.protocol.Filling.{filled_small, filled_same, filled_more, alike, filled_alike, below_is, not_held, not_nothing, changed_child, taken_child, count_kept, count_less, count_more, count_new, weight_there, was_filled, set_filled, joined_filled, replaced_filled}
+use Rattle.congee.proofs.lemmas.protocol.Filling.{filled_small, filled_same, filled_more, alike_same, filled_alike, below_is, not_held, not_nothing, changed_child, taken_child, count_kept, count_less, count_more, count_new, weight_there, was_filled, set_filled, joined_filled, replaced_filled}
 
 -- a change that adds a value has one
 no_gift : {C V : Type 0} (change : Double C) (found : Option V) → Adding change → FitsTwo change found None → ⊥
@@ -66,7 +66,7 @@ module _ {C V : Type 0} (number : C → ℕ) (i : ℕ) (a : ℕ → Note) (h : �
         | inl e ↦ (let P : ℕ → Type 0 = λ y. IsFilled (h' y) in let Q : ℕ → Type 0 = λ y. y ≢ 0 in subst P (sym e)
             (filled_same (length (h n).prefix) (h' n).count (h n).capacity (length (h' n).prefix) (h' n).count (h' n).capacity (ap length (k2.prefix ∙ ap (λ y. y.prefix) en)) refl (k2.capacity ∙ ap (λ y. y.capacity) en)
             (filled_more (length (h n).prefix) (h n).count (h n).capacity (h' n).count (omega (arith, ap (λ y. y.count) en, count_more h1 n b (Below leaf) h' k2 refl)) (was_filled a h t f n ln (subst Q e nz)))))
-        | inr ne ↦ filled_alike (h x) (h' x) (alike (h x) (h' x) (k2.others x ne ∙ k1.others x (apart x l))) (was_filled a h t f x l nz)
+        | inr ne ↦ filled_alike (h x) (h' x) (alike_same (h x) (h' x) (k2.others x ne ∙ k1.others x (apart x l))) (was_filled a h t f x l nz)
       ])
       (leaf_small el) (leaf_small el)
     where
@@ -127,7 +127,7 @@ module _ {C V : Type 0} (number : C → ℕ) (i : ℕ) (a : ℕ → Note) (h : �
       (bare c (length (h m).prefix) q mc) (bare c (length (h m).prefix) q mc)
       (λ x l xm nz. elim (same_or_not x p) [
         | inl e ↦ (let P : ℕ → Type 0 = λ y. IsFilled (h' y) in let Q : ℕ → Type 0 = λ y. y ≢ 0 in subst P (sym e) (above_filled p up c m k.1 h' p2 hung k.4 (was_filled a h t f p lp (subst Q e nz))))
-        | inr xp ↦ filled_alike (h x) (h' x) (alike (h x) (h' x) (k.4.others x xp ∙ (k.3.others x (apart x l) ∙ k.2.others x (apart x l) xm))) (was_filled a h t f x l nz)
+        | inr xp ↦ filled_alike (h x) (h' x) (alike_same (h x) (h' x) (k.4.others x xp ∙ (k.3.others x (apart x l) ∙ k.2.others x (apart x l) xm))) (was_filled a h t f x l nz)
       ])
       new new
 
@@ -157,7 +157,7 @@ module _ {C V : Type 0} (number : C → ℕ) (i : ℕ) (a : ℕ → Note) (h : �
       (bare c (length (h m).prefix) q mc) (bare c (length (h m).prefix) q mc)
       (λ x l xm nz. elim (same_or_not x p) [
         | inl e ↦ (let P : ℕ → Type 0 = λ y. IsFilled (h' y) in let Q : ℕ → Type 0 = λ y. y ≢ 0 in subst P (sym e) (above_filled p up c m h2 h' p2 hung k3 (was_filled a h t f p lp (subst Q e nz))))
-        | inr xp ↦ filled_alike (h x) (h' x) (alike (h x) (h' x) (k3.others x xp ∙ (k2.others x (apart x l) ∙ k1.others x (apart x l) xm))) (was_filled a h t f x l nz)
+        | inr xp ↦ filled_alike (h x) (h' x) (alike_same (h x) (h' x) (k3.others x xp ∙ (k2.others x (apart x l) ∙ k1.others x (apart x l) xm))) (was_filled a h t f x l nz)
       ])
       new new
 
@@ -200,7 +200,7 @@ module _ {C V : Type 0} (number : C → ℕ) (i : ℕ) (a : ℕ → Note) (h : �
       (bare c (length (h m).prefix) q mc) (bare leaf 7 0 ml)
       (λ x l xm nz. elim (same_or_not x p) [
         | inl e ↦ (let P : ℕ → Type 0 = λ y. IsFilled (h' y) in let Q : ℕ → Type 0 = λ y. y ≢ 0 in subst P (sym e) (above_filled p up c m h3 h' p3 hung k4 (was_filled a h t f p lp (subst Q e nz))))
-        | inr xp ↦ filled_alike (h x) (h' x) (alike (h x) (h' x) (k4.others x xp ∙ (k3.others x (apart x l) ∙ (k2.others x (apart x l) xm ∙ k1.others x (apart_leaf x l))))) (was_filled a h t f x l nz)
+        | inr xp ↦ filled_alike (h x) (h' x) (alike_same (h x) (h' x) (k4.others x xp ∙ (k3.others x (apart x l) ∙ (k2.others x (apart x l) xm ∙ k1.others x (apart_leaf x l))))) (was_filled a h t f x l nz)
       ])
       new
       (filled_small (length (h' leaf).prefix) (h' leaf).count (h' leaf).capacity (ap (λ y. y.capacity) el ∙ (k1.capacity ∙ four)) (omega (arith, ap (λ y. y.count) el, one)) (λ l. absurd (omega (arith, l, size))))
@@ -242,7 +242,7 @@ module _ {C V : Type 0} (number : C → ℕ) (i : ℕ) (a : ℕ → Note) (h : �
       (bare top common 1 mt) (bare leaf 7 0 ml)
       (λ x l nz. elim (same_or_not x p) [
         | inl e ↦ (let P : ℕ → Type 0 = λ y. IsFilled (h' y) in let Q : ℕ → Type 0 = λ y. y ≢ 0 in subst P (sym e) (above_filled p up top m h3 h' p3 hung k4 (was_filled a h t f p lp (subst Q e nz))))
-        | inr xp ↦ filled_alike (h x) (h' x) (alike (h x) (h' x) (k4.others x xp ∙ (k3.others x (apart x l) ∙ (k2.others x (apart x l) ∙ k1.others x (apart_leaf x l))))) (was_filled a h t f x l nz)
+        | inr xp ↦ filled_alike (h x) (h' x) (alike_same (h x) (h' x) (k4.others x xp ∙ (k3.others x (apart x l) ∙ (k2.others x (apart x l) ∙ k1.others x (apart_leaf x l))))) (was_filled a h t f x l nz)
       ])
       (filled_small (length (h' top).prefix) (h' top).count (h' top).capacity (ap (λ y. y.capacity) et ∙ (k3.capacity ∙ (k2.capacity ∙ (ap (λ y. y.capacity) t1 ∙ four_top)))) (omega (arith, two)) (λ _. two))
       (filled_small (length (h' leaf).prefix) (h' leaf).count (h' leaf).capacity (ap (λ y. y.capacity) el ∙ (k1.capacity ∙ four)) (omega (arith, ap (λ y. y.count) el, one)) (λ l. absurd (omega (arith, l, size))))

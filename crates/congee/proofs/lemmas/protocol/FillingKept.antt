@@ -32,7 +32,7 @@ use Rattle.congee.specs.protocol.Filled.{AllFilled, FillsAt, MayFillOne, MayFill
 use Rattle.congee.proofs.lemmas.Graft.{on_test}
 use Rattle.congee.proofs.lemmas.protocol.Each.{Each, each_right}
 use Rattle.congee.proofs.lemmas.protocol.Change.{made_apart}
-use Rattle.congee.proofs.lemmas.protocol.Filling.{Alike, alike, Still, still_filled}
+use Rattle.congee.proofs.lemmas.protocol.Filling.{Alike, alike_same, Still, still_filled}
 use Rattle.congee.proofs.lemmas.protocol.FillingChanges.{one_filled, two_filled}
 use Rattle.congee.proofs.lemmas.protocol.FillingSteps.{still_equal, still_but, still_new, locked_alike, PlacesOne, PlacesTwo, fills_one_on, fills_two_on}
 
@@ -41,10 +41,10 @@ module _ {C V : Type 0} (number : C → ℕ) (i : ℕ) (a : ℕ → Note) (h h' 
   apart_made c size least m n l e = made_apart i a h key c size least n m (ap is_published l) (sym e)
 
   back_still : (c size least : ℕ) → Made i a h key c size least → BackGives h c h' → Still a h h'
-  back_still c size least m g n l = alike (h n) (h' n) (g.others n (apart_made c size least m n l))
+  back_still c size least m g n l = alike_same (h n) (h' n) (g.others n (apart_made c size least m n l))
 
   both_back_still : (h1 : ℕ → Node V) (c d size least size' least' : ℕ) → Made i a h key c size least → Made i a h key d size' least' → BackGives h d h1 → BackGives h1 c h' → Still a h h'
-  both_back_still h1 c d size least size' least' mc md gd gc n l = alike (h n) (h' n) (gc.others n (apart_made c size least mc n l) ∙ gd.others n (apart_made d size' least' md n l))
+  both_back_still h1 c d size least size' least' mc md gd gc n l = alike_same (h n) (h' n) (gc.others n (apart_made c size least mc n l) ∙ gd.others n (apart_made d size' least' md n l))
 
   one_back_still : (change : Single C) → MadeOne number i a h key change → BackOne number h change h' → Still a h h'
   one_back_still Set m g = still_equal a h w h' g
@@ -162,11 +162,11 @@ module _ {C V : Type 0} (number : C → ℕ) (key : List ℕ) (K : ℕ → Type 
   one_on given one x kn m fills q =
       let e : h' (number one.at.node) ≡ h (number one.at.node) = r.word (number one.at.node) one.at.version kn m.fresh.stamped.published m.fresh.stamped.up q in
       let P : Node V → Type 0 = λ y. is_taken y one.at.version ≡ true in
-      fills_one_on number h h' one.change given (number one.at.node) (h (number one.at.node)) (h' (number one.at.node)) (alike (h (number one.at.node)) (h' (number one.at.node)) e) (one_places one.change m.made) (fills (subst P e q))
+      fills_one_on number h h' one.change given (number one.at.node) (h (number one.at.node)) (h' (number one.at.node)) (alike_same (h (number one.at.node)) (h' (number one.at.node)) e) (one_places one.change m.made) (fills (subst P e q))
 
   at_on : (two : Two C) (size q : ℕ) → MadeTwo number i a h key two.above two.change size q → h' (number two.above.stamp.node) ≡ h (number two.above.stamp.node) → h' (number two.at.node) ≡ h (number two.at.node) → FillsAt number h two → FillsAt number h' two
   at_on two size q m ep en x = fills_two_on number h h' two.change (number two.above.stamp.node) (h (number two.above.stamp.node)) (h' (number two.above.stamp.node)) (number two.at.node) (h (number two.at.node)) (h' (number two.at.node))
-      (alike (h (number two.above.stamp.node)) (h' (number two.above.stamp.node)) ep) (alike (h (number two.at.node)) (h' (number two.at.node)) en) (two_places two.above two.change size q m) x
+      (alike_same (h (number two.above.stamp.node)) (h' (number two.above.stamp.node)) ep) (alike_same (h (number two.at.node)) (h' (number two.at.node)) en) (two_places two.above two.change size q m) x
 
   two_on : (two : Two C) (found : Option V) (q : ℕ) → K (number two.above.stamp.node) → K (number two.at.node) → TwoKnown number i a h key two found q → MayFillTwo number h two → MayFillTwo number h' two
   two_on two found q kp kn m fills tp tn =
@@ -199,7 +199,7 @@ module _ {C V : Type 0} (number : C → ℕ) (key : List ℕ) (K : ℕ → Type 
   fills_kept same always k kind given (CheckAbove p one r') e m x = one_on given one _ e.1.0 m.2 x
   fills_kept same always k kind given (UpgradeOne one r') e m x = one_on given one m.1.0 e.0 m.1.1 x
   fills_kept same always k kind given (ChangeOne one r') e m x = fills_one_on number h h' one.change given (number one.at.node) (h (number one.at.node)) (h' (number one.at.node))
-      (alike (h (number one.at.node)) (h' (number one.at.node)) (r.mine (number one.at.node) m.1.holding.owner).0) (one_places one.change m.1.made) x
+      (alike_same (h (number one.at.node)) (h' (number one.at.node)) (r.mine (number one.at.node) m.1.holding.owner).0) (one_places one.change m.1.made) x
   fills_kept same always k kind given (UpgradeTop g two r') e m x = two_on two m.1.0 m.1.1 e.1.0 e.1.1.0 m.1.2 x
   fills_kept same always k kind given (UpgradeAbove two r') e m x = two_on two m.1.0 m.1.1 e.0 e.1.0 m.1.2 x
   fills_kept same always k kind given (UpgradeBelow two r') e m x = half_on two m.1.0 m.1.1 e.1.0 m.1.2 x

@@ -44,7 +44,7 @@ use Rattle.congee.proofs.lemmas.Tree.{same_or_not}
 use Rattle.congee.proofs.lemmas.protocol.Touch.{by_test, taken_linked}
 use Rattle.congee.proofs.lemmas.protocol.Locks.{locked_taken}
 use Rattle.congee.proofs.lemmas.protocol.Plans.{at_leaf}
-use Rattle.congee.proofs.lemmas.protocol.Filling.{enough, filled_same, Alike, alike, Still, was_filled}
+use Rattle.congee.proofs.lemmas.protocol.Filling.{enough, filled_same, Alike, alike_same, Still, was_filled}
 
 -- what is left of a node that isn't too small, or gives place to a lesser one, or to a greater one
 less_or : (n m : ℕ) → leb n m ≡ false → m < n
@@ -84,13 +84,13 @@ grown n = by_test (λ (x : NodeType). least_in x ≤ suc n) (ltb n 4) _ _ (λ _.
 module _ {V : Type 0} (a : ℕ → Note) (h : ℕ → Node V) (w : LockWords a h) where
   -- where no node changed, what was in the tree is as it was
   pub still_equal : (h' : ℕ → Node V) → h' ≡ h → Still a h h'
-  still_equal h' e n l = alike (h n) (h' n) (ap (λ g. g n) e)
+  still_equal h' e n l = alike_same (h n) (h' n) (ap (λ g. g n) e)
 
   -- where one node alone changed, and kept prefix, children and places, what was in the tree is as it was
   pub still_but : (h' : ℕ → Node V) (c : ℕ) (x : Node V) → Alike (h c) x → SameBut h c x h' → Still a h h'
   still_but h' c x s g n l = elim (same_or_not n c) [
     | inl e ↦ (let P : ℕ → Type 0 = λ y. Alike (h y) (h' y) in let Q : Node V → Type 0 = λ y. Alike (h c) y in subst P (sym e) (subst Q (sym g.after) s))
-    | inr ne ↦ alike (h n) (h' n) (g.others n ne)
+    | inr ne ↦ alike_same (h n) (h' n) (g.others n ne)
   ]
 
   -- a new node was no node of the tree, nor one that a call has made
@@ -102,7 +102,7 @@ module _ {V : Type 0} (a : ℕ → Note) (h : ℕ → Node V) (w : LockWords a h
 
   -- where a new node was made, what was in the tree is as it was
   pub still_new : (h' : ℕ → Node V) (c : ℕ) (form : NodeType) (key : List ℕ) (size : ℕ) → NewNode h c form key size h' → Still a h h'
-  still_new h' c form key size g n l = alike (h n) (h' n) (g.others n (new_apart h' c form key size n g (published_made n (ap is_published l))))
+  still_new h' c form key size g n l = alike_same (h n) (h' n) (g.others n (new_apart h' c form key size n g (published_made n (ap is_published l))))
 
 -- a node whose word is free after a lock is another one, and as it was
 free_after : {V : Type 0} (h : ℕ → Node V) (c : ℕ) (h' : ℕ → Node V) → SameBut h c (record (h c) { locked = true }) h' → (n v : ℕ) → is_taken (h' n) v ≡ true → h' n ≡ h n
@@ -117,7 +117,7 @@ pub locked_alike : {V : Type 0} (h : ℕ → Node V) (c : ℕ) (h' : ℕ → Nod
 locked_alike {V} h c h' g n = elim (same_or_not n c) [
   | inl e ↦ (let P : ℕ → Type 0 = λ y. Alike (h y) (h' y) in let Q : Node V → Type 0 = λ y. Alike (h c) y in
       subst P (sym e) (subst Q (sym g.after) (record { prefix = refl; children = λ b. refl; count = refl; capacity = refl })))
-  | inr ne ↦ alike (h n) (h' n) (g.others n ne)
+  | inr ne ↦ alike_same (h n) (h' n) (g.others n ne)
 ]
 
 module _ {C V : Type 0} (number : C → ℕ) (h h' : ℕ → Node V) where

@@ -108,8 +108,8 @@ module _ (p : List ℕ) (base depth : ℕ) (r : IsRegion p base depth) where
       ]
 
   -- the whole of the keys below the node lies between its byte 0 and its byte 256
-  pub whole : start_at base depth 256 ≡ base + span depth
-  whole = let s = span_step depth (omega (arith, r.short)) in omega (arith, s)
+  pub start_at_end : start_at base depth 256 ≡ base + span depth
+  start_at_end = let s = span_step depth (omega (arith, r.short)) in omega (arith, s)
 
   -- the keys of a later byte begin no earlier
   pub start_mono : (b c : ℕ) → b ≤ c → start_at base depth b ≤ start_at base depth c

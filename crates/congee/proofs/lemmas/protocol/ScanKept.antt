@@ -14,8 +14,8 @@ use Rattle.congee.specs.protocol.ScanKnown.{end_of}
 use Rattle.congee.proofs.lemmas.Fits.{fits_trans, fits_byte}
 use Rattle.congee.proofs.lemmas.Graft.{on_test}
 use Rattle.congee.proofs.lemmas.Orders.{byte_small}
-use Rattle.congee.proofs.lemmas.Tree.{finds, misses}
-use Rattle.congee.proofs.lemmas.protocol.Regions.{span_pos, keys_within, within_keys, byte_within, byte_low, byte_high, whole as all_bytes, start_mono}
+use Rattle.congee.proofs.lemmas.Tree.{value_at_linked, value_at_unfit}
+use Rattle.congee.proofs.lemmas.protocol.Regions.{span_pos, keys_within, within_keys, byte_within, byte_low, byte_high, start_at_end as all_bytes, start_mono}
 use Rattle.congee.proofs.lemmas.protocol.ScanBytes.{region_top, last_covers}
 
 -- the node under a byte of a linked node: its keys are some of the byte's
@@ -54,11 +54,11 @@ module _ {V : Type 0} (a : ℕ → Note) (h : ℕ → Node V) (t : Tree a h) (m 
     (n base depth : ℕ) (l : (a n).status ≡ Linked) (r : IsRegion (h n).prefix base depth) where
   -- nothing hangs at the key's byte
   lacks_free : (k : ℕ) → k < 2 ^ 64 → fits (h n).prefix (key_bytes k) ≡ true → (h n).children (get_or (key_bytes k) (length (h n).prefix) 0) ≡ Nothing → Lacked (m ∷ states) k
-  lacks_free k s f e = inl (st.at k s ∙ finds a h t n (key_bytes k) Nothing l f e)
+  lacks_free k s f e = inl (st.at k s ∙ value_at_linked a h t n (key_bytes k) Nothing l f e)
 
   -- a node hangs there whose prefix the key lacks
   lacks_below : (k c : ℕ) → k < 2 ^ 64 → fits (h n).prefix (key_bytes k) ≡ true → (h n).children (get_or (key_bytes k) (length (h n).prefix) 0) ≡ Below c → fits (h c).prefix (key_bytes k) ≡ false → Lacked (m ∷ states) k
-  lacks_below k c s f e g = inl (st.at k s ∙ misses a h t n c (key_bytes k) l f e g)
+  lacks_below k c s f e g = inl (st.at k s ∙ value_at_unfit a h t n c (key_bytes k) l f e g)
 
   -- from one byte to before another one nothing hangs
   pub lacks_bytes : (from to k : ℕ) → k < 2 ^ 64 → base ≤ k → k < base + span depth → start_at base depth from ≤ k → k < start_at base depth to
@@ -93,7 +93,7 @@ module _ {V : Type 0} (a : ℕ → Note) (h : ℕ → Node V) (t : Tree a h) (m 
       let hi = byte_high (h n).prefix base depth r (base + b) (b + 1) s f (omega (arith, next)) in
       let is : get_or (key_bytes (base + b)) (length (h n).prefix) 0 ≡ b = omega (arith, lo, hi) in
       let c : child_for (h n) (key_bytes (base + b)) ≡ Holds v = ap (λ q. (h n).children q) is ∙ e in
-      (seven, s, st.at (base + b) s ∙ finds a h t n (key_bytes (base + b)) (Holds v) l f c)
+      (seven, s, st.at (base + b) s ∙ value_at_linked a h t n (key_bytes (base + b)) (Holds v) l f c)
 
   -- the other keys of a byte under which a node hangs are lacking
   pub lacks_beside : (b c : ℕ) (x : Region) → b < 256 → (h n).children b ≡ Below c → IsRegion (h c).prefix x.base x.depth → (k : ℕ) → k < 2 ^ 64 → start_at base depth b ≤ k → k < start_at base depth (b + 1) → (k < x.base) ⊎ (end_of x ≤ k) → Lacked (m ∷ states) k

@@ -26,7 +26,7 @@ use Rattle.congee.specs.protocol.ScanKnown.{RungKnown, RungsKnown, WayKnown, Sca
 use Rattle.congee.proofs.lemmas.Fits.{equal_of_test}
 use Rattle.congee.proofs.lemmas.Graft.{on_test}
 use Rattle.congee.proofs.lemmas.protocol.Touch.{taken_linked}
-use Rattle.congee.proofs.lemmas.protocol.Regions.{span_pos, whole as all_bytes, start_mono}
+use Rattle.congee.proofs.lemmas.protocol.Regions.{span_pos, start_at_end as all_bytes, start_mono}
 use Rattle.congee.proofs.lemmas.protocol.Scans.{scan_none, scan_later, scan_on, scan_found, scan_ends, scan_full, written_counts}
 use Rattle.congee.proofs.lemmas.protocol.ScanBytes.{is_some, last_within, outside, inside_last, first_small, first_before, first_aims}
 use Rattle.congee.proofs.lemmas.protocol.ScanWays.{pick_false, pick_true, path_pushed, path_empty, path_last, path_count, way_later, way_longer, way_shorter, rungs_longer, rungs_shorter, way_at}

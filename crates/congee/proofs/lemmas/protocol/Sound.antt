@@ -24,7 +24,7 @@ use Rattle.congee.specs.Keys.{key_bytes}
 use Rattle.congee.specs.Notes.{Note, Linked, is_published, Tree, LockWords}
 use Rattle.congee.specs.protocol.Protocol.{Stamped, Fresh, ChildOf, IsFar, IsAbove, Knows, HasGift, Settles, Known, Effect}
 use Rattle.congee.specs.protocol.Answers.{StepAnswers}
-use Rattle.congee.proofs.lemmas.Tree.{finds, misses}
+use Rattle.congee.proofs.lemmas.Tree.{value_at_linked, value_at_unfit}
 use Rattle.congee.proofs.lemmas.protocol.Parting.{parts_differ}
 use Rattle.congee.proofs.lemmas.protocol.Touch.{taken_linked, as_it_was, touched_effect}
 
@@ -100,11 +100,11 @@ module _ {C V : Type 0} (number : C → ℕ) (same : V → V → Bool) (always :
   -- the value at the key by what was read of a node whose lock word is the one taken
   pub stands_at : (n v : ℕ) (x : Hung V) (Q : Node V → Type 0) → Fresh a h n v Q → (Q (h n) → child_for (h n) (key_bytes k) ≡ x) → fits (h n).prefix (key_bytes k) ≡ true → is_taken (h n) v ≡ true
       → value_at h (key_bytes k) ≡ of_child (λ c. walk h 7 c (key_bytes k)) x
-  stands_at n v x Q f c fit q = finds a h t n (key_bytes k) x (taken_linked a h w n v f.stamped.published q) fit (c (f.holds q))
+  stands_at n v x Q f c fit q = value_at_linked a h t n (key_bytes k) x (taken_linked a h w n v f.stamped.published q) fit (c (f.holds q))
 
   -- where the key's way parts within the prefix of a child, no value stands at the key
   pub miss_value : (p : Parent C) (n common : ℕ) → ChildOf number a h (key_bytes k) p n → Parts (h n).prefix (key_bytes k) common → is_taken (h (number p.stamp.node)) p.stamp.version ≡ true → value_at h (key_bytes k) ≡ None
-  miss_value p n common c q z = misses a h t (number p.stamp.node) n (key_bytes k) (taken_linked a h w (number p.stamp.node) p.stamp.version c.fresh.stamped.published z) c.fitted (c.fresh.holds z).0 (parts_differ (h n).prefix (key_bytes k) common q)
+  miss_value p n common c q z = value_at_unfit a h t (number p.stamp.node) n (key_bytes k) (taken_linked a h w (number p.stamp.node) p.stamp.version c.fresh.stamped.published z) c.fitted (c.fresh.holds z).0 (parts_differ (h n).prefix (key_bytes k) common q)
 
   -- the node at hand as the one above its child
   here_child : (s : Site C) (c : ℕ) → Knows number a h (key_bytes k) s (Below c) → ChildOf number a h (key_bytes k) (here_of s) c

@@ -23,8 +23,8 @@ pub more_guards : (n p a e s d : ℕ) → n ≢ 0 → with_guards (n + 1) p a e 
 more_guards n p a e s d some = let x = out_is n (omega (arith, some)) in let y = out_is (n + 1) (omega arith) in rw (x, y) refl
 
 -- with guards out a handle's word is pinned by its epoch, and with none it is unpinned
-pub guarded : (n p a e s d : ℕ) (v : View) → v ≡ with_guards n p a e s d → IsPinned n e v
-guarded n p a e s d v is = go (nat_lt 0 n) refl
+pub with_guards_pinned : (n p a e s d : ℕ) (v : View) → v ≡ with_guards n p a e s d → IsPinned n e v
+with_guards_pinned n p a e s d v is = go (nat_lt 0 n) refl
   where
     go : (b : Bool) → nat_lt 0 n ≡ b → IsPinned n e v
     go true h = let i = rw h at is in rw h (ap (λ (w : View). w.pin) i)

@@ -275,8 +275,8 @@ module _ {T J : Type 0} where
   by_outcome s who event None Done is k o = subst (λ c. Moves s who c (moved s who event)) (done_called s who event) (moving s who event is o)
 
   -- a step calls the job that it tells, or none, and changes the place of its participant alone
-  pub moves : (s : State T J) (who : ℕ) (event : Event) (r : Report) → Orderly s → IsReport s who event r → Moves s who r.called (after s who event r.outcome)
-  moves s who event r o is = subst (λ c. Moves s who c (after s who event r.outcome)) (sym is.job) (by_outcome s who event (fault s who event) r.outcome refl is.outcome o)
+  pub moves_reported : (s : State T J) (who : ℕ) (event : Event) (r : Report) → Orderly s → IsReport s who event r → Moves s who r.called (after s who event r.outcome)
+  moves_reported s who event r o is = subst (λ c. Moves s who c (after s who event r.outcome)) (sym is.job) (by_outcome s who event (fault s who event) r.outcome refl is.outcome o)
 
   -- only a collection that calls calls a job
   no_call : (st : Store T) (phase : Phase) (hand : List (Deferral J)) → collects phase ≡ false → called_by st phase hand ≡ None

@@ -30,10 +30,10 @@ use Rattle.crossbeam_epoch.proofs.lemmas.world.Collecting.{IsNear, next_epoch, I
 use Rattle.crossbeam_epoch.proofs.lemmas.world.Endings.{all_one}
 use Rattle.crossbeam_epoch.proofs.lemmas.world.Jobs.{no_items}
 use Rattle.crossbeam_epoch.proofs.lemmas.world.Moves.{contains_tail}
-use Rattle.crossbeam_epoch.proofs.lemmas.world.Progress.{moves}
+use Rattle.crossbeam_epoch.proofs.lemmas.world.Progress.{moves_reported}
 use Rattle.crossbeam_epoch.proofs.lemmas.world.Runs.{in_table, known_if_faultless, begin_idle, fits_after}
 use Rattle.crossbeam_epoch.proofs.lemmas.world.Sealing.{sealing_after}
-use Rattle.crossbeam_epoch.proofs.lemmas.world.Wholes.{Unrefused, faultless, as_moved, finishing}
+use Rattle.crossbeam_epoch.proofs.lemmas.world.Wholes.{Unrefused, fault_unrefused, as_moved, finishing}
 
 -- some bags at the front are gone
 abbrev pub Sheds : {J : Type 0} → List (Sealed J) → List (Sealed J) → Type 0
@@ -131,7 +131,7 @@ module _ {T J : Type 0} where
   -- what stays of a state while one participant steps stays over one step more
   pub kept_step : (s : State T J) (who : ℕ) (now : State T J) (event : Event) (r : Report) → IsKept s who now → IsReport now who event r → IsKept s who (after now who event r.outcome)
   kept_step s who now event r k is =
-      let m = moves now who event r k.orderly is in
+      let m = moves_reported now who event r k.orderly is in
       record {
         past = marks now who event r k.past;
         fits = fits_after k.past now who event r is k.fits;
@@ -271,14 +271,14 @@ module _ {T J : Type 0} (old new who expiry : ℕ) (found : List (Sealed J)) (ba
     where
       first : (r : Report) → IsReport s who (Begin O.Pin) r → Unrefused r.outcome → IsKept s who (after s who (Begin O.Pin) r.outcome) × Pins (after s who (Begin O.Pin) r.outcome)
       first r report u =
-          let k = known_if_faultless (place s who).registered (event_fault (Begin O.Pin) (place s who).phase (place s who)) (faultless s who (Begin O.Pin) r report u) in (
+          let k = known_if_faultless (place s who).registered (event_fault (Begin O.Pin) (place s who).phase (place s who)) (fault_unrefused s who (Begin O.Pin) r report u) in (
             kept_step s who s (Begin O.Pin) r (kept_from s who h f o i) report,
             subst Pins (sym (as_moved s who (Begin O.Pin) r.outcome u)) (begins_pin s (is_none (place s who).word) (in_table s who k.0) refl (un who) e q b),
           )
 
       next : (now : State T J) (r : Report) → IsKept s who now × Pins now → IsReport now who Go r → Unrefused r.outcome → IsKept s who (after now who Go r.outcome) × Pins (after now who Go r.outcome)
       next now r inv report u =
-          let k = known_if_faultless (place now who).registered (event_fault Go (place now who).phase (place now who)) (faultless now who Go r report u) in (
+          let k = known_if_faultless (place now who).registered (event_fault Go (place now who).phase (place now who)) (fault_unrefused now who Go r report u) in (
             kept_step s who now Go r inv.0 report,
             subst Pins (sym (as_moved now who Go r.outcome u))
                 (pin_goes now (place now who).phase (in_table now who k.0) (alone_of s now (λ p ne. un p) is same inv.0 found bag) refl (busy (place now who).phase (place now who) k.1) inv.1),
@@ -292,14 +292,14 @@ module _ {T J : Type 0} (old new who expiry : ℕ) (found : List (Sealed J)) (ba
     where
       first : (r : Report) → IsReport s who (Begin O.Flush) r → Unrefused r.outcome → IsKept s who (after s who (Begin O.Flush) r.outcome) × Flushes (after s who (Begin O.Flush) r.outcome)
       first r report u =
-          let k = known_if_faultless (place s who).registered (event_fault (Begin O.Flush) (place s who).phase (place s who)) (faultless s who (Begin O.Flush) r report u) in (
+          let k = known_if_faultless (place s who).registered (event_fault (Begin O.Flush) (place s who).phase (place s who)) (fault_unrefused s who (Begin O.Flush) r report u) in (
             kept_step s who s (Begin O.Flush) r (kept_from s who h f o i) report,
             subst Flushes (sym (as_moved s who (Begin O.Flush) r.outcome u)) (begins_flush s (length (place s who).bag == 0) (in_table s who k.0) refl held near q),
           )
 
       next : (now : State T J) (r : Report) → IsKept s who now × Flushes now → IsReport now who Go r → Unrefused r.outcome → IsKept s who (after now who Go r.outcome) × Flushes (after now who Go r.outcome)
       next now r inv report u =
-          let k = known_if_faultless (place now who).registered (event_fault Go (place now who).phase (place now who)) (faultless now who Go r report u) in (
+          let k = known_if_faultless (place now who).registered (event_fault Go (place now who).phase (place now who)) (fault_unrefused now who Go r report u) in (
             kept_step s who now Go r inv.0 report,
             subst Flushes (sym (as_moved now who Go r.outcome u))
                 (flush_goes now (place now who).phase (in_table now who k.0) (λ sealed. alone_of s now un is same inv.0 (found ++ sealed) []) refl (busy (place now who).phase (place now who) k.1) inv.1),
@@ -311,7 +311,7 @@ module _ {T J : Type 0} (old new who expiry : ℕ) (found : List (Sealed J)) (ba
     where
       first : (r : Report) → IsReport s who (Begin O.Unpin) r → Unrefused r.outcome → IsKept s who (after s who (Begin O.Unpin) r.outcome) × Unpins (after s who (Begin O.Unpin) r.outcome)
       first r report u =
-          let k = known_if_faultless (place s who).registered (event_fault (Begin O.Unpin) (place s who).phase (place s who)) (faultless s who (Begin O.Unpin) r report u) in (
+          let k = known_if_faultless (place s who).registered (event_fault (Begin O.Unpin) (place s who).phase (place s who)) (fault_unrefused s who (Begin O.Unpin) r report u) in (
             kept_step s who s (Begin O.Unpin) r (kept_from s who h f o i) report,
             subst Unpins (sym (as_moved s who (Begin O.Unpin) r.outcome u))
                 (begins_unpin s (nat_le (place s who).guards 1) (in_table s who k.0) refl one (begin_idle O.Unpin (place s who).phase (place s who) k.1) e q b),
@@ -319,7 +319,7 @@ module _ {T J : Type 0} (old new who expiry : ℕ) (found : List (Sealed J)) (ba
 
       next : (now : State T J) (r : Report) → IsKept s who now × Unpins now → IsReport now who Go r → Unrefused r.outcome → IsKept s who (after now who Go r.outcome) × Unpins (after now who Go r.outcome)
       next now r inv report u =
-          let k = known_if_faultless (place now who).registered (event_fault Go (place now who).phase (place now who)) (faultless now who Go r report u) in
+          let k = known_if_faultless (place now who).registered (event_fault Go (place now who).phase (place now who)) (fault_unrefused now who Go r report u) in
           absurd (busy (place now who).phase (place now who) k.1 inv.1.4)
 
 -- what a round makes of a state in which nobody is pinned

@@ -24,7 +24,7 @@ use Rattle.crossbeam_epoch.proofs.lemmas.world.Collecting.{IsTaking, due_front, 
 use Rattle.crossbeam_epoch.proofs.lemmas.world.Jobs.{no_items}
 use Rattle.crossbeam_epoch.proofs.lemmas.world.Rounds.{IsKept, busy, kept_from, kept_step, sealed_none, sealed_own, some_jobs}
 use Rattle.crossbeam_epoch.proofs.lemmas.world.Runs.{in_table, known_if_faultless}
-use Rattle.crossbeam_epoch.proofs.lemmas.world.Wholes.{Unrefused, faultless, as_moved, finishing}
+use Rattle.crossbeam_epoch.proofs.lemmas.world.Wholes.{Unrefused, fault_unrefused, as_moved, finishing}
 
 -- the queue as a flush of this bag found it, with the bag once it is sealed
 abbrev IsFound : {J : Type 0} → List (Sealed J) → List (Deferral J) → (List (Sealed J) → Type 0) → Type 0
@@ -129,14 +129,14 @@ flush_takes {T} {J} s s' who h f o i fin =
   where
     first : (r : Report) → IsReport s who (Begin O.Flush) r → Unrefused r.outcome → IsKept s who (after s who (Begin O.Flush) r.outcome) × Takings {T = T} {J = J} who s.limits.expiry s.queue (place s who).bag (after s who (Begin O.Flush) r.outcome)
     first r report u =
-        let k = known_if_faultless (place s who).registered (event_fault (Begin O.Flush) (place s who).phase (place s who)) (faultless s who (Begin O.Flush) r report u) in (
+        let k = known_if_faultless (place s who).registered (event_fault (Begin O.Flush) (place s who).phase (place s who)) (fault_unrefused s who (Begin O.Flush) r report u) in (
           kept_step s who s (Begin O.Flush) r (kept_from s who h f o i) report,
           subst (Takings {T = T} {J = J} who s.limits.expiry s.queue (place s who).bag) (sym (as_moved s who (Begin O.Flush) r.outcome u)) (begins who s.limits.expiry s.queue (place s who).bag s (length (place s who).bag == 0) (in_table s who k.0) refl refl refl),
         )
 
     next : (now : State T J) (r : Report) → IsKept s who now × Takings {T = T} {J = J} who s.limits.expiry s.queue (place s who).bag now → IsReport now who Go r → Unrefused r.outcome → IsKept s who (after now who Go r.outcome) × Takings {T = T} {J = J} who s.limits.expiry s.queue (place s who).bag (after now who Go r.outcome)
     next now r inv report u =
-        let k = known_if_faultless (place now who).registered (event_fault Go (place now who).phase (place now who)) (faultless now who Go r report u) in (
+        let k = known_if_faultless (place now who).registered (event_fault Go (place now who).phase (place now who)) (fault_unrefused now who Go r report u) in (
           kept_step s who now Go r inv.0 report,
           subst (Takings {T = T} {J = J} who s.limits.expiry s.queue (place s who).bag) (sym (as_moved now who Go r.outcome u))
               (goes who s.limits.expiry s.queue (place s who).bag now (place now who).phase (in_table now who k.0) (ap (λ l. l.expiry) inv.0.limits) inv.0.sealing.filled (busy (place now who).phase (place now who) k.1) inv.1),

@@ -25,10 +25,10 @@ use Rattle.crossbeam_epoch.specs.World.Progress.{Orderly, Moves, Begins, GoesOn,
 use Rattle.crossbeam_epoch.specs.World.Steps.{fault, busy_fault, event_fault, after, IsOutcome, IsReport, AreReports}
 use Rattle.crossbeam_epoch.specs.World.WaitFree.{most_steps, is_own, counted, steps_in_flight, AllEndInTime, IsOver}
 use Rattle.crossbeam_epoch.proofs.lemmas.world.Moves.{contains_tail}
-use Rattle.crossbeam_epoch.proofs.lemmas.world.Progress.{moves}
+use Rattle.crossbeam_epoch.proofs.lemmas.world.Progress.{moves_reported}
 use Rattle.crossbeam_epoch.proofs.lemmas.world.Runs.{known_if_faultless, begin_idle, refused_begin}
 use Rattle.crossbeam_epoch.proofs.lemmas.world.Stages.{reported_begins, reported_goes_on}
-use Rattle.crossbeam_epoch.proofs.lemmas.world.Wholes.{Unrefused, faultless, go_steps, from_front}
+use Rattle.crossbeam_epoch.proofs.lemmas.world.Wholes.{Unrefused, fault_unrefused, go_steps, from_front}
 
 -- a call in flight has a step left
 some_left : (w hand : ℕ) (op : Op) (phase : Phase) → comes_by (stage phase) op ≡ true → 0 < left_in w phase hand
@@ -109,7 +109,7 @@ module _ {T J : Type 0} where
   other_step : (s : State T J) (who q : ℕ) (op : Op) (n : ℕ) (event : Event) (r : Report) → who ≢ q → Orderly s → IsOn op (place s who) → IsReport s q event r
       → (IsOn op (place (after s q event r.outcome) who) → n < steps_left (after s q event r.outcome) who) → n < steps_left s who
   other_step s who q op n event r ne o on is next =
-      let b = beside s (after s q event r.outcome) who q op r.called ne (moves s q event r o is) on in
+      let b = beside s (after s q event r.outcome) who q op r.called ne (moves_reported s q event r o is) on in
       let less = next b.0 in let same = b.1 in omega (arith, less, same)
 
   -- n steps that leave the call in flight, and the step before them
@@ -140,14 +140,14 @@ module _ {T J : Type 0} where
   in_time s who op [] reports o on are = some_left (length s.table) (length (place s who).hand) op (place s who).phase on.1
   in_time s who op (step ∷ steps) [] o on are = some_left (length s.table) (length (place s who).hand) op (place s who).phase on.1
   in_time s who op (step ∷ steps) (r ∷ reports) o on are =
-      let m = moves s step.who step.event r o are.0 in
+      let m = moves_reported s step.who step.event r o are.0 in
       any_step s who step.who op (steps_in_flight who steps reports) step.event r o on are.0 (λ on'. in_time (after s step.who step.event r.outcome) who op steps reports m.orderly on' are.1)
 
   -- a call that goes on has begun, and has its steps left
   begun_on : (s : State T J) (who : ℕ) (op : Op) (r : Report) → IsReport s who (Begin op) r → r.outcome ≡ Running → Begins s who op Running (after s who (Begin op) Running)
   begun_on s who op r is runs =
       let u : Unrefused r.outcome = subst (λ o. Unrefused o) (sym runs) tt in
-      let k = known_if_faultless (place s who).registered (event_fault (Begin op) (place s who).phase (place s who)) (faultless s who (Begin op) r is u) in
+      let k = known_if_faultless (place s who).registered (event_fault (Begin op) (place s who).phase (place s who)) (fault_unrefused s who (Begin op) r is u) in
       let idle = begin_idle op (place s who).phase (place s who) k.1 in
       let P : Outcome → Type 0 = λ x. Begins s who op x (after s who (Begin op) x) in
       subst P runs (reported_begins s who op r idle is)
@@ -155,7 +155,7 @@ module _ {T J : Type 0} where
   first_in_time : (s : State T J) (who : ℕ) (op : Op) (r : Report) (steps : List Step) (reports : List Report) → Orderly s → IsReport s who (Begin op) r → r.outcome ≡ Running → AreReports (after s who (Begin op) r.outcome) steps reports
       → 1 + steps_in_flight who steps reports < most_steps (length s.table) op
   first_in_time s who op r steps reports o is runs are =
-      let m = moves s who (Begin op) r o is in
+      let m = moves_reported s who (Begin op) r o is in
       let P : Outcome → Type 0 = λ x. Moves s who r.called (after s who (Begin op) x) in
       let Q : Outcome → Type 0 = λ x. AreReports (after s who (Begin op) x) steps reports in
       let s' = after s who (Begin op) Running in
@@ -173,7 +173,7 @@ module _ {T J : Type 0} where
   all_in_time s [] reports o are = tt
   all_in_time s (step ∷ steps) [] o are = tt
   all_in_time s (step ∷ steps) (r ∷ reports) o are =
-      let m = moves s step.who step.event r o are.0 in (
+      let m = moves_reported s step.who step.event r o are.0 in (
         λ op is runs. (
             let P : Event → Type 0 = λ x. IsReport s step.who x r in
             let Q : Event → Type 0 = λ x. AreReports (after s step.who x r.outcome) steps reports in

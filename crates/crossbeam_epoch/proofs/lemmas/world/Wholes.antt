@@ -62,8 +62,8 @@ module _ {T J : Type 0} where
   no_fault s who event (Some f) (Refused g) is u = absurd u
 
   -- a step that isn't refused has no fault
-  pub faultless : (s : State T J) (who : ℕ) (event : Event) (r : Report) → IsReport s who event r → Unrefused r.outcome → fault s who event ≡ None
-  faultless s who event r is u = no_fault s who event (fault s who event) r.outcome is.outcome u
+  pub fault_unrefused : (s : State T J) (who : ℕ) (event : Event) (r : Report) → IsReport s who event r → Unrefused r.outcome → fault s who event ≡ None
+  fault_unrefused s who event r is u = no_fault s who event (fault s who event) r.outcome is.outcome u
 
   -- a step that isn't refused leaves what such a step makes of the state
   pub as_moved : (s : State T J) (who : ℕ) (event : Event) (o : Outcome) → Unrefused o → after s who event o ≡ moved s who event

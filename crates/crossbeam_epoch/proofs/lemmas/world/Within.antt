@@ -30,8 +30,8 @@ taken_next {A = A} xs n p lt read taken below = below_more (λ q. (get_or xs q b
 
 module _ {T J : Type 0} where
   -- a place of the table is one of as many as were counted
-  pub within : (s v : State T J) (who n : ℕ) → v ≡ s → n ≡ length v.table → who < length s.table → who < n
-  within s v who n is long lt = subst (λ m. who < m) (sym (long ∙ ap (λ (x : State T J). length x.table) is)) lt
+  pub worker_within : (s v : State T J) (who n : ℕ) → v ≡ s → n ≡ length v.table → who < length s.table → who < n
+  worker_within s v who n is long lt = subst (λ m. who < m) (sym (long ∙ ap (λ (x : State T J). length x.table) is)) lt
 
   -- where a ticket is left in the state, one is left in what was read of it
   pub ticket_left : (s v : State T J) → v ≡ s → s.next < 2 ^ 64 - 1 → v.next < 2 ^ 64 - 1

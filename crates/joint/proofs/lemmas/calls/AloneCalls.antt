@@ -36,7 +36,7 @@ use Rattle.joint.specs.world.World.{Holds, IsStep}
 use Rattle.joint.specs.engine.Engine.{World, engine_of}
 use Rattle.joint.proofs.lemmas.engine.Entering.{begin_free}
 use Rattle.joint.proofs.lemmas.world.Flights.{flight_here}
-use Rattle.joint.proofs.lemmas.world.JournaledSteps.{mapped}
+use Rattle.joint.proofs.lemmas.world.JournaledSteps.{step_mapped}
 use Rattle.joint.proofs.lemmas.world.JournalPlaces.{asks_here, begun_asks}
 use Rattle.joint.proofs.lemmas.world.Requested.{asks, is_asked}
 use Rattle.joint.proofs.lemmas.calls.Calling.{going, away_goes}
@@ -123,14 +123,14 @@ module _ {V : Type 0} (same : V → V → Bool) (always : Bool) where
   quiet_on s t w h x e g =
       let P : Step V → Type 0 = λ y. IsStep same always s y t.report t.after in
       let y : IsStep same always s (next_step w) t.report t.after = subst P e x in
-      let a = mapped same always s (next_step w) t.after h.2.flights h.2.pairs h y.holds h.2.stand h.2.in_flight t.report y in
+      let a = step_mapped same always s (next_step w) t.after h.2.flights h.2.pairs h y.holds h.2.stand h.2.in_flight t.report y in
       asks_here same always t.after w (y.holds.0, y.holds.1) a.flights a.in_flight ∙ quiet_go same h.2.flights (h.2.flights w) h.2.pairs None (record { step = next_step w; report = t.report; entry = a.entry; pairs = a.pairs }) a.flights refl g a.map
 
   quiet_first : (s : World V) (t : Taken V) (w : ℕ) (o : Op V) → Holds same always s → IsStep same always s t.step t.report t.after → t.step ≡ record { worker = w; event = Begin o } → is_in_flight t.report.outcome ≡ true → goes_unasked t.report.outcome ≡ true → asks_at (slice_get t.after.machines w) ≡ false
   quiet_first s t w o h x e on g =
       let P : Step V → Type 0 = λ y. IsStep same always s y t.report t.after in
       let y : IsStep same always s (record { worker = w; event = Begin o }) t.report t.after = subst P e x in
-      let a = mapped same always s (record { worker = w; event = Begin o }) t.after h.2.flights h.2.pairs h y.holds h.2.stand h.2.in_flight t.report y in
+      let a = step_mapped same always s (record { worker = w; event = Begin o }) t.after h.2.flights h.2.pairs h y.holds h.2.stand h.2.in_flight t.report y in
       let free = begin_free same always (engine_of s) (engine_of t.after) w (h.0, h.1) h.2.flights (record { each = h.2.in_flight.each; beyond = h.2.in_flight.beyond }) o y.does.told y.does.engine.does (sym (ap (λ z. is_in_flight z.outcome) y.does.report) ∙ on) in
       asks_here same always t.after w (y.holds.0, y.holds.1) a.flights a.in_flight
       ∙ quiet_target h.2.flights h.2.pairs (target o) (record { step = record { worker = w; event = Begin o }; report = t.report; entry = a.entry; pairs = a.pairs }) a.flights free.0 g a.map

@@ -32,7 +32,7 @@ use Rattle.joint.specs.calls.Scans.{placed}
 use Rattle.joint.specs.world.World.{Holds, IsStep}
 use Rattle.joint.specs.engine.Engine.{World}
 use Rattle.joint.proofs.lemmas.world.Flights.{flight_here}
-use Rattle.joint.proofs.lemmas.world.JournaledSteps.{Mapped, mapped}
+use Rattle.joint.proofs.lemmas.world.JournaledSteps.{Mapped, step_mapped}
 use Rattle.joint.proofs.lemmas.calls.KeyCalls.{as_before, begin_of, further_step, once_more, stays_keeps_all}
 
 module _ {V : Type 0} (m : Pairs V) where
@@ -140,7 +140,7 @@ module _ {V : Type 0} (same : V → V → Bool) (always : Bool) (fs : Flights V)
     on = with_flight fs w b.flight
 
     y : Mapped same always s (further_step w noise) r s' (with_flight fs w b.flight) m
-    y = mapped same always s (further_step w noise) s' (with_flight fs w b.flight) m h x.holds b.stand b.in_flight r x
+    y = step_mapped same always s (further_step w noise) s' (with_flight fs w b.flight) m h x.holds b.stand b.in_flight r x
 
     l : Line V
     l = record { step = further_step w noise; report = r; entry = y.entry; pairs = y.pairs }
@@ -184,7 +184,7 @@ module _ {V : Type 0} (same : V → V → Bool) (always : Bool) (fs : Flights V)
       → Scans [] r.outcome s'
   scan_begins op asked s r s' e ranged starts h b x = begun_so r.outcome refl begin where
     y : Mapped same always s (begin_of w op) r s' fs m
-    y = mapped same always s (begin_of w op) s' fs m h x.holds b.0 b.1 r x
+    y = step_mapped same always s (begin_of w op) s' fs m h x.holds b.0 b.1 r x
 
     l : Line V
     l = record { step = begin_of w op; report = r; entry = y.entry; pairs = y.pairs }

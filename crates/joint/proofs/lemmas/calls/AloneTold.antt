@@ -49,7 +49,7 @@ use Rattle.joint.proofs.lemmas.engine.Collecting.{get_inside}
 use Rattle.joint.proofs.lemmas.calls.Ends.{rests}
 use Rattle.joint.proofs.lemmas.engine.Entering.{begin_free}
 use Rattle.joint.proofs.lemmas.world.Flights.{flight_here, eqb_same}
-use Rattle.joint.proofs.lemmas.world.JournaledSteps.{mapped}
+use Rattle.joint.proofs.lemmas.world.JournaledSteps.{step_mapped}
 use Rattle.joint.proofs.lemmas.world.JournalPlaces.{asks_here}
 use Rattle.joint.proofs.lemmas.world.Requested.{asks}
 use Rattle.joint.proofs.lemmas.engine.Telling.{survey_ends}
@@ -207,7 +207,7 @@ module _ {V : Type 0} (same : V → V → Bool) (always : Bool) where
   next_told s [] w o told fs h fl q k x next = tt
   next_told s (t ∷ us) w o told fs h fl q k x next =
       let y = next.0 in
-      let a = mapped same always s t.step t.after fs h.2.pairs h x.0.holds h.2.stand fl t.report x.0 in
+      let a = step_mapped same always s t.step t.after fs h.2.pairs h x.0.holds h.2.stand fl t.report x.0 in
       let l : Line V = record { step = t.step; report = t.report; entry = a.entry; pairs = a.pairs } in
       let worker : t.step.worker ≡ w = ap (λ z. z.worker) y.step in
       let P : Event V → Type 0 = λ z. EventMap same fs h.2.pairs z l a.flights in
@@ -255,7 +255,7 @@ module _ {V : Type 0} (same : V → V → Bool) (always : Bool) where
       let step : Step V = record { worker = w; event = Begin o } in
       let y : IsStep same always s step t.report t.after = subst P e is in
       let fs = h.2.flights in
-      let a = mapped same always s step t.after fs h.2.pairs h y.holds h.2.stand h.2.in_flight t.report y in
+      let a = step_mapped same always s step t.after fs h.2.pairs h y.holds h.2.stand h.2.in_flight t.report y in
       let l : Line V = record { step = step; report = t.report; entry = a.entry; pairs = a.pairs } in
       let free = begin_free same always (engine_of s) (engine_of t.after) w (h.0, h.1) fs (record { each = h.2.in_flight.each; beyond = h.2.in_flight.beyond }) o y.does.told y.does.engine.does (sym (ap (λ z. is_in_flight z.outcome) y.does.report) ∙ on) in
       let before : asks_at (slice_get s.machines w) ≡ false = asks_here same always s w (h.0, h.1) fs h.2.in_flight ∙ ap asks free.0 in

@@ -18,7 +18,7 @@ use Rattle.joint.specs.nodes.View.{id_number}
 use Rattle.joint.specs.world.Whereabouts.{IsWaiting, IsSomewhere, IsTakenBy}
 use Rattle.joint.specs.world.World.{Holds}
 use Rattle.joint.specs.engine.Engine.{World, IsHeldBy}
-use Rattle.joint.proofs.lemmas.world.Whereabouts.{gone_waits, somewhere}
+use Rattle.joint.proofs.lemmas.world.Whereabouts.{gone_waits, node_somewhere}
 
 -- a node that a call has made is neither marked nor handed over
 pub record IsBlank {V : Type 0} (n : Node V) : Type 0 where
@@ -91,7 +91,7 @@ module _ {V : Type 0} (same : V → V → Bool) (always : Bool) (laws : CallLaws
   unretired n x = (ledger.1.words.each n).unretired (linked n x)
 
   waits_by : (n : ℕ) → Stands (nodes s.forest n) → ((i : ℕ) → IsHeldBy s i n → ⊥) → (InTree (nodes s.forest) n → ⊥) → IsWaiting s n
-  waits_by n st held tree = let x : IsSomewhere s n = somewhere same always laws s h n st.made in elim x.one [
+  waits_by n st held tree = let x : IsSomewhere s n = node_somewhere same always laws s h n st.made in elim x.one [
     | inl (inl y) ↦ absurd (held y.worker y.held)
     | inl (inr y) ↦ absurd (tree y.path)
     | inr (inl y) ↦ y

@@ -39,7 +39,7 @@ use Rattle.joint.specs.engine.Flying.{Flights, with_flight, IsInFlight, AreInFli
 use Rattle.joint.specs.world.World.{Holds, IsOnKey, IsStep}
 use Rattle.joint.specs.engine.Engine.{World}
 use Rattle.joint.proofs.lemmas.world.Flights.{flight_here}
-use Rattle.joint.proofs.lemmas.world.JournaledSteps.{Mapped, mapped}
+use Rattle.joint.proofs.lemmas.world.JournaledSteps.{Mapped, step_mapped}
 
 -- flights that are the same one by one
 module _ {V : Type 0} where
@@ -316,7 +316,7 @@ module _ {V : Type 0} (same : V → V → Bool) (always : Bool) (fs : Flights V)
       → Course (answered_by noise.answer said last) r.outcome s'
   from_before noise last said s r s' h b x =
       let f : Flight V = Pending (parts p).0 (parts p).1 b.value b.question in
-      let y : Mapped same always s (further_step w noise) r s' (with_flight fs w f) m = mapped same always s (further_step w noise) s' (with_flight fs w f) m h x.holds b.stand b.in_flight r x in
+      let y : Mapped same always s (further_step w noise) r s' (with_flight fs w f) m = step_mapped same always s (further_step w noise) s' (with_flight fs w f) m h x.holds b.stand b.in_flight r x in
       let l : Line V = record { step = further_step w noise; report = r; entry = y.entry; pairs = y.pairs } in
       let P : Flight V → Type 0 = λ z. GoMap same (with_flight fs w f) z m noise.answer l y.flights in
       let a : Advances same (with_flight fs w f) f m noise.answer l y.flights = subst P (flight_here fs w f) y.map in
@@ -329,7 +329,7 @@ module _ {V : Type 0} (same : V → V → Bool) (always : Bool) (fs : Flights V)
   from_decided noise last s r s' h b x =
       let f : Flight V = Decided b.reply in
       let n : Pairs V = (answer same m b.effect.call).1 in
-      let y : Mapped same always s (further_step w noise) r s' (with_flight fs w f) n = mapped same always s (further_step w noise) s' (with_flight fs w f) n h x.holds b.effect.stand b.in_flight r x in
+      let y : Mapped same always s (further_step w noise) r s' (with_flight fs w f) n = step_mapped same always s (further_step w noise) s' (with_flight fs w f) n h x.holds b.effect.stand b.in_flight r x in
       let l : Line V = record { step = further_step w noise; report = r; entry = y.entry; pairs = y.pairs } in
       let P : Flight V → Type 0 = λ z. GoMap same (with_flight fs w f) z n noise.answer l y.flights in
       let a : Advances same (with_flight fs w f) f n noise.answer l y.flights = subst P (flight_here fs w f) y.map in
@@ -371,7 +371,7 @@ module _ {V : Type 0} (same : V → V → Bool) (always : Bool) (fs : Flights V)
       → IsStep same always s (begin_of w op) r s' → Course None r.outcome s'
   begins op s r s' on_tree h st fl x = begun_so r.outcome refl begin where
     y : Mapped same always s (begin_of w op) r s' fs m
-    y = mapped same always s (begin_of w op) s' fs m h x.holds st fl r x
+    y = step_mapped same always s (begin_of w op) s' fs m h x.holds st fl r x
 
     l : Line V
     l = record { step = begin_of w op; report = r; entry = y.entry; pairs = y.pairs }

@@ -61,10 +61,10 @@ use Rattle.joint.proofs.lemmas.engine.Entering.{begin_within}
 use Rattle.joint.proofs.lemmas.world.Flights.{flight_here, set_at}
 use Rattle.joint.proofs.lemmas.calls.LeavesSteps.{IsTaking, IsLost, Parts, SameLeft, same_left, step_parts, walking_of}
 use Rattle.joint.proofs.lemmas.calls.HeldNodes.{blank, is_locked, taken_waits, taken_stands, waits_is}
-use Rattle.joint.proofs.lemmas.world.JournaledSteps.{mapped}
+use Rattle.joint.proofs.lemmas.world.JournaledSteps.{step_mapped}
 use Rattle.joint.proofs.lemmas.engine.ScanEnds.{cleared_is}
 use Rattle.joint.proofs.lemmas.calls.Sparing.{all_spare}
-use Rattle.joint.proofs.lemmas.world.Whereabouts.{somewhere}
+use Rattle.joint.proofs.lemmas.world.Whereabouts.{node_somewhere}
 use Rattle.joint.proofs.lemmas.world.Waiting.{handed_waits}
 use Rattle.congee.proofs.Laws.{both_true}
 
@@ -251,7 +251,7 @@ stands_waits n r st = ap (λ b. b && (n.made && not n.destroyed)) r ∙ ap (λ b
 module _ {V : Type 0} (same : V → V → Bool) (always : Bool) (laws : CallLaws {C = Id} {V = V} id_number same always) (leaves_law : (f : Nodes V) → LeavesLaw {C = Id} {V = V} id_number same always f.version_max (Refuses f)) where
   -- a node that waits was handed over, or a call has it
   waits_as : (s : World V) → Holds same always s → (n : ℕ) → IsWaiting s n → (is_waiting (nodes s.forest n) ≡ true) ⊎ ((i : ℕ) × IsTakenBy s i n)
-  waits_as s h n y = elim ((somewhere same always laws s h n y.stands.made).handed y) [
+  waits_as s h n y = elim ((node_somewhere same always laws s h n y.stands.made).handed y) [
     | inl e ↦ inl (stands_waits (nodes s.forest n) e y.stands)
     | inr e ↦ inr e
   ]
@@ -266,7 +266,7 @@ module _ {V : Type 0} (same : V → V → Bool) (always : Bool) (laws : CallLaws
     -- a step in which a call takes a node out is the one in which it takes effect
     decides : (n : ℕ) → IsTakenBy t.after w n → IsTaking (engine_of s) w t.step.event → t.report.decided ≡ true
     decides n y g =
-        let a = mapped same always s t.step t.after h.2.flights h.2.pairs h x.holds h.2.stand h.2.in_flight t.report x in
+        let a = step_mapped same always s t.step t.after h.2.flights h.2.pairs h x.holds h.2.stand h.2.in_flight t.report x in
         let l : Line V = record { step = t.step; report = t.report; entry = a.entry; pairs = a.pairs } in
         let P : Event V → Type 0 = λ e. EventMap same h.2.flights h.2.pairs e l a.flights in
         let m : GoMap same h.2.flights (h.2.flights w) h.2.pairs g.noise.answer l a.flights = subst P g.goes a.map in

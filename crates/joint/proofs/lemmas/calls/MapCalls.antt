@@ -33,7 +33,7 @@ use Rattle.joint.specs.engine.Surveys.{MapTells}
 use Rattle.joint.specs.world.World.{Holds, IsStep}
 use Rattle.joint.specs.engine.Engine.{World, engine_of}
 use Rattle.joint.proofs.lemmas.engine.Entering.{begin_free}
-use Rattle.joint.proofs.lemmas.world.JournaledSteps.{Mapped, mapped}
+use Rattle.joint.proofs.lemmas.world.JournaledSteps.{Mapped, step_mapped}
 use Rattle.joint.proofs.lemmas.calls.KeyCalls.{begin_of, further_step, key_plays, stays_keeps_all}
 use Rattle.joint.proofs.lemmas.calls.AloneScans.{Scans, scan_plays, scans}
 
@@ -62,7 +62,7 @@ module _ {V : Type 0} (same : V → V → Bool) (always : Bool) (fs : Flights V)
   -- a call that isn't on the tree
   quiet_step : (noise : Noise Id V) (s : World V) (r : Report V) (s' : World V) → fs w ≡ Over → Holds same always s → KeepsAll fs m s → IsStep same always s (further_step w noise) r s' → KeepsAll fs m s'
   quiet_step noise s r s' free h b x =
-      let y : Mapped same always s (further_step w noise) r s' fs m = mapped same always s (further_step w noise) s' fs m h x.holds b.0 b.1 r x in
+      let y : Mapped same always s (further_step w noise) r s' fs m = step_mapped same always s (further_step w noise) s' fs m h x.holds b.0 b.1 r x in
       let l : Line V = record { step = further_step w noise; report = r; entry = y.entry; pairs = y.pairs } in
       let P : Flight V → Type 0 = λ z. GoMap same fs z m noise.answer l y.flights in
       stays_keeps_all fs m l y.flights s' (subst P free y.map) y.stand y.in_flight
@@ -75,7 +75,7 @@ module _ {V : Type 0} (same : V → V → Bool) (always : Bool) (fs : Flights V)
 
   quiet_begin : (op : Op V) (t : _) (s : World V) (r : Report V) (s' : World V) → target op ≡ target.Collector t → Holds same always s → KeepsAll fs m s → IsStep same always s (begin_of w op) r s' → KeepsAll fs m s'
   quiet_begin op t s r s' e h b x =
-      let y : Mapped same always s (begin_of w op) r s' fs m = mapped same always s (begin_of w op) s' fs m h x.holds b.0 b.1 r x in
+      let y : Mapped same always s (begin_of w op) r s' fs m = step_mapped same always s (begin_of w op) s' fs m h x.holds b.0 b.1 r x in
       let l : Line V = record { step = begin_of w op; report = r; entry = y.entry; pairs = y.pairs } in
       let P : Target V → Type 0 = λ z. BeginMap fs m z l y.flights in
       stays_keeps_all fs m l y.flights s' (subst P e y.map) y.stand y.in_flight
@@ -89,7 +89,7 @@ module _ {V : Type 0} (same : V → V → Bool) (always : Bool) (fs : Flights V)
   -- one of one step
   survey_step : (op : Op V) (k : Survey) (s : World V) (r : Report V) (s' : World V) → target op ≡ target.Survey k → Holds same always s → KeepsAll fs m s → IsStep same always s (begin_of w op) r s' → MapTells m k r.outcome × KeepsAll fs m s'
   survey_step op k s r s' e h b x =
-      let y : Mapped same always s (begin_of w op) r s' fs m = mapped same always s (begin_of w op) s' fs m h x.holds b.0 b.1 r x in
+      let y : Mapped same always s (begin_of w op) r s' fs m = step_mapped same always s (begin_of w op) s' fs m h x.holds b.0 b.1 r x in
       let l : Line V = record { step = begin_of w op; report = r; entry = y.entry; pairs = y.pairs } in
       let P : Target V → Type 0 = λ z. BeginMap fs m z l y.flights in
       let z : BeginMap fs m (target.Survey k) l y.flights = subst P e y.map in
@@ -180,7 +180,7 @@ module _ {V : Type 0} (same : V → V → Bool) (always : Bool) where
       → KeepsAll fs m s'
   register_keeps s who r s' fs m h x st fl =
       let step : Step V = record { worker = who; event = Register } in
-      let y : Mapped same always s step r s' fs m = mapped same always s step s' fs m h x.holds st fl r x in
+      let y : Mapped same always s step r s' fs m = step_mapped same always s step s' fs m h x.holds st fl r x in
       stays_keeps_all fs m (record { step = step; report = r; entry = y.entry; pairs = y.pairs }) y.flights s' y.map y.stand y.in_flight
 
   -- what a scan that is done has told

@@ -41,9 +41,9 @@ module _ {V : Type 0} (at : ℕ → Option V) where
       get-set_at_apart (pairs_below at n) n (at n) q ne ∙ none_below n q (omega (arith, l))
 
 -- the pairs of a tree, as a value, are those that stand in it
-pub stand : {V : Type 0} (h : ℕ → Node V) → IsMapOf h (the_pairs h)
+pub map_stands : {V : Type 0} (h : ℕ → Node V) → IsMapOf h (the_pairs h)
 unfolding the_pairs
-stand h = record {
+map_stands h = record {
   at = λ k l. get_below (λ x. value_at h (key_bytes x)) (2 ^ 64) k l;
   none_beyond = λ k l. none_below (λ x. value_at h (key_bytes x)) (2 ^ 64) k l;
 }
@@ -51,8 +51,8 @@ stand h = record {
 -- and there are no others
 pub one_stands : {V : Type 0} (h : ℕ → Node V) (m : Pairs V) → IsMapOf h m → m ≡ the_pairs h
 one_stands h m x = same_pairs m (the_pairs h) (λ q. elim (cases_lt q (2 ^ 64)) [
-  | inl l ↦ x.at q l ∙ sym ((stand h).at q l)
-  | inr l ↦ x.none_beyond q l ∙ sym ((stand h).none_beyond q l)
+  | inl l ↦ x.at q l ∙ sym ((map_stands h).at q l)
+  | inr l ↦ x.none_beyond q l ∙ sym ((map_stands h).none_beyond q l)
 ])
 
 -- a call whose reply and next map are the map's answer has ended as the map says

@@ -75,7 +75,7 @@ use Rattle.joint.proofs.lemmas.world.Bags.{jobs_waiting}
 use Rattle.joint.proofs.lemmas.engine.Collecting.{set_here, get_inside}
 use Rattle.joint.proofs.lemmas.engine.Filing.{is_name_same}
 use Rattle.joint.proofs.lemmas.engine.HandOver.{held_place}
-use Rattle.joint.proofs.lemmas.world.Whereabouts.{somewhere}
+use Rattle.joint.proofs.lemmas.world.Whereabouts.{node_somewhere}
 
 -- what the collector's laws say of whole calls and of rounds
 pub record RoundLaws {T : Type 0} (J : Type 0) (names : T → List Name) : Type 0 where
@@ -366,7 +366,7 @@ module _ {V : Type 0} (same : V → V → Bool) (always : Bool) (calls : CallLaw
 
       each : (n : ℕ) → Stands (nodes s'.forest n) → IsInTree s' n ⊎ IsLeft s' who n
       each n st =
-          let at : IsSomewhere s' n = somewhere same always calls s' h' n st.made in
+          let at : IsSomewhere s' n = node_somewhere same always calls s' h' n st.made in
           elim at.one [
             | inl a ↦ elim a [
               | inl b ↦ absurd (made_none b.held.0 n (over b.worker b.held.0 b.held.1) b.held.2)

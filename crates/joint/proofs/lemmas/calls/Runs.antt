@@ -32,7 +32,7 @@ use Rattle.joint.specs.engine.Engine.{IsFresh, World}
 use Rattle.joint.specs.engine.Flying.{Flights, no_flights, IsInFlight, AreInFlight}
 use Rattle.joint.specs.world.World.{Holds}
 use Rattle.joint.proofs.lemmas.world.Flights.{ends_stays}
-use Rattle.joint.proofs.lemmas.world.JournaledSteps.{Mapped, mapped}
+use Rattle.joint.proofs.lemmas.world.JournaledSteps.{Mapped, step_mapped}
 use Rattle.joint.proofs.lemmas.calls.Rounds.{after_both}
 
 module _ {V : Type 0} (same : V → V → Bool) (always : Bool) where
@@ -40,7 +40,7 @@ module _ {V : Type 0} (same : V → V → Bool) (always : Bool) where
   pub runs_map : (s : World V) (taken : List (Taken V)) (fs : Flights V) (m : Pairs V) → Holds same always s → AreTaken same always s taken → IsMapOf (nodes s.forest) m → AreInFlight s fs → PlaysMap same fs m s taken
   runs_map s [] fs m h x st fl = record { lines = []; flights = fs; are_lines = tt; run = refl; stand = st; in_flight = fl }
   runs_map s (t ∷ ts) fs m h x st fl =
-      let a : Mapped same always s t.step t.report t.after fs m = mapped same always s t.step t.after fs m h x.0.holds st fl t.report x.0 in
+      let a : Mapped same always s t.step t.report t.after fs m = step_mapped same always s t.step t.after fs m h x.0.holds st fl t.report x.0 in
       let l : Line V = record { step = t.step; report = t.report; entry = a.entry; pairs = a.pairs } in
       let on : PlaysMap same a.flights a.pairs t.after ts = runs_map t.after ts a.flights a.pairs x.0.holds x.1 a.stand a.in_flight in
       record {
@@ -67,7 +67,7 @@ module _ {V : Type 0} (same : V → V → Bool) (always : Bool) where
   unfolding runs_map
   runs_journal s [] fs m h x st fl = record { entries = sym (append-nil s.log.entries); writes = λ p. tt; places = refl }
   runs_journal s (t ∷ ts) fs m h x st fl =
-      let a : Mapped same always s t.step t.report t.after fs m = mapped same always s t.step t.after fs m h x.0.holds st fl t.report x.0 in
+      let a : Mapped same always s t.step t.report t.after fs m = step_mapped same always s t.step t.after fs m h x.0.holds st fl t.report x.0 in
       let l : Line V = record { step = t.step; report = t.report; entry = a.entry; pairs = a.pairs } in
       let on : Journals t.after ts (runs_map t.after ts a.flights a.pairs x.0.holds x.1 a.stand a.in_flight).lines = runs_journal t.after ts a.flights a.pairs x.0.holds x.1 a.stand a.in_flight in
       let rest = (runs_map t.after ts a.flights a.pairs x.0.holds x.1 a.stand a.in_flight).lines in

@@ -42,7 +42,7 @@ use Rattle.joint.specs.calls.Wanted.{is_question, wants_if, wants_after}
 use Rattle.joint.specs.world.World.{Holds, IsStep, StepsUnless, finds_journal_full}
 use Rattle.joint.proofs.lemmas.engine.Collecting.{get_inside}
 use Rattle.joint.proofs.lemmas.world.Flights.{ends_stays, flight_here, flight_apart}
-use Rattle.joint.proofs.lemmas.world.JournaledSteps.{mapped}
+use Rattle.joint.proofs.lemmas.world.JournaledSteps.{step_mapped}
 use Rattle.joint.proofs.lemmas.world.JournalPlaces.{asks_here, begun_asks}
 use Rattle.joint.proofs.lemmas.world.Requested.{asks, is_asked}
 use Rattle.joint.proofs.lemmas.calls.Runs.{fresh_flights}
@@ -188,7 +188,7 @@ module _ {V : Type 0} (same : V → V → Bool) (always : Bool) where
   pub step_wants : (s : World V) (step : Step V) (r : Report V) (s' : World V) (w : ℕ) → Holds same always s → IsStep same always s step r s'
       → asks_at (slice_get s'.machines w) ≡ wants_if (asks_at (slice_get s.machines w)) (step.worker == w) step.event r.outcome
   step_wants s step r s' w h x =
-      let a = mapped same always s step s' h.2.flights h.2.pairs h x.holds h.2.stand h.2.in_flight r x in
+      let a = step_mapped same always s step s' h.2.flights h.2.pairs h x.holds h.2.stand h.2.in_flight r x in
       let l : Line V = record { step = step; report = r; entry = a.entry; pairs = a.pairs } in
       let before = asks_here same always s w (h.0, h.1) h.2.flights h.2.in_flight in
       let after = asks_here same always s' w (x.holds.0, x.holds.1) a.flights a.in_flight in

@@ -63,12 +63,12 @@ collected_at {V} same always s1 s s' ms1 ms who event r es em c =
 
 module _ {V : Type 0} (same : V → V → Bool) (always : Bool) (s : Nodes V) (ms : List (Machine Id V)) (calls : List (InFlight V)) (intact : IsIntact same always s ms calls) (who : ℕ) where
   -- a worker that has a call in flight or is idle has its place among the calls
-  pub inside : (k : InFlight V) → slice_get calls who ≡ Some k → who < length calls
-  inside k at = slice_get_within calls who k at
+  pub call_inside : (k : InFlight V) → slice_get calls who ≡ Some k → who < length calls
+  call_inside k at = slice_get_within calls who k at
 
   -- and so it has among the machines
   pub inside_machines : (k : InFlight V) → slice_get calls who ≡ Some k → who < length ms
-  inside_machines k at = subst (λ (n : ℕ). who < n) (sym intact.machines) (inside k at)
+  inside_machines k at = subst (λ (n : ℕ). who < n) (sym intact.machines) (call_inside k at)
 
   -- an idle worker has no call on the tree in flight
   pub idle_rests : slice_get calls who ≡ Some Idle → Rests ms who
@@ -144,7 +144,7 @@ module _ {V : Type 0} (same : V → V → Bool) (always : Bool) (s : Nodes V) (m
 
   -- a worker that makes its places free has its place among the calls
   pub securing_inside : IsSecuring (slice_get calls who) → who < length calls
-  securing_inside q = let k : (op : Point V) × (slice_get calls who ≡ Some (Securing op)) = securing_call (slice_get calls who) q in inside same always s ms calls intact who (Securing k.0) k.1
+  securing_inside q = let k : (op : Point V) × (slice_get calls who ≡ Some (Securing op)) = securing_call (slice_get calls who) q in call_inside same always s ms calls intact who (Securing k.0) k.1
 
   module _ (laws : ProgressLaws (Slot V) (Unit {0})) (op : Point V) (at : slice_get calls who ≡ Some (Securing op)) (r : Report) (s' : Nodes V) (c : Collected same always s ms who Go r s') where
     goes : (m : Machine Id V) → slice_get ms who ≡ Some m → GoesOn s.collector who (Secure 2) r.outcome s'.collector

@@ -26,7 +26,7 @@ use Rattle.joint.specs.engine.Intact.{IsAt, IsIntact, BeginsSecuring, is_reservi
 use Rattle.joint.specs.engine.Laws.{ProgressLaws}
 use Rattle.joint.specs.engine.Safety.{Rests, Collected}
 use Rattle.joint.specs.nodes.View.{heap}
-use Rattle.joint.proofs.lemmas.engine.Collecting.{get_set_either, get_inside, set_here, intact_at, inside, inside_machines, after_step}
+use Rattle.joint.proofs.lemmas.engine.Collecting.{get_set_either, get_inside, set_here, intact_at, call_inside, inside_machines, after_step}
 use Rattle.joint.proofs.lemmas.engine.HandOver.{held_place}
 
 -- a writing call that has taken no step stands in flight with its operation
@@ -86,7 +86,7 @@ module _ {V : Type 0} (same : V → V → Bool) (always : Bool) (s : Nodes V) (m
 
     -- the worker has its place among the calls
     pub reserving_inside : who < length calls
-    reserving_inside = inside same always s ms calls intact who (Reserving call.0) call.1
+    reserving_inside = call_inside same always s ms calls intact who (Reserving call.0) call.1
 
     -- it has no call on the tree in flight
     pub reserving_rests : Rests ms who
@@ -122,9 +122,9 @@ module _ {V : Type 0} (same : V → V → Bool) (always : Bool) (s : Nodes V) (m
 
     not_done : r.outcome ≡ Done → (place s'.collector who).phase ≡ collector_phase.Idle → ⊥
     not_done e idle =
-        let inside : who < length c.table = held_place c.table who now.0 in
+        let in_table : who < length c.table = held_place c.table who now.0 in
         let at : s'.collector ≡ with_place c who put = did.state ∙ ap (after c who (Begin (Secure 2))) e in
-        let q : place s'.collector who ≡ put = ap (λ y. place y who) at ∙ get_or-set_same c.table who put blank inside in
+        let q : place s'.collector who ≡ put = ap (λ y. place y who) at ∙ get_or-set_same c.table who put blank in_table in
         let z : collector_phase.Idle ≡ collector_phase.Secure 2 = sym idle ∙ ap (λ y. y.phase) q in
         cc
 

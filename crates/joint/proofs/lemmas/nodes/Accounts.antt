@@ -27,7 +27,7 @@ use Rattle.joint.specs.Names.{number, named}
 use Rattle.joint.specs.nodes.Solid.{IsWhole}
 use Rattle.joint.specs.nodes.CellMarks.{no_mark, mark_at, with_mark}
 use Rattle.joint.specs.nodes.View.{heap, view, node_of}
-use Rattle.joint.proofs.lemmas.nodes.Altering.{cell_of, inside, same_or}
+use Rattle.joint.proofs.lemmas.nodes.Altering.{cell_of, cell_inside, same_or}
 use Rattle.joint.proofs.lemmas.nodes.NodesInvariant.{some_injective, node_here, node_is}
 use Rattle.joint.proofs.lemmas.nodes.Totals.{counted, emptied_empties, is_open, IsOpen, placed_here, placed_apart, placed_total, placed_long, total_bound, waiting_few, bytes_few}
 
@@ -47,7 +47,7 @@ module _ {P : Type 0} (F : Nodes P) (k : Counts) (kept : IsKept k F) where
     where
       go : (o : Option (Slot P)) → value_at F.collector.store n ≡ o → n.cell < length k.cell_marks.items
       go None z = (let b : false ≡ true = sym (ap is_some z) ∙ e in absurd (cc b))
-      go (Some s) z = (let a = inside F.collector.store n s z in omega (arith, a, kept.wide))
+      go (Some s) z = (let a = cell_inside F.collector.store n s z in omega (arith, a, kept.wide))
 
   module _ (n : Name) (s : Slot P) (st' : Store (Slot P)) (em : Empties F.collector.store n s st') where
     abbrev cell_mark : CellMark
@@ -58,7 +58,7 @@ module _ {P : Type 0} (F : Nodes P) (k : Counts) (kept : IsKept k F) where
 
     -- the cell of a node that stands is among those that have a mark
     pub is_inside : n.cell < length k.cell_marks.items
-    is_inside = (let a = inside F.collector.store n s em.was in omega (arith, a, kept.wide))
+    is_inside = (let a = cell_inside F.collector.store n s em.was in omega (arith, a, kept.wide))
 
     -- where a node stands that can be taken out, at least one is counted as standing
     pub standing_some : 1 ≤ k.standing
@@ -305,7 +305,7 @@ module _ {P : Type 0} (F F' : Nodes P) (k : Counts) (kept : IsKept k F) (orderly
     s' = record s { word = w }
 
     at : n.cell < length k.cell_marks.items
-    at = (let a = inside F.collector.store n s alters.was in omega (arith, a, kept.wide))
+    at = (let a = cell_inside F.collector.store n s alters.was in omega (arith, a, kept.wide))
 
     -- a node that begins to wait, marked and counted so, leaves the counts those of the cells
     pub kept_marked : IsKept k' F'

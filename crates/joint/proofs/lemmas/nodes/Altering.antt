@@ -21,8 +21,8 @@ pub cell_of : {T : Type 0} (c : Cell T) (t : ℕ) (v : T) → value_in c t ≡ S
 cell_of c t v e = let u : ((c.turns == t + 1) ≡ true) × (c.value ≡ Some v) = under (c.turns == t + 1) c.value v e in (eqb-true c.turns (t + 1) u.0, u.1)
 
 -- a name that stands for something is of one of the cells
-pub inside : {T : Type 0} (st : Store T) (n : Name) (v : T) → value_at st n ≡ Some v → n.cell < length st.cells
-inside st n v e = elim (cases_lt n.cell (length st.cells)) [
+pub cell_inside : {T : Type 0} (st : Store T) (n : Name) (v : T) → value_at st n ≡ Some v → n.cell < length st.cells
+cell_inside st n v e = elim (cases_lt n.cell (length st.cells)) [
   | inl lt ↦ lt
   | inr ge ↦ absurd (
       let p : cell_at st n.cell ≡ fresh = get_or_past st.cells n.cell fresh ge in
@@ -34,7 +34,7 @@ inside st n v e = elim (cases_lt n.cell (length st.cells)) [
 -- a value that is replaced under its name is altered
 replaced_alters : {T : Type 0} (st : Store T) (n : Name) (old new : T) → value_at st n ≡ Some old → Sets st n (Some new) (replaced st n.cell new) → Alters st n old new (replaced st n.cell new)
 replaced_alters {T} st n old new e sets =
-    let at : n.cell < length st.cells = inside st n old e in
+    let at : n.cell < length st.cells = cell_inside st n old e in
     let here : (cell_at st n.cell).value ≡ Some old = (cell_of (cell_at st n.cell) n.turn old e).1 in
     let now : Cell T = record { turns = (cell_at st n.cell).turns; value = Some new } in
     record {

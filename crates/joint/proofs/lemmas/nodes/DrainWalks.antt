@@ -17,7 +17,7 @@ use Rattle.congee.specs.Notes.{Note, Tree, Linked}
 use Rattle.congee.specs.protocol.Events.{ChangeGives}
 use Rattle.congee.specs.protocol.Regions.{IsRegion, span, start_at}
 use Rattle.congee.specs.protocol.ScanKnown.{end_of}
-use Rattle.congee.proofs.Laws.{whole, start_mono, span_pos, region_top, child_after, child_before}
+use Rattle.congee.proofs.Laws.{start_at_end, start_mono, span_pos, region_top, child_after, child_before}
 use Rattle.joint.specs.declared.id.Id.{Id}
 use Rattle.joint.specs.declared.nodes.slot.LockWord.{LockWord}
 use Rattle.joint.specs.nodes.Draining.{TakesBelow, Takes, Drained}
@@ -65,7 +65,7 @@ module _ {V D : Type 0} (drains : D → ℕ → V → D → Type 0) (h : ℕ →
     top : (b : ℕ) → b ≤ 256 → (at b ≤ 2 ^ 64) × (at b ≤ x.base + span x.depth)
     top b small =
         let up = start_mono (h1 n).prefix x.base x.depth r b 256 small in
-        let e = whole (h1 n).prefix x.base x.depth r in
+        let e = start_at_end (h1 n).prefix x.base x.depth r in
         let most = region_top (h1 n).prefix x.base x.depth r in
         (omega (arith, up, e, most), omega (arith, up, e))
 
@@ -162,7 +162,7 @@ module _ {V D : Type 0} (drains : D → ℕ → V → D → Type 0) (h : ℕ →
         base = x.base;
         depth = x.depth;
         region = so.region;
-        takes = (let P : ℕ → Type 0 = λ b. Takes drains h x.base before h1 b mid in subst P (whole (h1 n).prefix x.base x.depth r) (past 256 so.bound (omega arith) (λ q lo hi. hangs q None (none q lo))));
+        takes = (let P : ℕ → Type 0 = λ b. Takes drains h x.base before h1 b mid in subst P (start_at_end (h1 n).prefix x.base x.depth r) (past 256 so.bound (omega arith) (λ q lo hi. hangs q None (none q lo))));
         prefixes = so.prefixes;
         stands = so.stands;
         tree = so.tree;

@@ -14,7 +14,7 @@ use Rattle.congee.specs.declared.protocol.store.Region.{Region}
 use Rattle.congee.specs.owned.Ranges.{in_range}
 use Rattle.congee.specs.protocol.Regions.{IsRegion, span, start_at}
 use Rattle.congee.specs.protocol.Events.{ChangeGives}
-use Rattle.congee.proofs.Laws.{same_key, Graft, old_down, old_leaves, old_up, key_apart, key_length, same_or_not, finds, aside, all_found, get_find, within_keys, byte_low, byte_high, region_top, range_none, range_first, range_all}
+use Rattle.congee.proofs.Laws.{same_key, Graft, old_down, old_leaves, old_up, key_apart, key_length, same_or_not, value_at_linked, walk_aside, all_found, get_find, within_keys, byte_low, byte_high, region_top, range_none, range_first, range_all}
 use Rattle.joint.specs.nodes.Draining.{Takes, AgreesFrom, pairs_from, Drained}
 use Rattle.joint.specs.nodes.Levels.{IsNodeIn}
 use Rattle.joint.specs.nodes.Survey.{NoneStand}
@@ -66,7 +66,7 @@ module _ {V : Type 0} (h : ℕ → Node V) (n b : ℕ) (value : V) (h' : ℕ →
     others_stand : (key x : List ℕ) → length key ≡ 8 → length x ≡ 8 → fits (h n).prefix key ≡ true → length (h n).prefix ≡ 7 → b ≡ get_or key (length (h n).prefix) 0 → x ≢ key
         → value_at h' x ≡ value_at h x
     others_stand key x lk lx fit seven eb ne =
-        aside a h h' n b t (record { prefix = λ m _. same_prefix m; others = λ m c _ q. ap (λ z. z.children c) (k.others m q); beside = k.beside }) 8 0 x t.root
+        walk_aside a h h' n b t (record { prefix = λ m _. same_prefix m; others = λ m c _ q. ap (λ z. z.children c) (k.others m q); beside = k.beside }) 8 0 x t.root
         (λ fx by. ne (same_key (h n).prefix x key fx fit (omega (arith, lx, seven)) (omega (arith, lk, seven)) (by ∙ eb)))
 
 -- a range without its first keys, which have no pair
@@ -120,7 +120,7 @@ module _ {V : Type 0} (h : ℕ → Node V) (n : ℕ) (i : IsNodeIn h n) (x : Reg
       omega (arith, lo, hi)
 
   value_is : value_at h (key_bytes key) ≡ Some v
-  value_is = finds i.tree.notes h i.tree.tree n (key_bytes key) (Holds v) i.linked fits_key.1 (ap (λ y. (h n).children y) (sym byte_is) ∙ was)
+  value_is = value_at_linked i.tree.notes h i.tree.tree n (key_bytes key) (Holds v) i.linked fits_key.1 (ap (λ y. (h n).children y) (sym byte_is) ∙ was)
 
   first : (m : Pairs V) → AgreesFrom h key m → IsFirst m key key v
   first m agrees = record {

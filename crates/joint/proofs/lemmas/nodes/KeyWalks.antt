@@ -17,7 +17,7 @@ use Rattle.congee.specs.Notes.{Note, Tree}
 use Rattle.congee.specs.protocol.Regions.{IsRegion, span, start_at}
 use Rattle.congee.specs.protocol.Scans.{Lacked}
 use Rattle.congee.specs.protocol.ScanKnown.{end_of}
-use Rattle.congee.proofs.Laws.{whole, start_mono, span_pos, child_after, child_before, lacks_bytes, lacks_beside, has_value}
+use Rattle.congee.proofs.Laws.{start_at_end, start_mono, span_pos, child_after, child_before, lacks_bytes, lacks_beside, has_value}
 use Rattle.joint.specs.declared.id.Id.{Id}
 use Rattle.joint.specs.declared.nodes.slot.LockWord.{LockWord}
 use Rattle.joint.specs.nodes.Levels.{IsNodeIn}
@@ -202,7 +202,7 @@ module _ {V : Type 0} (h : ℕ → Node V) (n : ℕ) (i : IsNodeIn h n) (x : Reg
       region = r;
       keys = λ m st k.
           let P : ℕ → Type 0 = λ b. AreKeysBelow m b new in
-          subst P (whole (h n).prefix x.base x.depth r) (past m st from 256 new so.bound (omega arith) (λ q lo hi. hangs q None (none q lo)) (so.keys m st k));
+          subst P (start_at_end (h n).prefix x.base x.depth r) (past m st from 256 new so.bound (omega arith) (λ q lo hi. hangs q None (none q lo)) (so.keys m st k));
     }
 
 -- what is put at and below the root are all keys below 2 ^ 64

@@ -16,7 +16,7 @@ use Rattle.joint.specs.nodes.Listing.{last_name, last_names, nodes_that, bytes_o
 use Rattle.joint.specs.NameLemmas.{named_number, number_named, same_name}
 use Rattle.joint.specs.Names.{number, named}
 use Rattle.joint.specs.nodes.View.{view}
-use Rattle.joint.proofs.lemmas.nodes.Altering.{cell_of, inside}
+use Rattle.joint.proofs.lemmas.nodes.Altering.{cell_of, cell_inside}
 use Rattle.joint.proofs.lemmas.nodes.NodesInvariant.{node_here}
 
 module _ {X : Type 0} where
@@ -121,7 +121,7 @@ module _ {T : Type 0} where
   -- what stands, stands under a last name
   stands_last : (st : Store T) (n : Name) (v : T) → value_at st n ≡ Some v → Contains (last_names 0 st.cells) (number n)
   stands_last st n v e =
-      let at : n.cell < length st.cells = inside st n v e in
+      let at : n.cell < length st.cells = cell_inside st n v e in
       let l : length (last_names 0 st.cells) ≡ length st.cells = long 0 st.cells in
       let t : (cell_at st n.cell).turns ≡ n.turn + 1 = (cell_of (cell_at st n.cell) n.turn v e).0 in
       let z : 0 + n.cell ≡ n.cell = omega arith in

@@ -17,7 +17,7 @@ use Rattle.joint.specs.declared.id.Id.{Id}
 use Rattle.joint.specs.declared.nodes.slot.Slot.{Slot}
 use Rattle.joint.specs.nodes.Altering.{Empties}
 use Rattle.joint.specs.nodes.Nodes.{of_value, of_cell, total, size_in, size, waits, waiting_size, waiting, waiting_bytes}
-use Rattle.joint.proofs.lemmas.nodes.Altering.{cell_of, inside}
+use Rattle.joint.proofs.lemmas.nodes.Altering.{cell_of, cell_inside}
 use Rattle.congee.proofs.Laws.{both_true}
 
 -- a node has at most 2,104 bytes
@@ -49,7 +49,7 @@ module _ {T : Type 0} where
   -- a value that stands is counted
   pub counted : (f : T → ℕ) (st : Store T) (n : Name) (v : T) → value_at st n ≡ Some v → f v ≤ total f st
   counted f st n v e =
-      let at : n.cell < length st.cells = inside st n v e in
+      let at : n.cell < length st.cells = cell_inside st n v e in
       let here : (cell_at st n.cell).value ≡ Some v = (cell_of (cell_at st n.cell) n.turn v e).1 in
       let q = sum_by-set (of_cell f) st.cells n.cell fresh fresh at in
       let z : of_cell f (cell_at st n.cell) ≡ f v = ap (of_value f) here in
@@ -58,7 +58,7 @@ module _ {T : Type 0} where
   -- a value that is taken out of its cell is gone, and each sum over the cells is less by its share
   pub emptied_empties : (st : Store T) (n : Name) (old : T) → value_at st n ≡ Some old → Sets st n None (emptied st n.cell) → Empties st n old (emptied st n.cell)
   emptied_empties st n old e sets =
-      let at : n.cell < length st.cells = inside st n old e in
+      let at : n.cell < length st.cells = cell_inside st n old e in
       let here : (cell_at st n.cell).value ≡ Some old = (cell_of (cell_at st n.cell) n.turn old e).1 in
       let now : Cell T = record { turns = (cell_at st n.cell).turns; value = None } in
       record {

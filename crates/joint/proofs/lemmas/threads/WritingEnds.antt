@@ -21,14 +21,14 @@ use Rattle.joint.specs.threads.Writing.{Counts}
 use Rattle.joint.proofs.lemmas.nodes.NodesInvariant.{some_injective}
 
 -- a call by the index's own tokens is served as it does
-pub served : {B : Type 0} (b : Bool) (does : Result B Refusal → Type 0) (r : Result B Refusal) → b ≡ true → does r → Serves b does r
-served true does r q d = d
-served false does r q d = absurd (false≢true q)
+pub serves_done : {B : Type 0} (b : Bool) (does : Result B Refusal → Type 0) (r : Result B Refusal) → b ≡ true → does r → Serves b does r
+serves_done true does r q d = d
+serves_done false does r q d = absurd (false≢true q)
 
 -- a call by the tokens of another index is refused for that
-pub foreign : {B : Type 0} (b : Bool) (does : Result B Refusal → Type 0) → b ≡ false → Serves b does (Err Foreign)
-foreign true does q = absurd (false≢true (sym q))
-foreign false does q = refl
+pub serves_foreign : {B : Type 0} (b : Bool) (does : Result B Refusal → Type 0) → b ≡ false → Serves b does (Err Foreign)
+serves_foreign true does q = absurd (false≢true (sym q))
+serves_foreign false does q = refl
 
 -- what holds of a refusal holds of it whatever the answer's type
 pub words_refused : {B : Type 0} (of : ℕ → B) (P : Refusal → Type 0) (r : Result (Option ℕ) Refusal) → IfErr r P → IfErr (words of r) P

@@ -129,5 +129,5 @@ module _ {V : Type 0} (same : V → V → Bool) (always : Bool) where
     by_case false r e x = takes r x
 
     -- a step of the whole machine is one on the map, and the journal keeps its entry where the report says so
-    pub mapped : (r : Report V) → IsStep same always s step r s' → Mapped s step r s' fs m
-    mapped r x = by_case (finds_journal_full s step.worker step.event) r refl x.does
+    pub step_mapped : (r : Report V) → IsStep same always s step r s' → Mapped s step r s' fs m
+    step_mapped r x = by_case (finds_journal_full s step.worker step.event) r refl x.does

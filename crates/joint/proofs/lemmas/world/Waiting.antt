@@ -38,7 +38,7 @@ use Rattle.joint.specs.world.Whereabouts.{IsWaiting, IsTakenBy}
 use Rattle.joint.specs.world.World.{Holds}
 use Rattle.joint.specs.engine.Engine.{World}
 use Rattle.joint.proofs.lemmas.nodes.Listing.{pairs_append, gives, given, once, nodes_once, counted_nodes, weighed_nodes, bytes_are, listed, unlisted}
-use Rattle.joint.proofs.lemmas.world.Whereabouts.{gone_waits, somewhere}
+use Rattle.joint.proofs.lemmas.world.Whereabouts.{gone_waits, node_somewhere}
 
 -- what doesn't stand doesn't wait
 pub none_waits : (P : Type 0) (g : Bool) → is_waiting (view {P = P} g None) ≡ false
@@ -244,7 +244,7 @@ module _ {V : Type 0} (same : V → V → Bool) (always : Bool) (laws : CallLaws
         | inl x ↦ handed_waits n (unlisted is_waiting (λ v. v.word.retired) (none_waits V) some_waits s.forest n x)
         | inr x ↦ (let t : (i : ℕ) × IsTakenBy s i n = by_machine n x in taken_waits n t.0 t.1)
       ],
-      λ w. elim ((somewhere same always laws s holds n w.stands.made).handed w) [
+      λ w. elim ((node_somewhere same always laws s holds n w.stands.made).handed w) [
         | inl r ↦ Contains-append_left (handed_nodes s.forest) (flat_map taken_by s.machines) n (listed is_waiting (λ v. v.word.retired) (none_waits V) some_waits s.forest n (joined _ _ _ r w.stands.made w.stands.kept))
         | inr t ↦ Contains-append_right (handed_nodes s.forest) (flat_map taken_by s.machines) n (gives taken_by s.machines t.0 t.1.0 n t.1.1 (is_taken t.1.0.phase n t.1.2))
       ],

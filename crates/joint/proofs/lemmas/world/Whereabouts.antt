@@ -91,8 +91,8 @@ module _ {V : Type 0} (same : V → V → Bool) (always : Bool) (laws : CallLaws
   handed Destroyed e w = absurd (standing w.stands (record { gone = holdings.spent n (ap is_spent e) }))
 
   -- the node is in exactly one of the four places
-  pub somewhere : IsSomewhere s n
-  somewhere = record {
+  pub node_somewhere : IsSomewhere s n
+  node_somewhere = record {
     one = one;
     held_or_hung = λ h t. let q : Held h.worker ≡ Linked = sym (by_call h.worker h.held) ∙ linked t in cc;
     held_or_waiting = λ h w. w.unheld h.worker h.held;

@@ -1,14 +1,14 @@
 use Rattle.std.proofs.Common.{◌∙◌, ap}
 use Rattle.std.specs.Prelude.{slice_set}
 use Rattle.joint.specs.declared.engine.in_flight.InFlight.TheVariants.{Collecting}
-use Rattle.joint.proofs.lemmas.engine.Collecting.{inside, on_rests, go_collecting_intact, intact_at}
+use Rattle.joint.proofs.lemmas.engine.Collecting.{call_inside, on_rests, go_collecting_intact, intact_at}
 use Rattle.joint.proofs.engine.Engine.go_collecting.Goals as goal
 
 pub collect-report-requires-clause-rests : goal.collect-report-requires-clause-rests
 collect-report-requires-clause-rests g c = on_rests g.P.Payload.same_as g.P.Payload.always_copies c.args.self.now.nodes c.args.self.now.machines.items c.args.self.now.calls.items c.requires.intact c.args.who c.args.op c.requires.on
 
 pub set_call-requires : goal.set_call-requires
-set_call-requires g c = rw c.collect-report.ensures.calls (inside g.P.Payload.same_as g.P.Payload.always_copies c.args.self.now.nodes c.args.self.now.machines.items c.args.self.now.calls.items c.requires.intact c.args.who (Collecting c.args.op) c.requires.on)
+set_call-requires g c = rw c.collect-report.ensures.calls (call_inside g.P.Payload.same_as g.P.Payload.always_copies c.args.self.now.nodes c.args.self.now.machines.items c.args.self.now.calls.items c.requires.intact c.args.who (Collecting c.args.op) c.requires.on)
 
 pub returns-clause-intact : goal.returns-clause-intact
 returns-clause-intact g c =

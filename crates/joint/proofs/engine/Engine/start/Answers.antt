@@ -4,7 +4,7 @@ use Rattle.std.specs.Vec.{vec_len}
 use Rattle.congee.specs.protocol.Play.{IsNew, begun}
 use Rattle.joint.specs.declared.engine.in_flight.InFlight.TheVariants.{Idle}
 use Rattle.joint.specs.Names.{root}
-use Rattle.joint.proofs.lemmas.engine.Collecting.{inside, inside_machines, intact_at}
+use Rattle.joint.proofs.lemmas.engine.Collecting.{call_inside, inside_machines, intact_at}
 use Rattle.joint.proofs.lemmas.engine.Starting.{started}
 use Rattle.joint.proofs.engine.Engine.start.Goals as goal
 
@@ -15,7 +15,7 @@ index_mut-requires g c =
     omega (arith, l, v)
 
 pub set_call-requires : goal.set_call-requires
-set_call-requires g c = inside g.P.Payload.same_as g.P.Payload.always_copies c.args.self.now.nodes c.args.self.now.machines.items c.args.self.now.calls.items c.requires.intact c.args.who Idle c.requires.idle
+set_call-requires g c = call_inside g.P.Payload.same_as g.P.Payload.always_copies c.args.self.now.nodes c.args.self.now.machines.items c.args.self.now.calls.items c.requires.intact c.args.who Idle c.requires.idle
 
 pub returns-clause-intact : goal.returns-clause-intact
 returns-clause-intact g c =

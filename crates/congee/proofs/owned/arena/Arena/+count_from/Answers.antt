@@ -11,7 +11,7 @@ use Rattle.congee.specs.declared.forms.child.Child.TheVariants.{Blank, Node as S
 use Rattle.congee.specs.declared.owned.sight.Next.{Next}
 use Rattle.congee.specs.declared.owned.sight.Next.TheVariants.{Blank as NextBlank, Node as NextNode, Leaf as NextLeaf, Value as NextValue}
 use Rattle.congee.specs.declared.owned.stats.NodeStats.{NodeStats}
-use Rattle.congee.proofs.lemmas.owned.Standing.{standing}
+use Rattle.congee.proofs.lemmas.owned.Standing.{standing_at}
 use Rattle.congee.proofs.lemmas.owned.Weights.{passes, passed_all, below_is, no_node}
 use Rattle.congee.proofs.lemmas.owned.Surveys.{Counted, node_counted, none_below, none_past, leaf_counted, went_below, went_past, child_stands, survey_counted}
 use Rattle.congee.proofs.owned.arena.Arena.+count_from.Goals as goal
@@ -34,7 +34,7 @@ module _ {P : Type 0} where
 pub returns-then-is_leaf-clause-counted : goal.returns-then-is_leaf-clause-counted
 returns-then-is_leaf-clause-counted g t c =
     let s = c.args.self.now.nodes in
-    let x = standing s c.args.at c.requires.stands in
+    let x = standing_at s c.args.at c.requires.stands in
     let none = none_below s c.args.at x.node c.requires.tree c.requires.stands x.is ((c.is_leaf.ensures x.node x.is).0 c.if-is_leaf.true) in
     let form = c.node_type.ensures x.node x.is in
     let count = c.len.ensures.count x.node x.is in
@@ -45,7 +45,7 @@ returns-then-is_leaf-clause-counted g t c =
 pub returns-then-is_leaf-clause-bytes : goal.returns-then-is_leaf-clause-bytes
 returns-then-is_leaf-clause-bytes g t c =
     let s = c.args.self.now.nodes in
-    let x = standing s c.args.at c.requires.stands in
+    let x = standing_at s c.args.at c.requires.stands in
     let none = none_below s c.args.at x.node c.requires.tree c.requires.stands x.is ((c.is_leaf.ensures x.node x.is).0 c.if-is_leaf.true) in
     let low = c.len.ensures.bytes x.node x.is in
     passed_all s c.args.at x.node 256 x.is low (λ b d l e. absurd (none b d e)) (none_past x.node low)
@@ -59,7 +59,7 @@ loop-byte-init g t c = λ x is.
 pub count_from-requires : goal.count_from-requires
 count_from-requires g t c κs within =
     let s = c.args.self.now.nodes in
-    let x = standing s c.args.at c.requires.stands in
+    let x = standing_at s c.args.at c.requires.stands in
     let below = child_stands s c.args.at x.node c.loop-byte.from c.in-Some.byte (child_of c.in-Some.child) c.in-Node.below c.requires.tree c.requires.stands x.is
     (c.in-Some.ensures.first s c.args.at x.node c.sight-sight.ensures x.is) (named c.in-Some.child c.in-Node.below c.in-Node.is) in
     let smaller : 8 - length (heap_of s c.in-Node.below).prefix < 8 - length (heap_of s c.args.at).prefix = omega (arith, below.1.0, below.1.1) in
@@ -70,7 +70,7 @@ count_from-requires g t c κs within =
 pub loop-byte-smaller : goal.loop-byte-smaller
 loop-byte-smaller g t c =
     let s = c.args.self.now.nodes in
-    let x = standing s c.args.at c.requires.stands in
+    let x = standing_at s c.args.at c.requires.stands in
     let past = (c.in-Some.ensures.first s c.args.at x.node c.sight-sight.ensures x.is).past in
     let small : c.in-Some.byte < 256 = omega arith in
     omega (arith, past, small)
@@ -100,18 +100,18 @@ loop-byte-preserved g t c = λ x is.
 pub returns-clause-counted : goal.returns-clause-counted
 returns-clause-counted g t c =
     let s = c.args.self.now.nodes in
-    let x = standing s c.args.at c.requires.stands in
+    let x = standing_at s c.args.at c.requires.stands in
     survey_counted s c.args.stats.now c.loop-byte.stats c.args.level c.args.at x.node c.loop-byte.from c.requires.tree c.requires.stands x.is (c.loop-byte.invariant x.node x.is).0
     (c.in_default.ensures.first s c.args.at x.node c.sight-sight.ensures x.is)
 
 pub returns-clause-levels : goal.returns-clause-levels
 returns-clause-levels g t c =
-    let x = standing c.args.self.now.nodes c.args.at c.requires.stands in
+    let x = standing_at c.args.self.now.nodes c.args.at c.requires.stands in
     (c.loop-byte.invariant x.node x.is).0.levels
 
 pub returns-clause-bytes : goal.returns-clause-bytes
 returns-clause-bytes g t c =
     let s = c.args.self.now.nodes in
-    let x = standing s c.args.at c.requires.stands in
+    let x = standing_at s c.args.at c.requires.stands in
     passed_all s c.args.at x.node c.loop-byte.from x.is (c.len.ensures.bytes x.node x.is) (c.loop-byte.invariant x.node x.is).1
     (c.in_default.ensures.first s c.args.at x.node c.sight-sight.ensures x.is)

@@ -5,8 +5,8 @@ use Rattle.congee.specs.forms.Forms.{prefix_of}
 use Rattle.congee.specs.owned.Arena.{heap_of}
 use Rattle.congee.specs.owned.Changes.{DiffersAt}
 use Rattle.congee.specs.owned.Cursor.{IsCursor, IsAt}
-use Rattle.congee.proofs.lemmas.owned.Standing.{standing, length_read}
-use Rattle.congee.proofs.lemmas.owned.Ways.{below_stands, falls, prefix_is}
+use Rattle.congee.proofs.lemmas.owned.Standing.{standing_at, length_read}
+use Rattle.congee.proofs.lemmas.owned.Ways.{below_stands, depth_falls, prefix_is}
 use Rattle.congee.proofs.lemmas.owned.Cursors.{Descends, IsByte, branch_at, few_before, sets_out, goes_down, ends_free, ends_held, ends_before, ends_after, byte_read, child_read, pushed}
 use Rattle.congee.proofs.owned.arena.Arena.seek.Given.{Over}
 use Rattle.congee.proofs.owned.arena.Arena.seek.Goals.{After-prefix_len, then-other-bytes, else-other-bytes}
@@ -64,7 +64,7 @@ returns-in-Apart g c =
     let byte = here g (goal.at.returns-in-Apart g c).After-prefix_len in
     let below = child_read s at key c.bytes_of_key-bytes.result c.bytes_of_key-bytes.ensures.bytes (Below child) c.in-Apart.ensures.0 in
     let stands = below_stands s c.requires at child c.bytes_of_key-bytes.result c.loop-above.invariant.way.stands c.in-Apart.ensures.0 in
-    let lower = standing s child stands in
+    let lower = standing_at s child stands in
     let prefix = prefix_is s child lower.node lower.is in
     let apart = c.parting-place.result.place in
     let parts : DiffersAt (key_bytes key) (heap_of s child).prefix apart =
@@ -84,7 +84,7 @@ pub loop-above-init : goal.loop-above-init
 loop-above-init g c = rw c.root-at.ensures (sets_out c.args.self.now.nodes c.requires c.new-above.result.items c.args.key c.new-above.ensures)
 
 pub loop-above-smaller : goal.loop-above-smaller
-loop-above-smaller g c = falls c.args.self.now.nodes c.requires c.bytes_of_key-bytes.result c.loop-above.at c.in-Below.below c.loop-above.invariant.way.stands c.in-Below.ensures.0
+loop-above-smaller g c = depth_falls c.args.self.now.nodes c.requires c.bytes_of_key-bytes.result c.loop-above.at c.in-Below.below c.loop-above.invariant.way.stands c.in-Below.ensures.0
 
 pub loop-above-preserved : goal.loop-above-preserved
 loop-above-preserved g c =

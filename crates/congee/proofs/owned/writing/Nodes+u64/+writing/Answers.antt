@@ -8,7 +8,7 @@ use Rattle.congee.specs.owned.Sights.{HasKey, HasLeaf, child_of}
 use Rattle.congee.specs.owned.Writes.{WritesNode}
 use Rattle.congee.proofs.lemmas.owned.Cursors.{child_there, nothing_blank}
 use Rattle.congee.proofs.lemmas.owned.Rows.{entry_below, entry_filled, entry_last, entry_leaf, entry_node, list_end, list_hangs, list_on, list_wrote, pair_fills, wrote_byte}
-use Rattle.congee.proofs.lemmas.owned.Standing.{standing}
+use Rattle.congee.proofs.lemmas.owned.Standing.{standing_at}
 use Rattle.congee.proofs.lemmas.owned.Surveys.{child_stands}
 use Rattle.congee.proofs.lemmas.owned.Writings.{Wrote, ends_fills, ends_writes, filled_fills, so_far_on, wrote_all, wrote_leaf, wrote_node, wrote_value}
 use Rattle.congee.proofs.owned.writing.Nodes+u64.+writing.Goals as goal
@@ -26,14 +26,14 @@ write_from-returns-in-Few-clause-pairs g t c =
 pub write_seen-unreachable-requires : goal.write_seen-unreachable-requires
 write_seen-unreachable-requires g t c =
     let s = c.args.self.now in
-    let x = standing s c.args.at c.requires.stands in
+    let x = standing_at s c.args.at c.requires.stands in
     nothing_blank s c.requires.tree c.args.at c.in-Some.byte c.requires.stands
     (child_there s c.args.at c.in-Some.byte x.node _ _ x.is (c.in-Some.ensures.first s c.args.at x.node c.sight-sight.ensures x.is).here (ap child_of c.in-Blank.is))
 
 pub write_seen-write_from-written-requires : goal.write_seen-write_from-written-requires
 write_seen-write_from-written-requires g t c κs within =
     let s = c.args.self.now in
-    let x = standing s c.args.at c.requires.stands in
+    let x = standing_at s c.args.at c.requires.stands in
     let below = child_stands s c.args.at x.node c.loop-byte.from c.in-Some.byte (child_of c.in-Some.child) c.in-Node.below c.requires.tree c.requires.stands x.is (c.in-Some.ensures.first s c.args.at x.node c.sight-sight.ensures x.is) (ap child_of c.in-Node.is) in
     let smaller : 8 * (8 - length (heap_of s c.in-Node.below).prefix) + 6 < 8 * (8 - length (heap_of s c.args.at).prefix) + 5 = omega (arith, below.1.0, below.1.1) in
     (search rules, (within, (c.requires.tree, (below.0, c.loop-byte.invariant.filled.within))))
