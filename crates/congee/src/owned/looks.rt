@@ -27,7 +27,7 @@ impl<P: Stored> Nodes<P> {
     ghost use Rattle.congee.specs.owned.Sights.{Sees};
     ghost use Rattle.congee.specs.owned.Slots.{lone_node};
     ghost use Rattle.congee.specs.owned.Stores.{LeafStands, child_now};
-    ghost use Rattle.congee.specs.owned.Ways.{IsTurn, IsTurnOn, Leads, LeadsOn};
+    ghost use Rattle.congee.specs.owned.Ways.{IsWayBelow, IsWayOn, Leads, LeadsOn};
     ghost use Rattle.congee.specs.declared.forms.base_node.Node.{Node as Form};
     ghost use Rattle.congee.specs.declared.forms.child.Child.TheVariants.{Value};
 
@@ -80,7 +80,7 @@ impl<P: Stored> Nodes<P> {
                 match n.get_child(byte) {
                     None => Way::Free,
                     Some(Hung::Blank) => unreachable!(),
-                    Some(Hung::Node(below)) => self.turn(below, key),
+                    Some(Hung::Node(below)) => self.way_below(below, key),
                     Some(Hung::Leaf(lone)) => {
                         let name = Name::inline(slot, byte);
                         if leads(&lone.key, key) {
@@ -111,7 +111,7 @@ impl<P: Stored> Nodes<P> {
                 match n.get_child(next) {
                     None => Onward::Free,
                     Some(Hung::Blank) => unreachable!(),
-                    Some(Hung::Node(below)) => self.turn_on(below, key),
+                    Some(Hung::Node(below)) => self.way_on(below, key),
                     Some(Hung::Leaf(lone)) => {
                         let leaf = Name::inline(slot, next);
                         if !leads(&lone.key, key) {
@@ -142,9 +142,9 @@ impl<P: Stored> Nodes<P> {
 
     // Whether the node in a slot is on the key's way.
     #[inline(always)]
-    fn turn(&self, slot: usize, key: &[u8; KEY_BYTES]) -> Way<'_, P>
+    fn way_below(&self, slot: usize, key: &[u8; KEY_BYTES]) -> Way<'_, P>
         requires { ContainsKey self.now (257 * slot) }
-        ensures { IsTurn self.now key.now (257 * slot) result }
+        ensures { IsWayBelow self.now key.now (257 * slot) result }
     {
         if self.is_prefix_of(slot, key) {
             Way::Below(Name::of(slot))
@@ -155,9 +155,9 @@ impl<P: Stored> Nodes<P> {
 
     // The same, for a way that goes on by slots.
     #[inline(always)]
-    fn turn_on(&self, slot: usize, key: &[u8; KEY_BYTES]) -> Onward<'_, P>
+    fn way_on(&self, slot: usize, key: &[u8; KEY_BYTES]) -> Onward<'_, P>
         requires { ContainsKey self.now (257 * slot) }
-        ensures { IsTurnOn self.now key.now (257 * slot) result }
+        ensures { IsWayOn self.now key.now (257 * slot) result }
     {
         if self.is_prefix_of(slot, key) {
             Onward::Below(slot)

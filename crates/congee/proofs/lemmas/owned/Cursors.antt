@@ -460,10 +460,10 @@ module _ {P : Type 0} (s : Nodes P) (t : IsTree s) where
     record { ahead = λ q h. (λ l. inl (record { fitted = rw t.tree.empty refl; past = omega arith }), λ a. omega arith) },
   )
 
-  -- keys with one byte there turn to one child
-  turns_same : (at key q : ℕ) (x : Hung P) → get_or (key_bytes key) (length (heap_of s at).prefix) 0 ≡ get_or (key_bytes q) (length (heap_of s at).prefix) 0
+  -- keys with one byte there go to one child
+  same_child : (at key q : ℕ) (x : Hung P) → get_or (key_bytes key) (length (heap_of s at).prefix) 0 ≡ get_or (key_bytes q) (length (heap_of s at).prefix) 0
       → child_for (heap_of s at) (key_bytes key) ≡ x → child_for (heap_of s at) (key_bytes q) ≡ x
-  turns_same at key q x e c = subst (λ b. (heap_of s at).children b ≡ x) e c
+  same_child at key q x e c = subst (λ b. (heap_of s at).children b ≡ x) e c
 
   -- the way down to a key
   pub sets_out : (steps : List Branch) (key : ℕ) → steps ≡ [] → Descends s steps 0 key
@@ -491,7 +491,7 @@ module _ {P : Type 0} (s : Nodes P) (t : IsTree s) where
           | inr g ↦ (let up = byte_from at key q d.way.stands lo (small q h) d.way.fitted g in
               elim (cases_lt (get_or (key_bytes key) (length (heap_of s at).prefix) 0) (get_or (key_bytes q) (length (heap_of s at).prefix) 0)) [
                 | inl lt ↦ inl (ahead_right s steps (branch_at at from) (key_bytes q) (record { fitted = g; past = omega (arith, lt, ef) }))
-                | inr ge ↦ inr (fits_child q at below h d.way.stands g (turns_same at key q (Below below) (omega (arith, up, ge)) e))
+                | inr ge ↦ inr (fits_child q at below h d.way.stands g (same_child at key q (Below below) (omega (arith, up, ge)) e))
               ])
         ];
       }
@@ -532,7 +532,7 @@ module _ {P : Type 0} (s : Nodes P) (t : IsTree s) where
   -- where nothing hangs at the key's byte, the pairs from the key on are those ahead of a step there
   pub ends_free : (steps : List Branch) (at key from : ℕ) → key < 2 ^ 64 → Descends s steps at key → from ≡ get_or (key_bytes key) (length (heap_of s at).prefix) 0 → from ≤ 256
       → child_for (heap_of s at) (key_bytes key) ≡ Nothing → IsCursor s (steps ++ branch_at at from ∷ []) × IsAt s (steps ++ branch_at at from ∷ []) key
-  ends_free steps at key from lk d ef b e = ends_here steps at key from lk d ef b (λ q h f same. absurd (finds_child q at h d.way.stands f (turns_same at key q Nothing same e)))
+  ends_free steps at key from lk d ef b e = ends_here steps at key from lk d ef b (λ q h f same. absurd (finds_child q at h d.way.stands f (same_child at key q Nothing same e)))
 
   -- where the key's value hangs, the pairs from the key on are those ahead of a step there
   pub ends_held : (steps : List Branch) (at key from : ℕ) (x : P) → key < 2 ^ 64 → Descends s steps at key → from ≡ get_or (key_bytes key) (length (heap_of s at).prefix) 0 → from ≤ 256
@@ -545,7 +545,7 @@ module _ {P : Type 0} (s : Nodes P) (t : IsTree s) where
       → child_for (heap_of s at) (key_bytes key) ≡ Below below → DiffersAt (key_bytes key) (heap_of s below).prefix common
       → get_or (key_bytes key) common 0 ≤ get_or (heap_of s below).prefix common 0 → IsCursor s (steps ++ branch_at at from ∷ []) × IsAt s (steps ++ branch_at at from ∷ []) key
   ends_before steps at below key from common lk d ef b e parts le = ends_here steps at key from lk d ef b (λ q h f same.
-      let g = fits_child q at below h d.way.stands f (turns_same at key q (Below below) same e) in
+      let g = fits_child q at below h d.way.stands f (same_child at key q (Below below) same e) in
       let short = short_prefix s t below (below_stands s t at below (key_bytes key) d.way.stands e) in
       let there = fits_byte (heap_of s below).prefix (key_bytes q) common g parts.within in
       let l = less_at_first_byte key q common lk (small q h) (omega (arith, short, parts.within))
@@ -562,7 +562,7 @@ module _ {P : Type 0} (s : Nodes P) (t : IsTree s) where
       elim (cases_lt (get_or (key_bytes key) (length (heap_of s at).prefix) 0) (get_or (key_bytes q) (length (heap_of s at).prefix) 0)) [
         | inl over ↦ omega (arith, over, ef)
         | inr ge ↦ (
-            let g = fits_child q at below h d.way.stands f (turns_same at key q (Below below) (omega (arith, up, ge)) e) in
+            let g = fits_child q at below h d.way.stands f (same_child at key q (Below below) (omega (arith, up, ge)) e) in
             let short = short_prefix s t below (below_stands s t at below (key_bytes key) d.way.stands e) in
             let there = fits_byte (heap_of s below).prefix (key_bytes q) common g parts.within in
             let n = less_at_first_byte q key common (small q h) lk (omega (arith, short, parts.within))

@@ -21,7 +21,7 @@ use Rattle.congee.specs.declared.owned.slots.Slot.TheVariants.{Inner, Leaf}
 use Rattle.std.specs.Borrow.{Bor}
 use Rattle.std.specs.Option.{option_copied, option_map}
 use Rattle.congee.specs.forms.Bytes.{IsFirst}
-use Rattle.congee.specs.owned.Ways.{IsTurn, IsTurnOn, Leads, LeadsOn}
+use Rattle.congee.specs.owned.Ways.{IsWayBelow, IsWayOn, Leads, LeadsOn}
 use Rattle.congee.specs.declared.owned.place.Onward.{Onward}
 use Rattle.congee.specs.declared.owned.place.Onward.TheVariants.{Free as GoesFree, Held as GoesHeld, FreeBelow, HeldBelow, Below as GoesBelow, Apart as GoesApart}
 use Rattle.congee.specs.declared.owned.place.Way.{Way}
@@ -296,20 +296,20 @@ module _ {P K : Type 0} (s : Slab (Slot P K)) (v : Nodes P) (is : nodes_in s ≡
     leaf_holds f c = leaf_is ∙ ap (λ r. hung_in (option_map (leaf_child (get_or key len 0)) (option_map Value (option_copied r)))) c
 
 -- to a node of which it was told whether the key has its prefix
-pub leads_turn : {P : Type 0} (v : Nodes P) (key : List ℕ) (at name : ℕ) (w : Way P) → child_for (heap_of v at) key ≡ Under name → IsTurn v key name w → Leads v key at w
-leads_turn v key at name Free e t = absurd t
-leads_turn v key at name (Held x) e t = absurd t
-leads_turn v key at name (Below c) e t = (e ∙ ap Under (sym t.0), t.1)
-leads_turn v key at name (Apart c) e t = (e ∙ ap Under (sym t.0), t.1)
+pub leads_below : {P : Type 0} (v : Nodes P) (key : List ℕ) (at name : ℕ) (w : Way P) → child_for (heap_of v at) key ≡ Under name → IsWayBelow v key name w → Leads v key at w
+leads_below v key at name Free e t = absurd t
+leads_below v key at name (Held x) e t = absurd t
+leads_below v key at name (Below c) e t = (e ∙ ap Under (sym t.0), t.1)
+leads_below v key at name (Apart c) e t = (e ∙ ap Under (sym t.0), t.1)
 
 -- the way on leads to a node of which it was told whether the key has its prefix
-pub leads_turn_on : {P : Type 0} (v : Nodes P) (key : List ℕ) (at name : ℕ) (w : Onward P) → child_for (heap_of v at) key ≡ Under name → IsTurnOn v key name w → LeadsOn v key at w
-leads_turn_on v key at name GoesFree e t = absurd t
-leads_turn_on v key at name (GoesHeld x) e t = absurd t
-leads_turn_on v key at name (FreeBelow c) e t = absurd t
-leads_turn_on v key at name (HeldBelow c x) e t = absurd t
-leads_turn_on v key at name (GoesBelow slot) e t = (e ∙ ap Under (sym t.0), t.1)
-leads_turn_on v key at name (GoesApart c) e t = (e ∙ ap Under (sym t.0), t.1)
+pub leads_below_on : {P : Type 0} (v : Nodes P) (key : List ℕ) (at name : ℕ) (w : Onward P) → child_for (heap_of v at) key ≡ Under name → IsWayOn v key name w → LeadsOn v key at w
+leads_below_on v key at name GoesFree e t = absurd t
+leads_below_on v key at name (GoesHeld x) e t = absurd t
+leads_below_on v key at name (FreeBelow c) e t = absurd t
+leads_below_on v key at name (HeldBelow c x) e t = absurd t
+leads_below_on v key at name (GoesBelow slot) e t = (e ∙ ap Under (sym t.0), t.1)
+leads_below_on v key at name (GoesApart c) e t = (e ∙ ap Under (sym t.0), t.1)
 
 -- the first child from a byte on, as the tree sees it
 module _ {P K : Type 0} (s : Slab (Slot P K)) (v : Nodes P) (is : nodes_in s ≡ v) (i from : ℕ) (x : Slot P K) (e : get s i ≡ Some x) (y : Node ℕ P) (h : get v (257 * i) ≡ Some y) where

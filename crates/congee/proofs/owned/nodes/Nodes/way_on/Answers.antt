@@ -1,7 +1,7 @@
 use Rattle.std.proofs.Common.{refl, sym, ap, ◌∙◌}
 use Rattle.congee.specs.Heap.{fits}
 use Rattle.congee.specs.owned.Arena.{heap_of}
-use Rattle.congee.proofs.owned.nodes.Nodes.turn_on.Goals as goal
+use Rattle.congee.proofs.owned.nodes.Nodes.way_on.Goals as goal
 
 pub returns-then-is_prefix_of : goal.returns-then-is_prefix_of
 returns-then-is_prefix_of g c = (refl, sym c.is_prefix_of.ensures ∙ c.if-is_prefix_of.true)

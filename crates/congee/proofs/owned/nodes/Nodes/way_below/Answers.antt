@@ -1,7 +1,7 @@
 use Rattle.std.proofs.Common.{sym, ap, ◌∙◌}
 use Rattle.congee.specs.Heap.{fits}
 use Rattle.congee.specs.owned.Arena.{heap_of}
-use Rattle.congee.proofs.owned.nodes.Nodes.turn.Goals as goal
+use Rattle.congee.proofs.owned.nodes.Nodes.way_below.Goals as goal
 
 pub returns-then-is_prefix_of : goal.returns-then-is_prefix_of
 returns-then-is_prefix_of g c = (
