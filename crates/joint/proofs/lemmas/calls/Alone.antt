@@ -13,7 +13,7 @@ use Rattle.crossbeam_epoch.specs.declared.world.report.Op.TheVariants as collect
 use Rattle.crossbeam_epoch.specs.declared.world.report.Outcome.{Outcome as CollectorOutcome}
 use Rattle.crossbeam_epoch.specs.declared.world.report.Outcome.TheVariants as collector_outcome
 use Rattle.crossbeam_epoch.specs.World.Machine.{State, place}
-use Rattle.crossbeam_epoch.specs.World.Progress.{Begins, GoesOn, comes_by, left_in, steps_left as turns_left, stage as stage_of}
+use Rattle.crossbeam_epoch.specs.World.Progress.{Begins, GoesOn, comes_by, left_in, steps_left as collector_steps_left, stage as stage_of}
 use Rattle.congee.specs.declared.protocol.machine.Machine.{Machine}
 use Rattle.congee.specs.declared.protocol.machine.Noise.{Noise}
 use Rattle.congee.specs.declared.protocol.op.Op.{Op as Point}
@@ -56,9 +56,9 @@ use Rattle.joint.proofs.lemmas.engine.Walking as walking
 
 -- the steps that a worker's call takes at most from here on
 abbrev left_of : {V : Type 0} → Nodes V → ℕ → Option (InFlight V) → Option (Machine Id V) → ℕ
-left_of f who (Some (Collecting op)) m = turns_left f.collector who
+left_of f who (Some (Collecting op)) m = collector_steps_left f.collector who
 left_of f who (Some (Reserving op)) m = 46
-left_of f who (Some (Securing op)) m = turns_left f.collector who + 43
+left_of f who (Some (Securing op)) m = collector_steps_left f.collector who + 43
 left_of f who (Some Walking) (Some m) = steps_left id_number (nodes f) m.phase
 left_of f who _ _ = 0
 
@@ -124,7 +124,7 @@ module _ {V : Type 0} where
   rest_on h h' x true now on = ((tt, tt), (let q = on.nearer in omega (arith, q)))
   rest_on h h' x false now on = (on.undisturbed, on.nearer)
 
-module _ {V : Type 0} (same : V → V → Bool) (always : Bool) (laws : CallLaws {C = Id} {V = V} id_number same always) (turns : ProgressLaws (Slot V) (Unit {0}))
+module _ {V : Type 0} (same : V → V → Bool) (always : Bool) (laws : CallLaws {C = Id} {V = V} id_number same always) (progress : ProgressLaws (Slot V) (Unit {0}))
     (steps : (f : Nodes V) → AloneLaw {C = Id} {V = V} id_number same always f.version_max (Refuses f)) (begins : (h : ℕ → Node V) (p : Point V) → IsUndisturbed id_number h (first_phase root p)) (whole_left : WholeLaw V id_number) where
   module _ (s s' : World V) (w : ℕ) (holds : EngineHolds same always s) where
     -- what a step makes of the call, with n steps left before it
@@ -144,7 +144,7 @@ module _ {V : Type 0} (same : V → V → Bool) (always : Bool) (laws : CallLaws
 
     -- a call on the collector
     collects_by : (o : CollectorOutcome) (op : CollectorOp) (n : ℕ) → OthersUnlocked s' w → GoesOn s.forest.collector w op o s'.forest.collector → s'.calls ≡ set s.calls w (call_after o (Collecting op)) → w < length s.calls → is_in_flight {V = V} (collected o) ≡ true
-        → turns_left s.forest.collector w ≤ n → After n
+        → collector_steps_left s.forest.collector w ≤ n → After n
     collects_by collector_outcome.Running op n free g e l on le = after_by (Collecting op) (slice_get s'.machines w) n free (at_place s.calls s'.calls w (Collecting op) l e) refl tt (let x = g.1 in omega (arith, x, le))
     collects_by collector_outcome.Done op n free g e l on le = absurd (cc on)
     collects_by (collector_outcome.Refused f) op n free g e l on le = absurd (cc on)
@@ -166,11 +166,11 @@ module _ {V : Type 0} (same : V → V → Bool) (always : Bool) (laws : CallLaws
       is_at : IsAt (Securing p) (place b.forest.collector w) machine.0
       is_at = intact.each w (Securing p) machine.0 e machine.1
 
-      bounds : (0 < turns_left b.forest.collector w) × (turns_left b.forest.collector w ≤ 3)
+      bounds : (0 < collector_steps_left b.forest.collector w) × (collector_steps_left b.forest.collector w ≤ 3)
       bounds = secures_in (length b.forest.collector.table) (length (place b.forest.collector w).hand) (place b.forest.collector w).phase is_at.0.1
 
       secures_by : (o : CollectorOutcome) (n : ℕ) → GoesOn b.forest.collector w (collector_op.Secure 2) o s'.forest.collector → s'.calls ≡ set b.calls w (secured_call o (slice_get b.calls w)) → s'.machines ≡ secured_machines o (slice_get b.calls w) b.machines w
-          → is_in_flight {V = V} (reserving o) ≡ true → turns_left b.forest.collector w + 43 ≤ n → After n
+          → is_in_flight {V = V} (reserving o) ≡ true → collector_steps_left b.forest.collector w + 43 ≤ n → After n
       secures_by collector_outcome.Running n g ec em on le =
           let calls = at_place b.calls s'.calls w (Securing p) inside (ec ∙ ap (λ k. set b.calls w (secured_call collector_outcome.Running k)) e) in
           let same_ms : s'.machines ≡ b.machines = em ∙ ap (λ k. secured_machines collector_outcome.Running k b.machines w) e in
@@ -183,10 +183,10 @@ module _ {V : Type 0} (same : V → V → Bool) (always : Bool) (laws : CallLaws
           after_by Walking (Some (begun root p)) n (unlocked_set w b.machines s'.machines (begun root p) set_ms free) calls at_ms (begins (nodes s'.forest) p) (let x = bounds.0 in omega (arith, forty, x, le))
       secures_by (collector_outcome.Refused f) n g ec em on le = absurd (cc on)
 
-      secures : (r : Report V) (n : ℕ) → GoesOnReserving same always b w r s' → is_in_flight r.outcome ≡ true → turns_left b.forest.collector w + 43 ≤ n → After n
+      secures : (r : Report V) (n : ℕ) → GoesOnReserving same always b w r s' → is_in_flight r.outcome ≡ true → collector_steps_left b.forest.collector w + 43 ≤ n → After n
       secures r n x on le =
           let P : State (Slot V) (Unit {0}) → Type 0 = λ y. GoesOn b.forest.collector w (collector_op.Secure 2) x.collector_report.outcome y in
-          let g = subst P (sym x.step.collected.state) (turns.goes_on b.forest.collector w (collector_op.Secure 2) x.collector_report intact.safe.sound.sound.orderly is_at.0 x.step.collected.report) in
+          let g = subst P (sym x.step.collected.state) (progress.goes_on b.forest.collector w (collector_op.Secure 2) x.collector_report intact.safe.sound.sound.orderly is_at.0 x.step.collected.report) in
           secures_by x.collector_report.outcome n g x.step.call x.step.machine (sym (ap (λ y. is_in_flight y.outcome) x.report) ∙ on) le
 
     -- a step on the tree
@@ -215,8 +215,8 @@ module _ {V : Type 0} (same : V → V → Bool) (always : Bool) (laws : CallLaws
         let m : (m : Machine Id V) × (slice_get s.machines w ≡ Some m) = get_inside s.machines w (subst (λ i. w < i) (sym holds.0.machines) l) in
         let at : IsAt (Collecting c) (place s.forest.collector w) m.0 = holds.0.each w (Collecting c) m.0 e m.1 in
         let P : State (Slot V) (Unit {0}) → Type 0 = λ y. GoesOn s.forest.collector w c x.collector_report.outcome y in
-        let g = subst P (sym x.step.state) (turns.goes_on s.forest.collector w c x.collector_report holds.0.safe.sound.sound.orderly at.0 x.step.report) in
-        let left : left_of s.forest w (slice_get s.calls w) (slice_get s.machines w) ≡ turns_left s.forest.collector w = ap (λ y. left_of s.forest w y (slice_get s.machines w)) e in
+        let g = subst P (sym x.step.state) (progress.goes_on s.forest.collector w c x.collector_report holds.0.safe.sound.sound.orderly at.0 x.step.report) in
+        let left : left_of s.forest w (slice_get s.calls w) (slice_get s.machines w) ≡ collector_steps_left s.forest.collector w = ap (λ y. left_of s.forest w y (slice_get s.machines w)) e in
         collects_by x.collector_report.outcome c n (subst (λ ms. NoOtherLocks id_number w ms) (sym x.machines) al.unlocked) g x.calls l (sym (ap (λ y. is_in_flight y.outcome) x.report) ∙ on) (let y = al.left in omega (arith, left, y))
     goes (Some (Reserving p)) noise r n e unfailed answers al x on busy =
         let b = x.between in
@@ -226,7 +226,7 @@ module _ {V : Type 0} (same : V → V → Bool) (always : Bool) (laws : CallLaws
         let three = (bounds b x.begins.intact p at free).1 in
         secures b x.begins.intact p at free r n x.goes on (let y = al.left in omega (arith, left, y, three))
     goes (Some (Securing p)) noise r n e unfailed answers al x on busy =
-        let left : left_of s.forest w (slice_get s.calls w) (slice_get s.machines w) ≡ turns_left s.forest.collector w + 43 = ap (λ y. left_of s.forest w y (slice_get s.machines w)) e in
+        let left : left_of s.forest w (slice_get s.calls w) (slice_get s.machines w) ≡ collector_steps_left s.forest.collector w + 43 = ap (λ y. left_of s.forest w y (slice_get s.machines w)) e in
         secures s holds.0 p e al.unlocked r n x on (let y = al.left in omega (arith, left, y))
     goes (Some Walking) noise r n e unfailed answers al x on busy =
         walks noise r n e unfailed answers al.unlocked (λ m at.
@@ -262,19 +262,19 @@ module _ {V : Type 0} (same : V → V → Bool) (always : Bool) (laws : CallLaws
       idle : slice_get s.calls w ≡ Some Idle
       idle = begins_idle same always s s' w holds o none
 
-      turn_begins : (c : CollectorOp) (r : Report V) → OthersUnlocked s w → Collects same always s w (collector_event.Begin c) (Collecting c) r s' → is_in_flight r.outcome ≡ true → Begun (length s.forest.collector.table + 530)
-      turn_begins c r free x on =
+      collector_begins : (c : CollectorOp) (r : Report V) → OthersUnlocked s w → Collects same always s w (collector_event.Begin c) (Collecting c) r s' → is_in_flight r.outcome ≡ true → Begun (length s.forest.collector.table + 530)
+      collector_begins c r free x on =
           let m : (m : Machine Id V) × (slice_get s.machines w ≡ Some m) = get_inside s.machines w (subst (λ i. w < i) (sym holds.0.machines) within) in
           let at : IsAt Idle (place s.forest.collector w) m.0 = holds.0.each w Idle m.0 idle m.1 in
           let P : State (Slot V) (Unit {0}) → Type 0 = λ y. Begins s.forest.collector w c x.collector_report.outcome y in
-          let g = subst P (sym x.step.state) (turns.begins s.forest.collector w c x.collector_report at.0 x.step.report) in
+          let g = subst P (sym x.step.state) (progress.begins s.forest.collector w c x.collector_report at.0 x.step.report) in
           begins_by x.collector_report.outcome c (subst (λ ms. NoOtherLocks id_number w ms) (sym x.machines) free) g x.calls within (sym (ap (λ y. is_in_flight y.outcome) x.report) ∙ on)
 
       unpin_ends : (r : Report V) → Collects same always s w (collector_event.Begin collector_op.Unpin) (Collecting collector_op.Unpin) r s' → is_in_flight r.outcome ≡ true → ⊥
       unpin_ends r x on =
           let m : (m : Machine Id V) × (slice_get s.machines w ≡ Some m) = get_inside s.machines w (subst (λ i. w < i) (sym holds.0.machines) within) in
           let at : IsAt Idle (place s.forest.collector w) m.0 = holds.0.each w Idle m.0 idle m.1 in
-          unpins V s.forest.collector _ w x.collector_report.outcome (turns.begins s.forest.collector w collector_op.Unpin x.collector_report at.0 x.step.report) (sym (ap (λ y. is_in_flight y.outcome) x.report) ∙ on)
+          unpins V s.forest.collector _ w x.collector_report.outcome (progress.begins s.forest.collector w collector_op.Unpin x.collector_report at.0 x.step.report) (sym (ap (λ y. is_in_flight y.outcome) x.report) ∙ on)
 
       enters : (p : Point V) (r : Report V) (k most : ℕ) → OthersUnlocked s w → Enters s w p r s' → steps_left id_number (nodes s.forest) (first_phase root p) ≤ k → k + 2 ≤ most → Begun most
       enters p r k most free x le room = (
@@ -308,11 +308,11 @@ module _ {V : Type 0} (same : V → V → Bool) (always : Bool) (laws : CallLaws
           survey_on k y = false≢true (sym (survey_ends (nodes s.forest) k y.outcome y.tells) ∙ (sym (ap (λ z. is_in_flight z.outcome) y.report) ∙ on))
 
           of : (q : Op V) → BeginsAt same always s w (target q) r s' → Begun (steps_alone s q)
-          of op.Pin y = turn_begins collector_op.Pin r free y on
+          of op.Pin y = collector_begins collector_op.Pin r free y on
           of op.Unpin y = absurd (unpin_ends r y on)
-          of op.Repin y = turn_begins collector_op.Repin r free y on
-          of op.Flush y = turn_begins collector_op.Flush r free y on
-          of op.Release y = turn_begins collector_op.Release r free y on
+          of op.Repin y = collector_begins collector_op.Repin r free y on
+          of op.Flush y = collector_begins collector_op.Flush r free y on
+          of op.Release y = collector_begins collector_op.Release r free y on
           of (op.Get k) y = enters (point.Get k) r 43 60 free y (omega arith) (omega arith)
           of (op.Insert k v) y = reserves (point.Insert k v) r free y
           of (op.Remove k) y = reserves (point.Remove k) r free y

@@ -186,7 +186,7 @@ unready_is true true f u e = absurd (cc e)
 unready_is true false f u e = e
 unready_is false busy f u e = absurd (cc e)
 
-module _ {V : Type 0} (same : V → V → Bool) (always : Bool) (turns : ProgressLaws (Slot V) (Unit {0})) where
+module _ {V : Type 0} (same : V → V → Bool) (always : Bool) (progress : ProgressLaws (Slot V) (Unit {0})) where
   -- one step, but for the journal
   module _ (s s' : World V) (w : ℕ) (holds : EngineHolds same always s) where
     -- what is told of a reading call, and that it stays one while it is in flight
@@ -215,7 +215,7 @@ module _ {V : Type 0} (same : V → V → Bool) (always : Bool) (turns : Progres
     pin_goes noise r e x =
         let m : (m : Machine Id V) × (slice_get s.machines w ≡ Some m) = machine_at _ e in
         let at : IsAt (Collecting collector_op.Pin) (place s.forest.collector w) m.0 = holds.0.each w (Collecting collector_op.Pin) m.0 e m.1 in
-        pins collector_event.Go r (slice_get_within s.calls w _ e) (λ f y q. goes_refused s.forest.collector _ w y.collector_report.outcome f (turns.goes_on s.forest.collector w collector_op.Pin y.collector_report holds.0.safe.sound.sound.orderly at.0 y.step.report) q) x
+        pins collector_event.Go r (slice_get_within s.calls w _ e) (λ f y q. goes_refused s.forest.collector _ w y.collector_report.outcome f (progress.goes_on s.forest.collector w collector_op.Pin y.collector_report holds.0.safe.sound.sound.orderly at.0 y.step.report) q) x
 
     walks : (noise : Noise Id V) (r : Report V) (m : Machine Id V) → slice_get s.calls w ≡ Some Walking → slice_get s.machines w ≡ Some m → (m.kind ≡ kind.Get) × Reads m.phase → Walks same always s w noise r s' → Goes r
     walks noise r m e at u x =
@@ -291,8 +291,8 @@ module _ {V : Type 0} (same : V → V → Bool) (always : Bool) (turns : Progres
         let m : (m : Machine Id V) × (slice_get s.machines w ≡ Some m) = machine_at Idle (idle op.Pin n) in
         let at : IsAt Idle (place s.forest.collector w) m.0 = holds.0.each w Idle m.0 (idle op.Pin n) m.1 in
         let f : refusal s.forest.collector w collector_op.Pin ≡ None = unready_is (place_of s w).registered (is_busy (slice_get s.calls w)) _ (begin_fault collector_op.Pin (place_of s w)) n in
-        let g = pins (collector_event.Begin collector_op.Pin) r (within op.Pin n) (λ e y z. begins_refused s.forest.collector _ w y.collector_report.outcome e f (turns.begins s.forest.collector w collector_op.Pin y.collector_report at.0 y.step.report) z) x in (
-          (λ e z. not_refused {V = V} x.collector_report.outcome e (λ b y. begins_refused s.forest.collector _ w x.collector_report.outcome b f (turns.begins s.forest.collector w collector_op.Pin x.collector_report at.0 x.step.report) y) (sym (ap (λ y. y.outcome) x.report) ∙ z)),
+        let g = pins (collector_event.Begin collector_op.Pin) r (within op.Pin n) (λ e y z. begins_refused s.forest.collector _ w y.collector_report.outcome e f (progress.begins s.forest.collector w collector_op.Pin y.collector_report at.0 y.step.report) z) x in (
+          (λ e z. not_refused {V = V} x.collector_report.outcome e (λ b y. begins_refused s.forest.collector _ w x.collector_report.outcome b f (progress.begins s.forest.collector w collector_op.Pin x.collector_report at.0 x.step.report) y) (sym (ap (λ y. y.outcome) x.report) ∙ z)),
           (λ b. g.1 (busy_after x.collector_report.outcome (placed _ (within op.Pin n) x.calls) (sym (ap (λ y. is_in_flight y.outcome) x.report) ∙ b))),
         )
       where

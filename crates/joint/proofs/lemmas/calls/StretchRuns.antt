@@ -56,7 +56,7 @@ use Rattle.joint.specs.NameLemmas.{number_named}
 use Rattle.joint.specs.Names.{named, root}
 use Rattle.joint.specs.calls.Runs.{Taken, AreTaken}
 use Rattle.joint.specs.engine.Sound.{Guards, IsSecured, IsUnderWay, Sound}
-use Rattle.joint.specs.calls.Stretches.{EndsStretch, HasChecked, SeesNode, StandsOn, publishes, turns_stretch}
+use Rattle.joint.specs.calls.Stretches.{EndsStretch, HasChecked, SeesNode, StandsOn, publishes, ends_stretch}
 use Rattle.joint.specs.nodes.View.{view, id_number}
 use Rattle.joint.specs.world.World.{Holds, StepsUnless, finds_journal_full}
 use Rattle.joint.specs.engine.Engine.{World, EngineHolds, IsHeldBy, BeginsOnTree, Collects, Does, EntersUnless, Enters, GoesAt, GoesOnReserving, Reserves, Walks, engine_of, finds_none, misuse, place_of}
@@ -68,7 +68,7 @@ use Rattle.joint.proofs.lemmas.engine.Reserving.{next_here}
 use Rattle.joint.proofs.lemmas.engine.ScanEnds.{cleared_is}
 use Rattle.joint.proofs.lemmas.engine.SecuredPlaces.{retiring_room}
 use Rattle.joint.proofs.lemmas.nodes.SlotViews.{slot_view}
-use Rattle.joint.proofs.lemmas.calls.Stretches.{IsBlocked, sees_blocks, stored, joined, deferring, turned, live_on, turns}
+use Rattle.joint.proofs.lemmas.calls.Stretches.{IsBlocked, sees_blocks, stored, joined, deferring, blocked_after, live_on, ends_now}
 use Rattle.joint.proofs.lemmas.nodes.Views.{heap_ties}
 
 -- a securing doesn't publish
@@ -112,10 +112,10 @@ module _ {V : Type 0} (same : V → V → Bool) (always : Bool) (laws : CallLaws
   On f = At f.collector × Stands (nodes f n)
 
   -- a step of the collector
-  collected : (f f' : Nodes V) (ms : List (Machine Id V)) (who : ℕ) (event : CollectorEvent) (r : Collection) → (who ≡ p → turns event (place f.collector who) ≡ false) → Collected same always f ms who event r f' → On f → On f'
+  collected : (f f' : Nodes V) (ms : List (Machine Id V)) (who : ℕ) (event : CollectorEvent) (r : Collection) → (who ≡ p → ends_now event (place f.collector who) ≡ false) → Collected same always f ms who event r f' → On f → On f'
   collected f f' ms who event r calm c o =
       let P : State (Slot V) (Unit {0}) → Type 0 = λ y. IsBlocked p it (marks f.collector who event r o.0.0) y in (
-        (marks f.collector who event r o.0.0, subst P (sym c.state) (turned p it o.0.0 f.collector who event r c.report calm o.0.1)),
+        (marks f.collector who event r o.0.0, subst P (sym c.state) (blocked_after p it o.0.0 f.collector who event r c.report calm o.0.1)),
         stands f' (live_on p it cells o.0.0 f.collector f'.collector who event r c.report c.moves o.0.1 (live f o.1)),
       )
 
@@ -157,7 +157,7 @@ module _ {V : Type 0} (same : V → V → Bool) (always : Bool) (laws : CallLaws
     reserves : (o : Point V) (r : Report V) → Reserves s w o r s' → Lasts s → Lasts s'
     reserves o r x l = same_forest (ap (λ y. y.forest) x.state) (still (ap (λ y. y.machines) x.state)) l
 
-    collects : (event : CollectorEvent) (k : InFlight V) (r : Report V) → (w ≡ p → turns event (place_of s w) ≡ false) → Collects same always s w event k r s' → Lasts s → Lasts s'
+    collects : (event : CollectorEvent) (k : InFlight V) (r : Report V) → (w ≡ p → ends_now event (place_of s w) ≡ false) → Collects same always s w event k r s' → Lasts s → Lasts s'
     collects event k r calm x l = lasts (collected s.forest s'.forest s.machines w event x.collector_report calm x.step l.on) (still x.machines) l
 
     secured_unheld : (o : CollectorOutcome) (k : Option (InFlight V)) (ms : List (Machine Id V)) → s.machines ≡ ms → s'.machines ≡ secured_machines o k ms w → Unheld
@@ -257,7 +257,7 @@ module _ {V : Type 0} (same : V → V → Bool) (always : Bool) (laws : CallLaws
     begins_tree (point.ComputeInsert k) r x l = reserves (point.ComputeInsert k) r x l
     begins_tree (point.Exchange k a b) r x l = reserves (point.Exchange k a b) r x l
 
-    begins : (o : Op V) (r : Report V) → (w ≡ p → turns_stretch {V = V} (Begin o) (place_of s w) ≡ false) → Does same always s w (Begin o) None r s' → Lasts s → Lasts s'
+    begins : (o : Op V) (r : Report V) → (w ≡ p → ends_stretch {V = V} (Begin o) (place_of s w) ≡ false) → Does same always s w (Begin o) None r s' → Lasts s → Lasts s'
     begins op.Pin r calm x l = collects (collector_event.Begin collector_op.Pin) (Collecting collector_op.Pin) r (λ z. refl) x l
     begins op.Unpin r calm x l = collects (collector_event.Begin collector_op.Unpin) (Collecting collector_op.Unpin) r calm x l
     begins op.Repin r calm x l = collects (collector_event.Begin collector_op.Repin) (Collecting collector_op.Repin) r (λ z. refl) x l
@@ -293,14 +293,14 @@ module _ {V : Type 0} (same : V → V → Bool) (always : Bool) (laws : CallLaws
     goes (Some Walking) noise r e calm x l = walks s s' w holds noise r e x l
 
     -- a step that doesn't end the stretch leaves the node standing, its removals blocked and no call holding it
-    pub does : (event : Event V) (o : Option Fault) (r : Report V) → misuse s w event ≡ o → (w ≡ p → misuse s w event ≡ None → turns_stretch event (place_of s w) ≡ false) → Does same always s w event o r s' → Lasts s → Lasts s'
+    pub does : (event : Event V) (o : Option Fault) (r : Report V) → misuse s w event ≡ o → (w ≡ p → misuse s w event ≡ None → ends_stretch event (place_of s w) ≡ false) → Does same always s w event o r s' → Lasts s → Lasts s'
     does event (Some f) r e calm x l = same_forest s s' w holds (ap (λ y. y.forest) x.1) (still s s' w holds (ap (λ y. y.machines) x.1)) l
     does Register None r e calm (inl x) l = lasts s s' w holds (subst (λ (f : Nodes V). On f) (sym (ap (λ y. y.forest) x.1.state)) ((l.on.0.0, joined p it l.on.0.0 s.forest.collector x.0 x.1.inside l.on.0.1), l.on.1)) (still s s' w holds (ap (λ y. y.machines) x.1.state)) l
     does Register None r e calm (inr x) l = same_forest s s' w holds (ap (λ y. y.forest) x.state) (still s s' w holds (ap (λ y. y.machines) x.state)) l
     does (Begin o) None r e calm x l = begins s s' w holds o r (λ z. calm z e) x l
     does (Go noise) None r e calm x l = goes (slice_get s.calls w) noise r refl (λ z. calm z e) x l
 
-  step_by : (s : World V) (t : Taken V) (b : Bool) → Holds same always s → (t.step.worker ≡ p → misuse s t.step.worker t.step.event ≡ None → turns_stretch t.step.event (place_of s t.step.worker) ≡ false) → StepsUnless same always b s t.step t.report t.after → Lasts s → Lasts t.after
+  step_by : (s : World V) (t : Taken V) (b : Bool) → Holds same always s → (t.step.worker ≡ p → misuse s t.step.worker t.step.event ≡ None → ends_stretch t.step.event (place_of s t.step.worker) ≡ false) → StepsUnless same always b s t.step t.report t.after → Lasts s → Lasts t.after
   step_by s t true h calm x l = record {
     on = subst (λ (f : Nodes V). On f) (sym (ap (λ (y : World V). y.forest) x.state)) l.on;
     unheld = λ j y. l.unheld j (y.0, sym (ap (λ (z : World V). slice_get z.machines j) x.state) ∙ y.1, y.2);
@@ -309,20 +309,20 @@ module _ {V : Type 0} (same : V → V → Bool) (always : Bool) (laws : CallLaws
       let d : Lasts (engine_of t.after) = does (engine_of s) (engine_of t.after) t.step.worker (h.0, h.1) t.step.event (misuse s t.step.worker t.step.event) x.told refl calm x.engine.does (record { on = l.on; unheld = l.unheld }) in
       record { on = d.on; unheld = d.unheld }
 
-  ends_or : (s : World V) (t : Taken V) → EndsStretch p s t ⊎ (t.step.worker ≡ p → misuse s t.step.worker t.step.event ≡ None → turns_stretch t.step.event (place_of s t.step.worker) ≡ false)
+  ends_or : (s : World V) (t : Taken V) → EndsStretch p s t ⊎ (t.step.worker ≡ p → misuse s t.step.worker t.step.event ≡ None → ends_stretch t.step.event (place_of s t.step.worker) ≡ false)
   ends_or s t = elim (cases_Bool (t.step.worker == p)) [
     | inr b ↦ inr (λ e m. absurd (eqb-false t.step.worker p b e))
     | inl b ↦ (
         let e : t.step.worker ≡ p = eqb-true t.step.worker p b in
-        elim (cases_Bool (turns_stretch t.step.event (place_of s t.step.worker))) [
+        elim (cases_Bool (ends_stretch t.step.event (place_of s t.step.worker))) [
           | inr off ↦ inr (λ q m. off)
           | inl on ↦ by (misuse s t.step.worker t.step.event) refl e on
         ])
   ]
     where
-      by : (o : Option Fault) → misuse s t.step.worker t.step.event ≡ o → t.step.worker ≡ p → turns_stretch t.step.event (place_of s t.step.worker) ≡ true
-          → EndsStretch p s t ⊎ (t.step.worker ≡ p → misuse s t.step.worker t.step.event ≡ None → turns_stretch t.step.event (place_of s t.step.worker) ≡ false)
-      by None m e on = inl (record { worker = e; accepted = subst (λ w. misuse s w t.step.event ≡ None) e m; turns = subst (λ w. turns_stretch t.step.event (place_of s w) ≡ true) e on })
+      by : (o : Option Fault) → misuse s t.step.worker t.step.event ≡ o → t.step.worker ≡ p → ends_stretch t.step.event (place_of s t.step.worker) ≡ true
+          → EndsStretch p s t ⊎ (t.step.worker ≡ p → misuse s t.step.worker t.step.event ≡ None → ends_stretch t.step.event (place_of s t.step.worker) ≡ false)
+      by None m e on = inl (record { worker = e; accepted = subst (λ w. misuse s w t.step.event ≡ None) e m; ends_it = subst (λ w. ends_stretch t.step.event (place_of s w) ≡ true) e on })
       by (Some f) m e on = inr (λ q z. absurd (let y : None ≡ Some f = sym z ∙ m in cc))
 
   all_stand : (s : World V) (ts : List (Taken V)) → Holds same always s → AreTaken same always s ts → Lasts s → StandsOn p n s ts

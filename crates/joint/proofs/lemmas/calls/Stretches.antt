@@ -66,10 +66,10 @@ pub record IsBlocked {T J : Type 0} (p : ℕ) (n : Name) (h : List Mark) (s : St
   pub all : (t : ℕ) → WasDeferred h t n → blocks h p t ≡ true
 
 -- whether a step of a participant ends its stretch
-abbrev pub turns : {J : Type 0} → Event → Participant J → Bool
-turns (Begin Unpin) q = nat_le q.guards 1
-turns (Begin _) q = false
-turns Go q = publishes q.phase
+abbrev pub ends_now : {J : Type 0} → Event → Participant J → Bool
+ends_now (Begin Unpin) q = nat_le q.guards 1
+ends_now (Begin _) q = false
+ends_now Go q = publishes q.phase
 
 other : (p who : ℕ) → (who ≡ p → ⊥) → (who == p) ≡ false
 other p who n = elim (cases_Bool (who == p)) [
@@ -101,7 +101,7 @@ module _ {T J : Type 0} (p : ℕ) (n : Name) where
       by false e f = f
       by true e f = absurd (let q : length (place s who).bag ≡ bag_places = eqb-true (length (place s who).bag) bag_places e in omega (arith, q, room))
 
-  marks_begun : (h : List Mark) (s s' : State T J) (who : ℕ) (op : Op) (q : Participant J) → (who ≡ p → turns (Begin op) q ≡ false) → IsBlocked p n h s → Fits (begin_marks who q op h) s' → IsBlocked p n (begin_marks who q op h) s'
+  marks_begun : (h : List Mark) (s s' : State T J) (who : ℕ) (op : Op) (q : Participant J) → (who ≡ p → ends_now (Begin op) q ≡ false) → IsBlocked p n h s → Fits (begin_marks who q op h) s' → IsBlocked p n (begin_marks who q op h) s'
   marks_begun h s s' who Unpin q calm b f = by (nat_le q.guards 1) refl f
     where
       by : (x : Bool) → nat_le q.guards 1 ≡ x → Fits (if x then Unpinned who ∷ h else h) s' → IsBlocked p n (if x then Unpinned who ∷ h else h) s'
@@ -115,13 +115,13 @@ module _ {T J : Type 0} (p : ℕ) (n : Name) where
   marks_gone h s s' who epoch (collector_phase.RepinPublish seen) None calm b f = marked (Repinned who epoch) h s s' (other p who (λ z. false≢true (sym (calm z)))) b f
   marks_gone h s s' who epoch _ None calm b f = record { fits = f; on = b.on; all = b.all }
 
-  marks_moved : (h : List Mark) (s s' : State T J) (who : ℕ) (event : Event) (c : Option (ℕ × Option Name)) → (who ≡ p → turns event (place s who) ≡ false) → IsBlocked p n h s → Fits (moved_marks s who event c h) s' → IsBlocked p n (moved_marks s who event c h) s'
+  marks_moved : (h : List Mark) (s s' : State T J) (who : ℕ) (event : Event) (c : Option (ℕ × Option Name)) → (who ≡ p → ends_now event (place s who) ≡ false) → IsBlocked p n h s → Fits (moved_marks s who event c h) s' → IsBlocked p n (moved_marks s who event c h) s'
   marks_moved h s s' who (Begin op) c calm b f = marks_begun h s s' who op (place s who) calm b f
   marks_moved h s s' who Go c calm b f = marks_gone h s s' who s.epoch (place s who).phase c calm b f
 
   -- a step of the collector leaves what the stretch blocks, unless it ends the stretch
-  pub turned : (h : List Mark) (s : State T J) (who : ℕ) (event : Event) (r : Report) → IsReport s who event r → (who ≡ p → turns event (place s who) ≡ false) → IsBlocked p n h s → IsBlocked p n (marks s who event r h) (after s who event r.outcome)
-  turned h s who event r is calm b = by r.outcome (fits_after h s who event r is b.fits)
+  pub blocked_after : (h : List Mark) (s : State T J) (who : ℕ) (event : Event) (r : Report) → IsReport s who event r → (who ≡ p → ends_now event (place s who) ≡ false) → IsBlocked p n h s → IsBlocked p n (marks s who event r h) (after s who event r.outcome)
+  blocked_after h s who event r is calm b = by r.outcome (fits_after h s who event r is b.fits)
     where
       by : (o : Outcome) → Fits (unless_refused o (moved_marks s who event r.called h) h) (after s who event r.outcome) → IsBlocked p n (unless_refused o (moved_marks s who event r.called h) h) (after s who event r.outcome)
       by (Refused e) f = record { fits = f; on = b.on; all = b.all }

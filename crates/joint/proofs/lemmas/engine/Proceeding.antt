@@ -190,8 +190,8 @@ module _ {V : Type 0} (same : V → V → Bool) (always : Bool) (w : World V) (w
             subst P (sym (fault_is ∙ b.0)) (q ∙ told, is)
 
         -- a call on the collector begins, or is refused for its first cause
-        pub turns : Begun same always w who (Collector op) r w'
-        turns = by_outcome x.outcome refl begins
+        pub begun_collecting : Begun same always w who (Collector op) r w'
+        begun_collecting = by_outcome x.outcome refl begins
 
   -- a call in flight goes on
   go_refused : (noise : Noise Id V) (f : Fault) (r : Report V) → misuse w who (Go noise) ≡ Some f → r ≡ quiet kind.Collection (outcome.Refused (of_fault f)) → Does same always w who (Go noise) (misuse w who (Go noise)) r w

@@ -1,4 +1,4 @@
--- Each node that was made is in one place, by the ledger of the calls.
+-- Each node that was made is in one place, by the notes of the calls.
 use Rattle.std.proofs.Common.{◌≡◌, ℕ, Bool, true, false, refl, sym, ◌∙◌, ap, inl, inr, ◌⊎◌}
 use Rattle.std.specs.Prelude.{Some, slice_get}
 use Rattle.std.proofs.lemmas.Bool.{cases_Bool, false≢true}
