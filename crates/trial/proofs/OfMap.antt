@@ -22,7 +22,7 @@ use Rattle.joint.specs.declared.steps.Target.TheVariants as target
 use Rattle.joint.specs.calls.MapCalls.{Answered as Last, IsPresent, IsComputed}
 use Rattle.joint.specs.Reports.{target, is_in_flight}
 use Rattle.joint.specs.engine.Flying.{no_flights}
-use Rattle.joint.specs.engine.Engine.{World, is_in_flight}
+use Rattle.joint.specs.engine.Engine.{World}
 use Rattle.trial.specs.declared.caller.Caller.{Caller}
 use Rattle.trial.specs.declared.caller.Closure.{Closure}
 use Rattle.trial.specs.declared.caller.Closure.TheVariants as closure

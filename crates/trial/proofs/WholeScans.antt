@@ -16,7 +16,7 @@ use Rattle.joint.specs.calls.MapCalls.{Answered as Last, IsOfScan, IsScanning, P
 use Rattle.joint.specs.Reports.{range_of, target, is_in_flight}
 use Rattle.joint.specs.engine.Flying.{Flights}
 use Rattle.joint.specs.world.World.{Holds}
-use Rattle.joint.specs.engine.Engine.{World, is_in_flight}
+use Rattle.joint.specs.engine.Engine.{World}
 use Rattle.trial.specs.declared.caller.Closure.{Closure}
 use Rattle.trial.specs.declared.open_tree.OpenTree.{OpenTree}
 use Rattle.trial.specs.declared.reply.Reply.TheVariants as reply

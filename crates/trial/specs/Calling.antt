@@ -7,7 +7,7 @@ use Rattle.joint.specs.declared.steps.Outcome.{Outcome}
 use Rattle.joint.specs.declared.steps.Report.{Report}
 use Rattle.joint.specs.Reports.{is_in_flight}
 use Rattle.joint.specs.world.World.{IsStep}
-use Rattle.joint.specs.engine.Engine.{World, is_in_flight}
+use Rattle.joint.specs.engine.Engine.{World}
 use Rattle.trial.specs.declared.caller.Closure.{Closure}
 use Rattle.trial.specs.declared.open_tree.OpenTree.{OpenTree}
 use Rattle.trial.specs.Callers.{fresh, noise_of, after_step, caller_at}
