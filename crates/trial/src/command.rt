@@ -53,7 +53,7 @@ pub enum Command {
     Journal,
     Close,
     /// A whole call.
-    LineCall(u32, LineCall),
+    Call(u32, LineCall),
     /// A call's first step alone.
     Begin(u32, LineCall),
     /// So many further steps of the call in flight.
