@@ -27,9 +27,9 @@ SealsUnder seals q before after = MatchBool seals (IsSomeAnd after (λ b. (q ≤
 abbrev pub ChangesBag : {T J : Type 0} → Handle T J → Handle T J → Type 0
 ChangesBag old new = new ≡ record old { bag = new.bag; seals = record old.seals { queued = new.seals.queued }; knows = new.knows }
 
--- the same under a guard of this seat, which is one of its own
+-- the same under a guard of this row, which is one of its own
 abbrev pub ChangesBagUnder : {T J : Type 0} → Row → Handle T J → Handle T J → Type 0
-ChangesBagUnder seat old new = (owns old.guards old.seat seat ≡ true) × ChangesBag old new
+ChangesBagUnder row old new = (owns old.guards old.row row ≡ true) × ChangesBag old new
 
 -- a full bag was queued, under a guard that has the handle's epoch, and no other one
 abbrev pub SealsFull : {T J : Type 0} → Handle T J → Handle T J → Type 0
@@ -43,7 +43,7 @@ PutsOff work old new = new.bag ≡ with_room old.bag ++ record { ticket = 0; wor
 abbrev pub LacksRoom : {T J : Type 0} → Handle T J → Fault → Type 0
 LacksRoom old fault = (fault ≡ Memory) × (bag_places ≤ length old.bag)
 
--- a call is refused as Foreign where the guard of this seat is another handle's, and else for this cause; what the handle knows
+-- a call is refused as Foreign where the guard of this row is another handle's, and else for this cause; what the handle knows
 -- may be more, and the rest is as before
 abbrev pub IsRefusedUnder : {T J : Type 0} → Row → Type 0 → Fault → Handle T J → Handle T J → Type 0
-IsRefusedUnder seat cause fault old new = (new ≡ record old { knows = new.knows }) × MatchBool (owns old.guards old.seat seat) cause (fault ≡ Foreign)
+IsRefusedUnder row cause fault old new = (new ≡ record old { knows = new.knows }) × MatchBool (owns old.guards old.row row) cause (fault ≡ Foreign)
