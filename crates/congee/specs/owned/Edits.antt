@@ -32,7 +32,7 @@ module _ {P A K : Type 0} where
 
   -- a leaf for the key forks off with the value: it comes in, and a node over it and over what hung there, both of the least form;
   -- the budget isn't touched
-  pub record ForksOff (old new : Arena P A) (key : List ℕ) (value : P) : Type 0 where
+  pub record ForksOff (old new : Arena P A K) (key : List ℕ) (value : P) : Type 0 where
     pub tree : IsTree new.nodes
     pub change : MapChange old.nodes new.nodes key None (Some value)
     pub bytes : bytes_of new.nodes ≡ bytes_of old.nodes + size_of N4 + size_of N4
