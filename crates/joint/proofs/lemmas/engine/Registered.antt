@@ -21,6 +21,7 @@ use Rattle.joint.specs.nodes.View.{view, id_number}
 use Rattle.joint.proofs.lemmas.engine.Filing.{filed_registered}
 use Rattle.joint.proofs.lemmas.engine.ReachMoments.{was_in}
 use Rattle.joint.proofs.lemmas.engine.InReach.{never}
+use Rattle.joint.proofs.lemmas.nodes.SlotViews.{slot_view}
 
 abbrev is_gift : Act → Type 0
 is_gift Quiet = ⊥
