@@ -62,6 +62,10 @@ pub use Rattle.congee.proofs.lemmas.Keys.{standing_changed}
 pub use Rattle.congee.proofs.lemmas.protocol.Leftovers.{kept_node}
 -- and what isn't a node isn't
 pub use Rattle.congee.proofs.lemmas.protocol.Leftovers.{kept_value}
+-- what stands in a list of which one place was set: the new there, and elsewhere what stood
+pub use Rattle.congee.proofs.lemmas.protocol.Owners.{get_set}
+-- in the place that was set the new stands
+pub use Rattle.congee.proofs.lemmas.protocol.Owners.{set_here}
 -- a call owns the nodes that it has locked
 pub use Rattle.congee.proofs.lemmas.protocol.Owners.{locks_owned}
 -- what a call has made is as it was made

@@ -69,7 +69,8 @@ unlink_graft a h a' h' n m key v k =
       parents = λ x l w l'. rw (k.notes x (apart x w)) refl;
     }
 
-gone_not : (a' : ℕ → Note) (x m : ℕ) → (a' m).status ≢ Linked → (a' x).status ≡ Linked → x ≢ m
+-- what is in the tree isn't what left it
+pub gone_not : (a' : ℕ → Note) (x m : ℕ) → (a' m).status ≢ Linked → (a' x).status ≡ Linked → x ≢ m
 gone_not a' x m g l e = g (let P : ℕ → Type 0 = λ y. (a' y).status ≡ Linked in subst P e l)
 
 -- the nodes are a tree after a leaf went out

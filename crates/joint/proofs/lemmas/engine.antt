@@ -17,6 +17,7 @@ pub mod SoundOpening
 pub mod PlainTells
 pub mod PuttingAway
 pub mod ReachMoments
+pub mod InReach
 pub mod Recounting
 pub mod Registered
 pub mod Reported

@@ -1,8 +1,7 @@
 -- What insertions and removals leave of nodes that have enough children.
-use Rattle.std.proofs.Common.{◌≡◌, ◌≢◌, ℕ, suc, ◌+◌, ◌<◌, ◌≤◌, ◌==◌, inl, inr, Bool, true, false, cond, List, length, get_or, refl, sym, ap, subst, ◌∙◌, arith}
+use Rattle.std.proofs.Common.{◌≡◌, ◌≢◌, ℕ, suc, ◌+◌, ◌<◌, ◌≤◌, inl, inr, Bool, true, false, cond, List, length, get_or, refl, sym, ap, subst, ◌∙◌, arith}
 use Rattle.std.specs.Prelude.{None, Some}
 use Rattle.std.specs.FinMap as map
-use Rattle.std.proofs.lemmas.Bool.Decides.{nat_tests}
 use Rattle.std.proofs.lemmas.List.{length-take}
 use Rattle.slab.specs.Slab.{get, ContainsKey}
 use Rattle.congee.specs.forms.Forms.{Becomes, capacity_of, children_of, form_of, is_full_of, next_form, prefix_of, size_of}
@@ -29,15 +28,13 @@ use Rattle.congee.proofs.lemmas.owned.Hangings.{Forked, forked_at}
 use Rattle.congee.proofs.lemmas.owned.Lifting.{moved_apart}
 use Rattle.congee.proofs.lemmas.owned.Moves.{differs_insert, node_at}
 use Rattle.congee.proofs.lemmas.owned.Removing.{lesser_read}
+use Rattle.congee.proofs.lemmas.Fits.{equal_of_test}
 
 -- a full form has as many children as it can have
-equal_by : (n m : ℕ) → n == m ≡ true → n ≡ m
-equal_by n m e = grind (arith, nat_tests)
-
 full_capacity : (form : NodeType) (n : ℕ) → full_at form n ≡ true → n ≡ capacity_of form
-full_capacity N4 n e = equal_by n 4 e
-full_capacity N16 n e = equal_by n 16 e
-full_capacity N48 n e = equal_by n 48 e
+full_capacity N4 n e = equal_of_test n 4 e
+full_capacity N16 n e = equal_of_test n 16 e
+full_capacity N48 n e = equal_of_test n 48 e
 full_capacity N256 n e = absurd (let z : false ≡ true = e in cc)
 
 module _ {P : Type 0} where

@@ -7,6 +7,7 @@ use Rattle.congee.proofs.lemmas.Fits.{fits_byte, same_key}
 use Rattle.congee.proofs.lemmas.Tree.{same_or_not, walk_enters, value_at_linked, of_child_same}
 use Rattle.congee.proofs.lemmas.Graft.{Graft, old_down, old_leaves, old_up, walk_untouched, on_test}
 use Rattle.congee.proofs.lemmas.Link.{Leaf, leaf_no_node, leaf_value, leaf_other, child_moved, not_here, link_other, fits_between}
+use Rattle.congee.proofs.lemmas.Unlink.{gone_not}
 
 -- the child more: a value in a leaf, or a new leaf d below an inner node
 pub data Extra {V : Type 0} (a' : ℕ → Note) (h' : ℕ → Node V) (c d : ℕ) (key : List ℕ) (v : V) : Type 0 where
@@ -37,9 +38,6 @@ pub record Grows {V : Type 0} (a : ℕ → Note) (h : ℕ → Node V) (a' : ℕ 
   pub parents_moved : (x : ℕ) → (a x).status ≡ Linked → (a x).parent ≡ m → (a' x).parent ≡ c
   pub nodes : (x : ℕ) → x ≢ c → x ≢ d → x ≢ n → x ≢ m → h' x ≡ h x
 
-grow_left : (a' : ℕ → Note) (x m : ℕ) → (a' m).status ≢ Linked → (a' x).status ≡ Linked → x ≢ m
-grow_left a' x m g l e = g (let P : ℕ → Type 0 = λ y. (a' y).status ≡ Linked in subst P e l)
-
 grow_stays : {V : Type 0} (a : ℕ → Note) (h : ℕ → Node V) (a' : ℕ → Note) (h' : ℕ → Node V) (n m c d : ℕ) (key : List ℕ) (v : V) → Grows a h a' h' n m c d key v
     → (x : ℕ) → (a x).status ≡ Linked → x ≢ m → (a' x).status ≡ Linked
 grow_stays a h a' h' n m c d key v k x l ne = k.notes x (link_other a x c l k.unlinked) (link_other a x d l k.unlinked_leaf) ne ∙ l
@@ -57,10 +55,10 @@ grow_graft a h a' h' n m c d key v k =
           | inr r ↦ rw (k.nodes x (link_other a x c l k.unlinked) (link_other a x d l k.unlinked_leaf) q r) refl
         ]
       ];
-      others = λ x b l l' q. rw (k.nodes x (link_other a x c l k.unlinked) (link_other a x d l k.unlinked_leaf) q (grow_left a' x m k.left l')) refl;
+      others = λ x b l l' q. rw (k.nodes x (link_other a x c l k.unlinked) (link_other a x d l k.unlinked_leaf) q (gone_not a' x m k.left l')) refl;
       beside = k.beside;
       stays = λ x l w. grow_stays a h a' h' n m c d key v k x l (apart x w);
-      parents = λ x l w l'. k.parents_same x (link_other a x c l k.unlinked) (link_other a x d l k.unlinked_leaf) (apart x w) (grow_left a' (a x).parent m k.left l');
+      parents = λ x l w l'. k.parents_same x (link_other a x c l k.unlinked) (link_other a x d l k.unlinked_leaf) (apart x w) (gone_not a' (a x).parent m k.left l');
     }
 
 -- the children of the greater node
@@ -154,7 +152,7 @@ pub grow_tree : {V : Type 0} (a : ℕ → Note) (h : ℕ → Node V) (a' : ℕ �
 grow_tree a h a' h' n m c d key v t k =
     let g : Graft a h a' h' n (get_or key (length (h n).prefix) 0) = grow_graft a h a' h' n m c d key v k in
     let i : IsChild a h n (get_or key (length (h n).prefix) 0) m = t.down n _ m k.linked k.hung in
-    let was : (x : ℕ) → x ≢ c → x ≢ d → (a' x).status ≡ Linked → (a x).status ≡ Linked = λ x nc nd l. sym (k.notes x nc nd (grow_left a' x m k.left l)) ∙ l in
+    let was : (x : ℕ) → x ≢ c → x ≢ d → (a' x).status ≡ Linked → (a x).status ≡ Linked = λ x nc nd l. sym (k.notes x nc nd (gone_not a' x m k.left l)) ∙ l in
     let root : 0 ≢ m = (λ e. let z : length (h 0).prefix ≡ length (h m).prefix = ap (λ y. length (h y).prefix) e in
     let y : length (h 0).prefix ≡ 0 = ap length t.empty in absurd (omega (arith, i.longer))) in
     let parent_stays : (a' n).status ≡ Linked = grow_stays a h a' h' n m c d key v k n k.linked
@@ -207,7 +205,7 @@ grow_tree a h a' h' n m c d key v t k =
                     let q : (a' x).parent ≡ c = k.parents_moved x w p in
                     record { linked = rw q k.joined; byte = u.byte; holds = rw q (k.copied u.byte off ∙ f) })
                 | inr q ↦ old_up a h a' h' n _ t k.linked g x w ne
-                    (λ y. let z : Below m ≡ Below x = sym k.hung ∙ y in grow_left a' x m k.left l (sym cc))
+                    (λ y. let z : Below m ≡ Below x = sym k.hung ∙ y in gone_not a' x m k.left l (sym cc))
                     (grow_stays a h a' h' n m c d key v k (a x).parent u.linked q)
               ])
         ]

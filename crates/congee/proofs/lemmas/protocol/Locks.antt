@@ -7,7 +7,6 @@ use Rattle.congee.specs.declared.protocol.store.Upgrade.TheVariants.{Locked, Fai
 use Rattle.congee.specs.declared.protocol.phase.Kind.{Kind}
 use Rattle.congee.specs.declared.protocol.phase.Parent.{Parent}
 use Rattle.congee.specs.declared.protocol.phase.Single.{Single}
-use Rattle.congee.specs.declared.protocol.phase.Single.TheVariants.{Set, Link}
 use Rattle.congee.specs.declared.protocol.phase.One.{One}
 use Rattle.congee.specs.declared.protocol.phase.Double.{Double}
 use Rattle.congee.specs.declared.protocol.phase.Double.TheVariants.{Unlink, Grow, GrowLink, Split, Shrink, Collapse, ShrinkAbove}
@@ -22,7 +21,7 @@ use Rattle.congee.specs.Keys.{key_bytes}
 use Rattle.congee.specs.Notes.{Note, Linked, Gone, is_published, IsChild, Tree, LockWords}
 use Rattle.congee.specs.protocol.Protocol.{Rely, Holding, Fresh, ChildOf, Made, PlacedOne, WantedOne, MadeOne, PlacedTwo, WantedTwo, MadeTwo, TwoKnown, AboveLocked, TopLocked, AlsoOut, HalfLocked, Known, Effect}
 use Rattle.congee.proofs.lemmas.Fits.{both_true}
-use Rattle.congee.proofs.lemmas.protocol.Rely.{fresh_kept, child_kept}
+use Rattle.congee.proofs.lemmas.protocol.Rely.{fresh_kept, child_kept, made_one_kept, made_two_kept}
 use Rattle.congee.proofs.lemmas.protocol.Touch.{noted_same, noted_other, with_owner, owned, taken_linked}
 use Rattle.congee.proofs.lemmas.protocol.Words.{KeepsMap, lock_still, unlock_still, obsolete_still, retire_still}
 use Rattle.congee.proofs.lemmas.protocol.Change.{made_apart}
@@ -77,21 +76,10 @@ module _ {C V : Type 0} (number : C → ℕ) (i : ℕ) (a : ℕ → Note) (h : �
   made_on c size least m = let ne : c ≢ n = made_apart i a h key c size least n m o.published in made_same i a h a' h' key c size least (o.nodes c ne) (o.notes c ne) m
 
   made_one_on : (change : Single C) → MadeOne number i a h key change → MadeOne number i a' h' key change
-  made_one_on Set m = tt
-  made_one_on (Link leaf) m = made_on (number leaf) 7 0 m
+  made_one_on = made_one_kept number i a h a' h' key made_on
 
   made_two_on : (p : Parent C) (change : Double C) (size size' q : ℕ) → size' ≡ size → MadeTwo number i a h key p change size q → MadeTwo number i a' h' key p change size' q
-  made_two_on p Unlink size size' q e m = tt
-  made_two_on p Collapse size size' q e m = m
-  made_two_on p (Shrink c) size size' q e m = let P : ℕ → Type 0 = λ x. Made i a' h' key (number c) x q in subst P (sym e) (made_on (number c) size q m)
-  made_two_on p (ShrinkAbove c) size size' q e m = (made_on (number c) p.depth q m.0, m.1)
-  made_two_on p (Grow c) size size' q e m = let P : ℕ → Type 0 = λ x. Made i a' h' key (number c) x q in subst P (sym e) (made_on (number c) size q m)
-  made_two_on p (GrowLink c leaf byte) size size' q e m = (
-    (let P : ℕ → Type 0 = λ x. Made i a' h' key (number c) x q in subst P (sym e) (made_on (number c) size q m.0)),
-    made_on (number leaf) 7 0 m.1,
-    m.2,
-  )
-  made_two_on p (Split top leaf common byte) size size' q e m = (made_on (number top) common 1 m.0, made_on (number leaf) 7 0 m.1, m.2)
+  made_two_on = made_two_kept number i a h a' h' key made_on
 
   -- a locked node, but for this one, and what it holds
   above_on : (p : Parent C) (m : ℕ) → number p.stamp.node ≢ n → AboveLocked number i a h key p m → AboveLocked number i a' h' key p m

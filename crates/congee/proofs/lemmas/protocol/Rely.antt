@@ -5,10 +5,8 @@ use Rattle.congee.specs.declared.protocol.phase.Parent.{Parent}
 use Rattle.congee.specs.declared.protocol.phase.Above.{Above as Over}
 use Rattle.congee.specs.declared.protocol.phase.Site.{Site}
 use Rattle.congee.specs.declared.protocol.phase.Single.{Single}
-use Rattle.congee.specs.declared.protocol.phase.Single.TheVariants.{Set, Link}
 use Rattle.congee.specs.declared.protocol.phase.One.{One}
 use Rattle.congee.specs.declared.protocol.phase.Double.{Double}
-use Rattle.congee.specs.declared.protocol.phase.Double.TheVariants.{Unlink, Grow, GrowLink, Split, Shrink, Collapse, ShrinkAbove}
 use Rattle.congee.specs.declared.protocol.phase.Two.{Two}
 use Rattle.congee.specs.declared.protocol.phase.Plan.{Plan}
 use Rattle.congee.specs.declared.protocol.phase.Plan.TheVariants.{Here, Above}
@@ -19,11 +17,35 @@ use Rattle.congee.specs.declared.protocol.store.Stamp.{Stamp}
 use Rattle.congee.specs.Heap.{Node, Hung}
 use Rattle.congee.specs.protocol.Events.{hung, Parts}
 use Rattle.congee.specs.Notes.{Note}
-use Rattle.congee.specs.protocol.Protocol.{ChildOf, IsFar, IsAbove, TopLocked, AlsoOut, AlsoHolding, IsLesser, Knows, Made, PlacedOne, WantedOne, MadeOne, OneKnown, OneLocked, PlacedTwo, WantedTwo, MadeTwo, TwoKnown, AboveLocked, HalfLocked, TwoLocked, TakenOut, StampedIf, PlanKnown, MadeLeafFor, Known, Rely}
+use Rattle.congee.specs.protocol.Protocol.{ChildOf, IsFar, IsAbove, TopLocked, AlsoOut, AlsoHolding, IsLesser, Knows, PlacedOne, WantedOne, OneKnown, OneLocked, PlacedTwo, WantedTwo, TwoKnown, AboveLocked, HalfLocked, TwoLocked, TakenOut, StampedIf, PlanKnown, MadeLeafFor, Known, Rely, Made, MadeOne, MadeTwo}
 use Rattle.congee.specs.protocol.Names.{name_above, names_over, name_stamped, name_made, names_site, names_one, names_plan, names}
+use Rattle.congee.specs.declared.protocol.phase.Double.TheVariants.{Collapse, Grow, GrowLink, Shrink, ShrinkAbove, Split, Unlink}
+use Rattle.congee.specs.declared.protocol.phase.Single.TheVariants.{Link, Set}
 use Rattle.congee.proofs.lemmas.protocol.Each.{Each, each_left, each_right}
 pub use Rattle.congee.proofs.lemmas.protocol.Stamps.{stamped_kept, fresh_kept, fits_kept, holding_kept, made_kept}
 use Rattle.congee.proofs.lemmas.protocol.ScanRely.{scan_known_kept}
+
+module _ {C V : Type 0} (number : C → ℕ) (i : ℕ) (a : ℕ → Note) (h : ℕ → Node V) (a' : ℕ → Note) (h' : ℕ → Node V) (key : List ℕ)
+    (kept : (c size least : ℕ) → Made i a h key c size least → Made i a' h' key c size least) where
+  -- where made nodes stay made, so do those of a plan that changes one node
+  pub made_one_kept : (change : Single C) → MadeOne number i a h key change → MadeOne number i a' h' key change
+  made_one_kept Set m = tt
+  made_one_kept (Link leaf) m = kept (number leaf) 7 0 m
+
+  -- and those of one that changes two, with the size that it knows
+  pub made_two_kept : (p : Parent C) (change : Double C) (size size' q : ℕ) → size' ≡ size → MadeTwo number i a h key p change size q → MadeTwo number i a' h' key p change size' q
+  made_two_kept p Unlink size size' q e m = tt
+  made_two_kept p Collapse size size' q e m = m
+  made_two_kept p (Shrink c) size size' q e m = let P : ℕ → Type 0 = λ x. Made i a' h' key (number c) x q in subst P (sym e) (kept (number c) size q m)
+  made_two_kept p (ShrinkAbove c) size size' q e m = (kept (number c) p.depth q m.0, m.1)
+  made_two_kept p (Grow c) size size' q e m = let P : ℕ → Type 0 = λ x. Made i a' h' key (number c) x q in subst P (sym e) (kept (number c) size q m)
+  made_two_kept p (GrowLink c leaf byte) size size' q e m = (
+    (let P : ℕ → Type 0 = λ x. Made i a' h' key (number c) x q in subst P (sym e) (kept (number c) size q m.0)),
+    kept (number leaf) 7 0 m.1,
+    m.2,
+  )
+  made_two_kept p (Split top leaf common byte) size size' q e m =
+      (kept (number top) common 1 m.0, kept (number leaf) 7 0 m.1, m.2)
 
 module _ {C V : Type 0} (number : C → ℕ) (key : List ℕ) (K : ℕ → Type 0) (i : ℕ) (a : ℕ → Note) (h : ℕ → Node V) (a' : ℕ → Note) (h' : ℕ → Node V) (r : Rely K i a h a' h') where
   -- that a node was read in the one above stays known over the steps of others
@@ -58,24 +80,6 @@ module _ {C V : Type 0} (number : C → ℕ) (key : List ℕ) (K : ℕ → Type 
         fresh = fresh_kept K i a h a' h' r (number s.at.node) s.at.version _ k w.fresh;
       }
 
-  made_one_kept : (change : Single C) → MadeOne number i a h key change → MadeOne number i a' h' key change
-  made_one_kept Set m = tt
-  made_one_kept (Link leaf) m = made_kept K i a h a' h' r key (number leaf) 7 0 m
-
-  made_two_kept : (p : Parent C) (change : Double C) (size size' q : ℕ) → size' ≡ size → MadeTwo number i a h key p change size q → MadeTwo number i a' h' key p change size' q
-  made_two_kept p Unlink size size' q e m = tt
-  made_two_kept p Collapse size size' q e m = m
-  made_two_kept p (Shrink c) size size' q e m = let P : ℕ → Type 0 = λ x. Made i a' h' key (number c) x q in subst P (sym e) (made_kept K i a h a' h' r key (number c) size q m)
-  made_two_kept p (ShrinkAbove c) size size' q e m = (made_kept K i a h a' h' r key (number c) p.depth q m.0, m.1)
-  made_two_kept p (Grow c) size size' q e m = let P : ℕ → Type 0 = λ x. Made i a' h' key (number c) x q in subst P (sym e) (made_kept K i a h a' h' r key (number c) size q m)
-  made_two_kept p (GrowLink c leaf byte) size size' q e m = (
-    (let P : ℕ → Type 0 = λ x. Made i a' h' key (number c) x q in subst P (sym e) (made_kept K i a h a' h' r key (number c) size q m.0)),
-    made_kept K i a h a' h' r key (number leaf) 7 0 m.1,
-    m.2,
-  )
-  made_two_kept p (Split top leaf common byte) size size' q e m =
-      (made_kept K i a h a' h' r key (number top) common 1 m.0, made_kept K i a h a' h' r key (number leaf) 7 0 m.1, m.2)
-
   placed_one_kept : (change : Single C) (byte : ℕ) (p p' : List ℕ) → p' ≡ p → PlacedOne key change byte p → PlacedOne key change byte p'
   placed_one_kept change byte p p' e x = let P : List ℕ → Type 0 = λ y. PlacedOne key change byte y in subst P (sym e) x
 
@@ -86,7 +90,7 @@ module _ {C V : Type 0} (number : C → ℕ) (key : List ℕ) (K : ℕ → Type 
   one_kept one x k o = record {
     placed = placed_one_kept one.change one.byte _ _ (r.prefix (number one.at.node) k o.fresh.stamped.published) o.placed;
     fresh = fresh_kept K i a h a' h' r (number one.at.node) one.at.version _ k o.fresh;
-    made = made_one_kept one.change o.made;
+    made = made_one_kept number i a h a' h' key (made_kept K i a h a' h' r key) one.change o.made;
   }
 
   one_locked_kept : (one : One C) (x : Hung V) → OneLocked number i a h key one x → OneLocked number i a' h' key one x
@@ -96,7 +100,7 @@ module _ {C V : Type 0} (number : C → ℕ) (key : List ℕ) (K : ℕ → Type 
         holding = holding_kept K i a h a' h' r (number one.at.node) o.holding;
         placed = placed_one_kept one.change one.byte _ _ (ap (λ z. z.prefix) e) o.placed;
         wanted = (let P : Node V → Type 0 = λ z. WantedOne key x z in subst P (sym e) o.wanted);
-        made = made_one_kept one.change o.made;
+        made = made_one_kept number i a h a' h' key (made_kept K i a h a' h' r key) one.change o.made;
       }
 
   above_locked_kept : (p : Parent C) (n : ℕ) → AboveLocked number i a h key p n → AboveLocked number i a' h' key p n
@@ -124,7 +128,7 @@ module _ {C V : Type 0} (number : C → ℕ) (key : List ℕ) (K : ℕ → Type 
         above = child_kept two.above (number two.at.node) kp o.above;
         placed = placed_two_kept two.change _ _ e o.placed;
         fresh = fresh_kept K i a h a' h' r (number two.at.node) two.at.version _ k o.fresh;
-        made = made_two_kept two.above two.change _ _ q (ap length e) o.made;
+        made = made_two_kept number i a h a' h' key (made_kept K i a h a' h' r key) two.above two.change _ _ q (ap length e) o.made;
       }
 
   half_kept : (two : Two C) (found : Option V) (q : ℕ) → K (number two.at.node) → HalfLocked number i a h key two found q → HalfLocked number i a' h' key two found q
@@ -135,7 +139,7 @@ module _ {C V : Type 0} (number : C → ℕ) (key : List ℕ) (K : ℕ → Type 
         above = above_locked_kept two.above (number two.at.node) o.above;
         placed = placed_two_kept two.change _ _ e o.placed;
         fresh = fresh_kept K i a h a' h' r (number two.at.node) two.at.version _ k o.fresh;
-        made = made_two_kept two.above two.change _ _ q (ap length e) o.made;
+        made = made_two_kept number i a h a' h' key (made_kept K i a h a' h' r key) two.above two.change _ _ q (ap length e) o.made;
       }
 
   two_locked_kept : (two : Two C) (found : Option V) (q : ℕ) → TwoLocked number i a h key two found q → TwoLocked number i a' h' key two found q
@@ -147,7 +151,7 @@ module _ {C V : Type 0} (number : C → ℕ) (key : List ℕ) (K : ℕ → Type 
         owner = e.2 ∙ o.owner;
         placed = placed_two_kept two.change _ _ (ap (λ z. z.prefix) e.0) o.placed;
         wanted = (let P : Node V → Type 0 = λ z. WantedTwo key two.change found q z in subst P (sym e.0) o.wanted);
-        made = made_two_kept two.above two.change _ _ q (ap (λ z. length z.prefix) e.0) o.made;
+        made = made_two_kept number i a h a' h' key (made_kept K i a h a' h' r key) two.above two.change _ _ q (ap (λ z. length z.prefix) e.0) o.made;
       }
 
   taken_kept : (p n : ℕ) → TakenOut i a h p n → TakenOut i a' h' p n

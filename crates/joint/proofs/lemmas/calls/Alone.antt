@@ -1,5 +1,5 @@
 -- A call that is taken alone comes nearer to its end with each step.
-use Rattle.std.proofs.Common.{◌≡◌, ◌<◌, ◌≤◌, ℕ, zero, suc, ◌+◌, ◌*◌, ◌-◌, arith, Bool, true, false, List, [], ◌∷◌, length, take, refl, sym, ◌∙◌, ap, subst, inl, inr}
+use Rattle.std.proofs.Common.{◌≡◌, ◌<◌, ◌≤◌, ℕ, ◌+◌, ◌*◌, ◌-◌, arith, Bool, true, false, List, [], ◌∷◌, length, take, refl, sym, ◌∙◌, ap, subst, inl, inr}
 use Rattle.std.proofs.Math.ListN.{set}
 use Rattle.std.specs.Prelude.{Option, None, Some, slice_get, if◌then◌else◌}
 use Rattle.std.proofs.lemmas.Bool.{false≢true}
@@ -47,12 +47,14 @@ use Rattle.joint.specs.engine.Sound.{IsUnderWay}
 use Rattle.joint.specs.nodes.View.{id_number}
 use Rattle.joint.specs.world.World.{Holds, IsStep, StepsUnless, finds_journal_full}
 use Rattle.joint.specs.engine.Engine.{World, EngineHolds, BeginsAt, Collects, Does, EntersUnless, Enters, GoesAt, GoesOnReserving, Reserves, Surveys, Walks, engine_of, finds_none, is_busy, misuse, reserving}
-use Rattle.joint.proofs.lemmas.engine.Collecting.{get_set_either, get_inside, inside_machines, set_here}
+use Rattle.joint.proofs.lemmas.engine.Collecting.{get_inside, inside_machines}
 use Rattle.joint.proofs.lemmas.engine.Entering.{begin_within, begins_idle}
 use Rattle.joint.proofs.lemmas.engine.Reported.{may_go}
 use Rattle.joint.proofs.lemmas.engine.Reserving.{next_here}
 use Rattle.joint.proofs.lemmas.engine.Telling.{survey_ends}
 use Rattle.joint.proofs.lemmas.engine.Walking as walking
+use Rattle.joint.proofs.lemmas.calls.Rounds.{taken_front}
+use Rattle.congee.proofs.Laws.{get_set, set_here}
 
 -- the steps that a worker's call takes at most from here on
 abbrev left_of : {V : Type 0} → Nodes V → ℕ → Option (InFlight V) → Option (Machine Id V) → ℕ
@@ -113,7 +115,7 @@ module _ {V : Type 0} where
 
   -- the calls of others stay
   unlocked_set : (who : ℕ) (ms ms' : List (Machine Id V)) (m : Machine Id V) → ms' ≡ set ms who m → NoOtherLocks id_number who ms → NoOtherLocks id_number who ms'
-  unlocked_set who ms ms' m e free j n k ne at locked = elim (get_set_either ms who j m k (subst (λ xs. slice_get xs j ≡ Some k) e at)) [
+  unlocked_set who ms ms' m e free j n k ne at locked = elim (get_set ms who j m k (subst (λ xs. slice_get xs j ≡ Some k) e at)) [
     | inl x ↦ absurd (ne x.0)
     | inr x ↦ free j n k ne x.1 locked
   ]
@@ -366,12 +368,6 @@ module _ {V : Type 0} (same : V → V → Bool) (always : Bool) (laws : CallLaws
       taken_by : StepsUnless same always false s (record { worker = w; event = Begin o }) t.report t.after → ((k : ℕ) × Alone t.after w k × (k + 2 ≤ steps_alone s o)) × (misuse s w (Begin o) ≡ None)
       taken_by x = begun_by (misuse s w (Begin o)) x.told refl x.engine.does (sym (ap (λ y. is_in_flight y.outcome) x.report) ∙ on)
 
-  taken_front : (s : World V) (n : ℕ) (ts : List (Taken V)) → AreTaken same always s ts → AreTaken same always s (take n ts)
-  taken_front s zero [] x = tt
-  taken_front s zero (t ∷ ts) x = tt
-  taken_front s (suc n) [] x = tt
-  taken_front s (suc n) (t ∷ ts) x = (x.0, taken_front t.after n ts x.1)
-
   -- a call that begins while no other holds a lock isn't in flight after so many steps of its own alone
   pub ends_here : (s : World V) (t : Taken V) (ts : List (Taken V)) (w : ℕ) (o : Op V) → Holds same always s → AreTaken same always s (t ∷ ts) → t.step ≡ record { worker = w; event = Begin o } → OthersUnlocked s w → AreNext w t.after ts → AllInFlight (t ∷ ts) → length (t ∷ ts) < steps_alone s o
   ends_here s t ts w o h x e free next on =
@@ -382,4 +378,4 @@ module _ {V : Type 0} (same : V → V → Bool) (always : Bool) (laws : CallLaws
   -- so ends each call that begins in a run
   pub all_end_alone : (s : World V) (ts : List (Taken V)) → Holds same always s → AreTaken same always s ts → AllEndAlone s ts
   all_end_alone s [] h x = tt
-  all_end_alone s (t ∷ ts) h x = ((λ w n o e free next on. ends_here s t (take n ts) w o h (x.0, taken_front t.after n ts x.1) e free next on), all_end_alone t.after ts x.0.holds x.1)
+  all_end_alone s (t ∷ ts) h x = ((λ w n o e free next on. ends_here s t (take n ts) w o h (x.0, taken_front same always t.after n ts x.1) e free next on), all_end_alone t.after ts x.0.holds x.1)

@@ -1,5 +1,5 @@
 -- A call that is taken alone ends within its number of steps, by what its worker was told.
-use Rattle.std.proofs.Common.{◌≡◌, ◌==◌, ◌<◌, ℕ, zero, suc, Bool, true, false, List, [], ◌∷◌, take, refl, sym, ◌∙◌, ap, subst, inl, inr}
+use Rattle.std.proofs.Common.{◌≡◌, ◌==◌, ◌<◌, ℕ, Bool, true, false, List, [], ◌∷◌, take, refl, sym, ◌∙◌, ap, subst, inl, inr}
 use Rattle.std.specs.Prelude.{Option, None, Some, slice_get}
 use Rattle.std.proofs.lemmas.Bool.{false≢true}
 use Rattle.judge.specs.declared.journal.Reply.{Reply}
@@ -54,6 +54,7 @@ use Rattle.joint.proofs.lemmas.world.JournalPlaces.{asks_here}
 use Rattle.joint.proofs.lemmas.world.Requested.{asks}
 use Rattle.joint.proofs.lemmas.engine.Telling.{survey_ends}
 use Rattle.joint.proofs.lemmas.calls.Wanted.{step_wants, of_collector}
+use Rattle.joint.proofs.lemmas.calls.Rounds.{taken_front}
 use Rattle.std.proofs.lemmas.Option.{slice_get_within}
 
 module _ {V : Type 0} where
@@ -232,12 +233,6 @@ module _ {V : Type 0} (same : V → V → Bool) (always : Bool) where
           let c = get_inside s.calls w (subst (λ i. w < i) h.0.machines (slice_get_within s.machines w m at)) in
           flying c.0 (place_of s w) m (fs w) e (h.0.each w c.0 m c.1 at) (fl.each w c.0 m c.1 at)
 
-  taken_front : (s : World V) (n : ℕ) (ts : List (Taken V)) → AreTaken same always s ts → AreTaken same always s (take n ts)
-  taken_front s zero [] x = tt
-  taken_front s zero (t ∷ ts) x = tt
-  taken_front s (suc n) [] x = tt
-  taken_front s (suc n) (t ∷ ts) x = (x.0, taken_front t.after n ts x.1)
-
   accepted_kind : (o : Op V) (fs : Flights V) (m : Pairs V) (p : Point V) (told : Outcome V) (l : Line V) (fs' : Flights V) → target o ≡ target.Tree p → is_in_flight told ≡ true → BeginsOr fs m p told l fs' → Kinded o (fs' l.step.worker)
   accepted_kind o fs m p (Refused e) l fs' t on x = absurd (false≢true on)
   accepted_kind o fs m p (Done d) l fs' t on x = absurd (false≢true on)
@@ -272,7 +267,7 @@ module _ {V : Type 0} (same : V → V → Bool) (always : Bool) where
   pub all_told : (s : World V) (ts : List (Taken V)) → Holds same always s → AreTaken same always s ts → AllEndAlone s ts → AllEndAloneTold s ts
   all_told s [] h x all = tt
   all_told s (t ∷ ts) h x all = (
-    (λ w n o e free next on. all.0 w n o e free (first_told s t (take n ts) w o h x.0 (taken_front t.after n ts x.1) e on.0 next) on),
+    (λ w n o e free next on. all.0 w n o e free (first_told s t (take n ts) w o h x.0 (taken_front same always t.after n ts x.1) e on.0 next) on),
     all_told t.after ts x.0.holds x.1 all.1,
   )
 

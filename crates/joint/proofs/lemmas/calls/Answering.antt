@@ -8,7 +8,6 @@ use Rattle.congee.specs.declared.protocol.machine.Noise.{Noise}
 use Rattle.congee.specs.declared.protocol.machine.Outcome.{Outcome as Moved}
 use Rattle.congee.specs.declared.protocol.machine.Outcome.TheVariants as moved
 use Rattle.congee.specs.declared.protocol.op.Op.{Op as Point}
-use Rattle.congee.specs.declared.protocol.op.Op.TheVariants as point
 use Rattle.congee.specs.declared.protocol.phase.Kind.{Kind}
 use Rattle.congee.specs.protocol.Play.{Flight, Pending, Decided, Over, Unbegun, Scanning, Question, Unasked, Undecided, Concludes, value_answered, resolved, begun, flight, parts}
 use Rattle.joint.specs.declared.id.Id.{Id}
@@ -25,8 +24,7 @@ use Rattle.joint.specs.Reports.{target, told, is_in_flight}
 use Rattle.joint.specs.calls.Runs.{IsMapRun}
 use Rattle.joint.specs.world.MapSteps.{EventMap, GoMap, PendingStep, BeginMap, BeginsOr, Line}
 use Rattle.joint.specs.engine.Flying.{Flights, with_flight}
-use Rattle.joint.specs.world.World.{IsOnKey}
-use Rattle.joint.proofs.lemmas.world.Flights.{ends_stays, flight_here, flight_apart}
+use Rattle.joint.proofs.lemmas.world.Flights.{ends_stays, flight_here, flight_apart, begins_pending}
 use Rattle.congee.proofs.Laws.{both_true}
 
 either_by : (b : Bool) (A B : Type 0) → (b ≡ true → A) → (b ≡ false → B) → Either b A B
@@ -132,17 +130,6 @@ module _ {V : Type 0} (same : V → V → Bool) where
       pending_on k kd v q w m l ls f true is on after x =
           let P : Outcome V → Type 0 = λ o. GoesOrAnswers x.entry.reply o (Answers w x.entry.reply ls) in
           (x.entry, x.is_entry, x.worker ∙ is, subst P (sym x.told_so) (concludes_on x.entry.reply x.outcome f (Answers w x.entry.reply ls) (λ q. after x.entry.reply q) x.concludes))
-
-  -- a call on one key waits to take effect from its begin on
-  begins_pending : (p : Point V) → IsOnKey p → flight (begun root p) ≡ Pending (parts p).0 (parts p).1 (parts p).2 Unasked
-  begins_pending (point.Range start end size) n = absurd n
-  begins_pending (point.RangeInclusive start last size) n = absurd n
-  begins_pending (point.Get k) n = refl
-  begins_pending (point.Insert k v) n = refl
-  begins_pending (point.Remove k) n = refl
-  begins_pending (point.ComputePresent k) n = refl
-  begins_pending (point.ComputeInsert k) n = refl
-  begins_pending (point.Exchange k old new) n = refl
 
   accepted : (fs : Flights V) (m : Pairs V) (p : Point V) (o : Outcome V) (l : Line V) (fs' : Flights V) → is_in_flight o ≡ true → BeginsOr fs m p o l fs' → fs' ≡ with_flight fs l.step.worker (flight (begun root p))
   accepted fs m p (Refused e) l fs' on x = absurd (false≢true on)

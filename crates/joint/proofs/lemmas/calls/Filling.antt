@@ -36,10 +36,11 @@ use Rattle.joint.specs.calls.Runs.{Taken, AreTaken, after_all}
 use Rattle.joint.specs.nodes.View.{id_number}
 use Rattle.joint.specs.engine.Engine.{World, EngineHolds, BeginsAt, BeginsOnTree, Does, EntersUnless, GoesAt, GoesOnReserving, Walks, engine_of, finds_none, misuse}
 use Rattle.joint.proofs.lemmas.engine.OneCallChanges.{one_set}
-use Rattle.joint.proofs.lemmas.engine.Collecting.{get_set_either, get_inside}
+use Rattle.joint.proofs.lemmas.engine.Collecting.{get_inside}
 use Rattle.joint.proofs.lemmas.world.Flights.{set_at}
 use Rattle.joint.proofs.lemmas.calls.Leaves as leaves
 use Rattle.joint.proofs.lemmas.engine.ScanEnds.{cleared_is}
+use Rattle.congee.proofs.Laws.{get_set}
 
 module _ {V : Type 0} (h : ℕ → Node V) where
   abbrev Filled : List (Machine Id V) → Type 0
@@ -52,7 +53,7 @@ module _ {V : Type 0} (h : ℕ → Node V) where
   filled_at : (ms : List (Machine Id V)) (w : ℕ) (m : Machine Id V) → Filled ms → FillsAs m → Filled (set ms w m)
   filled_at ms w m f n = record {
     tree = f.tree;
-    calls = λ j x e. elim (get_set_either ms w j m x e) [
+    calls = λ j x e. elim (get_set ms w j m x e) [
       | inl q ↦ subst FillsAs q.1 n
       | inr q ↦ f.calls j x q.1
     ];
@@ -62,7 +63,7 @@ module _ {V : Type 0} (h : ℕ → Node V) where
   filled_again : (ms : List (Machine Id V)) (w : ℕ) (m n : Machine Id V) → Filled (set ms w m) → w < length ms → (FillsAs m → FillsAs n) → Filled (set ms w n)
   filled_again ms w m n f l on = record {
     tree = f.tree;
-    calls = λ j x e. elim (get_set_either ms w j n x e) [
+    calls = λ j x e. elim (get_set ms w j n x e) [
       | inl q ↦ subst FillsAs q.1 (on (f.calls w m (set_at ms w m l)))
       | inr q ↦ f.calls j x ((one_set ms (set ms w m) w m refl).other j q.0 ∙ q.1)
     ];

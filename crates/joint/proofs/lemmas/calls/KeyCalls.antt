@@ -15,7 +15,7 @@ use Rattle.congee.specs.declared.protocol.op.Op.TheVariants as point
 use Rattle.congee.specs.declared.protocol.phase.Kind.{Kind as Does}
 use Rattle.congee.specs.declared.protocol.phase.Kind.TheVariants as does
 use Rattle.congee.specs.Keys.{IsMapOf}
-use Rattle.congee.specs.protocol.Play.{Flight, Pending, Decided, Over, Question, Unasked, Asked, Replied, begun, parts, range_of, flight, value_answered, resolved, Carries, Undecided, Heeds, Concludes}
+use Rattle.congee.specs.protocol.Play.{Flight, Pending, Decided, Over, Question, Unasked, Asked, Replied, parts, range_of, value_answered, resolved, Carries, Undecided, Heeds, Concludes}
 use Rattle.congee.specs.protocol.Protocol.{IsCall, Asking}
 use Rattle.joint.specs.declared.id.Id.{Id}
 use Rattle.joint.specs.declared.steps.Done.{Done as Answer}
@@ -30,7 +30,6 @@ use Rattle.joint.specs.declared.steps.Step.{Step}
 use Rattle.joint.specs.declared.steps.Target.{Target}
 use Rattle.joint.specs.declared.steps.Target.TheVariants as target
 use Rattle.joint.specs.nodes.Nodes.{nodes}
-use Rattle.joint.specs.Names.{root}
 use Rattle.joint.specs.calls.MapCalls.{AllGoOn, told_after, Answered, answered_by, answer_in, answered_after, IsPresent, IsComputed, IsOnMap, TookEffect, IsUndecided, IsDecided, KeepsAll, IsDoneWith, PlaysKey}
 use Rattle.joint.specs.Reports.{target, told, is_in_flight}
 use Rattle.joint.specs.calls.Runs.{Taken, AreTaken, after_all}
@@ -38,7 +37,7 @@ use Rattle.joint.specs.world.MapSteps.{GoMap, Advances, PendingStep, BeginMap, B
 use Rattle.joint.specs.engine.Flying.{Flights, with_flight, IsInFlight, AreInFlight}
 use Rattle.joint.specs.world.World.{Holds, IsOnKey, IsStep}
 use Rattle.joint.specs.engine.Engine.{World}
-use Rattle.joint.proofs.lemmas.world.Flights.{flight_here}
+use Rattle.joint.proofs.lemmas.world.Flights.{flight_here, begins_pending}
 use Rattle.joint.proofs.lemmas.world.JournaledSteps.{Mapped, step_mapped}
 
 -- flights that are the same one by one
@@ -164,17 +163,6 @@ module _ {V : Type 0} where
   on_map m (point.Exchange k old new) v q last c u r is h = is ∙ ap (entered.Exchange k old) (given_ready (does.Exchange old) new v q last r)
   on_map m (point.Range start end size) v q last c u r is h = absurd u
   on_map m (point.RangeInclusive start greatest size) v q last c u r is h = absurd u
-
-  -- it begins unasked, and doesn't end as it begins
-  unbegun : (p : Point V) → IsOnKey p → flight (begun root p) ≡ Pending (parts p).0 (parts p).1 (parts p).2 Unasked
-  unbegun (point.Get k) u = refl
-  unbegun (point.Insert k v) u = refl
-  unbegun (point.Remove k) u = refl
-  unbegun (point.ComputePresent k) u = refl
-  unbegun (point.ComputeInsert k) u = refl
-  unbegun (point.Exchange k old new) u = refl
-  unbegun (point.Range start end size) u = absurd u
-  unbegun (point.RangeInclusive start last size) u = absurd u
 
   given_first : (p : Point V) → IsOnKey p → Given (parts p).1 (parts p).2 (parts p).2
   given_first (point.Get k) u = refl
@@ -388,7 +376,7 @@ module _ {V : Type 0} (same : V → V → Bool) (always : Bool) (fs : Flights V)
           free = z.free;
           value = (parts p).2;
           question = Unasked;
-          in_flight = subst R (z.begins ∙ ap (λ f. with_flight fs w f) (unbegun p on_key)) y.in_flight;
+          in_flight = subst R (z.begins ∙ ap (λ f. with_flight fs w f) (begins_pending p on_key)) y.in_flight;
           stand = subst Q z.same_pairs y.stand;
           tied = given_first p on_key;
         }))

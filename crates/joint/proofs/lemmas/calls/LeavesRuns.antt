@@ -1,7 +1,7 @@
 -- Each node that leaves the tree in a run leaves it once: by the one step of a call that takes it out, and by one deferral.
 use Rattle.std.proofs.Common.{◌≡◌, ◌≢◌, ◌==◌, ◌<◌, ℕ, Bool, true, false, List, [], ◌∷◌, length, refl, sym, ◌∙◌, ap, subst, inl, inr, ◌⊎◌}
 use Rattle.std.proofs.Math.ListN.{set}
-use Rattle.std.specs.Prelude.{Option, None, Some, slice_get, ◌&&◌, not, if◌then◌else◌}
+use Rattle.std.specs.Prelude.{Option, None, Some, slice_get, if◌then◌else◌}
 use Rattle.std.proofs.lemmas.Option.{slice_get_within}
 use Rattle.std.proofs.lemmas.Bool.{cases_Bool, eqb-true, eqb-false, false≢true}
 use Rattle.judge.specs.declared.journal.Reply.{Reply}
@@ -66,6 +66,7 @@ use Rattle.joint.proofs.lemmas.engine.ScanEnds.{cleared_is}
 use Rattle.joint.proofs.lemmas.calls.Sparing.{all_spare}
 use Rattle.joint.proofs.lemmas.world.Whereabouts.{node_somewhere}
 use Rattle.joint.proofs.lemmas.world.Waiting.{handed_waits}
+use Rattle.joint.proofs.lemmas.engine.SoundCells.{retired_waits}
 use Rattle.congee.proofs.Laws.{both_true}
 
 module _ {V : Type 0} where
@@ -245,14 +246,11 @@ module _ {V : Type 0} (same : V → V → Bool) (always : Bool) (s s' : World V)
   ]
   past_does (Go noise) None r e u x = inr (goes_past (slice_get s.calls w) (slice_get s.machines w) noise r refl refl u x)
 
-stands_waits : {V : Type 0} (n : Node V) → n.retired ≡ true → Stands n → is_waiting n ≡ true
-stands_waits n r st = ap (λ b. b && (n.made && not n.destroyed)) r ∙ ap (λ b. true && (b && not n.destroyed)) st.made ∙ ap (λ b. true && (true && not b)) st.kept
-
 module _ {V : Type 0} (same : V → V → Bool) (always : Bool) (laws : CallLaws {C = Id} {V = V} id_number same always) (leaves_law : (f : Nodes V) → LeavesLaw {C = Id} {V = V} id_number same always f.version_max (Refuses f)) where
   -- a node that waits was handed over, or a call has it
   waits_as : (s : World V) → Holds same always s → (n : ℕ) → IsWaiting s n → (is_waiting (nodes s.forest n) ≡ true) ⊎ ((i : ℕ) × IsTakenBy s i n)
   waits_as s h n y = elim ((node_somewhere same always laws s h n y.stands.made).handed y) [
-    | inl e ↦ inl (stands_waits (nodes s.forest n) e y.stands)
+    | inl e ↦ inl (retired_waits (nodes s.forest n) e y.stands)
     | inr e ↦ inr e
   ]
 
@@ -305,7 +303,7 @@ module _ {V : Type 0} (same : V → V → Bool) (always : Bool) (laws : CallLaws
       | inr o ↦ (
           let st = taken_stands same always laws s h i n y in
           let now : Stands (nodes t.after.forest n) = record { made = z.made ∙ st.made; kept = z.kept ∙ st.kept } in
-          stays_left n z (handed_waits same always laws t.after x.holds n (stands_waits (nodes t.after.forest n) o.1.after now)))
+          stays_left n z (handed_waits same always laws t.after x.holds n (retired_waits (nodes t.after.forest n) o.1.after now)))
     ]
 
     left : (n : ℕ) → IsWaiting s n → StaysLeft s t.after n ⊎ IsDestroyed t.after n
@@ -346,7 +344,7 @@ module _ {V : Type 0} (same : V → V → Bool) (always : Bool) (laws : CallLaws
 
     first_handed : (n : ℕ) → HandsOver s.forest t.after.forest w n → (is_waiting (nodes t.after.forest n) ≡ true) ⊎ IsLost (nodes t.after.forest n)
     first_handed n y = elim ((all_spare same always leaves_law s (t ∷ []) h (x, tt)).0 n y.stands) [
-      | inl st ↦ inl (stands_waits (nodes t.after.forest n) y.after st)
+      | inl st ↦ inl (retired_waits (nodes t.after.forest n) y.after st)
       | inr (inl u) ↦ absurd (false≢true (sym y.before ∙ u.waits))
       | inr (inr b) ↦ absurd (false≢true (sym (blank same always laws s h w n b).live ∙ y.marked))
     ]

@@ -43,8 +43,8 @@ use Rattle.joint.specs.Reports.{told}
 use Rattle.joint.specs.nodes.View.{view, id_number}
 use Rattle.joint.specs.Names.{named, root}
 use Rattle.joint.specs.engine.Engine.{World, Collects, Enters, Reserves, reserving, GoesOnReserving, Walks}
-use Rattle.joint.proofs.lemmas.engine.Collecting.{get_set_either}
 use Rattle.joint.proofs.lemmas.engine.ScanEnds.{cleared_is}
+use Rattle.congee.proofs.Laws.{get_set}
 
 -- a refusal of the collector, or of a node, is for another cause than versions
 pub fault_apart : (f : Fault) → of_fault f ≡ Exhausted → ⊥
@@ -99,7 +99,7 @@ module _ {V : Type 0} (same : V → V → Bool) (always : Bool) where
       heap = x;
       calls = λ i k m a b.
           let P : List (InFlight V) → Type 0 = λ ks. slice_get ks i ≡ Some k in
-          elim (get_set_either s.calls w i k' k (subst P ec a)) [
+          elim (get_set s.calls w i k' k (subst P ec a)) [
             | inl e ↦ (
                 let Q : InFlight V → Type 0 = λ y. InPlain now (nodes s'.forest) y m (p'.calls i) in
                 let R : ℕ → Type 0 = λ j. InPlain now (nodes s'.forest) k' m (p'.calls j) in
@@ -168,7 +168,7 @@ module _ {V : Type 0} (same : V → V → Bool) (always : Bool) where
           collected_agrees s' collector_event.Go x.collector_report x.step.collected a Walking (subst Q e (subst P here x.step.call))
           (λ i m n b.
           let T : List (Machine Id V) → Type 0 = λ ms. slice_get ms i ≡ Some m in
-          elim (get_set_either s.machines w i (begun root op) m (subst T em b)) [
+          elim (get_set s.machines w i (begun root op) m (subst T em b)) [
             | inl z ↦ absurd (n z.0)
             | inr z ↦ z.1
           ])
@@ -176,7 +176,7 @@ module _ {V : Type 0} (same : V → V → Bool) (always : Bool) where
           let T : List (Machine Id V) → Type 0 = λ ms. slice_get ms w ≡ Some m in
           let U : Machine Id V → Type 0 = λ z. CallAlike order id_number (nodes s'.forest) z (p.calls w) in
           let W : Machine ℕ V → Type 0 = λ z. CallAlike order id_number (nodes s'.forest) (begun root op) z in
-          elim (get_set_either s.machines w w (begun root op) m (subst T em b)) [
+          elim (get_set s.machines w w (begun root op) m (subst T em b)) [
             | inl z ↦ subst U z.1 (subst W (sym (machine_here (there m b).0 (there m b).1)) (laws.begins order (nodes s'.forest) root 0 op a.root))
             | inr z ↦ absurd (z.0 refl)
           ])
@@ -200,13 +200,13 @@ module _ {V : Type 0} (same : V → V → Bool) (always : Bool) where
         (λ m b.
         let U : Machine Id V → Type 0 = λ z. CallAlike order id_number (nodes s.forest) z ((with_call p w (begun 0 op)).calls w) in
         let W : Machine ℕ V → Type 0 = λ z. CallAlike order id_number (nodes s.forest) (begun root op) z in
-        elim (get_set_either s.machines w w (begun root op) m b) [
+        elim (get_set s.machines w w (begun root op) m b) [
           | inl z ↦ subst U z.1 (subst W (sym (plain_here p w (begun 0 op))) (laws.begins order (nodes s.forest) root 0 op a.root))
           | inr z ↦ absurd (z.0 refl)
         ])
         (λ i k m n ak am.
         let U : Machine ℕ V → Type 0 = λ z. InPlain order (nodes s.forest) k m z in
-        elim (get_set_either s.machines w i (begun root op) m am) [
+        elim (get_set s.machines w i (begun root op) m am) [
           | inl z ↦ absurd (n z.0)
           | inr z ↦ subst U (sym (plain_apart p w i (begun 0 op) n)) (a.calls i k m ak z.1)
         ]))
@@ -264,7 +264,7 @@ module _ {V : Type 0} (same : V → V → Bool) (always : Bool) where
       here_machine : (y : Machine Id V) → slice_get s'.machines w ≡ Some y → rested moves.now ≡ y
       here_machine y b =
           let P : List (Machine Id V) → Type 0 = λ ms. slice_get ms w ≡ Some y in
-          elim (get_set_either s.machines w w (rested moves.now) y (subst P machines_are b)) [
+          elim (get_set s.machines w w (rested moves.now) y (subst P machines_are b)) [
             | inl z ↦ z.1
             | inr z ↦ absurd (z.0 refl)
           ]
@@ -295,7 +295,7 @@ module _ {V : Type 0} (same : V → V → Bool) (always : Bool) where
           (λ i k y n ak am.
           let P : List (Machine Id V) → Type 0 = λ ms. slice_get ms i ≡ Some y in
           let U : Machine ℕ V → Type 0 = λ z. InPlain now (nodes s'.forest) k y z in
-          let was : slice_get s.machines i ≡ Some y = elim (get_set_either s.machines w i (rested moves.now) y (subst P machines_are am)) [
+          let was : slice_get s.machines i ≡ Some y = elim (get_set s.machines w i (rested moves.now) y (subst P machines_are am)) [
             | inl z ↦ absurd (n z.0)
             | inr z ↦ z.1
           ] in

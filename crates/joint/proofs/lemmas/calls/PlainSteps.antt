@@ -1,9 +1,8 @@
 -- A step of the machine leaves it agreeing with the plain run.
-use Rattle.std.proofs.Common.{◌≡◌, ℕ, ◌<◌, ◌≤◌, Bool, true, false, List, [], ◌∷◌, ◌++◌, length, map, refl, sym, ◌∙◌, ap, subst, inl, inr, arith}
+use Rattle.std.proofs.Common.{◌≡◌, ℕ, Bool, true, false, List, [], ◌∷◌, ◌++◌, map, refl, sym, ◌∙◌, ap, subst, inl, inr}
 use Rattle.std.proofs.Math.ListN.{set}
 use Rattle.std.specs.Prelude.{Option, None, Some, slice_get}
 use Rattle.std.proofs.lemmas.List.{append-nil, append_assoc}
-use Rattle.std.proofs.lemmas.Option.{slice_get_cases, slice_get_within}
 use Rattle.crossbeam_epoch.specs.declared.fault.Fault.{Fault}
 use Rattle.crossbeam_epoch.specs.declared.world.report.Event.TheVariants as collector_event
 use Rattle.crossbeam_epoch.specs.declared.world.report.Op.TheVariants.{Secure}
@@ -40,9 +39,10 @@ use Rattle.joint.specs.nodes.View.{id_number}
 use Rattle.joint.specs.world.World.{Holds, IsStep, StepsUnless, finds_journal_full}
 use Rattle.joint.specs.engine.Engine.{World, engine_of, misuse, quiet, finds_none, EntersUnless, Reserves, BeginsOnTree, BeginsAt, GoesAt, Proceeds, Does}
 use Rattle.joint.proofs.lemmas.calls.Beside.{steps_unless_beside}
-use Rattle.joint.proofs.lemmas.engine.Collecting.{set_here}
+use Rattle.joint.proofs.lemmas.engine.Collecting.{get_beside}
 use Rattle.joint.proofs.lemmas.calls.PlainCalls.{fault_apart, collects, collected_agrees, secures, enters, reserves, moved_alike, walked_agrees}
 use Rattle.joint.proofs.lemmas.engine.PlainTells.{map_here, tells_alike}
+use Rattle.congee.proofs.Laws.{set_here}
 
 -- where no node is made the list of the made ones stays
 same_longer : (order : List ℕ) → Longer order order
@@ -68,12 +68,6 @@ module _ {V : Type 0} (same : V → V → Bool) (always : Bool) (laws : (f : Nod
 
     abbrev Goal : Option (TreeStep V) → Report V → Type 0
     Goal o r = FollowsStep same most o (engine_of s') r order p
-
-    machine_at : (k : InFlight V) → slice_get s.calls w ≡ Some k → (x : Machine Id V) × (slice_get s.machines w ≡ Some x)
-    machine_at k q = elim (slice_get_cases s.machines w).1 [
-      | inl x ↦ (x.0, x.2)
-      | inr x ↦ absurd (let l : w < length s.calls = slice_get_within s.calls w k q in let n : length s.machines ≡ length s.calls = holds.0.machines in let b : length s.machines ≤ w = x.0 in omega (arith, b, l, n))
-    ]
 
     -- what a call on the tree begins with
     abbrev start : Point V → Option (TreeStep V)
@@ -155,7 +149,7 @@ module _ {V : Type 0} (same : V → V → Bool) (always : Bool) (laws : (f : Nod
         subst P (sym x.report) (collects same always (engine_of s) law order p w (engine_of s') collector_event.Go op r a x)
     call_at (Some (Securing op)) noise r q un x =
         let P : Report V → Type 0 = λ z. Goal (go_of noise z.kind) z in
-        subst P (sym x.report) (secures same always (engine_of s) law order p w op q a (engine_of s') r x.collector_report.outcome un.0 x refl (λ m b. machine_at (Securing op) q))
+        subst P (sym x.report) (secures same always (engine_of s) law order p w op q a (engine_of s') r x.collector_report.outcome un.0 x refl (λ m b. get_beside s.machines s.calls w holds.0.machines (Securing op) q))
     call_at (Some (Reserving op)) noise r q un x =
         let P : Report V → Type 0 = λ z. Goal (go_of noise z.kind) z in
         let calls : x.between.calls ≡ set s.calls w (Securing op) = x.begins.call ∙ ap (λ (k : Option (InFlight V)). set s.calls w (securing_of k)) q in
@@ -164,9 +158,9 @@ module _ {V : Type 0} (same : V → V → Bool) (always : Bool) (laws : (f : Nod
         let middle : Agree x.between order p = collected_agrees same always (engine_of s) law order p w x.between (collector_event.Begin (Secure 2)) x.begins.collector_report x.begins.collected a (Securing op) calls
         (λ i m n b. let R : List (Machine Id V) → Type 0 = λ ms. slice_get ms i ≡ Some m in subst R x.begins.machine b)
         (λ m b. let R : List (Machine Id V) → Type 0 = λ ms. slice_get ms w ≡ Some m in whole_agrees.calls w (Reserving op) m q (subst R x.begins.machine b)) in
-        subst P (sym x.goes.report) (secures same always x.between (laws x.between.forest) order p w op here middle (engine_of s') r x.goes.collector_report.outcome un.0 x.goes refl (λ m b. subst T (sym x.begins.machine) (machine_at (Reserving op) q)))
+        subst P (sym x.goes.report) (secures same always x.between (laws x.between.forest) order p w op here middle (engine_of s') r x.goes.collector_report.outcome un.0 x.goes refl (λ m b. subst T (sym x.begins.machine) (get_beside s.machines s.calls w holds.0.machines (Reserving op) q)))
     call_at (Some Walking) noise r q un x =
-        let m = machine_at Walking q in
+        let m = get_beside s.machines s.calls w holds.0.machines Walking q in
         let P : Report V → Type 0 = λ z. Goal (go_of noise z.kind) z in
         let went = moved_alike same always (engine_of s) law order p w (engine_of s') noise r m.0 q m.1 holds.0.safe a x un in
         subst P (sym x.report) (

@@ -66,10 +66,10 @@ use Rattle.joint.specs.nodes.View.{id_number}
 use Rattle.joint.specs.world.World.{Holds, IsStep, StepsUnless, finds_journal_full}
 use Rattle.joint.specs.engine.Engine.{World, EngineHolds, IsOfCall, Collects, Does, EntersUnless, Enters, GoesAt, Walks, engine_of, finds_none, is_busy, misuse, place_of}
 use Rattle.joint.proofs.lemmas.engine.OneCallChanges.{Apart, one_set, step_apart}
-use Rattle.joint.proofs.lemmas.engine.Collecting.{get_inside}
 use Rattle.joint.proofs.lemmas.engine.Entering.{begin_within, begins_idle}
 use Rattle.joint.proofs.lemmas.world.Flights.{set_at}
 use Rattle.joint.proofs.lemmas.engine.ScanEnds.{cleared_is}
+use Rattle.joint.proofs.lemmas.engine.Collecting.{get_beside}
 use Rattle.congee.proofs.Laws.{both_true}
 
 -- the phases of a call that only reads
@@ -208,12 +208,9 @@ module _ {V : Type 0} (same : V → V → Bool) (always : Bool) (progress : Prog
           subst P (sym at) (pin_on x.collector_report.outcome (sym (ap is_busy at) ∙ b) (slice_get s'.machines w))),
     )
 
-    machine_at : (k : InFlight V) → slice_get s.calls w ≡ Some k → (m : Machine Id V) × (slice_get s.machines w ≡ Some m)
-    machine_at k e = get_inside s.machines w (within_machines (slice_get_within s.calls w k e))
-
     pin_goes : (noise : Noise Id V) (r : Report V) → slice_get s.calls w ≡ Some (Collecting collector_op.Pin) → Collects same always s w collector_event.Go (Collecting collector_op.Pin) r s' → Goes r
     pin_goes noise r e x =
-        let m : (m : Machine Id V) × (slice_get s.machines w ≡ Some m) = machine_at _ e in
+        let m : (m : Machine Id V) × (slice_get s.machines w ≡ Some m) = get_beside s.machines s.calls w holds.0.machines _ e in
         let at : IsAt (Collecting collector_op.Pin) (place s.forest.collector w) m.0 = holds.0.each w (Collecting collector_op.Pin) m.0 e m.1 in
         pins collector_event.Go r (slice_get_within s.calls w _ e) (λ f y q. goes_refused s.forest.collector _ w y.collector_report.outcome f (progress.goes_on s.forest.collector w collector_op.Pin y.collector_report holds.0.safe.sound.sound.orderly at.0 y.step.report) q) x
 
@@ -288,7 +285,7 @@ module _ {V : Type 0} (same : V → V → Bool) (always : Bool) (progress : Prog
 
     reader_begins : (o : Op V) (r : Report V) → misuse s w (Begin o) ≡ None → is_reading o ≡ true → Does same always s w (Begin o) None r s' → Begun r
     reader_begins op.Pin r n q x =
-        let m : (m : Machine Id V) × (slice_get s.machines w ≡ Some m) = machine_at Idle (idle op.Pin n) in
+        let m : (m : Machine Id V) × (slice_get s.machines w ≡ Some m) = get_beside s.machines s.calls w holds.0.machines Idle (idle op.Pin n) in
         let at : IsAt Idle (place s.forest.collector w) m.0 = holds.0.each w Idle m.0 (idle op.Pin n) m.1 in
         let f : refusal s.forest.collector w collector_op.Pin ≡ None = unready_is (place_of s w).registered (is_busy (slice_get s.calls w)) _ (begin_fault collector_op.Pin (place_of s w)) n in
         let g = pins (collector_event.Begin collector_op.Pin) r (within op.Pin n) (λ e y z. begins_refused s.forest.collector _ w y.collector_report.outcome e f (progress.begins s.forest.collector w collector_op.Pin y.collector_report at.0 y.step.report) z) x in (

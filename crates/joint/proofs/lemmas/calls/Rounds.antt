@@ -1,5 +1,5 @@
 -- Rounds of one worker are rounds of the collector, and what these leave is left in the bags of other workers.
-use Rattle.std.proofs.Common.{◌≡◌, ◌≢◌, ◌⊎◌, ◌+◌, ◌<◌, ◌≤◌, ◌&&◌, ℕ, suc, arith, Bool, true, false, List, [], ◌∷◌, ◌++◌, length, refl, sym, ◌∙◌, ap, subst, inl, inr}
+use Rattle.std.proofs.Common.{◌≡◌, ◌≢◌, ◌⊎◌, ◌+◌, ◌<◌, ◌≤◌, ◌&&◌, ℕ, suc, arith, Bool, true, false, List, [], ◌∷◌, ◌++◌, length, refl, sym, ◌∙◌, ap, subst, inl, inr, zero, take}
 use Rattle.std.specs.Prelude.{Option, None, Some, slice_get, slice_set, slice_index_or, if◌then◌else◌}
 use Rattle.std.specs.Int.{div_ceil}
 use Rattle.std.specs.List.{Contains, sum_by}
@@ -35,7 +35,7 @@ use Rattle.congee.specs.declared.protocol.machine.Machine.{Machine}
 use Rattle.congee.specs.declared.protocol.machine.Noise.{Noise}
 use Rattle.congee.specs.declared.protocol.phase.Phase.{Phase}
 use Rattle.congee.specs.declared.protocol.phase.Phase.TheVariants.{Ended}
-use Rattle.congee.specs.Heap.{Node, Stands}
+use Rattle.congee.specs.Heap.{Stands}
 use Rattle.congee.specs.protocol.Handing.{is_waiting}
 use Rattle.congee.specs.protocol.Holdings.{MadeBy, TakenBy}
 use Rattle.joint.specs.declared.engine.in_flight.InFlight.{InFlight}
@@ -72,10 +72,12 @@ use Rattle.joint.specs.world.Whereabouts.{IsInTree, IsSomewhere}
 use Rattle.joint.specs.world.World.{Holds, IsStep, TakesStep, StepsUnless}
 use Rattle.joint.specs.engine.Engine.{World, engine_of, place_of, is_busy, interruption, unready, misuse, Proceeds, Does, GoesAt, BeginsAt, Collects}
 use Rattle.joint.proofs.lemmas.world.Bags.{jobs_waiting}
-use Rattle.joint.proofs.lemmas.engine.Collecting.{set_here, get_inside}
+use Rattle.joint.proofs.lemmas.engine.Collecting.{get_inside}
 use Rattle.joint.proofs.lemmas.engine.Filing.{is_name_same}
 use Rattle.joint.proofs.lemmas.engine.HandOver.{held_place}
 use Rattle.joint.proofs.lemmas.world.Whereabouts.{node_somewhere}
+use Rattle.joint.proofs.lemmas.engine.SoundCells.{retired_waits}
+use Rattle.congee.proofs.Laws.{set_here}
 
 -- what the collector's laws say of whole calls and of rounds
 pub record RoundLaws {T : Type 0} (J : Type 0) (names : T → List Name) : Type 0 where
@@ -124,6 +126,13 @@ module _ {V : Type 0} (same : V → V → Bool) (always : Bool) where
   pub after_both : (s : World V) (a b : List (Taken V)) → after_all s (a ++ b) ≡ after_all (after_all s a) b
   after_both s [] b = refl
   after_both s (t ∷ a) b = after_both t.after a b
+
+  -- the first of some steps are taken too
+  pub taken_front : (s : World V) (n : ℕ) (ts : List (Taken V)) → AreTaken same always s ts → AreTaken same always s (take n ts)
+  taken_front s zero [] x = tt
+  taken_front s zero (t ∷ ts) x = tt
+  taken_front s (suc n) [] x = tt
+  taken_front s (suc n) (t ∷ ts) x = (x.0, taken_front t.after n ts x.1)
 
   still_holds : (s : World V) (a : List (Taken V)) → Holds same always s → AreTaken same always s a → Holds same always (after_all s a)
   still_holds s [] h x = h
@@ -323,9 +332,6 @@ is_removal {J} n (Remove m) le = by (is_name m n) refl le
 
 no_jobs : {A : Type 0} (f : A → ℕ) (xs : List A) → xs ≡ [] → sum_by f xs ≡ 0
 no_jobs f xs e = ap (sum_by f) e
-
-retired_waits : {V : Type 0} (x : Node V) → x.retired ≡ true → Stands x → is_waiting x ≡ true
-retired_waits x r s = let m : x.made ≡ true = s.made in let k : x.destroyed ≡ false = s.kept in rw (r, m, k) refl
 
 module _ {V : Type 0} (same : V → V → Bool) (always : Bool) (calls : CallLaws {C = Id} {V = V} id_number same always) (laws : RoundLaws {T = Slot V} (Unit {0}) slot_names) where
   -- where a removal stands that is in no queued bag and in no hand

@@ -1,9 +1,8 @@
 -- A node that a worker has seen under its guard stands until the guard's stretch ends.
-use Rattle.std.proofs.Common.{◌≡◌, ◌==◌, ◌<◌, ℕ, Bool, true, false, List, [], ◌∷◌, length, refl, sym, ◌∙◌, ap, subst, inl, inr, ◌⊎◌}
+use Rattle.std.proofs.Common.{◌≡◌, ◌==◌, ℕ, Bool, true, false, List, [], ◌∷◌, length, refl, sym, ◌∙◌, ap, subst, inl, inr, ◌⊎◌}
 use Rattle.std.proofs.Math.ListN.{set}
 use Rattle.std.specs.Prelude.{Option, None, Some, is_some, slice_get, if◌then◌else◌}
 use Rattle.std.proofs.lemmas.Bool.{cases_Bool, eqb-true, eqb-false, false≢true}
-use Rattle.std.proofs.lemmas.Option.{slice_get_within}
 use Rattle.crossbeam_epoch.specs.declared.fault.Fault.{Fault}
 use Rattle.crossbeam_epoch.specs.declared.names.Name.{Name}
 use Rattle.crossbeam_epoch.specs.declared.world.participant.Phase.{Phase as CollectorPhase}
@@ -60,7 +59,7 @@ use Rattle.joint.specs.calls.Stretches.{EndsStretch, HasChecked, SeesNode, Stand
 use Rattle.joint.specs.nodes.View.{view, id_number}
 use Rattle.joint.specs.world.World.{Holds, StepsUnless, finds_journal_full}
 use Rattle.joint.specs.engine.Engine.{World, EngineHolds, IsHeldBy, BeginsOnTree, Collects, Does, EntersUnless, Enters, GoesAt, GoesOnReserving, Reserves, Walks, engine_of, finds_none, misuse, place_of}
-use Rattle.joint.proofs.lemmas.engine.Collecting.{get_set_either, get_inside}
+use Rattle.joint.proofs.lemmas.engine.Collecting.{get_beside}
 use Rattle.joint.proofs.lemmas.engine.HandOver.{held_place}
 use Rattle.joint.proofs.lemmas.calls.Leaves as leaves
 use Rattle.joint.proofs.lemmas.nodes.Paths.{in_reach}
@@ -70,6 +69,7 @@ use Rattle.joint.proofs.lemmas.engine.SecuredPlaces.{retiring_room}
 use Rattle.joint.proofs.lemmas.nodes.SlotViews.{slot_view}
 use Rattle.joint.proofs.lemmas.calls.Stretches.{IsBlocked, sees_blocks, stored, joined, deferring, blocked_after, live_on, ends_now}
 use Rattle.joint.proofs.lemmas.nodes.Views.{heap_ties}
+use Rattle.congee.proofs.Laws.{get_set}
 
 -- a securing doesn't publish
 secure_calm : (s : CollectorPhase) → comes_by (stage_of s) (collector_op.Secure 2) ≡ true → publishes s ≡ false
@@ -136,7 +136,7 @@ module _ {V : Type 0} (same : V → V → Bool) (always : Bool) (laws : CallLaws
 
     -- another machine comes into the worker's place that has made nothing
     instead : (ms : List (Machine Id V)) (m : Machine Id V) → (MadeBy id_number m.phase n → ⊥) → s.machines ≡ ms → s'.machines ≡ set ms w m → Unheld
-    instead ms m none e e' j y = elim (get_set_either ms w j m y.0 (sym (ap (λ xs. slice_get xs j) e') ∙ y.1)) [
+    instead ms m none e e' j y = elim (get_set ms w j m y.0 (sym (ap (λ xs. slice_get xs j) e') ∙ y.1)) [
       | inl z ↦ absurd (none (let P : Machine Id V → Type 0 = λ k. MadeBy id_number k.phase n in subst P (sym z.1) y.2))
       | inr z ↦ (y.0, ap (λ xs. slice_get xs j) e ∙ z.1, y.2)
     ]
@@ -170,12 +170,9 @@ module _ {V : Type 0} (same : V → V → Bool) (always : Bool) (laws : CallLaws
     secured_unheld collector_outcome.Running k ms e e' = still (e' ∙ sym e)
     secured_unheld (collector_outcome.Refused f) k ms e e' = still (e' ∙ sym e)
 
-    machine_at : (k : InFlight V) → slice_get s.calls w ≡ Some k → (m : Machine Id V) × (slice_get s.machines w ≡ Some m)
-    machine_at k e = get_inside s.machines w (subst (λ i. w < i) (sym holds.0.machines) (slice_get_within s.calls w k e))
-
     securing : (c : Point V) (r : Report V) → slice_get s.calls w ≡ Some (Securing c) → GoesOnReserving same always s w r s' → Lasts s → Lasts s'
     securing c r e x l =
-        let m : (m : Machine Id V) × (slice_get s.machines w ≡ Some m) = machine_at (Securing c) e in
+        let m : (m : Machine Id V) × (slice_get s.machines w ≡ Some m) = get_beside s.machines s.calls w holds.0.machines (Securing c) e in
         let at : IsAt (Securing c) (place_of s w) m.0 = holds.0.each w (Securing c) m.0 e m.1 in
         lasts (collected s.forest s'.forest s.machines w collector_event.Go x.collector_report (λ z. secure_calm (place_of s w).phase at.0.1) x.step.collected l.on)
         (secured_unheld x.collector_report.outcome (slice_get s.calls w) s.machines refl x.step.machine) l
@@ -186,7 +183,7 @@ module _ {V : Type 0} (same : V → V → Bool) (always : Bool) (laws : CallLaws
       tree_step = record { who = w; noise = noise }
 
       old : (m : Machine Id V) × (slice_get s.machines w ≡ Some m)
-      old = machine_at Walking on
+      old = get_beside s.machines s.calls w holds.0.machines Walking on
 
       abbrev moved : IsMoved id_number same always s.forest.version_max (Refuses s.forest) (nodes s.forest) s.machines old.0 tree_step k.move (nodes s'.forest) k.step.between
       moved = k.step.walked.plays.moved old.0 old.1
@@ -202,7 +199,7 @@ module _ {V : Type 0} (same : V → V → Bool) (always : Bool) (laws : CallLaws
 
       -- what it has made it had made before, or is a new node
       walks_held : Stands (nodes s.forest n) → Unheld
-      walks_held st j y = elim (get_set_either s.machines w j (rested moved.now) y.0 (sym (ap (λ xs. slice_get xs j) machines_are) ∙ y.1)) [
+      walks_held st j y = elim (get_set s.machines w j (rested moved.now) y.0 (sym (ap (λ xs. slice_get xs j) machines_are) ∙ y.1)) [
         | inl z ↦ (
             let P : Machine Id V → Type 0 = λ m. MadeBy id_number m.phase n in
             let made : MadeBy id_number moved.now.phase n = rested_made moved.now n (subst P (sym z.1) y.2) in

@@ -1,5 +1,5 @@
 -- A step of a call on the collector leaves the machine intact.
-use Rattle.std.proofs.Common.{◌≡◌, ◌≢◌, ◌<◌, ℕ, zero, suc, arith, ◌+◌, ◌≤◌, Bool, List, [], ◌∷◌, refl, sym, ◌∙◌, ap, subst, inl, inr, ◌⊎◌}
+use Rattle.std.proofs.Common.{◌≡◌, ◌<◌, ℕ, zero, suc, arith, ◌+◌, ◌≤◌, Bool, List, [], ◌∷◌, refl, sym, ◌∙◌, ap, subst, inl, inr}
 use Rattle.std.proofs.Math.ListN.{set}
 use Rattle.std.specs.Prelude.{Option, None, Some, is_some, length, slice_get}
 use Rattle.std.proofs.lemmas.List.{length-set, set-set}
@@ -30,23 +30,17 @@ use Rattle.joint.specs.Names.{root}
 use Rattle.joint.specs.engine.Laws.{ProgressLaws}
 use Rattle.joint.specs.engine.Safety.{Rests, Collected}
 use Rattle.joint.proofs.lemmas.engine.SecuredPlaces.{with_room}
-
--- in a list with one place set stands what was put there, and elsewhere what stood
-pub get_set_either : {A : Type 0} → (xs : List A) (i j : ℕ) (x y : A) → slice_get (set xs i x) j ≡ Some y → ((j ≡ i) × (x ≡ y)) ⊎ ((j ≢ i) × (slice_get xs j ≡ Some y))
-get_set_either [] i j x y e = absurd cc
-get_set_either (z ∷ xs) zero zero x y e = inl (refl, cc)
-get_set_either (z ∷ xs) zero (suc j) x y e = inr ((λ q. absurd (omega arith)), e)
-get_set_either (z ∷ xs) (suc i) zero x y e = inr ((λ q. absurd (omega arith)), e)
-get_set_either (z ∷ xs) (suc i) (suc j) x y e = elim (get_set_either xs i j x y e) [
-  | inl p ↦ inl (ap suc p.0, p.1)
-  | inr p ↦ inr ((λ q. p.0 (omega arith)), p.1)
-]
+use Rattle.congee.proofs.Laws.{get_set, set_here}
 
 -- a place below the length of a list has something in it
 pub get_inside : {A : Type 0} (xs : List A) (i : ℕ) → i < length xs → (x : A) × (slice_get xs i ≡ Some x)
 get_inside [] i l = absurd (omega (arith, l))
 get_inside (x ∷ xs) zero l = (x, refl)
 get_inside (x ∷ xs) (suc i) l = get_inside xs i (omega (arith, l))
+
+-- so has the place where another list of that length has something
+pub get_beside : {A B : Type 0} (xs : List A) (ys : List B) (i : ℕ) → length xs ≡ length ys → (y : B) → slice_get ys i ≡ Some y → (x : A) × (slice_get xs i ≡ Some x)
+get_beside xs ys i n y e = get_inside xs i (subst (λ (k : ℕ). i < k) (sym n) (slice_get_within ys i y e))
 
 -- an intact machine is intact under other names
 pub intact_at : {V : Type 0} (same : V → V → Bool) (always : Bool) (s s' : Nodes V) (ms ms' : List (Machine Id V)) (calls calls' : List (InFlight V)) → s' ≡ s → ms' ≡ ms → calls' ≡ calls → IsIntact same always s ms calls → IsIntact same always s' ms' calls'
@@ -86,7 +80,7 @@ module _ {V : Type 0} (same : V → V → Bool) (always : Bool) (s : Nodes V) (m
     table = c.moves.table ∙ intact.table ∙ sym (length-set calls who k');
     few = rw (length-set calls who k') intact.few;
     filed = c.filed intact.filed;
-    each = λ i k m at here. elim (get_set_either calls who i k' k at) [
+    each = λ i k m at here. elim (get_set calls who i k' k at) [
       | inl e ↦ (
           let P : ℕ → Type 0 = λ j. IsAt k' (place s'.collector j) m in
           let Q : InFlight V → Type 0 = λ x. IsAt x (place s'.collector i) m in
@@ -119,12 +113,6 @@ module _ {V : Type 0} (same : V → V → Bool) (always : Bool) (laws : Progress
       let x : IsOn op (place s.collector who) × (m.phase ≡ Ended) = intact.each who (Collecting op) m at here in
       let P : State (Slot V) (Unit {0}) → Type 0 = λ y. GoesOn s.collector who op r.outcome y in
       gone_at op r.outcome s.collector s'.collector m x.1 (subst P (sym c.state) (laws.goes_on s.collector who op r intact.safe.sound.sound.orderly x.0 c.report)))
-
--- what was put in a place of a list stands there
-pub set_here : {A : Type 0} → (xs : List A) (i : ℕ) (x y : A) → slice_get xs i ≡ Some y → slice_get (set xs i x) i ≡ Some x
-set_here [] i x y e = absurd cc
-set_here (z ∷ xs) zero x y e = refl
-set_here (z ∷ xs) (suc i) x y e = set_here xs i x y e
 
 -- a writing call that makes its places free
 securing_call : {V : Type 0} (x : Option (InFlight V)) → IsSecuring x → (op : Point V) × (x ≡ Some (Securing op))

@@ -28,8 +28,9 @@ use Rattle.joint.specs.engine.Journaling.{has_place}
 use Rattle.joint.specs.Reports.{target, is_in_flight}
 use Rattle.joint.specs.engine.Flying.{Flights, AreInFlight}
 use Rattle.joint.specs.engine.Engine.{World, EngineHolds, BeginsAt, BeginsOnTree, Does, EntersUnless, GoesAt, finds_none, is_busy, misuse, place_of}
-use Rattle.joint.proofs.lemmas.engine.Collecting.{set_here, get_inside}
+use Rattle.joint.proofs.lemmas.engine.Collecting.{get_inside}
 use Rattle.joint.proofs.lemmas.engine.HandOver.{held_place}
+use Rattle.congee.proofs.Laws.{set_here}
 
 module _ {V : Type 0} where
   idle_place : (k : Option (InFlight V)) (o : Option (Machine Id V)) → is_busy k ≡ false → has_place k o ≡ false
@@ -46,7 +47,7 @@ module _ {V : Type 0} where
   collecting_place (collector_outcome.Refused f) op m = refl
 
   -- the call in a place that was set, if the place is there
-  at_place : (ks ks' : List (InFlight V)) (w : ℕ) (k : InFlight V) → w < length ks → ks' ≡ set ks w k → slice_get ks' w ≡ Some k
+  pub at_place : (ks ks' : List (InFlight V)) (w : ℕ) (k : InFlight V) → w < length ks → ks' ≡ set ks w k → slice_get ks' w ≡ Some k
   at_place ks ks' w k l e = let x : (y : InFlight V) × (slice_get ks w ≡ Some y) = get_inside ks w l in ap (λ xs. slice_get xs w) e ∙ set_here ks w k x.0 x.1
 
   machine_place : (ms ms' : List (Machine Id V)) (w : ℕ) (m : Machine Id V) → w < length ms → ms' ≡ set ms w m → slice_get ms' w ≡ Some m

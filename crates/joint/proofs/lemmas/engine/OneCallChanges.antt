@@ -3,7 +3,6 @@ use Rattle.std.proofs.Common.{◌≡◌, ◌≢◌, ◌<◌, ℕ, zero, suc, ◌
 use Rattle.std.proofs.Math.ListN.{set}
 use Rattle.std.specs.Prelude.{Option, None, Some, slice_get}
 use Rattle.std.proofs.lemmas.List.{length-set}
-use Rattle.std.proofs.lemmas.Option.{slice_get_within, slice_get_cases}
 use Rattle.crossbeam_epoch.specs.declared.fault.Fault.{Fault}
 use Rattle.crossbeam_epoch.specs.declared.world.report.Outcome.{Outcome as CollectorOutcome}
 use Rattle.crossbeam_epoch.specs.declared.world.report.Outcome.TheVariants as collector_outcome
@@ -25,6 +24,7 @@ use Rattle.joint.specs.engine.Log.{counted}
 use Rattle.joint.specs.Reports.{target}
 use Rattle.joint.specs.engine.Engine.{World, EngineHolds, BeginsAt, BeginsOnTree, Does, EntersUnless, GoesAt, GoesOnReserving, Proceeds, Walks, finds_none}
 use Rattle.joint.proofs.lemmas.engine.ScanEnds.{cleared_is, set_other}
+use Rattle.joint.proofs.lemmas.engine.Collecting.{get_beside}
 
 -- two lists that differ at one place at most
 pub record AtOne {A : Type 0} (xs ys : List A) (w : ℕ) : Type 0 where
@@ -88,15 +88,9 @@ module _ {V : Type 0} (same : V → V → Bool) (always : Bool) (s s' : World V)
     machines = (let P : List (Machine Id V) → Type 0 = λ ms. AtOne b.machines ms w in subst P (sym x.step.machine) (secured_one x.collector_report.outcome (slice_get b.calls w) b.machines w));
   }
 
-  machine_at : (k : InFlight V) → slice_get s.calls w ≡ Some k → (x : Machine Id V) × (slice_get s.machines w ≡ Some x)
-  machine_at k e = elim (slice_get_cases s.machines w).1 [
-    | inl x ↦ (x.0, x.2)
-    | inr x ↦ absurd (let l : w < length s.calls = slice_get_within s.calls w k e in omega (arith, x.0, l, holds.0.machines))
-  ]
-
   walks : (noise : Noise Id V) (r : Report V) → slice_get s.calls w ≡ Some Walking → Walks same always s w noise r s' → Apart s s' w
   walks noise r e k =
-      let x : (x : Machine Id V) × (slice_get s.machines w ≡ Some x) = machine_at Walking e in
+      let x : (x : Machine Id V) × (slice_get s.machines w ≡ Some x) = get_beside s.machines s.calls w holds.0.machines Walking e in
       let moved = k.step.walked.plays.moved x.0 x.1 in
       record {
         calls = one_set s.calls s'.calls w _ k.calls;

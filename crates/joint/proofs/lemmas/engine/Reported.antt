@@ -27,12 +27,12 @@ use Rattle.joint.specs.engine.Laws.{CallLaws}
 use Rattle.joint.specs.Reports.{target, told, collected, is_in_flight}
 use Rattle.joint.specs.nodes.View.{id_number}
 use Rattle.joint.specs.engine.Engine.{World, EngineHolds, Does, Proceeds, BeginsAt, BeginsOnTree, EntersUnless, finds_none, GoesAt, Collects, Walks, GoesOnReserving, SecuresFirst, IsOfCall, is_busy, misuse, place_of, reserving}
-use Rattle.joint.proofs.lemmas.engine.Collecting.{set_here, get_inside}
+use Rattle.joint.proofs.lemmas.engine.Collecting.{get_inside}
 use Rattle.joint.proofs.lemmas.engine.Ending.{goes_on_after}
-use Rattle.joint.proofs.lemmas.engine.HandOver.{held_place}
 use Rattle.joint.proofs.lemmas.engine.Reserving.{next_here}
 use Rattle.joint.proofs.lemmas.engine.Telling.{survey_ends}
 use Rattle.joint.proofs.lemmas.engine.Walking as walking
+use Rattle.joint.proofs.lemmas.engine.Entering.{at_place, begin_idle, begin_within}
 
 twice : (b : Bool) → not (not b) ≡ b
 twice true = refl
@@ -62,10 +62,6 @@ module _ {V : Type 0} where
   after_securing op collector_outcome.Running = refl
   after_securing op collector_outcome.Done = refl
   after_securing op (collector_outcome.Refused f) = refl
-
-  -- the call in a place that was set
-  at_place : (calls calls' : List (InFlight V)) (w : ℕ) (k : InFlight V) → w < length calls → calls' ≡ set calls w k → slice_get calls' w ≡ Some k
-  at_place calls calls' w k l e = let x : (y : InFlight V) × (slice_get calls w ≡ Some y) = get_inside calls w l in ap (λ xs. slice_get xs w) e ∙ set_here calls w k x.0 x.1
 
   securing_goes : (calls calls' : List (InFlight V)) (w : ℕ) (op : Point V) (o : CollectorOutcome) → slice_get calls w ≡ Some (Securing op) → calls' ≡ set calls w (secured_call o (slice_get calls w)) → is_busy (slice_get calls' w) ≡ is_in_flight {V = V} (reserving o)
   securing_goes calls calls' w op o e c =
@@ -142,19 +138,9 @@ module _ {V : Type 0} (same : V → V → Bool) (always : Bool) (laws : CallLaws
   on (Some (Securing op)) noise r e x = securing op r s e x
   on (Some Walking) noise r e x = walks noise r e (slice_get_within s.calls w Walking e) x
 
-  -- a begin that isn't misused is of a registered worker
-  may_begin : (b : Bool) (o : Option Fault) → (place_of s w).registered ≡ b → (if b then o else Some fault.Unknown) ≡ None → w < length s.calls
-  may_begin true o e x = subst (λ n. w < n) holds.0.table (held_place s.forest.collector.table w e)
-  may_begin false o e x = absurd (cc x)
-
-  free : (b busy : Bool) (f : Fault) (u : Option Fault) → (if b then (if busy then Some f else u) else Some fault.Unknown) ≡ None → busy ≡ false
-  free true true f u e = absurd (cc e)
-  free true false f u e = refl
-  free false busy f u e = absurd (cc e)
-
   proceeds : (event : Event V) (r : Report V) → IsOfCall event → misuse s w event ≡ None → Proceeds same always s w event r s' → Tells r
   proceeds Register r c m x = absurd c
-  proceeds (Begin op) r c m x = begins (target op) r (free (place_of s w).registered (is_busy (slice_get s.calls w)) _ _ m) (may_begin (place_of s w).registered _ refl m) x
+  proceeds (Begin op) r c m x = begins (target op) r (begin_idle same always s s' w holds op m) (begin_within same always s s' w holds op m) x
   proceeds (Go noise) r c m x = on (slice_get s.calls w) noise r refl x
 
   -- after a step that isn't misused a worker has a call in flight exactly where the report says so

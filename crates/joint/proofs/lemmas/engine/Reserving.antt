@@ -26,8 +26,9 @@ use Rattle.joint.specs.engine.Intact.{IsAt, IsIntact, BeginsSecuring, is_reservi
 use Rattle.joint.specs.engine.Laws.{ProgressLaws}
 use Rattle.joint.specs.engine.Safety.{Rests, Collected}
 use Rattle.joint.specs.nodes.View.{heap}
-use Rattle.joint.proofs.lemmas.engine.Collecting.{get_set_either, get_inside, set_here, intact_at, call_inside, inside_machines, after_step}
+use Rattle.joint.proofs.lemmas.engine.Collecting.{get_inside, intact_at, call_inside, inside_machines, after_step}
 use Rattle.joint.proofs.lemmas.engine.HandOver.{held_place}
+use Rattle.congee.proofs.Laws.{get_set, set_here}
 
 -- a writing call that has taken no step stands in flight with its operation
 pub reserving_call : {V : Type 0} (x : Option (InFlight V)) → is_reserving x ≡ true → (op : Op V) × (x ≡ Some (Reserving op))
@@ -64,7 +65,7 @@ module _ {V : Type 0} (same : V → V → Bool) (always : Bool) (s : Nodes V) (m
     table = intact.table ∙ sym (length-set calls who k');
     few = rw (length-set calls who k') intact.few;
     filed = intact.filed;
-    each = λ i k m at here. elim (get_set_either calls who i k' k at) [
+    each = λ i k m at here. elim (get_set calls who i k' k at) [
       | inl e ↦ (
           let P : ℕ → Type 0 = λ j. IsAt k' (place s.collector j) m in
           let Q : InFlight V → Type 0 = λ x. IsAt x (place s.collector i) m in

@@ -41,8 +41,8 @@ use Rattle.joint.specs.nodes.Slots.{slot_names}
 use Rattle.joint.specs.engine.Sound.{IsUnderWay, most_left}
 use Rattle.joint.specs.nodes.View.{view, id_number}
 use Rattle.joint.proofs.lemmas.engine.SoundBegins as begin
-use Rattle.joint.proofs.lemmas.engine.Collecting.{get_set_either, set_here}
 use Rattle.joint.proofs.lemmas.engine.Ending.{IsOnKey, goes_on_after as continues, step_ends}
+use Rattle.congee.proofs.Laws.{get_set, set_here}
 
 -- each other place of a list has what it had before one was set
 pub set_other : {A : Type 0} (xs : List A) (i j : ℕ) (x : A) → j ≢ i → slice_get (set xs i x) j ≡ slice_get xs j
@@ -87,7 +87,7 @@ module _ {V : Type 0} (same : V → V → Bool) (always : Bool) (s : Nodes V) (m
       record {
         tree = pa.tree;
         words = pa.words;
-        each = λ j y at. elim (get_set_either ms who j resting y at) [
+        each = λ j y at. elim (get_set ms who j resting y at) [
           | inl e ↦ (let P : Machine Id V → Type 0 = λ z. EachKnown id_number same always a h j z in subst P e.1 (record { root = refl; key = omega arith; known = tt }))
           | inr apart ↦ pa.each j y apart.1
         ];
@@ -113,7 +113,7 @@ module _ {V : Type 0} (same : V → V → Bool) (always : Bool) (s : Nodes V) (m
           sound = record {
             top = safe.sound.top;
             past = safe.sound.past;
-            sound = begin.begun slot_names view id_number same always get_set_either safe.sound.top safe.sound.past s.collector ms safe.sound.sound who resting (settled (heap_of view s.collector.store) safe.sound.sound.settled) refl (λ k x. x)
+            sound = begin.begun slot_names view id_number same always get_set safe.sound.top safe.sound.past s.collector ms safe.sound.sound who resting (settled (heap_of view s.collector.store) safe.sound.sound.settled) refl (λ k x. x)
                 (record { registered = λ u. absurd u; pinned = λ u. absurd u; idle = λ u. absurd u; secured = room });
           };
           within = safe.within;

@@ -28,7 +28,8 @@ use Rattle.joint.specs.nodes.Slots.{slot_names}
 use Rattle.joint.specs.engine.Sound.{IsUnderWay, IsSecured, Guards, most_left}
 use Rattle.joint.specs.nodes.View.{view, id_number}
 use Rattle.joint.proofs.lemmas.engine.SoundBegins as begin
-use Rattle.joint.proofs.lemmas.engine.Collecting.{get_set_either, get_inside, inside_machines}
+use Rattle.joint.proofs.lemmas.engine.Collecting.{get_inside, inside_machines}
+use Rattle.congee.proofs.Laws.{get_set}
 
 -- a call that has not begun has no names, has made nothing, is under way, and needs places only if it writes
 pub record Begins {V : Type 0} (kind : Kind V) (phase : Phase Id V) : Type 0 where
@@ -85,7 +86,7 @@ module _ {V : Type 0} (same : V → V → Bool) (always : Bool) (laws : CallLaws
     table = intact.table ∙ sym (length-set calls who Walking);
     few = rw (length-set calls who Walking) intact.few;
     filed = intact.filed;
-    each = λ i k x at here. elim (get_set_either calls who i Walking k at) [
+    each = λ i k x at here. elim (get_set calls who i Walking k at) [
       | inl e ↦ (
           let P : InFlight V → Type 0 = λ y. IsAt y (place s.collector i) x in
           subst P e.1 (elim (laws.either ms who i m x here) [

@@ -25,11 +25,13 @@ use Rattle.joint.specs.engine.Safety.{IsSafe, Runs, retiring_at, after_walk, Wal
 use Rattle.joint.specs.engine.Sound.{IsUnderWay}
 use Rattle.joint.specs.nodes.View.{id_number}
 use Rattle.joint.proofs.lemmas.engine.Ending.{goes_on_after}
-use Rattle.joint.proofs.lemmas.engine.Collecting.{get_set_either, get_inside, inside_machines, set_here}
+use Rattle.joint.proofs.lemmas.engine.Collecting.{get_inside, inside_machines}
 use Rattle.joint.proofs.lemmas.engine.HandOver.{held_place}
 use Rattle.joint.proofs.lemmas.engine.ScanEnds.{not_done, cleared_safe, cleared_is, now_between, told_final}
+use Rattle.congee.proofs.Laws.{get_set, set_here}
 
-over_ended : {V : Type 0} (x : Phase Id V) → is_over x ≡ true → x ≡ Ended
+-- a phase that is over is the last
+pub over_ended : {V : Type 0} (x : Phase Id V) → is_over x ≡ true → x ≡ Ended
 over_ended Ended e = refl
 over_ended _ e = absurd (cc e)
 
@@ -153,7 +155,7 @@ module _ {V : Type 0} (same : V → V → Bool) (always : Bool) (laws : CallLaws
       table = table ∙ intact.table ∙ sym (length-set calls step.who next);
       few = rw (length-set calls step.who next) intact.few;
       filed = walked.filed intact.filed;
-      each = λ i k m at here. elim (get_set_either calls step.who i next k at) [
+      each = λ i k m at here. elim (get_set calls step.who i next k at) [
         | inl e ↦ (
             let q : Some final ≡ Some m = sym now_here ∙ subst (λ (j : ℕ). slice_get ms' j ≡ Some m) e.0 here in
             let x : final ≡ m = cc in

@@ -18,6 +18,7 @@ use Rattle.joint.specs.engine.Intact.{writes}
 use Rattle.joint.specs.Names.{root}
 use Rattle.joint.specs.world.MapSteps.{EndsAtOnce, EndsEmpty, Stays, Line}
 use Rattle.joint.specs.engine.Flying.{Flights, with_flight, IsInFlight}
+use Rattle.joint.specs.world.World.{IsOnKey}
 
 -- a number passes the test for itself
 pub eqb_same : (w : ℕ) → (w == w) ≡ true
@@ -65,6 +66,17 @@ module _ {V : Type 0} where
   pending (point.Exchange k old new) p = refl
   pending (point.Range start end size) p = absurd (cc p)
   pending (point.RangeInclusive start last size) p = absurd (cc p)
+
+  -- a call on one key waits to take effect from its begin on
+  pub begins_pending : (p : Point V) → IsOnKey p → flight (begun root p) ≡ Pending (parts p).0 (parts p).1 (parts p).2 Unasked
+  begins_pending (point.Get k) u = refl
+  begins_pending (point.Insert k v) u = refl
+  begins_pending (point.Remove k) u = refl
+  begins_pending (point.ComputePresent k) u = refl
+  begins_pending (point.ComputeInsert k) u = refl
+  begins_pending (point.Exchange k old new) u = refl
+  begins_pending (point.Range start end size) u = absurd u
+  begins_pending (point.RangeInclusive start last size) u = absurd u
 
   -- the machine of a call that begins is watched as that call
   pub begun_follows : (op : Point V) → Follows (begun root op) (flight (begun root op))

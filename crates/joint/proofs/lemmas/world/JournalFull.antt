@@ -27,11 +27,12 @@ use Rattle.joint.specs.engine.Engine.{World, engine_of, is_busy, quiet}
 use Rattle.joint.specs.Reports.{is_in_flight}
 use Rattle.joint.proofs.lemmas.engine.OneCallChanges.{Apart, one_same, one_set, places_counted}
 use Rattle.joint.proofs.lemmas.world.Asking.{asked_set}
-use Rattle.joint.proofs.lemmas.engine.Collecting.{set_here, get_inside}
+use Rattle.joint.proofs.lemmas.engine.Collecting.{get_inside}
 use Rattle.joint.proofs.lemmas.world.Flights.{flight_here, flight_apart, pending}
 use Rattle.joint.proofs.lemmas.world.MapSteps.{set_in_flight}
 use Rattle.joint.proofs.lemmas.world.JournalPlaces.{reserving_none}
 use Rattle.joint.proofs.lemmas.engine.Reserving.{reserving_call}
+use Rattle.congee.proofs.Laws.{set_here}
 
 module _ {V : Type 0} (same : V → V → Bool) (always : Bool) (s : World V) (w : ℕ) (h : Holds same always s) (r : is_reserving (slice_get s.calls w) ≡ true) where
   -- the machine after it

@@ -27,6 +27,7 @@ use Rattle.joint.specs.engine.Flying.{Flights, IsInFlight, AreInFlight, with_fli
 use Rattle.joint.specs.engine.Engine.{World, EngineHolds, place_of}
 use Rattle.joint.proofs.lemmas.world.Flights.{flight_here}
 use Rattle.joint.proofs.lemmas.world.Requested.{asks, writes_on, replied, phase_asks, phase_writes, phase_replied}
+use Rattle.joint.proofs.lemmas.engine.Collecting.{get_beside}
 
 module _ {V : Type 0} where
   begun_writes : (op : Point V) → writes op ≡ true → writes_on (flight (begun root op)) ≡ true
@@ -106,12 +107,6 @@ module _ {V : Type 0} where
   call_replied Walking m f r i e = walking_replied m f i ∙ e
 
 module _ {V : Type 0} (same : V → V → Bool) (always : Bool) (s : World V) (w : ℕ) (holds : EngineHolds same always s) (fs : Flights V) (fl : AreInFlight s fs) where
-  machine_at : (k : InFlight V) → slice_get s.calls w ≡ Some k → (x : Machine Id V) × (slice_get s.machines w ≡ Some x)
-  machine_at k e = elim (slice_get_cases s.machines w).1 [
-    | inl x ↦ (x.0, x.2)
-    | inr x ↦ absurd (let l : w < length s.calls = slice_get_within s.calls w k e in let n : length s.machines ≡ length s.calls = holds.0.machines in omega (arith, x.0, l, n))
-  ]
-
   past_machines : slice_get s.calls w ≡ None → (o : Option (Machine Id V)) → slice_get s.machines w ≡ o → o ≡ None
   past_machines e None q = refl
   past_machines e (Some m) q = absurd (elim (slice_get_cases s.calls w).1 [
@@ -128,7 +123,7 @@ module _ {V : Type 0} (same : V → V → Bool) (always : Bool) (s : World V) (w
   here_by : (k : Option (InFlight V)) → slice_get s.calls w ≡ k → is_reserving k ≡ false → has_place k (slice_get s.machines w) ≡ writes_on (fs w)
   here_by None e r = sym (ap writes_on (past_over e))
   here_by (Some k) e r =
-      let x : (x : Machine Id V) × (slice_get s.machines w ≡ Some x) = machine_at k e in
+      let x : (x : Machine Id V) × (slice_get s.machines w ≡ Some x) = get_beside s.machines s.calls w holds.0.machines k e in
       ap (has_place (Some k)) x.1 ∙ call_writes k (place_of s w) x.0 (fs w) (holds.0.each w k x.0 e x.1) (fl.each w k x.0 e x.1) r
 
   -- past its first step a call has a place just where it has yet to take effect and may write
@@ -154,7 +149,7 @@ module _ {V : Type 0} (same : V → V → Bool) (always : Bool) (s : World V) (w
   asks_by : (k : Option (InFlight V)) → slice_get s.calls w ≡ k → asks_at (slice_get s.machines w) ≡ asks (fs w)
   asks_by None e = ap asks_at (past_machines e (slice_get s.machines w) refl) ∙ sym (ap asks (past_over e))
   asks_by (Some k) e =
-      let x : (x : Machine Id V) × (slice_get s.machines w ≡ Some x) = machine_at k e in
+      let x : (x : Machine Id V) × (slice_get s.machines w ≡ Some x) = get_beside s.machines s.calls w holds.0.machines k e in
       ap asks_at x.1 ∙ call_asks k (place_of s w) x.0 (fs w) (holds.0.each w k x.0 e x.1) (fl.each w k x.0 e x.1)
 
   -- a machine asks just where its call is watched as asking
@@ -164,7 +159,7 @@ module _ {V : Type 0} (same : V → V → Bool) (always : Bool) (s : World V) (w
   reply_by : (k : Option (InFlight V)) (r : Reply V) → slice_get s.calls w ≡ k → replied (fs w) ≡ Some r → reply_at (slice_get s.machines w) ≡ Some r
   reply_by None r e q = absurd (let z : None ≡ Some r = sym (ap replied (past_over e)) ∙ q in cc)
   reply_by (Some k) r e q =
-      let x : (x : Machine Id V) × (slice_get s.machines w ≡ Some x) = machine_at k e in
+      let x : (x : Machine Id V) × (slice_get s.machines w ≡ Some x) = get_beside s.machines s.calls w holds.0.machines k e in
       ap reply_at x.1 ∙ call_replied k x.0 (fs w) r (fl.each w k x.0 e x.1) q
 
   -- a call that is watched as having a reply has that reply in its machine

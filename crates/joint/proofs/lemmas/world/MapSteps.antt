@@ -29,7 +29,6 @@ use Rattle.congee.specs.declared.protocol.machine.Outcome.TheVariants as moved
 use Rattle.congee.specs.declared.protocol.op.Op.{Op as Point}
 use Rattle.congee.specs.declared.protocol.op.Op.TheVariants as point
 use Rattle.congee.specs.declared.protocol.phase.Kind.{Kind as Does}
-use Rattle.congee.specs.declared.protocol.phase.Phase.{Phase}
 use Rattle.congee.specs.declared.protocol.phase.Phase.TheVariants.{Ended}
 use Rattle.congee.specs.declared.protocol.store.Refusal.TheVariants as cause
 use Rattle.congee.specs.protocol.Answers.{SameMap}
@@ -60,11 +59,13 @@ use Rattle.joint.specs.engine.Surveys.{MapTells}
 use Rattle.joint.specs.world.MapSteps.{EventMap, GoMap, FlightStep, PendingStep, BeginMap, BeginsOr, EndsAtOnce, FindsNone, Stays, Line}
 use Rattle.joint.specs.engine.Flying.{Flights, with_flight, IsInFlight, AreInFlight}
 use Rattle.joint.specs.engine.Engine.{World, EngineHolds, misuse, is_busy, place_of, quiet, collection, finds_none, Collects, Enters, EntersUnless, Reserves, GoesOnReserving, SecuresFirst, reserving, Walks, BeginsAt, BeginsOnTree, GoesAt, Proceeds, Does as Acts}
-use Rattle.joint.proofs.lemmas.engine.Collecting.{get_set_either}
+use Rattle.joint.proofs.lemmas.engine.Collecting.{get_beside}
 use Rattle.joint.proofs.lemmas.engine.Reserving.{same_nodes, next_calls, next_here}
 use Rattle.joint.proofs.lemmas.engine.Telling.{map_tells}
 use Rattle.joint.proofs.lemmas.engine.ScanEnds.{cleared_is, done_over, rest_follows}
 use Rattle.joint.proofs.lemmas.world.Flights.{set_at, flight_here, flight_apart, pending, begun_follows, over_when_ended, listed, listed_at, following, followed}
+use Rattle.joint.proofs.lemmas.engine.Walking.{over_ended}
+use Rattle.congee.proofs.Laws.{get_set}
 
 -- the pairs stand on where the map is the same
 pub stands_on : {V : Type 0} (h h' : ℕ → Node V) (m : Pairs V) → SameMap h h' → IsMapOf h m → IsMapOf h' m
@@ -103,10 +104,6 @@ wants_memory c who f on x =
     let Q : Option Fault → Type 0 = λ o. IsOutcome c who collector_event.Go o (collector_outcome.Refused f) in
     only_memory c who f (subst Q (go_free (place c who).phase (place c who) on.1) (subst P on.0 x))
 
-is_ended : {V : Type 0} (p : Phase Id V) → is_over p ≡ true → p ≡ Ended
-is_ended Ended e = refl
-is_ended _ e = absurd cc
-
 -- what is left of a call on the collector is watched as nothing
 collecting_over : {V : Type 0} (o : CollectorOutcome) (op : CollectorOp) (x : Machine Id V) (f : Flight V) → f ≡ Over → IsInFlight (call_after o (Collecting op)) x f
 collecting_over collector_outcome.Running op x f e = e
@@ -130,12 +127,6 @@ module _ {V : Type 0} (same : V → V → Bool) (always : Bool) (s s' : World V)
   abbrev intact : IsIntact same always s.forest s.machines s.calls
   intact = holds.0
 
-  machine_at : (k : InFlight V) → slice_get s.calls w ≡ Some k → (x : Machine Id V) × (slice_get s.machines w ≡ Some x)
-  machine_at k e = elim (slice_get_cases s.machines w).1 [
-    | inl x ↦ (x.0, x.2)
-    | inr x ↦ absurd (let l : w < length s.calls = slice_get_within s.calls w k e in omega (arith, x.0, l, intact.machines))
-  ]
-
   inside : (place_of s w).registered ≡ true → w < length s.calls
   inside r = elim (slice_get_cases s.calls w).1 [
     | inl x ↦ x.1
@@ -151,8 +142,8 @@ module _ {V : Type 0} (same : V → V → Bool) (always : Bool) (s s' : World V)
     | inl x ↦ absurd (let q : None ≡ Some x.0 = sym e ∙ x.2 in cc)
     | inr x ↦ fl.beyond w x.0
   ]
-  free (Some Idle) e b = fl.each w Idle (machine_at Idle e).0 e (machine_at Idle e).1
-  free (Some (Collecting op)) e b = fl.each w (Collecting op) (machine_at (Collecting op) e).0 e (machine_at (Collecting op) e).1
+  free (Some Idle) e b = fl.each w Idle (get_beside s.machines s.calls w intact.machines Idle e).0 e (get_beside s.machines s.calls w intact.machines Idle e).1
+  free (Some (Collecting op)) e b = fl.each w (Collecting op) (get_beside s.machines s.calls w intact.machines (Collecting op) e).0 e (get_beside s.machines s.calls w intact.machines (Collecting op) e).1
   free (Some (Reserving op)) e b = absurd cc
   free (Some (Securing op)) e b = absurd cc
   free (Some Walking) e b = absurd cc
@@ -178,7 +169,7 @@ module _ {V : Type 0} (same : V → V → Bool) (always : Bool) (s s' : World V)
   set_in_flight fs' k' l ec em here apart = record {
     each = λ i k x a b.
         let P : List (InFlight V) → Type 0 = λ ks. slice_get ks i ≡ Some k in
-        elim (get_set_either s.calls w i k' k (subst P ec a)) [
+        elim (get_set s.calls w i k' k (subst P ec a)) [
           | inl e ↦ (
               let Q : InFlight V → Type 0 = λ y. IsInFlight y x (fs' i) in
               let R : ℕ → Type 0 = λ j. IsInFlight k' x (fs' j) in
@@ -225,7 +216,7 @@ module _ {V : Type 0} (same : V → V → Bool) (always : Bool) (s s' : World V)
     in_flight = set_in_flight (starts op) Walking l (ap (λ y. y.calls) k.state)
         (λ i y n b.
         let P : List (Machine Id V) → Type 0 = λ ms. slice_get ms i ≡ Some y in
-        elim (get_set_either s.machines w i (begun root op) y (subst P (ap (λ z. z.machines) k.state) b)) [
+        elim (get_set s.machines w i (begun root op) y (subst P (ap (λ z. z.machines) k.state) b)) [
           | inl e ↦ absurd (n e.0)
           | inr e ↦ e.1
         ])
@@ -233,7 +224,7 @@ module _ {V : Type 0} (same : V → V → Bool) (always : Bool) (s s' : World V)
         let P : List (Machine Id V) → Type 0 = λ ms. slice_get ms w ≡ Some y in
         let Q : Flight V → Type 0 = λ g. Follows y g in
         let R : Machine Id V → Type 0 = λ z. Follows z (flight (begun root op)) in
-        subst Q (sym (flight_here fs w (flight (begun root op)))) (elim (get_set_either s.machines w w (begun root op) y (subst P (ap (λ z. z.machines) k.state) b)) [
+        subst Q (sym (flight_here fs w (flight (begun root op)))) (elim (get_set s.machines w w (begun root op) y (subst P (ap (λ z. z.machines) k.state) b)) [
           | inl e ↦ subst R e.1 (begun_follows op)
           | inr e ↦ absurd (e.0 refl)
         ]))
@@ -365,7 +356,7 @@ module _ {V : Type 0} (same : V → V → Bool) (always : Bool) (s s' : World V)
       in_flight = set_in_flight (with_flight fs w waiting) Walking len ec
           (λ i y n b.
           let P : List (Machine Id V) → Type 0 = λ ms. slice_get ms i ≡ Some y in
-          elim (get_set_either s.machines w i (begun root op) y (subst P em b)) [
+          elim (get_set s.machines w i (begun root op) y (subst P em b)) [
             | inl q ↦ absurd (n q.0)
             | inr q ↦ q.1
           ])
@@ -373,7 +364,7 @@ module _ {V : Type 0} (same : V → V → Bool) (always : Bool) (s s' : World V)
           let P : List (Machine Id V) → Type 0 = λ ms. slice_get ms w ≡ Some y in
           let Q : Flight V → Type 0 = λ g. Follows y g in
           let R : Machine Id V → Type 0 = λ z. Follows z (flight (begun root op)) in
-          subst Q (pending op writing ∙ sym (flight_here fs w waiting)) (elim (get_set_either s.machines w w (begun root op) y (subst P em b)) [
+          subst Q (pending op writing ∙ sym (flight_here fs w waiting)) (elim (get_set s.machines w w (begun root op) y (subst P em b)) [
             | inl q ↦ subst R q.1 (begun_follows op)
             | inr q ↦ absurd (q.0 refl)
           ]))
@@ -408,14 +399,14 @@ module _ {V : Type 0} (same : V → V → Bool) (always : Bool) (s s' : World V)
 
   reserving_on : (op : Point V) (noise : Noise Id V) → slice_get s.calls w ≡ Some (Securing op) → (r : Report V) → GoesOnReserving same always s w r s' → Result (Go noise) r (λ l f'. GoMap same fs (fs w) m noise.answer l f')
   reserving_on op noise e r k =
-      let x : (x : Machine Id V) × (slice_get s.machines w ≡ Some x) = machine_at (Securing op) e in
+      let x : (x : Machine Id V) × (slice_get s.machines w ≡ Some x) = get_beside s.machines s.calls w intact.machines (Securing op) e in
       let at : IsAt (Securing op) (place_of s w) x.0 = intact.each w (Securing op) x.0 e x.1 in
       reserving_from op noise at.3 (fl.each w (Securing op) x.0 e x.1) (slice_get_within s.calls w (Securing op) e) s x.0 at e refl refl (λ k. refl) r k
 
   -- its first step
   secures_first : (op : Point V) (noise : Noise Id V) → slice_get s.calls w ≡ Some (Reserving op) → (r : Report V) → SecuresFirst same always s w r s' → Result (Go noise) r (λ l f'. GoMap same fs (fs w) m noise.answer l f')
   secures_first op noise e r k =
-      let x : (x : Machine Id V) × (slice_get s.machines w ≡ Some x) = machine_at (Reserving op) e in
+      let x : (x : Machine Id V) × (slice_get s.machines w ≡ Some x) = get_beside s.machines s.calls w intact.machines (Reserving op) e in
       let b : World V = k.between in
       let here : slice_get b.calls w ≡ Some (Securing op) = next_here same always s.forest s.machines s.calls w b.forest b.machines b.calls k.begins op e in
       let there : slice_get b.machines w ≡ Some x.0 = ap (λ ms. slice_get ms w) k.begins.machine ∙ x.1 in
@@ -505,13 +496,13 @@ module _ {V : Type 0} (same : V → V → Bool) (always : Bool) (s s' : World V)
       let P : Option (Machine Id V) → Type 0 = λ o. IsInFlight (if over_at o then Idle else Walking) y g in
       let Q : Bool → Type 0 = λ c. IsInFlight (if c then Idle else Walking) y g in
       subst P (sym b) (elim (cases_Bool (is_over y.phase)) [
-        | inl c ↦ subst Q (sym c) (over_when_ended y g (is_ended y.phase c) f)
+        | inl c ↦ subst Q (sym c) (over_when_ended y g (over_ended y.phase c) f)
         | inr c ↦ subst Q (sym c) f
       ])
 
   walks : (noise : Noise Id V) (r : Report V) → slice_get s.calls w ≡ Some Walking → Walks same always s w noise r s' → Result (Go noise) r (λ l f'. GoMap same fs (fs w) m noise.answer l f')
   walks noise r e k =
-      let x : (x : Machine Id V) × (slice_get s.machines w ≡ Some x) = machine_at Walking e in
+      let x : (x : Machine Id V) × (slice_get s.machines w ≡ Some x) = get_beside s.machines s.calls w intact.machines Walking e in
       let moved = k.step.walked.plays.moved x.0 x.1 in
       let seen = k.step.walked.plays.watched m (own noise e k.move) st (follow noise e k.move) in
       let P : Option (Flight V) → Type 0 = λ o. WatchedAt same (own noise e k.move) m o (record { who = w; noise = noise }) k.move seen.1 seen.0 in
@@ -534,7 +525,7 @@ module _ {V : Type 0} (same : V → V → Bool) (always : Bool) (s s' : World V)
         in_flight = set_in_flight fly.flights (if over_at (slice_get s'.machines w) then Idle else Walking) (slice_get_within s.calls w Walking e) k.calls
             (λ i y n b.
             let Q : List (Machine Id V) → Type 0 = λ ms. slice_get ms i ≡ Some y in
-            elim (get_set_either s.machines w i (rested moved.now) y (subst Q final_is b)) [
+            elim (get_set s.machines w i (rested moved.now) y (subst Q final_is b)) [
               | inl q ↦ absurd (n q.0)
               | inr q ↦ q.1
             ])
@@ -584,14 +575,14 @@ module _ {V : Type 0} (same : V → V → Bool) (always : Bool) (s s' : World V)
 
   -- a call in flight is of a registered worker
   securing_registered : (op : Point V) → slice_get s.calls w ≡ Some (Securing op) → (place_of s w).registered ≡ true
-  securing_registered op e = (intact.each w (Securing op) (machine_at (Securing op) e).0 e (machine_at (Securing op) e).1).0.0
+  securing_registered op e = (intact.each w (Securing op) (get_beside s.machines s.calls w intact.machines (Securing op) e).0 e (get_beside s.machines s.calls w intact.machines (Securing op) e).1).0.0
 
   reserving_registered : (op : Point V) → slice_get s.calls w ≡ Some (Reserving op) → (place_of s w).registered ≡ true
-  reserving_registered op e = (intact.each w (Reserving op) (machine_at (Reserving op) e).0 e (machine_at (Reserving op) e).1).0
+  reserving_registered op e = (intact.each w (Reserving op) (get_beside s.machines s.calls w intact.machines (Reserving op) e).0 e (get_beside s.machines s.calls w intact.machines (Reserving op) e).1).0
 
   walking_registered : slice_get s.calls w ≡ Some Walking → (place_of s w).registered ≡ true
   walking_registered e =
-      let x : (x : Machine Id V) × (slice_get s.machines w ≡ Some x) = machine_at Walking e in
+      let x : (x : Machine Id V) × (slice_get s.machines w ≡ Some x) = get_beside s.machines s.calls w intact.machines Walking e in
       (intact.safe.sound.sound.guarded w x.0 x.1).registered (intact.each w Walking x.0 e x.1).0
 
   go_case : (noise : Noise Id V) (r : Report V) (k : Option (InFlight V)) (b : Bool) → slice_get s.calls w ≡ k → (place_of s w).registered ≡ b
@@ -601,9 +592,9 @@ module _ {V : Type 0} (same : V → V → Bool) (always : Bool) (s s' : World V)
   go_case noise r (Some Idle) false e be x = refused_go noise r fault.Unknown (free (Some Idle) e refl) x
   go_case noise r (Some Idle) true e be x = refused_go noise r fault.Idle (free (Some Idle) e refl) x
   go_case noise r (Some (Collecting op)) false e be x =
-      refused_go noise r fault.Unknown (fl.each w (Collecting op) (machine_at (Collecting op) e).0 e (machine_at (Collecting op) e).1) x
+      refused_go noise r fault.Unknown (fl.each w (Collecting op) (get_beside s.machines s.calls w intact.machines (Collecting op) e).0 e (get_beside s.machines s.calls w intact.machines (Collecting op) e).1) x
   go_case noise r (Some (Collecting op)) true e be x =
-      let o : fs w ≡ Over = fl.each w (Collecting op) (machine_at (Collecting op) e).0 e (machine_at (Collecting op) e).1 in
+      let o : fs w ≡ Over = fl.each w (Collecting op) (get_beside s.machines s.calls w intact.machines (Collecting op) e).0 e (get_beside s.machines s.calls w intact.machines (Collecting op) e).1 in
       let P : Option (InFlight V) → Type 0 = λ c. GoesAt same always s w c noise r s' in
       collects (Go noise) collector_event.Go op r (λ l f'. GoMap same fs (fs w) m noise.answer l f') o (inside be) (subst P e x) (over_go noise r o)
   go_case noise r (Some (Reserving op)) false e be x = absurd (let q : false ≡ true = sym be ∙ reserving_registered op e in false≢true q)
