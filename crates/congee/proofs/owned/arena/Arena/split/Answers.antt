@@ -24,7 +24,7 @@ same_parts s s' key at below e p = record {
 }
 
 -- a leaf that forks off once both nodes are charged for is an insertion
-forks_adds : {P A : Type 0} (charged limit : A → ℕ) (old ready new : Arena P A) (key : List ℕ) (value : P) → IsTree old.nodes → SameNodes old.nodes ready.nodes
+forks_adds : {P A K : Type 0} (charged limit : A → ℕ) (old ready new : Arena P A K) (key : List ℕ) (value : P) → IsTree old.nodes → SameNodes old.nodes ready.nodes
     → charged ready.allocator ≡ charged old.allocator + 128 → limit ready.allocator ≡ limit old.allocator → AllFit (64 ∷ 64 ∷ []) (charged old.allocator) (limit old.allocator)
     → ForksOff ready new key value → Adds charged limit old new key None value (Some (64 ∷ 64 ∷ []))
 forks_adds charged limit old ready new key value tree same charge stays fit f =
