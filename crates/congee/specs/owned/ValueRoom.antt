@@ -1,7 +1,7 @@
 -- The room that the values of a leaf take, and a slot's node: what stands in a box fits in memory.
 use Rattle.std.specs.Prelude.{◌<◌, ◌^◌, []}
 use native.Mathlib.Omega.{arith}
-use mir.Syntax.{Ty, ty_struct, ty_enum, tnil, tcons, ttnil, ttcons}
+use mir.Syntax.{Ty, w64, ty_int, ty_struct, ty_enum, tnil, tcons, ttnil, ttcons}
 use denote.Param.{layout}
 use denote.RattleType.{RattleType}
 use prog.Memory.{size}
@@ -14,9 +14,13 @@ use Rattle.congee.specs.owned.PlaceRoom.{boxed, boxed_ty, fits, forms, forms_ty,
 abbrev pub node_ty : Ty → Ty
 node_ty τ = ty_struct [] (tcons prefix_ty (tcons (forms_ty τ) tnil))
 
+-- the same, and a word beside them
+abbrev inner_ty : Ty → Ty
+inner_ty τ = ty_struct [] (tcons prefix_ty (tcons (forms_ty τ) (tcons (ty_int w64) tnil)))
+
 -- an inner node or a leaf, as code lays it out
 abbrev pub slot_ty : Ty → Ty → Ty
-slot_ty τ σ = ty_enum [] (ttcons (tcons (node_ty (entry_ty τ)) tnil) (ttcons (tcons (node_ty σ) tnil) ttnil))
+slot_ty τ σ = ty_enum [] (ttcons (tcons (inner_ty (entry_ty τ)) tnil) (ttcons (tcons (node_ty σ) tnil) ttnil))
 
 module _ (K : RattleType) (k : IsSmall (layout K)) where
   kept : FitsIn (layout K) 1000000

@@ -22,10 +22,13 @@ use std::marker::Model;
 
 /// The prefix of an inner node, and what hangs in it. To contracts it is a node whose children are nodes by their slots and
 /// leaves with their whole keys.
+///
+/// `spare` fills a slot to 128 bytes of a list of them, so that what leads a look-up on from one lies in one line of memory.
 #[derive(Drop)]
 pub(crate) struct Inner<P: Nested> {
     prefix: Prefix,
     places: Places<P>,
+    spare: u64,
 }
 
 /// The entries of an inner node from a byte on, or all those of the greatest form.
@@ -130,6 +133,7 @@ impl<P: Small> Inner<P> {
         Ok(Inner {
             prefix: Prefix::new(prefix),
             places: Places::new(alloc, form)?,
+            spare: 0,
         })
     }
 
@@ -143,6 +147,7 @@ impl<P: Small> Inner<P> {
         Inner {
             prefix: Prefix::new(prefix),
             places: Places::least(),
+            spare: 0,
         }
     }
 
