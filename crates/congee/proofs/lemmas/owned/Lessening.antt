@@ -9,7 +9,7 @@ use Rattle.congee.specs.Notes.{Linked, Gone}
 use Rattle.congee.specs.forms.Forms.{capacity_of, children_of, form_of, prefix_of, size_of}
 use Rattle.congee.specs.forms.Mapped.{mapped}
 use Rattle.congee.specs.owned.Arena.{Nodes, hung_in, node_of, heap_of, notes_of, IsFilled, IsTree}
-use Rattle.congee.specs.owned.Lesser.{Shrunk, ShrinksTo, SameMap}
+use Rattle.congee.specs.owned.Lesser.{IsShrunk, Shrunk, ShrinksTo, SameMap}
 use Rattle.congee.specs.owned.Naming.{offset_of, IsByte}
 use Rattle.congee.specs.owned.OwnedSteps.{SameNodes}
 use Rattle.congee.specs.owned.Sizes.{bytes_at, bytes_of}
@@ -31,6 +31,11 @@ use Rattle.congee.proofs.lemmas.owned.SlotLens.{count_if_some, len_update}
 use Rattle.congee.proofs.lemmas.owned.Slots.{with_form, with_prefix, with_mapped}
 use Rattle.congee.proofs.lemmas.owned.Stored.{slot_seen, slot_there, inline_seen, seen_len}
 use Rattle.congee.proofs.lemmas.owned.Ways.{same_tree}
+
+-- the clauses of a call that shrinks a node are one relation
+pub is_shrunk : {C P U V : Type 0} (old new : Node C P) (r : Result U V) → OnOk r (form_of new ≡ form_below (form_of old)) → OnOk r (prefix_of new ≡ prefix_of old) → OnOk r (children_of new ≡ children_of old) → OnOk r (IsShrunk old new)
+is_shrunk old new (Ok u) f p c = record {form = f; prefix = p; children = c}
+is_shrunk old new (Err w) f p c = tt
 
 -- a node of a greater form has a slot, and takes the form below there
 module _ {P K : Type 0} (s : Slab (Slot P K)) (v : Nodes P) (is : nodes_in s ≡ v) (inline : ℕ) (st : IsStored s inline) (at i : ℕ) (byte : Option ℕ) (name : 257 * i + offset_of byte ≡ at) (low : IsByte byte)
