@@ -1,8 +1,9 @@
 //! Trees of one owner, in layers, from the nodes up to the trees.
 //!
-//! `nodes` is the storage: a slot for each node, an inner one or a leaf (`slots`, `slot_node`). An inner node (`inner`) has a
-//! prefix and by form its `places`, whose `entries` are nodes by their slots, or leaves with one value (`lone`), which have no
-//! slot and lie there. Each has a name (`names`), and to contracts each is a node of those that shared trees have.
+//! `nodes` is the storage: a slot for each node, an inner one or a leaf (`slots`). An inner node (`inner`) has a prefix
+//! and by form its `places`, whose `entries` are nodes by their slots, or leaves with one value (`lone`), which have no slot and
+//! lie there; a leaf with a slot of its own (`leaf_node`) has a prefix and by form its `values`. Each has a name (`names`), and to
+//! contracts each is a node of those that shared trees have.
 //!
 //! Over it, `looks` tells what a node has for a key, `parting` where a key leaves a prefix, and `hangings` changes what hangs
 //! in a node. An `arena` is the nodes and their budget. It goes down a key's way, whose end is a `place`; there `edit` puts

@@ -112,6 +112,7 @@ prefix_ty = ty_struct [] (tcons (ty_array (ty_int w8) 8) tnil)
 abbrev pub ranks_ty : ℕ → Ty
 ranks_ty n = ty_struct [] (tcons (ty_array (ty_int w8) n) (tcons (ty_int w64) tnil))
 
+-- children in the order of their bytes
 abbrev sorted_ty : ℕ → Ty → Ty → Ty
 sorted_ty n τ σ = ty_struct [] (tcons (ranks_ty n) (tcons (array_vec_ty (child_ty τ σ) n) tnil))
 
@@ -119,6 +120,7 @@ sorted_ty n τ σ = ty_struct [] (tcons (ranks_ty n) (tcons (array_vec_ty (child
 abbrev pub index_ty : Ty
 index_ty = ty_struct [] (tcons (ty_int w8) (tcons (ty_int w8) (tcons (ty_array (ty_int w8) 256) (tcons (ty_array (ty_int w8) 48) tnil))))
 
+-- children behind an index
 abbrev indexed_ty : Ty → Ty → Ty
 indexed_ty τ σ = ty_struct [] (tcons index_ty (tcons (array_vec_ty (child_ty τ σ) 48) tnil))
 
@@ -126,6 +128,7 @@ indexed_ty τ σ = ty_struct [] (tcons index_ty (tcons (array_vec_ty (child_ty �
 abbrev pub mask_ty : Ty
 mask_ty = ty_struct [] (tcons (ty_array (ty_int w8) 32) tnil)
 
+-- children behind a mask
 abbrev masked_ty : Ty → Ty → Ty
 masked_ty τ σ = ty_struct [] (tcons (ty_int w16) (tcons mask_ty (tcons (array_vec_ty (child_ty τ σ) 256) tnil)))
 

@@ -9,6 +9,7 @@ use Rattle.congee.specs.forms.Room.{IsSmall}
 use Rattle.congee.specs.forms.RoomLemmas.{FitsIn, no_fields, field, struct, no_cases, case, enum, word, byte, array}
 use Rattle.congee.specs.owned.PlaceRoom.{boxed, boxed_ty, fits, forms, forms_ty, masked, masked_ty, room, sorted, sorted_ty}
 
+-- a key's bytes after the first, as code lays them out
 abbrev tail_ty : Ty
 tail_ty = ty_struct [] (tcons (ty_array (ty_int w8) 7) tnil)
 

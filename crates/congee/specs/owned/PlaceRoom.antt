@@ -51,7 +51,7 @@ module _ {τ : Ty} (thing : FitsIn τ 1000000) where
       let w = struct (field count (field (struct (field (array 32 byte) no_fields)) (field (things 256 300000000 (omega arith)) no_fields))) in
       record { bytes = omega (arith, w.bytes); aligned = w.aligned }
 
-  -- so do the forms, of which the least alone lies inline
+  -- so have the forms, of which the least alone lies inline
   pub forms : FitsIn (forms_ty τ) 500000000
   forms =
       let w = enum (case (field (sorted 4 (omega arith)) no_fields) (case (field pointer no_fields) (case (field pointer no_fields) (case (field pointer no_fields) no_cases)))) in

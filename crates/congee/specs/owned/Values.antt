@@ -54,11 +54,11 @@ module _ {P K : Type 0} where
   abbrev pub node_with : (K → Option P) → List ℕ → Values K → Node ℕ P
   node_with value prefix v = laid_node (form_in v) prefix (mapped (child_kept value) (kept_in v))
 
-  -- if something is kept, it is a value
-  abbrev pub IsHeld : (K → Option P) → Option K → Type 0
-  IsHeld value None = Unit {0}
-  IsHeld value (Some k) = IsSome (value k)
+  -- if something is kept, it has a value
+  abbrev pub KeepsValue : (K → Option P) → Option K → Type 0
+  KeepsValue value None = Unit {0}
+  KeepsValue value (Some k) = IsSome (value k)
 
   -- each byte that has something kept has a value
   abbrev pub HoldsValues : (K → Option P) → Values K → Type 0
-  HoldsValues value v = (b : ℕ) → IsHeld value (get (kept_in v) b)
+  HoldsValues value v = (b : ℕ) → KeepsValue value (get (kept_in v) b)

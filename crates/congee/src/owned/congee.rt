@@ -298,7 +298,8 @@ impl<K: Word64, V: Word64, A: Allocator, D: Drop> Congee<K, V, A, D> {
         }
     }
 
-    /// Writes the pairs with start <= key < end into `out`, ascending, as many as fit, each key as its eight bytes.
+    /// Writes the pairs with start <= key < end into `out`, ascending, as many as fit, each key as its eight bytes, and gives their
+    /// number.
     pub(crate) fn range_by_bytes(
         &self,
         start: u64,
@@ -312,7 +313,8 @@ impl<K: Word64, V: Word64, A: Allocator, D: Drop> Congee<K, V, A, D> {
         self.arena.range(start, end, out)
     }
 
-    /// Writes the pairs with start <= key <= last into `out`, ascending, as many as fit, each key as its eight bytes.
+    /// Writes the pairs with start <= key <= last into `out`, ascending, as many as fit, each key as its eight bytes, and gives their
+    /// number.
     pub(crate) fn range_to_by_bytes(
         &self,
         start: u64,

@@ -157,7 +157,7 @@ impl<P: Stored, A: Allocator> Arena<P, A> {
         }
     }
 
-    /// Puts a leaf of the least form with one value into its parent's place.
+    /// Puts a leaf of the least form with one value into its parent's place; any other stays in its slot.
     #[inline(always)]
     pub(crate) fn tuck(&mut self, above: Name, at: Name, key: &[u8; KEY_BYTES])
         requires own { HasOwnSlot at }

@@ -23,7 +23,8 @@ use std::marker::Model;
 /// The prefix of an inner node, and what hangs in it. To contracts it is a node whose children are nodes by their slots and
 /// leaves with their whole keys.
 ///
-/// `spare` fills a slot to 128 bytes of a list of them, so that what leads a look-up on from one lies in one line of memory.
+/// `spare` fills a slot, with values of eight bytes, to 128 bytes, so that what leads a look-up on from one lies in one line of
+/// memory.
 #[derive(Drop)]
 pub(crate) struct Inner<P: Nested> {
     prefix: Prefix,
@@ -203,7 +204,7 @@ impl<P: Small> Inner<P> {
         self.places.is_full()
     }
 
-    // The first byte of every key under a byte of the node.
+    /// The first byte of every key under a byte of the node.
     #[inline(always)]
     fn first_byte(&self, byte: u8) -> u8
         ensures { result ≡ first_byte (prefix_of self.now) byte }

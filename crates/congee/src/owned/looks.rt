@@ -53,7 +53,7 @@ impl<P: Stored> Nodes<P> {
         }
     }
 
-    // What a leaf in the place of its parent has for a key.
+    /// What a leaf in the place of its parent has for a key.
     #[inline(always)]
     fn look_inline(&self, slot: usize, byte: u8, key: &[u8; KEY_BYTES]) -> Way<'_, P>
         requires { ContainsKey self.now (257 * slot + (byte + 1)) }
@@ -67,7 +67,7 @@ impl<P: Stored> Nodes<P> {
         }
     }
 
-    // What a node in a slot has for a key.
+    /// What a node in a slot has for a key.
     #[inline(always)]
     fn look_slot(&self, slot: usize, key: &[u8; KEY_BYTES]) -> Way<'_, P>
         requires tree { IsTree self.now }
@@ -131,7 +131,7 @@ impl<P: Stored> Nodes<P> {
         }
     }
 
-    // Whether the key has the prefix of the node in a slot.
+    /// Whether the key has the prefix of the node in a slot.
     #[inline(always)]
     fn is_prefix_of(&self, slot: usize, key: &[u8; KEY_BYTES]) -> bool
         requires { ContainsKey self.now (257 * slot) }
@@ -140,7 +140,7 @@ impl<P: Stored> Nodes<P> {
         self.slab[slot].is_prefix_of(key)
     }
 
-    // Whether the node in a slot is on the key's way.
+    /// Whether the node in a slot is on the key's way.
     #[inline(always)]
     fn way_below(&self, slot: usize, key: &[u8; KEY_BYTES]) -> Way<'_, P>
         requires { ContainsKey self.now (257 * slot) }
@@ -153,7 +153,7 @@ impl<P: Stored> Nodes<P> {
         }
     }
 
-    // The same, for a way that goes on by slots.
+    /// The same, for a way that goes on by slots.
     #[inline(always)]
     fn way_on(&self, slot: usize, key: &[u8; KEY_BYTES]) -> Onward<'_, P>
         requires { ContainsKey self.now (257 * slot) }
@@ -180,7 +180,7 @@ impl<P: Stored> Nodes<P> {
         }
     }
 
-    // The value of a leaf in the place of its parent, if its byte isn't below `from`.
+    /// The value of a leaf in the place of its parent, if its byte isn't below `from`.
     #[inline(always)]
     fn first_inline(&self, slot: usize, byte: u8, from: usize) -> Option<(u8, Found<'_, P>)>
         requires { ContainsKey self.now (257 * slot + (byte + 1)) }
@@ -198,7 +198,7 @@ impl<P: Stored> Nodes<P> {
         }
     }
 
-    // What hangs under the least byte from `from` on in the node in a slot.
+    /// What hangs under the least byte from `from` on in the node in a slot.
     #[inline(always)]
     fn first_in_slot(&self, slot: usize, from: usize) -> Option<(u8, Found<'_, P>)>
         requires { ContainsKey self.now (257 * slot) }

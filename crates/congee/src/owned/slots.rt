@@ -33,6 +33,7 @@ impl<P: Stored> Slot<P> {
     ghost use Rattle.congee.specs.owned.Entries.{Begins, first_byte, lone_seen};
     ghost use Rattle.congee.specs.owned.Kinds.{prefix_in, form_in, len_in, full_in, HasLowBytes, IsInner, IsLeaf, inner_get, leaf_get, IsValue, Cleared, InnerBecomes, LeafBecomes, Grown};
 
+    /// The node's prefix, at most `MAX_PREFIX_LEN` bytes.
     #[inline(always)]
     pub(crate) fn prefix(&self) -> &[u8]
         ensures bytes { result.now ≡ prefix_in self.now }
@@ -44,6 +45,7 @@ impl<P: Stored> Slot<P> {
         }
     }
 
+    /// How many bytes the prefix has.
     #[inline(always)]
     pub(crate) fn prefix_len(&self) -> usize
         ensures count { result ≡ length (prefix_in self.now) }
@@ -55,6 +57,7 @@ impl<P: Stored> Slot<P> {
         }
     }
 
+    /// Whether the key has the prefix's bytes in their places.
     #[inline(always)]
     pub(crate) fn is_prefix_of(&self, key: &[u8; KEY_BYTES]) -> bool
         ensures { result ≡ fits (prefix_in self.now) key.now }
@@ -65,6 +68,7 @@ impl<P: Stored> Slot<P> {
         }
     }
 
+    /// The node's form.
     #[inline(always)]
     pub(crate) fn node_type(&self) -> NodeType
         ensures { result ≡ form_in self.now }
@@ -75,6 +79,7 @@ impl<P: Stored> Slot<P> {
         }
     }
 
+    /// How many children the node has.
     #[inline(always)]
     pub(crate) fn len(&self) -> usize
         ensures count { result ≡ len_in self.now }
@@ -87,6 +92,7 @@ impl<P: Stored> Slot<P> {
         }
     }
 
+    /// Whether the node has as many children as its form can.
     #[inline(always)]
     pub(crate) fn is_full(&self) -> bool
         ensures { result ≡ full_in self.now }
@@ -97,6 +103,7 @@ impl<P: Stored> Slot<P> {
         }
     }
 
+    /// Becomes the next greater form. Where memory is refused, it stays as it was.
     pub(crate) fn grow(&mut self, alloc: Global) -> Result<(), AllocError>
         ensures grown { OnOk result (Grown self.old self.new) }
         ensures refused { OnErr result (self.new ≡ self.old) }
@@ -152,7 +159,7 @@ impl<P: Stored> Slot<P> {
         }
     }
 
-    /// Another value comes in its place.
+    /// Another value comes in the place of a leaf's value under a byte, which is given back.
     #[inline(always)]
     pub(crate) fn change_value(&mut self, byte: u8, value: P) -> P
         requires present { IsValue (leaf_get self.old byte) }
@@ -165,6 +172,7 @@ impl<P: Stored> Slot<P> {
         }
     }
 
+    /// A leaf's value under a byte is taken out and given back.
     #[inline(always)]
     pub(crate) fn take_value(&mut self, byte: u8) -> P
         requires present { IsValue (leaf_get self.old byte) }
@@ -177,6 +185,7 @@ impl<P: Stored> Slot<P> {
         }
     }
 
+    /// A child comes in under a byte of an inner node that had none there.
     #[inline(always)]
     pub(crate) fn put_child(&mut self, byte: u8, child: Child<usize, Lone<P>>)
         requires inner { IsInner self.old }
@@ -191,6 +200,7 @@ impl<P: Stored> Slot<P> {
         }
     }
 
+    /// Another child comes in the place of the one under a byte of an inner node, which is given back.
     #[inline(always)]
     pub(crate) fn change_child(
         &mut self,
@@ -208,6 +218,7 @@ impl<P: Stored> Slot<P> {
         }
     }
 
+    /// The child under a byte of an inner node is taken out and given back.
     #[inline(always)]
     pub(crate) fn take_child(&mut self, byte: u8) -> Child<usize, Lone<P>>
         requires present { IsSome (inner_get self.old byte) }
@@ -233,6 +244,7 @@ impl<P: Stored> Slot<P> {
         }
     }
 
+    /// Loses all children, and keeps its prefix.
     pub(crate) fn clear(&mut self)
         ensures { Cleared self.old self.new }
     {

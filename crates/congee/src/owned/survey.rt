@@ -1,4 +1,4 @@
-//! How the nodes of an arena are spread over levels and forms.
+//! The nodes of an arena, counted by level and form.
 ghost use Rattle.std.specs.Prelude.{◌≡◌, ◌≤◌, ◌++◌, List, length, vec_len, IfOk, OnOk};
 ghost use Rattle.std.specs.FinMap as map;
 ghost use Rattle.std.specs.List.{All};

@@ -68,7 +68,7 @@ impl Nodes<u64> {
         }
     }
 
-    // The same of any node.
+    /// The same of any node.
     #[cycle(writing)]
     fn write_seen<E: Listed>(
         &self,
@@ -103,7 +103,7 @@ impl Nodes<u64> {
         Written { count, over: false }
     }
 
-    // The same of the entries that an inner node with a prefix has from a byte on.
+    /// The same of the entries that an inner node with a prefix has from a byte on.
     #[inline(always)]
     #[cycle(writing)]
     fn write_list<E: Listed>(
@@ -131,7 +131,7 @@ impl Nodes<u64> {
         Written { count, over: false }
     }
 
-    // The same of one entry.
+    /// The same of one entry.
     #[inline(always)]
     #[cycle(writing)]
     fn write_entry<E: Listed>(
@@ -158,8 +158,8 @@ impl Nodes<u64> {
         }
     }
 
-    // The same of the entries of the greatest form, most of which are nodes: these are written within the loop, and looked
-    // at before, a few at a time, since a processor that waits for one can read the others meanwhile.
+    /// The same of the entries of the greatest form, most of which are nodes: these are written within the loop, and looked
+    /// at before, a few at a time, since a processor that waits for one can read the others meanwhile.
     #[inline(always)]
     #[cycle(writing)]
     fn write_wide<E: Listed>(
@@ -195,7 +195,7 @@ impl Nodes<u64> {
         Written { count, over: false }
     }
 
-    // The same of one of them.
+    /// The same of one of them.
     #[inline(always)]
     #[cycle(writing)]
     fn write_wide_entry<E: Listed>(
@@ -218,7 +218,7 @@ impl Nodes<u64> {
         }
     }
 
-    // The same of a node below the greatest form.
+    /// The same of a node below the greatest form.
     #[inline(always)]
     #[cycle(writing)]
     fn write_below<E: Listed>(&self, at: Name, last: u64, out: &mut [E], count: usize) -> Written
@@ -234,7 +234,7 @@ impl Nodes<u64> {
         }
     }
 
-    // Looks at the nodes from a byte on, a few of them, or as many as fill the places, and tells how many: one at least.
+    /// Looks at the nodes from a byte on, a few of them, or as many as fill the places, and tells how many: one at least.
     #[inline(always)]
     fn look_ahead(&self, form: &Masked<Entry<u64>>, from: usize, places: usize) -> usize
         ensures { 0 < result }

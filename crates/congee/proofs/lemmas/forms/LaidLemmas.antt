@@ -23,6 +23,7 @@ less_fills N16 n l = grind (arith, nat_tests, l)
 less_fills N48 n l = grind (arith, nat_tests, l)
 less_fills N256 n l = refl
 
+-- a node that was laid has the form, the prefix, the children and the fullness that it was laid with
 module _ {P : Type 0} (t : NodeType) (x : List ℕ) (m : map.FinMap nat_cmp (Child ℕ P)) where
   pub form_laid : form_of (laid_node t x m) ≡ t
   form_laid = of t

@@ -454,9 +454,6 @@ module _ {P : Type 0} where
   pub hung_stands : (s : Nodes P) → IsTree s → (key : List ℕ) (above at : ℕ) → Hangs s key above at → ContainsKey s at
   hung_stands s t key above at h = below_stands s t above at key h.way.stands h.child
 
-  not_renamed : (s : Nodes P) → IsTree s → Renamed s s
-  not_renamed s t = record { tree = t; values = λ k. refl; bytes = refl; filled = λ h. h }
-
   -- a node that was just made, and then got a leaf
   pub made_inner : (s s' : Nodes P) (n : ℕ) (p : List ℕ) → Makes s s' n p → length p < 7 → (x : Form ℕ P) → get s' n ≡ Some x → length (prefix_of x) < 7
   made_inner s s' n p m l x e =

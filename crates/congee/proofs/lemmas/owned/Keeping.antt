@@ -7,7 +7,7 @@ use Rattle.std.specs.Cmp.{nat_cmp_total}
 use Rattle.std.specs.FinMap as map
 use Rattle.congee.specs.forms.Bytes.{IsFirst}
 use Rattle.congee.specs.forms.Forms.{Becomes, capacity_of, children_of, form_of, is_full_of}
-use Rattle.congee.specs.owned.Values.{HoldsValues, IsHeld, Refills, child_kept, child_with, form_in, full_in, kept_in, node_with}
+use Rattle.congee.specs.owned.Values.{HoldsValues, KeepsValue, Refills, child_kept, child_with, form_in, full_in, kept_in, node_with}
 use Rattle.congee.specs.declared.forms.base_node.Node.{Node}
 use Rattle.congee.specs.declared.forms.child.Child.TheVariants.{Value}
 use Rattle.congee.specs.declared.owned.values.Values.{Values}
@@ -36,21 +36,21 @@ value_child (Some w) h = refl
 module _ {P K : Type 0} (value : K → Option P) where
   -- what is kept stays so, if nothing else comes than values
   pub bare_held : (v : Values K) → kept_in v ≡ map.empty → HoldsValues value v
-  bare_held v e b = subst (IsHeld value) (sym (ap (λ m. map.get m b) e ∙ map.get-empty _ b)) tt
+  bare_held v e b = subst (KeepsValue value) (sym (ap (λ m. map.get m b) e ∙ map.get-empty _ b)) tt
 
   pub insert_held : (v v' : Values K) (b : ℕ) (k : K) (w : P) → value k ≡ Some w → kept_in v' ≡ map.insert (kept_in v) b k → HoldsValues value v → HoldsValues value v'
   insert_held v v' b k w is e h q =
-      subst (IsHeld value) (sym (ap (λ m. map.get m q) e ∙ map.get-insert nat_cmp_total (kept_in v) b k q)) (of (eq_by_cmp nat_cmp q b))
+      subst (KeepsValue value) (sym (ap (λ m. map.get m q) e ∙ map.get-insert nat_cmp_total (kept_in v) b k q)) (of (eq_by_cmp nat_cmp q b))
     where
-      of : (t : Bool) → IsHeld value (cond t (Some k) (map.get (kept_in v) q))
+      of : (t : Bool) → KeepsValue value (cond t (Some k) (map.get (kept_in v) q))
       of true = subst IsSome (sym is) refl
       of false = h q
 
   pub remove_held : (v v' : Values K) (b : ℕ) → kept_in v' ≡ map.remove (kept_in v) b → HoldsValues value v → HoldsValues value v'
   remove_held v v' b e h q =
-      subst (IsHeld value) (sym (ap (λ m. map.get m q) e ∙ map.get-remove nat_cmp_total (kept_in v) b q)) (of (eq_by_cmp nat_cmp q b))
+      subst (KeepsValue value) (sym (ap (λ m. map.get m q) e ∙ map.get-remove nat_cmp_total (kept_in v) b q)) (of (eq_by_cmp nat_cmp q b))
     where
-      of : (t : Bool) → IsHeld value (cond t None (map.get (kept_in v) q))
+      of : (t : Bool) → KeepsValue value (cond t None (map.get (kept_in v) q))
       of true = tt
       of false = h q
 
@@ -61,7 +61,7 @@ module _ {P K : Type 0} (value : K → Option P) where
 
   -- what a byte keeps is a value
   pub held_at : (v : Values K) → HoldsValues value v → (b : ℕ) (k : K) → map.get (kept_in v) b ≡ Some k → IsSome (value k)
-  held_at v h b k e = subst (IsHeld value) e (h b)
+  held_at v h b k e = subst (KeepsValue value) e (h b)
 
 -- a leaf by its prefix and its values
 module _ {P K : Type 0} (value : K → Option P) (x : List ℕ) (v : Values K) (n : Node ℕ P) (is : node_with value x v ≡ n) where

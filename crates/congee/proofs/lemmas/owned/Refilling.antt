@@ -13,5 +13,6 @@ pub record IsMoving {P : Type 0} (old empty left moved : Places P) (from : ℕ) 
   pub moved_form : form_in moved ≡ form_in empty
   pub entries : HavePoured (entries_in old) (entries_in left) (entries_in moved) from
 
+-- places that hold fewer than their form can have aren't full
 pub full_in_room : {P : Type 0} (n : Places P) → map.len (entries_in n) < capacity_of (form_in n) → full_in n ≡ false
 full_in_room n l = full_in_at n ∙ less_fills (form_in n) (map.len (entries_in n)) l

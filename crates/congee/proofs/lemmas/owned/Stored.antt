@@ -340,13 +340,6 @@ module _ {P K : Type 0} (s : Slab (Slot P K)) (v : Nodes P) (is : nodes_in s ≡
     pub leaf_last : ((b : ℕ) → from ≤ b → map.get (children_of n) b ≡ None) → (b : ℕ) → from ≤ b → map.get (children_of y) b ≡ None
     leaf_last k b l = ap (λ m. map.get m b) (sym leaf_map) ∙ none_mapped leaf_child (children_of n) b (k b l)
 
--- what was read there
-lone_read : {P K : Type 0} (s : Slab (Slot P K)) (i b : ℕ) (k : LoneAt s i b) (x : Slot P K) (n : Node ℕ (Lone P)) → get s i ≡ Some x → x ≡ Inner n → map.get (children_of n) b ≡ Some (Value k.lone)
-lone_read s i b k x n e q =
-    let z : Some (Inner k.node) ≡ Some (Inner n) = sym k.stands ∙ (e ∙ ap Some q) in
-    let y : k.node ≡ n = cc in
-    subst (λ m. map.get (children_of m) b ≡ Some (Value k.lone)) y k.child
-
 -- fewer nodes stand in slots than have names
 module _ {P K : Type 0} (s : Slab (Slot P K)) where
   slots_at_most : (f g : ℕ → ℕ) (n : ℕ) → ((i : ℕ) → g i ≤ f (257 * i)) → total g n ≤ total f (257 * n)

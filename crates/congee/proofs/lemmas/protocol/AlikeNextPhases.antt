@@ -32,30 +32,30 @@ use Rattle.congee.specs.protocol.PlainSteps.{asked, at_old, added, exchanged, pr
 use Rattle.congee.specs.declared.forms.prefix.TheConstants.{MAX_PREFIX_LEN}
 
 module _ {C V : Type 0} (order : List ℕ) (number : C → ℕ) (h : ℕ → Node V) where
-  -- a turn on the store and one by numbers report the same, and go on in the same phase
+  -- a next phase on the store and one by numbers report the same, and go on in the same phase
   abbrev pub Alike : NextPhase C V → NextPhase ℕ V → Type 0
   Alike t u = NextPhaseAlike order number h t u
 
-  -- turns that report nothing and go on in the same phase are alike on both sides
+  -- next phases that report nothing and go on in the same phase are alike on both sides
   pub quiet_alike : (p : Phase C V) (q : Phase ℕ V) → PhaseAlike order number h p q → Alike (quiet p) (quiet q)
   quiet_alike p q x = record { report = refl; phase = x }
 
   asking_alike : (p : Phase C V) (q : Phase ℕ V) (o : Option V) → PhaseAlike order number h p q → Alike (asking p o) (asking q o)
   asking_alike p q o x = record { report = refl; phase = x }
 
-  -- turns that report that the call took effect, and go on in the same phase, are alike on both sides
+  -- next phases that report that the call took effect, and go on in the same phase, are alike on both sides
   pub decided_alike : (p : Phase C V) (q : Phase ℕ V) → PhaseAlike order number h p q → Alike (decided p) (decided q)
   decided_alike p q x = record { report = refl; phase = x }
 
-  -- the turn that takes effect and ends with a reply is alike on both sides
+  -- the next phase that takes effect and ends with a reply is alike on both sides
   pub answered_alike : (r : Reply V) → Alike (answered r) (answered r)
   answered_alike r = record { report = refl; phase = refl }
 
-  -- the turn that ends with a reply after the call took effect is alike on both sides
+  -- the next phase that ends with a reply after the call took effect is alike on both sides
   pub finished_alike : (r : Reply V) → Alike (finished r) (finished r)
   finished_alike r = record { report = refl; phase = refl }
 
-  -- the turn that ends with a refusal is alike on both sides
+  -- the next phase that ends with a refusal is alike on both sides
   pub refused_alike : (e : Refusal) → Alike (refused e) (refused e)
   refused_alike e = record { report = refl; phase = refl }
 
@@ -63,7 +63,7 @@ module _ {C V : Type 0} (order : List ℕ) (number : C → ℕ) (h : ℕ → Nod
   pub alike_at : (t s : NextPhase C V) (u : NextPhase ℕ V) → t ≡ s → Alike s u → Alike t u
   alike_at t s u e x = let P : NextPhase C V → Type 0 = λ z. Alike z u in subst P (sym e) x
 
-  -- the turn by numbers may go by another name for the same one
+  -- the next phase by numbers may go by another name for the same one
   pub alike_to : (t : NextPhase C V) (u w : NextPhase ℕ V) → w ≡ u → Alike t u → Alike t w
   alike_to t u w e x = let P : NextPhase ℕ V → Type 0 = λ z. Alike t z in subst P (sym e) x
 
@@ -268,7 +268,7 @@ module _ {C V : Type 0} (order : List ℕ) (number : C → ℕ) (h : ℕ → Nod
   some_given always same s u v y t x n (inl e) = alike_at t _ _ e (replaced_alike s u (same v y) (reply.ComputePresent (Some (v, Some y))) x.site)
   some_given always same s u v y t x n (inr f) = absurd (copied always t n f)
 
-  -- a closure's answer about a value that stands gives both sides the same new value and the same turn
+  -- a closure's answer about a value that stands gives both sides the same new value and the same next phase
   pub given_alike : (always : Bool) (same : V → V → Bool) (kind : Kind V) (s : Site C) (u : Site ℕ) (v : V) (answer : Option (Option V)) (new new' : Option V) (t : NextPhase C V) → ReadAlike order number s u → IsUnrefused t.report.outcome
       → IsGiven always same kind s v answer new new' t → GivenAlike new' t (given_old same kind u v answer new)
   given_alike always same kind s u v None new new' t x n e = record { given = sym e.0; next_phase = asked_alike always s u v t x n e.1 }
@@ -285,7 +285,7 @@ module _ {C V : Type 0} (order : List ℕ) (number : C → ℕ) (h : ℕ → Nod
   given_alike always same ComputePresent s u v (Some (Some y)) new new' t x n e = record { given = sym e.0; next_phase = some_given always same s u v y t x n e.1 }
   given_alike always same (Exchange old) s u v (Some (Some y)) new new' t x n e = record { given = sym e.0; next_phase = some_given always same s u v y t x n e.1 }
 
-  -- a closure's answer about an absent key gives both sides the same new value and the same turn
+  -- a closure's answer about an absent key gives both sides the same new value and the same next phase
   pub new_alike : (plan : Plan C) (y : Plan ℕ) (answer : Option (Option V)) (new new' : Option V) (t : NextPhase C V) → PlanAlike order number plan y → IsGivenNew plan answer new new' t → GivenAlike new' t (given_new y answer new)
   new_alike plan y (Some (Some v)) new new' t x e = record { given = sym e.0; next_phase = alike_at t _ _ e.1 (started_alike plan y (reply.ComputeInsert None) x) }
   new_alike plan y (Some None) new new' t x e = record { given = sym e.0; next_phase = alike_at t _ _ e.1 (asking_alike (AskNew plan) (AskNew y) None (y, refl, x)) }

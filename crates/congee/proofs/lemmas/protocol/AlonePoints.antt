@@ -82,7 +82,7 @@ module _ {C V : Type 0} (number : C → ℕ) (h : ℕ → Node V) (n : ℕ) wher
   abbrev pub Nearer : NextPhase C V → Type 0
   Nearer t = IsUndisturbed number h t.phase × (steps_left number h t.phase < n) × Tells t.phase t.report.outcome
 
-  -- a turn by another name is as near to the end
+  -- a next phase by another name is as near to the end
   pub near_to : (x y : NextPhase C V) → y ≡ x → Nearer x → Nearer y
   near_to x y p f = subst Nearer (sym p) f
 

@@ -62,7 +62,7 @@ module _ {C V : Type 0} (number : C → ℕ) (same : V → V → Bool) (always :
   kept_after : (given' : Option V) (next_phase : NextPhase C V) (a' : ℕ → Note) (h' : ℕ → Node V) → KeepsMap i a h a' h' → Sound number same always i k kind given h' given' next_phase a' h' → Kept number same always i a h k kind given given' next_phase h'
   kept_after given' next_phase a' h' e s = record { notes = a'; effect = e.effect; sound = record { known = s.known; answer = answers_after next_phase.report.decided next_phase h' h' e.map s.answer } }
 
-  -- a turn by another name keeps ledger, tree and knowledge where the turn does
+  -- a next phase by another name keeps notes, tree and knowledge where the next phase does
   pub kept_at : (given' : Option V) (x y : NextPhase C V) (h' : ℕ → Node V) → y ≡ x → Kept number same always i a h k kind given given' x h' → Kept number same always i a h k kind given given' y h'
   kept_at given' x y h' e m = let P : NextPhase C V → Type 0 = λ z. Kept number same always i a h k kind given given' z h' in subst P (sym e) m
 

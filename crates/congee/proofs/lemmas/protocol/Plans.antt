@@ -194,7 +194,7 @@ module _ {C V : Type 0} (number : C → ℕ) (same : V → V → Bool) (always :
       → Settles same k kind None (Some v) r None → Sound number same always i k kind given h None (emptied s r) a h
   emptied_sound kind given s v r g m d z = taken_sound kind given s v r s.above m.above g m d z
 
-  -- a turn by another name is sound where the turn is
+  -- a next phase by another name is sound where the next phase is
   pub next_phase_at : (kind : Kind V) (given given' : Option V) (x y : NextPhase C V) → y ≡ x → Sound number same always i k kind given h given' x a h → Sound number same always i k kind given h given' y a h
   next_phase_at kind given given' x y e s = let P : NextPhase C V → Type 0 = λ z. Sound number same always i k kind given h given' z a h in subst P (sym e) s
 

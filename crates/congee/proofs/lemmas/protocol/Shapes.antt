@@ -181,7 +181,7 @@ module _ {C V : Type 0} (number : C → ℕ) (k : ℕ) (kind : Kind V) (v v' : O
   pub again_shape : (root : C) → StepShape k kind v v v' q (again root)
   again_shape root = anew k v v v' e q kind root
 
-  -- a turn by another name is a step that the call may take, where the turn is
+  -- a step by another name is a step that the call may take, where the step is
   pub shape_at : (x y : NextPhase C V) → y ≡ x → StepShape k kind v v v' q x → StepShape k kind v v v' q y
   shape_at x y p s = to k v v v' e q kind x y p s
 

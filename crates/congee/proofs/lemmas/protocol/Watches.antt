@@ -85,11 +85,11 @@ heeds {V} same k ComputeInsert (Some v) found c q r i e f =
 heeds same k (Exchange x) given found c q r i e f = tt
 
 module _ {C V : Type 0} (same : V → V → Bool) (k : ℕ) (kind : Kind V) (v v1 v' : Option V) (q : Question V) (h h' : ℕ → Node V) (m : Pairs V) (p : k < 2 ^ 64) (s : IsMapOf h m) where
-  -- some map stands after the turn, and the turn is one of a call that had not taken effect
+  -- some map stands after the step, and the step is one of a call that had not taken effect
   abbrev pub Out : NextPhase C V → Type 0
   Out t = (m' : Pairs V) × IsMapOf h' m' × PendingMoves same k kind v1 q m t.report.decided t.report.outcome (flight_in k kind v' t.phase) m'
 
-  -- some map stands after a turn that answers as the map, and it is one of a call that had not taken effect
+  -- some map stands after a step that answers as the map, and it is one of a call that had not taken effect
   abbrev pub Then : NextPhase C V → Type 0
   Then t = StepAnswers same k kind v h t h' → Out t
 
@@ -152,7 +152,7 @@ closed _ = tt
 
 module _ {C V : Type 0} (number : C → ℕ) (same : V → V → Bool) (always : Bool) (most : ℕ) (why : NodeType → Refusal → Type 0) (i : ℕ) (a : ℕ → Note) (h : ℕ → Node V) (root : C) (k : ℕ) (kind : Kind V)
     (fail : Bool) (told : Option (Option V)) (v v' : Option V) (t : NextPhase C V) (h' : ℕ → Node V) (p : k < 2 ^ 64) (m : Pairs V) (st : IsMapOf h m) where
-  -- some map stands after the turn, and the watch allows the turn
+  -- some map stands after the step, and the watch allows the step
   abbrev pub Next : Flight V → Type 0
   Next f = (m' : Pairs V) × IsMapOf h' m' × Watched same f m told t.report (flight_in k kind v' t.phase) m'
 
