@@ -34,7 +34,7 @@ use Rattle.congee.proofs.lemmas.owned.Ways.{same_tree}
 
 -- the clauses of a call that shrinks a node are one relation
 pub is_shrunk : {C P U V : Type 0} (old new : Node C P) (r : Result U V) → OnOk r (form_of new ≡ form_below (form_of old)) → OnOk r (prefix_of new ≡ prefix_of old) → OnOk r (children_of new ≡ children_of old) → OnOk r (IsShrunk old new)
-is_shrunk old new (Ok u) f p c = record {form = f; prefix = p; children = c}
+is_shrunk old new (Ok u) f p c = record { form = f; prefix = p; children = c }
 is_shrunk old new (Err w) f p c = tt
 
 -- a node of a greater form has a slot, and takes the form below there
