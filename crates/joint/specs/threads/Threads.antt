@@ -64,18 +64,18 @@ abbrev pub ByHold : {V : Type 0} → (V → V → Bool) → Bool → ℕ → Op 
 ByHold same always who o step r = IsHold same always step r
 
 -- a whole call, whose turns are as `hold` says of this call, and which ends so; the closure answers between two turns
-abbrev pub IsHeld : {V F Q : Type 0} → (ℕ → Op V → Step V → Report V → Type 0) → (F → Option V → Option V → F → Type 0) → (ℕ → V → Q) → ℕ → Op V → F → List Q → List Q → Outcome V → Type 0
-IsHeld {V} {F} {Q} hold calls pair who o f places places' outcome =
+abbrev pub IsByHolds : {V F Q : Type 0} → (ℕ → Op V → Step V → Report V → Type 0) → (F → Option V → Option V → F → Type 0) → (ℕ → V → Q) → ℕ → Op V → F → List Q → List Q → Outcome V → Type 0
+IsByHolds {V} {F} {Q} hold calls pair who o f places places' outcome =
     IsDriven {S = Unit {0}} (λ _ step r _. hold who o step r) calls pair who o f (tt {0}) places (tt {0}) places' outcome
 
 -- a whole call with this closure; what it answers is read off its end
 abbrev pub Computes : {V F B : Type 0} → (ℕ → Op V → Step V → Report V → Type 0) → (F → Option V → Option V → F → Type 0) → ℕ → Op V → F → (End V → B) → B → Type 0
-Computes {V} hold calls who o f reads result = (end : End V) × IsHeld {Q = ℕ × V} hold calls (λ k v. (k, v)) who o f [] [] (ended end) × (result ≡ reads end)
+Computes {V} hold calls who o f reads result = (end : End V) × IsByHolds {Q = ℕ × V} hold calls (λ k v. (k, v)) who o f [] [] (ended end) × (result ≡ reads end)
 
 -- one that wants no answer of a closure, and writes the pairs that it finds to these places
 abbrev pub Scans : {V Q B : Type 0} → (ℕ → Op V → Step V → Report V → Type 0) → (ℕ → V → Q) → ℕ → Op V → List Q → List Q → (End V → B) → B → Type 0
 Scans {V} hold pair who o places places' reads result =
-    (end : End V) × IsHeld {F = Unit {0}} hold (λ _ _ _ _. Unit {0}) pair who o (tt {0}) places places' (ended end) × (result ≡ reads end)
+    (end : End V) × IsByHolds {F = Unit {0}} hold (λ _ _ _ _. Unit {0}) pair who o (tt {0}) places places' (ended end) × (result ≡ reads end)
 
 -- one that finds no pairs either
 abbrev pub Answers : {V B : Type 0} → (ℕ → Op V → Step V → Report V → Type 0) → ℕ → Op V → (End V → B) → B → Type 0

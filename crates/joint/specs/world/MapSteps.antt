@@ -131,7 +131,7 @@ pub record Finishes {V : Type 0} (r : Reply V) (m : Pairs V) (l : Line V) (f' : 
   pub same_pairs : l.pairs ≡ m
 
 -- one of a scan, during which these maps stood
-pub record Scans {V : Type 0} (start end size : ℕ) (states : List (Pairs V)) (places : List (ℕ × V)) (m : Pairs V) (l : Line V) (f' : Flight V) : Type 0 where
+pub record ScanStep {V : Type 0} (start end size : ℕ) (states : List (Pairs V)) (places : List (ℕ × V)) (m : Pairs V) (l : Line V) (f' : Flight V) : Type 0 where
   pub undecided : l.report.decided ≡ false
   pub outcome : Moved V
   pub told_so : l.report.outcome ≡ told outcome
@@ -144,19 +144,19 @@ abbrev pub FlightStep : {V : Type 0} → (V → V → Bool) → Flight V → Pai
 FlightStep same (Pending k kind v q) m answer l f' = PendingStep same k kind (value_answered kind q answer v) (resolved kind q answer) m l.report.decided l f'
 FlightStep same (Decided r) m answer l f' = Finishes r m l f'
 FlightStep same Over m answer l f' = ⊥
-FlightStep same (Unbegun start end size) m answer l f' = Scans start end size (m ∷ []) [] m l f'
-FlightStep same (Scanning start end size states places) m answer l f' = Scans start end size (m ∷ states) places m l f'
+FlightStep same (Unbegun start end size) m answer l f' = ScanStep start end size (m ∷ []) [] m l f'
+FlightStep same (Scanning start end size states places) m answer l f' = ScanStep start end size (m ∷ states) places m l f'
 
 -- a worker's call on the tree takes a step, where it has one in flight
-pub record Advances {V : Type 0} (same : V → V → Bool) (fs : Flights V) (f : Flight V) (m : Pairs V) (answer : Option (Option V)) (l : Line V) (fs' : Flights V) : Type 0 where
+pub record StepsFlight {V : Type 0} (same : V → V → Bool) (fs : Flights V) (f : Flight V) (m : Pairs V) (answer : Option (Option V)) (l : Line V) (fs' : Flights V) : Type 0 where
   pub next : Flight V
   pub step : FlightStep same f m answer l next
-  pub advances : fs' ≡ with_flight fs l.step.worker next
+  pub with_next : fs' ≡ with_flight fs l.step.worker next
 
 -- a further step: of a call on the tree, or of one that leaves the map
 abbrev pub GoMap : {V : Type 0} → (V → V → Bool) → Flights V → Flight V → Pairs V → Option (Option V) → Line V → Flights V → Type 0
 GoMap same fs Over m answer l fs' = Stays fs m l fs'
-GoMap same fs f m answer l fs' = Advances same fs f m answer l fs'
+GoMap same fs f m answer l fs' = StepsFlight same fs f m answer l fs'
 
 -- what a step makes of the map, by its event
 abbrev pub EventMap : {V : Type 0} → (V → V → Bool) → Flights V → Pairs V → Event V → Line V → Flights V → Type 0

@@ -165,7 +165,7 @@ impl<L: Ledger, W: Watch, A: Allocator> JournaledWorld<L, W, A> {
 }
 
 impl<L: Ledger, W: Watch, A: Allocator> Locked<u64> for JournaledWorld<L, W, A> {
-    type Nodes = A;
+    type Account = A;
 
     type Memo = Op<u64>;
 

@@ -79,10 +79,10 @@ module _ {V : Type 0} where
 
   quiet_go : (same : V → V → Bool) (fs : Flights V) (f : Flight V) (m : Pairs V) (answer : Option (Option V)) (l : Line V) (fs' : Flights V) → fs l.step.worker ≡ f → goes_unasked l.report.outcome ≡ true → GoMap same fs f m answer l fs' → asks (fs' l.step.worker) ≡ false
   quiet_go same fs Over m answer l fs' e g x = ap asks (ap (λ (y : Flights V). y l.step.worker) x.same_flights ∙ e)
-  quiet_go same fs (Pending k kd v q) m answer l fs' e g x = ap asks (ap (λ (y : Flights V). y l.step.worker) x.advances ∙ flight_here fs l.step.worker x.next) ∙ quiet_pending same k kd _ _ m l.report.decided l x.next g x.step
-  quiet_go same fs (Decided r) m answer l fs' e g x = ap asks (ap (λ (y : Flights V). y l.step.worker) x.advances ∙ flight_here fs l.step.worker x.next) ∙ quiet_concluded r x.step.outcome x.next x.step.concludes
-  quiet_go same fs (Unbegun start end size) m answer l fs' e g x = ap asks (ap (λ (y : Flights V). y l.step.worker) x.advances ∙ flight_here fs l.step.worker x.next) ∙ quiet_scan start end size _ _ x.step.outcome x.next x.step.tells
-  quiet_go same fs (Scanning start end size states places) m answer l fs' e g x = ap asks (ap (λ (y : Flights V). y l.step.worker) x.advances ∙ flight_here fs l.step.worker x.next) ∙ quiet_scan start end size _ _ x.step.outcome x.next x.step.tells
+  quiet_go same fs (Pending k kd v q) m answer l fs' e g x = ap asks (ap (λ (y : Flights V). y l.step.worker) x.with_next ∙ flight_here fs l.step.worker x.next) ∙ quiet_pending same k kd _ _ m l.report.decided l x.next g x.step
+  quiet_go same fs (Decided r) m answer l fs' e g x = ap asks (ap (λ (y : Flights V). y l.step.worker) x.with_next ∙ flight_here fs l.step.worker x.next) ∙ quiet_concluded r x.step.outcome x.next x.step.concludes
+  quiet_go same fs (Unbegun start end size) m answer l fs' e g x = ap asks (ap (λ (y : Flights V). y l.step.worker) x.with_next ∙ flight_here fs l.step.worker x.next) ∙ quiet_scan start end size _ _ x.step.outcome x.next x.step.tells
+  quiet_go same fs (Scanning start end size states places) m answer l fs' e g x = ap asks (ap (λ (y : Flights V). y l.step.worker) x.with_next ∙ flight_here fs l.step.worker x.next) ∙ quiet_scan start end size _ _ x.step.outcome x.next x.step.tells
 
   -- and one that begins asks nothing yet
   quiet_begins : (fs : Flights V) (m : Pairs V) (p : Point V) (o : Outcome V) (l : Line V) (fs' : Flights V) → l.report.outcome ≡ o → goes_unasked l.report.outcome ≡ true → BeginsOr fs m p o l fs' → asks (fs' l.step.worker) ≡ false

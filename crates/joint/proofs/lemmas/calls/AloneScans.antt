@@ -26,7 +26,7 @@ use Rattle.joint.specs.Names.{root}
 use Rattle.joint.specs.calls.MapCalls.{AllGoOn, told_after, IsOfScan, KeepsAll, told_places, HasScanned, IsScanning, IsScanDone, PlaysScan}
 use Rattle.joint.specs.Reports.{target, told, is_in_flight}
 use Rattle.joint.specs.calls.Runs.{Taken, AreTaken, after_all}
-use Rattle.joint.specs.world.MapSteps.{GoMap, Advances, BeginMap, BeginsOr, EndsAtOnce, EndsEmpty, FindsNone, BeginsFlight, Line}
+use Rattle.joint.specs.world.MapSteps.{GoMap, StepsFlight, BeginMap, BeginsOr, EndsAtOnce, EndsEmpty, FindsNone, BeginsFlight, Line}
 use Rattle.joint.specs.engine.Flying.{Flights, with_flight, AreInFlight}
 use Rattle.joint.specs.calls.Scans.{placed}
 use Rattle.joint.specs.world.World.{Holds, IsStep}
@@ -157,13 +157,13 @@ module _ {V : Type 0} (same : V → V → Bool) (always : Bool) (fs : Flights V)
     by_watched : Watches places b.flight → Scans (placed true r.outcome places) r.outcome s'
     by_watched (inl e) =
         let P : Flight V → Type 0 = λ z. GoMap same (with_flight fs w b.flight) z m noise.answer l y.flights in
-        let a : Advances same (with_flight fs w b.flight) (Unbegun from to many) m noise.answer l y.flights = subst P e.0 moves in
+        let a : StepsFlight same (with_flight fs w b.flight) (Unbegun from to many) m noise.answer l y.flights = subst P e.0 moves in
         let Q : List (ℕ × V) → Type 0 = λ z. Scans (placed true r.outcome z) r.outcome s' in
-        subst Q (sym e.1) (scan_told (m ∷ []) [] a.step.outcome a.next r.outcome s' b.free (refl, tt) a.step.told_so a.step.tells (flying a.next a.advances) (stand a.step.same_pairs))
+        subst Q (sym e.1) (scan_told (m ∷ []) [] a.step.outcome a.next r.outcome s' b.free (refl, tt) a.step.told_so a.step.tells (flying a.next a.with_next) (stand a.step.same_pairs))
     by_watched (inr e) =
         let P : Flight V → Type 0 = λ z. GoMap same (with_flight fs w b.flight) z m noise.answer l y.flights in
-        let a : Advances same (with_flight fs w b.flight) (Scanning from to many e.0 places) m noise.answer l y.flights = subst P e.1 moves in
-        scan_told (m ∷ e.0) places a.step.outcome a.next r.outcome s' b.free (refl, e.2) a.step.told_so a.step.tells (flying a.next a.advances) (stand a.step.same_pairs)
+        let a : StepsFlight same (with_flight fs w b.flight) (Scanning from to many e.0 places) m noise.answer l y.flights = subst P e.1 moves in
+        scan_told (m ∷ e.0) places a.step.outcome a.next r.outcome s' b.free (refl, e.2) a.step.told_so a.step.tells (flying a.next a.with_next) (stand a.step.same_pairs)
 
   scanning : (places : List (ℕ × V)) (said : Outcome V) (s : World V) → is_in_flight said ≡ true → Scans places said s → InScan places s
   scanning places Running s on x = x

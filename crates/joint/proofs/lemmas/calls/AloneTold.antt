@@ -98,13 +98,13 @@ module _ {V : Type 0} where
   go_kind : (o : Op V) (same : V → V → Bool) (fs : Flights V) (f : Flight V) (m : Pairs V) (answer : Option (Option V)) (l : Line V) (fs' : Flights V) → fs l.step.worker ≡ f → Kinded o f → GoMap same fs f m answer l fs' → Kinded o (fs' l.step.worker)
   go_kind o same fs Over m answer l fs' e x y = kinded o (fs' l.step.worker) Over (ap (λ (z : Flights V). z l.step.worker) y.same_flights ∙ e) tt
   go_kind o same fs (Pending k kd v q) m answer l fs' e x y =
-      kinded o (fs' l.step.worker) y.next (ap (λ (z : Flights V). z l.step.worker) y.advances ∙ flight_here fs l.step.worker y.next) (pending_kind o same k kd (value_answered kd q answer v) (resolved kd q answer) m l.report.decided l y.next x y.step)
+      kinded o (fs' l.step.worker) y.next (ap (λ (z : Flights V). z l.step.worker) y.with_next ∙ flight_here fs l.step.worker y.next) (pending_kind o same k kd (value_answered kd q answer v) (resolved kd q answer) m l.report.decided l y.next x y.step)
   go_kind o same fs (Decided r) m answer l fs' e x y =
-      kinded o (fs' l.step.worker) y.next (ap (λ (z : Flights V). z l.step.worker) y.advances ∙ flight_here fs l.step.worker y.next) (concluded_kind o r y.step.outcome y.next y.step.concludes)
+      kinded o (fs' l.step.worker) y.next (ap (λ (z : Flights V). z l.step.worker) y.with_next ∙ flight_here fs l.step.worker y.next) (concluded_kind o r y.step.outcome y.next y.step.concludes)
   go_kind o same fs (Unbegun start end size) m answer l fs' e x y =
-      kinded o (fs' l.step.worker) y.next (ap (λ (z : Flights V). z l.step.worker) y.advances ∙ flight_here fs l.step.worker y.next) (scan_kind o start end size _ _ y.step.outcome y.next y.step.tells)
+      kinded o (fs' l.step.worker) y.next (ap (λ (z : Flights V). z l.step.worker) y.with_next ∙ flight_here fs l.step.worker y.next) (scan_kind o start end size _ _ y.step.outcome y.next y.step.tells)
   go_kind o same fs (Scanning start end size states places) m answer l fs' e x y =
-      kinded o (fs' l.step.worker) y.next (ap (λ (z : Flights V). z l.step.worker) y.advances ∙ flight_here fs l.step.worker y.next) (scan_kind o start end size _ _ y.step.outcome y.next y.step.tells)
+      kinded o (fs' l.step.worker) y.next (ap (λ (z : Flights V). z l.step.worker) y.with_next ∙ flight_here fs l.step.worker y.next) (scan_kind o start end size _ _ y.step.outcome y.next y.step.tells)
 
   begun_kind : (o : Op V) (p : Point V) → target o ≡ target.Tree p → Kinded o (flight (begun root p))
   begun_kind o (point.Range start end size) t = tt

@@ -45,10 +45,10 @@ module _ {V : Type 0} (same : V → V → Bool) where
 
   goes_keep : (fs : Flights V) (f : Flight V) (m : Pairs V) (answer : Option (Option V)) (l : Line V) (fs' : Flights V) (w : ℕ) → w ≢ l.step.worker → GoMap same fs f m answer l fs' → fs' w ≡ fs w
   goes_keep fs Over m answer l fs' w n x = ap (λ (y : Flights V). y w) x.same_flights
-  goes_keep fs (Pending k kd v q) m answer l fs' w n x = ap (λ (y : Flights V). y w) x.advances ∙ flight_apart fs l.step.worker w x.next n
-  goes_keep fs (Decided r) m answer l fs' w n x = ap (λ (y : Flights V). y w) x.advances ∙ flight_apart fs l.step.worker w x.next n
-  goes_keep fs (Unbegun start end size) m answer l fs' w n x = ap (λ (y : Flights V). y w) x.advances ∙ flight_apart fs l.step.worker w x.next n
-  goes_keep fs (Scanning start end size states places) m answer l fs' w n x = ap (λ (y : Flights V). y w) x.advances ∙ flight_apart fs l.step.worker w x.next n
+  goes_keep fs (Pending k kd v q) m answer l fs' w n x = ap (λ (y : Flights V). y w) x.with_next ∙ flight_apart fs l.step.worker w x.next n
+  goes_keep fs (Decided r) m answer l fs' w n x = ap (λ (y : Flights V). y w) x.with_next ∙ flight_apart fs l.step.worker w x.next n
+  goes_keep fs (Unbegun start end size) m answer l fs' w n x = ap (λ (y : Flights V). y w) x.with_next ∙ flight_apart fs l.step.worker w x.next n
+  goes_keep fs (Scanning start end size states places) m answer l fs' w n x = ap (λ (y : Flights V). y w) x.with_next ∙ flight_apart fs l.step.worker w x.next n
 
   and_false : (a : Bool) → (a && true) ≡ false → a ≡ false
   and_false false e = refl
@@ -94,7 +94,7 @@ module _ {V : Type 0} (same : V → V → Bool) where
       let y = g.1.1 in
       let P : Outcome V → Type 0 = λ o. GoesOrAnswers r o (Answers w r ls) in (
         record { undecided = y.step.undecided; no_entry = y.step.no_entry },
-        subst P (sym y.step.told_so) (concludes_on r y.step.outcome y.next (Answers w r ls) (λ q. answers w r x.0 l.pairs ls fs' (next_here fs x.0 w l.step.worker y.next g.0 y.advances ∙ q) x.2) y.step.concludes),
+        subst P (sym y.step.told_so) (concludes_on r y.step.outcome y.next (Answers w r ls) (λ q. answers w r x.0 l.pairs ls fs' (next_here fs x.0 w l.step.worker y.next g.0 y.with_next ∙ q) x.2) y.step.concludes),
       ))
       (λ b. answers w r x.0 l.pairs ls fs' (keeps fs m l.step.event l x.0 w (decided_not (fs w) r e) b x.1 ∙ e) x.2)
 
@@ -114,8 +114,8 @@ module _ {V : Type 0} (same : V → V → Bool) where
       let g = goes_at fs m l.step.event l x.0 w (Pending k kd v u) e b x.1 in
       let y = g.1.1 in
       pending_on k kd (value_answered kd u g.1.0.answer v) (resolved kd u g.1.0.answer) w m l ls y.next l.report.decided g.0
-      (λ a z q. decides w k kd a z x.0 l.pairs ls fs' (next_here fs x.0 w l.step.worker y.next g.0 y.advances ∙ q) x.2)
-      (λ r q. answers w r x.0 l.pairs ls fs' (next_here fs x.0 w l.step.worker y.next g.0 y.advances ∙ q) x.2)
+      (λ a z q. decides w k kd a z x.0 l.pairs ls fs' (next_here fs x.0 w l.step.worker y.next g.0 y.with_next ∙ q) x.2)
+      (λ r q. answers w r x.0 l.pairs ls fs' (next_here fs x.0 w l.step.worker y.next g.0 y.with_next ∙ q) x.2)
       y.step)
       (λ b. decides w k kd v u x.0 l.pairs ls fs' (keeps fs m l.step.event l x.0 w (pending_not (fs w) k kd v u e) b x.1 ∙ e) x.2)
     where

@@ -33,7 +33,7 @@ use Rattle.joint.specs.nodes.Nodes.{nodes}
 use Rattle.joint.specs.calls.MapCalls.{AllGoOn, told_after, Answered, answered_by, answer_in, answered_after, IsPresent, IsComputed, IsOnMap, TookEffect, IsUndecided, IsDecided, KeepsAll, IsDoneWith, PlaysKey}
 use Rattle.joint.specs.Reports.{target, told, is_in_flight}
 use Rattle.joint.specs.calls.Runs.{Taken, AreTaken, after_all}
-use Rattle.joint.specs.world.MapSteps.{GoMap, Advances, PendingStep, BeginMap, BeginsOr, EndsAtOnce, EndsEmpty, BeginsFlight, Stays, Line}
+use Rattle.joint.specs.world.MapSteps.{GoMap, StepsFlight, PendingStep, BeginMap, BeginsOr, EndsAtOnce, EndsEmpty, BeginsFlight, Stays, Line}
 use Rattle.joint.specs.engine.Flying.{Flights, with_flight, IsInFlight, AreInFlight}
 use Rattle.joint.specs.world.World.{Holds, IsOnKey, IsStep}
 use Rattle.joint.specs.engine.Engine.{World}
@@ -307,8 +307,8 @@ module _ {V : Type 0} (same : V → V → Bool) (always : Bool) (fs : Flights V)
       let y : Mapped same always s (further_step w noise) r s' (with_flight fs w f) m = step_mapped same always s (further_step w noise) s' (with_flight fs w f) m h x.holds b.stand b.in_flight r x in
       let l : Line V = record { step = further_step w noise; report = r; entry = y.entry; pairs = y.pairs } in
       let P : Flight V → Type 0 = λ z. GoMap same (with_flight fs w f) z m noise.answer l y.flights in
-      let a : Advances same (with_flight fs w f) f m noise.answer l y.flights = subst P (flight_here fs w f) y.map in
-      let fl : AreInFlight s' (with_flight fs w a.next) = once_more s' fs w f a.next (subst (λ (z : Flights V). AreInFlight s' z) a.advances y.in_flight) in
+      let a : StepsFlight same (with_flight fs w f) f m noise.answer l y.flights = subst P (flight_here fs w f) y.map in
+      let fl : AreInFlight s' (with_flight fs w a.next) = once_more s' fs w f a.next (subst (λ (z : Flights V). AreInFlight s' z) a.with_next y.in_flight) in
       pending (value_answered (parts p).1 b.question noise.answer b.value) (resolved (parts p).1 b.question noise.answer) r.decided l a.next (answered_by noise.answer said last) s' b.free
       (ready (parts p).1 (parts p).2 b.value b.question last said noise.answer b.tied) a.step fl y.stand
 
@@ -320,8 +320,8 @@ module _ {V : Type 0} (same : V → V → Bool) (always : Bool) (fs : Flights V)
       let y : Mapped same always s (further_step w noise) r s' (with_flight fs w f) n = step_mapped same always s (further_step w noise) s' (with_flight fs w f) n h x.holds b.effect.stand b.in_flight r x in
       let l : Line V = record { step = further_step w noise; report = r; entry = y.entry; pairs = y.pairs } in
       let P : Flight V → Type 0 = λ z. GoMap same (with_flight fs w f) z n noise.answer l y.flights in
-      let a : Advances same (with_flight fs w f) f n noise.answer l y.flights = subst P (flight_here fs w f) y.map in
-      let fl : AreInFlight s' (with_flight fs w a.next) = once_more s' fs w f a.next (subst (λ (z : Flights V). AreInFlight s' z) a.advances y.in_flight) in
+      let a : StepsFlight same (with_flight fs w f) f n noise.answer l y.flights = subst P (flight_here fs w f) y.map in
+      let fl : AreInFlight s' (with_flight fs w a.next) = once_more s' fs w f a.next (subst (λ (z : Flights V). AreInFlight s' z) a.with_next y.in_flight) in
       let Q : Pairs V → Type 0 = λ z. IsMapOf (nodes s'.forest) z in
       concluded b.reply a.step.outcome a.next last r.outcome s' b.free a.step.told_so a.step.concludes fl (record {
         call = b.effect.call;

@@ -111,12 +111,12 @@ module _ {V : Type 0} where
   go_decides : (same : V → V → Bool) (fs : Flights V) (f : Flight V) (m : Pairs V) (answer : Option (Option V)) (l : Line V) (fs' : Flights V) (r : Reply V) → fs l.step.worker ≡ f → ((u : Reply V) → f ≡ Decided u → ⊥) → fs' l.step.worker ≡ Decided r → GoMap same fs f m answer l fs' → l.report.decided ≡ true
   go_decides same fs Over m answer l fs' r e n d x = absurd (let z : Over ≡ Decided r = sym e ∙ sym (ap (λ (y : Flights V). y l.step.worker) x.same_flights) ∙ d in cc)
   go_decides same fs (Pending k kd v q) m answer l fs' r e n d x =
-      pending_decides same k kd _ _ m l.report.decided l x.next r (sym (flight_here fs l.step.worker x.next) ∙ sym (ap (λ (y : Flights V). y l.step.worker) x.advances) ∙ d) x.step
+      pending_decides same k kd _ _ m l.report.decided l x.next r (sym (flight_here fs l.step.worker x.next) ∙ sym (ap (λ (y : Flights V). y l.step.worker) x.with_next) ∙ d) x.step
   go_decides same fs (Decided u) m answer l fs' r e n d x = absurd (n u refl)
   go_decides same fs (Unbegun start end size) m answer l fs' r e n d x =
-      absurd (scan_not start end size _ _ x.step.outcome x.next r (sym (flight_here fs l.step.worker x.next) ∙ sym (ap (λ (y : Flights V). y l.step.worker) x.advances) ∙ d) x.step.tells)
+      absurd (scan_not start end size _ _ x.step.outcome x.next r (sym (flight_here fs l.step.worker x.next) ∙ sym (ap (λ (y : Flights V). y l.step.worker) x.with_next) ∙ d) x.step.tells)
   go_decides same fs (Scanning start end size states places) m answer l fs' r e n d x =
-      absurd (scan_not start end size _ _ x.step.outcome x.next r (sym (flight_here fs l.step.worker x.next) ∙ sym (ap (λ (y : Flights V). y l.step.worker) x.advances) ∙ d) x.step.tells)
+      absurd (scan_not start end size _ _ x.step.outcome x.next r (sym (flight_here fs l.step.worker x.next) ∙ sym (ap (λ (y : Flights V). y l.step.worker) x.with_next) ∙ d) x.step.tells)
 
 -- the phases of a call that takes no node out any more
 abbrev Past : {V : Type 0} → Phase Id V → Type 0

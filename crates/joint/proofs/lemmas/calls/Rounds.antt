@@ -65,7 +65,7 @@ use Rattle.joint.specs.NameLemmas.{number_named}
 use Rattle.joint.specs.Names.{number, named}
 use Rattle.joint.specs.Refusals.{of_fault}
 use Rattle.joint.specs.Reports.{target, collected}
-use Rattle.joint.specs.calls.Rounds.{IsQuiet, GoesToEnd, IsWhole, Round, IsRound, AreRounds, steps_in, bags_left, rounds_wanted, IsLeft, CameBack}
+use Rattle.joint.specs.calls.Rounds.{IsQuiet, GoesToEnd, IsWholeCall, Round, IsRound, AreRounds, steps_in, bags_left, rounds_wanted, IsLeft, CameBack}
 use Rattle.joint.specs.calls.Runs.{Taken, AreTaken, IsRun, after_all}
 use Rattle.joint.specs.nodes.View.{id_number}
 use Rattle.joint.specs.world.Whereabouts.{IsInTree, IsSomewhere}
@@ -212,7 +212,7 @@ module _ {V : Type 0} (same : V → V → Bool) (always : Bool) where
           r.2 ∙ ap (λ (ks : List (InFlight V)). slice_set ks who Idle) calls ∙ set-set s.calls who (Collecting x) Idle,
         )
 
-    whole_call : (s : World V) (who : ℕ) (o : Op V) (x : CollectorOp) (ts : List (Taken V)) → Holds same always s → target o ≡ target.Collector x → AreTaken same always s ts → IsWhole who o ts → Finished s who x (after_all s ts)
+    whole_call : (s : World V) (who : ℕ) (o : Op V) (x : CollectorOp) (ts : List (Taken V)) → Holds same always s → target o ≡ target.Collector x → AreTaken same always s ts → IsWholeCall who o ts → Finished s who x (after_all s ts)
     whole_call s who o x [] h e are w = absurd w
     whole_call s who o x (t ∷ ts) h e are w =
         let c = begins s t who o x h e are.0 w.0 (by_end who t.report.outcome ts w.1) in

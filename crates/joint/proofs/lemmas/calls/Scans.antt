@@ -22,7 +22,7 @@ use Rattle.joint.specs.declared.steps.Target.TheVariants as target
 use Rattle.joint.specs.Reports.{goes_unasked, range_of, target, told}
 use Rattle.joint.specs.Names.{root}
 use Rattle.joint.specs.calls.Runs.{IsMapRun, pairs_after}
-use Rattle.joint.specs.world.MapSteps.{MapStep, EventMap, GoMap, Scans, BeginMap, BeginsOr, EndsEmpty, Line}
+use Rattle.joint.specs.world.MapSteps.{MapStep, EventMap, GoMap, ScanStep, BeginMap, BeginsOr, EndsEmpty, Line}
 use Rattle.joint.specs.engine.Flying.{Flights, with_flight}
 use Rattle.joint.specs.calls.Scans.{is_go, goes, placed, told_to, Comes, AllCome, BeginsScan, GoesOn, EndsScan, ScansHold, EmptyScansHold}
 use Rattle.congee.proofs.Laws.{of_range, both_true}
@@ -100,14 +100,14 @@ module _ {V : Type 0} (same : V → V → Bool) where
       pub states : List (Pairs V)
       pub among : (x : Pairs V) → Among states x → Among all x
       pub next : Flight V
-      pub step : Scans start end size states places m l next
+      pub step : ScanStep start end size states places m l next
       pub flights : fs1 ≡ with_flight fs w next
 
     own_step : (fs : Flights V) (m : Pairs V) (places : List (ℕ × V)) (l : Line V) (fs1 : Flights V) (answer : Option (Option V)) → Among all m → Under fs places → l.step.worker ≡ w → GoMap same fs (fs l.step.worker) m answer l fs1 → Next fs m places l fs1
     own_step fs m places l fs1 answer am (inl u) e g =
         let P : Flight V → Type 0 = λ f. GoMap same fs f m answer l fs1 in
         let a = subst P (ap fs e ∙ u.0) g in
-        let Q : List (ℕ × V) → Type 0 = λ ps. Scans start end size (m ∷ []) ps m l a.next in
+        let Q : List (ℕ × V) → Type 0 = λ ps. ScanStep start end size (m ∷ []) ps m l a.next in
         record {
           states = m ∷ [];
           among = λ x i. elim i [
@@ -116,7 +116,7 @@ module _ {V : Type 0} (same : V → V → Bool) where
           ];
           next = a.next;
           step = subst Q (sym u.1) a.step;
-          flights = a.advances ∙ ap (λ v. with_flight fs v a.next) e;
+          flights = a.with_next ∙ ap (λ v. with_flight fs v a.next) e;
         }
     own_step fs m places l fs1 answer am (inr u) e g =
         let P : Flight V → Type 0 = λ f. GoMap same fs f m answer l fs1 in
@@ -129,7 +129,7 @@ module _ {V : Type 0} (same : V → V → Bool) where
           ];
           next = a.next;
           step = a.step;
-          flights = a.advances ∙ ap (λ v. with_flight fs v a.next) e;
+          flights = a.with_next ∙ ap (λ v. with_flight fs v a.next) e;
         }
 
     go_step : (fs : Flights V) (m : Pairs V) (places : List (ℕ × V)) (l : Line V) (fs1 : Flights V) (event : Event V) → l.step.event ≡ event → Among all m → Under fs places → l.step.worker ≡ w → is_go event ≡ true → EventMap same fs m event l fs1 → Next fs m places l fs1
@@ -197,10 +197,10 @@ module _ {V : Type 0} (same : V → V → Bool) where
 
     go_apart : (fs : Flights V) (m : Pairs V) (l : Line V) (fs1 : Flights V) (answer : Option (Option V)) (f : Flight V) → w ≢ l.step.worker → GoMap same fs f m answer l fs1 → fs1 w ≡ fs w
     go_apart fs m l fs1 answer Over n x = ap (λ g. g w) x.same_flights
-    go_apart fs m l fs1 answer (Pending k kind v q) n x = ap (λ g. g w) x.advances ∙ flight_apart fs l.step.worker w x.next n
-    go_apart fs m l fs1 answer (Decided r) n x = ap (λ g. g w) x.advances ∙ flight_apart fs l.step.worker w x.next n
-    go_apart fs m l fs1 answer (Unbegun a b c) n x = ap (λ g. g w) x.advances ∙ flight_apart fs l.step.worker w x.next n
-    go_apart fs m l fs1 answer (Scanning a b c d e) n x = ap (λ g. g w) x.advances ∙ flight_apart fs l.step.worker w x.next n
+    go_apart fs m l fs1 answer (Pending k kind v q) n x = ap (λ g. g w) x.with_next ∙ flight_apart fs l.step.worker w x.next n
+    go_apart fs m l fs1 answer (Decided r) n x = ap (λ g. g w) x.with_next ∙ flight_apart fs l.step.worker w x.next n
+    go_apart fs m l fs1 answer (Unbegun a b c) n x = ap (λ g. g w) x.with_next ∙ flight_apart fs l.step.worker w x.next n
+    go_apart fs m l fs1 answer (Scanning a b c d e) n x = ap (λ g. g w) x.with_next ∙ flight_apart fs l.step.worker w x.next n
 
     not_both : (b : Bool) → (b && true) ≡ false → b ≡ false
     not_both true e = absurd (cc e)

@@ -99,18 +99,18 @@ module _ {V : Type 0} where
   here_tells : (same : V → V → Bool) (fs : Flights V) (f : Flight V) (m : Pairs V) (answer : Option (Option V)) (l : Line V) (fs' : Flights V) → fs l.step.worker ≡ f → (f ≡ Over → is_question l.report.outcome ≡ false) → GoMap same fs f m answer l fs'
       → asks (fs' l.step.worker) ≡ is_question l.report.outcome
   here_tells same fs Over m answer l fs' e n x = ap (λ (y : Flights V). asks (y l.step.worker)) x.same_flights ∙ ap asks e ∙ sym (n refl)
-  here_tells same fs (Pending k kd v q) m answer l fs' e n x = ap (λ (y : Flights V). asks (y l.step.worker)) x.advances ∙ ap asks (flight_here fs l.step.worker x.next) ∙ pending_tells same k kd _ _ m l.report.decided l x.next x.step
-  here_tells same fs (Decided r) m answer l fs' e n x = ap (λ (y : Flights V). asks (y l.step.worker)) x.advances ∙ ap asks (flight_here fs l.step.worker x.next) ∙ concluded_tells r x.step.outcome x.next x.step.concludes ∙ sym (ap is_question x.step.told_so)
-  here_tells same fs (Unbegun start end size) m answer l fs' e n x = ap (λ (y : Flights V). asks (y l.step.worker)) x.advances ∙ ap asks (flight_here fs l.step.worker x.next) ∙ scan_tells start end size _ _ x.step.outcome x.next x.step.tells ∙ sym (ap is_question x.step.told_so)
-  here_tells same fs (Scanning start end size states places) m answer l fs' e n x = ap (λ (y : Flights V). asks (y l.step.worker)) x.advances ∙ ap asks (flight_here fs l.step.worker x.next) ∙ scan_tells start end size _ _ x.step.outcome x.next x.step.tells ∙ sym (ap is_question x.step.told_so)
+  here_tells same fs (Pending k kd v q) m answer l fs' e n x = ap (λ (y : Flights V). asks (y l.step.worker)) x.with_next ∙ ap asks (flight_here fs l.step.worker x.next) ∙ pending_tells same k kd _ _ m l.report.decided l x.next x.step
+  here_tells same fs (Decided r) m answer l fs' e n x = ap (λ (y : Flights V). asks (y l.step.worker)) x.with_next ∙ ap asks (flight_here fs l.step.worker x.next) ∙ concluded_tells r x.step.outcome x.next x.step.concludes ∙ sym (ap is_question x.step.told_so)
+  here_tells same fs (Unbegun start end size) m answer l fs' e n x = ap (λ (y : Flights V). asks (y l.step.worker)) x.with_next ∙ ap asks (flight_here fs l.step.worker x.next) ∙ scan_tells start end size _ _ x.step.outcome x.next x.step.tells ∙ sym (ap is_question x.step.told_so)
+  here_tells same fs (Scanning start end size states places) m answer l fs' e n x = ap (λ (y : Flights V). asks (y l.step.worker)) x.with_next ∙ ap asks (flight_here fs l.step.worker x.next) ∙ scan_tells start end size _ _ x.step.outcome x.next x.step.tells ∙ sym (ap is_question x.step.told_so)
 
   -- and leaves the others
   apart_stays : (same : V → V → Bool) (fs : Flights V) (f : Flight V) (m : Pairs V) (answer : Option (Option V)) (l : Line V) (fs' : Flights V) (w : ℕ) → w ≢ l.step.worker → GoMap same fs f m answer l fs' → fs' w ≡ fs w
   apart_stays same fs Over m answer l fs' w n x = ap (λ (y : Flights V). y w) x.same_flights
-  apart_stays same fs (Pending k kd v q) m answer l fs' w n x = ap (λ (y : Flights V). y w) x.advances ∙ flight_apart fs l.step.worker w x.next n
-  apart_stays same fs (Decided r) m answer l fs' w n x = ap (λ (y : Flights V). y w) x.advances ∙ flight_apart fs l.step.worker w x.next n
-  apart_stays same fs (Unbegun start end size) m answer l fs' w n x = ap (λ (y : Flights V). y w) x.advances ∙ flight_apart fs l.step.worker w x.next n
-  apart_stays same fs (Scanning start end size states places) m answer l fs' w n x = ap (λ (y : Flights V). y w) x.advances ∙ flight_apart fs l.step.worker w x.next n
+  apart_stays same fs (Pending k kd v q) m answer l fs' w n x = ap (λ (y : Flights V). y w) x.with_next ∙ flight_apart fs l.step.worker w x.next n
+  apart_stays same fs (Decided r) m answer l fs' w n x = ap (λ (y : Flights V). y w) x.with_next ∙ flight_apart fs l.step.worker w x.next n
+  apart_stays same fs (Unbegun start end size) m answer l fs' w n x = ap (λ (y : Flights V). y w) x.with_next ∙ flight_apart fs l.step.worker w x.next n
+  apart_stays same fs (Scanning start end size states places) m answer l fs' w n x = ap (λ (y : Flights V). y w) x.with_next ∙ flight_apart fs l.step.worker w x.next n
 
   -- a begin leaves what each call wants
   accepted_stays : (fs : Flights V) (w u : ℕ) (p : Point V) → fs u ≡ Over → asks (with_flight fs u (flight (begun root p)) w) ≡ asks (fs w)

@@ -164,7 +164,7 @@ module _ {V : Type 0} (same : V → V → Bool) (always : Bool) where
   pub answer_left : (l l' : Log V) (w : ℕ) (h : Option (Request V)) → l' ≡ answered_log l w h → l' ≡ answered_log l w (request_at l'.requests w)
   answer_left l l' w h e = e ∙ ap (λ qs. record l { requests = qs }) (put_here l.requests w h) ∙ ap (λ (y : Log V). answered_log l w (request_at y.requests w)) (sym e)
 
-  -- the request in a worker's place is the one before with the answer that it heard
+  -- the request in a worker's place is the one before with the answer that it took
   pub answer_taken : (l l' : Log V) (w : ℕ) (answer : Option (Option V)) (h : Option (Request V)) → l' ≡ answered_log l w h → h ≡ answered_if true answer (request_at l.requests w) → request_at l'.requests w ≡ answered_if true answer (request_at l.requests w)
   answer_taken l l' w answer h e i = ap (λ (y : Log V). request_at y.requests w) e ∙ answered_here l.requests w answer h i
 

@@ -19,7 +19,7 @@ use Rattle.joint.specs.declared.id.Id.{Id}
 use Rattle.joint.specs.declared.nodes.slot.Slot.{Slot}
 use Rattle.joint.specs.declared.nodes.slot.LockWord.{LockWord}
 use Rattle.joint.specs.nodes.Altering.{MovesTo}
-use Rattle.joint.specs.nodes.Solid.{AreAlike, IsLeft, IsSolid, IsWhole}
+use Rattle.joint.specs.nodes.Solid.{AreAlike, IsPoured, IsSolid, IsWhole}
 use Rattle.joint.specs.nodes.View.{hung_at, child_at, node_of}
 use Rattle.joint.proofs.lemmas.nodes.Hanging.{put_here, put_beside, taken_here, taken_beside, full_is, empty_solid}
 use Rattle.joint.proofs.lemmas.nodes.OtherChild.{some_key}
@@ -133,7 +133,7 @@ module _ {P : Type 0} where
     by k (Some (Value v)) e = absurd (names k v (ap hung_at e))
 
   -- what is left of a solid node without values, once its children went over, is the node itself
-  pub left_same : (n : Form Id P) → IsSolid (children_of n) → ((k : ℕ) (v : P) → child_at n k ≡ Holds v → ⊥) → IsLeft n n
+  pub left_same : (n : Form Id P) → IsSolid (children_of n) → ((k : ℕ) (v : P) → child_at n k ≡ Holds v → ⊥) → IsPoured n n
   left_same n solid names = record {
     form = refl;
     prefix = refl;
@@ -144,7 +144,7 @@ module _ {P : Type 0} where
   }
 
   -- what is left of a solid node without nodes, once its children went over, is one without children
-  pub left_none : (n n' : Form Id P) → IsSolid (children_of n) → ((k d : ℕ) → child_at n k ≡ Below d → ⊥) → Becomes n n' map.empty → IsLeft n n'
+  pub left_none : (n n' : Form Id P) → IsSolid (children_of n) → ((k d : ℕ) → child_at n k ≡ Below d → ⊥) → Becomes n n' map.empty → IsPoured n n'
   left_none n n' solid values becomes = record {
     form = becomes.form;
     prefix = becomes.prefix;
@@ -172,7 +172,7 @@ module _ {P : Type 0} where
   pub alike_in : (a : Slot P) (n : Box (Form Id P) Global) → a.node ≡ Some n → HoldsAlike (node_of a) → AreAlike n.value
   alike_in a n e alike = subst (λ o. HoldsAlike (node_of (slot_with a o))) e alike
 
-  hands_box : (n m : Box (Form Id P) Global) (n' m' : Form Id P) (w v : LockWord) → IsSolid (children_of n.value) → Becomes m.value m' (children_of n.value) → IsLeft n.value n'
+  hands_box : (n m : Box (Form Id P) Global) (n' m' : Form Id P) (w v : LockWord) → IsSolid (children_of n.value) → Becomes m.value m' (children_of n.value) → IsPoured n.value n'
       → MovesTo (record { node = Some n; word = w }) (record { node = Some m; word = v }) (record { node = Some (with_value n n'); word = w }) (record { node = Some (with_value m m'); word = v })
   hands_box n m n' m' w v solid moved left = record {
     word_old = refl;
@@ -193,7 +193,7 @@ module _ {P : Type 0} where
   }
 
   -- a slot with its children left and another with them added are one whose children went over into the other
-  pub hands_slots : (a b : Slot P) (n m : Box (Form Id P) Global) (n' m' : Form Id P) → a.node ≡ Some n → b.node ≡ Some m → IsWhole a.node → Becomes m.value m' (children_of n.value) → IsLeft n.value n'
+  pub hands_slots : (a b : Slot P) (n m : Box (Form Id P) Global) (n' m' : Form Id P) → a.node ≡ Some n → b.node ≡ Some m → IsWhole a.node → Becomes m.value m' (children_of n.value) → IsPoured n.value n'
       → MovesTo a b (record { node = Some (with_value n n'); word = a.word }) (record { node = Some (with_value m m'); word = b.word })
   hands_slots a b n m n' m' e f whole moved left =
       subst (λ o. MovesTo (slot_with a o) b (record { node = Some (with_value n n'); word = a.word }) (record { node = Some (with_value m m'); word = b.word })) (sym e)

@@ -134,7 +134,7 @@ module _ {V : Type 0} (same : V → V → Bool) (always : Bool) (s s' : World V)
     past_or_in : (n i : ℕ) → (n ≤ i) ⊎ (i < n)
     past_or_in n i = grind arith
 
-  -- a call that hasn't taken effect hears the step's answer, and its request then has that value
+  -- a call that hasn't taken effect takes the step's answer, and its request then has that value
   pub pending_next : (noise : Noise Id V) (k : ℕ) (kd : Kind V) (v : Option V) (q : Question V) → fs w ≡ Pending k kd v q → TakesAnswer (answered_if (asks_at (slice_get s.machines w)) noise.answer (request_at qs w)) k kd (value_answered kd q noise.answer v) (resolved kd q noise.answer)
   pending_next noise k kd v q e =
       let a : IsAsked (request_at qs w) (Pending k kd v q) = subst (λ (x : Flight V). IsAsked (request_at qs w) x) e (each w) in
@@ -155,12 +155,12 @@ module _ {V : Type 0} (same : V → V → Bool) (always : Bool) (s s' : World V)
 
   go_case : (noise : Noise Id V) (f : Flight V) (l : Line V) (fs' : Flights V) (on : Bool) → fs w ≡ f → l.step.worker ≡ w → is_in_flight l.report.outcome ≡ on → GoMap same fs f m noise.answer l fs' → Agrees (slice_set qs w (next noise on)) fs'
   go_case noise (Pending k kd v q) l fs' on e we o x =
-      gone noise on fs' x.next (x.advances ∙ ap (λ j. with_flight fs j x.next) we) (pending_case noise k kd v q l l.report.decided x.next on e o x.step)
-  go_case noise (Decided r) l fs' on e we o x = gone noise on fs' x.next (x.advances ∙ ap (λ j. with_flight fs j x.next) we) (concluded_asked _ r x.step.outcome x.next x.step.concludes)
+      gone noise on fs' x.next (x.with_next ∙ ap (λ j. with_flight fs j x.next) we) (pending_case noise k kd v q l l.report.decided x.next on e o x.step)
+  go_case noise (Decided r) l fs' on e we o x = gone noise on fs' x.next (x.with_next ∙ ap (λ j. with_flight fs j x.next) we) (concluded_asked _ r x.step.outcome x.next x.step.concludes)
   go_case noise Over l fs' on e we o x =
       asked_set qs fs w (next noise on) (fs w) each (over_here (request_at (slice_set qs w (next noise on)) w) e) fs' (ap (λ (g : Flights V). g w) x.same_flights) (λ i n. ap (λ (g : Flights V). g i) x.same_flights)
-  go_case noise (Unbegun start end size) l fs' on e we o x = gone noise on fs' x.next (x.advances ∙ ap (λ j. with_flight fs j x.next) we) (scan_asked _ start end size (m ∷ []) [] x.step.outcome x.next x.step.tells)
-  go_case noise (Scanning start end size states places) l fs' on e we o x = gone noise on fs' x.next (x.advances ∙ ap (λ j. with_flight fs j x.next) we) (scan_asked _ start end size (m ∷ states) places x.step.outcome x.next x.step.tells)
+  go_case noise (Unbegun start end size) l fs' on e we o x = gone noise on fs' x.next (x.with_next ∙ ap (λ j. with_flight fs j x.next) we) (scan_asked _ start end size (m ∷ []) [] x.step.outcome x.next x.step.tells)
+  go_case noise (Scanning start end size states places) l fs' on e we o x = gone noise on fs' x.next (x.with_next ∙ ap (λ j. with_flight fs j x.next) we) (scan_asked _ start end size (m ∷ states) places x.step.outcome x.next x.step.tells)
 
   -- after a step each worker's request agrees with its call
   pub asked_after : (event : Event V) (l : Line V) (fs' : Flights V) → l.step.worker ≡ w → Does same always (engine_of s) w event (misuse (engine_of s) w event) l.report (engine_of s') → EventMap same fs m event l fs'

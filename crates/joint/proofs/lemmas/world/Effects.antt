@@ -131,7 +131,7 @@ module _ {V : Type 0} (same : V → V → Bool) (always : Bool) (s s' : World V)
   pending_effect noise k kd v q f' false d e e' n t = absurd (false≢true d)
 
   go_effect : (noise : Noise Id V) (f : Flight V) → fs w ≡ f → l.report.decided ≡ true → is_reserving (slice_get s.calls w) ≡ false → GoMap same fs f m noise.answer l fs' → Effect (Go noise)
-  go_effect noise (Pending k kd v q) e d n x = pending_effect noise k kd v q x.next l.report.decided d e (advanced x.next x.advances) n x.step
+  go_effect noise (Pending k kd v q) e d n x = pending_effect noise k kd v q x.next l.report.decided d e (advanced x.next x.with_next) n x.step
   go_effect noise (Decided r) e d n x = absurd (false≢true (sym x.step.undecided ∙ d))
   go_effect noise Over e d n x = absurd (false≢true (sym x.undecided ∙ d))
   go_effect noise (Unbegun start end size) e d n x = absurd (false≢true (sym x.step.undecided ∙ d))

@@ -60,7 +60,7 @@ module _ {V : Type 0} (same : V → V → Bool) (always : Bool) (s : World V) (w
       let waits : fs w ≡ Pending (parts call.0).0 (parts call.0).1 (parts call.0).2 Unasked = fl.each w (Reserving call.0) x.0 call.1 x.1 ∙ pending call.0 writing in
       let P : Flight V → Type 0 = λ f. GoMap same fs f m noise.answer (record { step = record { worker = w; event = Go noise }; report = rep; entry = None; pairs = m }) (with_flight fs w Over) in
       let Q : Report V → Type 0 = λ y. GoMap same fs (Pending (parts call.0).0 (parts call.0).1 (parts call.0).2 Unasked) m noise.answer (record { step = record { worker = w; event = Go noise }; report = y; entry = None; pairs = m }) (with_flight fs w Over) in
-      subst P (sym waits) (subst Q (sym q) (record { next = Over; step = inr (record { full = refl; undecided = refl; over = refl; no_entry = refl; same_pairs = refl }); advances = refl }))
+      subst P (sym waits) (subst Q (sym q) (record { next = Over; step = inr (record { full = refl; undecided = refl; over = refl; no_entry = refl; same_pairs = refl }); with_next = refl }))
 
   -- the other calls are watched as before, and the refused one no longer
   pub refused_flights : (fs : Flights V) (m : Pairs V) → IsMapOf (nodes s.forest) m → AreInFlight s fs → AreInFlight after_full (with_flight fs w Over)

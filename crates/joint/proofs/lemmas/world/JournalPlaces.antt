@@ -205,8 +205,8 @@ module _ {V : Type 0} where
     -- a call that may not write may not after a further step either
     pub go_writes : (fs : Flights V) (f : Flight V) (m : Pairs V) (answer : Option (Option V)) (l : Line V) (fs' : Flights V) → fs l.step.worker ≡ f → GoMap same fs f m answer l fs' → writes_on f ≡ false → writes_on (fs' l.step.worker) ≡ false
     go_writes fs (Pending k kd v q) m answer l fs' e x n =
-        advanced_writes fs fs' l.step.worker x.next x.advances (pending_writes k kd (value_answered kd q answer v) (resolved kd q answer) m l.report.decided l x.next x.step n)
-    go_writes fs (Decided r) m answer l fs' e x n = advanced_writes fs fs' l.step.worker x.next x.advances (concluded_writes r x.step.outcome x.next x.step.concludes)
+        advanced_writes fs fs' l.step.worker x.next x.with_next (pending_writes k kd (value_answered kd q answer v) (resolved kd q answer) m l.report.decided l x.next x.step n)
+    go_writes fs (Decided r) m answer l fs' e x n = advanced_writes fs fs' l.step.worker x.next x.with_next (concluded_writes r x.step.outcome x.next x.step.concludes)
     go_writes fs Over m answer l fs' e x n = ap (λ (g : Flights V). writes_on (g l.step.worker)) x.same_flights ∙ ap writes_on e
-    go_writes fs (Unbegun start end size) m answer l fs' e x n = advanced_writes fs fs' l.step.worker x.next x.advances (scan_writes start end size (m ∷ []) [] x.step.outcome x.next x.step.tells)
-    go_writes fs (Scanning start end size states places) m answer l fs' e x n = advanced_writes fs fs' l.step.worker x.next x.advances (scan_writes start end size (m ∷ states) places x.step.outcome x.next x.step.tells)
+    go_writes fs (Unbegun start end size) m answer l fs' e x n = advanced_writes fs fs' l.step.worker x.next x.with_next (scan_writes start end size (m ∷ []) [] x.step.outcome x.next x.step.tells)
+    go_writes fs (Scanning start end size states places) m answer l fs' e x n = advanced_writes fs fs' l.step.worker x.next x.with_next (scan_writes start end size (m ∷ states) places x.step.outcome x.next x.step.tells)

@@ -304,11 +304,11 @@ module _ {V : Type 0} (same : V → V → Bool) (always : Bool) (s s' : World V)
       let P : Flight V → Type 0 = λ g. GoMap same fs g m answer (line event r e m') (with_flight fs w f') in
       subst P (sym is) (by_flight f n x) where
         by_flight : (g : Flight V) → g ≢ Over → FlightStep same g m answer (line event r e m') f' → GoMap same fs g m answer (line event r e m') (with_flight fs w f')
-        by_flight (Pending k kind v q) n x = record { next = f'; step = x; advances = refl }
-        by_flight (Decided y) n x = record { next = f'; step = x; advances = refl }
+        by_flight (Pending k kind v q) n x = record { next = f'; step = x; with_next = refl }
+        by_flight (Decided y) n x = record { next = f'; step = x; with_next = refl }
         by_flight Over n x = absurd (n refl)
-        by_flight (Unbegun start end size) n x = record { next = f'; step = x; advances = refl }
-        by_flight (Scanning start end size states places) n x = record { next = f'; step = x; advances = refl }
+        by_flight (Unbegun start end size) n x = record { next = f'; step = x; with_next = refl }
+        by_flight (Scanning start end size states places) n x = record { next = f'; step = x; with_next = refl }
 
   -- a writing call that makes its places free goes on with that, begins on the tree, or is refused
   module _ (op : Point V) (noise : Noise Id V) (writing : writes op ≡ true) (watched : fs w ≡ flight (begun root op)) (len : w < length s.calls) where
@@ -461,11 +461,11 @@ module _ {V : Type 0} (same : V → V → Bool) (always : Bool) (s s' : World V)
         let q' : Question V = resolved kd q noise.answer in
         let y : (z : Option (Entry V)) × PendingStep same k kd v' q' m d.decided (told_line r z m') f' = pending_step k kd v' q' d.decided r f' m' t x in
         let P : Bool → Type 0 = λ b. PendingStep same k kd v' q' m b (told_line r y.0 m') f' in
-        record { entry = y.0; flights = with_flight fs w f'; step = record { next = f'; step = subst P (sym c) y.1; advances = refl }; here = flight_here fs w f'; apart = λ i n. flight_apart fs w i f' n }
+        record { entry = y.0; flights = with_flight fs w f'; step = record { next = f'; step = subst P (sym c) y.1; with_next = refl }; here = flight_here fs w f'; apart = λ i n. flight_apart fs w i f' n }
     flown (Decided z) r f' m' c t is x = record {
       entry = None;
       flights = with_flight fs w f';
-      step = record { next = f'; step = record { undecided = c ∙ x.0; outcome = d.outcome; told_so = t; concludes = x.1; no_entry = refl; same_pairs = x.2 }; advances = refl };
+      step = record { next = f'; step = record { undecided = c ∙ x.0; outcome = d.outcome; told_so = t; concludes = x.1; no_entry = refl; same_pairs = x.2 }; with_next = refl };
       here = flight_here fs w f';
       apart = λ i n. flight_apart fs w i f' n;
     }
@@ -479,14 +479,14 @@ module _ {V : Type 0} (same : V → V → Bool) (always : Bool) (s s' : World V)
     flown (Unbegun start end size) r f' m' c t is x = record {
       entry = None;
       flights = with_flight fs w f';
-      step = record { next = f'; step = record { undecided = c ∙ x.0; outcome = d.outcome; told_so = t; tells = x.1; no_entry = refl; same_pairs = x.2 }; advances = refl };
+      step = record { next = f'; step = record { undecided = c ∙ x.0; outcome = d.outcome; told_so = t; tells = x.1; no_entry = refl; same_pairs = x.2 }; with_next = refl };
       here = flight_here fs w f';
       apart = λ i n. flight_apart fs w i f' n;
     }
     flown (Scanning start end size states places) r f' m' c t is x = record {
       entry = None;
       flights = with_flight fs w f';
-      step = record { next = f'; step = record { undecided = c ∙ x.0; outcome = d.outcome; told_so = t; tells = x.1; no_entry = refl; same_pairs = x.2 }; advances = refl };
+      step = record { next = f'; step = record { undecided = c ∙ x.0; outcome = d.outcome; told_so = t; tells = x.1; no_entry = refl; same_pairs = x.2 }; with_next = refl };
       here = flight_here fs w f';
       apart = λ i n. flight_apart fs w i f' n;
     }

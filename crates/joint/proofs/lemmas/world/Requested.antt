@@ -138,7 +138,7 @@ module _ {V : Type 0} where
     pub of : IsRequestOf request k kd v
     pub question : IsQuestionOf kd u request.answer
 
-  -- a request that hears the answer of a step is of the call with its value and question after that step
+  -- a request that takes the answer of a step is of the call with its value and question after that step
   pub answered_is : (q : Request V) (k : ℕ) (kd : Kind V) (v : Option V) (u : Question V) (answer : Option (Option V)) → IsRequestOf q k kd v → IsQuestionOf kd u q.answer
       → TakesAnswer (answered_if (is_asked u) answer (Some q)) k kd (value_answered kd u answer v) (resolved kd u answer)
   answered_is q k kd v Unasked answer r a = record { request = q; is = refl; of = r; question = a }
@@ -258,7 +258,7 @@ module _ {V : Type 0} where
   carried o k kd v q (Replied x) h c = (h.request, h.is, h.of, subst (λ u. IsQuestionOf kd u h.request.answer) c h.question)
   carried o k kd v q (Asked x) h c = absurd c
 
-  -- after a step that doesn't decide, a request that was heard agrees with its call
+  -- after a step that doesn't decide, a request that took its answer agrees with its call
   pub undecided_asked : (o : Option (Request V)) (k : ℕ) (kd : Kind V) (v : Option V) (q : Question V) (m : Moved V) (f' : Flight V) → TakesAnswer o k kd v q → Undecided k kd v q m f' → IsAsked o f'
   undecided_asked o k kd v q moved.Running f' h u = subst (λ (x : Flight V). IsAsked o x) (sym u.2) (carried o k kd v q u.0 h u.1)
   undecided_asked o k kd v q (moved.Asks x) f' h u = subst (λ (y : Flight V). IsAsked o y) (sym u.1) (h.request, h.is, h.of, u.0)
