@@ -8,6 +8,8 @@ pub use Rattle.congee.proofs.lemmas.Tree.{same_or_not}
 pub use Rattle.congee.proofs.lemmas.Keys.{key_length}
 -- different keys have different bytes
 pub use Rattle.congee.proofs.lemmas.Keys.{key_apart}
+-- where two tests together are true, each is
+pub use Rattle.congee.proofs.lemmas.Fits.{both_true}
 -- two keys with one prefix of all but one byte, and that byte, are one
 pub use Rattle.congee.proofs.lemmas.Fits.{same_key}
 -- the first bytes of a key are a prefix of it
@@ -18,6 +20,12 @@ pub use Rattle.congee.proofs.lemmas.forms.Entries.{find}
 pub use Rattle.congee.proofs.lemmas.forms.BetweenLemmas.{get_find}
 -- what holds for each key that a list has holds for all its pairs
 pub use Rattle.congee.proofs.lemmas.forms.BetweenLemmas.{all_found}
+-- a test that is known to hold is true
+pub use Rattle.congee.proofs.lemmas.forms.BetweenLemmas.{true_of_T}
+-- a number that compares as less is less
+pub use Rattle.congee.proofs.lemmas.forms.BetweenLemmas.{less_of_cmp}
+-- the entries of a map stand in ascending order of their keys
+pub use Rattle.congee.proofs.lemmas.forms.BetweenLemmas.{rises_entries}
 -- the map's test of two keys is the test of two numbers
 pub use Rattle.congee.proofs.lemmas.forms.MapLemmas.{same_is}
 -- an insert of a new key lengthens a map by one
@@ -33,11 +41,11 @@ pub use Rattle.congee.proofs.lemmas.owned.RangeLemmas.{range_first}
 -- the pairs of a range that holds every key are the map's
 pub use Rattle.congee.proofs.lemmas.owned.RangeLemmas.{range_all}
 -- what stands at the key's byte in a linked node whose prefix the key has decides the key's value
-pub use Rattle.congee.proofs.lemmas.Tree.{finds}
+pub use Rattle.congee.proofs.lemmas.Tree.{value_at_linked}
 -- a key that lacks the prefix of the node at its byte has no value
-pub use Rattle.congee.proofs.lemmas.Tree.{misses}
+pub use Rattle.congee.proofs.lemmas.Tree.{value_at_unfit}
 -- a change at one byte of a node leaves each walk as it was that doesn't take that byte there
-pub use Rattle.congee.proofs.lemmas.Tree.{aside}
+pub use Rattle.congee.proofs.lemmas.Tree.{walk_aside}
 -- what a change at one byte of one node leaves, where nodes come into the tree or leave it: all but what hung there
 pub use Rattle.congee.proofs.lemmas.Graft.{Graft}
 -- after it: the children of the nodes that stood before are children
@@ -54,6 +62,10 @@ pub use Rattle.congee.proofs.lemmas.Keys.{standing_changed}
 pub use Rattle.congee.proofs.lemmas.protocol.Leftovers.{kept_node}
 -- and what isn't a node isn't
 pub use Rattle.congee.proofs.lemmas.protocol.Leftovers.{kept_value}
+-- what stands in a list of which one place was set: the new there, and elsewhere what stood
+pub use Rattle.congee.proofs.lemmas.protocol.Owners.{get_set}
+-- in the place that was set the new stands
+pub use Rattle.congee.proofs.lemmas.protocol.Owners.{set_here}
 -- a call owns the nodes that it has locked
 pub use Rattle.congee.proofs.lemmas.protocol.Owners.{locks_owned}
 -- what a call has made is as it was made
@@ -77,23 +89,23 @@ pub use Rattle.congee.proofs.lemmas.protocol.Regions.{byte_low}
 -- a key before a byte's first one has a lesser byte
 pub use Rattle.congee.proofs.lemmas.protocol.Regions.{byte_high}
 -- the whole of the keys below a node lies between its byte 0 and its byte 256
-pub use Rattle.congee.proofs.lemmas.protocol.Regions.{whole}
+pub use Rattle.congee.proofs.lemmas.protocol.Regions.{start_at_end}
 -- the first keys of greater bytes aren't less
 pub use Rattle.congee.proofs.lemmas.protocol.Regions.{start_mono}
 -- the last of the keys below a node is a key
-pub use Rattle.congee.proofs.lemmas.protocol.SweepBytes.{region_top}
+pub use Rattle.congee.proofs.lemmas.protocol.ScanBytes.{region_top}
 -- the keys below a child begin with its byte's first one or after it
-pub use Rattle.congee.proofs.lemmas.protocol.SweepKept.{child_after}
+pub use Rattle.congee.proofs.lemmas.protocol.ScanKept.{child_after}
 -- and end before the next byte's first one
-pub use Rattle.congee.proofs.lemmas.protocol.SweepKept.{child_before}
+pub use Rattle.congee.proofs.lemmas.protocol.ScanKept.{child_before}
 -- the keys between two bytes between which nothing hangs are lacking
-pub use Rattle.congee.proofs.lemmas.protocol.SweepKept.{lacks_bytes}
+pub use Rattle.congee.proofs.lemmas.protocol.ScanKept.{lacks_bytes}
 -- so are the other keys of a byte under which a node hangs
-pub use Rattle.congee.proofs.lemmas.protocol.SweepKept.{lacks_beside}
+pub use Rattle.congee.proofs.lemmas.protocol.ScanKept.{lacks_beside}
 -- the value under a byte of a leaf is its key's
-pub use Rattle.congee.proofs.lemmas.protocol.SweepKept.{has_value}
+pub use Rattle.congee.proofs.lemmas.protocol.ScanKept.{has_value}
 -- the scan of a call, before its begin, is of the call's range
-pub use Rattle.congee.proofs.lemmas.protocol.SweepRanges.{of_range}
+pub use Rattle.congee.proofs.lemmas.protocol.ScanRanges.{of_range}
 -- the nodes under two trees' bytes are the same if those under each child are
 pub use Rattle.congee.proofs.lemmas.owned.Surveys.{bytes_same}
 -- bytes at which nothing hangs add no nodes
@@ -103,4 +115,4 @@ pub use Rattle.congee.proofs.lemmas.owned.Surveys.{one_more}
 -- statistics that counted one more node are those of the list with it
 pub use Rattle.congee.proofs.lemmas.owned.Tallies.{IsTally-counted}
 -- a byte that isn't passed adds its part to a sum over the bytes that are left
-pub use Rattle.congee.proofs.lemmas.protocol.AloneSweeps.{term_past}
+pub use Rattle.congee.proofs.lemmas.protocol.AloneScans.{term_past}

@@ -46,7 +46,7 @@ pub record IsChild {V : Type 0} (a : ℕ → Note) (h : ℕ → Node V) (n b c :
   pub longer : length (h n).prefix < length (h c).prefix
   pub byte : slice_index (h c).prefix (length (h n).prefix) ≡ b
 
--- the node that the ledger names as its parent is in the tree and holds it
+-- the node that the notes name as its parent is in the tree and holds it
 pub record HasParent {V : Type 0} (a : ℕ → Note) (h : ℕ → Node V) (n : ℕ) : Type 0 where
   pub linked : (a (a n).parent).status ≡ Linked
   pub byte : ℕ

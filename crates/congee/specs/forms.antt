@@ -1,6 +1,7 @@
 pub mod Bytes
 pub mod Forms
 pub mod Index
+pub mod Laid
 pub mod Mapped
 pub mod Mask
 pub mod Places

@@ -18,6 +18,7 @@ pub mod Lones
 pub mod Only
 pub mod Owned
 pub mod Place
+pub mod PlaceRoom
 pub mod Ranges
 pub mod Renames
 pub mod Rows
@@ -33,6 +34,8 @@ pub mod Naming
 pub mod Nearest
 pub mod Owners
 pub mod Table
+pub mod ValueRoom
+pub mod Values
 pub mod Weights
 pub mod Stats
 pub mod StatsText

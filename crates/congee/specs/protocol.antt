@@ -14,11 +14,11 @@ pub mod Handing
 pub mod Names
 pub mod Destroys
 pub mod Regions
-pub mod Sweeps
-pub mod SweepEvents
-pub mod SweepSteps
+pub mod Scans
+pub mod ScanEvents
+pub mod ScanSteps
 pub mod Stamps
-pub mod SweepKnown
+pub mod ScanKnown
 pub mod Bounds
 pub mod Causes
 pub mod Leaving

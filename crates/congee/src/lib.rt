@@ -5,10 +5,16 @@
 //! all keys below a node share make no nodes of their own: the node stores them as its prefix, and a look-up compares
 //! them on its way.
 //!
-//! A node is as big as it must be. Four forms hold at most 4, 16, 48 and 256 children: the small ones as sorted bytes,
-//! the third with an index of 256 places, the greatest with a place for each byte. A node that is full is replaced by
-//! one of the next form; none is made smaller again. An insertion whose key leaves a node's prefix midway splits it:
-//! a new node gets what is common, and the old node and a new leaf below it. A leaf whose last value is taken goes too.
+//! A node is as big as it must be. Four forms hold at most 4, 16, 48 and 256 children: the first two as sorted bytes,
+//! the third with an index of 256 places, the greatest with a place for each byte. A node that is full gives place to
+//! one of the next form, and one that few children are left in to one of the form below, where there is room for that.
+//! The root has 256 places and stays. An insertion whose key leaves a node's prefix midway splits it: a new node gets
+//! what is common, and the old node and a new leaf below it. A leaf whose last value is taken goes too, and so does an
+//! inner node that one child is left in, which comes into its place.
+//!
+//! Trees of one owner have layouts of their own: the third form of an inner node keeps its children in the order of their
+//! bytes as the first two do; a leaf keeps values alone, a word in eight bytes, its greatest form beside a mask of the
+//! bytes that have one; and a leaf with one value lies in its parent's place.
 //!
 //! A scan goes down to the least key that isn't less than its start, and on from child to child in the order of bytes,
 //! so it gives pairs in ascending order and stops at its end or at its last place.

@@ -1,4 +1,18 @@
-//! Trees of one owner. Their nodes stand in an `arena`, children by name; `congee` has the tree itself.
+//! Trees of one owner, in layers, from the nodes up to the trees.
+//!
+//! `nodes` is the storage: a slot for each node, an inner one or a leaf (`slots`). An inner node (`inner`) has a prefix
+//! and by form its `places`, whose `entries` are nodes by their slots, or leaves with one value (`lone`), which have no slot and
+//! lie there; a leaf with a slot of its own (`leaf_node`) has a prefix and by form its `values`. Each has a name (`names`), and to
+//! contracts each is a node of those that shared trees have.
+//!
+//! Over it, `looks` tells what a node has for a key, `parting` where a key leaves a prefix, and `hangings` changes what hangs
+//! in a node. An `arena` is the nodes and their budget. It goes down a key's way, whose end is a `place`; there `edit` puts
+//! values in and splits, and `removing` takes them out, with the nodes that go or shrink. `pairs` has these as calls on a
+//! map, and `close` ends a tree, with a `drainer`.
+//!
+//! A walk reads each node once, as a `sight`: `scan` gives the pairs in order, `writing` puts a range of them into a slice,
+//! and `survey` counts the nodes, for `stats`. The trees are `congee`, of words, `u64_congee`, whose keys are numbers, and
+//! `congee_arc`, of shared values.
 mod arena;
 mod close;
 mod congee;
@@ -8,6 +22,7 @@ mod edit;
 mod entries;
 mod hangings;
 mod inner;
+mod leaf_node;
 mod lone;
 mod looks;
 mod names;
@@ -19,11 +34,11 @@ mod places;
 mod removing;
 mod scan;
 mod sight;
-mod slot_node;
 mod slots;
 mod stats;
 mod survey;
 mod u64_congee;
+mod values;
 mod writing;
 
 pub use congee::Congee;

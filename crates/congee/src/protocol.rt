@@ -7,7 +7,7 @@
 //! a step of its own, and the call begins anew at the root. Locks are taken from the upper node down.
 //!
 //! A `machine` is one call. Its `phase` is the next step, which each step changes where it lies; `acts` has the steps that
-//! make, lock or change nodes, and `turn` says where the store's answer leads. `state` has what a call says of itself between
+//! make, lock or change nodes, and `next_phase` says where the store's answer leads. `state` has what a call says of itself between
 //! two steps, to whoever keeps it. The ways on:
 //!
 //! | The call finds | Its phases |
@@ -23,26 +23,26 @@
 //! | the same below a node that one child is left in, or few | `AskOld`, for few `MakeLesser`, `UpgradeTop`, `UpgradeAbove`, `UpgradeBelow`, `ChangeTwo`, `Obsolete` and `Retire` of both, `Unlock` |
 //! | a lower lock not free | `Unwind` at each lock that is held, then anew, or refused |
 //!
-//! Only a call with a closure asks. A scan is one phase, `Sweep`, with stages of its own in `sweep`.
+//! Only a call with a closure asks. A scan is one phase, `Scan`, with stages of its own in `scan`.
 mod acts;
 mod laws;
 mod machine;
+mod next_phase;
 mod op;
 mod phase;
 mod plain;
 mod plain_node;
 mod run;
+mod scan;
 mod state;
 mod store;
-mod sweep;
-mod turn;
 
 pub use machine::{Machine, Move, Noise, Outcome};
+pub use next_phase::NextPhase;
 pub use op::Op;
 pub use phase::{Above, Double, Kind, One, Parent, Phase, Plan, Single, Site, Two};
 pub use plain::PlainStore;
 pub use plain_node::{PlainNode, first_difference};
 pub use run::{Played, Step, play, step_of};
+pub use scan::{Path, Rung, ScanReport, ScanState, Stage};
 pub use store::{Least, NodeName, Reading, Refusal, Region, Seen, Stamp, Store, Upgrade};
-pub use sweep::{Path, Rung, ScanReport, Stage, Sweep};
-pub use turn::NextPhase;

@@ -2,3 +2,4 @@ pub mod Chain
 pub mod Limits
 pub mod World
 pub mod Face
+pub mod Tags

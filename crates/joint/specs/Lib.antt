@@ -3,7 +3,7 @@ pub mod engine
 pub mod nodes
 pub mod threads
 pub mod world
-pub mod Asked
+pub mod Changes
 pub mod Limits
 pub mod NameLemmas
 pub mod Names

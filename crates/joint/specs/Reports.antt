@@ -62,11 +62,20 @@ abbrev pub reply_in : {V : Type 0} → Outcome V → Option (Reply V)
 reply_in (Done (done.Reply r)) = Some r
 reply_in _ = None
 
+-- whether a report says that the worker's call is in flight
+abbrev pub is_in_flight : {V : Type 0} → Outcome V → Bool
+is_in_flight Running = true
+is_in_flight (Asks found) = true
+is_in_flight (Found place key value) = true
+is_in_flight (Registered n) = false
+is_in_flight (Done done) = false
+is_in_flight (Refused refusal) = false
+
 -- whether the call takes its next step with nothing from outside: it has not ended, and wants no answer
-abbrev pub goes_on : {V : Type 0} → Outcome V → Bool
-goes_on Running = true
-goes_on (Asks found) = false
-goes_on (Found place key value) = true
-goes_on (Registered n) = false
-goes_on (Done done) = false
-goes_on (Refused refusal) = false
+abbrev pub goes_unasked : {V : Type 0} → Outcome V → Bool
+goes_unasked Running = true
+goes_unasked (Asks found) = false
+goes_unasked (Found place key value) = true
+goes_unasked (Registered n) = false
+goes_unasked (Done done) = false
+goes_unasked (Refused refusal) = false

@@ -1,9 +1,10 @@
 //! The calls on the tree and the collector, one step at a time.
 //!
-//! A worker has one call `in_flight` at most; a `step` begins one or goes on with it, by its event. A writing call reserves
-//! its place in a journal, secures places of its worker's bag for the nodes that it may hand over, and then walks the tree; a
-//! reading one walks at once. `census` and `waiting` count the pairs and what calls have taken out; `journaling` and `request`
-//! tell what a journal wants of a call and what its worker asked for; `close` ends them all.
+//! A worker has one call `in_flight` at most. Each event has its own function of `step`: `step_in` takes a worker in,
+//! `step_begin` begins a call, and `step_on` goes on with it. A writing call reserves its place in a journal, secures
+//! places of its worker's bag for the nodes that it may hand over, and then walks the tree; a reading one walks at once.
+//! `census` and `waiting` count the pairs and what calls have taken out; `journaling` and `request` tell what a journal
+//! wants of a call and what its worker asked for; `close` ends them all.
 
 pub(crate) mod census;
 pub(crate) mod close;
@@ -18,13 +19,14 @@ ghost use Rattle.crossbeam_epoch.specs.declared.bag.Work.{Work};
 ghost use Rattle.crossbeam_epoch.specs.World.Machine.{deferred, place};
 ghost use Rattle.congee.specs.protocol.Play.{begun};
 ghost use Rattle.joint.specs.nodes.Nodes.{nodes, with_collector};
-ghost use Rattle.joint.specs.engine.Intact.{IsSecuring, MayStart, BeginsSecuring, Secured, call_after, cleared, is_reserving, resting, root};
+ghost use Rattle.joint.specs.engine.Intact.{IsSecuring, MayStart, BeginsSecuring, Secured, call_after, cleared, is_reserving, resting};
+ghost use Rattle.joint.specs.Names.{root};
 ghost use Rattle.joint.specs.engine.Laws.{CellLaws, CallLaws, ProgressLaws};
 ghost use Rattle.joint.specs.declared.engine.in_flight.InFlight.TheVariants as InFlight;
 ghost use Rattle.crossbeam_epoch.specs.declared.world.report.Event.TheVariants as Event;
 ghost use Rattle.joint.specs.nodes.Opening.{IsOpened, IsUnopened};
-ghost use Rattle.joint.specs.engine.Engine.{IsFresh, EngineHolds, is_in_flight};
-ghost use Rattle.joint.specs.Reports.{told};
+ghost use Rattle.joint.specs.engine.Engine.{IsFresh, EngineHolds};
+ghost use Rattle.joint.specs.Reports.{told, is_in_flight};
 ghost use Rattle.joint.specs.nodes.View.{id_number};
 ghost use Rattle.joint.specs.engine.Safety.{Rests, Runs, Owes, Walked, Collected};
 ghost use Rattle.joint.specs.nodes.Slots.{slot_names};
@@ -38,7 +40,7 @@ use crate::nodes::Nodes;
 use crate::nodes::slot::Slot;
 use crate::refusal::Refusal;
 use congee::{Allocator, Machine, Move, Noise, Op, Payload, Small, Step, step_of};
-use crossbeam_epoch::{Event, Name, Outcome, Report};
+use crossbeam_epoch::{Event, Outcome, Report};
 use std::alloc::{AllocError, Global};
 
 /// What the collector's laws say of the cells.
@@ -85,7 +87,7 @@ fn call_after<P: Payload + Small>(outcome: Outcome, call: InFlight<P>) -> InFlig
 }
 
 /// Whether a call on the tree is in flight after a step with this outcome.
-fn goes_on<P>(outcome: &congee::Outcome<P>) -> bool
+fn is_in_flight<P>(outcome: &congee::Outcome<P>) -> bool
     ensures { result ≡ is_in_flight (told outcome.now) }
 {
     match outcome {
@@ -102,9 +104,7 @@ fn goes_on<P>(outcome: &congee::Outcome<P>) -> bool
 fn resting<P: Payload + Small>() -> Machine<Id, P>
     ensures { result ≡ resting }
 {
-    Machine::ended(Id {
-        name: Name { cell: 0, turn: 0 },
-    })
+    Machine::ended(Id::root())
 }
 
 /// So many calls on the tree that have ended.
@@ -277,10 +277,7 @@ impl<P: Payload + Small, A: Allocator> Engine<P, A> {
         ensures census { self.new.census ≡ self.old.census }
     {
         call_laws::<P>();
-        let root = Id {
-            name: Name { cell: 0, turn: 0 },
-        };
-        self.machines[who].begin(root, op);
+        self.machines[who].begin(Id::root(), op);
         self.set_call(who, InFlight::Walking);
     }
 
@@ -366,7 +363,7 @@ impl<P: Payload + Small, A: Allocator> Engine<P, A> {
         ensures nodes { self.new.nodes ≡ self.old.nodes }
         ensures census { self.new.census ≡ self.old.census }
     {
-        if goes_on(outcome) {
+        if is_in_flight(outcome) {
             return;
         }
         let scanned = self.machines[who].has_scanned();

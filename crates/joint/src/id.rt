@@ -11,6 +11,16 @@ pub struct Id {
 
 impl Id {
     ghost use Rattle.std.specs.Prelude.{◌≡◌, ◌≢◌, true, false};
+    ghost use Rattle.joint.specs.Names.{root};
+
+    /// The root's, whose cell is the first that is given.
+    pub(crate) fn root() -> Id
+        ensures { result ≡ root }
+    {
+        Id {
+            name: Name { cell: 0, turn: 0 },
+        }
+    }
 
     /// Whether both name one node.
     pub(crate) fn is(self, other: Id) -> bool

@@ -8,10 +8,10 @@
 //! charge.
 //!
 //! A writing call must not fail once it has taken effect, so it asks first for what it will want. Its first step takes
-//! a place of the journal, where there is one; the next ones make a place free in the worker's bag; then it walks the
+//! a place of the journal, where there is one; the next ones make two places free in the worker's bag; then it walks the
 //! tree, a step at a time. Whatever is refused is refused on this way, before the step that decides, and gives back
-//! what was made. The deciding step writes the call's entry down; after it the call unlocks, hands over the node that
-//! it took out, and is done.
+//! what was made. The deciding step writes the call's entry down; after it the call unlocks, hands over the nodes
+//! that it took out, and is done.
 //!
 //! For threads the whole machine stands under one lock, and each step of a call is one hold of it: any two calls
 //! interleave as on the machine, and no closure runs while the lock is held. That is the price: no two steps at once.
@@ -43,7 +43,7 @@ pub use calls::promises::keeps_promises;
 pub use calls::replies::pairs_stand;
 pub use calls::run_laws::{
     alone_by_reports, answers_wanted, calls_answer, calls_end, guards_keep, locks_apart,
-    nodes_leave, readers_refused, runs_journal,
+    nodes_filled, nodes_leave, readers_refused, runs_journal,
 };
 pub use id::Id;
 pub use limits::Limits;

@@ -1,8 +1,8 @@
 //! What a worker asks of the machine, and what it is told.
 
 ghost use Rattle.std.specs.Prelude.{◌≡◌};
-ghost use Rattle.joint.specs.Asked.{changes};
-ghost use Rattle.joint.specs.Reports.{reply_in, target, told, collected};
+ghost use Rattle.joint.specs.Changes.{changes};
+ghost use Rattle.joint.specs.Reports.{reply_in, is_in_flight, target, told, collected};
 
 use crate::id::Id;
 use crate::refusal::Refusal;
@@ -209,6 +209,20 @@ impl<P: Drop> Report<P> {
 }
 
 impl<P> Outcome<P> {
+    /// Whether a call that stands so is in flight.
+    pub fn is_in_flight(&self) -> bool
+        ensures { result ≡ is_in_flight self.now }
+    {
+        match self {
+            Outcome::Running => true,
+            Outcome::Asks(_) => true,
+            Outcome::Found { .. } => true,
+            Outcome::Registered(_) => false,
+            Outcome::Done(_) => false,
+            Outcome::Refused(_) => false,
+        }
+    }
+
     /// How a call on the tree stands.
     #[inline(always)]
     pub(crate) fn of_tree(outcome: congee::Outcome<P>) -> Self

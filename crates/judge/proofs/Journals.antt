@@ -9,30 +9,31 @@ use Rattle.judge.specs.declared.journal.Entry.{Entry}
 use Rattle.judge.specs.declared.journal.Reply.{Reply}
 
 module _ {P : Type 0} (same : P → P → Bool) where
-  pub Legal-append : (m between n : Pairs P) (xs ys : List (Entry P)) → Legal same m xs between → Legal same between ys n → Legal same m (xs ++ ys) n
+  Legal-append : (m between n : Pairs P) (xs ys : List (Entry P)) → Legal same m xs between → Legal same between ys n → Legal same m (xs ++ ys) n
   Legal-append m between n [] ys is rest = subst (λ x. Legal same x ys n) (sym is) rest
   Legal-append m between n (x ∷ xs) ys is rest = (is.0, Legal-append (answer same m x.call).1 between n xs ys is.1 rest)
 
+  -- legal entries, and one more that the map answers, are legal
   pub Legal-push : (m between n : Pairs P) (xs : List (Entry P)) (e : Entry P) → Legal same m xs between → Answers same between e n → Legal same m (xs ++ e ∷ []) n
   Legal-push m between n xs e is step = Legal-append m between n xs (e ∷ []) is (ap (λ p. p.0) step, ap (λ p. p.1) step)
 
   -- a list's first part is legal as far as it goes
-  pub Legal-first : (m n : Pairs P) (xs ys : List (Entry P)) → Legal same m (xs ++ ys) n → (between : Pairs P) × Legal same m xs between × Legal same between ys n
+  Legal-first : (m n : Pairs P) (xs ys : List (Entry P)) → Legal same m (xs ++ ys) n → (between : Pairs P) × Legal same m xs between × Legal same between ys n
   Legal-first m n [] ys is = (m, refl, is)
   Legal-first m n (x ∷ xs) ys is =
       let rest = Legal-first (answer same m x.call).1 n xs ys is.1 in
       (rest.0, (is.0, rest.1), rest.2)
 
   -- entries lead to one map alone
-  pub Legal_once : (m a b : Pairs P) (xs : List (Entry P)) → Legal same m xs a → Legal same m xs b → a ≡ b
+  Legal_once : (m a b : Pairs P) (xs : List (Entry P)) → Legal same m xs a → Legal same m xs b → a ≡ b
   Legal_once m a b [] p q = sym p ∙ q
   Legal_once m a b (x ∷ xs) p q = Legal_once (answer same m x.call).1 a b xs p.1 q.1
 
   -- the first part of a legal journal is legal
-  pub IsLegal-first : (xs ys : List (Entry P)) → IsLegal same (xs ++ ys) → IsLegal same xs
+  IsLegal-first : (xs ys : List (Entry P)) → IsLegal same (xs ++ ys) → IsLegal same xs
   IsLegal-first xs ys is = let first = Legal-first empty is.0 xs ys is.1 in (first.0, first.1)
 
-  pub IsLegal-take : (p : ℕ) (es : List (Entry P)) → IsLegal same es → IsLegal same (take p es)
+  IsLegal-take : (p : ℕ) (es : List (Entry P)) → IsLegal same es → IsLegal same (take p es)
   IsLegal-take p es is = IsLegal-first (take p es) (drop p es) (subst (IsLegal same) (sym (take-append-drop p es)) is)
 
   -- one more entry that the map answers
@@ -42,15 +43,16 @@ module _ {P : Type 0} (same : P → P → Bool) where
       subst (λ xs. Legal same m xs next) (sym (take_more es i d room)) (Legal-append m n next (take i es) (get_or es i d ∷ []) is step)
 
   -- an entry that the map doesn't answer ends what is legal
-  pub not_legal_after : (m n : Pairs P) (xs : List (Entry P)) (e : Entry P) → Legal same m xs n → ((answer same n e.call).0 ≡ e.reply → ⊥) → (end : Pairs P) → Legal same m (xs ++ e ∷ []) end → ⊥
+  not_legal_after : (m n : Pairs P) (xs : List (Entry P)) (e : Entry P) → Legal same m xs n → ((answer same n e.call).0 ≡ e.reply → ⊥) → (end : Pairs P) → Legal same m (xs ++ e ∷ []) end → ⊥
   not_legal_after m n xs e is wrong end all =
       let parts = Legal-first m end xs (e ∷ []) all in
       wrong (subst (λ x. (answer same x e.call).0 ≡ e.reply) (Legal_once m parts.0 n xs parts.1 is) parts.2.0)
 
   -- a journal that is legal so far is legal at each place before
-  pub legal_up_to : (p q : ℕ) (es : List (Entry P)) → p ≤ q → IsLegal same (take q es) → IsLegal same (take p es)
+  legal_up_to : (p q : ℕ) (es : List (Entry P)) → p ≤ q → IsLegal same (take q es) → IsLegal same (take p es)
   legal_up_to p q es below is = subst (IsLegal same) (take-take p q es below) (IsLegal-take p (take q es) is)
 
+  -- a journal is wrong at an entry whose reply isn't the map's, where those before it are legal
   pub wrong_at : (n : Pairs P) (es : List (Entry P)) (i : ℕ) (d : Entry P) (r : Reply P) → i < length es → Legal same empty (take i es) n → r ≡ (answer same n (get_or es i d).call).0 → (r ≡ (get_or es i d).reply → ⊥) → IsWrongAt same es i
   wrong_at n es i d r room is reply other =
       ((n, is), λ all. not_legal_after empty n (take i es) (get_or es i d) is (λ told. other (reply ∙ told)) all.0 (subst (λ xs. Legal same empty xs all.0) (take_more es i d room) all.1))

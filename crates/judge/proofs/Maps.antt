@@ -27,11 +27,11 @@ pub get-insert_apart : {P : Type 0} (m : Pairs P) (k : ℕ) (v : P) (q : ℕ) �
 get-insert_apart m k v q ne = get-insert nat_cmp_total m k v q ∙ ap (λ b. cond b (Some v) (get m q)) (apart q k ne)
 
 -- a key that was removed has no value
-pub get-remove_here : {P : Type 0} (m : Pairs P) (k : ℕ) → get (remove m k) k ≡ None
+get-remove_here : {P : Type 0} (m : Pairs P) (k : ℕ) → get (remove m k) k ≡ None
 get-remove_here m k = get-remove nat_cmp_total m k k ∙ ap (λ b. cond b None (get m k)) (here k)
 
 -- a removal leaves what stands at each other key
-pub get-remove_apart : {P : Type 0} (m : Pairs P) (k q : ℕ) → q ≢ k → get (remove m k) q ≡ get m q
+get-remove_apart : {P : Type 0} (m : Pairs P) (k q : ℕ) → q ≢ k → get (remove m k) q ≡ get m q
 get-remove_apart m k q ne = get-remove nat_cmp_total m k q ∙ ap (λ b. cond b None (get m q)) (apart q k ne)
 
 -- what was set at a key stands there
@@ -49,7 +49,7 @@ by_test true q k e f g at_k other = let is : q ≡ k = grind (arith, nat_tests) 
 by_test false q k e f g at_k other = other (let ne : q ≢ k = grind (arith, nat_tests) in ne)
 
 -- two functions that agree at one key and at every other one
-pub by_key : {A : Type 0} (k : ℕ) (f g : ℕ → A) → f k ≡ g k → ((q : ℕ) → q ≢ k → f q ≡ g q) → (q : ℕ) → f q ≡ g q
+by_key : {A : Type 0} (k : ℕ) (f g : ℕ → A) → f k ≡ g k → ((q : ℕ) → q ≢ k → f q ≡ g q) → (q : ℕ) → f q ≡ g q
 by_key k f g at_k other q = by_test (eqb q k) q k refl f g at_k (other q)
 
 -- a map that has o at k, and elsewhere what m has, is m with o set at k
@@ -60,14 +60,6 @@ is_set_at m n k o at_k other =
 -- to set what stands there changes nothing
 pub set_at-standing : {P : Type 0} (m : Pairs P) (k : ℕ) (o : Option P) → get m k ≡ o → set_at m k o ≡ m
 set_at-standing m k o at_k = sym (is_set_at m m k o at_k (λ q ne. refl))
-
--- to insert the value that stands there changes nothing
-pub insert-standing : {P : Type 0} (m : Pairs P) (k : ℕ) (v : P) → get m k ≡ Some v → insert m k v ≡ m
-insert-standing m k v at_k = set_at-standing m k (Some v) at_k
-
--- to remove a key that isn't there changes nothing
-pub remove-absent : {P : Type 0} (m : Pairs P) (k : ℕ) → get m k ≡ None → remove m k ≡ m
-remove-absent m k at_k = set_at-standing m k None at_k
 
 pair_up : {A B : Type 0} (a b : A) (c d : B) → a ≡ b → c ≡ d → ◌≡◌ {A = A × B} (a, c) (b, d)
 pair_up a b c d e f = λ i. (e i, f i)

@@ -28,4 +28,4 @@ mod words;
 pub use checker::{Verdict, check};
 pub use journal::{Call, Entry, Reply};
 pub use payloads::{ArcPayload, Payload};
-pub use words::Word64;
+pub use words::{Word64, number_of, word_of};

@@ -4,7 +4,7 @@ use Rattle.joint.specs.nodes.Draining.{Drained as Takes}
 use Rattle.trial.specs.declared.drained.Drained.{Drained}
 
 -- a pair comes behind those before it, unless there was no memory for it or for one of those
-abbrev pub TakesOne : Drained → ℕ → ℕ → Drained → Type 0
+abbrev TakesOne : Drained → ℕ → ℕ → Drained → Type 0
 TakesOne before key value after = after.whole ≡ true → (before.whole ≡ true) × (after.pairs ≡ before.pairs ++ (key, value) ∷ [])
 
 taken : (before after : Drained) (pairs : List (ℕ × ℕ)) → Takes TakesOne before pairs after → after.whole ≡ true → (before.whole ≡ true) × (after.pairs ≡ before.pairs ++ pairs)

@@ -2,8 +2,8 @@
 use Rattle.std.proofs.Common.{◌≡◌, ℕ, ◌<◌, ◌≤◌, ◌^◌, ◌&&◌, nat_lt, nat_le, List, [], ◌∷◌, ◌++◌, refl, ap, sym, subst, ◌∙◌, Bool, true, false, cond, Option, Some, None, IfSome, arith, if◌then◌else◌, append_assoc, append-nil}
 use Rattle.std.specs.Option.{option_map}
 use Rattle.std.proofs.lemmas.Bool.Decides.{nat_tests}
-use Rattle.trial.specs.declared.command.Call.{Call}
-use Rattle.trial.specs.declared.command.Call.TheVariants as call
+use Rattle.trial.specs.declared.command.LineCall.{LineCall}
+use Rattle.trial.specs.declared.command.LineCall.TheVariants as call
 use Rattle.trial.specs.declared.command.Command.{Command}
 use Rattle.trial.specs.declared.command.Command.TheVariants as command
 use Rattle.trial.specs.declared.keyword.Keyword.{Keyword}
@@ -134,7 +134,7 @@ lt_true : (n m : ℕ) → n < m → nat_lt n m ≡ true
 lt_true n m h = grind (arith, nat_tests)
 
 -- the words of a call are parsed as that call
-pub call_complete : (c : Call) → CallFits c → call_of (call_words c) ≡ Some c
+call_complete : (c : LineCall) → CallFits c → call_of (call_words c) ≡ Some c
 call_complete call.Pin h = refl
 call_complete call.Unpin h = refl
 call_complete call.Repin h = refl
@@ -163,7 +163,7 @@ worker_complete : (w : ℕ) (ws : List Word) (c : Command) → w < 2 ^ 32 → wo
 worker_complete w ws c h e = ap (λ t. cond t (worker_command_of w ws) None) (lt_true w (2 ^ 32) h) ∙ e
 
 -- a call's words are no other command of a worker
-not_other : (w : ℕ) (c : Call) → worker_command_of w (call_words c) ≡ option_map (command.Call w) (call_of (call_words c))
+not_other : (w : ℕ) (c : LineCall) → worker_command_of w (call_words c) ≡ option_map (command.Call w) (call_of (call_words c))
 not_other w call.Pin = refl
 not_other w call.Unpin = refl
 not_other w call.Repin = refl

@@ -18,7 +18,7 @@ pub first_is_digit : (n : ℕ) → n < 2 ^ 64 → IsInRange 48 57 (get_or (decim
 first_is_digit n h = digit_at (decimal n) 0 (decimal_is_IsNumeral n h).0.1 (decimal_nonempty n h)
 
 -- no zero leads a decimal of two bytes or more
-pub no_leading_zero : (n : ℕ) → n < 2 ^ 64 → get_or (decimal n) 0 0 ≡ 48 → length (decimal n) ≡ 1
+no_leading_zero : (n : ℕ) → n < 2 ^ 64 → get_or (decimal n) 0 0 ≡ 48 → length (decimal n) ≡ 1
 no_leading_zero zero h e = ap length (decimal_digit 0 (omega arith))
 no_leading_zero (suc n) h e = absurd (omega (arith, first_decimal (suc n) (omega arith) h))
 

@@ -14,9 +14,9 @@ use Rattle.trial.specs.Script.{LinesAnswer, AreAnswered, lines_of, NoFeed, fed, 
 use Rattle.trial.specs.Texts.{bad_line_text}
 use Rattle.trial.specs.Output.{Passes, Breaks}
 use Rattle.trial.specs.Turns.{LineGoes, LineStops, LinesGo, LinesStop, FirstStops, IsDue, IsDueFirst, BeginsBad}
-use Rattle.trial.specs.Going.{Going, Ends, EndsBy, Ran, IsAtStart, IsWritten}
+use Rattle.trial.specs.Going.{Going, Ends, EndsBy, Ran, IsWritten}
 use Rattle.trial.proofs.Feeding.{answers_more, long_is_bad}
-use Rattle.trial.proofs.Passing.{passes_none, passes_both, breaks_last}
+use Rattle.trial.proofs.Passing.{passes_both, breaks_last}
 use Rattle.trial.proofs.Splitting.{false_from_unequal, equal_from_true}
 use Rattle.std.proofs.Math.Dec.{eqb}
 use Rattle.std.proofs.lemmas.Bool.{true≢false}
@@ -39,7 +39,7 @@ lines_last b [] h = rw (false_from_unequal b 10 (not_feed b [] h)) refl
 lines_last b (c ∷ line) h = rw (false_from_unequal b 10 (not_feed b (c ∷ line) h)) (ap (onto_first b) (lines_last c line (unfed_rest b (c ∷ line) h)))
 
 -- the lines of bytes that begin with whole ones are these, and then those of the rest
-pub lines_fed : (before : List (List ℕ)) (rest : List ℕ) → AllByRecursion NoFeed before → lines_of (fed before ++ rest) ≡ before ++ lines_of rest
+lines_fed : (before : List (List ℕ)) (rest : List ℕ) → AllByRecursion NoFeed before → lines_of (fed before ++ rest) ≡ before ++ lines_of rest
 lines_fed [] rest h = refl
 lines_fed (l ∷ ls) rest h =
     ap lines_of (append_assoc l (10 ∷ fed ls) rest) ∙ lines_line l (fed ls ++ rest) h.0 ∙ ap (λ xs. l ∷ xs) (lines_fed ls rest h.1)
@@ -100,7 +100,7 @@ whole_lines : (had left held holds : Option (List ℕ)) (p : Program) → (g : G
 whole_lines had left held holds p g = record { rest = p.unread.items; whole = g.whole; feeds = g.feeds; unfed = g.unfed }
 
 -- the lines that were whole are answered
-pub reading_end : (had mid left held holds : Option (List ℕ)) (p : Program) → Going had mid held holds p → Keeps mid left → Ends had left held holds p end.Reading
+reading_end : (had mid left held holds : Option (List ℕ)) (p : Program) → Going had mid held holds p → Keeps mid left → Ends had left held holds p end.Reading
 reading_end None mid left held holds p g k = tt
 reading_end (Some input) mid left held holds p g k =
     (g.given, g.text, Consumes-kept (Some input) mid left g.given g.read k, (g.before, whole_lines (Some input) mid held holds p g, (p.script.session, g.answers)), g.passes)
@@ -185,7 +185,7 @@ up_to_bad input replies before after bad new n e a b m =
     (before, after, bad, replies, (e, (new, a)), b, ap (λ k. replies ++ bad_line_text (k + 1)) m)
 
 -- the writer took a front of what was due
-pub cut_short : (input : List ℕ) (left held holds holds' : Option (List ℕ)) (given text due out : List ℕ) → Consumes (Some input) left given → Passes held [] holds out text
+cut_short : (input : List ℕ) (left held holds holds' : Option (List ℕ)) (given text due out : List ℕ) → Consumes (Some input) left given → Passes held [] holds out text
     → Breaks holds out holds' due → SomeLines AreAnswered input (text ++ due) ⊎ UpToBad AreAnswered input (text ++ due) → Ran AreAnswered (Some input) left held holds' end.Writing
 cut_short input left held holds holds' given text due out c p b d =
     let all = breaks_last _ _ _ _ _ _ _ p b in
@@ -388,10 +388,10 @@ stops_too_long (Some input) mid left held between holds fresh over rest p s g c 
     )
 
 -- the script goes on
-pub goes_on : (had mid left held between holds : Option (List ℕ)) (fresh over rest : List ℕ) (p new : Program) → Going had mid held between p → Consumes mid left (fresh ++ over)
+pub script_goes_on : (had mid left held between holds : Option (List ℕ)) (fresh over rest : List ℕ) (p new : Program) → Going had mid held between p → Consumes mid left (fresh ++ over)
     → (l : LinesGo p.script between (p.unread.items ++ fresh) new.script holds rest) → NoFeed rest → length rest ≤ 1000 → new.unread.items ≡ rest → length over ≡ 0
     → new.taken ≡ p.taken + length fresh → new.taken ≤ input_max → Going had left held holds new
-goes_on had mid left held between holds fresh over rest p new g c l unfed short u none taken bound =
+script_goes_on had mid left held between holds fresh over rest p new g c l unfed short u none taken bound =
     let N : List ℕ → Type 0 = NoFeed in
     let L : List ℕ → Type 0 = λ r. length r ≤ 1000 in
     record {
@@ -522,26 +522,6 @@ going_written had left held between holds old new g w a =
       taken = g.taken ∙ sym w.taken;
       bound = omega (arith, w.taken, g.bound);
       short = omega (arith, ap length w.unread, g.short);
-    }
-
--- nothing is read or printed yet
-pub at_first : (had held : Option (List ℕ)) (p : Program) → IsAtStart p → Going had had held held p
-at_first had held p f =
-    let N : List ℕ → Type 0 = NoFeed in
-    record {
-      given = [];
-      before = [];
-      text = [];
-      read = Consumes-nil had;
-      whole = sym f.unread;
-      feeds = tt;
-      unfed = subst N (sym f.unread) (λ k d below. absurd (omega arith));
-      answers = (f.session, refl);
-      passes = let P : List ℕ → Type 0 = λ b. Passes held [] held b [] in subst P (sym f.output) (passes_none held []);
-      lines = f.lines;
-      taken = sym f.taken;
-      bound = omega (arith, f.taken);
-      short = omega (arith, ap length f.unread);
     }
 
 -- at an end that is a failed read, the lines that were whole are answered

@@ -11,7 +11,7 @@ use Rattle.trial.specs.Output.{PutStops}
 use Rattle.trial.specs.Session.{Session}
 use Rattle.trial.specs.Script.{LineAnswers, LinesAnswer, NoFeed, fed}
 use Rattle.trial.specs.Turns.{LineGoes, LineStops, LinesGo, LinesStop, BeginsBad, IsDue, IsDueFirst}
-use Rattle.trial.proofs.Passing.{passes_none, passes_both}
+use Rattle.trial.proofs.Passing.{passes_both}
 use Rattle.trial.proofs.Splitting.{cut_at, trichotomy}
 
 -- The lines before start were answered, and from there to i no line feed stands.
@@ -20,15 +20,6 @@ pub record Reached (old : Script) (held : Option (List ℕ)) (bytes : List ℕ) 
   pub below : start ≤ i
   pub plain : (k : ℕ) → start ≤ k → k < i → get_or bytes k 0 ≢ 10
   pub few : new.lines ≤ old.lines + start
-
--- before the first byte no line was answered
-pub at_start : (old : Script) (held : Option (List ℕ)) (bytes : List ℕ) → Reached old held bytes 0 0 old held
-at_start old held bytes = record {
-  goes = record { before = []; text = []; whole = refl; feeds = tt; answers = (refl, refl); passes = passes_none held old.output; lines = omega arith };
-  below = omega arith;
-  plain = λ k a b. absurd (omega arith);
-  few = omega arith;
-}
 
 -- no line feed in a part of the bytes
 pub part_plain : (bytes : List ℕ) (start i : ℕ) → i ≤ length bytes → ((k : ℕ) → start ≤ k → k < i → get_or bytes k 0 ≢ 10) → NoFeed (take (i - start) (drop start bytes))

@@ -1,5 +1,5 @@
 -- Each keyword stands in the table, and no two are spelled alike.
-use Rattle.std.proofs.Common.{◌≡◌, ℕ, ◌<◌, List, [], ◌∷◌, refl, ap, sym, ◌∙◌, Option, Some, get_or, lit<, find, length}
+use Rattle.std.proofs.Common.{◌≡◌, ℕ, ◌<◌, List, [], ◌∷◌, refl, ap, sym, ◌∙◌, Option, Some, get_or, lit<, find}
 use Rattle.std.specs.Str.{bytes_eq}
 use Rattle.trial.specs.declared.keyword.Keyword.{Keyword}
 use Rattle.trial.specs.declared.keyword.Keyword.TheVariants as key
@@ -116,7 +116,7 @@ abbrev pub named : List ℕ → Option Keyword
 named bytes = find (λ k. bytes_eq (text_of k) bytes) all
 
 -- each keyword's text spells that keyword
-pub named_text : (k : Keyword) → named (text_of k) ≡ Some k
+named_text : (k : Keyword) → named (text_of k) ≡ Some k
 named_text key.New = refl
 named_text key.Limit = refl
 named_text key.Version = refl
@@ -186,36 +186,3 @@ begins_with_letter key.Fail = lit< tt
 begins_with_letter key.Charged = lit< tt
 begins_with_letter key.Waiting = lit< tt
 begins_with_letter key.Close = lit< tt
-
--- no keyword's text is empty
-pub is_not_empty : (k : Keyword) → 0 < length (text_of k)
-is_not_empty key.New = lit< tt
-is_not_empty key.Limit = lit< tt
-is_not_empty key.Version = lit< tt
-is_not_empty key.Journal = lit< tt
-is_not_empty key.Reg = lit< tt
-is_not_empty key.Pin = lit< tt
-is_not_empty key.Unpin = lit< tt
-is_not_empty key.Repin = lit< tt
-is_not_empty key.Flush = lit< tt
-is_not_empty key.Release = lit< tt
-is_not_empty key.Round = lit< tt
-is_not_empty key.Get = lit< tt
-is_not_empty key.Remove = lit< tt
-is_not_empty key.Insert = lit< tt
-is_not_empty key.Present = lit< tt
-is_not_empty key.Add = lit< tt
-is_not_empty key.Drop = lit< tt
-is_not_empty key.OrInsert = lit< tt
-is_not_empty key.Cas = lit< tt
-is_not_empty key.Range = lit< tt
-is_not_empty key.Through = lit< tt
-is_not_empty key.Keys = lit< tt
-is_not_empty key.Empty = lit< tt
-is_not_empty key.Stats = lit< tt
-is_not_empty key.Begin = lit< tt
-is_not_empty key.Go = lit< tt
-is_not_empty key.Fail = lit< tt
-is_not_empty key.Charged = lit< tt
-is_not_empty key.Waiting = lit< tt
-is_not_empty key.Close = lit< tt

@@ -20,14 +20,14 @@ use Rattle.joint.specs.declared.steps.Survey.{Survey}
 use Rattle.joint.specs.declared.steps.Survey.TheVariants as survey
 use Rattle.joint.specs.declared.steps.Target.TheVariants as target
 use Rattle.joint.specs.calls.MapCalls.{Answered as Last, IsPresent, IsComputed}
-use Rattle.joint.specs.Reports.{target}
+use Rattle.joint.specs.Reports.{target, is_in_flight}
 use Rattle.joint.specs.engine.Flying.{no_flights}
 use Rattle.joint.specs.engine.Engine.{World}
 use Rattle.trial.specs.declared.caller.Caller.{Caller}
 use Rattle.trial.specs.declared.caller.Closure.{Closure}
 use Rattle.trial.specs.declared.caller.Closure.TheVariants as closure
-use Rattle.trial.specs.declared.command.Call.{Call}
-use Rattle.trial.specs.declared.command.Call.TheVariants as call
+use Rattle.trial.specs.declared.command.LineCall.{LineCall}
+use Rattle.trial.specs.declared.command.LineCall.TheVariants as call
 use Rattle.trial.specs.declared.command.Command.{Command}
 use Rattle.trial.specs.declared.command.Command.TheVariants as command
 use Rattle.trial.specs.declared.end.End.{End}
@@ -40,7 +40,7 @@ use Rattle.trial.specs.declared.reply.Refused.TheVariants as refused
 use Rattle.trial.specs.declared.reply.Reply.{Reply}
 use Rattle.trial.specs.declared.reply.Reply.TheVariants as reply
 use Rattle.trial.specs.Callers.{answer_of, fresh}
-use Rattle.trial.specs.Calling.{is_running, Registers, Begins, GoesOn, stays, ends, goes, Calls}
+use Rattle.trial.specs.Calling.{Registers, Begins, GoesOn, stays, ends, goes, Calls}
 use Rattle.trial.specs.Line.{IsLine}
 use Rattle.trial.specs.MapReplies.{wrapped, or_wrapped, answer_to, map_after, with_reply, map_replies, is_on_keys, key_replies, IsWhole, IsAnswer, AreCommands, MapAnswers}
 use Rattle.trial.specs.Replies.{reply_to, reply_of}
@@ -69,7 +69,7 @@ registers_at laws s s' told m b g =
 
 -- as many scans as before
 begun_scans : (w : ℕ) (o : Op ℕ) (f : Option Closure) (s s' : OpenTree) (told : Outcome ℕ) → length s.scans.items ≡ 256 → Begins s w o f told s' → length s'.scans.items ≡ 256
-begun_scans w o f s s' told e g = ap length g.2 ∙ as_long (is_running told) s.scans.items w [] e
+begun_scans w o f s s' told e g = ap length g.2 ∙ as_long (is_in_flight told) s.scans.items w [] e
 
 gone_on_scans : (w left : ℕ) (s : OpenTree) (stands told : Outcome ℕ) (s' : OpenTree) → GoesOn w left s stands told s' → length s.scans.items ≡ 256 → length s'.scans.items ≡ 256
 gone_on_scans w left s stands told s' (stays s1 t1) e = e
@@ -88,7 +88,7 @@ gone_on_callers w left s stands told s' (goes n s1 mid s2 st next t1 run step mo
     gone_on_callers w n mid next told s' more (ap length step.1 ∙ length-set s1.callers.items w _ ∙ e)
 
 called_callers : (w : ℕ) (o : Op ℕ) (f : Option Closure) (s s' : OpenTree) (told : Outcome ℕ) → length s.callers.items ≡ 256 → Calls s w o f told s' → length s'.callers.items ≡ 256
-called_callers w o f s s' told e g = gone_on_callers w 9999 g.0 g.1 told s' g.3 (ap length g.2.1 ∙ as_long (is_running g.1) s.callers.items w (fresh f) e)
+called_callers w o f s s' told e g = gone_on_callers w 9999 g.0 g.1 told s' g.3 (ap length g.2.1 ∙ as_long (is_in_flight g.1) s.callers.items w (fresh f) e)
 
 calls_at : MapLaws → (w : ℕ) (o : Op ℕ) (t : _) (f : Option Closure) (s s' : OpenTree) (told : Outcome ℕ) (m : Pairs ℕ) → target o ≡ target.Collector t → At s m → Calls s w o f told s' → At s' m
 calls_at laws w o t f s s' told m e b g = (rests_beside laws w o t f m s s' told e b.0 g, called_callers w o f s s' told b.1 g, called_scans w o f s s' told b.2 g)
@@ -179,7 +179,7 @@ surveyed_at w k o s mid s' stands m b c x g = replied_at w mid s' stands m (x.re
 told_answer : (r told : Reply) → r ≡ told → IsAnswer r → IsAnswer told
 told_answer r told e a = subst IsAnswer e a
 
-call_at : MapLaws → (w : ℕ) (c : Call) (s s' : OpenTree) (r : Reply) (m : Pairs ℕ) → At s m → CallReplies (op_of c) (closure_of c) s w s' r → IsAnswer r
+call_at : MapLaws → (w : ℕ) (c : LineCall) (s s' : OpenTree) (r : Reply) (m : Pairs ℕ) → At s m → CallReplies (op_of c) (closure_of c) s w s' r → IsAnswer r
     → At s' (map_after m (command.Call w c)) × Agrees (is_on_keys (command.Call w c)) (answer_to m (command.Call w c)) r
 call_at laws w (call.Get k) s s' r m b g a =
     finished w (op.Get k) None m (point.Get k) s g.1 s' g.0 r b g.2 g.3
@@ -229,7 +229,7 @@ call_at laws w call.Stats s s' r m b g a =
     (surveyed_at w survey.Stats op.Stats s g.1 s' g.0 m b g.2 x g.3.0, tt)
 
 -- nothing is open, or a tree with these pairs
-abbrev pub AtMap : Session → Pairs ℕ → Type 0
+abbrev AtMap : Session → Pairs ℕ → Type 0
 AtMap None m = m ≡ empty
 AtMap (Some s) m = At s m
 
@@ -353,7 +353,7 @@ answered_lines (bytes ∷ more) old new text h =
     answered_line h.3.0 bytes more old h.0 text h.1 h.2 h.3.1 h.3.2 h.5 (answered_lines more h.0 new h.2 h.4)
 
 -- what lines are replied to is the map's
-pub map_answers : MapLaws → (lines : List (List ℕ)) (new : Session) (text : List ℕ) → LinesAnswer None lines new text → MapAnswers lines text
+map_answers : MapLaws → (lines : List (List ℕ)) (new : Session) (text : List ℕ) → LinesAnswer None lines new text → MapAnswers lines text
 map_answers laws lines new text h =
     let x = answered_lines lines None new text h in
     record {
@@ -366,7 +366,7 @@ map_answers laws lines new text h =
     }
 
 -- what the lines of a script print is what they print as the map says, however the script ends
-pub prints_by : (A B : List (List ℕ) → List ℕ → Type 0) → ((lines : List (List ℕ)) (text : List ℕ) → A lines text → B lines text) → (input given : List ℕ) (e : End) (text : List ℕ)
+prints_by : (A B : List (List ℕ) → List ℕ → Type 0) → ((lines : List (List ℕ)) (text : List ℕ) → A lines text → B lines text) → (input given : List ℕ) (e : End) (text : List ℕ)
     → Prints A input given e text → Prints B input given e text
 prints_by A B f input given end.Done text p = (p.0, (p.1.0, f _ text p.1.1))
 prints_by A B f input given end.BadLine text p = (p.0, p.1, p.2, p.3, (p.4.0, f _ _ p.4.1), p.5, p.6)

@@ -4,15 +4,12 @@ use Rattle.std.specs.Ordering.{nat_cmp}
 use Rattle.std.specs.FinMap.{FinMap, get, entries}
 use Rattle.congee.specs.forms.Places.{AllKeys, Rises}
 use Rattle.congee.specs.owned.Ranges.{in_range}
-use Rattle.congee.specs.protocol.Sweeps.{HasKey, Stood, AllStood, IsScan}
+use Rattle.congee.specs.protocol.Scans.{HasKey, Stood, AllStood, IsScan}
 use Rattle.congee.proofs.Laws.{range_none, range_first}
 
 some_or_none : {A : Type 0} (o : Option A) → IsSome o ⊎ (o ≡ None)
 some_or_none None = inr refl
 some_or_none (Some x) = inl refl
-
-some_is : {A : Type 0} (o : Option A) (x : A) → o ≡ Some x → IsSome o
-some_is o x e = subst IsSome (sym e) refl
 
 module _ {V : Type 0} (m : FinMap nat_cmp V) where
   -- each pair is one of the map's

@@ -4,18 +4,10 @@ use Rattle.std.specs.Io.KnownBytes.{Appends}
 use Rattle.std.specs.List.{flat_map}
 use Rattle.std.proofs.lemmas.List.{take_more}
 use Rattle.std.proofs.lemmas.Grind.{flat_map-append}
-use Rattle.std.proofs.KnownBytes.{Appends-nil, Appends-trans}
+use Rattle.std.proofs.KnownBytes.{Appends-trans}
 use Rattle.trial.specs.declared.end.End.{End}
 use Rattle.trial.specs.declared.end.End.TheVariants as end
 use Rattle.trial.specs.Output.{Passes, Breaks}
-
--- no text
-pub passes_none : (had : Option (List ℕ)) (old : List ℕ) → Passes had old had old []
-passes_none had old = record { out = []; wrote = Appends-nil had; rest = append-nil old }
-
--- a text that fits
-pub passes_within : (had : Option (List ℕ)) (old new text : List ℕ) → new ≡ old ++ text → Passes had old had new text
-passes_within had old new text e = record { out = []; wrote = Appends-nil had; rest = sym e }
 
 -- a text that is held back alone
 pub passes_alone : (had has : Option (List ℕ)) (old new text : List ℕ) → Appends had has old → new ≡ text → Passes had old has new text

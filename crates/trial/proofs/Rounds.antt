@@ -6,7 +6,8 @@ use Rattle.trial.specs.declared.open_tree.OpenTree.{OpenTree}
 use Rattle.trial.specs.declared.reply.Refused.TheVariants.{Tree}
 use Rattle.trial.specs.declared.reply.Reply.{Reply}
 use Rattle.trial.specs.declared.reply.Reply.TheVariants.{Refused}
-use Rattle.trial.specs.Calling.{Goes, GoesOn, stays, ends, goes, is_running}
+use Rattle.joint.specs.Reports.{is_in_flight}
+use Rattle.trial.specs.Calling.{Goes, GoesOn, stays, ends, goes}
 use Rattle.trial.specs.Session.{Round, Rounds}
 
 left : (n i : ℕ) → i < n → n - i ≡ suc (n - (i + 1))
@@ -25,7 +26,7 @@ round_goes n i old mid new who r h round rest =
     subst P (sym (left n i h)) (mid, None, round, rest)
 
 -- a call that has ended takes none of the steps that are left
-pub call_ends : (n : ℕ) (s : OpenTree) (who : ℕ) (told : Outcome ℕ) → is_running told ≡ false → GoesOn who n s told told s
+pub call_ends : (n : ℕ) (s : OpenTree) (who : ℕ) (told : Outcome ℕ) → is_in_flight told ≡ false → GoesOn who n s told told s
 call_ends n s who told h = ends n s told h
 
 -- none are left
@@ -36,7 +37,7 @@ call_stays n i s who told h =
     subst P none (stays s told)
 
 -- after one the others follow
-pub call_goes : (n i : ℕ) (old mid new : OpenTree) (who : ℕ) (stands next told : Outcome ℕ) → i < n → is_running stands ≡ true → Goes old who false next mid
+pub call_goes : (n i : ℕ) (old mid new : OpenTree) (who : ℕ) (stands next told : Outcome ℕ) → i < n → is_in_flight stands ≡ true → Goes old who false next mid
     → GoesOn who (n - (i + 1)) mid next told new → GoesOn who (n - i) old stands told new
 call_goes n i old mid new who stands next told h running step rest =
     let P : ℕ → Type 0 = λ m. GoesOn who m old stands told new in

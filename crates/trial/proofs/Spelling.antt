@@ -7,8 +7,8 @@ use Rattle.std.proofs.lemmas.List.Splits.{slice_split_at, slice_split_none}
 use Rattle.std.proofs.lemmas.List.{get_or_default}
 use Rattle.std.proofs.lemmas.Fmt.{decimal_is_IsNumeral, decimal_injective}
 use Rattle.std.proofs.lemmas.Str.Parse.{digit_at}
-use Rattle.trial.specs.declared.command.Call.{Call}
-use Rattle.trial.specs.declared.command.Call.TheVariants as call
+use Rattle.trial.specs.declared.command.LineCall.{LineCall}
+use Rattle.trial.specs.declared.command.LineCall.TheVariants as call
 use Rattle.trial.specs.declared.command.Command.{Command}
 use Rattle.trial.specs.declared.command.Command.TheVariants as command
 use Rattle.trial.specs.declared.keyword.Keyword.{Keyword}
@@ -32,13 +32,6 @@ IsPlain Other = ⊥
 abbrev pub ArePlain : List Word → Type 0
 ArePlain [] = Unit {0}
 ArePlain (w ∷ ws) = IsPlain w × ArePlain ws
-
--- the numbers of plain words are below 2 ^ 64
-pub small : (ws : List Word) → ArePlain ws → Small ws
-small [] h = tt
-small (Key k ∷ ws) h = small ws h.1
-small (Number n ∷ ws) h = (h.0, small ws h.1)
-small (Other ∷ ws) h = absurd h.0
 
 -- what is read holds numbers below 2 ^ 64
 pub small_from_read : (parts : List (List ℕ)) (ws : List Word) → AllZip Reads parts ws → Small ws
@@ -166,7 +159,7 @@ word_plain (Number n) p = digits_plain (decimal n) (decimal_is_IsNumeral n p).0.
 word_plain Other p = absurd p
 
 -- a line that is spelled by plain words splits into them
-pub split_spelling : (w : Word) (ws : List Word) → ArePlain (w ∷ ws) → slice_split is_space (spelling (w ∷ ws)) ≡ map spelled (w ∷ ws)
+split_spelling : (w : Word) (ws : List Word) → ArePlain (w ∷ ws) → slice_split is_space (spelling (w ∷ ws)) ≡ map spelled (w ∷ ws)
 split_spelling w [] p = slice_split_none is_space (spelled w) (word_plain w p.0)
 split_spelling w (v ∷ vs) p =
     slice_split_at is_space (spelled w) 32 (spelling (v ∷ vs)) (word_plain w p.0) refl ∙ ap (λ xs. spelled w ∷ xs) (split_spelling v vs p.1)
@@ -180,7 +173,7 @@ option_plain : (k : Keyword) (o : Option ℕ) → IfSome o IsNumber → ArePlain
 option_plain k None h = tt
 option_plain k (Some n) h = (tt, (h, tt))
 
-call_plain : (c : Call) → CallFits c → ArePlain (call_words c)
+call_plain : (c : LineCall) → CallFits c → ArePlain (call_words c)
 call_plain call.Pin h = (tt, tt)
 call_plain call.Unpin h = (tt, tt)
 call_plain call.Repin h = (tt, tt)
@@ -241,7 +234,7 @@ option_few : (k : Keyword) (o : Option ℕ) → length (option_words k o) ≤ 2
 option_few k None = omega arith
 option_few k (Some n) = omega arith
 
-call_few : (c : Call) → length (call_words c) ≤ 4
+call_few : (c : LineCall) → length (call_words c) ≤ 4
 call_few call.Pin = omega arith
 call_few call.Unpin = omega arith
 call_few call.Repin = omega arith

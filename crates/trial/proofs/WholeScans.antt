@@ -13,14 +13,14 @@ use Rattle.joint.specs.declared.steps.Op.TheVariants as ops
 use Rattle.joint.specs.declared.steps.Outcome.{Outcome}
 use Rattle.joint.specs.declared.steps.Outcome.TheVariants as outcome
 use Rattle.joint.specs.calls.MapCalls.{Answered as Last, IsOfScan, IsScanning, PlaysCall, PlaysScan, told_places}
-use Rattle.joint.specs.Reports.{range_of, target}
+use Rattle.joint.specs.Reports.{range_of, target, is_in_flight}
 use Rattle.joint.specs.engine.Flying.{Flights}
 use Rattle.joint.specs.world.World.{Holds}
 use Rattle.joint.specs.engine.Engine.{World}
 use Rattle.trial.specs.declared.caller.Closure.{Closure}
 use Rattle.trial.specs.declared.open_tree.OpenTree.{OpenTree}
 use Rattle.trial.specs.declared.reply.Reply.TheVariants as reply
-use Rattle.trial.specs.Calling.{is_running, Calls}
+use Rattle.trial.specs.Calling.{Calls}
 use Rattle.trial.specs.MapReplies.{IsAnswer}
 use Rattle.trial.specs.Places.{places_at, given}
 use Rattle.trial.specs.Replies.{reply_of}
@@ -47,7 +47,7 @@ within s m fs w h x = elim (past_or_within (length s.calls) w) [
   | inr p ↦ omega (arith, p, h.0.few)
 ]
 
-scanning : (m : Pairs ℕ) (fs : Flights ℕ) (w : ℕ) (o : Outcome ℕ) (s : World ℕ) → is_running o ≡ true → PlaysScan fs m w o s → IsScanning fs m w s
+scanning : (m : Pairs ℕ) (fs : Flights ℕ) (w : ℕ) (o : Outcome ℕ) (s : World ℕ) → is_in_flight o ≡ true → PlaysScan fs m w o s → IsScanning fs m w s
 scanning m fs w outcome.Running s e x = x
 scanning m fs w (outcome.Asks found) s e x = absurd x
 scanning m fs w (outcome.Found place key value) s e x = x
@@ -80,7 +80,7 @@ module _ (laws : MapLaws) (w start end size : ℕ) (op : Op ℕ) (ranged : range
   began = plays_scan b.flights m w _ op start end size c.report.outcome c.mid.world ranged
       (laws.plays s.world (first_of w op closure s s' told c) [] b.flights m w op b.holds (c.step, tt) b.stand b.in_flight (record { begins = refl; goes_on = tt }))
 
-  cleared : is_running c.report.outcome ≡ true → (w < length c.mid.scans.items) × (places_at c.mid.scans.items w ≡ [])
+  cleared : is_in_flight c.report.outcome ≡ true → (w < length c.mid.scans.items) × (places_at c.mid.scans.items w ≡ [])
   cleared on =
       let small : w < 256 = within c.mid.world m b.flights w c.step.holds (scanning m b.flights w c.report.outcome c.mid.world on began) in
       let set : c.mid.scans.items ≡ slice_set s.scans.items w [] = c.scans ∙ ap (λ x. if x then slice_set s.scans.items w [] else s.scans.items) on in

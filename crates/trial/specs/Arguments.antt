@@ -2,8 +2,8 @@
 use Rattle.std.specs.Prelude.{◌≡◌, ◌≤◌, ◌⊎◌, ℕ, List, [], ◌∷◌, decimal, codes, string_bytes, take}
 use Rattle.std.specs.declared.alloc.Global.{Global}
 use Rattle.std.specs.declared.string.String.{String}
-use Rattle.trial.specs.declared.arguments.Asked.{Asked}
-use Rattle.trial.specs.declared.arguments.Asked.TheVariants as ask
+use Rattle.trial.specs.declared.arguments.Mode.{Mode}
+use Rattle.trial.specs.declared.arguments.Mode.TheVariants as mode
 
 -- the numbers of workers and of calls that may be asked for
 pub record AreAllowed (workers calls : ℕ) : Type 0 where
@@ -13,13 +13,13 @@ pub record AreAllowed (workers calls : ℕ) : Type 0 where
   pub few_calls : calls ≤ 10000
 
 -- two words that are the decimals of such numbers
-abbrev pub AsksThreads : List ℕ → List ℕ → Asked → Type 0
-AsksThreads first second ask.Script = ⊥
-AsksThreads first second (ask.Threads workers calls) = (first ≡ decimal workers) × (second ≡ decimal calls) × AreAllowed workers calls
+abbrev pub AsksThreads : List ℕ → List ℕ → Mode → Type 0
+AsksThreads first second mode.Script = ⊥
+AsksThreads first second (mode.Threads workers calls) = (first ≡ decimal workers) × (second ≡ decimal calls) × AreAllowed workers calls
 
 -- no words ask for a script, and `threads` with two such decimals for threads
-abbrev pub Asks : List (String Global) → Asked → Type 0
-Asks [] asked = asked ≡ ask.Script
+abbrev pub Asks : List (String Global) → Mode → Type 0
+Asks [] asked = asked ≡ mode.Script
 Asks (word ∷ first ∷ second ∷ []) asked = (string_bytes word ≡ codes "threads") × AsksThreads (string_bytes first) (string_bytes second) asked
 Asks _ asked = ⊥
 

@@ -4,8 +4,8 @@ use Rattle.joint.specs.declared.steps.Event.{Event}
 use Rattle.joint.specs.declared.steps.Event.TheVariants.{Register, Begin, Go}
 use Rattle.joint.specs.declared.steps.Op.{Op}
 use Rattle.joint.specs.declared.steps.Outcome.{Outcome}
-use Rattle.joint.specs.declared.steps.Outcome.TheVariants as outcome
 use Rattle.joint.specs.declared.steps.Report.{Report}
+use Rattle.joint.specs.Reports.{is_in_flight}
 use Rattle.joint.specs.world.World.{IsStep}
 use Rattle.joint.specs.engine.Engine.{World}
 use Rattle.trial.specs.declared.caller.Closure.{Closure}
@@ -19,13 +19,6 @@ pub record IsUncalled (w : World ℕ) (index : OpenTree) : Type 0 where
   pub callers : index.callers.items ≡ replicate 256 (fresh None)
   pub scans : index.scans.items ≡ replicate 256 []
 
--- whether a call that stands so is in flight
-abbrev pub is_running : Outcome ℕ → Bool
-is_running outcome.Running = true
-is_running (outcome.Asks found) = true
-is_running (outcome.Found place key value) = true
-is_running _ = false
-
 -- one step of the tree, and how it left the worker's call
 abbrev pub Steps : OpenTree → ℕ → Event ℕ → Outcome ℕ → OpenTree → Type 0
 Steps old who event told new = (report : Report ℕ) × IsStep nat_eq true old.world (record { worker = who; event = event }) report new.world × (told ≡ report.outcome)
@@ -37,8 +30,8 @@ Registers old told new = Steps old 0 Register told new × (new.callers ≡ old.c
 -- a call's first step; from it on, where it is in flight, its closure is the line's, and a scan has filled no place
 abbrev pub Begins : OpenTree → ℕ → Op ℕ → Option Closure → Outcome ℕ → OpenTree → Type 0
 Begins old who op closure told new = Steps old who (Begin op) told new
-    × (new.callers.items ≡ (if is_running told then slice_set old.callers.items who (fresh closure) else old.callers.items))
-    × (new.scans.items ≡ (if is_running told then slice_set old.scans.items who [] else old.scans.items))
+    × (new.callers.items ≡ (if is_in_flight told then slice_set old.callers.items who (fresh closure) else old.callers.items))
+    × (new.scans.items ≡ (if is_in_flight told then slice_set old.scans.items who [] else old.scans.items))
 
 -- a further step; where it asks, its closure has answered when the next one comes, and where it tells a pair, that stands
 -- in its place
@@ -49,8 +42,8 @@ Goes old who fail told new = Steps old who (Go (noise_of (caller_at old.callers.
 -- further steps of a call that stands so, none of which fails: so many are left, and fewer are taken where the call ends
 pub data GoesOn (who : ℕ) : ℕ → OpenTree → Outcome ℕ → Outcome ℕ → OpenTree → Type 0 where
   stays : (s : OpenTree) (told : Outcome ℕ) → GoesOn who 0 s told told s
-  ends : (left : ℕ) (s : OpenTree) (told : Outcome ℕ) → is_running told ≡ false → GoesOn who left s told told s
-  goes : (left : ℕ) (s mid s' : OpenTree) (stands next told : Outcome ℕ) → is_running stands ≡ true → Goes s who false next mid
+  ends : (left : ℕ) (s : OpenTree) (told : Outcome ℕ) → is_in_flight told ≡ false → GoesOn who left s told told s
+  goes : (left : ℕ) (s mid s' : OpenTree) (stands next told : Outcome ℕ) → is_in_flight stands ≡ true → Goes s who false next mid
       → GoesOn who left mid next told s' → GoesOn who (suc left) s stands told s'
 
 -- the most steps that a line takes of a call which it doesn't begin alone, the first of them counted

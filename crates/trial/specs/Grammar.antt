@@ -2,8 +2,8 @@
 use Rattle.std.specs.Prelude.{◌≡◌, ◌<◌, ◌≤◌, ◌^◌, ℕ, List, [], ◌∷◌, ◌++◌, Option, None, Some, IfSome, map, ⊤, length}
 use Rattle.std.specs.List.{join_with_byte}
 use Rattle.trial.specs.declared.command.Opening.{Opening}
-use Rattle.trial.specs.declared.command.Call.{Call}
-use Rattle.trial.specs.declared.command.Call.TheVariants as call
+use Rattle.trial.specs.declared.command.LineCall.{LineCall}
+use Rattle.trial.specs.declared.command.LineCall.TheVariants as call
 use Rattle.trial.specs.declared.command.Command.{Command}
 use Rattle.trial.specs.declared.command.Command.TheVariants as command
 use Rattle.trial.specs.declared.keyword.Keyword.{Keyword}
@@ -23,7 +23,7 @@ opening_words o = Number o.participants ∷ Number o.cells ∷ option_words key.
     ++ option_words key.Version o.version ++ option_words key.Journal o.journal
 
 -- the words of a call
-abbrev pub call_words : Call → List Word
+abbrev pub call_words : LineCall → List Word
 call_words call.Pin = Key key.Pin ∷ []
 call_words call.Unpin = Key key.Unpin ∷ []
 call_words call.Repin = Key key.Repin ∷ []
@@ -74,7 +74,7 @@ abbrev pub OpeningFits : Opening → Type 0
 OpeningFits o = IsNumber o.participants × IsNumber o.cells × IfSome o.limit IsNumber × IfSome o.version IsNumber × IfSome o.journal IsNumber
 
 -- the numbers of a call are the script's, and a scan asks for 10,000 pairs at most
-abbrev pub CallFits : Call → Type 0
+abbrev pub CallFits : LineCall → Type 0
 CallFits (call.Get k) = IsNumber k
 CallFits (call.Remove k) = IsNumber k
 CallFits (call.Insert k v) = IsNumber k × IsNumber v

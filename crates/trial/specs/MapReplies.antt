@@ -6,11 +6,11 @@ use Rattle.std.specs.Option.{option_map}
 use Rattle.judge.specs.Answer.{Pairs, answer}
 use Rattle.judge.specs.declared.journal.Call.{Call as Point}
 use Rattle.judge.specs.declared.journal.Call.TheVariants as point
-use Rattle.judge.specs.declared.journal.Reply.{Reply as Told}
+use Rattle.judge.specs.declared.journal.Reply.{Reply as MapReply}
 use Rattle.congee.specs.owned.Ranges.{in_range}
 use Rattle.joint.specs.nodes.Survey.{keys_of}
-use Rattle.trial.specs.declared.command.Call.{Call}
-use Rattle.trial.specs.declared.command.Call.TheVariants as call
+use Rattle.trial.specs.declared.command.LineCall.{LineCall}
+use Rattle.trial.specs.declared.command.LineCall.TheVariants as call
 use Rattle.trial.specs.declared.command.Command.{Command}
 use Rattle.trial.specs.declared.command.Command.TheVariants as command
 use Rattle.trial.specs.declared.line.Line.{Line}
@@ -31,7 +31,7 @@ or_wrapped n None = n
 or_wrapped n (Some v) = wrapped n v
 
 -- the call on the map m that a line's call on one key is: one with a closure is given what the map has at its key
-abbrev pub point_of : Pairs ℕ → Call → Option (Point ℕ)
+abbrev pub point_of : Pairs ℕ → LineCall → Option (Point ℕ)
 point_of m (call.Get k) = Some (point.Get k)
 point_of m (call.Remove k) = Some (point.Remove k)
 point_of m (call.Insert k v) = Some (point.Insert k v)
@@ -43,7 +43,7 @@ point_of m (call.ExchangeDrop k old) = Some (point.Exchange k old None)
 point_of m _ = None
 
 -- a map's answer, as a reply
-abbrev pub as_reply : Told ℕ × Pairs ℕ → Reply × Pairs ℕ
+abbrev pub as_reply : MapReply ℕ × Pairs ℕ → Reply × Pairs ℕ
 as_reply told = (reply_to told.0, told.1)
 
 -- whether a map has no pair
@@ -52,7 +52,7 @@ is_nil [] = true
 is_nil (x ∷ xs) = false
 
 -- the reply of the map m to a call on one key, on a range of keys or on all, and the map after it
-abbrev pub call_reply : Pairs ℕ → Call → Option (Reply × Pairs ℕ)
+abbrev pub call_reply : Pairs ℕ → LineCall → Option (Reply × Pairs ℕ)
 call_reply m (call.Range start end size) = Some (reply.Range (take size (in_range start end (entries m))), m)
 call_reply m (call.Through start last size) = Some (reply.Range (take size (in_range start (suc last) (entries m))), m)
 call_reply m call.Keys = Some (reply.Keys (keys_of m), m)

@@ -1,8 +1,8 @@
 -- What the parser makes of the words of a line, for its private functions.
 use Rattle.std.specs.Prelude.{◌^◌, ℕ, ◌&&◌, nat_lt, nat_le, List, [], ◌∷◌, Option, None, Some, if◌then◌else◌}
 use Rattle.std.specs.Option.{option_map}
-use Rattle.trial.specs.declared.command.Call.{Call}
-use Rattle.trial.specs.declared.command.Call.TheVariants as call
+use Rattle.trial.specs.declared.command.LineCall.{LineCall}
+use Rattle.trial.specs.declared.command.LineCall.TheVariants as call
 use Rattle.trial.specs.declared.command.Command.{Command}
 use Rattle.trial.specs.declared.command.Command.TheVariants as command
 use Rattle.trial.specs.declared.keyword.Keyword.{Keyword}
@@ -11,7 +11,7 @@ use Rattle.trial.specs.declared.word.Word.{Word}
 use Rattle.trial.specs.declared.word.Word.TheVariants.{Key, Number}
 
 -- the call that a keyword alone names
-abbrev pub plain_call_of : Keyword → Option Call
+abbrev pub plain_call_of : Keyword → Option LineCall
 plain_call_of key.Pin = Some call.Pin
 plain_call_of key.Unpin = Some call.Unpin
 plain_call_of key.Repin = Some call.Repin
@@ -23,26 +23,26 @@ plain_call_of key.Stats = Some call.Stats
 plain_call_of _ = None
 
 -- the call that a keyword and a number name
-abbrev pub key_call_of : Keyword → ℕ → Option Call
+abbrev pub key_call_of : Keyword → ℕ → Option LineCall
 key_call_of key.Get k = Some (call.Get k)
 key_call_of key.Remove k = Some (call.Remove k)
 key_call_of _ k = None
 
 -- the call that a keyword and two numbers name
-abbrev pub pair_call_of : Keyword → ℕ → ℕ → Option Call
+abbrev pub pair_call_of : Keyword → ℕ → ℕ → Option LineCall
 pair_call_of key.Insert k v = Some (call.Insert k v)
 pair_call_of key.OrInsert k n = Some (call.OrInsert k n)
 pair_call_of _ k v = None
 
 -- the call that a keyword and three numbers name
-abbrev pub triple_call_of : Keyword → ℕ → ℕ → ℕ → Option Call
+abbrev pub triple_call_of : Keyword → ℕ → ℕ → ℕ → Option LineCall
 triple_call_of key.Cas k old new = Some (call.Exchange k old new)
 triple_call_of key.Range a b n = if nat_le n 10000 then Some (call.Range a b n) else None
 triple_call_of key.Through a b n = if nat_le n 10000 then Some (call.Through a b n) else None
 triple_call_of _ a b n = None
 
 -- the call that the words name
-abbrev pub call_of : List Word → Option Call
+abbrev pub call_of : List Word → Option LineCall
 call_of (Key k ∷ []) = plain_call_of k
 call_of (Key k ∷ Number a ∷ []) = key_call_of k a
 call_of (Key k ∷ Number a ∷ Number b ∷ []) = pair_call_of k a b
@@ -64,15 +64,17 @@ worker_command_of w (Key key.Round ∷ Number n ∷ []) = counted n (command.Rou
 worker_command_of w (Key key.Fail ∷ []) = Some (command.Fail w)
 worker_command_of w words = option_map (command.Call w) (call_of words)
 
--- an option's number where its keyword stands first, and the words after it
+-- the number of the limit where its keyword stands first, and the words after it
 abbrev pub limit_of : List Word → Option ℕ × List Word
 limit_of (Key key.Limit ∷ Number n ∷ words) = (Some n, words)
 limit_of words = (None, words)
 
+-- the same of the greatest version
 abbrev pub version_of : List Word → Option ℕ × List Word
 version_of (Key key.Version ∷ Number n ∷ words) = (Some n, words)
 version_of words = (None, words)
 
+-- the same of the journal's places
 abbrev pub journal_of : List Word → Option ℕ × List Word
 journal_of (Key key.Journal ∷ Number n ∷ words) = (Some n, words)
 journal_of words = (None, words)

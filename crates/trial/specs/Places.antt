@@ -1,6 +1,6 @@
 -- The places that the scans of a script's workers fill.
 use Rattle.std.specs.Prelude.{ℕ, List, [], Option, None, Some, slice_get, slice_set}
-use Rattle.congee.specs.protocol.Sweeps.{written}
+use Rattle.congee.specs.protocol.Scans.{written}
 use Rattle.joint.specs.declared.steps.Done.TheVariants.{Scanned}
 use Rattle.joint.specs.declared.steps.Outcome.{Outcome}
 use Rattle.joint.specs.declared.steps.Outcome.TheVariants.{Found, Done}

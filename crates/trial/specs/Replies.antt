@@ -1,6 +1,6 @@
 -- The replies to what the tree tells.
 use Rattle.std.specs.Prelude.{ℕ, List, take, Option, None, Some, if◌then◌else◌}
-use Rattle.judge.specs.declared.journal.Reply.{Reply as Told}
+use Rattle.judge.specs.declared.journal.Reply.{Reply as MapReply}
 use Rattle.judge.specs.declared.journal.Reply.TheVariants as told
 use Rattle.joint.specs.declared.steps.Done.{Done}
 use Rattle.joint.specs.declared.steps.Done.TheVariants as done
@@ -9,7 +9,7 @@ use Rattle.joint.specs.declared.steps.Outcome.TheVariants as outcome
 use Rattle.trial.specs.declared.reply.Refused.TheVariants as refused
 use Rattle.trial.specs.declared.reply.Reply.{Reply}
 use Rattle.trial.specs.declared.reply.Reply.TheVariants as reply
-use Rattle.trial.specs.Calling.{is_running}
+use Rattle.joint.specs.Reports.{is_in_flight}
 
 -- what a compute found, and what it put there
 abbrev pub pair_of : Option (ℕ × Option ℕ) → Reply
@@ -17,7 +17,7 @@ pair_of None = reply.Value None
 pair_of (Some pair) = reply.Pair pair.0 pair.1
 
 -- the reply to a call on one key
-abbrev pub reply_to : Told ℕ → Reply
+abbrev pub reply_to : MapReply ℕ → Reply
 reply_to (told.Get found) = reply.Value found
 reply_to (told.Insert found) = reply.Value found
 reply_to (told.Remove found) = reply.Value found
@@ -45,4 +45,4 @@ reply_of places (outcome.Refused r) = reply.Refused (refused.Tree r)
 
 -- the reply to a call that is only begun
 abbrev pub begun_of : List (ℕ × ℕ) → Outcome ℕ → Reply
-begun_of places o = if is_running o then reply.Begun else reply_of places o
+begun_of places o = if is_in_flight o then reply.Begun else reply_of places o

@@ -25,8 +25,8 @@ use Rattle.joint.specs.world.World.{Holds}
 use Rattle.trial.specs.declared.caller.Closure.{Closure}
 use Rattle.trial.specs.declared.caller.Closure.TheVariants as closure
 use Rattle.trial.specs.declared.command.Opening.{Opening}
-use Rattle.trial.specs.declared.command.Call.{Call}
-use Rattle.trial.specs.declared.command.Call.TheVariants as call
+use Rattle.trial.specs.declared.command.LineCall.{LineCall}
+use Rattle.trial.specs.declared.command.LineCall.TheVariants as call
 use Rattle.trial.specs.declared.command.Command.{Command}
 use Rattle.trial.specs.declared.command.Command.TheVariants as command
 use Rattle.trial.specs.declared.open_tree.OpenTree.{OpenTree}
@@ -43,7 +43,7 @@ abbrev pub Session : Type 0
 Session = Option OpenTree
 
 -- the tree's operation that a call asks for
-abbrev pub op_of : Call → Op ℕ
+abbrev pub op_of : LineCall → Op ℕ
 op_of call.Pin = op.Pin
 op_of call.Unpin = op.Unpin
 op_of call.Repin = op.Repin
@@ -64,7 +64,7 @@ op_of call.Empty = op.IsEmpty
 op_of call.Stats = op.Stats
 
 -- what it answers where it asks
-abbrev pub closure_of : Call → Option Closure
+abbrev pub closure_of : LineCall → Option Closure
 closure_of (call.PresentAdd k n) = Some (closure.Add n)
 closure_of (call.PresentDrop k) = Some closure.Drop
 closure_of (call.OrInsert k n) = Some (closure.Put n)

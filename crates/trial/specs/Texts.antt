@@ -42,10 +42,11 @@ refused_text refused.NoTree = codes "NoTree"
 refused_text refused.Open = codes "Open"
 refused_text (refused.Tree r) = refusal_text r
 
--- a pair that a scan found, and all of them
+-- a pair that a scan found
 abbrev pub pair_text : ℕ × ℕ → List ℕ
 pair_text pair = codes " " ++ decimal pair.0 ++ codes ":" ++ decimal pair.1
 
+-- the pairs that a scan found, one after another
 abbrev pub pairs_text : List (ℕ × ℕ) → List ℕ
 pairs_text pairs = flat_map pair_text pairs
 

@@ -1,7 +1,7 @@
 //! What the program's arguments ask for.
 ghost use Rattle.std.specs.Prelude.{◌≡◌, ◌^◌, ◌<◌, ◌≤◌, ℕ, IfSome, Some, decimal};
 ghost use Rattle.trial.specs.Arguments.{Asks, AsksThreads};
-ghost use Rattle.trial.specs.declared.arguments.Asked.{Asked};
+ghost use Rattle.trial.specs.declared.arguments.Mode.{Mode};
 
 use crate::word::number;
 
@@ -13,7 +13,7 @@ const CALLS_MAX: u32 = 10_000;
 
 /// What the program is to do.
 #[derive(Clone, Copy, Debug, PartialEq, Eq)]
-pub enum Asked {
+pub enum Mode {
     /// To answer a script.
     Script,
     /// To let so many workers make so many calls each, at once.
@@ -33,23 +33,23 @@ fn number_to(word: &[u8], most: u32) -> Option<u32>
 }
 
 /// What the words ask for that stand after `threads`.
-fn threads(workers: &[u8], calls: &[u8]) -> Option<Asked>
+fn threads(workers: &[u8], calls: &[u8]) -> Option<Mode>
     ensures asked { IfSome result (λ asked. AsksThreads workers.now calls.now asked) }
-    ensures only { (asked : Asked) → AsksThreads workers.now calls.now asked → result ≡ Some asked }
+    ensures only { (asked : Mode) → AsksThreads workers.now calls.now asked → result ≡ Some asked }
 {
-    Some(Asked::Threads {
+    Some(Mode::Threads {
         workers: number_to(workers, WORKERS_MAX)?,
         calls: number_to(calls, CALLS_MAX)?,
     })
 }
 
 /// What the arguments ask for, without the program's name; none where they ask for nothing that the program does.
-pub fn read(arguments: &[String]) -> Option<Asked>
+pub fn read(arguments: &[String]) -> Option<Mode>
     ensures asked { IfSome result (λ asked. Asks arguments.now asked) }
-    ensures only { (asked : Asked) → Asks arguments.now asked → result ≡ Some asked }
+    ensures only { (asked : Mode) → Asks arguments.now asked → result ≡ Some asked }
 {
     match arguments {
-        [] => Some(Asked::Script),
+        [] => Some(Mode::Script),
         [word, workers, calls] if word.as_str() == "threads" => {
             threads(workers.as_bytes(), calls.as_bytes())
         }

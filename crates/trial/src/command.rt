@@ -15,7 +15,7 @@ pub struct Opening {
 
 /// What a worker asks of the tree.
 #[derive(Clone, Copy)]
-pub enum Call {
+pub enum LineCall {
     Pin,
     Unpin,
     Repin,
@@ -53,9 +53,9 @@ pub enum Command {
     Journal,
     Close,
     /// A whole call.
-    Call(u32, Call),
+    Call(u32, LineCall),
     /// A call's first step alone.
-    Begin(u32, Call),
+    Begin(u32, LineCall),
     /// So many further steps of the call in flight.
     Go(u32, u64),
     /// One further step, whose upgrade fails.

@@ -1,7 +1,7 @@
 //! A tree with what stands behind its workers' calls, which go on from line to line.
 ghost use Rattle.std.specs.Prelude.{◌≡◌, ◌<◌, [], None, OnOk, IfOk, IfErr, slice_set, length, replicate};
 ghost use Rattle.trial.specs.Callers.{caller_at, fresh, noise_of, after_step};
-ghost use Rattle.trial.specs.Calling.{IsUncalled, Registers, Begins, Goes, GoesOn, Calls, is_running};
+ghost use Rattle.trial.specs.Calling.{IsUncalled, Registers, Begins, Goes, GoesOn, Calls};
 ghost use Rattle.trial.specs.Places.{places_at, filled};
 ghost use Rattle.trial.specs.declared.end.End.TheVariants as End;
 
@@ -52,16 +52,6 @@ fn no_scans(alloc: Global) -> Result<Vec<Places>, AllocError>
         scans.push(Places::new(alloc))?;
     }
     Ok(scans)
-}
-
-/// Whether a call that stands so is in flight.
-fn is_running(outcome: &Outcome<u64>) -> bool
-    ensures { result ≡ is_running outcome.now }
-{
-    matches!(
-        outcome,
-        Outcome::Running | Outcome::Asks(_) | Outcome::Found { .. }
-    )
 }
 
 impl OpenTree {
@@ -164,7 +154,7 @@ impl OpenTree {
             event: Event::Begin(op),
         };
         let outcome = self.world.step(step).outcome;
-        if is_running(&outcome) {
+        if outcome.is_in_flight() {
             self.start(worker, closure);
         }
         outcome
@@ -196,7 +186,7 @@ impl OpenTree {
     {
         let mut outcome = outcome;
         for _i in 0..most {
-            if !is_running(&outcome) {
+            if !outcome.is_in_flight() {
                 return Ok(outcome);
             }
             outcome = self.go(worker, false)?;

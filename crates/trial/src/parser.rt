@@ -3,7 +3,7 @@ ghost use Rattle.std.specs.Prelude.{◌≡◌};
 ghost use Rattle.trial.specs.Parsing.{plain_call_of, triple_call_of, call_of, worker_command_of};
 ghost use Rattle.trial.specs.Parsing.{limit_of, version_of, journal_of, opening_of, plain_command_of, command_of};
 
-use crate::command::{Call, Command, Opening};
+use crate::command::{Command, LineCall, Opening};
 use crate::keyword::Keyword;
 use crate::word::Word::{self, Key, Number};
 
@@ -14,58 +14,58 @@ const PAIRS_MAX: u64 = 10_000;
 const COUNT_MAX: u64 = 1_000_000;
 
 /// The call that one word names, or none.
-fn plain_call(key: Keyword) -> Option<Call>
+fn plain_call(key: Keyword) -> Option<LineCall>
     ensures { result ≡ plain_call_of key }
 {
     match key {
-        Keyword::Pin => Some(Call::Pin),
-        Keyword::Unpin => Some(Call::Unpin),
-        Keyword::Repin => Some(Call::Repin),
-        Keyword::Flush => Some(Call::Flush),
-        Keyword::Release => Some(Call::Release),
-        Keyword::Keys => Some(Call::Keys),
-        Keyword::Empty => Some(Call::Empty),
-        Keyword::Stats => Some(Call::Stats),
+        Keyword::Pin => Some(LineCall::Pin),
+        Keyword::Unpin => Some(LineCall::Unpin),
+        Keyword::Repin => Some(LineCall::Repin),
+        Keyword::Flush => Some(LineCall::Flush),
+        Keyword::Release => Some(LineCall::Release),
+        Keyword::Keys => Some(LineCall::Keys),
+        Keyword::Empty => Some(LineCall::Empty),
+        Keyword::Stats => Some(LineCall::Stats),
         _ => None,
     }
 }
 
 /// The call that a word and three numbers name, or none.
-fn triple_call(key: Keyword, a: u64, b: u64, c: u64) -> Option<Call>
+fn triple_call(key: Keyword, a: u64, b: u64, c: u64) -> Option<LineCall>
     ensures { result ≡ triple_call_of key a b c }
 {
     match key {
-        Keyword::Cas => Some(Call::Exchange(a, b, c)),
-        Keyword::Range if c <= PAIRS_MAX => Some(Call::Range(a, b, c)),
-        Keyword::Through if c <= PAIRS_MAX => Some(Call::Through(a, b, c)),
+        Keyword::Cas => Some(LineCall::Exchange(a, b, c)),
+        Keyword::Range if c <= PAIRS_MAX => Some(LineCall::Range(a, b, c)),
+        Keyword::Through if c <= PAIRS_MAX => Some(LineCall::Through(a, b, c)),
         _ => None,
     }
 }
 
 /// The call that the words name, or none.
-fn call(words: &[Word]) -> Option<Call>
+fn call(words: &[Word]) -> Option<LineCall>
     ensures { result ≡ call_of words.now }
 {
     match words {
         [Key(key)] => plain_call(*key),
-        [Key(Keyword::Get), Number(k)] => Some(Call::Get(*k)),
-        [Key(Keyword::Remove), Number(k)] => Some(Call::Remove(*k)),
-        [Key(Keyword::Insert), Number(k), Number(v)] => Some(Call::Insert(*k, *v)),
-        [Key(Keyword::OrInsert), Number(k), Number(n)] => Some(Call::OrInsert(*k, *n)),
+        [Key(Keyword::Get), Number(k)] => Some(LineCall::Get(*k)),
+        [Key(Keyword::Remove), Number(k)] => Some(LineCall::Remove(*k)),
+        [Key(Keyword::Insert), Number(k), Number(v)] => Some(LineCall::Insert(*k, *v)),
+        [Key(Keyword::OrInsert), Number(k), Number(n)] => Some(LineCall::OrInsert(*k, *n)),
         [Key(key), Number(a), Number(b), Number(c)] => triple_call(*key, *a, *b, *c),
         [
             Key(Keyword::Present),
             Number(k),
             Key(Keyword::Add),
             Number(n),
-        ] => Some(Call::PresentAdd(*k, *n)),
-        [Key(Keyword::Present), Number(k), Key(Keyword::Drop)] => Some(Call::PresentDrop(*k)),
+        ] => Some(LineCall::PresentAdd(*k, *n)),
+        [Key(Keyword::Present), Number(k), Key(Keyword::Drop)] => Some(LineCall::PresentDrop(*k)),
         [
             Key(Keyword::Cas),
             Number(k),
             Number(old),
             Key(Keyword::Drop),
-        ] => Some(Call::ExchangeDrop(*k, *old)),
+        ] => Some(LineCall::ExchangeDrop(*k, *old)),
         _ => None,
     }
 }

@@ -1,6 +1,6 @@
 //! The pairs that a scan tells.
 ghost use Rattle.std.specs.Prelude.{◌≡◌, ◌++◌, ◌∷◌, [], OnOk, length, take};
-ghost use Rattle.congee.specs.protocol.Sweeps.{written};
+ghost use Rattle.congee.specs.protocol.Scans.{written};
 ghost use Rattle.trial.specs.Texts.{pairs_text};
 
 use std::alloc::{AllocError, Global};

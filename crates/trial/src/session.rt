@@ -9,7 +9,7 @@ ghost use Rattle.trial.specs.declared.command.Command.TheVariants as Command;
 ghost use Rattle.trial.specs.declared.end.End.TheVariants as End;
 
 use crate::caller::Closure;
-use crate::command::{Call, Command, Opening};
+use crate::command::{Command, LineCall, Opening};
 use crate::drained::{Closed, Drained};
 use crate::end::End;
 use crate::keys::Keys;
@@ -21,29 +21,32 @@ use judge::check;
 use std::alloc::Global;
 
 /// The call of the tree that a line asks for, and the closure that it gives it, if it gives one.
-fn asked(call: Call) -> (Op<u64>, Option<Closure>)
+fn asked(call: LineCall) -> (Op<u64>, Option<Closure>)
     ensures op { result.0 ≡ op_of call }
     ensures closure { result.1 ≡ closure_of call }
 {
     match call {
-        Call::Pin => (Op::Pin, None),
-        Call::Unpin => (Op::Unpin, None),
-        Call::Repin => (Op::Repin, None),
-        Call::Flush => (Op::Flush, None),
-        Call::Release => (Op::Release, None),
-        Call::Get(key) => (Op::Get(key), None),
-        Call::Remove(key) => (Op::Remove(key), None),
-        Call::Insert(key, value) => (Op::Insert(key, value), None),
-        Call::PresentAdd(key, n) => (Op::ComputePresent(key), Some(Closure::Add(n))),
-        Call::PresentDrop(key) => (Op::ComputePresent(key), Some(Closure::Drop)),
-        Call::OrInsert(key, n) => (Op::ComputeInsert(key), Some(Closure::Put(n))),
-        Call::Exchange(key, old, new) => (Op::Exchange(key, old, Some(new)), None),
-        Call::ExchangeDrop(key, old) => (Op::Exchange(key, old, None), None),
-        Call::Range(start, end, size) => (Op::Range(start, end, size as usize), None),
-        Call::Through(start, last, size) => (Op::RangeInclusive(start, last, size as usize), None),
-        Call::Keys => (Op::Keys, None),
-        Call::Empty => (Op::IsEmpty, None),
-        Call::Stats => (Op::Stats, None),
+        LineCall::Pin => (Op::Pin, None),
+        LineCall::Unpin => (Op::Unpin, None),
+        LineCall::Repin => (Op::Repin, None),
+        LineCall::Flush => (Op::Flush, None),
+        LineCall::Release => (Op::Release, None),
+        LineCall::Get(key) => (Op::Get(key), None),
+        LineCall::Remove(key) => (Op::Remove(key), None),
+        LineCall::Insert(key, value) => (Op::Insert(key, value), None),
+        LineCall::PresentAdd(key, n) => (Op::ComputePresent(key), Some(Closure::Add(n))),
+        LineCall::PresentDrop(key) => (Op::ComputePresent(key), Some(Closure::Drop)),
+        LineCall::OrInsert(key, n) => (Op::ComputeInsert(key), Some(Closure::Put(n))),
+        LineCall::Exchange(key, old, new) => (Op::Exchange(key, old, Some(new)), None),
+        LineCall::ExchangeDrop(key, old) => (Op::Exchange(key, old, None), None),
+        LineCall::Range(start, end, size) => (Op::Range(start, end, size as usize), None),
+        LineCall::Through(start, last, size) => (
+            Op::RangeInclusive(start, last, size as usize),
+            None,
+        ),
+        LineCall::Keys => (Op::Keys, None),
+        LineCall::Empty => (Op::IsEmpty, None),
+        LineCall::Stats => (Op::Stats, None),
     }
 }
 
@@ -197,7 +200,12 @@ fn reply(alloc: Global, index: &mut OpenTree, worker: u32, outcome: Outcome<u64>
 }
 
 /// The reply to a whole call.
-fn answer_call(alloc: Global, index: &mut OpenTree, worker: u32, call: Call) -> Result<Reply, End>
+fn answer_call(
+    alloc: Global,
+    index: &mut OpenTree,
+    worker: u32,
+    call: LineCall,
+) -> Result<Reply, End>
     ensures ok { IfOk result (λ reply. CallReplies (op_of call) (closure_of call) index.old worker index.new reply) }
     ensures err { IfErr result (λ e. e ≡ End.Memory) }
 {
@@ -207,7 +215,7 @@ fn answer_call(alloc: Global, index: &mut OpenTree, worker: u32, call: Call) -> 
 }
 
 /// The reply to a call of which the first step alone is taken.
-fn answer_begin(alloc: Global, index: &mut OpenTree, worker: u32, call: Call) -> Reply
+fn answer_begin(alloc: Global, index: &mut OpenTree, worker: u32, call: LineCall) -> Reply
     ensures { BeginReplies (op_of call) (closure_of call) index.old worker index.new result }
 {
     let (op, closure) = asked(call);

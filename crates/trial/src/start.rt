@@ -6,11 +6,11 @@ ghost use Rattle.trial.specs.Going.{Ran};
 ghost use Rattle.trial.specs.Histories.{Takes, Tells};
 ghost use Rattle.trial.specs.MapReplies.{MapAnswers};
 ghost use Rattle.trial.specs.Script.{AreAnswered, status_of};
-ghost use Rattle.trial.specs.declared.arguments.Asked.{Asked};
-ghost use Rattle.trial.specs.declared.arguments.Asked.TheVariants as ask;
+ghost use Rattle.trial.specs.declared.arguments.Mode.{Mode};
+ghost use Rattle.trial.specs.declared.arguments.Mode.TheVariants as mode;
 ghost use Rattle.trial.specs.declared.end.End.{End};
 
-use crate::arguments::{self, Asked};
+use crate::arguments::{self, Mode};
 use crate::output::print;
 use crate::run::run;
 use crate::threads::threads;
@@ -48,17 +48,17 @@ pub fn start<T: Threads + Wait + Sync, R: Read, W: Write>(
     reader: &mut R,
     writer: &mut W,
 ) -> ExitCode
-    ensures script { Asks arguments.now ask.Script → (end : End) × (exit_status result ≡ status_of end)
+    ensures script { Asks arguments.now mode.Script → (end : End) × (exit_status result ≡ status_of end)
         × Ran AreAnswered (R.remaining reader.old) (R.remaining reader.new) (W.contents writer.old) (W.contents writer.new) end }
-    ensures map { Asks arguments.now ask.Script → (end : End) × (exit_status result ≡ status_of end)
+    ensures map { Asks arguments.now mode.Script → (end : End) × (exit_status result ≡ status_of end)
         × Ran MapAnswers (R.remaining reader.old) (R.remaining reader.new) (W.contents writer.old) (W.contents writer.new) end }
-    ensures threads { (workers calls : ℕ) → Asks arguments.now (ask.Threads workers calls)
+    ensures threads { (workers calls : ℕ) → Asks arguments.now (mode.Threads workers calls)
         → Takes (Tells workers calls (exit_status result)) (W.contents writer.old) (W.contents writer.new) }
-    ensures usage { ((asked : Asked) → Asks arguments.now asked → ⊥) → Takes (TellsUsage (exit_status result)) (W.contents writer.old) (W.contents writer.new) }
+    ensures usage { ((asked : Mode) → Asks arguments.now asked → ⊥) → Takes (TellsUsage (exit_status result)) (W.contents writer.old) (W.contents writer.new) }
 {
     match arguments::read(arguments) {
-        Some(Asked::Script) => ExitCode::from(run(alloc, reader, writer)),
-        Some(Asked::Threads { workers, calls }) => {
+        Some(Mode::Script) => ExitCode::from(run(alloc, reader, writer)),
+        Some(Mode::Threads { workers, calls }) => {
             ExitCode::from(threads(rt, alloc, workers, calls, writer))
         }
         None => usage(writer),

@@ -14,8 +14,8 @@ and_true true b p q = q
 and_true false b p q = p
 
 -- numbers that the test finds equal are
-pub equal : (x y : ℕ) → x == y ≡ true → x ≡ y
-equal x y h = grind (arith, nat_tests)
+pub equal_of_test : (x y : ℕ) → x == y ≡ true → x ≡ y
+equal_of_test x y h = grind (arith, nat_tests)
 
 -- a beginning of what begins a key begins the key
 pub fits_trans : (p q key : List ℕ) → fits p q ≡ true → fits q key ≡ true → fits p key ≡ true
@@ -25,14 +25,14 @@ fits_trans (x ∷ p) (y ∷ q) [] a b = absurd cc
 fits_trans (x ∷ p) (y ∷ q) (z ∷ key) a b =
     let a' : (x == y ≡ true) × (fits p q ≡ true) = both_true _ _ a in
     let b' : (y == z ≡ true) × (fits q key ≡ true) = both_true _ _ b in
-    let e : x ≡ y = equal x y a'.0 in
+    let e : x ≡ y = equal_of_test x y a'.0 in
     and_true _ _ (let P : ℕ → Type 0 = λ n. n == z ≡ true in subst P (sym e) b'.0) (fits_trans p q key a'.1 b'.1)
 
 -- a key has the bytes of what begins it
 pub fits_byte : (q key : List ℕ) (i : ℕ) → fits q key ≡ true → i < length q → get_or key i 0 ≡ get_or q i 0
 fits_byte [] key i a b = absurd (omega arith)
 fits_byte (x ∷ q) [] i a b = absurd cc
-fits_byte (x ∷ q) (y ∷ key) zero a b = sym (equal x y (both_true _ _ a).0)
+fits_byte (x ∷ q) (y ∷ key) zero a b = sym (equal_of_test x y (both_true _ _ a).0)
 fits_byte (x ∷ q) (y ∷ key) (suc i) a b = fits_byte q key i (both_true _ _ a).1 (omega arith)
 
 -- two keys with one prefix of all but one byte, and that byte
@@ -47,8 +47,8 @@ same_key (x ∷ p) (y ∷ k) [] a b c d e = absurd cc
 same_key (x ∷ p) (y ∷ k) (z ∷ l) a b c d e =
     let a' : (x == y ≡ true) × (fits p k ≡ true) = both_true _ _ a in
     let b' : (x == z ≡ true) × (fits p l ≡ true) = both_true _ _ b in
-    let f : x ≡ y = equal x y a'.0 in
-    let g : x ≡ z = equal x z b'.0 in
+    let f : x ≡ y = equal_of_test x y a'.0 in
+    let g : x ≡ z = equal_of_test x z b'.0 in
     let h : k ≡ l = same_key p k l a'.1 b'.1 (omega arith) (omega arith) e in
     cc
 
@@ -69,7 +69,7 @@ fits_same (x ∷ p) (y ∷ q) [] a b l = absurd cc
 fits_same (x ∷ p) (y ∷ q) (z ∷ key) a b l =
     let a' : (x == z ≡ true) × (fits p key ≡ true) = both_true _ _ a in
     let b' : (y == z ≡ true) × (fits q key ≡ true) = both_true _ _ b in
-    let e : x ≡ z = equal x z a'.0 in
-    let f : y ≡ z = equal y z b'.0 in
+    let e : x ≡ z = equal_of_test x z a'.0 in
+    let f : y ≡ z = equal_of_test y z b'.0 in
     let g : p ≡ q = fits_same p q key a'.1 b'.1 (omega (arith, l)) in
     cc

@@ -22,7 +22,7 @@ one_place a h t m c n b d lm ln e f =
     (p, sym i.byte ∙ (rw p k.byte))
 
 -- in a node that stays in the tree the same hangs as before, but at byte b of node n
-pub graft_child : {V : Type 0} (a : ℕ → Note) (h : ℕ → Node V) (a' : ℕ → Note) (h' : ℕ → Node V) (n b : ℕ) → Graft a h a' h' n b
+graft_child : {V : Type 0} (a : ℕ → Note) (h : ℕ → Node V) (a' : ℕ → Note) (h' : ℕ → Node V) (n b : ℕ) → Graft a h a' h' n b
     → (m c : ℕ) → (a m).status ≡ Linked → (a' m).status ≡ Linked → (m ≡ n → c ≡ b → ⊥) → (h' m).children c ≡ (h m).children c
 graft_child a h a' h' n b g m c l l' ne = elim (same_or_not m n) [
   | inl p ↦ (let P : ℕ → Type 0 = λ k. (k ≡ n → c ≡ b → ⊥) → (h' k).children c ≡ (h k).children c in subst P (sym p) (λ ne'. g.beside c (ne' refl)) ne)
@@ -70,12 +70,12 @@ on_test true p q = p refl
 on_test false p q = q refl
 
 -- a walk that doesn't take that byte there, or that starts below it
-pub untouched : {V : Type 0} (a : ℕ → Note) (h : ℕ → Node V) (a' : ℕ → Note) (h' : ℕ → Node V) (n b : ℕ) → Tree a h → Tree a' h' → Graft a h a' h' n b
+pub walk_untouched : {V : Type 0} (a : ℕ → Note) (h : ℕ → Node V) (a' : ℕ → Note) (h' : ℕ → Node V) (n b : ℕ) → Tree a h → Tree a' h' → Graft a h a' h' n b
     → (f m : ℕ) (key : List ℕ) → (a m).status ≡ Linked → (a' m).status ≡ Linked
     → (length (h n).prefix < length (h m).prefix) ⊎ (fits (h n).prefix key ≡ true → get_or key (length (h n).prefix) 0 ≡ b → ⊥)
     → walk h' f m key ≡ walk h f m key
-untouched a h a' h' n b t t' g zero m key l l' w = refl
-untouched a h a' h' n b t t' g (suc f) m key l l' w =
+walk_untouched a h a' h' n b t t' g zero m key l l' w = refl
+walk_untouched a h a' h' n b t t' g (suc f) m key l l' w =
     let away : fits (h m).prefix key ≡ true → m ≡ n → get_or key (length (h m).prefix) 0 ≡ b → ⊥ = (λ q p e. elim w [
       | inl le ↦ absurd (let z : length (h m).prefix ≡ length (h n).prefix = ap (λ y. length (h y).prefix) p in omega arith)
       | inr ne ↦ (let P : ℕ → Type 0 = λ y. fits (h y).prefix key ≡ true → get_or key (length (h y).prefix) 0 ≡ b → ⊥ in subst P (sym p) ne) q e
@@ -85,5 +85,5 @@ untouched a h a' h' n b t t' g (suc f) m key l l' w =
     (λ q. graft_child a h a' h' n b g m _ l l' (away q))
     (λ c x. let i : IsChild a h m (get_or key (length (h m).prefix) 0) c = t.down m _ c l x in
     let j : IsChild a' h' m (get_or key (length (h m).prefix) 0) c = t'.down m _ c l' (graft_child a h a' h' n b g m _ l l' (away e) ∙ x) in
-    untouched a h a' h' n b t t' g f c key i.linked j.linked (elim w [ inl le ↦ inl (omega (arith, i.longer)) | inr ne ↦ inr ne ])))
+    walk_untouched a h a' h' n b t t' g f c key i.linked j.linked (elim w [ inl le ↦ inl (omega (arith, i.longer)) | inr ne ↦ inr ne ])))
     (λ e. rw (g.prefix m l, e) refl)

@@ -3,9 +3,9 @@ use Rattle.std.proofs.Common.{◌≡◌, ◌≢◌, ℕ, suc, ◌<◌, ◌≤◌
 use Rattle.std.specs.Prelude.{None, Some}
 use Rattle.congee.specs.Heap.{Hung, Nothing, Below, Holds, Node, fits, child_for, walk, value_at}
 use Rattle.congee.specs.Notes.{Linked, Note, IsChild, HasParent, Tree}
-use Rattle.congee.proofs.lemmas.Fits.{fits_byte, same_key, both_true, and_true, equal, same_test}
-use Rattle.congee.proofs.lemmas.Tree.{same_or_not, enter, finds}
-use Rattle.congee.proofs.lemmas.Graft.{Graft, old_down, old_leaves, old_up, untouched, on_test}
+use Rattle.congee.proofs.lemmas.Fits.{fits_byte, same_key, both_true, and_true, equal_of_test, same_test}
+use Rattle.congee.proofs.lemmas.Tree.{same_or_not, walk_enters, value_at_linked}
+use Rattle.congee.proofs.lemmas.Graft.{Graft, old_down, old_leaves, old_up, walk_untouched, on_test}
 
 -- keys with the same byte at a node find the same child there
 pub child_moved : {V : Type 0} (n : Node V) (key k : List ℕ) (x : Hung V) → get_or k (length n.prefix) 0 ≡ get_or key (length n.prefix) 0 → child_for n key ≡ x → child_for n k ≡ x
@@ -28,7 +28,7 @@ leaf_no_node h d key v c e l q = elim (same_or_not c (get_or key (length (h d).p
 
 -- a walk from a leaf with one value finds it by its key
 pub leaf_value : {V : Type 0} (h : ℕ → Node V) (f d : ℕ) (key : List ℕ) (v : V) → Leaf h d key v → walk h (suc f) d key ≡ Some v
-leaf_value h f d key v l = enter h f d key (Holds v) l.fitted l.value
+leaf_value h f d key v l = walk_enters h f d key (Holds v) l.fitted l.value
 
 -- a walk from a node whose prefix the key doesn't have finds nothing
 pub not_here : {V : Type 0} (h : ℕ → Node V) (f d : ℕ) (k : List ℕ) → fits (h d).prefix k ≡ false → walk h (suc f) d k ≡ None
@@ -37,7 +37,7 @@ not_here h f d k e = rw e refl
 -- a walk from a leaf with one value finds nothing by another key
 pub leaf_other : {V : Type 0} (h : ℕ → Node V) (f d : ℕ) (key : List ℕ) (v : V) (k : List ℕ) → length key ≡ 8 → length k ≡ 8 → k ≢ key → Leaf h d key v → walk h (suc f) d k ≡ None
 leaf_other h f d key v k lk lx ne l = on_test (fits (h d).prefix k)
-    (λ q. enter h f d k Nothing q (l.empty _ (λ e. ne (same_key (h d).prefix k key q l.fitted (omega (arith, l.seven)) (omega (arith, l.seven)) e))))
+    (λ q. walk_enters h f d k Nothing q (l.empty _ (λ e. ne (same_key (h d).prefix k key q l.fitted (omega (arith, l.seven)) (omega (arith, l.seven)) e))))
     (λ q. not_here h f d k q)
 
 -- before and after: leaf d comes in for an absent key, below node n, where nothing hung
@@ -81,7 +81,7 @@ fits_between (x ∷ p) (y ∷ q) [] a b l = absurd cc
 fits_between (x ∷ p) (y ∷ q) (z ∷ key) a b l =
     let a' : (x == z ≡ true) × (fits p key ≡ true) = both_true _ _ a in
     let b' : (y == z ≡ true) × (fits q key ≡ true) = both_true _ _ b in
-    let e : x ≡ y = equal x z a'.0 ∙ sym (equal y z b'.0) in
+    let e : x ≡ y = equal_of_test x z a'.0 ∙ sym (equal_of_test y z b'.0) in
     and_true _ _ (let P : ℕ → Type 0 = λ w. x == w ≡ true in subst P e (same_test x x refl)) (fits_between p q key a'.1 b'.1 (omega arith))
 
 -- the nodes are a tree after a leaf came in
@@ -147,12 +147,12 @@ link_map a h a' h' n d key v len t k =
     let other : n ≢ d = link_other a n d k.linked k.unlinked in
     let l' : (a' n).status ≡ Linked = rw (k.notes n other) k.linked in
     let there : child_for (h' n) key ≡ Below d = rw k.prefix k.child in (
-      finds a h t n key Nothing k.linked k.fitted k.nothing,
-      finds a' h' t' n key (Below d) l' (rw k.prefix k.fitted) there ∙ leaf_value h' 6 d key v k.leaf,
+      value_at_linked a h t n key Nothing k.linked k.fitted k.nothing,
+      value_at_linked a' h' t' n key (Below d) l' (rw k.prefix k.fitted) there ∙ leaf_value h' 6 d key v k.leaf,
       (λ x lx ne. on_test (fits (h n).prefix x)
           (λ q. elim (same_or_not (get_or x (length (h n).prefix) 0) (get_or key (length (h n).prefix) 0)) [
-            | inl e ↦ finds a' h' t' n x (Below d) l' (rw k.prefix q) (rw k.prefix (rw e k.child)) ∙ (leaf_other h' 6 d key v x len lx ne k.leaf ∙ sym (finds a h t n x Nothing k.linked q (child_moved (h n) key x Nothing e k.nothing)))
-            | inr e ↦ untouched a h a' h' n _ t t' g 8 0 x t.root t'.root (inr (λ _ y. e y))
+            | inl e ↦ value_at_linked a' h' t' n x (Below d) l' (rw k.prefix q) (rw k.prefix (rw e k.child)) ∙ (leaf_other h' 6 d key v x len lx ne k.leaf ∙ sym (value_at_linked a h t n x Nothing k.linked q (child_moved (h n) key x Nothing e k.nothing)))
+            | inr e ↦ walk_untouched a h a' h' n _ t t' g 8 0 x t.root t'.root (inr (λ _ y. e y))
           ])
-          (λ q. untouched a h a' h' n _ t t' g 8 0 x t.root t'.root (inr (λ y _. cc)))),
+          (λ q. walk_untouched a h a' h' n _ t t' g 8 0 x t.root t'.root (inr (λ y _. cc)))),
     )

@@ -29,25 +29,22 @@ pub byte_small : (q j : ℕ) → j < 8 → get_or (key_bytes q) j 0 < 256
 byte_small q j l = omega (arith, digit q j l)
 
 -- the number of the first j bytes
-abbrev pub top : ℕ → ℕ → ℕ
-top q j = q / 2 ^ (8 * (8 - j))
+abbrev pub first_bytes : ℕ → ℕ → ℕ
+first_bytes q j = q / 2 ^ (8 * (8 - j))
 
 -- the number of the first bytes and one more, by that of the first bytes
-pub top_step : (q j : ℕ) → j < 8 → top q (j + 1) ≡ 256 * top q j + get_or (key_bytes q) j 0
+pub top_step : (q j : ℕ) → j < 8 → first_bytes q (j + 1) ≡ 256 * first_bytes q j + get_or (key_bytes q) j 0
 top_step q j l =
-    let e : top q (j + 1) ≡ q / 2 ^ (8 * (7 - j)) = ap (λ i. q / 2 ^ i) (omega (arith, l)) in
-    let up : top q j ≡ q / 2 ^ (8 * (7 - j)) / 256 = ap (λ i. q / 2 ^ i) (let i : 8 * (8 - j) ≡ 8 * (7 - j) + 8 = omega (arith, l) in i) ∙ sym (shr-shr q (8 * (7 - j)) 8) in
+    let e : first_bytes q (j + 1) ≡ q / 2 ^ (8 * (7 - j)) = ap (λ i. q / 2 ^ i) (omega (arith, l)) in
+    let up : first_bytes q j ≡ q / 2 ^ (8 * (7 - j)) / 256 = ap (λ i. q / 2 ^ i) (let i : 8 * (8 - j) ≡ 8 * (7 - j) + 8 = omega (arith, l) in i) ∙ sym (shr-shr q (8 * (7 - j)) 8) in
     let d = div-add-mod (q / 2 ^ (8 * (7 - j))) 256 in
     omega (arith, e, up, d, digit q j l)
 
-top_none : (q : ℕ) → q < 2 ^ 64 → top q 0 ≡ 0
+top_none : (q : ℕ) → q < 2 ^ 64 → first_bytes q 0 ≡ 0
 top_none q l = omega (arith, l)
 
-top_all : (q : ℕ) → top q 8 ≡ q
-top_all q = div-one q
-
 -- numbers with the same first bytes have the same number of these
-pub same_top : (a b d : ℕ) → a < 2 ^ 64 → b < 2 ^ 64 → d ≤ 8 → ((j : ℕ) → j < d → get_or (key_bytes a) j 0 ≡ get_or (key_bytes b) j 0) → top a d ≡ top b d
+pub same_top : (a b d : ℕ) → a < 2 ^ 64 → b < 2 ^ 64 → d ≤ 8 → ((j : ℕ) → j < d → get_or (key_bytes a) j 0 ≡ get_or (key_bytes b) j 0) → first_bytes a d ≡ first_bytes b d
 same_top a b zero la lb l h = top_none a la ∙ sym (top_none b lb)
 same_top a b (suc d) la lb l h =
     let rest = same_top a b d la lb (omega (arith, l)) (λ j k. h j (omega (arith, k))) in
@@ -55,19 +52,19 @@ same_top a b (suc d) la lb l h =
     let y = top_step b d (omega (arith, l)) in
     let z = h d (omega arith) in
     let s : d + 1 ≡ suc d = omega arith in
-    subst (λ n. top a n ≡ top b n) s (omega (arith, rest, x, y, z))
+    subst (λ n. first_bytes a n ≡ first_bytes b n) s (omega (arith, rest, x, y, z))
 
 -- the other way round
-pub same_bytes : (a b d : ℕ) → d ≤ 8 → top a d ≡ top b d → (j : ℕ) → j < d → get_or (key_bytes a) j 0 ≡ get_or (key_bytes b) j 0
+pub same_bytes : (a b d : ℕ) → d ≤ 8 → first_bytes a d ≡ first_bytes b d → (j : ℕ) → j < d → get_or (key_bytes a) j 0 ≡ get_or (key_bytes b) j 0
 same_bytes a b zero l h j k = absurd (omega (arith, k))
 same_bytes a b (suc d) l h j k =
     let s : d + 1 ≡ suc d = omega arith in
-    let h' : top a (d + 1) ≡ top b (d + 1) = subst (λ n. top a n ≡ top b n) (sym s) h in
+    let h' : first_bytes a (d + 1) ≡ first_bytes b (d + 1) = subst (λ n. first_bytes a n ≡ first_bytes b n) (sym s) h in
     let x = top_step a d (omega (arith, l)) in
     let y = top_step b d (omega (arith, l)) in
     let ex = digit a d (omega (arith, l)) in
     let ey = digit b d (omega (arith, l)) in
-    let above : top a d ≡ top b d = omega (arith, h', x, y, ex, ey) in
+    let above : first_bytes a d ≡ first_bytes b d = omega (arith, h', x, y, ex, ey) in
     let here : get_or (key_bytes a) d 0 ≡ get_or (key_bytes b) d 0 = omega (arith, h', x, y, above) in
     elim (cases_lt j d) [
       | inl lt ↦ same_bytes a b d (omega (arith, l)) above j lt
@@ -80,7 +77,7 @@ pub less_at_first_byte : (a b d : ℕ) → a < 2 ^ 64 → b < 2 ^ 64 → d < 8 �
 less_at_first_byte a b d la lb l h k = elim (cases_lt a b) [
   | inl lt ↦ lt
   | inr ge ↦ (
-      let up : top b (d + 1) ≤ top a (d + 1) = shr_mono (8 * (8 - (d + 1))) ge in
+      let up : first_bytes b (d + 1) ≤ first_bytes a (d + 1) = shr_mono (8 * (8 - (d + 1))) ge in
       let rest = same_top a b d la lb (omega (arith, l)) h in
       let x = top_step a d l in
       let y = top_step b d l in

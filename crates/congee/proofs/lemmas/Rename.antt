@@ -66,6 +66,7 @@ module _ {V : Type 0} (new : ℕ → ℕ) (a : ℕ → Note) (h : ℕ → Node V
   all_named : (P : ℕ → Type 0) → ((n : ℕ) → (a n).status ≡ Linked → P (new n)) → (n : ℕ) → (a' n).status ≡ Linked → P n
   all_named P f n l = let k = r.only n l in subst P k.is (f k.before k.linked)
 
+  -- the nodes under their new names are a tree
   pub renamed_tree : Tree a' h'
   renamed_tree = record {
     root = let P : ℕ → Type 0 = λ x. (a' x).status ≡ Linked in subst P r.root (r.linked 0 t.root);
@@ -83,7 +84,7 @@ module _ {V : Type 0} (new : ℕ → ℕ) (a : ℕ → Note) (h : ℕ → Node V
   renamed_child f g (Below c) e = e c refl
   renamed_child f g (Holds v) e = refl
 
-  pub renamed_walk : (f n : ℕ) (key : List ℕ) → (a n).status ≡ Linked → walk h' f (new n) key ≡ walk h f n key
+  renamed_walk : (f n : ℕ) (key : List ℕ) → (a n).status ≡ Linked → walk h' f (new n) key ≡ walk h f n key
   renamed_walk zero n key l = refl
   renamed_walk (suc f) n key l =
       let b : ℕ = get_or key (length (h n).prefix) 0 in
@@ -91,6 +92,7 @@ module _ {V : Type 0} (new : ℕ → ℕ) (a : ℕ → Note) (h : ℕ → Node V
       (ap (λ o. cond (fits (h n).prefix key) o None)
       (renamed_child (λ c. walk h' f c key) (λ c. walk h f c key) ((h n).children b) (λ c e. renamed_walk f c key (t.down n b c l e).linked)))
 
+  -- every key has the value that it had, with the nodes under their new names
   pub renamed_map : (key : List ℕ) → value_at h' key ≡ value_at h key
   renamed_map key = let P : ℕ → Type 0 = λ x. walk h' 8 x key ≡ walk h 8 0 key in subst P r.root (renamed_walk 8 0 key t.root)
 
@@ -196,11 +198,13 @@ module _ {V : Type 0} (a : ℕ → Note) (h : ℕ → Node V) (a' : ℕ → Note
   ]
 
   -- a node comes under another name: its old name is free then
-  pub moves_renamed : Renamed (in_place n m) a h a' h'
+  moves_renamed : Renamed (in_place n m) a h a' h'
   moves_renamed = record { root = kept 0 root_kept; linked = linked_at; only = only_at; parent = parent_at; prefix = prefix_at; children = children_at }
 
+  -- the nodes are a tree with one under its new name
   pub move_tree : Tree a' h'
   move_tree = renamed_tree (in_place n m) a h a' h' t moves_renamed
 
+  -- every key has the value that it had, with one node under its new name
   pub move_map : (key : List ℕ) → value_at h' key ≡ value_at h key
   move_map = renamed_map (in_place n m) a h a' h' t moves_renamed

@@ -4,8 +4,8 @@ use Rattle.std.specs.Prelude.{None, Some}
 use Rattle.congee.specs.Heap.{Nothing, Below, Holds, Node, fits, child_for, walk, value_at}
 use Rattle.congee.specs.Notes.{Linked, Note, IsChild, HasParent, Tree}
 use Rattle.congee.proofs.lemmas.Fits.{fits_trans, fits_byte}
-use Rattle.congee.proofs.lemmas.Tree.{same_or_not, stable, enter, finds, misses}
-use Rattle.congee.proofs.lemmas.Graft.{Graft, old_down, old_leaves, old_up, untouched, on_test}
+use Rattle.congee.proofs.lemmas.Tree.{same_or_not, walk_same, walk_enters, value_at_linked, value_at_unfit}
+use Rattle.congee.proofs.lemmas.Graft.{Graft, old_down, old_leaves, old_up, walk_untouched, on_test}
 use Rattle.congee.proofs.lemmas.Link.{Leaf, leaf_no_node, leaf_value, leaf_other, child_moved, not_here, link_other, fits_between}
 
 -- before and after: node m, which hung below n and hasn't the key's prefix, hangs below a new node c, beside a new leaf d
@@ -204,15 +204,15 @@ split_below a h a' h' n m c d key v len t t' k x lx ne =
     let g : Graft a h a' h' n (get_or key (length (h n).prefix) 0) = split_graft a h a' h' n m c d key v k in
     on_test (fits (h' c).prefix x)
     (λ q. elim (same_or_not (get_or x (length (h' c).prefix) 0) (get_or (h m).prefix (length (h' c).prefix) 0)) [
-      | inl e ↦ enter h' 6 c x (Below m) q (let S : ℕ → Type 0 = λ y. (h' c).children y ≡ Below m in subst S (sym e) k.old_child)
-          ∙ (untouched a h a' h' n _ t t' g 6 m x i.linked k.stays_old (inl i.longer)
-          ∙ stable a h t 6 7 m x i.linked (omega (arith, k.shorter, k.longer)) (omega (arith, k.shorter, k.longer)))
+      | inl e ↦ walk_enters h' 6 c x (Below m) q (let S : ℕ → Type 0 = λ y. (h' c).children y ≡ Below m in subst S (sym e) k.old_child)
+          ∙ (walk_untouched a h a' h' n _ t t' g 6 m x i.linked k.stays_old (inl i.longer)
+          ∙ walk_same a h t 6 7 m x i.linked (omega (arith, k.shorter, k.longer)) (omega (arith, k.shorter, k.longer)))
       | inr e ↦
           (let off : fits (h m).prefix x ≡ false = on_test (fits (h m).prefix x) (λ y. absurd (e (fits_byte (h m).prefix x (length (h' c).prefix) y k.shorter))) (λ y. y) in
           elim (same_or_not (get_or x (length (h' c).prefix) 0) (get_or key (length (h' c).prefix) 0)) [
-            | inl f ↦ enter h' 6 c x (Below d) q (let S : ℕ → Type 0 = λ y. (h' c).children y ≡ Below d in subst S (sym f) k.new_child)
+            | inl f ↦ walk_enters h' 6 c x (Below d) q (let S : ℕ → Type 0 = λ y. (h' c).children y ≡ Below d in subst S (sym f) k.new_child)
                 ∙ (leaf_other h' 5 d key v x len lx ne k.leaf ∙ sym (not_here h 6 m x off))
-            | inr f ↦ enter h' 6 c x Nothing q (k.empty _ e f) ∙ sym (not_here h 6 m x off)
+            | inr f ↦ walk_enters h' 6 c x Nothing q (k.empty _ e f) ∙ sym (not_here h 6 m x off)
           ])
     ])
     (λ q. let off : fits (h m).prefix x ≡ false = on_test (fits (h m).prefix x)
@@ -226,13 +226,13 @@ split_map a h a' h' n m c d key v len t k =
     let g : Graft a h a' h' n (get_or key (length (h n).prefix) 0) = split_graft a h a' h' n m c d key v k in
     let t' : Tree a' h' = split_tree a h a' h' n m c d key v t k in
     let l' : (a' n).status ≡ Linked = split_stays a h a' h' n m c d key v k n k.linked in (
-      misses a h t n m key k.linked k.fitted k.hung k.differs,
-      finds a' h' t' n key (Below c) l' (rw k.prefix k.fitted) (rw k.prefix k.child) ∙ (enter h' 6 c key (Below d) k.over_key k.new_child ∙ leaf_value h' 5 d key v k.leaf),
+      value_at_unfit a h t n m key k.linked k.fitted k.hung k.differs,
+      value_at_linked a' h' t' n key (Below c) l' (rw k.prefix k.fitted) (rw k.prefix k.child) ∙ (walk_enters h' 6 c key (Below d) k.over_key k.new_child ∙ leaf_value h' 5 d key v k.leaf),
       (λ x lx ne. on_test (fits (h n).prefix x)
           (λ q. elim (same_or_not (get_or x (length (h n).prefix) 0) (get_or key (length (h n).prefix) 0)) [
-            | inl e ↦ finds a' h' t' n x (Below c) l' (rw k.prefix q) (rw k.prefix (rw e k.child))
-                ∙ (split_below a h a' h' n m c d key v len t t' k x lx ne ∙ sym (finds a h t n x (Below m) k.linked q (child_moved (h n) key x (Below m) e k.hung)))
-            | inr e ↦ untouched a h a' h' n _ t t' g 8 0 x t.root t'.root (inr (λ _ y. e y))
+            | inl e ↦ value_at_linked a' h' t' n x (Below c) l' (rw k.prefix q) (rw k.prefix (rw e k.child))
+                ∙ (split_below a h a' h' n m c d key v len t t' k x lx ne ∙ sym (value_at_linked a h t n x (Below m) k.linked q (child_moved (h n) key x (Below m) e k.hung)))
+            | inr e ↦ walk_untouched a h a' h' n _ t t' g 8 0 x t.root t'.root (inr (λ _ y. e y))
           ])
-          (λ q. untouched a h a' h' n _ t t' g 8 0 x t.root t'.root (inr (λ y _. cc)))),
+          (λ q. walk_untouched a h a' h' n _ t t' g 8 0 x t.root t'.root (inr (λ y _. cc)))),
     )

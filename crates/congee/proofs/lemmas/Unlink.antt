@@ -1,10 +1,11 @@
 -- A leaf with one value goes out of the tree.
-use Rattle.std.proofs.Common.{◌≡◌, ◌≢◌, ℕ, inl, inr, true, List, length, get_or, refl, sym, ◌∙◌, ap, subst, arith}
+use Rattle.std.proofs.Common.{◌≡◌, ◌≢◌, ℕ, inl, inr, true, List, length, get_or, refl, sym, ◌∙◌, ap, subst, arith, ◌==◌, cond}
 use Rattle.std.specs.Prelude.{None, Some}
 use Rattle.congee.specs.Heap.{Nothing, Below, Holds, Node, fits, child_for, value_at}
-use Rattle.congee.specs.Notes.{Linked, Note, IsChild, HasParent, Tree}
-use Rattle.congee.proofs.lemmas.Tree.{same_or_not, finds}
-use Rattle.congee.proofs.lemmas.Graft.{Graft, old_down, old_leaves, old_up, untouched, on_test}
+use Rattle.congee.specs.Notes.{Linked, Gone, Note, IsChild, HasParent, Tree}
+use Rattle.congee.proofs.lemmas.Fits.{same_test, other_test}
+use Rattle.congee.proofs.lemmas.Tree.{same_or_not, value_at_linked}
+use Rattle.congee.proofs.lemmas.Graft.{Graft, old_down, old_leaves, old_up, walk_untouched, on_test}
 use Rattle.congee.proofs.lemmas.Link.{Leaf, leaf_no_node, leaf_value, leaf_other, child_moved}
 
 -- before and after: leaf m, which has the key's value alone, no longer hangs below node n
@@ -19,6 +20,38 @@ pub record Unlinks {V : Type 0} (a : ℕ → Note) (h : ℕ → Node V) (a' : �
   pub left : (a' m).status ≢ Linked
   pub notes : (x : ℕ) → x ≢ m → a' x ≡ a x
   pub nodes : (x : ℕ) → x ≢ n → h' x ≡ h x
+
+-- leaf m alone goes, of the nodes and of their notes
+pub record LeafOut {V : Type 0} (a : ℕ → Note) (h : ℕ → Node V) (n m : ℕ) (key : List ℕ) (v : V) : Type 0 where
+  pub notes : ℕ → Note
+  pub nodes : ℕ → Node V
+  pub out : Unlinks a h notes nodes n m key v
+  pub gone : (notes m).status ≡ Gone
+
+-- a leaf with the key's value alone can go
+pub leaf_out : {V : Type 0} (a : ℕ → Note) (h : ℕ → Node V) (n m : ℕ) (key : List ℕ) (v : V) → (a n).status ≡ Linked → fits (h n).prefix key ≡ true
+    → child_for (h n) key ≡ Below m → Leaf h m key v → LeafOut a h n m key v
+leaf_out {V} a h n m key v linked fitted hung last =
+    let at : ℕ = get_or key (length (h n).prefix) 0 in
+    let here : n == n ≡ true = same_test n n refl in
+    let note : m == m ≡ true = same_test m m refl in
+    record {
+      notes = λ x. cond (x == m) (record (a m) { status = Gone }) (a x);
+      nodes = λ x. cond (x == n) (record (h n) { children = λ c. cond (c == at) Nothing ((h n).children c) }) (h x);
+      out = record {
+        linked = linked;
+        fitted = fitted;
+        hung = hung;
+        last = last;
+        prefix = rw here refl;
+        child = rw (here, same_test at at refl) refl;
+        beside = λ c ne. rw (here, other_test c at ne) refl;
+        left = λ l. let z : Gone ≡ Linked = rw note at l in cc;
+        notes = λ x ne. rw (other_test x m ne) refl;
+        nodes = λ x ne. rw (other_test x n ne) refl;
+      };
+      gone = rw note refl;
+    }
 
 unlink_graft : {V : Type 0} (a : ℕ → Note) (h : ℕ → Node V) (a' : ℕ → Note) (h' : ℕ → Node V) (n m : ℕ) (key : List ℕ) (v : V) → Unlinks a h a' h' n m key v
     → Graft a h a' h' n (get_or key (length (h n).prefix) 0)
@@ -36,7 +69,8 @@ unlink_graft a h a' h' n m key v k =
       parents = λ x l w l'. rw (k.notes x (apart x w)) refl;
     }
 
-gone_not : (a' : ℕ → Note) (x m : ℕ) → (a' m).status ≢ Linked → (a' x).status ≡ Linked → x ≢ m
+-- what is in the tree isn't what left it
+pub gone_not : (a' : ℕ → Note) (x m : ℕ) → (a' m).status ≢ Linked → (a' x).status ≡ Linked → x ≢ m
 gone_not a' x m g l e = g (let P : ℕ → Type 0 = λ y. (a' y).status ≡ Linked in subst P e l)
 
 -- the nodes are a tree after a leaf went out
@@ -77,12 +111,12 @@ unlink_map a h a' h' n m key v len t k =
     let i : IsChild a h n (get_or key (length (h n).prefix) 0) m = t.down n _ m k.linked k.hung in
     let other : n ≢ m = (λ e. let z : length (h n).prefix ≡ length (h m).prefix = ap (λ y. length (h y).prefix) e in absurd (omega (arith, i.longer))) in
     let l' : (a' n).status ≡ Linked = rw (k.notes n other) k.linked in (
-      finds a h t n key (Below m) k.linked k.fitted k.hung ∙ leaf_value h 6 m key v k.last,
-      finds a' h' t' n key Nothing l' (rw k.prefix k.fitted) (rw k.prefix k.child),
+      value_at_linked a h t n key (Below m) k.linked k.fitted k.hung ∙ leaf_value h 6 m key v k.last,
+      value_at_linked a' h' t' n key Nothing l' (rw k.prefix k.fitted) (rw k.prefix k.child),
       (λ x lx ne. on_test (fits (h n).prefix x)
           (λ q. elim (same_or_not (get_or x (length (h n).prefix) 0) (get_or key (length (h n).prefix) 0)) [
-            | inl e ↦ finds a' h' t' n x Nothing l' (rw k.prefix q) (rw k.prefix (rw e k.child)) ∙ sym (finds a h t n x (Below m) k.linked q (child_moved (h n) key x (Below m) e k.hung) ∙ leaf_other h 6 m key v x len lx ne k.last)
-            | inr e ↦ untouched a h a' h' n _ t t' g 8 0 x t.root t'.root (inr (λ _ y. e y))
+            | inl e ↦ value_at_linked a' h' t' n x Nothing l' (rw k.prefix q) (rw k.prefix (rw e k.child)) ∙ sym (value_at_linked a h t n x (Below m) k.linked q (child_moved (h n) key x (Below m) e k.hung) ∙ leaf_other h 6 m key v x len lx ne k.last)
+            | inr e ↦ walk_untouched a h a' h' n _ t t' g 8 0 x t.root t'.root (inr (λ _ y. e y))
           ])
-          (λ q. untouched a h a' h' n _ t t' g 8 0 x t.root t'.root (inr (λ y _. cc)))),
+          (λ q. walk_untouched a h a' h' n _ t t' g 8 0 x t.root t'.root (inr (λ y _. cc)))),
     )

@@ -16,3 +16,4 @@ pub mod OffsetLemmas
 pub mod Prefixes
 pub mod Ranks
 pub mod SortedLemmas
+pub mod LaidLemmas

@@ -7,7 +7,6 @@ pub mod Cursors
 pub mod Drains
 pub mod Edits
 pub mod Entering
-pub mod EntrySizes
 pub mod Filled
 pub mod Firsts
 pub mod Folding
@@ -15,6 +14,7 @@ pub mod Freeing
 pub mod Fulls
 pub mod FullSteps
 pub mod Joins
+pub mod Keeping
 pub mod Moves
 pub mod OwnerLemmas
 pub mod Walks

@@ -2,7 +2,7 @@
 use Rattle.std.specs.Prelude.{◌≡◌, ◌<◌, ◌≤◌, ℕ, List, length, get_or}
 
 -- of n bytes the first count, and the others are 255
-pub record IsRow (n : ℕ) (bytes : List ℕ) (len : ℕ) : Type 0 where
+pub record IsPadded (n : ℕ) (bytes : List ℕ) (len : ℕ) : Type 0 where
   pub narrow : n < 256
   pub fits : len ≤ n
   pub low : (i : ℕ) → get_or bytes i 0 < 256

@@ -104,13 +104,15 @@ child_ty τ σ = ty_enum [] (ttcons tnil (ttcons (tcons τ tnil) (ttcons (tcons 
 abbrev pub array_vec_ty : Ty → ℕ → Ty
 array_vec_ty τ n = ty_struct [] (tcons (ty_struct [] (tcons (ty_array τ n) tnil)) (tcons (ty_int w64) (tcons ty_unit tnil)))
 
-abbrev prefix_ty : Ty
+-- a prefix
+abbrev pub prefix_ty : Ty
 prefix_ty = ty_struct [] (tcons (ty_array (ty_int w8) 8) tnil)
 
 -- bytes in the order in which they are counted
 abbrev pub ranks_ty : ℕ → Ty
 ranks_ty n = ty_struct [] (tcons (ty_array (ty_int w8) n) (tcons (ty_int w64) tnil))
 
+-- children in the order of their bytes
 abbrev sorted_ty : ℕ → Ty → Ty → Ty
 sorted_ty n τ σ = ty_struct [] (tcons (ranks_ty n) (tcons (array_vec_ty (child_ty τ σ) n) tnil))
 
@@ -118,6 +120,7 @@ sorted_ty n τ σ = ty_struct [] (tcons (ranks_ty n) (tcons (array_vec_ty (child
 abbrev pub index_ty : Ty
 index_ty = ty_struct [] (tcons (ty_int w8) (tcons (ty_int w8) (tcons (ty_array (ty_int w8) 256) (tcons (ty_array (ty_int w8) 48) tnil))))
 
+-- children behind an index
 abbrev indexed_ty : Ty → Ty → Ty
 indexed_ty τ σ = ty_struct [] (tcons index_ty (tcons (array_vec_ty (child_ty τ σ) 48) tnil))
 
@@ -125,6 +128,7 @@ indexed_ty τ σ = ty_struct [] (tcons index_ty (tcons (array_vec_ty (child_ty �
 abbrev pub mask_ty : Ty
 mask_ty = ty_struct [] (tcons (ty_array (ty_int w8) 32) tnil)
 
+-- children behind a mask
 abbrev masked_ty : Ty → Ty → Ty
 masked_ty τ σ = ty_struct [] (tcons (ty_int w16) (tcons mask_ty (tcons (array_vec_ty (child_ty τ σ) 256) tnil)))
 
@@ -136,7 +140,8 @@ node_ty τ = ty_struct [] (tcons prefix_ty (tcons τ tnil))
 abbrev any_node_ty : Ty → Ty → Ty
 any_node_ty τ σ = ty_enum [] (ttcons (tcons (node_ty (sorted_ty 4 τ σ)) tnil) (ttcons (tcons ty_ptr tnil) (ttcons (tcons ty_ptr tnil) (ttcons (tcons ty_ptr tnil) ttnil))))
 
-prefix : FitsIn prefix_ty 200000
+-- a prefix has few bytes
+pub prefix : FitsIn prefix_ty 200000
 prefix = let w = struct (field (array 8 byte) no_fields) in record { bytes = omega (arith, w.bytes); aligned = w.aligned }
 
 module _ (C P : RattleType) (c : IsSmall (layout C)) (p : IsSmall (layout P)) where

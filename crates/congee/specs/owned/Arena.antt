@@ -42,8 +42,8 @@ abbrev pub heap_of : {P : Type 0} → Nodes P → ℕ → Node P
 heap_of s n = node_of (get s n)
 
 -- which places are nodes of the tree, and below which node each hangs
-abbrev pub ledger_of : {P : Type 0} → Nodes P → (ℕ → ℕ) → ℕ → Note
-ledger_of s parent n = record { status = cond (is_some (get s n)) Linked Gone; owner = None; parent = parent n }
+abbrev pub notes_of : {P : Type 0} → Nodes P → (ℕ → ℕ) → ℕ → Note
+notes_of s parent n = record { status = cond (is_some (get s n)) Linked Gone; owner = None; parent = parent n }
 
 -- a node with a prefix of seven bytes is a leaf; the one at a place has a value
 abbrev pub IsFilled : {P : Type 0} → Option (Form ℕ P) → Type 0
@@ -52,7 +52,7 @@ IsFilled {P} o = (x : Form ℕ P) → o ≡ Some x → length (prefix_of x) ≡ 
 -- the nodes are a tree, the root has 256 places, and no leaf is empty
 pub record IsTree {P : Type 0} (s : Nodes P) : Type 0 where
   pub parent : ℕ → ℕ
-  pub tree : Tree (ledger_of s parent) (heap_of s)
+  pub tree : Tree (notes_of s parent) (heap_of s)
   pub wide : (heap_of s 0).capacity ≡ 256
   pub filled : (n : ℕ) → IsFilled (get s n)
 

@@ -26,6 +26,7 @@ module _ {P : Type 0} where
   child_parts (Sub name) = inr (inl name)
   child_parts (Value value) = inr (inr value)
 
+  -- the child of these parts
   abbrev child_whole : Unit {0} ⊎ (ℕ ⊎ P) → Child ℕ P
   child_whole (inl u) = Blank
   child_whole (inr (inl name)) = Sub name
@@ -37,15 +38,18 @@ module _ {P : Type 0} where
   child_back (Sub name) = refl
   child_back (Value value) = refl
 
+  -- a child is told by its variant and what that holds
   abbrev child_code : Coded P → Coded (Child ℕ P)
   child_code value = code_by (Unit {0} ⊎ (ℕ ⊎ P)) (coded⊎ coded_unit (coded⊎ coded_ℕ value)) child_parts child_whole child_back
 
+  -- a node's parts: its form, its prefix, its children and the pointer to its box
   abbrev node_parts : Node ℕ P → Plain P ⊎ (Boxed P ⊎ (Boxed P ⊎ Boxed P))
   node_parts (N4 n) = inl (n.prefix, n.children)
   node_parts (N16 n) = inr (inl (n.ptr, (n.value.prefix, n.value.children)))
   node_parts (N48 n) = inr (inr (inl (n.ptr, (n.value.prefix, n.value.children))))
   node_parts (N256 n) = inr (inr (inr (n.ptr, (n.value.prefix, n.value.children))))
 
+  -- the node of these parts
   abbrev node_whole : Plain P ⊎ (Boxed P ⊎ (Boxed P ⊎ Boxed P)) → Node ℕ P
   node_whole (inl p) = N4 (record { prefix = p.0; children = p.1 })
   node_whole (inr (inl b)) = N16 (record { ptr = b.0; alloc = record { memory = record { seal = tt } }; value = record { prefix = b.1.0; children = b.1.1 } })
@@ -59,9 +63,11 @@ module _ {P : Type 0} where
   node_back (N48 n) = refl
   node_back (N256 n) = refl
 
+  -- a prefix and children are told by both
   abbrev plain_code : Coded P → Coded (Plain P)
   plain_code value = coded× (coded_list coded_ℕ) (map.code coded_ℕ (child_code value))
 
+  -- and in a box, by the pointer too
   abbrev boxed_code : Coded P → Coded (Boxed P)
   boxed_code value = coded× coded_ptr (plain_code value)
 

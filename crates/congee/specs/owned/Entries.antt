@@ -10,10 +10,9 @@ use Rattle.congee.specs.declared.forms.child.Child.TheVariants.{Blank as NoChild
 use Rattle.congee.specs.declared.owned.entries.Entry.{Entry}
 use Rattle.congee.specs.declared.owned.entries.Entry.TheVariants.{Blank, Node, Leaf}
 use Rattle.congee.specs.declared.owned.entries.Tail.{Tail}
-use denote.RawPtr.{null_ptr}
+use Rattle.congee.specs.forms.Laid.{laid_node}
 use Rattle.congee.specs.forms.Mapped.{mapped}
 use Rattle.congee.specs.declared.forms.base_node.Node.{Node as Form}
-use Rattle.congee.specs.declared.forms.base_node.Node.TheVariants as form
 use Rattle.congee.specs.declared.owned.entries.Hung.{Hung}
 use Rattle.congee.specs.declared.owned.entries.Hung.TheVariants.{Blank as HungBlank, Node as HungNode, Leaf as HungLeaf}
 use Rattle.congee.specs.declared.owned.entries.Seen.{Seen}
@@ -65,10 +64,7 @@ module _ {P : Type 0} where
 
   -- what places with a prefix are as a node; where they lie in memory isn't told
   abbrev pub node_by : List ℕ → Places P → Form ℕ (Lone P)
-  node_by prefix (N4 n) = form.N4 (record { prefix = prefix; children = mapped (child_by prefix) n })
-  node_by prefix (N16 n) = form.N16 (record { ptr = null_ptr; alloc = record { memory = record { seal = tt } }; value = record { prefix = prefix; children = mapped (child_by prefix) n.value.children } })
-  node_by prefix (N48 n) = form.N48 (record { ptr = null_ptr; alloc = record { memory = record { seal = tt } }; value = record { prefix = prefix; children = mapped (child_by prefix) n.value.children } })
-  node_by prefix (N256 n) = form.N256 (record { ptr = null_ptr; alloc = record { memory = record { seal = tt } }; value = record { prefix = prefix; children = mapped (child_by prefix) n.value.children } })
+  node_by prefix p = laid_node (form_in p) prefix (mapped (child_by prefix) (entries_in p))
 
   -- a leaf where it lies, as one
   abbrev pub lone_seen : Seen P → Lone P

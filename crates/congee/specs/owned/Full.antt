@@ -36,10 +36,11 @@ module _ {P : Type 0} where
   unfoldable pub lacking_of : Nodes P → ℕ
   lacking_of s = lacks_all (drop 1 s.slots)
 
-  -- the node has enough for so many places, or for those of its form
+  -- the node has enough for so many places
   abbrev pub FilledIn : ℕ → Node ℕ P → Type 0
   FilledIn capacity x = FilledAs (length (prefix_of x)) (map.len (children_of x)) capacity
 
+  -- the node has enough for the places of its form
   abbrev pub HasEnough : Node ℕ P → Type 0
   HasEnough x = FilledIn (capacity_of (form_of x)) x
 

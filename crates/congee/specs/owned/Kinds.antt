@@ -25,72 +25,73 @@ module _ {P : Type 0} where
   IsValue (Some (Sub name)) = ⊥
   IsValue (Some (Value value)) = Unit {0}
 
-module _ {P : Type 0} where
+module _ {P K : Type 0} where
   -- the prefix of the node in a slot
-  abbrev pub prefix_in : Slot P → List ℕ
+  abbrev pub prefix_in : Slot P K → List ℕ
   prefix_in (Inner n) = prefix_of n
   prefix_in (Leaf n) = prefix_of n
 
   -- its form
-  abbrev pub form_in : Slot P → NodeType
+  abbrev pub form_in : Slot P K → NodeType
   form_in (Inner n) = form_of n
   form_in (Leaf n) = form_of n
 
   -- how many children it has
-  abbrev pub len_in : Slot P → ℕ
+  abbrev pub len_in : Slot P K → ℕ
   len_in (Inner n) = map.len (children_of n)
   len_in (Leaf n) = map.len (children_of n)
 
   -- whether it is full
-  abbrev pub full_in : Slot P → Bool
+  abbrev pub full_in : Slot P K → Bool
   full_in (Inner n) = is_full_of n
   full_in (Leaf n) = is_full_of n
 
   -- what hangs in the node hangs at bytes
-  abbrev pub HasLowBytes : Slot P → Type 0
+  abbrev pub HasLowBytes : Slot P K → Type 0
   HasLowBytes (Inner n) = (b : ℕ) → IsSome (map.get (children_of n) b) → b < 256
   HasLowBytes (Leaf n) = (b : ℕ) → IsSome (map.get (children_of n) b) → b < 256
 
   -- the slot has an inner node
-  abbrev pub IsInner : Slot P → Type 0
+  abbrev pub IsInner : Slot P K → Type 0
   IsInner (Inner n) = Unit {0}
   IsInner (Leaf n) = ⊥
 
   -- the slot has a leaf
-  abbrev pub IsLeaf : Slot P → Type 0
+  abbrev pub IsLeaf : Slot P K → Type 0
   IsLeaf (Inner n) = ⊥
   IsLeaf (Leaf n) = Unit {0}
 
-  -- what an inner node has under a byte, and what a leaf has
-  abbrev pub inner_get : Slot P → ℕ → Option (Child ℕ (Lone P))
+  -- what an inner node has under a byte
+  abbrev pub inner_get : Slot P K → ℕ → Option (Child ℕ (Lone P))
   inner_get (Inner n) byte = map.get (children_of n) byte
   inner_get (Leaf n) byte = None
 
-  abbrev pub leaf_get : Slot P → ℕ → Option (Child ℕ P)
+  -- what a leaf has under a byte
+  abbrev pub leaf_get : Slot P K → ℕ → Option (Child ℕ P)
   leaf_get (Inner n) byte = None
   leaf_get (Leaf n) byte = map.get (children_of n) byte
 
   -- the node has no children any more, and is else as before
-  abbrev pub Cleared : Slot P → Slot P → Type 0
+  abbrev pub Cleared : Slot P K → Slot P K → Type 0
   Cleared (Inner n) (Inner m) = Becomes n m map.empty
   Cleared (Leaf n) (Leaf m) = Becomes n m map.empty
   Cleared (Inner n) (Leaf m) = ⊥
   Cleared (Leaf n) (Inner m) = ⊥
 
   -- the children alone change, as a function says
-  abbrev pub InnerBecomes : Slot P → Slot P → (map.FinMap nat_cmp (Child ℕ (Lone P)) → map.FinMap nat_cmp (Child ℕ (Lone P))) → Type 0
+  abbrev pub InnerBecomes : Slot P K → Slot P K → (map.FinMap nat_cmp (Child ℕ (Lone P)) → map.FinMap nat_cmp (Child ℕ (Lone P))) → Type 0
   InnerBecomes (Inner n) (Inner m) f = Becomes n m (f (children_of n))
   InnerBecomes (Inner n) (Leaf m) f = ⊥
   InnerBecomes (Leaf n) m f = ⊥
 
   -- the same of a leaf
-  abbrev pub LeafBecomes : Slot P → Slot P → (map.FinMap nat_cmp (Child ℕ P) → map.FinMap nat_cmp (Child ℕ P)) → Type 0
+  abbrev pub LeafBecomes : Slot P K → Slot P K → (map.FinMap nat_cmp (Child ℕ P) → map.FinMap nat_cmp (Child ℕ P)) → Type 0
   LeafBecomes (Leaf n) (Leaf m) f = Becomes n m (f (children_of n))
   LeafBecomes (Leaf n) (Inner m) f = ⊥
   LeafBecomes (Inner n) m f = ⊥
 
   -- the node is as before in the form above
-  abbrev pub Grown : Slot P → Slot P → Type 0
+  abbrev pub Grown : Slot P K → Slot P K → Type 0
   Grown (Inner n) (Inner m) = IsGrown n m
   Grown (Leaf n) (Leaf m) = IsGrown n m
   Grown (Inner n) (Leaf m) = ⊥

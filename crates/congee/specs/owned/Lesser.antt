@@ -23,7 +23,7 @@ pub record IsShrunk {C P : Type 0} (old new : Node C P) : Type 0 where
 
 module _ {P : Type 0} where
   -- the same of the node in a slot
-  abbrev pub Shrunk : Slot P → Slot P → Type 0
+  abbrev pub Shrunk : {K : Type 0} → Slot P K → Slot P K → Type 0
   Shrunk (Inner n) (Inner m) = IsShrunk n m
   Shrunk (Leaf n) (Leaf m) = IsShrunk n m
   Shrunk (Inner n) (Leaf m) = ⊥
@@ -65,7 +65,7 @@ module _ {A : Type 0} (charged limit : A → ℕ) (old new : A) where
 
 -- a node of the form gave place to one of the form below, which was charged before, and its own charge went; or memory was
 -- refused, which the least form doesn't want, and the charge of the lesser one went
-abbrev pub Lessens : {P A : Type 0} → (A → ℕ) → Arena P A → Arena P A → NodeType → Type 0
+abbrev pub Lessens : {P A K : Type 0} → (A → ℕ) → Arena P A K → Arena P A K → NodeType → Type 0
 Lessens charged old new form =
     ((charged new.allocator + size_of form ≡ charged old.allocator) × (bytes_of new.nodes + size_of form ≡ bytes_of old.nodes + size_of (form_below form)))
     ⊎ ((charged new.allocator + size_of (form_below form) ≡ charged old.allocator) × (bytes_of new.nodes ≡ bytes_of old.nodes) × (form_below form ≢ N4))

@@ -17,7 +17,7 @@ use Rattle.congee.specs.declared.forms.prefix.TheConstants.{MAX_PREFIX_LEN}
 
 module _ {P : Type 0} where
   -- an inner node in a slot has this child, and nothing else
-  abbrev pub HasOnly : Slot P → Child ℕ (Lone P) → Type 0
+  abbrev pub HasOnly : {K : Type 0} → Slot P K → Child ℕ (Lone P) → Type 0
   HasOnly (Inner n) child = IsOnly (children_of n) child
   HasOnly (Leaf n) child = ⊥
 

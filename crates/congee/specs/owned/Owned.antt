@@ -14,7 +14,3 @@ HoldsPairs s m = IsMapOf (heap_of s) m
 pub record Answered {P : Type 0} (same : P → P → Bool) (s s' : Nodes P) (call : Call P) (reply : Reply P) : Type 0 where
   pub replies : (m : Pairs P) → HoldsPairs s m → (answer same m call).0 ≡ reply
   pub leaves : (m : Pairs P) → HoldsPairs s m → HoldsPairs s' (answer same m call).1
-
--- the same pairs stand
-pub record SamePairs {P : Type 0} (s s' : Nodes P) : Type 0 where
-  pub leaves : (m : Pairs P) → HoldsPairs s m → HoldsPairs s' m

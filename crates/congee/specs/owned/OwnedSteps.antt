@@ -6,13 +6,11 @@ use Rattle.slab.specs.Slab.{Updates, get}
 use Rattle.congee.specs.forms.Forms.{Becomes, capacity_of, form_of, prefix_of, children_of, is_full_of, next_form}
 use Rattle.congee.specs.Heap.{Holds, child_for}
 use Rattle.congee.specs.owned.Arena.{Nodes, heap_of}
-use Rattle.congee.specs.owned.Changes.{IsLeafOf}
 use Rattle.congee.specs.declared.forms.base_node.Node.{Node}
 use Rattle.congee.specs.declared.forms.base_node.NodeType.TheVariants.{N4}
 use Rattle.congee.specs.declared.allocator.OOMError.{OOMError}
 use Rattle.congee.specs.declared.allocator.OOMError.TheVariants.{Budget, Memory}
 use Rattle.congee.specs.declared.forms.child.Child.{Child}
-use Rattle.congee.specs.declared.forms.child.Child.TheVariants.{Node as Sub}
 
 -- node x at this name gets these children
 pub record Sets {P : Type 0} (s s' : Nodes P) (at : ℕ) (x : Node ℕ P) (children : map.FinMap nat_cmp (Child ℕ P)) : Type 0 where
@@ -55,21 +53,6 @@ pub record FreshNode {P : Type 0} (s : Nodes P) (name : ℕ) (prefix : List ℕ)
   pub form : form_of node ≡ N4
   pub prefixed : prefix_of node ≡ prefix
   pub children : children_of node ≡ map.empty
-
--- a fresh node becomes a leaf with the key's value
-pub record Fills {P : Type 0} (s s' : Nodes P) (name : ℕ) (key : List ℕ) (v : P) : Type 0 where
-  pub node : Node ℕ P
-  pub leaf : IsLeafOf node key v
-  pub updates : Updates s s' name (Some node)
-
--- a fresh node becomes one with two nodes below it
-pub record Forks {P : Type 0} (s s' : Nodes P) (name : ℕ) (prefix : List ℕ) (byte leaf other below : ℕ) : Type 0 where
-  pub node : Node ℕ P
-  pub prefixed : prefix_of node ≡ prefix
-  pub new_child : map.get (children_of node) byte ≡ Some (Sub leaf)
-  pub old_child : map.get (children_of node) other ≡ Some (Sub below)
-  pub beside : (b : ℕ) → b ≢ other → b ≢ byte → map.get (children_of node) b ≡ None
-  pub updates : Updates s s' name (Some node)
 
 -- a node has a value for the key
 pub record IsHeld {P : Type 0} (s : Nodes P) (key : List ℕ) (at : ℕ) : Type 0 where

@@ -1,7 +1,7 @@
 -- Where a key's way through the tree ends.
 use Rattle.std.specs.Prelude.{◌≡◌, ℕ, false, List}
 use Rattle.congee.specs.Heap.{Nothing, Below, Holds, fits, child_for}
-use Rattle.congee.specs.owned.Arena.{Nodes, heap_of, Reached}
+use Rattle.congee.specs.owned.Arena.{Nodes, OnWay, Reached, heap_of}
 use Rattle.congee.specs.declared.owned.place.Place.{Place}
 use Rattle.congee.specs.declared.owned.place.Spot.{Spot}
 use Rattle.congee.specs.declared.owned.place.Spot.TheVariants.{Held, Free, Apart}
@@ -17,3 +17,9 @@ pub record Located {P : Type 0} (s : Nodes P) (key : List ℕ) (p : Place) : Typ
   pub reached : Reached s key p.above p.at
   pub higher : Reached s key p.top p.above
   pub ends : EndsAt s key p.at p.spot
+
+-- the key's way ends at a node, before the one that hangs there, whose prefix the key lacks
+pub record PartsAt {P : Type 0} (s : Nodes P) (key : List ℕ) (at below : ℕ) : Type 0 where
+  pub way : OnWay s key at
+  pub hangs : child_for (heap_of s at) key ≡ Below below
+  pub differs : fits (heap_of s below).prefix key ≡ false

@@ -40,12 +40,13 @@ module _ {P : Type 0} where
     pub from : ℕ
     pub lists : Lists entries from list
 
+  -- a row tells its entries: those from a byte on as a list, or those of a wide form whole
   abbrev pub SeesRow : Nodes P → Stem → ℕ → Row P → Type 0
   SeesRow s stem from (Few list) = (seen : SeesList s stem list.now) × (seen.from ≡ from)
   SeesRow s stem from (Wide form) = SeesEntries s stem form.now
 
   -- an entry is the first of such a node from a byte on
-  pub record Hangs (s : Nodes P) (stem : Stem) (entry : Entry P) : Type 0 where
+  pub record SeesEntry (s : Nodes P) (stem : Stem) (entry : Entry P) : Type 0 where
     pub entries : map.FinMap nat_cmp (Entry P)
     pub sees : SeesEntries s stem entries
     pub from : ℕ

@@ -33,7 +33,7 @@ module _ {P : Type 0} where
     pub ends : slice_index (key_bytes least) MAX_PREFIX_LEN ≡ 0
 
   -- what was read is the node under a name
-  abbrev pub Sees : Nodes P → ℕ → Sight P → Type 0
+  abbrev pub Sees : {K : Type 0} → Nodes P → ℕ → Sight P K → Type 0
   Sees s at (Inline lone) = get s at ≡ Some (lone_node (lone_seen lone))
   Sees s at (Inner slot n) = SeesInner s at slot n.now
   Sees s at (Leaf least n) = SeesLeaf s at least n.now

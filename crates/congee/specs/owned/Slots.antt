@@ -54,7 +54,7 @@ module _ {P Q : Type 0} where
 
 module _ {P : Type 0} where
   -- the node in a slot
-  abbrev pub slot_node : ℕ → Slot P → Node ℕ P
+  abbrev pub slot_node : {K : Type 0} → ℕ → Slot P K → Node ℕ P
   slot_node slot (Inner n) = with_children (inner_child slot) n
   slot_node slot (Leaf n) = with_children leaf_child n
 
@@ -66,24 +66,24 @@ module _ {P : Type 0} where
   lone_in (Some (Value lone)) = Some (lone_node lone)
 
   -- the leaf in a node's place under a byte, if one is there
-  abbrev pub inline_at : Slot P → ℕ → Option (Node ℕ P)
+  abbrev pub inline_at : {K : Type 0} → Slot P K → ℕ → Option (Node ℕ P)
   inline_at (Inner n) byte = lone_in (finite.get (children_of n) byte)
   inline_at (Leaf n) byte = None
 
   -- what stands under one of a slot's names: its node under the first, and a leaf in the node's place under a byte's
-  abbrev pub under_offset : ℕ → Slot P → ℕ → Option (Node ℕ P)
+  abbrev pub under_offset : {K : Type 0} → ℕ → Slot P K → ℕ → Option (Node ℕ P)
   under_offset slot x zero = Some (slot_node slot x)
   under_offset slot x (suc byte) = inline_at x byte
 
   -- the same of a slot that may be vacant
-  abbrev pub in_slot : ℕ → Option (Slot P) → ℕ → Option (Node ℕ P)
+  abbrev pub in_slot : {K : Type 0} → ℕ → Option (Slot P K) → ℕ → Option (Node ℕ P)
   in_slot slot None offset = None
   in_slot slot (Some x) offset = under_offset slot x offset
 
   -- the node of a name
-  abbrev pub node_named : List (Option (Slot P)) → ℕ → Option (Node ℕ P)
+  abbrev pub node_named : {K : Type 0} → List (Option (Slot P K)) → ℕ → Option (Node ℕ P)
   node_named slots name = in_slot (name / 257) (slice_index_or slots (name / 257) None) (name % 257)
 
   -- the nodes, each under its name
-  unfoldable pub nodes_in : Slab (Slot P) → Nodes P
+  unfoldable pub nodes_in : {K : Type 0} → Slab (Slot P K) → Nodes P
   nodes_in s = record { slots = map (node_named s.slots) (range_with_len 0 (257 * length s.slots)); vacant_key = slot_name s.vacant_key; capacity = s.capacity }

@@ -59,12 +59,14 @@ pub record Shape : Type 0 where
 abbrev pub root_alone : List Shape
 root_alone = record { level = 0; form = N256; prefix = 0; children = 0 } ∷ []
 
+-- a form's number, the least one's 0
 abbrev number_of : NodeType → ℕ
 number_of N4 = 0
 number_of N16 = 1
 number_of N48 = 2
 number_of N256 = 3
 
+-- the form of a number
 abbrev numbered : ℕ → NodeType
 numbered zero = N4
 numbered (suc zero) = N16

@@ -37,7 +37,7 @@ module _ {P : Type 0} where
   LeafStands s (FoundLeaf name key value) = StandsWith s name key value.now
   LeafStands s (FoundValue value) = Unit {0}
 
-  -- a node with a slot of its own hangs there, or a leaf that lies in its parent's place
+  -- a node with a slot of its own hangs there
   abbrev pub HasNode : Option (Child ℕ P) → Type 0
   HasNode None = ⊥
   HasNode (Some Blank) = ⊥

@@ -15,11 +15,11 @@ Leads s key at (Below c) = (child_for (heap_of s at) key ≡ Under c) × (fits (
 Leads s key at (Apart c) = (child_for (heap_of s at) key ≡ Under c) × (fits (heap_of s c).prefix key ≡ false)
 
 -- whether the key has the prefix of the node of this name
-abbrev pub IsTurn : {P : Type 0} → Nodes P → List ℕ → ℕ → Way P → Type 0
-IsTurn s key name Free = ⊥
-IsTurn s key name (Held value) = ⊥
-IsTurn s key name (Below c) = (c ≡ name) × (fits (heap_of s c).prefix key ≡ true)
-IsTurn s key name (Apart c) = (c ≡ name) × (fits (heap_of s c).prefix key ≡ false)
+abbrev pub IsWayBelow : {P : Type 0} → Nodes P → List ℕ → ℕ → Way P → Type 0
+IsWayBelow s key name Free = ⊥
+IsWayBelow s key name (Held value) = ⊥
+IsWayBelow s key name (Below c) = (c ≡ name) × (fits (heap_of s c).prefix key ≡ true)
+IsWayBelow s key name (Apart c) = (c ≡ name) × (fits (heap_of s c).prefix key ≡ false)
 
 -- what the node has for the key, and where that is a leaf that leads the key, what the leaf has
 abbrev pub LeadsOn : {P : Type 0} → Nodes P → List ℕ → ℕ → Onward P → Type 0
@@ -31,10 +31,10 @@ LeadsOn s key at (GoesBelow slot) = Leads s key at (Below (257 * slot))
 LeadsOn s key at (GoesApart c) = Leads s key at (Apart c)
 
 -- whether the key has the prefix of the node of this name, which has a slot of its own
-abbrev pub IsTurnOn : {P : Type 0} → Nodes P → List ℕ → ℕ → Onward P → Type 0
-IsTurnOn s key name GoesFree = ⊥
-IsTurnOn s key name (GoesHeld value) = ⊥
-IsTurnOn s key name (FreeBelow c) = ⊥
-IsTurnOn s key name (HeldBelow c value) = ⊥
-IsTurnOn s key name (GoesBelow slot) = IsTurn s key name (Below (257 * slot))
-IsTurnOn s key name (GoesApart c) = IsTurn s key name (Apart c)
+abbrev pub IsWayOn : {P : Type 0} → Nodes P → List ℕ → ℕ → Onward P → Type 0
+IsWayOn s key name GoesFree = ⊥
+IsWayOn s key name (GoesHeld value) = ⊥
+IsWayOn s key name (FreeBelow c) = ⊥
+IsWayOn s key name (HeldBelow c value) = ⊥
+IsWayOn s key name (GoesBelow slot) = IsWayBelow s key name (Below (257 * slot))
+IsWayOn s key name (GoesApart c) = IsWayBelow s key name (Apart c)

@@ -10,7 +10,7 @@ use Rattle.congee.specs.declared.owned.writing.Written.{Written}
 
 module _ {E : Type 0} where
   -- more places are written, and those past them are as before
-  pub record Fills (count : ℕ) (old new : List E) (w : Written) : Type 0 where
+  pub record WritesMore (count : ℕ) (old new : List E) (w : Written) : Type 0 where
     pub more : count ≤ w.count
     pub within : w.count ≤ length new
     pub long : length new ≡ length old

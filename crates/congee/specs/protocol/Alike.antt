@@ -20,18 +20,18 @@ use Rattle.congee.specs.declared.protocol.phase.Two.{Two}
 use Rattle.congee.specs.declared.protocol.phase.Plan.{Plan}
 use Rattle.congee.specs.declared.protocol.phase.Plan.TheVariants.{Here, Above}
 use Rattle.congee.specs.declared.protocol.phase.Phase.{Phase}
-use Rattle.congee.specs.declared.protocol.phase.Phase.TheVariants.{New, Version, Read, Check, CheckUncopied, CheckMiss, CheckDown, CheckOld, MakeLeaf, MakeGreater, MakeTop, MakeBeside, MakeLesser, AskOld, AskNew, Confirm, CheckAbove, UpgradeOne, ChangeOne, UpgradeTop, UpgradeAbove, UpgradeBelow, ChangeTwo, Obsolete, Retire, UnlockBelow, Unlock, Unwind, Sweep, Ended}
-use Rattle.congee.specs.declared.protocol.sweep.Rung.{Rung}
-use Rattle.congee.specs.declared.protocol.sweep.Stage.{Stage}
-use Rattle.congee.specs.declared.protocol.sweep.Stage.TheVariants as stage
-use Rattle.congee.specs.declared.protocol.sweep.Sweep.{Sweep as Scan}
-use Rattle.congee.specs.declared.protocol.turn.NextPhase.{NextPhase}
+use Rattle.congee.specs.declared.protocol.phase.Phase.TheVariants.{New, Version, Read, Check, CheckUncopied, CheckMiss, CheckDown, CheckOld, MakeLeaf, MakeGreater, MakeTop, MakeBeside, MakeLesser, AskOld, AskNew, Confirm, CheckAbove, UpgradeOne, ChangeOne, UpgradeTop, UpgradeAbove, UpgradeBelow, ChangeTwo, Obsolete, Retire, UnlockBelow, Unlock, Unwind, Scan, Ended}
+use Rattle.congee.specs.declared.protocol.scan.Rung.{Rung}
+use Rattle.congee.specs.declared.protocol.scan.Stage.{Stage}
+use Rattle.congee.specs.declared.protocol.scan.Stage.TheVariants as stage
+use Rattle.congee.specs.declared.protocol.scan.ScanState.{ScanState as ScanState}
+use Rattle.congee.specs.declared.protocol.next_phase.NextPhase.{NextPhase}
 use Rattle.congee.specs.declared.protocol.machine.Machine.{Machine}
 use Rattle.congee.specs.declared.protocol.machine.Move.{Move}
 use Rattle.congee.specs.declared.protocol.machine.Outcome.{Outcome}
 use Rattle.congee.specs.declared.protocol.machine.Outcome.TheVariants.{Refused}
 use Rattle.congee.specs.Heap.{Node, Hung, Nothing, Below, Holds, Stands, is_taken}
-use Rattle.congee.specs.protocol.SweepSteps.{slots}
+use Rattle.congee.specs.protocol.ScanSteps.{slots}
 use Rattle.congee.specs.protocol.PlainSteps.{Went, call_after}
 
 -- the nodes in the order in which they were made, by the store's numbers: each that was made has one place
@@ -68,13 +68,13 @@ module _ {C : Type 0} (order : List ℕ) (number : C → ℕ) where
   Named c n = slice_get order n ≡ Some (number c)
 
   -- the same node at the same version
-  pub record SeatAlike (s : Stamp C) (u : Stamp ℕ) : Type 0 where
+  pub record StampAlike (s : Stamp C) (u : Stamp ℕ) : Type 0 where
     pub node : Named s.node u.node
     pub version : u.version ≡ s.version
 
   -- the same node above, and what was read there
   pub record ParentAlike (p : Parent C) (q : Parent ℕ) : Type 0 where
-    pub seat : SeatAlike p.seat q.seat
+    pub stamp : StampAlike p.stamp q.stamp
     pub byte : q.byte ≡ p.byte
     pub depth : q.depth ≡ p.depth
     pub count : q.count ≡ p.count
@@ -96,9 +96,9 @@ module _ {C : Type 0} (order : List ℕ) (number : C → ℕ) where
   AboveAlike (Some u) o = (w : Over ℕ) × (o ≡ Some w) × OverAlike u w
 
   -- the same node at a version, or none
-  abbrev pub SeatedAlike : Option (Stamp C) → Option (Stamp ℕ) → Type 0
-  SeatedAlike None o = o ≡ None
-  SeatedAlike (Some s) o = (u : Stamp ℕ) × (o ≡ Some u) × SeatAlike s u
+  abbrev pub StampedAlike : Option (Stamp C) → Option (Stamp ℕ) → Type 0
+  StampedAlike None o = o ≡ None
+  StampedAlike (Some s) o = (u : Stamp ℕ) × (o ≡ Some u) × StampAlike s u
 
   -- the same made node, or none
   abbrev pub MadeAlike : Option C → Option ℕ → Type 0
@@ -108,7 +108,7 @@ module _ {C : Type 0} (order : List ℕ) (number : C → ℕ) where
   -- the same node at hand
   pub record SiteAlike (s : Site C) (u : Site ℕ) : Type 0 where
     pub above : AboveAlike s.above u.above
-    pub at : SeatAlike s.at u.at
+    pub at : StampAlike s.at u.at
     pub depth : u.depth ≡ s.depth
     pub byte : u.byte ≡ s.byte
     pub form : u.form ≡ s.form
@@ -125,7 +125,7 @@ module _ {C : Type 0} (order : List ℕ) (number : C → ℕ) where
 
   -- the same change at the same byte of the same node
   pub record OneAlike (one : One C) (u : One ℕ) : Type 0 where
-    pub at : SeatAlike one.at u.at
+    pub at : StampAlike one.at u.at
     pub byte : u.byte ≡ one.byte
     pub change : SingleAlike one.change u.change
 
@@ -143,17 +143,17 @@ module _ {C : Type 0} (order : List ℕ) (number : C → ℕ) where
   pub record TwoAlike (two : Two C) (u : Two ℕ) : Type 0 where
     pub top : TopAlike two.top u.top
     pub above : ParentAlike two.above u.above
-    pub at : SeatAlike two.at u.at
+    pub at : StampAlike two.at u.at
     pub change : DoubleAlike two.change u.change
 
   -- the same plan
   abbrev pub PlanAlike : Plan C → Plan ℕ → Type 0
-  PlanAlike (Here check one) x = (o : Option (Stamp ℕ)) × (u : One ℕ) × (x ≡ Here o u) × SeatedAlike check o × OneAlike one u
+  PlanAlike (Here check one) x = (o : Option (Stamp ℕ)) × (u : One ℕ) × (x ≡ Here o u) × StampedAlike check o × OneAlike one u
   PlanAlike (Above two) x = (u : Two ℕ) × (x ≡ Above u) × TwoAlike two u
 
   -- the same node on a scan's way
   pub record RungAlike (r : Rung C) (q : Rung ℕ) : Type 0 where
-    pub at : SeatAlike r.at q.at
+    pub at : StampAlike r.at q.at
     pub region : q.region ≡ r.region
     pub from : q.from ≡ r.from
 
@@ -197,7 +197,7 @@ module _ {C : Type 0} (order : List ℕ) (number : C → ℕ) where
       StageAlike stage.Over x = x ≡ stage.Over
 
       -- the same scan on the same way
-      pub record ScanAlike (s : Scan C V) (t : Scan ℕ V) : Type 0 where
+      pub record ScanAlike (s : ScanState C V) (t : ScanState ℕ V) : Type 0 where
         pub start : t.start ≡ s.start
         pub last : t.last ≡ s.last
         pub size : t.size ≡ s.size
@@ -210,21 +210,21 @@ module _ {C : Type 0} (order : List ℕ) (number : C → ℕ) where
       abbrev pub PhaseAlike : Phase C V → Phase ℕ V → Type 0
       PhaseAlike New x = x ≡ New
       PhaseAlike (Version above c) x = (o : Option (Over ℕ)) × (n : ℕ) × (x ≡ Version o n) × AboveAlike above o × Named c n
-      PhaseAlike (Read above at) x = (o : Option (Over ℕ)) × (u : Stamp ℕ) × (x ≡ Read o u) × AboveAlike above o × SeatAlike at u
+      PhaseAlike (Read above at) x = (o : Option (Over ℕ)) × (u : Stamp ℕ) × (x ≡ Read o u) × AboveAlike above o × StampAlike at u
       PhaseAlike (Check s c) x = (u : Site ℕ) × (d : Child ℕ V) × (x ≡ Check u d) × SiteAlike s u × (IsTaken s.at → SeesAlike s c u d)
-      PhaseAlike (CheckUncopied at) x = (u : Site ℕ) × (d : Child ℕ V) × (x ≡ Check u d) × SeatAlike at u.at
-      PhaseAlike (CheckMiss p at common byte) x = (q : Parent ℕ) × (u : Stamp ℕ) × (x ≡ CheckMiss q u common byte) × ParentAlike p q × SeatAlike at u
-      PhaseAlike (CheckDown p at c) x = (u : Stamp ℕ) × (w : Over ℕ) × (n : ℕ) × (x ≡ CheckDown u w n) × SeatAlike p u × OverAlike at w × Named c n
-      PhaseAlike (CheckOld p s v) x = (q : Stamp ℕ) × (u : Site ℕ) × (x ≡ CheckOld q u v) × SeatAlike p q × ReadAlike s u
+      PhaseAlike (CheckUncopied at) x = (u : Site ℕ) × (d : Child ℕ V) × (x ≡ Check u d) × StampAlike at u.at
+      PhaseAlike (CheckMiss p at common byte) x = (q : Parent ℕ) × (u : Stamp ℕ) × (x ≡ CheckMiss q u common byte) × ParentAlike p q × StampAlike at u
+      PhaseAlike (CheckDown p at c) x = (u : Stamp ℕ) × (w : Over ℕ) × (n : ℕ) × (x ≡ CheckDown u w n) × StampAlike p u × OverAlike at w × Named c n
+      PhaseAlike (CheckOld p s v) x = (q : Stamp ℕ) × (u : Site ℕ) × (x ≡ CheckOld q u v) × StampAlike p q × ReadAlike s u
       PhaseAlike (MakeLeaf s) x = (u : Site ℕ) × (x ≡ MakeLeaf u) × ReadAlike s u × (u.full ≡ s.full)
       PhaseAlike (MakeGreater s p leaf) x = (u : Site ℕ) × (q : Parent ℕ) × (o : Option ℕ) × (x ≡ MakeGreater u q o) × ReadAlike s u × ParentAlike p q × MadeAlike leaf o
-      PhaseAlike (MakeTop p at common byte) x = (q : Parent ℕ) × (u : Stamp ℕ) × (x ≡ MakeTop q u common byte) × ParentAlike p q × SeatAlike at u
-      PhaseAlike (MakeBeside p at common byte top) x = (q : Parent ℕ) × (u : Stamp ℕ) × (n : ℕ) × (x ≡ MakeBeside q u common byte n) × ParentAlike p q × SeatAlike at u × Named top n
+      PhaseAlike (MakeTop p at common byte) x = (q : Parent ℕ) × (u : Stamp ℕ) × (x ≡ MakeTop q u common byte) × ParentAlike p q × StampAlike at u
+      PhaseAlike (MakeBeside p at common byte top) x = (q : Parent ℕ) × (u : Stamp ℕ) × (n : ℕ) × (x ≡ MakeBeside q u common byte n) × ParentAlike p q × StampAlike at u × Named top n
       PhaseAlike (MakeLesser s p g r) x = (u : Site ℕ) × (q : Parent ℕ) × (o : Option (Parent ℕ)) × (x ≡ MakeLesser u q o r) × ReadAlike s u × ParentAlike p q × TopAlike g o
       PhaseAlike (AskOld s v) x = (u : Site ℕ) × (x ≡ AskOld u v) × ReadAlike s u
       PhaseAlike (AskNew plan) x = (y : Plan ℕ) × (x ≡ AskNew y) × PlanAlike plan y
-      PhaseAlike (Confirm at r) x = (u : Stamp ℕ) × (x ≡ Confirm u r) × SeatAlike at u
-      PhaseAlike (CheckAbove p one r) x = (q : Stamp ℕ) × (u : One ℕ) × (x ≡ CheckAbove q u r) × SeatAlike p q × OneAlike one u
+      PhaseAlike (Confirm at r) x = (u : Stamp ℕ) × (x ≡ Confirm u r) × StampAlike at u
+      PhaseAlike (CheckAbove p one r) x = (q : Stamp ℕ) × (u : One ℕ) × (x ≡ CheckAbove q u r) × StampAlike p q × OneAlike one u
       PhaseAlike (UpgradeOne one r) x = (u : One ℕ) × (x ≡ UpgradeOne u r) × OneAlike one u
       PhaseAlike (ChangeOne one r) x = (u : One ℕ) × (x ≡ ChangeOne u r) × OneAlike one u
       PhaseAlike (UpgradeTop g two r) x = (q : Parent ℕ) × (u : Two ℕ) × (x ≡ UpgradeTop q u r) × ParentAlike g q × TwoAlike two u
@@ -236,11 +236,11 @@ module _ {C : Type 0} (order : List ℕ) (number : C → ℕ) where
       PhaseAlike (UnlockBelow c p r) x = (n : ℕ) × (q : ℕ) × (x ≡ UnlockBelow n q r) × Named c n × Named p q
       PhaseAlike (Unlock c r) x = (n : ℕ) × (x ≡ Unlock n r) × Named c n
       PhaseAlike (Unwind c next e) x = (n : ℕ) × (o : Option ℕ) × (x ≡ Unwind n o e) × Named c n × MadeAlike next o
-      PhaseAlike (Sweep s) x = (t : Scan ℕ V) × (x ≡ Sweep t) × ScanAlike s t
+      PhaseAlike (Scan s) x = (t : ScanState ℕ V) × (x ≡ Scan t) × ScanAlike s t
       PhaseAlike Ended x = x ≡ Ended
 
       -- a step's report, and the phase after it
-      pub record TurnAlike (t : NextPhase C V) (u : NextPhase ℕ V) : Type 0 where
+      pub record NextPhaseAlike (t : NextPhase C V) (u : NextPhase ℕ V) : Type 0 where
         pub report : u.report ≡ t.report
         pub phase : PhaseAlike t.phase u.phase
 
@@ -268,7 +268,7 @@ pub record WentAlike {C V : Type 0} (order : List ℕ) (number : C → ℕ) (h :
   pub ordered : Ordered now h
   pub made : w.made ≡ length now
   pub given_is : w.given ≡ given
-  pub turn : TurnAlike now number h t w.turn
+  pub next_phase : NextPhaseAlike now number h t w.next_phase
   pub heap : HeapAlike now h w.heap
 
 -- and the call is the same after it

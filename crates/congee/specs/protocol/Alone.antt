@@ -13,88 +13,88 @@ use Rattle.congee.specs.declared.protocol.phase.Site.{Site}
 use Rattle.congee.specs.declared.protocol.phase.Plan.{Plan}
 use Rattle.congee.specs.declared.protocol.phase.Plan.TheVariants.{Here, Above}
 use Rattle.congee.specs.declared.protocol.phase.Phase.{Phase}
-use Rattle.congee.specs.declared.protocol.phase.Phase.TheVariants.{New, Version, Read, Check, CheckUncopied, CheckMiss, CheckDown, CheckOld, MakeLeaf, MakeGreater, MakeTop, MakeBeside, MakeLesser, AskOld, AskNew, Confirm, CheckAbove, UpgradeOne, ChangeOne, UpgradeTop, UpgradeAbove, UpgradeBelow, ChangeTwo, Obsolete, Retire, UnlockBelow, Unlock, Unwind, Sweep, Ended}
+use Rattle.congee.specs.declared.protocol.phase.Phase.TheVariants.{New, Version, Read, Check, CheckUncopied, CheckMiss, CheckDown, CheckOld, MakeLeaf, MakeGreater, MakeTop, MakeBeside, MakeLesser, AskOld, AskNew, Confirm, CheckAbove, UpgradeOne, ChangeOne, UpgradeTop, UpgradeAbove, UpgradeBelow, ChangeTwo, Obsolete, Retire, UnlockBelow, Unlock, Unwind, Scan, Ended}
 use Rattle.congee.specs.declared.protocol.machine.Machine.{Machine}
-use Rattle.congee.specs.declared.protocol.sweep.Rung.{Rung}
-use Rattle.congee.specs.declared.protocol.sweep.Stage.{Stage}
-use Rattle.congee.specs.declared.protocol.sweep.Stage.TheVariants as stage
-use Rattle.congee.specs.declared.protocol.sweep.Sweep.{Sweep as Scan}
+use Rattle.congee.specs.declared.protocol.scan.Rung.{Rung}
+use Rattle.congee.specs.declared.protocol.scan.Stage.{Stage}
+use Rattle.congee.specs.declared.protocol.scan.Stage.TheVariants as stage
+use Rattle.congee.specs.declared.protocol.scan.ScanState.{ScanState as ScanState}
 use Rattle.congee.specs.Heap.{Node, Hung, Nothing, Below, Holds, is_free, is_taken}
 use Rattle.congee.specs.protocol.Holdings.{LockedBy}
-use Rattle.congee.specs.protocol.SweepSteps.{rungs_of}
+use Rattle.congee.specs.protocol.ScanSteps.{rungs_of}
 use Rattle.congee.specs.declared.keys.TheConstants.{KEY_BYTES}
 use Rattle.congee.specs.declared.forms.prefix.TheConstants.{MAX_PREFIX_LEN}
 
 -- the nodes whose lock words a call is yet to compare with the ones that it took
-abbrev pub seats_if : {C : Type 0} → Option (Stamp C) → List (Stamp C)
-seats_if None = []
-seats_if (Some p) = p ∷ []
+abbrev pub stamps_if : {C : Type 0} → Option (Stamp C) → List (Stamp C)
+stamps_if None = []
+stamps_if (Some p) = p ∷ []
 
 -- that of the node above both, if there is one
-abbrev pub seats_top : {C : Type 0} → Option (Parent C) → List (Stamp C)
-seats_top None = []
-seats_top (Some p) = p.seat ∷ []
+abbrev pub stamps_top : {C : Type 0} → Option (Parent C) → List (Stamp C)
+stamps_top None = []
+stamps_top (Some p) = p.stamp ∷ []
 
 -- those of the nodes above, if there are any
-abbrev pub seats_over : {C : Type 0} → Option (Over C) → List (Stamp C)
-seats_over None = []
-seats_over (Some u) = u.near.seat ∷ seats_top u.far
+abbrev pub stamps_over : {C : Type 0} → Option (Over C) → List (Stamp C)
+stamps_over None = []
+stamps_over (Some u) = u.near.stamp ∷ stamps_top u.far
 
 -- those of the node at hand and of the nodes above
-abbrev pub seats_site : {C : Type 0} → Site C → List (Stamp C)
-seats_site s = s.at ∷ seats_over s.above
+abbrev pub stamps_site : {C : Type 0} → Site C → List (Stamp C)
+stamps_site s = s.at ∷ stamps_over s.above
 
 -- those of a plan
-abbrev pub seats_plan : {C : Type 0} → Plan C → List (Stamp C)
-seats_plan (Here check one) = one.at ∷ seats_if check
-seats_plan (Above two) = two.above.seat ∷ two.at ∷ []
+abbrev pub stamps_plan : {C : Type 0} → Plan C → List (Stamp C)
+stamps_plan (Here check one) = one.at ∷ stamps_if check
+stamps_plan (Above two) = two.above.stamp ∷ two.at ∷ []
 
 -- those of a scan's way
-abbrev pub seats_rungs : {C : Type 0} → List (Rung C) → List (Stamp C)
-seats_rungs [] = []
-seats_rungs (r ∷ rest) = r.at ∷ seats_rungs rest
+abbrev pub stamps_rungs : {C : Type 0} → List (Rung C) → List (Stamp C)
+stamps_rungs [] = []
+stamps_rungs (r ∷ rest) = r.at ∷ stamps_rungs rest
 
 -- those of a scan, by its stage
-abbrev pub seats_sweep : {C V : Type 0} → Scan C V → Stage C V → List (Stamp C)
-seats_sweep s stage.New = []
-seats_sweep s (stage.Enter n x) = seats_rungs (rungs_of s.above)
-seats_sweep s (stage.Look r) = r.at ∷ seats_rungs (rungs_of s.above)
-seats_sweep s (stage.Check r x) = r.at ∷ seats_rungs (rungs_of s.above)
-seats_sweep s stage.Full = []
-seats_sweep s stage.Over = []
+abbrev pub stamps_scan : {C V : Type 0} → ScanState C V → Stage C V → List (Stamp C)
+stamps_scan s stage.New = []
+stamps_scan s (stage.Enter n x) = stamps_rungs (rungs_of s.above)
+stamps_scan s (stage.Look r) = r.at ∷ stamps_rungs (rungs_of s.above)
+stamps_scan s (stage.Check r x) = r.at ∷ stamps_rungs (rungs_of s.above)
+stamps_scan s stage.Full = []
+stamps_scan s stage.Over = []
 
 -- those of a call, by its phase
-abbrev pub seats : {C V : Type 0} → Phase C V → List (Stamp C)
-seats New = []
-seats (Version above n) = seats_over above
-seats (Read above at) = at ∷ seats_over above
-seats (Check s c) = seats_site s
-seats (CheckUncopied at) = at ∷ []
-seats (CheckMiss p at common byte) = p.seat ∷ at ∷ []
-seats (CheckDown p at c) = p ∷ at.near.seat ∷ seats_top at.far
-seats (CheckOld p s v) = p ∷ seats_site s
-seats (MakeLeaf s) = seats_site s
-seats (MakeGreater s p leaf) = p.seat ∷ s.at ∷ []
-seats (MakeTop p at common byte) = p.seat ∷ at ∷ []
-seats (MakeBeside p at common byte top) = p.seat ∷ at ∷ []
-seats (MakeLesser s p g r) = p.seat ∷ s.at ∷ seats_top g
-seats (AskOld s v) = seats_site s
-seats (AskNew plan) = seats_plan plan
-seats (Confirm at r) = at ∷ []
-seats (CheckAbove p one r) = p ∷ one.at ∷ []
-seats (UpgradeOne one r) = one.at ∷ []
-seats (ChangeOne one r) = []
-seats (UpgradeTop g two r) = g.seat ∷ two.above.seat ∷ two.at ∷ []
-seats (UpgradeAbove two r) = two.above.seat ∷ two.at ∷ []
-seats (UpgradeBelow two r) = two.at ∷ []
-seats (ChangeTwo two r) = []
-seats (Obsolete n next p r) = []
-seats (Retire n next p r) = []
-seats (UnlockBelow n p r) = []
-seats (Unlock n r) = []
-seats (Unwind n next e) = []
-seats (Sweep s) = seats_sweep s s.stage
-seats Ended = []
+abbrev pub stamps : {C V : Type 0} → Phase C V → List (Stamp C)
+stamps New = []
+stamps (Version above n) = stamps_over above
+stamps (Read above at) = at ∷ stamps_over above
+stamps (Check s c) = stamps_site s
+stamps (CheckUncopied at) = at ∷ []
+stamps (CheckMiss p at common byte) = p.stamp ∷ at ∷ []
+stamps (CheckDown p at c) = p ∷ at.near.stamp ∷ stamps_top at.far
+stamps (CheckOld p s v) = p ∷ stamps_site s
+stamps (MakeLeaf s) = stamps_site s
+stamps (MakeGreater s p leaf) = p.stamp ∷ s.at ∷ []
+stamps (MakeTop p at common byte) = p.stamp ∷ at ∷ []
+stamps (MakeBeside p at common byte top) = p.stamp ∷ at ∷ []
+stamps (MakeLesser s p g r) = p.stamp ∷ s.at ∷ stamps_top g
+stamps (AskOld s v) = stamps_site s
+stamps (AskNew plan) = stamps_plan plan
+stamps (Confirm at r) = at ∷ []
+stamps (CheckAbove p one r) = p ∷ one.at ∷ []
+stamps (UpgradeOne one r) = one.at ∷ []
+stamps (ChangeOne one r) = []
+stamps (UpgradeTop g two r) = g.stamp ∷ two.above.stamp ∷ two.at ∷ []
+stamps (UpgradeAbove two r) = two.above.stamp ∷ two.at ∷ []
+stamps (UpgradeBelow two r) = two.at ∷ []
+stamps (ChangeTwo two r) = []
+stamps (Obsolete n next p r) = []
+stamps (Retire n next p r) = []
+stamps (UnlockBelow n p r) = []
+stamps (Unlock n r) = []
+stamps (Unwind n next e) = []
+stamps (Scan s) = stamps_scan s s.stage
+stamps Ended = []
 
 -- each lock word is the one taken
 abbrev pub AreTaken : {C V : Type 0} → (C → ℕ) → (ℕ → Node V) → List (Stamp C) → Type 0
@@ -109,12 +109,12 @@ IsFreeAt number h _ = Unit {0}
 -- the same of a call, by its phase
 abbrev pub IsClear : {C V : Type 0} → (C → ℕ) → (ℕ → Node V) → Phase C V → Type 0
 IsClear number h (Unwind n next None) = ⊥
-IsClear number h (Sweep s) = IsFreeAt number h s.stage
+IsClear number h (Scan s) = IsFreeAt number h s.stage
 IsClear number h _ = Unit {0}
 
 -- nobody has changed what the call is yet to rely on
 abbrev pub IsUndisturbed : {C V : Type 0} → (C → ℕ) → (ℕ → Node V) → Phase C V → Type 0
-IsUndisturbed number h s = AreTaken number h (seats s) × IsClear number h s
+IsUndisturbed number h s = AreTaken number h (stamps s) × IsClear number h s
 
 -- no other call holds a lock
 abbrev pub NoOtherLocks : {C V : Type 0} → (C → ℕ) → ℕ → List (Machine C V) → Type 0
@@ -134,13 +134,13 @@ HasAnswer kind _ answer = Unit {0}
 
 -- the call has ended
 abbrev pub IsPast : {C V : Type 0} → Phase C V → Type 0
-IsPast (Sweep s) = s.stage ≡ stage.Over
+IsPast (Scan s) = s.stage ≡ stage.Over
 IsPast Ended = Unit {0}
 IsPast _ = ⊥
 
 -- it is one on a key, and has not ended
 abbrev pub IsPoint : {C V : Type 0} → Phase C V → Type 0
-IsPoint (Sweep s) = ⊥
+IsPoint (Scan s) = ⊥
 IsPoint Ended = ⊥
 IsPoint _ = Unit {0}
 
@@ -159,12 +159,13 @@ steps_next None k = 0
 steps_next (Some c) k = k
 
 module _ {V : Type 0} where
-  -- the nodes, and the pairs, at and below what hangs at a byte
+  -- the nodes at and below what hangs at a byte
   abbrev pub nodes_at : (ℕ → ℕ) → Hung V → ℕ
   nodes_at go Nothing = 0
   nodes_at go (Below c) = go c
   nodes_at go (Holds v) = 0
 
+  -- the pairs at and below what hangs at a byte
   abbrev pub pairs_at : (ℕ → ℕ) → Hung V → ℕ
   pairs_at go Nothing = 0
   pairs_at go (Below c) = go c
@@ -213,13 +214,13 @@ module _ {V : Type 0} where
   steps_found number h f r least.Uncopied = 1
 
   -- the steps that a scan takes at most from here on
-  abbrev pub steps_sweep : {C : Type 0} → (C → ℕ) → (ℕ → Node V) → Scan C V → Stage C V → ℕ
-  steps_sweep number h s stage.New = 1 + steps_under h KEY_BYTES 0 0
-  steps_sweep number h s (stage.Enter n x) = 1 + steps_under h (KEY_BYTES - s.above.len) (number n) 0 + steps_way number h KEY_BYTES (rungs_of s.above)
-  steps_sweep number h s (stage.Look r) = steps_under h (KEY_BYTES - s.above.len) (number r.at.node) r.from + steps_way number h KEY_BYTES (rungs_of s.above)
-  steps_sweep number h s (stage.Check r x) = steps_found number h (KEY_BYTES - s.above.len) r x + steps_way number h KEY_BYTES (rungs_of s.above)
-  steps_sweep number h s stage.Full = 1
-  steps_sweep number h s stage.Over = 0
+  abbrev pub steps_scan : {C : Type 0} → (C → ℕ) → (ℕ → Node V) → ScanState C V → Stage C V → ℕ
+  steps_scan number h s stage.New = 1 + steps_under h KEY_BYTES 0 0
+  steps_scan number h s (stage.Enter n x) = 1 + steps_under h (KEY_BYTES - s.above.len) (number n) 0 + steps_way number h KEY_BYTES (rungs_of s.above)
+  steps_scan number h s (stage.Look r) = steps_under h (KEY_BYTES - s.above.len) (number r.at.node) r.from + steps_way number h KEY_BYTES (rungs_of s.above)
+  steps_scan number h s (stage.Check r x) = steps_found number h (KEY_BYTES - s.above.len) r x + steps_way number h KEY_BYTES (rungs_of s.above)
+  steps_scan number h s stage.Full = 1
+  steps_scan number h s stage.Over = 0
 
   -- the steps that a call takes at most from here on
   abbrev pub steps_left : {C : Type 0} → (C → ℕ) → (ℕ → Node V) → Phase C V → ℕ
@@ -251,7 +252,7 @@ module _ {V : Type 0} where
   steps_left number h (UnlockBelow n p r) = 2
   steps_left number h (Unlock n r) = 1
   steps_left number h (Unwind n next e) = 1 + steps_next next 1
-  steps_left number h (Sweep s) = steps_sweep number h s s.stage
+  steps_left number h (Scan s) = steps_scan number h s s.stage
   steps_left number h Ended = 0
 
 -- and a whole call after its begin: on one key, or a scan

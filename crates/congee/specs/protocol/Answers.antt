@@ -6,7 +6,7 @@ use Rattle.congee.specs.declared.protocol.phase.Phase.{Phase}
 use Rattle.congee.specs.declared.protocol.phase.Phase.TheVariants.{Obsolete, Retire, UnlockBelow, Unlock}
 use Rattle.congee.specs.declared.protocol.machine.Outcome.{Outcome}
 use Rattle.congee.specs.declared.protocol.machine.Outcome.TheVariants.{Done}
-use Rattle.congee.specs.declared.protocol.turn.NextPhase.{NextPhase}
+use Rattle.congee.specs.declared.protocol.next_phase.NextPhase.{NextPhase}
 use Rattle.congee.specs.Heap.{Node, value_at}
 use Rattle.congee.specs.Keys.{key_bytes}
 use Rattle.congee.specs.declared.protocol.machine.Machine.{Machine}
@@ -36,12 +36,12 @@ reply_in (UnlockBelow n p r) = Some r
 reply_in (Unlock n r) = Some r
 reply_in _ = None
 
--- the reply that a turn gives, or will give
+-- the reply that a step's report or its next phase gives, or will give
 abbrev pub told_or : {V : Type 0} → Option (Reply V) → Outcome V → Option (Reply V)
 told_or later (Done r) = Some r
 told_or later _ = later
 
--- the same of a turn
+-- the same of a step
 abbrev pub told : {C V : Type 0} → NextPhase C V → Option (Reply V)
 told t = told_or (reply_in t.phase) t.report.outcome
 

@@ -117,10 +117,11 @@ pub record ChangeGives {V : Type 0} (h : ℕ → Node V) (n b : ℕ) (x : Hung V
   pub count : (h' n).count + weight ((h n).children b) ≡ (h n).count + weight x
   pub others : (m : ℕ) → m ≢ n → h' m ≡ h m
 
--- a node holds values alone, or nodes alone
+-- a node holds values alone: at no byte a node
 abbrev pub HoldsValues : {V : Type 0} → Node V → Type 0
 HoldsValues n = (b c : ℕ) → n.children b ≢ Below c
 
+-- a node holds nodes alone: at no byte a value
 abbrev pub HoldsNodes : {V : Type 0} → Node V → Type 0
 HoldsNodes {V} n = (b : ℕ) (v : V) → n.children b ≢ Holds v
 

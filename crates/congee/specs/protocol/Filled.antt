@@ -63,7 +63,7 @@ FillsTwo number h (Split top leaf common byte) m q k n = ((h (number top)).capac
 
 -- the same of the nodes that the change names
 abbrev pub FillsAt : {C V : Type 0} → (C → ℕ) → (ℕ → Node V) → Two C → Type 0
-FillsAt number h two = FillsTwo number h two.change (number two.above.seat.node) (h (number two.above.seat.node)) (number two.at.node) (h (number two.at.node))
+FillsAt number h two = FillsTwo number h two.change (number two.above.stamp.node) (h (number two.above.stamp.node)) (number two.at.node) (h (number two.at.node))
 
 -- as long as the nodes' lock words are those taken
 abbrev pub MayFillOne : {C V : Type 0} → (C → ℕ) → (ℕ → Node V) → Option V → One C → Type 0
@@ -75,7 +75,7 @@ MayFillHalf number h two = is_taken (h (number two.at.node)) two.at.version ≡ 
 
 -- and of one with neither locked
 abbrev pub MayFillTwo : {C V : Type 0} → (C → ℕ) → (ℕ → Node V) → Two C → Type 0
-MayFillTwo number h two = is_taken (h (number two.above.seat.node)) two.above.seat.version ≡ true → MayFillHalf number h two
+MayFillTwo number h two = is_taken (h (number two.above.stamp.node)) two.above.stamp.version ≡ true → MayFillHalf number h two
 
 -- and of a plan
 abbrev pub MayFillPlan : {C V : Type 0} → (C → ℕ) → (ℕ → Node V) → V → Plan C → Type 0

@@ -21,14 +21,14 @@ IsMade number (Some c) n = n ≡ number c
 -- the node above both, where there is one
 abbrev pub IsTop : {C : Type 0} → (C → ℕ) → Option (Parent C) → ℕ → Type 0
 IsTop number None n = ⊥
-IsTop number (Some p) n = n ≡ number p.seat.node
+IsTop number (Some p) n = n ≡ number p.stamp.node
 
 -- the call holds the lock of node n
 abbrev pub LockedBy : {C V : Type 0} → (C → ℕ) → Phase C V → ℕ → Type 0
 LockedBy number (ChangeOne one r) n = n ≡ number one.at.node
 LockedBy number (UpgradeAbove two r) n = IsTop number two.top n
-LockedBy number (UpgradeBelow two r) n = (n ≡ number two.above.seat.node) ⊎ IsTop number two.top n
-LockedBy number (ChangeTwo two r) n = ((n ≡ number two.above.seat.node) ⊎ (n ≡ number two.at.node)) ⊎ IsTop number two.top n
+LockedBy number (UpgradeBelow two r) n = (n ≡ number two.above.stamp.node) ⊎ IsTop number two.top n
+LockedBy number (ChangeTwo two r) n = ((n ≡ number two.above.stamp.node) ⊎ (n ≡ number two.at.node)) ⊎ IsTop number two.top n
 LockedBy number (Obsolete m next p r) n = ((n ≡ number p) ⊎ (n ≡ number m)) ⊎ IsMade number next n
 LockedBy number (Retire m next p r) n = ((n ≡ number p) ⊎ (n ≡ number m)) ⊎ IsMade number next n
 LockedBy number (UnlockBelow m p r) n = (n ≡ number p) ⊎ (n ≡ number m)

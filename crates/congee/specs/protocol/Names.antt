@@ -14,29 +14,31 @@ use Rattle.congee.specs.declared.protocol.phase.Two.{Two}
 use Rattle.congee.specs.declared.protocol.phase.Plan.{Plan}
 use Rattle.congee.specs.declared.protocol.phase.Plan.TheVariants.{Here, Above}
 use Rattle.congee.specs.declared.protocol.phase.Phase.{Phase}
-use Rattle.congee.specs.declared.protocol.phase.Phase.TheVariants.{New, Version, Read, Check, CheckUncopied, CheckMiss, CheckDown, CheckOld, MakeLeaf, MakeGreater, MakeTop, MakeBeside, MakeLesser, AskOld, AskNew, Confirm, CheckAbove, UpgradeOne, ChangeOne, UpgradeTop, UpgradeAbove, UpgradeBelow, ChangeTwo, Obsolete, Retire, UnlockBelow, Unlock, Unwind, Sweep, Ended}
+use Rattle.congee.specs.declared.protocol.phase.Phase.TheVariants.{New, Version, Read, Check, CheckUncopied, CheckMiss, CheckDown, CheckOld, MakeLeaf, MakeGreater, MakeTop, MakeBeside, MakeLesser, AskOld, AskNew, Confirm, CheckAbove, UpgradeOne, ChangeOne, UpgradeTop, UpgradeAbove, UpgradeBelow, ChangeTwo, Obsolete, Retire, UnlockBelow, Unlock, Unwind, Scan, Ended}
 use Rattle.congee.specs.declared.protocol.machine.Machine.{Machine}
 use Rattle.congee.specs.Heap.{Node, Below}
 use Rattle.congee.specs.protocol.Handing.{InTree}
 use Rattle.congee.specs.Keys.{key_bytes}
 use Rattle.congee.specs.Notes.{Note, Tree, LockWords}
 use Rattle.congee.specs.protocol.Protocol.{Known}
-use Rattle.congee.specs.protocol.SweepKnown.{names_sweep}
+use Rattle.congee.specs.protocol.ScanKnown.{names_scan}
 
--- the node above, a node with its version, a made leaf, where there is one
+-- the node above, where there is one
 abbrev pub name_above : {C : Type 0} → (C → ℕ) → Option (Parent C) → List ℕ
 name_above number None = []
-name_above number (Some p) = number p.seat.node ∷ []
+name_above number (Some p) = number p.stamp.node ∷ []
 
 -- the two nodes above
 abbrev pub names_over : {C : Type 0} → (C → ℕ) → Option (Over C) → List ℕ
 names_over number None = []
-names_over number (Some u) = number u.near.seat.node ∷ name_above number u.far
+names_over number (Some u) = number u.near.stamp.node ∷ name_above number u.far
 
-abbrev pub name_seated : {C : Type 0} → (C → ℕ) → Option (Stamp C) → List ℕ
-name_seated number None = []
-name_seated number (Some p) = number p.node ∷ []
+-- a node with its version, where there is one
+abbrev pub name_stamped : {C : Type 0} → (C → ℕ) → Option (Stamp C) → List ℕ
+name_stamped number None = []
+name_stamped number (Some p) = number p.node ∷ []
 
+-- a leaf that was made, where there is one
 abbrev pub name_made : {C : Type 0} → (C → ℕ) → Option C → List ℕ
 name_made number None = []
 name_made number (Some c) = number c ∷ []
@@ -66,11 +68,11 @@ names_one number one = number one.at.node ∷ names_for_one number one.change
 
 -- those of a change of two nodes
 abbrev pub names_two : {C : Type 0} → (C → ℕ) → Two C → List ℕ
-names_two number two = number two.above.seat.node ∷ number two.at.node ∷ name_above number two.top ++ names_for_two number two.change
+names_two number two = number two.above.stamp.node ∷ number two.at.node ∷ name_above number two.top ++ names_for_two number two.change
 
 -- those of a plan
 abbrev pub names_plan : {C : Type 0} → (C → ℕ) → Plan C → List ℕ
-names_plan number (Here check one) = name_seated number check ++ names_one number one
+names_plan number (Here check one) = name_stamped number check ++ names_one number one
 names_plan number (Above two) = names_two number two
 
 -- the names that a call has in a phase: the nodes that it looks at, has locked, has made. What a read found at a
@@ -81,21 +83,21 @@ names number (Version p c) = number c ∷ names_over number p
 names number (Read p at) = number at.node ∷ names_over number p
 names number (Check s c) = names_site number s
 names number (CheckUncopied at) = number at.node ∷ []
-names number (CheckMiss p at common byte) = number p.seat.node ∷ number at.node ∷ []
+names number (CheckMiss p at common byte) = number p.stamp.node ∷ number at.node ∷ []
 names number (CheckDown p at c) = number p.node ∷ number c ∷ names_over number (Some at)
 names number (CheckOld p s v) = number p.node ∷ names_site number s
 names number (MakeLeaf s) = names_site number s
-names number (MakeGreater s p leaf) = number p.seat.node ∷ name_made number leaf ++ names_site number s
-names number (MakeTop p at common byte) = number p.seat.node ∷ number at.node ∷ []
-names number (MakeBeside p at common byte top) = number p.seat.node ∷ number at.node ∷ number top ∷ []
-names number (MakeLesser s p g r) = number p.seat.node ∷ name_above number g ++ names_site number s
+names number (MakeGreater s p leaf) = number p.stamp.node ∷ name_made number leaf ++ names_site number s
+names number (MakeTop p at common byte) = number p.stamp.node ∷ number at.node ∷ []
+names number (MakeBeside p at common byte top) = number p.stamp.node ∷ number at.node ∷ number top ∷ []
+names number (MakeLesser s p g r) = number p.stamp.node ∷ name_above number g ++ names_site number s
 names number (AskOld s v) = names_site number s
 names number (AskNew plan) = names_plan number plan
 names number (Confirm at r) = number at.node ∷ []
 names number (CheckAbove p one r) = number p.node ∷ names_one number one
 names number (UpgradeOne one r) = names_one number one
 names number (ChangeOne one r) = names_one number one
-names number (UpgradeTop g two r) = number g.seat.node ∷ names_two number two
+names number (UpgradeTop g two r) = number g.stamp.node ∷ names_two number two
 names number (UpgradeAbove two r) = names_two number two
 names number (UpgradeBelow two r) = names_two number two
 names number (ChangeTwo two r) = names_two number two
@@ -104,7 +106,7 @@ names number (Retire n next p r) = number n ∷ number p ∷ name_made number ne
 names number (UnlockBelow n p r) = number n ∷ number p ∷ []
 names number (Unlock n r) = number n ∷ []
 names number (Unwind n next e) = number n ∷ name_made number next
-names number (Sweep s) = names_sweep number s
+names number (Scan s) = names_scan number s
 names number Ended = []
 
 -- where a call has a name from after a step: it had it before; it is the root's; the step made the node; or the node

@@ -65,7 +65,7 @@ pub record SameWord (n n' : PlainNode) : Type 0 where
   pub retired_is : n'.retired ≡ n.retired
 
 -- a node gives its children to another one, and keeps the names of nodes
-pub record HandsOver (m c m' c' : PlainNode) : Type 0 where
+pub record MovesTo (m c m' c' : PlainNode) : Type 0 where
   pub old : SameWord m m'
   pub new : SameWord c c'
   pub moved : c'.children.items ≡ m.children.items

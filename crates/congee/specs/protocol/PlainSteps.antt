@@ -32,13 +32,13 @@ use Rattle.congee.specs.declared.protocol.phase.Two.{Two}
 use Rattle.congee.specs.declared.protocol.phase.Plan.{Plan}
 use Rattle.congee.specs.declared.protocol.phase.Plan.TheVariants.{Above}
 use Rattle.congee.specs.declared.protocol.phase.Phase.{Phase}
-use Rattle.congee.specs.declared.protocol.phase.Phase.TheVariants.{New, Version, Read, Check, CheckUncopied, CheckMiss, CheckDown, CheckOld, MakeLeaf, MakeGreater, MakeTop, MakeBeside, MakeLesser, AskOld, AskNew, Confirm, CheckAbove, UpgradeOne, ChangeOne, UpgradeTop, UpgradeAbove, UpgradeBelow, ChangeTwo, Obsolete, Retire, UnlockBelow, Unlock, Unwind, Sweep, Ended}
-use Rattle.congee.specs.declared.protocol.sweep.Rung.{Rung}
-use Rattle.congee.specs.declared.protocol.sweep.Stage.{Stage}
-use Rattle.congee.specs.declared.protocol.sweep.Stage.TheVariants as stage
-use Rattle.congee.specs.declared.protocol.sweep.Sweep.{Sweep as Scan}
-use Rattle.congee.specs.declared.protocol.sweep.ScanReport.TheVariants as told
-use Rattle.congee.specs.declared.protocol.turn.NextPhase.{NextPhase}
+use Rattle.congee.specs.declared.protocol.phase.Phase.TheVariants.{New, Version, Read, Check, CheckUncopied, CheckMiss, CheckDown, CheckOld, MakeLeaf, MakeGreater, MakeTop, MakeBeside, MakeLesser, AskOld, AskNew, Confirm, CheckAbove, UpgradeOne, ChangeOne, UpgradeTop, UpgradeAbove, UpgradeBelow, ChangeTwo, Obsolete, Retire, UnlockBelow, Unlock, Unwind, Scan, Ended}
+use Rattle.congee.specs.declared.protocol.scan.Rung.{Rung}
+use Rattle.congee.specs.declared.protocol.scan.Stage.{Stage}
+use Rattle.congee.specs.declared.protocol.scan.Stage.TheVariants as stage
+use Rattle.congee.specs.declared.protocol.scan.ScanState.{ScanState as ScanState}
+use Rattle.congee.specs.declared.protocol.scan.ScanReport.TheVariants as scan_report
+use Rattle.congee.specs.declared.protocol.next_phase.NextPhase.{NextPhase}
 use Rattle.congee.specs.declared.protocol.machine.Machine.{Machine}
 use Rattle.congee.specs.declared.protocol.machine.Noise.{Noise}
 use Rattle.congee.specs.Heap.{Node, Hung, Nothing, Below, Holds, fits, child_for, version_of, is_taken}
@@ -46,8 +46,8 @@ use Rattle.congee.specs.Keys.{key_bytes}
 use Rattle.congee.specs.protocol.Events.{upgrade_gives, places, weight}
 use Rattle.congee.specs.protocol.Regions.{span}
 use Rattle.congee.specs.protocol.Seeing.{least_seen}
-use Rattle.congee.specs.protocol.Steps.{quiet, again, answered, finished, refused, decided, asking, adds, form_above, form_below, node_of, both, after_version, after_read, down, started, ready, unless_full, absent, replaced, emptied, is_same, after_miss, greater, value_hung, after_change, after_retire, after_unwind, given_up, swept}
-use Rattle.congee.specs.protocol.SweepSteps.{last_byte, pushed, moved, Swung, goes, over, anew, left, entered, filled, begins}
+use Rattle.congee.specs.protocol.Steps.{quiet, again, answered, finished, refused, decided, asking, adds, form_above, form_below, node_of, both, after_version, after_read, down, started, ready, unless_full, absent, replaced, emptied, is_same, after_miss, greater, value_hung, after_change, after_retire, after_unwind, given_up, after_scan}
+use Rattle.congee.specs.protocol.ScanSteps.{last_byte, pushed, moved, NextScan, goes, over, anew, left, entered, filled, begins}
 use Rattle.congee.specs.declared.forms.prefix.TheConstants.{MAX_PREFIX_LEN}
 
 -- what stands for each name in what an event says of a changed node
@@ -58,19 +58,23 @@ Mark = Unit {0}
 abbrev pub put : {V : Type 0} → (ℕ → Node V) → ℕ → Node V → ℕ → Node V
 put h n x m = cond (m == n) x (h m)
 
--- locked; unlocked, with the next version; marked; handed over; given back
+-- a node is locked
 abbrev pub lock : {V : Type 0} → (ℕ → Node V) → ℕ → ℕ → Node V
 lock h n = put h n (record (h n) { locked = true })
 
+-- it is unlocked, with the next version
 abbrev pub free : {V : Type 0} → (ℕ → Node V) → ℕ → ℕ → Node V
 free h n = put h n (record (h n) { version = (h n).version + 1; locked = false })
 
+-- it is marked obsolete
 abbrev pub mark : {V : Type 0} → (ℕ → Node V) → ℕ → ℕ → Node V
 mark h n = put h n (record (h n) { obsolete = true })
 
+-- it is handed over
 abbrev pub hand : {V : Type 0} → (ℕ → Node V) → ℕ → ℕ → Node V
 hand h n = put h n (record (h n) { retired = true })
 
+-- it is given back
 abbrev pub back : {V : Type 0} → (ℕ → Node V) → ℕ → ℕ → Node V
 back h n = put h n (record (h n) { destroyed = true; locked = false })
 
@@ -82,10 +86,11 @@ with_child n b x = record n { children = λ c. cond (c == b) x (n.children c); c
 abbrev pub hang : {V : Type 0} → (ℕ → Node V) → ℕ → ℕ → Hung V → ℕ → Node V
 hang h n b x = put h n (with_child (h n) b x)
 
--- node c has the children of node m; node m has none any more
+-- node c has the children of node m
 abbrev pub copy : {V : Type 0} → (ℕ → Node V) → ℕ → ℕ → ℕ → Node V
 copy h m c = put h c (record (h c) { children = (h m).children; count = (h m).count })
 
+-- node m has no children any more
 abbrev pub clear : {V : Type 0} → (ℕ → Node V) → ℕ → ℕ → Node V
 clear h m = put h m (record (h m) { children = λ b. Nothing; count = 0 })
 
@@ -122,10 +127,11 @@ unmarked child.Blank = child.Blank
 unmarked (child.Node m) = child.Node 0
 unmarked (child.Value v) = child.Value v
 
--- what a read finds at a node as it is, and at a changed one
+-- what a read finds at a node as it is
 abbrev pub looks : {V : Type 0} → Node V → List ℕ → Seen ℕ V
 looks n key = record { child = child_of (child_for n key); byte = slice_index key (length n.prefix); full = n.count == n.capacity; count = n.count }
 
+-- what a read finds at a changed node
 abbrev pub told_of : {V : Type 0} → ℕ → Option (Seen Mark V) → Seen ℕ V
 told_of byte None = record { child = child.Blank; byte = byte; full = false; count = 0 }
 told_of byte (Some x) = record { child = unmarked x.child; byte = byte; full = x.full; count = x.count }
@@ -185,20 +191,20 @@ abbrev pub region_of : List ℕ → Region
 region_of p = record { base = front 0 p * span (length p); depth = length p }
 
 -- the step of a scan
-abbrev pub followed : {V : Type 0} → (ℕ → Node V) → Scan ℕ V → Rung ℕ → Least ℕ V → Swung ℕ V
+abbrev pub followed : {V : Type 0} → (ℕ → Node V) → ScanState ℕ V → Rung ℕ → Least ℕ V → NextScan ℕ V
 followed h s r least.Nothing = left s
 followed h s r (least.Node byte c) = goes s (pushed s.above (moved r byte)) (stage.Enter c (region_of (h c).prefix))
 followed h s r (least.Value byte v) = filled s r byte v
-followed h s r least.Uncopied = over s (told.Refused refusal.Count)
+followed h s r least.Uncopied = over s (scan_report.Refused refusal.Count)
 
 -- a scan's step, by its stage
-abbrev pub swung : {V : Type 0} → ℕ → Option (Seen Mark V) → (ℕ → Node V) → Scan ℕ V → Stage ℕ V → Swung ℕ V
-swung root seen h s stage.New = begins root s (version_of (h root))
-swung root seen h s (stage.Enter n x) = entered root s n x (version_of (h n))
-swung root seen h s (stage.Look r) = goes s s.above (stage.Check r (least_of (h r.at.node) r.at.version r.from (last_byte s.last r.region) seen))
-swung root seen h s (stage.Check r x) = cond (is_taken (h r.at.node) r.at.version) (followed h s r x) (anew root s)
-swung root seen h s stage.Full = over s (told.Done s.count)
-swung root seen h s stage.Over = over s told.Running
+abbrev pub next_scan : {V : Type 0} → ℕ → Option (Seen Mark V) → (ℕ → Node V) → ScanState ℕ V → Stage ℕ V → NextScan ℕ V
+next_scan root seen h s stage.New = begins root s (version_of (h root))
+next_scan root seen h s (stage.Enter n x) = entered root s n x (version_of (h n))
+next_scan root seen h s (stage.Look r) = goes s s.above (stage.Check r (least_of (h r.at.node) r.at.version r.from (last_byte s.last r.region) seen))
+next_scan root seen h s (stage.Check r x) = cond (is_taken (h r.at.node) r.at.version) (followed h s r x) (anew root s)
+next_scan root seen h s stage.Full = over s (scan_report.Done s.count)
+next_scan root seen h s stage.Over = over s scan_report.Running
 
 -- what a call does that stands at a value
 abbrev pub asked : {V : Type 0} → Site ℕ → V → NextPhase ℕ V
@@ -212,7 +218,7 @@ at_old same _ new s v = asked s v
 -- it does so where nothing is above; else the node above is checked first
 abbrev pub added : {V : Type 0} → (V → V → Bool) → Kind V → Option V → Site ℕ → Option (Over ℕ) → V → NextPhase ℕ V
 added same kind new s None v = at_old same kind new s v
-added same kind new s (Some u) v = quiet (CheckOld u.near.seat s v)
+added same kind new s (Some u) v = quiet (CheckOld u.near.stamp s v)
 
 -- an exchange that found its old value
 abbrev pub exchanged : {V : Type 0} → (V → V → Bool) → Option V → Site ℕ → V → NextPhase ℕ V
@@ -269,34 +275,34 @@ change_one key new one (Link leaf) h = hang (hang h leaf (slice_index key MAX_PR
 
 -- the change of the node above both
 abbrev pub change_top : {V : Type 0} → Two ℕ → Double ℕ → Option (Parent ℕ) → (ℕ → Node V) → ℕ → Node V
-change_top two Collapse (Some g) h = hang h g.seat.node g.byte (Below (other_of (h two.above.seat.node) two.above.byte))
-change_top two (ShrinkAbove c) (Some g) h = hang (hang (copy h two.above.seat.node c) c two.above.byte Nothing) g.seat.node g.byte (Below c)
+change_top two Collapse (Some g) h = hang h g.stamp.node g.byte (Below (other_of (h two.above.stamp.node) two.above.byte))
+change_top two (ShrinkAbove c) (Some g) h = hang (hang (copy h two.above.stamp.node c) c two.above.byte Nothing) g.stamp.node g.byte (Below c)
 change_top two _ top h = h
 
 -- a change of two nodes
 abbrev pub change_two : {V : Type 0} → List ℕ → Option V → Two ℕ → Double ℕ → (ℕ → Node V) → ℕ → Node V
-change_two key new two Unlink h = hang h two.above.seat.node two.above.byte Nothing
+change_two key new two Unlink h = hang h two.above.stamp.node two.above.byte Nothing
 change_two key new two (Shrink c) h =
-    hang (hang (clear (copy h two.at.node c) two.at.node) c (slice_index key MAX_PREFIX_LEN) Nothing) two.above.seat.node two.above.byte (Below c)
+    hang (hang (clear (copy h two.at.node c) two.at.node) c (slice_index key MAX_PREFIX_LEN) Nothing) two.above.stamp.node two.above.byte (Below c)
 change_two key new two Collapse h = change_top two Collapse two.top h
 change_two key new two (ShrinkAbove c) h = change_top two (ShrinkAbove c) two.top h
 change_two key new two (Grow c) h =
-    hang (hang (clear (copy h two.at.node c) two.at.node) c (slice_index key MAX_PREFIX_LEN) (value_hung new)) two.above.seat.node two.above.byte (Below c)
+    hang (hang (clear (copy h two.at.node c) two.at.node) c (slice_index key MAX_PREFIX_LEN) (value_hung new)) two.above.stamp.node two.above.byte (Below c)
 change_two key new two (GrowLink c leaf byte) h =
-    hang (hang (copy (hang h leaf (slice_index key MAX_PREFIX_LEN) (value_hung new)) two.at.node c) c byte (Below leaf)) two.above.seat.node two.above.byte (Below c)
+    hang (hang (copy (hang h leaf (slice_index key MAX_PREFIX_LEN) (value_hung new)) two.at.node c) c byte (Below leaf)) two.above.stamp.node two.above.byte (Below c)
 change_two key new two (Split top leaf common byte) h =
-    hang (hang (hang (hang h leaf (slice_index key MAX_PREFIX_LEN) (value_hung new)) top byte (Below two.at.node)) top (slice_index key common) (Below leaf)) two.above.seat.node two.above.byte (Below top)
+    hang (hang (hang (hang h leaf (slice_index key MAX_PREFIX_LEN) (value_hung new)) top byte (Below two.at.node)) top (slice_index key common) (Below leaf)) two.above.stamp.node two.above.byte (Below top)
 
 -- what a step leaves: the call's value, its next phase with what the step reports, the nodes, and how many were made
 pub record Went (V : Type 0) : Type 0 where
   pub given : Option V
-  pub turn : NextPhase ℕ V
+  pub next_phase : NextPhase ℕ V
   pub heap : ℕ → Node V
   pub made : ℕ
 
 -- a step that leaves these
 abbrev pub went : {V : Type 0} → Option V → NextPhase ℕ V → (ℕ → Node V) → ℕ → Went V
-went new t h k = record { given = new; turn = t; heap = h; made = k }
+went new t h k = record { given = new; next_phase = t; heap = h; made = k }
 
 -- a check, and what follows where it succeeds
 abbrev pub passes : {V : Type 0} → (ℕ → Node V) → Stamp ℕ → ℕ → NextPhase ℕ V → NextPhase ℕ V
@@ -319,21 +325,21 @@ upgraded_one root new h k one r Exhausted = went new (refused refusal.Exhausted)
 
 -- that of the node above both
 abbrev pub upgraded_top : {V : Type 0} → ℕ → Option V → (ℕ → Node V) → ℕ → Parent ℕ → Two ℕ → Reply V → Upgrade → Went V
-upgraded_top root new h k g two r Locked = went new (quiet (UpgradeAbove (record two { top = Some g }) r)) (lock h g.seat.node) k
+upgraded_top root new h k g two r Locked = went new (quiet (UpgradeAbove (record two { top = Some g }) r)) (lock h g.stamp.node) k
 upgraded_top root new h k g two r Failed = went new (again root) (back_two two.change h) k
 upgraded_top root new h k g two r Exhausted = went new (refused refusal.Exhausted) (back_two two.change h) k
 
 -- that of the upper one of two
 abbrev pub upgraded_above : {V : Type 0} → ℕ → Option V → (ℕ → Node V) → ℕ → Two ℕ → Reply V → Upgrade → Went V
-upgraded_above root new h k two r Locked = went new (quiet (UpgradeBelow two r)) (lock h two.above.seat.node) k
+upgraded_above root new h k two r Locked = went new (quiet (UpgradeBelow two r)) (lock h two.above.stamp.node) k
 upgraded_above root new h k two r Failed = went new (given_up root two.top None) (back_two two.change h) k
 upgraded_above root new h k two r Exhausted = went new (given_up root two.top (Some refusal.Exhausted)) (back_two two.change h) k
 
 -- that of the lower one of two
 abbrev pub upgraded_below : {V : Type 0} → Option V → (ℕ → Node V) → ℕ → Two ℕ → Reply V → Upgrade → Went V
 upgraded_below new h k two r Locked = went new (quiet (ChangeTwo two r)) (lock h two.at.node) k
-upgraded_below new h k two r Failed = went new (quiet (Unwind two.above.seat.node (node_of two.top) None)) (back_two two.change h) k
-upgraded_below new h k two r Exhausted = went new (quiet (Unwind two.above.seat.node (node_of two.top) (Some refusal.Exhausted))) (back_two two.change h) k
+upgraded_below new h k two r Failed = went new (quiet (Unwind two.above.stamp.node (node_of two.top) None)) (back_two two.change h) k
+upgraded_below new h k two r Exhausted = went new (quiet (Unwind two.above.stamp.node (node_of two.top) (Some refusal.Exhausted))) (back_two two.change h) k
 
 -- the check before one node is changed: the node made goes back where it fails
 abbrev pub passed_above : {V : Type 0} → Bool → ℕ → Option V → (ℕ → Node V) → ℕ → One ℕ → Reply V → Went V
@@ -347,7 +353,7 @@ phase_step same most root key kind fail seen answer new (Version above n) h k = 
 phase_step same most root key kind fail seen answer new (Read above at) h k = went new (after_read root above at (reading (h at.node) at.version key seen)) h k
 phase_step same most root key kind fail seen answer new (Check s c) h k = went new (passes h s.at root (checked same kind new s c)) h k
 phase_step same most root key kind fail seen answer new (CheckUncopied at) h k = went new (passes h at root (refused refusal.Count)) h k
-phase_step same most root key kind fail seen answer new (CheckMiss p at common byte) h k = went new (passes h p.seat root (after_miss kind p at common byte)) h k
+phase_step same most root key kind fail seen answer new (CheckMiss p at common byte) h k = went new (passes h p.stamp root (after_miss kind p at common byte)) h k
 phase_step same most root key kind fail seen answer new (CheckDown p at c) h k = went new (passes h p root (quiet (Version (Some at) c))) h k
 phase_step same most root key kind fail seen answer new (CheckOld p s v) h k = went new (passes h p root (at_old same kind new s v)) h k
 phase_step same most root key kind fail seen answer new (MakeLeaf s) h k = making N4 key MAX_PREFIX_LEN new h k (λ leaf. unless_full kind s s.full s.above (Some leaf) (Link leaf))
@@ -361,8 +367,8 @@ phase_step same most root key kind fail seen answer new (Confirm at r) h k = wen
 phase_step same most root key kind fail seen answer new (CheckAbove p one r) h k = passed_above (is_taken (h p.node) p.version) root new h k one r
 phase_step same most root key kind fail seen answer new (UpgradeOne one r) h k = upgraded_one root new h k one r (upgrade_gives most (h one.at.node) one.at.version fail)
 phase_step same most root key kind fail seen answer new (ChangeOne one r) h k = went None (decided (Unlock one.at.node r)) (change_one key new one one.change h) k
-phase_step same most root key kind fail seen answer new (UpgradeTop g two r) h k = upgraded_top root new h k g two r (upgrade_gives most (h g.seat.node) g.seat.version fail)
-phase_step same most root key kind fail seen answer new (UpgradeAbove two r) h k = upgraded_above root new h k two r (upgrade_gives most (h two.above.seat.node) two.above.seat.version fail)
+phase_step same most root key kind fail seen answer new (UpgradeTop g two r) h k = upgraded_top root new h k g two r (upgrade_gives most (h g.stamp.node) g.stamp.version fail)
+phase_step same most root key kind fail seen answer new (UpgradeAbove two r) h k = upgraded_above root new h k two r (upgrade_gives most (h two.above.stamp.node) two.above.stamp.version fail)
 phase_step same most root key kind fail seen answer new (UpgradeBelow two r) h k = upgraded_below new h k two r (upgrade_gives most (h two.at.node) two.at.version fail)
 phase_step same most root key kind fail seen answer new (ChangeTwo two r) h k = went None (after_change two r two.change) (change_two key new two two.change h) k
 phase_step same most root key kind fail seen answer new (Obsolete n next p r) h k = went new (quiet (Retire n next p r)) (mark h n) k
@@ -370,7 +376,7 @@ phase_step same most root key kind fail seen answer new (Retire n next p r) h k 
 phase_step same most root key kind fail seen answer new (UnlockBelow n p r) h k = went new (quiet (Unlock p r)) (free h n) k
 phase_step same most root key kind fail seen answer new (Unlock n r) h k = went new (finished r) (free h n) k
 phase_step same most root key kind fail seen answer new (Unwind n next e) h k = went new (after_unwind root next e) (free h n) k
-phase_step same most root key kind fail seen answer new (Sweep s) h k = went new (swept (swung root seen h s s.stage).0 (swung root seen h s s.stage).1) h k
+phase_step same most root key kind fail seen answer new (Scan s) h k = went new (after_scan (next_scan root seen h s s.stage).0 (next_scan root seen h s s.stage).1) h k
 phase_step same most root key kind fail seen answer new Ended h k = went new (quiet Ended) h k
 
 -- the next step of a call
@@ -389,4 +395,4 @@ with_call s i m = record s { calls = λ j. cond (j == i) m (s.calls j) }
 
 -- a worker's call after its next step
 abbrev pub call_after : {V : Type 0} → Machine ℕ V → Went V → Machine ℕ V
-call_after m w = record m { given = w.given; phase = w.turn.phase }
+call_after m w = record m { given = w.given; phase = w.next_phase.phase }

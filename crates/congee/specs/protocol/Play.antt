@@ -10,18 +10,18 @@ use Rattle.congee.specs.declared.protocol.op.Op.TheVariants as op
 use Rattle.congee.specs.declared.protocol.phase.Kind.{Kind}
 use Rattle.congee.specs.declared.protocol.phase.Kind.TheVariants.{Get, Insert, Remove, ComputePresent, ComputeInsert, Exchange}
 use Rattle.congee.specs.declared.protocol.phase.Phase.{Phase}
-use Rattle.congee.specs.declared.protocol.phase.Phase.TheVariants.{New, AskOld, AskNew, Confirm, CheckAbove, UpgradeOne, ChangeOne, MakeLesser, UpgradeTop, UpgradeAbove, UpgradeBelow, ChangeTwo, Obsolete, Retire, UnlockBelow, Unlock, Sweep, Ended}
+use Rattle.congee.specs.declared.protocol.phase.Phase.TheVariants.{New, AskOld, AskNew, Confirm, CheckAbove, UpgradeOne, ChangeOne, MakeLesser, UpgradeTop, UpgradeAbove, UpgradeBelow, ChangeTwo, Obsolete, Retire, UnlockBelow, Unlock, Scan, Ended}
 use Rattle.congee.specs.declared.protocol.machine.Outcome.{Outcome}
 use Rattle.congee.specs.declared.protocol.machine.Outcome.TheVariants.{Running, Asks, Found, Done, Scanned, Refused}
 use Rattle.congee.specs.declared.protocol.machine.Move.{Move}
 use Rattle.congee.specs.declared.protocol.machine.Machine.{Machine}
 use Rattle.congee.specs.declared.protocol.run.Step.{Step}
 use Rattle.congee.specs.Heap.{Node}
-use Rattle.congee.specs.declared.protocol.sweep.Sweep.{Sweep as Scan}
-use Rattle.congee.specs.declared.protocol.sweep.Stage.TheVariants as stage
-use Rattle.congee.specs.protocol.Sweeps.{IsScan, written}
-use Rattle.congee.specs.protocol.SweepSteps.{new_sweep}
-use Rattle.congee.specs.protocol.SweepKnown.{HasRange, Tracks}
+use Rattle.congee.specs.declared.protocol.scan.ScanState.{ScanState as ScanState}
+use Rattle.congee.specs.declared.protocol.scan.Stage.TheVariants as stage
+use Rattle.congee.specs.protocol.Scans.{IsScan, written}
+use Rattle.congee.specs.protocol.ScanSteps.{new_scan}
+use Rattle.congee.specs.protocol.ScanKnown.{HasRange, Tracks}
 use Rattle.congee.specs.protocol.Steps.{Stepped}
 use Rattle.congee.specs.Keys.{IsMapOf}
 use Rattle.congee.specs.Notes.{Note, Tree, LockWords}
@@ -55,8 +55,8 @@ range_of _ = None
 
 -- its first step; a scan is one to the greatest key of its range, and has no place where its range has no key
 abbrev pub first_phase : {C V : Type 0} → C → Op V → Phase C V
-first_phase root (op.Range start end size) = Sweep (new_sweep root start (end - 1) (cond (ltb start end) size 0))
-first_phase root (op.RangeInclusive start last size) = Sweep (new_sweep root start last (cond (leb start last) size 0))
+first_phase root (op.Range start end size) = Scan (new_scan root start (end - 1) (cond (ltb start end) size 0))
+first_phase root (op.RangeInclusive start last size) = Scan (new_scan root start last (cond (leb start last) size 0))
 first_phase root _ = New
 
 -- the machine of a call that has not begun
@@ -66,7 +66,7 @@ begun root o = record { root = root; key = (parts o).0; kind = (parts o).1; give
 -- a call that has not begun; a scan's range is one of keys of 64 bits
 abbrev pub IsBegin : {C V : Type 0} → Kind V → Option V → Phase C V → Type 0
 IsBegin kind given New = HasGift kind given
-IsBegin kind given (Sweep s) = (s.stage ≡ stage.New) × HasRange s
+IsBegin kind given (Scan s) = (s.stage ≡ stage.New) × HasRange s
 IsBegin kind given _ = ⊥
 
 -- a call that has not begun, on a key of 64 bits
@@ -207,7 +207,7 @@ flight_in k kind v (Obsolete n next p r) = Decided r
 flight_in k kind v (Retire n next p r) = Decided r
 flight_in k kind v (UnlockBelow n p r) = Decided r
 flight_in k kind v (Unlock n r) = Decided r
-flight_in k kind v (Sweep s) = Unbegun s.start (suc s.last) s.size
+flight_in k kind v (Scan s) = Unbegun s.start (suc s.last) s.size
 flight_in k kind v Ended = Over
 flight_in k kind v _ = Pending k kind v Unasked
 
@@ -216,7 +216,7 @@ abbrev pub flight : {C V : Type 0} → Machine C V → Flight V
 flight m = flight_in m.key m.kind m.given m.phase
 
 -- how a scan is watched, by what it has settled
-abbrev pub ScanFollows : {C V : Type 0} → Scan C V → Flight V → Type 0
+abbrev pub ScanFollows : {C V : Type 0} → ScanState C V → Flight V → Type 0
 ScanFollows {C} {V} s f = ((f ≡ Unbegun s.start (suc s.last) s.size) × (s.stage ≡ stage.New)) ⊎ (((f ≡ Over) × (s.stage ≡ stage.Over))
     ⊎ ((states : List (Pairs V)) × (places : List (ℕ × V)) × (f ≡ Scanning s.start (suc s.last) s.size states places) × Tracks s states places))
 
@@ -243,7 +243,7 @@ IsOfRange (Some (start, end, size)) f = IsScanOf start end size f
 
 -- what is watched of a machine, a call on one key or a scan
 abbrev pub Follows : {C V : Type 0} → Machine C V → Flight V → Type 0
-Follows {C} {V} m f = (IsOfPoint f × (f ≡ flight m)) ⊎ ((s : Scan C V) × (m.phase ≡ Sweep s) × ScanFollows s f)
+Follows {C} {V} m f = (IsOfPoint f × (f ≡ flight m)) ⊎ ((s : ScanState C V) × (m.phase ≡ Scan s) × ScanFollows s f)
 
 -- so are all of them, one by one
 abbrev pub Following : {C V : Type 0} → List (Machine C V) → List (Flight V) → Type 0
@@ -265,7 +265,7 @@ pub record Protocol {C V : Type 0} (number : C → ℕ) (same : V → V → Bool
   pub words : LockWords notes h
   pub each : (i : ℕ) (m : Machine C V) → slice_get ms i ≡ Some m → EachKnown number same always notes h i m
 
--- the same on a ledger at hand
+-- the same with notes at hand
 pub record ProtocolAt {C V : Type 0} (number : C → ℕ) (same : V → V → Bool) (always : Bool) (a : ℕ → Note) (h : ℕ → Node V) (ms : List (Machine C V)) : Type 0 where
   pub tree : Tree a h
   pub words : LockWords a h

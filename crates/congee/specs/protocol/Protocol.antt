@@ -21,22 +21,22 @@ use Rattle.congee.specs.declared.protocol.phase.Two.{Two}
 use Rattle.congee.specs.declared.protocol.phase.Plan.{Plan}
 use Rattle.congee.specs.declared.protocol.phase.Plan.TheVariants.{Here, Above}
 use Rattle.congee.specs.declared.protocol.phase.Phase.{Phase}
-use Rattle.congee.specs.declared.protocol.phase.Phase.TheVariants.{New, Version, Read, Check, CheckUncopied, CheckMiss, CheckDown, CheckOld, MakeLeaf, MakeGreater, MakeTop, MakeBeside, MakeLesser, AskOld, AskNew, Confirm, CheckAbove, UpgradeOne, ChangeOne, UpgradeTop, UpgradeAbove, UpgradeBelow, ChangeTwo, Obsolete, Retire, UnlockBelow, Unlock, Unwind, Sweep, Ended}
+use Rattle.congee.specs.declared.protocol.phase.Phase.TheVariants.{New, Version, Read, Check, CheckUncopied, CheckMiss, CheckDown, CheckOld, MakeLeaf, MakeGreater, MakeTop, MakeBeside, MakeLesser, AskOld, AskNew, Confirm, CheckAbove, UpgradeOne, ChangeOne, UpgradeTop, UpgradeAbove, UpgradeBelow, ChangeTwo, Obsolete, Retire, UnlockBelow, Unlock, Unwind, Scan, Ended}
 use Rattle.congee.specs.Heap.{Node, Hung, Nothing, Below, Holds, fits, child_for, is_taken}
 use Rattle.congee.specs.protocol.Events.{hung, places, Parts}
 use Rattle.congee.specs.protocol.Steps.{adds, shrinks}
-use Rattle.congee.specs.protocol.SweepKnown.{SweepKnown}
-pub use Rattle.congee.specs.protocol.Stamps.{Seated, Fresh}
+use Rattle.congee.specs.protocol.ScanKnown.{ScanKnown}
+pub use Rattle.congee.specs.protocol.Stamps.{Stamped, Fresh}
 use Rattle.congee.specs.Notes.{Note, Unmade, Held, Linked, Gone, is_published, is_spent, BeginsKey, Tree, LockWords}
 use Rattle.congee.specs.declared.forms.prefix.TheConstants.{MAX_PREFIX_LEN}
 
 -- node n was read in the node above, at the byte
 pub record ChildOf {C V : Type 0} (number : C → ℕ) (a : ℕ → Note) (h : ℕ → Node V) (key : List ℕ) (p : Parent C) (n : ℕ) : Type 0 where
-  pub fitted : fits (h (number p.seat.node)).prefix key ≡ true
-  pub byte : p.byte ≡ slice_index key (length (h (number p.seat.node)).prefix)
-  pub depth : p.depth ≡ length (h (number p.seat.node)).prefix
+  pub fitted : fits (h (number p.stamp.node)).prefix key ≡ true
+  pub byte : p.byte ≡ slice_index key (length (h (number p.stamp.node)).prefix)
+  pub depth : p.depth ≡ length (h (number p.stamp.node)).prefix
   pub short : p.depth ≤ MAX_PREFIX_LEN
-  pub fresh : Fresh a h (number p.seat.node) p.seat.version (λ m. (child_for m key ≡ Below n) × (m.count ≡ p.count) × (m.capacity ≡ places p.form))
+  pub fresh : Fresh a h (number p.stamp.node) p.stamp.version (λ m. (child_for m key ≡ Below n) × (m.count ≡ p.count) × (m.capacity ≡ places p.form))
 
 -- nothing is above the root
 abbrev pub IsFar : {C V : Type 0} → (C → ℕ) → (ℕ → Note) → (ℕ → Node V) → List ℕ → Option (Parent C) → ℕ → Type 0
@@ -46,7 +46,7 @@ IsFar number a h key (Some p) n = ChildOf number a h key p n
 -- what a call knows of the nodes above one: none is above the root
 abbrev pub IsAbove : {C V : Type 0} → (C → ℕ) → (ℕ → Note) → (ℕ → Node V) → List ℕ → Option (Over C) → ℕ → Type 0
 IsAbove number a h key None n = n ≡ 0
-IsAbove number a h key (Some u) n = ChildOf number a h key u.near n × IsFar number a h key u.far (number u.near.seat.node)
+IsAbove number a h key (Some u) n = ChildOf number a h key u.near n × IsFar number a h key u.far (number u.near.stamp.node)
 
 -- what a read saw is true of the node
 pub record Sees {C V : Type 0} (key : List ℕ) (s : Site C) (x : Hung V) (n : Node V) : Type 0 where
@@ -194,13 +194,13 @@ FitsTwo _ (Some v) given = ⊥
 
 -- the node above is locked, and holds the node at hand
 pub record AboveLocked {C V : Type 0} (number : C → ℕ) (i : ℕ) (a : ℕ → Note) (h : ℕ → Node V) (key : List ℕ) (p : Parent C) (n : ℕ) : Type 0 where
-  pub holding : Holding i a (number p.seat.node)
-  pub fitted : fits (h (number p.seat.node)).prefix key ≡ true
-  pub byte : p.byte ≡ slice_index key (length (h (number p.seat.node)).prefix)
-  pub child : child_for (h (number p.seat.node)) key ≡ Below n
-  pub depth : p.depth ≡ length (h (number p.seat.node)).prefix
-  pub count : (h (number p.seat.node)).count ≡ p.count
-  pub form : (h (number p.seat.node)).capacity ≡ places p.form
+  pub holding : Holding i a (number p.stamp.node)
+  pub fitted : fits (h (number p.stamp.node)).prefix key ≡ true
+  pub byte : p.byte ≡ slice_index key (length (h (number p.stamp.node)).prefix)
+  pub child : child_for (h (number p.stamp.node)) key ≡ Below n
+  pub depth : p.depth ≡ length (h (number p.stamp.node)).prefix
+  pub count : (h (number p.stamp.node)).count ≡ p.count
+  pub form : (h (number p.stamp.node)).capacity ≡ places p.form
 
 -- the node above both is locked, where there is one, and holds the node above
 abbrev pub TopLocked : {C V : Type 0} → (C → ℕ) → ℕ → (ℕ → Note) → (ℕ → Node V) → List ℕ → Option (Parent C) → ℕ → Type 0
@@ -217,7 +217,7 @@ HasTop _ top = top ≡ None
 
 -- what is known of it before the upper node is locked
 pub record TwoKnown {C V : Type 0} (number : C → ℕ) (i : ℕ) (a : ℕ → Note) (h : ℕ → Node V) (key : List ℕ) (two : Two C) (found : Option V) (q : ℕ) : Type 0 where
-  pub top : TopLocked number i a h key two.top (number two.above.seat.node)
+  pub top : TopLocked number i a h key two.top (number two.above.stamp.node)
   pub above : ChildOf number a h key two.above (number two.at.node)
   pub placed : PlacedTwo key two.change (h (number two.at.node)).prefix
   pub fresh : Fresh a h (number two.at.node) two.at.version (WantedTwo key two.change found q)
@@ -225,7 +225,7 @@ pub record TwoKnown {C V : Type 0} (number : C → ℕ) (i : ℕ) (a : ℕ → N
 
 -- once that is
 pub record HalfLocked {C V : Type 0} (number : C → ℕ) (i : ℕ) (a : ℕ → Note) (h : ℕ → Node V) (key : List ℕ) (two : Two C) (found : Option V) (q : ℕ) : Type 0 where
-  pub top : TopLocked number i a h key two.top (number two.above.seat.node)
+  pub top : TopLocked number i a h key two.top (number two.above.stamp.node)
   pub above : AboveLocked number i a h key two.above (number two.at.node)
   pub placed : PlacedTwo key two.change (h (number two.at.node)).prefix
   pub fresh : Fresh a h (number two.at.node) two.at.version (WantedTwo key two.change found q)
@@ -233,7 +233,7 @@ pub record HalfLocked {C V : Type 0} (number : C → ℕ) (i : ℕ) (a : ℕ →
 
 -- and once both are
 pub record TwoLocked {C V : Type 0} (number : C → ℕ) (i : ℕ) (a : ℕ → Note) (h : ℕ → Node V) (key : List ℕ) (two : Two C) (found : Option V) (q : ℕ) : Type 0 where
-  pub top : TopLocked number i a h key two.top (number two.above.seat.node)
+  pub top : TopLocked number i a h key two.top (number two.above.stamp.node)
   pub above : AboveLocked number i a h key two.above (number two.at.node)
   pub owner : (a (number two.at.node)).owner ≡ Some i
   pub placed : PlacedTwo key two.change (h (number two.at.node)).prefix
@@ -303,13 +303,13 @@ IsFailure None = Unit {0}
 IsFailure (Some e) = e ≡ refusal.Exhausted
 
 -- a node at a version, if one is to be checked, is known
-abbrev pub SeatedIf : {C V : Type 0} → (C → ℕ) → (ℕ → Note) → (ℕ → Node V) → Option (Stamp C) → Type 0
-SeatedIf number a h None = Unit {0}
-SeatedIf number a h (Some p) = Seated a h (number p.node) p.version
+abbrev pub StampedIf : {C V : Type 0} → (C → ℕ) → (ℕ → Note) → (ℕ → Node V) → Option (Stamp C) → Type 0
+StampedIf number a h None = Unit {0}
+StampedIf number a h (Some p) = Stamped a h (number p.node) p.version
 
 -- what is known of a plan
 abbrev pub PlanKnown : {C V : Type 0} → (C → ℕ) → ℕ → (ℕ → Note) → (ℕ → Node V) → List ℕ → Plan C → Type 0
-PlanKnown number i a h key (Here check one) = SeatedIf number a h check × OneKnown number i a h key one Nothing
+PlanKnown number i a h key (Here check one) = StampedIf number a h check × OneKnown number i a h key one Nothing
 PlanKnown number i a h key (Above two) = ((q : ℕ) × TwoKnown number i a h key two None q) × Adding two.change × (two.top ≡ None)
 
 -- a leaf was made unless the node at hand is one
@@ -325,35 +325,35 @@ pub record Confirmed {C V : Type 0} (number : C → ℕ) (a : ℕ → Note) (h :
 -- what gives way to a lesser node: the leaf, which has others, or the node above, which isn't the root
 abbrev pub IsLesser : {C V : Type 0} → (C → ℕ) → (ℕ → Note) → (ℕ → Node V) → List ℕ → Site C → Parent C → Option (Parent C) → Type 0
 IsLesser number a h key s p None = shrinks s.form s.count ≡ true
-IsLesser number a h key s p (Some g) = ChildOf number a h key g (number p.seat.node) × (s.count ≡ 1) × (2 < p.count) × (shrinks p.form p.count ≡ true)
+IsLesser number a h key s p (Some g) = ChildOf number a h key g (number p.stamp.node) × (s.count ≡ 1) × (2 < p.count) × (shrinks p.form p.count ≡ true)
 
 -- what call i knows in each phase
 abbrev pub Known : {C V : Type 0} → (C → ℕ) → (V → V → Bool) → Bool → ℕ → (ℕ → Note) → (ℕ → Node V) → ℕ → List ℕ → Kind V → Option V → Phase C V → Type 0
 Known number same always i a h k key kind given New = HasGift kind given
 Known number same always i a h k key kind given (Version above n) = HasGift kind given × IsAbove number a h key above (number n) × (is_published (a (number n)).status ≡ true)
-Known number same always i a h k key kind given (Read above at) = HasGift kind given × IsAbove number a h key above (number at.node) × Seated a h (number at.node) at.version
+Known number same always i a h k key kind given (Read above at) = HasGift kind given × IsAbove number a h key above (number at.node) × Stamped a h (number at.node) at.version
 Known number same always i a h k key kind given (Check s c) = HasGift kind given × Knows number a h key s (hung number c)
-Known number same always i a h k key kind given (CheckUncopied at) = HasGift kind given × Seated a h (number at.node) at.version × (always ≡ false)
-Known number same always i a h k key kind given (CheckMiss p at common byte) = HasGift kind given × ChildOf number a h key p (number at.node) × Seated a h (number at.node) at.version
+Known number same always i a h k key kind given (CheckUncopied at) = HasGift kind given × Stamped a h (number at.node) at.version × (always ≡ false)
+Known number same always i a h k key kind given (CheckMiss p at common byte) = HasGift kind given × ChildOf number a h key p (number at.node) × Stamped a h (number at.node) at.version
     × Parts (h (number at.node)).prefix key common × (byte ≡ slice_index (h (number at.node)).prefix common)
-Known number same always i a h k key kind given (CheckDown p at c) = HasGift kind given × Seated a h (number p.node) p.version × IsAbove number a h key (Some at) (number c) × (is_published (a (number c)).status ≡ true)
-Known number same always i a h k key kind given (CheckOld p s v) = HasGift kind given × Seated a h (number p.node) p.version × Knows number a h key s (Holds v) × (adds kind ≡ true) × (s.depth ≡ MAX_PREFIX_LEN)
+Known number same always i a h k key kind given (CheckDown p at c) = HasGift kind given × Stamped a h (number p.node) p.version × IsAbove number a h key (Some at) (number c) × (is_published (a (number c)).status ≡ true)
+Known number same always i a h k key kind given (CheckOld p s v) = HasGift kind given × Stamped a h (number p.node) p.version × Knows number a h key s (Holds v) × (adds kind ≡ true) × (s.depth ≡ MAX_PREFIX_LEN)
 Known number same always i a h k key kind given (MakeLeaf s) = HasGift kind given × Knows number a h key s Nothing × (s.depth < MAX_PREFIX_LEN) × (adds kind ≡ true) × (s.count < 256)
 Known number same always i a h k key kind given (MakeGreater s p leaf) = HasGift kind given × Knows number a h key s Nothing × ChildOf number a h key p (number s.at.node) × MadeLeafFor number i a h key s leaf × (adds kind ≡ true) × (s.count < 256)
-Known number same always i a h k key kind given (MakeTop p at common byte) = HasGift kind given × ChildOf number a h key p (number at.node) × Seated a h (number at.node) at.version
+Known number same always i a h k key kind given (MakeTop p at common byte) = HasGift kind given × ChildOf number a h key p (number at.node) × Stamped a h (number at.node) at.version
     × Parts (h (number at.node)).prefix key common × (byte ≡ slice_index (h (number at.node)).prefix common) × (adds kind ≡ true)
-Known number same always i a h k key kind given (MakeBeside p at common byte top) = HasGift kind given × ChildOf number a h key p (number at.node) × Seated a h (number at.node) at.version
+Known number same always i a h k key kind given (MakeBeside p at common byte top) = HasGift kind given × ChildOf number a h key p (number at.node) × Stamped a h (number at.node) at.version
     × Parts (h (number at.node)).prefix key common × (byte ≡ slice_index (h (number at.node)).prefix common) × (adds kind ≡ true) × Made i a h key (number top) common 1
 Known {C} {V} number same always i a h k key kind given (MakeLesser s p g r) = HasGift kind given × ((v : V) × Knows number a h key s (Holds v) × Settles same k kind given (Some v) r None) × (s.depth ≡ MAX_PREFIX_LEN) × (given ≡ None)
     × ChildOf number a h key p (number s.at.node) × IsLesser number a h key s p g
 Known number same always i a h k key kind given (AskOld s v) = HasGift kind given × Knows number a h key s (Holds v) × Asking kind × (s.depth ≡ MAX_PREFIX_LEN)
 Known number same always i a h k key kind given (AskNew plan) = PlanKnown number i a h key plan × (kind ≡ ComputeInsert)
 Known {C} {V} number same always i a h k key kind given (Confirm at r) = HasGift kind given × ((v : V) × Confirmed number a h key at v × Settles same k kind given (Some v) r (Some v))
-Known number same always i a h k key kind given (CheckAbove p one r) = HasGift kind given × Seated a h (number p.node) p.version × OneKnown number i a h key one Nothing × FitsOne one.change Nothing given × Settles same k kind given None r given
+Known number same always i a h k key kind given (CheckAbove p one r) = HasGift kind given × Stamped a h (number p.node) p.version × OneKnown number i a h key one Nothing × FitsOne one.change Nothing given × Settles same k kind given None r given
 Known {C} {V} number same always i a h k key kind given (UpgradeOne one r) = HasGift kind given × ((x : Hung V) × OneKnown number i a h key one x × FitsOne one.change x given × Settles same k kind given (value_in x) r given)
 Known {C} {V} number same always i a h k key kind given (ChangeOne one r) = (x : Hung V) × OneLocked number i a h key one x × FitsOne one.change x given × Settles same k kind given (value_in x) r given
 Known {C} {V} number same always i a h k key kind given (UpgradeTop g two r) = HasGift kind given × ((found : Option V) × (q : ℕ) × TwoKnown number i a h key two found q × FitsTwo two.change found given × Settles same k kind given found r given)
-    × ChildOf number a h key g (number two.above.seat.node) × HasTop two.change (Some g) × (two.top ≡ None)
+    × ChildOf number a h key g (number two.above.stamp.node) × HasTop two.change (Some g) × (two.top ≡ None)
 Known {C} {V} number same always i a h k key kind given (UpgradeAbove two r) = HasGift kind given × ((found : Option V) × (q : ℕ) × TwoKnown number i a h key two found q × HasTop two.change two.top × FitsTwo two.change found given × Settles same k kind given found r given)
 Known {C} {V} number same always i a h k key kind given (UpgradeBelow two r) = HasGift kind given × ((found : Option V) × (q : ℕ) × HalfLocked number i a h key two found q × HasTop two.change two.top × FitsTwo two.change found given × Settles same k kind given found r given)
 Known {C} {V} number same always i a h k key kind given (ChangeTwo two r) = (found : Option V) × (q : ℕ) × TwoLocked number i a h key two found q × HasTop two.change two.top × FitsTwo two.change found given × Settles same k kind given found r given
@@ -362,7 +362,7 @@ Known number same always i a h k key kind given (Retire n next p r) = TakenOut i
 Known number same always i a h k key kind given (UnlockBelow n p r) = Holding i a (number n) × Holding i a (number p) × (number n ≢ number p)
 Known number same always i a h k key kind given (Unlock n r) = Holding i a (number n)
 Known number same always i a h k key kind given (Unwind n next e) = HasGift kind given × Holding i a (number n) × AlsoHolding number i a (number n) next × IsFailure e
-Known number same always i a h k key kind given (Sweep s) = SweepKnown number always a h s
+Known number same always i a h k key kind given (Scan s) = ScanKnown number always a h s
 Known number same always i a h k key kind given Ended = Unit {0}
 
 -- what call i may count on over a step of others, as far as the nodes of K go: a word that was taken and still

@@ -5,9 +5,9 @@ use Rattle.congee.specs.declared.protocol.machine.Machine.{Machine}
 use Rattle.congee.specs.declared.protocol.phase.Kind.{Kind}
 use Rattle.congee.specs.declared.protocol.phase.Kind.TheVariants.{Get}
 use Rattle.congee.specs.declared.protocol.phase.Phase.{Phase}
-use Rattle.congee.specs.declared.protocol.phase.Phase.TheVariants.{AskOld, AskNew, Obsolete, Retire, UnlockBelow, Unlock, Sweep, Ended}
-use Rattle.congee.specs.declared.protocol.sweep.Stage.{Stage}
-use Rattle.congee.specs.declared.protocol.sweep.Stage.TheVariants.{Over}
+use Rattle.congee.specs.declared.protocol.phase.Phase.TheVariants.{AskOld, AskNew, Obsolete, Retire, UnlockBelow, Unlock, Scan, Ended}
+use Rattle.congee.specs.declared.protocol.scan.Stage.{Stage}
+use Rattle.congee.specs.declared.protocol.scan.Stage.TheVariants.{Over}
 
 -- a call that has ended
 abbrev pub ended : {C V : Type 0} → C → Machine C V
@@ -23,8 +23,9 @@ abbrev pub is_past : {C V : Type 0} → Stage C V → Bool
 is_past Over = true
 is_past _ = false
 
+-- the call is a scan that has told its end
 abbrev pub is_done : {C V : Type 0} → Phase C V → Bool
-is_done (Sweep s) = is_past s.stage
+is_done (Scan s) = is_past s.stage
 is_done _ = false
 
 -- the node that the next step of a call marks and hands over for its destruction
@@ -50,7 +51,7 @@ is_pending (Obsolete n next p r) = false
 is_pending (Retire n next p r) = false
 is_pending (UnlockBelow n p r) = false
 is_pending (Unlock n r) = false
-is_pending (Sweep s) = false
+is_pending (Scan s) = false
 is_pending Ended = false
 is_pending _ = true
 

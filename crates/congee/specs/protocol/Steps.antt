@@ -27,15 +27,15 @@ use Rattle.congee.specs.declared.protocol.phase.Two.{Two}
 use Rattle.congee.specs.declared.protocol.phase.Plan.{Plan}
 use Rattle.congee.specs.declared.protocol.phase.Plan.TheVariants.{Here, Above}
 use Rattle.congee.specs.declared.protocol.phase.Phase.{Phase}
-use Rattle.congee.specs.declared.protocol.phase.Phase.TheVariants.{New, Version, Read, Check, CheckUncopied, CheckMiss, CheckDown, CheckOld, MakeLeaf, MakeGreater, MakeTop, MakeBeside, MakeLesser, AskOld, AskNew, Confirm, CheckAbove, UpgradeOne, ChangeOne, UpgradeTop, UpgradeAbove, UpgradeBelow, ChangeTwo, Obsolete, Retire, UnlockBelow, Unlock, Unwind, Sweep, Ended}
+use Rattle.congee.specs.declared.protocol.phase.Phase.TheVariants.{New, Version, Read, Check, CheckUncopied, CheckMiss, CheckDown, CheckOld, MakeLeaf, MakeGreater, MakeTop, MakeBeside, MakeLesser, AskOld, AskNew, Confirm, CheckAbove, UpgradeOne, ChangeOne, UpgradeTop, UpgradeAbove, UpgradeBelow, ChangeTwo, Obsolete, Retire, UnlockBelow, Unlock, Unwind, Scan, Ended}
 use Rattle.congee.specs.declared.protocol.machine.Outcome.{Outcome}
 use Rattle.congee.specs.declared.protocol.machine.Outcome.TheVariants.{Running, Asks, Found, Done, Scanned, Refused}
-use Rattle.congee.specs.declared.protocol.sweep.Sweep.{Sweep as Scan}
-use Rattle.congee.specs.declared.protocol.sweep.ScanReport.{ScanReport}
-use Rattle.congee.specs.declared.protocol.sweep.ScanReport.TheVariants as told
-use Rattle.congee.specs.protocol.SweepSteps.{SweepStepped, MaySweep}
+use Rattle.congee.specs.declared.protocol.scan.ScanState.{ScanState as ScanState}
+use Rattle.congee.specs.declared.protocol.scan.ScanReport.{ScanReport}
+use Rattle.congee.specs.declared.protocol.scan.ScanReport.TheVariants as scan_report
+use Rattle.congee.specs.protocol.ScanSteps.{ScanStepped, MayScan}
 use Rattle.congee.specs.declared.protocol.machine.Move.{Move}
-use Rattle.congee.specs.declared.protocol.turn.NextPhase.{NextPhase}
+use Rattle.congee.specs.declared.protocol.next_phase.NextPhase.{NextPhase}
 use Rattle.congee.specs.declared.protocol.machine.Machine.{Machine}
 use Rattle.congee.specs.Heap.{Node, Hung, Nothing, Below, Holds, Stands, version_of, is_taken}
 use Rattle.congee.specs.protocol.Events.{ReadGives, SameBut, upgrade_gives, MakeGives, MayChange, ChangeGives, TakeOverGives, BackGives, ObsoleteGives, RetireGives, UnlockGives, HoldsAlike, HoldsNodes, IsOther}
@@ -46,26 +46,31 @@ use Rattle.congee.specs.declared.forms.prefix.TheConstants.{MAX_PREFIX_LEN}
 abbrev pub next_phase_of : {C V : Type 0} → Phase C V → Move V → NextPhase C V
 next_phase_of s d = record { phase = s; report = d }
 
--- what a step leaves: it goes on, begins anew, answers in this step, ends with an answer given before, is refused,
--- takes effect and goes on, or asks
+-- what a step leaves that goes on, and decides nothing
 abbrev pub quiet : {C V : Type 0} → Phase C V → NextPhase C V
 quiet s = record { phase = s; report = record { decided = false; skipped = false; outcome = Running } }
 
+-- what one leaves that begins anew from the root
 abbrev pub again : {C V : Type 0} → C → NextPhase C V
 again root = quiet (Version None root)
 
+-- what one leaves that takes effect, and is done with this reply
 abbrev pub answered : {C V : Type 0} → Reply V → NextPhase C V
 answered r = record { phase = Ended; report = record { decided = true; skipped = false; outcome = Done r } }
 
+-- what one leaves that is done with a reply given before
 abbrev pub finished : {C V : Type 0} → Reply V → NextPhase C V
 finished r = record { phase = Ended; report = record { decided = false; skipped = false; outcome = Done r } }
 
+-- what one leaves that is refused
 abbrev pub refused : {C V : Type 0} → Refusal → NextPhase C V
 refused e = record { phase = Ended; report = record { decided = false; skipped = false; outcome = Refused e } }
 
+-- what one leaves that takes effect, and goes on
 abbrev pub decided : {C V : Type 0} → Phase C V → NextPhase C V
 decided s = record { phase = s; report = record { decided = true; skipped = false; outcome = Running } }
 
+-- what one leaves that asks the closure about what stands at the key
 abbrev pub asking : {C V : Type 0} → Phase C V → Option V → NextPhase C V
 asking s o = record { phase = s; report = record { decided = false; skipped = false; outcome = Asks o } }
 
@@ -126,16 +131,16 @@ near_of (Some u) = Some u.near
 -- its name
 abbrev pub node_of : {C : Type 0} → Option (Parent C) → Option C
 node_of None = None
-node_of (Some p) = Some p.seat.node
+node_of (Some p) = Some p.stamp.node
 
 -- the node at hand, as the one above the next
 abbrev pub here_of : {C : Type 0} → Site C → Parent C
-here_of s = record { seat = s.at; byte = s.byte; depth = s.depth; count = s.count; form = s.form }
+here_of s = record { stamp = s.at; byte = s.byte; depth = s.depth; count = s.count; form = s.form }
 
 -- the node above with its version, if there is one
-abbrev pub seat_above : {C : Type 0} → Option (Over C) → Option (Stamp C)
-seat_above None = None
-seat_above (Some u) = Some u.near.seat
+abbrev pub stamp_above : {C : Type 0} → Option (Over C) → Option (Stamp C)
+stamp_above None = None
+stamp_above (Some u) = Some u.near.stamp
 
 -- a version was read; where there is none, the call begins anew
 abbrev pub after_version : {C V : Type 0} → C → Option (Over C) → C → Option ℕ → NextPhase C V
@@ -149,14 +154,15 @@ after_read root (Some u) at (Differs common byte) = quiet (CheckMiss u.near at c
 after_read root above at (Fits depth form s) = quiet (Check (record { above = above; at = at; depth = depth; byte = s.byte; count = s.count; full = s.full; form = form }) s.child)
 after_read root above at Uncopied = quiet (CheckUncopied at)
 
--- a child is followed; an insertion first checks the node above
+-- the two nodes above a child that is followed
 abbrev pub below : {C : Type 0} → Site C → Over C
 below s = record { near = here_of s; far = near_of s.above }
 
+-- a child is followed; an insertion first checks the node above
 abbrev pub down : {C V : Type 0} → Bool → Site C → Option (Over C) → C → NextPhase C V
 down false s above c = quiet (Version (Some (below s)) c)
 down true s None c = quiet (Version (Some (below s)) c)
-down true s (Some u) c = quiet (CheckDown u.near.seat (below s) c)
+down true s (Some u) c = quiet (CheckDown u.near.stamp (below s) c)
 
 -- the nodes are made: what was planned begins, after the closure's answer where one is wanted
 abbrev pub started : {C V : Type 0} → Plan C → Reply V → NextPhase C V
@@ -170,7 +176,7 @@ ready kind plan = cond (asks_new kind) (asking (AskNew plan) None) (started plan
 
 -- a plan to change the node at hand alone
 abbrev pub plan_here : {C : Type 0} → Site C → Single C → Plan C
-plan_here s change = Here (seat_above s.above) (record { at = s.at; byte = s.byte; change = change })
+plan_here s change = Here (stamp_above s.above) (record { at = s.at; byte = s.byte; change = change })
 
 -- a full node gives way to a greater one; the root is never full
 abbrev pub unless_full : {C V : Type 0} → Kind V → Site C → Bool → Option (Over C) → Option C → Single C → NextPhase C V
@@ -235,7 +241,7 @@ IsAtOld always same _ new s v t = IsAsked always s v t
 -- the same, once the node above was checked, if there is one
 abbrev pub IsAdded : {C V : Type 0} → Bool → (V → V → Bool) → Kind V → Option V → Site C → Option (Over C) → V → NextPhase C V → Type 0
 IsAdded always same kind new s None v t = IsAtOld always same kind new s v t
-IsAdded always same kind new s (Some u) v t = t ≡ quiet (CheckOld u.near.seat s v)
+IsAdded always same kind new s (Some u) v t = t ≡ quiet (CheckOld u.near.stamp s v)
 
 -- an exchange found the old value, and has a copy of the new one for its reply
 abbrev pub IsExchanged : {C V : Type 0} → Bool → (V → V → Bool) → Option V → Site C → V → NextPhase C V → Type 0
@@ -360,25 +366,25 @@ unwound root (Some e) = refused e
 -- an attempt is given up with this node locked, or none
 abbrev pub given_up : {C V : Type 0} → C → Option (Parent C) → Option Refusal → NextPhase C V
 given_up root None e = unwound root e
-given_up root (Some g) e = quiet (Unwind g.seat.node None e)
+given_up root (Some g) e = quiet (Unwind g.stamp.node None e)
 
 -- that of the node above both
 abbrev pub UpgradedTop : {C V : Type 0} → (C → ℕ) → C → Parent C → Two C → Reply V → (ℕ → Node V) → Upgrade → (ℕ → Node V) → NextPhase C V → Type 0
-UpgradedTop number root g two r h Locked h' t = SameBut h (number g.seat.node) (record (h (number g.seat.node)) { locked = true }) h' × (t ≡ quiet (UpgradeAbove (record two { top = Some g }) r))
+UpgradedTop number root g two r h Locked h' t = SameBut h (number g.stamp.node) (record (h (number g.stamp.node)) { locked = true }) h' × (t ≡ quiet (UpgradeAbove (record two { top = Some g }) r))
 UpgradedTop number root g two r h Failed h' t = BackTwo number h two.change h' × (t ≡ again root)
 UpgradedTop number root g two r h Exhausted h' t = BackTwo number h two.change h' × (t ≡ refused refusal.Exhausted)
 
 -- that of the upper one of two
 abbrev pub UpgradedAbove : {C V : Type 0} → (C → ℕ) → C → Two C → Reply V → (ℕ → Node V) → Upgrade → (ℕ → Node V) → NextPhase C V → Type 0
-UpgradedAbove number root two r h Locked h' t = SameBut h (number two.above.seat.node) (record (h (number two.above.seat.node)) { locked = true }) h' × (t ≡ quiet (UpgradeBelow two r))
+UpgradedAbove number root two r h Locked h' t = SameBut h (number two.above.stamp.node) (record (h (number two.above.stamp.node)) { locked = true }) h' × (t ≡ quiet (UpgradeBelow two r))
 UpgradedAbove number root two r h Failed h' t = BackTwo number h two.change h' × (t ≡ given_up root two.top None)
 UpgradedAbove number root two r h Exhausted h' t = BackTwo number h two.change h' × (t ≡ given_up root two.top (Some refusal.Exhausted))
 
 -- that of the lower one of two
 abbrev pub UpgradedBelow : {C V : Type 0} → (C → ℕ) → Two C → Reply V → (ℕ → Node V) → Upgrade → (ℕ → Node V) → NextPhase C V → Type 0
 UpgradedBelow number two r h Locked h' t = SameBut h (number two.at.node) (record (h (number two.at.node)) { locked = true }) h' × (t ≡ quiet (ChangeTwo two r))
-UpgradedBelow number two r h Failed h' t = BackTwo number h two.change h' × (t ≡ quiet (Unwind two.above.seat.node (node_of two.top) None))
-UpgradedBelow number two r h Exhausted h' t = BackTwo number h two.change h' × (t ≡ quiet (Unwind two.above.seat.node (node_of two.top) (Some refusal.Exhausted)))
+UpgradedBelow number two r h Failed h' t = BackTwo number h two.change h' × (t ≡ quiet (Unwind two.above.stamp.node (node_of two.top) None))
+UpgradedBelow number two r h Exhausted h' t = BackTwo number h two.change h' × (t ≡ quiet (Unwind two.above.stamp.node (node_of two.top) (Some refusal.Exhausted)))
 
 -- the value that the call puts there
 abbrev pub value_hung : {V : Type 0} → Option V → Hung V
@@ -394,12 +400,12 @@ ChangedOne {C} {V} number key new one (Link leaf) h h' = (h1 : ℕ → Node V) �
 -- a greater node with one more child comes in the place of the node at hand
 abbrev pub PutsGreater : {C V : Type 0} → (C → ℕ) → Two C → C → ℕ → Hung V → (ℕ → Node V) → (ℕ → Node V) → Type 0
 PutsGreater {C} {V} number two c byte x h h' = (h1 : ℕ → Node V) × (h2 : ℕ → Node V) × TakeOverGives h (number two.at.node) (number c) h1
-    × ChangeGives h1 (number c) byte x h2 × ChangeGives h2 (number two.above.seat.node) two.above.byte (Below (number c)) h'
+    × ChangeGives h1 (number c) byte x h2 × ChangeGives h2 (number two.above.stamp.node) two.above.byte (Below (number c)) h'
 
 -- a node over the one at hand and a new leaf comes in its place
 abbrev pub PutsFork : {C V : Type 0} → (C → ℕ) → Two C → C → ℕ → ℕ → C → (ℕ → Node V) → (ℕ → Node V) → Type 0
 PutsFork {C} {V} number two top byte new_byte leaf h h' = (h1 : ℕ → Node V) × (h2 : ℕ → Node V) × ChangeGives h (number top) byte (Below (number two.at.node)) h1
-    × ChangeGives h1 (number top) new_byte (Below (number leaf)) h2 × ChangeGives h2 (number two.above.seat.node) two.above.byte (Below (number top)) h'
+    × ChangeGives h1 (number top) new_byte (Below (number leaf)) h2 × ChangeGives h2 (number two.above.stamp.node) two.above.byte (Below (number top)) h'
 
 -- a lesser node with the children of m but for the one at byte b comes in the place of m, at byte `up` of p
 abbrev pub PutsLesser : {V : Type 0} → (ℕ → Node V) → (m c b p up : ℕ) → (ℕ → Node V) → Type 0
@@ -408,42 +414,42 @@ PutsLesser {V} h m c b p up h' = (h1 : ℕ → Node V) × (h2 : ℕ → Node V) 
 -- the other child of the node above comes in its place
 abbrev pub Collapses : {C V : Type 0} → (C → ℕ) → Two C → Option (Parent C) → (ℕ → Node V) → (ℕ → Node V) → Type 0
 Collapses number two None h h' = ⊥
-Collapses number two (Some g) h h' = (o : ℕ) × IsOther (h (number two.above.seat.node)) two.above.byte o × ChangeGives h (number g.seat.node) g.byte (Below o) h'
+Collapses number two (Some g) h h' = (o : ℕ) × IsOther (h (number two.above.stamp.node)) two.above.byte o × ChangeGives h (number g.stamp.node) g.byte (Below o) h'
 
 -- a lesser one does
 abbrev pub Lessens : {C V : Type 0} → (C → ℕ) → Two C → C → Option (Parent C) → (ℕ → Node V) → (ℕ → Node V) → Type 0
 Lessens number two c None h h' = ⊥
-Lessens number two c (Some g) h h' = PutsLesser h (number two.above.seat.node) (number c) two.above.byte (number g.seat.node) g.byte h'
+Lessens number two c (Some g) h h' = PutsLesser h (number two.above.stamp.node) (number c) two.above.byte (number g.stamp.node) g.byte h'
 
 -- two nodes change, by the kind of change
 abbrev pub ChangedTwo : {C V : Type 0} → (C → ℕ) → List ℕ → Option V → Two C → Double C → (ℕ → Node V) → (ℕ → Node V) → Type 0
-ChangedTwo number key new two Unlink h h' = ChangeGives h (number two.above.seat.node) two.above.byte Nothing h'
-ChangedTwo number key new two (Shrink c) h h' = PutsLesser h (number two.at.node) (number c) (slice_index key MAX_PREFIX_LEN) (number two.above.seat.node) two.above.byte h'
+ChangedTwo number key new two Unlink h h' = ChangeGives h (number two.above.stamp.node) two.above.byte Nothing h'
+ChangedTwo number key new two (Shrink c) h h' = PutsLesser h (number two.at.node) (number c) (slice_index key MAX_PREFIX_LEN) (number two.above.stamp.node) two.above.byte h'
 ChangedTwo number key new two Collapse h h' = Collapses number two two.top h h'
 ChangedTwo number key new two (ShrinkAbove c) h h' = Lessens number two c two.top h h'
 ChangedTwo {C} {V} number key new two (Grow c) h h' = (h1 : ℕ → Node V) × (h2 : ℕ → Node V) × TakeOverGives h (number two.at.node) (number c) h1
-    × ChangeGives h1 (number c) (slice_index key MAX_PREFIX_LEN) (value_hung new) h2 × ChangeGives h2 (number two.above.seat.node) two.above.byte (Below (number c)) h'
+    × ChangeGives h1 (number c) (slice_index key MAX_PREFIX_LEN) (value_hung new) h2 × ChangeGives h2 (number two.above.stamp.node) two.above.byte (Below (number c)) h'
 ChangedTwo {C} {V} number key new two (GrowLink c leaf byte) h h' = (h1 : ℕ → Node V) × (h2 : ℕ → Node V) × (h3 : ℕ → Node V)
     × ChangeGives h (number leaf) (slice_index key MAX_PREFIX_LEN) (value_hung new) h1 × TakeOverGives h1 (number two.at.node) (number c) h2
-    × ChangeGives h2 (number c) byte (Below (number leaf)) h3 × ChangeGives h3 (number two.above.seat.node) two.above.byte (Below (number c)) h'
+    × ChangeGives h2 (number c) byte (Below (number leaf)) h3 × ChangeGives h3 (number two.above.stamp.node) two.above.byte (Below (number c)) h'
 ChangedTwo {C} {V} number key new two (Split top leaf common byte) h h' = (h1 : ℕ → Node V) × (h2 : ℕ → Node V) × (h3 : ℕ → Node V)
     × ChangeGives h (number leaf) (slice_index key MAX_PREFIX_LEN) (value_hung new) h1 × ChangeGives h1 (number top) byte (Below (number two.at.node)) h2
-    × ChangeGives h2 (number top) (slice_index key common) (Below (number leaf)) h3 × ChangeGives h3 (number two.above.seat.node) two.above.byte (Below (number top)) h'
+    × ChangeGives h2 (number top) (slice_index key common) (Below (number leaf)) h3 × ChangeGives h3 (number two.above.stamp.node) two.above.byte (Below (number top)) h'
 
 -- what goes then, from below, and the lock that is let go last
 abbrev pub after_top : {C V : Type 0} → Two C → Reply V → Option (Parent C) → NextPhase C V
-after_top two r None = decided (Unlock two.above.seat.node r)
-after_top two r (Some g) = decided (Obsolete two.at.node (Some two.above.seat.node) g.seat.node r)
+after_top two r None = decided (Unlock two.above.stamp.node r)
+after_top two r (Some g) = decided (Obsolete two.at.node (Some two.above.stamp.node) g.stamp.node r)
 
 -- what goes then, by the kind of change
 abbrev pub after_change : {C V : Type 0} → Two C → Reply V → Double C → NextPhase C V
-after_change two r (Split top leaf common byte) = decided (UnlockBelow two.at.node two.above.seat.node r)
+after_change two r (Split top leaf common byte) = decided (UnlockBelow two.at.node two.above.stamp.node r)
 after_change two r Collapse = after_top two r two.top
 after_change two r (ShrinkAbove c) = after_top two r two.top
-after_change two r Unlink = decided (Obsolete two.at.node None two.above.seat.node r)
-after_change two r (Grow c) = decided (Obsolete two.at.node None two.above.seat.node r)
-after_change two r (GrowLink c leaf byte) = decided (Obsolete two.at.node None two.above.seat.node r)
-after_change two r (Shrink c) = decided (Obsolete two.at.node None two.above.seat.node r)
+after_change two r Unlink = decided (Obsolete two.at.node None two.above.stamp.node r)
+after_change two r (Grow c) = decided (Obsolete two.at.node None two.above.stamp.node r)
+after_change two r (GrowLink c leaf byte) = decided (Obsolete two.at.node None two.above.stamp.node r)
+after_change two r (Shrink c) = decided (Obsolete two.at.node None two.above.stamp.node r)
 
 -- a node was handed over: the next one goes, or the last lock
 abbrev pub after_retire : {C V : Type 0} → Option C → C → Reply V → NextPhase C V
@@ -457,14 +463,14 @@ after_unwind root (Some n) e = quiet (Unwind n None e)
 
 -- what a scan's step tells, as a report
 abbrev pub outcome_of : {V : Type 0} → ScanReport V → Outcome V
-outcome_of told.Running = Running
-outcome_of (told.Found place key v) = Found place key v
-outcome_of (told.Done count) = Scanned count
-outcome_of (told.Refused e) = Refused e
+outcome_of scan_report.Running = Running
+outcome_of (scan_report.Found place key v) = Found place key v
+outcome_of (scan_report.Done count) = Scanned count
+outcome_of (scan_report.Refused e) = Refused e
 
 -- a scan's step with what it tells
-abbrev pub swept : {C V : Type 0} → Scan C V → ScanReport V → NextPhase C V
-swept s o = record { phase = Sweep s; report = record { decided = false; skipped = false; outcome = outcome_of o } }
+abbrev pub after_scan : {C V : Type 0} → ScanState C V → ScanReport V → NextPhase C V
+after_scan s o = record { phase = Scan s; report = record { decided = false; skipped = false; outcome = outcome_of o } }
 
 -- the step of a call in a phase: on the nodes, the closure's answer and the failing of an exchange, it gives the
 -- call's new value, what it leaves, and the nodes after it
@@ -481,7 +487,7 @@ PhaseStepped number same always most why root key kind fail answer new (Check s 
 PhaseStepped number same always most why root key kind fail answer new (CheckUncopied at) h new' t h' =
     (h' ≡ h) × (new' ≡ new) × IsIf (is_taken (h (number at.node)) at.version) root (λ u. u ≡ refused refusal.Count) t
 PhaseStepped number same always most why root key kind fail answer new (CheckMiss p at common byte) h new' t h' =
-    (h' ≡ h) × (new' ≡ new) × IsIf (is_taken (h (number p.seat.node)) p.seat.version) root (λ u. u ≡ after_miss kind p at common byte) t
+    (h' ≡ h) × (new' ≡ new) × IsIf (is_taken (h (number p.stamp.node)) p.stamp.version) root (λ u. u ≡ after_miss kind p at common byte) t
 PhaseStepped number same always most why root key kind fail answer new (CheckDown p at c) h new' t h' =
     (h' ≡ h) × (new' ≡ new) × IsIf (is_taken (h (number p.node)) p.version) root (λ u. u ≡ quiet (Version (Some at) c)) t
 PhaseStepped number same always most why root key kind fail answer new (CheckOld p s v) h new' t h' =
@@ -509,9 +515,9 @@ PhaseStepped number same always most why root key kind fail answer new (UpgradeO
 PhaseStepped number same always most why root key kind fail answer new (ChangeOne one r) h new' t h' =
     (new' ≡ None) × ChangedOne number key new one one.change h h' × (t ≡ decided (Unlock one.at.node r))
 PhaseStepped number same always most why root key kind fail answer new (UpgradeTop g two r) h new' t h' =
-    (new' ≡ new) × ((u : Upgrade) × (u ≡ upgrade_gives most (h (number g.seat.node)) g.seat.version fail) × UpgradedTop number root g two r h u h' t)
+    (new' ≡ new) × ((u : Upgrade) × (u ≡ upgrade_gives most (h (number g.stamp.node)) g.stamp.version fail) × UpgradedTop number root g two r h u h' t)
 PhaseStepped number same always most why root key kind fail answer new (UpgradeAbove two r) h new' t h' =
-    (new' ≡ new) × ((u : Upgrade) × (u ≡ upgrade_gives most (h (number two.above.seat.node)) two.above.seat.version fail) × UpgradedAbove number root two r h u h' t)
+    (new' ≡ new) × ((u : Upgrade) × (u ≡ upgrade_gives most (h (number two.above.stamp.node)) two.above.stamp.version fail) × UpgradedAbove number root two r h u h' t)
 PhaseStepped number same always most why root key kind fail answer new (UpgradeBelow two r) h new' t h' =
     (new' ≡ new) × ((u : Upgrade) × (u ≡ upgrade_gives most (h (number two.at.node)) two.at.version fail) × UpgradedBelow number two r h u h' t)
 PhaseStepped number same always most why root key kind fail answer new (ChangeTwo two r) h new' t h' =
@@ -526,8 +532,8 @@ PhaseStepped number same always most why root key kind fail answer new (Unlock n
     (new' ≡ new) × UnlockGives h (number n) h' × (t ≡ finished r)
 PhaseStepped number same always most why root key kind fail answer new (Unwind n next e) h new' t h' =
     (new' ≡ new) × UnlockGives h (number n) h' × (t ≡ after_unwind root next e)
-PhaseStepped {C} {V} number same always most why root key kind fail answer new (Sweep s) h new' t h' =
-    (h' ≡ h) × (new' ≡ new) × ((s' : Scan C V) × (o : ScanReport V) × SweepStepped number always root s h s' o × (t ≡ swept s' o))
+PhaseStepped {C} {V} number same always most why root key kind fail answer new (Scan s) h new' t h' =
+    (h' ≡ h) × (new' ≡ new) × ((s' : ScanState C V) × (o : ScanReport V) × ScanStepped number always root s h s' o × (t ≡ after_scan s' o))
 PhaseStepped number same always most why root key kind fail answer new Ended h new' t h' =
     (h' ≡ h) × (new' ≡ new) × (t ≡ quiet Ended)
 
@@ -658,29 +664,29 @@ pub record MayCollapse {V : Type 0} (h : ℕ → Node V) (p up g b : ℕ) : Type
 
 -- what it wants of a change of the node above both
 abbrev pub MayTop : {C V : Type 0} → (C → ℕ) → Two C → Double C → Option (Parent C) → (ℕ → Node V) → Type 0
-MayTop number two Collapse (Some g) h = MayCollapse h (number two.above.seat.node) two.above.byte (number g.seat.node) g.byte
-MayTop number two (ShrinkAbove c) (Some g) h = MayLessen h (number two.above.seat.node) (number c) two.above.byte (number g.seat.node) g.byte
+MayTop number two Collapse (Some g) h = MayCollapse h (number two.above.stamp.node) two.above.byte (number g.stamp.node) g.byte
+MayTop number two (ShrinkAbove c) (Some g) h = MayLessen h (number two.above.stamp.node) (number c) two.above.byte (number g.stamp.node) g.byte
 MayTop number two _ top h = ⊥
 
 -- what the change of the node above wants
 abbrev pub MayChangeTwo : {C V : Type 0} → (C → ℕ) → List ℕ → Option V → Two C → Double C → (ℕ → Node V) → Type 0
-MayChangeTwo number key new two Unlink h = Changeable (h (number two.above.seat.node)) two.above.byte Nothing
-MayChangeTwo number key new two (Shrink c) h = MayLessen h (number two.at.node) (number c) (slice_index key MAX_PREFIX_LEN) (number two.above.seat.node) two.above.byte
+MayChangeTwo number key new two Unlink h = Changeable (h (number two.above.stamp.node)) two.above.byte Nothing
+MayChangeTwo number key new two (Shrink c) h = MayLessen h (number two.at.node) (number c) (slice_index key MAX_PREFIX_LEN) (number two.above.stamp.node) two.above.byte
 MayChangeTwo number key new two Collapse h = MayTop number two Collapse two.top h
 MayChangeTwo number key new two (ShrinkAbove c) h = MayTop number two (ShrinkAbove c) two.top h
 MayChangeTwo number key None two _ h = ⊥
-MayChangeTwo number key (Some v) two (Grow c) h = Changeable (h (number two.above.seat.node)) two.above.byte (Below (number c))
+MayChangeTwo number key (Some v) two (Grow c) h = Changeable (h (number two.above.stamp.node)) two.above.byte (Below (number c))
     × Stands (h (number two.at.node)) × Blank (h (number c)) (h (number two.at.node)).count
-    × (number two.above.seat.node ≢ number c) × (number two.at.node ≢ number c) × (number two.above.seat.node ≢ number two.at.node)
+    × (number two.above.stamp.node ≢ number c) × (number two.at.node ≢ number c) × (number two.above.stamp.node ≢ number two.at.node)
     × HoldsAlike (h (number two.at.node))
-MayChangeTwo number key (Some v) two (GrowLink c leaf byte) h = Changeable (h (number two.above.seat.node)) two.above.byte (Below (number c))
+MayChangeTwo number key (Some v) two (GrowLink c leaf byte) h = Changeable (h (number two.above.stamp.node)) two.above.byte (Below (number c))
     × Stands (h (number two.at.node)) × Blank (h (number c)) (h (number two.at.node)).count × Blank (h (number leaf)) 0
-    × (number two.above.seat.node ≢ number c) × (number two.at.node ≢ number c) × (number two.above.seat.node ≢ number two.at.node)
-    × (number two.above.seat.node ≢ number leaf) × (number two.at.node ≢ number leaf) × (number c ≢ number leaf)
+    × (number two.above.stamp.node ≢ number c) × (number two.at.node ≢ number c) × (number two.above.stamp.node ≢ number two.at.node)
+    × (number two.above.stamp.node ≢ number leaf) × (number two.at.node ≢ number leaf) × (number c ≢ number leaf)
     × HoldsAlike (h (number two.at.node))
-MayChangeTwo number key (Some v) two (Split top leaf common byte) h = Changeable (h (number two.above.seat.node)) two.above.byte (Below (number top))
+MayChangeTwo number key (Some v) two (Split top leaf common byte) h = Changeable (h (number two.above.stamp.node)) two.above.byte (Below (number top))
     × Blank (h (number top)) 1 × Blank (h (number leaf)) 0 × (common < MAX_PREFIX_LEN) × (byte ≢ slice_index key common)
-    × (number two.above.seat.node ≢ number top) × (number two.above.seat.node ≢ number leaf) × (number top ≢ number leaf)
+    × (number two.above.stamp.node ≢ number top) × (number two.above.stamp.node ≢ number leaf) × (number top ≢ number leaf)
 
 -- what the store wants of the nodes that the next step names
 abbrev pub MayStep : {C V : Type 0} → (C → ℕ) → C → List ℕ → Option V → Phase C V → (ℕ → Node V) → Type 0
@@ -688,7 +694,7 @@ MayStep number root key new (Version above n) h = Stands (h (number n))
 MayStep number root key new (Read above at) h = Stands (h (number at.node))
 MayStep number root key new (Check s c) h = Stands (h (number s.at.node))
 MayStep number root key new (CheckUncopied at) h = Stands (h (number at.node))
-MayStep number root key new (CheckMiss p at common byte) h = Stands (h (number p.seat.node))
+MayStep number root key new (CheckMiss p at common byte) h = Stands (h (number p.stamp.node))
 MayStep number root key new (CheckDown p at c) h = Stands (h (number p.node))
 MayStep number root key new (CheckOld p s v) h = Stands (h (number p.node))
 MayStep number root key new (MakeGreater s p leaf) h = (s.depth ≤ MAX_PREFIX_LEN) × MayBackLeaf number h leaf
@@ -699,8 +705,8 @@ MayStep number root key new (Confirm at r) h = Stands (h (number at.node))
 MayStep number root key new (CheckAbove p one r) h = Stands (h (number p.node)) × MayBackOne number h one.change
 MayStep number root key new (UpgradeOne one r) h = Stands (h (number one.at.node)) × MayBackOne number h one.change
 MayStep number root key new (ChangeOne one r) h = MayChangeOne number new one one.change h
-MayStep number root key new (UpgradeTop g two r) h = Stands (h (number g.seat.node)) × MayBackTwo number h two.change
-MayStep number root key new (UpgradeAbove two r) h = Stands (h (number two.above.seat.node)) × MayBackTwo number h two.change
+MayStep number root key new (UpgradeTop g two r) h = Stands (h (number g.stamp.node)) × MayBackTwo number h two.change
+MayStep number root key new (UpgradeAbove two r) h = Stands (h (number two.above.stamp.node)) × MayBackTwo number h two.change
 MayStep number root key new (UpgradeBelow two r) h = Stands (h (number two.at.node)) × MayBackTwo number h two.change
 MayStep number root key new (ChangeTwo two r) h = MayChangeTwo number key new two two.change h
 MayStep number root key new (Obsolete n next p r) h = Stands (h (number n)) × ((h (number n)).locked ≡ true)
@@ -712,7 +718,7 @@ MayStep number root key new New h = Stands (h (number root))
 MayStep number root key new (MakeLeaf s) h = Unit {0}
 MayStep number root key new (AskOld s v) h = Unit {0}
 MayStep number root key new (AskNew plan) h = Unit {0}
-MayStep number root key new (Sweep s) h = MaySweep number root s h
+MayStep number root key new (Scan s) h = MayScan number root s h
 MayStep number root key new Ended h = Unit {0}
 
 -- the same of a call

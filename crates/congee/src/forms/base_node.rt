@@ -4,10 +4,8 @@ ghost use Rattle.std.specs.Option.{option_copied, option_map};
 ghost use Rattle.std.specs.Iterator.{YieldsFirstBy, item_count};
 ghost use Rattle.std.specs.FinMap as map;
 ghost use Rattle.congee.specs.forms.Bytes.{IsFirst, between};
-ghost use Rattle.congee.specs.Heap.{fits};
 ghost use Rattle.congee.specs.forms.Forms.{capacity_of, size_of, next_form, form_of, prefix_of, children_of, is_full_of, Becomes};
 ghost use Rattle.congee.specs.forms.Scan.{rest};
-ghost use Rattle.congee.specs.protocol.Steps.{form_below};
 
 use crate::forms::child::{Child, Small};
 use crate::forms::indexed::Indexed;
@@ -19,7 +17,6 @@ use crate::forms::node256::Node256;
 use crate::forms::prefix::{MAX_PREFIX_LEN, Prefix};
 use crate::forms::room::Boxed;
 use crate::forms::sorted::Sorted;
-use crate::keys::KEY_BYTES;
 use std::alloc::{AllocError, Global};
 
 /// The form of a node.
@@ -130,19 +127,6 @@ impl<C: Small, P: Small> Node<C, P> {
         })
     }
 
-    /// An empty node of the least form, with a prefix of at most seven bytes.
-    pub(crate) fn least(prefix: &[u8]) -> Self
-        requires fits { length prefix.now ≤ MAX_PREFIX_LEN }
-        ensures form { form_of result ≡ T4 }
-        ensures prefix { prefix_of result ≡ prefix.now }
-        ensures children { children_of result ≡ map.empty }
-    {
-        Node::N4(Node4 {
-            prefix: Prefix::new(prefix),
-            children: Sorted::new(),
-        })
-    }
-
     /// The form.
     #[inline(always)]
     pub fn node_type(&self) -> NodeType
@@ -174,19 +158,6 @@ impl<C: Small, P: Small> Node<C, P> {
             Node::N16(n) => n.prefix.as_slice(),
             Node::N48(n) => n.prefix.as_slice(),
             Node::N256(n) => n.prefix.as_slice(),
-        }
-    }
-
-    /// Whether its prefix is the beginning of the key.
-    #[inline(always)]
-    pub(crate) fn is_prefix_of(&self, key: &[u8; KEY_BYTES]) -> bool
-        ensures { result ≡ fits (prefix_of self.now) key.now }
-    {
-        match self {
-            Node::N4(n) => n.prefix.is_prefix_of(key),
-            Node::N16(n) => n.prefix.is_prefix_of(key),
-            Node::N48(n) => n.prefix.is_prefix_of(key),
-            Node::N256(n) => n.prefix.is_prefix_of(key),
         }
     }
 
@@ -372,24 +343,6 @@ impl<C: Small, P: Small> Node<C, P> {
         prove!(self.len() <= form.capacity());
         self.pour_into(&mut greater);
         *self = greater;
-        Ok(())
-    }
-
-    /// Becomes a node of the form below, where the children fit, with the same prefix and children.
-    ///
-    /// Memory is asked for first, but for the least form: where it is refused, the node stays as it was.
-    pub(crate) fn shrink(&mut self, alloc: Global) -> Result<(), AllocError>
-        requires room { map.len (children_of self.old) ≤ capacity_of (form_below (form_of self.old)) }
-        ensures form { OnOk result (form_of self.new ≡ form_below (form_of self.old)) }
-        ensures prefix { OnOk result (prefix_of self.new ≡ prefix_of self.old) }
-        ensures children { OnOk result (children_of self.new ≡ children_of self.old) }
-        ensures refused { OnErr result (self.new ≡ self.old) }
-        ensures memory { OnErr result (form_below (form_of self.old) ≢ T4) }
-    {
-        let form = self.node_type().below();
-        let mut lesser = Node::new(alloc, form, self.prefix())?;
-        self.pour_into(&mut lesser);
-        *self = lesser;
         Ok(())
     }
 }

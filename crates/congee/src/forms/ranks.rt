@@ -15,7 +15,7 @@ pub(crate) struct Ranks<const N: usize> {
 impl<const N: usize> Model for Ranks<N> {
     ghost use Rattle.std.specs.Prelude.{ℕ, List, take};
     ghost use Rattle.std.specs.Coded.{coded_ℕ, coded_list};
-    ghost use Rattle.congee.specs.forms.Ranks.{IsRow};
+    ghost use Rattle.congee.specs.forms.Ranks.{IsPadded};
 
     ghost Value = { List ℕ };
 
@@ -23,7 +23,7 @@ impl<const N: usize> Model for Ranks<N> {
 
     ghost view = { λ r. take r.len r.bytes };
 
-    ghost invariant = { λ r. IsRow N r.bytes r.len };
+    ghost invariant = { λ r. IsPadded N r.bytes r.len };
 }
 
 // The first place whose byte is at least this one, looked for from the front.

@@ -1,5 +1,6 @@
 //! The nodes of an owned tree: the way of a key, and the changes of single nodes.
-ghost use Rattle.std.specs.Prelude.{◌≡◌, ◌+◌, ℕ, ◌≤◌, Some, IfErr, OnOk, OnErr};
+ghost use Rattle.std.specs.Prelude.{◌≡◌, ◌+◌, ℕ, ◌≤◌, Option, Some, IsSome, IfErr, OnOk, OnErr};
+ghost use Rattle.std.specs.Option.{option_copied};
 ghost use Rattle.slab.specs.Slab.{get, ContainsKey, HasRoomFor};
 
 use crate::allocator::{Allocator, OOMError};
@@ -11,17 +12,34 @@ use crate::owned::nodes::Nodes;
 use crate::owned::place::{Onward, Place, Spot};
 use std::alloc::Global;
 
-/// What an owned tree holds, and the room that its nodes take.
+/// What an owned tree holds, and what a leaf with a slot of its own keeps of it in a place.
 pub trait Stored: Small {
-    ghost use Rattle.std.specs.Mem.{FitsInMemory};
-    ghost use Rattle.std.specs.Prelude.{ℕ};
-    ghost use Rattle.congee.specs.contracts.owned.slots.Slot.{the_row as slot_row};
-    ghost use Rattle.congee.specs.contracts.forms.base_node.Node.{the_row as node_row};
-    ghost use Rattle.std.specs.Borrow.{usize as word};
+    ghost use denote.Param.{layout};
+    ghost use prog.Memory.{size};
+    ghost use Rattle.std.specs.Prelude.{◌<◌, ◌^◌};
+    ghost use Rattle.congee.specs.owned.ValueRoom.{node_ty, slot_ty};
 
-    ghost leaf_fits: { FitsInMemory (node_row word Self.row) };
+    /// A value, or a default where no byte uses the place.
+    type Kept: Default + Small;
 
-    ghost fits: { FitsInMemory (slot_row Self.row) };
+    ghost value_in: { Self.Kept → Option Self };
+
+    /// The value as a place keeps it.
+    fn keep(self) -> Self::Kept
+        ensures { value_in result ≡ Some self };
+
+    /// The value that a place kept.
+    fn give(kept: Self::Kept) -> Self
+        requires { IsSome (value_in kept) }
+        ensures { value_in kept ≡ Some result };
+
+    /// The value that a place keeps, where it lies.
+    fn look(kept: &Self::Kept) -> Option<&Self>
+        ensures { option_copied result ≡ value_in kept.now };
+
+    ghost leaf_fits: { size (node_ty (layout Self.Kept.row)) < 2 ^ 63 };
+
+    ghost fits: { size (slot_ty (layout Self.row) (layout Self.Kept.row)) < 2 ^ 63 };
 }
 
 /// The nodes of a tree by their names, the root's is 0, and the budget that they are charged to.
@@ -125,6 +143,25 @@ impl<P: Stored, A: Allocator> Arena<P, A> {
 
 impl Stored for u64 {
     ghost use Rattle.std.proofs.Common.{rules};
+
+    type Kept = u64;
+
+    ghost value_in = { λ kept. Some kept };
+
+    #[inline(always)]
+    fn keep(self) -> u64 {
+        self
+    }
+
+    #[inline(always)]
+    fn give(kept: u64) -> u64 {
+        kept
+    }
+
+    #[inline(always)]
+    fn look(kept: &u64) -> Option<&u64> {
+        Some(kept)
+    }
 
     ghost leaf_fits = { Prim.search rules };
 

@@ -24,7 +24,7 @@ use crate::keys::{KEY_BYTES, bytes_of_key};
 use crate::owned::arena::Arena;
 use crate::owned::drainer::{Drainer, NoDrain};
 use crate::owned::stats::NodeStats;
-use judge::Word64;
+use judge::{Word64, number_of, word_of};
 use std::alloc::{AllocError, Global};
 use std::marker::{Model, PhantomData};
 
@@ -61,16 +61,6 @@ impl<K, V, A: Allocator, D> Model for Congee<K, V, A, D> {
     ghost invariant = { λ t. IsTree t.arena.nodes × (bytes_of t.arena.nodes ≤ A.charged_of t.arena.allocator) };
 }
 
-/// The value of a number, if there is one.
-fn word_of<V: Word64>(number: Option<u64>) -> Option<V>
-    ensures { result ≡ option_map V.of_word number }
-{
-    match number {
-        Some(number) => Some(V::from_word(number)),
-        None => None,
-    }
-}
-
 /// Whether the number is there.
 fn holds(found: Option<u64>, number: u64) -> bool
     ensures { IsTrue result ↔ (found ≡ Some number) }
@@ -78,16 +68,6 @@ fn holds(found: Option<u64>, number: u64) -> bool
     match found {
         Some(value) => value == number,
         None => false,
-    }
-}
-
-/// The number of a value, if there is one.
-fn number_of<V: Word64>(value: &Option<V>) -> Option<u64>
-    ensures { result ≡ option_map V.word value.now }
-{
-    match value {
-        Some(value) => Some(value.to_word()),
-        None => None,
     }
 }
 
@@ -318,7 +298,8 @@ impl<K: Word64, V: Word64, A: Allocator, D: Drop> Congee<K, V, A, D> {
         }
     }
 
-    /// Writes the pairs with start <= key < end into `out`, ascending, as many as fit, each key as its eight bytes.
+    /// Writes the pairs with start <= key < end into `out`, ascending, as many as fit, each key as its eight bytes, and gives their
+    /// number.
     pub(crate) fn range_by_bytes(
         &self,
         start: u64,
@@ -332,7 +313,8 @@ impl<K: Word64, V: Word64, A: Allocator, D: Drop> Congee<K, V, A, D> {
         self.arena.range(start, end, out)
     }
 
-    /// Writes the pairs with start <= key <= last into `out`, ascending, as many as fit, each key as its eight bytes.
+    /// Writes the pairs with start <= key <= last into `out`, ascending, as many as fit, each key as its eight bytes, and gives their
+    /// number.
     pub(crate) fn range_to_by_bytes(
         &self,
         start: u64,

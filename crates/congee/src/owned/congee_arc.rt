@@ -37,8 +37,36 @@ impl<V: Drop> Small for ArcPayload<V> {
     ghost small = { Prim.search rules };
 }
 
+impl<V: Drop> Small for Option<ArcPayload<V>> {
+    ghost use Rattle.std.proofs.Common.{rules};
+
+    ghost small = { Prim.search rules };
+}
+
 impl<V: Drop> Stored for ArcPayload<V> {
     ghost use Rattle.std.proofs.Common.{rules};
+
+    type Kept = Option<ArcPayload<V>>;
+
+    ghost value_in = { λ kept. kept };
+
+    #[inline(always)]
+    fn keep(self) -> Option<ArcPayload<V>> {
+        Some(self)
+    }
+
+    #[inline(always)]
+    fn give(kept: Option<ArcPayload<V>>) -> ArcPayload<V> {
+        match kept {
+            Some(payload) => payload,
+            None => unreachable!(),
+        }
+    }
+
+    #[inline(always)]
+    fn look(kept: &Option<ArcPayload<V>>) -> Option<&ArcPayload<V>> {
+        kept.as_ref()
+    }
 
     ghost leaf_fits = { Prim.search rules };
 

@@ -1,20 +1,16 @@
 //! The changes at the end of a key's way where a value comes in or gives place to another.
-ghost use Rattle.std.specs.Prelude.{◌≡◌, ◌≢◌, ◌+◌, ℕ, [], ◌∷◌, length, slice_index, ◌<◌, ◌≤◌, Some, None, false, IfErr, OnOk};
-ghost use Rattle.std.specs.FinMap as map;
+ghost use Rattle.std.specs.Prelude.{◌≡◌, [], ◌∷◌, length, slice_index, ◌<◌, Some, None, IfErr, OnOk};
 ghost use Rattle.slab.specs.Slab.{ContainsKey, HasRoomFor};
-ghost use Rattle.congee.specs.Heap.{Below, Nothing, fits, child_for};
-ghost use Rattle.congee.specs.forms.Forms.{children_of, size_of};
+ghost use Rattle.congee.specs.Heap.{Nothing, child_for};
+ghost use Rattle.congee.specs.forms.Forms.{size_of};
 ghost use Rattle.congee.specs.owned.Arena.{IsTree, OnWay, Hangs, Reached, heap_of};
 ghost use Rattle.congee.specs.owned.Charge.{Covers};
-ghost use Rattle.congee.specs.owned.Sizes.{bytes_of};
-ghost use Rattle.congee.specs.owned.Changes.{MapChange};
-ghost use Rattle.congee.specs.owned.Edits.{Adds, Denies, Drops, Frees, Swaps};
-ghost use Rattle.congee.specs.owned.Full.{NodesFilled};
+ghost use Rattle.congee.specs.owned.Edits.{Adds, Denies, ForksOff, Swaps};
 ghost use Rattle.congee.specs.owned.Naming.{HasOwnSlot};
 ghost use Rattle.congee.specs.owned.OwnedSteps.{IsHeld};
+ghost use Rattle.congee.specs.owned.Place.{PartsAt};
 ghost use Rattle.congee.specs.owned.Renames.{Renamed};
 ghost use Rattle.congee.specs.owned.Wanted.{room_for, free_wants};
-ghost use Rattle.congee.specs.declared.forms.base_node.Node.{Node as Form};
 ghost use Rattle.congee.specs.declared.forms.base_node.NodeType.TheVariants.{N4};
 ghost use Rattle.congee.specs.declared.forms.prefix.TheConstants.{MAX_PREFIX_LEN};
 
@@ -161,7 +157,7 @@ impl<P: Stored, A: Allocator> Arena<P, A> {
         }
     }
 
-    /// Puts a leaf of the least form with one value into its parent's place.
+    /// Puts a leaf of the least form with one value into its parent's place; any other stays in its slot.
     #[inline(always)]
     pub(crate) fn tuck(&mut self, above: Name, at: Name, key: &[u8; KEY_BYTES])
         requires own { HasOwnSlot at }
@@ -181,16 +177,10 @@ impl<P: Stored, A: Allocator> Arena<P, A> {
     /// Hangs a node of the bytes that the key shares with the child `below` over that child and a leaf for the key.
     fn fork(&mut self, at: Name, below: Name, key: &[u8; KEY_BYTES], value: P)
         requires tree { IsTree self.old.nodes }
-        requires way { OnWay self.old.nodes key.now at }
-        requires hangs { child_for (heap_of self.old.nodes at) key.now ≡ Below below }
-        requires differs { fits (heap_of self.old.nodes below).prefix key.now ≡ false }
+        requires parts { PartsAt self.old.nodes key.now at below }
         requires own { HasOwnSlot below }
         requires room { HasRoomFor self.old.nodes 2 }
-        ensures tree { IsTree self.new.nodes }
-        ensures change { MapChange self.old.nodes self.new.nodes key.now None (Some value) }
-        ensures bytes { bytes_of self.new.nodes ≡ bytes_of self.old.nodes + size_of N4 + size_of N4 }
-        ensures filled { NodesFilled self.old.nodes → NodesFilled self.new.nodes }
-        ensures allocator { self.new.allocator ≡ self.old.allocator }
+        ensures { ForksOff self.old self.new key.now value }
     {
         let Parting { place, other } = self.nodes.parting(below, key);
         let over = self.nodes.make(&key[..place]);
@@ -203,16 +193,10 @@ impl<P: Stored, A: Allocator> Arena<P, A> {
     /// The same over a leaf that lies in its parent's place: the new node comes there, and the leaf into a place of that one.
     fn fork_leaf(&mut self, at: Name, below: Name, key: &[u8; KEY_BYTES], value: P)
         requires tree { IsTree self.old.nodes }
-        requires way { OnWay self.old.nodes key.now at }
-        requires hangs { child_for (heap_of self.old.nodes at) key.now ≡ Below below }
-        requires differs { fits (heap_of self.old.nodes below).prefix key.now ≡ false }
+        requires parts { PartsAt self.old.nodes key.now at below }
         requires inline { HasOwnSlot below → ⊥ }
         requires room { HasRoomFor self.old.nodes 2 }
-        ensures tree { IsTree self.new.nodes }
-        ensures change { MapChange self.old.nodes self.new.nodes key.now None (Some value) }
-        ensures bytes { bytes_of self.new.nodes ≡ bytes_of self.old.nodes + size_of N4 + size_of N4 }
-        ensures filled { NodesFilled self.old.nodes → NodesFilled self.new.nodes }
-        ensures allocator { self.new.allocator ≡ self.old.allocator }
+        ensures { ForksOff self.old self.new key.now value }
     {
         let up = self.byte_at(at, key);
         let Parting { place, other } = self.nodes.parting(below, key);
@@ -225,26 +209,6 @@ impl<P: Stored, A: Allocator> Arena<P, A> {
         self.nodes.hang_leaf(over, other, &beside, held);
     }
 
-    /// The same over a node of either kind.
-    fn host(&mut self, at: Name, below: Name, key: &[u8; KEY_BYTES], value: P)
-        requires tree { IsTree self.old.nodes }
-        requires way { OnWay self.old.nodes key.now at }
-        requires hangs { child_for (heap_of self.old.nodes at) key.now ≡ Below below }
-        requires differs { fits (heap_of self.old.nodes below).prefix key.now ≡ false }
-        requires room { HasRoomFor self.old.nodes 2 }
-        ensures tree { IsTree self.new.nodes }
-        ensures change { MapChange self.old.nodes self.new.nodes key.now None (Some value) }
-        ensures bytes { bytes_of self.new.nodes ≡ bytes_of self.old.nodes + size_of N4 + size_of N4 }
-        ensures filled { NodesFilled self.old.nodes → NodesFilled self.new.nodes }
-        ensures allocator { self.new.allocator ≡ self.old.allocator }
-    {
-        if below.is_inline() {
-            self.fork_leaf(at, below, key, value)
-        } else {
-            self.fork(at, below, key, value)
-        }
-    }
-
     /// Hangs a node of the bytes that the key shares with the child `below` over that child and a leaf for the key,
     /// or hands the value back.
     pub(crate) fn split(
@@ -255,9 +219,7 @@ impl<P: Stored, A: Allocator> Arena<P, A> {
         value: P,
     ) -> Result<(), (OOMError, P)>
         requires tree { IsTree self.old.nodes }
-        requires way { OnWay self.old.nodes key.now at }
-        requires hangs { child_for (heap_of self.old.nodes at) key.now ≡ Below below }
-        requires differs { fits (heap_of self.old.nodes below).prefix key.now ≡ false }
+        requires parts { PartsAt self.old.nodes key.now at below }
         requires stands { ContainsKey self.old.nodes below }
         ensures adds { OnOk result (Adds A.charged_of A.limit_of self.old self.new
             key.now None value (Some (size_of N4 ∷ size_of N4 ∷ []))) }
@@ -271,7 +233,11 @@ impl<P: Stored, A: Allocator> Arena<P, A> {
             self.allocator.deallocate(NodeType::N4.size());
             return Err((e, value));
         }
-        self.host(at, below, key, value);
+        if below.is_inline() {
+            self.fork_leaf(at, below, key, value);
+        } else {
+            self.fork(at, below, key, value);
+        }
         Ok(())
     }
 }

@@ -7,15 +7,14 @@ ghost use Rattle.congee.specs.forms.Forms.{children_of, form_of, is_full_of, pre
 ghost use Rattle.congee.specs.declared.keys.TheConstants.{KEY_BYTES};
 ghost use Rattle.congee.specs.declared.forms.prefix.TheConstants.{MAX_PREFIX_LEN};
 
-use crate::forms::base_node::Node;
 use crate::forms::child::Child;
 use crate::forms::prefix::MAX_PREFIX_LEN;
 use crate::keys::KEY_BYTES;
 use crate::owned::arena::Stored;
+use crate::owned::leaf_node::LeafNode;
 use crate::owned::lone::{Lone, key_from};
 use crate::owned::names::Name;
 use crate::owned::nodes::Nodes;
-use crate::owned::slot_node::SlotNode;
 use crate::owned::slots::Slot;
 
 impl<P: Stored> Nodes<P> {
@@ -68,9 +67,9 @@ impl<P: Stored> Nodes<P> {
         ensures own { HasOwnSlot result }
         ensures capacity { self.new.capacity ≡ self.old.capacity }
     {
-        let mut leaf = Node::least(&key[..MAX_PREFIX_LEN]);
-        leaf.insert(key[MAX_PREFIX_LEN], Child::Value(value));
-        Name::of(self.slab.insert_reserved(Slot::Leaf(SlotNode::new(leaf))))
+        let mut leaf = LeafNode::least(&key[..MAX_PREFIX_LEN]);
+        leaf.insert(key[MAX_PREFIX_LEN], value);
+        Name::of(self.slab.insert_reserved(Slot::Leaf(leaf)))
     }
 
     /// Hangs a node with a slot of its own under a free byte of an inner node that has room.

@@ -22,10 +22,14 @@ use std::marker::Model;
 
 /// The prefix of an inner node, and what hangs in it. To contracts it is a node whose children are nodes by their slots and
 /// leaves with their whole keys.
+///
+/// `spare` fills a slot, with values of eight bytes, to 128 bytes, so that what leads a look-up on from one lies in one line of
+/// memory.
 #[derive(Drop)]
 pub(crate) struct Inner<P: Nested> {
     prefix: Prefix,
     places: Places<P>,
+    spare: u64,
 }
 
 /// The entries of an inner node from a byte on, or all those of the greatest form.
@@ -130,6 +134,7 @@ impl<P: Small> Inner<P> {
         Ok(Inner {
             prefix: Prefix::new(prefix),
             places: Places::new(alloc, form)?,
+            spare: 0,
         })
     }
 
@@ -143,6 +148,7 @@ impl<P: Small> Inner<P> {
         Inner {
             prefix: Prefix::new(prefix),
             places: Places::least(),
+            spare: 0,
         }
     }
 
@@ -198,7 +204,7 @@ impl<P: Small> Inner<P> {
         self.places.is_full()
     }
 
-    // The first byte of every key under a byte of the node.
+    /// The first byte of every key under a byte of the node.
     #[inline(always)]
     fn first_byte(&self, byte: u8) -> u8
         ensures { result ≡ first_byte (prefix_of self.now) byte }

@@ -6,7 +6,6 @@ ghost use Rattle.congee.specs.forms.Forms.{children_of};
 ghost use Rattle.congee.specs.declared.keys.TheConstants.{KEY_BYTES};
 ghost use Rattle.congee.specs.declared.forms.prefix.TheConstants.{MAX_PREFIX_LEN};
 
-use crate::forms::child::Child;
 use crate::forms::prefix::MAX_PREFIX_LEN;
 use crate::keys::{KEY_BYTES, key_of_bytes};
 use crate::owned::arena::Stored;
@@ -28,7 +27,7 @@ impl<P: Stored> Nodes<P> {
     ghost use Rattle.congee.specs.owned.Sights.{Sees};
     ghost use Rattle.congee.specs.owned.Slots.{lone_node};
     ghost use Rattle.congee.specs.owned.Stores.{LeafStands, child_now};
-    ghost use Rattle.congee.specs.owned.Ways.{IsTurn, IsTurnOn, Leads, LeadsOn};
+    ghost use Rattle.congee.specs.owned.Ways.{IsWayBelow, IsWayOn, Leads, LeadsOn};
     ghost use Rattle.congee.specs.declared.forms.base_node.Node.{Node as Form};
     ghost use Rattle.congee.specs.declared.forms.child.Child.TheVariants.{Value};
 
@@ -54,7 +53,7 @@ impl<P: Stored> Nodes<P> {
         }
     }
 
-    // What a leaf in the place of its parent has for a key.
+    /// What a leaf in the place of its parent has for a key.
     #[inline(always)]
     fn look_inline(&self, slot: usize, byte: u8, key: &[u8; KEY_BYTES]) -> Way<'_, P>
         requires { ContainsKey self.now (257 * slot + (byte + 1)) }
@@ -68,7 +67,7 @@ impl<P: Stored> Nodes<P> {
         }
     }
 
-    // What a node in a slot has for a key.
+    /// What a node in a slot has for a key.
     #[inline(always)]
     fn look_slot(&self, slot: usize, key: &[u8; KEY_BYTES]) -> Way<'_, P>
         requires tree { IsTree self.now }
@@ -81,7 +80,7 @@ impl<P: Stored> Nodes<P> {
                 match n.get_child(byte) {
                     None => Way::Free,
                     Some(Hung::Blank) => unreachable!(),
-                    Some(Hung::Node(below)) => self.turn(below, key),
+                    Some(Hung::Node(below)) => self.way_below(below, key),
                     Some(Hung::Leaf(lone)) => {
                         let name = Name::inline(slot, byte);
                         if leads(&lone.key, key) {
@@ -94,9 +93,7 @@ impl<P: Stored> Nodes<P> {
             }
             Slot::Leaf(n) => match n.get_child(key[n.prefix_len()]) {
                 None => Way::Free,
-                Some(Child::Blank) => unreachable!(),
-                Some(Child::Node(below)) => self.turn(*below, key),
-                Some(Child::Value(value)) => Way::Held(value),
+                Some(value) => Way::Held(value),
             },
         }
     }
@@ -114,7 +111,7 @@ impl<P: Stored> Nodes<P> {
                 match n.get_child(next) {
                     None => Onward::Free,
                     Some(Hung::Blank) => unreachable!(),
-                    Some(Hung::Node(below)) => self.turn_on(below, key),
+                    Some(Hung::Node(below)) => self.way_on(below, key),
                     Some(Hung::Leaf(lone)) => {
                         let leaf = Name::inline(slot, next);
                         if !leads(&lone.key, key) {
@@ -129,14 +126,12 @@ impl<P: Stored> Nodes<P> {
             }
             Slot::Leaf(n) => match n.get_child(key[n.prefix_len()]) {
                 None => Onward::Free,
-                Some(Child::Blank) => unreachable!(),
-                Some(Child::Node(below)) => self.turn_on(*below, key),
-                Some(Child::Value(value)) => Onward::Held(value),
+                Some(value) => Onward::Held(value),
             },
         }
     }
 
-    // Whether the key has the prefix of the node in a slot.
+    /// Whether the key has the prefix of the node in a slot.
     #[inline(always)]
     fn is_prefix_of(&self, slot: usize, key: &[u8; KEY_BYTES]) -> bool
         requires { ContainsKey self.now (257 * slot) }
@@ -145,11 +140,11 @@ impl<P: Stored> Nodes<P> {
         self.slab[slot].is_prefix_of(key)
     }
 
-    // Whether the node in a slot is on the key's way.
+    /// Whether the node in a slot is on the key's way.
     #[inline(always)]
-    fn turn(&self, slot: usize, key: &[u8; KEY_BYTES]) -> Way<'_, P>
+    fn way_below(&self, slot: usize, key: &[u8; KEY_BYTES]) -> Way<'_, P>
         requires { ContainsKey self.now (257 * slot) }
-        ensures { IsTurn self.now key.now (257 * slot) result }
+        ensures { IsWayBelow self.now key.now (257 * slot) result }
     {
         if self.is_prefix_of(slot, key) {
             Way::Below(Name::of(slot))
@@ -158,11 +153,11 @@ impl<P: Stored> Nodes<P> {
         }
     }
 
-    // The same, for a way that goes on by slots.
+    /// The same, for a way that goes on by slots.
     #[inline(always)]
-    fn turn_on(&self, slot: usize, key: &[u8; KEY_BYTES]) -> Onward<'_, P>
+    fn way_on(&self, slot: usize, key: &[u8; KEY_BYTES]) -> Onward<'_, P>
         requires { ContainsKey self.now (257 * slot) }
-        ensures { IsTurnOn self.now key.now (257 * slot) result }
+        ensures { IsWayOn self.now key.now (257 * slot) result }
     {
         if self.is_prefix_of(slot, key) {
             Onward::Below(slot)
@@ -185,7 +180,7 @@ impl<P: Stored> Nodes<P> {
         }
     }
 
-    // The value of a leaf in the place of its parent, if its byte isn't below `from`.
+    /// The value of a leaf in the place of its parent, if its byte isn't below `from`.
     #[inline(always)]
     fn first_inline(&self, slot: usize, byte: u8, from: usize) -> Option<(u8, Found<'_, P>)>
         requires { ContainsKey self.now (257 * slot + (byte + 1)) }
@@ -203,7 +198,7 @@ impl<P: Stored> Nodes<P> {
         }
     }
 
-    // What hangs under the least byte from `from` on in the node in a slot.
+    /// What hangs under the least byte from `from` on in the node in a slot.
     #[inline(always)]
     fn first_in_slot(&self, slot: usize, from: usize) -> Option<(u8, Found<'_, P>)>
         requires { ContainsKey self.now (257 * slot) }
@@ -224,9 +219,7 @@ impl<P: Stored> Nodes<P> {
             },
             Slot::Leaf(n) => match n.first_from(from) {
                 None => None,
-                Some((byte, Child::Blank)) => Some((byte, Found::Blank)),
-                Some((byte, Child::Node(below))) => Some((byte, Found::Node(Name::of(*below)))),
-                Some((byte, Child::Value(value))) => Some((byte, Found::Value(value))),
+                Some((byte, value)) => Some((byte, Found::Value(value))),
             },
         }
     }

@@ -1,7 +1,5 @@
 //! Where a key's way through a tree ends, and what hangs there.
-ghost use Rattle.std.specs.Prelude.{◌≡◌, ◌*◌, ℕ, MatchOption};
-ghost use Rattle.congee.specs.owned.Stores.{child_now};
-ghost use Rattle.congee.specs.declared.forms.child.Child.TheVariants.{Node as Sub};
+ghost use Rattle.std.specs.Prelude.{◌≡◌, ◌*◌};
 
 use crate::owned::names::Name;
 
@@ -46,19 +44,6 @@ pub(crate) enum Found<'a, P> {
     Leaf(Name, u64, &'a P),
     /// A value.
     Value(&'a P),
-}
-
-impl<P> Found<'_, P> {
-    /// The node, with a slot of its own or not.
-    pub(crate) fn node(&self) -> Option<Name>
-        ensures { MatchOption result ((c : ℕ) → child_now self.now ≡ Sub c → ⊥) (λ c. child_now self.now ≡ Sub c) }
-    {
-        match self {
-            Found::Node(name) => Some(*name),
-            Found::Leaf(name, _, _) => Some(*name),
-            _ => None,
-        }
-    }
 }
 
 /// What the last node has below the key's byte.

@@ -186,7 +186,6 @@ impl<P: Stored, A: Allocator> Arena<P, A> {
         self.allocator.deallocate(leaf);
         if lesser {
             self.lessen(alloc, above);
-            return value;
         }
         value
     }

@@ -8,14 +8,13 @@ ghost use Rattle.congee.specs.owned.Arena.{Nodes};
 ghost use Rattle.congee.specs.owned.Sights.{HasKey, HasLeaf, Sees, child_of};
 ghost use Rattle.congee.specs.declared.forms.base_node.Node.{Node as Form};
 
-use crate::forms::child::Child;
 use crate::forms::prefix::MAX_PREFIX_LEN;
 use crate::keys::key_of_bytes;
 use crate::owned::arena::Stored;
 use crate::owned::entries::{Hung, Seen};
 use crate::owned::inner::Inner;
+use crate::owned::leaf_node::LeafNode;
 use crate::owned::names::Name;
-use crate::owned::slot_node::SlotNode;
 
 /// A node by what its name led to, so that a walk through its children looks nothing up again.
 #[derive(Drop)]
@@ -25,7 +24,7 @@ pub(crate) enum Sight<'a, P: Stored> {
     /// An inner node, and its slot.
     Inner(usize, &'a Inner<P>),
     /// A leaf with a slot of its own, and the least key that it may have.
-    Leaf(u64, &'a SlotNode<P>),
+    Leaf(u64, &'a LeafNode<P>),
 }
 
 /// What hangs under a node's byte.
@@ -78,11 +77,7 @@ impl<'a, P: Stored> Sight<'a, P> {
             },
             Sight::Leaf(least, n) => match n.first_from(from) {
                 None => None,
-                Some((byte, Child::Blank)) => Some((byte, Next::Blank)),
-                Some((byte, Child::Node(below))) => Some((byte, Next::Node(Name::of(*below)))),
-                Some((byte, Child::Value(value))) => {
-                    Some((byte, Next::Value(least | byte as u64, value)))
-                }
+                Some((byte, value)) => Some((byte, Next::Value(least | byte as u64, value))),
             },
         }
     }

@@ -6,22 +6,23 @@ ghost use Rattle.congee.specs.declared.keys.TheConstants.{KEY_BYTES};
 ghost use Rattle.congee.specs.declared.forms.prefix.TheConstants.{MAX_PREFIX_LEN};
 
 use crate::forms::base_node::NodeType;
-use crate::forms::child::{Child, Small};
+use crate::forms::child::Child;
 use crate::keys::KEY_BYTES;
+use crate::owned::arena::Stored;
 use crate::owned::entries::{Hung, Seen};
 use crate::owned::inner::Inner;
+use crate::owned::leaf_node::LeafNode;
 use crate::owned::lone::Lone;
-use crate::owned::slot_node::SlotNode;
 use std::alloc::{AllocError, Global};
 
 /// A node with a slot of its own. A child of an inner node is a node by its slot, or a leaf with one value.
 #[derive(Drop)]
-pub(crate) enum Slot<P: Small> {
+pub(crate) enum Slot<P: Stored> {
     Inner(Inner<P>),
-    Leaf(SlotNode<P>),
+    Leaf(LeafNode<P>),
 }
 
-impl<P: Small> Slot<P> {
+impl<P: Stored> Slot<P> {
     ghost use Rattle.congee.specs.Heap.{fits};
     ghost use Rattle.congee.specs.forms.Forms.{capacity_of};
     ghost use Rattle.congee.specs.declared.forms.child.Child.TheVariants.{Value};
@@ -32,6 +33,7 @@ impl<P: Small> Slot<P> {
     ghost use Rattle.congee.specs.owned.Entries.{Begins, first_byte, lone_seen};
     ghost use Rattle.congee.specs.owned.Kinds.{prefix_in, form_in, len_in, full_in, HasLowBytes, IsInner, IsLeaf, inner_get, leaf_get, IsValue, Cleared, InnerBecomes, LeafBecomes, Grown};
 
+    /// The node's prefix, at most `MAX_PREFIX_LEN` bytes.
     #[inline(always)]
     pub(crate) fn prefix(&self) -> &[u8]
         ensures bytes { result.now ≡ prefix_in self.now }
@@ -43,6 +45,7 @@ impl<P: Small> Slot<P> {
         }
     }
 
+    /// How many bytes the prefix has.
     #[inline(always)]
     pub(crate) fn prefix_len(&self) -> usize
         ensures count { result ≡ length (prefix_in self.now) }
@@ -54,6 +57,7 @@ impl<P: Small> Slot<P> {
         }
     }
 
+    /// Whether the key has the prefix's bytes in their places.
     #[inline(always)]
     pub(crate) fn is_prefix_of(&self, key: &[u8; KEY_BYTES]) -> bool
         ensures { result ≡ fits (prefix_in self.now) key.now }
@@ -64,6 +68,7 @@ impl<P: Small> Slot<P> {
         }
     }
 
+    /// The node's form.
     #[inline(always)]
     pub(crate) fn node_type(&self) -> NodeType
         ensures { result ≡ form_in self.now }
@@ -74,6 +79,7 @@ impl<P: Small> Slot<P> {
         }
     }
 
+    /// How many children the node has.
     #[inline(always)]
     pub(crate) fn len(&self) -> usize
         ensures count { result ≡ len_in self.now }
@@ -86,6 +92,7 @@ impl<P: Small> Slot<P> {
         }
     }
 
+    /// Whether the node has as many children as its form can.
     #[inline(always)]
     pub(crate) fn is_full(&self) -> bool
         ensures { result ≡ full_in self.now }
@@ -96,6 +103,7 @@ impl<P: Small> Slot<P> {
         }
     }
 
+    /// Becomes the next greater form. Where memory is refused, it stays as it was.
     pub(crate) fn grow(&mut self, alloc: Global) -> Result<(), AllocError>
         ensures grown { OnOk result (Grown self.old self.new) }
         ensures refused { OnErr result (self.new ≡ self.old) }
@@ -146,12 +154,12 @@ impl<P: Small> Slot<P> {
         ensures { LeafBecomes self.old self.new (λ m. map.insert m byte (Value value)) }
     {
         match self {
-            Slot::Leaf(n) => n.insert(byte, Child::Value(value)),
+            Slot::Leaf(n) => n.insert(byte, value),
             Slot::Inner(_) => unreachable!(),
         }
     }
 
-    /// Another value comes in its place.
+    /// Another value comes in the place of a leaf's value under a byte, which is given back.
     #[inline(always)]
     pub(crate) fn change_value(&mut self, byte: u8, value: P) -> P
         requires present { IsValue (leaf_get self.old byte) }
@@ -159,14 +167,12 @@ impl<P: Small> Slot<P> {
         ensures now { LeafBecomes self.old self.new (λ m. map.insert m byte (Value value)) }
     {
         match self {
-            Slot::Leaf(n) => match n.change(byte, Child::Value(value)) {
-                Child::Value(old) => old,
-                _ => unreachable!(),
-            },
+            Slot::Leaf(n) => n.change(byte, value),
             Slot::Inner(_) => unreachable!(),
         }
     }
 
+    /// A leaf's value under a byte is taken out and given back.
     #[inline(always)]
     pub(crate) fn take_value(&mut self, byte: u8) -> P
         requires present { IsValue (leaf_get self.old byte) }
@@ -174,14 +180,12 @@ impl<P: Small> Slot<P> {
         ensures now { LeafBecomes self.old self.new (λ m. map.remove m byte) }
     {
         match self {
-            Slot::Leaf(n) => match n.remove(byte) {
-                Child::Value(old) => old,
-                _ => unreachable!(),
-            },
+            Slot::Leaf(n) => n.remove(byte),
             Slot::Inner(_) => unreachable!(),
         }
     }
 
+    /// A child comes in under a byte of an inner node that had none there.
     #[inline(always)]
     pub(crate) fn put_child(&mut self, byte: u8, child: Child<usize, Lone<P>>)
         requires inner { IsInner self.old }
@@ -196,6 +200,7 @@ impl<P: Small> Slot<P> {
         }
     }
 
+    /// Another child comes in the place of the one under a byte of an inner node, which is given back.
     #[inline(always)]
     pub(crate) fn change_child(
         &mut self,
@@ -213,6 +218,7 @@ impl<P: Small> Slot<P> {
         }
     }
 
+    /// The child under a byte of an inner node is taken out and given back.
     #[inline(always)]
     pub(crate) fn take_child(&mut self, byte: u8) -> Child<usize, Lone<P>>
         requires present { IsSome (inner_get self.old byte) }
@@ -238,6 +244,7 @@ impl<P: Small> Slot<P> {
         }
     }
 
+    /// Loses all children, and keeps its prefix.
     pub(crate) fn clear(&mut self)
         ensures { Cleared self.old self.new }
     {

@@ -1,5 +1,5 @@
-//! How the nodes of an arena are spread over levels and forms.
-ghost use Rattle.std.specs.Prelude.{◌≡◌, ℕ, ◌≤◌, ◌<◌, ◌++◌, ◌^◌, List, length, vec_len, IfOk, OnOk};
+//! The nodes of an arena, counted by level and form.
+ghost use Rattle.std.specs.Prelude.{◌≡◌, ◌≤◌, ◌++◌, List, length, vec_len, IfOk, OnOk};
 ghost use Rattle.std.specs.FinMap as map;
 ghost use Rattle.std.specs.List.{All};
 ghost use Rattle.slab.specs.Slab.{get, ContainsKey};
@@ -15,11 +15,12 @@ use crate::allocator::Allocator;
 use crate::keys::KEY_BYTES;
 use crate::owned::arena::{Arena, Stored};
 use crate::owned::names::Name;
+use crate::owned::sight::Next;
 use crate::owned::stats::NodeStats;
 use std::alloc::{AllocError, Global};
 
 impl<P: Stored, A: Allocator> Arena<P, A> {
-    /// Counts a node on a level, and the nodes below it.
+    /// Counts a node on a level, and the nodes below it: a leaf has none, and its values are told by their number.
     fn count_from(&self, at: Name, level: usize, stats: &mut NodeStats) -> Result<(), AllocError>
         requires tree { IsTree self.now.nodes }
         requires stands { ContainsKey self.now.nodes at }
@@ -31,10 +32,17 @@ impl<P: Stored, A: Allocator> Arena<P, A> {
         ensures bytes { OnOk result (HasBytesFrom (get self.now.nodes) KEY_BYTES at) }
     {
         stats.count(level, self.nodes.node_type(at), self.nodes.len(at) as u64)?;
+        if self.nodes.is_leaf(at) {
+            return Ok(());
+        }
+        let sight = self.nodes.sight(at);
         let mut from = 0;
-        while let Some((byte, child)) = self.nodes.first_from(at, from) {
-            if let Some(below) = child.node() {
-                self.count_from(below, level + 1, stats)?;
+        while let Some((byte, child)) = sight.first_from(from) {
+            match child {
+                Next::Node(below) | Next::Leaf(below, _, _) => {
+                    self.count_from(below, level + 1, stats)?;
+                }
+                _ => {}
             }
             from = byte as usize + 1;
         }

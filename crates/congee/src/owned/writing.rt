@@ -1,8 +1,8 @@
 //! The pairs within a range of keys, written to a slice node by node.
 ghost use Rattle.std.specs.Prelude.{◌≡◌, ◌<◌, ◌≤◌, ◌*◌, length, true, false};
 ghost use Rattle.congee.specs.owned.Arena.{IsTree};
-ghost use Rattle.congee.specs.owned.Rows.{Hangs, SeesEntries, SeesList};
-ghost use Rattle.congee.specs.owned.Writes.{Fills, PutsNothing, PutsOne, WritesByte, WritesNode};
+ghost use Rattle.congee.specs.owned.Rows.{SeesEntries, SeesEntry, SeesList};
+ghost use Rattle.congee.specs.owned.Writes.{PutsNothing, PutsOne, WritesByte, WritesMore, WritesNode};
 ghost use Rattle.slab.specs.Slab.{ContainsKey};
 
 use crate::forms::masked::Masked;
@@ -56,7 +56,7 @@ impl Nodes<u64> {
         requires tree { IsTree self.now }
         requires stands { ContainsKey self.now at }
         requires within { count ≤ length out.old }
-        ensures fills { Fills count out.old out.new result }
+        ensures fills { WritesMore count out.old out.new result }
         ensures pairs { WritesNode self.now E.entry last at from count out.old out.new result }
     {
         match self.row(at, from) {
@@ -68,7 +68,7 @@ impl Nodes<u64> {
         }
     }
 
-    // The same of any node.
+    /// The same of any node.
     #[cycle(writing)]
     fn write_seen<E: Listed>(
         &self,
@@ -81,7 +81,7 @@ impl Nodes<u64> {
         requires tree { IsTree self.now }
         requires stands { ContainsKey self.now at }
         requires within { count ≤ length out.old }
-        ensures fills { Fills count out.old out.new result }
+        ensures fills { WritesMore count out.old out.new result }
         ensures pairs { WritesNode self.now E.entry last at from count out.old out.new result }
     {
         let sight = self.sight(at);
@@ -103,7 +103,7 @@ impl Nodes<u64> {
         Written { count, over: false }
     }
 
-    // The same of the entries that an inner node with a prefix has from a byte on.
+    /// The same of the entries that an inner node with a prefix has from a byte on.
     #[inline(always)]
     #[cycle(writing)]
     fn write_list<E: Listed>(
@@ -117,7 +117,7 @@ impl Nodes<u64> {
         requires tree { IsTree self.now }
         requires sees { SeesList self.now stem list.now }
         requires within { count ≤ length out.old }
-        ensures fills { Fills count out.old out.new result }
+        ensures fills { WritesMore count out.old out.new result }
         ensures pairs { (seen : SeesList self.now stem list.now) → WritesNode self.now E.entry last (257 * stem.slot) seen.from count out.old out.new result }
     {
         let mut count = count;
@@ -131,7 +131,7 @@ impl Nodes<u64> {
         Written { count, over: false }
     }
 
-    // The same of one entry.
+    /// The same of one entry.
     #[inline(always)]
     #[cycle(writing)]
     fn write_entry<E: Listed>(
@@ -143,10 +143,10 @@ impl Nodes<u64> {
         count: usize,
     ) -> Written
         requires tree { IsTree self.now }
-        requires hangs { Hangs self.now stem entry.now }
+        requires hangs { SeesEntry self.now stem entry.now }
         requires within { count ≤ length out.old }
-        ensures fills { Fills count out.old out.new result }
-        ensures pairs { (h : Hangs self.now stem entry.now) → WritesByte self.now E.entry last (257 * stem.slot) h.from h.byte count out.old out.new result }
+        ensures fills { WritesMore count out.old out.new result }
+        ensures pairs { (h : SeesEntry self.now stem entry.now) → WritesByte self.now E.entry last (257 * stem.slot) h.from h.byte count out.old out.new result }
     {
         match entry {
             Entry::Blank => unreachable!(),
@@ -158,8 +158,8 @@ impl Nodes<u64> {
         }
     }
 
-    // The same of the entries of the greatest form, most of which are nodes: these are written within the loop, and looked
-    // at before, a few at a time, since a processor that waits for one can read the others meanwhile.
+    /// The same of the entries of the greatest form, most of which are nodes: these are written within the loop, and looked
+    /// at before, a few at a time, since a processor that waits for one can read the others meanwhile.
     #[inline(always)]
     #[cycle(writing)]
     fn write_wide<E: Listed>(
@@ -174,7 +174,7 @@ impl Nodes<u64> {
         requires tree { IsTree self.now }
         requires sees { SeesEntries self.now stem form.now }
         requires within { count ≤ length out.old }
-        ensures fills { Fills count out.old out.new result }
+        ensures fills { WritesMore count out.old out.new result }
         ensures pairs { WritesNode self.now E.entry last (257 * stem.slot) from count out.old out.new result }
     {
         let mut from = from;
@@ -195,7 +195,7 @@ impl Nodes<u64> {
         Written { count, over: false }
     }
 
-    // The same of one of them.
+    /// The same of one of them.
     #[inline(always)]
     #[cycle(writing)]
     fn write_wide_entry<E: Listed>(
@@ -207,10 +207,10 @@ impl Nodes<u64> {
         count: usize,
     ) -> Written
         requires tree { IsTree self.now }
-        requires hangs { Hangs self.now stem entry.now }
+        requires hangs { SeesEntry self.now stem entry.now }
         requires within { count ≤ length out.old }
-        ensures fills { Fills count out.old out.new result }
-        ensures pairs { (h : Hangs self.now stem entry.now) → WritesByte self.now E.entry last (257 * stem.slot) h.from h.byte count out.old out.new result }
+        ensures fills { WritesMore count out.old out.new result }
+        ensures pairs { (h : SeesEntry self.now stem entry.now) → WritesByte self.now E.entry last (257 * stem.slot) h.from h.byte count out.old out.new result }
     {
         match entry {
             Entry::Node(below) => self.write_below(Name::of(*below), last, out, count),
@@ -218,14 +218,14 @@ impl Nodes<u64> {
         }
     }
 
-    // The same of a node below the greatest form.
+    /// The same of a node below the greatest form.
     #[inline(always)]
     #[cycle(writing)]
     fn write_below<E: Listed>(&self, at: Name, last: u64, out: &mut [E], count: usize) -> Written
         requires tree { IsTree self.now }
         requires stands { ContainsKey self.now at }
         requires within { count ≤ length out.old }
-        ensures fills { Fills count out.old out.new result }
+        ensures fills { WritesMore count out.old out.new result }
         ensures pairs { WritesNode self.now E.entry last at 0 count out.old out.new result }
     {
         match self.row(at, 0) {
@@ -234,7 +234,7 @@ impl Nodes<u64> {
         }
     }
 
-    // Looks at the nodes from a byte on, a few of them, or as many as fill the places, and tells how many: one at least.
+    /// Looks at the nodes from a byte on, a few of them, or as many as fill the places, and tells how many: one at least.
     #[inline(always)]
     fn look_ahead(&self, form: &Masked<Entry<u64>>, from: usize, places: usize) -> usize
         ensures { 0 < result }

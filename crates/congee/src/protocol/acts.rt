@@ -16,9 +16,9 @@ use crate::forms::child::Child;
 use crate::forms::prefix::MAX_PREFIX_LEN;
 use crate::keys::KEY_BYTES;
 use crate::protocol::machine::{Machine, Move, Outcome};
+use crate::protocol::next_phase::value_child;
 use crate::protocol::phase::{Double, One, Parent, Phase, Single, Site, Two, taken};
 use crate::protocol::store::{NodeName, Refusal, Stamp, Store, Upgrade};
-use crate::protocol::turn::value_child;
 use judge::{Payload, Reply};
 
 impl<C: NodeName, P: Payload> Machine<C, P> {
@@ -406,14 +406,14 @@ impl<C: NodeName, P: Payload> Machine<C, P> {
         reply: Reply<P>,
         fail: bool,
     ) -> Move<P>
-        requires stands { Stands (S.heap store.old (C.number top.seat.node)) }
+        requires stands { Stands (S.heap store.old (C.number top.stamp.node)) }
         requires made { MayBackTwo C.number (S.heap store.old) two.change }
         ensures phase_alone { self.new ≡ record self.old { phase = self.new.phase } }
         ensures limit { S.version_max store.new ≡ S.version_max store.old }
         ensures rest { S.rest store.new ≡ S.rest store.old }
-        ensures upgraded { ((u : Upgrade) × (u ≡ upgrade_gives (S.version_max store.old) (S.heap store.old (C.number top.seat.node)) top.seat.version fail) × UpgradedTop C.number self.old.root top two reply (S.heap store.old) u (S.heap store.new) (next_phase_of self.new.phase result)) }
+        ensures upgraded { ((u : Upgrade) × (u ≡ upgrade_gives (S.version_max store.old) (S.heap store.old (C.number top.stamp.node)) top.stamp.version fail) × UpgradedTop C.number self.old.root top two reply (S.heap store.old) u (S.heap store.new) (next_phase_of self.new.phase result)) }
     {
-        let refusal = match store.upgrade(top.seat, fail) {
+        let refusal = match store.upgrade(top.stamp, fail) {
             Upgrade::Locked => {
                 let two = Two {
                     top: Some(top),
@@ -436,14 +436,14 @@ impl<C: NodeName, P: Payload> Machine<C, P> {
         reply: Reply<P>,
         fail: bool,
     ) -> Move<P>
-        requires stands { Stands (S.heap store.old (C.number two.above.seat.node)) }
+        requires stands { Stands (S.heap store.old (C.number two.above.stamp.node)) }
         requires made { MayBackTwo C.number (S.heap store.old) two.change }
         ensures phase_alone { self.new ≡ record self.old { phase = self.new.phase } }
         ensures limit { S.version_max store.new ≡ S.version_max store.old }
         ensures rest { S.rest store.new ≡ S.rest store.old }
-        ensures upgraded { ((u : Upgrade) × (u ≡ upgrade_gives (S.version_max store.old) (S.heap store.old (C.number two.above.seat.node)) two.above.seat.version fail) × UpgradedAbove C.number self.old.root two reply (S.heap store.old) u (S.heap store.new) (next_phase_of self.new.phase result)) }
+        ensures upgraded { ((u : Upgrade) × (u ≡ upgrade_gives (S.version_max store.old) (S.heap store.old (C.number two.above.stamp.node)) two.above.stamp.version fail) × UpgradedAbove C.number self.old.root two reply (S.heap store.old) u (S.heap store.new) (next_phase_of self.new.phase result)) }
     {
-        let refusal = match store.upgrade(two.seat_above(), fail) {
+        let refusal = match store.upgrade(two.stamp_above(), fail) {
             Upgrade::Locked => return self.phase.quiet(Phase::UpgradeBelow { two, reply }),
             Upgrade::Failed => None,
             Upgrade::Exhausted => Some(Refusal::Exhausted),
@@ -493,7 +493,7 @@ impl<C: NodeName, P: Payload> Machine<C, P> {
         ensures limit { S.version_max store.new ≡ S.version_max store.old }
         ensures rest { S.rest store.new ≡ S.rest store.old }
         ensures changed { ChangedOne C.number (key_bytes self.old.key) self.old.given one one.change (S.heap store.old) (S.heap store.new) }
-        ensures turn { next_phase_of self.new.phase result ≡ decided (phase.Unlock one.at.node reply) }
+        ensures next_phase { next_phase_of self.new.phase result ≡ decided (phase.Unlock one.at.node reply) }
     {
         let value = value_child(self.given.take());
         let One { at, byte, change } = one;
@@ -518,7 +518,7 @@ impl<C: NodeName, P: Payload> Machine<C, P> {
         ensures limit { S.version_max store.new ≡ S.version_max store.old }
         ensures rest { S.rest store.new ≡ S.rest store.old }
         ensures changed { ChangedTwo C.number (key_bytes self.old.key) self.old.given two two.change (S.heap store.old) (S.heap store.new) }
-        ensures turn { next_phase_of self.new.phase result ≡ after_change two reply two.change }
+        ensures next_phase { next_phase_of self.new.phase result ≡ after_change two reply two.change }
     {
         put_two(store, two, &self.key.to_be_bytes(), self.given.take());
         self.phase.after_change(two, reply)
@@ -592,13 +592,13 @@ fn put_lesser<C: NodeName, P: Payload, S: Store<C, P>>(
 
 /// Puts a lesser leaf, without the value at the byte, in the place of the one at hand.
 fn shrink<C: NodeName, P: Payload, S: Store<C, P>>(store: &mut S, two: Two<C>, lesser: C, byte: u8)
-    requires { MayLessen (S.heap store.old) (C.number two.at.node) (C.number lesser) byte (C.number two.above.seat.node) two.above.byte }
+    requires { MayLessen (S.heap store.old) (C.number two.at.node) (C.number lesser) byte (C.number two.above.stamp.node) two.above.byte }
     ensures limit { S.version_max store.new ≡ S.version_max store.old }
     ensures rest { S.rest store.new ≡ S.rest store.old }
-    ensures put { PutsLesser (S.heap store.old) (C.number two.at.node) (C.number lesser) byte (C.number two.above.seat.node) two.above.byte (S.heap store.new) }
+    ensures put { PutsLesser (S.heap store.old) (C.number two.at.node) (C.number lesser) byte (C.number two.above.stamp.node) two.above.byte (S.heap store.new) }
 {
     let Two { above, at, .. } = two;
-    put_lesser(store, at.node, lesser, byte, above.seat.node, above.byte);
+    put_lesser(store, at.node, lesser, byte, above.stamp.node, above.byte);
 }
 
 /// Puts the other child of the node above in its place, in the node above both.
@@ -612,8 +612,8 @@ fn lift<C: NodeName, P: Payload, S: Store<C, P>>(store: &mut S, two: Two<C>)
     match top {
         None => unreachable!(),
         Some(top) => {
-            let other = store.other(above.seat.node, above.byte);
-            store.change(top.seat.node, top.byte, Child::Node(other));
+            let other = store.other(above.stamp.node, above.byte);
+            store.change(top.stamp.node, top.byte, Child::Node(other));
         }
     }
 }
@@ -630,10 +630,10 @@ fn lessen<C: NodeName, P: Payload, S: Store<C, P>>(store: &mut S, two: Two<C>, l
         None => unreachable!(),
         Some(top) => put_lesser(
             store,
-            above.seat.node,
+            above.stamp.node,
             lesser,
             above.byte,
-            top.seat.node,
+            top.stamp.node,
             top.byte,
         ),
     }
@@ -647,12 +647,12 @@ fn put_greater<C: NodeName, P: Payload, S: Store<C, P>>(
     byte: u8,
     child: Child<C, P>,
 )
-    requires above { Changeable (S.heap store.old (C.number two.above.seat.node)) two.above.byte (Below (C.number greater)) }
+    requires above { Changeable (S.heap store.old (C.number two.above.stamp.node)) two.above.byte (Below (C.number greater)) }
     requires stands { Stands (S.heap store.old (C.number two.at.node)) }
     requires blank { Blank (S.heap store.old (C.number greater)) (S.heap store.old (C.number two.at.node)).count }
-    requires beside_above { C.number two.above.seat.node ≢ C.number greater }
+    requires beside_above { C.number two.above.stamp.node ≢ C.number greater }
     requires beside { C.number two.at.node ≢ C.number greater }
-    requires apart { C.number two.above.seat.node ≢ C.number two.at.node }
+    requires apart { C.number two.above.stamp.node ≢ C.number two.at.node }
     requires hangs { hung C.number child ≢ Nothing }
     requires alike { HoldsAlike (S.heap store.old (C.number two.at.node)) }
     ensures limit { S.version_max store.new ≡ S.version_max store.old }
@@ -675,10 +675,10 @@ fn put_fork<C: NodeName, P: Payload, S: Store<C, P>>(
     new_byte: u8,
     leaf: C,
 )
-    requires above { Changeable (S.heap store.old (C.number two.above.seat.node)) two.above.byte (Below (C.number top)) }
+    requires above { Changeable (S.heap store.old (C.number two.above.stamp.node)) two.above.byte (Below (C.number top)) }
     requires blank { Blank (S.heap store.old (C.number top)) 1 }
     requires bytes { byte ≢ new_byte }
-    requires apart { C.number two.above.seat.node ≢ C.number top }
+    requires apart { C.number two.above.stamp.node ≢ C.number top }
     ensures limit { S.version_max store.new ≡ S.version_max store.old }
     ensures rest { S.rest store.new ≡ S.rest store.old }
     ensures put { PutsFork C.number two top byte new_byte leaf (S.heap store.old) (S.heap store.new) }

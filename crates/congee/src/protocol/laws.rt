@@ -76,7 +76,7 @@ impl<C: NodeName + Drop, P: Payload> Machine<C, P> {
         ensures { (i : ℕ) (a : ℕ → Note) (h : ℕ → Node P) (k : ℕ) (kind : Kind P) (given : Option P) (n : ℕ) (s : Phase C P) → Known C.number P.same_as P.always_copies i a h k (key_bytes k) kind given s → MadeBy C.number s n → (a n).status ≡ Held i }
     {}
 
-    /// What is in the tree by the ledger is what paths from the root lead to, and each node of it holds values alone or
+    /// What is in the tree by the notes is what paths from the root lead to, and each node of it holds values alone or
     /// nodes alone.
     pub fn tree()
         ensures linked { (a : ℕ → Note) (h : ℕ → Node P) (n : ℕ) → Tree a h → (a n).status ≡ Linked → InTree h n }

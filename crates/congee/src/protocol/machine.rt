@@ -159,7 +159,7 @@ impl<C: NodeName, P: Payload> Machine<C, P> {
                 let (above, at, node) = (*above, *at, *node);
                 self.check_down(store, above, at, node)
             }
-            Phase::Sweep { sweep } => sweep.step(store, root, &mut noise.seen).report(),
+            Phase::Scan { scan } => scan.step(store, root, &mut noise.seen).report(),
             // The phases past the way: each has its arm there.
             _ => self.settle(store, noise),
         }
@@ -235,12 +235,12 @@ impl<C: NodeName, P: Payload> Machine<C, P> {
     }
 
     /// Checks the node once more, where the call leaves the value as it is.
-    fn confirm<S: Store<C, P>>(&mut self, store: &S, seat: Stamp<C>, reply: Reply<P>) -> Move<P>
-        requires { Stands (S.heap store.now (C.number seat.node)) }
+    fn confirm<S: Store<C, P>>(&mut self, store: &S, stamp: Stamp<C>, reply: Reply<P>) -> Move<P>
+        requires { Stands (S.heap store.now (C.number stamp.node)) }
         ensures phase_alone { self.new ≡ record self.old { phase = self.new.phase } }
-        ensures checked { IsIf (is_taken (S.heap store.now (C.number seat.node)) seat.version) self.old.root (λ u. u ≡ answered reply) (next_phase_of self.new.phase result) }
+        ensures checked { IsIf (is_taken (S.heap store.now (C.number stamp.node)) stamp.version) self.old.root (λ u. u ≡ answered reply) (next_phase_of self.new.phase result) }
     {
-        if store.check(seat) {
+        if store.check(stamp) {
             self.phase.answered(reply)
         } else {
             self.phase.again(self.root)
@@ -269,11 +269,11 @@ impl<C: NodeName, P: Payload> Machine<C, P> {
         common: usize,
         byte: u8,
     ) -> Move<P>
-        requires { Stands (S.heap store.now (C.number above.seat.node)) }
+        requires { Stands (S.heap store.now (C.number above.stamp.node)) }
         ensures phase_alone { self.new ≡ record self.old { phase = self.new.phase } }
-        ensures checked { IsIf (is_taken (S.heap store.now (C.number above.seat.node)) above.seat.version) self.old.root (λ u. u ≡ after_miss self.old.kind above at common byte) (next_phase_of self.new.phase result) }
+        ensures checked { IsIf (is_taken (S.heap store.now (C.number above.stamp.node)) above.stamp.version) self.old.root (λ u. u ≡ after_miss self.old.kind above at common byte) (next_phase_of self.new.phase result) }
     {
-        if store.check(above.seat) {
+        if store.check(above.stamp) {
             self.phase.after_miss(&self.kind, above, at, common, byte)
         } else {
             self.phase.again(self.root)

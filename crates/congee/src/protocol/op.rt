@@ -5,8 +5,8 @@ ghost use Rattle.congee.specs.protocol.Protocol.{HasGift};
 ghost use Rattle.congee.specs.protocol.Play.{parts, first_phase, IsBegin};
 
 use crate::protocol::phase::{Kind, Phase};
+use crate::protocol::scan::ScanState;
 use crate::protocol::store::NodeName;
-use crate::protocol::sweep::Sweep;
 use judge::Payload;
 
 /// A call on one key or a scan, before its closure has answered anything.
@@ -37,16 +37,16 @@ impl<P> Op<P> {
         ensures begins { (kind : Kind P) (given : Option P) → HasGift kind given → IsBegin kind given result }
     {
         match self {
-            Op::Range(start, end, size) => Phase::Sweep {
-                sweep: Sweep::new(
+            Op::Range(start, end, size) => Phase::Scan {
+                scan: ScanState::new(
                     root,
                     *start,
                     end.saturating_sub(1),
                     places_where(*start < *end, *size),
                 ),
             },
-            Op::RangeInclusive(start, last, size) => Phase::Sweep {
-                sweep: Sweep::new(root, *start, *last, places_where(*start <= *last, *size)),
+            Op::RangeInclusive(start, last, size) => Phase::Scan {
+                scan: ScanState::new(root, *start, *last, places_where(*start <= *last, *size)),
             },
             Op::Get(_) => Phase::New,
             Op::Insert(_, _) => Phase::New,

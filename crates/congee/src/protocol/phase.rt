@@ -5,8 +5,8 @@ ghost use Rattle.congee.specs.protocol.Steps.{plan_here, greater, here_of, near_
 
 use crate::forms::base_node::NodeType;
 use crate::forms::child::Child;
+use crate::protocol::scan::ScanState;
 use crate::protocol::store::{NodeName, Refusal, Stamp};
-use crate::protocol::sweep::Sweep;
 use judge::Reply;
 use std::mem;
 
@@ -31,7 +31,7 @@ pub enum Kind<P> {
 #[derive(Clone, Copy)]
 pub struct Parent<C: NodeName> {
     /// The node above.
-    pub seat: Stamp<C>,
+    pub stamp: Stamp<C>,
     /// The byte.
     pub byte: u8,
     /// The length of its prefix, in bytes.
@@ -310,8 +310,8 @@ pub enum Phase<C: NodeName, P> {
         refusal: Option<Refusal>,
     },
     /// A scan's step.
-    Sweep {
-        sweep: Sweep<C, P>,
+    Scan {
+        scan: ScanState<C, P>,
     },
     /// The call has ended.
     Ended,
@@ -336,7 +336,7 @@ impl<C: NodeName> Site<C> {
         let above = self.above;
         let check = match above {
             None => None,
-            Some(above) => Some(above.near.seat),
+            Some(above) => Some(above.near.stamp),
         };
         Plan::Here {
             check,
@@ -349,7 +349,7 @@ impl<C: NodeName> Site<C> {
         ensures { result ≡ here_of self }
     {
         Parent {
-            seat: self.at,
+            stamp: self.at,
             byte: self.byte,
             depth: self.depth,
             count: self.count,
@@ -387,9 +387,9 @@ impl<C: NodeName> Site<C> {
 impl<C: NodeName> Two<C> {
     /// The node above.
     pub(crate) fn parent(&self) -> C
-        ensures { result ≡ self.now.above.seat.node }
+        ensures { result ≡ self.now.above.stamp.node }
     {
-        self.above.seat.node
+        self.above.stamp.node
     }
 
     /// The locked node above both.
@@ -399,15 +399,15 @@ impl<C: NodeName> Two<C> {
         let top = self.top;
         match top {
             None => None,
-            Some(top) => Some(top.seat.node),
+            Some(top) => Some(top.stamp.node),
         }
     }
 
     /// The node above, and its version.
-    pub(crate) fn seat_above(&self) -> Stamp<C>
-        ensures { result ≡ self.now.above.seat }
+    pub(crate) fn stamp_above(&self) -> Stamp<C>
+        ensures { result ≡ self.now.above.stamp }
     {
-        self.above.seat
+        self.above.stamp
     }
 }
 

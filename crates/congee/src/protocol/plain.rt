@@ -6,7 +6,7 @@ ghost use Rattle.congee.specs.Heap.{Node, Stands, is_taken};
 ghost use Rattle.congee.specs.protocol.Play.{Begins, begun};
 ghost use Rattle.std.specs.Vec.{vec_len};
 ghost use Rattle.congee.specs.protocol.Events.{hung, ReadGives, UpgradeGives, MayChange, ChangeGives};
-ghost use Rattle.congee.specs.protocol.SweepEvents.{LeastGives};
+ghost use Rattle.congee.specs.protocol.ScanEvents.{LeastGives};
 ghost use Rattle.congee.specs.protocol.Seeing.{ReadSees, LeastSees};
 
 use crate::forms::base_node::NodeType;
@@ -194,10 +194,10 @@ impl Store<usize, u64> for PlainStore {
     fn take_over(&mut self, old: usize, node: usize) {
         if old < node {
             let (front, back) = self.nodes.split_at_mut(node);
-            front[old].hand_over(&mut back[0]);
+            front[old].move_to(&mut back[0]);
         } else if node < old {
             let (front, back) = self.nodes.split_at_mut(old);
-            back[0].hand_over(&mut front[node]);
+            back[0].move_to(&mut front[node]);
         }
     }
 

@@ -106,9 +106,9 @@ fn copy_names(from: &[Child<usize, u64>], to: &mut [Child<usize, u64>])
 impl PlainNode {
     ghost use Rattle.std.specs.Prelude.{Some};
     ghost use Rattle.congee.specs.Heap.{is_taken};
-    ghost use Rattle.congee.specs.protocol.SweepEvents.{IsAny, LeastTruly, LeastGives};
+    ghost use Rattle.congee.specs.protocol.ScanEvents.{IsAny, LeastTruly, LeastGives};
     ghost use Rattle.congee.specs.protocol.Seeing.{IsSeen, ReadSees, LeastSees};
-    ghost use Rattle.congee.specs.protocol.PlainHeap.{plain_node_of, IsFresh, IsTruly, HandsOver};
+    ghost use Rattle.congee.specs.protocol.PlainHeap.{plain_node_of, IsFresh, IsTruly, MovesTo};
 
     /// An empty node on the key's way.
     pub(crate) fn new(
@@ -278,8 +278,8 @@ impl PlainNode {
     }
 
     /// Gives the children to another node. The names of nodes stay here too.
-    pub(crate) fn hand_over(&mut self, greater: &mut PlainNode)
-        ensures { HandsOver self.old greater.old self.new greater.new }
+    pub(crate) fn move_to(&mut self, greater: &mut PlainNode)
+        ensures { MovesTo self.old greater.old self.new greater.new }
     {
         copy_names(&self.children, &mut greater.children);
         mem::swap(&mut self.children, &mut greater.children);

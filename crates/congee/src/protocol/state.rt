@@ -6,8 +6,8 @@ ghost use Rattle.congee.specs.protocol.State.{ended, is_asking, is_done, is_past
 
 use crate::protocol::machine::Machine;
 use crate::protocol::phase::{Kind, Phase};
+use crate::protocol::scan::Stage;
 use crate::protocol::store::NodeName;
-use crate::protocol::sweep::Stage;
 use judge::{Payload, Reply};
 
 impl<C: NodeName, P: Payload> Machine<C, P> {
@@ -70,7 +70,7 @@ impl<C: NodeName, P: Payload> Machine<C, P> {
             Phase::Retire { .. } => false,
             Phase::UnlockBelow { .. } => false,
             Phase::Unlock { .. } => false,
-            Phase::Sweep { .. } => false,
+            Phase::Scan { .. } => false,
             Phase::Ended => false,
             // In the other phases it has changed nothing yet.
             _ => true,
@@ -109,7 +109,7 @@ impl<C: NodeName, P: Payload> Machine<C, P> {
         ensures { result ≡ is_done self.now.phase }
     {
         match &self.phase {
-            Phase::Sweep { sweep } => is_past(&sweep.stage),
+            Phase::Scan { scan } => is_past(&scan.stage),
             // No other phase is a scan's.
             _ => false,
         }

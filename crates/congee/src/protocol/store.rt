@@ -3,7 +3,7 @@ ghost use Rattle.std.specs.Prelude.{◌≡◌, ◌≢◌, ℕ, ◌+◌, ◌<◌,
 ghost use Rattle.congee.specs.Heap.{Node, Nothing, Stands, version_of, is_taken};
 ghost use Rattle.congee.specs.protocol.Events.{hung, HoldsNodes, IsOther, ReadGives, UpgradeGives, MayChange, ChangeGives, MakeGives, TakesOver, TakeOverGives, BackGives, ObsoleteGives, RetireGives, UnlockGives};
 ghost use Rattle.congee.specs.protocol.Regions.{IsRegion};
-ghost use Rattle.congee.specs.protocol.SweepEvents.{LeastGives};
+ghost use Rattle.congee.specs.protocol.ScanEvents.{LeastGives};
 ghost use Rattle.congee.specs.protocol.Seeing.{ReadSees, LeastSees};
 ghost use Rattle.std.specs.Prelude.{IfErr};
 

@@ -1,24 +1,31 @@
 -- What a compare-and-exchange answers, and an update.
-use Rattle.std.specs.Prelude.{◌≡◌, ◌≢◌, ◌<◌, ◌%◌, ℕ, Bool, true, false, Option, Some, IfSome, Result, MatchResult}
+use Rattle.std.specs.Prelude.{◌≡◌, ◌≢◌, ◌<◌, ◌%◌, ℕ, Bool, true, false, Option, Some, IfSome, Result, IfErr, IsErr, MatchResult}
 use Rattle.std.specs.Bool.{MatchBool}
 use Rattle.crossbeam_epoch.specs.declared.face.atomic.CompareExchangeError.{CompareExchangeError}
 use Rattle.crossbeam_epoch.specs.declared.face.link.Link.{Link}
-use Rattle.crossbeam_epoch.specs.declared.face.link.Site.{Site}
+use Rattle.crossbeam_epoch.specs.declared.face.pointer.Pointer as pointer
 use Rattle.crossbeam_epoch.specs.declared.face.shared.Shared.{Shared}
 use Rattle.crossbeam_epoch.specs.declared.fault.Fault.{Fault}
 use Rattle.crossbeam_epoch.specs.declared.fault.Fault.TheVariants.{Foreign}
 
+-- refused for the one cause of what was to be written, which comes back
+abbrev pub IsRefused : {T P : Type 0} → pointer.Ghosts P T → (collector : ℕ) → (new : P) → Fault × P → Type 0
+IsRefused g collector new e = (e.0 ≡ g.refused_as) × (g.is_refusable new collector ≡ true) × (e.1 ≡ new)
+
+-- refused, as Foreign, where what was to be written leads to another collector
+abbrev pub RefusesForeign : {A T P : Type 0} → pointer.Ghosts P T → (collector : ℕ) → (new : P) → Result A (Fault × P) → Type 0
+RefusesForeign g collector new r = g.leads_elsewhere new collector ≡ true → IfErr r (λ e. e.0 ≡ Foreign) × IsErr r
+
 -- it wrote a pointer with this tag that leads where the new one does; or it found another pointer than the one before, whose
 -- tag is below the alignment; or it was refused, as Foreign where the new pointer leads to another collector. What it didn't
 -- write comes back
-abbrev pub IsExchange : {T P : Type 0} → (tag_bits : P → ℕ) → (align : ℕ) → (leads_to : P → ℕ → Option Site → Type 0) → (leads_elsewhere is_refusable : P → ℕ → Bool) → (cause : Fault) → (collector : ℕ) → (before : Link) → (new : P)
-    → Result (Result (Shared T) (CompareExchangeError T P)) (Fault × P) → Type 0
-IsExchange tag_bits align leads_to leads_elsewhere is_refusable cause collector before new r =
+abbrev pub IsExchange : {T P : Type 0} → pointer.Ghosts P T → (align collector : ℕ) → (before : Link) → (new : P) → Result (Result (Shared T) (CompareExchangeError T P)) (Fault × P) → Type 0
+IsExchange g align collector before new r =
     MatchResult r
     (λ x. MatchResult x
-    (λ s. (s.link.tag ≡ tag_bits new % align) × leads_to new collector s.link.site)
+    (λ s. (s.link.tag ≡ g.tag_bits new % align) × g.leads_to new collector s.link.site)
     (λ e. (e.current.link ≢ before) × (e.current.link.tag < align) × (e.new ≡ new)))
-    (λ e. (e.1 ≡ new) × MatchBool (leads_elsewhere new collector) (e.0 ≡ Foreign) ((e.0 ≡ cause) × (is_refusable new collector ≡ true)))
+    (λ e. (e.1 ≡ new) × MatchBool (g.leads_elsewhere new collector) (e.0 ≡ Foreign) ((e.0 ≡ g.refused_as) × (g.is_refusable new collector ≡ true)))
 
 -- the closure gave a pointer to write for this one
 abbrev pub GaveNext : {F S : Type 0} → (F → S → Option S → F → Type 0) → (S → Bool) → S → Type 0

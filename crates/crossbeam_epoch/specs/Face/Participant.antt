@@ -12,7 +12,7 @@ use Rattle.crossbeam_epoch.specs.declared.face.seats.View.{View}
 -- keeps, the seals that it tells, and what its seat at the words knows
 pub record Handle (T J : Type 0) : Type 0 where
   pub collector : Bor (Collector T J)
-  pub seat : Row
+  pub row : Row
   pub guards : ℕ
   pub epoch : ℕ
   pub bag : List (Deferral J)

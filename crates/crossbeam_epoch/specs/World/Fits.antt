@@ -75,13 +75,15 @@ pub record FitsAt {J : Type 0} (h : List Mark) (epoch next places who : ℕ) (p 
   pub accepted : AreAccepted h next p.bag
   pub spare : HandFits p.phase p.hand
 
--- the sums of a weight over the jobs of a place, of a sealed bag, of the collector
+-- the sum of a weight over the jobs of a place
 abbrev pub at_place : {J : Type 0} → (Deferral J → ℕ) → Participant J → ℕ
 at_place f p = sum_by f p.bag + sum_by f p.hand
 
+-- the same sum over the jobs of a sealed bag
 abbrev pub in_bag : {J : Type 0} → (Deferral J → ℕ) → Sealed J → ℕ
 in_bag f b = sum_by f b.jobs
 
+-- the same sum over all jobs of the collector: in places, and in queued bags
 abbrev pub weight : {T J : Type 0} → (Deferral J → ℕ) → State T J → ℕ
 weight f s = sum_by (at_place f) s.table + sum_by (in_bag f) s.queue
 

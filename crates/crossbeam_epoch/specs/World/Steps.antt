@@ -69,11 +69,12 @@ abbrev pub outcome_at : Phase → Outcome
 outcome_at P.Idle = Done
 outcome_at _ = Running
 
--- what a begin answers and leaves at a place without a call in flight
+-- what a begin answers at a place without a call in flight
 abbrev pub outcome_or : {J : Type 0} → Option Fault → Participant J → Outcome
 outcome_or (Some f) p = Refused f
 outcome_or None p = outcome_at p.phase
 
+-- what a begin leaves at a place: the old one where it is refused
 abbrev pub place_or : {J : Type 0} → Option Fault → Participant J → Participant J → Participant J
 place_or (Some f) p old = old
 place_or None p old = p

@@ -1,7 +1,7 @@
 //! Pointers that threads share.
 
 ghost use Rattle.std.specs.Prelude.{◌≡◌, ◌≢◌, ◌⊎◌, ◌%◌, ◌<◌, true, false, MatchResult, IfErr, IfSome, IsErr, MatchOption};
-ghost use Rattle.crossbeam_epoch.specs.Face.Exchange.{IsExchange, GaveNext, GaveNone};
+ghost use Rattle.crossbeam_epoch.specs.Face.Exchange.{GaveNext, GaveNone, IsExchange, IsRefused, RefusesForeign};
 ghost use Rattle.crossbeam_epoch.specs.Face.Pointer.{is_foreign};
 
 use crate::face::atomic_link::AtomicLink;
@@ -13,6 +13,7 @@ use crate::face::pointer::Pointer;
 use crate::face::shared::Shared;
 use crate::fault::Fault;
 use crate::names::Pointable;
+use crate::tag::TagCall;
 use crate::task::Task;
 use std::alloc::Global;
 use std::fmt;
@@ -151,7 +152,7 @@ impl<T: Pointable + Drop> Atomic<T> {
         _order: Ordering,
         guard: &Guard<'_, T, J>,
     ) -> Result<(), (Fault, P)>
-        ensures refused { IfErr result (λ e. (e.0 ≡ P.refused_as) × (P.is_refusable new guard.now.collector.now.id ≡ true) × (e.1 ≡ new)) }
+        ensures refused { IfErr result (IsRefused P.Pointer guard.now.collector.now.id new) }
         ensures foreign { P.leads_elsewhere new guard.now.collector.now.id ≡ true → IsErr result }
     {
         let tagged = new.enter(rt, guard)?;
@@ -167,7 +168,7 @@ impl<T: Pointable + Drop> Atomic<T> {
         _order: Ordering,
         guard: &'g Guard<'_, T, J>,
     ) -> Result<Shared<'g, T>, (Fault, P)>
-        ensures refused { MatchResult result (λ s. s.link.tag < T.ALIGN) (λ e. (e.0 ≡ P.refused_as) × (P.is_refusable new guard.now.collector.now.id ≡ true) × (e.1 ≡ new)) }
+        ensures refused { MatchResult result (λ s. s.link.tag < T.ALIGN) (IsRefused P.Pointer guard.now.collector.now.id new) }
         ensures foreign { P.leads_elsewhere new guard.now.collector.now.id ≡ true → IsErr result }
     {
         let tagged = new.enter(rt, guard)?;
@@ -185,8 +186,8 @@ impl<T: Pointable + Drop> Atomic<T> {
         _failure: Ordering,
         guard: &'g Guard<'_, T, J>,
     ) -> Result<Exchanged<'g, T, P>, (Fault, P)>
-        ensures answer { IsExchange P.tag_bits T.ALIGN P.leads_to P.leads_elsewhere P.is_refusable P.refused_as guard.now.collector.now.id current.entry.link new result }
-        ensures foreign { P.leads_elsewhere new guard.now.collector.now.id ≡ true → IfErr result (λ e. e.0 ≡ Fault.Foreign) × IsErr result }
+        ensures answer { IsExchange P.Pointer T.ALIGN guard.now.collector.now.id current.entry.link new result }
+        ensures foreign { RefusesForeign P.Pointer guard.now.collector.now.id new result }
     {
         if new.is_foreign(guard.collector.id()) {
             return Err((Fault::Foreign, new));
@@ -216,7 +217,7 @@ impl<T: Pointable + Drop> Atomic<T> {
         guard: &'g Guard<'_, T, J>,
     ) -> Result<Exchanged<'g, T, P>, (Fault, P)>
         requires here { P.leads_elsewhere new guard.now.collector.now.id ≡ false }
-        ensures answer { IsExchange P.tag_bits T.ALIGN P.leads_to P.leads_elsewhere P.is_refusable P.refused_as guard.now.collector.now.id current new result }
+        ensures answer { IsExchange P.Pointer T.ALIGN guard.now.collector.now.id current new result }
     {
         let found = self.link.load(rt);
         if found != current {
@@ -242,8 +243,8 @@ impl<T: Pointable + Drop> Atomic<T> {
         failure: Ordering,
         guard: &'g Guard<'_, T, J>,
     ) -> Result<Exchanged<'g, T, P>, (Fault, P)>
-        ensures answer { IsExchange P.tag_bits T.ALIGN P.leads_to P.leads_elsewhere P.is_refusable P.refused_as guard.now.collector.now.id current.entry.link new result }
-        ensures foreign { P.leads_elsewhere new guard.now.collector.now.id ≡ true → IfErr result (λ e. e.0 ≡ Fault.Foreign) × IsErr result }
+        ensures answer { IsExchange P.Pointer T.ALIGN guard.now.collector.now.id current.entry.link new result }
+        ensures foreign { RefusesForeign P.Pointer guard.now.collector.now.id new result }
     {
         self.compare_exchange(rt, current, new, success, failure, guard)
     }
@@ -257,8 +258,8 @@ impl<T: Pointable + Drop> Atomic<T> {
         order: O,
         guard: &'g Guard<'_, T, J>,
     ) -> Result<Exchanged<'g, T, P>, (Fault, P)>
-        ensures answer { IsExchange P.tag_bits T.ALIGN P.leads_to P.leads_elsewhere P.is_refusable P.refused_as guard.now.collector.now.id current.entry.link new result }
-        ensures foreign { P.leads_elsewhere new guard.now.collector.now.id ≡ true → IfErr result (λ e. e.0 ≡ Fault.Foreign) × IsErr result }
+        ensures answer { IsExchange P.Pointer T.ALIGN guard.now.collector.now.id current.entry.link new result }
+        ensures foreign { RefusesForeign P.Pointer guard.now.collector.now.id new result }
     {
         self.compare_exchange(rt, current, new, order.success(), order.failure(), guard)
     }
@@ -272,8 +273,8 @@ impl<T: Pointable + Drop> Atomic<T> {
         order: O,
         guard: &'g Guard<'_, T, J>,
     ) -> Result<Exchanged<'g, T, P>, (Fault, P)>
-        ensures answer { IsExchange P.tag_bits T.ALIGN P.leads_to P.leads_elsewhere P.is_refusable P.refused_as guard.now.collector.now.id current.entry.link new result }
-        ensures foreign { P.leads_elsewhere new guard.now.collector.now.id ≡ true → IfErr result (λ e. e.0 ≡ Fault.Foreign) × IsErr result }
+        ensures answer { IsExchange P.Pointer T.ALIGN guard.now.collector.now.id current.entry.link new result }
+        ensures foreign { RefusesForeign P.Pointer guard.now.collector.now.id new result }
     {
         self.compare_exchange_weak(rt, current, new, order.success(), order.failure(), guard)
     }
@@ -319,7 +320,7 @@ impl<T: Pointable + Drop> Atomic<T> {
     ) -> Shared<'g, T>
         ensures { result.link.tag < T.ALIGN }
     {
-        Shared::of(self.link.fetch_and(rt, tag))
+        Shared::of(self.link.change(rt, TagCall::And, tag))
     }
 
     /// Adds the bits of the number modulo `T::ALIGN` to the tag, and gives the pointer before.
@@ -332,7 +333,7 @@ impl<T: Pointable + Drop> Atomic<T> {
     ) -> Shared<'g, T>
         ensures { result.link.tag < T.ALIGN }
     {
-        Shared::of(self.link.fetch_or(rt, tag))
+        Shared::of(self.link.change(rt, TagCall::Or, tag))
     }
 
     /// Flips the bits of the number modulo `T::ALIGN` in the tag, and gives the pointer before.
@@ -345,7 +346,7 @@ impl<T: Pointable + Drop> Atomic<T> {
     ) -> Shared<'g, T>
         ensures { result.link.tag < T.ALIGN }
     {
-        Shared::of(self.link.fetch_xor(rt, tag))
+        Shared::of(self.link.change(rt, TagCall::Xor, tag))
     }
 
     /// Takes the value out of its cell, which is destroyed. `None` as for `Shared::into_owned`.

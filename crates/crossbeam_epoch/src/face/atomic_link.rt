@@ -9,6 +9,7 @@ ghost use Rattle.crossbeam_epoch.specs.Face.Packed.{Says};
 use crate::face::link::{Link, Tagged};
 use crate::face::packed::{AWAY, pack, unpack};
 use crate::names::Pointable;
+use crate::tag::TagCall;
 use std::marker::PhantomData;
 use std::sync::atomic::Ordering::SeqCst;
 use std::sync::atomic::{AtomicIn, Rule};
@@ -108,44 +109,14 @@ impl<T: Pointable> AtomicLink<T> {
         unreachable!()
     }
 
-    /// Keeps the bits of the tag that stand in the number modulo `T::ALIGN` too, and gives the pointer before.
-    pub fn fetch_and<R: Wait>(&self, rt: &R, number: usize) -> Link
+    /// Changes the tag so with the bits of the number modulo `T::ALIGN`, and gives the pointer before.
+    pub fn change<R: Wait>(&self, rt: &R, call: TagCall, number: usize) -> Link
         ensures { result.tag < T.ALIGN }
     {
         for _ in rt.forever() {
             let before = self.load(rt);
             let mut tagged = Tagged::<T>::new(before);
-            tagged.fetch_and(number);
-            if self.replace(rt, before, tagged.load()) {
-                return before;
-            }
-        }
-        unreachable!()
-    }
-
-    /// Adds the bits of the number modulo `T::ALIGN` to the tag, and gives the pointer before.
-    pub fn fetch_or<R: Wait>(&self, rt: &R, number: usize) -> Link
-        ensures { result.tag < T.ALIGN }
-    {
-        for _ in rt.forever() {
-            let before = self.load(rt);
-            let mut tagged = Tagged::<T>::new(before);
-            tagged.fetch_or(number);
-            if self.replace(rt, before, tagged.load()) {
-                return before;
-            }
-        }
-        unreachable!()
-    }
-
-    /// Flips the bits of the number modulo `T::ALIGN` in the tag, and gives the pointer before.
-    pub fn fetch_xor<R: Wait>(&self, rt: &R, number: usize) -> Link
-        ensures { result.tag < T.ALIGN }
-    {
-        for _ in rt.forever() {
-            let before = self.load(rt);
-            let mut tagged = Tagged::<T>::new(before);
-            tagged.fetch_xor(number);
+            tagged.change(call, number);
             if self.replace(rt, before, tagged.load()) {
                 return before;
             }

@@ -66,8 +66,7 @@ fn later(newest: Option<u64>, seal: u64) -> u64
     ensures { (seal ≤ result) × IfSome newest (λ n. n ≤ result) × ((result ≡ seal) ⊎ (newest ≡ Some result)) }
 {
     match newest {
-        Some(greatest) if greatest > seal => greatest,
-        Some(_) => seal,
+        Some(greatest) => greatest.max(seal),
         None => seal,
     }
 }

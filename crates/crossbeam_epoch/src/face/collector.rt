@@ -256,15 +256,8 @@ impl<T: Drop, J: Task> Collector<T, J> {
     }
 
     /// Calls these jobs, the first one first.
-    fn call<R: Wait>(&self, rt: &R, mut jobs: Bag<J>) {
-        for at in 0..BAG {
-            match jobs.take_work(at) {
-                None => return,
-                Some(Work::Blank) => {}
-                Some(Work::Remove(name)) => drop(self.remove(rt, name)),
-                Some(Work::Run(job)) => job.run(),
-            }
-        }
+    fn call<R: Wait>(&self, rt: &R, jobs: Bag<J>) {
+        call_jobs(jobs, |name| drop(self.remove(rt, name)));
     }
 }
 
@@ -273,17 +266,19 @@ fn call_bags<T: Drop, J: Task>(slots: &Slots<T>, queue: &mut Queue<J>, ended: &E
     ensures { queue.new.bags.items ≡ [] }
 {
     while let Some(bag) = queue.pop(ended) {
-        call_left(slots, bag.jobs);
+        call_jobs(bag.jobs, |name| drop(slots.remove(name)));
     }
 }
 
-/// Calls the jobs of a bag that is left at the end.
-fn call_left<T: Drop, J: Task>(slots: &Slots<T>, mut jobs: Bag<J>) {
+/// Calls the jobs of a bag, the first one first; `remove` takes a value out of its cell for good.
+fn call_jobs<J: Task, F: Fn(Name) + Drop>(mut jobs: Bag<J>, remove: F)
+    requires { F.IsAlwaysCallable remove }
+{
     for at in 0..BAG {
         match jobs.take_work(at) {
             None => return,
             Some(Work::Blank) => {}
-            Some(Work::Remove(name)) => drop(slots.remove(name)),
+            Some(Work::Remove(name)) => remove(name),
             Some(Work::Run(job)) => job.run(),
         }
     }

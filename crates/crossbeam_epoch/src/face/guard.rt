@@ -8,7 +8,7 @@ use crate::task::{Job, Task};
 use std::fmt;
 use std::fmt::{Debug, Formatter};
 
-/// A place of a collector's table.
+/// A row of a collector's table, by its place.
 #[derive(Clone, Copy, PartialEq, Eq, Drop)]
 pub struct Row {
     /// The collector's identity number.
@@ -19,18 +19,18 @@ pub struct Row {
 /// Keeps a participant pinned (the source's `Guard`). It is spent by `LocalHandle::unpin`, and can't be dropped.
 pub struct Guard<'c, T, J: Task = Job> {
     pub(crate) collector: &'c Collector<T, J>,
-    pub(crate) seat: Row,
+    pub(crate) row: Row,
     pub(crate) epoch: u64,
 }
 
 impl<'c, T: Drop, J: Task> Guard<'c, T, J> {
-    /// A guard of this place, whose pin was confirmed by this epoch.
-    pub(crate) fn new(collector: &'c Collector<T, J>, seat: Row, epoch: u64) -> Self
-        ensures { (result.collector ≡ collector.entry) × (result.seat ≡ seat) × (result.epoch ≡ epoch) }
+    /// A guard of this row, whose pin was confirmed by this epoch.
+    pub(crate) fn new(collector: &'c Collector<T, J>, row: Row, epoch: u64) -> Self
+        ensures { (result.collector ≡ collector.entry) × (result.row ≡ row) × (result.epoch ≡ epoch) }
     {
         Guard {
             collector,
-            seat,
+            row,
             epoch,
         }
     }
@@ -46,7 +46,7 @@ impl<'c, T: Drop, J: Task> Guard<'c, T, J> {
     pub(crate) fn forget(self) {
         let Guard {
             collector: _,
-            seat: _,
+            row: _,
             epoch: _,
         } = self;
     }

@@ -1,10 +1,10 @@
 //! Handles of participants.
 
-ghost use Rattle.std.specs.Prelude.{ℕ, ◌≡◌, ◌<◌, ◌≤◌, ◌+◌, ◌-◌, ◌++◌, ◌∷◌, [], true, false, nat_lt, nat_le, nat_eq};
+ghost use Rattle.std.specs.Prelude.{ℕ, ◌≡◌, ◌<◌, ◌≤◌, ◌+◌, ◌-◌, [], true, false, nat_lt};
 ghost use Rattle.std.specs.Prelude.{length, Err, None, MatchResult, MatchOption, IfOk, IfErr, OnOk, IsSomeAnd};
 ghost use Rattle.std.specs.Bool.{MatchBool};
-ghost use Rattle.crossbeam_epoch.specs.Face.Handle.{owns, with_room, SealsUnder};
-ghost use Rattle.crossbeam_epoch.specs.Face.Pinned.{IsPinnedFor, IsUnpinnedAfter};
+ghost use Rattle.crossbeam_epoch.specs.Face.Handle.{ChangesBag, ChangesBagUnder, IsRefusedUnder, LacksRoom, PutsOff, SealsFull, SealsUnder, owns, with_room};
+ghost use Rattle.crossbeam_epoch.specs.Face.Pinned.{IsPinnedFor, IsUnpinnedAfter, MovesIfAlone, MovesPin, RefusesToMove};
 ghost use Rattle.crossbeam_epoch.specs.Face.Participant.{IsPinned};
 ghost use Rattle.crossbeam_epoch.specs.Face.Pins.{IsDue};
 ghost use Rattle.crossbeam_epoch.specs.Face.Tokens.{known, IsOf, unpinned_view};
@@ -34,7 +34,7 @@ use std::sync::Wait;
 #[derive(Drop)]
 pub struct LocalHandle<'c, T, J: Task = Job> {
     collector: &'c Collector<T, J>,
-    seat: Row,
+    row: Row,
     /// Its seat at the words.
     token: Token,
     /// Guards that are out.
@@ -61,10 +61,10 @@ impl<'c, T, J: Task> Model for LocalHandle<'c, T, J> {
 
     ghost Value = { Handle T J };
 
-    ghost view = { λ h. record { collector = h.collector; seat = h.seat; guards = h.guards; epoch = h.pin.epoch; bag = h.bag; seals = h.seals; knows = known h.token } };
+    ghost view = { λ h. record { collector = h.collector; row = h.row; guards = h.guards; epoch = h.pin.epoch; bag = h.bag; seals = h.seals; knows = known h.token } };
 
-    ghost invariant = { λ h. IsOf h.collector.now.pins.words.shared.table_id h.token × (h.seat.place < h.collector.now.pins.places)
-        × (known h.token ≡ with_guards h.guards h.seat.place h.pin.at h.pin.epoch (known h.token).seen (known h.token).passed) };
+    ghost invariant = { λ h. IsOf h.collector.now.pins.words.shared.table_id h.token × (h.row.place < h.collector.now.pins.places)
+        × (known h.token ≡ with_guards h.guards h.row.place h.pin.at h.pin.epoch (known h.token).seen (known h.token).passed) };
 }
 
 impl<'c, T: Drop, J: Task> LocalHandle<'c, T, J> {
@@ -78,7 +78,7 @@ impl<'c, T: Drop, J: Task> LocalHandle<'c, T, J> {
     {
         LocalHandle {
             collector,
-            seat: Row {
+            row: Row {
                 collector: collector.id(),
                 place,
             },
@@ -111,7 +111,7 @@ impl<'c, T: Drop, J: Task> LocalHandle<'c, T, J> {
     /// Pins the participant; guards of one handle nest, and go in any order. Refused as `Count` with 65,535 guards out.
     /// It takes no lock.
     pub fn pin(&mut self) -> Result<Guard<'c, T, J>, Fault>
-        ensures guard { IfOk result (λ g. (owns self.new.guards self.new.seat g.seat ≡ true) × (g.epoch ≡ self.new.epoch)) }
+        ensures guard { IfOk result (λ g. (owns self.new.guards self.new.row g.row ≡ true) × (g.epoch ≡ self.new.epoch)) }
         ensures counted { MatchResult result
             (λ _. self.new ≡ record self.old { guards = self.old.guards + 1; epoch = self.new.epoch; knows = self.new.knows })
             (λ e. (e ≡ Fault.Count) × (self.old.guards ≡ 65535) × (self.new ≡ self.old)) }
@@ -123,20 +123,20 @@ impl<'c, T: Drop, J: Task> LocalHandle<'c, T, J> {
             return Err(Fault::Count);
         }
         if self.guards == 0 {
-            self.pin = self.collector.pins.pin(&mut self.token, self.seat.place);
+            self.pin = self.collector.pins.pin(&mut self.token, self.row.place);
             self.guards = 1;
-            return Ok(Guard::new(self.collector, self.seat, self.pin.epoch));
+            return Ok(Guard::new(self.collector, self.row, self.pin.epoch));
         }
         self.guards += 1;
-        Ok(Guard::new(self.collector, self.seat, self.pin.epoch))
+        Ok(Guard::new(self.collector, self.row, self.pin.epoch))
     }
 
     /// Spends a guard; the last one takes the pin away. Refused as `Foreign` for another handle's guard, which comes back.
     /// It takes no lock.
     pub fn unpin<'d>(&mut self, guard: Guard<'d, T, J>) -> Result<(), (Fault, Guard<'d, T, J>)>
         ensures state { MatchResult result
-            (λ _. (owns self.old.guards self.old.seat guard.entry.seat ≡ true) × (self.new ≡ record self.old { guards = self.old.guards - 1; knows = self.new.knows }))
-            (λ e. (owns self.old.guards self.old.seat guard.entry.seat ≡ false) × (e.0 ≡ Fault.Foreign) × (e.1 ≡ guard.entry) × (self.new ≡ self.old)) }
+            (λ _. (owns self.old.guards self.old.row guard.entry.row ≡ true) × (self.new ≡ record self.old { guards = self.old.guards - 1; knows = self.new.knows }))
+            (λ e. (owns self.old.guards self.old.row guard.entry.row ≡ false) × (e.0 ≡ Fault.Foreign) × (e.1 ≡ guard.entry) × (self.new ≡ self.old)) }
         ensures word { IsPinned self.new.guards self.new.epoch self.new.knows }
     {
         if !self.owns(&guard) {
@@ -144,14 +144,14 @@ impl<'c, T: Drop, J: Task> LocalHandle<'c, T, J> {
         }
         let Guard {
             collector: _,
-            seat: _,
+            row: _,
             epoch: _,
         } = guard;
         if self.guards > 1 {
             self.guards -= 1;
             return Ok(());
         }
-        self.collector.pins.unpin(&mut self.token, self.seat.place);
+        self.collector.pins.unpin(&mut self.token, self.row.place);
         self.guards = 0;
         Ok(())
     }
@@ -169,7 +169,7 @@ impl<'c, T: Drop, J: Task> LocalHandle<'c, T, J> {
         requires { F.IsAlwaysCallable f }
         ensures called { self.old.guards < 65535 → (p : _) × (q : _) × (r : _) × (p' : _)
             × IsPinnedFor self.old p.now q.now × F.post f p q r p' × IsUnpinnedAfter p'.now q.now r self.new result }
-        ensures guards { ((p : _) (q : _) (r : _) (p' : _) → F.post f p q r p' → (p'.now.guards ≡ p.now.guards) × (p'.now.seat ≡ p.now.seat))
+        ensures guards { ((p : _) (q : _) (r : _) (p' : _) → F.post f p q r p' → (p'.now.guards ≡ p.now.guards) × (p'.now.row ≡ p.now.row))
             → self.new.guards ≡ self.old.guards }
         ensures count { 65535 ≤ self.old.guards → (result ≡ Err Fault.Count) × (self.new ≡ self.old) }
         ensures word { IsPinned self.new.guards self.new.epoch self.new.knows }
@@ -187,10 +187,10 @@ impl<'c, T: Drop, J: Task> LocalHandle<'c, T, J> {
 
     /// Whether the guard is one of this handle's.
     fn owns(&self, guard: &Guard<'_, T, J>) -> bool
-        ensures value { result ≡ owns self.now.guards self.now.seat guard.now.seat }
+        ensures value { result ≡ owns self.now.guards self.now.row guard.now.row }
         ensures out { result ≡ true → 0 < self.now.guards }
     {
-        self.guards > 0 && guard.seat == self.seat
+        self.guards > 0 && guard.row == self.row
     }
 
     /// Leaves the collector; what was deferred and not sealed yet is sealed. Refused as `GuardOut` while a guard is
@@ -209,14 +209,14 @@ impl<'c, T: Drop, J: Task> LocalHandle<'c, T, J> {
         }
         let LocalHandle {
             collector,
-            seat,
+            row,
             token,
             guards: _,
             pin: _,
             bag,
             seals: _,
         } = self;
-        collector.release(rt, token, seat.place, bag);
+        collector.release(rt, token, row.place, bag);
         Ok(())
     }
 
@@ -297,7 +297,7 @@ impl<'c, T: Drop, J: Task> LocalHandle<'c, T, J> {
 
     /// Seals the bag, unless it is empty, with an epoch that it reads first.
     fn seal<R: Wait>(&mut self, rt: &R) -> Result<(), Fault>
-        ensures ok { OnOk result ((self.new.bag ≡ []) × (self.new ≡ record self.old { bag = self.new.bag; seals = record self.old.seals { queued = self.new.seals.queued }; knows = self.new.knows })) }
+        ensures ok { OnOk result ((self.new.bag ≡ []) × ChangesBag self.old self.new) }
         ensures sealed { OnOk result (0 < self.old.guards → SealsUnder (nat_lt 0 (length self.old.bag)) self.old.epoch self.old.seals.queued self.new.seals.queued) }
         ensures told { OnOk result (0 < length self.old.bag → IsSomeAnd self.new.seals.queued (λ q. q.seal ≡ self.new.knows.seen)) }
         ensures err { IfErr result (λ e. (e ≡ Fault.Memory) × (self.new ≡ record self.old { knows = self.new.knows }) × (0 < length self.old.bag)) }
@@ -317,9 +317,9 @@ impl<'c, T: Drop, J: Task> LocalHandle<'c, T, J> {
 
     /// Makes a place in the bag: a full one is sealed.
     fn make_room<R: Wait>(&mut self, rt: &R) -> Result<(), Fault>
-        ensures ok { OnOk result (self.new ≡ record self.old { bag = self.new.bag; seals = record self.old.seals { queued = self.new.seals.queued }; knows = self.new.knows }) }
+        ensures ok { OnOk result (ChangesBag self.old self.new) }
         ensures bag { OnOk result (self.new.bag ≡ with_room self.old.bag) }
-        ensures sealed { OnOk result (0 < self.old.guards → SealsUnder (nat_le bag_places (length self.old.bag)) self.old.epoch self.old.seals.queued self.new.seals.queued) }
+        ensures sealed { OnOk result (0 < self.old.guards → SealsFull self.old self.new) }
         ensures err { IfErr result (λ e. (e ≡ Fault.Memory) × (self.new ≡ record self.old { knows = self.new.knows }) × (bag_places ≤ length self.old.bag)) }
     {
         if !self.bag.is_full() {
@@ -336,11 +336,10 @@ impl<'c, T: Drop, J: Task> LocalHandle<'c, T, J> {
         guard: &Guard<'_, T, J>,
         job: J,
     ) -> Result<(), (Fault, J)>
-        ensures ok { OnOk result ((owns self.old.guards self.old.seat guard.now.seat ≡ true) × (self.new ≡ record self.old { bag = self.new.bag; seals = record self.old.seals { queued = self.new.seals.queued }; knows = self.new.knows })) }
-        ensures sealed { OnOk result (SealsUnder (nat_le bag_places (length self.old.bag)) self.old.epoch self.old.seals.queued self.new.seals.queued) }
-        ensures bag { OnOk result (self.new.bag ≡ with_room self.old.bag ++ record { ticket = 0; work = Work.Run job } ∷ []) }
-        ensures err { IfErr result (λ e. (e.1 ≡ job) × (self.new ≡ record self.old { knows = self.new.knows })
-            × MatchBool (owns self.old.guards self.old.seat guard.now.seat) ((e.0 ≡ Fault.Memory) × (bag_places ≤ length self.old.bag)) (e.0 ≡ Fault.Foreign)) }
+        ensures ok { OnOk result (ChangesBagUnder guard.now.row self.old self.new) }
+        ensures sealed { OnOk result (SealsFull self.old self.new) }
+        ensures bag { OnOk result (PutsOff (Work.Run job) self.old self.new) }
+        ensures err { IfErr result (λ e. (e.1 ≡ job) × IsRefusedUnder guard.now.row (LacksRoom self.old e.0) e.0 self.old self.new) }
     {
         if !self.owns(guard) {
             return Err((Fault::Foreign, job));
@@ -359,11 +358,10 @@ impl<'c, T: Drop, J: Task> LocalHandle<'c, T, J> {
         guard: &Guard<'_, T, J>,
         job: J,
     ) -> Result<(), (Fault, J)>
-        ensures ok { OnOk result ((owns self.old.guards self.old.seat guard.now.seat ≡ true) × (self.new ≡ record self.old { bag = self.new.bag; seals = record self.old.seals { queued = self.new.seals.queued }; knows = self.new.knows })) }
-        ensures sealed { OnOk result (SealsUnder (nat_le bag_places (length self.old.bag)) self.old.epoch self.old.seals.queued self.new.seals.queued) }
-        ensures bag { OnOk result (self.new.bag ≡ with_room self.old.bag ++ record { ticket = 0; work = Work.Run job } ∷ []) }
-        ensures err { IfErr result (λ e. (e.1 ≡ job) × (self.new ≡ record self.old { knows = self.new.knows })
-            × MatchBool (owns self.old.guards self.old.seat guard.now.seat) ((e.0 ≡ Fault.Memory) × (bag_places ≤ length self.old.bag)) (e.0 ≡ Fault.Foreign)) }
+        ensures ok { OnOk result (ChangesBagUnder guard.now.row self.old self.new) }
+        ensures sealed { OnOk result (SealsFull self.old self.new) }
+        ensures bag { OnOk result (PutsOff (Work.Run job) self.old self.new) }
+        ensures err { IfErr result (λ e. (e.1 ≡ job) × IsRefusedUnder guard.now.row (LacksRoom self.old e.0) e.0 self.old self.new) }
     {
         self.defer(rt, guard, job)
     }
@@ -371,15 +369,14 @@ impl<'c, T: Drop, J: Task> LocalHandle<'c, T, J> {
     /// Seals the bag, unless it is empty, and collects. Refused as `Foreign`, or as `Memory`: then the bag keeps its jobs, and
     /// none was called. It takes the lock once, and once more for each bag that it calls beyond the first.
     pub fn flush<R: Wait>(&mut self, rt: &R, guard: &Guard<'_, T, J>) -> Result<(), Fault>
-        ensures ok { OnOk result ((owns self.old.guards self.old.seat guard.now.seat ≡ true)
+        ensures ok { OnOk result ((owns self.old.guards self.old.row guard.now.row ≡ true)
             × (self.new.bag ≡ []) × (self.new ≡ record self.old { bag = self.new.bag; seals = self.new.seals; knows = self.new.knows })) }
         ensures sealed { OnOk result (SealsUnder (nat_lt 0 (length self.old.bag)) self.old.epoch self.old.seals.queued self.new.seals.queued) }
         ensures due { OnOk result (IsDue self.new.knows.seen self.new.seals.called.newest) }
         ensures bags { OnOk result (TakesAll self.new.knows.seen self.new.seals.called) }
         ensures saw { OnOk result ((self.old.epoch ≤ self.new.knows.seen) × (self.new.knows.seen ≤ self.old.epoch + 1)) }
         ensures word { OnOk result (IsPinned self.new.guards self.new.epoch self.new.knows) }
-        ensures err { IfErr result (λ e. (self.new ≡ record self.old { knows = self.new.knows })
-            × MatchBool (owns self.old.guards self.old.seat guard.now.seat) ((e ≡ Fault.Memory) × (0 < length self.old.bag)) (e ≡ Fault.Foreign)) }
+        ensures err { IfErr result (λ e. IsRefusedUnder guard.now.row ((e ≡ Fault.Memory) × (0 < length self.old.bag)) e self.old self.new) }
     {
         if !self.owns(guard) {
             return Err(Fault::Foreign);
@@ -405,14 +402,10 @@ impl<'c, T: Drop, J: Task> LocalHandle<'c, T, J> {
     /// Pins the participant anew, where this is its only guard and the epoch isn't the one that its word publishes. Refused
     /// as `Foreign`. It takes no lock.
     pub fn repin(&mut self, guard: &mut Guard<'_, T, J>) -> Result<(), Fault>
-        ensures ok { OnOk result ((owns self.old.guards self.old.seat guard.old.seat ≡ true)
-            × (self.new ≡ record self.old { epoch = self.new.epoch; knows = self.new.knows }) × (guard.new ≡ record guard.old { epoch = guard.new.epoch })) }
-        ensures epoch { OnOk result (MatchBool (nat_eq self.old.guards 1)
-            ((guard.new.epoch ≡ self.new.epoch) × (self.new.knows.seen ≡ self.new.epoch))
-            ((self.new.epoch ≡ self.old.epoch) × (guard.new.epoch ≡ guard.old.epoch))) }
+        ensures ok { OnOk result ((owns self.old.guards self.old.row guard.old.row ≡ true) × MovesPin self.old guard.old self.new guard.new) }
+        ensures epoch { OnOk result (MovesIfAlone self.old guard.old self.new guard.new) }
         ensures word { IsPinned self.new.guards self.new.epoch self.new.knows }
-        ensures err { IfErr result (λ e. (e ≡ Fault.Foreign) × (owns self.old.guards self.old.seat guard.old.seat ≡ false)
-            × (self.new ≡ self.old) × (guard.new ≡ guard.old)) }
+        ensures err { IfErr result (λ e. RefusesToMove e self.old guard.old self.new guard.new) }
     {
         if !self.owns(guard) {
             return Err(Fault::Foreign);
@@ -421,7 +414,7 @@ impl<'c, T: Drop, J: Task> LocalHandle<'c, T, J> {
             self.pin = self
                 .collector
                 .pins
-                .repin(&mut self.token, self.seat.place, self.pin);
+                .repin(&mut self.token, self.row.place, self.pin);
             guard.epoch = self.pin.epoch;
         }
         Ok(())
@@ -436,14 +429,11 @@ impl<'c, T: Drop, J: Task> LocalHandle<'c, T, J> {
     where
         F: Drop,
         requires { F.pre f }
-        ensures ok { IfOk result (λ o. (owns self.old.guards self.old.seat guard.old.seat ≡ true) × F.post f o) }
-        ensures state { OnOk result ((self.new ≡ record self.old { epoch = self.new.epoch; knows = self.new.knows }) × (guard.new ≡ record guard.old { epoch = guard.new.epoch })) }
-        ensures epoch { OnOk result (MatchBool (nat_eq self.old.guards 1)
-            ((guard.new.epoch ≡ self.new.epoch) × (self.new.knows.seen ≡ self.new.epoch))
-            ((self.new.epoch ≡ self.old.epoch) × (guard.new.epoch ≡ guard.old.epoch))) }
+        ensures ok { IfOk result (λ o. (owns self.old.guards self.old.row guard.old.row ≡ true) × F.post f o) }
+        ensures state { OnOk result (MovesPin self.old guard.old self.new guard.new) }
+        ensures epoch { OnOk result (MovesIfAlone self.old guard.old self.new guard.new) }
         ensures word { IsPinned self.new.guards self.new.epoch self.new.knows }
-        ensures err { IfErr result (λ e. (e ≡ Fault.Foreign) × (owns self.old.guards self.old.seat guard.old.seat ≡ false)
-            × (self.new ≡ self.old) × (guard.new ≡ guard.old)) }
+        ensures err { IfErr result (λ e. RefusesToMove e self.old guard.old self.new guard.new) }
     {
         if !self.owns(guard) {
             return Err(Fault::Foreign);
@@ -451,9 +441,9 @@ impl<'c, T: Drop, J: Task> LocalHandle<'c, T, J> {
         if self.guards > 1 {
             return Ok(f());
         }
-        self.collector.pins.unpin(&mut self.token, self.seat.place);
+        self.collector.pins.unpin(&mut self.token, self.row.place);
         let answer = f();
-        self.pin = self.collector.pins.pin(&mut self.token, self.seat.place);
+        self.pin = self.collector.pins.pin(&mut self.token, self.row.place);
         guard.epoch = self.pin.epoch;
         Ok(answer)
     }
@@ -468,15 +458,13 @@ impl<T: Pointable + Drop, J: Task> LocalHandle<'_, T, J> {
         guard: &Guard<'_, T, J>,
         pointer: Shared<'s, T>,
     ) -> Result<(), (Fault, Shared<'s, T>)>
-        ensures ok { OnOk result ((owns self.old.guards self.old.seat guard.now.seat ≡ true) × (self.new ≡ record self.old { bag = self.new.bag; seals = record self.old.seals { queued = self.new.seals.queued }; knows = self.new.knows })) }
-        ensures sealed { OnOk result (SealsUnder (nat_le bag_places (length self.old.bag)) self.old.epoch self.old.seals.queued self.new.seals.queued) }
+        ensures ok { OnOk result (ChangesBagUnder guard.now.row self.old self.new) }
+        ensures sealed { OnOk result (SealsFull self.old self.new) }
         ensures bag { OnOk result (MatchResult (name_in pointer.entry.link.site self.old.collector.now.id)
-            (λ n. self.new.bag ≡ with_room self.old.bag ++ record { ticket = 0; work = Work.Remove n } ∷ [])
+            (λ n. PutsOff (Work.Remove n) self.old self.new)
             (λ e. ⊥)) }
-        ensures err { IfErr result (λ e. (e.1 ≡ pointer.entry) × (self.new ≡ record self.old { knows = self.new.knows })
-            × MatchBool (owns self.old.guards self.old.seat guard.now.seat)
-            (MatchResult (name_in pointer.entry.link.site self.old.collector.now.id) (λ _. (e.0 ≡ Fault.Memory) × (bag_places ≤ length self.old.bag)) (λ f. e.0 ≡ f))
-            (e.0 ≡ Fault.Foreign)) }
+        ensures err { IfErr result (λ e. (e.1 ≡ pointer.entry) × IsRefusedUnder guard.now.row
+            (MatchResult (name_in pointer.entry.link.site self.old.collector.now.id) (λ _. LacksRoom self.old e.0) (λ f. e.0 ≡ f)) e.0 self.old self.new) }
     {
         if !self.owns(guard) {
             return Err((Fault::Foreign, pointer));

@@ -2,9 +2,10 @@
 
 ghost use Rattle.std.specs.Bool.{OnTrue};
 ghost use Rattle.std.specs.Prelude.{◌≡◌, ◌%◌, ◌<◌, ◌↔◌, None, true, false, bit_and, bit_or, bit_xor};
+ghost use Rattle.crossbeam_epoch.specs.Tags.{changed};
 
 use crate::names::Pointable;
-use crate::tag::tag_of;
+use crate::tag::{TagCall, tag_of};
 use std::marker::PhantomData;
 use std::mem;
 
@@ -88,15 +89,24 @@ impl<T: Pointable> Tagged<T> {
         held
     }
 
+    /// Changes the tag so with the number's bits, and gives the pointer before.
+    pub(crate) fn change(&mut self, call: TagCall, number: usize) -> Link
+        ensures before { result ≡ self.old.link }
+        ensures below { result.tag < T.ALIGN }
+        ensures after { self.new.link ≡ record self.old.link { tag = changed call self.old.link.tag (number % T.ALIGN) } }
+    {
+        let before = self.link;
+        self.link.tag = call.changed::<T>(before.tag, number);
+        before
+    }
+
     /// Keeps the bits of the tag that stand in the number too, and gives the pointer before.
     pub fn fetch_and(&mut self, number: usize) -> Link
         ensures before { result ≡ self.old.link }
         ensures below { result.tag < T.ALIGN }
         ensures after { self.new.link ≡ record self.old.link { tag = bit_and self.old.link.tag (number % T.ALIGN) } }
     {
-        let before = self.link;
-        self.link.tag = before.tag & tag_of::<T>(number);
-        before
+        self.change(TagCall::And, number)
     }
 
     /// Adds the number's bits to the tag, and gives the pointer before.
@@ -105,9 +115,7 @@ impl<T: Pointable> Tagged<T> {
         ensures below { result.tag < T.ALIGN }
         ensures after { self.new.link ≡ record self.old.link { tag = bit_or self.old.link.tag (number % T.ALIGN) } }
     {
-        let before = self.link;
-        self.link.tag = before.tag | tag_of::<T>(number);
-        before
+        self.change(TagCall::Or, number)
     }
 
     /// Flips the number's bits in the tag, and gives the pointer before.
@@ -116,8 +124,6 @@ impl<T: Pointable> Tagged<T> {
         ensures below { result.tag < T.ALIGN }
         ensures after { self.new.link ≡ record self.old.link { tag = bit_xor self.old.link.tag (number % T.ALIGN) } }
     {
-        let before = self.link;
-        self.link.tag = before.tag ^ tag_of::<T>(number);
-        before
+        self.change(TagCall::Xor, number)
     }
 }

@@ -6,10 +6,11 @@ ghost use Rattle.crossbeam_epoch.specs.World.Machine.{stands};
 ghost use Rattle.crossbeam_epoch.specs.World.Roots.{root_at, with_root, with_tag_at};
 ghost use Rattle.crossbeam_epoch.specs.declared.names.Name.{Name};
 ghost use Rattle.crossbeam_epoch.specs.World.Reach.{Quiet, NextMoment, InSight};
+ghost use Rattle.crossbeam_epoch.specs.Tags.{changed};
 
 use crate::fault::Fault;
 use crate::names::{Links, Pointable, Ptr};
-use crate::tag::tag_of;
+use crate::tag::TagCall;
 use crate::task::Task;
 use crate::world::World;
 
@@ -73,9 +74,7 @@ impl<T: Links + Pointable + Drop, J: Task> World<T, J> {
         ensures told { NextMoment T.names Quiet self.old self.new }
         ensures seen { IfOk result (λ ptr. InSight T.names self.old ptr) }
     {
-        let before = self.load(root)?;
-        self.set_tag(root, before.tag & tag_of::<T>(number));
-        Ok(before)
+        self.change_tag(root, TagCall::And, number)
     }
 
     /// Adds the bits of the number modulo `T::ALIGN` to a root's tag, and gives the pointer before; Unknown where
@@ -88,9 +87,7 @@ impl<T: Links + Pointable + Drop, J: Task> World<T, J> {
         ensures told { NextMoment T.names Quiet self.old self.new }
         ensures seen { IfOk result (λ ptr. InSight T.names self.old ptr) }
     {
-        let before = self.load(root)?;
-        self.set_tag(root, before.tag | tag_of::<T>(number));
-        Ok(before)
+        self.change_tag(root, TagCall::Or, number)
     }
 
     /// Flips the bits of the number modulo `T::ALIGN` in a root's tag, and gives the pointer before; Unknown where
@@ -103,8 +100,21 @@ impl<T: Links + Pointable + Drop, J: Task> World<T, J> {
         ensures told { NextMoment T.names Quiet self.old self.new }
         ensures seen { IfOk result (λ ptr. InSight T.names self.old ptr) }
     {
+        self.change_tag(root, TagCall::Xor, number)
+    }
+
+    /// Changes a root's tag so with the bits of the number modulo `T::ALIGN`, and gives the pointer before; Unknown where
+    /// there is no such root.
+    fn change_tag(&mut self, root: usize, call: TagCall, number: usize) -> Result<Ptr, Fault>
+        ensures before { IfOk result (λ before. slice_get self.old.roots root ≡ Some before) }
+        ensures state { OnOk result (self.new ≡ with_tag_at self.old root (changed call (root_at self.old root).tag (number % T.ALIGN))) }
+        ensures err { IfErr result (λ e. (e ≡ Fault.Unknown) × (self.new ≡ self.old)) }
+        ensures fault { is_ok result ≡ nat_lt root (length self.old.roots) }
+        ensures told { NextMoment T.names Quiet self.old self.new }
+        ensures seen { IfOk result (λ ptr. InSight T.names self.old ptr) }
+    {
         let before = self.load(root)?;
-        self.set_tag(root, before.tag ^ tag_of::<T>(number));
+        self.set_tag(root, call.changed::<T>(before.tag, number));
         Ok(before)
     }
 

@@ -7,7 +7,7 @@ pub mod Collected
 pub mod Collecting
 pub mod Ending
 pub mod Entering
-pub mod Events
+pub mod StepsByEvent
 pub mod Filing
 pub mod Fresh
 pub mod NamesInStretch
@@ -17,6 +17,7 @@ pub mod SoundOpening
 pub mod PlainTells
 pub mod PuttingAway
 pub mod ReachMoments
+pub mod InReach
 pub mod Recounting
 pub mod Registered
 pub mod Reported
@@ -28,7 +29,7 @@ pub mod Starting
 pub mod SoundCells
 pub mod Telling
 pub mod TreeStep
-pub mod Turning
+pub mod Proceeding
 pub mod UnkeptReports
 pub mod Walk
 pub mod Walking

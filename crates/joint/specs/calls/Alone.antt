@@ -8,11 +8,11 @@ use Rattle.joint.specs.declared.steps.Event.TheVariants.{Begin, Go}
 use Rattle.joint.specs.declared.steps.Op.{Op}
 use Rattle.joint.specs.declared.steps.Op.TheVariants.{Pin, Unpin, Repin, Flush, Release, Range, RangeInclusive, Keys, IsEmpty, Stats}
 use Rattle.joint.specs.declared.steps.Report.{Report}
-use Rattle.joint.specs.Reports.{goes_on}
+use Rattle.joint.specs.Reports.{goes_unasked, is_in_flight}
 use Rattle.joint.specs.nodes.Nodes.{nodes}
 use Rattle.joint.specs.calls.Runs.{Taken}
 use Rattle.joint.specs.nodes.View.{id_number}
-use Rattle.joint.specs.engine.Engine.{World, is_in_flight}
+use Rattle.joint.specs.engine.Engine.{World}
 
 -- no call of another worker holds a lock
 abbrev pub OthersUnlocked : {V : Type 0} → World V → ℕ → Type 0
@@ -62,4 +62,4 @@ AllEndAlone s (t ∷ ts) = EndsAlone s t ts × AllEndAlone t.after ts
 
 -- a whole call, for which no other call holds a lock and so many steps are given, ends or wants an answer
 abbrev pub CallEndsAlone : {V : Type 0} → World V → ℕ → Op V → ℕ → Option (Report V) → Type 0
-CallEndsAlone {V} s who op most result = OthersUnlocked s who → steps_alone s op ≤ most → (r : Report V) → result ≡ Some r → goes_on r.outcome ≡ false
+CallEndsAlone {V} s who op most result = OthersUnlocked s who → steps_alone s op ≤ most → (r : Report V) → result ≡ Some r → goes_unasked r.outcome ≡ false

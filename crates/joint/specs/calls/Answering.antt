@@ -10,10 +10,9 @@ use Rattle.joint.specs.declared.steps.Op.{Op}
 use Rattle.joint.specs.declared.steps.Outcome.{Outcome}
 use Rattle.joint.specs.declared.steps.Outcome.TheVariants.{Running, Asks, Done, Refused}
 use Rattle.joint.specs.declared.steps.Target.TheVariants.{Tree}
-use Rattle.joint.specs.Reports.{target}
+use Rattle.joint.specs.Reports.{target, is_in_flight}
 use Rattle.joint.specs.world.MapSteps.{Line}
 use Rattle.joint.specs.world.World.{IsOnKey}
-use Rattle.joint.specs.engine.Engine.{is_in_flight}
 use Rattle.joint.specs.calls.Scans.{is_go}
 
 -- a further step of the worker's call
@@ -39,14 +38,14 @@ GoesOrRefused (Refused refusal) Rest = Unit {0}
 GoesOrRefused _ Rest = ⊥
 
 -- a step that has no entry and decides nothing
-pub record IsQuiet {V : Type 0} (l : Line V) : Type 0 where
+pub record DecidesNothing {V : Type 0} (l : Line V) : Type 0 where
   pub undecided : l.report.decided ≡ false
   pub no_entry : l.entry ≡ None
 
 -- the further steps of the worker's call after it took effect
 abbrev pub Answers : {V : Type 0} → ℕ → Reply V → List (Line V) → Type 0
 Answers who r [] = Unit {0}
-Answers who r (l ∷ ls) = Either (is_further who l) (IsQuiet l × GoesOrAnswers r l.report.outcome (Answers who r ls)) (Answers who r ls)
+Answers who r (l ∷ ls) = Either (is_further who l) (DecidesNothing l × GoesOrAnswers r l.report.outcome (Answers who r ls)) (Answers who r ls)
 
 -- the step in which it takes effect, with its entry, and those after it
 abbrev pub TakesEffectAt : {V : Type 0} → ℕ → Line V → List (Line V) → Type 0

@@ -1,7 +1,7 @@
 -- A whole call of a worker's: its begin, and then steps to which nothing comes from outside.
 use Rattle.std.specs.Prelude.{◌≡◌, ℕ, zero, suc, ◌<◌, ◌≤◌, Bool, true, false, List, [], ◌∷◌, length, replicate, take, slice_get, Option, None, Some, IsSome, option_map, slice_set}
 use Rattle.judge.specs.Answer.{Pairs}
-use Rattle.congee.specs.protocol.Sweeps.{IsScan}
+use Rattle.congee.specs.protocol.Scans.{IsScan}
 use Rattle.joint.specs.declared.steps.Done.TheVariants.{Scanned}
 use Rattle.joint.specs.declared.steps.Event.TheVariants.{Begin, Go}
 use Rattle.joint.specs.declared.steps.Op.{Op}
@@ -11,10 +11,10 @@ use Rattle.joint.specs.declared.steps.Outcome.TheVariants.{Running, Found, Done}
 use Rattle.joint.specs.declared.steps.Report.{Report}
 use Rattle.joint.specs.declared.steps.Step.{Step}
 use Rattle.joint.specs.declared.steps.Survey.TheVariants as survey
-use Rattle.joint.specs.Reports.{range_of, goes_on}
+use Rattle.joint.specs.Reports.{range_of, goes_unasked, is_in_flight}
 use Rattle.joint.specs.calls.Runs.{IsRun}
 use Rattle.joint.specs.engine.Surveys.{MapTells}
-use Rattle.joint.specs.engine.Engine.{World, is_busy, is_in_flight, misuse}
+use Rattle.joint.specs.engine.Engine.{World, is_busy, misuse}
 
 -- a further step of the worker's call, to which nothing comes from outside
 abbrev pub next_step : {V : Type 0} → ℕ → Step V
@@ -29,7 +29,7 @@ steps_of who op (suc n) = record { worker = who; event = Begin op } ∷ replicat
 abbrev pub GoOn : {V : Type 0} → List (Report V) → Type 0
 GoOn [] = Unit {0}
 GoOn (r ∷ []) = Unit {0}
-GoOn (r ∷ (q ∷ rs)) = (goes_on r.outcome ≡ true) × GoOn (q ∷ rs)
+GoOn (r ∷ (q ∷ rs)) = (goes_unasked r.outcome ≡ true) × GoOn (q ∷ rs)
 
 -- the last of a report and those after it
 abbrev pub last_or : {V : Type 0} → Report V → List (Report V) → Report V
@@ -41,11 +41,12 @@ abbrev pub last_of : {V : Type 0} → List (Report V) → Option (Report V)
 last_of [] = None
 last_of (r ∷ rs) = Some (last_or r rs)
 
--- the caller's places after a pair that is found is written to its own, and after these reports
+-- the caller's places after a pair that is found is written to its own
 abbrev pub put : {V : Type 0} → Outcome V → List (ℕ × V) → List (ℕ × V)
 put (Found place key value) places = slice_set places place (key, value)
 put _ places = places
 
+-- the caller's places after these reports
 abbrev pub put_all : {V : Type 0} → List (Report V) → List (ℕ × V) → List (ℕ × V)
 put_all [] places = places
 put_all (r ∷ rs) places = put_all rs (put r.outcome places)
@@ -68,7 +69,7 @@ pub record IsCalled {V : Type 0} (same : V → V → Bool) (always : Bool) (s : 
   pub goes : GoOn reports
   pub last : option_map kept_report (last_of reports) ≡ result
   pub found : places' ≡ put_all reports places
-  pub stops : (r : Report V) → result ≡ Some r → length reports < most → goes_on r.outcome ≡ false
+  pub stops : (r : Report V) → result ≡ Some r → length reports < most → goes_unasked r.outcome ≡ false
   pub begins : 0 < most → IsSome result
   -- where its begin isn't misused, it stays in flight exactly where the last report says so
   pub flight : misuse s who (Begin op) ≡ None → (r : Report V) → result ≡ Some r → is_busy (slice_get s'.calls who) ≡ is_in_flight r.outcome

@@ -16,7 +16,8 @@ use Rattle.joint.specs.Refusals.{of_fault}
 use Rattle.joint.specs.calls.Runs.{Taken}
 use Rattle.joint.specs.nodes.View.{id_number}
 use Rattle.joint.specs.world.Whereabouts.{IsTakenBy}
-use Rattle.joint.specs.engine.Engine.{World, IsHeldBy, IsOfCall, is_busy, is_in_flight, misuse}
+use Rattle.joint.specs.engine.Engine.{World, IsHeldBy, IsOfCall, is_busy, misuse}
+use Rattle.joint.specs.Reports.{is_in_flight}
 
 -- the worker's call holds the lock of the node
 abbrev pub HoldsLock : {V : Type 0} → World V → ℕ → ℕ → Type 0

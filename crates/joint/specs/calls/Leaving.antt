@@ -4,7 +4,7 @@ use Rattle.std.specs.Prelude.{◌≡◌, ◌≢◌, ◌<◌, ◌⊎◌, ℕ, tru
 use Rattle.crossbeam_epoch.specs.Limits.{bag_places}
 use Rattle.crossbeam_epoch.specs.declared.bag.Work.TheVariants.{Remove}
 use Rattle.crossbeam_epoch.specs.declared.names.Name.{Name}
-use Rattle.crossbeam_epoch.specs.declared.world.participant.Phase.TheVariants as stage
+use Rattle.crossbeam_epoch.specs.declared.world.participant.Phase.TheVariants as collector_phase
 use Rattle.crossbeam_epoch.specs.World.Machine.{place, deferred, with_store}
 use Rattle.congee.specs.Heap.{Stands}
 use Rattle.congee.specs.protocol.Handing.{InTree, IsOut, is_waiting}
@@ -15,7 +15,8 @@ use Rattle.joint.specs.nodes.Nodes.{Nodes, nodes}
 use Rattle.joint.specs.Names.{number}
 use Rattle.joint.specs.calls.Runs.{Taken}
 use Rattle.joint.specs.world.Whereabouts.{IsWaiting, IsDestroyed, IsTakenBy}
-use Rattle.joint.specs.engine.Engine.{World, is_in_flight}
+use Rattle.joint.specs.engine.Engine.{World}
+use Rattle.joint.specs.Reports.{is_in_flight}
 
 -- a worker's step takes the node out of the tree, and with it one other at most: its call had taken out none, and has this
 -- one then
@@ -40,7 +41,7 @@ pub record HandsOver {V : Type 0} (s s' : Nodes V) (who n : ℕ) : Type 0 where
   pub after : (nodes s' n).retired ≡ true
   pub registered : (place s.collector who).registered ≡ true
   pub pinned : is_some (place s.collector who).word ≡ true
-  pub idle : (place s.collector who).phase ≡ stage.Idle
+  pub idle : (place s.collector who).phase ≡ collector_phase.Idle
   pub room : length (place s.collector who).bag < bag_places
   pub deferral : s'.collector ≡ deferred (with_store s.collector s'.collector.store) who (Remove name)
 

@@ -11,7 +11,7 @@ use Rattle.congee.specs.declared.protocol.op.Op.{Op as Point}
 use Rattle.congee.specs.declared.protocol.op.Op.TheVariants as point
 use Rattle.congee.specs.Keys.{IsMapOf}
 use Rattle.congee.specs.protocol.Play.{Flight, Over, Pending, Decided, Unbegun, Scanning, Question, parts}
-use Rattle.congee.specs.protocol.Sweeps.{IsScan}
+use Rattle.congee.specs.protocol.Scans.{IsScan}
 use Rattle.joint.specs.declared.id.Id.{Id}
 use Rattle.joint.specs.declared.steps.Done.{Done as Answer}
 use Rattle.joint.specs.declared.steps.Done.TheVariants as done
@@ -26,11 +26,11 @@ use Rattle.joint.specs.declared.steps.Target.{Target}
 use Rattle.joint.specs.declared.steps.Target.TheVariants as target
 use Rattle.joint.specs.engine.Flying.{Flights, with_flight, AreInFlight}
 use Rattle.joint.specs.nodes.Nodes.{nodes}
-use Rattle.joint.specs.Reports.{target, reply_in}
+use Rattle.joint.specs.Reports.{target, reply_in, is_in_flight}
 use Rattle.joint.specs.calls.Runs.{Taken}
 use Rattle.joint.specs.calls.Scans.{placed}
 use Rattle.joint.specs.engine.Surveys.{MapTells}
-use Rattle.joint.specs.engine.Engine.{World, is_in_flight}
+use Rattle.joint.specs.engine.Engine.{World}
 
 -- a further step of a worker's call, which is in flight after a step that told this
 pub record GoesOn {V : Type 0} (who : ℕ) (told : Outcome V) (t : Taken V) : Type 0 where

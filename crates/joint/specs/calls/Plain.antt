@@ -97,21 +97,23 @@ abbrev pub with_some : {A : Type 0} → Option A → List A → List A
 with_some None bs = bs
 with_some (Some a) bs = a ∷ bs
 
--- a run's steps on the tree, with worker and event, and what they told
+-- a run's steps on the tree, with worker and event
 abbrev pub projection : {V : Type 0} → List (Step V) → List (Report V) → List (TreeStep V)
 projection [] rs = []
 projection (s ∷ ss) [] = []
 projection (s ∷ ss) (r ∷ rs) = with_some (tree_step s r) (projection ss rs)
 
+-- what a run's steps on the tree told
 abbrev pub answers : {V : Type 0} → List (Step V) → List (Report V) → List (Report V)
 answers [] rs = []
 answers (s ∷ ss) [] = []
 answers (s ∷ ss) (r ∷ rs) = with_first (tree_step s r) r (answers ss rs)
 
--- a node that isn't made, and nodes of which the root alone was
+-- a node that isn't made
 abbrev pub unmade : {V : Type 0} → Node V
 unmade = vacant false false false
 
+-- the plain state in which the root alone was made, and no call is in flight
 abbrev pub opened_plain : {V : Type 0} → Plain V
 opened_plain = record {
   heap = put (λ n. unmade) 0 (new_node N256 []);
@@ -154,7 +156,7 @@ module _ {V : Type 0} (same : V → V → Bool) (most : ℕ) where
   abbrev pub EventTells : Plain V → ℕ → TreeEvent V → Bool → Outcome V → Type 0
   EventTells s who (Starts op) decided o = (decided ≡ false) × (o ≡ start_told (finds_none op))
   EventTells s who (Tells k) decided o = (decided ≡ false) × ((m : Pairs V) × IsMapOf s.heap m) × TellsOf s.heap k o
-  EventTells s who (Goes noise) decided o = (decided ≡ (plain_went s who noise).turn.report.decided) × (o ≡ told (plain_went s who noise).turn.report.outcome)
+  EventTells s who (Goes noise) decided o = (decided ≡ (plain_went s who noise).next_phase.report.decided) × (o ≡ told (plain_went s who noise).next_phase.report.outcome)
 
   -- the same of a step with its report
   abbrev pub StepTells : Plain V → TreeStep V → Report V → Type 0

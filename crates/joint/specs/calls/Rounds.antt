@@ -33,9 +33,9 @@ GoesToEnd who outcome [] = outcome ≡ Done done.Unit
 GoesToEnd {V} who outcome (t ∷ ts) = (outcome ≡ Running) × ((noise : Noise Id V) × (t.step ≡ record { worker = who; event = Go noise })) × GoesToEnd who t.report.outcome ts
 
 -- a whole call of a worker, from its begin to its end, with no other step between
-abbrev pub IsWhole : {V : Type 0} → ℕ → Op V → List (Taken V) → Type 0
-IsWhole who op [] = ⊥
-IsWhole who op (t ∷ ts) = (t.step ≡ record { worker = who; event = Begin op }) × GoesToEnd who t.report.outcome ts
+abbrev pub IsWholeCall : {V : Type 0} → ℕ → Op V → List (Taken V) → Type 0
+IsWholeCall who op [] = ⊥
+IsWholeCall who op (t ∷ ts) = (t.step ≡ record { worker = who; event = Begin op }) × GoesToEnd who t.report.outcome ts
 
 -- a pin, a flush and an unpin
 pub record Round (V : Type 0) : Type 0 where
@@ -45,9 +45,9 @@ pub record Round (V : Type 0) : Type 0 where
 
 -- each of the three is a whole call of the worker's
 pub record IsRound {V : Type 0} (who : ℕ) (r : Round V) : Type 0 where
-  pub pins : IsWhole who Pin r.pin
-  pub flushes : IsWhole who Flush r.flush
-  pub unpins : IsWhole who Unpin r.unpin
+  pub pins : IsWholeCall who Pin r.pin
+  pub flushes : IsWholeCall who Flush r.flush
+  pub unpins : IsWholeCall who Unpin r.unpin
 
 -- so is each of these rounds
 abbrev pub AreRounds : {V : Type 0} → ℕ → List (Round V) → Type 0

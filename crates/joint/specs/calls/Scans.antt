@@ -1,20 +1,21 @@
 -- What a scan finds, by the lines of a run: from the one in which it begins to the one in which it is done.
 use Rattle.std.specs.Prelude.{◌≡◌, ℕ, ◌==◌, ◌&&◌, ◌≤◌, Bool, true, false, List, [], ◌∷◌, ◌++◌, length, map, take, Some}
-use Rattle.congee.specs.protocol.Sweeps.{IsScan, written}
+use Rattle.congee.specs.protocol.Scans.{IsScan, written}
 use Rattle.joint.specs.declared.steps.Done.TheVariants.{Scanned}
 use Rattle.joint.specs.declared.steps.Event.{Event}
 use Rattle.joint.specs.declared.steps.Event.TheVariants.{Begin, Go}
 use Rattle.joint.specs.declared.steps.Op.{Op}
 use Rattle.joint.specs.declared.steps.Outcome.{Outcome}
 use Rattle.joint.specs.declared.steps.Outcome.TheVariants.{Running, Found, Done}
-use Rattle.joint.specs.Reports.{goes_on, range_of}
+use Rattle.joint.specs.Reports.{goes_unasked, range_of}
 use Rattle.joint.specs.world.MapSteps.{Line}
 
--- whether the line is a further step of the worker's call in flight
+-- whether an event is a further step of a call in flight
 abbrev pub is_go : {V : Type 0} → Event V → Bool
 is_go (Go noise) = true
 is_go _ = false
 
+-- whether a line is a further step of this worker's call in flight
 abbrev pub goes : {V : Type 0} → ℕ → Line V → Bool
 goes w l = (l.step.worker == w) && is_go l.step.event
 
@@ -49,7 +50,7 @@ pub record BeginsScan {V : Type 0} (w start end size : ℕ) (l : Line V) : Type 
 -- the worker's call in flight doesn't end in these lines
 abbrev pub GoesOn : {V : Type 0} → ℕ → List (Line V) → Type 0
 GoesOn w [] = Unit {0}
-GoesOn w (l ∷ ls) = (goes w l ≡ true → goes_on l.report.outcome ≡ true) × GoesOn w ls
+GoesOn w (l ∷ ls) = (goes w l ≡ true → goes_unasked l.report.outcome ≡ true) × GoesOn w ls
 
 -- and is done in this one, with so many places filled
 pub record EndsScan {V : Type 0} (w count : ℕ) (l : Line V) : Type 0 where

@@ -25,16 +25,16 @@ publishes (RepinPublish seen) = true
 publishes _ = false
 
 -- whether a worker's step ends its present stretch: its last guard goes, or it publishes anew
-abbrev pub turns_stretch : {V J : Type 0} → Event V → Participant J → Bool
-turns_stretch (Begin Unpin) p = nat_le p.guards 1
-turns_stretch (Go noise) p = publishes p.phase
-turns_stretch _ p = false
+abbrev pub ends_stretch : {V J : Type 0} → Event V → Participant J → Bool
+ends_stretch (Begin Unpin) p = nat_le p.guards 1
+ends_stretch (Go noise) p = publishes p.phase
+ends_stretch _ p = false
 
 -- the worker's step is accepted, and ends it
 pub record EndsStretch {V : Type 0} (who : ℕ) (s : World V) (t : Taken V) : Type 0 where
   pub worker : t.step.worker ≡ who
   pub accepted : misuse s who t.step.event ≡ None
-  pub turns : turns_stretch t.step.event (place_of s who) ≡ true
+  pub ends_it : ends_stretch t.step.event (place_of s who) ≡ true
 
 -- the worker's call has the name of the node, which it hasn't made: it was read in a node above, and checked there
 pub record HasChecked {V : Type 0} (s : World V) (who n : ℕ) : Type 0 where

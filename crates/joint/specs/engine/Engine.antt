@@ -31,7 +31,7 @@ use Rattle.joint.specs.declared.steps.Event.TheVariants.{Register, Begin, Go}
 use Rattle.joint.specs.declared.steps.Kind.{Kind}
 use Rattle.joint.specs.declared.steps.Kind.TheVariants.{Tree, Collection as OfCollector}
 use Rattle.joint.specs.declared.steps.Outcome.{Outcome}
-use Rattle.joint.specs.declared.steps.Outcome.TheVariants.{Running, Asks, Found, Registered, Done, Refused}
+use Rattle.joint.specs.declared.steps.Outcome.TheVariants.{Running, Registered, Done, Refused}
 use Rattle.joint.specs.declared.steps.Done.TheVariants.{Scanned}
 use Rattle.joint.specs.declared.steps.Report.{Report}
 use Rattle.joint.specs.declared.steps.Step.{Step}
@@ -40,11 +40,12 @@ use Rattle.joint.specs.declared.steps.Survey.TheVariants as survey
 use Rattle.joint.specs.declared.steps.Target.{Target}
 use Rattle.joint.specs.declared.steps.Target.TheVariants as target
 use Rattle.joint.specs.nodes.Nodes.{Nodes, nodes, total, with_collector, IsCharged}
-use Rattle.joint.specs.engine.Intact.{IsIntact, BeginsSecuring, Secured, WalkedOn, call_after, over_at, root}
+use Rattle.joint.specs.engine.Intact.{IsIntact, BeginsSecuring, Secured, WalkedOn, call_after, over_at}
+use Rattle.joint.specs.Names.{root}
 use Rattle.joint.specs.engine.Log.{Log, no_log}
 use Rattle.joint.specs.engine.Safety.{Collected}
 use Rattle.joint.specs.Refusals.{of_fault}
-use Rattle.joint.specs.Reports.{target, told, collected}
+use Rattle.joint.specs.Reports.{is_in_flight, target, told, collected}
 use Rattle.joint.specs.engine.Surveys.{TellsOf}
 use Rattle.joint.specs.nodes.View.{id_number}
 
@@ -159,11 +160,11 @@ pub record FindsNoPlace {V : Type 0} (s : World V) (r : Report V) (s' : World V)
 
 -- a call on the collector begins, or goes on, until it ends
 pub record Collects {V : Type 0} (same : V → V → Bool) (always : Bool) (s : World V) (who : ℕ) (event : CollectorEvent) (call : InFlight V) (r : Report V) (s' : World V) : Type 0 where
-  pub turn : Collection
-  pub step : Collected same always s.forest s.machines who event turn s'.forest
+  pub collector_report : Collection
+  pub step : Collected same always s.forest s.machines who event collector_report s'.forest
   pub machines : s'.machines ≡ s.machines
-  pub calls : s'.calls ≡ slice_set s.calls who (call_after turn.outcome call)
-  pub report : r ≡ collection turn (collected turn.outcome)
+  pub calls : s'.calls ≡ slice_set s.calls who (call_after collector_report.outcome call)
+  pub report : r ≡ collection collector_report (collected collector_report.outcome)
 
 -- a reading call begins on the tree
 pub record Enters {V : Type 0} (s : World V) (who : ℕ) (op : Point V) (r : Report V) (s' : World V) : Type 0 where
@@ -198,9 +199,9 @@ reserving o = collected o
 
 -- a further step of that
 pub record GoesOnReserving {V : Type 0} (same : V → V → Bool) (always : Bool) (s : World V) (who : ℕ) (r : Report V) (s' : World V) : Type 0 where
-  pub turn : Collection
-  pub step : Secured same always s.forest s.machines s.calls who turn s'.forest s'.machines s'.calls
-  pub report : r ≡ collection turn (reserving turn.outcome)
+  pub collector_report : Collection
+  pub step : Secured same always s.forest s.machines s.calls who collector_report s'.forest s'.machines s'.calls
+  pub report : r ≡ collection collector_report (reserving collector_report.outcome)
 
 -- its first step begins to make the places free, and goes on with that at once
 pub record SecuresFirst {V : Type 0} (same : V → V → Bool) (always : Bool) (s : World V) (who : ℕ) (r : Report V) (s' : World V) : Type 0 where
@@ -263,15 +264,6 @@ EngineHolds same always s = IsIntact same always s.forest s.machines s.calls × 
 abbrev pub IsOfCall : {V : Type 0} → Event V → Type 0
 IsOfCall Register = ⊥
 IsOfCall _ = Unit {0}
-
--- whether a report says that the worker's call is in flight
-abbrev pub is_in_flight : {V : Type 0} → Outcome V → Bool
-is_in_flight Running = true
-is_in_flight (Asks found) = true
-is_in_flight (Found place key value) = true
-is_in_flight (Registered n) = false
-is_in_flight (Done done) = false
-is_in_flight (Refused refusal) = false
 
 -- one step
 pub record IsEngineStep {V : Type 0} (same : V → V → Bool) (always : Bool) (s : World V) (step : Step V) (r : Report V) (s' : World V) : Type 0 where

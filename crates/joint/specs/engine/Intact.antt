@@ -1,7 +1,7 @@
 -- What always holds of the machine: tree, calls and collector are safe, and each worker has one call in flight at most.
 use Rattle.std.specs.Prelude.{◌≡◌, ◌≤◌, ℕ, Bool, true, false, List, Option, None, Some, is_some, if◌then◌else◌, length, slice_get, slice_set}
 use Rattle.crossbeam_epoch.specs.declared.world.participant.Participant.{Participant}
-use Rattle.crossbeam_epoch.specs.declared.world.participant.Phase.TheVariants as stage
+use Rattle.crossbeam_epoch.specs.declared.world.participant.Phase.TheVariants as collector_phase
 use Rattle.crossbeam_epoch.specs.declared.world.report.Op.TheVariants.{Secure}
 use Rattle.crossbeam_epoch.specs.declared.world.report.Event.TheVariants.{Begin, Go}
 use Rattle.crossbeam_epoch.specs.declared.world.report.Report.{Report}
@@ -24,6 +24,7 @@ use Rattle.joint.specs.engine.Filed.{IsFiled}
 use Rattle.joint.specs.nodes.Nodes.{Nodes}
 use Rattle.joint.specs.engine.Safety.{IsSafe, Collected, Walked}
 use Rattle.joint.specs.engine.Sound.{IsUnderWay, IsSecured}
+use Rattle.joint.specs.Names.{root}
 
 -- whether a call may hand nodes over
 abbrev pub writes : {V : Type 0} → Op V → Bool
@@ -34,9 +35,9 @@ writes _ = true
 
 -- what a worker's call in flight says of its place in the collector and of its call on the tree
 abbrev pub IsAt : {V J : Type 0} → InFlight V → Participant J → Machine Id V → Type 0
-IsAt Idle p m = (p.phase ≡ stage.Idle) × (m.phase ≡ Ended)
+IsAt Idle p m = (p.phase ≡ collector_phase.Idle) × (m.phase ≡ Ended)
 IsAt (Collecting op) p m = IsOn op p × (m.phase ≡ Ended)
-IsAt (Reserving op) p m = (p.registered ≡ true) × (is_some p.word ≡ true) × (p.phase ≡ stage.Idle) × (m.phase ≡ Ended) × (writes op ≡ true)
+IsAt (Reserving op) p m = (p.registered ≡ true) × (is_some p.word ≡ true) × (p.phase ≡ collector_phase.Idle) × (m.phase ≡ Ended) × (writes op ≡ true)
 IsAt (Securing op) p m = IsOn (Secure 2) p × (is_some p.word ≡ true) × (m.phase ≡ Ended) × (writes op ≡ true)
 IsAt Walking p m = IsUnderWay m.phase × (is_done m.phase ≡ false)
 
@@ -54,10 +55,6 @@ abbrev pub call_after : {V : Type 0} → Outcome → InFlight V → InFlight V
 call_after Running k = k
 call_after Done k = Idle
 call_after (Refused f) k = Idle
-
--- the tree's root
-abbrev pub root : Id
-root = record { name = record { cell = 0; turn = 0 } }
 
 -- a worker's call on the tree before its first
 abbrev pub resting : {V : Type 0} → Machine Id V
@@ -101,9 +98,9 @@ securing_of _ = Idle
 -- a writing call begins to make its places free, which runs on
 pub record BeginsSecuring {V : Type 0} (same : V → V → Bool) (always : Bool) (s : Nodes V) (ms : List (Machine Id V)) (calls : List (InFlight V)) (who : ℕ) (s' : Nodes V) (ms' : List (Machine Id V)) (calls' : List (InFlight V)) : Type 0 where
   pub intact : IsIntact same always s' ms' calls'
-  pub turn : Report
-  pub collected : Collected same always s ms who (Begin (Secure 2)) turn s'
-  pub running : turn.outcome ≡ Running
+  pub collector_report : Report
+  pub collected : Collected same always s ms who (Begin (Secure 2)) collector_report s'
+  pub running : collector_report.outcome ≡ Running
   pub call : calls' ≡ slice_set calls who (securing_of (slice_get calls who))
   pub machine : ms' ≡ ms
 

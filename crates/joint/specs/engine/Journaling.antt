@@ -37,11 +37,12 @@ has_place (Some (Reserving op)) m = false
 has_place (Some (Securing op)) m = true
 has_place (Some Walking) m = is_writing m
 
--- how many calls have one
+-- one where a test holds, and none where it doesn't
 abbrev pub one_where : Bool → ℕ
 one_where true = 1
 one_where false = 0
 
+-- how many calls have a place reserved
 abbrev pub places_of : {V : Type 0} → List (InFlight V) → List (Machine Id V) → ℕ
 places_of [] ms = 0
 places_of (k ∷ ks) [] = 0

@@ -10,7 +10,7 @@ use Rattle.crossbeam_epoch.specs.declared.names.Name.{Name}
 use Rattle.crossbeam_epoch.specs.declared.names.Ptr.{Ptr}
 use Rattle.crossbeam_epoch.specs.declared.world.report.Event.{Event}
 use Rattle.crossbeam_epoch.specs.declared.world.report.Event.TheVariants as collector_event
-use Rattle.crossbeam_epoch.specs.declared.world.participant.Phase.TheVariants as stage
+use Rattle.crossbeam_epoch.specs.declared.world.participant.Phase.TheVariants as collector_phase
 use Rattle.crossbeam_epoch.specs.declared.world.report.Op.{Op}
 use Rattle.crossbeam_epoch.specs.declared.world.report.Report.{Report}
 use Rattle.crossbeam_epoch.specs.World.Fits.{Fits, weight}
@@ -123,7 +123,7 @@ FillingLaw {C} {V} number same always most why = (i : ℕ) (a : ℕ → Note) (h
 
 -- of a collector's calls, from their begin to their end
 pub record ProgressLaws (T J : Type 0) : Type 0 where
-  pub begins : (s : State T J) (who : ℕ) (op : Op) (r : Report) → (place s who).phase ≡ stage.Idle → IsReport s who (collector_event.Begin op) r → Begins s who op r.outcome (after s who (collector_event.Begin op) r.outcome)
+  pub begins : (s : State T J) (who : ℕ) (op : Op) (r : Report) → (place s who).phase ≡ collector_phase.Idle → IsReport s who (collector_event.Begin op) r → Begins s who op r.outcome (after s who (collector_event.Begin op) r.outcome)
   pub goes_on : (s : State T J) (who : ℕ) (op : Op) (r : Report) → Orderly s → IsOn op (place s who) → IsReport s who collector_event.Go r → GoesOn s who op r.outcome (after s who collector_event.Go r.outcome)
 
 -- of calls on a tree, and of the same calls by numbers, over a store with this limit of versions and these causes of refusals

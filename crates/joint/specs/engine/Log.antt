@@ -63,7 +63,7 @@ abbrev pub with_none : {V : Type 0} → Op V → Option (Option V) → Option (O
 with_none (ComputeInsert k) answer = answer
 with_none _ answer = Some None
 
--- a call that asks hears an answer, or none comes
+-- a call that asks takes an answer, or none comes
 abbrev pub with_answer : {V : Type 0} → Option (Option V) → Request V → Request V
 with_answer None q = q
 with_answer (Some None) q = record { op = q.op; answer = with_none q.op q.answer }

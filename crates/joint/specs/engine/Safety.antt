@@ -83,7 +83,7 @@ pub record Walked {V : Type 0} (same : V → V → Bool) (always : Bool) (s : No
   pub safe : IsSafe same always s' ms'
   pub plays : StepPlays id_number same always s.version_max (Refuses s) (nodes s) ms step d (nodes s') ms'
   pub beside : IsBeside s s'
-  pub clock : s'.collector ≡ after_walk (retiring_at (slice_get ms step.who)) (with_store s.collector s'.collector.store) step.who
+  pub collector_is : s'.collector ≡ after_walk (retiring_at (slice_get ms step.who)) (with_store s.collector s'.collector.store) step.who
   pub filed : IsFiled s → IsFiled s'
 
 -- one step of the collector under calls on the tree: the pairs stay, what goes waited, and no call has it

@@ -97,13 +97,13 @@ Refuses s form Exhausted = ⊥
 Refuses s form Count = ⊥
 
 -- the mark of a cell is of the slot that stands in it
-pub record IsTally {V : Type 0} (s : Slot V) (t : CellMark) : Type 0 where
+pub record IsMark {V : Type 0} (s : Slot V) (t : CellMark) : Type 0 where
   pub size_is : size s ≡ size_of t.form
   pub waits_is : s.word.retired ≡ t.waits
 
 -- so is the mark of each cell
-abbrev pub IsTallied : {V : Type 0} → Store (Slot V) → List CellMark → Type 0
-IsTallied {V} st cell_marks = (n : Name) (s : Slot V) → value_at st n ≡ Some s → IsTally s (mark_at cell_marks n.cell)
+abbrev pub IsMarked : {V : Type 0} → Store (Slot V) → List CellMark → Type 0
+IsMarked {V} st cell_marks = (n : Name) (s : Slot V) → value_at st n ≡ Some s → IsMark s (mark_at cell_marks n.cell)
 
 -- each slot has its node
 abbrev pub AreWhole : {V : Type 0} → Store (Slot V) → Type 0
@@ -117,7 +117,7 @@ pub record IsKept {V : Type 0} (k : Counts) (s : Nodes V) : Type 0 where
   pub count_is : k.waiting ≡ waiting s.collector.store
   pub bytes_is : k.waiting_bytes ≡ waiting_bytes s.collector.store
   pub whole : AreWhole s.collector.store
-  pub tallied : IsTallied s.collector.store k.cell_marks.items
+  pub marks_are : IsMarked s.collector.store k.cell_marks.items
   pub wide : length k.cell_marks.items ≡ length s.collector.store.cells
   pub bounded : length s.collector.store.cells ≤ s.collector.store.most
   pub few : s.collector.store.most ≤ CELLS_MAX

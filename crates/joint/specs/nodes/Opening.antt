@@ -44,7 +44,7 @@ pub record IsOpened {V : Type 0} (limits : Limits) (charge limit : ℕ) (s : Nod
   pub within : Within limits.version_max (nodes s)
   pub rooted : Rooted s.collector.roots top
   pub resting : IsResting s.collector
-  pub clock : s.collector ≡ with_roots (with_store (opened limits.epoch 1) s.collector.store) top_roots
+  pub collector_is : s.collector ≡ with_roots (with_store (opened limits.epoch 1) s.collector.store) top_roots
   pub told : HasMoments slot_names (moment slot_names Quiet s.collector ∷ []) s.collector
   pub base : s.base ≡ charge
   pub fits : charge + 2104 ≤ limit
@@ -75,7 +75,7 @@ IsUnshared limits places parts charge limit e = (0 < parts) × IsUnjournaled lim
 
 -- the collector and the counts with a root alone, before anything is charged
 pub record IsPlanted {V : Type 0} (limits : EpochLimits) (c : State (Slot V) (Unit {0})) (k : Counts) : Type 0 where
-  pub clock : c ≡ with_roots (with_store (opened limits 1) c.store) top_roots
+  pub collector_is : c ≡ with_roots (with_store (opened limits 1) c.store) top_roots
   pub root : (s : Slot V) × (Fills (opened_store {T = Slot V} limits.cells limits.turn_max) top s c.store × IsNewSlot s N256 [])
   pub told : HasMoments slot_names (moment slot_names Quiet c ∷ []) c
   pub resting : IsResting c

@@ -45,7 +45,7 @@ abbrev pub AreAlike : {P : Type 0} → Form Id P → Type 0
 AreAlike {P} n = ((b c : ℕ) → child_at n b ≡ Below c → ⊥) ⊎ ((b : ℕ) (v : P) → child_at n b ≡ Holds v → ⊥)
 
 -- what is left of a node whose children went over into another: the names of nodes
-pub record IsLeft {P : Type 0} (n n' : Form Id P) : Type 0 where
+pub record IsPoured {P : Type 0} (n n' : Form Id P) : Type 0 where
   pub form : form_of n' ≡ form_of n
   pub prefix : prefix_of n' ≡ prefix_of n
   pub solid : IsSolid (children_of n')

@@ -10,10 +10,11 @@ use Rattle.joint.specs.declared.steps.Outcome.TheVariants.{Running, Asks, Found,
 use Rattle.joint.specs.declared.steps.Report.{Report}
 use Rattle.joint.specs.declared.steps.Step.{Step}
 
--- the step that begins a worker's call, and the next one, with the closure's answer where there is one
+-- the step that begins a worker's call
 abbrev pub begin_step : {V : Type 0} → ℕ → Op V → Step V
 begin_step who op = record { worker = who; event = Begin op }
 
+-- the next step of a worker's call, with the closure's answer where there is one
 abbrev pub go_step : {V : Type 0} → ℕ → Option (Option V) → Step V
 go_step who answer = record { worker = who; event = Go (record { fail = false; seen = None; answer = answer }) }
 

@@ -64,18 +64,18 @@ abbrev pub ByHold : {V : Type 0} → (V → V → Bool) → Bool → ℕ → Op 
 ByHold same always who o step r = IsHold same always step r
 
 -- a whole call, whose turns are as `hold` says of this call, and which ends so; the closure answers between two turns
-abbrev pub IsHeld : {V F Q : Type 0} → (ℕ → Op V → Step V → Report V → Type 0) → (F → Option V → Option V → F → Type 0) → (ℕ → V → Q) → ℕ → Op V → F → List Q → List Q → Outcome V → Type 0
-IsHeld {V} {F} {Q} hold calls pair who o f places places' outcome =
+abbrev pub IsByHolds : {V F Q : Type 0} → (ℕ → Op V → Step V → Report V → Type 0) → (F → Option V → Option V → F → Type 0) → (ℕ → V → Q) → ℕ → Op V → F → List Q → List Q → Outcome V → Type 0
+IsByHolds {V} {F} {Q} hold calls pair who o f places places' outcome =
     IsDriven {S = Unit {0}} (λ _ step r _. hold who o step r) calls pair who o f (tt {0}) places (tt {0}) places' outcome
 
 -- a whole call with this closure; what it answers is read off its end
 abbrev pub Computes : {V F B : Type 0} → (ℕ → Op V → Step V → Report V → Type 0) → (F → Option V → Option V → F → Type 0) → ℕ → Op V → F → (End V → B) → B → Type 0
-Computes {V} hold calls who o f reads result = (end : End V) × IsHeld {Q = ℕ × V} hold calls (λ k v. (k, v)) who o f [] [] (ended end) × (result ≡ reads end)
+Computes {V} hold calls who o f reads result = (end : End V) × IsByHolds {Q = ℕ × V} hold calls (λ k v. (k, v)) who o f [] [] (ended end) × (result ≡ reads end)
 
 -- one that wants no answer of a closure, and writes the pairs that it finds to these places
 abbrev pub Scans : {V Q B : Type 0} → (ℕ → Op V → Step V → Report V → Type 0) → (ℕ → V → Q) → ℕ → Op V → List Q → List Q → (End V → B) → B → Type 0
 Scans {V} hold pair who o places places' reads result =
-    (end : End V) × IsHeld {F = Unit {0}} hold (λ _ _ _ _. Unit {0}) pair who o (tt {0}) places places' (ended end) × (result ≡ reads end)
+    (end : End V) × IsByHolds {F = Unit {0}} hold (λ _ _ _ _. Unit {0}) pair who o (tt {0}) places places' (ended end) × (result ≡ reads end)
 
 -- one that finds no pairs either
 abbrev pub Answers : {V B : Type 0} → (ℕ → Op V → Step V → Report V → Type 0) → ℕ → Op V → (End V → B) → B → Type 0
@@ -101,57 +101,67 @@ registered id (Registered n) = Ok (record { tree = id; number = n })
 registered id (Refused e) = Err e
 registered id _ = Err Idle
 
--- how calls read their end; the end of another call, which none of them meets, makes Idle
+-- how a call without a value reads its end; the end of another call, which none of these meets, makes Idle
 abbrev pub told : {V : Type 0} → End V → Result (Unit {0}) Refusal
 told (Ok Finished) = Ok (tt {0})
 told (Err e) = Err e
 told _ = Err Idle
 
+-- what a look-up answers: the value at the key, if there is one
 abbrev pub got : {V : Type 0} → End V → Result (Option V) Refusal
 got (Ok (Reply (Get v))) = Ok v
 got (Err e) = Err e
 got _ = Err Idle
 
+-- what an insertion answers: the value before it, if there was one
 abbrev pub inserted : {V : Type 0} → End V → Result (Option V) Refusal
 inserted (Ok (Reply (Insert v))) = Ok v
 inserted (Err e) = Err e
 inserted _ = Err Idle
 
+-- what a removal answers: the value that it took out, if there was one
 abbrev pub removed : {V : Type 0} → End V → Result (Option V) Refusal
 removed (Ok (Reply (Remove v))) = Ok v
 removed (Err e) = Err e
 removed _ = Err Idle
 
+-- what a call on a present key alone answers: the value before, and what its closure left
 abbrev pub computed : {V : Type 0} → End V → Result (Option (V × Option V)) Refusal
 computed (Ok (Reply (ComputePresent pair))) = Ok pair
 computed (Err e) = Err e
 computed _ = Err Idle
 
+-- what a call that computes what to insert answers: the value before it, if there was one
 abbrev pub replaced : {V : Type 0} → End V → Result (Option V) Refusal
 replaced (Ok (Reply (ComputeInsert v))) = Ok v
 replaced (Err e) = Err e
 replaced _ = Err Idle
 
+-- what an exchange answers: what it put at the key, or what stood there where it failed
 abbrev pub exchanged : {V : Type 0} → End V → Result (Result (Option V) (Option V)) Refusal
 exchanged (Ok (Reply (Exchange r))) = Ok r
 exchanged (Err e) = Err e
 exchanged _ = Err Idle
 
+-- what a scan answers: how many of its places it filled
 abbrev pub scanned : {V : Type 0} → End V → Result ℕ Refusal
 scanned (Ok (Scanned n)) = Ok n
 scanned (Err e) = Err e
 scanned _ = Err Idle
 
+-- what the question for emptiness answers
 abbrev pub emptied : {V : Type 0} → End V → Result Bool Refusal
 emptied (Ok (Empty b)) = Ok b
 emptied (Err e) = Err e
 emptied _ = Err Idle
 
+-- what a list of keys answers
 abbrev pub listed : {V : Type 0} → End V → Result (Vec ℕ Global) Refusal
 listed (Ok (Keys keys)) = Ok keys
 listed (Err e) = Err e
 listed _ = Err Idle
 
+-- what the statistics answer
 abbrev pub counted : {V : Type 0} → End V → Result NodeStats Refusal
 counted (Ok (Stats stats)) = Ok stats
 counted (Err e) = Err e
@@ -221,13 +231,15 @@ As {A} does of result = (read : A) × does read × (result ≡ of read)
 abbrev pub IsTold : {V B : Type 0} → (V → V → Bool) → Bool → (World V → B) → B → Type 0
 IsTold {V} same always of result = (s : World V) × Holds same always s × (result ≡ of s)
 
--- the bytes charged, the nodes that wait, and the bytes of those
+-- the bytes charged
 abbrev pub charge_of : {V : Type 0} → World V → ℕ
 charge_of s = s.forest.charge
 
+-- how many nodes wait for their destruction
 abbrev pub waiting_of : {V : Type 0} → World V → ℕ
 waiting_of s = length (waiting_nodes s)
 
+-- the bytes of the nodes that wait
 abbrev pub waiting_bytes_of : {V : Type 0} → World V → ℕ
 waiting_bytes_of s = sum_by (bytes_of s.forest) (waiting_nodes s)
 

@@ -12,7 +12,7 @@ use Rattle.joint.specs.declared.steps.Outcome.{Outcome}
 use Rattle.joint.specs.declared.steps.Outcome.TheVariants.{Running, Asks, Done, Refused}
 use Rattle.joint.specs.declared.steps.Report.{Report}
 use Rattle.joint.specs.declared.steps.Step.{Step}
-use Rattle.joint.specs.Asked.{changes}
+use Rattle.joint.specs.Changes.{changes}
 use Rattle.joint.specs.threads.Driving.{AreTurns, Turn, ended}
 use Rattle.joint.specs.threads.Journals.{IsCounted, count_watched}
 use Rattle.joint.specs.engine.Journaling.{HasAnswer, asks_at, call_of, has_place, in_list, one_where}

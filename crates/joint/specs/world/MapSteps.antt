@@ -4,7 +4,7 @@ use Rattle.judge.specs.declared.journal.Entry.{Entry}
 use Rattle.judge.specs.Answer.{Pairs}
 use Rattle.congee.specs.declared.protocol.op.Op.{Op as Point}
 use Rattle.congee.specs.protocol.Play.{Over, begun, flight, range_of, Flight, Question, Undecided, Heeds, Concludes, ScanTells, Pending, Decided, Unbegun, Scanning, value_answered, resolved}
-use Rattle.congee.specs.protocol.Sweeps.{IsScan}
+use Rattle.congee.specs.protocol.Scans.{IsScan}
 use Rattle.congee.specs.declared.protocol.machine.Outcome.{Outcome as Moved}
 use Rattle.congee.specs.declared.protocol.phase.Kind.{Kind}
 use Rattle.std.specs.FinMap.{get}
@@ -17,7 +17,7 @@ use Rattle.joint.specs.declared.steps.Report.{Report}
 use Rattle.joint.specs.declared.steps.Step.{Step}
 use Rattle.joint.specs.engine.Flying.{Flights, with_flight}
 use Rattle.joint.specs.declared.steps.Outcome.TheVariants.{Running, Done, Refused}
-use Rattle.joint.specs.engine.Intact.{root}
+use Rattle.joint.specs.Names.{root}
 use Rattle.joint.specs.declared.steps.Done.{Done as Answer}
 use Rattle.joint.specs.declared.steps.Done.TheVariants.{Scanned}
 use Rattle.joint.specs.declared.steps.Outcome.{Outcome}
@@ -77,7 +77,7 @@ BeginsOr fs m op (Done done) l fs' = EndsAtOnce fs m op done l fs'
 BeginsOr fs m op _ l fs' = BeginsFlight fs m op l fs'
 
 -- a call of one step tells of the map as it stands
-pub record Told {V : Type 0} (k : Survey) (fs : Flights V) (m : Pairs V) (l : Line V) (fs' : Flights V) : Type 0 where
+pub record TellsSurvey {V : Type 0} (k : Survey) (fs : Flights V) (m : Pairs V) (l : Line V) (fs' : Flights V) : Type 0 where
   pub tells : MapTells m k l.report.outcome
   pub stays : Stays fs m l fs'
 
@@ -85,7 +85,7 @@ pub record Told {V : Type 0} (k : Survey) (fs : Flights V) (m : Pairs V) (l : Li
 abbrev pub BeginMap : {V : Type 0} → Flights V → Pairs V → Target V → Line V → Flights V → Type 0
 BeginMap fs m (target.Collector op) l fs' = Stays fs m l fs'
 BeginMap fs m (target.Tree op) l fs' = BeginsOr fs m op l.report.outcome l fs'
-BeginMap fs m (target.Survey k) l fs' = Told k fs m l fs'
+BeginMap fs m (target.Survey k) l fs' = TellsSurvey k fs m l fs'
 
 -- a step of a call on one key before it took effect: it goes on, asks, or is refused
 pub record IsPending {V : Type 0} (k : ℕ) (kind : Kind V) (v : Option V) (q : Question V) (m : Pairs V) (l : Line V) (f' : Flight V) : Type 0 where
@@ -109,7 +109,7 @@ pub record TakesEffect {V : Type 0} (same : V → V → Bool) (k : ℕ) (kind : 
   pub concludes : Concludes entry.reply outcome f'
 
 -- one that finds no place in the journal, and is refused for that
-pub record IsGivenUp {V : Type 0} (m : Pairs V) (l : Line V) (f' : Flight V) : Type 0 where
+pub record EndsFull {V : Type 0} (m : Pairs V) (l : Line V) (f' : Flight V) : Type 0 where
   pub full : l.report.outcome ≡ Refused JournalFull
   pub undecided : l.report.decided ≡ false
   pub over : f' ≡ Over
@@ -118,7 +118,7 @@ pub record IsGivenUp {V : Type 0} (m : Pairs V) (l : Line V) (f' : Flight V) : T
 
 -- a step of a call on one key that has not taken effect, by whether it does now
 abbrev pub PendingStep : {V : Type 0} → (V → V → Bool) → ℕ → Kind V → Option V → Question V → Pairs V → Bool → Line V → Flight V → Type 0
-PendingStep same k kind v q m false l f' = IsPending k kind v q m l f' ⊎ IsGivenUp m l f'
+PendingStep same k kind v q m false l f' = IsPending k kind v q m l f' ⊎ EndsFull m l f'
 PendingStep same k kind v q m true l f' = TakesEffect same k kind v q m l f'
 
 -- one after it: it goes on, or is done with its entry's reply
@@ -131,7 +131,7 @@ pub record Finishes {V : Type 0} (r : Reply V) (m : Pairs V) (l : Line V) (f' : 
   pub same_pairs : l.pairs ≡ m
 
 -- one of a scan, during which these maps stood
-pub record Scans {V : Type 0} (start end size : ℕ) (states : List (Pairs V)) (places : List (ℕ × V)) (m : Pairs V) (l : Line V) (f' : Flight V) : Type 0 where
+pub record ScanStep {V : Type 0} (start end size : ℕ) (states : List (Pairs V)) (places : List (ℕ × V)) (m : Pairs V) (l : Line V) (f' : Flight V) : Type 0 where
   pub undecided : l.report.decided ≡ false
   pub outcome : Moved V
   pub told_so : l.report.outcome ≡ told outcome
@@ -144,19 +144,19 @@ abbrev pub FlightStep : {V : Type 0} → (V → V → Bool) → Flight V → Pai
 FlightStep same (Pending k kind v q) m answer l f' = PendingStep same k kind (value_answered kind q answer v) (resolved kind q answer) m l.report.decided l f'
 FlightStep same (Decided r) m answer l f' = Finishes r m l f'
 FlightStep same Over m answer l f' = ⊥
-FlightStep same (Unbegun start end size) m answer l f' = Scans start end size (m ∷ []) [] m l f'
-FlightStep same (Scanning start end size states places) m answer l f' = Scans start end size (m ∷ states) places m l f'
+FlightStep same (Unbegun start end size) m answer l f' = ScanStep start end size (m ∷ []) [] m l f'
+FlightStep same (Scanning start end size states places) m answer l f' = ScanStep start end size (m ∷ states) places m l f'
 
 -- a worker's call on the tree takes a step, where it has one in flight
-pub record Advances {V : Type 0} (same : V → V → Bool) (fs : Flights V) (f : Flight V) (m : Pairs V) (answer : Option (Option V)) (l : Line V) (fs' : Flights V) : Type 0 where
+pub record StepsFlight {V : Type 0} (same : V → V → Bool) (fs : Flights V) (f : Flight V) (m : Pairs V) (answer : Option (Option V)) (l : Line V) (fs' : Flights V) : Type 0 where
   pub next : Flight V
   pub step : FlightStep same f m answer l next
-  pub advances : fs' ≡ with_flight fs l.step.worker next
+  pub with_next : fs' ≡ with_flight fs l.step.worker next
 
 -- a further step: of a call on the tree, or of one that leaves the map
 abbrev pub GoMap : {V : Type 0} → (V → V → Bool) → Flights V → Flight V → Pairs V → Option (Option V) → Line V → Flights V → Type 0
 GoMap same fs Over m answer l fs' = Stays fs m l fs'
-GoMap same fs f m answer l fs' = Advances same fs f m answer l fs'
+GoMap same fs f m answer l fs' = StepsFlight same fs f m answer l fs'
 
 -- what a step makes of the map, by its event
 abbrev pub EventMap : {V : Type 0} → (V → V → Bool) → Flights V → Pairs V → Event V → Line V → Flights V → Type 0
@@ -168,7 +168,7 @@ EventMap same fs m (Go noise) l fs' = GoMap same fs (fs l.step.worker) m noise.a
 abbrev pub MapStep : {V : Type 0} → (V → V → Bool) → Flights V → Pairs V → Line V → Flights V → Type 0
 MapStep same fs m l fs' = EventMap same fs m l.step.event l fs'
 
--- it keeps that of each writing call that took effect
+-- whether the call of an entry is a look-up
 abbrev pub looks_up : {V : Type 0} → Entered V → Bool
 looks_up (entered.Get k) = true
 looks_up _ = false

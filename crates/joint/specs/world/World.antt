@@ -22,13 +22,13 @@ use Rattle.joint.specs.declared.steps.Outcome.TheVariants.{Refused}
 use Rattle.joint.specs.declared.steps.Report.{Report}
 use Rattle.joint.specs.declared.steps.Step.{Step}
 use Rattle.joint.specs.declared.steps.Target.TheVariants.{Tree}
-use Rattle.joint.specs.engine.Engine.{World, engine_of, is_busy, misuse, quiet, IsOfCall, is_in_flight, IsEngineStep, IsFresh}
+use Rattle.joint.specs.engine.Engine.{World, engine_of, is_busy, misuse, quiet, IsOfCall, IsEngineStep, IsFresh}
 use Rattle.joint.specs.engine.Flying.{Flights, AreInFlight}
 use Rattle.joint.specs.nodes.Nodes.{nodes, IsCharged}
 use Rattle.joint.specs.engine.Intact.{IsIntact, is_reserving}
 use Rattle.joint.specs.engine.Journaling.{asks_at, entry_of, given_by, in_list, kept_if, places_of, reply_by}
 use Rattle.joint.specs.engine.Log.{asked, has_room, answered_if, is_full, request_at}
-use Rattle.joint.specs.Reports.{target}
+use Rattle.joint.specs.Reports.{target, is_in_flight}
 use Rattle.joint.specs.declared.limits.Limits.{Limits}
 use Rattle.joint.specs.nodes.Opening.{IsOpened}
 
@@ -86,7 +86,7 @@ pub record IsLogged {V : Type 0} (same : V → V → Bool) (always : Bool) (s : 
 abbrev pub Holds : {V : Type 0} → (V → V → Bool) → Bool → World V → Type 0
 Holds same always s = IsIntact same always s.forest s.machines s.calls × IsCharged s.forest × IsLogged same always s
 
--- a writing call is given up in its first step where the journal has no place for it
+-- a writing call is over in its first step where the journal has no place for it
 abbrev pub finds_journal_full : {V : Type 0} → World V → ℕ → Event V → Bool
 finds_journal_full s who (Go noise) = is_reserving (slice_get s.calls who) && is_full s.log
 finds_journal_full s who _ = false
@@ -110,7 +110,7 @@ entry_at s who event told s' = entry_of who (answered_request s who event) (repl
 abbrev pub kept_at : {V : Type 0} → World V → ℕ → Event V → Report V → World V → Option (Entry V)
 kept_at s who event told s' = kept_if told.decided (has_room (record s.log { reserved = s'.log.reserved })) (entry_at s who event told s')
 
--- a step that isn't given up
+-- a step that doesn't find the journal full
 pub record TakesStep {V : Type 0} (same : V → V → Bool) (always : Bool) (s : World V) (step : Step V) (r : Report V) (s' : World V) : Type 0 where
   pub told : Report V
   pub engine : IsEngineStep same always (engine_of s) step told (engine_of s')

@@ -5,7 +5,7 @@ ghost use Rattle.judge.specs.Answer.{Pairs};
 ghost use Rattle.congee.specs.Keys.{IsMapOf};
 ghost use Rattle.joint.specs.calls.Alone.{CallEndsAlone};
 ghost use Rattle.joint.specs.calls.Calling.{FillsPlaces, IsCalled, TellsMap, kept_report, next_step, put, put_away};
-ghost use Rattle.joint.specs.Reports.{goes_on};
+ghost use Rattle.joint.specs.Reports.{goes_unasked};
 ghost use Rattle.joint.specs.declared.steps.Event.TheVariants.{Go};
 ghost use Rattle.joint.specs.declared.steps.Outcome.TheVariants.{Running};
 ghost use Rattle.joint.specs.nodes.Nodes.{IsBeside, nodes};
@@ -77,7 +77,7 @@ impl<P: Payload + Small, A: Allocator> World<P, A> {
 }
 
 /// Writes a pair to its place, if there is that place.
-fn put_at<P: Drop>(found: &mut [(u64, P)], place: usize, pair: (u64, P))
+pub(crate) fn put_at<Q: Drop>(found: &mut [Q], place: usize, pair: Q)
     ensures { found.new ≡ slice_set found.old place pair }
 {
     if place < found.len() {
@@ -125,16 +125,16 @@ fn is_found<P>(outcome: &Outcome<P>) -> bool
 /// Whether a report is the last one of a call with so many steps left.
 #[inline(always)]
 fn is_last<P>(left: usize, outcome: &Outcome<P>) -> bool
-    ensures stops { result ≡ true → 0 < left → goes_on outcome.now ≡ false }
-    ensures goes { result ≡ false → goes_on outcome.now ≡ true }
+    ensures stops { result ≡ true → 0 < left → goes_unasked outcome.now ≡ false }
+    ensures goes { result ≡ false → goes_unasked outcome.now ≡ true }
     ensures more { result ≡ false → 0 < left }
 {
-    left == 0 || !goes_on(outcome)
+    left == 0 || !goes_unasked(outcome)
 }
 
 /// Whether a call takes its next step with nothing from outside.
-fn goes_on<P>(outcome: &Outcome<P>) -> bool
-    ensures { result ≡ goes_on outcome.now }
+fn goes_unasked<P>(outcome: &Outcome<P>) -> bool
+    ensures { result ≡ goes_unasked outcome.now }
 {
     match outcome {
         Outcome::Running => true,

@@ -9,9 +9,9 @@ ghost use Rattle.congee.specs.Keys.{IsMapOf};
 ghost use Rattle.congee.specs.protocol.Alone.{tree_nodes, tree_pairs};
 ghost use Rattle.congee.specs.protocol.PlainSteps.{Plain};
 ghost use Rattle.joint.specs.declared.limits.Limits.{Limits};
-ghost use Rattle.joint.specs.declared.steps.Op.{Op as Asks};
-ghost use Rattle.joint.specs.declared.steps.Report.{Report as Told};
-ghost use Rattle.joint.specs.declared.steps.Step.{Step as Asked};
+ghost use Rattle.joint.specs.declared.steps.Op.{Op};
+ghost use Rattle.joint.specs.declared.steps.Report.{Report};
+ghost use Rattle.joint.specs.declared.steps.Step.{Step};
 ghost use Rattle.joint.specs.calls.Alone.{AllEndAlone, CallEndsAlone};
 ghost use Rattle.joint.specs.calls.Calling.{IsCalled};
 ghost use Rattle.joint.specs.nodes.Nodes.{nodes};
@@ -44,7 +44,7 @@ pub fn runs_map<P: Payload + Small>()
 
 /// Runs one after another are a run, and in each state of it holds what always does.
 pub fn runs_join<P: Payload + Small>()
-    ensures joins { (s s1 s2 : World P) (a b : List (Asked P)) (q r : List (Told P)) → IsRun P.same_as P.always_copies s a q s1 → IsRun P.same_as P.always_copies s1 b r s2 → IsRun P.same_as P.always_copies s (a ++ b) (q ++ r) s2 }
+    ensures joins { (s s1 s2 : World P) (a b : List (Step P)) (q r : List (Report P)) → IsRun P.same_as P.always_copies s a q s1 → IsRun P.same_as P.always_copies s1 b r s2 → IsRun P.same_as P.always_copies s (a ++ b) (q ++ r) s2 }
     ensures holds { (s : World P) (taken : List (Taken P)) → AreTaken P.same_as P.always_copies s taken → AllHold P.same_as P.always_copies taken }
 {}
 
@@ -58,7 +58,7 @@ pub fn runs_spare<P: Payload + Small, A: Allocator>()
 /// A call whose steps nobody else's come between, while no other call holds a lock, ends within its number of steps.
 pub fn runs_alone<P: Payload + Small, A: Allocator>()
     ensures runs { (s : World P) (taken : List (Taken P)) → Holds P.same_as P.always_copies s → AreTaken P.same_as P.always_copies s taken → AllEndAlone s taken }
-    ensures calls { (s : World P) (who : ℕ) (op : Asks P) (most : ℕ) (places : List (ℕ × P)) (result : Option (Told P)) (places' : List (ℕ × P)) (s' : World P) → Holds P.same_as P.always_copies s → IsCalled P.same_as P.always_copies s who op most places result places' s' → CallEndsAlone s who op most result }
+    ensures calls { (s : World P) (who : ℕ) (op : Op P) (most : ℕ) (places : List (ℕ × P)) (result : Option (Report P)) (places' : List (ℕ × P)) (s' : World P) → Holds P.same_as P.always_copies s → IsCalled P.same_as P.always_copies s who op most places result places' s' → CallEndsAlone s who op most result }
 {
     call_laws::<P>();
     progress::<P>();
@@ -93,8 +93,8 @@ pub fn comes_back<P: Payload + Small>()
 /// leaves both agreeing. So two such runs with equal steps on the tree tell the same. An index as it opens agrees with the
 /// plain run's first state.
 pub fn runs_plain<P: Payload + Small, A: Allocator>()
-    ensures follows { (s s' : World P) (steps : List (Asked P)) (reports : List (Told P)) (order : List ℕ) (p : Plain P) → Holds P.same_as P.always_copies s → IsRun P.same_as P.always_copies s steps reports s' → AreUnrefused reports → Agree s order p → FollowsRun P.same_as s.forest.version_max steps reports s' order p }
-    ensures alike { (most : ℕ) (p : Plain P) (a b : List (Asked P)) (q r : List (Told P)) → AreTold P.same_as most p (projection a q) (answers a q) → AreTold P.same_as most p (projection b r) (answers b r) → AreUnrefused q → AreUnrefused r → projection a q ≡ projection b r → AreSame (answers a q) (answers b r) }
+    ensures follows { (s s' : World P) (steps : List (Step P)) (reports : List (Report P)) (order : List ℕ) (p : Plain P) → Holds P.same_as P.always_copies s → IsRun P.same_as P.always_copies s steps reports s' → AreUnrefused reports → Agree s order p → FollowsRun P.same_as s.forest.version_max steps reports s' order p }
+    ensures alike { (most : ℕ) (p : Plain P) (a b : List (Step P)) (q r : List (Report P)) → AreTold P.same_as most p (projection a q) (answers a q) → AreTold P.same_as most p (projection b r) (answers b r) → AreUnrefused q → AreUnrefused r → projection a q ≡ projection b r → AreSame (answers a q) (answers b r) }
     ensures opens { (limits : Limits) (charge limit : ℕ) (s : World P) → IsOpened limits charge limit s.forest → IsFresh s → Agree s (0 ∷ []) opened_plain }
 {
     Machine::<Id, P>::numbered::<Nodes<P, A>>();

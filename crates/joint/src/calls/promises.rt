@@ -2,8 +2,8 @@
 
 ghost use Rattle.std.specs.Prelude.{◌≡◌, ℕ, List};
 ghost use Rattle.joint.specs.declared.limits.Limits.{Limits};
-ghost use Rattle.joint.specs.declared.steps.Report.{Report as Told};
-ghost use Rattle.joint.specs.declared.steps.Step.{Step as Asked};
+ghost use Rattle.joint.specs.declared.steps.Report.{Report};
+ghost use Rattle.joint.specs.declared.steps.Step.{Step};
 ghost use Rattle.joint.specs.calls.Plain.{AreSame, AreUnrefused, answers, projection};
 ghost use Rattle.joint.specs.calls.Promises.{KeepsPromises};
 ghost use Rattle.joint.specs.world.World.{IsNew, Holds};
@@ -23,8 +23,8 @@ use congee::{Allocator, Payload, Small};
 /// Two such runs of indexes with one greatest version, neither of which refuses anything, tell the same where their steps on
 /// the tree are the same, whatever their collectors did.
 pub fn keeps_promises<P: Payload + Small, A: Allocator>()
-    ensures keeps { (limits : Limits) (s s' : World P) (steps : List (Asked P)) (reports : List (Told P)) → IsNew limits s → Holds P.same_as P.always_copies s → IsRun P.same_as P.always_copies s steps reports s' → KeepsPromises P.same_as P.always_copies limits steps reports s' }
-    ensures alike { (limits others : Limits) (s q : World P) (a b : List (Asked P)) (told again : List (Told P)) → limits.version_max ≡ others.version_max → KeepsPromises P.same_as P.always_copies limits a told s → KeepsPromises P.same_as P.always_copies others b again q → AreUnrefused told → AreUnrefused again → projection a told ≡ projection b again → AreSame (answers a told) (answers b again) }
+    ensures keeps { (limits : Limits) (s s' : World P) (steps : List (Step P)) (reports : List (Report P)) → IsNew limits s → Holds P.same_as P.always_copies s → IsRun P.same_as P.always_copies s steps reports s' → KeepsPromises P.same_as P.always_copies limits steps reports s' }
+    ensures alike { (limits others : Limits) (s q : World P) (a b : List (Step P)) (told again : List (Report P)) → limits.version_max ≡ others.version_max → KeepsPromises P.same_as P.always_copies limits a told s → KeepsPromises P.same_as P.always_copies others b again q → AreUnrefused told → AreUnrefused again → projection a told ≡ projection b again → AreSame (answers a told) (answers b again) }
 {
     runs_spare::<P, A>();
     comes_back::<P>();

@@ -7,8 +7,8 @@ ghost use Rattle.judge.specs.Journal.{Legal};
 ghost use Rattle.congee.specs.Keys.{IsMapOf};
 ghost use Rattle.congee.specs.protocol.Filled.{AllFilled};
 ghost use Rattle.joint.specs.declared.limits.Limits.{Limits};
-ghost use Rattle.joint.specs.declared.steps.Report.{Report as Told};
-ghost use Rattle.joint.specs.declared.steps.Step.{Step as Asked};
+ghost use Rattle.joint.specs.declared.steps.Report.{Report};
+ghost use Rattle.joint.specs.declared.steps.Step.{Step};
 ghost use Rattle.joint.specs.calls.Alone.{OthersUnlocked};
 ghost use Rattle.joint.specs.calls.Answering.{AllDecide};
 ghost use Rattle.joint.specs.calls.Ends.{AllEndWell, IdleUnasked, IsBetween, ReadersRefused};
@@ -33,7 +33,7 @@ use congee::{Allocator, Machine, Payload, Small};
 
 /// A call's next step takes its closure's answer exactly where the newest of its further steps has asked.
 pub fn answers_wanted<P: Payload + Small>()
-    ensures step { (s : World P) (step : Asked P) (r : Told P) (s' : World P) (who : ℕ) → Holds P.same_as P.always_copies s → IsStep P.same_as P.always_copies s step r s' → asks_at (slice_get s'.machines who) ≡ wants_if (asks_at (slice_get s.machines who)) (step.worker == who) step.event r.outcome }
+    ensures step { (s : World P) (step : Step P) (r : Report P) (s' : World P) (who : ℕ) → Holds P.same_as P.always_copies s → IsStep P.same_as P.always_copies s step r s' → asks_at (slice_get s'.machines who) ≡ wants_if (asks_at (slice_get s.machines who)) (step.worker == who) step.event r.outcome }
     ensures run { (s : World P) (taken : List (Taken P)) (who : ℕ) → Holds P.same_as P.always_copies s → AreTaken P.same_as P.always_copies s taken → asks_at (slice_get (after_all s taken).machines who) ≡ wants_after who (asks_at (slice_get s.machines who)) taken }
     ensures fresh { (s : World P) (taken : List (Taken P)) (who : ℕ) → IsFresh s → Holds P.same_as P.always_copies s → AreTaken P.same_as P.always_copies s taken → asks_at (slice_get (after_all s taken).machines who) ≡ wants_after who false taken }
 {}
@@ -42,8 +42,8 @@ pub fn answers_wanted<P: Payload + Small>()
 /// the look-ups that were kept, in deciding order. In each state it is legal and replays to the pairs that stand; where none
 /// is kept it is empty.
 pub fn runs_journal<P: Payload + Small>()
-    ensures goes_on { (s : World P) (steps : List (Asked P)) (reports : List (Told P)) (s' : World P) (fs : Flights P) (m : Pairs P) → Holds P.same_as P.always_copies s → IsRun P.same_as P.always_copies s steps reports s' → IsMapOf (nodes s.forest) m → AreInFlight s fs → RunsJournal P.same_as fs m s steps reports s' }
-    ensures fresh { (s : World P) (steps : List (Asked P)) (reports : List (Told P)) (s' : World P) → IsFresh s → Holds P.same_as P.always_copies s → IsRun P.same_as P.always_copies s steps reports s' → RunsJournal P.same_as no_flights empty s steps reports s' }
+    ensures goes_on { (s : World P) (steps : List (Step P)) (reports : List (Report P)) (s' : World P) (fs : Flights P) (m : Pairs P) → Holds P.same_as P.always_copies s → IsRun P.same_as P.always_copies s steps reports s' → IsMapOf (nodes s.forest) m → AreInFlight s fs → RunsJournal P.same_as fs m s steps reports s' }
+    ensures fresh { (s : World P) (steps : List (Step P)) (reports : List (Report P)) (s' : World P) → IsFresh s → Holds P.same_as P.always_copies s → IsRun P.same_as P.always_copies s steps reports s' → RunsJournal P.same_as no_flights empty s steps reports s' }
     ensures replays { (s : World P) (m : Pairs P) → Holds P.same_as P.always_copies s → 0 < s.log.places → IsMapOf (nodes s.forest) m → Legal P.same_as empty s.log.entries m }
     ensures none { (s : World P) → Holds P.same_as P.always_copies s → s.log.places ≡ 0 → s.log.entries ≡ [] }
 {}

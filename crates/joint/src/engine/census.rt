@@ -50,11 +50,7 @@ impl Census {
     pub(crate) fn capped(&self) -> u64
         ensures { result ≡ capped self.now.pairs }
     {
-        if self.pairs > u64::MAX as u128 {
-            u64::MAX
-        } else {
-            self.pairs as u64
-        }
+        self.pairs.min(u64::MAX as u128) as u64
     }
 
     /// A call had the first taken out before its step, and has the second taken out after it; the step made this of the

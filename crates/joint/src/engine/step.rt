@@ -1,4 +1,4 @@
-//! One step of the machine, by its event.
+//! One step of the machine: `step_in` for a registration, `step_begin` for a begin, `step_on` for a further step of a call.
 
 ghost use Rattle.std.specs.Prelude.{◌≡◌, ◌<◌, Some, length, slice_get, true, false};
 ghost use Rattle.judge.specs.Answer.{Pairs};
@@ -121,8 +121,11 @@ impl<P: Payload + Small, A: Allocator> Engine<P, A> {
         ensures charged { IsCharged self.new.nodes }
     {
         progress::<P>();
-        let turn = self.begin_collecting(who, op);
-        collection(turn, Outcome::of_collector(turn.outcome))
+        let collector_report = self.begin_collecting(who, op);
+        collection(
+            collector_report,
+            Outcome::of_collector(collector_report.outcome),
+        )
     }
 
     /// Begins a call on the tree, of a worker without a call in flight.
@@ -232,17 +235,20 @@ impl<P: Payload + Small, A: Allocator> Engine<P, A> {
             InFlight::Idle => refused(Kind::Collection, Refusal::Idle),
             InFlight::Collecting(op) => {
                 let op = *op;
-                let turn = self.go_collecting(who, op);
-                collection(turn, Outcome::of_collector(turn.outcome))
+                let collector_report = self.go_collecting(who, op);
+                collection(
+                    collector_report,
+                    Outcome::of_collector(collector_report.outcome),
+                )
             }
             InFlight::Reserving(_) => {
                 self.begin_securing(who);
-                let turn = self.go_securing(who);
-                collection(turn, reserving(turn.outcome))
+                let collector_report = self.go_securing(who);
+                collection(collector_report, reserving(collector_report.outcome))
             }
             InFlight::Securing(_) => {
-                let turn = self.go_securing(who);
-                collection(turn, reserving(turn.outcome))
+                let collector_report = self.go_securing(who);
+                collection(collector_report, reserving(collector_report.outcome))
             }
             InFlight::Walking => unreachable!(),
         }
@@ -332,10 +338,10 @@ pub(crate) fn refused<P>(kind: Kind, refusal: Refusal) -> Report<P>
 }
 
 /// The report of a step of the collector, with the nodes that it destroyed.
-fn collection<P>(turn: crossbeam_epoch::Report, outcome: Outcome<P>) -> Report<P>
-    ensures { result ≡ collection turn outcome }
+fn collection<P>(collector_report: crossbeam_epoch::Report, outcome: Outcome<P>) -> Report<P>
+    ensures { result ≡ collection collector_report outcome }
 {
-    match turn.called {
+    match collector_report.called {
         None => report(Kind::Collection, outcome),
         Some((_, None)) => report(Kind::Collection, outcome),
         Some((_, Some(_))) => Report {

@@ -16,7 +16,6 @@ use crate::nodes::Nodes;
 use crate::nodes::survey::first_under;
 use congee::protocol::Region;
 use congee::{Allocator, Child, Drainer, Payload, Small};
-use crossbeam_epoch::Name;
 
 impl<P: Payload + Small, A: Allocator> Nodes<P, A> {
     /// Takes the pairs at and below a node out, in ascending order of the keys, and hands them to the drainer.
@@ -52,11 +51,8 @@ impl<P: Payload + Small, A: Allocator> Nodes<P, A> {
         ensures drained { (m : Pairs P) → IsMapOf (nodes self.old) m → Drained D.drains drainer (entries m) result }
         ensures frame { frame self.new ≡ frame self.old }
     {
-        let root = Id {
-            name: Name { cell: 0, turn: 0 },
-        };
         let mut drainer = drainer;
-        self.drain_below(root, &mut drainer);
+        self.drain_below(Id::root(), &mut drainer);
         drainer
     }
 

@@ -1,6 +1,6 @@
 //! The collector's calls on the nodes.
 
-ghost use Rattle.std.specs.Prelude.{◌≡◌, ◌<◌, ℕ, List, ◌∷◌, [], Some, None, IfOk, OnOk, OnErr, MatchResult, MatchOption, length, unwrap_or, not, true, false, ◌==◌, ◌&&◌};
+ghost use Rattle.std.specs.Prelude.{◌≡◌, ◌<◌, ℕ, List, ◌∷◌, [], Some, None, IfOk, OnOk, OnErr, MatchResult, MatchOption, length, unwrap_or, true, false};
 ghost use Rattle.std.specs.Result.{result_ok};
 ghost use Rattle.crossbeam_epoch.specs.Limits.{bag_places};
 ghost use Rattle.crossbeam_epoch.specs.declared.bag.Work.{Work};
@@ -28,13 +28,6 @@ impl<P: Payload + Small, A: Allocator> Nodes<P, A> {
     {
         World::<Slot<P>, ()>::order();
         self.collector.register()
-    }
-
-    /// Whether a worker has a free place in its bag.
-    pub fn has_place(&self, who: usize) -> bool
-        ensures { result ≡ ((place self.now.collector who).registered && not (length (place self.now.collector who).bag == bag_places)) }
-    {
-        self.collector.has_place(who)
     }
 
     /// One step of the collector. What it destroys is taken off the charge, and off what waits.

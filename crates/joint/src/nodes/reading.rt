@@ -6,7 +6,7 @@ ghost use Rattle.congee.specs.protocol.Events.{ReadGives};
 ghost use Rattle.congee.specs.forms.Forms.{children_of, prefix_of};
 ghost use Rattle.congee.specs.Heap.{is_taken};
 ghost use Rattle.congee.specs.protocol.Seeing.{IsSeen, ReadSees, LeastSees};
-ghost use Rattle.congee.specs.protocol.SweepEvents.{LeastGives, LeastTruly, IsAny};
+ghost use Rattle.congee.specs.protocol.ScanEvents.{LeastGives, LeastTruly, IsAny};
 ghost use Rattle.joint.specs.declared.nodes.slot.LockWord.{LockWord};
 ghost use Rattle.joint.specs.nodes.Solid.{IsSolid, IsLook, IsUncopied};
 ghost use Rattle.joint.specs.nodes.View.{id_number, shape, child_at};

@@ -11,7 +11,7 @@ ghost use Rattle.congee.specs.Heap.{Below, Holds, Nothing};
 ghost use Rattle.std.specs.FinMap as map;
 ghost use Rattle.joint.specs.declared.nodes.slot.LockWord.{LockWord};
 ghost use Rattle.joint.specs.nodes.Altering.{Hangs, MovesTo, IsNewSlot, Pulls};
-ghost use Rattle.joint.specs.nodes.Solid.{AreAlike, IsLeft, IsSolid, IsWhole, hang};
+ghost use Rattle.joint.specs.nodes.Solid.{AreAlike, IsPoured, IsSolid, IsWhole, hang};
 ghost use Rattle.joint.specs.nodes.View.{id_number, child_at, node_of, shape, is_word};
 
 use crate::id::Id;
@@ -141,35 +141,35 @@ impl<P: Payload + Small> Slot<P> {
     }
 
     /// Gives its children to an empty slot: values are moved, and the names of nodes stay here too.
-    pub(crate) fn move_to(&mut self, greater: &mut Slot<P>)
+    pub(crate) fn move_to(&mut self, other: &mut Slot<P>)
         requires whole { IsWhole self.old.node }
-        requires whole_greater { IsWhole greater.old.node }
-        requires room { TakesOver (node_of self.old) (node_of greater.old) }
-        ensures { MovesTo self.old greater.old self.new greater.new }
+        requires whole_other { IsWhole other.old.node }
+        requires room { TakesOver (node_of self.old) (node_of other.old) }
+        ensures { MovesTo self.old other.old self.new other.new }
     {
         let Some(node) = &mut self.node else {
             unreachable!();
         };
-        match &mut greater.node {
-            Some(greater) => move_to(node, greater),
+        match &mut other.node {
+            Some(other) => move_to(node, other),
             None => unreachable!(),
         }
     }
 }
 
 /// Gives a node's children to an empty one: values are moved, and the names of nodes stay in the first too.
-fn move_to<P: Payload + Small>(node: &mut Node<Id, P>, greater: &mut Node<Id, P>)
-    requires empty { children_of greater.old ≡ map.empty }
-    requires room { map.len (children_of node.old) ≤ capacity_of (form_of greater.old) }
+fn move_to<P: Payload + Small>(node: &mut Node<Id, P>, other: &mut Node<Id, P>)
+    requires empty { children_of other.old ≡ map.empty }
+    requires room { map.len (children_of node.old) ≤ capacity_of (form_of other.old) }
     requires alike { AreAlike node.old }
     requires solid { IsSolid (children_of node.old) }
-    ensures moved { Becomes greater.old greater.new (children_of node.old) }
-    ensures left { IsLeft node.old node.new }
+    ensures moved { Becomes other.old other.new (children_of node.old) }
+    ensures left { IsPoured node.old node.new }
 {
     if holds_names(node) {
-        copy_names(node, greater);
+        copy_names(node, other);
     } else {
-        node.move_to(greater);
+        node.move_to(other);
     }
 }
 
@@ -189,17 +189,17 @@ fn holds_names<P: Payload + Small>(node: &Node<Id, P>) -> bool
 }
 
 /// Copies the children of a node that holds nodes alone into an empty one.
-fn copy_names<P: Payload + Small>(node: &Node<Id, P>, greater: &mut Node<Id, P>)
-    requires empty { children_of greater.old ≡ map.empty }
-    requires room { map.len (children_of node.now) ≤ capacity_of (form_of greater.old) }
+fn copy_names<P: Payload + Small>(node: &Node<Id, P>, other: &mut Node<Id, P>)
+    requires empty { children_of other.old ≡ map.empty }
+    requires room { map.len (children_of node.now) ≤ capacity_of (form_of other.old) }
     requires names { (k : ℕ) (v : P) → child_at node.now k ≡ Holds v → ⊥ }
     requires solid { IsSolid (children_of node.now) }
-    ensures { Becomes greater.old greater.new (children_of node.now) }
+    ensures { Becomes other.old other.new (children_of node.now) }
 {
     let mut from = 0;
     while let Some((byte, child)) = node.first_from(from) {
         match child {
-            Child::Node(id) => greater.insert(byte, Child::Node(*id)),
+            Child::Node(id) => other.insert(byte, Child::Node(*id)),
             Child::Value(_) => unreachable!(),
             Child::Blank => unreachable!(),
         }

@@ -13,7 +13,6 @@ ghost use Rattle.joint.specs.nodes.View.{id_number};
 use crate::id::Id;
 use crate::nodes::Nodes;
 use congee::{Allocator, Child, KEY_BYTES, NodeStats, Payload, Small};
-use crossbeam_epoch::Name;
 use std::alloc::AllocError;
 
 impl<P: Payload + Small, A: Allocator> Nodes<P, A> {
@@ -45,11 +44,8 @@ impl<P: Payload + Small, A: Allocator> Nodes<P, A> {
         requires counted { (m : Pairs P) → IsMapOf (nodes self.now) m → pairs ≡ capped (map.len m) }
         ensures { IfOk result (λ s. (m : Pairs P) → IsMapOf (nodes self.now) m → IsTally s (nodes_of (nodes self.now)) (map.len m)) }
     {
-        let root = Id {
-            name: Name { cell: 0, turn: 0 },
-        };
         let mut stats = NodeStats::new(self.alloc);
-        self.count_from(root, 0, &mut stats)?;
+        self.count_from(Id::root(), 0, &mut stats)?;
         stats.kv_pairs = pairs;
         Ok(stats)
     }

@@ -4,7 +4,7 @@ ghost use Rattle.std.specs.Prelude.{◌≡◌, true};
 ghost use Rattle.congee.specs.Heap.{Stands, is_taken};
 ghost use Rattle.congee.specs.protocol.Events.{hung, ReadGives, UpgradeGives, MayChange, ChangeGives};
 ghost use Rattle.congee.specs.protocol.Seeing.{ReadSees, LeastSees};
-ghost use Rattle.congee.specs.protocol.SweepEvents.{LeastGives};
+ghost use Rattle.congee.specs.protocol.ScanEvents.{LeastGives};
 ghost use Rattle.joint.specs.nodes.Nodes.{nodes, frame};
 ghost use Rattle.joint.specs.nodes.View.{id_number};
 

@@ -4,7 +4,7 @@ ghost use Rattle.std.specs.Prelude.{◌≡◌, ◌≤◌, IfOk, OnOk};
 ghost use Rattle.congee.specs.declared.forms.prefix.TheConstants.{MAX_PREFIX_LEN};
 ghost use Rattle.congee.specs.Keys.{IsMapOf};
 ghost use Rattle.congee.specs.protocol.Regions.{start_at};
-ghost use Rattle.congee.specs.protocol.SweepSteps.{width};
+ghost use Rattle.congee.specs.protocol.ScanSteps.{width};
 ghost use Rattle.judge.specs.Answer.{Pairs};
 ghost use Rattle.joint.specs.nodes.Nodes.{nodes};
 ghost use Rattle.joint.specs.nodes.Levels.{IsNodeIn};
@@ -15,7 +15,6 @@ use crate::id::Id;
 use crate::nodes::Nodes;
 use congee::protocol::Region;
 use congee::{Allocator, Child, Payload, Small};
-use crossbeam_epoch::Name;
 use std::alloc::AllocError;
 use std::vec::Vec;
 
@@ -70,11 +69,8 @@ impl<P: Payload + Small, A: Allocator> Nodes<P, A> {
         requires { IsTree (nodes self.now) }
         ensures { IfOk result (λ v. (m : Pairs P) → IsMapOf (nodes self.now) m → v.items ≡ keys_of m) }
     {
-        let root = Id {
-            name: Name { cell: 0, turn: 0 },
-        };
         let mut keys = Vec::with_capacity(self.alloc, room)?;
-        self.keys_below(root, &mut keys)?;
+        self.keys_below(Id::root(), &mut keys)?;
         Ok(keys)
     }
 }

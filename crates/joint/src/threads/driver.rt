@@ -1,6 +1,6 @@
 //! A whole call, whoever gives its turns.
 
-ghost use Rattle.std.specs.Prelude.{◌≡◌, ◌≢◌, ℕ, Option, None, Some, IfErr, slice_set};
+ghost use Rattle.std.specs.Prelude.{◌≡◌, ◌≢◌, ℕ, Option, None, Some, IfErr};
 ghost use Rattle.std.specs.Option.{option_map};
 ghost use Rattle.joint.specs.declared.refusal.Refusal.TheVariants as cause;
 ghost use Rattle.joint.specs.declared.steps.Op.{Op};
@@ -11,6 +11,7 @@ ghost use Rattle.joint.specs.threads.Driving.{IsDriven, IsToldInCall, IsTurn, be
 ghost use Rattle.joint.specs.world.World.{IsStep};
 ghost use Rattle.joint.specs.engine.Engine.{World};
 
+use crate::calls::call::put_at;
 use crate::refusal::Refusal;
 use crate::steps::{Done, Event, Op, Outcome, Report, Step};
 use crate::threads::answers::{Answer, Closure};
@@ -156,14 +157,5 @@ pub(crate) fn go_step<P>(worker: u32, answer: Option<Option<P>>) -> Step<P>
             seen: None,
             answer,
         }),
-    }
-}
-
-/// Writes a pair to its place, if there is that place.
-fn put_at<Q: Drop>(found: &mut [Q], place: usize, pair: Q)
-    ensures { found.new ≡ slice_set found.old place pair }
-{
-    if place < found.len() {
-        found[place] = pair;
     }
 }

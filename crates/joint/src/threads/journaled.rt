@@ -21,10 +21,10 @@ use crate::threads::share::Share;
 use crate::threads::tokens::{Guard, Worker};
 use crate::threads::tree::Tree;
 use crate::threads::watch::Watch;
-use crate::threads::word_congee::{OfWords, are_keys, either_words, to_word, words};
+use crate::threads::word_congee::{OfWords, are_keys, either_words, words};
 use crate::world::World;
 use congee::{Allocator, DefaultAllocator, Drainer, NoDrain, NodeStats, Word64};
-use judge::Entry;
+use judge::{Entry, number_of};
 use std::alloc::Global;
 use std::marker::PhantomData;
 use std::sync::Wait;
@@ -293,7 +293,7 @@ impl<L: Ledger, W: Watch, K: Word64, V: Word64, A: Allocator, D: Drop> Journaled
         if !self.tree.serves(worker, guard) {
             return Err(Refusal::Foreign);
         }
-        let op = Op::Exchange(key.to_word(), old.to_word(), to_word(&new));
+        let op = Op::Exchange(key.to_word(), old.to_word(), number_of(&new));
         either_words(exchanged(self.tree.write_silently(rt, worker, op, share)))
     }
 

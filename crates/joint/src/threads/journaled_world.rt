@@ -9,7 +9,7 @@ ghost use Rattle.joint.specs.nodes.Opening.{HasPlaces};
 ghost use Rattle.joint.specs.threads.Threads.{register_step};
 ghost use Rattle.joint.specs.world.World.{IsStep};
 ghost use Rattle.joint.specs.engine.Engine.{IsOfCall};
-ghost use Rattle.joint.specs.Asked.{changes};
+ghost use Rattle.joint.specs.Changes.{changes};
 ghost use Rattle.joint.specs.threads.Writing.{Appended, Gathers, GathersOf, IsInFlight, MayStep, ReadingTurn, Reads, WontRepeat, WritingTurn};
 ghost use Rattle.joint.specs.declared.refusal.Refusal.TheVariants as cause;
 
@@ -165,7 +165,7 @@ impl<L: Ledger, W: Watch, A: Allocator> JournaledWorld<L, W, A> {
 }
 
 impl<L: Ledger, W: Watch, A: Allocator> Locked<u64> for JournaledWorld<L, W, A> {
-    type Nodes = A;
+    type Account = A;
 
     type Memo = Op<u64>;
 

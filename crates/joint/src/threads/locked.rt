@@ -19,7 +19,7 @@ use std::snapshot::Snapshot;
 /// What an index keeps under its lock; each turn of a call is one hold of it.
 pub(crate) trait Locked<P: Payload + Small>: Drop {
     /// Allocates the nodes.
-    type Nodes: Allocator;
+    type Account: Allocator;
     /// What is known of a call between its turns.
     type Memo: Drop;
 
@@ -51,13 +51,13 @@ pub(crate) trait Locked<P: Payload + Small>: Drop {
         ensures { IsStep P.same_as P.always_copies (machine self.old) register_step result (machine self.new) };
 
     /// The machine.
-    fn world(&self) -> &World<P, Self::Nodes>
+    fn world(&self) -> &World<P, Self::Account>
         ensures { result.now ≡ machine self.now };
 
     /// Ends it, where no worker is registered.
-    fn close<D: Drainer<u64, P>>(self, drainer: D) -> Result<(Self::Nodes, D), (Refusal, Self, D)>
+    fn close<D: Drainer<u64, P>>(self, drainer: D) -> Result<(Self::Account, D), (Refusal, Self, D)>
         requires { D.can_drain drainer }
-        ensures { MatchResult result (λ r. IsClosed D.drains (machine self) drainer (Self.Nodes.charged_of r.0) (Self.Nodes.limit_of r.0) r.1) (λ e. IsNotClosed (machine self) drainer e.0 (machine e.1) e.2) };
+        ensures { MatchResult result (λ r. IsClosed D.drains (machine self) drainer (Self.Account.charged_of r.0) (Self.Account.limit_of r.0) r.1) (λ e. IsNotClosed (machine self) drainer e.0 (machine e.1) e.2) };
 }
 
 /// The machine alone.
@@ -78,7 +78,7 @@ impl<P: Payload + Small, A: Allocator> Plain<P, A> {
 }
 
 impl<P: Payload + Small, A: Allocator> Locked<P> for Plain<P, A> {
-    type Nodes = A;
+    type Account = A;
 
     type Memo = Snapshot<Op<P>>;
 

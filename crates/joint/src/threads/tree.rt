@@ -4,7 +4,7 @@ ghost use Rattle.std.specs.Prelude.{◌≡◌, ℕ, [], false, length, IfOk, IfE
 ghost use Rattle.joint.specs.threads.Driving.{IsToldInCall, ended};
 ghost use Rattle.joint.specs.nodes.Opening.{IsUnopened};
 ghost use Rattle.joint.specs.threads.Pinned.{CallsPinned, KeepsWorker};
-ghost use Rattle.joint.specs.threads.Threads.{Answers, ByHold, Closes, Computes, Hands, IsAccount, IsHeld, IsHold, IsRound, IsTold, IsUnclosed, Pins, Scans, Serves, is_held_by, is_of, register_step, registered, charge_of, waiting_bytes_of, waiting_of, computed, counted, emptied, exchanged, got, inserted, listed, removed, replaced, scanned, told};
+ghost use Rattle.joint.specs.threads.Threads.{Answers, ByHold, Closes, Computes, Hands, IsAccount, IsByHolds, IsHold, IsRound, IsTold, IsUnclosed, Pins, Scans, Serves, is_held_by, is_of, register_step, registered, charge_of, waiting_bytes_of, waiting_of, computed, counted, emptied, exchanged, got, inserted, listed, removed, replaced, scanned, told};
 ghost use Rattle.joint.specs.engine.Engine.{IsOfCall};
 ghost use Rattle.joint.specs.declared.steps.Op.TheVariants as op;
 
@@ -120,7 +120,7 @@ impl<P: Payload + Small, T: Locked<P>> Tree<P, T> {
         found: &mut [Q],
     ) -> End<P>
         requires { C.can_answer answers.old }
-        ensures { IsHeld T.holds C.answers Q.pair worker.now.number op answers.old found.old found.new (ended result) }
+        ensures { IsByHolds T.holds C.answers Q.pair worker.now.number op answers.old found.old found.new (ended result) }
     {
         let mut turns = Holds::new(rt, self, worker.number, &op);
         drive_to(rt, &mut turns, worker.number, op, answers, found)
@@ -410,10 +410,10 @@ impl<P: Payload + Small, T: Locked<P>> Tree<P, T> {
     pub(crate) fn close<D: Drainer<u64, P>>(
         self,
         drainer: D,
-    ) -> Result<(T::Nodes, D), (Refusal, Self, D)>
+    ) -> Result<(T::Account, D), (Refusal, Self, D)>
         requires { D.can_drain drainer }
-        ensures closed { IfOk result (λ r. Closes P.same_as P.always_copies D.drains drainer (T.Nodes.charged_of r.0) (T.Nodes.limit_of r.0) r.1) }
-        ensures given_back { IfOk result (λ r. IsAccount self.account (T.Nodes.charged_of r.0) (T.Nodes.limit_of r.0)) }
+        ensures closed { IfOk result (λ r. Closes P.same_as P.always_copies D.drains drainer (T.Account.charged_of r.0) (T.Account.limit_of r.0) r.1) }
+        ensures given_back { IfOk result (λ r. IsAccount self.account (T.Account.charged_of r.0) (T.Account.limit_of r.0)) }
         ensures cause { IfErr result (λ e. IsUnclosed P.same_as P.always_copies self.account e.0) }
         ensures back { IfErr result (λ e. (e.1.id ≡ self.id) × (e.1.account ≡ self.account) × (e.2 ≡ drainer)) }
     {
@@ -457,7 +457,7 @@ impl<P: Payload + Small, A: Allocator> Tree<P, Plain<P, A>> {
         answers: &mut C,
     ) -> End<P>
         requires { C.can_answer answers.old }
-        ensures { IsHeld {Q = ℕ × P} (ByHold P.same_as P.always_copies) C.answers (λ k v. (k, v)) worker.now.number op answers.old [] [] (ended result) }
+        ensures { IsByHolds {Q = ℕ × P} (ByHold P.same_as P.always_copies) C.answers (λ k v. (k, v)) worker.now.number op answers.old [] [] (ended result) }
     {
         let mut nothing: [(u64, P); 0] = [];
         self.drive(rt, worker, op, answers, &mut nothing)

@@ -16,6 +16,7 @@ use crate::threads::locked::Plain;
 use crate::threads::tokens::{Guard, Worker};
 use crate::threads::tree::Tree;
 use congee::{Allocator, DefaultAllocator, Drainer, NoDrain, NodeStats, Word64};
+use judge::{number_of, word_of};
 use std::alloc::{AllocError, Global};
 use std::marker::{Model, PhantomData};
 use std::sync::Wait;
@@ -31,26 +32,6 @@ pub struct Congee<K, V, A: Allocator = DefaultAllocator, D = NoDrain> {
     drainer: D,
     alloc: Global,
     words: PhantomData<(K, V)>,
-}
-
-/// The value of a word, if there is one.
-fn word_of<V: Word64>(word: Option<u64>) -> Option<V>
-    ensures { result ≡ option_map V.of_word word }
-{
-    match word {
-        Some(word) => Some(V::from_word(word)),
-        None => None,
-    }
-}
-
-/// The word of a value, if there is one.
-pub(crate) fn to_word<V: Word64>(value: &Option<V>) -> Option<u64>
-    ensures { result ≡ option_map V.word value.now }
-{
-    match value {
-        Some(value) => Some(value.to_word()),
-        None => None,
-    }
 }
 
 /// The value of an answer.
@@ -311,7 +292,7 @@ impl<K: Word64, V: Word64, A: Allocator, D: Drop> Congee<K, V, A, D> {
         ensures answers { As (Serves (is_held_by self.now.tree.id worker.old guard.now)
             (Answers (ByHold nat_eq true) worker.old.number (op.Exchange (K.word key.now) (V.word old.now) (option_map V.word new)) exchanged)) (either_words V.of_word) result }
     {
-        let (key, old, new) = (key.to_word(), old.to_word(), to_word(&new));
+        let (key, old, new) = (key.to_word(), old.to_word(), number_of(&new));
         either_words(self.tree.compare_exchange(rt, key, old, new, worker, guard))
     }
 

@@ -2,7 +2,7 @@
 
 ghost use Rattle.std.specs.Prelude.{◌≡◌, ℕ, [], None, Some, true};
 ghost use Rattle.std.specs.Option.{option_map};
-ghost use Rattle.joint.specs.Asked.{changes};
+ghost use Rattle.joint.specs.Changes.{changes};
 ghost use Rattle.joint.specs.threads.Driving.{IsToldInCall, IsTurn};
 ghost use Rattle.joint.specs.threads.Writing.{IsWritingTurn, Writes, WritesMute, unwritten};
 

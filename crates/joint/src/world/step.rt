@@ -7,7 +7,6 @@ ghost use Rattle.joint.specs.declared.engine.request.Request.{Request};
 ghost use Rattle.joint.specs.engine.Journaling.{asks_at, entry_of, in_list, kept_if, reply_by};
 ghost use Rattle.joint.specs.engine.Log.{has_room, answered_if, is_full, request_at};
 ghost use Rattle.joint.specs.world.World.{IsStep};
-ghost use Rattle.joint.specs.engine.Engine.{is_in_flight};
 
 use crate::engine::Engine;
 use crate::engine::request::Request;
@@ -46,7 +45,7 @@ impl<P: Payload + Small, A: Allocator> World<P, A> {
     {
         let request = Request::of(&op);
         let report = self.engine.step_begin(worker, op);
-        let on = is_in_flight(&report.outcome);
+        let on = report.outcome.is_in_flight();
         self.log.put_request_if(worker as usize, on, request);
         report
     }
@@ -63,7 +62,7 @@ impl<P: Payload + Small, A: Allocator> World<P, A> {
         take_answer(&self.engine, &mut self.log, who, &noise.answer);
         let told = self.engine.step_on(worker, noise);
         self.log
-            .put_request_if(who, !is_in_flight(&told.outcome), None);
+            .put_request_if(who, !told.outcome.is_in_flight(), None);
         told
     }
 
@@ -109,7 +108,7 @@ impl<P: Payload + Small, A: Allocator> World<P, A> {
         self.log.recount(before, after);
         told.kept = keep(&self.engine, &mut self.log, worker, &told);
         self.log
-            .put_request_if(who, !is_in_flight(&told.outcome), None);
+            .put_request_if(who, !told.outcome.is_in_flight(), None);
         told
     }
 }
@@ -123,7 +122,7 @@ fn take_answer<P: Payload + Small, A: Allocator>(
     who: usize,
     answer: &Option<Option<P>>,
 )
-    ensures heard { P.always_copies ≡ true → request_at log.new.requests who ≡ answered_if (asks_at (slice_get engine.now.machines.items who)) answer.now (request_at log.old.requests who) }
+    ensures answered { P.always_copies ≡ true → request_at log.new.requests who ≡ answered_if (asks_at (slice_get engine.now.machines.items who)) answer.now (request_at log.old.requests who) }
     ensures left { log.new ≡ record log.old { requests = slice_set log.old.requests who (request_at log.new.requests who) } }
 {
     if answer.is_none() {
@@ -200,18 +199,4 @@ fn entry<P: Payload + Small, A: Allocator>(
         call,
         reply,
     })
-}
-
-/// Whether a call that stands so is in flight.
-fn is_in_flight<P>(outcome: &Outcome<P>) -> bool
-    ensures { result ≡ is_in_flight outcome.now }
-{
-    match outcome {
-        Outcome::Running => true,
-        Outcome::Asks(_) => true,
-        Outcome::Found { .. } => true,
-        Outcome::Registered(_) => false,
-        Outcome::Done(_) => false,
-        Outcome::Refused(_) => false,
-    }
 }

@@ -16,7 +16,7 @@ pub fn put_off<R: Wait, T: Drop, J: Task>(
     handle.pinned(
         |handle, guard|
             ensures guards { handle.new.guards ≡ handle.old.guards }
-            ensures seat { handle.new.seat ≡ handle.old.seat }
+            ensures row { handle.new.row ≡ handle.old.row }
         {
             match handle.defer(rt, guard, job) {
                 Ok(()) => {}

@@ -16,7 +16,7 @@ pub fn calls_what_is_older<'c, R: Wait, T: Drop, J: Task>(
     requires one { caller.old.collector.now ≡ pinned.old.collector.now }
     requires out { (0 < pinned.old.guards) × (guard.now.epoch ≡ pinned.old.epoch) }
     ensures older { IfSome result (λ seal. seal < guard.now.epoch) }
-    ensures same { (pinned.new.guards ≡ pinned.old.guards) × (pinned.new.seat ≡ pinned.old.seat) }
+    ensures same { (pinned.new.guards ≡ pinned.old.guards) × (pinned.new.row ≡ pinned.old.row) }
 {
     caller.collect(rt);
     pinned.heed(caller.note());

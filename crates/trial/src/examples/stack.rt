@@ -98,7 +98,7 @@ impl Stack {
         handle: &mut LocalHandle<'_, Node, J>,
         guard: &Guard<'_, Node, J>,
     ) -> Result<Option<u64>, Fault>
-        ensures seat { handle.new.seat ≡ handle.old.seat }
+        ensures row { handle.new.row ≡ handle.old.row }
         ensures guards { handle.new.guards ≡ handle.old.guards }
     {
         let Some((number, top)) = self.take_top(rt, guard)? else {
@@ -195,7 +195,7 @@ fn push_then_pop<R: Wait, J: Task>(
     guard: &Guard<'_, Node, J>,
     number: u64,
 ) -> Result<Option<u64>, Fault>
-    ensures seat { handle.new.seat ≡ handle.old.seat }
+    ensures row { handle.new.row ≡ handle.old.row }
     ensures guards { handle.new.guards ≡ handle.old.guards }
 {
     stack.push(rt, alloc, guard, number)?;
@@ -206,7 +206,7 @@ fn push_then_pop<R: Wait, J: Task>(
 
 /// Spends a guard of the handle.
 fn spend<J: Task>(handle: &mut LocalHandle<'_, Node, J>, guard: Guard<'_, Node, J>)
-    requires { owns handle.old.guards handle.old.seat guard.seat ≡ true }
+    requires { owns handle.old.guards handle.old.row guard.row ≡ true }
     ensures { handle.new ≡ record handle.old { guards = handle.old.guards - 1; knows = handle.new.knows } }
 {
     match handle.unpin(guard) {
@@ -268,7 +268,7 @@ fn pops_under<R: Wait>(
     guard: &Guard<'_, Node, ()>,
     pushed: [u64; 3],
 ) -> Result<[Option<u64>; 4], Fault>
-    ensures seat { handle.new.seat ≡ handle.old.seat }
+    ensures row { handle.new.row ≡ handle.old.row }
     ensures guards { handle.new.guards ≡ handle.old.guards }
 {
     let stack = Stack::new();

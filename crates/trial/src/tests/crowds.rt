@@ -3,9 +3,7 @@
 //! that stand are charged, and what waits goes in quiet rounds.
 
 use super::interleavings::entry;
-use super::machine::{
-    Index, are_rounds_done, beginning, call, going, is_done, is_in_flight, noise, op_of,
-};
+use super::machine::{Index, are_rounds_done, beginning, call, going, is_done, noise, op_of};
 use super::schedules::next;
 use congee::{Child, Limited, NodeStats, Noise, Seen};
 use crossbeam_epoch::Name;
@@ -198,7 +196,7 @@ fn put_reply(told: &mut Vec<Entry<u64>>, worker: u32, seat: Seat, reply: Reply<u
 }
 
 /// How a worker's call stands after a step that told this.
-fn heard(
+fn after_report(
     told: &mut Vec<Entry<u64>>,
     worker: u32,
     seat: Seat,
@@ -209,7 +207,7 @@ fn heard(
         seat.place = Some(told.len());
         told.push(entry(Call::Get(0), Reply::Get(None)))?;
     }
-    seat.is_going = is_in_flight(&report.outcome);
+    seat.is_going = report.outcome.is_in_flight();
     seat.has_asked = matches!(report.outcome, Outcome::Asks(_));
     if let Outcome::Done(Done::Reply(reply)) = report.outcome {
         put_reply(told, worker, seat, reply);
@@ -220,7 +218,7 @@ fn heard(
 /// A step of a worker, which leaves its call so.
 fn steps(crowd: &mut Crowd, worker: u32, seat: Seat, step: Step<u64>) -> Result<(), AllocError> {
     let report = crowd.index.step(step);
-    let seat = heard(&mut crowd.told, worker, seat, report)?;
+    let seat = after_report(&mut crowd.told, worker, seat, report)?;
     if let Some(place) = crowd.seats.get_mut(worker as usize) {
         *place = seat;
     }

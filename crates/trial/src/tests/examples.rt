@@ -2,7 +2,7 @@
 
 use super::face::limits;
 use super::machine::{
-    END, Index, begin, beginning, go as step_on, going, is_in_flight, noise, open, registering,
+    END, Index, begin, beginning, go as step_on, going, noise, open, registering,
 };
 use crate::examples::collector::put_off;
 use crate::examples::driven::{Driven, answered};
@@ -183,7 +183,7 @@ fn record(index: &mut Index, steps: &mut Vec<Step<u64>>, op: Op<u64>) -> Result<
     steps.push(beginning(0, op))?;
     let mut outcome = begin(index, 0, op).outcome;
     for _ in 0..END {
-        if !is_in_flight(&outcome) {
+        if !outcome.is_in_flight() {
             break;
         }
         steps.push(go(0))?;

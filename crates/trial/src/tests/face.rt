@@ -107,7 +107,7 @@ fn tries_one_cell(
 
 /// Spends a guard of the handle.
 pub fn spend(handle: &mut Handle<'_>, guard: ItemGuard<'_>)
-    requires { owns handle.old.guards handle.old.seat guard.seat ≡ true }
+    requires { owns handle.old.guards handle.old.row guard.row ≡ true }
     ensures { handle.new ≡ record handle.old { guards = handle.old.guards - 1; knows = handle.new.knows } }
 {
     match handle.unpin(guard) {
@@ -164,7 +164,7 @@ pub fn destroy(
     guard: &ItemGuard<'_>,
     link: Link,
 ) -> Result<(), Fault>
-    ensures seat { handle.new.seat ≡ handle.old.seat }
+    ensures row { handle.new.row ≡ handle.old.row }
     ensures guards { handle.new.guards ≡ handle.old.guards }
 {
     match handle.defer_destroy(rt, guard, Shared::of(link)) {
@@ -180,7 +180,7 @@ pub fn defer(
     guard: &ItemGuard<'_>,
     job: Job,
 ) -> Result<(), Fault>
-    ensures seat { handle.new.seat ≡ handle.old.seat }
+    ensures row { handle.new.row ≡ handle.old.row }
     ensures guards { handle.new.guards ≡ handle.old.guards }
 {
     match handle.defer(rt, guard, job) {

@@ -2,8 +2,7 @@
 //! one map does, and the nodes that stand are charged.
 
 use super::machine::{
-    END, Index, answer_of, are_rounds_done, begin, call, go, go_with, is_done, is_in_flight, noise,
-    op_of, open,
+    END, Index, answer_of, are_rounds_done, begin, call, go, go_with, is_done, noise, op_of, open,
 };
 use super::texts::{call_of, named, numbers, pairs, part};
 use congee::Noise;
@@ -143,7 +142,7 @@ pub fn begun(index: &mut Index, worker: u32, call: Call<u64>) -> Flight {
 
 /// A step of a call, to which this comes from outside, unless it has ended.
 pub fn advance_with(index: &mut Index, flight: &mut Flight, turn: u32, noise: Noise<Id, u64>) {
-    if is_in_flight(&flight.outcome) {
+    if flight.outcome.is_in_flight() {
         let report = go_with(index, flight.worker, noise);
         flight.outcome = report.outcome;
         if report.decided {
@@ -161,7 +160,7 @@ pub fn advance(index: &mut Index, flight: &mut Flight, turn: u32) {
 
 /// A worker whose call has ended flushes.
 fn flush(index: &mut Index, flight: &Flight) {
-    if !is_in_flight(&flight.outcome) {
+    if !flight.outcome.is_in_flight() {
         is_done(index, flight.worker, Op::Flush);
     }
 }
@@ -176,7 +175,7 @@ pub fn collect(index: &mut Index, first: &Flight, second: &Flight) {
 /// A call goes on, with a collection after each step, to its end or until it has found a lock taken for long.
 pub fn go_on(index: &mut Index, flight: &mut Flight, other: &Flight, turn: u32) {
     for _ in 0..LONG {
-        if !is_in_flight(&flight.outcome) {
+        if !flight.outcome.is_in_flight() {
             return;
         }
         advance(index, flight, turn);
@@ -344,7 +343,7 @@ fn steps_in(index: &mut Index, call: Call<u64>) -> u32 {
     let mut flight = begun(index, 0, call);
     let mut steps = 0u32;
     for _ in 0..END {
-        if is_in_flight(&flight.outcome) {
+        if flight.outcome.is_in_flight() {
             advance(index, &mut flight, 0);
             steps = steps.saturating_add(1);
         }

@@ -1,7 +1,7 @@
 //! What no clause says: worked journals, and each public call once with ample memory.
 use super::interleavings::entry;
 use joint::audit;
-use judge::{ArcPayload, Call, Entry, Payload, Reply, Verdict, Word64, check};
+use judge::{ArcPayload, Call, Entry, Payload, Reply, Verdict, Word64, check, number_of, word_of};
 use std::sync::Arc;
 use std::test::Fail;
 
@@ -82,7 +82,9 @@ fn copies_payloads(rt: HostRuntime) -> Result<(), Fail> {
 fn words_come_back(rt: HostRuntime) {
     for word in [0, 42, u64::MAX] {
         assert_eq!(rt; there_and_back(&word), word);
+        assert_eq!(rt; word_of::<u64>(number_of(&Some(word))), Some(word));
     }
+    assert_eq!(rt; word_of::<u64>(number_of::<u64>(&None)), None);
 }
 
 // The entry of a look-up that finds nothing.

@@ -1,5 +1,5 @@
-//! Owned trees that shrink: a leaf and an inner node go down through all forms, an emptied leaf's parent gives place to its other
-//! child, a lesser node that isn't had is done without, and a growth and a shrink do not alternate.
+//! Owned trees that grow and shrink: a leaf, and an inner node at each depth, go up and down through all forms, an emptied leaf's
+//! parent gives place to its other child, a lesser node that isn't had is done without, and a growth and a shrink do not alternate.
 
 use super::schedules::next;
 use congee::{
@@ -61,56 +61,118 @@ fn with_keys<A: Allocator>(
     Ok(tree)
 }
 
-/// How many children are left, and what is charged then beside the root.
-const LEAF: [(u64, u64); 8] = [
+/// How many children a node comes to have, one row after another, and its size then. It goes up and then down: a greater form comes
+/// with the child that no longer fits, a lesser one with the removal that leaves 40, 12 or 3, and one that has come stays where a
+/// few come back. There is no inner node over a single child.
+const ROWS: [(u64, u64); 20] = [
+    (1, 0),
+    (2, 64),
+    (4, 64),
+    (5, 168),
+    (16, 168),
+    (17, 672),
+    (48, 672),
+    (49, 2104),
     (41, 2104),
     (40, 672),
+    (48, 672),
     (13, 672),
     (12, 168),
+    (16, 168),
     (4, 168),
     (3, 64),
-    (1, 64),
+    (4, 64),
+    (2, 64),
+    (1, 0),
     (0, 0),
 ];
 
-const INNER: [(u64, u64); 9] = [
-    (41, 2104 + 41 * 64),
-    (40, 672 + 40 * 64),
-    (13, 672 + 13 * 64),
-    (12, 168 + 12 * 64),
-    (4, 168 + 4 * 64),
-    (3, 64 + 3 * 64),
-    (2, 64 + 2 * 64),
-    (1, 64),
-    (0, 0),
+/// How far the children of a node are apart: those of a leaf, whose prefix has seven bytes, and those of an inner node, whose prefix
+/// has six bytes at the least distance and one at the greatest; how far the second key below each child is from the first; and the
+/// size of the nodes below each.
+const NODES: [(u64, u64, u64); 18] = [
+    // A leaf's values.
+    (1, 0, 0),
+    // One key below each child: its leaf lies in its parent's place, and counts as a least node.
+    (1 << 8, 0, 64),
+    (1 << 16, 0, 64),
+    (1 << 24, 0, 64),
+    (1 << 32, 0, 64),
+    (1 << 40, 0, 64),
+    (1 << 48, 0, 64),
+    // A leaf of two values, with a slot of its own.
+    (1 << 8, 1, 64),
+    (1 << 16, 1, 64),
+    (1 << 24, 1, 64),
+    (1 << 32, 1, 64),
+    (1 << 40, 1, 64),
+    (1 << 48, 1, 64),
+    // An inner node with two leaves.
+    (1 << 16, 256, 192),
+    (1 << 24, 256, 192),
+    (1 << 32, 256, 192),
+    (1 << 40, 256, 192),
+    (1 << 48, 256, 192),
 ];
 
-/// Whether a node of 49 children goes down as the rows say, where the keys stand at this distance.
-fn goes_down(alloc: Global, distance: u64, rows: &[(u64, u64)]) -> Result<bool, Fail> {
-    let mut tree = with_keys(alloc, DefaultAllocator::new(), distance, 49, distance)?;
-    for (left, charged) in rows {
-        for place in 0..49u64.wrapping_sub(*left) {
-            tree.remove(&place.wrapping_add(1).wrapping_mul(distance));
-        }
-        if tree.charged() != charged.wrapping_add(2104) {
-            return Ok(false);
-        }
-        for place in 49u64.wrapping_sub(*left)..49 {
-            let key = place.wrapping_add(1).wrapping_mul(distance);
-            if tree.get(&key) != Some(key) {
-                return Ok(false);
-            }
+/// The first key below a child. The bytes that lead to the children do not come in order: 0, 85, 170, 255, 84 and so on.
+fn key_at(place: u64, distance: u64) -> u64 {
+    (place.wrapping_mul(85) % 256).wrapping_mul(distance)
+}
+
+/// Puts the keys of further children in, or takes those of the last ones out, until there are so many.
+fn brings(
+    tree: &mut Tree<DefaultAllocator>,
+    now: u64,
+    count: u64,
+    distance: u64,
+    beside: u64,
+) -> Result<(), OOMError> {
+    for place in now..count {
+        let key = key_at(place, distance);
+        let other = key.wrapping_add(beside);
+        tree.insert(key, key)?;
+        tree.insert(other, other)?;
+    }
+    for place in count..now {
+        let key = key_at(place, distance);
+        tree.remove(&key);
+        tree.remove(&key.wrapping_add(beside));
+    }
+    Ok(())
+}
+
+/// Whether a node goes up and down as the rows say, whose children stand at this distance, each with two keys, or one where both
+/// are the same, and with nodes of so many bytes. Each key that is there is found at each row, and the root is charged as well.
+fn goes(alloc: Global, distance: u64, beside: u64, below: u64) -> Result<bool, Fail> {
+    let mut tree = with_keys(alloc, DefaultAllocator::new(), 0, 0, 1)?;
+    let mut now = 0;
+    let mut is_right = true;
+    for (count, size) in ROWS {
+        brings(&mut tree, now, count, distance, beside)?;
+        now = count;
+        // A value that is alone has a least leaf.
+        let each = if now == 1 { below.max(64) } else { below };
+        let children = now.wrapping_mul(each);
+        is_right &= tree.charged() == size.wrapping_add(children).wrapping_add(2104);
+        for place in 0..now {
+            let key = key_at(place, distance);
+            let other = key.wrapping_add(beside);
+            is_right &= tree.get(&key) == Some(key);
+            is_right &= tree.get(&other) == Some(other);
         }
     }
-    Ok(tree.is_empty())
+    Ok(is_right && tree.is_empty())
 }
 
 #[test]
-fn nodes_go_down_through_all_forms(rt: HostRuntime) -> Result<(), Fail> {
-    assert!(rt; goes_down(rt.alloc(), 1, &LEAF)?);
-    assert!(rt; goes_down(rt.alloc(), 256, &INNER)?);
-    // The inner node's children have slots of their own: below each hangs a leaf of its own and another one.
-    assert!(rt; goes_down(rt.alloc(), 1 << 16, &INNER)?);
+fn nodes_go_up_and_down_through_all_forms(rt: HostRuntime) -> Result<(), Fail> {
+    for (distance, beside, below) in NODES {
+        assert!(rt;
+            goes(rt.alloc(), distance, beside, below)?,
+            "{distance} and {beside}"
+        );
+    }
     Ok(())
 }
 

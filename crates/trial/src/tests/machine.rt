@@ -61,14 +61,6 @@ pub fn go(index: &mut Index, worker: u32, answer: Option<Option<u64>>) -> Report
     go_with(index, worker, noise(false, answer))
 }
 
-/// Whether a call that stands so goes on.
-pub fn is_in_flight(outcome: &Outcome<u64>) -> bool {
-    matches!(
-        outcome,
-        Outcome::Running | Outcome::Asks(_) | Outcome::Found { .. }
-    )
-}
-
 /// So many further steps at most of the worker's call, which stands so.
 pub fn go_on(
     index: &mut Index,
@@ -79,7 +71,7 @@ pub fn go_on(
 ) -> Outcome<u64> {
     let mut outcome = outcome;
     for _ in 0..most {
-        if !is_in_flight(&outcome) {
+        if !outcome.is_in_flight() {
             return outcome;
         }
         outcome = go(index, worker, answer).outcome;

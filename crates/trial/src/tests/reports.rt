@@ -1,6 +1,6 @@
 //! The machine's own calls: what the reports of steps tell, and a scan into places.
 
-use super::machine::{Index, begin, call, go, is_done, is_in_flight, open};
+use super::machine::{Index, begin, call, go, is_done, open};
 use joint::{Done, Kind, Op, Outcome, Report};
 use judge::Call;
 use std::test::Fail;
@@ -39,7 +39,7 @@ fn reports_of(index: &mut Index, worker: u32, op: Op<u64>, answer: Option<Option
     let mut report = begin(index, worker, op);
     let mut count = add(Counted::default(), &report);
     for _ in 0..LONG {
-        if !is_in_flight(&report.outcome) {
+        if !report.outcome.is_in_flight() {
             return count;
         }
         report = go(index, worker, answer);

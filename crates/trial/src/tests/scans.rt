@@ -2,7 +2,7 @@
 //! list is one that a scan promises.
 
 use super::interleavings::{Flight, advance, begun, entry_of, journal_of, length, prepared};
-use super::machine::{Index, are_rounds_done, begin, go, is_done, is_in_flight};
+use super::machine::{Index, are_rounds_done, begin, go, is_done};
 use super::texts::{array, call_of, named, pairs, part};
 use joint::{Done, Op, Outcome, Refusal};
 use judge::{Call, Verdict, check};
@@ -150,7 +150,7 @@ impl Scan {
 
     /// A step, unless it has ended. `changed` tells whether the call has taken effect.
     fn advance(&mut self, index: &mut Index, changed: bool) {
-        if !is_in_flight(&self.outcome) {
+        if !self.outcome.is_in_flight() {
             return;
         }
         if changed {

@@ -2,7 +2,7 @@
 
 use super::interleavings::{Flight, advance, begun, collect};
 use super::machine::{
-    Index, are_rounds_done, beginning, call, going, is_done, is_in_flight, noise, open, replied,
+    Index, are_rounds_done, beginning, call, going, is_done, noise, open, replied,
 };
 use joint::{Op, Outcome, Refusal, Step};
 use judge::{Call, Reply};
@@ -92,7 +92,7 @@ fn begin_schedule(alloc: Global) -> Result<Schedule, Refusal> {
 
 /// A step of a call; where it has ended its worker pins anew, and begins the next one.
 fn turn_of(index: &mut Index, flight: &mut Flight, drawn: u64) {
-    if is_in_flight(&flight.outcome) {
+    if flight.outcome.is_in_flight() {
         advance(index, flight, 0);
     } else {
         is_done(index, flight.worker, Op::Unpin);

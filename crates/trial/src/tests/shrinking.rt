@@ -4,9 +4,7 @@
 use super::interleavings::{
     Case, Flight, advance, begun, case_of, collect, end_right, go_on, prepared_for,
 };
-use super::machine::{
-    Index, are_rounds_done, begin, call, go, is_done, is_in_flight, op_of, open, replied,
-};
+use super::machine::{Index, are_rounds_done, begin, call, go, is_done, op_of, open, replied};
 use super::texts::{named, part};
 use joint::Op;
 use judge::{Call, Reply};
@@ -106,7 +104,7 @@ fn given_back(index: &mut Index, made: Call<u64>) -> u64 {
     let mut report = begin(index, 0, op_of(made));
     let mut back = report.destroyed;
     for _ in 0..100u32 {
-        if !is_in_flight(&report.outcome) {
+        if !report.outcome.is_in_flight() {
             break;
         }
         report = go(index, 0, None);

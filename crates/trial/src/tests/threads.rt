@@ -132,7 +132,7 @@ fn puts_off(
     before: Link,
     job: Job,
 ) -> Result<(), Fault>
-    ensures seat { handle.new.seat ≡ handle.old.seat }
+    ensures row { handle.new.row ≡ handle.old.row }
     ensures guards { handle.new.guards ≡ handle.old.guards }
 {
     if before != Link::null() {

@@ -3,7 +3,7 @@
 
 use super::arcs::{Text, is, text};
 use super::failures::{ends_with, is_flushed, opened};
-use super::machine::{Index, begin, go, is_done, is_in_flight, op_of, replied};
+use super::machine::{Index, begin, go, is_done, op_of, replied};
 use super::schedules::step_at;
 use super::threaded::{next, spent};
 use congee::{Congee, DefaultAllocator, OOMError};
@@ -269,7 +269,7 @@ fn a_removal_goes_on_without_a_lesser_leaf(rt: HostRuntime) -> Result<(), Fail> 
     let mut report = begin(&mut index, 0, op_of(Call::Remove(2)));
     let mut is_skipped = report.skipped;
     for _ in 0..100u32 {
-        if !is_in_flight(&report.outcome) {
+        if !report.outcome.is_in_flight() {
             break;
         }
         report = go(&mut index, 0, None);

@@ -1,5 +1,5 @@
 -- The pairs of a map within a range of bytes.
-use Rattle.std.proofs.Common.{◌≡◌, ◌≢◌, ℕ, suc, ◌<◌, ◌≤◌, ◌+◌, ◌-◌, MatchOption, Bool, true, false, ◌&&◌, T, List, [], ◌∷◌, Option, None, Some, IsSome, refl, inl, inr, sym, ap, ◌∙◌, subst, arith}
+use Rattle.std.proofs.Common.{◌≡◌, ◌≢◌, ℕ, suc, ◌<◌, ◌≤◌, ◌+◌, ◌-◌, MatchOption, Bool, true, false, T, List, [], ◌∷◌, Option, None, Some, IsSome, refl, inl, inr, sym, ap, ◌∙◌, subst, arith}
 use Rattle.std.proofs.lemmas.Bool.Decides.{nat_tests}
 use Rattle.std.proofs.lemmas.Bool.{cases_lt, cases_eq}
 use Rattle.std.specs.Ordering.{nat_cmp, is_lt}
@@ -9,6 +9,7 @@ use Rattle.std.specs.FinMap as map
 use Rattle.std.specs.FinMap.Entries.{below_all}
 use Rattle.congee.specs.forms.Bytes.{IsFirst, between}
 use Rattle.congee.specs.forms.Places.{AllKeys, Rises}
+use Rattle.congee.proofs.lemmas.Fits.{both_true}
 use Rattle.congee.proofs.lemmas.forms.Entries.{find}
 use Rattle.congee.proofs.lemmas.forms.EntryLemmas.{find_below}
 use Rattle.congee.proofs.lemmas.forms.MapLemmas.{find_std}
@@ -18,14 +19,6 @@ pub true_of_T : (b : Bool) → T b → b ≡ true
 true_of_T true t = refl
 true_of_T false t = absurd t
 
-both_left : (a b : Bool) → a && b ≡ true → a ≡ true
-both_left true b e = refl
-both_left false b e = e
-
-both_right : (a b : Bool) → a && b ≡ true → b ≡ true
-both_right true b e = e
-both_right false b e = absurd (cc e)
-
 -- a number that compares as less is less
 pub less_of_cmp : (a b : ℕ) → is_lt (nat_cmp a b) ≡ true → a < b
 less_of_cmp a b e = grind (arith, nat_tests, e)
@@ -33,13 +26,14 @@ less_of_cmp a b e = grind (arith, nat_tests, e)
 module _ {X : Type 0} where
   below_of : (k : ℕ) (es : List (ℕ × X)) → below_all nat_cmp k es ≡ true → AllKeys (λ j. k < j) es
   below_of k [] e = tt
-  below_of k ((j, x) ∷ r) e = (less_of_cmp k j (both_left _ _ e), below_of k r (both_right _ _ e))
+  below_of k ((j, x) ∷ r) e = (less_of_cmp k j (both_true _ _ e).0, below_of k r (both_true _ _ e).1)
 
   rises_true : (es : List (ℕ × X)) → map.is_sorted nat_cmp es ≡ true → Rises es
   rises_true [] e = tt
-  rises_true ((k, x) ∷ r) e = (below_of k r (both_left _ _ e), rises_true r (both_right _ _ e))
+  rises_true ((k, x) ∷ r) e = (below_of k r (both_true _ _ e).0, rises_true r (both_true _ _ e).1)
 
-  rises_entries : (m : map.FinMap nat_cmp X) → Rises (map.entries m)
+  -- the entries of a map stand in ascending order of their keys
+  pub rises_entries : (m : map.FinMap nat_cmp X) → Rises (map.entries m)
   rises_entries m = rises_true (map.entries m) (true_of_T _ (map.entries_sorted m))
 
   none_between : (from end : ℕ) (es : List (ℕ × X)) → Rises es → ((q : ℕ) → from ≤ q → q ≤ end → find q es ≡ None) → between from end es ≡ []
@@ -84,6 +78,7 @@ module _ {X : Type 0} where
       less_all [] a l = tt
       less_all ((j, z) ∷ r) a l = (omega (arith, a.0), less_all r a.1 l)
 
+  -- a map's look-up is one in its list
   pub get_find : (m : map.FinMap nat_cmp X) (q : ℕ) → map.get m q ≡ find q (map.entries m)
   get_find m q = map.get-entries m q ∙ find_std q (map.entries m)
 
@@ -97,6 +92,7 @@ module _ {X : Type 0} where
 
   -- ---- the child at a place
 
+  -- what holds for each key that a list has holds for all its pairs
   pub all_found : (P : ℕ → Type 0) (es : List (ℕ × X)) → ((b : ℕ) → IsSome (find b es) → P b) → AllKeys P es
   all_found P [] h = tt
   all_found P ((k, x) ∷ es) h =
@@ -112,9 +108,11 @@ module _ {X : Type 0} where
   all_between [] a = refl
   all_between ((k, x) ∷ es) a = grind (arith, nat_tests, a.0, all_between es a.1)
 
+  -- the pairs between bytes 0 and 255 of a map whose keys are bytes are all of them
   pub between_all : (m : map.FinMap nat_cmp X) → ((b : ℕ) → IsSome (map.get m b) → b < 256) → between 0 255 (map.entries m) ≡ map.entries m
   between_all m h = all_between (map.entries m) (all_found (λ b. b < 256) (map.entries m) (λ b s. h b (subst IsSome (sym (get_find m b)) s)))
 
+  -- the first child from a byte on of a map whose keys are bytes is at 255 or before it
   pub first_byte : (m : map.FinMap nat_cmp X) (from b : ℕ) (x : X) → ((b : ℕ) → IsSome (map.get m b) → b < 256) → IsFirst m from b x → b ≤ 255
   first_byte m from b x h f = let some : IsSome (map.get m b) = cc f.here in omega (arith, h b some)
 

@@ -34,25 +34,31 @@ module _ {X : Type 0} where
   length_index b (None ∷ os) = omega (arith, length_index (b + 1) os)
   length_index b (Some x ∷ os) = omega (arith, length_index (b + 1) os)
 
+  -- the map has at each byte what stands at its place
   pub get_by : (os : List (Option X)) (q : ℕ) → map.get (children_by os) q ≡ get_or os q None
   get_by os q = get_of (index_somes 0 os) q (rises_index 0 os) ∙ find_index q q 0 os (omega arith)
 
+  -- the map has no more children than there are places
   pub len_by : (os : List (Option X)) → map.len (children_by os) ≤ length os
   len_by os = omega (arith, len_of (index_somes 0 os) (rises_index 0 os), length_index 0 os)
 
+  -- a byte that has a child is one of the places
   pub within_by : (os : List (Option X)) (q : ℕ) → IsSome (map.get (children_by os) q) → q < length os
   within_by os q s = elim (cases_lt q (length os)) [
     | inl l ↦ l
     | inr l ↦ let none : map.get (children_by os) q ≡ None = get_by os q ∙ get_or_past os q None l in absurd (cc (s, none))
   ]
 
+  -- places at which nothing stands hold the empty map
   pub empty_by : (os : List (Option X)) → ((q : ℕ) → get_or os q None ≡ None) → children_by os ≡ map.empty
   empty_by os h = map.same_map nat_cmp_total map.nat_cmp-IsAntisymmetric _ _ (λ q. get_by os q ∙ h q ∙ sym (map.get-empty nat_cmp q))
 
+  -- places that differ at one byte, which has a child now, hold the map with it
   pub insert_by : (os ns : List (Option X)) (b : ℕ) (x : X) → ((q : ℕ) → get_or ns q None ≡ cond (eqb q b) (Some x) (get_or os q None)) → children_by ns ≡ map.insert (children_by os) b x
   insert_by os ns b x h = map.same_map nat_cmp_total map.nat_cmp-IsAntisymmetric _ _ (λ q.
       get_by ns q ∙ h q ∙ sym (map.get-insert nat_cmp_total (children_by os) b x q ∙ rw (same_is q b, get_by os q) refl))
 
+  -- places that differ at one byte, which has none now, hold the map without it
   pub remove_by : (os ns : List (Option X)) (b : ℕ) → ((q : ℕ) → get_or ns q None ≡ cond (eqb q b) None (get_or os q None)) → children_by ns ≡ map.remove (children_by os) b
   remove_by os ns b h = map.same_map nat_cmp_total map.nat_cmp-IsAntisymmetric _ _ (λ q.
       get_by ns q ∙ h q ∙ sym (map.get-remove nat_cmp_total (children_by os) b q ∙ rw (same_is q b, get_by os q) refl))

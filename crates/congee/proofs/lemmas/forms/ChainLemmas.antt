@@ -27,21 +27,25 @@ first_of next first len (x ∷ r) l e m =
     (r, record { is = ap (λ n. n ∷ r) (sym l.0); within = omega (arith, l.0, l.1); linked = rw l.0 l.2 })
 
 module _ (x : Index) (ok : IsIndex x) where
+  -- an index with fewer than 48 children has a first free place
   pub first : x.len < 48 → (rest : List ℕ) × First x.next x.free ok.chain rest
   first m = first_of x.next x.free x.len ok.chain ok.linked ok.counted m
 
+  -- the first free place of an index with fewer than 48 children is one of the 48
   pub first_within : x.len < 48 → x.free < 48
   first_within m = (first m).1.within
 
   apart_first : (m : x.len < 48) (b : ℕ) → b < 256 → (place_of x b ≢ x.free) × IsNoneOf (place_of x b) (first m).0
   apart_first m b l = subst (λ c. IsNoneOf (place_of x b) c) (first m).1.is (ok.apart b l)
 
+  -- the first free place is no byte's
   pub fresh : x.len < 48 → (b : ℕ) → b < 256 → place_of x b ≢ x.free
   fresh m b l = (apart_first m b l).0
 
   place_set : (i v b : ℕ) → i < 256 → b < 256 → (b ≢ i → get_or (set x.places i v) b 0 ≡ place_of x b) × (b ≡ i → get_or (set x.places i v) b 0 ≡ v)
   place_set i v b l m = (λ ne. get_or-set_other x.places i b v 0 ne, λ e. ap (λ k. get_or (set x.places i v) k 0) e ∙ get_or-set_same x.places i v 0 (omega (arith, ok.places_len)))
 
+  -- an index is sound after a byte took the first free place
   pub inserted : (byte : ℕ) (y : Index) → byte < 256 → place_of x byte ≡ 48 → x.len < 48 → y.len ≡ x.len + 1 → y.free ≡ get_or x.next x.free 0 → y.places ≡ set x.places byte x.free → y.next ≡ x.next → IsIndex y
   inserted byte y lb absent m len free places next =
       let f = (first m).1 in
@@ -71,6 +75,7 @@ module _ (x : Index) (ok : IsIndex x) where
         next_len = ap length next ∙ ok.next_len;
       }
 
+  -- an index is sound after a byte's place was given back
   pub removed : (byte : ℕ) (y : Index) → byte < 256 → place_of x byte < 48 → y.len + 1 ≡ x.len → y.free ≡ place_of x byte → y.places ≡ set x.places byte 48 → y.next ≡ set x.next (place_of x byte) x.free → IsIndex y
   removed byte y lb m len free places next =
       let p = place_of x byte in

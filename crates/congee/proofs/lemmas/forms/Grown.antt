@@ -25,6 +25,7 @@ module _ {P : Type 0} where
   pub grown_wide : (x y : Node ℕ P) → form_of y ≡ next_form (form_of x) → capacity_of (form_of x) ≡ 256 → capacity_of (form_of y) ≡ 256
   grown_wide x y f e = ap capacity_of f ∙ grown_places (form_of x) e
 
+  -- a full node's children in the form above leave room
   pub grown_room : (x y : Node ℕ P) → form_of y ≡ next_form (form_of x) → children_of y ≡ children_of x → is_full_of x ≡ true → is_full_of y ≡ false
   grown_room x y f c e =
       full_is y ∙ (ap (λ t. full_at t (map.len (children_of y))) f

@@ -53,45 +53,49 @@ module _ {X : Type 0} where
   ]
 
 module _ {X : Type 0} {x : Index} {xs : List X} (ok : IsIndexed x xs) where
-  byte_of : (b : ℕ) → IsSome (map.get (indexed_map x xs) b) → b < 256
-  byte_of b s = omega (arith, within_by (at_places x.places xs) b s, length_at x.places xs, ok.index.places_len)
-
+  -- what has a child is a byte
   pub is_byte : (b : ℕ) → IsSome (map.get (indexed_map x xs) b) → b < 256
-  is_byte = byte_of
+  is_byte b s = omega (arith, within_by (at_places x.places xs) b s, length_at x.places xs, ok.index.places_len)
 
+  -- a byte's child is what stands at its place
   pub get_is : (b : ℕ) → b < 256 → map.get (indexed_map x xs) b ≡ slice_get xs (place_of x b)
   get_is b l = get_by (at_places x.places xs) b ∙ at_is x.places xs b (omega (arith, ok.index.places_len))
 
+  -- past the last byte there is no child
   pub none_past : (b : ℕ) → 256 ≤ b → map.get (indexed_map x xs) b ≡ None
   none_past b l = get_by (at_places x.places xs) b ∙ get_or_past (at_places x.places xs) b None (omega (arith, length_at x.places xs, ok.index.places_len))
 
+  -- a byte without a child has place 48, which is none
   pub absent_place : (d : X) (b : ℕ) → b < 256 → map.get (indexed_map x xs) b ≡ None → place_of x b ≡ 48
   absent_place d b l none = elim (cases_lt (place_of x b) 48) [
     | inl h ↦ let some = slice_get-get_or xs (place_of x b) d (omega (arith, ok.places)) in absurd (cc (some, none, get_is b l))
     | inr h ↦ omega (arith, ok.index.bounded b l)
   ]
 
+  -- a byte with a child has one of the 48 places
   pub present_place : (b : ℕ) → b < 256 → IsSome (map.get (indexed_map x xs) b) → place_of x b < 48
   present_place b l s = elim (cases_lt (place_of x b) 48) [
     | inl h ↦ h
     | inr h ↦ let none = slice_get_past xs (place_of x b) (omega (arith, ok.places)) in absurd (cc (s, none, get_is b l))
   ]
 
+  -- an index in which a byte has a child counts one at least
   pub some_count : (b : ℕ) → IsSome (map.get (indexed_map x xs) b) → 0 < x.len
   some_count b s = omega (arith, some_len (indexed_map x xs) b s, ok.count)
 
+  -- a byte without a place has no child
   pub get_blank : (b : ℕ) → b < 256 → place_of x b ≡ 48 → map.get (indexed_map x xs) b ≡ None
   get_blank b l e = get_is b l ∙ slice_get_past xs (place_of x b) (omega (arith, e, ok.places))
 
+  -- a byte with a place has the child there
   pub get_there : (b : ℕ) (d : X) → b < 256 → place_of x b ≢ 48 → map.get (indexed_map x xs) b ≡ Some (get_or xs (place_of x b) d)
   get_there b d l n = get_is b l ∙ slice_get-get_or xs (place_of x b) d (omega (arith, n, ok.index.bounded b l, ok.places))
 
-  pub place_within : (b : ℕ) → b < 256 → place_of x b ≢ 48 → place_of x b < length xs
-  place_within b l n = omega (arith, n, ok.index.bounded b l, ok.places)
-
+  -- the first byte with a place from one on is the first with a child
   pub is_first : (from b : ℕ) (d : X) → b < 256 → from ≤ b → place_of x b ≢ 48 → ((q : ℕ) → from ≤ q → q < b → place_of x q ≡ 48) → IsFirst (indexed_map x xs) from b (get_or xs (place_of x b) d)
   is_first from b d l h n before = record { past = h; here = get_there b d l n; before = λ q g m. get_blank q (omega arith) (before q g m) }
 
+  -- where no byte has a place from one on, none has a child
   pub none_from : (from : ℕ) → ((q : ℕ) → from ≤ q → q < 256 → place_of x q ≡ 48) → (q : ℕ) → from ≤ q → map.get (indexed_map x xs) q ≡ None
   none_from from h q g = elim (cases_lt q 256) [ inl l ↦ get_blank q l (h q g l) | inr l ↦ none_past q l ]
 

@@ -7,7 +7,7 @@ use Rattle.std.specs.FinMap as map
 use Rattle.std.specs.FinMap.Entries.{below_all}
 use Rattle.congee.specs.forms.Bytes.{IsFirst}
 use Rattle.congee.specs.forms.Mapped.{pairs_by, mapped}
-use Rattle.congee.proofs.lemmas.Fits.{equal}
+use Rattle.congee.proofs.lemmas.Fits.{equal_of_test}
 use Rattle.congee.proofs.lemmas.forms.MapLemmas.{same_is}
 
 module _ {X Y : Type 0} (f : ℕ → X → Y) where
@@ -29,17 +29,19 @@ module _ {X Y : Type 0} (f : ℕ → X → Y) where
     where
       of : (t : Bool) → eq_by_cmp nat_cmp q b ≡ t → map.find nat_cmp q (pairs_by f es) ≡ option_map (f q) (map.find nat_cmp q es)
           → cond t (Some (f b x)) (map.find nat_cmp q (pairs_by f es)) ≡ option_map (f q) (cond t (Some x) (map.find nat_cmp q es))
-      of true e later = let p : q ≡ b = equal q b (sym (same_is q b) ∙ e) in ap (λ k. Some (f k x)) (sym p)
+      of true e later = let p : q ≡ b = equal_of_test q b (sym (same_is q b) ∙ e) in ap (λ k. Some (f k x)) (sym p)
       of false e later = later
 
   entries_mapped : (m : map.FinMap nat_cmp X) → map.entries (mapped f m) ≡ pairs_by f (map.entries m)
   unfolding mapped
   entries_mapped m = map.entries-from_sorted nat_cmp (pairs_by f (map.entries m)) (subst T (sym (sorted_by (map.entries m))) (map.entries_sorted m))
 
+  -- a changed map has at each key the changed value, if there was one
   pub get_mapped : (m : map.FinMap nat_cmp X) (q : ℕ) → map.get (mapped f m) q ≡ option_map (f q) (map.get m q)
   get_mapped m q =
       map.get-entries (mapped f m) q ∙ (ap (map.find nat_cmp q) (entries_mapped m) ∙ (find_by q (map.entries m) ∙ ap (option_map (f q)) (sym (map.get-entries m q))))
 
+  -- a changed map is as long as before
   pub len_mapped : (m : map.FinMap nat_cmp X) → map.len (mapped f m) ≡ map.len m
   len_mapped m = map.len-entries (mapped f m) ∙ (ap length (entries_mapped m) ∙ (length_by (map.entries m) ∙ sym (map.len-entries m)))
 
@@ -47,17 +49,20 @@ module _ {X Y : Type 0} (f : ℕ → X → Y) where
   pub same_answers : {Z : Type 0} (m n : map.FinMap nat_cmp Z) → ((q : ℕ) → map.get m q ≡ map.get n q) → m ≡ n
   same_answers m n e = map.same_map nat_cmp_total map.nat_cmp-IsAntisymmetric m n e
 
+  -- the empty map stays empty
   pub mapped_empty : mapped f map.empty ≡ map.empty
   mapped_empty = same_answers _ _ (λ q. get_mapped map.empty q ∙ (ap (option_map (f q)) (map.get-empty _ q) ∙ sym (map.get-empty _ q)))
 
+  -- a pair put in before the change is the changed pair put in after it
   pub mapped_insert : (m : map.FinMap nat_cmp X) (k : ℕ) (x : X) → mapped f (map.insert m k x) ≡ map.insert (mapped f m) k (f k x)
   mapped_insert m k x = same_answers _ _ (λ q.
       get_mapped (map.insert m k x) q ∙ (ap (option_map (f q)) (map.get-insert nat_cmp_total m k x q) ∙ (of q (eq_by_cmp nat_cmp q k) refl ∙ sym (map.get-insert nat_cmp_total (mapped f m) k (f k x) q))))
     where
       of : (q : ℕ) (t : Bool) → eq_by_cmp nat_cmp q k ≡ t → option_map (f q) (cond t (Some x) (map.get m q)) ≡ cond t (Some (f k x)) (map.get (mapped f m) q)
-      of q true e = let p : q ≡ k = equal q k (sym (same_is q k) ∙ e) in ap (λ n. Some (f n x)) p
+      of q true e = let p : q ≡ k = equal_of_test q k (sym (same_is q k) ∙ e) in ap (λ n. Some (f n x)) p
       of q false e = sym (get_mapped m q)
 
+  -- a pair taken out before the change is taken out after it
   pub mapped_remove : (m : map.FinMap nat_cmp X) (k : ℕ) → mapped f (map.remove m k) ≡ map.remove (mapped f m) k
   mapped_remove m k = same_answers _ _ (λ q.
       get_mapped (map.remove m k) q ∙ (ap (option_map (f q)) (map.get-remove nat_cmp_total m k q) ∙ (of q (eq_by_cmp nat_cmp q k) ∙ sym (map.get-remove nat_cmp_total (mapped f m) k q))))
@@ -70,9 +75,11 @@ module _ {X Y : Type 0} (f : ℕ → X → Y) where
   pub none_mapped : (m : map.FinMap nat_cmp X) (q : ℕ) → map.get m q ≡ None → map.get (mapped f m) q ≡ None
   none_mapped m q e = get_mapped m q ∙ ap (option_map (f q)) e
 
+  -- where a value was, the changed one is
   pub some_mapped : (m : map.FinMap nat_cmp X) (q : ℕ) (x : X) → map.get m q ≡ Some x → map.get (mapped f m) q ≡ Some (f q x)
   some_mapped m q x e = get_mapped m q ∙ ap (option_map (f q)) e
 
+  -- where nothing is after the change nothing was
   pub mapped_none : (m : map.FinMap nat_cmp X) (q : ℕ) → map.get (mapped f m) q ≡ None → map.get m q ≡ None
   mapped_none m q e = of (map.get m q) (sym (get_mapped m q) ∙ e)
     where
@@ -80,18 +87,6 @@ module _ {X Y : Type 0} (f : ℕ → X → Y) where
       of None e = refl
       of (Some x) e = absurd (cc)
 
-  -- the value that was changed
-  pub record Before (m : map.FinMap nat_cmp X) (q : ℕ) (y : Y) : Type 0 where
-    pub value : X
-    pub here : map.get m q ≡ Some value
-    pub is : f q value ≡ y
-
-  pub mapped_some : (m : map.FinMap nat_cmp X) (q : ℕ) (y : Y) → map.get (mapped f m) q ≡ Some y → Before m q y
-  mapped_some m q y e = of (map.get m q) refl (sym (get_mapped m q) ∙ e)
-    where
-      of : (o : Option X) → map.get m q ≡ o → option_map (f q) o ≡ Some y → Before m q y
-      of None h e = absurd (cc)
-      of (Some x) h e = record { value = x; here = h; is = (let z : Some (f q x) ≡ Some y = e in cc) }
-
+  -- the first pair from a key on, changed, is the first of the changed map
   pub first_mapped : (m : map.FinMap nat_cmp X) (from b : ℕ) (x : X) → IsFirst m from b x → IsFirst (mapped f m) from b (f b x)
   first_mapped m from b x i = record { past = i.past; here = some_mapped m b x i.here; before = λ q lo hi. none_mapped m q (i.before q lo hi) }

@@ -35,27 +35,34 @@ module _ {X : Type 0} where
   blank_at mask q b (suc i) (x ∷ xs) e n = blank_at mask q (b + 1) i xs (omega arith) n
 
 module _ {X : Type 0} {count : ℕ} {mask : List ℕ} {xs : List X} (ok : IsMasked count mask xs) where
+  -- what has a child is a byte
   pub is_byte : (b : ℕ) → IsSome (map.get (masked_map mask xs) b) → b < 256
   is_byte b s = omega (arith, within_by (masked mask 0 xs) b s, length_masked mask 0 xs, ok.places)
 
+  -- there are 256 children at most
   pub count_fits : count ≤ 256
   count_fits = omega (arith, len_by (masked mask 0 xs), length_masked mask 0 xs, ok.places, ok.counted)
 
   get_is : (b : ℕ) (d : X) → b < 256 → map.get (masked_map mask xs) b ≡ cond (eqb (bit_of mask b) 1) (Some (get_or xs b d)) None
   get_is b d l = get_by (masked mask 0 xs) b ∙ masked_at mask b 0 b xs d (omega (arith, ok.places)) (omega arith)
 
+  -- a byte whose bit is set has the child at its place
   pub get_there : (b : ℕ) (d : X) → b < 256 → bit_of mask b ≡ 1 → map.get (masked_map mask xs) b ≡ Some (get_or xs b d)
   get_there b d l e = get_is b d l ∙ kept (bit_of mask b) _ e
 
+  -- a byte whose bit isn't set has no child
   pub get_none : (b : ℕ) → bit_of mask b ≢ 1 → map.get (masked_map mask xs) b ≡ None
   get_none b n = get_by (masked mask 0 xs) b ∙ blank_at mask b 0 b xs (omega arith) n
 
+  -- the bit of a byte with a child is set
   pub some_bit : (b : ℕ) → IsSome (map.get (masked_map mask xs) b) → bit_of mask b ≡ 1
   some_bit b s = elim (cases_eq (bit_of mask b) 1) [ inl e ↦ e | inr n ↦ let none = get_none b n in absurd (cc (s, none)) ]
 
+  -- the first byte from one on whose bit is set is the first with a child
   pub is_first : (from b : ℕ) (d : X) → b < 256 → from ≤ b → bit_of mask b ≡ 1 → ((q : ℕ) → from ≤ q → q < b → bit_of mask q ≡ 0) → IsFirst (masked_map mask xs) from b (get_or xs b d)
   is_first from b d l h e before = record { past = h; here = get_there b d l e; before = λ q g m. get_none q (omega (arith, before q g m)) }
 
+  -- where no bit is set from a byte on, no byte there has a child
   pub none_from : (from : ℕ) → ((q : ℕ) → from ≤ q → q < 256 → bit_of mask q ≡ 0) → (q : ℕ) → from ≤ q → map.get (masked_map mask xs) q ≡ None
   none_from from h q g = elim (cases_lt q 256) [
     | inl l ↦ get_none q (omega (arith, h q g l))
@@ -94,6 +101,7 @@ module _ {X : Type 0} {count : ℕ} {mask : List ℕ} {xs : List X} (ok : IsMask
       (λ q h n. (refl, get_or-set_other xs b q c c n))) in
       (record { size = ok.size; places = length-set xs b c ∙ ok.places; counted = ap map.len e ∙ len_again (masked_map mask xs) b c s ∙ ok.counted }, e)
 
+  -- children of which a byte has one are counted as one at least
   pub some_count : (b : ℕ) → IsSome (map.get (masked_map mask xs) b) → 0 < count
   some_count b s = omega (arith, some_len (masked_map mask xs) b s, ok.counted)
 
@@ -107,6 +115,7 @@ module _ {X : Type 0} {count : ℕ} {mask : List ℕ} {xs : List X} (ok : IsMask
       (record { size = at.size ∙ ok.size; places = length-set xs b c ∙ ok.places; counted = ap map.len e ∙ omega (arith, len_less (masked_map mask xs) b s, ok.counted) }, e)
 
 module _ {X : Type 0} where
+  -- a mask without a bit set, beside 256 places, has no children
   pub no_children : (mask : List ℕ) (xs : List X) → length mask ≡ 32 → ((b : ℕ) → bit_of mask b ≡ 0) → length xs ≡ 256 → IsMasked 0 mask xs × (masked_map mask xs ≡ map.empty)
   no_children mask xs size none places =
       let e : masked_map mask xs ≡ map.empty = empty_by (masked mask 0 xs) (λ q. blank_at mask q 0 q xs (omega arith) (omega (arith, none q))) in

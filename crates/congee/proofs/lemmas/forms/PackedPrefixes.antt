@@ -10,7 +10,7 @@ use Rattle.congee.specs.Heap.{fits}
 use Rattle.congee.specs.Keys.{key_bytes}
 use Rattle.congee.proofs.lemmas.Fits.{fits_byte}
 use Rattle.congee.proofs.lemmas.Graft.{on_test}
-use Rattle.congee.proofs.lemmas.Orders.{top, same_top, same_bytes}
+use Rattle.congee.proofs.lemmas.Orders.{first_bytes, same_top, same_bytes}
 use Rattle.congee.proofs.lemmas.forms.Prefixes.{fits_every}
 
 -- a word whose first bytes are a prefix, with their number in its last place
@@ -37,11 +37,11 @@ read_off bytes n size low e = be_bytes_8 bytes n size low e
 pub packed_fits : (key word : List ℕ) (k w n : ℕ) → length key ≡ 8 → length word ≡ 8 → k < 2 ^ 64 → w < 2 ^ 64 → key_bytes k ≡ key → key_bytes w ≡ word → n ≤ 7
     → nat_eq (k / 256 / 2 ^ (8 * (7 - n))) (w / 256 / 2 ^ (8 * (7 - n))) ≡ fits (take n word) key
 packed_fits key word k w n size sized lk lw ek ew few =
-    let up : (q : ℕ) → q / 256 / 2 ^ (8 * (7 - n)) ≡ top q n = λ q. shr-shr q 8 (8 * (7 - n)) ∙ ap (λ i. q / 2 ^ i) (let i : 8 + 8 * (7 - n) ≡ 8 * (8 - n) = omega (arith, few) in i) in
+    let up : (q : ℕ) → q / 256 / 2 ^ (8 * (7 - n)) ≡ first_bytes q n = λ q. shr-shr q 8 (8 * (7 - n)) ∙ ap (λ i. q / 2 ^ i) (let i : 8 + 8 * (7 - n) ≡ 8 * (8 - n) = omega (arith, few) in i) in
     let long : length (take n word) ≡ n = length-take-le n word (omega (arith, few, sized)) in
     elim (cases_eq (k / 256 / 2 ^ (8 * (7 - n))) (w / 256 / 2 ^ (8 * (7 - n)))) [
       | inl e ↦ (
-          let t : top k n ≡ top w n = sym (up k) ∙ e ∙ up w in
+          let t : first_bytes k n ≡ first_bytes w n = sym (up k) ∙ e ∙ up w in
           let f : fits (take n word) key ≡ true = fits_every (take n word) key (omega (arith, long, size, few)) (λ j l.
           let lt : j < n = omega (arith, l, long) in
           ap (λ y. get_or y j 0) (sym ek) ∙ same_bytes k w n (omega (arith, few)) t j lt ∙ ap (λ y. get_or y j 0) ew ∙ sym (get_or-take n word j 0 lt)) in
@@ -50,7 +50,7 @@ packed_fits key word k w n size sized lk lw ek ew few =
           )
       | inr ne ↦ (
           let f : fits (take n word) key ≡ false = on_test (fits (take n word) key) (λ t. absurd (ne (
-          let e : top k n ≡ top w n = same_top k w n lk lw (omega (arith, few)) (λ j lt.
+          let e : first_bytes k n ≡ first_bytes w n = same_top k w n lk lw (omega (arith, few)) (λ j lt.
           ap (λ y. get_or y j 0) ek ∙ fits_byte (take n word) key j t (omega (arith, lt, long)) ∙ get_or-take n word j 0 lt ∙ ap (λ y. get_or y j 0) (sym ew)) in
           up k ∙ e ∙ sym (up w)))) (λ f. f) in
           let none : nat_eq (k / 256 / 2 ^ (8 * (7 - n))) (w / 256 / 2 ^ (8 * (7 - n))) ≡ false = grind (arith, nat_tests) in

@@ -1,19 +1,14 @@
 -- A prefix compared with a key, byte by byte.
-use Rattle.std.proofs.Common.{◌≡◌, ◌≢◌, ℕ, suc, ◌<◌, ◌≤◌, ◌+◌, inl, inr, true, false, List, [], ◌∷◌, length, get_or, refl, sym, subst, arith}
+use Rattle.std.proofs.Common.{◌≡◌, ℕ, suc, ◌<◌, ◌≤◌, ◌+◌, inl, inr, true, false, List, [], ◌∷◌, length, get_or, refl, sym, subst, arith}
 use Rattle.std.proofs.lemmas.Bool.{cases_lt}
 use Rattle.congee.specs.Heap.{fits}
-use Rattle.congee.proofs.lemmas.Fits.{fits_byte, and_true, same_test}
-use Rattle.congee.proofs.lemmas.Graft.{on_test}
+use Rattle.congee.proofs.lemmas.Fits.{and_true, same_test}
 
 -- a prefix begins a key that is as long at least and has each of its bytes
 pub fits_every : (p key : List ℕ) → length p ≤ length key → ((j : ℕ) → j < length p → get_or key j 0 ≡ get_or p j 0) → fits p key ≡ true
 fits_every [] key l e = refl
 fits_every (x ∷ p) [] l e = absurd (omega arith)
 fits_every (x ∷ p) (y ∷ key) l e = and_true _ _ (same_test x y (sym (e 0 (omega arith)))) (fits_every p key (omega arith) (λ j b. e (suc j) (omega arith)))
-
--- a prefix doesn't begin a key that differs from it in a byte
-pub fits_not : (p key : List ℕ) (j : ℕ) → j < length p → get_or key j 0 ≢ get_or p j 0 → fits p key ≡ false
-fits_not p key j l ne = on_test (fits p key) (λ t. absurd (ne (fits_byte p key j t l))) (λ f. f)
 
 -- a key and a prefix that it lacks are the same for one byte more
 pub parts_go : (p key : List ℕ) (c : ℕ) → length p ≤ length key → fits p key ≡ false → ((j : ℕ) → j < c → get_or key j 0 ≡ get_or p j 0) → get_or key c 0 ≡ get_or p c 0

@@ -9,7 +9,7 @@ use Rattle.std.specs.Prelude.{Option}
 use Rattle.std.specs.FinMap as map
 use Rattle.congee.specs.forms.Places.{pairs, AllKeys, Rises, IsSorted, sorted_map}
 use Rattle.congee.proofs.lemmas.forms.SortedLemmas.{is_byte}
-use Rattle.congee.specs.forms.Ranks.{IsRow, IsOrdered, IsRising}
+use Rattle.congee.specs.forms.Ranks.{IsPadded, IsOrdered, IsRising}
 
 -- count bytes of the first i are lower than b, and they come first
 pub record IsCount (bs : List ℕ) (b count i : ℕ) : Type 0 where
@@ -18,9 +18,11 @@ pub record IsCount (bs : List ℕ) (b count i : ℕ) : Type 0 where
   pub at : count < i → b ≤ get_or bs count 0
 
 module _ (bs : List ℕ) (b : ℕ) where
+  -- of no bytes none is lower
   pub count_none : IsCount bs b 0 0
   count_none = record { within = omega arith; below = λ k l. absurd (omega (arith, l)); at = λ l. absurd (omega (arith, l)) }
 
+  -- a byte that isn't lower leaves the count
   pub count_other : (c i : ℕ) → b ≤ get_or bs i 0 → IsCount bs b c i → IsCount bs b c (i + 1)
   count_other c i h k = record {
     within = omega (arith, k.within);
@@ -31,6 +33,7 @@ module _ (bs : List ℕ) (b : ℕ) where
     ];
   }
 
+  -- a byte that is lower, after ordered ones, is counted
   pub count_lower : IsOrdered bs → (c i : ℕ) → i < length bs → get_or bs i 0 < b → IsCount bs b c i → IsCount bs b (c + 1) (i + 1)
   count_lower o c i l h k =
       let e : c ≡ i = elim (cases_lt c i) [
@@ -46,7 +49,8 @@ module _ (bs : List ℕ) (b : ℕ) where
         at = λ m. absurd (omega (arith, e, m));
       }
 
-pub new_row : (n : ℕ) → n < 256 → IsRow n (replicate n 255) 0
+-- bytes that are all 255 are a row without any that count
+pub new_row : (n : ℕ) → n < 256 → IsPadded n (replicate n 255) 0
 new_row n l = record {
   narrow = l;
   fits = omega arith;
@@ -58,13 +62,15 @@ new_row n l = record {
 }
 
 -- what a row's place is among those that count
-module _ (n : ℕ) (bytes : List ℕ) (len : ℕ) (row : IsRow n bytes len) (size : length bytes ≡ n) where
+module _ (n : ℕ) (bytes : List ℕ) (len : ℕ) (row : IsPadded n bytes len) (size : length bytes ≡ n) where
   kept : length (take len bytes) ≡ len
   kept = length-take-le len bytes (omega (arith, row.fits, size))
 
+  -- as many of a row's bytes count as it says
   pub row_length : length (take len bytes) ≡ len
   row_length = kept
 
+  -- a row whose bytes that count rise is ordered, with the 255 behind them
   pub row_ordered : IsRising (take len bytes) → IsOrdered bytes
   row_ordered r i j l m = elim (cases_lt j len) [
     | inl less ↦
@@ -76,20 +82,23 @@ module _ (n : ℕ) (bytes : List ℕ) (len : ℕ) (row : IsRow n bytes len) (siz
   ]
 
   module _ (b p : ℕ) (small : b < 256) (within : p ≤ n) (below : (i : ℕ) → i < p → get_or bytes i 0 < b) where
+    -- so many bytes at the front that are lower than another all count
     pub row_within : p ≤ length (take len bytes)
     row_within = elim (cases_lt len p) [
       | inl less ↦ absurd (omega (arith, below len less, row.padded len (omega arith) (omega (arith, less, within)), small))
       | inr more ↦ omega (arith, kept, more)
     ]
 
+    -- those before its place are lower among the bytes that count
     pub row_below : (i : ℕ) → i < p → get_or (take len bytes) i 0 < b
     row_below i l = rw (get_or-take len bytes i 0 (omega (arith, l, row_within, kept))) (below i l)
 
+    -- the one at its place, if it counts, isn't lower
     pub row_at : (p < n → b ≤ get_or bytes p 0) → p < length (take len bytes) → b ≤ get_or (take len bytes) p 0
     row_at at l = rw (get_or-take len bytes p 0 (omega (arith, l, kept))) (at (omega (arith, l, kept, row.fits)))
 
 -- bytes moved within a row
-module _ (n : ℕ) (xs ys : List ℕ) (len from to m : ℕ) (row : IsRow n xs len) (size : length xs ≡ n) (same : length ys ≡ length xs) (copied : CopiedTo xs ys from to m) (front : SameBelow xs ys to) (back : SameFrom xs ys (to + m)) where
+module _ (n : ℕ) (xs ys : List ℕ) (len from to m : ℕ) (row : IsPadded n xs len) (size : length xs ≡ n) (same : length ys ≡ length xs) (copied : CopiedTo xs ys from to m) (front : SameBelow xs ys to) (back : SameFrom xs ys (to + m)) where
   low_still : (i : ℕ) → get_or ys i 0 < 256
   low_still i = elim (cases_lt i to) [
     | inl less ↦ rw (front i 0 less) (row.low i)
@@ -108,9 +117,10 @@ module _ (n : ℕ) (xs ys : List ℕ) (len from to m : ℕ) (row : IsRow n xs le
     ]
   ]
 
-module _ (n : ℕ) (xs ys : List ℕ) (len p b : ℕ) (row : IsRow n xs len) (size : length xs ≡ n) (same : length ys ≡ length xs) (small : b < 256) where
+module _ (n : ℕ) (xs ys : List ℕ) (len p b : ℕ) (row : IsPadded n xs len) (size : length xs ≡ n) (same : length ys ≡ length xs) (small : b < 256) where
   module _ (within : p ≤ len) (room : len < n) (copied : CopiedTo xs ys p (p + 1) (len - p)) (front : SameBelow xs ys (p + 1)) (back : SameFrom xs ys (p + 1 + (len - p))) where
-    pub insert_row : IsRow n (set ys p b) (len + 1)
+    -- a row with a byte put in its place, the others moved up, is a row with one more
+    pub insert_row : IsPadded n (set ys p b) (len + 1)
     insert_row = record {
       narrow = row.narrow;
       fits = omega (arith, room);
@@ -118,6 +128,7 @@ module _ (n : ℕ) (xs ys : List ℕ) (len p b : ℕ) (row : IsRow n xs len) (si
       padded = λ i l m. get_or-set_other ys p i b 0 (λ q. omega (arith, l, within, q)) ∙ (back i 0 (omega (arith, l, within)) ∙ row.padded i (omega (arith, l)) m);
     }
 
+    -- the bytes that count then are those before, with the byte at its place
     pub insert_list : take (len + 1) (set ys p b) ≡ insert (take len xs) p b
     insert_list =
         let kept : length (take len xs) ≡ len = length-take-le len xs (omega (arith, row.fits, size)) in
@@ -141,7 +152,8 @@ module _ (n : ℕ) (xs ys : List ℕ) (len p b : ℕ) (row : IsRow n xs len) (si
         ])
 
   module _ (within : p < len) (copied : CopiedTo xs ys (p + 1) p (len - (p + 1))) (front : SameBelow xs ys p) (back : SameFrom xs ys (p + (len - (p + 1)))) where
-    pub remove_row : b ≡ 255 → IsRow n (set ys (len - 1) b) (len - 1)
+    -- a row with a byte moved over, and 255 at the end, is a row with one less
+    pub remove_row : b ≡ 255 → IsPadded n (set ys (len - 1) b) (len - 1)
     remove_row full = record {
       narrow = row.narrow;
       fits = omega (arith, row.fits);
@@ -152,6 +164,7 @@ module _ (n : ℕ) (xs ys : List ℕ) (len p b : ℕ) (row : IsRow n xs len) (si
       ];
     }
 
+    -- the bytes that count then are those before, without the one at its place
     pub remove_list : take (len - 1) (set ys (len - 1) b) ≡ remove (take len xs) p
     remove_list =
         let kept : length (take len xs) ≡ len = length-take-le len xs (omega (arith, row.fits, size)) in
@@ -167,7 +180,7 @@ module _ (n : ℕ) (xs ys : List ℕ) (len p b : ℕ) (row : IsRow n xs len) (si
         ])
 
 -- a property of each byte beside an entry
-pub all_at : {X : Type 0} (P : ℕ → Type 0) (ks : List ℕ) (ys : List X) → length ks ≡ length ys → AllKeys P (pairs ks ys) → (i : ℕ) → i < length ks → P (get_or ks i 0)
+all_at : {X : Type 0} (P : ℕ → Type 0) (ks : List ℕ) (ys : List X) → length ks ≡ length ys → AllKeys P (pairs ks ys) → (i : ℕ) → i < length ks → P (get_or ks i 0)
 all_at P [] ys e a i l = absurd (omega (arith, l))
 all_at P (k ∷ ks) [] e a i l = absurd (omega (arith, e))
 all_at P (k ∷ ks) (y ∷ ys) e a zero l = a.0

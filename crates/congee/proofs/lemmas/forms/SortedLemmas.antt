@@ -29,16 +29,16 @@ next_stands {b} {p} {k} {ks} s = record {
 
 module _ {X : Type 0} where
   -- smaller than every key of an ascending list: absent
-  pub find_above : (b k : ℕ) (r : List (ℕ × X)) → b ≤ k → AllKeys (λ j. k < j) r → find b r ≡ None
+  find_above : (b k : ℕ) (r : List (ℕ × X)) → b ≤ k → AllKeys (λ j. k < j) r → find b r ≡ None
   find_above b k [] h a = refl
   find_above b k ((j, x) ∷ r) h a = grind (arith, nat_tests, find_above b k r h a.1, a.0)
 
-  pub del_above : (b k : ℕ) (r : List (ℕ × X)) → b ≤ k → AllKeys (λ j. k < j) r → del b r ≡ r
+  del_above : (b k : ℕ) (r : List (ℕ × X)) → b ≤ k → AllKeys (λ j. k < j) r → del b r ≡ r
   del_above b k [] h a = refl
   del_above b k ((j, x) ∷ r) h a = grind (arith, nat_tests, del_above b k r h a.1, a.0)
 
   -- the key stands there
-  pub find_found : (b p : ℕ) (ks : List ℕ) (ys : List X) (d : X) → length ks ≡ length ys → IsPlaceOf b p ks → p < length ks → get_or ks p 0 ≡ b → find b (pairs ks ys) ≡ Some (get_or ys p d)
+  find_found : (b p : ℕ) (ks : List ℕ) (ys : List X) (d : X) → length ks ≡ length ys → IsPlaceOf b p ks → p < length ks → get_or ks p 0 ≡ b → find b (pairs ks ys) ≡ Some (get_or ys p d)
   find_found b p [] ys d l s h e = absurd (omega arith)
   find_found b p (k ∷ ks) [] d l s h e = absurd (omega arith)
   find_found b zero (k ∷ ks) (y ∷ ys) d l s h e = grind (arith, nat_tests)
@@ -48,7 +48,7 @@ module _ {X : Type 0} where
       grind (arith, nat_tests, less, rest)
 
   -- the key stands nowhere
-  pub find_absent : (b p : ℕ) (ks : List ℕ) (ys : List X) → length ks ≡ length ys → Rises (pairs ks ys) → IsPlaceOf b p ks → (p < length ks → b < get_or ks p 0) → find b (pairs ks ys) ≡ None
+  find_absent : (b p : ℕ) (ks : List ℕ) (ys : List X) → length ks ≡ length ys → Rises (pairs ks ys) → IsPlaceOf b p ks → (p < length ks → b < get_or ks p 0) → find b (pairs ks ys) ≡ None
   find_absent b p [] ys l r s h = refl
   find_absent b p (k ∷ ks) [] l r s h = refl
   find_absent b zero (k ∷ ks) (y ∷ ys) l r s h =
@@ -61,7 +61,7 @@ module _ {X : Type 0} where
       grind (arith, nat_tests, less, rest)
 
   -- a new key
-  pub insert_put : (b p : ℕ) (y : X) (ks : List ℕ) (ys : List X) → length ks ≡ length ys → IsPlaceOf b p ks → (p < length ks → b < get_or ks p 0) → pairs (insert ks p b) (insert ys p y) ≡ put b y (pairs ks ys)
+  insert_put : (b p : ℕ) (y : X) (ks : List ℕ) (ys : List X) → length ks ≡ length ys → IsPlaceOf b p ks → (p < length ks → b < get_or ks p 0) → pairs (insert ks p b) (insert ys p y) ≡ put b y (pairs ks ys)
   insert_put b zero y [] [] l s h = refl
   insert_put b (suc p) y [] ys l s h = absurd (omega (arith, s.within))
   insert_put b p y [] (z ∷ ys) l s h = absurd (omega arith)
@@ -75,7 +75,7 @@ module _ {X : Type 0} where
       grind (arith, nat_tests, less, rest)
 
   -- the key goes
-  pub remove_del : (b p : ℕ) (ks : List ℕ) (ys : List X) → length ks ≡ length ys → Rises (pairs ks ys) → IsPlaceOf b p ks → p < length ks → get_or ks p 0 ≡ b → pairs (remove ks p) (remove ys p) ≡ del b (pairs ks ys)
+  remove_del : (b p : ℕ) (ks : List ℕ) (ys : List X) → length ks ≡ length ys → Rises (pairs ks ys) → IsPlaceOf b p ks → p < length ks → get_or ks p 0 ≡ b → pairs (remove ks p) (remove ys p) ≡ del b (pairs ks ys)
   remove_del b p [] ys l r s h e = absurd (omega arith)
   remove_del b p (k ∷ ks) [] l r s h e = absurd (omega arith)
   remove_del b zero (k ∷ ks) (y ∷ ys) l r s h e =
@@ -87,7 +87,7 @@ module _ {X : Type 0} where
       grind (arith, nat_tests, less, rest)
 
   -- another child for the key
-  pub set_put : (b p : ℕ) (y : X) (ks : List ℕ) (ys : List X) → length ks ≡ length ys → IsPlaceOf b p ks → p < length ks → get_or ks p 0 ≡ b → pairs ks (set ys p y) ≡ put b y (pairs ks ys)
+  set_put : (b p : ℕ) (y : X) (ks : List ℕ) (ys : List X) → length ks ≡ length ys → IsPlaceOf b p ks → p < length ks → get_or ks p 0 ≡ b → pairs ks (set ys p y) ≡ put b y (pairs ks ys)
   set_put b p y [] ys l s h e = absurd (omega arith)
   set_put b p y (k ∷ ks) [] l s h e = absurd (omega arith)
   set_put b zero y (k ∷ ks) (z ∷ ys) l s h e = grind (arith, nat_tests)
@@ -96,13 +96,13 @@ module _ {X : Type 0} where
       let rest = set_put b p y ks ys (omega arith) (next_stands s) (omega arith) e in
       grind (arith, nat_tests, less, rest)
 
-  pub length_pairs : (ks : List ℕ) (ys : List X) → length ks ≡ length ys → length (pairs ks ys) ≡ length ks
+  length_pairs : (ks : List ℕ) (ys : List X) → length ks ≡ length ys → length (pairs ks ys) ≡ length ks
   length_pairs [] ys l = refl
   length_pairs (k ∷ ks) [] l = sym l
   length_pairs (k ∷ ks) (y ∷ ys) l = omega (arith, length_pairs ks ys (omega arith))
 
   -- a key that is absent isn't at its place
-  pub less_there : (b p : ℕ) (ks : List ℕ) (ys : List X) → length ks ≡ length ys → IsPlaceOf b p ks → find b (pairs ks ys) ≡ None → p < length ks → b < get_or ks p 0
+  less_there : (b p : ℕ) (ks : List ℕ) (ys : List X) → length ks ≡ length ys → IsPlaceOf b p ks → find b (pairs ks ys) ≡ None → p < length ks → b < get_or ks p 0
   less_there b p [] ys l s f h = absurd (omega arith)
   less_there b p (k ∷ ks) [] l s f h = absurd (omega arith)
   less_there b zero (k ∷ ks) (y ∷ ys) l s f h =
@@ -132,15 +132,19 @@ module _ {X : Type 0} {ks : List ℕ} {ys : List X} (ok : IsSorted ks ys) where
   get_is : (b : ℕ) → map.get (sorted_map ks ys) b ≡ find b (pairs ks ys)
   get_is b = get_of (pairs ks ys) b ok.rises
 
+  -- a byte that stands at its place has the child beside it
   pub get_found : (b p : ℕ) (d : X) → IsPlaceOf b p ks → p < length ks → get_or ks p 0 ≡ b → map.get (sorted_map ks ys) b ≡ Some (get_or ys p d)
   get_found b p d s l e = get_is b ∙ find_found b p ks ys d ok.same s l e
 
+  -- a byte that is less than the one at its place has no child
   pub get_absent : (b p : ℕ) → IsPlaceOf b p ks → (p < length ks → b < get_or ks p 0) → map.get (sorted_map ks ys) b ≡ None
   get_absent b p s h = get_is b ∙ find_absent b p ks ys ok.same ok.rises s h
 
+  -- there are as many children as bytes
   pub len_is : map.len (sorted_map ks ys) ≡ length ks
   len_is = len_of (pairs ks ys) ok.rises ∙ length_pairs ks ys ok.same
 
+  -- what has a child is a byte
   pub is_byte : (b : ℕ) → IsSome (map.get (sorted_map ks ys) b) → b < 256
   is_byte b s = found_all (λ c. c < 256) b (pairs ks ys) ok.bytes (subst IsSome (get_is b) s)
 
@@ -148,6 +152,7 @@ module _ {X : Type 0} {ks : List ℕ} {ys : List X} (ok : IsSorted ks ys) where
   pub stands_there : (b p : ℕ) → IsPlaceOf b p ks → IsSome (map.get (sorted_map ks ys) b) → (p < length ks) × (get_or ks p 0 ≡ b)
   stands_there b p s h = there_of b p ks ys ok.same ok.rises s (subst IsSome (get_is b) h)
 
+  -- a new byte and its child at the byte's place are put in the map, in order
   pub insert_map : (b p : ℕ) (y : X) → b < 256 → IsPlaceOf b p ks → map.get (sorted_map ks ys) b ≡ None
       → IsSorted (insert ks p b) (insert ys p y) × (sorted_map (insert ks p b) (insert ys p y) ≡ map.insert (sorted_map ks ys) b y)
   insert_map b p y byte s none =
@@ -161,6 +166,7 @@ module _ {X : Type 0} {ks : List ℕ} {ys : List X} (ok : IsSorted ks ys) where
         rw e (put_of (pairs ks ys) b y ok.rises),
       )
 
+  -- a byte and its child, taken from their place, are taken out of the map, in order
   pub remove_map : (b p : ℕ) → IsPlaceOf b p ks → IsSome (map.get (sorted_map ks ys) b)
       → IsSorted (remove ks p) (remove ys p) × (sorted_map (remove ks p) (remove ys p) ≡ map.remove (sorted_map ks ys) b)
   remove_map b p s h =
@@ -174,6 +180,7 @@ module _ {X : Type 0} {ks : List ℕ} {ys : List X} (ok : IsSorted ks ys) where
         rw e (del_of (pairs ks ys) b ok.rises),
       )
 
+  -- another child at a byte's place is put in the map for the byte
   pub change_map : (b p : ℕ) (y : X) → b < 256 → IsPlaceOf b p ks → IsSome (map.get (sorted_map ks ys) b)
       → IsSorted ks (set ys p y) × (sorted_map ks (set ys p y) ≡ map.insert (sorted_map ks ys) b y)
   change_map b p y byte s h =
@@ -197,10 +204,12 @@ module _ {X : Type 0} {ks : List ℕ} {ys : List X} (ok : IsSorted ks ys) where
         before = λ q h g. get_absent q p (record { within = s.within; below = λ i m. omega (arith, s.below i m); at = λ m. omega arith }) (λ m. g);
       }
 
+  -- where a byte's place is past the last one, no byte from it on has a child
   pub none_from : (from p : ℕ) → IsPlaceOf from p ks → p ≡ length ks → (b : ℕ) → from ≤ b → map.get (sorted_map ks ys) b ≡ None
   none_from from p s e b h = get_absent b p (record { within = s.within; below = λ i m. omega (arith, s.below i m); at = λ m. absurd (omega arith) }) (λ m. absurd (omega arith))
 
 module _ {X : Type 0} where
+  -- no bytes hold the empty map
   pub no_pairs : (ks : List ℕ) (ys : List X) → ks ≡ [] → sorted_map ks ys ≡ map.empty
   no_pairs ks ys e = rw e (map.empty_of_len _ (len_of [] tt))
 

@@ -20,9 +20,9 @@ use Rattle.congee.proofs.lemmas.owned.SlotOps.{has_slot}
 use Rattle.congee.proofs.lemmas.owned.Moves.{node_at}
 use Rattle.congee.proofs.lemmas.owned.Slots.{with_becomes}
 
-module _ {P : Type 0} (s s' : Slab (Slot P)) (empty : s.slots ≡ []) (i : ℕ) (first : i ≡ 0) (n : Node ℕ (Lone P)) (u : Updates s s' i (Some (Inner n))) (bare : children_of n ≡ map.empty) where
+module _ {P K : Type 0} (s s' : Slab (Slot P K)) (empty : s.slots ≡ []) (i : ℕ) (first : i ≡ 0) (n : Node ℕ (Lone P)) (u : Updates s s' i (Some (Inner n))) (bare : children_of n ≡ map.empty) where
   -- as many places as there are then, and nothing in them
-  abbrev blank : Slab (Slot P)
+  abbrev blank : Slab (Slot P K)
   blank = record { slots = []; vacant_key = 0; capacity = s'.capacity }
 
   blank_stored : IsStored blank 0
@@ -34,9 +34,11 @@ module _ {P : Type 0} (s s' : Slab (Slot P)) (empty : s.slots ≡ []) (i : ℕ) 
       let w = subst (λ k. Updates s s' k (Some (Inner n))) first u in
       record { changed = w.changed; others = λ m ne. w.others m ne ∙ ap (λ l. get_or l m None) empty }
 
+  -- slots with a new inner node alone are sound, and no leaf lies in its parent's place
   pub alone_stored : length (prefix_of n) < 7 → i < s'.capacity → IsStored s' 0
   alone_stored short low = comes_stored blank s' (nodes_in blank) refl 0 blank_stored 0 n refl comes bare short refl (omega (arith, low))
 
+  -- a new inner node alone in the slots is the root, which stands alone
   pub alone : IsAlone (nodes_in s') (with_children (inner_child 0) n)
   unfolding nodes_in
   alone = record {
@@ -46,24 +48,25 @@ module _ {P : Type 0} (s s' : Slab (Slot P)) (empty : s.slots ≡ []) (i : ℕ) 
   }
 
 -- an inner node whose children went
-record ClearedTo {P : Type 0} (n : Node ℕ (Lone P)) (x' : Slot P) : Type 0 where
+record ClearedTo {P K : Type 0} (n : Node ℕ (Lone P)) (x' : Slot P K) : Type 0 where
   pub node : Node ℕ (Lone P)
   pub is : x' ≡ Inner node
   pub becomes : Becomes n node map.empty
 
-cleared_to : {P : Type 0} (x x' : Slot P) (n : Node ℕ (Lone P)) → x ≡ Inner n → Cleared x x' → ClearedTo n x'
-cleared_to x x' n e k = of x' (subst (λ z. Cleared z x') e k)
+cleared_to : {P K : Type 0} (x x' : Slot P K) (n : Node ℕ (Lone P)) → x ≡ Inner n → Cleared x x' → ClearedTo n x'
+cleared_to {P} {K} x x' n e k = of x' (subst (λ z. Cleared z x') e k)
   where
-    of : (z : Slot _) → Cleared (Inner n) z → ClearedTo n z
+    of : (z : Slot P K) → Cleared (Inner n) z → ClearedTo n z
     of (Inner m) k = record { node = m; is = refl; becomes = k }
     of (Leaf m) k = absurd k
 
 -- the root comes back without its children, and all else went
-module _ {P : Type 0} (s : Slab (Slot P)) (v : Nodes P) (is : nodes_in s ≡ v) (inline : ℕ) (st : IsStored s inline) (stands : ContainsKey v 0) (inner : (y : Node ℕ P) → get v 0 ≡ Some y → length (prefix_of y) < 7) where
+module _ {P K : Type 0} (s : Slab (Slot P K)) (v : Nodes P) (is : nodes_in s ≡ v) (inline : ℕ) (st : IsStored s inline) (stands : ContainsKey v 0) (inner : (y : Node ℕ P) → get v 0 ≡ Some y → length (prefix_of y) < 7) where
+  -- the root's slot isn't vacant
   pub root_slot : ContainsKey s 0
   root_slot = has_slot s v is inline st 0 0 None refl tt stands inner
 
-  module _ (x x' : Slot P) (e : get s 0 ≡ Some x) (gone : Cleared x x') (s0 s' : Slab (Slot P)) (empty : s0.slots ≡ []) (i : ℕ) (first : i ≡ 0) (u : Updates s0 s' i (Some x')) where
+  module _ (x x' : Slot P K) (e : get s 0 ≡ Some x) (gone : Cleared x x') (s0 s' : Slab (Slot P K)) (empty : s0.slots ≡ []) (i : ℕ) (first : i ≡ 0) (u : Updates s0 s' i (Some x')) where
     at_root : (y : Node ℕ P) → get v 0 ≡ Some y → AtInner s v 0 0 y
     at_root y h = at_inner s v is 0 0 None refl tt st.kinds y h (inner y h)
 
@@ -73,6 +76,7 @@ module _ {P : Type 0} (s : Slab (Slot P)) (v : Nodes P) (is : nodes_in s ≡ v) 
     comes_back : (y : Node ℕ P) (k : AtInner s v 0 0 y) → Updates s0 s' i (Some (Inner (after y k).node))
     comes_back y k = subst (λ z. Updates s0 s' i (Some z)) (after y k).is u
 
+    -- slots to which the root alone came back are sound, and no leaf lies in its parent's place
     pub root_left_stored : i < s'.capacity → IsStored s' 0
     root_left_stored low =
         let y = node_at v 0 stands in
@@ -82,6 +86,7 @@ module _ {P : Type 0} (s : Slab (Slot P)) (v : Nodes P) (is : nodes_in s ≡ v) 
         let p : length (prefix_of a.node) ≡ length (prefix_of k.node) = ap length a.becomes.prefix in
         alone_stored s0 s' empty i first a.node (comes_back y.0 k) a.becomes.children (omega (arith, p, short)) low
 
+    -- and the tree sees that all but the root went, and its children
     pub root_left_done : (y : Node ℕ P) → get v 0 ≡ Some y → LeavesRoot v (nodes_in s') y
     root_left_done y h =
         let k = at_root y h in

@@ -18,35 +18,41 @@ use Rattle.congee.specs.declared.owned.place.Spot.TheVariants.{Held, Free, Apart
 use Rattle.congee.specs.declared.owned.place.Spot.{Spot}
 use Rattle.congee.proofs.lemmas.owned.Moves.{held_seven}
 use Rattle.congee.proofs.lemmas.Keys.{standing_changed}
-use Rattle.congee.proofs.lemmas.Tree.{finds, misses}
+use Rattle.congee.proofs.lemmas.Tree.{value_at_linked, value_at_unfit}
 use Rattle.congee.proofs.lemmas.owned.Ways.{linked_of}
 
 module _ {P : Type 0} where
   -- what a key's way tells of its value
   pub at_held : (s : Nodes P) (key : List ℕ) (n : ℕ) (v : P) → IsTree s → OnWay s key n → child_for (heap_of s n) key ≡ Holds v → value_at (heap_of s) key ≡ Some v
-  at_held s key n v t w e = finds _ (heap_of s) t.tree n key (Holds v) (linked_of s t.parent n w.stands) w.fitted e
+  at_held s key n v t w e = value_at_linked _ (heap_of s) t.tree n key (Holds v) (linked_of s t.parent n w.stands) w.fitted e
 
+  -- a key whose way ends where nothing hangs has no value
   pub at_free : (s : Nodes P) (key : List ℕ) (n : ℕ) → IsTree s → OnWay s key n → child_for (heap_of s n) key ≡ Nothing → value_at (heap_of s) key ≡ None
-  at_free s key n t w e = finds _ (heap_of s) t.tree n key Nothing (linked_of s t.parent n w.stands) w.fitted e
+  at_free s key n t w e = value_at_linked _ (heap_of s) t.tree n key Nothing (linked_of s t.parent n w.stands) w.fitted e
 
+  -- a key whose way comes to a node with another prefix has no value
   pub at_apart : (s : Nodes P) (key : List ℕ) (n c : ℕ) → IsTree s → OnWay s key n → child_for (heap_of s n) key ≡ Below c → fits (heap_of s c).prefix key ≡ false → value_at (heap_of s) key ≡ None
-  at_apart s key n c t w e f = misses _ (heap_of s) t.tree n c key (linked_of s t.parent n w.stands) w.fitted e f
+  at_apart s key n c t w e f = value_at_unfit _ (heap_of s) t.tree n c key (linked_of s t.parent n w.stands) w.fitted e f
 
+  -- a key whose place is free has no value
   pub located_free : (s : Nodes P) (key : List ℕ) (p : Place) → IsTree s → Located s key p → p.spot ≡ Free → value_at (heap_of s) key ≡ None
   located_free s key p t l e = at_free s key p.at t l.reached.way (let E : Spot → Type 0 = λ x. EndsAt s key p.at x in subst E e l.ends)
 
+  -- a key whose place is beside a node with another prefix has no value
   pub located_apart : (s : Nodes P) (key : List ℕ) (p : Place) (c : ℕ) → IsTree s → Located s key p → p.spot ≡ Apart c → value_at (heap_of s) key ≡ None
   located_apart s key p c t l e =
       let E : Spot → Type 0 = λ x. EndsAt s key p.at x in
       let d : EndsAt s key p.at (Apart c) = subst E e l.ends in
       at_apart s key p.at c t l.reached.way d.0 d.1
 
+  -- the node at a key's place that is held has a value for it
   pub located_held : (s : Nodes P) (key : List ℕ) (p : Place) → IsTree s → Located s key p → p.spot ≡ Held → IsHeld s key p.at
   located_held s key p t l e =
       let E : Spot → Type 0 = λ x. EndsAt s key p.at x in
       let d : EndsAt s key p.at Held = subst E e l.ends in
       record { value = d.0; holds = d.1 }
 
+  -- the node at a key's place that is held hangs in the node above it
   pub located_hangs : (s : Nodes P) (key : List ℕ) (p : Place) → IsTree s → Located s key p → p.spot ≡ Held → Hangs s key p.above p.at
   located_hangs s key p t l e =
       let h = located_held s key p t l e in
@@ -54,9 +60,11 @@ module _ {P : Type 0} where
       let zero : length (heap_of s 0).prefix ≡ 0 = ap length t.tree.empty in
       l.reached.hangs (λ q. let z : length (heap_of s p.at).prefix ≡ length (heap_of s 0).prefix = ap (λ y. length (heap_of s y).prefix) q in absurd (omega (arith, seven, zero, z)))
 
+  -- a key without a value, in nodes that stay, changes from no value to none
   pub none_change : (s : Nodes P) (key : List ℕ) → value_at (heap_of s) key ≡ None → MapChange s s key None None
   none_change s key e = record { was = e; now = e; others = λ k l ne. refl }
 
+  -- nodes that are the same hold the same pairs
   pub same_stand : (s s' : Nodes P) → SameNodes s s' → (m : Pairs P) → HoldsPairs s m → HoldsPairs s' m
   same_stand s s' e m st =
       let h : heap_of s ≡ heap_of s' = λ i n. ap node_of (sym (e n)) i in
@@ -71,46 +79,46 @@ module _ {P : Type 0} where
     unchanged : (o : Option P) → value_at (heap_of s) (key_bytes k) ≡ o → (m : Pairs P) → HoldsPairs s m → HoldsPairs s (set_at m k o)
     unchanged o e m st = rw (set_at-standing m k o (st.at k small ∙ e)) st
 
-    pub answered_get : (o : Option P) → value_at (heap_of s) (key_bytes k) ≡ o → Answered same s s (call.Get k) (reply.Get o)
-    answered_get o e = record {
-      replies = λ m st. ap reply.Get (st.at k small ∙ e);
-      leaves = λ m st. rw (st.at k small ∙ e) (unchanged o e m st);
-    }
-
+    -- a key's new value, whatever was there, is the map's insertion
     pub answered_insert : (before : Option P) (v : P) → MapChange s s' (key_bytes k) before (Some v) → Answered same s s' (call.Insert k v) (reply.Insert before)
     answered_insert before v c = record { replies = λ m st. ap reply.Insert (st.at k small ∙ c.was); leaves = changed before (Some v) c }
 
+    -- a key's value that goes is the map's removal
     pub answered_remove : (before : Option P) → MapChange s s' (key_bytes k) before None → Answered same s s' (call.Remove k) (reply.Remove before)
     answered_remove before c = record { replies = λ m st. ap reply.Remove (st.at k small ∙ c.was); leaves = changed before None c }
 
+    -- another value or none in the place of a key's is the map's compute if present
     pub answered_present : (old : P) (new : Option P) → MapChange s s' (key_bytes k) (Some old) new → Answered same s s' (call.ComputePresent k new) (reply.ComputePresent (Some (old, new)))
     answered_present old new c = record {
       replies = λ m st. rw (st.at k small ∙ c.was) refl;
       leaves = λ m st. rw (st.at k small ∙ c.was) (changed (Some old) new c m st);
     }
 
+    -- a compute if present of an absent key changes nothing
     pub answered_absent : (new : Option P) → value_at (heap_of s) (key_bytes k) ≡ None → Answered same s s (call.ComputePresent k new) (reply.ComputePresent None)
     answered_absent new e = record {
       replies = λ m st. rw (st.at k small ∙ e) refl;
       leaves = λ m st. rw (st.at k small ∙ e) (unchanged None e m st);
     }
 
+    -- a key's new value is the map's compute or insert
     pub answered_compute : (before : Option P) (v : P) → MapChange s s' (key_bytes k) before (Some v) → Answered same s s' (call.ComputeInsert k v) (reply.ComputeInsert before)
     answered_compute before v c = record { replies = λ m st. ap reply.ComputeInsert (st.at k small ∙ c.was); leaves = changed before (Some v) c }
 
+    -- another value or none in the place of the expected one is the map's exchange
     pub exchanged : (old found : P) (new : Option P) → same found old ≡ true → MapChange s s' (key_bytes k) (Some found) new → Answered same s s' (call.Exchange k old new) (reply.Exchange (Ok new))
     exchanged old found new e c = record {
       replies = λ m st. rw (st.at k small ∙ c.was, e) refl;
       leaves = λ m st. rw (st.at k small ∙ c.was, e) (changed (Some found) new c m st);
     }
 
-    pub exchange_other : (old found : P) (new : Option P) → same found old ≡ false → value_at (heap_of s) (key_bytes k) ≡ Some found → Answered same s s (call.Exchange k old new) (reply.Exchange (Err (Some found)))
+    exchange_other : (old found : P) (new : Option P) → same found old ≡ false → value_at (heap_of s) (key_bytes k) ≡ Some found → Answered same s s (call.Exchange k old new) (reply.Exchange (Err (Some found)))
     exchange_other old found new e v = record {
       replies = λ m st. rw (st.at k small ∙ v, e) refl;
       leaves = λ m st. rw (st.at k small ∙ v, e) (unchanged (Some found) v m st);
     }
 
-    pub exchange_absent : (old : P) (new : Option P) → value_at (heap_of s) (key_bytes k) ≡ None → Answered same s s (call.Exchange k old new) (reply.Exchange (Err None))
+    exchange_absent : (old : P) (new : Option P) → value_at (heap_of s) (key_bytes k) ≡ None → Answered same s s (call.Exchange k old new) (reply.Exchange (Err None))
     exchange_absent old new v = record {
       replies = λ m st. rw (st.at k small ∙ v) refl;
       leaves = λ m st. rw (st.at k small ∙ v) (unchanged None v m st);

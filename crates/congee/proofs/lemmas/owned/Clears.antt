@@ -50,6 +50,7 @@ module _ {P : Type 0} where
   alone_filled : (s : Nodes P) (root : Form ℕ P) → IsAlone s root → NodesFilled s
   alone_filled s root a n x ne e = absurd (let z : None ≡ Some x = sym (a.none n) ∙ (sym (a.puts.others n ne) ∙ e) in cc)
 
+  -- a root that stands alone, without children, is a tree with no pairs, of its own size
   pub root_left : (s : Nodes P) (root : Form ℕ P) → IsAlone s root → prefix_of root ≡ [] → children_of root ≡ map.empty → form_of root ≡ N256 → RootLeft s
   root_left s root a prefix children form =
       let tree : IsTree s = root_tree a.before s root a.none a.puts prefix children form in

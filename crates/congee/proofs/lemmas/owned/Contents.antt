@@ -1,5 +1,5 @@
 -- What contracts see of a writing call on an arena.
-use Rattle.std.proofs.Common.{◌≡◌, ◌≢◌, ℕ, ◌<◌, ◌^◌, ◌+◌, ◌-◌, List, refl, sym, ap, subst, ◌∙◌, arith}
+use Rattle.std.proofs.Common.{◌≡◌, ◌≢◌, ℕ, ◌<◌, ◌^◌, ◌+◌, ◌-◌, List, refl, sym, ap, subst, ◌∙◌}
 use Rattle.std.specs.Prelude.{Option, None, Some, Ok, Err, Bool, nat_eq}
 use Rattle.std.specs.FinMap as map
 use Rattle.judge.specs.Answer.{answer}
@@ -11,7 +11,7 @@ use Rattle.congee.specs.Heap.{value_at}
 use Rattle.congee.specs.Keys.{key_bytes}
 use Rattle.congee.specs.owned.Arena.{IsTree, heap_of}
 use Rattle.congee.specs.owned.Changes.{MapChange}
-use Rattle.congee.specs.owned.Charge.{Balances, Covers, KeepsLimit}
+use Rattle.congee.specs.owned.Charge.{Balances, KeepsLimit}
 use Rattle.congee.specs.owned.Content.{Content, KeepsCharge, Unchanged, Inserts, Modifies, ChangesNothing, Refuses}
 use Rattle.congee.specs.owned.Edits.{Adds, Denies, Frees}
 use Rattle.congee.specs.owned.Full.{NoneSkipped, lacking_of}
@@ -33,21 +33,17 @@ use Rattle.congee.proofs.lemmas.owned.Goings.{get_goes, same_goes}
 use Rattle.congee.proofs.lemmas.owned.Wanting.{get_wants, same_wants}
 use Rattle.congee.proofs.lemmas.owned.Ways.{same_tree}
 
--- where the charge moves as the nodes' sizes do, what was charged before them stays
-pub base_kept : {P A : Type 0} (charged : A → ℕ) (old new : Arena P A) → Covers charged old → Balances charged old new
-    → charged new.allocator - bytes_of new.nodes ≡ charged old.allocator - bytes_of old.nodes
-base_kept charged old new c b = omega (arith, c, b)
-
-module _ {P A : Type 0} (charged limit : A → ℕ) (old new : Arena P A) where
+module _ {P A K : Type 0} (charged limit : A → ℕ) (old new : Arena P A K) where
   -- a refused insertion leaves a tree, and what its charge covers
   pub denied_tree : (key : List ℕ) (v : P) (wants : Option (List ℕ)) (refusal : OOMError × P) → IsTree old.nodes → Denies charged limit old new key v wants refusal → IsTree new.nodes
   denied_tree key v wants refusal t d = same_tree old.nodes new.nodes d.same t
 
+  -- a refused insertion leaves the sizes of the nodes
   pub denied_bytes : (key : List ℕ) (v : P) (wants : Option (List ℕ)) (refusal : OOMError × P) → Denies charged limit old new key v wants refusal → bytes_of new.nodes ≡ bytes_of old.nodes
   denied_bytes key v wants refusal d = bytes_same old.nodes new.nodes d.same
 
 -- a key by its number, and the bytes that a call on the arena takes
-module _ {P A : Type 0} (same : P → P → Bool) (charged limit : A → ℕ) (old new : Arena P A) (k : ℕ) (small : k < 2 ^ 64) (key : List ℕ) (is : key ≡ key_bytes k) where
+module _ {P A K : Type 0} (same : P → P → Bool) (charged limit : A → ℕ) (old new : Arena P A K) (k : ℕ) (small : k < 2 ^ 64) (key : List ℕ) (is : key ≡ key_bytes k) where
   -- the call on the pairs
   abbrev Told : Call P → Reply P → Type 0
   Told call reply = answer same (pairs_of old.nodes) call ≡ (reply, pairs_of new.nodes)
@@ -58,12 +54,14 @@ module _ {P A : Type 0} (same : P → P → Bool) (charged limit : A → ℕ) (o
   at_key : (before after : Option P) → MapChange old.nodes new.nodes key before after → MapChange old.nodes new.nodes (key_bytes k) before after
   at_key before after c = subst (λ y. MapChange old.nodes new.nodes y before after) is c
 
+  -- an insertion on the arena is the one on its pairs
   pub insert_told : (before : Option P) (v : P) (wants : Option (List ℕ)) → Adds charged limit old new key before v wants → Told (call.Insert k v) (reply.Insert before)
   insert_told before v wants a = told (call.Insert k v) (reply.Insert before) (answered_insert same old.nodes new.nodes k small before v (at_key before (Some v) a.edits.change))
 
-  pub compute_told : (before : Option P) (v : P) (wants : Option (List ℕ)) → Adds charged limit old new key before v wants → Told (call.ComputeInsert k v) (reply.ComputeInsert before)
+  compute_told : (before : Option P) (v : P) (wants : Option (List ℕ)) → Adds charged limit old new key before v wants → Told (call.ComputeInsert k v) (reply.ComputeInsert before)
   compute_told before v wants a = told (call.ComputeInsert k v) (reply.ComputeInsert before) (answered_compute same old.nodes new.nodes k small before v (at_key before (Some v) a.edits.change))
 
+  -- a removal on the arena is the one on its pairs
   pub remove_told : (before : Option P) (going : Option Going) → Frees charged limit old new key before None going → Told (call.Remove k) (reply.Remove before)
   remove_told before going f = told (call.Remove k) (reply.Remove before) (answered_remove same old.nodes new.nodes k small before (at_key before None f.edits.change))
 
@@ -72,6 +70,7 @@ module _ {P A : Type 0} (same : P → P → Bool) (charged limit : A → ℕ) (o
       → MapChange old.nodes new.nodes (key_bytes k) (Some v) after
   present_at r v after going found f = at_key (Some v) after (present_change old.nodes new.nodes key r v after f.edits.change found)
 
+  -- a compute of a present key on the arena is the one on its pairs
   pub present_told : (r : Option P) (v : P) (after : Option P) (going : Option Going) → Some v ≡ value_at (heap_of old.nodes) key → Frees charged limit old new key r (settled r after) going
       → Told (call.ComputePresent k after) (reply.ComputePresent (Some (v, after)))
   present_told r v after going found f =
@@ -82,9 +81,9 @@ module _ {P A : Type 0} (same : P → P → Bool) (charged limit : A → ℕ) (o
   grown before v a = a.bytes ∙ ap (λ z. bytes_of old.nodes + gain_of z) (ap (wants_at (heap_of old.nodes)) is ∙ sym (get_wants old.nodes k small))
 
   -- and those that go
-  pub went : {Y : Type 0} (by : Option Y) (before after : Option P) → Frees charged limit old new key before after (going_by by (goes_at (heap_of old.nodes) key))
+  pub frees_going : {Y : Type 0} (by : Option Y) (before after : Option P) → Frees charged limit old new key before after (going_by by (goes_at (heap_of old.nodes) key))
       → Went (charged old.allocator) (limit old.allocator) (bytes_of old.nodes) (bytes_of new.nodes) (going_by by (map.get (goes_of old.nodes) k))
-  went by before after f =
+  frees_going by before after f =
       subst (λ z. Went (charged old.allocator) (limit old.allocator) (bytes_of old.nodes) (bytes_of new.nodes) (going_by by z)) (ap (goes_at (heap_of old.nodes)) is ∙ sym (get_goes old.nodes k small)) f.bytes
 
   -- and what is left then, if no lesser node was skipped
@@ -95,26 +94,26 @@ module _ {P A : Type 0} (same : P → P → Bool) (charged limit : A → ℕ) (o
       still_none old.nodes new.nodes (λ h. f.filled h none) e
 
 -- what is found at a key stands in the pairs
-pub found_at : {P A : Type 0} (t : Arena P A) (k : ℕ) → k < 2 ^ 64 → (key : List ℕ) → key ≡ key_bytes k → (o : Option P) → o ≡ value_at (heap_of t.nodes) key → o ≡ map.get (pairs_of t.nodes) k
+pub found_at : {P A K : Type 0} (t : Arena P A K) (k : ℕ) → k < 2 ^ 64 → (key : List ℕ) → key ≡ key_bytes k → (o : Option P) → o ≡ value_at (heap_of t.nodes) key → o ≡ map.get (pairs_of t.nodes) k
 found_at t k small key is o e = get_pairs t.nodes k small o (e ∙ ap (value_at (heap_of t.nodes)) is)
 
 -- that an insertion fitted
-pub fitted_at : {P A : Type 0} (t : Arena P A) (k : ℕ) → k < 2 ^ 64 → (key : List ℕ) → key ≡ key_bytes k → (charged limit : ℕ) → InsertionFits (wants_at (heap_of t.nodes) key) charged limit
+pub fitted_at : {P A K : Type 0} (t : Arena P A K) (k : ℕ) → k < 2 ^ 64 → (key : List ℕ) → key ≡ key_bytes k → (charged limit : ℕ) → InsertionFits (wants_at (heap_of t.nodes) key) charged limit
     → InsertionFits (map.get (wants_of t.nodes) k) charged limit
 fitted_at t k small key is charged limit f =
     subst (λ z. InsertionFits z charged limit) (ap (wants_at (heap_of t.nodes)) is ∙ sym (get_wants t.nodes k small)) f
 
 -- why an insertion was refused
-pub refused_at : {P A : Type 0} (t : Arena P A) (k : ℕ) → k < 2 ^ 64 → (key : List ℕ) → key ≡ key_bytes k → (charged limit : ℕ) (e : OOMError) → IsRefused (wants_at (heap_of t.nodes) key) charged limit e
+pub refused_at : {P A K : Type 0} (t : Arena P A K) (k : ℕ) → k < 2 ^ 64 → (key : List ℕ) → key ≡ key_bytes k → (charged limit : ℕ) (e : OOMError) → IsRefused (wants_at (heap_of t.nodes) key) charged limit e
     → IsRefused (map.get (wants_of t.nodes) k) charged limit e
 refused_at t k small key is charged limit e r =
     subst (λ z. IsRefused z charged limit e) (ap (wants_at (heap_of t.nodes)) is ∙ sym (get_wants t.nodes k small)) r
 
 -- an arena with its drainer, as contracts see it
-abbrev pub content : {A D : Type 0} → (A → ℕ) → D → Arena ℕ A → Content ℕ A D
+abbrev pub content : {A D : Type 0} → (A → ℕ) → D → Arena ℕ A ℕ → Content ℕ A D
 content charged d t = record { pairs = pairs_of t.nodes; nodes = nodes_of t.nodes; bytes = bytes_of t.nodes; lacking = lacking_of t.nodes; base = charged t.allocator - bytes_of t.nodes; wants = wants_of t.nodes; goes = goes_of t.nodes; allocator = t.allocator; drainer = d }
 
-module _ {A D : Type 0} (charged limit : A → ℕ) (d : D) (old new : Arena ℕ A) where
+module _ {A D : Type 0} (charged limit : A → ℕ) (d : D) (old new : Arena ℕ A ℕ) where
   keeps : Balances charged old new → KeepsLimit limit old new → KeepsCharge charged limit (content charged d old) (content charged d new)
   keeps b l = record { balance = b; same_limit = l; drainer = refl }
 
@@ -129,6 +128,7 @@ module _ {A D : Type 0} (charged limit : A → ℕ) (d : D) (old new : Arena ℕ
   }
 
   module _ (k : ℕ) (small : k < 2 ^ 64) (key : List ℕ) (is : key ≡ key_bytes k) where
+    -- an insertion on the arena is one as contracts see it
     pub inserts : (before : Option ℕ) (v : ℕ) → Adds charged limit old new key before v (wants_at (heap_of old.nodes) key)
         → Inserts nat_eq charged limit (content charged d old) (content charged d new) k (call.Insert k v) (reply.Insert before)
     inserts before v a = record {
@@ -155,6 +155,7 @@ module _ {A D : Type 0} (charged limit : A → ℕ) (d : D) (old new : Arena ℕ
           },
         )
 
+    -- a refused insertion is one as contracts see it
     pub refuses : (v : ℕ) (refusal : OOMError × ℕ) → Denies charged limit old new key v (wants_at (heap_of old.nodes) key) refusal
         → Refuses charged limit (content charged d old) (content charged d new) k refusal.0
     refuses v refusal r = record {
@@ -164,37 +165,40 @@ module _ {A D : Type 0} (charged limit : A → ℕ) (d : D) (old new : Arena ℕ
       keeps = keeps r.balance r.same_limit;
     }
 
+    -- a removal on the arena is one as contracts see it
     pub removes : (before : Option ℕ) → Frees charged limit old new key before None (goes_at (heap_of old.nodes) key)
         → Modifies nat_eq charged limit (content charged d old) (content charged d new) (map.get (goes_of old.nodes) k) (call.Remove k) (reply.Remove before)
     removes before f = record {
       answers = remove_told nat_eq charged limit old new k small key is before _ f;
-      bytes = went nat_eq charged limit old new k small key is {Y = ℕ} None before None f;
+      bytes = frees_going nat_eq charged limit old new k small key is {Y = ℕ} None before None f;
       filled = filled_still nat_eq charged limit old new k small key is {Y = ℕ} None before None f;
       keeps = keeps f.edits.balance f.edits.same_limit;
     }
 
+    -- a compute of a present key on the arena is one as contracts see it
     pub settles : (r : Option ℕ) (v : ℕ) (after : Option ℕ) → Some v ≡ value_at (heap_of old.nodes) key
         → Frees charged limit old new key r (settled r after) (going_by after (goes_at (heap_of old.nodes) key))
         → Modifies nat_eq charged limit (content charged d old) (content charged d new) (going_by after (map.get (goes_of old.nodes) k)) (call.ComputePresent k after) (reply.ComputePresent (Some (v, after)))
     settles r v after found f = record {
       answers = present_told nat_eq charged limit old new k small key is r v after _ found f;
-      bytes = went nat_eq charged limit old new k small key is after r (settled r after) f;
+      bytes = frees_going nat_eq charged limit old new k small key is after r (settled r after) f;
       filled = filled_still nat_eq charged limit old new k small key is after r (settled r after) f;
       keeps = keeps f.edits.balance f.edits.same_limit;
     }
 
+    -- an exchange whose expected value is there is one as contracts see it
     pub exchanges : (r : Option ℕ) (v : ℕ) (after : Option ℕ) → Some v ≡ value_at (heap_of old.nodes) key
         → Frees charged limit old new key r (settled r after) (going_by after (goes_at (heap_of old.nodes) key))
         → Modifies nat_eq charged limit (content charged d old) (content charged d new) (going_by after (map.get (goes_of old.nodes) k)) (call.Exchange k v after) (reply.Exchange (Ok after))
     exchanges r v after found f = record {
       answers = answer_pairs nat_eq old.nodes new.nodes (call.Exchange k v after) (reply.Exchange (Ok after))
           (exchange_done old.nodes new.nodes k small v after (present_at nat_eq charged limit old new k small key is r v after _ found f));
-      bytes = went nat_eq charged limit old new k small key is after r (settled r after) f;
+      bytes = frees_going nat_eq charged limit old new k small key is after r (settled r after) f;
       filled = filled_still nat_eq charged limit old new k small key is after r (settled r after) f;
       keeps = keeps f.edits.balance f.edits.same_limit;
     }
 
-module _ {A D : Type 0} (charged limit : A → ℕ) (d : D) (t : Arena ℕ A) (k : ℕ) (small : k < 2 ^ 64) (key : List ℕ) (is : key ≡ key_bytes k) where
+module _ {A D : Type 0} (charged limit : A → ℕ) (d : D) (t : Arena ℕ A ℕ) (k : ℕ) (small : k < 2 ^ 64) (key : List ℕ) (is : key ≡ key_bytes k) where
   leaves : (call : Call ℕ) (reply : Reply ℕ) → Answered nat_eq t.nodes t.nodes call reply → ChangesNothing nat_eq charged limit (content charged d t) (content charged d t) call reply
   leaves call reply a = record {
     answers = answer_pairs nat_eq t.nodes t.nodes call reply a;
@@ -202,10 +206,12 @@ module _ {A D : Type 0} (charged limit : A → ℕ) (d : D) (t : Arena ℕ A) (k
     keeps = keeps charged limit d t t refl refl;
   }
 
+  -- a compute if present of an absent key changes nothing
   pub leaves_absent : None ≡ value_at (heap_of t.nodes) key → ChangesNothing nat_eq charged limit (content charged d t) (content charged d t) (call.ComputePresent k None) (reply.ComputePresent None)
   leaves_absent e = leaves (call.ComputePresent k None) (reply.ComputePresent None)
       (answered_absent nat_eq t.nodes t.nodes k small None (sym (e ∙ ap (value_at (heap_of t.nodes)) is)))
 
+  -- an exchange whose expected value isn't there changes nothing
   pub leaves_other : (v : ℕ) (after found : Option ℕ) → found ≢ Some v → found ≡ value_at (heap_of t.nodes) key
       → ChangesNothing nat_eq charged limit (content charged d t) (content charged d t) (call.Exchange k v after) (reply.Exchange (Err found))
   leaves_other v after found ne e = leaves (call.Exchange k v after) (reply.Exchange (Err found))

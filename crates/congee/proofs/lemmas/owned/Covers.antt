@@ -25,7 +25,7 @@ use Rattle.congee.proofs.lemmas.owned.FullSteps.{fork_filled}
 use Rattle.congee.proofs.lemmas.owned.Hangings.{Forked, child_there, fork_hung, forked_at, hung_absent, hung_inner, hung_room}
 use Rattle.congee.proofs.lemmas.owned.Moves.{apart_of, insert_at, node_at, one_node}
 use Rattle.congee.proofs.lemmas.owned.Renaming.{renamed, renamed_change}
-use Rattle.congee.proofs.lemmas.owned.SlotLens.{counted, len_two}
+use Rattle.congee.proofs.lemmas.owned.SlotLens.{count_if_some, len_two}
 use Rattle.congee.proofs.lemmas.owned.SlotValues.{insert_again}
 use Rattle.congee.proofs.lemmas.owned.Ways.{below_stands}
 use Rattle.std.proofs.lemmas.List.{get_or-take}
@@ -70,15 +70,19 @@ module _ {P : Type 0} (s0 s1 s2 : Nodes P) (key : List ℕ) (common over other b
     same_over : get s2 over ≡ get s3 over
     same_over = hangs.now ∙ sym over_now
 
+    -- the new node stands after the leaf in its way went
     pub cover_stands : ContainsKey s3 over
     cover_stands = rw over_now refl
 
+    -- the new node is no leaf
     pub cover_inner : length (take common key) < 7 → (x : Node ℕ P) → get s3 over ≡ Some x → length (prefix_of x) < 7
     cover_inner short x e = hung_inner s0 s1 s2 over _ _ key v made hangs short x (same_over ∙ e)
 
+    -- the new node has nothing at the byte of the leaf that went
     pub cover_absent : get_or key common 0 ≢ other → (x : Node ℕ P) → get s3 over ≡ Some x → map.get (children_of x) other ≡ None
     cover_absent ne x e = hung_absent s0 s1 s2 over _ _ key v made hangs other ne x (same_over ∙ e)
 
+    -- the new node isn't full
     pub cover_full : (x : Node ℕ P) → get s3 over ≡ Some x → is_full_of x ≡ false
     cover_full x e = hung_room s0 s1 s2 over _ _ key v made hangs x (same_over ∙ e)
 
@@ -86,15 +90,15 @@ module _ {P : Type 0} (s0 s1 s2 : Nodes P) (key : List ℕ) (common over other b
     pub cover_room : s2.capacity ≡ s1.capacity → s3.capacity ≡ s2.capacity → HasRoomFor s1 1 → HasRoomFor s3 1
     cover_room c2 c3 room =
         let one = len_two s1 s2 over hangs.leaf (apart_of s1 over hangs.leaf made.node made.updates.changed hangs.vacant) hangs.others in
-        let a : counted (get s1 over) ≡ 1 = ap counted made.updates.changed in
-        let b : counted (get s1 hangs.leaf) ≡ 0 = ap counted hangs.vacant in
-        let c : counted (get s2 over) ≡ 1 = ap counted hangs.now in
-        let d : counted (get s2 hangs.leaf) ≡ 1 = ap counted hangs.taken in
+        let a : count_if_some (get s1 over) ≡ 1 = ap count_if_some made.updates.changed in
+        let b : count_if_some (get s1 hangs.leaf) ≡ 0 = ap count_if_some hangs.vacant in
+        let c : count_if_some (get s2 over) ≡ 1 = ap count_if_some hangs.now in
+        let d : count_if_some (get s2 hangs.leaf) ≡ 1 = ap count_if_some hangs.taken in
         let two = len_two s2 s3 at cover.leaf (λ q. below_apart (sym (q ∙ is_below))) cover.others in
-        let i : counted (get s2 at) ≡ 1 = ap counted (cover_at ∙ upper.1) in
-        let j : counted (get s2 cover.leaf) ≡ 1 = ap counted cover.stood in
-        let k : counted (get s3 at) ≡ 1 = ap counted cover.now in
-        let l : counted (get s3 cover.leaf) ≡ 0 = ap counted cover.left in
+        let i : count_if_some (get s2 at) ≡ 1 = ap count_if_some (cover_at ∙ upper.1) in
+        let j : count_if_some (get s2 cover.leaf) ≡ 1 = ap count_if_some cover.stood in
+        let k : count_if_some (get s3 at) ≡ 1 = ap count_if_some cover.now in
+        let l : count_if_some (get s3 cover.leaf) ≡ 0 = ap count_if_some cover.left in
         omega (arith, one, a, b, c, d, two, i, j, k, l, c2, c3, room)
 
     -- the nodes if the leaf kept its name: first the new node over it, and then that one in its place
@@ -202,15 +206,19 @@ module _ {P : Type 0} (s0 s1 s2 : Nodes P) (key : List ℕ) (common over other b
         renaming : Renamed hanging s4
         renaming = renamed hanging s4 over other below put.leaf hung.0.0 renames
 
+        -- the nodes are a tree with the leaf under its new name
         pub cover_tree : IsTree s4
         cover_tree = renaming.tree
 
+        -- the key's value alone came into the map
         pub cover_change : MapChange s0 s4 key None (Some v)
         cover_change = renamed_change s0 hanging s4 key None (Some v) hung.0.1 renaming
 
+        -- the sizes grow by those of the new node and of one leaf
         pub cover_bytes : bytes_of s4 ≡ bytes_of s0 + 128
         cover_bytes = renaming.bytes ∙ hung.1
 
+        -- the nodes have enough children if they had
         pub cover_filled : NodesFilled s0 → NodesFilled s4
         cover_filled f =
             let same : get forking at ≡ get s0 at = forked_at s0 s1 s2 forking key common over other below v forked at w.stands in

@@ -5,7 +5,7 @@ use Rattle.slab.specs.Slab.{get, Updates}
 use Rattle.congee.specs.Heap.{child_for}
 use Rattle.congee.specs.Notes.{Linked, Gone, Note, Tree}
 use Rattle.congee.specs.forms.Forms.{prefix_of, form_of, capacity_of}
-use Rattle.congee.specs.owned.Arena.{Nodes, hung_in, node_of, heap_of, ledger_of, IsFilled, IsTree, OnWay}
+use Rattle.congee.specs.owned.Arena.{Nodes, hung_in, node_of, heap_of, notes_of, IsFilled, IsTree, OnWay}
 use Rattle.congee.specs.owned.Changes.{Differs, MapChange}
 use Rattle.congee.specs.declared.forms.base_node.Node.{Node as Form}
 use Rattle.congee.specs.declared.forms.child.Child.{Child}
@@ -16,6 +16,7 @@ use Rattle.congee.proofs.lemmas.owned.Filled.{filled_at}
 use Rattle.congee.proofs.lemmas.owned.Ways.{linked_of}
 
 module _ {P : Type 0} where
+  -- a value as a child of a node, if there is one
   abbrev pub child_of : Option P → Option (Child ℕ P)
   child_of None = None
   child_of (Some v) = Some (Value v)
@@ -24,10 +25,10 @@ module _ {P : Type 0} where
   hung_child None = refl
   hung_child (Some v) = refl
 
-  -- the ledgers of two slabs that have the same places taken
-  ledger_same : (s s' : Nodes P) (parent : ℕ → ℕ) → ((n : ℕ) → is_some (get s' n) ≡ is_some (get s n)) → ledger_of s parent ≡ ledger_of s' parent
-  ledger_same s s' parent e =
-      let p : (n : ℕ) → ledger_of s parent n ≡ ledger_of s' parent n = λ n. ap (λ b. record { status = cond b Linked Gone; owner = None; parent = parent n }) (sym (e n)) in
+  -- the notes of two slabs that have the same places taken
+  notes_same : (s s' : Nodes P) (parent : ℕ → ℕ) → ((n : ℕ) → is_some (get s' n) ≡ is_some (get s n)) → notes_of s parent ≡ notes_of s' parent
+  notes_same s s' parent e =
+      let p : (n : ℕ) → notes_of s parent n ≡ notes_of s' parent n = λ n. ap (λ b. record { status = cond b Linked Gone; owner = None; parent = parent n }) (sym (e n)) in
       λ i n. p n i
 
   taken_same : (s s' : Nodes P) (at : ℕ) (x y : Form ℕ P) → get s at ≡ Some x → Updates s s' at (Some y) → (n : ℕ) → is_some (get s' n) ≡ is_some (get s n)
@@ -59,7 +60,7 @@ module _ {P : Type 0} where
   put_done s s' key at x y old new len t w e seven before d filled u =
       let hx : heap_of s at ≡ node_of (Some x) = ap node_of e in
       let hy : heap_of s' at ≡ node_of (Some y) = ap node_of u.changed in
-      let a = ledger_of s t.parent in
+      let a = notes_of s t.parent in
       let k : Puts a (heap_of s) (heap_of s') at key old new = record {
         linked = linked_of s t.parent at w.stands;
         fitted = w.fitted;
@@ -72,6 +73,6 @@ module _ {P : Type 0} where
       } in
       let m = put_map a (heap_of s) (heap_of s') at key old new len t.tree k in
       let T : (ℕ → Note) → Type 0 = λ b. Tree b (heap_of s') in (
-        record { parent = t.parent; tree = subst T (ledger_same s s' t.parent (taken_same s s' at x y e u)) (put_tree a (heap_of s) (heap_of s') at key old new t.tree k); wide = wide_after s s' at x y t.wide e u.changed d.wide (λ ne. u.others 0 ne); filled = filled_after s s' at y t u filled },
+        record { parent = t.parent; tree = subst T (notes_same s s' t.parent (taken_same s s' at x y e u)) (put_tree a (heap_of s) (heap_of s') at key old new t.tree k); wide = wide_after s s' at x y t.wide e u.changed d.wide (λ ne. u.others 0 ne); filled = filled_after s s' at y t u filled },
         record { was = m.0; now = m.1; others = m.2 },
       )

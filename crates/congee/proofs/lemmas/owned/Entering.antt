@@ -1,8 +1,6 @@
 -- The entries of an inner node's places as its children.
-use Rattle.std.proofs.Common.{◌≡◌, ℕ, false, List, [], ◌∷◌, length, get_or, refl, sym, ap, subst, ◌∙◌, arith}
-use Rattle.std.specs.Prelude.{Option, None, Some, IsSome}
-use Rattle.std.specs.Option.{option_map}
-use Rattle.std.specs.Ordering.{nat_cmp}
+use Rattle.std.proofs.Common.{◌≡◌, ℕ, false, List, [], ◌∷◌, length, get_or, refl, sym, ap, ◌∙◌, arith}
+use Rattle.std.specs.Prelude.{None, Some, IsSome}
 use Rattle.std.specs.FinMap as map
 use Rattle.congee.specs.forms.Bytes.{IsFirst}
 use Rattle.congee.specs.forms.Forms.{Becomes, children_of, form_of, is_full_of, prefix_of}
@@ -17,7 +15,9 @@ use Rattle.congee.specs.declared.owned.entries.Tail.{Tail}
 use Rattle.congee.specs.declared.owned.lone.Lone.{Lone}
 use Rattle.congee.specs.declared.owned.places.Places.{Places}
 use Rattle.congee.specs.declared.owned.places.Places.TheVariants.{N4, N16, N48, N256}
-use Rattle.congee.proofs.lemmas.forms.MappedLemmas.{first_mapped, get_mapped, len_mapped, mapped_empty, mapped_insert, mapped_none, mapped_remove}
+use Rattle.congee.proofs.lemmas.forms.Full.{full_at}
+use Rattle.congee.proofs.lemmas.forms.LaidLemmas as laid
+use Rattle.congee.proofs.lemmas.forms.MappedLemmas.{mapped_empty}
 
 -- a list of seven is its seven bytes
 pub seven : (t : List ℕ) → length t ≡ 7 → get_or t 0 0 ∷ get_or t 1 0 ∷ get_or t 2 0 ∷ get_or t 3 0 ∷ get_or t 4 0 ∷ get_or t 5 0 ∷ get_or t 6 0 ∷ [] ≡ t
@@ -51,90 +51,71 @@ begins_by x b Blank = tt
 begins_by x b (Sub slot) = tt
 begins_by x b (Leaf tail value) = refl
 
-module _ {P : Type 0} (x : List ℕ) where
-  pub form_by : (p : Places P) → form_of (node_by x p) ≡ form_in p
-  form_by (N4 n) = refl
-  form_by (N16 n) = refl
-  form_by (N48 n) = refl
-  form_by (N256 n) = refl
-
-  pub prefix_by : (p : Places P) → prefix_of (node_by x p) ≡ x
-  prefix_by (N4 n) = refl
-  prefix_by (N16 n) = refl
-  prefix_by (N48 n) = refl
-  prefix_by (N256 n) = refl
-
-  pub children_by : (p : Places P) → children_of (node_by x p) ≡ mapped (child_by x) (entries_in p)
-  children_by (N4 n) = refl
-  children_by (N16 n) = refl
-  children_by (N48 n) = refl
-  children_by (N256 n) = refl
-
-  pub bare_by : (p : Places P) → entries_in p ≡ map.empty → children_of (node_by x p) ≡ map.empty
-  bare_by p e = children_by p ∙ (ap (mapped (child_by x)) e ∙ mapped_empty (child_by x))
-
-  pub full_by : (p : Places P) → is_full_of (node_by x p) ≡ full_in p
-  full_by (N4 n) = rw (len_mapped (child_by x) n) refl
-  full_by (N16 n) = rw (len_mapped (child_by x) n.value.children) refl
-  full_by (N48 n) = rw (len_mapped (child_by x) n.value.children) refl
-  full_by (N256 n) = refl
-
-  pub becomes_by : (p p' : Places P) (m : map.FinMap nat_cmp (Entry P)) → Refills p p' m → Becomes (node_by x p) (node_by x p') (mapped (child_by x) m)
-  becomes_by p p' m r = record {
-    form = form_by p' ∙ (r.form ∙ sym (form_by p));
-    prefix = prefix_by p' ∙ sym (prefix_by p);
-    children = children_by p' ∙ ap (mapped (child_by x)) r.entries;
-  }
+-- a form is full of its entries
+pub full_in_at : {P : Type 0} (p : Places P) → full_in p ≡ full_at (form_in p) (map.len (entries_in p))
+full_in_at (N4 n) = refl
+full_in_at (N16 n) = refl
+full_in_at (N48 n) = refl
+full_in_at (N256 n) = refl
 
 -- an inner node by its prefix and its places
 module _ {P : Type 0} (x : List ℕ) (p : Places P) (n : Node ℕ (Lone P)) (is : node_by x p ≡ n) where
+  pub form_at : form_of n ≡ form_in p
+  form_at = laid.form_at (child_by x) (form_in p) x (entries_in p) n is
+
+  -- the node's prefix is the one of the places
   pub prefix_at : prefix_of n ≡ x
-  prefix_at = ap prefix_of (sym is) ∙ prefix_by x p
+  prefix_at = laid.prefix_at (child_by x) (form_in p) x (entries_in p) n is
 
+  -- the node's children are what the entries keep
   pub children_at : mapped (child_by x) (entries_in p) ≡ children_of n
-  children_at = sym (children_by x p) ∙ ap children_of is
+  children_at = laid.children_at (child_by x) (form_in p) x (entries_in p) n is
 
-  get_at : (b : ℕ) → map.get (children_of n) b ≡ option_map (child_by x b) (map.get (entries_in p) b)
-  get_at b = ap (λ m. map.get m b) (sym children_at) ∙ get_mapped (child_by x) (entries_in p) b
+  pub len_at : map.len (entries_in p) ≡ map.len (children_of n)
+  len_at = laid.len_at (child_by x) (form_in p) x (entries_in p) n is
 
+  -- a node by its prefix and its places is full exactly where the places are
+  pub full_by : full_in p ≡ is_full_of n
+  full_by = full_in_at p ∙ sym (laid.full_is (child_by x) (form_in p) x (entries_in p) n is)
+
+  -- places without entries are a node without children
+  pub bare_by : entries_in p ≡ map.empty → children_of n ≡ map.empty
+  bare_by e = sym children_at ∙ (ap (mapped (child_by x)) e ∙ mapped_empty (child_by x))
+
+  -- where there is no entry there is no child
   pub none_at : (b : ℕ) → map.get (entries_in p) b ≡ None → map.get (children_of n) b ≡ None
-  none_at b e = get_at b ∙ ap (option_map (child_by x b)) e
+  none_at = laid.none_at (child_by x) (form_in p) x (entries_in p) n is
 
+  -- an entry is the child that it keeps
   pub some_at : (b : ℕ) (e : Entry P) → map.get (entries_in p) b ≡ Some e → map.get (children_of n) b ≡ Some (child_by x b e)
-  some_at b e h = get_at b ∙ ap (option_map (child_by x b)) h
+  some_at = laid.some_at (child_by x) (form_in p) x (entries_in p) n is
 
+  -- where there is no child there is no entry
   pub absent_at : (b : ℕ) → map.get (children_of n) b ≡ None → map.get (entries_in p) b ≡ None
-  absent_at b e = mapped_none (child_by x) (entries_in p) b (ap (λ m. map.get m b) children_at ∙ e)
+  absent_at = laid.absent_at (child_by x) (form_in p) x (entries_in p) n is
 
+  -- where there is a child there is an entry
   pub present_at : (b : ℕ) → IsSome (map.get (children_of n) b) → IsSome (map.get (entries_in p) b)
-  present_at b h = of (map.get (entries_in p) b) (subst IsSome (get_at b) h)
-    where
-      of : (o : Option (Entry P)) → IsSome (option_map (child_by x b) o) → IsSome o
-      of None h = h
-      of (Some e) h = refl
+  present_at = laid.present_at (child_by x) (form_in p) x (entries_in p) n is
 
-  pub room_at : is_full_of n ≡ false → full_in p ≡ false
-  room_at e = sym (full_by x p) ∙ (ap is_full_of is ∙ e)
-
+  -- the first entry from a byte on is the first child
   pub first_at : (from b : ℕ) (e : Entry P) → IsFirst (entries_in p) from b e → IsFirst (children_of n) from b (child_by x b e)
-  first_at from b e f = subst (λ m. IsFirst m from b (child_by x b e)) children_at (first_mapped (child_by x) (entries_in p) from b e f)
+  first_at = laid.first_at (child_by x) (form_in p) x (entries_in p) n is
+
+  -- where the node isn't full the places aren't
+  pub room_at : is_full_of n ≡ false → full_in p ≡ false
+  room_at e = full_by ∙ e
 
   -- what the places became
   module _ (p' : Places P) (n' : Node ℕ (Lone P)) (is' : node_by x p' ≡ n') where
+    -- an entry that came in is the node with its child
     pub inserted : (b : ℕ) (e : Entry P) (c : Child ℕ (Lone P)) → child_by x b e ≡ c → Refills p p' (map.insert (entries_in p) b e) → Becomes n n' (map.insert (children_of n) b c)
-    inserted b e c k r =
-        let w = becomes_by x p p' (map.insert (entries_in p) b e) r in
-        let m : mapped (child_by x) (map.insert (entries_in p) b e) ≡ map.insert (children_of n) b c =
-        mapped_insert (child_by x) (entries_in p) b e ∙ (ap (λ m. map.insert m b (child_by x b e)) children_at ∙ ap (map.insert (children_of n) b) k) in
-        record { form = ap form_of (sym is') ∙ (w.form ∙ ap form_of is); prefix = ap prefix_of (sym is') ∙ (w.prefix ∙ ap prefix_of is); children = ap children_of (sym is') ∙ (w.children ∙ m) }
+    inserted b e c k r = laid.inserted (child_by x) (form_in p) x (entries_in p) n is (form_in p') (entries_in p') n' is' r.form b e c k r.entries
 
+    -- an entry that went is the node without its child
     pub removed : (b : ℕ) → Refills p p' (map.remove (entries_in p) b) → Becomes n n' (map.remove (children_of n) b)
-    removed b r =
-        let w = becomes_by x p p' (map.remove (entries_in p) b) r in
-        let m : mapped (child_by x) (map.remove (entries_in p) b) ≡ map.remove (children_of n) b = mapped_remove (child_by x) (entries_in p) b ∙ ap (λ m. map.remove m b) children_at in
-        record { form = ap form_of (sym is') ∙ (w.form ∙ ap form_of is); prefix = ap prefix_of (sym is') ∙ (w.prefix ∙ ap prefix_of is); children = ap children_of (sym is') ∙ (w.children ∙ m) }
+    removed b r = laid.removed (child_by x) (form_in p) x (entries_in p) n is (form_in p') (entries_in p') n' is' r.form b r.entries
 
+    -- places whose entries went are the node without children
     pub cleared : Refills p p' map.empty → Becomes n n' map.empty
-    cleared r =
-        let w = becomes_by x p p' map.empty r in
-        record { form = ap form_of (sym is') ∙ (w.form ∙ ap form_of is); prefix = ap prefix_of (sym is') ∙ (w.prefix ∙ ap prefix_of is); children = ap children_of (sym is') ∙ (w.children ∙ mapped_empty (child_by x)) }
+    cleared r = laid.cleared (child_by x) (form_in p) x (entries_in p) n is (form_in p') (entries_in p') n' is' r.form r.entries

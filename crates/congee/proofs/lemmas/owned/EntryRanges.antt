@@ -3,12 +3,14 @@ use Rattle.std.proofs.Common.{◌≡◌, ℕ, zero, suc, List, [], ◌∷◌, �
 use Rattle.congee.specs.owned.Ranges.{entries_by}
 
 module _ {X E : Type 0} (entry : ℕ → X → E) where
+  -- the first of what stands for pairs is what stands for the first of them
   pub take_entries : (n : ℕ) (es : List (ℕ × X)) → take n (entries_by entry es) ≡ entries_by entry (take n es)
   take_entries zero [] = refl
   take_entries zero ((k, x) ∷ es) = refl
   take_entries (suc n) [] = refl
   take_entries (suc n) ((k, x) ∷ es) = ap (λ r. entry k x ∷ r) (take_entries n es)
 
+  -- what stands for pairs is as many as the pairs
   pub count_entries : (es : List (ℕ × X)) → length (entries_by entry es) ≡ length es
   count_entries [] = refl
   count_entries ((k, x) ∷ es) = ap suc (count_entries es)

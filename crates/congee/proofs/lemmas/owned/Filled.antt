@@ -30,11 +30,13 @@ module _ {X : Type 0} where
       omega (arith, l, h, ne)
 
 module _ {P : Type 0} where
+  -- a node that has a child if it is a leaf is no empty leaf
   pub filled_some : (y : Form ℕ P) → (length (prefix_of y) ≡ 7 → 0 < map.len (children_of y)) → IsFilled (Some y)
   filled_some y h x e seven =
       let i : y ≡ x = (let z : Some y ≡ Some x = e in cc) in
       subst (λ z. 0 < map.len (children_of z)) i (h (subst (λ z. length (prefix_of z) ≡ 7) (sym i) seven))
 
+  -- a name without a node has no empty leaf
   pub filled_none : IsFilled {P = P} None
   filled_none x e = absurd (cc)
 

@@ -6,7 +6,7 @@ use Rattle.slab.specs.Slab.{get}
 use Rattle.congee.specs.Heap.{fits}
 use Rattle.congee.specs.Notes.{IsChild}
 use Rattle.congee.specs.forms.Forms.{children_of, prefix_of}
-use Rattle.congee.specs.owned.Arena.{IsTree, Nodes, hung_in, heap_of, ledger_of, node_of}
+use Rattle.congee.specs.owned.Arena.{IsTree, Nodes, hung_in, heap_of, notes_of, node_of}
 use Rattle.congee.specs.owned.Entries.{first_byte}
 use Rattle.congee.specs.declared.forms.base_node.Node.{Node}
 use Rattle.congee.specs.declared.forms.child.Child.TheVariants.{Node as Sub}
@@ -29,7 +29,7 @@ module _ {P : Type 0} (s : Nodes P) (t : IsTree s) where
   -- so does the prefix of a node that hangs there
   pub first_below : (n b c : ℕ) (x y : Node ℕ P) → get s n ≡ Some x → get s c ≡ Some y → map.get (children_of x) b ≡ Some (Sub c) → get_or (prefix_of y) 0 0 ≡ first_byte (prefix_of x) b
   first_below n b c x y e h k =
-      let i : IsChild (ledger_of s t.parent) (heap_of s) n b c = t.tree.down n b c (linked_of s t.parent n (rw e refl)) (ap (λ o. (node_of o).children b) e ∙ ap hung_in k) in
+      let i : IsChild (notes_of s t.parent) (heap_of s) n b c = t.tree.down n b c (linked_of s t.parent n (rw e refl)) (ap (λ o. (node_of o).children b) e ∙ ap hung_in k) in
       let px = prefix_at s n x e in
       let py = prefix_at s c y h in
       of (prefix_of x) (prefix_of y)

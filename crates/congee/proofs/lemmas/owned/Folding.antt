@@ -29,7 +29,7 @@ same_least (N48 n) y e f p c = absurd (cc)
 same_least (N256 n) y e f p c = absurd (cc)
 
 -- taken out and put in
-pub put_again : {X : Type 0} (m : map.FinMap nat_cmp X) (b : ℕ) (x : X) → map.insert (map.remove m b) b x ≡ map.insert m b x
+put_again : {X : Type 0} (m : map.FinMap nat_cmp X) (b : ℕ) (x : X) → map.insert (map.remove m b) b x ≡ map.insert m b x
 put_again m b x = same_answers {X = ℕ} {Y = ℕ} (λ k y. y) _ _ (λ q. elim (same_or_not q b) [
   | inl e ↦ (let Q : ℕ → Type 0 = λ k. map.get (map.insert (map.remove m b) b x) k ≡ map.get (map.insert m b x) k in
       subst Q (sym e) (insert_at (map.remove m b) b x ∙ sym (insert_at m b x)))

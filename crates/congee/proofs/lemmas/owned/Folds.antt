@@ -19,10 +19,10 @@ use Rattle.congee.specs.declared.forms.child.Child.TheVariants.{Node as Sub, Val
 use Rattle.congee.proofs.lemmas.Tree.{same_or_not}
 use Rattle.congee.proofs.lemmas.owned.Folding.{fold_done}
 use Rattle.congee.proofs.lemmas.owned.Moves.{insert_at, insert_beside, node_at, one_node}
-use Rattle.congee.proofs.lemmas.owned.SlotLens.{counted, len_update}
+use Rattle.congee.proofs.lemmas.owned.SlotLens.{count_if_some, len_update}
 
 -- a key's first seven bytes
-pub key_prefix : (p key : List ℕ) → length p ≡ 7 → length key ≡ 8 → ((j : ℕ) → j < 7 → get_or key j 0 ≡ get_or p j 0) → take 7 key ≡ p
+key_prefix : (p key : List ℕ) → length p ≡ 7 → length key ≡ 8 → ((j : ℕ) → j < 7 → get_or key j 0 ≡ get_or p j 0) → take 7 key ≡ p
 key_prefix p key seven whole bytes =
     let l : length (take 7 key) ≡ 7 = length-take-le 7 key (omega (arith, whole)) in
     same_number_lists (take 7 key) p (l ∙ sym seven) (λ k h. let low : k < 7 = omega (arith, h, l) in get_or-take 7 key k 0 low ∙ bytes k low)
@@ -47,6 +47,7 @@ module _ {P : Type 0} (v : Nodes P) (at leaf : ℕ) (stands : ContainsKey v at) 
   here : map.get (children_of lies.0) has.last ≡ Some (Value has.value)
   here = ap (λ m. map.get m has.last) has.lone.children ∙ insert_at map.empty has.last (Value has.value)
 
+  -- what is read as the leaf's prefix has seven bytes
   pub fold_whole : (p : List ℕ) → ((x : Node ℕ P) → get v leaf ≡ Some x → p ≡ prefix_of x) → length p ≡ 7
   fold_whole p prefix = ap length (prefix lies.0 lies.1) ∙ has.lone.prefix
 
@@ -68,6 +69,7 @@ module _ {P : Type 0} (v : Nodes P) (at leaf : ℕ) (stands : ContainsKey v at) 
     holds : map.get (children_of lies.0) last ≡ Some (Value has.value)
     holds = ap (map.get (children_of lies.0)) last_is ∙ here
 
+    -- the first child of the leaf is a value
     pub fold_value : (x : Node ℕ P) → get v leaf ≡ Some x → IsValue (map.get (children_of x) last)
     fold_value x h =
         let q : lies.0 ≡ x = one_node v leaf lies.0 x lies.1 h in
@@ -78,9 +80,11 @@ module _ {P : Type 0} (v : Nodes P) (at leaf : ℕ) (stands : ContainsKey v at) 
       taken : Sets v v1 leaf lies.0 (map.remove (children_of lies.0) last)
       taken = takes lies.0 lies.1
 
+      -- the leaf still stands after its value was taken
       pub fold_left : ContainsKey v1 leaf
       fold_left = rw taken.updates.changed refl
 
+      -- the leaf still has a prefix of seven bytes after its value was taken
       pub fold_seven : (x : Node ℕ P) → get v1 leaf ≡ Some x → length (prefix_of x) ≡ 7
       fold_seven x h =
           let q : taken.node ≡ x = one_node v1 leaf taken.node x taken.updates.changed h in
@@ -91,18 +95,21 @@ module _ {P : Type 0} (v : Nodes P) (at leaf : ℕ) (stands : ContainsKey v at) 
         kept : get v2 at ≡ get v at
         kept = gone.others at fold_apart ∙ taken.updates.others at fold_apart
 
+        -- the node above still stands after the leaf went
         pub fold_stands : ContainsKey v2 at
         fold_stands = rw (kept ∙ there.1) refl
 
+        -- the node above still is an inner node after the leaf went
         pub fold_inner : (y : Node ℕ P) → get v2 at ≡ Some y → length (prefix_of y) < 7
         fold_inner y h = inner y (sym kept ∙ h)
 
+        -- after the leaf went there is room for one more node
         pub fold_room : HasRoomFor v 0 → v1.capacity ≡ v.capacity → v2.capacity ≡ v1.capacity → HasRoomFor v2 1
         fold_room room c1 c2 =
             let l1 = len_update v v1 leaf (Some taken.node) taken.updates in
-            let a : counted (get v leaf) ≡ 1 = ap counted lies.1 in
+            let a : count_if_some (get v leaf) ≡ 1 = ap count_if_some lies.1 in
             let l2 = len_update v1 v2 leaf None gone in
-            let d : counted (get v1 leaf) ≡ 1 = ap counted taken.updates.changed in
+            let d : count_if_some (get v1 leaf) ≡ 1 = ap count_if_some taken.updates.changed in
             omega (arith, l1, a, l2, d, room, c1, c2)
 
         -- its key begins with the byte that led to it
@@ -111,6 +118,7 @@ module _ {P : Type 0} (v : Nodes P) (at leaf : ℕ) (stands : ContainsKey v at) 
         fold_first b begins key p prefix first x h = first ∙ (ap (λ q. get_or q 0 0) (prefix lies.0 lies.1) ∙ begins x lies.0 (sym kept ∙ h) lies.1)
 
         module _ (b : ℕ) (present : (y : Node ℕ P) → get v at ≡ Some y → map.get (children_of y) b ≡ Some (Sub leaf)) (own : HasOwnSlot leaf) where
+          -- under the byte that led to the leaf the node above still has a child with a slot
           pub fold_present : (y : Node ℕ P) → get v2 at ≡ Some y → HasNode (map.get (children_of y) b)
           fold_present y h = subst HasNode (sym (present y (sym kept ∙ h))) own
 

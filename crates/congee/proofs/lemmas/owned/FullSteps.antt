@@ -1,8 +1,7 @@
 -- What insertions and removals leave of nodes that have enough children.
-use Rattle.std.proofs.Common.{◌≡◌, ◌≢◌, ℕ, suc, ◌+◌, ◌<◌, ◌≤◌, ◌==◌, inl, inr, Bool, true, false, cond, List, length, get_or, refl, sym, ap, subst, ◌∙◌, arith}
+use Rattle.std.proofs.Common.{◌≡◌, ◌≢◌, ℕ, suc, ◌+◌, ◌<◌, ◌≤◌, inl, inr, Bool, true, false, cond, List, length, get_or, refl, sym, ap, subst, ◌∙◌, arith}
 use Rattle.std.specs.Prelude.{None, Some}
 use Rattle.std.specs.FinMap as map
-use Rattle.std.proofs.lemmas.Bool.Decides.{nat_tests}
 use Rattle.std.proofs.lemmas.List.{length-take}
 use Rattle.slab.specs.Slab.{get, ContainsKey}
 use Rattle.congee.specs.forms.Forms.{Becomes, capacity_of, children_of, form_of, is_full_of, next_form, prefix_of, size_of}
@@ -29,15 +28,13 @@ use Rattle.congee.proofs.lemmas.owned.Hangings.{Forked, forked_at}
 use Rattle.congee.proofs.lemmas.owned.Lifting.{moved_apart}
 use Rattle.congee.proofs.lemmas.owned.Moves.{differs_insert, node_at}
 use Rattle.congee.proofs.lemmas.owned.Removing.{lesser_read}
+use Rattle.congee.proofs.lemmas.Fits.{equal_of_test}
 
 -- a full form has as many children as it can have
-equal_by : (n m : ℕ) → n == m ≡ true → n ≡ m
-equal_by n m e = grind (arith, nat_tests)
-
 full_capacity : (form : NodeType) (n : ℕ) → full_at form n ≡ true → n ≡ capacity_of form
-full_capacity N4 n e = equal_by n 4 e
-full_capacity N16 n e = equal_by n 16 e
-full_capacity N48 n e = equal_by n 48 e
+full_capacity N4 n e = equal_of_test n 4 e
+full_capacity N16 n e = equal_of_test n 16 e
+full_capacity N48 n e = equal_of_test n 48 e
 full_capacity N256 n e = absurd (let z : false ≡ true = e in cc)
 
 module _ {P : Type 0} where
@@ -112,6 +109,7 @@ module _ {P : Type 0} where
         subst (λ w. FilledAs (length (prefix_of f.forks.node)) (map.len (children_of f.forks.node)) (capacity_of w)) (sym form)
         (filled_least (length (prefix_of f.forks.node)) (map.len (children_of f.forks.node)) (omega (arith, n)) (λ _. n))
 
+    -- a fork put in its place above leaves the nodes enough children if they had
     pub fork_filled : ((x : Form ℕ P) → get s3 at ≡ Some x → map.get (children_of x) byte ≡ Some (Sub below))
         → ((x : Form ℕ P) → get s3 at ≡ Some x → Sets s3 s4 at x (map.insert (children_of x) byte (Sub over))) → NodesFilled s0 → NodesFilled s4
     fork_filled there sets h =
@@ -130,7 +128,7 @@ module _ {P : Type 0} where
         ])
 
 -- a lesser node that was wanted, and isn't there, was skipped
-pub came_not : (form : NodeType) (n before after gone : ℕ) → shrinks form n ≡ true → after + gone ≡ before → LesserCame before after gone (lesser_if (shrinks form n) form) → ⊥
+came_not : (form : NodeType) (n before after gone : ℕ) → shrinks form n ≡ true → after + gone ≡ before → LesserCame before after gone (lesser_if (shrinks form n) form) → ⊥
 came_not N4 n before after gone s e c = let z : false ≡ true = s in cc
 came_not N16 n before after gone s e c = let k : after + gone + 168 ≡ before + 64 = subst (λ b. LesserCame before after gone (lesser_if b N16)) s c in omega (arith, k, e)
 came_not N48 n before after gone s e c = let k : after + gone + 672 ≡ before + 168 = subst (λ b. LesserCame before after gone (lesser_if b N48)) s c in omega (arith, k, e)
@@ -168,12 +166,14 @@ module _ {P : Type 0} where
     before : FilledAs (length (prefix_of x)) (suc (map.len (children_of y))) (capacity_of (form_of x))
     before = subst (λ n. FilledAs (length (prefix_of x)) n (capacity_of (form_of x))) (sym fewer) enough
 
+    -- a node that lost a child, and wasn't to give place to a lesser one, has enough children
     pub less_enough : shrinks (form_of x) (map.len (children_of x)) ≡ false → HasEnough y
     less_enough s =
         let f = filled_less (length (prefix_of x)) (map.len (children_of y)) (form_of x) (ap (shrinks (form_of x)) fewer ∙ s) some two_left in
         subst (λ w. FilledAs (length (prefix_of y)) (map.len (children_of y)) (capacity_of w)) (sym form)
         (subst (λ n. FilledAs n (map.len (children_of y)) (capacity_of (form_of x))) (sym size) f)
 
+    -- a node that lost a child has enough for the form below
     pub lesser_enough : FilledIn (capacity_of (form_below (form_of y))) y
     lesser_enough =
         let f = filled_lesser (length (prefix_of x)) (map.len (children_of y)) (form_of x) before some two_left in
@@ -185,6 +185,7 @@ module _ {P : Type 0} where
       → LesserCame before after gone (lesser_of (heap_of s at)) → LesserCame before after gone (lesser_if (shrinks f n) f)
   read_came s at x f n e ef en before after gone c = subst (λ z. LesserCame before after gone z) (lesser_read s at x f n e ef en) c
 
+  -- a form and a count that were read, and want no lesser node, are of a node that wants none
   pub read_shrinks : (x : Form ℕ P) (f : NodeType) (n : ℕ) → f ≡ form_of x → n ≡ map.len (children_of x) → shrinks f n ≡ false → shrinks (form_of x) (map.len (children_of x)) ≡ false
   read_shrinks x f n ef en s = ap (shrinks (form_of x)) (sym en) ∙ (ap (λ t. shrinks t n) (sym ef) ∙ s)
 

@@ -1,6 +1,6 @@
 -- How full the nodes of an arena are: what they lack, and those of the tree, each with its level.
 use Rattle.std.proofs.Common.{◌≡◌, ◌≢◌, ℕ, zero, suc, ◌+◌, ◌-◌, ◌<◌, ◌≤◌, ◌⊎◌, Bool, true, false, cond, leb, ltb, List, [], ◌∷◌, length, drop, get_or, inl, inr, refl, sym, ap, subst, ◌∙◌, arith}
-use Rattle.std.specs.Prelude.{Option, None, Some, IsSome, is_some}
+use Rattle.std.specs.Prelude.{Option, None, Some, is_some}
 use Rattle.std.specs.Ordering.{nat_cmp}
 use Rattle.std.specs.Cmp.{nat_cmp_total}
 use Rattle.std.proofs.lemmas.List.Elements.{All-append, All-cons, All-nil}
@@ -8,11 +8,10 @@ use Rattle.std.proofs.lemmas.Bool.{lt-ltb}
 use Rattle.std.proofs.lemmas.Bool.Decides.{nat_tests}
 use Rattle.std.specs.FinMap as map
 use borrow.Author.Tests.{ltb-true}
-use Rattle.slab.specs.Slab.{get, ContainsKey}
+use Rattle.slab.specs.Slab.{get}
 use Rattle.congee.specs.Heap.{Hung, Nothing, Below, Holds}
-use Rattle.congee.specs.Notes.{IsChild}
 use Rattle.congee.specs.forms.Forms.{Becomes, capacity_of, children_of, form_of, next_form, prefix_of}
-use Rattle.congee.specs.owned.Arena.{Nodes, hung_in, node_of, heap_of, ledger_of, IsTree}
+use Rattle.congee.specs.owned.Arena.{Nodes, hung_in, node_of, heap_of, IsTree}
 use Rattle.congee.specs.owned.Full.{AllFilled, HasEnough, NodesFilled, OthersFilled, fewest, lacks, lacks_all, lacking_of}
 use Rattle.congee.specs.owned.Levels.{shape_of, under_byte, under_bytes, with_node, nodes_from, nodes_of}
 use Rattle.congee.specs.owned.OwnedSteps.{SameNodes, Sets}
@@ -28,7 +27,8 @@ use Rattle.congee.specs.declared.forms.child.Child.{Child}
 use Rattle.congee.proofs.lemmas.Tree.{same_or_not}
 use Rattle.congee.proofs.lemmas.owned.Filled.{has_pair}
 use Rattle.congee.proofs.lemmas.owned.Moves.{remove_beside}
-use Rattle.congee.proofs.lemmas.owned.Ways.{linked_of}
+use Rattle.congee.proofs.lemmas.owned.Totals.{sum_same}
+use Rattle.congee.proofs.lemmas.owned.Ways.{hung_child}
 
 -- a form by its places
 by_places : (form : NodeType) → form_by (places form) ≡ form
@@ -70,13 +70,13 @@ two_least : (size : ℕ) → size < 7 → 2 ≤ cond (ltb size 7) 2 1
 two_least size l = rw (lt-ltb size 7 l) (omega arith)
 
 -- a node that lacks no children has enough
-pub has_enough : (form : NodeType) (size count : ℕ) → fewest form size - count ≡ 0 → FilledAs size count (capacity_of form)
+has_enough : (form : NodeType) (size count : ℕ) → fewest form size - count ≡ 0 → FilledAs size count (capacity_of form)
 has_enough form size count e =
     let one = some_least (ltb size 7) in
     filled_as form size count (omega (arith, e, one)) (λ l. let two = two_least size l in omega (arith, e, two)) (omega (arith, e))
 
 -- a node that has enough children lacks none
-pub lacks_none : (form : NodeType) (size count : ℕ) → FilledAs size count (capacity_of form) → fewest form size - count ≡ 0
+lacks_none : (form : NodeType) (size count : ℕ) → FilledAs size count (capacity_of form) → fewest form size - count ≡ 0
 lacks_none form size count f =
     let least = least_of form size count f in
     let more = of (ltb size 7) refl in
@@ -103,34 +103,24 @@ module _ {P : Type 0} where
   each_enough (o ∷ xs) e (suc j) x at = each_enough xs (omega (arith, e)) j x at
 
   lacks_same : (xs ys : List (Option (Form ℕ P))) → ((j : ℕ) → get_or ys j None ≡ get_or xs j None) → lacks_all ys ≡ lacks_all xs
-  lacks_same [] [] e = refl
-  lacks_same [] (y ∷ ys) e =
-      let h : lacks y ≡ 0 = ap lacks (e 0) in
-      let r : lacks_all ys ≡ 0 = lacks_same [] ys (λ j. e (suc j)) in
-      omega (arith, h, r)
-  lacks_same (x ∷ xs) [] e =
-      let h : 0 ≡ lacks x = ap lacks (e 0) in
-      let r : 0 ≡ lacks_all xs = lacks_same xs [] (λ j. e (suc j)) in
-      omega (arith, h, r)
-  lacks_same (x ∷ xs) (y ∷ ys) e =
-      let h : lacks y ≡ lacks x = ap lacks (e 0) in
-      let r : lacks_all ys ≡ lacks_all xs = lacks_same xs ys (λ j. e (suc j)) in
-      omega (arith, h, r)
+  lacks_same = sum_same lacks lacks_all refl refl (λ x xs. refl)
 
   beside_root : (xs : List (Option (Form ℕ P))) (j : ℕ) → get_or (drop 1 xs) j None ≡ get_or xs (suc j) None
   beside_root [] j = refl
   beside_root (x ∷ xs) j = refl
 
   -- all nodes but the root have enough exactly where none lacks a child
-  pub filled_where : (s : Nodes P) → lacking_of s ≡ 0 → NodesFilled s
+  filled_where : (s : Nodes P) → lacking_of s ≡ 0 → NodesFilled s
   unfolding lacking_of
   filled_where s e zero x ne at = absurd (ne refl)
   filled_where s e (suc n) x ne at = each_enough (drop 1 s.slots) e n x (beside_root s.slots n ∙ at)
 
+  -- nodes of which each but the root has enough children lack none
   pub lacking_none : (s : Nodes P) → NodesFilled s → lacking_of s ≡ 0
   unfolding lacking_of
   lacking_none s h = none_lacks (drop 1 s.slots) (λ j x e. h (suc j) x (omega arith) (sym (beside_root s.slots j) ∙ e))
 
+  -- nodes that are the same lack as many
   pub same_lacking : (s s' : Nodes P) → SameNodes s s' → lacking_of s' ≡ lacking_of s
   unfolding lacking_of
   same_lacking s s' e = lacks_same (drop 1 s.slots) (drop 1 s'.slots) (λ j. beside_root s'.slots j ∙ (e (suc j) ∙ sym (beside_root s.slots j)))
@@ -159,19 +149,10 @@ module _ {P : Type 0} where
   all_with go level (Some x) below h = All-cons Full (shape_of level x) _ (λ ne. h x refl ne) (all_under go (λ b. hung_in (map.get (children_of x) b)) 256 below)
 
 module _ {P : Type 0} (s : Nodes P) (t : IsTree s) where
-  child_of : (n b c : ℕ) → (heap_of s n).children b ≡ Below c → ContainsKey s n × IsChild (ledger_of s t.parent) (heap_of s) n b c
-  child_of n b c e =
-      let h : ContainsKey s n = there (get s n) e in
-      (h, t.tree.down n b c (linked_of s t.parent n h) e)
-    where
-      there : (o : Option (Form ℕ P)) → (node_of o).children b ≡ Below c → IsSome o
-      there None e = absurd (let z : Nothing ≡ Below c = e in cc)
-      there (Some x) e = refl
-
   -- the root hangs nowhere
   not_root : (n b c : ℕ) → (heap_of s n).children b ≡ Below c → c ≢ 0
   not_root n b c e z =
-      let i = (child_of n b c e).1 in
+      let i = (hung_child s t n b c e).1 in
       let l : length (heap_of s c).prefix ≡ 0 = ap (λ k. length (heap_of s k).prefix) z ∙ ap length t.tree.empty in
       absurd (omega (arith, i.longer, l))
 
@@ -228,12 +209,14 @@ filled_least size k one two = filled_as N4 size k one two (omega arith)
 
 -- how many pairs a map has after a change at one key
 module _ {X : Type 0} where
-  pub len_kept : (m : map.FinMap nat_cmp X) (k : ℕ) (x y : X) → map.get m k ≡ Some y → map.len (map.insert m k x) ≡ map.len m
+  len_kept : (m : map.FinMap nat_cmp X) (k : ℕ) (x y : X) → map.get m k ≡ Some y → map.len (map.insert m k x) ≡ map.len m
   len_kept m k x y e = let c : map.contains_key m k ≡ true = ap is_some e in map.len-insert nat_cmp_total m k x ∙ rw c refl
 
+  -- a pair at a new key is one more
   pub len_more : (m : map.FinMap nat_cmp X) (k : ℕ) (x : X) → map.get m k ≡ None → map.len (map.insert m k x) ≡ suc (map.len m)
   len_more m k x e = let c : map.contains_key m k ≡ false = ap is_some e in map.len-insert nat_cmp_total m k x ∙ rw c (omega arith)
 
+  -- a map with pairs at two keys has two at least
   pub len_two : (m : map.FinMap nat_cmp X) (k l : ℕ) (x y : X) → k ≢ l → map.get m k ≡ Some x → map.get m l ≡ Some y → 2 ≤ map.len m
   len_two m k l x y ne e f =
       let c : map.contains_key m k ≡ true = ap is_some e in
@@ -275,6 +258,7 @@ module _ {P : Type 0} where
     | inr apart ↦ h n x ne apart (sym (others n apart) ∙ e)
   ]
 
+  -- where all nodes have enough children, all but one have
   pub others_filled : (s : Nodes P) (at : ℕ) → NodesFilled s → OthersFilled s at
   others_filled s at h n x ne apart e = h n x ne e
 
@@ -288,6 +272,7 @@ module _ {P : Type 0} where
       let n : map.len (children_of y) ≡ map.len (children_of x) = ap map.len b.children ∙ len_kept (children_of x) byte c d there in
       enough_more x y b.form b.prefix (omega (arith, n)) f
 
+  -- another child in the place of one leaves the nodes enough children if they had
   pub set_filled : (s s' : Nodes P) (at : ℕ) (x : Form ℕ P) (byte : ℕ) (c d : Child ℕ P) → get s at ≡ Some x → map.get (children_of x) byte ≡ Some d → Sets s s' at x (map.insert (children_of x) byte c) → NodesFilled s → NodesFilled s'
   set_filled s s' at x byte c d e there k h =
       filled_but s s' at k.node (others_filled s at h) (λ ne. changed_enough x k.node byte c d there k.becomes (h at x ne e)) k.updates.changed k.updates.others

@@ -76,15 +76,15 @@ module _ {V : Type 0} where
     | inr ne ↦ record { up = t.parent n; same = lead _ (heap_of s) t.tree (length (heap_of s n).prefix) n key (omega arith) (linked_of s t.parent n w.stands) w.fitted ne }
   ]
 
-  pub goes_free : (s : Nodes V) (key : List ℕ) (n : ℕ) → IsTree s → OnWay s key n → child_for (heap_of s n) key ≡ Nothing → goes_at (heap_of s) key ≡ None
+  goes_free : (s : Nodes V) (key : List ℕ) (n : ℕ) → IsTree s → OnWay s key n → child_for (heap_of s n) key ≡ Nothing → goes_at (heap_of s) key ≡ None
   unfolding goes_at
   goes_free s key n t w e = let k = led s key n t w in k.same ∙ enter (heap_of s) 7 k.up n key Nothing w.fitted e
 
-  pub goes_apart : (s : Nodes V) (key : List ℕ) (n c : ℕ) → IsTree s → OnWay s key n → child_for (heap_of s n) key ≡ Below c → fits (heap_of s c).prefix key ≡ false → goes_at (heap_of s) key ≡ None
+  goes_apart : (s : Nodes V) (key : List ℕ) (n c : ℕ) → IsTree s → OnWay s key n → child_for (heap_of s n) key ≡ Below c → fits (heap_of s c).prefix key ≡ false → goes_at (heap_of s) key ≡ None
   unfolding goes_at
   goes_apart s key n c t w e f = let k = led s key n t w in k.same ∙ (enter (heap_of s) 7 k.up n key (Below c) w.fitted e ∙ rw f refl)
 
-  pub goes_held : (s : Nodes V) (key : List ℕ) (above n : ℕ) (v : V) → IsTree s → OnWay s key n → Hangs s key above n → child_for (heap_of s n) key ≡ Holds v
+  goes_held : (s : Nodes V) (key : List ℕ) (above n : ℕ) (v : V) → IsTree s → OnWay s key n → Hangs s key above n → child_for (heap_of s n) key ≡ Holds v
       → goes_at (heap_of s) key ≡ Some (going_from (heap_of s) above n)
   unfolding goes_at
   goes_held s key above n v t w h e =
@@ -100,21 +100,25 @@ module _ {V : Type 0} where
       let E : Spot → Type 0 = λ x. EndsAt s key p.at x in
       goes_free s key p.at t l.reached.way (subst E e l.ends)
 
+  -- with a key whose place is beside a node with another prefix nothing goes
   pub located_goes_apart : (s : Nodes V) (key : List ℕ) (p : Place) (c : ℕ) → IsTree s → Located s key p → p.spot ≡ Apart c → goes_at (heap_of s) key ≡ None
   located_goes_apart s key p c t l e =
       let E : Spot → Type 0 = λ x. EndsAt s key p.at x in
       let d : EndsAt s key p.at (Apart c) = subst E e l.ends in
       goes_apart s key p.at c t l.reached.way d.0 d.1
 
+  -- with a key that is held goes what its leaf and the node above tell
   pub located_goes_held : (s : Nodes V) (key : List ℕ) (p : Place) → IsTree s → Located s key p → p.spot ≡ Held → goes_at (heap_of s) key ≡ Some (going_from (heap_of s) p.above p.at)
   located_goes_held s key p t l e =
       let h = located_held s key p t l e in
       goes_held s key p.above p.at h.value t l.reached.way (located_hangs s key p t l e) h.holds
 
+  -- what the map of goings has for a key is what goes with it
   pub get_goes : (s : Nodes V) (k : ℕ) → k < 2 ^ 64 → map.get (goes_of s) k ≡ goes_at (heap_of s) (key_bytes k)
   unfolding goes_of
   get_goes s k small = table_below (λ k. goes_at (heap_of s) (key_bytes k)) (2 ^ 64) k small
 
+  -- from nodes that are the same goes the same with each key
   pub same_goes : (s s' : Nodes V) → SameNodes s s' → goes_of s' ≡ goes_of s
   unfolding goes_of
   same_goes s s' e =

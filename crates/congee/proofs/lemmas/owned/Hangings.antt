@@ -31,7 +31,7 @@ use Rattle.congee.proofs.lemmas.owned.Joins.{add_leaf_done, drop_leaf_done, add_
 use Rattle.congee.proofs.lemmas.owned.Moves.{node_at, one_node, apart_of, prefix_at, stands_at, differs_insert, differs_remove, insert_at, insert_beside, len_one, single, held_is, held_seven, Roomy, roomy_byte}
 use Rattle.congee.proofs.lemmas.owned.Renaming.{renamed}
 use Rattle.congee.proofs.lemmas.owned.Sizes.{bytes_named, bytes_same, sets_bytes, makes_bytes}
-use Rattle.congee.proofs.lemmas.owned.SlotLens.{counted, len_update}
+use Rattle.congee.proofs.lemmas.owned.SlotLens.{count_if_some, len_update}
 use Rattle.congee.proofs.lemmas.owned.Totals.{total_update}
 use Rattle.congee.proofs.lemmas.owned.Wanting.{sized, roomy_none}
 use Rattle.congee.proofs.lemmas.owned.Ways.{linked_of, is_child, short_prefix, below_stands, no_blank, above_apart, same_tree}
@@ -60,13 +60,14 @@ module _ {P : Type 0} where
   pub room_made : (s s' : Nodes P) (name n : ℕ) (p : List ℕ) → Makes s s' name p → s'.capacity ≡ s.capacity → HasRoomFor s (n + 1) → HasRoomFor s' n
   room_made s s' name n p m c r =
       let u = len_update s s' name (Some m.node) m.updates in
-      let z : counted (get s name) ≡ 0 = ap counted m.vacant in
+      let z : count_if_some (get s name) ≡ 0 = ap count_if_some m.vacant in
       omega (arith, u, z, c, r)
 
+  -- another node in the place of one leaves as much room for further nodes
   pub room_set : (s s' : Nodes P) (at n : ℕ) (x y : Form ℕ P) → get s at ≡ Some x → Updates s s' at (Some y) → s'.capacity ≡ s.capacity → HasRoomFor s n → HasRoomFor s' n
   room_set s s' at n x y e u c r =
       let k = len_update s s' at (Some y) u in
-      let z : counted (get s at) ≡ 1 = ap counted e in
+      let z : count_if_some (get s at) ≡ 1 = ap count_if_some e in
       omega (arith, k, z, c, r)
 
   hangs_bytes : (s s' : Nodes P) (at : ℕ) (x : Form ℕ P) (byte : ℕ) (key : List ℕ) (v : P) → get s at ≡ Some x → HangsLeaf s s' at x byte key v → bytes_of s' ≡ bytes_of s + 64
@@ -110,10 +111,11 @@ module _ {P : Type 0} where
       omega (arith, i.longer, l, p)
 
   -- such a node has a slot of its own, or lies in its parent's place
-  pub child_node : (s : Nodes P) → IsTree s → (key : List ℕ) (n c b : ℕ) → ContainsKey s n → child_for (heap_of s n) key ≡ Below c → HasOwnSlot c
+  child_node : (s : Nodes P) → IsTree s → (key : List ℕ) (n c b : ℕ) → ContainsKey s n → child_for (heap_of s n) key ≡ Below c → HasOwnSlot c
       → b ≡ get_or key (length (heap_of s n).prefix) 0 → (x : Form ℕ P) → get s n ≡ Some x → HasNode (map.get (children_of x) b)
   child_node s t key n c b st h own is x e = subst HasNode (sym (child_there s t key n c st h x e b is)) own
 
+  -- a node without a slot of its own, below a node on the key's way, lies in its parent's place
   pub child_inline : (s : Nodes P) → IsTree s → (key : List ℕ) (n c b : ℕ) → ContainsKey s n → child_for (heap_of s n) key ≡ Below c → (HasOwnSlot c → ⊥)
       → b ≡ get_or key (length (heap_of s n).prefix) 0 → (x : Form ℕ P) → get s n ≡ Some x → HasInline (map.get (children_of x) b)
   child_inline s t key n c b st h inline is x e = subst HasInline (sym (child_there s t key n c st h x e b is)) inline
@@ -123,6 +125,7 @@ module _ {P : Type 0} where
       → (x : Form ℕ P) → get s' above ≡ Some x → length (prefix_of x) < 7
   up_inner s s' t key above at same h x e = above_inner s t key above at h.way.stands h.child x (sym same ∙ e)
 
+  -- a node with a slot hangs under the key's byte in a node above it that is as it was
   pub up_node : (s s' : Nodes P) → IsTree s → (key : List ℕ) (above at : ℕ) → get s' above ≡ get s above → Hangs s key above at
       → (b : ℕ) → HasOwnSlot at → b ≡ get_or key (length (heap_of s' above).prefix) 0 → (x : Form ℕ P) → get s' above ≡ Some x → HasNode (map.get (children_of x) b)
   up_node s s' t key above at same h b own is x e =
@@ -149,23 +152,29 @@ module _ {P : Type 0} where
       let k = g n.0 (same at ∙ n.1) in
       record { before = n.0; was = n.1; node = k.node; now = k.updates.changed; prefix = k.prefixed; children = k.children; room = k.room; wide = k.wide }
 
+  -- an inner node that was given room is an inner node still
   pub roomy_inner : (s s' : Nodes P) (at : ℕ) → Roomy s s' at → length (heap_of s at).prefix < 7 → (x : Form ℕ P) → get s' at ≡ Some x → length (prefix_of x) < 7
   roomy_inner s s' at r l x e =
       let p : length (prefix_of x) ≡ length (heap_of s at).prefix = ap length (ap prefix_of (one_node s' at x r.node e r.now) ∙ (r.prefix ∙ sym (prefix_at s at r.before r.was))) in
       omega (arith, p, l)
 
+  -- a node that was given room has the prefix that it had
   pub roomy_prefix : (s s' : Nodes P) (at : ℕ) → Roomy s s' at → (x : Form ℕ P) → get s' at ≡ Some x → prefix_of x ≡ (heap_of s at).prefix
   roomy_prefix s s' at r x e = ap prefix_of (one_node s' at x r.node e r.now) ∙ (r.prefix ∙ sym (prefix_at s at r.before r.was))
 
+  -- a leaf that was given room is a leaf still
   pub roomy_leaf : (s s' : Nodes P) (at : ℕ) → Roomy s s' at → length (heap_of s at).prefix ≡ 7 → (x : Form ℕ P) → get s' at ≡ Some x → length (prefix_of x) ≡ 7
   roomy_leaf s s' at r l x e = ap length (ap prefix_of (one_node s' at x r.node e r.now) ∙ (r.prefix ∙ sym (prefix_at s at r.before r.was))) ∙ l
 
+  -- where every name has its node as before, the tree sees it as before
   pub same_heap : (s s' : Nodes P) (n : ℕ) → SameNodes s s' → heap_of s' n ≡ heap_of s n
   same_heap s s' n e = ap node_of (e n)
 
+  -- where every name has its node as before, what stood stands
   pub same_stands : (s s' : Nodes P) (n : ℕ) → SameNodes s s' → ContainsKey s n → ContainsKey s' n
   same_stands s s' n e h = subst IsSome (sym (e n)) h
 
+  -- a leaf put in its parent's free place is the key's insertion, and takes 64 bytes
   pub leaf_hung : (s0 s1 s2 s3 : Nodes P) (key : List ℕ) (at byte : ℕ) (v : P) → length key ≡ 8 → IsTree s0 → OnWay s0 key at
       → child_for (heap_of s0 at) key ≡ Nothing → length (heap_of s0 at).prefix < 7
       → SameNodes s0 s1 → ((x : Form ℕ P) → get s1 at ≡ Some x → MakesRoom s1 s2 at x)
@@ -223,6 +232,7 @@ module _ {P : Type 0} where
     module _ (s4 : Nodes P) (at byte : ℕ) (len : length key ≡ 8) (t : IsTree s0) (w : OnWay s0 key at) (h : child_for (heap_of s0 at) key ≡ Below below)
         (df : fits (heap_of s0 below).prefix key ≡ false) (b : byte ≡ get_or key (length (heap_of s3 at).prefix) 0)
         (sets : (x : Form ℕ P) → get s3 at ≡ Some x → Sets s3 s4 at x (map.insert (children_of x) byte (Sub over))) where
+      -- a fork with a leaf in its place, put over a node, is the key's insertion, and takes 128 bytes
       pub fork_hung : (IsTree s4 × MapChange s0 s4 key None (Some v)) × (bytes_of s4 ≡ bytes_of s0 + 128)
       fork_hung =
           let n = node_at s0 at w.stands in
@@ -285,6 +295,7 @@ module _ {P : Type 0} where
     stood : get s at ≡ Some loss.was
     stood = subst (λ z. get s z ≡ Some loss.was) is_at loss.stood
 
+    -- a leaf that goes from its parent's place is its key's removal, and gives back its size
     pub lost : (IsTree s' × MapChange s s' key (Some v) None) × (bytes_of s' + size_by (heap_of s at).capacity ≡ bytes_of s)
     lost =
         let seven : length (heap_of s at).prefix ≡ 7 = held_seven s key at t w h in
@@ -398,6 +409,7 @@ module _ {P : Type 0} where
     pub up : OnWay s' key above
     pub child : child_for (heap_of s' above) key ≡ Below leaf
 
+  -- a leaf in its parent's place that takes a slot is the same leaf below the same node
   pub unfolded : (s s' : Nodes P) (key : List ℕ) (above at up leaf : ℕ) → IsTree s → OnWay s key above → child_for (heap_of s above) key ≡ Below at
       → up ≡ get_or key (length (heap_of s above).prefix) 0
       → ((x : Form ℕ P) (c : ℕ) → get s above ≡ Some x → map.get (children_of x) up ≡ Some (Sub c) → Renames s s' above up c leaf)
@@ -430,6 +442,7 @@ module _ {P : Type 0} where
         child = ap (λ n. child_for n key) heap ∙ h.child;
       }
 
+  -- a leaf whose value was taken has the prefix that it had
   pub taken_prefix : (s s' : Nodes P) (at byte : ℕ) → ContainsKey s at
       → ((x : Form ℕ P) → get s at ≡ Some x → Sets s s' at x (map.remove (children_of x) byte)) → (heap_of s' at).prefix ≡ (heap_of s at).prefix
   taken_prefix s s' at byte st sets =
@@ -441,9 +454,6 @@ module _ {P : Type 0} where
   pub hung_stands : (s : Nodes P) → IsTree s → (key : List ℕ) (above at : ℕ) → Hangs s key above at → ContainsKey s at
   hung_stands s t key above at h = below_stands s t above at key h.way.stands h.child
 
-  pub not_renamed : (s : Nodes P) → IsTree s → Renamed s s
-  not_renamed s t = record { tree = t; values = λ k. refl; bytes = refl; filled = λ h. h }
-
   -- a node that was just made, and then got a leaf
   pub made_inner : (s s' : Nodes P) (n : ℕ) (p : List ℕ) → Makes s s' n p → length p < 7 → (x : Form ℕ P) → get s' n ≡ Some x → length (prefix_of x) < 7
   made_inner s s' n p m l x e =
@@ -451,11 +461,13 @@ module _ {P : Type 0} where
       omega (arith, q, l)
 
   module _ (s s' s'' : Nodes P) (n : ℕ) (p : List ℕ) (byte : ℕ) (key : List ℕ) (v : P) (m : Makes s s' n p) (h : HangsLeaf s' s'' n m.node byte key v) where
+    -- a new inner node that got a leaf is an inner node
     pub hung_inner : length p < 7 → (x : Form ℕ P) → get s'' n ≡ Some x → length (prefix_of x) < 7
     hung_inner l x e =
         let q : length (prefix_of x) ≡ length p = ap length (ap prefix_of (one_node s'' n x h.node e h.now) ∙ (h.becomes.prefix ∙ m.prefixed)) in
         omega (arith, q, l)
 
+    -- a new inner node that got a leaf has nothing under the other bytes
     pub hung_absent : (other : ℕ) → byte ≢ other → (x : Form ℕ P) → get s'' n ≡ Some x → map.get (children_of x) other ≡ None
     hung_absent other ne x e =
         ap (λ y. map.get (children_of y) other) (one_node s'' n x h.node e h.now)
@@ -463,12 +475,14 @@ module _ {P : Type 0} where
         ∙ (insert_beside (children_of m.node) byte (Sub h.leaf) other (λ q. ne (sym q))
         ∙ (ap (λ z. map.get z other) m.children ∙ map.get-empty _ other)))
 
+    -- a new inner node that got a leaf isn't full
     pub hung_room : (x : Form ℕ P) → get s'' n ≡ Some x → is_full_of x ≡ false
     hung_room x e =
         let c : children_of h.node ≡ map.insert map.empty byte (Sub h.leaf) = h.becomes.children ∙ ap (λ z. map.insert z byte (Sub h.leaf)) m.children in
         ap is_full_of (one_node s'' n x h.node e h.now)
         ∙ (full_is h.node ∙ (ap (λ t. full_at t (map.len (children_of h.node))) (h.becomes.form ∙ m.form) ∙ (ap (λ z. full_at N4 (map.len z)) c ∙ ap (full_at N4) (len_one byte (Sub h.leaf)))))
 
+  -- a node at the key's byte of one on the key's way hangs in that one
   pub fork_hangs : (s : Nodes P) (key : List ℕ) (at below : ℕ) → OnWay s key at → child_for (heap_of s at) key ≡ Below below → Hangs s key at below
   fork_hangs s key at below w h = record { way = w; child = h }
 
@@ -486,11 +500,12 @@ module _ {P : Type 0} where
       let h : heap_of s' ≡ heap_of s = λ i n. ap node_of (e n) i in
       record { tree = same_tree s s' e t; values = λ k. ap (λ z. value_at z k) h; bytes = bytes_same s s' e; filled = same_filled s s' e }
 
+  -- where every name has its node as before, a node on a key's way is on it
   pub same_way : (s s' : Nodes P) (key : List ℕ) (n : ℕ) → SameNodes s s' → OnWay s key n → OnWay s' key n
   same_way s s' key n e w = record { stands = same_stands s s' n e w.stands; fitted = ap (λ z. fits z.prefix key) (same_heap s s' n e) ∙ w.fitted }
 
 -- an insertion into a leaf with room is never refused
-pub never_denied : {P A : Type 0} (charged limit : A → ℕ) (old new : Arena P A) (key : List ℕ) (v : P) (wants : List ℕ) (refusal : OOMError × P)
+pub never_denied : {P A K : Type 0} (charged limit : A → ℕ) (old new : Arena P A K) (key : List ℕ) (v : P) (wants : List ℕ) (refusal : OOMError × P)
     → wants ≡ [] → Denies charged limit old new key v (Some wants) refusal → ⊥
 never_denied charged limit old new key v wants refusal e d = subst (λ w. IsRefused (Some w) (charged old.allocator) (limit old.allocator) refusal.0) e d.cause
 

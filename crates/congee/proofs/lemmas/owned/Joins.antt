@@ -7,7 +7,7 @@ use Rattle.slab.specs.Slab.{get, ContainsKey}
 use Rattle.congee.specs.Heap.{Node, Below, Nothing, fits, child_for, walk, value_at}
 use Rattle.congee.specs.Notes.{Linked, Gone, Note, Tree, IsChild, HasParent}
 use Rattle.congee.specs.forms.Forms.{prefix_of}
-use Rattle.congee.specs.owned.Arena.{Nodes, hung_in, node_of, heap_of, ledger_of, IsFilled, IsTree, OnWay, Hangs}
+use Rattle.congee.specs.owned.Arena.{Nodes, hung_in, node_of, heap_of, notes_of, IsFilled, IsTree, OnWay, Hangs}
 use Rattle.congee.specs.owned.Changes.{MapChange, IsLeafOf, AddsLeaf, AddsFork, DropsLeaf, DiffersAt}
 use Rattle.congee.specs.declared.forms.base_node.Node.{Node as Form}
 use Rattle.congee.proofs.lemmas.Fits.{same_test, other_test, fits_byte}
@@ -25,7 +25,7 @@ pub front_fits : (n : ℕ) (key : List ℕ) → n ≤ length key → fits (take 
 front_fits n key l = fits_every (take n key) key (rw (length-take-le n key l) l) (λ j b. sym (get_or-take n key j 0 (rw (length-take-le n key l) at b)))
 
 -- a tree of nodes that are the same as far as they are linked
-pub agree_tree : {V : Type 0} (a : ℕ → Note) (h h' : ℕ → Node V) → ((n : ℕ) → (a n).status ≡ Linked → h' n ≡ h n) → Tree a h → Tree a h'
+agree_tree : {V : Type 0} (a : ℕ → Note) (h h' : ℕ → Node V) → ((n : ℕ) → (a n).status ≡ Linked → h' n ≡ h n) → Tree a h → Tree a h'
 agree_tree a h h' e t = record {
   root = t.root;
   empty = rw (e 0 t.root) t.empty;
@@ -46,7 +46,7 @@ agree_tree a h h' e t = record {
 }
 
 -- a walk from a node of the tree finds the same where all nodes of the tree are as they were
-pub agree_walk : {V : Type 0} (a : ℕ → Note) (h h' : ℕ → Node V) → ((n : ℕ) → (a n).status ≡ Linked → h' n ≡ h n) → Tree a h
+agree_walk : {V : Type 0} (a : ℕ → Note) (h h' : ℕ → Node V) → ((n : ℕ) → (a n).status ≡ Linked → h' n ≡ h n) → Tree a h
     → (f n : ℕ) (key : List ℕ) → (a n).status ≡ Linked → walk h' f n key ≡ walk h f n key
 agree_walk a h h' e t zero n key l = refl
 agree_walk a h h' e t (suc f) n key l =
@@ -64,18 +64,20 @@ parted_below p q key n f g l e parts = elim (cases_lt (length p) n) [
 ]
 
 module _ {P : Type 0} where
-  vacant_not : (s : Nodes P) (parent : ℕ → ℕ) (n : ℕ) → get s n ≡ None → (ledger_of s parent n).status ≢ Linked
+  vacant_not : (s : Nodes P) (parent : ℕ → ℕ) (n : ℕ) → get s n ≡ None → (notes_of s parent n).status ≢ Linked
   vacant_not s parent n e h = let z : Gone ≡ Linked = rw e at h in cc
 
   root_not : (s : Nodes P) (t : IsTree s) (n : ℕ) → get s n ≡ None → 0 ≢ n
-  root_not s t n e q = let Q : ℕ → Type 0 = λ y. (ledger_of s t.parent y).status ≡ Linked in vacant_not s t.parent n e (subst Q q t.tree.root)
+  root_not s t n e q = let Q : ℕ → Type 0 = λ y. (notes_of s t.parent y).status ≡ Linked in vacant_not s t.parent n e (subst Q q t.tree.root)
 
-  stands_some : (s : Nodes P) (n : ℕ) (x : Form ℕ P) → get s n ≡ Some x → ContainsKey s n
-  stands_some s n x e = rw e refl
+  -- where a node is read, one stands
+  pub stands_at : (s : Nodes P) (n : ℕ) (x : Form ℕ P) → get s n ≡ Some x → ContainsKey s n
+  stands_at s n x e = rw e refl
 
-  note_same : (s s' : Nodes P) (parent parent' : ℕ → ℕ) (m : ℕ) → is_some (get s' m) ≡ is_some (get s m) → parent' m ≡ parent m → ledger_of s' parent' m ≡ ledger_of s parent m
+  note_same : (s s' : Nodes P) (parent parent' : ℕ → ℕ) (m : ℕ) → is_some (get s' m) ≡ is_some (get s m) → parent' m ≡ parent m → notes_of s' parent' m ≡ notes_of s parent m
   note_same s s' parent parent' m e f = rw (e, f) refl
 
+  -- a node that has the key's value alone is a leaf of the key's for the tree
   pub leaf_of : (s : Nodes P) (key : List ℕ) (d : ℕ) (n : Form ℕ P) (v : P) → length key ≡ 8 → get s d ≡ Some n → IsLeafOf n key v → Leaf (heap_of s) d key v
   leaf_of s key d n v len e l =
       let h : heap_of s d ≡ node_of (Some n) = ap node_of e in
@@ -120,6 +122,7 @@ module _ {P : Type 0} where
     ]
   ]
 
+  -- a leaf that came in below a node with nothing at the key's byte is the key's insertion in the tree
   pub add_leaf_done : (s s' : Nodes P) (key : List ℕ) (at leaf : ℕ) (v : P) → length key ≡ 8 → IsTree s → OnWay s key at
       → length (heap_of s at).prefix < 7 → child_for (heap_of s at) key ≡ Nothing → AddsLeaf s s' key at leaf v
       → IsTree s' × MapChange s s' key None (Some v)
@@ -127,8 +130,8 @@ module _ {P : Type 0} where
       let hx : heap_of s at ≡ node_of (Some k.before) = ap node_of k.was in
       let hy : heap_of s' at ≡ node_of (Some k.after) = ap node_of k.now in
       let parent' : ℕ → ℕ = λ n. cond (n == d) at (t.parent n) in
-      let a : ℕ → Note = ledger_of s t.parent in
-      let a' : ℕ → Note = ledger_of s' parent' in
+      let a : ℕ → Note = notes_of s t.parent in
+      let a' : ℕ → Note = notes_of s' parent' in
       let links : Links a (heap_of s) a' (heap_of s') at d key v = record {
         linked = linked_of s t.parent at w.stands;
         fitted = w.fitted;
@@ -139,7 +142,7 @@ module _ {P : Type 0} where
         child = rw (hx, hy) (ap hung_in k.differs.here);
         beside = λ c ne. let ne' : c ≢ get_or key (length (prefix_of k.before)) 0 = rw hx at ne in rw (hx, hy) (ap hung_in (k.differs.beside c ne'));
         leaf = leaf_of s' key d k.made v len k.taken k.has;
-        joined = linked_of s' parent' d (stands_some s' d k.made k.taken);
+        joined = linked_of s' parent' d (stands_at s' d k.made k.taken);
         parent = rw (same_test d d refl) refl;
         notes = λ m ne. note_same s s' t.parent parent' m
             (elim (same_or_not m at) [
@@ -154,6 +157,7 @@ module _ {P : Type 0} where
         record { was = m.0; now = m.1; others = m.2 },
       )
 
+  -- a leaf with the key's value alone that went is the key's removal from the tree
   pub drop_leaf_done : (s s' : Nodes P) (key : List ℕ) (above at : ℕ) (v : P) → length key ≡ 8 → IsTree s → OnWay s key at → Hangs s key above at
       → length (heap_of s at).prefix ≡ 7 → DropsLeaf s s' key above at v
       → IsTree s' × MapChange s s' key (Some v) None
@@ -161,8 +165,8 @@ module _ {P : Type 0} where
       let hx : heap_of s above ≡ node_of (Some k.before) = ap node_of k.was in
       let hy : heap_of s' above ≡ node_of (Some k.after) = ap node_of k.now in
       let hl : heap_of s at ≡ node_of (Some k.last) = ap node_of k.stood in
-      let a : ℕ → Note = ledger_of s t.parent in
-      let a' : ℕ → Note = ledger_of s' t.parent in
+      let a : ℕ → Note = notes_of s t.parent in
+      let a' : ℕ → Note = notes_of s' t.parent in
       let last : Leaf (heap_of s) at key v = record {
         fitted = w.fitted;
         seven = seven;
@@ -204,6 +208,7 @@ module _ {P : Type 0} where
         record { was = m.0; now = same key ∙ m.1; others = λ x lx ne. same x ∙ m.2 x lx ne },
       )
 
+  -- a fork that came in over a node with another prefix is the key's insertion in the tree
   pub add_fork_done : (s s' : Nodes P) (key : List ℕ) (at below common over leaf : ℕ) (v : P) → length key ≡ 8 → IsTree s → OnWay s key at
       → child_for (heap_of s at) key ≡ Below below → fits (heap_of s below).prefix key ≡ false → DiffersAt key (heap_of s below).prefix common
       → AddsFork s s' key at below common over leaf v
@@ -214,8 +219,8 @@ module _ {P : Type 0} where
       let hb : heap_of s b ≡ node_of (Some k.lower) = ap node_of k.stands in
       let hc : heap_of s' c ≡ node_of (Some k.fork) = ap node_of k.taken_over in
       let parent' : ℕ → ℕ = λ m. cond (m == c) at (cond (m == d) c (cond (m == b) c (t.parent m))) in
-      let a : ℕ → Note = ledger_of s t.parent in
-      let a' : ℕ → Note = ledger_of s' parent' in
+      let a : ℕ → Note = notes_of s t.parent in
+      let a' : ℕ → Note = notes_of s' parent' in
       let i : IsChild a (heap_of s) at (get_or key (length (heap_of s at).prefix) 0) b = is_child s t at b key w.stands hangs in
       let short : length (heap_of s b).prefix ≤ 7 = short_prefix s t b (below_stands s t at b key w.stands hangs) in
       let here : n < length (heap_of s b).prefix = parts.within in
@@ -226,7 +231,7 @@ module _ {P : Type 0} where
       let past : length (heap_of s at).prefix < n = parted_below (heap_of s at).prefix (heap_of s b).prefix key n w.fitted i.fitted i.longer (sym i.byte) parts in
       let ab : at ≢ b = (λ q. let z : length (heap_of s at).prefix ≡ length (heap_of s b).prefix = ap (λ y. length (heap_of s y).prefix) q in absurd (omega (arith, i.longer))) in
       let stands_not : (m x : ℕ) → ContainsKey s m → get s x ≡ None → m ≢ x = λ m x st e q. (let Q : ℕ → Type 0 = λ y. ContainsKey s y in let z : ContainsKey s x = subst Q q st in let y : false ≡ true = rw e at z in cc) in
-      let bs : ContainsKey s b = stands_some s b k.lower k.stands in
+      let bs : ContainsKey s b = stands_at s b k.lower k.stands in
       let splits : Splits a (heap_of s) a' (heap_of s') at b c d key v = record {
         linked = linked_of s t.parent at w.stands;
         fitted = w.fitted;
@@ -246,11 +251,11 @@ module _ {P : Type 0} where
         prefix = rw (hx, hy) k.differs.prefix;
         child = rw (hx, hy) (ap hung_in k.differs.here);
         beside = λ x ne. let ne' : x ≢ get_or key (length (prefix_of k.before)) 0 = rw hx at ne in rw (hx, hy) (ap hung_in (k.differs.beside x ne'));
-        joined_above = linked_of s' parent' c (stands_some s' c k.fork k.taken_over);
+        joined_above = linked_of s' parent' c (stands_at s' c k.fork k.taken_over);
         parent_above = rw (same_test c c refl) refl;
-        joined_leaf = linked_of s' parent' d (stands_some s' d k.made k.taken_leaf);
+        joined_leaf = linked_of s' parent' d (stands_at s' d k.made k.taken_leaf);
         parent_leaf = rw (other_test d c (λ q. k.apart (sym q)), same_test d d refl) refl;
-        stays_old = linked_of s' parent' b (stands_some s' b k.lower (k.others b (stands_not b c bs k.vacant_over) (stands_not b d bs k.vacant_leaf) (λ q. ab (sym q)) ∙ k.stands));
+        stays_old = linked_of s' parent' b (stands_at s' b k.lower (k.others b (stands_not b c bs k.vacant_over) (stands_not b d bs k.vacant_leaf) (λ q. ab (sym q)) ∙ k.stands));
         parent_old = rw (other_test b c (stands_not b c bs k.vacant_over), other_test b d (stands_not b d bs k.vacant_leaf), same_test b b refl) refl;
         notes = λ m nc nd nb. note_same s s' t.parent parent' m
             (elim (same_or_not m at) [

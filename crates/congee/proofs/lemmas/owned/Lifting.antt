@@ -1,12 +1,12 @@
 -- A node's only child takes the node's place: the tree and its map stay.
-use Rattle.std.proofs.Common.{◌≡◌, ◌≢◌, ℕ, ◌==◌, ◌<◌, inl, inr, true, false, cond, length, refl, sym, ap, subst, ◌∙◌, arith}
+use Rattle.std.proofs.Common.{◌≡◌, ◌≢◌, ℕ, ◌==◌, inl, inr, true, false, cond, length, refl, sym, ap, subst, ◌∙◌, arith}
 use Rattle.std.specs.Prelude.{None, Some, IsSome}
 use Rattle.std.specs.FinMap as map
 use Rattle.slab.specs.Slab.{get, ContainsKey}
 use Rattle.congee.specs.Heap.{Node as Seen, Hung, Nothing, Below, Holds}
 use Rattle.congee.specs.Notes.{Linked, Gone, Note, Tree, IsChild, Lifts}
 use Rattle.congee.specs.forms.Forms.{capacity_of, children_of}
-use Rattle.congee.specs.owned.Arena.{Nodes, hung_in, node_of, heap_of, ledger_of, IsFilled, IsTree}
+use Rattle.congee.specs.owned.Arena.{Nodes, hung_in, node_of, heap_of, notes_of, IsFilled, IsTree}
 use Rattle.congee.specs.owned.Lesser.{SameMap}
 use Rattle.congee.specs.owned.Lifting.{MayLift, MovesUp}
 use Rattle.congee.specs.declared.forms.child.Child.TheVariants.{Node as Sub}
@@ -14,14 +14,14 @@ use Rattle.congee.proofs.lemmas.Fits.{same_test, other_test}
 use Rattle.congee.proofs.lemmas.Graft.{one_place}
 use Rattle.congee.proofs.lemmas.Lift.{lift_tree, lift_map}
 use Rattle.congee.proofs.lemmas.Rename.{Renamed, Named, named, in_place, renamed_tree, renamed_map}
-use Rattle.congee.proofs.lemmas.Tree.{same_or_not}
+use Rattle.congee.proofs.lemmas.Tree.{same_or_not, by_length}
 use Rattle.congee.proofs.lemmas.owned.Edits.{wide_after}
 use Rattle.congee.proofs.lemmas.owned.Filled.{filled_at, filled_with, filled_none}
 use Rattle.congee.proofs.lemmas.owned.Moves.{insert_at, insert_beside, stands_at}
 use Rattle.congee.proofs.lemmas.owned.Ways.{linked_of, stands_of}
 
 -- a node with a node's name at a byte
-abbrev pub with_below : {V : Type 0} → Seen V → ℕ → ℕ → Seen V
+abbrev with_below : {V : Type 0} → Seen V → ℕ → ℕ → Seen V
 with_below n b o = record {
   prefix = n.prefix;
   children = λ c. cond (c == b) (Below o) (n.children c);
@@ -43,7 +43,7 @@ module _ {P : Type 0} (s s' : Nodes P) (g b p : ℕ) (t : IsTree s) (r : MayLift
   m = k.name
 
   abbrev a : ℕ → Note
-  a = ledger_of s t.parent
+  a = notes_of s t.parent
 
   abbrev h : ℕ → Seen P
   h = heap_of s
@@ -79,26 +79,23 @@ module _ {P : Type 0} (s s' : Nodes P) (g b p : ℕ) (t : IsTree s) (r : MayLift
   child_o : IsChild a h p r.one.byte o
   child_o = t.tree.down p r.one.byte o child_p.linked only_o
 
-  by_length : (u w : ℕ) → length (h u).prefix < length (h w).prefix → u ≢ w
-  by_length u w l e = let z : length (h u).prefix ≡ length (h w).prefix = ap (λ v. length (h v).prefix) e in absurd (omega (arith, l))
-
   gp : g ≢ p
-  gp = by_length g p child_p.longer
+  gp = by_length h g p child_p.longer
 
   po : p ≢ o
-  po = by_length p o child_o.longer
+  po = by_length h p o child_o.longer
 
   go : g ≢ o
-  go = by_length g o (omega (arith, child_p.longer, child_o.longer))
+  go = by_length h g o (omega (arith, child_p.longer, child_o.longer))
 
   root_length : length (h 0).prefix ≡ 0
   root_length = ap length t.tree.empty
 
   rp : 0 ≢ p
-  rp = by_length 0 p (omega (arith, child_p.longer, root_length))
+  rp = by_length h 0 p (omega (arith, child_p.longer, root_length))
 
   ro : 0 ≢ o
-  ro = by_length 0 o (omega (arith, child_o.longer, root_length))
+  ro = by_length h 0 o (omega (arith, child_o.longer, root_length))
 
   lifts : Lifts a h a1 h1 g b p r.one.byte o
   lifts = record {
@@ -146,7 +143,7 @@ module _ {P : Type 0} (s s' : Nodes P) (g b p : ℕ) (t : IsTree s) (r : MayLift
   parent' n = cond (n == m) g (in_place o m (t.parent n))
 
   abbrev a' : ℕ → Note
-  a' = ledger_of s' parent'
+  a' = notes_of s' parent'
 
   same_node : (n : ℕ) → ContainsKey s n → n ≢ g → n ≢ p → n ≢ o → get s' n ≡ get s n
   same_node n st ng np nv = k.others n ng np nv (free_name n st nv)
@@ -268,6 +265,7 @@ module _ {P : Type 0} (s s' : Nodes P) (g b p : ℕ) (t : IsTree s) (r : MayLift
   pub moved_apart : o ≢ 0
   moved_apart e = ro (sym e)
 
+  -- an only child in the place of its node leaves the tree and its map
   pub moved_up : SameMap s s'
   moved_up = record {
     tree = record {

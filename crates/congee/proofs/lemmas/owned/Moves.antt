@@ -1,17 +1,17 @@
 -- What single changes of nodes make of the tree, one after another.
-use Rattle.std.proofs.Common.{rules, ◌≡◌, ◌≢◌, ℕ, ◌<◌, true, false, List, length, take, get_or, refl, sym, ◌∙◌, ap, subst}
+use Rattle.std.proofs.Common.{rules, ◌≡◌, ◌≢◌, ℕ, ◌<◌, true, false, List, length, get_or, refl, sym, ◌∙◌, ap, subst}
 use Rattle.std.specs.Prelude.{Option, Some, None, is_some, IsSome}
 use Rattle.std.specs.Ordering.{nat_cmp}
 use Rattle.std.specs.FinMap as map
 use Rattle.std.specs.FinMap.{gets}
 use Rattle.std.specs.Cmp.{nat_cmp_total}
 use Rattle.slab.specs.Slab.{get, ContainsKey, Updates}
-use Rattle.congee.specs.Heap.{Below, Holds, Nothing, fits, child_for}
+use Rattle.congee.specs.Heap.{Holds, Nothing, child_for}
 use Rattle.congee.specs.forms.Forms.{prefix_of, children_of, form_of, capacity_of, is_full_of, Becomes}
 use Rattle.congee.specs.owned.Arena.{Nodes, hung_in, node_of, heap_of, IsFilled, IsTree, OnWay, Hangs}
 use Rattle.congee.specs.owned.Sizes.{bytes_of}
-use Rattle.congee.specs.owned.Changes.{Differs, MapChange, AddsLeaf, AddsFork, DropsLeaf, DiffersAt}
-use Rattle.congee.specs.owned.OwnedSteps.{Sets, Makes, MakesRoom, FreshNode, Fills, Forks, IsHeld}
+use Rattle.congee.specs.owned.Changes.{Differs, MapChange, DropsLeaf}
+use Rattle.congee.specs.owned.OwnedSteps.{Sets, Makes, MakesRoom, FreshNode, IsHeld}
 use Rattle.congee.specs.declared.forms.base_node.Node.{Node as Form}
 use Rattle.congee.specs.declared.forms.base_node.NodeType.TheVariants.{N4}
 use Rattle.congee.specs.declared.forms.child.Child.{Child}
@@ -22,22 +22,13 @@ use Rattle.congee.proofs.lemmas.owned.Ways.{linked_of, above_apart}
 use Rattle.congee.proofs.lemmas.owned.Sizes.{sets_bytes}
 use Rattle.congee.proofs.lemmas.forms.Full.{full_at, full_is}
 use Rattle.congee.proofs.lemmas.owned.Edits.{child_of, put_done}
-use Rattle.congee.proofs.lemmas.owned.Joins.{add_leaf_done, drop_leaf_done, add_fork_done}
+use Rattle.congee.proofs.lemmas.owned.Joins.{drop_leaf_done}
+pub use Rattle.congee.proofs.lemmas.owned.Joins.{stands_at}
+pub use Rattle.congee.proofs.lemmas.forms.MapLemmas.{insert_at, insert_beside, remove_at, remove_beside}
 
 -- look-ups in a map of children after a change at one byte
 module _ {X : Type 0} where
-  pub insert_at : (m : map.FinMap nat_cmp X) (k : ℕ) (x : X) → map.get (map.insert m k x) k ≡ Some x
-  insert_at m k x = grind (gets, rules)
-
-  pub insert_beside : (m : map.FinMap nat_cmp X) (k : ℕ) (x : X) (q : ℕ) → q ≢ k → map.get (map.insert m k x) q ≡ map.get m q
-  insert_beside m k x q ne = grind (gets, rules, ne)
-
-  pub remove_at : (m : map.FinMap nat_cmp X) (k : ℕ) → map.get (map.remove m k) k ≡ None
-  remove_at m k = grind (gets, rules)
-
-  pub remove_beside : (m : map.FinMap nat_cmp X) (k : ℕ) (q : ℕ) → q ≢ k → map.get (map.remove m k) q ≡ map.get m q
-  remove_beside m k q ne = grind (gets, rules, ne)
-
+  -- an empty map into which a pair is put has one
   pub len_one : (k : ℕ) (x : X) → map.len (map.insert {R = nat_cmp} map.empty k x) ≡ 1
   len_one k x = grind (gets, rules)
 
@@ -58,21 +49,23 @@ module _ {P : Type 0} where
       of None h = absurd (cc h)
       of (Some x) h = (x, refl)
 
+  -- two nodes that are read under one name are one
   pub one_node : (s : Nodes P) (n : ℕ) (x y : Form ℕ P) → get s n ≡ Some x → get s n ≡ Some y → x ≡ y
   one_node s n x y e f = let z : Some x ≡ Some y = sym e ∙ f in cc
 
-  pub held_child : (o : Option (Child ℕ P)) (v : P) → hung_in o ≡ Holds v → o ≡ Some (Value v)
+  held_child : (o : Option (Child ℕ P)) (v : P) → hung_in o ≡ Holds v → o ≡ Some (Value v)
   held_child None v e = absurd (cc)
   held_child (Some Blank) v e = absurd (cc)
   held_child (Some (Sub c)) v e = absurd (cc)
   held_child (Some (Value w)) v e = ap (λ z. Some (Value z)) (let f : Holds w ≡ Holds v = e in cc)
 
-  pub free_child : (o : Option (Child ℕ P)) → hung_in o ≡ Nothing → o ≡ None
+  free_child : (o : Option (Child ℕ P)) → hung_in o ≡ Nothing → o ≡ None
   free_child None e = refl
   free_child (Some Blank) e = absurd (cc)
   free_child (Some (Sub c)) e = absurd (cc)
   free_child (Some (Value w)) e = absurd (cc)
 
+  -- a node that gets a child differs from the one before by this child alone
   pub differs_insert : (x y : Form ℕ P) (byte : ℕ) (c : Child ℕ P) → Becomes x y (map.insert (children_of x) byte c) → Differs x y byte (Some c)
   differs_insert x y byte c b = record {
     prefix = b.prefix;
@@ -81,6 +74,7 @@ module _ {P : Type 0} where
     wide = λ w. ap capacity_of b.form ∙ w;
   }
 
+  -- a node that loses a child differs from the one before by this child alone
   pub differs_remove : (x y : Form ℕ P) (byte : ℕ) → Becomes x y (map.remove (children_of x) byte) → Differs x y byte None
   differs_remove x y byte b = record {
     prefix = b.prefix;
@@ -89,11 +83,11 @@ module _ {P : Type 0} where
     wide = λ w. ap capacity_of b.form ∙ w;
   }
 
-  pub updates_twice : (s s' s'' : Nodes P) (at : ℕ) (o p : Option (Form ℕ P)) → Updates s s' at o → Updates s' s'' at p → Updates s s'' at p
+  updates_twice : (s s' s'' : Nodes P) (at : ℕ) (o p : Option (Form ℕ P)) → Updates s s' at o → Updates s' s'' at p → Updates s s'' at p
   updates_twice s s' s'' at o p u w = record { changed = w.changed; others = λ m ne. w.others m ne ∙ u.others m ne }
 
   -- what a leaf has for the key changes
-  pub leaf_edit : (s s' : Nodes P) (key : List ℕ) (at : ℕ) (x y : Form ℕ P) (old new : Option P) → length key ≡ 8 → IsTree s → OnWay s key at
+  leaf_edit : (s s' : Nodes P) (key : List ℕ) (at : ℕ) (x y : Form ℕ P) (old new : Option P) → length key ≡ 8 → IsTree s → OnWay s key at
       → get s at ≡ Some x → length (heap_of s at).prefix ≡ 7 → map.get (children_of x) (get_or key (length (heap_of s at).prefix) 0) ≡ child_of old
       → Differs x y (get_or key (length (heap_of s at).prefix) 0) (child_of new) → IsFilled (Some y) → Updates s s' at (Some y)
       → IsTree s' × MapChange s s' key old new
@@ -109,6 +103,7 @@ module _ {P : Type 0} where
       plain None = refl
       plain (Some v) = refl
 
+  -- a node of a tree that has a value for a key on its way has a prefix of seven bytes
   pub held_seven : (s : Nodes P) (key : List ℕ) (at : ℕ) → IsTree s → OnWay s key at → (h : IsHeld s key at) → length (heap_of s at).prefix ≡ 7
   held_seven s key at t w h = t.tree.leaves at _ h.value (linked_of s t.parent at w.stands) h.holds
 
@@ -126,35 +121,15 @@ module _ {P : Type 0} where
       let i : x ≡ f.node = one_node s n x f.node e f.stands in
       ap (λ y. map.get (children_of y) b) i ∙ (ap (λ m. map.get m b) f.children ∙ map.get-empty _ b)
 
+  -- a node that was just made isn't full
   pub fresh_room : (s : Nodes P) (n : ℕ) (p : List ℕ) → FreshNode s n p → (x : Form ℕ P) → get s n ≡ Some x → is_full_of x ≡ false
   fresh_room s n p f x e =
       let i : x ≡ f.node = one_node s n x f.node e f.stands in
       ap is_full_of i ∙ full_is f.node ∙ (ap (λ t. full_at t (map.len (children_of f.node))) f.form ∙ (ap (λ m. full_at N4 (map.len m)) f.children ∙ grind (gets, rules)))
 
+  -- a node that was made is fresh, in each later arena where it stands as it was made
   pub fresh_made : (s s' s'' : Nodes P) (n : ℕ) (p : List ℕ) → Makes s s' n p → get s'' n ≡ get s' n → FreshNode s'' n p
   fresh_made s s' s'' n p k e = record { node = k.node; stands = e ∙ k.updates.changed; form = k.form; prefixed = k.prefixed; children = k.children }
-
-  pub fill_done : (s s' : Nodes P) (n : ℕ) (key : List ℕ) (v : P) → (f : FreshNode s n (take 7 key)) → Sets s s' n f.node (map.insert (children_of f.node) (get_or key 7 0) (Value v))
-      → Fills s s' n key v
-  fill_done s s' n key v f k =
-      let d = differs_insert f.node k.node (get_or key 7 0) (Value v) k.becomes in
-      record {
-        node = k.node;
-        leaf = record {
-          prefix = d.prefix ∙ f.prefixed;
-          value = d.here;
-          beside = λ b ne. d.beside b ne ∙ fresh_absent s n _ f f.node f.stands b;
-        };
-        updates = k.updates;
-      }
-
-  pub held_result : (s : Nodes P) (key : List ℕ) (at : ℕ) (x : Form ℕ P) (old : Child ℕ P) → get s at ≡ Some x → (h : IsHeld s key at)
-      → Some old ≡ map.get (children_of x) (get_or key (length (heap_of s at).prefix) 0) → old ≡ Value h.value
-  held_result s key at x old e h w = let z : Some old ≡ Some (Value h.value) = w ∙ held_is s key at x e h in cc
-
-  pub held_some : (s : Nodes P) (key : List ℕ) (at : ℕ) → IsHeld s key at → (x : Form ℕ P) → get s at ≡ Some x
-      → IsSome (map.get (children_of x) (get_or key (length (heap_of s at).prefix) 0))
-  held_some s key at h x e = rw (held_is s key at x e h) refl
 
   -- another value in the place of the key's
   pub replaced : (s s' : Nodes P) (key : List ℕ) (at byte : ℕ) (old new : P) → length key ≡ 8 → IsTree s → OnWay s key at → IsHeld s key at
@@ -191,18 +166,17 @@ module _ {P : Type 0} where
         sets_bytes s s' at n.0 _ n.1 k,
       )
 
-  pub free_is : (s : Nodes P) (key : List ℕ) (at : ℕ) (x : Form ℕ P) → get s at ≡ Some x → child_for (heap_of s at) key ≡ Nothing
+  free_is : (s : Nodes P) (key : List ℕ) (at : ℕ) (x : Form ℕ P) → get s at ≡ Some x → child_for (heap_of s at) key ≡ Nothing
       → map.get (children_of x) (get_or key (length (prefix_of x)) 0) ≡ None
   free_is s key at x e f =
       let hx : heap_of s at ≡ node_of (Some x) = ap node_of e in
       free_child _ (rw hx at f)
 
+  -- the prefix that the tree sees under a name is that of the node there
   pub prefix_at : (s : Nodes P) (at : ℕ) (x : Form ℕ P) → get s at ≡ Some x → (heap_of s at).prefix ≡ prefix_of x
   prefix_at s at x e = rw e refl
 
-  pub stands_at : (s : Nodes P) (at : ℕ) (x : Form ℕ P) → get s at ≡ Some x → ContainsKey s at
-  stands_at s at x e = rw e refl
-
+  -- a name with a node and one without are two
   pub apart_of : (s : Nodes P) (m n : ℕ) (x : Form ℕ P) → get s m ≡ Some x → get s n ≡ None → m ≢ n
   apart_of s m n x e f q = let Q : ℕ → Type 0 = λ y. get s y ≡ Some x in let z : None ≡ Some x = sym f ∙ subst Q q e in cc
 
@@ -217,22 +191,26 @@ module _ {P : Type 0} where
     pub room : is_full_of node ≡ false
     pub wide : capacity_of (form_of before) ≡ 256 → capacity_of (form_of node) ≡ 256
 
+  -- a node that was given room stands
   pub roomy_stands : (s s' : Nodes P) (at : ℕ) → Roomy s s' at → ContainsKey s' at
   roomy_stands s s' at r = stands_at s' at r.node r.now
 
+  -- the key's byte at the node with room is the one that it was at the node before
   pub roomy_byte : (s s' : Nodes P) (key : List ℕ) (at byte : ℕ) → (r : Roomy s s' at) → byte ≡ get_or key (length (heap_of s' at).prefix) 0 → byte ≡ get_or key (length (prefix_of r.before)) 0
   roomy_byte s s' key at byte r b = b ∙ ap (λ p. get_or key (length p) 0) (prefix_at s' at r.node r.now ∙ r.prefix)
 
+  -- what had nothing at the key's byte has nothing there with room
   pub roomy_absent : (s s' : Nodes P) (key : List ℕ) (at byte : ℕ) → (r : Roomy s s' at) → child_for (heap_of s at) key ≡ Nothing → byte ≡ get_or key (length (heap_of s' at).prefix) 0
       → (x : Form ℕ P) → get s' at ≡ Some x → map.get (children_of x) byte ≡ None
   roomy_absent s s' key at byte r f b x e =
       let i : x ≡ r.node = one_node s' at x r.node e r.now in
       ap (λ y. map.get (children_of y) byte) i ∙ (ap (λ m. map.get m byte) r.children ∙ (ap (map.get (children_of r.before)) (roomy_byte s s' key at byte r b) ∙ free_is s key at r.before r.was f))
 
+  -- a node that was given room isn't full
   pub roomy_room : (s s' : Nodes P) (at : ℕ) → Roomy s s' at → (x : Form ℕ P) → get s' at ≡ Some x → is_full_of x ≡ false
   roomy_room s s' at r x e = ap is_full_of (one_node s' at x r.node e r.now) ∙ r.room
 
-  pub roomy_differs : (s s' s'' : Nodes P) (key : List ℕ) (at byte : ℕ) (ch : Child ℕ P) → (r : Roomy s s' at) → byte ≡ get_or key (length (heap_of s' at).prefix) 0
+  roomy_differs : (s s' s'' : Nodes P) (key : List ℕ) (at byte : ℕ) (ch : Child ℕ P) → (r : Roomy s s' at) → byte ≡ get_or key (length (heap_of s' at).prefix) 0
       → (k : Sets s' s'' at r.node (map.insert (children_of r.node) byte ch)) → Differs r.before k.node (get_or key (length (prefix_of r.before)) 0) (Some ch)
   roomy_differs s s' s'' key at byte ch r b k =
       let d = differs_insert r.node k.node byte ch k.becomes in
@@ -244,6 +222,7 @@ module _ {P : Type 0} where
         wide = λ w. d.wide (r.wide w);
       })
 
+  -- a node for which room was made is the one before, with room
   pub grown_roomy : (s s' : Nodes P) (at : ℕ) → ContainsKey s at → ((x : Form ℕ P) → get s at ≡ Some x → MakesRoom s s' at x) → Roomy s s' at
   grown_roomy s s' at st g =
       let n = node_at s at st in
@@ -267,163 +246,6 @@ module _ {P : Type 0} where
         leaf_edit s s2 key at r.before k.node None (Some v) len t w r.was seven (rw p (free_is s key at r.before r.was f)) (rw p d) (filled_with k.node _ (Value v) d.here)
             (updates_twice s s1 s2 at _ _ k0.updates k.updates),
         sets_bytes s1 s2 at r.node _ r.now k,
-      )
-
-  -- a node that was made, beside one that is given room
-  pub made_roomy : (s0 s1 s2 s3 : Nodes P) (at leaf : ℕ) (p key : List ℕ) (v : P) → ContainsKey s0 at → Makes s0 s1 leaf p
-      → ((x : Form ℕ P) → get s1 at ≡ Some x → MakesRoom s1 s2 at x) → Fills s2 s3 leaf key v → Roomy s0 s3 at
-  made_roomy s0 s1 s2 s3 at leaf p key v st m g f =
-      let n = node_at s0 at st in
-      let ne : at ≢ leaf = apart_of s0 at leaf n.0 n.1 m.vacant in
-      let e1 : get s1 at ≡ Some n.0 = m.updates.others at ne ∙ n.1 in
-      let k = g n.0 e1 in
-      record { before = n.0; was = n.1; node = k.node; now = f.updates.others at ne ∙ k.updates.changed; prefix = k.prefixed; children = k.children; room = k.room; wide = k.wide }
-
-  pub made_fresh : (s0 s1 s2 : Nodes P) (at leaf : ℕ) (p : List ℕ) → ContainsKey s0 at → Makes s0 s1 leaf p
-      → ((x : Form ℕ P) → get s1 at ≡ Some x → MakesRoom s1 s2 at x) → FreshNode s2 leaf p
-  made_fresh s0 s1 s2 at leaf p st m g =
-      let n = node_at s0 at st in
-      let ne : at ≢ leaf = apart_of s0 at leaf n.0 n.1 m.vacant in
-      let k = g n.0 (m.updates.others at ne ∙ n.1) in
-      fresh_made s0 s1 s2 leaf p m (k.updates.others leaf (λ q. ne (sym q)))
-
-  pub leaf_added : (s0 s1 s2 s3 s4 : Nodes P) (key : List ℕ) (at leaf byte : ℕ) (v : P) → length key ≡ 8 → IsTree s0 → OnWay s0 key at
-      → child_for (heap_of s0 at) key ≡ Nothing → length (heap_of s0 at).prefix < 7
-      → Makes s0 s1 leaf (take 7 key) → ((x : Form ℕ P) → get s1 at ≡ Some x → MakesRoom s1 s2 at x) → Fills s2 s3 leaf key v
-      → byte ≡ get_or key (length (heap_of s3 at).prefix) 0
-      → ((x : Form ℕ P) → get s3 at ≡ Some x → Sets s3 s4 at x (map.insert (children_of x) byte (Sub leaf)))
-      → (IsTree s4 × MapChange s0 s4 key None (Some v)) × (bytes_of s4 ≡ bytes_of s3)
-  leaf_added s0 s1 s2 s3 s4 key at leaf byte v len t w free inner m g f b sets =
-      let r = made_roomy s0 s1 s2 s3 at leaf (take 7 key) key v w.stands m g f in
-      let ne : at ≢ leaf = apart_of s0 at leaf r.before r.was m.vacant in
-      let k0 = g r.before (m.updates.others at ne ∙ r.was) in
-      let k = sets r.node r.now in
-      let adds : AddsLeaf s0 s4 key at leaf v = record {
-        before = r.before;
-        after = k.node;
-        made = f.node;
-        was = r.was;
-        now = k.updates.changed;
-        differs = roomy_differs s0 s3 s4 key at byte (Sub leaf) r b k;
-        vacant = m.vacant;
-        taken = k.updates.others leaf (λ q. ne (sym q)) ∙ f.updates.changed;
-        has = f.leaf;
-        others = λ y nl na. k.updates.others y na ∙ (f.updates.others y nl ∙ (k0.updates.others y na ∙ m.updates.others y nl));
-      } in (
-        add_leaf_done s0 s4 key at leaf v len t w inner free adds,
-        sets_bytes s3 s4 at r.node _ r.now k,
-      )
-
-  pub forked : (s s1 s2 : Nodes P) (n : ℕ) (p : List ℕ) (byte leaf other below : ℕ) → (f : FreshNode s n p) → byte ≢ other
-      → Sets s s1 n f.node (map.insert (children_of f.node) byte (Sub leaf))
-      → ((x : Form ℕ P) → get s1 n ≡ Some x → Sets s1 s2 n x (map.insert (children_of x) other (Sub below)))
-      → Forks s s2 n p byte leaf other below × (bytes_of s2 ≡ bytes_of s)
-  forked s s1 s2 n p byte leaf other below f ne k sets =
-      let l = sets k.node k.updates.changed in
-      let d = differs_insert f.node k.node byte (Sub leaf) k.becomes in
-      let d' = differs_insert k.node l.node other (Sub below) l.becomes in (
-        record {
-          node = l.node;
-          prefixed = d'.prefix ∙ (d.prefix ∙ f.prefixed);
-          new_child = d'.beside byte ne ∙ d.here;
-          old_child = d'.here;
-          beside = λ b no nb. d'.beside b no ∙ (d.beside b nb ∙ fresh_absent s n p f f.node f.stands b);
-          updates = updates_twice s s1 s2 n _ _ k.updates l.updates;
-        },
-        sets_bytes s1 s2 n k.node _ k.updates.changed l ∙ sets_bytes s s1 n f.node _ f.stands k,
-      )
-
-  pub second_absent : (s s1 : Nodes P) (n : ℕ) (p : List ℕ) (byte leaf other : ℕ) → (f : FreshNode s n p) → byte ≢ other
-      → Sets s s1 n f.node (map.insert (children_of f.node) byte (Sub leaf)) → (x : Form ℕ P) → get s1 n ≡ Some x → map.get (children_of x) other ≡ None
-  second_absent s s1 n p byte leaf other f ne k x e =
-      let i : x ≡ k.node = one_node s1 n x k.node e k.updates.changed in
-      let d = differs_insert f.node k.node byte (Sub leaf) k.becomes in
-      ap (λ y. map.get (children_of y) other) i ∙ (d.beside other (λ q. ne (sym q)) ∙ fresh_absent s n p f f.node f.stands other)
-
-  pub second_room : (s s1 : Nodes P) (n : ℕ) (p : List ℕ) (byte leaf : ℕ) → (f : FreshNode s n p)
-      → Sets s s1 n f.node (map.insert (children_of f.node) byte (Sub leaf)) → (x : Form ℕ P) → get s1 n ≡ Some x → is_full_of x ≡ false
-  second_room s s1 n p byte leaf f k x e =
-      let i : x ≡ k.node = one_node s1 n x k.node e k.updates.changed in
-      let c : children_of k.node ≡ map.insert map.empty byte (Sub leaf) = k.becomes.children ∙ ap (λ m. map.insert m byte (Sub leaf)) f.children in
-      ap is_full_of i ∙ full_is k.node ∙ (ap (λ t. full_at t (map.len (children_of k.node))) (k.becomes.form ∙ f.form) ∙ (ap (λ m. full_at N4 (map.len m)) c ∙ ap (full_at N4) (len_one byte (Sub leaf))))
-
-  below_some : (o : Option (Child ℕ P)) (c : ℕ) → hung_in o ≡ Below c → IsSome o
-  below_some None c e = absurd (cc)
-  below_some (Some x) c e = refl
-
-  -- a fork comes in
-  pub record Forking (s0 s1 s2 s3 s4 : Nodes P) (key : List ℕ) (at common over leaf other below : ℕ) (v : P) : Type 0 where
-    pub lower : Form ℕ P
-    pub stands : get s0 below ≡ Some lower
-    pub parts : DiffersAt key (prefix_of lower) common
-    pub other_is : other ≡ get_or (prefix_of lower) common 0
-    pub over_made : Makes s0 s1 over (take common key)
-    pub leaf_made : Makes s1 s2 leaf (take 7 key)
-    pub fills : Fills s2 s3 leaf key v
-    pub forks : Forks s3 s4 over (take common key) (get_or key common 0) leaf other below
-
-  pub forking_at : (s0 s1 s2 s3 s4 : Nodes P) (key : List ℕ) (at common over leaf other below : ℕ) (v : P) → ContainsKey s0 at
-      → Forking s0 s1 s2 s3 s4 key at common over leaf other below v → get s4 at ≡ get s0 at
-  forking_at s0 s1 s2 s3 s4 key at common over leaf other below v st f =
-      let n = node_at s0 at st in
-      let no : at ≢ over = apart_of s0 at over n.0 n.1 f.over_made.vacant in
-      let nl : at ≢ leaf = apart_of s1 at leaf n.0 (f.over_made.updates.others at no ∙ n.1) f.leaf_made.vacant in
-      f.forks.updates.others at no ∙ (f.fills.updates.others at nl ∙ (f.leaf_made.updates.others at nl ∙ f.over_made.updates.others at no))
-
-  pub forking_present : (s0 s4 : Nodes P) (key : List ℕ) (at below byte : ℕ) → get s4 at ≡ get s0 at → child_for (heap_of s0 at) key ≡ Below below
-      → byte ≡ get_or key (length (heap_of s4 at).prefix) 0 → (x : Form ℕ P) → get s4 at ≡ Some x → IsSome (map.get (children_of x) byte)
-  forking_present s0 s4 key at below byte same h b x e =
-      let e0 : get s0 at ≡ Some x = sym same ∙ e in
-      let hx : heap_of s0 at ≡ node_of (Some x) = ap node_of e0 in
-      let h' : hung_in (map.get (children_of x) (get_or key (length (prefix_of x)) 0)) ≡ Below below = rw hx at h in
-      let b' : byte ≡ get_or key (length (prefix_of x)) 0 = b ∙ ap (λ p. get_or key (length p) 0) (prefix_at s4 at x e) in
-      let Q : ℕ → Type 0 = λ z. IsSome (map.get (children_of x) z) in
-      subst Q (sym b') (below_some _ below h')
-
-  pub fork_added : (s0 s1 s2 s3 s4 s5 : Nodes P) (key : List ℕ) (at common over leaf other below byte : ℕ) (v : P) → length key ≡ 8 → IsTree s0 → OnWay s0 key at
-      → child_for (heap_of s0 at) key ≡ Below below → fits (heap_of s0 below).prefix key ≡ false
-      → Forking s0 s1 s2 s3 s4 key at common over leaf other below v
-      → byte ≡ get_or key (length (heap_of s4 at).prefix) 0
-      → ((x : Form ℕ P) → get s4 at ≡ Some x → Sets s4 s5 at x (map.insert (children_of x) byte (Sub over)))
-      → (IsTree s5 × MapChange s0 s5 key None (Some v)) × (bytes_of s5 ≡ bytes_of s4)
-  fork_added s0 s1 s2 s3 s4 s5 key at common over leaf other below byte v len t w h df f b sets =
-      let n = node_at s0 at w.stands in
-      let same : get s4 at ≡ get s0 at = forking_at s0 s1 s2 s3 s4 key at common over leaf other below v w.stands f in
-      let e4 : get s4 at ≡ Some n.0 = same ∙ n.1 in
-      let k = sets n.0 e4 in
-      let no : at ≢ over = apart_of s0 at over n.0 n.1 f.over_made.vacant in
-      let nl : at ≢ leaf = apart_of s1 at leaf n.0 (f.over_made.updates.others at no ∙ n.1) f.leaf_made.vacant in
-      let ol : over ≢ leaf = apart_of s1 over leaf f.over_made.node f.over_made.updates.changed f.leaf_made.vacant in
-      let d = differs_insert n.0 k.node byte (Sub over) k.becomes in
-      let b' : byte ≡ get_or key (length (prefix_of n.0)) 0 = b ∙ ap (λ p. get_or key (length p) 0) (prefix_at s4 at n.0 e4) in
-      let D : ℕ → Type 0 = λ z. Differs n.0 k.node z (Some (Sub over)) in
-      let O : ℕ → Type 0 = λ z. map.get (children_of f.forks.node) z ≡ Some (Sub below) in
-      let B : ℕ → Type 0 = λ z. (q : ℕ) → q ≢ z → q ≢ get_or key common 0 → map.get (children_of f.forks.node) q ≡ None in
-      let adds : AddsFork s0 s5 key at below common over leaf v = record {
-        before = n.0;
-        after = k.node;
-        lower = f.lower;
-        fork = f.forks.node;
-        made = f.fills.node;
-        was = n.1;
-        now = k.updates.changed;
-        differs = subst D b' d;
-        vacant_over = f.over_made.vacant;
-        vacant_leaf = sym (f.over_made.updates.others leaf (λ q. ol (sym q))) ∙ f.leaf_made.vacant;
-        apart = ol;
-        taken_leaf = k.updates.others leaf (λ q. nl (sym q)) ∙ (f.forks.updates.others leaf (λ q. ol (sym q)) ∙ f.fills.updates.changed);
-        has = f.fills.leaf;
-        taken_over = k.updates.others over (λ q. no (sym q)) ∙ f.forks.updates.changed;
-        prefix = f.forks.prefixed;
-        old_child = subst O f.other_is f.forks.old_child;
-        new_child = f.forks.new_child;
-        beside = subst B f.other_is f.forks.beside;
-        stands = f.stands;
-        others = λ y yo yl ya. k.updates.others y ya ∙ (f.forks.updates.others y yo ∙ (f.fills.updates.others y yl ∙ (f.leaf_made.updates.others y yl ∙ f.over_made.updates.others y yo)));
-      } in
-      let parts : DiffersAt key (heap_of s0 below).prefix common = rw (prefix_at s0 below f.lower f.stands) f.parts in (
-        add_fork_done s0 s5 key at below common over leaf v len t w h df parts adds,
-        sets_bytes s4 s5 at n.0 _ e4 k,
       )
 
   -- a leaf goes with its only value
@@ -486,13 +308,3 @@ module _ {P : Type 0} where
       let j = sets1 l.0 l.1 in
       let k = sets2 n.0 (j.updates.others above ne ∙ n.1) in
       stands_at s2 at j.node (k.updates.others at (λ q. ne (sym q)) ∙ j.updates.changed)
-
-  pub dropped_bytes : (s0 s1 s2 : Nodes P) (key : List ℕ) (above at byte up : ℕ) → IsTree s0 → OnWay s0 key at → Hangs s0 key above at
-      → ((x : Form ℕ P) → get s0 at ≡ Some x → Sets s0 s1 at x (map.remove (children_of x) byte))
-      → ((x : Form ℕ P) → get s1 above ≡ Some x → Sets s1 s2 above x (map.remove (children_of x) up)) → bytes_of s2 ≡ bytes_of s0
-  dropped_bytes s0 s1 s2 key above at byte up t w hangs sets1 sets2 =
-      let l = node_at s0 at w.stands in
-      let n = node_at s0 above hangs.way.stands in
-      let j = sets1 l.0 l.1 in
-      let e1 : get s1 above ≡ Some n.0 = j.updates.others above (above_apart s0 t key above at hangs) ∙ n.1 in
-      sets_bytes s1 s2 above n.0 _ e1 (sets2 n.0 e1) ∙ sets_bytes s0 s1 at l.0 _ l.1 j

@@ -3,6 +3,7 @@ use Rattle.std.proofs.Common.{◌≡◌, refl, sym, ap}
 use Rattle.std.specs.Prelude.{Option, None, Some, Result, Ok, Err, IsSome, IfSome, OnErr, is_some}
 
 module _ {A : Type 0} where
+  -- what is the same as something is something
   pub is_some_of_some : (x : A) (o : Option A) → Some x ≡ o → IsSome o
   is_some_of_some x o e = ap is_some (sym e)
 
@@ -10,9 +11,11 @@ module _ {A : Type 0} where
   or_else x None = x
   or_else x (Some y) = y
 
+  -- options that have something and are the same have the same
   pub some_injective : (x y : A) → Some x ≡ Some y → x ≡ y
   some_injective x y e = ap (or_else x) e
 
+  -- what follows wherever an option has something is told of the option
   pub if_some : (o : Option A) (P : A → Type 0) → ((x : A) → o ≡ Some x → P x) → IfSome o P
   if_some None P f = tt
   if_some (Some x) P f = f x refl

@@ -4,8 +4,8 @@ use Rattle.std.specs.Prelude.{Option, None, Some}
 use Rattle.congee.specs.Heap.{Node, Hung, Nothing, Below, Holds, fits, child_for, value_at}
 use Rattle.congee.specs.Notes.{Linked, Note, Tree}
 use Rattle.congee.proofs.lemmas.Fits.{same_key}
-use Rattle.congee.proofs.lemmas.Tree.{same_or_not, finds}
-use Rattle.congee.proofs.lemmas.Graft.{Graft, old_down, old_up, old_leaves, untouched, on_test}
+use Rattle.congee.proofs.lemmas.Tree.{same_or_not, value_at_linked}
+use Rattle.congee.proofs.lemmas.Graft.{Graft, old_down, old_up, old_leaves, walk_untouched, on_test}
 
 -- a value as a child, or no child
 abbrev pub put_child : {V : Type 0} → Option V → Hung V
@@ -13,10 +13,11 @@ put_child None = Nothing
 put_child (Some v) = Holds v
 
 module _ {V : Type 0} where
-  pub put_no_node : (o : Option V) (c : ℕ) → put_child o ≡ Below c → ⊥
+  put_no_node : (o : Option V) (c : ℕ) → put_child o ≡ Below c → ⊥
   put_no_node None c e = cc
   put_no_node (Some v) c e = cc
 
+  -- where a value hangs, or nothing, it is what is found there
   pub put_value : (o : Option V) (go : ℕ → Option V) (x : Hung V) → x ≡ put_child o → Rattle.congee.specs.Heap.of_child go x ≡ o
   put_value None go x e = rw e refl
   put_value (Some v) go x e = rw e refl
@@ -51,6 +52,7 @@ module _ {V : Type 0} (a : ℕ → Note) (h h' : ℕ → Node V) (n : ℕ) (key 
       let Q : ℕ → Type 0 = λ y. (h' n).children y ≡ x in
       sym k.child ∙ subst Q q (subst P p e)
 
+  -- a leaf whose value for a key changed leaves a tree
   pub put_tree : Tree a h → Puts a h h' n key old new → Tree a h'
   put_tree t k =
       let g : Graft a h a h' n (get_or key (length (h n).prefix) 0) = put_graft k in
@@ -73,15 +75,16 @@ module _ {V : Type 0} (a : ℕ → Note) (h h' : ℕ → Node V) (n : ℕ) (key 
             (λ x. put_no_node old m (sym k.before ∙ x)) (t.up m l ne).linked;
       }
 
+  -- the map has the new value at the key, where it had the old one, and is the same elsewhere
   pub put_map : length key ≡ 8 → Tree a h → Puts a h h' n key old new
       → (value_at h key ≡ old) × (value_at h' key ≡ new) × ((k : List ℕ) → length k ≡ 8 → k ≢ key → value_at h' k ≡ value_at h k)
   put_map len t k =
       let g : Graft a h a h' n (get_or key (length (h n).prefix) 0) = put_graft k in
       let t' : Tree a h' = put_tree t k in
       let there : child_for (h' n) key ≡ put_child new = rw k.prefix k.child in (
-        finds a h t n key (put_child old) k.linked k.fitted k.before ∙ put_value old _ _ refl,
-        finds a h' t' n key (put_child new) k.linked (rw k.prefix k.fitted) there ∙ put_value new _ _ refl,
+        value_at_linked a h t n key (put_child old) k.linked k.fitted k.before ∙ put_value old _ _ refl,
+        value_at_linked a h' t' n key (put_child new) k.linked (rw k.prefix k.fitted) there ∙ put_value new _ _ refl,
         (λ x lx ne. on_test (fits (h n).prefix x)
-            (λ q. untouched a h a h' n _ t t' g 8 0 x t.root t'.root (inr (λ _ y. ne (same_key (h n).prefix x key q k.fitted (omega (arith, k.seven)) (omega (arith, k.seven)) y))))
-            (λ q. untouched a h a h' n _ t t' g 8 0 x t.root t'.root (inr (λ y _. cc)))),
+            (λ q. walk_untouched a h a h' n _ t t' g 8 0 x t.root t'.root (inr (λ _ y. ne (same_key (h n).prefix x key q k.fitted (omega (arith, k.seven)) (omega (arith, k.seven)) y))))
+            (λ q. walk_untouched a h a h' n _ t t' g 8 0 x t.root t'.root (inr (λ y _. cc)))),
       )

@@ -24,27 +24,32 @@ use Rattle.congee.proofs.lemmas.owned.Hangings.{bytes_two}
 use Rattle.congee.proofs.lemmas.owned.Moves.{apart_of, one_node, stands_at}
 use Rattle.congee.proofs.lemmas.owned.Sizes.{bytes_update, sets_bytes}
 use Rattle.congee.proofs.lemmas.owned.SlotChanges.{inner_own}
-use Rattle.congee.proofs.lemmas.owned.SlotLens.{counted, len_two}
+use Rattle.congee.proofs.lemmas.owned.SlotLens.{count_if_some, len_two}
 use Rattle.congee.proofs.lemmas.owned.Slots.{in_offset, low_offset}
 use Rattle.congee.proofs.lemmas.owned.SlotValues.{own_none}
 use Rattle.congee.proofs.lemmas.owned.Unfolds.{one_value}
 
 module _ {P : Type 0} (s : Nodes P) (g b p : ℕ) (r : MayLift s g b p) where
-  pub upper_is : (s1 : Nodes P) → get s1 g ≡ get s g → (x : Node ℕ P) → get s1 g ≡ Some x → r.upper ≡ x
+  upper_is : (s1 : Nodes P) → get s1 g ≡ get s g → (x : Node ℕ P) → get s1 g ≡ Some x → r.upper ≡ x
   upper_is s1 same x e = one_node s1 g r.upper x (same ∙ r.was) e
 
+  -- the lower node is no leaf
   pub lower_inner : (y : Node ℕ P) → get s p ≡ Some y → length (prefix_of y) < 7
   lower_inner y e = subst (λ z. length (prefix_of z) < 7) (one_node s p r.lower y r.stood e) r.inner_below
 
+  -- one node hangs in the lower node, and nothing else
   pub lower_one : (y : Node ℕ P) → get s p ≡ Some y → HasOneNode y
   lower_one y e = subst HasOneNode (one_node s p r.lower y r.stood e) r.one
 
+  -- the upper node, as it was, is no leaf
   pub upper_inner : (s1 : Nodes P) → get s1 g ≡ get s g → (x : Node ℕ P) → get s1 g ≡ Some x → length (prefix_of x) < 7
   upper_inner s1 same x e = subst (λ z. length (prefix_of z) < 7) (upper_is s1 same x e) r.inner
 
+  -- the upper node, as it was, has a node with a slot under the byte
   pub upper_node : (s1 : Nodes P) → get s1 g ≡ get s g → HasOwnSlot p → (x : Node ℕ P) → get s1 g ≡ Some x → HasNode (map.get (children_of x) b)
   upper_node s1 same own x e = subst (λ z. HasNode (map.get (children_of z) b)) (upper_is s1 same x e) (subst HasNode (sym r.hung) own)
 
+  -- the upper node, as it was, stands
   pub upper_stands : (s1 : Nodes P) → get s1 g ≡ get s g → ContainsKey s1 g
   upper_stands s1 same = stands_at s1 g r.upper (same ∙ r.was)
 
@@ -56,6 +61,7 @@ module _ {P : Type 0} (s : Nodes P) (g b p : ℕ) (r : MayLift s g b p) where
 
   -- the child has a slot of its own
   module _ (s1 : Nodes P) (o : ℕ) (k : GivesNode s s1 p r.lower o) where
+    -- where the lower node went, the upper one is as it was
     pub node_above : get s1 g ≡ get s g
     node_above = k.gone.others g r.apart
 
@@ -66,6 +72,7 @@ module _ {P : Type 0} (s : Nodes P) (g b p : ℕ) (r : MayLift s g b p) where
       node_is_child : o ≡ r.one.child
       node_is_child = child_is k.byte o k.only
 
+      -- the child under its own name, put in the lower node's place, moves up
       pub node_moves : MovesUp s s2 g b p r
       node_moves = record {
         name = o;
@@ -78,6 +85,7 @@ module _ {P : Type 0} (s : Nodes P) (g b p : ℕ) (r : MayLift s g b p) where
         others = λ m mg mp mo mn. put.updates.others m mg ∙ k.gone.others m mp;
       }
 
+      -- where the child moves up under its own name, the sizes fall by that of the lower node
       pub node_bytes : bytes_of s2 + size_of (form_of r.lower) ≡ bytes_of s
       node_bytes =
           let u = bytes_update s s1 p None k.gone in
@@ -96,6 +104,7 @@ module _ {P : Type 0} (s : Nodes P) (g b p : ℕ) (r : MayLift s g b p) where
     node_is : r.node ≡ lone_node lone
     node_is = one_node s r.one.child r.node (lone_node lone) r.child (ap (get s) (sym leaf_is) ∙ k.stood)
 
+    -- where the lower node went with the leaf, the upper one is as it was
     pub leaf_above : get s1 g ≡ get s g
     leaf_above = k.others g r.apart (not_leaf g (λ e. r.child_apart (sym e)))
 
@@ -108,13 +117,14 @@ module _ {P : Type 0} (s : Nodes P) (g b p : ℕ) (r : MayLift s g b p) where
     apart : p ≢ k.leaf
     apart e = r.child_apart_below (sym (e ∙ leaf_is))
 
+    -- where the lower node went with the leaf, there is room for one more node
     pub leaf_room : s1.capacity ≡ s.capacity → HasRoomFor s 0 → HasRoomFor s1 1
     leaf_room cap room =
         let u = len_two s s1 p k.leaf apart k.others in
-        let a : counted (get s p) ≡ 1 = ap counted r.stood in
-        let c : counted (get s k.leaf) ≡ 1 = ap counted k.stood in
-        let d : counted (get s1 p) ≡ 0 = ap counted k.gone in
-        let f : counted (get s1 k.leaf) ≡ 0 = ap counted k.left in
+        let a : count_if_some (get s p) ≡ 1 = ap count_if_some r.stood in
+        let c : count_if_some (get s k.leaf) ≡ 1 = ap count_if_some k.stood in
+        let d : count_if_some (get s1 p) ≡ 0 = ap count_if_some k.gone in
+        let f : count_if_some (get s1 k.leaf) ≡ 0 = ap count_if_some k.left in
         omega (arith, u, a, c, d, f, cap, room)
 
     module _ (s2 : Nodes P) (puts : (x : Node ℕ P) → get s1 g ≡ Some x → HangsLeaf s1 s2 g x b lone.key lone.value) where
@@ -127,6 +137,7 @@ module _ {P : Type 0} (s : Nodes P) (g b p : ℕ) (r : MayLift s g b p) where
       not_p : put_leaf.leaf ≢ p
       not_p e = put_leaf.inline (let Q : ℕ → Type 0 = λ z. HasOwnSlot z in subst Q (sym e) own)
 
+      -- the leaf under a new name, put in the lower node's place, moves up
       pub leaf_moves : MovesUp s s2 g b p r
       leaf_moves = record {
         name = put_leaf.leaf;
@@ -145,6 +156,7 @@ module _ {P : Type 0} (s : Nodes P) (g b p : ℕ) (r : MayLift s g b p) where
         others = λ m mg mp mo mn. put_leaf.others m mg mn ∙ k.others m mp (not_leaf m mo);
       }
 
+      -- where the leaf moves up under a new name, the sizes fall by that of the lower node
       pub leaf_bytes : bytes_of s2 + size_of (form_of r.lower) ≡ bytes_of s
       leaf_bytes =
           let one = bytes_two s s1 p k.leaf apart k.others in
@@ -160,7 +172,7 @@ module _ {P : Type 0} (s : Nodes P) (g b p : ℕ) (r : MayLift s g b p) where
           omega (arith, one, a, c, d, f, two, h, j, l, n)
 
 -- an inner node has a slot of its own
-pub inner_has_slot : {P : Type 0} (s : Slab (Slot P)) (v : Nodes P) → nodes_in s ≡ v → (at : ℕ) (y : Node ℕ P) → get v at ≡ Some y → length (prefix_of y) < 7 → HasOwnSlot at
+pub inner_has_slot : {P K : Type 0} (s : Slab (Slot P K)) (v : Nodes P) → nodes_in s ≡ v → (at : ℕ) (y : Node ℕ P) → get v at ≡ Some y → length (prefix_of y) < 7 → HasOwnSlot at
 inner_has_slot s v is at y e short = own_none at (at / 257) (byte_of (at % 257)) name (inner_own s v is at (at / 257) (byte_of (at % 257)) name (low (at % 257) (low_offset at)) y e short)
   where
     back : (m : ℕ) → offset_of (byte_of m) ≡ m

@@ -24,9 +24,11 @@ module _ {T : Type 0} where
       append_one [] p ys = refl
       append_one (x ∷ xs) p ys = ap (λ t. x ∷ t) (append_one xs p ys)
 
+  -- a pair that is written leaves the places after it as they were
   pub rest_kept : (out old : List T) (i : ℕ) (p : T) → i < length out → drop i out ≡ drop i old → drop (i + 1) (set out i p) ≡ drop (i + 1) old
   rest_kept out old i p l h = drop-set-lt (i + 1) out i p (omega arith) ∙ sym (drop-drop 1 i out) ∙ ap (drop 1) h ∙ drop-drop 1 i old
 
+  -- the first of no pairs are none
   pub take_none : (n : ℕ) (es : List T) → es ≡ [] → take n es ≡ []
   take_none zero [] e = refl
   take_none (suc n) [] e = refl
@@ -36,6 +38,7 @@ module _ {T : Type 0} where
   pub range_ended : (out rest all : List T) (i n : ℕ) → take i out ++ take n rest ≡ all → rest ≡ [] → take i out ≡ all
   range_ended out rest all i n h e = sym (append-nil (take i out)) ∙ ap (λ t. take i out ++ t) (sym (take_none n rest e)) ∙ h
 
+  -- pairs that fill a list's first places are as many as those places
   pub counted : (out all : List T) (i : ℕ) → i ≤ length out → take i out ≡ all → i ≡ length all
   counted out all i l e = sym (length-take-le i out l) ∙ ap length e
 
@@ -64,10 +67,12 @@ module _ {X : Type 0} where
   none_before start zero es n = none_before_zero start es
   none_before start (suc end) es n = absurd (n (omega arith))
 
+  -- a range without a key has no pairs
   pub range_none : (m : map.FinMap nat_cmp X) (start end : ℕ) → ((q : ℕ) → start ≤ q → q < end → map.get m q ≡ None) → in_range start end (map.entries m) ≡ []
   range_none m start zero h = none_before_zero start (map.entries m)
   range_none m start (suc e) h = ends_before start e (map.entries m) ∙ between_none m start e (λ q l n. h q l (omega (arith, n)))
 
+  -- the pairs of a range are its first one and those after it
   pub range_first : (m : map.FinMap nat_cmp X) (start end k : ℕ) (x : X) → IsFirst m start k x → k < end → in_range start end (map.entries m) ≡ (k, x) ∷ in_range (k + 1) end (map.entries m)
   range_first m start zero k x f l = absurd (omega (arith, l))
   range_first m start (suc e) k x f l =
@@ -89,6 +94,7 @@ module _ {X : Type 0} where
       → es ≡ (k, x) ∷ rest → items ++ keys_by of_word es ≡ all → (items ++ of_word k ∷ []) ++ keys_by of_word rest ≡ all
   key_written of_word items all es k x rest e h = append_assoc items (of_word k ∷ []) (keys_by of_word rest) ∙ ap (λ t. items ++ keys_by of_word t) (sym e) ∙ h
 
+  -- where no pair is left, all keys are written
   pub keys_ended : {K : Type 0} (of_word : ℕ → K) (items all : List K) (es : List (ℕ × X)) → es ≡ [] → items ++ keys_by of_word es ≡ all → items ≡ all
   keys_ended of_word items all es e h = sym (append-nil items) ∙ ap (λ t. items ++ keys_by of_word t) (sym e) ∙ h
 

@@ -10,7 +10,7 @@ use Rattle.slab.specs.Slab.{get, ContainsKey, Updates}
 use Rattle.congee.specs.Heap.{Node as Seen}
 use Rattle.congee.specs.Notes.{IsChild, Linked}
 use Rattle.congee.specs.forms.Forms.{Becomes, capacity_of, children_of, form_of, prefix_of, size_of}
-use Rattle.congee.specs.owned.Arena.{Nodes, hung_in, node_of, heap_of, ledger_of, IsTree, OnWay, Hangs}
+use Rattle.congee.specs.owned.Arena.{Nodes, hung_in, node_of, heap_of, notes_of, IsTree, OnWay, Hangs}
 use Rattle.congee.specs.owned.Changes.{MapChange}
 use Rattle.congee.specs.owned.Entries.{first_byte}
 use Rattle.congee.specs.owned.Going.{GaveWay, going_from, going_last, going_one, lesser_if, lesser_of}
@@ -43,13 +43,15 @@ module _ {P : Type 0} where
   pub seen_form : (s : Nodes P) (n : ℕ) (x : Node ℕ P) → get s n ≡ Some x → form_by (heap_of s n).capacity ≡ form_of x
   seen_form s n x e = ap (λ o. form_by (node_of o).capacity) e ∙ form_is x
 
+  -- the size that the tree sees of a node is that of its form
   pub seen_size : (s : Nodes P) (n : ℕ) (x : Node ℕ P) → get s n ≡ Some x → size_by (heap_of s n).capacity ≡ size_of (form_of x)
   seen_size s n x e = ap size_of (seen_form s n x e)
 
+  -- how many children the tree sees is how many the node has
   pub seen_count : (s : Nodes P) (n : ℕ) (x : Node ℕ P) → get s n ≡ Some x → (heap_of s n).count ≡ map.len (children_of x)
   seen_count s n x e = ap (λ o. (node_of o).count) e
 
-  pub lesser_is : (s : Nodes P) (n : ℕ) (x : Node ℕ P) → get s n ≡ Some x → lesser_of (heap_of s n) ≡ lesser_if (shrinks (form_of x) (map.len (children_of x))) (form_of x)
+  lesser_is : (s : Nodes P) (n : ℕ) (x : Node ℕ P) → get s n ≡ Some x → lesser_of (heap_of s n) ≡ lesser_if (shrinks (form_of x) (map.len (children_of x))) (form_of x)
   lesser_is s n x e = ap (λ f. lesser_if (shrinks f (heap_of s n).count) f) (seen_form s n x e) ∙ ap (λ c. lesser_if (shrinks (form_of x) c) (form_of x)) (seen_count s n x e)
 
 module _ {P : Type 0} where
@@ -59,21 +61,21 @@ module _ {P : Type 0} where
       lesser_is s at x e ∙ (ap (λ t. lesser_if (shrinks t (map.len (children_of x))) t) (sym ef) ∙ ap (λ c. lesser_if (shrinks f c) f) (sym en))
 
 -- a node that gives place to a lesser one is no least one, and its children fit there
-pub shrinks_greater : (f : NodeType) (n : ℕ) → shrinks f n ≡ true → f ≢ T4
+shrinks_greater : (f : NodeType) (n : ℕ) → shrinks f n ≡ true → f ≢ T4
 shrinks_greater T4 n s e = absurd (let z : false ≡ true = s in cc)
 shrinks_greater T16 n s e = absurd (cc)
 shrinks_greater T48 n s e = absurd (cc)
 shrinks_greater T256 n s e = absurd (cc)
 
 -- the children of a node that gives place to a lesser one fit in the form below
-pub shrinks_room : (f : NodeType) (n : ℕ) → shrinks f n ≡ true → n ≤ capacity_of (form_below f)
+shrinks_room : (f : NodeType) (n : ℕ) → shrinks f n ≡ true → n ≤ capacity_of (form_below f)
 shrinks_room T4 n e = absurd (let z : false ≡ true = e in cc)
 shrinks_room T16 n e = grind (arith, nat_tests)
 shrinks_room T48 n e = grind (arith, nat_tests)
 shrinks_room T256 n e = grind (arith, nat_tests)
 
 -- the least form alone has the least size
-pub size_not_least : (f : NodeType) → f ≢ T4 → size_of f ≢ 64
+size_not_least : (f : NodeType) → f ≢ T4 → size_of f ≢ 64
 size_not_least T4 ne e = ne refl
 size_not_least T16 ne e = absurd (omega (arith, e))
 size_not_least T48 ne e = absurd (omega (arith, e))
@@ -103,11 +105,13 @@ LessensBy cm bm cn bn f =
 
 -- how the charge and the sizes moved
 module _ {A : Type 0} (charged limit : A → ℕ) (c0 c1 : A) where
+  -- where a lesser node was charged, one was wanted, its size came to the charge, and it fitted
   pub charges_true : (b : Bool) (f : NodeType) (r : Bool) → r ≡ true → Charges charged limit c0 c1 (lesser_if b f) r → (b ≡ true) × (charged c1 ≡ charged c0 + size_of (form_below f)) × (charged c0 + size_of (form_below f) ≤ limit c0)
   charges_true true f true e k = (refl, k.charges.0, k.charges.1)
   charges_true false f true e k = absurd (k.charges)
   charges_true b f false e k = absurd (let z : false ≡ true = e in cc)
 
+  -- where no lesser node was charged, the charge is as it was
   pub charges_false : (b : Bool) (f : NodeType) (r : Bool) → r ≡ false → Charges charged limit c0 c1 (lesser_if b f) r → charged c1 ≡ charged c0
   charges_false true f false e k = k.charges.0
   charges_false false f false e k = k.charges
@@ -128,6 +132,7 @@ module _ {A : Type 0} (charged limit : A → ℕ) (c0 c1 : A) where
 
   -- one was, after which nodes of so many bytes went
   module _ (cm bm cn bn : ℕ) where
+    -- where a lesser node was charged, the sizes move as where a node gives way
     pub gave_way : (b : Bool) (f : NodeType) (r : Bool) (before gone : ℕ) → r ≡ true → Charges charged limit c0 c1 (lesser_if b f) r → bm + gone ≡ before → LessensBy cm bm cn bn f
         → GaveWay (charged c0) (limit c0) before bn gone (lesser_if b f)
     gave_way false f true before gone q k e l = absurd (k.charges)
@@ -137,6 +142,7 @@ module _ {A : Type 0} (charged limit : A → ℕ) (c0 c1 : A) where
     ]
     gave_way b f false before gone q k e l = absurd (let z : false ≡ true = q in cc)
 
+    -- where a lesser node was charged, and its coming is done, the charge moves as the nodes' sizes do
     pub gave_balance : (b : Bool) (f : NodeType) (r : Bool) (before gone : ℕ) → r ≡ true → Charges charged limit c0 c1 (lesser_if b f) r → cm + gone ≡ charged c1 → bm + gone ≡ before → LessensBy cm bm cn bn f
         → cn + before ≡ charged c0 + bn
     gave_balance b f r before gone q k c e l =
@@ -155,9 +161,11 @@ module _ {A : Type 0} (charged limit : A → ℕ) (c0 c1 : A) where
     form_there : (x : Node ℕ P) → get mid at ≡ Some x → form_of x ≡ f
     form_there x e = ap form_of (one_node mid at x new e now) ∙ (form ∙ sym ef)
 
+    -- a node for which a lesser one was charged isn't of the least form
     pub ready_greater : (x : Node ℕ P) → get mid at ≡ Some x → form_of x ≢ T4
     ready_greater x e q = shrinks_greater f n small (sym (form_there x e) ∙ q)
 
+    -- the children of a node for which a lesser one was charged fit in the form below
     pub ready_room : (x : Node ℕ P) → get mid at ≡ Some x → map.len (children_of x) ≤ capacity_of (form_below (form_of x))
     ready_room x e =
         let l : map.len (children_of x) ≡ map.len (children_of new) = ap (λ y. map.len (children_of y)) (one_node mid at x new e now) in
@@ -165,6 +173,7 @@ module _ {A : Type 0} (charged limit : A → ℕ) (c0 c1 : A) where
         let m = shrinks_room f n small in
         omega (arith, l, c, m, en, fewer)
 
+    -- the charge covers the sizes of the nodes and of a lesser one that was charged
     pub ready_covered : (cm gone : ℕ) → cm + gone ≡ charged c1 → bytes_of mid + gone ≤ charged c0 → (x : Node ℕ P) → get mid at ≡ Some x → bytes_of mid + size_of (form_below (form_of x)) ≤ cm
     ready_covered cm gone e b x h =
         let c : size_of (form_below (form_of x)) ≡ size_of (form_below f) = ap (λ y. size_of (form_below y)) (form_there x h) in
@@ -194,6 +203,7 @@ module _ {P : Type 0} where
       same_name : (o : Option (Child ℕ P)) (m n : ℕ) → o ≡ Some (Sub m) → o ≡ Some (Sub n) → m ≡ n
       same_name o m n e h = let a : Child ℕ P = Sub m in let d : Child ℕ P = Sub n in let z : Some a ≡ Some d = sym e ∙ h in cc
 
+  -- a leaf whose value, place above and slot go one after the other is a child that its parent loses
   pub dropped_child : (s0 s1 s2 s3 : Nodes P) (key : List ℕ) (above at byte up : ℕ) → IsTree s0 → OnWay s0 key at → Hangs s0 key above at
       → ((x : Node ℕ P) → get s0 at ≡ Some x → Sets s0 s1 at x (map.remove (children_of x) byte))
       → up ≡ get_or key (length (heap_of s1 above).prefix) 0
@@ -219,26 +229,27 @@ module _ {P : Type 0} where
 
   -- what that node has then
   module _ (s s' : Nodes P) (key : List ℕ) (above at : ℕ) (t : IsTree s) (h : Hangs s key above at) (k : LosesChild s s' key above at) where
-    pub child_lost : map.get (children_of k.old) (get_or key (length (prefix_of k.old)) 0) ≡ Some (Sub at)
+    child_lost : map.get (children_of k.old) (get_or key (length (prefix_of k.old)) 0) ≡ Some (Sub at)
     child_lost = child_there s t key above at h.way.stands h.child k.old k.was _ (ap (λ p. get_or key (length p) 0) (sym (prefix_at s above k.old k.was)))
 
+    -- a node that lost a child has one child fewer
     pub fewer : map.len (children_of k.new) ≡ map.len (children_of k.old) - 1
     fewer = ap map.len k.becomes.children ∙ len_fewer (children_of k.old) _ (Sub at) child_lost
 
-    pub lost_inner : length (prefix_of k.new) < 7
+    lost_inner : length (prefix_of k.new) < 7
     lost_inner =
         let p : length (prefix_of k.new) ≡ length (prefix_of k.old) = ap length k.becomes.prefix in
         let l = above_inner s t key above at h.way.stands h.child k.old k.was in
         omega (arith, p, l)
 
   -- a node with one child that isn't a leaf has a node there
-  pub has_one_node : (s : Nodes P) → IsTree s → (n : ℕ) (y : Node ℕ P) → get s n ≡ Some y → length (prefix_of y) < 7 → map.len (children_of y) ≡ 1 → HasOneNode y
+  has_one_node : (s : Nodes P) → IsTree s → (n : ℕ) (y : Node ℕ P) → get s n ≡ Some y → length (prefix_of y) < 7 → map.len (children_of y) ≡ 1 → HasOneNode y
   has_one_node s t n y e inner one = of pair.1 refl
     where
       pair : (k : ℕ) × (x : Child ℕ P) × (children_of y ≡ map.insert map.empty k x)
       pair = only_pair (children_of y) one
 
-      linked : (ledger_of s t.parent n).status ≡ Linked
+      linked : (notes_of s t.parent n).status ≡ Linked
       linked = linked_of s t.parent n (stands_at s n y e)
 
       seen : (heap_of s n).children pair.0 ≡ hung_in (Some pair.1)
@@ -256,13 +267,13 @@ module _ {P : Type 0} where
           omega (arith, l, p, inner))
 
   -- so it may come into that one's place
-  pub may_lift : (s : Nodes P) → IsTree s → (above byte at : ℕ) (upper lower : Node ℕ P) → get s above ≡ Some upper → get s at ≡ Some lower → map.get (children_of upper) byte ≡ Some (Sub at)
+  may_lift : (s : Nodes P) → IsTree s → (above byte at : ℕ) (upper lower : Node ℕ P) → get s above ≡ Some upper → get s at ≡ Some lower → map.get (children_of upper) byte ≡ Some (Sub at)
       → length (prefix_of lower) < 7 → map.len (children_of lower) ≡ 1 → MayLift s above byte at
   may_lift s t above byte at upper lower was stood hung inner one =
       let o = has_one_node s t at lower stood inner one in
-      let i : IsChild (ledger_of s t.parent) (heap_of s) above byte at = t.tree.down above byte at (linked_of s t.parent above (stands_at s above upper was)) (ap (λ z. (node_of z).children byte) was ∙ ap hung_in hung) in
+      let i : IsChild (notes_of s t.parent) (heap_of s) above byte at = t.tree.down above byte at (linked_of s t.parent above (stands_at s above upper was)) (ap (λ z. (node_of z).children byte) was ∙ ap hung_in hung) in
       let here : map.get (children_of lower) o.byte ≡ Some (Sub o.child) = ap (λ m. map.get m o.byte) o.children ∙ insert_at map.empty o.byte (Sub o.child) in
-      let j : IsChild (ledger_of s t.parent) (heap_of s) at o.byte o.child = t.tree.down at o.byte o.child i.linked (ap (λ z. (node_of z).children o.byte) stood ∙ ap hung_in here) in
+      let j : IsChild (notes_of s t.parent) (heap_of s) at o.byte o.child = t.tree.down at o.byte o.child i.linked (ap (λ z. (node_of z).children o.byte) stood ∙ ap hung_in here) in
       let n = node_at s o.child (stands_of s t.parent o.child j.linked) in
       let l = i.longer in let m = j.longer in
       let pu : length (heap_of s above).prefix ≡ length (prefix_of upper) = ap length (prefix_at s above upper was) in
@@ -301,23 +312,25 @@ module _ {P : Type 0} where
       absurd (omega (arith, l, y, z))
 
   module _ (s mid : Nodes P) (key : List ℕ) (top above at : ℕ) (t : IsTree s) (h : Hangs s key above at) (higher : Hangs s key top above) (k : LosesChild s mid key above at) where
-    above_child : IsChild (ledger_of s t.parent) (heap_of s) above (get_or key (length (heap_of s above).prefix) 0) at
+    above_child : IsChild (notes_of s t.parent) (heap_of s) above (get_or key (length (heap_of s above).prefix) 0) at
     above_child = is_child s t above at key h.way.stands h.child
 
-    top_child : IsChild (ledger_of s t.parent) (heap_of s) top (get_or key (length (heap_of s top).prefix) 0) above
+    top_child : IsChild (notes_of s t.parent) (heap_of s) top (get_or key (length (heap_of s top).prefix) 0) above
     top_child = is_child s t top above key higher.way.stands higher.child
 
     -- the node above the one that loses its child
-    pub top_same : get mid top ≡ get s top
+    top_same : get mid top ≡ get s top
     top_same =
         let l = above_child.longer in
         let m = top_child.longer in
         k.others top (above_apart s t key top above higher)
         (λ e. let z : length (heap_of s top).prefix ≡ length (heap_of s at).prefix = ap (λ y. length (heap_of s y).prefix) e in absurd (omega (arith, l, m, z)))
 
+    -- the node above the one that loses its child stands
     pub top_stands : ContainsKey mid top
     top_stands = subst IsSome (sym top_same) higher.way.stands
 
+    -- a node that had two children and lost one may give its place to the other
     pub lift_ready : (up : ℕ) → IsTree mid → up ≡ get_or key (length (heap_of mid top).prefix) 0 → ((x : Node ℕ P) → get s above ≡ Some x → map.len (children_of x) ≡ 2) → MayLift mid top up above
     lift_ready up t' b two =
         let u = node_at s top higher.way.stands in
@@ -332,10 +345,12 @@ module _ {P : Type 0} where
 
 -- what goes with a leaf from another node than the root
 module _ {P : Type 0} (leaf above : Seen P) where
+  -- from a node of two children the leaf and that node go, and no lesser one comes
   pub going_two : (n : ℕ) → n ≢ 0 → above.count ≡ 2 → going_last leaf n above ≡ record { gone = size_by leaf.capacity + size_by above.capacity; lesser = None }
   going_two zero ne e = absurd (ne refl)
   going_two (suc n) ne e = rw e refl
 
+  -- from a node of more, the leaf goes, and a lesser node comes if the node's form and count want one
   pub going_more : (n : ℕ) → n ≢ 0 → above.count ≢ 2 → going_last leaf n above ≡ record { gone = size_by leaf.capacity; lesser = lesser_of above }
   going_more zero ne e = absurd (ne refl)
   going_more (suc n) ne e =
@@ -343,9 +358,11 @@ module _ {P : Type 0} (leaf above : Seen P) where
       rw f refl
 
 module _ {P : Type 0} (h : ℕ → Seen P) (above n : ℕ) where
+  -- with the only value of a leaf goes what goes with the leaf
   pub going_alone : (h n).count ≡ 1 → going_from h above n ≡ going_last (h n) above (h above)
   going_alone e = rw e refl
 
+  -- with one of several values goes what goes with a value alone
   pub going_beside : (h n).count ≢ 1 → going_from h above n ≡ going_one (h n)
   going_beside e =
       let f : ((h n).count == 1) ≡ false = elim (eqb_tells (h n).count 1) [ inl q ↦ absurd (e q.1) | inr q ↦ q.0 ] in

@@ -5,9 +5,9 @@ use Rattle.slab.specs.Slab.{get}
 use Rattle.congee.specs.Heap.{Below, value_at}
 use Rattle.congee.specs.Notes.{Linked, Gone, IsChild}
 use Rattle.congee.specs.forms.Forms.{form_of, size_of}
-use Rattle.congee.specs.owned.Arena.{Nodes, hung_in, node_of, heap_of, ledger_of, IsFilled, IsTree}
+use Rattle.congee.specs.owned.Arena.{Nodes, hung_in, node_of, heap_of, notes_of, IsFilled, IsTree}
 use Rattle.congee.specs.owned.Changes.{Differs, MapChange}
-use Rattle.congee.specs.owned.Edits.{Edits, Swaps, Adds}
+use Rattle.congee.specs.owned.Edits.{Edits, Adds}
 use Rattle.congee.specs.owned.Full.{HasEnough, NodesFilled}
 use Rattle.congee.specs.owned.Renames.{Renames, Renamed}
 use Rattle.congee.specs.owned.Sizes.{bytes_at, bytes_of}
@@ -38,17 +38,14 @@ module _ {P : Type 0} (s s' : Nodes P) (p b n m : ℕ) (t : IsTree s) (k : Renam
   abbrev parent : ℕ → ℕ
   parent x = cond (x == m) p (in_place n m (t.parent x))
 
-  above : (ledger_of s t.parent p).status ≡ Linked
+  above : (notes_of s t.parent p).status ≡ Linked
   above = linked_of s t.parent p (stands_at s p k.old k.was)
 
   hung : (heap_of s p).children b ≡ Below n
   hung = rw hp (ap hung_in k.child)
 
-  hangs : IsChild (ledger_of s t.parent) (heap_of s) p b n
+  hangs : IsChild (notes_of s t.parent) (heap_of s) p b n
   hangs = t.tree.down p b n above hung
-
-  above_apart : p ≢ n
-  above_apart e = let z : length (heap_of s p).prefix ≡ length (heap_of s n).prefix = ap (λ y. length (heap_of s y).prefix) e in absurd (omega (arith, hangs.longer))
 
   root_apart : 0 ≢ n
   root_apart e =
@@ -56,19 +53,19 @@ module _ {P : Type 0} (s s' : Nodes P) (p b n m : ℕ) (t : IsTree s) (k : Renam
       let y : length (heap_of s 0).prefix ≡ 0 = ap length t.tree.empty in
       absurd (omega (arith, hangs.longer))
 
-  unlinked : (ledger_of s t.parent m).status ≢ Linked
+  unlinked : (notes_of s t.parent m).status ≢ Linked
   unlinked h = let z : Gone ≡ Linked = rw k.free at h in cc
 
-  left : (ledger_of s' parent n).status ≢ Linked
+  left : (notes_of s' parent n).status ≢ Linked
   left h = let z : Gone ≡ Linked = rw k.left at h in cc
 
-  stays : (x : ℕ) → x ≢ n → x ≢ m → (ledger_of s' parent x).status ≡ (ledger_of s t.parent x).status
+  stays : (x : ℕ) → x ≢ n → x ≢ m → (notes_of s' parent x).status ≡ (notes_of s t.parent x).status
   stays x nn nm = ap (λ o. cond o Linked Gone) (elim (same_or_not x p) [
     | inl e ↦ (let Q : ℕ → Type 0 = λ y. is_some (get s' y) ≡ is_some (get s y) in subst Q (sym e) (rw (k.now, k.was) refl))
     | inr np ↦ ap is_some (k.others x np nn nm)
   ])
 
-  moves : Moves (ledger_of s t.parent) (heap_of s) (ledger_of s' parent) (heap_of s') p b n m
+  moves : Moves (notes_of s t.parent) (heap_of s) (notes_of s' parent) (heap_of s') p b n m
   moves = record {
     above = above;
     hung = hung;
@@ -83,7 +80,7 @@ module _ {P : Type 0} (s s' : Nodes P) (p b n m : ℕ) (t : IsTree s) (k : Renam
     left = left;
     stays = stays;
     parent = rw (same_test m m refl) refl;
-    parents = λ x l nn. rw (other_test x m (λ e. unlinked (let Q : ℕ → Type 0 = λ y. (ledger_of s t.parent y).status ≡ Linked in subst Q e l))) refl;
+    parents = λ x l nn. rw (other_test x m (λ e. unlinked (let Q : ℕ → Type 0 = λ y. (notes_of s t.parent y).status ≡ Linked in subst Q e l))) refl;
   }
 
   filled : (x : ℕ) → IsFilled (get s' x)
@@ -99,17 +96,17 @@ module _ {P : Type 0} (s s' : Nodes P) (p b n m : ℕ) (t : IsTree s) (k : Renam
   ]
 
   root_new : 0 ≢ m
-  root_new e = unlinked (let Q : ℕ → Type 0 = λ y. (ledger_of s t.parent y).status ≡ Linked in subst Q e t.tree.root)
+  root_new e = unlinked (let Q : ℕ → Type 0 = λ y. (notes_of s t.parent y).status ≡ Linked in subst Q e t.tree.root)
 
-  pub renamed_is : IsTree s' × ((key : List ℕ) → value_at (heap_of s') key ≡ value_at (heap_of s) key)
+  renamed_is : IsTree s' × ((key : List ℕ) → value_at (heap_of s') key ≡ value_at (heap_of s) key)
   renamed_is = (
     record {
       parent = parent;
-      tree = move_tree (ledger_of s t.parent) (heap_of s) (ledger_of s' parent) (heap_of s') p b n m t.tree moves;
+      tree = move_tree (notes_of s t.parent) (heap_of s) (notes_of s' parent) (heap_of s') p b n m t.tree moves;
       wide = wide_after s s' p k.old k.new t.wide k.was k.now differs.wide (λ ne. k.others 0 ne root_apart root_new);
       filled = filled;
     },
-    move_map (ledger_of s t.parent) (heap_of s) (ledger_of s' parent) (heap_of s') p b n m t.tree moves,
+    move_map (notes_of s t.parent) (heap_of s) (notes_of s' parent) (heap_of s') p b n m t.tree moves,
   )
 
   -- what a name weighs before, with the old name given up, and with the new one taken
@@ -126,10 +123,10 @@ module _ {P : Type 0} (s s' : Nodes P) (p b n m : ℕ) (t : IsTree s) (k : Renam
   bound = length s.slots + length s'.slots + n + m + 1
 
   -- the same room is taken
-  pub renamed_bytes : bytes_of s' ≡ bytes_of s
+  renamed_bytes : bytes_of s' ≡ bytes_of s
   unfolding weight weight_left weight_after bound
   renamed_bytes =
-      let mn : m ≢ n = (λ e. unlinked (let Q : ℕ → Type 0 = λ y. (ledger_of s t.parent y).status ≡ Linked in subst Q (sym e) hangs.linked)) in
+      let mn : m ≢ n = (λ e. unlinked (let Q : ℕ → Type 0 = λ y. (notes_of s t.parent y).status ≡ Linked in subst Q (sym e) hangs.linked)) in
       let old = bytes_named s bound (omega arith) in
       let new = bytes_named s' bound (omega arith) in
       let gone = total_update weight weight_left bound n (omega arith) (λ x ne. rw (other_test x n ne) refl) in
@@ -177,6 +174,7 @@ module _ {P : Type 0} where
     others = λ k l ne. c.others k l ne ∙ r.values k;
   }
 
+  -- a change of the map is one with a renaming after it
   pub renamed_change : (s s' s'' : Nodes P) (key : List ℕ) (before after : Option P) → MapChange s s' key before after → Renamed s' s'' → MapChange s s'' key before after
   renamed_change s s' s'' key before after c r = record {
     was = c.was;
@@ -184,7 +182,7 @@ module _ {P : Type 0} where
     others = λ k l ne. r.values k ∙ c.others k l ne;
   }
 
-module _ {P A : Type 0} (charged limit : A → ℕ) (old mid new : Arena P A) (key : List ℕ) where
+module _ {P A K : Type 0} (charged limit : A → ℕ) (old mid new : Arena P A K) (key : List ℕ) where
   -- an edit after a renaming
   module _ (r : Renamed old.nodes mid.nodes) (same : mid.allocator ≡ old.allocator) where
     edits_renamed : (before after : Option P) → Edits charged limit mid new key before after → Edits charged limit old new key before after
@@ -195,41 +193,11 @@ module _ {P A : Type 0} (charged limit : A → ℕ) (old mid new : Arena P A) (k
       same_limit = e.same_limit ∙ ap limit same;
     }
 
+    -- an insertion after a renaming is one on the arena before the renaming
     pub adds_renamed : (before : Option P) (value : P) (wants : Option (List ℕ)) → Adds charged limit mid new key before value wants → Adds charged limit old new key before value wants
     adds_renamed before value wants a = record {
       edits = edits_renamed before (Some value) a.edits;
       fits = subst (λ t. InsertionFits wants (charged t) (limit t)) same a.fits;
       bytes = a.bytes ∙ ap (λ n. n + gain_of wants) r.bytes;
       filled = λ h. a.filled (r.filled h);
-    }
-
-    pub swaps_renamed : (before after : Option P) → Swaps mid new key before after → Swaps old new key before after
-    swaps_renamed before after w = record {
-      tree = w.tree;
-      change = change_renamed old.nodes mid.nodes new.nodes key before after r w.change;
-      bytes = w.bytes ∙ r.bytes;
-      filled = λ h. w.filled (r.filled h);
-      allocator = w.allocator ∙ same;
-    }
-
-  -- a renaming after an edit
-  module _ (r : Renamed mid.nodes new.nodes) (same : new.allocator ≡ mid.allocator) where
-    renamed_edits : (before after : Option P) → Edits charged limit old mid key before after → Edits charged limit old new key before after
-    renamed_edits before after e = record {
-      tree = r.tree;
-      change = renamed_change old.nodes mid.nodes new.nodes key before after e.change r;
-      balance = (let b = e.balance in let c : charged new.allocator ≡ charged mid.allocator = ap charged same in omega (arith, b, c, r.bytes));
-      same_limit = ap limit same ∙ e.same_limit;
-    }
-
-    pub renamed_adds : (before : Option P) (value : P) (wants : Option (List ℕ)) → Adds charged limit old mid key before value wants → Adds charged limit old new key before value wants
-    renamed_adds before value wants a = record { edits = renamed_edits before (Some value) a.edits; fits = a.fits; bytes = r.bytes ∙ a.bytes; filled = λ h. r.filled (a.filled h) }
-
-    pub renamed_swaps : (before after : Option P) → Swaps old mid key before after → Swaps old new key before after
-    renamed_swaps before after w = record {
-      tree = r.tree;
-      change = renamed_change old.nodes mid.nodes new.nodes key before after w.change r;
-      bytes = r.bytes ∙ w.bytes;
-      filled = λ h. r.filled (w.filled h);
-      allocator = same ∙ w.allocator;
     }

@@ -28,30 +28,34 @@ module _ {P : Type 0} (s : Nodes P) (at : ℕ) (full : Bool) (stands : ContainsK
   pub roomy_now : full ≡ false → (x : Form ℕ P) → get s at ≡ Some x → MakesRoom s s at x
   roomy_now f x e = record { node = x; prefixed = refl; children = refl; form = sym (ap (λ b. cond b (next_form (form_of x)) (form_of x)) (sym (is x e) ∙ f)); room = sym (is x e) ∙ f; wide = λ w. w; updates = record { changed = e; others = λ m ne. refl } }
 
-  pub roomy_wants : full ≡ false → room_for (heap_of s at) ≡ []
+  roomy_wants : full ≡ false → room_for (heap_of s at) ≡ []
   roomy_wants f =
       let n = node_at s at stands in
       ap (λ o. room_for (node_of o)) n.1 ∙ roomy_none n.0 (sym (is n.0 n.1) ∙ f)
 
+  -- a node that isn't full makes no other for its room, which fits any limit
   pub roomy_fits : (charged limit : ℕ) → full ≡ false → AllFit (room_for (heap_of s at)) charged limit
   roomy_fits charged limit f = let Q : List ℕ → Type 0 = λ w. AllFit w charged limit in subst Q (sym (roomy_wants f)) tt
 
+  -- for the room of a node that isn't full the sizes grow by nothing
   pub roomy_gain : full ≡ false → bytes_of s ≡ bytes_of s + gain (room_for (heap_of s at))
   roomy_gain f = let g : gain (room_for (heap_of s at)) ≡ 0 = ap gain (roomy_wants f) in omega (arith, g)
 
   -- a full one
   module _ (f : full ≡ true) (form : NodeType) (form_is : (x : Form ℕ P) → get s at ≡ Some x → form ≡ form_of x) where
-    pub full_wants : room_for (heap_of s at) ≡ size_of (next_form form) ∷ []
+    full_wants : room_for (heap_of s at) ≡ size_of (next_form form) ∷ []
     full_wants =
         let n = node_at s at stands in
         let z : form_of n.0 ≡ form = sym (form_is n.0 n.1) in
         ap (λ o. room_for (node_of o)) n.1 ∙ (full_room n.0 (sym (is n.0 n.1) ∙ f) ∙ ap (λ t. size_of (next_form t) ∷ []) z)
 
+    -- a full node makes one of the next form, which fits where the form's size does
     pub full_fits : (charged size limit : ℕ) → size ≡ size_of (next_form form) → charged + size ≤ limit → AllFit (room_for (heap_of s at)) charged limit
     full_fits charged size limit z l =
         let Q : List ℕ → Type 0 = λ w. AllFit w charged limit in
         subst Q (sym full_wants) (omega (arith, l, z), tt)
 
+    -- room in a full node is refused as a node of the next form's size is
     pub full_refused : (charged size limit : ℕ) (e : OOMError) → size ≡ size_of (next_form form) → IsRefusal charged size limit e → IsRefusedOf (room_for (heap_of s at)) charged limit e
     full_refused charged size limit e z r =
         let Q : List ℕ → Type 0 = λ w. IsRefusedOf w charged limit e in
@@ -59,11 +63,13 @@ module _ {P : Type 0} (s : Nodes P) (at : ℕ) (full : Bool) (stands : ContainsK
         subst Q (sym full_wants) (inl (subst R z r))
 
     module _ (s' : Nodes P) (capacity : s'.capacity ≡ s.capacity) (grows : (x : Form ℕ P) → get s at ≡ Some x → GrowsTo s s' at x) where
+      -- a full node that took its next form got room
       pub grown_now : (x : Form ℕ P) → get s at ≡ Some x → MakesRoom s s' at x
       grown_now x e =
           let k = grows x e in
           record { node = k.node; prefixed = k.prefix; children = k.children; form = k.form ∙ sym (ap (λ b. cond b (next_form (form_of x)) (form_of x)) (sym (is x e) ∙ f)); room = grown_room x k.node k.form k.children (sym (is x e) ∙ f); wide = grown_wide x k.node k.form; updates = k.updates }
 
+      -- a full node that took its next form changes the sizes by those of the two forms
       pub grown_bytes : bytes_of s' + size_of form ≡ bytes_of s + size_of (next_form form)
       grown_bytes =
           let n = node_at s at stands in
@@ -74,6 +80,7 @@ module _ {P : Type 0} (s : Nodes P) (at : ℕ) (full : Bool) (stands : ContainsK
           let b : bytes_at (Some k.node) ≡ size_of (next_form form) = ap size_of k.form ∙ ap (λ t. size_of (next_form t)) z in
           omega (arith, u, a, b)
 
+      -- the sizes grow by what room in a full node was told to take
       pub grown_gain : bytes_of s' ≡ bytes_of s + gain (room_for (heap_of s at))
       grown_gain =
           let n = node_at s at stands in
@@ -83,6 +90,7 @@ module _ {P : Type 0} (s : Nodes P) (at : ℕ) (full : Bool) (stands : ContainsK
           let b = grown_bytes in
           omega (arith, g, h, b)
 
+      -- a full node that took its next form leaves room for as many further nodes
       pub grown_keeps : (n : ℕ) → HasRoomFor s n → HasRoomFor s' n
       grown_keeps m r =
           let n = node_at s at stands in

@@ -7,10 +7,10 @@ use Rattle.congee.specs.Heap.{Nothing, Below, Holds, value_at}
 use Rattle.congee.specs.Notes.{Linked, Gone}
 use Rattle.congee.specs.forms.Forms.{form_of, prefix_of, children_of, size_of, capacity_of}
 use Rattle.congee.specs.owned.Sizes.{bytes_of, bytes_at}
-use Rattle.congee.specs.owned.Arena.{Nodes, hung_in, node_of, heap_of, ledger_of, IsFilled, IsTree}
+use Rattle.congee.specs.owned.Arena.{Nodes, hung_in, node_of, heap_of, notes_of, IsFilled, IsTree}
 use Rattle.congee.specs.declared.forms.base_node.Node.{Node as Form}
 use Rattle.congee.specs.declared.forms.base_node.NodeType.TheVariants.{N256}
-use Rattle.congee.proofs.lemmas.Tree.{same_or_not, finds}
+use Rattle.congee.proofs.lemmas.Tree.{same_or_not, value_at_linked}
 use Rattle.congee.proofs.lemmas.owned.Filled.{filled_at, filled_some, filled_none}
 use Rattle.congee.proofs.lemmas.owned.Sizes.{bytes_update}
 
@@ -18,7 +18,7 @@ module _ {P : Type 0} (s0 s : Nodes P) (root : Form ℕ P) (none : (n : ℕ) →
   root_is : heap_of s 0 ≡ node_of (Some root)
   root_is = ap node_of puts.changed
 
-  only : (n : ℕ) → (ledger_of s (λ _. 0) n).status ≡ Linked → n ≡ 0
+  only : (n : ℕ) → (notes_of s (λ _. 0) n).status ≡ Linked → n ≡ 0
   only n l = elim (same_or_not n 0) [
     | inl e ↦ e
     | inr ne ↦ absurd (let e : get s n ≡ None = puts.others n ne ∙ none n in let z : Gone ≡ Linked = rw e at l in cc)
@@ -27,12 +27,13 @@ module _ {P : Type 0} (s0 s : Nodes P) (root : Form ℕ P) (none : (n : ℕ) →
   nothing : (b : ℕ) → (heap_of s 0).children b ≡ Nothing
   nothing b = rw root_is (ap hung_in (ap (λ m. map.get m b) children ∙ map.get-empty _ b))
 
-  nothing_at : (n b : ℕ) → (ledger_of s (λ _. 0) n).status ≡ Linked → (heap_of s n).children b ≡ Nothing
+  nothing_at : (n b : ℕ) → (notes_of s (λ _. 0) n).status ≡ Linked → (heap_of s n).children b ≡ Nothing
   nothing_at n b l = let Q : ℕ → Type 0 = λ y. (heap_of s y).children b ≡ Nothing in subst Q (sym (only n l)) (nothing b)
 
   empty_prefix : (heap_of s 0).prefix ≡ []
   empty_prefix = rw root_is prefix
 
+  -- a root alone is a tree
   pub root_tree : IsTree s
   root_tree = record {
     parent = λ _. 0;
@@ -51,9 +52,11 @@ module _ {P : Type 0} (s0 s : Nodes P) (root : Form ℕ P) (none : (n : ℕ) →
     ];
   }
 
+  -- in a root alone no key has a value
   pub root_empty : (key : List ℕ) → value_at (heap_of s) key ≡ None
-  root_empty key = finds _ (heap_of s) root_tree.tree 0 key Nothing root_tree.tree.root (rw empty_prefix refl) (nothing _)
+  root_empty key = value_at_linked _ (heap_of s) root_tree.tree 0 key Nothing root_tree.tree.root (rw empty_prefix refl) (nothing _)
 
+  -- a root alone takes 2,104 bytes
   pub root_bytes : bytes_of s0 ≡ 0 → bytes_of s ≡ 2104
   root_bytes z =
       let u = bytes_update s0 s 0 (Some root) puts in

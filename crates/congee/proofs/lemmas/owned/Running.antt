@@ -18,6 +18,7 @@ module _ {V A D : Type 0} (same : V → V → Bool) (charged limit : A → ℕ) 
   call_filled old new (Left u) e = u.lacking ∙ e
   call_filled old new (Cleared b) e = b.filled
 
+  -- nodes that are filled where they lack no child are so after such a run on a tree that lacked none
   pub run_filled : (now : Content V A D) → (now.lacking ≡ 0 → AllFilled now.nodes) → StaysFilled same charged limit now
   run_filled now f first calls e r = f (kept (GoesOn same charged limit) (λ (t : Content V A D). t.lacking ≡ 0) call_filled first calls now r e)
 
@@ -27,5 +28,6 @@ module _ {V : Type 0} where
   owner_filled old new (OwnerModified going call reply m none) e = m.filled e none
   owner_filled old new (OwnerLeft u) e = ap (λ (t : Owners V). t.lacking) u ∙ e
 
+  -- the same of a tree of owners: its nodes are filled after such a run on one that lacked no child
   pub owners_filled : (now : Owners V) → (now.lacking ≡ 0 → AllFilled now.nodes) → OwnersStayFilled now
   owners_filled now f first calls e r = f (kept OwnerGoesOn (λ (t : Owners V). t.lacking ≡ 0) owner_filled first calls now r e)

@@ -26,7 +26,7 @@ use Rattle.congee.specs.declared.owned.slots.Slot.TheVariants.{Inner, Leaf}
 use Rattle.congee.proofs.lemmas.Fits.{fits_byte}
 use Rattle.congee.proofs.lemmas.Keys.{key_length}
 use Rattle.congee.proofs.lemmas.Link.{Leaf as LeafAt}
-use Rattle.congee.proofs.lemmas.Orders.{byte_small, same_bytes, top, top_step}
+use Rattle.congee.proofs.lemmas.Orders.{byte_small, same_bytes, first_bytes, top_step}
 use Rattle.congee.proofs.lemmas.forms.MappedLemmas.{first_mapped, none_mapped}
 use Rattle.congee.proofs.lemmas.forms.Prefixes.{fits_every}
 use Rattle.congee.proofs.lemmas.owned.Joins.{leaf_of}
@@ -35,24 +35,27 @@ use Rattle.congee.proofs.lemmas.owned.Slots.{get_inline, with_mapped, with_prefi
 use Rattle.congee.proofs.lemmas.owned.Stored.{slot_seen}
 
 -- a node by the parts of its name
-module _ {P : Type 0} (s : Slab (Slot P)) (v : Nodes P) (is : nodes_in s ≡ v) (at i : ℕ) (byte : Option ℕ) (name : 257 * i + offset_of byte ≡ at) where
+module _ {P K : Type 0} (s : Slab (Slot P K)) (v : Nodes P) (is : nodes_in s ≡ v) (at i : ℕ) (byte : Option ℕ) (name : 257 * i + offset_of byte ≡ at) where
+  -- a leaf that lies in its parent's place under the byte is what stands under the name
   pub sees_inline : (b : ℕ) (lone : Lone P) → byte ≡ Some b → get v (257 * i + (b + 1)) ≡ Some (lone_node lone) → get v at ≡ Some (lone_node lone)
   sees_inline b lone e h =
       let n : at ≡ 257 * i + (b + 1) = sym name ∙ ap (λ b. 257 * i + offset_of b) e in
       ap (get v) n ∙ h
 
-  sees_slot : byte ≡ None → (x : Slot P) → get s i ≡ Some x → get v at ≡ Some (slot_node i x)
+  sees_slot : byte ≡ None → (x : Slot P K) → get s i ≡ Some x → get v at ≡ Some (slot_node i x)
   sees_slot e x g =
       let n : at ≡ 257 * i = sym name ∙ (ap (λ b. 257 * i + offset_of b) e ∙ omega arith) in
       ap (get v) n ∙ (ap (λ w. get w (257 * i)) (sym is) ∙ slot_seen s i x g)
 
-  pub sees_inner : byte ≡ None → (x : Slot P) (n : Node ℕ (Lone P)) → get s i ≡ Some x → x ≡ Inner n → SeesInner v at i n
+  -- an inner node in the slot is what stands under a name without a byte
+  pub sees_inner : byte ≡ None → (x : Slot P K) (n : Node ℕ (Lone P)) → get s i ≡ Some x → x ≡ Inner n → SeesInner v at i n
   sees_inner e x n g q = record {
     is = sees_slot e x g ∙ ap (λ y. Some (slot_node i y)) q;
     inline = λ b lone low h. ap (λ w. get w (257 * i + (b + 1))) (sym is) ∙ (get_inline s i b low ∙ (ap (λ z. in_slot i z (suc b)) (g ∙ ap Some q) ∙ ap lone_in h));
   }
 
-  pub sees_leaf : byte ≡ None → (x : Slot P) (n : Node ℕ P) → get s i ≡ Some x → x ≡ Leaf n → (least : ℕ) (p : List ℕ) → length (prefix_of n) ≡ 7 → p ≡ prefix_of n
+  -- a leaf in the slot, with the key that it would have at byte 0, is what stands under such a name
+  pub sees_leaf : byte ≡ None → (x : Slot P K) (n : Node ℕ P) → get s i ≡ Some x → x ≡ Leaf n → (least : ℕ) (p : List ℕ) → length (prefix_of n) ≡ 7 → p ≡ prefix_of n
       → fits p (key_bytes least) ≡ true → get_or (key_bytes least) 7 0 ≡ 0 → SeesLeaf v at least n
   sees_leaf e x n g q least p seven prefix begins ends = record {
     is = sees_slot e x g ∙ ap (λ y. Some (slot_node i y)) q;
@@ -62,7 +65,7 @@ module _ {P : Type 0} (s : Slab (Slot P)) (v : Nodes P) (is : nodes_in s ≡ v) 
   }
 
 -- a leaf in a slot has a prefix of seven bytes
-pub leaf_seven : {P : Type 0} (s : Slab (Slot P)) (inline i : ℕ) → IsStored s inline → (x : Slot P) (n : Node ℕ P) → get s i ≡ Some x → x ≡ Leaf n → length (prefix_of n) ≡ 7
+pub leaf_seven : {P K : Type 0} (s : Slab (Slot P K)) (inline i : ℕ) → IsStored s inline → (x : Slot P K) (n : Node ℕ P) → get s i ≡ Some x → x ≡ Leaf n → length (prefix_of n) ≡ 7
 leaf_seven s inline i k x n g q = subst HasKind (g ∙ ap Some q) (k.kinds i)
 
 -- the first child from a byte on, as the tree sees it
@@ -74,9 +77,11 @@ module _ {P : Type 0} (s : Nodes P) (at from : ℕ) (x : Node ℕ P) (h : get s 
         let e : with_children (inner_child slot) n ≡ x = cc in
         sym (with_mapped (inner_child slot) n) ∙ ap children_of e
 
+    -- the first child of an inner node that was read is the first that the tree sees
     pub inner_first : (b : ℕ) (c : Child ℕ (Lone P)) → IsFirst (children_of n) from b c → IsFirst (children_of x) from b (inner_child slot b c)
     inner_first b c f = subst (λ m. IsFirst m from b (inner_child slot b c)) inner_map (first_mapped (inner_child slot) (children_of n) from b c f)
 
+    -- where an inner node that was read has no child from there on, the tree sees none
     pub inner_last : ((b : ℕ) → from ≤ b → map.get (children_of n) b ≡ None) → (b : ℕ) → from ≤ b → map.get (children_of x) b ≡ None
     inner_last f b l = ap (λ m. map.get m b) (sym inner_map) ∙ none_mapped (inner_child slot) (children_of n) b (f b l)
 
@@ -87,9 +92,11 @@ module _ {P : Type 0} (s : Nodes P) (at from : ℕ) (x : Node ℕ P) (h : get s 
         let e : with_children leaf_child n ≡ x = cc in
         sym (with_mapped leaf_child n) ∙ ap children_of e
 
+    -- the first value of a leaf that was read is the first that the tree sees
     pub leaf_first : (b : ℕ) (c : Child ℕ P) → IsFirst (children_of n) from b c → IsFirst (children_of x) from b (leaf_child b c)
     leaf_first b c f = subst (λ m. IsFirst m from b (leaf_child b c)) leaf_map (first_mapped leaf_child (children_of n) from b c f)
 
+    -- where a leaf that was read has no value from there on, the tree sees none
     pub leaf_last : ((b : ℕ) → from ≤ b → map.get (children_of n) b ≡ None) → (b : ℕ) → from ≤ b → map.get (children_of x) b ≡ None
     leaf_last f b l = ap (λ m. map.get m b) (sym leaf_map) ∙ none_mapped leaf_child (children_of n) b (f b l)
 
@@ -112,14 +119,14 @@ module _ {P : Type 0} (s : Nodes P) (at : ℕ) where
   leaf_key least b key n k low e =
       let seven : length (prefix_of n) ≡ 7 = k.seven in
       let ends : get_or (key_bytes least) 7 0 ≡ 0 = k.ends in
-      let x : top least 8 ≡ 256 * top least 7 + get_or (key_bytes least) 7 0 = top_step least 7 (omega arith) in
-      let y : top key 8 ≡ 256 * top key 7 + get_or (key_bytes key) 7 0 = top_step key 7 (omega arith) in
-      let u : top least 8 ≡ least = div-one least in
-      let w : top key 8 ≡ key = div-one key in
+      let x : first_bytes least 8 ≡ 256 * first_bytes least 7 + get_or (key_bytes least) 7 0 = top_step least 7 (omega arith) in
+      let y : first_bytes key 8 ≡ 256 * first_bytes key 7 + get_or (key_bytes key) 7 0 = top_step key 7 (omega arith) in
+      let u : first_bytes least 8 ≡ least = div-one least in
+      let w : first_bytes key 8 ≡ key = div-one key in
       let small = byte_small key 7 (omega arith) in
-      let q : least ≡ top least 7 * 2 ^ 8 = omega (arith, x, u, ends) in
-      let sum : key ≡ least + b = e ∙ (ap (λ z. bit_or z b) q ∙ (or_shifted (top least 7) 8 b low ∙ ap (λ z. z + b) (sym q))) in
-      let same : top key 7 ≡ top least 7 = omega (arith, sum, q, y, w, small, low) in
+      let q : least ≡ first_bytes least 7 * 2 ^ 8 = omega (arith, x, u, ends) in
+      let sum : key ≡ least + b = e ∙ (ap (λ z. bit_or z b) q ∙ (or_shifted (first_bytes least 7) 8 b low ∙ ap (λ z. z + b) (sym q))) in
+      let same : first_bytes key 7 ≡ first_bytes least 7 = omega (arith, sum, q, y, w, small, low) in
       let last : get_or (key_bytes key) 7 0 ≡ b = omega (arith, sum, q, y, w, same) in
       let p : (heap_of s at).prefix ≡ prefix_of n = ap (λ o. (node_of o).prefix) k.is ∙ with_prefix leaf_child n in
       let fitted : fits (prefix_of n) (key_bytes key) ≡ true =

@@ -27,12 +27,12 @@ use Rattle.congee.proofs.lemmas.Tree.{same_or_not}
 use Rattle.congee.proofs.lemmas.forms.MappedLemmas.{mapped_insert, same_answers, some_mapped}
 use Rattle.congee.proofs.lemmas.owned.Moves.{insert_at, insert_beside, one_node}
 use Rattle.congee.proofs.lemmas.owned.SlotChanges.{InnerAfter, inner_after, lone_after, others_after, seen_after, stored_after}
-use Rattle.congee.proofs.lemmas.owned.SlotLens.{counted}
+use Rattle.congee.proofs.lemmas.owned.SlotLens.{count_if_some}
 use Rattle.congee.proofs.lemmas.owned.Stored.{LoneAt, lone_seen, named_lone_at, slot_seen}
 
 module _ {X : Type 0} (m : map.FinMap nat_cmp X) (k : ℕ) (x : X) where
   -- what is there is put there
-  pub insert_same : map.get m k ≡ Some x → map.insert m k x ≡ m
+  insert_same : map.get m k ≡ Some x → map.insert m k x ≡ m
   insert_same e = same_answers {X = ℕ} {Y = ℕ} (λ k y. y) _ _ (λ q. elim (same_or_not q k) [
     | inl w ↦ (let Q : ℕ → Type 0 = λ z. map.get (map.insert m k x) z ≡ map.get m z in subst Q (sym w) (insert_at m k x ∙ sym e))
     | inr ne ↦ insert_beside m k x q ne
@@ -60,7 +60,7 @@ module _ {P Q : Type 0} (f : ℕ → Child ℕ P → Child ℕ Q) where
   is_told (N48 n) = refl
   is_told (N256 n) = refl
 
-  pub same_with : (n n' : Node ℕ P) → form_of n' ≡ form_of n → prefix_of n' ≡ prefix_of n → mapped f (children_of n') ≡ mapped f (children_of n) → with_children f n' ≡ with_children f n
+  same_with : (n n' : Node ℕ P) → form_of n' ≡ form_of n → prefix_of n' ≡ prefix_of n → mapped f (children_of n') ≡ mapped f (children_of n) → with_children f n' ≡ with_children f n
   same_with n n' form prefix children =
       is_told n'
       ∙ (ap (λ t. told t (prefix_of n') (mapped f (children_of n'))) form
@@ -78,7 +78,7 @@ value_byte lone b h = elim (same_or_not b (get_or lone.key 7 0)) [
   | inr ne ↦ (let n : map.get (children_of (lone_node lone)) b ≡ None = insert_beside map.empty (get_or lone.key 7 0) (Value lone.value) b ne ∙ map.get-empty _ b in absurd (subst IsValue n h))
 ]
 
-module _ {P : Type 0} (s : Slab (Slot P)) (v : Nodes P) (is : nodes_in s ≡ v) (inline : ℕ) (st : IsStored s inline) (at i : ℕ) (byte : Option ℕ) (name : 257 * i + offset_of byte ≡ at) (fits : IsByte byte)
+module _ {P K : Type 0} (s : Slab (Slot P K)) (v : Nodes P) (is : nodes_in s ≡ v) (inline : ℕ) (st : IsStored s inline) (at i : ℕ) (byte : Option ℕ) (name : 257 * i + offset_of byte ≡ at) (fits : IsByte byte)
     (place : ℕ) (placed : byte ≡ Some place) (stands : ContainsKey v at) (b : ℕ) (present : (y : Node ℕ P) → get v at ≡ Some y → IsValue (map.get (children_of y) b)) where
   at_is : at ≡ 257 * i + (place + 1)
   at_is = sym name ∙ ap (λ o. 257 * i + offset_of o) placed
@@ -89,6 +89,7 @@ module _ {P : Type 0} (s : Slab (Slot P)) (v : Nodes P) (is : nodes_in s ≡ v) 
   it : LoneAt s i place
   it = named_lone_at s v is at i byte name place placed fits stands
 
+  -- the slot of a leaf in its parent's place isn't vacant
   pub inline_slot : ContainsKey s i
   inline_slot = rw it.stands refl
 
@@ -106,33 +107,39 @@ module _ {P : Type 0} (s : Slab (Slot P)) (v : Nodes P) (is : nodes_in s ≡ v) 
         let c : map.get (children_of (lone_node lone)) b ≡ Some (Value lone.value) = ap (map.get (children_of (lone_node lone))) (same_byte y h) ∙ insert_at map.empty k (Value lone.value) in
         sym c ∙ ap (λ n. map.get (children_of n) b) (same_node y h)
 
-  module _ (x : Slot P) (e : get s i ≡ Some x) where
+  module _ (x : Slot P K) (e : get s i ≡ Some x) where
     is_slot : x ≡ Inner it.node
     is_slot = let z : Some x ≡ Some (Inner it.node) = sym e ∙ it.stands in cc
 
     here : inner_get x place ≡ Some (Value it.lone)
     here = ap (λ w. inner_get w place) is_slot ∙ it.child
 
+    -- the slot has a value under the leaf's byte
     pub inline_holds : IsValue (inner_get x place)
     inline_holds = subst IsValue (sym here) tt
 
+    -- the leaf that is read under that byte is the one that stands under its name
     pub inline_reads : (lone : Lone P) → inner_get x place ≡ Some (Value lone) → get v (257 * i + (place + 1)) ≡ Some (lone_node lone)
     inline_reads lone read = lone_seen s v is i place it x lone e read
 
-    pub inline_first : (z : Slot P) → get s i ≡ Some z → (first : ℕ) → first ≡ first_byte (prefix_in z) place → first ≡ first_byte (prefix_in x) place
+    -- the first byte of the keys under that byte is the same by each reading of the slot's node
+    pub inline_first : (z : Slot P K) → get s i ≡ Some z → (first : ℕ) → first ≡ first_byte (prefix_in z) place → first ≡ first_byte (prefix_in x) place
     inline_first z h first f = let w : Some z ≡ Some x = sym h ∙ e in let q : z ≡ x = cc in f ∙ ap (λ y. first_byte (prefix_in y) place) q
 
+    -- the slot has something under the leaf's byte
     pub inline_present : IsSome (inner_get x place)
     inline_present = rw here refl
 
+    -- nothing else than a leaf is read under that byte
     pub inline_only : (r : Child ℕ (Lone P)) → inner_get x place ≡ Some r → ((l : Lone P) → r ≡ Value l → ⊥) → ⊥
     inline_only r read ne = ne it.lone (let z : Some r ≡ Some (Value it.lone) = sym read ∙ here in cc)
 
+    -- the value of the leaf that is read there is the one at the byte that the tree sees
     pub inline_was : (old : Lone P) (r : Child ℕ (Lone P)) → inner_get x place ≡ Some r → r ≡ Value old → (y : Node ℕ P) → get v at ≡ Some y → Some (Value old.value) ≡ map.get (children_of y) b
     inline_was old r read q y h = was_there old (lone_seen s v is i place it x old e (read ∙ ap Some q)) y h
 
     -- another leaf for the key lies there then
-    module _ (lone new : Lone P) (seen : get v (257 * i + (place + 1)) ≡ Some (lone_node lone)) (key : new.key ≡ lone.key) (x' : Slot P) (ib : InnerBecomes x x' (λ m. map.insert m place (Value new))) where
+    module _ (lone new : Lone P) (seen : get v (257 * i + (place + 1)) ≡ Some (lone_node lone)) (key : new.key ≡ lone.key) (x' : Slot P K) (ib : InnerBecomes x x' (λ m. map.insert m place (Value new))) where
       after : InnerAfter it.node x' (map.insert (children_of it.node) place (Value new))
       after = inner_after x x' it.node (λ m. map.insert m place (Value new)) is_slot ib
 
@@ -142,10 +149,11 @@ module _ {P : Type 0} (s : Slab (Slot P)) (v : Nodes P) (is : nodes_in s ≡ v) 
       now_here : lone_in (map.get (children_of after.node) place) ≡ Some (lone_node new)
       now_here = ap lone_in (ap (λ m. map.get m place) after.becomes.children ∙ insert_at (children_of it.node) place (Value new))
 
+      -- the slots are sound with a leaf of the same key in its place
       pub inline_stored : IsStored (with_value s i x') inline
       inline_stored =
-          let c : counted (lone_in (map.get (children_of it.node) place)) ≡ 1 = ap (λ o. counted (lone_in o)) it.child in
-          let d : counted (lone_in (map.get (children_of after.node) place)) ≡ 1 = ap counted now_here in
+          let c : count_if_some (lone_in (map.get (children_of it.node) place)) ≡ 1 = ap (λ o. count_if_some (lone_in o)) it.child in
+          let d : count_if_some (lone_in (map.get (children_of after.node) place)) ≡ 1 = ap count_if_some now_here in
           let r = st.room in
           subst (λ z. IsStored (with_value s i z) inline) (sym after.is) (stored_after s i it.node after.node place it.stands low after.becomes.prefix beside inline inline st (omega (arith, c, d)) r)
 
@@ -169,6 +177,7 @@ module _ {P : Type 0} (s : Slab (Slot P)) (v : Nodes P) (is : nodes_in s ≡ v) 
             ];
           }
 
+      -- and the tree sees the value alone change
       pub inline_swaps : (y : Node ℕ P) → get v at ≡ Some y → Sets v (nodes_in (with_value s i x')) at y (map.insert (children_of y) b (Value new.value))
       inline_swaps y h =
           let k = get_or lone.key 7 0 in

@@ -13,8 +13,9 @@ module _ {P : Type 0} where
     pub node : Form ℕ P
     pub is : get s n ≡ Some node
 
-  pub standing : (s : Nodes P) (n : ℕ) → ContainsKey s n → Standing s n
-  standing s n h =
+  -- a name under which a node stands has that node
+  pub standing_at : (s : Nodes P) (n : ℕ) → ContainsKey s n → Standing s n
+  standing_at s n h =
       let it = of (get s n) h in
       record { node = it.0; is = it.1 }
     where
@@ -25,5 +26,5 @@ module _ {P : Type 0} where
   -- the length of its prefix, as it was read
   pub length_read : (s : Nodes P) (n len : ℕ) → ContainsKey s n → ((x : Form ℕ P) → get s n ≡ Some x → len ≡ length (prefix_of x)) → len ≡ length (heap_of s n).prefix
   length_read s n len h e =
-      let x = standing s n h in
+      let x = standing_at s n h in
       e x.node x.is ∙ ap length (sym (prefix_is s n x.node x.is))

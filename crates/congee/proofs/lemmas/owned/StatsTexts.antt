@@ -2,7 +2,6 @@
 use Rattle.std.proofs.Common.{◌≡◌, ℕ, zero, suc, ◌+◌, ◌-◌, ◌*◌, ◌/◌, ◌%◌, ◌^◌, ◌<◌, ◌≤◌, ◌↔◌, false, cond, nat_lt, List, [], ◌∷◌, ◌++◌, length, get_or, take, replicate, codes, inl, inr, refl, ap, ◌∙◌, sym, arith}
 use Rattle.std.proofs.lemmas.Bool.{cases_lt, cases_eq, ne_eqb, lt-ltb, le-ltb}
 use Rattle.std.proofs.lemmas.List.{append_assoc, append-nil, length-append, take_more, take_all, flat_map_more}
-use Rattle.std.proofs.lemmas.List.Sums.{sum_by_more}
 use Rattle.std.proofs.lemmas.List.FromFn.{length-enumerate_from, get_or-enumerate_from}
 use Rattle.std.proofs.lemmas.Str.{encode_ascii}
 use Rattle.std.proofs.Math.Utf8.{encode}
@@ -14,19 +13,7 @@ use Rattle.congee.specs.forms.Forms.{capacity_of}
 use Rattle.congee.specs.declared.forms.base_node.NodeType.{NodeType}
 use Rattle.congee.specs.declared.owned.stats.NodeInfo.{NodeInfo}
 use Rattle.congee.specs.declared.owned.stats.LevelStats.{LevelStats}
-use Rattle.congee.specs.owned.Stats.{capped, capped_info, info_of}
-use Rattle.congee.specs.owned.StatsText.{added, right_in, hundredths, quotient_text, is_below_half, form_text, total_of, filled_in, nodes_in, entries_in, bytes_in, load_text, count_line, load_line, memory_line, pairs_line, whole_text, level_line, newline}
-
-capped_more : (s m t : ℕ) → t ≡ s + m → capped t ≡ capped (capped s + m)
-capped_more s m t e = omega (arith, e)
-
--- one more level
-pub total_more : (form : NodeType) (levels : List LevelStats) (i : ℕ) (d : LevelStats) → i < length levels
-    → total_of form (take (i + 1) levels) ≡ capped_info (added (total_of form (take i levels)) (info_of form (get_or levels i d)))
-total_more form levels i d l =
-    let nodes = capped_more _ _ _ (sum_by_more (λ level. (info_of form level).node_count) levels i d l) in
-    let values = capped_more _ _ _ (sum_by_more (λ level. (info_of form level).value_count) levels i d l) in
-    λ j. record { node_count = nodes j; value_count = values j }
+use Rattle.congee.specs.owned.StatsText.{right_in, hundredths, quotient_text, is_below_half, form_text, filled_in, nodes_in, entries_in, bytes_in, load_text, count_line, load_line, memory_line, pairs_line, whole_text, level_line, newline}
 
 spaces : (n : ℕ) → repeat n (encode 32) ≡ replicate n 32
 spaces zero = refl
@@ -134,18 +121,22 @@ lines_all levels i l = ap (flat_map level_line) (take_all i (enumerate_from 0 le
 
 -- the lines for the whole as they are written
 module _ (all : LevelStats) where
+  -- the line of counts, as it is written part by part
   pub count_written : codes "Overall node count: " ++ (decimal (nodes_in all) ++ (codes ", entry count: " ++ (decimal (entries_in all) ++ newline))) ≡ count_line all
   unfolding count_line
   count_written = simp append_assoc
 
+  -- the line of the load, as it is written part by part
   pub load_line_written : codes "Load factor: " ++ (load_text (filled_in all) (768 * nodes_in all) ++ newline) ≡ load_line all
   unfolding load_line
   load_line_written = simp append_assoc
 
+  -- the line of the memory, as it is written part by part
   pub memory_written : codes "Active memory usage: " ++ (decimal (bytes_in all / 1048576) ++ (codes " Mb" ++ newline)) ≡ memory_line all
   unfolding memory_line
   memory_written = simp append_assoc
 
+  -- the lines for the whole, one after the other, are the text for the whole
   pub whole_written : (pairs : ℕ) → count_line all ++ (load_line all ++ (memory_line all ++ (codes "KV count: " ++ (decimal pairs ++ newline)))) ≡ whole_text all pairs
   unfolding whole_text pairs_line
   whole_written pairs = simp append_assoc

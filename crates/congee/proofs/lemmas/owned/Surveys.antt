@@ -1,6 +1,6 @@
 -- The nodes of an owned tree, counted from a node down.
 use Rattle.std.proofs.Common.{◌≡◌, ℕ, zero, suc, ◌<◌, ◌≤◌, ◌+◌, List, [], ◌∷◌, ◌++◌, length, inl, inr, refl, sym, ap, ◌∙◌, subst, arith}
-use Rattle.std.specs.Prelude.{Option, None, Some, vec_len}
+use Rattle.std.specs.Prelude.{Option, None, Some, IsSome, vec_len}
 use Rattle.std.proofs.lemmas.Bool.{cases_lt}
 use Rattle.std.proofs.lemmas.List.{append-nil, append_assoc}
 use Rattle.std.specs.Ordering.{nat_cmp}
@@ -10,7 +10,7 @@ use Rattle.congee.specs.forms.Bytes.{IsFirst}
 use Rattle.congee.specs.Heap.{Hung, Nothing, Below, Holds}
 use Rattle.congee.specs.Notes.{IsChild}
 use Rattle.congee.specs.forms.Forms.{form_of, prefix_of, children_of}
-use Rattle.congee.specs.owned.Arena.{Nodes, hung_in, node_of, heap_of, ledger_of, IsTree}
+use Rattle.congee.specs.owned.Arena.{Nodes, hung_in, node_of, heap_of, notes_of, IsTree}
 use Rattle.congee.specs.owned.Stats.{capped, no_nodes, info_at, Counts, Shape, IsTally, root_alone}
 use Rattle.congee.specs.owned.Levels.{shape_of, under_byte, under_bytes, with_node, nodes_from, nodes_of}
 use Rattle.congee.specs.owned.OwnedSteps.{SameNodes}
@@ -29,6 +29,7 @@ module _ {P : Type 0} where
   under_same go other (Below c) e = e c refl
   under_same go other (Holds v) e = refl
 
+  -- the nodes under two trees' bytes are the same if those under each child are
   pub bytes_same : (go other : ℕ → List Shape) (children : ℕ → Hung P) (n : ℕ) → ((b c : ℕ) → children b ≡ Below c → go c ≡ other c)
       → under_bytes go children n ≡ under_bytes other children n
   unfolding under_bytes
@@ -53,6 +54,26 @@ module _ {P : Type 0} where
   one_more go children from b l none =
       ap (under_bytes go children) (let e : b + 1 ≡ suc b = omega arith in e) ∙ ap (λ l. l ++ under_byte go (children b)) (none_more go children from b l none)
 
+  no_node_adds : (go : ℕ → List Shape) (h : Hung P) → ((c : ℕ) → h ≡ Below c → ⊥) → under_byte go h ≡ []
+  no_node_adds go Nothing none = refl
+  no_node_adds go (Below c) none = absurd (none c refl)
+  no_node_adds go (Holds v) none = refl
+
+  -- bytes without nodes add nothing
+  no_nodes_add : (go : ℕ → List Shape) (children : ℕ → Hung P) (n : ℕ) → ((b c : ℕ) → children b ≡ Below c → ⊥) → under_bytes go children n ≡ under_bytes go children 0
+  unfolding under_bytes
+  no_nodes_add go children zero none = refl
+  no_nodes_add go children (suc b) none =
+      ap (λ l. under_bytes go children b ++ l) (no_node_adds go (children b) (none b)) ∙ append-nil (under_bytes go children b) ∙ no_nodes_add go children b none
+
+  none_from : (o : Option (Child ℕ P)) (b : ℕ) → (IsSome o → b < 256) → 256 ≤ b → o ≡ None
+  none_from None b low l = refl
+  none_from (Some y) b low l = let lt = low refl in absurd (omega (arith, lt, l))
+
+  -- where children hang at bytes, none hangs past them
+  pub none_past : (x : Form ℕ P) → ((b : ℕ) → IsSome (map.get (children_of x) b) → b < 256) → (b : ℕ) → 256 ≤ b → map.get (children_of x) b ≡ None
+  none_past x low b l = none_from (map.get (children_of x) b) b (low b) l
+
   with_same : (go other : ℕ → List Shape) (level : ℕ) (o : Option (Form ℕ P))
       → ((x : Form ℕ P) (b c : ℕ) → o ≡ Some x → hung_in (map.get (children_of x) b) ≡ Below c → go c ≡ other c) → with_node go level o ≡ with_node other level o
   with_same go other level None e = refl
@@ -68,12 +89,12 @@ module _ {P : Type 0} (s : Nodes P) where
   abbrev pub next : ℕ → ℕ → List Shape
   next level c = nodes_from (get s) 8 (level + 1) c
 
-  abbrev pub at_bytes : Form ℕ P → ℕ → Hung P
+  abbrev at_bytes : Form ℕ P → ℕ → Hung P
   at_bytes x b = hung_in (map.get (children_of x) b)
 
   module _ (t : IsTree s) where
     child_of : (n : ℕ) (x : Form ℕ P) (b c : ℕ) → ContainsKey s n → get s n ≡ Some x → at_bytes x b ≡ Below c
-        → IsChild (ledger_of s t.parent) (heap_of s) n b c
+        → IsChild (notes_of s t.parent) (heap_of s) n b c
     child_of n x b c h e d = t.tree.down n b c (linked_of s t.parent n h) (rw e d)
 
     -- any number of levels that is enough gives the same nodes
@@ -102,13 +123,30 @@ module _ {P : Type 0} (s : Nodes P) where
     pub levels : vec_len old.levels ≤ vec_len new.levels
 
   -- the node alone
-  pub begun : (old new : NodeStats) (level : ℕ) (x : Form ℕ P) → Counts old new level (form_of x) (map.len (children_of x)) → Counted old new level x 0
+  pub node_counted : (old new : NodeStats) (level : ℕ) (x : Form ℕ P) → Counts old new level (form_of x) (map.len (children_of x)) → Counted old new level x 0
   unfolding under_bytes
-  begun old new level x counts = record {
+  node_counted old new level x counts = record {
     bound = omega arith;
     tally = λ seen is. IsTally-counted old new (shape_of level x) counts seen 0 is;
     opened = let e = counts.levels in omega (arith, e);
     levels = let e = counts.levels in omega (arith, e);
+  }
+
+  -- a leaf has no nodes below it
+  pub none_below : (n : ℕ) (x : Form ℕ P) → IsTree s → ContainsKey s n → get s n ≡ Some x → length (prefix_of x) ≡ 7 → (b c : ℕ) → at_bytes x b ≡ Below c → ⊥
+  none_below n x t h e seven b c d =
+      let i : IsChild (notes_of s t.parent) (heap_of s) n b c = child_of t n x b c h e d in
+      let len : length (heap_of s n).prefix ≡ length (prefix_of x) = ap (λ o. length (node_of o).prefix) e in
+      let short : length (heap_of s c).prefix ≤ 7 = t.tree.short c i.linked in
+      omega (arith, i.longer, len, seven, short)
+
+  -- so all of its bytes are passed
+  pub leaf_counted : (old new : NodeStats) (level : ℕ) (x : Form ℕ P) → ((b c : ℕ) → at_bytes x b ≡ Below c → ⊥) → Counted old new level x 0 → Counted old new level x 256
+  leaf_counted old new level x none c = record {
+    bound = omega arith;
+    tally = λ seen is. subst (λ l. IsTally new (seen ++ shape_of level x ∷ l) 0) (sym (no_nodes_add (next level) (at_bytes x) 256 none)) (c.tally seen is);
+    opened = c.opened;
+    levels = c.levels;
   }
 
   -- and the next child
@@ -132,7 +170,7 @@ module _ {P : Type 0} (s : Nodes P) where
   pub child_stands : (n : ℕ) (x : Form ℕ P) (from b : ℕ) (y : Child ℕ P) (c : ℕ) → IsTree s → ContainsKey s n → get s n ≡ Some x → IsFirst (children_of x) from b y → y ≡ Sub c
       → ContainsKey s c × ((length (heap_of s n).prefix < length (heap_of s c).prefix) × (length (heap_of s c).prefix ≤ 7))
   child_stands n x from b y c t h e first is =
-      let i : IsChild (ledger_of s t.parent) (heap_of s) n b c = child_of t n x b c h e (ap hung_in first.here ∙ ap (λ z. hung_in (Some z)) is) in
+      let i : IsChild (notes_of s t.parent) (heap_of s) n b c = child_of t n x b c h e (ap hung_in first.here ∙ ap (λ z. hung_in (Some z)) is) in
       (stands_of s t.parent c i.linked, (i.longer, t.tree.short c i.linked))
 
   -- with the nodes below a byte
@@ -146,7 +184,7 @@ module _ {P : Type 0} (s : Nodes P) where
   value_adds : (n : ℕ) (x : Form ℕ P) (from b : ℕ) (y : Child ℕ P) (level : ℕ) → IsTree s → ContainsKey s n → get s n ≡ Some x → IsFirst (children_of x) from b y
       → ((c : ℕ) → y ≡ Sub c → ⊥) → under_byte (next level) (hung_in (Some y)) ≡ []
   value_adds n x from b Blank level t h e first other =
-      let i : IsChild (ledger_of s t.parent) (heap_of s) n b 0 = child_of t n x b 0 h e (ap hung_in first.here) in
+      let i : IsChild (notes_of s t.parent) (heap_of s) n b 0 = child_of t n x b 0 h e (ap hung_in first.here) in
       let z : length (heap_of s 0).prefix ≡ 0 = ap length t.tree.empty in
       absurd (omega (arith, i.longer, z))
   value_adds n x from b (Sub c) level t h e first other = absurd (other c refl)
@@ -160,9 +198,9 @@ module _ {P : Type 0} (s : Nodes P) where
       (λ seen has. subst (λ l. IsTally mid l 0) (sym (ap (λ l. seen ++ l) (value_adds n x from b y level t h e first other) ∙ append-nil seen)) has)
 
   -- no child is left
-  pub ended : (old new : NodeStats) (level n : ℕ) (x : Form ℕ P) (from : ℕ) → IsTree s → ContainsKey s n → get s n ≡ Some x → Counted old new level x from
+  pub survey_counted : (old new : NodeStats) (level n : ℕ) (x : Form ℕ P) (from : ℕ) → IsTree s → ContainsKey s n → get s n ≡ Some x → Counted old new level x from
       → ((b : ℕ) → from ≤ b → map.get (children_of x) b ≡ None) → (seen : List Shape) → IsTally old seen 0 → IsTally new (seen ++ nodes_from (get s) 8 level n) 0
-  ended old new level n x from t h e c none seen is =
+  survey_counted old new level n x from t h e c none seen is =
       let all : shape_of level x ∷ under_bytes (next level) (at_bytes x) from ≡ nodes_from (get s) 8 level n =
       ap (λ l. shape_of level x ∷ l) (sym (none_more (next level) (at_bytes x) from 256 c.bound (λ q lo hi. ap hung_in (none q lo)))) ∙ sym (nodes_at t level n x h e) in
       subst (λ l. IsTally new (seen ++ l) 0) all (c.tally seen is)
@@ -177,6 +215,7 @@ module _ {P : Type 0} (s : Nodes P) where
       ∙ ap (λ l. shape_of 0 root ∷ l) (none_more (next 0) (at_bytes root) 0 256 (omega arith) (λ q lo hi. nothing q))
       ∙ rw (f, c, empty, map.len-empty nat_cmp (Child ℕ P)) refl
 
+  -- statistics of nothing are those of no nodes
   pub none_counted : (stats : NodeStats) → ((level : ℕ) (form : NodeType) → info_at stats level form ≡ no_nodes) → vec_len stats.levels ≡ 0 → stats.kv_pairs ≡ 0 → IsTally stats [] 0
   none_counted stats infos levels pairs = record { infos = infos; levels = levels; kv_pairs = pairs }
 

@@ -27,11 +27,12 @@ module _ {V : Type 0} where
   with_pair_apart m k None q ne = refl
   with_pair_apart m k (Some v) q ne = get-insert_apart m k v q ne
 
-  pub table_beyond : (f : ℕ → Option V) (n q : ℕ) → n ≤ q → get (table f n) q ≡ None
+  table_beyond : (f : ℕ → Option V) (n q : ℕ) → n ≤ q → get (table f n) q ≡ None
   unfolding table
   table_beyond f zero q l = get-empty _ q
   table_beyond f (suc n) q l = with_pair_apart (table f n) n (f n) q (omega (arith, l)) ∙ table_beyond f n q (omega (arith, l))
 
+  -- what a table has for a number below its bound is what the function gives
   pub table_below : (f : ℕ → Option V) (n q : ℕ) → q < n → get (table f n) q ≡ f q
   unfolding table
   table_below f zero q l = absurd (omega (arith, l))
@@ -48,7 +49,7 @@ module _ {V : Type 0} where
     none_beyond = λ k l. table_beyond (λ k. value_at (heap_of s) (key_bytes k)) (2 ^ 64) k l;
   }
 
-  pub pairs_are : (s : Nodes V) (m : FinMap nat_cmp V) → IsMapOf (heap_of s) m → pairs_of s ≡ m
+  pairs_are : (s : Nodes V) (m : FinMap nat_cmp V) → IsMapOf (heap_of s) m → pairs_of s ≡ m
   pairs_are s m st = standing_one (heap_of s) (pairs_of s) m (pairs_stand s) st
 
   -- a call that the nodes answer is the call on their map
@@ -62,8 +63,10 @@ module _ {V : Type 0} where
   pub get_pairs : (s : Nodes V) (k : ℕ) → k < 2 ^ 64 → (o : Option V) → o ≡ value_at (heap_of s) (key_bytes k) → o ≡ get (pairs_of s) k
   get_pairs s k small o e = e ∙ sym ((pairs_stand s).at k small)
 
+  -- nodes that are the same have the same pairs
   pub same_pairs : (s s' : Nodes V) → SameNodes s s' → pairs_of s' ≡ pairs_of s
   same_pairs s s' e = pairs_are s' (pairs_of s) (same_stand s s' e (pairs_of s) (pairs_stand s))
 
+  -- nodes in which no key has a value have no pairs
   pub pairs_empty : (s : Nodes V) → ((key : List ℕ) → value_at (heap_of s) key ≡ None) → pairs_of s ≡ empty
   pairs_empty s e = pairs_are s empty (record { at = λ k l. get-empty _ k ∙ sym (e (key_bytes k)); none_beyond = λ k l. get-empty _ k })

@@ -25,7 +25,7 @@ use Rattle.congee.proofs.lemmas.owned.Hangings.{only_pair}
 use Rattle.congee.proofs.lemmas.owned.Moves.{insert_at, insert_beside, len_one, node_at, one_node}
 use Rattle.congee.proofs.lemmas.owned.SlotChanges.{AtInner, at_inner, inner_slot}
 use Rattle.congee.proofs.lemmas.owned.SlotComes.{slot_stored, slot_updates}
-use Rattle.congee.proofs.lemmas.owned.SlotLens.{counted, len_two}
+use Rattle.congee.proofs.lemmas.owned.SlotLens.{count_if_some, len_two}
 use Rattle.congee.proofs.lemmas.owned.Slots.{beside_slot, get_inline, get_offset, get_slot, in_offset, low_offset, with_len, with_mapped}
 use Rattle.congee.proofs.lemmas.owned.Stored.{lone_counts}
 use Rattle.congee.proofs.lemmas.owned.Unfolds.{one_value}
@@ -43,6 +43,7 @@ module _ {X : Type 0} (m : map.FinMap nat_cmp X) (one : map.len m ≡ 1) where
         | inr ne ↦ (let z : Some x ≡ None = sym here ∙ (ap (λ z. map.get z b) e ∙ (insert_beside map.empty k y b ne ∙ map.get-empty _ b)) in absurd (cc))
       ]
 
+  -- a map of one child has one from byte 0 on
   pub never_bare : ((q : ℕ) → 0 ≤ q → map.get m q ≡ None) → ⊥
   never_bare none =
       let p = only_pair m one in
@@ -54,7 +55,7 @@ no_lone Blank ne = refl
 no_lone (Sub slot) ne = refl
 no_lone (Value lone) ne = absurd (ne lone refl)
 
-module _ {P : Type 0} (s : Slab (Slot P)) (v : Nodes P) (is : nodes_in s ≡ v) (inline : ℕ) (st : IsStored s inline) (at i : ℕ) (byte : Option ℕ) (name : 257 * i + offset_of byte ≡ at) (fits : IsByte byte)
+module _ {P K : Type 0} (s : Slab (Slot P K)) (v : Nodes P) (is : nodes_in s ≡ v) (inline : ℕ) (st : IsStored s inline) (at i : ℕ) (byte : Option ℕ) (name : 257 * i + offset_of byte ≡ at) (fits : IsByte byte)
     (stands : ContainsKey v at) (inner : (y : Node ℕ P) → get v at ≡ Some y → length (prefix_of y) < 7) (alone : (y : Node ℕ P) → get v at ≡ Some y → HasOneNode y) where
   there : (y : Node ℕ P) × (get v at ≡ Some y)
   there = node_at v at stands
@@ -65,15 +66,16 @@ module _ {P : Type 0} (s : Slab (Slot P)) (v : Nodes P) (is : nodes_in s ≡ v) 
   here : AtInner s v at i there.0
   here = at_inner s v is at i byte name fits st.kinds there.0 there.1 (inner there.0 there.1)
 
-  module _ (x : Slot P) (e : get s i ≡ Some x) where
+  module _ (x : Slot P K) (e : get s i ≡ Some x) where
     is_here : x ≡ Inner here.node
     is_here = inner_slot s v at i there.0 here x e
 
+    -- the slot's node has one child
     pub only_len : len_in x ≡ 1
     only_len = ap len_in is_here ∙ (sym (with_len (inner_child i) here.node) ∙ (ap (λ n. map.len (children_of n)) here.seen ∙ (ap map.len hangs.children ∙ len_one hangs.byte (Sub hangs.child))))
 
     -- what it had
-    module _ (c : Child ℕ (Lone P)) (has : HasOnly x c) (s' : Slab (Slot P)) (u : Updates s s' i None) where
+    module _ (c : Child ℕ (Lone P)) (has : HasOnly x c) (s' : Slab (Slot P K)) (u : Updates s s' i None) where
       only : IsOnly (children_of here.node) c
       only = subst (λ w. HasOnly w c) is_here has
 
@@ -91,12 +93,13 @@ module _ {P : Type 0} (s : Slab (Slot P)) (v : Nodes P) (is : nodes_in s ≡ v) 
 
       -- a node with a slot of its own
       module _ (plain : lone_in (Some c) ≡ None) where
-        none : (b : ℕ) → in_slot {P = P} i None (suc b) ≡ in_slot i (get s i) (suc b)
+        none : (b : ℕ) → in_slot {P = P} {K = K} i None (suc b) ≡ in_slot i (get s i) (suc b)
         none b = elim (same_or_not b only.byte) [
           | inl q ↦ (let Q : ℕ → Type 0 = λ z. None ≡ in_slot i (get s i) (suc z) in subst Q (sym q) (sym (lies ∙ plain)))
           | inr ne ↦ sym (beside b ne)
         ]
 
+        -- where a node with a slot was given, the slots are sound, with as many leaves in places
         pub plain_stored : s'.capacity ≡ s.capacity → slab_len s' + 1 ≡ slab_len s → IsStored s' inline
         plain_stored cap len = let r = st.room in slot_stored s s' i inline None st u none tt cap (omega (arith, r, cap, len))
 
@@ -135,19 +138,21 @@ module _ {P : Type 0} (s : Slab (Slot P)) (v : Nodes P) (is : nodes_in s ≡ v) 
         was_leaf : get v leaf ≡ Some (lone_node lone)
         was_leaf = ap (λ w. get w leaf) (sym is) ∙ in_view
 
+        -- where a leaf was given, some leaf lay in its parent's place
         pub lone_some : 0 < inline
         lone_some =
             let more = lone_counts s i only.byte only.low (subst IsSome (sym in_view) refl) in
             let k = st.counted in omega (arith, more, k)
 
+        -- where a leaf was given, the slots are sound, with one leaf less in a place
         pub lone_stored : s'.capacity ≡ s.capacity → slab_len s' + 1 ≡ slab_len s → IsStored s' (inline - 1)
         lone_stored cap len =
             let a = here.name in
             let two = len_two v (nodes_in s') at leaf (λ w. absurd (omega (arith, w, a))) others in
-            let b : counted (get v at) ≡ 1 = ap counted there.1 in
-            let d : counted (get v leaf) ≡ 1 = ap counted was_leaf in
-            let f : counted (get (nodes_in s') at) ≡ 0 = ap counted now_at in
-            let h : counted (get (nodes_in s') leaf) ≡ 0 = ap counted now_leaf in
+            let b : count_if_some (get v at) ≡ 1 = ap count_if_some there.1 in
+            let d : count_if_some (get v leaf) ≡ 1 = ap count_if_some was_leaf in
+            let f : count_if_some (get (nodes_in s') at) ≡ 0 = ap count_if_some now_at in
+            let h : count_if_some (get (nodes_in s') leaf) ≡ 0 = ap count_if_some now_leaf in
             let l : slab_len (nodes_in s) ≡ slab_len v = ap slab_len is in
             let k = st.counted in let r = st.room in let z = lone_some in
             record {
@@ -182,5 +187,6 @@ module _ {P : Type 0} (s : Slab (Slot P)) (v : Nodes P) (is : nodes_in s ≡ v) 
             others = others lone q;
           }
 
+      -- the tree sees the node go and its only child given
       pub take_gives : (y : Node ℕ P) → get v at ≡ Some y → GivesOnly v (nodes_in s') at y c
       take_gives y h = subst (λ z. GivesOnly v (nodes_in s') at z c) (one_node v at there.0 y there.1 h) given

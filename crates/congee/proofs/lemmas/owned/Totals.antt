@@ -1,7 +1,8 @@
 -- Sums over the numbers below a bound.
-use Rattle.std.proofs.Common.{◌≡◌, ◌≢◌, ℕ, zero, suc, ◌+◌, ◌<◌, ◌≤◌, inl, inr, refl, sym, ap, arith}
+use Rattle.std.proofs.Common.{◌≡◌, ◌≢◌, ℕ, zero, suc, ◌+◌, ◌<◌, ◌≤◌, inl, inr, refl, sym, ap, arith, List, [], ◌∷◌, get_or, ◌∙◌}
 use Rattle.std.proofs.lemmas.Bool.{cases_lt}
 use Rattle.congee.proofs.lemmas.Tree.{same_or_not}
+use Rattle.std.specs.Prelude.{Option, None}
 
 -- the sum of what a function gives for the numbers below a bound
 unfoldable pub total : (ℕ → ℕ) → ℕ → ℕ
@@ -86,3 +87,24 @@ total_update f g (suc n) k l e = elim (same_or_not k n) [
       let h = e n (λ q. ne (sym q)) in
       omega (arith, r, h))
 ]
+
+-- lists with the same at each place, of whose sum what is missing is no part, have the same sum
+pub sum_same : {X : Type 0} (f : Option X → ℕ) (sum : List (Option X) → ℕ) → f None ≡ 0 → sum [] ≡ 0 → ((x : Option X) (xs : List (Option X)) → sum (x ∷ xs) ≡ f x + sum xs)
+    → (xs ys : List (Option X)) → ((j : ℕ) → get_or ys j None ≡ get_or xs j None) → sum ys ≡ sum xs
+sum_same f sum none empty one [] [] e = refl
+sum_same f sum none empty one [] (y ∷ ys) e =
+    let h : f y ≡ 0 = ap f (e 0) ∙ none in
+    let r : sum ys ≡ 0 = sum_same f sum none empty one [] ys (λ j. e (suc j)) ∙ empty in
+    let s = one y ys in
+    omega (arith, h, r, s, empty)
+sum_same f sum none empty one (x ∷ xs) [] e =
+    let h : 0 ≡ f x = sym none ∙ ap f (e 0) in
+    let r : 0 ≡ sum xs = sym empty ∙ sum_same f sum none empty one xs [] (λ j. e (suc j)) in
+    let s = one x xs in
+    omega (arith, h, r, s, empty)
+sum_same f sum none empty one (x ∷ xs) (y ∷ ys) e =
+    let h : f y ≡ f x = ap f (e 0) in
+    let r : sum ys ≡ sum xs = sum_same f sum none empty one xs ys (λ j. e (suc j)) in
+    let s = one x xs in
+    let u = one y ys in
+    omega (arith, h, r, s, u)

@@ -28,7 +28,7 @@ use Rattle.congee.proofs.lemmas.forms.MapLemmas.{len_less}
 use Rattle.congee.proofs.lemmas.owned.Folding.{one_child, same_least, unfold_done}
 use Rattle.congee.proofs.lemmas.owned.Moves.{apart_of, insert_at, insert_beside, node_at, one_node, remove_at}
 use Rattle.congee.proofs.lemmas.owned.SlotChanges.{AtInner, at_inner, inner_slot}
-use Rattle.congee.proofs.lemmas.owned.SlotLens.{counted, len_two, len_update}
+use Rattle.congee.proofs.lemmas.owned.SlotLens.{count_if_some, len_two, len_update}
 use Rattle.congee.proofs.lemmas.owned.SlotOps.{inline_in, inline_seen_there}
 use Rattle.congee.proofs.lemmas.owned.Stored.{LoneAt, lone_in_view, lone_seen, lone_value, seen_form, seen_len}
 
@@ -50,7 +50,7 @@ less_not_full N256 n l = refl
 
 module _ {P : Type 0} where
   -- there is room for the nodes that stand
-  pub fits_room : (s : Slab (Slot P)) (v : Nodes P) → nodes_in s ≡ v → (inline : ℕ) → IsStored s inline → HasRoomFor v 0
+  pub fits_room : {K : Type 0} (s : Slab (Slot P K)) (v : Nodes P) → nodes_in s ≡ v → (inline : ℕ) → IsStored s inline → HasRoomFor v 0
   unfolding nodes_in
   fits_room s v is inline st =
       let a : slab_len (nodes_in s) ≡ slab_len v = ap slab_len is in
@@ -64,10 +64,10 @@ module _ {P : Type 0} where
   loses_len v v1 at b y value e k =
       let apart : at ≢ k.leaf = (λ w. let z : Some k.node ≡ None = sym k.now ∙ (ap (get v1) w ∙ k.left) in cc) in
       let two = len_two v v1 at k.leaf apart k.others in
-      let a : counted (get v at) ≡ 1 = ap counted e in
-      let c : counted (get v k.leaf) ≡ 1 = ap counted k.stood in
-      let d : counted (get v1 at) ≡ 1 = ap counted k.now in
-      let f : counted (get v1 k.leaf) ≡ 0 = ap counted k.left in
+      let a : count_if_some (get v at) ≡ 1 = ap count_if_some e in
+      let c : count_if_some (get v k.leaf) ≡ 1 = ap count_if_some k.stood in
+      let d : count_if_some (get v1 at) ≡ 1 = ap count_if_some k.now in
+      let f : count_if_some (get v1 k.leaf) ≡ 0 = ap count_if_some k.left in
       omega (arith, two, a, c, d, f)
 
   -- a leaf that went left room for one node
@@ -77,7 +77,7 @@ module _ {P : Type 0} where
       let l = loses_len v v1 at b y.0 value y.1 (takes y.0 y.1) in
       omega (arith, l, room, cap)
 
-module _ {P : Type 0} (s : Slab (Slot P)) (v : Nodes P) (is : nodes_in s ≡ v) (inline : ℕ) (st : IsStored s inline) (at i : ℕ) (byte : Option ℕ) (name : 257 * i + offset_of byte ≡ at) (fits : IsByte byte)
+module _ {P K : Type 0} (s : Slab (Slot P K)) (v : Nodes P) (is : nodes_in s ≡ v) (inline : ℕ) (st : IsStored s inline) (at i : ℕ) (byte : Option ℕ) (name : 257 * i + offset_of byte ≡ at) (fits : IsByte byte)
     (stands : ContainsKey v at) (inner : (y : Node ℕ P) → get v at ≡ Some y → length (prefix_of y) < 7) (b : ℕ) (low : b < 256) (has : (y : Node ℕ P) → get v at ≡ Some y → HasInline (map.get (children_of y) b)) where
   there : (y : Node ℕ P) × (get v at ≡ Some y)
   there = node_at v at stands
@@ -91,11 +91,12 @@ module _ {P : Type 0} (s : Slab (Slot P)) (v : Nodes P) (is : nodes_in s ≡ v) 
   lone_here : LoneAt s i b
   lone_here = lone_in_view s v is at i byte name b low (inline_seen_there s v is inline st at i byte name fits stands inner b low has)
 
-  pub inline_value : (x : Slot P) → get s i ≡ Some x → IsValue (inner_get x b)
+  -- the slot has a value under the leaf's byte
+  pub inline_value : (x : Slot P K) → get s i ≡ Some x → IsValue (inner_get x b)
   inline_value x e = lone_value s i b lone_here x e
 
   -- the leaf went and comes again
-  module _ (x : Slot P) (e : get s i ≡ Some x) (lone : Lone P) (read : inner_get x b ≡ Some (Value lone)) (v1 v2 : Nodes P) (value : P) (to : ℕ) (takes : (y : Node ℕ P) → get v at ≡ Some y → LosesLeaf v v1 at y b value)
+  module _ (x : Slot P K) (e : get s i ≡ Some x) (lone : Lone P) (read : inner_get x b ≡ Some (Value lone)) (v1 v2 : Nodes P) (value : P) (to : ℕ) (takes : (y : Node ℕ P) → get v at ≡ Some y → LosesLeaf v v1 at y b value)
       (made : MakesLeaf v1 v2 to lone.key value) where
     leaf_is : (y : Node ℕ P) (h : get v at ≡ Some y) → (takes y h).leaf ≡ 257 * i + (b + 1)
     leaf_is y h = let k = takes y h in same_sub (map.get (children_of y) b) k.leaf (257 * i + (b + 1)) k.child (inline_child y h)
@@ -121,6 +122,7 @@ module _ {P : Type 0} (s : Slab (Slot P)) (v : Nodes P) (is : nodes_in s ≡ v) 
     stays : (y : Node ℕ P) (h : get v at ≡ Some y) → get v2 at ≡ Some (takes y h).node
     stays y h = let k = takes y h in made.updates.others at (apart_of v1 at to k.node k.now made.vacant) ∙ k.now
 
+    -- the node above stands after the leaf went and came again
     pub unfold_stands : ContainsKey v2 at
     unfold_stands = rw (stays there.0 there.1) refl
 
@@ -128,6 +130,7 @@ module _ {P : Type 0} (s : Slab (Slot P)) (v : Nodes P) (is : nodes_in s ≡ v) 
       same_node : (takes there.0 there.1).node ≡ z
       same_node = one_node v2 at (takes there.0 there.1).node z (stays there.0 there.1) h
 
+      -- the node above is no leaf after the leaf went and came again
       pub unfold_inner : length (prefix_of z) < 7
       unfold_inner =
           let k = takes there.0 there.1 in
@@ -135,11 +138,13 @@ module _ {P : Type 0} (s : Slab (Slot P)) (v : Nodes P) (is : nodes_in s ≡ v) 
           let l = inner there.0 there.1 in
           omega (arith, p, l)
 
+      -- the node above has nothing under the leaf's byte after the leaf went and came again
       pub unfold_absent : map.get (children_of z) b ≡ None
       unfold_absent =
           let k = takes there.0 there.1 in
           ap (λ w. map.get (children_of w) b) (sym same_node) ∙ (ap (λ m. map.get m b) k.becomes.children ∙ remove_at (children_of there.0) b)
 
+      -- the node above isn't full after the leaf went and came again
       pub unfold_room : len_in x ≤ capacity_of (form_in x) → is_full_of z ≡ false
       unfold_room fit =
           let y = there.0 in
@@ -155,12 +160,14 @@ module _ {P : Type 0} (s : Slab (Slot P)) (v : Nodes P) (is : nodes_in s ≡ v) 
 
     -- and hangs where it lay
     module _ (v3 : Nodes P) (own : HasOwnSlot to) (hangs : (z : Node ℕ P) → get v2 at ≡ Some z → Sets v2 v3 at z (map.insert (children_of z) b (Sub to))) where
+      -- the leaf, hung where it lay under its new name, took another name alone
       pub unfold_renames : (y : Node ℕ P) (leaf : ℕ) → get v at ≡ Some y → map.get (children_of y) b ≡ Some (Sub leaf) → Renames v v3 at b leaf to
       unfold_renames y leaf h child =
           let q : leaf ≡ 257 * i + (b + 1) = same_sub (map.get (children_of y) b) leaf (257 * i + (b + 1)) child (inline_child y h) in
           let puts : Updates v1 v2 to (Some (takes y h).was) = subst (λ n. Updates v1 v2 to (Some n)) (node_is y h) made.updates in
           unfold_done v v1 v2 v3 at b leaf to y value h child (takes y h) made.vacant puts (λ w. absurd (omega (arith, q, w, own, low))) hangs
 
+      -- the leaf under its new name has one value
       pub unfold_one : (z : Node ℕ P) → get v3 to ≡ Some z → HasOne z
       unfold_one z h =
           let k = hangs (takes there.0 there.1).node (stays there.0 there.1) in
@@ -179,12 +186,13 @@ module _ {P : Type 0} (s : Slab (Slot P)) (v : Nodes P) (is : nodes_in s ≡ v) 
           } in
           subst HasOne q one
 
+      -- the leaf under its new name leaves room for as many further nodes
       pub unfold_keeps : v1.capacity ≡ v.capacity → v2.capacity ≡ v1.capacity → v3.capacity ≡ v2.capacity → (n : ℕ) → HasRoomFor v n → HasRoomFor v3 n
       unfold_keeps c1 c2 c3 n room =
           let k = hangs (takes there.0 there.1).node (stays there.0 there.1) in
           let l1 = loses_len v v1 at b there.0 value there.1 (takes there.0 there.1) in
           let l2 = len_update v1 v2 to (Some made.node) made.updates in
-          let a : counted (get v1 to) ≡ 0 = ap counted made.vacant in
+          let a : count_if_some (get v1 to) ≡ 0 = ap count_if_some made.vacant in
           let l3 = len_update v2 v3 at (Some k.node) k.updates in
-          let d : counted (get v2 at) ≡ 1 = ap counted (stays there.0 there.1) in
+          let d : count_if_some (get v2 at) ≡ 1 = ap count_if_some (stays there.0 there.1) in
           omega (arith, l1, l2, a, l3, d, c1, c2, c3, room)

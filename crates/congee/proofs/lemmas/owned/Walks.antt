@@ -15,8 +15,8 @@ use Rattle.congee.specs.declared.forms.base_node.Node.{Node as Form}
 use Rattle.congee.specs.declared.forms.child.Child.{Child}
 use Rattle.congee.specs.declared.forms.child.Child.TheVariants.{Blank, Node as Sub, Value}
 use Rattle.congee.specs.declared.owned.scan.Branch.{Branch}
-use Rattle.congee.proofs.lemmas.owned.Cursors.{SameAhead, step, left_popped, left_passed, left_entered, nothing_there, nothing_more, child_there, cursor_cut, cursor_moved, cursor_down, few_below, few_before, last_of, nothing_blank, popped, entered, found, found_inline}
-use Rattle.congee.proofs.lemmas.owned.Standing.{Standing, standing}
+use Rattle.congee.proofs.lemmas.owned.Cursors.{SameAhead, branch_at, left_popped, left_passed, left_entered, nothing_there, nothing_more, child_there, cursor_cut, cursor_moved, cursor_down, few_below, few_before, last_of, nothing_blank, popped, entered, found, found_inline}
+use Rattle.congee.proofs.lemmas.owned.Standing.{Standing, standing_at}
 
 -- it goes on to other steps, with the same pairs ahead
 pub record GoesOn {P : Type 0} (s : Nodes P) (before old new : List Branch) : Type 0 where
@@ -34,26 +34,28 @@ pub record Passes {P : Type 0} (s : Nodes P) (before old new : List Branch) (key
 pub record GoesDown {P : Type 0} (s : Nodes P) (before old above : List Branch) (below : ℕ) : Type 0 where
   pub few : length above < 8
   pub stands : ContainsKey s below
-  pub on : GoesOn s before old (above ++ step below 0 ∷ [])
+  pub on : GoesOn s before old (above ++ branch_at below 0 ∷ [])
 
-module _ {P : Type 0} (s : Nodes P) (t : IsTree s) (xs : List Branch) (n from : ℕ) (way : IsCursor s (xs ++ step n from ∷ [])) where
+module _ {P : Type 0} (s : Nodes P) (t : IsTree s) (xs : List Branch) (n from : ℕ) (way : IsCursor s (xs ++ branch_at n from ∷ [])) where
+  -- the node of a walk's last step stands
   pub stands_there : ContainsKey s n
-  stands_there = (last_of s t xs (step n from) way).stands
+  stands_there = (last_of s t xs (branch_at n from) way).stands
 
+  -- above a walk's last step there are fewer than eight
   pub room_there : length xs < 8
-  room_there = few_before s t xs (step n from) way
+  room_there = few_before s t xs (branch_at n from) way
 
   -- the node there
   there : Standing s n
-  there = standing s n stands_there
+  there = standing_at s n stands_there
 
-  module _ (before : List Branch) (same : SameAhead s before (xs ++ step n from ∷ [])) where
+  module _ (before : List Branch) (same : SameAhead s before (xs ++ branch_at n from ∷ [])) where
     -- the node has nothing left
-    pub goes_up : ((x : Form ℕ P) → get s n ≡ Some x → (b : ℕ) → from ≤ b → map.get (children_of x) b ≡ None) → GoesOn s before (xs ++ step n from ∷ []) xs
+    pub goes_up : ((x : Form ℕ P) → get s n ≡ Some x → (b : ℕ) → from ≤ b → map.get (children_of x) b ≡ None) → GoesOn s before (xs ++ branch_at n from ∷ []) xs
     goes_up none = record {
-      way = cursor_cut s xs (step n from) way;
+      way = cursor_cut s xs (branch_at n from) way;
       same = popped s t before xs n from way (nothing_more s n from there.node there.is (none there.node there.is)) same;
-      fewer = left_popped xs n from room_there (last_of s t xs (step n from) way).bound;
+      fewer = left_popped xs n from room_there (last_of s t xs (branch_at n from) way).bound;
     }
 
     module _ (b : ℕ) (low : b < 256) where
@@ -80,7 +82,7 @@ module _ {P : Type 0} (s : Nodes P) (t : IsTree s) (xs : List Branch) (n from : 
       -- a value
       pub passes_value : (key : ℕ) (v : P) → key < 2 ^ 64 → HangsNext (Value v)
           → (fits (heap_of s n).prefix (key_bytes key) ≡ true) × (get_or (key_bytes key) (length (heap_of s n).prefix) 0 ≡ b)
-          → Passes s before (xs ++ step n from ∷ []) (xs ++ step n (b + 1) ∷ []) key v
+          → Passes s before (xs ++ branch_at n from ∷ []) (xs ++ branch_at n (b + 1) ∷ []) key v
       passes_value key v large next has = record {
         way = cursor_moved s xs n from (b + 1) byte_low way;
         fewer = left_passed xs n from (b + 1) room_there (omega (arith, (here (Value v) next).past)) byte_low;
@@ -89,7 +91,7 @@ module _ {P : Type 0} (s : Nodes P) (t : IsTree s) (xs : List Branch) (n from : 
 
       -- a leaf that lies in its place
       pub passes_leaf : (key below : ℕ) (v : P) → key < 2 ^ 64 → HangsNext (Sub below) → StandsWith s below key v
-          → Passes s before (xs ++ step n from ∷ []) (xs ++ step n (b + 1) ∷ []) key v
+          → Passes s before (xs ++ branch_at n from ∷ []) (xs ++ branch_at n (b + 1) ∷ []) key v
       passes_leaf key below v large next leaf = record {
         way = cursor_moved s xs n from (b + 1) byte_low way;
         fewer = left_passed xs n from (b + 1) room_there (omega (arith, (here (Sub below) next).past)) byte_low;
@@ -97,13 +99,13 @@ module _ {P : Type 0} (s : Nodes P) (t : IsTree s) (xs : List Branch) (n from : 
       }
 
       -- a node with a slot of its own
-      pub goes_down : (below : ℕ) → HangsNext (Sub below) → GoesDown s before (xs ++ step n from ∷ []) (xs ++ step n (b + 1) ∷ []) below
+      pub goes_down : (below : ℕ) → HangsNext (Sub below) → GoesDown s before (xs ++ branch_at n from ∷ []) (xs ++ branch_at n (b + 1) ∷ []) below
       goes_down below next =
           let down = cursor_down s xs n from b below byte_low (child (Sub below) next) way in
           let few = few_below s t xs n from b below way (child (Sub below) next) in
           record {
-            few = few_before s t (xs ++ step n (b + 1) ∷ []) (step below 0) down;
-            stands = (last_of s t (xs ++ step n (b + 1) ∷ []) (step below 0) down).stands;
+            few = few_before s t (xs ++ branch_at n (b + 1) ∷ []) (branch_at below 0) down;
+            stands = (last_of s t (xs ++ branch_at n (b + 1) ∷ []) (branch_at below 0) down).stands;
             on = record {
               way = down;
               same = entered s t before xs n from b below way (here (Sub below) next).past (none_before (Sub below) next) (child (Sub below) next) same;

@@ -3,13 +3,13 @@ use Rattle.std.proofs.Common.{◌≡◌, ◌≢◌, ℕ, zero, suc, ◌+◌, ◌
 use Rattle.std.specs.Prelude.{None, Some, ◌==◌}
 use Rattle.std.proofs.lemmas.Bool.Decides.{eqb_tells}
 use Rattle.std.specs.FinMap as map
-use Rattle.slab.specs.Slab.{get, ContainsKey}
+use Rattle.slab.specs.Slab.{get}
 use Rattle.congee.specs.Heap.{Hung, Nothing, Below, Holds, Node, fits, child_for}
-use Rattle.congee.specs.Notes.{Linked, Note, IsChild, HasParent, Tree}
+use Rattle.congee.specs.Notes.{Linked, Note, IsChild, Tree}
 use Rattle.congee.specs.forms.Forms.{form_of, prefix_of, children_of, size_of, next_form, is_full_of}
 use Rattle.congee.specs.owned.Arena.{Nodes, hung_in, heap_of, node_of, IsTree, OnWay, Hangs}
 use Rattle.congee.specs.Keys.{key_bytes}
-use Rattle.congee.specs.owned.OwnedSteps.{SameNodes, Sets, Makes, IsRefusal}
+use Rattle.congee.specs.owned.OwnedSteps.{SameNodes, Sets, IsRefusal}
 use Rattle.congee.specs.owned.Place.{Located, EndsAt}
 use Rattle.congee.specs.declared.owned.place.Place.{Place}
 use Rattle.congee.specs.declared.owned.place.Spot.{Spot}
@@ -21,11 +21,10 @@ use Rattle.congee.specs.owned.Wanted.{size_by, net, at_end, descend, room_for, f
 use Rattle.congee.specs.declared.forms.base_node.Node.{Node as Form}
 use Rattle.congee.specs.declared.forms.base_node.Node.TheVariants.{N4, N16, N48, N256}
 use Rattle.congee.specs.declared.forms.base_node.NodeType.TheVariants.{N256 as T256}
-use Rattle.congee.proofs.lemmas.Fits.{fits_trans, fits_byte}
 use Rattle.congee.proofs.lemmas.owned.Tables.{table_below}
-use Rattle.congee.proofs.lemmas.Tree.{same_or_not}
+use Rattle.congee.proofs.lemmas.Tree.{down_to}
 use Rattle.congee.proofs.lemmas.owned.Ways.{linked_of, above_apart}
-use Rattle.congee.proofs.lemmas.owned.Moves.{node_at, apart_of}
+use Rattle.congee.proofs.lemmas.owned.Moves.{node_at}
 use Rattle.congee.proofs.lemmas.owned.Answered.{located_held}
 
 module _ {V X : Type 0} (apart : X) (last : Node V → Hung V → X) where
@@ -51,33 +50,14 @@ module _ {V X : Type 0} (apart : X) (last : Node V → Hung V → X) where
       → descend apart last h (suc f) n key ≡ at_end last (h n) (λ c. descend apart last h f c key) x
   enter h f n key x p e = rw (p, e) refl
 
-  lead_up : (a : ℕ → Note) (h : ℕ → Node V) → Tree a h → (p b n : ℕ) (key : List ℕ) → (a p).status ≡ Linked → (h p).children b ≡ Below n
-      → fits (h n).prefix key ≡ true → (fits (h p).prefix key ≡ true → descend apart last h 8 0 key ≡ descend apart last h 8 p key) → descend apart last h 8 0 key ≡ descend apart last h 8 n key
-  lead_up a h t p b n key l e f before =
-      let i : IsChild a h p b n = t.down p b n l e in
-      let g : fits (h p).prefix key ≡ true = fits_trans (h p).prefix (h n).prefix key i.fitted f in
-      let same : get_or key (length (h p).prefix) 0 ≡ b = fits_byte (h n).prefix key (length (h p).prefix) f i.longer ∙ i.byte in
-      let x : (h p).children (get_or key (length (h p).prefix) 0) ≡ Below n = rw same e in
-      before g ∙ (enter h 7 p key (Below n) g x ∙ stable a h t 7 8 n key i.linked (omega (arith, i.longer)) (omega arith))
-
   -- the way of a key leads through each linked node whose prefix it has
   lead : (a : ℕ → Note) (h : ℕ → Node V) → Tree a h → (d n : ℕ) (key : List ℕ) → length (h n).prefix ≤ d → (a n).status ≡ Linked
       → fits (h n).prefix key ≡ true → descend apart last h 8 0 key ≡ descend apart last h 8 n key
-  lead a h t zero n key d l f =
-      elim (same_or_not n 0) [
-        | inl e ↦ rw e refl
-        | inr ne ↦ let u : HasParent a h n = t.up n l ne in
-            let i : IsChild a h (a n).parent u.byte n = t.down (a n).parent u.byte n u.linked u.holds in absurd (omega (arith, i.longer))
-      ]
-  lead a h t (suc d) n key le l f =
-      elim (same_or_not n 0) [
-        | inl e ↦ rw e refl
-        | inr ne ↦ let u : HasParent a h n = t.up n l ne in
-            let i : IsChild a h (a n).parent u.byte n = t.down (a n).parent u.byte n u.linked u.holds in
-            let small : length (h (a n).parent).prefix ≤ d = omega (arith, i.longer) in
-            lead_up a h t (a n).parent u.byte n key u.linked u.holds f (λ g. lead a h t d (a n).parent key small u.linked g)
-      ]
+  lead a h t d n key =
+      down_to a h t key (λ m. descend apart last h 8 0 key ≡ descend apart last h 8 m key) refl
+      (λ p b m i g x before. before ∙ (enter h 7 p key (Below m) g x ∙ stable a h t 7 8 m key i.linked (omega (arith, i.longer)) (omega arith))) d n
 
+  -- what is said at the end of a key's way is what is said from a node on it
   pub ends : (s : Nodes V) (key : List ℕ) (n : ℕ) (x : Hung V) → IsTree s → OnWay s key n → child_for (heap_of s n) key ≡ x
       → descend apart last (heap_of s) 8 0 key ≡ at_end last (heap_of s n) (λ c. descend apart last (heap_of s) 7 c key) x
   ends s key n x t w e =
@@ -85,7 +65,7 @@ module _ {V X : Type 0} (apart : X) (last : Node V → Hung V → X) where
       lead _ (heap_of s) t.tree (length (heap_of s n).prefix) n key (omega arith) l w.fitted ∙ enter (heap_of s) 7 n key x w.fitted e
 
   -- no node there has the key's prefix
-  pub ends_apart : (s : Nodes V) (key : List ℕ) (n c : ℕ) → IsTree s → OnWay s key n → child_for (heap_of s n) key ≡ Below c → fits (heap_of s c).prefix key ≡ false
+  ends_apart : (s : Nodes V) (key : List ℕ) (n c : ℕ) → IsTree s → OnWay s key n → child_for (heap_of s n) key ≡ Below c → fits (heap_of s c).prefix key ≡ false
       → descend apart last (heap_of s) 8 0 key ≡ apart
   ends_apart s key n c t w e f = ends s key n (Below c) t w e ∙ rw f refl
 
@@ -101,14 +81,15 @@ refused_second c c' l l' e ec el f r =
     inr (f, inl (subst Q3 el (subst Q2 ec r)))
 
 module _ {P : Type 0} where
-  pub wants_free : (s : Nodes P) (key : List ℕ) (n : ℕ) → IsTree s → OnWay s key n → child_for (heap_of s n) key ≡ Nothing → wants_at (heap_of s) key ≡ Some (free_wants (heap_of s n))
+  wants_free : (s : Nodes P) (key : List ℕ) (n : ℕ) → IsTree s → OnWay s key n → child_for (heap_of s n) key ≡ Nothing → wants_at (heap_of s) key ≡ Some (free_wants (heap_of s n))
   unfolding wants_at
   wants_free s key n t w e = ends (Some (64 ∷ 64 ∷ [])) last_wants s key n Nothing t w e
 
-  pub wants_held : (s : Nodes P) (key : List ℕ) (n : ℕ) (v : P) → IsTree s → OnWay s key n → child_for (heap_of s n) key ≡ Holds v → wants_at (heap_of s) key ≡ None
+  wants_held : (s : Nodes P) (key : List ℕ) (n : ℕ) (v : P) → IsTree s → OnWay s key n → child_for (heap_of s n) key ≡ Holds v → wants_at (heap_of s) key ≡ None
   unfolding wants_at
   wants_held s key n v t w e = ends (Some (64 ∷ 64 ∷ [])) last_wants s key n (Holds v) t w e
 
+  -- an insertion beside a node with another prefix makes two nodes of the least size
   pub wants_apart : (s : Nodes P) (key : List ℕ) (n c : ℕ) → IsTree s → OnWay s key n → child_for (heap_of s n) key ≡ Below c → fits (heap_of s c).prefix key ≡ false
       → wants_at (heap_of s) key ≡ Some (64 ∷ 64 ∷ [])
   unfolding wants_at
@@ -132,18 +113,21 @@ module _ {P : Type 0} where
   full_room (N48 n) e = rw e refl
   full_room (N256 n) e = absurd (cc e)
 
+  -- room in a node that isn't full takes no other
   pub roomy_none : (x : Form ℕ P) → is_full_of x ≡ false → room_for (node_of (Some x)) ≡ []
   roomy_none (N4 n) e = rw e refl
   roomy_none (N16 n) e = rw e refl
   roomy_none (N48 n) e = rw e refl
   roomy_none (N256 n) e = refl
 
+  -- the size of a full node, with what the sizes grow by, is that of the next form
   pub grown_by : (x : Form ℕ P) → is_full_of x ≡ true → size_of (form_of x) + net (size_of (next_form (form_of x))) ≡ size_of (next_form (form_of x))
   grown_by (N4 n) e = refl
   grown_by (N16 n) e = refl
   grown_by (N48 n) e = refl
   grown_by (N256 n) e = absurd (cc e)
 
+  -- the size by a node's places is that of its form
   pub sized : (x : Form ℕ P) → size_by (node_of (Some x)).capacity ≡ size_of (form_of x)
   sized (N4 n) = refl
   sized (N16 n) = refl
@@ -164,19 +148,15 @@ module _ {P : Type 0} where
       let e2 : get s2 at ≡ Some j.node = k.updates.others at (λ q. ne (sym q)) ∙ j.updates.changed in
       ap bytes_at e2 ∙ (ap size_of j.becomes.form ∙ (sym (sized l.0) ∙ ap (λ o. size_by (node_of o).capacity) (sym l.1)))
 
+  -- an insertion at a leaf's free byte makes what its room takes
   pub free_leaf : (n : Node P) → length n.prefix ≡ 7 → free_wants n ≡ room_for n
   free_leaf n e = rw e refl
 
+  -- an insertion at another node's free byte makes a leaf, and what its room takes
   pub free_inner : (n : Node P) → length n.prefix ≢ 7 → free_wants n ≡ 64 ∷ room_for n
   free_inner n ne =
       let f : (length n.prefix == 7) ≡ false = elim (eqb_tells (length n.prefix) 7) [ inl q ↦ absurd (ne q.1) | inr q ↦ q.0 ] in
       ap (λ b. cond b (room_for n) (64 ∷ room_for n)) f
-
-  -- a node as it was before another was made
-  pub made_same : (s s1 : Nodes P) (at leaf : ℕ) (p : List ℕ) → ContainsKey s at → Makes s s1 leaf p → heap_of s1 at ≡ heap_of s at
-  made_same s s1 at leaf p st m =
-      let n = node_at s at st in
-      ap node_of (m.updates.others at (apart_of s at leaf n.0 n.1 m.vacant))
 
   -- room that was found after a leaf was made
   pub fit_after : (n n' : Node P) (c c' l l' : ℕ) → n' ≡ n → c' ≡ c + 64 → l' ≡ l → c + 64 ≤ l → AllFit (room_for n') c' l' → AllFit (64 ∷ room_for n) c l
@@ -200,21 +180,25 @@ module _ {P : Type 0} where
       let h = located_held s key p t l e in
       wants_held s key p.at h.value t l.reached.way h.holds
 
+  -- where a key's place is free, its insertion makes what the last node's free byte takes
   pub located_wants_free : (s : Nodes P) (key : List ℕ) (p : Place) → IsTree s → Located s key p → p.spot ≡ Free → wants_at (heap_of s) key ≡ Some (free_wants (heap_of s p.at))
   located_wants_free s key p t l e =
       let E : Spot → Type 0 = λ x. EndsAt s key p.at x in
       wants_free s key p.at t l.reached.way (subst E e l.ends)
 
+  -- where a key's place is beside a node with another prefix, its insertion makes two least nodes
   pub located_wants_apart : (s : Nodes P) (key : List ℕ) (p : Place) (c : ℕ) → IsTree s → Located s key p → p.spot ≡ Apart c → wants_at (heap_of s) key ≡ Some (64 ∷ 64 ∷ [])
   located_wants_apart s key p c t l e =
       let E : Spot → Type 0 = λ x. EndsAt s key p.at x in
       let d : EndsAt s key p.at (Apart c) = subst E e l.ends in
       wants_apart s key p.at c t l.reached.way d.0 d.1
 
+  -- what the map of wants has for a key is what its insertion makes
   pub get_wants : (s : Nodes P) (k : ℕ) → k < 2 ^ 64 → map.get (wants_of s) k ≡ wants_at (heap_of s) (key_bytes k)
   unfolding wants_of
   get_wants s k small = table_below (λ k. wants_at (heap_of s) (key_bytes k)) (2 ^ 64) k small
 
+  -- on nodes that are the same the same is made for each key
   pub same_wants : (s s' : Nodes P) → SameNodes s s' → wants_of s' ≡ wants_of s
   unfolding wants_of
   same_wants s s' e =

@@ -6,9 +6,9 @@ use Rattle.std.proofs.lemmas.Bool.{cases_lt}
 use Rattle.std.specs.FinMap as map
 use Rattle.slab.specs.Slab.{get, ContainsKey}
 use Rattle.congee.specs.Heap.{Hung, Nothing, Below, Holds}
-use Rattle.congee.specs.Notes.{IsChild, HasParent}
+use Rattle.congee.specs.Notes.{HasParent}
 use Rattle.congee.specs.forms.Forms.{form_of, children_of, size_of}
-use Rattle.congee.specs.owned.Arena.{Nodes, hung_in, node_of, heap_of, ledger_of, IsTree}
+use Rattle.congee.specs.owned.Arena.{Nodes, hung_in, node_of, heap_of, notes_of, IsTree}
 use Rattle.congee.specs.owned.Levels.{under_byte, under_bytes, with_node, nodes_from, nodes_of}
 use Rattle.congee.specs.owned.Sizes.{bytes_at, bytes_of}
 use Rattle.congee.specs.owned.Stats.{Shape}
@@ -23,7 +23,7 @@ use Rattle.congee.proofs.lemmas.owned.Cursors.{nothing_blank}
 use Rattle.congee.proofs.lemmas.owned.Moves.{node_at}
 use Rattle.congee.proofs.lemmas.owned.Sizes.{bytes_total, past_slots}
 use Rattle.congee.proofs.lemmas.owned.Totals.{total, total_same, total_none, total_one, total_add, total_swap}
-use Rattle.congee.proofs.lemmas.owned.Ways.{linked_of, stands_of, short_prefix}
+use Rattle.congee.proofs.lemmas.owned.Ways.{linked_of, stands_of, short_prefix, hung_child}
 
 -- the nodes below the bytes that were passed have their children at bytes
 abbrev pub BytesPassed : {P : Type 0} → Nodes P → Form ℕ P → ℕ → Type 0
@@ -150,16 +150,6 @@ module _ {P : Type 0} (s : Nodes P) (t : IsTree s) where
     | inr g ↦ absurd (let e : is_some (get s n) ≡ false = ap is_some (past_slots s n g) in cc (h, e))
   ]
 
-  -- what a node weighs that isn't there
-  child_of : (n b c : ℕ) → (heap_of s n).children b ≡ Below c → ContainsKey s n × IsChild (ledger_of s t.parent) (heap_of s) n b c
-  child_of n b c e =
-      let h : ContainsKey s n = there (get s n) e in
-      (h, t.tree.down n b c (linked_of s t.parent n h) e)
-    where
-      there : (o : Option (Form ℕ P)) → (node_of o).children b ≡ Below c → IsSome o
-      there None e = absurd (let z : Nothing ≡ Below c = e in cc)
-      there (Some x) e = refl
-
   hung_same : (f g : ℕ → ℕ) (x : Hung P) → ((c : ℕ) → x ≡ Below c → f c ≡ g c) → of_hung f x ≡ of_hung g x
   hung_same f g Nothing e = refl
   hung_same f g (Below c) e = e c refl
@@ -170,7 +160,7 @@ module _ {P : Type 0} (s : Nodes P) (t : IsTree s) where
   stable zero g n h p q = let l = short_prefix s t n h in absurd (omega (arith, l, p))
   stable (suc f) zero n h p q = let l = short_prefix s t n h in absurd (omega (arith, l, q))
   stable (suc f) (suc g) n h p q = ap (λ m. bytes_at (get s n) + m) (total_same _ _ 256 (λ b l. hung_same (λ c. weigh (get s) f c) (λ c. weigh (get s) g c) ((heap_of s n).children b) (λ c e.
-      let i = (child_of n b c e).1 in
+      let i = (hung_child s t n b c e).1 in
       stable f g c (stands_of s t.parent c i.linked) (omega (arith, p, i.longer)) (omega (arith, q, i.longer)))))
 
   -- a node weighs its size and what its children weigh
@@ -183,7 +173,7 @@ module _ {P : Type 0} (s : Nodes P) (t : IsTree s) where
   weighs : (n : ℕ) → whole n ≡ bytes_at (get s n) + children_weigh n
   unfolding weigh
   weighs n = ap (λ m. bytes_at (get s n) + m) (total_same _ _ 256 (λ b l. hung_same (λ c. weigh (get s) 7 c) whole ((heap_of s n).children b) (λ c e.
-      let i = (child_of n b c e).1 in
+      let i = (hung_child s t n b c e).1 in
       stable 7 8 c (stands_of s t.parent c i.linked) (omega (arith, i.longer)) (omega arith))))
 
   weightless : (m : ℕ) → get s m ≡ None → whole m ≡ 0
@@ -195,16 +185,16 @@ module _ {P : Type 0} (s : Nodes P) (t : IsTree s) where
       → total (λ n. total (λ b. at_hung ((heap_of s n).children b) m (whole m)) 256) (length s.slots) ≡ whole m
   share bytes m ne = elim (some_or_none (get s m)) [
     | inl h ↦
-        (let u : HasParent (ledger_of s t.parent) (heap_of s) m = t.tree.up m (linked_of s t.parent m h) ne in
+        (let u : HasParent (notes_of s t.parent) (heap_of s) m = t.tree.up m (linked_of s t.parent m h) ne in
         let p = t.parent m in
-        let sp : ContainsKey s p = (child_of p u.byte m u.holds).0 in
-        let i = (child_of p u.byte m u.holds).1 in
+        let sp : ContainsKey s p = (hung_child s t p u.byte m u.holds).0 in
+        let i = (hung_child s t p u.byte m u.holds).1 in
         let x = node_at s p sp in
         let low : u.byte < 256 = bytes p x.0 x.1 u.byte (hung_some (map.get (children_of x.0) u.byte) (let e : (node_of (get s p)).children u.byte ≡ Below m = u.holds in rw x.1 at e)) in
         total_one (λ n. total (λ b. at_hung ((heap_of s n).children b) m (whole m)) 256) (length s.slots) p (within p sp)
-        (λ n l np. total_none _ 256 (λ b lb. at_none ((heap_of s n).children b) m (whole m) (λ e. np (sym (child_of n b m e).1.parent))))
+        (λ n l np. total_none _ 256 (λ b lb. at_none ((heap_of s n).children b) m (whole m) (λ e. np (sym (hung_child s t n b m e).1.parent))))
         ∙ (total_one (λ b. at_hung ((heap_of s p).children b) m (whole m)) 256 u.byte low
-        (λ b lb nb. at_none ((heap_of s p).children b) m (whole m) (λ e. nb (sym (child_of p b m e).1.byte ∙ i.byte)))
+        (λ b lb nb. at_none ((heap_of s p).children b) m (whole m) (λ e. nb (sym (hung_child s t p b m e).1.byte ∙ i.byte)))
         ∙ at_same ((heap_of s p).children u.byte) m (whole m) u.holds))
     | inr none ↦
         (let z : whole m ≡ 0 = weightless m none in
@@ -230,7 +220,7 @@ module _ {P : Type 0} (s : Nodes P) (t : IsTree s) where
   -- nothing has the root
   root_share : share_of 0 ≡ 0
   root_share = total_none _ (length s.slots) (λ n l. total_none _ 256 (λ b lb. at_none ((heap_of s n).children b) 0 (whole 0) (λ e.
-      let i = (child_of n b 0 e).1 in
+      let i = (hung_child s t n b 0 e).1 in
       let z : length (heap_of s 0).prefix ≡ 0 = ap length t.tree.empty in
       absurd (omega (arith, i.longer, z)))))
 
@@ -249,7 +239,7 @@ module _ {P : Type 0} (s : Nodes P) (t : IsTree s) where
   children_all =
       let l = length s.slots in
       let inside : (n : ℕ) → n < l → children_weigh n ≡ total (λ m. total (λ b. at_hung ((heap_of s n).children b) m (whole m)) 256) l = λ n ln.
-      total_same _ _ 256 (λ b lb. hung_total whole ((heap_of s n).children b) l (λ c e. within c (stands_of s t.parent c (child_of n b c e).1.linked)))
+      total_same _ _ 256 (λ b lb. hung_total whole ((heap_of s n).children b) l (λ c e. within c (stands_of s t.parent c (hung_child s t n b c e).1.linked)))
       ∙ total_swap (λ b m. at_hung ((heap_of s n).children b) m (whole m)) 256 l in
       total_same _ _ l inside ∙ total_swap (λ n m. total (λ b. at_hung ((heap_of s n).children b) m (whole m)) 256) l l
 
@@ -272,7 +262,7 @@ module _ {P : Type 0} (s : Nodes P) (t : IsTree s) where
 
   down : (f n b c : ℕ) → HasBytesFrom (get s) (suc f) n → (heap_of s n).children b ≡ Below c → HasBytesFrom (get s) f c
   unfolding HasBytesFrom
-  down f n b c h e = let x = node_at s n (child_of n b c e).0 in h.1 x.0 b c x.1 (let g : (node_of (get s n)).children b ≡ Below c = e in rw x.1 at g)
+  down f n b c h e = let x = node_at s n (hung_child s t n b c e).0 in h.1 x.0 b c x.1 (let g : (node_of (get s n)).children b ≡ Below c = e in rw x.1 at g)
 
   opened : (f n : ℕ) → HasBytesFrom (get s) (suc f) n → HasBytes (get s n)
   unfolding HasBytesFrom
@@ -294,13 +284,13 @@ module _ {P : Type 0} (s : Nodes P) (t : IsTree s) where
         | inl e ↦ (let Q : ℕ → Type 0 = λ k. (f : ℕ) × (8 ≤ suc f + length (heap_of s k).prefix) × (HasBytes (get s k) × HasBytesFrom (get s) (suc f) k) in
             subst Q (sym e) (7, omega arith, (opened 7 0 root, root)))
         | inr ne ↦ (let u = t.tree.up n (linked_of s t.parent n h) ne in
-            let i = (child_of (t.parent n) u.byte n u.holds).1 in absurd (omega (arith, i.longer, l)))
+            let i = (hung_child s t (t.parent n) u.byte n u.holds).1 in absurd (omega (arith, i.longer, l)))
       ]
       of_some (suc d) n l h = elim (same_or_not n 0) [
         | inl e ↦ (let Q : ℕ → Type 0 = λ k. (f : ℕ) × (8 ≤ suc f + length (heap_of s k).prefix) × (HasBytes (get s k) × HasBytesFrom (get s) (suc f) k) in
             subst Q (sym e) (7, omega arith, (opened 7 0 root, root)))
         | inr ne ↦ (let u = t.tree.up n (linked_of s t.parent n h) ne in
-            let c = child_of (t.parent n) u.byte n u.holds in
+            let c = hung_child s t (t.parent n) u.byte n u.holds in
             let short = short_prefix s t n h in
             let above = of_some d (t.parent n) (omega (arith, c.1.longer, l)) c.0 in
             next above.0 n (omega (arith, above.1, c.1.longer)) (omega (arith, above.1, c.1.longer, short)) (down above.0 (t.parent n) u.byte n above.2.1 u.holds))

@@ -3,7 +3,7 @@ use Rattle.std.proofs.Common.{◌≡◌, ℕ, ◌-◌, Bool, false, cond, List, 
 use Rattle.std.specs.Prelude.{Option, Some, slice_get, ltb, leb}
 use Rattle.congee.specs.declared.forms.base_node.NodeType.{NodeType}
 use Rattle.congee.specs.declared.protocol.op.Op.{Op}
-use Rattle.congee.specs.declared.protocol.phase.Phase.TheVariants.{Sweep}
+use Rattle.congee.specs.declared.protocol.phase.Phase.TheVariants.{Scan}
 use Rattle.congee.specs.declared.protocol.op.Op.TheVariants as op
 use Rattle.congee.specs.declared.protocol.store.Refusal.{Refusal}
 use Rattle.congee.specs.declared.protocol.store.Refusal.TheVariants as refusal
@@ -17,17 +17,18 @@ use Rattle.congee.specs.protocol.Alike.{Ordered, HeapAlike, Named, PhaseAlike, C
 use Rattle.congee.specs.protocol.PlainSteps.{Mark, plain_step}
 use Rattle.congee.specs.protocol.Play.{EachKnown, Protocol, ProtocolAt, begun, first_phase}
 use Rattle.congee.specs.protocol.Steps.{Stepped}
-use Rattle.congee.specs.protocol.SweepSteps.{new_sweep}
+use Rattle.congee.specs.protocol.ScanSteps.{new_scan}
 use Rattle.congee.proofs.lemmas.Keys.{key_length}
 use Rattle.congee.proofs.lemmas.protocol.AlikeKnown.{holds_right, longer_place}
 use Rattle.congee.proofs.lemmas.protocol.AlikeLater.{named_later}
 use Rattle.congee.proofs.lemmas.protocol.AlikeSteps.{phase_alike}
-use Rattle.congee.proofs.lemmas.protocol.Turns.{may_step}
+use Rattle.congee.proofs.lemmas.protocol.ManyCalls.{may_step}
 
 module _ {C V : Type 0} (number : C → ℕ) (same : V → V → Bool) (always : Bool) where
   protocol_of : (a : ℕ → Note) (h : ℕ → Node V) (ms : List (Machine C V)) → ProtocolAt number same always a h ms → Protocol number same always h ms
   protocol_of a h ms p = record { notes = a; tree = p.tree; words = p.words; each = p.each }
 
+  -- a step that refuses no node and no copy leaves call and nodes the same as the step by numbers does
   pub step_alike : (most : ℕ) (why : NodeType → Refusal → Type 0) → ((form : NodeType) → why form refusal.Exhausted → ⊥) → (seen : Option (Seen Mark V)) (i : ℕ) (a : ℕ → Note) (h g h' : ℕ → Node V) (ms : List (Machine C V)) (m m' : Machine C V) (d : Move V)
       (fail : Bool) (answer : Option (Option V)) (order : List ℕ) (q : Machine ℕ V) (k : ℕ) → ProtocolAt number same always a h ms → slice_get ms i ≡ Some m → Stepped number same always most why m h fail answer m' h' d → IsUnrefused d.outcome → d.skipped ≡ false
       → Ordered order h → HeapAlike order h g → k ≡ length order → CallAlike order number h m q
@@ -54,19 +55,20 @@ module _ {C V : Type 0} (number : C → ℕ) (same : V → V → Bool) (always :
           key = c.key ∙ sym s.key;
           kind = c.kind ∙ sym s.kind;
           given = w.given_is;
-          phase = w.turn.phase;
+          phase = w.next_phase.phase;
         };
       }
 
 -- a call that has not begun
 module _ {C V : Type 0} (number : C → ℕ) where
-  new_scan : (order : List ℕ) (h : ℕ → Node V) (root : C) (n start last size : ℕ) → PhaseAlike order number h (Sweep (new_sweep root start last size)) (Sweep (new_sweep n start last size))
-  new_scan order h root n start last size = (new_sweep n start last size, refl, record { start = refl; last = refl; size = refl; count = refl; len = refl; way = λ i l. absurd (omega (arith, l)); stage = refl })
+  new_scan_alike : (order : List ℕ) (h : ℕ → Node V) (root : C) (n start last size : ℕ) → PhaseAlike order number h (Scan (new_scan root start last size)) (Scan (new_scan n start last size))
+  new_scan_alike order h root n start last size = (new_scan n start last size, refl, record { start = refl; last = refl; size = refl; count = refl; len = refl; way = λ i l. absurd (omega (arith, l)); stage = refl })
 
   new_call : (order : List ℕ) (h : ℕ → Node V) (root : C) (n : ℕ) (o : Op V) → Named order number root n → PhaseAlike order number h (first_phase root o) (first_phase n o)
-  new_call order h root n (op.Range start end size) e = new_scan order h root n start (end - 1) (cond (ltb start end) size 0)
-  new_call order h root n (op.RangeInclusive start last size) e = new_scan order h root n start last (cond (leb start last) size 0)
+  new_call order h root n (op.Range start end size) e = new_scan_alike order h root n start (end - 1) (cond (ltb start end) size 0)
+  new_call order h root n (op.RangeInclusive start last size) e = new_scan_alike order h root n start last (cond (leb start last) size 0)
   new_call order h root n _ e = refl
 
+  -- a call that has not begun is the same by numbers
   pub begun_alike : (order : List ℕ) (h : ℕ → Node V) (root : C) (n : ℕ) (o : Op V) → slice_get order n ≡ Some (number root) → CallAlike order number h (begun root o) (begun n o)
   begun_alike order h root n o e = record { root = e; key = refl; kind = refl; given = refl; phase = new_call order h root n o e }

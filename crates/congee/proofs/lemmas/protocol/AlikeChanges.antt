@@ -11,7 +11,7 @@ use Rattle.congee.specs.declared.protocol.phase.Two.{Two}
 use Rattle.congee.specs.declared.protocol.phase.Phase.{Phase}
 use Rattle.congee.specs.declared.protocol.phase.Phase.TheVariants.{ChangeTwo}
 use Rattle.congee.specs.Heap.{Node, Hung, Nothing, Below, Stands}
-use Rattle.congee.specs.protocol.Alike.{Ordered, HungAlike, NodeAlike, HeapAlike, Named, SeatAlike, TopAlike, SingleAlike, DoubleAlike, TwoAlike}
+use Rattle.congee.specs.protocol.Alike.{Ordered, HungAlike, NodeAlike, HeapAlike, Named, StampAlike, TopAlike, SingleAlike, DoubleAlike, TwoAlike}
 use Rattle.congee.specs.protocol.Events.{IsOther, ChangeGives, HoldsValues, HoldsNodes, TakeOverGives, BackGives}
 use Rattle.congee.specs.protocol.PlainSteps.{name_or, other_from, other_of, change_top, back, hang, copy, clear, back_one, back_two, change_one, change_two}
 use Rattle.congee.specs.protocol.Steps.{PutsLesser, Collapses, Lessens, MayLessen, MayTop, BackOne, BackTwo, value_hung, ChangedOne, ChangedTwo, MayBackOne, MayBackTwo, MayChangeOne, MayChangeTwo}
@@ -48,7 +48,7 @@ HoldsFor _ n p = Unit {0}
 
 -- before a change of two nodes, the one whose children go over holds values or nodes as the change wants
 abbrev pub HoldsRight : {C V : Type 0} → (C → ℕ) → (ℕ → Node V) → Phase C V → Type 0
-HoldsRight number h (ChangeTwo two r) = HoldsFor two.change (h (number two.at.node)) (h (number two.above.seat.node))
+HoldsRight number h (ChangeTwo two r) = HoldsFor two.change (h (number two.at.node)) (h (number two.above.stamp.node))
 HoldsRight number h _ = Unit {0}
 
 module _ {C V : Type 0} (order : List ℕ) (number : C → ℕ) where
@@ -71,6 +71,7 @@ module _ {C V : Type 0} (order : List ℕ) (number : C → ℕ) where
         next h h1 h' (back g na) (back (back g na) nb) o (pair_back order h g o x (number a) na h1 ea sa k)
         (λ o1 x1. pair_back order h1 (back g na) o1 x1 (number b) nb h' eb (stands_at (h1 (number b)) (h (number b)) (k.others (number b) ne) sb) k')
 
+    -- both sides are alike after the made nodes of a change of two nodes went back
     pub back_two_pair : (c : Double C) (y : Double ℕ) → DoubleAlike order number c y → MayBackTwo number h c → BackTwo number h c h' → Pair order h h' (back_two y g)
     back_two_pair Unlink y e may k = let P : Double ℕ → Type 0 = λ z. Pair order h h' (back_two z g) in subst P (sym e) (pair_same order h h' g k x)
     back_two_pair (Shrink c) y e may k = let P : Double ℕ → Type 0 = λ z. Pair order h h' (back_two z g) in subst P (sym e.1) (pair_back order h g o x (number c) e.0 h' e.2 may k)
@@ -81,7 +82,7 @@ module _ {C V : Type 0} (order : List ℕ) (number : C → ℕ) where
     back_two_pair (Split top leaf common byte) y e may k = let P : Double ℕ → Type 0 = λ z. Pair order h h' (back_two z g) in subst P (sym e.2) (both_back leaf top e.1 e.0 k.0 e.4 e.3 may.0 may.1 may.2 k.1 k.2)
 
     -- a change of one node
-    pub change_one_pair : (key : List ℕ) (new : Option V) (one : One C) (u : One ℕ) → SeatAlike order number one.at u.at → u.byte ≡ one.byte → (c : Single C) (y : Single ℕ) → SingleAlike order number c y
+    pub change_one_pair : (key : List ℕ) (new : Option V) (one : One C) (u : One ℕ) → StampAlike order number one.at u.at → u.byte ≡ one.byte → (c : Single C) (y : Single ℕ) → SingleAlike order number c y
         → MayChangeOne number new one c h → ChangedOne number key new one c h h' → Pair order h h' (change_one key new u y g)
     change_one_pair key new one u st b Set y e may k =
         let P : Single ℕ → Type 0 = λ z. Pair order h h' (change_one key new u z g) in
@@ -123,7 +124,7 @@ module _ {C V : Type 0} (order : List ℕ) (number : C → ℕ) where
   -- a change of the node above
   module _ (h g : ℕ → Node V) (o : Ordered order h) (x : HeapAlike order h g) (h' : ℕ → Node V) (key : List ℕ) (two : Two C) (u : Two ℕ) (e : TwoAlike order number two u) where
     abbrev p : ℕ
-    p = number two.above.seat.node
+    p = number two.above.stamp.node
 
     abbrev n : ℕ
     n = number two.at.node
@@ -134,10 +135,10 @@ module _ {C V : Type 0} (order : List ℕ) (number : C → ℕ) where
     abbrev last : ℕ
     last = slice_index key MAX_PREFIX_LEN
 
-    hung_above : (a b : ℕ → Node V) (w z : Hung V) → Ordered order a → HeapAlike order a b → Stands (a p) → HungAlike order w z → ChangeGives a p two.above.byte w h' → Pair order a h' (hang b u.above.seat.node u.above.byte z)
+    hung_above : (a b : ℕ → Node V) (w z : Hung V) → Ordered order a → HeapAlike order a b → Stands (a p) → HungAlike order w z → ChangeGives a p two.above.byte w h' → Pair order a h' (hang b u.above.stamp.node u.above.byte z)
     hung_above a b w z oa xa s l k =
-        let Q : ℕ → Type 0 = λ y. Pair order a h' (hang b u.above.seat.node y z) in
-        subst Q (sym e.above.byte) (pair_hung order a b oa xa p u.above.seat.node two.above.byte w z h' e.above.seat.node s l k)
+        let Q : ℕ → Type 0 = λ y. Pair order a h' (hang b u.above.stamp.node y z) in
+        subst Q (sym e.above.byte) (pair_hung order a b oa xa p u.above.stamp.node two.above.byte w z h' e.above.stamp.node s l k)
 
     -- a lesser node without one child comes in the place of another one
     lesser_leaf : (m c b q up mn cn qn : ℕ) → slice_get order mn ≡ Some m → slice_get order cn ≡ Some c → slice_get order qn ≡ Some q → HoldsValues (h m) → MayLessen h m c b q up → PutsLesser h m c b q up h'
@@ -160,19 +161,19 @@ module _ {C V : Type 0} (order : List ℕ) (number : C → ℕ) where
     collapse_pair None y a may k = absurd may
     collapse_pair (Some top) y a may k =
         let P : Option (Parent ℕ) → Type 0 = λ z. Pair order h h' (change_top u Collapse z g) in
-        let Q : ℕ → Type 0 = λ z. Pair order h h' (hang g a.0.seat.node z (Below (other_of (g u.above.seat.node) u.above.byte))) in
-        let S : ℕ → Type 0 = λ z. HungAlike {V = V} order (Below k.0) (Below (other_of (g u.above.seat.node) z)) in
-        let is : HungAlike {V = V} order (Below k.0) (Below (other_of (g u.above.seat.node) u.above.byte)) = subst S (sym e.above.byte) (other_named (h p) (g u.above.seat.node) two.above.byte k.0 (x u.above.seat.node p e.above.seat.node may.stands) k.1) in
-        subst P (sym a.1) (subst Q (sym a.2.byte) (pair_hung order h g o x (number top.seat.node) a.0.seat.node top.byte (Below k.0) (Below (other_of (g u.above.seat.node) u.above.byte)) h' a.2.seat.node may.stands_top is k.2))
+        let Q : ℕ → Type 0 = λ z. Pair order h h' (hang g a.0.stamp.node z (Below (other_of (g u.above.stamp.node) u.above.byte))) in
+        let S : ℕ → Type 0 = λ z. HungAlike {V = V} order (Below k.0) (Below (other_of (g u.above.stamp.node) z)) in
+        let is : HungAlike {V = V} order (Below k.0) (Below (other_of (g u.above.stamp.node) u.above.byte)) = subst S (sym e.above.byte) (other_named (h p) (g u.above.stamp.node) two.above.byte k.0 (x u.above.stamp.node p e.above.stamp.node may.stands) k.1) in
+        subst P (sym a.1) (subst Q (sym a.2.byte) (pair_hung order h g o x (number top.stamp.node) a.0.stamp.node top.byte (Below k.0) (Below (other_of (g u.above.stamp.node) u.above.byte)) h' a.2.stamp.node may.stands_top is k.2))
 
     lessen_pair : (c : C) (m : ℕ) → Named order number c m → HoldsNodes (h p) → (top : Option (Parent C)) (y : Option (Parent ℕ)) → TopAlike order number top y → MayTop number two (ShrinkAbove c) top h → Lessens number two c top h h'
         → Pair order h h' (change_top u (ShrinkAbove m) y g)
     lessen_pair c m at holds None y a may k = absurd may
     lessen_pair c m at holds (Some top) y a may k =
         let P : Option (Parent ℕ) → Type 0 = λ z. Pair order h h' (change_top u (ShrinkAbove m) z g) in
-        let Q : ℕ → Type 0 = λ z. Pair order h h' (hang (hang (copy g u.above.seat.node m) m u.above.byte Nothing) a.0.seat.node z (Below m)) in
-        let S : ℕ → Type 0 = λ z. Pair order h h' (hang (hang (copy g u.above.seat.node m) m z Nothing) a.0.seat.node top.byte (Below m)) in
-        subst P (sym a.1) (subst Q (sym a.2.byte) (subst S (sym e.above.byte) (lesser_inner p (number c) two.above.byte (number top.seat.node) top.byte u.above.seat.node m a.0.seat.node e.above.seat.node at a.2.seat.node holds may k)))
+        let Q : ℕ → Type 0 = λ z. Pair order h h' (hang (hang (copy g u.above.stamp.node m) m u.above.byte Nothing) a.0.stamp.node z (Below m)) in
+        let S : ℕ → Type 0 = λ z. Pair order h h' (hang (hang (copy g u.above.stamp.node m) m z Nothing) a.0.stamp.node top.byte (Below m)) in
+        subst P (sym a.1) (subst Q (sym a.2.byte) (subst S (sym e.above.byte) (lesser_inner p (number c) two.above.byte (number top.stamp.node) top.byte u.above.stamp.node m a.0.stamp.node e.above.stamp.node at a.2.stamp.node holds may k)))
 
     grow_pair : (v : V) (c : C) (m : ℕ) → Named order number c m → HoldsValues (h n) → MayChangeTwo number key (Some v) two (Grow c) h → ChangedTwo number key (Some v) two (Grow c) h h' → Pair order h h' (change_two key (Some v) u (Grow m) g)
     grow_pair v c m at holds may k =
@@ -209,14 +210,15 @@ module _ {C V : Type 0} (order : List ℕ) (number : C → ℕ) where
         (λ o3 x3. hung_above k.2 _ (Below (number top)) (Below m) o3 x3
         (stands_changed k.1 (number top) _ _ k.2 p k.5 (stands_changed k.0 (number top) _ _ k.1 p k.4 (stands_changed h (number leaf) _ _ k.0 p k.3 may.0.stands))) (m, refl, at) k.6)))
 
+    -- both sides are alike after the same change of two nodes
     pub change_two_pair : (new : Option V) (c : Double C) (y : Double ℕ) → DoubleAlike order number c y → HoldsFor c (h n) (h p) → MayChangeTwo number key new two c h → ChangedTwo number key new two c h h' → Pair order h h' (change_two key new u y g)
     change_two_pair new Unlink y d holds may k =
         let P : Double ℕ → Type 0 = λ z. Pair order h h' (change_two key new u z g) in
         subst P (sym d) (hung_above h g _ _ o x may.stands refl k)
     change_two_pair new (Shrink c) y d holds may k =
         let P : Double ℕ → Type 0 = λ z. Pair order h h' (change_two key new u z g) in
-        let Q : ℕ → Type 0 = λ z. Pair order h h' (hang (hang (clear (copy g u.at.node d.0) u.at.node) d.0 last Nothing) u.above.seat.node z (Below d.0)) in
-        subst P (sym d.1) (subst Q (sym e.above.byte) (lesser_leaf n (number c) last p two.above.byte u.at.node d.0 u.above.seat.node e.at.node d.2 e.above.seat.node holds may k))
+        let Q : ℕ → Type 0 = λ z. Pair order h h' (hang (hang (clear (copy g u.at.node d.0) u.at.node) d.0 last Nothing) u.above.stamp.node z (Below d.0)) in
+        subst P (sym d.1) (subst Q (sym e.above.byte) (lesser_leaf n (number c) last p two.above.byte u.at.node d.0 u.above.stamp.node e.at.node d.2 e.above.stamp.node holds may k))
     change_two_pair new Collapse y d holds may k =
         let P : Double ℕ → Type 0 = λ z. Pair order h h' (change_two key new u z g) in subst P (sym d) (collapse_pair two.top u.top e.top may k)
     change_two_pair new (ShrinkAbove c) y d holds may k =

@@ -1,5 +1,5 @@
 -- What a step does to one node of a store, and to the same node by its number.
-use Rattle.std.proofs.Common.{◌≡◌, ◌≢◌, ℕ, zero, suc, ◌+◌, ◌-◌, ◌<◌, ◌==◌, true, false, cond, List, [], ◌∷◌, ◌++◌, length, take, refl, sym, ◌∙◌, ap, subst, inl, inr, ◌⊎◌, arith}
+use Rattle.std.proofs.Common.{◌≡◌, ◌≢◌, ℕ, zero, suc, ◌+◌, ◌-◌, ◌<◌, ◌==◌, true, false, cond, List, [], ◌∷◌, ◌++◌, length, take, refl, sym, ◌∙◌, ap, subst, inl, inr, ◌⊎◌, arith, Bool}
 use Rattle.std.specs.Prelude.{Some, slice_get}
 use Rattle.std.proofs.lemmas.Option.{slice_get_within}
 use Rattle.congee.specs.declared.forms.base_node.NodeType.{NodeType}
@@ -7,7 +7,7 @@ use Rattle.congee.specs.Heap.{Node, Hung, Nothing, Below, Holds, Stands, fits}
 use Rattle.congee.specs.protocol.Alike.{Ordered, HungAlike, NodeAlike, HeapAlike}
 use Rattle.congee.specs.protocol.Events.{SameBut, NewNode, weight, ChangeGives, HoldsValues, HoldsNodes, TakeOverGives, BackGives, ObsoleteGives, RetireGives, UnlockGives}
 use Rattle.congee.specs.protocol.PlainSteps.{put, lock, free, mark, hand, back, with_child, hang, copy, clear, new_node}
-use Rattle.congee.proofs.lemmas.Fits.{both_true, equal, same_test, other_test}
+use Rattle.congee.proofs.lemmas.Fits.{both_true, equal_of_test, same_test, other_test}
 use Rattle.congee.proofs.lemmas.Tree.{same_or_not}
 use Rattle.congee.proofs.lemmas.protocol.Leftovers.{kept_node, kept_value}
 
@@ -16,11 +16,11 @@ pub some_is : {A : Type 0} {x y : A} → Some x ≡ Some y → x ≡ y
 some_is e = cc
 
 -- the node that was put stands under its number
-pub put_same : {V : Type 0} (h : ℕ → Node V) (n : ℕ) (x : Node V) → put h n x n ≡ x
+put_same : {V : Type 0} (h : ℕ → Node V) (n : ℕ) (x : Node V) → put h n x n ≡ x
 put_same h n x = rw (same_test n n refl) refl
 
 -- every other node is as it was where one is put
-pub put_other : {V : Type 0} (h : ℕ → Node V) (n : ℕ) (x : Node V) (m : ℕ) → m ≢ n → put h n x m ≡ h m
+put_other : {V : Type 0} (h : ℕ → Node V) (n : ℕ) (x : Node V) (m : ℕ) → m ≢ n → put h n x m ≡ h m
 put_other h n x m e = rw (other_test m n e) refl
 
 -- the nodes on both sides after a step that makes none
@@ -77,6 +77,7 @@ module _ {V : Type 0} (order : List ℕ) (h : ℕ → Node V) (g : ℕ → Node 
     ];
   }
 
+  -- both sides are alike after one node changed, into two that are alike
   pub touched : (c n : ℕ) (h' : ℕ → Node V) (y : Node V) → slice_get order n ≡ Some c → ((m : ℕ) → m ≢ c → h' m ≡ h m)
       → (Stands (h' c) → NodeAlike order (h' c) y) → (h' c).made ≡ (h c).made → (Stands (h' c) → Stands (h c)) → Pair order h h' (put g n y)
   touched c n h' y at others here made stood =
@@ -84,63 +85,42 @@ module _ {V : Type 0} (order : List ℕ) (h : ℕ → Node V) (g : ℕ → Node 
       changed c n h' (put g n y) at others (put_other g n y) (λ t. subst Q (sym (put_same g n y)) (here t)) made stood
 
   -- one node changes its lock word or its marks
-  pub pair_but : (c n : ℕ) (h' : ℕ → Node V) (y : Node V → Node V) → slice_get order n ≡ Some c → Stands (h c) → SameBut h c (y (h c)) h'
+  pair_but : (c n : ℕ) (h' : ℕ → Node V) (y : Node V → Node V) → slice_get order n ≡ Some c → Stands (h c) → SameBut h c (y (h c)) h'
       → ((a b : Node V) → NodeAlike order a b → NodeAlike order (y a) (y b)) → (y (h c)).made ≡ (h c).made → Pair order h h' (put g n (y (g n)))
   pair_but c n h' y at s k f m =
       let P : Node V → Type 0 = λ z. NodeAlike order z (y (g n)) in
       touched c n h' (y (g n)) at k.others (λ t. subst P (sym k.after) (f (h c) (g n) (x n c at s))) (ap (λ z. z.made) k.after ∙ m) (λ t. s)
 
+  -- two nodes that are alike are so with other words and marks that are the same
+  worded : (a b : Node V) → NodeAlike order a b → (v v' : ℕ) (l l' o o' r r' : Bool) → v' ≡ v → l' ≡ l → o' ≡ o → r' ≡ r
+      → NodeAlike order (record a { version = v; locked = l; obsolete = o; retired = r }) (record b { version = v'; locked = l'; obsolete = o'; retired = r' })
+  worded a b e v v' l l' o o' r r' ev el eo er = record {
+    stands = record { made = e.stands.made; kept = e.stands.kept };
+    prefix = e.prefix;
+    count = e.count;
+    capacity = e.capacity;
+    version = ev;
+    locked = el;
+    obsolete = eo;
+    retired = er;
+    children = e.children;
+  }
+
+  -- both sides are alike after the same node was locked
   pub pair_locked : (c n : ℕ) (h' : ℕ → Node V) → slice_get order n ≡ Some c → Stands (h c) → SameBut h c (record (h c) { locked = true }) h' → Pair order h h' (lock g n)
-  pair_locked c n h' at s k = pair_but c n h' (λ z. record z { locked = true }) at s k (λ a b e. record {
-    stands = record { made = e.stands.made; kept = e.stands.kept };
-    prefix = e.prefix;
-    count = e.count;
-    capacity = e.capacity;
-    version = e.version;
-    locked = refl;
-    obsolete = e.obsolete;
-    retired = e.retired;
-    children = e.children;
-  }) refl
+  pair_locked c n h' at s k = pair_but c n h' (λ z. record z { locked = true }) at s k (λ a b e. worded a b e _ _ _ _ _ _ _ _ e.version refl e.obsolete e.retired) refl
 
+  -- both sides are alike after the same node was unlocked
   pub pair_freed : (c n : ℕ) (h' : ℕ → Node V) → slice_get order n ≡ Some c → Stands (h c) → UnlockGives h c h' → Pair order h h' (free g n)
-  pair_freed c n h' at s k = pair_but c n h' (λ z. record z { version = z.version + 1; locked = false }) at s k (λ a b e. record {
-    stands = record { made = e.stands.made; kept = e.stands.kept };
-    prefix = e.prefix;
-    count = e.count;
-    capacity = e.capacity;
-    version = ap (λ z. z + 1) e.version;
-    locked = refl;
-    obsolete = e.obsolete;
-    retired = e.retired;
-    children = e.children;
-  }) refl
+  pair_freed c n h' at s k = pair_but c n h' (λ z. record z { version = z.version + 1; locked = false }) at s k (λ a b e. worded a b e _ _ _ _ _ _ _ _ (ap (λ z. z + 1) e.version) refl e.obsolete e.retired) refl
 
+  -- both sides are alike after the same node was marked as obsolete
   pub pair_marked : (c n : ℕ) (h' : ℕ → Node V) → slice_get order n ≡ Some c → Stands (h c) → ObsoleteGives h c h' → Pair order h h' (mark g n)
-  pair_marked c n h' at s k = pair_but c n h' (λ z. record z { obsolete = true }) at s k (λ a b e. record {
-    stands = record { made = e.stands.made; kept = e.stands.kept };
-    prefix = e.prefix;
-    count = e.count;
-    capacity = e.capacity;
-    version = e.version;
-    locked = e.locked;
-    obsolete = refl;
-    retired = e.retired;
-    children = e.children;
-  }) refl
+  pair_marked c n h' at s k = pair_but c n h' (λ z. record z { obsolete = true }) at s k (λ a b e. worded a b e _ _ _ _ _ _ _ _ e.version e.locked refl e.retired) refl
 
+  -- both sides are alike after the same node was handed over
   pub pair_handed : (c n : ℕ) (h' : ℕ → Node V) → slice_get order n ≡ Some c → Stands (h c) → RetireGives h c h' → Pair order h h' (hand g n)
-  pair_handed c n h' at s k = pair_but c n h' (λ z. record z { retired = true }) at s k (λ a b e. record {
-    stands = record { made = e.stands.made; kept = e.stands.kept };
-    prefix = e.prefix;
-    count = e.count;
-    capacity = e.capacity;
-    version = e.version;
-    locked = e.locked;
-    obsolete = e.obsolete;
-    retired = refl;
-    children = e.children;
-  }) refl
+  pair_handed c n h' at s k = pair_but c n h' (λ z. record z { retired = true }) at s k (λ a b e. worded a b e _ _ _ _ _ _ _ _ e.version e.locked e.obsolete refl) refl
 
   -- one goes back
   pub pair_back : (c n : ℕ) (h' : ℕ → Node V) → slice_get order n ≡ Some c → Stands (h c) → BackGives h c h' → Pair order h h' (back g n)
@@ -156,6 +136,7 @@ module _ {V : Type 0} (order : List ℕ) (h : ℕ → Node V) (g : ℕ → Node 
   counts : (a b wa wb va vb a' : ℕ) → b ≡ a → wb ≡ wa → vb ≡ va → a' + wa ≡ a + va → b + vb - wb ≡ a'
   counts a b wa wb va vb a' e f i k = omega (arith, e, f, i, k)
 
+  -- both sides are alike after the same was hung at a byte of the same node
   pub pair_hung : (c n b : ℕ) (v u : Hung V) (h' : ℕ → Node V) → slice_get order n ≡ Some c → Stands (h c) → HungAlike order v u → ChangeGives h c b v h' → Pair order h h' (hang g n b u)
   pair_hung c n b v u h' at s a k =
       let e : NodeAlike order (h c) (g n) = x n c at s in
@@ -228,7 +209,7 @@ module _ {V : Type 0} (order : List ℕ) (h : ℕ → Node V) (g : ℕ → Node 
   abbrev over : ℕ → (ℕ → Node V) → ℕ → Node V
   over c h' = put h c (h' c)
 
-  pub pair_over : (m c mn cn : ℕ) (h' : ℕ → Node V) → slice_get order mn ≡ Some m → slice_get order cn ≡ Some c → Stands (h m) → Stands (h c) → TakeOverGives h m c h' → Pair order h (over c h') (copy g mn cn)
+  pair_over : (m c mn cn : ℕ) (h' : ℕ → Node V) → slice_get order mn ≡ Some m → slice_get order cn ≡ Some c → Stands (h m) → Stands (h c) → TakeOverGives h m c h' → Pair order h (over c h') (copy g mn cn)
   pair_over m c mn cn h' am ac sm sc k =
       let here : over c h' c ≡ h' c = put_same h c (h' c) in
       let P : Node V → Type 0 = λ z. NodeAlike order z (record (g cn) { children = (g mn).children; count = (g mn).count }) in
@@ -262,12 +243,14 @@ module _ {V : Type 0} (order : List ℕ) (h : ℕ → Node V) (g : ℕ → Node 
   made_here : (h' m).made ≡ (put h c (h' c) m).made
   made_here = k.made_old ∙ ap (λ z. z.made) (sym here)
 
+  -- both sides are alike after a node's children, all of them nodes, were copied into another one
   pub pair_copied : HoldsNodes (h m) → Pair order h h' (copy g mn cn)
   pair_copied n =
       let Q : Node V → Type 0 = λ z. NodeAlike order (h' m) z in
       pair_then order h (put h c (h' c)) h' (copy g mn cn) first.made first.stands (changed order (put h c (h' c)) (copy g mn cn) (ordered_still order h (put h c (h' c)) first.made o) first.alike m mn h' (copy g mn cn) am
       (over_others order h g o x m c h' k) (λ z e. refl) (λ t. subst Q (sym there) (left_nodes order h g o x m c h' (g mn) k n (x mn m am sm))) made_here (λ t. stands_here))
 
+  -- both sides are alike after a node's children, all of them values, were moved into another one
   pub pair_cleared : HoldsValues (h m) → Pair order h h' (clear (copy g mn cn) mn)
   pair_cleared n =
       let y : Node V → Node V = λ z. record z { children = λ b. Nothing; count = 0 } in
@@ -295,13 +278,13 @@ one_place (x ∷ xs) c zero d e = inl e
 one_place (x ∷ xs) c (suc k) d e = elim (one_place xs c k d e) [ inl p ↦ inl p | inr q ↦ inr (ap suc q.0, q.1) ]
 
 -- what hangs alike on both sides does so by an order that has each place of the one before
-pub hung_later : {V : Type 0} (order order' : List ℕ) → ((k d : ℕ) → slice_get order k ≡ Some d → slice_get order' k ≡ Some d) → (a b : Hung V) → HungAlike order a b → HungAlike order' a b
+hung_later : {V : Type 0} (order order' : List ℕ) → ((k d : ℕ) → slice_get order k ≡ Some d → slice_get order' k ≡ Some d) → (a b : Hung V) → HungAlike order a b → HungAlike order' a b
 hung_later order order' f Nothing b e = e
 hung_later order order' f (Below c) b e = (e.0, e.1, f _ _ e.2)
 hung_later order order' f (Holds v) b e = e
 
 -- nodes that are alike on both sides are so by an order that has each place of the one before
-pub node_later : {V : Type 0} (order order' : List ℕ) → ((k d : ℕ) → slice_get order k ≡ Some d → slice_get order' k ≡ Some d) → (a b : Node V) → NodeAlike order a b → NodeAlike order' a b
+node_later : {V : Type 0} (order order' : List ℕ) → ((k d : ℕ) → slice_get order k ≡ Some d → slice_get order' k ≡ Some d) → (a b : Node V) → NodeAlike order a b → NodeAlike order' a b
 node_later order order' f a b e = record {
   stands = e.stands;
   prefix = e.prefix;
@@ -319,7 +302,7 @@ fits_take [] key f = refl
 fits_take (x ∷ p) [] f = absurd cc
 fits_take (x ∷ p) (y ∷ key) f =
     let b : (x == y ≡ true) × (fits p key ≡ true) = both_true _ _ f in
-    let e : x ≡ y = equal x y b.0 in
+    let e : x ≡ y = equal_of_test x y b.0 in
     let r : p ≡ take (length p) key = fits_take p key b.1 in
     ap (λ z. z ∷ p) e ∙ ap (λ z. y ∷ z) r
 
@@ -337,6 +320,7 @@ module _ {V : Type 0} (order : List ℕ) (h : ℕ → Node V) (g : ℕ → Node 
       let b : (h c).made ≡ false = k.unmade in
       cc
 
+  -- with the new node last, the order has each made node once
   pub new_ordered : Ordered order' h'
   new_ordered = record {
     made = λ n d e. elim (one_place order c n d e) [
@@ -372,6 +356,7 @@ module _ {V : Type 0} (order : List ℕ) (h : ℕ → Node V) (g : ℕ → Node 
     children = λ b. (let P : Hung V → Type 0 = λ w. HungAlike order' w Nothing in subst P (sym (k.blank b)) refl);
   }
 
+  -- the new node stands under the next number as a new node does, and all others stay alike
   pub new_alike : HeapAlike order' h' (put g (length order) (new_node form (take size key)))
   new_alike n d e s = elim (one_place order c n d e) [
     | inl p ↦ (

@@ -1,7 +1,6 @@
 -- What reads of a node on a store find, and of the same node by its number.
 use Rattle.std.proofs.Common.{◌≡◌, ◌≢◌, ℕ, zero, suc, ◌+◌, ◌*◌, ◌-◌, ◌%◌, ◌^◌, ◌<◌, ◌≤◌, ◌==◌, Bool, true, false, cond, List, [], ◌∷◌, length, get_or, refl, sym, ◌∙◌, ap, subst, inl, inr, arith}
 use Rattle.std.specs.Prelude.{Option, None, Some, slice_get, slice_index}
-use Rattle.std.proofs.lemmas.Bool.{cases_Bool}
 use Rattle.congee.specs.declared.forms.base_node.NodeType.{NodeType}
 use Rattle.congee.specs.declared.forms.base_node.NodeType.TheVariants.{N4}
 use Rattle.congee.specs.declared.forms.child.Child.{Child}
@@ -18,17 +17,18 @@ use Rattle.congee.specs.declared.protocol.phase.Site.{Site}
 use Rattle.congee.specs.declared.protocol.phase.Phase.TheVariants.{Check, CheckUncopied, CheckMiss}
 use Rattle.congee.specs.Heap.{Node, Hung, Nothing, Below, Holds, fits, child_for, is_taken, version_of}
 use Rattle.congee.specs.Keys.{key_bytes}
-use Rattle.congee.specs.protocol.Alike.{HungAlike, NodeAlike, Named, SeatAlike, AboveAlike, ChildAlike, SeesAlike, LeastAlike, TurnAlike}
+use Rattle.congee.specs.protocol.Alike.{HungAlike, NodeAlike, Named, StampAlike, AboveAlike, ChildAlike, SeesAlike, LeastAlike, NextPhaseAlike}
 use Rattle.congee.specs.protocol.Events.{hung, places, Parts, SeenTruly, ReadGives}
 use Rattle.congee.specs.protocol.PlainSteps.{Mark, form_of, common, child_of, looks, told_of, reading, least_or, least_from, least_told, least_of, front, region_of}
 use Rattle.congee.specs.protocol.Regions.{span, IsRegion}
 use Rattle.congee.specs.protocol.Steps.{quiet, again, after_read}
-use Rattle.congee.specs.protocol.SweepEvents.{LeastTruly, LeastGives}
+use Rattle.congee.specs.protocol.ScanEvents.{LeastTruly, LeastGives}
 use Rattle.congee.proofs.lemmas.Fits.{fits_byte, same_test, other_test}
-use Rattle.congee.proofs.lemmas.Orders.{top, top_step}
+use Rattle.congee.proofs.lemmas.Orders.{first_bytes, top_step}
 use Rattle.congee.proofs.lemmas.Tree.{same_or_not}
 use Rattle.congee.proofs.lemmas.protocol.Regions.{multiple}
-use Rattle.congee.proofs.lemmas.protocol.AlikeTurns.{quiet_alike, again_alike, alike_to}
+use Rattle.congee.proofs.lemmas.protocol.AlikeNextPhases.{quiet_alike, again_alike, alike_to}
+use Rattle.congee.proofs.lemmas.protocol.Parting.{parts_differ}
 
 -- lock words
 pub taken_alike : {V : Type 0} (order : List ℕ) (x y : Node V) (v w : ℕ) → NodeAlike order x y → w ≡ v → is_taken y w ≡ is_taken x v
@@ -37,13 +37,6 @@ taken_alike order x y v w e f = rw (e.version, e.locked, e.obsolete, f) refl
 -- nodes that are alike on both sides tell the same version
 pub version_same : {V : Type 0} (order : List ℕ) (x y : Node V) → NodeAlike order x y → version_of y ≡ version_of x
 version_same order x y e = rw (e.version, e.locked, e.obsolete) refl
-
--- a prefix that differs
-parts_differ : (p key : List ℕ) (c : ℕ) → Parts p key c → fits p key ≡ false
-parts_differ p key c x = elim (cases_Bool (fits p key)) [
-  | inl t ↦ absurd (x.apart (sym (fits_byte p key c t x.short)))
-  | inr f ↦ f
-]
 
 common_is : (p key : List ℕ) (c : ℕ) → c < length p → c < length key → ((i : ℕ) → i < c → get_or p i 0 ≡ get_or key i 0) → get_or p c 0 ≢ get_or key c 0 → common p key ≡ c
 common_is [] key c l k a d = absurd (omega (arith, l))
@@ -65,14 +58,14 @@ told_byte byte None = refl
 told_byte byte (Some x) = refl
 
 module _ {C V : Type 0} (order : List ℕ) (number : C → ℕ) where
-  pub child_alike : (c : Child C V) (a b : Hung V) → hung number c ≡ a → HungAlike order a b → ChildAlike order number c (child_of b)
+  child_alike : (c : Child C V) (a b : Hung V) → hung number c ≡ a → HungAlike order a b → ChildAlike order number c (child_of b)
   child_alike child.Blank a b e x = let P : Hung V → Type 0 = λ z. HungAlike order z b in ap child_of (subst P (sym e) x)
   child_alike (child.Node c) a b e x = let P : Hung V → Type 0 = λ z. HungAlike order z b in let y : (n : ℕ) × (b ≡ Below n) × (slice_get order n ≡ Some (number c)) = subst P (sym e) x in (y.0, ap child_of y.1, y.2)
   child_alike (child.Value v) a b e x = let P : Hung V → Type 0 = λ z. HungAlike order z b in ap child_of (subst P (sym e) x)
 
   -- what a read finds
   module _ (h g : ℕ → Node V) (root : C) (m : ℕ) (r : Named order number root m) (key : List ℕ) (len : length key ≡ 8) (always : Bool) (above : Option (Over C)) (o : Option (Over ℕ)) (ab : AboveAlike order number above o)
-      (at : Stamp C) (a : Stamp ℕ) (st : SeatAlike order number at a) (e : NodeAlike order (h (number at.node)) (g a.node)) (seen : Option (Seen Mark V)) where
+      (at : Stamp C) (a : Stamp ℕ) (st : StampAlike order number at a) (e : NodeAlike order (h (number at.node)) (g a.node)) (seen : Option (Seen Mark V)) where
     abbrev x : Node V
     x = h (number at.node)
 
@@ -106,7 +99,7 @@ module _ {C V : Type 0} (order : List ℕ) (number : C → ℕ) where
         }
 
     differs : (up : Option (Over C)) (q : Option (Over ℕ)) → AboveAlike order number up q → (c b : ℕ) → c ≡ common y.prefix key → b ≡ slice_index y.prefix (common y.prefix key)
-        → TurnAlike order number h (after_read root up at (Differs c b)) (after_read m q a fork)
+        → NextPhaseAlike order number h (after_read root up at (Differs c b)) (after_read m q a fork)
     differs None q z c b ec eb = alike_to order number h _ (again m) _ (ap (λ w. after_read m w a fork) z) (again_alike order number h root m r)
     differs (Some p) q z c b ec eb =
         alike_to order number h _ (quiet (CheckMiss z.0.near a c b)) _
@@ -116,7 +109,8 @@ module _ {C V : Type 0} (order : List ℕ) (number : C → ℕ) where
     abbrev site_of : ℕ → Seen ℕ V → Site ℕ
     site_of depth s = record { above = o; at = a; depth = depth; byte = s.byte; count = s.count; full = s.full; form = form_of y.capacity }
 
-    pub read_alike : (w : Reading C V) → ReadGives number always x at.version key w → TurnAlike order number h (after_read root above at w) (after_read m o a (reading y a.version key seen))
+    -- after a read of the same node both sides go on alike
+    pub read_alike : (w : Reading C V) → ReadGives number always x at.version key w → NextPhaseAlike order number h (after_read root above at w) (after_read m o a (reading y a.version key seen))
     read_alike (Differs c b) k =
         let no : fits y.prefix key ≡ false = ap (λ z. fits z key) e.prefix ∙ parts_differ x.prefix key c k.0 in
         let here : common y.prefix key ≡ c = ap (λ z. common z key) e.prefix ∙ parts_common x.prefix key c len k.0 in
@@ -170,7 +164,7 @@ module _ {C V : Type 0} (order : List ℕ) (number : C → ℕ) where
     within : (q from last : ℕ) → from ≤ q → q < from + (last + 1 - from) → q ≤ last
     within q from last a b = omega (arith, a, b)
 
-    pub least_found : (from last : ℕ) (r : Least C V) → LeastTruly number x from last r → LeastAlike order number r (least_from y (last + 1 - from) from)
+    least_found : (from last : ℕ) (r : Least C V) → LeastTruly number x from last r → LeastAlike order number r (least_from y (last + 1 - from) from)
     least_found from last least.Nothing t = none_from (last + 1 - from) from (λ q a b. t q a (within q from last a b))
     least_found from last (least.Node byte c) t =
         let P : Hung V → Type 0 = λ z. HungAlike order z (y.children byte) in
@@ -182,6 +176,7 @@ module _ {C V : Type 0} (order : List ℕ) (number : C → ℕ) where
         found_from (last + 1 - from) from byte (least.Value byte v) t.past (fuel byte from last t.past t.within) t.before (λ rest. ap (λ z. least_or byte z rest) w)
     least_found from last least.Uncopied t = tt
 
+  -- the least child of a node whose word is the one taken is the same on both sides
   pub least_alike : (always : Bool) (x y : Node V) (v w from from' last last' : ℕ) (seen : Option (Seen Mark V)) (r : Least C V) → NodeAlike order x y → w ≡ v → from' ≡ from → last' ≡ last → LeastGives number always x v from last r
       → is_taken x v ≡ true → LeastAlike order number r (least_of y w from' last' seen)
   least_alike always x y v w from from' last last' seen r e f a b k t =
@@ -192,21 +187,21 @@ module _ {C V : Type 0} (order : List ℕ) (number : C → ℕ) where
       subst P (sym same) (least_found x y e.children from last r (k.1 t))
 
 -- a region is that of its prefix
-front_is : (base j : ℕ) (rest : List ℕ) → j + length rest ≤ 8 → ((i : ℕ) → i < length rest → get_or (key_bytes base) (j + i) 0 ≡ get_or rest i 0) → front (top base j) rest ≡ top base (j + length rest)
-front_is base j [] l s = ap (top base) (omega arith)
+front_is : (base j : ℕ) (rest : List ℕ) → j + length rest ≤ 8 → ((i : ℕ) → i < length rest → get_or (key_bytes base) (j + i) 0 ≡ get_or rest i 0) → front (first_bytes base j) rest ≡ first_bytes base (j + length rest)
+front_is base j [] l s = ap (first_bytes base) (omega arith)
 front_is base j (b ∷ rest) l s =
-    let step : top base (j + 1) ≡ 256 * top base j + get_or (key_bytes base) j 0 = top_step base j (omega (arith, l)) in
+    let step : first_bytes base (j + 1) ≡ 256 * first_bytes base j + get_or (key_bytes base) j 0 = top_step base j (omega (arith, l)) in
     let here : get_or (key_bytes base) j 0 ≡ b = ap (λ z. get_or (key_bytes base) z 0) (let z : j ≡ j + 0 = omega arith in z) ∙ s 0 (omega arith) in
-    ap (λ z. front z rest) (ap (λ z. 256 * top base j + z) (sym here) ∙ sym step)
+    ap (λ z. front z rest) (ap (λ z. 256 * first_bytes base j + z) (sym here) ∙ sym step)
     ∙ front_is base (j + 1) rest (omega (arith, l)) (λ i k. ap (λ z. get_or (key_bytes base) z 0) (let z : j + 1 + i ≡ j + suc i = omega arith in z) ∙ s (suc i) (omega (arith, k)))
-    ∙ ap (top base) (omega arith)
+    ∙ ap (first_bytes base) (omega arith)
 
 -- the region of a prefix is the one computed from its bytes
 pub region_is : (p : List ℕ) (x : Region) → IsRegion p x.base x.depth → region_of p ≡ x
 region_is p x k =
-    let zero_top : top x.base 0 ≡ 0 = (let s : x.base < 2 ^ 64 = k.small in omega (arith, s)) in
-    let f : front (top x.base 0) p ≡ top x.base (0 + length p) = front_is x.base 0 p (let s : x.depth ≤ 7 = k.short in let d : x.depth ≡ length p = k.depth_is in omega (arith, s, d)) (λ i l. ap (λ z. get_or (key_bytes x.base) z 0) (let z : 0 + i ≡ i = omega arith in z) ∙ fits_byte p (key_bytes x.base) i k.fitted l) in
-    let g : front 0 p ≡ top x.base (length p) = ap (λ z. front z p) (sym zero_top) ∙ f ∙ ap (top x.base) (let z : 0 + length p ≡ length p = omega arith in z) in
+    let zero_top : first_bytes x.base 0 ≡ 0 = (let s : x.base < 2 ^ 64 = k.small in omega (arith, s)) in
+    let f : front (first_bytes x.base 0) p ≡ first_bytes x.base (0 + length p) = front_is x.base 0 p (let s : x.depth ≤ 7 = k.short in let d : x.depth ≡ length p = k.depth_is in omega (arith, s, d)) (λ i l. ap (λ z. get_or (key_bytes x.base) z 0) (let z : 0 + i ≡ i = omega arith in z) ∙ fits_byte p (key_bytes x.base) i k.fitted l) in
+    let g : front 0 p ≡ first_bytes x.base (length p) = ap (λ z. front z p) (sym zero_top) ∙ f ∙ ap (first_bytes x.base) (let z : 0 + length p ≡ length p = omega arith in z) in
     let even : x.base % span (length p) ≡ 0 = ap (λ z. x.base % span z) (sym k.depth_is) ∙ k.even in
     let b : front 0 p * span (length p) ≡ x.base = ap (λ z. z * span (length p)) g ∙ multiple x.base (span (length p)) even in
     ap (λ z. record { base = z; depth = length p }) b ∙ ap (λ z. record { base = x.base; depth = z }) (sym k.depth_is)

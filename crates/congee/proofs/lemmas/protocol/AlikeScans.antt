@@ -8,22 +8,22 @@ use Rattle.congee.specs.declared.protocol.store.Least.TheVariants as least
 use Rattle.congee.specs.declared.protocol.store.Refusal.TheVariants as refusal
 use Rattle.congee.specs.declared.protocol.store.Region.{Region}
 use Rattle.congee.specs.declared.protocol.store.Seen.{Seen}
-use Rattle.congee.specs.declared.protocol.sweep.Rung.{Rung}
-use Rattle.congee.specs.declared.protocol.sweep.Path.{Path}
-use Rattle.congee.specs.declared.protocol.sweep.Stage.{Stage}
-use Rattle.congee.specs.declared.protocol.sweep.Stage.TheVariants as stage
-use Rattle.congee.specs.declared.protocol.sweep.Sweep.{Sweep as Scan}
-use Rattle.congee.specs.declared.protocol.sweep.ScanReport.{ScanReport}
-use Rattle.congee.specs.declared.protocol.sweep.ScanReport.TheVariants as told
+use Rattle.congee.specs.declared.protocol.scan.Rung.{Rung}
+use Rattle.congee.specs.declared.protocol.scan.Path.{Path}
+use Rattle.congee.specs.declared.protocol.scan.Stage.{Stage}
+use Rattle.congee.specs.declared.protocol.scan.Stage.TheVariants as stage
+use Rattle.congee.specs.declared.protocol.scan.ScanState.{ScanState as ScanState}
+use Rattle.congee.specs.declared.protocol.scan.ScanReport.{ScanReport}
+use Rattle.congee.specs.declared.protocol.scan.ScanReport.TheVariants as scan_report
 use Rattle.congee.specs.Heap.{Node, Stands, version_of, is_taken}
 use Rattle.congee.specs.protocol.Alike.{NodeAlike, HeapAlike, Named, RungAlike, PlaceAlike, LeastAlike, StageAlike, ScanAlike, IsUnrefused}
-use Rattle.congee.specs.protocol.PlainSteps.{Mark, least_of, region_of, followed, swung}
+use Rattle.congee.specs.protocol.PlainSteps.{Mark, least_of, region_of, followed, next_scan}
 use Rattle.congee.specs.protocol.Steps.{outcome_of}
-use Rattle.congee.specs.protocol.SweepSteps.{whole, is_outside, first_byte, last_byte, slots, put_rung, pushed, popped, cleared, last_of, moved, sweep_at, Swung, goes, over, anew, left_to, left, entered, filled, IsFollowed, begins, SweptAt, MayFollow, MaySweepAt}
+use Rattle.congee.specs.protocol.ScanSteps.{whole, is_outside, first_byte, last_byte, slots, put_rung, pushed, popped, cleared, last_of, moved, scan_at, NextScan, goes, over, anew, left_to, left, entered, filled, IsFollowed, begins, ScanSteppedAt, MayFollow, MayScanAt}
 use Rattle.congee.proofs.lemmas.Fits.{same_test, other_test}
 use Rattle.congee.proofs.lemmas.Tree.{same_or_not}
 use Rattle.congee.proofs.lemmas.protocol.AlikeReads.{taken_alike, version_same, least_alike, region_is}
-use Rattle.congee.proofs.lemmas.protocol.SweepWays.{put_slots, pick_true, pick_false}
+use Rattle.congee.proofs.lemmas.protocol.ScanWays.{put_slots, pick_true, pick_false}
 
 set_here : {A : Type 0} (xs : List A) (i : ℕ) (x : A) → i < length xs → slice_get (set xs i x) i ≡ Some x
 set_here [] i x l = absurd (omega (arith, l))
@@ -92,41 +92,42 @@ module _ {C V : Type 0} (order : List ℕ) (number : C → ℕ) (h : ℕ → Nod
   ]
 
   -- the same scan by numbers, on this way and before this step
-  abbrev twin : Scan C V → Path ℕ → Stage ℕ V → Scan ℕ V
+  abbrev twin : ScanState C V → Path ℕ → Stage ℕ V → ScanState ℕ V
   twin s Q y = record { start = s.start; last = s.last; size = s.size; count = s.count; above = Q; stage = y }
 
-  at_alike : (s : Scan C V) (Q : Path ℕ) (z : Stage ℕ V) (count : ℕ) (P' : Path C) (Q' : Path ℕ) (x : Stage C V) (y : Stage ℕ V) → WayAlike P' Q' → StageAlike order number h x y → ScanAlike order number h (sweep_at s count P' x) (sweep_at (twin s Q z) count Q' y)
+  at_alike : (s : ScanState C V) (Q : Path ℕ) (z : Stage ℕ V) (count : ℕ) (P' : Path C) (Q' : Path ℕ) (x : Stage C V) (y : Stage ℕ V) → WayAlike P' Q' → StageAlike order number h x y → ScanAlike order number h (scan_at s count P' x) (scan_at (twin s Q z) count Q' y)
   at_alike s Q z count P' Q' x y w e = record { start = refl; last = refl; size = refl; count = refl; len = w.len; way = w.way; stage = e }
 
-  pub record SwungAlike (u : Swung C V) (w : Swung ℕ V) : Type 0 where
+  -- after a step both scans tell the same and stand at the same stage of the same way
+  pub record NextScanAlike (u : NextScan C V) (w : NextScan ℕ V) : Type 0 where
     pub told : w.1 ≡ u.1
     pub scan : ScanAlike order number h u.0 w.0
 
-  module _ (s : Scan C V) (Q : Path ℕ) (z : Stage ℕ V) (w : WayAlike s.above Q) where
-    abbrev t : Scan ℕ V
+  module _ (s : ScanState C V) (Q : Path ℕ) (z : Stage ℕ V) (w : WayAlike s.above Q) where
+    abbrev t : ScanState ℕ V
     t = twin s Q z
 
-    goes_alike : (P' : Path C) (Q' : Path ℕ) (x : Stage C V) (y : Stage ℕ V) → WayAlike P' Q' → StageAlike order number h x y → SwungAlike (goes s P' x) (goes t Q' y)
+    goes_alike : (P' : Path C) (Q' : Path ℕ) (x : Stage C V) (y : Stage ℕ V) → WayAlike P' Q' → StageAlike order number h x y → NextScanAlike (goes s P' x) (goes t Q' y)
     goes_alike P' Q' x y a e = record { told = refl; scan = at_alike s Q z s.count P' Q' x y a e }
 
-    over_alike : (o : ScanReport V) → SwungAlike (over s o) (over t o)
+    over_alike : (o : ScanReport V) → NextScanAlike (over s o) (over t o)
     over_alike o = record { told = refl; scan = at_alike s Q z s.count s.above Q stage.Over stage.Over w refl }
 
-    anew_alike : (root : C) (m : ℕ) → Named order number root m → SwungAlike (anew root s) (anew m t)
+    anew_alike : (root : C) (m : ℕ) → Named order number root m → NextScanAlike (anew root s) (anew m t)
     anew_alike root m r = record { told = refl; scan = at_alike s Q z 0 (cleared s.above) (cleared Q) (stage.Enter root whole) (stage.Enter m whole) (way_cleared s.above Q) (m, refl, r) }
 
-    left_alike : SwungAlike (left s) (left t)
+    left_alike : NextScanAlike (left s) (left t)
     left_alike = by (last_of s.above) (last_of Q) (last_alike s.above Q w) where
-      by : (o : Option (Rung C)) (p : Option (Rung ℕ)) → PlaceAlike order number o p → SwungAlike (left_to s o) (left_to t p)
-      by None p e = let A : Option (Rung ℕ) → Type 0 = λ y. SwungAlike (left_to s None) (left_to t y) in subst A (sym e) (over_alike (told.Done s.count))
+      by : (o : Option (Rung C)) (p : Option (Rung ℕ)) → PlaceAlike order number o p → NextScanAlike (left_to s o) (left_to t p)
+      by None p e = let A : Option (Rung ℕ) → Type 0 = λ y. NextScanAlike (left_to s None) (left_to t y) in subst A (sym e) (over_alike (scan_report.Done s.count))
       by (Some r) p e =
-          let A : Option (Rung ℕ) → Type 0 = λ y. SwungAlike (left_to s (Some r)) (left_to t y) in
+          let A : Option (Rung ℕ) → Type 0 = λ y. NextScanAlike (left_to s (Some r)) (left_to t y) in
           subst A (sym e.1) (goes_alike (popped s.above) (popped Q) (stage.Look r) (stage.Look e.0) (way_popped s.above Q w) (e.0, refl, e.2))
 
-    entered_alike : (root : C) (m : ℕ) (c : C) (n : ℕ) (x : Region) (v : Option ℕ) → Named order number root m → Named order number c n → SwungAlike (entered root s c x v) (entered m t n x v)
+    entered_alike : (root : C) (m : ℕ) (c : C) (n : ℕ) (x : Region) (v : Option ℕ) → Named order number root m → Named order number c n → NextScanAlike (entered root s c x v) (entered m t n x v)
     entered_alike root m c n x None r e = anew_alike root m r
     entered_alike root m c n x (Some v) r e = by (is_outside s.start s.last x) where
-      by : (b : Bool) → SwungAlike (cond b (left s) (goes s s.above (stage.Look (record { at = record { node = c; version = v }; region = x; from = first_byte s.start x })))) (cond b (left t) (goes t Q (stage.Look (record { at = record { node = n; version = v }; region = x; from = first_byte s.start x }))))
+      by : (b : Bool) → NextScanAlike (cond b (left s) (goes s s.above (stage.Look (record { at = record { node = c; version = v }; region = x; from = first_byte s.start x })))) (cond b (left t) (goes t Q (stage.Look (record { at = record { node = n; version = v }; region = x; from = first_byte s.start x }))))
       by true = left_alike
       by false = goes_alike s.above Q (stage.Look (record { at = record { node = c; version = v }; region = x; from = first_byte s.start x })) (stage.Look (record { at = record { node = n; version = v }; region = x; from = first_byte s.start x })) w
           (record { at = record { node = n; version = v }; region = x; from = first_byte s.start x }, refl, record { at = record { node = e; version = refl }; region = refl; from = refl })
@@ -134,79 +135,79 @@ module _ {C V : Type 0} (order : List ℕ) (number : C → ℕ) (h : ℕ → Nod
     moved_alike : (r : Rung C) (q : Rung ℕ) (byte : ℕ) → RungAlike order number r q → RungAlike order number (moved r byte) (moved q byte)
     moved_alike r q byte e = record { at = e.at; region = e.region; from = refl }
 
-    filled_alike : (r : Rung C) (q : Rung ℕ) (byte : ℕ) (v : V) → RungAlike order number r q → SwungAlike (filled s r byte v) (filled t q byte v)
-    filled_alike r q byte v e = record { told = ap (λ y. told.Found s.count (y.base + byte) v) e.region; scan = at_alike s Q z (s.count + 1) s.above Q _ _ w (by (s.count + 1 == s.size)) } where
+    filled_alike : (r : Rung C) (q : Rung ℕ) (byte : ℕ) (v : V) → RungAlike order number r q → NextScanAlike (filled s r byte v) (filled t q byte v)
+    filled_alike r q byte v e = record { told = ap (λ y. scan_report.Found s.count (y.base + byte) v) e.region; scan = at_alike s Q z (s.count + 1) s.above Q _ _ w (by (s.count + 1 == s.size)) } where
       by : (b : Bool) → StageAlike order number h (cond b stage.Full (stage.Look (moved r byte))) (cond b stage.Full (stage.Look (moved q byte)))
       by true = refl
       by false = (moved q byte, refl, moved_alike r q byte e)
 
-  to_alike : (u : Swung C V) (a b : Swung ℕ V) → b ≡ a → SwungAlike u a → SwungAlike u b
-  to_alike u a b e x = let A : Swung ℕ V → Type 0 = λ y. SwungAlike u y in subst A (sym e) x
+  to_alike : (u : NextScan C V) (a b : NextScan ℕ V) → b ≡ a → NextScanAlike u a → NextScanAlike u b
+  to_alike u a b e x = let A : NextScan ℕ V → Type 0 = λ y. NextScanAlike u y in subst A (sym e) x
 
-  at_alike_swung : (u a : Swung C V) (b : Swung ℕ V) → u ≡ a → SwungAlike a b → SwungAlike u b
-  at_alike_swung u a b e x = let A : Swung C V → Type 0 = λ y. SwungAlike y b in subst A (sym e) x
+  at_alike_next : (u a : NextScan C V) (b : NextScan ℕ V) → u ≡ a → NextScanAlike a b → NextScanAlike u b
+  at_alike_next u a b e x = let A : NextScan C V → Type 0 = λ y. NextScanAlike y b in subst A (sym e) x
 
-  module _ (g : ℕ → Node V) (x : HeapAlike order h g) (always : Bool) (root : C) (m : ℕ) (r : Named order number root m) (seen : Option (Seen Mark V)) (s : Scan C V) (Q : Path ℕ) (z : Stage ℕ V) (w : WayAlike s.above Q) where
-    abbrev q : Scan ℕ V
+  module _ (g : ℕ → Node V) (x : HeapAlike order h g) (always : Bool) (root : C) (m : ℕ) (r : Named order number root m) (seen : Option (Seen Mark V)) (s : ScanState C V) (Q : Path ℕ) (z : Stage ℕ V) (w : WayAlike s.above Q) where
+    abbrev q : ScanState ℕ V
     q = twin s Q z
 
     version_here : (c : C) (n : ℕ) → Named order number c n → Stands (h (number c)) → version_of (g n) ≡ version_of (h (number c))
     version_here c n e st = version_same order (h (number c)) (g n) (x n (number c) e st)
 
-    followed_alike : (ru : Rung C) (qu : Rung ℕ) (f : Least C V) (y : Least ℕ V) (u : Swung C V) → s.above.len < 8 → MayFollow number h ru f → IsUnrefused (outcome_of u.1) → RungAlike order number ru qu → LeastAlike order number f y → IsFollowed number h s ru f u
-        → SwungAlike u (followed g q qu y)
-    followed_alike ru qu least.Nothing y u l may un e a k = to_alike u (followed g q qu least.Nothing) _ (ap (followed g q qu) a) (at_alike_swung u (left s) (left q) k (left_alike s Q z w))
+    followed_alike : (ru : Rung C) (qu : Rung ℕ) (f : Least C V) (y : Least ℕ V) (u : NextScan C V) → s.above.len < 8 → MayFollow number h ru f → IsUnrefused (outcome_of u.1) → RungAlike order number ru qu → LeastAlike order number f y → IsFollowed number h s ru f u
+        → NextScanAlike u (followed g q qu y)
+    followed_alike ru qu least.Nothing y u l may un e a k = to_alike u (followed g q qu least.Nothing) _ (ap (followed g q qu) a) (at_alike_next u (left s) (left q) k (left_alike s Q z w))
     followed_alike ru qu (least.Node byte c) y u l may un e a k =
         let n : ℕ = a.0 in
         let node : NodeAlike order (h (number c)) (g a.0) = x a.0 (number c) a.2 may.0 in
         let region : region_of (g a.0).prefix ≡ k.0 = ap region_of node.prefix ∙ region_is (h (number c)).prefix k.0 k.1 in
         to_alike u (goes q (pushed Q (moved qu byte)) (stage.Enter a.0 k.0)) _ (ap (followed g q qu) a.1 ∙ ap (λ y. goes q (pushed Q (moved qu byte)) (stage.Enter a.0 y)) region)
-        (at_alike_swung u _ _ k.2 (goes_alike s Q z w (pushed s.above (moved ru byte)) (pushed Q (moved qu byte)) (stage.Enter c k.0) (stage.Enter a.0 k.0)
+        (at_alike_next u _ _ k.2 (goes_alike s Q z w (pushed s.above (moved ru byte)) (pushed Q (moved qu byte)) (stage.Enter c k.0) (stage.Enter a.0 k.0)
         (way_pushed s.above Q (moved ru byte) (moved qu byte) l w (moved_alike s Q z w ru qu byte e)) (a.0, refl, a.2)))
-    followed_alike ru qu (least.Value byte v) y u l may un e a k = to_alike u (followed g q qu (least.Value byte v)) _ (ap (followed g q qu) a) (at_alike_swung u _ _ k (filled_alike s Q z w ru qu byte v e))
+    followed_alike ru qu (least.Value byte v) y u l may un e a k = to_alike u (followed g q qu (least.Value byte v)) _ (ap (followed g q qu) a) (at_alike_next u _ _ k (filled_alike s Q z w ru qu byte v e))
     followed_alike ru qu least.Uncopied y u l may un e a k =
         let no : refusal.Count ≡ refusal.Exhausted = un refusal.Count (ap (λ y. outcome_of y.1) k) in
         absurd cc
 
-    swung_at : (p : Stage C V) (y : Stage ℕ V) (u : Swung C V) → StageAlike order number h p y → MaySweepAt number root s p h → IsUnrefused (outcome_of u.1) → SweptAt number always root s p h u → SwungAlike u (swung m seen g q y)
-    swung_at stage.New y u a may un k =
-        to_alike u (begins m q (version_of (h (number root)))) _ (ap (swung m seen g q) a ∙ ap (begins m q) (version_here root m r may)) (at_alike_swung u _ _ k (by (s.size == 0)))
+    next_scan_at : (p : Stage C V) (y : Stage ℕ V) (u : NextScan C V) → StageAlike order number h p y → MayScanAt number root s p h → IsUnrefused (outcome_of u.1) → ScanSteppedAt number always root s p h u → NextScanAlike u (next_scan m seen g q y)
+    next_scan_at stage.New y u a may un k =
+        to_alike u (begins m q (version_of (h (number root)))) _ (ap (next_scan m seen g q) a ∙ ap (begins m q) (version_here root m r may)) (at_alike_next u _ _ k (by (s.size == 0)))
       where
-        by : (d : Bool) → SwungAlike (cond d (over s (told.Done 0)) (entered root (anew root s).0 root whole (version_of (h (number root))))) (cond d (over q (told.Done 0)) (entered m (anew m q).0 m whole (version_of (h (number root)))))
-        by true = over_alike s Q z w (told.Done 0)
+        by : (d : Bool) → NextScanAlike (cond d (over s (scan_report.Done 0)) (entered root (anew root s).0 root whole (version_of (h (number root))))) (cond d (over q (scan_report.Done 0)) (entered m (anew m q).0 m whole (version_of (h (number root)))))
+        by true = over_alike s Q z w (scan_report.Done 0)
         by false = entered_alike (anew root s).0 (cleared Q) (stage.Enter m whole) (way_cleared s.above Q) root m root m whole (version_of (h (number root))) r r
-    swung_at (stage.Enter c b) y u a may un k =
-        to_alike u (entered m q a.0 b (version_of (h (number c)))) _ (ap (swung m seen g q) a.1 ∙ ap (entered m q a.0 b) (version_here c a.0 a.2 may.0)) (at_alike_swung u _ _ k (entered_alike s Q z w root m c a.0 b (version_of (h (number c))) r a.2))
-    swung_at (stage.Look ru) y u a may un k =
+    next_scan_at (stage.Enter c b) y u a may un k =
+        to_alike u (entered m q a.0 b (version_of (h (number c)))) _ (ap (next_scan m seen g q) a.1 ∙ ap (entered m q a.0 b) (version_here c a.0 a.2 may.0)) (at_alike_next u _ _ k (entered_alike s Q z w root m c a.0 b (version_of (h (number c))) r a.2))
+    next_scan_at (stage.Look ru) y u a may un k =
         let node : NodeAlike order (h (number ru.at.node)) (g a.0.at.node) = x a.0.at.node (number ru.at.node) a.2.at.node may.0 in
         let found : Least ℕ V = least_of (g a.0.at.node) a.0.at.version a.0.from (last_byte s.last a.0.region) seen in
-        to_alike u (goes q Q (stage.Check a.0 (least_of (g a.0.at.node) a.0.at.version a.0.from (last_byte s.last a.0.region) seen))) _ (ap (swung m seen g q) a.1)
-        (at_alike_swung u _ _ k.2 (goes_alike s Q z w s.above Q (stage.Check ru k.0) (stage.Check a.0 (least_of (g a.0.at.node) a.0.at.version a.0.from (last_byte s.last a.0.region) seen)) w (
+        to_alike u (goes q Q (stage.Check a.0 (least_of (g a.0.at.node) a.0.at.version a.0.from (last_byte s.last a.0.region) seen))) _ (ap (next_scan m seen g q) a.1)
+        (at_alike_next u _ _ k.2 (goes_alike s Q z w s.above Q (stage.Check ru k.0) (stage.Check a.0 (least_of (g a.0.at.node) a.0.at.version a.0.from (last_byte s.last a.0.region) seen)) w (
           a.0,
           least_of (g a.0.at.node) a.0.at.version a.0.from (last_byte s.last a.0.region) seen,
           refl,
           a.2,
           λ t. least_alike order number always (h (number ru.at.node)) (g a.0.at.node) ru.at.version a.0.at.version ru.from a.0.from (last_byte s.last ru.region) (last_byte s.last a.0.region) seen k.0 node a.2.at.version a.2.from (ap (last_byte s.last) a.2.region) k.1 t,
         )))
-    swung_at (stage.Check ru f) y u a may un k =
+    next_scan_at (stage.Check ru f) y u a may un k =
         let node : NodeAlike order (h (number ru.at.node)) (g a.0.at.node) = x a.0.at.node (number ru.at.node) a.3.at.node may.0 in
         let same : is_taken (g a.0.at.node) a.0.at.version ≡ is_taken (h (number ru.at.node)) ru.at.version = taken_alike order (h (number ru.at.node)) (g a.0.at.node) ru.at.version a.0.at.version node a.3.at.version in
-        to_alike u (cond (is_taken (h (number ru.at.node)) ru.at.version) (followed g q a.0 a.1) (anew m q)) _ (ap (swung m seen g q) a.2 ∙ ap (λ b. cond b (followed g q a.0 a.1) (anew m q)) same)
+        to_alike u (cond (is_taken (h (number ru.at.node)) ru.at.version) (followed g q a.0 a.1) (anew m q)) _ (ap (next_scan m seen g q) a.2 ∙ ap (λ b. cond b (followed g q a.0 a.1) (anew m q)) same)
         (elim (cases_Bool (is_taken (h (number ru.at.node)) ru.at.version)) [
           | inl t ↦ to_alike u (followed g q a.0 a.1) _ (ap (λ b. cond b (followed g q a.0 a.1) (anew m q)) t) (followed_alike ru a.0 f a.1 u may.1 (may.3 t) un a.3 (a.4 t) (k.goes_on t))
-          | inr t ↦ to_alike u (anew m q) _ (ap (λ b. cond b (followed g q a.0 a.1) (anew m q)) t) (at_alike_swung u _ _ (k.goes_back t) (anew_alike s Q z w root m r))
+          | inr t ↦ to_alike u (anew m q) _ (ap (λ b. cond b (followed g q a.0 a.1) (anew m q)) t) (at_alike_next u _ _ (k.goes_back t) (anew_alike s Q z w root m r))
         ])
-    swung_at stage.Full y u a may un k = to_alike u (over q (told.Done s.count)) _ (ap (swung m seen g q) a) (at_alike_swung u _ _ k (over_alike s Q z w (told.Done s.count)))
-    swung_at stage.Over y u a may un k = to_alike u (over q told.Running) _ (ap (swung m seen g q) a) (at_alike_swung u _ _ k (over_alike s Q z w told.Running))
+    next_scan_at stage.Full y u a may un k = to_alike u (over q (scan_report.Done s.count)) _ (ap (next_scan m seen g q) a) (at_alike_next u _ _ k (over_alike s Q z w (scan_report.Done s.count)))
+    next_scan_at stage.Over y u a may un k = to_alike u (over q scan_report.Running) _ (ap (next_scan m seen g q) a) (at_alike_next u _ _ k (over_alike s Q z w scan_report.Running))
 
   -- a step of the scan
-  pub swung_alike : (g : ℕ → Node V) → HeapAlike order h g → (always : Bool) (root : C) (m : ℕ) → Named order number root m → (seen : Option (Seen Mark V)) (s : Scan C V) (t : Scan ℕ V) (u : Swung C V) → ScanAlike order number h s t
-      → MaySweepAt number root s s.stage h → IsUnrefused (outcome_of u.1) → SweptAt number always root s s.stage h u → SwungAlike u (swung m seen g t t.stage)
-  swung_alike g x always root m r seen s t u e may un k =
-      let A : Scan ℕ V → Type 0 = λ y. SwungAlike u (swung m seen g y y.stage) in
+  pub next_scan_alike : (g : ℕ → Node V) → HeapAlike order h g → (always : Bool) (root : C) (m : ℕ) → Named order number root m → (seen : Option (Seen Mark V)) (s : ScanState C V) (t : ScanState ℕ V) (u : NextScan C V) → ScanAlike order number h s t
+      → MayScanAt number root s s.stage h → IsUnrefused (outcome_of u.1) → ScanSteppedAt number always root s s.stage h u → NextScanAlike u (next_scan m seen g t t.stage)
+  next_scan_alike g x always root m r seen s t u e may un k =
+      let A : ScanState ℕ V → Type 0 = λ y. NextScanAlike u (next_scan m seen g y y.stage) in
       let same : t ≡ twin s t.above t.stage =
       ap (λ y. record { start = y; last = t.last; size = t.size; count = t.count; above = t.above; stage = t.stage }) e.start
       ∙ ap (λ y. record { start = s.start; last = y; size = t.size; count = t.count; above = t.above; stage = t.stage }) e.last
       ∙ ap (λ y. record { start = s.start; last = s.last; size = y; count = t.count; above = t.above; stage = t.stage }) e.size
       ∙ ap (λ y. record { start = s.start; last = s.last; size = s.size; count = y; above = t.above; stage = t.stage }) e.count in
-      subst A (sym same) (swung_at g x always root m r seen s t.above t.stage (record { len = e.len; way = e.way }) s.stage t.stage u e.stage may un k)
+      subst A (sym same) (next_scan_at g x always root m r seen s t.above t.stage (record { len = e.len; way = e.way }) s.stage t.stage u e.stage may un k)

@@ -21,21 +21,21 @@ use Rattle.congee.specs.declared.protocol.phase.Double.TheVariants.{Unlink, Spli
 use Rattle.congee.specs.declared.protocol.phase.Two.{Two}
 use Rattle.congee.specs.declared.protocol.phase.Plan.TheVariants.{Above}
 use Rattle.congee.specs.declared.protocol.phase.Phase.{Phase}
-use Rattle.congee.specs.declared.protocol.phase.Phase.TheVariants.{New, Version, Read, Check, CheckUncopied, CheckMiss, CheckDown, CheckOld, MakeLeaf, MakeGreater, MakeTop, MakeBeside, MakeLesser, AskOld, AskNew, Confirm, CheckAbove, UpgradeOne, ChangeOne, UpgradeTop, UpgradeAbove, UpgradeBelow, ChangeTwo, Obsolete, Retire, UnlockBelow, Unlock, Unwind, Sweep, Ended}
-use Rattle.congee.specs.declared.protocol.turn.NextPhase.{NextPhase}
+use Rattle.congee.specs.declared.protocol.phase.Phase.TheVariants.{New, Version, Read, Check, CheckUncopied, CheckMiss, CheckDown, CheckOld, MakeLeaf, MakeGreater, MakeTop, MakeBeside, MakeLesser, AskOld, AskNew, Confirm, CheckAbove, UpgradeOne, ChangeOne, UpgradeTop, UpgradeAbove, UpgradeBelow, ChangeTwo, Obsolete, Retire, UnlockBelow, Unlock, Unwind, Scan, Ended}
+use Rattle.congee.specs.declared.protocol.next_phase.NextPhase.{NextPhase}
 use Rattle.congee.specs.Heap.{Node, Stands, is_taken, version_of}
-use Rattle.congee.specs.protocol.Alike.{Ordered, NodeAlike, HeapAlike, Named, SeatAlike, ParentAlike, TopAlike, MadeAlike, ReadAlike, OneAlike, TwoAlike, PhaseAlike, TurnAlike, IsUnrefused, WentAlike}
+use Rattle.congee.specs.protocol.Alike.{Ordered, NodeAlike, HeapAlike, Named, StampAlike, ParentAlike, TopAlike, MadeAlike, ReadAlike, OneAlike, TwoAlike, PhaseAlike, NextPhaseAlike, IsUnrefused, WentAlike}
 use Rattle.congee.specs.protocol.Events.{upgrade_gives, NewNode}
-use Rattle.congee.specs.protocol.PlainSteps.{Mark, made_lesser, upgraded_top, put, lock, new_node, reading, swung, checked, at_old, given_old, given_new, back_one, back_two, Went, went, passes, making, upgraded_one, upgraded_above, upgraded_below, passed_above, phase_step}
-use Rattle.congee.specs.protocol.Steps.{quiet, skipping, set_at, both, form_below, node_of, given_up, again, answered, refused, form_above, after_version, after_read, after_miss, ready, unless_full, IsIf, IsChecked, IsAtOld, MadeLeaf, greater, MadeGreater, MadeTop, MadeBeside, MadeLesser, IsCheckedAbove, UpgradedOne, UpgradedTop, UpgradedAbove, UpgradedBelow, outcome_of, swept, PhaseStepped, MayBackOne, MayBackTwo, MayStep}
+use Rattle.congee.specs.protocol.PlainSteps.{Mark, made_lesser, upgraded_top, put, lock, new_node, reading, next_scan, checked, at_old, given_old, given_new, back_one, back_two, Went, went, passes, making, upgraded_one, upgraded_above, upgraded_below, passed_above, phase_step}
+use Rattle.congee.specs.protocol.Steps.{quiet, skipping, set_at, both, form_below, node_of, given_up, again, answered, refused, form_above, after_version, after_read, after_miss, ready, unless_full, IsIf, IsChecked, IsAtOld, MadeLeaf, greater, MadeGreater, MadeTop, MadeBeside, MadeLesser, IsCheckedAbove, UpgradedOne, UpgradedTop, UpgradedAbove, UpgradedBelow, outcome_of, after_scan, PhaseStepped, MayBackOne, MayBackTwo, MayStep}
 use Rattle.congee.specs.declared.forms.prefix.TheConstants.{MAX_PREFIX_LEN}
 use Rattle.congee.proofs.lemmas.protocol.AlikeChanges.{HoldsRight, back_one_pair, back_two_pair, change_one_pair, change_two_pair}
 use Rattle.congee.proofs.lemmas.protocol.AlikeHeaps.{Pair, pair_same, ordered_still, pair_locked, pair_freed, pair_marked, pair_handed, later_place, new_place, new_ordered, new_alike}
-use Rattle.congee.proofs.lemmas.protocol.AlikeLater.{named_later, seat_later, parent_later, made_later, read_later}
+use Rattle.congee.proofs.lemmas.protocol.AlikeLater.{named_later, stamp_later, parent_later, made_later, read_later}
 use Rattle.congee.proofs.lemmas.protocol.AlikeReads.{taken_alike, version_same, read_alike}
-use Rattle.congee.proofs.lemmas.protocol.AlikeScans.{SwungAlike, swung_alike}
-use Rattle.congee.proofs.lemmas.protocol.AlikeTurns.{quiet_alike, answered_alike, refused_alike, finished_alike, decided_alike, alike_at, alike_to, again_alike, version_alike, checked_alike, miss_alike, old_alike, full_alike, greater_alike, ready_alike, GivenAlike, given_alike, change_alike, node_alike, retired_alike, left_alike, given_up_alike}
-use Rattle.congee.proofs.lemmas.protocol.AlikeTurns.{new_alike as answer_alike}
+use Rattle.congee.proofs.lemmas.protocol.AlikeScans.{NextScanAlike, next_scan_alike}
+use Rattle.congee.proofs.lemmas.protocol.AlikeNextPhases.{quiet_alike, answered_alike, refused_alike, finished_alike, decided_alike, alike_at, alike_to, again_alike, version_alike, checked_alike, miss_alike, old_alike, full_alike, greater_alike, ready_alike, GivenAlike, given_alike, change_alike, node_alike, retired_alike, left_alike, given_up_alike}
+use Rattle.congee.proofs.lemmas.protocol.AlikeNextPhases.{new_alike as answer_alike}
 
 length_one : (order : List ℕ) (c : ℕ) → length (order ++ c ∷ []) ≡ suc (length order)
 length_one [] c = refl
@@ -47,26 +47,26 @@ module _ {C V : Type 0} (number : C → ℕ) (same : V → V → Bool) (always :
   abbrev Goal : Option V → NextPhase C V → (ℕ → Node V) → Went V → Type 0
   Goal new' t h' w = WentAlike order number h' new' t w
 
-  paired : (h' g' : ℕ → Node V) (new' own : Option V) (t : NextPhase C V) (u : NextPhase ℕ V) → Pair order h h' g' → new' ≡ own → TurnAlike order number h' t u → Goal new' t h' (went own u g' k)
+  paired : (h' g' : ℕ → Node V) (new' own : Option V) (t : NextPhase C V) (u : NextPhase ℕ V) → Pair order h h' g' → new' ≡ own → NextPhaseAlike order number h' t u → Goal new' t h' (went own u g' k)
   paired h' g' new' own t u p e a = record {
     now = order;
     longer = ([], sym (append-nil order));
     ordered = ordered_still order h h' p.made o;
     made = count;
     given_is = sym e;
-    turn = a;
+    next_phase = a;
     heap = p.alike;
   }
 
-  still : (h' : ℕ → Node V) (new' own : Option V) (t : NextPhase C V) (u : NextPhase ℕ V) → h' ≡ h → new' ≡ own → TurnAlike order number h' t u → Goal new' t h' (went own u g k)
+  still : (h' : ℕ → Node V) (new' own : Option V) (t : NextPhase C V) (u : NextPhase ℕ V) → h' ≡ h → new' ≡ own → NextPhaseAlike order number h' t u → Goal new' t h' (went own u g k)
   still h' new' own t u e f a = paired h' g new' own t u (pair_same order h h' g e x) f a
 
   node : (c : C) (n : ℕ) → Named order number c n → Stands (h (number c)) → NodeAlike order (h (number c)) (g n)
   node c n e s = x n (number c) e s
 
   -- a check
-  passed : (h' : ℕ → Node V) (at : Stamp C) (a : Stamp ℕ) (Then : NextPhase C V → Type 0) (t : NextPhase C V) (u : NextPhase ℕ V) → SeatAlike order number at a → Stands (h (number at.node)) → IsIf (is_taken (h (number at.node)) at.version) root Then t
-      → (is_taken (h (number at.node)) at.version ≡ true → Then t → TurnAlike order number h' t u) → TurnAlike order number h' t (passes g a m u)
+  passed : (h' : ℕ → Node V) (at : Stamp C) (a : Stamp ℕ) (Then : NextPhase C V → Type 0) (t : NextPhase C V) (u : NextPhase ℕ V) → StampAlike order number at a → Stands (h (number at.node)) → IsIf (is_taken (h (number at.node)) at.version) root Then t
+      → (is_taken (h (number at.node)) at.version ≡ true → Then t → NextPhaseAlike order number h' t u) → NextPhaseAlike order number h' t (passes g a m u)
   passed h' at a Then t u e s i f =
       let same_word : is_taken (g a.node) a.version ≡ is_taken (h (number at.node)) at.version = taken_alike order (h (number at.node)) (g a.node) at.version a.version (node at.node a.node e.node s) e.version in
       elim (cases_Bool (is_taken (h (number at.node)) at.version)) [
@@ -85,7 +85,7 @@ module _ {C V : Type 0} (number : C → ℕ) (same : V → V → Bool) (always :
     named : Named now number c k
     named = let P : ℕ → Type 0 = λ z. slice_get now z ≡ Some (number c) in subst P (sym count) (new_place order (number c))
 
-    makes : TurnAlike now number h' t (u k) → Goal new' t h' (making form key size new g k u)
+    makes : NextPhaseAlike now number h' t (u k) → Goal new' t h' (making form key size new g k u)
     makes a =
         let P : ℕ → Type 0 = λ z. HeapAlike now h' (put g z (new_node form (take size key))) in
         record {
@@ -94,7 +94,7 @@ module _ {C V : Type 0} (number : C → ℕ) (same : V → V → Bool) (always :
           ordered = new_ordered order h g o x (number c) form key size h' made;
           made = ap suc count ∙ sym (length_one order (number c));
           given_is = sym e;
-          turn = a;
+          next_phase = a;
           heap = subst P (sym count) (new_alike order h g o x (number c) form key size h' made);
         }
 
@@ -146,17 +146,17 @@ module _ {C V : Type 0} (number : C → ℕ) (same : V → V → Bool) (always :
       )))))
   greater_made s p leaf u q l h' new' t (Err z) a b d un e i w = absurd (unmade (form_above s.count) z t un i.1 w)
 
-  top_made : (p : Parent C) (at : Stamp C) (common byte : ℕ) (q : Parent ℕ) (a : Stamp ℕ) (h' : ℕ → Node V) (new' : Option V) (t : NextPhase C V) (y : Result C Refusal) → ParentAlike order number p q → SeatAlike order number at a
+  top_made : (p : Parent C) (at : Stamp C) (common byte : ℕ) (q : Parent ℕ) (a : Stamp ℕ) (h' : ℕ → Node V) (new' : Option V) (t : NextPhase C V) (y : Result C Refusal) → ParentAlike order number p q → StampAlike order number at a
       → IsUnrefused t.report.outcome → new' ≡ new → MadeTop number p at common byte h key y h' t → IfErr y (why N4) → Goal new' t h' (making N4 key common new g k (λ top. quiet (MakeBeside q a common byte top)))
   top_made p at common byte q a h' new' t (Ok c) b d un e i w =
       let f = later c N4 common h' new' t (λ top. quiet (MakeBeside q a common byte top)) i.0 e in
       makes c N4 common h' new' t (λ top. quiet (MakeBeside q a common byte top)) i.0 e
       (alike_at (order ++ number c ∷ []) number h' t (quiet (MakeBeside p at common byte c)) _ i.1
       (quiet_alike (order ++ number c ∷ []) number h' (MakeBeside p at common byte c) (MakeBeside q a common byte k)
-      (q, a, k, refl, parent_later order (order ++ number c ∷ []) number f p q b, seat_later order (order ++ number c ∷ []) number f at a d, named c N4 common h' new' t (λ top. quiet (MakeBeside q a common byte top)) i.0 e)))
+      (q, a, k, refl, parent_later order (order ++ number c ∷ []) number f p q b, stamp_later order (order ++ number c ∷ []) number f at a d, named c N4 common h' new' t (λ top. quiet (MakeBeside q a common byte top)) i.0 e)))
   top_made p at common byte q a h' new' t (Err z) b d un e i w = absurd (unmade N4 z t un i.1 w)
 
-  beside_made : (p : Parent C) (at : Stamp C) (common byte : ℕ) (top : C) (q : Parent ℕ) (a : Stamp ℕ) (n : ℕ) (h' : ℕ → Node V) (new' : Option V) (t : NextPhase C V) (y : Result C Refusal) → ParentAlike order number p q → SeatAlike order number at a → Named order number top n
+  beside_made : (p : Parent C) (at : Stamp C) (common byte : ℕ) (top : C) (q : Parent ℕ) (a : Stamp ℕ) (n : ℕ) (h' : ℕ → Node V) (new' : Option V) (t : NextPhase C V) (y : Result C Refusal) → ParentAlike order number p q → StampAlike order number at a → Named order number top n
       → IsUnrefused t.report.outcome → new' ≡ new → MadeBeside number kind p at common byte top h key y h' t → IfErr y (why N4)
       → Goal new' t h' (making N4 key MAX_PREFIX_LEN new g k (λ leaf. ready kind (Above (record { top = None; above = q; at = a; change = Split n leaf common byte }))))
   beside_made p at common byte top q a n h' new' t (Ok c) b d nm un e i w =
@@ -169,7 +169,7 @@ module _ {C V : Type 0} (number : C → ℕ) (same : V → V → Bool) (always :
         record {
           top = refl;
           above = parent_later order (order ++ number c ∷ []) number f p q b;
-          at = seat_later order (order ++ number c ∷ []) number f at a d;
+          at = stamp_later order (order ++ number c ∷ []) number f at a d;
           change = (n, k, refl, named_later order (order ++ number c ∷ []) number f top n nm, named c N4 MAX_PREFIX_LEN h' new' t (λ leaf. ready kind (Above (record { top = None; above = q; at = a; change = Split n leaf common byte }))) i.0 e);
         },
       )))
@@ -239,10 +239,10 @@ module _ {C V : Type 0} (number : C → ℕ) (same : V → V → Bool) (always :
   one_upgraded one u y h' new' t Exhausted z s may e i =
       paired h' (back_one u.change g) new' new t (refused refusal.Exhausted) (back_one_pair order number h g o x h' one.change u.change z.change may i.0) e (alike_at order number h' t _ _ i.1 (refused_alike order number h' refusal.Exhausted))
 
-  above_upgraded : (two : Two C) (u : Two ℕ) (y : Reply V) (h' : ℕ → Node V) (new' : Option V) (t : NextPhase C V) (a : Upgrade) → TwoAlike order number two u → Stands (h (number two.above.seat.node)) → MayBackTwo number h two.change → new' ≡ new
+  above_upgraded : (two : Two C) (u : Two ℕ) (y : Reply V) (h' : ℕ → Node V) (new' : Option V) (t : NextPhase C V) (a : Upgrade) → TwoAlike order number two u → Stands (h (number two.above.stamp.node)) → MayBackTwo number h two.change → new' ≡ new
       → UpgradedAbove number root two y h a h' t → Goal new' t h' (upgraded_above m new g k u y a)
   above_upgraded two u y h' new' t Locked z s may e i =
-      paired h' (lock g u.above.seat.node) new' new t (quiet (UpgradeBelow u y)) (pair_locked order h g o x (number two.above.seat.node) u.above.seat.node h' z.above.seat.node s i.0) e
+      paired h' (lock g u.above.stamp.node) new' new t (quiet (UpgradeBelow u y)) (pair_locked order h g o x (number two.above.stamp.node) u.above.stamp.node h' z.above.stamp.node s i.0) e
       (alike_at order number h' t _ _ i.1 (quiet_alike order number h' (UpgradeBelow two y) (UpgradeBelow u y) (u, refl, z)))
   above_upgraded two u y h' new' t Failed z s may e i =
       paired h' (back_two u.change g) new' new t (given_up m u.top None) (back_two_pair order number h g o x h' two.change u.change z.change may i.0) e (alike_at order number h' t _ _ i.1 (given_up_alike order number h' root m two.top u.top None r z.top))
@@ -250,10 +250,10 @@ module _ {C V : Type 0} (number : C → ℕ) (same : V → V → Bool) (always :
       paired h' (back_two u.change g) new' new t (given_up m u.top (Some refusal.Exhausted)) (back_two_pair order number h g o x h' two.change u.change z.change may i.0) e
       (alike_at order number h' t _ _ i.1 (given_up_alike order number h' root m two.top u.top (Some refusal.Exhausted) r z.top))
 
-  top_upgraded : (top : Parent C) (q : Parent ℕ) (two : Two C) (u : Two ℕ) (y : Reply V) (h' : ℕ → Node V) (new' : Option V) (t : NextPhase C V) (a : Upgrade) → ParentAlike order number top q → TwoAlike order number two u → Stands (h (number top.seat.node)) → MayBackTwo number h two.change → new' ≡ new
+  top_upgraded : (top : Parent C) (q : Parent ℕ) (two : Two C) (u : Two ℕ) (y : Reply V) (h' : ℕ → Node V) (new' : Option V) (t : NextPhase C V) (a : Upgrade) → ParentAlike order number top q → TwoAlike order number two u → Stands (h (number top.stamp.node)) → MayBackTwo number h two.change → new' ≡ new
       → UpgradedTop number root top two y h a h' t → Goal new' t h' (upgraded_top m new g k q u y a)
   top_upgraded top q two u y h' new' t Locked b z s may e i =
-      paired h' (lock g q.seat.node) new' new t (quiet (UpgradeAbove (record u { top = Some q }) y)) (pair_locked order h g o x (number top.seat.node) q.seat.node h' b.seat.node s i.0) e
+      paired h' (lock g q.stamp.node) new' new t (quiet (UpgradeAbove (record u { top = Some q }) y)) (pair_locked order h g o x (number top.stamp.node) q.stamp.node h' b.stamp.node s i.0) e
       (alike_at order number h' t _ _ i.1 (quiet_alike order number h' (UpgradeAbove (record two { top = Some top }) y) (UpgradeAbove (record u { top = Some q }) y)
       (record u { top = Some q }, refl, record { top = (q, refl, b); above = z.above; at = z.at; change = z.change })))
   top_upgraded top q two u y h' new' t Failed b z s may e i =
@@ -267,15 +267,15 @@ module _ {C V : Type 0} (number : C → ℕ) (same : V → V → Bool) (always :
       paired h' (lock g u.at.node) new' new t (quiet (ChangeTwo u y)) (pair_locked order h g o x (number two.at.node) u.at.node h' z.at.node s i.0) e
       (alike_at order number h' t _ _ i.1 (quiet_alike order number h' (ChangeTwo two y) (ChangeTwo u y) (u, refl, z)))
   below_upgraded two u y h' new' t Failed z s may e i =
-      paired h' (back_two u.change g) new' new t (quiet (Unwind u.above.seat.node (node_of u.top) None)) (back_two_pair order number h g o x h' two.change u.change z.change may i.0) e
-      (alike_at order number h' t _ _ i.1 (quiet_alike order number h' (Unwind two.above.seat.node (node_of two.top) None) (Unwind u.above.seat.node (node_of u.top) None)
-      (u.above.seat.node, node_of u.top, refl, z.above.seat.node, node_alike order number h' two.top u.top z.top)))
+      paired h' (back_two u.change g) new' new t (quiet (Unwind u.above.stamp.node (node_of u.top) None)) (back_two_pair order number h g o x h' two.change u.change z.change may i.0) e
+      (alike_at order number h' t _ _ i.1 (quiet_alike order number h' (Unwind two.above.stamp.node (node_of two.top) None) (Unwind u.above.stamp.node (node_of u.top) None)
+      (u.above.stamp.node, node_of u.top, refl, z.above.stamp.node, node_alike order number h' two.top u.top z.top)))
   below_upgraded two u y h' new' t Exhausted z s may e i =
-      paired h' (back_two u.change g) new' new t (quiet (Unwind u.above.seat.node (node_of u.top) (Some refusal.Exhausted))) (back_two_pair order number h g o x h' two.change u.change z.change may i.0) e
-      (alike_at order number h' t _ _ i.1 (quiet_alike order number h' (Unwind two.above.seat.node (node_of two.top) (Some refusal.Exhausted)) (Unwind u.above.seat.node (node_of u.top) (Some refusal.Exhausted))
-      (u.above.seat.node, node_of u.top, refl, z.above.seat.node, node_alike order number h' two.top u.top z.top)))
+      paired h' (back_two u.change g) new' new t (quiet (Unwind u.above.stamp.node (node_of u.top) (Some refusal.Exhausted))) (back_two_pair order number h g o x h' two.change u.change z.change may i.0) e
+      (alike_at order number h' t _ _ i.1 (quiet_alike order number h' (Unwind two.above.stamp.node (node_of two.top) (Some refusal.Exhausted)) (Unwind u.above.stamp.node (node_of u.top) (Some refusal.Exhausted))
+      (u.above.stamp.node, node_of u.top, refl, z.above.stamp.node, node_alike order number h' two.top u.top z.top)))
 
-  above_passed : (p : Stamp C) (q : Stamp ℕ) (one : One C) (u : One ℕ) (y : Reply V) (h' : ℕ → Node V) (new' : Option V) (t : NextPhase C V) → SeatAlike order number p q → OneAlike order number one u → Stands (h (number p.node)) → MayBackOne number h one.change → new' ≡ new
+  above_passed : (p : Stamp C) (q : Stamp ℕ) (one : One C) (u : One ℕ) (y : Reply V) (h' : ℕ → Node V) (new' : Option V) (t : NextPhase C V) → StampAlike order number p q → OneAlike order number one u → Stands (h (number p.node)) → MayBackOne number h one.change → new' ≡ new
       → IsCheckedAbove number root p one y h h' t → Goal new' t h' (passed_above (is_taken (g q.node) q.version) m new g k u y)
   above_passed p q one u y h' new' t a z s may e i =
       let same_word : is_taken (g q.node) q.version ≡ is_taken (h (number p.node)) p.version = taken_alike order (h (number p.node)) (g q.node) p.version q.version (node p.node q.node a.node s) a.version in
@@ -301,7 +301,7 @@ module _ {C V : Type 0} (number : C → ℕ) (same : V → V → Bool) (always :
       (version_alike order number h' root m above e.0 c e.1 (version_of (h (number c))) r e.3 e.4))))
   phase_alike (Read above at) q h' new' t e may holds un sk i =
       let P : Phase ℕ V → Type 0 = λ z. Goal new' t h' (steps z) in
-      let Q : (ℕ → Node V) → Type 0 = λ z. TurnAlike order number z t (after_read m e.0 e.1 (reading (g e.1.node) e.1.version key seen)) in
+      let Q : (ℕ → Node V) → Type 0 = λ z. NextPhaseAlike order number z t (after_read m e.0 e.1 (reading (g e.1.node) e.1.version key seen)) in
       subst P (sym e.2) (still h' new' new t _ i.0 i.1 (subst Q (sym i.0) (alike_at order number h t _ _ i.2.2
       (read_alike order number h g root m r key len always above e.0 e.3 at e.1 e.4 (node at.node e.1.node e.4.node may) seen i.2.0 i.2.1))))
   phase_alike (Check s c) q h' new' t e may holds un sk i =
@@ -312,7 +312,7 @@ module _ {C V : Type 0} (number : C → ℕ) (same : V → V → Bool) (always :
       subst P (sym e.2) (still h' new' new t _ i.0 i.1 (passed h' at e.0.at (λ (w : NextPhase C V). w ≡ refused refusal.Count) t (checked same kind new e.0 e.1) e.3 may i.2 (λ y z. absurd (uncounted t un z))))
   phase_alike (CheckMiss p at common byte) q h' new' t e may holds un sk i =
       let P : Phase ℕ V → Type 0 = λ z. Goal new' t h' (steps z) in
-      subst P (sym e.2) (still h' new' new t _ i.0 i.1 (passed h' p.seat e.0.seat (λ (w : NextPhase C V). w ≡ after_miss kind p at common byte) t (after_miss kind e.0 e.1 common byte) e.3.seat may i.2 (λ y z. alike_at order number h' t _ _ z (miss_alike order number h' kind p e.0 at e.1 common byte e.3 e.4))))
+      subst P (sym e.2) (still h' new' new t _ i.0 i.1 (passed h' p.stamp e.0.stamp (λ (w : NextPhase C V). w ≡ after_miss kind p at common byte) t (after_miss kind e.0 e.1 common byte) e.3.stamp may i.2 (λ y z. alike_at order number h' t _ _ z (miss_alike order number h' kind p e.0 at e.1 common byte e.3 e.4))))
   phase_alike (CheckDown p at c) q h' new' t e may holds un sk i =
       let P : Phase ℕ V → Type 0 = λ z. Goal new' t h' (steps z) in
       subst P (sym e.3) (still h' new' new t _ i.0 i.1 (passed h' p e.0 (λ (w : NextPhase C V). w ≡ quiet (Version (Some at) c)) t (quiet (Version (Some e.1) e.2)) e.4 may i.2
@@ -338,11 +338,11 @@ module _ {C V : Type 0} (number : C → ℕ) (same : V → V → Bool) (always :
   phase_alike (AskOld s v) q h' new' t e may holds un sk i =
       let P : Phase ℕ V → Type 0 = λ z. Goal new' t h' (steps z) in
       let a : GivenAlike order number h' new' t (given_old same kind e.0 v answer new) = given_alike order number h' always same kind s e.0 v answer new new' t e.2 un i.1 in
-      subst P (sym e.1) (still h' new' _ t _ i.0 (sym a.given) a.turn)
+      subst P (sym e.1) (still h' new' _ t _ i.0 (sym a.given) a.next_phase)
   phase_alike (AskNew plan) q h' new' t e may holds un sk i =
       let P : Phase ℕ V → Type 0 = λ z. Goal new' t h' (steps z) in
       let a : GivenAlike order number h' new' t (given_new e.0 answer new) = answer_alike order number h' plan e.0 answer new new' t e.2 i.1 in
-      subst P (sym e.1) (still h' new' _ t _ i.0 (sym a.given) a.turn)
+      subst P (sym e.1) (still h' new' _ t _ i.0 (sym a.given) a.next_phase)
   phase_alike (Confirm at y) q h' new' t e may holds un sk i =
       let P : Phase ℕ V → Type 0 = λ z. Goal new' t h' (steps z) in
       subst P (sym e.1) (still h' new' new t _ i.0 i.1 (passed h' at e.0 (λ (w : NextPhase C V). w ≡ answered y) t (answered y) e.2 may i.2 (λ w z. alike_at order number h' t _ _ z (answered_alike order number h' y))))
@@ -360,12 +360,12 @@ module _ {C V : Type 0} (number : C → ℕ) (same : V → V → Bool) (always :
   phase_alike (UpgradeTop top two y) q h' new' t e may holds un sk i =
       let P : Phase ℕ V → Type 0 = λ z. Goal new' t h' (steps z) in
       let Q : Upgrade → Type 0 = λ z. Goal new' t h' (upgraded_top m new g k e.0 e.1 y z) in
-      subst P (sym e.2) (subst Q (i.1.1 ∙ sym (upgrade_same top.seat.node e.0.seat.node top.seat.version e.0.seat.version e.3.seat.node may.0 e.3.seat.version))
+      subst P (sym e.2) (subst Q (i.1.1 ∙ sym (upgrade_same top.stamp.node e.0.stamp.node top.stamp.version e.0.stamp.version e.3.stamp.node may.0 e.3.stamp.version))
       (top_upgraded top e.0 two e.1 y h' new' t i.1.0 e.3 e.4 may.0 may.1 i.0 i.1.2))
   phase_alike (UpgradeAbove two y) q h' new' t e may holds un sk i =
       let P : Phase ℕ V → Type 0 = λ z. Goal new' t h' (steps z) in
       let Q : Upgrade → Type 0 = λ z. Goal new' t h' (upgraded_above m new g k e.0 y z) in
-      subst P (sym e.1) (subst Q (i.1.1 ∙ sym (upgrade_same two.above.seat.node e.0.above.seat.node two.above.seat.version e.0.above.seat.version e.2.above.seat.node may.0 e.2.above.seat.version))
+      subst P (sym e.1) (subst Q (i.1.1 ∙ sym (upgrade_same two.above.stamp.node e.0.above.stamp.node two.above.stamp.version e.0.above.stamp.version e.2.above.stamp.node may.0 e.2.above.stamp.version))
       (above_upgraded two e.0 y h' new' t i.1.0 e.2 may.0 may.1 i.0 i.1.2))
   phase_alike (UpgradeBelow two y) q h' new' t e may holds un sk i =
       let P : Phase ℕ V → Type 0 = λ z. Goal new' t h' (steps z) in
@@ -391,14 +391,14 @@ module _ {C V : Type 0} (number : C → ℕ) (same : V → V → Bool) (always :
   phase_alike (Unwind c next z) q h' new' t e may holds un sk i =
       let P : Phase ℕ V → Type 0 = λ z. Goal new' t h' (steps z) in
       subst P (sym e.2) (paired h' _ new' new t _ (pair_freed order h g o x (number c) e.0 h' e.3 may.0 i.1) i.0 (alike_at order number h' t _ _ i.2 (left_alike order number h' root m next e.1 z r e.4)))
-  phase_alike (Sweep s) q h' new' t e may holds un sk i =
+  phase_alike (Scan s) q h' new' t e may holds un sk i =
       let P : Phase ℕ V → Type 0 = λ z. Goal new' t h' (steps z) in
-      let Q : (ℕ → Node V) → Type 0 = λ z. TurnAlike order number z t (swept (swung m seen g e.0 e.0.stage).0 (swung m seen g e.0 e.0.stage).1) in
+      let Q : (ℕ → Node V) → Type 0 = λ z. NextPhaseAlike order number z t (after_scan (next_scan m seen g e.0 e.0.stage).0 (next_scan m seen g e.0 e.0.stage).1) in
       let R : NextPhase C V → Type 0 = λ z. IsUnrefused z.report.outcome in
-      let a : SwungAlike order number h (i.2.0, i.2.1) (swung m seen g e.0 e.0.stage) = swung_alike order number h g x always root m r seen s e.0 (i.2.0, i.2.1) e.2 may (subst R i.2.3 un) i.2.2 in
+      let a : NextScanAlike order number h (i.2.0, i.2.1) (next_scan m seen g e.0 e.0.stage) = next_scan_alike order number h g x always root m r seen s e.0 (i.2.0, i.2.1) e.2 may (subst R i.2.3 un) i.2.2 in
       subst P (sym e.1) (still h' new' new t _ i.0 i.1 (subst Q (sym i.0) (alike_at order number h t _ _ i.2.3 (record {
         report = ap (λ y. record { decided = false; skipped = false; outcome = outcome_of y }) a.told;
-        phase = ((swung m seen g e.0 e.0.stage).0, refl, a.scan);
+        phase = ((next_scan m seen g e.0 e.0.stage).0, refl, a.scan);
       }))))
   phase_alike Ended q h' new' t e may holds un sk i =
       let P : Phase ℕ V → Type 0 = λ z. Goal new' t h' (steps z) in

@@ -15,15 +15,15 @@ use Rattle.congee.specs.Keys.{key_bytes, IsMapOf}
 use Rattle.congee.specs.Notes.{Note, Linked, BeginsKey, Tree, LockWords}
 use Rattle.congee.specs.protocol.Alone.{sum_from, pairs_at, pairs_under, tree_pairs}
 use Rattle.congee.specs.protocol.Regions.{span, IsRegion, start_at}
-use Rattle.congee.specs.protocol.Sweeps.{Lacked}
-use Rattle.congee.specs.protocol.SweepKnown.{end_of}
+use Rattle.congee.specs.protocol.Scans.{Lacked}
+use Rattle.congee.specs.protocol.ScanKnown.{end_of}
 use Rattle.congee.proofs.lemmas.Fits.{fits_byte}
-use Rattle.congee.proofs.lemmas.Orders.{top, same_bytes, byte_small}
+use Rattle.congee.proofs.lemmas.Orders.{first_bytes, same_bytes, byte_small}
 use Rattle.congee.proofs.lemmas.forms.Prefixes.{fits_every}
-use Rattle.congee.proofs.lemmas.protocol.AloneSweeps.{term_past}
-use Rattle.congee.proofs.lemmas.protocol.Regions.{span_pos, multiple_bounds, whole, start_mono}
-use Rattle.congee.proofs.lemmas.protocol.SweepBytes.{low_yes, low_no, region_top}
-use Rattle.congee.proofs.lemmas.protocol.SweepKept.{child_after, child_before, lacks_bytes, lacks_beside, has_value}
+use Rattle.congee.proofs.lemmas.protocol.AloneScans.{term_past}
+use Rattle.congee.proofs.lemmas.protocol.Regions.{span_pos, multiple_bounds, start_at_end, start_mono}
+use Rattle.congee.proofs.lemmas.protocol.ScanBytes.{low_yes, low_no, region_top}
+use Rattle.congee.proofs.lemmas.protocol.ScanKept.{child_after, child_before, lacks_bytes, lacks_beside, has_value}
 use Rattle.congee.proofs.lemmas.forms.BetweenLemmas.{true_of_T, less_of_cmp}
 
 -- 1 where the number is at least `lo` and below `hi`
@@ -173,7 +173,7 @@ region_in p short b =
     let k : ℕ = from_be_bytes w64 (key_bytes b.0) in
     let same : key_bytes k ≡ key_bytes b.0 = be_bytes_8 (key_bytes b.0) k refl (bytes_small b.0) refl in
     let s = multiple_bounds k (span d) (span_pos d) in
-    let up : top (k / span d * span d) d ≡ top k d = mul-div_cancel (k / span d) (span_pos d) in (
+    let up : first_bytes (k / span d * span d) d ≡ first_bytes k d = mul-div_cancel (k / span d) (span_pos d) in (
       record { base = k / span d * span d; depth = d },
       record {
         depth_is = refl;
@@ -202,9 +202,9 @@ module _ {V : Type 0} (a : ℕ → Note) (h : ℕ → Node V) (t : Tree a h) (w 
     within : (b k : ℕ) → b < 256 → start_at base depth b ≤ k → k < start_at base depth (b + 1) → (k < 2 ^ 64) × (base ≤ k) × (k < base + span depth)
     within b k small lo hi =
         let up = start_mono (h n).prefix base depth r (b + 1) 256 (omega (arith, small)) in
-        let e = whole (h n).prefix base depth r in
-        let top = region_top (h n).prefix base depth r in
-        (omega (arith, hi, up, e, top), omega (arith, lo), omega (arith, hi, up, e))
+        let e = start_at_end (h n).prefix base depth r in
+        let most = region_top (h n).prefix base depth r in
+        (omega (arith, hi, up, e, most), omega (arith, lo), omega (arith, hi, up, e))
 
     -- the values at and below a byte are the pairs with the keys under it
     at_byte : (b : ℕ) (x : Hung V) → b < 256 → (h n).children b ≡ x → pairs_at (λ c. pairs_under h f c) x ≡ pairs (start_at base depth b) (start_at base depth (b + 1))
@@ -253,11 +253,12 @@ module _ {V : Type 0} (a : ℕ → Note) (h : ℕ → Node V) (t : Tree a h) (w 
   under zero n base depth l r deep = absurd (let s = t.short n l in omega (arith, s, deep))
   under (suc f) n base depth l r deep =
       sums n base depth l r f (λ c x i longer y. under f c x.base x.depth i y (omega (arith, longer, deep))) 256 (omega arith)
-      ∙ ap (λ y. pairs base y) (whole (h n).prefix base depth r)
+      ∙ ap (λ y. pairs base y) (start_at_end (h n).prefix base depth r)
 
   root_region : IsRegion (h 0).prefix 0 0
   root_region = record { depth_is = sym (ap length t.empty); short = omega arith; small = omega arith; fitted = rw t.empty refl; even = refl }
 
+  -- the values that hang in a tree are as many as the pairs of its map
   pub pairs_counted : tree_pairs h ≡ len m
   pairs_counted =
       let e = under 8 0 0 0 t.root root_region (omega arith) in

@@ -20,12 +20,12 @@ use Rattle.congee.specs.declared.protocol.phase.Double.TheVariants.{Unlink, Grow
 use Rattle.congee.specs.declared.protocol.phase.Two.{Two}
 use Rattle.congee.specs.declared.protocol.phase.Phase.{Phase}
 use Rattle.congee.specs.declared.protocol.phase.Phase.TheVariants.{MakeLeaf, MakeGreater, MakeTop, MakeBeside, MakeLesser, CheckAbove, UpgradeOne, ChangeOne, UpgradeTop, UpgradeAbove, UpgradeBelow, ChangeTwo, Obsolete, Retire, UnlockBelow, Unlock, Unwind}
-use Rattle.congee.specs.declared.protocol.turn.NextPhase.{NextPhase}
+use Rattle.congee.specs.declared.protocol.next_phase.NextPhase.{NextPhase}
 use Rattle.congee.specs.Heap.{Node, Hung, Stands, is_taken}
 use Rattle.congee.specs.protocol.Bounds.{Bounded, Within}
 use Rattle.congee.specs.protocol.Events.{SameBut, NewNode, ChangeGives, TakeOverGives, BackGives, UnlockGives, upgrade_gives}
 use Rattle.congee.specs.protocol.Steps.{BackOne, BackTwo, BackLeaf, MadeLeaf, MadeGreater, MadeTop, MadeBeside, MadeLesser, UpgradedOne, UpgradedTop, UpgradedAbove, UpgradedBelow, PutsLesser, Collapses, Lessens, ChangedOne, ChangedTwo, PhaseStepped, MayStep}
-use Rattle.congee.proofs.lemmas.Fits.{equal, both_true}
+use Rattle.congee.proofs.lemmas.Fits.{equal_of_test, both_true}
 use Rattle.congee.proofs.lemmas.Graft.{on_test}
 use Rattle.congee.proofs.lemmas.protocol.Locks.{locked_taken}
 
@@ -79,7 +79,7 @@ module _ {V : Type 0} (most : ℕ) where
 
   locks : (h h' : ℕ → Node V) (c v : ℕ) (fail : Bool) → Stands (h c) → Locked ≡ upgrade_gives most (h c) v fail → SameBut h c (record (h c) { locked = true }) h' → Within most h → Within most h'
   locks h h' c v fail s e g w =
-      let at : (h c).version ≡ v = equal (h c).version v (both_true _ _ (locked_taken most (h c) v fail e)).0 in
+      let at : (h c).version ≡ v = equal_of_test (h c).version v (both_true _ _ (locked_taken most (h c) v fail e)).0 in
       let ne : v ≢ most = locked_below most (h c) v fail e in
       let x : Bounded most (h c) = w c s in
       but h h' c (record (h c) { locked = true }) (record { low = x.low; locked = λ l. omega (arith, x.low, at, ne) }) g w
@@ -134,15 +134,15 @@ module _ {C V : Type 0} (number : C → ℕ) (most : ℕ) (h h' : ℕ → Node V
   one_upgraded root one r fail Failed t s e g = one_back one.change g.0
   one_upgraded root one r fail Exhausted t s e g = one_back one.change g.0
 
-  top_upgraded : (root : C) (top : Parent C) (two : Two C) (r : Reply V) (fail : Bool) (u : Upgrade) (t : NextPhase C V) → Stands (h (number top.seat.node)) → u ≡ upgrade_gives most (h (number top.seat.node)) top.seat.version fail → UpgradedTop number root top two r h u h' t
+  top_upgraded : (root : C) (top : Parent C) (two : Two C) (r : Reply V) (fail : Bool) (u : Upgrade) (t : NextPhase C V) → Stands (h (number top.stamp.node)) → u ≡ upgrade_gives most (h (number top.stamp.node)) top.stamp.version fail → UpgradedTop number root top two r h u h' t
       → Within most h'
-  top_upgraded root top two r fail Locked t s e g = locks most h h' (number top.seat.node) top.seat.version fail s e g.0 w
+  top_upgraded root top two r fail Locked t s e g = locks most h h' (number top.stamp.node) top.stamp.version fail s e g.0 w
   top_upgraded root top two r fail Failed t s e g = two_back two.change g.0
   top_upgraded root top two r fail Exhausted t s e g = two_back two.change g.0
 
-  above_upgraded : (root : C) (two : Two C) (r : Reply V) (fail : Bool) (u : Upgrade) (t : NextPhase C V) → Stands (h (number two.above.seat.node)) → u ≡ upgrade_gives most (h (number two.above.seat.node)) two.above.seat.version fail → UpgradedAbove number root two r h u h' t
+  above_upgraded : (root : C) (two : Two C) (r : Reply V) (fail : Bool) (u : Upgrade) (t : NextPhase C V) → Stands (h (number two.above.stamp.node)) → u ≡ upgrade_gives most (h (number two.above.stamp.node)) two.above.stamp.version fail → UpgradedAbove number root two r h u h' t
       → Within most h'
-  above_upgraded root two r fail Locked t s e g = locks most h h' (number two.above.seat.node) two.above.seat.version fail s e g.0 w
+  above_upgraded root two r fail Locked t s e g = locks most h h' (number two.above.stamp.node) two.above.stamp.version fail s e g.0 w
   above_upgraded root two r fail Failed t s e g = two_back two.change g.0
   above_upgraded root two r fail Exhausted t s e g = two_back two.change g.0
 
@@ -160,23 +160,24 @@ module _ {C V : Type 0} (number : C → ℕ) (most : ℕ) (h h' : ℕ → Node V
 
   top_changed : (two : Two C) (top : Option (Parent C)) → Collapses number two top h h' → Within most h'
   top_changed two None g = absurd g
-  top_changed two (Some top) g = changed most h h' (number top.seat.node) _ _ g.2 w
+  top_changed two (Some top) g = changed most h h' (number top.stamp.node) _ _ g.2 w
 
   top_lessened : (two : Two C) (c : C) (top : Option (Parent C)) → Lessens number two c top h h' → Within most h'
   top_lessened two c None g = absurd g
   top_lessened two c (Some top) g = lessened _ _ _ _ _ g
 
   two_changed : (key : List ℕ) (new : Option V) (two : Two C) (change : Double C) → ChangedTwo number key new two change h h' → Within most h'
-  two_changed key new two Unlink g = changed most h h' (number two.above.seat.node) _ _ g w
+  two_changed key new two Unlink g = changed most h h' (number two.above.stamp.node) _ _ g w
   two_changed key new two (Shrink c) g = lessened _ _ _ _ _ g
   two_changed key new two Collapse g = top_changed two two.top g
   two_changed key new two (ShrinkAbove c) g = top_lessened two c two.top g
-  two_changed key new two (Grow c) g = changed most g.1 h' (number two.above.seat.node) _ _ g.4 (changed most g.0 g.1 (number c) _ _ g.3 (over most h g.0 (number two.at.node) (number c) g.2 w))
+  two_changed key new two (Grow c) g = changed most g.1 h' (number two.above.stamp.node) _ _ g.4 (changed most g.0 g.1 (number c) _ _ g.3 (over most h g.0 (number two.at.node) (number c) g.2 w))
   two_changed key new two (GrowLink c leaf byte) g =
-      changed most g.2 h' (number two.above.seat.node) _ _ g.6 (changed most g.1 g.2 (number c) _ _ g.5 (over most g.0 g.1 (number two.at.node) (number c) g.4 (changed most h g.0 (number leaf) _ _ g.3 w)))
+      changed most g.2 h' (number two.above.stamp.node) _ _ g.6 (changed most g.1 g.2 (number c) _ _ g.5 (over most g.0 g.1 (number two.at.node) (number c) g.4 (changed most h g.0 (number leaf) _ _ g.3 w)))
   two_changed key new two (Split top leaf common byte) g =
-      changed most g.2 h' (number two.above.seat.node) _ _ g.6 (changed most g.1 g.2 (number top) _ _ g.5 (changed most g.0 g.1 (number top) _ _ g.4 (changed most h g.0 (number leaf) _ _ g.3 w)))
+      changed most g.2 h' (number two.above.stamp.node) _ _ g.6 (changed most g.1 g.2 (number top) _ _ g.5 (changed most g.0 g.1 (number top) _ _ g.4 (changed most h g.0 (number leaf) _ _ g.3 w)))
 
+  -- a step of a call leaves the versions of all nodes that stand within their limit
   pub step_within : (same_as : V → V → Bool) (always : Bool) (why : NodeType → Refusal → Type 0) (root : C) (key : List ℕ) (kind : Kind V) (fail : Bool) (answer : Option (Option V)) (new : Option V) (s : Phase C V) (new' : Option V) (t : NextPhase C V)
       → MayStep number root key new s h → PhaseStepped number same_as always most why root key kind fail answer new s h new' t h' → Within most h'
   step_within same_as always why root key kind fail answer new (MakeLeaf s) new' t may g = leaf_made kind s key g.1.0 t g.1.1

@@ -14,15 +14,15 @@ use Rattle.congee.specs.declared.protocol.phase.Site.{Site}
 use Rattle.congee.specs.declared.protocol.phase.Single.TheVariants.{Set, Link}
 use Rattle.congee.specs.declared.protocol.phase.Plan.TheVariants.{Above}
 use Rattle.congee.specs.declared.protocol.phase.Phase.TheVariants.{MakeLeaf, MakeGreater, MakeTop, MakeBeside, MakeLesser}
-use Rattle.congee.specs.declared.protocol.turn.NextPhase.{NextPhase}
+use Rattle.congee.specs.declared.protocol.next_phase.NextPhase.{NextPhase}
 use Rattle.congee.specs.Heap.{Node, Hung, Nothing, Holds, fits}
 use Rattle.congee.specs.protocol.Events.{NewNode, Parts, places}
 use Rattle.congee.specs.protocol.Steps.{shrinks, form_below, both, refused, form_above, greater, MadeLeaf, MadeGreater, MadeTop, MadeBeside, MadeLesser}
 use Rattle.congee.specs.Keys.{key_bytes}
 use Rattle.congee.specs.Notes.{Note, is_published, Tree, LockWords}
-use Rattle.congee.specs.protocol.Protocol.{Seated, ChildOf, Sees, Knows, Made, FitsOne, Goes, Settles, MadeLeafFor, PlanKnown, Known, Effect}
+use Rattle.congee.specs.protocol.Protocol.{Stamped, ChildOf, Sees, Knows, Made, FitsOne, Goes, Settles, MadeLeafFor, PlanKnown, Known, Effect}
 use Rattle.congee.specs.protocol.Answers.{SameMap, AnswersIf}
-use Rattle.congee.proofs.lemmas.protocol.Rely.{knows_kept, child_kept, seated_kept}
+use Rattle.congee.proofs.lemmas.protocol.Rely.{knows_kept, child_kept, stamped_kept}
 use Rattle.congee.specs.protocol.Names.{names_over}
 use Rattle.congee.proofs.lemmas.protocol.Each.{each_any}
 use Rattle.congee.proofs.lemmas.protocol.Touch.{by_test}
@@ -43,8 +43,8 @@ room_above n l = by_test (λ (f : NodeType). n < places f) (ltb n 4) _ _ (λ q. 
     (λ _. by_test (λ (f : NodeType). n < places f) (ltb n 48) _ _ (λ q. grind (arith, nat_tests)) (λ _. l)))
 
 module _ {C V : Type 0} (number : C → ℕ) (same : V → V → Bool) (always : Bool) (i : ℕ) (a : ℕ → Note) (h : ℕ → Node V) (k : ℕ) (kind : Kind V) (given : Option V) where
-  answers_after : (b : Bool) (turn : NextPhase C V) (h' h'' : ℕ → Node V) → SameMap h h' → AnswersIf b same k kind given h' turn h'' → AnswersIf b same k kind given h turn h''
-  answers_after true turn h' h'' e x = (
+  answers_after : (b : Bool) (next_phase : NextPhase C V) (h' h'' : ℕ → Node V) → SameMap h h' → AnswersIf b same k kind given h' next_phase h'' → AnswersIf b same k kind given h next_phase h''
+  answers_after true next_phase h' h'' e x = (
     x.0,
     x.1,
     record {
@@ -56,15 +56,17 @@ module _ {C V : Type 0} (number : C → ℕ) (same : V → V → Bool) (always :
       rest = λ y l ne. x.2.rest y l ne ∙ e y l;
     },
   )
-  answers_after false turn h' h'' e x = λ y l. x y l ∙ e y l
+  answers_after false next_phase h' h'' e x = λ y l. x y l ∙ e y l
 
-  -- a turn after a step that left the map
-  pub kept_after : (given' : Option V) (turn : NextPhase C V) (a' : ℕ → Note) (h' : ℕ → Node V) → KeepsMap i a h a' h' → Sound number same always i k kind given h' given' turn a' h' → Kept number same always i a h k kind given given' turn h'
-  kept_after given' turn a' h' e s = record { notes = a'; effect = e.effect; sound = record { known = s.known; answer = answers_after turn.report.decided turn h' h' e.map s.answer } }
+  -- a next phase after a step that left the map
+  kept_after : (given' : Option V) (next_phase : NextPhase C V) (a' : ℕ → Note) (h' : ℕ → Node V) → KeepsMap i a h a' h' → Sound number same always i k kind given h' given' next_phase a' h' → Kept number same always i a h k kind given given' next_phase h'
+  kept_after given' next_phase a' h' e s = record { notes = a'; effect = e.effect; sound = record { known = s.known; answer = answers_after next_phase.report.decided next_phase h' h' e.map s.answer } }
 
+  -- a next phase by another name keeps notes, tree and knowledge where the next phase does
   pub kept_at : (given' : Option V) (x y : NextPhase C V) (h' : ℕ → Node V) → y ≡ x → Kept number same always i a h k kind given given' x h' → Kept number same always i a h k kind given given' y h'
   kept_at given' x y h' e m = let P : NextPhase C V → Type 0 = λ z. Kept number same always i a h k kind given given' z h' in subst P (sym e) m
 
+  -- a call that is refused once its made nodes went back leaves tree and map as they were
   pub refused_back : (h' : ℕ → Node V) (e : Refusal) → Backed i a h h' → Kept number same always i a h k kind given given (refused e) h'
   refused_back h' e b = record { notes = b.notes; effect = b.still.effect; sound = record { known = tt; answer = b.still.map } }
 
@@ -76,16 +78,17 @@ module _ {C V : Type 0} (number : C → ℕ) (same : V → V → Bool) (always :
   child_after : (a' : ℕ → Note) (h' : ℕ → Node V) → Effect i a h a' h' → (p : Parent C) (n : ℕ) → ChildOf number a h (key_bytes k) p n → ChildOf number a' h' (key_bytes k) p n
   child_after a' h' e p n m = child_kept number (key_bytes k) (λ _. Unit {0}) (suc i) a h a' h' (own_rely i a h a' h' e) p n tt m
 
-  seated_after : (a' : ℕ → Note) (h' : ℕ → Node V) → Effect i a h a' h' → (n v : ℕ) → Seated a h n v → Seated a' h' n v
-  seated_after a' h' e n v m = seated_kept (λ _. Unit {0}) (suc i) a h a' h' (own_rely i a h a' h' e) n v tt m
+  stamped_after : (a' : ℕ → Note) (h' : ℕ → Node V) → Effect i a h a' h' → (n v : ℕ) → Stamped a h n v → Stamped a' h' n v
+  stamped_after a' h' e n v m = stamped_kept (λ _. Unit {0}) (suc i) a h a' h' (own_rely i a h a' h' e) n v tt m
 
-  pub leaf_made : (s : Site C) (turn : NextPhase C V) (h' : ℕ → Node V) (r : Result C Refusal) → Known number same always i a h k (key_bytes k) kind given (MakeLeaf s) → MadeLeaf number kind s h (key_bytes k) r h' turn
-      → Kept number same always i a h k kind given given turn h'
-  leaf_made s turn h' (Err e) m g = kept_at number same always i a h k kind given given _ turn h' g.1 (refused_back number same always i a h k kind given h' e (back_none i a h h' t w g.0))
-  leaf_made s turn h' (Ok c) m g =
+  -- once its leaf was made or refused, a call knows what its next step wants
+  pub leaf_made : (s : Site C) (next_phase : NextPhase C V) (h' : ℕ → Node V) (r : Result C Refusal) → Known number same always i a h k (key_bytes k) kind given (MakeLeaf s) → MadeLeaf number kind s h (key_bytes k) r h' next_phase
+      → Kept number same always i a h k kind given given next_phase h'
+  leaf_made s next_phase h' (Err e) m g = kept_at number same always i a h k kind given given _ next_phase h' g.1 (refused_back number same always i a h k kind given h' e (back_none i a h h' t w g.0))
+  leaf_made s next_phase h' (Ok c) m g =
       let e : KeepsMap i a h (making a i (number c)) h' = make_still i a h (number c) N4 (key_bytes k) 7 h' t w g.0 in
       let leaf : Made i (making a i (number c)) h' (key_bytes k) (number c) 7 0 = made_new i a h (number c) N4 k 7 0 h' g.0 (omega arith) in
-      kept_at number same always i a h k kind given given _ turn h' g.1
+      kept_at number same always i a h k kind given given _ next_phase h' g.1
       (kept_after number same always i a h k kind given given _ (making a i (number c)) h' e
       (unless_full_sound number same always i (making a i (number c)) h' k e.effect.tree e.effect.words kind given s (Some c) (Link c) s.full s.above refl refl m.3 m.4 m.0
       (knows_after _ h' e.effect s Nothing m.1) (m.2, leaf) m.2 leaf))
@@ -133,14 +136,15 @@ module _ {C V : Type 0} (number : C → ℕ) (same : V → V → Bool) (always :
       let z : leaf ≡ d = cc in
       (made_before i a h (number c) form (key_bytes k) size h' g (number leaf) 7 0 l.1).0 (ap number z ∙ sym q)
 
-  pub greater_made : (s : Site C) (p : Parent C) (leaf : Option C) (turn : NextPhase C V) (h' : ℕ → Node V) (r : Result C Refusal) → Known number same always i a h k (key_bytes k) kind given (MakeGreater s p leaf)
-      → MadeGreater number kind s p leaf h (key_bytes k) r h' turn → Kept number same always i a h k kind given given turn h'
-  greater_made s p None turn h' (Err e) m g = kept_at number same always i a h k kind given given _ turn h' g.1 (refused_back number same always i a h k kind given h' e (back_none i a h h' t w g.0))
-  greater_made s p (Some leaf) turn h' (Err e) m g = kept_at number same always i a h k kind given given _ turn h' g.1 (refused_back number same always i a h k kind given h' e (back_node i a h (key_bytes k) (number leaf) 7 0 h' t w m.3.1 g.0))
-  greater_made s p leaf turn h' (Ok c) m g =
+  -- once its greater node was made or refused, a call knows what its next step wants
+  pub greater_made : (s : Site C) (p : Parent C) (leaf : Option C) (next_phase : NextPhase C V) (h' : ℕ → Node V) (r : Result C Refusal) → Known number same always i a h k (key_bytes k) kind given (MakeGreater s p leaf)
+      → MadeGreater number kind s p leaf h (key_bytes k) r h' next_phase → Kept number same always i a h k kind given given next_phase h'
+  greater_made s p None next_phase h' (Err e) m g = kept_at number same always i a h k kind given given _ next_phase h' g.1 (refused_back number same always i a h k kind given h' e (back_none i a h h' t w g.0))
+  greater_made s p (Some leaf) next_phase h' (Err e) m g = kept_at number same always i a h k kind given given _ next_phase h' g.1 (refused_back number same always i a h k kind given h' e (back_node i a h (key_bytes k) (number leaf) 7 0 h' t w m.3.1 g.0))
+  greater_made s p leaf next_phase h' (Ok c) m g =
       let e : KeepsMap i a h (making a i (number c)) h' = make_still i a h (number c) (form_above s.count) (key_bytes k) s.depth h' t w g.0 in
       let new : Made i (making a i (number c)) h' (key_bytes k) (number c) s.depth s.count = made_new i a h (number c) (form_above s.count) k s.depth s.count h' g.0 (room_above s.count m.5) in
-      kept_at number same always i a h k kind given given _ turn h' g.1
+      kept_at number same always i a h k kind given given _ next_phase h' g.1
       (kept_after number same always i a h k kind given given _ (making a i (number c)) h' e
       (ready_sound number same always i (making a i (number c)) h' k e.effect.tree e.effect.words kind given _ m.4 m.0
       (greater_known _ h' s p leaf c (child_after _ h' e.effect p (number s.at.node) m.2) (knows_after _ h' e.effect s Nothing m.1) (leaf_before c _ s.depth h' s leaf g.0 m.3) (leaf_other c _ s.depth h' s leaf g.0 m.3) new)))
@@ -151,19 +155,20 @@ module _ {C V : Type 0} (number : C → ℕ) (same : V → V → Bool) (always :
   byte_after : (a' : ℕ → Note) (h' : ℕ → Node V) → Effect i a h a' h' → (n common byte : ℕ) → is_published (a n).status ≡ true → byte ≡ get_or (h n).prefix common 0 → byte ≡ get_or (h' n).prefix common 0
   byte_after a' h' e n common byte pu q = let P : List ℕ → Type 0 = λ y. byte ≡ get_or y common 0 in subst P (sym ((own_rely i a h a' h' e).prefix n tt pu)) q
 
-  pub top_made : (p : Parent C) (at : Stamp C) (common byte : ℕ) (turn : NextPhase C V) (h' : ℕ → Node V) (r : Result C Refusal) → Known number same always i a h k (key_bytes k) kind given (MakeTop p at common byte)
-      → MadeTop number p at common byte h (key_bytes k) r h' turn → Kept number same always i a h k kind given given turn h'
-  top_made p at common byte turn h' (Err e) m g = kept_at number same always i a h k kind given given _ turn h' g.1 (refused_back number same always i a h k kind given h' e (back_none i a h h' t w g.0))
-  top_made p at common byte turn h' (Ok c) m g =
+  -- once the node where ways part was made or refused, a call knows what its next step wants
+  pub top_made : (p : Parent C) (at : Stamp C) (common byte : ℕ) (next_phase : NextPhase C V) (h' : ℕ → Node V) (r : Result C Refusal) → Known number same always i a h k (key_bytes k) kind given (MakeTop p at common byte)
+      → MadeTop number p at common byte h (key_bytes k) r h' next_phase → Kept number same always i a h k kind given given next_phase h'
+  top_made p at common byte next_phase h' (Err e) m g = kept_at number same always i a h k kind given given _ next_phase h' g.1 (refused_back number same always i a h k kind given h' e (back_none i a h h' t w g.0))
+  top_made p at common byte next_phase h' (Ok c) m g =
       let e : KeepsMap i a h (making a i (number c)) h' = make_still i a h (number c) N4 (key_bytes k) common h' t w g.0 in
-      kept_at number same always i a h k kind given given _ turn h' g.1 (record {
+      kept_at number same always i a h k kind given given _ next_phase h' g.1 (record {
         notes = making a i (number c);
         effect = e.effect;
         sound = record {
           known = (
             m.0,
             child_after _ h' e.effect p (number at.node) m.1,
-            seated_after _ h' e.effect (number at.node) at.version m.2,
+            stamped_after _ h' e.effect (number at.node) at.version m.2,
             parts_after _ h' e.effect (number at.node) common m.2.published m.3,
             byte_after _ h' e.effect (number at.node) common byte m.2.published m.4,
             m.5,
@@ -173,14 +178,15 @@ module _ {C V : Type 0} (number : C → ℕ) (same : V → V → Bool) (always :
         };
       })
 
-  pub beside_made : (p : Parent C) (at : Stamp C) (common byte : ℕ) (top : C) (turn : NextPhase C V) (h' : ℕ → Node V) (r : Result C Refusal) → Known number same always i a h k (key_bytes k) kind given (MakeBeside p at common byte top)
-      → MadeBeside number kind p at common byte top h (key_bytes k) r h' turn → Kept number same always i a h k kind given given turn h'
-  beside_made p at common byte top turn h' (Err e) m g = kept_at number same always i a h k kind given given _ turn h' g.1 (refused_back number same always i a h k kind given h' e (back_node i a h (key_bytes k) (number top) common 1 h' t w m.6 g.0))
-  beside_made p at common byte top turn h' (Ok c) m g =
+  -- once the leaf beside was made or refused, a call knows what its next step wants
+  pub beside_made : (p : Parent C) (at : Stamp C) (common byte : ℕ) (top : C) (next_phase : NextPhase C V) (h' : ℕ → Node V) (r : Result C Refusal) → Known number same always i a h k (key_bytes k) kind given (MakeBeside p at common byte top)
+      → MadeBeside number kind p at common byte top h (key_bytes k) r h' next_phase → Kept number same always i a h k kind given given next_phase h'
+  beside_made p at common byte top next_phase h' (Err e) m g = kept_at number same always i a h k kind given given _ next_phase h' g.1 (refused_back number same always i a h k kind given h' e (back_node i a h (key_bytes k) (number top) common 1 h' t w m.6 g.0))
+  beside_made p at common byte top next_phase h' (Ok c) m g =
       let e : KeepsMap i a h (making a i (number c)) h' = make_still i a h (number c) N4 (key_bytes k) 7 h' t w g.0 in
       let old : (number top ≢ number c) × Made i (making a i (number c)) h' (key_bytes k) (number top) common 1 = made_before i a h (number c) N4 (key_bytes k) 7 h' g.0 (number top) common 1 m.6 in
-      let seat : Seated (making a i (number c)) h' (number at.node) at.version = seated_after _ h' e.effect (number at.node) at.version m.2 in
-      kept_at number same always i a h k kind given given _ turn h' g.1
+      let stamp : Stamped (making a i (number c)) h' (number at.node) at.version = stamped_after _ h' e.effect (number at.node) at.version m.2 in
+      kept_at number same always i a h k kind given given _ next_phase h' g.1
       (kept_after number same always i a h k kind given given _ (making a i (number c)) h' e
       (ready_sound number same always i (making a i (number c)) h' k e.effect.tree e.effect.words kind given _ m.5 m.0 (
         (
@@ -189,7 +195,7 @@ module _ {C V : Type 0} (number : C → ℕ) (same : V → V → Bool) (always :
             top = tt;
             above = child_after _ h' e.effect p (number at.node) m.1;
             placed = (parts_after _ h' e.effect (number at.node) common m.2.published m.3, byte_after _ h' e.effect (number at.node) common byte m.2.published m.4);
-            fresh = record { seated = seat; holds = λ _. tt };
+            fresh = record { stamped = stamp; holds = λ _. tt };
             made = (old.1, made_new i a h (number c) N4 k 7 0 h' g.0 (omega arith), old.0);
           },
         ),
@@ -213,11 +219,11 @@ module _ {C V : Type 0} (number : C → ℕ) (same : V → V → Bool) (always :
       some_place N256 = omega arith
 
   -- the lesser node was made, or the call goes on without it
-  pub lesser_made : (s : Site C) (p : Parent C) (top : Option (Parent C)) (r : Reply V) (turn : NextPhase C V) (h' : ℕ → Node V) (x : Result C Refusal) → Known number same always i a h k (key_bytes k) kind given (MakeLesser s p top r)
-      → MadeLesser number s p top r h (key_bytes k) x h' turn → Kept number same always i a h k kind given given turn h'
-  lesser_made s p None r turn h' (Err e) m g =
+  pub lesser_made : (s : Site C) (p : Parent C) (top : Option (Parent C)) (r : Reply V) (next_phase : NextPhase C V) (h' : ℕ → Node V) (x : Result C Refusal) → Known number same always i a h k (key_bytes k) kind given (MakeLesser s p top r)
+      → MadeLesser number s p top r h (key_bytes k) x h' next_phase → Kept number same always i a h k kind given given next_phase h'
+  lesser_made s p None r next_phase h' (Err e) m g =
       let b : Backed i a h h' = back_none i a h h' t w g.0 in
-      kept_at number same always i a h k kind given given _ turn h' g.1 (record {
+      kept_at number same always i a h k kind given given _ next_phase h' g.1 (record {
         notes = b.notes;
         effect = b.still.effect;
         sound = record {
@@ -233,9 +239,9 @@ module _ {C V : Type 0} (number : C → ℕ) (same : V → V → Bool) (always :
           answer = b.still.map;
         };
       })
-  lesser_made s p (Some top) r turn h' (Err e) m g =
+  lesser_made s p (Some top) r next_phase h' (Err e) m g =
       let b : Backed i a h h' = back_none i a h h' t w g.0 in
-      kept_at number same always i a h k kind given given _ turn h' g.1 (record {
+      kept_at number same always i a h k kind given given _ next_phase h' g.1 (record {
         notes = b.notes;
         effect = b.still.effect;
         sound = record {
@@ -259,11 +265,11 @@ module _ {C V : Type 0} (number : C → ℕ) (same : V → V → Bool) (always :
           answer = b.still.map;
         };
       })
-  lesser_made s p None r turn h' (Ok c) m g =
+  lesser_made s p None r next_phase h' (Ok c) m g =
       let e : KeepsMap i a h (making a i (number c)) h' = make_still i a h (number c) (form_below s.form) (key_bytes k) s.depth h' t w g.0 in
       let s' : Knows number (making a i (number c)) h' (key_bytes k) s (Holds m.1.0) = knows_after _ h' e.effect s (Holds m.1.0) m.1.1 in
       let new : Made i (making a i (number c)) h' (key_bytes k) (number c) s.depth (s.count - 1) = made_new i a h (number c) (form_below s.form) k s.depth (s.count - 1) h' g.0 (less s.form s.count m.5) in
-      kept_at number same always i a h k kind given given _ turn h' g.1 (record {
+      kept_at number same always i a h k kind given given _ next_phase h' g.1 (record {
         notes = making a i (number c);
         effect = e.effect;
         sound = record {
@@ -287,11 +293,11 @@ module _ {C V : Type 0} (number : C → ℕ) (same : V → V → Bool) (always :
           answer = e.map;
         };
       })
-  lesser_made s p (Some top) r turn h' (Ok c) m g =
+  lesser_made s p (Some top) r next_phase h' (Ok c) m g =
       let e : KeepsMap i a h (making a i (number c)) h' = make_still i a h (number c) (form_below p.form) (key_bytes k) p.depth h' t w g.0 in
       let s' : Knows number (making a i (number c)) h' (key_bytes k) s (Holds m.1.0) = knows_after _ h' e.effect s (Holds m.1.0) m.1.1 in
       let new : Made i (making a i (number c)) h' (key_bytes k) (number c) p.depth (p.count - 1) = made_new i a h (number c) (form_below p.form) k p.depth (p.count - 1) h' g.0 (less p.form p.count m.5.3) in
-      kept_at number same always i a h k kind given given _ turn h' g.1 (record {
+      kept_at number same always i a h k kind given given _ next_phase h' g.1 (record {
         notes = making a i (number c);
         effect = e.effect;
         sound = record {
@@ -310,7 +316,7 @@ module _ {C V : Type 0} (number : C → ℕ) (same : V → V → Bool) (always :
               (let P : Option V → Type 0 = λ o. Goes (Some m.1.0) o in subst P (sym m.3) tt),
               (let P : Option V → Type 0 = λ o. Settles same k kind given (Some m.1.0) r o in subst P (sym m.3) m.1.2),
             ),
-            child_after _ h' e.effect top (number p.seat.node) m.5.0,
+            child_after _ h' e.effect top (number p.stamp.node) m.5.0,
             tt,
             refl,
           );

@@ -32,31 +32,31 @@ use Rattle.congee.specs.declared.protocol.phase.Two.{Two}
 use Rattle.congee.specs.declared.protocol.phase.Plan.{Plan}
 use Rattle.congee.specs.declared.protocol.phase.Plan.TheVariants.{Here, Above}
 use Rattle.congee.specs.declared.protocol.phase.Phase.{Phase}
-use Rattle.congee.specs.declared.protocol.phase.Phase.TheVariants.{New, Version, Read, Check, CheckUncopied, CheckMiss, CheckDown, CheckOld, MakeLeaf, MakeGreater, MakeTop, MakeBeside, MakeLesser, AskOld, AskNew, Confirm, CheckAbove, UpgradeOne, UpgradeTop, UpgradeAbove, UpgradeBelow, ChangeTwo, Retire, Unlock, Unwind, Sweep}
+use Rattle.congee.specs.declared.protocol.phase.Phase.TheVariants.{New, Version, Read, Check, CheckUncopied, CheckMiss, CheckDown, CheckOld, MakeLeaf, MakeGreater, MakeTop, MakeBeside, MakeLesser, AskOld, AskNew, Confirm, CheckAbove, UpgradeOne, UpgradeTop, UpgradeAbove, UpgradeBelow, ChangeTwo, Retire, Unlock, Unwind, Scan}
 use Rattle.congee.specs.declared.protocol.machine.Outcome.{Outcome}
 use Rattle.congee.specs.declared.protocol.machine.Outcome.TheVariants.{Running, Asks, Found, Done, Scanned, Refused}
 use Rattle.congee.specs.declared.protocol.machine.Move.{Move}
 use Rattle.congee.specs.declared.protocol.machine.Machine.{Machine}
 use Rattle.congee.specs.declared.protocol.run.Step.{Step}
-use Rattle.congee.specs.declared.protocol.turn.NextPhase.{NextPhase}
+use Rattle.congee.specs.declared.protocol.next_phase.NextPhase.{NextPhase}
 use Rattle.congee.specs.Keys.{key_bytes}
 use Rattle.congee.specs.protocol.Play.{NextAt}
-use Rattle.congee.specs.declared.protocol.sweep.Rung.{Rung}
-use Rattle.congee.specs.declared.protocol.sweep.Stage.{Stage}
-use Rattle.congee.specs.declared.protocol.sweep.Stage.TheVariants as stage
-use Rattle.congee.specs.declared.protocol.sweep.Sweep.{Sweep as Scan}
-use Rattle.congee.specs.declared.protocol.sweep.ScanReport.{ScanReport}
-use Rattle.congee.specs.declared.protocol.sweep.ScanReport.TheVariants as told
+use Rattle.congee.specs.declared.protocol.scan.Rung.{Rung}
+use Rattle.congee.specs.declared.protocol.scan.Stage.{Stage}
+use Rattle.congee.specs.declared.protocol.scan.Stage.TheVariants as stage
+use Rattle.congee.specs.declared.protocol.scan.ScanState.{ScanState as ScanState}
+use Rattle.congee.specs.declared.protocol.scan.ScanReport.{ScanReport}
+use Rattle.congee.specs.declared.protocol.scan.ScanReport.TheVariants as scan_report
 use Rattle.congee.specs.Heap.{Node, is_taken}
 use Rattle.congee.specs.protocol.Events.{upgrade_gives}
 use Rattle.congee.specs.Notes.{Note}
 use Rattle.congee.specs.protocol.Causes.{NoneLeft, Uncounted, Causes, IsCause}
 use Rattle.congee.specs.protocol.Protocol.{IsFailure, Known}
-use Rattle.congee.specs.protocol.SweepEvents.{IsAny}
-use Rattle.congee.specs.protocol.SweepKnown.{SweepKnownAt}
-use Rattle.congee.specs.protocol.SweepSteps.{whole, is_outside, last_of, Swung, anew, left_to, entered, begins, IsFollowed, SweptAt}
-use Rattle.congee.specs.protocol.Steps.{shrinks, lesser_form, both, last_out, after_top, after_retire, after_unwind, given_up, again, refused, asking, CopyFailed as Uncopied_turn, adds, asks_new, absent_reply, form_above, greater, after_version, after_read, down, started, ready, plan_here, unless_full, absent, IsAsked, replaced, taken_out, is_same, IsAtOld, IsAdded, IsExchanged, IsPresent, IsChecked, after_miss, IsGiven, IsGivenNew, MadeLeaf, MadeGreater, MadeTop, MadeBeside, MadeLesser, UpgradedOne, UpgradedTop, UpgradedAbove, UpgradedBelow, after_change, outcome_of, PhaseStepped}
-use Rattle.congee.proofs.lemmas.Fits.{equal}
+use Rattle.congee.specs.protocol.ScanEvents.{IsAny}
+use Rattle.congee.specs.protocol.ScanKnown.{ScanKnownAt}
+use Rattle.congee.specs.protocol.ScanSteps.{whole, is_outside, last_of, NextScan, anew, left_to, entered, begins, IsFollowed, ScanSteppedAt}
+use Rattle.congee.specs.protocol.Steps.{shrinks, lesser_form, both, last_out, after_top, after_retire, after_unwind, given_up, again, refused, asking, CopyFailed as UncopiedNext, adds, asks_new, absent_reply, form_above, greater, after_version, after_read, down, started, ready, plan_here, unless_full, absent, IsAsked, replaced, taken_out, is_same, IsAtOld, IsAdded, IsExchanged, IsPresent, IsChecked, after_miss, IsGiven, IsGivenNew, MadeLeaf, MadeGreater, MadeTop, MadeBeside, MadeLesser, UpgradedOne, UpgradedTop, UpgradedAbove, UpgradedBelow, after_change, outcome_of, PhaseStepped}
+use Rattle.congee.proofs.lemmas.Fits.{equal_of_test}
 use Rattle.congee.proofs.lemmas.Graft.{on_test}
 use Rattle.congee.proofs.lemmas.protocol.Touch.{by_test}
 
@@ -114,11 +114,11 @@ module _ (C V : Type 0) (Q : Refusal → Type 0) where
   downs true s None c = runs
   downs true s (Some p) c = runs
 
-  reads : (root : C) (above : Option (Over C)) (seat : Stamp C) (r : Reading C V) → Only (after_read root above seat r)
-  reads root None seat (Differs common byte) = runs
-  reads root (Some p) seat (Differs common byte) = runs
-  reads root above seat (Fits depth form s) = runs
-  reads root above seat Uncopied = runs
+  reads : (root : C) (above : Option (Over C)) (stamp : Stamp C) (r : Reading C V) → Only (after_read root above stamp r)
+  reads root None stamp (Differs common byte) = runs
+  reads root (Some p) stamp (Differs common byte) = runs
+  reads root above stamp (Fits depth form s) = runs
+  reads root above stamp Uncopied = runs
 
   versions : (root : C) (above : Option (Over C)) (n : C) (o : Option ℕ) → Only (after_version root above n o)
   versions root above n None = runs
@@ -127,8 +127,8 @@ module _ (C V : Type 0) (Q : Refusal → Type 0) where
   if_taken : (taken : Bool) (root : C) (T : Type 0) (t : NextPhase C V) → (taken ≡ true → T) × (taken ≡ false → t ≡ again root) → (T → Only t) → Only t
   if_taken taken root T t x f = on_test taken (λ p. f (x.0 p)) (λ p. to _ t (x.1 p) runs)
 
-  misses : (kind : Kind V) (p : Parent C) (seat : Stamp C) (common byte : ℕ) → Only (after_miss kind p seat common byte)
-  misses kind p seat common byte = by_test (λ (z : NextPhase C V). Only z) (adds kind) _ _ (λ _. runs) (λ _. answers (absent_reply kind))
+  misses : (kind : Kind V) (p : Parent C) (stamp : Stamp C) (common byte : ℕ) → Only (after_miss kind p stamp common byte)
+  misses kind p stamp common byte = by_test (λ (z : NextPhase C V). Only z) (adds kind) _ _ (λ _. runs) (λ _. answers (absent_reply kind))
 
   tops : (two : Two C) (r : Reply V) (top : Option (Parent C)) → Only (after_top two r top)
   tops two r None = runs
@@ -150,7 +150,7 @@ module _ (C V : Type 0) (Q : Refusal → Type 0) where
 
   -- where copies may fail, Q has their refusal
   module _ (always : Bool) (count : always ≡ false → Q refusal.Count) where
-    uncounted : (x t : NextPhase C V) → (t ≡ x) ⊎ Uncopied_turn always t → Only x → Only t
+    uncounted : (x t : NextPhase C V) → (t ≡ x) ⊎ UncopiedNext always t → Only x → Only t
     uncounted x t (inl p) f = to x t p f
     uncounted x t (inr p) f = to (refused refusal.Count) t p.1 (stops refusal.Count (count p.0))
 
@@ -199,7 +199,7 @@ module _ (C V : Type 0) (Q : Refusal → Type 0) where
 
 -- an upgrade is refused at the limit alone
 last_version : {V : Type 0} (most : ℕ) (n : Node V) (v : ℕ) (fail : Bool) → Exhausted ≡ upgrade_gives most n v fail → v ≡ most
-last_version most n v fail e = equal v most (by_limit (v == most) _ (λ b. by_word b) e) where
+last_version most n v fail e = equal_of_test v most (by_limit (v == most) _ (λ b. by_word b) e) where
   by_word : (b : Bool) → Exhausted ≡ cond b Locked Failed → ⊥
   by_word true x = absurd cc
   by_word false x = absurd cc
@@ -209,49 +209,49 @@ last_version most n v fail e = equal v most (by_limit (v == most) _ (λ b. by_wo
   by_limit false c f x = absurd (f c x)
 
 -- a scan is refused where a value could not be copied
-module _ {C V : Type 0} (number : C → ℕ) (always : Bool) (root : C) (s : Scan C V) where
-  abbrev Told_only : Swung C V → Type 0
-  Told_only u = (e : Refusal) → u.1 ≡ told.Refused e → Uncounted always e
+module _ {C V : Type 0} (number : C → ℕ) (always : Bool) (root : C) (s : ScanState C V) where
+  abbrev Told_only : NextScan C V → Type 0
+  Told_only u = (e : Refusal) → u.1 ≡ scan_report.Refused e → Uncounted always e
 
-  told_to : (x y : Swung C V) → y ≡ x → Told_only x → Told_only y
-  told_to x y p f = subst (λ (z : Swung C V). Told_only z) (sym p) f
+  told_to : (x y : NextScan C V) → y ≡ x → Told_only x → Told_only y
+  told_to x y p f = subst (λ (z : NextScan C V). Told_only z) (sym p) f
 
-  told_runs : (e : Refusal) → ◌≡◌ {A = ScanReport V} told.Running (told.Refused e) → Uncounted always e
-  told_runs e p = let z : ◌≡◌ {A = ScanReport V} told.Running (told.Refused e) = p in absurd cc
+  told_runs : (e : Refusal) → ◌≡◌ {A = ScanReport V} scan_report.Running (scan_report.Refused e) → Uncounted always e
+  told_runs e p = let z : ◌≡◌ {A = ScanReport V} scan_report.Running (scan_report.Refused e) = p in absurd cc
 
-  told_done : (n : ℕ) (e : Refusal) → ◌≡◌ {A = ScanReport V} (told.Done n) (told.Refused e) → Uncounted always e
-  told_done n e p = let z : ◌≡◌ {A = ScanReport V} (told.Done n) (told.Refused e) = p in absurd cc
+  told_done : (n : ℕ) (e : Refusal) → ◌≡◌ {A = ScanReport V} (scan_report.Done n) (scan_report.Refused e) → Uncounted always e
+  told_done n e p = let z : ◌≡◌ {A = ScanReport V} (scan_report.Done n) (scan_report.Refused e) = p in absurd cc
 
-  told_left : (y : Scan C V) (o : Option (Rung C)) → Told_only (left_to y o)
+  told_left : (y : ScanState C V) (o : Option (Rung C)) → Told_only (left_to y o)
   told_left y None = told_done _
   told_left y (Some r) = told_runs
 
-  told_entered : (y : Scan C V) (n : C) (x : Region) (o : Option ℕ) → Told_only (entered root y n x o)
+  told_entered : (y : ScanState C V) (n : C) (x : Region) (o : Option ℕ) → Told_only (entered root y n x o)
   told_entered y n x None = told_runs
-  told_entered y n x (Some v) = by_test (λ (z : Swung C V). Told_only z) (is_outside y.start y.last x) _ _ (λ _. told_left y (last_of y.above)) (λ _. told_runs)
+  told_entered y n x (Some v) = by_test (λ (z : NextScan C V). Told_only z) (is_outside y.start y.last x) _ _ (λ _. told_left y (last_of y.above)) (λ _. told_runs)
 
   told_begun : (o : Option ℕ) → Told_only (begins root s o)
-  told_begun o = by_test (λ (z : Swung C V). Told_only z) (s.size == 0) _ _ (λ _. told_done _) (λ _. told_entered (anew root s).0 root whole o)
+  told_begun o = by_test (λ (z : NextScan C V). Told_only z) (s.size == 0) _ _ (λ _. told_done _) (λ _. told_entered (anew root s).0 root whole o)
 
-  told_followed : (h : ℕ → Node V) (r : Rung C) (x : Least C V) (u : Swung C V) → IsAny always x → IsFollowed number h s r x u → Told_only u
+  told_followed : (h : ℕ → Node V) (r : Rung C) (x : Least C V) (u : NextScan C V) → IsAny always x → IsFollowed number h s r x u → Told_only u
   told_followed h r least.Nothing u a p = told_to _ u p (told_left s (last_of s.above))
   told_followed h r (least.Node byte c) u a p = told_to _ u p.2 told_runs
-  told_followed h r (least.Value byte v) u a p = told_to _ u p (λ e q. let z : ◌≡◌ {A = ScanReport V} (told.Found s.count _ v) (told.Refused e) = q in absurd cc)
-  told_followed h r least.Uncopied u a p = told_to _ u p (λ e q. let z : ◌≡◌ {A = ScanReport V} (told.Refused refusal.Count) (told.Refused e) = q in record { count = let y : refusal.Count ≡ e = cc in sym y; may_fail = a })
+  told_followed h r (least.Value byte v) u a p = told_to _ u p (λ e q. let z : ◌≡◌ {A = ScanReport V} (scan_report.Found s.count _ v) (scan_report.Refused e) = q in absurd cc)
+  told_followed h r least.Uncopied u a p = told_to _ u p (λ e q. let z : ◌≡◌ {A = ScanReport V} (scan_report.Refused refusal.Count) (scan_report.Refused e) = q in record { count = let y : refusal.Count ≡ e = cc in sym y; may_fail = a })
 
-  told_swept : (a : ℕ → Note) (h : ℕ → Node V) (x : Stage C V) (u : Swung C V) → SweepKnownAt number always a h s x → SweptAt number always root s x h u → Told_only u
-  told_swept a h stage.New u k p = told_to _ u p (told_begun _)
-  told_swept a h (stage.Enter n x) u k p = told_to _ u p (told_entered s n x _)
-  told_swept a h (stage.Look r) u k p = told_to _ u p.2 told_runs
-  told_swept a h (stage.Check r x) u k p = on_test (is_taken (h (number r.at.node)) r.at.version) (λ t. told_followed h r x u k.2 (p.goes_on t)) (λ t. told_to _ u (p.goes_back t) told_runs)
-  told_swept a h stage.Full u k p = told_to _ u p (told_done _)
-  told_swept a h stage.Over u k p = told_to _ u p told_runs
+  told_after_scan : (a : ℕ → Note) (h : ℕ → Node V) (x : Stage C V) (u : NextScan C V) → ScanKnownAt number always a h s x → ScanSteppedAt number always root s x h u → Told_only u
+  told_after_scan a h stage.New u k p = told_to _ u p (told_begun _)
+  told_after_scan a h (stage.Enter n x) u k p = told_to _ u p (told_entered s n x _)
+  told_after_scan a h (stage.Look r) u k p = told_to _ u p.2 told_runs
+  told_after_scan a h (stage.Check r x) u k p = on_test (is_taken (h (number r.at.node)) r.at.version) (λ t. told_followed h r x u k.2 (p.goes_on t)) (λ t. told_to _ u (p.goes_back t) told_runs)
+  told_after_scan a h stage.Full u k p = told_to _ u p (told_done _)
+  told_after_scan a h stage.Over u k p = told_to _ u p told_runs
 
-  told_cause : (o : ScanReport V) → ((e : Refusal) → o ≡ told.Refused e → Uncounted always e) → (e : Refusal) → outcome_of o ≡ Refused e → Uncounted always e
-  told_cause told.Running f e p = let z : ◌≡◌ {A = Outcome V} Running (Refused e) = p in absurd cc
-  told_cause (told.Found place key v) f e p = let z : ◌≡◌ {A = Outcome V} (Found place key v) (Refused e) = p in absurd cc
-  told_cause (told.Done n) f e p = let z : ◌≡◌ {A = Outcome V} (Scanned n) (Refused e) = p in absurd cc
-  told_cause (told.Refused r) f e p = let z : ◌≡◌ {A = Outcome V} (Refused r) (Refused e) = p in let y : r ≡ e = cc in subst (Uncounted always) y (f r refl)
+  told_cause : (o : ScanReport V) → ((e : Refusal) → o ≡ scan_report.Refused e → Uncounted always e) → (e : Refusal) → outcome_of o ≡ Refused e → Uncounted always e
+  told_cause scan_report.Running f e p = let z : ◌≡◌ {A = Outcome V} Running (Refused e) = p in absurd cc
+  told_cause (scan_report.Found place key v) f e p = let z : ◌≡◌ {A = Outcome V} (Found place key v) (Refused e) = p in absurd cc
+  told_cause (scan_report.Done n) f e p = let z : ◌≡◌ {A = Outcome V} (Scanned n) (Refused e) = p in absurd cc
+  told_cause (scan_report.Refused r) f e p = let z : ◌≡◌ {A = Outcome V} (Refused r) (Refused e) = p in let y : r ≡ e = cc in subst (Uncounted always) y (f r refl)
 
 module _ {C V : Type 0} (number : C → ℕ) (same : V → V → Bool) (always : Bool) (most : ℕ) (why : NodeType → Refusal → Type 0) (i : ℕ) (a : ℕ → Note) (h h' : ℕ → Node V) (k : ℕ) (key : List ℕ) (root : C) (kind : Kind V) (fail : Bool) (answer : Option (Option V)) where
   abbrev By : Phase C V → Refusal → Type 0
@@ -293,23 +293,23 @@ module _ {C V : Type 0} (number : C → ℕ) (same : V → V → Bool) (always :
   one_upgraded one r Failed t q g = to C V _ _ t g.1 (runs C V _)
   one_upgraded one r Exhausted t q g = to C V _ _ t g.1 (stops C V _ refusal.Exhausted (none_left (h (number one.at.node)) one.at.version q))
 
-  above_upgraded : (two : Two C) (r : Reply V) (u : Upgrade) (t : NextPhase C V) → u ≡ upgrade_gives most (h (number two.above.seat.node)) two.above.seat.version fail → UpgradedAbove number root two r h u h' t → Only C V (NoneLeft most two.above.seat.version) t
+  above_upgraded : (two : Two C) (r : Reply V) (u : Upgrade) (t : NextPhase C V) → u ≡ upgrade_gives most (h (number two.above.stamp.node)) two.above.stamp.version fail → UpgradedAbove number root two r h u h' t → Only C V (NoneLeft most two.above.stamp.version) t
   above_upgraded two r Locked t q g = to C V _ _ t g.1 (runs C V _)
   above_upgraded two r Failed t q g = to C V _ _ t g.1 (gives_up two.top)
     where
-      gives_up : (top : Option (Parent C)) → Only C V (NoneLeft most two.above.seat.version) (given_up root top None)
+      gives_up : (top : Option (Parent C)) → Only C V (NoneLeft most two.above.stamp.version) (given_up root top None)
       gives_up None = runs C V _
       gives_up (Some top) = runs C V _
   above_upgraded two r Exhausted t q g = to C V _ _ t g.1 (gives_up two.top)
     where
-      gives_up : (top : Option (Parent C)) → Only C V (NoneLeft most two.above.seat.version) (given_up root top (Some refusal.Exhausted))
-      gives_up None = stops C V _ refusal.Exhausted (none_left (h (number two.above.seat.node)) two.above.seat.version q)
+      gives_up : (top : Option (Parent C)) → Only C V (NoneLeft most two.above.stamp.version) (given_up root top (Some refusal.Exhausted))
+      gives_up None = stops C V _ refusal.Exhausted (none_left (h (number two.above.stamp.node)) two.above.stamp.version q)
       gives_up (Some top) = runs C V _
 
-  top_upgraded : (top : Parent C) (two : Two C) (r : Reply V) (u : Upgrade) (t : NextPhase C V) → u ≡ upgrade_gives most (h (number top.seat.node)) top.seat.version fail → UpgradedTop number root top two r h u h' t → Only C V (NoneLeft most top.seat.version) t
+  top_upgraded : (top : Parent C) (two : Two C) (r : Reply V) (u : Upgrade) (t : NextPhase C V) → u ≡ upgrade_gives most (h (number top.stamp.node)) top.stamp.version fail → UpgradedTop number root top two r h u h' t → Only C V (NoneLeft most top.stamp.version) t
   top_upgraded top two r Locked t q g = to C V _ _ t g.1 (runs C V _)
   top_upgraded top two r Failed t q g = to C V _ _ t g.1 (runs C V _)
-  top_upgraded top two r Exhausted t q g = to C V _ _ t g.1 (stops C V _ refusal.Exhausted (none_left (h (number top.seat.node)) top.seat.version q))
+  top_upgraded top two r Exhausted t q g = to C V _ _ t g.1 (stops C V _ refusal.Exhausted (none_left (h (number top.stamp.node)) top.stamp.version q))
 
   both_upgraded : (two : Two C) (r : Reply V) (u : Upgrade) (t : NextPhase C V) → UpgradedBelow number two r h u h' t → Only C V (λ _. ⊥) t
   both_upgraded two r Locked t g = to C V _ _ t g.1 (runs C V _)
@@ -347,13 +347,14 @@ module _ {C V : Type 0} (number : C → ℕ) (same : V → V → Bool) (always :
   only new (Retire n next p r) new' t x g = to C V _ _ t g.2 (hands_on C V _ next p r)
   only new (Unlock n r) new' t x g = to C V _ _ t g.2 (answers C V _ r)
   only new (Unwind n next e) new' t x g = unwinds next e t x.3 g.2
-  only new (Sweep s) new' t x g = λ e p. told_cause number always root s g.2.1 (told_swept number always root s a h s.stage (g.2.0, g.2.1) x g.2.2) e (sym (ap (λ (u : NextPhase C V). u.report.outcome) g.2.3) ∙ p)
+  only new (Scan s) new' t x g = λ e p. told_cause number always root s g.2.1 (told_after_scan number always root s a h s.stage (g.2.0, g.2.1) x g.2.2) e (sym (ap (λ (u : NextPhase C V). u.report.outcome) g.2.3) ∙ p)
   only new _ new' t x g = to C V _ _ t g.2 (runs C V _)
 
   by_outcome : (s : Phase C V) (o : Outcome V) → ((e : Refusal) → o ≡ Refused e → By s e) → IsCause why most always s o
   by_outcome s (Refused e) f = f e refl
   by_outcome s _ f = tt
 
+  -- a step that is refused has its cause
   pub caused : (new : Option V) (s : Phase C V) (new' : Option V) (t : NextPhase C V) → Known number same always i a h k key kind new s → PhaseStepped number same always most why root key kind fail answer new s h new' t h' → IsCause why most always s t.report.outcome
   caused new s new' t x g = by_outcome s t.report.outcome (only new s new' t x g)
 
@@ -383,6 +384,7 @@ module _ {C V : Type 0} (number : C → ℕ) (same : V → V → Bool) (always :
   is_weaker s (Refused e) f x = cause_weaker s e f x
   is_weaker s _ f x = tt
 
+  -- a step on a store that refuses nodes for some reasons is one on a store that may do so for more
   pub next_weaker : (h : ℕ → Node V) (ms : List (Machine C V)) (o : Option (Machine C V)) (s : Step C V) (d : Move V) (h' : ℕ → Node V) (ms' : List (Machine C V)) → ((form : NodeType) (e : Refusal) → near form e → far form e)
       → NextAt number same always most near h ms o s d h' ms' → NextAt number same always most far h ms o s d h' ms'
   next_weaker h ms None s d h' ms' f g = g

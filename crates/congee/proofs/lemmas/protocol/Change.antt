@@ -7,10 +7,10 @@ use Rattle.congee.specs.protocol.Steps.{value_hung}
 use Rattle.congee.specs.Notes.{Note, Unmade, Held, Linked, Gone, is_published, BeginsKey, IsChild, HasParent, Tree, LockWords}
 use Rattle.congee.specs.protocol.Protocol.{Made, Holding, TakenOut, IsValue, value_in, Effect}
 use Rattle.congee.proofs.lemmas.Fits.{same_key}
-use Rattle.congee.proofs.lemmas.Tree.{same_or_not, finds, aside}
+use Rattle.congee.proofs.lemmas.Tree.{same_or_not, value_at_linked, walk_aside}
 use Rattle.congee.proofs.lemmas.Link.{Leaf, Links, link_tree, link_map}
 use Rattle.congee.proofs.lemmas.Unlink.{Unlinks, unlink_tree, unlink_map}
-use Rattle.congee.proofs.lemmas.protocol.Touch.{fares_free, fares_mine, noted, noted_same, noted_other, Touched, as_it_was, under_lock, out_of_reach, effect, not_taken, locked_not_free, owner_locked, but_one, touch_one}
+use Rattle.congee.proofs.lemmas.protocol.Touch.{fares_free, fares_mine, noted, noted_same, noted_other, Touched, as_it_was, under_lock, out_of_reach, touched_effect, not_taken, locked_not_free, owner_locked, but_one, touch_one}
 
 -- a change of the map at one key
 pub record Changed {V : Type 0} (i : ℕ) (a : ℕ → Note) (h : ℕ → Node V) (key : List ℕ) (found : Option V) (given : Option V) (a' : ℕ → Note) (h' : ℕ → Node V) : Type 0 where
@@ -51,11 +51,11 @@ under_touch i a h a' h' n w u =
     })
     (fares_mine i (a n) (a' n) (h n) (h' n) u.owner u.owner_after u.published_after u.retired)
 
--- a node whose children a change touched
-pub under_change : {V : Type 0} (i : ℕ) (a : ℕ → Note) (h : ℕ → Node V) (a' : ℕ → Note) (h1 h' : ℕ → Node V) (n b : ℕ) (x : Hung V) → Holding i a n → a' n ≡ a n → h1 n ≡ h n → ChangeGives h1 n b x h' → StaysLocked i a h a' h' n
-under_change i a h a' h1 h' n b x o e f k = record {
+-- the node above, locked before and after, with one of its children changed
+pub under_above : {V : Type 0} (i : ℕ) (a : ℕ → Note) (h : ℕ → Node V) (a' : ℕ → Note) (g h' : ℕ → Node V) (n b : ℕ) (x : Hung V) → Holding i a n → (a' n).status ≡ (a n).status → (a' n).owner ≡ (a n).owner → g n ≡ h n → ChangeGives g n b x h' → StaysLocked i a h a' h' n
+under_above i a h a' g h' n b x o e eo f k = record {
   owner = o.owner;
-  owner_after = rw e o.owner;
+  owner_after = eo ∙ o.owner;
   published = ap is_published o.linked;
   published_after = rw e (ap is_published o.linked);
   linked = λ _. o.linked;
@@ -67,6 +67,10 @@ under_change i a h a' h1 h' n b x o e f k = record {
   retired = k.retired ∙ ap (λ z. z.retired) f;
   obsolete = k.obsolete ∙ ap (λ z. z.obsolete) f;
 }
+
+-- a node whose children a change touched
+pub under_change : {V : Type 0} (i : ℕ) (a : ℕ → Note) (h : ℕ → Node V) (a' : ℕ → Note) (h1 h' : ℕ → Node V) (n b : ℕ) (x : Hung V) → Holding i a n → a' n ≡ a n → h1 n ≡ h n → ChangeGives h1 n b x h' → StaysLocked i a h a' h' n
+under_change i a h a' h1 h' n b x o e f k = under_above i a h a' h1 h' n b x o (ap (λ z. z.status) e) (ap (λ z. z.owner) e) f k
 
 -- a made node that comes into the tree
 pub record Live {V : Type 0} (n : Node V) : Type 0 where
@@ -103,23 +107,6 @@ live_made i a h key c size least m = record { made = m.made; kept = m.kept; unre
 -- so it can after one of its children changed
 pub live_changed : {V : Type 0} (h : ℕ → Node V) (c b : ℕ) (x : Hung V) (h' : ℕ → Node V) → ChangeGives h c b x h' → Live (h c) → Live (h' c)
 live_changed h c b x h' k l = record { made = k.made ∙ l.made; kept = k.destroyed ∙ l.kept; unretired = k.retired ∙ l.unretired; unlocked = k.locked ∙ l.unlocked; live = k.obsolete ∙ l.live; keyed = rw k.prefix l.keyed }
-
--- the node above, locked before and after, with one of its children changed
-pub under_above : {V : Type 0} (i : ℕ) (a : ℕ → Note) (h : ℕ → Node V) (a' : ℕ → Note) (g h' : ℕ → Node V) (n b : ℕ) (x : Hung V) → Holding i a n → (a' n).status ≡ (a n).status → (a' n).owner ≡ (a n).owner → g n ≡ h n → ChangeGives g n b x h' → StaysLocked i a h a' h' n
-under_above i a h a' g h' n b x o e eo f k = record {
-  owner = o.owner;
-  owner_after = eo ∙ o.owner;
-  published = ap is_published o.linked;
-  published_after = rw e (ap is_published o.linked);
-  linked = λ _. o.linked;
-  prefix = k.prefix ∙ ap (λ z. z.prefix) f;
-  version = k.version ∙ ap (λ z. z.version) f;
-  locked = k.locked ∙ ap (λ z. z.locked) f;
-  made = k.made ∙ ap (λ z. z.made) f;
-  destroyed = k.destroyed ∙ ap (λ z. z.destroyed) f;
-  retired = k.retired ∙ ap (λ z. z.retired) f;
-  obsolete = k.obsolete ∙ ap (λ z. z.obsolete) f;
-}
 
 -- the old node, whose values may have been moved
 pub under_taken : {V : Type 0} (i : ℕ) (a : ℕ → Note) (h : ℕ → Node V) (a' : ℕ → Note) (g g1 h' : ℕ → Node V) (m c : ℕ) → (a m).owner ≡ Some i → (a m).status ≡ Linked → is_published (a' m).status ≡ true → (a' m).owner ≡ Some i
@@ -247,11 +234,11 @@ set_changed i a h key n b x given h' len t w o fit seven eb ex vx k =
     let pr : (m : ℕ) → (h' m).prefix ≡ (h m).prefix = but_one (λ y z. y.prefix ≡ z.prefix) h h' n (λ y. refl) k.others k.prefix in
     let there : child_for (h' n) key ≡ value_hung given = rw (pr n) (rw (← eb) k.child) in
     record {
-      effect = effect i a h a h' w t' (but_one (λ y z. y.capacity ≡ z.capacity) h h' n (λ y. refl) k.others k.capacity 0)
+      effect = touched_effect i a h a h' w t' (but_one (λ y z. y.capacity ≡ z.capacity) h h' n (λ y. refl) k.others k.capacity 0)
           (touch_one i a h a h' n k.others (λ m _. refl) (under_touch i a h a h' n w (under_change i a h a h h' n b (value_hung given) o refl refl k)));
-      before = finds a h t n key x o.linked fit ex ∙ found_is _ x vx;
-      after = finds a h' t' n key (value_hung given) o.linked (rw (pr n) fit) there ∙ given_is _ given;
-      rest = λ y ly ny. aside a h h' n b t (record { prefix = λ m _. pr m; others = λ m c _ ne. ap (λ z. z.children c) (k.others m ne); beside = k.beside }) 8 0 y t.root
+      before = value_at_linked a h t n key x o.linked fit ex ∙ found_is _ x vx;
+      after = value_at_linked a h' t' n key (value_hung given) o.linked (rw (pr n) fit) there ∙ given_is _ given;
+      rest = λ y ly ny. walk_aside a h h' n b t (record { prefix = λ m _. pr m; others = λ m c _ ne. ap (λ z. z.children c) (k.others m ne); beside = k.beside }) 8 0 y t.root
           (λ fy by. ny (same_key (h n).prefix y key fy fit (omega arith) (omega arith) (by ∙ eb)));
     }
 
@@ -294,7 +281,7 @@ link_changed i a h key n b c v h1 h' len t w o fit inner eb none m f k =
     ] in
     let root : 0 ≢ c = (λ e. let z : (a c).status ≡ Linked = (let P : ℕ → Type 0 = λ y. (a y).status ≡ Linked in subst P e t.root) in let z' : (a c).status ≡ Held i = m.held in cc) in
     record {
-      effect = effect i a h _ h' w (link_tree a h _ h' n c key v t links)
+      effect = touched_effect i a h _ h' w (link_tree a h _ h' n c key v t links)
           (but_one (λ y z. y.capacity ≡ z.capacity) h1 h' n (λ y. refl) k.others k.capacity 0 ∙ ap (λ z. z.capacity) (f.others 0 root)) touch;
       before = map.0;
       after = map.1;
@@ -353,7 +340,7 @@ unlink_changed i a h key p b m v h' len t w o fit eb hung om leaf k =
       ]
     ] in (
       record {
-        effect = effect i a h _ h' w (unlink_tree a h _ h' p m key v t u) (but_one (λ y z. y.capacity ≡ z.capacity) h h' p (λ y. refl) k.others k.capacity 0) touch;
+        effect = touched_effect i a h _ h' w (unlink_tree a h _ h' p m key v t u) (but_one (λ y z. y.capacity ≡ z.capacity) h h' p (λ y. refl) k.others k.capacity 0) touch;
         before = map.0;
         after = map.1;
         rest = map.2;

@@ -20,10 +20,10 @@ use Rattle.congee.specs.Notes.{Note, Status, Unmade, Held, Linked, Gone, Destroy
 use Rattle.congee.specs.protocol.Protocol.{Rely}
 use Rattle.congee.specs.protocol.Answers.{SameMap}
 use Rattle.congee.specs.protocol.Holdings.{IsTop, LockedBy, MadeForOne, MadeForTwo, MadeForPlan, IsMade, MadeBy, Holdings}
-use Rattle.congee.specs.protocol.Names.{name_above, name_seated, name_made, names_for_one, names_for_two, names_site, names_one, names_two, names_plan, names}
+use Rattle.congee.specs.protocol.Names.{name_above, name_stamped, name_made, names_for_one, names_for_two, names_site, names_one, names_two, names_plan, names}
 use Rattle.congee.specs.protocol.Play.{EachKnown, ProtocolAt, Settled}
 use Rattle.congee.specs.protocol.Destroys.{Lost, Destroys, Spares}
-use Rattle.congee.proofs.lemmas.protocol.Each.{Each, left, right}
+use Rattle.congee.proofs.lemmas.protocol.Each.{Each, each_left, each_right}
 use Rattle.congee.proofs.lemmas.Tree.{step_same}
 use Rattle.congee.proofs.lemmas.protocol.Rely.{known_kept}
 
@@ -49,21 +49,21 @@ module _ {C : Type 0} (number : C → ℕ) (K : ℕ → Type 0) (n : ℕ) where
 
   -- what a change of two nodes names behind the two
   made_for_two : (two : Two C) → Each K (names_two number two) → MadeForTwo number two.change n → K n
-  made_for_two two e x = two_named two.change (right K (name_above number two.top) (names_for_two number two.change) e.1.1) x
+  made_for_two two e x = two_named two.change (each_right K (name_above number two.top) (names_for_two number two.change) e.1.1) x
 
   above_named : (top : Option (Parent C)) → Each K (name_above number top) → IsTop number top n → K n
   above_named None e x = absurd x
-  above_named (Some p) e x = at_name p.seat.node x e.0
+  above_named (Some p) e x = at_name p.stamp.node x e.0
 
   top_named : (two : Two C) → Each K (names_two number two) → IsTop number two.top n → K n
-  top_named two e x = above_named two.top (left K (name_above number two.top) (names_for_two number two.change) e.1.1) x
+  top_named two e x = above_named two.top (each_left K (name_above number two.top) (names_for_two number two.change) e.1.1) x
 
   next_named : (next : Option C) → Each K (name_made number next) → IsMade number next n → K n
   next_named None e x = absurd x
   next_named (Some c) e x = at_name c x e.0
 
   plan_named : (plan : Plan C) → Each K (names_plan number plan) → MadeForPlan number plan n → K n
-  plan_named (Here check one) e x = one_named one.change (right K (name_seated number check) (names_one number one) e).1 x
+  plan_named (Here check one) e x = one_named one.change (each_right K (name_stamped number check) (names_one number one) e).1 x
   plan_named (Above two) e x = made_for_two two e x
 
   leaf_named : (leaf : Option C) (s : Site C) → Each K (name_made number leaf) → IsMade number leaf n → K n
@@ -71,8 +71,8 @@ module _ {C : Type 0} (number : C → ℕ) (K : ℕ → Type 0) (n : ℕ) where
   leaf_named (Some leaf) s e x = at_name leaf x e.0
 
   module _ {V : Type 0} where
-    pub made_named : (s : Phase C V) → Each K (names number s) → MadeBy number s n → K n
-    made_named (MakeGreater s p leaf) e x = leaf_named leaf s (left K (name_made number leaf) (names_site number s) e.1) x
+    made_named : (s : Phase C V) → Each K (names number s) → MadeBy number s n → K n
+    made_named (MakeGreater s p leaf) e x = leaf_named leaf s (each_left K (name_made number leaf) (names_site number s) e.1) x
     made_named (MakeBeside p at common byte top) e x = at_name top x e.1.1.0
     made_named (AskNew plan) e x = plan_named plan e x
     made_named (CheckAbove p one r) e x = one_named one.change e.1.1 x
@@ -84,12 +84,12 @@ module _ {C : Type 0} (number : C → ℕ) (K : ℕ → Type 0) (n : ℕ) where
     made_named (ChangeTwo two r) e x = made_for_two two e x
     made_named _ e x = absurd x
 
-    pub locked_named : (s : Phase C V) → Each K (names number s) → LockedBy number s n → K n
+    locked_named : (s : Phase C V) → Each K (names number s) → LockedBy number s n → K n
     locked_named (ChangeOne one r) e x = at_name one.at.node x e.0
     locked_named (UpgradeAbove two r) e x = top_named two e x
-    locked_named (UpgradeBelow two r) e (inl x) = at_name two.above.seat.node x e.0
+    locked_named (UpgradeBelow two r) e (inl x) = at_name two.above.stamp.node x e.0
     locked_named (UpgradeBelow two r) e (inr x) = top_named two e x
-    locked_named (ChangeTwo two r) e (inl (inl x)) = at_name two.above.seat.node x e.0
+    locked_named (ChangeTwo two r) e (inl (inl x)) = at_name two.above.stamp.node x e.0
     locked_named (ChangeTwo two r) e (inl (inr x)) = at_name two.at.node x e.1.0
     locked_named (ChangeTwo two r) e (inr x) = top_named two e x
     locked_named (Obsolete m next p r) e (inl (inl x)) = at_name p x e.1.0
@@ -278,11 +278,14 @@ spared_notes number a h ms h' d n = note_after (a n) (h n) (h' n) (d.each n)
 
 module _ {C V : Type 0} (number : C → ℕ) (same : V → V → Bool) (always : Bool) (a : ℕ → Note) (h : ℕ → Node V) (ms : List (Machine C V)) (h' : ℕ → Node V)
     (p : ProtocolAt number same always a h ms) (s : Holdings number a h ms) (d : Destroys number h ms h') where
+  -- over the destruction a call may count on each node that is as it was
   pub spared_rely : (i : ℕ) → Rely (λ n. h' n ≡ h n) i a h (spared_notes number a h ms h' d) h'
   spared_rely i = rely number same always a h ms (spared_notes number a h ms h' d) h' p s d (λ n. fate_after (a n) (h n) (h' n) (d.each n)) i
 
+  -- each node that a call names is as it was
   pub spared_named : (i : ℕ) (m : Machine C V) → slice_get ms i ≡ Some m → Each (λ n. h' n ≡ h n) (names number m.phase)
   spared_named i m e = named number same always a h ms (spared_notes number a h ms h' d) h' p s d (λ n. fate_after (a n) (h n) (h' n) (d.each n)) i m e
 
+  -- each node of the tree is as it was
   pub spared_linked : (n : ℕ) → (a n).status ≡ Linked → h' n ≡ h n
   spared_linked n l = (linked_stays number same always a h ms (spared_notes number a h ms h' d) h' p s d (λ n. fate_after (a n) (h n) (h' n) (d.each n)) n l).0

@@ -11,7 +11,7 @@ use Rattle.congee.proofs.lemmas.Tree.{same_or_not}
 use Rattle.congee.proofs.lemmas.protocol.Unlinking.{linked_in}
 
 -- forms by their places
-pub least_same : (x y : NodeType) → places x ≡ places y → least_in x ≡ least_in y
+least_same : (x y : NodeType) → places x ≡ places y → least_in x ≡ least_in y
 least_same N4 N4 e = refl
 least_same N4 N16 e = absurd (omega (arith, e))
 least_same N4 N48 e = absurd (omega (arith, e))
@@ -61,8 +61,8 @@ pub record Alike {V : Type 0} (n n' : Node V) : Type 0 where
   pub capacity : n'.capacity ≡ n.capacity
 
 -- a node that is as it was has prefix, children and places as they were
-pub alike : {V : Type 0} (n n' : Node V) → n' ≡ n → Alike n n'
-alike n n' e = record { prefix = ap (λ x. x.prefix) e; children = λ b. ap (λ x. x.children b) e; count = ap (λ x. x.count) e; capacity = ap (λ x. x.capacity) e }
+pub alike_same : {V : Type 0} (n n' : Node V) → n' ≡ n → Alike n n'
+alike_same n n' e = record { prefix = ap (λ x. x.prefix) e; children = λ b. ap (λ x. x.children b) e; count = ap (λ x. x.count) e; capacity = ap (λ x. x.capacity) e }
 
 -- a filled node stays so with prefix, children and places as they were
 pub filled_alike : {V : Type 0} (n n' : Node V) → Alike n n' → IsFilled n → IsFilled n'
@@ -144,11 +144,13 @@ abbrev pub Still : {V : Type 0} → (ℕ → Note) → (ℕ → Node V) → (ℕ
 Still a h h' = (n : ℕ) → (a n).status ≡ Linked → Alike (h n) (h' n)
 
 module _ {V : Type 0} (a : ℕ → Note) (h : ℕ → Node V) (t : Tree a h) (f : AllFilled h) where
+  -- where what was in the tree is as it was, all nodes are filled
   pub still_filled : (h' : ℕ → Node V) → Still a h h' → AllFilled h'
   still_filled h' s n ne r =
       let l : (a n).status ≡ Linked = reaches h' (λ m. (a m).status ≡ Linked) (λ m b d u e. (t.down m b d u (sym ((s m u).children b) ∙ e)).linked) r.0 0 n t.root r.1 in
       filled_alike (h n) (h' n) (s n l) (f n ne (linked_in a h n t l))
 
+  -- a node of the tree but the root is filled
   pub was_filled : (n : ℕ) → (a n).status ≡ Linked → n ≢ 0 → IsFilled (h n)
   was_filled n l ne = f n ne (linked_in a h n t l)
 
@@ -161,7 +163,7 @@ module _ {V : Type 0} (a : ℕ → Note) (h : ℕ → Node V) (t : Tree a h) (f 
       ]) r.0 0 m t.root r.1 in
       elim (same_or_not m n) [
         | inl e ↦ (let P : ℕ → Type 0 = λ y. IsFilled (h' y) in let Q : ℕ → Type 0 = λ y. (a y).status ≡ Linked in subst P (sym e) (here (λ z. ne (e ∙ z)) (subst Q e l)))
-        | inr mn ↦ filled_alike (h m) (h' m) (alike (h m) (h' m) (k.others m mn)) (was_filled m l ne)
+        | inr mn ↦ filled_alike (h m) (h' m) (alike_same (h m) (h' m) (k.others m mn)) (was_filled m l ne)
       ]
 
   -- nodes c and e come into the tree, where nothing or a node of the tree hung
@@ -187,6 +189,7 @@ module _ {V : Type 0} (a : ℕ → Note) (h : ℕ → Node V) (t : Tree a h) (f 
     joined_here m ne (inr (inl q)) = let Q : ℕ → Type 0 = λ y. IsFilled (h' y) in subst Q (sym q) new_c
     joined_here m ne (inr (inr q)) = let Q : ℕ → Type 0 = λ y. IsFilled (h' y) in subst Q (sym q) new_e
 
+    -- all nodes are filled after two filled ones came into the tree
     pub joined_filled : AllFilled h'
     joined_filled m ne r = joined_here m ne (reaches h' IsJoined joined_step r.0 0 m (inl t.root) r.1)
 
@@ -233,5 +236,6 @@ module _ {V : Type 0} (a : ℕ → Note) (h : ℕ → Node V) (t : Tree a h) (f 
     replaced_here k ne (inr (inl q)) = let Q : ℕ → Type 0 = λ y. IsFilled (h' y) in subst Q (sym q) new_c
     replaced_here k ne (inr (inr q)) = let Q : ℕ → Type 0 = λ y. IsFilled (h' y) in subst Q (sym q) new_e
 
+    -- all nodes are filled after a filled one came in another's place, with a filled one below it
     pub replaced_filled : AllFilled h'
     replaced_filled k ne r = replaced_here k ne (reaches h' IsReplaced replaced_step r.0 0 k (inl (t.root, root_apart)) r.1)

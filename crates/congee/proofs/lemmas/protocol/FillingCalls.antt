@@ -6,7 +6,7 @@ use Rattle.congee.specs.declared.forms.base_node.NodeType.{NodeType}
 use Rattle.congee.specs.declared.protocol.store.Refusal.{Refusal}
 use Rattle.congee.specs.declared.protocol.phase.Kind.{Kind}
 use Rattle.congee.specs.declared.protocol.phase.Phase.{Phase}
-use Rattle.congee.specs.declared.protocol.phase.Phase.TheVariants.{New, Sweep}
+use Rattle.congee.specs.declared.protocol.phase.Phase.TheVariants.{New, Scan}
 use Rattle.congee.specs.declared.protocol.machine.Machine.{Machine}
 use Rattle.congee.specs.declared.protocol.machine.Move.{Move}
 use Rattle.congee.specs.Heap.{Node, Nothing, Below}
@@ -22,14 +22,14 @@ use Rattle.congee.specs.protocol.Play.{IsBegin, IsNew, IsIdle, ProtocolAt}
 use Rattle.congee.specs.protocol.Steps.{Stepped}
 use Rattle.congee.proofs.lemmas.protocol.Each.{each_any}
 use Rattle.congee.proofs.lemmas.protocol.Owners.{get_set}
-use Rattle.congee.proofs.lemmas.protocol.Filling.{alike, still_filled}
+use Rattle.congee.proofs.lemmas.protocol.Filling.{alike_same, still_filled}
 use Rattle.congee.proofs.lemmas.protocol.FillingSteps.{step_next}
 use Rattle.congee.proofs.lemmas.protocol.FillingKept.{step_filled, fills_kept}
 use Rattle.congee.proofs.lemmas.protocol.Destroys.{spared_named, spared_rely, spared_linked}
 
 begin_fills : {C V : Type 0} (number : C → ℕ) (h : ℕ → Node V) (kind : Kind V) (given : Option V) (s : Phase C V) → IsBegin kind given s → Fills number h given s
 begin_fills number h kind given New b = tt
-begin_fills number h kind given (Sweep s) b = tt
+begin_fills number h kind given (Scan s) b = tt
 begin_fills number h kind given _ b = absurd b
 
 -- a root alone leads to itself
@@ -80,6 +80,6 @@ filled_step {C} {V} number same always most why i a h h' ms m m' d fail answer p
 pub filled_spared : {C V : Type 0} (number : C → ℕ) (same : V → V → Bool) (always : Bool) (a : ℕ → Note) (h h' : ℕ → Node V) (ms : List (Machine C V)) → ProtocolAt number same always a h ms → Holdings number a h ms → Destroys number h ms h'
     → KeepsFilled number h ms → KeepsFilled number h' ms
 filled_spared number same always a h h' ms p s d f = record {
-  tree = still_filled a h p.tree f.tree h' (λ n l. alike (h n) (h' n) (spared_linked number same always a h ms h' p s d n l));
+  tree = still_filled a h p.tree f.tree h' (λ n l. alike_same (h n) (h' n) (spared_linked number same always a h ms h' p s d n l));
   calls = λ i m e. fills_kept number (key_bytes m.key) (λ n. h' n ≡ h n) i a h _ h' (spared_rely number same always a h ms h' p s d i) same always m.key m.kind m.given m.phase (spared_named number same always a h ms h' p s d i m e) (p.each i m e).known (f.calls i m e);
 }

@@ -16,7 +16,7 @@ use Rattle.congee.specs.protocol.Protocol.{Made, MadeOne, Holding, OneLocked, Fi
 use Rattle.congee.specs.protocol.Filled.{FilledAs, IsFilled, AllFilled, FilledWithout, FillsOne, FillsTwo}
 use Rattle.congee.proofs.lemmas.Tree.{same_or_not}
 use Rattle.congee.proofs.lemmas.protocol.Change.{made_apart}
-use Rattle.congee.proofs.lemmas.protocol.Filling.{filled_small, filled_same, filled_more, alike, filled_alike, below_is, not_held, not_nothing, changed_child, taken_child, count_kept, count_less, count_more, count_new, weight_there, was_filled, set_filled, joined_filled, replaced_filled}
+use Rattle.congee.proofs.lemmas.protocol.Filling.{filled_small, filled_same, filled_more, alike_same, filled_alike, below_is, not_held, not_nothing, changed_child, taken_child, count_kept, count_less, count_more, count_new, weight_there, was_filled, set_filled, joined_filled, replaced_filled}
 
 -- a change that adds a value has one
 no_gift : {C V : Type 0} (change : Double C) (found : Option V) → Adding change → FitsTwo change found None → ⊥
@@ -66,7 +66,7 @@ module _ {C V : Type 0} (number : C → ℕ) (i : ℕ) (a : ℕ → Note) (h : �
         | inl e ↦ (let P : ℕ → Type 0 = λ y. IsFilled (h' y) in let Q : ℕ → Type 0 = λ y. y ≢ 0 in subst P (sym e)
             (filled_same (length (h n).prefix) (h' n).count (h n).capacity (length (h' n).prefix) (h' n).count (h' n).capacity (ap length (k2.prefix ∙ ap (λ y. y.prefix) en)) refl (k2.capacity ∙ ap (λ y. y.capacity) en)
             (filled_more (length (h n).prefix) (h n).count (h n).capacity (h' n).count (omega (arith, ap (λ y. y.count) en, count_more h1 n b (Below leaf) h' k2 refl)) (was_filled a h t f n ln (subst Q e nz)))))
-        | inr ne ↦ filled_alike (h x) (h' x) (alike (h x) (h' x) (k2.others x ne ∙ k1.others x (apart x l))) (was_filled a h t f x l nz)
+        | inr ne ↦ filled_alike (h x) (h' x) (alike_same (h x) (h' x) (k2.others x ne ∙ k1.others x (apart x l))) (was_filled a h t f x l nz)
       ])
       (leaf_small el) (leaf_small el)
     where
@@ -83,12 +83,13 @@ module _ {C V : Type 0} (number : C → ℕ) (i : ℕ) (a : ℕ → Note) (h : �
   by_single one x None h' (Link leaf) o eb ex m fit fills g = absurd fit
   by_single one x (Some v) h' (Link leaf) o eb ex m fit fills g = leaf_in (number one.at.node) one.byte (number leaf) (get_or key 7 0) v g.0 h' o.linked m fills g.1 g.2
 
+  -- all nodes are filled after a change of one locked node that leaves it filled
   pub one_filled : (one : One C) (x : Hung V) (given : Option V) (h' : ℕ → Node V) → OneLocked number i a h key one x → FitsOne one.change x given
       → FillsOne number h one.change given (number one.at.node) (h (number one.at.node)) → ChangedOne number key given one one.change h h' → AllFilled h'
   one_filled one x given h' o fit fills g = by_single one x given h' one.change o.holding o.placed.byte o.wanted.child o.made fit fills g
 
   -- a node that hangs in the tree isn't the root
-  pub below_root : (p b m : ℕ) → (a p).status ≡ Linked → (h p).children b ≡ Below m → m ≢ 0
+  below_root : (p b m : ℕ) → (a p).status ≡ Linked → (h p).children b ≡ Below m → m ≢ 0
   below_root p b m l e q = let z : length (h m).prefix ≡ length (h 0).prefix = ap (λ y. length (h y).prefix) q in let y : length (h 0).prefix ≡ 0 = ap length t.empty in absurd (omega (arith, z, y, (t.down p b m l e).longer))
 
   -- the node above keeps as many children
@@ -126,7 +127,7 @@ module _ {C V : Type 0} (number : C → ℕ) (i : ℕ) (a : ℕ → Note) (h : �
       (bare c (length (h m).prefix) q mc) (bare c (length (h m).prefix) q mc)
       (λ x l xm nz. elim (same_or_not x p) [
         | inl e ↦ (let P : ℕ → Type 0 = λ y. IsFilled (h' y) in let Q : ℕ → Type 0 = λ y. y ≢ 0 in subst P (sym e) (above_filled p up c m k.1 h' p2 hung k.4 (was_filled a h t f p lp (subst Q e nz))))
-        | inr xp ↦ filled_alike (h x) (h' x) (alike (h x) (h' x) (k.4.others x xp ∙ (k.3.others x (apart x l) ∙ k.2.others x (apart x l) xm))) (was_filled a h t f x l nz)
+        | inr xp ↦ filled_alike (h x) (h' x) (alike_same (h x) (h' x) (k.4.others x xp ∙ (k.3.others x (apart x l) ∙ k.2.others x (apart x l) xm))) (was_filled a h t f x l nz)
       ])
       new new
 
@@ -156,7 +157,7 @@ module _ {C V : Type 0} (number : C → ℕ) (i : ℕ) (a : ℕ → Note) (h : �
       (bare c (length (h m).prefix) q mc) (bare c (length (h m).prefix) q mc)
       (λ x l xm nz. elim (same_or_not x p) [
         | inl e ↦ (let P : ℕ → Type 0 = λ y. IsFilled (h' y) in let Q : ℕ → Type 0 = λ y. y ≢ 0 in subst P (sym e) (above_filled p up c m h2 h' p2 hung k3 (was_filled a h t f p lp (subst Q e nz))))
-        | inr xp ↦ filled_alike (h x) (h' x) (alike (h x) (h' x) (k3.others x xp ∙ (k2.others x (apart x l) ∙ k1.others x (apart x l) xm))) (was_filled a h t f x l nz)
+        | inr xp ↦ filled_alike (h x) (h' x) (alike_same (h x) (h' x) (k3.others x xp ∙ (k2.others x (apart x l) ∙ k1.others x (apart x l) xm))) (was_filled a h t f x l nz)
       ])
       new new
 
@@ -199,7 +200,7 @@ module _ {C V : Type 0} (number : C → ℕ) (i : ℕ) (a : ℕ → Note) (h : �
       (bare c (length (h m).prefix) q mc) (bare leaf 7 0 ml)
       (λ x l xm nz. elim (same_or_not x p) [
         | inl e ↦ (let P : ℕ → Type 0 = λ y. IsFilled (h' y) in let Q : ℕ → Type 0 = λ y. y ≢ 0 in subst P (sym e) (above_filled p up c m h3 h' p3 hung k4 (was_filled a h t f p lp (subst Q e nz))))
-        | inr xp ↦ filled_alike (h x) (h' x) (alike (h x) (h' x) (k4.others x xp ∙ (k3.others x (apart x l) ∙ (k2.others x (apart x l) xm ∙ k1.others x (apart_leaf x l))))) (was_filled a h t f x l nz)
+        | inr xp ↦ filled_alike (h x) (h' x) (alike_same (h x) (h' x) (k4.others x xp ∙ (k3.others x (apart x l) ∙ (k2.others x (apart x l) xm ∙ k1.others x (apart_leaf x l))))) (was_filled a h t f x l nz)
       ])
       new
       (filled_small (length (h' leaf).prefix) (h' leaf).count (h' leaf).capacity (ap (λ y. y.capacity) el ∙ (k1.capacity ∙ four)) (omega (arith, ap (λ y. y.count) el, one)) (λ l. absurd (omega (arith, l, size))))
@@ -241,63 +242,64 @@ module _ {C V : Type 0} (number : C → ℕ) (i : ℕ) (a : ℕ → Note) (h : �
       (bare top common 1 mt) (bare leaf 7 0 ml)
       (λ x l nz. elim (same_or_not x p) [
         | inl e ↦ (let P : ℕ → Type 0 = λ y. IsFilled (h' y) in let Q : ℕ → Type 0 = λ y. y ≢ 0 in subst P (sym e) (above_filled p up top m h3 h' p3 hung k4 (was_filled a h t f p lp (subst Q e nz))))
-        | inr xp ↦ filled_alike (h x) (h' x) (alike (h x) (h' x) (k4.others x xp ∙ (k3.others x (apart x l) ∙ (k2.others x (apart x l) ∙ k1.others x (apart_leaf x l))))) (was_filled a h t f x l nz)
+        | inr xp ↦ filled_alike (h x) (h' x) (alike_same (h x) (h' x) (k4.others x xp ∙ (k3.others x (apart x l) ∙ (k2.others x (apart x l) ∙ k1.others x (apart_leaf x l))))) (was_filled a h t f x l nz)
       ])
       (filled_small (length (h' top).prefix) (h' top).count (h' top).capacity (ap (λ y. y.capacity) et ∙ (k3.capacity ∙ (k2.capacity ∙ (ap (λ y. y.capacity) t1 ∙ four_top)))) (omega (arith, two)) (λ _. two))
       (filled_small (length (h' leaf).prefix) (h' leaf).count (h' leaf).capacity (ap (λ y. y.capacity) el ∙ (k1.capacity ∙ four)) (omega (arith, ap (λ y. y.count) el, one)) (λ l. absurd (omega (arith, l, size))))
 
   -- the changes of the node above both
-  top_collapsed : (two : Two C) (h' : ℕ → Node V) (top : Option (Parent C)) → TopLocked number i a h key top (number two.above.seat.node) → (a (number two.above.seat.node)).status ≡ Linked → Collapses number two top h h' → AllFilled h'
+  top_collapsed : (two : Two C) (h' : ℕ → Node V) (top : Option (Parent C)) → TopLocked number i a h key top (number two.above.stamp.node) → (a (number two.above.stamp.node)).status ≡ Linked → Collapses number two top h h' → AllFilled h'
   top_collapsed two h' None l lp g = absurd g
   top_collapsed two h' (Some top) l lp g =
-      let hung : (h (number top.seat.node)).children top.byte ≡ Below (number two.above.seat.node) = at_byte (number top.seat.node) top.byte (Below (number two.above.seat.node)) l.byte l.child in
-      set_filled a h t f (number top.seat.node) top.byte (Below g.0) h'
-      (λ d e. let P : ℕ → Type 0 = λ y. (a y).status ≡ Linked in subst P (sym (below_is (Below g.0) g.0 d refl e)) (t.down (number two.above.seat.node) g.1.at g.0 lp g.1.child).linked)
-      g.2 (λ nz lg. above_filled (number top.seat.node) top.byte g.0 (number two.above.seat.node) h h' refl hung g.2 (was_filled a h t f (number top.seat.node) lg nz))
+      let hung : (h (number top.stamp.node)).children top.byte ≡ Below (number two.above.stamp.node) = at_byte (number top.stamp.node) top.byte (Below (number two.above.stamp.node)) l.byte l.child in
+      set_filled a h t f (number top.stamp.node) top.byte (Below g.0) h'
+      (λ d e. let P : ℕ → Type 0 = λ y. (a y).status ≡ Linked in subst P (sym (below_is (Below g.0) g.0 d refl e)) (t.down (number two.above.stamp.node) g.1.at g.0 lp g.1.child).linked)
+      g.2 (λ nz lg. above_filled (number top.stamp.node) top.byte g.0 (number two.above.stamp.node) h h' refl hung g.2 (was_filled a h t f (number top.stamp.node) lg nz))
 
-  top_lessened : (two : Two C) (c : C) (q : ℕ) (h' : ℕ → Node V) (top : Option (Parent C)) → TopLocked number i a h key top (number two.above.seat.node) → AboveLocked number i a h key two.above (number two.at.node)
-      → Made i a h key (number c) two.above.depth q → (number two.above.seat.node ≢ 0 → FilledWithout (length (h (number two.above.seat.node)).prefix) (h (number two.above.seat.node)).count (h (number c)).capacity)
+  top_lessened : (two : Two C) (c : C) (q : ℕ) (h' : ℕ → Node V) (top : Option (Parent C)) → TopLocked number i a h key top (number two.above.stamp.node) → AboveLocked number i a h key two.above (number two.at.node)
+      → Made i a h key (number c) two.above.depth q → (number two.above.stamp.node ≢ 0 → FilledWithout (length (h (number two.above.stamp.node)).prefix) (h (number two.above.stamp.node)).count (h (number c)).capacity)
       → Lessens number two c top h h' → AllFilled h'
   top_lessened two c q h' None l o mc fills g = absurd g
   top_lessened two c q h' (Some top) l o mc fills g =
-      let hung : (h (number top.seat.node)).children top.byte ≡ Below (number two.above.seat.node) = at_byte (number top.seat.node) top.byte (Below (number two.above.seat.node)) l.byte l.child in
-      let low : (h (number two.above.seat.node)).children two.above.byte ≡ Below (number two.at.node) = at_byte (number two.above.seat.node) two.above.byte (Below (number two.at.node)) o.byte o.child in
+      let hung : (h (number top.stamp.node)).children top.byte ≡ Below (number two.above.stamp.node) = at_byte (number top.stamp.node) top.byte (Below (number two.above.stamp.node)) l.byte l.child in
+      let low : (h (number two.above.stamp.node)).children two.above.byte ≡ Below (number two.at.node) = at_byte (number two.above.stamp.node) two.above.byte (Below (number two.at.node)) o.byte o.child in
       let P : ℕ → Type 0 = λ y. Made i a h key (number c) y q in
-      lesser_in (number two.above.seat.node) (number c) two.above.byte (number top.seat.node) top.byte q h' l.holding.linked hung (subst P o.depth mc) (ap weight low)
-      (fills (below_root (number top.seat.node) top.byte (number two.above.seat.node) l.holding.linked hung)) g
+      lesser_in (number two.above.stamp.node) (number c) two.above.byte (number top.stamp.node) top.byte q h' l.holding.linked hung (subst P o.depth mc) (ap weight low)
+      (fills (below_root (number top.stamp.node) top.byte (number two.above.stamp.node) l.holding.linked hung)) g
 
   by_double : (two : Two C) (given found : Option V) (q : ℕ) (h' : ℕ → Node V) (change : Double C)
-      → TopLocked number i a h key two.top (number two.above.seat.node) → AboveLocked number i a h key two.above (number two.at.node) → PlacedTwo key change (h (number two.at.node)).prefix
+      → TopLocked number i a h key two.top (number two.above.stamp.node) → AboveLocked number i a h key two.above (number two.at.node) → PlacedTwo key change (h (number two.at.node)).prefix
       → WantedTwo key change found q (h (number two.at.node)) → MadeTwo number i a h key two.above change (length (h (number two.at.node)).prefix) q → FitsTwo change found given
-      → FillsTwo number h change (number two.above.seat.node) (h (number two.above.seat.node)) (number two.at.node) (h (number two.at.node)) → ChangedTwo number key given two change h h' → AllFilled h'
+      → FillsTwo number h change (number two.above.stamp.node) (h (number two.above.stamp.node)) (number two.at.node) (h (number two.at.node)) → ChangedTwo number key given two change h h' → AllFilled h'
   by_double two given found q h' Unlink up o p n m fit fills g =
-      let hung : (h (number two.above.seat.node)).children two.above.byte ≡ Below (number two.at.node) = at_byte (number two.above.seat.node) two.above.byte (Below (number two.at.node)) o.byte o.child in
-      one_out (number two.above.seat.node) two.above.byte h' (ap weight hung) fills g
+      let hung : (h (number two.above.stamp.node)).children two.above.byte ≡ Below (number two.at.node) = at_byte (number two.above.stamp.node) two.above.byte (Below (number two.at.node)) o.byte o.child in
+      one_out (number two.above.stamp.node) two.above.byte h' (ap weight hung) fills g
   by_double two given found q h' Collapse up o p n m fit fills g = top_collapsed two h' two.top up o.holding.linked g
   by_double two given found q h' (ShrinkAbove c) up o p n m fit fills g = top_lessened two c q h' two.top up o m.0 fills g
   by_double two given None q h' (Shrink c) up o p n m fit fills g = absurd n
   by_double two given (Some v) q h' (Shrink c) up o p n m fit fills g =
-      let hung : (h (number two.above.seat.node)).children two.above.byte ≡ Below (number two.at.node) = at_byte (number two.above.seat.node) two.above.byte (Below (number two.at.node)) o.byte o.child in
+      let hung : (h (number two.above.stamp.node)).children two.above.byte ≡ Below (number two.at.node) = at_byte (number two.above.stamp.node) two.above.byte (Below (number two.at.node)) o.byte o.child in
       let value : (h (number two.at.node)).children (get_or key 7 0) ≡ Holds v = (let P : ℕ → Type 0 = λ y. (h (number two.at.node)).children (get_or key y 0) ≡ Holds v in subst P p.1 n.0) in
-      lesser_in (number two.at.node) (number c) (get_or key 7 0) (number two.above.seat.node) two.above.byte q h' o.holding.linked hung m (ap weight value)
-      (fills (below_root (number two.above.seat.node) two.above.byte (number two.at.node) o.holding.linked hung)) g
+      lesser_in (number two.at.node) (number c) (get_or key 7 0) (number two.above.stamp.node) two.above.byte q h' o.holding.linked hung m (ap weight value)
+      (fills (below_root (number two.above.stamp.node) two.above.byte (number two.at.node) o.holding.linked hung)) g
   by_double two None found q h' (Grow c) up o p n m fit fills g = absurd (no_gift (Grow c) found tt fit)
   by_double two (Some v) found q h' (Grow c) up o p n m fit fills g =
-      let hung : (h (number two.above.seat.node)).children two.above.byte ≡ Below (number two.at.node) = at_byte (number two.above.seat.node) two.above.byte (Below (number two.at.node)) o.byte o.child in
+      let hung : (h (number two.above.stamp.node)).children two.above.byte ≡ Below (number two.at.node) = at_byte (number two.above.stamp.node) two.above.byte (Below (number two.at.node)) o.byte o.child in
       let none : (h (number two.at.node)).children (get_or key 7 0) ≡ Nothing = (let P : ℕ → Type 0 = λ y. (h (number two.at.node)).children (get_or key y 0) ≡ Nothing in subst P p.1 n.0) in
-      greater_in (number two.above.seat.node) two.above.byte (number two.at.node) (number c) q v g.0 g.1 h' o.holding.linked hung m none
-      (fills (below_root (number two.above.seat.node) two.above.byte (number two.at.node) o.holding.linked hung)) g.2 g.3 g.4
+      greater_in (number two.above.stamp.node) two.above.byte (number two.at.node) (number c) q v g.0 g.1 h' o.holding.linked hung m none
+      (fills (below_root (number two.above.stamp.node) two.above.byte (number two.at.node) o.holding.linked hung)) g.2 g.3 g.4
   by_double two None found q h' (GrowLink c leaf byte) up o p n m fit fills g = absurd (no_gift (GrowLink c leaf byte) found tt fit)
   by_double two (Some v) found q h' (GrowLink c leaf byte) up o p n m fit fills g =
-      let hung : (h (number two.above.seat.node)).children two.above.byte ≡ Below (number two.at.node) = at_byte (number two.above.seat.node) two.above.byte (Below (number two.at.node)) o.byte o.child in
-      greater_link_in (number two.above.seat.node) two.above.byte (number two.at.node) (number c) (number leaf) byte q v g.0 g.1 g.2 h' o.holding.linked hung m.0 m.1 m.2 (at_byte (number two.at.node) byte Nothing p.2 n.0)
-      (fills.0 (below_root (number two.above.seat.node) two.above.byte (number two.at.node) o.holding.linked hung)) fills.1 g.3 g.4 g.5 g.6
+      let hung : (h (number two.above.stamp.node)).children two.above.byte ≡ Below (number two.at.node) = at_byte (number two.above.stamp.node) two.above.byte (Below (number two.at.node)) o.byte o.child in
+      greater_link_in (number two.above.stamp.node) two.above.byte (number two.at.node) (number c) (number leaf) byte q v g.0 g.1 g.2 h' o.holding.linked hung m.0 m.1 m.2 (at_byte (number two.at.node) byte Nothing p.2 n.0)
+      (fills.0 (below_root (number two.above.stamp.node) two.above.byte (number two.at.node) o.holding.linked hung)) fills.1 g.3 g.4 g.5 g.6
   by_double two None found q h' (Split top leaf common byte) up o p n m fit fills g = absurd (no_gift (Split top leaf common byte) found tt fit)
   by_double two (Some v) found q h' (Split top leaf common byte) up o p n m fit fills g =
-      let hung : (h (number two.above.seat.node)).children two.above.byte ≡ Below (number two.at.node) = at_byte (number two.above.seat.node) two.above.byte (Below (number two.at.node)) o.byte o.child in
-      fork_in (number two.above.seat.node) two.above.byte (number two.at.node) (number top) (number leaf) common byte v g.0 g.1 g.2 h' o.holding.linked hung m.0 m.1 m.2 (λ e. p.0.apart (sym p.1 ∙ e)) fills.0 fills.1 g.3 g.4 g.5 g.6
+      let hung : (h (number two.above.stamp.node)).children two.above.byte ≡ Below (number two.at.node) = at_byte (number two.above.stamp.node) two.above.byte (Below (number two.at.node)) o.byte o.child in
+      fork_in (number two.above.stamp.node) two.above.byte (number two.at.node) (number top) (number leaf) common byte v g.0 g.1 g.2 h' o.holding.linked hung m.0 m.1 m.2 (λ e. p.0.apart (sym p.1 ∙ e)) fills.0 fills.1 g.3 g.4 g.5 g.6
 
-  pub two_filled : (two : Two C) (given found : Option V) (q : ℕ) (h' : ℕ → Node V) → TopLocked number i a h key two.top (number two.above.seat.node) → AboveLocked number i a h key two.above (number two.at.node)
+  -- all nodes are filled after a change of two locked nodes that leaves them filled
+  pub two_filled : (two : Two C) (given found : Option V) (q : ℕ) (h' : ℕ → Node V) → TopLocked number i a h key two.top (number two.above.stamp.node) → AboveLocked number i a h key two.above (number two.at.node)
       → PlacedTwo key two.change (h (number two.at.node)).prefix → WantedTwo key two.change found q (h (number two.at.node)) → MadeTwo number i a h key two.above two.change (length (h (number two.at.node)).prefix) q → FitsTwo two.change found given
-      → FillsTwo number h two.change (number two.above.seat.node) (h (number two.above.seat.node)) (number two.at.node) (h (number two.at.node)) → ChangedTwo number key given two two.change h h' → AllFilled h'
+      → FillsTwo number h two.change (number two.above.stamp.node) (h (number two.above.stamp.node)) (number two.at.node) (h (number two.at.node)) → ChangedTwo number key given two two.change h h' → AllFilled h'
   two_filled two given found q h' up o p n m fit fills g = by_double two given found q h' two.change up o p n m fit fills g

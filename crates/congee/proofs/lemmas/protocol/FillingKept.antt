@@ -20,19 +20,19 @@ use Rattle.congee.specs.declared.protocol.phase.Plan.{Plan}
 use Rattle.congee.specs.declared.protocol.phase.Plan.TheVariants.{Here, Above}
 use Rattle.congee.specs.declared.protocol.phase.Phase.{Phase}
 use Rattle.congee.specs.declared.protocol.phase.Phase.TheVariants.{MakeLeaf, MakeGreater, MakeTop, MakeBeside, MakeLesser, AskNew, CheckAbove, UpgradeOne, ChangeOne, UpgradeTop, UpgradeAbove, UpgradeBelow, ChangeTwo, Obsolete, Retire, UnlockBelow, Unlock, Unwind}
-use Rattle.congee.specs.declared.protocol.turn.NextPhase.{NextPhase}
+use Rattle.congee.specs.declared.protocol.next_phase.NextPhase.{NextPhase}
 use Rattle.congee.specs.Heap.{Node, Hung, is_taken}
 use Rattle.congee.specs.Keys.{key_bytes}
 use Rattle.congee.specs.Notes.{Note, Linked, is_published, Tree, LockWords}
 use Rattle.congee.specs.protocol.Events.{BackGives}
 use Rattle.congee.specs.protocol.Steps.{BackOne, BackTwo, BackLeaf, MadeLeaf, MadeGreater, MadeTop, MadeBeside, MadeLesser, UpgradedOne, UpgradedTop, UpgradedAbove, UpgradedBelow, PhaseStepped}
 use Rattle.congee.specs.protocol.Protocol.{Made, MadeOne, MadeTwo, MadeLeafFor, OneKnown, TwoKnown, HalfLocked, PlanKnown, Rely, Known}
-use Rattle.congee.specs.protocol.Names.{names, names_plan, name_seated, names_one}
+use Rattle.congee.specs.protocol.Names.{names, names_plan, name_stamped, names_one}
 use Rattle.congee.specs.protocol.Filled.{AllFilled, FillsAt, MayFillOne, MayFillHalf, MayFillTwo, MayFillPlan, IsSmall, Fills}
 use Rattle.congee.proofs.lemmas.Graft.{on_test}
-use Rattle.congee.proofs.lemmas.protocol.Each.{Each, right}
+use Rattle.congee.proofs.lemmas.protocol.Each.{Each, each_right}
 use Rattle.congee.proofs.lemmas.protocol.Change.{made_apart}
-use Rattle.congee.proofs.lemmas.protocol.Filling.{Alike, alike, Still, still_filled}
+use Rattle.congee.proofs.lemmas.protocol.Filling.{Alike, alike_same, Still, still_filled}
 use Rattle.congee.proofs.lemmas.protocol.FillingChanges.{one_filled, two_filled}
 use Rattle.congee.proofs.lemmas.protocol.FillingSteps.{still_equal, still_but, still_new, locked_alike, PlacesOne, PlacesTwo, fills_one_on, fills_two_on}
 
@@ -41,10 +41,10 @@ module _ {C V : Type 0} (number : C → ℕ) (i : ℕ) (a : ℕ → Note) (h h' 
   apart_made c size least m n l e = made_apart i a h key c size least n m (ap is_published l) (sym e)
 
   back_still : (c size least : ℕ) → Made i a h key c size least → BackGives h c h' → Still a h h'
-  back_still c size least m g n l = alike (h n) (h' n) (g.others n (apart_made c size least m n l))
+  back_still c size least m g n l = alike_same (h n) (h' n) (g.others n (apart_made c size least m n l))
 
   both_back_still : (h1 : ℕ → Node V) (c d size least size' least' : ℕ) → Made i a h key c size least → Made i a h key d size' least' → BackGives h d h1 → BackGives h1 c h' → Still a h h'
-  both_back_still h1 c d size least size' least' mc md gd gc n l = alike (h n) (h' n) (gc.others n (apart_made c size least mc n l) ∙ gd.others n (apart_made d size' least' md n l))
+  both_back_still h1 c d size least size' least' mc md gd gc n l = alike_same (h n) (h' n) (gc.others n (apart_made c size least mc n l) ∙ gd.others n (apart_made d size' least' md n l))
 
   one_back_still : (change : Single C) → MadeOne number i a h key change → BackOne number h change h' → Still a h h'
   one_back_still Set m g = still_equal a h w h' g
@@ -70,75 +70,75 @@ module _ {C V : Type 0} (number : C → ℕ) (same : V → V → Bool) (always :
   equal : h' ≡ h → AllFilled h'
   equal e = stays (still_equal a h w h' e)
 
-  leaf_made : (s : Site C) (turn : NextPhase C V) (x : Result C Refusal) → MadeLeaf number kind s h (key_bytes k) x h' turn → AllFilled h'
-  leaf_made s turn (Ok c) g = stays (still_new a h w h' (number c) _ (key_bytes k) 7 g.0)
-  leaf_made s turn (Err e) g = equal g.0
+  leaf_made : (s : Site C) (next_phase : NextPhase C V) (x : Result C Refusal) → MadeLeaf number kind s h (key_bytes k) x h' next_phase → AllFilled h'
+  leaf_made s next_phase (Ok c) g = stays (still_new a h w h' (number c) _ (key_bytes k) 7 g.0)
+  leaf_made s next_phase (Err e) g = equal g.0
 
-  greater_made : (s : Site C) (p : Parent C) (leaf : Option C) (turn : NextPhase C V) (x : Result C Refusal) → MadeLeafFor number i a h (key_bytes k) s leaf → MadeGreater number kind s p leaf h (key_bytes k) x h' turn → AllFilled h'
-  greater_made s p leaf turn (Ok c) m g = stays (still_new a h w h' (number c) _ (key_bytes k) s.depth g.0)
-  greater_made s p leaf turn (Err e) m g = stays (leaf_back_still number i a h h' (key_bytes k) w s leaf m g.0)
+  greater_made : (s : Site C) (p : Parent C) (leaf : Option C) (next_phase : NextPhase C V) (x : Result C Refusal) → MadeLeafFor number i a h (key_bytes k) s leaf → MadeGreater number kind s p leaf h (key_bytes k) x h' next_phase → AllFilled h'
+  greater_made s p leaf next_phase (Ok c) m g = stays (still_new a h w h' (number c) _ (key_bytes k) s.depth g.0)
+  greater_made s p leaf next_phase (Err e) m g = stays (leaf_back_still number i a h h' (key_bytes k) w s leaf m g.0)
 
-  top_made : (p : Parent C) (at : Stamp C) (common byte : ℕ) (turn : NextPhase C V) (x : Result C Refusal) → MadeTop number p at common byte h (key_bytes k) x h' turn → AllFilled h'
-  top_made p at common byte turn (Ok c) g = stays (still_new a h w h' (number c) _ (key_bytes k) common g.0)
-  top_made p at common byte turn (Err e) g = equal g.0
+  top_made : (p : Parent C) (at : Stamp C) (common byte : ℕ) (next_phase : NextPhase C V) (x : Result C Refusal) → MadeTop number p at common byte h (key_bytes k) x h' next_phase → AllFilled h'
+  top_made p at common byte next_phase (Ok c) g = stays (still_new a h w h' (number c) _ (key_bytes k) common g.0)
+  top_made p at common byte next_phase (Err e) g = equal g.0
 
-  beside_made : (p : Parent C) (at : Stamp C) (common byte : ℕ) (top : C) (turn : NextPhase C V) (x : Result C Refusal) → Made i a h (key_bytes k) (number top) common 1 → MadeBeside number kind p at common byte top h (key_bytes k) x h' turn → AllFilled h'
-  beside_made p at common byte top turn (Ok c) m g = stays (still_new a h w h' (number c) _ (key_bytes k) 7 g.0)
-  beside_made p at common byte top turn (Err e) m g = stays (back_still number i a h h' (key_bytes k) w (number top) common 1 m g.0)
+  beside_made : (p : Parent C) (at : Stamp C) (common byte : ℕ) (top : C) (next_phase : NextPhase C V) (x : Result C Refusal) → Made i a h (key_bytes k) (number top) common 1 → MadeBeside number kind p at common byte top h (key_bytes k) x h' next_phase → AllFilled h'
+  beside_made p at common byte top next_phase (Ok c) m g = stays (still_new a h w h' (number c) _ (key_bytes k) 7 g.0)
+  beside_made p at common byte top next_phase (Err e) m g = stays (back_still number i a h h' (key_bytes k) w (number top) common 1 m g.0)
 
-  lesser_made : (s : Site C) (p : Parent C) (top : Option (Parent C)) (r : Reply V) (turn : NextPhase C V) (x : Result C Refusal) → MadeLesser number s p top r h (key_bytes k) x h' turn → AllFilled h'
-  lesser_made s p None r turn (Ok c) g = stays (still_new a h w h' (number c) _ (key_bytes k) s.depth g.0)
-  lesser_made s p None r turn (Err e) g = equal g.0
-  lesser_made s p (Some top) r turn (Ok c) g = stays (still_new a h w h' (number c) _ (key_bytes k) p.depth g.0)
-  lesser_made s p (Some top) r turn (Err e) g = equal g.0
+  lesser_made : (s : Site C) (p : Parent C) (top : Option (Parent C)) (r : Reply V) (next_phase : NextPhase C V) (x : Result C Refusal) → MadeLesser number s p top r h (key_bytes k) x h' next_phase → AllFilled h'
+  lesser_made s p None r next_phase (Ok c) g = stays (still_new a h w h' (number c) _ (key_bytes k) s.depth g.0)
+  lesser_made s p None r next_phase (Err e) g = equal g.0
+  lesser_made s p (Some top) r next_phase (Ok c) g = stays (still_new a h w h' (number c) _ (key_bytes k) p.depth g.0)
+  lesser_made s p (Some top) r next_phase (Err e) g = equal g.0
 
   locked : (n : ℕ) → ((m : ℕ) → Alike (h m) (h' m)) → AllFilled h'
   locked n e = stays (λ m _. e m)
 
-  one_upgraded : (root : C) (one : One C) (r : Reply V) (turn : NextPhase C V) (u : Upgrade) → MadeOne number i a h (key_bytes k) one.change → UpgradedOne number root one r h u h' turn → AllFilled h'
-  one_upgraded root one r turn Locked m g = locked (number one.at.node) (locked_alike h (number one.at.node) h' g.0)
-  one_upgraded root one r turn Failed m g = stays (one_back_still number i a h h' (key_bytes k) w one.change m g.0)
-  one_upgraded root one r turn Exhausted m g = stays (one_back_still number i a h h' (key_bytes k) w one.change m g.0)
+  one_upgraded : (root : C) (one : One C) (r : Reply V) (next_phase : NextPhase C V) (u : Upgrade) → MadeOne number i a h (key_bytes k) one.change → UpgradedOne number root one r h u h' next_phase → AllFilled h'
+  one_upgraded root one r next_phase Locked m g = locked (number one.at.node) (locked_alike h (number one.at.node) h' g.0)
+  one_upgraded root one r next_phase Failed m g = stays (one_back_still number i a h h' (key_bytes k) w one.change m g.0)
+  one_upgraded root one r next_phase Exhausted m g = stays (one_back_still number i a h h' (key_bytes k) w one.change m g.0)
 
   two_back : (two : Two C) (size q : ℕ) → MadeTwo number i a h (key_bytes k) two.above two.change size q → BackTwo number h two.change h' → AllFilled h'
   two_back two size q m g = stays (two_back_still number i a h h' (key_bytes k) w two.above two.change size q m g)
 
-  top_upgraded : (root : C) (top : Parent C) (two : Two C) (r : Reply V) (turn : NextPhase C V) (u : Upgrade) (size q : ℕ) → MadeTwo number i a h (key_bytes k) two.above two.change size q → UpgradedTop number root top two r h u h' turn → AllFilled h'
-  top_upgraded root top two r turn Locked size q m g = locked (number top.seat.node) (locked_alike h (number top.seat.node) h' g.0)
-  top_upgraded root top two r turn Failed size q m g = two_back two size q m g.0
-  top_upgraded root top two r turn Exhausted size q m g = two_back two size q m g.0
+  top_upgraded : (root : C) (top : Parent C) (two : Two C) (r : Reply V) (next_phase : NextPhase C V) (u : Upgrade) (size q : ℕ) → MadeTwo number i a h (key_bytes k) two.above two.change size q → UpgradedTop number root top two r h u h' next_phase → AllFilled h'
+  top_upgraded root top two r next_phase Locked size q m g = locked (number top.stamp.node) (locked_alike h (number top.stamp.node) h' g.0)
+  top_upgraded root top two r next_phase Failed size q m g = two_back two size q m g.0
+  top_upgraded root top two r next_phase Exhausted size q m g = two_back two size q m g.0
 
-  above_upgraded : (root : C) (two : Two C) (r : Reply V) (turn : NextPhase C V) (u : Upgrade) (size q : ℕ) → MadeTwo number i a h (key_bytes k) two.above two.change size q → UpgradedAbove number root two r h u h' turn → AllFilled h'
-  above_upgraded root two r turn Locked size q m g = locked (number two.above.seat.node) (locked_alike h (number two.above.seat.node) h' g.0)
-  above_upgraded root two r turn Failed size q m g = two_back two size q m g.0
-  above_upgraded root two r turn Exhausted size q m g = two_back two size q m g.0
+  above_upgraded : (root : C) (two : Two C) (r : Reply V) (next_phase : NextPhase C V) (u : Upgrade) (size q : ℕ) → MadeTwo number i a h (key_bytes k) two.above two.change size q → UpgradedAbove number root two r h u h' next_phase → AllFilled h'
+  above_upgraded root two r next_phase Locked size q m g = locked (number two.above.stamp.node) (locked_alike h (number two.above.stamp.node) h' g.0)
+  above_upgraded root two r next_phase Failed size q m g = two_back two size q m g.0
+  above_upgraded root two r next_phase Exhausted size q m g = two_back two size q m g.0
 
-  both_upgraded : (two : Two C) (r : Reply V) (turn : NextPhase C V) (u : Upgrade) (size q : ℕ) → MadeTwo number i a h (key_bytes k) two.above two.change size q → UpgradedBelow number two r h u h' turn → AllFilled h'
-  both_upgraded two r turn Locked size q m g = locked (number two.at.node) (locked_alike h (number two.at.node) h' g.0)
-  both_upgraded two r turn Failed size q m g = two_back two size q m g.0
-  both_upgraded two r turn Exhausted size q m g = two_back two size q m g.0
+  both_upgraded : (two : Two C) (r : Reply V) (next_phase : NextPhase C V) (u : Upgrade) (size q : ℕ) → MadeTwo number i a h (key_bytes k) two.above two.change size q → UpgradedBelow number two r h u h' next_phase → AllFilled h'
+  both_upgraded two r next_phase Locked size q m g = locked (number two.at.node) (locked_alike h (number two.at.node) h' g.0)
+  both_upgraded two r next_phase Failed size q m g = two_back two size q m g.0
+  both_upgraded two r next_phase Exhausted size q m g = two_back two size q m g.0
 
   -- every step
-  pub step_filled : (most : ℕ) (why : NodeType → Refusal → Type 0) (root : C) (fail : Bool) (answer : Option (Option V)) (s : Phase C V) (given' : Option V) (turn : NextPhase C V) → Known number same always i a h k (key_bytes k) kind given s → Fills number h given s
-      → PhaseStepped number same always most why root (key_bytes k) kind fail answer given s h given' turn h' → AllFilled h'
-  step_filled most why root fail answer (MakeLeaf s) given' turn m x g = leaf_made s turn g.1.0 g.1.1
-  step_filled most why root fail answer (MakeGreater s p leaf) given' turn m x g = greater_made s p leaf turn g.1.0 m.3 g.1.1
-  step_filled most why root fail answer (MakeTop p at common byte) given' turn m x g = top_made p at common byte turn g.1.0 g.1.1
-  step_filled most why root fail answer (MakeBeside p at common byte top) given' turn m x g = beside_made p at common byte top turn g.1.0 m.6 g.1.1
-  step_filled most why root fail answer (MakeLesser s p top r) given' turn m x g = lesser_made s p top r turn g.1.0 g.1.1
-  step_filled most why root fail answer (CheckAbove p one r) given' turn m x g = on_test (is_taken (h (number p.node)) p.version) (λ q. equal (g.1.goes_on q).0) (λ q. stays (one_back_still number i a h h' (key_bytes k) w one.change m.2.made (g.1.goes_back q).0))
-  step_filled most why root fail answer (UpgradeOne one r) given' turn m x g = one_upgraded root one r turn g.1.0 m.1.1.made g.1.2
-  step_filled most why root fail answer (ChangeOne one r) given' turn m x g = one_filled number i a h (key_bytes k) t w f one m.0 given h' m.1 m.2 x g.1
-  step_filled most why root fail answer (UpgradeTop top two r) given' turn m x g = top_upgraded root top two r turn g.1.0 _ m.1.1 m.1.2.made g.1.2
-  step_filled most why root fail answer (UpgradeAbove two r) given' turn m x g = above_upgraded root two r turn g.1.0 _ m.1.1 m.1.2.made g.1.2
-  step_filled most why root fail answer (UpgradeBelow two r) given' turn m x g = both_upgraded two r turn g.1.0 _ m.1.1 m.1.2.made g.1.2
-  step_filled most why root fail answer (ChangeTwo two r) given' turn m x g = two_filled number i a h (key_bytes k) t w f two given m.0 m.1 h' m.2.top m.2.above m.2.placed m.2.wanted m.2.made m.4 x g.1
-  step_filled most why root fail answer (Obsolete n next p r) given' turn m x g = stays (still_but a h w h' (number n) _ (record { prefix = refl; children = λ b. refl; count = refl; capacity = refl }) g.1)
-  step_filled most why root fail answer (Retire n next p r) given' turn m x g = stays (still_but a h w h' (number n) _ (record { prefix = refl; children = λ b. refl; count = refl; capacity = refl }) g.1)
-  step_filled most why root fail answer (UnlockBelow n p r) given' turn m x g = stays (still_but a h w h' (number n) _ (record { prefix = refl; children = λ b. refl; count = refl; capacity = refl }) g.1)
-  step_filled most why root fail answer (Unlock n r) given' turn m x g = stays (still_but a h w h' (number n) _ (record { prefix = refl; children = λ b. refl; count = refl; capacity = refl }) g.1)
-  step_filled most why root fail answer (Unwind n next e) given' turn m x g = stays (still_but a h w h' (number n) _ (record { prefix = refl; children = λ b. refl; count = refl; capacity = refl }) g.1)
-  step_filled most why root fail answer _ given' turn m x g = equal g.0
+  pub step_filled : (most : ℕ) (why : NodeType → Refusal → Type 0) (root : C) (fail : Bool) (answer : Option (Option V)) (s : Phase C V) (given' : Option V) (next_phase : NextPhase C V) → Known number same always i a h k (key_bytes k) kind given s → Fills number h given s
+      → PhaseStepped number same always most why root (key_bytes k) kind fail answer given s h given' next_phase h' → AllFilled h'
+  step_filled most why root fail answer (MakeLeaf s) given' next_phase m x g = leaf_made s next_phase g.1.0 g.1.1
+  step_filled most why root fail answer (MakeGreater s p leaf) given' next_phase m x g = greater_made s p leaf next_phase g.1.0 m.3 g.1.1
+  step_filled most why root fail answer (MakeTop p at common byte) given' next_phase m x g = top_made p at common byte next_phase g.1.0 g.1.1
+  step_filled most why root fail answer (MakeBeside p at common byte top) given' next_phase m x g = beside_made p at common byte top next_phase g.1.0 m.6 g.1.1
+  step_filled most why root fail answer (MakeLesser s p top r) given' next_phase m x g = lesser_made s p top r next_phase g.1.0 g.1.1
+  step_filled most why root fail answer (CheckAbove p one r) given' next_phase m x g = on_test (is_taken (h (number p.node)) p.version) (λ q. equal (g.1.goes_on q).0) (λ q. stays (one_back_still number i a h h' (key_bytes k) w one.change m.2.made (g.1.goes_back q).0))
+  step_filled most why root fail answer (UpgradeOne one r) given' next_phase m x g = one_upgraded root one r next_phase g.1.0 m.1.1.made g.1.2
+  step_filled most why root fail answer (ChangeOne one r) given' next_phase m x g = one_filled number i a h (key_bytes k) t w f one m.0 given h' m.1 m.2 x g.1
+  step_filled most why root fail answer (UpgradeTop top two r) given' next_phase m x g = top_upgraded root top two r next_phase g.1.0 _ m.1.1 m.1.2.made g.1.2
+  step_filled most why root fail answer (UpgradeAbove two r) given' next_phase m x g = above_upgraded root two r next_phase g.1.0 _ m.1.1 m.1.2.made g.1.2
+  step_filled most why root fail answer (UpgradeBelow two r) given' next_phase m x g = both_upgraded two r next_phase g.1.0 _ m.1.1 m.1.2.made g.1.2
+  step_filled most why root fail answer (ChangeTwo two r) given' next_phase m x g = two_filled number i a h (key_bytes k) t w f two given m.0 m.1 h' m.2.top m.2.above m.2.placed m.2.wanted m.2.made m.4 x g.1
+  step_filled most why root fail answer (Obsolete n next p r) given' next_phase m x g = stays (still_but a h w h' (number n) _ (record { prefix = refl; children = λ b. refl; count = refl; capacity = refl }) g.1)
+  step_filled most why root fail answer (Retire n next p r) given' next_phase m x g = stays (still_but a h w h' (number n) _ (record { prefix = refl; children = λ b. refl; count = refl; capacity = refl }) g.1)
+  step_filled most why root fail answer (UnlockBelow n p r) given' next_phase m x g = stays (still_but a h w h' (number n) _ (record { prefix = refl; children = λ b. refl; count = refl; capacity = refl }) g.1)
+  step_filled most why root fail answer (Unlock n r) given' next_phase m x g = stays (still_but a h w h' (number n) _ (record { prefix = refl; children = λ b. refl; count = refl; capacity = refl }) g.1)
+  step_filled most why root fail answer (Unwind n next e) given' next_phase m x g = stays (still_but a h w h' (number n) _ (record { prefix = refl; children = λ b. refl; count = refl; capacity = refl }) g.1)
+  step_filled most why root fail answer _ given' next_phase m x g = equal g.0
 
 -- the steps of others, and nodes that are destroyed, leave what a call is about to do
 module _ {C V : Type 0} (number : C → ℕ) (key : List ℕ) (K : ℕ → Type 0) (i : ℕ) (a : ℕ → Note) (h : ℕ → Node V) (a' : ℕ → Note) (h' : ℕ → Node V) (r : Rely K i a h a' h') where
@@ -160,37 +160,38 @@ module _ {C V : Type 0} (number : C → ℕ) (key : List ℕ) (K : ℕ → Type 
 
   one_on : (given : Option V) (one : One C) (x : Hung V) → K (number one.at.node) → OneKnown number i a h key one x → MayFillOne number h given one → MayFillOne number h' given one
   one_on given one x kn m fills q =
-      let e : h' (number one.at.node) ≡ h (number one.at.node) = r.word (number one.at.node) one.at.version kn m.fresh.seated.published m.fresh.seated.up q in
+      let e : h' (number one.at.node) ≡ h (number one.at.node) = r.word (number one.at.node) one.at.version kn m.fresh.stamped.published m.fresh.stamped.up q in
       let P : Node V → Type 0 = λ y. is_taken y one.at.version ≡ true in
-      fills_one_on number h h' one.change given (number one.at.node) (h (number one.at.node)) (h' (number one.at.node)) (alike (h (number one.at.node)) (h' (number one.at.node)) e) (one_places one.change m.made) (fills (subst P e q))
+      fills_one_on number h h' one.change given (number one.at.node) (h (number one.at.node)) (h' (number one.at.node)) (alike_same (h (number one.at.node)) (h' (number one.at.node)) e) (one_places one.change m.made) (fills (subst P e q))
 
-  at_on : (two : Two C) (size q : ℕ) → MadeTwo number i a h key two.above two.change size q → h' (number two.above.seat.node) ≡ h (number two.above.seat.node) → h' (number two.at.node) ≡ h (number two.at.node) → FillsAt number h two → FillsAt number h' two
-  at_on two size q m ep en x = fills_two_on number h h' two.change (number two.above.seat.node) (h (number two.above.seat.node)) (h' (number two.above.seat.node)) (number two.at.node) (h (number two.at.node)) (h' (number two.at.node))
-      (alike (h (number two.above.seat.node)) (h' (number two.above.seat.node)) ep) (alike (h (number two.at.node)) (h' (number two.at.node)) en) (two_places two.above two.change size q m) x
+  at_on : (two : Two C) (size q : ℕ) → MadeTwo number i a h key two.above two.change size q → h' (number two.above.stamp.node) ≡ h (number two.above.stamp.node) → h' (number two.at.node) ≡ h (number two.at.node) → FillsAt number h two → FillsAt number h' two
+  at_on two size q m ep en x = fills_two_on number h h' two.change (number two.above.stamp.node) (h (number two.above.stamp.node)) (h' (number two.above.stamp.node)) (number two.at.node) (h (number two.at.node)) (h' (number two.at.node))
+      (alike_same (h (number two.above.stamp.node)) (h' (number two.above.stamp.node)) ep) (alike_same (h (number two.at.node)) (h' (number two.at.node)) en) (two_places two.above two.change size q m) x
 
-  two_on : (two : Two C) (found : Option V) (q : ℕ) → K (number two.above.seat.node) → K (number two.at.node) → TwoKnown number i a h key two found q → MayFillTwo number h two → MayFillTwo number h' two
+  two_on : (two : Two C) (found : Option V) (q : ℕ) → K (number two.above.stamp.node) → K (number two.at.node) → TwoKnown number i a h key two found q → MayFillTwo number h two → MayFillTwo number h' two
   two_on two found q kp kn m fills tp tn =
-      let ep : h' (number two.above.seat.node) ≡ h (number two.above.seat.node) = r.word (number two.above.seat.node) two.above.seat.version kp m.above.fresh.seated.published m.above.fresh.seated.up tp in
-      let en : h' (number two.at.node) ≡ h (number two.at.node) = r.word (number two.at.node) two.at.version kn m.fresh.seated.published m.fresh.seated.up tn in
-      let P : Node V → Type 0 = λ y. is_taken y two.above.seat.version ≡ true in
+      let ep : h' (number two.above.stamp.node) ≡ h (number two.above.stamp.node) = r.word (number two.above.stamp.node) two.above.stamp.version kp m.above.fresh.stamped.published m.above.fresh.stamped.up tp in
+      let en : h' (number two.at.node) ≡ h (number two.at.node) = r.word (number two.at.node) two.at.version kn m.fresh.stamped.published m.fresh.stamped.up tn in
+      let P : Node V → Type 0 = λ y. is_taken y two.above.stamp.version ≡ true in
       let Q : Node V → Type 0 = λ y. is_taken y two.at.version ≡ true in
       at_on two _ q m.made ep en (fills (subst P ep tp) (subst Q en tn))
 
   half_on : (two : Two C) (found : Option V) (q : ℕ) → K (number two.at.node) → HalfLocked number i a h key two found q → MayFillHalf number h two → MayFillHalf number h' two
   half_on two found q kn m fills tn =
-      let ep : h' (number two.above.seat.node) ≡ h (number two.above.seat.node) = (r.mine (number two.above.seat.node) m.above.holding.owner).0 in
-      let en : h' (number two.at.node) ≡ h (number two.at.node) = r.word (number two.at.node) two.at.version kn m.fresh.seated.published m.fresh.seated.up tn in
+      let ep : h' (number two.above.stamp.node) ≡ h (number two.above.stamp.node) = (r.mine (number two.above.stamp.node) m.above.holding.owner).0 in
+      let en : h' (number two.at.node) ≡ h (number two.at.node) = r.word (number two.at.node) two.at.version kn m.fresh.stamped.published m.fresh.stamped.up tn in
       let Q : Node V → Type 0 = λ y. is_taken y two.at.version ≡ true in
       at_on two _ q m.made ep en (fills (subst Q en tn))
 
   plan_on : (v : V) (plan : Plan C) → Each K (names_plan number plan) → PlanKnown number i a h key plan → MayFillPlan number h v plan → MayFillPlan number h' v plan
-  plan_on v (Here check one) e m x = one_on (Some v) one _ (right K (name_seated number check) (names_one number one) e).0 m.1 x
+  plan_on v (Here check one) e m x = one_on (Some v) one _ (each_right K (name_stamped number check) (names_one number one) e).0 m.1 x
   plan_on v (Above two) e m x = two_on two None m.0.0 e.0 e.1.0 m.0.1 x
 
   small_on : (s : Site C) (leaf : Option C) → MadeLeafFor number i a h key s leaf → IsSmall number h leaf → IsSmall number h' leaf
   small_on s None m x = tt
   small_on s (Some leaf) m x = held_places (number leaf) 7 0 m.1 ∙ x
 
+  -- what a call is about to do leaves the tree filled over the steps of others
   pub fills_kept : (same : V → V → Bool) (always : Bool) (k : ℕ) (kind : Kind V) (given : Option V) (s : Phase C V) → Each K (names number s) → Known number same always i a h k key kind given s → Fills number h given s → Fills number h' given s
   fills_kept same always k kind given (MakeGreater s p leaf) e m x = small_on s leaf m.3 x
   fills_kept same always k kind given (MakeBeside p at common byte top) e m x = held_places (number top) common 1 m.6 ∙ x
@@ -198,9 +199,9 @@ module _ {C V : Type 0} (number : C → ℕ) (key : List ℕ) (K : ℕ → Type 
   fills_kept same always k kind given (CheckAbove p one r') e m x = one_on given one _ e.1.0 m.2 x
   fills_kept same always k kind given (UpgradeOne one r') e m x = one_on given one m.1.0 e.0 m.1.1 x
   fills_kept same always k kind given (ChangeOne one r') e m x = fills_one_on number h h' one.change given (number one.at.node) (h (number one.at.node)) (h' (number one.at.node))
-      (alike (h (number one.at.node)) (h' (number one.at.node)) (r.mine (number one.at.node) m.1.holding.owner).0) (one_places one.change m.1.made) x
+      (alike_same (h (number one.at.node)) (h' (number one.at.node)) (r.mine (number one.at.node) m.1.holding.owner).0) (one_places one.change m.1.made) x
   fills_kept same always k kind given (UpgradeTop g two r') e m x = two_on two m.1.0 m.1.1 e.1.0 e.1.1.0 m.1.2 x
   fills_kept same always k kind given (UpgradeAbove two r') e m x = two_on two m.1.0 m.1.1 e.0 e.1.0 m.1.2 x
   fills_kept same always k kind given (UpgradeBelow two r') e m x = half_on two m.1.0 m.1.1 e.1.0 m.1.2 x
-  fills_kept same always k kind given (ChangeTwo two r') e m x = at_on two _ m.1 m.2.made (r.mine (number two.above.seat.node) m.2.above.holding.owner).0 (r.mine (number two.at.node) m.2.owner).0 x
+  fills_kept same always k kind given (ChangeTwo two r') e m x = at_on two _ m.1 m.2.made (r.mine (number two.above.stamp.node) m.2.above.holding.owner).0 (r.mine (number two.at.node) m.2.owner).0 x
   fills_kept same always k kind given _ e m x = tt

@@ -13,7 +13,7 @@ use Rattle.congee.specs.protocol.Play.{Begins, Settled, NextAt}
 use Rattle.congee.specs.protocol.Trace.{Traced, AreTraced, IsTrace, nodes_after}
 use Rattle.congee.proofs.lemmas.protocol.Steps.{stepped_keeps}
 use Rattle.congee.proofs.lemmas.protocol.Traces.{settled_next}
-use Rattle.congee.proofs.lemmas.protocol.Turns.{plays_none}
+use Rattle.congee.proofs.lemmas.protocol.ManyCalls.{plays_none}
 use Rattle.congee.proofs.lemmas.protocol.FillingCalls.{begun_filled, filled_step}
 
 module _ {C V : Type 0} (number : C → ℕ) (same : V → V → Bool) (always : Bool) (most : ℕ) (why : (ℕ → Node V) → NodeType → Refusal → Type 0) (law : (p q : V) → same p q ≡ true → p ≡ q) where
@@ -33,6 +33,7 @@ module _ {C V : Type 0} (number : C → ℕ) (same : V → V → Bool) (always :
   all_filled h ms (t ∷ ts) x f e n = all_filled t.nodes t.calls ts (settled_next number same always most why law h ms t.step t.move t.nodes t.calls (slice_get ms t.step.who) refl x e.0)
       (next_filled h ms t.step t.move t.nodes t.calls (slice_get ms t.step.who) refl x f e.0 n.0) e.1 n.1
 
+  -- after a run from a new index in which nothing is skipped, each node of the tree but the root is filled
   pub run_filled : (h : ℕ → Node V) (ms : List (Machine C V)) (steps : List (Step C V)) (moves : List (Move V)) (h' : ℕ → Node V) (ms' : List (Machine C V)) → Begins number h ms → FreshRoot h → IsTrace number same always most why h ms steps moves h' ms'
       → NoneSkipped moves → AllFilled h'
   run_filled h ms steps moves h' ms' b f r n =

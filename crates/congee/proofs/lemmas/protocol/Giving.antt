@@ -19,7 +19,7 @@ use Rattle.congee.specs.declared.protocol.phase.Double.TheVariants.{Unlink, Grow
 use Rattle.congee.specs.declared.protocol.phase.Two.{Two}
 use Rattle.congee.specs.declared.protocol.phase.Phase.{Phase}
 use Rattle.congee.specs.declared.protocol.phase.Phase.TheVariants.{MakeLeaf, MakeGreater, MakeTop, MakeBeside, MakeLesser, CheckAbove, UpgradeOne, ChangeOne, UpgradeTop, UpgradeAbove, UpgradeBelow, ChangeTwo, Obsolete, Retire, UnlockBelow, Unlock, Unwind}
-use Rattle.congee.specs.declared.protocol.turn.NextPhase.{NextPhase}
+use Rattle.congee.specs.declared.protocol.next_phase.NextPhase.{NextPhase}
 use Rattle.congee.specs.Heap.{Node, Stands, is_taken}
 use Rattle.congee.specs.protocol.Events.{SameBut, BackGives}
 use Rattle.congee.specs.protocol.Steps.{BackOne, BackTwo, BackLeaf, MadeLeaf, MadeGreater, MadeTop, MadeBeside, MadeLesser, UpgradedOne, UpgradedTop, UpgradedAbove, UpgradedBelow, PutsLesser, Collapses, Lessens, ChangedOne, ChangedTwo, PhaseStepped}
@@ -28,7 +28,7 @@ use Rattle.congee.proofs.lemmas.Graft.{on_test}
 use Rattle.congee.proofs.lemmas.protocol.Lasting.{stands_changed, stands_over}
 
 -- each node that stood stands, or is one of M
-abbrev pub Loses : {V : Type 0} → (ℕ → Type 0) → (ℕ → Node V) → (ℕ → Node V) → Type 0
+abbrev Loses : {V : Type 0} → (ℕ → Type 0) → (ℕ → Node V) → (ℕ → Node V) → Type 0
 Loses M h h' = (n : ℕ) → Stands (h n) → Stands (h' n) ⊎ M n
 
 module _ {V : Type 0} (M : ℕ → Type 0) where
@@ -106,12 +106,12 @@ module _ {C V : Type 0} (number : C → ℕ) (h h' : ℕ → Node V) where
   one_upgraded root one r Exhausted t g = one_back one.change g.0
 
   top_upgraded : (root : C) (top : Parent C) (two : Two C) (r : Reply V) (u : Upgrade) (t : NextPhase C V) → UpgradedTop number root top two r h u h' t → Loses (MadeForTwo number two.change) h h'
-  top_upgraded root top two r Locked t g = loses_but _ h h' (number top.seat.node) _ refl refl g.0
+  top_upgraded root top two r Locked t g = loses_but _ h h' (number top.stamp.node) _ refl refl g.0
   top_upgraded root top two r Failed t g = two_back two.change g.0
   top_upgraded root top two r Exhausted t g = two_back two.change g.0
 
   above_upgraded : (root : C) (two : Two C) (r : Reply V) (u : Upgrade) (t : NextPhase C V) → UpgradedAbove number root two r h u h' t → Loses (MadeForTwo number two.change) h h'
-  above_upgraded root two r Locked t g = loses_but _ h h' (number two.above.seat.node) _ refl refl g.0
+  above_upgraded root two r Locked t g = loses_but _ h h' (number two.above.stamp.node) _ refl refl g.0
   above_upgraded root two r Failed t g = two_back two.change g.0
   above_upgraded root two r Exhausted t g = two_back two.change g.0
 
@@ -144,6 +144,7 @@ module _ {C V : Type 0} (number : C → ℕ) (h h' : ℕ → Node V) where
   two_changed M key new two (GrowLink c leaf byte) g = loses_none M h h' (λ n s. stands_changed g.2 h' _ _ n _ g.6 (stands_changed g.1 g.2 _ _ n _ g.5 (stands_over g.0 g.1 _ _ n g.4 (stands_changed h g.0 _ _ n _ g.3 s))))
   two_changed M key new two (Split top leaf common byte) g = loses_none M h h' (λ n s. stands_changed g.2 h' _ _ n _ g.6 (stands_changed g.1 g.2 _ _ n _ g.5 (stands_changed g.0 g.1 _ _ n _ g.4 (stands_changed h g.0 _ _ n _ g.3 s))))
 
+  -- a node that stood before a call's step stands after it, or is one that the call had made
   pub step_loses : (same : V → V → Bool) (always : Bool) (most : ℕ) (why : NodeType → Refusal → Type 0) (root : C) (key : List ℕ) (kind : Kind V) (fail : Bool) (answer : Option (Option V)) (new : Option V) (s : Phase C V) (new' : Option V) (t : NextPhase C V)
       → PhaseStepped number same always most why root key kind fail answer new s h new' t h' → Loses (MadeBy number s) h h'
   step_loses same always most why root key kind fail answer new (MakeLeaf s) new' t g = leaf_made _ kind s key g.1.0 t g.1.1

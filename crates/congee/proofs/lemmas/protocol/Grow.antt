@@ -4,9 +4,10 @@ use Rattle.std.specs.Prelude.{None, Some}
 use Rattle.congee.specs.Heap.{Nothing, Below, Holds, Node, fits, child_for, walk, value_at}
 use Rattle.congee.specs.Notes.{Linked, Note, IsChild, HasParent, Tree}
 use Rattle.congee.proofs.lemmas.Fits.{fits_byte, same_key}
-use Rattle.congee.proofs.lemmas.Tree.{same_or_not, enter, finds, of_child_same}
-use Rattle.congee.proofs.lemmas.Graft.{Graft, old_down, old_leaves, old_up, untouched, on_test}
+use Rattle.congee.proofs.lemmas.Tree.{same_or_not, walk_enters, value_at_linked, of_child_same}
+use Rattle.congee.proofs.lemmas.Graft.{Graft, old_down, old_leaves, old_up, walk_untouched, on_test}
 use Rattle.congee.proofs.lemmas.Link.{Leaf, leaf_no_node, leaf_value, leaf_other, child_moved, not_here, link_other, fits_between}
+use Rattle.congee.proofs.lemmas.Unlink.{gone_not}
 
 -- the child more: a value in a leaf, or a new leaf d below an inner node
 pub data Extra {V : Type 0} (a' : ℕ → Note) (h' : ℕ → Node V) (c d : ℕ) (key : List ℕ) (v : V) : Type 0 where
@@ -37,9 +38,6 @@ pub record Grows {V : Type 0} (a : ℕ → Note) (h : ℕ → Node V) (a' : ℕ 
   pub parents_moved : (x : ℕ) → (a x).status ≡ Linked → (a x).parent ≡ m → (a' x).parent ≡ c
   pub nodes : (x : ℕ) → x ≢ c → x ≢ d → x ≢ n → x ≢ m → h' x ≡ h x
 
-grow_left : (a' : ℕ → Note) (x m : ℕ) → (a' m).status ≢ Linked → (a' x).status ≡ Linked → x ≢ m
-grow_left a' x m g l e = g (let P : ℕ → Type 0 = λ y. (a' y).status ≡ Linked in subst P e l)
-
 grow_stays : {V : Type 0} (a : ℕ → Note) (h : ℕ → Node V) (a' : ℕ → Note) (h' : ℕ → Node V) (n m c d : ℕ) (key : List ℕ) (v : V) → Grows a h a' h' n m c d key v
     → (x : ℕ) → (a x).status ≡ Linked → x ≢ m → (a' x).status ≡ Linked
 grow_stays a h a' h' n m c d key v k x l ne = k.notes x (link_other a x c l k.unlinked) (link_other a x d l k.unlinked_leaf) ne ∙ l
@@ -57,10 +55,10 @@ grow_graft a h a' h' n m c d key v k =
           | inr r ↦ rw (k.nodes x (link_other a x c l k.unlinked) (link_other a x d l k.unlinked_leaf) q r) refl
         ]
       ];
-      others = λ x b l l' q. rw (k.nodes x (link_other a x c l k.unlinked) (link_other a x d l k.unlinked_leaf) q (grow_left a' x m k.left l')) refl;
+      others = λ x b l l' q. rw (k.nodes x (link_other a x c l k.unlinked) (link_other a x d l k.unlinked_leaf) q (gone_not a' x m k.left l')) refl;
       beside = k.beside;
       stays = λ x l w. grow_stays a h a' h' n m c d key v k x l (apart x w);
-      parents = λ x l w l'. k.parents_same x (link_other a x c l k.unlinked) (link_other a x d l k.unlinked_leaf) (apart x w) (grow_left a' (a x).parent m k.left l');
+      parents = λ x l w l'. k.parents_same x (link_other a x c l k.unlinked) (link_other a x d l k.unlinked_leaf) (apart x w) (gone_not a' (a x).parent m k.left l');
     }
 
 -- the children of the greater node
@@ -154,7 +152,7 @@ pub grow_tree : {V : Type 0} (a : ℕ → Note) (h : ℕ → Node V) (a' : ℕ �
 grow_tree a h a' h' n m c d key v t k =
     let g : Graft a h a' h' n (get_or key (length (h n).prefix) 0) = grow_graft a h a' h' n m c d key v k in
     let i : IsChild a h n (get_or key (length (h n).prefix) 0) m = t.down n _ m k.linked k.hung in
-    let was : (x : ℕ) → x ≢ c → x ≢ d → (a' x).status ≡ Linked → (a x).status ≡ Linked = λ x nc nd l. sym (k.notes x nc nd (grow_left a' x m k.left l)) ∙ l in
+    let was : (x : ℕ) → x ≢ c → x ≢ d → (a' x).status ≡ Linked → (a x).status ≡ Linked = λ x nc nd l. sym (k.notes x nc nd (gone_not a' x m k.left l)) ∙ l in
     let root : 0 ≢ m = (λ e. let z : length (h 0).prefix ≡ length (h m).prefix = ap (λ y. length (h y).prefix) e in
     let y : length (h 0).prefix ≡ 0 = ap length t.empty in absurd (omega (arith, i.longer))) in
     let parent_stays : (a' n).status ≡ Linked = grow_stays a h a' h' n m c d key v k n k.linked
@@ -207,7 +205,7 @@ grow_tree a h a' h' n m c d key v t k =
                     let q : (a' x).parent ≡ c = k.parents_moved x w p in
                     record { linked = rw q k.joined; byte = u.byte; holds = rw q (k.copied u.byte off ∙ f) })
                 | inr q ↦ old_up a h a' h' n _ t k.linked g x w ne
-                    (λ y. let z : Below m ≡ Below x = sym k.hung ∙ y in grow_left a' x m k.left l (sym cc))
+                    (λ y. let z : Below m ≡ Below x = sym k.hung ∙ y in gone_not a' x m k.left l (sym cc))
                     (grow_stays a h a' h' n m c d key v k (a x).parent u.linked q)
               ])
         ]
@@ -215,14 +213,14 @@ grow_tree a h a' h' n m c d key v t k =
     }
 
 grow_extra : {V : Type 0} (a' : ℕ → Note) (h' : ℕ → Node V) (c d : ℕ) (key : List ℕ) (v : V) → Extra a' h' c d key v → fits (h' c).prefix key ≡ true → walk h' 7 c key ≡ Some v
-grow_extra a' h' c d key v (a_value q seven has) f = enter h' 6 c key (Holds v) f has
-grow_extra a' h' c d key v (a_leaf inner has leaf joined par) f = enter h' 6 c key (Below d) f has ∙ leaf_value h' 5 d key v leaf
+grow_extra a' h' c d key v (a_value q seven has) f = walk_enters h' 6 c key (Holds v) f has
+grow_extra a' h' c d key v (a_leaf inner has leaf joined par) f = walk_enters h' 6 c key (Below d) f has ∙ leaf_value h' 5 d key v leaf
 
 grow_none : {V : Type 0} (a' : ℕ → Note) (h' : ℕ → Node V) (c d : ℕ) (key : List ℕ) (v : V) → Extra a' h' c d key v → length key ≡ 8 → (x : List ℕ) → length x ≡ 8 → x ≢ key
     → fits (h' c).prefix key ≡ true → fits (h' c).prefix x ≡ true → get_or x (length (h' c).prefix) 0 ≡ get_or key (length (h' c).prefix) 0 → walk h' 7 c x ≡ None
 grow_none a' h' c d key v (a_value q seven has) len x lx ne f f' e = absurd (ne (same_key (h' c).prefix x key f' f (omega arith) (omega arith) e))
 grow_none a' h' c d key v (a_leaf inner has leaf joined par) len x lx ne f f' e =
-    enter h' 6 c x (Below d) f' (child_moved (h' c) key x (Below d) e has) ∙ leaf_other h' 5 d key v x len lx ne leaf
+    walk_enters h' 6 c x (Below d) f' (child_moved (h' c) key x (Below d) e has) ∙ leaf_other h' 5 d key v x len lx ne leaf
 
 grow_below : {V : Type 0} (a : ℕ → Note) (h : ℕ → Node V) (a' : ℕ → Note) (h' : ℕ → Node V) (n m c d : ℕ) (key : List ℕ) (v : V) → length key ≡ 8 → Tree a h → Tree a' h' → Grows a h a' h' n m c d key v
     → (x : List ℕ) → length x ≡ 8 → x ≢ key → walk h' 7 c x ≡ walk h 7 m x
@@ -232,13 +230,13 @@ grow_below a h a' h' n m c d key v len t t' k x lx ne =
     on_test (fits (h m).prefix x)
     (λ q. elim (same_or_not (get_or x (length (h m).prefix) 0) (get_or key (length (h m).prefix) 0)) [
       | inl e ↦ grow_none a' h' c d key v k.extra len x lx ne (rw k.same_prefix k.fitted_old) (rw k.same_prefix q) (rw k.same_prefix e)
-          ∙ sym (enter h 6 m x Nothing q (child_moved (h m) key x Nothing e k.absent))
-      | inr e ↦ enter h' 6 c x ((h m).children (get_or x (length (h m).prefix) 0)) (rw k.same_prefix q) (rw k.same_prefix (k.copied _ e))
+          ∙ sym (walk_enters h 6 m x Nothing q (child_moved (h m) key x Nothing e k.absent))
+      | inr e ↦ walk_enters h' 6 c x ((h m).children (get_or x (length (h m).prefix) 0)) (rw k.same_prefix q) (rw k.same_prefix (k.copied _ e))
           ∙ (of_child_same (λ z. walk h' 6 z x) (λ z. walk h 6 z x) _
           (λ y f. let j : IsChild a h m (get_or x (length (h m).prefix) 0) y = t.down m _ y i.linked f in
           let j' : IsChild a' h' c (get_or x (length (h m).prefix) 0) y = t'.down c _ y k.joined (k.copied _ e ∙ f) in
-          untouched a h a' h' n _ t t' g 6 y x j.linked j'.linked (inl (omega (arith, i.longer, j.longer))))
-          ∙ sym (enter h 6 m x _ q refl))
+          walk_untouched a h a' h' n _ t t' g 6 y x j.linked j'.linked (inl (omega (arith, i.longer, j.longer))))
+          ∙ sym (walk_enters h 6 m x _ q refl))
     ])
     (λ q. not_here h' 6 c x (rw k.same_prefix q) ∙ sym (not_here h 6 m x q))
 
@@ -251,13 +249,13 @@ grow_map a h a' h' n m c d key v len t k =
     let i : IsChild a h n (get_or key (length (h n).prefix) 0) m = t.down n _ m k.linked k.hung in
     let l' : (a' n).status ≡ Linked = grow_stays a h a' h' n m c d key v k n k.linked
     (λ e. let z : length (h n).prefix ≡ length (h m).prefix = ap (λ y. length (h y).prefix) e in absurd (omega (arith, i.longer))) in (
-      finds a h t m key Nothing i.linked k.fitted_old k.absent,
-      finds a' h' t' n key (Below c) l' (rw k.prefix k.fitted) (rw k.prefix k.child) ∙ grow_extra a' h' c d key v k.extra (rw k.same_prefix k.fitted_old),
+      value_at_linked a h t m key Nothing i.linked k.fitted_old k.absent,
+      value_at_linked a' h' t' n key (Below c) l' (rw k.prefix k.fitted) (rw k.prefix k.child) ∙ grow_extra a' h' c d key v k.extra (rw k.same_prefix k.fitted_old),
       (λ x lx ne. on_test (fits (h n).prefix x)
           (λ q. elim (same_or_not (get_or x (length (h n).prefix) 0) (get_or key (length (h n).prefix) 0)) [
-            | inl e ↦ finds a' h' t' n x (Below c) l' (rw k.prefix q) (rw k.prefix (rw e k.child))
-                ∙ (grow_below a h a' h' n m c d key v len t t' k x lx ne ∙ sym (finds a h t n x (Below m) k.linked q (child_moved (h n) key x (Below m) e k.hung)))
-            | inr e ↦ untouched a h a' h' n _ t t' g 8 0 x t.root t'.root (inr (λ _ y. e y))
+            | inl e ↦ value_at_linked a' h' t' n x (Below c) l' (rw k.prefix q) (rw k.prefix (rw e k.child))
+                ∙ (grow_below a h a' h' n m c d key v len t t' k x lx ne ∙ sym (value_at_linked a h t n x (Below m) k.linked q (child_moved (h n) key x (Below m) e k.hung)))
+            | inr e ↦ walk_untouched a h a' h' n _ t t' g 8 0 x t.root t'.root (inr (λ _ y. e y))
           ])
-          (λ q. untouched a h a' h' n _ t t' g 8 0 x t.root t'.root (inr (λ y _. cc)))),
+          (λ q. walk_untouched a h a' h' n _ t t' g 8 0 x t.root t'.root (inr (λ y _. cc)))),
     )

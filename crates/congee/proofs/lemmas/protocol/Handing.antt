@@ -23,7 +23,7 @@ use Rattle.congee.specs.declared.protocol.phase.Double.TheVariants.{Unlink, Grow
 use Rattle.congee.specs.declared.protocol.phase.Two.{Two}
 use Rattle.congee.specs.declared.protocol.phase.Phase.{Phase}
 use Rattle.congee.specs.declared.protocol.phase.Phase.TheVariants.{MakeLeaf, MakeGreater, MakeTop, MakeBeside, MakeLesser, CheckAbove, UpgradeOne, ChangeOne, UpgradeTop, UpgradeAbove, UpgradeBelow, ChangeTwo, Obsolete, Retire, UnlockBelow, Unlock, Unwind, Ended}
-use Rattle.congee.specs.declared.protocol.turn.NextPhase.{NextPhase}
+use Rattle.congee.specs.declared.protocol.next_phase.NextPhase.{NextPhase}
 use Rattle.congee.specs.declared.protocol.machine.Machine.{Machine}
 use Rattle.congee.specs.declared.protocol.run.Step.{Step}
 use Rattle.congee.specs.Heap.{Node, Hung, Stands, is_taken}
@@ -55,10 +55,6 @@ and_not : (b c : Bool) → c ≡ false → (b && c) ≡ false
 and_not true c e = e
 and_not false c e = refl
 
-and_left : (b c : Bool) → (b && c) ≡ true → b ≡ true
-and_left true c e = refl
-and_left false c e = absurd cc
-
 module _ {V : Type 0} where
   unretired_idle : (n : Node V) → n.retired ≡ false → is_waiting n ≡ false
   unretired_idle n e = rw e refl
@@ -80,7 +76,7 @@ made_idle : {V : Type 0} (i : ℕ) (a : ℕ → Note) (h : ℕ → Node V) (key 
 made_idle i a h key c size least m = unretired_idle (h c) m.unretired
 
 -- what a call hands over has left the tree, so no path leads to what waits
-pub waiting_out : {V : Type 0} (a : ℕ → Note) (h : ℕ → Node V) (n : ℕ) → Tree a h → LockWords a h → is_waiting (h n) ≡ true → IsOut h n
+waiting_out : {V : Type 0} (a : ℕ → Note) (h : ℕ → Node V) (n : ℕ) → Tree a h → LockWords a h → is_waiting (h n) ≡ true → IsOut h n
 waiting_out a h n t w e = unlinked_out a h n t (λ l. let z : true ≡ false = sym e ∙ linked_idle a h n w l in cc)
 
 -- each node is as it was, or doesn't wait, before and after
@@ -175,94 +171,94 @@ module _ {C V : Type 0} (number : C → ℕ) (i : ℕ) (a : ℕ → Note) (h : �
       spares_then h g.1 h' s2 (spares_change g.1 h' p _ _ (still_idle h g.1 p s2 e) g.4)
 
   -- the node above both doesn't wait
-  abbrev pub TopIdle : Option (Parent C) → Type 0
+  abbrev TopIdle : Option (Parent C) → Type 0
   TopIdle None = Unit {0}
-  TopIdle (Some top) = is_waiting (h (number top.seat.node)) ≡ false
+  TopIdle (Some top) = is_waiting (h (number top.stamp.node)) ≡ false
 
   collapsed : (two : Two C) (top : Option (Parent C)) → TopIdle top → Collapses number two top h h' → SparesWaiting h h'
   collapsed two None e g = absurd g
-  collapsed two (Some top) e g = spares_change h h' (number top.seat.node) _ _ e g.2
+  collapsed two (Some top) e g = spares_change h h' (number top.stamp.node) _ _ e g.2
 
-  lessened_top : (two : Two C) (c : C) (size q : ℕ) (top : Option (Parent C)) → TopIdle top → is_waiting (h (number two.above.seat.node)) ≡ false → Made i a h key (number c) size q → Lessens number two c top h h' → SparesWaiting h h'
+  lessened_top : (two : Two C) (c : C) (size q : ℕ) (top : Option (Parent C)) → TopIdle top → is_waiting (h (number two.above.stamp.node)) ≡ false → Made i a h key (number c) size q → Lessens number two c top h h' → SparesWaiting h h'
   lessened_top two c size q None e f made g = absurd g
   lessened_top two c size q (Some top) e f made g = lessened _ _ _ _ _ size q e f made g
 
-  changed_two : (new : Option V) (two : Two C) (change : Double C) (size q : ℕ) → TopIdle two.top → is_waiting (h (number two.above.seat.node)) ≡ false → is_waiting (h (number two.at.node)) ≡ false → MadeTwo number i a h key two.above change size q
+  changed_two : (new : Option V) (two : Two C) (change : Double C) (size q : ℕ) → TopIdle two.top → is_waiting (h (number two.above.stamp.node)) ≡ false → is_waiting (h (number two.at.node)) ≡ false → MadeTwo number i a h key two.above change size q
       → ChangedTwo number key new two change h h' → SparesWaiting h h'
   changed_two new two Unlink size q u e f m g = spares_change h h' _ _ _ e g
   changed_two new two (Shrink c) size q u e f m g = lessened _ _ _ _ _ size q e f m g
   changed_two new two Collapse size q u e f m g = collapsed two two.top u g
   changed_two new two (ShrinkAbove c) size q u e f m g = lessened_top two c _ q two.top u e m.0 g
   changed_two new two (Grow c) size q u e f m g =
-      let p : ℕ = number two.above.seat.node in
+      let p : ℕ = number two.above.stamp.node in
       let ec : is_waiting (h (number c)) ≡ false = idle_made (number c) size q m in
       let s1 : SparesWaiting h g.0 = spares_take h g.0 (number two.at.node) (number c) f ec g.2 in
       let s2 : SparesWaiting h g.1 = spares_then h g.0 g.1 s1 (spares_change g.0 g.1 (number c) _ _ (still_idle h g.0 (number c) s1 ec) g.3) in
-      spares_then h g.1 h' s2 (spares_change g.1 h' (number two.above.seat.node) _ _ (still_idle h g.1 (number two.above.seat.node) s2 e) g.4)
+      spares_then h g.1 h' s2 (spares_change g.1 h' (number two.above.stamp.node) _ _ (still_idle h g.1 (number two.above.stamp.node) s2 e) g.4)
   changed_two new two (GrowLink c leaf byte) size q u e f m g =
       let ec : is_waiting (h (number c)) ≡ false = idle_made (number c) size q m.0 in
       let s1 : SparesWaiting h g.0 = spares_change h g.0 (number leaf) _ _ (idle_made (number leaf) 7 0 m.1) g.3 in
       let s2 : SparesWaiting h g.1 = spares_then h g.0 g.1 s1 (spares_take g.0 g.1 (number two.at.node) (number c) (still_idle h g.0 (number two.at.node) s1 f) (still_idle h g.0 (number c) s1 ec) g.4) in
       let s3 : SparesWaiting h g.2 = spares_then h g.1 g.2 s2 (spares_change g.1 g.2 (number c) _ _ (still_idle h g.1 (number c) s2 ec) g.5) in
-      spares_then h g.2 h' s3 (spares_change g.2 h' (number two.above.seat.node) _ _ (still_idle h g.2 (number two.above.seat.node) s3 e) g.6)
+      spares_then h g.2 h' s3 (spares_change g.2 h' (number two.above.stamp.node) _ _ (still_idle h g.2 (number two.above.stamp.node) s3 e) g.6)
   changed_two new two (Split top leaf common byte) size q u e f m g =
       let ec : is_waiting (h (number top)) ≡ false = idle_made (number top) common 1 m.0 in
       let s1 : SparesWaiting h g.0 = spares_change h g.0 (number leaf) _ _ (idle_made (number leaf) 7 0 m.1) g.3 in
       let s2 : SparesWaiting h g.1 = spares_then h g.0 g.1 s1 (spares_change g.0 g.1 (number top) _ _ (still_idle h g.0 (number top) s1 ec) g.4) in
       let s3 : SparesWaiting h g.2 = spares_then h g.1 g.2 s2 (spares_change g.1 g.2 (number top) _ _ (still_idle h g.1 (number top) s2 ec) g.5) in
-      spares_then h g.2 h' s3 (spares_change g.2 h' (number two.above.seat.node) _ _ (still_idle h g.2 (number two.above.seat.node) s3 e) g.6)
+      spares_then h g.2 h' s3 (spares_change g.2 h' (number two.above.stamp.node) _ _ (still_idle h g.2 (number two.above.stamp.node) s3 e) g.6)
 
   -- nodes are made
-  leaf_made : (kind : Kind V) (s : Site C) (r : Result C Refusal) (turn : NextPhase C V) → MadeLeaf number kind s h key r h' turn → SparesWaiting h h'
-  leaf_made kind s (Ok leaf) turn g = spares_new h h' _ _ _ _ g.0
-  leaf_made kind s (Err e) turn g = spares_same h h' g.0
+  leaf_made : (kind : Kind V) (s : Site C) (r : Result C Refusal) (next_phase : NextPhase C V) → MadeLeaf number kind s h key r h' next_phase → SparesWaiting h h'
+  leaf_made kind s (Ok leaf) next_phase g = spares_new h h' _ _ _ _ g.0
+  leaf_made kind s (Err e) next_phase g = spares_same h h' g.0
 
-  greater_made : (kind : Kind V) (s : Site C) (p : Parent C) (leaf : Option C) (r : Result C Refusal) (turn : NextPhase C V) → MadeLeafFor number i a h key s leaf → MadeGreater number kind s p leaf h key r h' turn → SparesWaiting h h'
-  greater_made kind s p leaf (Ok c) turn m g = spares_new h h' _ _ _ _ g.0
-  greater_made kind s p leaf (Err e) turn m g = back_leaf leaf s m g.0
+  greater_made : (kind : Kind V) (s : Site C) (p : Parent C) (leaf : Option C) (r : Result C Refusal) (next_phase : NextPhase C V) → MadeLeafFor number i a h key s leaf → MadeGreater number kind s p leaf h key r h' next_phase → SparesWaiting h h'
+  greater_made kind s p leaf (Ok c) next_phase m g = spares_new h h' _ _ _ _ g.0
+  greater_made kind s p leaf (Err e) next_phase m g = back_leaf leaf s m g.0
 
-  top_made : (p : Parent C) (at : Stamp C) (common byte : ℕ) (r : Result C Refusal) (turn : NextPhase C V) → MadeTop number p at common byte h key r h' turn → SparesWaiting h h'
-  top_made p at common byte (Ok top) turn g = spares_new h h' _ _ _ _ g.0
-  top_made p at common byte (Err e) turn g = spares_same h h' g.0
+  top_made : (p : Parent C) (at : Stamp C) (common byte : ℕ) (r : Result C Refusal) (next_phase : NextPhase C V) → MadeTop number p at common byte h key r h' next_phase → SparesWaiting h h'
+  top_made p at common byte (Ok top) next_phase g = spares_new h h' _ _ _ _ g.0
+  top_made p at common byte (Err e) next_phase g = spares_same h h' g.0
 
-  beside_made : (kind : Kind V) (p : Parent C) (at : Stamp C) (common byte : ℕ) (top : C) (r : Result C Refusal) (turn : NextPhase C V) → Made i a h key (number top) common 1 → MadeBeside number kind p at common byte top h key r h' turn → SparesWaiting h h'
-  beside_made kind p at common byte top (Ok leaf) turn m g = spares_new h h' _ _ _ _ g.0
-  beside_made kind p at common byte top (Err e) turn m g = spares_back h h' (number top) (idle_made (number top) common 1 m) g.0
+  beside_made : (kind : Kind V) (p : Parent C) (at : Stamp C) (common byte : ℕ) (top : C) (r : Result C Refusal) (next_phase : NextPhase C V) → Made i a h key (number top) common 1 → MadeBeside number kind p at common byte top h key r h' next_phase → SparesWaiting h h'
+  beside_made kind p at common byte top (Ok leaf) next_phase m g = spares_new h h' _ _ _ _ g.0
+  beside_made kind p at common byte top (Err e) next_phase m g = spares_back h h' (number top) (idle_made (number top) common 1 m) g.0
 
-  lesser_made : (s : Site C) (p : Parent C) (top : Option (Parent C)) (r : Reply V) (x : Result C Refusal) (turn : NextPhase C V) → MadeLesser number s p top r h key x h' turn → SparesWaiting h h'
-  lesser_made s p None r (Ok c) turn g = spares_new h h' _ _ _ _ g.0
-  lesser_made s p None r (Err e) turn g = spares_same h h' g.0
-  lesser_made s p (Some top) r (Ok c) turn g = spares_new h h' _ _ _ _ g.0
-  lesser_made s p (Some top) r (Err e) turn g = spares_same h h' g.0
+  lesser_made : (s : Site C) (p : Parent C) (top : Option (Parent C)) (r : Reply V) (x : Result C Refusal) (next_phase : NextPhase C V) → MadeLesser number s p top r h key x h' next_phase → SparesWaiting h h'
+  lesser_made s p None r (Ok c) next_phase g = spares_new h h' _ _ _ _ g.0
+  lesser_made s p None r (Err e) next_phase g = spares_same h h' g.0
+  lesser_made s p (Some top) r (Ok c) next_phase g = spares_new h h' _ _ _ _ g.0
+  lesser_made s p (Some top) r (Err e) next_phase g = spares_same h h' g.0
 
   -- a node is locked
   locked_spares : (most n v : ℕ) (fail : Bool) → LockWords a h → is_published (a n).status ≡ true → Locked ≡ upgrade_gives most (h n) v fail → SameBut h n (record (h n) { locked = true }) h' → SparesWaiting h h'
   locked_spares most n v fail w p e g =
       let q : is_waiting (h n) ≡ false = linked_idle a h n w (taken_linked a h w n v p (locked_taken most (h n) v fail e)) in spares_but h h' n _ q q g
 
-  one_upgraded : (root : C) (one : One C) (r : Reply V) (most : ℕ) (fail : Bool) (u : Upgrade) (turn : NextPhase C V) → LockWords a h → is_published (a (number one.at.node)).status ≡ true → MadeOne number i a h key one.change
-      → u ≡ upgrade_gives most (h (number one.at.node)) one.at.version fail → UpgradedOne number root one r h u h' turn → SparesWaiting h h'
-  one_upgraded root one r most fail Locked turn w p m e g = locked_spares most (number one.at.node) one.at.version fail w p e g.0
-  one_upgraded root one r most fail Failed turn w p m e g = back_one one.change m g.0
-  one_upgraded root one r most fail Exhausted turn w p m e g = back_one one.change m g.0
+  one_upgraded : (root : C) (one : One C) (r : Reply V) (most : ℕ) (fail : Bool) (u : Upgrade) (next_phase : NextPhase C V) → LockWords a h → is_published (a (number one.at.node)).status ≡ true → MadeOne number i a h key one.change
+      → u ≡ upgrade_gives most (h (number one.at.node)) one.at.version fail → UpgradedOne number root one r h u h' next_phase → SparesWaiting h h'
+  one_upgraded root one r most fail Locked next_phase w p m e g = locked_spares most (number one.at.node) one.at.version fail w p e g.0
+  one_upgraded root one r most fail Failed next_phase w p m e g = back_one one.change m g.0
+  one_upgraded root one r most fail Exhausted next_phase w p m e g = back_one one.change m g.0
 
-  top_upgraded : (root : C) (top : Parent C) (two : Two C) (r : Reply V) (size q most : ℕ) (fail : Bool) (u : Upgrade) (turn : NextPhase C V) → LockWords a h → is_published (a (number top.seat.node)).status ≡ true → MadeTwo number i a h key two.above two.change size q
-      → u ≡ upgrade_gives most (h (number top.seat.node)) top.seat.version fail → UpgradedTop number root top two r h u h' turn → SparesWaiting h h'
-  top_upgraded root top two r size q most fail Locked turn w p m e g = locked_spares most (number top.seat.node) top.seat.version fail w p e g.0
-  top_upgraded root top two r size q most fail Failed turn w p m e g = back_two two.above two.change size q m g.0
-  top_upgraded root top two r size q most fail Exhausted turn w p m e g = back_two two.above two.change size q m g.0
+  top_upgraded : (root : C) (top : Parent C) (two : Two C) (r : Reply V) (size q most : ℕ) (fail : Bool) (u : Upgrade) (next_phase : NextPhase C V) → LockWords a h → is_published (a (number top.stamp.node)).status ≡ true → MadeTwo number i a h key two.above two.change size q
+      → u ≡ upgrade_gives most (h (number top.stamp.node)) top.stamp.version fail → UpgradedTop number root top two r h u h' next_phase → SparesWaiting h h'
+  top_upgraded root top two r size q most fail Locked next_phase w p m e g = locked_spares most (number top.stamp.node) top.stamp.version fail w p e g.0
+  top_upgraded root top two r size q most fail Failed next_phase w p m e g = back_two two.above two.change size q m g.0
+  top_upgraded root top two r size q most fail Exhausted next_phase w p m e g = back_two two.above two.change size q m g.0
 
-  above_upgraded : (root : C) (two : Two C) (r : Reply V) (size q most : ℕ) (fail : Bool) (u : Upgrade) (turn : NextPhase C V) → LockWords a h → is_published (a (number two.above.seat.node)).status ≡ true → MadeTwo number i a h key two.above two.change size q
-      → u ≡ upgrade_gives most (h (number two.above.seat.node)) two.above.seat.version fail → UpgradedAbove number root two r h u h' turn → SparesWaiting h h'
-  above_upgraded root two r size q most fail Locked turn w p m e g = locked_spares most (number two.above.seat.node) two.above.seat.version fail w p e g.0
-  above_upgraded root two r size q most fail Failed turn w p m e g = back_two two.above two.change size q m g.0
-  above_upgraded root two r size q most fail Exhausted turn w p m e g = back_two two.above two.change size q m g.0
+  above_upgraded : (root : C) (two : Two C) (r : Reply V) (size q most : ℕ) (fail : Bool) (u : Upgrade) (next_phase : NextPhase C V) → LockWords a h → is_published (a (number two.above.stamp.node)).status ≡ true → MadeTwo number i a h key two.above two.change size q
+      → u ≡ upgrade_gives most (h (number two.above.stamp.node)) two.above.stamp.version fail → UpgradedAbove number root two r h u h' next_phase → SparesWaiting h h'
+  above_upgraded root two r size q most fail Locked next_phase w p m e g = locked_spares most (number two.above.stamp.node) two.above.stamp.version fail w p e g.0
+  above_upgraded root two r size q most fail Failed next_phase w p m e g = back_two two.above two.change size q m g.0
+  above_upgraded root two r size q most fail Exhausted next_phase w p m e g = back_two two.above two.change size q m g.0
 
-  both_upgraded : (two : Two C) (r : Reply V) (size q most : ℕ) (fail : Bool) (u : Upgrade) (turn : NextPhase C V) → LockWords a h → is_published (a (number two.at.node)).status ≡ true → MadeTwo number i a h key two.above two.change size q
-      → u ≡ upgrade_gives most (h (number two.at.node)) two.at.version fail → UpgradedBelow number two r h u h' turn → SparesWaiting h h'
-  both_upgraded two r size q most fail Locked turn w p m e g = locked_spares most (number two.at.node) two.at.version fail w p e g.0
-  both_upgraded two r size q most fail Failed turn w p m e g = back_two two.above two.change size q m g.0
-  both_upgraded two r size q most fail Exhausted turn w p m e g = back_two two.above two.change size q m g.0
+  both_upgraded : (two : Two C) (r : Reply V) (size q most : ℕ) (fail : Bool) (u : Upgrade) (next_phase : NextPhase C V) → LockWords a h → is_published (a (number two.at.node)).status ≡ true → MadeTwo number i a h key two.above two.change size q
+      → u ≡ upgrade_gives most (h (number two.at.node)) two.at.version fail → UpgradedBelow number two r h u h' next_phase → SparesWaiting h h'
+  both_upgraded two r size q most fail Locked next_phase w p m e g = locked_spares most (number two.at.node) two.at.version fail w p e g.0
+  both_upgraded two r size q most fail Failed next_phase w p m e g = back_two two.above two.change size q m g.0
+  both_upgraded two r size q most fail Exhausted next_phase w p m e g = back_two two.above two.change size q m g.0
 
 -- the call hands node n over: it had handed over none, or one and this is the second
 pub record Gives {C V : Type 0} (number : C → ℕ) (h : ℕ → Node V) (s : Phase C V) (n : ℕ) (h' : ℕ → Node V) (s' : Phase C V) : Type 0 where
@@ -282,36 +278,36 @@ module _ {C V : Type 0} (number : C → ℕ) (same : V → V → Bool) (always :
 
   top_idle : (top : Option (Parent C)) (n : ℕ) → TopLocked number i a h (key_bytes k) top n → TopIdle number i a h h' (key_bytes k) top
   top_idle None n o = tt
-  top_idle (Some top) n o = linked_idle a h (number top.seat.node) w o.holding.linked
+  top_idle (Some top) n o = linked_idle a h (number top.stamp.node) w o.holding.linked
 
   -- every step
-  pub step_hands : (most : ℕ) (why : NodeType → Refusal → Type 0) (root : C) (kind : Kind V) (fail : Bool) (answer : Option (Option V)) (given : Option V) (s : Phase C V) (given' : Option V) (turn : NextPhase C V)
-      → Known number same always i a h k (key_bytes k) kind given s → PhaseStepped number same always most why root (key_bytes k) kind fail answer given s h given' turn h'
-      → SparesWaiting h h' ⊎ ((n : ℕ) × Gives number h s n h' turn.phase)
-  step_hands most why root kind fail answer given (MakeLeaf s) given' turn x g = inl (leaf_made number i a h h' (key_bytes k) kind s g.1.0 turn g.1.1)
-  step_hands most why root kind fail answer given (MakeGreater s p leaf) given' turn x g = inl (greater_made number i a h h' (key_bytes k) kind s p leaf g.1.0 turn x.3 g.1.1)
-  step_hands most why root kind fail answer given (MakeTop p at common byte) given' turn x g = inl (top_made number i a h h' (key_bytes k) p at common byte g.1.0 turn g.1.1)
-  step_hands most why root kind fail answer given (MakeBeside p at common byte top) given' turn x g = inl (beside_made number i a h h' (key_bytes k) kind p at common byte top g.1.0 turn x.6 g.1.1)
-  step_hands most why root kind fail answer given (MakeLesser s p top r) given' turn x g = inl (lesser_made number i a h h' (key_bytes k) s p top r g.1.0 turn g.1.1)
-  step_hands most why root kind fail answer given (CheckAbove p one r) given' turn x g = inl (on_test (is_taken (h (number p.node)) p.version)
+  pub step_hands : (most : ℕ) (why : NodeType → Refusal → Type 0) (root : C) (kind : Kind V) (fail : Bool) (answer : Option (Option V)) (given : Option V) (s : Phase C V) (given' : Option V) (next_phase : NextPhase C V)
+      → Known number same always i a h k (key_bytes k) kind given s → PhaseStepped number same always most why root (key_bytes k) kind fail answer given s h given' next_phase h'
+      → SparesWaiting h h' ⊎ ((n : ℕ) × Gives number h s n h' next_phase.phase)
+  step_hands most why root kind fail answer given (MakeLeaf s) given' next_phase x g = inl (leaf_made number i a h h' (key_bytes k) kind s g.1.0 next_phase g.1.1)
+  step_hands most why root kind fail answer given (MakeGreater s p leaf) given' next_phase x g = inl (greater_made number i a h h' (key_bytes k) kind s p leaf g.1.0 next_phase x.3 g.1.1)
+  step_hands most why root kind fail answer given (MakeTop p at common byte) given' next_phase x g = inl (top_made number i a h h' (key_bytes k) p at common byte g.1.0 next_phase g.1.1)
+  step_hands most why root kind fail answer given (MakeBeside p at common byte top) given' next_phase x g = inl (beside_made number i a h h' (key_bytes k) kind p at common byte top g.1.0 next_phase x.6 g.1.1)
+  step_hands most why root kind fail answer given (MakeLesser s p top r) given' next_phase x g = inl (lesser_made number i a h h' (key_bytes k) s p top r g.1.0 next_phase g.1.1)
+  step_hands most why root kind fail answer given (CheckAbove p one r) given' next_phase x g = inl (on_test (is_taken (h (number p.node)) p.version)
       (λ y. spares_same h h' (g.1.goes_on y).0)
       (λ y. back_one number i a h h' (key_bytes k) one.change x.2.made (g.1.goes_back y).0))
-  step_hands most why root kind fail answer given (UpgradeOne one r) given' turn x g =
-      inl (one_upgraded number i a h h' (key_bytes k) root one r most fail g.1.0 turn w x.1.1.fresh.seated.published x.1.1.made g.1.1 g.1.2)
-  step_hands most why root kind fail answer given (ChangeOne one r) given' turn x g =
+  step_hands most why root kind fail answer given (UpgradeOne one r) given' next_phase x g =
+      inl (one_upgraded number i a h h' (key_bytes k) root one r most fail g.1.0 next_phase w x.1.1.fresh.stamped.published x.1.1.made g.1.1 g.1.2)
+  step_hands most why root kind fail answer given (ChangeOne one r) given' next_phase x g =
       inl (changed_one number i a h h' (key_bytes k) given one one.change (linked_idle a h (number one.at.node) w x.1.holding.linked) x.1.made g.1)
-  step_hands most why root kind fail answer given (UpgradeTop top two r) given' turn x g =
-      inl (top_upgraded number i a h h' (key_bytes k) root top two r _ _ most fail g.1.0 turn w x.2.fresh.seated.published x.1.2.made g.1.1 g.1.2)
-  step_hands most why root kind fail answer given (UpgradeAbove two r) given' turn x g =
-      inl (above_upgraded number i a h h' (key_bytes k) root two r _ _ most fail g.1.0 turn w x.1.2.above.fresh.seated.published x.1.2.made g.1.1 g.1.2)
-  step_hands most why root kind fail answer given (UpgradeBelow two r) given' turn x g =
-      inl (both_upgraded number i a h h' (key_bytes k) two r _ _ most fail g.1.0 turn w x.1.2.fresh.seated.published x.1.2.made g.1.1 g.1.2)
-  step_hands most why root kind fail answer given (ChangeTwo two r) given' turn x g =
-      inl (changed_two number i a h h' (key_bytes k) given two two.change _ _ (top_idle two.top _ x.2.top) (linked_idle a h (number two.above.seat.node) w x.2.above.holding.linked)
-      (linked_idle a h (number two.at.node) w (t.down (number two.above.seat.node) _ (number two.at.node) x.2.above.holding.linked x.2.above.child).linked) x.2.made g.1)
-  step_hands most why root kind fail answer given (Obsolete n next p r) given' turn x g =
+  step_hands most why root kind fail answer given (UpgradeTop top two r) given' next_phase x g =
+      inl (top_upgraded number i a h h' (key_bytes k) root top two r _ _ most fail g.1.0 next_phase w x.2.fresh.stamped.published x.1.2.made g.1.1 g.1.2)
+  step_hands most why root kind fail answer given (UpgradeAbove two r) given' next_phase x g =
+      inl (above_upgraded number i a h h' (key_bytes k) root two r _ _ most fail g.1.0 next_phase w x.1.2.above.fresh.stamped.published x.1.2.made g.1.1 g.1.2)
+  step_hands most why root kind fail answer given (UpgradeBelow two r) given' next_phase x g =
+      inl (both_upgraded number i a h h' (key_bytes k) two r _ _ most fail g.1.0 next_phase w x.1.2.fresh.stamped.published x.1.2.made g.1.1 g.1.2)
+  step_hands most why root kind fail answer given (ChangeTwo two r) given' next_phase x g =
+      inl (changed_two number i a h h' (key_bytes k) given two two.change _ _ (top_idle two.top _ x.2.top) (linked_idle a h (number two.above.stamp.node) w x.2.above.holding.linked)
+      (linked_idle a h (number two.at.node) w (t.down (number two.above.stamp.node) _ (number two.at.node) x.2.above.holding.linked x.2.above.child).linked) x.2.made g.1)
+  step_hands most why root kind fail answer given (Obsolete n next p r) given' next_phase x g =
       let q : is_waiting (h (number n)) ≡ false = unretired_idle (h (number n)) x.0.unretired in inl (spares_but h h' (number n) _ q q g.1)
-  step_hands most why root kind fail answer given (Retire n next p r) given' turn x g = inr (
+  step_hands most why root kind fail answer given (Retire n next p r) given' next_phase x g = inr (
     number n,
     record {
       taken = inl refl;
@@ -332,19 +328,19 @@ module _ {C V : Type 0} (number : C → ℕ) (same : V → V → Bool) (always :
     is None c l = tt
     is (Some d) c (inl e) = ap suc e
     is (Some d) c (inr l) = absurd l
-  step_hands most why root kind fail answer given (UnlockBelow n p r) given' turn x g = inl (unlock_spares (number n) x.0.linked g.1)
-  step_hands most why root kind fail answer given (Unlock n r) given' turn x g = inl (unlock_spares (number n) x.linked g.1)
-  step_hands most why root kind fail answer given (Unwind n next e) given' turn x g = inl (unlock_spares (number n) x.1.linked g.1)
-  step_hands most why root kind fail answer given _ given' turn x g = inl (spares_same h h' g.0)
+  step_hands most why root kind fail answer given (UnlockBelow n p r) given' next_phase x g = inl (unlock_spares (number n) x.0.linked g.1)
+  step_hands most why root kind fail answer given (Unlock n r) given' next_phase x g = inl (unlock_spares (number n) x.linked g.1)
+  step_hands most why root kind fail answer given (Unwind n next e) given' next_phase x g = inl (unlock_spares (number n) x.1.linked g.1)
+  step_hands most why root kind fail answer given _ given' next_phase x g = inl (spares_same h h' g.0)
 
   -- a call that is leaving goes on to leave
-  pub leaves_on : (most : ℕ) (why : NodeType → Refusal → Type 0) (root : C) (kind : Kind V) (fail : Bool) (answer : Option (Option V)) (given : Option V) (s : Phase C V) (given' : Option V) (turn : NextPhase C V)
-      → PhaseStepped number same always most why root (key_bytes k) kind fail answer given s h given' turn h' → (c : ℕ) → IsLeaving s c → IsLeaving turn.phase c
-  leaves_on most why root kind fail answer given (Obsolete n None p r) given' turn g c l = let P : NextPhase C V → Type 0 = λ z. IsLeaving z.phase c in subst P (sym g.2) l
-  leaves_on most why root kind fail answer given (Retire n None p r) given' turn g c l = let P : NextPhase C V → Type 0 = λ z. IsLeaving z.phase c in subst P (sym g.2) tt
-  leaves_on most why root kind fail answer given (Unlock n r) given' turn g c l = let P : NextPhase C V → Type 0 = λ z. IsLeaving z.phase c in subst P (sym g.2) tt
-  leaves_on most why root kind fail answer given Ended given' turn g c l = let P : NextPhase C V → Type 0 = λ z. IsLeaving z.phase c in subst P (sym g.2) tt
-  leaves_on most why root kind fail answer given _ given' turn g c l = absurd l
+  pub leaves_on : (most : ℕ) (why : NodeType → Refusal → Type 0) (root : C) (kind : Kind V) (fail : Bool) (answer : Option (Option V)) (given : Option V) (s : Phase C V) (given' : Option V) (next_phase : NextPhase C V)
+      → PhaseStepped number same always most why root (key_bytes k) kind fail answer given s h given' next_phase h' → (c : ℕ) → IsLeaving s c → IsLeaving next_phase.phase c
+  leaves_on most why root kind fail answer given (Obsolete n None p r) given' next_phase g c l = let P : NextPhase C V → Type 0 = λ z. IsLeaving z.phase c in subst P (sym g.2) l
+  leaves_on most why root kind fail answer given (Retire n None p r) given' next_phase g c l = let P : NextPhase C V → Type 0 = λ z. IsLeaving z.phase c in subst P (sym g.2) tt
+  leaves_on most why root kind fail answer given (Unlock n r) given' next_phase g c l = let P : NextPhase C V → Type 0 = λ z. IsLeaving z.phase c in subst P (sym g.2) tt
+  leaves_on most why root kind fail answer given Ended given' next_phase g c l = let P : NextPhase C V → Type 0 = λ z. IsLeaving z.phase c in subst P (sym g.2) tt
+  leaves_on most why root kind fail answer given _ given' next_phase g c l = absurd l
 
 -- what the calls have handed over, or taken out, with these of one call
 unfoldable pub giving : (ℕ → List ℕ) → ℕ → List ℕ → ℕ → List ℕ
@@ -486,10 +482,12 @@ module _ {C V : Type 0} (number : C → ℕ) (h : ℕ → Node V) (ms : List (Ma
   given_apart : (n : ℕ) → Gives number h m.phase n h' m'.phase → Untouched h h'
   given_apart n g c x = g.others c (λ q. let y : is_waiting (h c) ≡ false = (let P : ℕ → Type 0 = λ z. is_waiting (h z) ≡ false in subst P (sym q) g.before) in let z : true ≡ false = sym x ∙ y in cc)
 
+  -- a call's step hands over nothing, or one node that the call took out
   pub stepped_hands : ((c : ℕ) → IsLeaving m.phase c → IsLeaving m'.phase c) → SparesWaiting h h' ⊎ ((n : ℕ) × Gives number h m.phase n h' m'.phase) → StepHands number h ms i h' (set ms i m')
   stepped_hands f (inl s) = hands_nothing f s
   stepped_hands f (inr g) = hands_node g.0 g.1
 
+  -- a call's step leaves what was handed over as it is
   pub stepped_apart : SparesWaiting h h' ⊎ ((n : ℕ) × Gives number h m.phase n h' m'.phase) → Untouched h h'
   stepped_apart (inl s) = spared s
   stepped_apart (inr g) = given_apart g.0 g.1
@@ -621,6 +619,7 @@ module _ {C V : Type 0} (by : ℕ → List ℕ) (h0 : ℕ → Node V) (ss : List
       untouched = λ c y. u c (ap is_waiting (p.untouched c y) ∙ y) ∙ p.untouched c y;
     }
 
+  -- what a run handed over, with one step more: each node once, by one call, and out of the tree
   pub handing_more : HandsAt by h s.who by' h' → Handing by' h0 (ss ++ s ∷ []) h' ms'
   handing_more (inl x) = more_nothing x
   handing_more (inr x) = more_node x.0 x.1

@@ -1,5 +1,6 @@
 -- What a step leaves a call of locks and made nodes.
 use Rattle.std.proofs.Common.{◌≡◌, ◌≢◌, ℕ, ◌+◌, ◌⊎◌, inl, inr, Bool, true, false, List, get_or, refl, sym, ◌∙◌, ap, subst}
+use Rattle.std.proofs.lemmas.Bool.{true_from_ne_false}
 use Rattle.std.specs.Prelude.{Option, None, Some, Result, Ok, Err}
 use Rattle.judge.specs.declared.journal.Reply.{Reply}
 use Rattle.congee.specs.declared.forms.base_node.NodeType.{NodeType}
@@ -21,7 +22,7 @@ use Rattle.congee.specs.declared.protocol.phase.Plan.{Plan}
 use Rattle.congee.specs.declared.protocol.phase.Plan.TheVariants.{Here, Above}
 use Rattle.congee.specs.declared.protocol.phase.Phase.{Phase}
 use Rattle.congee.specs.declared.protocol.phase.Phase.TheVariants.{MakeLeaf, MakeGreater, MakeTop, MakeBeside, MakeLesser, AskNew, CheckAbove, UpgradeOne, ChangeOne, UpgradeTop, UpgradeAbove, UpgradeBelow, ChangeTwo, Obsolete, Retire, UnlockBelow, Unlock, Unwind, Ended}
-use Rattle.congee.specs.declared.protocol.turn.NextPhase.{NextPhase}
+use Rattle.congee.specs.declared.protocol.next_phase.NextPhase.{NextPhase}
 use Rattle.congee.specs.Heap.{Node, Hung, Below, is_taken}
 use Rattle.congee.specs.protocol.Events.{SameBut, NewNode, ChangeGives, TakeOverGives, BackGives}
 use Rattle.congee.specs.protocol.Steps.{node_of, both, given_up, after_top, after_retire, after_unwind, PutsLesser, Collapses, Lessens, quiet, again, decided, asking, asks_new, absent_reply, started, ready, plan_here, unless_full, unwound, greater, after_change, BackOne, BackTwo, BackLeaf, MadeLeaf, MadeGreater, MadeTop, MadeBeside, MadeLesser, UpgradedOne, UpgradedTop, UpgradedAbove, UpgradedBelow, ChangedOne, ChangedTwo, IsGivenNew, PhaseStepped}
@@ -33,10 +34,6 @@ use Rattle.congee.proofs.lemmas.Graft.{on_test}
 use Rattle.congee.proofs.lemmas.Tree.{same_or_not}
 use Rattle.congee.proofs.lemmas.protocol.Touch.{by_test, owner_locked}
 use Rattle.congee.proofs.lemmas.protocol.Change.{made_apart}
-
-made_if : (b : Bool) → (b ≡ false → ⊥) → b ≡ true
-made_if true f = refl
-made_if false f = absurd (f refl)
 
 -- where the made nodes of a plan are, when it begins
 started_made : {C V : Type 0} (number : C → ℕ) (plan : Plan C) (r : Reply V) (n : ℕ) → MadeForPlan number plan n → MadeBy number (started plan r).phase n
@@ -146,7 +143,7 @@ module _ {C V : Type 0} (number : C → ℕ) (same : V → V → Bool) (always :
   mine_now : (n : ℕ) → (a' n).status ≡ Held i → (((a n).status ≡ Held i) × (h' n ≡ h n)) ⊎ (((h n).made ≡ false) × ((h' n).made ≡ true))
   mine_now n e = elim ((f n).held i e) [
     | inl x ↦ inl x
-    | inr x ↦ inr (x.1, made_if (h' n).made (λ z. let y : (a' n).status ≡ Unmade = (w'.each n).unmade z in let q : Unmade ≡ Held i = sym y ∙ e in cc))
+    | inr x ↦ inr (x.1, true_from_ne_false (h' n).made (λ z. let y : (a' n).status ≡ Unmade = (w'.each n).unmade z in let q : Unmade ≡ Held i = sym y ∙ e in cc))
   ]
 
   -- where no lock is taken and no node is made
@@ -303,6 +300,7 @@ module _ {C V : Type 0} (number : C → ℕ) (i : ℕ) (a : ℕ → Note) (h : �
 
 module _ {C V : Type 0} (number : C → ℕ) (same : V → V → Bool) (always : Bool) (i : ℕ) (a : ℕ → Note) (h : ℕ → Node V) (a' : ℕ → Note) (h' : ℕ → Node V) (k : ℕ)
     (w : LockWords a h) (t : Tree a h) (w' : LockWords a' h') (t' : Tree a' h') (f : (n : ℕ) → Fares i (a n) (a' n) (h n) (h' n)) where
+  -- after the step the call's locks and made nodes are those that its next phase has
   abbrev pub Now : Phase C V → Type 0
   Now s = Holds_now number same always i a h a' h' (key_bytes k) w w' t' f s
 
@@ -312,8 +310,8 @@ module _ {C V : Type 0} (number : C → ℕ) (same : V → V → Bool) (always :
   abbrev Mine : (ℕ → Type 0) → Type 0
   Mine M = (n : ℕ) → (a n).status ≡ Held i → M n
 
-  at_turn : (x y : NextPhase C V) → y ≡ x → Now x.phase → Now y.phase
-  at_turn x y e m = let P : NextPhase C V → Type 0 = λ z. Now z.phase in subst P (sym e) m
+  at_next_phase : (x y : NextPhase C V) → y ≡ x → Now x.phase → Now y.phase
+  at_next_phase x y e m = let P : NextPhase C V → Type 0 = λ z. Now z.phase in subst P (sym e) m
 
   -- a call that holds nothing before a step that leaves the nodes holds nothing after it
   calm_bare : h' ≡ h → Own (λ _. ⊥) → Mine (λ _. ⊥) → (s : Phase C V) → Now s
@@ -355,39 +353,39 @@ module _ {C V : Type 0} (number : C → ℕ) (same : V → V → Bool) (always :
   only_new m n (inl x) = absurd x
   only_new m n (inr x) = x
 
-  leaf_holds : (kind : Kind V) (s : Site C) (r : Result C Refusal) (turn : NextPhase C V) → Own (λ _. ⊥) → Mine (λ _. ⊥) → MadeLeaf number kind s h (key_bytes k) r h' turn → Now turn.phase
-  leaf_holds kind s (Ok leaf) turn o m g = at_turn _ turn g.1 (new_made (number leaf) _ 7 g.0 o (λ _. ⊥) m _ (by_leaf leaf)) where
+  leaf_holds : (kind : Kind V) (s : Site C) (r : Result C Refusal) (next_phase : NextPhase C V) → Own (λ _. ⊥) → Mine (λ _. ⊥) → MadeLeaf number kind s h (key_bytes k) r h' next_phase → Now next_phase.phase
+  leaf_holds kind s (Ok leaf) next_phase o m g = at_next_phase _ next_phase g.1 (new_made (number leaf) _ 7 g.0 o (λ _. ⊥) m _ (by_leaf leaf)) where
     by_leaf : (leaf : C) (n : ℕ) → ⊥ ⊎ (n ≡ number leaf) → MadeBy number (unless_full kind s s.full s.above (Some leaf) (Link leaf)).phase n
     by_leaf leaf n (inl x) = absurd x
     by_leaf leaf n (inr x) = let P : ℕ → Type 0 = λ y. MadeBy number (unless_full kind s s.full s.above (Some leaf) (Link leaf)).phase y in subst P (sym x) (unless_made number kind s s.full s.above leaf)
-  leaf_holds kind s (Err e) turn o m g = at_turn _ turn g.1 (calm_bare g.0 o m Ended)
+  leaf_holds kind s (Err e) next_phase o m g = at_next_phase _ next_phase g.1 (calm_bare g.0 o m Ended)
 
-  greater_holds : (kind : Kind V) (s : Site C) (p : Parent C) (leaf : Option C) (r : Result C Refusal) (turn : NextPhase C V) → Own (λ _. ⊥) → Mine (IsMade number leaf) → MadeLeafFor number i a h (key_bytes k) s leaf
-      → MadeGreater number kind s p leaf h (key_bytes k) r h' turn → Now turn.phase
-  greater_holds kind s p leaf (Ok c) turn o m l g = at_turn _ turn g.1
+  greater_holds : (kind : Kind V) (s : Site C) (p : Parent C) (leaf : Option C) (r : Result C Refusal) (next_phase : NextPhase C V) → Own (λ _. ⊥) → Mine (IsMade number leaf) → MadeLeafFor number i a h (key_bytes k) s leaf
+      → MadeGreater number kind s p leaf h (key_bytes k) r h' next_phase → Now next_phase.phase
+  greater_holds kind s p leaf (Ok c) next_phase o m l g = at_next_phase _ next_phase g.1
       (new_made (number c) _ s.depth g.0 o (IsMade number leaf) m _ (λ n x. ready_made number kind (Above (both p s (greater s leaf c))) n (greater_for number s leaf c n x)))
-  greater_holds kind s p leaf (Err e) turn o m l g = at_turn _ turn g.1 (back_bare o (IsMade number leaf) m (all_leaf number i a h h' (key_bytes k) leaf s l g.0) Ended)
+  greater_holds kind s p leaf (Err e) next_phase o m l g = at_next_phase _ next_phase g.1 (back_bare o (IsMade number leaf) m (all_leaf number i a h h' (key_bytes k) leaf s l g.0) Ended)
 
-  top_holds : (p : Parent C) (at : Stamp C) (common byte : ℕ) (r : Result C Refusal) (turn : NextPhase C V) → Own (λ _. ⊥) → Mine (λ _. ⊥) → MadeTop number p at common byte h (key_bytes k) r h' turn → Now turn.phase
-  top_holds p at common byte (Ok top) turn o m g = at_turn _ turn g.1 (new_made (number top) _ common g.0 o (λ _. ⊥) m _ (by_top top)) where
+  top_holds : (p : Parent C) (at : Stamp C) (common byte : ℕ) (r : Result C Refusal) (next_phase : NextPhase C V) → Own (λ _. ⊥) → Mine (λ _. ⊥) → MadeTop number p at common byte h (key_bytes k) r h' next_phase → Now next_phase.phase
+  top_holds p at common byte (Ok top) next_phase o m g = at_next_phase _ next_phase g.1 (new_made (number top) _ common g.0 o (λ _. ⊥) m _ (by_top top)) where
     by_top : (top : C) (n : ℕ) → ⊥ ⊎ (n ≡ number top) → n ≡ number top
     by_top top n (inl x) = absurd x
     by_top top n (inr x) = x
-  top_holds p at common byte (Err e) turn o m g = at_turn _ turn g.1 (calm_bare g.0 o m Ended)
+  top_holds p at common byte (Err e) next_phase o m g = at_next_phase _ next_phase g.1 (calm_bare g.0 o m Ended)
 
-  beside_holds : (kind : Kind V) (p : Parent C) (at : Stamp C) (common byte : ℕ) (top : C) (r : Result C Refusal) (turn : NextPhase C V) → Own (λ _. ⊥) → Mine (λ n. n ≡ number top) → Made i a h (key_bytes k) (number top) common 1
-      → MadeBeside number kind p at common byte top h (key_bytes k) r h' turn → Now turn.phase
-  beside_holds kind p at common byte top (Ok leaf) turn o m l g = at_turn _ turn g.1
+  beside_holds : (kind : Kind V) (p : Parent C) (at : Stamp C) (common byte : ℕ) (top : C) (r : Result C Refusal) (next_phase : NextPhase C V) → Own (λ _. ⊥) → Mine (λ n. n ≡ number top) → Made i a h (key_bytes k) (number top) common 1
+      → MadeBeside number kind p at common byte top h (key_bytes k) r h' next_phase → Now next_phase.phase
+  beside_holds kind p at common byte top (Ok leaf) next_phase o m l g = at_next_phase _ next_phase g.1
       (new_made (number leaf) _ 7 g.0 o (λ n. n ≡ number top) m _ (λ n x. ready_made number kind (Above (record { top = None; above = p; at = at; change = Split top leaf common byte })) n x))
-  beside_holds kind p at common byte top (Err e) turn o m l g =
+  beside_holds kind p at common byte top (Err e) next_phase o m l g =
       let r : Returns h h' × IsBack (h (number top)) (h' (number top)) = back_node i a h (key_bytes k) (number top) common 1 h' l g.0 in
-      at_turn _ turn g.1 (back_bare o (λ n. n ≡ number top) m (r.0, (λ n x. at_node number i a h h' (key_bytes k) n (number top) x r.1)) Ended)
+      at_next_phase _ next_phase g.1 (back_bare o (λ n. n ≡ number top) m (r.0, (λ n x. at_node number i a h h' (key_bytes k) n (number top) x r.1)) Ended)
 
-  lesser_holds : (s : Site C) (p : Parent C) (top : Option (Parent C)) (r : Reply V) (x : Result C Refusal) (turn : NextPhase C V) → Own (λ _. ⊥) → Mine (λ _. ⊥) → MadeLesser number s p top r h (key_bytes k) x h' turn → Now turn.phase
-  lesser_holds s p None r (Ok c) turn o m g = at_turn _ turn g.1 (new_made (number c) _ s.depth g.0 o (λ _. ⊥) m _ (only_new (number c)))
-  lesser_holds s p None r (Err e) turn o m g = at_turn _ turn g.1 (calm_bare g.0 o m _)
-  lesser_holds s p (Some top) r (Ok c) turn o m g = at_turn _ turn g.1 (new_made (number c) _ p.depth g.0 o (λ _. ⊥) m _ (only_new (number c)))
-  lesser_holds s p (Some top) r (Err e) turn o m g = at_turn _ turn g.1 (calm_bare g.0 o m _)
+  lesser_holds : (s : Site C) (p : Parent C) (top : Option (Parent C)) (r : Reply V) (x : Result C Refusal) (next_phase : NextPhase C V) → Own (λ _. ⊥) → Mine (λ _. ⊥) → MadeLesser number s p top r h (key_bytes k) x h' next_phase → Now next_phase.phase
+  lesser_holds s p None r (Ok c) next_phase o m g = at_next_phase _ next_phase g.1 (new_made (number c) _ s.depth g.0 o (λ _. ⊥) m _ (only_new (number c)))
+  lesser_holds s p None r (Err e) next_phase o m g = at_next_phase _ next_phase g.1 (calm_bare g.0 o m _)
+  lesser_holds s p (Some top) r (Ok c) next_phase o m g = at_next_phase _ next_phase g.1 (new_made (number c) _ p.depth g.0 o (λ _. ⊥) m _ (only_new (number c)))
+  lesser_holds s p (Some top) r (Err e) next_phase o m g = at_next_phase _ next_phase g.1 (calm_bare g.0 o m _)
 
   -- a node is locked
   lock_holds : (L M : ℕ → Type 0) (m : ℕ) → SameBut h m (record (h m) { locked = true }) h' → Own L → Mine M → (s : Phase C V) → ((n : ℕ) → L n ⊎ (n ≡ m) → LockedBy number s n) → ((n : ℕ) → M n → MadeBy number s n) → Now s
@@ -403,16 +401,16 @@ module _ {C V : Type 0} (number : C → ℕ) (same : V → V → Bool) (always :
   only m n (inl x) = absurd x
   only m n (inr x) = x
 
-  one_upgraded : (root : C) (one : One C) (r : Reply V) (u : Upgrade) (turn : NextPhase C V) → Own (λ _. ⊥) → Mine (MadeForOne number one.change) → MadeOne number i a h (key_bytes k) one.change → UpgradedOne number root one r h u h' turn → Now turn.phase
-  one_upgraded root one r Locked turn o m l g = at_turn _ turn g.1 (lock_holds (λ _. ⊥) (MadeForOne number one.change) (number one.at.node) g.0 o m (ChangeOne one r) (only (number one.at.node)) (λ n x. x))
-  one_upgraded root one r Failed turn o m l g = at_turn _ turn g.1 (back_bare o (MadeForOne number one.change) m (all_one number i a h h' (key_bytes k) one.change l g.0) _)
-  one_upgraded root one r Exhausted turn o m l g = at_turn _ turn g.1 (back_bare o (MadeForOne number one.change) m (all_one number i a h h' (key_bytes k) one.change l g.0) _)
+  one_upgraded : (root : C) (one : One C) (r : Reply V) (u : Upgrade) (next_phase : NextPhase C V) → Own (λ _. ⊥) → Mine (MadeForOne number one.change) → MadeOne number i a h (key_bytes k) one.change → UpgradedOne number root one r h u h' next_phase → Now next_phase.phase
+  one_upgraded root one r Locked next_phase o m l g = at_next_phase _ next_phase g.1 (lock_holds (λ _. ⊥) (MadeForOne number one.change) (number one.at.node) g.0 o m (ChangeOne one r) (only (number one.at.node)) (λ n x. x))
+  one_upgraded root one r Failed next_phase o m l g = at_next_phase _ next_phase g.1 (back_bare o (MadeForOne number one.change) m (all_one number i a h h' (key_bytes k) one.change l g.0) _)
+  one_upgraded root one r Exhausted next_phase o m l g = at_next_phase _ next_phase g.1 (back_bare o (MadeForOne number one.change) m (all_one number i a h h' (key_bytes k) one.change l g.0) _)
 
-  top_upgraded : (root : C) (top : Parent C) (two : Two C) (r : Reply V) (size q : ℕ) (u : Upgrade) (turn : NextPhase C V) → Own (λ _. ⊥) → Mine (MadeForTwo number two.change) → MadeTwo number i a h (key_bytes k) two.above two.change size q
-      → UpgradedTop number root top two r h u h' turn → Now turn.phase
-  top_upgraded root top two r size q Locked turn o m l g = at_turn _ turn g.1 (lock_holds (λ _. ⊥) (MadeForTwo number two.change) (number top.seat.node) g.0 o m (UpgradeAbove (record two { top = Some top }) r) (only (number top.seat.node)) (λ n x. x))
-  top_upgraded root top two r size q Failed turn o m l g = at_turn _ turn g.1 (back_bare o (MadeForTwo number two.change) m (all_two number i a h h' (key_bytes k) two.above two.change size q l g.0) _)
-  top_upgraded root top two r size q Exhausted turn o m l g = at_turn _ turn g.1 (back_bare o (MadeForTwo number two.change) m (all_two number i a h h' (key_bytes k) two.above two.change size q l g.0) _)
+  top_upgraded : (root : C) (top : Parent C) (two : Two C) (r : Reply V) (size q : ℕ) (u : Upgrade) (next_phase : NextPhase C V) → Own (λ _. ⊥) → Mine (MadeForTwo number two.change) → MadeTwo number i a h (key_bytes k) two.above two.change size q
+      → UpgradedTop number root top two r h u h' next_phase → Now next_phase.phase
+  top_upgraded root top two r size q Locked next_phase o m l g = at_next_phase _ next_phase g.1 (lock_holds (λ _. ⊥) (MadeForTwo number two.change) (number top.stamp.node) g.0 o m (UpgradeAbove (record two { top = Some top }) r) (only (number top.stamp.node)) (λ n x. x))
+  top_upgraded root top two r size q Failed next_phase o m l g = at_next_phase _ next_phase g.1 (back_bare o (MadeForTwo number two.change) m (all_two number i a h h' (key_bytes k) two.above two.change size q l g.0) _)
+  top_upgraded root top two r size q Exhausted next_phase o m l g = at_next_phase _ next_phase g.1 (back_bare o (MadeForTwo number two.change) m (all_two number i a h h' (key_bytes k) two.above two.change size q l g.0) _)
 
   -- the made nodes go back, and the locks of the nodes above stay
   back_locked : (p : C) (next : Option C) (refusal : Option Refusal) (M : ℕ → Type 0) → Own (λ n. (n ≡ number p) ⊎ IsMade number next n) → Mine M → AllBack number i a h h' (key_bytes k) M → Now (Unwind p next refusal)
@@ -424,39 +422,39 @@ module _ {C V : Type 0} (number : C → ℕ) (same : V → V → Bool) (always :
   gives_up : (root : C) (top : Option (Parent C)) (refusal : Option Refusal) (M : ℕ → Type 0) → Own (IsTop number top) → Mine M → AllBack number i a h h' (key_bytes k) M → Now (given_up {V = V} root top refusal).phase
   gives_up root None None M o m g = back_bare o M m g _
   gives_up root None (Some e) M o m g = back_bare o M m g _
-  gives_up root (Some top) refusal M o m g = back_locked top.seat.node None refusal M (λ n x. inl (o n x)) m g
+  gives_up root (Some top) refusal M o m g = back_locked top.stamp.node None refusal M (λ n x. inl (o n x)) m g
 
   swap : (L M : Type 0) → L ⊎ M → M ⊎ L
   swap L M (inl x) = inr x
   swap L M (inr x) = inl x
 
-  above_upgraded : (root : C) (two : Two C) (r : Reply V) (size q : ℕ) (u : Upgrade) (turn : NextPhase C V) → Own (IsTop number two.top) → Mine (MadeForTwo number two.change) → MadeTwo number i a h (key_bytes k) two.above two.change size q
-      → UpgradedAbove number root two r h u h' turn → Now turn.phase
-  above_upgraded root two r size q Locked turn o m l g = at_turn _ turn g.1 (lock_holds (IsTop number two.top) (MadeForTwo number two.change) (number two.above.seat.node) g.0 o m (UpgradeBelow two r) (λ n x. swap _ _ x) (λ n x. x))
-  above_upgraded root two r size q Failed turn o m l g = at_turn _ turn g.1 (gives_up root two.top None (MadeForTwo number two.change) o m (all_two number i a h h' (key_bytes k) two.above two.change size q l g.0))
-  above_upgraded root two r size q Exhausted turn o m l g = at_turn _ turn g.1 (gives_up root two.top _ (MadeForTwo number two.change) o m (all_two number i a h h' (key_bytes k) two.above two.change size q l g.0))
+  above_upgraded : (root : C) (two : Two C) (r : Reply V) (size q : ℕ) (u : Upgrade) (next_phase : NextPhase C V) → Own (IsTop number two.top) → Mine (MadeForTwo number two.change) → MadeTwo number i a h (key_bytes k) two.above two.change size q
+      → UpgradedAbove number root two r h u h' next_phase → Now next_phase.phase
+  above_upgraded root two r size q Locked next_phase o m l g = at_next_phase _ next_phase g.1 (lock_holds (IsTop number two.top) (MadeForTwo number two.change) (number two.above.stamp.node) g.0 o m (UpgradeBelow two r) (λ n x. swap _ _ x) (λ n x. x))
+  above_upgraded root two r size q Failed next_phase o m l g = at_next_phase _ next_phase g.1 (gives_up root two.top None (MadeForTwo number two.change) o m (all_two number i a h h' (key_bytes k) two.above two.change size q l g.0))
+  above_upgraded root two r size q Exhausted next_phase o m l g = at_next_phase _ next_phase g.1 (gives_up root two.top _ (MadeForTwo number two.change) o m (all_two number i a h h' (key_bytes k) two.above two.change size q l g.0))
 
   top_is : (top : Option (Parent C)) (n : ℕ) → IsTop number top n → IsMade number (node_of top) n
   top_is None n x = x
   top_is (Some top) n x = x
 
-  above_or_top : (two : Two C) (n : ℕ) → (n ≡ number two.above.seat.node) ⊎ IsTop number two.top n → (n ≡ number two.above.seat.node) ⊎ IsMade number (node_of two.top) n
+  above_or_top : (two : Two C) (n : ℕ) → (n ≡ number two.above.stamp.node) ⊎ IsTop number two.top n → (n ≡ number two.above.stamp.node) ⊎ IsMade number (node_of two.top) n
   above_or_top two n (inl x) = inl x
   above_or_top two n (inr x) = inr (top_is two.top n x)
 
-  all_locked : (two : Two C) (n : ℕ) → ((n ≡ number two.above.seat.node) ⊎ IsTop number two.top n) ⊎ (n ≡ number two.at.node) → ((n ≡ number two.above.seat.node) ⊎ (n ≡ number two.at.node)) ⊎ IsTop number two.top n
+  all_locked : (two : Two C) (n : ℕ) → ((n ≡ number two.above.stamp.node) ⊎ IsTop number two.top n) ⊎ (n ≡ number two.at.node) → ((n ≡ number two.above.stamp.node) ⊎ (n ≡ number two.at.node)) ⊎ IsTop number two.top n
   all_locked two n (inl (inl x)) = inl (inl x)
   all_locked two n (inl (inr x)) = inr x
   all_locked two n (inr x) = inl (inr x)
 
-  both_upgraded : (two : Two C) (r : Reply V) (size q : ℕ) (u : Upgrade) (turn : NextPhase C V) → Own (λ n. (n ≡ number two.above.seat.node) ⊎ IsTop number two.top n) → Mine (MadeForTwo number two.change) → MadeTwo number i a h (key_bytes k) two.above two.change size q
-      → UpgradedBelow number two r h u h' turn → Now turn.phase
-  both_upgraded two r size q Locked turn o m l g = at_turn _ turn g.1
-      (lock_holds (λ n. (n ≡ number two.above.seat.node) ⊎ IsTop number two.top n) (MadeForTwo number two.change) (number two.at.node) g.0 o m (ChangeTwo two r) (all_locked two) (λ n x. x))
-  both_upgraded two r size q Failed turn o m l g = at_turn _ turn g.1
-      (back_locked two.above.seat.node (node_of two.top) None (MadeForTwo number two.change) (λ n x. above_or_top two n (o n x)) m (all_two number i a h h' (key_bytes k) two.above two.change size q l g.0))
-  both_upgraded two r size q Exhausted turn o m l g = at_turn _ turn g.1
-      (back_locked two.above.seat.node (node_of two.top) _ (MadeForTwo number two.change) (λ n x. above_or_top two n (o n x)) m (all_two number i a h h' (key_bytes k) two.above two.change size q l g.0))
+  both_upgraded : (two : Two C) (r : Reply V) (size q : ℕ) (u : Upgrade) (next_phase : NextPhase C V) → Own (λ n. (n ≡ number two.above.stamp.node) ⊎ IsTop number two.top n) → Mine (MadeForTwo number two.change) → MadeTwo number i a h (key_bytes k) two.above two.change size q
+      → UpgradedBelow number two r h u h' next_phase → Now next_phase.phase
+  both_upgraded two r size q Locked next_phase o m l g = at_next_phase _ next_phase g.1
+      (lock_holds (λ n. (n ≡ number two.above.stamp.node) ⊎ IsTop number two.top n) (MadeForTwo number two.change) (number two.at.node) g.0 o m (ChangeTwo two r) (all_locked two) (λ n x. x))
+  both_upgraded two r size q Failed next_phase o m l g = at_next_phase _ next_phase g.1
+      (back_locked two.above.stamp.node (node_of two.top) None (MadeForTwo number two.change) (λ n x. above_or_top two n (o n x)) m (all_two number i a h h' (key_bytes k) two.above two.change size q l g.0))
+  both_upgraded two r size q Exhausted next_phase o m l g = at_next_phase _ next_phase g.1
+      (back_locked two.above.stamp.node (node_of two.top) _ (MadeForTwo number two.change) (λ n x. above_or_top two n (o n x)) m (all_two number i a h h' (key_bytes k) two.above two.change size q l g.0))
 
   -- what hangs in the tree is held by no call
   hung_free : (n m b c : ℕ) → (a' m).status ≡ Linked → (h' m).children b ≡ Below c → n ≡ c → (a' n).status ≡ Held i → ⊥
@@ -471,37 +469,37 @@ module _ {C V : Type 0} (number : C → ℕ) (same : V → V → Bool) (always :
 
   -- the changed node stays in the tree
   abbrev StaysIn : Two C → Double C → Option (Parent C) → Type 0
-  StaysIn two Collapse (Some top) = (a' (number top.seat.node)).status ≡ Linked
-  StaysIn two (ShrinkAbove c) (Some top) = (a' (number top.seat.node)).status ≡ Linked
+  StaysIn two Collapse (Some top) = (a' (number top.stamp.node)).status ≡ Linked
+  StaysIn two (ShrinkAbove c) (Some top) = (a' (number top.stamp.node)).status ≡ Linked
   StaysIn two Collapse None = Unit {0}
   StaysIn two (ShrinkAbove c) None = Unit {0}
-  StaysIn two _ top = (a' (number two.above.seat.node)).status ≡ Linked
+  StaysIn two _ top = (a' (number two.above.stamp.node)).status ≡ Linked
 
   lesser_hung : (two : Two C) (c : C) (top : Option (Parent C)) → StaysIn two (ShrinkAbove c) top → Lessens number two c top h h' → (n : ℕ) → n ≡ number c → (a' n).status ≡ Held i → ⊥
   lesser_hung two c None l g n y x = g
-  lesser_hung two c (Some top) l g n y x = hung_free n (number top.seat.node) top.byte (number c) l g.4.child y x
+  lesser_hung two c (Some top) l g n y x = hung_free n (number top.stamp.node) top.byte (number c) l g.4.child y x
 
-  two_changed : (given : Option V) (two : Two C) (change : Double C) (size q : ℕ) → (a (number two.above.seat.node)).status ≡ Linked → StaysIn two change two.top → MadeTwo number i a h (key_bytes k) two.above change size q
+  two_changed : (given : Option V) (two : Two C) (change : Double C) (size q : ℕ) → (a (number two.above.stamp.node)).status ≡ Linked → StaysIn two change two.top → MadeTwo number i a h (key_bytes k) two.above change size q
       → ChangedTwo number (key_bytes k) given two change h h' → (n : ℕ) → MadeForTwo number change n → (a' n).status ≡ Held i → ⊥
   two_changed given two Unlink size q l0 l m g n y x = y
   two_changed given two Collapse size q l0 l m g n y x = y
-  two_changed given two (Shrink c) size q l0 l m g n y x = hung_free n (number two.above.seat.node) two.above.byte (number c) l g.4.child y x
+  two_changed given two (Shrink c) size q l0 l m g n y x = hung_free n (number two.above.stamp.node) two.above.byte (number c) l g.4.child y x
   two_changed given two (ShrinkAbove c) size q l0 l m g n y x = lesser_hung two c two.top l g n y x
-  two_changed given two (Grow c) size q l0 l m g n y x = hung_free n (number two.above.seat.node) two.above.byte (number c) l g.4.child y x
-  two_changed given two (GrowLink c leaf byte) size q l0 l m g n (inl y) x = hung_free n (number two.above.seat.node) two.above.byte (number c) l g.6.child y x
+  two_changed given two (Grow c) size q l0 l m g n y x = hung_free n (number two.above.stamp.node) two.above.byte (number c) l g.4.child y x
+  two_changed given two (GrowLink c leaf byte) size q l0 l m g n (inl y) x = hung_free n (number two.above.stamp.node) two.above.byte (number c) l g.6.child y x
   two_changed given two (GrowLink c leaf byte) size q l0 l m g n (inr y) x =
-      let cl : (a' (number c)).status ≡ Linked = (t'.down (number two.above.seat.node) two.above.byte (number c) l g.6.child).linked in
-      let e : h' (number c) ≡ g.2 (number c) = g.6.others (number c) (made_apart i a h (key_bytes k) (number c) size q (number two.above.seat.node) m.0 (ap is_published l0)) in
+      let cl : (a' (number c)).status ≡ Linked = (t'.down (number two.above.stamp.node) two.above.byte (number c) l g.6.child).linked in
+      let e : h' (number c) ≡ g.2 (number c) = g.6.others (number c) (made_apart i a h (key_bytes k) (number c) size q (number two.above.stamp.node) m.0 (ap is_published l0)) in
       hung_free n (number c) byte (number leaf) cl (rw e g.5.child) y x
-  two_changed given two (Split top leaf common byte) size q l0 l m g n (inl y) x = hung_free n (number two.above.seat.node) two.above.byte (number top) l g.6.child y x
+  two_changed given two (Split top leaf common byte) size q l0 l m g n (inl y) x = hung_free n (number two.above.stamp.node) two.above.byte (number top) l g.6.child y x
   two_changed given two (Split top leaf common byte) size q l0 l m g n (inr y) x =
-      let cl : (a' (number top)).status ≡ Linked = (t'.down (number two.above.seat.node) two.above.byte (number top) l g.6.child).linked in
-      let e : h' (number top) ≡ g.2 (number top) = g.6.others (number top) (made_apart i a h (key_bytes k) (number top) common 1 (number two.above.seat.node) m.0 (ap is_published l0)) in
+      let cl : (a' (number top)).status ≡ Linked = (t'.down (number two.above.stamp.node) two.above.byte (number top) l g.6.child).linked in
+      let e : h' (number top) ≡ g.2 (number top) = g.6.others (number top) (made_apart i a h (key_bytes k) (number top) common 1 (number two.above.stamp.node) m.0 (ap is_published l0)) in
       hung_free n (number top) (get_or (key_bytes k) common 0) (number leaf) cl (rw e g.5.child) y x
 
   -- the locks that a change of two nodes leaves, or of three
   abbrev Locks : Two C → Option (Parent C) → ℕ → Type 0
-  Locks two top n = ((n ≡ number two.above.seat.node) ⊎ (n ≡ number two.at.node)) ⊎ IsTop number top n
+  Locks two top n = ((n ≡ number two.above.stamp.node) ⊎ (n ≡ number two.at.node)) ⊎ IsTop number top n
 
   abbrev Goes : Two C → Double C → Option (Parent C) → Phase C V → Type 0
   Goes two change top s = StaysIn two change top × ((n : ℕ) → Locks two top n → LockedBy number s n)
@@ -510,50 +508,50 @@ module _ {C V : Type 0} (number : C → ℕ) (same : V → V → Bool) (always :
   no_top None n e x = x
   no_top (Some top) n e x = absurd cc
 
-  marks : (two : Two C) (r : Reply V) (turn : NextPhase C V) (given' : Option V) (kind : Kind V) (top : Option (Parent C)) → turn ≡ decided (Obsolete two.at.node None two.above.seat.node r) → top ≡ None → Known number same always i a' h' k (key_bytes k) kind given' turn.phase
-      → ((a' (number two.above.seat.node)).status ≡ Linked) × ((n : ℕ) → Locks two top n → LockedBy number turn.phase n)
-  marks two r turn given' kind top e z =
-      let P : NextPhase C V → Type 0 = λ y. Known number same always i a' h' k (key_bytes k) kind given' y.phase → ((a' (number two.above.seat.node)).status ≡ Linked) × ((n : ℕ) → Locks two top n → LockedBy number y.phase n) in
+  marks : (two : Two C) (r : Reply V) (next_phase : NextPhase C V) (given' : Option V) (kind : Kind V) (top : Option (Parent C)) → next_phase ≡ decided (Obsolete two.at.node None two.above.stamp.node r) → top ≡ None → Known number same always i a' h' k (key_bytes k) kind given' next_phase.phase
+      → ((a' (number two.above.stamp.node)).status ≡ Linked) × ((n : ℕ) → Locks two top n → LockedBy number next_phase.phase n)
+  marks two r next_phase given' kind top e z =
+      let P : NextPhase C V → Type 0 = λ y. Known number same always i a' h' k (key_bytes k) kind given' y.phase → ((a' (number two.above.stamp.node)).status ≡ Linked) × ((n : ℕ) → Locks two top n → LockedBy number y.phase n) in
       subst P (sym e) (λ x. (x.0.above.linked, by_lock))
     where
-      by_lock : (n : ℕ) → Locks two top n → ((n ≡ number two.above.seat.node) ⊎ (n ≡ number two.at.node)) ⊎ ⊥
+      by_lock : (n : ℕ) → Locks two top n → ((n ≡ number two.above.stamp.node) ⊎ (n ≡ number two.at.node)) ⊎ ⊥
       by_lock n (inl y) = inl y
       by_lock n (inr y) = inr (no_top top n z y)
 
-  lets_go : (two : Two C) (r : Reply V) (turn : NextPhase C V) (given' : Option V) (kind : Kind V) (top : Option (Parent C)) → turn ≡ decided (UnlockBelow two.at.node two.above.seat.node r) → top ≡ None → Known number same always i a' h' k (key_bytes k) kind given' turn.phase
-      → ((a' (number two.above.seat.node)).status ≡ Linked) × ((n : ℕ) → Locks two top n → LockedBy number turn.phase n)
-  lets_go two r turn given' kind top e z =
-      let P : NextPhase C V → Type 0 = λ y. Known number same always i a' h' k (key_bytes k) kind given' y.phase → ((a' (number two.above.seat.node)).status ≡ Linked) × ((n : ℕ) → Locks two top n → LockedBy number y.phase n) in
+  lets_go : (two : Two C) (r : Reply V) (next_phase : NextPhase C V) (given' : Option V) (kind : Kind V) (top : Option (Parent C)) → next_phase ≡ decided (UnlockBelow two.at.node two.above.stamp.node r) → top ≡ None → Known number same always i a' h' k (key_bytes k) kind given' next_phase.phase
+      → ((a' (number two.above.stamp.node)).status ≡ Linked) × ((n : ℕ) → Locks two top n → LockedBy number next_phase.phase n)
+  lets_go two r next_phase given' kind top e z =
+      let P : NextPhase C V → Type 0 = λ y. Known number same always i a' h' k (key_bytes k) kind given' y.phase → ((a' (number two.above.stamp.node)).status ≡ Linked) × ((n : ℕ) → Locks two top n → LockedBy number y.phase n) in
       subst P (sym e) (λ x. (x.1.linked, by_lock))
     where
-      by_lock : (n : ℕ) → Locks two top n → (n ≡ number two.above.seat.node) ⊎ (n ≡ number two.at.node)
+      by_lock : (n : ℕ) → Locks two top n → (n ≡ number two.above.stamp.node) ⊎ (n ≡ number two.at.node)
       by_lock n (inl y) = y
       by_lock n (inr y) = absurd (no_top top n z y)
 
-  tops : (two : Two C) (r : Reply V) (turn : NextPhase C V) (given' : Option V) (kind : Kind V) (top : Parent C) → turn ≡ after_top two r (Some top) → Known number same always i a' h' k (key_bytes k) kind given' turn.phase
-      → ((a' (number top.seat.node)).status ≡ Linked) × ((n : ℕ) → Locks two (Some top) n → LockedBy number turn.phase n)
-  tops two r turn given' kind top e =
-      let P : NextPhase C V → Type 0 = λ y. Known number same always i a' h' k (key_bytes k) kind given' y.phase → ((a' (number top.seat.node)).status ≡ Linked) × ((n : ℕ) → Locks two (Some top) n → LockedBy number y.phase n) in
+  tops : (two : Two C) (r : Reply V) (next_phase : NextPhase C V) (given' : Option V) (kind : Kind V) (top : Parent C) → next_phase ≡ after_top two r (Some top) → Known number same always i a' h' k (key_bytes k) kind given' next_phase.phase
+      → ((a' (number top.stamp.node)).status ≡ Linked) × ((n : ℕ) → Locks two (Some top) n → LockedBy number next_phase.phase n)
+  tops two r next_phase given' kind top e =
+      let P : NextPhase C V → Type 0 = λ y. Known number same always i a' h' k (key_bytes k) kind given' y.phase → ((a' (number top.stamp.node)).status ≡ Linked) × ((n : ℕ) → Locks two (Some top) n → LockedBy number y.phase n) in
       subst P (sym e) (λ x. (x.0.above.linked, by_lock))
     where
-      by_lock : (n : ℕ) → Locks two (Some top) n → ((n ≡ number top.seat.node) ⊎ (n ≡ number two.at.node)) ⊎ (n ≡ number two.above.seat.node)
+      by_lock : (n : ℕ) → Locks two (Some top) n → ((n ≡ number top.stamp.node) ⊎ (n ≡ number two.at.node)) ⊎ (n ≡ number two.above.stamp.node)
       by_lock n (inl (inl y)) = inr y
       by_lock n (inl (inr y)) = inl (inr y)
       by_lock n (inr y) = inl (inl y)
 
-  collapse_goes : (two : Two C) (r : Reply V) (turn : NextPhase C V) (given' : Option V) (kind : Kind V) (top : Option (Parent C)) → turn ≡ after_top two r top → HasTop {C = C} Collapse top → Known number same always i a' h' k (key_bytes k) kind given' turn.phase → Goes two Collapse top turn.phase
-  collapse_goes two r turn given' kind None e z x = absurd z
-  collapse_goes two r turn given' kind (Some top) e z x = tops two r turn given' kind top e x
+  collapse_goes : (two : Two C) (r : Reply V) (next_phase : NextPhase C V) (given' : Option V) (kind : Kind V) (top : Option (Parent C)) → next_phase ≡ after_top two r top → HasTop {C = C} Collapse top → Known number same always i a' h' k (key_bytes k) kind given' next_phase.phase → Goes two Collapse top next_phase.phase
+  collapse_goes two r next_phase given' kind None e z x = absurd z
+  collapse_goes two r next_phase given' kind (Some top) e z x = tops two r next_phase given' kind top e x
 
-  lessen_goes : (two : Two C) (r : Reply V) (turn : NextPhase C V) (given' : Option V) (kind : Kind V) (c : C) (top : Option (Parent C)) → turn ≡ after_top two r top → HasTop (ShrinkAbove c) top → Known number same always i a' h' k (key_bytes k) kind given' turn.phase → Goes two (ShrinkAbove c) top turn.phase
-  lessen_goes two r turn given' kind c None e z x = absurd z
-  lessen_goes two r turn given' kind c (Some top) e z x = tops two r turn given' kind top e x
+  lessen_goes : (two : Two C) (r : Reply V) (next_phase : NextPhase C V) (given' : Option V) (kind : Kind V) (c : C) (top : Option (Parent C)) → next_phase ≡ after_top two r top → HasTop (ShrinkAbove c) top → Known number same always i a' h' k (key_bytes k) kind given' next_phase.phase → Goes two (ShrinkAbove c) top next_phase.phase
+  lessen_goes two r next_phase given' kind c None e z x = absurd z
+  lessen_goes two r next_phase given' kind c (Some top) e z x = tops two r next_phase given' kind top e x
 
-  after_two : (two : Two C) (r : Reply V) (change : Double C) (turn : NextPhase C V) (given' : Option V) (kind : Kind V) → turn ≡ after_change two r change → HasTop change two.top → Known number same always i a' h' k (key_bytes k) kind given' turn.phase → Goes two change two.top turn.phase
-  after_two two r Collapse turn given' kind e z x = collapse_goes two r turn given' kind two.top e z x
-  after_two two r (ShrinkAbove c) turn given' kind e z x = lessen_goes two r turn given' kind c two.top e z x
-  after_two two r (Split top leaf common byte) turn given' kind e z x = lets_go two r turn given' kind two.top e z x
-  after_two two r _ turn given' kind e z x = marks two r turn given' kind two.top e z x
+  after_two : (two : Two C) (r : Reply V) (change : Double C) (next_phase : NextPhase C V) (given' : Option V) (kind : Kind V) → next_phase ≡ after_change two r change → HasTop change two.top → Known number same always i a' h' k (key_bytes k) kind given' next_phase.phase → Goes two change two.top next_phase.phase
+  after_two two r Collapse next_phase given' kind e z x = collapse_goes two r next_phase given' kind two.top e z x
+  after_two two r (ShrinkAbove c) next_phase given' kind e z x = lessen_goes two r next_phase given' kind c two.top e z x
+  after_two two r (Split top leaf common byte) next_phase given' kind e z x = lets_go two r next_phase given' kind two.top e z x
+  after_two two r _ next_phase given' kind e z x = marks two r next_phase given' kind two.top e z x
 
   -- a change of the nodes
   changes : (L M : ℕ → Type 0) → Own L → Mine M → Flags h h' → ((n : ℕ) → M n → (a' n).status ≡ Held i → ⊥) → (s : Phase C V) → ((n : ℕ) → (a' n).owner ≡ Some i → L n → LockedBy number s n) → Now s
@@ -601,57 +599,57 @@ module _ {C V : Type 0} (number : C → ℕ) (same : V → V → Bool) (always :
     ];
   }
 
-  unwound_holds : (root : C) (e : Option Refusal) (turn : NextPhase C V) → turn ≡ unwound root e → ((s : Phase C V) → Now s) → Now turn.phase
-  unwound_holds root None turn x g = at_turn _ turn x (g _)
-  unwound_holds root (Some r) turn x g = at_turn _ turn x (g _)
+  unwound_holds : (root : C) (e : Option Refusal) (next_phase : NextPhase C V) → next_phase ≡ unwound root e → ((s : Phase C V) → Now s) → Now next_phase.phase
+  unwound_holds root None next_phase x g = at_next_phase _ next_phase x (g _)
+  unwound_holds root (Some r) next_phase x g = at_next_phase _ next_phase x (g _)
 
-  unwinds : (root : C) (n : C) (next : Option C) (e : Option Refusal) (turn : NextPhase C V) → turn ≡ after_unwind root next e → SameBut h (number n) (record (h (number n)) { version = (h (number n)).version + 1; locked = false }) h'
-      → Own (λ u. (u ≡ number n) ⊎ IsMade number next u) → Mine (λ _. ⊥) → Now turn.phase
-  unwinds root n None e turn x g o m = unwound_holds root e turn x (λ s. unlocks (number n) g (λ u. (u ≡ number n) ⊎ ⊥) o m s (λ u z. elim z [
+  unwinds : (root : C) (n : C) (next : Option C) (e : Option Refusal) (next_phase : NextPhase C V) → next_phase ≡ after_unwind root next e → SameBut h (number n) (record (h (number n)) { version = (h (number n)).version + 1; locked = false }) h'
+      → Own (λ u. (u ≡ number n) ⊎ IsMade number next u) → Mine (λ _. ⊥) → Now next_phase.phase
+  unwinds root n None e next_phase x g o m = unwound_holds root e next_phase x (λ s. unlocks (number n) g (λ u. (u ≡ number n) ⊎ ⊥) o m s (λ u z. elim z [
     | inl q ↦ inl q
     | inr q ↦ absurd q
   ]))
-  unwinds root n (Some c) e turn x g o m = at_turn _ turn x (unlocks (number n) g (λ u. (u ≡ number n) ⊎ (u ≡ number c)) o m (Unwind c None e) (λ u z. elim z [
+  unwinds root n (Some c) e next_phase x g o m = at_next_phase _ next_phase x (unlocks (number n) g (λ u. (u ≡ number n) ⊎ (u ≡ number c)) o m (Unwind c None e) (λ u z. elim z [
     | inl q ↦ inl q
     | inr q ↦ inr (inl q)
   ]))
 
   -- every step
-  pub step_holds : (most : ℕ) (why : NodeType → Refusal → Type 0) (root : C) (kind : Kind V) (fail : Bool) (answer : Option (Option V)) (given : Option V) (s : Phase C V) (given' : Option V) (turn : NextPhase C V)
-      → Own (LockedBy number s) → Mine (MadeBy number s) → Known number same always i a h k (key_bytes k) kind given s → Known number same always i a' h' k (key_bytes k) kind given' turn.phase
-      → PhaseStepped number same always most why root (key_bytes k) kind fail answer given s h given' turn h' → Now turn.phase
-  step_holds most why root kind fail answer given (MakeLeaf s) given' turn o m x x' g = leaf_holds kind s g.1.0 turn o m g.1.1
-  step_holds most why root kind fail answer given (MakeGreater s p leaf) given' turn o m x x' g = greater_holds kind s p leaf g.1.0 turn o m x.3 g.1.1
-  step_holds most why root kind fail answer given (MakeTop p at common byte) given' turn o m x x' g = top_holds p at common byte g.1.0 turn o m g.1.1
-  step_holds most why root kind fail answer given (MakeBeside p at common byte top) given' turn o m x x' g = beside_holds kind p at common byte top g.1.0 turn o m x.6 g.1.1
-  step_holds most why root kind fail answer given (MakeLesser s p top r) given' turn o m x x' g = lesser_holds s p top r g.1.0 turn o m g.1.1
-  step_holds most why root kind fail answer given (AskNew plan) given' turn o m x x' g = asked answer g.1 where
-    stays : turn ≡ asking (AskNew plan) None → Now turn.phase
-    stays e = at_turn _ turn e (calm_mine g.0 o (MadeForPlan number plan) m (AskNew plan) (λ n y. y))
+  pub step_holds : (most : ℕ) (why : NodeType → Refusal → Type 0) (root : C) (kind : Kind V) (fail : Bool) (answer : Option (Option V)) (given : Option V) (s : Phase C V) (given' : Option V) (next_phase : NextPhase C V)
+      → Own (LockedBy number s) → Mine (MadeBy number s) → Known number same always i a h k (key_bytes k) kind given s → Known number same always i a' h' k (key_bytes k) kind given' next_phase.phase
+      → PhaseStepped number same always most why root (key_bytes k) kind fail answer given s h given' next_phase h' → Now next_phase.phase
+  step_holds most why root kind fail answer given (MakeLeaf s) given' next_phase o m x x' g = leaf_holds kind s g.1.0 next_phase o m g.1.1
+  step_holds most why root kind fail answer given (MakeGreater s p leaf) given' next_phase o m x x' g = greater_holds kind s p leaf g.1.0 next_phase o m x.3 g.1.1
+  step_holds most why root kind fail answer given (MakeTop p at common byte) given' next_phase o m x x' g = top_holds p at common byte g.1.0 next_phase o m g.1.1
+  step_holds most why root kind fail answer given (MakeBeside p at common byte top) given' next_phase o m x x' g = beside_holds kind p at common byte top g.1.0 next_phase o m x.6 g.1.1
+  step_holds most why root kind fail answer given (MakeLesser s p top r) given' next_phase o m x x' g = lesser_holds s p top r g.1.0 next_phase o m g.1.1
+  step_holds most why root kind fail answer given (AskNew plan) given' next_phase o m x x' g = asked answer g.1 where
+    stays : next_phase ≡ asking (AskNew plan) None → Now next_phase.phase
+    stays e = at_next_phase _ next_phase e (calm_mine g.0 o (MadeForPlan number plan) m (AskNew plan) (λ n y. y))
 
-    asked : (answer : Option (Option V)) → IsGivenNew plan answer given given' turn → Now turn.phase
+    asked : (answer : Option (Option V)) → IsGivenNew plan answer given given' next_phase → Now next_phase.phase
     asked None y = stays y.1
     asked (Some None) y = stays y.1
-    asked (Some (Some z)) y = at_turn _ turn y.1 (calm_mine g.0 o (MadeForPlan number plan) m _ (λ n u. started_made number plan _ n u))
-  step_holds most why root kind fail answer given (CheckAbove p one r) given' turn o m x x' g = on_test (is_taken (h (number p.node)) p.version)
-      (λ y. let z : (h' ≡ h) × (turn ≡ quiet (UpgradeOne one r)) = g.1.goes_on y in at_turn _ turn z.1 (calm_mine z.0 o (MadeForOne number one.change) m (UpgradeOne one r) (λ n u. u)))
-      (λ y. let z : BackOne number h one.change h' × (turn ≡ again root) = g.1.goes_back y in at_turn _ turn z.1 (back_bare o (MadeForOne number one.change) m (all_one number i a h h' (key_bytes k) one.change x.2.made z.0) _))
-  step_holds most why root kind fail answer given (UpgradeOne one r) given' turn o m x x' g = one_upgraded root one r g.1.0 turn o m x.1.1.made g.1.2
-  step_holds most why root kind fail answer given (ChangeOne one r) given' turn o m x x' g =
+    asked (Some (Some z)) y = at_next_phase _ next_phase y.1 (calm_mine g.0 o (MadeForPlan number plan) m _ (λ n u. started_made number plan _ n u))
+  step_holds most why root kind fail answer given (CheckAbove p one r) given' next_phase o m x x' g = on_test (is_taken (h (number p.node)) p.version)
+      (λ y. let z : (h' ≡ h) × (next_phase ≡ quiet (UpgradeOne one r)) = g.1.goes_on y in at_next_phase _ next_phase z.1 (calm_mine z.0 o (MadeForOne number one.change) m (UpgradeOne one r) (λ n u. u)))
+      (λ y. let z : BackOne number h one.change h' × (next_phase ≡ again root) = g.1.goes_back y in at_next_phase _ next_phase z.1 (back_bare o (MadeForOne number one.change) m (all_one number i a h h' (key_bytes k) one.change x.2.made z.0) _))
+  step_holds most why root kind fail answer given (UpgradeOne one r) given' next_phase o m x x' g = one_upgraded root one r g.1.0 next_phase o m x.1.1.made g.1.2
+  step_holds most why root kind fail answer given (ChangeOne one r) given' next_phase o m x x' g =
       let P : NextPhase C V → Type 0 = λ z. Known number same always i a' h' k (key_bytes k) kind given' z.phase in
       let y : Holding i a' (number one.at.node) = subst P g.2 x' in
-      at_turn _ turn g.2 (changes (λ n. n ≡ number one.at.node) (MadeForOne number one.change) o m (flags_one number (key_bytes k) given one one.change h h' g.1) (one_changed given one one.change y.linked g.1) (Unlock one.at.node r) (λ n e l. l))
-  step_holds most why root kind fail answer given (UpgradeTop top two r) given' turn o m x x' g = top_upgraded root top two r _ _ g.1.0 turn o m x.1.2.made g.1.2
-  step_holds most why root kind fail answer given (UpgradeAbove two r) given' turn o m x x' g = above_upgraded root two r _ _ g.1.0 turn o m x.1.2.made g.1.2
-  step_holds most why root kind fail answer given (UpgradeBelow two r) given' turn o m x x' g = both_upgraded two r _ _ g.1.0 turn o m x.1.2.made g.1.2
-  step_holds most why root kind fail answer given (ChangeTwo two r) given' turn o m x x' g =
-      let y : Goes two two.change two.top turn.phase = after_two two r two.change turn given' kind g.2 x.3 x' in
+      at_next_phase _ next_phase g.2 (changes (λ n. n ≡ number one.at.node) (MadeForOne number one.change) o m (flags_one number (key_bytes k) given one one.change h h' g.1) (one_changed given one one.change y.linked g.1) (Unlock one.at.node r) (λ n e l. l))
+  step_holds most why root kind fail answer given (UpgradeTop top two r) given' next_phase o m x x' g = top_upgraded root top two r _ _ g.1.0 next_phase o m x.1.2.made g.1.2
+  step_holds most why root kind fail answer given (UpgradeAbove two r) given' next_phase o m x x' g = above_upgraded root two r _ _ g.1.0 next_phase o m x.1.2.made g.1.2
+  step_holds most why root kind fail answer given (UpgradeBelow two r) given' next_phase o m x x' g = both_upgraded two r _ _ g.1.0 next_phase o m x.1.2.made g.1.2
+  step_holds most why root kind fail answer given (ChangeTwo two r) given' next_phase o m x x' g =
+      let y : Goes two two.change two.top next_phase.phase = after_two two r two.change next_phase given' kind g.2 x.3 x' in
       changes (Locks two two.top) (MadeForTwo number two.change) o m (flags_two number (key_bytes k) given two two.change h h' g.1)
-      (two_changed given two two.change _ _ x.2.above.holding.linked y.0 x.2.made g.1) turn.phase (λ n e l. y.1 n l)
-  step_holds most why root kind fail answer given (Obsolete n next p r) given' turn o m x x' g =
-      at_turn _ turn g.2 (changes (λ u. ((u ≡ number p) ⊎ (u ≡ number n)) ⊎ IsMade number next u) (λ _. ⊥) o m (marked_flags (number n) _ g.1 refl refl) (λ u y _. y) (Retire n next p r) (λ u e l. l))
-  step_holds most why root kind fail answer given (Retire n next p r) given' turn o m x x' g =
-      at_turn _ turn g.2 (changes (λ u. ((u ≡ number p) ⊎ (u ≡ number n)) ⊎ IsMade number next u) (λ _. ⊥) o m (marked_flags (number n) _ g.1 refl refl) (λ u y _. y) (after_retire next p r).phase (λ u e l. handed u e next l))
+      (two_changed given two two.change _ _ x.2.above.holding.linked y.0 x.2.made g.1) next_phase.phase (λ n e l. y.1 n l)
+  step_holds most why root kind fail answer given (Obsolete n next p r) given' next_phase o m x x' g =
+      at_next_phase _ next_phase g.2 (changes (λ u. ((u ≡ number p) ⊎ (u ≡ number n)) ⊎ IsMade number next u) (λ _. ⊥) o m (marked_flags (number n) _ g.1 refl refl) (λ u y _. y) (Retire n next p r) (λ u e l. l))
+  step_holds most why root kind fail answer given (Retire n next p r) given' next_phase o m x x' g =
+      at_next_phase _ next_phase g.2 (changes (λ u. ((u ≡ number p) ⊎ (u ≡ number n)) ⊎ IsMade number next u) (λ _. ⊥) o m (marked_flags (number n) _ g.1 refl refl) (λ u y _. y) (after_retire next p r).phase (λ u e l. handed u e next l))
     where
       not_kept : (u : ℕ) → (a' u).owner ≡ Some i → u ≡ number n → ⊥
       not_kept u e q =
@@ -667,11 +665,11 @@ module _ {C V : Type 0} (number : C → ℕ) (same : V → V → Bool) (always :
       handed u e (Some c) (inl (inl q)) = inl (inl q)
       handed u e (Some c) (inl (inr q)) = absurd (not_kept u e q)
       handed u e (Some c) (inr q) = inl (inr q)
-  step_holds most why root kind fail answer given (UnlockBelow n p r) given' turn o m x x' g =
-      at_turn _ turn g.2 (unlocks (number n) g.1 (λ u. (u ≡ number p) ⊎ (u ≡ number n)) o m (Unlock p r) (λ u y. elim y [
+  step_holds most why root kind fail answer given (UnlockBelow n p r) given' next_phase o m x x' g =
+      at_next_phase _ next_phase g.2 (unlocks (number n) g.1 (λ u. (u ≡ number p) ⊎ (u ≡ number n)) o m (Unlock p r) (λ u y. elim y [
         | inl q ↦ inr q
         | inr q ↦ inl q
       ]))
-  step_holds most why root kind fail answer given (Unlock n r) given' turn o m x x' g = at_turn _ turn g.2 (unlocks (number n) g.1 (λ u. u ≡ number n) o m Ended (λ u y. inl y))
-  step_holds most why root kind fail answer given (Unwind n next e) given' turn o m x x' g = unwinds root n next e turn g.2 g.1 o m
-  step_holds most why root kind fail answer given _ given' turn o m x x' g = calm_bare g.0 o m turn.phase
+  step_holds most why root kind fail answer given (Unlock n r) given' next_phase o m x x' g = at_next_phase _ next_phase g.2 (unlocks (number n) g.1 (λ u. u ≡ number n) o m Ended (λ u y. inl y))
+  step_holds most why root kind fail answer given (Unwind n next e) given' next_phase o m x x' g = unwinds root n next e next_phase g.2 g.1 o m
+  step_holds most why root kind fail answer given _ given' next_phase o m x x' g = calm_bare g.0 o m next_phase.phase

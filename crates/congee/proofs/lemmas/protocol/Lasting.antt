@@ -19,7 +19,7 @@ use Rattle.congee.specs.declared.protocol.phase.Double.TheVariants.{Unlink, Grow
 use Rattle.congee.specs.declared.protocol.phase.Two.{Two}
 use Rattle.congee.specs.declared.protocol.phase.Phase.{Phase}
 use Rattle.congee.specs.declared.protocol.phase.Phase.TheVariants.{MakeLeaf, MakeGreater, MakeTop, MakeBeside, MakeLesser, CheckAbove, UpgradeOne, ChangeOne, UpgradeTop, UpgradeAbove, UpgradeBelow, ChangeTwo, Obsolete, Retire, UnlockBelow, Unlock, Unwind}
-use Rattle.congee.specs.declared.protocol.turn.NextPhase.{NextPhase}
+use Rattle.congee.specs.declared.protocol.next_phase.NextPhase.{NextPhase}
 use Rattle.congee.specs.Heap.{Node, Hung, Stands, is_taken}
 use Rattle.congee.specs.protocol.Events.{SameBut, ChangeGives, TakeOverGives, BackGives}
 use Rattle.congee.specs.protocol.Steps.{BackOne, BackTwo, BackLeaf, MadeLeaf, MadeGreater, MadeTop, MadeBeside, MadeLesser, UpgradedOne, UpgradedTop, UpgradedAbove, UpgradedBelow, PutsLesser, Collapses, Lessens, MayLessen, MayTop, ChangedOne, ChangedTwo, PhaseStepped, MayStep, MayBackOne, MayBackTwo, MayBackLeaf, MayChangeOne, MayChangeTwo}
@@ -90,6 +90,7 @@ module _ {V : Type 0} where
     | inr ne ↦ subst Stands (sym (g.others n ne)) s
   ]
 
+  -- a node that stood stands after the children of one node went over into another
   pub stands_over : (h h' : ℕ → Node V) (m c n : ℕ) → TakeOverGives h m c h' → Stands (h n) → Stands (h' n)
   stands_over h h' m c n g s = elim (cases_eq n c) [
     | inl e ↦ (let P : ℕ → Type 0 = λ y. Stands (h y) → Stands (h' y) in subst P (sym e) (λ z. record { made = g.made ∙ z.made; kept = g.destroyed ∙ z.kept }) s)
@@ -151,13 +152,13 @@ module _ {C V : Type 0} (number : C → ℕ) (h h' : ℕ → Node V) where
   one_upgraded root one r Failed t s may g = one_back one.change may g.0
   one_upgraded root one r Exhausted t s may g = one_back one.change may g.0
 
-  top_upgraded : (root : C) (top : Parent C) (two : Two C) (r : Reply V) (u : Upgrade) (t : NextPhase C V) → Stands (h (number top.seat.node)) → MayBackTwo number h two.change → UpgradedTop number root top two r h u h' t → Still h h'
-  top_upgraded root top two r Locked t s may g = locked (number top.seat.node) s g.0
+  top_upgraded : (root : C) (top : Parent C) (two : Two C) (r : Reply V) (u : Upgrade) (t : NextPhase C V) → Stands (h (number top.stamp.node)) → MayBackTwo number h two.change → UpgradedTop number root top two r h u h' t → Still h h'
+  top_upgraded root top two r Locked t s may g = locked (number top.stamp.node) s g.0
   top_upgraded root top two r Failed t s may g = two_back two.change may g.0
   top_upgraded root top two r Exhausted t s may g = two_back two.change may g.0
 
-  above_upgraded : (root : C) (two : Two C) (r : Reply V) (u : Upgrade) (t : NextPhase C V) → Stands (h (number two.above.seat.node)) → MayBackTwo number h two.change → UpgradedAbove number root two r h u h' t → Still h h'
-  above_upgraded root two r Locked t s may g = locked (number two.above.seat.node) s g.0
+  above_upgraded : (root : C) (two : Two C) (r : Reply V) (u : Upgrade) (t : NextPhase C V) → Stands (h (number two.above.stamp.node)) → MayBackTwo number h two.change → UpgradedAbove number root two r h u h' t → Still h h'
+  above_upgraded root two r Locked t s may g = locked (number two.above.stamp.node) s g.0
   above_upgraded root two r Failed t s may g = two_back two.change may g.0
   above_upgraded root two r Exhausted t s may g = two_back two.change may g.0
 
@@ -182,14 +183,14 @@ module _ {C V : Type 0} (number : C → ℕ) (h h' : ℕ → Node V) where
 
   top_changed : (two : Two C) (top : Option (Parent C)) → MayTop number two Collapse top h → Collapses number two top h h' → Still h h'
   top_changed two None may g = absurd may
-  top_changed two (Some top) may g = still_change h h' (number top.seat.node) _ _ may.stands_top g.2
+  top_changed two (Some top) may g = still_change h h' (number top.stamp.node) _ _ may.stands_top g.2
 
   top_lessened : (two : Two C) (c : C) (top : Option (Parent C)) → MayTop number two (ShrinkAbove c) top h → Lessens number two c top h h' → Still h h'
   top_lessened two c None may g = absurd may
   top_lessened two c (Some top) may g = lessened _ _ _ _ _ may g
 
   two_changed : (key : List ℕ) (new : Option V) (two : Two C) (change : Double C) → MayChangeTwo number key new two change h → ChangedTwo number key new two change h h' → Still h h'
-  two_changed key new two Unlink may g = still_change h h' (number two.above.seat.node) _ _ may.stands g
+  two_changed key new two Unlink may g = still_change h h' (number two.above.stamp.node) _ _ may.stands g
   two_changed key new two (Shrink c) may g = lessened _ _ _ _ _ may g
   two_changed key new two Collapse may g = top_changed two two.top may g
   two_changed key new two (ShrinkAbove c) may g = top_lessened two c two.top may g
@@ -197,35 +198,36 @@ module _ {C V : Type 0} (number : C → ℕ) (h h' : ℕ → Node V) where
   two_changed key None two (GrowLink c leaf byte) may g = absurd may
   two_changed key None two (Split top leaf common byte) may g = absurd may
   two_changed key (Some v) two (Grow c) may g =
-      let up1 : Stands (g.0 (number two.above.seat.node)) = stands_over h g.0 (number two.at.node) (number c) (number two.above.seat.node) g.2 may.0.stands in
+      let up1 : Stands (g.0 (number two.above.stamp.node)) = stands_over h g.0 (number two.at.node) (number c) (number two.above.stamp.node) g.2 may.0.stands in
       let c1 : Stands (g.0 (number c)) = stands_over h g.0 (number two.at.node) (number c) (number c) g.2 may.2.stands in
       still_then h g.0 h' (still_over h g.0 (number two.at.node) (number c) may.1 may.2.stands g.2)
       (still_then g.0 g.1 h' (still_change g.0 g.1 (number c) _ _ c1 g.3)
-      (still_change g.1 h' (number two.above.seat.node) _ _ (stands_changed g.0 g.1 (number c) _ (number two.above.seat.node) _ g.3 up1) g.4))
+      (still_change g.1 h' (number two.above.stamp.node) _ _ (stands_changed g.0 g.1 (number c) _ (number two.above.stamp.node) _ g.3 up1) g.4))
   two_changed key (Some v) two (GrowLink c leaf byte) may g =
       let h1 : ℕ → Node V = g.0 in let h2 : ℕ → Node V = g.1 in let h3 : ℕ → Node V = g.2 in
-      let up1 : Stands (h1 (number two.above.seat.node)) = stands_changed h h1 (number leaf) _ (number two.above.seat.node) _ g.3 may.0.stands in
+      let up1 : Stands (h1 (number two.above.stamp.node)) = stands_changed h h1 (number leaf) _ (number two.above.stamp.node) _ g.3 may.0.stands in
       let at1 : Stands (h1 (number two.at.node)) = stands_changed h h1 (number leaf) _ (number two.at.node) _ g.3 may.1 in
       let c1 : Stands (h1 (number c)) = stands_changed h h1 (number leaf) _ (number c) _ g.3 may.2.stands in
-      let up2 : Stands (h2 (number two.above.seat.node)) = stands_over h1 h2 (number two.at.node) (number c) (number two.above.seat.node) g.4 up1 in
+      let up2 : Stands (h2 (number two.above.stamp.node)) = stands_over h1 h2 (number two.at.node) (number c) (number two.above.stamp.node) g.4 up1 in
       let c2 : Stands (h2 (number c)) = stands_over h1 h2 (number two.at.node) (number c) (number c) g.4 c1 in
-      let up3 : Stands (h3 (number two.above.seat.node)) = stands_changed h2 h3 (number c) _ (number two.above.seat.node) _ g.5 up2 in
+      let up3 : Stands (h3 (number two.above.stamp.node)) = stands_changed h2 h3 (number c) _ (number two.above.stamp.node) _ g.5 up2 in
       still_then h h1 h' (still_change h h1 (number leaf) _ _ may.3.stands g.3)
       (still_then h1 h2 h' (still_over h1 h2 (number two.at.node) (number c) at1 c1 g.4)
       (still_then h2 h3 h' (still_change h2 h3 (number c) _ _ c2 g.5)
-      (still_change h3 h' (number two.above.seat.node) _ _ up3 g.6)))
+      (still_change h3 h' (number two.above.stamp.node) _ _ up3 g.6)))
   two_changed key (Some v) two (Split top leaf common byte) may g =
       let h1 : ℕ → Node V = g.0 in let h2 : ℕ → Node V = g.1 in let h3 : ℕ → Node V = g.2 in
-      let up1 : Stands (h1 (number two.above.seat.node)) = stands_changed h h1 (number leaf) _ (number two.above.seat.node) _ g.3 may.0.stands in
+      let up1 : Stands (h1 (number two.above.stamp.node)) = stands_changed h h1 (number leaf) _ (number two.above.stamp.node) _ g.3 may.0.stands in
       let t1 : Stands (h1 (number top)) = stands_changed h h1 (number leaf) _ (number top) _ g.3 may.1.stands in
-      let up2 : Stands (h2 (number two.above.seat.node)) = stands_changed h1 h2 (number top) _ (number two.above.seat.node) _ g.4 up1 in
+      let up2 : Stands (h2 (number two.above.stamp.node)) = stands_changed h1 h2 (number top) _ (number two.above.stamp.node) _ g.4 up1 in
       let t2 : Stands (h2 (number top)) = stands_changed h1 h2 (number top) _ (number top) _ g.4 t1 in
-      let up3 : Stands (h3 (number two.above.seat.node)) = stands_changed h2 h3 (number top) _ (number two.above.seat.node) _ g.5 up2 in
+      let up3 : Stands (h3 (number two.above.stamp.node)) = stands_changed h2 h3 (number top) _ (number two.above.stamp.node) _ g.5 up2 in
       still_then h h1 h' (still_change h h1 (number leaf) _ _ may.2.stands g.3)
       (still_then h1 h2 h' (still_change h1 h2 (number top) _ _ t1 g.4)
       (still_then h2 h3 h' (still_change h2 h3 (number top) _ _ t2 g.5)
-      (still_change h3 h' (number two.above.seat.node) _ _ up3 g.6)))
+      (still_change h3 h' (number two.above.stamp.node) _ _ up3 g.6)))
 
+  -- a step of a call leaves used names used, and destroyed nodes as they are
   pub step_still : (same : V → V → Bool) (always : Bool) (most : ℕ) (why : NodeType → Refusal → Type 0) (root : C) (key : List ℕ) (kind : Kind V) (fail : Bool) (answer : Option (Option V)) (new : Option V) (s : Phase C V) (new' : Option V) (t : NextPhase C V)
       → MayStep number root key new s h → PhaseStepped number same always most why root key kind fail answer new s h new' t h' → Still h h'
   step_still same always most why root key kind fail answer new (MakeLeaf s) new' t may g = leaf_made kind s key g.1.0 t g.1.1

@@ -10,7 +10,7 @@ use Rattle.congee.specs.protocol.Holdings.{LockedBy, Holdings}
 use Rattle.congee.specs.protocol.Steps.{MayStep, Stepped}
 use Rattle.congee.specs.protocol.Answers.{Keeps}
 use Rattle.congee.specs.protocol.Play.{EachKnown, Protocol, ProtocolAt}
-use Rattle.congee.proofs.lemmas.protocol.Turns.{may_step}
+use Rattle.congee.proofs.lemmas.protocol.ManyCalls.{may_step}
 use Rattle.congee.proofs.lemmas.protocol.Owners.{made_held}
 use Rattle.congee.specs.protocol.Leaving.{StepLeaves}
 use Rattle.congee.specs.declared.forms.base_node.NodeType.{NodeType}

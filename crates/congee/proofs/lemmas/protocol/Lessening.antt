@@ -1,19 +1,19 @@
 -- A lesser node comes in the place of a locked one, or the only other child does: what the change leaves, and the map after it.
-use Rattle.std.proofs.Common.{◌≡◌, ◌≢◌, ℕ, ◌<◌, ◌==◌, inl, inr, true, false, List, length, get_or, refl, sym, ◌∙◌, ap, subst, arith}
+use Rattle.std.proofs.Common.{◌≡◌, ◌≢◌, ℕ, ◌==◌, inl, inr, true, false, List, length, get_or, refl, sym, ◌∙◌, ap, subst, arith}
 use Rattle.std.specs.Prelude.{None, Some}
 use Rattle.congee.specs.Heap.{Node, Nothing, Below, Holds, fits, child_for, value_at}
 use Rattle.congee.specs.Notes.{Note, Linked, Gone, is_published, IsChild, Tree, LockWords, Collapses, Lessens, Shrinks, in_place_of}
 use Rattle.congee.specs.protocol.Events.{ChangeGives, TakeOverGives, IsOther}
 use Rattle.congee.specs.protocol.Steps.{PutsLesser}
 use Rattle.congee.specs.protocol.Protocol.{Made, Holding, TakenOut}
-use Rattle.congee.proofs.lemmas.Fits.{equal, same_test, fits_same}
-use Rattle.congee.proofs.lemmas.Tree.{same_or_not}
+use Rattle.congee.proofs.lemmas.Fits.{equal_of_test, same_test, fits_same}
+use Rattle.congee.proofs.lemmas.Tree.{same_or_not, by_length}
 use Rattle.congee.proofs.lemmas.Graft.{on_test}
 use Rattle.congee.proofs.lemmas.Link.{Leaf}
 use Rattle.congee.proofs.lemmas.Collapse.{collapse_tree, collapse_map}
 use Rattle.congee.proofs.lemmas.Lessen.{lessen_tree, lessen_map}
 use Rattle.congee.proofs.lemmas.Shrink.{shrink_tree, shrink_map}
-use Rattle.congee.proofs.lemmas.protocol.Touch.{by_test, but_one, noted, noted_same, noted_other, Touched, as_it_was, moved, effect}
+use Rattle.congee.proofs.lemmas.protocol.Touch.{by_test, but_one, noted, noted_same, noted_other, Touched, as_it_was, moved, touched_effect}
 use Rattle.congee.proofs.lemmas.protocol.Change.{Changed, StaysLocked, under_touch, under_change, under_above, under_taken, Live, live_made, live_changed, live_same, live_taken, joined, joined_touch, made_apart}
 use Rattle.congee.proofs.lemmas.protocol.Regrow.{out_note, below_note, regrown, regrown_new, regrown_old, regrown_status, regrown_owner, regrown_same, regrown_moved, regrown_hidden}
 
@@ -52,20 +52,17 @@ lesser_put h m c b p up h' mc pc pm k =
 
 in_place : (a : ℕ → Note) (i p m c : ℕ) (x : ℕ) → x ≢ c → x ≢ m → is_published (a x).status ≡ true → (regrown a i p m c c x).parent ≡ in_place_of m c (a x).parent
 in_place a i p m c x xc xm pu = by_test (λ (y : ℕ). (regrown a i p m c c x).parent ≡ y) ((a x).parent == m) _ _
-    (λ q. regrown_moved a i p m c c x xc xc xm pu (equal (a x).parent m q))
+    (λ q. regrown_moved a i p m c c x xc xc xm pu (equal_of_test (a x).parent m q))
     (λ q. regrown_same a i p m c c x xc xc xm (λ e. let z : (a x).parent == m ≡ true = (let P : ℕ → Type 0 = λ y. y == m ≡ true in subst P (sym e) (same_test m m refl)) in cc))
 
 module _ {V : Type 0} (i : ℕ) (a : ℕ → Note) (h : ℕ → Node V) (key : List ℕ) (len : length key ≡ 8) (t : Tree a h) (w : LockWords a h) where
-  by_prefix : (x y : ℕ) → length (h x).prefix < length (h y).prefix → x ≢ y
-  by_prefix x y l e = let z : length (h x).prefix ≡ length (h y).prefix = ap (λ b. length (h b).prefix) e in absurd (omega (arith, l))
-
   -- a leaf gives way to a lesser one without the value
   pub shrink_changed : (p b m c q : ℕ) (v : V) (h' : ℕ → Node V) → Holding i a p → b ≡ get_or key (length (h p).prefix) 0 → child_for (h p) key ≡ Below m
       → (a m).owner ≡ Some i → fits (h m).prefix key ≡ true → length (h m).prefix ≡ 7 → child_for (h m) key ≡ Holds v → Made i a h key c (length (h m).prefix) q → PutsLesser h m c (get_or key 7 0) p b h'
       → Changed i a h key (Some v) None (regrown a i p m c c) h' × TakenOut i (regrown a i p m c c) h' p m
   shrink_changed p b m c q v h' o eb hung om fm seven value mc k =
       let ch : IsChild a h p (get_or key (length (h p).prefix) 0) m = t.down p _ m o.linked hung in
-      let pm : p ≢ m = by_prefix p m ch.longer in
+      let pm : p ≢ m = by_length h p m ch.longer in
       let up : is_published (a p).status ≡ true = ap is_published o.linked in
       let um : is_published (a m).status ≡ true = ap is_published ch.linked in
       let apart : (n : ℕ) → is_published (a n).status ≡ true → n ≢ c = λ n pu e. made_apart i a h key c (length (h m).prefix) q n mc pu (sym e) in
@@ -112,9 +109,9 @@ module _ {V : Type 0} (i : ℕ) (a : ℕ → Note) (h : ℕ → Node V) (key : L
       ] in
       let root : (h' 0).capacity ≡ (h 0).capacity = elim (same_or_not 0 p) [
         | inl z ↦ (let P : ℕ → Type 0 = λ y. (h' y).capacity ≡ (h y).capacity in subst P (sym z) (l.above.capacity ∙ ap (λ y. y.capacity) l.above_same))
-        | inr xp ↦ ap (λ z. z.capacity) (l.nodes 0 (apart 0 (ap is_published t.root)) (by_prefix 0 m (let z : length (h 0).prefix ≡ 0 = ap length t.empty in omega (arith, ch.longer))) xp)
+        | inr xp ↦ ap (λ z. z.capacity) (l.nodes 0 (apart 0 (ap is_published t.root)) (by_length h 0 m (let z : length (h 0).prefix ≡ 0 = ap length t.empty in omega (arith, ch.longer))) xp)
       ] in (
-        record { effect = effect i a h _ h' w (shrink_tree a h _ h' p _ m c key v t s) root touch; before = map.0; after = map.1; rest = map.2 },
+        record { effect = touched_effect i a h _ h' w (shrink_tree a h _ h' p _ m c key v t s) root touch; before = map.0; after = map.1; rest = map.2 },
         record {
           above = record { owner = regrown_owner a i p m c c p pc pc pm ∙ o.owner; linked = regrown_status a i p m c c p pc pc pm ∙ o.linked };
           owner = rw old refl;
@@ -123,24 +120,24 @@ module _ {V : Type 0} (i : ℕ) (a : ℕ → Note) (h : ℕ → Node V) (key : L
         },
       )
 
--- the ledger after a leaf and the node above it went, with the other child in that one's place
+-- the notes after a leaf and the node above it went, with the other child in that one's place
 unfoldable pub collapsed : (ℕ → Note) → ℕ → ℕ → ℕ → ℕ → ℕ → ℕ → Note
 collapsed a i g p n o = noted (noted (noted a o (below_note (a o) g)) p (out_note i g)) n (out_note i p)
 
 module _ (a : ℕ → Note) (i g p n o : ℕ) where
-  pub collapsed_leaf : collapsed a i g p n o n ≡ out_note i p
+  collapsed_leaf : collapsed a i g p n o n ≡ out_note i p
   unfolding collapsed
   collapsed_leaf = noted_same _ n _
 
-  pub collapsed_above : p ≢ n → collapsed a i g p n o p ≡ out_note i g
+  collapsed_above : p ≢ n → collapsed a i g p n o p ≡ out_note i g
   unfolding collapsed
   collapsed_above pn = noted_other _ n _ p pn ∙ noted_same _ p _
 
-  pub collapsed_child : o ≢ n → o ≢ p → collapsed a i g p n o o ≡ below_note (a o) g
+  collapsed_child : o ≢ n → o ≢ p → collapsed a i g p n o o ≡ below_note (a o) g
   unfolding collapsed
   collapsed_child on op = noted_other _ n _ o on ∙ (noted_other _ p _ o op ∙ noted_same a o _)
 
-  pub collapsed_rest : (x : ℕ) → x ≢ n → x ≢ p → x ≢ o → collapsed a i g p n o x ≡ a x
+  collapsed_rest : (x : ℕ) → x ≢ n → x ≢ p → x ≢ o → collapsed a i g p n o x ≡ a x
   unfolding collapsed
   collapsed_rest x xn xp xo = noted_other _ n _ x xn ∙ (noted_other _ p _ x xp ∙ noted_other a o _ x xo)
 
@@ -149,11 +146,11 @@ unfoldable pub lessened : (ℕ → Note) → ℕ → ℕ → ℕ → ℕ → ℕ
 lessened a i g p n c = noted (regrown a i g p c c) n (out_note i p)
 
 module _ (a : ℕ → Note) (i g p n c : ℕ) where
-  pub lessened_leaf : lessened a i g p n c n ≡ out_note i p
+  lessened_leaf : lessened a i g p n c n ≡ out_note i p
   unfolding lessened
   lessened_leaf = noted_same _ n _
 
-  pub lessened_other : (x : ℕ) → x ≢ n → lessened a i g p n c x ≡ regrown a i g p c c x
+  lessened_other : (x : ℕ) → x ≢ n → lessened a i g p n c x ≡ regrown a i g p c c x
   unfolding lessened
   lessened_other x xn = noted_other _ n _ x xn
 
@@ -187,11 +184,11 @@ module _ {V : Type 0} (i : ℕ) (a : ℕ → Note) (h : ℕ → Node V) (key : L
       let cp : IsChild a h g (get_or key (length (h g).prefix) 0) p = t.down g _ p og.linked hung in
       let cn : IsChild a h p (get_or key (length (h p).prefix) 0) n = t.down p _ n op.linked low in
       let co : IsChild a h p is.at o = t.down p is.at o op.linked is.child in
-      let gp : g ≢ p = by_prefix i a h key len t w g p cp.longer in
-      let pn : p ≢ n = by_prefix i a h key len t w p n cn.longer in
-      let po : p ≢ o = by_prefix i a h key len t w p o co.longer in
-      let gn : g ≢ n = by_prefix i a h key len t w g n (omega (arith, cp.longer, cn.longer)) in
-      let go : g ≢ o = by_prefix i a h key len t w g o (omega (arith, cp.longer, co.longer)) in
+      let gp : g ≢ p = by_length h g p cp.longer in
+      let pn : p ≢ n = by_length h p n cn.longer in
+      let po : p ≢ o = by_length h p o co.longer in
+      let gn : g ≢ n = by_length h g n (omega (arith, cp.longer, cn.longer)) in
+      let go : g ≢ o = by_length h g o (omega (arith, cp.longer, co.longer)) in
       let apart : is.at ≢ get_or key (length (h p).prefix) 0 = (let P : ℕ → Type 0 = λ y. is.at ≢ y in subst P eu is.apart) in
       let no : n ≢ o = (λ e. apart (sym co.byte ∙ (let P : ℕ → Type 0 = λ y. get_or (h y).prefix (length (h p).prefix) 0 ≡ get_or key (length (h p).prefix) 0 in subst P e cn.byte))) in
       let on : o ≢ n = (λ e. no (sym e)) in
@@ -245,7 +242,7 @@ module _ {V : Type 0} (i : ℕ) (a : ℕ → Note) (h : ℕ → Node V) (key : L
         ]
       ] in (
         record {
-          effect = effect i a h _ h' w (collapse_tree a h _ h' g _ p n is.at o key v t s) (but_one (λ y z. y.capacity ≡ z.capacity) h h' g (λ y. refl) k.others k.capacity 0) touch;
+          effect = touched_effect i a h _ h' w (collapse_tree a h _ h' g _ p n is.at o key v t s) (but_one (λ y z. y.capacity ≡ z.capacity) h h' g (λ y. refl) k.others k.capacity 0) touch;
           before = map.0;
           after = map.1;
           rest = map.2;
@@ -267,9 +264,9 @@ module _ {V : Type 0} (i : ℕ) (a : ℕ → Note) (h : ℕ → Node V) (key : L
   lessen_changed g b p up n c q size v h' og eb hung op fit eu low om leaf es mc k =
       let cp : IsChild a h g (get_or key (length (h g).prefix) 0) p = t.down g _ p og.linked hung in
       let cn : IsChild a h p (get_or key (length (h p).prefix) 0) n = t.down p _ n op.linked low in
-      let gp : g ≢ p = by_prefix i a h key len t w g p cp.longer in
-      let pn : p ≢ n = by_prefix i a h key len t w p n cn.longer in
-      let gn : g ≢ n = by_prefix i a h key len t w g n (omega (arith, cp.longer, cn.longer)) in
+      let gp : g ≢ p = by_length h g p cp.longer in
+      let pn : p ≢ n = by_length h p n cn.longer in
+      let gn : g ≢ n = by_length h g n (omega (arith, cp.longer, cn.longer)) in
       let np : n ≢ p = (λ e. pn (sym e)) in
       let pub_g : is_published (a g).status ≡ true = ap is_published og.linked in
       let pub_p : is_published (a p).status ≡ true = ap is_published op.linked in
@@ -331,9 +328,9 @@ module _ {V : Type 0} (i : ℕ) (a : ℕ → Note) (h : ℕ → Node V) (key : L
       ] in
       let root : (h' 0).capacity ≡ (h 0).capacity = elim (same_or_not 0 g) [
         | inl z ↦ (let P : ℕ → Type 0 = λ y. (h' y).capacity ≡ (h y).capacity in subst P (sym z) (l.above.capacity ∙ ap (λ y. y.capacity) l.above_same))
-        | inr xg ↦ ap (λ z. z.capacity) (l.nodes 0 (apart 0 (ap is_published t.root)) (by_prefix i a h key len t w 0 p (let z : length (h 0).prefix ≡ 0 = ap length t.empty in omega (arith, cp.longer))) xg)
+        | inr xg ↦ ap (λ z. z.capacity) (l.nodes 0 (apart 0 (ap is_published t.root)) (by_length h 0 p (let z : length (h 0).prefix ≡ 0 = ap length t.empty in omega (arith, cp.longer))) xg)
       ] in (
-        record { effect = effect i a h _ h' w (lessen_tree a h _ h' g _ p n c key v t s) root touch; before = map.0; after = map.1; rest = map.2 },
+        record { effect = touched_effect i a h _ h' w (lessen_tree a h _ h' g _ p n c key v t s) root touch; before = map.0; after = map.1; rest = map.2 },
         record {
           above = record { owner = owner g gc gp gn ∙ og.owner; linked = status g gc gp gn ∙ og.linked };
           owner = rw leaf_is refl;

@@ -14,7 +14,7 @@ use Rattle.congee.specs.protocol.Steps.{BackOne, BackTwo}
 use Rattle.congee.specs.Notes.{Note, Held, Back, is_published, Tree, LockWords}
 use Rattle.congee.specs.protocol.Protocol.{Rely, Made, MadeOne, MadeTwo, Fares}
 use Rattle.congee.proofs.lemmas.Tree.{same_or_not}
-use Rattle.congee.proofs.lemmas.protocol.Touch.{fares_same, fares_back, noted_same, noted_other, as_it_was, effect}
+use Rattle.congee.proofs.lemmas.protocol.Touch.{fares_same, fares_back, noted_same, noted_other, as_it_was, touched_effect}
 use Rattle.congee.proofs.lemmas.protocol.Words.{KeepsMap, making, backed, back_still}
 use Rattle.congee.proofs.lemmas.protocol.Change.{made_apart}
 use Rattle.congee.proofs.lemmas.protocol.Locks.{made_same}
@@ -56,7 +56,7 @@ pub record Backed {V : Type 0} (i : ℕ) (a : ℕ → Note) (h : ℕ → Node V)
 pub back_none : {V : Type 0} (i : ℕ) (a : ℕ → Note) (h : ℕ → Node V) (h' : ℕ → Node V) → Tree a h → LockWords a h → h' ≡ h → Backed i a h h'
 back_none {V} i a h h' t w e =
     let P : (ℕ → Node V) → Type 0 = λ g. Backed i a h g in
-    subst P (sym e) (record { notes = a; still = record { effect = effect i a h a h w t refl (λ n. as_it_was refl refl); map = λ x _. refl }; keeps = λ n _. refl })
+    subst P (sym e) (record { notes = a; still = record { effect = touched_effect i a h a h w t refl (λ n. as_it_was refl refl); map = λ x _. refl }; keeps = λ n _. refl })
 
 -- one made node goes back
 pub back_node : {V : Type 0} (i : ℕ) (a : ℕ → Note) (h : ℕ → Node V) (key : List ℕ) (c size least : ℕ) (h' : ℕ → Node V) → Tree a h → LockWords a h → Made i a h key c size least → BackGives h c h' → Backed i a h h'

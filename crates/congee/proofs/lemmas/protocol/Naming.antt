@@ -17,18 +17,18 @@ use Rattle.congee.specs.declared.protocol.phase.Two.{Two}
 use Rattle.congee.specs.declared.protocol.phase.Plan.{Plan}
 use Rattle.congee.specs.declared.protocol.phase.Plan.TheVariants.{Here, Above}
 use Rattle.congee.specs.declared.protocol.phase.Phase.{Phase}
-use Rattle.congee.specs.declared.protocol.phase.Phase.TheVariants.{New, Version, Read, Check, CheckUncopied, CheckMiss, CheckDown, CheckOld, MakeLeaf, MakeGreater, MakeTop, MakeBeside, MakeLesser, AskOld, AskNew, Confirm, CheckAbove, UpgradeOne, ChangeOne, UpgradeTop, UpgradeAbove, UpgradeBelow, ChangeTwo, Obsolete, Retire, UnlockBelow, Unlock, Unwind, Sweep, Ended}
-use Rattle.congee.specs.declared.protocol.sweep.Rung.{Rung}
-use Rattle.congee.specs.declared.protocol.sweep.Stage.{Stage}
-use Rattle.congee.specs.declared.protocol.sweep.Stage.TheVariants as stage
-use Rattle.congee.specs.declared.protocol.sweep.Sweep.{Sweep as Scan}
-use Rattle.congee.specs.protocol.SweepSteps.{rungs_of}
-use Rattle.congee.specs.protocol.SweepKnown.{RungsKnown, SweepKnownAt, names_rungs, names_sweep_at, names_sweep}
+use Rattle.congee.specs.declared.protocol.phase.Phase.TheVariants.{New, Version, Read, Check, CheckUncopied, CheckMiss, CheckDown, CheckOld, MakeLeaf, MakeGreater, MakeTop, MakeBeside, MakeLesser, AskOld, AskNew, Confirm, CheckAbove, UpgradeOne, ChangeOne, UpgradeTop, UpgradeAbove, UpgradeBelow, ChangeTwo, Obsolete, Retire, UnlockBelow, Unlock, Unwind, Scan, Ended}
+use Rattle.congee.specs.declared.protocol.scan.Rung.{Rung}
+use Rattle.congee.specs.declared.protocol.scan.Stage.{Stage}
+use Rattle.congee.specs.declared.protocol.scan.Stage.TheVariants as stage
+use Rattle.congee.specs.declared.protocol.scan.ScanState.{ScanState as ScanState}
+use Rattle.congee.specs.protocol.ScanSteps.{rungs_of}
+use Rattle.congee.specs.protocol.ScanKnown.{RungsKnown, ScanKnownAt, names_rungs, names_scan_at, names_scan}
 use Rattle.congee.specs.Heap.{Node, Hung, Below, child_for}
 use Rattle.congee.specs.Notes.{Note, Linked, is_published, Tree}
-use Rattle.congee.specs.protocol.Protocol.{Known, Knows, TopLocked, AlsoOut, AlsoHolding, IsFar, IsAbove, IsLesser, SeatedIf, PlanKnown}
+use Rattle.congee.specs.protocol.Protocol.{Known, Knows, TopLocked, AlsoOut, AlsoHolding, IsFar, IsAbove, IsLesser, StampedIf, PlanKnown}
 use Rattle.congee.specs.protocol.Holdings.{LockedBy, MadeBy, MadeForOne, MadeForTwo, MadeForPlan, IsMade}
-use Rattle.congee.specs.protocol.Names.{name_above, names_over, name_seated, name_made, names_for_one, names_for_two, names_site, names_one, names_two, names_plan, names}
+use Rattle.congee.specs.protocol.Names.{name_above, names_over, name_stamped, name_made, names_for_one, names_for_two, names_site, names_one, names_two, names_plan, names}
 use Rattle.congee.proofs.lemmas.protocol.Each.{Each, each_append}
 use Rattle.congee.proofs.lemmas.protocol.Owners.{taken_known, locked_linked}
 
@@ -48,15 +48,15 @@ module _ {C V : Type 0} (number : C → ℕ) (same : V → V → Bool) (always :
 
   far_in : (p : Option (Parent C)) (n : ℕ) → IsFar number a h key p n → Each In (name_above number p)
   far_in None n x = tt
-  far_in (Some p) n x = (x.fresh.seated.published, tt)
+  far_in (Some p) n x = (x.fresh.stamped.published, tt)
 
   above_in : (p : Option (Over C)) (n : ℕ) → IsAbove number a h key p n → Each In (names_over number p)
   above_in None n x = tt
-  above_in (Some u) n x = (x.0.fresh.seated.published, far_in u.far (number u.near.seat.node) x.1)
+  above_in (Some u) n x = (x.0.fresh.stamped.published, far_in u.far (number u.near.stamp.node) x.1)
 
   lesser_in : (s : Site C) (p : Parent C) (g : Option (Parent C)) → IsLesser number a h key s p g → Each In (name_above number g)
   lesser_in s p None x = tt
-  lesser_in s p (Some g) x = (x.0.fresh.seated.published, tt)
+  lesser_in s p (Some g) x = (x.0.fresh.stamped.published, tt)
 
   top_in : (top : Option (Parent C)) (n : ℕ) → TopLocked number i a h key top n → Each In (name_above number top)
   top_in None n x = tt
@@ -71,11 +71,11 @@ module _ {C V : Type 0} (number : C → ℕ) (same : V → V → Bool) (always :
   holding_in (Some c) n x = (tree_in _ x.0.linked, tt)
 
   site_in : (s : Site C) (x : Hung V) → Knows number a h key s x → Each In (names_site number s)
-  site_in s x k = (k.fresh.seated.published, above_in s.above (number s.at.node) k.above)
+  site_in s x k = (k.fresh.stamped.published, above_in s.above (number s.at.node) k.above)
 
-  seated_in : (p : Option (Stamp C)) → SeatedIf number a h p → Each In (name_seated number p)
-  seated_in None x = tt
-  seated_in (Some p) x = (x.published, tt)
+  stamped_in : (p : Option (Stamp C)) → StampedIf number a h p → Each In (name_stamped number p)
+  stamped_in None x = tt
+  stamped_in (Some p) x = (x.published, tt)
 
   up : (M : ℕ → Type 0) (xs : List ℕ) → Each In xs → Each (Or M) xs
   up M xs e = each_weaker In (Or M) (λ n x. inl x) xs e
@@ -94,12 +94,12 @@ module _ {C V : Type 0} (number : C → ℕ) (same : V → V → Bool) (always :
   one_in : (one : One C) → In (number one.at.node) → Each (Or (MadeForOne number one.change)) (names_one number one)
   one_in one at = (inl at, for_one one.change)
 
-  two_in : (two : Two C) → Each In (name_above number two.top) → In (number two.above.seat.node) → In (number two.at.node) → Each (Or (MadeForTwo number two.change)) (names_two number two)
+  two_in : (two : Two C) → Each In (name_above number two.top) → In (number two.above.stamp.node) → In (number two.at.node) → Each (Or (MadeForTwo number two.change)) (names_two number two)
   two_in two top p at = (inl p, (inl at, each_append (Or (MadeForTwo number two.change)) (name_above number two.top) (names_for_two number two.change) (up _ (name_above number two.top) top) (for_two two.change)))
 
   plan_in : (plan : Plan C) → PlanKnown number i a h key plan → Each (Or (MadeForPlan number plan)) (names_plan number plan)
-  plan_in (Here check one) x = each_append (Or (MadeForOne number one.change)) (name_seated number check) (names_one number one) (up _ (name_seated number check) (seated_in check x.0)) (one_in one x.1.fresh.seated.published)
-  plan_in (Above two) x = two_in two (top_in two.top _ x.0.1.top) x.0.1.above.fresh.seated.published x.0.1.fresh.seated.published
+  plan_in (Here check one) x = each_append (Or (MadeForOne number one.change)) (name_stamped number check) (names_one number one) (up _ (name_stamped number check) (stamped_in check x.0)) (one_in one x.1.fresh.stamped.published)
+  plan_in (Above two) x = two_in two (top_in two.top _ x.0.1.top) x.0.1.above.fresh.stamped.published x.0.1.fresh.stamped.published
 
   made_in : (leaf : Option C) → Each (Or (IsMade number leaf)) (name_made number leaf)
   made_in None = tt
@@ -107,13 +107,13 @@ module _ {C V : Type 0} (number : C → ℕ) (same : V → V → Bool) (always :
 
   rungs_in : (end above : ℕ) (rs : List (Rung C)) → RungsKnown number a h end above rs → Each In (names_rungs number rs)
   rungs_in end above [] x = tt
-  rungs_in end above (r ∷ rs) x = (x.0.seated.published, rungs_in end (suc above) rs x.1)
+  rungs_in end above (r ∷ rs) x = (x.0.stamped.published, rungs_in end (suc above) rs x.1)
 
-  sweep_at : (s : Scan C V) (x : Stage C V) → SweepKnownAt number always a h s x → Each In (names_sweep_at number s x)
-  sweep_at s (stage.Enter n y) x = (x.1, rungs_in s.last 0 (rungs_of s.above) x.0.rungs)
-  sweep_at s (stage.Look r) x = (x.1.seated.published, rungs_in s.last 0 (rungs_of s.above) x.0.rungs)
-  sweep_at s (stage.Check r y) x = (x.1.seated.published, rungs_in s.last 0 (rungs_of s.above) x.0.rungs)
-  sweep_at s _ x = tt
+  scan_at : (s : ScanState C V) (x : Stage C V) → ScanKnownAt number always a h s x → Each In (names_scan_at number s x)
+  scan_at s (stage.Enter n y) x = (x.1, rungs_in s.last 0 (rungs_of s.above) x.0.rungs)
+  scan_at s (stage.Look r) x = (x.1.stamped.published, rungs_in s.last 0 (rungs_of s.above) x.0.rungs)
+  scan_at s (stage.Check r y) x = (x.1.stamped.published, rungs_in s.last 0 (rungs_of s.above) x.0.rungs)
+  scan_at s _ x = tt
 
   module _ (t : Tree a h) (k : ℕ) where
     below_in : (p n : ℕ) → (a p).status ≡ Linked → child_for (h p) key ≡ Below n → In n
@@ -125,32 +125,33 @@ module _ {C V : Type 0} (number : C → ℕ) (same : V → V → Bool) (always :
     names_known kind given (Read p at) x = (inl x.2.published, up _ (names_over number p) (above_in p (number at.node) x.1))
     names_known kind given (Check s c) x = up _ (names_site number s) (site_in s _ x.1)
     names_known kind given (CheckUncopied at) x = (inl x.1.published, tt)
-    names_known kind given (CheckMiss p at common byte) x = (inl x.1.fresh.seated.published, (inl x.2.published, tt))
+    names_known kind given (CheckMiss p at common byte) x = (inl x.1.fresh.stamped.published, (inl x.2.published, tt))
     names_known kind given (CheckDown p at c) x = (inl x.1.published, (inl x.3, up _ (names_over number (Some at)) (above_in (Some at) (number c) x.2)))
     names_known kind given (CheckOld p s v) x = (inl x.1.published, up _ (names_site number s) (site_in s _ x.2))
     names_known kind given (MakeLeaf s) x = up _ (names_site number s) (site_in s _ x.1)
-    names_known kind given (MakeGreater s p leaf) x = (inl x.2.fresh.seated.published, each_append (Or (IsMade number leaf)) (name_made number leaf) (names_site number s) (made_in leaf) (up _ (names_site number s) (site_in s _ x.1)))
-    names_known kind given (MakeTop p at common byte) x = (inl x.1.fresh.seated.published, (inl x.2.published, tt))
-    names_known kind given (MakeBeside p at common byte top) x = (inl x.1.fresh.seated.published, (inl x.2.published, (inr refl, tt)))
-    names_known kind given (MakeLesser s p g r) x = (inl x.4.fresh.seated.published, each_append (Or (λ _. ⊥)) (name_above number g) (names_site number s) (up _ (name_above number g) (lesser_in s p g x.5)) (up _ (names_site number s) (site_in s _ x.1.1)))
+    names_known kind given (MakeGreater s p leaf) x = (inl x.2.fresh.stamped.published, each_append (Or (IsMade number leaf)) (name_made number leaf) (names_site number s) (made_in leaf) (up _ (names_site number s) (site_in s _ x.1)))
+    names_known kind given (MakeTop p at common byte) x = (inl x.1.fresh.stamped.published, (inl x.2.published, tt))
+    names_known kind given (MakeBeside p at common byte top) x = (inl x.1.fresh.stamped.published, (inl x.2.published, (inr refl, tt)))
+    names_known kind given (MakeLesser s p g r) x = (inl x.4.fresh.stamped.published, each_append (Or (λ _. ⊥)) (name_above number g) (names_site number s) (up _ (name_above number g) (lesser_in s p g x.5)) (up _ (names_site number s) (site_in s _ x.1.1)))
     names_known kind given (AskOld s v) x = up _ (names_site number s) (site_in s _ x.1)
     names_known kind given (AskNew plan) x = plan_in plan x.0
-    names_known kind given (Confirm at r) x = (inl x.1.1.fresh.seated.published, tt)
-    names_known kind given (CheckAbove p one r) x = (inl x.1.published, one_in one x.2.fresh.seated.published)
-    names_known kind given (UpgradeOne one r) x = one_in one x.1.1.fresh.seated.published
+    names_known kind given (Confirm at r) x = (inl x.1.1.fresh.stamped.published, tt)
+    names_known kind given (CheckAbove p one r) x = (inl x.1.published, one_in one x.2.fresh.stamped.published)
+    names_known kind given (UpgradeOne one r) x = one_in one x.1.1.fresh.stamped.published
     names_known kind given (ChangeOne one r) x = one_in one (tree_in _ x.1.holding.linked)
-    names_known kind given (UpgradeTop g two r) x = (inl x.2.fresh.seated.published, two_in two (top_in two.top _ x.1.2.top) x.1.2.above.fresh.seated.published x.1.2.fresh.seated.published)
-    names_known kind given (UpgradeAbove two r) x = two_in two (top_in two.top _ x.1.2.top) x.1.2.above.fresh.seated.published x.1.2.fresh.seated.published
-    names_known kind given (UpgradeBelow two r) x = two_in two (top_in two.top _ x.1.2.top) (tree_in _ x.1.2.above.holding.linked) x.1.2.fresh.seated.published
+    names_known kind given (UpgradeTop g two r) x = (inl x.2.fresh.stamped.published, two_in two (top_in two.top _ x.1.2.top) x.1.2.above.fresh.stamped.published x.1.2.fresh.stamped.published)
+    names_known kind given (UpgradeAbove two r) x = two_in two (top_in two.top _ x.1.2.top) x.1.2.above.fresh.stamped.published x.1.2.fresh.stamped.published
+    names_known kind given (UpgradeBelow two r) x = two_in two (top_in two.top _ x.1.2.top) (tree_in _ x.1.2.above.holding.linked) x.1.2.fresh.stamped.published
     names_known kind given (ChangeTwo two r) x = two_in two (top_in two.top _ x.2.top) (tree_in _ x.2.above.holding.linked) (below_in _ _ x.2.above.holding.linked x.2.above.child)
     names_known kind given (Obsolete n next p r) x = (inl (ap is_published x.0.gone), (inl (tree_in _ x.0.above.linked), up _ (name_made number next) (out_in next (number n) x.1)))
     names_known kind given (Retire n next p r) x = (inl (ap is_published x.0.gone), (inl (tree_in _ x.0.above.linked), up _ (name_made number next) (out_in next (number n) x.1)))
     names_known kind given (UnlockBelow n p r) x = (inl (tree_in _ x.0.linked), (inl (tree_in _ x.1.linked), tt))
     names_known kind given (Unlock n r) x = (inl (tree_in _ x.linked), tt)
     names_known kind given (Unwind n next e) x = (inl (tree_in _ x.1.linked), up _ (name_made number next) (holding_in next (number n) x.2))
-    names_known kind given (Sweep s) x = up _ (names_sweep number s) (sweep_at s s.stage x)
+    names_known kind given (Scan s) x = up _ (names_scan number s) (scan_at s s.stage x)
     names_known kind given Ended x = tt
 
+    -- each node that a call names is or was in reach, or is one that it has made
     pub named : (kind : Kind V) (given : Option V) (s : Phase C V) → Known number same always i a h k key kind given s → (n : ℕ) → Contains (names number s) n → (is_published (a n).status ≡ true) ⊎ MadeBy number s n
     named kind given s x n c = All-contains (Or (MadeBy number s)) (names number s) n (All-from_recursion (Or (MadeBy number s)) (names number s) (names_known kind given s x)) c
 

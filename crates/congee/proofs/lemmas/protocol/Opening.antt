@@ -10,7 +10,7 @@ use Rattle.congee.specs.Notes.{Note, Unmade, Held, Linked, Gone, is_published, i
 use Rattle.congee.specs.protocol.Opening.{RootAlone, FreshRoot}
 use Rattle.congee.specs.protocol.Holdings.{Rests}
 use Rattle.congee.specs.protocol.Play.{IsNew, Begins}
-use Rattle.congee.proofs.lemmas.Fits.{equal}
+use Rattle.congee.proofs.lemmas.Fits.{equal_of_test}
 use Rattle.congee.proofs.lemmas.protocol.Touch.{by_test}
 use Rattle.congee.proofs.lemmas.protocol.Keyed.{begins_key}
 
@@ -20,11 +20,11 @@ opened n = cond (n == 0) (record { status = Linked; owner = None; parent = 0 }) 
 
 opened_linked : (n : ℕ) → (opened n).status ≡ Linked → n ≡ 0
 unfolding opened
-opened_linked n = by_test (λ (x : Note). x.status ≡ Linked → n ≡ 0) (n == 0) _ _ (λ t _. equal n 0 t) (λ _ l. let z : Unmade ≡ Linked = l in cc)
+opened_linked n = by_test (λ (x : Note). x.status ≡ Linked → n ≡ 0) (n == 0) _ _ (λ t _. equal_of_test n 0 t) (λ _ l. let z : Unmade ≡ Linked = l in cc)
 
 opened_published : (n : ℕ) → is_published (opened n).status ≡ true → n ≡ 0
 unfolding opened
-opened_published n = by_test (λ (x : Note). is_published x.status ≡ true → n ≡ 0) (n == 0) _ _ (λ t _. equal n 0 t) (λ _ l. let z : false ≡ true = l in cc)
+opened_published n = by_test (λ (x : Note). is_published x.status ≡ true → n ≡ 0) (n == 0) _ _ (λ t _. equal_of_test n 0 t) (λ _ l. let z : false ≡ true = l in cc)
 
 opened_owner : (n : ℕ) → (opened n).owner ≡ None
 unfolding opened
@@ -36,13 +36,14 @@ opened_gone n = by_test (λ (x : Note). x.status ≡ Gone → ⊥) (n == 0) _ _ 
 
 opened_unmade : (n : ℕ) → n ≢ 0 → (opened n).status ≡ Unmade
 unfolding opened
-opened_unmade n ne = by_test (λ (x : Note). x.status ≡ Unmade) (n == 0) _ _ (λ t. absurd (ne (equal n 0 t))) (λ _. refl)
+opened_unmade n ne = by_test (λ (x : Note). x.status ≡ Unmade) (n == 0) _ _ (λ t. absurd (ne (equal_of_test n 0 t))) (λ _. refl)
 
 opened_root : (opened 0).status ≡ Linked
 unfolding opened
 opened_root = refl
 
 module _ {V : Type 0} (h : ℕ → Node V) (r : RootAlone h) where
+  -- a root alone is a tree
   pub opening_tree : Tree opened h
   opening_tree = record {
     root = opened_root;
@@ -53,6 +54,7 @@ module _ {V : Type 0} (h : ℕ → Node V) (r : RootAlone h) where
     up = λ n l ne. absurd (ne (opened_linked n l));
   }
 
+  -- where the root stands alone, each node's lock word and life agree with the ledger
   pub opening_words : LockWords opened h
   opening_words = record {
     each = λ n. record {

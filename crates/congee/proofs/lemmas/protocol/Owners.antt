@@ -16,7 +16,7 @@ use Rattle.congee.specs.declared.protocol.phase.Plan.{Plan}
 use Rattle.congee.specs.declared.protocol.phase.Plan.TheVariants.{Here, Above}
 use Rattle.congee.specs.declared.protocol.phase.Phase.{Phase}
 use Rattle.congee.specs.declared.protocol.phase.Phase.TheVariants.{MakeGreater, MakeBeside, AskNew, CheckAbove, UpgradeOne, ChangeOne, UpgradeTop, UpgradeAbove, UpgradeBelow, ChangeTwo, Obsolete, Retire, UnlockBelow, Unlock, Unwind}
-use Rattle.congee.specs.declared.protocol.turn.NextPhase.{NextPhase}
+use Rattle.congee.specs.declared.protocol.next_phase.NextPhase.{NextPhase}
 use Rattle.congee.specs.declared.protocol.machine.Machine.{Machine}
 use Rattle.congee.specs.Heap.{Node}
 use Rattle.congee.specs.protocol.Steps.{after_retire, PhaseStepped}
@@ -60,6 +60,7 @@ pub record IsTaken {V : Type 0} (i : ℕ) (a : ℕ → Note) (h : ℕ → Node V
 
 -- what a call knows of the nodes that it has made, taken out and locked
 module _ {C V : Type 0} (number : C → ℕ) (same : V → V → Bool) (always : Bool) (i : ℕ) (a : ℕ → Note) (h : ℕ → Node V) (k : ℕ) (key : List ℕ) (kind : Kind V) (given : Option V) (n : ℕ) where
+  -- the node is one that the call has made, of some size, empty and not yet hung
   abbrev pub IsNew : Type 0
   IsNew = (size : ℕ) × (least : ℕ) × Made i a h key n size least
 
@@ -89,6 +90,7 @@ module _ {C V : Type 0} (number : C → ℕ) (same : V → V → Bool) (always :
   leaf_made None s m x = absurd x
   leaf_made (Some leaf) s m x = made_at (number leaf) 7 0 m.1 x
 
+  -- a call knows of each node that it has made that it is new
   pub made_known : (s : Phase C V) → Known number same always i a h k key kind given s → MadeBy number s n → IsNew
   made_known (MakeGreater s p leaf) x l = leaf_made leaf s x.3 l
   made_known (MakeBeside p at common byte top) x l = made_at (number top) common 1 x.6 l
@@ -113,6 +115,7 @@ module _ {C V : Type 0} (number : C → ℕ) (same : V → V → Bool) (always :
   both_taken m p next x y (inl q) = taken_at (number m) (record { owner = x.owner; gone = x.gone; unretired = x.unretired }) q
   both_taken m p next x y (inr q) = next_taken next (number m) y q
 
+  -- a call knows of each node that it took out that it is gone, locked by the call and not handed over
   pub taken_known : (s : Phase C V) → Known number same always i a h k key kind given s → TakenBy number s n → IsTaken i a h n
   taken_known (Obsolete m next p r) x t = both_taken m p next x.0 x.1 t
   taken_known (Retire m next p r) x t = both_taken m p next x.0 x.1 t
@@ -133,7 +136,7 @@ module _ {C V : Type 0} (number : C → ℕ) (same : V → V → Bool) (always :
 
   locks_top : (T : Type 0) (top : Option (Parent C)) (m : ℕ) → TopLocked number i a h key top m → IsTop number top n → Locks T
   locks_top T None m x l = absurd l
-  locks_top T (Some g) m x l = locks_at T (number g.seat.node) x.holding l
+  locks_top T (Some g) m x l = locks_at T (number g.stamp.node) x.holding l
 
   locks_next : (T : Type 0) (next : Option C) (m : ℕ) → AlsoHolding number i a m next → IsMade number next n → Locks T
   locks_next T None m x l = absurd l
@@ -147,10 +150,10 @@ module _ {C V : Type 0} (number : C → ℕ) (same : V → V → Bool) (always :
   locks_are : (s : Phase C V) → Known number same always i a h k key kind given s → LockedBy number s n → Locks (TakenBy number s n)
   locks_are (ChangeOne one r) x l = locks_at _ (number one.at.node) x.1.holding l
   locks_are (UpgradeAbove two r) x l = locks_top _ two.top _ x.1.2.top l
-  locks_are (UpgradeBelow two r) x (inl l) = locks_at _ (number two.above.seat.node) x.1.2.above.holding l
+  locks_are (UpgradeBelow two r) x (inl l) = locks_at _ (number two.above.stamp.node) x.1.2.above.holding l
   locks_are (UpgradeBelow two r) x (inr l) = locks_top _ two.top _ x.1.2.top l
-  locks_are (ChangeTwo two r) x (inl (inl l)) = locks_at _ (number two.above.seat.node) x.2.above.holding l
-  locks_are (ChangeTwo two r) x (inl (inr l)) = (owned_at (number two.at.node) x.2.owner l, λ t. inl (linked_at (number two.at.node) (t.down (number two.above.seat.node) _ (number two.at.node) x.2.above.holding.linked x.2.above.child).linked l))
+  locks_are (ChangeTwo two r) x (inl (inl l)) = locks_at _ (number two.above.stamp.node) x.2.above.holding l
+  locks_are (ChangeTwo two r) x (inl (inr l)) = (owned_at (number two.at.node) x.2.owner l, λ t. inl (linked_at (number two.at.node) (t.down (number two.above.stamp.node) _ (number two.at.node) x.2.above.holding.linked x.2.above.child).linked l))
   locks_are (ChangeTwo two r) x (inr l) = locks_top _ two.top _ x.2.top l
   locks_are (Obsolete m next p r) x l = locks_out m p next x.0 x.1 l
   locks_are (Retire m next p r) x l = locks_out m p next x.0 x.1 l
@@ -161,13 +164,16 @@ module _ {C V : Type 0} (number : C → ℕ) (same : V → V → Bool) (always :
   locks_are (Unwind m next e) x (inr l) = locks_next _ next _ x.2 l
   locks_are _ x l = absurd l
 
+  -- each node that a call has locked is in the tree, or the call took it out
   pub locked_linked : Tree a h → (s : Phase C V) → Known number same always i a h k key kind given s → LockedBy number s n → ((a n).status ≡ Linked) ⊎ TakenBy number s n
   locked_linked t s x l = (locks_are s x l).1 t
 
 module _ {C V : Type 0} (number : C → ℕ) (same : V → V → Bool) (always : Bool) (i : ℕ) (a : ℕ → Note) (h : ℕ → Node V) (k : ℕ) (kind : Kind V) (given : Option V) (n : ℕ) where
+  -- the ledger has each node that a call has made as held by it
   pub made_held : (s : Phase C V) → Known number same always i a h k (key_bytes k) kind given s → MadeBy number s n → (a n).status ≡ Held i
   made_held s x l = (made_known number same always i a h k (key_bytes k) kind given n s x l).2.held
 
+  -- the ledger has each lock that a call holds as its own
   pub locks_owned : (s : Phase C V) → Known number same always i a h k (key_bytes k) kind given s → LockedBy number s n → (a n).owner ≡ Some i
   locks_owned s x l = (locks_are number same always i a h k (key_bytes k) kind given n s x l).0
 
@@ -184,12 +190,12 @@ module _ {C V : Type 0} (number : C → ℕ) (same : V → V → Bool) (always :
   next_out (Some c) p r l = inl l
 
   -- it is marked, and then handed over
-  pub taken_on : (most : ℕ) (why : NodeType → Refusal → Type 0) (root : C) (fail : Bool) (answer : Option (Option V)) (s : Phase C V) (given' : Option V) (turn : NextPhase C V) (h' : ℕ → Node V) → PhaseStepped number same always most why root (key_bytes k) kind fail answer given s h given' turn h'
-      → TakenBy number s n → ((h' n).retired ≡ true) ⊎ TakenBy number turn.phase n
-  taken_on most why root fail answer (Obsolete m next p r) given' turn h' g l = let P : NextPhase C V → Type 0 = λ y. TakenBy number y.phase n in inr (subst P (sym g.2) l)
-  taken_on most why root fail answer (Retire m next p r) given' turn h' g (inl l) = let P : ℕ → Type 0 = λ y. (h' y).retired ≡ true in inl (subst P (sym l) (rw g.1.after refl))
-  taken_on most why root fail answer (Retire m next p r) given' turn h' g (inr l) = let P : NextPhase C V → Type 0 = λ y. TakenBy number y.phase n in inr (subst P (sym g.2) (next_out next p r l))
-  taken_on most why root fail answer _ given' turn h' g l = absurd l
+  pub taken_on : (most : ℕ) (why : NodeType → Refusal → Type 0) (root : C) (fail : Bool) (answer : Option (Option V)) (s : Phase C V) (given' : Option V) (next_phase : NextPhase C V) (h' : ℕ → Node V) → PhaseStepped number same always most why root (key_bytes k) kind fail answer given s h given' next_phase h'
+      → TakenBy number s n → ((h' n).retired ≡ true) ⊎ TakenBy number next_phase.phase n
+  taken_on most why root fail answer (Obsolete m next p r) given' next_phase h' g l = let P : NextPhase C V → Type 0 = λ y. TakenBy number y.phase n in inr (subst P (sym g.2) l)
+  taken_on most why root fail answer (Retire m next p r) given' next_phase h' g (inl l) = let P : ℕ → Type 0 = λ y. (h' y).retired ≡ true in inl (subst P (sym l) (rw g.1.after refl))
+  taken_on most why root fail answer (Retire m next p r) given' next_phase h' g (inr l) = let P : NextPhase C V → Type 0 = λ y. TakenBy number y.phase n in inr (subst P (sym g.2) (next_out next p r l))
+  taken_on most why root fail answer _ given' next_phase h' g l = absurd l
 
 module _ {C V : Type 0} (number : C → ℕ) (same : V → V → Bool) (always : Bool) (i : ℕ) (a : ℕ → Note) (h : ℕ → Node V) (a' : ℕ → Note) (h' : ℕ → Node V) (ms : List (Machine C V)) (m m' : Machine C V)
     (e : slice_get ms i ≡ Some m) (w : LockWords a h) (t : Tree a h) (w' : LockWords a' h') (t' : Tree a' h') (f : (n : ℕ) → Fares i (a n) (a' n) (h n) (h' n)) (s : Holdings number a h ms) where
@@ -197,11 +203,13 @@ module _ {C V : Type 0} (number : C → ℕ) (same : V → V → Bool) (always :
   mine_is : (k : Machine C V) → slice_get ms i ≡ Some k → k ≡ m
   mine_is k g = let z : Some k ≡ Some m = sym g ∙ e in cc
 
+  -- what the ledger had as locked by the call before the step, its phase had locked
   pub own_before : (n : ℕ) → (a n).owner ≡ Some i → LockedBy number m.phase n
   own_before n o =
       let x : (k : Machine C V) × (slice_get ms i ≡ Some k) × LockedBy number k.phase n = s.owned n i o in
       let P : Machine C V → Type 0 = λ y. LockedBy number y.phase n in subst P (mine_is x.0 x.1) x.2
 
+  -- what the ledger had as held by the call before the step, its phase had made
   pub mine_before : (n : ℕ) → (a n).status ≡ Held i → MadeBy number m.phase n
   mine_before n o =
       let x : (k : Machine C V) × (slice_get ms i ≡ Some k) × MadeBy number k.phase n = s.held n i o in
@@ -219,6 +227,7 @@ module _ {C V : Type 0} (number : C → ℕ) (same : V → V → Bool) (always :
   there : (P : Machine C V → Type 0) (j : ℕ) → j ≢ i → (k : Machine C V) → slice_get ms j ≡ Some k → P k → At P j
   there P j ne k g x = (k, set_apart ms i j m' k ne g, x)
 
+  -- all locks and made nodes are those of the calls after the step, where the stepping call's are its own
   pub held_after : Holds_now number same always i a h a' h' (key_bytes m.key) w w' t' f m'.phase
       → ((n : ℕ) → LockedBy number m'.phase n → (a' n).status ≡ Gone → TakenBy number m'.phase n) → ((n : ℕ) → TakenBy number m.phase n → ((h' n).retired ≡ true) ⊎ TakenBy number m'.phase n)
       → Holdings number a' h' (set ms i m')

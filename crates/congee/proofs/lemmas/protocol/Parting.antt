@@ -9,11 +9,11 @@ use Rattle.congee.proofs.lemmas.Fits.{both_true, and_true, fits_byte}
 use Rattle.congee.proofs.lemmas.Tree.{same_or_not}
 use Rattle.congee.proofs.lemmas.Graft.{on_test}
 use Rattle.congee.proofs.lemmas.Split.{Splits, split_tree, split_map}
-use Rattle.congee.proofs.lemmas.protocol.Touch.{noted, noted_same, noted_other, Touched, as_it_was, moved, effect, but_one}
+use Rattle.congee.proofs.lemmas.protocol.Touch.{noted, noted_same, noted_other, Touched, as_it_was, moved, touched_effect, but_one}
 use Rattle.congee.proofs.lemmas.protocol.Change.{Changed, under_touch, under_change, live_made, live_changed, live_same, joined, joined_touch, leaf_filled, leaf_same, made_apart}
 
 -- a prefix that begins another one of the key's bytes as far as they are alike
-pub fits_alike : (p q key : List ℕ) → fits p key ≡ true → length p ≤ length q → ((i : ℕ) → i < length p → get_or q i 0 ≡ get_or key i 0) → fits p q ≡ true
+fits_alike : (p q key : List ℕ) → fits p key ≡ true → length p ≤ length q → ((i : ℕ) → i < length p → get_or q i 0 ≡ get_or key i 0) → fits p q ≡ true
 fits_alike [] q key f l e = refl
 fits_alike (x ∷ p) [] key f l e = absurd (omega arith)
 fits_alike (x ∷ p) (y ∷ q) [] f l e = absurd cc
@@ -27,31 +27,31 @@ pub parts_differ : (p key : List ℕ) (common : ℕ) → Parts p key common → 
 parts_differ p key common k = on_test (fits p key) (λ f. absurd (k.apart (sym (fits_byte p key common f k.short)))) (λ f. f)
 
 -- it parts below what both have
-pub parts_below : (q p key : List ℕ) (common : ℕ) → Parts p key common → fits q p ≡ true → fits q key ≡ true → get_or p (length q) 0 ≡ get_or key (length q) 0 → length q < common
+parts_below : (q p key : List ℕ) (common : ℕ) → Parts p key common → fits q p ≡ true → fits q key ≡ true → get_or p (length q) 0 ≡ get_or key (length q) 0 → length q < common
 parts_below q p key common k f g e = below (length q) common
     (λ lt. k.apart (fits_byte q p common f lt ∙ sym (fits_byte q key common g lt)))
     (λ eq. k.apart (let P : ℕ → Type 0 = λ y. get_or p y 0 ≡ get_or key y 0 in subst P eq e)) where
       below : (m n : ℕ) → (n < m → ⊥) → (m ≡ n → ⊥) → m < n
       below m n f g = omega (arith, g, f)
 
--- the ledger after a split: c hangs below p, d and the old node m below c
+-- the notes after a split: c hangs below p, d and the old node m below c
 unfoldable pub parted : (ℕ → Note) → ℕ → ℕ → ℕ → ℕ → ℕ → Note
 parted a p m c d = noted (noted (noted a m (record { status = (a m).status; owner = (a m).owner; parent = c })) d (joined c)) c (joined p)
 
 module _ (a : ℕ → Note) (p m c d : ℕ) where
-  pub parted_above : parted a p m c d c ≡ joined p
+  parted_above : parted a p m c d c ≡ joined p
   unfolding parted
   parted_above = noted_same _ c _
 
-  pub parted_leaf : d ≢ c → parted a p m c d d ≡ joined c
+  parted_leaf : d ≢ c → parted a p m c d d ≡ joined c
   unfolding parted
   parted_leaf ne = noted_other _ c _ d ne ∙ noted_same _ d _
 
-  pub parted_old : m ≢ c → m ≢ d → parted a p m c d m ≡ record { status = (a m).status; owner = (a m).owner; parent = c }
+  parted_old : m ≢ c → m ≢ d → parted a p m c d m ≡ record { status = (a m).status; owner = (a m).owner; parent = c }
   unfolding parted
   parted_old nc nd = noted_other _ c _ m nc ∙ (noted_other _ d _ m nd ∙ noted_same a m _)
 
-  pub parted_rest : (x : ℕ) → x ≢ c → x ≢ d → x ≢ m → parted a p m c d x ≡ a x
+  parted_rest : (x : ℕ) → x ≢ c → x ≢ d → x ≢ m → parted a p m c d x ≡ a x
   unfolding parted
   parted_rest x nc nd nm = noted_other _ c _ x nc ∙ (noted_other _ d _ x nd ∙ noted_other a m _ x nm)
 
@@ -135,7 +135,7 @@ split_changed i a h key p b m c d common byte v h1 h2 h3 h' len t w o fit eb hun
     let root_c : 0 ≢ c = (λ e. made_apart i a h key c common 1 0 mc (ap is_published t.root) (sym e)) in
     let root_d : 0 ≢ d = (λ e. made_apart i a h key d 7 0 0 md (ap is_published t.root) (sym e)) in (
       record {
-        effect = effect i a h _ h' w (split_tree a h _ h' p m c d key v t s)
+        effect = touched_effect i a h _ h' w (split_tree a h _ h' p m c d key v t s)
             (but_one (λ y z. y.capacity ≡ z.capacity) h3 h' p (λ y. refl) k4.others k4.capacity 0
             ∙ ap (λ z. z.capacity) (k3.others 0 root_c ∙ (k2.others 0 root_c ∙ k1.others 0 root_d))) touch;
         before = map.0;

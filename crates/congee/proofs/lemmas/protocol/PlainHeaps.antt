@@ -16,21 +16,21 @@ use Rattle.congee.specs.forms.Forms.{capacity_of}
 use Rattle.congee.specs.protocol.Events.{hung, places, ChangeGives, HoldsValues, HoldsNodes, IsOther, TakeOverGives, NewNode, UpgradeGives, SeenTruly}
 use Rattle.congee.specs.protocol.Bounds.{Within}
 use Rattle.congee.specs.protocol.Plain.{count_of, child_at}
-use Rattle.congee.specs.protocol.PlainHeap.{plain_node_of, plain_heap, IsFresh, IsTruly, SameWord, HandsOver}
-use Rattle.congee.proofs.lemmas.protocol.PlainLemmas.{child_set, child_beside, count_set, alone, pair_alone, one_left, past, lacking, none_left, all_left}
+use Rattle.congee.specs.protocol.PlainHeap.{plain_node_of, plain_heap, IsFresh, IsTruly, SameWord, MovesTo}
+use Rattle.congee.proofs.lemmas.protocol.PlainLemmas.{child_set, child_beside, count_set, none_beside_one, pair_alone, one_left, past, lacking, none_left, all_left}
 use Rattle.congee.proofs.lemmas.protocol.Leftovers.{kept_node, kept_value}
 use Rattle.congee.proofs.lemmas.owned.Joins.{front_fits}
 use Rattle.congee.proofs.lemmas.Graft.{on_test}
-use Rattle.congee.proofs.lemmas.Fits.{equal}
+use Rattle.congee.proofs.lemmas.Fits.{equal_of_test}
 
 -- a node that was made is one of the list
-pub made_within : (nodes : List PlainNode) (i : ℕ) → (plain_heap nodes i).made ≡ true → i < length nodes
+made_within : (nodes : List PlainNode) (i : ℕ) → (plain_heap nodes i).made ≡ true → i < length nodes
 made_within [] i m = absurd (let z : false ≡ true = m in cc)
 made_within (x ∷ nodes) zero m = omega arith
 made_within (x ∷ nodes) (suc i) m = omega (arith, made_within nodes i m)
 
 -- a node that was made is the one in its place, whatever is read past the end
-pub heap_is : (nodes : List PlainNode) (i : ℕ) (z : PlainNode) → (plain_heap nodes i).made ≡ true → plain_heap nodes i ≡ plain_node_of (Some (get_or nodes i z))
+heap_is : (nodes : List PlainNode) (i : ℕ) (z : PlainNode) → (plain_heap nodes i).made ≡ true → plain_heap nodes i ≡ plain_node_of (Some (get_or nodes i z))
 heap_is [] i z m = absurd (let q : false ≡ true = m in cc)
 heap_is (x ∷ nodes) zero z m = refl
 heap_is (x ∷ nodes) (suc i) z m = heap_is nodes i z m
@@ -40,13 +40,13 @@ pub heap_at : (nodes : List PlainNode) (i : ℕ) (x : PlainNode) → (plain_heap
 heap_at nodes i x m e = heap_is nodes i x m ∙ ap (λ y. plain_node_of (Some y)) (sym e)
 
 -- a node that was set stands under its number
-pub heap_set : (nodes : List PlainNode) (i : ℕ) (y : PlainNode) → i < length nodes → plain_heap (set nodes i y) i ≡ plain_node_of (Some y)
+heap_set : (nodes : List PlainNode) (i : ℕ) (y : PlainNode) → i < length nodes → plain_heap (set nodes i y) i ≡ plain_node_of (Some y)
 heap_set [] i y l = absurd (omega arith)
 heap_set (x ∷ nodes) zero y l = refl
 heap_set (x ∷ nodes) (suc i) y l = heap_set nodes i y (omega arith)
 
 -- every other node is as it was where one is set
-pub heap_beside : (nodes : List PlainNode) (i : ℕ) (y : PlainNode) (m : ℕ) → m ≢ i → plain_heap (set nodes i y) m ≡ plain_heap nodes m
+heap_beside : (nodes : List PlainNode) (i : ℕ) (y : PlainNode) (m : ℕ) → m ≢ i → plain_heap (set nodes i y) m ≡ plain_heap nodes m
 heap_beside [] i y m ne = refl
 heap_beside (x ∷ nodes) zero y zero ne = absurd (ne refl)
 heap_beside (x ∷ nodes) zero y (suc m) ne = refl
@@ -54,17 +54,17 @@ heap_beside (x ∷ nodes) (suc i) y zero ne = refl
 heap_beside (x ∷ nodes) (suc i) y (suc m) ne = heap_beside nodes i y m (λ e. ne (ap suc e))
 
 -- a node that comes last stands under the next number
-pub heap_push : (nodes : List PlainNode) (y : PlainNode) → plain_heap (nodes ++ y ∷ []) (length nodes) ≡ plain_node_of (Some y)
+heap_push : (nodes : List PlainNode) (y : PlainNode) → plain_heap (nodes ++ y ∷ []) (length nodes) ≡ plain_node_of (Some y)
 heap_push [] y = refl
 heap_push (x ∷ nodes) y = heap_push nodes y
 
 -- under the next number no node was made
-pub heap_past : (nodes : List PlainNode) → plain_heap nodes (length nodes) ≡ plain_node_of None
+heap_past : (nodes : List PlainNode) → plain_heap nodes (length nodes) ≡ plain_node_of None
 heap_past [] = refl
 heap_past (x ∷ nodes) = heap_past nodes
 
 -- every other node is as it was where one comes last
-pub heap_before : (nodes : List PlainNode) (y : PlainNode) (m : ℕ) → m ≢ length nodes → plain_heap (nodes ++ y ∷ []) m ≡ plain_heap nodes m
+heap_before : (nodes : List PlainNode) (y : PlainNode) (m : ℕ) → m ≢ length nodes → plain_heap (nodes ++ y ∷ []) m ≡ plain_heap nodes m
 heap_before [] y zero ne = absurd (ne refl)
 heap_before [] y (suc m) ne = refl
 heap_before (x ∷ nodes) y zero ne = refl
@@ -120,7 +120,7 @@ get_or_drop (x ∷ xs) (suc n) d = get_or_drop xs n d
 
 -- the children of one node go over into another
 taken_over : (nodes : List PlainNode) (i n : ℕ) (x y x' y' : PlainNode) → plain_heap nodes i ≡ plain_node_of (Some x) → plain_heap nodes n ≡ plain_node_of (Some y)
-    → HandsOver x y x' y' → (h' : ℕ → Node ℕ) → h' i ≡ plain_node_of (Some x') → h' n ≡ plain_node_of (Some y') → ((m : ℕ) → m ≢ n → m ≢ i → h' m ≡ plain_heap nodes m)
+    → MovesTo x y x' y' → (h' : ℕ → Node ℕ) → h' i ≡ plain_node_of (Some x') → h' n ≡ plain_node_of (Some y') → ((m : ℕ) → m ≢ n → m ≢ i → h' m ≡ plain_heap nodes m)
     → TakeOverGives (plain_heap nodes) i n h'
 taken_over nodes i n x y x' y' from to hands h' ei en others = record {
   children = λ b. rw (en, from, hands.moved) refl;
@@ -159,7 +159,7 @@ two_set nodes i n x y ne li ln = (
 
 -- children go over to a node further back in the list, which was cut before that one
 pub handed_on : (nodes f k : List PlainNode) (size i n : ℕ) (z w x' y' : PlainNode) → size ≡ length nodes → f ≡ take n nodes → k ≡ drop n nodes → i < n
-    → (plain_heap nodes i).made ≡ true → (plain_heap nodes n).made ≡ true → HandsOver (get_or f i z) (get_or k 0 w) x' y'
+    → (plain_heap nodes i).made ≡ true → (plain_heap nodes n).made ≡ true → MovesTo (get_or f i z) (get_or k 0 w) x' y'
     → TakeOverGives (plain_heap nodes) i n (plain_heap (take size (set f i x' ++ set k 0 y' ++ drop (length (set f i x' ++ set k 0 y')) nodes)))
 handed_on nodes f k size i n z w x' y' s ef ek l mi mn hands =
     let ne : i ≢ n = λ e. absurd (omega (arith, e, l)) in
@@ -173,7 +173,7 @@ handed_on nodes f k size i n z w x' y' s ef ek l mi mn hands =
 
 -- children go over to a node further in front in the list, which was cut before the one that gives them
 pub handed_back : (nodes f k : List PlainNode) (size i n : ℕ) (z w x' y' : PlainNode) → size ≡ length nodes → f ≡ take i nodes → k ≡ drop i nodes → n < i
-    → (plain_heap nodes i).made ≡ true → (plain_heap nodes n).made ≡ true → HandsOver (get_or k 0 z) (get_or f n w) x' y'
+    → (plain_heap nodes i).made ≡ true → (plain_heap nodes n).made ≡ true → MovesTo (get_or k 0 z) (get_or f n w) x' y'
     → TakeOverGives (plain_heap nodes) i n (plain_heap (take size (set f n y' ++ set k 0 x' ++ drop (length (set f n y' ++ set k 0 x')) nodes)))
 handed_back nodes f k size i n z w x' y' s ef ek l mi mn hands =
     let ne : i ≢ n = λ e. absurd (omega (arith, e, l)) in
@@ -222,7 +222,7 @@ fresh_within x form prefix most f zero s = record {
 fresh_within x form prefix most f (suc n) s = absurd (let z : false ≡ true = s.made in cc)
 
 differ : (a b : ℕ) → a ≢ b → (a == b) ≡ false
-differ a b ne = on_test (a == b) (λ t. absurd (ne (equal a b t))) (λ f. f)
+differ a b ne = on_test (a == b) (λ t. absurd (ne (equal_of_test a b t))) (λ f. f)
 
 -- a lock word that isn't the one taken
 pub not_locked : (nodes : List PlainNode) (i v most : ℕ) (x : PlainNode) (fail : Bool) → v ≢ most → (plain_heap nodes i).made ≡ true → x ≡ get_or nodes i x
@@ -253,7 +253,7 @@ seen_truly n key b depth s ed e l t =
       child = child;
       count = t.count_is;
       full = λ _. t.full_is ∙ ap (λ y. y == capacity_of n.form) t.count_is;
-      alone = λ one ne. alone n.children.items (slice_index key (length n.prefix)) one (λ q. ne (child ∙ q));
+      alone = λ one ne. none_beside_one n.children.items (slice_index key (length n.prefix)) one (λ q. ne (child ∙ q));
       room = λ q. (let w : count_of n.children.items < length n.children.items = lacking n.children.items (slice_index key (length n.prefix)) within (sym child ∙ q) in omega (arith, w, n.wide));
     }
 

@@ -1,6 +1,6 @@
 -- The places of a plain node.
 use Rattle.std.proofs.Common.{◌≡◌, ◌≢◌, ℕ, zero, suc, ◌<◌, ◌≤◌, ◌+◌, List, [], ◌∷◌, ◌++◌, length, get_or, set, take, drop, refl, ◌∙◌, ap, subst, arith, inl, inr, cond, sym}
-use Rattle.std.proofs.lemmas.List.Sums.{sum_by_push, sum_by-cons, sum_by-set, count_by-le-length}
+use Rattle.std.proofs.lemmas.List.Sums.{sum_by-cons, sum_by-set, count_by-le-length}
 use Rattle.std.proofs.Math.Seq.{take-append_seam}
 use Rattle.std.proofs.lemmas.Bool.{cases_lt}
 use Rattle.congee.specs.declared.forms.child.Child.{Child}
@@ -9,32 +9,11 @@ use Rattle.congee.specs.Heap.{Nothing}
 use Rattle.congee.specs.protocol.Events.{hung, weight, kept}
 use Rattle.congee.specs.protocol.Plain.{is_there, count_of, child_at, NamesStay}
 
--- places without a child have none with one more blank
-pub count_blank : (xs : List (Child ℕ ℕ)) → count_of xs ≡ 0 → count_of (xs ++ Blank ∷ []) ≡ 0
-count_blank xs e = sum_by_push (λ x. cond (is_there x) 1 0) xs Blank ∙ rw e refl
-
--- places where nothing hangs are so with one more blank
-pub blank_more : (xs : List (Child ℕ ℕ)) → ((b : ℕ) → child_at xs b ≡ Nothing) → (b : ℕ) → child_at (xs ++ Blank ∷ []) b ≡ Nothing
-blank_more [] e zero = refl
-blank_more [] e (suc b) = refl
-blank_more (x ∷ xs) e zero = e 0
-blank_more (x ∷ xs) e (suc b) = blank_more xs (λ k. e (suc k)) b
-
 -- nothing hangs past the end of the places
 pub past : (xs : List (Child ℕ ℕ)) (b : ℕ) → length xs ≤ b → child_at xs b ≡ Nothing
 past [] b l = refl
 past (x ∷ xs) zero l = absurd (omega arith)
 past (x ∷ xs) (suc b) l = past xs b (omega arith)
-
--- the same children hang alike
-pub same_hung : (x y : Child ℕ ℕ) → x ≡ y → hung (λ n. n) x ≡ hung (λ n. n) y
-same_hung x y e = ap (λ z. hung (λ n. n) z) e
-
--- what is read in a place hangs at its byte
-pub child_is : (xs : List (Child ℕ ℕ)) (b : ℕ) (x : Child ℕ ℕ) → b < length xs → x ≡ get_or xs b x → hung (λ n. n) x ≡ child_at xs b
-child_is [] b x l e = absurd (omega arith)
-child_is (y ∷ xs) zero x l e = ap (λ z. hung (λ n. n) z) e
-child_is (y ∷ xs) (suc b) x l e = child_is xs b x (omega arith) e
 
 -- what is put in a place hangs at its byte
 pub child_set : (xs : List (Child ℕ ℕ)) (i : ℕ) (x : Child ℕ ℕ) → i < length xs → child_at (set xs i x) i ≡ hung (λ n. n) x
@@ -51,7 +30,7 @@ child_beside (y ∷ xs) (suc i) x zero ne = refl
 child_beside (y ∷ xs) (suc i) x (suc b) ne = child_beside xs i x b (λ e. ne (ap suc e))
 
 -- what is in a place counts one, and a blank nothing
-pub weight_is : (x : Child ℕ ℕ) → weight (hung (λ n. n) x) ≡ cond (is_there x) 1 0
+weight_is : (x : Child ℕ ℕ) → weight (hung (λ n. n) x) ≡ cond (is_there x) 1 0
 weight_is Blank = refl
 weight_is (Node c) = refl
 weight_is (Value v) = refl
@@ -90,12 +69,12 @@ some_there (x ∷ xs) zero ne = omega (arith, there x ne, count_cons x xs)
 some_there (x ∷ xs) (suc b) ne = omega (arith, some_there xs b ne, count_cons x xs)
 
 -- a node with one child has nothing else
-pub alone : (xs : List (Child ℕ ℕ)) (i : ℕ) → count_of xs ≡ 1 → child_at xs i ≢ Nothing → (b : ℕ) → b ≢ i → child_at xs b ≡ Nothing
-alone [] i e ne b d = refl
-alone (x ∷ xs) zero e ne zero d = absurd (d refl)
-alone (x ∷ xs) zero e ne (suc b) d = none_there xs (omega (arith, e, there x ne, count_cons x xs)) b
-alone (x ∷ xs) (suc i) e ne zero d = empty_at x (omega (arith, e, some_there xs i ne, count_cons x xs))
-alone (x ∷ xs) (suc i) e ne (suc b) d = alone xs i (omega (arith, e, some_there xs i ne, count_cons x xs, count_by-le-length is_there (x ∷ xs))) ne b (λ q. d (ap suc q))
+pub none_beside_one : (xs : List (Child ℕ ℕ)) (i : ℕ) → count_of xs ≡ 1 → child_at xs i ≢ Nothing → (b : ℕ) → b ≢ i → child_at xs b ≡ Nothing
+none_beside_one [] i e ne b d = refl
+none_beside_one (x ∷ xs) zero e ne zero d = absurd (d refl)
+none_beside_one (x ∷ xs) zero e ne (suc b) d = none_there xs (omega (arith, e, there x ne, count_cons x xs)) b
+none_beside_one (x ∷ xs) (suc i) e ne zero d = empty_at x (omega (arith, e, some_there xs i ne, count_cons x xs))
+none_beside_one (x ∷ xs) (suc i) e ne (suc b) d = none_beside_one xs i (omega (arith, e, some_there xs i ne, count_cons x xs, count_by-le-length is_there (x ∷ xs))) ne b (λ q. d (ap suc q))
 
 -- a list of blanks has no child
 pub none_left : (xs : List (Child ℕ ℕ)) → ((b : ℕ) → child_at xs b ≡ Nothing) → count_of xs ≡ 0
@@ -114,9 +93,9 @@ pub pair_alone : (xs : List (Child ℕ ℕ)) (i j : ℕ) → count_of xs ≡ 2 �
 pair_alone [] i j e ne ci cj b di dj = refl
 pair_alone (x ∷ xs) zero zero e ne ci cj b di dj = absurd (ne refl)
 pair_alone (x ∷ xs) zero (suc j) e ne ci cj zero di dj = absurd (di refl)
-pair_alone (x ∷ xs) zero (suc j) e ne ci cj (suc b) di dj = alone xs j (omega (arith, e, there x ci, count_cons x xs)) cj b (λ q. dj (ap suc q))
+pair_alone (x ∷ xs) zero (suc j) e ne ci cj (suc b) di dj = none_beside_one xs j (omega (arith, e, there x ci, count_cons x xs)) cj b (λ q. dj (ap suc q))
 pair_alone (x ∷ xs) (suc i) zero e ne ci cj zero di dj = absurd (dj refl)
-pair_alone (x ∷ xs) (suc i) zero e ne ci cj (suc b) di dj = alone xs i (omega (arith, e, there x cj, count_cons x xs)) ci b (λ q. di (ap suc q))
+pair_alone (x ∷ xs) (suc i) zero e ne ci cj (suc b) di dj = none_beside_one xs i (omega (arith, e, there x cj, count_cons x xs)) ci b (λ q. di (ap suc q))
 pair_alone (x ∷ xs) (suc i) (suc j) e ne ci cj zero di dj = empty_at x (omega (arith, e, two_there xs i j (λ q. ne (ap suc q)) ci cj, count_cons x xs))
 pair_alone (x ∷ xs) (suc i) (suc j) e ne ci cj (suc b) di dj =
     pair_alone xs i j (omega (arith, e, two_there xs i j (λ q. ne (ap suc q)) ci cj, count_cons x xs)) (λ q. ne (ap suc q)) ci cj b (λ q. di (ap suc q)) (λ q. dj (ap suc q))
@@ -134,11 +113,11 @@ lacking (x ∷ xs) zero l e = (let w : weight (hung (λ n. n) x) ≡ 0 = ap weig
 lacking (x ∷ xs) (suc i) l e = omega (arith, lacking xs i (omega arith) e, at_most x, count_cons x xs)
 
 -- the names below a bound are copied
-abbrev pub NamesBelow : ℕ → List (Child ℕ ℕ) → List (Child ℕ ℕ) → Type 0
+abbrev NamesBelow : ℕ → List (Child ℕ ℕ) → List (Child ℕ ℕ) → Type 0
 NamesBelow i from to = (b : ℕ) → b < i → child_at to b ≡ kept (child_at from b)
 
 -- what hangs at a byte within the places, whatever is read past their end
-pub child_any : (xs : List (Child ℕ ℕ)) (b : ℕ) (z : Child ℕ ℕ) → b < length xs → hung (λ n. n) (get_or xs b z) ≡ child_at xs b
+child_any : (xs : List (Child ℕ ℕ)) (b : ℕ) (z : Child ℕ ℕ) → b < length xs → hung (λ n. n) (get_or xs b z) ≡ child_at xs b
 child_any [] b z l = absurd (omega arith)
 child_any (y ∷ xs) zero z l = refl
 child_any (y ∷ xs) (suc b) z l = child_any xs b z (omega arith)

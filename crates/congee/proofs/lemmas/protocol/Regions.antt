@@ -7,7 +7,7 @@ use Rattle.congee.specs.Heap.{fits}
 use Rattle.congee.specs.Keys.{key_bytes}
 use Rattle.congee.specs.protocol.Regions.{span, IsRegion, start_at}
 use Rattle.congee.proofs.lemmas.Fits.{fits_byte}
-use Rattle.congee.proofs.lemmas.Orders.{top, top_step, same_top, same_bytes}
+use Rattle.congee.proofs.lemmas.Orders.{first_bytes, top_step, same_top, same_bytes}
 use Rattle.congee.proofs.lemmas.forms.Prefixes.{fits_every}
 
 pow_pos : (n : ℕ) → 0 < 2 ^ n
@@ -44,10 +44,10 @@ pub multiple : (k s : ℕ) → k % s ≡ 0 → k / s * s ≡ k
 multiple k s e = let f : s * (k / s) + k % s ≡ k = div-add-mod k s in omega (arith, e, f)
 
 module _ (p : List ℕ) (base depth : ℕ) (r : IsRegion p base depth) where
-  top_base : top base depth * span depth ≡ base
+  top_base : first_bytes base depth * span depth ≡ base
   top_base = multiple base (span depth) r.even
 
-  same_prefix : (k : ℕ) → k < 2 ^ 64 → fits p (key_bytes k) ≡ true → top k depth ≡ top base depth
+  same_prefix : (k : ℕ) → k < 2 ^ 64 → fits p (key_bytes k) ≡ true → first_bytes k depth ≡ first_bytes base depth
   same_prefix k l f = same_top k base depth l r.small (omega (arith, r.short)) (λ j lt.
       let lp : j < length p = omega (arith, lt, r.depth_is) in
       fits_byte p (key_bytes k) j f lp ∙ sym (fits_byte p (key_bytes base) j r.fitted lp))
@@ -58,16 +58,17 @@ module _ (p : List ℕ) (base depth : ℕ) (r : IsRegion p base depth) where
       let e = same_prefix k l f in
       let b = top_base in
       let q = multiple_bounds k (span depth) (span_pos depth) in
-      let z : top k depth * span depth ≡ base = ap (λ n. n * span depth) e ∙ b in
+      let z : first_bytes k depth * span depth ≡ base = ap (λ n. n * span depth) e ∙ b in
       (omega (arith, z, q.0), omega (arith, z, q.1))
 
+  -- a key of the region begins with the prefix
   pub within_keys : (k : ℕ) → k < 2 ^ 64 → base ≤ k → k < base + span depth → fits p (key_bytes k) ≡ true
   within_keys k l lo hi =
       let b = top_base in
       let q = multiple_bounds k (span depth) (span_pos depth) in
-      let up : top k depth ≤ top base depth = between_one (span depth) (top k depth) (top base depth) (omega (arith, q.0, hi, b)) in
-      let down : top base depth ≤ top k depth = between_one (span depth) (top base depth) (top k depth) (omega (arith, q.1, lo, b)) in
-      let e : top k depth ≡ top base depth = omega (arith, up, down) in
+      let up : first_bytes k depth ≤ first_bytes base depth = between_one (span depth) (first_bytes k depth) (first_bytes base depth) (omega (arith, q.0, hi, b)) in
+      let down : first_bytes base depth ≤ first_bytes k depth = between_one (span depth) (first_bytes base depth) (first_bytes k depth) (omega (arith, q.1, lo, b)) in
+      let e : first_bytes k depth ≡ first_bytes base depth = omega (arith, up, down) in
       fits_every p (key_bytes k) (omega (arith, r.depth_is, r.short)) (λ j lt.
       same_bytes k base depth (omega (arith, r.short)) e j (omega (arith, lt, r.depth_is)) ∙ fits_byte p (key_bytes base) j r.fitted lt)
 
@@ -80,10 +81,10 @@ module _ (p : List ℕ) (base depth : ℕ) (r : IsRegion p base depth) where
       let e = same_prefix k l f in
       let b = top_base in
       let s = span_step depth (omega (arith, r.short)) in
-      let t : top k (depth + 1) ≡ 256 * top k depth + get_or (key_bytes k) depth 0 = top_step k depth (omega (arith, r.short)) in
+      let t : first_bytes k (depth + 1) ≡ 256 * first_bytes k depth + get_or (key_bytes k) depth 0 = top_step k depth (omega (arith, r.short)) in
       let q = multiple_bounds k (span (depth + 1)) (span_pos (depth + 1)) in
-      let z : top k (depth + 1) * span (depth + 1) ≡ base + get_or (key_bytes k) depth 0 * span (depth + 1) =
-      ap (λ n. n * span (depth + 1)) t ∙ split (top k depth) (get_or (key_bytes k) depth 0) (span (depth + 1)) ∙ ap (λ n. n + get_or (key_bytes k) depth 0 * span (depth + 1)) (ap (λ n. top k depth * n) (sym s) ∙ ap (λ n. n * span depth) e ∙ b) in
+      let z : first_bytes k (depth + 1) * span (depth + 1) ≡ base + get_or (key_bytes k) depth 0 * span (depth + 1) =
+      ap (λ n. n * span (depth + 1)) t ∙ split (first_bytes k depth) (get_or (key_bytes k) depth 0) (span (depth + 1)) ∙ ap (λ n. n + get_or (key_bytes k) depth 0 * span (depth + 1)) (ap (λ n. first_bytes k depth * n) (sym s) ∙ ap (λ n. n * span depth) e ∙ b) in
       let more : (get_or (key_bytes k) depth 0 + 1) * span (depth + 1) ≡ get_or (key_bytes k) depth 0 * span (depth + 1) + span (depth + 1) = omega arith in
       (omega (arith, z, q.0), omega (arith, z, q.1, more)))
     where
@@ -97,6 +98,7 @@ module _ (p : List ℕ) (base depth : ℕ) (r : IsRegion p base depth) where
       let more : (get_or (key_bytes k) (length p) 0 + 1) * span (depth + 1) ≡ get_or (key_bytes k) (length p) 0 * span (depth + 1) + span (depth + 1) = omega arith in
       between_one (span (depth + 1)) c (get_or (key_bytes k) (length p) 0) (omega (arith, w.1, lo, more))
 
+  -- a key that begins with the prefix, below a byte's first, has a lesser byte after it
   pub byte_high : (k c : ℕ) → k < 2 ^ 64 → fits p (key_bytes k) ≡ true → k < start_at base depth c → get_or (key_bytes k) (length p) 0 < c
   byte_high k c l f hi =
       let w = byte_within k l f in
@@ -106,8 +108,9 @@ module _ (p : List ℕ) (base depth : ℕ) (r : IsRegion p base depth) where
       ]
 
   -- the whole of the keys below the node lies between its byte 0 and its byte 256
-  pub whole : start_at base depth 256 ≡ base + span depth
-  whole = let s = span_step depth (omega (arith, r.short)) in omega (arith, s)
+  pub start_at_end : start_at base depth 256 ≡ base + span depth
+  start_at_end = let s = span_step depth (omega (arith, r.short)) in omega (arith, s)
 
+  -- the keys of a later byte begin no earlier
   pub start_mono : (b c : ℕ) → b ≤ c → start_at base depth b ≤ start_at base depth c
   start_mono b c l = let m : b * span (depth + 1) ≤ c * span (depth + 1) = mul-le-mul_right (span (depth + 1)) l in omega (arith, m)

@@ -4,11 +4,11 @@ use Rattle.std.specs.Prelude.{None, Some}
 use Rattle.congee.specs.Heap.{Node, Nothing, Below, fits, child_for, value_at}
 use Rattle.congee.specs.Notes.{Note, Linked, Gone, is_published, IsChild, Tree, LockWords}
 use Rattle.congee.specs.protocol.Protocol.{Made, Holding, TakenOut}
-use Rattle.congee.proofs.lemmas.Fits.{both_true, and_true, equal, same_test}
+use Rattle.congee.proofs.lemmas.Fits.{both_true, and_true, equal_of_test, same_test}
 use Rattle.congee.proofs.lemmas.Tree.{same_or_not}
 use Rattle.congee.proofs.lemmas.Graft.{on_test}
 use Rattle.congee.proofs.lemmas.protocol.Grow.{Grows, Extra, grow_tree, grow_map}
-use Rattle.congee.proofs.lemmas.protocol.Touch.{by_test, Touched, as_it_was, moved, effect}
+use Rattle.congee.proofs.lemmas.protocol.Touch.{by_test, Touched, as_it_was, moved, touched_effect}
 use Rattle.congee.proofs.lemmas.protocol.Change.{Changed, StaysLocked, under_touch, Live, joined, joined_touch, made_apart}
 
 -- the note of a node that the call took out, and still holds locked
@@ -25,41 +25,49 @@ regrown a i p m c d x = cond (x == c) (joined p) (cond (x == d) (joined c) (cond
     (cond (is_published (a x).status && ((a x).parent == m)) (below_note (a x) c) (a x))))
 
 module _ (a : ℕ → Note) (i p m c d : ℕ) where
+  -- the greater node is in the tree, below the node above
   pub regrown_new : regrown a i p m c d c ≡ joined p
   unfolding regrown
   regrown_new = rw (same_test c c refl) refl
 
+  -- the new leaf, where there is one, is in the tree, below the greater node
   pub regrown_leaf : d ≢ c → regrown a i p m c d d ≡ joined c
   unfolding regrown
-  regrown_leaf ne = by_test (λ (n : Note). n ≡ joined c) (d == c) _ _ (λ q. absurd (ne (equal d c q))) (λ _. rw (same_test d d refl) refl)
+  regrown_leaf ne = by_test (λ (n : Note). n ≡ joined c) (d == c) _ _ (λ q. absurd (ne (equal_of_test d c q))) (λ _. rw (same_test d d refl) refl)
 
+  -- the full node is out of the tree, and still locked by the call
   pub regrown_old : m ≢ c → m ≢ d → regrown a i p m c d m ≡ out_note i p
   unfolding regrown
-  regrown_old nc nd = by_test (λ (n : Note). n ≡ out_note i p) (m == c) _ _ (λ q. absurd (nc (equal m c q)))
-      (λ _. by_test (λ (n : Note). n ≡ out_note i p) (m == d) _ _ (λ q. absurd (nd (equal m d q))) (λ _. rw (same_test m m refl) refl))
+  regrown_old nc nd = by_test (λ (n : Note). n ≡ out_note i p) (m == c) _ _ (λ q. absurd (nc (equal_of_test m c q)))
+      (λ _. by_test (λ (n : Note). n ≡ out_note i p) (m == d) _ _ (λ q. absurd (nd (equal_of_test m d q))) (λ _. rw (same_test m m refl) refl))
 
   regrown_rest : (x : ℕ) → x ≢ c → x ≢ d → x ≢ m → regrown a i p m c d x ≡ cond (is_published (a x).status && ((a x).parent == m)) (below_note (a x) c) (a x)
   unfolding regrown
   regrown_rest x nc nd nm =
       let P : Note → Type 0 = λ n. n ≡ cond (is_published (a x).status && ((a x).parent == m)) (below_note (a x) c) (a x) in
-      by_test P (x == c) _ _ (λ q. absurd (nc (equal x c q)))
-      (λ _. by_test P (x == d) _ _ (λ q. absurd (nd (equal x d q)))
-      (λ _. by_test P (x == m) _ _ (λ q. absurd (nm (equal x m q))) (λ _. refl)))
+      by_test P (x == c) _ _ (λ q. absurd (nc (equal_of_test x c q)))
+      (λ _. by_test P (x == d) _ _ (λ q. absurd (nd (equal_of_test x d q)))
+      (λ _. by_test P (x == m) _ _ (λ q. absurd (nm (equal_of_test x m q))) (λ _. refl)))
 
+  -- each other node has the status that it had
   pub regrown_status : (x : ℕ) → x ≢ c → x ≢ d → x ≢ m → (regrown a i p m c d x).status ≡ (a x).status
   regrown_status x nc nd nm = rw (regrown_rest x nc nd nm) (by_test (λ (n : Note). n.status ≡ (a x).status) (is_published (a x).status && ((a x).parent == m)) _ _ (λ _. refl) (λ _. refl))
 
+  -- each other node's lock is whose it was
   pub regrown_owner : (x : ℕ) → x ≢ c → x ≢ d → x ≢ m → (regrown a i p m c d x).owner ≡ (a x).owner
   regrown_owner x nc nd nm = rw (regrown_rest x nc nd nm) (by_test (λ (n : Note). n.owner ≡ (a x).owner) (is_published (a x).status && ((a x).parent == m)) _ _ (λ _. refl) (λ _. refl))
 
+  -- each other node that didn't hang below the full one hangs where it did
   pub regrown_same : (x : ℕ) → x ≢ c → x ≢ d → x ≢ m → (a x).parent ≢ m → (regrown a i p m c d x).parent ≡ (a x).parent
   regrown_same x nc nd nm ne = rw (regrown_rest x nc nd nm) (by_test (λ (n : Note). n.parent ≡ (a x).parent) (is_published (a x).status && ((a x).parent == m)) _ _
-      (λ q. absurd (ne (equal (a x).parent m (both_true (is_published (a x).status) _ q).1))) (λ _. refl))
+      (λ q. absurd (ne (equal_of_test (a x).parent m (both_true (is_published (a x).status) _ q).1))) (λ _. refl))
 
+  -- each other node in reach that hung below the full one hangs below the greater one
   pub regrown_moved : (x : ℕ) → x ≢ c → x ≢ d → x ≢ m → is_published (a x).status ≡ true → (a x).parent ≡ m → (regrown a i p m c d x).parent ≡ c
   regrown_moved x nc nd nm pu e = rw (regrown_rest x nc nd nm) (by_test (λ (n : Note). n.parent ≡ c) (is_published (a x).status && ((a x).parent == m)) _ _
       (λ _. refl) (λ q. absurd (let z : is_published (a x).status && ((a x).parent == m) ≡ true = and_true _ _ pu (same_test (a x).parent m e) in cc)))
 
+  -- each other node out of reach has the note that it had
   pub regrown_hidden : (x : ℕ) → x ≢ c → x ≢ d → x ≢ m → is_published (a x).status ≡ false → regrown a i p m c d x ≡ a x
   regrown_hidden x nc nd nm pu = rw (regrown_rest x nc nd nm) (by_test (λ (n : Note). n ≡ a x) (is_published (a x).status && ((a x).parent == m)) _ _
       (λ q. absurd (let z : is_published (a x).status ≡ true = (both_true (is_published (a x).status) _ q).0 in cc)) (λ _. refl))
@@ -162,7 +170,7 @@ regrow_changed {V} i a h key p b m c d v h' len t w r =
           let y : length (h 0).prefix ≡ 0 = ap length t.empty in absurd (omega (arith, ch.longer))))
     ] in (
       record {
-        effect = effect i a h _ h' w (grow_tree a h _ h' p m c d key v t g) root touch;
+        effect = touched_effect i a h _ h' w (grow_tree a h _ h' p m c d key v t g) root touch;
         before = map.0;
         after = map.1;
         rest = map.2;

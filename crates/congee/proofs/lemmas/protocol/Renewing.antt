@@ -17,7 +17,7 @@ use Rattle.congee.specs.protocol.Play.{IsNew, IsIdle, EachKnown, Settled}
 use Rattle.congee.specs.protocol.Protocol.{Known}
 use Rattle.congee.proofs.lemmas.protocol.Owners.{get_set, set_apart}
 use Rattle.congee.proofs.lemmas.protocol.Opening.{opened, opening_tree, opening_words, opening_rests}
-use Rattle.congee.proofs.lemmas.protocol.Turns.{begin_known, rested}
+use Rattle.congee.proofs.lemmas.protocol.ManyCalls.{begin_known, rested}
 
 -- what the destruction of nodes that were handed over leaves within its limit
 pub spared_within : {C V : Type 0} (number : C → ℕ) (most : ℕ) (h : ℕ → Node V) (ms : List (Machine C V)) (h' : ℕ → Node V) → Destroys number h ms h' → Within most h → Within most h'

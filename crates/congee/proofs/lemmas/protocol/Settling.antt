@@ -133,9 +133,9 @@ module _ {V : Type 0} (i : ℕ) (a : ℕ → Note) (h : ℕ → Node V) (key : L
 module _ {C V : Type 0} (number : C → ℕ) (same : V → V → Bool) (always : Bool) (i : ℕ) (a : ℕ → Note) (h : ℕ → Node V) (k : ℕ) (kind : Kind V)
     (t : Tree a h) (w : LockWords a h) where
   -- a change as the call's answer
-  settled : (given found : Option V) (r : Reply V) (turn : Phase C V) (given' : Option V) (a' : ℕ → Note) (h' : ℕ → Node V)
+  settled : (given found : Option V) (r : Reply V) (next_phase : Phase C V) (given' : Option V) (a' : ℕ → Note) (h' : ℕ → Node V)
       → Settles same k kind given found r given → Changed i a h (key_bytes k) found given a' h' → Decides same k kind given h r h'
-  settled given found r turn given' a' h' s c = record { found = found; after = given; settles = s; before = c.before; now = c.after; rest = c.rest }
+  settled given found r next_phase given' a' h' s c = record { found = found; after = given; settles = s; before = c.before; now = c.after; rest = c.rest }
 
   by_single : (one : One C) (r : Reply V) (given given' : Option V) (x : Hung V) (h' : ℕ → Node V) (change : Single C)
       → Holding i a (number one.at.node) → PlacedOne (key_bytes k) change one.byte (h (number one.at.node)).prefix → WantedOne (key_bytes k) x (h (number one.at.node))
@@ -163,56 +163,57 @@ module _ {C V : Type 0} (number : C → ℕ) (same : V → V → Bool) (always :
           let e : noted a c (joined n) n ≡ a n = noted_other a c _ n (λ z. made_apart i a h (key_bytes k) c 7 0 n m (ap is_published o.linked) (sym z)) in
           record { owner = rw e o.owner; linked = rw e o.linked }
 
+  -- a change of one locked node answers as the map, and leaves the call its lock
   pub changed_one : (one : One C) (r : Reply V) (given given' : Option V) (h' : ℕ → Node V) → Known number same always i a h k (key_bytes k) kind given (ChangeOne one r)
       → ChangedOne number (key_bytes k) given one one.change h h' → Kept number same always i a h k kind given given' (decided (Unlock one.at.node r)) h'
   changed_one one r given given' h' m g = by_single one r given given' m.0 h' one.change m.1.holding m.1.placed m.1.wanted m.1.made m.2 m.3 g
 
   -- the changes of the node above both
-  collapsed_top : (two : Two C) (r : Reply V) (given' : Option V) (v : V) (h' : ℕ → Node V) (top : Option (Parent C)) → TopLocked number i a h (key_bytes k) top (number two.above.seat.node)
+  collapsed_top : (two : Two C) (r : Reply V) (given' : Option V) (v : V) (h' : ℕ → Node V) (top : Option (Parent C)) → TopLocked number i a h (key_bytes k) top (number two.above.stamp.node)
       → AboveLocked number i a h (key_bytes k) two.above (number two.at.node) → (a (number two.at.node)).owner ≡ Some i → Leaf h (number two.at.node) (key_bytes k) v → Settles same k kind None (Some v) r None
       → Collapses number two top h h' → Kept number same always i a h k kind None given' (after_top two r top) h'
   collapsed_top two r given' v h' None l o om leaf s g = absurd g
   collapsed_top two r given' v h' (Some top) l o om leaf s g =
-      let a' : ℕ → Note = collapsed a i (number top.seat.node) (number two.above.seat.node) (number two.at.node) g.0 in
-      let e : Changed i a h (key_bytes k) (Some v) None a' h' × TakenOut i a' h' (number top.seat.node) (number two.at.node) × SecondOut i a' h' (number two.at.node) (number two.above.seat.node)
-      = collapse_changed i a h (key_bytes k) refl t w (number top.seat.node) top.byte (number two.above.seat.node) two.above.byte (number two.at.node) g.0 v h' l.holding l.byte l.child o.holding o.fitted o.byte o.child om leaf g.1 g.2 in
+      let a' : ℕ → Note = collapsed a i (number top.stamp.node) (number two.above.stamp.node) (number two.at.node) g.0 in
+      let e : Changed i a h (key_bytes k) (Some v) None a' h' × TakenOut i a' h' (number top.stamp.node) (number two.at.node) × SecondOut i a' h' (number two.at.node) (number two.above.stamp.node)
+      = collapse_changed i a h (key_bytes k) refl t w (number top.stamp.node) top.byte (number two.above.stamp.node) two.above.byte (number two.at.node) g.0 v h' l.holding l.byte l.child o.holding o.fitted o.byte o.child om leaf g.1 g.2 in
       record {
         notes = a';
         effect = e.0.effect;
-        sound = record { known = (e.1, e.2); answer = (r, refl, settled None (Some v) r (Obsolete two.at.node (Some two.above.seat.node) top.seat.node r) given' a' h' s e.0) };
+        sound = record { known = (e.1, e.2); answer = (r, refl, settled None (Some v) r (Obsolete two.at.node (Some two.above.stamp.node) top.stamp.node r) given' a' h' s e.0) };
       }
 
-  lessened_top : (two : Two C) (r : Reply V) (given' : Option V) (v : V) (q : ℕ) (h' : ℕ → Node V) (c : C) (top : Option (Parent C)) → TopLocked number i a h (key_bytes k) top (number two.above.seat.node)
+  lessened_top : (two : Two C) (r : Reply V) (given' : Option V) (v : V) (q : ℕ) (h' : ℕ → Node V) (c : C) (top : Option (Parent C)) → TopLocked number i a h (key_bytes k) top (number two.above.stamp.node)
       → AboveLocked number i a h (key_bytes k) two.above (number two.at.node) → (a (number two.at.node)).owner ≡ Some i → Leaf h (number two.at.node) (key_bytes k) v → Made i a h (key_bytes k) (number c) two.above.depth q
       → Settles same k kind None (Some v) r None → LessensTop number two c top h h' → Kept number same always i a h k kind None given' (after_top two r top) h'
   lessened_top two r given' v q h' c None l o om leaf mc s g = absurd g
   lessened_top two r given' v q h' c (Some top) l o om leaf mc s g =
-      let a' : ℕ → Note = lessened a i (number top.seat.node) (number two.above.seat.node) (number two.at.node) (number c) in
-      let e : Changed i a h (key_bytes k) (Some v) None a' h' × TakenOut i a' h' (number top.seat.node) (number two.at.node) × SecondOut i a' h' (number two.at.node) (number two.above.seat.node)
-      = lessen_changed i a h (key_bytes k) refl t w (number top.seat.node) top.byte (number two.above.seat.node) two.above.byte (number two.at.node) (number c) q two.above.depth v h' l.holding l.byte l.child o.holding o.fitted o.byte o.child om leaf o.depth mc g in
+      let a' : ℕ → Note = lessened a i (number top.stamp.node) (number two.above.stamp.node) (number two.at.node) (number c) in
+      let e : Changed i a h (key_bytes k) (Some v) None a' h' × TakenOut i a' h' (number top.stamp.node) (number two.at.node) × SecondOut i a' h' (number two.at.node) (number two.above.stamp.node)
+      = lessen_changed i a h (key_bytes k) refl t w (number top.stamp.node) top.byte (number two.above.stamp.node) two.above.byte (number two.at.node) (number c) q two.above.depth v h' l.holding l.byte l.child o.holding o.fitted o.byte o.child om leaf o.depth mc g in
       record {
         notes = a';
         effect = e.0.effect;
-        sound = record { known = (e.1, e.2); answer = (r, refl, settled None (Some v) r (Obsolete two.at.node (Some two.above.seat.node) top.seat.node r) given' a' h' s e.0) };
+        sound = record { known = (e.1, e.2); answer = (r, refl, settled None (Some v) r (Obsolete two.at.node (Some two.above.stamp.node) top.stamp.node r) given' a' h' s e.0) };
       }
 
   by_double : (two : Two C) (r : Reply V) (given given' found : Option V) (q : ℕ) (h' : ℕ → Node V) (change : Double C)
-      → TopLocked number i a h (key_bytes k) two.top (number two.above.seat.node) → AboveLocked number i a h (key_bytes k) two.above (number two.at.node) → (a (number two.at.node)).owner ≡ Some i → PlacedTwo (key_bytes k) change (h (number two.at.node)).prefix
+      → TopLocked number i a h (key_bytes k) two.top (number two.above.stamp.node) → AboveLocked number i a h (key_bytes k) two.above (number two.at.node) → (a (number two.at.node)).owner ≡ Some i → PlacedTwo (key_bytes k) change (h (number two.at.node)).prefix
       → WantedTwo (key_bytes k) change found q (h (number two.at.node)) → MadeTwo number i a h (key_bytes k) two.above change (length (h (number two.at.node)).prefix) q → FitsTwo change found given
       → Settles same k kind given found r given → ChangedTwo number (key_bytes k) given two change h h' → Kept number same always i a h k kind given given' (after_change two r change) h'
   by_double two r given given' None q h' Unlink up o om p n m f s g = absurd f
   by_double two r (Some w') given' (Some v) q h' Unlink up o om p n m f s g = absurd f
   by_double two r None given' (Some v) q h' Unlink up o om p n m f s g =
-      let c : Changed i a h (key_bytes k) (Some v) None _ h' × TakenOut i _ h' (number two.above.seat.node) (number two.at.node)
-      = unlink_changed i a h (key_bytes k) (number two.above.seat.node) two.above.byte (number two.at.node) v h' refl t w o.holding o.fitted o.byte o.child om
+      let c : Changed i a h (key_bytes k) (Some v) None _ h' × TakenOut i _ h' (number two.above.stamp.node) (number two.at.node)
+      = unlink_changed i a h (key_bytes k) (number two.above.stamp.node) two.above.byte (number two.at.node) v h' refl t w o.holding o.fitted o.byte o.child om
       (record { fitted = p.0; seven = p.1; value = n.0; empty = n.1 }) g in
-      record { notes = _; effect = c.0.effect; sound = record { known = (c.1, tt); answer = (r, refl, settled None (Some v) r (Obsolete two.at.node None two.above.seat.node r) given' _ h' s c.0) } }
+      record { notes = _; effect = c.0.effect; sound = record { known = (c.1, tt); answer = (r, refl, settled None (Some v) r (Obsolete two.at.node None two.above.stamp.node r) given' _ h' s c.0) } }
   by_double two r given given' None q h' (Shrink c) up o om p n m f s g = absurd f
   by_double two r (Some w') given' (Some v) q h' (Shrink c) up o om p n m f s g = absurd f
   by_double two r None given' (Some v) q h' (Shrink c) up o om p n m f s g =
-      let e : Changed i a h (key_bytes k) (Some v) None _ h' × TakenOut i _ h' (number two.above.seat.node) (number two.at.node)
-      = shrink_changed i a h (key_bytes k) refl t w (number two.above.seat.node) two.above.byte (number two.at.node) (number c) q v h' o.holding o.byte o.child om p.0 p.1 n.0 m g in
-      record { notes = _; effect = e.0.effect; sound = record { known = (e.1, tt); answer = (r, refl, settled None (Some v) r (Obsolete two.at.node None two.above.seat.node r) given' _ h' s e.0) } }
+      let e : Changed i a h (key_bytes k) (Some v) None _ h' × TakenOut i _ h' (number two.above.stamp.node) (number two.at.node)
+      = shrink_changed i a h (key_bytes k) refl t w (number two.above.stamp.node) two.above.byte (number two.at.node) (number c) q v h' o.holding o.byte o.child om p.0 p.1 n.0 m g in
+      record { notes = _; effect = e.0.effect; sound = record { known = (e.1, tt); answer = (r, refl, settled None (Some v) r (Obsolete two.at.node None two.above.stamp.node r) given' _ h' s e.0) } }
   by_double two r given given' None q h' Collapse up o om p n m f s g = absurd f
   by_double two r (Some w') given' (Some v) q h' Collapse up o om p n m f s g = absurd f
   by_double two r None given' (Some v) q h' Collapse up o om p n m f s g = collapsed_top two r given' v h' two.top up o om (record { fitted = p.0; seven = p.1; value = n.0; empty = n.1 }) s g
@@ -222,30 +223,31 @@ module _ {C V : Type 0} (number : C → ℕ) (same : V → V → Bool) (always :
   by_double two r None given' None q h' (Grow c) up o om p n m f s g = absurd f
   by_double two r given given' (Some x) q h' (Grow c) up o om p n m f s g = absurd f
   by_double two r (Some v) given' None q h' (Grow c) up o om p n m f s g =
-      let e : Changed i a h (key_bytes k) None (Some v) _ h' × TakenOut i _ h' (number two.above.seat.node) (number two.at.node)
-      = grow_leaf i a h (key_bytes k) refl t w (number two.above.seat.node) two.above.byte (number two.at.node) (number c) q v g.0 g.1 h' o.holding o.fitted o.byte o.child om p.0 p.1 n.0 m g.2 g.3 g.4 in
-      record { notes = _; effect = e.0.effect; sound = record { known = (e.1, tt); answer = (r, refl, settled (Some v) None r (Obsolete two.at.node None two.above.seat.node r) given' _ h' s e.0) } }
+      let e : Changed i a h (key_bytes k) None (Some v) _ h' × TakenOut i _ h' (number two.above.stamp.node) (number two.at.node)
+      = grow_leaf i a h (key_bytes k) refl t w (number two.above.stamp.node) two.above.byte (number two.at.node) (number c) q v g.0 g.1 h' o.holding o.fitted o.byte o.child om p.0 p.1 n.0 m g.2 g.3 g.4 in
+      record { notes = _; effect = e.0.effect; sound = record { known = (e.1, tt); answer = (r, refl, settled (Some v) None r (Obsolete two.at.node None two.above.stamp.node r) given' _ h' s e.0) } }
   by_double two r None given' None q h' (GrowLink c leaf byte) up o om p n m f s g = absurd f
   by_double two r given given' (Some x) q h' (GrowLink c leaf byte) up o om p n m f s g = absurd f
   by_double two r (Some v) given' None q h' (GrowLink c leaf byte) up o om p n m f s g =
-      let e : Changed i a h (key_bytes k) None (Some v) _ h' × TakenOut i _ h' (number two.above.seat.node) (number two.at.node)
-      = grow_inner i a h (key_bytes k) refl t w (number two.above.seat.node) two.above.byte (number two.at.node) (number c) (number leaf) byte q v g.0 g.1 g.2 h' o.holding o.fitted o.byte o.child om p.0 p.1 p.2 n.0 m.0 m.1 m.2 g.3 g.4 g.5 g.6 in
-      record { notes = _; effect = e.0.effect; sound = record { known = (e.1, tt); answer = (r, refl, settled (Some v) None r (Obsolete two.at.node None two.above.seat.node r) given' _ h' s e.0) } }
+      let e : Changed i a h (key_bytes k) None (Some v) _ h' × TakenOut i _ h' (number two.above.stamp.node) (number two.at.node)
+      = grow_inner i a h (key_bytes k) refl t w (number two.above.stamp.node) two.above.byte (number two.at.node) (number c) (number leaf) byte q v g.0 g.1 g.2 h' o.holding o.fitted o.byte o.child om p.0 p.1 p.2 n.0 m.0 m.1 m.2 g.3 g.4 g.5 g.6 in
+      record { notes = _; effect = e.0.effect; sound = record { known = (e.1, tt); answer = (r, refl, settled (Some v) None r (Obsolete two.at.node None two.above.stamp.node r) given' _ h' s e.0) } }
   by_double two r None given' None q h' (Split top leaf common byte) up o om p n m f s g = absurd f
   by_double two r given given' (Some x) q h' (Split top leaf common byte) up o om p n m f s g = absurd f
   by_double two r (Some v) given' None q h' (Split top leaf common byte) up o om p n m f s g =
-      let e : Changed i a h (key_bytes k) None (Some v) _ h' × Holding i _ (number two.at.node) × Holding i _ (number two.above.seat.node)
-      = split_changed i a h (key_bytes k) (number two.above.seat.node) two.above.byte (number two.at.node) (number top) (number leaf) common byte v g.0 g.1 g.2 h' refl t w o.holding o.fitted o.byte o.child om p.0 p.1 m.0 m.1 m.2 g.3 g.4 g.5 g.6 in
-      let ch : IsChild a h (number two.above.seat.node) _ (number two.at.node) = t.down (number two.above.seat.node) _ (number two.at.node) o.holding.linked o.child in
+      let e : Changed i a h (key_bytes k) None (Some v) _ h' × Holding i _ (number two.at.node) × Holding i _ (number two.above.stamp.node)
+      = split_changed i a h (key_bytes k) (number two.above.stamp.node) two.above.byte (number two.at.node) (number top) (number leaf) common byte v g.0 g.1 g.2 h' refl t w o.holding o.fitted o.byte o.child om p.0 p.1 m.0 m.1 m.2 g.3 g.4 g.5 g.6 in
+      let ch : IsChild a h (number two.above.stamp.node) _ (number two.at.node) = t.down (number two.above.stamp.node) _ (number two.at.node) o.holding.linked o.child in
       record {
         notes = _;
         effect = e.0.effect;
         sound = record {
-          known = (e.1, e.2, (λ z. let y : length (h (number two.at.node)).prefix ≡ length (h (number two.above.seat.node)).prefix = ap (λ y. length (h y).prefix) z in absurd (omega (arith, ch.longer))));
-          answer = (r, refl, settled (Some v) None r (UnlockBelow two.at.node two.above.seat.node r) given' _ h' s e.0);
+          known = (e.1, e.2, (λ z. let y : length (h (number two.at.node)).prefix ≡ length (h (number two.above.stamp.node)).prefix = ap (λ y. length (h y).prefix) z in absurd (omega (arith, ch.longer))));
+          answer = (r, refl, settled (Some v) None r (UnlockBelow two.at.node two.above.stamp.node r) given' _ h' s e.0);
         };
       }
 
+  -- a change of two locked nodes answers as the map, and leaves the call what it has to hand over and unlock
   pub changed_two : (two : Two C) (r : Reply V) (given given' : Option V) (h' : ℕ → Node V) → Known number same always i a h k (key_bytes k) kind given (ChangeTwo two r)
       → ChangedTwo number (key_bytes k) given two two.change h h' → Kept number same always i a h k kind given given' (after_change two r two.change) h'
   changed_two two r given given' h' m g = by_double two r given given' m.0 m.1 h' two.change m.2.top m.2.above m.2.owner m.2.placed m.2.wanted m.2.made m.4 m.5 g

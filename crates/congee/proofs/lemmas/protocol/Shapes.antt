@@ -29,7 +29,7 @@ use Rattle.congee.specs.declared.protocol.phase.Plan.{Plan}
 use Rattle.congee.specs.declared.protocol.phase.Plan.TheVariants.{Here, Above}
 use Rattle.congee.specs.declared.protocol.phase.Phase.{Phase}
 use Rattle.congee.specs.declared.protocol.phase.Phase.TheVariants.{Version, Read, Check, CheckUncopied, CheckMiss, CheckDown, CheckOld, MakeLeaf, MakeGreater, MakeTop, MakeBeside, MakeLesser, AskOld, AskNew, Confirm, CheckAbove, UpgradeOne, ChangeOne, UpgradeTop, UpgradeAbove, UpgradeBelow, ChangeTwo, Unwind}
-use Rattle.congee.specs.declared.protocol.turn.NextPhase.{NextPhase}
+use Rattle.congee.specs.declared.protocol.next_phase.NextPhase.{NextPhase}
 use Rattle.congee.specs.Heap.{Node}
 use Rattle.congee.specs.protocol.Steps.{skipping, shrinks, set_at, both, last_out, after_top, given_up, after_unwind, quiet, again, answered, refused, decided, asking, adds, asks_new, absent_reply, after_version, after_read, down, started, ready, plan_here, unless_full, missing, absent, CopyFailed, IsAsked, replaced, taken_out, emptied, is_same, IsAtOld, IsAdded, IsExchanged, IsPresent, IsChecked, after_miss, IsGiven, IsGivenNew, MadeLeaf, MadeGreater, MadeTop, MadeBeside, MadeLesser, UpgradedOne, UpgradedTop, UpgradedAbove, UpgradedBelow, after_change}
 use Rattle.congee.specs.protocol.Protocol.{Asking}
@@ -62,7 +62,7 @@ asks_for ComputeInsert e = tt
 asks_for _ e = absurd cc
 
 -- a call that puts no value at an absent key may answer there at once
-pub fair_absent : {V : Type 0} (kind : Kind V) (q : Question V) → adds kind ≡ false → Ripe (absent_reply kind) q
+fair_absent : {V : Type 0} (kind : Kind V) (q : Question V) → adds kind ≡ false → Ripe (absent_reply kind) q
 fair_absent ComputeInsert q e = absurd cc
 fair_absent _ q e = tt
 
@@ -138,6 +138,7 @@ module _ {C V : Type 0} (k : ℕ) (v v1 v' : Option V) (e : v' ≡ v1) (q : Ques
   asks : (kind : Kind V) (always : Bool) (s : Site C) (old : V) (t : NextPhase C V) → Asking kind → IsAsked always s old t → StepShape k kind v v1 v' q t
   asks kind always s old t w x = uncounted kind always (asking (AskOld s old) (Some old)) t x (wonders kind (AskOld s old) (Some old) w refl)
 
+  -- what a call that adds does at a value that stands is a step that it may take
   pub at_old : (always : Bool) (same : V → V → Bool) (kind : Kind V) (new : Option V) (s : Site C) (old : V) (t : NextPhase C V) → adds kind ≡ true → IsAtOld always same kind new s old t → StepShape k kind v v1 v' q t
   at_old always same Insert new s old t w x = to Insert _ t x (replaces Insert s (is_same same old new) (reply.Insert (Some old)) tt)
   at_old always same ComputeInsert new s old t w x = asks ComputeInsert always s old t tt x
@@ -145,7 +146,7 @@ module _ {C V : Type 0} (k : ℕ) (v v1 v' : Option V) (e : v' ≡ v1) (q : Ques
 
   adds_at : (always : Bool) (same : V → V → Bool) (kind : Kind V) (new : Option V) (s : Site C) (above : Option (Over C)) (old : V) (t : NextPhase C V) → adds kind ≡ true → IsAdded always same kind new s above old t → StepShape k kind v v1 v' q t
   adds_at always same kind new s None old t w x = at_old always same kind new s old t w x
-  adds_at always same kind new s (Some u) old t w x = to kind _ t x (on kind (CheckOld u.near.seat s old) refl)
+  adds_at always same kind new s (Some u) old t w x = to kind _ t x (on kind (CheckOld u.near.stamp s old) refl)
 
   exchanges : (always : Bool) (same : V → V → Bool) (w : V) (new : Option V) (s : Site C) (old : V) (t : NextPhase C V) → IsExchanged always same new s old t → StepShape k (Exchange w) v v1 v' q t
   exchanges always same w None s old t x = to (Exchange w) _ t x (empties (Exchange w) s (reply.Exchange (Ok None)) tt)
@@ -154,7 +155,7 @@ module _ {C V : Type 0} (k : ℕ) (v v1 v' : Option V) (e : v' ≡ v1) (q : Ques
   downs : (kind : Kind V) (b : Bool) (s : Site C) (above : Option (Over C)) (c : C) → StepShape k kind v v1 v' q (down b s above c)
   downs kind false s above c = on kind (Version _ c) refl
   downs kind true s None c = on kind (Version _ c) refl
-  downs kind true s (Some u) c = on kind (CheckDown u.near.seat _ c) refl
+  downs kind true s (Some u) c = on kind (CheckDown u.near.stamp _ c) refl
 
 -- before an answer was wanted
 pub presents : {C V : Type 0} (k : ℕ) (v v' : Option V) (e : v' ≡ v) (q : Question V) (always : Bool) (same : V → V → Bool) (kind : Kind V) (new : Option V) (s : Site C) (old : V) (t : NextPhase C V)
@@ -168,103 +169,124 @@ presents k v v' e q always same (Exchange w) new s old t x = on_test (same old w
     (λ p. to k v v v' e q (Exchange w) _ t (x.1 p) (works k v v v' e q (Exchange w) (reply.Exchange (Err (Some old))) (Confirm s.at (reply.Exchange (Err (Some old)))) tt refl))
 
 module _ {C V : Type 0} (number : C → ℕ) (k : ℕ) (kind : Kind V) (v v' : Option V) (e : v' ≡ v) (q : Question V) where
-  pub go : (s : Phase C V) → flight_in k kind v' s ≡ Pending k kind v' Unasked → StepShape k kind v v v' q (quiet s)
-  go s f = on k v v v' e q kind s f
+  -- a call may go on with no question open
+  pub quiet_shape : (s : Phase C V) → flight_in k kind v' s ≡ Pending k kind v' Unasked → StepShape k kind v v v' q (quiet s)
+  quiet_shape s f = on k v v v' e q kind s f
 
+  -- a call that is ripe for a reply may go to work on it
   pub goes_to_work : (r : Reply V) (s : Phase C V) → Ripe r q → flight_in k kind v' s ≡ Pending k kind v' (heeding r) → StepShape k kind v v v' q (quiet s)
   goes_to_work r s c f = works k v v v' e q kind r s c f
 
-  pub back : (root : C) → StepShape k kind v v v' q (again root)
-  back root = anew k v v v' e q kind root
+  -- a call may begin anew
+  pub again_shape : (root : C) → StepShape k kind v v v' q (again root)
+  again_shape root = anew k v v v' e q kind root
 
-  pub at : (x y : NextPhase C V) → y ≡ x → StepShape k kind v v v' q x → StepShape k kind v v v' q y
-  at x y p s = to k v v v' e q kind x y p s
+  -- a step by another name is a step that the call may take, where the step is
+  pub shape_at : (x y : NextPhase C V) → y ≡ x → StepShape k kind v v v' q x → StepShape k kind v v v' q y
+  shape_at x y p s = to k v v v' e q kind x y p s
 
+  -- a call that is ripe for a reply may answer with it at once
   pub answers : (r : Reply V) → Ripe r q → StepShape {C = C} k kind v v v' q (answered r)
   answers r f = Replies r refl refl f
 
   absents : (s : Site C) → StepShape k kind v v v' q (absent kind s)
   absents s = by_test (λ (z : NextPhase C V). StepShape k kind v v v' q z) (adds kind) _ _ (λ w. misses k v v v' e q kind s w) (λ w. answers (absent_reply kind) (fair_absent kind q w))
 
+  -- what a call does after a check that succeeded is a step that it may take
   pub checks : (always : Bool) (same : V → V → Bool) (new : Option V) (s : Site C) (c : Child C V) (t : NextPhase C V) → IsChecked always same kind new s c t → StepShape k kind v v v' q t
-  checks always same new s child.Blank t x = at _ t x (absents s)
-  checks always same new s (child.Node c) t x = at _ t x (downs k v v v' e q kind (adds kind) s s.above c)
+  checks always same new s child.Blank t x = shape_at _ t x (absents s)
+  checks always same new s (child.Node c) t x = shape_at _ t x (downs k v v v' e q kind (adds kind) s s.above c)
   checks always same new s (child.Value old) t x = presents k v v' e q always same kind new s old t x
 
-  pub reads : (root : C) (above : Option (Over C)) (seat : Stamp C) (r : Reading C V) → StepShape k kind v v v' q (after_read root above seat r)
-  reads root None seat (Differs common byte) = back root
-  reads root (Some u) seat (Differs common byte) = go (CheckMiss u.near seat common byte) refl
-  reads root above seat (Fits depth form s) = go (Check _ s.child) refl
-  reads root above seat Uncopied = go (CheckUncopied seat) refl
+  -- what a call does after a read is a step that it may take
+  pub reads : (root : C) (above : Option (Over C)) (stamp : Stamp C) (r : Reading C V) → StepShape k kind v v v' q (after_read root above stamp r)
+  reads root None stamp (Differs common byte) = again_shape root
+  reads root (Some u) stamp (Differs common byte) = quiet_shape (CheckMiss u.near stamp common byte) refl
+  reads root above stamp (Fits depth form s) = quiet_shape (Check _ s.child) refl
+  reads root above stamp Uncopied = quiet_shape (CheckUncopied stamp) refl
 
+  -- what a call does after it took a version, or found none, is a step that it may take
   pub versions : (root : C) (above : Option (Over C)) (n : C) (o : Option ℕ) → StepShape k kind v v v' q (after_version root above n o)
-  versions root above n None = back root
-  versions root above n (Some x) = go (Read above _) refl
+  versions root above n None = again_shape root
+  versions root above n (Some x) = quiet_shape (Read above _) refl
 
+  -- what a call does after a check is a step that it may take, where it is so after one that succeeded
   pub if_taken : (taken : Bool) (root : C) (T : Type 0) (t : NextPhase C V) → (taken ≡ true → T) × (taken ≡ false → t ≡ again root) → (T → StepShape k kind v v v' q t) → StepShape k kind v v v' q t
-  if_taken taken root T t x f = on_test taken (λ p. f (x.0 p)) (λ p. at _ t (x.1 p) (back root))
+  if_taken taken root T t x f = on_test taken (λ p. f (x.0 p)) (λ p. shape_at _ t (x.1 p) (again_shape root))
 
-  pub misses_at : (p : Parent C) (seat : Stamp C) (common byte : ℕ) → StepShape k kind v v v' q (after_miss kind p seat common byte)
-  misses_at p seat common byte = by_test (λ (z : NextPhase C V). StepShape k kind v v v' q z) (adds kind) _ _ (λ _. go (MakeTop p seat common byte) refl) (λ w. answers (absent_reply kind) (fair_absent kind q w))
+  -- what a call does where its key's way parts within a prefix is a step that it may take
+  pub misses_at : (p : Parent C) (stamp : Stamp C) (common byte : ℕ) → StepShape k kind v v v' q (after_miss kind p stamp common byte)
+  misses_at p stamp common byte = by_test (λ (z : NextPhase C V). StepShape k kind v v v' q z) (adds kind) _ _ (λ _. quiet_shape (MakeTop p stamp common byte) refl) (λ w. answers (absent_reply kind) (fair_absent kind q w))
 
+  -- a call may be refused
   pub halts : (r : Refusal) (t : NextPhase C V) → t ≡ refused r → StepShape k kind v v v' q t
   halts r t p = Stops r p
 
+  -- what a call that adds does once its leaf was made or refused is a step that it may take
   pub leaf_made : (s : Site C) (h : ℕ → Node V) (key : List ℕ) (r : Result C Refusal) (h' : ℕ → Node V) (t : NextPhase C V) → adds kind ≡ true → MadeLeaf number kind s h key r h' t → StepShape k kind v v v' q t
-  leaf_made s h key (Ok leaf) h' t w x = at _ t x.1 (unless k v v v' e q kind s s.full s.above (Some leaf) (Link leaf) w)
+  leaf_made s h key (Ok leaf) h' t w x = shape_at _ t x.1 (unless k v v v' e q kind s s.full s.above (Some leaf) (Link leaf) w)
   leaf_made s h key (Err r) h' t w x = halts r t x.1
 
+  -- what a call that adds does once its greater node was made or refused is a step that it may take
   pub greater_made : (s : Site C) (p : Parent C) (leaf : Option C) (h : ℕ → Node V) (key : List ℕ) (r : Result C Refusal) (h' : ℕ → Node V) (t : NextPhase C V) → adds kind ≡ true → MadeGreater number kind s p leaf h key r h' t → StepShape k kind v v v' q t
-  greater_made s p leaf h key (Ok c) h' t w x = at _ t x.1 (readies k v v v' e q kind _ w)
+  greater_made s p leaf h key (Ok c) h' t w x = shape_at _ t x.1 (readies k v v v' e q kind _ w)
   greater_made s p leaf h key (Err r) h' t w x = halts r t x.1
 
-  pub top_made : (p : Parent C) (seat : Stamp C) (common byte : ℕ) (h : ℕ → Node V) (key : List ℕ) (r : Result C Refusal) (h' : ℕ → Node V) (t : NextPhase C V) → MadeTop number p seat common byte h key r h' t → StepShape k kind v v v' q t
-  top_made p seat common byte h key (Ok top) h' t x = at _ t x.1 (go (MakeBeside p seat common byte top) refl)
-  top_made p seat common byte h key (Err r) h' t x = halts r t x.1
+  -- what a call does once the node where ways part was made or refused is a step that it may take
+  pub top_made : (p : Parent C) (stamp : Stamp C) (common byte : ℕ) (h : ℕ → Node V) (key : List ℕ) (r : Result C Refusal) (h' : ℕ → Node V) (t : NextPhase C V) → MadeTop number p stamp common byte h key r h' t → StepShape k kind v v v' q t
+  top_made p stamp common byte h key (Ok top) h' t x = shape_at _ t x.1 (quiet_shape (MakeBeside p stamp common byte top) refl)
+  top_made p stamp common byte h key (Err r) h' t x = halts r t x.1
 
-  pub beside_made : (p : Parent C) (seat : Stamp C) (common byte : ℕ) (top : C) (h : ℕ → Node V) (key : List ℕ) (r : Result C Refusal) (h' : ℕ → Node V) (t : NextPhase C V) → adds kind ≡ true → MadeBeside number kind p seat common byte top h key r h' t
+  -- what a call that adds does once the leaf beside was made or refused is a step that it may take
+  pub beside_made : (p : Parent C) (stamp : Stamp C) (common byte : ℕ) (top : C) (h : ℕ → Node V) (key : List ℕ) (r : Result C Refusal) (h' : ℕ → Node V) (t : NextPhase C V) → adds kind ≡ true → MadeBeside number kind p stamp common byte top h key r h' t
       → StepShape k kind v v v' q t
-  beside_made p seat common byte top h key (Ok leaf) h' t w x = at _ t x.1 (readies k v v v' e q kind _ w)
-  beside_made p seat common byte top h key (Err r) h' t w x = halts r t x.1
+  beside_made p stamp common byte top h key (Ok leaf) h' t w x = shape_at _ t x.1 (readies k v v v' e q kind _ w)
+  beside_made p stamp common byte top h key (Err r) h' t w x = halts r t x.1
 
   skips_to : (r : Reply V) (s : Phase C V) → Ripe r q → flight_in k kind v' s ≡ Pending k kind v' (heeding r) → StepShape k kind v v v' q (skipping s)
   skips_to r s c f = Skips s (heeding r) refl (f ∙ ap (λ x. Pending k kind x (heeding r)) e) c
 
+  -- what a ripe call does once its lesser node was made, or wasn't, is a step that it may take
   pub lesser_made : (s : Site C) (p : Parent C) (top : Option (Parent C)) (r : Reply V) (h : ℕ → Node V) (key : List ℕ) (x : Result C Refusal) (h' : ℕ → Node V) (t : NextPhase C V) → Ripe r q → MadeLesser number s p top r h key x h' t → StepShape k kind v v v' q t
-  lesser_made s p None r h key (Ok c) h' t f x = at _ t x.1 (goes_to_work r (UpgradeAbove (both p s (Shrink c)) r) f refl)
-  lesser_made s p None r h key (Err o) h' t f x = at _ t x.1 (skips_to r (UpgradeOne (set_at s) r) f refl)
-  lesser_made s p (Some top) r h key (Ok c) h' t f x = at _ t x.1 (goes_to_work r (UpgradeTop top (both p s (ShrinkAbove c)) r) f refl)
-  lesser_made s p (Some top) r h key (Err o) h' t f x = at _ t x.1 (skips_to r (UpgradeAbove (both p s Unlink) r) f refl)
+  lesser_made s p None r h key (Ok c) h' t f x = shape_at _ t x.1 (goes_to_work r (UpgradeAbove (both p s (Shrink c)) r) f refl)
+  lesser_made s p None r h key (Err o) h' t f x = shape_at _ t x.1 (skips_to r (UpgradeOne (set_at s) r) f refl)
+  lesser_made s p (Some top) r h key (Ok c) h' t f x = shape_at _ t x.1 (goes_to_work r (UpgradeTop top (both p s (ShrinkAbove c)) r) f refl)
+  lesser_made s p (Some top) r h key (Err o) h' t f x = shape_at _ t x.1 (skips_to r (UpgradeAbove (both p s Unlink) r) f refl)
 
+  -- what a ripe call does once it locked its one node, or couldn't, is a step that it may take
   pub one_upgraded : (root : C) (one : One C) (r : Reply V) (h : ℕ → Node V) (u : Upgrade) (h' : ℕ → Node V) (t : NextPhase C V) → Ripe r q → UpgradedOne number root one r h u h' t → StepShape k kind v v v' q t
-  one_upgraded root one r h Locked h' t c x = at _ t x.1 (goes_to_work r (ChangeOne one r) c refl)
-  one_upgraded root one r h Failed h' t c x = at _ t x.1 (back root)
+  one_upgraded root one r h Locked h' t c x = shape_at _ t x.1 (goes_to_work r (ChangeOne one r) c refl)
+  one_upgraded root one r h Failed h' t c x = shape_at _ t x.1 (again_shape root)
   one_upgraded root one r h Exhausted h' t c x = halts refusal.Exhausted t x.1
 
   gives_up : (root : C) (top : Option (Parent C)) (o : Option Refusal) (t : NextPhase C V) → t ≡ given_up root top o → StepShape k kind v v v' q t
-  gives_up root None None t x = at _ t x (back root)
+  gives_up root None None t x = shape_at _ t x (again_shape root)
   gives_up root None (Some r) t x = halts r t x
-  gives_up root (Some top) o t x = at _ t x (go (Unwind top.seat.node None o) refl)
+  gives_up root (Some top) o t x = shape_at _ t x (quiet_shape (Unwind top.stamp.node None o) refl)
 
+  -- what a ripe call does once it locked the upper of two nodes, or couldn't, is a step that it may take
   pub above_upgraded : (root : C) (two : Two C) (r : Reply V) (h : ℕ → Node V) (u : Upgrade) (h' : ℕ → Node V) (t : NextPhase C V) → Ripe r q → UpgradedAbove number root two r h u h' t → StepShape k kind v v v' q t
-  above_upgraded root two r h Locked h' t c x = at _ t x.1 (goes_to_work r (UpgradeBelow two r) c refl)
+  above_upgraded root two r h Locked h' t c x = shape_at _ t x.1 (goes_to_work r (UpgradeBelow two r) c refl)
   above_upgraded root two r h Failed h' t c x = gives_up root two.top None t x.1
   above_upgraded root two r h Exhausted h' t c x = gives_up root two.top (Some refusal.Exhausted) t x.1
 
+  -- what a ripe call does once it locked the node above both, or couldn't, is a step that it may take
   pub top_upgraded : (root : C) (top : Parent C) (two : Two C) (r : Reply V) (h : ℕ → Node V) (u : Upgrade) (h' : ℕ → Node V) (t : NextPhase C V) → Ripe r q → UpgradedTop number root top two r h u h' t → StepShape k kind v v v' q t
-  top_upgraded root top two r h Locked h' t c x = at _ t x.1 (goes_to_work r (UpgradeAbove (record two { top = Some top }) r) c refl)
-  top_upgraded root top two r h Failed h' t c x = at _ t x.1 (back root)
+  top_upgraded root top two r h Locked h' t c x = shape_at _ t x.1 (goes_to_work r (UpgradeAbove (record two { top = Some top }) r) c refl)
+  top_upgraded root top two r h Failed h' t c x = shape_at _ t x.1 (again_shape root)
   top_upgraded root top two r h Exhausted h' t c x = halts refusal.Exhausted t x.1
 
+  -- what a ripe call does once it locked the lower of two nodes, or couldn't, is a step that it may take
   pub both_upgraded : (two : Two C) (r : Reply V) (h : ℕ → Node V) (u : Upgrade) (h' : ℕ → Node V) (t : NextPhase C V) → Ripe r q → UpgradedBelow number two r h u h' t → StepShape k kind v v v' q t
-  both_upgraded two r h Locked h' t c x = at _ t x.1 (goes_to_work r (ChangeTwo two r) c refl)
-  both_upgraded two r h Failed h' t c x = at _ t x.1 (go (Unwind _ _ None) refl)
-  both_upgraded two r h Exhausted h' t c x = at _ t x.1 (go (Unwind _ _ (Some refusal.Exhausted)) refl)
+  both_upgraded two r h Locked h' t c x = shape_at _ t x.1 (goes_to_work r (ChangeTwo two r) c refl)
+  both_upgraded two r h Failed h' t c x = shape_at _ t x.1 (quiet_shape (Unwind _ _ None) refl)
+  both_upgraded two r h Exhausted h' t c x = shape_at _ t x.1 (quiet_shape (Unwind _ _ (Some refusal.Exhausted)) refl)
 
+  -- what a call does once it let a lock of a given-up attempt go is a step that it may take
   pub unwinds : (root : C) (next : Option C) (o : Option Refusal) (t : NextPhase C V) → t ≡ after_unwind root next o → StepShape k kind v v v' q t
-  unwinds root None None t x = at _ t x (back root)
+  unwinds root None None t x = shape_at _ t x (again_shape root)
   unwinds root None (Some r) t x = halts r t x
-  unwinds root (Some c) o t x = at _ t x (go (Unwind c None o) refl)
+  unwinds root (Some c) o t x = shape_at _ t x (quiet_shape (Unwind c None o) refl)
 
 -- a change takes effect
 top_shape : {C V : Type 0} (k : ℕ) (kind : Kind V) (v v' : Option V) (two : Two C) (r : Reply V) (top : Option (Parent C)) (t : NextPhase C V) → t ≡ after_top two r top → StepShape k kind v v v' (heeding r) t

@@ -1,5 +1,6 @@
 -- How one node may fare in a step, and what a step leaves that touches each node in one of these ways.
 use Rattle.std.proofs.Common.{◌≡◌, ◌≢◌, ℕ, zero, suc, ◌≤◌, ◌==◌, not, Bool, true, false, cond, List, refl, sym, ◌∙◌, ap, subst, inl, inr, arith}
+use Rattle.std.proofs.lemmas.Bool.{true_from_ne_false}
 use Rattle.std.specs.Prelude.{Option, None, Some}
 use Rattle.congee.specs.Heap.{Node, walk, is_taken, is_free}
 use Rattle.congee.specs.Notes.{Note, Status, Unmade, Held, Linked, Gone, Back, Destroyed, is_published, is_spent, IsChild, HasParent, Tree, WordAt, LockWords}
@@ -31,8 +32,8 @@ abbrev pub owned : Note → Option ℕ → Note
 owned x o = record { status = x.status; owner = o; parent = x.parent }
 
 -- the notes with another owner of one node
-abbrev pub own : (ℕ → Note) → ℕ → Option ℕ → ℕ → Note
-own a n o = noted a n (owned (a n) o)
+abbrev pub with_owner : (ℕ → Note) → ℕ → Option ℕ → ℕ → Note
+with_owner a n o = noted a n (owned (a n) o)
 
 -- a node and a note that stay, but for the parent
 pub fares_same : {V : Type 0} (i : ℕ) (x y : Note) (p q : Node V) → q ≡ p → y.status ≡ x.status → y.owner ≡ x.owner → Fares i x y p q
@@ -195,8 +196,9 @@ module _ {V : Type 0} (i : ℕ) (a : ℕ → Note) (h : ℕ → Node V) (a' : �
   touch_fares n (under_lock q q' pre up nt nobody w k) = k
   touch_fares n (out_of_reach q nobody o w k) = k
 
-  pub effect : LockWords a h → Tree a' h' → (h' 0).capacity ≡ (h 0).capacity → ((n : ℕ) → Touched i a h a' h' n) → Effect i a h a' h'
-  effect w t c touch = record {
+  -- a step that leaves a tree and touches each node in one of these ways leaves what other calls count on
+  pub touched_effect : LockWords a h → Tree a' h' → (h' 0).capacity ≡ (h 0).capacity → ((n : ℕ) → Touched i a h a' h' n) → Effect i a h a' h'
+  touched_effect w t c touch = record {
     tree = t;
     words = record { each = λ n. touch_at n (w.each n) (touch n); wide = c ∙ w.wide };
     others = λ j ne. record {
@@ -211,7 +213,7 @@ module _ {V : Type 0} (i : ℕ) (a : ℕ → Note) (h : ℕ → Node V) (a' : �
   }
 
 -- what a lock word tells
-pub taken_free : {V : Type 0} (n : Node V) (v : ℕ) → is_taken n v ≡ true → is_free n ≡ true
+taken_free : {V : Type 0} (n : Node V) (v : ℕ) → is_taken n v ≡ true → is_free n ≡ true
 taken_free n v t = (both_true (n.version == v) (is_free n) t).1
 
 -- the word of a locked node is none that was taken
@@ -231,13 +233,9 @@ taken_not_locked n v t = unlocked n.locked (both_true (not n.locked) (not n.obso
 pub locked_not_free : {V : Type 0} (n : Node V) → n.locked ≡ true → is_free n ≡ false
 locked_not_free n l = rw l refl
 
-locked_if : (b : Bool) → (b ≡ false → ⊥) → b ≡ true
-locked_if true f = refl
-locked_if false f = absurd (f refl)
-
 -- a node that a call owns is locked
 pub owner_locked : {V : Type 0} (a : ℕ → Note) (h : ℕ → Node V) → LockWords a h → (n i : ℕ) → (a n).owner ≡ Some i → (h n).locked ≡ true
-owner_locked a h w n i o = locked_if (h n).locked (λ f. let e : (a n).owner ≡ None = (w.each n).free f in cc)
+owner_locked a h w n i o = true_from_ne_false (h n).locked (λ f. let e : (a n).owner ≡ None = (w.each n).free f in cc)
 
 -- a node that was taken is in the tree
 linked_from : (s : Status) → is_published s ≡ true → (s ≡ Gone → ⊥) → s ≡ Linked

@@ -9,7 +9,7 @@ use Rattle.congee.specs.declared.protocol.op.Op.{Op}
 use Rattle.congee.specs.declared.protocol.op.Op.TheVariants as op
 use Rattle.congee.specs.declared.protocol.phase.Kind.{Kind}
 use Rattle.congee.specs.declared.protocol.phase.Phase.{Phase}
-use Rattle.congee.specs.declared.protocol.phase.Phase.TheVariants.{AskOld, AskNew, Sweep, Ended}
+use Rattle.congee.specs.declared.protocol.phase.Phase.TheVariants.{AskOld, AskNew, Scan, Ended}
 use Rattle.congee.specs.declared.protocol.machine.Outcome.{Outcome}
 use Rattle.congee.specs.declared.protocol.machine.Machine.{Machine}
 use Rattle.congee.specs.declared.protocol.machine.Move.{Move}
@@ -24,7 +24,7 @@ use Rattle.congee.proofs.lemmas.protocol.Alone.{near_on, begins_on, whole_left}
 use Rattle.congee.proofs.lemmas.protocol.AlonePoints.{Nearer, Tells}
 use Rattle.congee.proofs.lemmas.protocol.Owners.{get_set, set_here}
 use Rattle.congee.proofs.lemmas.protocol.Steps.{stepped_keeps}
-use Rattle.congee.proofs.lemmas.protocol.Turns.{turned_at, plays_none}
+use Rattle.congee.proofs.lemmas.protocol.ManyCalls.{step_leaves, plays_none}
 
 module _ {C V : Type 0} where
   -- a call waits for its closure's answer only where it was asked
@@ -45,7 +45,7 @@ module _ {C V : Type 0} where
 
   -- one that goes on has not ended
   not_past : (x : Phase C V) (o : Outcome V) → Tells x o → goes_on o ≡ true → IsPast x → ⊥
-  not_past (Sweep s) o t g p = false≢true (sym (t p) ∙ g)
+  not_past (Scan s) o t g p = false≢true (sym (t p) ∙ g)
   not_past Ended o t g p = false≢true (sym t ∙ g)
   not_past _ o t g p = p
 
@@ -70,7 +70,7 @@ module _ {C V : Type 0} (number : C → ℕ) (same : V → V → Bool) (always :
       let P : (ℕ → Node V) → Type 0 = λ y. Sound y ms' in
       let Q : List (Machine C V) → Type 0 = λ y. Sound h y in subst P (sym n.1) (subst Q (sym n.2) x)
   settled_next h ms s d h' ms' (Some m) e x n =
-      let z = turned_at number same always most (why h) h ms s.who s.noise.fail s.noise.answer m n.0 h' d x.0 x.1 e n.1 (stepped_keeps number same always most (why h) law m h s.noise.fail s.noise.answer n.0 h' d n.1) in
+      let z = step_leaves number same always most (why h) h ms s.who s.noise.fail s.noise.answer m n.0 h' d x.0 x.1 e n.1 (stepped_keeps number same always most (why h) law m h s.noise.fail s.noise.answer n.0 h' d n.1) in
       let Q : List (Machine C V) → Type 0 = λ y. Sound h' y in subst Q (sym n.3) (z.0, z.1, (z.2 x.2).0)
 
   -- a call in flight, which nobody has disturbed, with n steps left at most
@@ -161,9 +161,11 @@ module _ {C V : Type 0} (number : C → ℕ) (same : V → V → Bool) (always :
       let l = steps_end h ms (take n ts) who (parts o).1 false (steps_left number h (first_phase root o)) z x (traced_front h ms n ts e) next on in
       within h o (length (take n ts)) (steps_left number h (first_phase root o)) l (whole_left number z.0 h root o z.1.tree)
 
+  -- at each step of a trace a call that begins and is left alone ends within so many steps
   pub all_end_alone : (h : ℕ → Node V) (ms : List (Machine C V)) (ts : List (Traced C V)) → Sound h ms → AreTraced number same always most why h ms ts → AllEndAlone number h ms ts
   all_end_alone h ms [] z e = tt
   all_end_alone h ms (t ∷ ts) z e = (ends_alone h ms (t ∷ ts) z e, all_end_alone t.nodes t.calls ts (settled_next h ms t.step t.move t.nodes t.calls (slice_get ms t.step.who) refl z e.0) e.1)
 
+  -- so it does at each step of a trace from a new index
   pub fresh_end_alone : (h : ℕ → Node V) (ms : List (Machine C V)) (ts : List (Traced C V)) → Begins number h ms → FreshRoot h → AreTraced number same always most why h ms ts → AllEndAlone number h ms ts
   fresh_end_alone h ms ts b f e = all_end_alone h ms ts ((plays_none number same always most why h ms b).settled_fresh f) e

@@ -11,7 +11,7 @@ use Rattle.congee.specs.declared.protocol.phase.Kind.{Kind}
 use Rattle.congee.specs.declared.protocol.phase.Phase.TheVariants as phase
 use Rattle.congee.specs.declared.protocol.phase.Phase.{Phase}
 use Rattle.congee.specs.declared.protocol.phase.Phase.TheVariants.{Obsolete, Retire, Unlock}
-use Rattle.congee.specs.declared.protocol.turn.NextPhase.{NextPhase}
+use Rattle.congee.specs.declared.protocol.next_phase.NextPhase.{NextPhase}
 use Rattle.congee.specs.declared.protocol.machine.Machine.{Machine}
 use Rattle.congee.specs.declared.protocol.run.Step.{Step}
 use Rattle.congee.specs.Heap.{Node, Below, Stands}
@@ -105,6 +105,7 @@ one_taken number (Obsolete m next p r) = inl (number m, inl refl)
 one_taken number (Retire m next p r) = inl (number m, inl refl)
 one_taken number _ = inr (λ c q. q)
 
+-- a node that a call took out is locked by it
 pub taken_locked : {C V : Type 0} (number : C → ℕ) (s : Phase C V) (n : ℕ) → TakenBy number s n → LockedBy number s n
 taken_locked number (Obsolete m next p r) n (inl x) = inl (inr x)
 taken_locked number (Obsolete m next p r) n (inr x) = inr x

@@ -11,18 +11,18 @@ use Rattle.congee.specs.declared.protocol.phase.Double.{Double}
 use Rattle.congee.specs.declared.protocol.phase.Double.TheVariants.{Unlink, Grow, GrowLink, Split, Shrink, Collapse, ShrinkAbove}
 use Rattle.congee.specs.declared.protocol.phase.Two.{Two}
 use Rattle.congee.specs.declared.protocol.phase.Phase.{Phase}
-use Rattle.congee.specs.declared.protocol.phase.Phase.TheVariants.{New, Version, Read, Check, CheckUncopied, CheckMiss, CheckDown, CheckOld, MakeGreater, MakeTop, MakeBeside, MakeLesser, Confirm, CheckAbove, UpgradeOne, ChangeOne, UpgradeTop, UpgradeAbove, UpgradeBelow, ChangeTwo, Obsolete, Retire, UnlockBelow, Unlock, Unwind, Sweep}
+use Rattle.congee.specs.declared.protocol.phase.Phase.TheVariants.{New, Version, Read, Check, CheckUncopied, CheckMiss, CheckDown, CheckOld, MakeGreater, MakeTop, MakeBeside, MakeLesser, Confirm, CheckAbove, UpgradeOne, ChangeOne, UpgradeTop, UpgradeAbove, UpgradeBelow, ChangeTwo, Obsolete, Retire, UnlockBelow, Unlock, Unwind, Scan}
 use Rattle.congee.specs.Heap.{Node, Hung, Nothing, Below, Holds, Stands, child_for}
 use Rattle.congee.specs.protocol.Events.{MayChange, HoldsNodes, HoldsAlike, Parts}
 use Rattle.congee.specs.protocol.Steps.{value_hung, MayBackOne, MayBackTwo, MayBackLeaf, Changeable, Blank, MayTop, MayChangeOne, MayChangeTwo, MayStep}
 use Rattle.congee.specs.Keys.{key_bytes}
 use Rattle.congee.specs.Notes.{Note, Linked, is_published, IsChild, Tree, LockWords}
 use Rattle.congee.specs.protocol.Protocol.{Made, Holding, MadeOne, MadeTwo, MadeLeafFor, FitsOne, FitsTwo, OneLocked, TwoLocked, TopLocked, HasTop, WantedTwo, PlacedTwo, Known}
-use Rattle.congee.proofs.lemmas.Fits.{equal, same_test}
+use Rattle.congee.proofs.lemmas.Fits.{equal_of_test, same_test}
 use Rattle.congee.proofs.lemmas.Graft.{on_test}
 use Rattle.congee.proofs.lemmas.protocol.Touch.{owner_locked}
 use Rattle.congee.proofs.lemmas.protocol.Change.{made_apart}
-use Rattle.congee.proofs.lemmas.protocol.SweepWants.{sweep_wants}
+use Rattle.congee.proofs.lemmas.protocol.ScanWants.{scan_wants}
 
 -- a node of the tree holds values where its prefix has seven bytes, and nodes where it is shorter
 pub holds_alike : {V : Type 0} (a : ℕ → Note) (h : ℕ → Node V) → Tree a h → (n : ℕ) → (a n).status ≡ Linked → HoldsAlike (h n)
@@ -30,7 +30,7 @@ holds_alike {V} a h t n l = on_test (length (h n).prefix == 7) leaf inner where
   leaf : (length (h n).prefix == 7) ≡ true → HoldsAlike (h n)
   leaf e = inl (λ b c x.
       let y : IsChild a h n b c = t.down n b c l x in
-      let long : length (h n).prefix ≡ 7 = equal (length (h n).prefix) 7 e in
+      let long : length (h n).prefix ≡ 7 = equal_of_test (length (h n).prefix) 7 e in
       absurd (omega (arith, y.longer, t.short c y.linked, long)))
 
   inner : (length (h n).prefix == 7) ≡ false → HoldsAlike (h n)
@@ -89,33 +89,33 @@ module _ {C V : Type 0} (number : C → ℕ) (same : V → V → Bool) (always :
       )
 
   module _ (two : Two C) (found : Option V) (q : ℕ) (o : TwoLocked number i a h (key_bytes k) two found q) where
-    hangs : (h (number two.above.seat.node)).children two.above.byte ≡ Below (number two.at.node)
-    hangs = at_byte (number two.above.seat.node) two.above.byte (Below (number two.at.node)) o.above.byte o.above.child
+    hangs : (h (number two.above.stamp.node)).children two.above.byte ≡ Below (number two.at.node)
+    hangs = at_byte (number two.above.stamp.node) two.above.byte (Below (number two.at.node)) o.above.byte o.above.child
 
-    is_child : IsChild a h (number two.above.seat.node) two.above.byte (number two.at.node)
-    is_child = t.down (number two.above.seat.node) two.above.byte (number two.at.node) o.above.holding.linked hangs
+    is_child : IsChild a h (number two.above.stamp.node) two.above.byte (number two.at.node)
+    is_child = t.down (number two.above.stamp.node) two.above.byte (number two.at.node) o.above.holding.linked hangs
 
     at_published : is_published (a (number two.at.node)).status ≡ true
     at_published = ap is_published is_child.linked
 
-    above_published : is_published (a (number two.above.seat.node)).status ≡ true
+    above_published : is_published (a (number two.above.stamp.node)).status ≡ true
     above_published = ap is_published o.above.holding.linked
 
-    two_apart : number two.above.seat.node ≢ number two.at.node
-    two_apart e = let z : length (h (number two.above.seat.node)).prefix ≡ length (h (number two.at.node)).prefix = ap (λ y. length (h y).prefix) e in absurd (omega (arith, is_child.longer))
+    two_apart : number two.above.stamp.node ≢ number two.at.node
+    two_apart e = let z : length (h (number two.above.stamp.node)).prefix ≡ length (h (number two.at.node)).prefix = ap (λ y. length (h y).prefix) e in absurd (omega (arith, is_child.longer))
 
-    apart_above : (c size least : ℕ) → Made i a h (key_bytes k) c size least → number two.above.seat.node ≢ c
-    apart_above c size least m e = made_apart i a h (key_bytes k) c size least (number two.above.seat.node) m above_published (sym e)
+    apart_above : (c size least : ℕ) → Made i a h (key_bytes k) c size least → number two.above.stamp.node ≢ c
+    apart_above c size least m e = made_apart i a h (key_bytes k) c size least (number two.above.stamp.node) m above_published (sym e)
 
     apart_at : (c size least : ℕ) → Made i a h (key_bytes k) c size least → number two.at.node ≢ c
     apart_at c size least m e = made_apart i a h (key_bytes k) c size least (number two.at.node) m at_published (sym e)
 
-    put_above : (c : ℕ) → Changeable (h (number two.above.seat.node)) two.above.byte (Below c)
-    put_above c = let s : Stands (h (number two.above.seat.node)) × ((h (number two.above.seat.node)).locked ≡ true) = held_there (number two.above.seat.node) o.above.holding in
+    put_above : (c : ℕ) → Changeable (h (number two.above.stamp.node)) two.above.byte (Below c)
+    put_above c = let s : Stands (h (number two.above.stamp.node)) × ((h (number two.above.stamp.node)).locked ≡ true) = held_there (number two.above.stamp.node) o.above.holding in
         record { stands = s.0; locked = s.1; room = λ z. absurd (let y : Below (number two.at.node) ≡ Nothing = sym hangs ∙ z in cc) }
 
-    take_above : Changeable (h (number two.above.seat.node)) two.above.byte Nothing
-    take_above = let s : Stands (h (number two.above.seat.node)) × ((h (number two.above.seat.node)).locked ≡ true) = held_there (number two.above.seat.node) o.above.holding in
+    take_above : Changeable (h (number two.above.stamp.node)) two.above.byte Nothing
+    take_above = let s : Stands (h (number two.above.stamp.node)) × ((h (number two.above.stamp.node)).locked ≡ true) = held_there (number two.above.stamp.node) o.above.holding in
         record { stands = s.0; locked = s.1; room = λ z. let y : Below (number two.at.node) ≡ Nothing = sym hangs ∙ z in cc }
 
     counted : (c size : ℕ) → (h (number two.at.node)).count ≡ q → Made i a h (key_bytes k) c size q → Blank (h c) (h (number two.at.node)).count
@@ -132,39 +132,39 @@ module _ {C V : Type 0} (number : C → ℕ) (same : V → V → Bool) (always :
       absurd (omega (arith, ch.longer, t.short c ch.linked, s))
 
   -- the change of the node above both
-  collapse_wants : (two : Two C) (found : Option V) (q : ℕ) (o : TwoLocked number i a h (key_bytes k) two found q) → two.above.count ≡ 2 → (top : Option (Parent C)) → HasTop {C = C} Collapse top → TopLocked number i a h (key_bytes k) top (number two.above.seat.node)
+  collapse_wants : (two : Two C) (found : Option V) (q : ℕ) (o : TwoLocked number i a h (key_bytes k) two found q) → two.above.count ≡ 2 → (top : Option (Parent C)) → HasTop {C = C} Collapse top → TopLocked number i a h (key_bytes k) top (number two.above.stamp.node)
       → MayTop number two Collapse top h
   collapse_wants two found q o e None z l = absurd z
   collapse_wants two found q o e (Some top) z l =
-      let s : Stands (h (number top.seat.node)) × ((h (number top.seat.node)).locked ≡ true) = held_there (number top.seat.node) l.holding in
-      let g : (h (number top.seat.node)).children top.byte ≡ Below (number two.above.seat.node) = at_byte (number top.seat.node) top.byte (Below (number two.above.seat.node)) l.byte l.child in
+      let s : Stands (h (number top.stamp.node)) × ((h (number top.stamp.node)).locked ≡ true) = held_there (number top.stamp.node) l.holding in
+      let g : (h (number top.stamp.node)).children top.byte ≡ Below (number two.above.stamp.node) = at_byte (number top.stamp.node) top.byte (Below (number two.above.stamp.node)) l.byte l.child in
       record {
         stands_top = s.0;
         locked = s.1;
-        hung = (λ n. let y : Below (number two.above.seat.node) ≡ Nothing = sym g ∙ n in cc);
-        stands = there (number two.above.seat.node) (above_published two found q o);
-        nodes = inner_nodes (number two.above.seat.node) two.above.byte (number two.at.node) o.above.holding.linked (hangs two found q o);
+        hung = (λ n. let y : Below (number two.above.stamp.node) ≡ Nothing = sym g ∙ n in cc);
+        stands = there (number two.above.stamp.node) (above_published two found q o);
+        nodes = inner_nodes (number two.above.stamp.node) two.above.byte (number two.at.node) o.above.holding.linked (hangs two found q o);
         two = o.above.count ∙ e;
         there = (λ n. let y : Below (number two.at.node) ≡ Nothing = sym (hangs two found q o) ∙ n in cc);
       }
 
   lessen_wants : (two : Two C) (found : Option V) (q : ℕ) (o : TwoLocked number i a h (key_bytes k) two found q) (c : C) → Made i a h (key_bytes k) (number c) two.above.depth q × (two.above.count ≤ suc q) → (top : Option (Parent C)) → HasTop (ShrinkAbove c) top
-      → TopLocked number i a h (key_bytes k) top (number two.above.seat.node) → MayTop number two (ShrinkAbove c) top h
+      → TopLocked number i a h (key_bytes k) top (number two.above.stamp.node) → MayTop number two (ShrinkAbove c) top h
   lessen_wants two found q o c m None z l = absurd z
   lessen_wants two found q o c m (Some top) z l =
-      let s : Stands (h (number top.seat.node)) × ((h (number top.seat.node)).locked ≡ true) = held_there (number top.seat.node) l.holding in
-      let g : (h (number top.seat.node)).children top.byte ≡ Below (number two.above.seat.node) = at_byte (number top.seat.node) top.byte (Below (number two.above.seat.node)) l.byte l.child in
-      let ch : IsChild a h (number top.seat.node) top.byte (number two.above.seat.node) = t.down (number top.seat.node) top.byte (number two.above.seat.node) l.holding.linked g in
+      let s : Stands (h (number top.stamp.node)) × ((h (number top.stamp.node)).locked ≡ true) = held_there (number top.stamp.node) l.holding in
+      let g : (h (number top.stamp.node)).children top.byte ≡ Below (number two.above.stamp.node) = at_byte (number top.stamp.node) top.byte (Below (number two.above.stamp.node)) l.byte l.child in
+      let ch : IsChild a h (number top.stamp.node) top.byte (number two.above.stamp.node) = t.down (number top.stamp.node) top.byte (number two.above.stamp.node) l.holding.linked g in
       record {
-        above = record { stands = s.0; locked = s.1; room = λ n. absurd (let y : Below (number two.above.seat.node) ≡ Nothing = sym g ∙ n in cc) };
-        stands = there (number two.above.seat.node) (above_published two found q o);
-        alike = holds_alike a h t (number two.above.seat.node) o.above.holding.linked;
+        above = record { stands = s.0; locked = s.1; room = λ n. absurd (let y : Below (number two.above.stamp.node) ≡ Nothing = sym g ∙ n in cc) };
+        stands = there (number two.above.stamp.node) (above_published two found q o);
+        alike = holds_alike a h t (number two.above.stamp.node) o.above.holding.linked;
         there = (λ n. let y : Below (number two.at.node) ≡ Nothing = sym (hangs two found q o) ∙ n in cc);
         blank = with_room (number c) _ q m.0;
         room = omega (arith, m.1, o.above.count, m.0.room);
-        above_apart = (λ n. made_apart i a h (key_bytes k) (number c) _ q (number top.seat.node) m.0 (ap is_published l.holding.linked) (sym n));
+        above_apart = (λ n. made_apart i a h (key_bytes k) (number c) _ q (number top.stamp.node) m.0 (ap is_published l.holding.linked) (sym n));
         old_apart = apart_above two found q o (number c) _ q m.0;
-        apart = (λ n. let y : length (h (number top.seat.node)).prefix ≡ length (h (number two.above.seat.node)).prefix = ap (λ y. length (h y).prefix) n in absurd (omega (arith, ch.longer)));
+        apart = (λ n. let y : length (h (number top.stamp.node)).prefix ≡ length (h (number two.above.stamp.node)).prefix = ap (λ y. length (h y).prefix) n in absurd (omega (arith, ch.longer)));
       }
 
   two_wants : (two : Two C) (change : Double C) (found : Option V) (q : ℕ) (given : Option V) → two.change ≡ change → TwoLocked number i a h (key_bytes k) two found q → HasTop change two.top → FitsTwo change found given → MayChangeTwo number (key_bytes k) given two change h
@@ -238,27 +238,27 @@ module _ {C V : Type 0} (number : C → ℕ) (same : V → V → Bool) (always :
   wants root z kind given New m = there (number root) (let P : ℕ → Type 0 = λ x. is_published (a x).status ≡ true in subst P (sym z) (ap is_published t.root))
   wants root z kind given (Version p n) m = there (number n) m.2
   wants root z kind given (Read p at) m = there (number at.node) m.2.published
-  wants root z kind given (Check s c) m = there (number s.at.node) m.1.fresh.seated.published
+  wants root z kind given (Check s c) m = there (number s.at.node) m.1.fresh.stamped.published
   wants root z kind given (CheckUncopied at) m = there (number at.node) m.1.published
-  wants root z kind given (CheckMiss p at common byte) m = there (number p.seat.node) m.1.fresh.seated.published
+  wants root z kind given (CheckMiss p at common byte) m = there (number p.stamp.node) m.1.fresh.stamped.published
   wants root z kind given (CheckDown p at c) m = there (number p.node) m.1.published
   wants root z kind given (CheckOld p s v) m = there (number p.node) m.1.published
   wants root z kind given (MakeGreater s p leaf) m = (m.1.short, back_leaf s leaf m.3)
   wants root z kind given (MakeTop p at common byte) m = m.3.seventh
   wants root z kind given (MakeBeside p at common byte top) m = made_there (number top) common 1 m.6
   wants root z kind given (MakeLesser s p g r) m = (m.1.1.short, m.4.short)
-  wants root z kind given (Confirm at r) m = there (number at.node) m.1.1.fresh.seated.published
+  wants root z kind given (Confirm at r) m = there (number at.node) m.1.1.fresh.stamped.published
   wants root z kind given (CheckAbove p one r) m = (there (number p.node) m.1.published, may_back_one one.change m.2.made)
-  wants root z kind given (UpgradeOne one r) m = (there (number one.at.node) m.1.1.fresh.seated.published, may_back_one one.change m.1.1.made)
+  wants root z kind given (UpgradeOne one r) m = (there (number one.at.node) m.1.1.fresh.stamped.published, may_back_one one.change m.1.1.made)
   wants root z kind given (ChangeOne one r) m = one_wants one one.change m.0 given refl m.1 m.2 m.1.made
-  wants root z kind given (UpgradeTop g two r) m = (there (number g.seat.node) m.2.fresh.seated.published, may_back_two two.above two.change _ _ m.1.2.made)
-  wants root z kind given (UpgradeAbove two r) m = (there (number two.above.seat.node) m.1.2.above.fresh.seated.published, may_back_two two.above two.change _ _ m.1.2.made)
-  wants root z kind given (UpgradeBelow two r) m = (there (number two.at.node) m.1.2.fresh.seated.published, may_back_two two.above two.change _ _ m.1.2.made)
+  wants root z kind given (UpgradeTop g two r) m = (there (number g.stamp.node) m.2.fresh.stamped.published, may_back_two two.above two.change _ _ m.1.2.made)
+  wants root z kind given (UpgradeAbove two r) m = (there (number two.above.stamp.node) m.1.2.above.fresh.stamped.published, may_back_two two.above two.change _ _ m.1.2.made)
+  wants root z kind given (UpgradeBelow two r) m = (there (number two.at.node) m.1.2.fresh.stamped.published, may_back_two two.above two.change _ _ m.1.2.made)
   wants root z kind given (ChangeTwo two r) m = two_wants two two.change m.0 m.1 given refl m.2 m.3 m.4
   wants root z kind given (Obsolete n next p r) m = (there (number n) (ap is_published m.0.gone), owner_locked a h w (number n) i m.0.owner)
   wants root z kind given (Retire n next p r) m = (there (number n) (ap is_published m.0.gone), m.2, m.0.unretired)
   wants root z kind given (UnlockBelow n p r) m = held_there (number n) m.0
   wants root z kind given (Unlock n r) m = held_there (number n) m
   wants root z kind given (Unwind n next e) m = held_there (number n) m.1
-  wants root z kind given (Sweep s) m = sweep_wants number always a h t w root z s m
+  wants root z kind given (Scan s) m = scan_wants number always a h t w root z s m
   wants root z kind given _ m = tt

@@ -13,8 +13,8 @@ use Rattle.congee.specs.declared.protocol.store.Refusal.{Refusal}
 use Rattle.congee.specs.declared.protocol.phase.Kind.{Kind}
 use Rattle.congee.specs.declared.protocol.phase.Kind.TheVariants.{Get, Insert, Remove, ComputePresent, ComputeInsert, Exchange}
 use Rattle.congee.specs.declared.protocol.phase.Phase.{Phase}
-use Rattle.congee.specs.declared.protocol.phase.Phase.TheVariants.{New, Version, Read, Check, CheckUncopied, CheckMiss, CheckDown, CheckOld, MakeLeaf, MakeGreater, MakeTop, MakeBeside, MakeLesser, AskOld, AskNew, Confirm, CheckAbove, UpgradeOne, ChangeOne, UpgradeTop, UpgradeAbove, UpgradeBelow, ChangeTwo, Obsolete, Retire, UnlockBelow, Unlock, Unwind, Sweep, Ended}
-use Rattle.congee.specs.declared.protocol.turn.NextPhase.{NextPhase}
+use Rattle.congee.specs.declared.protocol.phase.Phase.TheVariants.{New, Version, Read, Check, CheckUncopied, CheckMiss, CheckDown, CheckOld, MakeLeaf, MakeGreater, MakeTop, MakeBeside, MakeLesser, AskOld, AskNew, Confirm, CheckAbove, UpgradeOne, ChangeOne, UpgradeTop, UpgradeAbove, UpgradeBelow, ChangeTwo, Obsolete, Retire, UnlockBelow, Unlock, Unwind, Scan, Ended}
+use Rattle.congee.specs.declared.protocol.next_phase.NextPhase.{NextPhase}
 use Rattle.congee.specs.Heap.{Node, is_taken, version_of}
 use Rattle.congee.specs.protocol.Steps.{after_retire, quiet, answered, finished, decided, PhaseStepped}
 use Rattle.congee.specs.Keys.{key_bytes, IsMapOf}
@@ -24,7 +24,7 @@ use Rattle.congee.specs.protocol.Answers.{Decides, StepAnswers, reply_in}
 use Rattle.congee.specs.protocol.Play.{Question, Unasked, Asked, Replied, Flight, Pending, Decided, Over, value_answered, resolved, Heeds, Watched, PendingMoves, heeding, flight_in, IsOfPoint}
 use Rattle.congee.proofs.lemmas.Graft.{on_test}
 use Rattle.congee.proofs.lemmas.Keys.{standing_same, standing_changed}
-use Rattle.congee.proofs.lemmas.protocol.Shapes.{Ripe, ripe_at_work, StepShape, GoesOn, Skips, Wonders, Stops, Replies, Takes, go, goes_to_work, back, at, answers, checks, reads, versions, if_taken, misses_at, halts, leaf_made, greater_made, top_made, beside_made, lesser_made, one_upgraded, top_upgraded, above_upgraded, both_upgraded, unwinds, at_old, change_shape, given_shape, given_new_shape_at}
+use Rattle.congee.proofs.lemmas.protocol.Shapes.{Ripe, ripe_at_work, StepShape, GoesOn, Skips, Wonders, Stops, Replies, Takes, quiet_shape, goes_to_work, again_shape, shape_at, answers, checks, reads, versions, if_taken, misses_at, halts, leaf_made, greater_made, top_made, beside_made, lesser_made, one_upgraded, top_upgraded, above_upgraded, both_upgraded, unwinds, at_old, change_shape, given_shape, given_new_shape_at}
 
 -- the call is on its key
 call_key : {V : Type 0} (k : ℕ) (kind : Kind V) (given found : Option V) (c : Call V) → IsCall k kind given found c → key_of c ≡ k
@@ -85,9 +85,11 @@ heeds {V} same k ComputeInsert (Some v) found c q r i e f =
 heeds same k (Exchange x) given found c q r i e f = tt
 
 module _ {C V : Type 0} (same : V → V → Bool) (k : ℕ) (kind : Kind V) (v v1 v' : Option V) (q : Question V) (h h' : ℕ → Node V) (m : Pairs V) (p : k < 2 ^ 64) (s : IsMapOf h m) where
+  -- some map stands after the step, and the step is one of a call that had not taken effect
   abbrev pub Out : NextPhase C V → Type 0
   Out t = (m' : Pairs V) × IsMapOf h' m' × PendingMoves same k kind v1 q m t.report.decided t.report.outcome (flight_in k kind v' t.phase) m'
 
+  -- some map stands after a step that answers as the map, and it is one of a call that had not taken effect
   abbrev pub Then : NextPhase C V → Type 0
   Then t = StepAnswers same k kind v h t h' → Out t
 
@@ -107,7 +109,7 @@ module _ {C V : Type 0} (same : V → V → Bool) (k : ℕ) (kind : Kind V) (v v
       let rr : r ≡ x.0 = cc in
       (y.next, y.stands, (y.call, x.0, subst P (sym o) y.is_call, heeds same k kind v (get m k) y.call q r y.is_call (y.reply ∙ sym rr) fa, y.answer, f ∙ ap Decided rr))
 
-  pub from_shape : (t : NextPhase C V) → StepShape k kind v v1 v' q t → StepAnswers same k kind v h t h' → Out t
+  from_shape : (t : NextPhase C V) → StepShape k kind v v1 v' q t → StepAnswers same k kind v h t h' → Out t
   from_shape t (GoesOn st q' e f c) = subst Then (sym e) (λ x. (m, standing_same h h' m x s, ((q', c, f), refl)))
   from_shape t (Skips st q' e f c) = subst Then (sym e) (λ x. (m, standing_same h h' m x s, ((q', c, f), refl)))
   from_shape t (Wonders st o e w f) = subst Then (sym e) (λ x. (m, standing_same h h' m x s, ((w, f), refl)))
@@ -123,12 +125,14 @@ module _ {C V : Type 0} (same : V → V → Bool) (k : ℕ) (kind : Kind V) (v v
       let P : NextPhase C V → Type 0 = λ z. StepAnswers same k kind v h z h' → (m' : Pairs V) × IsMapOf h' m' × Watched same (Decided r) m None z.report (flight_in k kind v' z.phase) m' in
       subst P (sym e) (λ x. (m, standing_same h h' m x s, (refl, f, refl)))
 
+  -- a call that took effect and ends with its reply is watched to its end
   pub ends : (r : Reply V) (t : NextPhase C V) → t ≡ finished r → StepAnswers same k kind v h t h'
       → (m' : Pairs V) × IsMapOf h' m' × Watched same (Decided r) m None t.report (flight_in k kind v' t.phase) m'
   ends r t e =
       let P : NextPhase C V → Type 0 = λ z. StepAnswers same k kind v h z h' → (m' : Pairs V) × IsMapOf h' m' × Watched same (Decided r) m None z.report (flight_in k kind v' z.phase) m' in
       subst P (sym e) (λ x. (m, standing_same h h' m x s, (refl, (refl, refl), refl)))
 
+  -- a call that is over and stays so is watched as over, with the map as it was
   pub rests : (t : NextPhase C V) → t ≡ quiet Ended → StepAnswers same k kind v h t h'
       → (m' : Pairs V) × IsMapOf h' m' × Watched same Over m None t.report (flight_in k kind v' t.phase) m'
   rests t e =
@@ -148,6 +152,7 @@ closed _ = tt
 
 module _ {C V : Type 0} (number : C → ℕ) (same : V → V → Bool) (always : Bool) (most : ℕ) (why : NodeType → Refusal → Type 0) (i : ℕ) (a : ℕ → Note) (h : ℕ → Node V) (root : C) (k : ℕ) (kind : Kind V)
     (fail : Bool) (told : Option (Option V)) (v v' : Option V) (t : NextPhase C V) (h' : ℕ → Node V) (p : k < 2 ^ 64) (m : Pairs V) (st : IsMapOf h m) where
+  -- some map stands after the step, and the watch allows the step
   abbrev pub Next : Flight V → Type 0
   Next f = (m' : Pairs V) × IsMapOf h' m' × Watched same f m told t.report (flight_in k kind v' t.phase) m'
 
@@ -174,25 +179,25 @@ module _ {C V : Type 0} (number : C → ℕ) (same : V → V → Bool) (always :
   -- every step
   pub watched : (s : Phase C V) → IsOfPoint (flight_in k kind v s) → Known number same always i a h k (key_bytes k) kind v s → PhaseStepped number same always most why root (key_bytes k) kind fail told v s h v' t h'
       → StepAnswers same k kind v h t h' → Next (flight_in k kind v s)
-  watched New pf c g n = by_shape n (at number k kind v v' g.1 Unasked _ t g.2 (versions number k kind v v' g.1 Unasked root None root (version_of (h (number root)))))
-  watched (Version above x) pf c g n = by_shape n (at number k kind v v' g.1 Unasked _ t g.2 (versions number k kind v v' g.1 Unasked root above x (version_of (h (number x)))))
-  watched (Read above seat) pf c g n = by_shape n (at number k kind v v' g.1 Unasked _ t g.2.2 (reads number k kind v v' g.1 Unasked root above seat g.2.0))
+  watched New pf c g n = by_shape n (shape_at number k kind v v' g.1 Unasked _ t g.2 (versions number k kind v v' g.1 Unasked root None root (version_of (h (number root)))))
+  watched (Version above x) pf c g n = by_shape n (shape_at number k kind v v' g.1 Unasked _ t g.2 (versions number k kind v v' g.1 Unasked root above x (version_of (h (number x)))))
+  watched (Read above stamp) pf c g n = by_shape n (shape_at number k kind v v' g.1 Unasked _ t g.2.2 (reads number k kind v v' g.1 Unasked root above stamp g.2.0))
   watched (Check s x) pf c g n = by_shape n (if_taken number k kind v v' g.1 Unasked _ root _ t g.2 (λ y. checks number k kind v v' g.1 Unasked always same v s x t y))
-  watched (CheckUncopied seat) pf c g n = by_shape n (if_taken number k kind v v' g.1 Unasked _ root _ t g.2 (λ y. halts number k kind v v' g.1 Unasked _ t y))
-  watched (CheckMiss q seat common byte) pf c g n = by_shape n (if_taken number k kind v v' g.1 Unasked _ root _ t g.2 (λ y. at number k kind v v' g.1 Unasked _ t y (misses_at number k kind v v' g.1 Unasked q seat common byte)))
-  watched (CheckDown q seat x) pf c g n = by_shape n (if_taken number k kind v v' g.1 Unasked _ root _ t g.2 (λ y. at number k kind v v' g.1 Unasked _ t y (go number k kind v v' g.1 Unasked (Version _ x) refl)))
+  watched (CheckUncopied stamp) pf c g n = by_shape n (if_taken number k kind v v' g.1 Unasked _ root _ t g.2 (λ y. halts number k kind v v' g.1 Unasked _ t y))
+  watched (CheckMiss q stamp common byte) pf c g n = by_shape n (if_taken number k kind v v' g.1 Unasked _ root _ t g.2 (λ y. shape_at number k kind v v' g.1 Unasked _ t y (misses_at number k kind v v' g.1 Unasked q stamp common byte)))
+  watched (CheckDown q stamp x) pf c g n = by_shape n (if_taken number k kind v v' g.1 Unasked _ root _ t g.2 (λ y. shape_at number k kind v v' g.1 Unasked _ t y (quiet_shape number k kind v v' g.1 Unasked (Version _ x) refl)))
   watched (CheckOld q s old) pf c g n = by_shape n (if_taken number k kind v v' g.1 Unasked _ root _ t g.2 (λ y. at_old k v v v' g.1 Unasked always same kind v s old t c.3 y))
   watched (MakeLeaf s) pf c g n = by_shape n (leaf_made number k kind v v' g.0 Unasked s h (key_bytes k) g.1.0 h' t c.3 g.1.1)
   watched (MakeGreater s q leaf) pf c g n = by_shape n (greater_made number k kind v v' g.0 Unasked s q leaf h (key_bytes k) g.1.0 h' t c.4 g.1.1)
-  watched (MakeTop q seat common byte) pf c g n = by_shape n (top_made number k kind v v' g.0 Unasked q seat common byte h (key_bytes k) g.1.0 h' t g.1.1)
-  watched (MakeBeside q seat common byte top) pf c g n = by_shape n (beside_made number k kind v v' g.0 Unasked q seat common byte top h (key_bytes k) g.1.0 h' t c.5 g.1.1)
+  watched (MakeTop q stamp common byte) pf c g n = by_shape n (top_made number k kind v v' g.0 Unasked q stamp common byte h (key_bytes k) g.1.0 h' t g.1.1)
+  watched (MakeBeside q stamp common byte top) pf c g n = by_shape n (beside_made number k kind v v' g.0 Unasked q stamp common byte top h (key_bytes k) g.1.0 h' t c.5 g.1.1)
   watched (MakeLesser s q top r) pf c g n = by_work r n (lesser_made number k kind v v' g.0 (heeding r) s q top r h (key_bytes k) g.1.0 h' t (ripe_at_work r) g.1.1)
   watched (AskOld s old) pf c g n = by_answer (Some old) n (given_shape always same k kind s old told v v' t c.2 g.1)
   watched (AskNew plan) pf c g n = by_answer None n (given_new_shape_at k kind plan told v v' t c.1 g.1)
-  watched (Confirm seat r) pf c g n = by_work r n (if_taken number k kind v v' g.1 (heeding r) _ root _ t g.2 (λ y. at number k kind v v' g.1 (heeding r) _ t y (answers number k kind v v' g.1 (heeding r) r (ripe_at_work r))))
+  watched (Confirm stamp r) pf c g n = by_work r n (if_taken number k kind v v' g.1 (heeding r) _ root _ t g.2 (λ y. shape_at number k kind v v' g.1 (heeding r) _ t y (answers number k kind v v' g.1 (heeding r) r (ripe_at_work r))))
   watched (CheckAbove q one r) pf c g n = by_work r n (on_test (is_taken (h (number q.node)) q.version)
-      (λ y. at number k kind v v' g.0 (heeding r) _ t (g.1.goes_on y).1 (goes_to_work number k kind v v' g.0 (heeding r) r (UpgradeOne one r) (ripe_at_work r) refl))
-      (λ y. at number k kind v v' g.0 (heeding r) _ t (g.1.goes_back y).1 (back number k kind v v' g.0 (heeding r) root)))
+      (λ y. shape_at number k kind v v' g.0 (heeding r) _ t (g.1.goes_on y).1 (goes_to_work number k kind v v' g.0 (heeding r) r (UpgradeOne one r) (ripe_at_work r) refl))
+      (λ y. shape_at number k kind v v' g.0 (heeding r) _ t (g.1.goes_back y).1 (again_shape number k kind v v' g.0 (heeding r) root)))
   watched (UpgradeOne one r) pf c g n = by_work r n (one_upgraded number k kind v v' g.0 (heeding r) root one r h g.1.0 h' t (ripe_at_work r) g.1.2)
   watched (ChangeOne one r) pf c g n = by_work r n (Takes (Unlock one.at.node r) r g.2 refl refl refl (ripe_at_work r))
   watched (UpgradeTop top two r) pf c g n = by_work r n (top_upgraded number k kind v v' g.0 (heeding r) root top two r h g.1.0 h' t (ripe_at_work r) g.1.2)
@@ -204,5 +209,5 @@ module _ {C V : Type 0} (number : C → ℕ) (same : V → V → Bool) (always :
   watched (UnlockBelow x q r) pf c g n = settled same k kind v v v' h h' m p st r (Unlock q r) t g.2 refl n
   watched (Unlock x r) pf c g n = ends same k kind v v v' h h' m p st r t g.2 n
   watched (Unwind x next e) pf c g n = by_shape n (unwinds number k kind v v' g.0 Unasked root next e t g.2)
-  watched (Sweep s) pf c g n = absurd pf
+  watched (Scan s) pf c g n = absurd pf
   watched Ended pf c g n = rests same k kind v v v' h h' m p st t g.2 n

@@ -5,10 +5,10 @@ use Rattle.congee.specs.declared.forms.base_node.NodeType.{NodeType}
 use Rattle.congee.specs.Heap.{Node, Stands, walk, value_at, is_taken}
 use Rattle.congee.specs.protocol.Events.{SameBut, NewNode, BackGives, ObsoleteGives, RetireGives, UnlockGives}
 use Rattle.congee.specs.Notes.{Note, Unmade, Held, Linked, Gone, Back, is_published, IsChild, HasParent, Tree, WordAt, LockWords}
-use Rattle.congee.specs.protocol.Protocol.{Seated, Made, Holding, TakenOut, Fares, Effect}
-use Rattle.congee.proofs.lemmas.Fits.{both_true, equal}
+use Rattle.congee.specs.protocol.Protocol.{Stamped, Made, Holding, TakenOut, Fares, Effect}
+use Rattle.congee.proofs.lemmas.Fits.{both_true, equal_of_test}
 use Rattle.congee.proofs.lemmas.Tree.{step_same}
-use Rattle.congee.proofs.lemmas.protocol.Touch.{fares_locked, fares_free, fares_mine, fares_retired, fares_made, fares_back, noted, noted_same, noted_other, own, owned, under_lock, out_of_reach, effect, not_taken, taken_linked, taken_not_locked, locked_not_free, owner_locked, tree_same, same_map, but_one, but_note, touch_one}
+use Rattle.congee.proofs.lemmas.protocol.Touch.{fares_locked, fares_free, fares_mine, fares_retired, fares_made, fares_back, noted, noted_same, noted_other, with_owner, owned, under_lock, out_of_reach, touched_effect, not_taken, taken_linked, taken_not_locked, locked_not_free, owner_locked, tree_same, same_map, but_one, but_note, touch_one}
 
 -- a step that leaves the map
 pub record KeepsMap {V : Type 0} (i : ℕ) (a : ℕ → Note) (h : ℕ → Node V) (a' : ℕ → Note) (h' : ℕ → Node V) : Type 0 where
@@ -32,27 +32,27 @@ pub record Reworded {V : Type 0} (i : ℕ) (a : ℕ → Note) (h : ℕ → Node 
   pub fares : Fares i (a n) (a' n) (h n) (h' n)
 
 -- another owner, lock word or mark of one published node leaves the map
-pub reworded : {V : Type 0} (i : ℕ) (a : ℕ → Note) (h : ℕ → Node V) (a' : ℕ → Note) (h' : ℕ → Node V) (n : ℕ) → Tree a h → LockWords a h → Reworded i a h a' h' n → KeepsMap i a h a' h'
+reworded : {V : Type 0} (i : ℕ) (a : ℕ → Note) (h : ℕ → Node V) (a' : ℕ → Note) (h' : ℕ → Node V) (n : ℕ) → Tree a h → LockWords a h → Reworded i a h a' h' n → KeepsMap i a h a' h'
 reworded {V} i a h a' h' n t w r =
     let pr : (m : ℕ) → (h' m).prefix ≡ (h m).prefix = but_one (λ y z. y.prefix ≡ z.prefix) h h' n (λ x. refl) r.nodes r.prefix in
     let ch : (m b : ℕ) → (h' m).children b ≡ (h m).children b = λ m b. but_one (λ y z. y.children b ≡ z.children b) h h' n (λ x. refl) r.nodes (r.children b) m in
     let st : (m : ℕ) → (a' m).status ≡ (a m).status = but_note (λ y z. y.status ≡ z.status) a a' n (λ x. refl) r.notes r.status in
     let pa : (m : ℕ) → (a' m).parent ≡ (a m).parent = but_note (λ y z. y.parent ≡ z.parent) a a' n (λ x. refl) r.notes r.parent in
     record {
-      effect = effect i a h a' h' w (tree_same a h a' h' t st pa pr ch) (but_one (λ y z. y.capacity ≡ z.capacity) h h' n (λ x. refl) r.nodes r.capacity 0)
+      effect = touched_effect i a h a' h' w (tree_same a h a' h' t st pa pr ch) (but_one (λ y z. y.capacity ≡ z.capacity) h h' n (λ x. refl) r.nodes r.capacity 0)
           (touch_one i a h a' h' n r.nodes r.notes (under_lock r.published (rw r.status r.published) r.prefix r.version r.untaken r.nobody r.word r.fares));
       map = λ x _. same_map h h' pr ch 8 0 x;
     }
 
 -- the lock of a node that was taken
-pub lock_still : {V : Type 0} (i : ℕ) (a : ℕ → Note) (h : ℕ → Node V) (n v : ℕ) (h' : ℕ → Node V) → Tree a h → LockWords a h → Seated a h n v → is_taken (h n) v ≡ true
-    → SameBut h n (record (h n) { locked = true }) h' → KeepsMap i a h (own a n (Some i)) h'
+pub lock_still : {V : Type 0} (i : ℕ) (a : ℕ → Note) (h : ℕ → Node V) (n v : ℕ) (h' : ℕ → Node V) → Tree a h → LockWords a h → Stamped a h n v → is_taken (h n) v ≡ true
+    → SameBut h n (record (h n) { locked = true }) h' → KeepsMap i a h (with_owner a n (Some i)) h'
 lock_still i a h n v h' t w s k g =
     let l : (a n).status ≡ Linked = taken_linked a h w n v s.published k in
     let o : (a n).owner ≡ None = (w.each n).free (taken_not_locked (h n) v k) in
-    let same : own a n (Some i) n ≡ owned (a n) (Some i) = noted_same a n _ in
+    let same : with_owner a n (Some i) n ≡ owned (a n) (Some i) = noted_same a n _ in
     let lk : (h' n).locked ≡ true = rw g.after refl in
-    reworded i a h (own a n (Some i)) h' n t w (record {
+    reworded i a h (with_owner a n (Some i)) h' n t w (record {
       nodes = g.others;
       notes = noted_other a n _;
       status = rw same refl;
@@ -78,10 +78,10 @@ lock_still i a h n v h' t w s k g =
 
 -- the lock goes
 pub unlock_still : {V : Type 0} (i : ℕ) (a : ℕ → Note) (h : ℕ → Node V) (n : ℕ) (h' : ℕ → Node V) → Tree a h → LockWords a h → Holding i a n → UnlockGives h n h'
-    → KeepsMap i a h (own a n None) h'
+    → KeepsMap i a h (with_owner a n None) h'
 unlock_still i a h n h' t w o g =
-    let same : own a n None n ≡ owned (a n) None = noted_same a n _ in
-    reworded i a h (own a n None) h' n t w (record {
+    let same : with_owner a n None n ≡ owned (a n) None = noted_same a n _ in
+    reworded i a h (with_owner a n None) h' n t w (record {
       nodes = g.others;
       notes = noted_other a n _;
       status = rw same refl;
@@ -91,7 +91,7 @@ unlock_still i a h n h' t w o g =
       capacity = rw g.after refl;
       published = ap is_published o.linked;
       version = rw g.after (omega arith);
-      untaken = λ u le q. let e : (h n).version + 1 ≡ u = equal _ u (both_true ((h n).version + 1 == u) _ (rw g.after at q)).0 in absurd (omega arith);
+      untaken = λ u le q. let e : (h n).version + 1 ≡ u = equal_of_test _ u (both_true ((h n).version + 1 == u) _ (rw g.after at q)).0 in absurd (omega arith);
       nobody = λ j ne e. let z : Some i ≡ Some j = sym o.owner ∙ e in ne (sym cc);
       word = record {
         free = λ f. rw same refl;
@@ -136,12 +136,12 @@ obsolete_still i a h p n h' t w o g =
 
 -- and handed over
 pub retire_still : {V : Type 0} (i : ℕ) (a : ℕ → Note) (h : ℕ → Node V) (p n : ℕ) (h' : ℕ → Node V) → Tree a h → LockWords a h → TakenOut i a h p n → RetireGives h n h'
-    → KeepsMap i a h (own a n None) h'
+    → KeepsMap i a h (with_owner a n None) h'
 retire_still i a h p n h' t w o g =
-    let same : own a n None n ≡ owned (a n) None = noted_same a n _ in
+    let same : with_owner a n None n ≡ owned (a n) None = noted_same a n _ in
     let lk : (h n).locked ≡ true = owner_locked a h w n i o.owner in
     let lk' : (h' n).locked ≡ true = rw g.after lk in
-    reworded i a h (own a n None) h' n t w (record {
+    reworded i a h (with_owner a n None) h' n t w (record {
       nodes = g.others;
       notes = noted_other a n _;
       status = rw same refl;
@@ -213,9 +213,9 @@ off_tree i a h a' h' c t o =
     }
 
 -- a change of a node that isn't in reach leaves the map
-pub off_still : {V : Type 0} (i : ℕ) (a : ℕ → Note) (h : ℕ → Node V) (a' : ℕ → Note) (h' : ℕ → Node V) (c : ℕ) → Tree a h → LockWords a h → Off i a h a' h' c → KeepsMap i a h a' h'
+off_still : {V : Type 0} (i : ℕ) (a : ℕ → Note) (h : ℕ → Node V) (a' : ℕ → Note) (h' : ℕ → Node V) (c : ℕ) → Tree a h → LockWords a h → Off i a h a' h' c → KeepsMap i a h a' h'
 off_still i a h a' h' c t w o = record {
-  effect = effect i a h a' h' w (off_tree i a h a' h' c t o)
+  effect = touched_effect i a h a' h' w (off_tree i a h a' h' c t o)
       (ap (λ z. z.capacity) (o.nodes 0 (off_other a c 0 o.before t.root)))
       (touch_one i a h a' h' c o.nodes o.notes (out_of_reach o.before o.nobody o.unowned o.word o.fares));
   map = λ x _. off_map i a h a' h' c t o 8 0 x t.root;

@@ -1,6 +1,6 @@
 -- What a handle knows while guards of it are out.
-use Rattle.std.proofs.Common.{◌≡◌, ◌≢◌, ℕ, ◌+◌, ◌<◌, ◌≤◌, Bool, true, false, refl, sym, ap, ◌∙◌, subst, inl, inr, arith, Option, Some, None, List, [], length, Result, Ok, Err}
-use Rattle.std.specs.Prelude.{nat_lt, nat_le, nat_eq, OnOk, IfErr, IfSome, ◌⊎◌}
+use Rattle.std.proofs.Common.{◌≡◌, ◌≢◌, ℕ, ◌+◌, ◌<◌, ◌≤◌, Bool, true, false, refl, sym, ap, ◌∙◌, subst, arith, Option, Some, None, List, [], length, Result, Ok, Err}
+use Rattle.std.specs.Prelude.{nat_lt, nat_le, nat_eq, OnOk, IfErr}
 use Rattle.std.specs.Bool.{MatchBool}
 use Rattle.std.proofs.lemmas.Bool.{true≢false, eq-eqb, lt-ltb, ltb-true}
 use Rattle.std.proofs.lemmas.Bool.Decides.{nat_tests}
@@ -12,7 +12,7 @@ use Rattle.crossbeam_epoch.specs.declared.bag.Deferral.{Deferral}
 use Rattle.crossbeam_epoch.specs.Face.Handle.{owns, with_room, SealsUnder}
 use Rattle.crossbeam_epoch.specs.Face.Participant.{IsPinned}
 use Rattle.crossbeam_epoch.specs.Limits.{bag_places}
-use Rattle.crossbeam_epoch.specs.Face.Pins.{with_seen, IsRead, IsDue}
+use Rattle.crossbeam_epoch.specs.Face.Pins.{with_seen, IsRead}
 use Rattle.crossbeam_epoch.specs.Face.Tokens.{with_guards, pinned_view}
 
 out_is : (n : ℕ) → 0 < n → nat_lt 0 n ≡ true
@@ -23,8 +23,8 @@ pub more_guards : (n p a e s d : ℕ) → n ≢ 0 → with_guards (n + 1) p a e 
 more_guards n p a e s d some = let x = out_is n (omega (arith, some)) in let y = out_is (n + 1) (omega arith) in rw (x, y) refl
 
 -- with guards out a handle's word is pinned by its epoch, and with none it is unpinned
-pub guarded : (n p a e s d : ℕ) (v : View) → v ≡ with_guards n p a e s d → IsPinned n e v
-guarded n p a e s d v is = go (nat_lt 0 n) refl
+pub with_guards_pinned : (n p a e s d : ℕ) (v : View) → v ≡ with_guards n p a e s d → IsPinned n e v
+with_guards_pinned n p a e s d v is = go (nat_lt 0 n) refl
   where
     go : (b : Bool) → nat_lt 0 n ≡ b → IsPinned n e v
     go true h = let i = rw h at is in rw h (ap (λ (w : View). w.pin) i)
@@ -86,17 +86,6 @@ not_sealed b q before none = rw none refl
 pub full_seals : (n m q : ℕ) (before after : Option Queued) → 0 < m → m ≤ n → SealsUnder (nat_lt 0 n) q before after → SealsUnder (nat_le m n) q before after
 full_seals n m q before after some full s = let x : nat_lt 0 n ≡ true = grind (arith, nat_tests, some, full) in let y : nat_le m n ≡ true = grind (arith, nat_tests, full) in rw y (rw x at s)
 
-two_behind : (s seal seen : ℕ) → s ≡ seal → seal + 2 ≤ seen → s + 2 ≤ seen
-two_behind s seal seen same now = omega (arith, same, now)
-
--- the greatest seal of some bags and of one more is due where all are
-pub later_due : (seen seal : ℕ) (newest newest' : Option ℕ) → IsDue seen newest → seal + 2 ≤ seen
-    → (s : ℕ) × (newest' ≡ Some s) × (seal ≤ s) × IfSome newest (λ n. n ≤ s) × ((s ≡ seal) ⊎ (newest ≡ Some s)) → IsDue seen newest'
-later_due seen seal newest newest' due now told = subst (λ (n : Option ℕ). IsDue seen n) (sym told.1) (elim told.4 [
-  | inl same ↦ two_behind told.0 seal seen same now
-  | inr same ↦ subst (λ (n : Option ℕ). IsDue seen n) same due
-])
-
 -- a bag that isn't empty holds a job
 pub some_job : (n : ℕ) (b : Bool) → b ≡ nat_eq n 0 → b ≡ false → 0 < n
 some_job n b is none = let h : nat_eq n 0 ≡ false = sym is ∙ none in grind (arith, nat_tests, h)
@@ -106,8 +95,8 @@ pub no_job : {J : Type 0} (bag : List (Deferral J)) (b : Bool) → b ≡ nat_eq 
 no_job bag b is none = let h : nat_eq (length bag) 0 ≡ true = sym is ∙ none in nil_from_length bag (grind (arith, nat_tests, h))
 
 -- a bag that isn't full has a free place, and no other bag is made for it
-pub has_room : {J : Type 0} (bag : List (Deferral J)) (b : Bool) → b ≡ nat_eq (length bag) bag_places → length bag ≤ bag_places → b ≡ false → (bag ≡ with_room bag) × (nat_le bag_places (length bag) ≡ false)
-has_room bag b is fits free =
+pub with_room_unfull : {J : Type 0} (bag : List (Deferral J)) (b : Bool) → b ≡ nat_eq (length bag) bag_places → length bag ≤ bag_places → b ≡ false → (bag ≡ with_room bag) × (nat_le bag_places (length bag) ≡ false)
+with_room_unfull bag b is fits free =
     let h : nat_eq (length bag) bag_places ≡ false = sym is ∙ free in
     let x : nat_lt (length bag) bag_places ≡ true = grind (arith, nat_tests, h, fits) in
     let y : nat_le bag_places (length bag) ≡ false = grind (arith, nat_tests, h, fits) in
@@ -137,7 +126,7 @@ own_guard b A B own a = rw own a
 pub other_guard : (b : Bool) (A B : Type 0) → b ≡ false → B → MatchBool b A B
 other_guard b A B other x = rw other x
 
--- a guard of a handle is still its own where the handle has the seat and the number of guards that it had
+-- a guard of a handle is still its own where the handle has the row and the number of guards that it had
 pub still_own : (n m : ℕ) (mine was guard : Row) → n ≡ m → mine ≡ was → owns m was guard ≡ true → owns n mine guard ≡ false → ⊥
 still_own n m mine was guard same place own other = true≢false (sym own ∙ sym (ap (λ (k : ℕ). owns k was guard) same) ∙ sym (ap (λ (x : Row). owns n x guard) place) ∙ other)
 

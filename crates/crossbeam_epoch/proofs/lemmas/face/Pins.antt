@@ -1,5 +1,5 @@
 -- Each kind of step keeps the rule of the epoch and the participants' words.
-use Rattle.std.proofs.Common.{◌≡◌, ◌≢◌, ℕ, ◌+◌, ◌*◌, ◌^◌, ◌<◌, ◌≤◌, ◌⊎◌, eqb, List, [], ◌∷◌, ◌++◌, map, length, replicate, get_or, set, sym, refl, ap, ◌∙◌, subst, ⊎_elim, inl, inr, arith, Option, Some, None, length-set, get_or-set_other, get_or-set_same, eq-eqb, ne_eqb, unwrap_or}
+use Rattle.std.proofs.Common.{◌≡◌, ◌≢◌, ℕ, ◌+◌, ◌*◌, ◌<◌, ◌≤◌, ◌⊎◌, eqb, List, [], ◌∷◌, ◌++◌, map, length, replicate, get_or, set, sym, refl, ap, ◌∙◌, subst, ⊎_elim, inl, inr, arith, Option, Some, None, length-set, get_or-set_other, get_or-set_same, eq-eqb, ne_eqb, unwrap_or}
 use mathlib.Core.Logic.{dite}
 use mathlib.Core.Option as maybe
 use mathlib.Core.Option.{some, some-injective, some-ne-none}
@@ -7,7 +7,7 @@ use native.Mathlib.Decide.{ℕ_discrete, dec_le}
 use lib.ListN.{get_elem?}
 use lib.Seq.{set-get_or}
 use prog.Atomic.{either}
-use Rattle.atomic_table.specs.Table.{State, Me, step, keeps, stepped, Allows, Enters, Splits, opening}
+use Rattle.atomic_table.specs.Table.{State, Me, step, keeps, stepped, Allows, Enters, Splits}
 use Rattle.atomic_table.proofs.Lists.{at_set, at_snoc, set_here, set_else, set_again, at_longer}
 use Rattle.crossbeam_epoch.specs.declared.face.seats.View.{View}
 use Rattle.crossbeam_epoch.specs.Face.Pins.{word_of, epoch_of, number_of, newcomer, ViewHolds, At, IsKept, with_seen, noted, seat_arrived, seat_claimed, seat_counted, seat_looked, seat_published, seat_confirmed, seat_left, seat_released, Passes, seat_inspected, seat_advanced, PinsHoldEpoch}
@@ -128,30 +128,6 @@ module _ {S : Type 0} (places last : ℕ) where
       (λ k u p' q n a e f l. (let t = r.passed id k v u p' q at a e f (omega (arith, passed)) in omega (arith, seen)))
       (λ j u p' q n a _ e. absurd (nothing q e))
 
-  -- words that are all free under an epoch of 0 keep the rule, with a seat that has seen nothing
-  pub starts : (words : List ℕ) → length words ≡ word_of places → ((i : ℕ) → get_or words i 0 ≡ 0) → last ≤ 2 ^ 62 → Rule (opening words [] newcomer)
-  starts words wide free low = record {
-    wide = wide;
-    bounded = ((let z = free 0 in omega (arith, z)), low);
-    seats = λ j u a. subst (ViewHolds places words) (first_view j u a) new_stands;
-    owned = λ p l h. absurd (let z = free (word_of p) in omega (arith, z));
-    alone = λ j k x u p a b e f. absurd (none_some p (ap (λ (y : View). y.place) (first_view j x a) ∙ e));
-    passed = λ j k x u p q a b e f l. absurd (none_some p (ap (λ (y : View). y.place) (first_view k u b) ∙ e));
-  }
-    where
-      first_view : (j : ℕ) (u : View) → At (newcomer ∷ []) j u → newcomer ≡ u
-      first_view Rattle.std.proofs.Common.zero u a = some-injective newcomer u a
-      first_view (Rattle.std.proofs.Common.suc j) u a = absurd (some-ne-none u (sym a))
-
-      new_stands : ViewHolds places words newcomer
-      new_stands = record {
-        seen = omega arith;
-        own = λ p e. absurd (none_some p e);
-        published = λ e f. absurd (none_some e f);
-        confirmed = λ q e. absurd (none_some q e);
-        placed = λ q e. absurd (none_some q e);
-      }
-
   -- a seat comes that has no place, and saw an epoch that isn't past the present one
   comes : (s : State S View) (r : Rule s) (e : ℕ) → e ≤ epoch_of s.words → Rule record { words = s.words; homes = s.homes; views = s.views ++ with_seen newcomer e ∷ [] }
   comes s r e low = let w = with_seen newcomer e in record {
@@ -172,6 +148,7 @@ module _ {S : Type 0} (places last : ℕ) where
       old : {G : Type 0} (j : ℕ) (x : View) (p : ℕ) → At (s.views ++ with_seen newcomer e ∷ []) j x → x.place ≡ Some p → (At s.views j x → G) → G
       old j x p a f go = ⊎_elim go (λ (t : with_seen newcomer e ≡ x). absurd (none_some p (ap (λ (y : View). y.place) t ∙ f))) (at_snoc s.views (with_seen newcomer e) x j a)
 
+  -- a new seat that looks at the epoch keeps the rule
   pub arrives : (slots : ℕ) → Enters Rule slots 0 (λ n w. seat_arrived {S = S} (step slots 0 0 0 maybe.none) (newcomer, []) n (w, []))
   arrives slots s r _ _ = let e = epoch_of s.words in let low = r.bounded.0 in let high = r.bounded.1 in (
     with_seen newcomer e,
@@ -206,6 +183,7 @@ module _ {S : Type 0} (places last : ℕ) where
       (λ p l h. ⊎_elim (λ (e : w.place ≡ Some p). absurd (none_some p (sym none ∙ e))) (λ (t : (j : ℕ) × (u : View) × (j ≢ id) × At s.views j u × (u.place ≡ Some p)). inr t) (owners s r id w at p l h))
       (λ j u p _ _ e _. absurd (none_some p e)) (λ p q e _ _. absurd (none_some p e)) (λ k u p q _ _ _ _ l. absurd (omega arith)) (λ j u p q _ _ e _ _. absurd (none_some p e))
 
+  -- a seat that looks at the epoch keeps the rule
   pub looks : (slots id : ℕ) (me : Me S View) → Allows Rule slots id me 0 (λ n. n) (seat_looked (step slots 0 0 0 maybe.none) me)
   looks slots id me s r _ at _ = let e = epoch_of s.words in let w = with_seen me.0 e in let t = r.seats id me.0 at in let old = t.seen in let low = r.bounded.0 in let high = r.bounded.1 in (
     w,
@@ -243,6 +221,7 @@ module _ {S : Type 0} (places last : ℕ) where
         (refl, omega arith, omega arith),
       )
 
+  -- a seat that publishes an epoch that it saw keeps the rule
   pub publishes : (slots id : ℕ) (me : Me S View) (p e : ℕ) → me.0.place ≡ Some p → e ≤ me.0.seen
       → Allows Rule slots id me (word_of p) (λ _. e + 2) (λ _. seat_published (step slots (word_of p) (e + 2) 0 maybe.none) me (e + 2))
   publishes slots id me p e is low s r _ at _ = let w : View = record me.0 { at = Some e; pin = None; asked = 0; taken = 0 } in let seen = (r.seats id me.0 at).seen in (
@@ -253,6 +232,7 @@ module _ {S : Type 0} (places last : ℕ) where
     λ d f. let same : e ≡ d = omega arith in ap (λ (z : ℕ). let v : View = record me.0 { at = Some z; pin = None; asked = 0; taken = 0 } in (v, me.1)) same,
   )
 
+  -- a seat that unpins, and keeps its place, keeps the rule
   pub leaves : (slots id : ℕ) (me : Me S View) (p : ℕ) → me.0.place ≡ Some p → Allows Rule slots id me (word_of p) (λ _. 1) (λ _. seat_left (step slots (word_of p) 1 0 maybe.none) me 1)
   leaves slots id me p is s r _ at _ = (
     record me.0 { at = None; pin = None; asked = 0; taken = 0 },
@@ -262,6 +242,7 @@ module _ {S : Type 0} (places last : ℕ) where
     refl,
   )
 
+  -- a seat that gives its place back keeps the rule
   pub releases : (slots id : ℕ) (me : Me S View) (p : ℕ) → me.0.place ≡ Some p → Allows Rule slots id me (word_of p) (λ _. 0) (λ _. seat_released (step slots (word_of p) 0 0 maybe.none) me 0)
   releases slots id me p is s r _ at _ = (
     record me.0 { place = None; at = None; pin = None },
@@ -325,6 +306,7 @@ module _ {S : Type 0} (places last : ℕ) where
       (λ free. let w : View = record v { asked = v.asked + 1 } in (w, keeps, tt, stays (v.asked + 1) v.taken, ((λ _. refl), λ found. absurd (found free))))
       (λ found. let w : View = record v { asked = v.asked + 1; taken = v.taken + 1 } in (w, keeps, tt, stays (v.asked + 1) (v.taken + 1), ((λ free. absurd (found free)), λ _. refl)))
 
+  -- a scan that looks at its next place keeps the rule
   pub inspects : (slots id : ℕ) (me : Me S View) (p : ℕ) → me.0.passed ≡ p → Allows Rule slots id me (word_of p) (λ n. n) (seat_inspected (step slots (word_of p) 0 0 maybe.none) me)
   inspects slots id me p is s r _ at _ = let v = me.0 in let t = r.seats id v at in let n : ℕ = get_or s.words (word_of p) 0 in ⊎_elim
       (λ (by : Passes v.seen n). let w : View = record v { passed = v.passed + 1 } in

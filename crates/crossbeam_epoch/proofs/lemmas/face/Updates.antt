@@ -13,8 +13,10 @@ if_elsewhere e e' None same h = tt
 if_elsewhere e e' (Some n) same h = sym (same n) ∙ h
 
 module _ {F S : Type 0} (step : F → S → Option S → F → Type 0) (e e' : S → Bool) (s s' : S) (same : (x : S) → e x ≡ e' x) (is : s ≡ s') where
+  -- a closure that gave a pointer to write for the one gave it for the other
   pub gave_next : GaveNext step e s → GaveNext step e' s'
   gave_next g = (g.0, g.1, g.2, subst (λ x. step g.0 x (Some g.2) g.1) is g.3, sym (same g.2) ∙ g.4)
 
+  -- a closure that gave none to write for the one gave none for the other
   pub gave_none : GaveNone step e s → GaveNone step e' s'
   gave_none g = (g.0, g.1, g.2, subst (λ x. step g.0 x g.2 g.1) is g.3, if_elsewhere e e' g.2 same g.4)

@@ -72,9 +72,11 @@ module _ {T : Type 0} where
       (λ u ne. other_turn (cell_at st n.cell) n.turn u t ne)
       (λ u ne. ap (λ k. nat_lt u k) (sym t))
 
+  -- a standing name whose cell is emptied stands no more, and every other name is what it was
   pub emptied_sets : (st : Store T) (n : Name) → is_some (value_at st n) ≡ true → Sets st n None (emptied st n.cell)
   emptied_sets st n live = rewritten st n None live
 
+  -- a standing name whose value is replaced stands for the new one, and every other name is what it was
   pub replaced_sets : (st : Store T) (n : Name) (v : T) → is_some (value_at st n) ≡ true → Sets st n (Some v) (replaced st n.cell v)
   replaced_sets st n v live = rewritten st n (Some v) live
 
@@ -87,10 +89,12 @@ module _ {T : Type 0} where
       by_turn true e = e
       by_turn false e = refl
 
+  -- a value that is placed stands under its new name, and every other name is what it was
   pub placed_sets : (st : Store T) (n : Name) (v : T) → IsNext st n → Sets st n (Some v) (placed st n v)
   placed_sets st n v next =
       let c : Cell T = record { turns = n.turn + 1; value = Some v } in
       sets st (placed st n v) n (Some v) (cell_itself st n.cell c next.near) (λ i ne. cell_with st n.cell i c next.near ne) (λ u ne. next_vacant st n next u) (λ u ne. less_or_next u n.turn (cell_at st n.cell).turns ne next.turn)
 
+  -- a cell's next name was never given
   pub next_unused : (st : Store T) (n : Name) → IsNext st n → was_given st n ≡ false
   next_unused st n next = let turn = next.turn in grind (arith, nat_tests)

@@ -7,9 +7,9 @@ use Rattle.std.proofs.lemmas.List.{append_assoc, append-nil, nil_from_length, le
 use Rattle.crossbeam_epoch.specs.Chain.{joined, AreFilled, AreBlocks, refilled, room_freed, room_left}
 
 -- a length below a capacity leaves room
-pub has_room : (len capacity n m room : ℕ) → len ≡ n → capacity ≡ m → len < capacity → m - n ≡ room → room ≡ refilled room
-has_room len capacity n m zero is same lt free = absurd (omega (arith, is, same, lt, free))
-has_room len capacity n m (suc room) is same lt free = refl
+pub refilled_same : (len capacity n m room : ℕ) → len ≡ n → capacity ≡ m → len < capacity → m - n ≡ room → room ≡ refilled room
+refilled_same len capacity n m zero is same lt free = absurd (omega (arith, is, same, lt, free))
+refilled_same len capacity n m (suc room) is same lt free = refl
 
 -- what is read at the front of a list, if it has one
 pub seen_first : {B R : Type 0} (now : R → B) (r : Option R) (xs : List B) (n : ℕ) → n ≡ length xs → IsSome r ↔ (0 < n) → IfSome r (λ b. now b ≡ slice_index_or xs 0 (now b))
@@ -32,30 +32,24 @@ not_nothing (x ∷ xs) n long some is = absurd (cc is)
 
 module _ {B Q : Type 0} (items : Q → List B) where
   -- the first block has nothing, so there are none between: the last one is all
-  pub alone : (first last : List B) (between : List Q) → first ≡ [] → between ≡ [] → first ++ (joined items between ++ last) ≡ last
-  alone first last between none bare = ap (λ f. f ++ (joined items between ++ last)) none ∙ ap (λ b. joined items b ++ last) bare
+  pub last_alone : (first last : List B) (between : List Q) → first ≡ [] → between ≡ [] → first ++ (joined items between ++ last) ≡ last
+  last_alone first last between none bare = ap (λ f. f ++ (joined items between ++ last)) none ∙ ap (λ b. joined items b ++ last) bare
 
   -- the last block becomes the first one
   pub moved : (first last to block : List B) (between : List Q) → first ≡ [] → between ≡ [] → to ≡ last → block ≡ [] → to ++ (joined items between ++ block) ≡ first ++ (joined items between ++ last)
   moved first last to block between none bare same fresh =
-      ap (λ b. to ++ (joined items b ++ block)) bare ∙ ap (λ l. to ++ l) fresh ∙ append-nil to ∙ same ∙ sym (alone first last between none bare)
-
-  -- the last block goes behind those between
-  pub added : (between : List Q) (q : Q) (block : List B) → block ≡ [] → joined items (between ++ q ∷ []) ++ block ≡ joined items between ++ items q
-  added [] q block fresh = ap (λ l. items q ++ [] ++ l) fresh ∙ append-nil (items q ++ []) ∙ append-nil (items q)
-  added (p ∷ ps) q block fresh =
-      append_assoc (items p) (joined items (ps ++ q ∷ [])) block ∙ ap (λ l. items p ++ l) (added ps q block fresh) ∙ sym (append_assoc (items p) (joined items ps) (items q))
+      ap (λ b. to ++ (joined items b ++ block)) bare ∙ ap (λ l. to ++ l) fresh ∙ append-nil to ∙ same ∙ sym (last_alone first last between none bare)
 
   -- the first of them is taken where the first block holds nothing
   pub taken_last : (r : Option B) (first first' last last' all : List B) (between : List Q) → first ++ (joined items between ++ last) ≡ all → first ≡ [] → first' ≡ [] → between ≡ []
       → MatchOption r ((last ≡ []) × (last' ≡ [])) (λ b. last ≡ b ∷ last')
       → MatchOption r ((all ≡ []) × (first' ++ (joined items between ++ last') ≡ [])) (λ b. all ≡ b ∷ (first' ++ (joined items between ++ last')))
   taken_last None first first' last last' all between are none none' bare took = (
-    sym are ∙ alone first last between none bare ∙ took.0,
-    alone first' last' between none' bare ∙ took.1,
+    sym are ∙ last_alone first last between none bare ∙ took.0,
+    last_alone first' last' between none' bare ∙ took.1,
   )
   taken_last (Some b) first first' last last' all between are none none' bare took =
-      sym are ∙ alone first last between none bare ∙ took ∙ ap (λ l. b ∷ l) (sym (alone first' last' between none' bare))
+      sym are ∙ last_alone first last between none bare ∙ took ∙ ap (λ l. b ∷ l) (sym (last_alone first' last' between none' bare))
 
   -- the first of them is taken from the first block
   pub taken_first : (first first' last all : List B) (b : B) (between : List Q) → first ++ (joined items between ++ last) ≡ all → first ≡ b ∷ first' → all ≡ b ∷ (first' ++ (joined items between ++ last))
@@ -79,11 +73,6 @@ all_filled len (p ∷ ps) q are some = (are.0, all_filled len ps q are.1 some)
 pub nothing_first : {B : Type 0} (xs ys : List B) → xs ++ ys ≡ [] → xs ≡ []
 nothing_first [] ys none = refl
 nothing_first (x ∷ xs) ys none = absurd (cc none)
-
--- the second of two lists that have nothing together has nothing
-pub nothing_last : {B : Type 0} (xs ys : List B) → xs ++ ys ≡ [] → ys ≡ []
-nothing_last [] ys none = none
-nothing_last (x ∷ xs) ys none = absurd (cc none)
 
 -- what is taken off the front of a block
 pub taken_off : {B : Type 0} (r : Option B) (xs ys : List B) → xs ≡ option_to_list r ++ ys → ys ≡ drop 1 xs → MatchOption r ((xs ≡ []) × (ys ≡ [])) (λ b. xs ≡ b ∷ ys)
@@ -183,6 +172,7 @@ module _ {B Q : Type 0} (items : Q → List B) where
     pub blocks_made : (first last block : Q) (between : List Q) → Blocks first between last → capacity block ≡ 32 → Blocks first between block
     blocks_made first last block between a made = record { filled = a.filled; alone = a.alone; gone = a.gone; whole = inr made; more = λ _. made }
 
+    -- behind a first block that has nothing the last one may be none
     pub blocks_none : (first last block : Q) (between : List Q) → Blocks first between last → items first ≡ [] → capacity block ≡ 0 → Blocks first between block
     blocks_none first last block between a none given = record { filled = a.filled; alone = a.alone; gone = a.gone; whole = inl given; more = λ some. absurd (some none) }
 
@@ -196,6 +186,7 @@ module _ {B Q : Type 0} (items : Q → List B) where
       more = λ _. made;
     }
 
+    -- behind a first block that has something, filled ones may stand between, and a made one last
     pub blocks_added : (first last block : Q) (between between' : List Q) → Blocks first between last → (items first ≡ [] → ⊥) → AreFilled len between' → capacity block ≡ 32 → Blocks first between' block
     blocks_added first last block between between' a some filled made = record {
       filled = filled;

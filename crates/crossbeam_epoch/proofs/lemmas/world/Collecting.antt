@@ -77,6 +77,7 @@ module _ {J : Type 0} where
   held : (epoch : ℕ) (bag : List (Deferral J)) (p : Participant J) (hand : List (Deferral J)) (phase : Phase) → IsHeld epoch bag p → IsHeld epoch bag (record p { hand = hand; phase = phase })
   held epoch bag p hand phase h = record { word = h.word; one = h.one; jobs = h.jobs }
 
+  -- a collection that finds the queue as it was has taken no bag
   pub none_taken : (expiry answered : ℕ) (queue queue' : List (Sealed J)) → queue' ≡ queue → IsTaking expiry answered 0 queue queue'
   none_taken expiry answered queue queue' e = record { taken = []; front = sym e; long = refl; few = omega arith; due = λ b m. absurd (none_in b m) }
 
@@ -105,6 +106,7 @@ module _ {J : Type 0} where
     stops = elim why [ inl all ↦ inl (t.long ∙ all) | inr none ↦ inr none ];
   }
 
+  -- a collection that takes no more bags has taken eight, or the front one isn't due
   pub not_due : (expiry answered bags : ℕ) (rest : List (Sealed J)) → bags ≤ 8 → (nat_lt 0 (length rest) && nat_le ((slice_index_or rest 0 no_bag).seal + expiry) answered && nat_lt bags 8) ≡ false → (bags ≡ 8) ⊎ IsNotDue expiry answered rest
   not_due expiry answered bags [] few e = inr tt
   not_due expiry answered bags (b ∷ rest) few e = elim (cases_lt bags 8) [
@@ -149,6 +151,7 @@ module _ {T J : Type 0} (old new who expiry : ℕ) (found : List (Sealed J)) (ba
       put (in_phase now who (Take seen 0)) now.table (record (place now who) { phase = Take seen 0 }) refl lt
       (held old bag (place now who) (place now who).hand (Take seen 0) c.0, c.2 ∙ sym c.3 ∙ on, on, none_taken expiry new found now.queue c.1)
 
+  -- a collection that takes a bag finds a front one that is due, and has taken fewer than eight
   pub due_front : (now : State T J) (answered bags : ℕ) → (is_due now answered && nat_lt bags 8) ≡ true → (0 < length now.queue) × ((slice_index_or now.queue 0 no_bag).seal + now.limits.expiry ≤ answered) × (bags < 8)
   due_front now answered bags due = (grind (arith, nat_tests), grind (arith, nat_tests), grind (arith, nat_tests))
 
@@ -186,6 +189,7 @@ module _ {T J : Type 0} (old new who expiry : ℕ) (found : List (Sealed J)) (ba
     pub next_is : new ≡ next_epoch old now.limits.epoch_max
     pub filled : (c : Sealed J) → Contains now.queue c → 0 < length c.jobs
 
+  -- while nobody else is pinned, a step of a collection leaves it at one of its places
   pub collect_goes : (now : State T J) (phase : Phase) → who < length now.table → IsAlone now → (place now who).phase ≡ phase → (phase ≡ Idle → ⊥)
       → CollectAt old new who expiry found bag now.epoch now.queue (place now who) phase → Collects (gone now who phase)
   collect_goes now Idle lt alone is busy c = absurd (busy refl)

@@ -5,7 +5,7 @@ use Rattle.std.specs.List.{Contains, sum_by}
 use Rattle.std.proofs.lemmas.Bool.{cases_lt}
 use Rattle.std.proofs.lemmas.Bool.Decides.{nat_tests}
 use Rattle.std.proofs.lemmas.List.{get_or_past}
-use Rattle.std.proofs.lemmas.List.Sums.{sum_by-append}
+use Rattle.std.proofs.lemmas.List.Sums.{sum_by-append, sum_by-cons}
 use Rattle.std.proofs.lemmas.List.Elements.{Contains-append_cases}
 use Rattle.crossbeam_epoch.specs.declared.bag.Deferral.{Deferral}
 use Rattle.crossbeam_epoch.specs.declared.bag.Work.TheVariants.{Remove}
@@ -24,9 +24,6 @@ use Rattle.crossbeam_epoch.proofs.lemmas.world.Moves.{none_in, contains_tail, un
 
 contains_head : {A : Type 0} (x : A) (xs : List A) → Contains (x ∷ xs) x
 contains_head x xs = (0, omega arith, refl)
-
-sum_cons : {A : Type 0} (f : A → ℕ) (x : A) (xs : List A) → sum_by f (x ∷ xs) ≡ f x + sum_by f xs
-sum_cons f x xs = omega (arith, sum_by-append f (x ∷ []) xs)
 
 -- who has no stretch blocks no job
 none_blocks : (h : List Mark) (q t : ℕ) → began h q ≡ None → blocks h q t ≡ false
@@ -47,16 +44,17 @@ module _ {J : Type 0} where
   blanks_weigh_none f (p ∷ table) blanks =
       let first : at_place f p ≡ 0 = ap (at_place f) (blanks 0) in
       let rest : sum_by (at_place f) table ≡ 0 = blanks_weigh_none f table (λ q. blanks (suc q)) in
-      omega (arith, first, rest, sum_cons (at_place f) p table)
+      omega (arith, first, rest, sum_by-cons (at_place f) p table)
 
   -- the jobs of all bags weigh what the bags weigh
   jobs_weigh : (f : Deferral J → ℕ) (queue : List (Sealed J)) → sum_by (in_bag f) queue ≡ sum_by f (jobs_of queue)
   jobs_weigh f [] = refl
-  jobs_weigh f (b ∷ queue) = omega (arith, sum_by-append f b.jobs (jobs_of queue), jobs_weigh f queue, sum_cons (in_bag f) b queue)
+  jobs_weigh f (b ∷ queue) = omega (arith, sum_by-append f b.jobs (jobs_of queue), jobs_weigh f queue, sum_by-cons (in_bag f) b queue)
 
-  all_one : (jobs : List (Deferral J)) → sum_by one jobs ≡ length jobs
+  -- jobs that weigh one each weigh as many as they are
+  pub all_one : (jobs : List (Deferral J)) → sum_by one jobs ≡ length jobs
   all_one [] = refl
-  all_one (e ∷ jobs) = omega (arith, all_one jobs, sum_cons one e jobs)
+  all_one (e ∷ jobs) = omega (arith, all_one jobs, sum_by-cons one e jobs)
 
   -- a job that is left stands in some bag
   in_some_bag : (queue : List (Sealed J)) (e : Deferral J) → Contains (jobs_of queue) e → (b : Sealed J) × Contains queue b × Contains b.jobs e
@@ -85,7 +83,7 @@ module _ {T J : Type 0} where
 
   calls_over : (st : Store T) (jobs : List (Deferral J)) (h : List Mark) (t : ℕ) → times_called (history_of_calls st jobs h) t ≡ sum_by (has_ticket t) jobs + times_called h t
   calls_over st [] h t = omega arith
-  calls_over st (e ∷ jobs) h t = let rest = calls_over (after_work st e.work) jobs (Called e.ticket (destroys st e.work) ∷ h) t in omega (arith, rest, sum_cons (has_ticket t) e jobs)
+  calls_over st (e ∷ jobs) h t = let rest = calls_over (after_work st e.work) jobs (Called e.ticket (destroys st e.work) ∷ h) t in omega (arith, rest, sum_by-cons (has_ticket t) e jobs)
 
   graceful_over : (st : Store T) (jobs : List (Deferral J)) (h : List Mark) → ((q t : ℕ) → blocks h q t ≡ false) → IsGraceful h → IsGraceful (history_of_calls st jobs h)
   graceful_over st [] h free g = g
@@ -111,6 +109,7 @@ module _ {T J : Type 0} where
       let blanks : (q : ℕ) → place s q ≡ blank = λ q. all_blank s q t.table none in
       omega (arith, f.once.count, blanks_weigh_none one s.table blanks, jobs_weigh one s.queue, all_one (jobs_of s.queue))
 
+  -- with nobody registered, once all jobs that are left are called each was called once, and none while blocked
   pub tells_ended : (names : T → List Name) (h : List Moment) (s : State T J) → registered_in s ≡ 0 → HasMoments names h s → IsEnded (history_of_calls s.store (jobs_of s.queue) (marks_of h)) s.next
   tells_ended names h s none t = fits_ended (marks_of h) s (λ q. all_blank s q t.table none) t.fits
 
@@ -118,21 +117,26 @@ not_empty : (n : ℕ) → false ≡ (n == 0) → 0 < n
 not_empty n e = grind (arith, nat_tests)
 
 module _ {J : Type 0} where
+  -- jobs whose count isn't zero are some
   pub some_jobs : (jobs : List (Deferral J)) → false ≡ (length jobs == 0) → 0 < length jobs
   some_jobs jobs e = not_empty (length jobs) e
 
+  -- one less, and less the jobs behind the first, is as much as less all jobs
   pub one_less : (jobs : List (Deferral J)) (n : ℕ) → 0 < length jobs → n - 1 - length (remove jobs 0) ≡ n - length jobs
   one_less [] n lt = absurd (omega arith)
   one_less (x ∷ jobs) n lt = omega arith
 
+  -- the jobs behind the first are fewer
   pub fewer : (jobs : List (Deferral J)) → 0 < length jobs → length (remove jobs 0) < length jobs
   fewer [] lt = absurd (omega arith)
   fewer (x ∷ jobs) lt = omega arith
 
+  -- jobs whose count is zero are none
   pub no_jobs : (jobs : List (Deferral J)) → true ≡ (length jobs == 0) → jobs ≡ []
   no_jobs [] e = refl
   no_jobs (x ∷ jobs) e = absurd (grind (arith, nat_tests))
 
+  -- the bags behind the first are fewer
   pub fewer_bags : (b : Sealed J) (queue queue' : List (Sealed J)) → queue ≡ b ∷ queue' → length queue' < length queue
   fewer_bags b queue queue' is = let more = ap (λ (q : List (Sealed J)). length q) is in omega (arith, more)
 
@@ -141,6 +145,7 @@ module _ {J : Type 0} where
   none_left [] queue' same rest = refl
   none_left (b ∷ queue) queue' same rest = let long = ap (λ (q : List (Sealed J)). length q) (same ∙ rest) in absurd (omega (arith, long))
 
+  -- less the first bag's jobs, and less those of the bags behind, is as much as less all jobs
   pub bag_less : (b : Sealed J) (queue queue' : List (Sealed J)) (n : ℕ) → queue ≡ b ∷ queue' → n - length b.jobs - length (jobs_of queue') ≡ n - length (jobs_of queue)
   bag_less b queue queue' n is = rw is (omega (arith, length-append b.jobs (jobs_of queue')))
 
@@ -155,8 +160,10 @@ module _ {T J : Type 0} where
   after_both st [] ys = refl
   after_both st (x ∷ xs) ys = after_both (after_work st x.work) xs ys
 
+  -- the first bag's jobs called, and then those of the bags behind, leave the cells as all jobs called do
   pub bag_after : (st : Store T) (b : Sealed J) (queue queue' : List (Sealed J)) → queue ≡ b ∷ queue' → after_jobs (after_jobs st b.jobs) (jobs_of queue') ≡ after_jobs st (jobs_of queue)
   bag_after st b queue queue' is = rw is (sym (after_both st b.jobs (jobs_of queue')))
 
+  -- with one more place counted, the count is that of the registered ones below the next
   pub registered_more : (s : State T J) (n m k : ℕ) (b : Bool) → m ≡ suc n → (place s n).registered ≡ b → k ≡ registered_below s n + (if b then 1 else 0) → k ≡ registered_below s m
   registered_more s n m k b is at count = count ∙ ap (λ (x : Bool). registered_below s n + (if x then 1 else 0)) (sym at) ∙ sym (ap (registered_below s) is)

@@ -10,6 +10,7 @@ use Rattle.crossbeam_epoch.proofs.lemmas.world.Runs.{fits_run}
 use Rattle.crossbeam_epoch.proofs.lemmas.world.Told.{tells_run}
 
 module _ {T J : Type 0} where
+  -- the steps of a whole call lead on each history, the moments and the log
   pub leads_on : (names : T → List Name) (s s' : State T J) (who : ℕ) (op : Op) (most : ℕ) (reports : List Report) (newest : Option Report) → IsCall s who op most reports newest s' → Extends names s who op reports s'
   leads_on names s s' who op most reports newest c = record {
     kept = λ h f. rw c.state (fits_run h s (call_steps who op (length reports)) reports c.legal f);

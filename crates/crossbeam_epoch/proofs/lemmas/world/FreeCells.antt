@@ -28,10 +28,6 @@ one_is_true false n e = absurd (omega (arith, e))
 abbrev bit : Bool → ℕ
 bit b = if b then 1 else 0
 
-none_is_false : (b : Bool) → bit b ≡ 0 → b ≡ false
-none_is_false true e = absurd (omega (arith, e))
-none_is_false false e = refl
-
 no_bit : (a : Bool) → bit (a && false) ≡ 0
 no_bit true = refl
 no_bit false = refl
@@ -66,7 +62,7 @@ open_set_other : {T : Type 0} (cells : List (Cell T)) (at turn_max i : ℕ) (c :
 open_set_other cells at turn_max i c ne = rw (length-set, get_or-set_other cells at i c fresh ne) refl
 
 -- one cell changes, and the list with it
-pub fits_set : {T : Type 0} (cells : List (Cell T)) (free free' : List ℕ) (at most turn_max : ℕ) (c : Cell T)
+fits_set : {T : Type 0} (cells : List (Cell T)) (free free' : List ℕ) (at most turn_max : ℕ) (c : Cell T)
     → at < length cells → FitsFree cells free most turn_max
     → ((i : ℕ) → i ≢ at → times i free' ≡ times i free) → times at free' ≡ (if is_reusable turn_max c then 1 else 0)
     → length free' + not_reusable turn_max c ≡ length free + not_reusable turn_max (get_or cells at fresh)
@@ -83,9 +79,6 @@ fits_set cells free free' at most turn_max c lt f same here long = record {
       omega (arith, r, s, l, long);
   few = let l = f.few in rw length-set l;
 }
-
-some_busy : {T : Type 0} (turn_max turns : ℕ) (v : T) → is_reusable turn_max (record { turns = turns; value = Some v }) ≡ false
-some_busy turn_max turns v = refl
 
 -- a cell of the list is given a value
 pub fits_used : {T : Type 0} (cells : List (Cell T)) (rest : List ℕ) (at most turn_max turns : ℕ) (v : T)
@@ -183,31 +176,6 @@ fits_pushed {T} cells most turn_max turns v f lt =
       few = let l = length_push cells c in omega (arith, l, lt);
     }
 
--- an empty list of free cells, and no cell left
-pub none_usable : {T : Type 0} (cells : List (Cell T)) (most turn_max : ℕ) → FitsFree cells [] most turn_max → most ≤ length cells → (i : ℕ) → is_usable (record { cells = cells; most = most; turn_max = turn_max }) i ≡ false
-none_usable {T} cells most turn_max f le i =
-    let closed = none_is_false (is_reusable_at cells turn_max i) (sym (f.each i)) in
-    by_inside (nat_lt i most) (is_none (get_or cells i fresh).value) (nat_le (get_or cells i fresh).turns turn_max) (nat_lt i (length cells)) (grind (arith, nat_tests)) closed
-  where
-    by_inside : (a b d e : Bool) → (a ≡ true → e ≡ true) → (e && (b && d)) ≡ false → (a && b && d) ≡ false
-    by_inside false b d e on is = by_pair b d
-      where
-        by_pair : (b d : Bool) → (false && b && d) ≡ false
-        by_pair true true = refl
-        by_pair true false = refl
-        by_pair false true = refl
-        by_pair false false = refl
-    by_inside true b d true on is = is
-    by_inside true b d false on is = absurd (cc (on refl))
-
--- nothing was used yet
-pub fits_none : {T : Type 0} (most turn_max : ℕ) → FitsFree {T = T} [] [] most turn_max
-fits_none {T} most turn_max = record {
-  each = λ i. let out : nat_lt i 0 ≡ false = grind (arith, nat_tests) in sym (ap (λ (b : Bool). bit (b && is_reusable {T = T} turn_max fresh)) out);
-  room = refl;
-  few = omega arith;
-}
-
 -- what is seen to have a value has one
 pub some_of : {T : Type 0} (o : Option T) → is_some o ≡ true → (v : T) × (o ≡ Some v)
 some_of None e = absurd (cc e)
@@ -238,11 +206,3 @@ some_usable cells (x ∷ xs) most turn_max f e =
     let is : is_reusable_at cells turn_max x ≡ true = one_is_true (is_reusable_at cells turn_max x) (times x xs) (omega (arith, here, sum) ∙ each) in
     let few = f.few in
     (x, grind (arith, nat_tests))
-
--- a cell that was never used is usable
-pub next_usable : {T : Type 0} (cells : List (Cell T)) (most turn_max : ℕ) → length cells < most → (i : ℕ) × (is_usable (record { cells = cells; most = most; turn_max = turn_max }) i ≡ true)
-next_usable cells most turn_max lt = (length cells, rw (past cells) (grind (arith, nat_tests)))
-  where
-    past : {T : Type 0} (cells : List (Cell T)) → get_or cells (length cells) fresh ≡ fresh
-    past [] = refl
-    past (c ∷ cs) = past cs

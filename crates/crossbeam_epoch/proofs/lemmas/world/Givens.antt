@@ -48,12 +48,15 @@ module _ {T : Type 0} where
     | inr ne ↦ rw (get_or-set_other st.cells i j (record { turns = (cell_at st i).turns; value = v }) fresh ne) refl
   ]
 
+  -- a name that was given stays so where a cell is emptied
   pub emptied_keeps : (st : Store T) (i : ℕ) → Keeps st (emptied st i)
   emptied_keeps st i = by_turns st (emptied st i) (λ j. let e = set_turns st i j None in omega (arith, e))
 
+  -- a name that was given stays so where a value is replaced
   pub replaced_keeps : (st : Store T) (i : ℕ) (v : T) → Keeps st (replaced st i v)
   replaced_keeps st i v = by_turns st (replaced st i v) (λ j. let e = set_turns st i j (Some v) in omega (arith, e))
 
+  -- a cell that was made another is that one
   pub cell_itself : (st : Store T) (i : ℕ) (c : Cell T) → i ≤ length st.cells → cell_at (with_cell st i c) i ≡ c
   cell_itself st i c near = by_test (nat_lt i (length st.cells)) refl
     where
@@ -61,6 +64,7 @@ module _ {T : Type 0} where
       by_test true e = get_or-set_same st.cells i c fresh (grind (arith, nat_tests))
       by_test false e = let last : length st.cells ≡ i = grind (arith, nat_tests) in get_or_push st.cells c fresh i last
 
+  -- a name that was given stays so where a value is placed
   pub placed_keeps : (st : Store T) (name : Name) (v : T) → IsNext st name → ((j : ℕ) → j ≢ name.cell → cell_at (placed st name v) j ≡ cell_at st j) → Keeps st (placed st name v)
   placed_keeps st name v next others = by_turns st (placed st name v) (λ j. elim (cases_eq j name.cell) [
     | inl is ↦

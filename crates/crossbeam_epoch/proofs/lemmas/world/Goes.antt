@@ -104,9 +104,9 @@ module _ {T J : Type 0} where
   ]
 
   -- a call begins between calls
-  pub begins : (s s' : State T J) (who : ℕ) (op : Op) (o : Outcome) (r : Report) → (place s who).registered ≡ true → (place s who).phase ≡ Idle → who < length s.table
+  pub begin_steps : (s s' : State T J) (who : ℕ) (op : Op) (o : Outcome) (r : Report) → (place s who).registered ≡ true → (place s who).phase ≡ Idle → who < length s.table
       → o ≡ outcome_or (begin_fault op (place s who)) (begun_at op (place s who)) → s' ≡ with_place s who (place_or (begin_fault op (place s who)) (begun_at op (place s who)) (place s who)) → r ≡ record { called = None; outcome = o } → Steps s s' who (Begin op) r
-  begins s s' who op o r reg is lt on st at =
+  begin_steps s s' who op o r reg is lt on st at =
       let f = begin_fault op (place s who) in
       let none = fault_of s who op Idle f reg is refl in
       subst (λ x. Steps s s' who (Begin op) x) (sym at) (
@@ -154,7 +154,7 @@ module _ {T J : Type 0} where
       ]
 
   -- a step that finds no memory
-  pub goes_without : (s s' : State T J) (who : ℕ) (phase : Phase) (r : Report) → (place s who).registered ≡ true → (place s who).phase ≡ phase → event_fault Go phase (place s who) ≡ None
+  goes_without : (s s' : State T J) (who : ℕ) (phase : Phase) (r : Report) → (place s who).registered ≡ true → (place s who).phase ≡ phase → event_fault Go phase (place s who) ≡ None
       → needs_memory Go phase ≡ true → s.room ≡ 0 → r ≡ record { called = None; outcome = Refused F.Memory } → s' ≡ in_phase s who Idle → Goes s s' who r
   goes_without s s' who phase r reg is none needs full at st =
       let free = no_fault s who phase reg is none in

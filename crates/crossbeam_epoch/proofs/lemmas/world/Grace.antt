@@ -37,12 +37,14 @@ collecting_goes h h' epoch epoch' next who p seen passed c g ne le = record {
 }
 
 module _ {J : Type 0} where
+  -- jobs that were accepted stay so where the history goes on
   pub accepted_goes : (h h' : List Mark) (epoch next next' who : ℕ) (jobs : List (Deferral J)) → AreAccepted h next jobs → Goes h epoch next who h' → next ≤ next' → AreAccepted h' next' jobs
   accepted_goes h h' epoch next next' who jobs a g le = record {
     below = λ e m. let lt = a.below e m in omega arith;
     named = λ e n m is. g.deferred e.ticket n (a.named e n m is);
   }
 
+  -- a bag that was sealed stays so where the history goes on
   pub sealed_goes : (h h' : List Mark) (epoch next next' who seal : ℕ) (jobs : List (Deferral J)) → IsSealed h next jobs seal → Goes h epoch next who h' → next ≤ next' → IsSealed h' next' jobs seal
   sealed_goes h h' epoch next next' who seal jobs s g le = record {
     accepted = accepted_goes h h' epoch next next' who jobs s.accepted g le;

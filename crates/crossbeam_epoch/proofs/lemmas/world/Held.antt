@@ -41,17 +41,18 @@ is_full_at n b is some = let at_64 : (n == 64) ≡ true = sym is ∙ some in gri
 
 module _ {T J : Type 0} where
   -- what was read at an index of the table is the place
-  pub held : (s v : State T J) (who : ℕ) (old : Participant J) → v ≡ s → who < length s.table → old ≡ get_or v.table who old → old ≡ place s who
-  held s v who old is lt read = get_or_read s.table who old lt (subst (λ (x : State T J). old ≡ get_or x.table who old) is read) blank
+  pub place_read : (s v : State T J) (who : ℕ) (old : Participant J) → v ≡ s → who < length s.table → old ≡ get_or v.table who old → old ≡ place s who
+  place_read s v who old is lt read = get_or_read s.table who old lt (subst (λ (x : State T J). old ≡ get_or x.table who old) is read) blank
 
   -- past the table's end a place is blank
   pub past_end : (s v : State T J) (who : ℕ) → v ≡ s → length v.table ≤ who → place s who ≡ blank
   past_end s v who is past = get_or_past s.table who blank (subst (λ (x : State T J). length x.table ≤ who) is past)
 
   -- a place that a look at an index of the table found
-  pub found : (s v : State T J) (xs : List (Participant J)) (at : ℕ) (p : Participant J) → v ≡ s → xs ≡ v.table → true ≡ nat_lt at (length xs) → p ≡ get_or xs at p → p ≡ place s at
-  found s v xs at p is same inside read = get_or_read xs at p (is_within at (length xs) inside) read blank ∙ ap (λ (ys : List (Participant J)). get_or ys at blank) (same ∙ ap (λ (x : State T J). x.table) is)
+  pub place_found : (s v : State T J) (xs : List (Participant J)) (at : ℕ) (p : Participant J) → v ≡ s → xs ≡ v.table → true ≡ nat_lt at (length xs) → p ≡ get_or xs at p → p ≡ place s at
+  place_found s v xs at p is same inside read = get_or_read xs at p (is_within at (length xs) inside) read blank ∙ ap (λ (ys : List (Participant J)). get_or ys at blank) (same ∙ ap (λ (x : State T J). x.table) is)
 
+  -- a look that found an index in the table was at one of its places
   pub found_within : (s v : State T J) (xs : List (Participant J)) (at : ℕ) → v ≡ s → xs ≡ v.table → true ≡ nat_lt at (length xs) → at < length s.table
   found_within s v xs at is same inside = subst (λ (ys : List (Participant J)). at < length ys) (same ∙ ap (λ (x : State T J). x.table) is) (is_within at (length xs) inside)
 
@@ -69,7 +70,7 @@ module _ {T J : Type 0} where
 
   -- what was read is made another, and nothing else changes
   pub placed_at : (s v : State T J) (who : ℕ) (x old : Participant J) (f : Participant J → Participant J) → v ≡ s → who < length s.table → old ≡ get_or v.table who old → x ≡ f old → with_place v who x ≡ with_place s who (f (place s who))
-  placed_at s v who x old f is lt read made = ap (λ (y : State T J). with_place y who x) is ∙ ap (λ (p : Participant J). with_place s who p) (made ∙ ap f (held s v who old is lt read))
+  placed_at s v who x old f is lt read made = ap (λ (y : State T J). with_place y who x) is ∙ ap (λ (p : Participant J). with_place s who p) (made ∙ ap f (place_read s v who old is lt read))
 
   -- the same, where the queue has new room
   pub placed_beside : (s v : State T J) (who : ℕ) (x old : Participant J) (f : Participant J → Participant J) (queue : List (Sealed J)) (room : ℕ) → v ≡ s → who < length s.table → old ≡ get_or v.table who old → x ≡ f old → queue ≡ v.queue → room ≡ v.room
@@ -83,7 +84,7 @@ module _ {T J : Type 0} where
   pub queued_at : (s v : State T J) (who seal : ℕ) (x old : Participant J) (f : Participant J → Participant J) (queue : List (Sealed J)) (room : ℕ) → v ≡ s → who < length s.table → old ≡ get_or v.table who old → x ≡ f old → queue ≡ v.queue ++ record { seal = seal; jobs = old.bag } ∷ [] → room ≡ room_behind v.room
       → record v { table = slice_set v.table who x; queue = queue; room = room } ≡ record s { table = slice_set s.table who (f (place s who)); queue = s.queue ++ record { seal = seal; jobs = (place s who).bag } ∷ []; room = room_behind s.room }
   queued_at s v who seal x old f queue room is lt read made queued behind =
-      let at : old ≡ place s who = held s v who old is lt read in
+      let at : old ≡ place s who = place_read s v who old is lt read in
       ap (λ r. record v { table = slice_set v.table who x; queue = queue; room = r }) behind
       ∙ ap (λ q. record v { table = slice_set v.table who x; queue = q; room = room_behind v.room }) queued
       ∙ ap (λ (y : State T J). record y { table = slice_set y.table who x; queue = y.queue ++ record { seal = seal; jobs = old.bag } ∷ []; room = room_behind y.room }) is
@@ -98,7 +99,7 @@ module _ {T J : Type 0} where
   pub called_none : (s v : State T J) (who answered bags seal : ℕ) (old : Participant J) → v ≡ s → who < length s.table → old ≡ get_or v.table who old → (length old.hand == 0) ≡ true
       → (with_place v who (record old { phase = Idle }) ≡ called s who answered bags seal) × (None ≡ called_by s.store (Call answered bags seal) (place s who).hand)
   called_none s v who answered bags seal old is lt read empty =
-      let none : (length (place s who).hand == 0) ≡ true = subst (λ (p : Participant J). (length p.hand == 0) ≡ true) (held s v who old is lt read) empty in (
+      let none : (length (place s who).hand == 0) ≡ true = subst (λ (p : Participant J). (length p.hand == 0) ≡ true) (place_read s v who old is lt read) empty in (
         placed_at s v who (record old { phase = Idle }) old (λ p. record p { phase = Idle }) is lt read refl ∙ sym (ap (λ b. if b then in_phase s who Idle else called_one s who answered bags seal) none),
         sym (ap (λ b. if b then None else Some (called_entry s.store (get_or (place s who).hand 0 no_entry))) none),
       )
@@ -109,7 +110,7 @@ module _ {T J : Type 0} where
       → (record v { table = slice_set v.table who (record old { hand = rest; phase = phase }); next = given.next; waiting = given.waiting; store = store } ≡ called s who answered bags seal)
       × (Some (e.ticket, destroyed) ≡ called_by s.store (Call answered bags seal) (place s who).hand)
   called_first s v who answered bags seal old rest e phase given store destroyed is lt read some first others goes counts works gone =
-      let at : old ≡ place s who = held s v who old is lt read in
+      let at : old ≡ place s who = place_read s v who old is lt read in
       let full : (length (place s who).hand == 0) ≡ false = subst (λ (p : Participant J). (length p.hand == 0) ≡ false) at some in
       let front : e ≡ get_or (place s who).hand 0 no_entry = subst (λ (p : Participant J). e ≡ get_or p.hand 0 no_entry) at (get_or_read old.hand 0 e (is_some_job old.hand some) first no_entry) in
       let x : Participant J = record old { hand = rest; phase = phase } in
@@ -141,7 +142,7 @@ module _ {T J : Type 0} where
       ∙ ap (λ (p : Participant J). record v { table = slice_set v.table who p; queue = drop 1 v.queue; room = room_left (length (drop 1 v.queue)) v.room }) made
       ∙ ap (λ (y : Sealed J). record v { table = slice_set v.table who (record old { hand = y.jobs; phase = Call answered (bags + 1) y.seal }); queue = drop 1 v.queue; room = room_left (length (drop 1 v.queue)) v.room }) front
       ∙ ap (λ (y : State T J). record y { table = slice_set y.table who (record old { hand = (get_or y.queue 0 no_bag).jobs; phase = Call answered (bags + 1) (get_or y.queue 0 no_bag).seal }); queue = drop 1 y.queue; room = room_left (length (drop 1 y.queue)) y.room }) is
-      ∙ ap (λ (p : Participant J). record s { table = slice_set s.table who (record p { hand = (get_or s.queue 0 no_bag).jobs; phase = Call answered (bags + 1) (get_or s.queue 0 no_bag).seal }); queue = drop 1 s.queue; room = room_left (length (drop 1 s.queue)) s.room }) (held s v who old is lt read)
+      ∙ ap (λ (p : Participant J). record s { table = slice_set s.table who (record p { hand = (get_or s.queue 0 no_bag).jobs; phase = Call answered (bags + 1) (get_or s.queue 0 no_bag).seal }); queue = drop 1 s.queue; room = room_left (length (drop 1 s.queue)) s.room }) (place_read s v who old is lt read)
       ∙ sym (ap (λ d. if d && nat_lt bags 8 then taken s who answered bags else in_phase s who Idle) due ∙ ap (λ d. if d then taken s who answered bags else in_phase s who Idle) below)
 
   -- the epoch is set, or is the last one
@@ -150,6 +151,7 @@ module _ {T J : Type 0} where
       ap (λ (y : State T J). record y { epoch = seen + 1 }) (placed_at s v who x old (λ p. record p { phase = Take (seen + 1) 0 }) is lt read made)
       ∙ sym (ap (λ b. if b then record (in_phase s who (Take (seen + 1) 0)) { epoch = seen + 1 } else in_phase s who (Take seen 0)) (is_below seen s.limits.epoch_max (subst (λ (y : State T J). seen < y.limits.epoch_max) is below)))
 
+  -- a collection that passed all places at the greatest epoch leaves it, and goes on to take bags
   pub stayed_at : (s v : State T J) (who seen : ℕ) (x old : Participant J) → v ≡ s → who < length s.table → old ≡ get_or v.table who old → x ≡ record old { phase = Take seen 0 } → v.limits.epoch_max ≤ seen → with_place v who x ≡ advanced s who seen
   stayed_at s v who seen x old is lt read made past =
       placed_at s v who x old (λ p. record p { phase = Take seen 0 }) is lt read made
@@ -162,7 +164,7 @@ module _ {T J : Type 0} where
       ap (λ (y : TicketCount). record v { table = slice_set v.table who x; next = y.next; waiting = y.waiting }) counts
       ∙ ap (λ (y : State T J). record y { table = slice_set y.table who x; next = y.next + 1; waiting = y.waiting + 1 }) is
       ∙ ap (λ (p : Participant J). record s { table = slice_set s.table who p; next = s.next + 1; waiting = s.waiting + 1 })
-      (made ∙ ap (λ (p : Participant J). record p { bag = p.bag ++ record { ticket = ticket; work = work } ∷ [] }) (held s v who old is lt read)
+      (made ∙ ap (λ (p : Participant J). record p { bag = p.bag ++ record { ticket = ticket; work = work } ∷ [] }) (place_read s v who old is lt read)
       ∙ ap (λ t. record (place s who) { bag = (place s who).bag ++ record { ticket = t; work = work } ∷ [] }) (number ∙ ap (λ (y : State T J). y.next) is))
 
   -- a job in a new bag; the old one is queued
@@ -170,7 +172,7 @@ module _ {T J : Type 0} where
       → x ≡ record old { bag = record { ticket = ticket; work = work } ∷ [] } → queue ≡ v.queue ++ record { seal = v.epoch; jobs = old.bag } ∷ [] → room ≡ room_behind v.room
       → record v { table = slice_set v.table who x; queue = queue; room = room; next = given.next; waiting = given.waiting } ≡ deferred_anew s who work
   anew_at s v who x old work ticket given queue room is lt read number counts made queued behind =
-      let at : old ≡ place s who = held s v who old is lt read in
+      let at : old ≡ place s who = place_read s v who old is lt read in
       ap (λ (y : TicketCount). record v { table = slice_set v.table who x; queue = queue; room = room; next = y.next; waiting = y.waiting }) counts
       ∙ ap (λ r. record v { table = slice_set v.table who x; queue = queue; room = r; next = v.next + 1; waiting = v.waiting + 1 }) behind
       ∙ ap (λ q. record v { table = slice_set v.table who x; queue = q; room = room_behind v.room; next = v.next + 1; waiting = v.waiting + 1 }) queued
@@ -194,6 +196,7 @@ module _ {T J : Type 0} where
   pub after_put : (s : State T J) (who : ℕ) (work : Work J) → (length (place s who).bag == 64) ≡ false → deferred s who work ≡ after_deferral s who work
   after_put s who work free = sym (ap (λ b. if b then deferred_anew s who work else deferred s who work) free)
 
+  -- a deferral into a full bag is one into a new bag
   pub after_anew : (s : State T J) (who : ℕ) (work : Work J) → (length (place s who).bag == 64) ≡ true → deferred_anew s who work ≡ after_deferral s who work
   after_anew s who work full = sym (ap (λ b. if b then deferred_anew s who work else deferred s who work) full)
 

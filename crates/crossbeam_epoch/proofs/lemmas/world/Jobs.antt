@@ -58,9 +58,10 @@ module _ {J : Type 0} where
     late = λ e q b m on n. i.late e q b (behind jobs e m) on n;
   }
 
-  first_and_rest : (f : Deferral J → ℕ) (jobs : List (Deferral J)) → 0 < length jobs → sum_by f jobs ≡ f (slice_index_or jobs 0 no_entry) + sum_by f (remove jobs 0)
-  first_and_rest f [] lt = absurd (omega arith)
-  first_and_rest f (x ∷ rest) lt = omega (arith, sum_by-append f (x ∷ []) rest)
+  -- the first job of a bag and the others make up its sum
+  pub first_job : (f : Deferral J → ℕ) (jobs : List (Deferral J)) → 0 < length jobs → sum_by f jobs ≡ f (slice_index_or jobs 0 no_entry) + sum_by f (remove jobs 0)
+  first_job f [] lt = absurd (omega arith)
+  first_job f (x ∷ rest) lt = omega (arith, sum_by-append f (x ∷ []) rest)
 
   after_phase : (h : List Mark) (epoch next places who answered bags seal : ℕ) (bag rest : List (Deferral J)) (some room : Bool) → answered ≤ epoch → seal + 2 ≤ answered → IsSealed h next rest seal
       → InPhase h epoch next places who bag rest (if some then Call answered bags seal else if room then Take answered bags else Idle)
@@ -68,7 +69,13 @@ module _ {J : Type 0} where
   after_phase h epoch next places who answered bags seal bag rest false true past old i = past
   after_phase h epoch next places who answered bags seal bag rest false false past old i = tt
 
-  hand_after : (rest : List (Deferral J)) (answered bags seal : ℕ) (b : Bool) → nat_lt 0 (length rest) ≡ b → HandFits (after_call (length rest) answered bags seal) rest
+  -- where the number of jobs is zero there are none
+  pub no_items : (xs : List (Deferral J)) → (length xs == 0) ≡ true → xs ≡ []
+  no_items [] e = refl
+  no_items (x ∷ xs) e = absurd (grind (arith, nat_tests))
+
+  -- after a call of a job the hand fits what comes next
+  pub hand_after : (rest : List (Deferral J)) (answered bags seal : ℕ) (b : Bool) → nat_lt 0 (length rest) ≡ b → HandFits (after_call (length rest) answered bags seal) rest
   hand_after [] answered bags seal b e = none_in_hand (after_call 0 answered bags seal) [] refl
   hand_after (x ∷ rest) answered bags seal true e = rw e tt
   hand_after (x ∷ rest) answered bags seal false e = absurd (grind (arith, nat_tests))
@@ -135,10 +142,10 @@ module _ {T J : Type 0} where
       })
       (queue_goes h h' s who s.next f g (omega arith))
       (record {
-        each = λ t. let one_less = first_and_rest (has_ticket t) old.hand some in omega arith;
+        each = λ t. let one_less = first_job (has_ticket t) old.hand some in omega arith;
         tickets = f.once.tickets;
         count =
-            let one_less = first_and_rest one old.hand some in
+            let one_less = first_job one old.hand some in
             let here = get_or-le-sum_by (at_place one) s.table who blank in_table in
             omega arith;
       })
@@ -146,12 +153,9 @@ module _ {T J : Type 0} where
   by_empty : (h : List Mark) (s : State T J) (who answered bags seal : ℕ) (empty : Bool) → who < length s.table → (place s who).phase ≡ Call answered bags seal → (length (place s who).hand == 0) ≡ empty → Fits h s
       → Fits (call_marks (if empty then None else Some ((slice_index_or (place s who).hand 0 no_entry).ticket, destroys s.store (slice_index_or (place s who).hand 0 no_entry).work)) h) (if empty then in_phase s who Idle else called_one s who answered bags seal)
   by_empty h s who answered bags seal true in_table is e f = fits_idle h s who in_table (no_items (place s who).hand e) f
-    where
-      no_items : (xs : List (Deferral J)) → (length xs == 0) ≡ true → xs ≡ []
-      no_items [] e = refl
-      no_items (x ∷ xs) e = absurd (grind (arith, nat_tests))
   by_empty h s who answered bags seal false in_table is e f = fits_called_one h s who answered bags seal in_table is (grind (arith, nat_tests)) f
 
+  -- a history with the call of a job in hand fits the state after the call
   pub fits_called : (h : List Mark) (s : State T J) (who answered bags seal : ℕ) → who < length s.table → (place s who).phase ≡ Call answered bags seal → Fits h s
       → Fits (call_marks (called_by s.store (Call answered bags seal) (place s who).hand) h) (called s who answered bags seal)
   fits_called h s who answered bags seal in_table is f = by_empty h s who answered bags seal (length (place s who).hand == 0) in_table is refl f
@@ -199,5 +203,6 @@ module _ {T J : Type 0} where
   by_full h s who work true lt is f = fits_deferred_anew h s who work lt is f
   by_full h s who work false lt is f = fits_deferred h s who work lt is f
 
+  -- a history with a job's deferral fits the state after it
   pub fits_after_deferral : (h : List Mark) (s : State T J) (who : ℕ) (work : Work J) → who < length s.table → (place s who).phase ≡ Idle → Fits h s → Fits (Deferred s.next (name_of work) ∷ h) (after_deferral s who work)
   fits_after_deferral h s who work lt is f = by_full h s who work (length (place s who).bag == 64) lt is f

@@ -32,7 +32,7 @@ use Rattle.crossbeam_epoch.specs.World.Steps.{outcome_at, begin_fault, event_fau
 use Rattle.crossbeam_epoch.proofs.lemmas.world.Reaches.{seen_stands}
 use Rattle.crossbeam_epoch.proofs.lemmas.world.Told.{marks_act}
 use Rattle.crossbeam_epoch.proofs.lemmas.world.Undated.{undated_began, undated_graceful, undated_calls, undated_deferrals, undated_later}
-use Rattle.crossbeam_epoch.proofs.lemmas.world.Runs.{in_table, known, begin_idle, refused_begin, off, blank_at, word_none as is_none_now, not_some as not_some_now}
+use Rattle.crossbeam_epoch.proofs.lemmas.world.Runs.{in_table, known_if_faultless, begin_idle, refused_begin, off, blank_at, word_none as is_none_now, not_some as not_some_now}
 
 past_more_by : (op : Op) (n : ℕ) → IsPastBy op n → IsPastBy op (n + 1)
 past_more_by O.Pin n p = omega arith
@@ -324,11 +324,11 @@ module _ {T J : Type 0} where
   moving : (event : Event) (o : Outcome) (f : Option Flight) (n : ℕ) (s : State T J) (who : ℕ) → fault s who event ≡ None → outcome_at (place (moved s who event) who).phase ≡ o → AgreesAt f n (place s who)
       → Turns (flight_after event o f) (guards_after event o f n) s who (moved s who event)
   moving (Begin op) o f n s who e k a =
-      let x = known (place s who).registered (event_fault (Begin op) (place s who).phase (place s who)) e in
+      let x = known_if_faultless (place s who).registered (event_fault (Begin op) (place s who).phase (place s who)) e in
       let idle = begin_idle op (place s who).phase (place s who) x.1 in
       landed (Begin op) o f n s who (begun s who op) (in_table s who x.0) (puts (Begin op) f n s who (begun_at op (place s who)) _ refl (first f n op (place s who) (rw idle at x.1) a idle)) k
   moving Go o f n s who e k a =
-      let x = known (place s who).registered (event_fault Go (place s who).phase (place s who)) e in
+      let x = known_if_faultless (place s who).registered (event_fault Go (place s who).phase (place s who)) e in
       landed Go o f n s who (gone s who (place s who).phase) (in_table s who x.0) (going f n s who (place s who).phase x.1 a a.phase) k
 
   -- a step that finds no memory
@@ -343,7 +343,7 @@ module _ {T J : Type 0} where
       let same : Some F.Memory ≡ Some x = ap (λ (y : Outcome). fault_of y) o in
       absurd (no_such_fault (place s who).registered (place s who).phase (place s who) (is ∙ sym same))
   no_memory f n s who None is o a =
-      let k = known (place s who).registered (event_fault Go (place s who).phase (place s who)) is in
+      let k = known_if_faultless (place s who).registered (event_fault Go (place s who).phase (place s who)) is in
       gives_up f n s who (needs_memory Go (place s who).phase) (in_table s who k.0) o.0 a
 
   refused_go : (f : Option Flight) (n : ℕ) (s : State T J) (who : ℕ) (e : Option Fault) (x : Fault) → fault s who Go ≡ e → IsOutcome s who Go e (Refused x) → AgreesAt f n (place s who)
@@ -399,7 +399,7 @@ module _ {T J : Type 0} where
   marked_move : (f : Option Flight) (n : ℕ) (s : State T J) (who : ℕ) (event : Event) (c : Option (ℕ × Option Name)) (h : List Mark) → fault s who event ≡ None → AgreesAt f n (place s who)
       → undated (moved_marks s who event c h) ≡ event_marks who event c f n (undated h)
   marked_move f n s who (Begin op) c h e a =
-      let x = known (place s who).registered (event_fault (Begin op) (place s who).phase (place s who)) e in
+      let x = known_if_faultless (place s who).registered (event_fault (Begin op) (place s who).phase (place s who)) e in
       let idle = begin_idle op (place s who).phase (place s who) x.1 in
       marked_begin f n who (place s who) op c h (rw idle at x.1) a
   marked_move f n s who Go c h e a = marked_call f n s who s.epoch (place s who).phase c h a.phase
@@ -437,6 +437,7 @@ module _ {T J : Type 0} where
   shows_run log h s (step ∷ steps) (r ∷ reports) are w =
       shows_run (Stepped step r ∷ log) (marks s step.who step.event r h) (after s step.who step.event r.outcome) steps reports are.1 (shows_step log h s step r are.0 w)
 
+  -- an empty log shows an empty history, and a new collector
   pub shows_opened : (limits : Limits) (roots : ℕ) → Shows {T = T} {J = J} [] [] (opened limits roots)
   shows_opened limits roots = record { history = refl; places = λ q. rw (blank_at limits.participants q) (record { count = refl; pinned = refl; phase = refl }) }
 
@@ -448,6 +449,7 @@ module _ {T J : Type 0} where
       let s' = after s step.who step.event r.outcome in
       moments_marks names (moment names (step_act s step.who step.event r) s' ∷ h) s' steps reports ∙ ap (λ g. history_after s' steps reports g) (marks_act s step.who step.event r (marks_of h))
 
+  -- the log after a run shows the marks of its moments, and the state after it
   pub shows_moments : (names : T → List Name) (log : List LogLine) (h : List Moment) (s : State T J) (steps : List Step) (reports : List Report) → AreReports s steps reports → Shows log (marks_of h) s
       → Shows (log_after steps reports log) (marks_of (moments_after names s steps reports h)) (state_after s steps reports)
   shows_moments names log h s steps reports are w =
@@ -464,6 +466,7 @@ module _ {T J : Type 0} where
     | inr ne ↦ rw (put_off s s' who p q e ne) (all q)
   ]
 
+  -- the log shows the state after a registration
   pub shows_registered : (log : List LogLine) (h : List Mark) (s : State T J) (n : ℕ) → Shows log h s → Shows log h (registered s n)
   shows_registered log h s n w =
       let a = w.places n in
@@ -483,12 +486,15 @@ module _ {T J : Type 0} where
         places = stays_at log s (deferred s who work) who (record (place s who) { bag = (place s who).bag ++ record { ticket = s.next; work = work } ∷ [] }) refl (record { count = a.count; pinned = a.pinned; phase = a.phase }) w.places;
       }
 
+  -- the log with an accepted job shows its deferral, and the state after it
   pub shows_deferred : (log : List LogLine) (h : List Mark) (s : State T J) (who : ℕ) (work : Work J) → Shows log h s → Shows (Accepted s.next (name_of work) ∷ log) (Deferred s.next (name_of work) ∷ h) (after_deferral s who work)
   shows_deferred log h s who work w = by_full log h s who work (length (place s who).bag == 64) w
 
+  -- the log shows the state after its cells changed
   pub shows_stored : (log : List LogLine) (h : List Mark) (s : State T J) (st : Store T) → Shows log h s → Shows log h (with_store s st)
   shows_stored log h s st w = record { history = w.history; places = w.places }
 
+  -- the log shows the state after its roots changed
   pub shows_rooted : (log : List LogLine) (h : List Mark) (s : State T J) (roots : List Ptr) → Shows log h s → Shows log h (with_roots s roots)
   shows_rooted log h s roots w = record { history = w.history; places = w.places }
 
@@ -496,9 +502,11 @@ module _ {T J : Type 0} where
   pub log_graceful : (log : List LogLine) (h : List Mark) (s : State T J) → Shows log h s → Fits h s → IsGraceful (history_of log)
   log_graceful log h s w f = subst (λ g. IsGraceful g) w.history (undated_graceful h f.graceful)
 
+  -- by the log, only removals that were accepted destroy a cell
   pub log_later : (log : List LogLine) (h : List Mark) (s : State T J) → Shows log h s → Fits h s → AreCalledLater (history_of log)
   log_later log h s w f = subst (λ g. AreCalledLater g) w.history (undated_later h f.later)
 
+  -- by the log, each job below the next ticket was accepted once, and stands in one bag or was called once
   pub log_once : (log : List LogLine) (h : List Mark) (s : State T J) (t : ℕ) → Shows log h s → Fits h s
       → (times_held s t + times_called (history_of log) t ≡ deferrals (history_of log) t) × (deferrals (history_of log) t ≡ (if nat_lt t s.next then 1 else 0))
   log_once log h s t w f =
@@ -506,12 +514,14 @@ module _ {T J : Type 0} where
       let given : deferrals (history_of log) t ≡ deferrals h t = sym (ap (λ g. deferrals g t) w.history) ∙ undated_deferrals h t in
       (ap (λ n. times_held s t + n) called ∙ f.once.each t ∙ sym given, given ∙ f.once.tickets t)
 
+  -- by the log, a participant is pinned, and has a stretch, just where some of its guards are out
   pub log_pinned : (log : List LogLine) (h : List Mark) (s : State T J) (q : ℕ) → Shows log h s → Fits h s
       → (is_some (place s q).word ≡ nat_lt 0 (guards log q)) × (is_some (began (history_of log) q) ≡ nat_lt 0 (guards log q))
   log_pinned log h s q w f =
       let a = w.places q in
       (a.pinned, sym (ap (λ g. is_some (began g q)) w.history) ∙ undated_began h q ∙ bounds_some (began h q) (place s q).word s.epoch (f.places q).bounds ∙ a.pinned)
 
+  -- by the log, what was in reach in the stretch of a participant with guards isn't destroyed
   pub log_stands : (names : T → List Name) (log : List LogLine) (h : List Moment) (s : State T J) (p : ℕ) (n : Name) → Shows log (marks_of h) s → HasMoments names h s → IsCareful h → 0 < guards log p → Visible h p n → is_some (value_at s.store n) ≡ true
   log_stands names log h s p n w t u out seen =
       let a = w.places p in

@@ -55,9 +55,10 @@ at_word : (epoch seen e : ℕ) (w : Option ℕ) → Bounds (Some e) w epoch → 
 at_word epoch seen e None o p = absurd o
 at_word epoch seen e (Some x) o p = let same : x ≡ seen = passes (Some x) seen x p refl in let le = o.0 in omega arith
 
-both : (a b : Bool) → (a && b) ≡ true → a ≡ true
-both true b e = refl
-both false b e = e
+-- where both_left of two tests hold, the first does
+pub both_left : (a b : Bool) → (a && b) ≡ true → a ≡ true
+both_left true b e = refl
+both_left false b e = e
 
 module _ {J : Type 0} where
   -- without a job in hand
@@ -80,6 +81,7 @@ module _ {J : Type 0} where
   none_in_hand (Take answered bags) hand e = e
   none_in_hand (Call answered bags seal) hand e = tt
 
+  -- the jobs of an empty bag are all accepted
   pub none_accepted : (h : List Mark) (next : ℕ) → AreAccepted {J = J} h next []
   none_accepted h next = record { below = λ e m. absurd (none_in e m); named = λ e n m is. absurd (none_in e m) }
 
@@ -87,6 +89,7 @@ module _ {J : Type 0} where
   by_first h epoch next places who bag hand true = (epoch, began_itself h who epoch)
   by_first h epoch next places who bag hand false = tt
 
+  -- a queue of sealed bags is one with another sealed bag behind
   pub queue_push : (h : List Mark) (next : ℕ) (queue : List (Sealed J)) (b : Sealed J) → ((c : Sealed J) → Contains queue c → IsSealed h next c.jobs c.seal) → IsSealed h next b.jobs b.seal
       → (c : Sealed J) → Contains (queue ++ b ∷ []) c → IsSealed h next c.jobs c.seal
   queue_push h next queue b all one c m = elim (Contains-push_cases queue b c m) [
@@ -94,28 +97,34 @@ module _ {J : Type 0} where
     | inr is ↦ subst (λ (d : Sealed J). IsSealed h next d.jobs d.seal) is one
   ]
 
-  contains_drop : (xs : List (Sealed J)) (y : Sealed J) → Contains (drop 1 xs) y → Contains xs y
+  -- what is behind the first bag is in the queue
+  pub contains_drop : (xs : List (Sealed J)) (y : Sealed J) → Contains (drop 1 xs) y → Contains xs y
   contains_drop [] y m = m
   contains_drop (x ∷ xs) y m = contains_tail x xs y m
 
-  first_and_rest : (f : Sealed J → ℕ) (queue : List (Sealed J)) → 0 < length queue → sum_by f queue ≡ f (slice_index_or queue 0 no_bag) + sum_by f (drop 1 queue)
-  first_and_rest f [] lt = absurd (omega arith)
-  first_and_rest f (b ∷ rest) lt = omega (arith, sum_by-append f (b ∷ []) rest)
+  -- the first bag of a queue and the others make up its sum
+  pub front_bag : (f : Sealed J → ℕ) (queue : List (Sealed J)) → 0 < length queue → sum_by f queue ≡ f (slice_index_or queue 0 no_bag) + sum_by f (drop 1 queue)
+  front_bag f [] lt = absurd (omega arith)
+  front_bag f (b ∷ rest) lt = omega (arith, sum_by-append f (b ∷ []) rest)
 
 module _ {T J : Type 0} where
   -- each stretch began at most one epoch ago
   pub top_now : (h : List Mark) (s : State T J) (q e : ℕ) → Fits h s → began h q ≡ Some e → (e ≤ s.epoch) × (s.epoch ≤ e + 1)
   top_now h s q e f is = bounds_top (began h q) (place s q).word s.epoch e (f.places q).bounds is
 
+  -- after a step the epoch is at most one past the beginning of each stretch
   pub top_goes : (h h' : List Mark) (s : State T J) (who : ℕ) → Fits h s → Goes h s.epoch s.next who h' → (q e : ℕ) → began h' q ≡ Some e → s.epoch ≤ e + 1
   top_goes h h' s who f g q e is = elim (g.begun q e is) [ inl o ↦ (top_now h s q e f o).1 | inr o ↦ omega arith ]
 
+  -- after a step each bag of the queue is sealed as it was
   pub queue_goes : (h h' : List Mark) (s : State T J) (who next' : ℕ) → Fits h s → Goes h s.epoch s.next who h' → s.next ≤ next' → (b : Sealed J) → Contains s.queue b → IsSealed h' next' b.jobs b.seal
   queue_goes h h' s who next' f g le b m = sealed_goes h h' s.epoch s.next next' who b.seal b.jobs (f.queued b m) g le
 
+  -- a participant without a word has no stretch
   pub unpinned_now : (h : List Mark) (s : State T J) (who : ℕ) → Fits h s → (place s who).word ≡ None → began h who ≡ None
   unpinned_now h s who f is = bounds_none (began h who) s.epoch (rw is at (f.places who).bounds)
 
+  -- a participant with a word has a stretch
   pub pinned_now : (h : List Mark) (s : State T J) (who x : ℕ) → Fits h s → (place s who).word ≡ Some x → Began (began h who)
   pinned_now h s who x f is = let b = bounds_some (began h who) (place s who).word s.epoch x (f.places who).bounds is in (b.0, b.1)
 
@@ -158,6 +167,7 @@ module _ {T J : Type 0} where
       fits_stay h s who (record (place s who) { phase = phase }) in_table f
       (record { bounds = (f.places who).bounds; phase = i; accepted = (f.places who).accepted; spare = none_in_hand phase (place s who).hand none }) refl refl
 
+  -- the history fits where a call with no job in hand ends
   pub fits_idle : (h : List Mark) (s : State T J) (who : ℕ) → who < length s.table → (place s who).hand ≡ [] → Fits h s → Fits h (in_phase s who Idle)
   fits_idle h s who in_table none f = fits_phase h s who Idle in_table f none tt
 
@@ -169,6 +179,7 @@ module _ {T J : Type 0} where
 
   -- steps that make no mark
 
+  -- the history fits after a pin has read the epoch
   pub fits_look : (h : List Mark) (s : State T J) (who : ℕ) → who < length s.table → (place s who).phase ≡ Look → Fits h s → Fits h (in_phase s who (Publish s.epoch))
   fits_look h s who in_table is f =
       let i = rw is at (f.places who).phase in
@@ -178,19 +189,23 @@ module _ {T J : Type 0} where
   by_same h s who true in_table none f = fits_idle h s who in_table none f
   by_same h s who false in_table none f = fits_phase h s who (RepinPublish s.epoch) in_table f none (omega arith)
 
+  -- the history fits after a repin has read the epoch
   pub fits_relooked : (h : List Mark) (s : State T J) (who : ℕ) → who < length s.table → (place s who).phase ≡ RepinLook → Fits h s → Fits h (with_place s who (relooked s.epoch (place s who)))
   fits_relooked h s who in_table is f = by_same h s who (is_at (place s who).word s.epoch) in_table (rw is at (f.places who).spare) f
 
+  -- the history fits after a bag that is to be queued got the epoch as its seal
   pub fits_seal : (h : List Mark) (s : State T J) (who : ℕ) → who < length s.table → (place s who).phase ≡ Seal → Fits h s → Fits h (in_phase s who (Queue s.epoch))
   fits_seal h s who in_table is f =
       let i = rw is at (f.places who).phase in
       fits_phase h s who (Queue s.epoch) in_table f (rw is at (f.places who).spare) (i, sealed_now h s who f)
 
+  -- the history fits after the bag of a participant that leaves got its seal
   pub fits_release_seal : (h : List Mark) (s : State T J) (who : ℕ) → who < length s.table → (place s who).phase ≡ ReleaseSeal → Fits h s → Fits h (in_phase s who (ReleaseQueue s.epoch))
   fits_release_seal h s who in_table is f =
       let i = rw is at (f.places who).phase in
       fits_phase h s who (ReleaseQueue s.epoch) in_table f (rw is at (f.places who).spare) (i, sealed_now h s who f)
 
+  -- the history fits after the bag of a call that makes places free got its seal
   pub fits_secure_seal : (h : List Mark) (s : State T J) (who : ℕ) → who < length s.table → (place s who).phase ≡ SecureSeal → Fits h s → Fits h (in_phase s who (SecureQueue s.epoch))
   fits_secure_seal h s who in_table is f = fits_phase h s who (SecureQueue s.epoch) in_table f (rw is at (f.places who).spare) (sealed_now h s who f)
 
@@ -198,9 +213,11 @@ module _ {T J : Type 0} where
   by_free h s who true in_table none f = fits_idle h s who in_table none f
   by_free h s who false in_table none f = fits_phase h s who SecureSeal in_table f none tt
 
+  -- the history fits after a call that makes places free has looked at its bag
   pub fits_secured : (h : List Mark) (s : State T J) (who n : ℕ) → who < length s.table → (place s who).phase ≡ Secure n → Fits h s → Fits h (with_place s who (secured n (place s who)))
   fits_secured h s who n in_table is f = by_free h s who (has_free (place s who).bag n) in_table (rw is at (f.places who).spare) f
 
+  -- the history fits after a collection has read the epoch
   pub fits_load : (h : List Mark) (s : State T J) (who : ℕ) → who < length s.table → (place s who).phase ≡ Load → Fits h s → Fits h (in_phase s who (Inspect s.epoch 0))
   fits_load h s who in_table is f =
       let i = rw is at (f.places who).phase in
@@ -230,6 +247,7 @@ module _ {T J : Type 0} where
       let all : length s.table ≤ at + 1 = grind (arith, nat_tests) in
       fits_phase h s who (Advance seen) in_table f none (record { past = one_more.past; own = one_more.own; others = λ q e' lt n. one_more.others q e' (omega arith) n })
 
+  -- the history fits after a collection has looked at a place
   pub fits_inspected : (h : List Mark) (s : State T J) (who seen at : ℕ) → who < length s.table → (place s who).phase ≡ Inspect seen at → Fits h s → Fits h (inspected s who seen at)
   fits_inspected h s who seen at in_table is f =
       let i = rw is at (f.places who).phase in
@@ -259,6 +277,7 @@ module _ {T J : Type 0} where
       (record { bounds = bounds_later (began h who) (place s who).word s.epoch (seen + 1) (f.places who).bounds on (top who); phase = omega arith; accepted = (f.places who).accepted; spare = none })
       f.queued (carries_stay h h s who p f.once (λ t. refl) (λ t. refl) refl refl)
 
+  -- the history fits after a collection that passed all places has set the epoch
   pub fits_advanced : (h : List Mark) (s : State T J) (who seen : ℕ) → who < length s.table → (place s who).phase ≡ Advance seen → Fits h s → Fits h (advanced s who seen)
   fits_advanced h s who seen in_table is f =
       let i = rw is at (f.places who).phase in
@@ -266,6 +285,7 @@ module _ {T J : Type 0} where
 
   -- steps that begin or end a stretch
 
+  -- a history with a pin fits after the pin has published
   pub fits_published : (h : List Mark) (s : State T J) (who seen : ℕ) → who < length s.table → (place s who).phase ≡ Publish seen → Fits h s → Fits (Pinned who s.epoch ∷ h) (with_place s who (published seen (place s who)))
   fits_published h s who seen in_table is f =
       let i = rw is at (f.places who).phase in
@@ -285,6 +305,7 @@ module _ {T J : Type 0} where
       (queue_goes h h' s who s.next f g (omega arith))
       (carries_stay h h' s who p f.once (λ t. refl) (λ t. refl) refl refl)
 
+  -- a history with a repin fits after the repin has published
   pub fits_repinned : (h : List Mark) (s : State T J) (who seen : ℕ) → who < length s.table → (place s who).phase ≡ RepinPublish seen → Fits h s → Fits (Repinned who s.epoch ∷ h) (with_place s who (repinned seen (place s who)))
   fits_repinned h s who seen in_table is f =
       let seen_past : seen ≤ s.epoch = rw is at (f.places who).phase in
@@ -303,6 +324,7 @@ module _ {T J : Type 0} where
       (queue_goes h h' s who s.next f g (omega arith))
       (carries_stay h h' s who p f.once (λ t. refl) (λ t. refl) refl refl)
 
+  -- a history with an unpin fits after the last guard has gone
   pub fits_unpinned : (h : List Mark) (s : State T J) (who : ℕ) → who < length s.table → (place s who).phase ≡ Idle → Fits h s → Fits (Unpinned who ∷ h) (with_place s who (record (place s who) { word = None; guards = 0 }))
   fits_unpinned h s who in_table is f =
       let old = place s who in
@@ -318,6 +340,7 @@ module _ {T J : Type 0} where
 
   -- steps that move jobs
 
+  -- the history fits after a sealed bag was queued
   pub fits_queued : (h : List Mark) (s : State T J) (who seal : ℕ) (phase : Phase) → who < length s.table → (place s who).hand ≡ [] → IsSealed h s.next (place s who).bag seal
       → InPhase h s.epoch s.next (length s.table) who [] (place s who).hand phase → Fits h s → Fits h (queued s who seal phase)
   fits_queued h s who seal phase in_table none sealed i f =
@@ -331,6 +354,7 @@ module _ {T J : Type 0} where
       (queue_push h s.next s.queue b f.queued sealed)
       (carries_move h s who p (s.queue ++ b ∷ []) f.once (λ w. omega (arith, sum_by-append (in_bag w) s.queue (b ∷ [])))))
 
+  -- the history fits after a participant's sealed bag was queued, and it left
   pub fits_left : (h : List Mark) (s : State T J) (who seal : ℕ) → who < length s.table → (place s who).hand ≡ [] → began h who ≡ None → IsSealed h s.next (place s who).bag seal → Fits h s → Fits h (released s who seal)
   fits_left h s who seal in_table none ended sealed f =
       let old = place s who in
@@ -351,7 +375,7 @@ module _ {T J : Type 0} where
   due_front : (s : State T J) (answered : ℕ) → is_due s answered ≡ true → (0 < length s.queue) × ((slice_index_or s.queue 0 no_bag).seal + s.limits.expiry ≤ answered)
   due_front s answered due = (grind (arith, nat_tests), grind (arith, nat_tests))
 
-  pub fits_taken : (h : List Mark) (s : State T J) (who answered bags : ℕ) → who < length s.table → (place s who).phase ≡ Take answered bags → is_due s answered ≡ true → Fits h s → Fits h (taken s who answered bags)
+  fits_taken : (h : List Mark) (s : State T J) (who answered bags : ℕ) → who < length s.table → (place s who).phase ≡ Take answered bags → is_due s answered ≡ true → Fits h s → Fits h (taken s who answered bags)
   fits_taken h s who answered bags in_table is due f =
       let past : answered ≤ s.epoch = rw is at (f.places who).phase in
       let none : (place s who).hand ≡ [] = rw is at (f.places who).spare in
@@ -367,14 +391,15 @@ module _ {T J : Type 0} where
       (record { bounds = (f.places who).bounds; phase = (past, omega arith, f.queued b (Contains-get_or s.queue 0 no_bag some)); accepted = (f.places who).accepted; spare = tt })
       (λ c m. f.queued c (contains_drop s.queue c m))
       (carries_move h s who p (drop 1 s.queue) f.once (λ w.
-      let rest = first_and_rest (in_bag w) s.queue some in
+      let rest = front_bag (in_bag w) s.queue some in
       let e : sum_by w (place s who).hand ≡ 0 = ap (sum_by w) none in
       omega arith)))
 
   by_due : (h : List Mark) (s : State T J) (who answered bags : ℕ) (due : Bool) → who < length s.table → (place s who).phase ≡ Take answered bags → (is_due s answered && nat_lt bags 8) ≡ due → Fits h s
       → Fits h (if due then taken s who answered bags else in_phase s who Idle)
-  by_due h s who answered bags true in_table is due f = fits_taken h s who answered bags in_table is (both (is_due s answered) (nat_lt bags 8) due) f
+  by_due h s who answered bags true in_table is due f = fits_taken h s who answered bags in_table is (both_left (is_due s answered) (nat_lt bags 8) due) f
   by_due h s who answered bags false in_table is due f = fits_idle h s who in_table (rw is at (f.places who).spare) f
 
+  -- the history fits after a collection has taken the front bag, or ended
   pub fits_took : (h : List Mark) (s : State T J) (who answered bags : ℕ) → who < length s.table → (place s who).phase ≡ Take answered bags → Fits h s → Fits h (took s who answered bags)
   fits_took h s who answered bags in_table is f = by_due h s who answered bags (is_due s answered && nat_lt bags 8) in_table is refl f

@@ -31,8 +31,9 @@ use Rattle.crossbeam_epoch.specs.World.Machine.{State, place, blank, with_place,
 use Rattle.crossbeam_epoch.specs.World.Steps.{fault, event_fault, begun, gone, moved, needs_memory, after, quiet_fault, or_count, defer_fault, called_entry, called_by, called_in, IsOutcome, IsReport}
 use Rattle.crossbeam_epoch.specs.World.Store.{Store, value_at, emptied}
 use Rattle.crossbeam_epoch.specs.World.Progress.{Orderly, JobsAfter, EmptiesAt, Empties, Moves, KeepsCalls, IsOn, IsResting, collects}
-use Rattle.crossbeam_epoch.proofs.lemmas.world.Moves.{none_in, contains_tail, none_in_hand}
-use Rattle.crossbeam_epoch.proofs.lemmas.world.Runs.{in_table, known, begin_idle, blank_at, blanks_weigh_none}
+use Rattle.crossbeam_epoch.proofs.lemmas.world.Moves.{none_in, none_in_hand, contains_drop, front_bag}
+use Rattle.crossbeam_epoch.proofs.lemmas.world.Jobs.{first_job, no_items, hand_after}
+use Rattle.crossbeam_epoch.proofs.lemmas.world.Runs.{in_table, known_if_faultless, begin_idle, blank_at, blanks_weigh_none, empty_hand, done_called}
 
 module _ {J : Type 0} where
   -- a queue of small bags with one more, or one less
@@ -42,54 +43,12 @@ module _ {J : Type 0} where
     | inr is ↦ subst (λ (d : Sealed J). length d.jobs ≤ 64) is one
   ]
 
-  contains_drop : (xs : List (Sealed J)) (y : Sealed J) → Contains (drop 1 xs) y → Contains xs y
-  contains_drop [] y m = m
-  contains_drop (x ∷ xs) y m = contains_tail x xs y m
-
-  front_bag : (f : Sealed J → ℕ) (queue : List (Sealed J)) → 0 < length queue → sum_by f queue ≡ f (slice_index_or queue 0 no_bag) + sum_by f (drop 1 queue)
-  front_bag f [] lt = absurd (omega arith)
-  front_bag f (b ∷ rest) lt = omega (arith, sum_by-append f (b ∷ []) rest)
-
-  first_job : (f : Deferral J → ℕ) (jobs : List (Deferral J)) → 0 < length jobs → sum_by f jobs ≡ f (slice_index_or jobs 0 no_entry) + sum_by f (remove jobs 0)
-  first_job f [] lt = absurd (omega arith)
-  first_job f (x ∷ rest) lt = omega (arith, sum_by-append f (x ∷ []) rest)
-
+  -- some jobs are one more than those behind the first
   pub one_less : (jobs : List (Deferral J)) → 0 < length jobs → length jobs ≡ suc (length (remove jobs 0))
   one_less [] lt = absurd (omega arith)
   one_less (x ∷ rest) lt = refl
 
-  no_items : (xs : List (Deferral J)) → (length xs == 0) ≡ true → xs ≡ []
-  no_items [] e = refl
-  no_items (x ∷ xs) e = absurd (grind (arith, nat_tests))
-
-  hand_after : (rest : List (Deferral J)) (answered bags seal : ℕ) (b : Bool) → nat_lt 0 (length rest) ≡ b → HandFits (after_call (length rest) answered bags seal) rest
-  hand_after [] answered bags seal b e = none_in_hand (after_call 0 answered bags seal) [] refl
-  hand_after (x ∷ rest) answered bags seal true e = rw e tt
-  hand_after (x ∷ rest) answered bags seal false e = absurd (grind (arith, nat_tests))
-
-  empty_small : (hand : List (Deferral J)) → hand ≡ [] → length hand ≤ 64
-  empty_small hand e = omega (arith, ap length e)
-
-  empty_hand : (event : Event) (phase : Phase) (hand : List (Deferral J)) → needs_memory event phase ≡ true → HandFits phase hand → hand ≡ []
-  empty_hand (Begin op) phase hand e fits = absurd (cc e)
-  empty_hand Go (Queue seal) hand e fits = fits
-  empty_hand Go (ReleaseQueue seal) hand e fits = fits
-  empty_hand Go (SecureQueue seal) hand e fits = fits
-  empty_hand Go Idle hand e fits = absurd (cc e)
-  empty_hand Go Look hand e fits = absurd (cc e)
-  empty_hand Go (Publish seen) hand e fits = absurd (cc e)
-  empty_hand Go RepinLook hand e fits = absurd (cc e)
-  empty_hand Go (RepinPublish seen) hand e fits = absurd (cc e)
-  empty_hand Go Seal hand e fits = absurd (cc e)
-  empty_hand Go ReleaseSeal hand e fits = absurd (cc e)
-  empty_hand Go (Secure n) hand e fits = absurd (cc e)
-  empty_hand Go SecureSeal hand e fits = absurd (cc e)
-  empty_hand Go Load hand e fits = absurd (cc e)
-  empty_hand Go (Inspect seen at) hand e fits = absurd (cc e)
-  empty_hand Go (Advance seen) hand e fits = absurd (cc e)
-  empty_hand Go (Take answered bags) hand e fits = absurd (cc e)
-  empty_hand Go (Call answered bags seal) hand e fits = absurd (cc e)
-
+  -- a new collector has no jobs, whatever each would weigh
   pub opened_weighs : (T : Type 0) (limits : Limits) (roots : ℕ) (f : Deferral J → ℕ) → weight f (opened {T = T} limits roots) ≡ 0
   opened_weighs T limits roots f = omega (arith, blanks_weigh_none f limits.participants)
 
@@ -279,10 +238,10 @@ module _ {T J : Type 0} where
 
   moving : (s : State T J) (who : ℕ) (event : Event) → fault s who event ≡ None → Orderly s → Moves s who (called_in s who event Running) (moved s who event)
   moving s who (Begin op) e o =
-      let k = known (place s who).registered (event_fault (Begin op) (place s who).phase (place s who)) e in
+      let k = known_if_faultless (place s who).registered (event_fault (Begin op) (place s who).phase (place s who)) e in
       beginning s who op (in_table s who k.0) o (begin_idle op (place s who).phase (place s who) k.1)
   moving s who Go e o =
-      let k = known (place s who).registered (event_fault Go (place s who).phase (place s who)) e in
+      let k = known_if_faultless (place s who).registered (event_fault Go (place s who).phase (place s who)) e in
       going s who (place s who).phase (in_table s who k.0) o (o.hands who)
 
   -- a call that found no memory
@@ -308,10 +267,6 @@ module _ {T J : Type 0} where
   refused s who event F.Limits o = nothing s who o
   refused s who event F.InCall o = nothing s who o
 
-  done_called : (s : State T J) (who : ℕ) (event : Event) → called_in s who event Running ≡ called_in s who event Done
-  done_called s who (Begin op) = refl
-  done_called s who Go = refl
-
   by_outcome : (s : State T J) (who : ℕ) (event : Event) (e : Option Fault) (outcome : Outcome) → fault s who event ≡ e → IsOutcome s who event e outcome → Orderly s → Moves s who (called_in s who event outcome) (after s who event outcome)
   by_outcome s who event e (Refused x) is k o = refused s who event x o
   by_outcome s who event (Some x) Running is k o = absurd (cc k)
@@ -319,8 +274,9 @@ module _ {T J : Type 0} where
   by_outcome s who event None Running is k o = moving s who event is o
   by_outcome s who event None Done is k o = subst (λ c. Moves s who c (moved s who event)) (done_called s who event) (moving s who event is o)
 
-  pub moves : (s : State T J) (who : ℕ) (event : Event) (r : Report) → Orderly s → IsReport s who event r → Moves s who r.called (after s who event r.outcome)
-  moves s who event r o is = subst (λ c. Moves s who c (after s who event r.outcome)) (sym is.job) (by_outcome s who event (fault s who event) r.outcome refl is.outcome o)
+  -- a step calls the job that it tells, or none, and changes the place of its participant alone
+  pub moves_reported : (s : State T J) (who : ℕ) (event : Event) (r : Report) → Orderly s → IsReport s who event r → Moves s who r.called (after s who event r.outcome)
+  moves_reported s who event r o is = subst (λ c. Moves s who c (after s who event r.outcome)) (sym is.job) (by_outcome s who event (fault s who event) r.outcome refl is.outcome o)
 
   -- only a collection that calls calls a job
   no_call : (st : Store T) (phase : Phase) (hand : List (Deferral J)) → collects phase ≡ false → called_by st phase hand ≡ None
@@ -352,12 +308,15 @@ module _ {T J : Type 0} where
   begin_none s who op Running = refl
   begin_none s who op Done = refl
 
+  -- a step of a call that doesn't collect yet calls no job
   pub no_call_yet : (s : State T J) (who : ℕ) (r : Report) → collects (place s who).phase ≡ false → IsReport s who Go r → r.called ≡ None
   no_call_yet s who r e is = is.job ∙ no_call_in s who r.outcome e
 
+  -- a begin calls no job
   pub no_call_begins : (s : State T J) (who : ℕ) (op : Op) (r : Report) → IsReport s who (Begin op) r → r.called ≡ None
   no_call_begins s who op r is = is.job ∙ begin_none s who op r.outcome
 
+  -- a new collector has no calls in flight
   pub opened_rests : (limits : Limits) (roots : ℕ) → IsResting {T = T} {J = J} (opened limits roots)
   opened_rests limits roots = record {
     orderly = record {
@@ -400,12 +359,14 @@ module _ {T J : Type 0} where
     sealed = λ b m. o.sealed b (subst (λ (xs : List (Sealed J)). Contains xs b) queue m);
   }
 
+  -- a registration leaves calls, cells and jobs as they stood
   pub registered_keeps : (s : State T J) (n : ℕ) → n < length s.table → Orderly s → KeepsCalls s (registered s n) (λ f. 0)
   registered_keeps s n lt o =
       let p = record (place s n) { registered = true; pins = 0 } in
       kept s (registered s n) n (stays s n p s.epoch lt o (o.hands n) refl refl) (ap (λ (x : Participant J). x.phase) (get_or-set_same s.table n p blank lt))
       (λ op i. subst (λ (x : Participant J). IsOn op x) (sym (get_or-set_same s.table n p blank lt)) (refl, i.1))
 
+  -- a job that goes into a bag with a place leaves calls and cells, and is the one job more
   pub deferred_keeps : (s : State T J) (who : ℕ) (work : Work J) → who < length s.table → length (place s who).bag < 64 → Orderly s → KeepsCalls s (deferred s who work) (λ f. f (record { ticket = s.next; work = work }))
   deferred_keeps s who work lt room o =
       let old = place s who in
@@ -480,7 +441,8 @@ module _ {T J : Type 0} where
       let room : length (place s who).bag < 64 = grind (arith, nat_tests) in
       deferred_keeps s who work lt room o
 
+  -- a job that is accepted leaves calls and cells, and is the one job more
   pub deferral_keeps : (s : State T J) (who : ℕ) (work : Work J) → defer_fault s who ≡ None → Orderly s → KeepsCalls s (after_deferral s who work) (λ f. f (record { ticket = s.next; work = work }))
   deferral_keeps s who work e o =
-      let k = known (place s who).registered (or_count s.next (quiet_fault (place s who).phase (place s who))) e in
+      let k = known_if_faultless (place s who).registered (or_count s.next (quiet_fault (place s who).phase (place s who))) e in
       by_full s who work (length (place s who).bag == 64) refl (in_table s who k.0) o

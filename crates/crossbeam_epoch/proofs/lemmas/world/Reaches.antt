@@ -32,18 +32,6 @@ one_before Quiet h one = one
 one_before (Marked k) h one = λ t. let le = deferrals_before k h t in let few = one t in omega arith
 one_before (GivenBack name) h one = one
 
-deferred_once : (h : List Mark) (t : ℕ) (n : Name) → WasDeferred h t n → 1 ≤ deferrals h t
-deferred_once [] t n d = absurd d
-deferred_once (Pinned who epoch ∷ h) t n d = deferred_once h t n d
-deferred_once (Repinned who epoch ∷ h) t n d = deferred_once h t n d
-deferred_once (Unpinned who ∷ h) t n d = deferred_once h t n d
-deferred_once (Deferred ticket name ∷ h) t n d = by_place (ticket == t) (eq-eqb ticket t) d (deferred_once h t n)
-  where
-    by_place : (b : Bool) → (ticket ≡ t → b ≡ true) → ((ticket ≡ t) × (name ≡ Some n)) ⊎ WasDeferred h t n → (WasDeferred h t n → 1 ≤ deferrals h t) → 1 ≤ (if b then 1 else 0) + deferrals h t
-    by_place true same d on = omega arith
-    by_place false same d on = elim d [ inl here ↦ absurd (cc (same here.0)) | inr earlier ↦ (let le = on earlier in omega arith) ]
-deferred_once (Called ticket name ∷ h) t n d = deferred_once h t n d
-
 began_steady : (k : Mark) (h : List Mark) (p : ℕ) → mark_changes_pin k p ≡ false → began (k ∷ h) p ≡ began h p
 began_steady (Pinned who epoch) h p e = steady (who == p) (Some epoch) (began h p) e
 began_steady (Repinned who epoch) h p e = steady (who == p) (Some epoch) (began h p) e
@@ -151,7 +139,7 @@ in_live m (b ∷ h) n leaves enters gives ends g later is = elim (enters.0 n is)
 ]
 
 -- what a stretch saw in reach isn't destroyed while it lasts
-pub visible_live : (m : Moment) (h : List Moment) (p : ℕ) (n : Name) → LeavesFirst (m ∷ h) → EntersLive (m ∷ h) → GivesUnseen (m ∷ h) → DestructionsTold (m ∷ h) → IsGraceful (marks_of (m ∷ h)) → AreCalledLater (marks_of (m ∷ h)) → OneTicket (marks_of (m ∷ h))
+visible_live : (m : Moment) (h : List Moment) (p : ℕ) (n : Name) → LeavesFirst (m ∷ h) → EntersLive (m ∷ h) → GivesUnseen (m ∷ h) → DestructionsTold (m ∷ h) → IsGraceful (marks_of (m ∷ h)) → AreCalledLater (marks_of (m ∷ h)) → OneTicket (marks_of (m ∷ h))
     → is_some (began (marks_of (m ∷ h)) p) ≡ true → Visible (m ∷ h) p n → m.live n ≡ true
 visible_live m [] p n leaves enters gives ends g later one pinned seen = elim seen [
   | inl now ↦ in_live m [] n leaves enters gives ends g later now
@@ -202,7 +190,7 @@ seen_link names [] s p c n t keeps seen holds = absurd seen
 seen_link names (m ∷ h) s p c n t keeps seen holds = visible_link m h p c n keeps seen (subst (λ (l : List Name). Contains l n) (sym (t.now.2 c)) holds)
 
 -- a name that a root holds is seen by every stretch
-pub root_seen : {T J : Type 0} (names : T → List Name) (h : List Moment) (s : State T J) (p : ℕ) (n : Name) (ptr : Ptr) → HasMoments names h s → Contains s.roots ptr → ptr.name ≡ Some n → Visible h p n
+root_seen : {T J : Type 0} (names : T → List Name) (h : List Moment) (s : State T J) (p : ℕ) (n : Name) (ptr : Ptr) → HasMoments names h s → Contains s.roots ptr → ptr.name ≡ Some n → Visible h p n
 root_seen names [] s p n ptr t holds is = absurd t.now
 root_seen names (m ∷ h) s p n ptr t holds is = inl (from_root ptr n (subst (λ (l : List Ptr). Contains l ptr) (sym t.now.0) holds) is)
 

@@ -27,11 +27,13 @@ use Rattle.crossbeam_epoch.specs.World.Steps.{event_fault, gone, after, marks, I
 use Rattle.crossbeam_epoch.specs.World.Sealing.{IsSealing}
 use Rattle.crossbeam_epoch.specs.World.Rounds.{Finishes, IsRound, AreRounds, IsQuiet, IsNotDue, TakesOff, IsSealedBag, IsEmptied}
 use Rattle.crossbeam_epoch.proofs.lemmas.world.Collecting.{IsNear, next_epoch, IsHeld, CollectAt, IsAlone, collect_goes}
+use Rattle.crossbeam_epoch.proofs.lemmas.world.Endings.{all_one}
+use Rattle.crossbeam_epoch.proofs.lemmas.world.Jobs.{no_items}
 use Rattle.crossbeam_epoch.proofs.lemmas.world.Moves.{contains_tail}
-use Rattle.crossbeam_epoch.proofs.lemmas.world.Progress.{moves}
-use Rattle.crossbeam_epoch.proofs.lemmas.world.Runs.{in_table, known, begin_idle, fits_after}
+use Rattle.crossbeam_epoch.proofs.lemmas.world.Progress.{moves_reported}
+use Rattle.crossbeam_epoch.proofs.lemmas.world.Runs.{in_table, known_if_faultless, begin_idle, fits_after}
 use Rattle.crossbeam_epoch.proofs.lemmas.world.Sealing.{sealing_after}
-use Rattle.crossbeam_epoch.proofs.lemmas.world.Wholes.{Unrefused, faultless, as_moved, finishing}
+use Rattle.crossbeam_epoch.proofs.lemmas.world.Wholes.{Unrefused, fault_unrefused, as_moved, finishing}
 
 -- some bags at the front are gone
 abbrev pub Sheds : {J : Type 0} → List (Sealed J) → List (Sealed J) → Type 0
@@ -91,22 +93,22 @@ module _ {J : Type 0} where
   flush_collects old new who expiry found bag epoch queue p (Take answered bags) sealed own c = (sealed, own, c)
   flush_collects old new who expiry found bag epoch queue p (Call answered bags seal) sealed own c = (sealed, own, c)
 
+  -- a bag that isn't empty is sealed as one bag with its jobs
   pub sealed_own : (bag jobs : List (Deferral J)) (seal : ℕ) → jobs ≡ bag → (bag ≡ [] → ⊥) → IsSealedBag bag ((record { seal = seal; jobs = jobs }) ∷ [])
   sealed_own [] jobs seal is some = absurd (some refl)
   sealed_own (e ∷ bag) jobs seal is some = (seal, ap (λ (x : List (Deferral J)). (record { seal = seal; jobs = x }) ∷ []) is)
 
+  -- an empty bag isn't sealed
   pub sealed_none : (bag : List (Deferral J)) → bag ≡ [] → IsSealedBag bag []
   sealed_none [] e = refl
   sealed_none (x ∷ bag) e = absurd (cc e)
 
+  -- a bag whose count of jobs isn't zero isn't empty
   pub some_jobs : (bag : List (Deferral J)) → (length bag == 0) ≡ false → bag ≡ [] → ⊥
   some_jobs [] e is = absurd (cc e)
   some_jobs (x ∷ bag) e is = absurd (cc is)
 
-  pub no_jobs : (bag : List (Deferral J)) → (length bag == 0) ≡ true → bag ≡ []
-  no_jobs [] e = refl
-  no_jobs (x ∷ bag) e = absurd (grind (arith, nat_tests))
-
+  -- a participant whose call may go on isn't between calls
   pub busy : (phase : Phase) (p : Participant J) → event_fault Go phase p ≡ None → phase ≡ Idle → ⊥
   busy phase p e is = let x = rw is at e in absurd (cc x)
 
@@ -126,9 +128,10 @@ module _ {T J : Type 0} where
   fewer_jobs s s' None f j = let e = j.2 f in omega (arith, e)
   fewer_jobs s s' (Some c) f j = let e = j.4 f in omega (arith, e)
 
+  -- what stays of a state while one participant steps stays over one step more
   pub kept_step : (s : State T J) (who : ℕ) (now : State T J) (event : Event) (r : Report) → IsKept s who now → IsReport now who event r → IsKept s who (after now who event r.outcome)
   kept_step s who now event r k is =
-      let m = moves now who event r k.orderly is in
+      let m = moves_reported now who event r k.orderly is in
       record {
         past = marks now who event r k.past;
         fits = fits_after k.past now who event r is k.fits;
@@ -140,9 +143,11 @@ module _ {T J : Type 0} where
         fewer = λ f. (let a = fewer_jobs now (after now who event r.outcome) r.called f m.jobs in let b = k.fewer f in omega (arith, a, b));
       }
 
+  -- what is to stay of a state holds of the state itself
   pub kept_from : (s : State T J) (who : ℕ) (h : List Mark) → Fits h s → Orderly s → IsSealing s → IsKept s who s
   kept_from s who h f o i = record { past = h; fits = f; orderly = o; sealing = i; limits = refl; long = refl; others = λ q ne. refl; fewer = λ w. omega arith }
 
+  -- what stays of a state to a second one, and of that to a third, stays to the third
   pub kept_on : (s now later : State T J) (who : ℕ) → IsKept s who now → IsKept now who later → IsKept s who later
   kept_on s now later who a b = record { past = b.past; fits = b.fits; orderly = b.orderly; sealing = b.sealing; limits = b.limits ∙ a.limits; long = b.long ∙ a.long; others = λ q ne. b.others q ne ∙ a.others q ne; fewer = λ f. (let x = a.fewer f in let y = b.fewer f in omega (arith, x, y)) }
 
@@ -242,7 +247,7 @@ module _ {T J : Type 0} (old new who expiry : ℕ) (found : List (Sealed J)) (ba
   begins_flush : (s : State T J) (none : Bool) → who < length s.table → (length (place s who).bag == 0) ≡ none → IsHeld old bag (place s who) → IsNear old new s.epoch → s.queue ≡ found
       → Flushes (with_place s who (record (place s who) { phase = if none then Load else Seal }))
   begins_flush s true lt is h near q =
-      let none : bag ≡ [] = sym h.jobs ∙ no_jobs (place s who).bag is in
+      let none : bag ≡ [] = sym h.jobs ∙ no_items (place s who).bag is in
       put_flush (with_place s who (record (place s who) { phase = Load })) s.table (record (place s who) { phase = Load }) refl lt
       ([], sealed_none bag none, (record { word = h.word; one = h.one; jobs = h.jobs ∙ none }, near, q ∙ sym (append-nil found)))
   begins_flush s false lt is h near q =
@@ -266,14 +271,14 @@ module _ {T J : Type 0} (old new who expiry : ℕ) (found : List (Sealed J)) (ba
     where
       first : (r : Report) → IsReport s who (Begin O.Pin) r → Unrefused r.outcome → IsKept s who (after s who (Begin O.Pin) r.outcome) × Pins (after s who (Begin O.Pin) r.outcome)
       first r report u =
-          let k = known (place s who).registered (event_fault (Begin O.Pin) (place s who).phase (place s who)) (faultless s who (Begin O.Pin) r report u) in (
+          let k = known_if_faultless (place s who).registered (event_fault (Begin O.Pin) (place s who).phase (place s who)) (fault_unrefused s who (Begin O.Pin) r report u) in (
             kept_step s who s (Begin O.Pin) r (kept_from s who h f o i) report,
             subst Pins (sym (as_moved s who (Begin O.Pin) r.outcome u)) (begins_pin s (is_none (place s who).word) (in_table s who k.0) refl (un who) e q b),
           )
 
       next : (now : State T J) (r : Report) → IsKept s who now × Pins now → IsReport now who Go r → Unrefused r.outcome → IsKept s who (after now who Go r.outcome) × Pins (after now who Go r.outcome)
       next now r inv report u =
-          let k = known (place now who).registered (event_fault Go (place now who).phase (place now who)) (faultless now who Go r report u) in (
+          let k = known_if_faultless (place now who).registered (event_fault Go (place now who).phase (place now who)) (fault_unrefused now who Go r report u) in (
             kept_step s who now Go r inv.0 report,
             subst Pins (sym (as_moved now who Go r.outcome u))
                 (pin_goes now (place now who).phase (in_table now who k.0) (alone_of s now (λ p ne. un p) is same inv.0 found bag) refl (busy (place now who).phase (place now who) k.1) inv.1),
@@ -287,14 +292,14 @@ module _ {T J : Type 0} (old new who expiry : ℕ) (found : List (Sealed J)) (ba
     where
       first : (r : Report) → IsReport s who (Begin O.Flush) r → Unrefused r.outcome → IsKept s who (after s who (Begin O.Flush) r.outcome) × Flushes (after s who (Begin O.Flush) r.outcome)
       first r report u =
-          let k = known (place s who).registered (event_fault (Begin O.Flush) (place s who).phase (place s who)) (faultless s who (Begin O.Flush) r report u) in (
+          let k = known_if_faultless (place s who).registered (event_fault (Begin O.Flush) (place s who).phase (place s who)) (fault_unrefused s who (Begin O.Flush) r report u) in (
             kept_step s who s (Begin O.Flush) r (kept_from s who h f o i) report,
             subst Flushes (sym (as_moved s who (Begin O.Flush) r.outcome u)) (begins_flush s (length (place s who).bag == 0) (in_table s who k.0) refl held near q),
           )
 
       next : (now : State T J) (r : Report) → IsKept s who now × Flushes now → IsReport now who Go r → Unrefused r.outcome → IsKept s who (after now who Go r.outcome) × Flushes (after now who Go r.outcome)
       next now r inv report u =
-          let k = known (place now who).registered (event_fault Go (place now who).phase (place now who)) (faultless now who Go r report u) in (
+          let k = known_if_faultless (place now who).registered (event_fault Go (place now who).phase (place now who)) (fault_unrefused now who Go r report u) in (
             kept_step s who now Go r inv.0 report,
             subst Flushes (sym (as_moved now who Go r.outcome u))
                 (flush_goes now (place now who).phase (in_table now who k.0) (λ sealed. alone_of s now un is same inv.0 (found ++ sealed) []) refl (busy (place now who).phase (place now who) k.1) inv.1),
@@ -306,7 +311,7 @@ module _ {T J : Type 0} (old new who expiry : ℕ) (found : List (Sealed J)) (ba
     where
       first : (r : Report) → IsReport s who (Begin O.Unpin) r → Unrefused r.outcome → IsKept s who (after s who (Begin O.Unpin) r.outcome) × Unpins (after s who (Begin O.Unpin) r.outcome)
       first r report u =
-          let k = known (place s who).registered (event_fault (Begin O.Unpin) (place s who).phase (place s who)) (faultless s who (Begin O.Unpin) r report u) in (
+          let k = known_if_faultless (place s who).registered (event_fault (Begin O.Unpin) (place s who).phase (place s who)) (fault_unrefused s who (Begin O.Unpin) r report u) in (
             kept_step s who s (Begin O.Unpin) r (kept_from s who h f o i) report,
             subst Unpins (sym (as_moved s who (Begin O.Unpin) r.outcome u))
                 (begins_unpin s (nat_le (place s who).guards 1) (in_table s who k.0) refl one (begin_idle O.Unpin (place s who).phase (place s who) k.1) e q b),
@@ -314,7 +319,7 @@ module _ {T J : Type 0} (old new who expiry : ℕ) (found : List (Sealed J)) (ba
 
       next : (now : State T J) (r : Report) → IsKept s who now × Unpins now → IsReport now who Go r → Unrefused r.outcome → IsKept s who (after now who Go r.outcome) × Unpins (after now who Go r.outcome)
       next now r inv report u =
-          let k = known (place now who).registered (event_fault Go (place now who).phase (place now who)) (faultless now who Go r report u) in
+          let k = known_if_faultless (place now who).registered (event_fault Go (place now who).phase (place now who)) (fault_unrefused now who Go r report u) in
           absurd (busy (place now who).phase (place now who) k.1 inv.1.4)
 
 -- what a round makes of a state in which nobody is pinned
@@ -344,16 +349,12 @@ module _ {J : Type 0} where
   shed_in : (queue queue' : List (Sealed J)) → Sheds queue queue' → (b : Sealed J) → Contains queue' b → Contains queue b
   shed_in queue queue' s b m = rw s.1 (Contains-append_right s.0 queue' b m)
 
-  jobs_counted : (jobs : List (Deferral J)) → sum_by one jobs ≡ length jobs
-  jobs_counted [] = refl
-  jobs_counted (e ∷ jobs) = let rest = jobs_counted jobs in omega (arith, rest, sum_by-cons one e jobs)
-
   filled_bags : (queue : List (Sealed J)) → ((b : Sealed J) → Contains queue b → 0 < length b.jobs) → length queue ≤ sum_by (in_bag one) queue
   filled_bags [] all = omega arith
   filled_bags (b ∷ queue) all =
       let rest = filled_bags queue (λ c m. all c (contains_tail b queue c m)) in
       let here = all b (0, omega arith, refl) in
-      omega (arith, rest, here, jobs_counted b.jobs, sum_by-cons (in_bag one) b queue)
+      omega (arith, rest, here, all_one b.jobs, sum_by-cons (in_bag one) b queue)
 
   -- a collection to which every bag is due leaves none, or eight fewer
   takes_due : (expiry answered : ℕ) (queue queue' : List (Sealed J)) → TakesOff expiry answered queue queue' → ((b : Sealed J) → Contains queue b → b.seal + expiry ≤ answered)
@@ -368,6 +369,7 @@ module _ {J : Type 0} where
       none_left (b ∷ rest) none all = absurd (let le = all b (0, omega arith, refl) in omega arith)
 
 module _ {T J : Type 0} where
+  -- a round while nobody is pinned moves the epoch on, seals the bag, and takes what is due
   pub round : (s s' : State T J) (who : ℕ) (h : List Mark) → Fits h s → Orderly s → IsSealing s → ((q : ℕ) → (place s q).word ≡ None) → (r : IsRound s who s') → IsRounded s who s' r
   round s s' who h f o i un r =
       let new = next_epoch s.epoch s.limits.epoch_max in
@@ -478,12 +480,14 @@ module _ {T J : Type 0} where
       by true e = (quiet.idle q e, quiet.unpinned q e)
       by false e = let is = table.free q e in (ap (λ (p : Participant J). p.phase) is, ap (λ (p : Participant J). p.word) is)
 
-  pub quiet_round : (s s' : State T J) (who : ℕ) (h : List Mark) → Fits h s → IsTable s.limits.participants s.table → Orderly s → IsSealing s → IsQuiet s → (r : IsRound s who s') → IsRounded s who s' r
+  quiet_round : (s s' : State T J) (who : ℕ) (h : List Mark) → Fits h s → IsTable s.limits.participants s.table → Orderly s → IsSealing s → IsQuiet s → (r : IsRound s who s') → IsRounded s who s' r
   quiet_round s s' who h f table o i quiet r = round s s' who h f o i (λ q. (all_idle s table quiet q).1) r
 
+  -- a quiet round moves the epoch on by one
   pub quiet_advances : (s s' : State T J) (who : ℕ) (h : List Mark) → Fits h s → IsTable s.limits.participants s.table → Orderly s → IsSealing s → IsQuiet s → IsRound s who s' → s'.epoch ≡ s.epoch + 1
   quiet_advances s s' who h f table o i quiet r = let far = quiet.far in (quiet_round s s' who h f table o i quiet r).epoch ∙ next_below s.epoch s.limits.epoch_max (omega arith)
 
+  -- after the flush of a quiet round each seal is at most the next epoch
   pub quiet_seals : (s s' : State T J) (who : ℕ) (h : List Mark) → Fits h s → IsTable s.limits.participants s.table → Orderly s → IsSealing s → IsQuiet s → (r : IsRound s who s') → (b : Sealed J) → Contains r.flushed.queue b → b.seal ≤ s.epoch + 1
   quiet_seals s s' who h f table o i quiet r b m =
       let far = quiet.far in

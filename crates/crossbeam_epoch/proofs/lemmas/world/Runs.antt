@@ -28,7 +28,7 @@ use Rattle.crossbeam_epoch.specs.World.Machine.{State, place, blank, with_place,
 use Rattle.crossbeam_epoch.specs.World.Steps.{quiet_fault, or_count, defer_fault, when, outcome_at, outcome_or, place_or, begin_fault, event_fault, fault, begun_at, begun, gone, moved, needs_memory, after, called_by, called_in, IsOutcome, IsReport, begin_marks, phase_marks, moved_marks, unless_refused, marks, state_after, history_after, AreReports}
 use Rattle.crossbeam_epoch.specs.World.Fits.{Fits, HandFits, at_place, has_ticket, one}
 use Rattle.crossbeam_epoch.proofs.lemmas.world.Moves.{fits_stay, fits_phase, fits_guards, fits_idle, fits_look, fits_relooked, fits_repinned, fits_seal, fits_release_seal, fits_secure_seal, fits_secured, fits_load, fits_inspected, fits_advanced, fits_published, fits_unpinned, fits_queued, fits_left, fits_gone, fits_took, unpinned_now, pinned_now, none_in, none_accepted}
-use Rattle.crossbeam_epoch.proofs.lemmas.world.Jobs.{fits_called, call_marks, fits_after_deferral}
+use Rattle.crossbeam_epoch.proofs.lemmas.world.Jobs.{fits_called, call_marks, fits_after_deferral, no_items}
 
 -- a test of a fault that isn't given
 pub off : (b : Bool) (f : Fault) → when b f ≡ None → b ≡ false
@@ -50,26 +50,18 @@ not_some None e = refl
 not_some (Some x) e = absurd (cc e)
 
 -- where there is no fault, the participant is known and has none further
-pub known : (b : Bool) (x : Option Fault) → (if b then x else Some F.Unknown) ≡ None → (b ≡ true) × (x ≡ None)
-known true x e = (refl, e)
-known false x e = absurd (cc e)
+pub known_if_faultless : (b : Bool) (x : Option Fault) → (if b then x else Some F.Unknown) ≡ None → (b ≡ true) × (x ≡ None)
+known_if_faultless true x e = (refl, e)
+known_if_faultless false x e = absurd (cc e)
 
-no_quiet : (next : ℕ) (q : Option Fault) → or_count next q ≡ None → q ≡ None
+-- where there is a next ticket, an answer without a fault had none
+pub no_quiet : (next : ℕ) (q : Option Fault) → or_count next q ≡ None → q ≡ None
 no_quiet next None e = refl
 no_quiet next (Some f) e = absurd (cc e)
 
--- where a removal has no fault, its deferral has none
-pub no_destroy_fault : (b : Bool) (x : Option Fault) → (if b then x else Some F.Unknown) ≡ None → x ≡ None
-no_destroy_fault true x e = e
-no_destroy_fault false x e = absurd (cc e)
-
 module _ {J : Type 0} where
-  no_items : (xs : List (Deferral J)) → (length xs == 0) ≡ true → xs ≡ []
-  no_items [] e = refl
-  no_items (x ∷ xs) e = absurd (grind (arith, nat_tests))
-
   -- a call that may find no memory has no job in hand
-  empty_hand : (event : Event) (phase : Phase) (hand : List (Deferral J)) → needs_memory event phase ≡ true → HandFits phase hand → hand ≡ []
+  pub empty_hand : (event : Event) (phase : Phase) (hand : List (Deferral J)) → needs_memory event phase ≡ true → HandFits phase hand → hand ≡ []
   empty_hand (Begin op) phase hand e fits = absurd (cc e)
   empty_hand Go (Queue seal) hand e fits = fits
   empty_hand Go (ReleaseQueue seal) hand e fits = fits
@@ -113,6 +105,7 @@ module _ {J : Type 0} where
   pub blank_at : (n q : ℕ) → get_or (replicate n (blank {J = J})) q blank ≡ blank
   blank_at n q = elim (cases_lt q n) [ inl lt ↦ get_or-replicate n q blank blank lt | inr ge ↦ get_or_past (replicate n blank) q blank (rw length-replicate ge) ]
 
+  -- blank places have no jobs, whatever each would weigh
   pub blanks_weigh_none : (w : Deferral J → ℕ) (n : ℕ) → sum_by (at_place w) (replicate n blank) ≡ 0
   blanks_weigh_none w zero = refl
   blanks_weigh_none w (suc n) = blanks_weigh_none w n
@@ -202,6 +195,7 @@ module _ {T J : Type 0} where
   running_begin s who op (Take answered bags) = refl
   running_begin s who op (Call answered bags seal) = refl
 
+  -- after a begin the place is as the call begins, or as it was where there is a fault
   pub begin_after : (s : State T J) (who : ℕ) (op : Op) (fault : Option Fault)
       → after s who (Begin op) (outcome_or fault (begun_at op (place s who))) ≡ with_place s who (place_or fault (begun_at op (place s who)) (place s who))
   begin_after s who op (Some f) = refused_begin s who op f ∙ sym (ap (λ t. record s { table = t }) (set-get_or s.table who blank))
@@ -272,14 +266,15 @@ module _ {T J : Type 0} where
   fits_moved : (h : List Mark) (s : State T J) (who : ℕ) (event : Event) → fault s who event ≡ None → Fits h s
       → Fits (moved_marks s who event (called_in s who event Running) h) (moved s who event)
   fits_moved h s who (Begin op) e f =
-      let k = known (place s who).registered (event_fault (Begin op) (place s who).phase (place s who)) e in
+      let k = known_if_faultless (place s who).registered (event_fault (Begin op) (place s who).phase (place s who)) e in
       let idle = begin_idle op (place s who).phase (place s who) k.1 in
       fits_begun h s who op (in_table s who k.0) idle (rw idle at k.1) f
   fits_moved h s who Go e f =
-      let k = known (place s who).registered (event_fault Go (place s who).phase (place s who)) e in
+      let k = known_if_faultless (place s who).registered (event_fault Go (place s who).phase (place s who)) e in
       fits_going h s who (place s who).phase (in_table s who k.0) refl f
 
-  done_called : (s : State T J) (who : ℕ) (event : Event) → called_in s who event Running ≡ called_in s who event Done
+  -- an end calls the jobs that a step on the way calls
+  pub done_called : (s : State T J) (who : ℕ) (event : Event) → called_in s who event Running ≡ called_in s who event Done
   done_called s who (Begin op) = refl
   done_called s who Go = refl
 
@@ -313,6 +308,7 @@ module _ {T J : Type 0} where
   state_more s (y ∷ steps) [] step r e = absurd (omega arith)
   state_more s (y ∷ steps) (x ∷ reports) step r e = state_more (after s y.who y.event x.outcome) steps reports step r (omega arith)
 
+  -- reports that may be given of a run may be with one more that may be given of the next step
   pub legal_more : (s : State T J) (steps : List Step) (reports : List Report) (step : Step) (r : Report) → length steps ≡ length reports → AreReports s steps reports
       → IsReport (state_after s steps reports) step.who step.event r → AreReports s (steps ++ step ∷ []) (reports ++ r ∷ [])
   legal_more s [] [] step r e are is = (is, tt)
@@ -320,6 +316,7 @@ module _ {T J : Type 0} where
   legal_more s (y ∷ steps) [] step r e are is = absurd (omega arith)
   legal_more s (y ∷ steps) (x ∷ reports) step r e are is = (are.0, legal_more (after s y.who y.event x.outcome) steps reports step r (omega arith) are.1 is)
 
+  -- a run so far, with the report of its next step, is the run so far and that step
   pub run_more : (s : State T J) (all : List Step) (i : ℕ) (d : Step) (reports reports' : List Report) (r : Report) (now new : State T J) → i < length all → length reports ≡ i
       → AreReports s (take i all) reports → now ≡ state_after s (take i all) reports → IsReport now (get_or all i d).who (get_or all i d).event r → new ≡ after now (get_or all i d).who (get_or all i d).event r.outcome
       → reports' ≡ reports ++ r ∷ [] → AreReports s (take (i + 1) all) reports' × (new ≡ state_after s (take (i + 1) all) reports')
@@ -331,6 +328,7 @@ module _ {T J : Type 0} where
         rw (take_more all i d lt, more, on, is) (sym (state_more s (take i all) reports step r even)),
       )
 
+  -- the empty history fits a new collector
   pub fits_opened : (limits : Limits) (roots : ℕ) → 2 ≤ limits.expiry → Fits {T = T} {J = J} [] (opened limits roots)
   fits_opened limits roots le = record {
     graceful = tt;
@@ -345,6 +343,7 @@ module _ {T J : Type 0} where
     };
   }
 
+  -- the history fits after a registration
   pub fits_registered : (h : List Mark) (s : State T J) (n : ℕ) → n < length s.table → Fits h s → Fits h (registered s n)
   fits_registered h s n lt f =
       let at = f.places n in
@@ -354,12 +353,13 @@ module _ {T J : Type 0} where
   pub fits_store : (h : List Mark) (s s' : State T J) → s' ≡ with_store s s'.store → Fits h s → Fits h s'
   fits_store h s s' is f = rw is (record { graceful = f.graceful; later = f.later; wait = f.wait; places = f.places; queued = f.queued; once = record { each = f.once.each; tickets = f.once.tickets; count = f.once.count } })
 
+  -- the history fits after the roots changed
   pub fits_roots : (h : List Mark) (s : State T J) (roots : List Ptr) → Fits h s → Fits h (with_roots s roots)
   fits_roots h s roots f = record { graceful = f.graceful; later = f.later; wait = f.wait; places = f.places; queued = f.queued; once = record { each = f.once.each; tickets = f.once.tickets; count = f.once.count } }
 
   -- who may defer a job has a place and no call in flight
   pub fits_deferring : (h : List Mark) (s : State T J) (who : ℕ) (work : Work J) → defer_fault s who ≡ None → Fits h s → Fits (Deferred s.next (name_of work) ∷ h) (after_deferral s who work)
   fits_deferring h s who work e f =
-      let k = known (place s who).registered (or_count s.next (quiet_fault (place s who).phase (place s who))) e in
+      let k = known_if_faultless (place s who).registered (or_count s.next (quiet_fault (place s who).phase (place s who))) e in
       let idle = quiet_idle (place s who).phase (place s who) (no_quiet s.next (quiet_fault (place s who).phase (place s who)) k.1) in
       fits_after_deferral h s who work (in_table s who k.0) idle f

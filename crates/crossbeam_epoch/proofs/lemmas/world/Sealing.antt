@@ -1,6 +1,6 @@
 -- No empty bag is queued, and no seal is past the epoch, whatever steps led there.
 use Rattle.std.proofs.Common.{◌≡◌, ℕ, ◌+◌, ◌-◌, ◌<◌, ◌≤◌, Bool, true, false, List, [], ◌∷◌, ◌++◌, ◌==◌, ◌&&◌, Option, Some, None, refl, subst, inl, inr, length, arith, get_or-set_same, get_or-set_other}
-use Rattle.std.specs.Prelude.{slice_index_or, if◌then◌else◌, nat_lt, nat_le, is_none, drop, remove, slice_set, not}
+use Rattle.std.specs.Prelude.{slice_index_or, if◌then◌else◌, nat_lt, nat_le, is_none, remove, slice_set, not}
 use Rattle.std.specs.List.{Contains}
 use Rattle.std.proofs.lemmas.Bool.{cases_eq, cases_lt}
 use Rattle.std.proofs.lemmas.Bool.Decides.{nat_tests}
@@ -31,8 +31,8 @@ use Rattle.crossbeam_epoch.specs.World.Machine.{State, place, blank, with_place,
 use Rattle.crossbeam_epoch.specs.World.Steps.{fault, event_fault, begin_fault, when, begun, gone, moved, needs_memory, after, marks, state_after, AreReports, defer_fault, or_count, quiet_fault, IsOutcome, IsReport}
 use Rattle.crossbeam_epoch.specs.World.Store.{Store}
 use Rattle.crossbeam_epoch.specs.World.Sealing.{SealsAt, IsSealing}
-use Rattle.crossbeam_epoch.proofs.lemmas.world.Moves.{none_in, contains_tail, top_now}
-use Rattle.crossbeam_epoch.proofs.lemmas.world.Runs.{in_table, known, begin_idle, blank_at, fits_after}
+use Rattle.crossbeam_epoch.proofs.lemmas.world.Moves.{none_in, top_now, contains_drop}
+use Rattle.crossbeam_epoch.proofs.lemmas.world.Runs.{in_table, known_if_faultless, begin_idle, blank_at, fits_after, no_quiet}
 
 -- a later epoch does
 later : (e e' bag : ℕ) (phase : Phase) → e ≤ e' → SealsAt e bag phase → SealsAt e' bag phase
@@ -94,10 +94,6 @@ few_secured : (n : ℕ) (a : Bool) → (if a then Some F.Unpinned else when (not
 few_secured n true e = absurd (cc e)
 few_secured n false e = few_places n (nat_lt 0 n) (nat_le n 64) refl e
 
-no_quiet : (next : ℕ) (x : Option Fault) → or_count next x ≡ None → x ≡ None
-no_quiet next None e = refl
-no_quiet next (Some y) e = absurd (cc e)
-
 module _ {J : Type 0} where
   quiet_idle : (phase : Phase) (p : Participant J) (e n : ℕ) → quiet_fault phase p ≡ None → SealsAt e n phase
   quiet_idle Idle p e n q = tt
@@ -117,10 +113,6 @@ module _ {J : Type 0} where
   quiet_idle (Advance seen) p e n q = absurd (cc q)
   quiet_idle (Take answered bags) p e n q = absurd (cc q)
   quiet_idle (Call answered bags seal) p e n q = absurd (cc q)
-
-  drop_in : (xs : List (Sealed J)) (y : Sealed J) → Contains (drop 1 xs) y → Contains xs y
-  drop_in [] y m = m
-  drop_in (x ∷ xs) y m = contains_tail x xs y m
 
   push_filled : (queue : List (Sealed J)) (b : Sealed J) → ((c : Sealed J) → Contains queue c → 0 < length c.jobs) → 0 < length b.jobs → (c : Sealed J) → Contains (queue ++ b ∷ []) c → 0 < length c.jobs
   push_filled queue b all one c m = elim (Contains-push_cases queue b c m) [
@@ -165,7 +157,7 @@ module _ {T J : Type 0} where
   takes : (s : State T J) (who answered bags : ℕ) (b : Bool) → who < length s.table → IsSealing s → IsSealing (if b then taken s who answered bags else in_phase s who Idle)
   takes s who answered bags true lt i =
       let b = slice_index_or s.queue 0 (record { seal = 0; jobs = [] }) in
-      put s (taken s who answered bags) who (record (place s who) { hand = b.jobs; phase = Call answered (bags + 1) b.seal }) refl (omega arith) lt i tt (λ c m. i.filled c (drop_in s.queue c m)) (λ c m. i.past c (drop_in s.queue c m))
+      put s (taken s who answered bags) who (record (place s who) { hand = b.jobs; phase = Call answered (bags + 1) b.seal }) refl (omega arith) lt i tt (λ c m. i.filled c (contains_drop s.queue c m)) (λ c m. i.past c (contains_drop s.queue c m))
   takes s who answered bags false lt i = stay s who (record (place s who) { phase = Idle }) lt i tt
 
   calls_one : (s : State T J) (who answered bags seal : ℕ) (b : Bool) → who < length s.table → IsSealing s → IsSealing (if b then in_phase s who Idle else called_one s who answered bags seal)
@@ -226,11 +218,11 @@ module _ {T J : Type 0} where
 
   moving : (h : List Mark) (s : State T J) (who : ℕ) (event : Event) → fault s who event ≡ None → Fits h s → IsSealing s → IsSealing (moved s who event)
   moving h s who (Begin op) e f i =
-      let k = known (place s who).registered (event_fault (Begin op) (place s who).phase (place s who)) e in
+      let k = known_if_faultless (place s who).registered (event_fault (Begin op) (place s who).phase (place s who)) e in
       let idle = begin_idle op (place s who).phase (place s who) k.1 in
       beginning s who op (in_table s who k.0) idle (rw idle at k.1) i
   moving h s who Go e f i =
-      let k = known (place s who).registered (event_fault Go (place s who).phase (place s who)) e in
+      let k = known_if_faultless (place s who).registered (event_fault Go (place s who).phase (place s who)) e in
       going h s who (place s who).phase (in_table s who k.0) refl f (i.places who) i
 
   gives_up : (s : State T J) (who : ℕ) (b : Bool) → IsSealing s → IsSealing (if b then in_phase s who Idle else s)
@@ -262,9 +254,11 @@ module _ {T J : Type 0} where
   by_outcome h s who event None Running is o f i = moving h s who event is f i
   by_outcome h s who event None Done is o f i = moving h s who event is f i
 
+  -- after a step no empty bag is queued, and no seal is past the epoch
   pub sealing_after : (h : List Mark) (s : State T J) (who : ℕ) (event : Event) (r : Report) → IsReport s who event r → Fits h s → IsSealing s → IsSealing (after s who event r.outcome)
   sealing_after h s who event r is f i = by_outcome h s who event (fault s who event) r.outcome refl is.outcome f i
 
+  -- after a run no empty bag is queued, and no seal is past the epoch
   pub sealing_run : (h : List Mark) (s : State T J) (steps : List Step) (reports : List Report) → AreReports s steps reports → Fits h s → IsSealing s → IsSealing (state_after s steps reports)
   sealing_run h s [] [] are f i = i
   sealing_run h s [] (r ∷ reports) are f i = absurd are
@@ -272,6 +266,7 @@ module _ {T J : Type 0} where
   sealing_run h s (step ∷ steps) (r ∷ reports) are f i =
       sealing_run (marks s step.who step.event r h) (after s step.who step.event r.outcome) steps reports are.1 (fits_after h s step.who step.event r are.0 f) (sealing_after h s step.who step.event r are.0 f i)
 
+  -- of a new collector no empty bag is queued, and no seal is past the epoch
   pub sealing_opened : (limits : Limits) (roots : ℕ) → IsSealing {T = T} {J = J} (opened limits roots)
   sealing_opened limits roots = record {
     filled = λ b m. absurd (none_in b m);
@@ -279,9 +274,11 @@ module _ {T J : Type 0} where
     places = λ q. rw (blank_at limits.participants q) tt;
   }
 
+  -- after a registration no empty bag is queued, and no seal is past the epoch
   pub sealing_registered : (s : State T J) (n : ℕ) → n < length s.table → IsSealing s → IsSealing (registered s n)
   sealing_registered s n lt i = stay s n (record (place s n) { registered = true; pins = 0 }) lt i (i.places n)
 
+  -- with other cells and roots no empty bag is queued, and no seal is past the epoch
   pub sealing_beside : (s : State T J) (st : Store T) (roots : List Ptr) → IsSealing s → IsSealing (record s { store = st; roots = roots })
   sealing_beside s st roots i = record { filled = i.filled; past = i.past; places = i.places }
 
@@ -297,8 +294,9 @@ module _ {T J : Type 0} where
       let bag = old.bag ++ record { ticket = s.next; work = work } ∷ [] in
       put s (deferred s who work) who (record old { bag = bag }) refl (omega arith) lt i (quiet (length bag)) i.filled i.past
 
+  -- after an accepted job no empty bag is queued, and no seal is past the epoch
   pub sealing_deferral : (s : State T J) (who : ℕ) (work : Work J) → defer_fault s who ≡ None → IsSealing s → IsSealing (after_deferral s who work)
   sealing_deferral s who work e i =
-      let k = known (place s who).registered (or_count s.next (quiet_fault (place s who).phase (place s who))) e in
+      let k = known_if_faultless (place s who).registered (or_count s.next (quiet_fault (place s who).phase (place s who))) e in
       by_full s who work (length (place s who).bag == 64) refl (in_table s who k.0)
       (λ n. quiet_idle (place s who).phase (place s who) s.epoch n (no_quiet s.next (quiet_fault (place s who).phase (place s who)) k.1)) i

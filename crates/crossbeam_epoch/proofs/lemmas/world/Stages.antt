@@ -17,8 +17,9 @@ use Rattle.crossbeam_epoch.specs.declared.world.report.Report.{Report}
 use Rattle.crossbeam_epoch.specs.World.Machine.{State, place, blank, in_phase, published, is_at, relooked, repinned, secured, has_free, inspection, ends_advance, is_due, no_bag, taken, after_call, called_one}
 use Rattle.crossbeam_epoch.specs.World.Steps.{fault, event_fault, begin_fault, outcome_at, begun_at, begun, gone, needs_memory, after, IsOutcome, IsReport}
 use Rattle.crossbeam_epoch.specs.World.Progress.{Orderly, Stage, Resting, Pinning, Repinning, Flushing, Releasing, Securing, Collecting, stage, comes_by, IsOn, Secures, left_in, refusal, Begins, queues, collects, GoesOn}
+use Rattle.crossbeam_epoch.proofs.lemmas.world.Moves.{both_left}
 use Rattle.crossbeam_epoch.proofs.lemmas.world.Progress.{one_less}
-use Rattle.crossbeam_epoch.proofs.lemmas.world.Runs.{in_table, known}
+use Rattle.crossbeam_epoch.proofs.lemmas.world.Runs.{in_table, known_if_faultless, refused_begin}
 
 abbrev securing : Stage → Bool
 securing (Securing n) = true
@@ -40,14 +41,6 @@ flushing_collects O.Unpin e = absurd (cc e)
 flushing_collects O.Repin e = absurd (cc e)
 flushing_collects O.Release e = absurd (cc e)
 flushing_collects (O.Secure n) e = absurd (cc e)
-
-securing_seals : (op : Op) (m : ℕ) → comes_by (Securing (Some m)) op ≡ true → comes_by (Securing None) op ≡ true
-securing_seals (O.Secure n) m e = refl
-securing_seals O.Pin m e = absurd (cc e)
-securing_seals O.Unpin m e = absurd (cc e)
-securing_seals O.Repin m e = absurd (cc e)
-securing_seals O.Flush m e = absurd (cc e)
-securing_seals O.Release m e = absurd (cc e)
 
 flushing_queues : (op : Op) → comes_by Flushing op ≡ true → queues op ≡ true
 flushing_queues O.Flush e = refl
@@ -156,10 +149,6 @@ same m n h = grind (arith, nat_tests)
 
 itself : (n : ℕ) → (n == n) ≡ true
 itself n = grind (arith, nat_tests)
-
-left_part : (a b : Bool) → (a && b) ≡ true → a ≡ true
-left_part true b e = refl
-left_part false b e = absurd (cc e)
 
 right : (a b : Bool) → (a && b) ≡ true → b ≡ true
 right true b e = e
@@ -336,7 +325,7 @@ module _ {T J : Type 0} where
   took_lands s who op answered bags true lt o reg e due =
       let front = slice_index_or s.queue 0 no_bag in
       let p = record (place s who) { hand = front.jobs; phase = Call answered (bags + 1) front.seal } in
-      let some = due_front s answered (left_part _ _ due) in
+      let some = due_front s answered (both_left _ _ due) in
       let few = less bags 8 (right _ _ due) in
       let small = o.sealed front (Contains-get_or s.queue 0 no_bag some) in
       lands s who op (Take answered bags) p _ lt refl (record { on = λ r. (reg, e); fewer = omega arith; secures = unsecured op Collecting (place s who) p refl e })
@@ -458,25 +447,11 @@ module _ {T J : Type 0} where
   faultless : (s : State T J) (who : ℕ) (op : Op) → IsOn op (place s who) → fault s who Go ≡ None
   faultless s who op on = ap (λ b. if b then event_fault Go (place s who).phase (place s who) else Some F.Unknown) on.0 ∙ no_fault op (place s who).phase (place s who) on.1
 
-  pub goes_on : (s : State T J) (who : ℕ) (op : Op) (r : Report) → Orderly s → IsOn op (place s who) → IsReport s who Go r → GoesOn s who op r.outcome (after s who Go r.outcome)
-  goes_on s who op r o on is =
+  -- a step of a call in flight leaves it fewer steps, ends it, or finds no memory for its bag
+  pub reported_goes_on : (s : State T J) (who : ℕ) (op : Op) (r : Report) → Orderly s → IsOn op (place s who) → IsReport s who Go r → GoesOn s who op r.outcome (after s who Go r.outcome)
+  reported_goes_on s who op r o on is =
       let P : Option Fault → Type 0 = λ f. IsOutcome s who Go f r.outcome in
       by_outcome s who op r.outcome o on (subst P (faultless s who op on) is.outcome)
-
-  refused_begin : (s : State T J) (who : ℕ) (op : Op) (f : Fault) → after s who (Begin op) (Refused f) ≡ s
-  refused_begin s who op F.TableFull = refl
-  refused_begin s who op F.CellsFull = refl
-  refused_begin s who op F.Memory = refl
-  refused_begin s who op F.Unpinned = refl
-  refused_begin s who op F.Busy = refl
-  refused_begin s who op F.Count = refl
-  refused_begin s who op F.GuardOut = refl
-  refused_begin s who op (F.Registered n) = refl
-  refused_begin s who op F.Unknown = refl
-  refused_begin s who op F.Foreign = refl
-  refused_begin s who op F.Idle = refl
-  refused_begin s who op F.Limits = refl
-  refused_begin s who op F.InCall = refl
 
   refused_why : (s : State T J) (who : ℕ) (op : Op) (e : Option Fault) (f : Fault) → IsOutcome s who (Begin op) e (Refused f) → e ≡ Some f
   refused_why s who op (Some x) f is = sym (ap (λ (o : Outcome). fault_of x o) is)
@@ -502,7 +477,7 @@ module _ {T J : Type 0} where
   begun_running : (s : State T J) (who : ℕ) (op : Op) (e : Option Fault) → refusal s who op ≡ e → (place s who).phase ≡ Idle → IsOutcome s who (Begin op) e Running → Begins s who op Running (begun s who op)
   begun_running s who op (Some f) why idle is = absurd (cc is)
   begun_running s who op None why idle is =
-      let k = known (place s who).registered (begin_fault op (place s who)) why in
+      let k = known_if_faultless (place s who).registered (begin_fault op (place s who)) why in
       let lt = in_table s who k.0 in
       let at : place (begun s who op) who ≡ begun_at op (place s who) = get_or-set_same s.table who (begun_at op (place s who)) blank lt in
       let f = first (length s.table) op (place s who) k.0 idle in
@@ -521,8 +496,9 @@ module _ {T J : Type 0} where
   begins_by s who op Running idle is = begun_running s who op (refusal s who op) refl idle is
   begins_by s who op Done idle is = begun_done s who op (refusal s who op) refl is
 
-  pub begins : (s : State T J) (who : ℕ) (op : Op) (r : Report) → (place s who).phase ≡ Idle → IsReport s who (Begin op) r → Begins s who op r.outcome (after s who (Begin op) r.outcome)
-  begins s who op r idle is =
+  -- a begin between calls goes on, ends at once, or is refused for its first cause and changes nothing
+  pub reported_begins : (s : State T J) (who : ℕ) (op : Op) (r : Report) → (place s who).phase ≡ Idle → IsReport s who (Begin op) r → Begins s who op r.outcome (after s who (Begin op) r.outcome)
+  reported_begins s who op r idle is =
       let same : fault s who (Begin op) ≡ refusal s who op = ap (λ ph. if (place s who).registered then event_fault (Begin op) ph (place s who) else Some F.Unknown) idle in
       let P : Option Fault → Type 0 = λ f. IsOutcome s who (Begin op) f r.outcome in
       begins_by s who op r.outcome idle (subst P same is.outcome)

@@ -19,17 +19,17 @@ use Rattle.crossbeam_epoch.specs.declared.world.report.Report.{Report}
 use Rattle.crossbeam_epoch.specs.World.Fits.{IsTable}
 use Rattle.crossbeam_epoch.specs.World.Machine.{State, place, blank, no_bag, after_call, published, relooked, repinned, secured, inspection, in_phase, registered, is_due, taken, called_one, deferred, deferred_anew, after_deferral}
 use Rattle.crossbeam_epoch.specs.World.Steps.{after, gone, moved, begun_at, needs_memory, fault, event_fault, defer_fault, or_count, quiet_fault, IsOutcome, IsReport}
-use Rattle.crossbeam_epoch.proofs.lemmas.world.Runs.{known}
+use Rattle.crossbeam_epoch.proofs.lemmas.world.Runs.{known_if_faultless}
 
 module _ {J : Type 0} where
   -- nobody's place is blank
-  abbrev pub IsSpare : Participant J → Type 0
+  abbrev IsSpare : Participant J → Type 0
   IsSpare p = p.registered ≡ false → p ≡ blank
 
   held : (p p' : Participant J) → p'.registered ≡ p.registered → p.registered ≡ true → IsSpare p'
   held p p' same is = λ no. absurd (cc (same, is, no))
 
-  pub table_put : (places : ℕ) (table : List (Participant J)) (who : ℕ) (p : Participant J) → IsSpare p → IsTable places table → IsTable places (set table who p)
+  table_put : (places : ℕ) (table : List (Participant J)) (who : ℕ) (p : Participant J) → IsSpare p → IsTable places table → IsTable places (set table who p)
   table_put places table who p spare t = record {
     long = rw length-set t.long;
     free = λ q. elim (cases_eq q who) [
@@ -41,6 +41,7 @@ module _ {J : Type 0} where
     ];
   }
 
+  -- a new table has its places, all blank
   pub table_new : (places : ℕ) → IsTable places (replicate places (blank {J = J}))
   table_new places = record {
     long = length-replicate places blank;
@@ -69,7 +70,7 @@ module _ {J : Type 0} where
 
 module _ {T J : Type 0} where
   -- the table of a state has its places
-  abbrev pub HasTable : State T J → Type 0
+  abbrev HasTable : State T J → Type 0
   HasTable s = IsTable s.limits.participants s.table
 
   acted : (s : State T J) (who : ℕ) (p : Participant J) → p.registered ≡ (place s who).registered → (place s who).registered ≡ true → HasTable s → IsTable s.limits.participants (set s.table who p)
@@ -134,10 +135,10 @@ module _ {T J : Type 0} where
 
   moved_table : (s : State T J) (who : ℕ) (event : Event) → fault s who event ≡ None → HasTable s → HasTable (moved s who event)
   moved_table s who (Begin op) e t =
-      let k = known (place s who).registered (event_fault (Begin op) (place s who).phase (place s who)) e in
+      let k = known_if_faultless (place s who).registered (event_fault (Begin op) (place s who).phase (place s who)) e in
       table_put s.limits.participants s.table who (begun_at op (place s who)) (begun_spare op (place s who) k.0) t
   moved_table s who Go e t =
-      let k = known (place s who).registered (event_fault Go (place s who).phase (place s who)) e in
+      let k = known_if_faultless (place s who).registered (event_fault Go (place s who).phase (place s who)) e in
       gone_table s who (place s who).phase k.0 t
 
   by_outcome : (s : State T J) (who : ℕ) (event : Event) (e : Option Fault) (o : Outcome) → fault s who event ≡ e → IsOutcome s who event e o → HasTable s → HasTable (after s who event o)
@@ -162,7 +163,7 @@ module _ {T J : Type 0} where
   -- who may defer a job is registered
   pub table_deferral : (s : State T J) (who : ℕ) (work : Work J) → defer_fault s who ≡ None → HasTable s → HasTable (after_deferral s who work)
   table_deferral s who work e t =
-      let k = known (place s who).registered (or_count s.next (quiet_fault (place s who).phase (place s who))) e in
+      let k = known_if_faultless (place s who).registered (or_count s.next (quiet_fault (place s who).phase (place s who))) e in
       by_full s who work (length (place s who).bag == 64) k.0 t
 
   -- a state has what its like has

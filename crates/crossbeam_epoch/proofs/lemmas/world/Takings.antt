@@ -21,9 +21,10 @@ use Rattle.crossbeam_epoch.specs.World.Sealing.{IsSealing}
 use Rattle.crossbeam_epoch.specs.World.Steps.{event_fault, gone, after, IsReport}
 use Rattle.crossbeam_epoch.specs.World.Rounds.{Finishes, TakesOff, IsSealedBag}
 use Rattle.crossbeam_epoch.proofs.lemmas.world.Collecting.{IsTaking, due_front, no_more, none_taken, not_due, one_more}
-use Rattle.crossbeam_epoch.proofs.lemmas.world.Rounds.{IsKept, busy, kept_from, kept_step, no_jobs, sealed_none, sealed_own, some_jobs}
-use Rattle.crossbeam_epoch.proofs.lemmas.world.Runs.{in_table, known}
-use Rattle.crossbeam_epoch.proofs.lemmas.world.Wholes.{Unrefused, faultless, as_moved, finishing}
+use Rattle.crossbeam_epoch.proofs.lemmas.world.Jobs.{no_items}
+use Rattle.crossbeam_epoch.proofs.lemmas.world.Rounds.{IsKept, busy, kept_from, kept_step, sealed_none, sealed_own, some_jobs}
+use Rattle.crossbeam_epoch.proofs.lemmas.world.Runs.{in_table, known_if_faultless}
+use Rattle.crossbeam_epoch.proofs.lemmas.world.Wholes.{Unrefused, fault_unrefused, as_moved, finishing}
 
 -- the queue as a flush of this bag found it, with the bag once it is sealed
 abbrev IsFound : {J : Type 0} → List (Sealed J) → List (Deferral J) → (List (Sealed J) → Type 0) → Type 0
@@ -116,7 +117,7 @@ module _ {T J : Type 0} (who expiry : ℕ) (found : List (Sealed J)) (bag : List
 
   begins : (s : State T J) (none : Bool) → who < length s.table → (length (place s who).bag == 0) ≡ none → s.queue ≡ found → (place s who).bag ≡ bag → Takings (with_place s who (record (place s who) { phase = if none then Load else Seal }))
   begins s true lt is q b =
-      put (with_place s who (record (place s who) { phase = Load })) s.table (record (place s who) { phase = Load }) refl lt ([], sealed_none bag (sym b ∙ no_jobs (place s who).bag is), q ∙ sym (append-nil found))
+      put (with_place s who (record (place s who) { phase = Load })) s.table (record (place s who) { phase = Load }) refl lt ([], sealed_none bag (sym b ∙ no_items (place s who).bag is), q ∙ sym (append-nil found))
   begins s false lt is q b = put (with_place s who (record (place s who) { phase = Seal })) s.table (record (place s who) { phase = Seal }) refl lt (q, b, λ none. some_jobs (place s who).bag is (b ∙ none))
 
 -- a flush takes what is due by the epoch that it leaves
@@ -128,14 +129,14 @@ flush_takes {T} {J} s s' who h f o i fin =
   where
     first : (r : Report) → IsReport s who (Begin O.Flush) r → Unrefused r.outcome → IsKept s who (after s who (Begin O.Flush) r.outcome) × Takings {T = T} {J = J} who s.limits.expiry s.queue (place s who).bag (after s who (Begin O.Flush) r.outcome)
     first r report u =
-        let k = known (place s who).registered (event_fault (Begin O.Flush) (place s who).phase (place s who)) (faultless s who (Begin O.Flush) r report u) in (
+        let k = known_if_faultless (place s who).registered (event_fault (Begin O.Flush) (place s who).phase (place s who)) (fault_unrefused s who (Begin O.Flush) r report u) in (
           kept_step s who s (Begin O.Flush) r (kept_from s who h f o i) report,
           subst (Takings {T = T} {J = J} who s.limits.expiry s.queue (place s who).bag) (sym (as_moved s who (Begin O.Flush) r.outcome u)) (begins who s.limits.expiry s.queue (place s who).bag s (length (place s who).bag == 0) (in_table s who k.0) refl refl refl),
         )
 
     next : (now : State T J) (r : Report) → IsKept s who now × Takings {T = T} {J = J} who s.limits.expiry s.queue (place s who).bag now → IsReport now who Go r → Unrefused r.outcome → IsKept s who (after now who Go r.outcome) × Takings {T = T} {J = J} who s.limits.expiry s.queue (place s who).bag (after now who Go r.outcome)
     next now r inv report u =
-        let k = known (place now who).registered (event_fault Go (place now who).phase (place now who)) (faultless now who Go r report u) in (
+        let k = known_if_faultless (place now who).registered (event_fault Go (place now who).phase (place now who)) (fault_unrefused now who Go r report u) in (
           kept_step s who now Go r inv.0 report,
           subst (Takings {T = T} {J = J} who s.limits.expiry s.queue (place s who).bag) (sym (as_moved now who Go r.outcome u))
               (goes who s.limits.expiry s.queue (place s who).bag now (place now who).phase (in_table now who k.0) (ap (λ l. l.expiry) inv.0.limits) inv.0.sealing.filled (busy (place now who).phase (place now who) k.1) inv.1),

@@ -24,7 +24,7 @@ use Rattle.crossbeam_epoch.specs.World.Store.{Store, fresh, cell_at, value_in, v
 use Rattle.crossbeam_epoch.specs.World.Sealing.{is_name, counts_name, destructions, bit, DestroyedOnce}
 use Rattle.crossbeam_epoch.proofs.lemmas.world.CellWrites.{placed_sets, emptied_sets, replaced_sets}
 use Rattle.crossbeam_epoch.proofs.lemmas.world.Givens.{live_given}
-use Rattle.crossbeam_epoch.proofs.lemmas.world.Progress.{moves}
+use Rattle.crossbeam_epoch.proofs.lemmas.world.Progress.{moves_reported}
 
 one_name : (m n : Name) → m ≡ n → is_name m n ≡ true
 one_name m n e =
@@ -148,15 +148,18 @@ module _ {T : Type 0} where
         omega (arith, same, given, le))
   ]
 
+  -- where each destruction is told as it may be, that of a name is told once at most
   pub once_told : (h : List Mark) (st : Store T) (n : Name) → DestroyedOnce h st → destructions h n ≤ 1
   once_told h st n t = let le = t n in let one = at_most (was_given st n) in omega (arith, le, one)
 
+  -- each destruction is told once at most after a value was placed under a new name
   pub placed_once : (h : List Mark) (st : Store T) (m : Name) (v : T) → IsNext st m → was_given st m ≡ false → DestroyedOnce h st → DestroyedOnce h (placed st m v)
   placed_once h st m v next new t =
       let le = t m in
       let none : bit (was_given st m) ≡ 0 = ap bit new in
       at_set h st (placed st m v) m v (placed_sets st m v next) (omega (arith, le, none)) t
 
+  -- each destruction is told once at most after a standing value was replaced
   pub replaced_once : (h : List Mark) (st : Store T) (m : Name) (v : T) → is_some (value_at st m) ≡ true → DestroyedOnce h st → DestroyedOnce h (replaced st m.cell v)
   replaced_once h st m v live t =
       let le = t m in
@@ -186,25 +189,28 @@ module _ {T : Type 0} where
           subst P (sym e.1) (told_gone h st m n e.0 t))
 
 module _ {T J : Type 0} where
+  -- each destruction is told once at most after a step
   pub after_once : (h : List Mark) (s : State T J) (who : ℕ) (event : Event) (r : Report) → Orderly s → IsReport s who event r → DestroyedOnce h s.store → DestroyedOnce (marks s who event r h) (after s who event r.outcome).store
   after_once h s who event r o is t = λ n.
-      let m : Moves s who r.called (after s who event r.outcome) = moves s who event r o is in
+      let m : Moves s who r.called (after s who event r.outcome) = moves_reported s who event r o is in
       let less = step_tells s who event r.outcome r.called h n in
       let le = empties_once h s.store (after s who event r.outcome).store r.called n m.cells t in
       omega (arith, less, le)
 
+  -- each destruction is told once at most after a run
   pub run_once : (h : List Mark) (s : State T J) (steps : List Step) (reports : List Report) → Orderly s → AreReports s steps reports → DestroyedOnce h s.store → DestroyedOnce (history_after s steps reports h) (state_after s steps reports).store
   run_once h s [] [] o are t = t
   run_once h s [] (r ∷ reports) o are t = absurd are
   run_once h s (step ∷ steps) [] o are t = t
   run_once h s (step ∷ steps) (r ∷ reports) o are t =
-      run_once (marks s step.who step.event r h) (after s step.who step.event r.outcome) steps reports (moves s step.who step.event r o are.0).orderly are.1 (after_once h s step.who step.event r o are.0 t)
+      run_once (marks s step.who step.event r h) (after s step.who step.event r.outcome) steps reports (moves_reported s step.who step.event r o are.0).orderly are.1 (after_once h s step.who step.event r o are.0 t)
 
+  -- after a run no bag has too many jobs, and only collections that call have some in hand
   pub run_orderly : (s : State T J) (steps : List Step) (reports : List Report) → Orderly s → AreReports s steps reports → Orderly (state_after s steps reports)
   run_orderly s [] [] o are = o
   run_orderly s [] (r ∷ reports) o are = absurd are
   run_orderly s (step ∷ steps) [] o are = o
-  run_orderly s (step ∷ steps) (r ∷ reports) o are = run_orderly (after s step.who step.event r.outcome) steps reports (moves s step.who step.event r o are.0).orderly are.1
+  run_orderly s (step ∷ steps) (r ∷ reports) o are = run_orderly (after s step.who step.event r.outcome) steps reports (moves_reported s step.who step.event r o are.0).orderly are.1
 
 -- of a new store no destruction was told
 pub opened_once : (T : Type 0) (most turn_max : ℕ) → DestroyedOnce [] (opened_store {T = T} most turn_max)

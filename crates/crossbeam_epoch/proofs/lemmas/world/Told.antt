@@ -89,14 +89,14 @@ apart j n ge ne = elim (cases_lt n j) [ inl lt ↦ lt | inr le ↦ absurd (ne (o
 
 module _ {T : Type 0} where
   -- whether a name isn't destroyed
-  abbrev pub lives : Store T → Name → Bool
+  abbrev lives : Store T → Name → Bool
   lives st n = is_some (value_at st n)
 
   same_ends : {A : Type 0} (st st' : Store T) (n : Name) → st' ≡ st → lives st n ≡ true → lives st' n ≡ false → A
   same_ends st st' n is live gone = absurd (cc (live, ap (λ (x : Store T). lives x n) is, gone))
 
   -- a cell that is emptied takes one name with it
-  pub emptied_gone : (st : Store T) (name n : Name) → is_some (value_at st name) ≡ true → is_some (value_at st n) ≡ true → is_some (value_at (emptied st name.cell) n) ≡ false → name ≡ n
+  emptied_gone : (st : Store T) (name n : Name) → is_some (value_at st name) ≡ true → is_some (value_at st n) ≡ true → is_some (value_at (emptied st name.cell) n) ≡ false → name ≡ n
   emptied_gone st name n stood live gone = elim (cases_eq n.cell name.cell) [
     | inl is ↦
         let a = turn_of (cell_at st name.cell) name.turn stood in
@@ -168,6 +168,7 @@ module _ {T : Type 0} where
   ]
 
 module _ {T J : Type 0} where
+  -- the act of a step marks what the step marks
   pub marks_act : (s : State T J) (who : ℕ) (event : Event) (r : Report) (h : List Mark) → with_act (step_act s who event r) h ≡ marks s who event r h
   marks_act s who event r h = by_outcome r.outcome
     where
@@ -273,6 +274,7 @@ module _ {T J : Type 0} where
     given = λ n was. elim was [ inl now ↦ live_given s'.store n now | inr before ↦ keeps n (t.given n before) ];
   }
 
+  -- the moments with that of a step lead to the state after it
   pub tells_after : (names : T → List Name) (h : List Moment) (s : State T J) (who : ℕ) (event : Event) (r : Report) → IsReport s who event r → HasMoments names h s
       → HasMoments names (moment names (step_act s who event r) (after s who event r.outcome) ∷ h) (after s who event r.outcome)
   tells_after names h s who event r is t =
@@ -281,6 +283,7 @@ module _ {T J : Type 0} where
       (λ n live gone. step_ends s who event r n is live gone)
       (table_after s who event r is t.table) (after_keeps s who event r.outcome)
 
+  -- the moments with those of a run lead to the state after it
   pub tells_run : (names : T → List Name) (h : List Moment) (s : State T J) (steps : List Step) (reports : List Report) → AreReports s steps reports → HasMoments names h s → HasMoments names (moments_after names s steps reports h) (state_after s steps reports)
   tells_run names h s [] [] are t = t
   tells_run names h s [] (r ∷ reports) are t = absurd are
@@ -289,6 +292,7 @@ module _ {T J : Type 0} where
       tells_run names (moment names (step_act s step.who step.event r) (after s step.who step.event r.outcome) ∷ h) (after s step.who step.event r.outcome) steps reports are.1
       (tells_after names h s step.who step.event r are.0 t)
 
+  -- one quiet moment leads to a new collector
   pub tells_opened : (names : T → List Name) (limits : Limits) (roots : ℕ) (s : State T J) → s ≡ opened limits roots → limits.expiry ≡ 2 → HasMoments names (moment names Quiet s ∷ []) s
   tells_opened names limits roots s is two = rw is (record { fits = fits_opened limits roots (omega (arith, two)); now = (refl, λ n. refl, λ n. refl); ends = tt; table = table_new limits.participants; given = λ n was. elim was [ inl now ↦ live_given (opened {T = T} {J = J} limits roots).store n now | inr before ↦ absurd before ] })
 
@@ -300,6 +304,7 @@ module _ {T J : Type 0} where
   pub tells_still : (names : T → List Name) (s s' : State T J) → s' ≡ s → NextMoment names Quiet s s'
   tells_still names s s' is = λ h t. tells_same names h s s' Quiet t (rw is t.fits) (ap (λ (x : State T J). x.store) is) (table_is s' s is t.table)
 
+  -- a quiet moment leads over a registration
   pub tells_registered : (names : T → List Name) (s s' : State T J) (n : ℕ) → s' ≡ registered s n → n < length s.table → NextMoment names Quiet s s'
   tells_registered names s s' n is lt = λ h t. tells_same names h s s' Quiet t (rw is (fits_registered (marks_of h) s n lt t.fits)) (ap (λ (x : State T J). x.store) is) (table_is s' (registered s n) is (table_registered s n t.table))
 
@@ -310,11 +315,13 @@ module _ {T J : Type 0} where
       by_full true = refl
       by_full false = refl
 
+  -- a moment that marks a job's deferral leads over it
   pub tells_deferred : (names : T → List Name) (s s' : State T J) (who k : ℕ) (work : Work J) → s' ≡ after_deferral s who work → k ≡ s.next → defer_fault s who ≡ None → NextMoment names (Marked (Deferred k (name_of work))) s s'
   tells_deferred names s s' who k work is ticket none = λ h t.
       tells_same names h s s' (Marked (Deferred k (name_of work))) t (rw (ticket, is) (fits_deferring (marks_of h) s who work none t.fits))
       (ap (λ (x : State T J). x.store) is ∙ deferral_store s who work) (table_is s' (after_deferral s who work) is (table_deferral s who work none t.table))
 
+  -- a quiet moment leads over a change of the roots
   pub tells_roots : (names : T → List Name) (s s' : State T J) (roots : List Ptr) → s' ≡ with_roots s roots → NextMoment names Quiet s s'
   tells_roots names s s' roots is = λ h t. tells_same names h s s' Quiet t (rw is (fits_roots (marks_of h) s roots t.fits)) (ap (λ (x : State T J). x.store) is) (table_is s' (with_roots s roots) is t.table)
 
@@ -345,25 +352,25 @@ module _ {T J : Type 0} where
   still_told : (names : T → List Name) (s : State T J) → NextMoment names Quiet s s
   still_told names s = tells_still names s s refl
 
+  -- a quiet moment leads over the placing of a value, whether it found a cell or not
   pub tells_placed : (names : T → List Name) (s v : State T J) (st : Store T) (x : T) (r : Result Name T) → v ≡ s → IfOk r (λ name. IsNext v.store name × (st ≡ placed v.store name x)) → IfErr r (λ y. (y ≡ x) × (st ≡ v.store)) → NextMoment names Quiet s (with_store v st)
   tells_placed names s v st x (Ok name) is on back = at_store names s v Quiet (placed v.store name x) st is on.1 (placed_told names v name x on.0)
   tells_placed names s v st x (Err y) is on back = at_store names s v Quiet v.store st is back.1 (still_told names v)
 
+  -- a moment that tells what is given back leads over it
   pub tells_given_back : (names : T → List Name) (s v : State T J) (st : Store T) (name : Name) (x : T) → v ≡ s → Some x ≡ value_at v.store name → st ≡ (if is_some (value_at v.store name) then emptied v.store name.cell else v.store) → NextMoment names (GivenBack name) s (with_store v st)
   tells_given_back names s v st name x is stood cells =
       at_store names s v (GivenBack name) (emptied v.store name.cell) st is (cells ∙ sym (ap (λ (o : Option T). if is_some o then emptied v.store name.cell else v.store) stood)) (given_back_told names v name x (sym stood))
 
+  -- a quiet moment leads over giving back what is already destroyed
   pub tells_none_back : (names : T → List Name) (s v : State T J) (st : Store T) (name : Name) → v ≡ s → None ≡ value_at v.store name → st ≡ (if is_some (value_at v.store name) then emptied v.store name.cell else v.store) → NextMoment names Quiet s (with_store v st)
   tells_none_back names s v st name is none cells =
       at_store names s v Quiet v.store st is (cells ∙ sym (ap (λ (o : Option T). if is_some o then emptied v.store name.cell else v.store) none)) (still_told names v)
 
+  -- a quiet moment leads over the replacing of a value, whether one stood there or not
   pub tells_replaced : (names : T → List Name) (s v : State T J) (st : Store T) (name : Name) (x : T) (r : Result T T) → v ≡ s → IfOk r (λ y. (value_at v.store name ≡ Some y) × (st ≡ replaced v.store name.cell x)) → IfErr r (λ y. (value_at v.store name ≡ None) × (y ≡ x) × (st ≡ v.store)) → NextMoment names Quiet s (with_store v st)
   tells_replaced names s v st name x (Ok y) is on back = at_store names s v Quiet (replaced v.store name.cell x) st is on.1 (replaced_told names v name.cell x)
   tells_replaced names s v st name x (Err y) is on back = at_store names s v Quiet v.store st is back.2 (still_told names v)
-
-  pub opened_told : {E : Type 0} (names : T → List Name) (limits : Limits) (roots : ℕ) (r : Result (State T J) E) → IfOk r (λ s. s ≡ opened limits roots) → IfOk r (λ s. limits.expiry ≡ 2 → HasMoments names (moment names Quiet s ∷ []) s)
-  opened_told names limits roots (Ok s) is = λ two. tells_opened names limits roots s is two
-  opened_told names limits roots (Err e) is = tt
 
   -- a name that is placed was never live before
   pub placed_new : (names : T → List Name) (s : State T J) (name : Name) → IsNext s.store name → (h : List Moment) → HasMoments names h s → WasLive h name → ⊥

@@ -23,7 +23,7 @@ undated_began (Deferred ticket name ∷ h) q = undated_began h q
 undated_began (Called ticket name ∷ h) q = undated_began h q
 
 -- without its epochs a history has the same participants block a job
-pub undated_blocks : (h : List Mark) (q t : ℕ) → blocks (undated h) q t ≡ blocks h q t
+undated_blocks : (h : List Mark) (q t : ℕ) → blocks (undated h) q t ≡ blocks h q t
 undated_blocks [] q t = refl
 undated_blocks (Pinned who epoch ∷ h) q t = ap (λ b. if who == q then false else b) (undated_blocks h q t)
 undated_blocks (Repinned who epoch ∷ h) q t = ap (λ b. if who == q then false else b) (undated_blocks h q t)
@@ -59,7 +59,7 @@ undated_deferrals (Deferred ticket name ∷ h) t = ap (λ n. (if ticket == t the
 undated_deferrals (Called ticket name ∷ h) t = undated_deferrals h t
 
 -- a removal that a history accepted is accepted without its epochs
-pub undated_deferred : (h : List Mark) (t : ℕ) (n : Name) → WasDeferred h t n → WasDeferred (undated h) t n
+undated_deferred : (h : List Mark) (t : ℕ) (n : Name) → WasDeferred h t n → WasDeferred (undated h) t n
 undated_deferred [] t n d = absurd d
 undated_deferred (Pinned who epoch ∷ h) t n d = undated_deferred h t n d
 undated_deferred (Repinned who epoch ∷ h) t n d = undated_deferred h t n d

@@ -25,10 +25,10 @@ use Rattle.crossbeam_epoch.specs.World.Progress.{Orderly, Moves, Begins, GoesOn,
 use Rattle.crossbeam_epoch.specs.World.Steps.{fault, busy_fault, event_fault, after, IsOutcome, IsReport, AreReports}
 use Rattle.crossbeam_epoch.specs.World.WaitFree.{most_steps, is_own, counted, steps_in_flight, AllEndInTime, IsOver}
 use Rattle.crossbeam_epoch.proofs.lemmas.world.Moves.{contains_tail}
-use Rattle.crossbeam_epoch.proofs.lemmas.world.Progress.{moves}
-use Rattle.crossbeam_epoch.proofs.lemmas.world.Runs.{known, begin_idle, refused_begin}
-use Rattle.crossbeam_epoch.proofs.lemmas.world.Stages.{begins, goes_on}
-use Rattle.crossbeam_epoch.proofs.lemmas.world.Wholes.{Unrefused, faultless, go_steps, from_front}
+use Rattle.crossbeam_epoch.proofs.lemmas.world.Progress.{moves_reported}
+use Rattle.crossbeam_epoch.proofs.lemmas.world.Runs.{known_if_faultless, begin_idle, refused_begin}
+use Rattle.crossbeam_epoch.proofs.lemmas.world.Stages.{reported_begins, reported_goes_on}
+use Rattle.crossbeam_epoch.proofs.lemmas.world.Wholes.{Unrefused, fault_unrefused, go_steps, from_front}
 
 -- a call in flight has a step left
 some_left : (w hand : ℕ) (op : Op) (phase : Phase) → comes_by (stage phase) op ≡ true → 0 < left_in w phase hand
@@ -71,15 +71,6 @@ some_steps w O.Flush = omega arith
 some_steps w O.Release = omega arith
 some_steps w (O.Secure n) = omega arith
 
--- no call has more steps than 527 and one for each place
-pub at_most : (w : ℕ) (op : Op) → most_steps w op ≤ w + 527
-at_most w O.Pin = omega arith
-at_most w O.Unpin = omega arith
-at_most w O.Repin = omega arith
-at_most w O.Flush = omega arith
-at_most w O.Release = omega arith
-at_most w (O.Secure n) = omega arith
-
 -- where each step goes on, each is counted
 all_counted : (who : ℕ) (rs : List Report) → ((x : Report) → Contains rs x → x.outcome ≡ Running) → steps_in_flight who (go_steps who (length rs)) rs ≡ length rs
 all_counted who [] all = refl
@@ -118,7 +109,7 @@ module _ {T J : Type 0} where
   other_step : (s : State T J) (who q : ℕ) (op : Op) (n : ℕ) (event : Event) (r : Report) → who ≢ q → Orderly s → IsOn op (place s who) → IsReport s q event r
       → (IsOn op (place (after s q event r.outcome) who) → n < steps_left (after s q event r.outcome) who) → n < steps_left s who
   other_step s who q op n event r ne o on is next =
-      let b = beside s (after s q event r.outcome) who q op r.called ne (moves s q event r o is) on in
+      let b = beside s (after s q event r.outcome) who q op r.called ne (moves_reported s q event r o is) on in
       let less = next b.0 in let same = b.1 in omega (arith, less, same)
 
   -- n steps that leave the call in flight, and the step before them
@@ -138,32 +129,33 @@ module _ {T J : Type 0} where
         let own : (q == who) ≡ true = grind (arith, nat_tests) in
         let is' = subst (λ x. IsReport s x Go r) (sym same) is in
         let next' = subst (λ x. IsOn op (place (after s x Go r.outcome) who) → n < steps_left (after s x Go r.outcome) who) (sym same) next in
-        rw own (own_step s who op n r.outcome on (goes_on s who op r o on is') next')
+        rw own (own_step s who op n r.outcome on (reported_goes_on s who op r o on is') next')
     | inr ne ↦
         let other : (q == who) ≡ false = grind (arith, nat_tests) in
         rw other (other_step s who q op n Go r ne o on is next)
   ]
 
+  -- a call in flight is left so by fewer steps than it has left
   pub in_time : (s : State T J) (who : ℕ) (op : Op) (steps : List Step) (reports : List Report) → Orderly s → IsOn op (place s who) → AreReports s steps reports → steps_in_flight who steps reports < steps_left s who
   in_time s who op [] reports o on are = some_left (length s.table) (length (place s who).hand) op (place s who).phase on.1
   in_time s who op (step ∷ steps) [] o on are = some_left (length s.table) (length (place s who).hand) op (place s who).phase on.1
   in_time s who op (step ∷ steps) (r ∷ reports) o on are =
-      let m = moves s step.who step.event r o are.0 in
+      let m = moves_reported s step.who step.event r o are.0 in
       any_step s who step.who op (steps_in_flight who steps reports) step.event r o on are.0 (λ on'. in_time (after s step.who step.event r.outcome) who op steps reports m.orderly on' are.1)
 
   -- a call that goes on has begun, and has its steps left
   begun_on : (s : State T J) (who : ℕ) (op : Op) (r : Report) → IsReport s who (Begin op) r → r.outcome ≡ Running → Begins s who op Running (after s who (Begin op) Running)
   begun_on s who op r is runs =
       let u : Unrefused r.outcome = subst (λ o. Unrefused o) (sym runs) tt in
-      let k = known (place s who).registered (event_fault (Begin op) (place s who).phase (place s who)) (faultless s who (Begin op) r is u) in
+      let k = known_if_faultless (place s who).registered (event_fault (Begin op) (place s who).phase (place s who)) (fault_unrefused s who (Begin op) r is u) in
       let idle = begin_idle op (place s who).phase (place s who) k.1 in
       let P : Outcome → Type 0 = λ x. Begins s who op x (after s who (Begin op) x) in
-      subst P runs (begins s who op r idle is)
+      subst P runs (reported_begins s who op r idle is)
 
   first_in_time : (s : State T J) (who : ℕ) (op : Op) (r : Report) (steps : List Step) (reports : List Report) → Orderly s → IsReport s who (Begin op) r → r.outcome ≡ Running → AreReports (after s who (Begin op) r.outcome) steps reports
       → 1 + steps_in_flight who steps reports < most_steps (length s.table) op
   first_in_time s who op r steps reports o is runs are =
-      let m = moves s who (Begin op) r o is in
+      let m = moves_reported s who (Begin op) r o is in
       let P : Outcome → Type 0 = λ x. Moves s who r.called (after s who (Begin op) x) in
       let Q : Outcome → Type 0 = λ x. AreReports (after s who (Begin op) x) steps reports in
       let s' = after s who (Begin op) Running in
@@ -176,11 +168,12 @@ module _ {T J : Type 0} where
       let same : most_steps (length s'.table) op ≡ most_steps (length s.table) op = ap (λ w. most_steps w op) long in
       omega (arith, less, most, same)
 
+  -- each call that begins in a run ends within its most steps
   pub all_in_time : (s : State T J) (steps : List Step) (reports : List Report) → Orderly s → AreReports s steps reports → AllEndInTime (length s.table) steps reports
   all_in_time s [] reports o are = tt
   all_in_time s (step ∷ steps) [] o are = tt
   all_in_time s (step ∷ steps) (r ∷ reports) o are =
-      let m = moves s step.who step.event r o are.0 in (
+      let m = moves_reported s step.who step.event r o are.0 in (
         λ op is runs. (
             let P : Event → Type 0 = λ x. IsReport s step.who x r in
             let Q : Event → Type 0 = λ x. AreReports (after s step.who x r.outcome) steps reports in
@@ -199,6 +192,7 @@ module _ {T J : Type 0} where
       let n = all_counted who rs (λ x m. all x (contains_tail r rs x m)) in
       omega (arith, less, n)
 
+  -- a whole call that may take its most steps is over at its end
   pub call_over : (s : State T J) (who : ℕ) (op : Op) (most : ℕ) (reports : List Report) (newest : Option Report) (s' : State T J) → Orderly s → IsCall s who op most reports newest s' → most_steps (length s.table) op ≤ most → IsOver newest
   call_over s who op most reports None s' o c le = let none : most ≡ 0 = c.stops in let some = some_steps (length s.table) op in omega (arith, none, le, some)
   call_over s who op most reports (Some r) s' o c le = λ runs.

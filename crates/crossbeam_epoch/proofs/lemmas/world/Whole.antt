@@ -29,9 +29,11 @@ module _ {T J : Type 0} where
       let new' : new ≡ after (state_after s (call_steps who op n) g.reports) who (event_at op n) r.outcome = rw (sym g.state, sym g.next) on in
       (g.reports, g.long, legal_more s (call_steps who op n) g.reports step r even g.legal report', new' ∙ sym (state_more s (call_steps who op n) g.reports step r even), g.going)
 
+  -- a call that took no step is to begin
   pub going_begins : (s : State T J) (who : ℕ) (op : Op) → IsGoing s who op 0 None (Begin op) s
   going_begins s who op = record { reports = []; long = refl; legal = tt; state = refl; newest_is = refl; going = λ x m. absurd (let lt : m.0 < 0 = m.1 in omega arith); next = refl }
 
+  -- a call whose step leaves it in flight took one step more, and goes on
   pub going_more : (s : State T J) (who : ℕ) (op : Op) (n m : ℕ) (newest : Option Report) (event : Event) (now new : State T J) (r : Report) → IsGoing s who op n newest event now → IsReport now who event r → new ≡ after now who event r.outcome → r.outcome ≡ Running → m ≡ suc n
       → IsGoing s who op m (Some r) Go new
   going_more s who op n m newest event now new r g is on runs next =
@@ -46,6 +48,7 @@ module _ {T J : Type 0} where
         next = refl;
       })
 
+  -- a call whose next step leaves it in flight no more is whole with that step
   pub call_ends : (s : State T J) (who : ℕ) (op : Op) (n most : ℕ) (newest : Option Report) (event : Event) (now new : State T J) (r : Report) → n < most → IsGoing s who op n newest event now → IsReport now who event r → new ≡ after now who event r.outcome → (r.outcome ≡ Running → ⊥)
       → (reports : List Report) × IsCall s who op most reports (Some r) new
   call_ends s who op n most newest event now new r lt g is on ended =
@@ -61,6 +64,7 @@ module _ {T J : Type 0} where
         },
       )
 
+  -- a call that took its most steps is whole there
   pub call_stops : (s : State T J) (who : ℕ) (op : Op) (n most : ℕ) (newest : Option Report) (event : Event) (now : State T J) → n ≡ most → IsGoing s who op n newest event now → (reports : List Report) × IsCall s who op most reports newest now
   call_stops s who op n most newest event now same g = (
     g.reports,
@@ -76,7 +80,3 @@ module _ {T J : Type 0} where
       by_newest : (o : Option Report) → EndsWith g.reports o → MatchOption o (most ≡ 0) (λ r. r.outcome ≡ Running → length g.reports ≡ most)
       by_newest None e = sym same ∙ sym g.long ∙ ap length e
       by_newest (Some r) e = λ runs. g.long ∙ same
-
-  -- a call of some steps has a newest report
-  pub some_newest : (s : State T J) (who : ℕ) (op : Op) (most : ℕ) (reports : List Report) (s' : State T J) → 0 < most → IsCall s who op most reports None s' → ⊥
-  some_newest s who op most reports s' lt c = let none : most ≡ 0 = c.stops in omega (arith, none, lt)

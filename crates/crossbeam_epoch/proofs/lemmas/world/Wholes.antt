@@ -61,9 +61,11 @@ module _ {T J : Type 0} where
   no_fault s who event (Some f) Done is u = absurd (cc is)
   no_fault s who event (Some f) (Refused g) is u = absurd u
 
-  pub faultless : (s : State T J) (who : ℕ) (event : Event) (r : Report) → IsReport s who event r → Unrefused r.outcome → fault s who event ≡ None
-  faultless s who event r is u = no_fault s who event (fault s who event) r.outcome is.outcome u
+  -- a step that isn't refused has no fault
+  pub fault_unrefused : (s : State T J) (who : ℕ) (event : Event) (r : Report) → IsReport s who event r → Unrefused r.outcome → fault s who event ≡ None
+  fault_unrefused s who event r is u = no_fault s who event (fault s who event) r.outcome is.outcome u
 
+  -- a step that isn't refused leaves what such a step makes of the state
   pub as_moved : (s : State T J) (who : ℕ) (event : Event) (o : Outcome) → Unrefused o → after s who event o ≡ moved s who event
   as_moved s who event Running u = refl
   as_moved s who event Done u = refl
@@ -99,6 +101,7 @@ module _ {T J : Type 0} where
       let x = through Inv who next (after s who (Begin op) r.outcome) r.outcome rs (first r are'.0 (all r (0, omega arith, refl))) (ends_idle s who (Begin op) r are'.0) are'.1 (λ y m. all y (contains_tail r rs y m)) in
       rw steps (x.0, x.1 d)
 
+  -- what holds after a call's begin, and over each of its steps, holds at its end, and no call is in flight
   pub finishing : (Inv : State T J → Type 0) (s : State T J) (who : ℕ) (op : Op) (s' : State T J)
       → ((r : Report) → IsReport s who (Begin op) r → Unrefused r.outcome → Inv (after s who (Begin op) r.outcome))
       → ((now : State T J) (r : Report) → Inv now → IsReport now who Go r → Unrefused r.outcome → Inv (after now who Go r.outcome))

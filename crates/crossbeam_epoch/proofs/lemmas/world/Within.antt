@@ -29,9 +29,11 @@ pub taken_next : {A : Type 0} (xs : List (Participant A)) (n : ℕ) (p : Partici
 taken_next {A = A} xs n p lt read taken below = below_more (λ q. (get_or xs q blank).registered ≡ true) n below (sym (ap (λ (x : Participant A). x.registered) (get_or_read xs n p lt read blank)) ∙ taken)
 
 module _ {T J : Type 0} where
-  pub within : (s v : State T J) (who n : ℕ) → v ≡ s → n ≡ length v.table → who < length s.table → who < n
-  within s v who n is long lt = subst (λ m. who < m) (sym (long ∙ ap (λ (x : State T J). length x.table) is)) lt
+  -- a place of the table is one of as many as were counted
+  pub worker_within : (s v : State T J) (who n : ℕ) → v ≡ s → n ≡ length v.table → who < length s.table → who < n
+  worker_within s v who n is long lt = subst (λ m. who < m) (sym (long ∙ ap (λ (x : State T J). length x.table) is)) lt
 
+  -- where a ticket is left in the state, one is left in what was read of it
   pub ticket_left : (s v : State T J) → v ≡ s → s.next < 2 ^ 64 - 1 → v.next < 2 ^ 64 - 1
   ticket_left s v is lt = subst (λ (x : State T J). x.next < 2 ^ 64 - 1) (sym is) lt
 

@@ -1,25 +1,25 @@
 -- A call that is taken alone comes nearer to its end with each step.
-use Rattle.std.proofs.Common.{◌≡◌, ◌<◌, ◌≤◌, ℕ, zero, suc, ◌+◌, ◌*◌, ◌-◌, arith, Bool, true, false, List, [], ◌∷◌, length, take, refl, sym, ◌∙◌, ap, subst, inl, inr}
+use Rattle.std.proofs.Common.{◌≡◌, ◌<◌, ◌≤◌, ℕ, ◌+◌, ◌*◌, ◌-◌, arith, Bool, true, false, List, [], ◌∷◌, length, take, refl, sym, ◌∙◌, ap, subst, inl, inr}
 use Rattle.std.proofs.Math.ListN.{set}
 use Rattle.std.specs.Prelude.{Option, None, Some, slice_get, if◌then◌else◌}
 use Rattle.std.proofs.lemmas.Bool.{false≢true}
 use Rattle.std.proofs.lemmas.Option.{slice_get_within}
 use Rattle.crossbeam_epoch.specs.declared.fault.Fault.{Fault}
-use Rattle.crossbeam_epoch.specs.declared.world.participant.Phase.{Phase as Collecting_phase}
-use Rattle.crossbeam_epoch.specs.declared.world.participant.Phase.TheVariants as stage
+use Rattle.crossbeam_epoch.specs.declared.world.participant.Phase.{Phase as CollectorPhase}
+use Rattle.crossbeam_epoch.specs.declared.world.participant.Phase.TheVariants as collector_phase
 use Rattle.crossbeam_epoch.specs.declared.world.report.Event.TheVariants as collector_event
 use Rattle.crossbeam_epoch.specs.declared.world.report.Op.{Op as CollectorOp}
 use Rattle.crossbeam_epoch.specs.declared.world.report.Op.TheVariants as collector_op
 use Rattle.crossbeam_epoch.specs.declared.world.report.Outcome.{Outcome as CollectorOutcome}
 use Rattle.crossbeam_epoch.specs.declared.world.report.Outcome.TheVariants as collector_outcome
 use Rattle.crossbeam_epoch.specs.World.Machine.{State, place}
-use Rattle.crossbeam_epoch.specs.World.Progress.{Begins, GoesOn, comes_by, left_in, steps_left as turns_left, stage as stage_of}
+use Rattle.crossbeam_epoch.specs.World.Progress.{Begins, GoesOn, comes_by, left_in, steps_left as collector_steps_left, stage as stage_of}
 use Rattle.congee.specs.declared.protocol.machine.Machine.{Machine}
 use Rattle.congee.specs.declared.protocol.machine.Noise.{Noise}
 use Rattle.congee.specs.declared.protocol.op.Op.{Op as Point}
 use Rattle.congee.specs.declared.protocol.op.Op.TheVariants as point
 use Rattle.congee.specs.declared.protocol.phase.Phase.{Phase}
-use Rattle.congee.specs.declared.protocol.phase.Phase.TheVariants.{Sweep, Ended}
+use Rattle.congee.specs.declared.protocol.phase.Phase.TheVariants.{Scan, Ended}
 use Rattle.congee.specs.Heap.{Node}
 use Rattle.congee.specs.protocol.Alone.{NoOtherLocks, IsUndisturbed, HasAnswer, IsPast, StepsOn, steps_left, steps_whole, tree_nodes, tree_pairs}
 use Rattle.congee.specs.protocol.Play.{Settled, begun, first_phase}
@@ -38,26 +38,29 @@ use Rattle.joint.specs.declared.steps.Survey.TheVariants as survey
 use Rattle.joint.specs.declared.steps.Step.{Step}
 use Rattle.joint.specs.calls.Alone.{OthersUnlocked, IsNext, AreNext, AllInFlight, steps_alone, AllEndAlone}
 use Rattle.joint.specs.nodes.Nodes.{Nodes, nodes, Refuses}
-use Rattle.joint.specs.engine.Intact.{IsAt, IsIntact, call_after, over_at, rested, resting, root, secured_call, secured_machines, writes}
+use Rattle.joint.specs.engine.Intact.{IsAt, IsIntact, call_after, over_at, rested, resting, secured_call, secured_machines, writes}
+use Rattle.joint.specs.Names.{root}
 use Rattle.joint.specs.engine.Laws.{CallLaws, AloneLaw, WholeLaw, ProgressLaws}
-use Rattle.joint.specs.Reports.{target, collected}
+use Rattle.joint.specs.Reports.{target, collected, is_in_flight}
 use Rattle.joint.specs.calls.Runs.{Taken, AreTaken}
 use Rattle.joint.specs.engine.Sound.{IsUnderWay}
 use Rattle.joint.specs.nodes.View.{id_number}
 use Rattle.joint.specs.world.World.{Holds, IsStep, StepsUnless, finds_journal_full}
-use Rattle.joint.specs.engine.Engine.{World, EngineHolds, BeginsAt, Collects, Does, EntersUnless, Enters, GoesAt, GoesOnReserving, Reserves, Surveys, Walks, engine_of, finds_none, is_busy, is_in_flight, misuse, reserving}
-use Rattle.joint.proofs.lemmas.engine.Collecting.{either, get_inside, inside_machines, set_here}
-use Rattle.joint.proofs.lemmas.engine.Entering.{begin_within, begin_idle}
+use Rattle.joint.specs.engine.Engine.{World, EngineHolds, BeginsAt, Collects, Does, EntersUnless, Enters, GoesAt, GoesOnReserving, Reserves, Surveys, Walks, engine_of, finds_none, is_busy, misuse, reserving}
+use Rattle.joint.proofs.lemmas.engine.Collecting.{get_inside, inside_machines}
+use Rattle.joint.proofs.lemmas.engine.Entering.{begin_within, begins_idle}
 use Rattle.joint.proofs.lemmas.engine.Reported.{may_go}
 use Rattle.joint.proofs.lemmas.engine.Reserving.{next_here}
 use Rattle.joint.proofs.lemmas.engine.Telling.{survey_ends}
 use Rattle.joint.proofs.lemmas.engine.Walking as walking
+use Rattle.joint.proofs.lemmas.calls.Rounds.{taken_front}
+use Rattle.congee.proofs.Laws.{get_set, set_here}
 
 -- the steps that a worker's call takes at most from here on
 abbrev left_of : {V : Type 0} → Nodes V → ℕ → Option (InFlight V) → Option (Machine Id V) → ℕ
-left_of f who (Some (Collecting op)) m = turns_left f.collector who
+left_of f who (Some (Collecting op)) m = collector_steps_left f.collector who
 left_of f who (Some (Reserving op)) m = 46
-left_of f who (Some (Securing op)) m = turns_left f.collector who + 43
+left_of f who (Some (Securing op)) m = collector_steps_left f.collector who + 43
 left_of f who (Some Walking) (Some m) = steps_left id_number (nodes f) m.phase
 left_of f who _ _ = 0
 
@@ -73,8 +76,8 @@ record Alone {V : Type 0} (s : World V) (who n : ℕ) : Type 0 where
   pub left : left_of s.forest who (slice_get s.calls who) (slice_get s.machines who) ≤ n
 
 -- an unpin ends as it begins
-unpin_never : (x : Collecting_phase) → comes_by (stage_of x) collector_op.Unpin ≡ true → ⊥
-unpin_never stage.Idle e = cc e
+unpin_never : (x : CollectorPhase) → comes_by (stage_of x) collector_op.Unpin ≡ true → ⊥
+unpin_never collector_phase.Idle e = cc e
 unpin_never _ e = cc e
 
 unpins : (V : Type 0) {T J : Type 0} (s s' : State T J) (w : ℕ) (o : CollectorOutcome) → Begins s w collector_op.Unpin o s' → is_in_flight {V = V} (collected o) ≡ true → ⊥
@@ -83,10 +86,10 @@ unpins V s s' w collector_outcome.Done g on = cc on
 unpins V s s' w (collector_outcome.Refused f) g on = cc on
 
 -- a securing takes three steps at most
-secures_in : (places hand : ℕ) (x : Collecting_phase) → comes_by (stage_of x) (collector_op.Secure 2) ≡ true → (0 < left_in places x hand) × (left_in places x hand ≤ 3)
-secures_in places hand (stage.Secure n) e = (omega arith, omega arith)
-secures_in places hand stage.SecureSeal e = (omega arith, omega arith)
-secures_in places hand (stage.SecureQueue seal) e = (omega arith, omega arith)
+secures_in : (places hand : ℕ) (x : CollectorPhase) → comes_by (stage_of x) (collector_op.Secure 2) ≡ true → (0 < left_in places x hand) × (left_in places x hand ≤ 3)
+secures_in places hand (collector_phase.Secure n) e = (omega arith, omega arith)
+secures_in places hand collector_phase.SecureSeal e = (omega arith, omega arith)
+secures_in places hand (collector_phase.SecureQueue seal) e = (omega arith, omega arith)
 secures_in places hand _ e = absurd (cc e)
 
 at_place : {A : Type 0} (xs ys : List A) (w : ℕ) (x : A) → w < length xs → ys ≡ set xs w x → slice_get ys w ≡ Some x
@@ -106,13 +109,13 @@ module _ {V : Type 0} where
 
   -- a call that is under way has not ended
   not_past : (x : Phase Id V) → IsUnderWay x → is_done x ≡ false → IsPast x → ⊥
-  not_past (Sweep s) u d p = let q : is_past s.stage ≡ true = ap is_past p in absurd (false≢true (sym d ∙ q))
+  not_past (Scan s) u d p = let q : is_past s.stage ≡ true = ap is_past p in absurd (false≢true (sym d ∙ q))
   not_past Ended u d p = u
   not_past _ u d p = p
 
   -- the calls of others stay
   unlocked_set : (who : ℕ) (ms ms' : List (Machine Id V)) (m : Machine Id V) → ms' ≡ set ms who m → NoOtherLocks id_number who ms → NoOtherLocks id_number who ms'
-  unlocked_set who ms ms' m e free j n k ne at locked = elim (either ms who j m k (subst (λ xs. slice_get xs j ≡ Some k) e at)) [
+  unlocked_set who ms ms' m e free j n k ne at locked = elim (get_set ms who j m k (subst (λ xs. slice_get xs j ≡ Some k) e at)) [
     | inl x ↦ absurd (ne x.0)
     | inr x ↦ free j n k ne x.1 locked
   ]
@@ -123,7 +126,7 @@ module _ {V : Type 0} where
   rest_on h h' x true now on = ((tt, tt), (let q = on.nearer in omega (arith, q)))
   rest_on h h' x false now on = (on.undisturbed, on.nearer)
 
-module _ {V : Type 0} (same : V → V → Bool) (always : Bool) (laws : CallLaws {C = Id} {V = V} id_number same always) (turns : ProgressLaws (Slot V) (Unit {0}))
+module _ {V : Type 0} (same : V → V → Bool) (always : Bool) (laws : CallLaws {C = Id} {V = V} id_number same always) (progress : ProgressLaws (Slot V) (Unit {0}))
     (steps : (f : Nodes V) → AloneLaw {C = Id} {V = V} id_number same always f.version_max (Refuses f)) (begins : (h : ℕ → Node V) (p : Point V) → IsUndisturbed id_number h (first_phase root p)) (whole_left : WholeLaw V id_number) where
   module _ (s s' : World V) (w : ℕ) (holds : EngineHolds same always s) where
     -- what a step makes of the call, with n steps left before it
@@ -143,7 +146,7 @@ module _ {V : Type 0} (same : V → V → Bool) (always : Bool) (laws : CallLaws
 
     -- a call on the collector
     collects_by : (o : CollectorOutcome) (op : CollectorOp) (n : ℕ) → OthersUnlocked s' w → GoesOn s.forest.collector w op o s'.forest.collector → s'.calls ≡ set s.calls w (call_after o (Collecting op)) → w < length s.calls → is_in_flight {V = V} (collected o) ≡ true
-        → turns_left s.forest.collector w ≤ n → After n
+        → collector_steps_left s.forest.collector w ≤ n → After n
     collects_by collector_outcome.Running op n free g e l on le = after_by (Collecting op) (slice_get s'.machines w) n free (at_place s.calls s'.calls w (Collecting op) l e) refl tt (let x = g.1 in omega (arith, x, le))
     collects_by collector_outcome.Done op n free g e l on le = absurd (cc on)
     collects_by (collector_outcome.Refused f) op n free g e l on le = absurd (cc on)
@@ -165,11 +168,11 @@ module _ {V : Type 0} (same : V → V → Bool) (always : Bool) (laws : CallLaws
       is_at : IsAt (Securing p) (place b.forest.collector w) machine.0
       is_at = intact.each w (Securing p) machine.0 e machine.1
 
-      bounds : (0 < turns_left b.forest.collector w) × (turns_left b.forest.collector w ≤ 3)
+      bounds : (0 < collector_steps_left b.forest.collector w) × (collector_steps_left b.forest.collector w ≤ 3)
       bounds = secures_in (length b.forest.collector.table) (length (place b.forest.collector w).hand) (place b.forest.collector w).phase is_at.0.1
 
       secures_by : (o : CollectorOutcome) (n : ℕ) → GoesOn b.forest.collector w (collector_op.Secure 2) o s'.forest.collector → s'.calls ≡ set b.calls w (secured_call o (slice_get b.calls w)) → s'.machines ≡ secured_machines o (slice_get b.calls w) b.machines w
-          → is_in_flight {V = V} (reserving o) ≡ true → turns_left b.forest.collector w + 43 ≤ n → After n
+          → is_in_flight {V = V} (reserving o) ≡ true → collector_steps_left b.forest.collector w + 43 ≤ n → After n
       secures_by collector_outcome.Running n g ec em on le =
           let calls = at_place b.calls s'.calls w (Securing p) inside (ec ∙ ap (λ k. set b.calls w (secured_call collector_outcome.Running k)) e) in
           let same_ms : s'.machines ≡ b.machines = em ∙ ap (λ k. secured_machines collector_outcome.Running k b.machines w) e in
@@ -182,11 +185,11 @@ module _ {V : Type 0} (same : V → V → Bool) (always : Bool) (laws : CallLaws
           after_by Walking (Some (begun root p)) n (unlocked_set w b.machines s'.machines (begun root p) set_ms free) calls at_ms (begins (nodes s'.forest) p) (let x = bounds.0 in omega (arith, forty, x, le))
       secures_by (collector_outcome.Refused f) n g ec em on le = absurd (cc on)
 
-      secures : (r : Report V) (n : ℕ) → GoesOnReserving same always b w r s' → is_in_flight r.outcome ≡ true → turns_left b.forest.collector w + 43 ≤ n → After n
+      secures : (r : Report V) (n : ℕ) → GoesOnReserving same always b w r s' → is_in_flight r.outcome ≡ true → collector_steps_left b.forest.collector w + 43 ≤ n → After n
       secures r n x on le =
-          let P : State (Slot V) (Unit {0}) → Type 0 = λ y. GoesOn b.forest.collector w (collector_op.Secure 2) x.turn.outcome y in
-          let g = subst P (sym x.step.collected.state) (turns.goes_on b.forest.collector w (collector_op.Secure 2) x.turn intact.safe.sound.sound.orderly is_at.0 x.step.collected.report) in
-          secures_by x.turn.outcome n g x.step.call x.step.machine (sym (ap (λ y. is_in_flight y.outcome) x.report) ∙ on) le
+          let P : State (Slot V) (Unit {0}) → Type 0 = λ y. GoesOn b.forest.collector w (collector_op.Secure 2) x.collector_report.outcome y in
+          let g = subst P (sym x.step.collected.state) (progress.goes_on b.forest.collector w (collector_op.Secure 2) x.collector_report intact.safe.sound.sound.orderly is_at.0 x.step.collected.report) in
+          secures_by x.collector_report.outcome n g x.step.call x.step.machine (sym (ap (λ y. is_in_flight y.outcome) x.report) ∙ on) le
 
     -- a step on the tree
     walks : (noise : Noise Id V) (r : Report V) (n : ℕ) → slice_get s.calls w ≡ Some Walking → noise.fail ≡ false → ((m : Machine Id V) → slice_get s.machines w ≡ Some m → HasAnswer m.kind m.phase noise.answer) → OthersUnlocked s w
@@ -213,10 +216,10 @@ module _ {V : Type 0} (same : V → V → Bool) (always : Bool) (laws : CallLaws
         let l = slice_get_within s.calls w (Collecting c) e in
         let m : (m : Machine Id V) × (slice_get s.machines w ≡ Some m) = get_inside s.machines w (subst (λ i. w < i) (sym holds.0.machines) l) in
         let at : IsAt (Collecting c) (place s.forest.collector w) m.0 = holds.0.each w (Collecting c) m.0 e m.1 in
-        let P : State (Slot V) (Unit {0}) → Type 0 = λ y. GoesOn s.forest.collector w c x.turn.outcome y in
-        let g = subst P (sym x.step.state) (turns.goes_on s.forest.collector w c x.turn holds.0.safe.sound.sound.orderly at.0 x.step.report) in
-        let left : left_of s.forest w (slice_get s.calls w) (slice_get s.machines w) ≡ turns_left s.forest.collector w = ap (λ y. left_of s.forest w y (slice_get s.machines w)) e in
-        collects_by x.turn.outcome c n (subst (λ ms. NoOtherLocks id_number w ms) (sym x.machines) al.unlocked) g x.calls l (sym (ap (λ y. is_in_flight y.outcome) x.report) ∙ on) (let y = al.left in omega (arith, left, y))
+        let P : State (Slot V) (Unit {0}) → Type 0 = λ y. GoesOn s.forest.collector w c x.collector_report.outcome y in
+        let g = subst P (sym x.step.state) (progress.goes_on s.forest.collector w c x.collector_report holds.0.safe.sound.sound.orderly at.0 x.step.report) in
+        let left : left_of s.forest w (slice_get s.calls w) (slice_get s.machines w) ≡ collector_steps_left s.forest.collector w = ap (λ y. left_of s.forest w y (slice_get s.machines w)) e in
+        collects_by x.collector_report.outcome c n (subst (λ ms. NoOtherLocks id_number w ms) (sym x.machines) al.unlocked) g x.calls l (sym (ap (λ y. is_in_flight y.outcome) x.report) ∙ on) (let y = al.left in omega (arith, left, y))
     goes (Some (Reserving p)) noise r n e unfailed answers al x on busy =
         let b = x.between in
         let at = next_here same always s.forest s.machines s.calls w b.forest b.machines b.calls x.begins p e in
@@ -225,7 +228,7 @@ module _ {V : Type 0} (same : V → V → Bool) (always : Bool) (laws : CallLaws
         let three = (bounds b x.begins.intact p at free).1 in
         secures b x.begins.intact p at free r n x.goes on (let y = al.left in omega (arith, left, y, three))
     goes (Some (Securing p)) noise r n e unfailed answers al x on busy =
-        let left : left_of s.forest w (slice_get s.calls w) (slice_get s.machines w) ≡ turns_left s.forest.collector w + 43 = ap (λ y. left_of s.forest w y (slice_get s.machines w)) e in
+        let left : left_of s.forest w (slice_get s.calls w) (slice_get s.machines w) ≡ collector_steps_left s.forest.collector w + 43 = ap (λ y. left_of s.forest w y (slice_get s.machines w)) e in
         secures s holds.0 p e al.unlocked r n x on (let y = al.left in omega (arith, left, y))
     goes (Some Walking) noise r n e unfailed answers al x on busy =
         walks noise r n e unfailed answers al.unlocked (λ m at.
@@ -259,29 +262,21 @@ module _ {V : Type 0} (same : V → V → Bool) (always : Bool) (laws : CallLaws
       within = begin_within same always s s' w holds o none
 
       idle : slice_get s.calls w ≡ Some Idle
-      idle = idle_at (slice_get s.calls w) (get_inside s.calls w within) (begin_idle same always s s' w holds o none)
-        where
-          idle_at : (k : Option (InFlight V)) → (x : InFlight V) × (k ≡ Some x) → is_busy k ≡ false → k ≡ Some Idle
-          idle_at None x e = absurd (let q : None ≡ Some x.0 = x.1 in cc)
-          idle_at (Some Idle) x e = refl
-          idle_at (Some (Collecting c)) x e = absurd (cc e)
-          idle_at (Some (Reserving p)) x e = absurd (cc e)
-          idle_at (Some (Securing p)) x e = absurd (cc e)
-          idle_at (Some Walking) x e = absurd (cc e)
+      idle = begins_idle same always s s' w holds o none
 
-      turn_begins : (c : CollectorOp) (r : Report V) → OthersUnlocked s w → Collects same always s w (collector_event.Begin c) (Collecting c) r s' → is_in_flight r.outcome ≡ true → Begun (length s.forest.collector.table + 530)
-      turn_begins c r free x on =
+      collector_begins : (c : CollectorOp) (r : Report V) → OthersUnlocked s w → Collects same always s w (collector_event.Begin c) (Collecting c) r s' → is_in_flight r.outcome ≡ true → Begun (length s.forest.collector.table + 530)
+      collector_begins c r free x on =
           let m : (m : Machine Id V) × (slice_get s.machines w ≡ Some m) = get_inside s.machines w (subst (λ i. w < i) (sym holds.0.machines) within) in
           let at : IsAt Idle (place s.forest.collector w) m.0 = holds.0.each w Idle m.0 idle m.1 in
-          let P : State (Slot V) (Unit {0}) → Type 0 = λ y. Begins s.forest.collector w c x.turn.outcome y in
-          let g = subst P (sym x.step.state) (turns.begins s.forest.collector w c x.turn at.0 x.step.report) in
-          begins_by x.turn.outcome c (subst (λ ms. NoOtherLocks id_number w ms) (sym x.machines) free) g x.calls within (sym (ap (λ y. is_in_flight y.outcome) x.report) ∙ on)
+          let P : State (Slot V) (Unit {0}) → Type 0 = λ y. Begins s.forest.collector w c x.collector_report.outcome y in
+          let g = subst P (sym x.step.state) (progress.begins s.forest.collector w c x.collector_report at.0 x.step.report) in
+          begins_by x.collector_report.outcome c (subst (λ ms. NoOtherLocks id_number w ms) (sym x.machines) free) g x.calls within (sym (ap (λ y. is_in_flight y.outcome) x.report) ∙ on)
 
       unpin_ends : (r : Report V) → Collects same always s w (collector_event.Begin collector_op.Unpin) (Collecting collector_op.Unpin) r s' → is_in_flight r.outcome ≡ true → ⊥
       unpin_ends r x on =
           let m : (m : Machine Id V) × (slice_get s.machines w ≡ Some m) = get_inside s.machines w (subst (λ i. w < i) (sym holds.0.machines) within) in
           let at : IsAt Idle (place s.forest.collector w) m.0 = holds.0.each w Idle m.0 idle m.1 in
-          unpins V s.forest.collector _ w x.turn.outcome (turns.begins s.forest.collector w collector_op.Unpin x.turn at.0 x.step.report) (sym (ap (λ y. is_in_flight y.outcome) x.report) ∙ on)
+          unpins V s.forest.collector _ w x.collector_report.outcome (progress.begins s.forest.collector w collector_op.Unpin x.collector_report at.0 x.step.report) (sym (ap (λ y. is_in_flight y.outcome) x.report) ∙ on)
 
       enters : (p : Point V) (r : Report V) (k most : ℕ) → OthersUnlocked s w → Enters s w p r s' → steps_left id_number (nodes s.forest) (first_phase root p) ≤ k → k + 2 ≤ most → Begun most
       enters p r k most free x le room = (
@@ -315,11 +310,11 @@ module _ {V : Type 0} (same : V → V → Bool) (always : Bool) (laws : CallLaws
           survey_on k y = false≢true (sym (survey_ends (nodes s.forest) k y.outcome y.tells) ∙ (sym (ap (λ z. is_in_flight z.outcome) y.report) ∙ on))
 
           of : (q : Op V) → BeginsAt same always s w (target q) r s' → Begun (steps_alone s q)
-          of op.Pin y = turn_begins collector_op.Pin r free y on
+          of op.Pin y = collector_begins collector_op.Pin r free y on
           of op.Unpin y = absurd (unpin_ends r y on)
-          of op.Repin y = turn_begins collector_op.Repin r free y on
-          of op.Flush y = turn_begins collector_op.Flush r free y on
-          of op.Release y = turn_begins collector_op.Release r free y on
+          of op.Repin y = collector_begins collector_op.Repin r free y on
+          of op.Flush y = collector_begins collector_op.Flush r free y on
+          of op.Release y = collector_begins collector_op.Release r free y on
           of (op.Get k) y = enters (point.Get k) r 43 60 free y (omega arith) (omega arith)
           of (op.Insert k v) y = reserves (point.Insert k v) r free y
           of (op.Remove k) y = reserves (point.Remove k) r free y
@@ -373,18 +368,14 @@ module _ {V : Type 0} (same : V → V → Bool) (always : Bool) (laws : CallLaws
       taken_by : StepsUnless same always false s (record { worker = w; event = Begin o }) t.report t.after → ((k : ℕ) × Alone t.after w k × (k + 2 ≤ steps_alone s o)) × (misuse s w (Begin o) ≡ None)
       taken_by x = begun_by (misuse s w (Begin o)) x.told refl x.engine.does (sym (ap (λ y. is_in_flight y.outcome) x.report) ∙ on)
 
-  taken_front : (s : World V) (n : ℕ) (ts : List (Taken V)) → AreTaken same always s ts → AreTaken same always s (take n ts)
-  taken_front s zero [] x = tt
-  taken_front s zero (t ∷ ts) x = tt
-  taken_front s (suc n) [] x = tt
-  taken_front s (suc n) (t ∷ ts) x = (x.0, taken_front t.after n ts x.1)
-
+  -- a call that begins while no other holds a lock isn't in flight after so many steps of its own alone
   pub ends_here : (s : World V) (t : Taken V) (ts : List (Taken V)) (w : ℕ) (o : Op V) → Holds same always s → AreTaken same always s (t ∷ ts) → t.step ≡ record { worker = w; event = Begin o } → OthersUnlocked s w → AreNext w t.after ts → AllInFlight (t ∷ ts) → length (t ∷ ts) < steps_alone s o
   ends_here s t ts w o h x e free next on =
       let f = first_on s t w o h x.0 e free on.0 in
       let r = steps_end t.after ts w f.0.0 x.0.holds x.1 f.1 next on.1 f.0.1 in
       let k = f.0.2 in omega (arith, r, k)
 
+  -- so ends each call that begins in a run
   pub all_end_alone : (s : World V) (ts : List (Taken V)) → Holds same always s → AreTaken same always s ts → AllEndAlone s ts
   all_end_alone s [] h x = tt
-  all_end_alone s (t ∷ ts) h x = ((λ w n o e free next on. ends_here s t (take n ts) w o h (x.0, taken_front t.after n ts x.1) e free next on), all_end_alone t.after ts x.0.holds x.1)
+  all_end_alone s (t ∷ ts) h x = ((λ w n o e free next on. ends_here s t (take n ts) w o h (x.0, taken_front same always t.after n ts x.1) e free next on), all_end_alone t.after ts x.0.holds x.1)

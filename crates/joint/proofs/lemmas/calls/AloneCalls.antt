@@ -26,23 +26,24 @@ use Rattle.joint.specs.declared.steps.Step.{Step}
 use Rattle.joint.specs.declared.steps.Target.{Target}
 use Rattle.joint.specs.declared.steps.Target.TheVariants as target
 use Rattle.joint.specs.calls.Alone.{OthersUnlocked, AreNext, AllInFlight, steps_alone, CallEndsAlone}
-use Rattle.joint.specs.calls.Calling.{next_step, steps_of, GoOn, last_of, last_or, put_away, kept_report, IsCalled}
-use Rattle.joint.specs.Reports.{goes_on, target, told}
+use Rattle.joint.specs.calls.Calling.{next_step, steps_of, GoOn, last_of, last_or, kept_report, IsCalled}
+use Rattle.joint.specs.Reports.{goes_unasked, target, told, is_in_flight}
 use Rattle.joint.specs.engine.Journaling.{asks_at}
 use Rattle.joint.specs.calls.Runs.{Taken, AreTaken}
 use Rattle.joint.specs.world.MapSteps.{GoMap, PendingStep, BeginMap, BeginsOr, Line}
 use Rattle.joint.specs.engine.Flying.{Flights}
 use Rattle.joint.specs.world.World.{Holds, IsStep}
-use Rattle.joint.specs.engine.Engine.{World, engine_of, is_in_flight}
+use Rattle.joint.specs.engine.Engine.{World, engine_of}
 use Rattle.joint.proofs.lemmas.engine.Entering.{begin_free}
 use Rattle.joint.proofs.lemmas.world.Flights.{flight_here}
-use Rattle.joint.proofs.lemmas.world.JournaledSteps.{mapped}
+use Rattle.joint.proofs.lemmas.world.JournaledSteps.{step_mapped}
 use Rattle.joint.proofs.lemmas.world.JournalPlaces.{asks_here, begun_asks}
 use Rattle.joint.proofs.lemmas.world.Requested.{asks, is_asked}
+use Rattle.joint.proofs.lemmas.calls.Calling.{going, away_goes}
 
 module _ {V : Type 0} where
   -- a call that goes on without a question has none open
-  quiet_undecided : (k : ℕ) (kd : Kind V) (v : Option V) (q : Question V) (o : Moved V) (f : Flight V) → goes_on {V = V} (told o) ≡ true → Undecided k kd v q o f → asks f ≡ false
+  quiet_undecided : (k : ℕ) (kd : Kind V) (v : Option V) (q : Question V) (o : Moved V) (f : Flight V) → goes_unasked {V = V} (told o) ≡ true → Undecided k kd v q o f → asks f ≡ false
   quiet_undecided k kd v q moved.Running f g u = ap asks u.2 ∙ carried u.0 u.1
     where
       carried : (p : Question V) → Carries q p → is_asked p ≡ false
@@ -71,28 +72,28 @@ module _ {V : Type 0} where
   quiet_scan start end size states places (moved.Found place key x) f u = ap asks u.1
   quiet_scan start end size states places (moved.Scanned count) f u = ap asks u.2
 
-  quiet_pending : (same : V → V → Bool) (k : ℕ) (kd : Kind V) (v : Option V) (q : Question V) (m : Pairs V) (b : Bool) (l : Line V) (f : Flight V) → goes_on l.report.outcome ≡ true → PendingStep same k kd v q m b l f → asks f ≡ false
-  quiet_pending same k kd v q m false l f g (inl x) = quiet_undecided k kd v q x.outcome f (sym (ap goes_on x.told_so) ∙ g) x.undecided
+  quiet_pending : (same : V → V → Bool) (k : ℕ) (kd : Kind V) (v : Option V) (q : Question V) (m : Pairs V) (b : Bool) (l : Line V) (f : Flight V) → goes_unasked l.report.outcome ≡ true → PendingStep same k kd v q m b l f → asks f ≡ false
+  quiet_pending same k kd v q m false l f g (inl x) = quiet_undecided k kd v q x.outcome f (sym (ap goes_unasked x.told_so) ∙ g) x.undecided
   quiet_pending same k kd v q m false l f g (inr x) = ap asks x.over
   quiet_pending same k kd v q m true l f g x = quiet_concluded x.entry.reply x.outcome f x.concludes
 
-  quiet_go : (same : V → V → Bool) (fs : Flights V) (f : Flight V) (m : Pairs V) (answer : Option (Option V)) (l : Line V) (fs' : Flights V) → fs l.step.worker ≡ f → goes_on l.report.outcome ≡ true → GoMap same fs f m answer l fs' → asks (fs' l.step.worker) ≡ false
+  quiet_go : (same : V → V → Bool) (fs : Flights V) (f : Flight V) (m : Pairs V) (answer : Option (Option V)) (l : Line V) (fs' : Flights V) → fs l.step.worker ≡ f → goes_unasked l.report.outcome ≡ true → GoMap same fs f m answer l fs' → asks (fs' l.step.worker) ≡ false
   quiet_go same fs Over m answer l fs' e g x = ap asks (ap (λ (y : Flights V). y l.step.worker) x.same_flights ∙ e)
-  quiet_go same fs (Pending k kd v q) m answer l fs' e g x = ap asks (ap (λ (y : Flights V). y l.step.worker) x.advances ∙ flight_here fs l.step.worker x.next) ∙ quiet_pending same k kd _ _ m l.report.decided l x.next g x.step
-  quiet_go same fs (Decided r) m answer l fs' e g x = ap asks (ap (λ (y : Flights V). y l.step.worker) x.advances ∙ flight_here fs l.step.worker x.next) ∙ quiet_concluded r x.step.outcome x.next x.step.concludes
-  quiet_go same fs (Unbegun start end size) m answer l fs' e g x = ap asks (ap (λ (y : Flights V). y l.step.worker) x.advances ∙ flight_here fs l.step.worker x.next) ∙ quiet_scan start end size _ _ x.step.outcome x.next x.step.tells
-  quiet_go same fs (Scanning start end size states places) m answer l fs' e g x = ap asks (ap (λ (y : Flights V). y l.step.worker) x.advances ∙ flight_here fs l.step.worker x.next) ∙ quiet_scan start end size _ _ x.step.outcome x.next x.step.tells
+  quiet_go same fs (Pending k kd v q) m answer l fs' e g x = ap asks (ap (λ (y : Flights V). y l.step.worker) x.with_next ∙ flight_here fs l.step.worker x.next) ∙ quiet_pending same k kd _ _ m l.report.decided l x.next g x.step
+  quiet_go same fs (Decided r) m answer l fs' e g x = ap asks (ap (λ (y : Flights V). y l.step.worker) x.with_next ∙ flight_here fs l.step.worker x.next) ∙ quiet_concluded r x.step.outcome x.next x.step.concludes
+  quiet_go same fs (Unbegun start end size) m answer l fs' e g x = ap asks (ap (λ (y : Flights V). y l.step.worker) x.with_next ∙ flight_here fs l.step.worker x.next) ∙ quiet_scan start end size _ _ x.step.outcome x.next x.step.tells
+  quiet_go same fs (Scanning start end size states places) m answer l fs' e g x = ap asks (ap (λ (y : Flights V). y l.step.worker) x.with_next ∙ flight_here fs l.step.worker x.next) ∙ quiet_scan start end size _ _ x.step.outcome x.next x.step.tells
 
   -- and one that begins asks nothing yet
-  quiet_begins : (fs : Flights V) (m : Pairs V) (p : Point V) (o : Outcome V) (l : Line V) (fs' : Flights V) → l.report.outcome ≡ o → goes_on l.report.outcome ≡ true → BeginsOr fs m p o l fs' → asks (fs' l.step.worker) ≡ false
-  quiet_begins fs m p (Refused e) l fs' q g x = absurd (false≢true (sym (ap goes_on q) ∙ g))
-  quiet_begins fs m p (Done d) l fs' q g x = absurd (false≢true (sym (ap goes_on q) ∙ g))
+  quiet_begins : (fs : Flights V) (m : Pairs V) (p : Point V) (o : Outcome V) (l : Line V) (fs' : Flights V) → l.report.outcome ≡ o → goes_unasked l.report.outcome ≡ true → BeginsOr fs m p o l fs' → asks (fs' l.step.worker) ≡ false
+  quiet_begins fs m p (Refused e) l fs' q g x = absurd (false≢true (sym (ap goes_unasked q) ∙ g))
+  quiet_begins fs m p (Done d) l fs' q g x = absurd (false≢true (sym (ap goes_unasked q) ∙ g))
   quiet_begins fs m p Running l fs' q g x = ap asks (ap (λ (y : Flights V). y l.step.worker) x.begins ∙ flight_here fs l.step.worker _) ∙ begun_asks p
-  quiet_begins fs m p (Asks y) l fs' q g x = absurd (false≢true (sym (ap goes_on q) ∙ g))
+  quiet_begins fs m p (Asks y) l fs' q g x = absurd (false≢true (sym (ap goes_unasked q) ∙ g))
   quiet_begins fs m p (Found a b c) l fs' q g x = ap asks (ap (λ (y : Flights V). y l.step.worker) x.begins ∙ flight_here fs l.step.worker _) ∙ begun_asks p
-  quiet_begins fs m p (Registered n) l fs' q g x = absurd (false≢true (sym (ap goes_on q) ∙ g))
+  quiet_begins fs m p (Registered n) l fs' q g x = absurd (false≢true (sym (ap goes_unasked q) ∙ g))
 
-  quiet_target : (fs : Flights V) (m : Pairs V) (t : Target V) (l : Line V) (fs' : Flights V) → fs l.step.worker ≡ Over → goes_on l.report.outcome ≡ true → BeginMap fs m t l fs' → asks (fs' l.step.worker) ≡ false
+  quiet_target : (fs : Flights V) (m : Pairs V) (t : Target V) (l : Line V) (fs' : Flights V) → fs l.step.worker ≡ Over → goes_unasked l.report.outcome ≡ true → BeginMap fs m t l fs' → asks (fs' l.step.worker) ≡ false
   quiet_target fs m (target.Collector c) l fs' e g x = ap asks (ap (λ (y : Flights V). y l.step.worker) x.same_flights ∙ e)
   quiet_target fs m (target.Tree p) l fs' e g x = quiet_begins fs m p l.report.outcome l fs' refl g x
   quiet_target fs m (target.Survey k) l fs' e g x = ap asks (ap (λ (y : Flights V). y l.step.worker) x.stays.same_flights ∙ e)
@@ -103,28 +104,12 @@ module _ {V : Type 0} where
   none_wanted kd (AskNew plan) e = absurd (cc e)
   none_wanted kd _ e = tt
 
-  going : (o : Outcome V) → goes_on o ≡ true → is_in_flight o ≡ true
-  going Running e = refl
-  going (Asks found) e = refl
-  going (Found place key value) e = refl
-  going (Registered n) e = absurd (cc e)
-  going (Done done) e = absurd (cc e)
-  going (Refused refusal) e = absurd (cc e)
-
-  away : (o : Outcome V) → goes_on (put_away o) ≡ goes_on o
-  away Running = refl
-  away (Asks x) = refl
-  away (Found a b c) = refl
-  away (Registered n) = refl
-  away (Done d) = refl
-  away (Refused e) = refl
-
   -- each report says that the call goes on
   abbrev AllGoOn : List (Taken V) → Type 0
   AllGoOn [] = Unit {0}
-  AllGoOn (t ∷ ts) = (goes_on t.report.outcome ≡ true) × AllGoOn ts
+  AllGoOn (t ∷ ts) = (goes_unasked t.report.outcome ≡ true) × AllGoOn ts
 
-  all_go_on : (t : Taken V) (ts : List (Taken V)) → GoOn (map (λ (x : Taken V). x.report) (t ∷ ts)) → goes_on (last_or t.report (map (λ (x : Taken V). x.report) ts)).outcome ≡ true → AllGoOn (t ∷ ts)
+  all_go_on : (t : Taken V) (ts : List (Taken V)) → GoOn (map (λ (x : Taken V). x.report) (t ∷ ts)) → goes_unasked (last_or t.report (map (λ (x : Taken V). x.report) ts)).outcome ≡ true → AllGoOn (t ∷ ts)
   all_go_on t [] g l = (l, tt)
   all_go_on t (u ∷ ts) g l = (g.0, all_go_on u ts g.1 l)
 
@@ -134,18 +119,18 @@ module _ {V : Type 0} where
 
 module _ {V : Type 0} (same : V → V → Bool) (always : Bool) where
   -- after a step of its own a call that goes on wants no answer
-  quiet_on : (s : World V) (t : Taken V) (w : ℕ) → Holds same always s → IsStep same always s t.step t.report t.after → (t.step ≡ next_step w) → goes_on t.report.outcome ≡ true → asks_at (slice_get t.after.machines w) ≡ false
+  quiet_on : (s : World V) (t : Taken V) (w : ℕ) → Holds same always s → IsStep same always s t.step t.report t.after → (t.step ≡ next_step w) → goes_unasked t.report.outcome ≡ true → asks_at (slice_get t.after.machines w) ≡ false
   quiet_on s t w h x e g =
       let P : Step V → Type 0 = λ y. IsStep same always s y t.report t.after in
       let y : IsStep same always s (next_step w) t.report t.after = subst P e x in
-      let a = mapped same always s (next_step w) t.after h.2.flights h.2.pairs h y.holds h.2.stand h.2.in_flight t.report y in
+      let a = step_mapped same always s (next_step w) t.after h.2.flights h.2.pairs h y.holds h.2.stand h.2.in_flight t.report y in
       asks_here same always t.after w (y.holds.0, y.holds.1) a.flights a.in_flight ∙ quiet_go same h.2.flights (h.2.flights w) h.2.pairs None (record { step = next_step w; report = t.report; entry = a.entry; pairs = a.pairs }) a.flights refl g a.map
 
-  quiet_first : (s : World V) (t : Taken V) (w : ℕ) (o : Op V) → Holds same always s → IsStep same always s t.step t.report t.after → t.step ≡ record { worker = w; event = Begin o } → is_in_flight t.report.outcome ≡ true → goes_on t.report.outcome ≡ true → asks_at (slice_get t.after.machines w) ≡ false
+  quiet_first : (s : World V) (t : Taken V) (w : ℕ) (o : Op V) → Holds same always s → IsStep same always s t.step t.report t.after → t.step ≡ record { worker = w; event = Begin o } → is_in_flight t.report.outcome ≡ true → goes_unasked t.report.outcome ≡ true → asks_at (slice_get t.after.machines w) ≡ false
   quiet_first s t w o h x e on g =
       let P : Step V → Type 0 = λ y. IsStep same always s y t.report t.after in
       let y : IsStep same always s (record { worker = w; event = Begin o }) t.report t.after = subst P e x in
-      let a = mapped same always s (record { worker = w; event = Begin o }) t.after h.2.flights h.2.pairs h y.holds h.2.stand h.2.in_flight t.report y in
+      let a = step_mapped same always s (record { worker = w; event = Begin o }) t.after h.2.flights h.2.pairs h y.holds h.2.stand h.2.in_flight t.report y in
       let free = begin_free same always (engine_of s) (engine_of t.after) w (h.0, h.1) h.2.flights (record { each = h.2.in_flight.each; beyond = h.2.in_flight.beyond }) o y.does.told y.does.engine.does (sym (ap (λ z. is_in_flight z.outcome) y.does.report) ∙ on) in
       asks_here same always t.after w (y.holds.0, y.holds.1) a.flights a.in_flight
       ∙ quiet_target h.2.flights h.2.pairs (target o) (record { step = record { worker = w; event = Begin o }; report = t.report; entry = a.entry; pairs = a.pairs }) a.flights free.0 g a.map
@@ -179,7 +164,7 @@ module _ {V : Type 0} (same : V → V → Bool) (always : Bool) where
   -- the law of whole runs
   module _ (ends : (s : World V) (t : Taken V) (ts : List (Taken V)) (w : ℕ) (o : Op V) → Holds same always s → AreTaken same always s (t ∷ ts) → t.step ≡ record { worker = w; event = Begin o } → OthersUnlocked s w → AreNext w t.after ts → AllInFlight (t ∷ ts) → length (t ∷ ts) < steps_alone s o) where
     stops : (s : World V) (w : ℕ) (o : Op V) (most : ℕ) (ts : List (Taken V)) (reports : List (Report V)) (r : Report V) → Holds same always s → AreTaken same always s ts → map (λ (t : Taken V). t.report) ts ≡ reports → map (λ (t : Taken V). t.step) ts ≡ steps_of w o (length reports)
-        → GoOn reports → option_map kept_report (last_of reports) ≡ Some r → OthersUnlocked s w → steps_alone s o ≤ most → most ≤ length reports → goes_on r.outcome ≡ true → ⊥
+        → GoOn reports → option_map kept_report (last_of reports) ≡ Some r → OthersUnlocked s w → steps_alone s o ≤ most → most ≤ length reports → goes_unasked r.outcome ≡ true → ⊥
     stops s w o most [] reports r h x er es g l free le long on =
         let n : 0 ≡ length reports = ap length er in
         let p = no_call s o in omega (arith, n, p, le, long)
@@ -191,7 +176,7 @@ module _ {V : Type 0} (same : V → V → Bool) (always : Bool) where
         let go : GoOn (t.report ∷ qs) = subst (λ ys. GoOn ys) (sym er) g in
         let last : option_map kept_report (last_of (t.report ∷ qs)) ≡ Some r = ap (λ ys. option_map kept_report (last_of ys)) er ∙ l in
         let kept : kept_report (last_or t.report qs) ≡ r = cc in
-        let goes : goes_on (last_or t.report qs).outcome ≡ true = sym (away (last_or t.report qs).outcome) ∙ (ap (λ y. goes_on y.outcome) kept ∙ on) in
+        let goes : goes_unasked (last_or t.report qs).outcome ≡ true = sym (away_goes (last_or t.report qs).outcome) ∙ (ap (λ y. goes_unasked y.outcome) kept ∙ on) in
         let all = all_go_on t ts go goes in
         let flying = in_flight (t ∷ ts) all in
         let next = are_next t.after w (length qs) ts x.0.holds x.1 more all.1 (quiet_first s t w o h x.0 first flying.0 all.0) in
@@ -200,10 +185,11 @@ module _ {V : Type 0} (same : V → V → Bool) (always : Bool) where
         let m : length qs ≡ length ts = length-map ts (λ (y : Taken V). y.report) in
         omega (arith, short, n, m, le, long)
 
+    -- a whole call that is given that many steps while no other holds a lock ends, or wants an answer
     pub call_ends : (s : World V) (w : ℕ) (o : Op V) (most : ℕ) (places : List (ℕ × V)) (result : Option (Report V)) (places' : List (ℕ × V)) (s' : World V) → Holds same always s → IsCalled same always s w o most places result places' s' → CallEndsAlone s w o most result
     call_ends s w o most places result places' s' h x free le r is = elim (cases_lt (length x.reports) most) [
       | inl l ↦ x.stops r is l
-      | inr l ↦ elim (cases_Bool (goes_on r.outcome)) [
+      | inr l ↦ elim (cases_Bool (goes_unasked r.outcome)) [
         | inl e ↦ absurd (stops s w o most x.run.taken x.reports r h x.run.each x.run.reports_are x.run.steps_are x.goes (x.last ∙ is) free le l e)
         | inr e ↦ e
       ]

@@ -9,7 +9,7 @@ use Rattle.congee.specs.declared.protocol.machine.Outcome.TheVariants as moved
 use Rattle.congee.specs.declared.protocol.op.Op.{Op as Point}
 use Rattle.congee.specs.Keys.{IsMapOf}
 use Rattle.congee.specs.protocol.Play.{Flight, Over, begun, range_of, flight, Unbegun, Scanning, ScanTells}
-use Rattle.congee.specs.protocol.Sweeps.{Stood, AllStood, Throughout, IsScan}
+use Rattle.congee.specs.protocol.Scans.{Stood, AllStood, Throughout, IsScan}
 use Rattle.joint.specs.declared.id.Id.{Id}
 use Rattle.joint.specs.declared.steps.Done.{Done as Answer}
 use Rattle.joint.specs.declared.steps.Done.TheVariants as done
@@ -22,18 +22,18 @@ use Rattle.joint.specs.declared.steps.Step.{Step}
 use Rattle.joint.specs.declared.steps.Target.{Target}
 use Rattle.joint.specs.declared.steps.Target.TheVariants as target
 use Rattle.joint.specs.nodes.Nodes.{nodes}
-use Rattle.joint.specs.engine.Intact.{root}
+use Rattle.joint.specs.Names.{root}
 use Rattle.joint.specs.calls.MapCalls.{AllGoOn, told_after, IsOfScan, KeepsAll, told_places, HasScanned, IsScanning, IsScanDone, PlaysScan}
-use Rattle.joint.specs.Reports.{target, told}
+use Rattle.joint.specs.Reports.{target, told, is_in_flight}
 use Rattle.joint.specs.calls.Runs.{Taken, AreTaken, after_all}
-use Rattle.joint.specs.world.MapSteps.{GoMap, Advances, BeginMap, BeginsOr, EndsAtOnce, EndsEmpty, FindsNone, BeginsFlight, Line}
+use Rattle.joint.specs.world.MapSteps.{GoMap, StepsFlight, BeginMap, BeginsOr, EndsAtOnce, EndsEmpty, FindsNone, BeginsFlight, Line}
 use Rattle.joint.specs.engine.Flying.{Flights, with_flight, AreInFlight}
 use Rattle.joint.specs.calls.Scans.{placed}
 use Rattle.joint.specs.world.World.{Holds, IsStep}
-use Rattle.joint.specs.engine.Engine.{World, is_in_flight}
+use Rattle.joint.specs.engine.Engine.{World}
 use Rattle.joint.proofs.lemmas.world.Flights.{flight_here}
-use Rattle.joint.proofs.lemmas.world.JournaledSteps.{Mapped, mapped}
-use Rattle.joint.proofs.lemmas.calls.KeyCalls.{as_before, begin_of, gone, once_more, stays_keeps_all}
+use Rattle.joint.proofs.lemmas.world.JournaledSteps.{Mapped, step_mapped}
+use Rattle.joint.proofs.lemmas.calls.KeyCalls.{as_before, begin_of, further_step, once_more, stays_keeps_all}
 
 module _ {V : Type 0} (m : Pairs V) where
   -- the maps that stood at its steps are all the one
@@ -68,6 +68,7 @@ module _ {V : Type 0} (same : V → V → Bool) (always : Bool) (fs : Flights V)
   abbrev pub Watches : List (ℕ × V) → Flight V → Type 0
   Watches places f = ((f ≡ Unbegun from to many) × (places ≡ [])) ⊎ ((states : List (Pairs V)) × (f ≡ Scanning from to many states places) × AllOne m states)
 
+  -- the scan is in flight, with these pairs told for its places, and the pairs of the map stand
   pub record InScan (places : List (ℕ × V)) (s : World V) : Type 0 where
     pub free : fs w ≡ Over
     pub flight : Flight V
@@ -75,17 +76,19 @@ module _ {V : Type 0} (same : V → V → Bool) (always : Bool) (fs : Flights V)
     pub in_flight : AreInFlight s (with_flight fs w flight)
     pub stand : IsMapOf (nodes s.forest) m
 
+  -- the scan is done: its places have what a scan promises, and the pairs and the other calls stay
   abbrev pub EndsWith : List (ℕ × V) → Answer V → World V → Type 0
   EndsWith places (done.Scanned count) s = HasScanned start end size count m places × KeepsAll fs m s
   EndsWith places _ s = ⊥
 
-  abbrev pub Sweeps : List (ℕ × V) → Outcome V → World V → Type 0
-  Sweeps places Running s = InScan places s
-  Sweeps places (Found place key value) s = InScan places s
-  Sweeps places (Done d) s = EndsWith places d s
-  Sweeps places (Refused e) s = KeepsAll fs m s
-  Sweeps places (Asks found) s = ⊥
-  Sweeps places (Registered n) s = ⊥
+  -- how the scan stands after a step that told this, with these pairs told for its places
+  abbrev pub Scans : List (ℕ × V) → Outcome V → World V → Type 0
+  Scans places Running s = InScan places s
+  Scans places (Found place key value) s = InScan places s
+  Scans places (Done d) s = EndsWith places d s
+  Scans places (Refused e) s = KeepsAll fs m s
+  Scans places (Asks found) s = ⊥
+  Scans places (Registered n) s = ⊥
 
   of_scan : (places : List (ℕ × V)) (f : Flight V) → Watches places f → IsOfScan f
   of_scan places f (inl x) = let P : Flight V → Type 0 = λ y. IsOfScan y in subst P (sym x.0) tt
@@ -102,7 +105,8 @@ module _ {V : Type 0} (same : V → V → Bool) (always : Bool) (fs : Flights V)
   done_keeps places (done.Empty b) s x = absurd x
   done_keeps places (done.Stats stats) s x = absurd x
 
-  pub scan_plays : (places : List (ℕ × V)) (said : Outcome V) (s : World V) → Sweeps places said s → PlaysScan fs m w said s
+  -- a scan that stands so plays as a scan on the map does
+  pub scan_plays : (places : List (ℕ × V)) (said : Outcome V) (s : World V) → Scans places said s → PlaysScan fs m w said s
   scan_plays places Running s x = scanning_of places s x
   scan_plays places (Found place key value) s x = scanning_of places s x
   scan_plays places (Done d) s x = done_keeps places d s x
@@ -111,35 +115,35 @@ module _ {V : Type 0} (same : V → V → Bool) (always : Bool) (fs : Flights V)
   scan_plays places (Registered n) s x = absurd x
 
   scan_told : (states : List (Pairs V)) (places : List (ℕ × V)) (o : Moved V) (f : Flight V) (said : Outcome V) (s : World V) → fs w ≡ Over → AllOne m states → said ≡ told o
-      → ScanTells from to many states places o f → AreInFlight s (with_flight fs w f) → IsMapOf (nodes s.forest) m → Sweeps (placed true said places) said s
+      → ScanTells from to many states places o f → AreInFlight s (with_flight fs w f) → IsMapOf (nodes s.forest) m → Scans (placed true said places) said s
   scan_told states places moved.Running f said s free a e u fl st =
-      let P : Outcome V → Type 0 = λ y. Sweeps (placed true y places) y s in
+      let P : Outcome V → Type 0 = λ y. Scans (placed true y places) y s in
       subst P (sym e) (record { free = free; flight = f; watched = inr (states, u, a); in_flight = fl; stand = st })
   scan_told states places (moved.Found place key x) f said s free a e u fl st =
-      let P : Outcome V → Type 0 = λ y. Sweeps (placed true y places) y s in
+      let P : Outcome V → Type 0 = λ y. Scans (placed true y places) y s in
       subst P (sym e) (record { free = free; flight = f; watched = inr (states, u.1, a); in_flight = fl; stand = st })
   scan_told states places (moved.Scanned count) f said s free a e u fl st =
-      let P : Outcome V → Type 0 = λ y. Sweeps (placed true y places) y s in
+      let P : Outcome V → Type 0 = λ y. Scans (placed true y places) y s in
       let Q : Flight V → Type 0 = λ y. AreInFlight s (with_flight fs w y) in
       subst P (sym e) (record { filled = u.0; scan = scan_of_one m start end size states (take count places) a (promises states (take count places) u.1) }, (st, as_before s fs w free (subst Q u.2 fl)))
   scan_told states places (moved.Refused cause) f said s free a e u fl st =
-      let P : Outcome V → Type 0 = λ y. Sweeps (placed true y places) y s in
+      let P : Outcome V → Type 0 = λ y. Scans (placed true y places) y s in
       let Q : Flight V → Type 0 = λ y. AreInFlight s (with_flight fs w y) in
       subst P (sym e) (st, as_before s fs w free (subst Q u fl))
   scan_told states places (moved.Asks o) f said s free a e u fl st = absurd u
   scan_told states places (moved.Done r) f said s free a e u fl st = absurd u
 
-  scan_step : (noise : Noise Id V) (places : List (ℕ × V)) (s : World V) (r : Report V) (s' : World V) → Holds same always s → InScan places s → IsStep same always s (gone w noise) r s'
-      → Sweeps (placed true r.outcome places) r.outcome s'
+  scan_step : (noise : Noise Id V) (places : List (ℕ × V)) (s : World V) (r : Report V) (s' : World V) → Holds same always s → InScan places s → IsStep same always s (further_step w noise) r s'
+      → Scans (placed true r.outcome places) r.outcome s'
   scan_step noise places s r s' h b x = by_watched b.watched where
     on : Flights V
     on = with_flight fs w b.flight
 
-    y : Mapped same always s (gone w noise) r s' (with_flight fs w b.flight) m
-    y = mapped same always s (gone w noise) s' (with_flight fs w b.flight) m h x.holds b.stand b.in_flight r x
+    y : Mapped same always s (further_step w noise) r s' (with_flight fs w b.flight) m
+    y = step_mapped same always s (further_step w noise) s' (with_flight fs w b.flight) m h x.holds b.stand b.in_flight r x
 
     l : Line V
-    l = record { step = gone w noise; report = r; entry = y.entry; pairs = y.pairs }
+    l = record { step = further_step w noise; report = r; entry = y.entry; pairs = y.pairs }
 
     moves : GoMap same (with_flight fs w b.flight) b.flight m noise.answer l y.flights
     moves = let P : Flight V → Type 0 = λ z. GoMap same (with_flight fs w b.flight) z m noise.answer l y.flights in subst P (flight_here fs w b.flight) y.map
@@ -150,18 +154,18 @@ module _ {V : Type 0} (same : V → V → Bool) (always : Bool) (fs : Flights V)
     flying : (f : Flight V) → y.flights ≡ with_flight (with_flight fs w b.flight) w f → AreInFlight s' (with_flight fs w f)
     flying f e = let P : Flights V → Type 0 = λ n. AreInFlight s' n in once_more s' fs w b.flight f (subst P e y.in_flight)
 
-    by_watched : Watches places b.flight → Sweeps (placed true r.outcome places) r.outcome s'
+    by_watched : Watches places b.flight → Scans (placed true r.outcome places) r.outcome s'
     by_watched (inl e) =
         let P : Flight V → Type 0 = λ z. GoMap same (with_flight fs w b.flight) z m noise.answer l y.flights in
-        let a : Advances same (with_flight fs w b.flight) (Unbegun from to many) m noise.answer l y.flights = subst P e.0 moves in
-        let Q : List (ℕ × V) → Type 0 = λ z. Sweeps (placed true r.outcome z) r.outcome s' in
-        subst Q (sym e.1) (scan_told (m ∷ []) [] a.step.outcome a.next r.outcome s' b.free (refl, tt) a.step.told_so a.step.tells (flying a.next a.advances) (stand a.step.same_pairs))
+        let a : StepsFlight same (with_flight fs w b.flight) (Unbegun from to many) m noise.answer l y.flights = subst P e.0 moves in
+        let Q : List (ℕ × V) → Type 0 = λ z. Scans (placed true r.outcome z) r.outcome s' in
+        subst Q (sym e.1) (scan_told (m ∷ []) [] a.step.outcome a.next r.outcome s' b.free (refl, tt) a.step.told_so a.step.tells (flying a.next a.with_next) (stand a.step.same_pairs))
     by_watched (inr e) =
         let P : Flight V → Type 0 = λ z. GoMap same (with_flight fs w b.flight) z m noise.answer l y.flights in
-        let a : Advances same (with_flight fs w b.flight) (Scanning from to many e.0 places) m noise.answer l y.flights = subst P e.1 moves in
-        scan_told (m ∷ e.0) places a.step.outcome a.next r.outcome s' b.free (refl, e.2) a.step.told_so a.step.tells (flying a.next a.advances) (stand a.step.same_pairs)
+        let a : StepsFlight same (with_flight fs w b.flight) (Scanning from to many e.0 places) m noise.answer l y.flights = subst P e.1 moves in
+        scan_told (m ∷ e.0) places a.step.outcome a.next r.outcome s' b.free (refl, e.2) a.step.told_so a.step.tells (flying a.next a.with_next) (stand a.step.same_pairs)
 
-  scanning : (places : List (ℕ × V)) (said : Outcome V) (s : World V) → is_in_flight said ≡ true → Sweeps places said s → InScan places s
+  scanning : (places : List (ℕ × V)) (said : Outcome V) (s : World V) → is_in_flight said ≡ true → Scans places said s → InScan places s
   scanning places Running s on x = x
   scanning places (Found place key value) s on x = x
   scanning places (Done d) s on x = absurd (cc on)
@@ -169,18 +173,18 @@ module _ {V : Type 0} (same : V → V → Bool) (always : Bool) (fs : Flights V)
   scanning places (Asks found) s on x = absurd x
   scanning places (Registered n) s on x = absurd x
 
-  scan_steps : (more : List (Taken V)) (places : List (ℕ × V)) (said : Outcome V) (s : World V) → Holds same always s → Sweeps places said s → AreTaken same always s more → AllGoOn w said more
-      → Sweeps (told_places places more) (told_after said more) (after_all s more)
+  scan_steps : (more : List (Taken V)) (places : List (ℕ × V)) (said : Outcome V) (s : World V) → Holds same always s → Scans places said s → AreTaken same always s more → AllGoOn w said more
+      → Scans (told_places places more) (told_after said more) (after_all s more)
   scan_steps [] places said s h b x g = b
   scan_steps (t ∷ ts) places said s h b x g =
       let P : Step V → Type 0 = λ y. IsStep same always s y t.report t.after in
       scan_steps ts (placed true t.report.outcome places) t.report.outcome t.after x.0.holds (scan_step g.0.noise places s t.report t.after h (scanning places said s g.0.in_flight b) (subst P g.0.step x.0)) x.1 g.1
 
   scan_begins : (op : Op V) (asked : Point V) (s : World V) (r : Report V) (s' : World V) → target op ≡ target.Tree asked → range_of asked ≡ Some (start, end, size) → flight (begun root asked) ≡ Unbegun from to many → Holds same always s → KeepsAll fs m s → IsStep same always s (begin_of w op) r s'
-      → Sweeps [] r.outcome s'
+      → Scans [] r.outcome s'
   scan_begins op asked s r s' e ranged starts h b x = begun_so r.outcome refl begin where
     y : Mapped same always s (begin_of w op) r s' fs m
-    y = mapped same always s (begin_of w op) s' fs m h x.holds b.0 b.1 r x
+    y = step_mapped same always s (begin_of w op) s' fs m h x.holds b.0 b.1 r x
 
     l : Line V
     l = record { step = begin_of w op; report = r; entry = y.entry; pairs = y.pairs }
@@ -188,16 +192,16 @@ module _ {V : Type 0} (same : V → V → Bool) (always : Bool) (fs : Flights V)
     begin : BeginsOr fs m asked r.outcome l y.flights
     begin = let P : Target V → Type 0 = λ t. BeginMap fs m t l y.flights in subst P e y.map
 
-    in_flight : BeginsFlight fs m asked l y.flights → Sweeps [] r.outcome s'
+    in_flight : BeginsFlight fs m asked l y.flights → Scans [] r.outcome s'
     in_flight z =
-        let P : Outcome V → Type 0 = λ o. Sweeps [] o s' in
+        let P : Outcome V → Type 0 = λ o. Scans [] o s' in
         let Q : Pairs V → Type 0 = λ n. IsMapOf (nodes s'.forest) n in
         let R : Flights V → Type 0 = λ n. AreInFlight s' n in
         subst P (sym z.accepted) (record { free = z.free; flight = Unbegun from to many; watched = inl (refl, refl); in_flight = subst R (z.begins ∙ ap (with_flight fs w) starts) y.in_flight; stand = subst Q z.same_pairs y.stand })
 
-    at_once : (d : Answer V) → r.outcome ≡ Done d → EndsAtOnce fs m asked d l y.flights → Sweeps [] r.outcome s'
+    at_once : (d : Answer V) → r.outcome ≡ Done d → EndsAtOnce fs m asked d l y.flights → Scans [] r.outcome s'
     at_once (done.Scanned count) is z =
-        let P : Outcome V → Type 0 = λ o. Sweeps [] o s' in
+        let P : Outcome V → Type 0 = λ o. Scans [] o s' in
         let Q : ℕ → Type 0 = λ n. HasScanned {V = V} start end size n m [] in
         let R : Option (ℕ × ℕ × ℕ) → Type 0 = λ a. EndsEmpty a count fs m l y.flights in
         let none : FindsNone start end size count fs m l y.flights = subst R ranged z in
@@ -208,16 +212,16 @@ module _ {V : Type 0} (same : V → V → Bool) (always : Bool) (fs : Flights V)
     at_once (done.Empty a) is z = absurd z
     at_once (done.Stats stats) is z = absurd z
 
-    begun_so : (o : Outcome V) → r.outcome ≡ o → BeginsOr fs m asked o l y.flights → Sweeps [] r.outcome s'
-    begun_so (Refused a) is z = let P : Outcome V → Type 0 = λ o. Sweeps [] o s' in subst P (sym is) (stays_keeps_all fs m l y.flights s' z y.stand y.in_flight)
+    begun_so : (o : Outcome V) → r.outcome ≡ o → BeginsOr fs m asked o l y.flights → Scans [] r.outcome s'
+    begun_so (Refused a) is z = let P : Outcome V → Type 0 = λ o. Scans [] o s' in subst P (sym is) (stays_keeps_all fs m l y.flights s' z y.stand y.in_flight)
     begun_so (Done d) is z = at_once d is z
     begun_so Running is z = in_flight z
     begun_so (Asks found) is z = in_flight z
     begun_so (Found place key value) is z = in_flight z
     begun_so (Registered n) is z = in_flight z
 
-  -- a whole scan
-  pub sweeps : (op : Op V) (asked : Point V) (s : World V) (first : Taken V) (more : List (Taken V)) → target op ≡ target.Tree asked → range_of asked ≡ Some (start, end, size) → flight (begun root asked) ≡ Unbegun from to many → Holds same always s → KeepsAll fs m s
+  -- a scan that no other worker's step comes between stands so after its steps, from its begin on
+  pub scans : (op : Op V) (asked : Point V) (s : World V) (first : Taken V) (more : List (Taken V)) → target op ≡ target.Tree asked → range_of asked ≡ Some (start, end, size) → flight (begun root asked) ≡ Unbegun from to many → Holds same always s → KeepsAll fs m s
       → IsStep same always s (begin_of w op) first.report first.after → AreTaken same always first.after more → AllGoOn w first.report.outcome more
-      → Sweeps (told_places [] more) (told_after first.report.outcome more) (after_all first.after more)
-  sweeps op asked s first more e ranged starts h b x y g = scan_steps more [] first.report.outcome first.after x.holds (scan_begins op asked s first.report first.after e ranged starts h b x) y g
+      → Scans (told_places [] more) (told_after first.report.outcome more) (after_all first.after more)
+  scans op asked s first more e ranged starts h b x y g = scan_steps more [] first.report.outcome first.after x.holds (scan_begins op asked s first.report first.after e ranged starts h b x) y g

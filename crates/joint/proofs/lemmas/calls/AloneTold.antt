@@ -1,12 +1,11 @@
 -- A call that is taken alone ends within its number of steps, by what its worker was told.
-use Rattle.std.proofs.Common.{◌≡◌, ◌==◌, ◌<◌, ℕ, zero, suc, Bool, true, false, List, [], ◌∷◌, take, refl, sym, ◌∙◌, ap, subst, inl, inr}
+use Rattle.std.proofs.Common.{◌≡◌, ◌==◌, ◌<◌, ℕ, Bool, true, false, List, [], ◌∷◌, take, refl, sym, ◌∙◌, ap, subst, inl, inr}
 use Rattle.std.specs.Prelude.{Option, None, Some, slice_get}
 use Rattle.std.proofs.lemmas.Bool.{false≢true}
 use Rattle.judge.specs.declared.journal.Reply.{Reply}
 use Rattle.judge.specs.Answer.{Pairs}
 use Rattle.crossbeam_epoch.specs.declared.fault.Fault.{Fault}
 use Rattle.crossbeam_epoch.specs.declared.world.participant.Participant.{Participant}
-use Rattle.crossbeam_epoch.specs.declared.world.report.Outcome.TheVariants as collector_outcome
 use Rattle.congee.specs.declared.protocol.machine.Machine.{Machine}
 use Rattle.congee.specs.declared.protocol.machine.Outcome.{Outcome as Moved}
 use Rattle.congee.specs.declared.protocol.machine.Outcome.TheVariants as moved
@@ -35,25 +34,27 @@ use Rattle.joint.specs.declared.steps.Target.{Target}
 use Rattle.joint.specs.declared.steps.Target.TheVariants as target
 use Rattle.joint.specs.calls.Alone.{OthersUnlocked, AreNext, AllEndAlone}
 use Rattle.joint.specs.nodes.Nodes.{nodes}
-use Rattle.joint.specs.engine.Intact.{IsAt, root}
+use Rattle.joint.specs.engine.Intact.{IsAt}
+use Rattle.joint.specs.Names.{root}
 use Rattle.joint.specs.engine.Journaling.{asks_at}
-use Rattle.joint.specs.Reports.{target, told}
+use Rattle.joint.specs.Reports.{target, told, is_in_flight}
 use Rattle.joint.specs.calls.Runs.{Taken, AreTaken}
 use Rattle.joint.specs.world.MapSteps.{EventMap, GoMap, PendingStep, BeginMap, BeginsOr, Line}
 use Rattle.joint.specs.engine.Flying.{Flights, IsInFlight, AreInFlight}
 use Rattle.joint.specs.nodes.View.{id_number}
 use Rattle.joint.specs.calls.Wanted.{is_question, wants_if, IsReply, RepliesTo, AreNextTold, AllEndAloneTold, OthersIdle}
 use Rattle.joint.specs.world.World.{Holds, IsStep}
-use Rattle.joint.specs.engine.Engine.{World, BeginsAt, BeginsOnTree, Does, EntersUnless, engine_of, finds_none, is_in_flight, misuse, place_of}
+use Rattle.joint.specs.engine.Engine.{World, BeginsAt, BeginsOnTree, Does, EntersUnless, engine_of, finds_none, misuse, place_of}
 use Rattle.joint.proofs.lemmas.engine.Collecting.{get_inside}
 use Rattle.joint.proofs.lemmas.calls.Ends.{rests}
 use Rattle.joint.proofs.lemmas.engine.Entering.{begin_free}
 use Rattle.joint.proofs.lemmas.world.Flights.{flight_here, eqb_same}
-use Rattle.joint.proofs.lemmas.world.JournaledSteps.{mapped}
+use Rattle.joint.proofs.lemmas.world.JournaledSteps.{step_mapped}
 use Rattle.joint.proofs.lemmas.world.JournalPlaces.{asks_here}
 use Rattle.joint.proofs.lemmas.world.Requested.{asks}
 use Rattle.joint.proofs.lemmas.engine.Telling.{survey_ends}
 use Rattle.joint.proofs.lemmas.calls.Wanted.{step_wants, of_collector}
+use Rattle.joint.proofs.lemmas.calls.Rounds.{taken_front}
 use Rattle.std.proofs.lemmas.Option.{slice_get_within}
 
 module _ {V : Type 0} where
@@ -97,13 +98,13 @@ module _ {V : Type 0} where
   go_kind : (o : Op V) (same : V → V → Bool) (fs : Flights V) (f : Flight V) (m : Pairs V) (answer : Option (Option V)) (l : Line V) (fs' : Flights V) → fs l.step.worker ≡ f → Kinded o f → GoMap same fs f m answer l fs' → Kinded o (fs' l.step.worker)
   go_kind o same fs Over m answer l fs' e x y = kinded o (fs' l.step.worker) Over (ap (λ (z : Flights V). z l.step.worker) y.same_flights ∙ e) tt
   go_kind o same fs (Pending k kd v q) m answer l fs' e x y =
-      kinded o (fs' l.step.worker) y.next (ap (λ (z : Flights V). z l.step.worker) y.advances ∙ flight_here fs l.step.worker y.next) (pending_kind o same k kd (value_answered kd q answer v) (resolved kd q answer) m l.report.decided l y.next x y.step)
+      kinded o (fs' l.step.worker) y.next (ap (λ (z : Flights V). z l.step.worker) y.with_next ∙ flight_here fs l.step.worker y.next) (pending_kind o same k kd (value_answered kd q answer v) (resolved kd q answer) m l.report.decided l y.next x y.step)
   go_kind o same fs (Decided r) m answer l fs' e x y =
-      kinded o (fs' l.step.worker) y.next (ap (λ (z : Flights V). z l.step.worker) y.advances ∙ flight_here fs l.step.worker y.next) (concluded_kind o r y.step.outcome y.next y.step.concludes)
+      kinded o (fs' l.step.worker) y.next (ap (λ (z : Flights V). z l.step.worker) y.with_next ∙ flight_here fs l.step.worker y.next) (concluded_kind o r y.step.outcome y.next y.step.concludes)
   go_kind o same fs (Unbegun start end size) m answer l fs' e x y =
-      kinded o (fs' l.step.worker) y.next (ap (λ (z : Flights V). z l.step.worker) y.advances ∙ flight_here fs l.step.worker y.next) (scan_kind o start end size _ _ y.step.outcome y.next y.step.tells)
+      kinded o (fs' l.step.worker) y.next (ap (λ (z : Flights V). z l.step.worker) y.with_next ∙ flight_here fs l.step.worker y.next) (scan_kind o start end size _ _ y.step.outcome y.next y.step.tells)
   go_kind o same fs (Scanning start end size states places) m answer l fs' e x y =
-      kinded o (fs' l.step.worker) y.next (ap (λ (z : Flights V). z l.step.worker) y.advances ∙ flight_here fs l.step.worker y.next) (scan_kind o start end size _ _ y.step.outcome y.next y.step.tells)
+      kinded o (fs' l.step.worker) y.next (ap (λ (z : Flights V). z l.step.worker) y.with_next ∙ flight_here fs l.step.worker y.next) (scan_kind o start end size _ _ y.step.outcome y.next y.step.tells)
 
   begun_kind : (o : Op V) (p : Point V) → target o ≡ target.Tree p → Kinded o (flight (begun root p))
   begun_kind o (point.Range start end size) t = tt
@@ -194,7 +195,7 @@ module _ {V : Type 0} (same : V → V → Bool) (always : Bool) where
   tree_quiet s s' w (point.Exchange k a b) r x = ap (λ y. is_question y.outcome) x.report
 
   begin_quiet : (s s' : World V) (w : ℕ) (t : Target V) (r : Report V) → BeginsAt same always s w t r s' → is_question r.outcome ≡ false
-  begin_quiet s s' w (target.Collector c) r x = ap (λ y. is_question y.outcome) x.report ∙ of_collector V x.turn.outcome
+  begin_quiet s s' w (target.Collector c) r x = ap (λ y. is_question y.outcome) x.report ∙ of_collector V x.collector_report.outcome
   begin_quiet s s' w (target.Tree p) r x = tree_quiet s s' w p r x
   begin_quiet s s' w (target.Survey k) r x = ap (λ y. is_question y.outcome) x.report ∙ unasked x.outcome (survey_ends (nodes s.forest) k x.outcome x.tells)
 
@@ -207,7 +208,7 @@ module _ {V : Type 0} (same : V → V → Bool) (always : Bool) where
   next_told s [] w o told fs h fl q k x next = tt
   next_told s (t ∷ us) w o told fs h fl q k x next =
       let y = next.0 in
-      let a = mapped same always s t.step t.after fs h.2.pairs h x.0.holds h.2.stand fl t.report x.0 in
+      let a = step_mapped same always s t.step t.after fs h.2.pairs h x.0.holds h.2.stand fl t.report x.0 in
       let l : Line V = record { step = t.step; report = t.report; entry = a.entry; pairs = a.pairs } in
       let worker : t.step.worker ≡ w = ap (λ z. z.worker) y.step in
       let P : Event V → Type 0 = λ z. EventMap same fs h.2.pairs z l a.flights in
@@ -232,12 +233,6 @@ module _ {V : Type 0} (same : V → V → Bool) (always : Bool) where
           let c = get_inside s.calls w (subst (λ i. w < i) h.0.machines (slice_get_within s.machines w m at)) in
           flying c.0 (place_of s w) m (fs w) e (h.0.each w c.0 m c.1 at) (fl.each w c.0 m c.1 at)
 
-  taken_front : (s : World V) (n : ℕ) (ts : List (Taken V)) → AreTaken same always s ts → AreTaken same always s (take n ts)
-  taken_front s zero [] x = tt
-  taken_front s zero (t ∷ ts) x = tt
-  taken_front s (suc n) [] x = tt
-  taken_front s (suc n) (t ∷ ts) x = (x.0, taken_front t.after n ts x.1)
-
   accepted_kind : (o : Op V) (fs : Flights V) (m : Pairs V) (p : Point V) (told : Outcome V) (l : Line V) (fs' : Flights V) → target o ≡ target.Tree p → is_in_flight told ≡ true → BeginsOr fs m p told l fs' → Kinded o (fs' l.step.worker)
   accepted_kind o fs m p (Refused e) l fs' t on x = absurd (false≢true on)
   accepted_kind o fs m p (Done d) l fs' t on x = absurd (false≢true on)
@@ -255,7 +250,7 @@ module _ {V : Type 0} (same : V → V → Bool) (always : Bool) where
       let step : Step V = record { worker = w; event = Begin o } in
       let y : IsStep same always s step t.report t.after = subst P e is in
       let fs = h.2.flights in
-      let a = mapped same always s step t.after fs h.2.pairs h y.holds h.2.stand h.2.in_flight t.report y in
+      let a = step_mapped same always s step t.after fs h.2.pairs h y.holds h.2.stand h.2.in_flight t.report y in
       let l : Line V = record { step = step; report = t.report; entry = a.entry; pairs = a.pairs } in
       let free = begin_free same always (engine_of s) (engine_of t.after) w (h.0, h.1) fs (record { each = h.2.in_flight.each; beyond = h.2.in_flight.beyond }) o y.does.told y.does.engine.does (sym (ap (λ z. is_in_flight z.outcome) y.does.report) ∙ on) in
       let before : asks_at (slice_get s.machines w) ≡ false = asks_here same always s w (h.0, h.1) fs h.2.in_flight ∙ ap asks free.0 in
@@ -268,10 +263,11 @@ module _ {V : Type 0} (same : V → V → Bool) (always : Bool) where
       stays true c r = refl
       stays false c r = refl
 
+  -- where each call that is taken alone ends, it ends so too by the steps that its worker was told to take
   pub all_told : (s : World V) (ts : List (Taken V)) → Holds same always s → AreTaken same always s ts → AllEndAlone s ts → AllEndAloneTold s ts
   all_told s [] h x all = tt
   all_told s (t ∷ ts) h x all = (
-    (λ w n o e free next on. all.0 w n o e free (first_told s t (take n ts) w o h x.0 (taken_front t.after n ts x.1) e on.0 next) on),
+    (λ w n o e free next on. all.0 w n o e free (first_told s t (take n ts) w o h x.0 (taken_front same always t.after n ts x.1) e on.0 next) on),
     all_told t.after ts x.0.holds x.1 all.1,
   )
 

@@ -8,7 +8,6 @@ use Rattle.congee.specs.declared.protocol.machine.Noise.{Noise}
 use Rattle.congee.specs.declared.protocol.machine.Outcome.{Outcome as Moved}
 use Rattle.congee.specs.declared.protocol.machine.Outcome.TheVariants as moved
 use Rattle.congee.specs.declared.protocol.op.Op.{Op as Point}
-use Rattle.congee.specs.declared.protocol.op.Op.TheVariants as point
 use Rattle.congee.specs.declared.protocol.phase.Kind.{Kind}
 use Rattle.congee.specs.protocol.Play.{Flight, Pending, Decided, Over, Unbegun, Scanning, Question, Unasked, Undecided, Concludes, value_answered, resolved, begun, flight, parts}
 use Rattle.joint.specs.declared.id.Id.{Id}
@@ -20,14 +19,13 @@ use Rattle.joint.specs.declared.steps.Target.{Target}
 use Rattle.joint.specs.declared.steps.Target.TheVariants as target
 use Rattle.joint.specs.calls.Answering.{Either, GoesOrAnswers, GoesOrRefused, Answers, TakesEffectAt, Decides, AllDecide}
 use Rattle.joint.specs.calls.Scans.{is_go}
-use Rattle.joint.specs.engine.Intact.{root}
-use Rattle.joint.specs.Reports.{target, told}
+use Rattle.joint.specs.Names.{root}
+use Rattle.joint.specs.Reports.{target, told, is_in_flight}
 use Rattle.joint.specs.calls.Runs.{IsMapRun}
 use Rattle.joint.specs.world.MapSteps.{EventMap, GoMap, PendingStep, BeginMap, BeginsOr, Line}
 use Rattle.joint.specs.engine.Flying.{Flights, with_flight}
-use Rattle.joint.specs.world.World.{IsOnKey}
-use Rattle.joint.specs.engine.Engine.{is_in_flight}
-use Rattle.joint.proofs.lemmas.world.Flights.{ends_stays, flight_here, flight_apart}
+use Rattle.joint.proofs.lemmas.world.Flights.{ends_stays, flight_here, flight_apart, begins_pending}
+use Rattle.congee.proofs.Laws.{both_true}
 
 either_by : (b : Bool) (A B : Type 0) → (b ≡ true → A) → (b ≡ false → B) → Either b A B
 either_by true A B f g = f refl
@@ -47,18 +45,14 @@ module _ {V : Type 0} (same : V → V → Bool) where
 
   goes_keep : (fs : Flights V) (f : Flight V) (m : Pairs V) (answer : Option (Option V)) (l : Line V) (fs' : Flights V) (w : ℕ) → w ≢ l.step.worker → GoMap same fs f m answer l fs' → fs' w ≡ fs w
   goes_keep fs Over m answer l fs' w n x = ap (λ (y : Flights V). y w) x.same_flights
-  goes_keep fs (Pending k kd v q) m answer l fs' w n x = ap (λ (y : Flights V). y w) x.advances ∙ flight_apart fs l.step.worker w x.next n
-  goes_keep fs (Decided r) m answer l fs' w n x = ap (λ (y : Flights V). y w) x.advances ∙ flight_apart fs l.step.worker w x.next n
-  goes_keep fs (Unbegun start end size) m answer l fs' w n x = ap (λ (y : Flights V). y w) x.advances ∙ flight_apart fs l.step.worker w x.next n
-  goes_keep fs (Scanning start end size states places) m answer l fs' w n x = ap (λ (y : Flights V). y w) x.advances ∙ flight_apart fs l.step.worker w x.next n
+  goes_keep fs (Pending k kd v q) m answer l fs' w n x = ap (λ (y : Flights V). y w) x.with_next ∙ flight_apart fs l.step.worker w x.next n
+  goes_keep fs (Decided r) m answer l fs' w n x = ap (λ (y : Flights V). y w) x.with_next ∙ flight_apart fs l.step.worker w x.next n
+  goes_keep fs (Unbegun start end size) m answer l fs' w n x = ap (λ (y : Flights V). y w) x.with_next ∙ flight_apart fs l.step.worker w x.next n
+  goes_keep fs (Scanning start end size states places) m answer l fs' w n x = ap (λ (y : Flights V). y w) x.with_next ∙ flight_apart fs l.step.worker w x.next n
 
   and_false : (a : Bool) → (a && true) ≡ false → a ≡ false
   and_false false e = refl
   and_false true e = e
-
-  and_true : (a b : Bool) → (a && b) ≡ true → (a ≡ true) × (b ≡ true)
-  and_true true b e = (refl, e)
-  and_true false b e = absurd (false≢true e)
 
   keeps : (fs : Flights V) (m : Pairs V) (event : Event V) (l : Line V) (fs' : Flights V) (w : ℕ) → (fs w ≡ Over → ⊥) → ((l.step.worker == w) && is_go event) ≡ false → EventMap same fs m event l fs' → fs' w ≡ fs w
   keeps fs m Register l fs' w n b x = ap (λ (y : Flights V). y w) x.same_flights
@@ -67,10 +61,10 @@ module _ {V : Type 0} (same : V → V → Bool) where
 
   -- one that is takes the step of its flight
   goes_at : (fs : Flights V) (m : Pairs V) (event : Event V) (l : Line V) (fs' : Flights V) (w : ℕ) (f : Flight V) → fs w ≡ f → ((l.step.worker == w) && is_go event) ≡ true → EventMap same fs m event l fs' → (l.step.worker ≡ w) × ((noise : Noise Id V) × GoMap same fs f m noise.answer l fs')
-  goes_at fs m Register l fs' w f e b x = absurd (false≢true (and_true (l.step.worker == w) false b).1)
-  goes_at fs m (Begin op) l fs' w f e b x = absurd (false≢true (and_true (l.step.worker == w) false b).1)
+  goes_at fs m Register l fs' w f e b x = absurd (false≢true (both_true (l.step.worker == w) false b).1)
+  goes_at fs m (Begin op) l fs' w f e b x = absurd (false≢true (both_true (l.step.worker == w) false b).1)
   goes_at fs m (Go noise) l fs' w f e b x =
-      let q : l.step.worker ≡ w = eqb-true l.step.worker w (and_true (l.step.worker == w) true b).0 in
+      let q : l.step.worker ≡ w = eqb-true l.step.worker w (both_true (l.step.worker == w) true b).0 in
       let P : Flight V → Type 0 = λ y. GoMap same fs y m noise.answer l fs' in
       (q, (noise, subst P (ap fs q ∙ e) x))
 
@@ -91,6 +85,7 @@ module _ {V : Type 0} (same : V → V → Bool) where
   next_here : (fs fs' : Flights V) (w u : ℕ) (f : Flight V) → u ≡ w → fs' ≡ with_flight fs u f → fs' w ≡ f
   next_here fs fs' w u f q e = let P : ℕ → Type 0 = λ j. fs' j ≡ f in subst P q (ap (λ (y : Flights V). y u) e ∙ flight_here fs u f)
 
+  -- a call that took effect decides no more, and is done with that reply if it is done
   pub answers : (w : ℕ) (r : Reply V) (fs : Flights V) (m : Pairs V) (ls : List (Line V)) (fs' : Flights V) → fs w ≡ Decided r → IsMapRun same fs m ls fs' → Answers w r ls
   answers w r fs m [] fs' e x = tt
   answers w r fs m (l ∷ ls) fs' e x = either_by ((l.step.worker == w) && is_go l.step.event) _ _
@@ -99,7 +94,7 @@ module _ {V : Type 0} (same : V → V → Bool) where
       let y = g.1.1 in
       let P : Outcome V → Type 0 = λ o. GoesOrAnswers r o (Answers w r ls) in (
         record { undecided = y.step.undecided; no_entry = y.step.no_entry },
-        subst P (sym y.step.told_so) (concludes_on r y.step.outcome y.next (Answers w r ls) (λ q. answers w r x.0 l.pairs ls fs' (next_here fs x.0 w l.step.worker y.next g.0 y.advances ∙ q) x.2) y.step.concludes),
+        subst P (sym y.step.told_so) (concludes_on r y.step.outcome y.next (Answers w r ls) (λ q. answers w r x.0 l.pairs ls fs' (next_here fs x.0 w l.step.worker y.next g.0 y.with_next ∙ q) x.2) y.step.concludes),
       ))
       (λ b. answers w r x.0 l.pairs ls fs' (keeps fs m l.step.event l x.0 w (decided_not (fs w) r e) b x.1 ∙ e) x.2)
 
@@ -111,6 +106,7 @@ module _ {V : Type 0} (same : V → V → Bool) where
   undecided_on k kd v q (moved.Found i y z) f Rest g x = absurd x
   undecided_on k kd v q (moved.Scanned n) f Rest g x = absurd x
 
+  -- a call on one key takes effect in one step at most, with its entry, and is done with the reply of that
   pub decides : (w : ℕ) (k : ℕ) (kd : Kind V) (v : Option V) (u : Question V) (fs : Flights V) (m : Pairs V) (ls : List (Line V)) (fs' : Flights V) → fs w ≡ Pending k kd v u → IsMapRun same fs m ls fs' → Decides w ls
   decides w k kd v u fs m [] fs' e x = tt
   decides w k kd v u fs m (l ∷ ls) fs' e x = either_by ((l.step.worker == w) && is_go l.step.event) _ _
@@ -118,8 +114,8 @@ module _ {V : Type 0} (same : V → V → Bool) where
       let g = goes_at fs m l.step.event l x.0 w (Pending k kd v u) e b x.1 in
       let y = g.1.1 in
       pending_on k kd (value_answered kd u g.1.0.answer v) (resolved kd u g.1.0.answer) w m l ls y.next l.report.decided g.0
-      (λ a z q. decides w k kd a z x.0 l.pairs ls fs' (next_here fs x.0 w l.step.worker y.next g.0 y.advances ∙ q) x.2)
-      (λ r q. answers w r x.0 l.pairs ls fs' (next_here fs x.0 w l.step.worker y.next g.0 y.advances ∙ q) x.2)
+      (λ a z q. decides w k kd a z x.0 l.pairs ls fs' (next_here fs x.0 w l.step.worker y.next g.0 y.with_next ∙ q) x.2)
+      (λ r q. answers w r x.0 l.pairs ls fs' (next_here fs x.0 w l.step.worker y.next g.0 y.with_next ∙ q) x.2)
       y.step)
       (λ b. decides w k kd v u x.0 l.pairs ls fs' (keeps fs m l.step.event l x.0 w (pending_not (fs w) k kd v u e) b x.1 ∙ e) x.2)
     where
@@ -135,22 +131,12 @@ module _ {V : Type 0} (same : V → V → Bool) where
           let P : Outcome V → Type 0 = λ o. GoesOrAnswers x.entry.reply o (Answers w x.entry.reply ls) in
           (x.entry, x.is_entry, x.worker ∙ is, subst P (sym x.told_so) (concludes_on x.entry.reply x.outcome f (Answers w x.entry.reply ls) (λ q. after x.entry.reply q) x.concludes))
 
-  -- a call on one key waits to take effect from its begin on
-  begins_pending : (p : Point V) → IsOnKey p → flight (begun root p) ≡ Pending (parts p).0 (parts p).1 (parts p).2 Unasked
-  begins_pending (point.Range start end size) n = absurd n
-  begins_pending (point.RangeInclusive start last size) n = absurd n
-  begins_pending (point.Get k) n = refl
-  begins_pending (point.Insert k v) n = refl
-  begins_pending (point.Remove k) n = refl
-  begins_pending (point.ComputePresent k) n = refl
-  begins_pending (point.ComputeInsert k) n = refl
-  begins_pending (point.Exchange k old new) n = refl
-
   accepted : (fs : Flights V) (m : Pairs V) (p : Point V) (o : Outcome V) (l : Line V) (fs' : Flights V) → is_in_flight o ≡ true → BeginsOr fs m p o l fs' → fs' ≡ with_flight fs l.step.worker (flight (begun root p))
   accepted fs m p (Refused e) l fs' on x = absurd (false≢true on)
   accepted fs m p (Done d) l fs' on x = absurd (false≢true on)
   accepted fs m p _ l fs' on x = x.begins
 
+  -- each call on one key that begins in a run does
   pub all_decide : (fs : Flights V) (m : Pairs V) (ls : List (Line V)) (fs' : Flights V) → IsMapRun same fs m ls fs' → AllDecide ls
   all_decide fs m [] fs' x = tt
   all_decide fs m (l ∷ ls) fs' x = (

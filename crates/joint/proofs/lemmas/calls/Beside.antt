@@ -67,10 +67,11 @@ module _ {V : Type 0} (same : V → V → Bool) (always : Bool) where
     proceeds (Begin op) r x = begins (target op) r x
     proceeds (Go noise) r x = goes (slice_get s.calls w) noise r x
 
-    pub step_beside : (event : Event V) (o : Option Fault) (r : Report V) → Does same always s w event o r s' → IsBeside s.forest s'.forest
+    step_beside : (event : Event V) (o : Option Fault) (r : Report V) → Does same always s w event o r s' → IsBeside s.forest s'.forest
     step_beside event None r x = proceeds event r x
     step_beside event (Some f) r x = alike s.forest s'.forest (ap (λ y. y.forest) x.1)
 
+  -- no step changes what was charged before the first node, the limit and the greatest version
   pub steps_unless_beside : (s : World V) (step : Step V) (r : Report V) (s' : World V) (b : Bool) → StepsUnless same always b s step r s' → IsBeside s.forest s'.forest
   steps_unless_beside s step r s' true x = alike s.forest s'.forest (ap (λ y. y.forest) x.state)
   steps_unless_beside s step r s' false x = step_beside (engine_of s) (engine_of s') step.worker step.event (misuse (engine_of s) step.worker step.event) x.told x.engine.does
@@ -82,5 +83,6 @@ module _ {V : Type 0} (same : V → V → Bool) (always : Bool) where
       (steps_unless_beside s t.step t.report t.after (finds_journal_full s t.step.worker t.step.event) x.0.does)
       (taken_beside t.after ts x.1)
 
+  -- nor does a run
   pub run_beside : (s s' : World V) (steps : List (Step V)) (reports : List (Report V)) → IsRun same always s steps reports s' → IsBeside s.forest s'.forest
   run_beside s s' steps reports x = let P : World V → Type 0 = λ y. IsBeside s.forest y.forest in subst P x.last (taken_beside s x.taken x.each)

@@ -4,7 +4,7 @@ use Rattle.std.proofs.Math.ListN.{set}
 use Rattle.std.specs.Prelude.{Option, None, Some, length, map, take, replicate, option_map}
 use Rattle.std.proofs.lemmas.List.{length-take-le}
 use Rattle.judge.specs.Answer.{Pairs}
-use Rattle.congee.specs.protocol.Sweeps.{IsScan, written}
+use Rattle.congee.specs.protocol.Scans.{IsScan, written}
 use Rattle.joint.specs.declared.steps.Done.TheVariants.{Scanned}
 use Rattle.joint.specs.declared.steps.Event.{Event}
 use Rattle.joint.specs.declared.steps.Event.TheVariants.{Begin}
@@ -14,7 +14,7 @@ use Rattle.joint.specs.declared.steps.Outcome.TheVariants.{Running, Asks, Found,
 use Rattle.joint.specs.declared.steps.Report.{Report}
 use Rattle.joint.specs.declared.steps.Step.{Step}
 use Rattle.joint.specs.calls.Calling.{next_step, steps_of, GoOn, last_of, last_or, put, put_all, put_away, kept_report, FillsOf, FillsPlaces}
-use Rattle.joint.specs.Reports.{goes_on, range_of}
+use Rattle.joint.specs.Reports.{goes_unasked, range_of}
 use Rattle.joint.specs.declared.steps.Target.{Target}
 use Rattle.joint.specs.calls.Runs.{IsMapRun}
 use Rattle.joint.specs.world.MapSteps.{MapStep, EventMap, BeginMap, BeginsOr, EndsEmpty, Line}
@@ -75,7 +75,7 @@ module _ {V : Type 0} where
   abbrev told : List (Line V) → List (Report V)
   told ls = map (λ (l : Line V). l.report) ls
 
-  go_on_init : (w : ℕ) (q : Report V) (init : List (Line V)) (e : Line V) → GoOn (q ∷ told (init ++ e ∷ [])) → (goes_on q.outcome ≡ true) × GoesOn w init
+  go_on_init : (w : ℕ) (q : Report V) (init : List (Line V)) (e : Line V) → GoOn (q ∷ told (init ++ e ∷ [])) → (goes_unasked q.outcome ≡ true) × GoesOn w init
   go_on_init w q [] e g = (g.0, tt)
   go_on_init w q (l ∷ init) e g = let r = go_on_init w l.report init e g.1 in (g.0, ((λ x. r.0), r.1))
 
@@ -155,7 +155,7 @@ module _ {V : Type 0} (same : V → V → Bool) (w start end size : ℕ) (m : Pa
   ranged = on_range op start end size range
 
   -- a begin that goes on, and one that ends
-  accepted : (fs : Flights V) (l : Line V) (fs1 : Flights V) (o : Outcome V) → l.report.outcome ≡ o → goes_on o ≡ true → BeginsOr fs m ranged.point o l fs1 → o ≡ Running
+  accepted : (fs : Flights V) (l : Line V) (fs1 : Flights V) (o : Outcome V) → l.report.outcome ≡ o → goes_unasked o ≡ true → BeginsOr fs m ranged.point o l fs1 → o ≡ Running
   accepted fs l fs1 Running q g x = refl
   accepted fs l fs1 (Found a b c) q g x = absurd (let z : Found a b c ≡ Running = sym q ∙ x.accepted in cc)
   accepted fs l fs1 (Asks o) q g x = absurd (cc g)
@@ -217,6 +217,7 @@ module _ {V : Type 0} (same : V → V → Bool) (w : ℕ) (fs : Flights V) (m : 
       by_last None q e = absurd (cc e)
       by_last (Some raw) q e = (raw, q, cc)
 
+  -- a whole call of a scan that is done has filled the first of the caller's places with what a scan promises
   pub fills : (op : Op V) (reports : List (Report V)) (places : List (ℕ × V)) (result : Option (Report V)) (places' : List (ℕ × V)) (steps : List (Step V)) → steps ≡ steps_of w op (length reports) → (x : (lines : List (Line V)) × (fs' : Flights V) × (map (λ (l : Line V). l.step) lines ≡ steps) × (told lines ≡ reports) × IsMapRun same fs m lines fs')
       → GoOn reports → option_map kept_report (last_of reports) ≡ result → places' ≡ put_all reports places → FillsPlaces m op result places'
   fills op reports places result places' steps is x on last found = by_range (range_of op) refl result last

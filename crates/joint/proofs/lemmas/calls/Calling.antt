@@ -9,10 +9,10 @@ use Rattle.joint.specs.declared.steps.Step.{Step}
 use Rattle.joint.specs.declared.steps.Outcome.{Outcome}
 use Rattle.joint.specs.declared.steps.Outcome.TheVariants.{Running, Asks, Found, Registered, Done, Refused}
 use Rattle.joint.specs.calls.Calling.{next_step, steps_of, GoOn, last_of, put, put_all, put_away, kept_report, IsCalled}
-use Rattle.joint.specs.Reports.{goes_on}
+use Rattle.joint.specs.Reports.{goes_unasked, is_in_flight}
 use Rattle.joint.specs.calls.Runs.{IsRun}
 use Rattle.joint.specs.world.World.{Holds, IsStep}
-use Rattle.joint.specs.engine.Engine.{World, is_busy, is_in_flight, misuse}
+use Rattle.joint.specs.engine.Engine.{World, is_busy, misuse}
 use Rattle.joint.proofs.lemmas.engine.Reported.{may_go}
 use Rattle.joint.proofs.lemmas.calls.Runs.{runs_join}
 
@@ -25,16 +25,17 @@ module _ {V : Type 0} where
   last_more q [] r = refl
   last_more q (x ∷ qs) r = last_more x qs r
 
-  go_more : (qs : List (Report V)) (last r : Report V) → last_of qs ≡ Some last → goes_on last.outcome ≡ true → GoOn qs → GoOn (qs ++ r ∷ [])
+  go_more : (qs : List (Report V)) (last r : Report V) → last_of qs ≡ Some last → goes_unasked last.outcome ≡ true → GoOn qs → GoOn (qs ++ r ∷ [])
   go_more [] last r e g x = tt
-  go_more (q ∷ []) last r e g x = (let is : q ≡ last = cc in let P : Report V → Type 0 = λ y. goes_on y.outcome ≡ true in subst P (sym is) g, tt)
+  go_more (q ∷ []) last r e g x = (let is : q ≡ last = cc in let P : Report V → Type 0 = λ y. goes_unasked y.outcome ≡ true in subst P (sym is) g, tt)
   go_more (q ∷ (p ∷ qs)) last r e g x = (x.0, go_more (p ∷ qs) last r e g x.1)
 
   put_more : (qs : List (Report V)) (r : Report V) (places : List (ℕ × V)) → put_all (qs ++ r ∷ []) places ≡ put r.outcome (put_all qs places)
   put_more [] r places = refl
   put_more (q ∷ qs) r places = put_more qs r (put q.outcome places)
 
-  away_goes : (o : Outcome V) → goes_on (put_away o) ≡ goes_on o
+  -- what is put away goes on where it did
+  pub away_goes : (o : Outcome V) → goes_unasked (put_away o) ≡ goes_unasked o
   away_goes Running = refl
   away_goes (Asks x) = refl
   away_goes (Found a b c) = refl
@@ -57,7 +58,7 @@ module _ {V : Type 0} where
       ap (λ xs. record { worker = who; event = Begin op } ∷ xs) (replicate_more (length qs) (next_step who) ∙ ap (λ k. replicate k (next_step who)) (sym n))
 
 -- a call that goes on is in flight
-going : {V : Type 0} (o : Outcome V) → goes_on o ≡ true → is_in_flight o ≡ true
+pub going : {V : Type 0} (o : Outcome V) → goes_unasked o ≡ true → is_in_flight o ≡ true
 going Running e = refl
 going (Asks found) e = refl
 going (Found place key value) e = refl
@@ -82,6 +83,7 @@ module _ {V : Type 0} (same : V → V → Bool) (always : Bool) where
   one : (s s' : World V) (step : Step V) (r : Report V) → IsStep same always s step r s' → IsRun same always s (step ∷ []) (r ∷ []) s'
   one s s' step r x = record { taken = record { step = step; report = r; after = s' } ∷ []; each = (x, tt); steps_are = refl; reports_are = refl; last = refl }
 
+  -- once its begin is taken a call has come one step
   pub calling_first : (s s' : World V) (who : ℕ) (op : Op V) (most left : ℕ) (places places' : List (ℕ × V)) (r r' : Report V) → IsStep same always s (record { worker = who; event = Begin op }) r s' → left + 1 ≡ most → r' ≡ kept_report r → places' ≡ put r.outcome places
       → Calling s who op most left places r' places' s'
   calling_first s s' who op most left places places' r r' x n k f = record {
@@ -97,11 +99,12 @@ module _ {V : Type 0} (same : V → V → Bool) (always : Bool) where
     flight = λ m. x.flight tt m ∙ sym (away_flight r.outcome) ∙ sym (ap (λ y. is_in_flight y.outcome) k);
   }
 
-  pub calling_more : (s s1 s2 : World V) (who : ℕ) (op : Op V) (most left left' : ℕ) (places places1 places2 : List (ℕ × V)) (q r r' : Report V) → Calling s who op most left places q places1 s1 → goes_on q.outcome ≡ true → IsStep same always s1 (next_step who) r s2
+  -- a call that goes on comes one step further with the next one
+  pub calling_more : (s s1 s2 : World V) (who : ℕ) (op : Op V) (most left left' : ℕ) (places places1 places2 : List (ℕ × V)) (q r r' : Report V) → Calling s who op most left places q places1 s1 → goes_unasked q.outcome ≡ true → IsStep same always s1 (next_step who) r s2
       → left ≡ left' + 1 → r' ≡ kept_report r → places2 ≡ put r.outcome places1 → Calling s who op most left' places r' places2 s2
   calling_more s s1 s2 who op most left left' places places1 places2 q r r' c g x n k f =
       let P : List (Step V) → Type 0 = λ y. IsRun same always s y (c.reports ++ r ∷ []) s2 in
-      let on : goes_on c.raw.outcome ≡ true = sym (away_goes c.raw.outcome) ∙ sym (ap (λ y. goes_on y.outcome) c.kept) ∙ g in
+      let on : goes_unasked c.raw.outcome ≡ true = sym (away_goes c.raw.outcome) ∙ sym (ap (λ y. goes_unasked y.outcome) c.kept) ∙ g in
       record {
         reports = c.reports ++ r ∷ [];
         run = subst P (steps_more who op c.reports c.raw r c.last) (runs_join same always s s1 s2 (steps_of who op (length c.reports)) (next_step who ∷ []) c.reports (r ∷ []) c.run (one s1 s2 (next_step who) r x));
@@ -122,10 +125,10 @@ module _ {V : Type 0} (same : V → V → Bool) (always : Bool) where
   pub record Going (s : World V) (who : ℕ) (op : Op V) (most left : ℕ) (places : List (ℕ × V)) (places' : List (ℕ × V)) (s' : World V) : Type 0 where
     pub report : Report V
     pub calling : Calling s who op most left places report places' s'
-    pub goes : goes_on report.outcome ≡ true
+    pub goes : goes_unasked report.outcome ≡ true
     pub more : 0 < left
 
-  -- a call of no steps
+  -- a call for which no steps are given is a whole call, with no report and the state as it was
   pub calling_none : (s : World V) (who : ℕ) (op : Op V) (most : ℕ) (places : List (ℕ × V)) → most ≡ 0 → IsCalled same always s who op most places None places s
   calling_none s who op most places e = record {
     reports = [];
@@ -139,8 +142,8 @@ module _ {V : Type 0} (same : V → V → Bool) (always : Bool) where
     flight = λ m r is. absurd cc;
   }
 
-  -- the call stops
-  pub calling_end : (s : World V) (who : ℕ) (op : Op V) (most left : ℕ) (places : List (ℕ × V)) (report : Report V) (places' : List (ℕ × V)) (s' : World V) → Calling s who op most left places report places' s' → (0 < left → goes_on report.outcome ≡ false)
+  -- a call that goes on no further, or has no step left, is a whole call with its last report
+  pub calling_end : (s : World V) (who : ℕ) (op : Op V) (most left : ℕ) (places : List (ℕ × V)) (report : Report V) (places' : List (ℕ × V)) (s' : World V) → Calling s who op most left places report places' s' → (0 < left → goes_unasked report.outcome ≡ false)
       → IsCalled same always s who op most places (Some report) places' s'
   calling_end s who op most left places report places' s' c stop = record {
     reports = c.reports;
@@ -152,7 +155,7 @@ module _ {V : Type 0} (same : V → V → Bool) (always : Bool) where
     stops = λ r is l.
         let k : length c.reports + left ≡ most = c.count in
         let q : report ≡ r = let z : Some report ≡ Some r = is in cc in
-        let P : Report V → Type 0 = λ y. goes_on y.outcome ≡ false in
+        let P : Report V → Type 0 = λ y. goes_unasked y.outcome ≡ false in
         subst P q (stop (omega (arith, k, l)));
     begins = λ l. refl;
     flight = λ m r is. c.flight m ∙ ap (λ y. is_in_flight y.outcome) (let z : Some report ≡ Some r = is in let q : report ≡ r = cc in q);

@@ -24,7 +24,7 @@ use Rattle.congee.specs.declared.protocol.machine.Move.{Move}
 use Rattle.congee.specs.declared.protocol.op.Op.{Op as Point}
 use Rattle.congee.specs.declared.protocol.op.Op.TheVariants as point
 use Rattle.congee.specs.declared.protocol.phase.Phase.{Phase}
-use Rattle.congee.specs.declared.protocol.phase.Phase.TheVariants.{Obsolete, Retire, Sweep, Ended}
+use Rattle.congee.specs.declared.protocol.phase.Phase.TheVariants.{Obsolete, Retire, Scan, Ended}
 use Rattle.congee.specs.declared.protocol.run.Step.{Step}
 use Rattle.congee.specs.forms.Forms.{capacity_of, form_of, size_of}
 use Rattle.congee.specs.Heap.{Node}
@@ -51,7 +51,8 @@ use Rattle.joint.specs.declared.steps.Target.TheVariants as target
 use Rattle.joint.specs.engine.Beginning.{BeginsUnless, Begun}
 use Rattle.joint.specs.engine.Census.{AreCounted, effect_by, effect_of, fewer, more, taken_at, taken_by}
 use Rattle.joint.specs.nodes.Nodes.{Nodes, nodes, of_value, size, size_in, Refuses}
-use Rattle.joint.specs.engine.Intact.{IsIntact, Secured, WalkedOn, rested, resting, root, secured_machines}
+use Rattle.joint.specs.engine.Intact.{IsIntact, Secured, WalkedOn, rested, resting, secured_machines}
+use Rattle.joint.specs.Names.{root}
 use Rattle.joint.specs.engine.Journaling.{reply_at}
 use Rattle.joint.specs.engine.Laws.{CallLaws}
 use Rattle.joint.specs.nodes.Levels.{form_with}
@@ -244,6 +245,7 @@ module _ {V : Type 0} where
     bytes = ap (λ (x : Census). x.taken.bytes) e ∙ sym (ap (sum_by (bytes_of s)) (resting_none n (replicate n resting) refl));
   }
 
+  -- counts of the same nodes and calls under other names are right
   pub counted_at : (k k' : Census) (s s' : Nodes V) (ms ms' : List (Machine Id V)) → k' ≡ k → s' ≡ s → ms' ≡ ms → AreCounted k s ms → AreCounted k' s' ms'
   counted_at k k' s s' ms ms' ek es em c =
       let P : Census → Type 0 = λ x. AreCounted x s' ms' in
@@ -259,21 +261,25 @@ module _ {V : Type 0} where
   emptiness m (suc n) e false t = some_key m n e
 
 module _ {V : Type 0} (k : Census) (s : Nodes V) (ms : List (Machine Id V)) (c : AreCounted k s ms) where
+  -- as many pairs are counted as stand
   pub count_of : (m : Pairs V) → IsMapOf (nodes s) m → k.pairs ≡ len m
   count_of m st = c.count ∙ ap len (one_map (λ (x y : V). true) true (nodes s) c.pairs m c.stand st)
 
+  -- the test for no counted pair tells whether any pair stands
   pub is_empty : (b : Bool) → b ≡ (k.pairs == 0) → (m : Pairs V) → IsMapOf (nodes s) m → IsEmptiness m b
   is_empty b e m st = emptiness m k.pairs (sym (count_of m st)) b (sym e)
 
-  pub pairs_few : k.pairs ≤ 2 ^ 64
+  pairs_few : k.pairs ≤ 2 ^ 64
   pairs_few = let l = len_few c.pairs c.stand.none_beyond in omega (arith, l, c.count)
 
+  -- of 256 workers at most, the calls have taken out 512 nodes at most
   pub taken_few : length ms ≤ 256 → k.taken.nodes ≤ 512
   taken_few l =
       let a = numbered ms in
       let b = sum_few count 2 (λ m. two_taken m.phase) ms in
       omega (arith, l, a, b, c.taken)
 
+  -- and these have at most 2,104 bytes each
   pub bytes_small : length ms ≤ 256 → k.taken.bytes ≤ 2104 * 512
   bytes_small l =
       let a = weighed (bytes_of s) ms in
@@ -294,16 +300,17 @@ module _ {V : Type 0} (k : Census) (s : Nodes V) (ms : List (Machine Id V)) (c :
         bytes = omega (arith, a, b, e, c.bytes);
       }
 
-  pub counted_same : (s' : Nodes V) → nodes s' ≡ nodes s → AreCounted k s' ms
+  counted_same : (s' : Nodes V) → nodes s' ≡ nodes s → AreCounted k s' ms
   counted_same s' e = counted_on s' (let P : (ℕ → Node V) → Type 0 = λ h. SameMap (nodes s) h in subst P (sym e) (λ x l. refl)) (λ j m n at t. ap (λ h. h n) e)
 
+  -- a step of the collector leaves the counts right
   pub counted_collected : (s' : Nodes V) → SameMap (nodes s) (nodes s') → Destroys id_number (nodes s) ms (nodes s') → AreCounted k s' ms
   counted_collected s' same d = counted_on s' same (λ j m n at t.
       let P : ℕ → Type 0 = λ x. nodes s' x ≡ nodes s x in
       All-contains P (names id_number m.phase) n (d.named j m at) (taken_named m.phase n t))
 
   -- a call that has taken nothing out comes in place of another
-  pub counted_set : (i : ℕ) (y : Machine Id V) → ((x : Machine Id V) → slice_get ms i ≡ Some x → taken_by x ≡ []) → taken_by y ≡ [] → AreCounted k s (set ms i y)
+  counted_set : (i : ℕ) (y : Machine Id V) → ((x : Machine Id V) → slice_get ms i ≡ Some x → taken_by x ≡ []) → taken_by y ≡ [] → AreCounted k s (set ms i y)
   counted_set i y old none = by (slice_get ms i) refl where
     by : (o : Option (Machine Id V)) → slice_get ms i ≡ o → AreCounted k s (set ms i y)
     by None e = let R : List (Machine Id V) → Type 0 = λ x. AreCounted k s x in subst R (sym (set_none ms i e)) c
@@ -340,7 +347,7 @@ goes_of Same n l e = omega arith
 
 -- a scan that is done has no reply
 done_none : {V : Type 0} (p : Phase Id V) → is_done p ≡ true → reply_in p ≡ None
-done_none (Sweep s) e = refl
+done_none (Scan s) e = refl
 done_none _ e = absurd (cc e)
 
 rested_reply : {V : Type 0} (m : Machine Id V) → reply_in (rested m).phase ≡ reply_in m.phase
@@ -351,11 +358,12 @@ rested_reply {V} m = by (is_done m.phase) refl where
 
 module _ {V : Type 0} (same : V → V → Bool) (always : Bool) where
   module _ (s : Nodes V) (ms : List (Machine Id V)) (calls : List (InFlight V)) (intact : IsIntact same always s ms calls) where
+    -- there are 256 workers at most
     pub few_machines : length ms ≤ 256
     few_machines = let e = intact.machines in let l = intact.few in omega (arith, e, l)
 
     module _ (k : Census) (c : AreCounted k s ms) where
-      -- the next step of a call that makes its places free
+      -- the next step of a call that makes its places free leaves the counts right
       pub counted_secured : (who : ℕ) (op : Point V) → slice_get calls who ≡ Some (Securing op) → (r : Collection) (s' : Nodes V) (ms' : List (Machine Id V)) (calls' : List (InFlight V)) → Secured same always s ms calls who r s' ms' calls' → AreCounted k s' ms'
       counted_secured who op at r s' ms' calls' x =
           let d : AreCounted k s' ms = counted_collected k s ms c s' x.collected.map x.collected.destroys in
@@ -367,7 +375,7 @@ module _ {V : Type 0} (same : V → V → Bool) (always : Bool) where
           by collector_outcome.Done d = counted_set k s' ms d who (begun root op) (λ m here. ended_none m ((intact.each who (Securing op) m at here).2)) (begun_none op)
           by (collector_outcome.Refused f) d = d
 
-  -- a worker takes a place
+  -- a registration leaves the counts right
   pub counted_registered : (s s' : World V) (k : Census) → AreCounted k s.forest s.machines → (r : Report V) → Proceeds same always s 0 Register r s' → AreCounted k s'.forest s'.machines
   counted_registered s s' k c r (inl x) = let P : World V → Type 0 = λ y. AreCounted k y.forest y.machines in subst P (sym x.1.state) (counted_same k s.forest s.machines c _ refl)
   counted_registered s s' k c r (inr x) = let P : World V → Type 0 = λ y. AreCounted k y.forest y.machines in subst P (sym x.state) c
@@ -416,6 +424,7 @@ module _ {V : Type 0} (same : V → V → Bool) (always : Bool) where
     not_misused true false f u o e = refl
     not_misused false busy f u o e = absurd (cc e)
 
+    -- the begin of a call leaves the counts right
     pub counted_begun : (t : Target V) (r : Report V) → Begun same always s who t r s' → AreCounted k s'.forest s'.machines
     counted_begun t r x = by (begin_misuse t (slice_get s.calls who) (place_of s who)) refl x where
       by : (o : Option Fault) → begin_misuse t (slice_get s.calls who) (place_of s who) ≡ o → BeginsUnless same always s who t o r s' → AreCounted k s'.forest s'.machines
@@ -434,6 +443,7 @@ module _ {V : Type 0} (same : V → V → Bool) (always : Bool) where
     bytes_before : b.bytes ≡ weigh (bytes_of s) old.0
     bytes_before = b_bytes ∙ ap (λ o. sum_by (bytes_of s) (taken_at o)) old.1
 
+    -- the nodes that the worker's call had taken out are among those counted
     pub had : b.nodes ≤ k.taken.nodes
     had =
         let a = numbered ms in
@@ -441,6 +451,7 @@ module _ {V : Type 0} (same : V → V → Bool) (always : Bool) where
         let e = nodes_before in
         omega (arith, a, t, e, c.taken)
 
+    -- and their bytes are among those counted
     pub had_bytes : b.bytes ≤ k.taken.bytes
     had_bytes =
         let a = weighed (bytes_of s) ms in
@@ -494,15 +505,18 @@ module _ {V : Type 0} (same : V → V → Bool) (always : Bool) where
           subst P (sym e) x
 
       module _ (k1 : Census) (same_pairs : k1.pairs ≡ k.pairs) where
+        -- the pairs that are counted are 2 ^ 64 at most
         pub pairs_room : k1.pairs ≤ 2 ^ 64
         pairs_room = let l = pairs_few k s ms c in omega (arith, l, same_pairs)
 
+        -- where a pair goes, there was one
         pub pairs_there : (x : Change) → x ≡ change → fewer x ≤ k1.pairs
         pairs_there x e =
             let l : fewer change ≤ len c.pairs = goes_of change (len pairs_after.pairs) (len c.pairs) pairs_after.count in
             let q : fewer x ≡ fewer change = ap fewer e in
             omega (arith, l, q, same_pairs, c.count)
 
+        -- the counts with this step's pairs and the call's nodes put in place of those before are right
         pub counted_walk : k1.taken.nodes + b.nodes ≡ k.taken.nodes + a.nodes → k1.taken.bytes + b.bytes ≡ k.taken.bytes + a.bytes
             → (x : Change) → x ≡ change → (k2 : Census) → k2.pairs + fewer x ≡ k1.pairs + more x → k2.taken ≡ k1.taken → AreCounted k2 s' ms'
         counted_walk et eb x ex k2 ep et2 =

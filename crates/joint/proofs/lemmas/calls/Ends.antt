@@ -1,6 +1,6 @@
 -- What a call leaves at its end: nothing that it held, and nothing written down.
 use Rattle.std.proofs.Common.{◌≡◌, ◌≢◌, ◌==◌, ◌<◌, ℕ, zero, suc, Bool, true, false, List, [], ◌∷◌, length, refl, sym, ◌∙◌, ap, subst, inl, inr}
-use Rattle.std.specs.Prelude.{Option, None, Some, ◌&&◌, replicate, slice_get, if◌then◌else◌}
+use Rattle.std.specs.Prelude.{Option, None, Some, replicate, slice_get, if◌then◌else◌}
 use Rattle.std.proofs.Math.ListN.{set}
 use Rattle.std.proofs.lemmas.List.{get_or-set_other}
 use Rattle.std.proofs.lemmas.Bool.{cases_Bool, eqb-true, eqb-false, false≢true}
@@ -29,12 +29,14 @@ use Rattle.joint.specs.Refusals.{of_fault}
 use Rattle.joint.specs.calls.Runs.{Taken, AreTaken, after_all}
 use Rattle.joint.specs.nodes.View.{id_number}
 use Rattle.joint.specs.world.World.{Holds, IsStep, StepsUnless, finds_journal_full, answered_request, requests_after}
-use Rattle.joint.specs.engine.Engine.{World, IsOfCall, Does, engine_of, is_busy, is_in_flight, misuse, place_of}
+use Rattle.joint.specs.engine.Engine.{World, IsOfCall, Does, engine_of, is_busy, misuse, place_of}
+use Rattle.joint.specs.Reports.{is_in_flight}
 use Rattle.joint.proofs.lemmas.engine.OneCallChanges.{Apart, one_set, step_apart}
 use Rattle.joint.proofs.lemmas.engine.Collecting.{get_inside}
 use Rattle.joint.proofs.lemmas.engine.Entering.{begin_idle}
 use Rattle.joint.proofs.lemmas.engine.Reported.{may_go}
 use Rattle.joint.proofs.lemmas.engine.Reserving.{reserving_call}
+use Rattle.congee.proofs.Laws.{both_true}
 
 -- where no call is in flight the worker's machine has ended
 pub ended_by : {V : Type 0} (k : InFlight V) (p : Participant (Unit {0})) (m : Machine Id V) → is_busy (Some k) ≡ false → IsAt k p m → m.phase ≡ Ended
@@ -44,11 +46,6 @@ ended_by (Reserving op) p m e a = absurd (false≢true (sym e))
 ended_by (Securing op) p m e a = absurd (false≢true (sym e))
 ended_by Walking p m e a = absurd (false≢true (sym e))
 
--- where both of two tests hold, the first does
-pub and_left : (a b : Bool) → (a && b) ≡ true → a ≡ true
-and_left true b e = refl
-and_left false b e = e
-
 module _ {V : Type 0} (same : V → V → Bool) (always : Bool) where
   -- the machine of a worker that has no call in flight has ended
   pub rests : (s : World V) (w : ℕ) → Holds same always s → is_busy (slice_get s.calls w) ≡ false → (m : Machine Id V) → slice_get s.machines w ≡ Some m → m.phase ≡ Ended
@@ -57,6 +54,7 @@ module _ {V : Type 0} (same : V → V → Bool) (always : Bool) where
       let k = get_inside s.calls w l in
       ended_by k.0 (place_of s w) m (sym (ap is_busy k.1) ∙ e) (h.0.each w k.0 m k.1 at)
 
+  -- a worker without a call in flight holds no lock, and has no node made or taken out
   pub between : (s : World V) (w : ℕ) → Holds same always s → is_busy (slice_get s.calls w) ≡ false → IsBetween s w
   between s w h e = record {
     idle = e;
@@ -73,7 +71,7 @@ module _ {V : Type 0} (same : V → V → Bool) (always : Bool) where
   unmisused s w h Register f g e = false≢true g
   unmisused s w h (Begin op) f g e = false≢true g
   unmisused s w h (Go noise) f g e =
-      let k : (op : Point V) × (slice_get s.calls w ≡ Some (Reserving op)) = reserving_call (slice_get s.calls w) (and_left _ _ g) in
+      let k : (op : Point V) × (slice_get s.calls w ≡ Some (Reserving op)) = reserving_call (slice_get s.calls w) (both_true _ _ g).0 in
       let n : misuse s w (Go noise) ≡ None = may_go same always s w (h.0, h.1) noise (ap is_busy k.1) in
       let q : None ≡ Some f = sym n ∙ e in cc
 
@@ -87,6 +85,7 @@ module _ {V : Type 0} (same : V → V → Bool) (always : Bool) where
         let d : Does same always (engine_of s) t.step.worker t.step.event (Some f) y.told (engine_of t.after) = subst P e y.engine.does in
         (ap (λ z. z.outcome) y.report ∙ ap (λ z. z.outcome) d.0, ap (λ z. z.forest) d.1, ap (λ z. z.machines) d.1, ap (λ z. z.calls) d.1)
 
+  -- each step of a run after which a call is over leaves its worker so, and a misused one leaves all
   pub all_end_well : (s : World V) (ts : List (Taken V)) → Holds same always s → AreTaken same always s ts → AllEndWell s ts
   all_end_well s [] h x = tt
   all_end_well s (t ∷ ts) h x = ((step_between s t x.0, step_misused s t h x.0), all_end_well t.after ts x.0.holds x.1)
@@ -164,10 +163,11 @@ module _ {V : Type 0} (same : V → V → Bool) (always : Bool) (yes : always �
             apart_after step.worker step.event (is_in_flight x.told.outcome) i n (before i (sym (ap is_busy (ap_here.calls.other i n)) ∙ idle)))
       ])
 
-  pub step_unasked : (step : Step V) (r : Report V) → IsStep same always s step r s' → IdleUnasked s'
+  step_unasked : (step : Step V) (r : Report V) → IsStep same always s step r s' → IdleUnasked s'
   step_unasked step r x = unasked_after step r (finds_journal_full s step.worker step.event) x.does
 
 module _ {V : Type 0} (same : V → V → Bool) (always : Bool) (yes : always ≡ true) where
+  -- after a run too nothing is written down as asked of a worker without a call in flight
   pub all_unasked : (s : World V) (ts : List (Taken V)) → Holds same always s → AreTaken same always s ts → IdleUnasked s → IdleUnasked (after_all s ts)
   all_unasked s [] h x u = u
   all_unasked s (t ∷ ts) h x u = all_unasked t.after ts x.0.holds x.1 (step_unasked same always yes s t.after h u t.step t.report x.0)

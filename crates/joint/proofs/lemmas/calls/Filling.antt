@@ -27,7 +27,8 @@ use Rattle.joint.specs.declared.steps.Target.{Target}
 use Rattle.joint.specs.declared.steps.Target.TheVariants as target
 use Rattle.joint.specs.calls.Filling.{NoneSkipped, StaysFilled}
 use Rattle.joint.specs.nodes.Nodes.{Nodes, nodes, Refuses}
-use Rattle.joint.specs.engine.Intact.{rested, resting, root, secured_machines}
+use Rattle.joint.specs.engine.Intact.{rested, resting, secured_machines}
+use Rattle.joint.specs.Names.{root}
 use Rattle.joint.specs.engine.Laws.{CallLaws, FilledLaws, FillingLaw}
 use Rattle.joint.specs.world.World.{IsNew, Holds, StepsUnless, finds_journal_full}
 use Rattle.joint.specs.Reports.{target}
@@ -35,10 +36,11 @@ use Rattle.joint.specs.calls.Runs.{Taken, AreTaken, after_all}
 use Rattle.joint.specs.nodes.View.{id_number}
 use Rattle.joint.specs.engine.Engine.{World, EngineHolds, BeginsAt, BeginsOnTree, Does, EntersUnless, GoesAt, GoesOnReserving, Walks, engine_of, finds_none, misuse}
 use Rattle.joint.proofs.lemmas.engine.OneCallChanges.{one_set}
-use Rattle.joint.proofs.lemmas.engine.Collecting.{either, get_inside}
+use Rattle.joint.proofs.lemmas.engine.Collecting.{get_inside}
 use Rattle.joint.proofs.lemmas.world.Flights.{set_at}
 use Rattle.joint.proofs.lemmas.calls.Leaves as leaves
 use Rattle.joint.proofs.lemmas.engine.ScanEnds.{cleared_is}
+use Rattle.congee.proofs.Laws.{get_set}
 
 module _ {V : Type 0} (h : ℕ → Node V) where
   abbrev Filled : List (Machine Id V) → Type 0
@@ -51,7 +53,7 @@ module _ {V : Type 0} (h : ℕ → Node V) where
   filled_at : (ms : List (Machine Id V)) (w : ℕ) (m : Machine Id V) → Filled ms → FillsAs m → Filled (set ms w m)
   filled_at ms w m f n = record {
     tree = f.tree;
-    calls = λ j x e. elim (either ms w j m x e) [
+    calls = λ j x e. elim (get_set ms w j m x e) [
       | inl q ↦ subst FillsAs q.1 n
       | inr q ↦ f.calls j x q.1
     ];
@@ -61,7 +63,7 @@ module _ {V : Type 0} (h : ℕ → Node V) where
   filled_again : (ms : List (Machine Id V)) (w : ℕ) (m n : Machine Id V) → Filled (set ms w m) → w < length ms → (FillsAs m → FillsAs n) → Filled (set ms w n)
   filled_again ms w m n f l on = record {
     tree = f.tree;
-    calls = λ j x e. elim (either ms w j n x e) [
+    calls = λ j x e. elim (get_set ms w j n x e) [
       | inl q ↦ subst FillsAs q.1 (on (f.calls w m (set_at ms w m l)))
       | inr q ↦ f.calls j x ((one_set ms (set ms w m) w m refl).other j q.0 ∙ q.1)
     ];
@@ -143,7 +145,7 @@ module _ {V : Type 0} (same : V → V → Bool) (always : Bool) (laws : CallLaws
     reserved : (r : Report V) → GoesOnReserving same always s w r s' → StaysFilled s'
     reserved r x =
         let Q : List (Machine Id V) → Type 0 = λ ms. KeepsFilled id_number (nodes s'.forest) ms in
-        subst Q (sym x.step.machine) (secured_filled (nodes s'.forest) x.turn.outcome (slice_get s.calls w) s.machines w (spared x.step.collected.destroys))
+        subst Q (sym x.step.machine) (secured_filled (nodes s'.forest) x.collector_report.outcome (slice_get s.calls w) s.machines w (spared x.step.collected.destroys))
 
     -- a call on the tree takes a step
     walks : (noise : Noise Id V) (r : Report V) → slice_get s.calls w ≡ Some Walking → Walks same always s w noise r s' → r.skipped ≡ false → StaysFilled s'
@@ -179,10 +181,12 @@ module _ {V : Type 0} (same : V → V → Bool) (always : Bool) (laws : CallLaws
   step s t h f none true y = unchanged s t.after t.step.worker (h.0, h.1) f (ap (λ z. nodes z.forest) y.state) (ap (λ z. z.machines) y.state)
   step s t h f none false y = does (engine_of s) (engine_of t.after) t.step.worker (h.0, h.1) f t.step.event (misuse s t.step.worker t.step.event) y.told y.engine.does (sym (ap (λ z. z.skipped) y.report) ∙ none)
 
+  -- a run in which no step goes on without a node leaves each node of the tree filled
   pub all_filled : (s : World V) (ts : List (Taken V)) → Holds same always s → AreTaken same always s ts → NoneSkipped ts → StaysFilled s → StaysFilled (after_all s ts)
   all_filled s [] h x none f = f
   all_filled s (t ∷ ts) h x none f = all_filled t.after ts x.0.holds x.1 none.1 (step s t h f none.0 (finds_journal_full s t.step.worker t.step.event) x.0.does)
 
+  -- an index as it opens has each node of its tree but the root filled
   pub opens_filled : (limits : Limits) (s : World V) → IsNew limits s → Holds same always s → StaysFilled s
   opens_filled limits s new h = record {
     tree = (fills.opens (nodes s.forest) [] new.opened.2.fresh (λ i m e. absurd (cc e))).tree;

@@ -18,7 +18,7 @@ use Rattle.joint.specs.nodes.View.{id_number}
 use Rattle.joint.specs.world.Whereabouts.{IsWaiting, IsSomewhere, IsTakenBy}
 use Rattle.joint.specs.world.World.{Holds}
 use Rattle.joint.specs.engine.Engine.{World, IsHeldBy}
-use Rattle.joint.proofs.lemmas.world.Whereabouts.{gone_waits, somewhere}
+use Rattle.joint.proofs.lemmas.world.Whereabouts.{gone_waits, node_somewhere}
 
 -- a node that a call has made is neither marked nor handed over
 pub record IsBlank {V : Type 0} (n : Node V) : Type 0 where
@@ -35,9 +35,11 @@ waits_is n e = by n.retired n.made n.destroyed refl refl refl e where
   by false m d x y z q = absurd (false≢true q)
 
 module _ {V : Type 0} (same : V → V → Bool) (always : Bool) (laws : CallLaws {C = Id} {V = V} id_number same always) (s : World V) (h : Holds same always s) where
+  -- locks and nodes are held by calls alone that are between their steps
   abbrev pub ledger : Settled id_number same always (nodes s.forest) s.machines
   ledger = h.0.safe.sound.sound.settled
 
+  -- what is noted of each node: its state, and the worker whose lock it is under
   abbrev pub notes : ℕ → Note
   notes = ledger.0
 
@@ -47,29 +49,36 @@ module _ {V : Type 0} (same : V → V → Bool) (always : Bool) (laws : CallLaws
   owns : (i n : ℕ) → HoldsLock s i n → (notes n).owner ≡ Some i
   owns i n x = locks_owned id_number same always i notes (nodes s.forest) x.0.key x.0.kind x.0.given n x.0.phase (knows i x.0 x.1).known x.2
 
+  -- no two workers' calls hold the lock of one node
   pub locks_apart : LocksApart s
   locks_apart i j n x y = let q : Some i ≡ Some j = sym (owns i n x) ∙ owns j n y in cc
 
+  -- each node that a call holds locked is locked
   pub locks_held : LocksHeld s
   locks_held i n x = elim (cases_Bool (nodes s.forest n).locked) [
     | inl e ↦ e
     | inr e ↦ absurd (let z : None ≡ Some i = sym ((ledger.1.words.each n).free e) ∙ owns i n x in cc)
   ]
 
+  -- a node that a call has made and not hung is neither marked nor handed over
   pub blank : (i n : ℕ) → IsHeldBy s i n → IsBlank (nodes s.forest n)
   blank i n x =
       let m = (made_known id_number same always i notes (nodes s.forest) x.0.key (key_bytes x.0.key) x.0.kind x.0.given n x.0.phase (knows i x.0 x.1).known x.2).2 in
       record { live = m.live; unretired = m.unretired }
 
+  -- a node that a call has taken out left the tree under the call's lock, and isn't handed over
   pub owed : (i n : ℕ) → IsTakenBy s i n → IsTaken i notes (nodes s.forest) n
   owed i n x = taken_known id_number same always i notes (nodes s.forest) x.0.key (key_bytes x.0.key) x.0.kind x.0.given n x.0.phase (knows i x.0 x.1).known x.2
 
+  -- a node that a call has taken out stands
   pub taken_stands : (i n : ℕ) → IsTakenBy s i n → Stands (nodes s.forest n)
   taken_stands i n x = (ledger.1.words.each n).stands (ap is_published (owed i n x).gone)
 
+  -- a node that a call has taken out waits
   pub taken_waits : (i n : ℕ) → IsTakenBy s i n → IsWaiting s n
   taken_waits i n x = let st = taken_stands i n x in gone_waits same always laws s h n st.made (owed i n x).gone st
 
+  -- a node that a call has taken out is locked
   pub is_locked : (i n : ℕ) → IsTakenBy s i n → (nodes s.forest n).locked ≡ true
   is_locked i n x = locks_held i n (x.0, x.1, taken_locked id_number x.0.phase n x.2)
 
@@ -77,21 +86,18 @@ module _ {V : Type 0} (same : V → V → Bool) (always : Bool) (laws : CallLaws
   linked : (n : ℕ) → InTree (nodes s.forest) n → (notes n).status ≡ Linked
   linked n x = laws.leads notes (nodes s.forest) ledger.1.tree x.0 0 n ledger.1.tree.root x.1
 
+  -- a node in the tree isn't handed over
   pub unretired : (n : ℕ) → InTree (nodes s.forest) n → (nodes s.forest n).retired ≡ false
   unretired n x = (ledger.1.words.each n).unretired (linked n x)
 
   waits_by : (n : ℕ) → Stands (nodes s.forest n) → ((i : ℕ) → IsHeldBy s i n → ⊥) → (InTree (nodes s.forest) n → ⊥) → IsWaiting s n
-  waits_by n st held tree = let x : IsSomewhere s n = somewhere same always laws s h n st.made in elim x.one [
+  waits_by n st held tree = let x : IsSomewhere s n = node_somewhere same always laws s h n st.made in elim x.one [
     | inl (inl y) ↦ absurd (held y.worker y.held)
     | inl (inr y) ↦ absurd (tree y.path)
     | inr (inl y) ↦ y
     | inr (inr y) ↦ absurd (false≢true (sym st.kept ∙ y.gone))
   ]
 
+  -- each node that was marked obsolete and stands has left the tree
   pub marked_left : MarkedLeft s
   marked_left n st e = waits_by n st (λ i x. false≢true (sym (blank i n x).live ∙ e)) (λ x. false≢true (sym ((ledger.1.words.each n).live (linked n x)) ∙ e))
-
-  pub retired_waits : (n : ℕ) → is_waiting (nodes s.forest n) ≡ true → IsWaiting s n
-  retired_waits n e =
-      let y = waits_is (nodes s.forest n) e in
-      waits_by n y.1 (λ i x. false≢true (sym (blank i n x).unretired ∙ y.0)) (λ x. false≢true (sym (unretired n x) ∙ y.0))

@@ -15,7 +15,7 @@ use Rattle.congee.specs.declared.protocol.op.Op.TheVariants as point
 use Rattle.congee.specs.declared.protocol.phase.Kind.{Kind as Does}
 use Rattle.congee.specs.declared.protocol.phase.Kind.TheVariants as does
 use Rattle.congee.specs.Keys.{IsMapOf}
-use Rattle.congee.specs.protocol.Play.{Flight, Pending, Decided, Over, Question, Unasked, Asked, Replied, begun, parts, range_of, flight, value_answered, resolved, Carries, Undecided, Heeds, Concludes}
+use Rattle.congee.specs.protocol.Play.{Flight, Pending, Decided, Over, Question, Unasked, Asked, Replied, parts, range_of, value_answered, resolved, Carries, Undecided, Heeds, Concludes}
 use Rattle.congee.specs.protocol.Protocol.{IsCall, Asking}
 use Rattle.joint.specs.declared.id.Id.{Id}
 use Rattle.joint.specs.declared.steps.Done.{Done as Answer}
@@ -30,19 +30,19 @@ use Rattle.joint.specs.declared.steps.Step.{Step}
 use Rattle.joint.specs.declared.steps.Target.{Target}
 use Rattle.joint.specs.declared.steps.Target.TheVariants as target
 use Rattle.joint.specs.nodes.Nodes.{nodes}
-use Rattle.joint.specs.engine.Intact.{root}
 use Rattle.joint.specs.calls.MapCalls.{AllGoOn, told_after, Answered, answered_by, answer_in, answered_after, IsPresent, IsComputed, IsOnMap, TookEffect, IsUndecided, IsDecided, KeepsAll, IsDoneWith, PlaysKey}
-use Rattle.joint.specs.Reports.{target, told}
+use Rattle.joint.specs.Reports.{target, told, is_in_flight}
 use Rattle.joint.specs.calls.Runs.{Taken, AreTaken, after_all}
-use Rattle.joint.specs.world.MapSteps.{GoMap, Advances, PendingStep, BeginMap, BeginsOr, EndsAtOnce, EndsEmpty, BeginsFlight, Stays, Line}
+use Rattle.joint.specs.world.MapSteps.{GoMap, StepsFlight, PendingStep, BeginMap, BeginsOr, EndsAtOnce, EndsEmpty, BeginsFlight, Stays, Line}
 use Rattle.joint.specs.engine.Flying.{Flights, with_flight, IsInFlight, AreInFlight}
 use Rattle.joint.specs.world.World.{Holds, IsOnKey, IsStep}
-use Rattle.joint.specs.engine.Engine.{World, is_in_flight}
-use Rattle.joint.proofs.lemmas.world.Flights.{flight_here}
-use Rattle.joint.proofs.lemmas.world.JournaledSteps.{Mapped, mapped}
+use Rattle.joint.specs.engine.Engine.{World}
+use Rattle.joint.proofs.lemmas.world.Flights.{flight_here, begins_pending}
+use Rattle.joint.proofs.lemmas.world.JournaledSteps.{Mapped, step_mapped}
 
 -- flights that are the same one by one
 module _ {V : Type 0} where
+  -- calls watched alike one by one are watched beside the same machines
   pub same_flights : (s : World V) (fs gs : Flights V) → ((i : ℕ) → fs i ≡ gs i) → AreInFlight s fs → AreInFlight s gs
   same_flights s fs gs same fl = record {
     each = λ i k m a b. subst (λ (f : Flight V). IsInFlight k m f) (same i) (fl.each i k m a b);
@@ -57,6 +57,7 @@ module _ {V : Type 0} where
         | inr e ↦ subst P (sym e) refl
       ]
 
+  -- where a worker's flight was put twice, the last one counts
   pub once_more : (s : World V) (fs : Flights V) (w : ℕ) (f g : Flight V) → AreInFlight s (with_flight (with_flight fs w f) w g) → AreInFlight s (with_flight fs w g)
   once_more s fs w f g fl = same_flights s _ _ (set_again fs w f g) fl
 
@@ -68,6 +69,7 @@ module _ {V : Type 0} where
         | inr e ↦ subst P (sym e) refl
       ]
 
+  -- with a worker's flight put as over that was over before, the flights are as before
   pub as_before : (s : World V) (fs : Flights V) (w : ℕ) → fs w ≡ Over → AreInFlight s (with_flight fs w Over) → AreInFlight s fs
   as_before s fs w over fl = same_flights s _ _ (set_back fs w over) fl
 
@@ -162,17 +164,6 @@ module _ {V : Type 0} where
   on_map m (point.Range start end size) v q last c u r is h = absurd u
   on_map m (point.RangeInclusive start greatest size) v q last c u r is h = absurd u
 
-  -- it begins unasked, and doesn't end as it begins
-  unbegun : (p : Point V) → IsOnKey p → flight (begun root p) ≡ Pending (parts p).0 (parts p).1 (parts p).2 Unasked
-  unbegun (point.Get k) u = refl
-  unbegun (point.Insert k v) u = refl
-  unbegun (point.Remove k) u = refl
-  unbegun (point.ComputePresent k) u = refl
-  unbegun (point.ComputeInsert k) u = refl
-  unbegun (point.Exchange k old new) u = refl
-  unbegun (point.Range start end size) u = absurd u
-  unbegun (point.RangeInclusive start last size) u = absurd u
-
   given_first : (p : Point V) → IsOnKey p → Given (parts p).1 (parts p).2 (parts p).2
   given_first (point.Get k) u = refl
   given_first (point.Insert k v) u = refl
@@ -201,15 +192,15 @@ module _ {V : Type 0} where
   never_at_once fs m p (done.Empty e) l fs' u x = x
   never_at_once fs m p (done.Stats stats) l fs' u x = x
 
--- a call's first step, and a further one
+-- a call's first step
 abbrev pub begin_of : {V : Type 0} → ℕ → Op V → Step V
 begin_of w op = record { worker = w; event = Begin op }
 
 -- a further step of a call in flight
-abbrev pub gone : {V : Type 0} → ℕ → Noise Id V → Step V
-gone w noise = record { worker = w; event = Go noise }
+abbrev pub further_step : {V : Type 0} → ℕ → Noise Id V → Step V
+further_step w noise = record { worker = w; event = Go noise }
 
--- a step in which no call on the tree goes on
+-- a step in which no call on the tree goes on keeps the pairs and the calls in flight
 pub stays_keeps_all : {V : Type 0} (fs : Flights V) (m : Pairs V) (l : Line V) (fs' : Flights V) (s : World V) → Stays fs m l fs' → IsMapOf (nodes s.forest) l.pairs → AreInFlight s fs' → KeepsAll fs m s
 stays_keeps_all {V} fs m l fs' s x st fl =
     let P : Pairs V → Type 0 = λ n. IsMapOf (nodes s.forest) n in
@@ -309,28 +300,28 @@ module _ {V : Type 0} (same : V → V → Bool) (always : Bool) (fs : Flights V)
       })
 
   -- a further step
-  from_before : (noise : Noise Id V) (last : Answered V) (said : Outcome V) (s : World V) (r : Report V) (s' : World V) → Holds same always s → Before last said s → IsStep same always s (gone w noise) r s'
+  from_before : (noise : Noise Id V) (last : Answered V) (said : Outcome V) (s : World V) (r : Report V) (s' : World V) → Holds same always s → Before last said s → IsStep same always s (further_step w noise) r s'
       → Course (answered_by noise.answer said last) r.outcome s'
   from_before noise last said s r s' h b x =
       let f : Flight V = Pending (parts p).0 (parts p).1 b.value b.question in
-      let y : Mapped same always s (gone w noise) r s' (with_flight fs w f) m = mapped same always s (gone w noise) s' (with_flight fs w f) m h x.holds b.stand b.in_flight r x in
-      let l : Line V = record { step = gone w noise; report = r; entry = y.entry; pairs = y.pairs } in
+      let y : Mapped same always s (further_step w noise) r s' (with_flight fs w f) m = step_mapped same always s (further_step w noise) s' (with_flight fs w f) m h x.holds b.stand b.in_flight r x in
+      let l : Line V = record { step = further_step w noise; report = r; entry = y.entry; pairs = y.pairs } in
       let P : Flight V → Type 0 = λ z. GoMap same (with_flight fs w f) z m noise.answer l y.flights in
-      let a : Advances same (with_flight fs w f) f m noise.answer l y.flights = subst P (flight_here fs w f) y.map in
-      let fl : AreInFlight s' (with_flight fs w a.next) = once_more s' fs w f a.next (subst (λ (z : Flights V). AreInFlight s' z) a.advances y.in_flight) in
+      let a : StepsFlight same (with_flight fs w f) f m noise.answer l y.flights = subst P (flight_here fs w f) y.map in
+      let fl : AreInFlight s' (with_flight fs w a.next) = once_more s' fs w f a.next (subst (λ (z : Flights V). AreInFlight s' z) a.with_next y.in_flight) in
       pending (value_answered (parts p).1 b.question noise.answer b.value) (resolved (parts p).1 b.question noise.answer) r.decided l a.next (answered_by noise.answer said last) s' b.free
       (ready (parts p).1 (parts p).2 b.value b.question last said noise.answer b.tied) a.step fl y.stand
 
-  from_decided : (noise : Noise Id V) (last : Answered V) (s : World V) (r : Report V) (s' : World V) → Holds same always s → IsDecided same fs m w last p s → IsStep same always s (gone w noise) r s'
+  from_decided : (noise : Noise Id V) (last : Answered V) (s : World V) (r : Report V) (s' : World V) → Holds same always s → IsDecided same fs m w last p s → IsStep same always s (further_step w noise) r s'
       → Course last r.outcome s'
   from_decided noise last s r s' h b x =
       let f : Flight V = Decided b.reply in
       let n : Pairs V = (answer same m b.effect.call).1 in
-      let y : Mapped same always s (gone w noise) r s' (with_flight fs w f) n = mapped same always s (gone w noise) s' (with_flight fs w f) n h x.holds b.effect.stand b.in_flight r x in
-      let l : Line V = record { step = gone w noise; report = r; entry = y.entry; pairs = y.pairs } in
+      let y : Mapped same always s (further_step w noise) r s' (with_flight fs w f) n = step_mapped same always s (further_step w noise) s' (with_flight fs w f) n h x.holds b.effect.stand b.in_flight r x in
+      let l : Line V = record { step = further_step w noise; report = r; entry = y.entry; pairs = y.pairs } in
       let P : Flight V → Type 0 = λ z. GoMap same (with_flight fs w f) z n noise.answer l y.flights in
-      let a : Advances same (with_flight fs w f) f n noise.answer l y.flights = subst P (flight_here fs w f) y.map in
-      let fl : AreInFlight s' (with_flight fs w a.next) = once_more s' fs w f a.next (subst (λ (z : Flights V). AreInFlight s' z) a.advances y.in_flight) in
+      let a : StepsFlight same (with_flight fs w f) f n noise.answer l y.flights = subst P (flight_here fs w f) y.map in
+      let fl : AreInFlight s' (with_flight fs w a.next) = once_more s' fs w f a.next (subst (λ (z : Flights V). AreInFlight s' z) a.with_next y.in_flight) in
       let Q : Pairs V → Type 0 = λ z. IsMapOf (nodes s'.forest) z in
       concluded b.reply a.step.outcome a.next last r.outcome s' b.free a.step.told_so a.step.concludes fl (record {
         call = b.effect.call;
@@ -344,7 +335,7 @@ module _ {V : Type 0} (same : V → V → Bool) (always : Bool) (fs : Flights V)
   keeps_last (Some x) last = refl
 
   further : (noise : Noise Id V) (last : Answered V) (said : Outcome V) (s : World V) (r : Report V) (s' : World V) → Holds same always s → is_in_flight said ≡ true → Course last said s
-      → IsStep same always s (gone w noise) r s' → Course (answered_by noise.answer said last) r.outcome s'
+      → IsStep same always s (further_step w noise) r s' → Course (answered_by noise.answer said last) r.outcome s'
   further noise last Running s r s' h on (inl b) x = from_before noise last Running s r s' h b x
   further noise last Running s r s' h on (inr b) x =
       let P : Answered V → Type 0 = λ y. Course y r.outcome s' in
@@ -368,7 +359,7 @@ module _ {V : Type 0} (same : V → V → Bool) (always : Bool) (fs : Flights V)
       → IsStep same always s (begin_of w op) r s' → Course None r.outcome s'
   begins op s r s' on_tree h st fl x = begun_so r.outcome refl begin where
     y : Mapped same always s (begin_of w op) r s' fs m
-    y = mapped same always s (begin_of w op) s' fs m h x.holds st fl r x
+    y = step_mapped same always s (begin_of w op) s' fs m h x.holds st fl r x
 
     l : Line V
     l = record { step = begin_of w op; report = r; entry = y.entry; pairs = y.pairs }
@@ -385,7 +376,7 @@ module _ {V : Type 0} (same : V → V → Bool) (always : Bool) (fs : Flights V)
           free = z.free;
           value = (parts p).2;
           question = Unasked;
-          in_flight = subst R (z.begins ∙ ap (λ f. with_flight fs w f) (unbegun p on_key)) y.in_flight;
+          in_flight = subst R (z.begins ∙ ap (λ f. with_flight fs w f) (begins_pending p on_key)) y.in_flight;
           stand = subst Q z.same_pairs y.stand;
           tied = given_first p on_key;
         }))
@@ -402,7 +393,7 @@ module _ {V : Type 0} (same : V → V → Bool) (always : Bool) (fs : Flights V)
     begun_so (Registered n) is z = in_flight z
     begun_so (Done d) is z = absurd (never_at_once fs m p d l y.flights on_key z)
 
-  -- the whole call
+  -- a call on one key that no other worker's step comes between plays on the map as such a call does
   pub key_plays : (op : Op V) (s : World V) (first : Taken V) (more : List (Taken V)) → target op ≡ target.Tree p → Holds same always s → IsMapOf (nodes s.forest) m → AreInFlight s fs
       → IsStep same always s (begin_of w op) first.report first.after → AreTaken same always first.after more → AllGoOn w first.report.outcome more
       → PlaysKey same fs m w (answered_after first.report.outcome None more) p (told_after first.report.outcome more) (after_all first.after more)

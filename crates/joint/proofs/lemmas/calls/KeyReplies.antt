@@ -66,5 +66,6 @@ module _ {V : Type 0} (same : V → V → Bool) (fs : Flights V) (m : Pairs V) (
   told_plays who op.IsEmpty c e (Some t) a q x p = absurd (cc a)
   told_plays who op.Stats c e (Some t) a q x p = absurd (cc a)
 
+  -- the reply of a whole call that asks no closure is the map's, and the next map's pairs stand
   pub answers : (who : ℕ) (o : Op V) (c : Entered V) (told : Option (Report V)) → asked_of o ≡ Some c → reply_of told ≡ Some r → CallPlays same fs m who o told s → Plays c
   answers who o c told a x p = told_plays who o c c told a refl x p

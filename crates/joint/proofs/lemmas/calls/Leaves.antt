@@ -10,7 +10,7 @@ use Rattle.congee.specs.declared.protocol.machine.Move.{Move}
 use Rattle.congee.specs.declared.protocol.phase.Phase.{Phase}
 use Rattle.congee.specs.declared.protocol.phase.Phase.TheVariants.{Obsolete, Retire}
 use Rattle.congee.specs.declared.protocol.run.Step.{Step as TreeStep}
-use Rattle.congee.specs.declared.protocol.turn.NextPhase.{NextPhase as Said}
+use Rattle.congee.specs.declared.protocol.next_phase.NextPhase.{NextPhase}
 use Rattle.judge.specs.declared.journal.Reply.{Reply}
 use Rattle.congee.specs.Heap.{Node, Below}
 use Rattle.congee.specs.Keys.{key_bytes}
@@ -93,6 +93,7 @@ module _ {V : Type 0} where
   none_leaves : (ms : List (Machine Id V)) → Leaving nobody ms
   none_leaves ms i ne = absurd (ne refl)
 
+  -- with nothing handed over yet, each call is to hand over just the nodes that it has taken out
   pub due : (ms : List (Machine Id V)) → Due id_number nobody (took ms) ms
   due ms = record {
     handed = λ i n c. absurd (nothing n c);
@@ -104,7 +105,7 @@ module _ {V : Type 0} where
       by i n None at c = absurd (nothing n c)
       by i n (Some m) at c = (m, at, taken_is m.phase n c)
 
-  -- a call that has a node taken out has no scan that is done
+  -- a call that has taken a node out has it still once a scan that is done has left its place
   pub taken_stays : (m : Machine Id V) (n : ℕ) → TakenBy id_number m.phase n → TakenBy id_number (rested m).phase n
   taken_stays m n x = by (is_done m.phase) (undone m.phase n x) where
     undone : (p : Phase Id V) (n : ℕ) → TakenBy id_number p n → is_done p ≡ false
@@ -122,7 +123,7 @@ module _ {V : Type 0} where
     Hands : (m : Id) (next : Option Id) (q : Id) (r : Reply V) → p ≡ Retire m next q r → n ≡ id_number m → SameBut h n (record (h n) { retired = true }) h' → Owes h h' p p' n
     Waits : TakenBy id_number p' n → h' n ≡ h n → Owes h h' p p' n
 
-  -- a path of nodes that stay as they are
+  -- a path of linked nodes leads to the same node where they stay as they are
   pub leads_same : (h h' : ℕ → Node V) (a : ℕ → Note) → ((n b c : ℕ) → (a n).status ≡ Linked → (h n).children b ≡ Below c → (a c).status ≡ Linked) → ((n : ℕ) → (a n).status ≡ Linked → h' n ≡ h n)
       → (path : List ℕ) (n c : ℕ) → (a n).status ≡ Linked → Leads h n path c → Leads h' n path c
   leads_same h h' a down keep [] n c l x = x
@@ -146,9 +147,11 @@ module _ {V : Type 0} (same : V → V → Bool) (always : Bool) (laws : CallLaws
   known : EachKnown id_number same always settled.0 (nodes f) who m
   known = settled.1.each who m at
 
+  -- the step keeps what the protocol says of its call, its nodes and its report
   pub keeps : Keeps id_number same always who settled.0 m (nodes f) moved.now (nodes f') d
   keeps = moved.keeps who settled.0 known.root settled.1.tree settled.1.words known.known
 
+  -- the machine that took the step stands in the worker's place
   pub now_at : slice_get between who ≡ Some moved.now
   now_at = ap (λ xs. slice_get xs who) moved.calls ∙ set_at ms who moved.now (slice_get_within ms who m at)
 
@@ -197,6 +200,7 @@ module _ {V : Type 0} (same : V → V → Bool) (always : Bool) (laws : CallLaws
         ];
       }
 
+  -- a node of the tree stays in it, or the step takes it out
   pub tree : (n : ℕ) → InTree (nodes f) n → InTree (nodes f') n ⊎ Out n
   tree n i = elim takes.1 [
     | inl x ↦ inl (x.tree n i)
@@ -221,19 +225,19 @@ module _ {V : Type 0} (same : V → V → Bool) (always : Bool) (laws : CallLaws
   apart c None n x y = absurd y
   apart c (Some k) n x y = λ e. x.3 (sym y ∙ e)
 
-  later : (next : Option Id) (q : Id) (r : Reply V) (t : Said Id V) (n : ℕ) → t ≡ after_retire next q r → IsMade id_number next n → TakenBy id_number t.phase n
+  later : (next : Option Id) (q : Id) (r : Reply V) (t : NextPhase Id V) (n : ℕ) → t ≡ after_retire next q r → IsMade id_number next n → TakenBy id_number t.phase n
   later None q r t n e y = absurd y
-  later (Some k) q r t n e y = let P : Said Id V → Type 0 = λ z. TakenBy id_number z.phase n in subst P (sym e) (inl y)
+  later (Some k) q r t n e y = let P : NextPhase Id V → Type 0 = λ z. TakenBy id_number z.phase n in subst P (sym e) (inl y)
 
-  phase_owes : (n : ℕ) (p : Phase Id V) (t : Said Id V) → Known id_number same always who settled.0 (nodes f) m.key (key_bytes m.key) m.kind m.given p
+  phase_owes : (n : ℕ) (p : Phase Id V) (t : NextPhase Id V) → Known id_number same always who settled.0 (nodes f) m.key (key_bytes m.key) m.kind m.given p
       → PhaseStepped id_number same always f.version_max (Refuses f) m.root (key_bytes m.key) m.kind step.noise.fail step.noise.answer m.given p (nodes f) moved.now.given t (nodes f') → TakenBy id_number p n
       → Owes (nodes f) (nodes f') p t.phase n
   phase_owes n (Obsolete c next q r) t k x (inl y) =
-      let P : Said Id V → Type 0 = λ z. TakenBy id_number z.phase n in
+      let P : NextPhase Id V → Type 0 = λ z. TakenBy id_number z.phase n in
       let Q : ℕ → Type 0 = λ k. SameBut (nodes f) k (record (nodes f k) { obsolete = true }) (nodes f') in
       Marks (subst P (sym x.2) (inl y)) (subst Q (sym y) x.1)
   phase_owes n (Obsolete c next q r) t k x (inr y) =
-      let P : Said Id V → Type 0 = λ z. TakenBy id_number z.phase n in
+      let P : NextPhase Id V → Type 0 = λ z. TakenBy id_number z.phase n in
       Waits (subst P (sym x.2) (inr y)) (x.1.others n (apart c next n k.1 y))
   phase_owes n (Retire c next q r) t k x (inl y) =
       let Q : ℕ → Type 0 = λ k. SameBut (nodes f) k (record (nodes f k) { retired = true }) (nodes f') in
@@ -241,9 +245,11 @@ module _ {V : Type 0} (same : V → V → Bool) (always : Bool) (laws : CallLaws
   phase_owes n (Retire c next q r) t k x (inr y) = Waits (later next q r t n x.2 y) (x.1.others n (apart c next n k.1 y))
   phase_owes n _ t k x y = absurd y
 
+  -- a node that the call has taken out waits, is handed over in this step, or is left for a later one
   pub owes : (n : ℕ) → TakenBy id_number m.phase n → Owes (nodes f) (nodes f') m.phase moved.now.phase n
   owes n x = phase_owes n m.phase (record { phase = moved.now.phase; report = d }) known.known moved.step.step x
 
+  -- a node that the call has taken out left the tree under its lock, and isn't handed over
   pub owed : (n : ℕ) → TakenBy id_number m.phase n → IsTaken who settled.0 (nodes f) n
   owed n x = taken_known id_number same always who settled.0 (nodes f) m.key (key_bytes m.key) m.kind m.given n m.phase known.known x
 
@@ -253,6 +259,7 @@ module _ {V : Type 0} (same : V → V → Bool) (always : Bool) (laws : CallLaws
     | inr e ↦ absurd (let z : None ≡ Some who = sym ((settled.1.words.each n).free e) ∙ o in cc)
   ]
 
+  -- the step that hands over a marked node defers its destruction into a free place of the worker's bag
   pub hands_over : (n : ℕ) (c : Id) (next : Option Id) (q : Id) (r : Reply V) → TakenBy id_number m.phase n → m.phase ≡ Retire c next q r → n ≡ id_number c → SameBut (nodes f) n (record (nodes f n) { retired = true }) (nodes f') → HandsOver f f' who n
   hands_over n c next q r x e is b =
       let o = owed n x in
@@ -275,7 +282,7 @@ module _ {V : Type 0} (same : V → V → Bool) (always : Bool) (laws : CallLaws
         pinned = g.pinned on;
         idle = g.idle on;
         room = retiring_room m.kind c next q r (length (place f.collector who).bag) (subst Q e g.secured);
-        deferral = walked.clock ∙ ap (λ y. after_walk y (with_store f.collector f'.collector.store) who) (ap retiring_at at ∙ ap retiring e);
+        deferral = walked.collector_is ∙ ap (λ y. after_walk y (with_store f.collector f'.collector.store) who) (ap retiring_at at ∙ ap retiring e);
       }
 
   -- the step of a call that has marked its node hands it over

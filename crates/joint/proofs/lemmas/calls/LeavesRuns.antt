@@ -1,7 +1,7 @@
 -- Each node that leaves the tree in a run leaves it once: by the one step of a call that takes it out, and by one deferral.
 use Rattle.std.proofs.Common.{◌≡◌, ◌≢◌, ◌==◌, ◌<◌, ℕ, Bool, true, false, List, [], ◌∷◌, length, refl, sym, ◌∙◌, ap, subst, inl, inr, ◌⊎◌}
 use Rattle.std.proofs.Math.ListN.{set}
-use Rattle.std.specs.Prelude.{Option, None, Some, slice_get, ◌&&◌, not, if◌then◌else◌}
+use Rattle.std.specs.Prelude.{Option, None, Some, slice_get, if◌then◌else◌}
 use Rattle.std.proofs.lemmas.Option.{slice_get_within}
 use Rattle.std.proofs.lemmas.Bool.{cases_Bool, eqb-true, eqb-false, false≢true}
 use Rattle.judge.specs.declared.journal.Reply.{Reply}
@@ -20,7 +20,7 @@ use Rattle.congee.specs.declared.forms.base_node.NodeType.{NodeType}
 use Rattle.congee.specs.declared.protocol.op.Op.{Op as Point}
 use Rattle.congee.specs.declared.protocol.op.Op.TheVariants as point
 use Rattle.congee.specs.declared.protocol.store.Refusal.{Refusal as Cause}
-use Rattle.congee.specs.declared.protocol.turn.NextPhase.{NextPhase as Said}
+use Rattle.congee.specs.declared.protocol.next_phase.NextPhase.{NextPhase}
 use Rattle.congee.specs.protocol.Steps.{PhaseStepped, after_retire}
 use Rattle.congee.specs.Keys.{key_bytes}
 use Rattle.congee.specs.declared.protocol.phase.Kind.{Kind}
@@ -48,24 +48,26 @@ use Rattle.joint.specs.engine.Intact.{call_after, is_reserving, over_at, rested,
 use Rattle.joint.specs.engine.Laws.{CallLaws, LeavesLaw}
 use Rattle.joint.specs.calls.Leaving.{TakesOut, HandsOver, StaysLeft, LeavesRightly, LeftLocked, BeginsAnew, TakesNone, HandsNone, AllLeaveOnce}
 use Rattle.joint.specs.world.World.{IsNew, Holds, IsStep, StepsUnless, FindsJournalFull, finds_journal_full}
-use Rattle.joint.specs.Reports.{target}
+use Rattle.joint.specs.Reports.{target, is_in_flight}
 use Rattle.joint.specs.engine.Sound.{IsUnderWay}
 use Rattle.joint.specs.calls.Runs.{Taken, AreTaken, after_all}
 use Rattle.joint.specs.world.MapSteps.{EventMap, GoMap, PendingStep, Line}
 use Rattle.joint.specs.engine.Flying.{Flights}
 use Rattle.joint.specs.nodes.View.{id_number}
 use Rattle.joint.specs.world.Whereabouts.{IsWaiting, IsDestroyed, IsTakenBy}
-use Rattle.joint.specs.engine.Engine.{World, EngineHolds, BeginsAt, BeginsOnTree, Collects, Does, EntersUnless, GoesAt, Walks, engine_of, finds_none, is_in_flight, misuse, quiet}
+use Rattle.joint.specs.engine.Engine.{World, EngineHolds, BeginsAt, BeginsOnTree, Collects, Does, EntersUnless, GoesAt, Walks, engine_of, finds_none, misuse, quiet}
 use Rattle.joint.proofs.lemmas.engine.OneCallChanges.{Apart, one_same, one_set, step_apart}
-use Rattle.joint.proofs.lemmas.calls.Ends.{and_left}
 use Rattle.joint.proofs.lemmas.engine.Entering.{begin_within}
 use Rattle.joint.proofs.lemmas.world.Flights.{flight_here, set_at}
 use Rattle.joint.proofs.lemmas.calls.LeavesSteps.{IsTaking, IsLost, Parts, SameLeft, same_left, step_parts, walking_of}
-use Rattle.joint.proofs.lemmas.calls.HeldNodes.{blank, is_locked, taken_waits, taken_stands, retired_waits, waits_is}
-use Rattle.joint.proofs.lemmas.world.JournaledSteps.{mapped}
+use Rattle.joint.proofs.lemmas.calls.HeldNodes.{blank, is_locked, taken_waits, taken_stands, waits_is}
+use Rattle.joint.proofs.lemmas.world.JournaledSteps.{step_mapped}
 use Rattle.joint.proofs.lemmas.engine.ScanEnds.{cleared_is}
 use Rattle.joint.proofs.lemmas.calls.Sparing.{all_spare}
-use Rattle.joint.proofs.lemmas.world.Whereabouts.{somewhere}
+use Rattle.joint.proofs.lemmas.world.Whereabouts.{node_somewhere}
+use Rattle.joint.proofs.lemmas.world.Waiting.{handed_waits}
+use Rattle.joint.proofs.lemmas.engine.SoundCells.{retired_waits}
+use Rattle.congee.proofs.Laws.{both_true}
 
 module _ {V : Type 0} where
   -- a call that has a node taken out has taken effect
@@ -109,12 +111,12 @@ module _ {V : Type 0} where
   go_decides : (same : V → V → Bool) (fs : Flights V) (f : Flight V) (m : Pairs V) (answer : Option (Option V)) (l : Line V) (fs' : Flights V) (r : Reply V) → fs l.step.worker ≡ f → ((u : Reply V) → f ≡ Decided u → ⊥) → fs' l.step.worker ≡ Decided r → GoMap same fs f m answer l fs' → l.report.decided ≡ true
   go_decides same fs Over m answer l fs' r e n d x = absurd (let z : Over ≡ Decided r = sym e ∙ sym (ap (λ (y : Flights V). y l.step.worker) x.same_flights) ∙ d in cc)
   go_decides same fs (Pending k kd v q) m answer l fs' r e n d x =
-      pending_decides same k kd _ _ m l.report.decided l x.next r (sym (flight_here fs l.step.worker x.next) ∙ sym (ap (λ (y : Flights V). y l.step.worker) x.advances) ∙ d) x.step
+      pending_decides same k kd _ _ m l.report.decided l x.next r (sym (flight_here fs l.step.worker x.next) ∙ sym (ap (λ (y : Flights V). y l.step.worker) x.with_next) ∙ d) x.step
   go_decides same fs (Decided u) m answer l fs' r e n d x = absurd (n u refl)
   go_decides same fs (Unbegun start end size) m answer l fs' r e n d x =
-      absurd (scan_not start end size _ _ x.step.outcome x.next r (sym (flight_here fs l.step.worker x.next) ∙ sym (ap (λ (y : Flights V). y l.step.worker) x.advances) ∙ d) x.step.tells)
+      absurd (scan_not start end size _ _ x.step.outcome x.next r (sym (flight_here fs l.step.worker x.next) ∙ sym (ap (λ (y : Flights V). y l.step.worker) x.with_next) ∙ d) x.step.tells)
   go_decides same fs (Scanning start end size states places) m answer l fs' r e n d x =
-      absurd (scan_not start end size _ _ x.step.outcome x.next r (sym (flight_here fs l.step.worker x.next) ∙ sym (ap (λ (y : Flights V). y l.step.worker) x.advances) ∙ d) x.step.tells)
+      absurd (scan_not start end size _ _ x.step.outcome x.next r (sym (flight_here fs l.step.worker x.next) ∙ sym (ap (λ (y : Flights V). y l.step.worker) x.with_next) ∙ d) x.step.tells)
 
 -- the phases of a call that takes no node out any more
 abbrev Past : {V : Type 0} → Phase Id V → Type 0
@@ -141,12 +143,12 @@ module _ {V : Type 0} where
   past_next None q r = tt
   past_next (Some k) q r = tt
 
-  past_phase : (same : V → V → Bool) (always : Bool) (most : ℕ) (why : NodeType → Cause → Type 0) (root : Id) (key : List ℕ) (kind : Kind V) (fail : Bool) (answer : Option (Option V)) (given given' : Option V) (p : Phase Id V) (h h' : ℕ → Node V) (t : Said Id V)
+  past_phase : (same : V → V → Bool) (always : Bool) (most : ℕ) (why : NodeType → Cause → Type 0) (root : Id) (key : List ℕ) (kind : Kind V) (fail : Bool) (answer : Option (Option V)) (given given' : Option V) (p : Phase Id V) (h h' : ℕ → Node V) (t : NextPhase Id V)
       → Past p → PhaseStepped id_number same always most why root key kind fail answer given p h given' t h' → Past t.phase
-  past_phase same always most why root key kind fail answer given given' (Obsolete c next q r) h h' t u x = let P : Said Id V → Type 0 = λ z. Past z.phase in subst P (sym x.2) tt
-  past_phase same always most why root key kind fail answer given given' (Retire c next q r) h h' t u x = let P : Said Id V → Type 0 = λ z. Past z.phase in subst P (sym x.2) (past_next next q r)
-  past_phase same always most why root key kind fail answer given given' (Unlock c r) h h' t u x = let P : Said Id V → Type 0 = λ z. Past z.phase in subst P (sym x.2) tt
-  past_phase same always most why root key kind fail answer given given' Ended h h' t u x = let P : Said Id V → Type 0 = λ z. Past z.phase in subst P (sym x.2) tt
+  past_phase same always most why root key kind fail answer given given' (Obsolete c next q r) h h' t u x = let P : NextPhase Id V → Type 0 = λ z. Past z.phase in subst P (sym x.2) tt
+  past_phase same always most why root key kind fail answer given given' (Retire c next q r) h h' t u x = let P : NextPhase Id V → Type 0 = λ z. Past z.phase in subst P (sym x.2) (past_next next q r)
+  past_phase same always most why root key kind fail answer given given' (Unlock c r) h h' t u x = let P : NextPhase Id V → Type 0 = λ z. Past z.phase in subst P (sym x.2) tt
+  past_phase same always most why root key kind fail answer given given' Ended h h' t u x = let P : NextPhase Id V → Type 0 = λ z. Past z.phase in subst P (sym x.2) tt
   past_phase same always most why root key kind fail answer given given' _ h h' t u x = absurd u
 
   past_rested : (m : Machine Id V) → Past m.phase → Past (rested m).phase
@@ -184,7 +186,7 @@ module _ {V : Type 0} (same : V → V → Bool) (always : Bool) (s s' : World V)
   collects_past : (event : CollectorEvent) (op : CollectorOp) (r : Report V) → w < length s.calls → Collects same always s w event (Collecting op) r s' → After
   collects_past event op r l x =
       let P : Option (InFlight V) → Type 0 = λ k. IsPast k (slice_get s'.machines w) in
-      subst P (sym (placed (call_after x.turn.outcome (Collecting op)) l x.calls)) (past_collects x.turn.outcome op (slice_get s'.machines w))
+      subst P (sym (placed (call_after x.collector_report.outcome (Collecting op)) l x.calls)) (past_collects x.collector_report.outcome op (slice_get s'.machines w))
 
   module _ (op : Op V) (none : misuse s w (Begin op) ≡ None) (u : IsPast (slice_get s.calls w) (slice_get s.machines w)) where
     enters_on : (r : Report V) → r ≡ quiet TreeKind Running → is_in_flight r.outcome ≡ false → ⊥
@@ -244,14 +246,11 @@ module _ {V : Type 0} (same : V → V → Bool) (always : Bool) (s s' : World V)
   ]
   past_does (Go noise) None r e u x = inr (goes_past (slice_get s.calls w) (slice_get s.machines w) noise r refl refl u x)
 
-stands_waits : {V : Type 0} (n : Node V) → n.retired ≡ true → Stands n → is_waiting n ≡ true
-stands_waits n r st = ap (λ b. b && (n.made && not n.destroyed)) r ∙ ap (λ b. true && (b && not n.destroyed)) st.made ∙ ap (λ b. true && (true && not b)) st.kept
-
 module _ {V : Type 0} (same : V → V → Bool) (always : Bool) (laws : CallLaws {C = Id} {V = V} id_number same always) (leaves_law : (f : Nodes V) → LeavesLaw {C = Id} {V = V} id_number same always f.version_max (Refuses f)) where
   -- a node that waits was handed over, or a call has it
   waits_as : (s : World V) → Holds same always s → (n : ℕ) → IsWaiting s n → (is_waiting (nodes s.forest n) ≡ true) ⊎ ((i : ℕ) × IsTakenBy s i n)
-  waits_as s h n y = elim ((somewhere same always laws s h n y.stands.made).handed y) [
-    | inl e ↦ inl (stands_waits (nodes s.forest n) e y.stands)
+  waits_as s h n y = elim ((node_somewhere same always laws s h n y.stands.made).handed y) [
+    | inl e ↦ inl (retired_waits (nodes s.forest n) e y.stands)
     | inr e ↦ inr e
   ]
 
@@ -265,7 +264,7 @@ module _ {V : Type 0} (same : V → V → Bool) (always : Bool) (laws : CallLaws
     -- a step in which a call takes a node out is the one in which it takes effect
     decides : (n : ℕ) → IsTakenBy t.after w n → IsTaking (engine_of s) w t.step.event → t.report.decided ≡ true
     decides n y g =
-        let a = mapped same always s t.step t.after h.2.flights h.2.pairs h x.holds h.2.stand h.2.in_flight t.report x in
+        let a = step_mapped same always s t.step t.after h.2.flights h.2.pairs h x.holds h.2.stand h.2.in_flight t.report x in
         let l : Line V = record { step = t.step; report = t.report; entry = a.entry; pairs = a.pairs } in
         let P : Event V → Type 0 = λ e. EventMap same h.2.flights h.2.pairs e l a.flights in
         let m : GoMap same h.2.flights (h.2.flights w) h.2.pairs g.noise.answer l a.flights = subst P g.goes a.map in
@@ -274,8 +273,8 @@ module _ {V : Type 0} (same : V → V → Bool) (always : Bool) (laws : CallLaws
         (λ u e. g.pending u (decided_is g.old (h.2.flights w) u e (h.2.in_flight.each w Walking g.old g.walking g.at))) now.1 m
 
     -- where it is refused for want of a place of the journal nothing happens to the nodes
-    given_up : FindsJournalFull s w t.report t.after → Here
-    given_up y = record {
+    finds_full : FindsJournalFull s w t.report t.after → Here
+    finds_full y = record {
       leaves = λ n i. inl (let P : (ℕ → Node V) → Type 0 = λ z. InTree z n in subst P (sym nodes_same) i);
       owed = λ i n z. inl (z.0, ap (λ v. slice_get v.machines i) y.state ∙ z.1, z.2);
       handed = λ n b a. absurd (false≢true (sym b ∙ sym (ap (λ z. is_waiting (z n)) nodes_same) ∙ a));
@@ -289,7 +288,7 @@ module _ {V : Type 0} (same : V → V → Bool) (always : Bool) (laws : CallLaws
         nodes_same = ap (λ z. nodes z.forest) y.state
 
     parts_by : (b : Bool) → StepsUnless same always b s t.step t.report t.after → Here
-    parts_by true y = given_up y
+    parts_by true y = finds_full y
     parts_by false y = step_parts same always laws leaves_law (engine_of s) (engine_of t.after) w (h.0, h.1) t.step.event (misuse s w t.step.event) y.told refl y.engine.does
 
     abbrev parts : Here
@@ -304,13 +303,13 @@ module _ {V : Type 0} (same : V → V → Bool) (always : Bool) (laws : CallLaws
       | inr o ↦ (
           let st = taken_stands same always laws s h i n y in
           let now : Stands (nodes t.after.forest n) = record { made = z.made ∙ st.made; kept = z.kept ∙ st.kept } in
-          stays_left n z (retired_waits same always laws t.after x.holds n (stands_waits (nodes t.after.forest n) o.1.after now)))
+          stays_left n z (handed_waits same always laws t.after x.holds n (retired_waits (nodes t.after.forest n) o.1.after now)))
     ]
 
     left : (n : ℕ) → IsWaiting s n → StaysLeft s t.after n ⊎ IsDestroyed t.after n
     left n y = elim (waits_as s h n y) [
       | inl e ↦ elim (parts.waits n e) [
-        | inl q ↦ inl (stays_left n (same_left (nodes s.forest n) (nodes t.after.forest n) q) (retired_waits same always laws t.after x.holds n (ap is_waiting q ∙ e)))
+        | inl q ↦ inl (stays_left n (same_left (nodes s.forest n) (nodes t.after.forest n) q) (handed_waits same always laws t.after x.holds n (ap is_waiting q ∙ e)))
         | inr l ↦ inr (record { gone = l.destroyed })
       ]
       | inr e ↦ elim (parts.taken e.0 n e.1) [
@@ -319,7 +318,7 @@ module _ {V : Type 0} (same : V → V → Bool) (always : Bool) (laws : CallLaws
       ]
     ]
 
-    pub rightly : LeavesRightly s t
+    rightly : LeavesRightly s t
     rightly = record {
       leaves = λ n i. elim (parts.leaves n i) [
         | inl y ↦ inl y
@@ -345,17 +344,17 @@ module _ {V : Type 0} (same : V → V → Bool) (always : Bool) (laws : CallLaws
 
     first_handed : (n : ℕ) → HandsOver s.forest t.after.forest w n → (is_waiting (nodes t.after.forest n) ≡ true) ⊎ IsLost (nodes t.after.forest n)
     first_handed n y = elim ((all_spare same always leaves_law s (t ∷ []) h (x, tt)).0 n y.stands) [
-      | inl st ↦ inl (stands_waits (nodes t.after.forest n) y.after st)
+      | inl st ↦ inl (retired_waits (nodes t.after.forest n) y.after st)
       | inr (inl u) ↦ absurd (false≢true (sym y.before ∙ u.waits))
       | inr (inr b) ↦ absurd (false≢true (sym (blank same always laws s h w n b).live ∙ y.marked))
     ]
 
     -- what left stays locked
-    pub left_locked : LeftLocked s → LeftLocked t.after
+    left_locked : LeftLocked s → LeftLocked t.after
     left_locked all n y = elim (waits_as t.after x.holds n y) [
       | inl e ↦ (let kept = (waits_is (nodes t.after.forest n) e).1.kept in elim (cases_Bool (is_waiting (nodes s.forest n))) [
         | inl b ↦ elim (parts.waits n b) [
-          | inl q ↦ ap (λ z. z.locked) q ∙ all n (retired_waits same always laws s h n b)
+          | inl q ↦ ap (λ z. z.locked) q ∙ all n (handed_waits same always laws s h n b)
           | inr l ↦ absurd (false≢true (sym kept ∙ l.destroyed))
         ]
         | inr b ↦ (let z = parts.handed n b e in elim (parts.taken w n z.0) [
@@ -402,7 +401,7 @@ module _ {V : Type 0} (same : V → V → Bool) (always : Bool) (laws : CallLaws
       not_given : (event : Event V) → finds_journal_full s w event ≡ true → ⊥
       not_given Register e = false≢true e
       not_given (Begin op) e = false≢true e
-      not_given (Go noise) e = past_reserves (slice_get s.calls w) (slice_get s.machines w) u (and_left _ _ e)
+      not_given (Go noise) e = past_reserves (slice_get s.calls w) (slice_get s.machines w) u (both_true _ _ e).0
 
       by : (b : Bool) → finds_journal_full s w t.step.event ≡ b → StepsUnless same always b s t.step t.report t.after → BeginsAnew w t ⊎ IsPast (slice_get t.after.calls w) (slice_get t.after.machines w)
       by true e y = absurd (not_given t.step.event e)
@@ -439,6 +438,7 @@ module _ {V : Type 0} (same : V → V → Bool) (always : Bool) (laws : CallLaws
   hands_none n s [] h x y = tt
   hands_none n s (t ∷ ts) h x y = (hands_again s t h x.0 t.step.worker n y, hands_none n t.after ts x.0.holds x.1 (still_handed s t h x.0 n y))
 
+  -- in a run each node leaves the tree by one step of one call, and is handed over once
   pub all_leave_once : (s : World V) (ts : List (Taken V)) → Holds same always s → AreTaken same always s ts → AllLeaveOnce s ts
   all_leave_once s [] h x = tt
   all_leave_once s (t ∷ ts) h x = (
@@ -450,6 +450,7 @@ module _ {V : Type 0} (same : V → V → Bool) (always : Bool) (laws : CallLaws
     all_leave_once t.after ts x.0.holds x.1,
   )
 
+  -- where each node that has left the tree is locked, it is so after a run
   pub all_left_locked : (s : World V) (ts : List (Taken V)) → Holds same always s → AreTaken same always s ts → LeftLocked s → LeftLocked (after_all s ts)
   all_left_locked s [] h x l = l
   all_left_locked s (t ∷ ts) h x l = all_left_locked t.after ts x.0.holds x.1 (left_locked s t h x.0 l)

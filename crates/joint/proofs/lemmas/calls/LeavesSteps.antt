@@ -18,7 +18,7 @@ use Rattle.congee.specs.declared.protocol.phase.Phase.{Phase}
 use Rattle.congee.specs.declared.protocol.phase.Phase.TheVariants.{Obsolete, Retire, UnlockBelow, Unlock}
 use Rattle.congee.specs.declared.protocol.run.Step.{Step as TreeStep}
 use Rattle.congee.specs.declared.protocol.store.Refusal.{Refusal as Cause}
-use Rattle.congee.specs.declared.protocol.turn.NextPhase.{NextPhase as Said}
+use Rattle.congee.specs.declared.protocol.next_phase.NextPhase.{NextPhase}
 use Rattle.congee.specs.Heap.{Node}
 use Rattle.congee.specs.Keys.{key_bytes}
 use Rattle.congee.specs.Notes.{Linked}
@@ -103,6 +103,7 @@ module _ {V : Type 0} (same : V → V → Bool) (always : Bool) where
   taken_walks (Securing op) p m n a x = absurd (let P : Phase Id V → Type 0 = λ y. TakenBy id_number y n in subst P a.2 x)
 
   module _ (s : World V) (holds : EngineHolds same always s) where
+    -- a worker whose call has taken a node out has its call on the tree
     pub walking_of : (i n : ℕ) → IsTakenBy s i n → slice_get s.calls i ≡ Some Walking
     walking_of i n x =
         let l : i < length s.calls = subst (λ k. i < k) holds.0.machines (slice_get_within s.machines i x.0 x.1) in
@@ -110,12 +111,12 @@ module _ {V : Type 0} (same : V → V → Bool) (always : Bool) where
         k.1 ∙ ap Some (taken_walks k.0 (place_of s i) x.0 n (holds.0.each i k.0 x.0 k.1 x.1) x.2)
 
   -- a call that has taken effect takes no node out any more
-  pub reply_taken : (most : ℕ) (why : NodeType → Cause → Type 0) (root : Id) (k : ℕ) (kind : Kind V) (fail : Bool) (answer : Option (Option V)) (given given' : Option V) (p : Phase Id V) (h h' : ℕ → Node V) (t : Said Id V) (r : Reply V) (n : ℕ)
+  reply_taken : (most : ℕ) (why : NodeType → Cause → Type 0) (root : Id) (k : ℕ) (kind : Kind V) (fail : Bool) (answer : Option (Option V)) (given given' : Option V) (p : Phase Id V) (h h' : ℕ → Node V) (t : NextPhase Id V) (r : Reply V) (n : ℕ)
       → flight_in k kind given p ≡ Decided r → PhaseStepped id_number same always most why root (key_bytes k) kind fail answer given p h given' t h' → TakenBy id_number t.phase n → (c : ℕ) × TakenBy id_number p c
   reply_taken most why root k kind fail answer given given' (Obsolete c next q u) h h' t r n e x y = (id_number c, inl refl)
   reply_taken most why root k kind fail answer given given' (Retire c next q u) h h' t r n e x y = (id_number c, inl refl)
-  reply_taken most why root k kind fail answer given given' (UnlockBelow c q u) h h' t r n e x y = absurd (let P : Said Id V → Type 0 = λ z. TakenBy id_number z.phase n in subst P x.2 y)
-  reply_taken most why root k kind fail answer given given' (Unlock c u) h h' t r n e x y = absurd (let P : Said Id V → Type 0 = λ z. TakenBy id_number z.phase n in subst P x.2 y)
+  reply_taken most why root k kind fail answer given given' (UnlockBelow c q u) h h' t r n e x y = absurd (let P : NextPhase Id V → Type 0 = λ z. TakenBy id_number z.phase n in subst P x.2 y)
+  reply_taken most why root k kind fail answer given given' (Unlock c u) h h' t r n e x y = absurd (let P : NextPhase Id V → Type 0 = λ z. TakenBy id_number z.phase n in subst P x.2 y)
   reply_taken most why root k kind fail answer given given' _ h h' t r n e x y = absurd (cc e)
 
 module _ {V : Type 0} (same : V → V → Bool) (always : Bool) (laws : CallLaws {C = Id} {V = V} id_number same always) (leaves_law : (f : Nodes V) → LeavesLaw {C = Id} {V = V} id_number same always f.version_max (Refuses f)) where
@@ -171,8 +172,8 @@ module _ {V : Type 0} (same : V → V → Bool) (always : Bool) (laws : CallLaws
 
     -- a call on the tree takes a step
     module _ (noise : Noise Id V) (is : event ≡ Go noise) (on : slice_get s.calls w ≡ Some Walking) (k : Walks same always s w noise r s') where
-      abbrev turn : TreeStep Id V
-      turn = record { who = w; noise = noise }
+      abbrev collector_report : TreeStep Id V
+      collector_report = record { who = w; noise = noise }
 
       old : (m : Machine Id V) × (slice_get s.machines w ≡ Some m)
       old = get_inside s.machines w (subst (λ n. w < n) (sym holds.0.machines) (slice_get_within s.calls w Walking on))
@@ -180,7 +181,7 @@ module _ {V : Type 0} (same : V → V → Bool) (always : Bool) (laws : CallLaws
       abbrev f : Nodes V
       f = s.forest
 
-      abbrev moved : IsMoved id_number same always s.forest.version_max (Refuses s.forest) (nodes s.forest) s.machines old.0 turn k.move (nodes s'.forest) k.step.between
+      abbrev moved : IsMoved id_number same always s.forest.version_max (Refuses s.forest) (nodes s.forest) s.machines old.0 collector_report k.move (nodes s'.forest) k.step.between
       moved = k.step.walked.plays.moved old.0 old.1
 
       now : slice_get s'.machines w ≡ Some (rested moved.now)
@@ -197,13 +198,13 @@ module _ {V : Type 0} (same : V → V → Bool) (always : Bool) (laws : CallLaws
           let P : Machine Id V → Type 0 = λ y. TakenBy id_number y.phase n in subst P is x.2
 
       abbrev owes : (n : ℕ) → TakenBy id_number old.0.phase n → Owes (nodes s.forest) (nodes s'.forest) old.0.phase moved.now.phase n
-      owes = leaves.owes same always laws s.forest s'.forest s.machines k.step.between turn k.move holds.0.safe k.step.walked old.0 old.1
+      owes = leaves.owes same always laws s.forest s'.forest s.machines k.step.between collector_report k.move holds.0.safe k.step.walked old.0 old.1
 
       owed_on : (n : ℕ) → TakenBy id_number old.0.phase n → IsTakenBy s' w n ⊎ ((w ≡ w) × HandsOver s.forest s'.forest w n)
       owed_on n x = by (owes n x) where
         by : Owes (nodes s.forest) (nodes s'.forest) old.0.phase moved.now.phase n → IsTakenBy s' w n ⊎ ((w ≡ w) × HandsOver s.forest s'.forest w n)
         by (Marks y b) = inl (rested moved.now, now, taken_stays moved.now n y)
-        by (Hands c next q u e is b) = inr (refl, leaves.hands_over same always laws s.forest s'.forest s.machines k.step.between turn k.move holds.0.safe k.step.walked old.0 old.1 n c next q u x e is b)
+        by (Hands c next q u e is b) = inr (refl, leaves.hands_over same always laws s.forest s'.forest s.machines k.step.between collector_report k.move holds.0.safe k.step.walked old.0 old.1 n c next q u x e is b)
         by (Waits y b) = inl (rested moved.now, now, taken_stays moved.now n y)
 
       walks_owed : (i n : ℕ) → IsTakenBy s i n → IsTakenBy s' i n ⊎ ((w ≡ i) × HandsOver s.forest s'.forest i n)
@@ -218,14 +219,14 @@ module _ {V : Type 0} (same : V → V → Bool) (always : Bool) (laws : CallLaws
       -- the node that it hands over was taken out before, and isn't any more
       walks_handed : (n : ℕ) → is_waiting (nodes s.forest n) ≡ false → is_waiting (nodes s'.forest n) ≡ true → IsTakenBy s w n × HandsOver s.forest s'.forest w n
       walks_handed n b a =
-          let x : TakenBy id_number old.0.phase n = leaves.newly_waits same always laws s.forest s'.forest s.machines k.step.between turn k.move holds.0.safe k.step.walked old.0 old.1 n b a in
+          let x : TakenBy id_number old.0.phase n = leaves.newly_waits same always laws s.forest s'.forest s.machines k.step.between collector_report k.move holds.0.safe k.step.walked old.0 old.1 n b a in
           ((old.0, old.1, x), by x (owes n x))
         where
           by : TakenBy id_number old.0.phase n → Owes (nodes s.forest) (nodes s'.forest) old.0.phase moved.now.phase n → HandsOver s.forest s'.forest w n
-          by x (Hands c next q u e is y) = leaves.hands_over same always laws s.forest s'.forest s.machines k.step.between turn k.move holds.0.safe k.step.walked old.0 old.1 n c next q u x e is y
+          by x (Hands c next q u e is y) = leaves.hands_over same always laws s.forest s'.forest s.machines k.step.between collector_report k.move holds.0.safe k.step.walked old.0 old.1 n c next q u x e is y
           by x (Waits y z) = absurd (false≢true (sym b ∙ sym (ap is_waiting z) ∙ a))
           by x (Marks y z) =
-              let o = leaves.owed same always laws s.forest s'.forest s.machines k.step.between turn k.move holds.0.safe k.step.walked old.0 old.1 n x in
+              let o = leaves.owed same always laws s.forest s'.forest s.machines k.step.between collector_report k.move holds.0.safe k.step.walked old.0 old.1 n x in
               absurd (false≢true (sym (ap (λ v. v.retired) z.after ∙ o.unretired) ∙ (waits_is (nodes s'.forest n) a).0))
 
       walks_left : (i n : ℕ) → IsTakenBy s i n → SameLeft (nodes s.forest n) (nodes s'.forest n)
@@ -234,7 +235,7 @@ module _ {V : Type 0} (same : V → V → Bool) (always : Bool) (laws : CallLaws
         | inr b ↦ (
             let m = settled.1.each i x.0 x.1 in
             let o = taken_known id_number same always i settled.0 (nodes s.forest) x.0.key (key_bytes x.0.key) x.0.kind x.0.given n x.0.phase m.known x.2 in
-            let keeps = leaves.keeps same always laws s.forest s'.forest s.machines k.step.between turn k.move holds.0.safe k.step.walked old.0 old.1 in
+            let keeps = leaves.keeps same always laws s.forest s'.forest s.machines k.step.between collector_report k.move holds.0.safe k.step.walked old.0 old.1 in
             same_left (nodes s.forest n) (nodes s'.forest n) ((keeps.effect.others i (eqb-false i w b)).mine n o.owner).0)
       ]
         where
@@ -244,7 +245,7 @@ module _ {V : Type 0} (same : V → V → Bool) (always : Bool) (laws : CallLaws
           by (Hands c next q u e is z) = record { locked = ap (λ v. v.locked) z.after; marked = λ o. ap (λ v. v.obsolete) z.after ∙ o; children = λ b. ap (λ v. v.children b) z.after; made = ap (λ v. v.made) z.after; kept = ap (λ v. v.destroyed) z.after }
 
       walks_leaves : (n : ℕ) → InTree (nodes s.forest) n → InTree (nodes s'.forest) n ⊎ (TakesOut s s' w n × IsTaking s w event)
-      walks_leaves n i = elim (leaves.tree same always laws s.forest s'.forest s.machines k.step.between turn k.move holds.0.safe k.step.walked old.0 old.1 n i) [
+      walks_leaves n i = elim (leaves.tree same always laws s.forest s'.forest s.machines k.step.between collector_report k.move holds.0.safe k.step.walked old.0 old.1 n i) [
         | inl x ↦ inl x
         | inr x ↦ inr (
           record {
@@ -272,12 +273,12 @@ module _ {V : Type 0} (same : V → V → Bool) (always : Bool) (laws : CallLaws
       walks_defers : (q : Phase Id V) → old.0.phase ≡ q → (s'.forest.collector.next ≡ s.forest.collector.next) ⊎ ((n : ℕ) × IsTakenBy s w n × HandsOver s.forest s'.forest w n)
       walks_defers (Retire c next q u) e =
           let P : Phase Id V → Type 0 = λ y. TakenBy id_number y (id_number c) in
-          inr (id_number c, (old.0, old.1, subst P (sym e) (inl refl)), leaves.retires same always laws s.forest s'.forest s.machines k.step.between turn k.move holds.0.safe k.step.walked old.0 old.1 c next q u e)
-      walks_defers _ e = inl (ap (λ c. c.next) (k.step.walked.clock ∙ ap (λ o. after_walk o (with_store s.forest.collector s'.forest.collector.store) w) (ap retiring_at old.1 ∙ ap retiring e)))
+          inr (id_number c, (old.0, old.1, subst P (sym e) (inl refl)), leaves.retires same always laws s.forest s'.forest s.machines k.step.between collector_report k.move holds.0.safe k.step.walked old.0 old.1 c next q u e)
+      walks_defers _ e = inl (ap (λ c. c.next) (k.step.walked.collector_is ∙ ap (λ o. after_walk o (with_store s.forest.collector s'.forest.collector.store) w) (ap retiring_at old.1 ∙ ap retiring e)))
 
-      left : StepLeaves id_number w settled.0 (leaves.keeps same always laws s.forest s'.forest s.machines k.step.between turn k.move holds.0.safe k.step.walked old.0 old.1).notes (nodes s.forest) (nodes s'.forest) old.0 moved.now
+      left : StepLeaves id_number w settled.0 (leaves.keeps same always laws s.forest s'.forest s.machines k.step.between collector_report k.move holds.0.safe k.step.walked old.0 old.1).notes (nodes s.forest) (nodes s'.forest) old.0 moved.now
       left = leaves_law s.forest w settled.0 (nodes s.forest) (nodes s'.forest) s.machines old.0 moved.now k.move noise.fail noise.answer settled.1 settled.2 old.1
-          (leaves.keeps same always laws s.forest s'.forest s.machines k.step.between turn k.move holds.0.safe k.step.walked old.0 old.1) moved.step
+          (leaves.keeps same always laws s.forest s'.forest s.machines k.step.between collector_report k.move holds.0.safe k.step.walked old.0 old.1) moved.step
 
       walks : Parts s s' w event
       walks = record {
@@ -322,6 +323,7 @@ module _ {V : Type 0} (same : V → V → Bool) (always : Bool) (laws : CallLaws
     goes (Some (Securing op)) noise is e a x = destroyed x.step.collected.destroys x.step.collected.moves.next (apart_keeps a (λ q. let z : Some (Securing op) ≡ Some Walking = sym e ∙ q in cc))
     goes (Some Walking) noise is e a x = walks noise is e x
 
+  -- a node in the tree stays or is taken out, one taken out stays so or is handed over, and one handed over may go
   pub step_parts : (s s' : World V) (w : ℕ) (holds : EngineHolds same always s) (event : Event V) (o : Option Fault) (r : Report V) → misuse s w event ≡ o → Does same always s w event o r s' → Parts s s' w event
   step_parts s s' w holds event (Some f) r e x = unchanged s s' w holds event r x.1
   step_parts s s' w holds Register None r e (inl x) = calm s s' w holds Register r (ap (λ y. nodes y.forest) x.1.state) (ap (λ y. y.forest.collector.next) x.1.state) (λ i n y. (y.0, ap (λ z. slice_get z.machines i) x.1.state ∙ y.1, y.2))

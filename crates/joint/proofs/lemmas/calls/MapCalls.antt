@@ -22,24 +22,24 @@ use Rattle.joint.specs.declared.steps.Survey.TheVariants as survey
 use Rattle.joint.specs.declared.steps.Target.{Target}
 use Rattle.joint.specs.declared.steps.Target.TheVariants as target
 use Rattle.joint.specs.calls.Calling.{IsCalled, next_step, steps_of, GoOn, last_of, last_or, put_away, kept_report}
-use Rattle.joint.specs.Reports.{goes_on, range_of, target}
+use Rattle.joint.specs.Reports.{goes_unasked, range_of, target, is_in_flight}
 use Rattle.joint.specs.nodes.Nodes.{nodes}
-use Rattle.joint.specs.engine.Intact.{root}
+use Rattle.joint.specs.Names.{root}
 use Rattle.joint.specs.calls.MapCalls.{AllGoOn, AreOfCall, told_after, Answered, answered_by, answer_in, answered_after, KeepsAll, told_places, HasScanned, PlaysKey, PlaysScan, PlaysCall, CallPlays}
 use Rattle.joint.specs.calls.Runs.{Taken, AreTaken, after_all}
 use Rattle.joint.specs.world.MapSteps.{GoMap, BeginMap, Line}
 use Rattle.joint.specs.engine.Flying.{Flights, AreInFlight}
 use Rattle.joint.specs.engine.Surveys.{MapTells}
 use Rattle.joint.specs.world.World.{Holds, IsStep}
-use Rattle.joint.specs.engine.Engine.{World, engine_of, is_in_flight}
+use Rattle.joint.specs.engine.Engine.{World, engine_of}
 use Rattle.joint.proofs.lemmas.engine.Entering.{begin_free}
-use Rattle.joint.proofs.lemmas.world.JournaledSteps.{Mapped, mapped}
-use Rattle.joint.proofs.lemmas.calls.KeyCalls.{begin_of, gone, key_plays, stays_keeps_all}
-use Rattle.joint.proofs.lemmas.calls.AloneScans.{Sweeps, scan_plays, sweeps}
+use Rattle.joint.proofs.lemmas.world.JournaledSteps.{Mapped, step_mapped}
+use Rattle.joint.proofs.lemmas.calls.KeyCalls.{begin_of, further_step, key_plays, stays_keeps_all}
+use Rattle.joint.proofs.lemmas.calls.AloneScans.{Scans, scan_plays, scans}
 
 module _ {V : Type 0} (m : Pairs V) where
   -- a call of one step has ended
-  pub told_ended : (k : Survey) (o : Outcome V) → MapTells m k o → is_in_flight o ≡ false
+  told_ended : (k : Survey) (o : Outcome V) → MapTells m k o → is_in_flight o ≡ false
   told_ended k (Refused e) t = refl
   told_ended k (Done d) t = refl
   told_ended k (Registered n) t = refl
@@ -60,10 +60,10 @@ module _ {V : Type 0} (same : V → V → Bool) (always : Bool) (fs : Flights V)
       (begin_free same always (engine_of s) (engine_of s') w (h.0, h.1) fs (record { each = fl.each; beyond = fl.beyond }) op x.does.told x.does.engine.does (sym (ap (λ z. is_in_flight z.outcome) x.does.report) ∙ on)).0
 
   -- a call that isn't on the tree
-  quiet_step : (noise : Noise Id V) (s : World V) (r : Report V) (s' : World V) → fs w ≡ Over → Holds same always s → KeepsAll fs m s → IsStep same always s (gone w noise) r s' → KeepsAll fs m s'
+  quiet_step : (noise : Noise Id V) (s : World V) (r : Report V) (s' : World V) → fs w ≡ Over → Holds same always s → KeepsAll fs m s → IsStep same always s (further_step w noise) r s' → KeepsAll fs m s'
   quiet_step noise s r s' free h b x =
-      let y : Mapped same always s (gone w noise) r s' fs m = mapped same always s (gone w noise) s' fs m h x.holds b.0 b.1 r x in
-      let l : Line V = record { step = gone w noise; report = r; entry = y.entry; pairs = y.pairs } in
+      let y : Mapped same always s (further_step w noise) r s' fs m = step_mapped same always s (further_step w noise) s' fs m h x.holds b.0 b.1 r x in
+      let l : Line V = record { step = further_step w noise; report = r; entry = y.entry; pairs = y.pairs } in
       let P : Flight V → Type 0 = λ z. GoMap same fs z m noise.answer l y.flights in
       stays_keeps_all fs m l y.flights s' (subst P free y.map) y.stand y.in_flight
 
@@ -75,7 +75,7 @@ module _ {V : Type 0} (same : V → V → Bool) (always : Bool) (fs : Flights V)
 
   quiet_begin : (op : Op V) (t : _) (s : World V) (r : Report V) (s' : World V) → target op ≡ target.Collector t → Holds same always s → KeepsAll fs m s → IsStep same always s (begin_of w op) r s' → KeepsAll fs m s'
   quiet_begin op t s r s' e h b x =
-      let y : Mapped same always s (begin_of w op) r s' fs m = mapped same always s (begin_of w op) s' fs m h x.holds b.0 b.1 r x in
+      let y : Mapped same always s (begin_of w op) r s' fs m = step_mapped same always s (begin_of w op) s' fs m h x.holds b.0 b.1 r x in
       let l : Line V = record { step = begin_of w op; report = r; entry = y.entry; pairs = y.pairs } in
       let P : Target V → Type 0 = λ z. BeginMap fs m z l y.flights in
       stays_keeps_all fs m l y.flights s' (subst P e y.map) y.stand y.in_flight
@@ -89,7 +89,7 @@ module _ {V : Type 0} (same : V → V → Bool) (always : Bool) (fs : Flights V)
   -- one of one step
   survey_step : (op : Op V) (k : Survey) (s : World V) (r : Report V) (s' : World V) → target op ≡ target.Survey k → Holds same always s → KeepsAll fs m s → IsStep same always s (begin_of w op) r s' → MapTells m k r.outcome × KeepsAll fs m s'
   survey_step op k s r s' e h b x =
-      let y : Mapped same always s (begin_of w op) r s' fs m = mapped same always s (begin_of w op) s' fs m h x.holds b.0 b.1 r x in
+      let y : Mapped same always s (begin_of w op) r s' fs m = step_mapped same always s (begin_of w op) s' fs m h x.holds b.0 b.1 r x in
       let l : Line V = record { step = begin_of w op; report = r; entry = y.entry; pairs = y.pairs } in
       let P : Target V → Type 0 = λ z. BeginMap fs m z l y.flights in
       let z : BeginMap fs m (target.Survey k) l y.flights = subst P e y.map in
@@ -114,7 +114,7 @@ module _ {V : Type 0} (same : V → V → Bool) (always : Bool) (fs : Flights V)
       → IsStep same always s (begin_of w op) first.report first.after → AreTaken same always first.after more → AllGoOn w first.report.outcome more → PlaysScan fs m w (told_after first.report.outcome more) (after_all first.after more)
   scan_call op asked start end size ranged s first more e h b x y g =
       let k = scan_of asked start end size ranged in
-      scan_plays same always fs m w start end size k.from k.to k.places k.promises _ _ _ (sweeps same always fs m w start end size k.from k.to k.places k.promises op asked s first more e ranged k.unbegun h b x y g)
+      scan_plays same always fs m w start end size k.from k.to k.places k.promises _ _ _ (scans same always fs m w start end size k.from k.to k.places k.promises op asked s first more e ranged k.unbegun h b x y g)
 
   -- any call
   by_target : (op : Op V) (t : Target V) (s : World V) (first : Taken V) (more : List (Taken V)) → target op ≡ t → Holds same always s → KeepsAll fs m s → IsStep same always s (begin_of w op) first.report first.after
@@ -168,6 +168,7 @@ module _ {V : Type 0} (same : V → V → Bool) (always : Bool) (fs : Flights V)
   away (target.Survey k) last said s x = (subst (λ o. MapTells m k o) (away_told said (told_ended m k said x.0)) x.0, x.1)
 
 module _ {V : Type 0} (same : V → V → Bool) (always : Bool) where
+  -- a call that no other worker's step comes between plays on the map as such a call does
   pub plays_call : (s : World V) (first : Taken V) (more : List (Taken V)) (fs : Flights V) (m : Pairs V) (who : ℕ) (op : Op V) → Holds same always s → AreTaken same always s (first ∷ more) → IsMapOf (nodes s.forest) m → AreInFlight s fs
       → AreOfCall who op first more → PlaysCall same fs m who (answered_after first.report.outcome None more) (target op) (told_after first.report.outcome more) (after_all s (first ∷ more))
   plays_call s first more fs m who op h x st fl c =
@@ -179,7 +180,7 @@ module _ {V : Type 0} (same : V → V → Bool) (always : Bool) where
       → KeepsAll fs m s'
   register_keeps s who r s' fs m h x st fl =
       let step : Step V = record { worker = who; event = Register } in
-      let y : Mapped same always s step r s' fs m = mapped same always s step s' fs m h x.holds st fl r x in
+      let y : Mapped same always s step r s' fs m = step_mapped same always s step s' fs m h x.holds st fl r x in
       stays_keeps_all fs m (record { step = step; report = r; entry = y.entry; pairs = y.pairs }) y.flights s' y.map y.stand y.in_flight
 
   -- what a scan that is done has told
@@ -189,10 +190,11 @@ module _ {V : Type 0} (same : V → V → Bool) (always : Bool) where
   scanned_so s first more fs m who op asked start end size count on ranged h x st fl c e =
       let k = scan_of asked start end size ranged in
       let P : Step V → Type 0 = λ y. IsStep same always s y first.report first.after in
-      let Q : Outcome V → Type 0 = λ o. Sweeps same always fs m who start end size k.from k.to k.places k.promises (told_places [] more) o (after_all first.after more) in
-      let y : Q (Done (Scanned count)) = subst Q e (sweeps same always fs m who start end size k.from k.to k.places k.promises op asked s first more on ranged k.unbegun h (st, fl) (subst P c.begins x.0) x.1 c.goes_on) in
+      let Q : Outcome V → Type 0 = λ o. Scans same always fs m who start end size k.from k.to k.places k.promises (told_places [] more) o (after_all first.after more) in
+      let y : Q (Done (Scanned count)) = subst Q e (scans same always fs m who start end size k.from k.to k.places k.promises op asked s first more on ranged k.unbegun h (st, fl) (subst P c.begins x.0) x.1 c.goes_on) in
       y.0
 
+  -- a scan so taken that is done has told for the first of its places what a scan promises
   pub scanned : (s : World V) (first : Taken V) (more : List (Taken V)) (fs : Flights V) (m : Pairs V) (who : ℕ) (op : Op V) (start end size count : ℕ) → Holds same always s → AreTaken same always s (first ∷ more) → IsMapOf (nodes s.forest) m → AreInFlight s fs
       → range_of op ≡ Some (start, end, size) → AreOfCall who op first more → told_after first.report.outcome more ≡ Done (Scanned count) → HasScanned start end size count m (told_places [] more)
   scanned s first more fs m who (ops.Range a b n) start end size count h x st fl ranged c e = scanned_so s first more fs m who (ops.Range a b n) (point.Range a b n) start end size count refl ranged h x st fl c e
@@ -219,7 +221,7 @@ module _ {V : Type 0} (who : ℕ) where
   abbrev steps_in : List (Taken V) → List (Step V)
   steps_in ts = map (λ (t : Taken V). t.step) ts
 
-  in_flight_on : (o : Outcome V) → goes_on o ≡ true → is_in_flight o ≡ true
+  in_flight_on : (o : Outcome V) → goes_unasked o ≡ true → is_in_flight o ≡ true
   in_flight_on Running e = refl
   in_flight_on (Found place key value) e = refl
   in_flight_on (Asks found) e = absurd (cc e)
@@ -262,6 +264,7 @@ module _ {V : Type 0} (same : V → V → Bool) (always : Bool) (s : World V) (f
       let y : Q (last_or t.report (reports_of who ts)).outcome = subst Q (told_last who ts t.report) (subst P (unanswered who ts t.report.outcome _ more) z) in
       subst (λ r. CallPlays same fs m who op r s') last (away same always fs m who (target op) None _ s' y)
 
+  -- a whole call to which no answer comes plays on the map as such a call does
   pub called_plays : (most : ℕ) (places : List (ℕ × V)) (result : Option (Report V)) (places' : List (ℕ × V)) (s' : World V) → IsCalled same always s who op most places result places' s' → CallPlays same fs m who op result s'
   called_plays most places result places' s' c =
       let ts : List (Taken V) = c.run.taken in

@@ -78,10 +78,10 @@ module _ {V : Type 0} (same : V → V → Bool) (most : ℕ) where
   step_again p w (Starts op) a b x y u v = (x.0 ∙ sym y.0, both a.outcome b.outcome (start_told (finds_none op)) x.1 y.1 (start_itself V (finds_none op)))
   step_again p w (Tells k) a b x y u v = (x.0 ∙ sym y.0, tells_same p.heap x.1.0 x.1.1 k a.outcome b.outcome x.2 y.2 u v)
   step_again p w (Goes noise) a b x y u v =
-      (x.0 ∙ sym y.0, both a.outcome b.outcome (told (plain_went same most p w noise).turn.report.outcome) x.1 y.1 (told_itself (plain_went same most p w noise).turn.report.outcome))
+      (x.0 ∙ sym y.0, both a.outcome b.outcome (told (plain_went same most p w noise).next_phase.report.outcome) x.1 y.1 (told_itself (plain_went same most p w noise).next_phase.report.outcome))
 
   -- two plain runs of the same steps
-  pub told_again : (p : Plain V) (ts : List (TreeStep V)) (rs qs : List (Report V)) → AreTold same most p ts rs → AreTold same most p ts qs → AreUnrefused rs → AreUnrefused qs → AreSame rs qs
+  told_again : (p : Plain V) (ts : List (TreeStep V)) (rs qs : List (Report V)) → AreTold same most p ts rs → AreTold same most p ts qs → AreUnrefused rs → AreUnrefused qs → AreSame rs qs
   told_again p [] [] [] x y u v = tt
   told_again p [] [] (b ∷ qs) x y u v = absurd y
   told_again p [] (a ∷ rs) qs x y u v = absurd x

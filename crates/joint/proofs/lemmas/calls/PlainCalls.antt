@@ -34,17 +34,17 @@ use Rattle.joint.specs.declared.refusal.Refusal.TheVariants.{Exhausted}
 use Rattle.joint.specs.declared.steps.Outcome.TheVariants.{Refused}
 use Rattle.joint.specs.declared.steps.Report.{Report}
 use Rattle.joint.specs.nodes.Nodes.{Nodes, nodes, Refuses}
-use Rattle.joint.specs.engine.Intact.{call_after, secured_call, secured_machines, over_at, resting, rested, root}
+use Rattle.joint.specs.engine.Intact.{call_after, secured_call, secured_machines, over_at, resting, rested}
 use Rattle.joint.specs.engine.Laws.{NumberLaws}
 use Rattle.joint.specs.engine.Safety.{IsSafe, Collected, Walked}
 use Rattle.joint.specs.calls.Plain.{unnamed, unnamed_seen, IsUnrefused, IsUnhindered, InPlain, Agree}
 use Rattle.joint.specs.Refusals.{of_tree, of_fault}
 use Rattle.joint.specs.Reports.{told}
 use Rattle.joint.specs.nodes.View.{view, id_number}
-use Rattle.joint.specs.Names.{named}
+use Rattle.joint.specs.Names.{named, root}
 use Rattle.joint.specs.engine.Engine.{World, Collects, Enters, Reserves, reserving, GoesOnReserving, Walks}
-use Rattle.joint.proofs.lemmas.engine.Collecting.{either}
 use Rattle.joint.proofs.lemmas.engine.ScanEnds.{cleared_is}
+use Rattle.congee.proofs.Laws.{get_set}
 
 -- a refusal of the collector, or of a node, is for another cause than versions
 pub fault_apart : (f : Fault) → of_fault f ≡ Exhausted → ⊥
@@ -99,7 +99,7 @@ module _ {V : Type 0} (same : V → V → Bool) (always : Bool) where
       heap = x;
       calls = λ i k m a b.
           let P : List (InFlight V) → Type 0 = λ ks. slice_get ks i ≡ Some k in
-          elim (either s.calls w i k' k (subst P ec a)) [
+          elim (get_set s.calls w i k' k (subst P ec a)) [
             | inl e ↦ (
                 let Q : InFlight V → Type 0 = λ y. InPlain now (nodes s'.forest) y m (p'.calls i) in
                 let R : ℕ → Type 0 = λ j. InPlain now (nodes s'.forest) k' m (p'.calls j) in
@@ -129,43 +129,46 @@ module _ {V : Type 0} (same : V → V → Bool) (always : Bool) where
       others : (i : ℕ) (k : InFlight V) (m : Machine Id V) → slice_get s.calls i ≡ Some k → slice_get s.machines i ≡ Some m → InPlain order (nodes s'.forest) k m (p.calls i)
       others i k m ak am = kept_call order order (nodes s.forest) (nodes s'.forest) k m (p.calls i) (spared.calls i m (p.calls i) am) (a.calls i k m ak am)
 
+      -- after a step of the collector the machine agrees with the same plain state, where the worker's call does
       pub collected_agrees : (k' : InFlight V) → s'.calls ≡ set s.calls w k' → ((i : ℕ) (m : Machine Id V) → i ≢ w → slice_get s'.machines i ≡ Some m → slice_get s.machines i ≡ Some m)
           → ((m : Machine Id V) → slice_get s'.machines w ≡ Some m → InPlain order (nodes s'.forest) k' m (p.calls w)) → Agree s' order p
       collected_agrees k' ec em here = exchanged s s' w order order p p k' ec (spared.order_is (made_before s.forest) a.ordered) a.root a.made (spared.nodes p.heap a.heap) here (λ i k m n ak am. others i k m ak (em i m n am))
 
-    pub idle_after : (o : CollectorOutcome) (op : CollectorOp) (h : ℕ → Node V) (m : Machine Id V) (q : Machine ℕ V) → InPlain order h (call_after o (Collecting op)) m q
+    idle_after : (o : CollectorOutcome) (op : CollectorOp) (h : ℕ → Node V) (m : Machine Id V) (q : Machine ℕ V) → InPlain order h (call_after o (Collecting op)) m q
     idle_after collector_outcome.Running op h m q = tt
     idle_after collector_outcome.Done op h m q = tt
     idle_after (collector_outcome.Refused f) op h m q = tt
 
+    -- a step of a call on the collector leaves the machine agreeing with the same plain state
     pub collects : (s' : World V) (event : CollectorEvent) (op : CollectorOp) (r : Report V) → Agree s order p → Collects same always s w event (Collecting op) r s' → Agree s' order p
-    collects s' event op r a k = collected_agrees s' event k.turn k.step a (call_after k.turn.outcome (Collecting op)) k.calls
-        (λ i m n b. let P : List (Machine Id V) → Type 0 = λ ms. slice_get ms i ≡ Some m in subst P k.machines b) (λ m b. idle_after k.turn.outcome op (nodes s'.forest) m (p.calls w))
+    collects s' event op r a k = collected_agrees s' event k.collector_report k.step a (call_after k.collector_report.outcome (Collecting op)) k.calls
+        (λ i m n b. let P : List (Machine Id V) → Type 0 = λ ms. slice_get ms i ≡ Some m in subst P k.machines b) (λ m b. idle_after k.collector_report.outcome op (nodes s'.forest) m (p.calls w))
 
     -- a writing call makes its places free
     module _ (op : Point V) (here : slice_get s.calls w ≡ Some (Securing op)) (a : Agree s order p) where
       machine_here : (m : Machine Id V) → slice_get s.machines w ≡ Some m → p.calls w ≡ begun 0 op
       machine_here m b = a.calls w (Securing op) m here b
 
-      pub secures : (s' : World V) (r : Report V) (o : CollectorOutcome) → IsUnrefused r.outcome → (x : GoesOnReserving same always s w r s') → x.turn.outcome ≡ o → ((m : Machine Id V) → slice_get s'.machines w ≡ Some m → (n : Machine Id V) × (slice_get s.machines w ≡ Some n)) → Agree s' order p
+      -- a step that makes places free, and isn't refused, leaves the machine agreeing with the same plain state
+      pub secures : (s' : World V) (r : Report V) (o : CollectorOutcome) → IsUnrefused r.outcome → (x : GoesOnReserving same always s w r s') → x.collector_report.outcome ≡ o → ((m : Machine Id V) → slice_get s'.machines w ≡ Some m → (n : Machine Id V) × (slice_get s.machines w ≡ Some n)) → Agree s' order p
       secures s' r collector_outcome.Running un x e there =
-          let P : Option (InFlight V) → Type 0 = λ k. s'.calls ≡ set s.calls w (secured_call x.turn.outcome k) in
+          let P : Option (InFlight V) → Type 0 = λ k. s'.calls ≡ set s.calls w (secured_call x.collector_report.outcome k) in
           let Q : CollectorOutcome → Type 0 = λ z. s'.calls ≡ set s.calls w (secured_call z (Some (Securing op))) in
-          let R : Option (InFlight V) → Type 0 = λ k. s'.machines ≡ secured_machines x.turn.outcome k s.machines w in
+          let R : Option (InFlight V) → Type 0 = λ k. s'.machines ≡ secured_machines x.collector_report.outcome k s.machines w in
           let S : CollectorOutcome → Type 0 = λ z. s'.machines ≡ secured_machines z (Some (Securing op)) s.machines w in
           let em : s'.machines ≡ s.machines = subst S e (subst R here x.step.machine) in
-          collected_agrees s' collector_event.Go x.turn x.step.collected a (Securing op) (subst Q e (subst P here x.step.call))
+          collected_agrees s' collector_event.Go x.collector_report x.step.collected a (Securing op) (subst Q e (subst P here x.step.call))
           (λ i m n b. let T : List (Machine Id V) → Type 0 = λ ms. slice_get ms i ≡ Some m in subst T em b) (λ m b. machine_here (there m b).0 (there m b).1)
       secures s' r collector_outcome.Done un x e there =
-          let P : Option (InFlight V) → Type 0 = λ k. s'.calls ≡ set s.calls w (secured_call x.turn.outcome k) in
+          let P : Option (InFlight V) → Type 0 = λ k. s'.calls ≡ set s.calls w (secured_call x.collector_report.outcome k) in
           let Q : CollectorOutcome → Type 0 = λ z. s'.calls ≡ set s.calls w (secured_call z (Some (Securing op))) in
-          let R : Option (InFlight V) → Type 0 = λ k. s'.machines ≡ secured_machines x.turn.outcome k s.machines w in
+          let R : Option (InFlight V) → Type 0 = λ k. s'.machines ≡ secured_machines x.collector_report.outcome k s.machines w in
           let S : CollectorOutcome → Type 0 = λ z. s'.machines ≡ secured_machines z (Some (Securing op)) s.machines w in
           let em : s'.machines ≡ set s.machines w (begun root op) = subst S e (subst R here x.step.machine) in
-          collected_agrees s' collector_event.Go x.turn x.step.collected a Walking (subst Q e (subst P here x.step.call))
+          collected_agrees s' collector_event.Go x.collector_report x.step.collected a Walking (subst Q e (subst P here x.step.call))
           (λ i m n b.
           let T : List (Machine Id V) → Type 0 = λ ms. slice_get ms i ≡ Some m in
-          elim (either s.machines w i (begun root op) m (subst T em b)) [
+          elim (get_set s.machines w i (begun root op) m (subst T em b)) [
             | inl z ↦ absurd (n z.0)
             | inr z ↦ z.1
           ])
@@ -173,7 +176,7 @@ module _ {V : Type 0} (same : V → V → Bool) (always : Bool) where
           let T : List (Machine Id V) → Type 0 = λ ms. slice_get ms w ≡ Some m in
           let U : Machine Id V → Type 0 = λ z. CallAlike order id_number (nodes s'.forest) z (p.calls w) in
           let W : Machine ℕ V → Type 0 = λ z. CallAlike order id_number (nodes s'.forest) (begun root op) z in
-          elim (either s.machines w w (begun root op) m (subst T em b)) [
+          elim (get_set s.machines w w (begun root op) m (subst T em b)) [
             | inl z ↦ subst U z.1 (subst W (sym (machine_here (there m b).0 (there m b).1)) (laws.begins order (nodes s'.forest) root 0 op a.root))
             | inr z ↦ absurd (z.0 refl)
           ])
@@ -182,12 +185,13 @@ module _ {V : Type 0} (same : V → V → Bool) (always : Bool) where
           absurd (fault_apart f (un (of_fault f) z))
 
     -- a call begins
-    pub plain_here : (q : Plain V) (i : ℕ) (m : Machine ℕ V) → (with_call q i m).calls i ≡ m
+    plain_here : (q : Plain V) (i : ℕ) (m : Machine ℕ V) → (with_call q i m).calls i ≡ m
     plain_here q i m = ap (λ b. cond b m (q.calls i)) (eqb_same i)
 
     plain_apart : (q : Plain V) (i j : ℕ) (m : Machine ℕ V) → j ≢ i → (with_call q i m).calls j ≡ q.calls j
     plain_apart q i j m n = ap (λ b. cond b m (q.calls j)) (ne_eqb j i n)
 
+    -- once a reading call has begun, the machine agrees with the plain state in which it begins
     pub enters : (s' : World V) (op : Point V) (r : Report V) → Agree s order p → Enters s w op r s' → Agree s' order (with_call p w (begun 0 op))
     enters s' op r a k =
         let P : World V → Type 0 = λ y. Agree y order (with_call p w (begun 0 op)) in
@@ -196,17 +200,18 @@ module _ {V : Type 0} (same : V → V → Bool) (always : Bool) where
         (λ m b.
         let U : Machine Id V → Type 0 = λ z. CallAlike order id_number (nodes s.forest) z ((with_call p w (begun 0 op)).calls w) in
         let W : Machine ℕ V → Type 0 = λ z. CallAlike order id_number (nodes s.forest) (begun root op) z in
-        elim (either s.machines w w (begun root op) m b) [
+        elim (get_set s.machines w w (begun root op) m b) [
           | inl z ↦ subst U z.1 (subst W (sym (plain_here p w (begun 0 op))) (laws.begins order (nodes s.forest) root 0 op a.root))
           | inr z ↦ absurd (z.0 refl)
         ])
         (λ i k m n ak am.
         let U : Machine ℕ V → Type 0 = λ z. InPlain order (nodes s.forest) k m z in
-        elim (either s.machines w i (begun root op) m am) [
+        elim (get_set s.machines w i (begun root op) m am) [
           | inl z ↦ absurd (n z.0)
           | inr z ↦ subst U (sym (plain_apart p w i (begun 0 op) n)) (a.calls i k m ak z.1)
         ]))
 
+    -- once a writing call has begun, with its places to make free, it agrees with that in which the call begins
     pub reserves : (s' : World V) (op : Point V) (r : Report V) → Agree s order p → Reserves s w op r s' → Agree s' order (with_call p w (begun 0 op))
     reserves s' op r a k =
         let P : World V → Type 0 = λ y. Agree y order (with_call p w (begun 0 op)) in
@@ -223,6 +228,7 @@ module _ {V : Type 0} (same : V → V → Bool) (always : Bool) where
       abbrev walked : Walked same always s.forest s.machines (record { who = w; noise = noise }) x.move s'.forest x.step.between
       walked = x.step.walked
 
+      -- the step is one of the tree's protocol
       pub moves : IsMoved id_number same always s.forest.version_max (Refuses s.forest) (nodes s.forest) s.machines m (record { who = w; noise = noise }) x.move (nodes s'.forest) x.step.between
       moves = walked.plays.moved m hm
 
@@ -244,6 +250,7 @@ module _ {V : Type 0} (same : V → V → Bool) (always : Bool) where
       abbrev went : Went V
       went = plain_step same s.forest.version_max q (unnamed noise) p.heap p.made
 
+      -- the plain run's step of the same call is the same by numbers
       pub moved_alike : MovedAlike order id_number (nodes s'.forest) moves.now x.move q went
       moved_alike = laws.steps (unnamed_seen noise.seen) w safe.sound.sound.settled.0 (nodes s.forest) p.heap (nodes s'.forest) s.machines m moves.now x.move noise.fail noise.answer order q p.made no_version protocol hm moves.step unrefused unskipped a.ordered a.heap a.made
           (a.calls w Walking m hk hm)
@@ -257,7 +264,7 @@ module _ {V : Type 0} (same : V → V → Bool) (always : Bool) where
       here_machine : (y : Machine Id V) → slice_get s'.machines w ≡ Some y → rested moves.now ≡ y
       here_machine y b =
           let P : List (Machine Id V) → Type 0 = λ ms. slice_get ms w ≡ Some y in
-          elim (either s.machines w w (rested moves.now) y (subst P machines_are b)) [
+          elim (get_set s.machines w w (rested moves.now) y (subst P machines_are b)) [
             | inl z ↦ z.1
             | inr z ↦ absurd (z.0 refl)
           ]
@@ -278,6 +285,7 @@ module _ {V : Type 0} (same : V → V → Bool) (always : Bool) where
           or_idle true = tt
           or_idle false = moved_alike.call
 
+      -- after a step of a call on the tree the machine agrees with the plain state after the same step
       pub walked_agrees : Agree s' now p'
       walked_agrees = exchanged s s' w order now p p' (if over_at (slice_get s'.machines w) then Idle else Walking) x.calls moved_alike.went.ordered root_now moved_alike.went.made moved_alike.went.heap
           (λ y b.
@@ -287,7 +295,7 @@ module _ {V : Type 0} (same : V → V → Bool) (always : Bool) where
           (λ i k y n ak am.
           let P : List (Machine Id V) → Type 0 = λ ms. slice_get ms i ≡ Some y in
           let U : Machine ℕ V → Type 0 = λ z. InPlain now (nodes s'.forest) k y z in
-          let was : slice_get s.machines i ≡ Some y = elim (either s.machines w i (rested moves.now) y (subst P machines_are am)) [
+          let was : slice_get s.machines i ≡ Some y = elim (get_set s.machines w i (rested moves.now) y (subst P machines_are am)) [
             | inl z ↦ absurd (n z.0)
             | inr z ↦ z.1
           ] in

@@ -48,6 +48,7 @@ module _ {V : Type 0} (limits : Limits) (charge limit : ℕ) (s : World V) (open
     once = λ m n c e f. (only_root m c e).0 ∙ sym (only_root n c f).0;
   }
 
+  -- an index as it opens agrees with the plain state in which the root alone was made
   pub opens_plain : Agree s (0 ∷ []) opened_plain
   opens_plain = record {
     ordered = ordered;

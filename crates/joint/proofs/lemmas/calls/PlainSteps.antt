@@ -1,9 +1,8 @@
 -- A step of the machine leaves it agreeing with the plain run.
-use Rattle.std.proofs.Common.{◌≡◌, ℕ, ◌<◌, ◌≤◌, Bool, true, false, List, [], ◌∷◌, ◌++◌, length, map, refl, sym, ◌∙◌, ap, subst, inl, inr, arith}
+use Rattle.std.proofs.Common.{◌≡◌, ℕ, Bool, true, false, List, [], ◌∷◌, ◌++◌, map, refl, sym, ◌∙◌, ap, subst, inl, inr}
 use Rattle.std.proofs.Math.ListN.{set}
 use Rattle.std.specs.Prelude.{Option, None, Some, slice_get}
 use Rattle.std.proofs.lemmas.List.{append-nil, append_assoc}
-use Rattle.std.proofs.lemmas.Option.{slice_get_cases, slice_get_within}
 use Rattle.crossbeam_epoch.specs.declared.fault.Fault.{Fault}
 use Rattle.crossbeam_epoch.specs.declared.world.report.Event.TheVariants as collector_event
 use Rattle.crossbeam_epoch.specs.declared.world.report.Op.TheVariants.{Secure}
@@ -40,25 +39,23 @@ use Rattle.joint.specs.nodes.View.{id_number}
 use Rattle.joint.specs.world.World.{Holds, IsStep, StepsUnless, finds_journal_full}
 use Rattle.joint.specs.engine.Engine.{World, engine_of, misuse, quiet, finds_none, EntersUnless, Reserves, BeginsOnTree, BeginsAt, GoesAt, Proceeds, Does}
 use Rattle.joint.proofs.lemmas.calls.Beside.{steps_unless_beside}
-use Rattle.joint.proofs.lemmas.engine.Collecting.{set_here}
+use Rattle.joint.proofs.lemmas.engine.Collecting.{get_beside}
 use Rattle.joint.proofs.lemmas.calls.PlainCalls.{fault_apart, collects, collected_agrees, secures, enters, reserves, moved_alike, walked_agrees}
 use Rattle.joint.proofs.lemmas.engine.PlainTells.{map_here, tells_alike}
+use Rattle.congee.proofs.Laws.{set_here}
 
 -- where no node is made the list of the made ones stays
-pub same_longer : (order : List ℕ) → Longer order order
+same_longer : (order : List ℕ) → Longer order order
 same_longer order = ([], sym (append-nil order))
 
 -- what is made in two steps comes behind what was made before both
-pub then_longer : (a b c : List ℕ) → Longer a b → Longer b c → Longer a c
+then_longer : (a b c : List ℕ) → Longer a b → Longer b c → Longer a c
 then_longer a b c x y = (x.0 ++ y.0, y.1 ∙ ap (λ z. z ++ y.0) x.1 ∙ append_assoc a x.0 y.0)
 
 module _ {V : Type 0} (same : V → V → Bool) (always : Bool) (laws : (f : Nodes V) → NumberLaws {C = Id} {V = V} id_number same always f.version_max (Refuses f)) where
   module _ (s s' : World V) (w : ℕ) (order : List ℕ) (p : Plain V) (holds : Holds same always s) (whole_agrees : Agree s order p) where
     abbrev e : World V
     e = engine_of s
-
-    abbrev e' : World V
-    e' = engine_of s'
 
     abbrev most : ℕ
     most = s.forest.version_max
@@ -71,12 +68,6 @@ module _ {V : Type 0} (same : V → V → Bool) (always : Bool) (laws : (f : Nod
 
     abbrev Goal : Option (TreeStep V) → Report V → Type 0
     Goal o r = FollowsStep same most o (engine_of s') r order p
-
-    machine_at : (k : InFlight V) → slice_get s.calls w ≡ Some k → (x : Machine Id V) × (slice_get s.machines w ≡ Some x)
-    machine_at k q = elim (slice_get_cases s.machines w).1 [
-      | inl x ↦ (x.0, x.2)
-      | inr x ↦ absurd (let l : w < length s.calls = slice_get_within s.calls w k q in let n : length s.machines ≡ length s.calls = holds.0.machines in let b : length s.machines ≤ w = x.0 in omega (arith, b, l, n))
-    ]
 
     -- what a call on the tree begins with
     abbrev start : Point V → Option (TreeStep V)
@@ -158,22 +149,22 @@ module _ {V : Type 0} (same : V → V → Bool) (always : Bool) (laws : (f : Nod
         subst P (sym x.report) (collects same always (engine_of s) law order p w (engine_of s') collector_event.Go op r a x)
     call_at (Some (Securing op)) noise r q un x =
         let P : Report V → Type 0 = λ z. Goal (go_of noise z.kind) z in
-        subst P (sym x.report) (secures same always (engine_of s) law order p w op q a (engine_of s') r x.turn.outcome un.0 x refl (λ m b. machine_at (Securing op) q))
+        subst P (sym x.report) (secures same always (engine_of s) law order p w op q a (engine_of s') r x.collector_report.outcome un.0 x refl (λ m b. get_beside s.machines s.calls w holds.0.machines (Securing op) q))
     call_at (Some (Reserving op)) noise r q un x =
         let P : Report V → Type 0 = λ z. Goal (go_of noise z.kind) z in
         let calls : x.between.calls ≡ set s.calls w (Securing op) = x.begins.call ∙ ap (λ (k : Option (InFlight V)). set s.calls w (securing_of k)) q in
         let here : slice_get x.between.calls w ≡ Some (Securing op) = ap (λ (ks : List (InFlight V)). slice_get ks w) calls ∙ set_here s.calls w (Securing op) (Reserving op) q in
         let T : List (Machine Id V) → Type 0 = λ ms. (n : Machine Id V) × (slice_get ms w ≡ Some n) in
-        let middle : Agree x.between order p = collected_agrees same always (engine_of s) law order p w x.between (collector_event.Begin (Secure 2)) x.begins.turn x.begins.collected a (Securing op) calls
+        let middle : Agree x.between order p = collected_agrees same always (engine_of s) law order p w x.between (collector_event.Begin (Secure 2)) x.begins.collector_report x.begins.collected a (Securing op) calls
         (λ i m n b. let R : List (Machine Id V) → Type 0 = λ ms. slice_get ms i ≡ Some m in subst R x.begins.machine b)
         (λ m b. let R : List (Machine Id V) → Type 0 = λ ms. slice_get ms w ≡ Some m in whole_agrees.calls w (Reserving op) m q (subst R x.begins.machine b)) in
-        subst P (sym x.goes.report) (secures same always x.between (laws x.between.forest) order p w op here middle (engine_of s') r x.goes.turn.outcome un.0 x.goes refl (λ m b. subst T (sym x.begins.machine) (machine_at (Reserving op) q)))
+        subst P (sym x.goes.report) (secures same always x.between (laws x.between.forest) order p w op here middle (engine_of s') r x.goes.collector_report.outcome un.0 x.goes refl (λ m b. subst T (sym x.begins.machine) (get_beside s.machines s.calls w holds.0.machines (Reserving op) q)))
     call_at (Some Walking) noise r q un x =
-        let m = machine_at Walking q in
+        let m = get_beside s.machines s.calls w holds.0.machines Walking q in
         let P : Report V → Type 0 = λ z. Goal (go_of noise z.kind) z in
         let went = moved_alike same always (engine_of s) law order p w (engine_of s') noise r m.0 q m.1 holds.0.safe a x un in
         subst P (sym x.report) (
-          (ap (λ z. z.decided) (sym went.went.turn.report), ap (λ z. told z.outcome) (sym went.went.turn.report)),
+          (ap (λ z. z.decided) (sym went.went.next_phase.report), ap (λ z. told z.outcome) (sym went.went.next_phase.report)),
           (went.went.now, went.went.longer, walked_agrees same always (engine_of s) law order p w (engine_of s') noise r m.0 q m.1 holds.0.safe a x un),
         )
 
@@ -208,7 +199,7 @@ module _ {V : Type 0} (same : V → V → Bool) (always : Bool) (laws : (f : Nod
     kept_too None r k x = x
     kept_too (Some t) r k x = x
 
-    pub unless_at : (event : Event V) (b : Bool) (r : Report V) → IsUnhindered r → StepsUnless same always b s (record { worker = w; event = event }) r s' → FollowsStep same most (step_at w event r.kind) s' r order p
+    unless_at : (event : Event V) (b : Bool) (r : Report V) → IsUnhindered r → StepsUnless same always b s (record { worker = w; event = event }) r s' → FollowsStep same most (step_at w event r.kind) s' r order p
     unless_at event true r un x =
         let z : JournalFull ≡ Exhausted = un.0 JournalFull (ap (λ y. y.outcome) x.report) in
         absurd cc
@@ -218,7 +209,7 @@ module _ {V : Type 0} (same : V → V → Bool) (always : Bool) (laws : (f : Nod
         subst P (sym x.report) (kept_too (step_at w event x.told.kind) x.told _ (again (step_at w event x.told.kind) x.told (does_at event (misuse (engine_of s) w event) x.told (subst Q x.report un) x.engine.does)))
 
   -- a step of the machine
-  pub step_follows : (s s' : World V) (step : Step V) (r : Report V) (order : List ℕ) (p : Plain V) → Holds same always s → IsStep same always s step r s' → IsUnhindered r → Agree s order p
+  step_follows : (s s' : World V) (step : Step V) (r : Report V) (order : List ℕ) (p : Plain V) → Holds same always s → IsStep same always s step r s' → IsUnhindered r → Agree s order p
       → FollowsStep same s.forest.version_max (tree_step step r) s' r order p
   step_follows s s' step r order p holds x un a = unless_at s s' step.worker order p holds a step.event (finds_journal_full s step.worker step.event) r un x.does
 
@@ -244,7 +235,7 @@ module _ {V : Type 0} (same : V → V → Bool) (always : Bool) (laws : (f : Nod
       (λ order' p' a'. all_follow top t.after ts order' p' (beside.versions ∙ e) x.0.holds x.1 un.1 a') in
       record { told = f.0; now = f.1.0; longer = f.1.1; agree = f.1.2 }
 
-  -- a run
+  -- a run that refuses nothing tells on the tree what the plain run tells, and leaves both agreeing
   pub run_follows : (s s' : World V) (steps : List (Step V)) (reports : List (Report V)) (order : List ℕ) (p : Plain V) → Holds same always s → IsRun same always s steps reports s' → AreUnrefused reports → Agree s order p
       → FollowsRun same s.forest.version_max steps reports s' order p
   run_follows s s' steps reports order p holds run un a =

@@ -20,7 +20,7 @@ use Rattle.joint.proofs.lemmas.calls.Scans.{scans_hold, empty_scans_hold}
 
 module _ {V : Type 0} (same : V → V → Bool) (always : Bool) where
   -- what always holds does after the first of some steps
-  pub holds_on : (s : World V) (before rest : List (Taken V)) → Holds same always s → AllHold same always (before ++ rest) → Holds same always (after_all s before)
+  holds_on : (s : World V) (before rest : List (Taken V)) → Holds same always s → AllHold same always (before ++ rest) → Holds same always (after_all s before)
   holds_on s [] rest h all = h
   holds_on s (t ∷ ts) rest h all = holds_on t.after ts rest all.0 all.1
 
@@ -50,6 +50,7 @@ module _ {V : Type 0} (same : V → V → Bool) (always : Bool) where
       subst Q (sym e) (back (after_all s before) who rounds (holds_on s before (steps_in rounds) h (all_hold same always s (before ++ steps_in rounds) all)) quiet are rest enough)
 
   module _ (limits : Limits) (s s' : World V) (steps : List (Step V)) (reports : List (Report V)) (opening : IsNew limits s) (h : Holds same always s) (run : IsRun same always s steps reports s') where
+    -- a run from the opening keeps all that is promised, where it keeps the promises that are given here
     pub keeps : Back bags_left → Back (λ x rounds. length (waiting_nodes x)) → AllSpare s run.taken → AllEndAlone s run.taken → (AreUnrefused reports → AreTold same s.forest.version_max opened_plain (projection steps reports) (answers steps reports))
         → KeepsPromises same always limits steps reports s'
     keeps bags nodes spares alone told =

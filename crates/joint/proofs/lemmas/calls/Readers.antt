@@ -13,7 +13,6 @@ use Rattle.crossbeam_epoch.specs.declared.world.report.Outcome.TheVariants as co
 use Rattle.crossbeam_epoch.specs.World.Machine.{State, place}
 use Rattle.crossbeam_epoch.specs.World.Progress.{Begins, GoesOn, refusal}
 use Rattle.crossbeam_epoch.specs.World.Steps.{begin_fault}
-use Rattle.judge.specs.declared.journal.Reply.{Reply}
 use Rattle.congee.specs.declared.forms.child.Child.{Child}
 use Rattle.congee.specs.declared.forms.child.Child.TheVariants as child
 use Rattle.congee.specs.declared.forms.base_node.NodeType.{NodeType}
@@ -27,19 +26,19 @@ use Rattle.congee.specs.declared.protocol.phase.Kind.{Kind}
 use Rattle.congee.specs.declared.protocol.phase.Kind.TheVariants as kind
 use Rattle.congee.specs.declared.protocol.phase.Above.{Above as Over}
 use Rattle.congee.specs.declared.protocol.phase.Phase.{Phase}
-use Rattle.congee.specs.declared.protocol.phase.Phase.TheVariants.{New, Version, Read, Check, CheckUncopied, CheckMiss, Sweep, Ended}
+use Rattle.congee.specs.declared.protocol.phase.Phase.TheVariants.{New, Version, Read, Check, CheckUncopied, CheckMiss, Scan, Ended}
 use Rattle.congee.specs.declared.protocol.phase.Site.{Site}
 use Rattle.congee.specs.declared.protocol.store.Reading.{Reading}
 use Rattle.congee.specs.declared.protocol.store.Reading.TheVariants.{Differs, Fits, Uncopied}
 use Rattle.congee.specs.declared.protocol.store.Refusal.{Refusal as Cause}
 use Rattle.congee.specs.declared.protocol.store.Refusal.TheVariants as cause
 use Rattle.congee.specs.declared.protocol.store.Stamp.{Stamp}
-use Rattle.congee.specs.declared.protocol.turn.NextPhase.{NextPhase}
+use Rattle.congee.specs.declared.protocol.next_phase.NextPhase.{NextPhase}
 use Rattle.congee.specs.Heap.{Node}
 use Rattle.congee.specs.Keys.{key_bytes}
 use Rattle.congee.specs.protocol.Causes.{Causes, IsCause}
 use Rattle.congee.specs.protocol.Play.{IsMoved, begun}
-use Rattle.congee.specs.protocol.Steps.{PhaseStepped, IsIf, IsChecked, after_version, after_read, after_miss, again, answered, refused}
+use Rattle.congee.specs.protocol.Steps.{PhaseStepped, IsIf, IsChecked, after_version, after_read, after_miss, again, refused}
 use Rattle.congee.specs.protocol.State.{is_done}
 use Rattle.joint.specs.declared.engine.in_flight.InFlight.{InFlight}
 use Rattle.joint.specs.declared.engine.in_flight.InFlight.TheVariants.{Idle, Collecting, Reserving, Securing, Walking}
@@ -56,21 +55,22 @@ use Rattle.joint.specs.declared.steps.Outcome.TheVariants.{Running, Asks, Found,
 use Rattle.joint.specs.declared.steps.Report.{Report}
 use Rattle.joint.specs.calls.Ends.{RefusesReader, AllRefuseReader, ReadersRefused, is_reading}
 use Rattle.joint.specs.nodes.Nodes.{nodes, Refuses}
-use Rattle.joint.specs.engine.Intact.{IsAt, is_reserving, call_after, over_at, rested, resting, root}
+use Rattle.joint.specs.engine.Intact.{IsAt, is_reserving, call_after, over_at, rested, resting}
+use Rattle.joint.specs.Names.{root}
 use Rattle.joint.specs.engine.Laws.{ProgressLaws}
 use Rattle.joint.specs.Refusals.{of_fault, of_tree}
-use Rattle.joint.specs.Reports.{collected, told}
+use Rattle.joint.specs.Reports.{collected, told, is_in_flight}
 use Rattle.joint.specs.calls.Runs.{Taken, AreTaken}
 use Rattle.joint.specs.engine.Surveys.{TellsEmpty}
 use Rattle.joint.specs.nodes.View.{id_number}
 use Rattle.joint.specs.world.World.{Holds, IsStep, StepsUnless, finds_journal_full}
-use Rattle.joint.specs.engine.Engine.{World, EngineHolds, IsOfCall, Collects, Does, EntersUnless, Enters, GoesAt, Walks, engine_of, finds_none, is_busy, is_in_flight, misuse, place_of}
+use Rattle.joint.specs.engine.Engine.{World, EngineHolds, IsOfCall, Collects, Does, EntersUnless, Enters, GoesAt, Walks, engine_of, finds_none, is_busy, misuse, place_of}
 use Rattle.joint.proofs.lemmas.engine.OneCallChanges.{Apart, one_set, step_apart}
-use Rattle.joint.proofs.lemmas.engine.Collecting.{get_inside}
-use Rattle.joint.proofs.lemmas.calls.Ends.{and_left}
-use Rattle.joint.proofs.lemmas.engine.Entering.{begin_idle, begin_within}
+use Rattle.joint.proofs.lemmas.engine.Entering.{begin_within, begins_idle}
 use Rattle.joint.proofs.lemmas.world.Flights.{set_at}
 use Rattle.joint.proofs.lemmas.engine.ScanEnds.{cleared_is}
+use Rattle.joint.proofs.lemmas.engine.Collecting.{get_beside}
+use Rattle.congee.proofs.Laws.{both_true}
 
 -- the phases of a call that only reads
 abbrev pub Reads : {V : Type 0} → Phase Id V → Type 0
@@ -80,7 +80,7 @@ Reads (Read above at) = Unit {0}
 Reads (Check s c) = Unit {0}
 Reads (CheckUncopied at) = Unit {0}
 Reads (CheckMiss p at common byte) = Unit {0}
-Reads (Sweep s) = Unit {0}
+Reads (Scan s) = Unit {0}
 Reads Ended = Unit {0}
 Reads _ = ⊥
 
@@ -102,9 +102,6 @@ version_reads V r above n (Some v) = tt
 module _ {V : Type 0} where
   at_again : (r : Id) (t : NextPhase Id V) → t ≡ again r → Reads t.phase
   at_again r t e = let P : NextPhase Id V → Type 0 = λ y. Reads y.phase in subst P (sym e) tt
-
-  at_answer : (r : Reply V) (t : NextPhase Id V) → t ≡ answered r → Reads t.phase
-  at_answer r t e = let P : NextPhase Id V → Type 0 = λ y. Reads y.phase in subst P (sym e) tt
 
   read_reads : (r : Id) (above : Option (Over Id)) (at : Stamp Id) (x : Reading Id V) → Reads {V = V} (after_read r above at x).phase
   read_reads r None at (Differs common byte) = tt
@@ -131,14 +128,14 @@ module _ {V : Type 0} where
   phase_reads same always most why r key fail answer new (Check s c) h new' t h' u x = if_reads _ r (IsChecked {C = Id} {V = V} always same kind.Get new s c) t (checked_reads same always new s c t) x.2
   phase_reads same always most why r key fail answer new (CheckUncopied at) h new' t h' u x = if_reads _ r (λ (y : NextPhase Id V). y ≡ refused cause.Count) t (λ e. let P : NextPhase Id V → Type 0 = λ y. Reads y.phase in subst P (sym e) tt) x.2
   phase_reads same always most why r key fail answer new (CheckMiss p at common byte) h new' t h' u x = if_reads _ r (λ (y : NextPhase Id V). y ≡ after_miss kind.Get p at common byte) t (λ e. let P : NextPhase Id V → Type 0 = λ y. Reads y.phase in subst P (sym e) tt) x.2
-  phase_reads same always most why r key fail answer new (Sweep s) h new' t h' u x = let P : NextPhase Id V → Type 0 = λ y. Reads y.phase in subst P (sym x.2.3) tt
+  phase_reads same always most why r key fail answer new (Scan s) h new' t h' u x = let P : NextPhase Id V → Type 0 = λ y. Reads y.phase in subst P (sym x.2.3) tt
   phase_reads same always most why r key fail answer new Ended h new' t h' u x = let P : NextPhase Id V → Type 0 = λ y. Reads y.phase in subst P (sym x.2) tt
   phase_reads same always most why r key fail answer new _ h new' t h' u x = absurd u
 
   cause_count : (always : Bool) (most : ℕ) (why : NodeType → Cause → Type 0) (p : Phase Id V) (e : Cause) → Reads p → Causes why most always p e → e ≡ cause.Count
   cause_count always most why (Check s c) e u x = x.count
   cause_count always most why (CheckUncopied at) e u x = x.count
-  cause_count always most why (Sweep s) e u x = x.count
+  cause_count always most why (Scan s) e u x = x.count
   cause_count always most why New e u x = absurd x
   cause_count always most why (Version above n) e u x = absurd x
   cause_count always most why (Read above at) e u x = absurd x
@@ -189,7 +186,7 @@ unready_is true true f u e = absurd (cc e)
 unready_is true false f u e = e
 unready_is false busy f u e = absurd (cc e)
 
-module _ {V : Type 0} (same : V → V → Bool) (always : Bool) (turns : ProgressLaws (Slot V) (Unit {0})) where
+module _ {V : Type 0} (same : V → V → Bool) (always : Bool) (progress : ProgressLaws (Slot V) (Unit {0})) where
   -- one step, but for the journal
   module _ (s s' : World V) (w : ℕ) (holds : EngineHolds same always s) where
     -- what is told of a reading call, and that it stays one while it is in flight
@@ -202,23 +199,20 @@ module _ {V : Type 0} (same : V → V → Bool) (always : Bool) (turns : Progres
     placed : (k : InFlight V) → w < length s.calls → s'.calls ≡ set s.calls w k → slice_get s'.calls w ≡ Some k
     placed k l e = ap (λ xs. slice_get xs w) e ∙ set_at s.calls w k l
 
-    pins : (event : _) (r : Report V) → w < length s.calls → ((f : Fault) (x : Collects same always s w event (Collecting collector_op.Pin) r s') → x.turn.outcome ≡ collector_outcome.Refused f → ⊥) → Collects same always s w event (Collecting collector_op.Pin) r s' → Goes r
+    pins : (event : _) (r : Report V) → w < length s.calls → ((f : Fault) (x : Collects same always s w event (Collecting collector_op.Pin) r s') → x.collector_report.outcome ≡ collector_outcome.Refused f → ⊥) → Collects same always s w event (Collecting collector_op.Pin) r s' → Goes r
     pins event r l n x = (
-      (λ e q. absurd (not_refused {V = V} x.turn.outcome e (λ f. n f x) (sym (ap (λ y. y.outcome) x.report) ∙ q))),
+      (λ e q. absurd (not_refused {V = V} x.collector_report.outcome e (λ f. n f x) (sym (ap (λ y. y.outcome) x.report) ∙ q))),
       (λ b.
-          let at : slice_get s'.calls w ≡ Some (call_after x.turn.outcome (Collecting collector_op.Pin)) = placed _ l x.calls in
+          let at : slice_get s'.calls w ≡ Some (call_after x.collector_report.outcome (Collecting collector_op.Pin)) = placed _ l x.calls in
           let P : Option (InFlight V) → Type 0 = λ k. IsReader k (slice_get s'.machines w) in
-          subst P (sym at) (pin_on x.turn.outcome (sym (ap is_busy at) ∙ b) (slice_get s'.machines w))),
+          subst P (sym at) (pin_on x.collector_report.outcome (sym (ap is_busy at) ∙ b) (slice_get s'.machines w))),
     )
-
-    machine_at : (k : InFlight V) → slice_get s.calls w ≡ Some k → (m : Machine Id V) × (slice_get s.machines w ≡ Some m)
-    machine_at k e = get_inside s.machines w (within_machines (slice_get_within s.calls w k e))
 
     pin_goes : (noise : Noise Id V) (r : Report V) → slice_get s.calls w ≡ Some (Collecting collector_op.Pin) → Collects same always s w collector_event.Go (Collecting collector_op.Pin) r s' → Goes r
     pin_goes noise r e x =
-        let m : (m : Machine Id V) × (slice_get s.machines w ≡ Some m) = machine_at _ e in
+        let m : (m : Machine Id V) × (slice_get s.machines w ≡ Some m) = get_beside s.machines s.calls w holds.0.machines _ e in
         let at : IsAt (Collecting collector_op.Pin) (place s.forest.collector w) m.0 = holds.0.each w (Collecting collector_op.Pin) m.0 e m.1 in
-        pins collector_event.Go r (slice_get_within s.calls w _ e) (λ f y q. goes_refused s.forest.collector _ w y.turn.outcome f (turns.goes_on s.forest.collector w collector_op.Pin y.turn holds.0.safe.sound.sound.orderly at.0 y.step.report) q) x
+        pins collector_event.Go r (slice_get_within s.calls w _ e) (λ f y q. goes_refused s.forest.collector _ w y.collector_report.outcome f (progress.goes_on s.forest.collector w collector_op.Pin y.collector_report holds.0.safe.sound.sound.orderly at.0 y.step.report) q) x
 
     walks : (noise : Noise Id V) (r : Report V) (m : Machine Id V) → slice_get s.calls w ≡ Some Walking → slice_get s.machines w ≡ Some m → (m.kind ≡ kind.Get) × Reads m.phase → Walks same always s w noise r s' → Goes r
     walks noise r m e at u x =
@@ -248,7 +242,7 @@ module _ {V : Type 0} (same : V → V → Bool) (always : Bool) (turns : Progres
     goes (Some (Securing p)) o noise r e at u x = absurd u
     goes (Some (Collecting _)) o noise r e at u x = absurd u
 
-    pub reader_goes : (noise : Noise Id V) (o : Option Fault) (r : Report V) → misuse s w (Go noise) ≡ o → o ≡ None → ReaderAt s w → Does same always s w (Go noise) o r s' → Goes r
+    reader_goes : (noise : Noise Id V) (o : Option Fault) (r : Report V) → misuse s w (Go noise) ≡ o → o ≡ None → ReaderAt s w → Does same always s w (Go noise) o r s' → Goes r
     reader_goes noise None r e n u x = goes (slice_get s.calls w) (slice_get s.machines w) noise r refl refl u x
     reader_goes noise (Some f) r e n u x = absurd (cc n)
 
@@ -261,15 +255,7 @@ module _ {V : Type 0} (same : V → V → Bool) (always : Bool) (turns : Progres
       within = begin_within same always s s' w holds o none
 
       idle : slice_get s.calls w ≡ Some Idle
-      idle = idle_at (slice_get s.calls w) (get_inside s.calls w within) (begin_idle same always s s' w holds o none)
-        where
-          idle_at : (k : Option (InFlight V)) → (x : InFlight V) × (k ≡ Some x) → is_busy k ≡ false → k ≡ Some Idle
-          idle_at None x e = absurd (let q : None ≡ Some x.0 = x.1 in cc)
-          idle_at (Some Idle) x e = refl
-          idle_at (Some (Collecting c)) x e = absurd (cc e)
-          idle_at (Some (Reserving p)) x e = absurd (cc e)
-          idle_at (Some (Securing p)) x e = absurd (cc e)
-          idle_at (Some Walking) x e = absurd (cc e)
+      idle = begins_idle same always s s' w holds o none
 
       enters : (p : Point V) (r : Report V) → (begun root p).kind ≡ kind.Get → Reads (begun root p).phase → Enters s w p r s' → Begun r
       enters p r k u x = (
@@ -299,12 +285,12 @@ module _ {V : Type 0} (same : V → V → Bool) (always : Bool) (turns : Progres
 
     reader_begins : (o : Op V) (r : Report V) → misuse s w (Begin o) ≡ None → is_reading o ≡ true → Does same always s w (Begin o) None r s' → Begun r
     reader_begins op.Pin r n q x =
-        let m : (m : Machine Id V) × (slice_get s.machines w ≡ Some m) = machine_at Idle (idle op.Pin n) in
+        let m : (m : Machine Id V) × (slice_get s.machines w ≡ Some m) = get_beside s.machines s.calls w holds.0.machines Idle (idle op.Pin n) in
         let at : IsAt Idle (place s.forest.collector w) m.0 = holds.0.each w Idle m.0 (idle op.Pin n) m.1 in
         let f : refusal s.forest.collector w collector_op.Pin ≡ None = unready_is (place_of s w).registered (is_busy (slice_get s.calls w)) _ (begin_fault collector_op.Pin (place_of s w)) n in
-        let g = pins (collector_event.Begin collector_op.Pin) r (within op.Pin n) (λ e y z. begins_refused s.forest.collector _ w y.turn.outcome e f (turns.begins s.forest.collector w collector_op.Pin y.turn at.0 y.step.report) z) x in (
-          (λ e z. not_refused {V = V} x.turn.outcome e (λ b y. begins_refused s.forest.collector _ w x.turn.outcome b f (turns.begins s.forest.collector w collector_op.Pin x.turn at.0 x.step.report) y) (sym (ap (λ y. y.outcome) x.report) ∙ z)),
-          (λ b. g.1 (busy_after x.turn.outcome (placed _ (within op.Pin n) x.calls) (sym (ap (λ y. is_in_flight y.outcome) x.report) ∙ b))),
+        let g = pins (collector_event.Begin collector_op.Pin) r (within op.Pin n) (λ e y z. begins_refused s.forest.collector _ w y.collector_report.outcome e f (progress.begins s.forest.collector w collector_op.Pin y.collector_report at.0 y.step.report) z) x in (
+          (λ e z. not_refused {V = V} x.collector_report.outcome e (λ b y. begins_refused s.forest.collector _ w x.collector_report.outcome b f (progress.begins s.forest.collector w collector_op.Pin x.collector_report at.0 x.step.report) y) (sym (ap (λ y. y.outcome) x.report) ∙ z)),
+          (λ b. g.1 (busy_after x.collector_report.outcome (placed _ (within op.Pin n) x.calls) (sym (ap (λ y. is_in_flight y.outcome) x.report) ∙ b))),
         )
       where
         busy_after : (o : CollectorOutcome) → slice_get s'.calls w ≡ Some (call_after o (Collecting collector_op.Pin)) → is_in_flight {V = V} (collected o) ≡ true → is_busy (slice_get s'.calls w) ≡ true
@@ -381,7 +367,7 @@ module _ {V : Type 0} (same : V → V → Bool) (always : Bool) (turns : Progres
       by : (event : Event V) → finds_journal_full s w event ≡ true → ⊥
       by Register e = false≢true e
       by (Begin op) e = false≢true e
-      by (Go noise) e = unreserving (slice_get s.calls w) (slice_get s.machines w) u (and_left _ _ e)
+      by (Go noise) e = unreserving (slice_get s.calls w) (slice_get s.machines w) u (both_true _ _ e).0
     own false g u x =
         let y = own_by t.step.event (misuse s w t.step.event) x.told refl u x.engine.does in (
           (λ e c f q. elim (y.0 c f (sym (ap (λ z. z.outcome) x.report) ∙ q)) [
@@ -441,6 +427,7 @@ module _ {V : Type 0} (same : V → V → Bool) (always : Bool) (turns : Progres
   all_refuse i s [] h x u = tt
   all_refuse i s (t ∷ ts) h x u = let k = kept s t h x.0 i u in (k.0, λ b. all_refuse i t.after ts x.0.holds x.1 (k.1 b))
 
+  -- in a run each reading call is refused for misuse or as Count alone, to its end
   pub readers : (s : World V) (ts : List (Taken V)) → Holds same always s → AreTaken same always s ts → ReadersRefused s ts
   readers s [] h x = tt
   readers s (t ∷ ts) h x = (

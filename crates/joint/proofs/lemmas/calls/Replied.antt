@@ -40,19 +40,19 @@ module _ {V : Type 0} (at : ℕ → Option V) where
       let ne : q ≢ n = omega (arith, l) in
       get-set_at_apart (pairs_below at n) n (at n) q ne ∙ none_below n q (omega (arith, l))
 
--- the pairs that stand in a tree
-pub stand : {V : Type 0} (h : ℕ → Node V) → IsMapOf h (the_pairs h)
+-- the pairs of a tree, as a value, are those that stand in it
+pub map_stands : {V : Type 0} (h : ℕ → Node V) → IsMapOf h (the_pairs h)
 unfolding the_pairs
-stand h = record {
+map_stands h = record {
   at = λ k l. get_below (λ x. value_at h (key_bytes x)) (2 ^ 64) k l;
   none_beyond = λ k l. none_below (λ x. value_at h (key_bytes x)) (2 ^ 64) k l;
 }
 
--- and no others
+-- and there are no others
 pub one_stands : {V : Type 0} (h : ℕ → Node V) (m : Pairs V) → IsMapOf h m → m ≡ the_pairs h
 one_stands h m x = same_pairs m (the_pairs h) (λ q. elim (cases_lt q (2 ^ 64)) [
-  | inl l ↦ x.at q l ∙ sym ((stand h).at q l)
-  | inr l ↦ x.none_beyond q l ∙ sym ((stand h).none_beyond q l)
+  | inl l ↦ x.at q l ∙ sym ((map_stands h).at q l)
+  | inr l ↦ x.none_beyond q l ∙ sym ((map_stands h).none_beyond q l)
 ])
 
 -- a call whose reply and next map are the map's answer has ended as the map says
@@ -93,6 +93,7 @@ module _ {V : Type 0} (same : V → V → Bool) (fs : Flights V) (m : Pairs V) (
   scan_keeps who (Registered n) is x = absurd (cc is)
   scan_keeps who (Refused e) is x = absurd (cc is)
 
+  -- a whole call that ended with a reply leaves the other calls in flight
   pub replied_keeps : (who : ℕ) (o : Op V) (told : Report V) → IsSome (reply_in told.outcome) → CallPlays same fs m who o (Some told) s → AreInFlight s fs
   replied_keeps who (op.Get k) t is x = key_keeps who (point.Get k) t.outcome is x
   replied_keeps who (op.Insert k v) t is x = key_keeps who (point.Insert k v) t.outcome is x

@@ -1,5 +1,5 @@
 -- Rounds of one worker are rounds of the collector, and what these leave is left in the bags of other workers.
-use Rattle.std.proofs.Common.{◌≡◌, ◌≢◌, ◌⊎◌, ◌+◌, ◌<◌, ◌≤◌, ◌&&◌, ℕ, suc, arith, Bool, true, false, List, [], ◌∷◌, ◌++◌, length, refl, sym, ◌∙◌, ap, subst, inl, inr}
+use Rattle.std.proofs.Common.{◌≡◌, ◌≢◌, ◌⊎◌, ◌+◌, ◌<◌, ◌≤◌, ◌&&◌, ℕ, suc, arith, Bool, true, false, List, [], ◌∷◌, ◌++◌, length, refl, sym, ◌∙◌, ap, subst, inl, inr, zero, take}
 use Rattle.std.specs.Prelude.{Option, None, Some, slice_get, slice_set, slice_index_or, if◌then◌else◌}
 use Rattle.std.specs.Int.{div_ceil}
 use Rattle.std.specs.List.{Contains, sum_by}
@@ -35,7 +35,7 @@ use Rattle.congee.specs.declared.protocol.machine.Machine.{Machine}
 use Rattle.congee.specs.declared.protocol.machine.Noise.{Noise}
 use Rattle.congee.specs.declared.protocol.phase.Phase.{Phase}
 use Rattle.congee.specs.declared.protocol.phase.Phase.TheVariants.{Ended}
-use Rattle.congee.specs.Heap.{Node, Stands}
+use Rattle.congee.specs.Heap.{Stands}
 use Rattle.congee.specs.protocol.Handing.{is_waiting}
 use Rattle.congee.specs.protocol.Holdings.{MadeBy, TakenBy}
 use Rattle.joint.specs.declared.engine.in_flight.InFlight.{InFlight}
@@ -65,17 +65,19 @@ use Rattle.joint.specs.NameLemmas.{number_named}
 use Rattle.joint.specs.Names.{number, named}
 use Rattle.joint.specs.Refusals.{of_fault}
 use Rattle.joint.specs.Reports.{target, collected}
-use Rattle.joint.specs.calls.Rounds.{IsQuiet, GoesToEnd, IsWhole, Round, IsRound, AreRounds, steps_in, bags_left, rounds_wanted, IsLeft, CameBack}
+use Rattle.joint.specs.calls.Rounds.{IsQuiet, GoesToEnd, IsWholeCall, Round, IsRound, AreRounds, steps_in, bags_left, rounds_wanted, IsLeft, CameBack}
 use Rattle.joint.specs.calls.Runs.{Taken, AreTaken, IsRun, after_all}
 use Rattle.joint.specs.nodes.View.{id_number}
 use Rattle.joint.specs.world.Whereabouts.{IsInTree, IsSomewhere}
 use Rattle.joint.specs.world.World.{Holds, IsStep, TakesStep, StepsUnless}
 use Rattle.joint.specs.engine.Engine.{World, engine_of, place_of, is_busy, interruption, unready, misuse, Proceeds, Does, GoesAt, BeginsAt, Collects}
 use Rattle.joint.proofs.lemmas.world.Bags.{jobs_waiting}
-use Rattle.joint.proofs.lemmas.engine.Collecting.{set_here, get_inside}
+use Rattle.joint.proofs.lemmas.engine.Collecting.{get_inside}
 use Rattle.joint.proofs.lemmas.engine.Filing.{is_name_same}
 use Rattle.joint.proofs.lemmas.engine.HandOver.{held_place}
-use Rattle.joint.proofs.lemmas.world.Whereabouts.{somewhere}
+use Rattle.joint.proofs.lemmas.world.Whereabouts.{node_somewhere}
+use Rattle.joint.proofs.lemmas.engine.SoundCells.{retired_waits}
+use Rattle.congee.proofs.Laws.{set_here}
 
 -- what the collector's laws say of whole calls and of rounds
 pub record RoundLaws {T : Type 0} (J : Type 0) (names : T → List Name) : Type 0 where
@@ -115,13 +117,22 @@ of_registered true x e = refl
 of_registered false x e = absurd (cc e)
 
 module _ {V : Type 0} (same : V → V → Bool) (always : Bool) where
+  -- steps one after another are those up to any point, and those from there on
   pub split : (s : World V) (a b : List (Taken V)) → AreTaken same always s (a ++ b) → AreTaken same always s a × AreTaken same always (after_all s a) b
   split s [] b x = (tt, x)
   split s (t ∷ a) b x = let y = split t.after a b x.1 in ((x.0, y.0), y.1)
 
+  -- after two lists of steps the state is the one after the second from that after the first
   pub after_both : (s : World V) (a b : List (Taken V)) → after_all s (a ++ b) ≡ after_all (after_all s a) b
   after_both s [] b = refl
   after_both s (t ∷ a) b = after_both t.after a b
+
+  -- the first of some steps are taken too
+  pub taken_front : (s : World V) (n : ℕ) (ts : List (Taken V)) → AreTaken same always s ts → AreTaken same always s (take n ts)
+  taken_front s zero [] x = tt
+  taken_front s zero (t ∷ ts) x = tt
+  taken_front s (suc n) [] x = tt
+  taken_front s (suc n) (t ∷ ts) x = (x.0, taken_front t.after n ts x.1)
 
   still_holds : (s : World V) (a : List (Taken V)) → Holds same always s → AreTaken same always s a → Holds same always (after_all s a)
   still_holds s [] h x = h
@@ -129,11 +140,11 @@ module _ {V : Type 0} (same : V → V → Bool) (always : Bool) where
 
   -- a step of a call on the collector
   pub record CallStep (s : World V) (who : ℕ) (event : CollectorEvent) (k : InFlight V) (o : Outcome V) (s' : World V) : Type 0 where
-    pub turn : Collection
-    pub step : Collected same always s.forest s.machines who event turn s'.forest
+    pub collector_report : Collection
+    pub step : Collected same always s.forest s.machines who event collector_report s'.forest
     pub machines : s'.machines ≡ s.machines
-    pub calls : s'.calls ≡ slice_set s.calls who (call_after turn.outcome k)
-    pub outcome : o ≡ collected turn.outcome
+    pub calls : s'.calls ≡ slice_set s.calls who (call_after collector_report.outcome k)
+    pub outcome : o ≡ collected collector_report.outcome
     pub inside : who < length s.calls
 
   by_misuse : (s s' : World V) (who : ℕ) (event : Event V) (x : Option Fault) (told : Report V) → Does same always s who event x told s' → Unrefused told.outcome → (x ≡ None) × Proceeds same always s who event told s'
@@ -141,7 +152,7 @@ module _ {V : Type 0} (same : V → V → Bool) (always : Bool) where
   by_misuse s s' who event (Some f) told d u = absurd (not_refused told.outcome u (of_fault f) (ap (λ (r : Report V). r.outcome) d.0))
 
   as_step : (s s' : World V) (who : ℕ) (event : CollectorEvent) (k : InFlight V) (told : Report V) (o : Outcome V) → told.outcome ≡ o → who < length s.calls → Collects same always (engine_of s) who event k told (engine_of s') → CallStep s who event k o s'
-  as_step s s' who event k told o e inside c = record { turn = c.turn; step = c.step; machines = c.machines; calls = c.calls; outcome = sym e ∙ ap (λ (r : Report V). r.outcome) c.report; inside = inside }
+  as_step s s' who event k told o e inside c = record { collector_report = c.collector_report; step = c.step; machines = c.machines; calls = c.calls; outcome = sym e ∙ ap (λ (r : Report V). r.outcome) c.report; inside = inside }
 
   begins : (s : World V) (t : Taken V) (who : ℕ) (o : Op V) (x : CollectorOp) → Holds same always s → target o ≡ target.Collector x → IsStep same always s t.step t.report t.after → t.step ≡ record { worker = who; event = Begin o } → Unrefused t.report.outcome
       → CallStep s who (collector_event.Begin x) (Collecting x) t.report.outcome t.after
@@ -181,27 +192,27 @@ module _ {V : Type 0} (same : V → V → Bool) (always : Bool) where
         → AreTaken same always now ts → GoesToEnd who o ts
         → collector.Finishes c0 who x (after_all now ts).forest.collector × ((after_all now ts).machines ≡ s.machines) × ((after_all now ts).calls ≡ slice_set s.calls who Idle)
     to_end c0 who x [] s now n newest event o g c are end =
-        let over : c.turn.outcome ≡ collector_outcome.Done = was_done {V = V} c.turn.outcome (sym c.outcome ∙ end) in
-        let ended = laws.ends c0 s.forest.collector now.forest.collector who x n (suc n) newest event c.turn (omega arith) g c.step.report c.step.state (λ r. absurd (cc (over, r))) in (
-          record { most = suc n; reports = ended.0; newest = c.turn; call = ended.1; done = over },
+        let over : c.collector_report.outcome ≡ collector_outcome.Done = was_done {V = V} c.collector_report.outcome (sym c.outcome ∙ end) in
+        let ended = laws.ends c0 s.forest.collector now.forest.collector who x n (suc n) newest event c.collector_report (omega arith) g c.step.report c.step.state (λ r. absurd (cc (over, r))) in (
+          record { most = suc n; reports = ended.0; newest = c.collector_report; call = ended.1; done = over },
           c.machines,
           c.calls ∙ ap (λ (y : CollectorOutcome). slice_set s.calls who (call_after y (Collecting x))) over,
         )
     to_end c0 who x (t ∷ ts) s now n newest event o g c are end =
-        let on : c.turn.outcome ≡ collector_outcome.Running = was_running {V = V} c.turn.outcome (sym c.outcome ∙ end.0) in
+        let on : c.collector_report.outcome ≡ collector_outcome.Running = was_running {V = V} c.collector_report.outcome (sym c.outcome ∙ end.0) in
         let calls : now.calls ≡ slice_set s.calls who (Collecting x) = c.calls ∙ ap (λ (y : CollectorOutcome). slice_set s.calls who (call_after y (Collecting x))) on in
         let old = get_inside s.calls who c.inside in
         let here : slice_get now.calls who ≡ Some (Collecting x) = ap (λ (ks : List (InFlight V)). slice_get ks who) calls ∙ set_here s.calls who (Collecting x) old.0 old.1 in
         let inside : who < length now.calls = slice_get_within now.calls who (Collecting x) here in
         let next = goes now t who end.1.0 x inside here are.0 end.1.1 (by_end who t.report.outcome ts end.2) in
-        let more = laws.more c0 s.forest.collector now.forest.collector who x n newest event c.turn g c.step.report c.step.state on in
-        let r = to_end c0 who x ts now t.after (n + 1) (Some c.turn) collector_event.Go t.report.outcome more next are.1 end.2 in (
+        let more = laws.more c0 s.forest.collector now.forest.collector who x n newest event c.collector_report g c.step.report c.step.state on in
+        let r = to_end c0 who x ts now t.after (n + 1) (Some c.collector_report) collector_event.Go t.report.outcome more next are.1 end.2 in (
           r.0,
           r.1 ∙ c.machines,
           r.2 ∙ ap (λ (ks : List (InFlight V)). slice_set ks who Idle) calls ∙ set-set s.calls who (Collecting x) Idle,
         )
 
-    whole_call : (s : World V) (who : ℕ) (o : Op V) (x : CollectorOp) (ts : List (Taken V)) → Holds same always s → target o ≡ target.Collector x → AreTaken same always s ts → IsWhole who o ts → Finished s who x (after_all s ts)
+    whole_call : (s : World V) (who : ℕ) (o : Op V) (x : CollectorOp) (ts : List (Taken V)) → Holds same always s → target o ≡ target.Collector x → AreTaken same always s ts → IsWholeCall who o ts → Finished s who x (after_all s ts)
     whole_call s who o x [] h e are w = absurd w
     whole_call s who o x (t ∷ ts) h e are w =
         let c = begins s t who o x h e are.0 w.0 (by_end who t.report.outcome ts w.1) in
@@ -322,9 +333,6 @@ is_removal {J} n (Remove m) le = by (is_name m n) refl le
 no_jobs : {A : Type 0} (f : A → ℕ) (xs : List A) → xs ≡ [] → sum_by f xs ≡ 0
 no_jobs f xs e = ap (sum_by f) e
 
-retired_waits : {V : Type 0} (x : Node V) → x.retired ≡ true → Stands x → is_waiting x ≡ true
-retired_waits x r s = let m : x.made ≡ true = s.made in let k : x.destroyed ≡ false = s.kept in rw (r, m, k) refl
-
 module _ {V : Type 0} (same : V → V → Bool) (always : Bool) (calls : CallLaws {C = Id} {V = V} id_number same always) (laws : RoundLaws {T = Slot V} (Unit {0}) slot_names) where
   -- where a removal stands that is in no queued bag and in no hand
   in_other_bag : (s s' : World V) (who : ℕ) → Holds same always s' → collector.IsEmptied s.forest.collector who s'.forest.collector → (n : Name) → 1 ≤ weight (removes n) s'.forest.collector
@@ -364,7 +372,7 @@ module _ {V : Type 0} (same : V → V → Bool) (always : Bool) (calls : CallLaw
 
       each : (n : ℕ) → Stands (nodes s'.forest n) → IsInTree s' n ⊎ IsLeft s' who n
       each n st =
-          let at : IsSomewhere s' n = somewhere same always calls s' h' n st.made in
+          let at : IsSomewhere s' n = node_somewhere same always calls s' h' n st.made in
           elim at.one [
             | inl a ↦ elim a [
               | inl b ↦ absurd (made_none b.held.0 n (over b.worker b.held.0 b.held.1) b.held.2)
@@ -385,6 +393,7 @@ module _ {V : Type 0} (same : V → V → Bool) (always : Bool) (calls : CallLaw
             ]
           ]
 
+  -- after as many rounds as the queued bags want, what stands is in the tree or in other workers' unsealed bags
   pub came_back : (s : World V) (who : ℕ) (rounds : List (Round V)) → Holds same always s → IsQuiet s → AreRounds who rounds → AreTaken same always s (steps_in rounds) → rounds_wanted (bags_left s rounds) ≤ length rounds → CameBack (after_all s (steps_in rounds)) who
   came_back s who [] h quiet are taken enough = absurd (omega (arith, enough))
   came_back s who (r ∷ rs) h quiet are taken enough =
@@ -411,6 +420,7 @@ module _ {V : Type 0} (same : V → V → Bool) (always : Bool) (calls : CallLaw
       let jobs = jobs_waiting s h.0.filed in
       omega (arith, few, e, jobs)
 
+  -- so it is after as many rounds as the nodes that wait want
   pub all_came_back : (s : World V) (who : ℕ) (rounds : List (Round V)) → Holds same always s → IsQuiet s → AreRounds who rounds → AreTaken same always s (steps_in rounds) → rounds_wanted (length (waiting_nodes s)) ≤ length rounds → CameBack (after_all s (steps_in rounds)) who
   all_came_back s who rounds h quiet are taken enough =
       let few = bags_few s who rounds h quiet are taken (omega (arith, enough)) in
@@ -420,7 +430,7 @@ module _ {V : Type 0} (same : V → V → Bool) (always : Bool) (calls : CallLaw
       let b = high.0 in
       came_back s who rounds h quiet are taken (omega (arith, a, b, few, enough))
 
--- the same of a run
+-- what came back after rounds came back at the end of a run of just these
 pub in_run : {V : Type 0} (same : V → V → Bool) (always : Bool) (s s' : World V) (steps : List (Step V)) (reports : List (Report V)) (who : ℕ) (rounds : List (Round V))
     → (AreTaken same always s (steps_in rounds) → CameBack (after_all s (steps_in rounds)) who) → (run : IsRun same always s steps reports s') → run.taken ≡ steps_in rounds → CameBack s' who
 in_run {V} same always s s' steps reports who rounds law run is =

@@ -33,6 +33,7 @@ module _ {V : Type 0} (same : V → V → Bool) (always : Bool) where
     pub count : length taken ≡ done
     pub run : IsRun same always s taken reports s'
 
+  -- before the first step none is taken, and all are left
   pub progress_none : (s : World V) (all rest : List (Step V)) (done : ℕ) (reports : List (Report V)) → rest ≡ all → done ≡ 0 → reports ≡ [] → Progress s all rest done reports s
   progress_none s all rest done reports e n q = record {
     taken = [];
@@ -41,6 +42,7 @@ module _ {V : Type 0} (same : V → V → Bool) (always : Bool) where
     run = (let P : List (Report V) → Type 0 = λ x. IsRun same always s [] x s in subst P (sym q) (record { taken = []; each = tt; steps_are = refl; reports_are = refl; last = refl }));
   }
 
+  -- a step that is taken is one more of those taken
   pub progress_more : (s : World V) (all rest rest' : List (Step V)) (done done1 done' : ℕ) (reports reports1 reports' : List (Report V)) (s1 s2 : World V) (step : Step V) (report : Report V)
       → Progress s all rest done reports s1 → rest ≡ step ∷ rest' → done1 ≡ done → done' ≡ done1 + 1 → reports1 ≡ reports → reports' ≡ reports1 ++ report ∷ [] → IsStep same always s1 step report s2 → Progress s all rest' done' reports' s2
   progress_more s all rest rest' done done1 done' reports reports1 reports' s1 s2 step report p e n1 n q1 q x =
@@ -66,6 +68,7 @@ module _ {V : Type 0} (same : V → V → Bool) (always : Bool) where
       let count : length p.taken ≡ done = p.count in
       omega (arith, none, split, count, is, fewer)
 
+  -- the steps that were taken up to a stop are a run
   pub progress_end : (s : World V) (all rest : List (Step V)) (done done' : ℕ) (reports reports' : List (Report V)) (s' : World V) → Progress s all rest done reports s' → done' ≡ done → reports' ≡ reports → IsRun same always s (take done' all) reports' s'
   progress_end s all rest done done' reports reports' s' p n q =
       let e : take done' all ≡ p.taken = ap (λ x. take x all) (n ∙ sym p.count) ∙ (ap (take (length p.taken)) p.split ∙ take-append_seam p.taken rest) in
@@ -86,6 +89,7 @@ module _ {V : Type 0} (same : V → V → Bool) (always : Bool) where
   lines_reports (t ∷ ts) [] x = absurd x
   lines_reports (t ∷ ts) (l ∷ ls) x = let a : l.report ≡ t.report = x.0.report in let b = lines_reports ts ls x.1 in cc (a, b)
 
+  -- a run plays on the map, from the pairs that stand and the calls in flight
   pub run_map : (s : World V) (steps : List (Step V)) (reports : List (Report V)) (s' : World V) (fs : Flights V) (m : Pairs V) → Holds same always s → IsRun same always s steps reports s' → IsMapOf (nodes s.forest) m → AreInFlight s fs
       → RunsMap same fs m steps reports s'
   run_map s steps reports s' fs m h r st fl =
@@ -103,10 +107,11 @@ module _ {V : Type 0} (same : V → V → Bool) (always : Bool) where
         legal = entries_legal same always fs m p.lines p.flights p.run;
       }
 
+  -- a run from a root alone plays on the map from the empty one
   pub run_fresh : (s : World V) (steps : List (Step V)) (reports : List (Report V)) (s' : World V) → IsFresh s → Holds same always s → IsRun same always s steps reports s' → RunsMap same no_flights empty steps reports s'
   run_fresh s steps reports s' fresh h r = run_map s steps reports s' no_flights empty h r (standing_empty same always (nodes s.forest) fresh.alone) (fresh_flights same always s fresh)
 
-  -- and what it makes of the journal
+  -- a run plays on the map, and its journal goes on with its entries
   pub run_journal : (s : World V) (steps : List (Step V)) (reports : List (Report V)) (s' : World V) (fs : Flights V) (m : Pairs V) → Holds same always s → IsRun same always s steps reports s' → IsMapOf (nodes s.forest) m → AreInFlight s fs
       → RunsJournal same fs m s steps reports s'
   unfolding run_map
@@ -119,5 +124,6 @@ module _ {V : Type 0} (same : V → V → Bool) (always : Bool) where
         places = ap (λ (y : World V). y.log.places) (sym r.last) ∙ j.places;
       }
 
+  -- a run from a root alone plays so, and its journal goes on with its entries
   pub fresh_journal : (s : World V) (steps : List (Step V)) (reports : List (Report V)) (s' : World V) → IsFresh s → Holds same always s → IsRun same always s steps reports s' → RunsJournal same no_flights empty s steps reports s'
   fresh_journal s steps reports s' fresh h r = run_journal s steps reports s' no_flights empty h r (standing_empty same always (nodes s.forest) fresh.alone) (fresh_flights same always s fresh)

@@ -32,14 +32,15 @@ use Rattle.joint.specs.engine.Engine.{IsFresh, World}
 use Rattle.joint.specs.engine.Flying.{Flights, no_flights, IsInFlight, AreInFlight}
 use Rattle.joint.specs.world.World.{Holds}
 use Rattle.joint.proofs.lemmas.world.Flights.{ends_stays}
-use Rattle.joint.proofs.lemmas.world.JournaledSteps.{Mapped, mapped}
+use Rattle.joint.proofs.lemmas.world.JournaledSteps.{Mapped, step_mapped}
+use Rattle.joint.proofs.lemmas.calls.Rounds.{after_both}
 
 module _ {V : Type 0} (same : V → V → Bool) (always : Bool) where
-  -- the pairs stand and the calls are watched from step to step
+  -- steps play on the map: from step to step the pairs stand and the calls are watched
   pub runs_map : (s : World V) (taken : List (Taken V)) (fs : Flights V) (m : Pairs V) → Holds same always s → AreTaken same always s taken → IsMapOf (nodes s.forest) m → AreInFlight s fs → PlaysMap same fs m s taken
   runs_map s [] fs m h x st fl = record { lines = []; flights = fs; are_lines = tt; run = refl; stand = st; in_flight = fl }
   runs_map s (t ∷ ts) fs m h x st fl =
-      let a : Mapped same always s t.step t.report t.after fs m = mapped same always s t.step t.after fs m h x.0.holds st fl t.report x.0 in
+      let a : Mapped same always s t.step t.report t.after fs m = step_mapped same always s t.step t.after fs m h x.0.holds st fl t.report x.0 in
       let l : Line V = record { step = t.step; report = t.report; entry = a.entry; pairs = a.pairs } in
       let on : PlaysMap same a.flights a.pairs t.after ts = runs_map t.after ts a.flights a.pairs x.0.holds x.1 a.stand a.in_flight in
       record {
@@ -61,11 +62,12 @@ module _ {V : Type 0} (same : V → V → Bool) (always : Bool) where
   first_kept None es = refl
   first_kept (Some e) es = refl
 
+  -- the journal keeps the entries of the steps' lines, those of all writing calls among them
   pub runs_journal : (s : World V) (taken : List (Taken V)) (fs : Flights V) (m : Pairs V) (h : Holds same always s) (x : AreTaken same always s taken) (st : IsMapOf (nodes s.forest) m) (fl : AreInFlight s fs) → Journals s taken (runs_map s taken fs m h x st fl).lines
   unfolding runs_map
   runs_journal s [] fs m h x st fl = record { entries = sym (append-nil s.log.entries); writes = λ p. tt; places = refl }
   runs_journal s (t ∷ ts) fs m h x st fl =
-      let a : Mapped same always s t.step t.report t.after fs m = mapped same always s t.step t.after fs m h x.0.holds st fl t.report x.0 in
+      let a : Mapped same always s t.step t.report t.after fs m = step_mapped same always s t.step t.after fs m h x.0.holds st fl t.report x.0 in
       let l : Line V = record { step = t.step; report = t.report; entry = a.entry; pairs = a.pairs } in
       let on : Journals t.after ts (runs_map t.after ts a.flights a.pairs x.0.holds x.1 a.stand a.in_flight).lines = runs_journal t.after ts a.flights a.pairs x.0.holds x.1 a.stand a.in_flight in
       let rest = (runs_map t.after ts a.flights a.pairs x.0.holds x.1 a.stand a.in_flight).lines in
@@ -75,20 +77,17 @@ module _ {V : Type 0} (same : V → V → Bool) (always : Bool) where
         places = on.places ∙ a.places;
       }
 
-  -- in each state what always holds
+  -- in each state after one of these steps holds what always holds
   pub all_hold : (s : World V) (taken : List (Taken V)) → AreTaken same always s taken → AllHold same always taken
   all_hold s [] x = tt
   all_hold s (t ∷ ts) x = (x.0.holds, all_hold t.after ts x.1)
 
-  -- steps after steps
+  -- steps, and steps from where these led, are taken as one list
   pub taken_on : (s : World V) (a b : List (Taken V)) → AreTaken same always s a → AreTaken same always (after_all s a) b → AreTaken same always s (a ++ b)
   taken_on s [] b x y = y
   taken_on s (t ∷ a) b x y = (x.0, taken_on t.after a b x.1 y)
 
-  after_on : (s : World V) (a b : List (Taken V)) → after_all s (a ++ b) ≡ after_all (after_all s a) b
-  after_on s [] b = refl
-  after_on s (t ∷ a) b = after_on t.after a b
-
+  -- a run after a run is one of the steps of both
   pub runs_join : (s s1 s2 : World V) (a b : List (Step V)) (q r : List (Report V)) → IsRun same always s a q s1 → IsRun same always s1 b r s2 → IsRun same always s (a ++ b) (q ++ r) s2
   runs_join s s1 s2 a b q r x y =
       let P : World V → Type 0 = λ z. AreTaken same always z y.taken in
@@ -97,7 +96,7 @@ module _ {V : Type 0} (same : V → V → Bool) (always : Bool) where
         each = taken_on s x.taken y.taken x.each (subst P (sym x.last) y.each);
         steps_are = map-append (λ (t : Taken V). t.step) x.taken y.taken ∙ (ap (λ l. l ++ map (λ t. t.step) y.taken) x.steps_are ∙ ap (λ l. a ++ l) y.steps_are);
         reports_are = map-append (λ (t : Taken V). t.report) x.taken y.taken ∙ (ap (λ l. l ++ map (λ t. t.report) y.taken) x.reports_are ∙ ap (λ l. q ++ l) y.reports_are);
-        last = after_on s x.taken y.taken ∙ (ap (λ z. after_all z y.taken) x.last ∙ y.last);
+        last = after_both same always s x.taken y.taken ∙ (ap (λ z. after_all z y.taken) x.last ∙ y.last);
       }
 
   -- what a step makes of the map is one entry or nothing
@@ -169,6 +168,6 @@ module _ {V : Type 0} (same : V → V → Bool) (always : Bool) where
     beyond = λ i l. refl;
   }
 
-  -- from the empty map on
+  -- steps from a root alone play on the map from the empty one
   pub runs_fresh : (s : World V) (taken : List (Taken V)) → IsFresh s → Holds same always s → AreTaken same always s taken → PlaysMap same no_flights empty s taken
   runs_fresh s taken fresh h x = runs_map s taken no_flights empty h x (standing_empty (nodes s.forest) fresh.alone) (fresh_flights s fresh)

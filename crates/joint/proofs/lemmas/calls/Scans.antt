@@ -9,7 +9,7 @@ use Rattle.congee.specs.declared.protocol.machine.Outcome.TheVariants as moved
 use Rattle.congee.specs.declared.protocol.op.Op.{Op as Point}
 use Rattle.congee.specs.declared.protocol.op.Op.TheVariants as point
 use Rattle.congee.specs.protocol.Play.{Flight, Pending, Decided, Over, Unbegun, Scanning, ScanTells, IsScanOf, IsOfRange, begun, flight, range_of as range_in}
-use Rattle.congee.specs.protocol.Sweeps.{IsScan, Stood, AllStood, Throughout}
+use Rattle.congee.specs.protocol.Scans.{IsScan, Stood, AllStood, Throughout}
 use Rattle.joint.specs.declared.steps.Done.TheVariants.{Scanned}
 use Rattle.joint.specs.declared.steps.Event.{Event}
 use Rattle.joint.specs.declared.steps.Event.TheVariants.{Register, Begin, Go}
@@ -19,13 +19,13 @@ use Rattle.joint.specs.declared.steps.Outcome.{Outcome}
 use Rattle.joint.specs.declared.steps.Outcome.TheVariants.{Running, Asks, Found, Registered, Done, Refused}
 use Rattle.joint.specs.declared.steps.Target.{Target}
 use Rattle.joint.specs.declared.steps.Target.TheVariants as target
-use Rattle.joint.specs.Reports.{goes_on, range_of, target, told}
-use Rattle.joint.specs.engine.Intact.{root}
+use Rattle.joint.specs.Reports.{goes_unasked, range_of, target, told}
+use Rattle.joint.specs.Names.{root}
 use Rattle.joint.specs.calls.Runs.{IsMapRun, pairs_after}
-use Rattle.joint.specs.world.MapSteps.{MapStep, EventMap, GoMap, Scans, BeginMap, BeginsOr, EndsEmpty, Line}
+use Rattle.joint.specs.world.MapSteps.{MapStep, EventMap, GoMap, ScanStep, BeginMap, BeginsOr, EndsEmpty, Line}
 use Rattle.joint.specs.engine.Flying.{Flights, with_flight}
 use Rattle.joint.specs.calls.Scans.{is_go, goes, placed, told_to, Comes, AllCome, BeginsScan, GoesOn, EndsScan, ScansHold, EmptyScansHold}
-use Rattle.congee.proofs.Laws.{of_range}
+use Rattle.congee.proofs.Laws.{of_range, both_true}
 use Rattle.joint.proofs.lemmas.world.Flights.{ends_stays, flight_here, flight_apart}
 
 -- one of several
@@ -58,7 +58,7 @@ module _ {V : Type 0} where
   has_more [] all k more t = tt
   has_more (m ∷ few) all k more t = (has_one m all k (more m (inl refl)) t, has_more few all k (λ x a. more x (inr a)) t)
 
-  pub scan_more : (start end size : ℕ) (few all : List (Pairs V)) (found : List (ℕ × V)) → ((x : Pairs V) → Among few x → Among all x) → IsScan start end size few found → IsScan start end size all found
+  scan_more : (start end size : ℕ) (few all : List (Pairs V)) (found : List (ℕ × V)) → ((x : Pairs V) → Among few x → Among all x) → IsScan start end size few found → IsScan start end size all found
   scan_more start end size few all found more s = record {
     rises = s.rises;
     few = s.few;
@@ -73,6 +73,7 @@ module _ {V : Type 0} where
     pub on_tree : target op ≡ target.Tree point
     pub range : range_in point ≡ Some (start, end, size)
 
+  -- a call with this range is a scan of it
   pub on_range : (op : Op V) (start end size : ℕ) → range_of op ≡ Some (start, end, size) → OnRange op start end size
   on_range (call.Range a b c) start end size e = record { point = point.Range a b c; on_tree = refl; range = e }
   on_range (call.RangeInclusive a b c) start end size e = record { point = point.RangeInclusive a b c; on_tree = refl; range = e }
@@ -99,14 +100,14 @@ module _ {V : Type 0} (same : V → V → Bool) where
       pub states : List (Pairs V)
       pub among : (x : Pairs V) → Among states x → Among all x
       pub next : Flight V
-      pub step : Scans start end size states places m l next
+      pub step : ScanStep start end size states places m l next
       pub flights : fs1 ≡ with_flight fs w next
 
     own_step : (fs : Flights V) (m : Pairs V) (places : List (ℕ × V)) (l : Line V) (fs1 : Flights V) (answer : Option (Option V)) → Among all m → Under fs places → l.step.worker ≡ w → GoMap same fs (fs l.step.worker) m answer l fs1 → Next fs m places l fs1
     own_step fs m places l fs1 answer am (inl u) e g =
         let P : Flight V → Type 0 = λ f. GoMap same fs f m answer l fs1 in
         let a = subst P (ap fs e ∙ u.0) g in
-        let Q : List (ℕ × V) → Type 0 = λ ps. Scans start end size (m ∷ []) ps m l a.next in
+        let Q : List (ℕ × V) → Type 0 = λ ps. ScanStep start end size (m ∷ []) ps m l a.next in
         record {
           states = m ∷ [];
           among = λ x i. elim i [
@@ -115,7 +116,7 @@ module _ {V : Type 0} (same : V → V → Bool) where
           ];
           next = a.next;
           step = subst Q (sym u.1) a.step;
-          flights = a.advances ∙ ap (λ v. with_flight fs v a.next) e;
+          flights = a.with_next ∙ ap (λ v. with_flight fs v a.next) e;
         }
     own_step fs m places l fs1 answer am (inr u) e g =
         let P : Flight V → Type 0 = λ f. GoMap same fs f m answer l fs1 in
@@ -128,7 +129,7 @@ module _ {V : Type 0} (same : V → V → Bool) where
           ];
           next = a.next;
           step = a.step;
-          flights = a.advances ∙ ap (λ v. with_flight fs v a.next) e;
+          flights = a.with_next ∙ ap (λ v. with_flight fs v a.next) e;
         }
 
     go_step : (fs : Flights V) (m : Pairs V) (places : List (ℕ × V)) (l : Line V) (fs1 : Flights V) (event : Event V) → l.step.event ≡ event → Among all m → Under fs places → l.step.worker ≡ w → is_go event ≡ true → EventMap same fs m event l fs1 → Next fs m places l fs1
@@ -136,17 +137,13 @@ module _ {V : Type 0} (same : V → V → Bool) where
     go_step fs m places l fs1 Register q am u e g x = absurd (cc g)
     go_step fs m places l fs1 (Begin op) q am u e g x = absurd (cc g)
 
-    both : (b c : Bool) → (b && c) ≡ true → (b ≡ true) × (c ≡ true)
-    both true true e = (refl, refl)
-    both true false e = absurd (cc e)
-    both false c e = absurd (cc e)
-
+    -- a further step of the scan under way is one of a scan by the maps that stood
     pub goes_step : (fs : Flights V) (m : Pairs V) (places : List (ℕ × V)) (l : Line V) (fs1 : Flights V) → Among all m → Under fs places → goes w l ≡ true → MapStep same fs m l fs1 → Next fs m places l fs1
     goes_step fs m places l fs1 am u g x =
-        let b = both (l.step.worker == w) (is_go l.step.event) g in
+        let b = both_true (l.step.worker == w) (is_go l.step.event) g in
         go_step fs m places l fs1 l.step.event refl am u (eqb-true l.step.worker w b.0) b.1 x
 
-    -- the scan is done
+    -- a scan that is done has found what a scan promises by all maps that stood
     pub ends : (fs : Flights V) (m : Pairs V) (places : List (ℕ × V)) (l : Line V) (fs1 : Flights V) (count : ℕ) → Next fs m places l fs1 → l.report.outcome ≡ Done (Scanned count) → (count ≤ length places) × IsScan start end size all (take count places)
     ends fs m places l fs1 count n done = by_outcome n.step.outcome (sym n.step.told_so ∙ done) n.step.tells
       where
@@ -162,17 +159,17 @@ module _ {V : Type 0} (same : V → V → Bool) where
         by_outcome (moved.Done r) e t = absurd t
         by_outcome (moved.Refused c) e t = absurd (cc e)
 
-    -- or goes on
-    pub goes_further : (fs : Flights V) (m : Pairs V) (places : List (ℕ × V)) (l : Line V) (fs1 : Flights V) → Next fs m places l fs1 → goes_on l.report.outcome ≡ true
+    -- a scan that goes on is under way still, and its pair comes to its place
+    pub goes_further : (fs : Flights V) (m : Pairs V) (places : List (ℕ × V)) (l : Line V) (fs1 : Flights V) → Next fs m places l fs1 → goes_unasked l.report.outcome ≡ true
         → Comes true l.report.outcome places × Under fs1 (placed true l.report.outcome places)
     goes_further fs m places l fs1 n on =
         let P : Outcome V → Type 0 = λ o. Comes true o places × Under fs1 (placed true o places) in
-        subst P (sym n.step.told_so) (by_outcome n.step.outcome (ap goes_on (sym n.step.told_so) ∙ on) n.step.tells)
+        subst P (sym n.step.told_so) (by_outcome n.step.outcome (ap goes_unasked (sym n.step.told_so) ∙ on) n.step.tells)
       where
         here : fs1 w ≡ n.next
         here = ap (λ g. g w) n.flights ∙ flight_here fs w n.next
 
-        by_outcome : (o : Moved V) → goes_on (told o) ≡ true → ScanTells start end size n.states places o n.next → Comes true (told o) places × Under fs1 (placed true (told o) places)
+        by_outcome : (o : Moved V) → goes_unasked (told o) ≡ true → ScanTells start end size n.states places o n.next → Comes true (told o) places × Under fs1 (placed true (told o) places)
         by_outcome moved.Running e t = (tt, inr (n.states, here ∙ t, n.among))
         by_outcome (moved.Found place key x) e t = (t.0, inr (n.states, here ∙ t.1, n.among))
         by_outcome (moved.Scanned c) e t = absurd (cc e)
@@ -200,10 +197,10 @@ module _ {V : Type 0} (same : V → V → Bool) where
 
     go_apart : (fs : Flights V) (m : Pairs V) (l : Line V) (fs1 : Flights V) (answer : Option (Option V)) (f : Flight V) → w ≢ l.step.worker → GoMap same fs f m answer l fs1 → fs1 w ≡ fs w
     go_apart fs m l fs1 answer Over n x = ap (λ g. g w) x.same_flights
-    go_apart fs m l fs1 answer (Pending k kind v q) n x = ap (λ g. g w) x.advances ∙ flight_apart fs l.step.worker w x.next n
-    go_apart fs m l fs1 answer (Decided r) n x = ap (λ g. g w) x.advances ∙ flight_apart fs l.step.worker w x.next n
-    go_apart fs m l fs1 answer (Unbegun a b c) n x = ap (λ g. g w) x.advances ∙ flight_apart fs l.step.worker w x.next n
-    go_apart fs m l fs1 answer (Scanning a b c d e) n x = ap (λ g. g w) x.advances ∙ flight_apart fs l.step.worker w x.next n
+    go_apart fs m l fs1 answer (Pending k kind v q) n x = ap (λ g. g w) x.with_next ∙ flight_apart fs l.step.worker w x.next n
+    go_apart fs m l fs1 answer (Decided r) n x = ap (λ g. g w) x.with_next ∙ flight_apart fs l.step.worker w x.next n
+    go_apart fs m l fs1 answer (Unbegun a b c) n x = ap (λ g. g w) x.with_next ∙ flight_apart fs l.step.worker w x.next n
+    go_apart fs m l fs1 answer (Scanning a b c d e) n x = ap (λ g. g w) x.with_next ∙ flight_apart fs l.step.worker w x.next n
 
     not_both : (b : Bool) → (b && true) ≡ false → b ≡ false
     not_both true e = absurd (cc e)
@@ -215,7 +212,7 @@ module _ {V : Type 0} (same : V → V → Bool) where
     event_apart fs m places l fs1 (Go noise) g u x =
         go_apart fs m l fs1 noise.answer (fs l.step.worker) (λ e. eqb-false l.step.worker w (not_both (l.step.worker == w) g) (sym e)) x
 
-    -- whatever the lines, up to its end
+    -- over whatever lines up to its end a scan fills its places in order, with what a scan promises
     pub during_lines : (fs : Flights V) (m : Pairs V) (places : List (ℕ × V)) (during after : List (Line V)) (end_line : Line V) (fs' : Flights V) (count : ℕ) → Among all m → ((x : Pairs V) → Among (map (λ l. l.pairs) during) x → Among all x) → Under fs places
         → IsMapRun same fs m (during ++ end_line ∷ after) fs' → GoesOn w during → EndsScan w count end_line
         → AllCome w during places × (count ≤ length (told_to w during places)) × IsScan start end size all (take count (told_to w during places))
@@ -243,6 +240,7 @@ module _ {V : Type 0} (same : V → V → Bool) where
     pub promises : (states : List (Pairs V)) (found : List (ℕ × V)) → IsScan from to places states found → IsScan start end size states found
     pub same_pairs : l.pairs ≡ m
 
+  -- a scan that begins is in flight, by the pairs that stand then
   pub begins_at : (fs : Flights V) (m : Pairs V) (w start end size : ℕ) (all : List (Pairs V)) (l : Line V) (fs1 : Flights V) → BeginsScan w start end size l → MapStep same fs m l fs1 → BegunScan w start end size all m l fs1
   begins_at fs m w start end size all l fs1 b x =
       let r = on_range b.op start end size b.range in
@@ -262,6 +260,7 @@ module _ {V : Type 0} (same : V → V → Bool) where
         same_pairs = y.same_pairs;
       }
 
+  -- each scan that begins and is done in a map's run found what a scan promises
   pub scans_hold : (fs : Flights V) (m : Pairs V) (lines : List (Line V)) (fs' : Flights V) → IsMapRun same fs m lines fs' → ScansHold lines
   scans_hold fs m lines fs' r before during after b e w start end size count is begins on ends =
       let P : List (Line V) → Type 0 = λ ls. IsMapRun same fs m ls fs' in
@@ -271,6 +270,7 @@ module _ {V : Type 0} (same : V → V → Bool) where
       let z = during_lines w y.from y.to y.places all x.1.0 b.pairs [] during after e fs' count (inl refl) (λ p i. inr i) y.under x.1.2 on ends in
       record { in_order = z.0; filled = z.1; scan = y.promises all (take count (told_to w during [])) z.2 }
 
+  -- each scan that is done as it begins in a map's run found nothing, as a scan promises
   pub empty_scans_hold : (fs : Flights V) (m : Pairs V) (lines : List (Line V)) (fs' : Flights V) → IsMapRun same fs m lines fs' → EmptyScansHold lines
   empty_scans_hold fs m lines fs' r before after l op start end size count is begins range done =
       let q = on_range op start end size range in

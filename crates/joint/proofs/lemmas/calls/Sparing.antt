@@ -1,10 +1,9 @@
 -- No step destroys a node in use: what goes waited and had no name in a call, or its worker's own call had made it.
-use Rattle.std.proofs.Common.{◌≡◌, ◌<◌, ℕ, arith, Bool, true, false, List, [], ◌∷◌, refl, sym, ◌∙◌, ap, subst, inl, inr, ◌⊎◌}
-use Rattle.std.specs.Prelude.{Option, None, Some, length, slice_get}
+use Rattle.std.proofs.Common.{◌≡◌, ℕ, Bool, true, false, List, [], ◌∷◌, refl, sym, ◌∙◌, ap, subst, inl, inr, ◌⊎◌}
+use Rattle.std.specs.Prelude.{Option, None, Some, slice_get}
 use Rattle.std.specs.List.{Contains}
 use Rattle.std.proofs.lemmas.Bool.{false≢true}
 use Rattle.std.proofs.lemmas.List.Elements.{All-contains}
-use Rattle.std.proofs.lemmas.Option.{slice_get_within, slice_get_cases}
 use Rattle.crossbeam_epoch.specs.declared.fault.Fault.{Fault}
 use Rattle.congee.specs.declared.protocol.machine.Machine.{Machine}
 use Rattle.congee.specs.declared.protocol.machine.Noise.{Noise}
@@ -33,6 +32,7 @@ use Rattle.joint.specs.nodes.View.{id_number}
 use Rattle.joint.specs.world.World.{Holds, StepsUnless, finds_journal_full}
 use Rattle.joint.specs.engine.Engine.{World, EngineHolds, engine_of, misuse, finds_none, EntersUnless, Walks, BeginsAt, BeginsOnTree, GoesAt, Proceeds, Does, SparesUsed}
 use Rattle.joint.proofs.lemmas.engine.Reserving.{same_nodes}
+use Rattle.joint.proofs.lemmas.engine.Collecting.{get_beside}
 
 -- what a step of the collector destroys waited, and no call has its name
 collected_spares : {V : Type 0} (h h' : ℕ → Node V) (ms : List (Machine Id V)) (n : ℕ) → Destroys id_number h ms h' → Stands (h n)
@@ -62,16 +62,10 @@ module _ {V : Type 0} (same : V → V → Bool) (always : Bool) (leaves : (s : N
       | inr x ↦ inr (inl (record { waits = x.0; unnamed = x.1 }))
     ]
 
-    machine_at : (k : InFlight V) → slice_get s.calls w ≡ Some k → (x : Machine Id V) × (slice_get s.machines w ≡ Some x)
-    machine_at k e = elim (slice_get_cases s.machines w).1 [
-      | inl x ↦ (x.0, x.2)
-      | inr x ↦ absurd (let l : w < length s.calls = slice_get_within s.calls w k e in omega (arith, x.0, l, holds.0.machines))
-    ]
-
     -- a call gives back what it had made alone
     walks : (noise : Noise Id V) (r : Report V) → slice_get s.calls w ≡ Some Walking → Walks same always s w noise r s' → SparesUsed s w s'
     walks noise r e k n st =
-        let x : (x : Machine Id V) × (slice_get s.machines w ≡ Some x) = machine_at Walking e in
+        let x : (x : Machine Id V) × (slice_get s.machines w ≡ Some x) = get_beside s.machines s.calls w holds.0.machines Walking e in
         let moved = k.step.walked.plays.moved x.0 x.1 in
         let settled : Settled id_number same always (nodes s.forest) s.machines = holds.0.safe.sound.sound.settled in
         let known : EachKnown id_number same always settled.0 (nodes s.forest) w x.0 = settled.1.each w x.0 x.1 in
@@ -119,6 +113,7 @@ module _ {V : Type 0} (same : V → V → Bool) (always : Bool) (leaves : (s : N
     proceeds (Begin op) r x = begins (target op) r x
     proceeds (Go noise) r x = goes (slice_get s.calls w) noise r refl x
 
+    -- a step destroys nodes alone that waited without a name in a call, or that its worker's own call had made
     pub step_spares : (event : Event V) (o : Option Fault) (r : Report V) → Does same always s w event o r s' → SparesUsed s w s'
     step_spares event None r x = proceeds event r x
     step_spares event (Some f) r x = unchanged x.1
@@ -131,6 +126,7 @@ module _ {V : Type 0} (same : V → V → Bool) (always : Bool) (leaves : (s : N
     | inr (inr y) ↦ inr (inr y)
   ]
 
+  -- no step of a run destroys a node in use
   pub all_spare : (s : World V) (taken : List (Taken V)) → Holds same always s → AreTaken same always s taken → AllSpare s taken
   all_spare s [] h x = tt
   all_spare s (t ∷ ts) h x = (whole_step s t.step t.report t.after (finds_journal_full s t.step.worker t.step.event) h x.0.does, all_spare t.after ts x.0.holds x.1)

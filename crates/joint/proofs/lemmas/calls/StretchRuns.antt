@@ -1,13 +1,12 @@
 -- A node that a worker has seen under its guard stands until the guard's stretch ends.
-use Rattle.std.proofs.Common.{◌≡◌, ◌==◌, ◌<◌, ℕ, Bool, true, false, List, [], ◌∷◌, length, refl, sym, ◌∙◌, ap, subst, inl, inr, ◌⊎◌}
+use Rattle.std.proofs.Common.{◌≡◌, ◌==◌, ℕ, Bool, true, false, List, [], ◌∷◌, length, refl, sym, ◌∙◌, ap, subst, inl, inr, ◌⊎◌}
 use Rattle.std.proofs.Math.ListN.{set}
 use Rattle.std.specs.Prelude.{Option, None, Some, is_some, slice_get, if◌then◌else◌}
 use Rattle.std.proofs.lemmas.Bool.{cases_Bool, eqb-true, eqb-false, false≢true}
-use Rattle.std.proofs.lemmas.Option.{slice_get_within}
 use Rattle.crossbeam_epoch.specs.declared.fault.Fault.{Fault}
 use Rattle.crossbeam_epoch.specs.declared.names.Name.{Name}
-use Rattle.crossbeam_epoch.specs.declared.world.participant.Phase.{Phase as Stand}
-use Rattle.crossbeam_epoch.specs.declared.world.participant.Phase.TheVariants as stage
+use Rattle.crossbeam_epoch.specs.declared.world.participant.Phase.{Phase as CollectorPhase}
+use Rattle.crossbeam_epoch.specs.declared.world.participant.Phase.TheVariants as collector_phase
 use Rattle.crossbeam_epoch.specs.declared.world.report.Event.{Event as CollectorEvent}
 use Rattle.crossbeam_epoch.specs.declared.world.report.Event.TheVariants as collector_event
 use Rattle.crossbeam_epoch.specs.declared.world.report.Op.TheVariants as collector_op
@@ -48,19 +47,19 @@ use Rattle.joint.specs.declared.steps.Op.{Op}
 use Rattle.joint.specs.declared.steps.Op.TheVariants as op
 use Rattle.joint.specs.declared.steps.Report.{Report}
 use Rattle.joint.specs.nodes.Nodes.{Nodes, nodes, Refuses}
-use Rattle.joint.specs.engine.Intact.{BeginsSecuring, IsAt, rested, resting, root, secured_machines}
+use Rattle.joint.specs.engine.Intact.{BeginsSecuring, IsAt, rested, resting, secured_machines}
 use Rattle.joint.specs.engine.Laws.{CallLaws, CellLaws, LeavesLaw}
 use Rattle.joint.specs.engine.Safety.{Collected, retiring_at, after_walk}
 use Rattle.joint.specs.nodes.Slots.{slot_names}
 use Rattle.joint.specs.NameLemmas.{number_named}
-use Rattle.joint.specs.Names.{named}
+use Rattle.joint.specs.Names.{named, root}
 use Rattle.joint.specs.calls.Runs.{Taken, AreTaken}
 use Rattle.joint.specs.engine.Sound.{Guards, IsSecured, IsUnderWay, Sound}
-use Rattle.joint.specs.calls.Stretches.{EndsStretch, HasChecked, SeesNode, StandsOn, publishes, turns_stretch}
+use Rattle.joint.specs.calls.Stretches.{EndsStretch, HasChecked, SeesNode, StandsOn, publishes, ends_stretch}
 use Rattle.joint.specs.nodes.View.{view, id_number}
 use Rattle.joint.specs.world.World.{Holds, StepsUnless, finds_journal_full}
 use Rattle.joint.specs.engine.Engine.{World, EngineHolds, IsHeldBy, BeginsOnTree, Collects, Does, EntersUnless, Enters, GoesAt, GoesOnReserving, Reserves, Walks, engine_of, finds_none, misuse, place_of}
-use Rattle.joint.proofs.lemmas.engine.Collecting.{either, get_inside}
+use Rattle.joint.proofs.lemmas.engine.Collecting.{get_beside}
 use Rattle.joint.proofs.lemmas.engine.HandOver.{held_place}
 use Rattle.joint.proofs.lemmas.calls.Leaves as leaves
 use Rattle.joint.proofs.lemmas.nodes.Paths.{in_reach}
@@ -68,13 +67,14 @@ use Rattle.joint.proofs.lemmas.engine.Reserving.{next_here}
 use Rattle.joint.proofs.lemmas.engine.ScanEnds.{cleared_is}
 use Rattle.joint.proofs.lemmas.engine.SecuredPlaces.{retiring_room}
 use Rattle.joint.proofs.lemmas.nodes.SlotViews.{slot_view}
-use Rattle.joint.proofs.lemmas.calls.Stretches.{IsBlocked, sees_blocks, stored, joined, deferring, turned, live_on, turns}
-use Rattle.joint.proofs.lemmas.nodes.Views.{ties}
+use Rattle.joint.proofs.lemmas.calls.Stretches.{IsBlocked, sees_blocks, stored, joined, deferring, blocked_after, live_on, ends_now}
+use Rattle.joint.proofs.lemmas.nodes.Views.{heap_ties}
+use Rattle.congee.proofs.Laws.{get_set}
 
 -- a securing doesn't publish
-secure_calm : (s : Stand) → comes_by (stage_of s) (collector_op.Secure 2) ≡ true → publishes s ≡ false
-secure_calm (stage.Publish seen) e = absurd (false≢true e)
-secure_calm (stage.RepinPublish seen) e = absurd (false≢true e)
+secure_calm : (s : CollectorPhase) → comes_by (stage_of s) (collector_op.Secure 2) ≡ true → publishes s ≡ false
+secure_calm (collector_phase.Publish seen) e = absurd (false≢true e)
+secure_calm (collector_phase.RepinPublish seen) e = absurd (false≢true e)
 secure_calm _ e = refl
 
 module _ {V : Type 0} where
@@ -103,19 +103,19 @@ module _ {V : Type 0} (same : V → V → Bool) (always : Bool) (laws : CallLaws
   At c = (h : List Mark) × IsBlocked p it h c
 
   live : (f : Nodes V) → Stands (nodes f n) → is_some (value_at f.collector.store it) ≡ true
-  live f st = let P : ℕ → Type 0 = λ k. Stands (nodes f k) in (ties slot_names view slot_view f.collector.store).live it (subst P (sym (number_named n)) st)
+  live f st = let P : ℕ → Type 0 = λ k. Stands (nodes f k) in (heap_ties slot_names view slot_view f.collector.store).live it (subst P (sym (number_named n)) st)
 
   stands : (f : Nodes V) → is_some (value_at f.collector.store it) ≡ true → Stands (nodes f n)
-  stands f e = let P : ℕ → Type 0 = λ k. Stands (nodes f k) in subst P (number_named n) ((ties slot_names view slot_view f.collector.store).stands it e)
+  stands f e = let P : ℕ → Type 0 = λ k. Stands (nodes f k) in subst P (number_named n) ((heap_ties slot_names view slot_view f.collector.store).stands it e)
 
   abbrev On : Nodes V → Type 0
   On f = At f.collector × Stands (nodes f n)
 
   -- a step of the collector
-  collected : (f f' : Nodes V) (ms : List (Machine Id V)) (who : ℕ) (event : CollectorEvent) (r : Collection) → (who ≡ p → turns event (place f.collector who) ≡ false) → Collected same always f ms who event r f' → On f → On f'
+  collected : (f f' : Nodes V) (ms : List (Machine Id V)) (who : ℕ) (event : CollectorEvent) (r : Collection) → (who ≡ p → ends_now event (place f.collector who) ≡ false) → Collected same always f ms who event r f' → On f → On f'
   collected f f' ms who event r calm c o =
       let P : State (Slot V) (Unit {0}) → Type 0 = λ y. IsBlocked p it (marks f.collector who event r o.0.0) y in (
-        (marks f.collector who event r o.0.0, subst P (sym c.state) (turned p it o.0.0 f.collector who event r c.report calm o.0.1)),
+        (marks f.collector who event r o.0.0, subst P (sym c.state) (blocked_after p it o.0.0 f.collector who event r c.report calm o.0.1)),
         stands f' (live_on p it cells o.0.0 f.collector f'.collector who event r c.report c.moves o.0.1 (live f o.1)),
       )
 
@@ -136,7 +136,7 @@ module _ {V : Type 0} (same : V → V → Bool) (always : Bool) (laws : CallLaws
 
     -- another machine comes into the worker's place that has made nothing
     instead : (ms : List (Machine Id V)) (m : Machine Id V) → (MadeBy id_number m.phase n → ⊥) → s.machines ≡ ms → s'.machines ≡ set ms w m → Unheld
-    instead ms m none e e' j y = elim (either ms w j m y.0 (sym (ap (λ xs. slice_get xs j) e') ∙ y.1)) [
+    instead ms m none e e' j y = elim (get_set ms w j m y.0 (sym (ap (λ xs. slice_get xs j) e') ∙ y.1)) [
       | inl z ↦ absurd (none (let P : Machine Id V → Type 0 = λ k. MadeBy id_number k.phase n in subst P (sym z.1) y.2))
       | inr z ↦ (y.0, ap (λ xs. slice_get xs j) e ∙ z.1, y.2)
     ]
@@ -157,8 +157,8 @@ module _ {V : Type 0} (same : V → V → Bool) (always : Bool) (laws : CallLaws
     reserves : (o : Point V) (r : Report V) → Reserves s w o r s' → Lasts s → Lasts s'
     reserves o r x l = same_forest (ap (λ y. y.forest) x.state) (still (ap (λ y. y.machines) x.state)) l
 
-    collects : (event : CollectorEvent) (k : InFlight V) (r : Report V) → (w ≡ p → turns event (place_of s w) ≡ false) → Collects same always s w event k r s' → Lasts s → Lasts s'
-    collects event k r calm x l = lasts (collected s.forest s'.forest s.machines w event x.turn calm x.step l.on) (still x.machines) l
+    collects : (event : CollectorEvent) (k : InFlight V) (r : Report V) → (w ≡ p → ends_now event (place_of s w) ≡ false) → Collects same always s w event k r s' → Lasts s → Lasts s'
+    collects event k r calm x l = lasts (collected s.forest s'.forest s.machines w event x.collector_report calm x.step l.on) (still x.machines) l
 
     secured_unheld : (o : CollectorOutcome) (k : Option (InFlight V)) (ms : List (Machine Id V)) → s.machines ≡ ms → s'.machines ≡ secured_machines o k ms w → Unheld
     secured_unheld collector_outcome.Done (Some (Securing c)) ms e e' = instead ms (begun root c) (begun_unmade c n) e e'
@@ -170,29 +170,26 @@ module _ {V : Type 0} (same : V → V → Bool) (always : Bool) (laws : CallLaws
     secured_unheld collector_outcome.Running k ms e e' = still (e' ∙ sym e)
     secured_unheld (collector_outcome.Refused f) k ms e e' = still (e' ∙ sym e)
 
-    machine_at : (k : InFlight V) → slice_get s.calls w ≡ Some k → (m : Machine Id V) × (slice_get s.machines w ≡ Some m)
-    machine_at k e = get_inside s.machines w (subst (λ i. w < i) (sym holds.0.machines) (slice_get_within s.calls w k e))
-
     securing : (c : Point V) (r : Report V) → slice_get s.calls w ≡ Some (Securing c) → GoesOnReserving same always s w r s' → Lasts s → Lasts s'
     securing c r e x l =
-        let m : (m : Machine Id V) × (slice_get s.machines w ≡ Some m) = machine_at (Securing c) e in
+        let m : (m : Machine Id V) × (slice_get s.machines w ≡ Some m) = get_beside s.machines s.calls w holds.0.machines (Securing c) e in
         let at : IsAt (Securing c) (place_of s w) m.0 = holds.0.each w (Securing c) m.0 e m.1 in
-        lasts (collected s.forest s'.forest s.machines w collector_event.Go x.turn (λ z. secure_calm (place_of s w).phase at.0.1) x.step.collected l.on)
-        (secured_unheld x.turn.outcome (slice_get s.calls w) s.machines refl x.step.machine) l
+        lasts (collected s.forest s'.forest s.machines w collector_event.Go x.collector_report (λ z. secure_calm (place_of s w).phase at.0.1) x.step.collected l.on)
+        (secured_unheld x.collector_report.outcome (slice_get s.calls w) s.machines refl x.step.machine) l
 
     -- a call on the tree takes a step
     module _ (noise : Noise Id V) (r : Report V) (on : slice_get s.calls w ≡ Some Walking) (k : Walks same always s w noise r s') where
-      abbrev turn : TreeStep Id V
-      turn = record { who = w; noise = noise }
+      abbrev tree_step : TreeStep Id V
+      tree_step = record { who = w; noise = noise }
 
       old : (m : Machine Id V) × (slice_get s.machines w ≡ Some m)
-      old = machine_at Walking on
+      old = get_beside s.machines s.calls w holds.0.machines Walking on
 
-      abbrev moved : IsMoved id_number same always s.forest.version_max (Refuses s.forest) (nodes s.forest) s.machines old.0 turn k.move (nodes s'.forest) k.step.between
+      abbrev moved : IsMoved id_number same always s.forest.version_max (Refuses s.forest) (nodes s.forest) s.machines old.0 tree_step k.move (nodes s'.forest) k.step.between
       moved = k.step.walked.plays.moved old.0 old.1
 
       abbrev keeps : Keeps id_number same always w settled.0 old.0 (nodes s.forest) moved.now (nodes s'.forest) k.move
-      keeps = leaves.keeps same always laws s.forest s'.forest s.machines k.step.between turn k.move holds.0.safe k.step.walked old.0 old.1
+      keeps = leaves.keeps same always laws s.forest s'.forest s.machines k.step.between tree_step k.move holds.0.safe k.step.walked old.0 old.1
 
       left : StepLeaves id_number w settled.0 keeps.notes (nodes s.forest) (nodes s'.forest) old.0 moved.now
       left = leaves_law s.forest w settled.0 (nodes s.forest) (nodes s'.forest) s.machines old.0 moved.now k.move noise.fail noise.answer settled.1 settled.2 old.1 keeps moved.step
@@ -202,7 +199,7 @@ module _ {V : Type 0} (same : V → V → Bool) (always : Bool) (laws : CallLaws
 
       -- what it has made it had made before, or is a new node
       walks_held : Stands (nodes s.forest n) → Unheld
-      walks_held st j y = elim (either s.machines w j (rested moved.now) y.0 (sym (ap (λ xs. slice_get xs j) machines_are) ∙ y.1)) [
+      walks_held st j y = elim (get_set s.machines w j (rested moved.now) y.0 (sym (ap (λ xs. slice_get xs j) machines_are) ∙ y.1)) [
         | inl z ↦ (
             let P : Machine Id V → Type 0 = λ m. MadeBy id_number m.phase n in
             let made : MadeBy id_number moved.now.phase n = rested_made moved.now n (subst P (sym z.1) y.2) in
@@ -228,7 +225,7 @@ module _ {V : Type 0} (same : V → V → Bool) (always : Bool) (laws : CallLaws
         quiet : retiring_at (slice_get s.machines w) ≡ None → At s'.forest.collector
         quiet e =
             let P : State (Slot V) (Unit {0}) → Type 0 = λ c. IsBlocked p it h c in
-            (h, subst P (sym (k.step.walked.clock ∙ ap (λ o. after_walk o mid w) e)) (stored p it h s.forest.collector mid refl b))
+            (h, subst P (sym (k.step.walked.collector_is ∙ ap (λ o. after_walk o mid w) e)) (stored p it h s.forest.collector mid refl b))
 
         by : (q : Phase Id V) → old.0.phase ≡ q → At s'.forest.collector
         by (Retire c next q u) e =
@@ -239,7 +236,7 @@ module _ {V : Type 0} (same : V → V → Bool) (always : Bool) (laws : CallLaws
             let under : IsUnderWay old.0.phase = subst P (sym e) tt in
             let is : retiring_at (slice_get s.machines w) ≡ Some c = ap retiring_at old.1 ∙ ap retiring e in (
               Deferred s.forest.collector.next (Some c.name) ∷ h,
-              subst R (sym (k.step.walked.clock ∙ ap (λ o. after_walk o mid w) is))
+              subst R (sym (k.step.walked.collector_is ∙ ap (λ o. after_walk o mid w) is))
                   (deferring p it h mid w c.name (held_place s.forest.collector.table w (g.registered under)) (g.idle under) (retiring_room old.0.kind c next q u (length (place s.forest.collector w).bag) (subst Q e g.secured)) (stored p it h s.forest.collector mid refl b)),
             )
         by _ e = quiet (ap retiring_at old.1 ∙ ap retiring e)
@@ -257,7 +254,7 @@ module _ {V : Type 0} (same : V → V → Bool) (always : Bool) (laws : CallLaws
     begins_tree (point.ComputeInsert k) r x l = reserves (point.ComputeInsert k) r x l
     begins_tree (point.Exchange k a b) r x l = reserves (point.Exchange k a b) r x l
 
-    begins : (o : Op V) (r : Report V) → (w ≡ p → turns_stretch {V = V} (Begin o) (place_of s w) ≡ false) → Does same always s w (Begin o) None r s' → Lasts s → Lasts s'
+    begins : (o : Op V) (r : Report V) → (w ≡ p → ends_stretch {V = V} (Begin o) (place_of s w) ≡ false) → Does same always s w (Begin o) None r s' → Lasts s → Lasts s'
     begins op.Pin r calm x l = collects (collector_event.Begin collector_op.Pin) (Collecting collector_op.Pin) r (λ z. refl) x l
     begins op.Unpin r calm x l = collects (collector_event.Begin collector_op.Unpin) (Collecting collector_op.Unpin) r calm x l
     begins op.Repin r calm x l = collects (collector_event.Begin collector_op.Repin) (Collecting collector_op.Repin) r (λ z. refl) x l
@@ -278,7 +275,7 @@ module _ {V : Type 0} (same : V → V → Bool) (always : Bool) (laws : CallLaws
   -- a writing call begins to make its place free
   begins_securing : (s b : World V) (w : ℕ) → BeginsSecuring same always s.forest s.machines s.calls w b.forest b.machines b.calls → Lasts s → Lasts b
   begins_securing s b w x l = record {
-    on = collected s.forest b.forest s.machines w (collector_event.Begin (collector_op.Secure 2)) x.turn (λ z. refl) x.collected l.on;
+    on = collected s.forest b.forest s.machines w (collector_event.Begin (collector_op.Secure 2)) x.collector_report (λ z. refl) x.collected l.on;
     unheld = λ j y. l.unheld j (y.0, sym (ap (λ ms. slice_get ms j) x.machine) ∙ y.1, y.2);
   }
 
@@ -292,14 +289,15 @@ module _ {V : Type 0} (same : V → V → Bool) (always : Bool) (laws : CallLaws
     goes (Some (Securing c)) noise r e calm x l = securing s s' w holds c r e x l
     goes (Some Walking) noise r e calm x l = walks s s' w holds noise r e x l
 
-    pub does : (event : Event V) (o : Option Fault) (r : Report V) → misuse s w event ≡ o → (w ≡ p → misuse s w event ≡ None → turns_stretch event (place_of s w) ≡ false) → Does same always s w event o r s' → Lasts s → Lasts s'
+    -- a step that doesn't end the stretch leaves the node standing, its removals blocked and no call holding it
+    pub does : (event : Event V) (o : Option Fault) (r : Report V) → misuse s w event ≡ o → (w ≡ p → misuse s w event ≡ None → ends_stretch event (place_of s w) ≡ false) → Does same always s w event o r s' → Lasts s → Lasts s'
     does event (Some f) r e calm x l = same_forest s s' w holds (ap (λ y. y.forest) x.1) (still s s' w holds (ap (λ y. y.machines) x.1)) l
     does Register None r e calm (inl x) l = lasts s s' w holds (subst (λ (f : Nodes V). On f) (sym (ap (λ y. y.forest) x.1.state)) ((l.on.0.0, joined p it l.on.0.0 s.forest.collector x.0 x.1.inside l.on.0.1), l.on.1)) (still s s' w holds (ap (λ y. y.machines) x.1.state)) l
     does Register None r e calm (inr x) l = same_forest s s' w holds (ap (λ y. y.forest) x.state) (still s s' w holds (ap (λ y. y.machines) x.state)) l
     does (Begin o) None r e calm x l = begins s s' w holds o r (λ z. calm z e) x l
     does (Go noise) None r e calm x l = goes (slice_get s.calls w) noise r refl (λ z. calm z e) x l
 
-  step_by : (s : World V) (t : Taken V) (b : Bool) → Holds same always s → (t.step.worker ≡ p → misuse s t.step.worker t.step.event ≡ None → turns_stretch t.step.event (place_of s t.step.worker) ≡ false) → StepsUnless same always b s t.step t.report t.after → Lasts s → Lasts t.after
+  step_by : (s : World V) (t : Taken V) (b : Bool) → Holds same always s → (t.step.worker ≡ p → misuse s t.step.worker t.step.event ≡ None → ends_stretch t.step.event (place_of s t.step.worker) ≡ false) → StepsUnless same always b s t.step t.report t.after → Lasts s → Lasts t.after
   step_by s t true h calm x l = record {
     on = subst (λ (f : Nodes V). On f) (sym (ap (λ (y : World V). y.forest) x.state)) l.on;
     unheld = λ j y. l.unheld j (y.0, sym (ap (λ (z : World V). slice_get z.machines j) x.state) ∙ y.1, y.2);
@@ -308,20 +306,20 @@ module _ {V : Type 0} (same : V → V → Bool) (always : Bool) (laws : CallLaws
       let d : Lasts (engine_of t.after) = does (engine_of s) (engine_of t.after) t.step.worker (h.0, h.1) t.step.event (misuse s t.step.worker t.step.event) x.told refl calm x.engine.does (record { on = l.on; unheld = l.unheld }) in
       record { on = d.on; unheld = d.unheld }
 
-  ends_or : (s : World V) (t : Taken V) → EndsStretch p s t ⊎ (t.step.worker ≡ p → misuse s t.step.worker t.step.event ≡ None → turns_stretch t.step.event (place_of s t.step.worker) ≡ false)
+  ends_or : (s : World V) (t : Taken V) → EndsStretch p s t ⊎ (t.step.worker ≡ p → misuse s t.step.worker t.step.event ≡ None → ends_stretch t.step.event (place_of s t.step.worker) ≡ false)
   ends_or s t = elim (cases_Bool (t.step.worker == p)) [
     | inr b ↦ inr (λ e m. absurd (eqb-false t.step.worker p b e))
     | inl b ↦ (
         let e : t.step.worker ≡ p = eqb-true t.step.worker p b in
-        elim (cases_Bool (turns_stretch t.step.event (place_of s t.step.worker))) [
+        elim (cases_Bool (ends_stretch t.step.event (place_of s t.step.worker))) [
           | inr off ↦ inr (λ q m. off)
           | inl on ↦ by (misuse s t.step.worker t.step.event) refl e on
         ])
   ]
     where
-      by : (o : Option Fault) → misuse s t.step.worker t.step.event ≡ o → t.step.worker ≡ p → turns_stretch t.step.event (place_of s t.step.worker) ≡ true
-          → EndsStretch p s t ⊎ (t.step.worker ≡ p → misuse s t.step.worker t.step.event ≡ None → turns_stretch t.step.event (place_of s t.step.worker) ≡ false)
-      by None m e on = inl (record { worker = e; accepted = subst (λ w. misuse s w t.step.event ≡ None) e m; turns = subst (λ w. turns_stretch t.step.event (place_of s w) ≡ true) e on })
+      by : (o : Option Fault) → misuse s t.step.worker t.step.event ≡ o → t.step.worker ≡ p → ends_stretch t.step.event (place_of s t.step.worker) ≡ true
+          → EndsStretch p s t ⊎ (t.step.worker ≡ p → misuse s t.step.worker t.step.event ≡ None → ends_stretch t.step.event (place_of s t.step.worker) ≡ false)
+      by None m e on = inl (record { worker = e; accepted = subst (λ w. misuse s w t.step.event ≡ None) e m; ends_it = subst (λ w. ends_stretch t.step.event (place_of s w) ≡ true) e on })
       by (Some f) m e on = inr (λ q z. absurd (let y : None ≡ Some f = sym z ∙ m in cc))
 
   all_stand : (s : World V) (ts : List (Taken V)) → Holds same always s → AreTaken same always s ts → Lasts s → StandsOn p n s ts
@@ -358,7 +356,7 @@ module _ {V : Type 0} (same : V → V → Bool) (always : Bool) (laws : CallLaws
     by (inl i) =
         let l : (sound.settled.0 n).status ≡ Linked = laws.leads sound.settled.0 (nodes s.forest) sound.settled.1.tree i.0 0 n sound.settled.1.tree.root i.1 in
         let P : ℕ → Type 0 = λ k. InTree (nodes s.forest) k in
-        from (cells.seen_now h.0.safe.sound.past s.forest.collector p it sound.tells.now (in_reach slot_names s.forest.collector.store (nodes s.forest) s.forest.collector.roots h.0.safe.sound.top (ties slot_names view slot_view s.forest.collector.store) sound.rooted it (subst P (sym (number_named n)) i)))
+        from (cells.seen_now h.0.safe.sound.past s.forest.collector p it sound.tells.now (in_reach slot_names s.forest.collector.store (nodes s.forest) s.forest.collector.roots h.0.safe.sound.top (heap_ties slot_names view slot_view s.forest.collector.store) sound.rooted it (subst P (sym (number_named n)) i)))
         ((sound.settled.1.words.each n).stands (ap is_published l))
         (λ j y. let q : Held j ≡ Linked = sym (held_status j y) ∙ l in cc)
     by (inr c) =
@@ -371,5 +369,6 @@ module _ {V : Type 0} (same : V → V → Bool) (always : Bool) (laws : CallLaws
               from seen st (λ j y. let R : ℕ → Type 0 = λ k. MadeBy id_number y.0.phase k in sound.unseen j y.0 it y.1 (subst R (sym (number_named n)) y.2) (cells.visible_was h.0.safe.sound.past p it seen)))
         ]
 
+  -- a node that a pinned worker sees stands after each step until the worker's stretch ends
   pub stands_on : (s : World V) (ts : List (Taken V)) → Holds same always s → AreTaken same always s ts → SeesNode s p n → StandsOn p n s ts
   stands_on s ts h y v = all_stand s ts h y (sees s h v)

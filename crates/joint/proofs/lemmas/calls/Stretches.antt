@@ -1,5 +1,5 @@
 -- While a stretch lasts, the nodes that it saw stand: it blocks the removal of each.
-use Rattle.std.proofs.Common.{◌≡◌, ◌==◌, ◌<◌, ◌≤◌, ℕ, arith, Bool, true, false, List, [], ◌∷◌, length, refl, sym, ◌∙◌, ap, subst, inl, inr, ◌⊎◌}
+use Rattle.std.proofs.Common.{◌≡◌, ◌==◌, ◌<◌, ℕ, arith, Bool, true, false, List, [], ◌∷◌, length, refl, sym, ◌∙◌, ap, subst, inl, inr, ◌⊎◌}
 use Rattle.std.specs.Prelude.{Option, None, Some, is_some, nat_le, if◌then◌else◌}
 use Rattle.std.proofs.lemmas.Bool.{cases_Bool, cases_eq, eqb-true, eqb-false, false≢true}
 use Rattle.crossbeam_epoch.specs.Limits.{bag_places}
@@ -7,7 +7,7 @@ use Rattle.crossbeam_epoch.specs.declared.bag.Work.TheVariants.{Remove}
 use Rattle.crossbeam_epoch.specs.declared.names.Name.{Name}
 use Rattle.crossbeam_epoch.specs.declared.world.participant.Participant.{Participant}
 use Rattle.crossbeam_epoch.specs.declared.world.participant.Phase.{Phase}
-use Rattle.crossbeam_epoch.specs.declared.world.participant.Phase.TheVariants as stage
+use Rattle.crossbeam_epoch.specs.declared.world.participant.Phase.TheVariants as collector_phase
 use Rattle.crossbeam_epoch.specs.declared.world.report.Event.{Event}
 use Rattle.crossbeam_epoch.specs.declared.world.report.Event.TheVariants.{Begin, Go}
 use Rattle.crossbeam_epoch.specs.declared.world.report.Op.{Op}
@@ -16,7 +16,7 @@ use Rattle.crossbeam_epoch.specs.declared.world.report.Outcome.{Outcome}
 use Rattle.crossbeam_epoch.specs.declared.world.report.Outcome.TheVariants.{Running, Done, Refused}
 use Rattle.crossbeam_epoch.specs.declared.world.report.Report.{Report}
 use Rattle.crossbeam_epoch.specs.World.Fits.{Fits}
-use Rattle.crossbeam_epoch.specs.World.History.{Mark, Pinned, Repinned, Unpinned, Deferred, Called, began, blocks, deferrals, WasDeferred}
+use Rattle.crossbeam_epoch.specs.World.History.{Mark, Pinned, Repinned, Unpinned, Deferred, Called, began, blocks, WasDeferred}
 use Rattle.crossbeam_epoch.specs.World.Machine.{State, place, deferred, deferred_anew, registered, with_store}
 use Rattle.crossbeam_epoch.specs.World.Progress.{Moves, Empties, EmptiesAt}
 use Rattle.crossbeam_epoch.specs.World.Reach.{Act, Quiet, Marked, GivenBack, Moment, with_act, marks_of, changes_pin, mark_changes_pin, LeavesFirst, Visible}
@@ -31,21 +31,6 @@ use Rattle.joint.specs.calls.Stretches.{publishes}
 steady : {A : Type 0} (b : Bool) (x y : A) → b ≡ false → (if b then x else y) ≡ y
 steady false x y e = refl
 steady true x y e = absurd (false≢true (sym e))
-
-abbrev OneTicket : List Mark → Type 0
-OneTicket h = (t : ℕ) → deferrals h t ≤ 1
-
-fewer : (k : Mark) (h : List Mark) (t : ℕ) → deferrals h t ≤ deferrals (k ∷ h) t
-fewer (Pinned who epoch) h t = omega arith
-fewer (Repinned who epoch) h t = omega arith
-fewer (Unpinned who) h t = omega arith
-fewer (Deferred ticket name) h t = omega arith
-fewer (Called ticket name) h t = omega arith
-
-one_before : (a : Act) (h : List Mark) → OneTicket (with_act a h) → OneTicket h
-one_before Quiet h one = one
-one_before (Marked k) h one = λ t. let le = fewer k h t in let few = one t in omega (arith, le, few)
-one_before (GivenBack name) h one = one
 
 -- a mark that isn't the stretch's own leaves what it blocks; a deferral under it is blocked
 blocked_mark : (k : Mark) (h : List Mark) (p t : ℕ) (n : Name) → mark_changes_pin k p ≡ false → is_some (began h p) ≡ true → WasDeferred (k ∷ h) t n → (WasDeferred h t n → blocks h p t ≡ true) → blocks (k ∷ h) p t ≡ true
@@ -81,10 +66,10 @@ pub record IsBlocked {T J : Type 0} (p : ℕ) (n : Name) (h : List Mark) (s : St
   pub all : (t : ℕ) → WasDeferred h t n → blocks h p t ≡ true
 
 -- whether a step of a participant ends its stretch
-abbrev pub turns : {J : Type 0} → Event → Participant J → Bool
-turns (Begin Unpin) q = nat_le q.guards 1
-turns (Begin _) q = false
-turns Go q = publishes q.phase
+abbrev pub ends_now : {J : Type 0} → Event → Participant J → Bool
+ends_now (Begin Unpin) q = nat_le q.guards 1
+ends_now (Begin _) q = false
+ends_now Go q = publishes q.phase
 
 other : (p who : ℕ) → (who ≡ p → ⊥) → (who == p) ≡ false
 other p who n = elim (cases_Bool (who == p)) [
@@ -100,20 +85,23 @@ module _ {T J : Type 0} (p : ℕ) (n : Name) where
     all = λ t d. blocked_mark k h p t n e b.on d (b.all t);
   }
 
+  -- where the cells alone change, what the stretch blocks stays blocked
   pub stored : (h : List Mark) (s s' : State T J) → s' ≡ with_store s s'.store → IsBlocked p n h s → IsBlocked p n h s'
   stored h s s' e b = record { fits = fits_store h s s' e b.fits; on = b.on; all = b.all }
 
+  -- a registration leaves what the stretch blocks
   pub joined : (h : List Mark) (s : State T J) (q : ℕ) → q < length s.table → IsBlocked p n h s → IsBlocked p n h (registered s q)
   joined h s q l b = record { fits = fits_registered h s q l b.fits; on = b.on; all = b.all }
 
-  pub deferring : (h : List Mark) (s : State T J) (who : ℕ) (c : Name) → who < length s.table → (place s who).phase ≡ stage.Idle → length (place s who).bag < bag_places → IsBlocked p n h s → IsBlocked p n (Deferred s.next (Some c) ∷ h) (deferred s who (Remove c))
+  -- a deferral leaves what the stretch blocks, and is blocked itself where it is of that name
+  pub deferring : (h : List Mark) (s : State T J) (who : ℕ) (c : Name) → who < length s.table → (place s who).phase ≡ collector_phase.Idle → length (place s who).bag < bag_places → IsBlocked p n h s → IsBlocked p n (Deferred s.next (Some c) ∷ h) (deferred s who (Remove c))
   deferring h s who c l idle room b = marked (Deferred s.next (Some c)) h s (deferred s who (Remove c)) refl b (by (length (place s who).bag == bag_places) refl (fits_after_deferral h s who (Remove c) l idle b.fits))
     where
       by : (x : Bool) → (length (place s who).bag == bag_places) ≡ x → Fits (Deferred s.next (Some c) ∷ h) (if x then deferred_anew s who (Remove c) else deferred s who (Remove c)) → Fits (Deferred s.next (Some c) ∷ h) (deferred s who (Remove c))
       by false e f = f
       by true e f = absurd (let q : length (place s who).bag ≡ bag_places = eqb-true (length (place s who).bag) bag_places e in omega (arith, q, room))
 
-  marks_begun : (h : List Mark) (s s' : State T J) (who : ℕ) (op : Op) (q : Participant J) → (who ≡ p → turns (Begin op) q ≡ false) → IsBlocked p n h s → Fits (begin_marks who q op h) s' → IsBlocked p n (begin_marks who q op h) s'
+  marks_begun : (h : List Mark) (s s' : State T J) (who : ℕ) (op : Op) (q : Participant J) → (who ≡ p → ends_now (Begin op) q ≡ false) → IsBlocked p n h s → Fits (begin_marks who q op h) s' → IsBlocked p n (begin_marks who q op h) s'
   marks_begun h s s' who Unpin q calm b f = by (nat_le q.guards 1) refl f
     where
       by : (x : Bool) → nat_le q.guards 1 ≡ x → Fits (if x then Unpinned who ∷ h else h) s' → IsBlocked p n (if x then Unpinned who ∷ h else h) s'
@@ -123,17 +111,17 @@ module _ {T J : Type 0} (p : ℕ) (n : Name) where
 
   marks_gone : (h : List Mark) (s s' : State T J) (who epoch : ℕ) (x : Phase) (c : Option (ℕ × Option Name)) → (who ≡ p → publishes x ≡ false) → IsBlocked p n h s → Fits (phase_marks epoch who x c h) s' → IsBlocked p n (phase_marks epoch who x c h) s'
   marks_gone h s s' who epoch x (Some c) calm b f = marked (Called c.0 c.1) h s s' refl b f
-  marks_gone h s s' who epoch (stage.Publish seen) None calm b f = marked (Pinned who epoch) h s s' (other p who (λ z. false≢true (sym (calm z)))) b f
-  marks_gone h s s' who epoch (stage.RepinPublish seen) None calm b f = marked (Repinned who epoch) h s s' (other p who (λ z. false≢true (sym (calm z)))) b f
+  marks_gone h s s' who epoch (collector_phase.Publish seen) None calm b f = marked (Pinned who epoch) h s s' (other p who (λ z. false≢true (sym (calm z)))) b f
+  marks_gone h s s' who epoch (collector_phase.RepinPublish seen) None calm b f = marked (Repinned who epoch) h s s' (other p who (λ z. false≢true (sym (calm z)))) b f
   marks_gone h s s' who epoch _ None calm b f = record { fits = f; on = b.on; all = b.all }
 
-  marks_moved : (h : List Mark) (s s' : State T J) (who : ℕ) (event : Event) (c : Option (ℕ × Option Name)) → (who ≡ p → turns event (place s who) ≡ false) → IsBlocked p n h s → Fits (moved_marks s who event c h) s' → IsBlocked p n (moved_marks s who event c h) s'
+  marks_moved : (h : List Mark) (s s' : State T J) (who : ℕ) (event : Event) (c : Option (ℕ × Option Name)) → (who ≡ p → ends_now event (place s who) ≡ false) → IsBlocked p n h s → Fits (moved_marks s who event c h) s' → IsBlocked p n (moved_marks s who event c h) s'
   marks_moved h s s' who (Begin op) c calm b f = marks_begun h s s' who op (place s who) calm b f
   marks_moved h s s' who Go c calm b f = marks_gone h s s' who s.epoch (place s who).phase c calm b f
 
   -- a step of the collector leaves what the stretch blocks, unless it ends the stretch
-  pub turned : (h : List Mark) (s : State T J) (who : ℕ) (event : Event) (r : Report) → IsReport s who event r → (who ≡ p → turns event (place s who) ≡ false) → IsBlocked p n h s → IsBlocked p n (marks s who event r h) (after s who event r.outcome)
-  turned h s who event r is calm b = by r.outcome (fits_after h s who event r is b.fits)
+  pub blocked_after : (h : List Mark) (s : State T J) (who : ℕ) (event : Event) (r : Report) → IsReport s who event r → (who ≡ p → ends_now event (place s who) ≡ false) → IsBlocked p n h s → IsBlocked p n (marks s who event r h) (after s who event r.outcome)
+  blocked_after h s who event r is calm b = by r.outcome (fits_after h s who event r is b.fits)
     where
       by : (o : Outcome) → Fits (unless_refused o (moved_marks s who event r.called h) h) (after s who event r.outcome) → IsBlocked p n (unless_refused o (moved_marks s who event r.called h) h) (after s who event r.outcome)
       by (Refused e) f = record { fits = f; on = b.on; all = b.all }
@@ -152,6 +140,7 @@ module _ {T J : Type 0} (p : ℕ) (n : Name) where
   called_fits h s who Go Done k s' q f = f
 
   module _ {names : T → List Name} (cells : CellLaws {T = T} J names) where
+    -- a step of the collector doesn't take out a value whose removals are blocked
     pub live_on : (h : List Mark) (s s' : State T J) (who : ℕ) (event : Event) (r : Report) → IsReport s who event r → Moves s who r.called s' → IsBlocked p n h s → is_some (value_at s.store n) ≡ true → is_some (value_at s'.store n) ≡ true
     live_on h s s' who event r is m b live = by r.called refl m.cells
       where

@@ -14,8 +14,8 @@ use Rattle.congee.specs.declared.protocol.machine.Outcome.TheVariants as moved
 use Rattle.congee.specs.declared.protocol.op.Op.{Op as Point}
 use Rattle.congee.specs.declared.protocol.phase.Kind.{Kind}
 use Rattle.congee.specs.declared.protocol.phase.Phase.{Phase}
-use Rattle.congee.specs.declared.protocol.phase.Phase.TheVariants.{Sweep, Ended}
-use Rattle.congee.specs.declared.protocol.sweep.Sweep.{Sweep as Scan}
+use Rattle.congee.specs.declared.protocol.phase.Phase.TheVariants.{Scan, Ended}
+use Rattle.congee.specs.declared.protocol.scan.ScanState.{ScanState as ScanState}
 use Rattle.congee.specs.protocol.Play.{Flight, Pending, Decided, Over, Unbegun, Scanning, Question, Unasked, Asked, Replied, Carries, Undecided, Concludes, ScanTells, Follows, ScanFollows, begun, flight, flight_in}
 use Rattle.congee.specs.protocol.State.{is_done, is_past}
 use Rattle.joint.specs.declared.engine.in_flight.InFlight.{InFlight}
@@ -29,7 +29,8 @@ use Rattle.joint.specs.declared.steps.Report.{Report}
 use Rattle.joint.specs.declared.steps.Step.{Step}
 use Rattle.joint.specs.declared.steps.Target.{Target}
 use Rattle.joint.specs.declared.steps.Target.TheVariants as target
-use Rattle.joint.specs.engine.Intact.{IsAt, root}
+use Rattle.joint.specs.engine.Intact.{IsAt}
+use Rattle.joint.specs.Names.{root}
 use Rattle.joint.specs.engine.Journaling.{asks_at}
 use Rattle.joint.specs.Reports.{collected, target, told}
 use Rattle.joint.specs.calls.Runs.{Taken, AreTaken, after_all}
@@ -41,7 +42,7 @@ use Rattle.joint.specs.calls.Wanted.{is_question, wants_if, wants_after}
 use Rattle.joint.specs.world.World.{Holds, IsStep, StepsUnless, finds_journal_full}
 use Rattle.joint.proofs.lemmas.engine.Collecting.{get_inside}
 use Rattle.joint.proofs.lemmas.world.Flights.{ends_stays, flight_here, flight_apart}
-use Rattle.joint.proofs.lemmas.world.JournaledSteps.{mapped}
+use Rattle.joint.proofs.lemmas.world.JournaledSteps.{step_mapped}
 use Rattle.joint.proofs.lemmas.world.JournalPlaces.{asks_here, begun_asks}
 use Rattle.joint.proofs.lemmas.world.Requested.{asks, is_asked}
 use Rattle.joint.proofs.lemmas.calls.Runs.{fresh_flights}
@@ -98,18 +99,18 @@ module _ {V : Type 0} where
   here_tells : (same : V → V → Bool) (fs : Flights V) (f : Flight V) (m : Pairs V) (answer : Option (Option V)) (l : Line V) (fs' : Flights V) → fs l.step.worker ≡ f → (f ≡ Over → is_question l.report.outcome ≡ false) → GoMap same fs f m answer l fs'
       → asks (fs' l.step.worker) ≡ is_question l.report.outcome
   here_tells same fs Over m answer l fs' e n x = ap (λ (y : Flights V). asks (y l.step.worker)) x.same_flights ∙ ap asks e ∙ sym (n refl)
-  here_tells same fs (Pending k kd v q) m answer l fs' e n x = ap (λ (y : Flights V). asks (y l.step.worker)) x.advances ∙ ap asks (flight_here fs l.step.worker x.next) ∙ pending_tells same k kd _ _ m l.report.decided l x.next x.step
-  here_tells same fs (Decided r) m answer l fs' e n x = ap (λ (y : Flights V). asks (y l.step.worker)) x.advances ∙ ap asks (flight_here fs l.step.worker x.next) ∙ concluded_tells r x.step.outcome x.next x.step.concludes ∙ sym (ap is_question x.step.told_so)
-  here_tells same fs (Unbegun start end size) m answer l fs' e n x = ap (λ (y : Flights V). asks (y l.step.worker)) x.advances ∙ ap asks (flight_here fs l.step.worker x.next) ∙ scan_tells start end size _ _ x.step.outcome x.next x.step.tells ∙ sym (ap is_question x.step.told_so)
-  here_tells same fs (Scanning start end size states places) m answer l fs' e n x = ap (λ (y : Flights V). asks (y l.step.worker)) x.advances ∙ ap asks (flight_here fs l.step.worker x.next) ∙ scan_tells start end size _ _ x.step.outcome x.next x.step.tells ∙ sym (ap is_question x.step.told_so)
+  here_tells same fs (Pending k kd v q) m answer l fs' e n x = ap (λ (y : Flights V). asks (y l.step.worker)) x.with_next ∙ ap asks (flight_here fs l.step.worker x.next) ∙ pending_tells same k kd _ _ m l.report.decided l x.next x.step
+  here_tells same fs (Decided r) m answer l fs' e n x = ap (λ (y : Flights V). asks (y l.step.worker)) x.with_next ∙ ap asks (flight_here fs l.step.worker x.next) ∙ concluded_tells r x.step.outcome x.next x.step.concludes ∙ sym (ap is_question x.step.told_so)
+  here_tells same fs (Unbegun start end size) m answer l fs' e n x = ap (λ (y : Flights V). asks (y l.step.worker)) x.with_next ∙ ap asks (flight_here fs l.step.worker x.next) ∙ scan_tells start end size _ _ x.step.outcome x.next x.step.tells ∙ sym (ap is_question x.step.told_so)
+  here_tells same fs (Scanning start end size states places) m answer l fs' e n x = ap (λ (y : Flights V). asks (y l.step.worker)) x.with_next ∙ ap asks (flight_here fs l.step.worker x.next) ∙ scan_tells start end size _ _ x.step.outcome x.next x.step.tells ∙ sym (ap is_question x.step.told_so)
 
   -- and leaves the others
   apart_stays : (same : V → V → Bool) (fs : Flights V) (f : Flight V) (m : Pairs V) (answer : Option (Option V)) (l : Line V) (fs' : Flights V) (w : ℕ) → w ≢ l.step.worker → GoMap same fs f m answer l fs' → fs' w ≡ fs w
   apart_stays same fs Over m answer l fs' w n x = ap (λ (y : Flights V). y w) x.same_flights
-  apart_stays same fs (Pending k kd v q) m answer l fs' w n x = ap (λ (y : Flights V). y w) x.advances ∙ flight_apart fs l.step.worker w x.next n
-  apart_stays same fs (Decided r) m answer l fs' w n x = ap (λ (y : Flights V). y w) x.advances ∙ flight_apart fs l.step.worker w x.next n
-  apart_stays same fs (Unbegun start end size) m answer l fs' w n x = ap (λ (y : Flights V). y w) x.advances ∙ flight_apart fs l.step.worker w x.next n
-  apart_stays same fs (Scanning start end size states places) m answer l fs' w n x = ap (λ (y : Flights V). y w) x.advances ∙ flight_apart fs l.step.worker w x.next n
+  apart_stays same fs (Pending k kd v q) m answer l fs' w n x = ap (λ (y : Flights V). y w) x.with_next ∙ flight_apart fs l.step.worker w x.next n
+  apart_stays same fs (Decided r) m answer l fs' w n x = ap (λ (y : Flights V). y w) x.with_next ∙ flight_apart fs l.step.worker w x.next n
+  apart_stays same fs (Unbegun start end size) m answer l fs' w n x = ap (λ (y : Flights V). y w) x.with_next ∙ flight_apart fs l.step.worker w x.next n
+  apart_stays same fs (Scanning start end size states places) m answer l fs' w n x = ap (λ (y : Flights V). y w) x.with_next ∙ flight_apart fs l.step.worker w x.next n
 
   -- a begin leaves what each call wants
   accepted_stays : (fs : Flights V) (w u : ℕ) (p : Point V) → fs u ≡ Over → asks (with_flight fs u (flight (begun root p)) w) ≡ asks (fs w)
@@ -130,11 +131,6 @@ module _ {V : Type 0} where
   target_stays fs m (target.Tree p) l fs' w x = begins_stays fs m p l.report.outcome l fs' w x
   target_stays fs m (target.Survey k) l fs' w x = ap (λ (y : Flights V). asks (y w)) x.stays.same_flights
 
-  wants_apart : (before : Bool) (event : Event V) (o : Outcome V) → wants_if before false event o ≡ before
-  wants_apart before Register o = refl
-  wants_apart before (Begin op) o = refl
-  wants_apart before (Go noise) o = refl
-
   event_tells : (same : V → V → Bool) (fs : Flights V) (m : Pairs V) (event : Event V) (l : Line V) (fs' : Flights V) (w : ℕ) → ((noise : Noise Id V) → event ≡ Go noise → fs l.step.worker ≡ Over → is_question l.report.outcome ≡ false) → EventMap same fs m event l fs'
       → (b : Bool) → (l.step.worker == w) ≡ b → asks (fs' w) ≡ wants_if (asks (fs w)) b event l.report.outcome
   event_tells same fs m Register l fs' w n x true e = ap (λ (y : Flights V). asks (y w)) x.same_flights
@@ -151,7 +147,7 @@ module _ {V : Type 0} where
   pointed k kd v Ended u e = u
   pointed k kd v _ u e = cc e
 
-  scanned : (s : Scan Id V) → is_done {V = V} (Sweep s) ≡ false → ScanFollows s Over → ⊥
+  scanned : (s : ScanState Id V) → is_done {V = V} (Scan s) ≡ false → ScanFollows s Over → ⊥
   scanned s d (inl x) = let e = x.0 in cc e
   scanned s d (inr (inl x)) = absurd (false≢true (sym d ∙ ap is_past x.1))
   scanned s d (inr (inr x)) = let e = x.2 in cc e
@@ -172,9 +168,9 @@ module _ {V : Type 0} (same : V → V → Bool) (always : Bool) where
     goes_quiet : (k : Option (InFlight V)) (noise : Noise Id V) (r : Report V) → slice_get s.calls w ≡ k → GoesAt same always s w k noise r s' → is_question r.outcome ≡ false
     goes_quiet None noise r e x = absurd x
     goes_quiet (Some Idle) noise r e x = absurd x
-    goes_quiet (Some (Collecting c)) noise r e x = ap (λ y. is_question y.outcome) x.report ∙ of_collector V x.turn.outcome
-    goes_quiet (Some (Reserving p)) noise r e x = ap (λ y. is_question y.outcome) x.goes.report ∙ of_reserving V x.goes.turn.outcome
-    goes_quiet (Some (Securing p)) noise r e x = ap (λ y. is_question y.outcome) x.report ∙ of_reserving V x.turn.outcome
+    goes_quiet (Some (Collecting c)) noise r e x = ap (λ y. is_question y.outcome) x.report ∙ of_collector V x.collector_report.outcome
+    goes_quiet (Some (Reserving p)) noise r e x = ap (λ y. is_question y.outcome) x.goes.report ∙ of_reserving V x.goes.collector_report.outcome
+    goes_quiet (Some (Securing p)) noise r e x = ap (λ y. is_question y.outcome) x.report ∙ of_reserving V x.collector_report.outcome
     goes_quiet (Some Walking) noise r e x = absurd (none_walks e)
 
     does_quiet : (noise : Noise Id V) (o : Option Fault) (r : Report V) → Does same always s w (Go noise) o r s' → is_question r.outcome ≡ false
@@ -188,20 +184,22 @@ module _ {V : Type 0} (same : V → V → Bool) (always : Bool) where
       ap (λ y. is_question y.outcome) x.report
       ∙ does_quiet (engine_of s) (engine_of s') step.worker (holds.0, holds.1) fs (record { each = fl.each; beyond = fl.beyond }) over noise (misuse (engine_of s) step.worker (Go noise)) x.told (subst P e x.engine.does)
 
-  -- what each call wants after a step
+  -- a call wants an answer after a step of its own that asks, and after another's where it did before
   pub step_wants : (s : World V) (step : Step V) (r : Report V) (s' : World V) (w : ℕ) → Holds same always s → IsStep same always s step r s'
       → asks_at (slice_get s'.machines w) ≡ wants_if (asks_at (slice_get s.machines w)) (step.worker == w) step.event r.outcome
   step_wants s step r s' w h x =
-      let a = mapped same always s step s' h.2.flights h.2.pairs h x.holds h.2.stand h.2.in_flight r x in
+      let a = step_mapped same always s step s' h.2.flights h.2.pairs h x.holds h.2.stand h.2.in_flight r x in
       let l : Line V = record { step = step; report = r; entry = a.entry; pairs = a.pairs } in
       let before = asks_here same always s w (h.0, h.1) h.2.flights h.2.in_flight in
       let after = asks_here same always s' w (x.holds.0, x.holds.1) a.flights a.in_flight in
       let quiet : (noise : Noise Id V) → step.event ≡ Go noise → h.2.flights step.worker ≡ Over → is_question r.outcome ≡ false = λ noise e over. step_quiet s s' step r (finds_journal_full s step.worker step.event) h h.2.flights h.2.in_flight noise e over x.does in
       after ∙ event_tells same h.2.flights h.2.pairs step.event l a.flights w quiet a.map (step.worker == w) refl ∙ sym (ap (λ b. wants_if b (step.worker == w) step.event r.outcome) before)
 
+  -- after any steps a call wants an answer just where what its worker was told says so
   pub run_wants : (s : World V) (ts : List (Taken V)) (w : ℕ) → Holds same always s → AreTaken same always s ts → asks_at (slice_get (after_all s ts).machines w) ≡ wants_after w (asks_at (slice_get s.machines w)) ts
   run_wants s [] w h x = refl
   run_wants s (t ∷ ts) w h x = run_wants t.after ts w x.0.holds x.1 ∙ ap (λ b. wants_after w b ts) (step_wants s t.step t.report t.after w h x.0)
 
+  -- from a root alone on it wants one just where what the worker was told since says so
   pub fresh_wants : (s : World V) (ts : List (Taken V)) (w : ℕ) → IsFresh s → Holds same always s → AreTaken same always s ts → asks_at (slice_get (after_all s ts).machines w) ≡ wants_after w false ts
   fresh_wants s ts w fresh h x = run_wants s ts w h x ∙ ap (λ b. wants_after w b ts) (asks_here same always s w (h.0, h.1) no_flights (fresh_flights same always s fresh))

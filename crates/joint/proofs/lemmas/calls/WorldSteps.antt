@@ -27,17 +27,18 @@ use Rattle.joint.specs.nodes.Nodes.{nodes}
 use Rattle.joint.specs.engine.Intact.{is_reserving}
 use Rattle.joint.specs.engine.Journaling.{entry_of, has_place, in_list, kept_if, one_where, places_of, reply_by}
 use Rattle.joint.specs.engine.Log.{Log, asked, has_room, answered_if, is_full, with_request, opened_log, recounted, request_at}
-use Rattle.joint.specs.Reports.{target}
-use Rattle.joint.specs.engine.Engine.{IsFresh, World, EngineHolds, IsEngineStep, engine_of, is_in_flight, quiet}
+use Rattle.joint.specs.Reports.{target, is_in_flight}
+use Rattle.joint.specs.engine.Engine.{IsFresh, World, EngineHolds, IsEngineStep, engine_of, quiet}
 use Rattle.joint.specs.engine.Flying.{no_flights}
 use Rattle.joint.specs.world.World.{Holds, IsLogged, IsStep, StepsUnless, entry_at, finds_journal_full, answered_request, kept_at, requests_after}
 use Rattle.joint.proofs.lemmas.world.Effects.{begin_undecided}
 use Rattle.joint.proofs.lemmas.engine.Entering.{begin_even, register_even}
-use Rattle.joint.proofs.lemmas.world.JournalFull.{given_up, gives_up_flight, gives_up_logged}
-use Rattle.joint.proofs.lemmas.world.Logged.{event_maps, steps}
+use Rattle.joint.proofs.lemmas.world.JournalFull.{after_full, after_full_flight, after_full_logged}
+use Rattle.joint.proofs.lemmas.world.Logged.{event_maps, logged_step}
 use Rattle.joint.proofs.lemmas.engine.Recounting.{has_room_is}
 use Rattle.joint.proofs.lemmas.calls.Runs.{standing_empty, fresh_flights}
 use Rattle.joint.proofs.lemmas.engine.UnkeptReports.{unkept}
+use Rattle.joint.proofs.lemmas.world.RunJournals.{none_kept as journal_none}
 
 recounted_even : (p : ℕ) (b : Bool) (n : ℕ) → recounted p b b n ≡ n
 recounted_even zero b n = refl
@@ -60,7 +61,7 @@ module _ {V : Type 0} (same : V → V → Bool) (always : Bool) where
         let none : kept_at s w step.event told s' ≡ None = kept_none d in
         let P : Bool → Type 0 = λ b. told ≡ record told { kept = b } in
         let unchanged : told ≡ record told { kept = false } = ap (λ b. record told { kept = b }) (unkept same always (engine_of s) (engine_of s') w step.event _ told e.does) in
-        steps same always s s' step told h e (record {
+        logged_step same always s s' step told h e (record {
           entries = entries ∙ sym (append-nil s.log.entries) ∙ ap (λ o. s.log.entries ++ in_list o) (sym none);
           places = places;
           reserved = reserved ∙ sym (recounted_even s.log.places (has_place (slice_get s.calls w) (slice_get s.machines w)) s.log.reserved) ∙ ap (λ b. recounted s.log.places (has_place (slice_get s.calls w) (slice_get s.machines w)) b s.log.reserved) (sym even);
@@ -68,6 +69,7 @@ module _ {V : Type 0} (same : V → V → Bool) (always : Bool) where
           long = long;
         }) g told (unchanged ∙ ap (λ o. record told { kept = is_some o }) (sym none))
 
+  -- a registration of the engine is a step of the whole machine that writes nothing down
   pub register_step : (s s' : World V) (worker : ℕ) (told : Report V) → Holds same always s → IsEngineStep same always (engine_of s) (record { worker = worker; event = Register }) told (engine_of s') → s'.log ≡ s.log
       → IsStep same always s (record { worker = worker; event = Register }) told s'
   register_step s s' worker told h e l =
@@ -75,7 +77,7 @@ module _ {V : Type 0} (same : V → V → Bool) (always : Bool) where
       still s s' (record { worker = worker; event = Register }) told h e d refl (register_even same always (engine_of s) (engine_of s') worker (h.0, h.1) told e.does)
       (ap (λ (y : Log V). y.entries) l) (ap (λ (y : Log V). y.places) l) (ap (λ (y : Log V). y.reserved) l) (λ a. ap (λ (y : Log V). y.requests) l) (ap (λ (y : Log V). length y.requests) l)
 
-  -- a begin
+  -- a begin of the engine, with what was asked for written down, is a step of the whole machine
   pub begin_step : (s s' : World V) (worker : ℕ) (op : Op V) (q : Option (Request V)) (told : Report V) → Holds same always s → IsEngineStep same always (engine_of s) (record { worker = worker; event = Begin op }) told (engine_of s')
       → (always ≡ true → q ≡ asked op) → s'.log ≡ with_request s.log worker (is_in_flight told.outcome) q → IsStep same always s (record { worker = worker; event = Begin op }) told s'
   begin_step s s' worker op q told h e i l =
@@ -111,8 +113,8 @@ module _ {V : Type 0} (same : V → V → Bool) (always : Bool) where
   -- down where there is room, and what it asked for goes where its call doesn't go on
   abbrev pub went_log : Log V → ℕ → Bool → Bool → Bool → Option (Entry V) → Bool → Option (Request V) → Log V
   went_log l worker before after decided entry on q =
-      let heard : Log V = record l { requests = slice_set l.requests worker q } in
-      let counted : Log V = record heard { reserved = recounted l.places before after l.reserved } in
+      let taken_log : Log V = record l { requests = slice_set l.requests worker q } in
+      let counted : Log V = record taken_log { reserved = recounted l.places before after l.reserved } in
       let kept : Log V = record counted { entries = l.entries ++ in_list (kept_if decided (has_room counted) entry) } in
       with_request kept worker (not on) None
 
@@ -132,9 +134,9 @@ module _ {V : Type 0} (same : V → V → Bool) (always : Bool) where
   went_requests l worker b a d x true q = refl
   went_requests l worker b a d x false q = set-set l.requests worker q None
 
-  -- the request in a worker's place once it has heard an answer; beyond the places there is none
-  heard_here : (qs : List (Option (Request V))) (w : ℕ) (answer : Option (Option V)) (o : Option (Request V)) → o ≡ answered_if true answer (request_at qs w) → request_at (slice_set qs w o) w ≡ answered_if true answer (request_at qs w)
-  heard_here qs w answer o e = elim (cases_Bool (ltb w (length qs))) [
+  -- the request in a worker's place once it has taken an answer; beyond the places there is none
+  answered_here : (qs : List (Option (Request V))) (w : ℕ) (answer : Option (Option V)) (o : Option (Request V)) → o ≡ answered_if true answer (request_at qs w) → request_at (slice_set qs w o) w ≡ answered_if true answer (request_at qs w)
+  answered_here qs w answer o e = elim (cases_Bool (ltb w (length qs))) [
     | inl x ↦ get_or-set_same qs w o None (ltb-true w (length qs) x) ∙ e
     | inr x ↦ (let p : length qs ≤ w = ltb-false w (length qs) x in
         get_or_past (slice_set qs w o) w None (let n : length (slice_set qs w o) ≡ length qs = length-set qs w o in omega (arith, p, n))
@@ -145,8 +147,8 @@ module _ {V : Type 0} (same : V → V → Bool) (always : Bool) where
   put_here qs w o = sym (set-get_or (slice_set qs w o) w None) ∙ set-set qs w o (request_at (slice_set qs w o) w)
 
   -- by its parts
-  abbrev heard_of : Log V → ℕ → Option (Request V) → Log V
-  heard_of l worker q = record l { requests = slice_set l.requests worker q }
+  abbrev answered_log : Log V → ℕ → Option (Request V) → Log V
+  answered_log l worker q = record l { requests = slice_set l.requests worker q }
 
   abbrev count_of : Log V → Bool → Bool → Log V
   count_of l b a = record l { reserved = recounted l.places b a l.reserved }
@@ -154,31 +156,38 @@ module _ {V : Type 0} (same : V → V → Bool) (always : Bool) where
   abbrev kept_of : Log V → Bool → Option (Entry V) → Log V
   kept_of l d x = record l { entries = l.entries ++ in_list (kept_if d (has_room l) x) }
 
-  pub hear_put : (l l1 l2 : Log V) (w : ℕ) (h : Option (Request V)) → l1 ≡ heard_of l w None → l2 ≡ heard_of l1 w h → l2 ≡ heard_of l w h
-  hear_put l l1 l2 w h e1 e2 = e2 ∙ ap (λ (y : Log V). heard_of y w h) e1 ∙ ap (λ qs. record l { requests = qs }) (set-set l.requests w None h)
+  -- a request that is taken out of its place and put back changes nothing but that place
+  pub answer_put : (l l1 l2 : Log V) (w : ℕ) (h : Option (Request V)) → l1 ≡ answered_log l w None → l2 ≡ answered_log l1 w h → l2 ≡ answered_log l w h
+  answer_put l l1 l2 w h e1 e2 = e2 ∙ ap (λ (y : Log V). answered_log y w h) e1 ∙ ap (λ qs. record l { requests = qs }) (set-set l.requests w None h)
 
-  pub hear_left : (l l' : Log V) (w : ℕ) (h : Option (Request V)) → l' ≡ heard_of l w h → l' ≡ heard_of l w (request_at l'.requests w)
-  hear_left l l' w h e = e ∙ ap (λ qs. record l { requests = qs }) (put_here l.requests w h) ∙ ap (λ (y : Log V). heard_of l w (request_at y.requests w)) (sym e)
+  -- the request in a worker's place is the one that was put there
+  pub answer_left : (l l' : Log V) (w : ℕ) (h : Option (Request V)) → l' ≡ answered_log l w h → l' ≡ answered_log l w (request_at l'.requests w)
+  answer_left l l' w h e = e ∙ ap (λ qs. record l { requests = qs }) (put_here l.requests w h) ∙ ap (λ (y : Log V). answered_log l w (request_at y.requests w)) (sym e)
 
-  pub hear_heard : (l l' : Log V) (w : ℕ) (answer : Option (Option V)) (h : Option (Request V)) → l' ≡ heard_of l w h → h ≡ answered_if true answer (request_at l.requests w) → request_at l'.requests w ≡ answered_if true answer (request_at l.requests w)
-  hear_heard l l' w answer h e i = ap (λ (y : Log V). request_at y.requests w) e ∙ heard_here l.requests w answer h i
+  -- the request in a worker's place is the one before with the answer that it took
+  pub answer_taken : (l l' : Log V) (w : ℕ) (answer : Option (Option V)) (h : Option (Request V)) → l' ≡ answered_log l w h → h ≡ answered_if true answer (request_at l.requests w) → request_at l'.requests w ≡ answered_if true answer (request_at l.requests w)
+  answer_taken l l' w answer h e i = ap (λ (y : Log V). request_at y.requests w) e ∙ answered_here l.requests w answer h i
 
-  pub went_by : (l l1 l2 l3 l4 : Log V) (worker : ℕ) (b a b' a' d : Bool) (x : Option (Entry V)) (on on' : Bool) (q : Option (Request V)) → l1 ≡ heard_of l worker q → l2 ≡ count_of l1 b a → recounted l.places b a l.reserved ≡ recounted l.places b' a' l.reserved → l3 ≡ kept_of l2 d x → l4 ≡ with_request l3 worker (not on) None → on ≡ on'
+  -- the parts of what is written down in a further step, one after another, are the whole of it
+  pub went_by : (l l1 l2 l3 l4 : Log V) (worker : ℕ) (b a b' a' d : Bool) (x : Option (Entry V)) (on on' : Bool) (q : Option (Request V)) → l1 ≡ answered_log l worker q → l2 ≡ count_of l1 b a → recounted l.places b a l.reserved ≡ recounted l.places b' a' l.reserved → l3 ≡ kept_of l2 d x → l4 ≡ with_request l3 worker (not on) None → on ≡ on'
       → l4 ≡ went_log l worker b' a' d x on' q
   went_by l l1 l2 l3 l4 worker b a b' a' d x on on' q e1 e2 ec e3 e4 eo =
       e4 ∙ ap (λ (y : Log V). with_request y worker (not on) None) e3 ∙ ap (λ (y : Log V). with_request (kept_of y d x) worker (not on) None) e2 ∙ ap (λ (y : Log V). with_request (kept_of (count_of y b a) d x) worker (not on) None) e1
-      ∙ ap (λ n. with_request (kept_of (record (heard_of l worker q) { reserved = n }) d x) worker (not on) None) ec
-      ∙ ap (λ y. with_request (kept_of (count_of (heard_of l worker q) b' a') d x) worker (not y) None) eo
+      ∙ ap (λ n. with_request (kept_of (record (answered_log l worker q) { reserved = n }) d x) worker (not on) None) ec
+      ∙ ap (λ y. with_request (kept_of (count_of (answered_log l worker q) b' a') d x) worker (not y) None) eo
 
-  pub room_by : (l l1 l2 : Log V) (worker : ℕ) (q : Option (Request V)) (b a b' a' : Bool) → l1 ≡ heard_of l worker q → l2 ≡ count_of l1 b a → recounted l.places b a l.reserved ≡ recounted l.places b' a' l.reserved → has_room l2 ≡ has_room (record l { reserved = recounted l.places b' a' l.reserved })
+  -- there is room for the entry just where there is once the places are counted anew
+  pub room_by : (l l1 l2 : Log V) (worker : ℕ) (q : Option (Request V)) (b a b' a' : Bool) → l1 ≡ answered_log l worker q → l2 ≡ count_of l1 b a → recounted l.places b a l.reserved ≡ recounted l.places b' a' l.reserved → has_room l2 ≡ has_room (record l { reserved = recounted l.places b' a' l.reserved })
   room_by l l1 l2 worker q b a b' a' e1 e2 ec =
-      ap has_room e2 ∙ ap (λ (y : Log V). has_room (count_of y b a)) e1 ∙ ap (λ n. has_room (record (heard_of l worker q) { reserved = n })) ec
+      ap has_room e2 ∙ ap (λ (y : Log V). has_room (count_of y b a)) e1 ∙ ap (λ n. has_room (record (answered_log l worker q) { reserved = n })) ec
 
-  pub kept_by : (l l1 l2 : Log V) (worker : ℕ) (q : Option (Request V)) (b a b' a' d k : Bool) (x : Option (Entry V)) (told r : Report V) → l1 ≡ heard_of l worker q → l2 ≡ count_of l1 b a → recounted l.places b a l.reserved ≡ recounted l.places b' a' l.reserved → k ≡ is_some (kept_if d (has_room l2) x) → r ≡ record told { kept = k }
+  -- the report says that the journal kept the call just where its entry is written down
+  pub kept_by : (l l1 l2 : Log V) (worker : ℕ) (q : Option (Request V)) (b a b' a' d k : Bool) (x : Option (Entry V)) (told r : Report V) → l1 ≡ answered_log l worker q → l2 ≡ count_of l1 b a → recounted l.places b a l.reserved ≡ recounted l.places b' a' l.reserved → k ≡ is_some (kept_if d (has_room l2) x) → r ≡ record told { kept = k }
       → r ≡ record told { kept = is_some (kept_if d (has_room (record l { reserved = recounted l.places b' a' l.reserved })) x) }
   kept_by l l1 l2 worker q b a b' a' d k x told r e1 e2 ec ek er =
       er ∙ ap (λ y. record told { kept = y }) (ek ∙ ap (λ y. is_some (kept_if d y x)) (room_by l l1 l2 worker q b a b' a' e1 e2 ec))
 
+  -- the places counted anew are as many where the same calls have one
   pub recounted_same : (places : ℕ) (b a b' a' : Bool) (n : ℕ) → b ≡ b' → a ≡ a' → recounted places b a n ≡ recounted places b' a' n
   recounted_same places b a b' a' n eb ea = ap (λ y. recounted places y a n) eb ∙ ap (λ y. recounted places b' y n) ea
 
@@ -215,11 +224,12 @@ module _ {V : Type 0} (same : V → V → Bool) (always : Bool) where
         same_kept counted told.decided x (entry_at s worker (Go noise) told s') (λ d z. y (room_always z) d z ∙ ap (λ o. entry_of worker o (reply_by told.outcome (slice_get s'.machines worker))) (i (room_always z)))
         ∙ ap (λ b. kept_if told.decided b (entry_at s worker (Go noise) told s')) (sym (same_room l))
 
+    -- a further step of the engine, with this written down, is a step of the whole machine
     pub go_step : s'.log ≡ left → (always ≡ true → told.decided ≡ true → has_room counted ≡ true → x ≡ entry_of worker q (reply_by told.outcome (slice_get s'.machines worker))) → r ≡ record told { kept = is_some (kept_if told.decided (has_room counted) x) }
         → IsStep same always s (record { worker = worker; event = Go noise }) r s'
     go_step l y is =
         let on : Bool = is_in_flight told.outcome in
-        steps same always s s' (record { worker = worker; event = Go noise }) told h e (record {
+        logged_step same always s s' (record { worker = worker; event = Go noise }) told h e (record {
           entries = ap (λ (z : Log V). z.entries) l ∙ went_entries s.log worker before after told.decided x on q ∙ ap (λ o. s.log.entries ++ in_list o) (kept_same l y);
           places = ap (λ (z : Log V). z.places) l ∙ went_places s.log worker before after told.decided x on q;
           reserved = ap (λ (z : Log V). z.reserved) l ∙ went_reserved s.log worker before after told.decided x on q;
@@ -246,16 +256,17 @@ module _ {V : Type 0} (same : V → V → Bool) (always : Bool) where
     by true f = f
     by false f = refl
 
-  unkept_log : (l l1 l' : Log V) (w : ℕ) (b a d on on' : Bool) (q : Option (Request V)) → ltb 0 l.places ≡ false → l1 ≡ heard_of l w q → l' ≡ with_request l1 w (not on) None → on ≡ on' → l' ≡ went_log l w b a d None on' q
+  unkept_log : (l l1 l' : Log V) (w : ℕ) (b a d on on' : Bool) (q : Option (Request V)) → ltb 0 l.places ≡ false → l1 ≡ answered_log l w q → l' ≡ with_request l1 w (not on) None → on ≡ on' → l' ≡ went_log l w b a d None on' q
   unkept_log l l1 l' w b a d on on' q e e1 e2 eo =
       e2 ∙ ap (λ (y : Log V). with_request y w (not on) None) e1
-      ∙ ap (λ es. with_request (record (heard_of l w q) { entries = es }) w (not on) None) (sym (append-nil l.entries))
-      ∙ ap (λ o. with_request (record (heard_of l w q) { entries = l.entries ++ in_list o }) w (not on) None) (sym (kept_nothing d (has_room (record (heard_of l w q) { reserved = recounted l.places b a l.reserved }))))
-      ∙ ap (λ n. with_request (record (heard_of l w q) { entries = l.entries ++ in_list (kept_if d (has_room (record (heard_of l w q) { reserved = recounted l.places b a l.reserved })) None); reserved = n }) w (not on) None) (sym (unkept_count l.places b a l.reserved e))
-      ∙ ap (λ y. with_request (kept_of (count_of (heard_of l w q) b a) d None) w (not y) None) eo
+      ∙ ap (λ es. with_request (record (answered_log l w q) { entries = es }) w (not on) None) (sym (append-nil l.entries))
+      ∙ ap (λ o. with_request (record (answered_log l w q) { entries = l.entries ++ in_list o }) w (not on) None) (sym (kept_nothing d (has_room (record (answered_log l w q) { reserved = recounted l.places b a l.reserved }))))
+      ∙ ap (λ n. with_request (record (answered_log l w q) { entries = l.entries ++ in_list (kept_if d (has_room (record (answered_log l w q) { reserved = recounted l.places b a l.reserved })) None); reserved = n }) w (not on) None) (sym (unkept_count l.places b a l.reserved e))
+      ∙ ap (λ y. with_request (kept_of (count_of (answered_log l w q) b a) d None) w (not y) None) eo
 
+  -- so is one where no journal is kept, of which the request alone is written down
   pub unkept_step : (s s' : World V) (worker : ℕ) (noise : Noise Id V) (q : Option (Request V)) (l1 : Log V) (on : Bool) (told : Report V) → Holds same always s → IsEngineStep same always (engine_of s) (record { worker = worker; event = Go noise }) told (engine_of s') → ltb 0 s.log.places ≡ false
-      → (always ≡ true → q ≡ answered_request s worker (Go noise)) → l1 ≡ heard_of s.log worker q → s'.log ≡ with_request l1 worker (not on) None → on ≡ is_in_flight told.outcome → IsStep same always s (record { worker = worker; event = Go noise }) told s'
+      → (always ≡ true → q ≡ answered_request s worker (Go noise)) → l1 ≡ answered_log s.log worker q → s'.log ≡ with_request l1 worker (not on) None → on ≡ is_in_flight told.outcome → IsStep same always s (record { worker = worker; event = Go noise }) told s'
   unkept_step s s' worker noise q l1 on told h e z i e1 e2 eo =
       let b = has_place (slice_get s.calls worker) (slice_get s.machines worker) in
       let a = has_place (slice_get s'.calls worker) (slice_get s'.machines worker) in
@@ -265,29 +276,26 @@ module _ {V : Type 0} (same : V → V → Bool) (always : Bool) where
       (λ y d r. absurd (unkept_room counted z r))
       (ap (λ k. record told { kept = k }) (unkept same always (engine_of s) (engine_of s') worker (Go noise) _ told e.does) ∙ ap (λ o. record told { kept = is_some o }) (sym (kept_nothing told.decided (has_room counted))))
 
-  -- without an answer there is nothing to hear
-  none_heard : (b : Bool) (q : Option (Request V)) → answered_if b None q ≡ q
-  none_heard true (Some q) = refl
-  none_heard true None = refl
-  none_heard false q = refl
-
+  -- where both of two tests hold, the first does
   pub and_left : (a b : Bool) → (a && b) ≡ true → a ≡ true
   and_left true b e = refl
   and_left false b e = e
 
+  -- where both of two tests hold, the second does
   pub and_right : (a b : Bool) → (a && b) ≡ true → b ≡ true
   and_right true b e = e
   and_right false b e = absurd (cc e)
 
-  pub give_up_step : (s s' : World V) (worker : ℕ) (noise : Noise Id V) (r : Report V) (h : Holds same always s) (b : is_reserving (slice_get s.calls worker) ≡ true) → is_full s.log ≡ true → EngineHolds same always s'
-      → s' ≡ given_up same always s worker h b → r ≡ quiet OfCollector (Refused JournalFull) → IsStep same always s (record { worker = worker; event = Go noise }) r s'
-  give_up_step s s' worker noise r h b f h' e q =
+  -- a writing call that finds the journal full and is given up is a step of the whole machine
+  pub tell_full_step : (s s' : World V) (worker : ℕ) (noise : Noise Id V) (r : Report V) (h : Holds same always s) (b : is_reserving (slice_get s.calls worker) ≡ true) → is_full s.log ≡ true → EngineHolds same always s'
+      → s' ≡ after_full same always s worker h b → r ≡ quiet OfCollector (Refused JournalFull) → IsStep same always s (record { worker = worker; event = Go noise }) r s'
+  tell_full_step s s' worker noise r h b f h' e q =
       let g : (is_reserving (slice_get s.calls worker) && is_full s.log) ≡ true = ap (λ c. c && is_full s.log) b ∙ f in
       let P : Bool → Type 0 = λ c. StepsUnless same always c s (record { worker = worker; event = Go noise }) r s' in
       record {
         does = subst P (sym g) (record { report = q; state = e });
-        flight = λ c n. gives_up_flight same always s worker h b s' r e q;
-        holds = (h'.0, h'.1, gives_up_logged same always s worker h b s' e);
+        flight = λ c n. after_full_flight same always s worker h b s' r e q;
+        holds = (h'.0, h'.1, after_full_logged same always s worker h b s' e);
       }
 
   -- the whole machine as it begins
@@ -299,6 +307,7 @@ module _ {V : Type 0} (same : V → V → Bool) (always : Bool) where
       let rest : places_of ks ms ≡ 0 = none_reserved ks ms (λ i y q. f (suc i) y q) in
       omega (arith, z, rest)
 
+  -- with nothing written down and no call in flight, what is written down fits
   pub opened_logged : (s : World V) (n places : ℕ) → IsFresh s → s.log ≡ opened_log n places → length s.calls ≡ n → (0 < places → always ≡ true) → IsLogged same always s
   opened_logged s n places fresh l long copies = record {
     room = (let P : Log V → Type 0 = λ y. length y.entries + y.reserved ≤ y.places in subst P (sym l) (omega arith));
@@ -313,7 +322,7 @@ module _ {V : Type 0} (same : V → V → Bool) (always : Bool) where
     legal = λ p. (let P : Log V → Type 0 = λ y. Legal same empty y.entries empty in subst P (sym l) refl);
   }
 
-  -- its journal
+  -- two maps that stand in the same nodes are one
   pub one_map : (hp : ℕ → Node V) (m n : Pairs V) → IsMapOf hp m → IsMapOf hp n → m ≡ n
   one_map hp m n a b = same_pairs m n by where
     by : (q : ℕ) → get m q ≡ get n q
@@ -322,18 +331,13 @@ module _ {V : Type 0} (same : V → V → Bool) (always : Bool) where
       | inr x ↦ (let l : 2 ^ 64 ≤ q = ltb-false q (2 ^ 64) x in a.none_beyond q l ∙ sym (b.none_beyond q l))
     ]
 
-  no_entries : (es : List (Entry V)) (r p : ℕ) → p ≡ 0 → length es + r ≤ p → es ≡ []
-  no_entries [] r p e l = refl
-  no_entries (x ∷ es) r p e l = absurd (omega (arith, e, l))
-
-  pub journal_none : (s : World V) → Holds same always s → s.log.places ≡ 0 → s.log.entries ≡ []
-  journal_none s h e = no_entries s.log.entries s.log.reserved s.log.places e h.2.room
-
+  -- the journal's entries are legal from the empty map on
   pub journal_legal : (s : World V) → Holds same always s → IsLegal same s.log.entries
   journal_legal s h = by s.log.places refl where
     by : (p : ℕ) → s.log.places ≡ p → IsLegal same s.log.entries
-    by zero e = let P : List (Entry V) → Type 0 = λ es. IsLegal same es in subst P (sym (journal_none s h e)) (empty, refl)
+    by zero e = let P : List (Entry V) → Type 0 = λ es. IsLegal same es in subst P (sym (journal_none same always s h e)) (empty, refl)
     by (suc p) e = (h.2.pairs, h.2.legal (omega (arith, e)))
 
+  -- and lead to the pairs that stand
   pub journal_replays : (s : World V) → Holds same always s → (m : Pairs V) → 0 < s.log.places → IsMapOf (nodes s.forest) m → Legal same empty s.log.entries m
   journal_replays s h m p st = subst (λ n. Legal same empty s.log.entries n) (one_map (nodes s.forest) h.2.pairs m h.2.stand st) (h.2.legal p)

@@ -22,11 +22,11 @@ use Rattle.joint.proofs.lemmas.engine.Filing.{filed_collected}
 use Rattle.joint.proofs.lemmas.nodes.SlotViews.{slot_view}
 
 -- a step of the collector, of a worker with no call on the tree, leaves the pairs; what goes waited, and no call has it
-pub swept : {V : Type 0} (same : V → V → Bool) (always : Bool) → CellLaws {T = Slot V} (Unit {0}) slot_names → CallLaws {C = Id} {V = V} id_number same always
+pub collected_beside : {V : Type 0} (same : V → V → Bool) (always : Bool) → CellLaws {T = Slot V} (Unit {0}) slot_names → CallLaws {C = Id} {V = V} id_number same always
     → (s s' : Nodes V) (ms : List (Machine Id V)) (who : ℕ) (event : Event) (r : Report) → IsSafe same always s ms → Rests ms who
     → IsReport s.collector who event r → s'.collector ≡ after s.collector who event r.outcome → Moves s.collector who r.called s'.collector
     → ((h : List Moment) → HasMoments slot_names h s.collector → HasMoments slot_names (moment slot_names (step_act s.collector who event r) s'.collector ∷ h) s'.collector) → IsBeside s s' → IsCharged s' → Collected same always s ms who event r s'
-swept {V} same always cells calls s s' ms who event r i rests report e m told beside charged =
+collected_beside {V} same always cells calls s s' ms who event r i rests report e m told beside charged =
     let t : HasMoments slot_names (moment slot_names (step_act s.collector who event r) s'.collector ∷ i.sound.past) s'.collector = told i.sound.past i.sound.sound.tells in
     let gone : Destroys id_number (nodes s) ms (nodes s') = destroys slot_names view slot_view id_number same always cells calls i.sound.top i.sound.past s.collector ms i.sound.sound who (step_act s.collector who event r) s'.collector (cells.step_by s.collector who event r) t r.called m rests in
     let spared : Settled id_number same always (nodes s') ms × SameMap (nodes s) (nodes s') = spares_all slot_names view slot_view id_number same always cells calls i.sound.top i.sound.past s.collector ms i.sound.sound who (step_act s.collector who event r) s'.collector (cells.step_by s.collector who event r) t r.called m rests in

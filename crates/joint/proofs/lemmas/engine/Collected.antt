@@ -1,5 +1,5 @@
 -- A step of the collector destroys no node that a call has, and leaves tree, calls and history sound.
-use Rattle.std.proofs.Common.{◌≡◌, ◌≢◌, ◌<◌, arith, ℕ, Bool, true, false, List, ◌∷◌, refl, sym, ◌∙◌, ap, subst, inl, inr, ◌⊎◌}
+use Rattle.std.proofs.Common.{◌≡◌, ◌≢◌, ◌<◌, arith, ℕ, Bool, true, false, List, ◌∷◌, sym, ◌∙◌, ap, subst, inl, inr, ◌⊎◌}
 use Rattle.std.specs.Prelude.{Option, None, Some, is_some, slice_get}
 use Rattle.std.specs.List.{Contains}
 use Rattle.std.proofs.lemmas.Bool.{cases_eq}
@@ -14,9 +14,8 @@ use Rattle.crossbeam_epoch.specs.World.Reach.{Act, GivenBack, Moment, marks_of, 
 use Rattle.crossbeam_epoch.specs.World.Store.{Store, Sets, value_at, was_given, emptied}
 use Rattle.congee.specs.declared.protocol.machine.Machine.{Machine}
 use Rattle.congee.specs.declared.protocol.phase.Phase.TheVariants.{Ended}
-use Rattle.congee.specs.Heap.{Node, Stands}
-use Rattle.congee.specs.protocol.Handing.{InTree}
-use Rattle.congee.specs.Notes.{Note, Linked}
+use Rattle.congee.specs.Heap.{Node}
+use Rattle.congee.specs.Notes.{Note}
 use Rattle.congee.specs.protocol.Names.{names}
 use Rattle.congee.specs.protocol.Answers.{SameMap}
 use Rattle.congee.specs.protocol.Play.{Settled}
@@ -27,9 +26,9 @@ use Rattle.joint.specs.engine.Laws.{CellLaws, CallLaws}
 use Rattle.joint.specs.engine.Sound.{Guards, Sound}
 use Rattle.joint.proofs.lemmas.engine.NamesInStretch.{deferred_on, pinned_stretch, ended_guards, no_names}
 use Rattle.joint.specs.NameLemmas.{number_named, same_name}
-use Rattle.joint.proofs.lemmas.nodes.Views.{ties, heap_of_number, stands_at}
-use Rattle.joint.proofs.lemmas.nodes.Paths.{in_tree}
+use Rattle.joint.proofs.lemmas.nodes.Views.{heap_of_number, stands_at}
 use Rattle.joint.proofs.lemmas.engine.ReachMoments.{Reaches, was_in}
+use Rattle.joint.proofs.lemmas.engine.InReach.{never}
 
 -- what a name stands for after a step of the collector
 abbrev pub Fate : {T : Type 0} → Option T → Option T → Type 0
@@ -103,25 +102,13 @@ module _ {T J C V : Type 0} (tnames : T → List Name) (view : Bool → Option T
   abbrev notes : ℕ → Note
   notes = sound.settled.0
 
-  in_it : (n : Name) → Reaches tnames s n → (notes (number n)).status ≡ Linked
-  in_it n r =
-      let i : InTree (heap_of view s.store) (number n) = in_tree tnames s.store (heap_of view s.store) s.roots top (ties tnames view ok s.store) sound.rooted r in
-      calls.leads notes (heap_of view s.store) sound.settled.1.tree i.0 0 (number n) sound.settled.1.tree.root i.1
-
-  never : (t : ℕ) (n : Name) → WasDeferred (marks_of past) t n → Reaches tnames s n → ⊥
-  never t n d r =
-      let l : (notes (number n)).status ≡ Linked = in_it n r in
-      let u : (heap_of view s.store (number n)).retired ≡ false = (sound.settled.1.words.each (number n)).unretired l in
-      let st : Stands (heap_of view s.store (number n)) = (sound.settled.1.words.each (number n)).stands (rw l refl) in
-      let y : (heap_of view s.store (number n)).retired ≡ true = sound.deferred t n d ((ties tnames view ok s.store).live n st) in
-      cc
-
   no_gift : (n : Name) (x : Act) → IsBy who x → x ≡ GivenBack n → ⊥
   no_gift n x b e = let P : Act → Type 0 = λ y. IsBy who y in subst P e b
 
+  -- with this step's moment the history still is as the collector's promise on reach asks
   pub careful : IsCareful (now ∷ past)
   careful = record {
-    leaves = (λ t n d i. never t n (cells.deferred_before (marks_of past) who t n a by d) (before n i), sound.careful.leaves);
+    leaves = (λ t n d i. never tnames view ok num same always calls top past s ms sound t n (cells.deferred_before (marks_of past) who t n a by d) (before n i), sound.careful.leaves);
     enters = cells.enters_next now past s sound.tells.now (λ n i. inr (before n i)) sound.careful.enters;
     gives = (λ n e w. no_gift n a by e, sound.careful.gives);
   }
@@ -178,6 +165,7 @@ module _ {T J C V : Type 0} (tnames : T → List Name) (view : Bool → Option T
         made = ap (λ x. x.made) q ∙ ok.used;
       }
 
+  -- nodes go that had been handed over and that no call names, and each other one is as it was
   pub destroys : Destroys num (heap_of view s.store) ms (heap_of view s'.store)
   destroys = record {
     each = λ k. elim (fate (named k)) [
@@ -189,6 +177,7 @@ module _ {T J C V : Type 0} (tnames : T → List Name) (view : Bool → Option T
         as_it_was (named k) (kept i m (named k) at (subst P (sym (number_named k)) c))) (names num m.phase) (All-contains_itself (names num m.phase));
   }
 
+  -- the calls know and hold the nodes as before, and the map is the same
   pub spares_all : Settled num same always (heap_of view s'.store) ms × SameMap (heap_of view s.store) (heap_of view s'.store)
   spares_all = calls.spares (heap_of view s.store) ms notes (heap_of view s'.store) sound.settled.1 sound.settled.2 destroys
 
@@ -201,6 +190,7 @@ module _ {T J C V : Type 0} (tnames : T → List Name) (view : Bool → Option T
     | inr gone ↦ absurd (let f : is_some (value_at s'.store n) ≡ false = is_none_false (value_at s'.store n) gone.1 in cc)
   ]
 
+  -- tree, calls and history are sound after the step
   pub collected : Sound tnames view num same always top (now ∷ past) s' ms
   collected = record {
     orderly = moves.orderly;

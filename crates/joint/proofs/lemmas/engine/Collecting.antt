@@ -1,11 +1,11 @@
 -- A step of a call on the collector leaves the machine intact.
-use Rattle.std.proofs.Common.{◌≡◌, ◌≢◌, ◌<◌, ℕ, zero, suc, arith, ◌+◌, ◌≤◌, Bool, List, [], ◌∷◌, refl, sym, ◌∙◌, ap, subst, inl, inr, ◌⊎◌}
+use Rattle.std.proofs.Common.{◌≡◌, ◌<◌, ℕ, zero, suc, arith, ◌+◌, ◌≤◌, Bool, List, [], ◌∷◌, refl, sym, ◌∙◌, ap, subst, inl, inr}
 use Rattle.std.proofs.Math.ListN.{set}
 use Rattle.std.specs.Prelude.{Option, None, Some, is_some, length, slice_get}
 use Rattle.std.proofs.lemmas.List.{length-set, set-set}
 use Rattle.std.proofs.lemmas.Option.{slice_get_within}
 use Rattle.crossbeam_epoch.specs.declared.world.participant.Participant.{Participant}
-use Rattle.crossbeam_epoch.specs.declared.world.participant.Phase.TheVariants as stage
+use Rattle.crossbeam_epoch.specs.declared.world.participant.Phase.TheVariants as collector_phase
 use Rattle.crossbeam_epoch.specs.declared.world.report.Event.{Event}
 use Rattle.crossbeam_epoch.specs.declared.world.report.Event.TheVariants.{Begin, Go}
 use Rattle.crossbeam_epoch.specs.declared.world.report.Op.{Op}
@@ -25,21 +25,12 @@ use Rattle.joint.specs.declared.engine.in_flight.InFlight.TheVariants.{Idle, Col
 use Rattle.joint.specs.declared.id.Id.{Id}
 use Rattle.joint.specs.declared.nodes.slot.Slot.{Slot}
 use Rattle.joint.specs.nodes.Nodes.{Nodes}
-use Rattle.joint.specs.engine.Intact.{IsAt, IsIntact, IsSecuring, MayStart, Secured, call_after, secured_call, secured_machines, root}
+use Rattle.joint.specs.engine.Intact.{IsAt, IsIntact, IsSecuring, MayStart, Secured, call_after, secured_call, secured_machines}
+use Rattle.joint.specs.Names.{root}
 use Rattle.joint.specs.engine.Laws.{ProgressLaws}
 use Rattle.joint.specs.engine.Safety.{Rests, Collected}
 use Rattle.joint.proofs.lemmas.engine.SecuredPlaces.{with_room}
-
--- what stands in a list after one of its places was exchanged
-pub either : {A : Type 0} → (xs : List A) (i j : ℕ) (x y : A) → slice_get (set xs i x) j ≡ Some y → ((j ≡ i) × (x ≡ y)) ⊎ ((j ≢ i) × (slice_get xs j ≡ Some y))
-either [] i j x y e = absurd cc
-either (z ∷ xs) zero zero x y e = inl (refl, cc)
-either (z ∷ xs) zero (suc j) x y e = inr ((λ q. absurd (omega arith)), e)
-either (z ∷ xs) (suc i) zero x y e = inr ((λ q. absurd (omega arith)), e)
-either (z ∷ xs) (suc i) (suc j) x y e = elim (either xs i j x y e) [
-  | inl p ↦ inl (ap suc p.0, p.1)
-  | inr p ↦ inr ((λ q. p.0 (omega arith)), p.1)
-]
+use Rattle.congee.proofs.Laws.{get_set, set_here}
 
 -- a place below the length of a list has something in it
 pub get_inside : {A : Type 0} (xs : List A) (i : ℕ) → i < length xs → (x : A) × (slice_get xs i ≡ Some x)
@@ -47,7 +38,11 @@ get_inside [] i l = absurd (omega (arith, l))
 get_inside (x ∷ xs) zero l = (x, refl)
 get_inside (x ∷ xs) (suc i) l = get_inside xs i (omega (arith, l))
 
--- the machine under other names
+-- so has the place where another list of that length has something
+pub get_beside : {A B : Type 0} (xs : List A) (ys : List B) (i : ℕ) → length xs ≡ length ys → (y : B) → slice_get ys i ≡ Some y → (x : A) × (slice_get xs i ≡ Some x)
+get_beside xs ys i n y e = get_inside xs i (subst (λ (k : ℕ). i < k) (sym n) (slice_get_within ys i y e))
+
+-- an intact machine is intact under other names
 pub intact_at : {V : Type 0} (same : V → V → Bool) (always : Bool) (s s' : Nodes V) (ms ms' : List (Machine Id V)) (calls calls' : List (InFlight V)) → s' ≡ s → ms' ≡ ms → calls' ≡ calls → IsIntact same always s ms calls → IsIntact same always s' ms' calls'
 intact_at {V} same always s s' ms ms' calls calls' es em ec i =
     let P : Nodes V → Type 0 = λ x. IsIntact same always x ms' calls' in
@@ -55,24 +50,29 @@ intact_at {V} same always s s' ms ms' calls calls' es em ec i =
     let R : List (InFlight V) → Type 0 = λ x. IsIntact same always s ms x in
     subst P (sym es) (subst Q (sym em) (subst R (sym ec) i))
 
--- a step of the collector, with the nodes and the calls under other names
+-- a step of the collector is one with the nodes and the calls under other names
 pub collected_at : {V : Type 0} (same : V → V → Bool) (always : Bool) (s1 s s' : Nodes V) (ms1 ms : List (Machine Id V)) (who : ℕ) (event : Event) (r : Report) → s1 ≡ s → ms1 ≡ ms → Collected same always s1 ms1 who event r s' → Collected same always s ms who event r s'
 collected_at {V} same always s1 s s' ms1 ms who event r es em c =
     subst (λ (x : Nodes V). Collected same always x ms who event r s') es (subst (λ (x : List (Machine Id V)). Collected same always s1 x who event r s') em c)
 
 module _ {V : Type 0} (same : V → V → Bool) (always : Bool) (s : Nodes V) (ms : List (Machine Id V)) (calls : List (InFlight V)) (intact : IsIntact same always s ms calls) (who : ℕ) where
-  pub inside : (k : InFlight V) → slice_get calls who ≡ Some k → who < length calls
-  inside k at = slice_get_within calls who k at
+  -- a worker that has a call in flight or is idle has its place among the calls
+  pub call_inside : (k : InFlight V) → slice_get calls who ≡ Some k → who < length calls
+  call_inside k at = slice_get_within calls who k at
 
+  -- and so it has among the machines
   pub inside_machines : (k : InFlight V) → slice_get calls who ≡ Some k → who < length ms
-  inside_machines k at = subst (λ (n : ℕ). who < n) (sym intact.machines) (inside k at)
+  inside_machines k at = subst (λ (n : ℕ). who < n) (sym intact.machines) (call_inside k at)
 
+  -- an idle worker has no call on the tree in flight
   pub idle_rests : slice_get calls who ≡ Some Idle → Rests ms who
   idle_rests at m here = (intact.each who Idle m at here).1
 
+  -- a worker whose call is on the collector has no call on the tree in flight
   pub on_rests : (op : Op) → slice_get calls who ≡ Some (Collecting op) → Rests ms who
   on_rests op at m here = (intact.each who (Collecting op) m at here).1
 
+  -- after a step of the collector the machine is intact with a call of the worker that fits its place and machine
   pub after_step : (event : Event) (r : Report) (s' : Nodes V) (k' : InFlight V) → Collected same always s ms who event r s' → ((m : Machine Id V) → slice_get ms who ≡ Some m → IsAt k' (place s'.collector who) m) → IsIntact same always s' ms (set calls who k')
   after_step event r s' k' c now = record {
     safe = c.safe;
@@ -80,7 +80,7 @@ module _ {V : Type 0} (same : V → V → Bool) (always : Bool) (s : Nodes V) (m
     table = c.moves.table ∙ intact.table ∙ sym (length-set calls who k');
     few = rw (length-set calls who k') intact.few;
     filed = c.filed intact.filed;
-    each = λ i k m at here. elim (either calls who i k' k at) [
+    each = λ i k m at here. elim (get_set calls who i k' k at) [
       | inl e ↦ (
           let P : ℕ → Type 0 = λ j. IsAt k' (place s'.collector j) m in
           let Q : InFlight V → Type 0 = λ x. IsAt x (place s'.collector i) m in
@@ -90,14 +90,15 @@ module _ {V : Type 0} (same : V → V → Bool) (always : Bool) (s : Nodes V) (m
   }
 
 module _ {V : Type 0} (same : V → V → Bool) (always : Bool) (laws : ProgressLaws (Slot V) (Unit {0})) (s : Nodes V) (ms : List (Machine Id V)) (calls : List (InFlight V)) (intact : IsIntact same always s ms calls) (who : ℕ) where
-  begun_at : (op : Op) (o : Outcome) (c c' : State (Slot V) (Unit {0})) (m : Machine Id V) → (place c who).phase ≡ stage.Idle → m.phase ≡ Ended → Begins c who op o c' → IsAt (call_after o (Collecting op)) (place c' who) m
+  begun_at : (op : Op) (o : Outcome) (c c' : State (Slot V) (Unit {0})) (m : Machine Id V) → (place c who).phase ≡ collector_phase.Idle → m.phase ≡ Ended → Begins c who op o c' → IsAt (call_after o (Collecting op)) (place c' who) m
   begun_at op Running c c' m i e b = (b.1, e)
   begun_at op Done c c' m i e b = (b.1, e)
   begun_at op (Refused f) c c' m i e b = (ap (λ x. (place x who).phase) b.1 ∙ i, e)
 
-  pub begun : (op : Op) (r : Report) (s' : Nodes V) → slice_get calls who ≡ Some Idle → Collected same always s ms who (Begin op) r s' → IsIntact same always s' ms (set calls who (call_after r.outcome (Collecting op)))
-  begun op r s' at c = after_step same always s ms calls intact who (Begin op) r s' (call_after r.outcome (Collecting op)) c (λ m here.
-      let x : ((place s.collector who).phase ≡ stage.Idle) × (m.phase ≡ Ended) = intact.each who Idle m at here in
+  -- a call on the collector that begins leaves the machine intact
+  pub begin_collecting_intact : (op : Op) (r : Report) (s' : Nodes V) → slice_get calls who ≡ Some Idle → Collected same always s ms who (Begin op) r s' → IsIntact same always s' ms (set calls who (call_after r.outcome (Collecting op)))
+  begin_collecting_intact op r s' at c = after_step same always s ms calls intact who (Begin op) r s' (call_after r.outcome (Collecting op)) c (λ m here.
+      let x : ((place s.collector who).phase ≡ collector_phase.Idle) × (m.phase ≡ Ended) = intact.each who Idle m at here in
       let P : State (Slot V) (Unit {0}) → Type 0 = λ y. Begins s.collector who op r.outcome y in
       begun_at op r.outcome s.collector s'.collector m x.0 x.1 (subst P (sym c.state) (laws.begins s.collector who op r x.0 c.report)))
 
@@ -106,20 +107,15 @@ module _ {V : Type 0} (same : V → V → Bool) (always : Bool) (laws : Progress
   gone_at op Done c c' m e b = (b.0, e)
   gone_at op (Refused f) c c' m e b = (b.2, e)
 
-  pub gone : (op : Op) (r : Report) (s' : Nodes V) → slice_get calls who ≡ Some (Collecting op) → Collected same always s ms who Go r s' → IsIntact same always s' ms (set calls who (call_after r.outcome (Collecting op)))
-  gone op r s' at c = after_step same always s ms calls intact who Go r s' (call_after r.outcome (Collecting op)) c (λ m here.
+  -- a call on the collector that goes on leaves the machine intact
+  pub go_collecting_intact : (op : Op) (r : Report) (s' : Nodes V) → slice_get calls who ≡ Some (Collecting op) → Collected same always s ms who Go r s' → IsIntact same always s' ms (set calls who (call_after r.outcome (Collecting op)))
+  go_collecting_intact op r s' at c = after_step same always s ms calls intact who Go r s' (call_after r.outcome (Collecting op)) c (λ m here.
       let x : IsOn op (place s.collector who) × (m.phase ≡ Ended) = intact.each who (Collecting op) m at here in
       let P : State (Slot V) (Unit {0}) → Type 0 = λ y. GoesOn s.collector who op r.outcome y in
       gone_at op r.outcome s.collector s'.collector m x.1 (subst P (sym c.state) (laws.goes_on s.collector who op r intact.safe.sound.sound.orderly x.0 c.report)))
 
--- what was put in a place of a list stands there
-pub set_here : {A : Type 0} → (xs : List A) (i : ℕ) (x y : A) → slice_get xs i ≡ Some y → slice_get (set xs i x) i ≡ Some x
-set_here [] i x y e = absurd cc
-set_here (z ∷ xs) zero x y e = refl
-set_here (z ∷ xs) (suc i) x y e = set_here xs i x y e
-
 -- a writing call that makes its places free
-pub securing_call : {V : Type 0} (x : Option (InFlight V)) → IsSecuring x → (op : Point V) × (x ≡ Some (Securing op))
+securing_call : {V : Type 0} (x : Option (InFlight V)) → IsSecuring x → (op : Point V) × (x ≡ Some (Securing op))
 securing_call (Some (Securing op)) s = (op, refl)
 securing_call (Some Idle) s = absurd s
 securing_call (Some (Collecting op)) s = absurd s
@@ -128,13 +124,15 @@ securing_call (Some Walking) s = absurd s
 securing_call None s = absurd s
 
 module _ {V : Type 0} (same : V → V → Bool) (always : Bool) (s : Nodes V) (ms : List (Machine Id V)) (calls : List (InFlight V)) (intact : IsIntact same always s ms calls) (who : ℕ) where
+  -- a worker that makes its places free has no call on the tree in flight
   pub securing_rests : IsSecuring (slice_get calls who) → Rests ms who
   securing_rests q m here =
       let k : (op : Point V) × (slice_get calls who ≡ Some (Securing op)) = securing_call (slice_get calls who) q in
       (intact.each who (Securing k.0) m k.1 here).2
 
+  -- a worker that makes its places free has its place among the calls
   pub securing_inside : IsSecuring (slice_get calls who) → who < length calls
-  securing_inside q = let k : (op : Point V) × (slice_get calls who ≡ Some (Securing op)) = securing_call (slice_get calls who) q in inside same always s ms calls intact who (Securing k.0) k.1
+  securing_inside q = let k : (op : Point V) × (slice_get calls who ≡ Some (Securing op)) = securing_call (slice_get calls who) q in call_inside same always s ms calls intact who (Securing k.0) k.1
 
   module _ (laws : ProgressLaws (Slot V) (Unit {0})) (op : Point V) (at : slice_get calls who ≡ Some (Securing op)) (r : Report) (s' : Nodes V) (c : Collected same always s ms who Go r s') where
     goes : (m : Machine Id V) → slice_get ms who ≡ Some m → GoesOn s.collector who (Secure 2) r.outcome s'.collector
@@ -146,7 +144,7 @@ module _ {V : Type 0} (same : V → V → Bool) (always : Bool) (s : Nodes V) (m
     fits : (o : Outcome) → r.outcome ≡ o → (m : Machine Id V) → slice_get ms who ≡ Some m → GoesOn s.collector who (Secure 2) o s'.collector
     fits o e m here = let P : Outcome → Type 0 = λ y. GoesOn s.collector who (Secure 2) y s'.collector in subst P e (goes m here)
 
-    -- it goes on
+    -- where it goes on, the step is one that makes places free
     pub secures_on : r.outcome ≡ Running → (ms' : List (Machine Id V)) (calls' : List (InFlight V)) → ms' ≡ ms → calls' ≡ set (set calls who Idle) who (Securing op) → Secured same always s ms calls who r s' ms' calls'
     secures_on e ms' calls' em ec =
         let q : calls' ≡ set calls who (Securing op) = ec ∙ set-set calls who Idle (Securing op) in
@@ -161,7 +159,7 @@ module _ {V : Type 0} (same : V → V → Bool) (always : Bool) (s : Nodes V) (m
           machine = em ∙ sym (ap (λ o. secured_machines o (slice_get calls who) ms who) e);
         }
 
-    -- it finds no memory
+    -- where it is refused, the step is one that makes places free, and leaves the worker idle
     pub refused_then : (f : Fault) → r.outcome ≡ Refused f → (ms' : List (Machine Id V)) (calls' : List (InFlight V)) → ms' ≡ ms → calls' ≡ set calls who Idle → Secured same always s ms calls who r s' ms' calls'
     refused_then f e ms' calls' em ec =
         let i : IsIntact same always s' ms (set calls who Idle) = after_step same always s ms calls intact who Go r s' Idle c (λ m here.
@@ -175,16 +173,18 @@ module _ {V : Type 0} (same : V → V → Bool) (always : Bool) (s : Nodes V) (m
           machine = em ∙ sym (ap (λ o. secured_machines o (slice_get calls who) ms who) e);
         }
 
-    -- the places are free
+    -- once the places are free, the machine is intact with the worker idle
     pub free_intact : r.outcome ≡ Done → IsIntact same always s' ms (set calls who Idle)
     free_intact e = after_step same always s ms calls intact who Go r s' Idle c (λ m here.
         let x : IsAt (Securing op) (place s.collector who) m = intact.each who (Securing op) m at here in
         let g : GoesOn s.collector who (Secure 2) Done s'.collector = fits Done e m here in
         (g.0, x.2))
 
+    -- with its call put away the worker is idle
     pub free_idle : slice_get (set calls who Idle) who ≡ Some Idle
     free_idle = set_here calls who Idle (Securing op) at
 
+    -- once its places are free, the worker may begin the call on the tree
     pub free_may : r.outcome ≡ Done → MayStart s'.collector who op
     free_may e =
         let w : (m : Machine Id V) × (slice_get ms who ≡ Some m) = get_inside ms who (inside_machines same always s ms calls intact who (Securing op) at) in
@@ -193,6 +193,7 @@ module _ {V : Type 0} (same : V → V → Bool) (always : Bool) (s : Nodes V) (m
         let l : length (place s'.collector who).bag + 2 ≤ 64 = g.1.2 g.0 (omega arith) in
         record { registered = g.1.1 ∙ x.0.0; pinned = ap is_some g.1.0 ∙ x.1; room = with_room {C = Id} (parts op).1 New (length (place s'.collector who).bag) l }
 
+    -- once its places are free and its call on the tree has begun, that was the last step of making them free
     pub started_then : r.outcome ≡ Done → (s2 : Nodes V) (ms' : List (Machine Id V)) (calls' : List (InFlight V)) → s2 ≡ s' → ms' ≡ set ms who (first_machine root op) → calls' ≡ set (set calls who Idle) who Walking → IsIntact same always s2 ms' calls' → Secured same always s ms calls who r s2 ms' calls'
     started_then e s2 ms' calls' es em ec i = record {
       intact = i;

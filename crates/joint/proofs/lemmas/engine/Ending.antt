@@ -17,7 +17,7 @@ use Rattle.congee.specs.declared.protocol.phase.One.{One}
 use Rattle.congee.specs.declared.protocol.phase.Above.{Above as Over}
 use Rattle.congee.specs.declared.protocol.phase.Parent.{Parent}
 use Rattle.congee.specs.declared.protocol.phase.Phase.{Phase}
-use Rattle.congee.specs.declared.protocol.phase.Phase.TheVariants.{New, Version, Read, Check, CheckUncopied, CheckMiss, CheckDown, CheckOld, MakeLeaf, MakeGreater, MakeTop, MakeBeside, MakeLesser, AskOld, AskNew, Confirm, CheckAbove, UpgradeOne, ChangeOne, UpgradeTop, UpgradeAbove, UpgradeBelow, ChangeTwo, Obsolete, Retire, UnlockBelow, Unlock, Unwind, Sweep, Ended}
+use Rattle.congee.specs.declared.protocol.phase.Phase.TheVariants.{New, Version, Read, Check, CheckUncopied, CheckMiss, CheckDown, CheckOld, MakeLeaf, MakeGreater, MakeTop, MakeBeside, MakeLesser, AskOld, AskNew, Confirm, CheckAbove, UpgradeOne, ChangeOne, UpgradeTop, UpgradeAbove, UpgradeBelow, ChangeTwo, Obsolete, Retire, UnlockBelow, Unlock, Unwind, Scan, Ended}
 use Rattle.congee.specs.declared.protocol.phase.Plan.{Plan}
 use Rattle.congee.specs.declared.protocol.phase.Plan.TheVariants.{Here, Above}
 use Rattle.congee.specs.declared.protocol.phase.Single.{Single}
@@ -31,7 +31,7 @@ use Rattle.congee.specs.declared.protocol.store.Refusal.TheVariants as refusal
 use Rattle.congee.specs.declared.protocol.store.Stamp.{Stamp}
 use Rattle.congee.specs.declared.protocol.store.Upgrade.{Upgrade}
 use Rattle.congee.specs.declared.protocol.store.Upgrade.TheVariants.{Locked, Failed, Exhausted}
-use Rattle.congee.specs.declared.protocol.turn.NextPhase.{NextPhase}
+use Rattle.congee.specs.declared.protocol.next_phase.NextPhase.{NextPhase}
 use Rattle.congee.specs.Heap.{Node, is_taken}
 use Rattle.congee.specs.protocol.Steps.{quiet, again, answered, refused, adds, asks_new, absent_reply, after_version, after_read, down, started, ready, unless_full, missing, absent, CopyFailed, IsAsked, replaced, last_out, taken_out, shrinks, IsAtOld, IsAdded, IsExchanged, IsCompared, IsPresent, IsChecked, IsIf, after_miss, IsGiven, IsGivenNew, MadeLeaf, MadeGreater, MadeTop, MadeBeside, MadeLesser, IsCheckedAbove, UpgradedOne, UpgradedTop, UpgradedAbove, UpgradedBelow, after_change, after_top, after_retire, after_unwind, given_up, unwound, PhaseStepped, Stepped}
 use Rattle.congee.specs.protocol.State.{is_over}
@@ -40,7 +40,7 @@ use Rattle.joint.specs.engine.Sound.{IsUnderWay}
 
 -- the call is one on a key, and no scan
 abbrev pub IsOnKey : {V : Type 0} → Phase Id V → Type 0
-IsOnKey (Sweep s) = ⊥
+IsOnKey (Scan s) = ⊥
 IsOnKey _ = Unit {0}
 
 -- whether the call goes on after such a report
@@ -269,10 +269,10 @@ module _ {V : Type 0} (number : Id → ℕ) (same : V → V → Bool) (always : 
   tells (UnlockBelow n p r) u k x = by t _ x.2 (refl, tt)
   tells (Unlock n r) u k x = by t _ x.2 (refl, tt)
   tells (Unwind n next e) u k x = by t _ x.2 (going_back V root next e)
-  tells (Sweep s) u k x = absurd k
+  tells (Scan s) u k x = absurd k
   tells Ended u k x = absurd u
 
 -- a step of a call on a key ends it exactly where it reports its end, and leaves no scan
-pub ends : {V : Type 0} (number : Id → ℕ) (same : V → V → Bool) (always : Bool) (most : ℕ) (why : NodeType → Refusal → Type 0) (m m' : Machine Id V) (h h' : ℕ → Node V) (fail : Bool) (answer : Option (Option V)) (d : Move V)
+pub step_ends : {V : Type 0} (number : Id → ℕ) (same : V → V → Bool) (always : Bool) (most : ℕ) (why : NodeType → Refusal → Type 0) (m m' : Machine Id V) (h h' : ℕ → Node V) (fail : Bool) (answer : Option (Option V)) (d : Move V)
     → IsUnderWay m.phase → IsOnKey m.phase → Stepped number same always most why m h fail answer m' h' d → (is_over m'.phase ≡ not (goes_on_after d.outcome)) × IsOnKey m'.phase
-ends number same always most why m m' h h' fail answer d u k x = tells number same always most why m.root _ m.kind fail answer m.given m'.given h h' (record { phase = m'.phase; report = d }) m.phase u k x.step
+step_ends number same always most why m m' h h' fail answer d u k x = tells number same always most why m.root _ m.kind fail answer m.given m'.given h h' (record { phase = m'.phase; report = d }) m.phase u k x.step

@@ -22,13 +22,15 @@ use Rattle.joint.specs.declared.steps.Op.{Op}
 use Rattle.joint.specs.declared.steps.Report.{Report}
 use Rattle.joint.specs.declared.steps.Target.{Target}
 use Rattle.joint.specs.declared.steps.Target.TheVariants as target
-use Rattle.joint.specs.engine.Intact.{call_after, is_reserving, root}
+use Rattle.joint.specs.engine.Intact.{call_after, is_reserving}
+use Rattle.joint.specs.Names.{root}
 use Rattle.joint.specs.engine.Journaling.{has_place}
-use Rattle.joint.specs.Reports.{target}
+use Rattle.joint.specs.Reports.{target, is_in_flight}
 use Rattle.joint.specs.engine.Flying.{Flights, AreInFlight}
-use Rattle.joint.specs.engine.Engine.{World, EngineHolds, BeginsAt, BeginsOnTree, Does, EntersUnless, GoesAt, finds_none, is_busy, is_in_flight, misuse, place_of}
-use Rattle.joint.proofs.lemmas.engine.Collecting.{set_here, get_inside}
+use Rattle.joint.specs.engine.Engine.{World, EngineHolds, BeginsAt, BeginsOnTree, Does, EntersUnless, GoesAt, finds_none, is_busy, misuse, place_of}
+use Rattle.joint.proofs.lemmas.engine.Collecting.{get_inside}
 use Rattle.joint.proofs.lemmas.engine.HandOver.{held_place}
+use Rattle.congee.proofs.Laws.{set_here}
 
 module _ {V : Type 0} where
   idle_place : (k : Option (InFlight V)) (o : Option (Machine Id V)) → is_busy k ≡ false → has_place k o ≡ false
@@ -45,7 +47,7 @@ module _ {V : Type 0} where
   collecting_place (collector_outcome.Refused f) op m = refl
 
   -- the call in a place that was set, if the place is there
-  at_place : (ks ks' : List (InFlight V)) (w : ℕ) (k : InFlight V) → w < length ks → ks' ≡ set ks w k → slice_get ks' w ≡ Some k
+  pub at_place : (ks ks' : List (InFlight V)) (w : ℕ) (k : InFlight V) → w < length ks → ks' ≡ set ks w k → slice_get ks' w ≡ Some k
   at_place ks ks' w k l e = let x : (y : InFlight V) × (slice_get ks w ≡ Some y) = get_inside ks w l in ap (λ xs. slice_get xs w) e ∙ set_here ks w k x.0 x.1
 
   machine_place : (ms ms' : List (Machine Id V)) (w : ℕ) (m : Machine Id V) → w < length ms → ms' ≡ set ms w m → slice_get ms' w ≡ Some m
@@ -72,11 +74,24 @@ module _ {V : Type 0} (same : V → V → Bool) (always : Bool) (s s' : World V)
   free_by false busy f u e = absurd (cc e)
 
   module _ (op : Op V) (none : misuse s w (Begin op) ≡ None) where
+    -- the worker has its place among the calls
     pub begin_within : w < length s.calls
     begin_within = registered_by (place_of s w).registered _ refl none
 
+    -- the worker has no call in flight
     pub begin_idle : is_busy (slice_get s.calls w) ≡ false
     begin_idle = free_by (place_of s w).registered (is_busy (slice_get s.calls w)) _ _ none
+
+    -- it says that it has none
+    pub begins_idle : slice_get s.calls w ≡ Some Idle
+    begins_idle = by (slice_get s.calls w) (get_inside s.calls w begin_within) begin_idle where
+      by : (k : Option (InFlight V)) → (x : InFlight V) × (k ≡ Some x) → is_busy k ≡ false → k ≡ Some Idle
+      by None x e = absurd (let q : None ≡ Some x.0 = x.1 in cc)
+      by (Some Idle) x e = refl
+      by (Some (Collecting c)) x e = absurd (cc e)
+      by (Some (Reserving p)) x e = absurd (cc e)
+      by (Some (Securing p)) x e = absurd (cc e)
+      by (Some Walking) x e = absurd (cc e)
 
     even : after ≡ false → after ≡ before
     even e = e ∙ sym (idle_place (slice_get s.calls w) (slice_get s.machines w) begin_idle)
@@ -104,7 +119,7 @@ module _ {V : Type 0} (same : V → V → Bool) (always : Bool) (s s' : World V)
     begins_tree (point.Exchange k old new) r x = none_at _ (ap (λ y. y.calls) x.state) (λ o. refl)
 
     begins : (t : Target V) (r : Report V) → BeginsAt same always s w t r s' → after ≡ before
-    begins (target.Collector op) r x = none_at (call_after x.turn.outcome (Collecting op)) x.calls (collecting_place x.turn.outcome op)
+    begins (target.Collector op) r x = none_at (call_after x.collector_report.outcome (Collecting op)) x.calls (collecting_place x.collector_report.outcome op)
     begins (target.Tree p) r x = begins_tree p r x
     begins (target.Survey k) r x = unchanged x.state
 
@@ -113,9 +128,11 @@ module _ {V : Type 0} (same : V → V → Bool) (always : Bool) (s s' : World V)
   begin_by op r None e x = begins op e (target op) r x
   begin_by op r (Some f) e x = unchanged x.1
 
+  -- a begin leaves the worker with a place of the journal just where it had one
   pub begin_even : (op : Op V) (r : Report V) → Does same always s w (Begin op) (misuse s w (Begin op)) r s' → after ≡ before
   begin_even op r x = begin_by op r (misuse s w (Begin op)) refl x
 
+  -- a registration leaves the worker with a place of the journal just where it had one
   pub register_even : (r : Report V) → Does same always s w Register (misuse s w Register) r s' → after ≡ before
   register_even r (inl x) = ap (λ y. has_place (slice_get y.calls w) (slice_get y.machines w)) x.1.state
   register_even r (inr x) = unchanged x.state
@@ -137,6 +154,7 @@ module _ {V : Type 0} (same : V → V → Bool) (always : Bool) (s s' : World V)
   accepted_by op r None e x i = e
   accepted_by op r (Some f) e x i = absurd (false≢true (sym (ap (λ y. is_in_flight y.outcome) x.0) ∙ i))
 
+  -- a call that begins and stays in flight is of a worker of the machine whose call was watched as over
   pub begin_free : (fs : Flights V) → AreInFlight s fs → (op : Op V) (r : Report V) → Does same always s w (Begin op) (misuse s w (Begin op)) r s' → is_in_flight r.outcome ≡ true → (fs w ≡ Over) × (w < length s.calls)
   begin_free fs fl op r x i =
       let n : misuse s w (Begin op) ≡ None = accepted_by op r (misuse s w (Begin op)) refl x i in
@@ -155,5 +173,6 @@ module _ {V : Type 0} (same : V → V → Bool) (always : Bool) (s s' : World V)
   first_case noise r None e x = first_by (slice_get s.calls w) noise r e x
   first_case noise r (Some f) e x = ap (λ y. y.decided) x.0
 
+  -- a writing call doesn't take effect in its first step
   pub first_undecided : (noise : Noise Id V) (r : Report V) → is_reserving (slice_get s.calls w) ≡ true → Does same always s w (Go noise) (misuse s w (Go noise)) r s' → r.decided ≡ false
   first_undecided noise r e x = first_case noise r (misuse s w (Go noise)) e x

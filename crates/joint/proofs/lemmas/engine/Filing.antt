@@ -8,7 +8,7 @@ use Rattle.crossbeam_epoch.specs.declared.bag.Deferral.{Deferral}
 use Rattle.crossbeam_epoch.specs.declared.bag.Work.{Work}
 use Rattle.crossbeam_epoch.specs.declared.bag.Work.TheVariants.{Blank, Remove, Run}
 use Rattle.crossbeam_epoch.specs.declared.names.Name.{Name}
-use Rattle.crossbeam_epoch.specs.declared.world.participant.Phase.TheVariants as stage
+use Rattle.crossbeam_epoch.specs.declared.world.participant.Phase.TheVariants as collector_phase
 use Rattle.crossbeam_epoch.specs.declared.world.report.Event.{Event}
 use Rattle.crossbeam_epoch.specs.declared.world.report.Report.{Report}
 use Rattle.crossbeam_epoch.specs.World.Fits.{Fits, weight}
@@ -47,7 +47,7 @@ use Rattle.joint.specs.nodes.View.{view, heap, id_number}
 use Rattle.joint.proofs.lemmas.engine.HandOver.{held_place}
 use Rattle.joint.proofs.lemmas.engine.Retiring.{retiring_some}
 use Rattle.joint.proofs.lemmas.nodes.SlotViews.{slot_view}
-use Rattle.joint.proofs.lemmas.nodes.Views.{heap_of_number, ties}
+use Rattle.joint.proofs.lemmas.nodes.Views.{heap_of_number, heap_ties}
 
 -- what waits for its destruction stands
 waits_stands : {V : Type 0} (x : Node V) → is_waiting x ≡ true → Stands x
@@ -59,13 +59,10 @@ waits_stands x e = by x.retired x.made x.destroyed refl refl e
     by true false d' m d e = absurd (cc e)
     by false m' d' m d e = absurd (cc e)
 
-lost_waits_not : {V : Type 0} (x : Node V) → x.destroyed ≡ true → is_waiting x ≡ true → ⊥
-lost_waits_not x d e = let s = waits_stands x e in let k : x.destroyed ≡ false = s.kept in absurd cc
-
 unretired_waits_not : {V : Type 0} (x : Node V) → x.retired ≡ false → is_waiting x ≡ true → ⊥
 unretired_waits_not x r e = let q : false && (x.made && not x.destroyed) ≡ true = ap (λ b. b && (x.made && not x.destroyed)) (sym r) ∙ e in absurd (cc q)
 
--- names are told apart
+-- two names that pass the test are the same
 pub is_name_same : (m n : Name) → is_name m n ≡ true → m ≡ n
 is_name_same m n e =
     let a : m.cell ≡ n.cell = grind (arith, nat_tests) in
@@ -91,12 +88,6 @@ not_true : (b : Bool) → (b ≡ true → ⊥) → b ≡ false
 not_true true f = absurd (f refl)
 not_true false f = refl
 
-removes_itself : (J : Type 0) (n : Name) (t : ℕ) → removes {J = J} n (record { ticket = t; work = Remove n }) ≡ 1
-removes_itself J n t = rw (is_name_itself n) refl
-
-removes_apart : (J : Type 0) (m n : Name) (t : ℕ) → (m ≡ n → ⊥) → removes {J = J} n (record { ticket = t; work = Remove m }) ≡ 0
-removes_apart J m n t apart = let e = not_true (is_name m n) (λ q. apart (is_name_same m n q)) in rw e refl
-
 -- a node is read off its name's value
 same_node : {V : Type 0} (st st' : Store (Slot V)) (n : Name) → value_at st' n ≡ value_at st n → was_given st' n ≡ was_given st n → heap st' (number n) ≡ heap st (number n)
 same_node {V} st st' n v g =
@@ -107,7 +98,7 @@ gone_node {V} st n v = ap is_waiting (heap_of_number slot_names view slot_view s
 
 module _ {V : Type 0} (cells : CellLaws {T = Slot V} (Unit {0}) slot_names) where
   live_of : (st : Store (Slot V)) (n : Name) → is_waiting (heap st (number n)) ≡ true → is_some (value_at st n) ≡ true
-  live_of st n e = (ties slot_names view slot_view st).live n (waits_stands (heap st (number n)) e)
+  live_of st n e = (heap_ties slot_names view slot_view st).live n (waits_stands (heap st (number n)) e)
 
   -- a called job that is this name's removal leaves no such node, and every other leaves the node
   by_work : (n : Name) (before : ℕ) (st st' : Store (Slot V)) (w : Work (Unit {0})) → st' ≡ after_work st w → before ≡ bit (is_waiting (heap st (number n)))
@@ -150,7 +141,7 @@ module _ {V : Type 0} (cells : CellLaws {T = Slot V} (Unit {0}) slot_names) wher
   fewer s s' None f j none = j.2 f ∙ none
   fewer s s' (Some c) f j none = let e = j.4 f in omega (arith, e, none)
 
-  -- a step of the collector
+  -- after a step of the collector the bags have just the removals of the nodes that wait
   pub filed_collected : (s s' : Nodes V) (who : ℕ) (event : Event) (r : Report) (h : List Mark) → Fits h s.collector → IsReport s.collector who event r → s'.collector ≡ after s.collector who event r.outcome
       → Moves s.collector who r.called s'.collector → IsFiled s → IsFiled s'
   filed_collected s s' who event r h fits report e m f = record {
@@ -204,36 +195,36 @@ module _ {V : Type 0} (cells : CellLaws {T = Slot V} (Unit {0}) slot_names) wher
     as_before : (k : ℕ) → ((node : Id) → retiring_at (slice_get ms step.who) ≡ Some node → k ≡ id_number node → ⊥) → is_waiting (nodes s' k) ≡ is_waiting (nodes s k)
     as_before k apart = by_both (is_waiting (nodes s' k)) (is_waiting (nodes s k)) (λ w. elim (waits_before k w) [ inl was ↦ was | inr new ↦ absurd (apart new.0 new.1 new.2) ]) (λ w. ap is_waiting (plays.untouched k w) ∙ w)
 
-    -- one that marks none
+    -- so they have after a step on the tree that hands no node over
     pub filed_walked : s'.collector ≡ with_store s.collector s'.collector.store → retiring_at (slice_get ms step.who) ≡ None → IsFiled s → IsFiled s'
-    filed_walked clock none f = record {
-      expiry = ap (λ c. c.limits.expiry) clock ∙ f.expiry;
-      sealing = subst (λ (x : State (Slot V) (Unit {0})). IsSealing x) (sym clock) (cells.seals_stored s.collector s'.collector.store s.collector.roots f.sealing);
-      filed = λ n. ap (weight (removes n)) clock ∙ f.filed n ∙ ap bit (sym (as_before (number n) (λ node some is. absurd (cc (none, some)))));
-      only = ap (weight others) clock ∙ f.only;
+    filed_walked collector_is none f = record {
+      expiry = ap (λ c. c.limits.expiry) collector_is ∙ f.expiry;
+      sealing = subst (λ (x : State (Slot V) (Unit {0})). IsSealing x) (sym collector_is) (cells.seals_stored s.collector s'.collector.store s.collector.roots f.sealing);
+      filed = λ n. ap (weight (removes n)) collector_is ∙ f.filed n ∙ ap bit (sym (as_before (number n) (λ node some is. absurd (cc (none, some)))));
+      only = ap (weight others) collector_is ∙ f.only;
     }
 
-    -- and one whose node is handed over
+    -- and after one whose node is handed over, with its removal deferred
     pub filed_handed : (node : Id) → retiring_at (slice_get ms step.who) ≡ Some node → s'.collector ≡ with_store s.collector s'.collector.store → IsSafe same always s ms → Owes same always s' ms' step.who node → (s2 : Nodes V)
         → s2 ≡ with_collector s' (deferred s'.collector step.who (Remove node.name)) → IsFiled s → IsFiled s2
-    filed_handed node some clock safe owes s2 is f =
+    filed_handed node some collector_is safe owes s2 is f =
         let c' = s'.collector in
         let entry : Deferral (Unit {0}) = record { ticket = c'.next; work = Remove node.name } in
         let inside = held_place c'.table step.who owes.registered in
         let keeps = cells.deferred_orderly c' step.who (Remove node.name) inside owes.room owes.safe.sound.sound.orderly in
-        let between : IsSealing c' = subst (λ (x : State (Slot V) (Unit {0})). IsSealing x) (sym clock) (cells.seals_stored s.collector c'.store s.collector.roots f.sealing) in
+        let between : IsSealing c' = subst (λ (x : State (Slot V) (Unit {0})). IsSealing x) (sym collector_is) (cells.seals_stored s.collector c'.store s.collector.roots f.sealing) in
         let P : Nodes V → Type 0 = λ x. IsFiled x in
         subst P (sym is) (record {
-          expiry = ap (λ c. c.limits.expiry) clock ∙ f.expiry;
+          expiry = ap (λ c. c.limits.expiry) collector_is ∙ f.expiry;
           sealing = sealing_more c' step.who entry inside owes.idle between;
           filed = λ n.
               let more = keeps.jobs (removes n) in
-              let old : weight (removes n) c' ≡ bit (is_waiting (nodes s (number n))) = ap (weight (removes n)) clock ∙ f.filed n in
+              let old : weight (removes n) c' ≡ bit (is_waiting (nodes s (number n))) = ap (weight (removes n)) collector_is ∙ f.filed n in
               by_node n (is_name node.name n) refl (weight (removes n) c') (weight (removes n) (deferred c' step.who (Remove node.name))) more old;
-          only = (let more = keeps.jobs others in let old : weight others c' ≡ 0 = ap (weight others) clock ∙ f.only in omega (arith, more, old));
+          only = (let more = keeps.jobs others in let old : weight others c' ≡ 0 = ap (weight others) collector_is ∙ f.only in omega (arith, more, old));
         })
       where
-        sealing_more : (c : State (Slot V) (Unit {0})) (who : ℕ) (entry : Deferral (Unit {0})) → who < length c.table → (place c who).phase ≡ stage.Idle → IsSealing c
+        sealing_more : (c : State (Slot V) (Unit {0})) (who : ℕ) (entry : Deferral (Unit {0})) → who < length c.table → (place c who).phase ≡ collector_phase.Idle → IsSealing c
             → IsSealing (record c { table = slice_set c.table who (record (place c who) { bag = (place c who).bag ++ entry ∷ [] }); next = c.next + 1; waiting = c.waiting + 1 })
         sealing_more c who entry inside idle i =
             let p = record (place c who) { bag = (place c who).bag ++ entry ∷ [] } in
@@ -248,7 +239,7 @@ module _ {V : Type 0} (cells : CellLaws {T = Slot V} (Unit {0}) slot_names) wher
 
         now_waits : is_waiting (nodes s' (id_number node)) ≡ true
         now_waits =
-            let st : Stands (nodes s' (id_number node)) = (ties slot_names view slot_view s'.collector.store).stands node.name owes.stands in
+            let st : Stands (nodes s' (id_number node)) = (heap_ties slot_names view slot_view s'.collector.store).stands node.name owes.stands in
             let r : (nodes s' (id_number node)).retired ≡ true = owes.marked in
             let m : (nodes s' (id_number node)).made ≡ true = st.made in
             let k : (nodes s' (id_number node)).destroyed ≡ false = st.kept in
@@ -284,7 +275,7 @@ module _ {V : Type 0} (cells : CellLaws {T = Slot V} (Unit {0}) slot_names) wher
             absurd cc) in
             (let z : later ≡ before = omega (arith, more, zero) in z) ∙ old ∙ ap bit (sym stays)
 
-  -- a place is given out
+  -- and after a registration
   pub filed_registered : (s : Nodes V) (n : ℕ) → n < length s.collector.table → Orderly s.collector → IsFiled s → IsFiled (with_collector s (registered s.collector n))
   filed_registered s n inside orderly f =
       let keeps = cells.registered_jobs s.collector n inside orderly in
@@ -295,13 +286,13 @@ module _ {V : Type 0} (cells : CellLaws {T = Slot V} (Unit {0}) slot_names) wher
         only = (let more = keeps.jobs others in let old = f.only in omega (arith, more, old));
       }
 
-  -- a root alone
+  -- and in a root alone, where none waits
   pub filed_opened : (limits : Limits) (charge limit : ℕ) (s : Nodes V) → IsOpened limits charge limit s → IsFiled s
   filed_opened limits charge limit s begin = record {
-    expiry = ap (λ c. c.limits.expiry) begin.clock ∙ begin.allowed.expiry;
-    sealing = subst (λ (x : State (Slot V) (Unit {0})). IsSealing x) (sym begin.clock) (cells.seals_stored (opened limits.epoch 1) s.collector.store top_roots (cells.seals_opened limits.epoch 1));
-    filed = λ n. ap (weight (removes n)) begin.clock ∙ cells.opened_jobs limits.epoch 1 (removes n) ∙ ap bit (sym (not_true (is_waiting (nodes s (number n))) (none_waits (number n))));
-    only = ap (weight others) begin.clock ∙ cells.opened_jobs limits.epoch 1 others;
+    expiry = ap (λ c. c.limits.expiry) begin.collector_is ∙ begin.allowed.expiry;
+    sealing = subst (λ (x : State (Slot V) (Unit {0})). IsSealing x) (sym begin.collector_is) (cells.seals_stored (opened limits.epoch 1) s.collector.store top_roots (cells.seals_opened limits.epoch 1));
+    filed = λ n. ap (weight (removes n)) begin.collector_is ∙ cells.opened_jobs limits.epoch 1 (removes n) ∙ ap bit (sym (not_true (is_waiting (nodes s (number n))) (none_waits (number n))));
+    only = ap (weight others) begin.collector_is ∙ cells.opened_jobs limits.epoch 1 others;
   }
     where
       none_waits : (k : ℕ) → is_waiting (nodes s k) ≡ true → ⊥

@@ -19,7 +19,7 @@ use Rattle.joint.specs.engine.Intact.{IsAt, IsIntact, resting}
 use Rattle.joint.specs.engine.Laws.{CellLaws, CallLaws}
 use Rattle.joint.specs.nodes.Slots.{slot_names}
 use Rattle.joint.specs.nodes.Opening.{IsOpened, top}
-use Rattle.joint.specs.engine.Engine.{IsFresh, EngineHolds}
+use Rattle.joint.specs.engine.Engine.{IsFresh}
 use Rattle.joint.specs.nodes.View.{view, id_number}
 use Rattle.joint.proofs.lemmas.engine.Filing.{filed_opened}
 use Rattle.joint.proofs.lemmas.engine.SoundOpening as open_it
@@ -54,15 +54,16 @@ module _ {V : Type 0} (same : V → V → Bool) (always : Bool) (cells : CellLaw
   at_first i k m here at = let P : InFlight V → Type 0 = λ x. IsAt x (place s.collector i) m in subst P (one_of n Idle i k here) (begin.resting.idle i, over i m at)
 
   table : length s.collector.table ≡ n
-  table = ap (λ x. length x.table) begin.clock ∙ length-replicate n _
+  table = ap (λ x. length x.table) begin.collector_is ∙ length-replicate n _
 
+  -- with every worker idle and no call begun the machine is intact
   pub intact : IsIntact same always s ms ks
   intact = record {
     safe = record {
       sound = record {
         top = top;
         past = moment slot_names Quiet s.collector ∷ [];
-        sound = open_it.opened slot_names view slot_view id_number same always cells calls top s.collector ms begin.resting.orderly begin.rooted settled begin.told.fits begin.told.table (ap (λ x. x.next) begin.clock) over;
+        sound = open_it.opened slot_names view slot_view id_number same always cells calls top s.collector ms begin.resting.orderly begin.rooted settled begin.told.fits begin.told.table (ap (λ x. x.next) begin.collector_is) over;
       };
       within = subst (λ (k : ℕ). Within k (nodes s)) (sym begin.versions) begin.within;
     };
@@ -73,8 +74,6 @@ module _ {V : Type 0} (same : V → V → Bool) (always : Bool) (cells : CellLaw
     each = at_first;
   }
 
-  pub holds : EngineHolds same always (record { forest = s; machines = ms; calls = ks; log = no_log })
-  holds = (intact, charged)
-
+  -- it is a root alone with no call in flight
   pub fresh : IsFresh (record { forest = s; machines = ms; calls = ks; log = no_log })
   fresh = record { alone = begin.fresh.alone; idle = λ i k at. sym (one_of n Idle i k at) }

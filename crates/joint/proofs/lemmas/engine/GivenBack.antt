@@ -12,6 +12,7 @@ use Rattle.joint.specs.Names.{number}
 use Rattle.joint.specs.engine.Laws.{CellLaws}
 use Rattle.joint.specs.NameLemmas.{same_name}
 use Rattle.joint.proofs.lemmas.engine.ReachMoments.{Reaches, was_in}
+use Rattle.congee.proofs.Laws.{both_true}
 
 abbrev of_gift : Name → Act → Name
 of_gift x Quiet = x
@@ -24,13 +25,16 @@ module _ {T J : Type 0} (names : T → List Name) (s : State T J) where
   lived [] n = is_some (value_at s.store n)
   lived (x ∷ xs) n = lived xs n && not (number n == number x)
 
+  -- the moment at which the last of these is given back, after the others
   abbrev pub given_back : List Name → Name → Moment
   given_back xs x = record { act = GivenBack x; roots = s.roots; links = links_of names s.store; live = lived (x ∷ xs) }
 
+  -- the moments with one more for each that is given back
   abbrev pub backs : List Moment → List Name → List Moment
   backs past [] = past
   backs past (x ∷ xs) = given_back xs x ∷ backs past xs
 
+  -- giving back marks nothing
   pub same_marks : (past : List Moment) (xs : List Name) → marks_of (backs past xs) ≡ marks_of past
   same_marks past [] = refl
   same_marks past (x ∷ xs) = same_marks past xs
@@ -40,10 +44,12 @@ module _ {T J : Type 0} (names : T → List Name) (s : State T J) where
     was_in_backs [] n w = w
     was_in_backs (x ∷ xs) n w = elim w [ inl i ↦ was_in cells s past now n i | inr r ↦ was_in_backs xs n r ]
 
+    -- what was in reach was so at the longer history too
     pub still_in : (xs : List Name) (n : Name) → WasIn past n → WasIn (backs past xs) n
     still_in [] n w = w
     still_in (x ∷ xs) n w = inr (still_in xs n w)
 
+    -- what a participant saw in reach it saw by the longer history too
     pub still_seen : (xs : List Name) (p : ℕ) (n : Name) → Visible past p n → Visible (backs past xs) p n
     still_seen [] p n v = v
     still_seen (x ∷ xs) p n v = inr (refl, still_seen xs p n v)
@@ -57,6 +63,7 @@ module _ {T J : Type 0} (names : T → List Name) (s : State T J) where
         first (c ∷ h) w b f e = (λ n i. elim (f n i) [ inl l ↦ inl l | inr r ↦ inr (cells.newest_in c h s n w r) ], e)
     newest_in (x ∷ xs) m f e = (λ n i. f n i, e)
 
+    -- the history stays careful where nothing given back was ever in reach, and nothing deferred is
     pub careful_backs : IsCareful past → (xs : List Name) → ((n : Name) → Contains xs n → WasIn past n → ⊥) → ((t : ℕ) (n : Name) → WasDeferred (marks_of past) t n → Reaches names s n → ⊥) → IsCareful (backs past xs)
     careful_backs t [] u d = t
     careful_backs t (x ∷ xs) u d =
@@ -74,6 +81,7 @@ module _ {T J : Type 0} (names : T → List Name) (s : State T J) where
       | inr ne ↦ absurd (let q : (number n == number x) ≡ false = ne_eqb (number n) (number x) ne in let z : lived (x ∷ xs) n ≡ true = rw (l, q) refl in cc)
     ]
 
+    -- where the next moment tells the destructions after them, all destructions are told
     pub ends_next : (xs : List Name) (m : Moment) → ((n : Name) → lived xs n ≡ true → m.live n ≡ false → IsDestruction m.act n) → DestructionsTold (backs past xs) → DestructionsTold (m ∷ backs past xs)
     ends_next [] m f e = first past now m f e
       where
@@ -82,17 +90,15 @@ module _ {T J : Type 0} (names : T → List Name) (s : State T J) where
         first (c ∷ h) w b f e = (λ n l g. f n (sym (w.1 n) ∙ l) g, e)
     ends_next (x ∷ xs) m f e = (λ n l g. f n l g, e)
 
+    -- all destructions are told up to the last that is given back
     pub ends_backs : DestructionsTold past → (xs : List Name) → DestructionsTold (backs past xs)
     ends_backs e [] = e
     ends_backs e (x ∷ xs) = ends_next xs (given_back xs x) (λ n l g. live_before xs x n l g) (ends_backs e xs)
 
-    left_live : (b c : Bool) → (b && c) ≡ true → b ≡ true
-    left_live true c e = refl
-    left_live false c e = absurd (cc e)
-
+    -- what is live after they are given back stood before
     pub lived_first : (xs : List Name) (n : Name) → lived xs n ≡ true → is_some (value_at s.store n) ≡ true
     lived_first [] n l = l
-    lived_first (x ∷ xs) n l = lived_first xs n (left_live (lived xs n) (not (number n == number x)) l)
+    lived_first (x ∷ xs) n l = lived_first xs n (both_true (lived xs n) (not (number n == number x)) l).0
 
     -- what is live after them wasn't given back
     pub lived_apart : (xs : List Name) (n : Name) → lived xs n ≡ true → Contains xs n → ⊥
@@ -102,8 +108,9 @@ module _ {T J : Type 0} (names : T → List Name) (s : State T J) where
         last : (b : Bool) → (b && not true) ≡ false
         last true = refl
         last false = refl
-    lived_apart (x ∷ xs) n l (suc k, lt, e) = lived_apart xs n (left_live (lived xs n) (not (number n == number x)) l) (k, omega (arith, lt), e)
+    lived_apart (x ∷ xs) n l (suc k, lt, e) = lived_apart xs n (both_true (lived xs n) (not (number n == number x)) l).0 (k, omega (arith, lt), e)
 
+    -- each name that was live by the longer history was given
     pub given_backs : ((n : Name) → WasLive past n → was_given s.store n ≡ true) → (xs : List Name) (n : Name) → WasLive (backs past xs) n → was_given s.store n ≡ true
     given_backs g [] n w = g n w
     given_backs g (x ∷ xs) n w = elim w [ inl l ↦ g n (cells.was_live past s n now (lived_first (x ∷ xs) n l)) | inr r ↦ given_backs g xs n r ]

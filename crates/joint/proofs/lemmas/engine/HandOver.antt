@@ -9,7 +9,7 @@ use Rattle.crossbeam_epoch.specs.declared.fault.Fault.{Fault}
 use Rattle.crossbeam_epoch.specs.declared.fault.Fault.TheVariants.{Memory, Unpinned, Count, Unknown}
 use Rattle.crossbeam_epoch.specs.declared.names.Name.{Name}
 use Rattle.crossbeam_epoch.specs.declared.world.participant.Participant.{Participant}
-use Rattle.crossbeam_epoch.specs.declared.world.participant.Phase.{Phase as Stage}
+use Rattle.crossbeam_epoch.specs.declared.world.participant.Phase.{Phase as CollectorPhase}
 use Rattle.crossbeam_epoch.specs.World.History.{Deferred, WasDeferred}
 use Rattle.crossbeam_epoch.specs.World.Machine.{State, blank, place, deferred, deferred_anew, after_deferral}
 use Rattle.crossbeam_epoch.specs.World.Reach.{Marked, Moment, marks_of, moment, HasMoments}
@@ -29,7 +29,7 @@ use Rattle.joint.proofs.lemmas.engine.SoundHandOver.{handed}
 use Rattle.joint.proofs.lemmas.engine.ReachMoments.{entered_live}
 use Rattle.joint.proofs.lemmas.nodes.SlotViews.{slot_view}
 use Rattle.joint.proofs.lemmas.nodes.Tickets.{at_most_by_relation}
-use Rattle.joint.proofs.lemmas.nodes.Views.{ties}
+use Rattle.joint.proofs.lemmas.nodes.Views.{heap_ties}
 
 -- a participant that is registered has a place in the table
 pub held_place : {J : Type 0} (table : List (Participant J)) (who : ℕ) → (slice_index_or table who blank).registered ≡ true → who < length table
@@ -52,7 +52,7 @@ module _ {V : Type 0} (same : V → V → Bool) (always : Bool) (cells : CellLaw
   -- what was deferred was made
   deferred_made : (t : ℕ) (n : Name) → WasDeferred (marks_of past) t n → (nodes s (number n)).made ≡ true
   deferred_made t n w =
-      (ties slot_names view slot_view c.store).given n (owes.safe.sound.sound.tells.given n (entered_live past owes.safe.sound.sound.careful.enters n (owes.safe.sound.sound.left t n w)))
+      (heap_ties slot_names view slot_view c.store).given n (owes.safe.sound.sound.tells.given n (entered_live past owes.safe.sound.sound.careful.enters n (owes.safe.sound.sound.left t n w)))
 
   -- the names that the tickets have, with the one that is to come
   abbrev Has : ℕ → ℕ → Type 0
@@ -66,7 +66,7 @@ module _ {V : Type 0} (same : V → V → Bool) (always : Bool) (cells : CellLaw
 
   bound : (t k : ℕ) → t < c.next + 1 → Has t k → k < 2 ^ 64 - 1
   bound t k l (inl d) = few k (subst (λ (y : ℕ). (nodes s y).made ≡ true) (number_named k) (deferred_made t (named k) d))
-  bound t k l (inr e) = subst (λ (y : ℕ). y < 2 ^ 64 - 1) (sym e.1) (few (id_number node) ((ties slot_names view slot_view c.store).stands node.name owes.stands).made)
+  bound t k l (inr e) = subst (λ (y : ℕ). y < 2 ^ 64 - 1) (sym e.1) (few (id_number node) ((heap_ties slot_names view slot_view c.store).stands node.name owes.stands).made)
 
   never : (t k : ℕ) → WasDeferred (marks_of past) t (named k) → k ≡ id_number node → ⊥
   never t k d e = owes.fresh t (subst (λ (n : Name). WasDeferred (marks_of past) t n) (ap named e ∙ named_number node.name) d)
@@ -91,7 +91,7 @@ module _ {V : Type 0} (same : V → V → Bool) (always : Bool) (cells : CellLaw
   no_fault : destroy_fault c who node.name ≡ None
   no_fault =
       let p : Participant (Unit {0}) = place c who in
-      let quiet : quiet_fault p.phase p ≡ None = ap (λ (x : Stage). quiet_fault x p) owes.idle ∙ ap (λ (b : Bool). when b Unpinned) (pinned p.word owes.pinned) in
+      let quiet : quiet_fault p.phase p ≡ None = ap (λ (x : CollectorPhase). quiet_fault x p) owes.idle ∙ ap (λ (b : Bool). when b Unpinned) (pinned p.word owes.pinned) in
       let count : or_count c.next (quiet_fault p.phase p) ≡ None = ap (or_count c.next) quiet ∙ ap (λ (b : Bool). when b Count) no_count in
       let held : defer_fault c who ≡ or_count c.next (quiet_fault p.phase p) = ap (λ (b : Bool). if b then or_count c.next (quiet_fault p.phase p) else Some Unknown) owes.registered in
       ap (λ (b : Bool). if b then defer_fault c who else Some Unknown) owes.stands ∙ held ∙ count
@@ -102,6 +102,7 @@ module _ {V : Type 0} (same : V → V → Bool) (always : Bool) (cells : CellLaw
   abbrev work : Work (Unit {0})
   work = Remove node.name
 
+  -- the node's removal comes into the worker's bag, which isn't full
   pub into_place : after_deferral c who work ≡ deferred c who work
   into_place = ap (λ (b : Bool). if b then deferred_anew c who work else deferred c who work) no_full
 
@@ -136,6 +137,7 @@ module _ {V : Type 0} (same : V → V → Bool) (always : Bool) (cells : CellLaw
     | inr ne ↦ subst (λ (p : Participant (Unit {0})). Guards p m) (sym (place_apart i ne)) (owes.safe.sound.sound.guarded i m at)
   ]
 
+  -- once the removal is deferred all is safe
   pub handed_safe : (t : ℕ) (s' : Nodes V) → s' ≡ with_collector s (after_deferral c who work) → t ≡ c.next
       → ((h : List Moment) → HasMoments slot_names h c → HasMoments slot_names (moment slot_names (Marked (Deferred t (Some node.name))) s'.collector ∷ h) s'.collector) → IsSafe same always s' ms
   handed_safe t s' e ticket told =
@@ -152,7 +154,7 @@ module _ {V : Type 0} (same : V → V → Bool) (always : Bool) (cells : CellLaw
         within = owes.safe.within;
       })
 
-  -- so no fault stands
+  -- the deferral is refused for no fault
   pub never_refused : (f : Fault) → MatchOption (destroy_fault c who node.name) ((f ≡ Memory) × (length (place c who).bag ≡ 64) × (c.room ≡ 0)) (λ x. f ≡ x) → ⊥
   never_refused f m =
       let P : Option Fault → Type 0 = λ o. MatchOption o ((f ≡ Memory) × (length (place c who).bag ≡ 64) × (c.room ≡ 0)) (λ x. f ≡ x) in

@@ -3,7 +3,6 @@ use Rattle.std.proofs.Common.{◌≡◌, ◌≢◌, ◌<◌, ℕ, zero, suc, ◌
 use Rattle.std.proofs.Math.ListN.{set}
 use Rattle.std.specs.Prelude.{Option, None, Some, slice_get}
 use Rattle.std.proofs.lemmas.List.{length-set}
-use Rattle.std.proofs.lemmas.Option.{slice_get_within, slice_get_cases}
 use Rattle.crossbeam_epoch.specs.declared.fault.Fault.{Fault}
 use Rattle.crossbeam_epoch.specs.declared.world.report.Outcome.{Outcome as CollectorOutcome}
 use Rattle.crossbeam_epoch.specs.declared.world.report.Outcome.TheVariants as collector_outcome
@@ -25,6 +24,7 @@ use Rattle.joint.specs.engine.Log.{counted}
 use Rattle.joint.specs.Reports.{target}
 use Rattle.joint.specs.engine.Engine.{World, EngineHolds, BeginsAt, BeginsOnTree, Does, EntersUnless, GoesAt, GoesOnReserving, Proceeds, Walks, finds_none}
 use Rattle.joint.proofs.lemmas.engine.ScanEnds.{cleared_is, set_other}
+use Rattle.joint.proofs.lemmas.engine.Collecting.{get_beside}
 
 -- two lists that differ at one place at most
 pub record AtOne {A : Type 0} (xs ys : List A) (w : ℕ) : Type 0 where
@@ -40,7 +40,7 @@ pub one_set : {A : Type 0} (xs ys : List A) (w : ℕ) (x : A) → ys ≡ set xs 
 one_set xs ys w x e = record { other = λ i n. ap (λ zs. slice_get zs i) e ∙ set_other xs w i x n; long = ap length e ∙ length-set xs w x }
 
 -- and one that was changed there twice
-pub one_after : {A : Type 0} (xs ys zs : List A) (w : ℕ) → AtOne xs ys w → AtOne ys zs w → AtOne xs zs w
+one_after : {A : Type 0} (xs ys zs : List A) (w : ℕ) → AtOne xs ys w → AtOne ys zs w → AtOne xs zs w
 one_after xs ys zs w a b = record { other = λ i n. b.other i n ∙ a.other i n; long = b.long ∙ a.long }
 
 -- the calls in flight and the machines, but for one worker's, are as before
@@ -85,18 +85,12 @@ module _ {V : Type 0} (same : V → V → Bool) (always : Bool) (s s' : World V)
   reserving_on : (b : World V) (r : Report V) → GoesOnReserving same always b w r s' → Apart b s' w
   reserving_on b r x = record {
     calls = one_set b.calls s'.calls w _ x.step.call;
-    machines = (let P : List (Machine Id V) → Type 0 = λ ms. AtOne b.machines ms w in subst P (sym x.step.machine) (secured_one x.turn.outcome (slice_get b.calls w) b.machines w));
+    machines = (let P : List (Machine Id V) → Type 0 = λ ms. AtOne b.machines ms w in subst P (sym x.step.machine) (secured_one x.collector_report.outcome (slice_get b.calls w) b.machines w));
   }
-
-  machine_at : (k : InFlight V) → slice_get s.calls w ≡ Some k → (x : Machine Id V) × (slice_get s.machines w ≡ Some x)
-  machine_at k e = elim (slice_get_cases s.machines w).1 [
-    | inl x ↦ (x.0, x.2)
-    | inr x ↦ absurd (let l : w < length s.calls = slice_get_within s.calls w k e in omega (arith, x.0, l, holds.0.machines))
-  ]
 
   walks : (noise : Noise Id V) (r : Report V) → slice_get s.calls w ≡ Some Walking → Walks same always s w noise r s' → Apart s s' w
   walks noise r e k =
-      let x : (x : Machine Id V) × (slice_get s.machines w ≡ Some x) = machine_at Walking e in
+      let x : (x : Machine Id V) × (slice_get s.machines w ≡ Some x) = get_beside s.machines s.calls w holds.0.machines Walking e in
       let moved = k.step.walked.plays.moved x.0 x.1 in
       record {
         calls = one_set s.calls s'.calls w _ k.calls;
@@ -122,6 +116,7 @@ module _ {V : Type 0} (same : V → V → Bool) (always : Bool) (s s' : World V)
   proceeds (Begin op) r x = begins (target op) r x
   proceeds (Go noise) r x = goes (slice_get s.calls w) noise r refl x
 
+  -- a step changes one worker's call and machine, and no other's
   pub step_apart : (event : Event V) (o : Option Fault) (r : Report V) → Does same always s w event o r s' → Apart s s' w
   step_apart event None r x = proceeds event r x
   step_apart event (Some f) r x = unchanged x.1
@@ -146,10 +141,11 @@ head_same : {A : Type 0} (x y : A) (xs ys : List A) (w : ℕ) → AtOne (x ∷ x
 head_same x y xs ys w a = let q : Some y ≡ Some x = a.other 0 (λ e. let z : 0 ≡ suc w = e in omega (arith, z)) in cc
 
 module _ {V : Type 0} where
+  -- 1 where the worker's call has a place of the journal reserved, and 0 where it has none
   abbrev pub count_at : List (InFlight V) → List (Machine Id V) → ℕ → ℕ
   count_at ks ms w = one_where (has_place (slice_get ks w) (slice_get ms w))
 
-  -- the count before with the call's part after, and the count after with its part before
+  -- the count after, with the call's part before, is the count before with its part after
   pub places_at : (ks ks' : List (InFlight V)) (ms ms' : List (Machine Id V)) (w : ℕ) → length ms ≡ length ks → AtOne ks ks' w → AtOne ms ms' w → places_of ks' ms' + count_at ks ms w ≡ places_of ks ms + count_at ks' ms' w
   places_at [] [] [] [] w l a b = refl
   places_at [] (k' ∷ ks') ms ms' w l a b = absurd (let n : length (k' ∷ ks') ≡ 0 = a.long in omega (arith, n))
@@ -177,7 +173,7 @@ count_is true false n n' e = omega (arith, e)
 count_is false true n n' e = omega (arith, e)
 count_is false false n n' e = omega (arith, e)
 
--- the count after a step
+-- the count after a step is the one before, counted anew for the worker's call
 pub places_counted : {V : Type 0} (s s' : World V) (w : ℕ) → length s.machines ≡ length s.calls → Apart s s' w
     → counted (has_place (slice_get s.calls w) (slice_get s.machines w)) (has_place (slice_get s'.calls w) (slice_get s'.machines w)) (places_of s.calls s.machines) ≡ places_of s'.calls s'.machines
 places_counted s s' w l a = count_is _ _ _ _ (places_at s.calls s'.calls s.machines s'.machines w l a.calls a.machines)

@@ -39,13 +39,15 @@ module _ {V : Type 0} (order : List ℕ) (h g : ℕ → Node V) (x : HeapAlike o
       child_walk key f (child_for (h c) key) ((g n).children (slice_index key (length (h c).prefix))) (q.children (slice_index key (length (h c).prefix))) (λ d m z at. walk_alike key f m d at (t.down c _ d l z).linked) in
       ap (λ p. cond (fits p key) (of_child (λ d. walk g f d key) ((g n).children (slice_index key (length p)))) None) q.prefix ∙ ap (λ o. cond (fits (h c).prefix key) o None) below
 
+  -- under each key stands the same value
   pub value_alike : (key : List ℕ) → value_at g key ≡ value_at h key
   value_alike key = walk_alike key 8 0 0 root t.root
 
+  -- the pairs that stand in the one stand in the other
   pub map_here : (m : Pairs V) → IsMapOf h m → IsMapOf g m
   map_here m s = record { at = λ k l. s.at k l ∙ sym (value_alike (key_bytes k)); none_beyond = s.none_beyond }
 
-  pub map_there : (m : Pairs V) → IsMapOf g m → IsMapOf h m
+  map_there : (m : Pairs V) → IsMapOf g m → IsMapOf h m
   map_there m s = record { at = λ k l. s.at k l ∙ value_alike (key_bytes k); none_beyond = s.none_beyond }
 
   -- the nodes by levels
@@ -74,7 +76,7 @@ module _ {V : Type 0} (order : List ℕ) (h g : ℕ → Node V) (x : HeapAlike o
       ap (λ s. s ∷ under_bytes (λ d. nodes_from g f (level + 1) d) (g n).children 256) (shape_alike level (h c) (g n) q)
       ∙ ap (λ s. shape_of level (h c) ∷ s) (all_spread (h c).children (g n).children (λ d. nodes_from g f (level + 1) d) (λ d. nodes_from h f (level + 1) d) 256 q.children (λ b d m z at. spread f (level + 1) m d at (t.down c b d l z).linked))
 
-  pub nodes_alike : nodes_of g ≡ nodes_of h
+  nodes_alike : nodes_of g ≡ nodes_of h
   unfolding nodes_of
   nodes_alike = spread 8 0 0 0 root t.root
 
@@ -93,6 +95,7 @@ module _ {V : Type 0} (order : List ℕ) (h g : ℕ → Node V) (x : HeapAlike o
   stats_alike (Refused Memory) e = e
   stats_alike o e = absurd e
 
+  -- what a call of one step tells of the one it tells of the other
   pub tells_alike : (k : Survey) (o : Outcome V) → TellsOf h k o → TellsOf g k o
   tells_alike survey.Keys o e = keys_alike o e
   tells_alike survey.IsEmpty o e = empty_alike o e

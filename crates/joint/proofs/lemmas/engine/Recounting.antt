@@ -14,7 +14,7 @@ room_left n (suc p) l e = elim (cases_Bool (ltb n (suc p))) [
 ]
 
 -- a journal that is kept and isn't full has a free place that nobody has reserved
-pub not_full : {V : Type 0} (l : Log V) → 0 < l.places → is_full l ≡ false → length l.entries + l.reserved < l.places
+not_full : {V : Type 0} (l : Log V) → 0 < l.places → is_full l ≡ false → length l.entries + l.reserved < l.places
 not_full l p e = room_left (length l.entries + l.reserved) l.places p e
 
 counted_room : (n r p : ℕ) (before after : Bool) → n + r ≤ p → (before ≡ false → after ≡ true → n + r < p) → n + counted before after r ≤ p

@@ -5,12 +5,9 @@ use Rattle.std.proofs.lemmas.Bool.{cases_eq}
 use Rattle.std.proofs.lemmas.List.{length-set, get_or-set_same, get_or-set_other}
 use Rattle.crossbeam_epoch.specs.declared.names.Name.{Name}
 use Rattle.crossbeam_epoch.specs.declared.world.participant.Participant.{Participant}
-use Rattle.crossbeam_epoch.specs.World.History.{WasDeferred}
 use Rattle.crossbeam_epoch.specs.World.Machine.{State, blank, place, registered}
-use Rattle.crossbeam_epoch.specs.World.Reach.{Act, Quiet, Marked, GivenBack, Moment, marks_of, moment, HasMoments}
+use Rattle.crossbeam_epoch.specs.World.Reach.{Act, Quiet, Marked, GivenBack, Moment, moment, HasMoments}
 use Rattle.congee.specs.declared.protocol.machine.Machine.{Machine}
-use Rattle.congee.specs.protocol.Handing.{InTree}
-use Rattle.congee.specs.Notes.{Linked}
 use Rattle.joint.specs.declared.engine.in_flight.InFlight.{InFlight}
 use Rattle.joint.specs.declared.engine.in_flight.InFlight.TheVariants.{Idle, Collecting, Reserving, Securing, Walking}
 use Rattle.joint.specs.declared.id.Id.{Id}
@@ -19,14 +16,12 @@ use Rattle.joint.specs.nodes.Nodes.{Nodes, with_collector}
 use Rattle.joint.specs.engine.Intact.{IsAt, IsIntact}
 use Rattle.joint.specs.engine.Laws.{CellLaws, CallLaws}
 use Rattle.joint.specs.nodes.Slots.{slot_names}
-use Rattle.joint.specs.Names.{number}
 use Rattle.joint.specs.engine.Sound.{Guards, Sound}
-use Rattle.joint.specs.nodes.View.{view, heap, id_number}
+use Rattle.joint.specs.nodes.View.{view, id_number}
 use Rattle.joint.proofs.lemmas.engine.Filing.{filed_registered}
-use Rattle.joint.proofs.lemmas.nodes.Paths.{in_tree}
-use Rattle.joint.proofs.lemmas.engine.ReachMoments.{Reaches, was_in}
+use Rattle.joint.proofs.lemmas.engine.ReachMoments.{was_in}
+use Rattle.joint.proofs.lemmas.engine.InReach.{never}
 use Rattle.joint.proofs.lemmas.nodes.SlotViews.{slot_view}
-use Rattle.joint.proofs.lemmas.nodes.Views.{ties}
 
 abbrev is_gift : Act → Type 0
 is_gift Quiet = ⊥
@@ -60,18 +55,6 @@ module _ {V : Type 0} (same : V → V → Bool) (always : Bool) (cells : CellLaw
   apart : (i : ℕ) → (i ≡ n → ⊥) → place c' i ≡ place c i
   apart i ne = get_or-set_other c.table n i put blank ne
 
-  in_it : (x : Name) → Reaches slot_names c x → (sound.settled.0 (number x)).status ≡ Linked
-  in_it x r =
-      let i : InTree (heap c.store) (number x) = in_tree slot_names c.store (heap c.store) c.roots intact.safe.sound.top (ties slot_names view slot_view c.store) sound.rooted r in
-      calls.leads sound.settled.0 (heap c.store) sound.settled.1.tree i.0 0 (number x) sound.settled.1.tree.root i.1
-
-  never : (t : ℕ) (x : Name) → WasDeferred (marks_of past) t x → Reaches slot_names c x → ⊥
-  never t x d r =
-      let l : (sound.settled.0 (number x)).status ≡ Linked = in_it x r in
-      let u : (heap c.store (number x)).retired ≡ false = (sound.settled.1.words.each (number x)).unretired l in
-      let y : (heap c.store (number x)).retired ≡ true = sound.deferred t x d ((ties slot_names view slot_view c.store).live x ((sound.settled.1.words.each (number x)).stands (rw l refl))) in
-      cc
-
   no_gift : (x : Name) → Quiet ≡ GivenBack x → ⊥
   no_gift x e = subst is_gift (sym e) tt
 
@@ -91,7 +74,7 @@ module _ {V : Type 0} (same : V → V → Bool) (always : Bool) (cells : CellLaw
     settled = sound.settled;
     tells = told past sound.tells;
     careful = record {
-      leaves = (λ t x d i. never t x d i, sound.careful.leaves);
+      leaves = (λ t x d i. never slot_names view slot_view id_number same always calls intact.safe.sound.top past c ms sound t x d i, sound.careful.leaves);
       enters = cells.enters_next now past c sound.tells.now (λ x i. inr i) sound.careful.enters;
       gives = (λ x e w. no_gift x e, sound.careful.gives);
     };
@@ -114,6 +97,7 @@ module _ {V : Type 0} (same : V → V → Bool) (always : Bool) (cells : CellLaw
   at_here (Securing op) m x = absurd (let z : (place c n).registered ≡ true = x.0.0 in cc)
   at_here Walking m x = x
 
+  -- the machine is intact with the worker registered
   pub taken : IsIntact same always (with_collector s c') ms ks
   taken = record {
     safe = record { sound = record { top = intact.safe.sound.top; past = now ∷ past; sound = still_sound }; within = intact.safe.within };
@@ -129,7 +113,7 @@ module _ {V : Type 0} (same : V → V → Bool) (always : Bool) (cells : CellLaw
     ];
   }
 
--- the same of the state that is left
+-- whatever state is left so is intact
 pub taken_at : {V : Type 0} (same : V → V → Bool) (always : Bool) → CellLaws {T = Slot V} (Unit {0}) slot_names → CallLaws {C = Id} {V = V} id_number same always → (s s' : Nodes V) (ms : List (Machine Id V)) (ks : List (InFlight V)) → IsIntact same always s ms ks → (n : ℕ)
     → n < length s.collector.table → (place s.collector n).registered ≡ false → s' ≡ with_collector s (registered s.collector n)
     → ((h : List Moment) → HasMoments slot_names h s.collector → HasMoments slot_names (moment slot_names Quiet s'.collector ∷ h) s'.collector) → IsIntact same always s' ms ks

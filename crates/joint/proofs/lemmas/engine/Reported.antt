@@ -24,15 +24,15 @@ use Rattle.joint.specs.declared.steps.Target.TheVariants as target
 use Rattle.joint.specs.nodes.Nodes.{nodes}
 use Rattle.joint.specs.engine.Intact.{call_after, secured_call, over_at}
 use Rattle.joint.specs.engine.Laws.{CallLaws}
-use Rattle.joint.specs.Reports.{target, told, collected}
+use Rattle.joint.specs.Reports.{target, told, collected, is_in_flight}
 use Rattle.joint.specs.nodes.View.{id_number}
-use Rattle.joint.specs.engine.Engine.{World, EngineHolds, Does, Proceeds, BeginsAt, BeginsOnTree, EntersUnless, finds_none, GoesAt, Collects, Walks, GoesOnReserving, SecuresFirst, IsOfCall, is_busy, is_in_flight, misuse, place_of, reserving}
-use Rattle.joint.proofs.lemmas.engine.Collecting.{set_here, get_inside}
+use Rattle.joint.specs.engine.Engine.{World, EngineHolds, Does, Proceeds, BeginsAt, BeginsOnTree, EntersUnless, finds_none, GoesAt, Collects, Walks, GoesOnReserving, SecuresFirst, IsOfCall, is_busy, misuse, place_of, reserving}
+use Rattle.joint.proofs.lemmas.engine.Collecting.{get_inside}
 use Rattle.joint.proofs.lemmas.engine.Ending.{goes_on_after}
-use Rattle.joint.proofs.lemmas.engine.HandOver.{held_place}
 use Rattle.joint.proofs.lemmas.engine.Reserving.{next_here}
 use Rattle.joint.proofs.lemmas.engine.Telling.{survey_ends}
 use Rattle.joint.proofs.lemmas.engine.Walking as walking
+use Rattle.joint.proofs.lemmas.engine.Entering.{at_place, begin_idle, begin_within}
 
 twice : (b : Bool) → not (not b) ≡ b
 twice true = refl
@@ -43,6 +43,7 @@ after_walk V true = refl
 after_walk V false = refl
 
 module _ {V : Type 0} where
+  -- a report of a step on the tree says that the call is in flight just where it goes on
   pub told_goes : (o : Moved V) → is_in_flight (told o) ≡ goes_on_after o
   told_goes moved.Running = refl
   told_goes (moved.Asks found) = refl
@@ -52,19 +53,15 @@ module _ {V : Type 0} where
   told_goes (moved.Refused cause) = refl
 
   -- a call of the collector's goes on, or there is none
-  after_turn : (k : InFlight V) → is_busy (Some k) ≡ true → (o : CollectorOutcome) → is_busy (Some (call_after o k)) ≡ is_in_flight {V = V} (collected o)
-  after_turn k b collector_outcome.Running = b
-  after_turn k b collector_outcome.Done = refl
-  after_turn k b (collector_outcome.Refused f) = refl
+  after_collection : (k : InFlight V) → is_busy (Some k) ≡ true → (o : CollectorOutcome) → is_busy (Some (call_after o k)) ≡ is_in_flight {V = V} (collected o)
+  after_collection k b collector_outcome.Running = b
+  after_collection k b collector_outcome.Done = refl
+  after_collection k b (collector_outcome.Refused f) = refl
 
   after_securing : (op : Point V) (o : CollectorOutcome) → is_busy (Some (secured_call o (Some (Securing op)))) ≡ is_in_flight {V = V} (reserving o)
   after_securing op collector_outcome.Running = refl
   after_securing op collector_outcome.Done = refl
   after_securing op (collector_outcome.Refused f) = refl
-
-  -- the call in a place that was set
-  at_place : (calls calls' : List (InFlight V)) (w : ℕ) (k : InFlight V) → w < length calls → calls' ≡ set calls w k → slice_get calls' w ≡ Some k
-  at_place calls calls' w k l e = let x : (y : InFlight V) × (slice_get calls w ≡ Some y) = get_inside calls w l in ap (λ xs. slice_get xs w) e ∙ set_here calls w k x.0 x.1
 
   securing_goes : (calls calls' : List (InFlight V)) (w : ℕ) (op : Point V) (o : CollectorOutcome) → slice_get calls w ≡ Some (Securing op) → calls' ≡ set calls w (secured_call o (slice_get calls w)) → is_busy (slice_get calls' w) ≡ is_in_flight {V = V} (reserving o)
   securing_goes calls calls' w op o e c =
@@ -82,6 +79,7 @@ module _ {V : Type 0} (same : V → V → Bool) (always : Bool) (s : World V) (w
       let x = get_inside s.machines w (subst (λ n. w < n) (sym holds.0.machines) (slice_get_within s.calls w Walking e)) in
       (holds.0.safe.sound.sound.guarded w x.0 x.1).registered (holds.0.each w Walking x.0 e x.1).0)
 
+  -- a further step of a worker with a call in flight isn't misused
   pub may_go : (noise : Noise Id V) → is_busy (slice_get s.calls w) ≡ true → misuse s w (Go noise) ≡ None
   may_go noise b =
       let r : (place_of s w).registered ≡ true = busy_registered (slice_get s.calls w) refl b in
@@ -96,10 +94,10 @@ module _ {V : Type 0} (same : V → V → Bool) (always : Bool) (laws : CallLaws
   put r k l e b = ap is_busy (at_place s.calls s'.calls w k l e) ∙ b
 
   collects : (event : CollectorEvent) (k : InFlight V) (r : Report V) → is_busy (Some k) ≡ true → w < length s.calls → Collects same always s w event k r s' → Tells r
-  collects event k r b l x = put r (call_after x.turn.outcome k) l x.calls (after_turn k b x.turn.outcome ∙ sym (ap (λ y. is_in_flight y.outcome) x.report))
+  collects event k r b l x = put r (call_after x.collector_report.outcome k) l x.calls (after_collection k b x.collector_report.outcome ∙ sym (ap (λ y. is_in_flight y.outcome) x.report))
 
   securing : (op : Point V) (r : Report V) (b : World V) → slice_get b.calls w ≡ Some (Securing op) → GoesOnReserving same always b w r s' → Tells r
-  securing op r b e x = securing_goes b.calls s'.calls w op x.turn.outcome e x.step.call ∙ sym (ap (λ y. is_in_flight y.outcome) x.report)
+  securing op r b e x = securing_goes b.calls s'.calls w op x.collector_report.outcome e x.step.call ∙ sym (ap (λ y. is_in_flight y.outcome) x.report)
 
   secures_first : (op : Point V) (r : Report V) → slice_get s.calls w ≡ Some (Reserving op) → SecuresFirst same always s w r s' → Tells r
   secures_first op r e x = securing op r x.between (next_here same always s.forest s.machines s.calls w x.between.forest x.between.machines x.between.calls x.begins op e) x.goes
@@ -140,21 +138,12 @@ module _ {V : Type 0} (same : V → V → Bool) (always : Bool) (laws : CallLaws
   on (Some (Securing op)) noise r e x = securing op r s e x
   on (Some Walking) noise r e x = walks noise r e (slice_get_within s.calls w Walking e) x
 
-  -- a begin that isn't misused is of a registered worker
-  may_begin : (b : Bool) (o : Option Fault) → (place_of s w).registered ≡ b → (if b then o else Some fault.Unknown) ≡ None → w < length s.calls
-  may_begin true o e x = subst (λ n. w < n) holds.0.table (held_place s.forest.collector.table w e)
-  may_begin false o e x = absurd (cc x)
-
-  free : (b busy : Bool) (f : Fault) (u : Option Fault) → (if b then (if busy then Some f else u) else Some fault.Unknown) ≡ None → busy ≡ false
-  free true true f u e = absurd (cc e)
-  free true false f u e = refl
-  free false busy f u e = absurd (cc e)
-
   proceeds : (event : Event V) (r : Report V) → IsOfCall event → misuse s w event ≡ None → Proceeds same always s w event r s' → Tells r
   proceeds Register r c m x = absurd c
-  proceeds (Begin op) r c m x = begins (target op) r (free (place_of s w).registered (is_busy (slice_get s.calls w)) _ _ m) (may_begin (place_of s w).registered _ refl m) x
+  proceeds (Begin op) r c m x = begins (target op) r (begin_idle same always s s' w holds op m) (begin_within same always s s' w holds op m) x
   proceeds (Go noise) r c m x = on (slice_get s.calls w) noise r refl x
 
+  -- after a step that isn't misused a worker has a call in flight exactly where the report says so
   pub in_flight : (event : Event V) (r : Report V) → Does same always s w event (misuse s w event) r s' → IsOfCall event → misuse s w event ≡ None → is_busy (slice_get s'.calls w) ≡ is_in_flight r.outcome
   in_flight event r x c m =
       let P : Option Fault → Type 0 = λ o. Does same always s w event o r s' in

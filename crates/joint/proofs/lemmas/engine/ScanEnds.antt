@@ -3,7 +3,7 @@ use Rattle.std.proofs.Common.{◌≡◌, ◌≢◌, ◌⊎◌, ◌+◌, ◌≤�
 use Rattle.std.proofs.Math.ListN.{set}
 use Rattle.std.specs.Prelude.{◌==◌, not, Option, None, Some, slice_get, slice_set, if◌then◌else◌}
 use Rattle.std.proofs.lemmas.Bool.{cases_Bool, cases_eq}
-use Rattle.std.proofs.lemmas.List.{length-set, set-set}
+use Rattle.std.proofs.lemmas.List.{set-set}
 use Rattle.judge.specs.declared.journal.Reply.{Reply}
 use Rattle.judge.specs.Answer.{Pairs}
 use Rattle.crossbeam_epoch.specs.World.Machine.{place}
@@ -13,24 +13,24 @@ use Rattle.congee.specs.declared.protocol.machine.Outcome.{Outcome}
 use Rattle.congee.specs.declared.protocol.machine.Outcome.TheVariants.{Running, Asks, Found, Done, Scanned, Refused}
 use Rattle.congee.specs.declared.protocol.phase.Kind.{Kind}
 use Rattle.congee.specs.declared.protocol.phase.Phase.{Phase}
-use Rattle.congee.specs.declared.protocol.phase.Phase.TheVariants.{Sweep}
+use Rattle.congee.specs.declared.protocol.phase.Phase.TheVariants.{Scan}
 use Rattle.congee.specs.declared.protocol.store.Least.{Least}
 use Rattle.congee.specs.declared.protocol.store.Least.TheVariants as least
 use Rattle.congee.specs.declared.protocol.store.Refusal.{Refusal}
 use Rattle.congee.specs.declared.protocol.store.Region.{Region}
-use Rattle.congee.specs.declared.protocol.sweep.Rung.{Rung}
-use Rattle.congee.specs.declared.protocol.sweep.Stage.{Stage}
-use Rattle.congee.specs.declared.protocol.sweep.Stage.TheVariants as stage
-use Rattle.congee.specs.declared.protocol.sweep.Sweep.{Sweep as Scan}
-use Rattle.congee.specs.declared.protocol.sweep.ScanReport.{ScanReport}
-use Rattle.congee.specs.declared.protocol.sweep.ScanReport.TheVariants as told
+use Rattle.congee.specs.declared.protocol.scan.Rung.{Rung}
+use Rattle.congee.specs.declared.protocol.scan.Stage.{Stage}
+use Rattle.congee.specs.declared.protocol.scan.Stage.TheVariants as stage
+use Rattle.congee.specs.declared.protocol.scan.ScanState.{ScanState as ScanState}
+use Rattle.congee.specs.declared.protocol.scan.ScanReport.{ScanReport}
+use Rattle.congee.specs.declared.protocol.scan.ScanReport.TheVariants as scan_report
 use Rattle.congee.specs.declared.forms.base_node.NodeType.{NodeType}
 use Rattle.congee.specs.Heap.{Node, version_of, is_taken}
 use Rattle.congee.specs.Keys.{key_bytes}
 use Rattle.congee.specs.protocol.Holdings.{LockedBy, MadeBy, TakenBy}
 use Rattle.congee.specs.protocol.Play.{Flight, Pending, Decided, Over, Unbegun, Scanning, Question, EachKnown, Settled, Follows, IsOfPoint, Watched, PendingMoves, Undecided, Concludes, ScanTells, flight, value_answered, resolved}
 use Rattle.congee.specs.protocol.Steps.{Stepped, PhaseStepped, outcome_of}
-use Rattle.congee.specs.protocol.SweepSteps.{whole, Swung, SweptAt, over, anew, left, left_to, last_of, filled, entered, begins, IsFollowed, is_outside}
+use Rattle.congee.specs.protocol.ScanSteps.{whole, NextScan, ScanSteppedAt, over, anew, left, left_to, last_of, filled, entered, begins, IsFollowed, is_outside}
 use Rattle.congee.specs.protocol.State.{is_past, is_done, is_over}
 use Rattle.joint.specs.declared.id.Id.{Id}
 use Rattle.joint.specs.nodes.Nodes.{Nodes}
@@ -41,8 +41,8 @@ use Rattle.joint.specs.nodes.Slots.{slot_names}
 use Rattle.joint.specs.engine.Sound.{IsUnderWay, most_left}
 use Rattle.joint.specs.nodes.View.{view, id_number}
 use Rattle.joint.proofs.lemmas.engine.SoundBegins as begin
-use Rattle.joint.proofs.lemmas.engine.Collecting.{either, set_here}
-use Rattle.joint.proofs.lemmas.engine.Ending.{IsOnKey, goes_on_after as continues, ends}
+use Rattle.joint.proofs.lemmas.engine.Ending.{IsOnKey, goes_on_after as continues, step_ends}
+use Rattle.congee.proofs.Laws.{get_set, set_here}
 
 -- each other place of a list has what it had before one was set
 pub set_other : {A : Type 0} (xs : List A) (i j : ℕ) (x : A) → j ≢ i → slice_get (set xs i x) j ≡ slice_get xs j
@@ -55,17 +55,18 @@ set_other (y ∷ xs) (suc i) (suc j) x n = set_other xs i j x (λ e. n (ap suc e
 module _ {V : Type 0} where
   -- it holds nothing
   no_lock : (p : Phase Id V) (n : ℕ) → is_done p ≡ true → LockedBy id_number p n → ⊥
-  no_lock (Sweep s) n e x = x
+  no_lock (Scan s) n e x = x
   no_lock _ n e x = absurd (cc e)
 
   no_made : (p : Phase Id V) (n : ℕ) → is_done p ≡ true → MadeBy id_number p n → ⊥
-  no_made (Sweep s) n e x = x
+  no_made (Scan s) n e x = x
   no_made _ n e x = absurd (cc e)
 
   no_taken : (p : Phase Id V) (n : ℕ) → is_done p ≡ true → TakenBy id_number p n → ⊥
-  no_taken (Sweep s) n e x = x
+  no_taken (Scan s) n e x = x
   no_taken _ n e x = absurd (cc e)
 
+  -- a worker's place never has a scan that is done, once that has left it
   pub not_done : (m : Machine Id V) → is_done (rested m).phase ≡ false
   not_done m = elim (cases_Bool (is_done m.phase)) [
     | inl e ↦ (let P : Bool → Type 0 = λ b. is_done (if b then resting else m).phase ≡ false in subst P (sym e) refl)
@@ -86,7 +87,7 @@ module _ {V : Type 0} (same : V → V → Bool) (always : Bool) (s : Nodes V) (m
       record {
         tree = pa.tree;
         words = pa.words;
-        each = λ j y at. elim (either ms who j resting y at) [
+        each = λ j y at. elim (get_set ms who j resting y at) [
           | inl e ↦ (let P : Machine Id V → Type 0 = λ z. EachKnown id_number same always a h j z in subst P e.1 (record { root = refl; key = omega arith; known = tt }))
           | inr apart ↦ pa.each j y apart.1
         ];
@@ -112,12 +113,13 @@ module _ {V : Type 0} (same : V → V → Bool) (always : Bool) (s : Nodes V) (m
           sound = record {
             top = safe.sound.top;
             past = safe.sound.past;
-            sound = begin.begun slot_names view id_number same always either safe.sound.top safe.sound.past s.collector ms safe.sound.sound who resting (settled (heap_of view s.collector.store) safe.sound.sound.settled) refl (λ k x. x)
+            sound = begin.begun slot_names view id_number same always get_set safe.sound.top safe.sound.past s.collector ms safe.sound.sound who resting (settled (heap_of view s.collector.store) safe.sound.sound.settled) refl (λ k x. x)
                 (record { registered = λ u. absurd u; pinned = λ u. absurd u; idle = λ u. absurd u; secured = room });
           };
           within = safe.within;
         }
 
+  -- all is safe where a scan that is done leaves its place
   pub cleared_safe : IsSafe same always s ms → IsSafe same always s (cleared ms who)
   cleared_safe safe =
       let P : Option (Machine Id V) → Type 0 = λ o. IsSafe same always s (cleared_at o ms who) in
@@ -128,6 +130,7 @@ module _ {V : Type 0} (same : V → V → Bool) (always : Bool) (s : Nodes V) (m
       ])
 
 module _ {V : Type 0} (ms between : List (Machine Id V)) (who : ℕ) (old now : Machine Id V) (here : slice_get ms who ≡ Some old) (calls : between ≡ set ms who now) where
+  -- the worker's machine between the step and the leaving is the one that took the step
   pub now_between : slice_get between who ≡ Some now
   now_between = ap (λ xs. slice_get xs who) calls ∙ set_here ms who now old here
 
@@ -135,29 +138,19 @@ module _ {V : Type 0} (ms between : List (Machine Id V)) (who : ℕ) (old now : 
   by_done true = ap (λ xs. set xs who resting) calls ∙ set-set ms who now resting
   by_done false = calls
 
+  -- the machines are as before, but for the worker's: that of the step, or one at rest after a scan that is done
   pub cleared_is : cleared between who ≡ set ms who (rested now)
   cleared_is = ap (λ o. cleared_at o between who) now_between ∙ by_done (is_done now.phase)
 
--- as many machines are left where a scan that is done leaves its place
-pub cleared_long : {V : Type 0} (ms : List (Machine Id V)) (who : ℕ) → length (cleared ms who) ≡ length ms
-cleared_long {V} ms who = at (slice_get ms who)
-  where
-    by : (b : Bool) → length (if b then slice_set ms who resting else ms) ≡ length ms
-    by true = length-set ms who resting
-    by false = refl
-
-    at : (o : Option (Machine Id V)) → length (cleared_at o ms who) ≡ length ms
-    at None = refl
-    at (Some m) = by (is_done m.phase)
+-- whether a scan's report tells its end
+abbrev pub is_end : {V : Type 0} → ScanReport V → Bool
+is_end scan_report.Running = false
+is_end (scan_report.Found place k v) = false
+is_end (scan_report.Done count) = true
+is_end (scan_report.Refused e) = true
 
 -- a scan has told its end exactly where it is past
-abbrev pub is_end : {V : Type 0} → ScanReport V → Bool
-is_end told.Running = false
-is_end (told.Found place k v) = false
-is_end (told.Done count) = true
-is_end (told.Refused e) = true
-
-abbrev Tells : {V : Type 0} → Swung Id V → Type 0
+abbrev Tells : {V : Type 0} → NextScan Id V → Type 0
 Tells u = is_past u.0.stage ≡ is_end u.1
 
 fills : (V : Type 0) (b : Bool) (r : Rung Id) → is_past {V = V} (cond b stage.Full (stage.Look r)) ≡ false
@@ -165,37 +158,37 @@ fills V true r = refl
 fills V false r = refl
 
 module _ {V : Type 0} where
-  by : (t u : Swung Id V) → t ≡ u → Tells u → Tells t
-  by t u e x = let P : Swung Id V → Type 0 = λ y. Tells y in subst P (sym e) x
+  by : (t u : NextScan Id V) → t ≡ u → Tells u → Tells t
+  by t u e x = let P : NextScan Id V → Type 0 = λ y. Tells y in subst P (sym e) x
 
-  by_cond : (b : Bool) (t u : Swung Id V) → Tells t → Tells u → Tells (cond b t u)
+  by_cond : (b : Bool) (t u : NextScan Id V) → Tells t → Tells u → Tells (cond b t u)
   by_cond true t u x y = x
   by_cond false t u x y = y
 
-  leaving : (s : Scan Id V) (o : Option (Rung Id)) → Tells (left_to s o)
+  leaving : (s : ScanState Id V) (o : Option (Rung Id)) → Tells (left_to s o)
   leaving s None = refl
   leaving s (Some r) = refl
 
-  entering : (root : Id) (s : Scan Id V) (n : Id) (x : Region) (v : Option ℕ) → Tells (entered root s n x v)
+  entering : (root : Id) (s : ScanState Id V) (n : Id) (x : Region) (v : Option ℕ) → Tells (entered root s n x v)
   entering root s n x None = refl
   entering root s n x (Some v) = by_cond (is_outside s.start s.last x) (left s) _ (leaving s (last_of s.above)) refl
 
-  following : (number : Id → ℕ) (h : ℕ → Node V) (s : Scan Id V) (r : Rung Id) (x : Least Id V) (u : Swung Id V) → IsFollowed number h s r x u → Tells u
+  following : (number : Id → ℕ) (h : ℕ → Node V) (s : ScanState Id V) (r : Rung Id) (x : Least Id V) (u : NextScan Id V) → IsFollowed number h s r x u → Tells u
   following number h s r least.Nothing u f = by u (left s) f (leaving s (last_of s.above))
   following number h s r (least.Node byte c) u f = by u _ f.2 refl
   following number h s r (least.Value byte v) u f = by u (filled s r byte v) f (fills V _ _)
   following number h s r least.Uncopied u f = by u _ f refl
 
-  pub swept_tells : (number : Id → ℕ) (always : Bool) (root : Id) (s : Scan Id V) (x : Stage Id V) (h : ℕ → Node V) (u : Swung Id V) → is_past x ≡ false → SweptAt number always root s x h u → Tells u
-  swept_tells number always root s stage.New h u n f = by u (begins root s (version_of (h (number root)))) f (by_cond (s.size == 0) _ _ refl (entering root (anew root s).0 root whole (version_of (h (number root)))))
-  swept_tells number always root s (stage.Enter c x) h u n f = by u _ f (entering root s c x (version_of (h (number c))))
-  swept_tells number always root s (stage.Look r) h u n f = by u _ f.2 refl
-  swept_tells number always root s (stage.Check r x) h u n f = elim (cases_Bool (is_taken (h (number r.at.node)) r.at.version)) [
+  after_scan_tells : (number : Id → ℕ) (always : Bool) (root : Id) (s : ScanState Id V) (x : Stage Id V) (h : ℕ → Node V) (u : NextScan Id V) → is_past x ≡ false → ScanSteppedAt number always root s x h u → Tells u
+  after_scan_tells number always root s stage.New h u n f = by u (begins root s (version_of (h (number root)))) f (by_cond (s.size == 0) _ _ refl (entering root (anew root s).0 root whole (version_of (h (number root)))))
+  after_scan_tells number always root s (stage.Enter c x) h u n f = by u _ f (entering root s c x (version_of (h (number c))))
+  after_scan_tells number always root s (stage.Look r) h u n f = by u _ f.2 refl
+  after_scan_tells number always root s (stage.Check r x) h u n f = elim (cases_Bool (is_taken (h (number r.at.node)) r.at.version)) [
     | inl e ↦ following number h s r x u (f.goes_on e)
     | inr e ↦ by u (anew root s) (f.goes_back e) refl
   ]
-  swept_tells number always root s stage.Full h u n f = by u _ f refl
-  swept_tells number always root s stage.Over h u n f = absurd (cc n)
+  after_scan_tells number always root s stage.Full h u n f = by u _ f refl
+  after_scan_tells number always root s stage.Over h u n f = absurd (cc n)
 
   -- a call on one key is watched as one
   pending_point : (k : ℕ) (kind : Kind V) (v : Option V) (q : Question V) (o : Outcome V) (f' : Flight V) → Undecided k kind v q o f' → IsOfPoint f'
@@ -219,7 +212,7 @@ module _ {V : Type 0} where
   moves_point same k kind v q m m' true o f' x = concluded_point x.1 o f' x.5
 
   -- watched as one, and a scan by its phase: it is watched no longer
-  point_over : (now : Machine Id V) (s : Scan Id V) (f : Flight V) → now.phase ≡ Sweep s → IsOfPoint f → Follows now f → f ≡ Over
+  point_over : (now : Machine Id V) (s : ScanState Id V) (f : Flight V) → now.phase ≡ Scan s → IsOfPoint f → Follows now f → f ≡ Over
   point_over now s f p o (inl x) = absurd (
       let P : Phase Id V → Type 0 = λ y. f ≡ flight (record now { phase = y }) in
       let e : f ≡ Unbegun s.start (suc s.last) s.size = subst P p x.1 in
@@ -230,11 +223,12 @@ module _ {V : Type 0} where
 
   -- a scan that told its end
   scan_over : (start end size : ℕ) (states : List (Pairs V)) (places : List (ℕ × V)) (o : ScanReport V) (f : Flight V) → is_end o ≡ true → ScanTells start end size states places (outcome_of o) f → f ≡ Over
-  scan_over start end size states places told.Running f e x = absurd (cc e)
-  scan_over start end size states places (told.Found a b c) f e x = absurd (cc e)
-  scan_over start end size states places (told.Done count) f e x = x.2
-  scan_over start end size states places (told.Refused c) f e x = x
+  scan_over start end size states places scan_report.Running f e x = absurd (cc e)
+  scan_over start end size states places (scan_report.Found a b c) f e x = absurd (cc e)
+  scan_over start end size states places (scan_report.Done count) f e x = x.2
+  scan_over start end size states places (scan_report.Refused c) f e x = x
 
+  -- once a scan that is done has left, its machine is watched as over, and any other as before
   pub rest_follows : (now : Machine Id V) (f : Flight V) → (is_done now.phase ≡ true → f ≡ Over) → Follows now f → Follows (rested now) f
   rest_follows now f over x =
       let P : Bool → Type 0 = λ b. Follows (if b then resting else now) f in
@@ -243,52 +237,53 @@ module _ {V : Type 0} where
         | inr e ↦ subst P (sym e) x
       ]
 
-  sweep_of : (p : Phase Id V) → is_done p ≡ true → (s : Scan Id V) × (p ≡ Sweep s) × (is_past s.stage ≡ true)
-  sweep_of (Sweep s) e = (s, refl, e)
-  sweep_of _ e = absurd (cc e)
+  scan_of : (p : Phase Id V) → is_done p ≡ true → (s : ScanState Id V) × (p ≡ Scan s) × (is_past s.stage ≡ true)
+  scan_of (Scan s) e = (s, refl, e)
+  scan_of _ e = absurd (cc e)
 
 module _ {V : Type 0} (same : V → V → Bool) (always : Bool) (most : ℕ) (why : NodeType → Refusal → Type 0) (m now : Machine Id V) (h h' : ℕ → Node V) (fail : Bool) (answer : Option (Option V)) (d : Move V) (stepped : Stepped id_number same always most why m h fail answer now h' d) where
   -- a scan took the step
-  told_end : (s0 : Scan Id V) → m.phase ≡ Sweep s0 → is_done m.phase ≡ false → is_done now.phase ≡ true → (o : ScanReport V) × (d.outcome ≡ outcome_of o) × (is_end o ≡ true)
+  told_end : (s0 : ScanState Id V) → m.phase ≡ Scan s0 → is_done m.phase ≡ false → is_done now.phase ≡ true → (o : ScanReport V) × (d.outcome ≡ outcome_of o) × (is_end o ≡ true)
   told_end s0 p n e =
       let P : Phase Id V → Type 0 = λ y. PhaseStepped id_number same always most why m.root (key_bytes m.key) m.kind fail answer m.given y h now.given (record { phase = now.phase; report = d }) h' in
       let x = subst P p stepped.step in
-      let t : is_past x.2.0.stage ≡ is_end x.2.1 = swept_tells id_number always m.root s0 s0.stage h (x.2.0, x.2.1) (ap is_done (sym p) ∙ n) x.2.2 in
-      let q : now.phase ≡ Sweep x.2.0 = ap (λ y. y.phase) x.2.3 in
+      let t : is_past x.2.0.stage ≡ is_end x.2.1 = after_scan_tells id_number always m.root s0 s0.stage h (x.2.0, x.2.1) (ap is_done (sym p) ∙ n) x.2.2 in
+      let q : now.phase ≡ Scan x.2.0 = ap (λ y. y.phase) x.2.3 in
       (x.2.1, ap (λ y. y.report.outcome) x.2.3, sym t ∙ ap is_done (sym q) ∙ e)
 
   -- its call has ended in its worker's place exactly where the step reports so
   end_continues : (o : ScanReport V) → is_end o ≡ not (continues (outcome_of o))
-  end_continues told.Running = refl
-  end_continues (told.Found a b c) = refl
-  end_continues (told.Done count) = refl
-  end_continues (told.Refused e) = refl
+  end_continues scan_report.Running = refl
+  end_continues (scan_report.Found a b c) = refl
+  end_continues (scan_report.Done count) = refl
+  end_continues (scan_report.Refused e) = refl
 
-  over_by : (b : Bool) (s1 : Scan Id V) → now.phase ≡ Sweep s1 → is_over (if b then resting else now).phase ≡ b
+  over_by : (b : Bool) (s1 : ScanState Id V) → now.phase ≡ Scan s1 → is_over (if b then resting else now).phase ≡ b
   over_by true s1 q = refl
   over_by false s1 q = ap is_over q
 
-  scan_final : (s0 : Scan Id V) → m.phase ≡ Sweep s0 → is_done m.phase ≡ false → is_over (rested now).phase ≡ not (continues d.outcome)
+  scan_final : (s0 : ScanState Id V) → m.phase ≡ Scan s0 → is_done m.phase ≡ false → is_over (rested now).phase ≡ not (continues d.outcome)
   scan_final s0 p n =
       let P : Phase Id V → Type 0 = λ y. PhaseStepped id_number same always most why m.root (key_bytes m.key) m.kind fail answer m.given y h now.given (record { phase = now.phase; report = d }) h' in
       let x = subst P p stepped.step in
-      let t : is_past x.2.0.stage ≡ is_end x.2.1 = swept_tells id_number always m.root s0 s0.stage h (x.2.0, x.2.1) (ap is_done (sym p) ∙ n) x.2.2 in
-      let q : now.phase ≡ Sweep x.2.0 = ap (λ y. y.phase) x.2.3 in
+      let t : is_past x.2.0.stage ≡ is_end x.2.1 = after_scan_tells id_number always m.root s0 s0.stage h (x.2.0, x.2.1) (ap is_done (sym p) ∙ n) x.2.2 in
+      let q : now.phase ≡ Scan x.2.0 = ap (λ y. y.phase) x.2.3 in
       over_by (is_done now.phase) x.2.0 q ∙ ap is_done q ∙ t ∙ end_continues x.2.1 ∙ ap (λ o. not (continues o)) (sym (ap (λ y. y.report.outcome) x.2.3))
 
   no_scan : (p : Phase Id V) → IsOnKey p → is_done p ≡ false
-  no_scan (Sweep s) k = absurd k
+  no_scan (Scan s) k = absurd k
   no_scan _ k = refl
 
   key_final : IsUnderWay m.phase → IsOnKey m.phase → is_over (rested now).phase ≡ not (continues d.outcome)
   key_final u k =
-      let e = ends id_number same always most why m now h h' fail answer d u k stepped in
+      let e = step_ends id_number same always most why m now h h' fail answer d u k stepped in
       ap (λ b. is_over (if b then resting else now).phase) (no_scan now.phase e.1) ∙ e.0
 
-  kind_of : (p : Phase Id V) → IsOnKey p ⊎ ((s : Scan Id V) × (p ≡ Sweep s))
-  kind_of (Sweep s) = inr (s, refl)
+  kind_of : (p : Phase Id V) → IsOnKey p ⊎ ((s : ScanState Id V) × (p ≡ Scan s))
+  kind_of (Scan s) = inr (s, refl)
   kind_of _ = inl tt
 
+  -- the call in the worker's place has ended just where the step doesn't tell that it goes on
   pub told_final : IsUnderWay m.phase → is_done m.phase ≡ false → is_over (rested now).phase ≡ not (continues d.outcome)
   told_final u n = elim (kind_of m.phase) [
     | inl k ↦ key_final u k
@@ -304,8 +299,9 @@ module _ {V : Type 0} (same : V → V → Bool) (always : Bool) (most : ℕ) (wh
         scan_over start end size states places y.0 f' y.2 (subst P y.1 t)
 
     points : IsOfPoint f' → is_done now.phase ≡ true → f' ≡ Over
-    points o e = let s = sweep_of now.phase e in point_over now s.0 f' s.1 o after
+    points o e = let s = scan_of now.phase e in point_over now s.0 f' s.1 o after
 
+    -- a scan that is done after the step is watched as over
     pub done_over : Watched same f pairs told_answer d f' pairs' → is_done now.phase ≡ true → f' ≡ Over
     done_over w e = by_flight f refl before w
       where

@@ -27,8 +27,8 @@ use Rattle.congee.specs.declared.protocol.phase.Two.{Two}
 use Rattle.congee.specs.declared.protocol.phase.Plan.{Plan}
 use Rattle.congee.specs.declared.protocol.phase.Plan.TheVariants.{Here, Above}
 use Rattle.congee.specs.declared.protocol.phase.Phase.{Phase}
-use Rattle.congee.specs.declared.protocol.phase.Phase.TheVariants.{New, Version, Read, Check, CheckUncopied, CheckMiss, CheckDown, CheckOld, MakeLeaf, MakeGreater, MakeTop, MakeBeside, MakeLesser, AskOld, AskNew, Confirm, CheckAbove, UpgradeOne, ChangeOne, UpgradeTop, UpgradeAbove, UpgradeBelow, ChangeTwo, Obsolete, Retire, UnlockBelow, Unlock, Unwind, Sweep, Ended}
-use Rattle.congee.specs.declared.protocol.turn.NextPhase.{NextPhase}
+use Rattle.congee.specs.declared.protocol.phase.Phase.TheVariants.{New, Version, Read, Check, CheckUncopied, CheckMiss, CheckDown, CheckOld, MakeLeaf, MakeGreater, MakeTop, MakeBeside, MakeLesser, AskOld, AskNew, Confirm, CheckAbove, UpgradeOne, ChangeOne, UpgradeTop, UpgradeAbove, UpgradeBelow, ChangeTwo, Obsolete, Retire, UnlockBelow, Unlock, Unwind, Scan, Ended}
+use Rattle.congee.specs.declared.protocol.next_phase.NextPhase.{NextPhase}
 use Rattle.congee.specs.Heap.{Node, is_taken}
 use Rattle.congee.specs.Notes.{Note}
 use Rattle.congee.specs.protocol.Protocol.{Known, FitsTwo, Settles}
@@ -242,13 +242,13 @@ module _ {C V : Type 0} where
 
   module _ (number : C → ℕ) (same : V → V → Bool) (always : Bool) (most : ℕ) (why : NodeType → Refusal → Type 0) (root : C) (key : List ℕ) (kind : Kind V) (fail : Bool) (answer : Option (Option V)) (new new' : Option V) (h h' : ℕ → Node V) (t : NextPhase C V) where
     -- a step from any other phase leaves the call owing nothing
-    pub step_light : (s : Phase C V) → (Unlinks s → ⊥) → PhaseStepped number same always most why root key kind fail answer new s h new' t h' → Light t
+    step_light : (s : Phase C V) → (Unlinks s → ⊥) → PhaseStepped number same always most why root key kind fail answer new s h new' t h' → Light t
     step_light New never g = version_light root None root _ t g.2
     step_light (Version above n) never g = version_light root above n _ t g.2
     step_light (Read above s) never g = at t _ g.2.2 (read_light root above s g.2.0)
     step_light (Check s c) never g = if_light (is_taken (h (number s.at.node)) s.at.version) root (IsChecked always same kind new s c) t (λ u x. checked_light always same kind new s c u x) g.2
     step_light (CheckUncopied s) never g = if_this (is_taken (h (number s.node)) s.version) root (refused refusal.Count) t tt g.2
-    step_light (CheckMiss p s common byte) never g = if_this (is_taken (h (number p.seat.node)) p.seat.version) root (after_miss kind p s common byte) t (miss_light kind p s common byte) g.2
+    step_light (CheckMiss p s common byte) never g = if_this (is_taken (h (number p.stamp.node)) p.stamp.version) root (after_miss kind p s common byte) t (miss_light kind p s common byte) g.2
     step_light (CheckDown p s c) never g = if_this (is_taken (h (number p.node)) p.version) root (quiet (Version (Some s) c)) t tt g.2
     step_light (CheckOld p s v) never g = if_light (is_taken (h (number p.node)) p.version) root (IsAtOld always same kind new s v) t (λ u x. old_light always same kind new s v u x) g.2
     step_light (MakeLeaf s) never g = leaf_light number kind s h key g.1.0 h' t g.1.1
@@ -271,7 +271,7 @@ module _ {C V : Type 0} where
     step_light (UnlockBelow n p r) never g = at t _ g.2 tt
     step_light (Unlock n r) never g = at t _ g.2 tt
     step_light (Unwind n next e) never g = unwind_light root next e t g.2
-    step_light (Sweep s) never g = at t _ g.2.3 tt
+    step_light (Scan s) never g = at t _ g.2.3 tt
     step_light Ended never g = at t _ g.2 tt
 
 -- a reading call never changes two nodes
@@ -337,6 +337,7 @@ module _ {C V : Type 0} where
   two_left ComputeInsert _ = omega arith
   two_left (Exchange old) _ = omega arith
 
+  -- two free places in the bag are enough in any phase
   pub with_room : (kind : Kind V) (s : Phase C V) (jobs : ℕ) → jobs + 2 ≤ 64 → IsSecured kind s jobs
   with_room kind s jobs x = let n : most_left kind s ≤ 2 = two_left kind s in let y : jobs + most_left kind s ≤ 64 = omega (arith, x, n) in y
 
@@ -365,7 +366,7 @@ module _ {C V : Type 0} where
       let w : suc jobs + most_left kind t.phase ≤ 64 = omega (arith, y, z) in
       w
 
-  -- and there was one for it
+  -- a node that is to be handed over has a free place in the bag
   pub retiring_room : (kind : Kind V) (n : C) (next : Option C) (p : C) (r : Reply V) (jobs : ℕ) → IsSecured kind (Retire n next p r) jobs → suc jobs ≤ 64
   retiring_room kind n None p r jobs x = let y : jobs + 1 ≤ 64 = x in omega (arith, y)
   retiring_room kind n (Some m) p r jobs x = let y : jobs + 2 ≤ 64 = x in omega (arith, y)
@@ -412,6 +413,7 @@ module _ {C V : Type 0} where
           omega (arith, z))
     ]
 
+    -- a step of a call leaves it a place in the bag for each node that it may still hand over
     pub secured_step : (s : Phase C V) (jobs : ℕ) → IsSecured kind s jobs → Known number same always i a h k key kind new s → PhaseStepped number same always most why root key kind fail answer new s h new' t h' → IsSecured kind t.phase jobs
     secured_step s jobs x known g =
         let y : jobs + most_left kind s ≤ 64 = x in

@@ -27,6 +27,7 @@ module _ {T J C V : Type 0} (tnames : T → List Name) (view : Bool → Option T
   at_new : (x : Machine C V) (L : Machine C V → Type 0) → m ≡ x → (L m → ⊥) → L x → ⊥
   at_new x L e none l = none (subst L (sym e) l)
 
+  -- tree, calls and history are sound with that call in the worker's place
   pub begun : Sound tnames view num same always top past s (set ms i m)
   begun = record {
     orderly = sound.orderly;

@@ -26,13 +26,15 @@ use Rattle.joint.specs.nodes.Heap.{IsView, heap_of}
 use Rattle.joint.specs.nodes.Ties.{Ties}
 use Rattle.joint.specs.engine.Laws.{CellLaws, CallLaws}
 use Rattle.joint.specs.engine.Sound.{Guards, Sound}
-use Rattle.joint.proofs.lemmas.nodes.Views.{ties, heap_of_number}
+use Rattle.joint.proofs.lemmas.nodes.Views.{heap_ties, heap_of_number}
 use Rattle.joint.proofs.lemmas.nodes.Paths.{in_tree, in_reach}
 use Rattle.joint.proofs.lemmas.engine.ReachMoments.{Reaches, was_in, entered_live}
 use Rattle.joint.proofs.lemmas.engine.GivenBack.{backs, same_marks, still_in, still_seen, newest_in, careful_backs, ends_next, ends_backs, lived_first, lived_apart, given_backs}
+use Rattle.joint.proofs.lemmas.engine.InReach.{never}
 
-waits : {V : Type 0} (n : Node V) → n.retired ≡ true → Stands n → is_waiting n ≡ true
-waits n r s = let m : n.made ≡ true = s.made in let k : n.destroyed ≡ false = s.kept in rw (r, m, k) refl
+-- what was handed over and stands waits
+pub retired_waits : {V : Type 0} (n : Node V) → n.retired ≡ true → Stands n → is_waiting n ≡ true
+retired_waits n r s = let m : n.made ≡ true = s.made in let k : n.destroyed ≡ false = s.kept in rw (r, m, k) refl
 
 by_status : (x : Status) → is_published x ≡ true → (x ≡ Linked) ⊎ (x ≡ Gone)
 by_status Unmade p = absurd (cc p)
@@ -79,22 +81,14 @@ module _ {T J C V : Type 0} (tnames : T → List Name) (view : Bool → Option T
   notes = sound.settled.0
 
   tied : Ties tnames s.store h
-  tied = ties tnames view ok s.store
+  tied = heap_ties tnames view ok s.store
 
   tied' : Ties tnames st' h'
-  tied' = ties tnames view ok st'
-
-  was_used : (n : Name) → is_some (value_at s.store n) ≡ true → was_given s.store n ≡ true
-  was_used n l = cells.live_given s.store n l
+  tied' = heap_ties tnames view ok st'
 
   -- paths and the tree, before and after
   linked_reach : (n : Name) → (notes (number n)).status ≡ Linked → Reaches tnames s n
   linked_reach n l = in_reach tnames s.store h s.roots top tied sound.rooted n (calls.linked notes h (number n) sound.settled.1.tree l)
-
-  reach_linked : (n : Name) → Reaches tnames s n → (notes (number n)).status ≡ Linked
-  reach_linked n r =
-      let p : InTree h (number n) = in_tree tnames s.store h s.roots top tied sound.rooted r in
-      calls.leads notes h sound.settled.1.tree p.0 0 (number n) sound.settled.1.tree.root p.1
 
   linked_now : (n : Name) → (keeps.notes (number n)).status ≡ Linked → IsIn now n
   linked_now n l = in_reach tnames st' h' s.roots top tied' sound.rooted n (calls.linked keeps.notes h' (number n) keeps.effect.tree l)
@@ -110,13 +104,6 @@ module _ {T J C V : Type 0} (tnames : T → List Name) (view : Bool → Option T
   now_live : (n : Name) → IsIn now n → is_some (value_at st' n) ≡ true
   now_live n r = tied'.live n (linked_stands keeps.notes h' (number n) keeps.effect.words (now_linked n r))
 
-  never : (t : ℕ) (n : Name) → WasDeferred (marks_of past) t n → Reaches tnames s n → ⊥
-  never t n w r =
-      let l : (notes (number n)).status ≡ Linked = reach_linked n r in
-      let u : (h (number n)).retired ≡ false = (sound.settled.1.words.each (number n)).unretired l in
-      let y : (h (number n)).retired ≡ true = sound.deferred t n w (tied.live n (linked_stands notes h (number n) sound.settled.1.words l)) in
-      cc
-
   -- what was in reach was given
   was_made : (n : Name) → WasIn past n → (h (number n)).made ≡ true
   was_made n w = tied.given n (sound.tells.given n (entered_live past sound.careful.enters n w))
@@ -127,7 +114,7 @@ module _ {T J C V : Type 0} (tnames : T → List Name) (view : Bool → Option T
       let made : (h (number n)).made ≡ true = was_made n (sound.left t n w) in
       let f : (h' (number n)).destroyed ≡ false = (tied'.stands n l).kept in
       by_stands (h (number n)) ((h' (number n)).retired ≡ true) made
-      (λ st. let r : (h (number n)).retired ≡ true = sound.deferred t n w (tied.live n st) in ap (λ x. x.retired) (untouched (number n) (waits (h (number n)) r st)) ∙ r)
+      (λ st. let r : (h (number n)).retired ≡ true = sound.deferred t n w (tied.live n st) in ap (λ x. x.retired) (untouched (number n) (retired_waits (h (number n)) r st)) ∙ r)
       (λ gone. absurd (let g : (h' (number n)).destroyed ≡ true = ap (λ x. x.destroyed) (more.dead (number n) made gone) ∙ gone in cc))
 
   never_now : (t : ℕ) (n : Name) → WasDeferred (marks_of past) t n → IsIn now n → ⊥
@@ -140,7 +127,7 @@ module _ {T J C V : Type 0} (tnames : T → List Name) (view : Bool → Option T
   unseen_back n c w = sound.unseen i m n at (own n c) w
 
   careful' : IsCareful past'
-  careful' = careful_backs tnames s cells past sound.tells.now sound.careful back unseen_back never
+  careful' = careful_backs tnames s cells past sound.tells.now sound.careful back unseen_back (never tnames view ok num same always calls top past s ms sound)
 
   abbrev gift_of : Act → Type 0
   gift_of Quiet = ⊥
@@ -150,6 +137,7 @@ module _ {T J C V : Type 0} (tnames : T → List Name) (view : Bool → Option T
   no_gift : (n : Name) → Quiet ≡ GivenBack n → ⊥
   no_gift n e = subst gift_of (sym e) tt
 
+  -- with this step's moment the history still is as the collector's promise on reach asks
   pub careful : IsCareful (now ∷ past')
   careful = record {
     leaves = (λ t n w r. never_now t n (let P : List Mark → Type 0 = λ x. WasDeferred x t n in subst P (same_marks tnames s past back) w) r, careful'.leaves);
@@ -167,6 +155,7 @@ module _ {T J C V : Type 0} (tnames : T → List Name) (view : Bool → Option T
       by_view false (Some x) f e = f refl
       by_view false None f e = absurd (let z : (view false None).made ≡ false = ok.unmade in cc)
 
+  -- the moments with those of what was given back and the step's lead to the state after it
   pub tells : HasMoments tnames (now ∷ past') s'
   tells = record {
     fits = (let P : List Mark → Type 0 = λ x. Fits x s' in subst P (sym (same_marks tnames s past back)) (cells.fits_stored (marks_of past) s st' sound.tells.fits));
@@ -195,9 +184,6 @@ module _ {T J C V : Type 0} (tnames : T → List Name) (view : Bool → Option T
     ]
     | inr made ↦ inl made
   ]
-
-  held_before : (n : Name) → MadeBy num m.phase (number n) → WasIn past n → ⊥
-  held_before n made w = sound.unseen i m n at made w
 
   published_was : (n : Name) → is_published (notes (number n)).status ≡ true → MadeBy num m.phase (number n) → ⊥
   published_was n p made =
@@ -280,6 +266,7 @@ module _ {T J C V : Type 0} (tnames : T → List Name) (view : Bool → Option T
   orderly' : Orderly s'
   orderly' = record { hands = sound.orderly.hands; bags = sound.orderly.bags; held = sound.orderly.held; sealed = sound.orderly.sealed }
 
+  -- tree, calls and history are sound after the step
   pub stepped : Sound tnames view num same always top (now ∷ past') s' ms'
   stepped = record {
     orderly = orderly';

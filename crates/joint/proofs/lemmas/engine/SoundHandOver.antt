@@ -11,16 +11,14 @@ use Rattle.crossbeam_epoch.specs.World.Progress.{Orderly}
 use Rattle.crossbeam_epoch.specs.World.Reach.{Act, Quiet, Marked, GivenBack, Moment, marks_of, InReach, IsIn, WasIn, links_of, moment, HasMoments}
 use Rattle.congee.specs.declared.protocol.machine.Machine.{Machine}
 use Rattle.congee.specs.Heap.{Node}
-use Rattle.congee.specs.protocol.Handing.{InTree}
-use Rattle.congee.specs.Notes.{Linked}
 use Rattle.congee.specs.protocol.Play.{Settled}
 use Rattle.joint.specs.Names.{number}
 use Rattle.joint.specs.nodes.Heap.{IsView, heap_of}
 use Rattle.joint.specs.engine.Laws.{CellLaws, CallLaws}
 use Rattle.joint.specs.engine.Sound.{Guards, Sound}
-use Rattle.joint.proofs.lemmas.nodes.Views.{ties}
-use Rattle.joint.proofs.lemmas.nodes.Paths.{in_tree}
+use Rattle.joint.proofs.lemmas.nodes.Views.{heap_ties}
 use Rattle.joint.proofs.lemmas.engine.ReachMoments.{Reaches, was_in}
+use Rattle.joint.proofs.lemmas.engine.InReach.{in_it}
 
 abbrev name_of : Name → Option Name → Name
 name_of d None = d
@@ -48,17 +46,12 @@ module _ {T J C V : Type 0} (tnames : T → List Name) (view : Bool → Option T
       let Q : Store T → Type 0 = λ st. InReach s.roots (links_of tnames st) x in
       subst Q store (subst P roots i)
 
-  in_it : (x : Name) → Reaches tnames s x → (sound.settled.0 (number x)).status ≡ Linked
-  in_it x r =
-      let i : InTree h (number x) = in_tree tnames s.store h s.roots top (ties tnames view ok s.store) sound.rooted r in
-      calls.leads sound.settled.0 h sound.settled.1.tree i.0 0 (number x) sound.settled.1.tree.root i.1
-
   -- nothing in reach was handed over
   unhanded : (x : Name) → (h (number x)).retired ≡ true → Reaches tnames s x → ⊥
-  unhanded x y r = let u : (h (number x)).retired ≡ false = (sound.settled.1.words.each (number x)).unretired (in_it x r) in cc
+  unhanded x y r = let u : (h (number x)).retired ≡ false = (sound.settled.1.words.each (number x)).unretired (in_it tnames view ok num same always calls top past s ms sound x r) in cc
 
   reach_live : (x : Name) → Reaches tnames s x → is_some (value_at s.store x) ≡ true
-  reach_live x r = (ties tnames view ok s.store).live x ((sound.settled.1.words.each (number x)).stands (rw (in_it x r) refl))
+  reach_live x r = (heap_ties tnames view ok s.store).live x ((sound.settled.1.words.each (number x)).stands (rw (in_it tnames view ok num same always calls top past s ms sound x r) refl))
 
   same_n : (x : Name) → Some n ≡ Some x → x ≡ n
   same_n x e = sym (ap (name_of n) e)
@@ -72,6 +65,7 @@ module _ {T J C V : Type 0} (tnames : T → List Name) (view : Bool → Option T
     | inr old ↦ sound.deferred u x old live
   ]
 
+  -- tree, calls and history are sound after the deferral
   pub handed : Sound tnames view num same always top (now ∷ past) s' ms
   handed = record {
     orderly = orderly;

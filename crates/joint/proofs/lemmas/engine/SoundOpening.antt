@@ -20,7 +20,7 @@ use Rattle.joint.specs.nodes.Heap.{IsView, heap_of}
 use Rattle.joint.specs.nodes.Ties.{Rooted}
 use Rattle.joint.specs.engine.Laws.{CellLaws, CallLaws}
 use Rattle.joint.specs.engine.Sound.{Sound}
-use Rattle.joint.proofs.lemmas.nodes.Views.{ties}
+use Rattle.joint.proofs.lemmas.nodes.Views.{heap_ties}
 use Rattle.joint.proofs.lemmas.nodes.Paths.{in_tree}
 use Rattle.joint.proofs.lemmas.engine.NamesInStretch.{ended_guards, no_names}
 
@@ -37,10 +37,11 @@ module _ {T J C V : Type 0} (tnames : T → List Name) (view : Bool → Option T
 
   in_live : (n : Name) → IsIn now n → is_some (value_at s.store n) ≡ true
   in_live n r =
-      let p : InTree (heap_of view s.store) (number n) = in_tree tnames s.store (heap_of view s.store) s.roots top (ties tnames view ok s.store) rooted r in
+      let p : InTree (heap_of view s.store) (number n) = in_tree tnames s.store (heap_of view s.store) s.roots top (heap_ties tnames view ok s.store) rooted r in
       let l : (settled.0 (number n)).status ≡ Linked = calls.leads settled.0 (heap_of view s.store) settled.1.tree p.0 0 (number n) settled.1.tree.root p.1 in
-      (ties tnames view ok s.store).live n ((settled.1.words.each (number n)).stands (rw l refl))
+      (heap_ties tnames view ok s.store).live n ((settled.1.words.each (number n)).stands (rw l refl))
 
+  -- with no call under way and nothing deferred, tree, calls and history are sound
   pub opened : Sound tnames view num same always top (now ∷ []) s ms
   opened = record {
     orderly = orderly;

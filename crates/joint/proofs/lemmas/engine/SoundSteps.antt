@@ -38,7 +38,7 @@ use Rattle.joint.specs.engine.Laws.{CellLaws, CallLaws, LeavesLaw}
 use Rattle.joint.specs.NameLemmas.{same_name}
 use Rattle.joint.specs.engine.Sound.{Guards}
 use Rattle.joint.proofs.lemmas.engine.NamesInStretch.{in_stretch}
-use Rattle.joint.proofs.lemmas.nodes.Views.{ties}
+use Rattle.joint.proofs.lemmas.nodes.Views.{heap_ties}
 use Rattle.joint.proofs.lemmas.nodes.SlotViews.{slot_view}
 use Rattle.joint.proofs.lemmas.engine.GivenBack.{backs, same_marks, still_in}
 use Rattle.joint.proofs.lemmas.engine.SoundCells.{stepped}
@@ -185,7 +185,7 @@ pub record Went {J V : Type 0} (same : V → V → Bool) (always : Bool) (past :
   pub still : (n : Name) → WasIn past n → WasIn sound.past n
 
 -- the whole step: all that is asked is what a step says, and the frame
-pub went : {J V : Type 0} (same : V → V → Bool) (always : Bool) (cells : CellLaws {T = Slot V} J slot_names) (calls : CallLaws {C = Id} {V = V} id_number same always) (most : ℕ) (why : NodeType → Refusal → Type 0)
+pub step_sound : {J V : Type 0} (same : V → V → Bool) (always : Bool) (cells : CellLaws {T = Slot V} J slot_names) (calls : CallLaws {C = Id} {V = V} id_number same always) (most : ℕ) (why : NodeType → Refusal → Type 0)
     (leaves : LeavesLaw {C = Id} {V = V} id_number same always most why) (s : State (Slot V) J) (ms : List (Machine Id V)) (i : IsSound same always s ms) (who : ℕ) (m m' : Machine Id V) (d : Move V) (st' : Store (Slot V)) (fail : Bool) (answer : Option (Option V))
     → slice_get ms who ≡ Some m → is_some (place s who).word ≡ true → Guards (place s who) m'
     → Stepped id_number same always most why m (heap s.store) fail answer m' (heap st') d
@@ -194,13 +194,13 @@ pub went : {J V : Type 0} (same : V → V → Bool) (always : Bool) (cells : Cel
     → ((a : ℕ → Note) → ProtocolAt id_number same always a (heap s.store) ms → Holdings id_number a (heap s.store) ms → Settled id_number same always (heap st') (set ms who m'))
     → Untouched (heap s.store) (heap st')
     → Went same always i.past (with_store s st') (set ms who m')
-went {J} {V} same always cells calls most why leaves s ms i who m m' d st' fail answer at pin guards st keeps origin settled untouched =
+step_sound {J} {V} same always cells calls most why leaves s ms i who m m' d st' fail answer at pin guards st keeps origin settled untouched =
     let a : ℕ → Note = i.sound.settled.0 in
     let p : ProtocolAt id_number same always a (heap s.store) ms = i.sound.settled.1 in
     let known : EachKnown id_number same always a (heap s.store) who m = p.each who m at in
     let k : Keeps id_number same always who a m (heap s.store) m' (heap st') d = keeps who a known.root p.tree p.words known.known in
-    let tied : Ties slot_names s.store (heap s.store) = ties slot_names view slot_view s.store in
-    let tied' : Ties slot_names st' (heap st') = ties slot_names view slot_view st' in
+    let tied : Ties slot_names s.store (heap s.store) = heap_ties slot_names view slot_view s.store in
+    let tied' : Ties slot_names st' (heap st') = heap_ties slot_names view slot_view st' in
     let more : StepLeaves id_number who a k.notes (heap s.store) (heap st') m m' = leaves who a (heap s.store) (heap st') ms m m' d fail answer p i.sound.settled.2 at k st in
     let back : List Name = name_list (mades m.phase) in
     let all : IsSound same always (with_store s st') (set ms who m') = record {

@@ -4,7 +4,7 @@ use Rattle.std.proofs.Math.ListN.{set}
 use Rattle.std.specs.Prelude.{Some, is_some, length, slice_get}
 use Rattle.std.proofs.lemmas.List.{length-set}
 use Rattle.std.proofs.lemmas.Option.{slice_get_within}
-use Rattle.crossbeam_epoch.specs.declared.world.participant.Phase.TheVariants as stage
+use Rattle.crossbeam_epoch.specs.declared.world.participant.Phase.TheVariants as collector_phase
 use Rattle.crossbeam_epoch.specs.World.Machine.{place}
 use Rattle.congee.specs.declared.protocol.machine.Machine.{Machine}
 use Rattle.congee.specs.declared.protocol.op.Op.{Op}
@@ -21,13 +21,15 @@ use Rattle.joint.specs.declared.engine.in_flight.InFlight.TheVariants.{Idle, Wal
 use Rattle.joint.specs.declared.id.Id.{Id}
 use Rattle.joint.specs.nodes.Nodes.{Nodes}
 use Rattle.joint.specs.nodes.Heap.{heap_of}
-use Rattle.joint.specs.engine.Intact.{IsAt, IsIntact, MayStart, root, writes}
+use Rattle.joint.specs.engine.Intact.{IsAt, IsIntact, MayStart, writes}
+use Rattle.joint.specs.Names.{root}
 use Rattle.joint.specs.engine.Laws.{CallLaws}
 use Rattle.joint.specs.nodes.Slots.{slot_names}
 use Rattle.joint.specs.engine.Sound.{IsUnderWay, IsSecured, Guards, most_left}
 use Rattle.joint.specs.nodes.View.{view, id_number}
 use Rattle.joint.proofs.lemmas.engine.SoundBegins as begin
-use Rattle.joint.proofs.lemmas.engine.Collecting.{either, get_inside, inside_machines}
+use Rattle.joint.proofs.lemmas.engine.Collecting.{get_inside, inside_machines}
+use Rattle.congee.proofs.Laws.{get_set}
 
 -- a call that has not begun has no names, has made nothing, is under way, and needs places only if it writes
 pub record Begins {V : Type 0} (kind : Kind V) (phase : Phase Id V) : Type 0 where
@@ -55,7 +57,7 @@ module _ {V : Type 0} (same : V → V → Bool) (always : Bool) (laws : CallLaws
   begins : Begins m.kind m.phase
   begins = let P : Machine Id V → Type 0 = λ x. Begins x.kind x.phase in subst P (sym is) (first op)
 
-  at_idle : ((place s.collector who).phase ≡ stage.Idle) × (old.0.phase ≡ Ended)
+  at_idle : ((place s.collector who).phase ≡ collector_phase.Idle) × (old.0.phase ≡ Ended)
   at_idle = intact.each who Idle old.0 idle old.1
 
   guards : Guards (place s.collector who) m
@@ -68,6 +70,7 @@ module _ {V : Type 0} (same : V → V → Bool) (always : Bool) (laws : CallLaws
         secured = begins.secured (length (place s.collector who).bag) (subst P (sym is) may.room);
       }
 
+  -- the machine is intact with the call on the tree begun
   pub started : IsIntact same always s (set ms who m) (set calls who Walking)
   started = record {
     safe = record {
@@ -83,7 +86,7 @@ module _ {V : Type 0} (same : V → V → Bool) (always : Bool) (laws : CallLaws
     table = intact.table ∙ sym (length-set calls who Walking);
     few = rw (length-set calls who Walking) intact.few;
     filed = intact.filed;
-    each = λ i k x at here. elim (either calls who i Walking k at) [
+    each = λ i k x at here. elim (get_set calls who i Walking k at) [
       | inl e ↦ (
           let P : InFlight V → Type 0 = λ y. IsAt y (place s.collector i) x in
           subst P e.1 (elim (laws.either ms who i m x here) [

@@ -9,9 +9,8 @@ use Rattle.joint.specs.declared.steps.Outcome.{Outcome}
 use Rattle.joint.specs.declared.steps.Outcome.TheVariants.{Running, Asks, Found, Registered, Done, Refused}
 use Rattle.joint.specs.declared.steps.Survey.{Survey}
 use Rattle.joint.specs.declared.steps.Survey.TheVariants as survey
-use Rattle.joint.specs.Reports.{goes_on}
+use Rattle.joint.specs.Reports.{goes_unasked, is_in_flight}
 use Rattle.joint.specs.engine.Surveys.{MapTells, TellsOf}
-use Rattle.joint.specs.engine.Engine.{is_in_flight}
 
 module _ {V : Type 0} (h : ℕ → Node V) where
   -- a call of one step has ended
@@ -38,7 +37,7 @@ module _ {V : Type 0} (h : ℕ → Node V) where
 
 module _ {V : Type 0} where
   -- a whole call of one step: it doesn't go on
-  pub not_going : (m : Pairs V) (k : Survey) (o : Outcome V) → MapTells m k o → goes_on o ≡ false
+  pub not_going : (m : Pairs V) (k : Survey) (o : Outcome V) → MapTells m k o → goes_unasked o ≡ false
   not_going m k (Refused e) t = refl
   not_going m k (Done d) t = refl
   not_going m k (Registered n) t = refl

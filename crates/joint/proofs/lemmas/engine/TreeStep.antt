@@ -37,8 +37,8 @@ use Rattle.joint.specs.nodes.View.{view, heap, id_number}
 use Rattle.joint.proofs.lemmas.engine.Retiring.{retiring_some}
 use Rattle.joint.proofs.lemmas.engine.SecuredPlaces.{handed_secured, retiring_room, secured_step}
 use Rattle.joint.proofs.lemmas.nodes.SlotViews.{slot_view}
-use Rattle.joint.proofs.lemmas.nodes.Views.{ties}
-use Rattle.joint.proofs.lemmas.engine.SoundSteps.{Went, went}
+use Rattle.joint.proofs.lemmas.nodes.Views.{heap_ties}
+use Rattle.joint.proofs.lemmas.engine.SoundSteps.{Went, step_sound}
 
 -- sound calls follow the protocol
 pub protocol : {J V : Type 0} (same : V → V → Bool) (always : Bool) (s : State (Slot V) J) (ms : List (Machine Id V)) → IsSound same always s ms → Protocol id_number same always (heap s.store) ms
@@ -57,8 +57,8 @@ module _ {V : Type 0} (same : V → V → Bool) (always : Bool) (cells : CellLaw
   abbrev moved : IsMoved id_number same always s.version_max (Refuses s) (nodes s) ms m step d (nodes s') ms'
   moved = plays.moved m run.1
 
-  clock : s'.collector ≡ with_store s.collector st'
-  clock = ap (λ x. with_store x.collector st') fr
+  collector_is : s'.collector ≡ with_store s.collector st'
+  collector_is = ap (λ x. with_store x.collector st') fr
 
   abbrev guards : Guards (place s.collector step.who) m
   guards = safe.sound.sound.guarded step.who m run.1
@@ -74,13 +74,13 @@ module _ {V : Type 0} (same : V → V → Bool) (always : Bool) (cells : CellLaw
 
   all : Went same always safe.sound.past s'.collector ms'
   all =
-      let w : Went same always safe.sound.past (with_store s.collector st') (set ms step.who moved.now) = went same always cells calls s.version_max (Refuses s) leaves s.collector ms safe.sound step.who m moved.now d st' step.noise.fail step.noise.answer
+      let w : Went same always safe.sound.past (with_store s.collector st') (set ms step.who moved.now) = step_sound same always cells calls s.version_max (Refuses s) leaves s.collector ms safe.sound step.who m moved.now d st' step.noise.fail step.noise.answer
       run.1 (guards.pinned run.2) (record { registered = λ _. guards.registered run.2; pinned = λ _. guards.pinned run.2; idle = λ _. guards.idle run.2; secured = secured })
       moved.step moved.keeps moved.origin
       (λ a p h. let P : List (Machine Id V) → Type 0 = λ x. Settled id_number same always (nodes s') x in subst P moved.calls (plays.settled a p h)) plays.untouched in
       let P : List (Machine Id V) → Type 0 = λ x. Went same always safe.sound.past (with_store s.collector st') x in
       let Q : State (Slot V) (Unit {0}) → Type 0 = λ x. Went same always safe.sound.past x ms' in
-      subst Q (sym clock) (subst P (sym moved.calls) w)
+      subst Q (sym collector_is) (subst P (sym moved.calls) w)
 
   abbrev now_safe : IsSafe same always s' ms'
   now_safe = record { sound = all.sound; within = within }
@@ -120,7 +120,7 @@ module _ {V : Type 0} (same : V → V → Bool) (always : Bool) (cells : CellLaw
 
     fresh : (t : ℕ) → WasDeferred (marks_of safe.sound.past) t n.name → ⊥
     fresh t w =
-        let live : is_some (value_at s.collector.store n.name) ≡ true = (ties slot_names view slot_view s.collector.store).live n.name stood in
+        let live : is_some (value_at s.collector.store n.name) ≡ true = (heap_ties slot_names view slot_view s.collector.store).live n.name stood in
         let y : (nodes s (id_number n)).retired ≡ true = safe.sound.sound.deferred t n.name w live in
         let u : (nodes s (id_number n)).retired ≡ false = taken.unretired in
         cc
@@ -132,7 +132,7 @@ module _ {V : Type 0} (same : V → V → Bool) (always : Bool) (cells : CellLaw
     room = retiring_room m.kind n next p r (length (place s.collector step.who).bag) places
 
     same_place : place s'.collector step.who ≡ place s.collector step.who
-    same_place = ap (λ x. place x step.who) clock
+    same_place = ap (λ x. place x step.who) collector_is
 
     secured_then : (x : Machine Id V) → slice_get ms' step.who ≡ Some x → IsSecured x.kind x.phase (suc (length (place s'.collector step.who).bag))
     secured_then x got =
@@ -151,7 +151,7 @@ module _ {V : Type 0} (same : V → V → Bool) (always : Bool) (cells : CellLaw
     owes = record {
       safe = now_safe;
       marked = ap (λ x. x.retired) gives.after;
-      stands = (ties slot_names view slot_view st').live n.name stands_now;
+      stands = (heap_ties slot_names view slot_view st').live n.name stands_now;
       was = all.still n.name was;
       fresh = λ t w. fresh t (let P : List Mark → Type 0 = λ h. WasDeferred h t n.name in subst P all.marks w);
       registered = ap (λ x. x.registered) same_place ∙ guards.registered run.2;
@@ -167,10 +167,12 @@ module _ {V : Type 0} (same : V → V → Bool) (always : Bool) (cells : CellLaw
       let k : (next : Option Id) × (p : Id) × (r : Reply V) × (m.phase ≡ Retire n next p r) = retiring_some m.phase n e in
       owes n k.0 k.1 k.2 k.3
 
+  -- after the step all is safe, but for the deferral of the node that it marks, if it marks one
   pub stepped_safe : IsSafeOrOwes same always (retiring_at (slice_get ms step.who)) s' ms' step.who
   stepped_safe =
       let P : Option (Machine Id V) → Type 0 = λ x. IsSafeOrOwes same always (retiring_at x) s' ms' step.who in
       subst P (sym run.1) (by_phase (retiring m.phase) refl)
 
+  -- there are as many machines as before
   pub same_length : length ms' ≡ length ms
   same_length = ap length moved.calls ∙ length-set ms step.who moved.now

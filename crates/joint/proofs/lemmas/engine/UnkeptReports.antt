@@ -50,6 +50,7 @@ module _ {V : Type 0} (same : V → V → Bool) (always : Bool) (s s' : World V)
   proceeds (Begin op) r x = begins (target op) r x
   proceeds (Go noise) r x = goes (slice_get s.calls w) noise r x
 
+  -- the report of a step of the engine doesn't say that the journal kept a call
   pub unkept : (event : Event V) (o : Option Fault) (r : Report V) → Does same always s w event o r s' → r.kept ≡ false
   unkept event None r x = proceeds event r x
   unkept event (Some f) r x = ap (λ y. y.kept) x.0

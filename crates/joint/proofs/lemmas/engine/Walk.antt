@@ -29,33 +29,33 @@ module _ {V : Type 0} (same : V → V → Bool) (always : Bool) (cells : CellLaw
   beside : IsBeside s s'
   beside = record { base = ap (λ x. x.base) fr; limit = ap (λ x. x.limit) fr; versions = ap (λ x. x.version_max) fr }
 
-  clock : s'.collector ≡ with_store s.collector s'.collector.store
-  clock = ap (λ x. with_store x.collector s'.collector.store) fr
+  collector_is : s'.collector ≡ with_store s.collector s'.collector.store
+  collector_is = ap (λ x. with_store x.collector s'.collector.store) fr
 
   -- no node is marked
-  pub walked_none : retiring_at (slice_get ms step.who) ≡ None → IsSafeOrOwes same always (retiring_at (slice_get ms step.who)) s' ms' step.who → Walked same always s ms step d s' ms'
+  walked_none : retiring_at (slice_get ms step.who) ≡ None → IsSafeOrOwes same always (retiring_at (slice_get ms step.who)) s' ms' step.who → Walked same always s ms step d s' ms'
   walked_none e safe =
       let P : Option Id → Type 0 = λ x. IsSafeOrOwes same always x s' ms' step.who in
       let Q : Option Id → Type 0 = λ x. s'.collector ≡ after_walk x (with_store s.collector s'.collector.store) step.who in
-      record { safe = subst P e safe; plays = plays; beside = beside; clock = subst Q (sym e) clock; filed = filed_walked cells same always s s' ms ms' step d plays clock e }
+      record { safe = subst P e safe; plays = plays; beside = beside; collector_is = subst Q (sym e) collector_is; filed = filed_walked cells same always s s' ms ms' step d plays collector_is e }
 
-  pub owes_some : (n : Id) → retiring_at (slice_get ms step.who) ≡ Some n → IsSafeOrOwes same always (retiring_at (slice_get ms step.who)) s' ms' step.who → Owes same always s' ms' step.who n
+  owes_some : (n : Id) → retiring_at (slice_get ms step.who) ≡ Some n → IsSafeOrOwes same always (retiring_at (slice_get ms step.who)) s' ms' step.who → Owes same always s' ms' step.who n
   owes_some n e safe = let P : Option Id → Type 0 = λ x. IsSafeOrOwes same always x s' ms' step.who in subst P e safe
 
   -- one is, and is handed over
-  pub walked_some : (n : Id) → retiring_at (slice_get ms step.who) ≡ Some n → (s2 : Nodes V) → s2 ≡ with_collector s' (deferred s'.collector step.who (Remove n.name)) → IsSafe same always s ms → Owes same always s' ms' step.who n → IsSafe same always s2 ms' → Walked same always s ms step d s2 ms'
+  walked_some : (n : Id) → retiring_at (slice_get ms step.who) ≡ Some n → (s2 : Nodes V) → s2 ≡ with_collector s' (deferred s'.collector step.who (Remove n.name)) → IsSafe same always s ms → Owes same always s' ms' step.who n → IsSafe same always s2 ms' → Walked same always s ms step d s2 ms'
   walked_some n e s2 is before owes safe =
       let store : s2.collector.store ≡ s'.collector.store = ap (λ x. x.collector.store) is in
       let P : Store (Slot V) → Type 0 = λ st. StepPlays id_number same always s.version_max (Refuses s) (nodes s) ms step d (heap st) ms' in
       let Q : Option Id → Type 0 = λ x. s2.collector ≡ after_walk x (with_store s.collector s2.collector.store) step.who in
       let here : s2.collector ≡ deferred (with_store s.collector s2.collector.store) step.who (Remove n.name) =
-      ap (λ x. x.collector) is ∙ ap (λ c. deferred c step.who (Remove n.name)) clock ∙ ap (λ st. deferred (with_store s.collector st) step.who (Remove n.name)) (sym store) in
+      ap (λ x. x.collector) is ∙ ap (λ c. deferred c step.who (Remove n.name)) collector_is ∙ ap (λ st. deferred (with_store s.collector st) step.who (Remove n.name)) (sym store) in
       record {
         safe = safe;
         plays = subst P (sym store) plays;
         beside = record { base = ap (λ x. x.base) is ∙ beside.base; limit = ap (λ x. x.limit) is ∙ beside.limit; versions = ap (λ x. x.version_max) is ∙ beside.versions };
-        clock = subst Q (sym e) here;
-        filed = filed_handed cells same always s s' ms ms' step d plays n e clock before owes s2 is;
+        collector_is = subst Q (sym e) here;
+        filed = filed_handed cells same always s s' ms ms' step d plays n e collector_is before owes s2 is;
       }
 
 -- the same over the vector of the calls, as it is lent out and written back
@@ -78,12 +78,15 @@ module _ {V : Type 0} (same : V → V → Bool) (always : Bool) (cells : CellLaw
   at_items : (o : Option Id) → o ≡ retiring_at (slice_get read step.who) → retiring_at (slice_get items step.who) ≡ o
   at_items o e = sym (e ∙ ap (λ xs. retiring_at (slice_get xs step.who)) seen)
 
+  -- where a node was marked, all is safe but for its deferral
   pub owed : (o : Id) → Some o ≡ retiring_at (slice_get read step.who) → Owes same always s' back step.who o
   owed o e = let P : List (Machine Id V) → Type 0 = λ xs. Owes same always s' xs step.who o in subst P (sym whole) (owes_some same always cells s s' items new step d played fr o (at_items (Some o) e) safe_or)
 
+  -- where no node was marked, the call on the tree has taken its step
   pub walked : None ≡ retiring_at (slice_get read step.who) → Walked same always s items step d s' back
   walked e = let P : List (Machine Id V) → Type 0 = λ xs. Walked same always s items step d s' xs in subst P (sym whole) (walked_none same always cells s s' items new step d played fr (at_items None e) safe_or)
 
+  -- where one was, it has taken it once that node's removal is deferred and all is safe
   pub walked_over : (o : Id) → Some o ≡ retiring_at (slice_get read step.who) → (s2 : Nodes V) (ms2 : List (Machine Id V)) → ms2 ≡ back → s2 ≡ with_collector s' (deferred s'.collector step.who (Remove o.name)) → IsSafe same always s items → IsSafe same always s2 ms2
       → Walked same always s items step d s2 ms2
   walked_over o e s2 ms2 same2 is before ok =

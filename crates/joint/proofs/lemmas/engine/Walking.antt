@@ -5,7 +5,7 @@ use Rattle.std.specs.Prelude.{Option, None, Some, length, not, slice_get, slice_
 use Rattle.std.proofs.lemmas.List.{length-set, get_or-set_other, get_or-set_same}
 use Rattle.crossbeam_epoch.specs.declared.bag.Work.TheVariants.{Remove}
 use Rattle.crossbeam_epoch.specs.declared.world.participant.Participant.{Participant}
-use Rattle.crossbeam_epoch.specs.declared.world.participant.Phase.TheVariants as stage
+use Rattle.crossbeam_epoch.specs.declared.world.participant.Phase.TheVariants as collector_phase
 use Rattle.crossbeam_epoch.specs.World.Machine.{State, blank, place, with_store}
 use Rattle.congee.specs.declared.protocol.run.Step.{Step}
 use Rattle.congee.specs.declared.protocol.machine.Machine.{Machine}
@@ -25,11 +25,13 @@ use Rattle.joint.specs.engine.Safety.{IsSafe, Runs, retiring_at, after_walk, Wal
 use Rattle.joint.specs.engine.Sound.{IsUnderWay}
 use Rattle.joint.specs.nodes.View.{id_number}
 use Rattle.joint.proofs.lemmas.engine.Ending.{goes_on_after}
-use Rattle.joint.proofs.lemmas.engine.Collecting.{either, get_inside, inside_machines, set_here}
+use Rattle.joint.proofs.lemmas.engine.Collecting.{get_inside, inside_machines}
 use Rattle.joint.proofs.lemmas.engine.HandOver.{held_place}
 use Rattle.joint.proofs.lemmas.engine.ScanEnds.{not_done, cleared_safe, cleared_is, now_between, told_final}
+use Rattle.congee.proofs.Laws.{get_set, set_here}
 
-over_ended : {V : Type 0} (x : Phase Id V) → is_over x ≡ true → x ≡ Ended
+-- a phase that is over is the last
+pub over_ended : {V : Type 0} (x : Phase Id V) → is_over x ≡ true → x ≡ Ended
 over_ended Ended e = refl
 over_ended _ e = absurd (cc e)
 
@@ -72,9 +74,11 @@ module _ {V : Type 0} (same : V → V → Bool) (always : Bool) (laws : CallLaws
   abbrev old : (x : Machine Id V) × (slice_get ms step.who ≡ Some x)
   old = get_inside ms step.who (inside_machines same always s ms calls intact step.who Walking on)
 
+  -- the worker has a call on the tree under way
   abbrev pub runs : Runs ms step.who
   runs = (old.0, old.1, (intact.each step.who Walking old.0 on old.1).0)
 
+  -- there are as many machines as before
   pub long_walk : (d : Move V) (s' : Nodes V) (ms' : List (Machine Id V)) → Walked same always s ms step d s' ms' → length ms' ≡ length ms
   long_walk d s' ms' walked = let moved = walked.plays.moved old.0 old.1 in ap length moved.calls ∙ length-set ms step.who moved.now
 
@@ -88,6 +92,7 @@ module _ {V : Type 0} (same : V → V → Bool) (always : Bool) (laws : CallLaws
     abbrev final : Machine Id V
     final = rested moved.now
 
+    -- the worker's machine is the one that took the step, or at rest after a scan that is done, and the others stay
     pub final_is : ms' ≡ set ms step.who final
     final_is = on_walked.machines ∙ cleared_is ms on_walked.between step.who old.0 moved.now old.1 moved.calls
 
@@ -106,16 +111,17 @@ module _ {V : Type 0} (same : V → V → Bool) (always : Bool) (laws : CallLaws
     long = ap length final_is ∙ length-set ms step.who final
 
     table : length s'.collector.table ≡ length s.collector.table
-    table = ap (λ c. length c.table) walked.clock ∙ walk_table mid step.who owed
+    table = ap (λ c. length c.table) walked.collector_is ∙ walk_table mid step.who owed
 
     others : (i : ℕ) → i ≢ step.who → place s'.collector i ≡ place s.collector i
-    others i ne = ap (λ c. place c i) walked.clock ∙ walk_others mid step.who owed i ne
+    others i ne = ap (λ c. place c i) walked.collector_is ∙ walk_others mid step.who owed i ne
 
-    place_idle : (place s'.collector step.who).phase ≡ stage.Idle
+    place_idle : (place s'.collector step.who).phase ≡ collector_phase.Idle
     place_idle =
         let l : step.who < length s.collector.table = held_place s.collector.table step.who ((intact.safe.sound.sound.guarded step.who old.0 old.1).registered runs.2) in
-        ap (λ c. (place c step.who).phase) walked.clock ∙ walk_phase mid step.who owed l ∙ (intact.safe.sound.sound.guarded step.who old.0 old.1).idle runs.2
+        ap (λ c. (place c step.who).phase) walked.collector_is ∙ walk_phase mid step.who owed l ∙ (intact.safe.sound.sound.guarded step.who old.0 old.1).idle runs.2
 
+    -- that machine stands in the worker's place
     pub now_here : slice_get ms' step.who ≡ Some final
     now_here = ap (λ xs. slice_get xs step.who) final_is ∙ set_here ms step.who final old.0 old.1
 
@@ -125,6 +131,7 @@ module _ {V : Type 0} (same : V → V → Bool) (always : Bool) (laws : CallLaws
         let k : IsAt Walking (place s.collector step.who) old.0 = intact.each step.who Walking old.0 on old.1 in
         told_final same always s.version_max (Refuses s) old.0 moved.now (nodes s) (nodes s') step.noise.fail step.noise.answer d moved.step k.0 k.1
 
+    -- the call on the tree has ended just where the step doesn't tell that it goes on
     pub over_now : over_at (slice_get ms' step.who) ≡ not (goes_on_after d.outcome)
     over_now = ap over_at now_here ∙ told
 
@@ -140,6 +147,7 @@ module _ {V : Type 0} (same : V → V → Bool) (always : Bool) (laws : CallLaws
         let P : Option (Machine Id V) → Type 0 = λ x. IsAt (if over_at x then Idle else Walking) (place s'.collector step.who) final in
         subst P (sym now_here) (by_end (is_over final.phase) refl)
 
+    -- the machine is intact with the worker idle where its call on the tree has ended
     pub walked_on : IsIntact same always s' ms' (set calls step.who next)
     walked_on = record {
       safe = safe;
@@ -147,7 +155,7 @@ module _ {V : Type 0} (same : V → V → Bool) (always : Bool) (laws : CallLaws
       table = table ∙ intact.table ∙ sym (length-set calls step.who next);
       few = rw (length-set calls step.who next) intact.few;
       filed = walked.filed intact.filed;
-      each = λ i k m at here. elim (either calls step.who i next k at) [
+      each = λ i k m at here. elim (get_set calls step.who i next k at) [
         | inl e ↦ (
             let q : Some final ≡ Some m = sym now_here ∙ subst (λ (j : ℕ). slice_get ms' j ≡ Some m) e.0 here in
             let x : final ≡ m = cc in

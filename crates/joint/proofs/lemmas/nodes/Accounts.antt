@@ -21,13 +21,13 @@ use Rattle.joint.specs.declared.nodes.counts.CellMark.{CellMark}
 use Rattle.joint.specs.declared.nodes.slot.Slot.{Slot}
 use Rattle.joint.specs.declared.nodes.slot.LockWord.{LockWord}
 use Rattle.joint.specs.nodes.Altering.{Alters, Fills, Empties, IsNewSlot}
-use Rattle.joint.specs.nodes.Nodes.{Nodes, nodes, total, size, waits, waiting_size, sizes, waiting, waiting_bytes, IsTally, IsTallied, IsKept, AreWhole, gone_by}
+use Rattle.joint.specs.nodes.Nodes.{Nodes, nodes, total, size, waits, waiting_size, sizes, waiting, waiting_bytes, IsMark, IsMarked, IsKept, AreWhole, gone_by}
 use Rattle.joint.specs.NameLemmas.{number_named}
 use Rattle.joint.specs.Names.{number, named}
 use Rattle.joint.specs.nodes.Solid.{IsWhole}
 use Rattle.joint.specs.nodes.CellMarks.{no_mark, mark_at, with_mark}
 use Rattle.joint.specs.nodes.View.{heap, view, node_of}
-use Rattle.joint.proofs.lemmas.nodes.Altering.{cell_of, inside, same_or}
+use Rattle.joint.proofs.lemmas.nodes.Altering.{cell_of, cell_inside, same_or}
 use Rattle.joint.proofs.lemmas.nodes.NodesInvariant.{some_injective, node_here, node_is}
 use Rattle.joint.proofs.lemmas.nodes.Totals.{counted, emptied_empties, is_open, IsOpen, placed_here, placed_apart, placed_total, placed_long, total_bound, waiting_few, bytes_few}
 
@@ -41,45 +41,51 @@ one_standing st m n x y e f q =
     ap (λ i. record { cell = i; turn = m.turn }) q ∙ ap (λ i. record { cell = n.cell; turn = i }) t
 
 module _ {P : Type 0} (F : Nodes P) (k : Counts) (kept : IsKept k F) where
+  -- the cell of a name that stands is among those that have a mark
   pub standing_inside : (n : Name) → is_some (value_at F.collector.store n) ≡ true → n.cell < length k.cell_marks.items
   standing_inside n e = go (value_at F.collector.store n) refl
     where
       go : (o : Option (Slot P)) → value_at F.collector.store n ≡ o → n.cell < length k.cell_marks.items
       go None z = (let b : false ≡ true = sym (ap is_some z) ∙ e in absurd (cc b))
-      go (Some s) z = (let a = inside F.collector.store n s z in omega (arith, a, kept.wide))
+      go (Some s) z = (let a = cell_inside F.collector.store n s z in omega (arith, a, kept.wide))
 
   module _ (n : Name) (s : Slot P) (st' : Store (Slot P)) (em : Empties F.collector.store n s st') where
     abbrev cell_mark : CellMark
     cell_mark = mark_at k.cell_marks.items n.cell
 
-    U : IsTally s cell_mark
-    U = kept.tallied n s em.was
+    U : IsMark s cell_mark
+    U = kept.marks_are n s em.was
 
-    -- what can be taken off
+    -- the cell of a node that stands is among those that have a mark
     pub is_inside : n.cell < length k.cell_marks.items
-    is_inside = (let a = inside F.collector.store n s em.was in omega (arith, a, kept.wide))
+    is_inside = (let a = cell_inside F.collector.store n s em.was in omega (arith, a, kept.wide))
 
+    -- where a node stands that can be taken out, at least one is counted as standing
     pub standing_some : 1 ≤ k.standing
     standing_some = (let c = counted (λ x. 1) F.collector.store n s em.was in omega (arith, c, kept.standing_is))
 
+    -- where it waits, at least one is counted as waiting
     pub waits_some : cell_mark.waits ≡ true → 1 ≤ k.waiting
     waits_some e =
         let one : waits s ≡ 1 = ap (λ (b : Bool). if b then 1 else 0) (U.waits_is ∙ e) in
         let c = counted waits F.collector.store n s em.was in
         omega (arith, one, c, kept.count_is)
 
+    -- where it waits, the bytes counted as waiting are no fewer than its own
     pub bytes_some : cell_mark.waits ≡ true → size_of cell_mark.form ≤ k.waiting_bytes
     bytes_some e =
         let one : waiting_size s ≡ size s = ap (λ (b : Bool). if b then size s else 0) (U.waits_is ∙ e) in
         let c = counted waiting_size F.collector.store n s em.was in
         omega (arith, one, c, kept.bytes_is, U.size_is)
 
+    -- its bytes are no more than what is charged
     pub charge_some : size_of cell_mark.form ≤ F.charge
     charge_some = (
         let c = counted size F.collector.store n s em.was in
         let a : F.charge ≡ F.base + sizes F.collector.store = kept.charged in
         omega (arith, c, a, U.size_is))
 
+    -- once it is out, the charge without its bytes is the base and the sizes of the nodes left
     pub charged_less : (charge : ℕ) → charge + size_of cell_mark.form ≡ F.charge → charge ≡ F.base + sizes st'
     charged_less charge e = (
         let e0 : sizes st' + size s ≡ sizes F.collector.store = em.sums size in
@@ -87,7 +93,7 @@ module _ {P : Type 0} (F : Nodes P) (k : Counts) (kept : IsKept k F) where
         omega (arith, e, e0, a, U.size_is))
 
 module _ {P : Type 0} (F F' : Nodes P) (k : Counts) (kept : IsKept k F) (orderly : Orderly F'.collector) where
-  -- where the cells and the charge are as before
+  -- where the cells and the charge are as before, the counts are those of the cells
   pub kept_same : F'.collector.store ≡ F.collector.store → F'.charge ≡ F.charge → F'.base ≡ F.base → IsKept k F'
   kept_same st charge base =
       let e : sizes F'.collector.store ≡ sizes F.collector.store = ap sizes st in
@@ -99,7 +105,7 @@ module _ {P : Type 0} (F F' : Nodes P) (k : Counts) (kept : IsKept k F) (orderly
         count_is = kept.count_is ∙ sym (ap waiting st);
         bytes_is = kept.bytes_is ∙ sym (ap waiting_bytes st);
         whole = subst AreWhole (sym st) kept.whole;
-        tallied = subst (λ x. IsTallied x k.cell_marks.items) (sym st) kept.tallied;
+        marks_are = subst (λ x. IsMarked x k.cell_marks.items) (sym st) kept.marks_are;
         wide = kept.wide ∙ sym (ap (λ x. length x.cells) st);
         bounded = subst (λ x. length x.cells ≤ x.most) (sym st) kept.bounded;
         few = subst (λ x. x.most ≤ 16777215) (sym st) kept.few;
@@ -113,10 +119,10 @@ module _ {P : Type 0} (F F' : Nodes P) (k : Counts) (kept : IsKept k F) (orderly
     abbrev t : CellMark
     t = mark_at k.cell_marks.items n.cell
 
-    T : IsTally s t
-    T = kept.tallied n s em.was
+    T : IsMark s t
+    T = kept.marks_are n s em.was
 
-    -- where a node goes
+    -- where a node goes, with its charge and its part of the counts, the counts are those of the cells
     pub kept_emptied : (k' : Counts) → k'.standing + 1 ≡ k.standing → F'.charge + size_of t.form ≡ F.charge → F'.base ≡ F.base → k'.cell_marks ≡ k.cell_marks → k'.waiting + (if t.waits then 1 else 0) ≡ k.waiting
         → k'.waiting_bytes + (if t.waits then size_of t.form else 0) ≡ k.waiting_bytes → IsKept k' F'
     kept_emptied k' standing charge base cell_marks count bytes =
@@ -137,7 +143,7 @@ module _ {P : Type 0} (F F' : Nodes P) (k : Counts) (kept : IsKept k F) (orderly
           count_is = omega (arith, count, e1, w1, kept.count_is);
           bytes_is = omega (arith, bytes, e2, w2, kept.bytes_is);
           whole = λ m x e. kept.whole m x (apart m x e);
-          tallied = λ m x e. subst (λ (y : List CellMark). IsTally x (mark_at y m.cell)) (sym (ap (λ v. v.items) cell_marks)) (kept.tallied m x (apart m x e));
+          marks_are = λ m x e. subst (λ (y : List CellMark). IsMark x (mark_at y m.cell)) (sym (ap (λ v. v.items) cell_marks)) (kept.marks_are m x (apart m x e));
           wide = ap (λ v. length v.items) cell_marks ∙ kept.wide ∙ sym em.wide;
           bounded = omega (arith, kept.bounded, em.wide, em.most);
           few = omega (arith, kept.few, em.most);
@@ -161,8 +167,8 @@ module _ {P : Type 0} (F F' : Nodes P) (k : Counts) (kept : IsKept k F) (orderly
     open_cell : IsOpen st n
     open_cell = is_open st n fills.next
 
-    abbrev new_tally : CellMark
-    new_tally = record { form = form; waits = false }
+    abbrev new_mark : CellMark
+    new_mark = record { form = form; waits = false }
 
     note_end : (ts : List CellMark) (x d : CellMark) → get_or (ts ++ x ∷ []) (length ts) d ≡ x
     note_end [] x d = refl
@@ -177,25 +183,25 @@ module _ {P : Type 0} (F F' : Nodes P) (k : Counts) (kept : IsKept k F) (orderly
     near : n.cell ≤ length k.cell_marks.items
     near = (let a = open_cell.near in omega (arith, a, kept.wide))
 
-    here_in : (b : Bool) → nat_lt n.cell (length k.cell_marks.items) ≡ b → mark_at (if b then slice_set k.cell_marks.items n.cell new_tally else k.cell_marks.items ++ new_tally ∷ []) n.cell ≡ new_tally
-    here_in true e = get_or-set_same k.cell_marks.items n.cell new_tally no_mark (let l : n.cell < length k.cell_marks.items = grind (arith, nat_tests, e) in l)
+    here_in : (b : Bool) → nat_lt n.cell (length k.cell_marks.items) ≡ b → mark_at (if b then slice_set k.cell_marks.items n.cell new_mark else k.cell_marks.items ++ new_mark ∷ []) n.cell ≡ new_mark
+    here_in true e = get_or-set_same k.cell_marks.items n.cell new_mark no_mark (let l : n.cell < length k.cell_marks.items = grind (arith, nat_tests, e) in l)
     here_in false e = (let q : n.cell ≡ length k.cell_marks.items = (let g : length k.cell_marks.items ≤ n.cell = grind (arith, nat_tests, e) in omega (arith, g, near)) in
-        ap (λ j. get_or (k.cell_marks.items ++ new_tally ∷ []) j no_mark) q ∙ note_end k.cell_marks.items new_tally no_mark)
+        ap (λ j. get_or (k.cell_marks.items ++ new_mark ∷ []) j no_mark) q ∙ note_end k.cell_marks.items new_mark no_mark)
 
-    apart_in : (b : Bool) → nat_lt n.cell (length k.cell_marks.items) ≡ b → (i : ℕ) → i ≢ n.cell → mark_at (if b then slice_set k.cell_marks.items n.cell new_tally else k.cell_marks.items ++ new_tally ∷ []) i ≡ mark_at k.cell_marks.items i
-    apart_in true e i ne = get_or-set_other k.cell_marks.items n.cell i new_tally no_mark ne
+    apart_in : (b : Bool) → nat_lt n.cell (length k.cell_marks.items) ≡ b → (i : ℕ) → i ≢ n.cell → mark_at (if b then slice_set k.cell_marks.items n.cell new_mark else k.cell_marks.items ++ new_mark ∷ []) i ≡ mark_at k.cell_marks.items i
+    apart_in true e i ne = get_or-set_other k.cell_marks.items n.cell i new_mark no_mark ne
     apart_in false e i ne = (let q : n.cell ≡ length k.cell_marks.items = (let g : length k.cell_marks.items ≤ n.cell = grind (arith, nat_tests, e) in omega (arith, g, near)) in
-        note_before k.cell_marks.items new_tally no_mark i (λ z. ne (z ∙ sym q)))
+        note_before k.cell_marks.items new_mark no_mark i (λ z. ne (z ∙ sym q)))
 
-    long_in : (b : Bool) → nat_lt n.cell (length k.cell_marks.items) ≡ b → (length (if b then slice_set k.cell_marks.items n.cell new_tally else k.cell_marks.items ++ new_tally ∷ []) ≡ length k.cell_marks.items) × (n.cell < length k.cell_marks.items) ⊎ (length (if b then slice_set k.cell_marks.items n.cell new_tally else k.cell_marks.items ++ new_tally ∷ []) ≡ length k.cell_marks.items + 1) × (n.cell ≡ length k.cell_marks.items)
-    long_in true e = inl (length-set k.cell_marks.items n.cell new_tally, (let l : n.cell < length k.cell_marks.items = grind (arith, nat_tests, e) in l))
-    long_in false e = inr (length_push k.cell_marks.items new_tally, (let g : length k.cell_marks.items ≤ n.cell = grind (arith, nat_tests, e) in omega (arith, g, near)))
+    long_in : (b : Bool) → nat_lt n.cell (length k.cell_marks.items) ≡ b → (length (if b then slice_set k.cell_marks.items n.cell new_mark else k.cell_marks.items ++ new_mark ∷ []) ≡ length k.cell_marks.items) × (n.cell < length k.cell_marks.items) ⊎ (length (if b then slice_set k.cell_marks.items n.cell new_mark else k.cell_marks.items ++ new_mark ∷ []) ≡ length k.cell_marks.items + 1) × (n.cell ≡ length k.cell_marks.items)
+    long_in true e = inl (length-set k.cell_marks.items n.cell new_mark, (let l : n.cell < length k.cell_marks.items = grind (arith, nat_tests, e) in l))
+    long_in false e = inr (length_push k.cell_marks.items new_mark, (let g : length k.cell_marks.items ≤ n.cell = grind (arith, nat_tests, e) in omega (arith, g, near)))
 
-    pub tally_here : mark_at k'.cell_marks.items n.cell ≡ new_tally
-    tally_here = ap (λ ts. mark_at ts n.cell) cell_marks ∙ here_in (nat_lt n.cell (length k.cell_marks.items)) refl
+    mark_here : mark_at k'.cell_marks.items n.cell ≡ new_mark
+    mark_here = ap (λ ts. mark_at ts n.cell) cell_marks ∙ here_in (nat_lt n.cell (length k.cell_marks.items)) refl
 
-    pub tally_apart : (i : ℕ) → i ≢ n.cell → mark_at k'.cell_marks.items i ≡ mark_at k.cell_marks.items i
-    tally_apart i ne = ap (λ ts. mark_at ts i) cell_marks ∙ apart_in (nat_lt n.cell (length k.cell_marks.items)) refl i ne
+    mark_apart : (i : ℕ) → i ≢ n.cell → mark_at k'.cell_marks.items i ≡ mark_at k.cell_marks.items i
+    mark_apart i ne = ap (λ ts. mark_at ts i) cell_marks ∙ apart_in (nat_lt n.cell (length k.cell_marks.items)) refl i ne
 
     total_is : (f : Slot P → ℕ) → total f st' ≡ total f st + f s
     total_is f = ap (total f) fills.state ∙ placed_total st n s fills.next f
@@ -215,7 +221,7 @@ module _ {P : Type 0} (F F' : Nodes P) (k : Counts) (kept : IsKept k F) (orderly
     same_long : length k'.cell_marks.items ≡ length st'.cells
     same_long =
         let a : length st'.cells ≡ length (placed st n s).cells = ap (λ y. length y.cells) fills.state in
-        let b : length k'.cell_marks.items ≡ length (with_mark k.cell_marks.items n.cell new_tally) = ap length cell_marks in
+        let b : length k'.cell_marks.items ≡ length (with_mark k.cell_marks.items n.cell new_mark) = ap length cell_marks in
         elim (placed_long st n s fills.next) [
           | inl x ↦ elim (long_in (nat_lt n.cell (length k.cell_marks.items)) refl) [
             | inl y ↦ omega (arith, a, b, x.0, y.0, kept.wide)
@@ -248,6 +254,7 @@ module _ {P : Type 0} (F F' : Nodes P) (k : Counts) (kept : IsKept k F) (orderly
               let p = kept.used i low in omega (arith, a, z, p))
         ]
 
+    -- a new node with its charge, its mark and one more counted leaves the counts those of the cells
     pub kept_filled : IsKept k' F'
     kept_filled =
         let e0 : sizes st' ≡ sizes st + size s = total_is size in
@@ -268,14 +275,14 @@ module _ {P : Type 0} (F F' : Nodes P) (k : Counts) (kept : IsKept k F) (orderly
             | inl q ↦ (let z : s ≡ x = some_injective s x (sym fills.sets.value ∙ ap (value_at st') (sym q) ∙ e) in subst (λ (y : Slot P). IsWhole y.node) z whole)
             | inr ne ↦ kept.whole m x (sym (fills.sets.others m ne) ∙ e)
           ];
-          tallied = λ m x e. elim (same_or m n) [
+          marks_are = λ m x e. elim (same_or m n) [
             | inl q ↦ (
                 let z : s ≡ x = some_injective s x (sym fills.sets.value ∙ ap (value_at st') (sym q) ∙ e) in
-                let new : IsTally s new_tally = record { size_is = sz; waits_is = free } in
-                subst (λ (y : Slot P). IsTally y (mark_at k'.cell_marks.items m.cell)) z (subst (IsTally s) (sym (ap (λ (y : Name). mark_at k'.cell_marks.items y.cell) q ∙ tally_here)) new))
+                let new : IsMark s new_mark = record { size_is = sz; waits_is = free } in
+                subst (λ (y : Slot P). IsMark y (mark_at k'.cell_marks.items m.cell)) z (subst (IsMark s) (sym (ap (λ (y : Name). mark_at k'.cell_marks.items y.cell) q ∙ mark_here)) new))
             | inr ne ↦ (
                 let before : value_at st m ≡ Some x = sym (fills.sets.others m ne) ∙ e in
-                subst (IsTally x) (sym (tally_apart m.cell (vacant_cell m x before))) (kept.tallied m x before))
+                subst (IsMark x) (sym (mark_apart m.cell (vacant_cell m x before))) (kept.marks_are m x before))
           ];
           wide = same_long;
           bounded = fewer;
@@ -298,11 +305,12 @@ module _ {P : Type 0} (F F' : Nodes P) (k : Counts) (kept : IsKept k F) (orderly
     s' = record s { word = w }
 
     at : n.cell < length k.cell_marks.items
-    at = (let a = inside F.collector.store n s alters.was in omega (arith, a, kept.wide))
+    at = (let a = cell_inside F.collector.store n s alters.was in omega (arith, a, kept.wide))
 
+    -- a node that begins to wait, marked and counted so, leaves the counts those of the cells
     pub kept_marked : IsKept k' F'
     kept_marked =
-        let U : IsTally s (mark_at k.cell_marks.items n.cell) = kept.tallied n s alters.was in
+        let U : IsMark s (mark_at k.cell_marks.items n.cell) = kept.marks_are n s alters.was in
         let e0 : sizes F'.collector.store + size s ≡ sizes F.collector.store + size s = alters.sums size in
         let e1 : waiting F'.collector.store + waits s ≡ waiting F.collector.store + waits s' = alters.sums waits in
         let e2 : waiting_bytes F'.collector.store + waiting_size s ≡ waiting_bytes F.collector.store + waiting_size s' = alters.sums waiting_size in
@@ -321,17 +329,17 @@ module _ {P : Type 0} (F F' : Nodes P) (k : Counts) (kept : IsKept k F) (orderly
             | inl q ↦ (let z : s' ≡ x = some_injective s' x (sym alters.sets.value ∙ ap (value_at F'.collector.store) (sym q) ∙ e) in subst (λ (y : Slot P). IsWhole y.node) z (kept.whole n s alters.was))
             | inr ne ↦ kept.whole m x (sym (alters.sets.others m ne) ∙ e)
           ];
-          tallied = λ m x e. elim (same_or m n) [
+          marks_are = λ m x e. elim (same_or m n) [
             | inl q ↦ (
                 let z : s' ≡ x = some_injective s' x (sym alters.sets.value ∙ ap (value_at F'.collector.store) (sym q) ∙ e) in
-                let new : IsTally s' marked = record { size_is = U.size_is; waits_is = mark } in
+                let new : IsMark s' marked = record { size_is = U.size_is; waits_is = mark } in
                 let is : mark_at k'.cell_marks.items m.cell ≡ marked = ap (λ (y : Name). mark_at k'.cell_marks.items y.cell) q ∙ ap (λ ts. mark_at ts n.cell) cell_marks ∙ get_or-set_same k.cell_marks.items n.cell marked no_mark at in
-                subst (λ (y : Slot P). IsTally y (mark_at k'.cell_marks.items m.cell)) z (subst (IsTally s') (sym is) new))
+                subst (λ (y : Slot P). IsMark y (mark_at k'.cell_marks.items m.cell)) z (subst (IsMark s') (sym is) new))
             | inr ne ↦ (
                 let before : value_at F.collector.store m ≡ Some x = sym (alters.sets.others m ne) ∙ e in
                 let off : m.cell ≢ n.cell = λ q. ne (one_standing F.collector.store m n x s before alters.was q) in
                 let is : mark_at k'.cell_marks.items m.cell ≡ mark_at k.cell_marks.items m.cell = ap (λ ts. mark_at ts m.cell) cell_marks ∙ get_or-set_other k.cell_marks.items n.cell m.cell marked no_mark off in
-                subst (IsTally x) (sym is) (kept.tallied m x before))
+                subst (IsMark x) (sym is) (kept.marks_are m x before))
           ];
           wide = ap length cell_marks ∙ length-set k.cell_marks.items n.cell marked ∙ kept.wide ∙ sym alters.wide;
           bounded = omega (arith, kept.bounded, alters.wide, alters.most);
@@ -343,15 +351,18 @@ module _ {P : Type 0} (F F' : Nodes P) (k : Counts) (kept : IsKept k F) (orderly
         }
 
 module _ {P : Type 0} (F : Nodes P) (k : Counts) (kept : IsKept k F) where
+  -- at most 16,777,215 nodes wait
   pub count_few : k.waiting ≤ 16777215
   count_few = (let a = waiting_few F.collector.store in omega (arith, a, kept.count_is, kept.bounded, kept.few))
 
+  -- at most 16,777,215 nodes stand
   pub standing_few : k.standing ≤ 16777215
   standing_few = (let a = total_bound (λ x. 1) 1 (λ v. one) F.collector.store.cells in omega (arith, a, kept.standing_is, kept.bounded, kept.few))
     where
       one : 1 ≤ 1
       one = omega arith
 
+  -- the nodes that wait have at most 2,104 bytes for each of 16,777,215 cells
   pub bytes_small : k.waiting_bytes ≤ 2104 * 16777215
   bytes_small = (let a = bytes_few F.collector.store in omega (arith, a, kept.bytes_is, kept.bounded, kept.few))
 
@@ -390,7 +401,7 @@ gone_node {P} F G view_is n s st' em =
           ap (λ g. view g (value_at st' (named j))) (em.sets.given (named j) apart) ∙ ap (λ v. view (was_given F.collector.store (named j)) v) (em.sets.others (named j) apart) ∙ ap (λ x. nodes x j) view_is;
     }
 
--- a new node
+-- a new slot under the next name is a new node
 pub new_node : {P : Type 0} (F G : Nodes P) (view_is : F ≡ G) (n : Name) (s : Slot P) (st' : Store (Slot P)) (form : NodeType) (prefix key : List ℕ) (size : ℕ)
     → Fills F.collector.store n s st' → IsNewSlot s form prefix → fits prefix key ≡ true → length prefix ≡ size → NewNode (nodes G) (number n) form key size (heap st')
 new_node {P} F G view_is n s st' form prefix key size fills fresh fit long =

@@ -21,8 +21,8 @@ pub cell_of : {T : Type 0} (c : Cell T) (t : ℕ) (v : T) → value_in c t ≡ S
 cell_of c t v e = let u : ((c.turns == t + 1) ≡ true) × (c.value ≡ Some v) = under (c.turns == t + 1) c.value v e in (eqb-true c.turns (t + 1) u.0, u.1)
 
 -- a name that stands for something is of one of the cells
-pub inside : {T : Type 0} (st : Store T) (n : Name) (v : T) → value_at st n ≡ Some v → n.cell < length st.cells
-inside st n v e = elim (cases_lt n.cell (length st.cells)) [
+pub cell_inside : {T : Type 0} (st : Store T) (n : Name) (v : T) → value_at st n ≡ Some v → n.cell < length st.cells
+cell_inside st n v e = elim (cases_lt n.cell (length st.cells)) [
   | inl lt ↦ lt
   | inr ge ↦ absurd (
       let p : cell_at st n.cell ≡ fresh = get_or_past st.cells n.cell fresh ge in
@@ -32,9 +32,9 @@ inside st n v e = elim (cases_lt n.cell (length st.cells)) [
 ]
 
 -- a value that is replaced under its name is altered
-pub replaced_alters : {T : Type 0} (st : Store T) (n : Name) (old new : T) → value_at st n ≡ Some old → Sets st n (Some new) (replaced st n.cell new) → Alters st n old new (replaced st n.cell new)
+replaced_alters : {T : Type 0} (st : Store T) (n : Name) (old new : T) → value_at st n ≡ Some old → Sets st n (Some new) (replaced st n.cell new) → Alters st n old new (replaced st n.cell new)
 replaced_alters {T} st n old new e sets =
-    let at : n.cell < length st.cells = inside st n old e in
+    let at : n.cell < length st.cells = cell_inside st n old e in
     let here : (cell_at st n.cell).value ≡ Some old = (cell_of (cell_at st n.cell) n.turn old e).1 in
     let now : Cell T = record { turns = (cell_at st n.cell).turns; value = Some new } in
     record {
@@ -74,7 +74,7 @@ twice st st1 st2 n a b c x y = record {
 abbrev pub ReplacedSets : Type 0 → Type 0
 ReplacedSets T = (st : Store T) (n : Name) (v : T) → is_some (value_at st n) ≡ true → Sets st n (Some v) (replaced st n.cell v)
 
--- a value that is taken out and put back changed
+-- a value that is taken out and put back changed is altered, and nothing else is
 pub swapped : {T : Type 0} (law : ReplacedSets T) (st : Store T) (n : Name) (old mid new : T) → value_at st n ≡ Some old → Alters st n old new (replaced (replaced st n.cell mid) n.cell new)
 swapped law st n old mid new e =
     let first : Alters st n old mid (replaced st n.cell mid) = replaced_alters st n old mid e (law st n mid (ap is_some e)) in
@@ -95,7 +95,7 @@ same_or m n = elim (cases_eq m.cell n.cell) [
 pub given : {T : Type 0} (st : Store T) (q : Name) (v : T) → value_at st q ≡ Some v → was_given st q ≡ true
 given st q v e = let t : (cell_at st q.cell).turns ≡ q.turn + 1 = (cell_of (cell_at st q.cell) q.turn v e).0 in grind (arith, nat_tests)
 
--- two of them at once
+-- a value altered twice, and between that another once, are exchanged, and nothing else is
 pub exchanged : {T : Type 0} (st st1 st2 st3 : Store T) (m n : Name) (a b mid a' b' : T) → m ≢ n → Alters st m a mid st1 → Alters st1 n b b' st2 → Alters st2 m mid a' st3 → Exchanges st m n a b a' b' st3
 exchanged st st1 st2 st3 m n a b mid a' b' apart x y z =
     let back : n ≢ m = λ e. apart (sym e) in
@@ -124,6 +124,7 @@ module _ {T : Type 0} (law : ReplacedSets T) (st st1 : Store T) (m n : Name) (a 
   out_first : Alters st m a mid st1
   out_first = subst (Alters st m a mid) (sym t1) (replaced_alters st m a mid w1 (law st m mid (ap is_some w1)))
 
+  -- the second value stood as it did before the first was taken out
   pub was_second : value_at st n ≡ Some b
   was_second = sym (out_first.sets.others n (λ e. apart (sym e))) ∙ w2
 
@@ -137,9 +138,11 @@ module _ {T : Type 0} (law : ReplacedSets T) (st st1 : Store T) (m n : Name) (a 
     still_out : value_at st3 m ≡ Some mid
     still_out = back_second.sets.others m apart ∙ out_second.sets.others m apart ∙ out_first.sets.value
 
+    -- the cell of the first still has a value when the second is back
     pub still_there : is_some (value_at st3 m) ≡ true
     still_there = ap is_some still_out
 
+    -- once both are back, those two values are others, and nothing else is
     pub both_back : (st4 : Store T) → st4 ≡ replaced st3 m.cell a' → Exchanges st m n a b a' b' st4
     both_back st4 t4 =
         let last : Alters st3 m mid a' st4 = subst (Alters st3 m mid a') (sym t4) (replaced_alters st3 m mid a' still_out (law st3 m a' still_there)) in

@@ -15,14 +15,13 @@ use Rattle.congee.specs.protocol.Events.{SeenTruly, places}
 use Rattle.congee.specs.forms.Forms.{capacity_of, children_of, prefix_of}
 use Rattle.congee.specs.Heap.{Nothing}
 use Rattle.congee.specs.forms.Places.{AllKeys, Rises}
-use Rattle.congee.proofs.Laws.{get_find, all_found, same_is}
+use Rattle.congee.proofs.Laws.{get_find, all_found, same_is, rises_entries}
 use Rattle.joint.specs.declared.id.Id.{Id}
 use Rattle.joint.specs.declared.nodes.slot.LockWord.{LockWord}
 use Rattle.joint.specs.nodes.Solid.{IsSolid, IsLook}
 use Rattle.joint.specs.nodes.View.{id_number, hung_at, child_at, shape}
-use Rattle.joint.proofs.lemmas.nodes.SlotViews.{rises_entries}
 
--- the places of a form
+-- a form has as many places by the protocol as by its capacity
 pub places_of : (form : NodeType) → places form ≡ capacity_of form
 places_of N4 = refl
 places_of N16 = refl
@@ -44,13 +43,13 @@ module _ {X : Type 0} where
   any ((k, x) ∷ es) = (omega arith, any es)
 
   -- a map of bytes has 256 at most
-  pub len_256 : (m : map.FinMap nat_cmp X) → ((b : ℕ) → IsSome (map.get m b) → b < 256) → map.len m ≤ 256
+  len_256 : (m : map.FinMap nat_cmp X) → ((b : ℕ) → IsSome (map.get m b) → b < 256) → map.len m ≤ 256
   len_256 m bytes =
       let found : (b : ℕ) → IsSome (map.get m b) → b < 256 = bytes in
       let all : AllKeys (λ b. b < 256) (map.entries m) = all_found (λ b. b < 256) (map.entries m) (λ b s. bytes b (subst IsSome (sym (get_find m b)) s)) in
       omega (arith, map.len-entries m, few (map.entries m) 0 256 (rises_entries m) (any (map.entries m)) all (omega arith))
 
-  -- and fewer where it lacks one
+  -- a map of bytes that lacks one has fewer than 256
   pub lacking : (m : map.FinMap nat_cmp X) (k : ℕ) (x : X) → ((b : ℕ) → IsSome (map.get m b) → b < 256) → k < 256 → map.get m k ≡ None → map.len m < 256
   lacking m k x bytes small none =
       let grown : map.len (map.insert m k x) ≡ map.len m + 1 = map.len-insert nat_cmp_total m k x ∙ rw none refl in
@@ -69,16 +68,18 @@ module _ {X : Type 0} where
       sym other ∙ ap (λ n. map.get n b) none ∙ map.get-empty nat_cmp b
 
 module _ {P : Type 0} where
+  -- where something hangs at a byte, there is a child
   pub is_some_of_hung : (o : Option (Child Id P)) → hung_at o ≢ Nothing → IsSome o
   is_some_of_hung None ne = absurd (ne refl)
   is_some_of_hung (Some x) ne = refl
 
-  pub not_there : (o : Option (Child Id P)) → (o ≡ Some Blank → ⊥) → hung_at o ≡ Nothing → o ≡ None
+  not_there : (o : Option (Child Id P)) → (o ≡ Some Blank → ⊥) → hung_at o ≡ Nothing → o ≡ None
   not_there None solid e = refl
   not_there (Some Blank) solid e = absurd (solid refl)
   not_there (Some (Sub c)) solid e = absurd (cc e)
   not_there (Some (Value v)) solid e = absurd (cc e)
 
+  -- what a look at a key's byte finds of a solid node is true of that node under any lock word
   pub seen_truly : (n : Form Id P) (w : LockWord) (key : List ℕ) (b : ℕ) (s : Seen Id P) → IsSolid (children_of n) → slice_index key (length (prefix_of n)) ≡ b → IsLook n b s → SeenTruly id_number (shape n w) key s
   seen_truly n w key b s solid at look = record {
     child = look.child ∙ ap (child_at n) (sym at);

@@ -19,7 +19,6 @@ use Rattle.congee.proofs.Laws.{bytes_same, none_more, one_more, IsTally-counted}
 use Rattle.joint.specs.declared.id.Id.{Id}
 use Rattle.joint.specs.declared.nodes.slot.LockWord.{LockWord}
 use Rattle.joint.specs.nodes.Levels.{form_with, shape_of, nodes_from, nodes_of, IsNodeIn}
-use Rattle.joint.specs.nodes.Survey.{IsTree}
 use Rattle.joint.specs.nodes.View.{id_number, hung_at, shape}
 
 form_back : (form : NodeType) → form_with (capacity_of form) ≡ form
@@ -28,7 +27,7 @@ form_back N16 = refl
 form_back N48 = refl
 form_back N256 = refl
 
--- nothing is counted yet
+-- empty statistics count no node and no pair
 pub none_counted : (stats : NodeStats) → ((level : ℕ) (form : NodeType) → info_at stats level form ≡ no_nodes) → vec_len stats.levels ≡ 0 → stats.kv_pairs ≡ 0 → IsTally stats [] 0
 none_counted stats infos levels pairs = record { infos = infos; levels = levels; kv_pairs = pairs }
 
@@ -60,20 +59,20 @@ module _ {V : Type 0} (h : ℕ → Node V) where
   -- these are counted
   pub record Counted (old new : NodeStats) (level n from : ℕ) : Type 0 where
     pub bound : from ≤ 256
-    pub cell_mark : (seen : List Shape) → IsTally old seen 0 → IsTally new (seen ++ so_far level n from) 0
+    pub tally : (seen : List Shape) → IsTally old seen 0 → IsTally new (seen ++ so_far level n from) 0
     pub opened : level < vec_len new.levels
     pub levels : vec_len old.levels ≤ vec_len new.levels
 
   module _ (n : ℕ) (x : Form Id V) (w : LockWord) (e : shape x w ≡ h n) where
-    -- the node alone
-    pub begun : (old new : NodeStats) (level : ℕ) → Counts old new level (form_of x) (map.len (children_of x)) → Counted old new level n 0
+    -- with the node itself counted, so is all before its first byte
+    pub node_counted : (old new : NodeStats) (level : ℕ) → Counts old new level (form_of x) (map.len (children_of x)) → Counted old new level n 0
     unfolding under_bytes
-    begun old new level counts =
+    node_counted old new level counts =
         let P : Node V → Type 0 = λ y. Counts old new level (form_with y.capacity) y.count in
         let c : Counts old new level (form_with (h n).capacity) (h n).count = subst P e (subst (λ f. Counts old new level f (map.len (children_of x))) (sym (form_back (form_of x))) counts) in
         record {
           bound = omega arith;
-          cell_mark = λ seen is. IsTally-counted old new (shape_of level (h n)) c seen 0 is;
+          tally = λ seen is. IsTally-counted old new (shape_of level (h n)) c seen 0 is;
           opened = let l = counts.levels in omega (arith, l);
           levels = let l = counts.levels in omega (arith, l);
         }
@@ -87,24 +86,24 @@ module _ {V : Type 0} (h : ℕ → Node V) where
           → ((seen : List Shape) → IsTally mid seen 0 → IsTally new (seen ++ under_byte (next level) (hung_at (Some y))) 0) → Counted old new level n (b + 1)
       went_on old mid new c small more on = record {
         bound = omega (arith, small);
-        cell_mark = λ seen is.
+        tally = λ seen is.
             let grown : under_bytes (next level) (h n).children (b + 1) ≡ under_bytes (next level) (h n).children from ++ under_byte (next level) (hung_at (Some y)) =
             one_more (next level) (h n).children from b first.past (λ q lo hi. hangs q None (first.before q lo hi))
             ∙ ap (λ z. under_bytes (next level) (h n).children from ++ under_byte (next level) z) (hangs b (Some y) first.here) in
             let all : (seen ++ so_far level n from) ++ under_byte (next level) (hung_at (Some y)) ≡ seen ++ so_far level n (b + 1) =
             append_assoc seen (so_far level n from) (under_byte (next level) (hung_at (Some y))) ∙ ap (λ l. seen ++ shape_of level (h n) ∷ l) (sym grown) in
-            subst (λ l. IsTally new l 0) all (on (seen ++ so_far level n from) (c.cell_mark seen is));
+            subst (λ l. IsTally new l 0) all (on (seen ++ so_far level n from) (c.tally seen is));
         opened = let o = c.opened in omega (arith, o, more);
         levels = let o = c.levels in omega (arith, o, more);
       }
 
-      -- the node below a byte
+      -- a node below a byte is in the tree, and has a longer prefix, of 7 bytes at most
       pub child_in : (c : Id) → y ≡ Sub c → (i : IsNodeIn h n) → IsNodeIn h (id_number c) × (length (h n).prefix < length (h (id_number c)).prefix) × (length (h (id_number c)).prefix ≤ 7)
       child_in c is i =
           let d = i.tree.tree.down n b (id_number c) i.linked (hangs b (Some y) first.here ∙ ap (λ z. hung_at (Some z)) is) in
           (record { tree = i.tree; linked = d.linked }, d.longer, i.tree.tree.short (id_number c) d.linked)
 
-      -- with the nodes below a byte
+      -- with the nodes below a byte counted too, so is all before the next byte
       pub went_below : (old mid new : NodeStats) (c : Id) → y ≡ Sub c → Counted old mid level n from → b < 256 → vec_len mid.levels ≤ vec_len new.levels
           → ((seen : List Shape) → IsTally mid seen 0 → IsTally new (seen ++ nodes_from h 8 (level + 1) (id_number c)) 0) → Counted old new level n (b + 1)
       went_below old mid new c is so small more on = went_on old mid new so small more
@@ -120,20 +119,16 @@ module _ {V : Type 0} (h : ℕ → Node V) where
           nothing_below (Sub c) o = absurd (o c refl)
           nothing_below (Value v) o = refl
 
-    -- no child is left
-    pub ended : (old new : NodeStats) (level from : ℕ) → IsNodeIn h n → Counted old new level n from → ((b : ℕ) → from ≤ b → map.get (children_of x) b ≡ None)
+    -- where no child is left, the node and all below it are counted
+    pub survey_counted : (old new : NodeStats) (level from : ℕ) → IsNodeIn h n → Counted old new level n from → ((b : ℕ) → from ≤ b → map.get (children_of x) b ≡ None)
         → (seen : List Shape) → IsTally old seen 0 → IsTally new (seen ++ nodes_from h 8 level n) 0
-    ended old new level from i c none seen is =
+    survey_counted old new level from i c none seen is =
         let all : so_far level n from ≡ nodes_from h 8 level n =
         ap (λ l. shape_of level (h n) ∷ l) (sym (none_more (next level) (h n).children from 256 c.bound (λ q lo hi. hangs q None (none q lo)))) ∙ sym (nodes_at i.tree.notes i.tree.tree level n i.linked) in
-        subst (λ l. IsTally new (seen ++ l) 0) all (c.cell_mark seen is)
+        subst (λ l. IsTally new (seen ++ l) 0) all (c.tally seen is)
 
-  -- the root and all below it, and so many pairs
+  -- with the root and all below it counted, and so many pairs, the statistics are those of the tree
   pub all_counted : (stats : NodeStats) (pairs count : ℕ) → IsTally stats ([] ++ nodes_from h 8 0 0) 0 → count ≡ capped pairs
       → IsTally (record { levels = stats.levels; kv_pairs = count }) (nodes_of h) pairs
   unfolding nodes_of
   all_counted stats pairs count is e = record { infos = is.infos; levels = is.levels; kv_pairs = e }
-
-  -- the root is in the tree
-  pub root_in : IsTree h → IsNodeIn h 0
-  root_in t = record { tree = t; linked = t.tree.root }

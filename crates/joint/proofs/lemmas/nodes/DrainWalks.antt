@@ -16,8 +16,8 @@ use Rattle.congee.specs.Keys.{IsMapOf}
 use Rattle.congee.specs.Notes.{Note, Tree, Linked}
 use Rattle.congee.specs.protocol.Events.{ChangeGives}
 use Rattle.congee.specs.protocol.Regions.{IsRegion, span, start_at}
-use Rattle.congee.specs.protocol.SweepKnown.{end_of}
-use Rattle.congee.proofs.Laws.{whole, start_mono, span_pos, region_top, child_after, child_before}
+use Rattle.congee.specs.protocol.ScanKnown.{end_of}
+use Rattle.congee.proofs.Laws.{start_at_end, start_mono, span_pos, region_top, child_after, child_before}
 use Rattle.joint.specs.declared.id.Id.{Id}
 use Rattle.joint.specs.declared.nodes.slot.LockWord.{LockWord}
 use Rattle.joint.specs.nodes.Draining.{TakesBelow, Takes, Drained}
@@ -40,8 +40,9 @@ module _ {V D : Type 0} (drains : D → ℕ → V → D → Type 0) (h : ℕ →
   abbrev at : ℕ → ℕ
   at b = start_at x.base x.depth b
 
-  pub begun : IsRegion (h n).prefix x.base x.depth → TakenSoFar drains h n x 0 before h before
-  begun r = record {
+  -- before the first byte of a node nothing is taken
+  pub drain_begun : IsRegion (h n).prefix x.base x.depth → TakenSoFar drains h n x 0 before h before
+  drain_begun r = record {
     bound = omega arith;
     region = r;
     takes = (let e : x.base ≡ at 0 = omega arith in let P : ℕ → Type 0 = λ b. Takes drains h x.base before h b before in subst P e (takes_begin drains h x.base before));
@@ -64,7 +65,7 @@ module _ {V D : Type 0} (drains : D → ℕ → V → D → Type 0) (h : ℕ →
     top : (b : ℕ) → b ≤ 256 → (at b ≤ 2 ^ 64) × (at b ≤ x.base + span x.depth)
     top b small =
         let up = start_mono (h1 n).prefix x.base x.depth r b 256 small in
-        let e = whole (h1 n).prefix x.base x.depth r in
+        let e = start_at_end (h1 n).prefix x.base x.depth r in
         let most = region_top (h1 n).prefix x.base x.depth r in
         (omega (arith, up, e, most), omega (arith, up, e))
 
@@ -82,13 +83,14 @@ module _ {V D : Type 0} (drains : D → ℕ → V → D → Type 0) (h : ℕ →
         abbrev here : (h1 n).children b ≡ hung_at (Some child)
         here = hangs b (Some child) first.here
 
+        -- where the child at a byte is a value, the node holds it there
         pub holds : (v : V) → child ≡ Value v → (h1 n).children b ≡ Holds v
         holds v is = here ∙ ap (λ z. hung_at (Some z)) is
 
         hung : (c : Id) → child ≡ Sub c → (h1 n).children b ≡ Below (id_number c)
         hung c is = here ∙ ap (λ z. hung_at (Some z)) is
 
-        -- the node at the byte
+        -- the node at the byte is in the tree, and has a longer prefix, of 7 bytes at most
         pub below_in : (c : Id) → child ≡ Sub c → IsNodeIn h1 (id_number c) × (length (h n).prefix < length (h1 (id_number c)).prefix) × (length (h1 (id_number c)).prefix ≤ 7)
         below_in c is =
             let d = node_in.tree.tree.down n b (id_number c) node_in.linked (hung c is) in
@@ -99,6 +101,7 @@ module _ {V D : Type 0} (drains : D → ℕ → V → D → Type 0) (h : ℕ →
           upto : Takes drains h x.base before h1 (at b) mid
           upto = past b first.past (omega (arith, small)) (λ q lo hi. hangs q None (first.before q lo hi))
 
+          -- once what stands below the child at a byte is taken, so is all before the next byte
           pub went_below : (c : Id) → child ≡ Sub c → (h2 : ℕ → Node V) (after : D) → TakesBelow drains h1 (id_number c) mid h2 after → TakenSoFar drains h n x (b + 1) before h2 after
           went_below c is h2 after p =
               let z : Region = record { base = p.base; depth = p.depth } in
@@ -121,7 +124,7 @@ module _ {V D : Type 0} (drains : D → ℕ → V → D → Type 0) (h : ℕ →
                 tree = λ a t l. (let t1 = so.tree a t l in p.tree a t1 (t1.down n b (id_number c) l (hung c is)).linked);
               }
 
-          -- a value at the byte
+          -- once the value at the byte is taken, so is all before the next byte
           pub went_value : (v : V) → child ≡ Value v → (value : V) → (h1 n).children b ≡ Holds value → (h2 : ℕ → Node V) → ChangeGives h1 n b Nothing h2 → (key : ℕ) → key ≡ at b → (after : D) → drains mid key value after
               → TakenSoFar drains h n x (b + 1) before h2 after
           went_value v is value was h2 k key ek after d =
@@ -136,6 +139,7 @@ module _ {V D : Type 0} (drains : D → ℕ → V → D → Type 0) (h : ℕ →
                 tree = λ a t l. still_tree h1 n b value h2 k was a (so.tree a t l) l;
               }
 
+          -- with a blank at a byte, what was taken before it is all before the next byte
           pub went_blank : child ≡ Blank → TakenSoFar drains h n x (b + 1) before h1 mid
           went_blank is = record {
             bound = omega (arith, small);
@@ -152,18 +156,19 @@ module _ {V D : Type 0} (drains : D → ℕ → V → D → Type 0) (h : ℕ →
             tree = so.tree;
           }
 
-      pub ended : ((b : ℕ) → from ≤ b → map.get (children_of y) b ≡ None) → TakesBelow drains h n before h1 mid
-      ended none = record {
+      -- where no child is left, the drainer took the pairs at and below the node
+      pub drain_ended : ((b : ℕ) → from ≤ b → map.get (children_of y) b ≡ None) → TakesBelow drains h n before h1 mid
+      drain_ended none = record {
         base = x.base;
         depth = x.depth;
         region = so.region;
-        takes = (let P : ℕ → Type 0 = λ b. Takes drains h x.base before h1 b mid in subst P (whole (h1 n).prefix x.base x.depth r) (past 256 so.bound (omega arith) (λ q lo hi. hangs q None (none q lo))));
+        takes = (let P : ℕ → Type 0 = λ b. Takes drains h x.base before h1 b mid in subst P (start_at_end (h1 n).prefix x.base x.depth r) (past 256 so.bound (omega arith) (λ q lo hi. hangs q None (none q lo))));
         prefixes = so.prefixes;
         stands = so.stands;
         tree = so.tree;
       }
 
--- from the root on these are all
+-- what is taken at and below the root are all pairs, in ascending order of their keys
 pub all_taken : {V D : Type 0} (drains : D → ℕ → V → D → Type 0) (h : ℕ → Node V) → IsTree h → (before : D) (h' : ℕ → Node V) (after : D) → TakesBelow drains h 0 before h' after → (m : Pairs V) → IsMapOf h m → Drained drains before (map.entries m) after
 all_taken drains h t before h' after p m st =
     let d : p.depth ≡ 0 = p.region.depth_is ∙ ap length t.tree.empty in

@@ -14,19 +14,21 @@ use Rattle.congee.specs.declared.protocol.store.Region.{Region}
 use Rattle.congee.specs.owned.Ranges.{in_range}
 use Rattle.congee.specs.protocol.Regions.{IsRegion, span, start_at}
 use Rattle.congee.specs.protocol.Events.{ChangeGives}
-use Rattle.congee.proofs.Laws.{same_key, Graft, old_down, old_leaves, old_up, key_apart, key_length, same_or_not, finds, aside, all_found, get_find, within_keys, byte_low, byte_high, region_top, range_none, range_first, range_all}
+use Rattle.congee.proofs.Laws.{same_key, Graft, old_down, old_leaves, old_up, key_apart, key_length, same_or_not, value_at_linked, walk_aside, all_found, get_find, within_keys, byte_low, byte_high, region_top, range_none, range_first, range_all}
 use Rattle.joint.specs.nodes.Draining.{Takes, AgreesFrom, pairs_from, Drained}
 use Rattle.joint.specs.nodes.Levels.{IsNodeIn}
 use Rattle.joint.specs.nodes.Survey.{NoneStand}
 
 -- a value goes out of the node where it hung
 module _ {V : Type 0} (h : ℕ → Node V) (n b : ℕ) (value : V) (h' : ℕ → Node V) (k : ChangeGives h n b Nothing h') (was : (h n).children b ≡ Holds value) where
+  -- every node has the prefix that it had
   pub same_prefix : (m : ℕ) → (h' m).prefix ≡ (h m).prefix
   same_prefix m = elim (same_or_not m n) [
     | inl e ↦ (let P : ℕ → Type 0 = λ x. (h' x).prefix ≡ (h x).prefix in subst P (sym e) k.prefix)
     | inr ne ↦ ap (λ x. x.prefix) (k.others m ne)
   ]
 
+  -- every node that stood stands
   pub stands_still : (m : ℕ) → Stands (h m) → Stands (h' m)
   stands_still m s = elim (same_or_not m n) [
     | inl e ↦ (let P : ℕ → Type 0 = λ x. Stands (h x) → Stands (h' x) in subst P (sym e) (λ t. record { made = k.made ∙ t.made; kept = k.destroyed ∙ t.kept }) s)
@@ -49,6 +51,7 @@ module _ {V : Type 0} (h : ℕ → Node V) (n b : ℕ) (value : V) (h' : ℕ →
       parents = λ m _ _ _. refl;
     }
 
+    -- the nodes are a tree still, where the value's node is linked in it
     pub still_tree : Tree a h'
     still_tree = record {
       root = t.root;
@@ -63,7 +66,7 @@ module _ {V : Type 0} (h : ℕ → Node V) (n b : ℕ) (value : V) (h' : ℕ →
     others_stand : (key x : List ℕ) → length key ≡ 8 → length x ≡ 8 → fits (h n).prefix key ≡ true → length (h n).prefix ≡ 7 → b ≡ get_or key (length (h n).prefix) 0 → x ≢ key
         → value_at h' x ≡ value_at h x
     others_stand key x lk lx fit seven eb ne =
-        aside a h h' n b t (record { prefix = λ m _. same_prefix m; others = λ m c _ q. ap (λ z. z.children c) (k.others m q); beside = k.beside }) 8 0 x t.root
+        walk_aside a h h' n b t (record { prefix = λ m _. same_prefix m; others = λ m c _ q. ap (λ z. z.children c) (k.others m q); beside = k.beside }) 8 0 x t.root
         (λ fx by. ne (same_key (h n).prefix x key fx fit (omega (arith, lx, seven)) (omega (arith, lk, seven)) (by ∙ eb)))
 
 -- a range without its first keys, which have no pair
@@ -77,7 +80,7 @@ module _ {X : Type 0} (start mid end : ℕ) (order : start ≤ mid) where
         | inr l ↦ grind (arith, nat_tests, l, order, rest)
       ]
 
-  pub range_skip : (m : Pairs X) → ((q : ℕ) → start ≤ q → q < mid → map.get m q ≡ None) → in_range start end (map.entries m) ≡ in_range mid end (map.entries m)
+  range_skip : (m : Pairs X) → ((q : ℕ) → start ≤ q → q < mid → map.get m q ≡ None) → in_range start end (map.entries m) ≡ in_range mid end (map.entries m)
   range_skip m none = skips (map.entries m) (all_found (λ k. (k < start) ⊎ (mid ≤ k)) (map.entries m) (λ k s. elim (cases_lt k start) [
     | inl l ↦ inl l
     | inr l ↦ elim (cases_lt k mid) [
@@ -117,7 +120,7 @@ module _ {V : Type 0} (h : ℕ → Node V) (n : ℕ) (i : IsNodeIn h n) (x : Reg
       omega (arith, lo, hi)
 
   value_is : value_at h (key_bytes key) ≡ Some v
-  value_is = finds i.tree.notes h i.tree.tree n (key_bytes key) (Holds v) i.linked fits_key.1 (ap (λ y. (h n).children y) (sym byte_is) ∙ was)
+  value_is = value_at_linked i.tree.notes h i.tree.tree n (key_bytes key) (Holds v) i.linked fits_key.1 (ap (λ y. (h n).children y) (sym byte_is) ∙ was)
 
   first : (m : Pairs V) → AgreesFrom h key m → IsFirst m key key v
   first m agrees = record {
@@ -140,7 +143,7 @@ module _ {V : Type 0} (h : ℕ → Node V) (n : ℕ) (i : IsNodeIn h n) (x : Reg
       })
 
 module _ {V D : Type 0} (drains : D → ℕ → V → D → Type 0) where
-  -- none stands from one key to before another
+  -- where no pair stands from a key to before another, a drainer that takes nothing took them all
   pub takes_none : (h : ℕ → Node V) (from to : ℕ) (before : D) → from ≤ to → to ≤ 2 ^ 64 → NoneStand h from to → Takes drains h from before h to before
   takes_none h from to before order small none = record {
     rest = λ q lo s. refl;
@@ -149,9 +152,11 @@ module _ {V D : Type 0} (drains : D → ℕ → V → D → Type 0) where
         subst Q (sym (range_skip from to (2 ^ 64) order m (λ q lo hi. agrees q lo (omega (arith, hi, small)) ∙ none q lo hi))) l;
   }
 
+  -- a drainer that took nothing took all pairs from a key to before the same
   pub takes_begin : (h : ℕ → Node V) (from : ℕ) (before : D) → Takes drains h from before h from before
   takes_begin h from before = record { rest = λ q lo s. refl; drained = λ m agrees final l. l }
 
+  -- who took the pairs up to a key and then those from there on took them all
   pub takes_more : (h h1 h2 : ℕ → Node V) (from mid to : ℕ) (before between after : D) → from ≤ mid → mid ≤ to → Takes drains h from before h1 mid between → Takes drains h1 mid between h2 to after
       → Takes drains h from before h2 to after
   takes_more h h1 h2 from mid to before between after l u x y = record {
@@ -159,7 +164,7 @@ module _ {V D : Type 0} (drains : D → ℕ → V → D → Type 0) where
     drained = λ m agrees final d. x.drained m agrees final (y.drained m (λ q lo s. agrees q (omega (arith, lo, l)) s ∙ sym (x.rest q lo s)) final d);
   }
 
-  -- it has all pairs
+  -- who took the pairs from the first key to the last took all of the map
   pub takes_all : (h h' : ℕ → Node V) (before after : D) → Takes drains h 0 before h' (2 ^ 64) after → (m : Pairs V) → IsMapOf h m → Drained drains before (map.entries m) after
   takes_all h h' before after x m st =
       let Q : List (ℕ × V) → Type 0 = λ es. Drained drains before es after in

@@ -15,14 +15,14 @@ use Rattle.congee.specs.declared.forms.base_node.Node.{Node as Form}
 use Rattle.joint.specs.declared.id.Id.{Id}
 use Rattle.joint.specs.declared.nodes.slot.Slot.{Slot}
 use Rattle.joint.specs.nodes.Altering.{Exchanges, MovesTo}
-use Rattle.joint.specs.nodes.Nodes.{Nodes, nodes, with_collector, frame, size, waits, waiting_size, sizes, waiting, waiting_bytes, IsTally, IsKept}
+use Rattle.joint.specs.nodes.Nodes.{Nodes, nodes, with_collector, size, waits, waiting_size, sizes, waiting, waiting_bytes, IsMark, IsKept}
 use Rattle.joint.specs.NameLemmas.{number_named}
 use Rattle.joint.specs.Names.{number, named}
 use Rattle.joint.specs.nodes.Solid.{IsWhole}
 use Rattle.joint.specs.nodes.CellMarks.{mark_at}
 use Rattle.joint.specs.nodes.View.{heap, view, hung_at, count_in, child_in, node_of}
 use Rattle.joint.proofs.lemmas.nodes.Altering.{same_or}
-use Rattle.joint.proofs.lemmas.nodes.NodesInvariant.{some_injective, node_is, node_in, orderly_stored, same_frame}
+use Rattle.joint.proofs.lemmas.nodes.NodesInvariant.{some_injective, node_is, node_in, orderly_stored}
 
 -- an empty node has no children
 bare_view : {P : Type 0} (g : Bool) (v : Option (Slot P)) → (view g v).count ≡ 0 → (b : ℕ) → (view g v).children b ≡ Nothing
@@ -32,7 +32,7 @@ bare_view {P} g (Some s) e b = by s.node e where
   by None e = refl
   by (Some n) e = ap (λ m. hung_at (map.get m b)) (map.empty_of_len (children_of n.value) e) ∙ ap hung_at (map.get-empty nat_cmp b)
 
--- it takes over from itself
+-- where a node may take over from itself, the nodes are as such a take-over gives them
 pub same_gives : {P : Type 0} (F : Nodes P) (m n : ℕ) → m ≡ n → TakesOver (nodes F m) (nodes F n) → TakeOverGives (nodes F) m n (nodes F)
 same_gives F m n q t = subst (λ k. TakeOverGives (nodes F) m k (nodes F)) q (itself (subst (λ k. TakesOver (nodes F m) (nodes F k)) (sym q) t)) where
   itself : TakesOver (nodes F m) (nodes F m) → TakeOverGives (nodes F) m m (nodes F)
@@ -77,6 +77,7 @@ module _ {P : Type 0} (F : Nodes P) (c' : State (Slot P) (Unit {0})) (beside : c
   same_waiting : (s s' : Slot P) → s'.word.retired ≡ s.word.retired → size s' ≡ size s → waiting_size s' ≡ waiting_size s
   same_waiting s s' e z = ap (λ (t : Bool). if t then size s' else 0) e ∙ ap (λ (x : ℕ). if s.word.retired then x else 0) z
 
+  -- the counts are those of the cells where one slot's children went over into another
   pub kept_exchanged : (k : Counts) → IsKept k F → IsKept k (with_collector F c')
   kept_exchanged k kept =
       let e0 : sizes c'.store + size a + size b ≡ sizes st + size a' + size b' = ex.sums size in
@@ -87,10 +88,10 @@ module _ {P : Type 0} (F : Nodes P) (c' : State (Slot P) (Unit {0})) (beside : c
       let z1 = same_waiting a a' mark_old hands.size_old in
       let z2 = same_waiting b b' mark hands.size_is in
       let c : F.charge ≡ F.base + sizes st = kept.charged in
-      let p : IsTally a (mark_at k.cell_marks.items m.cell) = kept.tallied m a ex.was_old in
-      let q : IsTally b (mark_at k.cell_marks.items n.cell) = kept.tallied n b ex.was in
-      let p' : IsTally a' (mark_at k.cell_marks.items m.cell) = record { size_is = hands.size_old ∙ p.size_is; waits_is = mark_old ∙ p.waits_is } in
-      let q' : IsTally b' (mark_at k.cell_marks.items n.cell) = record { size_is = hands.size_is ∙ q.size_is; waits_is = mark ∙ q.waits_is } in
+      let p : IsMark a (mark_at k.cell_marks.items m.cell) = kept.marks_are m a ex.was_old in
+      let q : IsMark b (mark_at k.cell_marks.items n.cell) = kept.marks_are n b ex.was in
+      let p' : IsMark a' (mark_at k.cell_marks.items m.cell) = record { size_is = hands.size_old ∙ p.size_is; waits_is = mark_old ∙ p.waits_is } in
+      let q' : IsMark b' (mark_at k.cell_marks.items n.cell) = record { size_is = hands.size_is ∙ q.size_is; waits_is = mark ∙ q.waits_is } in
       record {
         orderly = orderly_stored F.collector c' beside kept.orderly;
         charged = omega (arith, c, e0, hands.size_old, hands.size_is);
@@ -104,11 +105,11 @@ module _ {P : Type 0} (F : Nodes P) (c' : State (Slot P) (Unit {0})) (beside : c
             | inr nn ↦ kept.whole x s (sym (ex.others x nm nn) ∙ e)
           ]
         ];
-        tallied = λ x s e. elim (same_or x m) [
-          | inl y ↦ (let z : a' ≡ s = some_injective a' s (sym ex.is_old ∙ ap (value_at c'.store) (sym y) ∙ e) in subst (λ (t : Slot P). IsTally t (mark_at k.cell_marks.items x.cell)) z (subst (λ (t : Name). IsTally a' (mark_at k.cell_marks.items t.cell)) (sym y) p'))
+        marks_are = λ x s e. elim (same_or x m) [
+          | inl y ↦ (let z : a' ≡ s = some_injective a' s (sym ex.is_old ∙ ap (value_at c'.store) (sym y) ∙ e) in subst (λ (t : Slot P). IsMark t (mark_at k.cell_marks.items x.cell)) z (subst (λ (t : Name). IsMark a' (mark_at k.cell_marks.items t.cell)) (sym y) p'))
           | inr nm ↦ elim (same_or x n) [
-            | inl y ↦ (let z : b' ≡ s = some_injective b' s (sym ex.is ∙ ap (value_at c'.store) (sym y) ∙ e) in subst (λ (t : Slot P). IsTally t (mark_at k.cell_marks.items x.cell)) z (subst (λ (t : Name). IsTally b' (mark_at k.cell_marks.items t.cell)) (sym y) q'))
-            | inr nn ↦ kept.tallied x s (sym (ex.others x nm nn) ∙ e)
+            | inl y ↦ (let z : b' ≡ s = some_injective b' s (sym ex.is ∙ ap (value_at c'.store) (sym y) ∙ e) in subst (λ (t : Slot P). IsMark t (mark_at k.cell_marks.items x.cell)) z (subst (λ (t : Name). IsMark b' (mark_at k.cell_marks.items t.cell)) (sym y) q'))
+            | inr nn ↦ kept.marks_are x s (sym (ex.others x nm nn) ∙ e)
           ]
         ];
         wide = kept.wide ∙ sym ex.wide;
@@ -121,9 +122,7 @@ module _ {P : Type 0} (F : Nodes P) (c' : State (Slot P) (Unit {0})) (beside : c
       }
 
   module _ (G : Nodes P) (view_is : F ≡ G) where
-    pub frame_exchanged : frame (with_collector F c') ≡ frame G
-    frame_exchanged = same_frame F c' beside ex.most ex.turn_max ∙ ap frame view_is
-
+    -- the nodes then are those that a take-over of the first node's children by the second gives
     pub gives_exchanged : TakeOverGives (nodes G) (number m) (number n) (heap c'.store)
     gives_exchanged =
         let oa : nodes G (number m) ≡ node_of a = node_in F G view_is m a ex.was_old in

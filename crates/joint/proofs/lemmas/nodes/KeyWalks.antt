@@ -15,14 +15,15 @@ use Rattle.congee.specs.Heap.{Node, Nothing, Below}
 use Rattle.congee.specs.Keys.{IsMapOf}
 use Rattle.congee.specs.Notes.{Note, Tree}
 use Rattle.congee.specs.protocol.Regions.{IsRegion, span, start_at}
-use Rattle.congee.specs.protocol.Sweeps.{Lacked}
-use Rattle.congee.specs.protocol.SweepKnown.{end_of}
-use Rattle.congee.proofs.Laws.{whole, start_mono, span_pos, region_top, child_after, child_before, lacks_bytes, lacks_beside, has_value}
+use Rattle.congee.specs.protocol.Scans.{Lacked}
+use Rattle.congee.specs.protocol.ScanKnown.{end_of}
+use Rattle.congee.proofs.Laws.{start_at_end, start_mono, span_pos, child_after, child_before, lacks_bytes, lacks_beside, has_value}
 use Rattle.joint.specs.declared.id.Id.{Id}
 use Rattle.joint.specs.declared.nodes.slot.LockWord.{LockWord}
 use Rattle.joint.specs.nodes.Levels.{IsNodeIn}
 use Rattle.joint.specs.nodes.Survey.{IsTree, AllAbove, Ascend, Has, AreKeys, AreKeysBelow, PutsKeys}
 use Rattle.joint.specs.nodes.View.{id_number, hung_at, shape}
+use Rattle.joint.proofs.lemmas.nodes.Surveying.{within}
 
 is_none : {V : Type 0} (o : Option V) → o ≡ None → IsSome o → ⊥
 is_none {V} o e s = let z : IsSome {T = V} None = subst IsSome e s in cc z
@@ -88,6 +89,7 @@ module _ {V : Type 0} (m : Pairs V) where
   lacks k (inl e) = e
   lacks k (inr x) = absurd x
 
+  -- the keys below 2 ^ 64 are all keys of the map
   pub keys_all : (h : ℕ → Node V) → IsMapOf h m → (ks : List ℕ) → AreKeysBelow m (2 ^ 64) ks → AreKeys m ks
   keys_all h st ks a = record {
     ascend = a.ascend;
@@ -116,26 +118,12 @@ module _ {V : Type 0} (h : ℕ → Node V) (n : ℕ) (i : IsNodeIn h n) (x : Reg
   abbrev at : ℕ → ℕ
   at b = start_at x.base x.depth b
 
-  within : (b k : ℕ) → b ≤ 256 → x.base ≤ k → k < at b → (k < 2 ^ 64) × (k < x.base + span x.depth)
-  within b k small lo hi =
-      let up = start_mono (h n).prefix x.base x.depth r b 256 small in
-      let e = whole (h n).prefix x.base x.depth r in
-      let top = region_top (h n).prefix x.base x.depth r in
-      (omega (arith, hi, up, e, top), omega (arith, hi, up, e))
-
   -- bytes at which nothing hangs
   past : (m : Pairs V) → IsMapOf h m → (from b : ℕ) (ks : List ℕ) → from ≤ b → b ≤ 256 → ((q : ℕ) → from ≤ q → q < b → (h n).children q ≡ Nothing) → AreKeysBelow m (at from) ks → AreKeysBelow m (at b) ks
   past m st from b ks l small none k =
       gap m (at from) (at b) ks (start_mono (h n).prefix x.base x.depth r from b l) (λ q lo hi.
-      let w = within b q small (omega (arith, lo)) hi in
+      let w = within h n i x r b q small hi in
       lacks m q (lacks_bytes a h t m st [] n x.base x.depth i.linked r from b q w.0 (omega (arith, lo)) w.1 lo hi none)) k
-
-  pub starts : (old : List ℕ) → PutSoFar h n x 0 old old
-  starts old = record {
-    bound = omega arith;
-    region = r;
-    keys = λ m st k. (let e : x.base ≡ at 0 = omega arith in let P : ℕ → Type 0 = λ b. AreKeysBelow m b old in subst P e k);
-  }
 
   module _ (y : Form Id V) (w : LockWord) (e : shape y w ≡ h n) where
     hangs : (b : ℕ) (o : Option (Child Id V)) → get (children_of y) b ≡ o → (h n).children b ≡ hung_at o
@@ -148,7 +136,7 @@ module _ {V : Type 0} (h : ℕ → Node V) (n : ℕ) (i : IsNodeIn h n) (x : Reg
       before : (q : ℕ) → from ≤ q → q < b → (h n).children q ≡ Nothing
       before q lo hi = hangs q None (first.before q lo hi)
 
-      -- the node at the byte
+      -- the node at the byte is in the tree, and has a longer prefix, of 7 bytes at most
       pub below_in : (c : Id) → child ≡ Sub c → IsNodeIn h (id_number c) × (length (h n).prefix < length (h (id_number c)).prefix) × (length (h (id_number c)).prefix ≤ 7)
       below_in c is =
           let d = t.down n b (id_number c) i.linked (here ∙ ap (λ z. hung_at (Some z)) is) in
@@ -158,6 +146,7 @@ module _ {V : Type 0} (h : ℕ → Node V) (n : ℕ) (i : IsNodeIn h n) (x : Reg
         upto : (m : Pairs V) → IsMapOf h m → AreKeysBelow m x.base old → AreKeysBelow m (at b) mid
         upto m st k = past m st from b mid first.past (omega (arith, small)) before (so.keys m st k)
 
+        -- once the keys below the child at a byte are put, so are all before the next byte
         pub put_below : (c : Id) (new : List ℕ) → child ≡ Sub c → PutsKeys h (id_number c) mid new → PutSoFar h n x (b + 1) old new
         put_below c new is p =
             let hung : (h n).children b ≡ Below (id_number c) = here ∙ ap (λ z. hung_at (Some z)) is in
@@ -170,12 +159,12 @@ module _ {V : Type 0} (h : ℕ → Node V) (n : ℕ) (i : IsNodeIn h n) (x : Reg
               region = r;
               keys = λ m st k.
                   let beside : (q : ℕ) → at b ≤ q → q < at (b + 1) → (q < z.base) ⊎ (end_of z ≤ q) → get m q ≡ None =
-                  (λ q f g ne. lacks m q (lacks_beside a h t m st [] n x.base x.depth i.linked r b (id_number c) z small hung p.region q (within (b + 1) q (omega (arith, small)) (omega (arith, f)) g).0 f g ne)) in
+                  (λ q f g ne. lacks m q (lacks_beside a h t m st [] n x.base x.depth i.linked r b (id_number c) z small hung p.region q (within h n i x r (b + 1) q (omega (arith, small)) g).0 f g ne)) in
                   let first_part : AreKeysBelow m z.base mid = gap m (at b) z.base mid lo (λ q f g. beside q f (omega (arith, g, hi, pos)) (inl g)) (upto m st k) in
                   gap m (end_of z) (at (b + 1)) new hi (λ q f g. beside q (omega (arith, f, lo)) g (inr f)) (p.keys m st first_part);
             }
 
-        -- a value at the byte
+        -- once the key of the value at the byte is put, so are all before the next byte
         pub put_key : (v : V) (key : ℕ) → child ≡ Value v → key ≡ at b → PutSoFar h n x (b + 1) old (mid ++ key ∷ [])
         put_key v key is ek = record {
           bound = omega (arith, small);
@@ -194,6 +183,7 @@ module _ {V : Type 0} (h : ℕ → Node V) (n : ℕ) (i : IsNodeIn h n) (x : Reg
               subst R next (one_more m key mid (subst Q ks some) (subst P (sym ek) (upto m st k)));
         }
 
+        -- with a blank at a byte, what was put before it is all before the next byte
         pub put_none : child ≡ Blank → PutSoFar h n x (b + 1) old mid
         put_none is = record {
           bound = omega (arith, small);
@@ -204,17 +194,18 @@ module _ {V : Type 0} (h : ℕ → Node V) (n : ℕ) (i : IsNodeIn h n) (x : Reg
               subst P q_is (here ∙ ap (λ z. hung_at (Some z)) is)) (upto m st k);
         }
 
-    pub ended : (from : ℕ) (old new : List ℕ) → PutSoFar h n x from old new → ((b : ℕ) → from ≤ b → get (children_of y) b ≡ None) → PutsKeys h n old new
-    ended from old new so none = record {
+    -- where no child is left, the keys at and below the node are put
+    pub keys_put : (from : ℕ) (old new : List ℕ) → PutSoFar h n x from old new → ((b : ℕ) → from ≤ b → get (children_of y) b ≡ None) → PutsKeys h n old new
+    keys_put from old new so none = record {
       base = x.base;
       depth = x.depth;
       region = r;
       keys = λ m st k.
           let P : ℕ → Type 0 = λ b. AreKeysBelow m b new in
-          subst P (whole (h n).prefix x.base x.depth r) (past m st from 256 new so.bound (omega arith) (λ q lo hi. hangs q None (none q lo)) (so.keys m st k));
+          subst P (start_at_end (h n).prefix x.base x.depth r) (past m st from 256 new so.bound (omega arith) (λ q lo hi. hangs q None (none q lo)) (so.keys m st k));
     }
 
--- from the root on these are all
+-- what is put at and below the root are all keys below 2 ^ 64
 pub all_put : {V : Type 0} (h : ℕ → Node V) → IsTree h → (ks : List ℕ) → PutsKeys h 0 [] ks → (m : Pairs V) → IsMapOf h m → AreKeysBelow m (2 ^ 64) ks
 all_put h t ks p m st =
     let d : p.depth ≡ 0 = p.region.depth_is ∙ ap length t.tree.empty in

@@ -9,7 +9,7 @@ use Rattle.std.proofs.lemmas.Bool.Decides.{nat_tests}
 use Rattle.std.proofs.lemmas.List.{length-map}
 use Rattle.judge.specs.Answer.{Pairs}
 use Rattle.joint.specs.nodes.Survey.{AllAbove, Ascend, Has, AreKeys, keys_of}
-use Rattle.joint.proofs.lemmas.nodes.SlotViews.{true_of_T, less_of_cmp}
+use Rattle.congee.proofs.Laws.{true_of_T, less_of_cmp}
 
 both : (a b : Bool) → T (a && b) → T a × T b
 both true b t = (tt, t)
@@ -69,6 +69,7 @@ same (x ∷ xs) (y ∷ ys) a b f g =
     λ i. e i ∷ rest i
 
 module _ {V : Type 0} (m : Pairs V) (ks : List ℕ) (a : AreKeys m ks) where
+  -- an ascending list of all keys of a map, and no other, is the list of its keys
   pub keys_are : ks ≡ keys_of m
   keys_are = same ks (keys_of m) a.ascend (ascends (entries m) (entries_sorted m))
       (λ k x. (has_found k (entries m)).1 (subst IsSome (get-entries m k) ((a.each k).0 x)))

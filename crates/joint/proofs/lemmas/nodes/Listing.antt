@@ -16,7 +16,7 @@ use Rattle.joint.specs.nodes.Listing.{last_name, last_names, nodes_that, bytes_o
 use Rattle.joint.specs.NameLemmas.{named_number, number_named, same_name}
 use Rattle.joint.specs.Names.{number, named}
 use Rattle.joint.specs.nodes.View.{view}
-use Rattle.joint.proofs.lemmas.nodes.Altering.{cell_of, inside}
+use Rattle.joint.proofs.lemmas.nodes.Altering.{cell_of, cell_inside}
 use Rattle.joint.proofs.lemmas.nodes.NodesInvariant.{node_here}
 
 module _ {X : Type 0} where
@@ -38,9 +38,11 @@ module _ {X : Type 0} where
   pub passes : (p : X → Bool) (xs : List X) (x : X) → Contains xs x → p x ≡ true → Contains (filter p xs) x
   passes p xs x c t = passes_at p xs c.0 x c.1 c.2 t
 
+  -- what a filter leaves passes its test
   pub passed : (p : X → Bool) (xs : List X) (x : X) → Contains (filter p xs) x → p x ≡ true
   passed p xs x c = All-contains (λ y. p y ≡ true) (filter p xs) x (filter_passes p xs) c
 
+  -- a relation of all pairs of two lists, and of each of the one with each of the other, is one of both joined
   pub pairs_append : (R : X → X → Type 0) (xs ys : List X) → AllPairs R xs → AllPairs R ys → ((x y : X) → Contains xs x → Contains ys y → R x y) → AllPairs R (xs ++ ys)
   pairs_append R [] ys a b c = b
   pairs_append R (x ∷ xs) ys a b c =
@@ -51,6 +53,7 @@ module _ {X : Type 0} where
 
 -- what a function gives of the elements, some of each
 module _ {X Y : Type 0} (h : X → List Y) where
+  -- what the function gives of one element is in the list of what it gives of all
   pub gives : (xs : List X) (i : ℕ) (x : X) (y : Y) → slice_get xs i ≡ Some x → Contains (h x) y → Contains (flat_map h xs) y
   gives [] zero x y at c = absurd (cc at)
   gives [] (suc i) x y at c = absurd (cc at)
@@ -62,6 +65,7 @@ module _ {X Y : Type 0} (h : X → List Y) where
   abbrev Given : List X → Y → Type 0
   Given xs y = (i : ℕ) × (x : X) × (slice_get xs i ≡ Some x) × Contains (h x) y
 
+  -- what is in the list of what it gives of all is given by one element
   pub given : (xs : List X) (y : Y) → Contains (flat_map h xs) y → Given xs y
   given [] y c = absurd (let bad : c.0 < 0 = c.1 in omega (arith, bad))
   given (z ∷ zs) y c = elim (Contains-append_cases (h z) (flat_map h zs) y c) [
@@ -77,6 +81,7 @@ module _ {X Y : Type 0} (h : X → List Y) where
   abbrev pub EachOnce : List X → Type 0
   EachOnce xs = (i : ℕ) (x : X) → slice_get xs i ≡ Some x → AllPairs (λ m n. m ≢ n) (h x)
 
+  -- where no two elements give the same and none gives anything twice, the list has nothing twice
   pub once : (xs : List X) → GivesOnce xs → EachOnce xs → AllPairs (λ m n. m ≢ n) (flat_map h xs)
   once [] u v = λ i j d l m. absurd (let z : j < 0 = m in omega (arith, z))
   once (z ∷ zs) u v = pairs_append (λ m n. m ≢ n) (h z) (flat_map h zs) (v 0 z refl)
@@ -91,6 +96,7 @@ sum_cond g false x xs = omega arith
 
 -- the last names of the cells
 module _ {T : Type 0} where
+  -- there is one last name for each cell
   pub long : (i : ℕ) (cs : List (Cell T)) → length (last_names i cs) ≡ length cs
   long i [] = refl
   long i (c ∷ cs) = ap suc (long (suc i) cs)
@@ -103,7 +109,7 @@ module _ {T : Type 0} where
       at_place (suc i) cs j d (let m : suc j < suc (length cs) = l in omega (arith, m)) ∙ ap (λ k. last_name k (get_or cs j fresh)) z
 
   -- no name twice
-  pub names_once : (cs : List (Cell T)) → AllPairs (λ m n. m ≢ n) (last_names 0 cs)
+  names_once : (cs : List (Cell T)) → AllPairs (λ m n. m ≢ n) (last_names 0 cs)
   names_once cs i j d l m e =
       let n : length (last_names 0 cs) ≡ length cs = long 0 cs in
       let a : get_or (last_names 0 cs) i d ≡ last_name (0 + i) (get_or cs i fresh) = at_place 0 cs i d (omega (arith, l, m, n)) in
@@ -113,9 +119,9 @@ module _ {T : Type 0} where
       omega (arith, l, z)
 
   -- what stands, stands under a last name
-  pub stands_last : (st : Store T) (n : Name) (v : T) → value_at st n ≡ Some v → Contains (last_names 0 st.cells) (number n)
+  stands_last : (st : Store T) (n : Name) (v : T) → value_at st n ≡ Some v → Contains (last_names 0 st.cells) (number n)
   stands_last st n v e =
-      let at : n.cell < length st.cells = inside st n v e in
+      let at : n.cell < length st.cells = cell_inside st n v e in
       let l : length (last_names 0 st.cells) ≡ length st.cells = long 0 st.cells in
       let t : (cell_at st n.cell).turns ≡ n.turn + 1 = (cell_of (cell_at st n.cell) n.turn v e).0 in
       let z : 0 + n.cell ≡ n.cell = omega arith in
@@ -136,7 +142,7 @@ module _ {T : Type 0} where
       let b = sum_by-cons w c cs in
       omega (arith, here, rest, a, b)
 
-  pub last_value : (st : Store T) (i : ℕ) → 1 ≤ (cell_at st i).turns → value_at st (record { cell = i; turn = (cell_at st i).turns - 1 }) ≡ (cell_at st i).value
+  last_value : (st : Store T) (i : ℕ) → 1 ≤ (cell_at st i).turns → value_at st (record { cell = i; turn = (cell_at st i).turns - 1 }) ≡ (cell_at st i).value
   last_value st i l =
       let e : ((cell_at st i).turns == (cell_at st i).turns - 1 + 1) ≡ true = (let q : (cell_at st i).turns ≡ (cell_at st i).turns - 1 + 1 = omega (arith, l) in grind (arith, nat_tests, q)) in
       ap (λ b. cond b (cell_at st i).value None) e
@@ -166,7 +172,7 @@ module _ {P : Type 0} (test : Node P → Bool) (q : Slot P → Bool) (none : (g 
   weigh g f n None e gf = ap (λ b. cond b (g (number n)) 0) (tested n ∙ ap (λ v. test (view (was_given st n) v)) e ∙ none (was_given st n))
   weigh g f n (Some v) e gf = ap (λ b. cond b (g (number n)) 0) (tested n ∙ ap (λ x. test (view (was_given st n) x)) e ∙ some (was_given st n) v) ∙ ap (λ k. cond (q v) k 0) (gf v e)
 
-  pub summed : ((i : ℕ) → i < length st.cells → 1 ≤ (cell_at st i).turns) → (g : ℕ → ℕ) (f : Slot P → ℕ) → ((n : Name) (v : Slot P) → value_at st n ≡ Some v → g (number n) ≡ f v)
+  summed : ((i : ℕ) → i < length st.cells → 1 ≤ (cell_at st i).turns) → (g : ℕ → ℕ) (f : Slot P → ℕ) → ((n : Name) (v : Slot P) → value_at st n ≡ Some v → g (number n) ≡ f v)
       → sum_by g (nodes_that test F) ≡ total (λ v. cond (q v) (f v) 0) st
   summed used g f gf = sum_kept node_test g (of_cell (λ v. cond (q v) (f v) 0)) 0 st.cells (λ j l.
       let z : 0 + j ≡ j = omega arith in
@@ -174,12 +180,15 @@ module _ {P : Type 0} (test : Node P → Bool) (q : Slot P → Bool) (none : (g 
       let here = weigh g f n (cell_at st j).value (last_value st j (used j l)) (λ v. gf n v) in
       subst (λ k. cond (node_test (last_name k (cell_at st j))) (g (last_name k (cell_at st j))) 0 ≡ of_cell (λ v. cond (q v) (f v) 0) (cell_at st j)) (sym z) here)
 
+  -- so many nodes pass as slots in the cells do
   pub counted_nodes : ((i : ℕ) → i < length st.cells → 1 ≤ (cell_at st i).turns) → length (nodes_that test F) ≡ total (λ v. cond (q v) 1 0) st
   counted_nodes used = ones (nodes_that test F) ∙ summed used (λ n. 1) (λ v. 1) (λ n v e. refl)
 
+  -- the nodes that pass are charged as many bytes as the slots that do
   pub weighed_nodes : ((i : ℕ) → i < length st.cells → 1 ≤ (cell_at st i).turns) → sum_by (bytes_of F) (nodes_that test F) ≡ total (λ v. cond (q v) (size v) 0) st
   weighed_nodes used = summed used (bytes_of F) size (bytes_are F)
 
+  -- no node that passes is listed twice
   pub nodes_once : AllPairs (λ m n. m ≢ n) (nodes_that test F)
   nodes_once = AllPairs-filter (λ m n. m ≢ n) node_test (last_names 0 st.cells) (names_once st.cells)
 
@@ -191,5 +200,6 @@ module _ {P : Type 0} (test : Node P → Bool) (q : Slot P → Bool) (none : (g 
       go None e = absurd (let b : false ≡ true = sym (ap (λ v. test (view (was_given st (named n)) v)) e ∙ none (was_given st (named n))) ∙ t in cc b)
       go (Some v) e = subst (λ (k : ℕ). Contains (last_names 0 st.cells) k) (number_named n) (stands_last st (named n) v e)
 
+  -- each node that is listed passes
   pub unlisted : (n : ℕ) → Contains (nodes_that test F) n → test (nodes F n) ≡ true
   unlisted n c = passed node_test (last_names 0 st.cells) n c

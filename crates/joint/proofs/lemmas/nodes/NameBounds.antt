@@ -50,5 +50,6 @@ module _ {P : Type 0} (F : Nodes P) (k : Counts) (kept : IsKept k F) where
   made_given n false None e f m = absurd (cc m)
   made_given n false (Some s) e f m = given st n s f
 
+  -- the number of a node that was made is below 2 ^ 64 - 1
   pub number_few : (n : ℕ) → (nodes F n).made ≡ true → n < 2 ^ 64 - 1
   number_few n m = subst (λ x. x < 2 ^ 64 - 1) (number_named n) (given_small (named n) (made_given (named n) (was_given st (named n)) (value_at st (named n)) refl refl m))

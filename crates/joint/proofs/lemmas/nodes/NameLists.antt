@@ -19,13 +19,13 @@ drop_next {P} (x ∷ es) zero e q = let z : x ≡ e = ap (from x) q in ap (λ y.
 drop_next {P} (x ∷ es) (suc k) e q = (let z : suc k + 1 ≡ suc (k + 1) = omega arith in drop_next es k e q ∙ ap (λ j. and_name e.1 (names_in (drop j (x ∷ es)))) (sym z))
 
 -- past the last child there are no names
-pub drop_end : {P : Type 0} (es : List (ℕ × Child Id P)) (k : ℕ) → length es ≤ k → names_in (drop k es) ≡ []
+drop_end : {P : Type 0} (es : List (ℕ × Child Id P)) (k : ℕ) → length es ≤ k → names_in (drop k es) ≡ []
 drop_end [] zero l = refl
 drop_end [] (suc k) l = refl
 drop_end (x ∷ es) zero l = absurd (omega (arith, l))
 drop_end (x ∷ es) (suc k) l = drop_end es k (omega (arith, l))
 
--- the first name from a child on
+-- the first name from a child on that is a node is its own
 pub name_here : {P : Type 0} (es : List (ℕ × Child Id P)) (k left b : ℕ) (c : Child Id P) (id : Id) (r : Option Name) → Some (b, c) ≡ slice_get es k → c ≡ Sub id → left ≡ 0
     → slice_get (names_in (drop k es)) left ≡ r → Some id.name ≡ r
 name_here es k left b c id r q e z v =

@@ -13,7 +13,7 @@ use Rattle.joint.specs.declared.id.Id.{Id}
 use Rattle.joint.specs.declared.nodes.slot.Slot.{Slot}
 use Rattle.joint.specs.declared.nodes.counts.Counts.{Counts}
 use Rattle.joint.specs.nodes.Altering.{Alters, Hangs, Pulls}
-use Rattle.joint.specs.nodes.Nodes.{Nodes, nodes, with_collector, frame, size, waits, waiting_size, sizes, waiting, waiting_bytes, IsTally, IsKept}
+use Rattle.joint.specs.nodes.Nodes.{Nodes, nodes, with_collector, frame, size, waits, waiting_size, sizes, waiting, waiting_bytes, IsMark, IsKept}
 use Rattle.joint.specs.NameLemmas.{number_named, named_number}
 use Rattle.joint.specs.Names.{number, named}
 use Rattle.joint.specs.nodes.Solid.{IsWhole}
@@ -21,18 +21,16 @@ use Rattle.joint.specs.nodes.CellMarks.{mark_at}
 use Rattle.joint.specs.nodes.View.{heap, view, node_of, id_number, out}
 use Rattle.joint.proofs.lemmas.nodes.Altering.{same_or, swapped, ReplacedSets}
 
-from : {A : Type 0} → A → Option A → A
-from d None = d
-from d (Some y) = y
-
 -- two values are the same where the options with them are
 pub some_injective : {A : Type 0} (x y : A) → Some x ≡ Some y → x ≡ y
 some_injective x y e = cc
 
 module _ {P : Type 0} (st : Store (Slot P)) (n : Name) where
+  -- the node of a name's number is read off what was given and what stands under that name
   pub node_here : heap st (number n) ≡ view (was_given st n) (value_at st n)
   node_here = ap (λ x. view (was_given st x) (value_at st x)) (named_number n)
 
+  -- the node of a name under which a slot stands is that slot's
   pub node_is : (s : Slot P) → value_at st n ≡ Some s → heap st (number n) ≡ node_of s
   node_is s e = node_here ∙ ap (λ v. view (was_given st n) v) e
 
@@ -46,28 +44,24 @@ module _ {P : Type 0} (st : Store (Slot P)) (n : Name) where
   is_there x = stands_in (was_given st n) (value_at st n) (subst Stands node_here x)
 
 module _ {P : Type 0} (st : Store (Slot P)) (n : Name) (s s' : Slot P) (st' : Store (Slot P)) (alters : Alters st n s s' st') where
-  pub node_old : heap st (number n) ≡ node_of s
-  node_old = node_is st n s alters.was
-
-  pub node_new : heap st' (number n) ≡ node_of s'
+  node_new : heap st' (number n) ≡ node_of s'
   node_new = node_is st' n s' alters.sets.value
 
-  pub nodes_apart : (k : ℕ) → k ≢ number n → heap st' k ≡ heap st k
+  nodes_apart : (k : ℕ) → k ≢ number n → heap st' k ≡ heap st k
   nodes_apart k ne =
       let apart : named k ≢ n = λ e. ne (sym (number_named k) ∙ ap number e) in
       ap (λ g. view g (value_at st' (named k))) (alters.sets.given (named k) apart) ∙ ap (λ v. view (was_given st (named k)) v) (alters.sets.others (named k) apart)
-
-  pub node_altered : SameBut (heap st) (number n) (node_of s') (heap st')
-  node_altered = record { after = node_new; others = nodes_apart }
 
 -- a collector stays orderly where its cells alone change
 pub orderly_stored : {P : Type 0} (s c' : State (Slot P) (Unit {0})) → c' ≡ with_store s c'.store → Orderly s → Orderly c'
 orderly_stored s c' beside o = let x : Orderly (with_store s c'.store) = record { hands = o.hands; bags = o.bags; held = o.held; sealed = o.sealed } in subst Orderly (sym beside) x
 
 module _ {P : Type 0} (F : Nodes P) (c' : State (Slot P) (Unit {0})) (beside : c' ≡ with_store F.collector c'.store) where
+  -- a collector of which the cells alone changed is orderly where it was
   pub orderly_beside : Orderly F.collector → Orderly c'
   orderly_beside o = orderly_stored F.collector c' beside o
 
+  -- with as many cells and turns at most, all but the cells and the charge is as it was
   pub same_frame : c'.store.most ≡ F.collector.store.most → c'.store.turn_max ≡ F.collector.store.turn_max → frame (with_collector F c') ≡ frame F
   same_frame m t =
       let G : State (Slot P) (Unit {0}) → Nodes P = λ c. frame (with_collector F (with_store c c'.store)) in
@@ -76,8 +70,8 @@ module _ {P : Type 0} (F : Nodes P) (c' : State (Slot P) (Unit {0})) (beside : c
       ∙ ap (λ x. frame (with_collector F (with_store F.collector (record F.collector.store { turn_max = x })))) t
 
   module _ (n : Name) (s s' : Slot P) (alters : Alters F.collector.store n s s' c'.store) (k : Counts) (kept : IsKept k F) where
-    -- where its size and its mark are as before
-    pub kept_altered : size s' ≡ size s → s'.word.retired ≡ s.word.retired → IsWhole s'.node → IsKept k (with_collector F c')
+    -- where its size and its mark are as before, the counts are those of the cells
+    kept_altered : size s' ≡ size s → s'.word.retired ≡ s.word.retired → IsWhole s'.node → IsKept k (with_collector F c')
     kept_altered sz mark whole =
         let e0 : sizes c'.store + size s ≡ sizes F.collector.store + size s' = alters.sums size in
         let e1 : waiting c'.store + waits s ≡ waiting F.collector.store + waits s' = alters.sums waits in
@@ -94,13 +88,13 @@ module _ {P : Type 0} (F : Nodes P) (c' : State (Slot P) (Unit {0})) (beside : c
             | inl q ↦ (let z : s' ≡ x = some_injective s' x (sym alters.sets.value ∙ ap (value_at c'.store) (sym q) ∙ e) in subst (λ (y : Slot P). IsWhole y.node) z whole)
             | inr ne ↦ kept.whole m x (sym (alters.sets.others m ne) ∙ e)
           ];
-          tallied = λ m x e. elim (same_or m n) [
+          marks_are = λ m x e. elim (same_or m n) [
             | inl q ↦ (
                 let z : s' ≡ x = some_injective s' x (sym alters.sets.value ∙ ap (value_at c'.store) (sym q) ∙ e) in
-                let T : IsTally s (mark_at k.cell_marks.items n.cell) = kept.tallied n s alters.was in
-                let U : IsTally s' (mark_at k.cell_marks.items n.cell) = record { size_is = sz ∙ T.size_is; waits_is = mark ∙ T.waits_is } in
-                subst (λ (y : Slot P). IsTally y (mark_at k.cell_marks.items m.cell)) z (subst (λ (y : Name). IsTally s' (mark_at k.cell_marks.items y.cell)) (sym q) U))
-            | inr ne ↦ kept.tallied m x (sym (alters.sets.others m ne) ∙ e)
+                let T : IsMark s (mark_at k.cell_marks.items n.cell) = kept.marks_are n s alters.was in
+                let U : IsMark s' (mark_at k.cell_marks.items n.cell) = record { size_is = sz ∙ T.size_is; waits_is = mark ∙ T.waits_is } in
+                subst (λ (y : Slot P). IsMark y (mark_at k.cell_marks.items m.cell)) z (subst (λ (y : Name). IsMark s' (mark_at k.cell_marks.items y.cell)) (sym q) U))
+            | inr ne ↦ kept.marks_are m x (sym (alters.sets.others m ne) ∙ e)
           ];
           wide = kept.wide ∙ sym alters.wide;
           bounded = (let p = kept.bounded in omega (arith, p, alters.wide, alters.most));
@@ -113,9 +107,11 @@ module _ {P : Type 0} (F : Nodes P) (c' : State (Slot P) (Unit {0})) (beside : c
 
 -- in the words of a function's clauses, whose fields are seen as a forest
 module _ {P : Type 0} (F G : Nodes P) (view_is : F ≡ G) (n : Name) where
+  -- a node that stands in the forest has a slot in the cells
   pub there_in : Stands (nodes G (number n)) → is_some (value_at F.collector.store n) ≡ true
   there_in s = is_there F.collector.store n (subst (λ x. Stands (nodes x (number n))) (sym view_is) s)
 
+  -- the node of a name in the forest is that of the slot under it in the cells
   pub node_in : (s : Slot P) → value_at F.collector.store n ≡ Some s → nodes G (number n) ≡ node_of s
   node_in s e = ap (λ x. nodes x (number n)) (sym view_is) ∙ node_is F.collector.store n s e
 
@@ -125,12 +121,15 @@ module _ {P : Type 0} (F G : Nodes P) (view_is : F ≡ G) (n : Name) where
     beside : c' ≡ with_store F.collector c'.store
     beside = rw (back, away)
 
+    -- the slot under the name is another, and no other value is
     pub altered_in : Alters F.collector.store n s s' c'.store
     altered_in = rw (back, away) (swapped law F.collector.store n s out s' was)
 
+    -- the collector is orderly where it was
     pub orderly_in : Orderly F.collector → Orderly c'
     orderly_in = orderly_stored F.collector c' beside
 
+    -- all but the cells and the charge is as it was
     pub frame_in : frame (with_collector F c') ≡ frame G
     frame_in = same_frame F c' beside altered_in.most altered_in.turn_max ∙ ap frame view_is
 
@@ -140,16 +139,17 @@ module _ {P : Type 0} (F G : Nodes P) (view_is : F ≡ G) (n : Name) where
     after_in : nodes (with_collector F c') (number n) ≡ node_of s'
     after_in = node_new F.collector.store n s s' c'.store altered_in
 
-    -- the node is told by the one before
+    -- where the slot's node is told by the one before, so is the node in the forest, and no other changes
     pub same_in : (f : Node P → Node P) → node_of s' ≡ f (node_of s) → SameBut (nodes G) (number n) (f (nodes G (number n))) (nodes (with_collector F c'))
     same_in f e = record { after = after_in ∙ e ∙ ap f (sym (node_in s was)); others = others_in }
 
-    -- where its size and its mark are as before
+    -- where its size and its mark are as before, the counts are those of the cells
     pub kept_in : (k : Counts) → IsKept k F → size s' ≡ size s → s'.word.retired ≡ s.word.retired → IsWhole s'.node → IsKept k (with_collector F c')
     kept_in = kept_altered F c' beside n s s' altered_in
 
     -- another child
     module _ (b : ℕ) (x : Child Id P) (hangs : Hangs s b x s') where
+      -- the nodes then are those that a change of that child at that byte gives
       pub changed_in : ChangeGives (nodes G) (number n) b (hung id_number x) (nodes (with_collector F c'))
       changed_in =
           let new : nodes (with_collector F c') (number n) ≡ node_of s' = after_in in
@@ -174,16 +174,20 @@ module _ {P : Type 0} (F G : Nodes P) (view_is : F ≡ G) (n : Name) where
             others = others_in;
           }
 
+      -- with the other child, the counts are those of the cells still
       pub kept_changed : (k : Counts) → IsKept k F → IsKept k (with_collector F c')
       kept_changed k kept = kept_in k kept hangs.size_is (ap (λ y. y.retired) hangs.word) hangs.whole
 
     -- a value goes out
     module _ (b : ℕ) (value : P) (pulls : Pulls s b value s') where
+      -- the node holds the value at the byte before
       pub value_in : (nodes G (number n)).children b ≡ Holds value
       value_in = ap (λ y. y.children b) (node_in s was) ∙ pulls.was
 
+      -- the nodes then are those with nothing at that byte
       pub pulled_in : ChangeGives (nodes G) (number n) b Nothing (nodes (with_collector F c'))
       pulled_in = changed_in b Blank pulls.hangs
 
+      -- without the value, the counts are those of the cells still
       pub kept_pulled : (k : Counts) → IsKept k F → IsKept k (with_collector F c')
       kept_pulled = kept_changed b Blank pulls.hangs

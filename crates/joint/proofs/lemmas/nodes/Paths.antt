@@ -31,6 +31,7 @@ module _ {T V : Type 0} (names : T → List Name) (st : Store T) (h : ℕ → No
       let P : List Ptr → Type 0 = λ xs. Contains xs (record { name = Some top; tag = 0 }) in
       from_root (record { name = Some top; tag = 0 }) top (subst P (sym r.only) (0, omega arith, refl)) refl
 
+  -- the node of a name that is in reach of the roots is in the tree
   pub in_tree : {n : Name} → InReach roots (links_of names st) n → InTree h (number n)
   in_tree (from_root p n is e) =
       let P : List Ptr → Type 0 = λ xs. Contains xs p in
@@ -49,5 +50,6 @@ module _ {T V : Type 0} (names : T → List Name) (st : Store T) (h : ℕ → No
       let P : ℕ → Type 0 = λ k. Leads h k path (number n) in
       reached path x.0 n (from_cell c x.0 is x.1) (subst P (sym x.2) l.2)
 
+  -- the name of a node in the tree is in reach of the roots
   pub in_reach : (n : Name) → InTree h (number n) → InReach roots (links_of names st) n
   in_reach n i = reached i.0 top n top_first (let P : ℕ → Type 0 = λ k. Leads h k i.0 (number n) in subst P (sym r.first) i.1)

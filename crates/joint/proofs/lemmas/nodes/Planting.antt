@@ -23,7 +23,7 @@ use Rattle.joint.specs.declared.nodes.counts.CellMark.{CellMark}
 use Rattle.joint.specs.declared.limits.Limits.{Limits}
 use Rattle.joint.specs.declared.nodes.slot.Slot.{Slot}
 use Rattle.joint.specs.nodes.Altering.{Fills, IsNewSlot}
-use Rattle.joint.specs.nodes.Nodes.{Nodes, nodes, of_cell, total, size, waits, waiting_size, sizes, waiting, waiting_bytes, IsTally, IsKept}
+use Rattle.joint.specs.nodes.Nodes.{Nodes, nodes, of_cell, total, size, waits, waiting_size, sizes, waiting, waiting_bytes, IsMark, IsKept}
 use Rattle.joint.specs.Limits.{AreAllowed}
 use Rattle.joint.specs.nodes.Slots.{slot_names}
 use Rattle.joint.specs.NameLemmas.{number_named}
@@ -62,6 +62,7 @@ module _ {P : Type 0} (limits : EpochLimits) (s0 c1 c2 : State (Slot P) (Unit {0
   abbrev pointer : Ptr
   pointer = record { name = Some name; tag = 0 }
 
+  -- the first name that is given is the root's
   pub is_top : name ≡ top
   is_top = next_top limits.cells limits.turn_max name (subst (λ x. IsNext x.store name) opens fills.next)
 
@@ -71,15 +72,18 @@ module _ {P : Type 0} (limits : EpochLimits) (s0 c1 c2 : State (Slot P) (Unit {0
   came : c2 ≡ with_roots (with_store o c1.store) (pointer ∷ [])
   came = stored ∙ ap (λ x. with_roots x (slice_set x.roots 0 pointer)) (beside ∙ ap (λ x. with_store x c1.store) opens)
 
-  pub clock_is : c2 ≡ with_roots (with_store o c2.store) top_roots
-  clock_is = came ∙ ap (λ n. with_roots (with_store o c1.store) (record { name = Some n; tag = 0 } ∷ [])) is_top ∙ ap (λ st. with_roots (with_store o st) top_roots) (sym same_store)
+  -- the collector is a fresh one but for its cells and its root
+  pub opened_collector : c2 ≡ with_roots (with_store o c2.store) top_roots
+  opened_collector = came ∙ ap (λ n. with_roots (with_store o c1.store) (record { name = Some n; tag = 0 } ∷ [])) is_top ∙ ap (λ st. with_roots (with_store o st) top_roots) (sym same_store)
 
+  -- the root's slot is put under the first name of empty cells
   pub root_is : Fills (opened_store limits.cells limits.turn_max) top slot c2.store
   root_is =
       subst (λ st. Fills (opened_store limits.cells limits.turn_max) top slot st) (sym same_store)
       (subst (λ n. Fills (opened_store limits.cells limits.turn_max) n slot c1.store) is_top
       (subst (λ x. Fills x.store name slot c1.store) opens fills))
 
+  -- this one moment, at which nothing is done, leads to the collector as it stands
   pub told_is : HasMoments slot_names (moment slot_names Quiet c2 ∷ []) c2
   told_is =
       let told : HasMoments slot_names (moment slot_names Quiet o ∷ []) o = subst (λ x. HasMoments slot_names (moment slot_names Quiet x ∷ []) x) opens told0 in
@@ -92,6 +96,7 @@ module _ {P : Type 0} (limits : EpochLimits) (s0 c1 c2 : State (Slot P) (Unit {0
         given = λ n w. elim w [ inl l ↦ live_given c2.store n l | inr x ↦ absurd x ];
       }
 
+  -- no call on the collector is in flight
   pub resting_is : IsResting c2
   resting_is =
       let r : IsResting (with_roots (with_store o c1.store) (pointer ∷ [])) = record {
@@ -100,12 +105,12 @@ module _ {P : Type 0} (limits : EpochLimits) (s0 c1 c2 : State (Slot P) (Unit {0
       } in
       subst IsResting (sym came) r
 
-abbrev root_tally : CellMark
-root_tally = record { form = N256; waits = false }
+abbrev root_mark : CellMark
+root_mark = record { form = N256; waits = false }
 
 -- the root's mark is the only one where no cell had one before
-pub noted_root : (ts : List CellMark) (old : List CellMark) (n : Name) → ts ≡ with_mark old n.cell root_tally → old ≡ [] → n ≡ top → ts ≡ root_tally ∷ []
-noted_root ts old n e none is = e ∙ ap (λ x. with_mark x n.cell root_tally) none ∙ ap (λ (x : Name). with_mark [] x.cell root_tally) is
+pub noted_root : (ts : List CellMark) (old : List CellMark) (n : Name) → ts ≡ with_mark old n.cell root_mark → old ≡ [] → n ≡ top → ts ≡ root_mark ∷ []
+noted_root ts old n e none is = e ∙ ap (λ x. with_mark x n.cell root_mark) none ∙ ap (λ (x : Name). with_mark [] x.cell root_mark) is
 
 -- the cells with a root alone
 module _ {P : Type 0} (limits : Limits) (F : Nodes P) (k : Counts) (planted : IsPlanted limits.epoch F.collector k) (allowed : AreAllowed limits) where
@@ -150,6 +155,7 @@ module _ {P : Type 0} (limits : Limits) (F : Nodes P) (k : Counts) (planted : Is
   free : s.word.retired ≡ false
   free = ap (λ w. w.retired) new.word
 
+  -- where the root alone is charged, the counts are those of the cells
   pub kept_planted : F.charge ≡ F.base + 2104 → IsKept k F
   kept_planted charge =
       let w1 : waits s ≡ 0 = ap (λ (b : Bool). if b then 1 else 0) free in
@@ -161,7 +167,7 @@ module _ {P : Type 0} (limits : Limits) (F : Nodes P) (k : Counts) (planted : Is
       let most : st.most ≡ limits.epoch.cells = ap (λ y. y.most) store_is in
       let last : st.turn_max ≡ limits.epoch.turn_max = ap (λ y. y.turn_max) store_is in
       let long : length st.cells ≡ 1 = ap (λ y. length y.cells) store_is in
-      let cell_mark : IsTally s (mark_at k.cell_marks.items 0) = subst (λ ts. IsTally s (mark_at ts 0)) (sym planted.cell_marks) (record { size_is = new.size_is; waits_is = free }) in
+      let cell_mark : IsMark s (mark_at k.cell_marks.items 0) = subst (λ ts. IsMark s (mark_at ts 0)) (sym planted.cell_marks) (record { size_is = new.size_is; waits_is = free }) in
       record {
         orderly = planted.resting.orderly;
         charged = omega (arith, charge, e0, z);
@@ -169,7 +175,7 @@ module _ {P : Type 0} (limits : Limits) (F : Nodes P) (k : Counts) (planted : Is
         count_is = omega (arith, planted.none, e1, w1);
         bytes_is = omega (arith, planted.no_bytes, e2, w2);
         whole = λ n x e. subst (λ (y : Slot P). IsWhole y.node) (of_one n x e).1 new.whole;
-        tallied = λ n x e. subst (λ (y : Slot P). IsTally y (mark_at k.cell_marks.items n.cell)) (of_one n x e).1 (subst (λ i. IsTally s (mark_at k.cell_marks.items i)) (sym (of_one n x e).0) cell_mark);
+        marks_are = λ n x e. subst (λ (y : Slot P). IsMark y (mark_at k.cell_marks.items n.cell)) (of_one n x e).1 (subst (λ i. IsMark s (mark_at k.cell_marks.items i)) (sym (of_one n x e).0) cell_mark);
         wide = ap length planted.cell_marks ∙ sym long;
         bounded = omega (arith, long, most, allowed.some_cell);
         few = omega (arith, most, allowed.cells);
@@ -197,7 +203,7 @@ module _ {P : Type 0} (limits : Limits) (F : Nodes P) (k : Counts) (planted : Is
       let apart : named n ≢ top = λ e. ne (sym (number_named n) ∙ ap number e) in
       ap (λ g. view g (value_at st (named n))) (fills.sets.given (named n) apart ∙ empty_given (named n)) ∙ ap (λ v. view false v) (fills.sets.others (named n) apart ∙ empty_value (named n))
 
-  pub fresh_root : FreshRoot (nodes F)
+  fresh_root : FreshRoot (nodes F)
   fresh_root = record {
     alone = record {
       empty = ap (λ x. x.prefix) root_node ∙ new.prefix_is;
@@ -211,7 +217,7 @@ module _ {P : Type 0} (limits : Limits) (F : Nodes P) (k : Counts) (planted : Is
     others = λ n ne. ap (λ x. x.made) (other_node n ne);
   }
 
-  pub within_root : (most : ℕ) → Within most (nodes F)
+  within_root : (most : ℕ) → Within most (nodes F)
   within_root most n stands = elim (cases_eq n 0) [
     | inl e ↦ (
         let v : (nodes F n).version ≡ 0 = ap (λ i. (nodes F i).version) e ∙ ap (λ x. x.version) root_node ∙ ap (λ w. w.version) new.word in
@@ -220,6 +226,7 @@ module _ {P : Type 0} (limits : Limits) (F : Nodes P) (k : Counts) (planted : Is
     | inr ne ↦ (let bad : true ≡ false = sym stands.made ∙ ap (λ x. x.made) (other_node n ne) in absurd (cc bad))
   ]
 
+  -- with the root charged within the limit, the nodes are opened: a root alone
   pub is_opened : (charge limit : ℕ) → charge + 2104 ≤ limit → F.base ≡ charge → F.charge ≡ charge + 2104 → F.limit ≡ limit → F.version_max ≡ limits.version_max → IsOpened limits charge limit F
   is_opened charge limit fits base charged limit_is versions = record {
     allowed = allowed;
@@ -230,9 +237,9 @@ module _ {P : Type 0} (limits : Limits) (F : Nodes P) (k : Counts) (planted : Is
       live = ap (λ x. x.obsolete) root_node ∙ ap (λ w. w.obsolete) new.word;
     };
     within = within_root limits.version_max;
-    rooted = record { only = ap (λ x. x.roots) planted.clock; first = refl };
+    rooted = record { only = ap (λ x. x.roots) planted.collector_is; first = refl };
     resting = planted.resting;
-    clock = planted.clock;
+    collector_is = planted.collector_is;
     told = planted.told;
     base = base;
     fits = fits;

@@ -23,11 +23,13 @@ each_set Q (y ∷ xs) (suc i) x d here all zero = all zero
 each_set Q (y ∷ xs) (suc i) x d here all (suc j) = each_set Q xs i x d here (λ m. all (suc m)) j
 
 module _ {T J : Type 0} (s : State T J) (orderly : Orderly s) where
+  -- an orderly collector stays so over a registration, be it refused or not
   pub registered_orderly : (law : (n : ℕ) → n < length s.table → Orderly s → KeepsCalls s (registered s n) (λ f. 0)) (r : Result ℕ Fault) (s' : State T J)
       → MatchResult r (λ n. s' ≡ registered s n) (λ e. (e ≡ Fault.TableFull) × (s' ≡ s)) → IfOk r (λ n. (n < length s.table) × ((place s n).registered ≡ false)) → Orderly s'
   registered_orderly law (Ok n) s' e free = subst Orderly (sym e) (law n free.0 orderly).orderly
   registered_orderly law (Err f) s' e free = subst Orderly (sym e.1) orderly
 
+  -- a registration leaves the cells as they are
   pub registered_store : (r : Result ℕ Fault) (s' : State T J) → MatchResult r (λ n. s' ≡ registered s n) (λ e. (e ≡ Fault.TableFull) × (s' ≡ s)) → s'.store ≡ s.store
   registered_store (Ok n) s' e = ap (λ x. x.store) e
   registered_store (Err f) s' e = ap (λ x. x.store) e.1
@@ -62,6 +64,7 @@ module _ {T J : Type 0} (s : State T J) (orderly : Orderly s) where
   by_bag who work true e = anew_orderly who work
   by_bag who work false e = more_orderly who work (let a = orderly.bags who in let ne = eqb-false (length (place s who).bag) 64 e in omega (arith, a, ne))
 
+  -- an orderly collector stays so over a deferral, be it refused or not
   pub deferred_orderly : (who : ℕ) (work : Work J) (r : Result ℕ Fault) (s' : State T J) → OnOk r (s' ≡ after_deferral s who work) → OnErr r (s' ≡ s) → Orderly s'
   deferred_orderly who work (Ok t) s' e back = subst Orderly (sym e) (by_bag who work (length (place s who).bag == 64) refl)
   deferred_orderly who work (Err f) s' e back = subst Orderly (sym back) orderly
@@ -70,6 +73,7 @@ module _ {T J : Type 0} (s : State T J) (orderly : Orderly s) where
   store_by who work true = refl
   store_by who work false = refl
 
+  -- a deferral leaves the cells as they are
   pub deferred_store : (who : ℕ) (work : Work J) (r : Result ℕ Fault) (s' : State T J) → OnOk r (s' ≡ after_deferral s who work) → OnErr r (s' ≡ s) → s'.store ≡ s.store
   deferred_store who work (Ok t) s' e back = ap (λ x. x.store) e ∙ store_by who work (length (place s who).bag == 64)
   deferred_store who work (Err f) s' e back = ap (λ x. x.store) back

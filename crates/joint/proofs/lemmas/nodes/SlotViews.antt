@@ -1,12 +1,9 @@
 -- The names that a slot shows are those of the nodes that hang in its own.
-use Rattle.std.proofs.Common.{◌≡◌, ◌≢◌, ℕ, zero, suc, ◌<◌, arith, Bool, true, false, ◌&&◌, T, List, [], ◌∷◌, Option, None, Some, cond, refl, sym, ◌∙◌, ap, subst, inl, inr}
+use Rattle.std.proofs.Common.{◌≡◌, ◌≢◌, ℕ, zero, suc, ◌<◌, arith, Bool, true, false, List, [], ◌∷◌, Option, None, Some, cond, refl, sym, ◌∙◌, ap, subst, inl, inr}
 use Rattle.std.specs.Prelude.{Box}
 use Rattle.std.specs.List.{Contains}
-use Rattle.std.specs.Ordering.{nat_cmp, is_lt}
 use Rattle.std.specs.FinMap as map
-use Rattle.std.specs.FinMap.Entries.{below_all}
 use Rattle.std.proofs.lemmas.Bool.{eq-eqb, ne_eqb, cases_eq}
-use Rattle.std.proofs.lemmas.Bool.Decides.{nat_tests}
 use Rattle.std.proofs.Math.Dec.{eqb}
 use Rattle.crossbeam_epoch.specs.declared.names.Name.{Name}
 use Rattle.congee.specs.declared.forms.child.Child.{Child}
@@ -15,7 +12,7 @@ use Rattle.congee.specs.declared.forms.base_node.Node.{Node as Form}
 use Rattle.congee.specs.forms.Forms.{children_of}
 use Rattle.congee.specs.forms.Places.{AllKeys, Rises}
 use Rattle.congee.specs.Heap.{Hung, Below, Nothing, Holds}
-use Rattle.congee.proofs.Laws.{find, get_find}
+use Rattle.congee.proofs.Laws.{find, get_find, rises_entries}
 use Rattle.joint.specs.declared.id.Id.{Id}
 use Rattle.joint.specs.declared.nodes.slot.Slot.{Slot}
 use Rattle.joint.specs.Names.{number}
@@ -23,37 +20,7 @@ use Rattle.joint.specs.nodes.Heap.{IsView}
 use Rattle.joint.specs.nodes.Slots.{and_name, names_in, names_of}
 use Rattle.joint.specs.nodes.View.{hung_at, child_in, view}
 
--- a test that holds, as an equation
-pub true_of_T : (b : Bool) → T b → b ≡ true
-true_of_T true t = refl
-true_of_T false t = absurd t
-
--- where both of two tests hold, the first does
-pub both_left : (a b : Bool) → a && b ≡ true → a ≡ true
-both_left true b e = refl
-both_left false b e = e
-
--- and the second
-pub both_right : (a b : Bool) → a && b ≡ true → b ≡ true
-both_right true b e = e
-both_right false b e = absurd (cc e)
-
--- a number that compares as less is less
-pub less_of_cmp : (a b : ℕ) → is_lt (nat_cmp a b) ≡ true → a < b
-less_of_cmp a b e = grind (arith, nat_tests, e)
-
 module _ {X : Type 0} where
-  below_of : (k : ℕ) (es : List (ℕ × X)) → below_all nat_cmp k es ≡ true → AllKeys (λ j. k < j) es
-  below_of k [] e = tt
-  below_of k ((j, x) ∷ r) e = (less_of_cmp k j (both_left _ _ e), below_of k r (both_right _ _ e))
-
-  rises_true : (es : List (ℕ × X)) → map.is_sorted nat_cmp es ≡ true → Rises es
-  rises_true [] e = tt
-  rises_true ((k, x) ∷ r) e = (below_of k r (both_left _ _ e), rises_true r (both_right _ _ e))
-
-  pub rises_entries : (m : map.FinMap nat_cmp X) → Rises (map.entries m)
-  rises_entries m = rises_true (map.entries m) (true_of_T _ (map.entries_sorted m))
-
   found_past : (k b : ℕ) (x : X) (es : List (ℕ × X)) → AllKeys (λ j. k < j) es → find b es ≡ Some x → b ≢ k
   found_past k b x [] a f = absurd (cc f)
   found_past k b x ((j, y) ∷ es) a f = elim (cases_eq b j) [

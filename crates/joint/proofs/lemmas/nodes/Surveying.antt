@@ -7,9 +7,9 @@ use Rattle.congee.specs.Heap.{Node, Nothing, Below, fits, value_at}
 use Rattle.congee.specs.Keys.{key_bytes}
 use Rattle.congee.specs.Notes.{Note, Tree}
 use Rattle.congee.specs.protocol.Regions.{span, IsRegion, start_at}
-use Rattle.congee.specs.protocol.SweepKnown.{end_of}
-use Rattle.congee.specs.protocol.SweepSteps.{width}
-use Rattle.congee.proofs.Laws.{on_test, finds, misses, span_pos, span_step, keys_within, within_keys, byte_low, byte_high, whole, start_mono, region_top}
+use Rattle.congee.specs.protocol.ScanKnown.{end_of}
+use Rattle.congee.specs.protocol.ScanSteps.{width}
+use Rattle.congee.proofs.Laws.{on_test, value_at_linked, value_at_unfit, span_pos, span_step, keys_within, within_keys, byte_low, byte_high, start_at_end, start_mono, region_top}
 use Rattle.joint.specs.nodes.Levels.{IsNodeIn}
 use Rattle.joint.specs.nodes.Survey.{IsRegionOf, NoneStand}
 
@@ -34,21 +34,22 @@ module _ {V : Type 0} (h : ℕ → Node V) (n : ℕ) (i : IsNodeIn h n) (x : Reg
   abbrev at : ℕ → ℕ
   at b = start_at x.base x.depth b
 
-  within : (b k : ℕ) → b ≤ 256 → k < at b → (k < 2 ^ 64) × (k < x.base + span x.depth)
+  -- the keys before a byte's first are in the node's range, if its first is
+  pub within : (b k : ℕ) → b ≤ 256 → k < at b → (k < 2 ^ 64) × (k < x.base + span x.depth)
   within b k small hi =
       let up = start_mono (h n).prefix x.base x.depth r b 256 small in
-      let e = whole (h n).prefix x.base x.depth r in
+      let e = start_at_end (h n).prefix x.base x.depth r in
       let top = region_top (h n).prefix x.base x.depth r in
       (omega (arith, hi, up, e, top), omega (arith, hi, up, e))
 
-  -- bytes at which nothing hangs
+  -- no key stands under bytes at which nothing hangs
   pub none_bytes : (from b : ℕ) → b ≤ 256 → ((q : ℕ) → from ≤ q → q < b → (h n).children q ≡ Nothing) → NoneStand h (at from) (at b)
   none_bytes from b small none k lo hi =
       let w = within b k small hi in
       let f = within_keys (h n).prefix x.base x.depth r k w.0 (omega (arith, lo)) w.1 in
-      finds a h t n (key_bytes k) Nothing i.linked f (none _ (byte_low (h n).prefix x.base x.depth r k from w.0 f lo) (byte_high (h n).prefix x.base x.depth r k b w.0 f hi))
+      value_at_linked a h t n (key_bytes k) Nothing i.linked f (none _ (byte_low (h n).prefix x.base x.depth r k from w.0 f lo) (byte_high (h n).prefix x.base x.depth r k b w.0 f hi))
 
-  -- the keys of a byte beside those of the node that hangs there
+  -- no key stands under a byte beside those that begin with the prefix of the node there
   pub none_beside : (b c : ℕ) (z : Region) → b < 256 → (h n).children b ≡ Below c → IsRegion (h c).prefix z.base z.depth
       → (k : ℕ) → at b ≤ k → k < at (b + 1) → (k < z.base) ⊎ (end_of z ≤ k) → value_at h (key_bytes k) ≡ None
   none_beside b c z small e rz k lo hi ne =
@@ -57,6 +58,6 @@ module _ {V : Type 0} (h : ℕ → Node V) (n : ℕ) (i : IsNodeIn h n) (x : Reg
       let bl = byte_low (h n).prefix x.base x.depth r k b w.0 f lo in
       let bh = byte_high (h n).prefix x.base x.depth r k (b + 1) w.0 f hi in
       let is : get_or (key_bytes k) (length (h n).prefix) 0 ≡ b = omega (arith, bl, bh) in
-      misses a h t n c (key_bytes k) i.linked f (ap (λ q. (h n).children q) is ∙ e) (on_test (fits (h c).prefix (key_bytes k)) (λ y. absurd (
+      value_at_unfit a h t n c (key_bytes k) i.linked f (ap (λ q. (h n).children q) is ∙ e) (on_test (fits (h c).prefix (key_bytes k)) (λ y. absurd (
       let u = keys_within (h c).prefix z.base z.depth rz k w.0 y in
       elim ne [ inl p ↦ omega (arith, p, u.0) | inr p ↦ omega (arith, p, u.1) ])) (λ y. y))

@@ -20,7 +20,7 @@ module _ (R : ℕ → ℕ → Type 0) where
     | inr ge ↦ less_above c t x.0 x.1 ge apart
   ]
 
--- a relation under which each of the first n numbers has one below N, and no two the same
+-- where each of the first n numbers has a number below N, and no two the same one, n is N at most
 pub at_most_by_relation : (N n : ℕ) (R : ℕ → ℕ → Type 0) → ((t : ℕ) → t < n → (k : ℕ) × R t k) → ((t k : ℕ) → t < n → R t k → k < N) → ((t u k : ℕ) → t < n → u < n → R t k → R u k → t ≡ u) → n ≤ N
 at_most_by_relation N zero R total bound one = omega arith
 at_most_by_relation zero (suc m) R total bound one =

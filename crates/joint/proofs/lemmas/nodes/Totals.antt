@@ -17,8 +17,8 @@ use Rattle.joint.specs.declared.id.Id.{Id}
 use Rattle.joint.specs.declared.nodes.slot.Slot.{Slot}
 use Rattle.joint.specs.nodes.Altering.{Empties}
 use Rattle.joint.specs.nodes.Nodes.{of_value, of_cell, total, size_in, size, waits, waiting_size, waiting, waiting_bytes}
-use Rattle.joint.proofs.lemmas.nodes.Altering.{cell_of, inside}
-use Rattle.joint.proofs.lemmas.nodes.SlotViews.{both_left, both_right}
+use Rattle.joint.proofs.lemmas.nodes.Altering.{cell_of, cell_inside}
+use Rattle.congee.proofs.Laws.{both_true}
 
 -- a node has at most 2,104 bytes
 pub size_bound : (f : NodeType) → size_of f ≤ 2104
@@ -36,7 +36,7 @@ module _ {T : Type 0} where
   bound_in f most h None = omega arith
   bound_in f most h (Some v) = h v
 
-  -- no more than the greatest for each cell
+  -- a sum over cells is no more than the greatest that it adds, for each cell
   pub total_bound : (f : T → ℕ) (most : ℕ) → ((v : T) → f v ≤ most) → (cs : List (Cell T)) → sum_by (of_cell f) cs ≤ most * length cs
   total_bound f most h [] = omega arith
   total_bound f most h (c ∷ cs) = (
@@ -49,15 +49,16 @@ module _ {T : Type 0} where
   -- a value that stands is counted
   pub counted : (f : T → ℕ) (st : Store T) (n : Name) (v : T) → value_at st n ≡ Some v → f v ≤ total f st
   counted f st n v e =
-      let at : n.cell < length st.cells = inside st n v e in
+      let at : n.cell < length st.cells = cell_inside st n v e in
       let here : (cell_at st n.cell).value ≡ Some v = (cell_of (cell_at st n.cell) n.turn v e).1 in
       let q = sum_by-set (of_cell f) st.cells n.cell fresh fresh at in
       let z : of_cell f (cell_at st n.cell) ≡ f v = ap (of_value f) here in
       omega (arith, q, z)
 
+  -- a value that is taken out of its cell is gone, and each sum over the cells is less by its share
   pub emptied_empties : (st : Store T) (n : Name) (old : T) → value_at st n ≡ Some old → Sets st n None (emptied st n.cell) → Empties st n old (emptied st n.cell)
   emptied_empties st n old e sets =
-      let at : n.cell < length st.cells = inside st n old e in
+      let at : n.cell < length st.cells = cell_inside st n old e in
       let here : (cell_at st n.cell).value ≡ Some old = (cell_of (cell_at st n.cell) n.turn old e).1 in
       let now : Cell T = record { turns = (cell_at st n.cell).turns; value = None } in
       record {
@@ -88,17 +89,18 @@ module _ {T : Type 0} where
     pub last : n.turn ≤ st.turn_max
     pub near : n.cell ≤ length st.cells
 
+  -- the next name's cell is empty and at the name's turn, and is no further than the one past the last
   pub is_open : (st : Store T) (n : Name) → IsNext st n → IsOpen st n
   is_open st n next =
       let low : Bool = nat_lt n.cell st.most in
       let none : Bool = is_none (cell_at st n.cell).value in
       let free : Bool = nat_le (cell_at st n.cell).turns st.turn_max in
-      let u : (low && none) ≡ true = both_left (low && none) free next.usable in
-      let a : nat_lt n.cell st.most ≡ true = both_left low none u in
-      let d : nat_le (cell_at st n.cell).turns st.turn_max ≡ true = both_right (low && none) free next.usable in
+      let u : (low && none) ≡ true = (both_true (low && none) free next.usable).0 in
+      let a : nat_lt n.cell st.most ≡ true = (both_true low none u).0 in
+      let d : nat_le (cell_at st n.cell).turns st.turn_max ≡ true = (both_true (low && none) free next.usable).1 in
       record {
         below = grind (arith, nat_tests, a);
-        empty = nothing_in (cell_at st n.cell).value (both_right low none u);
+        empty = nothing_in (cell_at st n.cell).value (both_true low none u).1;
         turn = next.turn;
         last = (let t : (cell_at st n.cell).turns ≤ st.turn_max = grind (arith, nat_tests, d) in omega (arith, t, next.turn));
         near = next.near;
@@ -143,15 +145,19 @@ module _ {T : Type 0} where
     abbrev filled : Cell T
     filled = record { turns = n.turn + 1; value = Some v }
 
+    -- the cell of the next name has the value and one turn more
     pub placed_here : cell_at (placed st n v) n.cell ≡ filled
     placed_here = put_here st.cells n.cell filled next.near (nat_lt n.cell (length st.cells)) refl
 
+    -- each other cell is as it was
     pub placed_apart : (j : ℕ) → j ≢ n.cell → cell_at (placed st n v) j ≡ cell_at st j
     placed_apart j ne = put_apart st.cells n.cell filled next.near (nat_lt n.cell (length st.cells)) refl j ne
 
+    -- each sum over the cells is more by the new value's share
     pub placed_total : (f : T → ℕ) → total f (placed st n v) ≡ total f st + f v
     placed_total f = put_sum st.cells n.cell filled next.near f (is_open st n next).empty (nat_lt n.cell (length st.cells)) refl
 
+    -- there are as many cells as before, or one more where the name's cell is the one past the last
     pub placed_long : (length (placed st n v).cells ≡ length st.cells) × (n.cell < length st.cells) ⊎ (length (placed st n v).cells ≡ length st.cells + 1) × (n.cell ≡ length st.cells)
     placed_long = put_long st.cells n.cell filled next.near (nat_lt n.cell (length st.cells)) refl
 

@@ -17,6 +17,7 @@ module _ {T V : Type 0} (names : T → List Name) (view : Bool → Option T → 
   live_at true None s = absurd (let e : (view true None).destroyed ≡ true = ok.lost in let f : (view true None).destroyed ≡ false = s.kept in cc)
   live_at false None s = absurd (let e : (view false None).made ≡ false = ok.unmade in let f : (view false None).made ≡ true = s.made in cc)
 
+  -- a node whose name has a value stands
   pub stands_at : (g : Bool) (v : Option T) → is_some v ≡ true → Stands (view g v)
   stands_at g (Some v) e = ok.stands g v
   stands_at g None e = absurd (cc e)
@@ -34,11 +35,13 @@ module _ {T V : Type 0} (names : T → List Name) (view : Bool → Option T → 
   hangs_at g None b k e = absurd (let z = ok.bare g b in cc)
   hangs_at g (Some v) b k e = ok.hangs g v b k e
 
+  -- the node of a name's number is the node under that name
   pub heap_of_number : (st : Store T) (n : Name) → heap_of view st (number n) ≡ node_at view st n
   heap_of_number st n = ap (node_at view st) (named_number n)
 
-  pub ties : (st : Store T) → Ties names st (heap_of view st)
-  ties st =
+  -- the nodes read off the cells stand, are made and have links just where the cells say so
+  pub heap_ties : (st : Store T) → Ties names st (heap_of view st)
+  heap_ties st =
       let At : (Node V → Type 0) → (n : Name) → node_at view st n ≡ node_at view st n → Type 0 = λ P n _. P (heap_of view st (number n)) in
       record {
         live = λ n s. live_at (was_given st n) (value_at st n) (subst Stands (heap_of_number st n) s);

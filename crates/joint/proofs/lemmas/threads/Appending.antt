@@ -1,6 +1,6 @@
 -- The entry that a step of a call in flight appends to the journal.
 use Rattle.std.proofs.Common.{◌≡◌, ℕ, Bool, true, false, List, [], ◌∷◌, ◌++◌, length, refl, sym, ◌∙◌, ap, subst}
-use Rattle.std.specs.Prelude.{Option, None, Some, not, nat_eq, option_map, slice_get}
+use Rattle.std.specs.Prelude.{Option, None, Some, not, nat_eq, slice_get}
 use Rattle.std.proofs.lemmas.Bool.{false≢true}
 use Rattle.std.proofs.lemmas.List.{append-nil}
 use Rattle.judge.specs.declared.journal.Call.{Call as Entered}
@@ -16,7 +16,7 @@ use Rattle.joint.specs.declared.steps.Op.{Op}
 use Rattle.joint.specs.declared.steps.Op.TheVariants as op
 use Rattle.joint.specs.declared.steps.Report.{Report}
 use Rattle.joint.specs.declared.steps.Step.{Step}
-use Rattle.joint.specs.Asked.{changes}
+use Rattle.joint.specs.Changes.{changes}
 use Rattle.joint.specs.engine.Journaling.{HasAnswer, asks_at, call_of, entry_of, has_place, in_list, kept_if, on_insert, on_present, reply_by, with_call}
 use Rattle.joint.specs.engine.Log.{has_room, answered_if, with_answer}
 use Rattle.joint.specs.Reports.{target}
@@ -24,7 +24,7 @@ use Rattle.joint.specs.world.MapSteps.{looks_up}
 use Rattle.joint.specs.world.World.{FindsJournalFull, Holds, IsStep, StepsUnless, TakesStep, entry_at, finds_journal_full, answered_request, kept_at}
 use Rattle.joint.specs.engine.Engine.{World}
 use Rattle.joint.specs.threads.Writing.{Appended, IsEntryOf, IsInFlight, MayStep}
-use Rattle.joint.proofs.lemmas.world.Effects.{begin_undecided, effect}
+use Rattle.joint.proofs.lemmas.world.Effects.{begin_undecided, decided_effect}
 use Rattle.joint.proofs.lemmas.nodes.NodesInvariant.{some_injective}
 use Rattle.joint.proofs.lemmas.world.Logged.{event_maps}
 
@@ -45,16 +45,16 @@ entry_called : (who : ℕ) (q : Request ℕ) (o : Option (Reply ℕ)) (e : Entry
 entry_called who q None e x a = absurd (cc x)
 entry_called who q (Some r) e x a = called_by who q r (call_of q.op q.answer r) e refl x a
 
--- a call hears the answer that is wanted
-heard_wanted : (asks : Bool) (answer : Option (Option ℕ)) (q : Request ℕ) → ((a : Option ℕ) → answer ≡ Some a → asks ≡ true) → answered_if asks answer (Some q) ≡ Some (with_answer answer q)
-heard_wanted true answer q w = refl
-heard_wanted false None q w = refl
-heard_wanted false (Some a) q w = absurd (false≢true (w a refl))
+-- a call takes the answer that is wanted
+answered_wanted : (asks : Bool) (answer : Option (Option ℕ)) (q : Request ℕ) → ((a : Option ℕ) → answer ≡ Some a → asks ≡ true) → answered_if asks answer (Some q) ≡ Some (with_answer answer q)
+answered_wanted true answer q w = refl
+answered_wanted false None q w = refl
+answered_wanted false (Some a) q w = absurd (false≢true (w a refl))
 
-hears_op : (answer : Option (Option ℕ)) (q : Request ℕ) → (with_answer answer q).op ≡ q.op
-hears_op None q = refl
-hears_op (Some None) q = refl
-hears_op (Some (Some a)) q = refl
+answer_keeps_op : (answer : Option (Option ℕ)) (q : Request ℕ) → (with_answer answer q).op ≡ q.op
+answer_keeps_op None q = refl
+answer_keeps_op (Some None) q = refl
+answer_keeps_op (Some (Some a)) q = refl
 
 -- only a look-up has an entry that doesn't write
 insert_writes : (k : ℕ) (o : Option ℕ) (c : Entered ℕ) → on_insert k o ≡ Some c → looks_up c ≡ false
@@ -125,25 +125,25 @@ module _ (s s' : World ℕ) (who : ℕ) (h : Holds nat_eq true s) where
     abbrev Appends : Type 0
     Appends = (kept : Option (Entry ℕ)) × Appended s s' who o given (Go noise) kept
 
-    abbrev hearing : Request ℕ
-    hearing = with_answer noise.answer asked
+    abbrev answering : Request ℕ
+    answering = with_answer noise.answer asked
 
-    heard : answered_request s who (Go noise) ≡ Some hearing
-    heard = ap (answered_if (asks_at (slice_get s.machines who)) noise.answer) own ∙ heard_wanted _ noise.answer asked wanted
+    answering_is : answered_request s who (Go noise) ≡ Some answering
+    answering_is = ap (answered_if (asks_at (slice_get s.machines who)) noise.answer) own ∙ answered_wanted _ noise.answer asked wanted
 
     -- the entry that is kept has its closure's answer, and its place where it writes
     record Keeps (e : Entry ℕ) : Type 0 where
-      pub answered : HasAnswer hearing.op hearing.answer e.reply
+      pub answered : HasAnswer answering.op answering.answer e.reply
       pub had : has_place (slice_get s.calls who) (slice_get s.machines who) ≡ not (looks_up e.call)
 
     keeps : (t : TakesStep nat_eq true s go r s') (e : Entry ℕ) → kept_at s who (Go noise) t.told s' ≡ Some e → Keeps e
     keeps t e q =
         let k = kept_decides _ _ _ e q in
         let on = event_maps nat_eq true s s' go t.told h t.engine h.2.flights h.2.pairs h.2.stand h.2.in_flight h.2.asked in
-        let x = effect nat_eq true s s' who (h.0, h.1) t.engine.holds h.2.flights on.flights h.2.pairs (record { each = h.2.in_flight.each; beyond = h.2.in_flight.beyond }) on.in_flight h.2.long
+        let x = decided_effect nat_eq true s s' who (h.0, h.1) t.engine.holds h.2.flights on.flights h.2.pairs (record { each = h.2.in_flight.each; beyond = h.2.in_flight.beyond }) on.in_flight h.2.long
         (record { step = go; report = t.told; entry = on.entry; pairs = on.pairs }) refl (Go noise) k.0 t.engine.does on.step in
         let same : x.entry ≡ e = some_injective _ _ (sym (x.noted (h.2.asked refl)) ∙ k.1) in
-        subst Keeps same (record { answered = x.answered (h.2.asked refl) hearing heard; had = x.had })
+        subst Keeps same (record { answered = x.answered (h.2.asked refl) answering answering_is; had = x.had })
 
     taken : TakesStep nat_eq true s go r s' → Appends
     taken t = (
@@ -154,14 +154,14 @@ module _ (s s' : World ℕ) (who : ℕ) (h : Holds nat_eq true s) where
         of = λ e q.
             let x : entry_at s who (Go noise) t.told s' ≡ Some e = (kept_decides _ _ _ e q).1 in
             let told : Option (Reply ℕ) = reply_by t.told.outcome (slice_get s'.machines who) in
-            let is : IsEntryOf who hearing.op hearing.answer e = entry_called who hearing told e (ap (λ y. entry_of who y told) (sym heard) ∙ x) (keeps t e q).answered in
-            subst (λ c. IsEntryOf who c hearing.answer e) (hears_op noise.answer asked) is;
+            let is : IsEntryOf who answering.op answering.answer e = entry_called who answering told e (ap (λ y. entry_of who y told) (sym answering_is) ∙ x) (keeps t e q).answered in
+            subst (λ c. IsEntryOf who c answering.answer e) (answer_keeps_op noise.answer asked) is;
         had = λ e q. (keeps t e q).had;
       },
     )
 
-    given_up : FindsJournalFull s who r s' → Appends
-    given_up t = (
+    finds_full : FindsJournalFull s who r s' → Appends
+    finds_full t = (
       None,
       record {
         entries = ap (λ (y : World ℕ). y.log.entries) t.state ∙ sym (append-nil s.log.entries);
@@ -172,13 +172,13 @@ module _ (s s' : World ℕ) (who : ℕ) (h : Holds nat_eq true s) where
     )
 
     either : (b : Bool) → StepsUnless nat_eq true b s go r s' → Appends
-    either true x = given_up x
+    either true x = finds_full x
     either false x = taken x
 
     went : IsStep nat_eq true s go r s' → Appends
     went x = either (finds_journal_full s who (Go noise)) x.does
 
--- a step of a call
+-- a step of a call that may be taken appends nothing, or the entry of that call
 pub steps_on : (s s' : World ℕ) (step : Step ℕ) (o : Op ℕ) (given : Option (Option ℕ)) (r : Report ℕ) → Holds nat_eq true s → IsStep nat_eq true s step r s' → MayStep s step.worker o given step.event
     → (kept : Option (Entry ℕ)) × Appended s s' step.worker o given step.event kept
 steps_on s s' step o given r h x may = by step.event x may where
@@ -196,12 +196,3 @@ appended_at xs ys o q = ap (λ l. slice_get l (length xs)) q ∙ at xs o where
   at [] None = refl
   at [] (Some a) = refl
   at (x ∷ xs) o = at xs o
-
--- what a worker has in flight, as it is told
-pub flight_is : (o : Option (Request ℕ)) (c : Op ℕ) (given : Option (Option ℕ)) → (option_map {U = Op ℕ × Option (Option ℕ)} (λ (q : Request ℕ). (q.op, q.answer)) o ≡ Some (c, given) → o ≡ Some (record { op = c; answer = given }))
-flight_is None c given q = absurd (cc q)
-flight_is (Some r) c given q = let same : (r.op, r.answer) ≡ (c, given) = some_injective _ _ q in ap (λ (y : Op ℕ × Option (Option ℕ)). Some (record { op = y.0; answer = y.1 })) same
-
--- what a worker has in flight is told so
-pub flight_tells : (o : Option (Request ℕ)) (c : Op ℕ) (given : Option (Option ℕ)) → o ≡ Some (record { op = c; answer = given }) → option_map {U = Op ℕ × Option (Option ℕ)} (λ (q : Request ℕ). (q.op, q.answer)) o ≡ Some (c, given)
-flight_tells o c given q = ap (option_map {U = Op ℕ × Option (Option ℕ)} (λ (q : Request ℕ). (q.op, q.answer))) q

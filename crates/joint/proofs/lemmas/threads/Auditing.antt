@@ -39,7 +39,7 @@ other_next w journal i d list rest inside other before =
     let now : of_worker w (drop i journal) ≡ of_worker w (drop (i + 1) journal) = ap (of_worker w) (drop_next journal i d inside) ∙ first_other w (get_or journal i d) (drop (i + 1) journal) other in
     (λ is. before.0 is ∙ now, λ is. before.1 (is ∙ sym now))
 
--- each list below a number is its worker's entries: with one more
+-- each list below a number is its worker's entries
 abbrev pub OwnBelow : {V A : Type 0} → List (Entry V) → List (Vec (Entry V) A) → ℕ → Type 0
 OwnBelow {V} {A} journal own n = (i : ℕ) (list : Vec (Entry V) A) → i < n → slice_get own i ≡ Some list → list.items ≡ of_worker i journal
 

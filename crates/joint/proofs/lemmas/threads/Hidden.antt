@@ -22,5 +22,6 @@ module _ {V S : Type 0} (hold : ℕ → Op V → Step V → Report V → Type 0)
     x.5,
   )
 
+  -- a round whose calls each lead on from what the one before left is one with that hidden
   pub rounds : (who : ℕ) (s : S) (result : Result (Unit {0}) Refusal) (s' : S) → number s ≡ who → Rounds {V = V} Calls s result s' → IsRound {V = V} hold who result
   rounds who s result s' n x = (x.0, subst (λ w. Answers {V = V} hold w op.Pin told x.0) n x.2.0, round_from who x.0 result x.1 s' (x.2.1 ∙ n) x.3)

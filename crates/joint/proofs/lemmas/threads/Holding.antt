@@ -142,8 +142,8 @@ module _ {V : Type 0} (same : V → V → Bool) (always : Bool) (s s' : World V)
 
   collects : (b : World V) (event : CollectorEvent) (k : InFlight V) (r : Report V) → Collects same always b who event k r s' → Tells r
   collects b event k r x =
-      so r (collected x.turn.outcome) (ap (λ r. r.outcome) x.report)
-      (collected_tells V b.forest.collector who event _ x.turn.outcome (fault_own b.forest.collector who event) x.step.report.outcome)
+      so r (collected x.collector_report.outcome) (ap (λ r. r.outcome) x.report)
+      (collected_tells V b.forest.collector who event _ x.collector_report.outcome (fault_own b.forest.collector who event) x.step.report.outcome)
 
   enters : (none : Bool) (op : Point V) (r : Report V) → EntersUnless none s who op r s' → Tells r
   enters true op r x = so r (Done (done.Scanned 0)) (ap (λ r. r.outcome) x.report) (tt {0})
@@ -169,11 +169,11 @@ module _ {V : Type 0} (same : V → V → Bool) (always : Bool) (s s' : World V)
   goes (Some call.Idle) noise r x = absurd x
   goes (Some (call.Collecting op)) noise r x = collects s collector_event.Go (call.Collecting op) r x
   goes (Some (call.Reserving op)) noise r x =
-      so r (reserving x.goes.turn.outcome) (ap (λ r. r.outcome) x.goes.report)
-      (reserving_tells V x.goes.turn.outcome (collected_tells V x.between.forest.collector who collector_event.Go _ x.goes.turn.outcome (fault_own x.between.forest.collector who collector_event.Go) x.goes.step.collected.report.outcome))
+      so r (reserving x.goes.collector_report.outcome) (ap (λ r. r.outcome) x.goes.report)
+      (reserving_tells V x.goes.collector_report.outcome (collected_tells V x.between.forest.collector who collector_event.Go _ x.goes.collector_report.outcome (fault_own x.between.forest.collector who collector_event.Go) x.goes.step.collected.report.outcome))
   goes (Some (call.Securing op)) noise r x =
-      so r (reserving x.turn.outcome) (ap (λ r. r.outcome) x.report)
-      (reserving_tells V x.turn.outcome (collected_tells V s.forest.collector who collector_event.Go _ x.turn.outcome (fault_own s.forest.collector who collector_event.Go) x.step.collected.report.outcome))
+      so r (reserving x.collector_report.outcome) (ap (λ r. r.outcome) x.report)
+      (reserving_tells V x.collector_report.outcome (collected_tells V s.forest.collector who collector_event.Go _ x.collector_report.outcome (fault_own s.forest.collector who collector_event.Go) x.step.collected.report.outcome))
   goes (Some call.Walking) noise r x = so r (told x.move.outcome) (ap (λ r. r.outcome) x.report) (moved_tells x.move.outcome)
 
   proceeds : (event : Event V) (r : Report V) → IsOfCall event → Proceeds same always s who event r s' → Tells r
@@ -207,6 +207,7 @@ module _ {V : Type 0} where
   go_worker who (Done d) step g = absurd g
   go_worker who (Refused e) step g = absurd g
 
+  -- a turn of a worker's call is a step of that worker's
   pub turn_worker : (who : ℕ) (op : Op V) (last : Option (Report V)) (step : Step V) → IsTurn who op last step → step.worker ≡ who
   turn_worker who op None step t = ap (λ (x : Step V). x.worker) t
   turn_worker who op (Some r) step t = go_worker who r.outcome step t
@@ -226,7 +227,7 @@ module _ {V Q : Type 0} (hold : ℕ → Op V → Step V → Report V → Type 0)
   abbrev Gives : S → Step V → Report V → S → Type 0
   Gives s step r s' = hold (worker s) (oper s) step r × (worker s' ≡ worker s) × (oper s' ≡ oper s)
 
-  -- the turns, whoever gave them
+  -- turns given by a state that keeps worker and call are turns of that call, whoever gave them
   pub anyhow : {F : Type 0} (calls : F → Option V → Option V → F → Type 0) (ts : List (OneTurn V)) (s : S) (f : F) (last : Option (Report V)) (places : List Q) (s' : S) (places' : List Q) (o : Outcome V) → worker s ≡ who → oper s ≡ op
       → AreTurns Gives calls pair who op s f last places ts s' places' o
       → AreTurns {S = Unit {0}} (λ _ step r _. hold who op step r) calls pair who op (tt {0}) f last places ts (tt {0}) places' o
@@ -248,7 +249,7 @@ module _ {V S Q : Type 0} (gives : S → Step V → Report V → S → Type 0) (
   turns_mute calls None f step f' t = (t.0, refl)
   turns_mute calls (Some r) f step f' t = goes_mute calls r.outcome f step f' t
 
-  -- and whatever answered
+  -- and they are turns whatever closure answered
   pub mute : {F : Type 0} (calls : F → Option V → Option V → F → Type 0) (ts : List (OneTurn V)) (s : S) (f : F) (last : Option (Report V)) (places : List Q) (s' : S) (places' : List Q) (o : Outcome V) → AreTurns gives calls pair who op s f last places ts s' places' o
       → AreTurns {F = Unit {0}} gives (λ _ _ _ _. Unit {0}) pair who op s (tt {0}) last places ts s' places' o
   mute calls [] s f last places s' places' o h = h

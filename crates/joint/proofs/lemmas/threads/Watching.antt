@@ -16,10 +16,11 @@ module _ (watched : Entry ℕ → Bool) where
   one_more [] e = omega arith
   one_more (x ∷ xs) e = let rest = one_more xs e in omega (arith, rest)
 
-  -- a step that appends nothing, a look-up, or a writing call
+  -- a step that appends nothing leaves the number of watched entries
   pub none_watched : (xs ys : List (Entry ℕ)) (o : Option (Entry ℕ)) → ys ≡ xs ++ in_list o → o ≡ None → count_watched watched ys ≡ count_watched watched xs
   none_watched xs ys o q n = ap (count_watched watched) (q ∙ ap (λ y. xs ++ in_list y) n ∙ append-nil xs)
 
+  -- a step that appends nothing but a look-up leaves the number of watched entries
   pub look_up_watched : (xs ys : List (Entry ℕ)) (o : Option (Entry ℕ)) → ys ≡ xs ++ in_list o → ((e : Entry ℕ) → o ≡ Some e → looks_up e.call ≡ true) → count_watched watched ys ≡ count_watched watched xs
   look_up_watched xs ys None q l = none_watched xs ys None q refl
   look_up_watched xs ys (Some e) q l =
@@ -27,6 +28,7 @@ module _ (watched : Entry ℕ → Bool) where
       let more = one_more xs e in
       ap (count_watched watched) q ∙ omega (arith, more, none)
 
+  -- a step that appends a writing call's entry makes it one more where that is watched
   pub write_watched : (xs ys : List (Entry ℕ)) (e : Entry ℕ) → ys ≡ xs ++ in_list (Some e) → looks_up e.call ≡ false → count_watched watched ys ≡ count_watched watched xs + one_where (watched e)
   write_watched xs ys e q l = ap (count_watched watched) q ∙ one_more xs e ∙ ap (λ b. count_watched watched xs + one_where (not b && watched e)) l
 
@@ -34,11 +36,12 @@ module _ (watched : Entry ℕ → Bool) where
   one_or_none true = omega arith
   one_or_none false = omega arith
 
+  -- no more entries are watched than there are
   pub count_bounded : (xs : List (Entry ℕ)) → count_watched watched xs ≤ length xs
   count_bounded [] = omega arith
   count_bounded (x ∷ xs) = let rest = count_bounded xs in let one = one_or_none (is_watched watched x) in omega (arith, rest, one)
 
--- what holds of a machine with so many places
+-- where a journal has places, it is legal and replays to the pairs that stand
 pub journaled : (s : World ℕ) → Holds nat_eq true s → HasPlaces s.log.places → IsJournaled s
 journaled s h p = record {
   places = p;

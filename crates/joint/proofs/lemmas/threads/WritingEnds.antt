@@ -20,17 +20,17 @@ use Rattle.joint.specs.threads.Threads.{End, Serves, computed, either_words, exc
 use Rattle.joint.specs.threads.Writing.{Counts}
 use Rattle.joint.proofs.lemmas.nodes.NodesInvariant.{some_injective}
 
--- a call by the index's own tokens, and another
-pub served : {B : Type 0} (b : Bool) (does : Result B Refusal → Type 0) (r : Result B Refusal) → b ≡ true → does r → Serves b does r
-served true does r q d = d
-served false does r q d = absurd (false≢true q)
+-- a call by the index's own tokens is served as it does
+pub serves_done : {B : Type 0} (b : Bool) (does : Result B Refusal → Type 0) (r : Result B Refusal) → b ≡ true → does r → Serves b does r
+serves_done true does r q d = d
+serves_done false does r q d = absurd (false≢true q)
 
 -- a call by the tokens of another index is refused for that
-pub foreign : {B : Type 0} (b : Bool) (does : Result B Refusal → Type 0) → b ≡ false → Serves b does (Err Foreign)
-foreign true does q = absurd (false≢true (sym q))
-foreign false does q = refl
+pub serves_foreign : {B : Type 0} (b : Bool) (does : Result B Refusal → Type 0) → b ≡ false → Serves b does (Err Foreign)
+serves_foreign true does q = absurd (false≢true (sym q))
+serves_foreign false does q = refl
 
--- whatever the answer's type
+-- what holds of a refusal holds of it whatever the answer's type
 pub words_refused : {B : Type 0} (of : ℕ → B) (P : Refusal → Type 0) (r : Result (Option ℕ) Refusal) → IfErr r P → IfErr (words of r) P
 words_refused of P (Ok v) x = x
 words_refused of P (Err e) x = x
@@ -52,12 +52,14 @@ module _ (watched : Entry ℕ → Bool) (who : ℕ) (ts : List (Turn ℕ)) (s s'
       let told : r ≡ reply_on nat_eq e.call c.5.0 = sym c.6 ∙ c.5.1 in
       subst (λ y. IfErr (reads (Ok (done.Reply y))) Same) (sym told) (fits e.call (own _ e.reply e.call c.4.call) c.5.0)
 
+  -- an insertion that answers a refusal counted nothing
   pub insert_refused : (k v : ℕ) (end : End ℕ) → Counts watched who (op.Insert k v) ts s s' end → IfErr (inserted end) Same
   insert_refused k v (Err e) c = c
   insert_refused k v (Ok (done.Reply r)) c =
       by_reply (op.Insert k v) inserted (λ x. x ≡ call.Insert k v) (λ a r x q. sym (some_injective _ _ q)) (λ x q found. subst (λ y. IfErr (inserted (Ok (done.Reply (reply_on nat_eq y found)))) Same) (sym q) (tt {0})) r c
   insert_refused k v (Ok _) c = absurd c
 
+  -- a removal that answers a refusal counted nothing
   pub remove_refused : (k : ℕ) (end : End ℕ) → Counts watched who (op.Remove k) ts s s' end → IfErr (removed end) Same
   remove_refused k (Err e) c = c
   remove_refused k (Ok (done.Reply r)) c =
@@ -77,6 +79,7 @@ module _ (watched : Entry ℕ → Bool) (who : ℕ) (ts : List (Turn ℕ)) (s s'
   present_fits x None = tt {0}
   present_fits x (Some v) = tt {0}
 
+  -- a call on a present key alone that answers a refusal counted nothing
   pub present_refused : (k : ℕ) (end : End ℕ) → Counts watched who (op.ComputePresent k) ts s s' end → IfErr (computed end) Same
   present_refused k (Err e) c = c
   present_refused k (Ok (done.Reply r)) c =
@@ -88,6 +91,7 @@ module _ (watched : Entry ℕ → Bool) (who : ℕ) (ts : List (Turn ℕ)) (s s'
   insert_call k None c q = absurd (cc q)
   insert_call k (Some v) c q = (v, sym (some_injective _ _ q))
 
+  -- a call that computes what to insert and answers a refusal counted nothing
   pub replace_refused : (k : ℕ) (end : End ℕ) → Counts watched who (op.ComputeInsert k) ts s s' end → IfErr (replaced end) Same
   replace_refused k (Err e) c = c
   replace_refused k (Ok (done.Reply r)) c =
@@ -103,6 +107,7 @@ module _ (watched : Entry ℕ → Bool) (who : ℕ) (ts : List (Turn ℕ)) (s s'
   exchange_fits old new None = tt {0}
   exchange_fits old new (Some v) = exchange_by (nat_eq v old) new v
 
+  -- an exchange that answers a refusal counted nothing
   pub exchange_refused : (k old : ℕ) (new : Option ℕ) (end : End ℕ) → Counts watched who (op.Exchange k old new) ts s s' end → IfErr (exchanged end) Same
   exchange_refused k old new (Err e) c = c
   exchange_refused k old new (Ok (done.Reply r)) c =

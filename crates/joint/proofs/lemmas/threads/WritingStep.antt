@@ -9,21 +9,16 @@ use Rattle.joint.specs.declared.steps.Outcome.{Outcome}
 use Rattle.joint.specs.declared.steps.Outcome.TheVariants.{Running, Asks, Found, Registered, Done, Refused}
 use Rattle.joint.specs.declared.steps.Report.{Report}
 use Rattle.joint.specs.declared.steps.Step.{Step}
-use Rattle.joint.specs.Asked.{changes}
+use Rattle.joint.specs.Changes.{changes}
 use Rattle.joint.specs.threads.Driving.{IsToldInCall}
 use Rattle.joint.specs.engine.Journaling.{has_place}
 use Rattle.joint.specs.threads.Journals.{count_watched}
 use Rattle.joint.specs.world.MapSteps.{looks_up}
 use Rattle.joint.specs.world.World.{IsStep}
 use Rattle.joint.specs.engine.Engine.{World}
-use Rattle.joint.specs.threads.Writing.{Appended, Appends, Progress, WontRepeat, WritingTurn, given_after, noted, settled, told_with, weight}
+use Rattle.joint.specs.threads.Writing.{Appended, Appends, Progress, WontRepeat, WritingTurn, given_after, noted, told_with, weight}
 use Rattle.joint.proofs.lemmas.threads.Appending.{entry_changes}
 use Rattle.joint.proofs.lemmas.threads.Watching.{look_up_watched, none_watched, write_watched}
-
--- what a call with an entry tells is told in a call
-pub settled_tells : (e : Option (Entry ℕ)) → IsToldInCall (settled e)
-settled_tells None = tt {0}
-settled_tells (Some e) = tt {0}
 
 -- what is told in a call is told in it beside an entry too
 pub told_tells : (e : Option (Entry ℕ)) (o : Outcome ℕ) → IsToldInCall o → IsToldInCall (told_with e o)

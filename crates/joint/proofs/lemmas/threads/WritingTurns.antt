@@ -20,7 +20,7 @@ use Rattle.joint.specs.engine.Engine.{World}
 use Rattle.joint.specs.threads.Writing.{Appends, Counts, HoldsWriting, IsAnswered, IsEntryOf, IsWritingTurn, Progress, WritingTurn, given_after, given_by_turns, settled, told_with, unwritten}
 use Rattle.joint.proofs.lemmas.calls.WorldSteps.{journal_legal}
 
--- no items
+-- a list of length 0 has no items
 pub none_of : {A : Type 0} (xs : List A) → length xs ≡ 0 → xs ≡ []
 none_of [] q = refl
 none_of (x ∷ xs) q = absurd (omega (arith, q))
@@ -175,6 +175,7 @@ module _ (watched : Entry ℕ → Bool) (who : ℕ) (o : Op ℕ) where
       by (done.Empty b) f = absurd f
       by (done.Stats stats) f = absurd f
 
+    -- a whole writing call answers its entry's reply, and its share counts that entry where it is watched
     pub counts : (ts : List (Turn ℕ)) (share : ShareView) (f : F) (places : List Q) (p' : Progress) (places' : List Q) (end : End ℕ) → Are (unwritten share) f None places ts p' places' (ended end) → Counts watched who o ts share p'.share end
     counts ts share f places p' places' end x =
         counts_by ts share p' end (ends_fit ts (unwritten share) f None places p' places' (ended end) (λ r q. absurd (cc q)) x) (comes ts (unwritten share) f None places p' places' (ended end) None refl x)
@@ -184,14 +185,14 @@ module _ (watched : Entry ℕ → Bool) (who : ℕ) (o : Op ℕ) where
       abbrev Gives : S → Step ℕ → Report ℕ → S → Type 0
       Gives s step r s' = IsWritingTurn watched (worker s) (oper s) (call s) step r (call s') × (worker s' ≡ worker s) × (oper s' ≡ oper s)
 
-      pub by_anyone : (ts : List (Turn ℕ)) (s : S) (f : F) (last : Option (Report ℕ)) (places : List Q) (s' : S) (places' : List Q) (out : Outcome ℕ) → worker s ≡ who → oper s ≡ o → AreTurns Gives calls pair who o s f last places ts s' places' out
+      by_anyone : (ts : List (Turn ℕ)) (s : S) (f : F) (last : Option (Report ℕ)) (places : List Q) (s' : S) (places' : List Q) (out : Outcome ℕ) → worker s ≡ who → oper s ≡ o → AreTurns Gives calls pair who o s f last places ts s' places' out
           → Are (call s) f last places ts (call s') places' out
       by_anyone [] s f last places s' places' out w q x = (ap call x.0, x.1, x.2)
       by_anyone (t ∷ ts) s f last places s' places' out w q x =
           let turn : IsWritingTurn watched who o (call s) t.step t.report (call x.1) = subst (λ y. IsWritingTurn watched who y (call s) t.step t.report (call x.1)) q (subst (λ y. IsWritingTurn watched y (oper s) (call s) t.step t.report (call x.1)) w x.3.0) in
           (x.0, call x.1, x.2, turn, by_anyone ts x.1 x.0 (Some t.report) _ s' places' out (x.3.1 ∙ w) (x.3.2 ∙ q) x.4)
 
-      -- from what the call has come to before the first of them
+      -- turns given by a state are turns of the call, from what that had come to before the first
       pub from_start : (p : Progress) (ts : List (Turn ℕ)) (s : S) (f : F) (last : Option (Report ℕ)) (places : List Q) (s' : S) (places' placed : List Q) (out : Outcome ℕ) → worker s ≡ who → oper s ≡ o → call s ≡ p → places' ≡ placed → AreTurns Gives calls pair who o s f last places ts s' places' out
           → Are p f last places ts (call s') placed out
       from_start p ts s f last places s' places' placed out w q c e x = subst (λ y. Are p f last places ts (call s') y out) e (subst (λ y. Are y f last places ts (call s') places' out) c (by_anyone ts s f last places s' places' out w q x))

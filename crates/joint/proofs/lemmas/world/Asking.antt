@@ -21,16 +21,16 @@ use Rattle.joint.specs.declared.steps.Outcome.TheVariants.{Running, Asks, Found,
 use Rattle.joint.specs.declared.steps.Report.{Report}
 use Rattle.joint.specs.declared.steps.Target.{Target}
 use Rattle.joint.specs.declared.steps.Target.TheVariants as target
-use Rattle.joint.specs.engine.Intact.{root}
+use Rattle.joint.specs.Names.{root}
 use Rattle.joint.specs.engine.Journaling.{asks_at}
 use Rattle.joint.specs.engine.Log.{asked, answered_if, request_at}
-use Rattle.joint.specs.Reports.{target, told}
+use Rattle.joint.specs.Reports.{target, told, is_in_flight}
 use Rattle.joint.specs.world.MapSteps.{EventMap, GoMap, PendingStep, BeginMap, BeginsOr, Stays, Line}
 use Rattle.joint.specs.engine.Flying.{Flights, AreInFlight, with_flight}
 use Rattle.joint.specs.world.World.{IsAsked, requests_after}
-use Rattle.joint.specs.engine.Engine.{World, EngineHolds, Does, is_in_flight, misuse, engine_of}
+use Rattle.joint.specs.engine.Engine.{World, EngineHolds, Does, misuse, engine_of}
 use Rattle.joint.proofs.lemmas.world.Flights.{ends_stays, flight_here, flight_apart}
-use Rattle.joint.proofs.lemmas.world.Requested.{TakesAnswer, asks, is_asked, heard_is, undecided_asked, begins_asked}
+use Rattle.joint.proofs.lemmas.world.Requested.{TakesAnswer, asks, is_asked, answered_is, undecided_asked, begins_asked}
 use Rattle.joint.proofs.lemmas.world.JournalPlaces.{asks_here}
 use Rattle.joint.proofs.lemmas.engine.Entering.{begin_free}
 
@@ -67,6 +67,7 @@ module _ {V : Type 0} where
   request_apart : (qs : List (Option (Request V))) (w i : ℕ) (o : Option (Request V)) → i ≢ w → request_at (slice_set qs w o) i ≡ request_at qs i
   request_apart qs w i o n = get_or-set_other qs w i o None n
 
+  -- where one worker's request and its call changed, and they agree, every worker's request agrees with its call
   pub asked_set : (qs : List (Option (Request V))) (fs : Flights V) (w : ℕ) (o : Option (Request V)) (f' : Flight V) → ((i : ℕ) → IsAsked (request_at qs i) (fs i)) → IsAsked (request_at (slice_set qs w o) w) f'
       → (fs' : Flights V) → fs' w ≡ f' → ((i : ℕ) → i ≢ w → fs' i ≡ fs i) → (i : ℕ) → IsAsked (request_at (slice_set qs w o) i) (fs' i)
   asked_set qs fs w o f' each here fs' e apart i = elim (cases_Bool (i == w)) [
@@ -104,9 +105,6 @@ module _ {V : Type 0} (same : V → V → Bool) (always : Bool) (s s' : World V)
   abbrev Begun : Op V → Outcome V → Flights V → Type 0
   Begun op o fs' = Agrees (if is_in_flight o then slice_set qs w (asked op) else qs) fs'
 
-  accepted_as : (op : Op V) (o : Outcome V) (fs' : Flights V) → o ≡ Running → Agrees (slice_set qs w (asked op)) fs' → Begun op o fs'
-  accepted_as op o fs' e x = let P : Outcome V → Type 0 = λ y. Begun op y fs' in subst P (sym e) x
-
   tree_begin : (op : Op V) (p : Point V) (r : Report V) (l : Line V) (fs' : Flights V) (o : Outcome V) → target op ≡ target.Tree p → l.step.worker ≡ w → l.report.outcome ≡ o → (is_in_flight o ≡ true → (fs w ≡ Over) × (w < length s.calls)) → BeginsOr fs m p o l fs' → Begun op o fs'
   tree_begin op p r l fs' (Refused e) t we q over x = stays_begin op r l fs' false (λ z. absurd (false≢true z)) x
   tree_begin op p r l fs' (Done d) t we q over x = stays_begin op r l fs' false (λ z. absurd (false≢true z)) (ends_stays fs m p d l fs' x)
@@ -136,13 +134,14 @@ module _ {V : Type 0} (same : V → V → Bool) (always : Bool) (s s' : World V)
     past_or_in : (n i : ℕ) → (n ≤ i) ⊎ (i < n)
     past_or_in n i = grind arith
 
+  -- a call that hasn't taken effect takes the step's answer, and its request then has that value
   pub pending_next : (noise : Noise Id V) (k : ℕ) (kd : Kind V) (v : Option V) (q : Question V) → fs w ≡ Pending k kd v q → TakesAnswer (answered_if (asks_at (slice_get s.machines w)) noise.answer (request_at qs w)) k kd (value_answered kd q noise.answer v) (resolved kd q noise.answer)
   pending_next noise k kd v q e =
       let a : IsAsked (request_at qs w) (Pending k kd v q) = subst (λ (x : Flight V). IsAsked (request_at qs w) x) e (each w) in
       let b : asks_at (slice_get s.machines w) ≡ is_asked q = asks_here same always (engine_of s) w holds fs fl ∙ ap asks e in
       let P : Bool → Type 0 = λ z. TakesAnswer (answered_if z noise.answer (request_at qs w)) k kd (value_answered kd q noise.answer v) (resolved kd q noise.answer) in
       let Q : Option (Request V) → Type 0 = λ o. TakesAnswer (answered_if (is_asked q) noise.answer o) k kd (value_answered kd q noise.answer v) (resolved kd q noise.answer) in
-      subst P (sym b) (subst Q (sym a.1) (heard_is a.0 k kd v q noise.answer a.2 a.3))
+      subst P (sym b) (subst Q (sym a.1) (answered_is a.0 k kd v q noise.answer a.2 a.3))
 
   pending_case : (noise : Noise Id V) (k : ℕ) (kd : Kind V) (v : Option V) (q : Question V) (l : Line V) (d : Bool) (f' : Flight V) (on : Bool) → fs w ≡ Pending k kd v q → is_in_flight l.report.outcome ≡ on
       → PendingStep same k kd (value_answered kd q noise.answer v) (resolved kd q noise.answer) m d l f' → IsAsked (request_at (slice_set qs w (next noise on)) w) f'
@@ -156,13 +155,14 @@ module _ {V : Type 0} (same : V → V → Bool) (always : Bool) (s s' : World V)
 
   go_case : (noise : Noise Id V) (f : Flight V) (l : Line V) (fs' : Flights V) (on : Bool) → fs w ≡ f → l.step.worker ≡ w → is_in_flight l.report.outcome ≡ on → GoMap same fs f m noise.answer l fs' → Agrees (slice_set qs w (next noise on)) fs'
   go_case noise (Pending k kd v q) l fs' on e we o x =
-      gone noise on fs' x.next (x.advances ∙ ap (λ j. with_flight fs j x.next) we) (pending_case noise k kd v q l l.report.decided x.next on e o x.step)
-  go_case noise (Decided r) l fs' on e we o x = gone noise on fs' x.next (x.advances ∙ ap (λ j. with_flight fs j x.next) we) (concluded_asked _ r x.step.outcome x.next x.step.concludes)
+      gone noise on fs' x.next (x.with_next ∙ ap (λ j. with_flight fs j x.next) we) (pending_case noise k kd v q l l.report.decided x.next on e o x.step)
+  go_case noise (Decided r) l fs' on e we o x = gone noise on fs' x.next (x.with_next ∙ ap (λ j. with_flight fs j x.next) we) (concluded_asked _ r x.step.outcome x.next x.step.concludes)
   go_case noise Over l fs' on e we o x =
       asked_set qs fs w (next noise on) (fs w) each (over_here (request_at (slice_set qs w (next noise on)) w) e) fs' (ap (λ (g : Flights V). g w) x.same_flights) (λ i n. ap (λ (g : Flights V). g i) x.same_flights)
-  go_case noise (Unbegun start end size) l fs' on e we o x = gone noise on fs' x.next (x.advances ∙ ap (λ j. with_flight fs j x.next) we) (scan_asked _ start end size (m ∷ []) [] x.step.outcome x.next x.step.tells)
-  go_case noise (Scanning start end size states places) l fs' on e we o x = gone noise on fs' x.next (x.advances ∙ ap (λ j. with_flight fs j x.next) we) (scan_asked _ start end size (m ∷ states) places x.step.outcome x.next x.step.tells)
+  go_case noise (Unbegun start end size) l fs' on e we o x = gone noise on fs' x.next (x.with_next ∙ ap (λ j. with_flight fs j x.next) we) (scan_asked _ start end size (m ∷ []) [] x.step.outcome x.next x.step.tells)
+  go_case noise (Scanning start end size states places) l fs' on e we o x = gone noise on fs' x.next (x.with_next ∙ ap (λ j. with_flight fs j x.next) we) (scan_asked _ start end size (m ∷ states) places x.step.outcome x.next x.step.tells)
 
+  -- after a step each worker's request agrees with its call
   pub asked_after : (event : Event V) (l : Line V) (fs' : Flights V) → l.step.worker ≡ w → Does same always (engine_of s) w event (misuse (engine_of s) w event) l.report (engine_of s') → EventMap same fs m event l fs'
       → (i : ℕ) → IsAsked (request_at (requests_after s w event (is_in_flight l.report.outcome)) i) (fs' i)
   asked_after Register l fs' we does x = λ i. subst (λ (g : Flights V). IsAsked (request_at qs i) (g i)) (sym x.same_flights) (each i)

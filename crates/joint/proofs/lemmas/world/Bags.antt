@@ -39,7 +39,7 @@ module _ {X : Type 0} where
   sum_by_none (x ∷ xs) = let rest = sum_by_none xs in omega (arith, rest, sum_by-cons (λ y. 0) x xs)
 
   -- a sum above none has a term above none, and each term is within its sum
-  pub some_term : (f : X → ℕ) (xs : List X) → 1 ≤ sum_by f xs → (x : X) × (1 ≤ f x) × ((g : X → ℕ) → g x ≤ sum_by g xs)
+  some_term : (f : X → ℕ) (xs : List X) → 1 ≤ sum_by f xs → (x : X) × (1 ≤ f x) × ((g : X → ℕ) → g x ≤ sum_by g xs)
   some_term f [] le = absurd (omega arith)
   some_term f (x ∷ xs) le = elim (cases_lt 0 (f x)) [
     | inl lt ↦ (x, omega arith, λ g. omega (arith, sum_by-cons g x xs))
@@ -162,7 +162,7 @@ module _ {V : Type 0} (s : Nodes V) (f : IsFiled s) (ns : List ℕ) (all : (n : 
       let d = sum_by-le-sum_by (λ k. weight (removes (named k)) s.collector) (λ k. 1) ns (λ k. (let x = f.filed (named k) in let y = bit_few (is_waiting (nodes s (number (named k)))) in omega (arith, x, y))) in
       omega (arith, a, b, c, none_bare, d, ones ns)
 
--- so no more than nodes wait
+-- no more jobs stand in bags than nodes wait
 pub jobs_waiting : {V : Type 0} (s : World V) → IsFiled s.forest → job_count s.forest.collector ≤ length (waiting_nodes s)
 jobs_waiting {V} s f =
     let few = jobs_few s.forest f (handed_nodes s.forest) (λ n w. listed is_waiting (λ v. v.word.retired) (none_waits V) some_waits s.forest n w) in

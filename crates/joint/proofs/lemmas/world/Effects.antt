@@ -63,7 +63,7 @@ module _ {V : Type 0} where
   call_looks k kind.ComputeInsert (Some x) found c i = sym (ap (λ x. not (looks_up x)) i)
   call_looks k (kind.Exchange old) v found c i = sym (ap (λ x. not (looks_up x)) i)
 
-  -- the entry of a call that was heard
+  -- the entry of a call that took its answer
   entry_is : (w : ℕ) (o : Option (Request V)) (q : Request V) (ro : Option (Reply V)) (r : Reply V) (c : Entered V) (e : Entry V) → o ≡ Some q → ro ≡ Some r → call_of q.op q.answer r ≡ Some c → e.worker ≡ w → e.call ≡ c → e.reply ≡ r
       → entry_of w o ro ≡ Some e
   entry_is w o q ro r c e oq ror oc ew ec er =
@@ -131,12 +131,13 @@ module _ {V : Type 0} (same : V → V → Bool) (always : Bool) (s s' : World V)
   pending_effect noise k kd v q f' false d e e' n t = absurd (false≢true d)
 
   go_effect : (noise : Noise Id V) (f : Flight V) → fs w ≡ f → l.report.decided ≡ true → is_reserving (slice_get s.calls w) ≡ false → GoMap same fs f m noise.answer l fs' → Effect (Go noise)
-  go_effect noise (Pending k kd v q) e d n x = pending_effect noise k kd v q x.next l.report.decided d e (advanced x.next x.advances) n x.step
+  go_effect noise (Pending k kd v q) e d n x = pending_effect noise k kd v q x.next l.report.decided d e (advanced x.next x.with_next) n x.step
   go_effect noise (Decided r) e d n x = absurd (false≢true (sym x.step.undecided ∙ d))
   go_effect noise Over e d n x = absurd (false≢true (sym x.undecided ∙ d))
   go_effect noise (Unbegun start end size) e d n x = absurd (false≢true (sym x.step.undecided ∙ d))
   go_effect noise (Scanning start end size states places) e d n x = absurd (false≢true (sym x.step.undecided ∙ d))
 
+  -- no call takes effect in the step in which it begins
   pub begin_undecided : (t : Target V) (o : Outcome V) → l.report.outcome ≡ o → BeginMap fs m t l fs' → l.report.decided ≡ false
   begin_undecided (target.Collector op) o e x = x.undecided
   begin_undecided (target.Survey k) o e x = x.stays.undecided
@@ -149,10 +150,11 @@ module _ {V : Type 0} (same : V → V → Bool) (always : Bool) (s s' : World V)
     by (Found place key value) z = z.undecided
     by (Registered n) z = z.undecided
 
-  pub effect : (event : Event V) → l.report.decided ≡ true → Does same always (engine_of s) w event (misuse (engine_of s) w event) l.report (engine_of s') → EventMap same fs m event l fs' → Effect event
-  effect Register d does x = absurd (false≢true (sym x.undecided ∙ d))
-  effect (Begin op) d does x = absurd (false≢true (sym (begin_undecided (target op) l.report.outcome refl x) ∙ d))
-  effect (Go noise) d does x =
+  -- a step that decides has the entry of the call that took effect
+  pub decided_effect : (event : Event V) → l.report.decided ≡ true → Does same always (engine_of s) w event (misuse (engine_of s) w event) l.report (engine_of s') → EventMap same fs m event l fs' → Effect event
+  decided_effect Register d does x = absurd (false≢true (sym x.undecided ∙ d))
+  decided_effect (Begin op) d does x = absurd (false≢true (sym (begin_undecided (target op) l.report.outcome refl x) ∙ d))
+  decided_effect (Go noise) d does x =
       let P : ℕ → Type 0 = λ j. GoMap same fs (fs j) m noise.answer l fs' in
       let first : is_reserving (slice_get s.calls w) ≡ false = elim (cases_Bool (is_reserving (slice_get s.calls w))) [
         | inl e ↦ absurd (false≢true (sym (first_undecided same always (engine_of s) (engine_of s') w holds noise l.report e does) ∙ d))
@@ -192,6 +194,7 @@ module _ {V : Type 0} (same : V → V → Bool) (always : Bool) (s s' : World V)
     by (Found place key value) z = record { no_entry = z.no_entry; same_pairs = z.same_pairs }
     by (Registered n) z = record { no_entry = z.no_entry; same_pairs = z.same_pairs }
 
+  -- a step that doesn't decide has no entry, and the pairs stay
   pub leaves : (event : Event V) → l.report.decided ≡ false → EventMap same fs m event l fs' → Leaves
   leaves Register d x = of_stays x
   leaves (Begin op) d x = begin_leaves (target op) l.report.outcome refl x

@@ -6,7 +6,7 @@ use Rattle.std.proofs.lemmas.Bool.{cases_Bool, eqb-true, eqb-false, true_from_ne
 use Rattle.congee.specs.declared.protocol.machine.Machine.{Machine}
 use Rattle.congee.specs.declared.protocol.op.Op.{Op as Point}
 use Rattle.congee.specs.declared.protocol.op.Op.TheVariants as point
-use Rattle.congee.specs.declared.protocol.phase.Phase.TheVariants.{Ended, Sweep}
+use Rattle.congee.specs.declared.protocol.phase.Phase.TheVariants.{Ended, Scan}
 use Rattle.judge.specs.Answer.{Pairs}
 use Rattle.congee.specs.protocol.Play.{Flight, Pending, Over, Unasked, begun, parts, range_of, flight, Follows, Following}
 use Rattle.joint.specs.declared.engine.in_flight.InFlight.{InFlight}
@@ -14,9 +14,11 @@ use Rattle.joint.specs.declared.engine.in_flight.InFlight.TheVariants.{Idle, Col
 use Rattle.joint.specs.declared.id.Id.{Id}
 use Rattle.joint.specs.declared.steps.Done.{Done as Answer}
 use Rattle.joint.specs.declared.steps.Done.TheVariants as done
-use Rattle.joint.specs.engine.Intact.{root, writes}
+use Rattle.joint.specs.engine.Intact.{writes}
+use Rattle.joint.specs.Names.{root}
 use Rattle.joint.specs.world.MapSteps.{EndsAtOnce, EndsEmpty, Stays, Line}
 use Rattle.joint.specs.engine.Flying.{Flights, with_flight, IsInFlight}
+use Rattle.joint.specs.world.World.{IsOnKey}
 
 -- a number passes the test for itself
 pub eqb_same : (w : ℕ) → (w == w) ≡ true
@@ -29,9 +31,11 @@ set_at (y ∷ xs) zero x l = refl
 set_at (y ∷ xs) (suc i) x l = set_at xs i x (omega (arith, l))
 
 module _ {V : Type 0} where
+  -- the worker whose call was put has that call
   pub flight_here : (fs : Flights V) (w : ℕ) (f : Flight V) → with_flight fs w f w ≡ f
   flight_here fs w f = let P : Bool → Type 0 = λ b. (if b then f else fs w) ≡ f in subst P (sym (eqb_same w)) refl
 
+  -- each other worker has the call that it had
   pub flight_apart : (fs : Flights V) (w i : ℕ) (f : Flight V) → i ≢ w → with_flight fs w f i ≡ fs i
   flight_apart fs w i f n = elim (cases_Bool (i == w)) [
     | inl e ↦ absurd (n (eqb-true i w e))
@@ -43,6 +47,7 @@ module _ {V : Type 0} where
   empty_stays None count fs m l fs' x = absurd x
   empty_stays (Some (start, end, size)) count fs m l fs' x = x.stays
 
+  -- a call that is done as it begins leaves the map, and the calls in flight
   pub ends_stays : (fs : Flights V) (m : Pairs V) (op : Point V) (d : Answer V) (l : Line V) (fs' : Flights V) → EndsAtOnce fs m op d l fs' → Stays fs m l fs'
   ends_stays fs m op (done.Scanned count) l fs' x = empty_stays (range_of op) count fs m l fs' x
   ends_stays fs m op done.Unit l fs' x = absurd x
@@ -51,7 +56,7 @@ module _ {V : Type 0} where
   ends_stays fs m op (done.Empty b) l fs' x = absurd x
   ends_stays fs m op (done.Stats stats) l fs' x = absurd x
 
-  -- a call that may hand a node over, and has not begun
+  -- a writing call that has not begun is watched as one that has yet to take effect, and hasn't asked
   pub pending : (op : Point V) → writes op ≡ true → flight (begun root op) ≡ Pending (parts op).0 (parts op).1 (parts op).2 Unasked
   pending (point.Get k) p = absurd (cc p)
   pending (point.Insert k v) p = refl
@@ -62,6 +67,18 @@ module _ {V : Type 0} where
   pending (point.Range start end size) p = absurd (cc p)
   pending (point.RangeInclusive start last size) p = absurd (cc p)
 
+  -- a call on one key waits to take effect from its begin on
+  pub begins_pending : (p : Point V) → IsOnKey p → flight (begun root p) ≡ Pending (parts p).0 (parts p).1 (parts p).2 Unasked
+  begins_pending (point.Get k) u = refl
+  begins_pending (point.Insert k v) u = refl
+  begins_pending (point.Remove k) u = refl
+  begins_pending (point.ComputePresent k) u = refl
+  begins_pending (point.ComputeInsert k) u = refl
+  begins_pending (point.Exchange k old new) u = refl
+  begins_pending (point.Range start end size) u = absurd u
+  begins_pending (point.RangeInclusive start last size) u = absurd u
+
+  -- the machine of a call that begins is watched as that call
   pub begun_follows : (op : Point V) → Follows (begun root op) (flight (begun root op))
   begun_follows (point.Get k) = inl (tt, refl)
   begun_follows (point.Insert k v) = inl (tt, refl)
@@ -73,9 +90,9 @@ module _ {V : Type 0} where
   begun_follows (point.RangeInclusive start last size) = inr (_, refl, inl (refl, refl))
 
   -- a call that has ended is watched no longer
-  pub ended : (m : Machine Id V) (f : Flight V) → m.phase ≡ Ended → Follows m f → f ≡ Over
-  ended m f e (inl x) = x.1 ∙ (let P : _ → Type 0 = λ p. flight (record m { phase = p }) ≡ Over in subst P (sym e) refl)
-  ended m f e (inr (s, p, x)) = absurd (let q : Ended ≡ Sweep s = sym e ∙ p in cc)
+  pub over_when_ended : (m : Machine Id V) (f : Flight V) → m.phase ≡ Ended → Follows m f → f ≡ Over
+  over_when_ended m f e (inl x) = x.1 ∙ (let P : _ → Type 0 = λ p. flight (record m { phase = p }) ≡ Over in subst P (sym e) refl)
+  over_when_ended m f e (inr (s, p, x)) = absurd (let q : Ended ≡ Scan s = sym e ∙ p in cc)
 
   -- each machine's own flight, for those whose call is on the tree
   abbrev pub own : InFlight V → Flight V → Flight V
@@ -85,10 +102,12 @@ module _ {V : Type 0} where
   own (Reserving op) f = Over
   own (Securing op) f = Over
 
+  -- those of the workers whose calls these are, the first of whom has this number
   abbrev pub listed : List (InFlight V) → Flights V → ℕ → List (Flight V)
   listed [] fs i = []
   listed (k ∷ ks) fs i = own k (fs i) ∷ listed ks fs (suc i)
 
+  -- where a worker's call is on the tree, its place in the list has its flight
   pub listed_at : (ks : List (InFlight V)) (fs : Flights V) (i j : ℕ) → slice_get ks j ≡ Some Walking → slice_get (listed ks fs i) j ≡ Some (fs (i + j))
   listed_at [] fs i j e = absurd cc
   listed_at (k ∷ ks) fs i zero e =
@@ -107,6 +126,7 @@ module _ {V : Type 0} where
   own_follows (Securing op) m f i e = ended_follows m (e (λ q. cc))
   own_follows Walking m f i e = i
 
+  -- where each call is watched beside its machine, the list follows the machines
   pub following : (ks : List (InFlight V)) (ms : List (Machine Id V)) (fs : Flights V) (i : ℕ) → length ms ≡ length ks
       → ((j : ℕ) (k : InFlight V) (m : Machine Id V) → slice_get ks j ≡ Some k → slice_get ms j ≡ Some m → IsInFlight k m (fs (i + j)))
       → ((j : ℕ) (k : InFlight V) (m : Machine Id V) → slice_get ks j ≡ Some k → slice_get ms j ≡ Some m → (k ≡ Walking → ⊥) → m.phase ≡ Ended)
@@ -119,7 +139,7 @@ module _ {V : Type 0} where
     following ks ms fs (suc i) (omega (arith, l)) (λ j x y a b. let P : ℕ → Type 0 = λ n. IsInFlight x y (fs n) in subst P (omega arith) (each (suc j) x y a b)) (λ j x y a b. rest (suc j) x y a b),
   )
 
-  -- what is watched of one machine
+  -- where a list follows the machines, each machine is watched as its place of the list says
   pub followed : (ms : List (Machine Id V)) (fs : List (Flight V)) (i : ℕ) (m : Machine Id V) (f : Flight V) → Following ms fs → slice_get ms i ≡ Some m → slice_get fs i ≡ Some f → Follows m f
   followed [] [] i m f x a b = absurd cc
   followed [] (g ∷ gs) i m f x a b = absurd x

@@ -12,20 +12,22 @@ use Rattle.congee.specs.declared.protocol.machine.Outcome.TheVariants as moved
 use Rattle.congee.specs.declared.protocol.op.Op.{Op as Point}
 use Rattle.congee.specs.declared.protocol.op.Op.TheVariants as point
 use Rattle.congee.specs.declared.protocol.phase.Kind.{Kind}
-use Rattle.congee.specs.declared.protocol.sweep.Sweep.{Sweep as Scan}
+use Rattle.congee.specs.declared.protocol.scan.ScanState.{ScanState as ScanState}
 use Rattle.congee.specs.protocol.Play.{Flight, Pending, Decided, Over, Unbegun, Scanning, Question, value_answered, resolved, Undecided, Concludes, ScanTells, ScanFollows, Follows, begun, flight}
 use Rattle.congee.specs.protocol.State.{is_asking, is_pending, may_write}
 use Rattle.congee.specs.protocol.Answers.{reply_in}
 use Rattle.joint.specs.declared.engine.in_flight.InFlight.{InFlight}
 use Rattle.joint.specs.declared.engine.in_flight.InFlight.TheVariants.{Idle, Collecting, Reserving, Securing, Walking}
 use Rattle.joint.specs.declared.id.Id.{Id}
-use Rattle.joint.specs.engine.Intact.{IsAt, is_reserving, root, writes}
+use Rattle.joint.specs.engine.Intact.{IsAt, is_reserving, writes}
+use Rattle.joint.specs.Names.{root}
 use Rattle.joint.specs.engine.Journaling.{asks_at, has_place, is_writing, reply_at}
 use Rattle.joint.specs.world.MapSteps.{GoMap, PendingStep, Line}
 use Rattle.joint.specs.engine.Flying.{Flights, IsInFlight, AreInFlight, with_flight}
 use Rattle.joint.specs.engine.Engine.{World, EngineHolds, place_of}
 use Rattle.joint.proofs.lemmas.world.Flights.{flight_here}
 use Rattle.joint.proofs.lemmas.world.Requested.{asks, writes_on, replied, phase_asks, phase_writes, phase_replied}
+use Rattle.joint.proofs.lemmas.engine.Collecting.{get_beside}
 
 module _ {V : Type 0} where
   begun_writes : (op : Point V) → writes op ≡ true → writes_on (flight (begun root op)) ≡ true
@@ -38,6 +40,7 @@ module _ {V : Type 0} where
   begun_writes (point.Range start end size) e = absurd (cc e)
   begun_writes (point.RangeInclusive start last size) e = absurd (cc e)
 
+  -- a call that begins doesn't ask
   pub begun_asks : (op : Point V) → asks (flight (begun root op)) ≡ false
   begun_asks (point.Get k) = refl
   begun_asks (point.Insert k v) = refl
@@ -64,7 +67,7 @@ module _ {V : Type 0} where
     pub asks_none : asks f ≡ false
     pub replies_none : replied f ≡ None
 
-  scan_is : (s : Scan Id V) (f : Flight V) → ScanFollows s f → OfScan f
+  scan_is : (s : ScanState Id V) (f : Flight V) → ScanFollows s f → OfScan f
   scan_is s f (inl x) = record { writes_none = ap writes_on x.0; asks_none = ap asks x.0; replies_none = ap replied x.0 }
   scan_is s f (inr (inl x)) = record { writes_none = ap writes_on x.0; asks_none = ap asks x.0; replies_none = ap replied x.0 }
   scan_is s f (inr (inr x)) = record { writes_none = ap writes_on x.2; asks_none = ap asks x.2; replies_none = ap replied x.2 }
@@ -104,12 +107,6 @@ module _ {V : Type 0} where
   call_replied Walking m f r i e = walking_replied m f i ∙ e
 
 module _ {V : Type 0} (same : V → V → Bool) (always : Bool) (s : World V) (w : ℕ) (holds : EngineHolds same always s) (fs : Flights V) (fl : AreInFlight s fs) where
-  machine_at : (k : InFlight V) → slice_get s.calls w ≡ Some k → (x : Machine Id V) × (slice_get s.machines w ≡ Some x)
-  machine_at k e = elim (slice_get_cases s.machines w).1 [
-    | inl x ↦ (x.0, x.2)
-    | inr x ↦ absurd (let l : w < length s.calls = slice_get_within s.calls w k e in let n : length s.machines ≡ length s.calls = holds.0.machines in omega (arith, x.0, l, n))
-  ]
-
   past_machines : slice_get s.calls w ≡ None → (o : Option (Machine Id V)) → slice_get s.machines w ≡ o → o ≡ None
   past_machines e None q = refl
   past_machines e (Some m) q = absurd (elim (slice_get_cases s.calls w).1 [
@@ -126,12 +123,14 @@ module _ {V : Type 0} (same : V → V → Bool) (always : Bool) (s : World V) (w
   here_by : (k : Option (InFlight V)) → slice_get s.calls w ≡ k → is_reserving k ≡ false → has_place k (slice_get s.machines w) ≡ writes_on (fs w)
   here_by None e r = sym (ap writes_on (past_over e))
   here_by (Some k) e r =
-      let x : (x : Machine Id V) × (slice_get s.machines w ≡ Some x) = machine_at k e in
+      let x : (x : Machine Id V) × (slice_get s.machines w ≡ Some x) = get_beside s.machines s.calls w holds.0.machines k e in
       ap (has_place (Some k)) x.1 ∙ call_writes k (place_of s w) x.0 (fs w) (holds.0.each w k x.0 e x.1) (fl.each w k x.0 e x.1) r
 
+  -- past its first step a call has a place just where it has yet to take effect and may write
   pub place_here : is_reserving (slice_get s.calls w) ≡ false → has_place (slice_get s.calls w) (slice_get s.machines w) ≡ writes_on (fs w)
   place_here r = here_by (slice_get s.calls w) refl r
 
+  -- a writing call before its first step has no place
   pub reserving_none : (k : Option (InFlight V)) (o : Option (Machine Id V)) → is_reserving k ≡ true → has_place k o ≡ false
   reserving_none (Some (Reserving op)) o e = refl
   reserving_none (Some Idle) o e = absurd (cc e)
@@ -150,18 +149,20 @@ module _ {V : Type 0} (same : V → V → Bool) (always : Bool) (s : World V) (w
   asks_by : (k : Option (InFlight V)) → slice_get s.calls w ≡ k → asks_at (slice_get s.machines w) ≡ asks (fs w)
   asks_by None e = ap asks_at (past_machines e (slice_get s.machines w) refl) ∙ sym (ap asks (past_over e))
   asks_by (Some k) e =
-      let x : (x : Machine Id V) × (slice_get s.machines w ≡ Some x) = machine_at k e in
+      let x : (x : Machine Id V) × (slice_get s.machines w ≡ Some x) = get_beside s.machines s.calls w holds.0.machines k e in
       ap asks_at x.1 ∙ call_asks k (place_of s w) x.0 (fs w) (holds.0.each w k x.0 e x.1) (fl.each w k x.0 e x.1)
 
+  -- a machine asks just where its call is watched as asking
   pub asks_here : asks_at (slice_get s.machines w) ≡ asks (fs w)
   asks_here = asks_by (slice_get s.calls w) refl
 
   reply_by : (k : Option (InFlight V)) (r : Reply V) → slice_get s.calls w ≡ k → replied (fs w) ≡ Some r → reply_at (slice_get s.machines w) ≡ Some r
   reply_by None r e q = absurd (let z : None ≡ Some r = sym (ap replied (past_over e)) ∙ q in cc)
   reply_by (Some k) r e q =
-      let x : (x : Machine Id V) × (slice_get s.machines w ≡ Some x) = machine_at k e in
+      let x : (x : Machine Id V) × (slice_get s.machines w ≡ Some x) = get_beside s.machines s.calls w holds.0.machines k e in
       ap reply_at x.1 ∙ call_replied k x.0 (fs w) r (fl.each w k x.0 e x.1) q
 
+  -- a call that is watched as having a reply has that reply in its machine
   pub reply_here : (r : Reply V) → fs w ≡ Decided r → reply_at (slice_get s.machines w) ≡ Some r
   reply_here r e = reply_by (slice_get s.calls w) r refl (ap replied e)
 
@@ -175,6 +176,7 @@ module _ {V : Type 0} where
   undecided_writes k kd v q (moved.Found place key x) f' u e = absurd u
   undecided_writes k kd v q (moved.Scanned count) f' u e = absurd u
 
+  -- a call that took effect may not write any more
   pub concluded_writes : (r : Reply V) (m : Moved V) (f' : Flight V) → Concludes r m f' → writes_on f' ≡ false
   concluded_writes r moved.Running f' u = ap writes_on u
   concluded_writes r (moved.Asks x) f' u = absurd u
@@ -200,10 +202,11 @@ module _ {V : Type 0} where
     advanced_writes : (fs fs' : Flights V) (w : ℕ) (f' : Flight V) → fs' ≡ with_flight fs w f' → writes_on f' ≡ false → writes_on (fs' w) ≡ false
     advanced_writes fs fs' w f' e n = ap (λ (g : Flights V). writes_on (g w)) e ∙ ap writes_on (flight_here fs w f') ∙ n
 
+    -- a call that may not write may not after a further step either
     pub go_writes : (fs : Flights V) (f : Flight V) (m : Pairs V) (answer : Option (Option V)) (l : Line V) (fs' : Flights V) → fs l.step.worker ≡ f → GoMap same fs f m answer l fs' → writes_on f ≡ false → writes_on (fs' l.step.worker) ≡ false
     go_writes fs (Pending k kd v q) m answer l fs' e x n =
-        advanced_writes fs fs' l.step.worker x.next x.advances (pending_writes k kd (value_answered kd q answer v) (resolved kd q answer) m l.report.decided l x.next x.step n)
-    go_writes fs (Decided r) m answer l fs' e x n = advanced_writes fs fs' l.step.worker x.next x.advances (concluded_writes r x.step.outcome x.next x.step.concludes)
+        advanced_writes fs fs' l.step.worker x.next x.with_next (pending_writes k kd (value_answered kd q answer v) (resolved kd q answer) m l.report.decided l x.next x.step n)
+    go_writes fs (Decided r) m answer l fs' e x n = advanced_writes fs fs' l.step.worker x.next x.with_next (concluded_writes r x.step.outcome x.next x.step.concludes)
     go_writes fs Over m answer l fs' e x n = ap (λ (g : Flights V). writes_on (g l.step.worker)) x.same_flights ∙ ap writes_on e
-    go_writes fs (Unbegun start end size) m answer l fs' e x n = advanced_writes fs fs' l.step.worker x.next x.advances (scan_writes start end size (m ∷ []) [] x.step.outcome x.next x.step.tells)
-    go_writes fs (Scanning start end size states places) m answer l fs' e x n = advanced_writes fs fs' l.step.worker x.next x.advances (scan_writes start end size (m ∷ states) places x.step.outcome x.next x.step.tells)
+    go_writes fs (Unbegun start end size) m answer l fs' e x n = advanced_writes fs fs' l.step.worker x.next x.with_next (scan_writes start end size (m ∷ []) [] x.step.outcome x.next x.step.tells)
+    go_writes fs (Scanning start end size states places) m answer l fs' e x n = advanced_writes fs fs' l.step.worker x.next x.with_next (scan_writes start end size (m ∷ states) places x.step.outcome x.next x.step.tells)

@@ -1,12 +1,12 @@
 -- One step of the whole machine, on the map and in the journal.
 use Rattle.std.proofs.Common.{◌≡◌, ◌<◌, ◌≤◌, ℕ, arith, Bool, true, false, ◌++◌, length, refl, sym, ◌∙◌, ap, subst, inl, inr}
-use Rattle.std.specs.Prelude.{Option, None, Some, ◌&&◌, is_some, slice_get, if◌then◌else◌}
+use Rattle.std.specs.Prelude.{Option, None, Some, is_some, slice_get, if◌then◌else◌}
 use Rattle.std.proofs.lemmas.List.{append-nil}
 use Rattle.std.proofs.lemmas.Option.{slice_get_cases}
 use Rattle.judge.specs.declared.journal.Entry.{Entry}
 use Rattle.judge.specs.Answer.{Pairs}
 use Rattle.congee.specs.declared.protocol.machine.Machine.{Machine}
-use Rattle.congee.specs.declared.protocol.sweep.Sweep.{Sweep as Scan}
+use Rattle.congee.specs.declared.protocol.scan.ScanState.{ScanState as ScanState}
 use Rattle.congee.specs.Keys.{IsMapOf}
 use Rattle.congee.specs.protocol.Play.{Flight, Over, Follows, ScanFollows, flight}
 use Rattle.joint.specs.declared.engine.in_flight.InFlight.{InFlight}
@@ -28,10 +28,11 @@ use Rattle.joint.specs.engine.Engine.{World}
 use Rattle.joint.proofs.lemmas.world.JournalFull.{refused_flights, refused_map}
 use Rattle.joint.proofs.lemmas.world.Logged.{event_maps, kept_line, writes_kept}
 use Rattle.joint.proofs.lemmas.world.KeptMarks.{event_map}
+use Rattle.congee.proofs.Laws.{both_true}
 
 -- what a worker asked for agrees with its call however it is watched
 module _ {V : Type 0} where
-  scan_asked : (o : Option (Request V)) (s : Scan Id V) (f : Flight V) → ScanFollows s f → IsAsked o f
+  scan_asked : (o : Option (Request V)) (s : ScanState Id V) (f : Flight V) → ScanFollows s f → IsAsked o f
   scan_asked o s f (inl x) = subst (λ (y : Flight V). IsAsked o y) (sym x.0) tt
   scan_asked o s f (inr (inl x)) = subst (λ (y : Flight V). IsAsked o y) (sym x.0) tt
   scan_asked o s f (inr (inr x)) = subst (λ (y : Flight V). IsAsked o y) (sym x.2) tt
@@ -49,7 +50,7 @@ module _ {V : Type 0} where
   same_asked o Walking m f g x y a = walking_asked o m f g x y a
 
 module _ {V : Type 0} (same : V → V → Bool) (always : Bool) where
-  pub asked_any : (s : World V) (fs : Flights V) → Holds same always s → AreInFlight s fs → always ≡ true → (i : ℕ) → IsAsked (request_at s.log.requests i) (fs i)
+  asked_any : (s : World V) (fs : Flights V) → Holds same always s → AreInFlight s fs → always ≡ true → (i : ℕ) → IsAsked (request_at s.log.requests i) (fs i)
   asked_any s fs h fl a i = by (slice_get s.calls i) refl where
     by : (k : Option (InFlight V)) → slice_get s.calls i ≡ k → IsAsked (request_at s.log.requests i) (fs i)
     by None e = elim (slice_get_cases s.calls i).1 [
@@ -100,15 +101,11 @@ module _ {V : Type 0} (same : V → V → Bool) (always : Bool) where
           places = x.places;
         }
 
-    and_left : (a b : Bool) → (a && b) ≡ true → a ≡ true
-    and_left true b e = refl
-    and_left false b e = e
-
     gives : (event : Event V) (r : Report V) → step.event ≡ event → finds_journal_full s step.worker event ≡ true → FindsJournalFull s step.worker r s' → Mapped s step r s' fs m
     gives Register r q g x = absurd (cc g)
     gives (Begin op) r q g x = absurd (cc g)
     gives (Go noise) r q g x =
-        let b : is_reserving (slice_get s.calls step.worker) ≡ true = and_left _ _ g in
+        let b : is_reserving (slice_get s.calls step.worker) ≡ true = (both_true _ _ g).0 in
         let P : World V → Type 0 = λ y. AreInFlight y (with_flight fs step.worker Over) in
         let Q : Event V → Type 0 = λ y. EventMap same fs m y (record { step = record { worker = step.worker; event = y }; report = r; entry = None; pairs = m }) (with_flight fs step.worker Over) in
         let R : Event V → Type 0 = λ y. EventMap same fs m step.event (record { step = record { worker = step.worker; event = y }; report = r; entry = None; pairs = m }) (with_flight fs step.worker Over) in
@@ -131,5 +128,6 @@ module _ {V : Type 0} (same : V → V → Bool) (always : Bool) where
     by_case true r e x = gives step.event r refl e x
     by_case false r e x = takes r x
 
-    pub mapped : (r : Report V) → IsStep same always s step r s' → Mapped s step r s' fs m
-    mapped r x = by_case (finds_journal_full s step.worker step.event) r refl x.does
+    -- a step of the whole machine is one on the map, and the journal keeps its entry where the report says so
+    pub step_mapped : (r : Report V) → IsStep same always s step r s' → Mapped s step r s' fs m
+    step_mapped r x = by_case (finds_journal_full s step.worker step.event) r refl x.does

@@ -18,6 +18,7 @@ use Rattle.joint.specs.world.MapSteps.{EventMap, GoMap, PendingStep, BeginMap, B
 use Rattle.joint.specs.engine.Flying.{Flights}
 
 module _ {V : Type 0} (b : Bool) where
+  -- the line with this mark in its report
   abbrev pub rekept : Line V → Line V
   rekept l = record { step = l.step; report = record l.report { kept = b }; entry = l.entry; pairs = l.pairs }
 
@@ -59,15 +60,16 @@ module _ {V : Type 0} (b : Bool) where
     pending k kind v q m true l f' x = record { entry = x.entry; is_entry = x.is_entry; worker = x.worker; call = x.call; heeds = x.heeds; answers = x.answers; outcome = x.outcome; told_so = x.told_so; concludes = x.concludes }
 
     go_map : (fs : Flights V) (f : Flight V) (m : Pairs V) (answer : Option (Option V)) (l : Line V) (fs' : Flights V) → GoMap same fs f m answer l fs' → GoMap same fs f m answer (rekept l) fs'
-    go_map fs (Pending k kind v q) m answer l fs' x = record { next = x.next; step = pending k kind (value_answered kind q answer v) (resolved kind q answer) m l.report.decided l x.next x.step; advances = x.advances }
+    go_map fs (Pending k kind v q) m answer l fs' x = record { next = x.next; step = pending k kind (value_answered kind q answer v) (resolved kind q answer) m l.report.decided l x.next x.step; with_next = x.with_next }
     go_map fs (Decided r) m answer l fs' x =
-        record { next = x.next; step = record { undecided = x.step.undecided; outcome = x.step.outcome; told_so = x.step.told_so; concludes = x.step.concludes; no_entry = x.step.no_entry; same_pairs = x.step.same_pairs }; advances = x.advances }
+        record { next = x.next; step = record { undecided = x.step.undecided; outcome = x.step.outcome; told_so = x.step.told_so; concludes = x.step.concludes; no_entry = x.step.no_entry; same_pairs = x.step.same_pairs }; with_next = x.with_next }
     go_map fs Over m answer l fs' x = stays fs m l fs' x
     go_map fs (Unbegun start end size) m answer l fs' x =
-        record { next = x.next; step = record { undecided = x.step.undecided; outcome = x.step.outcome; told_so = x.step.told_so; tells = x.step.tells; no_entry = x.step.no_entry; same_pairs = x.step.same_pairs }; advances = x.advances }
+        record { next = x.next; step = record { undecided = x.step.undecided; outcome = x.step.outcome; told_so = x.step.told_so; tells = x.step.tells; no_entry = x.step.no_entry; same_pairs = x.step.same_pairs }; with_next = x.with_next }
     go_map fs (Scanning start end size states places) m answer l fs' x =
-        record { next = x.next; step = record { undecided = x.step.undecided; outcome = x.step.outcome; told_so = x.step.told_so; tells = x.step.tells; no_entry = x.step.no_entry; same_pairs = x.step.same_pairs }; advances = x.advances }
+        record { next = x.next; step = record { undecided = x.step.undecided; outcome = x.step.outcome; told_so = x.step.told_so; tells = x.step.tells; no_entry = x.step.no_entry; same_pairs = x.step.same_pairs }; with_next = x.with_next }
 
+    -- a step on the map is one with any mark too
     pub event_map : (fs : Flights V) (m : Pairs V) (event : Event V) (l : Line V) (fs' : Flights V) → EventMap same fs m event l fs' → EventMap same fs m event (rekept l) fs'
     event_map fs m Register l fs' x = stays fs m l fs' x
     event_map fs m (Begin op) l fs' x = begin_map fs m (target op) l fs' x

@@ -25,10 +25,11 @@ use Rattle.joint.specs.engine.Log.{counted, has_room, is_full, recounted, reques
 use Rattle.joint.specs.world.MapSteps.{looks_up, EventMap, Line}
 use Rattle.joint.specs.engine.Flying.{Flights, AreInFlight}
 use Rattle.joint.specs.world.World.{Holds, IsAsked, IsLogged, IsStep, StepsUnless, entry_at, finds_journal_full, kept_at, requests_after}
-use Rattle.joint.specs.engine.Engine.{World, EngineHolds, IsEngineStep, Does, engine_of, is_in_flight, misuse}
+use Rattle.joint.specs.engine.Engine.{World, EngineHolds, IsEngineStep, Does, engine_of, misuse}
+use Rattle.joint.specs.Reports.{is_in_flight}
 use Rattle.joint.proofs.lemmas.engine.OneCallChanges.{Apart, places_counted, step_apart}
 use Rattle.joint.proofs.lemmas.world.Asking.{asked_after}
-use Rattle.joint.proofs.lemmas.world.Effects.{Effect, Leaves, effect, leaves, room_for}
+use Rattle.joint.proofs.lemmas.world.Effects.{Effect, Leaves, decided_effect, leaves, room_for}
 use Rattle.joint.proofs.lemmas.engine.Entering.{begin_even, register_even}
 use Rattle.joint.proofs.lemmas.world.MapSteps.{Result, on_map}
 use Rattle.joint.proofs.lemmas.world.JournalPlaces.{go_writes, place_here, place_writes}
@@ -88,7 +89,7 @@ module _ {V : Type 0} (same : V → V → Bool) (always : Bool) (s s' : World V)
   apart = step_apart same always (engine_of s) (engine_of s') w holds step.event (misuse (engine_of s) w step.event) told e.does
 
   -- a place is counted for each call that has one
-  pub now_counted : 0 < s.log.places → s'.log.reserved ≡ recounted s.log.places before after s.log.reserved → s'.log.reserved ≡ places_of s'.calls s'.machines
+  now_counted : 0 < s.log.places → s'.log.reserved ≡ recounted s.log.places before after s.log.reserved → s'.log.reserved ≡ places_of s'.calls s'.machines
   now_counted p r = r ∙ recounted_on s.log.places before after s.log.reserved p ∙ ap (counted before after) (h.2.reserved p) ∙ places_counted (engine_of s) (engine_of s') w h.0.machines apart
 
   has_places : room ≡ true → 0 < s.log.places
@@ -98,6 +99,7 @@ module _ {V : Type 0} (same : V → V → Bool) (always : Bool) (s s' : World V)
     abbrev fl : AreInFlight (engine_of s) fs
     fl = record { each = flown.each; beyond = flown.beyond }
 
+    -- the step is one on the map, from the pairs and the calls in flight that are given
     pub event_maps : Result same always (engine_of s) (engine_of s') w holds fs m st fl step.event told (λ l f'. EventMap same fs m step.event l f')
     event_maps = on_map same always (engine_of s) (engine_of s') w holds fs m st fl step.event told e.does
 
@@ -105,7 +107,7 @@ module _ {V : Type 0} (same : V → V → Bool) (always : Bool) (s s' : World V)
     line = record { step = record { worker = w; event = step.event }; report = told; entry = event_maps.entry; pairs = event_maps.pairs }
 
     took : told.decided ≡ true → Effect same always s s' w holds e.holds fs event_maps.flights m fl event_maps.in_flight h.2.long line refl step.event
-    took d = effect same always s s' w holds e.holds fs event_maps.flights m fl event_maps.in_flight h.2.long line refl step.event d e.does event_maps.step
+    took d = decided_effect same always s s' w holds e.holds fs event_maps.flights m fl event_maps.in_flight h.2.long line refl step.event d e.does event_maps.step
 
     left : told.decided ≡ false → Leaves same always s s' w holds e.holds fs event_maps.flights m fl event_maps.in_flight h.2.long line refl
     left d = leaves same always s s' w holds e.holds fs event_maps.flights m fl event_maps.in_flight h.2.long line refl step.event d event_maps.step
@@ -123,6 +125,7 @@ module _ {V : Type 0} (same : V → V → Bool) (always : Bool) (s s' : World V)
     abbrev Same : Option (Entry V) → Type 0
     Same o = o ≡ (if is_some o then event_maps.entry else None)
 
+    -- the entry that is kept, where one is, is that of the step on the map
     pub kept_line : Same kept
     kept_line = elim (cases_Bool told.decided) [
       | inl d ↦ elim (cases_Bool room) [
@@ -136,7 +139,7 @@ module _ {V : Type 0} (same : V → V → Bool) (always : Bool) (s s' : World V)
       writes_room : (d : told.decided ≡ true) → 0 < s.log.places → looks_up (took d).entry.call ≡ false → room ≡ true
       writes_room d p l = room_for s s' w h.0.machines apart ((took d).had ∙ ap not l) (took d).has h.2.room (h.2.reserved p) (reserved p)
 
-      -- of each writing call
+      -- where a journal is kept, so is the entry of each writing call that takes effect
       pub writes_kept : 0 < s.log.places → (x : Entry V) → event_maps.entry ≡ Some x → looks_up x.call ≡ false → is_some kept ≡ true
       writes_kept p x q l = elim (cases_Bool told.decided) [
         | inl d ↦ (
@@ -158,7 +161,7 @@ module _ {V : Type 0} (same : V → V → Bool) (always : Bool) (s s' : World V)
         | inr l ↦ absurd (false≢true (sym r ∙ writes_room d p l))
       ]
 
-      pub legal_on : 0 < s.log.places → Legal same empty s.log.entries m → Fits kept event_maps.pairs
+      legal_on : 0 < s.log.places → Legal same empty s.log.entries m → Fits kept event_maps.pairs
       legal_on p l = elim (cases_Bool told.decided) [
         | inl d ↦ elim (cases_Bool room) [
           | inl r ↦ subst (λ o. Fits o event_maps.pairs) (sym (kept_is d r)) (Legal-push same empty m event_maps.pairs s.log.entries (took d).entry l (took d).answers)
@@ -195,6 +198,7 @@ module _ {V : Type 0} (same : V → V → Bool) (always : Bool) (s s' : World V)
   abbrev now : Result same always (engine_of s) (engine_of s') w holds here.flights here.pairs here.stand (fl here.flights here.pairs here.stand here.in_flight here.asked) step.event told (λ l f'. EventMap same here.flights here.pairs step.event l f')
   now = event_maps here.flights here.pairs here.stand here.in_flight here.asked
 
+  -- a call comes to have a place only where the journal isn't full
   pub raises : finds_journal_full s w step.event ≡ false → before ≡ false → after ≡ true → is_full s.log ≡ false
   raises g b a = raises_by here.flights here.pairs here.stand here.in_flight here.asked step.event now g b a (even_or_go step.event e.does)
 
@@ -228,7 +232,7 @@ module _ {V : Type 0} (same : V → V → Bool) (always : Bool) (s s' : World V)
         subst P (sym (x.requests a)) (asked_after same always s s' w holds here.flights here.pairs (fl here.flights here.pairs here.stand here.in_flight here.asked) here.long (here.asked a) step.event
         (line here.flights here.pairs here.stand here.in_flight here.asked) now.flights refl e.does now.step i)
 
-    pub logged : IsLogged same always s'
+    logged : IsLogged same always s'
     logged = record {
       room = room_left;
       copies = λ p. here.copies (was p);
@@ -242,8 +246,9 @@ module _ {V : Type 0} (same : V → V → Bool) (always : Bool) (s s' : World V)
       legal = λ p. subst (λ es. Legal same empty es now.pairs) (sym x.entries) (legal_on here.flights here.pairs here.stand here.in_flight here.asked (λ q. now_counted q x.reserved) (was p) (here.legal (was p)));
     }
 
-    pub steps : (r : Report V) → r ≡ record told { kept = is_some kept } → IsStep same always s step r s'
-    steps r q =
+    -- with what is written down it is a step of the whole machine
+    pub logged_step : (r : Report V) → r ≡ record told { kept = is_some kept } → IsStep same always s step r s'
+    logged_step r q =
         let P : Bool → Type 0 = λ b. StepsUnless same always b s step r s' in
         record {
           does = subst P (sym g) (record { told = told; engine = e; report = q; entries = x.entries; places = x.places; requests = x.requests });

@@ -10,8 +10,8 @@ use Rattle.judge.specs.Answer.{Pairs}
 use Rattle.crossbeam_epoch.specs.declared.fault.Fault.{Fault}
 use Rattle.crossbeam_epoch.specs.declared.fault.Fault.TheVariants as fault
 use Rattle.crossbeam_epoch.specs.declared.world.participant.Participant.{Participant}
-use Rattle.crossbeam_epoch.specs.declared.world.participant.Phase.{Phase as Stage}
-use Rattle.crossbeam_epoch.specs.declared.world.participant.Phase.TheVariants as stage
+use Rattle.crossbeam_epoch.specs.declared.world.participant.Phase.{Phase as CollectorPhase}
+use Rattle.crossbeam_epoch.specs.declared.world.participant.Phase.TheVariants as collector_phase
 use Rattle.crossbeam_epoch.specs.declared.world.report.Event.{Event as CollectorEvent}
 use Rattle.crossbeam_epoch.specs.declared.world.report.Event.TheVariants as collector_event
 use Rattle.crossbeam_epoch.specs.declared.world.report.Op.{Op as CollectorOp}
@@ -29,11 +29,10 @@ use Rattle.congee.specs.declared.protocol.machine.Outcome.TheVariants as moved
 use Rattle.congee.specs.declared.protocol.op.Op.{Op as Point}
 use Rattle.congee.specs.declared.protocol.op.Op.TheVariants as point
 use Rattle.congee.specs.declared.protocol.phase.Kind.{Kind as Does}
-use Rattle.congee.specs.declared.protocol.phase.Phase.{Phase}
 use Rattle.congee.specs.declared.protocol.phase.Phase.TheVariants.{Ended}
 use Rattle.congee.specs.declared.protocol.store.Refusal.TheVariants as cause
 use Rattle.congee.specs.protocol.Answers.{SameMap}
-use Rattle.congee.specs.protocol.Sweeps.{IsScan}
+use Rattle.congee.specs.protocol.Scans.{IsScan}
 use Rattle.congee.specs.Heap.{Node}
 use Rattle.congee.specs.Keys.{IsMapOf, key_bytes}
 use Rattle.congee.specs.protocol.Play.{Flight, Pending, Decided, Over, Unbegun, Scanning, Question, Unasked, value_answered, resolved, begun, parts, flight, Follows, Following, Watched, WatchedAt, PendingMoves}
@@ -52,18 +51,21 @@ use Rattle.joint.specs.declared.steps.Report.{Report}
 use Rattle.joint.specs.declared.steps.Target.{Target}
 use Rattle.joint.specs.declared.steps.Target.TheVariants as target
 use Rattle.joint.specs.nodes.Nodes.{nodes, Refuses}
-use Rattle.joint.specs.engine.Intact.{IsAt, IsIntact, call_after, secured_call, secured_machines, over_at, rested, root, writes}
+use Rattle.joint.specs.engine.Intact.{IsAt, IsIntact, call_after, secured_call, secured_machines, over_at, rested, writes}
+use Rattle.joint.specs.Names.{root}
 use Rattle.joint.specs.Refusals.{of_fault}
 use Rattle.joint.specs.Reports.{target, told}
 use Rattle.joint.specs.engine.Surveys.{MapTells}
 use Rattle.joint.specs.world.MapSteps.{EventMap, GoMap, FlightStep, PendingStep, BeginMap, BeginsOr, EndsAtOnce, FindsNone, Stays, Line}
 use Rattle.joint.specs.engine.Flying.{Flights, with_flight, IsInFlight, AreInFlight}
 use Rattle.joint.specs.engine.Engine.{World, EngineHolds, misuse, is_busy, place_of, quiet, collection, finds_none, Collects, Enters, EntersUnless, Reserves, GoesOnReserving, SecuresFirst, reserving, Walks, BeginsAt, BeginsOnTree, GoesAt, Proceeds, Does as Acts}
-use Rattle.joint.proofs.lemmas.engine.Collecting.{either}
+use Rattle.joint.proofs.lemmas.engine.Collecting.{get_beside}
 use Rattle.joint.proofs.lemmas.engine.Reserving.{same_nodes, next_calls, next_here}
 use Rattle.joint.proofs.lemmas.engine.Telling.{map_tells}
 use Rattle.joint.proofs.lemmas.engine.ScanEnds.{cleared_is, done_over, rest_follows}
-use Rattle.joint.proofs.lemmas.world.Flights.{set_at, flight_here, flight_apart, pending, begun_follows, ended, listed, listed_at, following, followed}
+use Rattle.joint.proofs.lemmas.world.Flights.{set_at, flight_here, flight_apart, pending, begun_follows, over_when_ended, listed, listed_at, following, followed}
+use Rattle.joint.proofs.lemmas.engine.Walking.{over_ended}
+use Rattle.congee.proofs.Laws.{get_set}
 
 -- the pairs stand on where the map is the same
 pub stands_on : {V : Type 0} (h h' : ℕ → Node V) (m : Pairs V) → SameMap h h' → IsMapOf h m → IsMapOf h' m
@@ -87,8 +89,8 @@ scan_of_none start end size m none = record {
 }
 
 -- a step that goes on with making places free is refused for want of memory alone
-go_free : {J : Type 0} (phase : Stage) (p : Participant J) → comes_by (stage_of phase) (Secure 2) ≡ true → event_fault collector_event.Go phase p ≡ None
-go_free stage.Idle p e = absurd cc
+go_free : {J : Type 0} (phase : CollectorPhase) (p : Participant J) → comes_by (stage_of phase) (Secure 2) ≡ true → event_fault collector_event.Go phase p ≡ None
+go_free collector_phase.Idle p e = absurd cc
 go_free _ p e = refl
 
 only_memory : {T J : Type 0} (c : State T J) (who : ℕ) (f : Fault) → IsOutcome c who collector_event.Go None (collector_outcome.Refused f) → f ≡ fault.Memory
@@ -96,15 +98,11 @@ only_memory c who fault.Memory x = refl
 only_memory c who _ x = absurd x
 
 -- a further step that makes places free is refused for want of memory alone
-pub wants_memory : {T J : Type 0} (c : State T J) (who : ℕ) (f : Fault) → IsOn (Secure 2) (place c who) → IsOutcome c who collector_event.Go (fault_of c who collector_event.Go) (collector_outcome.Refused f) → f ≡ fault.Memory
+wants_memory : {T J : Type 0} (c : State T J) (who : ℕ) (f : Fault) → IsOn (Secure 2) (place c who) → IsOutcome c who collector_event.Go (fault_of c who collector_event.Go) (collector_outcome.Refused f) → f ≡ fault.Memory
 wants_memory c who f on x =
     let P : Bool → Type 0 = λ b. IsOutcome c who collector_event.Go (if b then event_fault collector_event.Go (place c who).phase (place c who) else Some fault.Unknown) (collector_outcome.Refused f) in
     let Q : Option Fault → Type 0 = λ o. IsOutcome c who collector_event.Go o (collector_outcome.Refused f) in
     only_memory c who f (subst Q (go_free (place c who).phase (place c who) on.1) (subst P on.0 x))
-
-is_ended : {V : Type 0} (p : Phase Id V) → is_over p ≡ true → p ≡ Ended
-is_ended Ended e = refl
-is_ended _ e = absurd cc
 
 -- what is left of a call on the collector is watched as nothing
 collecting_over : {V : Type 0} (o : CollectorOutcome) (op : CollectorOp) (x : Machine Id V) (f : Flight V) → f ≡ Over → IsInFlight (call_after o (Collecting op)) x f
@@ -117,6 +115,7 @@ module _ {V : Type 0} (same : V → V → Bool) (always : Bool) (s s' : World V)
   abbrev line : Event V → Report V → Option (Entry V) → Pairs V → Line V
   line event r e m' = record { step = record { worker = w; event = event }; report = r; entry = e; pairs = m' }
 
+  -- the step with this report is one on the map, as `map` says, and these pairs and calls stand after it
   pub record Result (event : Event V) (r : Report V) (map : Line V → Flights V → Type 0) : Type 0 where
     pub entry : Option (Entry V)
     pub pairs : Pairs V
@@ -127,12 +126,6 @@ module _ {V : Type 0} (same : V → V → Bool) (always : Bool) (s s' : World V)
 
   abbrev intact : IsIntact same always s.forest s.machines s.calls
   intact = holds.0
-
-  machine_at : (k : InFlight V) → slice_get s.calls w ≡ Some k → (x : Machine Id V) × (slice_get s.machines w ≡ Some x)
-  machine_at k e = elim (slice_get_cases s.machines w).1 [
-    | inl x ↦ (x.0, x.2)
-    | inr x ↦ absurd (let l : w < length s.calls = slice_get_within s.calls w k e in omega (arith, x.0, l, intact.machines))
-  ]
 
   inside : (place_of s w).registered ≡ true → w < length s.calls
   inside r = elim (slice_get_cases s.calls w).1 [
@@ -149,8 +142,8 @@ module _ {V : Type 0} (same : V → V → Bool) (always : Bool) (s s' : World V)
     | inl x ↦ absurd (let q : None ≡ Some x.0 = sym e ∙ x.2 in cc)
     | inr x ↦ fl.beyond w x.0
   ]
-  free (Some Idle) e b = fl.each w Idle (machine_at Idle e).0 e (machine_at Idle e).1
-  free (Some (Collecting op)) e b = fl.each w (Collecting op) (machine_at (Collecting op) e).0 e (machine_at (Collecting op) e).1
+  free (Some Idle) e b = fl.each w Idle (get_beside s.machines s.calls w intact.machines Idle e).0 e (get_beside s.machines s.calls w intact.machines Idle e).1
+  free (Some (Collecting op)) e b = fl.each w (Collecting op) (get_beside s.machines s.calls w intact.machines (Collecting op) e).0 e (get_beside s.machines s.calls w intact.machines (Collecting op) e).1
   free (Some (Reserving op)) e b = absurd cc
   free (Some (Securing op)) e b = absurd cc
   free (Some Walking) e b = absurd cc
@@ -169,14 +162,14 @@ module _ {V : Type 0} (same : V → V → Bool) (always : Bool) (s s' : World V)
   stays : (event : Event V) (r : Report V) (m' : Pairs V) → r.decided ≡ false → Stays fs m (line event r None m) fs
   stays event r m' d = record { undecided = d; no_entry = refl; same_pairs = refl; same_flights = refl }
 
-  -- one worker's call was exchanged
+  -- where one worker's call was exchanged, all are watched with its flight exchanged
   pub set_in_flight : (fs' : Flights V) (k' : InFlight V) → w < length s.calls → s'.calls ≡ slice_set s.calls w k'
       → ((i : ℕ) (x : Machine Id V) → i ≢ w → slice_get s'.machines i ≡ Some x → slice_get s.machines i ≡ Some x)
       → ((x : Machine Id V) → slice_get s'.machines w ≡ Some x → IsInFlight k' x (fs' w)) → ((i : ℕ) → i ≢ w → fs' i ≡ fs i) → AreInFlight s' fs'
   set_in_flight fs' k' l ec em here apart = record {
     each = λ i k x a b.
         let P : List (InFlight V) → Type 0 = λ ks. slice_get ks i ≡ Some k in
-        elim (either s.calls w i k' k (subst P ec a)) [
+        elim (get_set s.calls w i k' k (subst P ec a)) [
           | inl e ↦ (
               let Q : InFlight V → Type 0 = λ y. IsInFlight y x (fs' i) in
               let R : ℕ → Type 0 = λ j. IsInFlight k' x (fs' j) in
@@ -191,17 +184,17 @@ module _ {V : Type 0} (same : V → V → Bool) (always : Bool) (s s' : World V)
   }
 
   -- a call on the collector
-  collects : (event : Event V) (turn : CollectorEvent) (op : CollectorOp) (r : Report V) (map : Line V → Flights V → Type 0) → fs w ≡ Over → w < length s.calls → Collects same always s w turn (Collecting op) r s'
+  collects : (event : Event V) (collector_report : CollectorEvent) (op : CollectorOp) (r : Report V) (map : Line V → Flights V → Type 0) → fs w ≡ Over → w < length s.calls → Collects same always s w collector_report (Collecting op) r s'
       → (r.decided ≡ false → map (line event r None m) fs) → Result event r map
-  collects event turn op r map f l k x = record {
+  collects event collector_report op r map f l k x = record {
     entry = None;
     pairs = m;
     flights = fs;
     stand = stands_on (nodes s.forest) (nodes s'.forest) m k.step.map st;
     step = x (ap (λ y. y.decided) k.report);
-    in_flight = set_in_flight fs (call_after k.turn.outcome (Collecting op)) l k.calls
+    in_flight = set_in_flight fs (call_after k.collector_report.outcome (Collecting op)) l k.calls
         (λ i y n b. let P : List (Machine Id V) → Type 0 = λ ms. slice_get ms i ≡ Some y in subst P k.machines b)
-        (λ y b. collecting_over k.turn.outcome op y (fs w) f) (λ i n. refl);
+        (λ y b. collecting_over k.collector_report.outcome op y (fs w) f) (λ i n. refl);
   }
 
   -- a call begins on the tree, or its worker first makes places free
@@ -223,7 +216,7 @@ module _ {V : Type 0} (same : V → V → Bool) (always : Bool) (s s' : World V)
     in_flight = set_in_flight (starts op) Walking l (ap (λ y. y.calls) k.state)
         (λ i y n b.
         let P : List (Machine Id V) → Type 0 = λ ms. slice_get ms i ≡ Some y in
-        elim (either s.machines w i (begun root op) y (subst P (ap (λ z. z.machines) k.state) b)) [
+        elim (get_set s.machines w i (begun root op) y (subst P (ap (λ z. z.machines) k.state) b)) [
           | inl e ↦ absurd (n e.0)
           | inr e ↦ e.1
         ])
@@ -231,7 +224,7 @@ module _ {V : Type 0} (same : V → V → Bool) (always : Bool) (s s' : World V)
         let P : List (Machine Id V) → Type 0 = λ ms. slice_get ms w ≡ Some y in
         let Q : Flight V → Type 0 = λ g. Follows y g in
         let R : Machine Id V → Type 0 = λ z. Follows z (flight (begun root op)) in
-        subst Q (sym (flight_here fs w (flight (begun root op)))) (elim (either s.machines w w (begun root op) y (subst P (ap (λ z. z.machines) k.state) b)) [
+        subst Q (sym (flight_here fs w (flight (begun root op)))) (elim (get_set s.machines w w (begun root op) y (subst P (ap (λ z. z.machines) k.state) b)) [
           | inl e ↦ subst R e.1 (begun_follows op)
           | inr e ↦ absurd (e.0 refl)
         ]))
@@ -311,11 +304,11 @@ module _ {V : Type 0} (same : V → V → Bool) (always : Bool) (s s' : World V)
       let P : Flight V → Type 0 = λ g. GoMap same fs g m answer (line event r e m') (with_flight fs w f') in
       subst P (sym is) (by_flight f n x) where
         by_flight : (g : Flight V) → g ≢ Over → FlightStep same g m answer (line event r e m') f' → GoMap same fs g m answer (line event r e m') (with_flight fs w f')
-        by_flight (Pending k kind v q) n x = record { next = f'; step = x; advances = refl }
-        by_flight (Decided y) n x = record { next = f'; step = x; advances = refl }
+        by_flight (Pending k kind v q) n x = record { next = f'; step = x; with_next = refl }
+        by_flight (Decided y) n x = record { next = f'; step = x; with_next = refl }
         by_flight Over n x = absurd (n refl)
-        by_flight (Unbegun start end size) n x = record { next = f'; step = x; advances = refl }
-        by_flight (Scanning start end size states places) n x = record { next = f'; step = x; advances = refl }
+        by_flight (Unbegun start end size) n x = record { next = f'; step = x; with_next = refl }
+        by_flight (Scanning start end size states places) n x = record { next = f'; step = x; with_next = refl }
 
   -- a writing call that makes its places free goes on with that, begins on the tree, or is refused
   module _ (op : Point V) (noise : Noise Id V) (writing : writes op ≡ true) (watched : fs w ≡ flight (begun root op)) (len : w < length s.calls) where
@@ -331,14 +324,14 @@ module _ {V : Type 0} (same : V → V → Bool) (always : Bool) (s s' : World V)
     same_machines : s'.machines ≡ s.machines → (i : ℕ) (x : Machine Id V) → i ≢ w → slice_get s'.machines i ≡ Some x → slice_get s.machines i ≡ Some x
     same_machines q i x n b = let P : List (Machine Id V) → Type 0 = λ ms. slice_get ms i ≡ Some x in subst P q b
 
-    reserving_case : (turn : Collection) (o : CollectorOutcome) → s'.calls ≡ slice_set s.calls w (secured_call o (Some (Securing op))) → s'.machines ≡ secured_machines o (Some (Securing op)) s.machines w
-        → ((f : Fault) → o ≡ collector_outcome.Refused f → f ≡ fault.Memory) → SameMap (nodes s.forest) (nodes s'.forest) → Went (collection turn (reserving o))
-    reserving_case turn collector_outcome.Running ec em only map = record {
+    reserving_case : (collector_report : Collection) (o : CollectorOutcome) → s'.calls ≡ slice_set s.calls w (secured_call o (Some (Securing op))) → s'.machines ≡ secured_machines o (Some (Securing op)) s.machines w
+        → ((f : Fault) → o ≡ collector_outcome.Refused f → f ≡ fault.Memory) → SameMap (nodes s.forest) (nodes s'.forest) → Went (collection collector_report (reserving o))
+    reserving_case collector_report collector_outcome.Running ec em only map = record {
       entry = None;
       pairs = m;
       flights = with_flight fs w waiting;
       stand = stands_on (nodes s.forest) (nodes s'.forest) m map st;
-      step = advances waiting (Go noise) noise.answer (collection turn Running) None m waiting (λ q. cc) waits (inl (record {
+      step = advances waiting (Go noise) noise.answer (collection collector_report Running) None m waiting (λ q. cc) waits (inl (record {
         outcome = moved.Running;
         told_so = refl;
         undecided = (Unasked, tt, refl);
@@ -348,12 +341,12 @@ module _ {V : Type 0} (same : V → V → Bool) (always : Bool) (s s' : World V)
       in_flight = set_in_flight (with_flight fs w waiting) (Securing op) len ec (same_machines em)
           (λ y b. flight_here fs w waiting ∙ sym (pending op writing)) (λ i n. flight_apart fs w i waiting n);
     }
-    reserving_case turn collector_outcome.Done ec em only map = record {
+    reserving_case collector_report collector_outcome.Done ec em only map = record {
       entry = None;
       pairs = m;
       flights = with_flight fs w waiting;
       stand = stands_on (nodes s.forest) (nodes s'.forest) m map st;
-      step = advances waiting (Go noise) noise.answer (collection turn Running) None m waiting (λ q. cc) waits (inl (record {
+      step = advances waiting (Go noise) noise.answer (collection collector_report Running) None m waiting (λ q. cc) waits (inl (record {
         outcome = moved.Running;
         told_so = refl;
         undecided = (Unasked, tt, refl);
@@ -363,7 +356,7 @@ module _ {V : Type 0} (same : V → V → Bool) (always : Bool) (s s' : World V)
       in_flight = set_in_flight (with_flight fs w waiting) Walking len ec
           (λ i y n b.
           let P : List (Machine Id V) → Type 0 = λ ms. slice_get ms i ≡ Some y in
-          elim (either s.machines w i (begun root op) y (subst P em b)) [
+          elim (get_set s.machines w i (begun root op) y (subst P em b)) [
             | inl q ↦ absurd (n q.0)
             | inr q ↦ q.1
           ])
@@ -371,18 +364,18 @@ module _ {V : Type 0} (same : V → V → Bool) (always : Bool) (s s' : World V)
           let P : List (Machine Id V) → Type 0 = λ ms. slice_get ms w ≡ Some y in
           let Q : Flight V → Type 0 = λ g. Follows y g in
           let R : Machine Id V → Type 0 = λ z. Follows z (flight (begun root op)) in
-          subst Q (pending op writing ∙ sym (flight_here fs w waiting)) (elim (either s.machines w w (begun root op) y (subst P em b)) [
+          subst Q (pending op writing ∙ sym (flight_here fs w waiting)) (elim (get_set s.machines w w (begun root op) y (subst P em b)) [
             | inl q ↦ subst R q.1 (begun_follows op)
             | inr q ↦ absurd (q.0 refl)
           ]))
           (λ i n. flight_apart fs w i waiting n);
     }
-    reserving_case turn (collector_outcome.Refused f) ec em only map = record {
+    reserving_case collector_report (collector_outcome.Refused f) ec em only map = record {
       entry = None;
       pairs = m;
       flights = with_flight fs w Over;
       stand = stands_on (nodes s.forest) (nodes s'.forest) m map st;
-      step = advances waiting (Go noise) noise.answer (collection turn (Refused (of_fault f))) None m Over (λ q. cc) waits (inl (record {
+      step = advances waiting (Go noise) noise.answer (collection collector_report (Refused (of_fault f))) None m Over (λ q. cc) waits (inl (record {
         outcome = moved.Refused cause.Memory;
         told_so = ap (λ g. Refused (of_fault g)) (only f refl);
         undecided = refl;
@@ -397,23 +390,23 @@ module _ {V : Type 0} (same : V → V → Bool) (always : Bool) (s s' : World V)
     reserving_from : (b : World V) (x : Machine Id V) → IsAt (Securing op) (place_of b w) x → slice_get b.calls w ≡ Some (Securing op) → nodes b.forest ≡ nodes s.forest → b.machines ≡ s.machines → ((k : InFlight V) → slice_set b.calls w k ≡ slice_set s.calls w k)
         → (r : Report V) → GoesOnReserving same always b w r s' → Went r
     reserving_from b x at e en em ec r k =
-        let P : Option (InFlight V) → Type 0 = λ c. s'.calls ≡ slice_set b.calls w (secured_call k.turn.outcome c) in
-        let Q : Option (InFlight V) → Type 0 = λ c. s'.machines ≡ secured_machines k.turn.outcome c b.machines w in
+        let P : Option (InFlight V) → Type 0 = λ c. s'.calls ≡ slice_set b.calls w (secured_call k.collector_report.outcome c) in
+        let Q : Option (InFlight V) → Type 0 = λ c. s'.machines ≡ secured_machines k.collector_report.outcome c b.machines w in
         let R : CollectorOutcome → Type 0 = λ o. IsOutcome b.forest.collector w collector_event.Go (fault_of b.forest.collector w collector_event.Go) o in
         let S : (ℕ → Node V) → Type 0 = λ h. SameMap h (nodes s'.forest) in
-        subst Went (sym k.report) (reserving_case k.turn k.turn.outcome (subst P e k.step.call ∙ ec _) (subst Q e k.step.machine ∙ ap (λ ms. secured_machines k.turn.outcome (Some (Securing op)) ms w) em)
+        subst Went (sym k.report) (reserving_case k.collector_report k.collector_report.outcome (subst P e k.step.call ∙ ec _) (subst Q e k.step.machine ∙ ap (λ ms. secured_machines k.collector_report.outcome (Some (Securing op)) ms w) em)
         (λ f q. wants_memory b.forest.collector w f at.0 (subst R q k.step.collected.report.outcome)) (subst S en k.step.collected.map))
 
   reserving_on : (op : Point V) (noise : Noise Id V) → slice_get s.calls w ≡ Some (Securing op) → (r : Report V) → GoesOnReserving same always s w r s' → Result (Go noise) r (λ l f'. GoMap same fs (fs w) m noise.answer l f')
   reserving_on op noise e r k =
-      let x : (x : Machine Id V) × (slice_get s.machines w ≡ Some x) = machine_at (Securing op) e in
+      let x : (x : Machine Id V) × (slice_get s.machines w ≡ Some x) = get_beside s.machines s.calls w intact.machines (Securing op) e in
       let at : IsAt (Securing op) (place_of s w) x.0 = intact.each w (Securing op) x.0 e x.1 in
       reserving_from op noise at.3 (fl.each w (Securing op) x.0 e x.1) (slice_get_within s.calls w (Securing op) e) s x.0 at e refl refl (λ k. refl) r k
 
   -- its first step
   secures_first : (op : Point V) (noise : Noise Id V) → slice_get s.calls w ≡ Some (Reserving op) → (r : Report V) → SecuresFirst same always s w r s' → Result (Go noise) r (λ l f'. GoMap same fs (fs w) m noise.answer l f')
   secures_first op noise e r k =
-      let x : (x : Machine Id V) × (slice_get s.machines w ≡ Some x) = machine_at (Reserving op) e in
+      let x : (x : Machine Id V) × (slice_get s.machines w ≡ Some x) = get_beside s.machines s.calls w intact.machines (Reserving op) e in
       let b : World V = k.between in
       let here : slice_get b.calls w ≡ Some (Securing op) = next_here same always s.forest s.machines s.calls w b.forest b.machines b.calls k.begins op e in
       let there : slice_get b.machines w ≡ Some x.0 = ap (λ ms. slice_get ms w) k.begins.machine ∙ x.1 in
@@ -468,11 +461,11 @@ module _ {V : Type 0} (same : V → V → Bool) (always : Bool) (s s' : World V)
         let q' : Question V = resolved kd q noise.answer in
         let y : (z : Option (Entry V)) × PendingStep same k kd v' q' m d.decided (told_line r z m') f' = pending_step k kd v' q' d.decided r f' m' t x in
         let P : Bool → Type 0 = λ b. PendingStep same k kd v' q' m b (told_line r y.0 m') f' in
-        record { entry = y.0; flights = with_flight fs w f'; step = record { next = f'; step = subst P (sym c) y.1; advances = refl }; here = flight_here fs w f'; apart = λ i n. flight_apart fs w i f' n }
+        record { entry = y.0; flights = with_flight fs w f'; step = record { next = f'; step = subst P (sym c) y.1; with_next = refl }; here = flight_here fs w f'; apart = λ i n. flight_apart fs w i f' n }
     flown (Decided z) r f' m' c t is x = record {
       entry = None;
       flights = with_flight fs w f';
-      step = record { next = f'; step = record { undecided = c ∙ x.0; outcome = d.outcome; told_so = t; concludes = x.1; no_entry = refl; same_pairs = x.2 }; advances = refl };
+      step = record { next = f'; step = record { undecided = c ∙ x.0; outcome = d.outcome; told_so = t; concludes = x.1; no_entry = refl; same_pairs = x.2 }; with_next = refl };
       here = flight_here fs w f';
       apart = λ i n. flight_apart fs w i f' n;
     }
@@ -486,14 +479,14 @@ module _ {V : Type 0} (same : V → V → Bool) (always : Bool) (s s' : World V)
     flown (Unbegun start end size) r f' m' c t is x = record {
       entry = None;
       flights = with_flight fs w f';
-      step = record { next = f'; step = record { undecided = c ∙ x.0; outcome = d.outcome; told_so = t; tells = x.1; no_entry = refl; same_pairs = x.2 }; advances = refl };
+      step = record { next = f'; step = record { undecided = c ∙ x.0; outcome = d.outcome; told_so = t; tells = x.1; no_entry = refl; same_pairs = x.2 }; with_next = refl };
       here = flight_here fs w f';
       apart = λ i n. flight_apart fs w i f' n;
     }
     flown (Scanning start end size states places) r f' m' c t is x = record {
       entry = None;
       flights = with_flight fs w f';
-      step = record { next = f'; step = record { undecided = c ∙ x.0; outcome = d.outcome; told_so = t; tells = x.1; no_entry = refl; same_pairs = x.2 }; advances = refl };
+      step = record { next = f'; step = record { undecided = c ∙ x.0; outcome = d.outcome; told_so = t; tells = x.1; no_entry = refl; same_pairs = x.2 }; with_next = refl };
       here = flight_here fs w f';
       apart = λ i n. flight_apart fs w i f' n;
     }
@@ -503,13 +496,13 @@ module _ {V : Type 0} (same : V → V → Bool) (always : Bool) (s s' : World V)
       let P : Option (Machine Id V) → Type 0 = λ o. IsInFlight (if over_at o then Idle else Walking) y g in
       let Q : Bool → Type 0 = λ c. IsInFlight (if c then Idle else Walking) y g in
       subst P (sym b) (elim (cases_Bool (is_over y.phase)) [
-        | inl c ↦ subst Q (sym c) (ended y g (is_ended y.phase c) f)
+        | inl c ↦ subst Q (sym c) (over_when_ended y g (over_ended y.phase c) f)
         | inr c ↦ subst Q (sym c) f
       ])
 
   walks : (noise : Noise Id V) (r : Report V) → slice_get s.calls w ≡ Some Walking → Walks same always s w noise r s' → Result (Go noise) r (λ l f'. GoMap same fs (fs w) m noise.answer l f')
   walks noise r e k =
-      let x : (x : Machine Id V) × (slice_get s.machines w ≡ Some x) = machine_at Walking e in
+      let x : (x : Machine Id V) × (slice_get s.machines w ≡ Some x) = get_beside s.machines s.calls w intact.machines Walking e in
       let moved = k.step.walked.plays.moved x.0 x.1 in
       let seen = k.step.walked.plays.watched m (own noise e k.move) st (follow noise e k.move) in
       let P : Option (Flight V) → Type 0 = λ o. WatchedAt same (own noise e k.move) m o (record { who = w; noise = noise }) k.move seen.1 seen.0 in
@@ -532,7 +525,7 @@ module _ {V : Type 0} (same : V → V → Bool) (always : Bool) (s s' : World V)
         in_flight = set_in_flight fly.flights (if over_at (slice_get s'.machines w) then Idle else Walking) (slice_get_within s.calls w Walking e) k.calls
             (λ i y n b.
             let Q : List (Machine Id V) → Type 0 = λ ms. slice_get ms i ≡ Some y in
-            elim (either s.machines w i (rested moved.now) y (subst Q final_is b)) [
+            elim (get_set s.machines w i (rested moved.now) y (subst Q final_is b)) [
               | inl q ↦ absurd (n q.0)
               | inr q ↦ q.1
             ])
@@ -582,14 +575,14 @@ module _ {V : Type 0} (same : V → V → Bool) (always : Bool) (s s' : World V)
 
   -- a call in flight is of a registered worker
   securing_registered : (op : Point V) → slice_get s.calls w ≡ Some (Securing op) → (place_of s w).registered ≡ true
-  securing_registered op e = (intact.each w (Securing op) (machine_at (Securing op) e).0 e (machine_at (Securing op) e).1).0.0
+  securing_registered op e = (intact.each w (Securing op) (get_beside s.machines s.calls w intact.machines (Securing op) e).0 e (get_beside s.machines s.calls w intact.machines (Securing op) e).1).0.0
 
   reserving_registered : (op : Point V) → slice_get s.calls w ≡ Some (Reserving op) → (place_of s w).registered ≡ true
-  reserving_registered op e = (intact.each w (Reserving op) (machine_at (Reserving op) e).0 e (machine_at (Reserving op) e).1).0
+  reserving_registered op e = (intact.each w (Reserving op) (get_beside s.machines s.calls w intact.machines (Reserving op) e).0 e (get_beside s.machines s.calls w intact.machines (Reserving op) e).1).0
 
   walking_registered : slice_get s.calls w ≡ Some Walking → (place_of s w).registered ≡ true
   walking_registered e =
-      let x : (x : Machine Id V) × (slice_get s.machines w ≡ Some x) = machine_at Walking e in
+      let x : (x : Machine Id V) × (slice_get s.machines w ≡ Some x) = get_beside s.machines s.calls w intact.machines Walking e in
       (intact.safe.sound.sound.guarded w x.0 x.1).registered (intact.each w Walking x.0 e x.1).0
 
   go_case : (noise : Noise Id V) (r : Report V) (k : Option (InFlight V)) (b : Bool) → slice_get s.calls w ≡ k → (place_of s w).registered ≡ b
@@ -599,9 +592,9 @@ module _ {V : Type 0} (same : V → V → Bool) (always : Bool) (s s' : World V)
   go_case noise r (Some Idle) false e be x = refused_go noise r fault.Unknown (free (Some Idle) e refl) x
   go_case noise r (Some Idle) true e be x = refused_go noise r fault.Idle (free (Some Idle) e refl) x
   go_case noise r (Some (Collecting op)) false e be x =
-      refused_go noise r fault.Unknown (fl.each w (Collecting op) (machine_at (Collecting op) e).0 e (machine_at (Collecting op) e).1) x
+      refused_go noise r fault.Unknown (fl.each w (Collecting op) (get_beside s.machines s.calls w intact.machines (Collecting op) e).0 e (get_beside s.machines s.calls w intact.machines (Collecting op) e).1) x
   go_case noise r (Some (Collecting op)) true e be x =
-      let o : fs w ≡ Over = fl.each w (Collecting op) (machine_at (Collecting op) e).0 e (machine_at (Collecting op) e).1 in
+      let o : fs w ≡ Over = fl.each w (Collecting op) (get_beside s.machines s.calls w intact.machines (Collecting op) e).0 e (get_beside s.machines s.calls w intact.machines (Collecting op) e).1 in
       let P : Option (InFlight V) → Type 0 = λ c. GoesAt same always s w c noise r s' in
       collects (Go noise) collector_event.Go op r (λ l f'. GoMap same fs (fs w) m noise.answer l f') o (inside be) (subst P e x) (over_go noise r o)
   go_case noise r (Some (Reserving op)) false e be x = absurd (let q : false ≡ true = sym be ∙ reserving_registered op e in false≢true q)
@@ -617,7 +610,7 @@ module _ {V : Type 0} (same : V → V → Bool) (always : Bool) (s s' : World V)
       let P : Option (InFlight V) → Type 0 = λ c. GoesAt same always s w c noise r s' in
       walks noise r e (subst P e x)
 
-  -- whatever the step is
+  -- whatever the event, the step is one on the map
   pub on_map : (event : Event V) (r : Report V) → Acts same always s w event (misuse s w event) r s' → Result event r (λ l f'. EventMap same fs m event l f')
   on_map Register r x = registers r x
   on_map (Begin op) r x = begin_case op r (target op) (misuse s w (Begin op)) refl refl x

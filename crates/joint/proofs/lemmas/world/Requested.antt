@@ -23,26 +23,29 @@ use Rattle.joint.specs.declared.engine.request.Request.{Request}
 use Rattle.joint.specs.declared.steps.Op.{Op}
 use Rattle.joint.specs.declared.steps.Op.TheVariants.{Get, Insert, Remove, ComputePresent, ComputeInsert, Exchange, Range, RangeInclusive}
 use Rattle.joint.specs.declared.steps.Target.TheVariants.{Tree}
-use Rattle.joint.specs.engine.Intact.{root}
+use Rattle.joint.specs.Names.{root}
 use Rattle.joint.specs.engine.Journaling.{HasAnswer, call_of}
 use Rattle.joint.specs.engine.Log.{asked, with_answer, answered_if}
 use Rattle.joint.specs.Reports.{target}
 use Rattle.joint.specs.world.World.{value_of, IsOnKey, IsRequestOf, IsQuestionOf, IsAsked}
 
 module _ {V : Type 0} where
-  -- whether a call that is watched so asks, has yet to take effect and may write then, or has which reply
+  -- whether a question was asked, and has no answer yet
   abbrev pub is_asked : Question V → Bool
   is_asked (Asked found) = true
   is_asked _ = false
 
+  -- whether a call that is watched so asks
   abbrev pub asks : Flight V → Bool
   asks (Pending k kind v q) = is_asked q
   asks _ = false
 
+  -- whether it has yet to take effect, and may write then
   abbrev pub writes_on : Flight V → Bool
   writes_on (Pending k kind v q) = may_write kind
   writes_on _ = false
 
+  -- the reply that it has, if it took effect
   abbrev pub replied : Flight V → Option (Reply V)
   replied (Decided r) = Some r
   replied _ = None
@@ -56,6 +59,7 @@ module _ {V : Type 0} where
   heeds_none (reply.ComputeInsert o) = refl
   heeds_none (reply.Exchange o) = refl
 
+  -- a call is watched as asking just where its phase asks
   pub phase_asks : (k : ℕ) (kind : Kind V) (v : Option V) (p : Phase Id V) → asks (flight_in k kind v p) ≡ is_asking p
   phase_asks k kind v (phase.Confirm at r) = heeds_none r
   phase_asks k kind v (phase.CheckAbove p one r) = heeds_none r
@@ -68,43 +72,45 @@ module _ {V : Type 0} where
   phase_asks k kind v (phase.ChangeTwo two r) = heeds_none r
   phase_asks k kind v _ = refl
 
+  -- it may yet write just where its phase has not taken effect and its kind may write
   pub phase_writes : (k : ℕ) (kind : Kind V) (v : Option V) (p : Phase Id V) → writes_on (flight_in k kind v p) ≡ (is_pending p && may_write kind)
   phase_writes k kind v phase.Ended = refl
   phase_writes k kind v _ = refl
 
+  -- it has the reply that its phase has
   pub phase_replied : (k : ℕ) (kind : Kind V) (v : Option V) (p : Phase Id V) → replied (flight_in k kind v p) ≡ reply_in p
   phase_replied k kind v phase.Ended = refl
   phase_replied k kind v _ = refl
 
-  -- a request that is heard is of the same call with the value that it has then
-  hear_none : (op : Op V) (answer : Option (Option V)) (kd : Kind V) (v : Option V) (p : Point V) → target op ≡ Tree p → (parts p).1 ≡ kd → Asking kd → value_of op answer ≡ v
+  -- a request that takes its answer is of the same call with the value that it has then
+  answer_none : (op : Op V) (answer : Option (Option V)) (kd : Kind V) (v : Option V) (p : Point V) → target op ≡ Tree p → (parts p).1 ≡ kd → Asking kd → value_of op answer ≡ v
       → value_of op (with_answer (Some None) (record { op = op; answer = answer })).answer ≡ (value_answered kd (Asked None) (Some None) v)
-  hear_none (ComputePresent k) answer kd v p t e a q =
+  answer_none (ComputePresent k) answer kd v p t e a q =
       let i : point.ComputePresent k ≡ p = cc in
       let P : Kind V → Type 0 = λ x. None ≡ value_answered x (Asked None) (Some None) v in
       subst P (ap (λ (y : Point V). (parts y).1) i ∙ e) refl
-  hear_none (ComputeInsert k) answer kd v p t e a q =
+  answer_none (ComputeInsert k) answer kd v p t e a q =
       let i : point.ComputeInsert k ≡ p = cc in
       let P : Kind V → Type 0 = λ x. value_of (ComputeInsert k) answer ≡ value_answered x (Asked None) (Some None) v in
       subst P (ap (λ (y : Point V). (parts y).1) i ∙ e) q
-  hear_none (Get k) answer kd v p t e a q = absurd (let i : point.Get k ≡ p = cc in subst (λ (x : Kind V). Asking x) (sym (ap (λ (y : Point V). (parts y).1) i ∙ e)) a)
-  hear_none (Insert k w) answer kd v p t e a q = absurd (let i : point.Insert k w ≡ p = cc in subst (λ (x : Kind V). Asking x) (sym (ap (λ (y : Point V). (parts y).1) i ∙ e)) a)
-  hear_none (Remove k) answer kd v p t e a q = absurd (let i : point.Remove k ≡ p = cc in subst (λ (x : Kind V). Asking x) (sym (ap (λ (y : Point V). (parts y).1) i ∙ e)) a)
-  hear_none (Exchange k old new) answer kd v p t e a q = absurd (let i : point.Exchange k old new ≡ p = cc in subst (λ (x : Kind V). Asking x) (sym (ap (λ (y : Point V). (parts y).1) i ∙ e)) a)
-  hear_none (Range start end size) answer kd v p t e a q = absurd (let i : point.Range start end size ≡ p = cc in subst (λ (x : Kind V). Asking x) (sym (ap (λ (y : Point V). (parts y).1) i ∙ e)) a)
-  hear_none (RangeInclusive start last size) answer kd v p t e a q = absurd (let i : point.RangeInclusive start last size ≡ p = cc in subst (λ (x : Kind V). Asking x) (sym (ap (λ (y : Point V). (parts y).1) i ∙ e)) a)
-  hear_none _ answer kd v p t e a q = absurd (cc t)
+  answer_none (Get k) answer kd v p t e a q = absurd (let i : point.Get k ≡ p = cc in subst (λ (x : Kind V). Asking x) (sym (ap (λ (y : Point V). (parts y).1) i ∙ e)) a)
+  answer_none (Insert k w) answer kd v p t e a q = absurd (let i : point.Insert k w ≡ p = cc in subst (λ (x : Kind V). Asking x) (sym (ap (λ (y : Point V). (parts y).1) i ∙ e)) a)
+  answer_none (Remove k) answer kd v p t e a q = absurd (let i : point.Remove k ≡ p = cc in subst (λ (x : Kind V). Asking x) (sym (ap (λ (y : Point V). (parts y).1) i ∙ e)) a)
+  answer_none (Exchange k old new) answer kd v p t e a q = absurd (let i : point.Exchange k old new ≡ p = cc in subst (λ (x : Kind V). Asking x) (sym (ap (λ (y : Point V). (parts y).1) i ∙ e)) a)
+  answer_none (Range start end size) answer kd v p t e a q = absurd (let i : point.Range start end size ≡ p = cc in subst (λ (x : Kind V). Asking x) (sym (ap (λ (y : Point V). (parts y).1) i ∙ e)) a)
+  answer_none (RangeInclusive start last size) answer kd v p t e a q = absurd (let i : point.RangeInclusive start last size ≡ p = cc in subst (λ (x : Kind V). Asking x) (sym (ap (λ (y : Point V). (parts y).1) i ∙ e)) a)
+  answer_none _ answer kd v p t e a q = absurd (cc t)
 
-  hear_some : (op : Op V) (x : V) (kd : Kind V) (p : Point V) → target op ≡ Tree p → (parts p).1 ≡ kd → Asking kd → value_of op (Some (Some x)) ≡ Some x
-  hear_some (ComputePresent k) x kd p t e a = refl
-  hear_some (ComputeInsert k) x kd p t e a = refl
-  hear_some (Get k) x kd p t e a = absurd (let i : point.Get k ≡ p = cc in subst (λ (y : Kind V). Asking y) (sym (ap (λ (y : Point V). (parts y).1) i ∙ e)) a)
-  hear_some (Insert k w) x kd p t e a = absurd (let i : point.Insert k w ≡ p = cc in subst (λ (y : Kind V). Asking y) (sym (ap (λ (y : Point V). (parts y).1) i ∙ e)) a)
-  hear_some (Remove k) x kd p t e a = absurd (let i : point.Remove k ≡ p = cc in subst (λ (y : Kind V). Asking y) (sym (ap (λ (y : Point V). (parts y).1) i ∙ e)) a)
-  hear_some (Exchange k old new) x kd p t e a = absurd (let i : point.Exchange k old new ≡ p = cc in subst (λ (y : Kind V). Asking y) (sym (ap (λ (y : Point V). (parts y).1) i ∙ e)) a)
-  hear_some (Range start end size) x kd p t e a = absurd (let i : point.Range start end size ≡ p = cc in subst (λ (y : Kind V). Asking y) (sym (ap (λ (y : Point V). (parts y).1) i ∙ e)) a)
-  hear_some (RangeInclusive start last size) x kd p t e a = absurd (let i : point.RangeInclusive start last size ≡ p = cc in subst (λ (y : Kind V). Asking y) (sym (ap (λ (y : Point V). (parts y).1) i ∙ e)) a)
-  hear_some _ x kd p t e a = absurd (cc t)
+  answer_some : (op : Op V) (x : V) (kd : Kind V) (p : Point V) → target op ≡ Tree p → (parts p).1 ≡ kd → Asking kd → value_of op (Some (Some x)) ≡ Some x
+  answer_some (ComputePresent k) x kd p t e a = refl
+  answer_some (ComputeInsert k) x kd p t e a = refl
+  answer_some (Get k) x kd p t e a = absurd (let i : point.Get k ≡ p = cc in subst (λ (y : Kind V). Asking y) (sym (ap (λ (y : Point V). (parts y).1) i ∙ e)) a)
+  answer_some (Insert k w) x kd p t e a = absurd (let i : point.Insert k w ≡ p = cc in subst (λ (y : Kind V). Asking y) (sym (ap (λ (y : Point V). (parts y).1) i ∙ e)) a)
+  answer_some (Remove k) x kd p t e a = absurd (let i : point.Remove k ≡ p = cc in subst (λ (y : Kind V). Asking y) (sym (ap (λ (y : Point V). (parts y).1) i ∙ e)) a)
+  answer_some (Exchange k old new) x kd p t e a = absurd (let i : point.Exchange k old new ≡ p = cc in subst (λ (y : Kind V). Asking y) (sym (ap (λ (y : Point V). (parts y).1) i ∙ e)) a)
+  answer_some (Range start end size) x kd p t e a = absurd (let i : point.Range start end size ≡ p = cc in subst (λ (y : Kind V). Asking y) (sym (ap (λ (y : Point V). (parts y).1) i ∙ e)) a)
+  answer_some (RangeInclusive start last size) x kd p t e a = absurd (let i : point.RangeInclusive start last size ≡ p = cc in subst (λ (y : Kind V). Asking y) (sym (ap (λ (y : Point V). (parts y).1) i ∙ e)) a)
+  answer_some _ x kd p t e a = absurd (cc t)
 
   -- the question is settled by no value too, but where one is wanted
   none_settles : (op : Op V) (answer : Option (Option V)) (kd : Kind V) (found : Option V) (p : Point V) → target op ≡ Tree p → (parts p).1 ≡ kd → Asking kd
@@ -125,28 +131,29 @@ module _ {V : Type 0} where
   none_settles (RangeInclusive start last size) answer kd found p t e a = absurd (let i : point.RangeInclusive start last size ≡ p = cc in subst (λ (x : Kind V). Asking x) (sym (ap (λ (y : Point V). (parts y).1) i ∙ e)) a)
   none_settles _ answer kd found p t e a = absurd (cc t)
 
-  -- what the step of a call hears
+  -- the answer that the step of a call takes
   pub record TakesAnswer (o : Option (Request V)) (k : ℕ) (kd : Kind V) (v : Option V) (u : Question V) : Type 0 where
     pub request : Request V
     pub is : o ≡ Some request
     pub of : IsRequestOf request k kd v
     pub question : IsQuestionOf kd u request.answer
 
-  pub heard_is : (q : Request V) (k : ℕ) (kd : Kind V) (v : Option V) (u : Question V) (answer : Option (Option V)) → IsRequestOf q k kd v → IsQuestionOf kd u q.answer
+  -- a request that takes the answer of a step is of the call with its value and question after that step
+  pub answered_is : (q : Request V) (k : ℕ) (kd : Kind V) (v : Option V) (u : Question V) (answer : Option (Option V)) → IsRequestOf q k kd v → IsQuestionOf kd u q.answer
       → TakesAnswer (answered_if (is_asked u) answer (Some q)) k kd (value_answered kd u answer v) (resolved kd u answer)
-  heard_is q k kd v Unasked answer r a = record { request = q; is = refl; of = r; question = a }
-  heard_is q k kd v (Replied o) answer r a = record { request = q; is = refl; of = r; question = a }
-  heard_is q k kd v (Asked o) None r a = record { request = q; is = refl; of = r; question = a }
-  heard_is q k kd v (Asked o) (Some None) r a = record {
+  answered_is q k kd v Unasked answer r a = record { request = q; is = refl; of = r; question = a }
+  answered_is q k kd v (Replied o) answer r a = record { request = q; is = refl; of = r; question = a }
+  answered_is q k kd v (Asked o) None r a = record { request = q; is = refl; of = r; question = a }
+  answered_is q k kd v (Asked o) (Some None) r a = record {
     request = with_answer (Some None) q;
     is = refl;
-    of = record { point = r.point; on_tree = r.on_tree; on_key = r.on_key; key = r.key; same_kind = r.same_kind; value = hear_none q.op q.answer kd v r.point r.on_tree r.same_kind a r.value };
+    of = record { point = r.point; on_tree = r.on_tree; on_key = r.on_key; key = r.key; same_kind = r.same_kind; value = answer_none q.op q.answer kd v r.point r.on_tree r.same_kind a r.value };
     question = none_settles q.op q.answer kd o r.point r.on_tree r.same_kind a;
   }
-  heard_is q k kd v (Asked o) (Some (Some x)) r a = record {
+  answered_is q k kd v (Asked o) (Some (Some x)) r a = record {
     request = with_answer (Some (Some x)) q;
     is = refl;
-    of = record { point = r.point; on_tree = r.on_tree; on_key = r.on_key; key = r.key; same_kind = r.same_kind; value = hear_some q.op x kd r.point r.on_tree r.same_kind a };
+    of = record { point = r.point; on_tree = r.on_tree; on_key = r.on_key; key = r.key; same_kind = r.same_kind; value = answer_some q.op x kd r.point r.on_tree r.same_kind a };
     question = refl;
   }
 
@@ -186,6 +193,7 @@ module _ {V : Type 0} where
   call_by (RangeInclusive start last size) answer same p v found c t n q i = absurd (let e : point.RangeInclusive start last size ≡ p = cc in subst (λ (x : Point V). IsOnKey x) (sym e) n)
   call_by _ answer same p v found c t n q i = absurd (cc t)
 
+  -- the call that a request makes with the reply is the one that the map answers
   pub request_call : (q : Request V) (same : V → V → Bool) (k : ℕ) (kd : Kind V) (v found : Option V) (c : Entered V) → IsRequestOf q k kd v → IsCall k kd v found c → call_of q.op q.answer (reply_on same c found) ≡ Some c
   request_call q same k kd v found c r i =
       let P : ℕ → Type 0 = λ x. IsCall x kd v found c in
@@ -210,6 +218,7 @@ module _ {V : Type 0} where
       subst (λ x. IsQuestionOf kind.ComputeInsert x answer) h1 (subst (λ (x : Point V). IsQuestionOf (parts x).1 u answer) (sym e) a)
   answered_by _ answer same p v found c u t i h a = tt
 
+  -- where the map answers the call, the request has what answer of a closure it wants
   pub request_answered : (q : Request V) (same : V → V → Bool) (k : ℕ) (kd : Kind V) (v found : Option V) (c : Entered V) (u : Question V) → IsRequestOf q k kd v → IsCall k kd v found c → Heeds kd found u → IsQuestionOf kd u q.answer
       → HasAnswer q.op q.answer (reply_on same c found)
   request_answered q same k kd v found c u r i h a =
@@ -232,6 +241,7 @@ module _ {V : Type 0} where
   begins_as : (op : Op V) (p : Point V) → target op ≡ Tree p → IsOnKey p → IsAsked (asked op) (Pending (parts p).0 (parts p).1 (parts p).2 Unasked)
   begins_as op p t n = (record { op = op; answer = None }, refl, record { point = p; on_tree = t; on_key = n; key = refl; same_kind = refl; value = value_begins op p t n }, tt)
 
+  -- a request as its call begins agrees with that call
   pub begins_asked : (op : Op V) (p : Point V) → target op ≡ Tree p → IsAsked (asked op) (flight (begun root p))
   begins_asked op (point.Range start end size) t = tt
   begins_asked op (point.RangeInclusive start last size) t = tt
@@ -242,12 +252,13 @@ module _ {V : Type 0} where
   begins_asked op (point.ComputeInsert k) t = begins_as op (point.ComputeInsert k) t tt
   begins_asked op (point.Exchange k old new) t = begins_as op (point.Exchange k old new) t tt
 
-  -- a step that doesn't decide leaves the request of a call that stays in flight as it was heard
+  -- a step that doesn't decide leaves the request of a call that stays in flight as it took its answer
   carried : (o : Option (Request V)) (k : ℕ) (kd : Kind V) (v : Option V) (q q' : Question V) → TakesAnswer o k kd v q → Carries q q' → IsAsked o (Pending k kd v q')
   carried o k kd v q Unasked h c = (h.request, h.is, h.of, tt)
   carried o k kd v q (Replied x) h c = (h.request, h.is, h.of, subst (λ u. IsQuestionOf kd u h.request.answer) c h.question)
   carried o k kd v q (Asked x) h c = absurd c
 
+  -- after a step that doesn't decide, a request that took its answer agrees with its call
   pub undecided_asked : (o : Option (Request V)) (k : ℕ) (kd : Kind V) (v : Option V) (q : Question V) (m : Moved V) (f' : Flight V) → TakesAnswer o k kd v q → Undecided k kd v q m f' → IsAsked o f'
   undecided_asked o k kd v q moved.Running f' h u = subst (λ (x : Flight V). IsAsked o x) (sym u.2) (carried o k kd v q u.0 h u.1)
   undecided_asked o k kd v q (moved.Asks x) f' h u = subst (λ (y : Flight V). IsAsked o y) (sym u.1) (h.request, h.is, h.of, u.0)

@@ -38,9 +38,9 @@ use Rattle.joint.specs.world.Whereabouts.{IsWaiting, IsTakenBy}
 use Rattle.joint.specs.world.World.{Holds}
 use Rattle.joint.specs.engine.Engine.{World}
 use Rattle.joint.proofs.lemmas.nodes.Listing.{pairs_append, gives, given, once, nodes_once, counted_nodes, weighed_nodes, bytes_are, listed, unlisted}
-use Rattle.joint.proofs.lemmas.world.Whereabouts.{gone_waits, somewhere}
+use Rattle.joint.proofs.lemmas.world.Whereabouts.{gone_waits, node_somewhere}
 
--- tests that what doesn't stand fails
+-- what doesn't stand doesn't wait
 pub none_waits : (P : Type 0) (g : Bool) → is_waiting (view {P = P} g None) ≡ false
 none_waits P g = refl
 
@@ -69,7 +69,7 @@ of_both true false a b = refl
 of_both true true a b = absurd (cc b)
 of_both false d a b = absurd (cc a)
 
--- the nodes that stand are listed
+-- the list of the nodes that stand has each of them once, and no other
 pub standing_listed : {V : Type 0} (F : Nodes V) → IsListOf (λ n. Stands (nodes F n)) (standing_nodes F)
 standing_listed {V} F = record {
   once = nodes_once is_standing (λ v. true) (none_stands V) some_stands F;
@@ -81,26 +81,28 @@ standing_listed {V} F = record {
 
 -- as many as are counted in the cells, and as many bytes
 module _ {P : Type 0} (F : Nodes P) (k : Counts) (kept : IsKept k F) where
-  -- and charged
+  -- the charge is the base and the bytes of the nodes that stand
   pub standing_weight : F.charge ≡ F.base + sum_by (bytes_of F) (standing_nodes F)
   standing_weight =
       let c : F.charge ≡ F.base + sizes F.collector.store = kept.charged in
       let w : sum_by (bytes_of F) (standing_nodes F) ≡ sizes F.collector.store = weighed_nodes is_standing (λ v. true) (none_stands P) some_stands F kept.used in
       omega (arith, c, w)
 
+  -- so many nodes are counted as waiting as stand and were handed over
   pub handed_count : k.waiting ≡ length (handed_nodes F)
   handed_count = kept.count_is ∙ sym (counted_nodes is_waiting (λ v. v.word.retired) (none_waits P) some_waits F kept.used)
 
+  -- so many bytes are counted as waiting as these have
   pub handed_weight : k.waiting_bytes ≡ sum_by (bytes_of F) (handed_nodes F)
   handed_weight = kept.bytes_is ∙ sym (weighed_nodes is_waiting (λ v. v.word.retired) (none_waits P) some_waits F kept.used)
 
   -- a cell's mark tells what is charged
-  pub tallied_bytes : (n : Name) → is_some (value_at F.collector.store n) ≡ true → size_of (mark_at k.cell_marks.items n.cell).form ≡ bytes_of F (number n)
-  tallied_bytes n e = go (value_at F.collector.store n) refl e
+  pub marked_bytes : (n : Name) → is_some (value_at F.collector.store n) ≡ true → size_of (mark_at k.cell_marks.items n.cell).form ≡ bytes_of F (number n)
+  marked_bytes n e = go (value_at F.collector.store n) refl e
     where
       go : (o : Option (Slot P)) → value_at F.collector.store n ≡ o → is_some o ≡ true → size_of (mark_at k.cell_marks.items n.cell).form ≡ bytes_of F (number n)
       go None q t = absurd (cc t)
-      go (Some v) q t = sym (kept.tallied n v q).size_is ∙ sym (bytes_are F n v q)
+      go (Some v) q t = sym (kept.marks_are n v q).size_is ∙ sym (bytes_are F n v q)
 
 -- what waits was handed over, and stands
 parts_of : (r m d : Bool) → r && (m && not d) ≡ true → (r ≡ true) × (m ≡ true) × (d ≡ false)
@@ -204,7 +206,8 @@ module _ {V : Type 0} (same : V → V → Bool) (always : Bool) (laws : CallLaws
   marked_waits n Back e w = absurd (let q : false ≡ true = sym w.2 ∙ holdings.spent n (ap is_spent e) in false≢true q)
   marked_waits n Destroyed e w = absurd (let q : false ≡ true = sym w.2 ∙ holdings.spent n (ap is_spent e) in false≢true q)
 
-  handed_waits : (n : ℕ) → is_waiting (nodes s.forest n) ≡ true → IsWaiting s n
+  -- a node that was handed over and stands waits
+  pub handed_waits : (n : ℕ) → is_waiting (nodes s.forest n) ≡ true → IsWaiting s n
   handed_waits n w = marked_waits n (notes n).status refl (parts_of (nodes s.forest n).retired (nodes s.forest n).made (nodes s.forest n).destroyed w)
 
   -- one that a call has taken out
@@ -222,6 +225,7 @@ module _ {V : Type 0} (same : V → V → Bool) (always : Bool) (laws : CallLaws
       let w = given taken_by s.machines n c in
       (w.0, (w.1, w.2, taken_is w.1.phase n w.3))
 
+  -- the list of the nodes that wait has each of them once, and no other
   pub waiting_listed : IsListOf (IsWaiting s) (waiting_nodes s)
   waiting_listed = record {
     once = pairs_append (λ m n. m ≢ n) (handed_nodes s.forest) (flat_map taken_by s.machines) (nodes_once is_waiting (λ v. v.word.retired) (none_waits V) some_waits s.forest)
@@ -240,7 +244,7 @@ module _ {V : Type 0} (same : V → V → Bool) (always : Bool) (laws : CallLaws
         | inl x ↦ handed_waits n (unlisted is_waiting (λ v. v.word.retired) (none_waits V) some_waits s.forest n x)
         | inr x ↦ (let t : (i : ℕ) × IsTakenBy s i n = by_machine n x in taken_waits n t.0 t.1)
       ],
-      λ w. elim ((somewhere same always laws s holds n w.stands.made).handed w) [
+      λ w. elim ((node_somewhere same always laws s holds n w.stands.made).handed w) [
         | inl r ↦ Contains-append_left (handed_nodes s.forest) (flat_map taken_by s.machines) n (listed is_waiting (λ v. v.word.retired) (none_waits V) some_waits s.forest n (joined _ _ _ r w.stands.made w.stands.kept))
         | inr t ↦ Contains-append_right (handed_nodes s.forest) (flat_map taken_by s.machines) n (gives taken_by s.machines t.0 t.1.0 n t.1.1 (is_taken t.1.0.phase n t.1.2))
       ],

@@ -1,4 +1,4 @@
--- Each node that was made is in one place, by the ledger of the calls.
+-- Each node that was made is in one place, by the notes of the calls.
 use Rattle.std.proofs.Common.{◌≡◌, ℕ, Bool, true, false, refl, sym, ◌∙◌, ap, inl, inr, ◌⊎◌}
 use Rattle.std.specs.Prelude.{Some, slice_get}
 use Rattle.std.proofs.lemmas.Bool.{cases_Bool, false≢true}
@@ -17,6 +17,7 @@ use Rattle.joint.specs.world.World.{Holds}
 use Rattle.joint.specs.engine.Engine.{World, IsHeldBy}
 
 module _ {V : Type 0} (same : V → V → Bool) (always : Bool) (laws : CallLaws {C = Id} {V = V} id_number same always) (s : World V) (holds : Holds same always s) (n : ℕ) (made : (nodes s.forest n).made ≡ true) where
+  -- locks and nodes are held by calls alone that are between their steps
   abbrev pub settled : Settled id_number same always (nodes s.forest) s.machines
   settled = holds.0.safe.sound.sound.settled
 
@@ -89,8 +90,9 @@ module _ {V : Type 0} (same : V → V → Bool) (always : Bool) (laws : CallLaws
   handed Back e w = absurd (standing w.stands (record { gone = holdings.spent n (ap is_spent e) }))
   handed Destroyed e w = absurd (standing w.stands (record { gone = holdings.spent n (ap is_spent e) }))
 
-  pub somewhere : IsSomewhere s n
-  somewhere = record {
+  -- the node is in exactly one of the four places
+  pub node_somewhere : IsSomewhere s n
+  node_somewhere = record {
     one = one;
     held_or_hung = λ h t. let q : Held h.worker ≡ Linked = sym (by_call h.worker h.held) ∙ linked t in cc;
     held_or_waiting = λ h w. w.unheld h.worker h.held;

@@ -1,6 +1,6 @@
 use Rattle.std.proofs.Common.{refl, ◌∙◌, ap}
 use Rattle.std.specs.Vec.{vec_len}
-use Rattle.congee.proofs.lemmas.protocol.Turns.{progress_none, progress_more, progress_end, trace_end}
+use Rattle.congee.proofs.lemmas.protocol.ManyCalls.{progress_none, progress_more, progress_end, trace_end}
 use Rattle.congee.proofs.lemmas.protocol.Traces.{all_end_alone, fresh_end_alone}
 use Rattle.congee.proofs.lemmas.protocol.FillingTraces.{run_filled}
 use Rattle.congee.proofs.lemmas.protocol.Destroys.{spares}

@@ -3,7 +3,7 @@ use Rattle.std.specs.Vec.Iter.{into_iter_items, into_iter_len}
 use Rattle.std.proofs.Common.{◌≡◌}
 use Rattle.congee.specs.protocol.Bounds.{Within}
 use Rattle.congee.specs.protocol.Causes.{RefusesAt}
-use Rattle.congee.proofs.lemmas.protocol.Turns.{Progress}
+use Rattle.congee.proofs.lemmas.protocol.ManyCalls.{Progress}
 use Rattle.congee.proofs.protocol.run.play.Given as goal
 
 abbrev pub invariant-loop-step : goal.invariant-loop-step

@@ -1,6 +1,6 @@
 use Rattle.std.proofs.Common.{◌≡◌, [], ◌∙◌, ap}
 use Rattle.std.specs.VecDeque.{deque_len, deque_capacity}
-use Rattle.crossbeam_epoch.proofs.lemmas.world.Chains.{nothing_first, alone, blocks_none}
+use Rattle.crossbeam_epoch.proofs.lemmas.world.Chains.{nothing_first, last_alone, blocks_none}
 use Rattle.crossbeam_epoch.proofs.chain.Chain.give_up.Goals as goal
 
 pub invariant_of-self : goal.invariant_of-self
@@ -12,4 +12,4 @@ pub returns-clause-items : goal.returns-clause-items
 returns-clause-items g c =
     let s = c.self.inside in
     let none : s.first.items ≡ [] = nothing_first _ _ (ap (λ v. v.items) c.self.view_is ∙ c.requires) in
-    alone (λ q. q.items) s.first.items c.no_block.result.items s.between.items none (c.self.invariant.alone none) ∙ c.no_block.ensures.0
+    last_alone (λ q. q.items) s.first.items c.no_block.result.items s.between.items none (c.self.invariant.alone none) ∙ c.no_block.ensures.0

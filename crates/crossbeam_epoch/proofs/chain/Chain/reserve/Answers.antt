@@ -1,11 +1,11 @@
 use Rattle.std.proofs.Common.{◌≡◌, ◌++◌, ◌∷◌, [], ◌<◌, sym, ap, ◌∙◌, subst}
 use Rattle.std.specs.VecDeque.{deque_len, deque_capacity}
 use Rattle.crossbeam_epoch.specs.Chain.{joined, AreFilled}
-use Rattle.crossbeam_epoch.proofs.lemmas.world.Chains.{has_room, nothing_in, something_in, not_nothing, moved, all_filled, blocks_made, blocks_moved, blocks_added}
+use Rattle.crossbeam_epoch.proofs.lemmas.world.Chains.{refilled_same, nothing_in, something_in, not_nothing, moved, all_filled, blocks_made, blocks_moved, blocks_added}
 use Rattle.crossbeam_epoch.proofs.chain.Chain.reserve.Goals as goal
 
 pub returns-then-len-capacity-clause-ok : goal.returns-then-len-capacity-clause-ok
-returns-then-len-capacity-clause-ok g c = has_room _ _ _ _ _ c.len.ensures c.capacity.ensures c.if-len-capacity.true (ap (λ v. v.room) c.self.view_is)
+returns-then-len-capacity-clause-ok g c = refilled_same _ _ _ _ _ c.len.ensures c.capacity.ensures c.if-len-capacity.true (ap (λ v. v.room) c.self.view_is)
 
 pub invariant_of-self : goal.invariant_of-self
 invariant_of-self g c = blocks_made (λ q. q.items) (λ q. deque_len q) (λ q. deque_capacity q) _ _ _ _ c.self.invariant c.in_ok-block.ensures.exact

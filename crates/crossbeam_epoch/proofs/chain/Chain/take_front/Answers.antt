@@ -1,6 +1,6 @@
 use Rattle.std.proofs.Common.{◌≡◌, ◌∷◌, [], sym, ap, ◌∙◌, length}
 use Rattle.std.specs.VecDeque.{deque_len, deque_capacity}
-use Rattle.crossbeam_epoch.proofs.lemmas.world.Chains.{nothing_in, something_in, not_nothing, alone, taken_off, taken_last, taken_first, taken_over, freed_last, freed_first, within, last_within, blocks_last, blocks_first, blocks_next}
+use Rattle.crossbeam_epoch.proofs.lemmas.world.Chains.{nothing_in, something_in, not_nothing, last_alone, taken_off, taken_last, taken_first, taken_over, freed_last, freed_first, within, last_within, blocks_last, blocks_first, blocks_next}
 use Rattle.crossbeam_epoch.proofs.lemmas.world.Endings.{none_left}
 use Rattle.crossbeam_epoch.proofs.chain.Chain.take_front.Goals as goal
 use Rattle.crossbeam_epoch.proofs.chain.Chain.take_front.Goals.{then-is_empty, else-is_empty}
@@ -25,7 +25,7 @@ returns-in_default-clause-room g c =
     let none : s.first.items ≡ [] = none_left s.first.items c.pop_front.new.self.items c.in_default.ensures.items c.in_default.ensures.rest in
     let last = c.pop_front-in_default in
     freed_last last.result (deque_capacity s.last) (deque_capacity last.new.self) (deque_len s.last) (deque_len last.new.self) _ _ c.self.invariant.whole s.last.small.1 last.ensures.capacity last.ensures.cases
-    (ap (λ l. length l) (alone (λ q. q.items) c.pop_front.new.self.items last.new.self.items s.between.items (sym c.in_default.ensures.items ∙ none) (c.self.invariant.alone none)) ∙ sym last.new.self.ok.0)
+    (ap (λ l. length l) (last_alone (λ q. q.items) c.pop_front.new.self.items last.new.self.items s.between.items (sym c.in_default.ensures.items ∙ none) (c.self.invariant.alone none)) ∙ sym last.new.self.ok.0)
     (ap (λ v. v.room) c.self.view_is)
 
 pub invariant_of-self-then-is_empty : goal.invariant_of-self-then-is_empty

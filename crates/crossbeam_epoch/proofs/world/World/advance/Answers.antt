@@ -1,6 +1,6 @@
 use Rattle.std.proofs.Common.{refl}
 use Rattle.crossbeam_epoch.proofs.lemmas.world.Held.{advanced_at, stayed_at}
-use Rattle.crossbeam_epoch.proofs.lemmas.world.Within.{within}
+use Rattle.crossbeam_epoch.proofs.lemmas.world.Within.{worker_within}
 use Rattle.crossbeam_epoch.proofs.world.World.advance.Goals as goal
 
 pub returns-then-seen-self : goal.returns-then-seen-self
@@ -16,7 +16,7 @@ returns g c = record {
 }
 
 pub index_mut-requires : goal.index_mut-requires
-index_mut-requires g c = within c.args.self.now _ c.args.who _ c.self.view_is c.self.inside.participants.ok.0 c.requires.in_table
+index_mut-requires g c = worker_within c.args.self.now _ c.args.who _ c.self.view_is c.self.inside.participants.ok.0 c.requires.in_table
 
 pub index_mut-requires-2 : goal.index_mut-requires-2
-index_mut-requires-2 g c = within c.args.self.now _ c.args.who _ c.self.view_is c.self.inside.participants.ok.0 c.requires.in_table
+index_mut-requires-2 g c = worker_within c.args.self.now _ c.args.who _ c.self.view_is c.self.inside.participants.ok.0 c.requires.in_table

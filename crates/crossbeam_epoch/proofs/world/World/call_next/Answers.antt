@@ -3,7 +3,7 @@ use Rattle.crossbeam_epoch.specs.World.Machine.{after_call}
 use Rattle.crossbeam_epoch.specs.World.Steps.{outcome_at}
 use Rattle.crossbeam_epoch.specs.declared.world.participant.Phase.TheVariants as P
 use Rattle.crossbeam_epoch.proofs.lemmas.world.Held.{called_none, called_first, written_at}
-use Rattle.crossbeam_epoch.proofs.lemmas.world.Within.{within}
+use Rattle.crossbeam_epoch.proofs.lemmas.world.Within.{worker_within}
 use Rattle.crossbeam_epoch.proofs.world.World.call_next.Goals as goal
 
 pub returns-then-is_empty : goal.returns-then-is_empty
@@ -31,4 +31,4 @@ returns g c =
     }
 
 pub index_mut-place-requires : goal.index_mut-place-requires
-index_mut-place-requires g c = within c.args.self.now _ c.args.who _ c.self.view_is c.self.inside.participants.ok.0 c.requires.in_table
+index_mut-place-requires g c = worker_within c.args.self.now _ c.args.who _ c.self.view_is c.self.inside.participants.ok.0 c.requires.in_table

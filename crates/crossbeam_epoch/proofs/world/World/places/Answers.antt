@@ -1,16 +1,16 @@
 use Rattle.std.proofs.Common.{◌-◌, sym, ap, ◌∙◌, length}
 use Rattle.std.specs.Prelude.{if◌then◌else◌}
 use Rattle.crossbeam_epoch.specs.World.Machine.{place}
-use Rattle.crossbeam_epoch.proofs.lemmas.world.Held.{held}
-use Rattle.crossbeam_epoch.proofs.lemmas.world.Within.{within}
+use Rattle.crossbeam_epoch.proofs.lemmas.world.Held.{place_read}
+use Rattle.crossbeam_epoch.proofs.lemmas.world.Within.{worker_within}
 use Rattle.crossbeam_epoch.proofs.world.World.places.Goals as goal
 
 pub index-requires : goal.index-requires
-index-requires g c = within c.args.self.now _ c.args.who _ c.self.view_is c.self.inside.participants.ok.0 (c.is_registered.ensures.inside c.if-is_registered.true)
+index-requires g c = worker_within c.args.self.now _ c.args.who _ c.self.view_is c.self.inside.participants.ok.0 (c.is_registered.ensures.inside c.if-is_registered.true)
 
 pub returns-then-is_registered : goal.returns-then-is_registered
 returns-then-is_registered g c =
-    let at = held c.args.self.now _ c.args.who c.index.result.now c.self.view_is (c.is_registered.ensures.inside c.if-is_registered.true) c.index.ensures in
+    let at = place_read c.args.self.now _ c.args.who c.index.result.now c.self.view_is (c.is_registered.ensures.inside c.if-is_registered.true) c.index.ensures in
     ap (λ n. 64 - n) c.len.ensures.value
     ∙ ap (λ p. 64 - length p.bag) at
     ∙ sym (ap (λ b. if b then 64 - length (place c.args.self.now c.args.who).bag else 0) (sym c.is_registered.ensures.value ∙ c.if-is_registered.true))

@@ -1,6 +1,6 @@
 use Rattle.std.proofs.Common.{ap, ◌∙◌}
 use Rattle.crossbeam_epoch.proofs.lemmas.world.Held.{deferred_at}
-use Rattle.crossbeam_epoch.proofs.lemmas.world.Within.{ticket_left, within}
+use Rattle.crossbeam_epoch.proofs.lemmas.world.Within.{ticket_left, worker_within}
 use Rattle.crossbeam_epoch.proofs.world.World.put.Goals as goal
 
 pub returns : goal.returns
@@ -13,4 +13,4 @@ pub give-ticket-requires : goal.give-ticket-requires
 give-ticket-requires g c = ticket_left c.args.self.now _ c.self.view_is c.requires.few
 
 pub index_mut-requires : goal.index_mut-requires
-index_mut-requires g c = within c.args.self.now _ c.args.who _ c.self.view_is c.self.inside.participants.ok.0 c.requires.in_table
+index_mut-requires g c = worker_within c.args.self.now _ c.args.who _ c.self.view_is c.self.inside.participants.ok.0 c.requires.in_table

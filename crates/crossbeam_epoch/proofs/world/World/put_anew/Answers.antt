@@ -1,6 +1,6 @@
 use Rattle.std.proofs.Common.{refl, sym, ap, ◌-◌, ◌∙◌, ◌++◌, ◌∷◌, []}
 use Rattle.crossbeam_epoch.proofs.lemmas.world.Held.{anew_at}
-use Rattle.crossbeam_epoch.proofs.lemmas.world.Within.{room_made, when_ok, when_err, same_queue, ticket_left, within}
+use Rattle.crossbeam_epoch.proofs.lemmas.world.Within.{room_made, when_ok, when_err, same_queue, ticket_left, worker_within}
 use Rattle.crossbeam_epoch.proofs.world.World.put_anew.Goals as goal
 
 pub returns : goal.returns
@@ -18,7 +18,7 @@ pub give-ticket-requires : goal.give-ticket-requires
 give-ticket-requires g c = ticket_left c.args.self.now _ c.self.view_is c.requires.few
 
 pub index_mut-requires : goal.index_mut-requires
-index_mut-requires g c = within c.args.self.now _ c.args.who _ c.self.view_is c.self.inside.participants.ok.0 c.requires.in_table
+index_mut-requires g c = worker_within c.args.self.now _ c.args.who _ c.self.view_is c.self.inside.participants.ok.0 c.requires.in_table
 
 pub push_back_reserved-requires : goal.push_back_reserved-requires
 push_back_reserved-requires g c = (g.met.J.Task.fits_sealed, room_made c.reserve.result c.is_err.result _ _ c.is_err.ensures.value c.if-is_err.false c.reserve.ensures.ok)

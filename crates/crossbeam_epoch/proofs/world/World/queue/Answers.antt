@@ -3,7 +3,7 @@ use Rattle.crossbeam_epoch.specs.declared.fault.Fault.TheVariants.{Memory}
 use Rattle.crossbeam_epoch.specs.declared.world.participant.Phase.TheVariants as P
 use Rattle.crossbeam_epoch.proofs.lemmas.world.Goes.{no_refusal}
 use Rattle.crossbeam_epoch.proofs.lemmas.world.Held.{placed_beside, queued_at}
-use Rattle.crossbeam_epoch.proofs.lemmas.world.Within.{room_made, when_ok, when_err, within}
+use Rattle.crossbeam_epoch.proofs.lemmas.world.Within.{room_made, when_ok, when_err, worker_within}
 use Rattle.crossbeam_epoch.proofs.world.World.queue.Goals as goal
 
 pub returns-then-is_err : goal.returns-then-is_err
@@ -23,10 +23,10 @@ returns g c = record {
 }
 
 pub index_mut-requires : goal.index_mut-requires
-index_mut-requires g c = within c.args.self.now _ c.args.who _ c.self.view_is c.self.inside.participants.ok.0 c.requires.in_table
+index_mut-requires g c = worker_within c.args.self.now _ c.args.who _ c.self.view_is c.self.inside.participants.ok.0 c.requires.in_table
 
 pub index_mut-requires-2 : goal.index_mut-requires-2
-index_mut-requires-2 g c = within c.args.self.now _ c.args.who _ c.self.view_is c.self.inside.participants.ok.0 c.requires.in_table
+index_mut-requires-2 g c = worker_within c.args.self.now _ c.args.who _ c.self.view_is c.self.inside.participants.ok.0 c.requires.in_table
 
 pub push_back_reserved-requires : goal.push_back_reserved-requires
 push_back_reserved-requires g c = (g.met.J.Task.fits_sealed, room_made c.reserve.result c.is_err.result _ _ c.is_err.ensures.value c.if-is_err.false c.reserve.ensures.ok)

@@ -1,11 +1,11 @@
 use Rattle.std.proofs.Common.{refl, true}
 use Rattle.crossbeam_epoch.proofs.lemmas.world.Held.{placed_at}
 use Rattle.crossbeam_epoch.proofs.lemmas.world.Told.{tells_registered, tells_still}
-use Rattle.crossbeam_epoch.proofs.lemmas.world.Within.{within}
+use Rattle.crossbeam_epoch.proofs.lemmas.world.Within.{worker_within}
 use Rattle.crossbeam_epoch.proofs.world.World.register.Goals as goal
 
 pub index_mut-place-requires : goal.index_mut-place-requires
-index_mut-place-requires g c = within c.args.self.now _ c.in-Some.n _ c.self.view_is c.self.inside.participants.ok.0 c.in-Some.ensures.free.0
+index_mut-place-requires g c = worker_within c.args.self.now _ c.in-Some.n _ c.self.view_is c.self.inside.participants.ok.0 c.in-Some.ensures.free.0
 
 pub returns-in-Some : goal.returns-in-Some
 returns-in-Some g c =

@@ -8,7 +8,7 @@ use Rattle.crossbeam_epoch.specs.declared.names.Name.{Name}
 use Rattle.crossbeam_epoch.specs.declared.world.report.Event.{Event}
 use Rattle.crossbeam_epoch.specs.declared.world.report.Report.{Report}
 use Rattle.crossbeam_epoch.specs.declared.world.participant.Phase.TheVariants as P
-use Rattle.crossbeam_epoch.proofs.lemmas.world.Goes.{begins, refuses}
+use Rattle.crossbeam_epoch.proofs.lemmas.world.Goes.{begin_steps, refuses}
 use Rattle.crossbeam_epoch.proofs.lemmas.world.Logs.{shows_step}
 use Rattle.crossbeam_epoch.proofs.lemmas.world.Told.{tells_after}
 use Rattle.crossbeam_epoch.proofs.world.World.step.Goals as goal
@@ -22,7 +22,7 @@ pub returns-in-Idle : goal.returns-in-Idle
 returns-in-Idle g c =
     let registered : (place c.args.self.now c.args.who).registered ≡ true = sym c.is_registered.ensures.value ∙ c.if-not-is_registered.false in
     let inside : c.args.who < length c.args.self.now.table = search rules in
-    let step = begins c.args.self.now c.begin.new.self c.args.who c.in-Begin.op c.begin.result c.silent.result registered (sym c.phase_of-phase.ensures ∙ c.in-Idle.is) inside c.begin.ensures.outcome c.begin.ensures.state c.silent.ensures in
+    let step = begin_steps c.args.self.now c.begin.new.self c.args.who c.in-Begin.op c.begin.result c.silent.result registered (sym c.phase_of-phase.ensures ∙ c.in-Idle.is) inside c.begin.ensures.outcome c.begin.ensures.state c.silent.ensures in
     let report : IsReport c.args.self.now c.args.who c.args.event c.silent.result = rw c.in-Begin.is step.0 in
     let state : c.begin.new.self ≡ after c.args.self.now c.args.who c.args.event c.silent.result.outcome = rw c.in-Begin.is step.1 in
     let on = leads g.T.Links.names c.args.self.now c.begin.new.self c.args.who c.args.event c.silent.result report state in

@@ -6,7 +6,7 @@ use Rattle.crossbeam_epoch.specs.declared.world.participant.Participant.{Partici
 use Rattle.crossbeam_epoch.specs.declared.world.participant.Phase.TheVariants as P
 use Rattle.crossbeam_epoch.specs.World.Steps.{outcome_at}
 use Rattle.crossbeam_epoch.proofs.lemmas.world.Held.{placed_at, took_first, written_at}
-use Rattle.crossbeam_epoch.proofs.lemmas.world.Within.{within}
+use Rattle.crossbeam_epoch.proofs.lemmas.world.Within.{worker_within}
 use Rattle.crossbeam_epoch.proofs.world.World.take.Goals as goal
 use Rattle.crossbeam_epoch.proofs.world.World.take.Goals.{then-bags-ge-BAGS-via-then-bags-ge-BAGS, then-bags-ge-BAGS-via-else-bags-ge-BAGS+then-not-is_due}
 
@@ -31,10 +31,10 @@ returns g c = record {
 }
 
 pub index_mut-requires : goal.index_mut-requires
-index_mut-requires g c = within c.args.self.now _ c.args.who _ c.self.view_is c.self.inside.participants.ok.0 c.requires.in_table
+index_mut-requires g c = worker_within c.args.self.now _ c.args.who _ c.self.view_is c.self.inside.participants.ok.0 c.requires.in_table
 
 pub index_mut-requires-2 : goal.index_mut-requires-2
-index_mut-requires-2 g c = within c.args.self.now _ c.args.who _ c.self.view_is c.self.inside.participants.ok.0 c.requires.in_table
+index_mut-requires-2 g c = worker_within c.args.self.now _ c.args.who _ c.self.view_is c.self.inside.participants.ok.0 c.requires.in_table
 
 pub overflow_add-bags : goal.overflow_add-bags
 overflow_add-bags g c =

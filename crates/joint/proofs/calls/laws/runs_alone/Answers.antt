@@ -1,4 +1,4 @@
-use Rattle.joint.specs.engine.Intact.{root}
+use Rattle.joint.specs.Names.{root}
 use Rattle.joint.proofs.lemmas.calls.Alone.{all_end_alone, ends_here}
 use Rattle.joint.proofs.lemmas.calls.AloneCalls.{call_ends}
 use Rattle.joint.proofs.calls.laws.runs_alone.Goals as goal

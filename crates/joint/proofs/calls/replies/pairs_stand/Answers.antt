@@ -1,12 +1,12 @@
 use Rattle.std.proofs.Common.{sym}
 use Rattle.std.specs.FinMap.{empty}
 use Rattle.joint.specs.nodes.Nodes.{nodes}
-use Rattle.joint.proofs.lemmas.calls.Replied.{one_stands, stand}
+use Rattle.joint.proofs.lemmas.calls.Replied.{one_stands, map_stands}
 use Rattle.joint.proofs.lemmas.calls.Runs.{standing_empty}
 use Rattle.joint.proofs.calls.replies.pairs_stand.Goals as goal
 
 pub returns-clause-stands : goal.returns-clause-stands
-returns-clause-stands g c = stand
+returns-clause-stands g c = map_stands
 
 pub returns-clause-alone : goal.returns-clause-alone
 returns-clause-alone g c = one_stands

@@ -3,14 +3,14 @@ use Rattle.std.proofs.Common.{◌≡◌, refl, ◌∙◌, ap}
 use Rattle.std.specs.Prelude.{◌&&◌, is_some}
 use Rattle.crossbeam_epoch.specs.World.Machine.{place}
 use Rattle.joint.specs.declared.engine.in_flight.InFlight.TheVariants.{Idle}
-use Rattle.joint.proofs.lemmas.engine.Collecting.{inside, intact_at}
+use Rattle.joint.proofs.lemmas.engine.Collecting.{call_inside, intact_at}
 use Rattle.joint.proofs.lemmas.engine.Reserving.{reserved}
 use Rattle.joint.proofs.lemmas.engine.Starting.{reader_may}
-use Rattle.joint.proofs.lemmas.engine.Turning.{unpinned, ends_at_once, enters, reserves, word_is}
+use Rattle.joint.proofs.lemmas.engine.Proceeding.{unpinned, ends_at_once, enters, reserves, word_is}
 use Rattle.joint.proofs.engine.Engine.begin_on_tree.Goals as goal
 
 pub set_call-requires : goal.set_call-requires
-set_call-requires g c = inside g.P.Payload.same_as g.P.Payload.always_copies c.args.self.now.nodes c.args.self.now.machines.items c.args.self.now.calls.items c.requires.intact c.args.who Idle c.requires.idle
+set_call-requires g c = call_inside g.P.Payload.same_as g.P.Payload.always_copies c.args.self.now.nodes c.args.self.now.machines.items c.args.self.now.calls.items c.requires.intact c.args.who Idle c.requires.idle
 
 pub returns-then-not-is_pinned-clause-begun : goal.returns-then-not-is_pinned-clause-begun
 returns-then-not-is_pinned-clause-begun g c =

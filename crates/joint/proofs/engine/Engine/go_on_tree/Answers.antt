@@ -2,11 +2,11 @@ use Rattle.std.proofs.Common.{◌≡◌, ◌+◌, ◌-◌, ◌<◌, ℕ, false, 
 use Rattle.std.specs.Prelude.{slice_set, if◌then◌else◌}
 use Rattle.std.proofs.lemmas.List.{length-set}
 use Rattle.joint.specs.declared.engine.in_flight.InFlight.TheVariants.{Idle, Walking}
-use Rattle.joint.specs.Reports.{told}
+use Rattle.joint.specs.Reports.{told, is_in_flight}
 use Rattle.joint.specs.engine.Census.{more}
 use Rattle.joint.specs.declared.steps.Kind.TheVariants.{Tree}
-use Rattle.joint.specs.engine.Engine.{is_in_flight, standing}
-use Rattle.joint.proofs.lemmas.engine.Collecting.{inside, inside_machines}
+use Rattle.joint.specs.engine.Engine.{standing}
+use Rattle.joint.proofs.lemmas.engine.Collecting.{call_inside, inside_machines}
 use Rattle.joint.proofs.lemmas.calls.CensusSteps.{bytes_small, counted_walk, few_machines, had, had_bytes, pairs_room, pairs_there, taken_few}
 use Rattle.joint.proofs.lemmas.engine.PuttingAway.{calls_put, still_intact, walked_on}
 use Rattle.joint.proofs.lemmas.engine.Walking.{final_is, long_walk, runs}
@@ -24,7 +24,7 @@ put_away-requires-clause-machines g c = rw (long_walk g.P.Payload.same_as g.P.Pa
 pub put_away-requires-clause-calls : goal.put_away-requires-clause-calls
 put_away-requires-clause-calls g c =
     let P : ℕ → Type 0 = λ n. c.args.who < n in
-    subst P (sym (ap (λ v. length v.items) c.walk-moved.ensures.calls)) (inside g.P.Payload.same_as g.P.Payload.always_copies c.args.self.now.nodes c.args.self.now.machines.items c.args.self.now.calls.items c.requires.intact c.args.who Walking c.requires.on)
+    subst P (sym (ap (λ v. length v.items) c.walk-moved.ensures.calls)) (call_inside g.P.Payload.same_as g.P.Payload.always_copies c.args.self.now.nodes c.args.self.now.machines.items c.args.self.now.calls.items c.requires.intact c.args.who Walking c.requires.on)
 
 pub taken-after-requires-clause-intact : goal.taken-after-requires-clause-intact
 taken-after-requires-clause-intact g c = still_intact g.P.Payload.same_as g.P.Payload.always_copies c.call_laws.ensures c.args.self.now.nodes c.args.self.now.machines.items c.args.self.now.calls.items c.requires.intact (record { who = c.args.who; noise = c.args.noise }) c.requires.on c.walk-moved.result c.walk-moved.new.self.nodes c.walk-moved.new.self.machines.items c.walk-moved.ensures.walked c.put_away.new.self.nodes c.put_away.new.self.machines.items c.put_away.new.self.calls.items c.put_away.ensures.nodes c.put_away.ensures.machines (c.put_away.ensures.calls ∙ ap (λ v. if is_in_flight (told c.walk-moved.result.outcome) then v.items else slice_set v.items c.args.who Idle) c.walk-moved.ensures.calls)

@@ -9,7 +9,7 @@ use Rattle.joint.specs.engine.Intact.{IsSecuring, is_reserving}
 use Rattle.joint.specs.engine.Engine.{collection}
 use Rattle.joint.proofs.lemmas.calls.CensusSteps.{counted_at, counted_collected, counted_secured}
 use Rattle.joint.proofs.lemmas.engine.Reserving.{next_here}
-use Rattle.joint.proofs.lemmas.engine.Turning.{go_unknown, go_idle, goes_on}
+use Rattle.joint.proofs.lemmas.engine.Proceeding.{go_unknown, go_idle, go_does}
 use Rattle.joint.proofs.engine.Engine.go_other.Goals as goal
 
 pub index-requires : goal.index-requires
@@ -18,19 +18,19 @@ index-requires g c =
     let v : vec_len c.args.self.now.calls ≡ length c.args.self.now.calls.items = search rules in
     omega (arith, l, v, ap (λ e. vec_len e.calls) c.self.view_is)
 
-pub go_collecting-turn-requires-clause-on : goal.go_collecting-turn-requires-clause-on
-go_collecting-turn-requires-clause-on g c = sym (ap (λ e. slice_get e.calls.items c.args.who) c.self.view_is) ∙ slice_get_read _ _ c.args.who c.index.result.now refl (subst (λ (n : ℕ). c.args.who < n) (sym (ap (λ e. length e.calls.items) c.self.view_is)) (subst (λ (n : ℕ). c.args.who < n) (ap (λ s. length s.nodes.collector.table) c.self.view_is ∙ c.requires.intact.table) (c.is_registered.ensures.inside c.if-not-is_registered.false))) c.index.ensures ∙ ap Some c.in-Collecting.is
+pub go_collecting-collector_report-requires-clause-on : goal.go_collecting-collector_report-requires-clause-on
+go_collecting-collector_report-requires-clause-on g c = sym (ap (λ e. slice_get e.calls.items c.args.who) c.self.view_is) ∙ slice_get_read _ _ c.args.who c.index.result.now refl (subst (λ (n : ℕ). c.args.who < n) (sym (ap (λ e. length e.calls.items) c.self.view_is)) (subst (λ (n : ℕ). c.args.who < n) (ap (λ s. length s.nodes.collector.table) c.self.view_is ∙ c.requires.intact.table) (c.is_registered.ensures.inside c.if-not-is_registered.false))) c.index.ensures ∙ ap Some c.in-Collecting.is
 
 pub begin_securing-requires-clause-on : goal.begin_securing-requires-clause-on
 begin_securing-requires-clause-on g c = ap is_reserving (sym (ap (λ e. slice_get e.calls.items c.args.who) c.self.view_is) ∙ slice_get_read _ _ c.args.who c.index.result.now refl (subst (λ (n : ℕ). c.args.who < n) (sym (ap (λ e. length e.calls.items) c.self.view_is)) (subst (λ (n : ℕ). c.args.who < n) (ap (λ s. length s.nodes.collector.table) c.self.view_is ∙ c.requires.intact.table) (c.is_registered.ensures.inside c.if-not-is_registered.false))) c.index.ensures ∙ ap Some c.in-Reserving.is)
 
-pub go_securing-turn-requires-clause-on : goal.go_securing-turn-requires-clause-on
-go_securing-turn-requires-clause-on g c =
+pub go_securing-collector_report-requires-clause-on : goal.go_securing-collector_report-requires-clause-on
+go_securing-collector_report-requires-clause-on g c =
     let P : _ → Type 0 = λ o. IsSecuring o in
     subst P (sym (next_here g.P.Payload.same_as g.P.Payload.always_copies c.args.self.now.nodes c.args.self.now.machines.items c.args.self.now.calls.items c.args.who c.begin_securing.new.self.nodes c.begin_securing.new.self.machines.items c.begin_securing.new.self.calls.items c.begin_securing.ensures.begins c.in-Reserving.field-0 (sym (ap (λ e. slice_get e.calls.items c.args.who) c.self.view_is) ∙ slice_get_read _ _ c.args.who c.index.result.now refl (subst (λ (n : ℕ). c.args.who < n) (sym (ap (λ e. length e.calls.items) c.self.view_is)) (subst (λ (n : ℕ). c.args.who < n) (ap (λ s. length s.nodes.collector.table) c.self.view_is ∙ c.requires.intact.table) (c.is_registered.ensures.inside c.if-not-is_registered.false))) c.index.ensures ∙ ap Some c.in-Reserving.is))) tt
 
-pub go_securing-turn-requires-in-Securing-clause-on : goal.go_securing-turn-requires-in-Securing-clause-on
-go_securing-turn-requires-in-Securing-clause-on g c = let P : _ → Type 0 = λ o. IsSecuring o in subst P (sym (sym (ap (λ e. slice_get e.calls.items c.args.who) c.self.view_is) ∙ slice_get_read _ _ c.args.who c.index.result.now refl (subst (λ (n : ℕ). c.args.who < n) (sym (ap (λ e. length e.calls.items) c.self.view_is)) (subst (λ (n : ℕ). c.args.who < n) (ap (λ s. length s.nodes.collector.table) c.self.view_is ∙ c.requires.intact.table) (c.is_registered.ensures.inside c.if-not-is_registered.false))) c.index.ensures ∙ ap Some c.in-Securing.is)) tt
+pub go_securing-collector_report-requires-in-Securing-clause-on : goal.go_securing-collector_report-requires-in-Securing-clause-on
+go_securing-collector_report-requires-in-Securing-clause-on g c = let P : _ → Type 0 = λ o. IsSecuring o in subst P (sym (sym (ap (λ e. slice_get e.calls.items c.args.who) c.self.view_is) ∙ slice_get_read _ _ c.args.who c.index.result.now refl (subst (λ (n : ℕ). c.args.who < n) (sym (ap (λ e. length e.calls.items) c.self.view_is)) (subst (λ (n : ℕ). c.args.who < n) (ap (λ s. length s.nodes.collector.table) c.self.view_is ∙ c.requires.intact.table) (c.is_registered.ensures.inside c.if-not-is_registered.false))) c.index.ensures ∙ ap Some c.in-Securing.is)) tt
 
 pub unreachable-requires : goal.unreachable-requires
 unreachable-requires g c = c.requires.other (sym (ap (λ e. slice_get e.calls.items c.args.who) c.self.view_is) ∙ slice_get_read _ _ c.args.who c.index.result.now refl (subst (λ (n : ℕ). c.args.who < n) (sym (ap (λ e. length e.calls.items) c.self.view_is)) (subst (λ (n : ℕ). c.args.who < n) (ap (λ s. length s.nodes.collector.table) c.self.view_is ∙ c.requires.intact.table) (c.is_registered.ensures.inside c.if-not-is_registered.false))) c.index.ensures ∙ ap Some c.in-Walking.is)
@@ -43,49 +43,49 @@ returns-in-Idle-clause-does g c noise = go_idle g.P.Payload.same_as g.P.Payload.
 
 pub returns-in-Collecting-clause-does : goal.returns-in-Collecting-clause-does
 returns-in-Collecting-clause-does g c noise =
-    goes_on g.P.Payload.same_as g.P.Payload.always_copies (record { forest = c.args.self.now.nodes; machines = c.args.self.now.machines.items; calls = c.args.self.now.calls.items; log = no_log }) c.args.who (sym (c.is_registered.ensures.value ∙ (ap (λ s. (place s.nodes.collector c.args.who).registered) c.self.view_is)) ∙ c.if-not-is_registered.false) noise c.collection.result (record { forest = c.go_collecting-turn.new.self.nodes; machines = c.go_collecting-turn.new.self.machines.items; calls = c.go_collecting-turn.new.self.calls.items; log = no_log }) (Collecting c.in-Collecting.op) (sym (ap (λ e. slice_get e.calls.items c.args.who) c.self.view_is) ∙ slice_get_read _ _ c.args.who c.index.result.now refl (subst (λ (n : ℕ). c.args.who < n) (sym (ap (λ e. length e.calls.items) c.self.view_is)) (subst (λ (n : ℕ). c.args.who < n) (ap (λ s. length s.nodes.collector.table) c.self.view_is ∙ c.requires.intact.table) (c.is_registered.ensures.inside c.if-not-is_registered.false))) c.index.ensures ∙ ap Some c.in-Collecting.is) refl
-    (record { turn = c.go_collecting-turn.result; step = c.go_collecting-turn.ensures.collected; machines = ap (λ v. v.items) c.go_collecting-turn.ensures.machines; calls = c.go_collecting-turn.ensures.calls; report = c.collection.ensures ∙ ap (collection c.go_collecting-turn.result) c.of_collector.ensures })
+    go_does g.P.Payload.same_as g.P.Payload.always_copies (record { forest = c.args.self.now.nodes; machines = c.args.self.now.machines.items; calls = c.args.self.now.calls.items; log = no_log }) c.args.who (sym (c.is_registered.ensures.value ∙ (ap (λ s. (place s.nodes.collector c.args.who).registered) c.self.view_is)) ∙ c.if-not-is_registered.false) noise c.collection.result (record { forest = c.go_collecting-collector_report.new.self.nodes; machines = c.go_collecting-collector_report.new.self.machines.items; calls = c.go_collecting-collector_report.new.self.calls.items; log = no_log }) (Collecting c.in-Collecting.op) (sym (ap (λ e. slice_get e.calls.items c.args.who) c.self.view_is) ∙ slice_get_read _ _ c.args.who c.index.result.now refl (subst (λ (n : ℕ). c.args.who < n) (sym (ap (λ e. length e.calls.items) c.self.view_is)) (subst (λ (n : ℕ). c.args.who < n) (ap (λ s. length s.nodes.collector.table) c.self.view_is ∙ c.requires.intact.table) (c.is_registered.ensures.inside c.if-not-is_registered.false))) c.index.ensures ∙ ap Some c.in-Collecting.is) refl
+    (record { collector_report = c.go_collecting-collector_report.result; step = c.go_collecting-collector_report.ensures.collected; machines = ap (λ v. v.items) c.go_collecting-collector_report.ensures.machines; calls = c.go_collecting-collector_report.ensures.calls; report = c.collection.ensures ∙ ap (collection c.go_collecting-collector_report.result) c.of_collector.ensures })
 
 pub returns-in-Reserving-clause-does : goal.returns-in-Reserving-clause-does
 returns-in-Reserving-clause-does g c noise =
-    goes_on g.P.Payload.same_as g.P.Payload.always_copies (record { forest = c.args.self.now.nodes; machines = c.args.self.now.machines.items; calls = c.args.self.now.calls.items; log = no_log }) c.args.who (sym (c.is_registered.ensures.value ∙ (ap (λ s. (place s.nodes.collector c.args.who).registered) c.self.view_is)) ∙ c.if-not-is_registered.false) noise c.collection-in-Reserving.result (record { forest = c.go_securing-turn.new.self.nodes; machines = c.go_securing-turn.new.self.machines.items; calls = c.go_securing-turn.new.self.calls.items; log = no_log }) (Reserving c.in-Reserving.field-0) (sym (ap (λ e. slice_get e.calls.items c.args.who) c.self.view_is) ∙ slice_get_read _ _ c.args.who c.index.result.now refl (subst (λ (n : ℕ). c.args.who < n) (sym (ap (λ e. length e.calls.items) c.self.view_is)) (subst (λ (n : ℕ). c.args.who < n) (ap (λ s. length s.nodes.collector.table) c.self.view_is ∙ c.requires.intact.table) (c.is_registered.ensures.inside c.if-not-is_registered.false))) c.index.ensures ∙ ap Some c.in-Reserving.is) refl
+    go_does g.P.Payload.same_as g.P.Payload.always_copies (record { forest = c.args.self.now.nodes; machines = c.args.self.now.machines.items; calls = c.args.self.now.calls.items; log = no_log }) c.args.who (sym (c.is_registered.ensures.value ∙ (ap (λ s. (place s.nodes.collector c.args.who).registered) c.self.view_is)) ∙ c.if-not-is_registered.false) noise c.collection-in-Reserving.result (record { forest = c.go_securing-collector_report.new.self.nodes; machines = c.go_securing-collector_report.new.self.machines.items; calls = c.go_securing-collector_report.new.self.calls.items; log = no_log }) (Reserving c.in-Reserving.field-0) (sym (ap (λ e. slice_get e.calls.items c.args.who) c.self.view_is) ∙ slice_get_read _ _ c.args.who c.index.result.now refl (subst (λ (n : ℕ). c.args.who < n) (sym (ap (λ e. length e.calls.items) c.self.view_is)) (subst (λ (n : ℕ). c.args.who < n) (ap (λ s. length s.nodes.collector.table) c.self.view_is ∙ c.requires.intact.table) (c.is_registered.ensures.inside c.if-not-is_registered.false))) c.index.ensures ∙ ap Some c.in-Reserving.is) refl
     (record {
       between = record { forest = c.begin_securing.new.self.nodes; machines = c.begin_securing.new.self.machines.items; calls = c.begin_securing.new.self.calls.items; log = no_log };
       begins = c.begin_securing.ensures.begins;
-      goes = record { turn = c.go_securing-turn.result; step = c.go_securing-turn.ensures.secured; report = c.collection-in-Reserving.ensures ∙ ap (collection c.go_securing-turn.result) c.reserving.ensures };
+      goes = record { collector_report = c.go_securing-collector_report.result; step = c.go_securing-collector_report.ensures.secured; report = c.collection-in-Reserving.ensures ∙ ap (collection c.go_securing-collector_report.result) c.reserving.ensures };
     })
 
 pub returns-in-Securing-clause-does : goal.returns-in-Securing-clause-does
 returns-in-Securing-clause-does g c noise =
-    goes_on g.P.Payload.same_as g.P.Payload.always_copies (record { forest = c.args.self.now.nodes; machines = c.args.self.now.machines.items; calls = c.args.self.now.calls.items; log = no_log }) c.args.who (sym (c.is_registered.ensures.value ∙ (ap (λ s. (place s.nodes.collector c.args.who).registered) c.self.view_is)) ∙ c.if-not-is_registered.false) noise c.collection-in-Securing.result (record { forest = c.go_securing-turn-in-Securing.new.self.nodes; machines = c.go_securing-turn-in-Securing.new.self.machines.items; calls = c.go_securing-turn-in-Securing.new.self.calls.items; log = no_log }) (Securing c.in-Securing.field-0) (sym (ap (λ e. slice_get e.calls.items c.args.who) c.self.view_is) ∙ slice_get_read _ _ c.args.who c.index.result.now refl (subst (λ (n : ℕ). c.args.who < n) (sym (ap (λ e. length e.calls.items) c.self.view_is)) (subst (λ (n : ℕ). c.args.who < n) (ap (λ s. length s.nodes.collector.table) c.self.view_is ∙ c.requires.intact.table) (c.is_registered.ensures.inside c.if-not-is_registered.false))) c.index.ensures ∙ ap Some c.in-Securing.is) refl
-    (record { turn = c.go_securing-turn-in-Securing.result; step = c.go_securing-turn-in-Securing.ensures.secured; report = c.collection-in-Securing.ensures ∙ ap (collection c.go_securing-turn-in-Securing.result) c.reserving-in-Securing.ensures })
+    go_does g.P.Payload.same_as g.P.Payload.always_copies (record { forest = c.args.self.now.nodes; machines = c.args.self.now.machines.items; calls = c.args.self.now.calls.items; log = no_log }) c.args.who (sym (c.is_registered.ensures.value ∙ (ap (λ s. (place s.nodes.collector c.args.who).registered) c.self.view_is)) ∙ c.if-not-is_registered.false) noise c.collection-in-Securing.result (record { forest = c.go_securing-collector_report-in-Securing.new.self.nodes; machines = c.go_securing-collector_report-in-Securing.new.self.machines.items; calls = c.go_securing-collector_report-in-Securing.new.self.calls.items; log = no_log }) (Securing c.in-Securing.field-0) (sym (ap (λ e. slice_get e.calls.items c.args.who) c.self.view_is) ∙ slice_get_read _ _ c.args.who c.index.result.now refl (subst (λ (n : ℕ). c.args.who < n) (sym (ap (λ e. length e.calls.items) c.self.view_is)) (subst (λ (n : ℕ). c.args.who < n) (ap (λ s. length s.nodes.collector.table) c.self.view_is ∙ c.requires.intact.table) (c.is_registered.ensures.inside c.if-not-is_registered.false))) c.index.ensures ∙ ap Some c.in-Securing.is) refl
+    (record { collector_report = c.go_securing-collector_report-in-Securing.result; step = c.go_securing-collector_report-in-Securing.ensures.secured; report = c.collection-in-Securing.ensures ∙ ap (collection c.go_securing-collector_report-in-Securing.result) c.reserving-in-Securing.ensures })
 
 pub returns-in-Collecting-clause-counted : goal.returns-in-Collecting-clause-counted
 returns-in-Collecting-clause-counted g c =
-    counted_at _ _ _ _ _ _ c.go_collecting-turn.ensures.census refl (ap (λ v. v.items) c.go_collecting-turn.ensures.machines)
-    (counted_collected c.args.self.now.census c.args.self.now.nodes c.args.self.now.machines.items c.requires.counted c.go_collecting-turn.new.self.nodes c.go_collecting-turn.ensures.collected.map c.go_collecting-turn.ensures.collected.destroys)
+    counted_at _ _ _ _ _ _ c.go_collecting-collector_report.ensures.census refl (ap (λ v. v.items) c.go_collecting-collector_report.ensures.machines)
+    (counted_collected c.args.self.now.census c.args.self.now.nodes c.args.self.now.machines.items c.requires.counted c.go_collecting-collector_report.new.self.nodes c.go_collecting-collector_report.ensures.collected.map c.go_collecting-collector_report.ensures.collected.destroys)
 
 pub returns-in-Reserving-clause-counted : goal.returns-in-Reserving-clause-counted
 returns-in-Reserving-clause-counted g c =
     let b = c.begin_securing.ensures.begins in
     let counted = counted_at c.args.self.now.census c.args.self.now.census c.begin_securing.new.self.nodes c.begin_securing.new.self.nodes c.args.self.now.machines.items c.begin_securing.new.self.machines.items refl refl b.machine
     (counted_collected c.args.self.now.census c.args.self.now.nodes c.args.self.now.machines.items c.requires.counted c.begin_securing.new.self.nodes b.collected.map b.collected.destroys) in
-    counted_at c.args.self.now.census c.go_securing-turn.new.self.census c.go_securing-turn.new.self.nodes c.go_securing-turn.new.self.nodes c.go_securing-turn.new.self.machines.items c.go_securing-turn.new.self.machines.items (c.go_securing-turn.ensures.census ∙ c.begin_securing.ensures.census) refl refl
+    counted_at c.args.self.now.census c.go_securing-collector_report.new.self.census c.go_securing-collector_report.new.self.nodes c.go_securing-collector_report.new.self.nodes c.go_securing-collector_report.new.self.machines.items c.go_securing-collector_report.new.self.machines.items (c.go_securing-collector_report.ensures.census ∙ c.begin_securing.ensures.census) refl refl
     (counted_secured g.P.Payload.same_as g.P.Payload.always_copies c.begin_securing.new.self.nodes c.begin_securing.new.self.machines.items c.begin_securing.new.self.calls.items b.intact c.args.self.now.census counted c.args.who c.in-Reserving.field-0
     (next_here g.P.Payload.same_as g.P.Payload.always_copies c.args.self.now.nodes c.args.self.now.machines.items c.args.self.now.calls.items c.args.who c.begin_securing.new.self.nodes c.begin_securing.new.self.machines.items c.begin_securing.new.self.calls.items b c.in-Reserving.field-0 (sym (ap (λ e. slice_get e.calls.items c.args.who) c.self.view_is) ∙ slice_get_read _ _ c.args.who c.index.result.now refl (subst (λ (n : ℕ). c.args.who < n) (sym (ap (λ e. length e.calls.items) c.self.view_is)) (subst (λ (n : ℕ). c.args.who < n) (ap (λ s. length s.nodes.collector.table) c.self.view_is ∙ c.requires.intact.table) (c.is_registered.ensures.inside c.if-not-is_registered.false))) c.index.ensures ∙ ap Some c.in-Reserving.is))
-    c.go_securing-turn.result c.go_securing-turn.new.self.nodes c.go_securing-turn.new.self.machines.items c.go_securing-turn.new.self.calls.items c.go_securing-turn.ensures.secured)
+    c.go_securing-collector_report.result c.go_securing-collector_report.new.self.nodes c.go_securing-collector_report.new.self.machines.items c.go_securing-collector_report.new.self.calls.items c.go_securing-collector_report.ensures.secured)
 
 pub returns-in-Securing-clause-counted : goal.returns-in-Securing-clause-counted
 returns-in-Securing-clause-counted g c =
-    counted_at c.args.self.now.census c.go_securing-turn-in-Securing.new.self.census c.go_securing-turn-in-Securing.new.self.nodes c.go_securing-turn-in-Securing.new.self.nodes c.go_securing-turn-in-Securing.new.self.machines.items c.go_securing-turn-in-Securing.new.self.machines.items c.go_securing-turn-in-Securing.ensures.census refl refl
+    counted_at c.args.self.now.census c.go_securing-collector_report-in-Securing.new.self.census c.go_securing-collector_report-in-Securing.new.self.nodes c.go_securing-collector_report-in-Securing.new.self.nodes c.go_securing-collector_report-in-Securing.new.self.machines.items c.go_securing-collector_report-in-Securing.new.self.machines.items c.go_securing-collector_report-in-Securing.ensures.census refl refl
     (counted_secured g.P.Payload.same_as g.P.Payload.always_copies c.args.self.now.nodes c.args.self.now.machines.items c.args.self.now.calls.items c.requires.intact c.args.self.now.census c.requires.counted c.args.who c.in-Securing.field-0 (sym (ap (λ e. slice_get e.calls.items c.args.who) c.self.view_is) ∙ slice_get_read _ _ c.args.who c.index.result.now refl (subst (λ (n : ℕ). c.args.who < n) (sym (ap (λ e. length e.calls.items) c.self.view_is)) (subst (λ (n : ℕ). c.args.who < n) (ap (λ s. length s.nodes.collector.table) c.self.view_is ∙ c.requires.intact.table) (c.is_registered.ensures.inside c.if-not-is_registered.false))) c.index.ensures ∙ ap Some c.in-Securing.is)
-    c.go_securing-turn-in-Securing.result c.go_securing-turn-in-Securing.new.self.nodes c.go_securing-turn-in-Securing.new.self.machines.items c.go_securing-turn-in-Securing.new.self.calls.items c.go_securing-turn-in-Securing.ensures.secured)
+    c.go_securing-collector_report-in-Securing.result c.go_securing-collector_report-in-Securing.new.self.nodes c.go_securing-collector_report-in-Securing.new.self.machines.items c.go_securing-collector_report-in-Securing.new.self.calls.items c.go_securing-collector_report-in-Securing.ensures.secured)
 
 pub returns-in-Collecting-clause-charged : goal.returns-in-Collecting-clause-charged
-returns-in-Collecting-clause-charged g c = c.go_collecting-turn.ensures.collected.charged
+returns-in-Collecting-clause-charged g c = c.go_collecting-collector_report.ensures.collected.charged
 
 pub returns-in-Reserving-clause-charged : goal.returns-in-Reserving-clause-charged
-returns-in-Reserving-clause-charged g c = c.go_securing-turn.ensures.secured.collected.charged
+returns-in-Reserving-clause-charged g c = c.go_securing-collector_report.ensures.secured.collected.charged
 
 pub returns-in-Securing-clause-charged : goal.returns-in-Securing-clause-charged
-returns-in-Securing-clause-charged g c = c.go_securing-turn-in-Securing.ensures.secured.collected.charged
+returns-in-Securing-clause-charged g c = c.go_securing-collector_report-in-Securing.ensures.secured.collected.charged

@@ -4,7 +4,7 @@ use Rattle.std.specs.Vec.{vec_len}
 use Rattle.std.proofs.lemmas.Option.{slice_get_read}
 use Rattle.crossbeam_epoch.specs.declared.world.report.Event.TheVariants.{Go}
 use Rattle.congee.specs.protocol.Play.{begun}
-use Rattle.joint.specs.engine.Intact.{root}
+use Rattle.joint.specs.Names.{root}
 use Rattle.joint.specs.declared.engine.in_flight.InFlight.TheVariants.{Idle, Securing, Walking}
 use Rattle.joint.proofs.lemmas.engine.Collecting.{collected_at, intact_at, securing_rests, securing_inside, secures_on, refused_then, free_intact, free_idle, free_may, started_then}
 use Rattle.joint.proofs.engine.Engine.go_securing.Goals as goal

@@ -3,7 +3,7 @@ use Rattle.congee.specs.Heap.{Node}
 use Rattle.congee.specs.protocol.Regions.{IsRegion}
 use Rattle.joint.specs.nodes.Nodes.{Nodes, frame, nodes}
 use Rattle.joint.specs.nodes.View.{id_number}
-use Rattle.joint.proofs.lemmas.nodes.DrainWalks.{TakenSoFar, begun, below_in, ended, holds, node_in, went_below, went_blank, went_value}
+use Rattle.joint.proofs.lemmas.nodes.DrainWalks.{TakenSoFar, drain_begun, below_in, drain_ended, holds, node_in, went_below, went_blank, went_value}
 use Rattle.joint.proofs.nodes.Nodes.+drain_below.Goals as goal
 use Rattle.joint.proofs.nodes.Nodes.+drain_below.Goals.{in-Blank, in-Node, in-Value}
 
@@ -14,7 +14,7 @@ loop-byte-init g t c =
       node = c.requires.node;
       ready = c.requires.ready;
       frame_is = refl;
-      so = begun g.D.Drainer.drains (nodes c.args.self.now) (id_number c.args.at) c.requires.node c.of-region.result c.args.drainer.now (subst (λ p. IsRegion p c.of-region.result.base c.of-region.result.depth) same c.of-region.ensures);
+      so = drain_begun g.D.Drainer.drains (nodes c.args.self.now) (id_number c.args.at) c.requires.node c.of-region.result c.args.drainer.now (subst (λ p. IsRegion p c.of-region.result.base c.of-region.result.depth) same c.of-region.ensures);
     }
 
 pub slot-requires-in-loop-byte : goal.slot-requires-in-loop-byte
@@ -61,4 +61,4 @@ loop-byte-preserved g t c =
     ]
 
 pub returns-clause-takes : goal.returns-clause-takes
-returns-clause-takes g t c = ended g.D.Drainer.drains (nodes c.args.self.now) (id_number c.args.at) c.requires.node c.of-region.result c.args.drainer.now c.loop-byte.from (nodes c.loop-byte.self) c.loop-byte.drainer c.loop-byte.invariant.so c.node-in-loop-byte.result.now c.slot-in-loop-byte.result.now.word (c.node-in-loop-byte.ensures.shape ∙ sym c.slot-in-loop-byte.ensures.node) c.in_default.ensures
+returns-clause-takes g t c = drain_ended g.D.Drainer.drains (nodes c.args.self.now) (id_number c.args.at) c.requires.node c.of-region.result c.args.drainer.now c.loop-byte.from (nodes c.loop-byte.self) c.loop-byte.drainer c.loop-byte.invariant.so c.node-in-loop-byte.result.now c.slot-in-loop-byte.result.now.word (c.node-in-loop-byte.ensures.shape ∙ sym c.slot-in-loop-byte.ensures.node) c.in_default.ensures

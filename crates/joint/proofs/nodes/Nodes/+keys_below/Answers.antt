@@ -1,7 +1,7 @@
 use Rattle.std.proofs.Common.{rules, ℕ, List, ◌+◌, ◌<◌, ◌-◌, ◌∙◌, length, sym, ap, subst, arith}
 use Rattle.joint.specs.nodes.Nodes.{nodes}
 use Rattle.joint.specs.nodes.View.{id_number}
-use Rattle.joint.proofs.lemmas.nodes.KeyWalks.{PutSoFar, below_in, ended, put_below, put_key, put_none}
+use Rattle.joint.proofs.lemmas.nodes.KeyWalks.{PutSoFar, below_in, keys_put, put_below, put_key, put_none}
 use Rattle.joint.proofs.nodes.Nodes.+keys_below.Goals as goal
 use Rattle.joint.proofs.nodes.Nodes.+keys_below.Goals.{in-Blank, in-Node+in_ok-keys_below-in-Node, in-Value+in_ok-push-in-Value}
 
@@ -22,4 +22,4 @@ loop-byte-preserved g t c =
     ]
 
 pub returns : goal.returns
-returns g t c = ended (nodes c.args.self.now) (id_number c.args.at) c.requires c.of-region.result c.loop-byte.invariant.region c.node-node.result.now c.slot.result.now.word (c.node-node.ensures.shape ∙ sym c.slot.ensures.node) c.loop-byte.from c.args.keys.now.items c.loop-byte.keys.items c.loop-byte.invariant c.in_default.ensures
+returns g t c = keys_put (nodes c.args.self.now) (id_number c.args.at) c.requires c.of-region.result c.loop-byte.invariant.region c.node-node.result.now c.slot.result.now.word (c.node-node.ensures.shape ∙ sym c.slot.ensures.node) c.loop-byte.from c.args.keys.now.items c.loop-byte.keys.items c.loop-byte.invariant c.in_default.ensures

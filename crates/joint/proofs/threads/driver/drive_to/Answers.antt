@@ -1,7 +1,7 @@
 use Rattle.std.proofs.Common.{rules, ◌≡◌, ◌∙◌, ap, subst, sym, Some, None}
 use Rattle.joint.specs.declared.steps.Outcome.{Outcome}
 use Rattle.joint.specs.threads.Driving.{Goes, IsTurn, go_step, put_by}
-use Rattle.joint.proofs.lemmas.threads.Driving.{begins, ends, goes_on, goes_is_go}
+use Rattle.joint.proofs.lemmas.threads.Driving.{driven_begins, driven_ends, driven_goes_on, goes_is_go}
 use Rattle.joint.proofs.threads.driver.drive_to.Goals as goal
 use Rattle.joint.proofs.threads.driver.drive_to.Goals.{in-Running, in-Asks, in-Found}
 
@@ -17,17 +17,17 @@ loop-init g c =
           let P = λ (who : _) (op : _) (last : _). IsTurn who op last c.begin_step-step.result in
           let here : P c.args.worker c.args.op None = c.begin_step-step.ensures in
           rw (c.requires.worker, c.requires.op, c.requires.new) here;
-      goes_on = begins g.T.Turns.gives g.C.Answer.answers g.Q.Pair.pair c.args.worker c.args.op c.args.answers.now c.args.turns.now c.args.found.now c.begin_step-step.result c.begin_step-step.ensures;
+      goes_on = driven_begins g.T.Turns.gives g.C.Answer.answers g.Q.Pair.pair c.args.worker c.args.op c.args.answers.now c.args.turns.now c.args.found.now c.begin_step-step.result c.begin_step-step.ensures;
     }
 
 pub returns-in-Done-clause-turns : goal.returns-in-Done-clause-turns
 returns-in-Done-clause-turns g c =
-    ends g.T.Turns.gives g.C.Answer.answers g.Q.Pair.pair c.args.worker c.args.op c.args.answers.now c.args.turns.now c.args.found.now c.loop.turns c.loop.step c.loop.answers c.loop.found c.loop.invariant.goes_on
+    driven_ends g.T.Turns.gives g.C.Answer.answers g.Q.Pair.pair c.args.worker c.args.op c.args.answers.now c.args.turns.now c.args.found.now c.loop.turns c.loop.step c.loop.answers c.loop.found c.loop.invariant.goes_on
     c.turn-outcome.result c.turn-outcome.new.self _ c.turn-outcome.ensures.gives (ap (λ o. put_by g.Q.Pair.pair o c.loop.found) c.in-Done.is) c.in-Done.is
 
 pub returns-in-Refused-clause-turns : goal.returns-in-Refused-clause-turns
 returns-in-Refused-clause-turns g c =
-    ends g.T.Turns.gives g.C.Answer.answers g.Q.Pair.pair c.args.worker c.args.op c.args.answers.now c.args.turns.now c.args.found.now c.loop.turns c.loop.step c.loop.answers c.loop.found c.loop.invariant.goes_on
+    driven_ends g.T.Turns.gives g.C.Answer.answers g.Q.Pair.pair c.args.worker c.args.op c.args.answers.now c.args.turns.now c.args.found.now c.loop.turns c.loop.step c.loop.answers c.loop.found c.loop.invariant.goes_on
     c.turn-outcome.result c.turn-outcome.new.self _ c.turn-outcome.ensures.gives (ap (λ o. put_by g.Q.Pair.pair o c.loop.found) c.in-Refused.is) c.in-Refused.is
 
 pub loop-preserved : goal.loop-preserved
@@ -61,6 +61,6 @@ loop-preserved g c =
           let P = λ (n : _) (last : _). IsTurn n (g.T.Turns.op c.turn-outcome.new.self) last c.go_step-step.result in
           let here : P c.args.worker (Some c.turn-outcome.result) = goes_is_go calls c.args.worker c.turn-outcome.result.outcome c.loop.answers c.go_step-step.result c.match-outcome.answers goes in
           rw (who, c.turn-outcome.ensures.last) here;
-      goes_on = goes_on g.T.Turns.gives calls g.Q.Pair.pair c.args.worker c.args.op c.args.answers.now c.args.turns.now c.args.found.now c.loop.turns c.loop.step c.loop.answers c.loop.found c.loop.invariant.goes_on
+      goes_on = driven_goes_on g.T.Turns.gives calls g.Q.Pair.pair c.args.worker c.args.op c.args.answers.now c.args.turns.now c.args.found.now c.loop.turns c.loop.step c.loop.answers c.loop.found c.loop.invariant.goes_on
           c.turn-outcome.result c.turn-outcome.new.self c.go_step-step.result c.match-outcome.answers c.match-outcome.found c.turn-outcome.ensures.gives goes found;
     }

@@ -11,7 +11,7 @@ pub invariant_of-self : goal.invariant_of-self
 invariant_of-self g c =
     let given : ltb 0 c.self.inside.log.places ≡ false = sym c.is_kept.ensures ∙ c.if-is_kept.false in (
       (unkept_step g.P.Payload.same_as g.P.Payload.always_copies (record { forest = c.self.inside.engine.nodes; machines = c.self.inside.engine.machines.items; calls = c.self.inside.engine.calls.items; log = c.self.inside.log }) (record { forest = c.step_on-told.new.self.nodes; machines = c.step_on-told.new.self.machines.items; calls = c.step_on-told.new.self.calls.items; log = c.put_request_if.new.self }) c.args.worker c.args.noise (request_at c.take_answer.new.log.requests c.args.worker) c.take_answer.new.log c.is_in_flight.result c.step_on-told.result c.self.invariant.0 c.step_on-told.ensures.step given
-          c.take_answer.ensures.heard c.take_answer.ensures.left c.put_request_if.ensures c.is_in_flight.ensures).holds,
+          c.take_answer.ensures.answered c.take_answer.ensures.left c.put_request_if.ensures c.is_in_flight.ensures).holds,
       c.step_on-told.ensures.counted,
     )
 
@@ -20,4 +20,4 @@ returns g c =
     let given : ltb 0 c.self.inside.log.places ≡ false = sym c.is_kept.ensures ∙ c.if-is_kept.false in
     let P : World g.row.P.Denot → Type 0 = λ s. IsStep g.P.Payload.same_as g.P.Payload.always_copies s (record { worker = c.args.worker; event = Go c.args.noise }) c.step_on-told.result (record { forest = c.step_on-told.new.self.nodes; machines = c.step_on-told.new.self.machines.items; calls = c.step_on-told.new.self.calls.items; log = c.put_request_if.new.self }) in
     subst P c.self.view_is (unkept_step g.P.Payload.same_as g.P.Payload.always_copies (record { forest = c.self.inside.engine.nodes; machines = c.self.inside.engine.machines.items; calls = c.self.inside.engine.calls.items; log = c.self.inside.log }) (record { forest = c.step_on-told.new.self.nodes; machines = c.step_on-told.new.self.machines.items; calls = c.step_on-told.new.self.calls.items; log = c.put_request_if.new.self }) c.args.worker c.args.noise (request_at c.take_answer.new.log.requests c.args.worker) c.take_answer.new.log c.is_in_flight.result c.step_on-told.result c.self.invariant.0 c.step_on-told.ensures.step given
-    c.take_answer.ensures.heard c.take_answer.ensures.left c.put_request_if.ensures c.is_in_flight.ensures)
+    c.take_answer.ensures.answered c.take_answer.ensures.left c.put_request_if.ensures c.is_in_flight.ensures)

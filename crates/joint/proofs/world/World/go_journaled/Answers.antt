@@ -24,7 +24,7 @@ invariant_of-self g c =
     let counts = recounted_same g.P.Payload.same_as g.P.Payload.always_copies c.self.inside.log.places c.has_place-before.result c.has_place-after.result _ _ c.self.inside.log.reserved c.has_place-before.ensures c.has_place-after.ensures in
     let room = room_by g.P.Payload.same_as g.P.Payload.always_copies c.self.inside.log c.take_answer.new.log c.recount.new.self c.args.worker (request_at c.take_answer.new.log.requests c.args.worker) c.has_place-before.result c.has_place-after.result _ _ c.take_answer.ensures.left c.recount.ensures counts in (
       (go_step g.P.Payload.same_as g.P.Payload.always_copies (record { forest = c.self.inside.engine.nodes; machines = c.self.inside.engine.machines.items; calls = c.self.inside.engine.calls.items; log = c.self.inside.log }) (record { forest = c.step_on-told.new.self.nodes; machines = c.step_on-told.new.self.machines.items; calls = c.step_on-told.new.self.calls.items; log = c.put_request_if.new.self }) c.args.worker c.args.noise (request_at c.take_answer.new.log.requests c.args.worker) c.keep.ensures.0 c.step_on-told.result (record c.step_on-told.result { kept = c.keep.result }) c.self.invariant.0 c.step_on-told.ensures.step given
-          c.take_answer.ensures.heard
+          c.take_answer.ensures.answered
           (went_by g.P.Payload.same_as g.P.Payload.always_copies c.self.inside.log c.take_answer.new.log c.recount.new.self c.keep.new.log c.put_request_if.new.self c.args.worker c.has_place-before.result c.has_place-after.result _ _ c.step_on-told.result.decided c.keep.ensures.0 c.is_in_flight.result _ (request_at c.take_answer.new.log.requests c.args.worker)
           c.take_answer.ensures.left c.recount.ensures counts c.keep.ensures.1.1.1 c.put_request_if.ensures c.is_in_flight.ensures)
           (λ a d r. c.keep.ensures.1.0 a d (room ∙ r) ∙ ap (λ l. entry_of c.args.worker (request_at l.requests c.args.worker) (reply_by c.step_on-told.result.outcome (slice_get c.step_on-told.new.self.machines.items c.args.worker))) c.recount.ensures)
@@ -41,7 +41,7 @@ returns g c =
     let room = room_by g.P.Payload.same_as g.P.Payload.always_copies c.self.inside.log c.take_answer.new.log c.recount.new.self c.args.worker (request_at c.take_answer.new.log.requests c.args.worker) c.has_place-before.result c.has_place-after.result _ _ c.take_answer.ensures.left c.recount.ensures counts in
     let P : World g.row.P.Denot → Type 0 = λ s. IsStep g.P.Payload.same_as g.P.Payload.always_copies s (record { worker = c.args.worker; event = Go c.args.noise }) (record c.step_on-told.result { kept = c.keep.result }) (record { forest = c.step_on-told.new.self.nodes; machines = c.step_on-told.new.self.machines.items; calls = c.step_on-told.new.self.calls.items; log = c.put_request_if.new.self }) in
     subst P c.self.view_is (go_step g.P.Payload.same_as g.P.Payload.always_copies (record { forest = c.self.inside.engine.nodes; machines = c.self.inside.engine.machines.items; calls = c.self.inside.engine.calls.items; log = c.self.inside.log }) (record { forest = c.step_on-told.new.self.nodes; machines = c.step_on-told.new.self.machines.items; calls = c.step_on-told.new.self.calls.items; log = c.put_request_if.new.self }) c.args.worker c.args.noise (request_at c.take_answer.new.log.requests c.args.worker) c.keep.ensures.0 c.step_on-told.result (record c.step_on-told.result { kept = c.keep.result }) c.self.invariant.0 c.step_on-told.ensures.step given
-    c.take_answer.ensures.heard
+    c.take_answer.ensures.answered
     (went_by g.P.Payload.same_as g.P.Payload.always_copies c.self.inside.log c.take_answer.new.log c.recount.new.self c.keep.new.log c.put_request_if.new.self c.args.worker c.has_place-before.result c.has_place-after.result _ _ c.step_on-told.result.decided c.keep.ensures.0 c.is_in_flight.result _ (request_at c.take_answer.new.log.requests c.args.worker)
     c.take_answer.ensures.left c.recount.ensures counts c.keep.ensures.1.1.1 c.put_request_if.ensures c.is_in_flight.ensures)
     (λ a d r. c.keep.ensures.1.0 a d (room ∙ r) ∙ ap (λ l. entry_of c.args.worker (request_at l.requests c.args.worker) (reply_by c.step_on-told.result.outcome (slice_get c.step_on-told.new.self.machines.items c.args.worker))) c.recount.ensures)

@@ -7,7 +7,7 @@ use Rattle.joint.specs.engine.Intact.{is_reserving}
 use Rattle.joint.specs.engine.Log.{is_full}
 use Rattle.joint.specs.world.World.{IsStep}
 use Rattle.joint.specs.engine.Engine.{World}
-use Rattle.joint.proofs.lemmas.calls.WorldSteps.{and_left, and_right, give_up_step}
+use Rattle.joint.proofs.lemmas.calls.WorldSteps.{and_left, and_right, tell_full_step}
 use Rattle.joint.proofs.lemmas.calls.CensusSteps.{counted_at}
 use Rattle.joint.proofs.world.World.tell_journal_full.Goals as goal
 
@@ -18,7 +18,7 @@ invariant_of-self g c =
     let left = and_left g.P.Payload.same_as g.P.Payload.always_copies _ _ given in
     let right = and_right g.P.Payload.same_as g.P.Payload.always_copies _ _ given in
     let C : Nodes g.row.P.Denot → Type 0 = λ y. IsCharged y in (
-      (give_up_step g.P.Payload.same_as g.P.Payload.always_copies (record { forest = c.self.inside.engine.nodes; machines = c.self.inside.engine.machines.items; calls = c.self.inside.engine.calls.items; log = c.self.inside.log }) (record { forest = c.abandon.new.self.nodes; machines = c.abandon.new.self.machines.items; calls = c.abandon.new.self.calls.items; log = c.put_request.new.self }) c.args.who (record { fail = false; seen = None; answer = None }) c.refused.result c.self.invariant.0 left right
+      (tell_full_step g.P.Payload.same_as g.P.Payload.always_copies (record { forest = c.self.inside.engine.nodes; machines = c.self.inside.engine.machines.items; calls = c.self.inside.engine.calls.items; log = c.self.inside.log }) (record { forest = c.abandon.new.self.nodes; machines = c.abandon.new.self.machines.items; calls = c.abandon.new.self.calls.items; log = c.put_request.new.self }) c.args.who (record { fail = false; seen = None; answer = None }) c.refused.result c.self.invariant.0 left right
           (c.abandon.ensures.intact, subst C (sym c.abandon.ensures.nodes) c.self.invariant.0.1)
           (ap (λ y. record { forest = y; machines = c.abandon.new.self.machines.items; calls = c.abandon.new.self.calls.items; log = c.put_request.new.self }) c.abandon.ensures.nodes
           ∙ ap (λ v. record { forest = c.self.inside.engine.nodes; machines = v.items; calls = c.abandon.new.self.calls.items; log = c.put_request.new.self }) c.abandon.ensures.machines
@@ -36,7 +36,7 @@ returns g c noise =
     let right = and_right g.P.Payload.same_as g.P.Payload.always_copies _ _ given in
     let C : Nodes g.row.P.Denot → Type 0 = λ y. IsCharged y in
     let P : World g.row.P.Denot → Type 0 = λ s. IsStep g.P.Payload.same_as g.P.Payload.always_copies s (record { worker = c.args.who; event = Go noise }) c.refused.result (record { forest = c.abandon.new.self.nodes; machines = c.abandon.new.self.machines.items; calls = c.abandon.new.self.calls.items; log = c.put_request.new.self }) in
-    subst P c.self.view_is (give_up_step g.P.Payload.same_as g.P.Payload.always_copies (record { forest = c.self.inside.engine.nodes; machines = c.self.inside.engine.machines.items; calls = c.self.inside.engine.calls.items; log = c.self.inside.log }) (record { forest = c.abandon.new.self.nodes; machines = c.abandon.new.self.machines.items; calls = c.abandon.new.self.calls.items; log = c.put_request.new.self }) c.args.who noise c.refused.result c.self.invariant.0 left right
+    subst P c.self.view_is (tell_full_step g.P.Payload.same_as g.P.Payload.always_copies (record { forest = c.self.inside.engine.nodes; machines = c.self.inside.engine.machines.items; calls = c.self.inside.engine.calls.items; log = c.self.inside.log }) (record { forest = c.abandon.new.self.nodes; machines = c.abandon.new.self.machines.items; calls = c.abandon.new.self.calls.items; log = c.put_request.new.self }) c.args.who noise c.refused.result c.self.invariant.0 left right
     (c.abandon.ensures.intact, subst C (sym c.abandon.ensures.nodes) c.self.invariant.0.1)
     (ap (λ y. record { forest = y; machines = c.abandon.new.self.machines.items; calls = c.abandon.new.self.calls.items; log = c.put_request.new.self }) c.abandon.ensures.nodes
     ∙ ap (λ v. record { forest = c.self.inside.engine.nodes; machines = v.items; calls = c.abandon.new.self.calls.items; log = c.put_request.new.self }) c.abandon.ensures.machines

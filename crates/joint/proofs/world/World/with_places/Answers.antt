@@ -10,7 +10,7 @@ invariant_of-result g c =
         e.1.0,
         e.1.1,
         opened_logged g.P.Payload.same_as g.P.Payload.always_copies (record { forest = c.in_ok-engine.engine.nodes; machines = c.in_ok-engine.engine.machines.items; calls = c.in_ok-engine.engine.calls.items; log = c.in-Ok.log }) c.args.limits.epoch.participants c.args.places
-            (record { alone = e.2.alone; idle = e.2.idle }) c.in-Ok.ensures (sym e.1.0.table ∙ ap (λ s. length s.table) e.0.clock ∙ length-replicate _ _) c.requires,
+            (record { alone = e.2.alone; idle = e.2.idle }) c.in-Ok.ensures (sym e.1.0.table ∙ ap (λ s. length s.table) e.0.collector_is ∙ length-replicate _ _) c.requires,
       ),
       e.3,
     )

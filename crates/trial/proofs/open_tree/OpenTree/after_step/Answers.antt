@@ -1,6 +1,6 @@
 use Rattle.std.proofs.Common.{rules, ◌≡◌, ◌∙◌, ◌<◌, ◌≤◌, ℕ, zero, suc, List, [], ◌∷◌, length, get_or, slice_set, refl, ap, sym, subst, arith}
 use Rattle.std.proofs.lemmas.Option.{slice_get-get_or}
-use Rattle.congee.specs.protocol.Sweeps.{written}
+use Rattle.congee.specs.protocol.Scans.{written}
 use Rattle.joint.specs.declared.steps.Outcome.{Outcome}
 use Rattle.joint.specs.declared.steps.Outcome.TheVariants.{Found}
 use Rattle.trial.specs.declared.caller.Caller.{Caller}
@@ -10,10 +10,10 @@ use Rattle.trial.specs.Places.{places_at, places_or, filled}
 use Rattle.trial.proofs.open_tree.OpenTree.after_step.Goals as goal
 use Rattle.trial.proofs.open_tree.OpenTree.after_step.Goals.{then-worker-len, else-worker-len}
 
--- what stands behind a worker's call heard how its step ended
-heard : (callers : List Caller) (who : ℕ) (told : Outcome ℕ) (c new : Caller) → who < length callers → c ≡ get_or callers who c → new ≡ after_step c told
+-- what stands behind a worker's call takes in how its step ended
+callers_after : (callers : List Caller) (who : ℕ) (told : Outcome ℕ) (c new : Caller) → who < length callers → c ≡ get_or callers who c → new ≡ after_step c told
     → slice_set callers who new ≡ slice_set callers who (after_step (caller_at callers who) told)
-heard callers who told c new h is e =
+callers_after callers who told c new h is e =
     let found : caller_at callers who ≡ c = ap caller_or (slice_get-get_or callers who c h) ∙ sym is in
     ap (slice_set callers who) (e ∙ ap (λ x. after_step x told) (sym found))
 
@@ -33,7 +33,7 @@ placed scans who told places new place key value t h is e =
 pub returns-in_default : goal.returns-in_default
 returns-in_default c = elim c.if-worker-len.branch [
   | then-worker-len w ↦ record {
-    callers = ap (λ (s : OpenTree). s.callers.items) w.self-is ∙ heard _ _ _ _ _ (omega (arith, c.len.ensures, w.if-worker-len.true)) w.index_mut.ensures.value w.after_step.ensures;
+    callers = ap (λ (s : OpenTree). s.callers.items) w.self-is ∙ callers_after _ _ _ _ _ (omega (arith, c.len.ensures, w.if-worker-len.true)) w.index_mut.ensures.value w.after_step.ensures;
     scans = rw w.self-is (search rules);
     world = rw w.self-is (search rules);
   }
@@ -47,7 +47,7 @@ returns-in_default c = elim c.if-worker-len.branch [
 pub returns-in_ok-fill-clause-callers : goal.returns-in_ok-fill-clause-callers
 returns-in_ok-fill-clause-callers c = elim c.if-worker-len.branch [
   | then-worker-len w ↦ ap (λ (s : OpenTree). s.callers.items) w.self-is
-      ∙ heard _ _ _ _ _ (omega (arith, c.len.ensures, w.if-worker-len.true)) w.index_mut.ensures.value w.after_step.ensures
+      ∙ callers_after _ _ _ _ _ (omega (arith, c.len.ensures, w.if-worker-len.true)) w.index_mut.ensures.value w.after_step.ensures
   | else-worker-len w ↦ ap (λ (s : OpenTree). s.callers.items) w.self-is ∙ past _ _ _ (omega (arith, c.len.ensures, w.if-worker-len.false))
 ]
 
@@ -64,6 +64,6 @@ returns-in_ok-fill-clause-scans c =
 pub returns-else-worker-len-2-clause-callers : goal.returns-else-worker-len-2-clause-callers
 returns-else-worker-len-2-clause-callers c = elim c.if-worker-len.branch [
   | then-worker-len w ↦ ap (λ (s : OpenTree). s.callers.items) w.self-is
-      ∙ heard _ _ _ _ _ (omega (arith, c.len.ensures, w.if-worker-len.true)) w.index_mut.ensures.value w.after_step.ensures
+      ∙ callers_after _ _ _ _ _ (omega (arith, c.len.ensures, w.if-worker-len.true)) w.index_mut.ensures.value w.after_step.ensures
   | else-worker-len w ↦ ap (λ (s : OpenTree). s.callers.items) w.self-is ∙ past _ _ _ (omega (arith, c.len.ensures, w.if-worker-len.false))
 ]

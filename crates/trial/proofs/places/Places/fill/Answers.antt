@@ -1,5 +1,5 @@
 use Rattle.std.proofs.Common.{◌∙◌, arith, ap, List, ℕ}
-use Rattle.congee.specs.protocol.Sweeps.{written}
+use Rattle.congee.specs.protocol.Scans.{written}
 use Rattle.trial.proofs.Filling.{written_within, written_past}
 use Rattle.trial.proofs.places.Places.fill.Goals as goal
 

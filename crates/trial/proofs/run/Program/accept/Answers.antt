@@ -1,7 +1,7 @@
 use Rattle.std.proofs.Common.{◌≡◌, ◌<◌, ◌+◌, ◌++◌, ℕ, List, [], ◌∷◌, arith, length, take, drop, sym, subst, ◌∙◌, ap, length-take, length-drop, refl, take-append-drop}
 use Rattle.std.specs.List.{remove_range}
 use Rattle.trial.specs.Turns.{LinesGo, LinesStop}
-use Rattle.trial.proofs.Ending.{memory_end, stops_within, stops_too_long, goes_on, in_parts, behind, some_from_false, none_from_true}
+use Rattle.trial.proofs.Ending.{memory_end, stops_within, stops_too_long, script_goes_on, in_parts, behind, some_from_false, none_from_true}
 use Rattle.trial.proofs.run.Program.accept.Goals as goal
 
 -- what is left without the first
@@ -48,7 +48,7 @@ returns-clause-goes g c = λ none had mid left held h i.
     = behind _ _ _ _ _ c.deref.ensures.value c.in-Ok.ensures.items c.split_at.ensures.front in
     let P : List ℕ → Type 0 = λ b. LinesGo old.script (g.W.Write.contents c.args.writer.now) b c.lines.new.self (g.W.Write.contents c.lines.new.writer)
     (drop c.in-Ok-lines.answered c.deref.result.now) in
-    goes_on had mid left held _ _ (take k bytes) (drop k bytes) (drop c.in-Ok-lines.answered c.deref.result.now) old
+    script_goes_on had mid left held _ _ (take k bytes) (drop k bytes) (drop c.in-Ok-lines.answered c.deref.result.now) old
     (record { script = c.lines.new.self; unread = c.drop-drain.new.self.0; taken = old.taken + length bytes })
     h (in_parts mid left bytes k i) (subst P same c.in-Ok-lines.ensures.ok.0) c.in-Ok-lines.ensures.ok.1 c.in-Ok-lines.ensures.ok.2
     (c.drop-drain.ensures.items ∙ c.drain.ensures.kept ∙ without_front c.extend_from_slice.new.self.items c.in-Ok-lines.answered ∙ ap (drop c.in-Ok-lines.answered) (sym c.deref.ensures.value)) empty

@@ -1,7 +1,7 @@
 use Rattle.std.proofs.Common.{refl, sym, ap, ◌∙◌, subst, arith}
 use Rattle.congee.specs.forms.Bytes.{IsFirst}
 use Rattle.congee.specs.forms.Forms.{capacity_of, children_of}
-use Rattle.congee.proofs.lemmas.forms.MoveLemmas.{HaveMoved, none_moved, one_moved, room_left, all_moved, has_room}
+use Rattle.congee.proofs.lemmas.forms.MoveLemmas.{HaveMoved, none_moved, one_moved, room_left, all_moved, is_full_of_room}
 use Rattle.congee.specs.forms.RoomLemmas.{any_node_fits}
 use Rattle.congee.proofs.forms.base_node.Node.move_to.Goals as goal
 
@@ -18,7 +18,7 @@ pub insert-requires : goal.insert-requires
 insert-requires g c =
     let first : IsFirst (children_of c.loop-byte.self) c.loop-byte.from c.in-Some.byte c.remove-child.result = record { past = c.in-Some.ensures.past; here = c.remove-child.ensures.before; before = c.in-Some.ensures.before } in
     let left = room_left c.loop-byte.invariant.children first in
-    (any_node_fits g.row.C g.row.P g.met.C.Small.small g.met.P.Small.small, (c.loop-byte.invariant.children.free c.in-Some.byte c.in-Some.ensures.past, has_room c.loop-byte.greater (omega (arith, left, c.requires.room, ap capacity_of c.loop-byte.invariant.moved_form))))
+    (any_node_fits g.row.C g.row.P g.met.C.Small.small g.met.P.Small.small, (c.loop-byte.invariant.children.free c.in-Some.byte c.in-Some.ensures.past, is_full_of_room c.loop-byte.greater (omega (arith, left, c.requires.room, ap capacity_of c.loop-byte.invariant.moved_form))))
 
 pub loop-byte-preserved : goal.loop-byte-preserved
 loop-byte-preserved g c =

@@ -1,7 +1,7 @@
 use Rattle.std.proofs.Common.{refl, sym, ap, ◌∙◌, subst, arith}
 use Rattle.congee.specs.forms.Bytes.{IsFirst}
 use Rattle.congee.specs.forms.Forms.{capacity_of, children_of}
-use Rattle.congee.proofs.lemmas.forms.MoveLemmas.{HavePoured, none_poured, one_poured, room_poured, all_poured, has_room}
+use Rattle.congee.proofs.lemmas.forms.MoveLemmas.{HavePoured, none_poured, one_poured, room_poured, all_poured, is_full_of_room}
 use Rattle.congee.specs.forms.RoomLemmas.{any_node_fits}
 use Rattle.congee.proofs.forms.base_node.Node.pour_into.Goals as goal
 
@@ -16,7 +16,7 @@ pub insert-requires : goal.insert-requires
 insert-requires g c =
     let first : IsFirst (children_of c.loop-first.self) c.loop-first.from c.in-Some.first c.change-child.result = record { past = c.in-Some.ensures.past; here = c.change-child.ensures.before; before = c.in-Some.ensures.before } in
     let less = room_poured c.loop-first.invariant.children first in
-    (any_node_fits g.row.C g.row.P g.met.C.Small.small g.met.P.Small.small, (c.loop-first.invariant.children.moves.free c.in-Some.first c.in-Some.ensures.past, has_room c.loop-first.other (omega (arith, less, c.requires.room, ap capacity_of c.loop-first.invariant.moved_form))))
+    (any_node_fits g.row.C g.row.P g.met.C.Small.small g.met.P.Small.small, (c.loop-first.invariant.children.moves.free c.in-Some.first c.in-Some.ensures.past, is_full_of_room c.loop-first.other (omega (arith, less, c.requires.room, ap capacity_of c.loop-first.invariant.moved_form))))
 
 pub loop-first-preserved : goal.loop-first-preserved
 loop-first-preserved g c =

@@ -12,7 +12,7 @@ decreases-count_from g l = 8 - length (heap_of l.self.now.nodes l.at).prefix
 
 abbrev pub invariant-loop-byte : goal.invariant-loop-byte
 invariant-loop-byte g l =
-    (x : Form ℕ _) → get l.self.nodes l.at ≡ Some x → Counted l.self.nodes l.fn.stats l.stats l.level x l.from × BytesPassed l.self.nodes x l.from
+    (x : Form ℕ _) → get l.self.nodes l.fn.at ≡ Some x → Counted l.self.nodes l.fn.stats l.stats l.fn.level x l.from × BytesPassed l.self.nodes x l.from
 
 abbrev pub decreases-loop-byte : goal.decreases-loop-byte
 decreases-loop-byte g l = 256 - l.from

@@ -1,7 +1,7 @@
 use Rattle.std.proofs.Common.{◌≡◌, [], ◌∷◌, ◌++◌, sym, ap, subst, ◌∙◌}
 use Rattle.slab.specs.Slab.{ContainsKey}
 use Rattle.congee.specs.owned.Walks.{steps_of}
-use Rattle.congee.proofs.lemmas.owned.Cursors.{begins, step}
+use Rattle.congee.proofs.lemmas.owned.Cursors.{first_cursor, branch_at}
 use Rattle.congee.proofs.lemmas.owned.Ways.{stands_of}
 use Rattle.congee.proofs.owned.arena.Arena.beginning.Given.{Over}
 use Rattle.congee.proofs.owned.arena.Arena.beginning.Goals.{After-enter}
@@ -12,16 +12,16 @@ enter-requires g c = subst (ContainsKey c.args.self.now.nodes) (sym c.root.ensur
 
 -- the root's step alone
 abbrev Starts : (g : Over) → After-enter g → Type 0
-Starts g c = steps_of c.enter.result ≡ step 0 0 ∷ []
+Starts g c = steps_of c.enter.result ≡ branch_at 0 0 ∷ []
 
 starts : (g : Over) (c : After-enter g) → Starts g c
-starts g c = c.enter.ensures.steps ∙ (ap (λ xs. xs ++ step c.root.result 0 ∷ []) c.new.ensures ∙ ap (λ n. step n 0 ∷ []) c.root.ensures)
+starts g c = c.enter.ensures.steps ∙ (ap (λ xs. xs ++ branch_at c.root.result 0 ∷ []) c.new.ensures ∙ ap (λ n. branch_at n 0 ∷ []) c.root.ensures)
 
 pub returns-clause-walk : goal.returns-clause-walk
 returns-clause-walk g c = record {
-  way = (begins c.args.self.now.nodes c.requires (steps_of c.enter.result) (starts g (goal.at.returns-clause-walk g c).After-enter)).0;
+  way = (first_cursor c.args.self.now.nodes c.requires (steps_of c.enter.result) (starts g (goal.at.returns-clause-walk g c).After-enter)).0;
   sees = c.enter.ensures.sees;
 }
 
 pub returns-clause-at : goal.returns-clause-at
-returns-clause-at g c = (begins c.args.self.now.nodes c.requires (steps_of c.enter.result) (starts g (goal.at.returns-clause-at g c).After-enter)).1
+returns-clause-at g c = (first_cursor c.args.self.now.nodes c.requires (steps_of c.enter.result) (starts g (goal.at.returns-clause-at g c).After-enter)).1

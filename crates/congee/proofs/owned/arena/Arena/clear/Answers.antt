@@ -1,6 +1,6 @@
 use Rattle.std.proofs.Common.{[], length, sym, ap, ◌∙◌, arith}
 use Rattle.congee.proofs.lemmas.owned.Clears.{RootLeft, all_left, root_within}
-use Rattle.congee.proofs.lemmas.owned.Standing.{Standing, standing}
+use Rattle.congee.proofs.lemmas.owned.Standing.{Standing, standing_at}
 use Rattle.congee.proofs.lemmas.owned.Ways.{prefix_is, root_reached}
 use Rattle.congee.proofs.owned.arena.Arena.clear.Given.{Over}
 use Rattle.congee.proofs.owned.arena.Arena.clear.Goals.{After-clear}
@@ -11,7 +11,7 @@ abbrev Root : (g : Over) → After-clear g → Type 0
 Root g c = Standing c.args.self.now.nodes 0
 
 root : (g : Over) (c : After-clear g) → Root g c
-root g c = standing c.args.self.now.nodes 0 (root_reached c.args.self.now.nodes [] c.requires.tree).way.stands
+root g c = standing_at c.args.self.now.nodes 0 (root_reached c.args.self.now.nodes [] c.requires.tree).way.stands
 
 -- what is left of the tree
 abbrev Left : (g : Over) → After-clear g → Type 0
@@ -22,7 +22,7 @@ left g c = let x = root g c in all_left c.args.self.now.nodes c.clear.new.self x
 
 pub overflow_sub-others : goal.overflow_sub-others
 overflow_sub-others g c =
-    let x = standing c.args.self.now.nodes 0 (root_reached c.args.self.now.nodes [] c.requires.tree).way.stands in
+    let x = standing_at c.args.self.now.nodes 0 (root_reached c.args.self.now.nodes [] c.requires.tree).way.stands in
     let within = root_within c.args.self.now.nodes x.node c.requires.tree x.is in
     omega (arith, within, c.bytes_charged.ensures, c.size.ensures)
 
@@ -55,6 +55,6 @@ returns-clause-filled g c = (left g (goal.at.returns-clause-filled g c).After-cl
 pub returns-clause-balance : goal.returns-clause-balance
 returns-clause-balance g c =
     let now = (left g (goal.at.returns-clause-balance g c).After-clear).bytes in
-    let x = standing c.args.self.now.nodes 0 (root_reached c.args.self.now.nodes [] c.requires.tree).way.stands in
+    let x = standing_at c.args.self.now.nodes 0 (root_reached c.args.self.now.nodes [] c.requires.tree).way.stands in
     let within = root_within c.args.self.now.nodes x.node c.requires.tree x.is in
     omega (arith, now, within, c.bytes_charged.ensures, c.size.ensures, c.deallocate.ensures.charged)

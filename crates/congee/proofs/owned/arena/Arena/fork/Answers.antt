@@ -14,10 +14,10 @@ use Rattle.congee.proofs.owned.arena.Arena.fork.Goals.{After-parting-place, Afte
 use Rattle.congee.proofs.owned.arena.Arena.fork.Goals as goal
 
 pub parting-place-requires-clause-stands : goal.parting-place-requires-clause-stands
-parting-place-requires-clause-stands g c = below_stands c.args.self.now.nodes c.requires.tree c.args.at c.args.below c.args.key.now c.requires.way.stands c.requires.hangs
+parting-place-requires-clause-stands g c = below_stands c.args.self.now.nodes c.requires.tree c.args.at c.args.below c.args.key.now c.requires.parts.way.stands c.requires.parts.hangs
 
 pub parting-place-requires-clause-differs : goal.parting-place-requires-clause-differs
-parting-place-requires-clause-differs g c = λ x e. ap (λ p. fits p c.args.key.now) (sym (prefix_at c.args.self.now.nodes c.args.below x e)) ∙ c.requires.differs
+parting-place-requires-clause-differs g c = λ x e. ap (λ p. fits p c.args.key.now) (sym (prefix_at c.args.self.now.nodes c.args.below x e)) ∙ c.requires.parts.differs
 
 -- the other byte is another one
 abbrev Apart : (g : Over) → After-parting-place g → Type 0
@@ -25,7 +25,7 @@ Apart g c = get_or c.args.key.now c.parting-place.result.place 0 ≢ c.parting-p
 
 apart : (g : Over) (c : After-parting-place g) → Apart g c
 apart g c =
-    let n = node_at c.args.self.now.nodes c.args.below (below_stands c.args.self.now.nodes c.requires.tree c.args.at c.args.below c.args.key.now c.requires.way.stands c.requires.hangs) in
+    let n = node_at c.args.self.now.nodes c.args.below (below_stands c.args.self.now.nodes c.requires.tree c.args.at c.args.below c.args.key.now c.requires.parts.way.stands c.requires.parts.hangs) in
     λ q. (c.parting-place.ensures.place n.0 n.1).apart (q ∙ c.parting-place.ensures.other n.0 n.1)
 
 pub make-over-requires-clause-inner : goal.make-over-requires-clause-inner
@@ -85,7 +85,7 @@ IsForked g c = Forked c.args.self.now.nodes c.make-over.new.self c.hang_leaf.new
 
 forked : (g : Over) (c : After-hang_node g) → IsForked g c
 forked g c =
-    let n = node_at c.args.self.now.nodes c.args.below (below_stands c.args.self.now.nodes c.requires.tree c.args.at c.args.below c.args.key.now c.requires.way.stands c.requires.hangs) in
+    let n = node_at c.args.self.now.nodes c.args.below (below_stands c.args.self.now.nodes c.requires.tree c.args.at c.args.below c.args.key.now c.requires.parts.way.stands c.requires.parts.hangs) in
     let m = c.make-over.ensures.made in
     let h = c.hang_leaf.ensures.hangs m.node m.updates.changed in
     record {
@@ -103,49 +103,38 @@ abbrev IsThere : (g : Over) → After-hang_node g → Type 0
 IsThere g c = get c.hang_node.new.self c.args.at ≡ get c.args.self.now.nodes c.args.at
 
 there : (g : Over) (c : After-hang_node g) → IsThere g c
-there g c = forked_at c.args.self.now.nodes c.make-over.new.self c.hang_leaf.new.self c.hang_node.new.self c.args.key.now c.parting-place.result.place c.make-over.result _ c.args.below c.args.value (forked g c) c.args.at c.requires.way.stands
+there g c = forked_at c.args.self.now.nodes c.make-over.new.self c.hang_leaf.new.self c.hang_node.new.self c.args.key.now c.parting-place.result.place c.make-over.result _ c.args.below c.args.value (forked g c) c.args.at c.requires.parts.way.stands
 
 pub byte_at-up-requires : goal.byte_at-up-requires
-byte_at-up-requires g c = subst IsSome (sym (there g c)) c.requires.way.stands
+byte_at-up-requires g c = subst IsSome (sym (there g c)) c.requires.parts.way.stands
 
 pub swap_node-requires-clause-stands : goal.swap_node-requires-clause-stands
-swap_node-requires-clause-stands g c = subst IsSome (sym (there g (goal.at.swap_node-requires-clause-stands g c).After-hang_node)) c.requires.way.stands
+swap_node-requires-clause-stands g c = subst IsSome (sym (there g (goal.at.swap_node-requires-clause-stands g c).After-hang_node)) c.requires.parts.way.stands
 
 pub swap_node-requires-clause-inner : goal.swap_node-requires-clause-inner
 swap_node-requires-clause-inner g c =
     up_inner c.args.self.now.nodes c.hang_node.new.self c.requires.tree c.args.key.now c.args.at c.args.below (there g (goal.at.swap_node-requires-clause-inner g c).After-hang_node)
-    (fork_hangs c.args.self.now.nodes c.args.key.now c.args.at c.args.below c.requires.way c.requires.hangs)
+    (fork_hangs c.args.self.now.nodes c.args.key.now c.args.at c.args.below c.requires.parts.way c.requires.parts.hangs)
 
 pub swap_node-requires-clause-present : goal.swap_node-requires-clause-present
 swap_node-requires-clause-present g c =
     up_node c.args.self.now.nodes c.hang_node.new.self c.requires.tree c.args.key.now c.args.at c.args.below (there g (goal.at.swap_node-requires-clause-present g c).After-hang_node)
-    (fork_hangs c.args.self.now.nodes c.args.key.now c.args.at c.args.below c.requires.way c.requires.hangs) c.byte_at-up.result c.requires.own c.byte_at-up.ensures
+    (fork_hangs c.args.self.now.nodes c.args.key.now c.args.at c.args.below c.requires.parts.way c.requires.parts.hangs) c.byte_at-up.result c.requires.own c.byte_at-up.ensures
 
-pub returns-clause-tree : goal.returns-clause-tree
-returns-clause-tree g c =
+pub returns : goal.returns
+returns g c =
     let len : length c.args.key.now ≡ 8 = search rules in
-    (fork_hung c.args.self.now.nodes c.make-over.new.self c.hang_leaf.new.self c.hang_node.new.self c.args.key.now c.parting-place.result.place c.make-over.result _ c.args.below c.args.value (forked g (goal.at.returns-clause-tree g c).After-hang_node)
-    c.swap_node.new.self c.args.at c.byte_at-up.result len c.requires.tree c.requires.way c.requires.hangs c.requires.differs c.byte_at-up.ensures c.swap_node.ensures.swaps).0.0
-
-pub returns-clause-change : goal.returns-clause-change
-returns-clause-change g c =
-    let len : length c.args.key.now ≡ 8 = search rules in
-    (fork_hung c.args.self.now.nodes c.make-over.new.self c.hang_leaf.new.self c.hang_node.new.self c.args.key.now c.parting-place.result.place c.make-over.result _ c.args.below c.args.value (forked g (goal.at.returns-clause-change g c).After-hang_node)
-    c.swap_node.new.self c.args.at c.byte_at-up.result len c.requires.tree c.requires.way c.requires.hangs c.requires.differs c.byte_at-up.ensures c.swap_node.ensures.swaps).0.1
-
-pub returns-clause-bytes : goal.returns-clause-bytes
-returns-clause-bytes g c =
-    let len : length c.args.key.now ≡ 8 = search rules in
-    let r = fork_hung c.args.self.now.nodes c.make-over.new.self c.hang_leaf.new.self c.hang_node.new.self c.args.key.now c.parting-place.result.place c.make-over.result _ c.args.below c.args.value (forked g (goal.at.returns-clause-bytes g c).After-hang_node)
-    c.swap_node.new.self c.args.at c.byte_at-up.result len c.requires.tree c.requires.way c.requires.hangs c.requires.differs c.byte_at-up.ensures c.swap_node.ensures.swaps in
-    omega (arith, r.1)
-
-pub returns-clause-filled : goal.returns-clause-filled
-returns-clause-filled g c =
-    let len : length c.args.key.now ≡ 8 = search rules in
-    let f = forked g (goal.at.returns-clause-filled g c).After-hang_node in
-    let same = there g (goal.at.returns-clause-filled g c).After-hang_node in
-    fork_filled c.args.self.now.nodes c.make-over.new.self c.hang_leaf.new.self c.hang_node.new.self c.swap_node.new.self c.args.key.now c.parting-place.result.place c.make-over.result _ c.args.below c.args.at c.byte_at-up.result c.args.value f len c.requires.way.stands
-    (λ x e. child_there c.args.self.now.nodes c.requires.tree c.args.key.now c.args.at c.args.below c.requires.way.stands c.requires.hangs x (sym same ∙ e) c.byte_at-up.result
-    (c.byte_at-up.ensures ∙ ap (λ o. get_or c.args.key.now (length (node_of o).prefix) 0) same))
-    c.swap_node.ensures.swaps
+    let f = forked g (goal.at.returns g c).After-hang_node in
+    let same = there g (goal.at.returns g c).After-hang_node in
+    let r = fork_hung c.args.self.now.nodes c.make-over.new.self c.hang_leaf.new.self c.hang_node.new.self c.args.key.now c.parting-place.result.place c.make-over.result _ c.args.below c.args.value f
+    c.swap_node.new.self c.args.at c.byte_at-up.result len c.requires.tree c.requires.parts.way c.requires.parts.hangs c.requires.parts.differs c.byte_at-up.ensures c.swap_node.ensures.swaps in
+    record {
+      tree = r.0.0;
+      change = r.0.1;
+      bytes = omega (arith, r.1);
+      filled = fork_filled c.args.self.now.nodes c.make-over.new.self c.hang_leaf.new.self c.hang_node.new.self c.swap_node.new.self c.args.key.now c.parting-place.result.place c.make-over.result _ c.args.below c.args.at c.byte_at-up.result c.args.value f len c.requires.parts.way.stands
+          (λ x e. child_there c.args.self.now.nodes c.requires.tree c.args.key.now c.args.at c.args.below c.requires.parts.way.stands c.requires.parts.hangs x (sym same ∙ e) c.byte_at-up.result
+          (c.byte_at-up.ensures ∙ ap (λ o. get_or c.args.key.now (length (node_of o).prefix) 0) same))
+          c.swap_node.ensures.swaps;
+      allocator = refl;
+    }

@@ -12,10 +12,10 @@ use Rattle.congee.proofs.owned.arena.Arena.fork_leaf.Goals.{After-parting-place}
 use Rattle.congee.proofs.owned.arena.Arena.fork_leaf.Goals as goal
 
 pub parting-place-requires-clause-stands : goal.parting-place-requires-clause-stands
-parting-place-requires-clause-stands g c = below_stands c.args.self.now.nodes c.requires.tree c.args.at c.args.below c.args.key.now c.requires.way.stands c.requires.hangs
+parting-place-requires-clause-stands g c = below_stands c.args.self.now.nodes c.requires.tree c.args.at c.args.below c.args.key.now c.requires.parts.way.stands c.requires.parts.hangs
 
 pub parting-place-requires-clause-differs : goal.parting-place-requires-clause-differs
-parting-place-requires-clause-differs g c = λ x e. ap (λ p. fits p c.args.key.now) (sym (prefix_at c.args.self.now.nodes c.args.below x e)) ∙ c.requires.differs
+parting-place-requires-clause-differs g c = λ x e. ap (λ p. fits p c.args.key.now) (sym (prefix_at c.args.self.now.nodes c.args.below x e)) ∙ c.requires.parts.differs
 
 -- the other byte is another one
 abbrev Apart : (g : Over) → After-parting-place g → Type 0
@@ -23,7 +23,7 @@ Apart g c = get_or c.args.key.now c.parting-place.result.place 0 ≢ c.parting-p
 
 apart : (g : Over) (c : After-parting-place g) → Apart g c
 apart g c =
-    let n = node_at c.args.self.now.nodes c.args.below (below_stands c.args.self.now.nodes c.requires.tree c.args.at c.args.below c.args.key.now c.requires.way.stands c.requires.hangs) in
+    let n = node_at c.args.self.now.nodes c.args.below (below_stands c.args.self.now.nodes c.requires.tree c.args.at c.args.below c.args.key.now c.requires.parts.way.stands c.requires.parts.hangs) in
     λ q. (c.parting-place.ensures.place n.0 n.1).apart (q ∙ c.parting-place.ensures.other n.0 n.1)
 
 pub make-over-requires-clause-inner : goal.make-over-requires-clause-inner
@@ -56,61 +56,46 @@ pub hang_leaf-requires-clause-spare : goal.hang_leaf-requires-clause-spare
 hang_leaf-requires-clause-spare g c = room_made c.args.self.now.nodes c.make-over.new.self c.make-over.result 1 _ c.make-over.ensures.made c.make-over.ensures.capacity c.requires.room
 
 pub cover_leaf-held-requires-clause-stands : goal.cover_leaf-held-requires-clause-stands
-cover_leaf-held-requires-clause-stands g c = subst IsSome (sym (cover_at c.args.self.now.nodes c.make-over.new.self c.hang_leaf.new.self c.args.key.now c.parting-place.result.place c.make-over.result c.parting-place.result.other c.args.below c.args.value c.args.at c.byte_at-up.result c.requires.tree c.requires.way c.requires.hangs c.byte_at-up.ensures c.parting-place.ensures.place c.parting-place.ensures.other c.make-over.ensures.made (c.hang_leaf.ensures.hangs c.make-over.ensures.made.node c.make-over.ensures.made.updates.changed))) c.requires.way.stands
+cover_leaf-held-requires-clause-stands g c = subst IsSome (sym (cover_at c.args.self.now.nodes c.make-over.new.self c.hang_leaf.new.self c.args.key.now c.parting-place.result.place c.make-over.result c.parting-place.result.other c.args.below c.args.value c.args.at c.byte_at-up.result c.requires.tree c.requires.parts.way c.requires.parts.hangs c.byte_at-up.ensures c.parting-place.ensures.place c.parting-place.ensures.other c.make-over.ensures.made (c.hang_leaf.ensures.hangs c.make-over.ensures.made.node c.make-over.ensures.made.updates.changed))) c.requires.parts.way.stands
 
 pub cover_leaf-held-requires-clause-inner : goal.cover_leaf-held-requires-clause-inner
-cover_leaf-held-requires-clause-inner g c = λ x e. above_inner c.args.self.now.nodes c.requires.tree c.args.key.now c.args.at c.args.below c.requires.way.stands c.requires.hangs x (sym (cover_at c.args.self.now.nodes c.make-over.new.self c.hang_leaf.new.self c.args.key.now c.parting-place.result.place c.make-over.result c.parting-place.result.other c.args.below c.args.value c.args.at c.byte_at-up.result c.requires.tree c.requires.way c.requires.hangs c.byte_at-up.ensures c.parting-place.ensures.place c.parting-place.ensures.other c.make-over.ensures.made (c.hang_leaf.ensures.hangs c.make-over.ensures.made.node c.make-over.ensures.made.updates.changed)) ∙ e)
+cover_leaf-held-requires-clause-inner g c = λ x e. above_inner c.args.self.now.nodes c.requires.tree c.args.key.now c.args.at c.args.below c.requires.parts.way.stands c.requires.parts.hangs x (sym (cover_at c.args.self.now.nodes c.make-over.new.self c.hang_leaf.new.self c.args.key.now c.parting-place.result.place c.make-over.result c.parting-place.result.other c.args.below c.args.value c.args.at c.byte_at-up.result c.requires.tree c.requires.parts.way c.requires.parts.hangs c.byte_at-up.ensures c.parting-place.ensures.place c.parting-place.ensures.other c.make-over.ensures.made (c.hang_leaf.ensures.hangs c.make-over.ensures.made.node c.make-over.ensures.made.updates.changed)) ∙ e)
 
 pub cover_leaf-held-requires-clause-present : goal.cover_leaf-held-requires-clause-present
-cover_leaf-held-requires-clause-present g c = λ x e. child_inline c.args.self.now.nodes c.requires.tree c.args.key.now c.args.at c.args.below c.byte_at-up.result c.requires.way.stands c.requires.hangs c.requires.inline c.byte_at-up.ensures x (sym (cover_at c.args.self.now.nodes c.make-over.new.self c.hang_leaf.new.self c.args.key.now c.parting-place.result.place c.make-over.result c.parting-place.result.other c.args.below c.args.value c.args.at c.byte_at-up.result c.requires.tree c.requires.way c.requires.hangs c.byte_at-up.ensures c.parting-place.ensures.place c.parting-place.ensures.other c.make-over.ensures.made (c.hang_leaf.ensures.hangs c.make-over.ensures.made.node c.make-over.ensures.made.updates.changed)) ∙ e)
+cover_leaf-held-requires-clause-present g c = λ x e. child_inline c.args.self.now.nodes c.requires.tree c.args.key.now c.args.at c.args.below c.byte_at-up.result c.requires.parts.way.stands c.requires.parts.hangs c.requires.inline c.byte_at-up.ensures x (sym (cover_at c.args.self.now.nodes c.make-over.new.self c.hang_leaf.new.self c.args.key.now c.parting-place.result.place c.make-over.result c.parting-place.result.other c.args.below c.args.value c.args.at c.byte_at-up.result c.requires.tree c.requires.parts.way c.requires.parts.hangs c.byte_at-up.ensures c.parting-place.ensures.place c.parting-place.ensures.other c.make-over.ensures.made (c.hang_leaf.ensures.hangs c.make-over.ensures.made.node c.make-over.ensures.made.updates.changed)) ∙ e)
 
 pub hang_leaf-requires-2-clause-stands : goal.hang_leaf-requires-2-clause-stands
-hang_leaf-requires-2-clause-stands g c = cover_stands c.args.self.now.nodes c.make-over.new.self c.hang_leaf.new.self c.args.key.now c.parting-place.result.place c.make-over.result c.parting-place.result.other c.args.below c.args.value c.args.at c.byte_at-up.result c.requires.tree c.requires.way c.requires.hangs c.byte_at-up.ensures c.parting-place.ensures.place c.parting-place.ensures.other c.make-over.ensures.made (c.hang_leaf.ensures.hangs c.make-over.ensures.made.node c.make-over.ensures.made.updates.changed) c.cover_leaf-held.new.self c.cover_leaf-held.result.key c.cover_leaf-held.result.value c.cover_leaf-held.ensures.covers
+hang_leaf-requires-2-clause-stands g c = cover_stands c.args.self.now.nodes c.make-over.new.self c.hang_leaf.new.self c.args.key.now c.parting-place.result.place c.make-over.result c.parting-place.result.other c.args.below c.args.value c.args.at c.byte_at-up.result c.requires.tree c.requires.parts.way c.requires.parts.hangs c.byte_at-up.ensures c.parting-place.ensures.place c.parting-place.ensures.other c.make-over.ensures.made (c.hang_leaf.ensures.hangs c.make-over.ensures.made.node c.make-over.ensures.made.updates.changed) c.cover_leaf-held.new.self c.cover_leaf-held.result.key c.cover_leaf-held.result.value c.cover_leaf-held.ensures.covers
 
 pub hang_leaf-requires-2-clause-inner : goal.hang_leaf-requires-2-clause-inner
-hang_leaf-requires-2-clause-inner g c = cover_inner c.args.self.now.nodes c.make-over.new.self c.hang_leaf.new.self c.args.key.now c.parting-place.result.place c.make-over.result c.parting-place.result.other c.args.below c.args.value c.args.at c.byte_at-up.result c.requires.tree c.requires.way c.requires.hangs c.byte_at-up.ensures c.parting-place.ensures.place c.parting-place.ensures.other c.make-over.ensures.made (c.hang_leaf.ensures.hangs c.make-over.ensures.made.node c.make-over.ensures.made.updates.changed) c.cover_leaf-held.new.self c.cover_leaf-held.result.key c.cover_leaf-held.result.value c.cover_leaf-held.ensures.covers (short_take c.parting-place.result.place c.args.key.now c.parting-place.ensures.within)
+hang_leaf-requires-2-clause-inner g c = cover_inner c.args.self.now.nodes c.make-over.new.self c.hang_leaf.new.self c.args.key.now c.parting-place.result.place c.make-over.result c.parting-place.result.other c.args.below c.args.value c.args.at c.byte_at-up.result c.requires.tree c.requires.parts.way c.requires.parts.hangs c.byte_at-up.ensures c.parting-place.ensures.place c.parting-place.ensures.other c.make-over.ensures.made (c.hang_leaf.ensures.hangs c.make-over.ensures.made.node c.make-over.ensures.made.updates.changed) c.cover_leaf-held.new.self c.cover_leaf-held.result.key c.cover_leaf-held.result.value c.cover_leaf-held.ensures.covers (short_take c.parting-place.result.place c.args.key.now c.parting-place.ensures.within)
 
 pub hang_leaf-requires-2-clause-absent : goal.hang_leaf-requires-2-clause-absent
-hang_leaf-requires-2-clause-absent g c = cover_absent c.args.self.now.nodes c.make-over.new.self c.hang_leaf.new.self c.args.key.now c.parting-place.result.place c.make-over.result c.parting-place.result.other c.args.below c.args.value c.args.at c.byte_at-up.result c.requires.tree c.requires.way c.requires.hangs c.byte_at-up.ensures c.parting-place.ensures.place c.parting-place.ensures.other c.make-over.ensures.made (c.hang_leaf.ensures.hangs c.make-over.ensures.made.node c.make-over.ensures.made.updates.changed) c.cover_leaf-held.new.self c.cover_leaf-held.result.key c.cover_leaf-held.result.value c.cover_leaf-held.ensures.covers (apart g (goal.at.hang_leaf-requires-2-clause-absent g c).After-parting-place)
+hang_leaf-requires-2-clause-absent g c = cover_absent c.args.self.now.nodes c.make-over.new.self c.hang_leaf.new.self c.args.key.now c.parting-place.result.place c.make-over.result c.parting-place.result.other c.args.below c.args.value c.args.at c.byte_at-up.result c.requires.tree c.requires.parts.way c.requires.parts.hangs c.byte_at-up.ensures c.parting-place.ensures.place c.parting-place.ensures.other c.make-over.ensures.made (c.hang_leaf.ensures.hangs c.make-over.ensures.made.node c.make-over.ensures.made.updates.changed) c.cover_leaf-held.new.self c.cover_leaf-held.result.key c.cover_leaf-held.result.value c.cover_leaf-held.ensures.covers (apart g (goal.at.hang_leaf-requires-2-clause-absent g c).After-parting-place)
 
 pub hang_leaf-requires-2-clause-room : goal.hang_leaf-requires-2-clause-room
-hang_leaf-requires-2-clause-room g c = cover_full c.args.self.now.nodes c.make-over.new.self c.hang_leaf.new.self c.args.key.now c.parting-place.result.place c.make-over.result c.parting-place.result.other c.args.below c.args.value c.args.at c.byte_at-up.result c.requires.tree c.requires.way c.requires.hangs c.byte_at-up.ensures c.parting-place.ensures.place c.parting-place.ensures.other c.make-over.ensures.made (c.hang_leaf.ensures.hangs c.make-over.ensures.made.node c.make-over.ensures.made.updates.changed) c.cover_leaf-held.new.self c.cover_leaf-held.result.key c.cover_leaf-held.result.value c.cover_leaf-held.ensures.covers
+hang_leaf-requires-2-clause-room g c = cover_full c.args.self.now.nodes c.make-over.new.self c.hang_leaf.new.self c.args.key.now c.parting-place.result.place c.make-over.result c.parting-place.result.other c.args.below c.args.value c.args.at c.byte_at-up.result c.requires.tree c.requires.parts.way c.requires.parts.hangs c.byte_at-up.ensures c.parting-place.ensures.place c.parting-place.ensures.other c.make-over.ensures.made (c.hang_leaf.ensures.hangs c.make-over.ensures.made.node c.make-over.ensures.made.updates.changed) c.cover_leaf-held.new.self c.cover_leaf-held.result.key c.cover_leaf-held.result.value c.cover_leaf-held.ensures.covers
 
 pub hang_leaf-requires-2-clause-spare : goal.hang_leaf-requires-2-clause-spare
 hang_leaf-requires-2-clause-spare g c =
-    cover_room c.args.self.now.nodes c.make-over.new.self c.hang_leaf.new.self c.args.key.now c.parting-place.result.place c.make-over.result c.parting-place.result.other c.args.below c.args.value c.args.at c.byte_at-up.result c.requires.tree c.requires.way c.requires.hangs c.byte_at-up.ensures c.parting-place.ensures.place c.parting-place.ensures.other c.make-over.ensures.made (c.hang_leaf.ensures.hangs c.make-over.ensures.made.node c.make-over.ensures.made.updates.changed) c.cover_leaf-held.new.self c.cover_leaf-held.result.key c.cover_leaf-held.result.value c.cover_leaf-held.ensures.covers c.hang_leaf.ensures.capacity c.cover_leaf-held.ensures.capacity
+    cover_room c.args.self.now.nodes c.make-over.new.self c.hang_leaf.new.self c.args.key.now c.parting-place.result.place c.make-over.result c.parting-place.result.other c.args.below c.args.value c.args.at c.byte_at-up.result c.requires.tree c.requires.parts.way c.requires.parts.hangs c.byte_at-up.ensures c.parting-place.ensures.place c.parting-place.ensures.other c.make-over.ensures.made (c.hang_leaf.ensures.hangs c.make-over.ensures.made.node c.make-over.ensures.made.updates.changed) c.cover_leaf-held.new.self c.cover_leaf-held.result.key c.cover_leaf-held.result.value c.cover_leaf-held.ensures.covers c.hang_leaf.ensures.capacity c.cover_leaf-held.ensures.capacity
     (room_made c.args.self.now.nodes c.make-over.new.self c.make-over.result 1 _ c.make-over.ensures.made c.make-over.ensures.capacity c.requires.room)
 
 pub hang_leaf-requires-2-clause-begins : goal.hang_leaf-requires-2-clause-begins
 hang_leaf-requires-2-clause-begins g c =
     let len : length c.args.key.now ≡ 8 = search rules in
-    cover_begins c.args.self.now.nodes c.make-over.new.self c.hang_leaf.new.self c.args.key.now c.parting-place.result.place c.make-over.result c.parting-place.result.other c.args.below c.args.value c.args.at c.byte_at-up.result c.requires.tree c.requires.way c.requires.hangs c.byte_at-up.ensures c.parting-place.ensures.place c.parting-place.ensures.other c.make-over.ensures.made (c.hang_leaf.ensures.hangs c.make-over.ensures.made.node c.make-over.ensures.made.updates.changed) c.cover_leaf-held.new.self c.cover_leaf-held.result.key c.cover_leaf-held.result.value c.cover_leaf-held.ensures.covers len c.requires.differs
+    cover_begins c.args.self.now.nodes c.make-over.new.self c.hang_leaf.new.self c.args.key.now c.parting-place.result.place c.make-over.result c.parting-place.result.other c.args.below c.args.value c.args.at c.byte_at-up.result c.requires.tree c.requires.parts.way c.requires.parts.hangs c.byte_at-up.ensures c.parting-place.ensures.place c.parting-place.ensures.other c.make-over.ensures.made (c.hang_leaf.ensures.hangs c.make-over.ensures.made.node c.make-over.ensures.made.updates.changed) c.cover_leaf-held.new.self c.cover_leaf-held.result.key c.cover_leaf-held.result.value c.cover_leaf-held.ensures.covers len c.requires.parts.differs
 
-pub returns-clause-tree : goal.returns-clause-tree
-returns-clause-tree g c =
+pub returns : goal.returns
+returns g c =
     let len : length c.args.key.now ≡ 8 = search rules in
     let low : c.byte_at-up.result < 256 = search rules in
     let low_other : c.parting-place.result.other < 256 = search rules in
-    cover_tree c.args.self.now.nodes c.make-over.new.self c.hang_leaf.new.self c.args.key.now c.parting-place.result.place c.make-over.result c.parting-place.result.other c.args.below c.args.value c.args.at c.byte_at-up.result c.requires.tree c.requires.way c.requires.hangs c.byte_at-up.ensures c.parting-place.ensures.place c.parting-place.ensures.other c.make-over.ensures.made (c.hang_leaf.ensures.hangs c.make-over.ensures.made.node c.make-over.ensures.made.updates.changed) c.cover_leaf-held.new.self c.cover_leaf-held.result.key c.cover_leaf-held.result.value c.cover_leaf-held.ensures.covers len c.requires.differs c.hang_leaf-2.new.self c.make-over.ensures.own low low_other c.hang_leaf-2.ensures.hangs
-
-pub returns-clause-change : goal.returns-clause-change
-returns-clause-change g c =
-    let len : length c.args.key.now ≡ 8 = search rules in
-    let low : c.byte_at-up.result < 256 = search rules in
-    let low_other : c.parting-place.result.other < 256 = search rules in
-    cover_change c.args.self.now.nodes c.make-over.new.self c.hang_leaf.new.self c.args.key.now c.parting-place.result.place c.make-over.result c.parting-place.result.other c.args.below c.args.value c.args.at c.byte_at-up.result c.requires.tree c.requires.way c.requires.hangs c.byte_at-up.ensures c.parting-place.ensures.place c.parting-place.ensures.other c.make-over.ensures.made (c.hang_leaf.ensures.hangs c.make-over.ensures.made.node c.make-over.ensures.made.updates.changed) c.cover_leaf-held.new.self c.cover_leaf-held.result.key c.cover_leaf-held.result.value c.cover_leaf-held.ensures.covers len c.requires.differs c.hang_leaf-2.new.self c.make-over.ensures.own low low_other c.hang_leaf-2.ensures.hangs
-
-pub returns-clause-bytes : goal.returns-clause-bytes
-returns-clause-bytes g c =
-    let len : length c.args.key.now ≡ 8 = search rules in
-    let low : c.byte_at-up.result < 256 = search rules in
-    let low_other : c.parting-place.result.other < 256 = search rules in
-    let n = cover_bytes c.args.self.now.nodes c.make-over.new.self c.hang_leaf.new.self c.args.key.now c.parting-place.result.place c.make-over.result c.parting-place.result.other c.args.below c.args.value c.args.at c.byte_at-up.result c.requires.tree c.requires.way c.requires.hangs c.byte_at-up.ensures c.parting-place.ensures.place c.parting-place.ensures.other c.make-over.ensures.made (c.hang_leaf.ensures.hangs c.make-over.ensures.made.node c.make-over.ensures.made.updates.changed) c.cover_leaf-held.new.self c.cover_leaf-held.result.key c.cover_leaf-held.result.value c.cover_leaf-held.ensures.covers len c.requires.differs c.hang_leaf-2.new.self c.make-over.ensures.own low low_other c.hang_leaf-2.ensures.hangs in
-    omega (arith, n)
-
-pub returns-clause-filled : goal.returns-clause-filled
-returns-clause-filled g c =
-    let len : length c.args.key.now ≡ 8 = search rules in
-    let low : c.byte_at-up.result < 256 = search rules in
-    let low_other : c.parting-place.result.other < 256 = search rules in
-    cover_filled c.args.self.now.nodes c.make-over.new.self c.hang_leaf.new.self c.args.key.now c.parting-place.result.place c.make-over.result c.parting-place.result.other c.args.below c.args.value c.args.at c.byte_at-up.result c.requires.tree c.requires.way c.requires.hangs c.byte_at-up.ensures c.parting-place.ensures.place c.parting-place.ensures.other c.make-over.ensures.made (c.hang_leaf.ensures.hangs c.make-over.ensures.made.node c.make-over.ensures.made.updates.changed) c.cover_leaf-held.new.self c.cover_leaf-held.result.key c.cover_leaf-held.result.value c.cover_leaf-held.ensures.covers len c.requires.differs c.hang_leaf-2.new.self c.make-over.ensures.own low low_other c.hang_leaf-2.ensures.hangs
+    let bytes = cover_bytes c.args.self.now.nodes c.make-over.new.self c.hang_leaf.new.self c.args.key.now c.parting-place.result.place c.make-over.result c.parting-place.result.other c.args.below c.args.value c.args.at c.byte_at-up.result c.requires.tree c.requires.parts.way c.requires.parts.hangs c.byte_at-up.ensures c.parting-place.ensures.place c.parting-place.ensures.other c.make-over.ensures.made (c.hang_leaf.ensures.hangs c.make-over.ensures.made.node c.make-over.ensures.made.updates.changed) c.cover_leaf-held.new.self c.cover_leaf-held.result.key c.cover_leaf-held.result.value c.cover_leaf-held.ensures.covers len c.requires.parts.differs c.hang_leaf-2.new.self c.make-over.ensures.own low low_other c.hang_leaf-2.ensures.hangs in
+    record {
+      tree = cover_tree c.args.self.now.nodes c.make-over.new.self c.hang_leaf.new.self c.args.key.now c.parting-place.result.place c.make-over.result c.parting-place.result.other c.args.below c.args.value c.args.at c.byte_at-up.result c.requires.tree c.requires.parts.way c.requires.parts.hangs c.byte_at-up.ensures c.parting-place.ensures.place c.parting-place.ensures.other c.make-over.ensures.made (c.hang_leaf.ensures.hangs c.make-over.ensures.made.node c.make-over.ensures.made.updates.changed) c.cover_leaf-held.new.self c.cover_leaf-held.result.key c.cover_leaf-held.result.value c.cover_leaf-held.ensures.covers len c.requires.parts.differs c.hang_leaf-2.new.self c.make-over.ensures.own low low_other c.hang_leaf-2.ensures.hangs;
+      change = cover_change c.args.self.now.nodes c.make-over.new.self c.hang_leaf.new.self c.args.key.now c.parting-place.result.place c.make-over.result c.parting-place.result.other c.args.below c.args.value c.args.at c.byte_at-up.result c.requires.tree c.requires.parts.way c.requires.parts.hangs c.byte_at-up.ensures c.parting-place.ensures.place c.parting-place.ensures.other c.make-over.ensures.made (c.hang_leaf.ensures.hangs c.make-over.ensures.made.node c.make-over.ensures.made.updates.changed) c.cover_leaf-held.new.self c.cover_leaf-held.result.key c.cover_leaf-held.result.value c.cover_leaf-held.ensures.covers len c.requires.parts.differs c.hang_leaf-2.new.self c.make-over.ensures.own low low_other c.hang_leaf-2.ensures.hangs;
+      bytes = omega (arith, bytes);
+      filled = cover_filled c.args.self.now.nodes c.make-over.new.self c.hang_leaf.new.self c.args.key.now c.parting-place.result.place c.make-over.result c.parting-place.result.other c.args.below c.args.value c.args.at c.byte_at-up.result c.requires.tree c.requires.parts.way c.requires.parts.hangs c.byte_at-up.ensures c.parting-place.ensures.place c.parting-place.ensures.other c.make-over.ensures.made (c.hang_leaf.ensures.hangs c.make-over.ensures.made.node c.make-over.ensures.made.updates.changed) c.cover_leaf-held.new.self c.cover_leaf-held.result.key c.cover_leaf-held.result.value c.cover_leaf-held.ensures.covers len c.requires.parts.differs c.hang_leaf-2.new.self c.make-over.ensures.own low low_other c.hang_leaf-2.ensures.hangs;
+      allocator = refl;
+    }

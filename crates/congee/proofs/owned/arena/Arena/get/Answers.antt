@@ -1,14 +1,14 @@
 use Rattle.std.proofs.Common.{sym, ◌*◌}
 use Rattle.congee.specs.owned.Arena.{OnWay}
 use Rattle.congee.proofs.lemmas.owned.Answered.{at_held, at_free, at_apart}
-use Rattle.congee.proofs.lemmas.owned.Ways.{below_stands, falls, root_reached}
+use Rattle.congee.proofs.lemmas.owned.Ways.{below_stands, depth_falls, root_reached}
 use Rattle.congee.proofs.owned.arena.Arena.get.Goals as goal
 
 pub loop-value-init : goal.loop-value-init
 loop-value-init g c = (root_reached c.args.self.now.nodes c.args.key.now c.requires).way
 
 pub loop-value-smaller : goal.loop-value-smaller
-loop-value-smaller g c = falls c.args.self.now.nodes c.requires c.args.key.now (257 * c.loop-value.at) (257 * c.in-Below.below) c.loop-value.invariant.stands c.in-Below.ensures.0
+loop-value-smaller g c = depth_falls c.args.self.now.nodes c.requires c.args.key.now (257 * c.loop-value.at) (257 * c.in-Below.below) c.loop-value.invariant.stands c.in-Below.ensures.0
 
 pub loop-value-preserved : goal.loop-value-preserved
 loop-value-preserved g c = record {

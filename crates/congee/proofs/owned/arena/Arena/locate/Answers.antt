@@ -1,13 +1,13 @@
 use Rattle.std.proofs.Common.{◌*◌, ◌∙◌}
 use Rattle.congee.specs.declared.owned.place.Spot.TheVariants.{Held, Free, Apart}
-use Rattle.congee.proofs.lemmas.owned.Ways.{falls, located_at, root_reached, reached_below}
+use Rattle.congee.proofs.lemmas.owned.Ways.{depth_falls, located_at, root_reached, reached_below}
 use Rattle.congee.proofs.owned.arena.Arena.locate.Goals as goal
 
 pub loop-leaf-init : goal.loop-leaf-init
 loop-leaf-init g c = (root_reached c.args.self.now.nodes c.args.key.now c.requires, root_reached c.args.self.now.nodes c.args.key.now c.requires)
 
 pub loop-leaf-smaller : goal.loop-leaf-smaller
-loop-leaf-smaller g c = falls c.args.self.now.nodes c.requires c.args.key.now (257 * c.loop-leaf.at) (257 * c.in-Below.below) c.loop-leaf.invariant.1.way.stands c.in-Below.ensures.0
+loop-leaf-smaller g c = depth_falls c.args.self.now.nodes c.requires c.args.key.now (257 * c.loop-leaf.at) (257 * c.in-Below.below) c.loop-leaf.invariant.1.way.stands c.in-Below.ensures.0
 
 pub loop-leaf-preserved : goal.loop-leaf-preserved
 loop-leaf-preserved g c = (c.loop-leaf.invariant.1, reached_below c.args.self.now.nodes c.requires c.args.key.now (257 * c.loop-leaf.above) (257 * c.loop-leaf.at) (257 * c.in-Below.below) c.loop-leaf.invariant.1 c.in-Below.ensures.0 c.in-Below.ensures.1)

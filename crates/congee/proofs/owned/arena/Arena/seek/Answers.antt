@@ -5,9 +5,9 @@ use Rattle.congee.specs.forms.Forms.{prefix_of}
 use Rattle.congee.specs.owned.Arena.{heap_of}
 use Rattle.congee.specs.owned.Changes.{DiffersAt}
 use Rattle.congee.specs.owned.Cursor.{IsCursor, IsAt}
-use Rattle.congee.proofs.lemmas.owned.Standing.{standing, length_read}
-use Rattle.congee.proofs.lemmas.owned.Ways.{below_stands, falls, prefix_is}
-use Rattle.congee.proofs.lemmas.owned.Cursors.{Descends, IsByte, step, few_before, sets_out, goes_down, ends_free, ends_held, ends_before, ends_after, byte_read, child_read, pushed}
+use Rattle.congee.proofs.lemmas.owned.Standing.{standing_at, length_read}
+use Rattle.congee.proofs.lemmas.owned.Ways.{below_stands, depth_falls, prefix_is}
+use Rattle.congee.proofs.lemmas.owned.Cursors.{Descends, IsByte, branch_at, few_before, sets_out, goes_down, ends_free, ends_held, ends_before, ends_after, byte_read, child_read, pushed}
 use Rattle.congee.proofs.owned.arena.Arena.seek.Given.{Over}
 use Rattle.congee.proofs.owned.arena.Arena.seek.Goals.{After-prefix_len, then-other-bytes, else-other-bytes}
 use Rattle.congee.proofs.owned.arena.Arena.seek.Goals as goal
@@ -26,7 +26,7 @@ abbrev HasRoom : (g : Over) → After-prefix_len g → Type 0
 HasRoom g c = length c.loop-above.above.items < 8
 
 room : (g : Over) (c : After-prefix_len g) → HasRoom g c
-room g c = few_before c.args.self.now.nodes c.requires c.loop-above.above.items (step c.loop-above.at 0) c.loop-above.invariant.opens
+room g c = few_before c.args.self.now.nodes c.requires c.loop-above.above.items (branch_at c.loop-above.at 0) c.loop-above.invariant.opens
 
 pub push-requires : goal.push-requires
 push-requires g c = (omega arith, room g (goal.at.push-requires g c).After-prefix_len)
@@ -64,14 +64,14 @@ returns-in-Apart g c =
     let byte = here g (goal.at.returns-in-Apart g c).After-prefix_len in
     let below = child_read s at key c.bytes_of_key-bytes.result c.bytes_of_key-bytes.ensures.bytes (Below child) c.in-Apart.ensures.0 in
     let stands = below_stands s c.requires at child c.bytes_of_key-bytes.result c.loop-above.invariant.way.stands c.in-Apart.ensures.0 in
-    let lower = standing s child stands in
+    let lower = standing_at s child stands in
     let prefix = prefix_is s child lower.node lower.is in
     let apart = c.parting-place.result.place in
     let parts : DiffersAt (key_bytes key) (heap_of s child).prefix apart =
     subst (λ y. DiffersAt (key_bytes key) y apart) (sym prefix) (subst (λ y. DiffersAt y (prefix_of lower.node) apart) c.bytes_of_key-bytes.ensures.bytes (c.parting-place.ensures.place lower.node lower.is)) in
     let upper : get_or (heap_of s child).prefix apart 0 ≡ c.parting-place.result.other = ap (λ y. get_or y apart 0) prefix ∙ sym (c.parting-place.ensures.other lower.node lower.is) in
     let mine : get_or (key_bytes key) apart 0 ≡ get_or c.bytes_of_key-bytes.result apart 0 = ap (λ y. get_or y apart 0) (sym c.bytes_of_key-bytes.ensures.bytes) in
-    let both : IsCursor s (xs ++ step at c.if-other-bytes.from ∷ []) × IsAt s (xs ++ step at c.if-other-bytes.from ∷ []) key = elim c.if-other-bytes.branch [
+    let both : IsCursor s (xs ++ branch_at at c.if-other-bytes.from ∷ []) × IsAt s (xs ++ branch_at at c.if-other-bytes.from ∷ []) key = elim c.if-other-bytes.branch [
       | then-other-bytes w ↦ ends_after s c.requires xs at child key c.if-other-bytes.from apart c.bytes_of_key-bytes.ensures.small c.loop-above.invariant (omega (arith, byte.byte, w.from-is)) (omega (arith, byte.low, w.from-is)) below parts
           (omega (arith, upper, mine, w.if-other-bytes.true))
       | else-other-bytes w ↦ ends_before s c.requires xs at child key c.if-other-bytes.from apart c.bytes_of_key-bytes.ensures.small c.loop-above.invariant (omega (arith, byte.byte, w.from-is)) (omega (arith, byte.low, w.from-is)) below parts
@@ -84,7 +84,7 @@ pub loop-above-init : goal.loop-above-init
 loop-above-init g c = rw c.root-at.ensures (sets_out c.args.self.now.nodes c.requires c.new-above.result.items c.args.key c.new-above.ensures)
 
 pub loop-above-smaller : goal.loop-above-smaller
-loop-above-smaller g c = falls c.args.self.now.nodes c.requires c.bytes_of_key-bytes.result c.loop-above.at c.in-Below.below c.loop-above.invariant.way.stands c.in-Below.ensures.0
+loop-above-smaller g c = depth_falls c.args.self.now.nodes c.requires c.bytes_of_key-bytes.result c.loop-above.at c.in-Below.below c.loop-above.invariant.way.stands c.in-Below.ensures.0
 
 pub loop-above-preserved : goal.loop-above-preserved
 loop-above-preserved g c =

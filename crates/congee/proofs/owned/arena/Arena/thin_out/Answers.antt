@@ -101,8 +101,8 @@ returns-then-lesser g c =
           (subst (λ f. bytes_of c.lessen.new.self.nodes + size_of f ≡ bytes_of c.drop_leaf-value.new.self.nodes + size_of (form_below f)) (sym form) moved);
     }
 
-pub returns : goal.returns
-returns g c =
+pub returns-else-lesser : goal.returns-else-lesser
+returns-else-lesser g c =
     let s = c.args.self.now.nodes in
     let F = c.node_type-form.result in
     let n = c.len.result in

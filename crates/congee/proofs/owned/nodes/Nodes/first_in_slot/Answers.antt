@@ -34,11 +34,5 @@ returns-in-Some-default-Leaf-clause-leaf g c =
 pub returns-in-None-first_from-clause-first : goal.returns-in-None-first_from-clause-first
 returns-in-None-first_from-clause-first g c = λ x e. leaf_last c.self.inside.slab c.args.self.now c.self.view_is c.args.slot c.args.from c.index.result.now c.index.ensures x e c.in-Leaf.n c.in-Leaf.is c.in-None-first_from.ensures
 
-pub returns-in-Some-default-Blank-first_from-clause-first : goal.returns-in-Some-default-Blank-first_from-clause-first
-returns-in-Some-default-Blank-first_from-clause-first g c = λ x e. leaf_first c.self.inside.slab c.args.self.now c.self.view_is c.args.slot c.args.from c.index.result.now c.index.ensures x e c.in-Leaf.n c.in-Leaf.is c.in-Some-default-Blank-first_from.byte (Blank) (subst (λ k. IsFirst (children_of c.in-Leaf.n) c.args.from c.in-Some-default-Blank-first_from.byte k) c.in-Some-default-Blank-first_from.field-0-1-is c.in-Some-default-Blank-first_from.ensures)
-
-pub returns-in-Some-default-Node-first_from-clause-first : goal.returns-in-Some-default-Node-first_from-clause-first
-returns-in-Some-default-Node-first_from-clause-first g c = λ x e. subst (λ k. IsFirst (children_of x) c.args.from c.in-Some-default-Node-first_from.byte (Sub k)) (sym c.of-in-Some-default-Node-first_from.ensures) (leaf_first c.self.inside.slab c.args.self.now c.self.view_is c.args.slot c.args.from c.index.result.now c.index.ensures x e c.in-Leaf.n c.in-Leaf.is c.in-Some-default-Node-first_from.byte (Sub c.in-Some-default-Node-first_from.below) (subst (λ k. IsFirst (children_of c.in-Leaf.n) c.args.from c.in-Some-default-Node-first_from.byte k) c.in-Some-default-Node-first_from.field-0-1-is c.in-Some-default-Node-first_from.ensures))
-
-pub returns-in-Some-default-Value-clause-first : goal.returns-in-Some-default-Value-clause-first
-returns-in-Some-default-Value-clause-first g c = λ x e. leaf_first c.self.inside.slab c.args.self.now c.self.view_is c.args.slot c.args.from c.index.result.now c.index.ensures x e c.in-Leaf.n c.in-Leaf.is c.in-Some-default-Value.byte (Value c.in-Some-default-Value.value) (subst (λ k. IsFirst (children_of c.in-Leaf.n) c.args.from c.in-Some-default-Value.byte k) c.in-Some-default-Value.field-0-1-is c.in-Some-default-Value.ensures)
+pub returns-in-Some-clause-first : goal.returns-in-Some-clause-first
+returns-in-Some-clause-first g c = λ x e. leaf_first c.self.inside.slab c.args.self.now c.self.view_is c.args.slot c.args.from c.index.result.now c.index.ensures x e c.in-Leaf.n c.in-Leaf.is c.in-Some.byte (Value c.in-Some.value.now) c.in-Some.ensures

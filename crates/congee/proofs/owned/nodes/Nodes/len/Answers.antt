@@ -22,7 +22,7 @@ some_of f None h = h
 some_of f (Some x) h = refl
 
 -- what is seen in a slot's node hangs at bytes
-seen_bytes : {P : Type 0} (i : ℕ) (x : Slot P) → HasLowBytes x → (b : ℕ) → IsSome (map.get (children_of (slot_node i x)) b) → b < 256
+seen_bytes : {P K : Type 0} (i : ℕ) (x : Slot P K) → HasLowBytes x → (b : ℕ) → IsSome (map.get (children_of (slot_node i x)) b) → b < 256
 seen_bytes i (Inner n) low b h =
     let f = inner_child i in
     low b (some_of (f b) (map.get (children_of n) b) (subst IsSome (ap (λ m. map.get m b) (with_mapped f n) ∙ get_mapped f (children_of n) b) h))

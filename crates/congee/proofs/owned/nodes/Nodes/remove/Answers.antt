@@ -1,12 +1,8 @@
-use denote.Param.{layout}
-use Rattle.std.specs.Borrow.{usize as word}
-use Rattle.std.proofs.Common.{rules}
-use Rattle.congee.specs.forms.Room.{IsSmall}
-use Rattle.congee.specs.forms.RoomLemmas.{node16_fits, node48_fits, node256_fits}
 use Rattle.congee.proofs.lemmas.owned.SlotComes.{leaves_stored, leaves_done}
 use Rattle.congee.proofs.lemmas.owned.SlotLeaves.{leaf_slot}
 use Rattle.congee.proofs.lemmas.owned.SlotOps.{same_view_room}
 use Rattle.congee.specs.owned.EntryRoom.{places16_fits, places48_fits, places256_fits}
+use Rattle.congee.specs.owned.ValueRoom.{values16_fits, values48_fits, values256_fits}
 use Rattle.congee.proofs.owned.nodes.Nodes.remove.Goals as goal
 
 pub remove-requires : goal.remove-requires
@@ -31,10 +27,10 @@ pub drop-requires-3-room-T-Destruct : goal.drop-requires-3-room-T-Destruct
 drop-requires-3-room-T-Destruct g c κs within = places256_fits g.row.P g.met.P.Small.small
 
 pub drop-requires-4-room-T-Destruct : goal.drop-requires-4-room-T-Destruct
-drop-requires-4-room-T-Destruct g c κs within = let us : IsSmall (layout word) = search rules in node16_fits word g.row.P us g.met.P.Small.small
+drop-requires-4-room-T-Destruct g c κs within = values16_fits g.row.P-Kept g.met.P.Kept.Small.small
 
 pub drop-requires-5-room-T-Destruct : goal.drop-requires-5-room-T-Destruct
-drop-requires-5-room-T-Destruct g c κs within = let us : IsSmall (layout word) = search rules in node48_fits word g.row.P us g.met.P.Small.small
+drop-requires-5-room-T-Destruct g c κs within = values48_fits g.row.P-Kept g.met.P.Kept.Small.small
 
 pub drop-requires-6-room-T-Destruct : goal.drop-requires-6-room-T-Destruct
-drop-requires-6-room-T-Destruct g c κs within = let us : IsSmall (layout word) = search rules in node256_fits word g.row.P us g.met.P.Small.small
+drop-requires-6-room-T-Destruct g c κs within = values256_fits g.row.P-Kept g.met.P.Kept.Small.small

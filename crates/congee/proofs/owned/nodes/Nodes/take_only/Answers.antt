@@ -1,13 +1,10 @@
-use denote.Param.{layout}
-use Rattle.std.specs.Borrow.{usize as word}
-use Rattle.std.proofs.Common.{rules, subst}
-use Rattle.congee.specs.forms.Room.{IsSmall}
-use Rattle.congee.specs.forms.RoomLemmas.{node16_fits, node48_fits, node256_fits}
+use Rattle.std.proofs.Common.{subst}
 use Rattle.congee.proofs.lemmas.owned.SlotOps.{has_slot, slot_inner, same_view_room}
 use Rattle.congee.proofs.lemmas.owned.Takings.{lone_some, lone_stored, no_lone, only_len, plain_stored, take_gives}
 use Rattle.congee.specs.owned.Lifting.{GivesOnly}
 use Rattle.congee.specs.owned.Slots.{nodes_in}
 use Rattle.congee.specs.owned.EntryRoom.{places16_fits, places48_fits, places256_fits}
+use Rattle.congee.specs.owned.ValueRoom.{values16_fits, values48_fits, values256_fits}
 use Rattle.congee.proofs.owned.nodes.Nodes.take_only.Goals as goal
 
 pub remove-node-requires : goal.remove-node-requires
@@ -50,13 +47,13 @@ pub drop-requires-in-Value-3-room-T-Destruct : goal.drop-requires-in-Value-3-roo
 drop-requires-in-Value-3-room-T-Destruct g c κs within = places256_fits g.row.P g.met.P.Small.small
 
 pub drop-requires-in-Value-4-room-T-Destruct : goal.drop-requires-in-Value-4-room-T-Destruct
-drop-requires-in-Value-4-room-T-Destruct g c κs within = let us : IsSmall (layout word) = search rules in node16_fits word g.row.P us g.met.P.Small.small
+drop-requires-in-Value-4-room-T-Destruct g c κs within = values16_fits g.row.P-Kept g.met.P.Kept.Small.small
 
 pub drop-requires-in-Value-5-room-T-Destruct : goal.drop-requires-in-Value-5-room-T-Destruct
-drop-requires-in-Value-5-room-T-Destruct g c κs within = let us : IsSmall (layout word) = search rules in node48_fits word g.row.P us g.met.P.Small.small
+drop-requires-in-Value-5-room-T-Destruct g c κs within = values48_fits g.row.P-Kept g.met.P.Kept.Small.small
 
 pub drop-requires-in-Value-6-room-T-Destruct : goal.drop-requires-in-Value-6-room-T-Destruct
-drop-requires-in-Value-6-room-T-Destruct g c κs within = let us : IsSmall (layout word) = search rules in node256_fits word g.row.P us g.met.P.Small.small
+drop-requires-in-Value-6-room-T-Destruct g c κs within = values256_fits g.row.P-Kept g.met.P.Kept.Small.small
 
 pub drop-requires-in_default-room-T-Destruct : goal.drop-requires-in_default-room-T-Destruct
 drop-requires-in_default-room-T-Destruct g c κs within = places16_fits g.row.P g.met.P.Small.small
@@ -68,10 +65,10 @@ pub drop-requires-in_default-3-room-T-Destruct : goal.drop-requires-in_default-3
 drop-requires-in_default-3-room-T-Destruct g c κs within = places256_fits g.row.P g.met.P.Small.small
 
 pub drop-requires-in_default-4-room-T-Destruct : goal.drop-requires-in_default-4-room-T-Destruct
-drop-requires-in_default-4-room-T-Destruct g c κs within = let us : IsSmall (layout word) = search rules in node16_fits word g.row.P us g.met.P.Small.small
+drop-requires-in_default-4-room-T-Destruct g c κs within = values16_fits g.row.P-Kept g.met.P.Kept.Small.small
 
 pub drop-requires-in_default-5-room-T-Destruct : goal.drop-requires-in_default-5-room-T-Destruct
-drop-requires-in_default-5-room-T-Destruct g c κs within = let us : IsSmall (layout word) = search rules in node48_fits word g.row.P us g.met.P.Small.small
+drop-requires-in_default-5-room-T-Destruct g c κs within = values48_fits g.row.P-Kept g.met.P.Kept.Small.small
 
 pub drop-requires-in_default-6-room-T-Destruct : goal.drop-requires-in_default-6-room-T-Destruct
-drop-requires-in_default-6-room-T-Destruct g c κs within = let us : IsSmall (layout word) = search rules in node256_fits word g.row.P us g.met.P.Small.small
+drop-requires-in_default-6-room-T-Destruct g c κs within = values256_fits g.row.P-Kept g.met.P.Kept.Small.small

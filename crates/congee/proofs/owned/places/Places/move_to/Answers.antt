@@ -3,7 +3,7 @@ use Rattle.congee.specs.forms.Bytes.{IsFirst}
 use Rattle.congee.specs.forms.Forms.{capacity_of}
 use Rattle.congee.specs.owned.Entries.{entries_in}
 use Rattle.congee.proofs.lemmas.forms.MoveLemmas.{HavePoured, none_poured, one_poured, room_poured, all_poured}
-use Rattle.congee.proofs.lemmas.owned.Refilling.{has_room}
+use Rattle.congee.proofs.lemmas.owned.Refilling.{full_in_room}
 use Rattle.congee.specs.owned.EntryRoom.{places_fits}
 use Rattle.congee.proofs.owned.places.Places.move_to.Goals as goal
 
@@ -17,7 +17,7 @@ pub insert-requires : goal.insert-requires
 insert-requires g c =
     let first : IsFirst (entries_in c.loop-byte.self) c.loop-byte.from c.in-Some.byte c.change-entry.result = record { past = c.in-Some.ensures.past; here = c.change-entry.ensures.before; before = c.in-Some.ensures.before } in
     let less = room_poured c.loop-byte.invariant.entries first in
-    (places_fits g.row.P g.met.P.Small.small, (c.loop-byte.invariant.entries.moves.free c.in-Some.byte c.in-Some.ensures.past, has_room c.loop-byte.other (omega (arith, less, c.requires.room, ap capacity_of c.loop-byte.invariant.moved_form))))
+    (places_fits g.row.P g.met.P.Small.small, (c.loop-byte.invariant.entries.moves.free c.in-Some.byte c.in-Some.ensures.past, full_in_room c.loop-byte.other (omega (arith, less, c.requires.room, ap capacity_of c.loop-byte.invariant.moved_form))))
 
 pub loop-byte-preserved : goal.loop-byte-preserved
 loop-byte-preserved g c =

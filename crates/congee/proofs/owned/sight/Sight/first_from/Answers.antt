@@ -46,20 +46,10 @@ returns-in-Some-default-Leaf-clause-leaf g c = λ s at seen.
 pub returns-in-None-first_from-clause-first : goal.returns-in-None-first_from-clause-first
 returns-in-None-first_from-clause-first g c = λ s at x seen e. leaf_last s at c.args.from x e c.in-Leaf.least c.in-Leaf.n.now (subst (Sees s at) c.in-Leaf.is seen) c.in-None-first_from.ensures
 
-pub returns-in-Some-default-Blank-first_from-clause-first : goal.returns-in-Some-default-Blank-first_from-clause-first
-returns-in-Some-default-Blank-first_from-clause-first g c = λ s at x seen e. leaf_first s at c.args.from x e c.in-Leaf.least c.in-Leaf.n.now (subst (Sees s at) c.in-Leaf.is seen) c.in-Some-default-Blank-first_from.byte Blank
-    (subst (λ k. IsFirst (children_of c.in-Leaf.n.now) c.args.from c.in-Some-default-Blank-first_from.byte k) c.in-Some-default-Blank-first_from.field-0-1-is c.in-Some-default-Blank-first_from.ensures)
+pub returns-in-Some-clause-first : goal.returns-in-Some-clause-first
+returns-in-Some-clause-first g c = λ s at x seen e. leaf_first s at c.args.from x e c.in-Leaf.least c.in-Leaf.n.now (subst (Sees s at) c.in-Leaf.is seen) c.in-Some.byte (Value c.in-Some.value.now) c.in-Some.ensures
 
-pub returns-in-Some-default-Node-first_from-clause-first : goal.returns-in-Some-default-Node-first_from-clause-first
-returns-in-Some-default-Node-first_from-clause-first g c = λ s at x seen e. subst (λ k. IsFirst (children_of x) c.args.from c.in-Some-default-Node-first_from.byte (Sub k)) (sym c.of-in-Some-default-Node-first_from.ensures)
-    (leaf_first s at c.args.from x e c.in-Leaf.least c.in-Leaf.n.now (subst (Sees s at) c.in-Leaf.is seen) c.in-Some-default-Node-first_from.byte (Sub c.in-Some-default-Node-first_from.below)
-    (subst (λ k. IsFirst (children_of c.in-Leaf.n.now) c.args.from c.in-Some-default-Node-first_from.byte k) c.in-Some-default-Node-first_from.field-0-1-is c.in-Some-default-Node-first_from.ensures))
-
-pub returns-in-Some-default-Value-clause-first : goal.returns-in-Some-default-Value-clause-first
-returns-in-Some-default-Value-clause-first g c = λ s at x seen e. leaf_first s at c.args.from x e c.in-Leaf.least c.in-Leaf.n.now (subst (Sees s at) c.in-Leaf.is seen) c.in-Some-default-Value.byte (Value c.in-Some-default-Value.value)
-    (subst (λ k. IsFirst (children_of c.in-Leaf.n.now) c.args.from c.in-Some-default-Value.byte k) c.in-Some-default-Value.field-0-1-is c.in-Some-default-Value.ensures)
-
-pub returns-in-Some-default-Value-clause-key : goal.returns-in-Some-default-Value-clause-key
-returns-in-Some-default-Value-clause-key g c = λ s at seen.
-    let low : c.in-Some-default-Value.byte < 256 = search rules in
-    leaf_key s at c.in-Leaf.least c.in-Some-default-Value.byte _ c.in-Leaf.n.now (subst (Sees s at) c.in-Leaf.is seen) low refl
+pub returns-in-Some-clause-key : goal.returns-in-Some-clause-key
+returns-in-Some-clause-key g c = λ s at seen.
+    let low : c.in-Some.byte < 256 = search rules in
+    leaf_key s at c.in-Leaf.least c.in-Some.byte _ c.in-Leaf.n.now (subst (Sees s at) c.in-Leaf.is seen) low refl

@@ -8,9 +8,9 @@ use Rattle.congee.specs.owned.Sights.{HasKey, HasLeaf, child_of}
 use Rattle.congee.specs.owned.Writes.{WritesNode}
 use Rattle.congee.proofs.lemmas.owned.Cursors.{child_there, nothing_blank}
 use Rattle.congee.proofs.lemmas.owned.Rows.{entry_below, entry_filled, entry_last, entry_leaf, entry_node, list_end, list_hangs, list_on, list_wrote, pair_fills, wrote_byte}
-use Rattle.congee.proofs.lemmas.owned.Standing.{standing}
+use Rattle.congee.proofs.lemmas.owned.Standing.{standing_at}
 use Rattle.congee.proofs.lemmas.owned.Surveys.{child_stands}
-use Rattle.congee.proofs.lemmas.owned.Writings.{Wrote, ends_fills, ends_writes, filled_fills, goes_on, wrote_all, wrote_leaf, wrote_node, wrote_value}
+use Rattle.congee.proofs.lemmas.owned.Writings.{Wrote, ends_fills, ends_writes, filled_fills, so_far_on, wrote_all, wrote_leaf, wrote_node, wrote_value}
 use Rattle.congee.proofs.owned.writing.Nodes+u64.+writing.Goals as goal
 use Rattle.congee.proofs.owned.writing.Nodes+u64.+writing.Goals.{write_seen-in-Value, write_seen-in-Leaf, write_seen-in-Node}
 
@@ -26,14 +26,14 @@ write_from-returns-in-Few-clause-pairs g t c =
 pub write_seen-unreachable-requires : goal.write_seen-unreachable-requires
 write_seen-unreachable-requires g t c =
     let s = c.args.self.now in
-    let x = standing s c.args.at c.requires.stands in
+    let x = standing_at s c.args.at c.requires.stands in
     nothing_blank s c.requires.tree c.args.at c.in-Some.byte c.requires.stands
     (child_there s c.args.at c.in-Some.byte x.node _ _ x.is (c.in-Some.ensures.first s c.args.at x.node c.sight-sight.ensures x.is).here (ap child_of c.in-Blank.is))
 
 pub write_seen-write_from-written-requires : goal.write_seen-write_from-written-requires
 write_seen-write_from-written-requires g t c κs within =
     let s = c.args.self.now in
-    let x = standing s c.args.at c.requires.stands in
+    let x = standing_at s c.args.at c.requires.stands in
     let below = child_stands s c.args.at x.node c.loop-byte.from c.in-Some.byte (child_of c.in-Some.child) c.in-Node.below c.requires.tree c.requires.stands x.is (c.in-Some.ensures.first s c.args.at x.node c.sight-sight.ensures x.is) (ap child_of c.in-Node.is) in
     let smaller : 8 * (8 - length (heap_of s c.in-Node.below).prefix) + 6 < 8 * (8 - length (heap_of s c.args.at).prefix) + 5 = omega (arith, below.1.0, below.1.1) in
     (search rules, (within, (c.requires.tree, (below.0, c.loop-byte.invariant.filled.within))))
@@ -111,7 +111,7 @@ write_seen-loop-byte-preserved g t c =
           (λ x e. subst (λ y. IsFirst (children_of x) c.loop-byte.from c.in-Some.byte (child_of y)) w.in-Node.is (c.in-Some.ensures.first s c.args.at x c.sight-sight.ensures e))
           w.write_from-written.new.out w.write_from-written.result w.write_from-written.ensures.fills w.write_from-written.ensures.pairs)
     ] in
-    goes_on s entry c.args.last c.requires.tree c.args.at c.args.from c.args.count c.args.out.now c.in-Some.byte c.match-child.out c.match-child.written did c.if-written.false
+    so_far_on s entry c.args.last c.requires.tree c.args.at c.args.from c.args.count c.args.out.now c.in-Some.byte c.match-child.out c.match-child.written did c.if-written.false
 
 pub write_seen-returns-clause-pairs : goal.write_seen-returns-clause-pairs
 write_seen-returns-clause-pairs g t c =
@@ -196,7 +196,7 @@ write_wide-loop-here-preserved g t c =
     let did = wrote_byte c.args.self.now g.E.Listed.entry c.args.last c.requires.tree (257 * c.args.stem.slot) c.args.from c.args.count c.args.out.now c.loop-here.from c.loop-here.count c.loop-here.out c.loop-here.invariant
     c.in-Some.here c.write_wide_entry-written.new.out c.write_wide_entry-written.result c.write_wide_entry-written.ensures.fills
     (c.write_wide_entry-written.ensures.pairs (record { entries = c.args.form.now; sees = c.requires.sees; from = c.loop-here.from; byte = c.in-Some.here; low = search rules; first = c.in-Some.ensures })) in
-    goes_on c.args.self.now g.E.Listed.entry c.args.last c.requires.tree (257 * c.args.stem.slot) c.args.from c.args.count c.args.out.now c.in-Some.here c.write_wide_entry-written.new.out c.write_wide_entry-written.result did c.if-written.false
+    so_far_on c.args.self.now g.E.Listed.entry c.args.last c.requires.tree (257 * c.args.stem.slot) c.args.from c.args.count c.args.out.now c.in-Some.here c.write_wide_entry-written.new.out c.write_wide_entry-written.result did c.if-written.false
 
 pub write_wide-returns-clause-pairs : goal.write_wide-returns-clause-pairs
 write_wide-returns-clause-pairs g t c =

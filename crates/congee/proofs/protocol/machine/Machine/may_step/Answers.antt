@@ -1,4 +1,4 @@
-use Rattle.congee.proofs.lemmas.protocol.Turns.{may_step}
+use Rattle.congee.proofs.lemmas.protocol.ManyCalls.{may_step}
 use Rattle.congee.proofs.protocol.machine.Machine.may_step.Goals as goal
 
 pub returns : goal.returns

@@ -2,7 +2,7 @@ use Rattle.std.proofs.Common.{◌≡◌, ap, ◌∙◌, sym, subst}
 use Rattle.congee.specs.declared.protocol.machine.Machine.{Machine}
 use Rattle.congee.specs.protocol.Play.{IsOfRange, begun, flight, range_of}
 use Rattle.congee.proofs.lemmas.protocol.Opening.{opening_one, opening_more}
-use Rattle.congee.proofs.lemmas.protocol.SweepRanges.{of_range}
+use Rattle.congee.proofs.lemmas.protocol.ScanRanges.{of_range}
 use Rattle.congee.proofs.protocol.machine.Machine.new.Goals as goal
 
 pub returns-clause-scan : goal.returns-clause-scan

@@ -1,12 +1,12 @@
 use Rattle.std.proofs.Common.{ap, arith}
-use Rattle.crossbeam_epoch.proofs.lemmas.face.Guards.{guarded, looked_with, read_under}
+use Rattle.crossbeam_epoch.proofs.lemmas.face.Guards.{with_guards_pinned, looked_with, read_under}
 use Rattle.crossbeam_epoch.proofs.face.handle.LocalHandle.look.Goals as goal
 
 pub invariant_of-self : goal.invariant_of-self
 invariant_of-self g c = let i = c.self.invariant in (c.look-epoch.ensures.of, i.1, looked_with c.self.inside.guards _ _ _ _ _ _ _ _ i.2 c.look-epoch.ensures.view)
 
 pub returns-clause-word : goal.returns-clause-word
-returns-clause-word g c = guarded c.self.inside.guards _ _ _ _ _ _ (looked_with c.self.inside.guards _ _ _ _ _ _ _ _ c.self.invariant.2 c.look-epoch.ensures.view)
+returns-clause-word g c = with_guards_pinned c.self.inside.guards _ _ _ _ _ _ (looked_with c.self.inside.guards _ _ _ _ _ _ _ _ c.self.invariant.2 c.look-epoch.ensures.view)
 
 pub returns-clause-read : goal.returns-clause-read
 returns-clause-read g c out =

@@ -1,5 +1,5 @@
 use Rattle.std.proofs.Common.{ap, arith, refl}
-use Rattle.crossbeam_epoch.proofs.lemmas.face.Guards.{guarded, pinned_with, where_alone}
+use Rattle.crossbeam_epoch.proofs.lemmas.face.Guards.{with_guards_pinned, pinned_with, where_alone}
 use Rattle.crossbeam_epoch.proofs.face.handle.LocalHandle.repin_after.Goals as goal
 
 pub invariant_of-self : goal.invariant_of-self
@@ -12,4 +12,4 @@ returns-clause-epoch g c = let out = c.owns.ensures.out c.if-not-owns.false in l
 
 pub returns-clause-word : goal.returns-clause-word
 returns-clause-word g c = let out = c.owns.ensures.out c.if-not-owns.false in let is = ap (λ h. h.guards) c.self.view_is in
-    guarded c.self.inside.guards _ _ _ _ _ _ (pinned_with c.self.inside.guards _ _ _ _ (omega (arith, out, is)) c.pin-self-inside.ensures.view)
+    with_guards_pinned c.self.inside.guards _ _ _ _ _ _ (pinned_with c.self.inside.guards _ _ _ _ (omega (arith, out, is)) c.pin-self-inside.ensures.view)

@@ -7,8 +7,8 @@ use Rattle.joint.proofs.nodes.slot.Slot.move_to.Goals as goal
 
 pub move_to-requires : goal.move_to-requires
 move_to-requires g c =
-    let empty = empty_in c.args.greater.now c.in-Some-node.greater c.in-Some-node.is c.requires.room.empty in
-    let room = room_in c.args.self.now c.args.greater.now c.in-Some.node c.in-Some-node.greater c.in-Some.is c.in-Some-node.is c.requires.room.room in
+    let empty = empty_in c.args.other.now c.in-Some-node.other c.in-Some-node.is c.requires.room.empty in
+    let room = room_in c.args.self.now c.args.other.now c.in-Some.node c.in-Some-node.other c.in-Some.is c.in-Some-node.is c.requires.room.room in
     let alike = alike_in c.args.self.now c.in-Some.node c.in-Some.is c.requires.room.alike in
     let solid = solid_in c.args.self.now c.in-Some.node c.in-Some.is c.requires.whole in (
       any_node_fits the_row g.row.P small_id g.met.P.Small.small,
@@ -22,5 +22,5 @@ move_to-requires g c =
     )
 
 pub returns : goal.returns
-returns g c = hands_slots c.args.self.now c.args.greater.now c.in-Some.node c.in-Some-node.greater c.move_to.new.node c.move_to.new.greater c.in-Some.is c.in-Some-node.is c.requires.whole
+returns g c = hands_slots c.args.self.now c.args.other.now c.in-Some.node c.in-Some-node.other c.move_to.new.node c.move_to.new.other c.in-Some.is c.in-Some-node.is c.requires.whole
     (rw (c.deref_mut.ensures.value, c.deref_mut-in-Some-node.ensures.value) at c.move_to.ensures.moved) (rw c.deref_mut.ensures.value at c.move_to.ensures.left)

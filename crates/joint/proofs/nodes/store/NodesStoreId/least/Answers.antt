@@ -1,6 +1,6 @@
 use Rattle.std.proofs.Common.{subst, sym, ◌∙◌}
 use Rattle.congee.specs.forms.RoomLemmas.{any_node_fits}
-use Rattle.congee.specs.protocol.SweepEvents.{LeastGives}
+use Rattle.congee.specs.protocol.ScanEvents.{LeastGives}
 use Rattle.joint.specs.contracts.id.Id.{the_row}
 use Rattle.joint.specs.nodes.View.{id_number}
 use Rattle.joint.specs.nodes.RoomLemmas.{small_id}

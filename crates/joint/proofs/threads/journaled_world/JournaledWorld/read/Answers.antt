@@ -1,6 +1,6 @@
 use Rattle.std.proofs.Common.{rules, ◌≡◌, arith, sym, ◌∙◌}
 use Rattle.std.specs.Prelude.{None, nat_eq, false, true}
-use Rattle.joint.specs.Asked.{changes}
+use Rattle.joint.specs.Changes.{changes}
 use Rattle.joint.proofs.lemmas.threads.Holding.{step_tells}
 use Rattle.joint.proofs.lemmas.threads.WritingStep.{read_count}
 use Rattle.joint.proofs.threads.journaled_world.JournaledWorld.read.Goals as goal
