@@ -36,15 +36,15 @@ module _ {P : Type 0} where
   -- the entries by their bytes
   abbrev pub entries_in : Places P → FinMap nat_cmp (Entry P)
   entries_in (N4 n) = n
-  entries_in (N16 n) = n.value.children
-  entries_in (N48 n) = n.value.children
+  entries_in (N16 n) = n
+  entries_in (N48 n) = n
   entries_in (N256 n) = n.value.children
 
   -- no further child fits. A node of 256 is never full
   abbrev pub full_in : Places P → Bool
   full_in (N4 n) = len n == 4
-  full_in (N16 n) = len n.value.children == 16
-  full_in (N48 n) = len n.value.children == 48
+  full_in (N16 n) = len n == 16
+  full_in (N48 n) = len n == 48
   full_in (N256 n) = false
 
   -- the entries alone change

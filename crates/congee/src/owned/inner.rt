@@ -220,8 +220,8 @@ impl<P: Small> Inner<P> {
     {
         match &self.places {
             Places::N4(n) => Row::Few(n.children_from(from)),
-            Places::N16(n) => Row::Few(n.children.children_from(from)),
-            Places::N48(n) => Row::Few(n.children.children_from(from)),
+            Places::N16(n) => Row::Few(n.children_from(from)),
+            Places::N48(n) => Row::Few(n.children_from(from)),
             Places::N256(n) => Row::Wide(&n.children),
         }
     }

@@ -1,0 +1,6 @@
+use Rattle.std.proofs.Common.{subst}
+use Rattle.congee.specs.forms.Bytes.{Lists}
+use Rattle.congee.proofs.owned.places.Places48.children_from.Goals as goal
+
+pub returns : goal.returns
+returns g c = subst (λ m. Lists m c.args.from c.children_after.result.now) c.self.view_is c.children_after.ensures
