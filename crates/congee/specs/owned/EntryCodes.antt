@@ -36,8 +36,9 @@ module _ {P : Type 0} where
   entry_same (Leaf u w) Blank e = absurd (cc e)
   entry_same (Leaf u w) (Node s) e = absurd (cc e)
   entry_same (Leaf u w) (Leaf t v) e =
-      let b : u.bytes ≡ t.bytes = cc e in
-      let q : w ≡ v = cc e in
+      let p : (u.bytes, w) ≡ (t.bytes, v) = cc e in
+      let b : u.bytes ≡ t.bytes = ap (λ (q : List ℕ × P). q.0) p in
+      let q : w ≡ v = ap (λ (q : List ℕ × P). q.1) p in
       λ i. Leaf (tail_same u t b i) (q i)
 
   -- an entry is told by its parts
