@@ -22,7 +22,7 @@ abbrev pub boxed_ty : Ty → Ty
 boxed_ty τ = ty_struct [] (tcons τ tnil)
 
 -- bytes in their order, beside a box
-abbrev pub beside_ty : ℕ → Ty
+abbrev beside_ty : ℕ → Ty
 beside_ty n = ty_struct [] (tcons (ranks_ty n) (tcons ty_ptr tnil))
 
 -- the least form inline, bytes beside a box, or a box
@@ -32,12 +32,6 @@ places_ty τ = ty_enum [] (ttcons (tcons (sorted_ty 4 τ) tnil) (ttcons (tcons (
 -- the least form inline, or a box
 abbrev pub forms_ty : Ty → Ty
 forms_ty τ = ty_enum [] (ttcons (tcons (sorted_ty 4 τ) tnil) (ttcons (tcons ty_ptr tnil) (ttcons (tcons ty_ptr tnil) (ttcons (tcons ty_ptr tnil) ttnil))))
-
--- few bytes beside a box are few
-pub beside : (n : ℕ) → n ≤ 48 → FitsIn (beside_ty n) 400000000
-beside n l =
-    let w = struct (field (struct (field (array n byte) (field word no_fields))) (field pointer no_fields)) in
-    record { bytes = omega (arith, w.bytes); aligned = w.aligned }
 
 module _ {τ : Ty} (thing : FitsIn τ 1000000) where
   things : (n m : ℕ) → n * 1000000 + 655360 ≤ m → FitsIn (array_vec_ty τ n) m

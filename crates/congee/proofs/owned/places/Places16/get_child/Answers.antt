@@ -1,6 +1,4 @@
-use Rattle.std.proofs.Common.{ap, ◌∙◌}
-use Rattle.std.specs.FinMap as map
 use Rattle.congee.proofs.owned.places.Places16.get_child.Goals as goal
 
 pub returns : goal.returns
-returns g c = c.child_of.ensures ∙ ap (λ m. map.get m c.args.byte) c.self.view_is
+returns g c = cc (c.child_of.ensures, c.deref.ensures, c.self.view_is)
