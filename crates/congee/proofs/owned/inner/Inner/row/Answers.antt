@@ -14,4 +14,4 @@ pub returns-in-N48 : goal.returns-in-N48
 returns-in-N48 g c = (c.in-N48.n, subst (λ p. AreEntries c.args.self.now (entries_in p)) c.in-N48.is (row_at c.self.inside.prefix c.self.inside.places c.args.self.now c.self.view_is), c.children_from-in-N48.ensures)
 
 pub returns-in-N256 : goal.returns-in-N256
-returns-in-N256 g c = rw c.deref-in-N256.ensures (subst (λ p. AreEntries c.args.self.now (entries_in p)) c.in-N256.is (row_at c.self.inside.prefix c.self.inside.places c.args.self.now c.self.view_is))
+returns-in-N256 g c = rw c.deref.ensures (subst (λ p. AreEntries c.args.self.now (entries_in p)) c.in-N256.is (row_at c.self.inside.prefix c.self.inside.places c.args.self.now c.self.view_is))
