@@ -32,8 +32,6 @@ MINUTES = 150
 LEFT = 60
 # How many steps of niceness what isn't a proof gives way.
 BEHIND = 2
-# For how many seconds after a proof no edit begins: what an earlier run proved is told sooner, and the proof above it comes first.
-AFTER = 60
 
 
 def load(path):
@@ -70,7 +68,7 @@ def in_lanes(tasks, rt):
     rank = lambda it: (not is_proof(it), -(behind[it] if is_proof(it) else crates.index(it[0])), it[1] != "tests")
     left = sorted(tasks, key=rank)
     lanes, memory, running, given = rt.processors(), 0.85 * rt.free(), {}, {}
-    most, begun = (lanes + 1, 2 * lanes), 0
+    most = lanes + 1, 2 * lanes
     with getattr(rt, "ending", contextlib.nullcontext)(), ThreadPoolExecutor(4 * lanes) as pool:
         while left or running:
             # whether a proof waits for memory alone: then no edit takes it
@@ -84,16 +82,14 @@ def in_lanes(tasks, rt):
                 # what has no lines ends at once
                 jobs = PROCESSORS.get(key[1], 1) if lines or not is_proof(key) else 0
                 jobs = max(jobs, lanes - busy) if key[1] == "seed" else jobs
-                is_next = busy < most[key[1] == "seed"] and not is_starved and time.monotonic() >= begun + AFTER
-                is_free = held + needs <= memory and (is_proof(key) or is_next)
+                is_free = held + needs <= memory and (is_proof(key) or busy < most[key[1] == "seed"] and not is_starved)
                 if running and jobs and not is_free:
                     is_starved = is_starved or is_proof(key)
                     continue
                 left.remove(key)
                 steps = 0 if is_proof(key) else BEHIND
-                begun = time.monotonic() if is_proof(key) else begun
                 running[pool.submit(begin, call, given, max(1, jobs), steps)] = key, needs, jobs
-            for it in wait(running, AFTER, FIRST_COMPLETED).done:
+            for it in wait(running, return_when=FIRST_COMPLETED).done:
                 given[running.pop(it)[0]] = it.result()
     return given
 
