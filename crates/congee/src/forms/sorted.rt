@@ -26,7 +26,11 @@ impl<const N: usize> Ranks<N> {
 
     /// The child of the least byte from `from` on.
     #[inline(always)]
-    pub(crate) fn first_child<'a, X>(&self, children: &'a ArrayVec<X, N>, from: usize) -> Option<(u8, &'a X)>
+    pub(crate) fn first_child<'a, X>(
+        &self,
+        children: &'a ArrayVec<X, N>,
+        from: usize,
+    ) -> Option<(u8, &'a X)>
         requires { IsSorted self.now children.now.items }
         ensures { MatchOption result ((b : ℕ) → from ≤ b → map.get (sorted_map self.now children.now.items) b ≡ None)
             (λ r. IsFirst (sorted_map self.now children.now.items) from r.0 r.1.now) }
@@ -57,7 +61,12 @@ impl<const N: usize> Ranks<N> {
 
     /// Adds a child under a byte that has none.
     #[inline(always)]
-    pub(crate) fn insert_child<X: Default + Drop>(&mut self, children: &mut ArrayVec<X, N>, byte: u8, child: X)
+    pub(crate) fn insert_child<X: Default + Drop>(
+        &mut self,
+        children: &mut ArrayVec<X, N>,
+        byte: u8,
+        child: X,
+    )
         requires sorted { IsSorted self.old children.old.items }
         requires absent { map.get (sorted_map self.old children.old.items) byte ≡ None }
         requires room { map.len (sorted_map self.old children.old.items) ≢ N }
@@ -71,7 +80,12 @@ impl<const N: usize> Ranks<N> {
 
     /// Puts another child under a byte, and gives the one before.
     #[inline(always)]
-    pub(crate) fn change_child<X: Default + Drop>(&self, children: &mut ArrayVec<X, N>, byte: u8, child: X) -> X
+    pub(crate) fn change_child<X: Default + Drop>(
+        &self,
+        children: &mut ArrayVec<X, N>,
+        byte: u8,
+        child: X,
+    ) -> X
         requires sorted { IsSorted self.now children.old.items }
         requires present { IsSome (map.get (sorted_map self.now children.old.items) byte) }
         ensures before { map.get (sorted_map self.now children.old.items) byte ≡ Some result }
@@ -84,7 +98,11 @@ impl<const N: usize> Ranks<N> {
 
     /// Takes out the child of a byte.
     #[inline(always)]
-    pub(crate) fn remove_child<X: Default + Drop>(&mut self, children: &mut ArrayVec<X, N>, byte: u8) -> X
+    pub(crate) fn remove_child<X: Default + Drop>(
+        &mut self,
+        children: &mut ArrayVec<X, N>,
+        byte: u8,
+    ) -> X
         requires sorted { IsSorted self.old children.old.items }
         requires present { IsSome (map.get (sorted_map self.old children.old.items) byte) }
         ensures before { map.get (sorted_map self.old children.old.items) byte ≡ Some result }

@@ -1,5 +1,4 @@
-use Rattle.std.proofs.Common.{rules, length, IsSome, sym, ◌∙◌, ap, subst, arith}
-use Rattle.std.specs.FinMap as map
+use Rattle.std.proofs.Common.{rules, length, ap, arith}
 use Rattle.congee.proofs.lemmas.forms.SortedLemmas.{IsPlaceOf, stands_there, get_found, change_map, refill_set}
 use Rattle.congee.proofs.lemmas.forms.Ranks.{rising_of}
 use Rattle.congee.proofs.forms.ranks.Ranks.change_child.Goals as goal

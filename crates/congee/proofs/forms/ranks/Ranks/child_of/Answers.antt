@@ -1,5 +1,4 @@
-use Rattle.std.proofs.Common.{rules, ◌≡◌, ◌≢◌, get_or, ℕ, arith, sym, ◌∙◌, ap, subst}
-use Rattle.std.specs.FinMap as map
+use Rattle.std.proofs.Common.{rules, ◌≡◌, ◌≢◌, get_or, ℕ, arith, sym, subst}
 use Rattle.congee.proofs.lemmas.forms.SortedLemmas.{IsPlaceOf, get_found, get_absent}
 use Rattle.congee.proofs.lemmas.forms.Ranks.{rising_of}
 use Rattle.congee.proofs.forms.ranks.Ranks.child_of.Goals as goal

@@ -1,5 +1,4 @@
-use Rattle.std.proofs.Common.{rules, ◌≡◌, ℕ, ◌≤◌, ◌<◌, length, None, get_or, subst, sym, arith}
-use Rattle.std.specs.FinMap as map
+use Rattle.std.proofs.Common.{rules, ◌≡◌, ◌<◌, length, get_or, subst, sym, arith}
 use Rattle.congee.specs.forms.Bytes.{IsFirst}
 use Rattle.congee.specs.forms.Places.{sorted_map}
 use Rattle.congee.proofs.lemmas.forms.SortedLemmas.{IsPlaceOf, is_first, none_from}

@@ -1,5 +1,4 @@
-use Rattle.std.proofs.Common.{rules, ◌<◌, ◌≤◌, length, ◌∙◌, ap, arith}
-use Rattle.std.specs.FinMap as map
+use Rattle.std.proofs.Common.{rules, ◌<◌, ◌≤◌, length, arith}
 use Rattle.congee.proofs.lemmas.forms.SortedLemmas.{IsPlaceOf, len_is, insert_map}
 use Rattle.congee.proofs.lemmas.forms.Ranks.{rising_of}
 use Rattle.congee.proofs.forms.ranks.Ranks.insert_child.Goals as goal

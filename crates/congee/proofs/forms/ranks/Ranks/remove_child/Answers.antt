@@ -1,5 +1,4 @@
-use Rattle.std.proofs.Common.{rules, ◌<◌, length, IsSome, sym, ◌∙◌, ap, subst, arith}
-use Rattle.std.specs.FinMap as map
+use Rattle.std.proofs.Common.{rules, ◌<◌, length, arith}
 use Rattle.congee.proofs.lemmas.forms.SortedLemmas.{IsPlaceOf, stands_there, get_found, remove_map}
 use Rattle.congee.proofs.lemmas.forms.Ranks.{rising_of}
 use Rattle.congee.proofs.forms.ranks.Ranks.remove_child.Goals as goal

@@ -1,4 +1,4 @@
-use Rattle.std.proofs.Common.{subst, sym}
+use Rattle.std.proofs.Common.{subst}
 use Rattle.congee.specs.owned.Entries.{entries_in}
 use Rattle.congee.specs.owned.Rows.{AreEntries}
 use Rattle.congee.proofs.lemmas.owned.Rows.{row_at}
