@@ -72,16 +72,14 @@ fn owner_refused(put: Result<Option<Owner>, (Refusal, Owner)>) -> Option<Refusal
 /// Whether each of the calls that all four trees have alike is refused so.
 macro_rules! others_refused {
     ($rt:ident, $tree:ident, $so:ident, $worker:ident, $guard:ident) => {
-        [
-            $tree.is_empty($rt, $worker, $guard).err(),
-            $tree.keys($rt, $worker).err(),
-            $tree.stats($rt, $worker).err(),
-            $tree.repin($rt, $worker, $guard).err(),
-            $tree.flush($rt, $worker, $guard).err(),
-            $tree.round($rt, $worker).err(),
-            $tree.pinned($rt, $worker, |_, _| Ok(())).err(),
-            refusal_of($tree.pin($rt, $worker)),
-        ] == [$so.other; 8]
+        $tree.is_empty($rt, $worker, $guard).err() == $so.other
+            && $tree.keys($rt, $worker).err() == $so.other
+            && $tree.stats($rt, $worker).err() == $so.other
+            && $tree.repin($rt, $worker, $guard).err() == $so.other
+            && $tree.flush($rt, $worker, $guard).err() == $so.other
+            && $tree.round($rt, $worker).err() == $so.other
+            && $tree.pinned($rt, $worker, |_, _| Ok(())).err() == $so.other
+            && refusal_of($tree.pin($rt, $worker)) == $so.other
     };
 }
 
@@ -91,28 +89,25 @@ macro_rules! all_refused {
     (
         $rt:ident, $tree:ident, $so:ident, $out:ident, ($($by:tt)?), ($($share:ident)?), $worker:ident,
         $guard:ident
-    ) => {{
-        let present = [
-            $tree.insert($rt, 1, 3, $($share,)? $worker, $guard).err(),
-            $tree.compute_or_insert($rt, 1, next, $($share,)? $worker, $guard).err(),
-            $tree.compute_if_present($rt, $($by)? 1, |_| None, $($share,)? $worker, $guard).err(),
-            $tree.compare_exchange($rt, $($by)? 1, &2, None, $($share,)? $worker, $guard).err(),
-            $tree.remove($rt, $($by)? 1, $($share,)? $worker, $guard).err(),
-        ];
-        let absent = [
-            $tree.insert($rt, ABSENT, 3, $($share,)? $worker, $guard).err(),
-            $tree.compute_or_insert($rt, ABSENT, next, $($share,)? $worker, $guard).err(),
-        ];
-        let found = [
-            $tree.get($rt, $($by)? 1, $worker, $guard).err(),
-            $tree.range($rt, $($by)? 0, $($by)? 9, &mut $out, $worker, $guard).err(),
-            $tree.range_inclusive($rt, $($by)? 0, $($by)? 9, &mut $out, $worker, $guard).err(),
-        ];
-        present == [Some($so.present); 5]
-            && absent == [Some($so.absent); 2]
-            && found == [$so.other; 3]
+    ) => {
+        $tree.insert($rt, 1, 3, $($share,)? $worker, $guard) == Err($so.present)
+            && $tree.compute_or_insert($rt, 1, next, $($share,)? $worker, $guard) == Err($so.present)
+            && $tree.compute_if_present($rt, $($by)? 1, |_| None, $($share,)? $worker, $guard)
+                == Err($so.present)
+            && $tree.compare_exchange($rt, $($by)? 1, &2, None, $($share,)? $worker, $guard)
+                == Err($so.present)
+            && $tree.remove($rt, $($by)? 1, $($share,)? $worker, $guard) == Err($so.present)
+            && $tree.insert($rt, ABSENT, 3, $($share,)? $worker, $guard) == Err($so.absent)
+            && $tree.compute_or_insert($rt, ABSENT, next, $($share,)? $worker, $guard)
+                == Err($so.absent)
+            && $tree.get($rt, $($by)? 1, $worker, $guard).err() == $so.other
+            && $tree.range($rt, $($by)? 0, $($by)? 9, &mut $out, $worker, $guard).err() == $so.other
+            && $tree
+                .range_inclusive($rt, $($by)? 0, $($by)? 9, &mut $out, $worker, $guard)
+                .err()
+                == $so.other
             && others_refused!($rt, $tree, $so, $worker, $guard)
-    }};
+    };
 }
 
 fn words_refuse<R: Wait>(
@@ -157,13 +152,13 @@ fn owners_refuse<R: Wait>(
     worker: &mut Worker,
     guard: &Guard,
 ) -> bool {
-    let present = [
-        owner_refused(tree.insert(rt, 1, values.0, worker, guard)),
-        tree.compute_if_present(rt, 1, |_| None, worker, guard).err(),
-        tree.remove(rt, 1, worker, guard).err(),
-    ];
-    present == [Some(so.present); 3]
+    owner_refused(tree.insert(rt, 1, values.0, worker, guard)) == Some(so.present)
         && owner_refused(tree.insert(rt, ABSENT, values.1, worker, guard)) == Some(so.absent)
+        && tree
+            .compute_if_present(rt, 1, |_| None, worker, guard)
+            .err()
+            == Some(so.present)
+        && tree.remove(rt, 1, worker, guard).err() == Some(so.present)
         && tree.get(rt, 1, worker, guard).err() == so.other
         && others_refused!(rt, tree, so, worker, guard)
 }
