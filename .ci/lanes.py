@@ -23,8 +23,8 @@ from concurrent.futures import FIRST_COMPLETED, ThreadPoolExecutor, wait
 # How many processors a part asks for, and the share that it was seen to hold of the memory that the kit reckons for its crate.
 # Some kits try each edit as a part of its own, over a seed that is a part too; others all of a crate's as one.
 PROCESSORS = {"proof": 3, "tests": 3, "seed": 2}
-SHARES = {"proof": 0.38, "tests": 0.66, "seed": 0.38}
-EDITS = 0.24
+SHARES = {"proof": 0.3, "tests": 0.66, "seed": 0.3}
+EDITS = 0.22
 # In how many rows a crate's edits are tried, where the kit has them in one part; for how many minutes of the run; and how
 # many of these a seed wants to have left.
 ROWS = 3
