@@ -23,8 +23,8 @@ from concurrent.futures import FIRST_COMPLETED, ThreadPoolExecutor, wait
 # How many processors a part asks for, and the share that it was seen to hold of the memory that the kit reckons for its crate.
 # Some kits try each edit as a part of its own, over a seed that is a part too; others all of a crate's as one.
 PROCESSORS = {"proof": 3, "tests": 3, "seed": 2}
-SHARES = {"proof": 0.38, "tests": 0.66, "seed": 0.38}
-EDITS = 0.24
+SHARES = {"proof": 0.3, "tests": 0.66, "seed": 0.3}
+EDITS = 0.22
 # In how many rows a crate's edits are tried, where the kit has them in one part; for how many minutes of the run; and how
 # many of these a seed wants to have left.
 ROWS = 3
@@ -32,6 +32,8 @@ MINUTES = 150
 LEFT = 60
 # How many steps of niceness what isn't a proof gives way.
 BEHIND = 2
+# For how many seconds after a proof no edit begins: what an earlier run proved is told sooner, and the proof above it comes first.
+AFTER = 60
 
 
 def load(path):
@@ -68,7 +70,7 @@ def in_lanes(tasks, rt):
     rank = lambda it: (not is_proof(it), -(behind[it] if is_proof(it) else crates.index(it[0])), it[1] != "tests")
     left = sorted(tasks, key=rank)
     lanes, memory, running, given = rt.processors(), 0.85 * rt.free(), {}, {}
-    most = lanes + 1, 2 * lanes
+    most, begun = (lanes + 1, 2 * lanes), 0
     with getattr(rt, "ending", contextlib.nullcontext)(), ThreadPoolExecutor(4 * lanes) as pool:
         while left or running:
             # whether a proof waits for memory alone: then no edit takes it
@@ -82,14 +84,19 @@ def in_lanes(tasks, rt):
                 # what has no lines ends at once
                 jobs = PROCESSORS.get(key[1], 1) if lines or not is_proof(key) else 0
                 jobs = max(jobs, lanes - busy) if key[1] == "seed" else jobs
-                is_free = held + needs <= memory and (is_proof(key) or busy < most[key[1] == "seed"] and not is_starved)
+                is_next = busy < most[key[1] == "seed"] and not is_starved and time.monotonic() >= begun + AFTER
+                # edits, and what they begin with, leave free what the tests will hold
+                edits = sum(it[1] for it in running.values() if not is_proof(it[0]))
+                later = max((tasks[it][2] * SHARES[it[1]] for it in left if it[1] == "tests" and tasks[it][1]), default=0)
+                is_free = held + needs <= memory and (is_proof(key) or is_next and edits + needs + later <= memory)
                 if running and jobs and not is_free:
                     is_starved = is_starved or is_proof(key)
                     continue
                 left.remove(key)
                 steps = 0 if is_proof(key) else BEHIND
+                begun = time.monotonic() if is_proof(key) else begun
                 running[pool.submit(begin, call, given, max(1, jobs), steps)] = key, needs, jobs
-            for it in wait(running, return_when=FIRST_COMPLETED).done:
+            for it in wait(running, AFTER, FIRST_COMPLETED).done:
                 given[running.pop(it)[0]] = it.result()
     return given
 
@@ -156,11 +163,19 @@ class Rows:
         return [self.refused.get(it) or self.rt.must_fail(crate, it, flags) for it in due]
 
 
+def begin_over_kept(rt):
+    """Has the checks that edits begin with start over what an `rt check` kept on this machine, as `rt must-fail` does."""
+    if hasattr(rt, "seeded") and hasattr(rt, "work_for"):
+        seeded = rt.seeded
+        rt.seeded = lambda crate, flags, start=None: seeded(crate, flags, start or rt.work_for(crate))
+
+
 def main():
     rt = load(os.path.realpath(shutil.which("rt")))
     if not all(hasattr(rt, it) for it in ("in_lanes", "free", "processors", "main")):
         os.environ.setdefault("RT_JOBS", str(min(4, len(os.sched_getaffinity(0)))))
         return rt.main(["ci"])
+    begin_over_kept(rt)
     has_rows = not hasattr(rt, "ending") and all(hasattr(rt, it) for it in ("must_fail_all", "must_fail", "checked", "edits_of"))
     with tempfile.TemporaryDirectory(prefix="rt-rows-") as room:
         rows = Rows(rt, room) if has_rows else None

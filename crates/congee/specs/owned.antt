@@ -2,6 +2,7 @@ pub mod Arena
 pub mod Changes
 pub mod Charge
 pub mod Codes
+pub mod EntryCodes
 pub mod Content
 pub mod Cursor
 pub mod Drained

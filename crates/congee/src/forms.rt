@@ -9,7 +9,7 @@ pub mod node256;
 pub mod node4;
 pub mod node48;
 pub(crate) mod prefix;
-mod ranks;
+pub(crate) mod ranks;
 mod room;
 pub(crate) mod sorted;
 

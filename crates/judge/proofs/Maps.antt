@@ -6,7 +6,6 @@ use Rattle.std.specs.Cmp.{nat_cmp_total}
 use Rattle.std.specs.FinMap.{get, insert, remove, get-insert, get-remove, same_map, nat_cmp-IsAntisymmetric}
 use Rattle.judge.specs.Answer.{Pairs, set_at, key_of, leaves, reply_on, answer}
 use Rattle.judge.specs.declared.journal.Call.{Call}
-use Rattle.judge.specs.declared.journal.Reply.{Reply}
 
 here : (k : ℕ) → eq_by_cmp nat_cmp k k ≡ true
 here k = grind (arith, nat_tests)

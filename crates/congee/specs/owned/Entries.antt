@@ -15,7 +15,7 @@ use Rattle.congee.specs.forms.Mapped.{mapped}
 use Rattle.congee.specs.declared.forms.base_node.Node.{Node as Form}
 use Rattle.congee.specs.declared.owned.entries.Hung.{Hung}
 use Rattle.congee.specs.declared.owned.entries.Hung.TheVariants.{Blank as HungBlank, Node as HungNode, Leaf as HungLeaf}
-use Rattle.congee.specs.declared.owned.entries.Seen.{Seen}
+use Rattle.congee.specs.declared.owned.entries.LoneRef.{LoneRef}
 use Rattle.congee.specs.declared.owned.lone.Lone.{Lone}
 use Rattle.congee.specs.declared.owned.places.Places.{Places}
 use Rattle.congee.specs.declared.owned.places.Places.TheVariants.{N4, N16, N48, N256}
@@ -36,15 +36,15 @@ module _ {P : Type 0} where
   -- the entries by their bytes
   abbrev pub entries_in : Places P → FinMap nat_cmp (Entry P)
   entries_in (N4 n) = n
-  entries_in (N16 n) = n.value.children
-  entries_in (N48 n) = n.value.children
+  entries_in (N16 n) = n
+  entries_in (N48 n) = n
   entries_in (N256 n) = n.value.children
 
   -- no further child fits. A node of 256 is never full
   abbrev pub full_in : Places P → Bool
   full_in (N4 n) = len n == 4
-  full_in (N16 n) = len n.value.children == 16
-  full_in (N48 n) = len n.value.children == 48
+  full_in (N16 n) = len n == 16
+  full_in (N48 n) = len n == 48
   full_in (N256 n) = false
 
   -- the entries alone change
@@ -67,7 +67,7 @@ module _ {P : Type 0} where
   node_by prefix p = laid_node (form_in p) prefix (mapped (child_by prefix) (entries_in p))
 
   -- a leaf where it lies, as one
-  abbrev pub lone_seen : Seen P → Lone P
+  abbrev pub lone_seen : LoneRef P → Lone P
   lone_seen leaf = record { key = leaf.key; value = leaf.value.now; whole = leaf.whole; last = leaf.last }
 
   -- what hangs under a byte, where it lies, as a child

@@ -6,8 +6,8 @@ use denote.Param.{layout}
 use denote.RattleType.{RattleType}
 use prog.Memory.{size}
 use Rattle.congee.specs.forms.Room.{IsSmall}
-use Rattle.congee.specs.forms.RoomLemmas.{FitsIn, no_fields, field, struct, no_cases, case, enum, word, byte, array}
-use Rattle.congee.specs.owned.PlaceRoom.{boxed, boxed_ty, fits, forms, forms_ty, masked, masked_ty, room, sorted, sorted_ty}
+use Rattle.congee.specs.forms.RoomLemmas.{FitsIn, no_fields, field, struct, no_cases, case, enum, word, byte, array, array_vec_ty}
+use Rattle.congee.specs.owned.PlaceRoom.{boxed, boxed_ty, fits, list, masked, masked_ty, places, places_ty, room}
 
 -- a key's bytes after the first, as code lays them out
 abbrev tail_ty : Ty
@@ -24,30 +24,22 @@ module _ (P : RattleType) (p : IsSmall (layout P)) where
       let w = enum (case no_fields (case (field word no_fields) (case (field (struct (field (array 7 byte) no_fields)) (field (record { bytes = p.bytes; aligned = p.aligned }) no_fields)) no_cases))) in
       record { bytes = omega (arith, w.bytes); aligned = w.aligned }
 
-  -- 16 entries beside their bytes fit in memory
-  pub sorted16_fits : size (sorted_ty 16 (entry_ty (layout P))) < 2 ^ 63
-  sorted16_fits = room (sorted entry 16 (omega arith))
-
-  -- 48 do
-  pub sorted48_fits : size (sorted_ty 48 (entry_ty (layout P))) < 2 ^ 63
-  sorted48_fits = room (sorted entry 48 (omega arith))
-
-  -- and 256 behind a mask
+  -- 256 entries behind a mask fit in memory
   pub masked_fits : size (masked_ty (entry_ty (layout P))) < 2 ^ 63
   masked_fits = room (masked entry)
 
-  -- so do 16 in a box
-  pub places16_fits : size (boxed_ty (sorted_ty 16 (entry_ty (layout P)))) < 2 ^ 63
-  places16_fits = boxed (sorted entry 16 (omega arith))
+  -- so do 16 in a list, in a box
+  pub entries16_fits : size (boxed_ty (array_vec_ty (entry_ty (layout P)) 16)) < 2 ^ 63
+  entries16_fits = boxed (list entry 16 (omega arith))
 
   -- 48 in one
-  pub places48_fits : size (boxed_ty (sorted_ty 48 (entry_ty (layout P)))) < 2 ^ 63
-  places48_fits = boxed (sorted entry 48 (omega arith))
+  pub entries48_fits : size (boxed_ty (array_vec_ty (entry_ty (layout P)) 48)) < 2 ^ 63
+  entries48_fits = boxed (list entry 48 (omega arith))
 
   -- and 256 in one
   pub places256_fits : size (boxed_ty (masked_ty (entry_ty (layout P)))) < 2 ^ 63
   places256_fits = boxed (masked entry)
 
   -- the places of any form fit in memory
-  pub places_fits : size (forms_ty (entry_ty (layout P))) < 2 ^ 63
-  places_fits = fits (forms entry)
+  pub places_fits : size (places_ty (entry_ty (layout P))) < 2 ^ 63
+  places_fits = fits (places entry)

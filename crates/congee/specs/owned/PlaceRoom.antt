@@ -21,6 +21,14 @@ masked_ty τ = ty_struct [] (tcons (ty_int w16) (tcons mask_ty (tcons (array_vec
 abbrev pub boxed_ty : Ty → Ty
 boxed_ty τ = ty_struct [] (tcons τ tnil)
 
+-- bytes in their order, beside a box
+abbrev beside_ty : ℕ → Ty
+beside_ty n = ty_struct [] (tcons (ranks_ty n) (tcons ty_ptr tnil))
+
+-- the least form inline, bytes beside a box, or a box
+abbrev pub places_ty : Ty → Ty
+places_ty τ = ty_enum [] (ttcons (tcons (sorted_ty 4 τ) tnil) (ttcons (tcons (beside_ty 16) tnil) (ttcons (tcons (beside_ty 48) tnil) (ttcons (tcons ty_ptr tnil) ttnil))))
+
 -- the least form inline, or a box
 abbrev pub forms_ty : Ty → Ty
 forms_ty τ = ty_enum [] (ttcons (tcons (sorted_ty 4 τ) tnil) (ttcons (tcons ty_ptr tnil) (ttcons (tcons ty_ptr tnil) (ttcons (tcons ty_ptr tnil) ttnil))))
@@ -56,6 +64,18 @@ module _ {τ : Ty} (thing : FitsIn τ 1000000) where
   forms =
       let w = enum (case (field (sorted 4 (omega arith)) no_fields) (case (field pointer no_fields) (case (field pointer no_fields) (case (field pointer no_fields) no_cases)))) in
       record { bytes = omega (arith, w.bytes); aligned = w.aligned }
+
+  -- so have those whose bytes stand beside a box
+  pub places : FitsIn (places_ty τ) 500000000
+  places =
+      let few = struct (field (struct (field (array 16 byte) (field word no_fields))) (field pointer no_fields)) in
+      let many = struct (field (struct (field (array 48 byte) (field word no_fields))) (field pointer no_fields)) in
+      let w = enum (case (field (sorted 4 (omega arith)) no_fields) (case (field few no_fields) (case (field many no_fields) (case (field pointer no_fields) no_cases)))) in
+      record { bytes = omega (arith, w.bytes); aligned = w.aligned }
+
+  -- and a list of them
+  pub list : (n : ℕ) → n ≤ 48 → FitsIn (array_vec_ty τ n) 400000000
+  list n l = things n 400000000 (omega arith)
 
 -- what has few bytes fits in memory, in a box too
 pub fits : {ρ : Ty} → FitsIn ρ 500000000 → size ρ < 2 ^ 63

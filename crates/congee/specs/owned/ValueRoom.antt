@@ -8,7 +8,7 @@ use prog.Memory.{size}
 use Rattle.congee.specs.forms.Room.{IsSmall}
 use Rattle.congee.specs.forms.RoomLemmas.{FitsIn, prefix_ty}
 use Rattle.congee.specs.owned.EntryRoom.{entry_ty}
-use Rattle.congee.specs.owned.PlaceRoom.{boxed, boxed_ty, fits, forms, forms_ty, indexed, indexed_ty, masked, masked_ty, room, sorted, sorted_ty}
+use Rattle.congee.specs.owned.PlaceRoom.{boxed, boxed_ty, fits, forms, forms_ty, indexed, indexed_ty, masked, masked_ty, places_ty, room, sorted, sorted_ty}
 
 -- a prefix beside the places of a form
 abbrev pub node_ty : Ty → Ty
@@ -16,7 +16,7 @@ node_ty τ = ty_struct [] (tcons prefix_ty (tcons (forms_ty τ) tnil))
 
 -- the same, and a word beside them
 abbrev inner_ty : Ty → Ty
-inner_ty τ = ty_struct [] (tcons prefix_ty (tcons (forms_ty τ) (tcons (ty_int w64) tnil)))
+inner_ty τ = ty_struct [] (tcons prefix_ty (tcons (places_ty τ) (tcons (ty_int w64) tnil)))
 
 -- an inner node or a leaf, as code lays it out
 abbrev pub slot_ty : Ty → Ty → Ty

@@ -3,11 +3,117 @@ ghost use Rattle.std.specs.Prelude.{◌≡◌, ◌≢◌, ◌<◌, ◌≤◌, �
 ghost use Rattle.std.specs.Option.{option_copied};
 ghost use Rattle.std.specs.FinMap as map;
 ghost use Rattle.congee.specs.forms.Bytes.{IsFirst, Lists};
+ghost use Rattle.congee.specs.forms.Places.{sorted_map, IsSorted};
 
 use crate::forms::ranks::Ranks;
 use arrayvec::ArrayVec;
 use std::marker::Model;
 use std::mem;
+
+impl<const N: usize> Ranks<N> {
+    /// The child of a byte, of children that stand in the order of these bytes.
+    #[inline(always)]
+    pub(crate) fn child_of<'a, X>(&self, children: &'a ArrayVec<X, N>, byte: u8) -> Option<&'a X>
+        requires { IsSorted self.now children.now.items }
+        ensures { option_copied result ≡ map.get (sorted_map self.now children.now.items) byte }
+    {
+        let place = self.place_of(byte);
+        if place < self.len() && self.at(place) == byte {
+            return Some(&children.as_slice()[place]);
+        }
+        None
+    }
+
+    /// The child of the least byte from `from` on.
+    #[inline(always)]
+    pub(crate) fn first_child<'a, X>(
+        &self,
+        children: &'a ArrayVec<X, N>,
+        from: usize,
+    ) -> Option<(u8, &'a X)>
+        requires { IsSorted self.now children.now.items }
+        ensures { MatchOption result ((b : ℕ) → from ≤ b → map.get (sorted_map self.now children.now.items) b ≡ None)
+            (λ r. IsFirst (sorted_map self.now children.now.items) from r.0 r.1.now) }
+    {
+        let len = self.len();
+        if from > 255 {
+            return None;
+        }
+        let place = self.place_of(from as u8);
+        if place == len {
+            return None;
+        }
+        Some((self.at(place), &children.as_slice()[place]))
+    }
+
+    /// The children from `from` on, in the order of their bytes.
+    #[inline(always)]
+    pub(crate) fn children_after<'a, X>(&self, children: &'a ArrayVec<X, N>, from: usize) -> &'a [X]
+        requires { IsSorted self.now children.now.items }
+        ensures { Lists (sorted_map self.now children.now.items) from result.now }
+    {
+        let children = children.as_slice();
+        if from > 255 {
+            return &children[children.len()..];
+        }
+        &children[self.place_of(from as u8)..]
+    }
+
+    /// Adds a child under a byte that has none.
+    #[inline(always)]
+    pub(crate) fn insert_child<X: Default + Drop>(
+        &mut self,
+        children: &mut ArrayVec<X, N>,
+        byte: u8,
+        child: X,
+    )
+        requires sorted { IsSorted self.old children.old.items }
+        requires absent { map.get (sorted_map self.old children.old.items) byte ≡ None }
+        requires room { map.len (sorted_map self.old children.old.items) ≢ N }
+        ensures sorted { IsSorted self.new children.new.items }
+        ensures now { sorted_map self.new children.new.items ≡ map.insert (sorted_map self.old children.old.items) byte child }
+    {
+        let place = self.place_of(byte);
+        self.insert(place, byte);
+        children.insert(place, child);
+    }
+
+    /// Puts another child under a byte, and gives the one before.
+    #[inline(always)]
+    pub(crate) fn change_child<X: Default + Drop>(
+        &self,
+        children: &mut ArrayVec<X, N>,
+        byte: u8,
+        child: X,
+    ) -> X
+        requires sorted { IsSorted self.now children.old.items }
+        requires present { IsSome (map.get (sorted_map self.now children.old.items) byte) }
+        ensures before { map.get (sorted_map self.now children.old.items) byte ≡ Some result }
+        ensures sorted { IsSorted self.now children.new.items }
+        ensures now { sorted_map self.now children.new.items ≡ map.insert (sorted_map self.now children.old.items) byte child }
+    {
+        let place = self.place_of(byte);
+        mem::replace(&mut children[place], child)
+    }
+
+    /// Takes out the child of a byte.
+    #[inline(always)]
+    pub(crate) fn remove_child<X: Default + Drop>(
+        &mut self,
+        children: &mut ArrayVec<X, N>,
+        byte: u8,
+    ) -> X
+        requires sorted { IsSorted self.old children.old.items }
+        requires present { IsSome (map.get (sorted_map self.old children.old.items) byte) }
+        ensures before { map.get (sorted_map self.old children.old.items) byte ≡ Some result }
+        ensures sorted { IsSorted self.new children.new.items }
+        ensures now { sorted_map self.new children.new.items ≡ map.remove (sorted_map self.old children.old.items) byte }
+    {
+        let place = self.place_of(byte);
+        self.remove(place);
+        children.remove(place)
+    }
+}
 
 /// At most `N` children, in two arrays that rise by byte.
 #[derive(Drop)]
@@ -47,11 +153,7 @@ impl<X, const N: usize> Sorted<X, N> {
     pub(crate) fn get_child(&self, byte: u8) -> Option<&X>
         ensures { option_copied result ≡ map.get self.now byte }
     {
-        let place = self.bytes.place_of(byte);
-        if place < self.bytes.len() && self.bytes.at(place) == byte {
-            return Some(&self.children.as_slice()[place]);
-        }
-        None
+        self.bytes.child_of(&self.children, byte)
     }
 
     /// The child of the least byte from `from` on.
@@ -60,15 +162,7 @@ impl<X, const N: usize> Sorted<X, N> {
         ensures { MatchOption result ((b : ℕ) → from ≤ b → map.get self.now b ≡ None)
             (λ r. IsFirst self.now from r.0 r.1.now) }
     {
-        let len = self.bytes.len();
-        if from > 255 {
-            return None;
-        }
-        let place = self.bytes.place_of(from as u8);
-        if place == len {
-            return None;
-        }
-        Some((self.bytes.at(place), &self.children.as_slice()[place]))
+        self.bytes.first_child(&self.children, from)
     }
 
     /// The children from `from` on, in the order of their bytes.
@@ -76,11 +170,7 @@ impl<X, const N: usize> Sorted<X, N> {
     pub(crate) fn children_from(&self, from: usize) -> &[X]
         ensures { Lists self.now from result.now }
     {
-        let children = self.children.as_slice();
-        if from > 255 {
-            return &children[children.len()..];
-        }
-        &children[self.bytes.place_of(from as u8)..]
+        self.bytes.children_after(&self.children, from)
     }
 }
 
@@ -103,9 +193,7 @@ impl<X: Default + Drop, const N: usize> Sorted<X, N> {
         requires room { map.len self.old ≢ N }
         ensures { self.new ≡ map.insert self.old byte child }
     {
-        let place = self.bytes.place_of(byte);
-        self.bytes.insert(place, byte);
-        self.children.insert(place, child);
+        self.bytes.insert_child(&mut self.children, byte, child);
     }
 
     /// Puts another child under a byte, and gives the one before.
@@ -115,8 +203,7 @@ impl<X: Default + Drop, const N: usize> Sorted<X, N> {
         ensures before { map.get self.old byte ≡ Some result }
         ensures after { self.new ≡ map.insert self.old byte child }
     {
-        let place = self.bytes.place_of(byte);
-        mem::replace(&mut self.children[place], child)
+        self.bytes.change_child(&mut self.children, byte, child)
     }
 
     /// Takes out the child of a byte.
@@ -126,8 +213,6 @@ impl<X: Default + Drop, const N: usize> Sorted<X, N> {
         ensures before { map.get self.old byte ≡ Some result }
         ensures after { self.new ≡ map.remove self.old byte }
     {
-        let place = self.bytes.place_of(byte);
-        self.bytes.remove(place);
-        self.children.remove(place)
+        self.bytes.remove_child(&mut self.children, byte)
     }
 }

@@ -27,7 +27,7 @@ pub(crate) enum Entry<P> {
 
 /// A leaf with one value where it lies: its key, and its value.
 #[derive(Drop)]
-pub(crate) struct Seen<'a, P> {
+pub(crate) struct LoneRef<'a, P> {
     pub(crate) key: [u8; KEY_BYTES],
     pub(crate) value: &'a P,
     ghost whole: { length key ≡ 8 },
@@ -42,5 +42,5 @@ pub(crate) enum Hung<'a, P> {
     /// A node by its slot.
     Node(usize),
     /// A leaf with one value, which lies there.
-    Leaf(Seen<'a, P>),
+    Leaf(LoneRef<'a, P>),
 }

@@ -22,7 +22,7 @@ impl<P: Stored> Nodes<P> {
     ghost use Rattle.congee.specs.owned.Lifting.{GivesOnly, HasOneNode, MayLift, MovesUp};
     ghost use Rattle.congee.specs.owned.Sizes.{bytes_of};
     ghost use Rattle.congee.specs.owned.Naming.{HasOwnSlot};
-    ghost use Rattle.congee.specs.owned.OwnedSteps.{Makes, Sets};
+    ghost use Rattle.congee.specs.owned.OwnedSteps.{Sets};
     ghost use Rattle.congee.specs.owned.Renames.{Renames};
     ghost use Rattle.congee.specs.owned.Stores.{CoversLeaf, Folds, HasOne, HangsLeaf, HasInline, HasNode, LosesLeaf, MakesLeaf};
     ghost use Rattle.congee.specs.declared.forms.base_node.Node.{Node as Form};

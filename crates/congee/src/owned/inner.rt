@@ -14,7 +14,7 @@ use crate::forms::child::{Child, Small};
 use crate::forms::masked::Masked;
 use crate::forms::prefix::{MAX_PREFIX_LEN, Prefix};
 use crate::keys::KEY_BYTES;
-use crate::owned::entries::{Entry, Hung, Seen, Tail};
+use crate::owned::entries::{Entry, Hung, LoneRef, Tail};
 use crate::owned::lone::Lone;
 use crate::owned::places::{Nested, Places};
 use std::alloc::{AllocError, Global};
@@ -113,7 +113,7 @@ fn hung_of<P>(first: u8, entry: &Entry<P>) -> Hung<'_, P>
     match entry {
         Entry::Blank => Hung::Blank,
         Entry::Node(slot) => Hung::Node(*slot),
-        Entry::Leaf(tail, value) => Hung::Leaf(Seen {
+        Entry::Leaf(tail, value) => Hung::Leaf(LoneRef {
             key: key_by(first, tail),
             value,
         }),
@@ -220,8 +220,8 @@ impl<P: Small> Inner<P> {
     {
         match &self.places {
             Places::N4(n) => Row::Few(n.children_from(from)),
-            Places::N16(n) => Row::Few(n.children.children_from(from)),
-            Places::N48(n) => Row::Few(n.children.children_from(from)),
+            Places::N16(n) => Row::Few(n.children_from(from)),
+            Places::N48(n) => Row::Few(n.children_from(from)),
             Places::N256(n) => Row::Wide(&n.children),
         }
     }

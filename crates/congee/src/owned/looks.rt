@@ -9,7 +9,7 @@ ghost use Rattle.congee.specs.declared.forms.prefix.TheConstants.{MAX_PREFIX_LEN
 use crate::forms::prefix::MAX_PREFIX_LEN;
 use crate::keys::{KEY_BYTES, key_of_bytes};
 use crate::owned::arena::Stored;
-use crate::owned::entries::{Hung, Seen};
+use crate::owned::entries::{Hung, LoneRef};
 use crate::owned::inner::Row;
 use crate::owned::lone::{key_of, leads};
 use crate::owned::names::Name;
@@ -33,7 +33,7 @@ impl<P: Stored> Nodes<P> {
 
     /// The leaf with one value under a byte of an inner node.
     #[inline(always)]
-    pub(crate) fn lone(&self, slot: usize, byte: u8) -> Seen<'_, P>
+    pub(crate) fn lone(&self, slot: usize, byte: u8) -> LoneRef<'_, P>
         requires { ContainsKey self.now (257 * slot + (byte + 1)) }
         ensures { get self.now (257 * slot + (byte + 1)) ≡ Some (lone_node (lone_seen result)) }
     {

@@ -2,7 +2,7 @@
 ghost use Rattle.std.specs.Prelude.{◌≡◌, ◌≢◌, ◌≤◌, ◌<◌, ℕ, false, MatchOption, None, Some, IsSome, IfOk, OnOk, OnErr};
 ghost use Rattle.std.specs.Option.{option_copied};
 ghost use Rattle.std.specs.FinMap as map;
-ghost use Rattle.congee.specs.forms.Bytes.{IsFirst};
+ghost use Rattle.congee.specs.forms.Bytes.{IsFirst, Lists};
 ghost use Rattle.congee.specs.forms.Forms.{capacity_of, next_form};
 ghost use Rattle.congee.specs.owned.Entries.{form_in, entries_in, full_in, Refills};
 ghost use Rattle.congee.specs.protocol.Steps.{form_below};
@@ -10,20 +10,71 @@ ghost use Rattle.congee.specs.protocol.Steps.{form_below};
 use crate::forms::base_node::NodeType;
 use crate::forms::child::Small;
 use crate::forms::masked::Masked;
+use crate::forms::ranks::Ranks;
 use crate::forms::sorted::Sorted;
 use crate::owned::entries::Entry;
+use arrayvec::ArrayVec;
 use std::alloc::{AllocError, Global};
+use std::marker::Model;
 
-/// At most 16 entries.
+/// What lies in the box of 16 entries.
 #[derive(Drop)]
-pub(crate) struct Places16<P> {
-    pub(crate) children: Sorted<Entry<P>, 16>,
+pub(crate) struct Entries16<P> {
+    pub(crate) list: ArrayVec<Entry<P>, 16>,
 }
 
-/// At most 48 entries.
+/// At most 16 entries, in a box. Their bytes stand beside it, so that a look-up reads one line of the box.
 #[derive(Drop)]
-pub(crate) struct Places48<P> {
-    pub(crate) children: Sorted<Entry<P>, 48>,
+pub(crate) struct Places16<P: Nested> {
+    bytes: Ranks<16>,
+    entries: Box<Entries16<P>>,
+}
+
+impl<P: Nested> Model for Places16<P> {
+    ghost use Rattle.std.specs.Ordering.{nat_cmp};
+    ghost use Rattle.std.specs.FinMap as map;
+    ghost use Rattle.std.specs.Coded.{coded_ℕ};
+    ghost use Rattle.congee.specs.forms.Places.{sorted_map, IsSorted};
+    ghost use Rattle.congee.specs.owned.EntryCodes.{entry_code};
+    ghost use Rattle.congee.specs.declared.owned.entries.Entry.{Entry};
+
+    ghost Value = { map.FinMap nat_cmp (Entry P) };
+
+    ghost coded = { map.code coded_ℕ (entry_code P.code) };
+
+    ghost view = { λ s. sorted_map s.bytes s.entries.value.list.items };
+
+    ghost invariant = { λ s. IsSorted s.bytes s.entries.value.list.items };
+}
+
+/// What lies in the box of 48 entries.
+#[derive(Drop)]
+pub(crate) struct Entries48<P> {
+    pub(crate) list: ArrayVec<Entry<P>, 48>,
+}
+
+/// At most 48 entries, in a box. Their bytes stand beside it, so that a look-up reads one line of the box.
+#[derive(Drop)]
+pub(crate) struct Places48<P: Nested> {
+    bytes: Ranks<48>,
+    entries: Box<Entries48<P>>,
+}
+
+impl<P: Nested> Model for Places48<P> {
+    ghost use Rattle.std.specs.Ordering.{nat_cmp};
+    ghost use Rattle.std.specs.FinMap as map;
+    ghost use Rattle.std.specs.Coded.{coded_ℕ};
+    ghost use Rattle.congee.specs.forms.Places.{sorted_map, IsSorted};
+    ghost use Rattle.congee.specs.owned.EntryCodes.{entry_code};
+    ghost use Rattle.congee.specs.declared.owned.entries.Entry.{Entry};
+
+    ghost Value = { map.FinMap nat_cmp (Entry P) };
+
+    ghost coded = { map.code coded_ℕ (entry_code P.code) };
+
+    ghost view = { λ s. sorted_map s.bytes s.entries.value.list.items };
+
+    ghost invariant = { λ s. IsSorted s.bytes s.entries.value.list.items };
 }
 
 /// An entry for each byte.
@@ -35,8 +86,8 @@ pub(crate) struct Places256<P> {
 /// A payload whose inner nodes fit in memory in every form. Each payload is one.
 pub(crate) trait Nested: Small {
     ghost use Rattle.std.specs.Mem.{FitsInMemory};
-    ghost use Rattle.congee.specs.contracts.owned.places.Places16.{the_row as row_16};
-    ghost use Rattle.congee.specs.contracts.owned.places.Places48.{the_row as row_48};
+    ghost use Rattle.congee.specs.contracts.owned.places.Entries16.{the_row as row_16};
+    ghost use Rattle.congee.specs.contracts.owned.places.Entries48.{the_row as row_48};
     ghost use Rattle.congee.specs.contracts.owned.places.Places256.{the_row as row_256};
 
     ghost fits_16: { FitsInMemory (row_16 Self.row) };
@@ -47,22 +98,174 @@ pub(crate) trait Nested: Small {
 }
 
 impl<P: Small> Nested for P {
-    ghost use Rattle.congee.specs.owned.EntryRoom.{places16_fits, places48_fits, places256_fits};
+    ghost use Rattle.congee.specs.owned.EntryRoom.{entries16_fits, entries48_fits, places256_fits};
 
-    ghost fits_16 = { places16_fits P.row P.small };
+    ghost fits_16 = { entries16_fits P.row P.small };
 
-    ghost fits_48 = { places48_fits P.row P.small };
+    ghost fits_48 = { entries48_fits P.row P.small };
 
     ghost fits_256 = { places256_fits P.row P.small };
 }
 
-/// What an inner node has by byte. The least form lies inline, the others in a box.
+/// What an inner node has by byte. The least form lies inline, the entries of the others in a box.
 #[derive(Drop)]
 pub(crate) enum Places<P: Nested> {
     N4(Sorted<Entry<P>, 4>),
-    N16(Box<Places16<P>>),
-    N48(Box<Places48<P>>),
+    N16(Places16<P>),
+    N48(Places48<P>),
     N256(Box<Places256<P>>),
+}
+
+impl<P: Small> Places16<P> {
+    /// No entries.
+    fn new(alloc: Global) -> Result<Self, AllocError>
+        ensures { IfOk result (λ n. n ≡ map.empty) }
+    {
+        Ok(Places16 {
+            bytes: Ranks::new(),
+            entries: Box::new(
+                alloc,
+                Entries16 {
+                    list: ArrayVec::new(),
+                },
+            )?,
+        })
+    }
+
+    #[inline(always)]
+    fn len(&self) -> usize
+        ensures count { result ≡ map.len self.now }
+        ensures fits { result ≤ 16 }
+        ensures bytes { (b : ℕ) → IsSome (map.get self.now b) → b < 256 }
+    {
+        self.bytes.len()
+    }
+
+    #[inline(always)]
+    fn get_child(&self, byte: u8) -> Option<&Entry<P>>
+        ensures { option_copied result ≡ map.get self.now byte }
+    {
+        self.bytes.child_of(&self.entries.list, byte)
+    }
+
+    #[inline(always)]
+    fn first_from(&self, from: usize) -> Option<(u8, &Entry<P>)>
+        ensures { MatchOption result ((b : ℕ) → from ≤ b → map.get self.now b ≡ None)
+            (λ r. IsFirst self.now from r.0 r.1.now) }
+    {
+        self.bytes.first_child(&self.entries.list, from)
+    }
+
+    /// The entries from a byte on, in the order of their bytes.
+    #[inline(always)]
+    pub(crate) fn children_from(&self, from: usize) -> &[Entry<P>]
+        ensures { Lists self.now from result.now }
+    {
+        self.bytes.children_after(&self.entries.list, from)
+    }
+
+    #[inline(always)]
+    fn insert(&mut self, byte: u8, entry: Entry<P>)
+        requires absent { map.get self.old byte ≡ None }
+        requires room { map.len self.old ≢ 16 }
+        ensures { self.new ≡ map.insert self.old byte entry }
+    {
+        self.bytes.insert_child(&mut self.entries.list, byte, entry);
+    }
+
+    #[inline(always)]
+    fn change(&mut self, byte: u8, entry: Entry<P>) -> Entry<P>
+        requires present { IsSome (map.get self.old byte) }
+        ensures before { map.get self.old byte ≡ Some result }
+        ensures after { self.new ≡ map.insert self.old byte entry }
+    {
+        self.bytes.change_child(&mut self.entries.list, byte, entry)
+    }
+
+    #[inline(always)]
+    fn remove(&mut self, byte: u8) -> Entry<P>
+        requires present { IsSome (map.get self.old byte) }
+        ensures before { map.get self.old byte ≡ Some result }
+        ensures after { self.new ≡ map.remove self.old byte }
+    {
+        self.bytes.remove_child(&mut self.entries.list, byte)
+    }
+}
+
+impl<P: Small> Places48<P> {
+    /// No entries.
+    fn new(alloc: Global) -> Result<Self, AllocError>
+        ensures { IfOk result (λ n. n ≡ map.empty) }
+    {
+        Ok(Places48 {
+            bytes: Ranks::new(),
+            entries: Box::new(
+                alloc,
+                Entries48 {
+                    list: ArrayVec::new(),
+                },
+            )?,
+        })
+    }
+
+    #[inline(always)]
+    fn len(&self) -> usize
+        ensures count { result ≡ map.len self.now }
+        ensures fits { result ≤ 48 }
+        ensures bytes { (b : ℕ) → IsSome (map.get self.now b) → b < 256 }
+    {
+        self.bytes.len()
+    }
+
+    #[inline(always)]
+    fn get_child(&self, byte: u8) -> Option<&Entry<P>>
+        ensures { option_copied result ≡ map.get self.now byte }
+    {
+        self.bytes.child_of(&self.entries.list, byte)
+    }
+
+    #[inline(always)]
+    fn first_from(&self, from: usize) -> Option<(u8, &Entry<P>)>
+        ensures { MatchOption result ((b : ℕ) → from ≤ b → map.get self.now b ≡ None)
+            (λ r. IsFirst self.now from r.0 r.1.now) }
+    {
+        self.bytes.first_child(&self.entries.list, from)
+    }
+
+    /// The entries from a byte on, in the order of their bytes.
+    #[inline(always)]
+    pub(crate) fn children_from(&self, from: usize) -> &[Entry<P>]
+        ensures { Lists self.now from result.now }
+    {
+        self.bytes.children_after(&self.entries.list, from)
+    }
+
+    #[inline(always)]
+    fn insert(&mut self, byte: u8, entry: Entry<P>)
+        requires absent { map.get self.old byte ≡ None }
+        requires room { map.len self.old ≢ 48 }
+        ensures { self.new ≡ map.insert self.old byte entry }
+    {
+        self.bytes.insert_child(&mut self.entries.list, byte, entry);
+    }
+
+    #[inline(always)]
+    fn change(&mut self, byte: u8, entry: Entry<P>) -> Entry<P>
+        requires present { IsSome (map.get self.old byte) }
+        ensures before { map.get self.old byte ≡ Some result }
+        ensures after { self.new ≡ map.insert self.old byte entry }
+    {
+        self.bytes.change_child(&mut self.entries.list, byte, entry)
+    }
+
+    #[inline(always)]
+    fn remove(&mut self, byte: u8) -> Entry<P>
+        requires present { IsSome (map.get self.old byte) }
+        ensures before { map.get self.old byte ≡ Some result }
+        ensures after { self.new ≡ map.remove self.old byte }
+    {
+        self.bytes.remove_child(&mut self.entries.list, byte)
+    }
 }
 
 impl<P: Small> Places<P> {
@@ -76,18 +279,8 @@ impl<P: Small> Places<P> {
     {
         Ok(match form {
             NodeType::N4 => Places::N4(Sorted::new()),
-            NodeType::N16 => Places::N16(Box::new(
-                alloc,
-                Places16 {
-                    children: Sorted::new(),
-                },
-            )?),
-            NodeType::N48 => Places::N48(Box::new(
-                alloc,
-                Places48 {
-                    children: Sorted::new(),
-                },
-            )?),
+            NodeType::N16 => Places::N16(Places16::new(alloc)?),
+            NodeType::N48 => Places::N48(Places48::new(alloc)?),
             NodeType::N256 => Places::N256(Box::new(
                 alloc,
                 Places256 {
@@ -127,8 +320,8 @@ impl<P: Small> Places<P> {
     {
         match self {
             Places::N4(n) => n.len(),
-            Places::N16(n) => n.children.len(),
-            Places::N48(n) => n.children.len(),
+            Places::N16(n) => n.len(),
+            Places::N48(n) => n.len(),
             Places::N256(n) => n.children.len(),
         }
     }
@@ -140,8 +333,8 @@ impl<P: Small> Places<P> {
     {
         match self {
             Places::N4(n) => n.len() == 4,
-            Places::N16(n) => n.children.len() == 16,
-            Places::N48(n) => n.children.len() == 48,
+            Places::N16(n) => n.len() == 16,
+            Places::N48(n) => n.len() == 48,
             Places::N256(_) => false,
         }
     }
@@ -153,8 +346,8 @@ impl<P: Small> Places<P> {
     {
         match self {
             Places::N4(n) => n.get_child(byte),
-            Places::N16(n) => n.children.get_child(byte),
-            Places::N48(n) => n.children.get_child(byte),
+            Places::N16(n) => n.get_child(byte),
+            Places::N48(n) => n.get_child(byte),
             Places::N256(n) => n.children.get_child(byte),
         }
     }
@@ -167,8 +360,8 @@ impl<P: Small> Places<P> {
     {
         match self {
             Places::N4(n) => n.first_from(from),
-            Places::N16(n) => n.children.first_from(from),
-            Places::N48(n) => n.children.first_from(from),
+            Places::N16(n) => n.first_from(from),
+            Places::N48(n) => n.first_from(from),
             Places::N256(n) => n.children.first_from(from),
         }
     }
@@ -182,8 +375,8 @@ impl<P: Small> Places<P> {
     {
         match self {
             Places::N4(n) => n.insert(byte, entry),
-            Places::N16(n) => n.children.insert(byte, entry),
-            Places::N48(n) => n.children.insert(byte, entry),
+            Places::N16(n) => n.insert(byte, entry),
+            Places::N48(n) => n.insert(byte, entry),
             Places::N256(n) => n.children.insert(byte, entry),
         }
     }
@@ -197,8 +390,8 @@ impl<P: Small> Places<P> {
     {
         match self {
             Places::N4(n) => n.change(byte, entry),
-            Places::N16(n) => n.children.change(byte, entry),
-            Places::N48(n) => n.children.change(byte, entry),
+            Places::N16(n) => n.change(byte, entry),
+            Places::N48(n) => n.change(byte, entry),
             Places::N256(n) => n.children.change(byte, entry),
         }
     }
@@ -212,8 +405,8 @@ impl<P: Small> Places<P> {
     {
         match self {
             Places::N4(n) => n.remove(byte),
-            Places::N16(n) => n.children.remove(byte),
-            Places::N48(n) => n.children.remove(byte),
+            Places::N16(n) => n.remove(byte),
+            Places::N48(n) => n.remove(byte),
             Places::N256(n) => n.children.remove(byte),
         }
     }

@@ -11,7 +11,7 @@ ghost use Rattle.congee.specs.declared.forms.base_node.Node.{Node as Form};
 use crate::forms::prefix::MAX_PREFIX_LEN;
 use crate::keys::key_of_bytes;
 use crate::owned::arena::Stored;
-use crate::owned::entries::{Hung, Seen};
+use crate::owned::entries::{Hung, LoneRef};
 use crate::owned::inner::Inner;
 use crate::owned::leaf_node::LeafNode;
 use crate::owned::names::Name;
@@ -20,7 +20,7 @@ use crate::owned::names::Name;
 #[derive(Drop)]
 pub(crate) enum Sight<'a, P: Stored> {
     /// A leaf with one value, in the place of its parent.
-    Inline(Seen<'a, P>),
+    Inline(LoneRef<'a, P>),
     /// An inner node, and its slot.
     Inner(usize, &'a Inner<P>),
     /// A leaf with a slot of its own, and the least key that it may have.

@@ -9,7 +9,7 @@ use crate::forms::base_node::NodeType;
 use crate::forms::child::Child;
 use crate::keys::KEY_BYTES;
 use crate::owned::arena::Stored;
-use crate::owned::entries::{Hung, Seen};
+use crate::owned::entries::{Hung, LoneRef};
 use crate::owned::inner::Inner;
 use crate::owned::leaf_node::LeafNode;
 use crate::owned::lone::Lone;
@@ -129,7 +129,7 @@ impl<P: Stored> Slot<P> {
 
     /// The leaf with one value under a byte of an inner node.
     #[inline(always)]
-    pub(crate) fn lone(&self, byte: u8) -> Seen<'_, P>
+    pub(crate) fn lone(&self, byte: u8) -> LoneRef<'_, P>
         requires present { IsValue (inner_get self.now byte) }
         ensures leaf { inner_get self.now byte ≡ Some (Value (lone_seen result)) }
         ensures begins { slice_index result.key 0 ≡ first_byte (prefix_in self.now) byte }

@@ -10,8 +10,8 @@ use crate::examples::history::{Recorded, counts_calls, writes_of_two};
 use crate::start::start;
 use crate::threads::threads;
 use congee::{Allocator, DefaultAllocator};
-use joint::{Congee, Every, Guard, Journaled, Limits, Refusal, Share, Worker, audit};
-use judge::{Call, Entry, Reply, Verdict, check};
+use joint::{Every, Guard, Journaled, Limits, Refusal, Share, Worker, audit};
+use judge::{Verdict, check};
 use std::alloc::{AllocError, Global};
 use std::io::Write;
 use std::marker::Brand;
@@ -143,64 +143,6 @@ fn writes_down<L: Ledger, R: Wait + Abort>(rt: &R, alloc: Global, blank: Blank) 
     }
 }
 
-/// A journal that is full refuses writing calls alone.
-fn fills<L: Ledger, R: Wait + Abort>(rt: &R, alloc: Global, blank: Blank) -> Result<(), Fail>
-    requires name { blank.name ≡ L.name }
-    requires ledger { blank.parts ≡ L.parts }
-    requires parts { blank.parts ≡ 2 }
-{
-    let (tree, mut share) = words::<L>(alloc, blank, 1)?;
-    let mut worker = tree.register(rt)?;
-    let guard = tree.pin(rt, &mut worker)?;
-    let first = tree.insert(rt, 1, 1, &mut share, &mut worker, &guard);
-    let second = tree.insert(rt, 2, 2, &mut share, &mut worker, &guard);
-    let third = tree.remove(rt, &1, &mut share, &mut worker, &guard);
-    let found = tree.get(rt, &1, &mut worker, &guard);
-    spent(tree.unpin(rt, &mut worker, guard))?;
-    assert_eq!(rt; (first, found), (Ok(None), Ok(Some(1))));
-    assert_eq!(rt; second, Err(Refusal::JournalFull));
-    assert_eq!(rt; third, Err(Refusal::JournalFull));
-    assert_eq!(rt; tree.gather(rt, &mut share), Ok(1));
-    let entry = Entry {
-        worker: 0,
-        call: Call::Insert(1, 1),
-        reply: Reply::Insert(None),
-    };
-    assert_eq!(rt; tree.entries(rt)?.as_slice(), [entry].as_slice());
-    Ok(())
-}
-
-/// Workers of another index, and guards of another worker, are refused.
-fn refuses_strangers<L: Ledger, R: Wait + Abort>(
-    rt: &R,
-    alloc: Global,
-    blank: Blank,
-) -> Result<(), Fail>
-    requires name { blank.name ≡ L.name }
-    requires ledger { blank.parts ≡ L.parts }
-    requires parts { blank.parts ≡ 2 }
-{
-    let (tree, mut share) = words::<L>(alloc, blank, 9)?;
-    let limits = Limits {
-        id: 1,
-        ..Limits::usual(1, 9)
-    };
-    let other: Congee<u64, u64> = Congee::new(alloc, limits, DefaultAllocator::new())?;
-    let mut stranger = other.register(rt)?;
-    let mut worker = tree.register(rt)?;
-    let mut second = tree.register(rt)?;
-    let guard = tree.pin(rt, &mut worker)?;
-    let of_another_worker = tree.insert(rt, 1, 2, &mut share, &mut second, &guard);
-    let of_another_index = tree.remove(rt, &1, &mut share, &mut stranger, &guard);
-    let not_found = tree.get(rt, &1, &mut stranger, &guard);
-    spent(tree.unpin(rt, &mut worker, guard))?;
-    assert_eq!(rt; of_another_worker, Err(Refusal::Foreign));
-    assert_eq!(rt; of_another_index, Err(Refusal::Foreign));
-    assert_eq!(rt; not_found, Err(Refusal::Foreign));
-    assert_eq!(rt; tree.gather(rt, &mut share), Ok(0));
-    Ok(())
-}
-
 /// A share counts the calls that were made with it, and the ledger has no other.
 fn counts<L: Ledger, R: Wait + Abort>(rt: &R, alloc: Global, blank: Blank) -> Result<(), Fail>
     requires name { blank.name ≡ L.name }
@@ -228,8 +170,6 @@ fn counts<L: Ledger, R: Wait + Abort>(rt: &R, alloc: Global, blank: Blank) -> Re
 #[derive(Clone, Copy)]
 enum Task {
     WritesDown,
-    Fills,
-    RefusesStrangers,
     Counts,
 }
 
@@ -245,8 +185,6 @@ fn runs<L: Ledger, R: Wait + Abort>(
 {
     match task {
         Task::WritesDown => writes_down::<L, R>(rt, alloc, blank),
-        Task::Fills => fills::<L, R>(rt, alloc, blank),
-        Task::RefusesStrangers => refuses_strangers::<L, R>(rt, alloc, blank),
         Task::Counts => counts::<L, R>(rt, alloc, blank),
     }
 }
@@ -261,18 +199,8 @@ fn each_call_is_written_down(rt: HostRuntime) -> Result<(), Fail> {
 }
 
 #[test]
-fn a_full_journal_refuses_writing_calls_alone(rt: HostRuntime) -> Result<(), Fail> {
-    tries(&rt, rt.alloc(), Task::Fills)
-}
-
-#[test]
 fn a_share_counts_the_calls_that_were_made(rt: HostRuntime) -> Result<(), Fail> {
     tries(&rt, rt.alloc(), Task::Counts)
-}
-
-#[test]
-fn strangers_write_nothing(rt: HostRuntime) -> Result<(), Fail> {
-    tries(&rt, rt.alloc(), Task::RefusesStrangers)
 }
 
 /// The program's status by these arguments. The writer takes what it prints.
@@ -390,40 +318,5 @@ fn a_history_of_two_is_checked(rt: HostRuntime) -> Result<(), Fail> {
         own.push(kept)?;
     }
     assert!(rt; audit(&known.journal, &own));
-    Ok(())
-}
-
-/// A value is written and read back, and nothing of it is left.
-fn comes_and_goes<R: Wait>(
-    rt: &R,
-    tree: &Congee<u64, u64>,
-    worker: &mut Worker,
-    guard: &Guard,
-) -> Result<bool, Refusal> {
-    Ok(
-        tree.insert(rt, 1, 42, worker, guard)? == None
-            && tree.get(rt, &1, worker, guard)? == Some(42)
-            && tree.insert(rt, 1, 43, worker, guard)? == Some(42)
-            && tree.remove(rt, &1, worker, guard)? == Some(43)
-            && tree.get(rt, &1, worker, guard)? == None,
-    )
-}
-
-#[test]
-fn a_written_value_is_read_back(rt: HostRuntime) -> Result<(), Fail> {
-    let tree: Congee<u64, u64> = Congee::new(
-        rt.alloc(),
-        Limits::usual(2, 1_000),
-        DefaultAllocator::new(),
-    )?;
-    let mut worker = tree.register(&rt)?;
-    let guard = tree.pin(&rt, &mut worker)?;
-    let done = comes_and_goes(&rt, &tree, &mut worker, &guard);
-    spent(tree.unpin(&rt, &mut worker, guard))?;
-    assert_eq!(rt; done, Ok(true));
-    for _ in 0..3 {
-        tree.round(&rt, &mut worker)?;
-    }
-    assert_eq!(rt; tree.charged(&rt), 2104);
     Ok(())
 }

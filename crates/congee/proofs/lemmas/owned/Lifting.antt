@@ -3,7 +3,7 @@ use Rattle.std.proofs.Common.{◌≡◌, ◌≢◌, ℕ, ◌==◌, inl, inr, tru
 use Rattle.std.specs.Prelude.{None, Some, IsSome}
 use Rattle.std.specs.FinMap as map
 use Rattle.slab.specs.Slab.{get, ContainsKey}
-use Rattle.congee.specs.Heap.{Node as Seen, Hung, Nothing, Below, Holds}
+use Rattle.congee.specs.Heap.{Node as HeapNode, Hung, Nothing, Below, Holds}
 use Rattle.congee.specs.Notes.{Linked, Gone, Note, Tree, IsChild, Lifts}
 use Rattle.congee.specs.forms.Forms.{capacity_of, children_of}
 use Rattle.congee.specs.owned.Arena.{Nodes, hung_in, node_of, heap_of, notes_of, IsFilled, IsTree}
@@ -21,7 +21,7 @@ use Rattle.congee.proofs.lemmas.owned.Moves.{insert_at, insert_beside, stands_at
 use Rattle.congee.proofs.lemmas.owned.Ways.{linked_of, stands_of}
 
 -- a node with a node's name at a byte
-abbrev with_below : {V : Type 0} → Seen V → ℕ → ℕ → Seen V
+abbrev with_below : {V : Type 0} → HeapNode V → ℕ → ℕ → HeapNode V
 with_below n b o = record {
   prefix = n.prefix;
   children = λ c. cond (c == b) (Below o) (n.children c);
@@ -45,14 +45,14 @@ module _ {P : Type 0} (s s' : Nodes P) (g b p : ℕ) (t : IsTree s) (r : MayLift
   abbrev a : ℕ → Note
   a = notes_of s t.parent
 
-  abbrev h : ℕ → Seen P
+  abbrev h : ℕ → HeapNode P
   h = heap_of s
 
   -- the tree with the child in the place of the node, under its old name
   abbrev a1 : ℕ → Note
   a1 n = record { status = cond (n == p) Gone (a n).status; owner = None; parent = cond (n == o) g (t.parent n) }
 
-  abbrev h1 : ℕ → Seen P
+  abbrev h1 : ℕ → HeapNode P
   h1 n = cond (n == g) (with_below (h g) b o) (h n)
 
   hg : h g ≡ node_of (Some r.upper)

@@ -7,7 +7,7 @@ use Rattle.std.specs.Cmp.{nat_cmp_total}
 use Rattle.std.specs.FinMap as map
 use Rattle.std.proofs.lemmas.Bool.Decides.{eqb_tells, nat_tests}
 use Rattle.slab.specs.Slab.{get, ContainsKey, Updates}
-use Rattle.congee.specs.Heap.{Node as Seen}
+use Rattle.congee.specs.Heap.{Node as HeapNode}
 use Rattle.congee.specs.Notes.{IsChild, Linked}
 use Rattle.congee.specs.forms.Forms.{Becomes, capacity_of, children_of, form_of, prefix_of, size_of}
 use Rattle.congee.specs.owned.Arena.{Nodes, hung_in, node_of, heap_of, notes_of, IsTree, OnWay, Hangs}
@@ -344,7 +344,7 @@ module _ {P : Type 0} where
     lifted_size up r x e = ap size_of (ap form_of (one_node mid above r.lower k.new r.stood k.now) ∙ (k.becomes.form ∙ ap form_of (one_node s above k.old x k.was e)))
 
 -- what goes with a leaf from another node than the root
-module _ {P : Type 0} (leaf above : Seen P) where
+module _ {P : Type 0} (leaf above : HeapNode P) where
   -- from a node of two children the leaf and that node go, and no lesser one comes
   pub going_two : (n : ℕ) → n ≢ 0 → above.count ≡ 2 → going_last leaf n above ≡ record { gone = size_by leaf.capacity + size_by above.capacity; lesser = None }
   going_two zero ne e = absurd (ne refl)
@@ -357,7 +357,7 @@ module _ {P : Type 0} (leaf above : Seen P) where
       let f : (above.count == 2) ≡ false = elim (eqb_tells above.count 2) [ inl q ↦ absurd (e q.1) | inr q ↦ q.0 ] in
       rw f refl
 
-module _ {P : Type 0} (h : ℕ → Seen P) (above n : ℕ) where
+module _ {P : Type 0} (h : ℕ → HeapNode P) (above n : ℕ) where
   -- with the only value of a leaf goes what goes with the leaf
   pub going_alone : (h n).count ≡ 1 → going_from h above n ≡ going_last (h n) above (h above)
   going_alone e = rw e refl

@@ -362,22 +362,7 @@ module _ {P K : Type 0} (s : Slab (Slot P K)) where
           let z : total f m ≡ total f (k + j) + f (k + j) = ap (total f) (let y : m ≡ suc (k + j) = omega (arith, e) in y) in
           omega (arith, r, z)
 
-  slots_have_names : slab_len s ≤ slab_len (nodes_in s)
-  unfolding nodes_in
-  slots_have_names =
-      let a = len_named s (length s.slots) (omega arith) in
-      let b = len_named (nodes_in s) (257 * length s.slots) (omega (arith, length-map-range_with_len (node_named s.slots) 0 (257 * length s.slots))) in
-      let c = slots_at_most (λ n. count_if_some (get (nodes_in s) n)) (λ i. count_if_some (get s i)) (length s.slots) (λ i. at i (get s i) refl) in
-      omega (arith, a, b, c)
-    where
-      at : (i : ℕ) (o : Option (Slot P K)) → get s i ≡ o → count_if_some (get s i) ≤ count_if_some (get (nodes_in s) (257 * i))
-      at i None e = let z : count_if_some (get s i) ≡ 0 = ap count_if_some e in omega (arith, z)
-      at i (Some x) e =
-          let z : count_if_some (get s i) ≡ 1 = ap count_if_some e in
-          let y : count_if_some (get (nodes_in s) (257 * i)) ≡ 1 = ap count_if_some (slot_seen s i x e) in
-          omega (arith, z, y)
-
-  -- and a leaf in the place of its parent has a further one
+  -- a leaf in the place of its parent has a name beside those of the slots
   pub lone_counts : (i b : ℕ) → b < 256 → ContainsKey (nodes_in s) (257 * i + (b + 1)) → slab_len s + 1 ≤ slab_len (nodes_in s)
   unfolding nodes_in
   lone_counts i b low there =

@@ -54,7 +54,7 @@ module _ {V : Type 0} (h : ℕ → Node V) (r : RootAlone h) where
     up = λ n l ne. absurd (ne (opened_linked n l));
   }
 
-  -- where the root stands alone, each node's lock word and life agree with the ledger
+  -- where the root stands alone, each node's lock word and life agree with its note
   pub opening_words : LockWords opened h
   opening_words = record {
     each = λ n. record {

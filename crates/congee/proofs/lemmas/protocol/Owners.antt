@@ -169,11 +169,11 @@ module _ {C V : Type 0} (number : C → ℕ) (same : V → V → Bool) (always :
   locked_linked t s x l = (locks_are s x l).1 t
 
 module _ {C V : Type 0} (number : C → ℕ) (same : V → V → Bool) (always : Bool) (i : ℕ) (a : ℕ → Note) (h : ℕ → Node V) (k : ℕ) (kind : Kind V) (given : Option V) (n : ℕ) where
-  -- the ledger has each node that a call has made as held by it
+  -- each node that a call has made is noted as held by it
   pub made_held : (s : Phase C V) → Known number same always i a h k (key_bytes k) kind given s → MadeBy number s n → (a n).status ≡ Held i
   made_held s x l = (made_known number same always i a h k (key_bytes k) kind given n s x l).2.held
 
-  -- the ledger has each lock that a call holds as its own
+  -- each lock that a call holds is noted as its own
   pub locks_owned : (s : Phase C V) → Known number same always i a h k (key_bytes k) kind given s → LockedBy number s n → (a n).owner ≡ Some i
   locks_owned s x l = (locks_are number same always i a h k (key_bytes k) kind given n s x l).0
 
@@ -203,13 +203,13 @@ module _ {C V : Type 0} (number : C → ℕ) (same : V → V → Bool) (always :
   mine_is : (k : Machine C V) → slice_get ms i ≡ Some k → k ≡ m
   mine_is k g = let z : Some k ≡ Some m = sym g ∙ e in cc
 
-  -- what the ledger had as locked by the call before the step, its phase had locked
+  -- what was noted as locked by the call before the step, its phase had locked
   pub own_before : (n : ℕ) → (a n).owner ≡ Some i → LockedBy number m.phase n
   own_before n o =
       let x : (k : Machine C V) × (slice_get ms i ≡ Some k) × LockedBy number k.phase n = s.owned n i o in
       let P : Machine C V → Type 0 = λ y. LockedBy number y.phase n in subst P (mine_is x.0 x.1) x.2
 
-  -- what the ledger had as held by the call before the step, its phase had made
+  -- what was noted as held by the call before the step, its phase had made
   pub mine_before : (n : ℕ) → (a n).status ≡ Held i → MadeBy number m.phase n
   mine_before n o =
       let x : (k : Machine C V) × (slice_get ms i ≡ Some k) × MadeBy number k.phase n = s.held n i o in

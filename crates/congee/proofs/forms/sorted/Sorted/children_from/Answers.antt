@@ -1,29 +1,6 @@
-use Rattle.std.proofs.Common.{rules, ◌-◌, length, take, drop, sym, subst, ◌∙◌, arith}
-use Rattle.std.proofs.lemmas.List.{drop_all, take_rest}
+use Rattle.std.proofs.Common.{subst}
 use Rattle.congee.specs.forms.Bytes.{Lists}
-use Rattle.congee.specs.forms.Places.{sorted_map}
-use Rattle.congee.proofs.lemmas.forms.SortedLemmas.{IsPlaceOf}
-use Rattle.congee.proofs.lemmas.forms.Ranks.{rising_of, none_past}
-use Rattle.congee.proofs.lemmas.owned.Rows.{lists_from}
 use Rattle.congee.proofs.forms.sorted.Sorted.children_from.Goals as goal
 
-pub place_of-requires : goal.place_of-requires
-place_of-requires g c = (search rules, rising_of _ _ c.self.invariant.same c.self.invariant.rises)
-
-pub returns-then-from-gt255 : goal.returns-then-from-gt255
-returns-then-from-gt255 g c =
-    let cs = c.as_slice-children.result.now in
-    subst (λ m. Lists m c.args.from (take (length cs - length cs) (drop (length cs) cs))) c.self.view_is
-    (subst (Lists (sorted_map c.self.inside.bytes c.self.inside.children.items) c.args.from) (sym (take_rest cs (length cs) ∙ drop_all (length cs) cs (omega arith)))
-    (none_past c.self.invariant c.args.from (omega arith)))
-
 pub returns : goal.returns
-returns g c =
-    let cs = c.as_slice-children.result.now in
-    let place = c.place_of.result in
-    let s : IsPlaceOf c.args.from place c.self.inside.bytes = record { within = c.place_of.ensures.within; below = c.place_of.ensures.below; at = c.place_of.ensures.at } in
-    let there : Lists (sorted_map c.self.inside.bytes c.self.inside.children.items) c.args.from (drop place c.self.inside.children.items) =
-    lists_from c.self.invariant (length c.self.inside.bytes - place) c.args.from place s (omega (arith, s.within)) in
-    subst (λ m. Lists m c.args.from (take (length cs - place) (drop place cs))) c.self.view_is
-    (subst (Lists (sorted_map c.self.inside.bytes c.self.inside.children.items) c.args.from) (sym (take_rest cs place))
-    (subst (λ xs. Lists (sorted_map c.self.inside.bytes c.self.inside.children.items) c.args.from (drop place xs)) (sym c.as_slice-children.ensures.value) there))
+returns g c = subst (λ m. Lists m c.args.from c.children_after.result.now) c.self.view_is c.children_after.ensures

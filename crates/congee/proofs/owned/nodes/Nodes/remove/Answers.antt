@@ -1,7 +1,7 @@
 use Rattle.congee.proofs.lemmas.owned.SlotComes.{leaves_stored, leaves_done}
 use Rattle.congee.proofs.lemmas.owned.SlotLeaves.{leaf_slot}
 use Rattle.congee.proofs.lemmas.owned.SlotOps.{same_view_room}
-use Rattle.congee.specs.owned.EntryRoom.{places16_fits, places48_fits, places256_fits}
+use Rattle.congee.specs.owned.EntryRoom.{entries16_fits, entries48_fits, places256_fits}
 use Rattle.congee.specs.owned.ValueRoom.{values16_fits, values48_fits, values256_fits}
 use Rattle.congee.proofs.owned.nodes.Nodes.remove.Goals as goal
 
@@ -18,10 +18,10 @@ returns g c = record {
 }
 
 pub drop-requires-room-T-Destruct : goal.drop-requires-room-T-Destruct
-drop-requires-room-T-Destruct g c κs within = places16_fits g.row.P g.met.P.Small.small
+drop-requires-room-T-Destruct g c κs within = entries16_fits g.row.P g.met.P.Small.small
 
 pub drop-requires-2-room-T-Destruct : goal.drop-requires-2-room-T-Destruct
-drop-requires-2-room-T-Destruct g c κs within = places48_fits g.row.P g.met.P.Small.small
+drop-requires-2-room-T-Destruct g c κs within = entries48_fits g.row.P g.met.P.Small.small
 
 pub drop-requires-3-room-T-Destruct : goal.drop-requires-3-room-T-Destruct
 drop-requires-3-room-T-Destruct g c κs within = places256_fits g.row.P g.met.P.Small.small

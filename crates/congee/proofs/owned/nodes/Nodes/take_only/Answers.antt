@@ -3,7 +3,7 @@ use Rattle.congee.proofs.lemmas.owned.SlotOps.{has_slot, slot_inner, same_view_r
 use Rattle.congee.proofs.lemmas.owned.Takings.{lone_some, lone_stored, no_lone, only_len, plain_stored, take_gives}
 use Rattle.congee.specs.owned.Lifting.{GivesOnly}
 use Rattle.congee.specs.owned.Slots.{nodes_in}
-use Rattle.congee.specs.owned.EntryRoom.{places16_fits, places48_fits, places256_fits}
+use Rattle.congee.specs.owned.EntryRoom.{entries16_fits, entries48_fits, places256_fits}
 use Rattle.congee.specs.owned.ValueRoom.{values16_fits, values48_fits, values256_fits}
 use Rattle.congee.proofs.owned.nodes.Nodes.take_only.Goals as goal
 
@@ -38,10 +38,10 @@ returns g c = record {
 }
 
 pub drop-requires-room-T-Destruct : goal.drop-requires-room-T-Destruct
-drop-requires-room-T-Destruct g c κs within = places16_fits g.row.P g.met.P.Small.small
+drop-requires-room-T-Destruct g c κs within = entries16_fits g.row.P g.met.P.Small.small
 
 pub drop-requires-in-Value-2-room-T-Destruct : goal.drop-requires-in-Value-2-room-T-Destruct
-drop-requires-in-Value-2-room-T-Destruct g c κs within = places48_fits g.row.P g.met.P.Small.small
+drop-requires-in-Value-2-room-T-Destruct g c κs within = entries48_fits g.row.P g.met.P.Small.small
 
 pub drop-requires-in-Value-3-room-T-Destruct : goal.drop-requires-in-Value-3-room-T-Destruct
 drop-requires-in-Value-3-room-T-Destruct g c κs within = places256_fits g.row.P g.met.P.Small.small
@@ -56,10 +56,10 @@ pub drop-requires-in-Value-6-room-T-Destruct : goal.drop-requires-in-Value-6-roo
 drop-requires-in-Value-6-room-T-Destruct g c κs within = values256_fits g.row.P-Kept g.met.P.Kept.Small.small
 
 pub drop-requires-in_default-room-T-Destruct : goal.drop-requires-in_default-room-T-Destruct
-drop-requires-in_default-room-T-Destruct g c κs within = places16_fits g.row.P g.met.P.Small.small
+drop-requires-in_default-room-T-Destruct g c κs within = entries16_fits g.row.P g.met.P.Small.small
 
 pub drop-requires-in_default-2-room-T-Destruct : goal.drop-requires-in_default-2-room-T-Destruct
-drop-requires-in_default-2-room-T-Destruct g c κs within = places48_fits g.row.P g.met.P.Small.small
+drop-requires-in_default-2-room-T-Destruct g c κs within = entries48_fits g.row.P g.met.P.Small.small
 
 pub drop-requires-in_default-3-room-T-Destruct : goal.drop-requires-in_default-3-room-T-Destruct
 drop-requires-in_default-3-room-T-Destruct g c κs within = places256_fits g.row.P g.met.P.Small.small

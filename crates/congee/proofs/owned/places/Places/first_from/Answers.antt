@@ -1,11 +1,5 @@
-use Rattle.congee.specs.owned.EntryRoom.{sorted16_fits, sorted48_fits, masked_fits}
+use Rattle.congee.specs.owned.EntryRoom.{masked_fits}
 use Rattle.congee.proofs.owned.places.Places.first_from.Goals as goal
-
-pub first_from-requires-in-N16 : goal.first_from-requires-in-N16
-first_from-requires-in-N16 g c = sorted16_fits g.row.P g.met.P.Small.small
-
-pub first_from-requires-in-N48 : goal.first_from-requires-in-N48
-first_from-requires-in-N48 g c = sorted48_fits g.row.P g.met.P.Small.small
 
 pub first_from-requires-in-N256 : goal.first_from-requires-in-N256
 first_from-requires-in-N256 g c = masked_fits g.row.P g.met.P.Small.small

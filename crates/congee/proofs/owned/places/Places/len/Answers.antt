@@ -1,11 +1,5 @@
-use Rattle.congee.specs.owned.EntryRoom.{sorted16_fits, sorted48_fits, masked_fits}
+use Rattle.congee.specs.owned.EntryRoom.{masked_fits}
 use Rattle.congee.proofs.owned.places.Places.len.Goals as goal
-
-pub len-requires-in-N16 : goal.len-requires-in-N16
-len-requires-in-N16 g c = sorted16_fits g.row.P g.met.P.Small.small
-
-pub len-requires-in-N48 : goal.len-requires-in-N48
-len-requires-in-N48 g c = sorted48_fits g.row.P g.met.P.Small.small
 
 pub len-requires-in-N256 : goal.len-requires-in-N256
 len-requires-in-N256 g c = masked_fits g.row.P g.met.P.Small.small
@@ -14,10 +8,10 @@ pub returns-in-N4 : goal.returns-in-N4
 returns-in-N4 g c = rw c.in-N4.is c.len.ensures
 
 pub returns-in-N16 : goal.returns-in-N16
-returns-in-N16 g c = rw (c.in-N16.is, ← c.deref.ensures) c.len-in-N16.ensures
+returns-in-N16 g c = rw c.in-N16.is c.len-in-N16.ensures
 
 pub returns-in-N48 : goal.returns-in-N48
-returns-in-N48 g c = rw (c.in-N48.is, ← c.deref-in-N48.ensures) c.len-in-N48.ensures
+returns-in-N48 g c = rw c.in-N48.is c.len-in-N48.ensures
 
 pub returns-in-N256 : goal.returns-in-N256
-returns-in-N256 g c = rw (c.in-N256.is, ← c.deref-in-N256.ensures) c.len-in-N256.ensures
+returns-in-N256 g c = rw (c.in-N256.is, ← c.deref.ensures) c.len-in-N256.ensures
