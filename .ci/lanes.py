@@ -163,11 +163,19 @@ class Rows:
         return [self.refused.get(it) or self.rt.must_fail(crate, it, flags) for it in due]
 
 
+def begin_over_kept(rt):
+    """Has the checks that edits begin with start over what an `rt check` kept on this machine, as `rt must-fail` does."""
+    if hasattr(rt, "seeded") and hasattr(rt, "work_for"):
+        seeded = rt.seeded
+        rt.seeded = lambda crate, flags, start=None: seeded(crate, flags, start or rt.work_for(crate))
+
+
 def main():
     rt = load(os.path.realpath(shutil.which("rt")))
     if not all(hasattr(rt, it) for it in ("in_lanes", "free", "processors", "main")):
         os.environ.setdefault("RT_JOBS", str(min(4, len(os.sched_getaffinity(0)))))
         return rt.main(["ci"])
+    begin_over_kept(rt)
     has_rows = not hasattr(rt, "ending") and all(hasattr(rt, it) for it in ("must_fail_all", "must_fail", "checked", "edits_of"))
     with tempfile.TemporaryDirectory(prefix="rt-rows-") as room:
         rows = Rows(rt, room) if has_rows else None
