@@ -17,13 +17,13 @@ use arrayvec::ArrayVec;
 use std::alloc::{AllocError, Global};
 use std::marker::Model;
 
-/// What lies in the box of so many entries.
+/// What lies in the box of at most `N` entries.
 #[derive(Drop)]
 pub(crate) struct EntryList<P, const N: usize> {
     list: ArrayVec<Entry<P>, N>,
 }
 
-/// At most so many entries, in a box. Their bytes stand beside it, so that a look-up reads one line of the box.
+/// At most `N` entries, in a box. Their bytes stand beside it, so that a look-up reads one line of the box.
 #[derive(Drop)]
 pub(crate) struct Ranked<P: Boxed<N>, const N: usize> {
     bytes: Ranks<N>,
@@ -53,7 +53,7 @@ pub(crate) struct Places256<P> {
     pub(crate) children: Masked<Entry<P>>,
 }
 
-/// A payload of which so many entries fit in memory, in a list.
+/// A payload of which a list of `N` entries fits in memory.
 pub(crate) trait Boxed<const N: usize>: Small {
     ghost use Rattle.std.specs.Mem.{FitsInMemory};
     ghost use Rattle.congee.specs.contracts.owned.places.EntryList.{the_row as list_row};
