@@ -2,12 +2,12 @@ pub mod Arena
 pub mod Changes
 pub mod Charge
 pub mod Codes
-pub mod EntryCodes
 pub mod Content
 pub mod Cursor
 pub mod Drained
 pub mod Edits
 pub mod Entries
+pub mod EntryCodes
 pub mod EntryRoom
 pub mod Full
 pub mod Going

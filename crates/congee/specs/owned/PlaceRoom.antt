@@ -73,7 +73,7 @@ module _ {τ : Ty} (thing : FitsIn τ 1000000) where
       let w = enum (case (field (sorted 4 (omega arith)) no_fields) (case (field few no_fields) (case (field many no_fields) (case (field pointer no_fields) no_cases)))) in
       record { bytes = omega (arith, w.bytes); aligned = w.aligned }
 
-  -- and a list of them
+  -- and so many things in a list
   pub list : (n : ℕ) → n ≤ 48 → FitsIn (array_vec_ty τ n) 400000000
   list n l = things n 400000000 (omega arith)
 

@@ -10,11 +10,11 @@ use Rattle.congee.specs.forms.RoomLemmas.{FitsIn, prefix_ty}
 use Rattle.congee.specs.owned.EntryRoom.{entry_ty}
 use Rattle.congee.specs.owned.PlaceRoom.{boxed, boxed_ty, fits, forms, forms_ty, indexed, indexed_ty, masked, masked_ty, places_ty, room, sorted, sorted_ty}
 
--- a prefix beside the places of a form
+-- a prefix beside a leaf's places
 abbrev pub node_ty : Ty → Ty
 node_ty τ = ty_struct [] (tcons prefix_ty (tcons (forms_ty τ) tnil))
 
--- the same, and a word beside them
+-- a prefix, an inner node's places, and a word
 abbrev inner_ty : Ty → Ty
 inner_ty τ = ty_struct [] (tcons prefix_ty (tcons (places_ty τ) (tcons (ty_int w64) tnil)))
 

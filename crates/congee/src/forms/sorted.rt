@@ -13,7 +13,7 @@ use std::mem;
 impl<const N: usize> Ranks<N> {
     /// The child of a byte, of children that stand in the order of these bytes.
     #[inline(always)]
-    pub(crate) fn child_of<'a, X>(&self, children: &'a ArrayVec<X, N>, byte: u8) -> Option<&'a X>
+    pub(crate) fn get_child<'a, X>(&self, children: &'a ArrayVec<X, N>, byte: u8) -> Option<&'a X>
         requires { IsSorted self.now children.now.items }
         ensures { option_copied result ≡ map.get (sorted_map self.now children.now.items) byte }
     {
@@ -26,7 +26,7 @@ impl<const N: usize> Ranks<N> {
 
     /// The child of the least byte from `from` on.
     #[inline(always)]
-    pub(crate) fn first_child<'a, X>(
+    pub(crate) fn first_from<'a, X>(
         &self,
         children: &'a ArrayVec<X, N>,
         from: usize,
@@ -48,7 +48,7 @@ impl<const N: usize> Ranks<N> {
 
     /// The children from `from` on, in the order of their bytes.
     #[inline(always)]
-    pub(crate) fn children_after<'a, X>(&self, children: &'a ArrayVec<X, N>, from: usize) -> &'a [X]
+    pub(crate) fn children_from<'a, X>(&self, children: &'a ArrayVec<X, N>, from: usize) -> &'a [X]
         requires { IsSorted self.now children.now.items }
         ensures { Lists (sorted_map self.now children.now.items) from result.now }
     {
@@ -71,7 +71,7 @@ impl<const N: usize> Ranks<N> {
         requires absent { map.get (sorted_map self.old children.old.items) byte ≡ None }
         requires room { map.len (sorted_map self.old children.old.items) ≢ N }
         ensures sorted { IsSorted self.new children.new.items }
-        ensures now { sorted_map self.new children.new.items ≡ map.insert (sorted_map self.old children.old.items) byte child }
+        ensures after { sorted_map self.new children.new.items ≡ map.insert (sorted_map self.old children.old.items) byte child }
     {
         let place = self.place_of(byte);
         self.insert(place, byte);
@@ -90,7 +90,7 @@ impl<const N: usize> Ranks<N> {
         requires present { IsSome (map.get (sorted_map self.now children.old.items) byte) }
         ensures before { map.get (sorted_map self.now children.old.items) byte ≡ Some result }
         ensures sorted { IsSorted self.now children.new.items }
-        ensures now { sorted_map self.now children.new.items ≡ map.insert (sorted_map self.now children.old.items) byte child }
+        ensures after { sorted_map self.now children.new.items ≡ map.insert (sorted_map self.now children.old.items) byte child }
     {
         let place = self.place_of(byte);
         mem::replace(&mut children[place], child)
@@ -107,7 +107,7 @@ impl<const N: usize> Ranks<N> {
         requires present { IsSome (map.get (sorted_map self.old children.old.items) byte) }
         ensures before { map.get (sorted_map self.old children.old.items) byte ≡ Some result }
         ensures sorted { IsSorted self.new children.new.items }
-        ensures now { sorted_map self.new children.new.items ≡ map.remove (sorted_map self.old children.old.items) byte }
+        ensures after { sorted_map self.new children.new.items ≡ map.remove (sorted_map self.old children.old.items) byte }
     {
         let place = self.place_of(byte);
         self.remove(place);
@@ -153,7 +153,7 @@ impl<X, const N: usize> Sorted<X, N> {
     pub(crate) fn get_child(&self, byte: u8) -> Option<&X>
         ensures { option_copied result ≡ map.get self.now byte }
     {
-        self.bytes.child_of(&self.children, byte)
+        self.bytes.get_child(&self.children, byte)
     }
 
     /// The child of the least byte from `from` on.
@@ -162,7 +162,7 @@ impl<X, const N: usize> Sorted<X, N> {
         ensures { MatchOption result ((b : ℕ) → from ≤ b → map.get self.now b ≡ None)
             (λ r. IsFirst self.now from r.0 r.1.now) }
     {
-        self.bytes.first_child(&self.children, from)
+        self.bytes.first_from(&self.children, from)
     }
 
     /// The children from `from` on, in the order of their bytes.
@@ -170,7 +170,7 @@ impl<X, const N: usize> Sorted<X, N> {
     pub(crate) fn children_from(&self, from: usize) -> &[X]
         ensures { Lists self.now from result.now }
     {
-        self.bytes.children_after(&self.children, from)
+        self.bytes.children_from(&self.children, from)
     }
 }
 

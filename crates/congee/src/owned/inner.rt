@@ -23,7 +23,7 @@ use std::marker::Model;
 /// The prefix of an inner node, and what hangs in it. To contracts it is a node whose children are nodes by their slots and
 /// leaves with their whole keys.
 ///
-/// `spare` fills a slot, with values of eight bytes, to 128 bytes, so that what leads a look-up on from one lies in one line of
+/// `spare` fills a slot, with values of eight bytes, to 128 bytes, so that its beginning, with the prefix, lies in one line of
 /// memory.
 #[derive(Drop)]
 pub(crate) struct Inner<P: Nested> {

@@ -17,50 +17,20 @@ use arrayvec::ArrayVec;
 use std::alloc::{AllocError, Global};
 use std::marker::Model;
 
-/// What lies in the box of 16 entries.
+/// What lies in the box of at most `N` entries.
 #[derive(Drop)]
-pub(crate) struct Entries16<P> {
-    pub(crate) list: ArrayVec<Entry<P>, 16>,
+pub(crate) struct EntryList<P, const N: usize> {
+    list: ArrayVec<Entry<P>, N>,
 }
 
-/// At most 16 entries, in a box. Their bytes stand beside it, so that a look-up reads one line of the box.
+/// At most `N` entries, in a box. Their bytes stand beside it, so that a look-up reads one line of the box.
 #[derive(Drop)]
-pub(crate) struct Places16<P: Nested> {
-    bytes: Ranks<16>,
-    entries: Box<Entries16<P>>,
+pub(crate) struct Ranked<P: Boxed<N>, const N: usize> {
+    bytes: Ranks<N>,
+    entries: Box<EntryList<P, N>>,
 }
 
-impl<P: Nested> Model for Places16<P> {
-    ghost use Rattle.std.specs.Ordering.{nat_cmp};
-    ghost use Rattle.std.specs.FinMap as map;
-    ghost use Rattle.std.specs.Coded.{coded_ℕ};
-    ghost use Rattle.congee.specs.forms.Places.{sorted_map, IsSorted};
-    ghost use Rattle.congee.specs.owned.EntryCodes.{entry_code};
-    ghost use Rattle.congee.specs.declared.owned.entries.Entry.{Entry};
-
-    ghost Value = { map.FinMap nat_cmp (Entry P) };
-
-    ghost coded = { map.code coded_ℕ (entry_code P.code) };
-
-    ghost view = { λ s. sorted_map s.bytes s.entries.value.list.items };
-
-    ghost invariant = { λ s. IsSorted s.bytes s.entries.value.list.items };
-}
-
-/// What lies in the box of 48 entries.
-#[derive(Drop)]
-pub(crate) struct Entries48<P> {
-    pub(crate) list: ArrayVec<Entry<P>, 48>,
-}
-
-/// At most 48 entries, in a box. Their bytes stand beside it, so that a look-up reads one line of the box.
-#[derive(Drop)]
-pub(crate) struct Places48<P: Nested> {
-    bytes: Ranks<48>,
-    entries: Box<Entries48<P>>,
-}
-
-impl<P: Nested> Model for Places48<P> {
+impl<P: Boxed<N>, const N: usize> Model for Ranked<P, N> {
     ghost use Rattle.std.specs.Ordering.{nat_cmp};
     ghost use Rattle.std.specs.FinMap as map;
     ghost use Rattle.std.specs.Coded.{coded_ℕ};
@@ -83,26 +53,36 @@ pub(crate) struct Places256<P> {
     pub(crate) children: Masked<Entry<P>>,
 }
 
-/// A payload whose inner nodes fit in memory in every form. Each payload is one.
-pub(crate) trait Nested: Small {
+/// A payload of which a list of `N` entries fits in memory.
+pub(crate) trait Boxed<const N: usize>: Small {
     ghost use Rattle.std.specs.Mem.{FitsInMemory};
-    ghost use Rattle.congee.specs.contracts.owned.places.Entries16.{the_row as row_16};
-    ghost use Rattle.congee.specs.contracts.owned.places.Entries48.{the_row as row_48};
+    ghost use Rattle.congee.specs.contracts.owned.places.EntryList.{the_row as list_row};
+
+    ghost fits_list: { FitsInMemory (list_row Self.row N.row) };
+}
+
+impl<P: Small> Boxed<16> for P {
+    ghost use Rattle.congee.specs.owned.EntryRoom.{entries16_fits};
+
+    ghost fits_list = { entries16_fits P.row P.small };
+}
+
+impl<P: Small> Boxed<48> for P {
+    ghost use Rattle.congee.specs.owned.EntryRoom.{entries48_fits};
+
+    ghost fits_list = { entries48_fits P.row P.small };
+}
+
+/// A payload whose inner nodes fit in memory in every form. Each payload is one.
+pub(crate) trait Nested: Boxed<16> + Boxed<48> {
+    ghost use Rattle.std.specs.Mem.{FitsInMemory};
     ghost use Rattle.congee.specs.contracts.owned.places.Places256.{the_row as row_256};
-
-    ghost fits_16: { FitsInMemory (row_16 Self.row) };
-
-    ghost fits_48: { FitsInMemory (row_48 Self.row) };
 
     ghost fits_256: { FitsInMemory (row_256 Self.row) };
 }
 
 impl<P: Small> Nested for P {
-    ghost use Rattle.congee.specs.owned.EntryRoom.{entries16_fits, entries48_fits, places256_fits};
-
-    ghost fits_16 = { entries16_fits P.row P.small };
-
-    ghost fits_48 = { entries48_fits P.row P.small };
+    ghost use Rattle.congee.specs.owned.EntryRoom.{places256_fits};
 
     ghost fits_256 = { places256_fits P.row P.small };
 }
@@ -111,49 +91,53 @@ impl<P: Small> Nested for P {
 #[derive(Drop)]
 pub(crate) enum Places<P: Nested> {
     N4(Sorted<Entry<P>, 4>),
-    N16(Places16<P>),
-    N48(Places48<P>),
+    N16(Ranked<P, 16>),
+    N48(Ranked<P, 48>),
     N256(Box<Places256<P>>),
 }
 
-impl<P: Small> Places16<P> {
+impl<P: Boxed<N>, const N: usize> Ranked<P, N> {
     /// No entries.
     fn new(alloc: Global) -> Result<Self, AllocError>
+        requires { N < 256 }
         ensures { IfOk result (λ n. n ≡ map.empty) }
     {
-        Ok(Places16 {
+        Ok(Ranked {
             bytes: Ranks::new(),
             entries: Box::new(
                 alloc,
-                Entries16 {
+                EntryList {
                     list: ArrayVec::new(),
                 },
             )?,
         })
     }
 
+    /// How many entries there are.
     #[inline(always)]
     fn len(&self) -> usize
         ensures count { result ≡ map.len self.now }
-        ensures fits { result ≤ 16 }
+        ensures fits { result ≤ N }
         ensures bytes { (b : ℕ) → IsSome (map.get self.now b) → b < 256 }
     {
         self.bytes.len()
     }
 
+    /// The entry of a byte.
     #[inline(always)]
     fn get_child(&self, byte: u8) -> Option<&Entry<P>>
         ensures { option_copied result ≡ map.get self.now byte }
     {
-        self.bytes.child_of(&self.entries.list, byte)
+        self.bytes.get_child(&self.entries.list, byte)
     }
 
+    /// The entry of the least byte from `from` on.
     #[inline(always)]
     fn first_from(&self, from: usize) -> Option<(u8, &Entry<P>)>
         ensures { MatchOption result ((b : ℕ) → from ≤ b → map.get self.now b ≡ None)
             (λ r. IsFirst self.now from r.0 r.1.now) }
     {
-        self.bytes.first_child(&self.entries.list, from)
+        self.bytes.first_from(&self.entries.list, from)
     }
 
     /// The entries from a byte on, in the order of their bytes.
@@ -161,18 +145,20 @@ impl<P: Small> Places16<P> {
     pub(crate) fn children_from(&self, from: usize) -> &[Entry<P>]
         ensures { Lists self.now from result.now }
     {
-        self.bytes.children_after(&self.entries.list, from)
+        self.bytes.children_from(&self.entries.list, from)
     }
 
+    /// Adds an entry under a byte that has none, where there is room.
     #[inline(always)]
     fn insert(&mut self, byte: u8, entry: Entry<P>)
         requires absent { map.get self.old byte ≡ None }
-        requires room { map.len self.old ≢ 16 }
+        requires room { map.len self.old ≢ N }
         ensures { self.new ≡ map.insert self.old byte entry }
     {
         self.bytes.insert_child(&mut self.entries.list, byte, entry);
     }
 
+    /// Puts another entry under a byte that has one, and gives the one before.
     #[inline(always)]
     fn change(&mut self, byte: u8, entry: Entry<P>) -> Entry<P>
         requires present { IsSome (map.get self.old byte) }
@@ -182,82 +168,7 @@ impl<P: Small> Places16<P> {
         self.bytes.change_child(&mut self.entries.list, byte, entry)
     }
 
-    #[inline(always)]
-    fn remove(&mut self, byte: u8) -> Entry<P>
-        requires present { IsSome (map.get self.old byte) }
-        ensures before { map.get self.old byte ≡ Some result }
-        ensures after { self.new ≡ map.remove self.old byte }
-    {
-        self.bytes.remove_child(&mut self.entries.list, byte)
-    }
-}
-
-impl<P: Small> Places48<P> {
-    /// No entries.
-    fn new(alloc: Global) -> Result<Self, AllocError>
-        ensures { IfOk result (λ n. n ≡ map.empty) }
-    {
-        Ok(Places48 {
-            bytes: Ranks::new(),
-            entries: Box::new(
-                alloc,
-                Entries48 {
-                    list: ArrayVec::new(),
-                },
-            )?,
-        })
-    }
-
-    #[inline(always)]
-    fn len(&self) -> usize
-        ensures count { result ≡ map.len self.now }
-        ensures fits { result ≤ 48 }
-        ensures bytes { (b : ℕ) → IsSome (map.get self.now b) → b < 256 }
-    {
-        self.bytes.len()
-    }
-
-    #[inline(always)]
-    fn get_child(&self, byte: u8) -> Option<&Entry<P>>
-        ensures { option_copied result ≡ map.get self.now byte }
-    {
-        self.bytes.child_of(&self.entries.list, byte)
-    }
-
-    #[inline(always)]
-    fn first_from(&self, from: usize) -> Option<(u8, &Entry<P>)>
-        ensures { MatchOption result ((b : ℕ) → from ≤ b → map.get self.now b ≡ None)
-            (λ r. IsFirst self.now from r.0 r.1.now) }
-    {
-        self.bytes.first_child(&self.entries.list, from)
-    }
-
-    /// The entries from a byte on, in the order of their bytes.
-    #[inline(always)]
-    pub(crate) fn children_from(&self, from: usize) -> &[Entry<P>]
-        ensures { Lists self.now from result.now }
-    {
-        self.bytes.children_after(&self.entries.list, from)
-    }
-
-    #[inline(always)]
-    fn insert(&mut self, byte: u8, entry: Entry<P>)
-        requires absent { map.get self.old byte ≡ None }
-        requires room { map.len self.old ≢ 48 }
-        ensures { self.new ≡ map.insert self.old byte entry }
-    {
-        self.bytes.insert_child(&mut self.entries.list, byte, entry);
-    }
-
-    #[inline(always)]
-    fn change(&mut self, byte: u8, entry: Entry<P>) -> Entry<P>
-        requires present { IsSome (map.get self.old byte) }
-        ensures before { map.get self.old byte ≡ Some result }
-        ensures after { self.new ≡ map.insert self.old byte entry }
-    {
-        self.bytes.change_child(&mut self.entries.list, byte, entry)
-    }
-
+    /// Takes out the entry of a byte that has one.
     #[inline(always)]
     fn remove(&mut self, byte: u8) -> Entry<P>
         requires present { IsSome (map.get self.old byte) }
@@ -279,8 +190,8 @@ impl<P: Small> Places<P> {
     {
         Ok(match form {
             NodeType::N4 => Places::N4(Sorted::new()),
-            NodeType::N16 => Places::N16(Places16::new(alloc)?),
-            NodeType::N48 => Places::N48(Places48::new(alloc)?),
+            NodeType::N16 => Places::N16(Ranked::new(alloc)?),
+            NodeType::N48 => Places::N48(Ranked::new(alloc)?),
             NodeType::N256 => Places::N256(Box::new(
                 alloc,
                 Places256 {

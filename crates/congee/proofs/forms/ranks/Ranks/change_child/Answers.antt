@@ -22,8 +22,8 @@ returns-clause-before g c =
     let e = get_found c.requires.sorted c.args.byte c.place_of-place.result c.index-deref_mut-place.result s at.0 at.1 in
     cc (e, c.deref_mut.ensures.value, c.replace.ensures.value)
 
-pub returns-clause-now : goal.returns-clause-now
-returns-clause-now g c =
+pub returns-clause-after : goal.returns-clause-after
+returns-clause-after g c =
     let s : IsPlaceOf c.args.byte c.place_of-place.result c.args.self.now = record { within = c.place_of-place.ensures.within; below = c.place_of-place.ensures.below; at = c.place_of-place.ensures.at } in
     let all = change_map c.requires.sorted c.args.byte c.place_of-place.result c.args.child (omega arith) s c.requires.present in
     rw (c.deref_mut.ensures.value, c.replace.ensures.after, refill_set c.args.children.now.items c.place_of-place.result c.args.child) all.1

@@ -20,8 +20,8 @@ returns-clause-sorted g c =
     let all = insert_map c.requires.sorted c.args.byte c.place_of-place.result c.args.child (omega arith) s c.requires.absent in
     rw (c.insert.ensures, c.insert-2.ensures.items) all.0
 
-pub returns-clause-now : goal.returns-clause-now
-returns-clause-now g c =
+pub returns-clause-after : goal.returns-clause-after
+returns-clause-after g c =
     let s : IsPlaceOf c.args.byte c.place_of-place.result c.args.self.now = record { within = c.place_of-place.ensures.within; below = c.place_of-place.ensures.below; at = c.place_of-place.ensures.at } in
     let all = insert_map c.requires.sorted c.args.byte c.place_of-place.result c.args.child (omega arith) s c.requires.absent in
     rw (c.insert.ensures, c.insert-2.ensures.items) all.1

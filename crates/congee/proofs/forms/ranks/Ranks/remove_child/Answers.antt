@@ -29,8 +29,8 @@ returns-clause-before g c =
     let e = get_found c.requires.sorted c.args.byte c.place_of-place.result c.remove-2.result s at.0 at.1 in
     cc (e, c.remove-2.ensures.value)
 
-pub returns-clause-now : goal.returns-clause-now
-returns-clause-now g c =
+pub returns-clause-after : goal.returns-clause-after
+returns-clause-after g c =
     let s : IsPlaceOf c.args.byte c.place_of-place.result c.args.self.now = record { within = c.place_of-place.ensures.within; below = c.place_of-place.ensures.below; at = c.place_of-place.ensures.at } in
     let all = remove_map c.requires.sorted c.args.byte c.place_of-place.result s c.requires.present in
     rw (c.remove.ensures, c.remove-2.ensures.items) all.1

@@ -5,7 +5,7 @@ use Rattle.congee.specs.forms.Places.{sorted_map}
 use Rattle.congee.proofs.lemmas.forms.SortedLemmas.{IsPlaceOf}
 use Rattle.congee.proofs.lemmas.forms.Ranks.{rising_of, none_past}
 use Rattle.congee.proofs.lemmas.owned.Rows.{lists_from}
-use Rattle.congee.proofs.forms.ranks.Ranks.children_after.Goals as goal
+use Rattle.congee.proofs.forms.ranks.Ranks.children_from.Goals as goal
 
 pub place_of-requires : goal.place_of-requires
 place_of-requires g c = (search rules, rising_of _ _ c.requires.same c.requires.rises)

@@ -1,7 +1,7 @@
 use Rattle.std.proofs.Common.{sym, subst, IsSome}
 use Rattle.std.specs.FinMap as map
 use Rattle.congee.proofs.lemmas.forms.SortedLemmas.{len_is, is_byte}
-use Rattle.congee.proofs.owned.places.Places48.len.Goals as goal
+use Rattle.congee.proofs.owned.places.Ranked.len.Goals as goal
 
 pub returns-clause-count : goal.returns-clause-count
 returns-clause-count g c = cc (len_is c.self.invariant, c.self.view_is, c.len.ensures.count)

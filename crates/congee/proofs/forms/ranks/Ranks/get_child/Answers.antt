@@ -1,8 +1,8 @@
 use Rattle.std.proofs.Common.{rules, ◌≡◌, ◌≢◌, get_or, ℕ, arith, sym, subst}
 use Rattle.congee.proofs.lemmas.forms.SortedLemmas.{IsPlaceOf, get_found, get_absent}
 use Rattle.congee.proofs.lemmas.forms.Ranks.{rising_of}
-use Rattle.congee.proofs.forms.ranks.Ranks.child_of.Goals as goal
-use Rattle.congee.proofs.forms.ranks.Ranks.child_of.Goals.{else-place-len-via-then-place-len+else-at-byte, else-place-len-via-else-place-len}
+use Rattle.congee.proofs.forms.ranks.Ranks.get_child.Goals as goal
+use Rattle.congee.proofs.forms.ranks.Ranks.get_child.Goals.{else-place-len-via-then-place-len+else-at-byte, else-place-len-via-else-place-len}
 
 pub returns-then-at-byte : goal.returns-then-at-byte
 returns-then-at-byte g c =

@@ -3,7 +3,7 @@ use Rattle.congee.specs.forms.Bytes.{IsFirst}
 use Rattle.congee.specs.forms.Places.{sorted_map}
 use Rattle.congee.proofs.lemmas.forms.SortedLemmas.{IsPlaceOf, is_first, none_from}
 use Rattle.congee.proofs.lemmas.forms.Ranks.{rising_of, none_past}
-use Rattle.congee.proofs.forms.ranks.Ranks.first_child.Goals as goal
+use Rattle.congee.proofs.forms.ranks.Ranks.first_from.Goals as goal
 
 pub returns-then-place-len : goal.returns-then-place-len
 returns-then-place-len g c =
