@@ -110,7 +110,7 @@ prefix_ty = ty_struct [] (tcons (ty_array (ty_int w8) 8) tnil)
 
 -- bytes in the order in which they are counted
 abbrev pub ranks_ty : ℕ → Ty
-ranks_ty n = ty_struct [] (tcons (ty_array (ty_int w8) n) (tcons (ty_int w64) tnil))
+ranks_ty n = ty_struct [] (tcons (ty_array (ty_int w8) n) (tcons (ty_int w8) tnil))
 
 -- children in the order of their bytes
 abbrev sorted_ty : ℕ → Ty → Ty → Ty
@@ -130,7 +130,7 @@ mask_ty = ty_struct [] (tcons (ty_array (ty_int w8) 32) tnil)
 
 -- children behind a mask
 abbrev masked_ty : Ty → Ty → Ty
-masked_ty τ σ = ty_struct [] (tcons (ty_int w16) (tcons mask_ty (tcons (array_vec_ty (child_ty τ σ) 256) tnil)))
+masked_ty τ σ = ty_struct [] (tcons (array_vec_ty (child_ty τ σ) 256) (tcons mask_ty (tcons (ty_int w16) tnil)))
 
 -- a node of the given children
 abbrev node_ty : Ty → Ty
@@ -155,7 +155,7 @@ module _ (C P : RattleType) (c : IsSmall (layout C)) (p : IsSmall (layout P)) wh
 
   sorted : (n : ℕ) → n ≤ 16 → FitsIn (sorted_ty n (layout C) (layout P)) 200000000
   sorted n l =
-      let ranks = struct (field (array n byte) (field word no_fields)) in
+      let ranks = struct (field (array n byte) (field byte no_fields)) in
       let w = struct (field ranks (field (children n 100000000 (omega arith)) no_fields)) in
       record { bytes = omega (arith, w.bytes); aligned = w.aligned }
 
@@ -167,7 +167,7 @@ module _ (C P : RattleType) (c : IsSmall (layout C)) (p : IsSmall (layout P)) wh
 
   masked : FitsIn (masked_ty (layout C) (layout P)) 200000000
   masked =
-      let w = struct (field count (field (struct (field (array 32 byte) no_fields)) (field (children 256 100000000 (omega arith)) no_fields))) in
+      let w = struct (field (children 256 100000000 (omega arith)) (field (struct (field (array 32 byte) no_fields)) (field count no_fields))) in
       record { bytes = omega (arith, w.bytes); aligned = w.aligned }
 
   node : {ρ : Ty} → FitsIn ρ 200000000 → size (node_ty ρ) < 2 ^ 63

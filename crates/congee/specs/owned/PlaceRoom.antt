@@ -15,7 +15,7 @@ indexed_ty τ = ty_struct [] (tcons index_ty (tcons (array_vec_ty τ 48) tnil))
 
 -- things by byte, with a mask
 abbrev pub masked_ty : Ty → Ty
-masked_ty τ = ty_struct [] (tcons (ty_int w16) (tcons mask_ty (tcons (array_vec_ty τ 256) tnil)))
+masked_ty τ = ty_struct [] (tcons (array_vec_ty τ 256) (tcons mask_ty (tcons (ty_int w16) tnil)))
 
 -- what stands in a box
 abbrev pub boxed_ty : Ty → Ty
@@ -42,7 +42,7 @@ module _ {τ : Ty} (thing : FitsIn τ 1000000) where
   -- so many in the order of their bytes have few bytes
   pub sorted : (n : ℕ) → n ≤ 48 → FitsIn (sorted_ty n τ) 400000000
   sorted n l =
-      let ranks = struct (field (array n byte) (field word no_fields)) in
+      let ranks = struct (field (array n byte) (field byte no_fields)) in
       let w = struct (field ranks (field (things n 300000000 (omega arith)) no_fields)) in
       record { bytes = omega (arith, w.bytes); aligned = w.aligned }
 
@@ -56,7 +56,7 @@ module _ {τ : Ty} (thing : FitsIn τ 1000000) where
   -- and those with a mask
   pub masked : FitsIn (masked_ty τ) 400000000
   masked =
-      let w = struct (field count (field (struct (field (array 32 byte) no_fields)) (field (things 256 300000000 (omega arith)) no_fields))) in
+      let w = struct (field (things 256 300000000 (omega arith)) (field (struct (field (array 32 byte) no_fields)) (field count no_fields))) in
       record { bytes = omega (arith, w.bytes); aligned = w.aligned }
 
   -- so have the forms, of which the least alone lies inline
@@ -68,8 +68,8 @@ module _ {τ : Ty} (thing : FitsIn τ 1000000) where
   -- so have those whose bytes stand beside a box
   pub places : FitsIn (places_ty τ) 500000000
   places =
-      let few = struct (field (struct (field (array 16 byte) (field word no_fields))) (field pointer no_fields)) in
-      let many = struct (field (struct (field (array 48 byte) (field word no_fields))) (field pointer no_fields)) in
+      let few = struct (field (struct (field (array 16 byte) (field byte no_fields))) (field pointer no_fields)) in
+      let many = struct (field (struct (field (array 48 byte) (field byte no_fields))) (field pointer no_fields)) in
       let w = enum (case (field (sorted 4 (omega arith)) no_fields) (case (field few no_fields) (case (field many no_fields) (case (field pointer no_fields) no_cases)))) in
       record { bytes = omega (arith, w.bytes); aligned = w.aligned }
 

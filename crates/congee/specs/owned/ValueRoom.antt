@@ -1,7 +1,7 @@
 -- The room that the values of a leaf take, and a slot's node: what stands in a box fits in memory.
 use Rattle.std.specs.Prelude.{◌<◌, ◌^◌, []}
 use native.Mathlib.Omega.{arith}
-use mir.Syntax.{Ty, w64, ty_int, ty_struct, ty_enum, tnil, tcons, ttnil, ttcons}
+use mir.Syntax.{Ty, ty_struct, ty_enum, tnil, tcons, ttnil, ttcons}
 use denote.Param.{layout}
 use denote.RattleType.{RattleType}
 use prog.Memory.{size}
@@ -14,9 +14,9 @@ use Rattle.congee.specs.owned.PlaceRoom.{boxed, boxed_ty, fits, forms, forms_ty,
 abbrev pub node_ty : Ty → Ty
 node_ty τ = ty_struct [] (tcons prefix_ty (tcons (forms_ty τ) tnil))
 
--- a prefix, an inner node's places, and a word
+-- a prefix, and an inner node's places
 abbrev inner_ty : Ty → Ty
-inner_ty τ = ty_struct [] (tcons prefix_ty (tcons (places_ty τ) (tcons (ty_int w64) tnil)))
+inner_ty τ = ty_struct [] (tcons prefix_ty (tcons (places_ty τ) tnil))
 
 -- an inner node or a leaf, as code lays it out
 abbrev pub slot_ty : Ty → Ty → Ty

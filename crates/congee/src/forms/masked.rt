@@ -61,9 +61,9 @@ impl Mask {
 /// A place for each byte.
 #[derive(Drop)]
 pub(crate) struct Masked<X> {
-    len: u16,
-    mask: Mask,
     children: ArrayVec<X, 256>,
+    mask: Mask,
+    len: u16,
 }
 
 impl<X> Model for Masked<X> {
@@ -127,9 +127,9 @@ impl<X: Default + Drop> Masked<X> {
             children.push(X::default());
         }
         Masked {
-            len: 0,
-            mask: Mask { bytes: [0; 32] },
             children,
+            mask: Mask { bytes: [0; 32] },
+            len: 0,
         }
     }
 

@@ -61,12 +61,13 @@ impl Prefix {
         &self.bytes[..self.len()]
     }
 
-    /// Whether it is the beginning of the key.
+    /// Whether it is the beginning of the key: the two words differ in no bit of it.
     #[inline(always)]
     pub(crate) fn is_prefix_of(&self, key: &[u8; KEY_BYTES]) -> bool
         ensures { result ≡ fits self.now key.now }
     {
         let rest = 8 * (MAX_PREFIX_LEN - self.len()) as u32;
-        (u64::from_be_bytes(*key) >> 8) >> rest == (u64::from_be_bytes(self.bytes) >> 8) >> rest
+        let apart = u64::from_be_bytes(*key) ^ u64::from_be_bytes(self.bytes);
+        (apart >> 8) >> rest == 0
     }
 }

@@ -9,7 +9,7 @@ use std::marker::Model;
 #[derive(Drop)]
 pub(crate) struct Ranks<const N: usize> {
     bytes: [u8; N],
-    len: usize,
+    len: u8,
 }
 
 impl<const N: usize> Model for Ranks<N> {
@@ -94,7 +94,7 @@ impl<const N: usize> Ranks<N> {
         ensures count { result ≡ length self.now }
         ensures fits { result ≤ N }
     {
-        self.len
+        self.len as usize
     }
 
     /// The byte in a place.
@@ -125,10 +125,9 @@ impl<const N: usize> Ranks<N> {
         requires room { length self.old < N }
         ensures { self.new ≡ insert self.old place byte }
     {
-        let len = self.len;
-        self.bytes.copy_within(place..len, place + 1);
+        self.bytes.copy_within(place..self.len as usize, place + 1);
         self.bytes[place] = byte;
-        self.len = len + 1;
+        self.len += 1;
     }
 
     /// Takes the byte out of a place, and moves those after it down.
@@ -137,9 +136,8 @@ impl<const N: usize> Ranks<N> {
         requires { place < length self.old }
         ensures { self.new ≡ remove self.old place }
     {
-        let len = self.len;
-        self.bytes.copy_within(place + 1..len, place);
-        self.bytes[len - 1] = 255;
-        self.len = len - 1;
+        self.bytes.copy_within(place + 1..self.len as usize, place);
+        self.len -= 1;
+        self.bytes[self.len as usize] = 255;
     }
 }

@@ -1,5 +1,5 @@
 //! Children in the order of their bytes, each found by how many bytes are lower.
-ghost use Rattle.std.specs.Prelude.{◌≡◌, ◌≢◌, ◌<◌, ◌≤◌, ℕ, MatchOption, None, Some, IsSome};
+ghost use Rattle.std.specs.Prelude.{◌≡◌, ◌≢◌, ◌<◌, ◌≤◌, ℕ, [], length, MatchOption, None, Some, IsSome};
 ghost use Rattle.std.specs.Option.{option_copied};
 ghost use Rattle.std.specs.FinMap as map;
 ghost use Rattle.congee.specs.forms.Bytes.{IsFirst, Lists};
@@ -53,10 +53,11 @@ impl<const N: usize> Ranks<N> {
         ensures { Lists (sorted_map self.now children.now.items) from result.now }
     {
         let children = children.as_slice();
+        let len = self.len();
         if from > 255 {
-            return &children[children.len()..];
+            return &children[len..];
         }
-        &children[self.place_of(from as u8)..]
+        &children[self.place_of(from as u8)..len]
     }
 
     /// Adds a child under a byte that has none.
@@ -112,6 +113,28 @@ impl<const N: usize> Ranks<N> {
         let place = self.place_of(byte);
         self.remove(place);
         children.remove(place)
+    }
+
+    /// Moves the children to others, of which there are none yet, under the same bytes and in the same order. Each leaves a default.
+    #[inline(always)]
+    pub(crate) fn move_children<X: Default + Drop, const M: usize>(
+        &self,
+        children: &mut ArrayVec<X, N>,
+        others: &mut Ranks<M>,
+        moved: &mut ArrayVec<X, M>,
+    )
+        requires same { length self.now ≡ length children.old.items }
+        requires no_bytes { others.old ≡ [] }
+        requires no_children { moved.old.items ≡ [] }
+        requires room { length self.now ≤ M }
+        ensures bytes { others.new ≡ self.now }
+        ensures children { moved.new.items ≡ children.old.items }
+        ensures stays { length children.new.items ≡ length children.old.items }
+    {
+        for place in 0..self.len() {
+            others.insert(place, self.at(place));
+            moved.push(mem::take(&mut children[place]));
+        }
     }
 }
 
@@ -214,5 +237,36 @@ impl<X: Default + Drop, const N: usize> Sorted<X, N> {
         ensures after { self.new ≡ map.remove self.old byte }
     {
         self.bytes.remove_child(&mut self.children, byte)
+    }
+
+    /// Moves the children to the two arrays of another list, which are empty.
+    pub(crate) fn move_out<const M: usize>(
+        &mut self,
+        bytes: &mut Ranks<M>,
+        children: &mut ArrayVec<X, M>,
+    )
+        requires no_bytes { bytes.old ≡ [] }
+        requires no_children { children.old.items ≡ [] }
+        requires room { map.len self.old ≤ M }
+        ensures sorted { IsSorted bytes.new children.new.items }
+        ensures moved { sorted_map bytes.new children.new.items ≡ self.old }
+    {
+        self.bytes
+            .move_children(&mut self.children, bytes, children);
+    }
+
+    /// Moves the children of two such arrays into this list, which is empty.
+    pub(crate) fn move_in<const M: usize>(
+        &mut self,
+        bytes: &Ranks<M>,
+        children: &mut ArrayVec<X, M>,
+    )
+        requires sorted { IsSorted bytes.now children.old.items }
+        requires empty { self.old ≡ map.empty }
+        requires room { length bytes.now ≤ N }
+        ensures moved { self.new ≡ sorted_map bytes.now children.old.items }
+        ensures stays { length children.new.items ≡ length children.old.items }
+    {
+        bytes.move_children(children, &mut self.bytes, &mut self.children);
     }
 }

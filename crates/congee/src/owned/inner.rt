@@ -22,14 +22,10 @@ use std::marker::Model;
 
 /// The prefix of an inner node, and what hangs in it. To contracts it is a node whose children are nodes by their slots and
 /// leaves with their whole keys.
-///
-/// `spare` fills a slot, with values of eight bytes, to 128 bytes, so that its beginning, with the prefix, lies in one line of
-/// memory.
 #[derive(Drop)]
 pub(crate) struct Inner<P: Nested> {
     prefix: Prefix,
     places: Places<P>,
-    spare: u64,
 }
 
 /// The entries of an inner node from a byte on, or all those of the greatest form.
@@ -134,7 +130,6 @@ impl<P: Small> Inner<P> {
         Ok(Inner {
             prefix: Prefix::new(prefix),
             places: Places::new(alloc, form)?,
-            spare: 0,
         })
     }
 
@@ -148,7 +143,6 @@ impl<P: Small> Inner<P> {
         Inner {
             prefix: Prefix::new(prefix),
             places: Places::least(),
-            spare: 0,
         }
     }
 

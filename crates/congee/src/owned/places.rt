@@ -177,6 +177,39 @@ impl<P: Boxed<N>, const N: usize> Ranked<P, N> {
     {
         self.bytes.remove_child(&mut self.entries.list, byte)
     }
+
+    /// Moves every entry to a list of another form, which has none and has room for them, and leaves blanks.
+    fn move_to<const M: usize>(&mut self, other: &mut Ranked<P, M>)
+    where
+        P: Boxed<M>,
+        requires empty { other.old ≡ map.empty }
+        requires room { map.len self.old ≤ M }
+        ensures { other.new ≡ self.old }
+    {
+        self.bytes.move_children(
+            &mut self.entries.list,
+            &mut other.bytes,
+            &mut other.entries.list,
+        );
+    }
+
+    /// The same to the least form.
+    fn move_to_least(&mut self, least: &mut Sorted<Entry<P>, 4>)
+        requires empty { least.old ≡ map.empty }
+        requires room { map.len self.old ≤ 4 }
+        ensures { least.new ≡ self.old }
+    {
+        least.move_in(&self.bytes, &mut self.entries.list);
+    }
+
+    /// Moves every entry of the least form here, where none is and there is room for them.
+    fn move_from_least(&mut self, least: &mut Sorted<Entry<P>, 4>)
+        requires empty { self.old ≡ map.empty }
+        requires room { map.len least.old ≤ N }
+        ensures { self.new ≡ least.old }
+    {
+        least.move_out(&mut self.bytes, &mut self.entries.list);
+    }
 }
 
 impl<P: Small> Places<P> {
@@ -333,8 +366,36 @@ impl<P: Small> Places<P> {
         }
     }
 
-    /// Moves every entry to `other`, which has none and has room for them, and leaves a blank in the place of each.
+    /// Moves every entry to `other`, which has none and has room for them, and leaves a blank in the place of each. From a list
+    /// to a list they go in their order.
     fn move_to(&mut self, other: &mut Places<P>)
+        requires empty { entries_in other.old ≡ map.empty }
+        requires room { map.len (entries_in self.old) ≤ capacity_of (form_in other.old) }
+        ensures moved { Refills other.old other.new (entries_in self.old) }
+    {
+        match self {
+            Places::N4(n) => {
+                if let Places::N16(m) = other {
+                    return m.move_from_least(n);
+                }
+            }
+            Places::N16(n) => match other {
+                Places::N4(m) => return n.move_to_least(m),
+                Places::N48(m) => return n.move_to(m),
+                _ => {}
+            },
+            Places::N48(n) => {
+                if let Places::N16(m) = other {
+                    return n.move_to(m);
+                }
+            }
+            Places::N256(_) => {}
+        }
+        self.move_each(other);
+    }
+
+    /// The same by their bytes, between any forms.
+    fn move_each(&mut self, other: &mut Places<P>)
         requires empty { entries_in other.old ≡ map.empty }
         requires room { map.len (entries_in self.old) ≤ capacity_of (form_in other.old) }
         ensures moved { Refills other.old other.new (entries_in self.old) }

@@ -1,6 +1,6 @@
 //! A removal at the end of a key's way, and what goes with the value: a leaf that it leaves empty, and then a node above that is
 //! left with one child, which moves up. A node that is left with few children gives place to one of a lesser form.
-ghost use Rattle.std.specs.Prelude.{◌≡◌, ◌≢◌, ◌+◌, ◌≤◌, ℕ, Some, None};
+ghost use Rattle.std.specs.Prelude.{◌≡◌, ◌≢◌, ◌+◌, ◌<◌, ◌≤◌, ◌↔◌, ℕ, IsTrue, Some, None, false};
 ghost use Rattle.std.specs.FinMap as map;
 ghost use Rattle.slab.specs.Slab.{get, ContainsKey};
 ghost use Rattle.congee.specs.forms.Forms.{capacity_of, children_of, form_of, size_of};
@@ -39,6 +39,15 @@ fn is_small(form: NodeType, count: usize) -> bool
     }
 }
 
+/// Whether a leaf of the form with so many values stays as it is as it loses one: two are left, and it gives place to no lesser
+/// form.
+#[inline(always)]
+fn stays_as_is(form: NodeType, count: usize) -> bool
+    ensures { IsTrue result ↔ ((2 < count) × (shrinks form count ≡ false)) }
+{
+    count > 2 && !is_small(form, count)
+}
+
 /// Charges for the form below of a node that is about to lose one of so many children, if it gives place to that one and the
 /// budget has room.
 #[inline(always)]
@@ -75,8 +84,26 @@ impl<P: Stored, A: Allocator> Arena<P, A> {
         self.allocator.deallocate(form.size());
     }
 
-    /// Takes a value out of a leaf that has others.
+    /// Takes a value out of a leaf that has others and gives place to no lesser form: all else stays.
     #[inline(always)]
+    fn take_in_place(&mut self, at: Name, key: &[u8; KEY_BYTES]) -> P
+        requires own { HasOwnSlot at }
+        requires tree { IsTree self.old.nodes }
+        requires way { OnWay self.old.nodes key.now at }
+        requires held { IsHeld self.old.nodes key.now at }
+        requires others { (x : Form ℕ P) → get self.old.nodes at ≡ Some x → map.len (children_of x) ≢ 1 }
+        requires stays { (x : Form ℕ P) → get self.old.nodes at ≡ Some x → shrinks (form_of x) (map.len (children_of x)) ≡ false }
+        requires covered { Covers A.charged_of self.old }
+        ensures { Frees A.charged_of A.limit_of self.old self.new
+            key.now (Some result) None (Some (going_one (heap_of self.old.nodes at))) }
+    {
+        let byte = self.byte_at(at, key);
+        self.nodes.take_value(at, byte)
+    }
+
+    /// Takes a value out of a leaf that has others. The leaf gives place to a lesser form if it is left small, and comes into its
+    /// parent's place if one value is left.
+    #[inline(never)]
     fn take_value(&mut self, alloc: Global, above: Name, at: Name, key: &[u8; KEY_BYTES]) -> P
         requires own { HasOwnSlot at }
         requires tree { IsTree self.old.nodes }
@@ -201,7 +228,11 @@ impl<P: Stored, A: Allocator> Arena<P, A> {
             key.now (Some result) None (goes_at (heap_of self.old.nodes) key.now) }
     {
         let (top, above, at) = (place.top, place.above, place.at);
-        if self.nodes.len(at) != 1 {
+        let count = self.nodes.len(at);
+        if stays_as_is(self.nodes.node_type(at), count) {
+            return self.take_in_place(at, key);
+        }
+        if count != 1 {
             return self.take_value(alloc, above, at, key);
         }
         if above.is_root() {

@@ -13,6 +13,7 @@ use crate::owned::names::Name;
 use crate::owned::nodes::Nodes;
 use crate::owned::scan::Listed;
 use crate::owned::sight::{Next, Stem};
+use crate::owned::slots::Slot;
 
 /// How many nodes are looked at ahead of the one whose pairs are written.
 const LOOKED_AT: usize = 8;
@@ -179,18 +180,18 @@ impl Nodes<u64> {
     {
         let mut from = from;
         let mut count = count;
-        let mut ahead = 0;
+        let mut looked_at = from;
         while let Some((here, entry)) = form.first_from(from) {
-            if ahead == 0 {
-                ahead = self.look_ahead(form, from, out.len() - count);
+            let byte = here as usize;
+            if byte >= looked_at && matches!(entry, Entry::Node(_)) {
+                looked_at = self.look_ahead(form, byte, out.len() - count);
             }
-            ahead -= 1;
             let written = self.write_wide_entry(stem, entry, last, out, count);
             if written.over {
                 return written;
             }
             count = written.count;
-            from = here as usize + 1;
+            from = byte + 1;
         }
         Written { count, over: false }
     }
@@ -234,25 +235,34 @@ impl Nodes<u64> {
         }
     }
 
-    /// Looks at the nodes from a byte on, a few of them, or as many as fill the places, and tells how many: one at least.
+    /// Looks at the nodes under a few bytes from one on, or under as many as fill the places, and tells the byte after these.
     #[inline(always)]
     fn look_ahead(&self, form: &Masked<Entry<u64>>, from: usize, places: usize) -> usize
-        ensures { 0 < result }
+        ensures { from ≤ result }
     {
-        let mut from = from;
         let mut places = places;
-        let mut taken = 0;
-        while taken < LOOKED_AT && places > 0 {
-            let Some((byte, Entry::Node(below))) = form.first_from(from) else {
-                break;
-            };
-            let Some(node) = self.slab.get(*below) else {
-                break;
-            };
-            places = places.saturating_sub(node.len());
-            taken += 1;
-            from = byte as usize + 1;
+        let mut byte = from;
+        while byte < 256 && byte - from < LOOKED_AT && places > 0 {
+            if let Some(Entry::Node(below)) = form.get_child(byte as u8) {
+                places = places.saturating_sub(self.look_at(*below));
+            }
+            byte += 1;
         }
-        taken.max(1)
+        byte
+    }
+
+    /// Looks at a node, and at its first entry where its entries are a list. Tells how many pairs it has at least.
+    #[inline(always)]
+    fn look_at(&self, slot: usize) -> usize {
+        let Some(Slot::Inner(node)) = self.slab.get(slot) else {
+            return 0;
+        };
+        match node.row(0) {
+            Row::Few(list) => match list.first() {
+                Some(Entry::Leaf(_, _)) => list.len(),
+                _ => 0,
+            },
+            Row::Wide(_) => 0,
+        }
     }
 }

@@ -1,11 +1,12 @@
 -- A prefix and its length in one word of eight bytes.
 use Rattle.std.proofs.Common.{◌≡◌, ℕ, zero, suc, ◌<◌, ◌≤◌, ◌+◌, ◌*◌, ◌-◌, ◌/◌, ◌^◌, nat_eq, true, false, List, [], ◌∷◌, length, take, set, get_or, inl, inr, sym, ap, ◌∙◌, arith}
 use Rattle.std.specs.Int.{w64, from_be_bytes}
+use Rattle.std.specs.Int.Bits.{bit_xor, xor_assoc, xor_self, xor_zero_l, xor_zero_r}
 use Rattle.std.specs.Prelude.{slice_index}
 use Rattle.std.proofs.lemmas.Bool.{cases_eq}
 use Rattle.std.proofs.lemmas.Bool.Decides.{nat_tests}
 use Rattle.std.proofs.lemmas.List.{length-set, take-set-le, get_or-set_same, get_or-take, length-take-le, take_all}
-use Rattle.std.proofs.lemmas.Nat.{shr-shr, be_bytes_8}
+use Rattle.std.proofs.lemmas.Nat.{shr-shr, be_bytes_8, xor_shr}
 use Rattle.congee.specs.Heap.{fits}
 use Rattle.congee.specs.Keys.{key_bytes}
 use Rattle.congee.proofs.lemmas.Fits.{fits_byte}
@@ -32,6 +33,34 @@ low_set (x ∷ word) (suc i) y low l (suc j) = low_set word i y (λ j. low (suc 
 -- the bytes of a number that is read off them
 pub read_off : (bytes : List ℕ) (n : ℕ) → length bytes ≡ 8 → ((i : ℕ) → get_or bytes i 0 < 256) → n ≡ from_be_bytes w64 bytes → key_bytes n ≡ bytes
 read_off bytes n size low e = be_bytes_8 bytes n size low e
+
+-- two numbers that differ in no bit are one
+none_apart : (a b : ℕ) → bit_xor a b ≡ 0 → a ≡ b
+none_apart a b e =
+    sym (xor_zero_r a) ∙ (ap (bit_xor a) (sym (xor_self b)) ∙ (sym (xor_assoc a b b) ∙ (ap (λ z. bit_xor z b) e ∙ xor_zero_l b)))
+
+-- whether they differ in a bit tells whether they are one
+none_test : (a b : ℕ) → nat_eq (bit_xor a b) 0 ≡ nat_eq a b
+none_test a b = elim (cases_eq a b) [
+  | inl e ↦ (
+      let z : bit_xor a b ≡ 0 = ap (bit_xor a) (sym e) ∙ xor_self a in
+      let one : nat_eq (bit_xor a b) 0 ≡ true = grind (arith, nat_tests) in
+      let same : nat_eq a b ≡ true = grind (arith, nat_tests) in
+      one ∙ sym same
+      )
+  | inr ne ↦ (
+      let no : bit_xor a b ≡ 0 → ⊥ = λ z. ne (none_apart a b z) in
+      let none : nat_eq (bit_xor a b) 0 ≡ false = elim (cases_eq (bit_xor a b) 0) [ inl z ↦ absurd (no z) | inr nz ↦ grind (arith, nat_tests) ] in
+      let apart : nat_eq a b ≡ false = grind (arith, nat_tests) in
+      none ∙ sym apart
+      )
+]
+
+-- so it does without their last bytes
+pub apart_test : (k w m : ℕ) → nat_eq (bit_xor k w / 256 / 2 ^ m) 0 ≡ nat_eq (k / 256 / 2 ^ m) (w / 256 / 2 ^ m)
+apart_test k w m =
+    let e : bit_xor k w / 256 / 2 ^ m ≡ bit_xor (k / 256 / 2 ^ m) (w / 256 / 2 ^ m) = ap (λ z. z / 2 ^ m) (xor_shr k w 8) ∙ xor_shr (k / 256) (w / 256) m in
+    ap (λ z. nat_eq z 0) e ∙ none_test (k / 256 / 2 ^ m) (w / 256 / 2 ^ m)
 
 -- what the numbers tell without their last bytes
 pub packed_fits : (key word : List ℕ) (k w n : ℕ) → length key ≡ 8 → length word ≡ 8 → k < 2 ^ 64 → w < 2 ^ 64 → key_bytes k ≡ key → key_bytes w ≡ word → n ≤ 7

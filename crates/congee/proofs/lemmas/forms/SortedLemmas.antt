@@ -1,5 +1,5 @@
 -- Children in the order of their bytes, and what stands where.
-use Rattle.std.proofs.Common.{◌≡◌, ℕ, zero, suc, ◌<◌, ◌≤◌, List, [], ◌∷◌, ◌++◌, length, get_or, take, drop, refl, arith, sym, None, Some, IsSome, subst, ◌∙◌, true, false}
+use Rattle.std.proofs.Common.{◌≡◌, ℕ, zero, suc, ◌<◌, ◌≤◌, List, [], ◌∷◌, ◌++◌, length, get_or, take, drop, refl, arith, sym, None, Some, IsSome, ap, subst, ◌∙◌, true, false}
 use Rattle.std.specs.List.{insert, remove, refill}
 use Rattle.std.proofs.Common.{cond, eqb}
 use Rattle.std.proofs.Math.ListN.{set}
@@ -7,6 +7,7 @@ use Rattle.std.proofs.lemmas.Bool.Decides.{nat_tests}
 use Rattle.std.proofs.lemmas.List.{length-set}
 use Rattle.std.proofs.Math.Seq.{take-append_seam}
 use Rattle.std.proofs.lemmas.List.Edits.{length-insert, length-remove}
+use Rattle.std.specs.Ordering.{nat_cmp}
 use Rattle.std.specs.FinMap as map
 use Rattle.congee.specs.forms.Bytes.{IsFirst}
 use Rattle.congee.specs.forms.Places.{pairs, AllKeys, Rises, IsSorted, sorted_map}
@@ -208,7 +209,42 @@ module _ {X : Type 0} {ks : List ℕ} {ys : List X} (ok : IsSorted ks ys) where
   pub none_from : (from p : ℕ) → IsPlaceOf from p ks → p ≡ length ks → (b : ℕ) → from ≤ b → map.get (sorted_map ks ys) b ≡ None
   none_from from p s e b h = get_absent b p (record { within = s.within; below = λ i m. omega (arith, s.below i m); at = λ m. absurd (omega arith) }) (λ m. absurd (omega arith))
 
+no_length : {Y : Type 0} (xs : List Y) → length xs ≡ 0 → xs ≡ []
+no_length [] e = refl
+no_length (x ∷ xs) e = absurd (omega (arith, e))
+
 module _ {X : Type 0} where
+  keys_beside : (P : ℕ → Type 0) (ks : List ℕ) (ys zs : List X) → length ks ≡ length ys → length ks ≡ length zs → AllKeys P (pairs ks ys) → AllKeys P (pairs ks zs)
+  keys_beside P [] ys zs l m h = tt
+  keys_beside P (k ∷ ks) ys [] l m h = absurd (omega (arith, m))
+  keys_beside P (k ∷ ks) [] (z ∷ zs) l m h = absurd (omega (arith, l))
+  keys_beside P (k ∷ ks) (y ∷ ys) (z ∷ zs) l m h = (h.0, keys_beside P ks ys zs (omega (arith, l)) (omega (arith, m)) h.1)
+
+  rises_beside : (ks : List ℕ) (ys zs : List X) → length ks ≡ length ys → length ks ≡ length zs → Rises (pairs ks ys) → Rises (pairs ks zs)
+  rises_beside [] ys zs l m h = tt
+  rises_beside (k ∷ ks) ys [] l m h = absurd (omega (arith, m))
+  rises_beside (k ∷ ks) [] (z ∷ zs) l m h = absurd (omega (arith, l))
+  rises_beside (k ∷ ks) (y ∷ ys) (z ∷ zs) l m h = (
+    keys_beside (λ c. k < c) ks ys zs (omega (arith, l)) (omega (arith, m)) h.0,
+    rises_beside ks ys zs (omega (arith, l)) (omega (arith, m)) h.1,
+  )
+
+  -- bytes that rise beside children rise beside as many others
+  pub sorted_beside : (ks : List ℕ) (ys zs : List X) → IsSorted ks ys → length zs ≡ length ys → IsSorted ks zs
+  sorted_beside ks ys zs ok l =
+      let m : length ks ≡ length zs = omega (arith, ok.same, l) in
+      record {
+        same = m;
+        rises = rises_beside ks ys zs ok.same m ok.rises;
+        bytes = keys_beside (λ b. b < 256) ks ys zs ok.same m ok.bytes;
+      }
+
+  -- the empty map is held by no bytes and no children
+  pub none_held : (ks : List ℕ) (ys : List X) → IsSorted ks ys → sorted_map ks ys ≡ map.empty → (ks ≡ []) × (ys ≡ [])
+  none_held ks ys ok e =
+      let none : length ks ≡ 0 = omega (arith, len_is ok, ap map.len e, map.len-empty nat_cmp X) in
+      (no_length ks none, no_length ys (omega (arith, none, ok.same)))
+
   -- no bytes hold the empty map
   pub no_pairs : (ks : List ℕ) (ys : List X) → ks ≡ [] → sorted_map ks ys ≡ map.empty
   no_pairs ks ys e = rw e (map.empty_of_len _ (len_of [] tt))

@@ -1,6 +1,6 @@
 use Rattle.std.proofs.Common.{◌-◌}
 use Rattle.congee.proofs.lemmas.owned.Refilling.{IsMoving}
-use Rattle.congee.proofs.owned.places.Places.move_to.Given as goal
+use Rattle.congee.proofs.owned.places.Places.move_each.Given as goal
 
 abbrev pub invariant-loop-byte : goal.invariant-loop-byte
 invariant-loop-byte g l = IsMoving l.fn.self l.fn.other l.self l.other l.from

@@ -5,7 +5,7 @@ use Rattle.congee.specs.owned.Entries.{entries_in}
 use Rattle.congee.proofs.lemmas.forms.MoveLemmas.{HavePoured, none_poured, one_poured, room_poured, all_poured}
 use Rattle.congee.proofs.lemmas.owned.Refilling.{full_in_room}
 use Rattle.congee.specs.owned.EntryRoom.{places_fits}
-use Rattle.congee.proofs.owned.places.Places.move_to.Goals as goal
+use Rattle.congee.proofs.owned.places.Places.move_each.Goals as goal
 
 pub loop-byte-init : goal.loop-byte-init
 loop-byte-init g c = record {
