@@ -123,7 +123,17 @@ impl Nodes<u64> {
     {
         let mut count = count;
         for i in 0..list.len() {
-            let written = self.write_entry(stem, &list[i], last, out, count);
+            let entry = &list[i];
+            if let Entry::Leaf(tail, value) = entry {
+                let key = key_of_bytes(&key_by(stem.first, tail));
+                let written = write_pair(key, *value, last, out, count);
+                if written.over {
+                    return written;
+                }
+                count = written.count;
+                continue;
+            }
+            let written = self.write_entry(stem, entry, last, out, count);
             if written.over {
                 return written;
             }

@@ -10,7 +10,7 @@ use Rattle.congee.proofs.lemmas.owned.Cursors.{child_there, nothing_blank}
 use Rattle.congee.proofs.lemmas.owned.Rows.{entry_below, entry_filled, entry_last, entry_leaf, entry_node, list_end, list_hangs, list_on, list_wrote, pair_fills, wrote_byte}
 use Rattle.congee.proofs.lemmas.owned.Standing.{standing_at}
 use Rattle.congee.proofs.lemmas.owned.Surveys.{child_stands}
-use Rattle.congee.proofs.lemmas.owned.Writings.{Wrote, ends_fills, ends_writes, filled_fills, so_far_on, wrote_all, wrote_leaf, wrote_node, wrote_value}
+use Rattle.congee.proofs.lemmas.owned.Writings.{WritesPair, Wrote, ends_fills, ends_writes, filled_fills, so_far_on, wrote_all, wrote_leaf, wrote_node, wrote_value}
 use Rattle.congee.proofs.owned.writing.Nodes+u64.+writing.Goals as goal
 use Rattle.congee.proofs.owned.writing.Nodes+u64.+writing.Goals.{write_seen-in-Value, write_seen-in-Leaf, write_seen-in-Node}
 
@@ -151,18 +151,51 @@ write_list-write_entry-written-requires g t c κs within =
 
 pub write_list-returns-then-written-clause-fills : goal.write_list-returns-then-written-clause-fills
 write_list-returns-then-written-clause-fills g t c =
-    let did = list_wrote c.args.self.now g.E.Listed.entry c.args.last c.args.stem c.args.list.now c.requires.sees c.args.count c.args.out.now c.loop-i.i c.loop-i.count c.loop-i.out (c.loop-i.invariant c.requires.sees) c.index-list-i.result (omega arith) c.index-list-i.is c.requires.tree c.write_entry-written.new.out c.write_entry-written.result c.write_entry-written.ensures.fills c.write_entry-written.ensures.pairs in
-    ends_fills c.args.self.now g.E.Listed.entry c.args.last c.requires.tree (257 * c.args.stem.slot) c.requires.sees.from c.args.count c.args.out.now did.byte c.write_entry-written.new.out c.write_entry-written.result did.wrote
+    let put = g.E.Listed.entry in
+    let so = c.loop-i.invariant c.requires.sees in
+    let pair : WritesPair c.args.self.now put c.args.last c.key_of_bytes-key.result c.in-Leaf.value c.loop-i.count c.loop-i.out c.write_pair-written.new.out c.write_pair-written.result =
+    record { over = c.write_pair-written.ensures.over; reason = c.write_pair-written.ensures.reason; within = c.write_pair-written.ensures.within; written = c.write_pair-written.ensures.written } in
+    let did = list_wrote c.args.self.now put c.args.last c.args.stem c.args.list.now c.requires.sees c.args.count c.args.out.now c.loop-i.i c.loop-i.count c.loop-i.out so c.index-list-i.result (omega arith) c.index-list-i.is c.requires.tree c.write_pair-written.new.out c.write_pair-written.result
+    (pair_fills c.args.self.now put c.args.last c.key_of_bytes-key.result c.in-Leaf.value c.loop-i.count c.loop-i.out c.write_pair-written.new.out c.write_pair-written.result so.so.filled.within pair)
+    (λ h. entry_leaf c.args.self.now c.requires.tree c.args.stem c.index-list-i.result h put c.args.last c.loop-i.count c.loop-i.out so.so.filled.within c.in-Leaf.tail c.in-Leaf.value c.key_of_bytes-key.result c.in-Leaf.is (c.key_of_bytes-key.ensures ∙ c.key_by.ensures) (search rules) c.write_pair-written.new.out c.write_pair-written.result pair) in
+    ends_fills c.args.self.now put c.args.last c.requires.tree (257 * c.args.stem.slot) c.requires.sees.from c.args.count c.args.out.now did.byte c.write_pair-written.new.out c.write_pair-written.result did.wrote
 
 pub write_list-returns-then-written-clause-pairs : goal.write_list-returns-then-written-clause-pairs
 write_list-returns-then-written-clause-pairs g t c = λ seen.
+    let put = g.E.Listed.entry in
+    let so = c.loop-i.invariant seen in
+    let pair : WritesPair c.args.self.now put c.args.last c.key_of_bytes-key.result c.in-Leaf.value c.loop-i.count c.loop-i.out c.write_pair-written.new.out c.write_pair-written.result =
+    record { over = c.write_pair-written.ensures.over; reason = c.write_pair-written.ensures.reason; within = c.write_pair-written.ensures.within; written = c.write_pair-written.ensures.written } in
+    let did = list_wrote c.args.self.now put c.args.last c.args.stem c.args.list.now seen c.args.count c.args.out.now c.loop-i.i c.loop-i.count c.loop-i.out so c.index-list-i.result (omega arith) c.index-list-i.is c.requires.tree c.write_pair-written.new.out c.write_pair-written.result
+    (pair_fills c.args.self.now put c.args.last c.key_of_bytes-key.result c.in-Leaf.value c.loop-i.count c.loop-i.out c.write_pair-written.new.out c.write_pair-written.result so.so.filled.within pair)
+    (λ h. entry_leaf c.args.self.now c.requires.tree c.args.stem c.index-list-i.result h put c.args.last c.loop-i.count c.loop-i.out so.so.filled.within c.in-Leaf.tail c.in-Leaf.value c.key_of_bytes-key.result c.in-Leaf.is (c.key_of_bytes-key.ensures ∙ c.key_by.ensures) (search rules) c.write_pair-written.new.out c.write_pair-written.result pair) in
+    ends_writes c.args.self.now put c.args.last c.requires.tree (257 * c.args.stem.slot) seen.from c.args.count c.args.out.now did.byte c.write_pair-written.new.out c.write_pair-written.result did.wrote c.if-written.true
+
+pub write_list-loop-i-preserved-in-Leaf : goal.write_list-loop-i-preserved-in-Leaf
+write_list-loop-i-preserved-in-Leaf g t c = λ seen.
+    let put = g.E.Listed.entry in
+    let so = c.loop-i.invariant seen in
+    let pair : WritesPair c.args.self.now put c.args.last c.key_of_bytes-key.result c.in-Leaf.value c.loop-i.count c.loop-i.out c.write_pair-written.new.out c.write_pair-written.result =
+    record { over = c.write_pair-written.ensures.over; reason = c.write_pair-written.ensures.reason; within = c.write_pair-written.ensures.within; written = c.write_pair-written.ensures.written } in
+    let did = list_wrote c.args.self.now put c.args.last c.args.stem c.args.list.now seen c.args.count c.args.out.now c.loop-i.i c.loop-i.count c.loop-i.out so c.index-list-i.result (omega arith) c.index-list-i.is c.requires.tree c.write_pair-written.new.out c.write_pair-written.result
+    (pair_fills c.args.self.now put c.args.last c.key_of_bytes-key.result c.in-Leaf.value c.loop-i.count c.loop-i.out c.write_pair-written.new.out c.write_pair-written.result so.so.filled.within pair)
+    (λ h. entry_leaf c.args.self.now c.requires.tree c.args.stem c.index-list-i.result h put c.args.last c.loop-i.count c.loop-i.out so.so.filled.within c.in-Leaf.tail c.in-Leaf.value c.key_of_bytes-key.result c.in-Leaf.is (c.key_of_bytes-key.ensures ∙ c.key_by.ensures) (search rules) c.write_pair-written.new.out c.write_pair-written.result pair) in
+    list_on c.args.self.now put c.args.last c.args.stem c.args.list.now seen c.args.count c.args.out.now c.loop-i.i c.loop-i.count c.loop-i.out so c.index-list-i.result (omega arith) c.index-list-i.is c.requires.tree c.write_pair-written.new.out c.write_pair-written.result did c.if-written.false
+
+pub write_list-returns-then-written-2-clause-fills : goal.write_list-returns-then-written-2-clause-fills
+write_list-returns-then-written-2-clause-fills g t c =
+    let did = list_wrote c.args.self.now g.E.Listed.entry c.args.last c.args.stem c.args.list.now c.requires.sees c.args.count c.args.out.now c.loop-i.i c.loop-i.count c.loop-i.out (c.loop-i.invariant c.requires.sees) c.index-list-i.result (omega arith) c.index-list-i.is c.requires.tree c.write_entry-written.new.out c.write_entry-written.result c.write_entry-written.ensures.fills c.write_entry-written.ensures.pairs in
+    ends_fills c.args.self.now g.E.Listed.entry c.args.last c.requires.tree (257 * c.args.stem.slot) c.requires.sees.from c.args.count c.args.out.now did.byte c.write_entry-written.new.out c.write_entry-written.result did.wrote
+
+pub write_list-returns-then-written-2-clause-pairs : goal.write_list-returns-then-written-2-clause-pairs
+write_list-returns-then-written-2-clause-pairs g t c = λ seen.
     let did = list_wrote c.args.self.now g.E.Listed.entry c.args.last c.args.stem c.args.list.now seen c.args.count c.args.out.now c.loop-i.i c.loop-i.count c.loop-i.out (c.loop-i.invariant seen) c.index-list-i.result (omega arith) c.index-list-i.is c.requires.tree c.write_entry-written.new.out c.write_entry-written.result c.write_entry-written.ensures.fills c.write_entry-written.ensures.pairs in
-    ends_writes c.args.self.now g.E.Listed.entry c.args.last c.requires.tree (257 * c.args.stem.slot) seen.from c.args.count c.args.out.now did.byte c.write_entry-written.new.out c.write_entry-written.result did.wrote c.if-written.true
+    ends_writes c.args.self.now g.E.Listed.entry c.args.last c.requires.tree (257 * c.args.stem.slot) seen.from c.args.count c.args.out.now did.byte c.write_entry-written.new.out c.write_entry-written.result did.wrote c.if-written-2.true
 
 pub write_list-loop-i-preserved : goal.write_list-loop-i-preserved
 write_list-loop-i-preserved g t c = λ seen.
     list_on c.args.self.now g.E.Listed.entry c.args.last c.args.stem c.args.list.now seen c.args.count c.args.out.now c.loop-i.i c.loop-i.count c.loop-i.out (c.loop-i.invariant seen) c.index-list-i.result (omega arith) c.index-list-i.is c.requires.tree c.write_entry-written.new.out c.write_entry-written.result
-    (list_wrote c.args.self.now g.E.Listed.entry c.args.last c.args.stem c.args.list.now seen c.args.count c.args.out.now c.loop-i.i c.loop-i.count c.loop-i.out (c.loop-i.invariant seen) c.index-list-i.result (omega arith) c.index-list-i.is c.requires.tree c.write_entry-written.new.out c.write_entry-written.result c.write_entry-written.ensures.fills c.write_entry-written.ensures.pairs) c.if-written.false
+    (list_wrote c.args.self.now g.E.Listed.entry c.args.last c.args.stem c.args.list.now seen c.args.count c.args.out.now c.loop-i.i c.loop-i.count c.loop-i.out (c.loop-i.invariant seen) c.index-list-i.result (omega arith) c.index-list-i.is c.requires.tree c.write_entry-written.new.out c.write_entry-written.result c.write_entry-written.ensures.fills c.write_entry-written.ensures.pairs) c.if-written-2.false
 
 pub write_list-returns-clause-fills : goal.write_list-returns-clause-fills
 write_list-returns-clause-fills g t c = filled_fills c.args.count c.loop-i.count c.args.out.now c.loop-i.out (c.loop-i.invariant c.requires.sees).so.filled
