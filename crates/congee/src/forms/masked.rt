@@ -104,6 +104,14 @@ impl<X> Masked<X> {
         }
     }
 
+    /// What lies in the place of a byte: its child, or a default.
+    #[inline(always)]
+    pub(crate) fn at(&self, byte: u8) -> &X
+        ensures { (x : X) → map.get self.now byte ≡ Some x → result.now ≡ x }
+    {
+        &self.children.as_slice()[byte as usize]
+    }
+
     /// The child of the least byte from `from` on.
     #[inline(always)]
     pub(crate) fn first_from(&self, from: usize) -> Option<(u8, &X)>

@@ -253,7 +253,7 @@ impl Nodes<u64> {
         let mut places = places;
         let mut byte = from;
         while byte < 256 && byte - from < LOOKED_AT && places > 0 {
-            if let Some(Entry::Node(below)) = form.get_child(byte as u8) {
+            if let Entry::Node(below) = form.at(byte as u8) {
                 places = places.saturating_sub(self.look_at(*below));
             }
             byte += 1;
