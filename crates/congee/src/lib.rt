@@ -42,5 +42,5 @@ pub use owned::{
 };
 pub use protocol::{
     Machine, Move, NodeName, Noise, Op, Outcome, PlainStore, Played, Refusal, Seen, Step, Store,
-    play, step_of,
+    play, play_into, step_of,
 };

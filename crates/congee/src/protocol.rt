@@ -43,6 +43,6 @@ pub use op::Op;
 pub use phase::{Above, Double, Kind, One, Parent, Phase, Plan, Single, Site, Two};
 pub use plain::PlainStore;
 pub use plain_node::{PlainNode, first_difference};
-pub use run::{Played, Step, play, step_of};
+pub use run::{Played, Step, play, play_into, step_of};
 pub use scan::{Path, Rung, ScanReport, ScanState, Stage};
 pub use store::{Least, NodeName, Reading, Refusal, Region, Seen, Stamp, Store, Upgrade};

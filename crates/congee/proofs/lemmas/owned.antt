@@ -16,6 +16,7 @@ pub mod FullSteps
 pub mod Joins
 pub mod Keeping
 pub mod Moves
+pub mod Nearests
 pub mod OwnerLemmas
 pub mod Walks
 pub mod Puts
@@ -56,6 +57,7 @@ pub mod SlotBytes
 pub mod Reserving
 pub mod Alone
 pub mod Lessening
+pub mod Lessers
 pub mod Lifting
 pub mod Raising
 pub mod Removing

@@ -1,5 +1,5 @@
 -- What contracts see of an owned tree.
-use Rattle.std.specs.Prelude.{◌≡◌, ℕ, ◌+◌, Bool, List, Option, None, refl}
+use Rattle.std.specs.Prelude.{◌≡◌, ℕ, ◌+◌, ◌≤◌, Bool, List, Option, None, refl}
 use Rattle.std.specs.Ordering.{nat_cmp}
 use Rattle.std.specs.FinMap as map
 use Rattle.std.specs.Coded.{Coded, code_by, coded×, coded_ℕ, coded_list}
@@ -75,11 +75,12 @@ module _ {V A D : Type 0} (same : V → V → Bool) (charged limit : A → ℕ) 
     pub filled : old.lacking ≡ 0 → new.lacking ≡ 0
     pub keeps : KeepsCharge charged limit old new
 
-  -- a call that inserts no key: it is the one on the map, these nodes go, and no node lacks a child where none did, if the call
-  -- skipped no lesser node that it wanted
+  -- a call that inserts no key: it is the one on the map, these nodes go, so that the nodes take no more bytes than before, and no
+  -- node lacks a child where none did, if the call skipped no lesser node that it wanted
   pub record Modifies (going : Option Going) (call : Call V) (reply : Reply V) : Type 0 where
     pub answers : AnswersAsMap same old new call reply
     pub bytes : Went (charged old.allocator) (limit old.allocator) old.bytes new.bytes going
+    pub no_more : new.bytes ≤ old.bytes
     pub filled : old.lacking ≡ 0 → NoneSkipped old.bytes new.bytes going → new.lacking ≡ 0
     pub keeps : KeepsCharge charged limit old new
 

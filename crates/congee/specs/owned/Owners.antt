@@ -1,5 +1,5 @@
 -- What contracts see of a tree of owners.
-use Rattle.std.specs.Prelude.{◌≡◌, ℕ, ◌+◌, ◌-◌, ◌^◌, Bool, false, List, Option, None, refl}
+use Rattle.std.specs.Prelude.{◌≡◌, ℕ, ◌+◌, ◌-◌, ◌^◌, ◌≤◌, Bool, false, List, Option, None, refl}
 use Rattle.std.specs.Ordering.{nat_cmp}
 use Rattle.std.specs.FinMap as map
 use Rattle.std.specs.Coded.{Coded, code_by, coded×, coded_ℕ, coded_list}
@@ -56,9 +56,10 @@ module _ {V : Type 0} (old new : Owners V) where
     pub cause : IsRefused (map.get old.wants key) old.bytes (2 ^ 64 - 1) e
     pub unchanged : new ≡ old
 
-  -- a call that inserts no key: it is the one on the map, these nodes go, and no node lacks a child where none did, if the call
-  -- skipped no lesser node that it wanted
+  -- a call that inserts no key: it is the one on the map, these nodes go, so that the nodes take no more bytes than before, and no
+  -- node lacks a child where none did, if the call skipped no lesser node that it wanted
   pub record OwnerModifies (going : Option Going) (call : Call V) (reply : Reply V) : Type 0 where
     pub answers : OwnerAnswers old new call reply
     pub bytes : Went old.bytes (2 ^ 64 - 1) old.bytes new.bytes going
+    pub no_more : new.bytes ≤ old.bytes
     pub filled : old.lacking ≡ 0 → NoneSkipped old.bytes new.bytes going → new.lacking ≡ 0

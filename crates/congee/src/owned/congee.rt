@@ -6,7 +6,7 @@ ghost use Rattle.std.specs.List.{All};
 ghost use Rattle.std.specs.FinMap as map;
 ghost use Rattle.congee.specs.forms.Forms.{size_of};
 ghost use Rattle.congee.specs.declared.forms.base_node.NodeType.TheVariants.{N256};
-ghost use Rattle.congee.specs.owned.Nearest.{IsLeast, IsGreatest, pair_by};
+ghost use Rattle.congee.specs.owned.Nearest.{ComesBack, IsGreatest, IsGreatestAs, IsLeast, IsLeastAs, pair_by};
 ghost use Rattle.congee.specs.owned.Content.{Inserts, IsBare, KeepsCharge, ChangesNothing, Refuses, Modifies};
 ghost use Rattle.congee.specs.owned.Drained.{Drained};
 ghost use Rattle.congee.specs.owned.Full.{AllFilled};
@@ -262,16 +262,20 @@ impl<K: Word64, V: Word64, A: Allocator, D: Drop> Congee<K, V, A, D> {
 
     /// The pair of the least key.
     pub fn first(&self) -> Option<(K, V)>
-        ensures { (found : Option (ℕ × ℕ)) × (result ≡ option_map (pair_by K.of_word V.of_word) found)
+        ensures found { (found : Option (ℕ × ℕ)) × (result ≡ option_map (pair_by K.of_word V.of_word) found)
             × IsLeast self.now.pairs 0 found }
+        ensures exact { ComesBack K.word K.of_word → ComesBack V.word V.of_word
+            → IsLeastAs K.word V.word self.now.pairs 0 result }
     {
         pair_of(self.arena.first_from(0))
     }
 
     /// The pair of the least key that is greater than this one, present or not. So a scan goes on past a full buffer.
     pub fn next_after(&self, key: &K) -> Option<(K, V)>
-        ensures { (found : Option (ℕ × ℕ)) × (result ≡ option_map (pair_by K.of_word V.of_word) found)
+        ensures found { (found : Option (ℕ × ℕ)) × (result ≡ option_map (pair_by K.of_word V.of_word) found)
             × IsLeast self.now.pairs (K.word key.now + 1) found }
+        ensures exact { ComesBack K.word K.of_word → ComesBack V.word V.of_word
+            → IsLeastAs K.word V.word self.now.pairs (K.word key.now + 1) result }
     {
         match key.to_word().checked_add(1) {
             Some(from) => pair_of(self.arena.first_from(from)),
@@ -281,16 +285,20 @@ impl<K: Word64, V: Word64, A: Allocator, D: Drop> Congee<K, V, A, D> {
 
     /// The pair of the greatest key.
     pub fn last(&self) -> Option<(K, V)>
-        ensures { (found : Option (ℕ × ℕ)) × (result ≡ option_map (pair_by K.of_word V.of_word) found)
+        ensures found { (found : Option (ℕ × ℕ)) × (result ≡ option_map (pair_by K.of_word V.of_word) found)
             × IsGreatest self.now.pairs (2 ^ 64) found }
+        ensures exact { ComesBack K.word K.of_word → ComesBack V.word V.of_word
+            → IsGreatestAs K.word V.word self.now.pairs (2 ^ 64) result }
     {
         pair_of(self.arena.last_to(u64::MAX))
     }
 
     /// The pair of the greatest key that is less than this one, present or not.
     pub fn next_before(&self, key: &K) -> Option<(K, V)>
-        ensures { (found : Option (ℕ × ℕ)) × (result ≡ option_map (pair_by K.of_word V.of_word) found)
+        ensures found { (found : Option (ℕ × ℕ)) × (result ≡ option_map (pair_by K.of_word V.of_word) found)
             × IsGreatest self.now.pairs (K.word key.now) found }
+        ensures exact { ComesBack K.word K.of_word → ComesBack V.word V.of_word
+            → IsGreatestAs K.word V.word self.now.pairs (K.word key.now) result }
     {
         match key.to_word().checked_sub(1) {
             Some(last) => pair_of(self.arena.last_to(last)),

@@ -3,6 +3,7 @@ ghost use Rattle.std.specs.Prelude.{◌≡◌, ◌↔◌, ◌-◌, None, Some, I
 ghost use Rattle.std.specs.Prelude.{IfOk, IfErr, IfSome, IfNone, OnErr};
 ghost use Rattle.std.specs.Option.{option_map};
 ghost use Rattle.std.specs.Arc.{arc_value};
+ghost use Rattle.std.specs.List.{All};
 ghost use Rattle.std.specs.FinMap as map;
 ghost use Rattle.congee.specs.forms.Forms.{size_of};
 ghost use Rattle.congee.specs.declared.forms.base_node.NodeType.TheVariants.{N256};
@@ -10,7 +11,7 @@ ghost use Rattle.congee.specs.owned.Owners.{OwnerAnswers, OwnerInserts, OwnerRef
 ghost use Rattle.congee.specs.owned.Full.{AllFilled};
 ghost use Rattle.congee.specs.owned.Going.{going_by};
 ghost use Rattle.congee.specs.owned.Runs.{OwnersStayFilled};
-ghost use Rattle.congee.specs.owned.Stats.{root_alone};
+ghost use Rattle.congee.specs.owned.Stats.{HasValue, root_alone};
 ghost use Rattle.congee.specs.owned.Wanted.{WantsLeaf};
 ghost use Rattle.congee.specs.owned.Ranges.{keys_by};
 ghost use Rattle.judge.specs.declared.journal.Call.TheVariants as call;
@@ -227,6 +228,13 @@ impl<K: Word64, V: Drop> CongeeArc<K, V> {
         };
         let new = payload_of(f(given));
         Ok(owner_of(self.arena.settle(self.alloc, &bytes, new)))
+    }
+
+    /// Each leaf of the tree has a value.
+    pub fn leaves_hold(&self)
+        ensures { All HasValue self.now.nodes }
+    {
+        self.arena.leaves_hold();
     }
 
     /// Where no node but the root lacks a child, each has two nodes below it at least, or one value, and isn't too small for its

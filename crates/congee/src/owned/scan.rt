@@ -3,8 +3,7 @@ ghost use Rattle.std.specs.Prelude.{◌≡◌, ◌+◌, ℕ, ◌<◌, ◌≤◌,
 ghost use Rattle.std.specs.FinMap as map;
 ghost use Rattle.congee.specs.Keys.{key_bytes};
 ghost use Rattle.congee.specs.owned.Arena.{IsTree};
-ghost use Rattle.congee.specs.forms.Bytes.{IsFirst};
-ghost use Rattle.congee.specs.owned.Nearest.{IsLeast, IsGreatest};
+ghost use Rattle.congee.specs.owned.Nearest.{IsLeast, IsLeastPair, IsGreatest};
 ghost use Rattle.congee.specs.owned.Cursor.{IsAt, steps_left};
 ghost use Rattle.congee.specs.owned.Table.{pairs_of};
 ghost use Rattle.congee.specs.owned.Ranges.{entries_by, in_range, keys_by};
@@ -108,7 +107,7 @@ impl<P: Stored, A: Allocator> Arena<P, A> {
         ensures less { OnSome result (steps_left KEY_BYTES (steps_of walk.new) < steps_left KEY_BYTES (steps_of walk.old)) }
         ensures first { (from : ℕ) → IsAt self.now.nodes (steps_of walk.old) from
             → MatchOption result ((q : ℕ) → from ≤ q → map.get (pairs_of self.now.nodes) q ≡ None)
-            (λ r. IsFirst (pairs_of self.now.nodes) from r.0 r.1.now × IsAt self.now.nodes (steps_of walk.new) (r.0 + 1)) }
+            (λ r. IsLeastPair (pairs_of self.now.nodes) from r.0 r.1.now × IsAt self.now.nodes (steps_of walk.new) (r.0 + 1)) }
     {
         'steps: loop {
             let Some((byte, child)) = walk.sight.first_from(walk.from) else {
@@ -142,7 +141,7 @@ impl<P: Stored, A: Allocator> Arena<P, A> {
     pub(crate) fn first(&self) -> Option<(u64, &P)>
         requires { IsTree self.now.nodes }
         ensures { MatchOption result ((q : ℕ) → 0 ≤ q → map.get (pairs_of self.now.nodes) q ≡ None)
-            (λ r. IsFirst (pairs_of self.now.nodes) 0 r.0 r.1.now) }
+            (λ r. IsLeastPair (pairs_of self.now.nodes) 0 r.0 r.1.now) }
     {
         self.next_along(&mut self.beginning())
     }

@@ -7,7 +7,7 @@ ghost use Rattle.congee.specs.forms.Forms.{size_of};
 ghost use Rattle.congee.specs.declared.forms.base_node.NodeType.TheVariants.{N256};
 ghost use Rattle.congee.specs.owned.Content.{Inserts, IsBare, KeepsCharge, ChangesNothing, Refuses, Modifies};
 ghost use Rattle.congee.specs.owned.Full.{AllFilled};
-ghost use Rattle.congee.specs.owned.Nearest.{IsLeast, IsGreatest, pair_by};
+ghost use Rattle.congee.specs.owned.Nearest.{ComesBack, IsGreatest, IsGreatestAs, IsLeast, IsLeastAs, pair_by};
 ghost use Rattle.congee.specs.owned.OwnedSteps.{IsRefusal};
 ghost use Rattle.congee.specs.owned.Ranges.{by_bytes, in_range, keys_by};
 ghost use Rattle.congee.specs.owned.Runs.{StaysFilled};
@@ -160,32 +160,36 @@ impl<V: Word64, A: Allocator> U64Congee<V, A> {
 
     /// The pair of the least key.
     pub fn first(&self) -> Option<(u64, V)>
-        ensures { (found : Option (ℕ × ℕ)) × (result ≡ option_map (pair_by (λ k. k) V.of_word) found)
+        ensures found { (found : Option (ℕ × ℕ)) × (result ≡ option_map (pair_by (λ k. k) V.of_word) found)
             × IsLeast self.now.tree.pairs 0 found }
+        ensures exact { ComesBack V.word V.of_word → IsLeastAs (λ k. k) V.word self.now.tree.pairs 0 result }
     {
         self.tree.first()
     }
 
     /// The pair of the least key that is greater than this one, present or not. So a scan goes on past a full buffer.
     pub fn next_after(&self, key: u64) -> Option<(u64, V)>
-        ensures { (found : Option (ℕ × ℕ)) × (result ≡ option_map (pair_by (λ k. k) V.of_word) found)
+        ensures found { (found : Option (ℕ × ℕ)) × (result ≡ option_map (pair_by (λ k. k) V.of_word) found)
             × IsLeast self.now.tree.pairs (key + 1) found }
+        ensures exact { ComesBack V.word V.of_word → IsLeastAs (λ k. k) V.word self.now.tree.pairs (key + 1) result }
     {
         self.tree.next_after(&key)
     }
 
     /// The pair of the greatest key.
     pub fn last(&self) -> Option<(u64, V)>
-        ensures { (found : Option (ℕ × ℕ)) × (result ≡ option_map (pair_by (λ k. k) V.of_word) found)
+        ensures found { (found : Option (ℕ × ℕ)) × (result ≡ option_map (pair_by (λ k. k) V.of_word) found)
             × IsGreatest self.now.tree.pairs (2 ^ 64) found }
+        ensures exact { ComesBack V.word V.of_word → IsGreatestAs (λ k. k) V.word self.now.tree.pairs (2 ^ 64) result }
     {
         self.tree.last()
     }
 
     /// The pair of the greatest key that is less than this one, present or not.
     pub fn next_before(&self, key: u64) -> Option<(u64, V)>
-        ensures { (found : Option (ℕ × ℕ)) × (result ≡ option_map (pair_by (λ k. k) V.of_word) found)
+        ensures found { (found : Option (ℕ × ℕ)) × (result ≡ option_map (pair_by (λ k. k) V.of_word) found)
             × IsGreatest self.now.tree.pairs key found }
+        ensures exact { ComesBack V.word V.of_word → IsGreatestAs (λ k. k) V.word self.now.tree.pairs key result }
     {
         self.tree.next_before(&key)
     }

@@ -1,5 +1,5 @@
 -- What contracts see of a writing call on an arena.
-use Rattle.std.proofs.Common.{◌≡◌, ◌≢◌, ℕ, ◌<◌, ◌^◌, ◌+◌, ◌-◌, List, refl, sym, ap, subst, ◌∙◌}
+use Rattle.std.proofs.Common.{◌≡◌, ◌≢◌, ℕ, ◌<◌, ◌≤◌, ◌^◌, ◌+◌, ◌-◌, List, refl, sym, ap, subst, ◌∙◌}
 use Rattle.std.specs.Prelude.{Option, None, Some, Ok, Err, Bool, nat_eq}
 use Rattle.std.specs.FinMap as map
 use Rattle.judge.specs.Answer.{answer}
@@ -26,6 +26,7 @@ use Rattle.congee.specs.declared.allocator.OOMError.{OOMError}
 use Rattle.congee.specs.declared.owned.arena.Arena.{Arena}
 use Rattle.congee.proofs.lemmas.owned.Answered.{answered_insert, answered_compute, answered_remove, answered_present, answered_absent, present_change, exchange_done, exchange_refused}
 use Rattle.congee.proofs.lemmas.owned.Fulls.{same_lacking, still_none}
+use Rattle.congee.proofs.lemmas.owned.Lessers.{at_less, by_less, went_down}
 use Rattle.congee.proofs.lemmas.owned.Sizes.{bytes_same}
 use Rattle.congee.proofs.lemmas.owned.Surveys.{same_nodes}
 use Rattle.congee.proofs.lemmas.owned.Tables.{answer_pairs, get_pairs, same_pairs}
@@ -85,6 +86,11 @@ module _ {P A K : Type 0} (same : P → P → Bool) (charged limit : A → ℕ) 
       → Went (charged old.allocator) (limit old.allocator) (bytes_of old.nodes) (bytes_of new.nodes) (going_by by (map.get (goes_of old.nodes) k))
   frees_going by before after f =
       subst (λ z. Went (charged old.allocator) (limit old.allocator) (bytes_of old.nodes) (bytes_of new.nodes) (going_by by z)) (ap (goes_at (heap_of old.nodes)) is ∙ sym (get_goes old.nodes k small)) f.bytes
+
+  -- so that no more is left than before
+  pub frees_none : {Y : Type 0} (by : Option Y) (before after : Option P) → Frees charged limit old new key before after (going_by by (goes_at (heap_of old.nodes) key)) → bytes_of new.nodes ≤ bytes_of old.nodes
+  frees_none by before after f =
+      went_down (charged old.allocator) (limit old.allocator) (bytes_of old.nodes) (bytes_of new.nodes) (going_by by (goes_at (heap_of old.nodes) key)) (by_less by (goes_at (heap_of old.nodes) key) (at_less (heap_of old.nodes) key)) f.bytes
 
   -- and what is left then, if no lesser node was skipped
   pub filled_still : {Y : Type 0} (by : Option Y) (before after : Option P) → Frees charged limit old new key before after (going_by by (goes_at (heap_of old.nodes) key))
@@ -171,6 +177,7 @@ module _ {A D : Type 0} (charged limit : A → ℕ) (d : D) (old new : Arena ℕ
     removes before f = record {
       answers = remove_told nat_eq charged limit old new k small key is before _ f;
       bytes = frees_going nat_eq charged limit old new k small key is {Y = ℕ} None before None f;
+      no_more = frees_none nat_eq charged limit old new k small key is {Y = ℕ} None before None f;
       filled = filled_still nat_eq charged limit old new k small key is {Y = ℕ} None before None f;
       keeps = keeps f.edits.balance f.edits.same_limit;
     }
@@ -182,6 +189,7 @@ module _ {A D : Type 0} (charged limit : A → ℕ) (d : D) (old new : Arena ℕ
     settles r v after found f = record {
       answers = present_told nat_eq charged limit old new k small key is r v after _ found f;
       bytes = frees_going nat_eq charged limit old new k small key is after r (settled r after) f;
+      no_more = frees_none nat_eq charged limit old new k small key is after r (settled r after) f;
       filled = filled_still nat_eq charged limit old new k small key is after r (settled r after) f;
       keeps = keeps f.edits.balance f.edits.same_limit;
     }
@@ -194,6 +202,7 @@ module _ {A D : Type 0} (charged limit : A → ℕ) (d : D) (old new : Arena ℕ
       answers = answer_pairs nat_eq old.nodes new.nodes (call.Exchange k v after) (reply.Exchange (Ok after))
           (exchange_done old.nodes new.nodes k small v after (present_at nat_eq charged limit old new k small key is r v after _ found f));
       bytes = frees_going nat_eq charged limit old new k small key is after r (settled r after) f;
+      no_more = frees_none nat_eq charged limit old new k small key is after r (settled r after) f;
       filled = filled_still nat_eq charged limit old new k small key is after r (settled r after) f;
       keeps = keeps f.edits.balance f.edits.same_limit;
     }

@@ -11,9 +11,9 @@ use Rattle.congee.specs.Heap.{Hung, Below, Nothing, Holds, fits, child_for, valu
 use Rattle.congee.specs.Keys.{key_bytes}
 use Rattle.congee.specs.owned.Arena.{Nodes, hung_in, heap_of, notes_of, IsTree, OnWay}
 use Rattle.congee.specs.Notes.{IsChild}
-use Rattle.congee.specs.forms.Bytes.{IsFirst}
 use Rattle.congee.specs.owned.Changes.{DiffersAt}
 use Rattle.congee.specs.owned.Cursor.{HangsBelow, IsDescent, IsCursor, HasAhead, IsAhead, IsAt, steps_left}
+use Rattle.congee.specs.owned.Nearest.{IsLeastPair}
 use Rattle.congee.specs.owned.Stores.{StandsWith}
 use Rattle.congee.specs.owned.Table.{pairs_of}
 use Rattle.congee.specs.forms.Forms.{children_of}
@@ -392,7 +392,7 @@ module _ {P : Type 0} (s : Nodes P) (t : IsTree s) where
       → ((b : ℕ) → from ≤ b → b < byte → (heap_of s n).children b ≡ Nothing) → (heap_of s n).children byte ≡ Holds x
       → fits (heap_of s n).prefix (key_bytes k) ≡ true → get_or (key_bytes k) (length (heap_of s n).prefix) 0 ≡ byte
       → SameAhead s before (steps ++ branch_at n from ∷ []) → IsAt s before from'
-      → IsFirst (pairs_of s) from' k x × IsAt s (steps ++ branch_at n (byte + 1) ∷ []) (k + 1)
+      → IsLeastPair (pairs_of s) from' k x × IsAt s (steps ++ branch_at n (byte + 1) ∷ []) (k + 1)
   found before steps n from byte k from' x h lo lk free e f eb same at =
       let child : child_for (heap_of s n) (key_bytes k) ≡ Holds x = subst (λ b. (heap_of s n).children b ≡ Holds x) (sym eb) e in
       let here : map.get (pairs_of s) k ≡ Some x = (pairs_stand s).at k lk ∙ at_held s (key_bytes k) n x t (record { stands = last.stands; fitted = f }) child in
@@ -436,7 +436,7 @@ module _ {P : Type 0} (s : Nodes P) (t : IsTree s) where
   pub found_inline : (before steps : List Branch) (n from byte below k from' : ℕ) (x : P) → IsCursor s (steps ++ branch_at n from ∷ []) → from ≤ byte → byte + 1 ≤ 256 → k < 2 ^ 64
       → ((b : ℕ) → from ≤ b → b < byte → (heap_of s n).children b ≡ Nothing) → (heap_of s n).children byte ≡ Below below → StandsWith s below k x
       → SameAhead s before (steps ++ branch_at n from ∷ []) → IsAt s before from'
-      → IsFirst (pairs_of s) from' k x × IsAt s (steps ++ branch_at n (byte + 1) ∷ []) (k + 1)
+      → IsLeastPair (pairs_of s) from' k x × IsAt s (steps ++ branch_at n (byte + 1) ∷ []) (k + 1)
   found_inline before steps n from byte below k from' x h lo hi lk free e l same at =
       let passed : List Branch = steps ++ branch_at n (byte + 1) ∷ [] in
       let leaf : Leaf (heap_of s) below (key_bytes k) x = leaf_of s (key_bytes k) below l.leaf x (key_length k) l.is l.has in

@@ -7,7 +7,8 @@ use Rattle.std.proofs.lemmas.Grind.{take-set_at}
 use Rattle.std.proofs.lemmas.List.{drop-drop, drop-set-lt}
 use Rattle.std.specs.Ordering.{nat_cmp}
 use Rattle.std.specs.FinMap as map
-use Rattle.congee.specs.forms.Bytes.{IsFirst, between}
+use Rattle.congee.specs.forms.Bytes.{between}
+use Rattle.congee.specs.owned.Nearest.{IsLeastPair}
 use Rattle.congee.specs.owned.Ranges.{in_range, keys_by}
 use Rattle.congee.specs.forms.Places.{AllKeys}
 use Rattle.congee.proofs.lemmas.forms.BetweenLemmas.{between_none, between_first, all_found, get_find}
@@ -73,10 +74,10 @@ module _ {X : Type 0} where
   range_none m start (suc e) h = ends_before start e (map.entries m) ∙ between_none m start e (λ q l n. h q l (omega (arith, n)))
 
   -- the pairs of a range are its first one and those after it
-  pub range_first : (m : map.FinMap nat_cmp X) (start end k : ℕ) (x : X) → IsFirst m start k x → k < end → in_range start end (map.entries m) ≡ (k, x) ∷ in_range (k + 1) end (map.entries m)
+  pub range_first : (m : map.FinMap nat_cmp X) (start end k : ℕ) (x : X) → IsLeastPair m start k x → k < end → in_range start end (map.entries m) ≡ (k, x) ∷ in_range (k + 1) end (map.entries m)
   range_first m start zero k x f l = absurd (omega (arith, l))
   range_first m start (suc e) k x f l =
-      ends_before start e (map.entries m) ∙ between_first m start e k x f (omega (arith, l)) ∙ ap (λ r. (k, x) ∷ r) (sym (ends_before (k + 1) e (map.entries m)))
+      ends_before start e (map.entries m) ∙ between_first m start e k x (record { past = f.past; here = f.here; before = f.before }) (omega (arith, l)) ∙ ap (λ r. (k, x) ∷ r) (sym (ends_before (k + 1) e (map.entries m)))
 
   range_of_all : (e : ℕ) (es : List (ℕ × X)) → AllKeys (λ k. k < e) es → in_range 0 e es ≡ es
   range_of_all e [] a = refl

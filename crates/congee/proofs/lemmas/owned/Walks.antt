@@ -9,6 +9,7 @@ use Rattle.congee.specs.forms.Bytes.{IsFirst}
 use Rattle.congee.specs.forms.Forms.{children_of}
 use Rattle.congee.specs.owned.Arena.{Nodes, IsTree, hung_in, heap_of}
 use Rattle.congee.specs.owned.Cursor.{IsCursor, IsAt, steps_left}
+use Rattle.congee.specs.owned.Nearest.{IsLeastPair}
 use Rattle.congee.specs.owned.Stores.{StandsWith}
 use Rattle.congee.specs.owned.Table.{pairs_of}
 use Rattle.congee.specs.declared.forms.base_node.Node.{Node as Form}
@@ -28,7 +29,7 @@ pub record GoesOn {P : Type 0} (s : Nodes P) (before old new : List Branch) : Ty
 pub record Passes {P : Type 0} (s : Nodes P) (before old new : List Branch) (key : ℕ) (v : P) : Type 0 where
   pub way : IsCursor s new
   pub fewer : steps_left 8 new < steps_left 8 old
-  pub first : (from : ℕ) → IsAt s before from → IsFirst (pairs_of s) from key v × IsAt s new (key + 1)
+  pub first : (from : ℕ) → IsAt s before from → IsLeastPair (pairs_of s) from key v × IsAt s new (key + 1)
 
 -- it goes down
 pub record GoesDown {P : Type 0} (s : Nodes P) (before old above : List Branch) (below : ℕ) : Type 0 where

@@ -11,6 +11,7 @@ use Rattle.congee.specs.forms.Bytes.{IsFirst}
 use Rattle.congee.specs.forms.Forms.{children_of}
 use Rattle.congee.specs.owned.Arena.{Nodes, IsTree, heap_of}
 use Rattle.congee.specs.owned.Cursor.{IsCursor, IsAt}
+use Rattle.congee.specs.owned.Nearest.{IsLeastPair}
 use Rattle.congee.specs.owned.Ranges.{entries_by, in_range}
 use Rattle.congee.specs.owned.Stores.{StandsWith}
 use Rattle.congee.specs.owned.Table.{pairs_of}
@@ -124,7 +125,7 @@ module _ {P E : Type 0} (s : Nodes P) (entry : ℕ → P → E) (last : ℕ) whe
       no_room_left out (entries_by entry (in_range from (last + 1) (map.entries (pairs_of s)))) all count (length out - count) (omega (arith, full)) h
 
   -- the first of the pairs ahead, written in the next place, leaves those after it
-  pub one_more : (out all : List E) (count from key : ℕ) (v : P) → IsFirst (pairs_of s) from key v → key ≤ last → count < length out
+  pub one_more : (out all : List E) (count from key : ℕ) (v : P) → IsLeastPair (pairs_of s) from key v → key ≤ last → count < length out
       → with_pairs s entry last out count from ≡ all → with_pairs s entry last (set out count (entry key v)) (count + 1) (key + 1) ≡ all
   one_more out all count from key v first l room h =
       let es = map.entries (pairs_of s) in

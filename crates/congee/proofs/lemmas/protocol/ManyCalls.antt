@@ -1,10 +1,10 @@
 -- Steps of any number of calls, one after another.
-use Rattle.std.proofs.Common.{◌≡◌, ◌≢◌, ℕ, ◌<◌, ◌≤◌, ◌^◌, ◌⊎◌, inl, inr, Bool, false, List, [], ◌∷◌, ◌++◌, length, map, take, ◌+◌, refl, sym, ◌∙◌, ap, subst, arith}
+use Rattle.std.proofs.Common.{◌≡◌, ◌≢◌, ℕ, ◌<◌, ◌≤◌, ◌^◌, ◌⊎◌, inl, inr, Bool, false, List, [], ◌∷◌, ◌++◌, length, map, take, ◌+◌, ◌-◌, min, refl, sym, ◌∙◌, ap, subst, arith}
 use Rattle.std.proofs.Math.ListN.{set}
 use Rattle.std.proofs.lemmas.List.{append_assoc, length-append}
 use Rattle.std.proofs.Math.Seq.{take-append_seam}
 use Rattle.std.proofs.lemmas.Option.{slice_get_past}
-use Rattle.std.specs.Prelude.{Option, None, Some, slice_get}
+use Rattle.std.specs.Prelude.{Option, None, Some, Result, Ok, Err, OnOk, OnErr, slice_get}
 use Rattle.judge.specs.Answer.{Pairs}
 use Rattle.std.specs.FinMap.{empty}
 use Rattle.congee.specs.declared.forms.base_node.NodeType.{NodeType}
@@ -45,6 +45,16 @@ use Rattle.congee.proofs.lemmas.protocol.Causes.{caused, next_weaker}
 use Rattle.congee.specs.protocol.Causes.{IsCause}
 use Rattle.congee.proofs.lemmas.protocol.Watches.{watched}
 use Rattle.congee.proofs.lemmas.protocol.ScanFlights.{point_stays, follow_at, follow_none, follow_set, follow_new, scan_watched}
+
+-- steps that go on until none is left, or no place in a list that had so many moves before, are all, or as many as it had places for
+pub stops : (all rest done len before places : ℕ) → all ≡ done + rest → done ≡ len - before → before ≤ len → len ≤ places → (rest ≡ 0) ⊎ (len ≡ places) → done ≡ min all (places - before)
+stops all rest done len before places a d m f (inl none) = omega (arith, a, d, m, f, none)
+stops all rest done len before places a d m f (inr full) = omega (arith, a, d, m, f, full)
+
+-- a list that got places for all steps has them, and one that was refused them has none
+pub all_or_none : {A E : Type 0} (r : Result A E) (done all asked len places places' : ℕ) → done ≡ min all (places' - len) → asked ≡ all → len ≡ 0 → places ≡ 0 → OnOk r (len + asked ≤ places') → OnErr r (places' ≡ places) → (done ≡ all) ⊎ (done ≡ 0)
+all_or_none (Ok x) done all asked len places places' d q z n ok err = let k : len + asked ≤ places' = ok in inl (omega (arith, d, q, z, k))
+all_or_none (Err e) done all asked len places places' d q z n ok err = let k : places' ≡ places = err in inr (omega (arith, d, z, n, k))
 
 module _ {C V : Type 0} (number : C → ℕ) (same : V → V → Bool) (always : Bool) where
   -- a call of the protocol may step
@@ -373,6 +383,13 @@ module _ {C V : Type 0} (number : C → ℕ) (same : V → V → Bool) (always :
     trace = (let P : List (Move V) → Type 0 = λ y. IsTrace number same always most why h0 ms0 (p.taken ++ s ∷ []) y h' ms' in
         subst P (sym (q ∙ ap (λ y. y ++ d ∷ []) q1)) (trace_more h0 ms0 p.taken ds h ms s d h' ms' p.trace (next_weaker number same always most near (why h) h ms (slice_get ms s.who) s d h' ms' f x.next)));
   }
+
+  -- the steps taken and those left are all
+  pub progress_stops : (h0 : ℕ → Node V) (ms0 : List (Machine C V)) (all rest : List (Step C V)) (done : ℕ) (ds : List (Move V)) (h : ℕ → Node V) (ms : List (Machine C V)) → Progress h0 ms0 all rest done ds h ms → length all ≡ done + length rest
+  progress_stops h0 ms0 all rest done ds h ms p =
+      let l : length all ≡ length p.taken + length rest = ap length p.split ∙ length-append p.taken rest in
+      let c : length p.taken ≡ done = p.count in
+      omega (arith, l, c)
 
   -- the steps taken are the first ones of all
   taken_first : (h0 : ℕ → Node V) (ms0 : List (Machine C V)) (all rest : List (Step C V)) (done done' : ℕ) (ds : List (Move V)) (h : ℕ → Node V) (ms : List (Machine C V)) → (p : Progress h0 ms0 all rest done ds h ms) → done' ≡ done → take done' all ≡ p.taken

@@ -11,7 +11,7 @@ use Rattle.congee.specs.owned.Owners.{never_same}
 use Rattle.congee.specs.owned.Sizes.{bytes_of}
 use Rattle.congee.specs.owned.Going.{Went, goes_of, going_by}
 use Rattle.congee.proofs.lemmas.owned.Answered.{answered_absent}
-use Rattle.congee.proofs.lemmas.owned.Contents.{filled_still, present_told, frees_going, found_at}
+use Rattle.congee.proofs.lemmas.owned.Contents.{filled_still, present_told, frees_going, frees_none, found_at}
 use Rattle.congee.proofs.lemmas.owned.OwnerLemmas.{if_some, is_some_of_some, on_error, some_injective}
 use Rattle.congee.proofs.lemmas.owned.Tables.{answer_pairs}
 use Rattle.congee.proofs.lemmas.owned.Goings.{going_map}
@@ -37,6 +37,7 @@ returns-clause-present g c =
     let answers = present_told never_same _ _ c.self.inside.arena c.settle.new.self (g.K.Word64.word c.args.key) c.bytes_of_key-bytes.ensures.small c.bytes_of_key-bytes.result c.bytes_of_key-bytes.ensures.bytes c.settle.result old new _ c.in-Some.ensures c.settle.ensures in
     let Q : ℕ → Type 0 = λ n. Went n (2 ^ 64 - 1) (bytes_of c.self.inside.arena.nodes) (bytes_of c.settle.new.self.nodes) (going_by new (map.get (goes_of c.self.inside.arena.nodes) (g.K.Word64.word c.args.key))) in
     let bytes = subst Q (sym c.self.invariant.1) (frees_going never_same _ _ c.self.inside.arena c.settle.new.self (g.K.Word64.word c.args.key) c.bytes_of_key-bytes.ensures.small c.bytes_of_key-bytes.result c.bytes_of_key-bytes.ensures.bytes new c.settle.result _ c.settle.ensures) in
+    let no_more = frees_none never_same _ _ c.self.inside.arena c.settle.new.self (g.K.Word64.word c.args.key) c.bytes_of_key-bytes.ensures.small c.bytes_of_key-bytes.result c.bytes_of_key-bytes.ensures.bytes new c.settle.result _ c.settle.ensures in
     let filled = filled_still never_same _ _ c.self.inside.arena c.settle.new.self (g.K.Word64.word c.args.key) c.bytes_of_key-bytes.ensures.small c.bytes_of_key-bytes.result c.bytes_of_key-bytes.ensures.bytes new c.settle.result _ c.settle.ensures in
     if_some c.owner_of.result _ (λ x is.
     let r : c.settle.result ≡ Some (arc_value x) = sym c.owner_of.ensures ∙ ap (option_map arc_value) is in
@@ -46,5 +47,5 @@ returns-clause-present g c =
       c.f.new.self,
       c.in_ok-given-in-Some.ensures ∙ same,
       search rules,
-      rw (← c.self.view_is, ← going_map arc_value c.f.result (map.get (goes_of c.self.inside.arena.nodes) (g.K.Word64.word c.args.key)), ← c.payload_of-new.ensures, ← same) (record { answers = answers; bytes = bytes; filled = filled }),
+      rw (← c.self.view_is, ← going_map arc_value c.f.result (map.get (goes_of c.self.inside.arena.nodes) (g.K.Word64.word c.args.key)), ← c.payload_of-new.ensures, ← same) (record { answers = answers; bytes = bytes; no_more = no_more; filled = filled }),
     ))

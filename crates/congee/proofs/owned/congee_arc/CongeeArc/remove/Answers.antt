@@ -4,7 +4,7 @@ use Rattle.std.specs.Prelude.{None, ℕ}
 use Rattle.congee.specs.owned.Going.{Went, goes_of}
 use Rattle.congee.specs.owned.Owners.{never_same}
 use Rattle.congee.specs.owned.Sizes.{bytes_of}
-use Rattle.congee.proofs.lemmas.owned.Contents.{filled_still, remove_told, frees_going}
+use Rattle.congee.proofs.lemmas.owned.Contents.{filled_still, remove_told, frees_going, frees_none}
 use Rattle.congee.proofs.owned.congee_arc.CongeeArc.remove.Goals as goal
 
 pub returns : goal.returns
@@ -12,5 +12,6 @@ returns g c =
     let answers = remove_told never_same _ _ c.self.inside.arena c.remove.new.self (g.K.Word64.word c.args.key) c.bytes_of_key-bytes.ensures.small c.bytes_of_key-bytes.result c.bytes_of_key-bytes.ensures.bytes c.remove.result _ c.remove.ensures in
     let Q : ℕ → Type 0 = λ n. Went n (2 ^ 64 - 1) (bytes_of c.self.inside.arena.nodes) (bytes_of c.remove.new.self.nodes) (map.get (goes_of c.self.inside.arena.nodes) (g.K.Word64.word c.args.key)) in
     let bytes = subst Q (sym c.self.invariant.1) (frees_going never_same _ _ c.self.inside.arena c.remove.new.self (g.K.Word64.word c.args.key) c.bytes_of_key-bytes.ensures.small c.bytes_of_key-bytes.result c.bytes_of_key-bytes.ensures.bytes {Y = ℕ} None c.remove.result None c.remove.ensures) in
+    let no_more = frees_none never_same _ _ c.self.inside.arena c.remove.new.self (g.K.Word64.word c.args.key) c.bytes_of_key-bytes.ensures.small c.bytes_of_key-bytes.result c.bytes_of_key-bytes.ensures.bytes {Y = ℕ} None c.remove.result None c.remove.ensures in
     let filled = filled_still never_same _ _ c.self.inside.arena c.remove.new.self (g.K.Word64.word c.args.key) c.bytes_of_key-bytes.ensures.small c.bytes_of_key-bytes.result c.bytes_of_key-bytes.ensures.bytes {Y = ℕ} None c.remove.result None c.remove.ensures in
-    rw (← c.self.view_is, c.owner_of.ensures) (record { answers = answers; bytes = bytes; filled = filled })
+    rw (← c.self.view_is, c.owner_of.ensures) (record { answers = answers; bytes = bytes; no_more = no_more; filled = filled })

@@ -1,0 +1,5 @@
+use Rattle.std.proofs.Common.{refl}
+use Rattle.congee.proofs.owned.u64_congee.U64Congee.next_before.Goals as goal
+
+pub returns-clause-exact : goal.returns-clause-exact
+returns-clause-exact g c = λ value. c.next_before.ensures.exact (λ n. refl) value
