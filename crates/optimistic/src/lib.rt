@@ -1,0 +1,2 @@
+//! A concurrent ordered index whose readers take no lock: an adaptive radix tree over one table of words.
+#![tactic(auto)]
