@@ -1,2 +1,4 @@
 //! A concurrent ordered index whose readers take no lock: an adaptive radix tree over one table of words.
 #![tactic(auto)]
+
+mod words;
