@@ -2,4 +2,5 @@
 #![tactic(auto)]
 
 mod forms;
+mod tree;
 mod words;

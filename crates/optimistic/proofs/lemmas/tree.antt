@@ -1,0 +1,5 @@
+pub mod Between
+pub mod Empty
+pub mod Instead
+pub mod Nodes
+pub mod Reading
