@@ -5,12 +5,13 @@ use mathlib.Core.Logic.{dite}
 use native.Mathlib.Decide.{ℕ_discrete}
 use Rattle.optimistic.specs.Layout.{width, links, tag_of, level_of, node_of, leaf_of, byte_at, where_of}
 use Rattle.optimistic.specs.declared.words.rule.Moment.{Moment}
+use Rattle.optimistic.specs.declared.words.rule.Tenure.{Tenure}
 use Rattle.optimistic.specs.declared.words.rule.View.{View}
-use Rattle.optimistic.specs.words.Kept.{word_at, form_at, calm_at, value_of, Since, Sound}
+use Rattle.optimistic.specs.words.Kept.{word_at, form_at, calm_at, has, value_of, Since, Sound}
 use Rattle.optimistic.specs.words.Told.{HasForm, Looks}
 use Rattle.optimistic.specs.forms.Children.{first_of, second_of, IsForm}
 use Rattle.optimistic.specs.tree.Levels.{form_of, depth, stands, goes_on, pair_value}
-use Rattle.optimistic.specs.tree.Reads.{Still, Steady, Found}
+use Rattle.optimistic.specs.tree.Reads.{Still, Agrees, Steady, Found}
 use Rattle.optimistic.specs.tree.Trees.{IsTree, where_at, first_at, second_at}
 use Rattle.optimistic.proofs.lemmas.words.Moments.{since_refl, since_trans, held_trans}
 use Rattle.optimistic.proofs.lemmas.words.Chains.{word_between}
@@ -20,33 +21,40 @@ use Rattle.optimistic.proofs.lemmas.tree.Nodes.{clash, decide}
 pub looks_trans : (v w x : View) → Looks IsTree v w → Looks IsTree w x → Looks IsTree v x
 looks_trans v w x p q = record {
   since = since_trans v.seen w.seen x.seen p.since q.since;
-  held = held_trans v.mine v.seen w.seen x.seen p.since p.held (λ n h. q.held n (ap (λ l. Rattle.optimistic.specs.words.Kept.has l n) p.mine ∙ h));
+  held = held_trans v.mine v.seen w.seen x.seen p.since p.held (λ n h. q.held n (ap (λ (l : List Tenure). has l n) p.mine ∙ h));
   sound = q.sound;
   mine = q.mine ∙ p.mine;
   made = q.made ∙ p.made;
   own = (q.own.0 ∙ p.own.0, q.own.1);
 }
 
--- what is still the same over a longer time is over a shorter
-pub still_since : (node form : ℕ) (u v w : View) (a b : Moment) → Still node form u w a b → Since u.seen v.seen → Still node form v w a b
-still_since node form u v w a b s t = record { before = since_trans a u.seen v.seen s.before t; after = s.after; is = s.is; even = s.even; same = s.same }
+-- a node's words agree from a later view on, and up to an earlier
+pub agrees_from : (node form : ℕ) (u v w : View) (f : ℕ → ℕ) → Agrees node form u w f → Looks IsTree u v → Agrees node form v w f
+agrees_from node form u v w f s t = record { words = λ x l q. s.words x (looks_trans u v x t l) q }
 
-pub still_until : (node form : ℕ) (u v w : View) (a b : Moment) → Still node form u w a b → Since v.seen w.seen → Still node form u v a b
-still_until node form u v w a b s t = record { before = s.before; after = since_trans v.seen w.seen b t s.after; is = s.is; even = s.even; same = s.same }
+pub agrees_to : (node form : ℕ) (u v w : View) (f : ℕ → ℕ) → Agrees node form u w f → Since v.seen w.seen → Agrees node form u v f
+agrees_to node form u v w f s t = record { words = λ x l q. s.words x l (since_trans x.seen v.seen w.seen q t) }
 
-pub still_part : (node form : ℕ) (u v w x : View) (a b : Moment) → Still node form u x a b → Since u.seen v.seen → Since w.seen x.seen → Still node form v w a b
-still_part node form u v w x a b s p q = record { before = since_trans a u.seen v.seen s.before p; after = since_trans w.seen x.seen b q s.after; is = s.is; even = s.even; same = s.same }
-
-pub steady_since : (node form j x : ℕ) (u v w : View) → Steady node form j x v w → Since u.seen v.seen → Steady node form j x u w
-steady_since node form j x u v w s t a b still = s a b (still_since node form u v w a b still t)
+pub steady_since : (node form j x : ℕ) (u v w : View) → Steady node form j x v w → Looks IsTree u v → Steady node form j x u w
+steady_since node form j x u v w s t f ag = s f (agrees_from node form u v w f ag t)
 
 pub steady_until : (node form j x : ℕ) (u v w : View) → Steady node form j x u v → Since v.seen w.seen → Steady node form j x u w
-steady_until node form j x u v w s t a b still = s a b (still_until node form u v w a b still t)
+steady_until node form j x u v w s t f ag = s f (agrees_to node form u v w f ag t)
 
 -- a word that was read
 pub steady : (node form j x : ℕ) (v w : View) → 0 < j → j < width form → Looks IsTree v w → x ≡ word_at w.seen.words node j → Steady node form j x v w
-steady node form j x v w some_word low t is a b s =
-    word_between IsTree a w.seen b node form (word_at a.words node 0) j s.is (since_trans a v.seen w.seen s.before t.since) s.after refl s.even s.same t.sound some_word low ∙ sym is
+steady node form j x v w some_word low t is f ag = sym (ag.words w t (since_refl w.seen) j some_word low) ∙ sym is
+
+-- a node whose version stays has the words that it was settled with, and one that the thread has those that it has
+pub still_agrees : (node form : ℕ) (v w : View) (a b : Moment) → Still node form v w a b → Agrees node form v w (calm_at b.calm node)
+still_agrees node form v w a b s = record {
+  words = λ u l q j some_word low. sym (word_between IsTree a u.seen b node form (word_at a.words node 0) j s.is (since_trans a v.seen u.seen s.before l.since) (since_trans u.seen w.seen b q s.after) refl s.even s.same l.sound some_word low);
+}
+
+pub held_agrees : (node form : ℕ) (v w : View) → has v.mine node ≡ true → form_at v.seen.plots node ≡ form → Agrees node form v w (word_at v.seen.words node)
+held_agrees node form v w own is = record {
+  words = λ u l q j some_word low. (l.held node own).0 j (subst (λ (z : ℕ). j < width z) (sym is) low);
+}
 
 -- a where covers the key that it is of
 pub where_stands : (form level key : ℕ) → 0 < form → form < 9 → level < 8 → stands (where_of form level key) key ≡ true
@@ -121,7 +129,7 @@ reads v w a b node form level key first second some low deep still is sound foun
     let d : depth W ≡ level = ap depth is ∙ where_level form level key deep (omega arith) in
     let here : stands W key ≡ true = ap (λ (z : ℕ). stands z key) is ∙ where_stands form level key some low deep in
     let shape : IsForm form (calm_at b.calm node) = subst (λ (z : ℕ). IsForm z (calm_at b.calm node)) f (sound.means.forms node (λ (z : W ≡ 0). where_some form level key some low deep (sym is ∙ z))) in
-    let said = found a b still shape in
+    let said = found (calm_at b.calm node) (still_agrees node form v w a b still) shape in
     let one : first_at b.calm node key ≡ first = (λ i. first_of (f i) (calm_at b.calm node) key (byte_at key (d i))) ∙ said.0 in
     let two : first ≢ 0 → second_at b.calm node key ≡ second = λ ne. (λ i. second_of (f i) (calm_at b.calm node) key (byte_at key (d i))) ∙ said.1 ne in
     let t = sound.means.nodes in

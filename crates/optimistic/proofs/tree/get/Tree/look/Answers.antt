@@ -6,7 +6,7 @@ use Rattle.optimistic.specs.tree.Reads.{Found, Still}
 use Rattle.optimistic.specs.tree.Trees.{IsTree}
 use Rattle.optimistic.proofs.lemmas.words.Chains.{looks_keeps}
 use Rattle.optimistic.proofs.lemmas.words.Moments.{since_refl, since_trans, width_more}
-use Rattle.optimistic.proofs.lemmas.tree.Reading.{looks_trans, still_part, reads}
+use Rattle.optimistic.proofs.lemmas.tree.Reading.{looks_trans, still_agrees, reads}
 use Rattle.optimistic.proofs.tree.get.Tree.look.Goals as goal
 
 pub load-version-requires-clause-at : goal.load-version-requires-clause-at
@@ -37,9 +37,9 @@ returns-clause-look c =
     let still : Still node form a b a.seen b.seen = record { before = since_refl a.seen; after = since_refl b.seen; is = c.load-version.ensures.at.is; even = even; same = same } in
     let aw = since_trans a.seen u.seen w.seen c.read-found.ensures.looks.since c.child-child.ensures.looks.since in
     let ub = since_trans u.seen w.seen b.seen c.child-child.ensures.looks.since c.load-last.ensures.looks.since in
-    let over : Still node form u w a.seen b.seen = still_part node form a u w b a.seen b.seen still c.read-found.ensures.looks.since c.load-last.ensures.looks.since in
-    let first : Still node form a u a.seen b.seen = still_part node form a a u b a.seen b.seen still (since_refl a.seen) ub in
-    let place : calm_at b.seen.calm node 1 ≡ where_of form c.args.at.level c.args.key = c.read-found.ensures.steady a.seen b.seen first ∙ (here ∙ c.where_word-word.ensures.word) in
+    let over : Still node form u w a.seen b.seen = record { before = c.read-found.ensures.looks.since; after = c.load-last.ensures.looks.since; is = still.is; even = even; same = same } in
+    let first : Still node form a u a.seen b.seen = record { before = since_refl a.seen; after = ub; is = still.is; even = even; same = same } in
+    let place : calm_at b.seen.calm node 1 ≡ where_of form c.args.at.level c.args.key = c.read-found.ensures.steady (calm_at b.seen.calm node) (still_agrees node form a u a.seen b.seen first) ∙ (here ∙ c.where_word-word.ensures.word) in
     let found : Found node form c.child-child.result.first c.child-child.result.second c.args.key (byte_at c.args.key c.args.at.level) u w =
         subst (λ (z : ℕ). Found node form c.child-child.result.first c.child-child.result.second c.args.key z u w) c.key_byte-byte.ensures.byte c.child-child.ensures.found in
     c.pair_value.ensures ∙ reads u w a.seen b.seen node form c.args.at.level c.args.key c.child-child.result.first c.child-child.result.second c.requires.at.some c.requires.at.form c.requires.at.level over place c.load-last.ensures.looks.sound found

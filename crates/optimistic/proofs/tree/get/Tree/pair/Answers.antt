@@ -12,4 +12,4 @@ pub returns-clause-first : goal.returns-clause-first
 returns-clause-first c = steady_until c.args.node c.args.form c.args.word c.read-first.result _ c.read-first.new.hand.me.0 c.read-second.new.hand.me.0 c.read-first.ensures.steady c.read-second.ensures.looks.since
 
 pub returns-clause-second : goal.returns-clause-second
-returns-clause-second c = steady_since c.args.node c.args.form _ c.read-second.result c.args.hand.now.me.0 c.read-first.new.hand.me.0 _ c.read-second.ensures.steady c.read-first.ensures.looks.since
+returns-clause-second c = steady_since c.args.node c.args.form _ c.read-second.result c.args.hand.now.me.0 c.read-first.new.hand.me.0 _ c.read-second.ensures.steady c.read-first.ensures.looks
