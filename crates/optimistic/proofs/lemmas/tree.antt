@@ -2,6 +2,5 @@ pub mod Between
 pub mod Empty
 pub mod Instead
 pub mod Nodes
-pub mod Puts
 pub mod Reading
 pub mod Writing
