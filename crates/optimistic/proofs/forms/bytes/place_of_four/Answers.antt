@@ -1,0 +1,9 @@
+use Rattle.std.proofs.Common.{arith}
+use Rattle.optimistic.proofs.lemmas.forms.Marks.{unmarked, place_of_bytes}
+use Rattle.optimistic.proofs.forms.bytes.place_of_four.Goals as goal
+
+pub returns-then-t-eq0 : goal.returns-then-t-eq0
+returns-then-t-eq0 c = unmarked c.marks_of_four-t.ensures c.if-t-eq0.true 4 (omega arith)
+
+pub returns-else-t-eq0 : goal.returns-else-t-eq0
+returns-else-t-eq0 c = place_of_bytes c.marks_of_four-t.ensures c.if-t-eq0.false (omega (arith, c.marks_of_four-t.ensures.fits))

@@ -1,0 +1,17 @@
+use Rattle.std.proofs.Common.{◌≡◌, ◌≢◌, ℕ, ◌+◌, ◌*◌, ◌/◌, ◌%◌, ◌^◌, ◌<◌, ◌≤◌, ap, sym, ◌∙◌, refl, subst, arith, [], ◌∷◌}
+use Rattle.std.specs.Int.{bit_at}
+use Rattle.optimistic.specs.Layout.{room}
+use Rattle.optimistic.specs.forms.Bytes.{byte_of, with_at, key_of, IsLowest}
+use Rattle.optimistic.specs.forms.Children.{byte_in, taken_in, mask_of}
+use Rattle.optimistic.proofs.lemmas.forms.BitsAt.{four_keys, four_takes, four_bits}
+use Rattle.optimistic.proofs.lemmas.forms.Scans.{shifted_bit}
+use Rattle.optimistic.proofs.lemmas.forms.ChildLemmas.{finds_is, inside_of, room_of}
+use Rattle.optimistic.proofs.lemmas.forms.PlaceLemmas.{lowest_four, lowest_sixteen, lowest_forty_eight, taken_four, taken_sixteen, taken_forty_eight, put_four_is, take_four_is, put_sixteen, put_forty_eight, take_sixteen, take_forty_eight}
+use Rattle.optimistic.proofs.forms.places.find_four.Goals as goal
+
+pub returns-clause-inside : goal.returns-clause-inside
+returns-clause-inside c = inside_of 4 (byte_of c.args.word) c.args.byte c.place_of_four.result c.place_of_four.ensures
+
+pub returns-clause-finds : goal.returns-clause-finds
+returns-clause-finds c form w four e is =
+    finds_is form w c.args.byte is c.place_of_four.result (subst (λ n. IsLowest n (byte_in form w) c.args.byte c.place_of_four.result) (sym four) (lowest_four form w c.args.byte c.place_of_four.result c.args.word four e c.place_of_four.ensures))

@@ -1,0 +1,12 @@
+pub mod BitsAt
+pub mod ByteLemmas
+pub mod ChildLemmas
+pub mod FormLemmas
+pub mod Levels
+pub mod Maps
+pub mod Marks
+pub mod Pack
+pub mod PlaceLemmas
+pub mod RowLemmas
+pub mod Scans
+pub mod Trick

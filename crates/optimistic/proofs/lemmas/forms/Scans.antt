@@ -1,0 +1,142 @@
+-- The next bit that is set.
+use Rattle.std.proofs.Common.{◌≡◌, ◌≢◌, ℕ, ◌+◌, ◌-◌, ◌*◌, ◌/◌, ◌%◌, ◌^◌, ◌<◌, ◌≤◌, sym, ap, ◌∙◌, arith, shr-shr, inl, inr, List, [], ◌∷◌, get_or, length, ◌⊎◌}
+use Rattle.std.proofs.lemmas.Nat.Bits.{bit_at-zero, bit_at_above}
+use Rattle.std.proofs.lemmas.Bool.{cases_lt, cases_eq}
+use Rattle.std.specs.Int.{bit_at}
+use Rattle.optimistic.specs.forms.Wide.{bit_in, IsNext, HasPlace}
+use Rattle.optimistic.specs.forms.Bytes.{with_at}
+use Rattle.optimistic.specs.forms.Held.{held, IsNode}
+use Rattle.std.specs.FinMap as map
+use Rattle.std.proofs.Common.{IsSome, is_some}
+use Rattle.optimistic.proofs.lemmas.forms.Maps.{with_here, with_other, get_taken, get_none, look}
+
+pub shifted_bit : (m f k : ℕ) → bit_at (m / 2 ^ f) k ≡ bit_at m (f + k)
+shifted_bit m f k = ap (λ x. x % 2) (shr-shr m f k)
+
+bit_from : (m f k : ℕ) → f ≤ k → bit_at m k ≡ bit_at (m / 2 ^ f) (k - f)
+bit_from m f k l = let e : k ≡ f + (k - f) = omega arith in ap (bit_at m) e ∙ sym (shifted_bit m f (k - f))
+
+pub none_from : (m f : ℕ) → m / 2 ^ f ≡ 0 → (k : ℕ) → f ≤ k → bit_at m k ≡ 0
+none_from m f e k l = bit_from m f k l ∙ ap (λ x. bit_at x (k - f)) e ∙ bit_at-zero (k - f)
+
+-- a bit of a word that is set lies within
+set_below : (m k : ℕ) → m < 2 ^ 64 → bit_at m k ≡ 1 → k < 64
+set_below m k f e = elim (cases_lt k 64) [
+  | inl l ↦ l
+  | inr g ↦ let none = bit_at_above m 64 k f g in absurd (omega (arith, none, e))
+]
+
+pub first_from : (m f z : ℕ) → m < 2 ^ 64 → bit_at (m / 2 ^ f) z ≡ 1 → ((k : ℕ) → k < z → bit_at (m / 2 ^ f) k ≡ 0) → IsNext (bit_at m) 64 f (f + z)
+first_from m f z small is below =
+    let here : bit_at m (f + z) ≡ 1 = sym (shifted_bit m f z) ∙ is in
+    (omega arith, set_below m (f + z) small here, here, λ k l g. bit_from m f k l ∙ below (k - f) (omega (arith, l, g)))
+
+-- the same in a list of words, from a place in word w on
+pub in_word : (masks : List ℕ) (w k : ℕ) → k < 64 → bit_in masks (w * 64 + k) ≡ bit_at (get_or masks w 0) k
+in_word masks w k l =
+    let d : (w * 64 + k) / 64 ≡ w = omega arith in
+    let m : (w * 64 + k) % 64 ≡ k = omega arith in
+    ap (λ x. bit_at (get_or masks x 0) ((w * 64 + k) % 64)) d ∙ ap (bit_at (get_or masks w 0)) m
+
+pub rest_none : (masks : List ℕ) (from at : ℕ) → ((k : ℕ) → from ≤ k → k < at → bit_in masks k ≡ 0) → ((k : ℕ) → at % 64 ≤ k → bit_at (get_or masks (at / 64) 0) k ≡ 0) → (k : ℕ) → from ≤ k → k < (at / 64 + 1) * 64 → bit_in masks k ≡ 0
+rest_none masks from at before none k l g = elim (cases_lt k at) [
+  | inl b ↦ before k l b
+  | inr a ↦
+      let e : k ≡ at / 64 * 64 + k % 64 = omega arith in
+      ap (bit_in masks) e ∙ in_word masks (at / 64) (k % 64) (omega arith) ∙ none (k % 64) (omega arith)
+]
+
+pub rest_next : (masks : List ℕ) (from at bit : ℕ) → from ≤ at → at < 256 → ((k : ℕ) → from ≤ k → k < at → bit_in masks k ≡ 0) → IsNext (bit_at (get_or masks (at / 64) 0)) 64 (at % 64) bit → IsNext (bit_in masks) 256 from (at / 64 * 64 + bit)
+rest_next masks from at bit le small before next = (
+  omega (arith, next.0),
+  omega (arith, next.1),
+  in_word masks (at / 64) bit next.1 ∙ next.2,
+  λ k l g. elim (cases_lt k at) [
+    | inl b ↦ before k l b
+    | inr a ↦
+        let e : k ≡ at / 64 * 64 + k % 64 = omega (arith, g, next.1, a) in
+        ap (bit_in masks) e ∙ in_word masks (at / 64) (k % 64) (omega arith) ∙ next.3 (k % 64) (omega (arith, a, g, next.1)) (omega (arith, e, g))
+  ],
+)
+
+-- the bytes of the places that are no more in `rest` are in the masks, and only such
+pub record IsCollected (key : ℕ → ℕ) (mask rest : ℕ) (masks : List ℕ) : Type 0 where
+  pub inside : (k : ℕ) → bit_at rest k ≡ 1 → bit_at mask k ≡ 1
+  pub sound : (b : ℕ) → b < 256 → bit_in masks b ≡ 1 → HasPlace key (bit_at mask) b
+  pub complete : (k : ℕ) → bit_at mask k ≡ 1 → bit_at rest k ≢ 1 → bit_in masks (key k) ≡ 1
+  pub size : length masks ≡ 4
+
+pub collected_none : (key : ℕ → ℕ) (mask : ℕ) (masks : List ℕ) → length masks ≡ 4 → ((b : ℕ) → b < 256 → bit_in masks b ≡ 0) → IsCollected key mask mask masks
+collected_none key mask masks size none = record {
+  inside = λ k e. e;
+  sound = λ b l e. absurd (omega (arith, none b l, e));
+  complete = λ k e d. absurd (d e);
+  size = size;
+}
+
+pub collected_more : (key : ℕ → ℕ) (mask rest rest' : ℕ) (masks masks' : List ℕ) (p : ℕ) → IsCollected key mask rest masks → bit_at rest p ≡ 1
+    → ((q : ℕ) → bit_in masks' q ≡ with_at (bit_in masks) (key p) 1 q) → ((q : ℕ) → bit_at rest' q ≡ with_at (bit_at rest) p 0 q) → length masks' ≡ 4 → IsCollected key mask rest' masks'
+collected_more key mask rest rest' masks masks' p c is put take size = record {
+  inside = λ k e. elim (cases_eq k p) [
+    | inl s ↦ ap (bit_at mask) s ∙ c.inside p is
+    | inr d ↦ c.inside k (sym (take k ∙ with_other (bit_at rest) p 0 k d) ∙ e)
+  ];
+  sound = λ b l e. elim (cases_eq b (key p)) [
+    | inl s ↦ record { place = p; taken_there = c.inside p is; byte = sym s }
+    | inr d ↦ c.sound b l (sym (put b ∙ with_other (bit_in masks) (key p) 1 b d) ∙ e)
+  ];
+  complete = λ k e n. elim (cases_eq (key k) (key p)) [
+    | inl s ↦ ap (bit_in masks') s ∙ put (key p) ∙ with_here (bit_in masks) (key p) 1
+    | inr d ↦
+        let apart : k ≢ p = λ s. d (ap key s) in
+        put (key k) ∙ with_other (bit_in masks) (key p) 1 (key k) d ∙ c.complete k e (λ f. n (take k ∙ with_other (bit_at rest) p 0 k apart ∙ f))
+  ];
+  size = size;
+}
+
+pub collected_all : (key : ℕ → ℕ) (mask rest : ℕ) (masks : List ℕ) → IsCollected key mask rest masks → rest ≡ 0 → (b : ℕ) → HasPlace key (bit_at mask) b → bit_in masks b ≡ 1
+collected_all key mask rest masks c z b h =
+    let none : bit_at rest h.place ≡ 0 = ap (λ x. bit_at x h.place) z ∙ bit_at-zero h.place in
+    ap (bit_in masks) (sym h.byte) ∙ c.complete h.place h.taken_there (λ e. absurd (omega (arith, none, e)))
+
+pub place_within : (mask n p : ℕ) → mask < 2 ^ n → bit_at mask p ≡ 1 → p < n
+place_within mask n p f e = elim (cases_lt p n) [
+  | inl l ↦ l
+  | inr g ↦ let none = bit_at_above mask n p f g in absurd (omega (arith, none, e))
+]
+
+cases_four : (j : ℕ) → j < 4 → (j ≡ 0) ⊎ ((j ≡ 1) ⊎ ((j ≡ 2) ⊎ (j ≡ 3)))
+cases_four j l = elim (cases_eq j 0) [
+  | inl e ↦ inl e
+  | inr a ↦ elim (cases_eq j 1) [
+    | inl e ↦ inr (inl e)
+    | inr b ↦ elim (cases_eq j 2) [
+      | inl e ↦ inr (inr (inl e))
+      | inr c ↦ inr (inr (inr (omega (arith, l, a, b, c))))
+    ]
+  ]
+]
+
+pub no_bits : (b : ℕ) → b < 256 → bit_in (0 ∷ 0 ∷ 0 ∷ 0 ∷ []) b ≡ 0
+no_bits b l = elim (cases_four (b / 64) (omega arith)) [
+  | inl e ↦ ap (λ j. bit_at (get_or (0 ∷ 0 ∷ 0 ∷ 0 ∷ []) j 0) (b % 64)) e ∙ bit_at-zero (b % 64)
+  | inr o ↦ elim o [
+    | inl e ↦ ap (λ j. bit_at (get_or (0 ∷ 0 ∷ 0 ∷ 0 ∷ []) j 0) (b % 64)) e ∙ bit_at-zero (b % 64)
+    | inr p ↦ elim p [
+      | inl e ↦ ap (λ j. bit_at (get_or (0 ∷ 0 ∷ 0 ∷ 0 ∷ []) j 0) (b % 64)) e ∙ bit_at-zero (b % 64)
+      | inr e ↦ ap (λ j. bit_at (get_or (0 ∷ 0 ∷ 0 ∷ 0 ∷ []) j 0) (b % 64)) e ∙ bit_at-zero (b % 64)
+    ]
+  ]
+]
+
+-- a byte that a taken place has is one that the map has
+module _ (n : ℕ) (key entry : ℕ → ℕ) (mask b : ℕ) (node : IsNode key (bit_at mask) n) where
+  pub place_is_some : mask < 2 ^ n → HasPlace key (bit_at mask) b → IsSome (map.get (held key (bit_at mask) entry n) b)
+  place_is_some f h =
+      ap is_some (ap (map.get (held key (bit_at mask) entry n)) (sym h.byte) ∙ get_taken key (bit_at mask) entry n node h.place (place_within mask n h.place f h.taken_there) h.taken_there)
+
+  pub some_has_place : IsSome (map.get (held key (bit_at mask) entry n) b) → HasPlace key (bit_at mask) b
+  some_has_place s = elim (look key (bit_at mask) entry n b) [
+    | inl f ↦ record { place = f.0; taken_there = f.2; byte = f.3 }
+    | inr g ↦ let none = get_none key (bit_at mask) entry n b g in absurd (cc (s, none))
+  ]

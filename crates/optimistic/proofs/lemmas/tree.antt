@@ -1,0 +1,8 @@
+pub mod Between
+pub mod Empty
+pub mod Instead
+pub mod Nodes
+pub mod Puts
+pub mod Reading
+pub mod Sets
+pub mod Writing

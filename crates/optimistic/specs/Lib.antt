@@ -1,0 +1,4 @@
+pub mod Layout
+pub mod forms
+pub mod tree
+pub mod words

@@ -1,0 +1,8 @@
+//! What the words of a node mean: a finite map from bytes to children. Everything here is on plain numbers.
+pub mod bits;
+pub mod bytes;
+pub mod names;
+pub mod places;
+pub mod row;
+pub mod scan;
+pub mod wide;

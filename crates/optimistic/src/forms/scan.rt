@@ -1,0 +1,57 @@
+//! The taken bytes of a node in ascending order.
+ghost use Rattle.std.specs.Prelude.{◌≡◌, ◌↔◌, ℕ, ◌+◌, ◌*◌, ◌<◌, ◌≤◌, ◌/◌, ◌^◌, get_or, set, length, MatchOption, IsSome};
+ghost use Rattle.std.specs.FinMap as map;
+ghost use Rattle.optimistic.specs.forms.Held.{held, IsNode};
+ghost use Rattle.std.specs.Int.{bit_at};
+ghost use Rattle.optimistic.specs.forms.Bytes.{key_of};
+ghost use Rattle.optimistic.specs.forms.Wide.{bit_in, IsNext, HasPlace};
+
+use crate::forms::bits::{lowest, with_bit, without_bit};
+use crate::forms::bytes::byte_at;
+
+/// The first bit from `from` on that is set.
+#[inline(always)]
+pub fn next_in(mask: u64, from: usize) -> Option<usize>
+    requires { from < 64 }
+    ensures { MatchOption result ((k : ℕ) → from ≤ k → bit_at mask k ≡ 0) (λ p. IsNext (bit_at mask) 64 from p) }
+{
+    let rest = mask >> from;
+    if rest == 0 {
+        None
+    } else {
+        Some(from + lowest(rest))
+    }
+}
+
+/// The first byte from `from` on whose bit is set in four words.
+pub fn next_byte(masks: &[u64; 4], from: usize) -> Option<usize>
+    ensures { MatchOption result ((k : ℕ) → from ≤ k → k < 256 → bit_in masks.now k ≡ 0) (λ p. IsNext (bit_in masks.now) 256 from p) }
+{
+    let mut at = from;
+    while at < 256 {
+        let word = at / 64;
+        match next_in(masks[word], at % 64) {
+            Some(bit) => return Some(word * 64 + bit),
+            None => at = (word + 1) * 64,
+        }
+    }
+    None
+}
+
+/// A bit for each byte that a taken place has.
+pub fn bytes_taken<const N: usize>(words: &[u64; N], mask: u64) -> [u64; 4]
+    requires few { N ≤ 6 }
+    requires fits { mask < 2 ^ (8 * N) }
+    ensures bytes { (b : ℕ) → b < 256 → (bit_in result b ≡ 1) ↔ HasPlace (key_of words.now) (bit_at mask) b }
+    ensures map { (entry : ℕ → ℕ) (b : ℕ) → b < 256 → IsNode (key_of words.now) (bit_at mask) (8 * N) → (bit_in result b ≡ 1) ↔ IsSome (map.get (held (key_of words.now) (bit_at mask) entry (8 * N)) b) }
+{
+    let mut masks = [0; 4];
+    let mut rest = mask;
+    while rest != 0 {
+        let place = lowest(rest);
+        let byte = byte_at(words[place / 8], place % 8) as usize;
+        masks[byte / 64] = with_bit(masks[byte / 64], byte % 64);
+        rest = without_bit(rest, place);
+    }
+    masks
+}

@@ -1,0 +1,6 @@
+//! A concurrent ordered index whose readers take no lock: an adaptive radix tree over one table of words.
+#![tactic(auto)]
+
+mod forms;
+mod tree;
+mod words;
