@@ -155,7 +155,15 @@ impl Tree {
 
     /// The lone leaf of a key whose value is this word, if its place is taken.
     #[inline(always)]
-    fn lone(&self, hand: &mut Hand, node: usize, form: u64, word: usize, taken: bool, key: u64) -> Child
+    fn lone(
+        &self,
+        hand: &mut Hand,
+        node: usize,
+        form: u64,
+        word: usize,
+        taken: bool,
+        key: u64,
+    ) -> Child
         requires of { IsOf self.now.nodes.table.shared.table_id hand.old }
         requires at { HasForm node form (view hand.old) }
         requires inside { (0 < word) × (word < width form) }

@@ -8,7 +8,9 @@ ghost use Rattle.optimistic.specs.tree.Reads.{IsPlace};
 ghost use Rattle.optimistic.specs.tree.Trees.{IsTree};
 ghost use Rattle.optimistic.specs.tree.Writes.{HasPut};
 
-use crate::forms::places::{find_forty_eight, put, put_four, room_in_forty_eight, room_in_four, room_in_sixteen};
+use crate::forms::places::{
+    find_forty_eight, put, put_four, room_in_forty_eight, room_in_four, room_in_sixteen,
+};
 use crate::forms::wide::{place_of_byte, put_byte};
 use crate::tree::get::Tree;
 use crate::tree::place::{Child, Place};

@@ -31,7 +31,8 @@ impl Tree {
         ensures keeps { KeepsBut node (view hand.old) (view hand.new) }
         ensures written { IsWritten node form (with_at (word_at (view hand.old).seen.words node) change.word change.value) (view hand.new) }
     {
-        self.nodes.store(hand, node, form, change.word, change.value);
+        self.nodes
+            .store(hand, node, form, change.word, change.value);
     }
 
     /// Writes two words, one after the other.
@@ -56,7 +57,15 @@ impl Tree {
 
     /// Writes three words, one after the other.
     #[inline(always)]
-    pub fn write_three(&self, hand: &mut Hand, node: usize, form: u64, a: Change, b: Change, c: Change)
+    pub fn write_three(
+        &self,
+        hand: &mut Hand,
+        node: usize,
+        form: u64,
+        a: Change,
+        b: Change,
+        c: Change,
+    )
         requires of { IsOf self.now.nodes.table.shared.table_id hand.old }
         requires at { HasForm node form (view hand.old) }
         requires mine { has (view hand.old).mine node ≡ true }
@@ -78,7 +87,16 @@ impl Tree {
 
     /// Writes four words, one after the other.
     #[inline(always)]
-    pub fn write_four(&self, hand: &mut Hand, node: usize, form: u64, a: Change, b: Change, c: Change, d: Change)
+    pub fn write_four(
+        &self,
+        hand: &mut Hand,
+        node: usize,
+        form: u64,
+        a: Change,
+        b: Change,
+        c: Change,
+        d: Change,
+    )
         requires of { IsOf self.now.nodes.table.shared.table_id hand.old }
         requires at { HasForm node form (view hand.old) }
         requires mine { has (view hand.old).mine node ≡ true }

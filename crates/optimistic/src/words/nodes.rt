@@ -4,7 +4,9 @@ ghost use Rattle.optimistic.specs.Layout.{width, is_link};
 ghost use Rattle.optimistic.specs.words.Kept.{word_at, version_at, has, first_calm};
 ghost use Rattle.optimistic.specs.words.Told.{view, IsOf, IsFresh, HasForm, Tells, Looks, Locks, Stores, Unlocks, Releases, MayUnlock, HasAlso, IsDrafted};
 
-use crate::words::rule::{Arrive, Carve, Extent, Hand, Lock, Look, Note, Put, Release, Shape, Unlock, Versions, View};
+use crate::words::rule::{
+    Arrive, Carve, Extent, Hand, Lock, Look, Note, Put, Release, Shape, Unlock, Versions, View,
+};
 use atomic_table::Table;
 use std::alloc::{AllocError, Global};
 
@@ -107,10 +109,10 @@ impl<P: Shape> Nodes<P> {
         ensures at { HasForm node form (view hand.new) }
         ensures locked { MatchBool result (Locks P.good node version (view hand.old) (view hand.new)) (Looks P.good (view hand.old) (view hand.new)) }
     {
-        let found =
-            self.table
-                .shared
-                .compare_exchange::<Lock<P>>(hand, node, version, version + 1);
+        let found = self
+            .table
+            .shared
+            .compare_exchange::<Lock<P>>(hand, node, version, version + 1);
         found == version
     }
 
@@ -141,13 +143,9 @@ impl<P: Shape> Nodes<P> {
         ensures at { HasForm node form (view hand.new) }
         ensures unlocked { Unlocks P.good node note.now (view hand.old) (view hand.new) }
     {
-        self.table.shared.compare_exchange_with::<Unlock<P>>(
-            hand,
-            node,
-            version,
-            version + 1,
-            note,
-        );
+        self.table
+            .shared
+            .compare_exchange_with::<Unlock<P>>(hand, node, version, version + 1, note);
     }
 
     /// Lets a node go that is as it was settled.
@@ -189,13 +187,10 @@ impl<P: Shape> Nodes<P> {
             entry: None,
             form,
         };
-        let found = self.table.shared.compare_exchange_with::<Carve<P>>(
-            hand,
-            END,
-            end,
-            end + width,
-            &note,
-        );
+        let found = self
+            .table
+            .shared
+            .compare_exchange_with::<Carve<P>>(hand, END, end, end + width, &note);
         if found == end {
             Ok(end as usize)
         } else {

@@ -60,15 +60,15 @@ module _ (form : ℕ) (w : ℕ → ℕ) (g : ℕ) where
       → IsRow form w i g v key count → IsRow form w (suc i) g v' key' (suc count)
   row_push i count v v' key key' is l taken first last byte firsts' lasts' keys row = record {
     firsts_are =
-      taken_step key' one (λ q. v' (first_word g q)) count refl
-      ∙ ap (λ m. map.insert m (key' count) (v' (first_word g count))) (held_like count key key' one one (λ q. v (first_word g q)) (λ q. v' (first_word g q)) keys (λ q m. refl) firsts' ∙ row.firsts_are)
-      ∙ ap (λ b. map.insert (firsts_to form w i) b (v' (first_word g count))) byte ∙ ap (λ x. map.insert (firsts_to form w i) (byte_in form w i) x) first
-      ∙ sym (taken_step (byte_in form w) (taken_in form w) (λ q. w (first_word form q)) i taken);
+        taken_step key' one (λ q. v' (first_word g q)) count refl
+        ∙ ap (λ m. map.insert m (key' count) (v' (first_word g count))) (held_like count key key' one one (λ q. v (first_word g q)) (λ q. v' (first_word g q)) keys (λ q m. refl) firsts' ∙ row.firsts_are)
+        ∙ ap (λ b. map.insert (firsts_to form w i) b (v' (first_word g count))) byte ∙ ap (λ x. map.insert (firsts_to form w i) (byte_in form w i) x) first
+        ∙ sym (taken_step (byte_in form w) (taken_in form w) (λ q. w (first_word form q)) i taken);
     lasts_are =
-      taken_step key' one (λ q. v' (last_word g q)) count refl
-      ∙ ap (λ m. map.insert m (key' count) (v' (last_word g count))) (held_like count key key' one one (λ q. v (last_word g q)) (λ q. v' (last_word g q)) keys (λ q m. refl) lasts' ∙ row.lasts_are)
-      ∙ ap (λ b. map.insert (lasts_to form w i) b (v' (last_word g count))) byte ∙ ap (λ x. map.insert (lasts_to form w i) (byte_in form w i) x) last
-      ∙ sym (taken_step (byte_in form w) (taken_in form w) (λ q. w (last_word form q)) i taken);
+        taken_step key' one (λ q. v' (last_word g q)) count refl
+        ∙ ap (λ m. map.insert m (key' count) (v' (last_word g count))) (held_like count key key' one one (λ q. v (last_word g q)) (λ q. v' (last_word g q)) keys (λ q m. refl) lasts' ∙ row.lasts_are)
+        ∙ ap (λ b. map.insert (lasts_to form w i) b (v' (last_word g count))) byte ∙ ap (λ x. map.insert (lasts_to form w i) (byte_in form w i) x) last
+        ∙ sym (taken_step (byte_in form w) (taken_in form w) (λ q. w (last_word form q)) i taken);
     from = λ q m. elim (cases_lt q count) [
       | inl b ↦ subst (λ z. IsFrom form w (suc i) z) (sym (keys q b)) (later i (key q) (row.from q b))
       | inr a ↦
@@ -154,7 +154,7 @@ module _ (form : ℕ) (w : ℕ → ℕ) where
         → IsSpread form w i g v → IsSpread form w (suc i) g v'
     spread_step taken put s = record {
       firsts_are =
-        put.0 ∙ ap (λ m. map.insert m (byte_in form w i) (w (first_word form i))) s.firsts_are ∙ sym (taken_step (byte_in form w) (taken_in form w) (λ q. w (first_word form q)) i taken);
+          put.0 ∙ ap (λ m. map.insert m (byte_in form w i) (w (first_word form i))) s.firsts_are ∙ sym (taken_step (byte_in form w) (taken_in form w) (λ q. w (first_word form q)) i taken);
       lasts_are = put.1 ∙ ap (λ m. map.insert m (byte_in form w i) (w (last_word form i))) s.lasts_are ∙ sym (taken_step (byte_in form w) (taken_in form w) (λ q. w (last_word form q)) i taken);
     }
 

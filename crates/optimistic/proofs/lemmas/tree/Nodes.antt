@@ -89,7 +89,7 @@ module _ (W W' : ℕ → ℕ) (F S F' S' : ℕ → ℕ → ℕ) (log log' : List
     means = λ p k a. let old = put_ends p k a in ⊎_elim
         (λ (c : (p ≡ n) × (k ≡ key)). (λ i. pair_value (F' (c.0 i) (c.1 i)) (S' (c.0 i) (c.1 i)) (c.1 i)) ∙ (says ∙ (sym (value_now log log' e key value is_key is_value longer) ∙ ap (λ (z : ℕ). value_of z log') (sym c.1))))
         (λ c. (same p k old.0 c).value ∙ (t.means p k old ∙ sym (value_other log log' e key k is_key longer
-            (λ (q : k ≡ key). c (t.one p n k old (subst (λ (z : ℕ). Ends W F S n z) (sym q) mine)) q)))) (put_cases p k);
+        (λ (q : k ≡ key). c (t.one p n k old (subst (λ (z : ℕ). Ends W F S n z) (sym q) mine)) q)))) (put_cases p k);
     alone = λ p q k a b s. let x = put_passes p k a in let y = put_passes q k b in t.alone p q k x.0 y.0 (ap (λ (z : ℕ). z / 256) (sym x.1) ∙ (s ∙ ap (λ (z : ℕ). z / 256) y.1));
     linked = λ p k a. let x = put_passes p k a in let l = t.linked p k x.0 in (
       wheres (F' p k / 256) ∙ (ap (λ (z : ℕ). W (z / 256)) x.1 ∙ (l.0 ∙ sym x.2)),

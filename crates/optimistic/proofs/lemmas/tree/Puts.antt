@@ -110,38 +110,38 @@ module _ (B : List Block) (words : List ℕ) (log log' : List Entry) (n form lev
       let F' : (k : ℕ) → first_at C n k ≡ first_of form f' k (byte_at k level) = λ k. ap (λ (g : ℕ → ℕ). first_in g k) here_path ∙ first_is form level key some low deep (word_at words n) f' is' same' k in
       let S' : (k : ℕ) → second_at C n k ≡ second_of form f' k (byte_at k level) = λ k. ap (λ (g : ℕ → ℕ). second_in g k) here_path ∙ second_is form level key some low deep (word_at words n) f' is' same' k in
       let old_ends : (k z : ℕ) → (first_of form f key b ≡ 0) ⊎ (first_of form f key b ≡ leaf_of key) → goes_on (first_of form f key b) z k ≡ false = λ k z p. ⊎_elim
-          (λ (q : first_of form f key b ≡ 0). ap (λ (w : ℕ). goes_on w z k) q ∙ none_ends z k) (λ (q : first_of form f key b ≡ leaf_of key). ap (λ (w : ℕ). goes_on w z k) q ∙ leaf_ends z key k) p in
+      (λ (q : first_of form f key b ≡ 0). ap (λ (w : ℕ). goes_on w z k) q ∙ none_ends z k) (λ (q : first_of form f key b ≡ leaf_of key). ap (λ (w : ℕ). goes_on w z k) q ∙ leaf_ends z key k) p in
       let mine : Ends W (first_at B) (second_at B) n key = (ap (λ (z : ℕ). stands z key) at_n ∙ where_stands form level key some low deep, ap (λ (z : ℕ). goes_on z (second_at B n key) key) (F key) ∙ old_ends key (second_at B n key) place) in
       let first_now : first_at C n key ≡ leaf_of key = F' key ∙ (became.first key ∙ leaf) in
       let second_now : second_at C n key ≡ y = S' key ∙ became.second key in
       let beside : (k : ℕ) → stands (W n) k ≡ true → k ≢ key → SameAt k (first_at B n k) (second_at B n k) (first_at C n k) (second_at C n k) = λ k h ne. dite (ℕ_discrete (byte_at k level) b)
-          (λ (q : byte_at k level ≡ b).
-            let w : where_of form level key ≡ where_of form level k = covers_where form level key some low deep (calm_at B n) f is same k h in
-            ⊎_elim
-                (λ (inn : is_inner form ≡ true).
-                  let apart : leaf_of key ≢ leaf_of k = λ l. ne (sym (leaf_whole key k (same_top form level key k low deep w (sym q)) l)) in
-                  let was : first_at B n k ≡ first_of form f key b = F k ∙ (ap (λ (z : ℕ). first_of form f k z) q ∙ first_inner form f k key b inn) in
-                  let now : first_at C n k ≡ leaf_of key = F' k ∙ (ap (λ (z : ℕ). first_of form f' k z) q ∙ (first_inner form f' k key b inn ∙ (became.first key ∙ leaf))) in
-                  let x1 : ℕ = second_at B n k in let x2 : ℕ = second_at C n k in
-                  let off : goes_on (first_at B n k) x1 k ≡ false = ap (λ (z : ℕ). goes_on z x1 k) was ∙ old_ends k x1 place in
-                  let no_value : pair_value (first_at B n k) x1 k ≡ None = ap (λ (z : ℕ). pair_value z x1 k) was ∙ ⊎_elim
-                      (λ (z : first_of form f key b ≡ 0). ap (λ (u : ℕ). pair_value u x1 k) z ∙ none_value x1 k) (λ (z : first_of form f key b ≡ leaf_of key). ap (λ (u : ℕ). pair_value u x1 k) z ∙ leaf_none x1 key k apart) place in
-                  record {
-                    goes = ap (λ (z : ℕ). goes_on z x2 k) now ∙ (leaf_ends x2 key k ∙ sym off);
-                    node = λ on. absurd (clash (goes_on (first_at B n k) x1 k) on off);
-                    value = ap (λ (z : ℕ). pair_value z x2 k) now ∙ (leaf_none x2 key k apart ∙ sym no_value);
-                  })
-                (λ (seven : level ≡ 7). absurd (ne (sym (same_key form key k low (subst (λ (z : ℕ). where_of form z key ≡ where_of form z k) seven w) (subst (λ (z : ℕ). byte_at key z ≡ byte_at k z) seven (sym q)))))) inner)
-          (λ nb. same_refl k (first_at B n k) (second_at B n k) (first_at C n k) (second_at C n k) (F' k ∙ (became.other_firsts k (byte_at k level) nb ∙ sym (F k))) (S' k ∙ (became.other_seconds k (byte_at k level) nb ∙ sym (S k)))) in
+      (λ (q : byte_at k level ≡ b).
+      let w : where_of form level key ≡ where_of form level k = covers_where form level key some low deep (calm_at B n) f is same k h in
+      ⊎_elim
+      (λ (inn : is_inner form ≡ true).
+      let apart : leaf_of key ≢ leaf_of k = λ l. ne (sym (leaf_whole key k (same_top form level key k low deep w (sym q)) l)) in
+      let was : first_at B n k ≡ first_of form f key b = F k ∙ (ap (λ (z : ℕ). first_of form f k z) q ∙ first_inner form f k key b inn) in
+      let now : first_at C n k ≡ leaf_of key = F' k ∙ (ap (λ (z : ℕ). first_of form f' k z) q ∙ (first_inner form f' k key b inn ∙ (became.first key ∙ leaf))) in
+      let x1 : ℕ = second_at B n k in let x2 : ℕ = second_at C n k in
+      let off : goes_on (first_at B n k) x1 k ≡ false = ap (λ (z : ℕ). goes_on z x1 k) was ∙ old_ends k x1 place in
+      let no_value : pair_value (first_at B n k) x1 k ≡ None = ap (λ (z : ℕ). pair_value z x1 k) was ∙ ⊎_elim
+      (λ (z : first_of form f key b ≡ 0). ap (λ (u : ℕ). pair_value u x1 k) z ∙ none_value x1 k) (λ (z : first_of form f key b ≡ leaf_of key). ap (λ (u : ℕ). pair_value u x1 k) z ∙ leaf_none x1 key k apart) place in
+      record {
+        goes = ap (λ (z : ℕ). goes_on z x2 k) now ∙ (leaf_ends x2 key k ∙ sym off);
+        node = λ on. absurd (clash (goes_on (first_at B n k) x1 k) on off);
+        value = ap (λ (z : ℕ). pair_value z x2 k) now ∙ (leaf_none x2 key k apart ∙ sym no_value);
+      })
+      (λ (seven : level ≡ 7). absurd (ne (sym (same_key form key k low (subst (λ (z : ℕ). where_of form z key ≡ where_of form z k) seven w) (subst (λ (z : ℕ). byte_at key z ≡ byte_at k z) seven (sym q)))))) inner)
+      (λ nb. same_refl k (first_at B n k) (second_at B n k) (first_at C n k) (second_at C n k) (F' k ∙ (became.other_firsts k (byte_at k level) nb ∙ sym (F k))) (S' k ∙ (became.other_seconds k (byte_at k level) nb ∙ sym (S k)))) in
       record {
         nodes = put W W' (first_at B) (second_at B) (first_at C) (second_at C) log log' n key value e is_key is_value longer wheres
             (λ p k h other. dite (ℕ_discrete p n)
-                (λ (q : p ≡ n). subst (λ (z : ℕ). stands (W z) k ≡ true → SameAt k (first_at B z k) (second_at B z k) (first_at C z k) (second_at C z k)) (sym q) (λ h'. beside k h' (other q)) h)
-                (λ ne. same_refl k (first_at B p k) (second_at B p k) (first_at C p k) (second_at C p k) (ap (λ (g : ℕ → ℕ). first_in g k) (else_path p ne)) (ap (λ (g : ℕ → ℕ). second_in g k) (else_path p ne))))
+            (λ (q : p ≡ n). subst (λ (z : ℕ). stands (W z) k ≡ true → SameAt k (first_at B z k) (second_at B z k) (first_at C z k) (second_at C z k)) (sym q) (λ h'. beside k h' (other q)) h)
+            (λ ne. same_refl k (first_at B p k) (second_at B p k) (first_at C p k) (second_at C p k) (ap (λ (g : ℕ → ℕ). first_in g k) (else_path p ne)) (ap (λ (g : ℕ → ℕ). second_in g k) (else_path p ne))))
             mine (ap (λ (z : ℕ). goes_on z (second_at C n key) key) first_now ∙ leaf_ends (second_at C n key) key key)
             ((λ i. pair_value (first_now i) (second_now i) key) ∙ (leaf_value y key ∙ sym is_y)) t.nodes;
         forms = λ p nz. dite (ℕ_discrete p n)
             (λ (q : p ≡ n). subst (λ (z : ℕ). IsForm (form_of (where_at C z)) (calm_at C z)) (sym q)
-                (subst (λ (g : ℕ → ℕ). IsForm (form_of (g 1)) g) (sym here_path) (shape_is form level key some low deep (word_at words n) f' is' same' roomy became.form_stays)))
+            (subst (λ (g : ℕ → ℕ). IsForm (form_of (g 1)) g) (sym here_path) (shape_is form level key some low deep (word_at words n) f' is' same' roomy became.form_stays)))
             (λ ne. subst (λ (g : ℕ → ℕ). IsForm (form_of (g 1)) g) (sym (else_path p ne)) (t.forms p (λ z. nz (calm_else n p words B 1 (λ q. ne (sym q)) ∙ z))));
       }

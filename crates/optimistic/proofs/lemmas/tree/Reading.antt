@@ -80,17 +80,18 @@ goes_where f x key some low =
     let w : ℕ = where_of (tag_of f) (level_of f) key in
     let tags : (ltb 0 (tag_of f) && ltb (tag_of f) 9) ≡ true = (λ i. below 0 (tag_of f) some i && below (tag_of f) 9 low i) in
     dite (ℕ_discrete x w)
-        (λ (e : x ≡ w).
-          let ff : form_of x ≡ tag_of f = ap form_of e ∙ where_form (tag_of f) (level_of f) key l (omega arith) in
-          let dd : depth x ≡ level_of f = ap depth e ∙ where_level (tag_of f) (level_of f) key l (omega arith) in
-          let s : (ltb 0 (form_of x) && eqb x (where_of (form_of x) (depth x) key)) ≡ true =
-              (λ i. below 0 (form_of x) (subst (λ (z : ℕ). 0 < z) (sym ff) some) i && eq-eqb x (where_of (form_of x) (depth x) key) (e ∙ (λ j. where_of (sym ff j) (sym dd j) key)) i) in
-          eq-eqb x w e ∙ sym (λ i. (tags i && (eq-eqb (form_of x) (tag_of f) ff i && eq-eqb (depth x) (level_of f) dd i)) && s i))
-        (λ ne. ne_eqb x w ne ∙ sym (never (ltb 0 (tag_of f) && ltb (tag_of f) 9) (eqb (form_of x) (tag_of f)) (eqb (depth x) (level_of f)) (ltb 0 (form_of x)) (eqb x (where_of (form_of x) (depth x) key))
-            (λ a b c. ne (eqb-true x (where_of (form_of x) (depth x) key) c ∙ (λ i. where_of (eqb-true (form_of x) (tag_of f) a i) (eqb-true (depth x) (level_of f) b i) key)))))
+    (λ (e : x ≡ w).
+    let ff : form_of x ≡ tag_of f = ap form_of e ∙ where_form (tag_of f) (level_of f) key l (omega arith) in
+    let dd : depth x ≡ level_of f = ap depth e ∙ where_level (tag_of f) (level_of f) key l (omega arith) in
+    let s : (ltb 0 (form_of x) && eqb x (where_of (form_of x) (depth x) key)) ≡ true =
+    (λ i. below 0 (form_of x) (subst (λ (z : ℕ). 0 < z) (sym ff) some) i && eq-eqb x (where_of (form_of x) (depth x) key) (e ∙ (λ j. where_of (sym ff j) (sym dd j) key)) i) in
+    eq-eqb x w e ∙ sym (λ i. (tags i && (eq-eqb (form_of x) (tag_of f) ff i && eq-eqb (depth x) (level_of f) dd i)) && s i))
+    (λ ne. ne_eqb x w ne ∙ sym (never (ltb 0 (tag_of f) && ltb (tag_of f) 9) (eqb (form_of x) (tag_of f)) (eqb (depth x) (level_of f)) (ltb 0 (form_of x)) (eqb x (where_of (form_of x) (depth x) key))
+    (λ a b c. ne (eqb-true x (where_of (form_of x) (depth x) key) c ∙ (λ i. where_of (eqb-true (form_of x) (tag_of f) a i) (eqb-true (depth x) (level_of f) b i) key)))))
   where
     below : (a b : ℕ) → a < b → ltb a b ≡ true
     below a b l = grind arith
+
     never : (t a b p c : Bool) → (a ≡ true → b ≡ true → c ≡ true → ⊥) → ((t && (a && b)) && (p && c)) ≡ false
     never false a b p c h = refl
     never true false b p c h = refl
@@ -115,6 +116,7 @@ tag_ends f x key no_form = last (ltb 0 (tag_of f)) (ltb (tag_of f) 9) (eqb (form
   where
     above : (a b : ℕ) → ltb a b ≡ true → a < b
     above a b e = grind arith
+
     last : (a b c d : Bool) → (a ≡ true → b ≡ true → ⊥) → (((a && b) && c) && d) ≡ false
     last false b c d h = refl
     last true false c d h = refl
@@ -134,9 +136,9 @@ reads v w a b node form level key first second some low deep still is sound foun
     let two : first ≢ 0 → second_at b.calm node key ≡ second = λ ne. (λ i. second_of (f i) (calm_at b.calm node) key (byte_at key (d i))) ∙ said.1 ne in
     let t = sound.means.nodes in
     dite (ℕ_discrete first 0)
-        (λ (z : first ≡ 0). let e : first_at b.calm node key ≡ 0 = one ∙ z in let x : ℕ = second_at b.calm node key in
-          (λ i. pair_value (z i) second key) ∙ (none_value second key ∙ (sym (none_value x key) ∙ ((λ i. pair_value (sym e i) x key) ∙ t.means node key (here, (λ i. goes_on (e i) x key) ∙ none_ends x key)))))
-        (λ ne. let g = two ne in (λ i. pair_value (sym one i) (sym g i) key) ∙ t.means node key (here, (λ i. goes_on (one i) (g i) key) ∙ ends))
+    (λ (z : first ≡ 0). let e : first_at b.calm node key ≡ 0 = one ∙ z in let x : ℕ = second_at b.calm node key in
+    (λ i. pair_value (z i) second key) ∙ (none_value second key ∙ (sym (none_value x key) ∙ ((λ i. pair_value (sym e i) x key) ∙ t.means node key (here, (λ i. goes_on (e i) x key) ∙ none_ends x key)))))
+    (λ ne. let g = two ne in (λ i. pair_value (sym one i) (sym g i) key) ∙ t.means node key (here, (λ i. goes_on (one i) (g i) key) ∙ ends))
 
 -- the first words of entries are child words
 pub links_at : (i n k : ℕ) → k < n → links i n (i + 2 * k) ≡ true
@@ -144,8 +146,10 @@ links_at i n k l = λ x. (least x && below x) && even x
   where
     least : leb i (i + 2 * k) ≡ true
     least = grind arith
+
     below : ltb (i + 2 * k) (i + 2 * n) ≡ true
     below = let m : i + 2 * k < i + 2 * n = omega arith in grind arith
+
     even : eqb ((i + 2 * k - i) % 2) 0 ≡ true
     even = eq-eqb ((i + 2 * k - i) % 2) 0 (omega arith)
 

@@ -56,12 +56,12 @@ may_set n form level key ver x value u v y some low deep roomy at at_v at_y draf
     let more = width_more form some low in
     let v_words : (j : ℕ) → j < width form → word_at v.seen.words n j ≡ word_at u.seen.words n j = λ j l. (looks.held n own_u).0 j (inside n form j u at l) in
     let calm : (j : ℕ) → 0 < j → j < width form → calm_at b.calm n j ≡ word_at v.seen.words n j = λ j l l'.
-        (held n own_y).1 j ∙ (done.keeps.calm n own_v j ∙ ((looks.held n own_u).1 j ∙ (sym (draft.2 j l (inside n form j u at l')) ∙ sym (v_words j l')))) in
+    (held n own_y).1 j ∙ (done.keeps.calm n own_v j ∙ ((looks.held n own_u).1 j ∙ (sym (draft.2 j l (inside n form j u at l')) ∙ sym (v_words j l')))) in
     let now : (j : ℕ) → j < width form → word_at b.words n j ≡ word_at y.seen.words n j = λ j l. (held n own_y).0 j (inside n form j y at_y l) in
     let where_v : word_at v.seen.words n 1 ≡ where_of form level key = v_words 1 (omega arith) ∙ is in
     let first : first_of form (word_at v.seen.words n) key (byte_at key level) ≡ first_of form (word_at u.seen.words n) key (byte_at key level) =
-        first_like form (word_at u.seen.words n) (word_at v.seen.words n) (λ j _ l. v_words j l) key (byte_at key level) in
+    first_like form (word_at u.seen.words n) (word_at v.seen.words n) (λ j _ l. v_words j l) key (byte_at key level) in
     let e : Entry = entry_of y.by key (Some value) in
     put_tree b.calm b.words b.log (b.log ++ e ∷ []) n form level key x value (Some value) e (word_at v.seen.words n) (word_at y.seen.words n) some low deep roomy refl refl refl
-        (λ j l l'. calm j (omega arith) l') (λ j _ l'. now j l') (calm 1 (omega arith) (omega arith) ∙ where_v) (now 1 (omega arith) ∙ (done.covers ∙ where_v)) done.put
-        (⊎_elim (λ z. inl (first ∙ z)) (λ z. inr (first ∙ z)) place) leaf refl inner sound.means
+    (λ j l l'. calm j (omega arith) l') (λ j _ l'. now j l') (calm 1 (omega arith) (omega arith) ∙ where_v) (now 1 (omega arith) ∙ (done.covers ∙ where_v)) done.put
+    (⊎_elim (λ z. inl (first ∙ z)) (λ z. inr (first ∙ z)) place) leaf refl inner sound.means

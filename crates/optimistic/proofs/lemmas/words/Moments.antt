@@ -22,6 +22,7 @@ width_more f l l' = go (eqb f 1) (eqb f 2) (eqb f 3) (eqb f 4) (eqb f 5) (eqb f 
   where
     none : (x : ℕ) → eqb f x ≡ false → f ≢ x
     none x e q = let t : eqb f x ≡ true = eq-eqb f x q in let b : true ≡ false = sym t ∙ e in grind arith
+
     go : (a b c d e h i j : Bool) → eqb f 1 ≡ a → eqb f 2 ≡ b → eqb f 3 ≡ c → eqb f 4 ≡ d → eqb f 5 ≡ e → eqb f 6 ≡ h → eqb f 7 ≡ i → eqb f 8 ≡ j
         → 7 < (if a then 12 else (if b then 40 else (if c then 112 else (if d then 520 else (if e then 8 else (if h then 24 else (if i then 64 else (if j then 264 else 0))))))))
     go true b c d e h i j p q r s t u v w = omega arith

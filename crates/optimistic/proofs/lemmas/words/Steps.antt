@@ -53,9 +53,9 @@ module _ (m : Moment) (laid : Laid m) (n i q x : ℕ) (is : q ≡ n + i) (here :
       → (p j : ℕ) → j < size m.plots p → is_link (form_at m.plots p) j ≡ true → Names m.plots (word_at (set m.words q x) p j)
   set_links links tells p j l link = dite (ℕ_discrete p n)
       (λ (same : p ≡ n). dite (ℕ_discrete j i)
-          (λ (at : j ≡ i). let e : word_at (set m.words q x) p j ≡ x = (λ k. word_at (set m.words q x) (same k) (at k)) ∙ set_here m.words q n i x is (let a : n + i < length m.words = inside_words m laid n i here in omega arith) in
-            subst (Names m.plots) (sym e) (tells ((λ k. is_link (form_at m.plots (sym same k)) (sym at k)) ∙ link)))
-          (λ ne. subst (Names m.plots) (sym (set_else p j l (λ _. ne))) (links p j l link)))
+      (λ (at : j ≡ i). let e : word_at (set m.words q x) p j ≡ x = (λ k. word_at (set m.words q x) (same k) (at k)) ∙ set_here m.words q n i x is (let a : n + i < length m.words = inside_words m laid n i here in omega arith) in
+      subst (Names m.plots) (sym e) (tells ((λ k. is_link (form_at m.plots (sym same k)) (sym at k)) ∙ link)))
+      (λ ne. subst (Names m.plots) (sym (set_else p j l (λ _. ne))) (links p j l link)))
       (λ ne. subst (Names m.plots) (sym (set_else p j l (λ e. absurd (ne e)))) (links p j l link))
 
   pub set_same : (p : ℕ) → p ≢ n → SameWords p m (moment (set m.words q x) m.plots m.calm m.log)
@@ -276,7 +276,7 @@ module _ (good : Good) (count : ℕ) where
       let under_one : List Block = also note.second s.words under_two in
       let under : List Block = also note.first s.words under_one in
       let else_calm : (p : ℕ) → (has v.mine p ≡ true → ⊥) → (j : ℕ) → calm_at calm p j ≡ calm_at k.calm p j = λ p not j. let ne : n ≢ p = λ q. not (ap (λ (z : ℕ). has v.mine z) (sym q) ∙ own_it) in
-          calm_else n p s.words under j ne ∙ (also_else v.mine note.first s.words under_one p one not j ∙ (also_else v.mine note.second s.words under_two p two not j ∙ also_else v.mine note.third s.words k.calm p three not j)) in
+      calm_else n p s.words under j ne ∙ (also_else v.mine note.first s.words under_one p one not j ∙ (also_else v.mine note.second s.words under_two p two not j ∙ also_else v.mine note.third s.words k.calm p three not j)) in
       let even_not : (p : ℕ) → version_at s.words p % 2 ≡ 0 → has v.mine p ≡ true → ⊥ = λ p even h. let o = (owned s k id v p at h).1 in omega arith in
       let no_node : (p : ℕ) → size k.plots p ≡ 0 → has v.mine p ≡ true → ⊥ = λ p none h. let o : 0 < size k.plots p = (owned s k id v p at h).0 in omega arith in
       let sound : Sound good m' = record {
@@ -342,7 +342,7 @@ module _ (good : Good) (count : ℕ) where
       let not_here : (p : ℕ) → has mine p ≡ true → p ≢ n = λ p h same. let a : has mine n ≡ true = ap (λ (z : ℕ). has mine z) (sym same) ∙ h in let b : false ≡ true = sym (has_here n false v.mine) ∙ a in grind arith in
       let same_size : size k.plots n ≡ size v.seen.plots n = size_since v.seen m f.since n 0 own.0 in
       let settled_n : (j : ℕ) → 0 < j → j < size k.plots n → calm_at k.calm n j ≡ word_at s.words n j = λ j l l'. let lv : j < size v.seen.plots n = omega arith in
-          (f.held n own_it).1 j ∙ (sym (draft.2 j l lv) ∙ sym ((f.held n own_it).0 j lv)) in
+      (f.held n own_it).1 j ∙ (sym (draft.2 j l lv) ∙ sym ((f.held n own_it).0 j lv)) in
       let sound : Sound good m' = record {
         rests = λ p j l l' e. dite (ℕ_discrete p n)
             (λ (same : p ≡ n). subst (λ (z : ℕ). calm_at k.calm z j ≡ word_at words z j) (sym same) (settled_n j l (subst (λ (z : ℕ). j < size k.plots z) same l') ∙ sym (own_word j l)))
@@ -410,7 +410,7 @@ module _ (good : Good) (count : ℕ) where
         rests = λ p j l l' e. dite (ℕ_discrete p end)
             (λ (same : p ≡ end). subst (λ (z : ℕ). calm_at k.calm z j ≡ word_at words z j) (sym same) (laid.new end j none ∙ sym (fresh j)))
             (λ ne. let lo : j < size k.plots p = below_old p j ne l' in let lp : 0 < size k.plots p = omega arith in
-              k.sound.rests p j l lo (ap (λ (z : ℕ). z % 2) (sym (else_version p lp)) ∙ e) ∙ sym (else_word p j lo));
+            k.sound.rests p j l lo (ap (λ (z : ℕ). z % 2) (sym (else_version p lp)) ∙ e) ∙ sym (else_word p j lo));
         means = k.sound.means;
         laid = record {
           apart = λ a b i j l l' e. dite (ℕ_discrete a end)
@@ -430,7 +430,7 @@ module _ (good : Good) (count : ℕ) where
         links = λ p j l link. dite (ℕ_discrete p end)
             (λ (q : p ≡ end). let t : word_at words p j ≡ 0 = ap (λ (z : ℕ). word_at words z j) q ∙ fresh j in λ some_tag _. absurd (let u : word_at words p j % 16 ≡ 0 = ap (λ (z : ℕ). z % 16) t in omega arith))
             (λ ne. let lo : j < size k.plots p = below_old p j ne l in let e : form_at plots p ≡ form_at k.plots p = form_else end fm p k.plots (λ q. ne (sym q)) in
-              subst (Names plots) (sym (else_word p j lo)) (names_since m m' (word_at s.words p j) since (k.sound.links p j lo (ap (λ (z : ℕ). is_link z j) (sym e) ∙ link))));
+            subst (Names plots) (sym (else_word p j lo)) (names_since m m' (word_at s.words p j) since (k.sound.links p j lo (ap (λ (z : ℕ). is_link z j) (sym e) ∙ link))));
       } in (
         w,
         keeps,
@@ -477,7 +477,7 @@ module _ (good : Good) (count : ℕ) where
       let end : get_or words 0 0 ≡ 536 = get_or-set_other (set (replicate count 0) 0 536) 17 0 32 0 (λ (e : 0 ≡ 17). omega arith) ∙ get_or-set_same (zero_words count) 0 536 0 (omega arith) in
       let wheres : get_or words 17 0 ≡ 32 = get_or-set_same (set (zero_words count) 0 536) 17 32 0 (omega arith) in
       let is_root : (n j : ℕ) → j < size (plot 16 4 ∷ []) n → n ≡ 16 = λ n j l. dite (ℕ_discrete n 16) (λ e. e)
-          (λ ne. let t : size (plot 16 4 ∷ []) n ≡ 0 = ap width (form_else 16 4 n [] (λ q. ne (sym q))) ∙ no_width in absurd (omega arith)) in
+      (λ ne. let t : size (plot 16 4 ∷ []) n ≡ 0 = ap width (form_else 16 4 n [] (λ q. ne (sym q))) ∙ no_width in absurd (omega arith)) in
       let root_size : size (plot 16 4 ∷ []) 16 ≡ 520 = ap width (form_here 16 4 []) ∙ width_four in
       let low_word : (n j : ℕ) → j < size (plot 16 4 ∷ []) n → j < 520 = λ n j l. subst (λ (z : ℕ). j < z) (ap (λ (z : ℕ). size (plot 16 4 ∷ []) z) (is_root n j l) ∙ root_size) l in
       record {

@@ -25,4 +25,3 @@ returns-in-7-clause-found c = subst (λ (z : ℕ). Found c.args.at.node z c.valu
 
 pub returns-in_default-clause-found : goal.returns-in_default-clause-found
 returns-in_default-clause-found c = let l = c.requires.at.form in let s = c.requires.at.some in let eight : c.args.at.form ≡ 8 = search rules in subst (λ (z : ℕ). Found c.args.at.node z c.value_of_wide.result.first c.value_of_wide.result.second c.args.key c.args.byte c.args.hand.now.me.0 c.value_of_wide.new.hand.me.0) (sym eight) c.value_of_wide.ensures.found
-

@@ -41,6 +41,6 @@ returns-clause-look c =
     let first : Still node form a u a.seen b.seen = record { before = since_refl a.seen; after = ub; is = still.is; even = even; same = same } in
     let place : calm_at b.seen.calm node 1 ≡ where_of form c.args.at.level c.args.key = c.read-found.ensures.steady (calm_at b.seen.calm node) (still_agrees node form a u a.seen b.seen first) ∙ (here ∙ c.where_word-word.ensures.word) in
     let found : Found node form c.child-child.result.first c.child-child.result.second c.args.key (byte_at c.args.key c.args.at.level) u w =
-        subst (λ (z : ℕ). Found node form c.child-child.result.first c.child-child.result.second c.args.key z u w) c.key_byte-byte.ensures.byte c.child-child.ensures.found in
+    subst (λ (z : ℕ). Found node form c.child-child.result.first c.child-child.result.second c.args.key z u w) c.key_byte-byte.ensures.byte c.child-child.ensures.found in
     c.pair_value.ensures ∙ reads u w a.seen b.seen node form c.args.at.level c.args.key c.child-child.result.first c.child-child.result.second c.requires.at.some c.requires.at.form c.requires.at.level over place c.load-last.ensures.looks.sound found
-        (sym c.goes_on-on.ensures.on ∙ off)
+    (sym c.goes_on-on.ensures.on ∙ off)

@@ -60,4 +60,3 @@ returns-clause-put c = record {
   put = c.place_of_byte-place.ensures.put (word_at c.args.hand.now.me.0.seen.words c.args.node) (word_at c.write_three.new.hand.me.0.seen.words c.args.node) c.args.child.first c.args.child.second c.counted-total.result c.requires.some (λ j _ low. c.write_three.ensures.written j low ∙ three_same (word_at c.load-count.new.hand.me.0.seen.words c.args.node) (word_at c.args.hand.now.me.0.seen.words c.args.node) (8 + 2 * c.place_of_byte-place.result) c.args.child.first (8 + (2 * c.place_of_byte-place.result + 1)) c.args.child.second 2 c.counted-total.result j (words_stay c.args.node 4 j c.args.hand.now.me.0 c.load-count.new.hand.me.0 c.requires.at low c.requires.mine (looks_trans c.args.hand.now.me.0 c.load-old.new.hand.me.0 c.load-count.new.hand.me.0 c.load-old.ensures.looks c.load-count.ensures.looks)));
   covers = c.write_three.ensures.written 1 one_low ∙ (three_other (word_at c.load-count.new.hand.me.0.seen.words c.args.node) (8 + 2 * c.place_of_byte-place.result) c.args.child.first (8 + (2 * c.place_of_byte-place.result + 1)) c.args.child.second 2 c.counted-total.result 1 (let e = c.place_of_byte-place.ensures.place in let b = c.ranges.byte.fits in λ (q : 1 ≡ (8 + 2 * c.place_of_byte-place.result)). omega arith) (let e = c.place_of_byte-place.ensures.place in let b = c.ranges.byte.fits in λ (q : 1 ≡ (8 + (2 * c.place_of_byte-place.result + 1))). omega arith) (let e = c.place_of_byte-place.ensures.place in let b = c.ranges.byte.fits in λ (q : 1 ≡ 2). omega arith) ∙ words_stay c.args.node 4 1 c.args.hand.now.me.0 c.load-count.new.hand.me.0 c.requires.at one_low c.requires.mine (looks_trans c.args.hand.now.me.0 c.load-old.new.hand.me.0 c.load-count.new.hand.me.0 c.load-old.ensures.looks c.load-count.ensures.looks));
 }
-

@@ -51,4 +51,3 @@ returns-in-Some-clause-put c = record {
   put = c.put_four.ensures 5 (word_at c.args.hand.now.me.0.seen.words c.args.node) (word_at c.write_two.new.hand.me.0.seen.words c.args.node) c.args.child.first c.args.child.second refl (word_there c.args.node 5 2 c.load-word.result c.args.hand.now.me.0 c.load-word.new.hand.me.0 c.requires.at (two_low) c.requires.mine c.load-word.ensures.looks c.load-word.ensures.found) c.requires.shape (c.in-Some.ensures 5 (word_at c.args.hand.now.me.0.seen.words c.args.node) refl (word_there c.args.node 5 2 c.load-word.result c.args.hand.now.me.0 c.load-word.new.hand.me.0 c.requires.at (two_low) c.requires.mine c.load-word.ensures.looks c.load-word.ensures.found)) (λ _. c.requires.some) (λ j _ low. c.write_two.ensures.written j low ∙ two_same (word_at c.load-word.new.hand.me.0.seen.words c.args.node) (word_at c.args.hand.now.me.0.seen.words c.args.node) (3 + c.in-Some.place) c.args.child.second 2 c.put_four.result j (words_stay c.args.node 5 j c.args.hand.now.me.0 c.load-word.new.hand.me.0 c.requires.at low c.requires.mine c.load-word.ensures.looks));
   covers = c.write_two.ensures.written 1 one_low ∙ (two_other (word_at c.load-word.new.hand.me.0.seen.words c.args.node) (3 + c.in-Some.place) c.args.child.second 2 c.put_four.result 1 (λ (q : 1 ≡ 3 + c.in-Some.place). omega arith) (λ (q : 1 ≡ 2). omega arith) ∙ words_stay c.args.node 5 1 c.args.hand.now.me.0 c.load-word.new.hand.me.0 c.requires.at one_low c.requires.mine c.load-word.ensures.looks);
 }
-

@@ -90,4 +90,3 @@ returns-in-Some-clause-put c = record {
 
 pub returns-in-None-clause-put : goal.returns-in-None-clause-put
 returns-in-None-clause-put c = (looks_trans c.args.hand.now.me.0 c.load-a.new.hand.me.0 c.load-mask.new.hand.me.0 c.load-a.ensures.looks (looks_trans c.load-a.new.hand.me.0 c.load-b.new.hand.me.0 c.load-mask.new.hand.me.0 c.load-b.ensures.looks c.load-mask.ensures.looks))
-

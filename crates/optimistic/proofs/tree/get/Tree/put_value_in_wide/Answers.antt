@@ -44,4 +44,3 @@ returns-clause-put c = record {
   put = let pl = c.place_of_byte-place.ensures.place in c.put_byte.ensures (word_at c.args.hand.now.me.0.seen.words c.args.node) (word_at c.write_two.new.hand.me.0.seen.words c.args.node) c.args.child.first c.args.child.second (ap (λ (z : ℕ). word_at c.args.hand.now.me.0.seen.words c.args.node (2 + z / 64)) (sym pl) ∙ (word_there c.args.node 8 (2 + c.place_of_byte-place.result / 64) c.load-mask.result c.args.hand.now.me.0 c.load-mask.new.hand.me.0 c.requires.at (low_line c.place_of_byte-place.result (let e = c.place_of_byte-place.ensures.place in let b = c.ranges.byte.fits in omega arith)) c.requires.mine c.load-mask.ensures.looks c.load-mask.ensures.found)) (λ j _ low. c.write_two.ensures.written j low ∙ two_same (word_at c.load-mask.new.hand.me.0.seen.words c.args.node) (word_at c.args.hand.now.me.0.seen.words c.args.node) (8 + c.place_of_byte-place.result) c.args.child.second (2 + c.place_of_byte-place.result / 64) c.put_byte.result j (words_stay c.args.node 8 j c.args.hand.now.me.0 c.load-mask.new.hand.me.0 c.requires.at low c.requires.mine c.load-mask.ensures.looks) ∙ ap (λ (z : ℕ). with_at (with_at (word_at c.args.hand.now.me.0.seen.words c.args.node) (8 + z) c.args.child.second) (2 + z / 64) c.put_byte.result j) pl);
   covers = c.write_two.ensures.written 1 one_low ∙ (two_other (word_at c.load-mask.new.hand.me.0.seen.words c.args.node) (8 + c.place_of_byte-place.result) c.args.child.second (2 + c.place_of_byte-place.result / 64) c.put_byte.result 1 (let e = c.place_of_byte-place.ensures.place in let b = c.ranges.byte.fits in λ (q : 1 ≡ (8 + c.place_of_byte-place.result)). omega arith) (let e = c.place_of_byte-place.ensures.place in let b = c.ranges.byte.fits in λ (q : 1 ≡ (2 + c.place_of_byte-place.result / 64)). omega arith) ∙ words_stay c.args.node 8 1 c.args.hand.now.me.0 c.load-mask.new.hand.me.0 c.requires.at one_low c.requires.mine c.load-mask.ensures.looks);
 }
-

@@ -5,8 +5,11 @@ use Rattle.optimistic.proofs.lemmas.words.Steps.{unlocks}
 use Rattle.optimistic.proofs.words.nodes.Nodes.unlock.Goals as goal
 
 pub compare_exchange_with-requires : goal.compare_exchange_with-requires
-compare_exchange_with-requires g c = (search rules, (let a : c.args.node + width c.args.form ≤ length c.args.hand.now.me.0.seen.words = c.requires.at.ends in let b = c.requires.of.2 in let l = c.requires.some in omega arith),
-    unlocks _ _ _ _ _ c.args.node c.args.version _ c.args.note.now c.requires.mine c.requires.version.0 refl c.requires.also.0 c.requires.also.1 c.requires.also.2 c.requires.may)
+compare_exchange_with-requires g c = (
+  search rules,
+  (let a : c.args.node + width c.args.form ≤ length c.args.hand.now.me.0.seen.words = c.requires.at.ends in let b = c.requires.of.2 in let l = c.requires.some in omega arith),
+  unlocks _ _ _ _ _ c.args.node c.args.version _ c.args.note.now c.requires.mine c.requires.version.0 refl c.requires.also.0 c.requires.also.1 c.requires.also.2 c.requires.may,
+)
 
 pub returns-clause-of : goal.returns-clause-of
 returns-clause-of g c = let u = c.compare_exchange_with.ensures.2.1 c.args.note.now refl in
