@@ -1,2 +1,4 @@
+pub mod FillLemmas
+pub mod MoveLemmas
 pub mod forms
 pub mod words

@@ -1,3 +1,4 @@
 pub mod Layout
+pub mod Moves
 pub mod forms
 pub mod words
