@@ -3,3 +3,4 @@ pub mod Empty
 pub mod Instead
 pub mod Nodes
 pub mod Reading
+pub mod Replaced
