@@ -5,4 +5,5 @@ mod changes;
 mod fill;
 mod forms;
 mod moves;
+mod tree;
 mod words;

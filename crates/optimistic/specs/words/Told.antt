@@ -112,6 +112,15 @@ pub record Unlocks (good : Good) (n : ℕ) (note : Note) (v w : View) : Type 0 w
   pub calm : w.seen.calm ≡ settled n note b.words b.calm
   pub others : (m : ℕ) → has w.mine m ≡ true → SameWords m v.seen w.seen
 
+-- Node n is let go as it was settled, and nothing else changed
+pub record Releases (good : Good) (n : ℕ) (v w : View) : Type 0 where
+  pub since : Since v.seen w.seen
+  pub sound : Sound good w.seen
+  pub mine : w.mine ≡ tenure n false ∷ v.mine
+  pub made : w.made ≡ v.made
+  pub own : IsOwn v w
+  pub others : (m : ℕ) → has w.mine m ≡ true → SameWords m v.seen w.seen × Calm m v.seen w.seen
+
 -- What the author of a structure shows where a node is let go: whatever the moment is, the structure means what the log
 -- makes of it
 abbrev pub MayUnlock : Good → ℕ → Note → View → Type 0
@@ -139,6 +148,9 @@ stored good st m found m' = (m'.1 ≡ m.1) × Stores good st.word found m.0 m'.0
 
 abbrev pub unlocked : Good → Step Note → Sitter → ℕ → Sitter → Type 0
 unlocked good st m found m' = (m'.1 ≡ m.1) × ((note : Note) → st.said ≡ some note → Unlocks good st.word note m.0 m'.0)
+
+abbrev pub released : Good → Step Note → Sitter → ℕ → Sitter → Type 0
+released good st m found m' = (m'.1 ≡ m.1) × Releases good st.word m.0 m'.0
 
 -- the node that was carved lies where the end was
 abbrev pub carved : Good → Step Note → Sitter → ℕ → Sitter → Type 0

@@ -2,9 +2,9 @@
 ghost use Rattle.std.specs.Prelude.{ℕ, ◌≡◌, ◌+◌, ◌*◌, ◌%◌, ◌^◌, ◌<◌, ◌≤◌, true, false, [], List, IfOk, IfSome, MatchBool};
 ghost use Rattle.optimistic.specs.Layout.{width, is_link};
 ghost use Rattle.optimistic.specs.words.Kept.{word_at, version_at, has, first_calm};
-ghost use Rattle.optimistic.specs.words.Told.{view, IsOf, IsFresh, HasForm, Tells, Looks, Locks, Stores, Unlocks, MayUnlock, HasAlso};
+ghost use Rattle.optimistic.specs.words.Told.{view, IsOf, IsFresh, HasForm, Tells, Looks, Locks, Stores, Unlocks, Releases, MayUnlock, HasAlso, IsDrafted};
 
-use crate::words::rule::{Arrive, Carve, Extent, Hand, Lock, Look, Note, Put, Shape, Unlock, Versions, View};
+use crate::words::rule::{Arrive, Carve, Extent, Hand, Lock, Look, Note, Put, Release, Shape, Unlock, Versions, View};
 use atomic_table::Table;
 use std::alloc::{AllocError, Global};
 
@@ -148,6 +148,21 @@ impl<P: Shape> Nodes<P> {
             version + 1,
             note,
         );
+    }
+
+    /// Lets a node go that is as it was settled.
+    pub fn release(&self, hand: &mut Hand, node: usize, form: u64, version: u64)
+        requires of { IsOf self.now.table.shared.table_id hand.old }
+        requires at { HasForm node form (view hand.old) }
+        requires some { 0 < width form }
+        requires drafted { IsDrafted node version (view hand.old) }
+        requires version { version + 1 < 2 ^ 64 }
+        ensures of { IsOf self.now.table.shared.table_id hand.new }
+        ensures released { Releases P.good node (view hand.old) (view hand.new) }
+    {
+        self.table
+            .shared
+            .compare_exchange::<Release<P>>(hand, node, version, version + 1);
     }
 
     /// Makes a node of this form of the words at the end, if there are as many.

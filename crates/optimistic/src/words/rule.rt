@@ -1,6 +1,6 @@
 //! The rule that every step keeps, what a thread knows, and what each step tells it.
 ghost use Rattle.std.specs.Prelude.{List};
-ghost use Rattle.optimistic.specs.words.Told.{arrived, looked, locked, stored, unlocked, carved};
+ghost use Rattle.optimistic.specs.words.Told.{arrived, looked, locked, stored, unlocked, released, carved};
 
 use atomic_table::{Play, Seat, TableRule};
 use std::collections::LinkedList;
@@ -134,6 +134,15 @@ pub struct Unlock<P> {
 
 impl<P: Shape> Play<Note, View> for Unlock<P> {
     ghost then = { unlocked P.good };
+}
+
+/// A node is let go as it was settled.
+pub struct Release<P> {
+    shape: PhantomData<P>,
+}
+
+impl<P: Shape> Play<Note, View> for Release<P> {
+    ghost then = { released P.good };
 }
 
 /// A node is carved where the end is the one expected.

@@ -10,7 +10,7 @@ use Rattle.optimistic.specs.declared.words.rule.Tenure.{Tenure}
 use Rattle.optimistic.specs.declared.words.rule.View.{View}
 use Rattle.optimistic.specs.words.Kept.{word_at, version_at, form_at, size, calm_at, has, calls_by, value_after, value_of, StartsWith, Calm, Since, SameWords, Held, Sound}
 use Rattle.optimistic.specs.words.Calls.{Later, Keeps, entry_of, Puts}
-use Rattle.optimistic.specs.words.Told.{Good, HasForm, tenure, decided, Looks, Locks, Stores, Unlocks, IsDrafted}
+use Rattle.optimistic.specs.words.Told.{Good, HasForm, tenure, decided, Looks, Locks, Stores, Unlocks, Releases, IsDrafted}
 use Rattle.optimistic.proofs.lemmas.words.Moments.{version_word, sandwich, has_here, has_else, value_on, since_trans, held_trans, inside_since, form_since}
 
 -- Where a node has one even version at a and at b, it is settled at b as at any moment m in between, and as its words were then
@@ -76,6 +76,9 @@ module _ (good : Good) where
 
   pub stores_keeps : (i x : ℕ) (v w : View) → Stores good i x v w → Keeps v w
   stores_keeps i x v w t = ((t.since.log, t.made, t.own.0), t.own.1)
+
+  pub releases_keeps : (n : ℕ) (v w : View) → Releases good n v w → Keeps v w
+  releases_keeps n v w t = ((t.since.log, t.made, t.own.0), t.own.1)
 
   -- a node is let go, and no call decided
   pub unlocks_keeps : (n : ℕ) (note : Note) (v w : View) → note.entry ≡ None → Unlocks good n note v w → Keeps v w

@@ -16,14 +16,14 @@ use Rattle.optimistic.specs.words.Kept.{word_at, version_at, form_at, size, calm
 use Rattle.optimistic.specs.words.Told.{tenure, signed, decided, also, HasAlso, HasForm, Tells}
 
 -- how many words a node of each form has
-pub width_some : (f : ℕ) → 0 < f → f < 9 → 0 < width f
+pub width_more : (f : ℕ) → 0 < f → f < 9 → 7 < width f
 unfolding width
-width_some f l l' = go (eqb f 1) (eqb f 2) (eqb f 3) (eqb f 4) (eqb f 5) (eqb f 6) (eqb f 7) (eqb f 8) refl refl refl refl refl refl refl refl
+width_more f l l' = go (eqb f 1) (eqb f 2) (eqb f 3) (eqb f 4) (eqb f 5) (eqb f 6) (eqb f 7) (eqb f 8) refl refl refl refl refl refl refl refl
   where
     none : (x : ℕ) → eqb f x ≡ false → f ≢ x
     none x e q = let t : eqb f x ≡ true = eq-eqb f x q in let b : true ≡ false = sym t ∙ e in grind arith
     go : (a b c d e h i j : Bool) → eqb f 1 ≡ a → eqb f 2 ≡ b → eqb f 3 ≡ c → eqb f 4 ≡ d → eqb f 5 ≡ e → eqb f 6 ≡ h → eqb f 7 ≡ i → eqb f 8 ≡ j
-        → 0 < (if a then 12 else (if b then 40 else (if c then 112 else (if d then 520 else (if e then 8 else (if h then 24 else (if i then 64 else (if j then 264 else 0))))))))
+        → 7 < (if a then 12 else (if b then 40 else (if c then 112 else (if d then 520 else (if e then 8 else (if h then 24 else (if i then 64 else (if j then 264 else 0))))))))
     go true b c d e h i j p q r s t u v w = omega arith
     go false true c d e h i j p q r s t u v w = omega arith
     go false false true d e h i j p q r s t u v w = omega arith
@@ -34,6 +34,9 @@ width_some f l l' = go (eqb f 1) (eqb f 2) (eqb f 3) (eqb f 4) (eqb f 5) (eqb f 
     go false false false false false false false true p q r s t u v w = omega arith
     go false false false false false false false false p q r s t u v w =
         let n1 = none 1 p in let n2 = none 2 q in let n3 = none 3 r in let n4 = none 4 s in let n5 = none 5 t in let n6 = none 6 u in let n7 = none 7 v in let n8 = none 8 w in absurd (omega arith)
+
+pub width_some : (f : ℕ) → 0 < f → f < 9 → 0 < width f
+width_some f l l' = let m = width_more f l l' in omega arith
 
 pub width_four : width 4 ≡ 520
 unfolding width

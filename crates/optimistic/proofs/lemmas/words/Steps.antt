@@ -19,7 +19,7 @@ use Rattle.optimistic.specs.declared.words.rule.Plot.{Plot}
 use Rattle.optimistic.specs.declared.words.rule.Tenure.{Tenure}
 use Rattle.optimistic.specs.declared.words.rule.View.{View}
 use Rattle.optimistic.specs.words.Kept.{word_at, version_at, form_at, size, calm_at, has, calls_by, StartsWith, Calm, Since, SameWords, Held, Names, Laid, Sound, Fits, moment, view_of, plot, block, first_words, first_calm, first_moment, newcomer, At, Kept}
-use Rattle.optimistic.specs.words.Told.{Good, HasForm, Tells, tenure, signed, decided, also, settled, HasAlso, Looks, Locks, Stores, Unlocks, MayUnlock, arrived, looked, locked, stored, unlocked, carved}
+use Rattle.optimistic.specs.words.Told.{Good, HasForm, Tells, tenure, signed, decided, also, settled, HasAlso, Looks, Locks, Stores, Unlocks, Releases, MayUnlock, IsDrafted, arrived, looked, locked, stored, unlocked, released, carved}
 use Rattle.optimistic.proofs.lemmas.words.Moments.{width_some, width_four, no_width, version_no_link, not_false, link_some, version_word, zeros, zero_words, at_inside, at_end, has_here, has_else, calm_here, calm_else, form_here, form_else, calls_on, own_calls, other_calls, calm_refl, calm_trans, also_else, size_since, inside_since, since_refl, since_trans, held_trans, held_version, at_nothing, names_since, form_since}
 
 -- a word of a node is written
@@ -319,6 +319,63 @@ module _ (good : Good) (count : ℕ) where
             log = refl;
             calm = refl;
             others = λ p h j l. let q = not_here p h in else_word p j (inside_since v.seen m f.since p j l) q ∙ (f.held p (sym (other_mine p q) ∙ h)).0 j l;
+          },
+        ),
+      )
+
+  pub releases : (slots id : ℕ) (me : Me Note View) (n ver new : ℕ) → IsDrafted n ver me.0 → new ≡ ver + 1
+      → Allows Rule slots id me n (λ x. either (eqb x ver) new x) (released good (step slots n ver new none) me)
+  releases slots id me n ver new draft up s k _ at _ = let x : ℕ = version_at s.words n in let m : Moment = now s k in let v : View = me.0 in let f = k.each id v at in let laid = k.sound.laid in
+      let own_it = draft.0 in
+      let own = f.odd n own_it in
+      let some_word : 0 < size k.plots n = (owned s k id v n at own_it).0 in
+      let hit : x ≡ ver = held_version v.mine v.seen m f.held n own.0 own_it ∙ draft.1 in
+      let is : n ≡ n + 0 = omega arith in
+      let low : n + 0 < length s.words = inside_words m laid n 0 some_word in
+      let words : List ℕ = set s.words n new in let mine : List Tenure = tenure n false ∷ v.mine in
+      let m' : Moment = moment words k.plots k.calm k.log in let w : View = view_of m' mine v.made v.by in
+      let here : version_at words n ≡ new = get_or-set_same s.words n new 0 (omega arith) in
+      let else_version : (p : ℕ) → p ≢ n → version_at words p ≡ version_at s.words p = λ p ne. get_or-set_other s.words n p new 0 ne in
+      let else_word : (p j : ℕ) → j < size k.plots p → p ≢ n → word_at words p j ≡ word_at s.words p j = λ p j l ne. set_else m laid n 0 n new is some_word p j l (λ e. absurd (ne e)) in
+      let own_word : (j : ℕ) → 0 < j → word_at words n j ≡ word_at s.words n j = λ j l. get_or-set_other s.words n (n + j) new 0 (λ (e : n + j ≡ n). omega arith) in
+      let other_mine : (p : ℕ) → p ≢ n → has mine p ≡ has v.mine p = λ p ne. has_else n p false v.mine (λ q. ne (sym q)) in
+      let not_here : (p : ℕ) → has mine p ≡ true → p ≢ n = λ p h same. let a : has mine n ≡ true = ap (λ (z : ℕ). has mine z) (sym same) ∙ h in let b : false ≡ true = sym (has_here n false v.mine) ∙ a in grind arith in
+      let same_size : size k.plots n ≡ size v.seen.plots n = size_since v.seen m f.since n 0 own.0 in
+      let settled_n : (j : ℕ) → 0 < j → j < size k.plots n → calm_at k.calm n j ≡ word_at s.words n j = λ j l l'. let lv : j < size v.seen.plots n = omega arith in
+          (f.held n own_it).1 j ∙ (sym (draft.2 j l lv) ∙ sym ((f.held n own_it).0 j lv)) in
+      let sound : Sound good m' = record {
+        rests = λ p j l l' e. dite (ℕ_discrete p n)
+            (λ (same : p ≡ n). subst (λ (z : ℕ). calm_at k.calm z j ≡ word_at words z j) (sym same) (settled_n j l (subst (λ (z : ℕ). j < size k.plots z) same l') ∙ sym (own_word j l)))
+            (λ ne. k.sound.rests p j l l' (ap (λ (z : ℕ). z % 2) (sym (else_version p ne)) ∙ e) ∙ sym (else_word p j l' ne));
+        means = k.sound.means;
+        laid = set_laid m laid n 0 n new is some_word k.calm k.log laid.new;
+        root = k.sound.root;
+        links = set_links m laid n 0 n new is some_word k.sound.links (λ t. absurd (link_some (form_at k.plots n) 0 t refl));
+      } in
+      let since : Since m m' = record {
+        log = ([], sym (append-nil k.log));
+        wide = length-set s.words n new;
+        plots = λ p _. refl;
+        grows = λ p _. dite (ℕ_discrete p n) (λ same. subst (λ (z : ℕ). version_at s.words z ≤ version_at words z) (sym same) (let a : version_at s.words n ≡ ver = hit in let b : version_at words n ≡ new = here in omega arith)) (λ ne. le_of_eq (sym (else_version p ne)));
+        still = λ p _ _ _. calm_refl p m;
+      } in (
+        w,
+        keeps,
+        tt,
+        subst (λ b. Rule (stepped s n (either b new x) id me.1 w keeps)) (sym (eq-eqb x ver hit))
+            (advance s k id v words k.plots k.calm k.log mine v.made at (length-set s.words n new) sound since (λ o u p e ne h. ((λ j l. else_word p j l (not_both s k id o v u n p at e ne own_it h)), calm_refl p m))
+            (λ o u p e ne h h'. let q = not_here p h' in ne (k.alone o id u v p e at h (sym (other_mine p q) ∙ h')))
+            (λ p h. let q = not_here p h in let o = owned s k id v p at (sym (other_mine p q) ∙ h) in (o.0, ap (λ (z : ℕ). z % 2) (else_version p q) ∙ o.1))
+            f.calls (λ by _. refl)),
+        (
+          refl,
+          record {
+            since = since_trans v.seen m m' f.since since;
+            sound = sound;
+            mine = refl;
+            made = refl;
+            own = (refl, own_calls_now s k id v at);
+            others = λ p h. let q = not_here p h in let a = f.held p (sym (other_mine p q) ∙ h) in ((λ j l. else_word p j (inside_since v.seen m f.since p j l) q ∙ a.0 j l), a.1);
           },
         ),
       )

@@ -1,0 +1,6 @@
+pub mod Between
+pub mod Empty
+pub mod Instead
+pub mod Nodes
+pub mod Reading
+pub mod Replaced

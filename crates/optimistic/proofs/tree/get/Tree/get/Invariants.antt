@@ -1,0 +1,6 @@
+use Rattle.optimistic.specs.words.Calls.{Later}
+use Rattle.optimistic.specs.words.Told.{IsOf}
+use Rattle.optimistic.proofs.tree.get.Tree.get.Given as goal
+
+abbrev pub invariant-loop : goal.invariant-loop
+invariant-loop g l = IsOf l.fn.self.nodes.table.shared.table_id l.hand × Later l.initial.hand.me.0 l.hand.me.0

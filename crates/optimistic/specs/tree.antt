@@ -1,0 +1,4 @@
+pub mod Levels
+pub mod Reads
+pub mod Replace
+pub mod Trees
