@@ -7,5 +7,7 @@ mod child;
 mod get;
 mod names;
 mod place;
+mod put;
+mod stores;
 
 pub use get::Tree;
