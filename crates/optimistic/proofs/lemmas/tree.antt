@@ -4,5 +4,6 @@ pub mod Instead
 pub mod Nodes
 pub mod Puts
 pub mod Reading
+pub mod Rebuilding
 pub mod Replaced
 pub mod Writing
