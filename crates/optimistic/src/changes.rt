@@ -7,16 +7,23 @@ ghost use Rattle.optimistic.specs.words.Kept.{has};
 ghost use Rattle.optimistic.specs.words.Told.{view, IsOf, HasForm, Tells, Looks};
 ghost use Rattle.optimistic.specs.Moves.{words_of, Stays, Agree};
 
-use crate::forms::places::{
-    find_forty_eight, find_four, find_sixteen, put, put_four, room_in_forty_eight, room_in_four, room_in_sixteen, take, take_four,
-};
 use crate::forms::bits::without_bit;
+use crate::forms::places::{
+    find_forty_eight, find_four, find_sixteen, put, put_four, room_in_forty_eight, room_in_four,
+    room_in_sixteen, take, take_four,
+};
 use crate::forms::wide::{one_fewer, one_more, place_of_byte, put_byte};
 use crate::moves::{Item, first_at, room_of, store_item};
 use crate::words::{Hand, Nodes, Shape};
 
 /// The place of a byte.
-pub fn find_place<P: Shape>(nodes: &Nodes<P>, hand: &mut Hand, node: usize, form: u64, byte: u8) -> Option<usize>
+pub fn find_place<P: Shape>(
+    nodes: &Nodes<P>,
+    hand: &mut Hand,
+    node: usize,
+    form: u64,
+    byte: u8,
+) -> Option<usize>
     requires of { IsOf nodes.now.table.shared.table_id hand.old }
     requires at { HasForm node form (view hand.old) }
     requires form { 0 < room form }
@@ -44,7 +51,13 @@ pub fn find_place<P: Shape>(nodes: &Nodes<P>, hand: &mut Hand, node: usize, form
 }
 
 /// The place of a byte among forty-eight.
-fn find_among_forty_eight<P: Shape>(nodes: &Nodes<P>, hand: &mut Hand, node: usize, form: u64, byte: u8) -> Option<usize>
+fn find_among_forty_eight<P: Shape>(
+    nodes: &Nodes<P>,
+    hand: &mut Hand,
+    node: usize,
+    form: u64,
+    byte: u8,
+) -> Option<usize>
     requires of { IsOf nodes.now.table.shared.table_id hand.old }
     requires at { HasForm node form (view hand.old) }
     requires form { room form ≡ 48 }
@@ -66,7 +79,13 @@ fn find_among_forty_eight<P: Shape>(nodes: &Nodes<P>, hand: &mut Hand, node: usi
 }
 
 /// Puts an entry in, if there is room: at its byte's place, or at a free one.
-pub fn put_in<P: Shape>(nodes: &Nodes<P>, hand: &mut Hand, node: usize, form: u64, item: Item) -> bool
+pub fn put_in<P: Shape>(
+    nodes: &Nodes<P>,
+    hand: &mut Hand,
+    node: usize,
+    form: u64,
+    item: Item,
+) -> bool
     requires of { IsOf nodes.now.table.shared.table_id hand.old }
     requires at { HasForm node form (view hand.old) }
     requires form { 0 < room form }
@@ -91,7 +110,13 @@ pub fn put_in<P: Shape>(nodes: &Nodes<P>, hand: &mut Hand, node: usize, form: u6
 }
 
 /// The same among four.
-fn put_in_four<P: Shape>(nodes: &Nodes<P>, hand: &mut Hand, node: usize, form: u64, item: Item) -> bool
+fn put_in_four<P: Shape>(
+    nodes: &Nodes<P>,
+    hand: &mut Hand,
+    node: usize,
+    form: u64,
+    item: Item,
+) -> bool
     requires of { IsOf nodes.now.table.shared.table_id hand.old }
     requires at { HasForm node form (view hand.old) }
     requires form { room form ≡ 4 }
@@ -115,7 +140,13 @@ fn put_in_four<P: Shape>(nodes: &Nodes<P>, hand: &mut Hand, node: usize, form: u
 }
 
 /// The same among sixteen.
-fn put_in_sixteen<P: Shape>(nodes: &Nodes<P>, hand: &mut Hand, node: usize, form: u64, item: Item) -> bool
+fn put_in_sixteen<P: Shape>(
+    nodes: &Nodes<P>,
+    hand: &mut Hand,
+    node: usize,
+    form: u64,
+    item: Item,
+) -> bool
     requires of { IsOf nodes.now.table.shared.table_id hand.old }
     requires at { HasForm node form (view hand.old) }
     requires form { room form ≡ 16 }
@@ -143,7 +174,13 @@ fn put_in_sixteen<P: Shape>(nodes: &Nodes<P>, hand: &mut Hand, node: usize, form
 }
 
 /// The same among forty-eight.
-fn put_in_forty_eight<P: Shape>(nodes: &Nodes<P>, hand: &mut Hand, node: usize, form: u64, item: Item) -> bool
+fn put_in_forty_eight<P: Shape>(
+    nodes: &Nodes<P>,
+    hand: &mut Hand,
+    node: usize,
+    form: u64,
+    item: Item,
+) -> bool
     requires of { IsOf nodes.now.table.shared.table_id hand.old }
     requires at { HasForm node form (view hand.old) }
     requires form { room form ≡ 48 }
@@ -270,7 +307,14 @@ fn take_wide<P: Shape>(nodes: &Nodes<P>, hand: &mut Hand, node: usize, form: u64
 }
 
 /// Writes a place's entry over.
-pub fn write_over<P: Shape>(nodes: &Nodes<P>, hand: &mut Hand, node: usize, form: u64, place: usize, item: Item)
+pub fn write_over<P: Shape>(
+    nodes: &Nodes<P>,
+    hand: &mut Hand,
+    node: usize,
+    form: u64,
+    place: usize,
+    item: Item,
+)
     requires of { IsOf nodes.now.table.shared.table_id hand.old }
     requires at { HasForm node form (view hand.old) }
     requires inside { place < room form }

@@ -68,7 +68,15 @@ fn clear_masks<P: Shape>(nodes: &Nodes<P>, hand: &mut Hand, node: usize, form: u
 }
 
 /// Moves what a place has, if the other node has room for it.
-fn move_item<P: Shape>(nodes: &Nodes<P>, hand: &mut Hand, node: usize, form: u64, place: usize, to: usize, new: u64) -> bool
+fn move_item<P: Shape>(
+    nodes: &Nodes<P>,
+    hand: &mut Hand,
+    node: usize,
+    form: u64,
+    place: usize,
+    to: usize,
+    new: u64,
+) -> bool
     requires of { IsOf nodes.now.table.shared.table_id hand.old }
     requires at { HasForm node form (view hand.old) × HasForm to new (view hand.old) }
     requires mine { (has (view hand.old).mine node ≡ true) × (has (view hand.old).mine to ≡ true) × (node ≢ to) }
@@ -87,7 +95,14 @@ fn move_item<P: Shape>(nodes: &Nodes<P>, hand: &mut Hand, node: usize, form: u64
 }
 
 /// Gives a node the entries of another one, and no others. Whether it has room for them.
-pub fn fill<P: Shape>(nodes: &Nodes<P>, hand: &mut Hand, node: usize, form: u64, to: usize, new: u64) -> bool
+pub fn fill<P: Shape>(
+    nodes: &Nodes<P>,
+    hand: &mut Hand,
+    node: usize,
+    form: u64,
+    to: usize,
+    new: u64,
+) -> bool
     requires of { IsOf nodes.now.table.shared.table_id hand.old }
     requires at { HasForm node form (view hand.old) × HasForm to new (view hand.old) }
     requires mine { (has (view hand.old).mine node ≡ true) × (has (view hand.old).mine to ≡ true) × (node ≢ to) }

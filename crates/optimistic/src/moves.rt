@@ -64,7 +64,11 @@ pub fn first_at(form: u64, place: usize) -> usize
     ensures inside { (2 < result) × (result < width form) }
 {
     let entries = entries_of(form);
-    if form < 5 { entries + 2 * place } else { entries + place }
+    if form < 5 {
+        entries + 2 * place
+    } else {
+        entries + place
+    }
 }
 
 /// The last word of a place's entry.
@@ -75,11 +79,21 @@ pub fn last_at(form: u64, place: usize) -> usize
     ensures inside { (2 < result) × (result < width form) }
 {
     let entries = entries_of(form);
-    if form < 5 { entries + (2 * place + 1) } else { entries + place }
+    if form < 5 {
+        entries + (2 * place + 1)
+    } else {
+        entries + place
+    }
 }
 
 /// Whether a place of a node of up to 48 is taken.
-fn is_taken<P: Shape>(nodes: &Nodes<P>, hand: &mut Hand, node: usize, form: u64, place: usize) -> bool
+fn is_taken<P: Shape>(
+    nodes: &Nodes<P>,
+    hand: &mut Hand,
+    node: usize,
+    form: u64,
+    place: usize,
+) -> bool
     requires of { IsOf nodes.now.table.shared.table_id hand.old }
     requires at { HasForm node form (view hand.old) }
     requires inside { place < room form }
@@ -107,7 +121,13 @@ fn is_taken<P: Shape>(nodes: &Nodes<P>, hand: &mut Hand, node: usize, form: u64,
 }
 
 /// Whether a place of a node of 256 is taken.
-fn is_taken_wide<P: Shape>(nodes: &Nodes<P>, hand: &mut Hand, node: usize, form: u64, place: usize) -> bool
+fn is_taken_wide<P: Shape>(
+    nodes: &Nodes<P>,
+    hand: &mut Hand,
+    node: usize,
+    form: u64,
+    place: usize,
+) -> bool
     requires of { IsOf nodes.now.table.shared.table_id hand.old }
     requires at { HasForm node form (view hand.old) }
     requires inside { (place < 256) × (room form ≡ 256) }
@@ -127,7 +147,13 @@ fn is_taken_wide<P: Shape>(nodes: &Nodes<P>, hand: &mut Hand, node: usize, form:
 }
 
 /// The byte of a place of a node of up to 48.
-fn byte_of_place<P: Shape>(nodes: &Nodes<P>, hand: &mut Hand, node: usize, form: u64, place: usize) -> u8
+fn byte_of_place<P: Shape>(
+    nodes: &Nodes<P>,
+    hand: &mut Hand,
+    node: usize,
+    form: u64,
+    place: usize,
+) -> u8
     requires of { IsOf nodes.now.table.shared.table_id hand.old }
     requires at { HasForm node form (view hand.old) }
     requires inside { (place < room form) × (room form ≢ 256) }
@@ -142,7 +168,14 @@ fn byte_of_place<P: Shape>(nodes: &Nodes<P>, hand: &mut Hand, node: usize, form:
 }
 
 /// The entry of a place, of which the byte is known.
-fn load_entry<P: Shape>(nodes: &Nodes<P>, hand: &mut Hand, node: usize, form: u64, place: usize, byte: u8) -> Item
+fn load_entry<P: Shape>(
+    nodes: &Nodes<P>,
+    hand: &mut Hand,
+    node: usize,
+    form: u64,
+    place: usize,
+    byte: u8,
+) -> Item
     requires of { IsOf nodes.now.table.shared.table_id hand.old }
     requires at { HasForm node form (view hand.old) }
     requires inside { place < room form }
@@ -159,7 +192,13 @@ fn load_entry<P: Shape>(nodes: &Nodes<P>, hand: &mut Hand, node: usize, form: u6
 }
 
 /// What a place of a node that the hand has holds.
-pub fn load_item<P: Shape>(nodes: &Nodes<P>, hand: &mut Hand, node: usize, form: u64, place: usize) -> Option<Item>
+pub fn load_item<P: Shape>(
+    nodes: &Nodes<P>,
+    hand: &mut Hand,
+    node: usize,
+    form: u64,
+    place: usize,
+) -> Option<Item>
     requires of { IsOf nodes.now.table.shared.table_id hand.old }
     requires at { HasForm node form (view hand.old) }
     requires inside { place < room form }
@@ -184,7 +223,14 @@ pub fn load_item<P: Shape>(nodes: &Nodes<P>, hand: &mut Hand, node: usize, form:
 }
 
 /// Writes a place's entry.
-pub fn store_item<P: Shape>(nodes: &Nodes<P>, hand: &mut Hand, node: usize, form: u64, place: usize, item: Item)
+pub fn store_item<P: Shape>(
+    nodes: &Nodes<P>,
+    hand: &mut Hand,
+    node: usize,
+    form: u64,
+    place: usize,
+    item: Item,
+)
     requires of { IsOf nodes.now.table.shared.table_id hand.old }
     requires at { HasForm node form (view hand.old) }
     requires inside { place < room form }

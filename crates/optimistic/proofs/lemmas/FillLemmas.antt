@@ -16,7 +16,7 @@ module _ (form : ℕ) (u v : ℕ → ℕ) (none : is_inner form ≡ true → (q 
   empty_lined : (m : ℕ) → room form ≢ 256 → mask_of form v ≡ 0 → m < entries form → Agree form v (with_at u m 0) → IsEmpty form v
   empty_lined m narrow mask low same = record {
     form_is = empty_form form v narrow mask (λ e q l.
-      same (first_word form q) (first_inside form q l) ∙ with_other u m 0 (first_word form q) (λ (h : first_word form q ≡ m). absurd (omega (arith, h, low, first_above form q))) ∙ none e q l);
+        same (first_word form q) (first_inside form q l) ∙ with_other u m 0 (first_word form q) (λ (h : first_word form q ≡ m). absurd (omega (arith, h, low, first_above form q))) ∙ none e q l);
     none = empty_none form v narrow mask;
   }
 
@@ -59,7 +59,7 @@ module _ (form : ℕ) (w : ℕ → ℕ) (i g : ℕ) (v : ℕ → ℕ) where
 
   pub part_more : (e : Item) (v' : ℕ → ℕ) → is_inner g ≡ is_inner form → IsItem form w i e → Becomes g v v' e.byte (put_first g e.first) e.last → HasPart form w i g v → HasPart form w (i + 1) g v'
   part_more e v' kind item b p = subst (λ (z : ℕ). HasPart form w z g v') (next_place i) (part_step form w g i v v' e.first kind item.0 item.2
-    (subst (λ (z : ℕ). Becomes g v v' z (put_first g e.first) (w (last_word form i))) (sym item.1) (subst (λ (z : ℕ). Becomes g v v' e.byte (put_first g e.first) z) (sym item.3) b)) p)
+      (subst (λ (z : ℕ). Becomes g v v' z (put_first g e.first) (w (last_word form i))) (sym item.1) (subst (λ (z : ℕ). Becomes g v v' e.byte (put_first g e.first) z) (sym item.3) b)) p)
 
 -- a taken place's child word isn't 0
 pub item_some : (form : ℕ) (w : ℕ → ℕ) (i : ℕ) (e : Item) → IsForm form w → i < room form → is_inner form ≡ true → IsItem form w i e → e.first ≢ 0

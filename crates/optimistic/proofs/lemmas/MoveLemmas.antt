@@ -140,7 +140,7 @@ module _ (good : Good) where
     pub stores_stays : 1 < k → Stays n v w
     stores_stays l = record {
       later = (t.since.log, t.made, t.own.0);
-        since = t.since;
+      since = t.since;
       mine = t.mine;
       words = λ m h ne j i. t.others m j h i (λ (e : m + j ≡ n + k). ne (t.sound.laid.apart m n j k (inside_since v.seen w.seen t.since m j i) (inside_since v.seen w.seen t.since n k in_size) e));
       low = λ h j i i'. t.others n j h i' (λ (e : n + j ≡ n + k). absurd (omega (arith, e, i, l)));

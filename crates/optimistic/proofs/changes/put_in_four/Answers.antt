@@ -176,4 +176,4 @@ returns-clause-put g c =
     let y = c.args.item.last in
     c.put_four-changed.ensures f w (words_of c.store.new.hand.me.0 n) x y r e2 c.requires.words at c.requires.some
     (put_one f w (words_of c.load-word.new.hand.me.0 n) (words_of c.store_item.new.hand.me.0 n) (words_of c.store.new.hand.me.0 n) p x y 2 c.put_four-changed.result (looks_agree _ n f _ _ c.requires.at c.requires.mine c.load-word.ensures.looks) c.store_item.ensures.words
-      (stored_words _ n f 2 c.put_four-changed.result _ _ c.store_item.ensures.at i m2 c.store.ensures.stored))
+    (stored_words _ n f 2 c.put_four-changed.result _ _ c.store_item.ensures.at i m2 c.store.ensures.stored))

@@ -499,5 +499,5 @@ returns-clause-put g c =
     let ew : w (2 + p / 8) ≡ c.load-word.result = sym (c.load-word.ensures.found ∙ looks_word _ n f (2 + p / 8) v c.load-word.new.hand.me.0 c.requires.at c.requires.mine ip k4) in
     c.put-changed.ensures.sixteen f w (words_of c.store-2.new.hand.me.0 n) x y r ew em c.requires.words at c.requires.some
     (put_two f w (words_of c.load-word.new.hand.me.0 n) (words_of c.store_item.new.hand.me.0 n) (words_of c.store.new.hand.me.0 n) (words_of c.store-2.new.hand.me.0 n) p x y (2 + p / 8) c.put-changed.result.keys 4 c.put-changed.result.mask
-      (looks_agree _ n f _ _ c.requires.at c.requires.mine k4) c.store_item.ensures.words
-      (stored_words _ n f (2 + p / 8) c.put-changed.result.keys _ _ c.store_item.ensures.at ip m2 c.store.ensures.stored) (stored_words _ n f 4 c.put-changed.result.mask _ _ c.store.ensures.at im m3 c.store-2.ensures.stored))
+    (looks_agree _ n f _ _ c.requires.at c.requires.mine k4) c.store_item.ensures.words
+    (stored_words _ n f (2 + p / 8) c.put-changed.result.keys _ _ c.store_item.ensures.at ip m2 c.store.ensures.stored) (stored_words _ n f 4 c.put-changed.result.mask _ _ c.store.ensures.at im m3 c.store-2.ensures.stored))

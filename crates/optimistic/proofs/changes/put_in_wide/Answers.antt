@@ -303,7 +303,7 @@ returns-then-form-lt5-clause-put g c =
     let m2 = stays_mine n n _ _ c.store_item.ensures.stays m in
     let k = c.one_more-more.result in
     let same : Same f (words_of c.store.new.hand.me.0 n) (with_at (with_entry f w p x y) 2 k) = put_one f w (words_of c.load-count.new.hand.me.0 n) (words_of c.store_item.new.hand.me.0 n) (words_of c.store.new.hand.me.0 n) p x y 2 k
-          (looks_agree _ n f _ _ c.requires.at c.requires.mine c.load-count.ensures.looks) c.store_item.ensures.words (stored_words _ n f 2 k _ _ c.store_item.ensures.at i2 m2 c.store.ensures.stored) in
+    (looks_agree _ n f _ _ c.requires.at c.requires.mine c.load-count.ensures.looks) c.store_item.ensures.words (stored_words _ n f 2 k _ _ c.store_item.ensures.at i2 m2 c.store.ensures.stored) in
     subst (λ (z : ℕ). Becomes z w (words_of c.store.new.hand.me.0 n) c.args.item.byte (put_first z x) y) (sym is4)
     (c.place_of_byte-place.ensures.put w (words_of c.store.new.hand.me.0 n) x y k (c.requires.some (is_inner_of f c.if-form-lt5.true)) (subst (λ (z : ℕ). Same z (words_of c.store.new.hand.me.0 n) (with_at (with_entry z w p x y) 2 k)) is4 same))
 
@@ -355,7 +355,7 @@ returns-else-form-lt5-clause-put g c =
     let is : p ≡ c.args.item.byte = c.place_of_byte-place.ensures.place in
     let u = words_of c.store-else-form-lt5.new.hand.me.0 n in
     let same : Same f u (with_at (with_entry f w p x y) (2 + p / 64) k) = put_one f w (words_of c.load-mask.new.hand.me.0 n) (words_of c.store_item-else-form-lt5.new.hand.me.0 n) u p x y (2 + p / 64) k
-          (looks_agree _ n f _ _ c.requires.at c.requires.mine c.load-mask.ensures.looks) c.store_item-else-form-lt5.ensures.words (stored_words _ n f (2 + p / 64) k _ _ c.store_item-else-form-lt5.ensures.at im m2 c.store-else-form-lt5.ensures.stored) in
+    (looks_agree _ n f _ _ c.requires.at c.requires.mine c.load-mask.ensures.looks) c.store_item-else-form-lt5.ensures.words (stored_words _ n f (2 + p / 64) k _ _ c.store_item-else-form-lt5.ensures.at im m2 c.store-else-form-lt5.ensures.stored) in
     let found : w (2 + c.args.item.byte / 64) ≡ c.load-mask.result = ap (λ (z : ℕ). w (2 + z / 64)) (sym is) ∙ sym (c.load-mask.ensures.found ∙ looks_word _ n f (2 + p / 64) v c.load-mask.new.hand.me.0 c.requires.at c.requires.mine im c.load-mask.ensures.looks) in
     subst (λ (z : ℕ). Becomes z w u c.args.item.byte (put_first z x) y) (sym is8)
     (c.put_byte-changed.ensures w u x y found (subst (λ (z : ℕ). Same 8 u (with_at (with_entry 8 w z x y) (2 + z / 64) k)) is (subst (λ (z : ℕ). Same z u (with_at (with_entry z w p x y) (2 + p / 64) k)) is8 same)))

@@ -143,9 +143,9 @@ returns-in-4-clause-gone g c =
     let m2 = looks_mine _ _ _ n c.load-word.ensures.looks m1 in
     let l = c.requires.inside in
     let e : w 2 ≡ c.load-word.result = sym (c.load-word.ensures.found ∙ looks_word _ n f 2 _ _ c.clear_entry.ensures.at m1 i c.load-word.ensures.looks ∙ c.clear_entry.ensures.words 2 i ∙ clear_low f w p 2 low) in
-    c.take_four-changed.ensures f w (words_of c.store.new.hand.me.0 n) r e c.requires.words  c.requires.taken
+    c.take_four-changed.ensures f w (words_of c.store.new.hand.me.0 n) r e c.requires.words c.requires.taken
     (take_one f w (words_of c.clear_entry.new.hand.me.0 n) (words_of c.load-word.new.hand.me.0 n) (words_of c.store.new.hand.me.0 n) p 2 c.take_four-changed.result c.clear_entry.ensures.words (looks_agree _ n f _ _ c.clear_entry.ensures.at m1 c.load-word.ensures.looks)
-      (stored_words _ n f 2 c.take_four-changed.result _ _ c.load-word.ensures.at i m2 c.store.ensures.stored))
+    (stored_words _ n f 2 c.take_four-changed.result _ _ c.load-word.ensures.at i m2 c.store.ensures.stored))
 
 pub load-mask-requires-clause-of : goal.load-mask-requires-clause-of
 load-mask-requires-clause-of g c =
@@ -259,7 +259,7 @@ returns-in-16-clause-gone g c =
     let e : w 4 ≡ c.load-mask.result = sym (c.load-mask.ensures.found ∙ looks_word _ n f 4 _ _ c.clear_entry.ensures.at m1 i c.load-mask.ensures.looks ∙ c.clear_entry.ensures.words 4 i ∙ clear_low f w p 4 low) in
     c.take-rest.ensures.sixteen f w (words_of c.store-in-16.new.hand.me.0 n) r e c.requires.words (omega (arith, l, r)) c.requires.taken
     (take_one f w (words_of c.clear_entry.new.hand.me.0 n) (words_of c.load-mask.new.hand.me.0 n) (words_of c.store-in-16.new.hand.me.0 n) p 4 c.take-rest.result c.clear_entry.ensures.words (looks_agree _ n f _ _ c.clear_entry.ensures.at m1 c.load-mask.ensures.looks)
-      (stored_words _ n f 4 c.take-rest.result _ _ c.load-mask.ensures.at i m2 c.store-in-16.ensures.stored))
+    (stored_words _ n f 4 c.take-rest.result _ _ c.load-mask.ensures.at i m2 c.store-in-16.ensures.stored))
 
 pub load-lines-requires-clause-of : goal.load-lines-requires-clause-of
 load-lines-requires-clause-of g c =
@@ -373,7 +373,7 @@ returns-in-48-clause-gone g c =
     let e : w 8 ≡ c.load-lines.result = sym (c.load-lines.ensures.found ∙ looks_word _ n f 8 _ _ c.clear_entry.ensures.at m1 i c.load-lines.ensures.looks ∙ c.clear_entry.ensures.words 8 i ∙ clear_low f w p 8 low) in
     c.take-fewer.ensures.forty_eight f w (words_of c.store-in-48.new.hand.me.0 n) r e c.requires.words (omega (arith, l, r)) c.requires.taken
     (take_one f w (words_of c.clear_entry.new.hand.me.0 n) (words_of c.load-lines.new.hand.me.0 n) (words_of c.store-in-48.new.hand.me.0 n) p 8 c.take-fewer.result c.clear_entry.ensures.words (looks_agree _ n f _ _ c.clear_entry.ensures.at m1 c.load-lines.ensures.looks)
-      (stored_words _ n f 8 c.take-fewer.result _ _ c.load-lines.ensures.at i m2 c.store-in-48.ensures.stored))
+    (stored_words _ n f 8 c.take-fewer.result _ _ c.load-lines.ensures.at i m2 c.store-in-48.ensures.stored))
 
 pub take_wide-requires-clause-of : goal.take_wide-requires-clause-of
 take_wide-requires-clause-of g c =

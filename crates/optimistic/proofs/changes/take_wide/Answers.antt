@@ -245,4 +245,4 @@ returns-else-form-lt5-clause-gone g c =
     let written : Same f x (with_at (without_entry f u p) (2 + p / 64) k) = take_one f u w (words_of c.load-mask.new.hand.me.0 n) x p (2 + p / 64) k same (looks_agree _ n f _ _ c.requires.at c.requires.mine c.load-mask.ensures.looks) (stored_words _ n f (2 + p / 64) k _ _ c.load-mask.ensures.at im m c.store-else-form-lt5.ensures.stored) in
     let mask : u (2 + p / 64) ≡ c.load-mask.result = sym (c.load-mask.ensures.found ∙ looks_word _ n f (2 + p / 64) _ _ c.requires.at c.requires.mine im c.load-mask.ensures.looks ∙ same (2 + p / 64) im ∙ without_values f u p (2 + p / 64) values) in
     subst (λ (z : ℕ). Becomes z u x p (λ key. 0) 0) (sym is8) (values_take u x p k c.requires.inside.0 (subst (λ (z : ℕ). taken_in z u p ≡ 1) is8 t)
-      (λ i. c.without_bit-rest.ensures.bits i ∙ ap (λ (z : ℕ). with_at (bit_at z) (p % 64) 0 i) (sym mask)) (subst (λ (z : ℕ). Same z x (with_at (without_entry z u p) (2 + p / 64) k)) is8 written))
+    (λ i. c.without_bit-rest.ensures.bits i ∙ ap (λ (z : ℕ). with_at (bit_at z) (p % 64) 0 i) (sym mask)) (subst (λ (z : ℕ). Same z x (with_at (without_entry z u p) (2 + p / 64) k)) is8 written))

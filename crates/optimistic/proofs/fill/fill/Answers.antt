@@ -35,7 +35,7 @@ move_item-moved-requires-clause-mine g c = (stays_mine c.args.to c.args.node _ _
 pub move_item-moved-requires-clause-words : goal.move_item-moved-requires-clause-words
 move_item-moved-requires-clause-words g c = (
   form_like c.args.form (words_of c.args.hand.now.me.0 c.args.node) (words_of c.loop-place.hand.me.0 c.args.node) (λ j _ l. stays_word c.args.to c.args.node c.args.form j _ _ c.requires.at.0 c.requires.mine.0 c.requires.mine.2 l c.loop-place.invariant.3)
-  (let l : c.loop-place.place < room c.args.form = search rules in omega (arith, l)) c.requires.words,
+      (let l : c.loop-place.place < room c.args.form = search rules in omega (arith, l)) c.requires.words,
   c.loop-place.invariant.4,
 )
 
@@ -59,5 +59,5 @@ pub returns-clause-alike : goal.returns-clause-alike
 returns-clause-alike g c = λ _. (
   c.loop-place.invariant.4,
   part_whole c.args.form (words_of c.args.hand.now.me.0 c.args.node) c.args.new (words_of c.loop-place.hand.me.0 c.args.to)
-  (let e : c.loop-place.place ≡ room c.args.form = search rules in subst (λ (z : ℕ). HasPart c.args.form (words_of c.args.hand.now.me.0 c.args.node) z c.args.new (words_of c.loop-place.hand.me.0 c.args.to)) e c.loop-place.invariant.5),
+      (let e : c.loop-place.place ≡ room c.args.form = search rules in subst (λ (z : ℕ). HasPart c.args.form (words_of c.args.hand.now.me.0 c.args.node) z c.args.new (words_of c.loop-place.hand.me.0 c.args.to)) e c.loop-place.invariant.5),
 )

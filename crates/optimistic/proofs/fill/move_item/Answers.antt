@@ -33,7 +33,7 @@ returns-in-None-clause-moved g c = λ w s p _.
     part_on c.args.form w c.args.place c.args.new (words_of c.load_item.new.hand.me.0 c.args.to)
     (λ t. c.in-None.ensures.item (sym (taken_like c.args.form (words_of c.args.hand.now.me.0 c.args.node) w s c.args.place c.requires.kind.2) ∙ t))
     (part_like c.args.form w c.args.place c.args.new (words_of c.args.hand.now.me.0 c.args.to) (words_of c.load_item.new.hand.me.0 c.args.to)
-      (λ j _ l. looks_word _ c.args.to c.args.new j c.args.hand.now.me.0 c.load_item.new.hand.me.0 c.requires.at.1 c.requires.mine.1 l c.load_item.ensures.looks) p)
+    (λ j _ l. looks_word _ c.args.to c.args.new j c.args.hand.now.me.0 c.load_item.new.hand.me.0 c.requires.at.1 c.requires.mine.1 l c.load_item.ensures.looks) p)
 
 pub put_in-requires-clause-at : goal.put_in-requires-clause-at
 put_in-requires-clause-at g c = form_since c.args.to c.args.new c.args.hand.now.me.0 c.load_item.new.hand.me.0 (omega (arith, two_inside c.args.new c.requires.kind.1)) c.requires.at.1 c.load_item.ensures.looks.since
@@ -66,4 +66,4 @@ returns-in-Some-clause-moved g c = λ w s p e.
     part_more c.args.form w c.args.place c.args.new (words_of c.load_item.new.hand.me.0 c.args.to) c.in-Some.item (words_of c.put_in.new.hand.me.0 c.args.to) c.requires.kind.0
     (item_like c.args.form w (words_of c.args.hand.now.me.0 c.args.node) c.args.place c.in-Some.item s c.requires.kind.2 c.in-Some.ensures.item) (match_true c.put_in.result _ _ e c.put_in.ensures.put)
     (part_like c.args.form w c.args.place c.args.new (words_of c.args.hand.now.me.0 c.args.to) (words_of c.load_item.new.hand.me.0 c.args.to)
-      (λ j _ l. looks_word _ c.args.to c.args.new j c.args.hand.now.me.0 c.load_item.new.hand.me.0 c.requires.at.1 c.requires.mine.1 l c.load_item.ensures.looks) p)
+    (λ j _ l. looks_word _ c.args.to c.args.new j c.args.hand.now.me.0 c.load_item.new.hand.me.0 c.requires.at.1 c.requires.mine.1 l c.load_item.ensures.looks) p)

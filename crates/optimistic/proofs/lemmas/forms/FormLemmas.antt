@@ -83,14 +83,14 @@ module _ (form : ℕ) (w v : ℕ → ℕ) (same : Same form v w) where
   firsts_like =
       firsts_are form v
       ∙ held_like (room form) (byte_in form w) (byte_in form v) (taken_in form w) (taken_in form v) (λ i. w (first_word form i)) (λ i. v (first_word form i)) (byte_like form w v same) (taken_like form w v same)
-        (λ i l. same (first_word form i) (entries_some form i l) (first_inside form i l))
+      (λ i l. same (first_word form i) (entries_some form i l) (first_inside form i l))
       ∙ sym (firsts_are form w)
 
   lasts_like : lasts form v ≡ lasts form w
   lasts_like =
       lasts_are form v
       ∙ held_like (room form) (byte_in form w) (byte_in form v) (taken_in form w) (taken_in form v) (λ i. w (last_word form i)) (λ i. v (last_word form i)) (byte_like form w v same) (taken_like form w v same)
-        (λ i l. same (last_word form i) (lasts_some form i l) (last_inside form i l))
+      (λ i l. same (last_word form i) (lasts_some form i l) (last_inside form i l))
       ∙ sym (lasts_are form w)
 
   pub first_like : (key b : ℕ) → first_of form v key b ≡ first_of form w key b
@@ -141,9 +141,10 @@ module _ (w w' : ℕ → ℕ) (b x y n : ℕ) (l : b < 256) where
   wide_maps d same =
       let firsts' : (q : ℕ) → q < 256 → w' (first_word 4 q) ≡ with_at (λ i. w (first_word 4 i)) b x q = λ (q : ℕ) (m : q < 256). wide_words same (first_word 4 q) (omega arith) (omega arith) ∙ entry_first 4 w b x y q in
       let lasts' : (q : ℕ) → q < 256 → w' (last_word 4 q) ≡ with_at (λ i. w (last_word 4 i)) b y q = λ (q : ℕ) (m : q < 256). wide_words same (last_word 4 q) (omega arith) (omega arith) ∙ entry_last 4 w b x y q in
-      let takes : (q : ℕ) → q < 256 → taken_in 4 w' q ≡ with_at (taken_in 4 w) b 1 q = λ (q : ℕ) (m : q < 256). ap (λ z. cond (eqb z 0) 0 1) (firsts' q m) ∙ takes_put 256 b l (λ i. w (8 + 2 * i)) x d q in
-      (firsts_put 4 w w' b b (wide_form w) x y (l, inl (refl, λ i m e. absurd (omega (arith, m, e)))) (λ q m. here_put b q) takes firsts' lasts' (λ e. d) (λ e. absurd (e refl)),
-       lasts_put 4 w w' b b (wide_form w) x y (l, inl (refl, λ i m e. absurd (omega (arith, m, e)))) (λ q m. here_put b q) takes firsts' lasts' (λ e. d) (λ e. absurd (e refl)))
+      let takes : (q : ℕ) → q < 256 → taken_in 4 w' q ≡ with_at (taken_in 4 w) b 1 q = λ (q : ℕ) (m : q < 256). ap (λ z. cond (eqb z 0) 0 1) (firsts' q m) ∙ takes_put 256 b l (λ i. w (8 + 2 * i)) x d q in (
+        firsts_put 4 w w' b b (wide_form w) x y (l, inl (refl, λ i m e. absurd (omega (arith, m, e)))) (λ q m. here_put b q) takes firsts' lasts' (λ e. d) (λ e. absurd (e refl)),
+        lasts_put 4 w w' b b (wide_form w) x y (l, inl (refl, λ i m e. absurd (omega (arith, m, e)))) (λ q m. here_put b q) takes firsts' lasts' (λ e. d) (λ e. absurd (e refl)),
+      )
 
 module _ (w w' : ℕ → ℕ) (b n : ℕ) (l : b < 256) where
   gone_words : Same 4 w' (with_at (without_entry 4 w b) 2 n) → (j : ℕ) → 8 ≤ j → j < 520 → w' j ≡ without_entry 4 w b j
@@ -205,9 +206,10 @@ module _ (w w' : ℕ → ℕ) (b r : ℕ) (l : b < 256) where
       let words : (j : ℕ) → 8 ≤ j → j < 264 → w' j ≡ with_entry 8 w b x y j = λ (j : ℕ) (g : 8 ≤ j) (m : j < 264). same j (omega arith) m ∙ with_other (with_entry 8 w b x y) (2 + b / 64) r j (λ e. absurd (omega (arith, e, g, l))) in
       let takes = bits_with (with_entry 8 w b x y) 1 (λ j m. entry_low 8 w b x y j m) bits (λ j g m. same j g (omega arith)) in
       let firsts' : (q : ℕ) → q < 256 → w' (first_word 8 q) ≡ with_at (λ i. w (first_word 8 i)) b y q = λ (q : ℕ) (m : q < 256). words (first_word 8 q) (omega arith) (omega arith) ∙ entry_first 8 w b x y q in
-      let lasts' : (q : ℕ) → q < 256 → w' (last_word 8 q) ≡ with_at (λ i. w (last_word 8 i)) b y q = λ (q : ℕ) (m : q < 256). words (last_word 8 q) (omega arith) (omega arith) ∙ entry_last 8 w b x y q in
-      (firsts_put 8 w w' b b (values_form w) x y (l, inl (refl, λ i m e. absurd (omega (arith, m, e)))) (λ q m. here_put b q) takes firsts' lasts' (λ e. absurd (cc)) (λ e. absurd (e refl)),
-       lasts_put 8 w w' b b (values_form w) x y (l, inl (refl, λ i m e. absurd (omega (arith, m, e)))) (λ q m. here_put b q) takes firsts' lasts' (λ e. absurd (cc)) (λ e. absurd (e refl)))
+      let lasts' : (q : ℕ) → q < 256 → w' (last_word 8 q) ≡ with_at (λ i. w (last_word 8 i)) b y q = λ (q : ℕ) (m : q < 256). words (last_word 8 q) (omega arith) (omega arith) ∙ entry_last 8 w b x y q in (
+        firsts_put 8 w w' b b (values_form w) x y (l, inl (refl, λ i m e. absurd (omega (arith, m, e)))) (λ q m. here_put b q) takes firsts' lasts' (λ e. absurd (cc)) (λ e. absurd (e refl)),
+        lasts_put 8 w w' b b (values_form w) x y (l, inl (refl, λ i m e. absurd (omega (arith, m, e)))) (λ q m. here_put b q) takes firsts' lasts' (λ e. absurd (cc)) (λ e. absurd (e refl)),
+      )
 
   pub values_take : taken_in 8 w b ≡ 1 → ((i : ℕ) → bit_at r i ≡ with_at (bit_at (w (2 + b / 64))) (b % 64) 0 i)
       → Same 8 w' (with_at w (2 + b / 64) r) → Becomes 8 w w' b (λ key. 0) 0
@@ -238,8 +240,8 @@ zero_word v (suc (suc (suc (suc i)))) l a b c d = absurd (omega arith)
 pub values_empty : (v : ℕ → ℕ) → v 2 ≡ 0 → v 3 ≡ 0 → v 4 ≡ 0 → v 5 ≡ 0 → (firsts 8 v ≡ map.empty) × (lasts 8 v ≡ map.empty)
 values_empty v a b c d =
     let free : (i : ℕ) → i < 256 → taken_in 8 v i ≢ 1 = λ (i : ℕ) (l : i < 256) (t : taken_in 8 v i ≡ 1).
-          let none : taken_in 8 v i ≡ 0 = ap (λ z. bit_at z (i % 64)) (zero_word v (i / 64) (omega arith) a b c d) ∙ bit_at-zero (i % 64) in
-          absurd (omega (arith, none, t)) in
+    let none : taken_in 8 v i ≡ 0 = ap (λ z. bit_at z (i % 64)) (zero_word v (i / 64) (omega arith) a b c d) ∙ bit_at-zero (i % 64) in
+    absurd (omega (arith, none, t)) in
     (firsts_are 8 v ∙ held_none 256 (byte_in 8 v) (taken_in 8 v) (λ i. v (first_word 8 i)) free, lasts_are 8 v ∙ held_none 256 (byte_in 8 v) (taken_in 8 v) (λ i. v (last_word 8 i)) free)
 
 -- an entry written over
@@ -272,7 +274,7 @@ module _ (w w' : ℕ → ℕ) (b p x y : ℕ) where
       let low : (j : ℕ) → 1 < j → j < entries form → w' j ≡ w j = λ (j : ℕ) (g : 1 < j) (m : j < entries form). same j g (omega (arith, m, inside)) ∙ entry_low form w p x y j m in
       narrow_put form w w' b p is narrow x y (within, inl (at, λ i l e. is.node p i l within was (e ∙ sym at))) some
       (λ i l.
-        byte_narrow form w' i narrow ∙ ap (λ z. byte_of z (i % 8)) (low (2 + i / 8) (omega arith) (line_low form i l narrow)) ∙ sym (byte_narrow form w i narrow) ∙ same_with (byte_in form w) p b i at)
+      byte_narrow form w' i narrow ∙ ap (λ z. byte_of z (i % 8)) (low (2 + i / 8) (omega arith) (line_low form i l narrow)) ∙ sym (byte_narrow form w i narrow) ∙ same_with (byte_in form w) p b i at)
       (λ i. ap (λ z. bit_at z i) (mask_low w w' form low (omega arith) narrow) ∙ same_with (bit_at (mask_of form w)) p 1 i (sym (taken_narrow form w p narrow) ∙ was))
       (λ j g m. same j (omega (arith, g, entries_above form (omega arith))) m)
 
@@ -282,7 +284,7 @@ module _ (w w' : ℕ → ℕ) (b p x y : ℕ) where
       (λ is within was at some same. subst (λ z. Becomes 4 w w' z (put_first 4 x) y) at (wide_put w w' p x y (w 2) within (some refl) (λ j g m. same j g m ∙ same_with (with_entry 4 w p x y) 2 (w 2) j (entry_low 4 w p x y 2 (omega arith)))))
       (entered_narrow 5 (λ e. absurd (omega (arith, e)))) (entered_narrow 6 (λ e. absurd (omega (arith, e)))) (entered_narrow 7 (λ e. absurd (omega (arith, e))))
       (λ is within was at some same. subst (λ z. Becomes 8 w w' z (put_first 8 x) y) at (values_put w w' p (w (2 + p / 64)) within x y (λ i. same_with (bit_at (w (2 + p / 64))) (p % 64) 1 i was)
-        (λ j g m. same j g m ∙ same_with (with_entry 8 w p x y) (2 + p / 64) (w (2 + p / 64)) j (entry_low 8 w p x y (2 + p / 64) (omega (arith, within))))))
+      (λ j g m. same j g m ∙ same_with (with_entry 8 w p x y) (2 + p / 64) (w (2 + p / 64)) j (entry_low 8 w p x y (2 + p / 64) (omega (arith, within))))))
       (λ f z is within was at some same. absurd (omega (arith, z, within)))
 
 -- a value, or which keys a child covers, written over: the child word stays

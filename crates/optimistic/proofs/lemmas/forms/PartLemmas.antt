@@ -53,18 +53,18 @@ module _ (form : ℕ) (w : ℕ → ℕ) (g : ℕ) where
   pub part_none : (v : ℕ → ℕ) → ((key b : ℕ) → (first_of g v key b ≡ 0) × (second_of g v key b ≡ 0)) → HasPart form w 0 g v
   part_none v none = record {
     firsts_same = λ key b.
-      let e : map.get (firsts_to form w 0) b ≡ None = ap (λ m. map.get m b) (none_step (byte_in form w) (taken_in form w) (λ q. w (first_word form q))) ∙ map.get-empty nat_cmp b in
-      (none key b).0 ∙ sym (nothing key (is_inner form) (map.get (firsts_to form w 0) b) e);
+        let e : map.get (firsts_to form w 0) b ≡ None = ap (λ m. map.get m b) (none_step (byte_in form w) (taken_in form w) (λ q. w (first_word form q))) ∙ map.get-empty nat_cmp b in
+        (none key b).0 ∙ sym (nothing key (is_inner form) (map.get (firsts_to form w 0) b) e);
     seconds_same = λ key b.
-      let e : map.get (lasts_to form w 0) b ≡ None = ap (λ m. map.get m b) (none_step (byte_in form w) (taken_in form w) (λ q. w (last_word form q))) ∙ map.get-empty nat_cmp b in
-      (none key b).1 ∙ sym (ap (λ (o : Option ℕ). unwrap_or o 0) e);
+        let e : map.get (lasts_to form w 0) b ≡ None = ap (λ m. map.get m b) (none_step (byte_in form w) (taken_in form w) (λ q. w (last_word form q))) ∙ map.get-empty nat_cmp b in
+        (none key b).1 ∙ sym (ap (λ (o : Option ℕ). unwrap_or o 0) e);
   }
 
   pub part_skip : (i : ℕ) (v : ℕ → ℕ) → taken_in form w i ≢ 1 → HasPart form w i g v → HasPart form w (suc i) g v
   part_skip i v free p = record {
     firsts_same = λ key b.
-      p.firsts_same key b
-      ∙ sym (ap (λ m. if is_inner form then unwrap_or (map.get m b) 0 else (if is_some (map.get m b) then leaf_of key else 0)) (free_step (byte_in form w) (taken_in form w) (λ q. w (first_word form q)) i free));
+        p.firsts_same key b
+        ∙ sym (ap (λ m. if is_inner form then unwrap_or (map.get m b) 0 else (if is_some (map.get m b) then leaf_of key else 0)) (free_step (byte_in form w) (taken_in form w) (λ q. w (first_word form q)) i free));
     seconds_same = λ key b. p.seconds_same key b ∙ sym (ap (λ m. unwrap_or (map.get m b) 0) (free_step (byte_in form w) (taken_in form w) (λ q. w (last_word form q)) i free));
   }
 
@@ -87,7 +87,7 @@ module _ (form : ℕ) (w : ℕ → ℕ) (g : ℕ) where
           | inr d ↦
               b.other_firsts key q d ∙ p.firsts_same key q
               ∙ sym (ap (λ (o : Option ℕ). if is_inner form then unwrap_or o 0 else (if is_some o then leaf_of key else 0))
-                (ap (λ m. map.get m q) f ∙ insert_beside (firsts_to form w i) (byte_in form w i) (w (first_word form i)) q d))
+              (ap (λ m. map.get m q) f ∙ insert_beside (firsts_to form w i) (byte_in form w i) (w (first_word form i)) q d))
         ];
         seconds_same = λ key q. elim (cases_eq q (byte_in form w i)) [
           | inl e ↦

@@ -261,19 +261,19 @@ module _ (form : ℕ) (w w' : ℕ → ℕ) (b p k m v : ℕ) (is : IsForm form w
       let word : w' m ≡ v = same m (omega (arith, above_two)) mask_inside ∙ with_here (with_at u (2 + p / 8) k) m v in
       narrow_put form w w' b p is narrow x y place some
       (λ i l.
-        let li : 2 + i / 8 < m = lines i l in
-        let at : w' (2 + i / 8) ≡ with_at u (2 + p / 8) k (2 + i / 8) = same (2 + i / 8) (omega arith) (omega (arith, li, mask_inside)) ∙ with_other (with_at u (2 + p / 8) k) m v (2 + i / 8) (λ e. absurd (omega (arith, e, li))) in
-        byte_narrow form w' i narrow ∙ ap (λ z. byte_of z (i % 8)) at ∙ elim (cases_eq (i / 8) (p / 8)) [
-          | inl e ↦
-              ap (λ z. byte_of (with_at u (2 + p / 8) k (2 + z)) (i % 8)) e ∙ ap (λ z. byte_of z (i % 8)) (with_here u (2 + p / 8) k) ∙ keys (i % 8) ∙ elim (cases_eq i p) [
-                | inl s ↦ ap (λ z. with_at (byte_of (w (2 + p / 8))) (p % 8) b (z % 8)) s ∙ with_here (byte_of (w (2 + p / 8))) (p % 8) b ∙ sym (ap (with_at (byte_in form w) p b) s ∙ with_here (byte_in form w) p b)
-                | inr d ↦
-                    with_other (byte_of (w (2 + p / 8))) (p % 8) b (i % 8) (λ h. d (omega (arith, e, h))) ∙ ap (λ z. byte_of (w (2 + z)) (i % 8)) (sym e) ∙ sym (byte_narrow form w i narrow) ∙ sym (with_other (byte_in form w) p b i d)
-              ]
-          | inr d ↦
-              ap (λ z. byte_of z (i % 8)) (with_other u (2 + p / 8) k (2 + i / 8) (λ e. d (omega (arith, e))) ∙ entry_low form w p x y (2 + i / 8) (omega (arith, li, low)))
-              ∙ sym (byte_narrow form w i narrow) ∙ sym (with_other (byte_in form w) p b i (λ e. d (ap (λ z. z / 8) e)))
-        ])
+      let li : 2 + i / 8 < m = lines i l in
+      let at : w' (2 + i / 8) ≡ with_at u (2 + p / 8) k (2 + i / 8) = same (2 + i / 8) (omega arith) (omega (arith, li, mask_inside)) ∙ with_other (with_at u (2 + p / 8) k) m v (2 + i / 8) (λ e. absurd (omega (arith, e, li))) in
+      byte_narrow form w' i narrow ∙ ap (λ z. byte_of z (i % 8)) at ∙ elim (cases_eq (i / 8) (p / 8)) [
+        | inl e ↦
+            ap (λ z. byte_of (with_at u (2 + p / 8) k (2 + z)) (i % 8)) e ∙ ap (λ z. byte_of z (i % 8)) (with_here u (2 + p / 8) k) ∙ keys (i % 8) ∙ elim (cases_eq i p) [
+              | inl s ↦ ap (λ z. with_at (byte_of (w (2 + p / 8))) (p % 8) b (z % 8)) s ∙ with_here (byte_of (w (2 + p / 8))) (p % 8) b ∙ sym (ap (with_at (byte_in form w) p b) s ∙ with_here (byte_in form w) p b)
+              | inr d ↦
+                  with_other (byte_of (w (2 + p / 8))) (p % 8) b (i % 8) (λ h. d (omega (arith, e, h))) ∙ ap (λ z. byte_of (w (2 + z)) (i % 8)) (sym e) ∙ sym (byte_narrow form w i narrow) ∙ sym (with_other (byte_in form w) p b i d)
+            ]
+        | inr d ↦
+            ap (λ z. byte_of z (i % 8)) (with_other u (2 + p / 8) k (2 + i / 8) (λ e. d (omega (arith, e))) ∙ entry_low form w p x y (2 + i / 8) (omega (arith, li, low)))
+            ∙ sym (byte_narrow form w i narrow) ∙ sym (with_other (byte_in form w) p b i (λ e. d (ap (λ z. z / 8) e)))
+      ])
       (masks_lined 1 word bits)
       (λ j g l. same j (omega (arith, g, low, above_two)) l ∙ with_other (with_at u (2 + p / 8) k) m v j (λ e. absurd (omega (arith, e, g, low))) ∙ with_other u (2 + p / 8) k j (λ e. absurd (omega (arith, e, g, low, line))))
 
@@ -284,10 +284,10 @@ module _ (form : ℕ) (w w' : ℕ → ℕ) (b p k m v : ℕ) (is : IsForm form w
       let word : w' m ≡ v = same m (omega (arith, above_two)) mask_inside ∙ with_here u m v in
       narrow_take form w w' b p is narrow within was at
       (λ i l.
-        let li : 2 + i / 8 < m = lines i l in
-        byte_narrow form w' i narrow
-        ∙ ap (λ z. byte_of z (i % 8)) (same (2 + i / 8) (omega arith) (omega (arith, li, mask_inside)) ∙ with_other u m v (2 + i / 8) (λ e. absurd (omega (arith, e, li))) ∙ clear_low form w p (2 + i / 8) (omega (arith, li, low)))
-        ∙ sym (byte_narrow form w i narrow))
+      let li : 2 + i / 8 < m = lines i l in
+      byte_narrow form w' i narrow
+      ∙ ap (λ z. byte_of z (i % 8)) (same (2 + i / 8) (omega arith) (omega (arith, li, mask_inside)) ∙ with_other u m v (2 + i / 8) (λ e. absurd (omega (arith, e, li))) ∙ clear_low form w p (2 + i / 8) (omega (arith, li, low)))
+      ∙ sym (byte_narrow form w i narrow))
       (masks_lined 0 word bits)
       (λ j g l. same j (omega (arith, g, low, above_two)) l ∙ with_other u m v j (λ e. absurd (omega (arith, e, g, low))))
 
@@ -312,12 +312,12 @@ module _ (form : ℕ) (w : ℕ → ℕ) (x : ℕ) (r : Option ℕ) where
 
   pub lowest_sixteen : (a b : ℕ) → room form ≡ 16 → w 2 ≡ a → w 3 ≡ b → IsLowest 16 (key_of (a ∷ b ∷ [])) x r → IsLowest 16 (byte_in form w) x r
   lowest_sixteen a b sixteen e f low = lowest_like 16 (key_of (a ∷ b ∷ [])) (byte_in form w) x r
-    (λ i l. byte_narrow form w i (λ h. absurd (omega (arith, h, sixteen))) ∙ ap (λ z. byte_of z (i % 8)) (sym (two_words w a b (i / 8) e f (omega arith)))) low
+      (λ i l. byte_narrow form w i (λ h. absurd (omega (arith, h, sixteen))) ∙ ap (λ z. byte_of z (i % 8)) (sym (two_words w a b (i / 8) e f (omega arith)))) low
 
   pub lowest_forty_eight : (a b c d e f : ℕ) → room form ≡ 48 → w 2 ≡ a → w 3 ≡ b → w 4 ≡ c → w 5 ≡ d → w 6 ≡ e → w 7 ≡ f
       → IsLowest 48 (key_of (a ∷ b ∷ c ∷ d ∷ e ∷ f ∷ [])) x r → IsLowest 48 (byte_in form w) x r
   lowest_forty_eight a b c d e f wide p2 p3 p4 p5 p6 p7 low = lowest_like 48 (key_of (a ∷ b ∷ c ∷ d ∷ e ∷ f ∷ [])) (byte_in form w) x r
-    (λ i l. byte_narrow form w i (λ h. absurd (omega (arith, h, wide))) ∙ ap (λ z. byte_of z (i % 8)) (sym (six_words w a b c d e f (i / 8) p2 p3 p4 p5 p6 p7 (omega arith)))) low
+      (λ i l. byte_narrow form w i (λ h. absurd (omega (arith, h, wide))) ∙ ap (λ z. byte_of z (i % 8)) (sym (six_words w a b c d e f (i / 8) p2 p3 p4 p5 p6 p7 (omega arith)))) low
 
 module _ (form : ℕ) (w : ℕ → ℕ) (i : ℕ) where
   pub taken_four : room form ≡ 4 → taken_in form w i ≡ bit_at (w 2) (32 + i)
@@ -344,9 +344,9 @@ module _ (form : ℕ) (w w' : ℕ → ℕ) (b p v : ℕ) (is : IsForm form w) wh
   pub take_sixteen : room form ≡ 16 → p < 16 → taken_in form w p ≡ 1 → byte_in form w p ≡ b
       → ((i : ℕ) → bit_at v i ≡ with_at (bit_at (w 4)) p 0 i) → Same form w' (with_at (without_entry form w p) 4 v) → Becomes form w w' b (λ key. 0) 0
   take_sixteen sixteen within = take_lined form w w' b p 0 4 v is (λ h. absurd (omega (arith, h, sixteen))) (λ u. mask_sixteen form u sixteen) (λ i l. omega (arith, l, sixteen)) (omega (arith, entries_sixteen form sixteen)) (omega (arith, sixteen))
-    (omega (arith, sixteen, within))
+      (omega (arith, sixteen, within))
 
   pub take_forty_eight : room form ≡ 48 → p < 48 → taken_in form w p ≡ 1 → byte_in form w p ≡ b
       → ((i : ℕ) → bit_at v i ≡ with_at (bit_at (w 8)) p 0 i) → Same form w' (with_at (without_entry form w p) 8 v) → Becomes form w w' b (λ key. 0) 0
   take_forty_eight wide within = take_lined form w w' b p 0 8 v is (λ h. absurd (omega (arith, h, wide))) (λ u. mask_forty_eight form u wide) (λ i l. omega (arith, l, wide)) (omega (arith, entries_forty_eight form wide)) (omega (arith, wide))
-    (omega (arith, wide, within))
+      (omega (arith, wide, within))

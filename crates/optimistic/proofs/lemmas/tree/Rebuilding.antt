@@ -52,7 +52,7 @@ module _ (a n m h f g key d : ℕ) (value : Option ℕ) (u y : View) (r : IsRebu
       let at_a : (j : ℕ) → j < width h → calm_at C a j ≡ words_of y a j = λ (j : ℕ) (l : j < width h). calm_here a b.words B2 j ∙ ka.0 j (subst (λ (z : ℕ). j < width z) (sym r.above_form.is) l) in
       let at_n : (j : ℕ) → j < width f → calm_at C n j ≡ words_of y n j = λ (j : ℕ) (l : j < width f). calm_else a n b.words B2 j r.an ∙ (calm_here n b.words B1 j ∙ kn.0 j (subst (λ (z : ℕ). j < width z) (sym r.old_form.is) l)) in
       let at_m : (j : ℕ) → j < width g → calm_at C m j ≡ words_of y m j = λ (j : ℕ) (l : j < width g).
-            calm_else a m b.words B2 j r.am ∙ (calm_else n m b.words B1 j r.nm ∙ (calm_here m b.words B j ∙ km.0 j (subst (λ (z : ℕ). j < width z) (sym r.new_form.is) l))) in
+      calm_else a m b.words B2 j r.am ∙ (calm_else n m b.words B1 j r.nm ∙ (calm_here m b.words B j ∙ km.0 j (subst (λ (z : ℕ). j < width z) (sym r.new_form.is) l))) in
       let was_a : (j : ℕ) → 0 < j → j < width h → calm_at B a j ≡ words_of u a j = λ (j : ℕ) (s : 0 < j) (l : j < width h). ka.1 j ∙ r.above_settled j s l in
       let was_n : (j : ℕ) → 0 < j → j < width f → calm_at B n j ≡ words_of u n j = λ (j : ℕ) (s : 0 < j) (l : j < width f). kn.1 j ∙ r.old_settled j s l in
       let wa : calm_at B a 1 ≡ words_of u a 1 = was_a 1 (omega arith) r.above_wide in
@@ -85,7 +85,7 @@ module _ (a n m h f g key d : ℕ) (value : Option ℕ) (u y : View) (r : IsRebu
         linked = record {
           where_stays = at_a 1 r.above_wide ∙ (r.where_stays ∙ sym wa);
           becomes = subst (λ (z : ℕ). Becomes (form_of z) (calm_at B a) (calm_at C a) (byte_at key (depth z)) (λ k. child_of g d m) (where_of g d key)) (sym wa)
-            (subst (λ (z : ℕ). Becomes z (calm_at B a) (calm_at C a) (byte_at key (depth (words_of u a 1))) (λ k. child_of g d m) (where_of g d key)) (sym r.above_is)
+              (subst (λ (z : ℕ). Becomes z (calm_at B a) (calm_at C a) (byte_at key (depth (words_of u a 1))) (λ k. child_of g d m) (where_of g d key)) (sym r.above_is)
               (becomes_like h (words_of u a) (words_of y a) (calm_at B a) (calm_at C a) (byte_at key (depth (words_of u a 1))) (λ k. child_of g d m) (where_of g d key) r.above_room same_a new_a r.becomes));
         };
         others = λ p pa pn pm j. calm_else a p b.words B2 j (λ q. pa (sym q)) ∙ (calm_else n p b.words B1 j (λ q. pn (sym q)) ∙ calm_else m p b.words B j (λ q. pm (sym q)));
@@ -98,7 +98,7 @@ module _ (a n m h f g key d : ℕ) (value : Option ℕ) (u y : View) (r : IsRebu
         new_low = r.new_low;
         form_new = form_like g (words_of y m) (calm_at C m) new_m r.new_room r.form_new;
         below = λ k s ne. let p = i_n k in let q = i_m k in same_at k (first_in (words_of u n) k) (second_in (words_of u n) k) (first_in (words_of y m) k) (second_in (words_of y m) k)
-          (first_at B n k) (second_at B n k) (first_at C m k) (second_at C m k) p.0 p.1 q.0 q.1 (r.below k s ne);
+            (first_at B n k) (second_at B n k) (first_at C m k) (second_at C m k) p.0 p.1 q.0 q.1 (r.below k s ne);
         off = (λ i. goes_on (in_n.0 i) (in_n.1 i) key) ∙ r.off;
         ended = (λ i. goes_on (im.0 i) (im.1 i) key) ∙ r.ended;
         says = (λ i. pair_value (im.0 i) (im.1 i) key) ∙ r.says;

@@ -189,7 +189,7 @@ module _ (B C : List Block) (a n m key f g d : ℕ) (value : Option ℕ) (log : 
           goes = off ∙ sym s.0;
           node = λ on. absurd (clash (goes_on (first_at B a k) (second_at B a k) k) on s.0);
           value =
-            (λ i. pair_value (w.0 i) (w.1 i) k) ∙ (node_value (child_of g d m) (where_of g d key) key k (child_goes g d m key key r.new_some r.new_low r.over.depth_low ∙ itself) ∙ sym s.1);
+              (λ i. pair_value (w.0 i) (w.1 i) k) ∙ (node_value (child_of g d m) (where_of g d key) key k (child_goes g d m key key r.new_some r.new_low r.over.depth_low ∙ itself) ∙ sym s.1);
         }
     | inr ne ↦ let w = beside_side B C a n key f d log t r.over (child_of g d m) (where_of g d key) r.linked k ne in same_refl k (first_at B a k) (second_at B a k) (first_at C a k) (second_at C a k) w.0 w.1
   ]

@@ -33,5 +33,5 @@ pub returns-clause-byte : goal.returns-clause-byte
 returns-clause-byte g c =
     let v = c.args.hand.now.me.0 in
     c.byte_at.ensures ∙ ap (λ (x : ℕ). byte_of x (c.args.place % 8)) (c.load-word.ensures.found ∙ looks_word _ c.args.node c.args.form (2 + c.args.place / 8) v c.load-word.new.hand.me.0 c.requires.at c.requires.mine
-      (line_inside c.args.form c.args.place c.requires.inside.0 c.requires.inside.1) c.load-word.ensures.looks)
+    (line_inside c.args.form c.args.place c.requires.inside.0 c.requires.inside.1) c.load-word.ensures.looks)
     ∙ sym (byte_narrow c.args.form (words_of v c.args.node) c.args.place c.requires.inside.1)

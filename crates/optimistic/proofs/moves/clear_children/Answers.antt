@@ -33,8 +33,7 @@ pub loop-place-preserved : goal.loop-place-preserved
 loop-place-preserved g c =
     let n = c.args.node in
     let f = c.args.form in
-    let l : c.loop-place.place < room f = search rules in
-    (
+    let l : c.loop-place.place < room f = search rules in (
       c.clear.ensures.of,
       c.clear.ensures.at,
       stays_trans n _ _ _ c.loop-place.invariant.2 c.clear.ensures.stays,

@@ -32,7 +32,7 @@ pub is_taken_wide-requires-clause-inside : goal.is_taken_wide-requires-clause-in
 is_taken_wide-requires-clause-inside g c =
     let l = c.requires.inside in
     let r : room c.args.form ≡ 256 = wide_room c.args.form (omega (arith, l)) (λ (e : room c.args.form ≡ 4). absurd (omega (arith, e, c.room_of.ensures))) (λ (e : room c.args.form ≡ 16). absurd (omega (arith, e, c.room_of.ensures)))
-          (λ (e : room c.args.form ≡ 48). absurd (omega (arith, e, c.room_of.ensures))) in
+    (λ (e : room c.args.form ≡ 48). absurd (omega (arith, e, c.room_of.ensures))) in
     (omega (arith, l, r), r)
 
 pub returns-in-4-clause-taken : goal.returns-in-4-clause-taken
@@ -40,23 +40,23 @@ returns-in-4-clause-taken g c =
     let r : room c.args.form ≡ 4 = omega (arith, c.room_of.ensures) in
     let v = c.args.hand.now.me.0 in
     told_bit _ _ _ (ap (λ (x : ℕ). bit_at x (32 + c.args.place)) (c.load-word.ensures.found ∙ looks_word _ c.args.node c.args.form 2 v c.load-word.new.hand.me.0 c.requires.at c.requires.mine (two_inside c.args.form (omega (arith, r))) c.load-word.ensures.looks)
-      ∙ sym (taken_four c.args.form (words_of v c.args.node) c.args.place r)) c.has_bit.ensures
+    ∙ sym (taken_four c.args.form (words_of v c.args.node) c.args.place r)) c.has_bit.ensures
 
 pub returns-in-16-clause-taken : goal.returns-in-16-clause-taken
 returns-in-16-clause-taken g c =
     let r : room c.args.form ≡ 16 = omega (arith, c.room_of.ensures) in
     let v = c.args.hand.now.me.0 in
     told_bit _ _ _ (ap (λ (x : ℕ). bit_at x c.args.place) (c.load-mask.ensures.found ∙ looks_word _ c.args.node c.args.form 4 v c.load-mask.new.hand.me.0 c.requires.at c.requires.mine
-          (below_inside c.args.form 4 (omega (arith, r)) (omega (arith, entries_sixteen c.args.form r))) c.load-mask.ensures.looks)
-      ∙ sym (taken_sixteen c.args.form (words_of v c.args.node) c.args.place r)) c.has_bit-in-16.ensures
+    (below_inside c.args.form 4 (omega (arith, r)) (omega (arith, entries_sixteen c.args.form r))) c.load-mask.ensures.looks)
+    ∙ sym (taken_sixteen c.args.form (words_of v c.args.node) c.args.place r)) c.has_bit-in-16.ensures
 
 pub returns-in-48-clause-taken : goal.returns-in-48-clause-taken
 returns-in-48-clause-taken g c =
     let r : room c.args.form ≡ 48 = omega (arith, c.room_of.ensures) in
     let v = c.args.hand.now.me.0 in
     told_bit _ _ _ (ap (λ (x : ℕ). bit_at x c.args.place) (c.load-mask-in-48.ensures.found ∙ looks_word _ c.args.node c.args.form 8 v c.load-mask-in-48.new.hand.me.0 c.requires.at c.requires.mine
-          (below_inside c.args.form 8 (omega (arith, r)) (omega (arith, entries_forty_eight c.args.form r))) c.load-mask-in-48.ensures.looks)
-      ∙ sym (taken_forty_eight c.args.form (words_of v c.args.node) c.args.place r)) c.has_bit-in-48.ensures
+    (below_inside c.args.form 8 (omega (arith, r)) (omega (arith, entries_forty_eight c.args.form r))) c.load-mask-in-48.ensures.looks)
+    ∙ sym (taken_forty_eight c.args.form (words_of v c.args.node) c.args.place r)) c.has_bit-in-48.ensures
 
 pub load-word-requires-clause-of : goal.load-word-requires-clause-of
 load-word-requires-clause-of g c = c.requires.of

@@ -20,15 +20,15 @@ pub returns-then-form-lt5-clause-taken : goal.returns-then-form-lt5-clause-taken
 returns-then-form-lt5-clause-taken g c =
     let v = c.args.hand.now.me.0 in
     told_bit _ _ _ (ap (λ (x : ℕ). cond (eqb x 0) 0 1) (c.load-first.ensures.found ∙ looks_word _ c.args.node c.args.form (8 + 2 * c.args.place) v c.load-first.new.hand.me.0 c.requires.at c.requires.mine
-          (wide_first c.args.form c.args.place c.requires.inside.1 c.if-form-lt5.true c.requires.inside.0) c.load-first.ensures.looks)
-      ∙ sym (wide_taken c.args.form (words_of v c.args.node) c.args.place c.requires.inside.1 c.if-form-lt5.true)) c.has_child.ensures
+    (wide_first c.args.form c.args.place c.requires.inside.1 c.if-form-lt5.true c.requires.inside.0) c.load-first.ensures.looks)
+    ∙ sym (wide_taken c.args.form (words_of v c.args.node) c.args.place c.requires.inside.1 c.if-form-lt5.true)) c.has_child.ensures
 
 pub returns-else-form-lt5-clause-taken : goal.returns-else-form-lt5-clause-taken
 returns-else-form-lt5-clause-taken g c =
     let v = c.args.hand.now.me.0 in
     told_bit _ _ _ (ap (λ (x : ℕ). bit_at x (c.args.place % 64)) (c.load-mask.ensures.found ∙ looks_word _ c.args.node c.args.form (2 + c.args.place / 64) v c.load-mask.new.hand.me.0 c.requires.at c.requires.mine
-          (wide_mask c.args.form c.args.place c.requires.inside.1 c.if-form-lt5.false c.requires.inside.0) c.load-mask.ensures.looks)
-      ∙ sym (values_taken c.args.form (words_of v c.args.node) c.args.place c.requires.inside.1 c.if-form-lt5.false)) c.has_bit.ensures
+    (wide_mask c.args.form c.args.place c.requires.inside.1 c.if-form-lt5.false c.requires.inside.0) c.load-mask.ensures.looks)
+    ∙ sym (values_taken c.args.form (words_of v c.args.node) c.args.place c.requires.inside.1 c.if-form-lt5.false)) c.has_bit.ensures
 
 pub load-first-requires-clause-of : goal.load-first-requires-clause-of
 load-first-requires-clause-of g c = c.requires.of

@@ -48,8 +48,7 @@ returns-clause-entry g c =
     let p = c.args.place in
     let v = c.args.hand.now.me.0 in
     let d = c.load-last.ensures.looks in
-    let e = looks_trans _ _ _ _ d c.load-first.ensures.looks in
-    (
+    let e = looks_trans _ _ _ _ d c.load-first.ensures.looks in (
       refl,
       sym (c.load-first.ensures.found ∙ ap (words_of c.load-first.new.hand.me.0 n) c.first_at.ensures.word ∙ looks_word _ n f (first_word f p) v c.load-first.new.hand.me.0 c.requires.at c.requires.mine (first_inside f p c.requires.inside) e),
       sym (c.load-last.ensures.found ∙ ap (words_of c.load-last.new.hand.me.0 n) c.last_at.ensures.word ∙ looks_word _ n f (last_word f p) v c.load-last.new.hand.me.0 c.requires.at c.requires.mine (last_inside f p c.requires.inside) d),

@@ -49,8 +49,7 @@ returns-then-room_of-eq256-clause-item g c =
     let v = c.args.hand.now.me.0 in
     let a = c.is_taken-taken.ensures.looks in
     let r : room f ≡ 256 = omega (arith, c.room_of.ensures) in
-    let back = λ (j : ℕ) (l : j < width f). looks_word _ n f j v c.is_taken-taken.new.hand.me.0 c.requires.at c.requires.mine l a in
-    (
+    let back = λ (j : ℕ) (l : j < width f). looks_word _ n f j v c.is_taken-taken.new.hand.me.0 c.requires.at c.requires.mine l a in (
       c.is_taken-taken.ensures.taken.0 c.if-not-taken.false,
       byte_wide f (words_of v n) p r ∙ sym c.load_entry-wide.ensures.entry.0,
       sym (back (first_word f p) (first_inside f p c.requires.inside)) ∙ c.load_entry-wide.ensures.entry.1,
@@ -74,8 +73,7 @@ returns-clause-item g c =
     let v = c.args.hand.now.me.0 in
     let a = c.is_taken-taken.ensures.looks in
     let b = looks_trans _ _ _ _ a c.byte_of_place-byte.ensures.looks in
-    let back = λ (j : ℕ) (l : j < width f). looks_word _ n f j v c.byte_of_place-byte.new.hand.me.0 c.requires.at c.requires.mine l b in
-    (
+    let back = λ (j : ℕ) (l : j < width f). looks_word _ n f j v c.byte_of_place-byte.new.hand.me.0 c.requires.at c.requires.mine l b in (
       c.is_taken-taken.ensures.taken.0 c.if-not-taken.false,
       sym (c.load_entry-entry.ensures.entry.0 ∙ (c.byte_of_place-byte.ensures.byte ∙ byte_like f (words_of v n) (words_of c.is_taken-taken.new.hand.me.0 n) (λ j l m. looks_word _ n f j v c.is_taken-taken.new.hand.me.0 c.requires.at c.requires.mine m a) p c.requires.inside)),
       sym (back (first_word f p) (first_inside f p c.requires.inside)) ∙ c.load_entry-entry.ensures.entry.1,

@@ -16,4 +16,4 @@ pub returns-clause-finds : goal.returns-clause-finds
 returns-clause-finds c form w wide p2 p3 p4 p5 p6 p7 is =
     finds_is form w c.args.byte is c.place_of_forty_eight.result
     (subst (λ n. IsLowest n (byte_in form w) c.args.byte c.place_of_forty_eight.result) (sym wide)
-      (lowest_forty_eight form w c.args.byte c.place_of_forty_eight.result c.args.a c.args.b c.args.c c.args.d c.args.e c.args.f wide p2 p3 p4 p5 p6 p7 c.place_of_forty_eight.ensures))
+    (lowest_forty_eight form w c.args.byte c.place_of_forty_eight.result c.args.a c.args.b c.args.c c.args.d c.args.e c.args.f wide p2 p3 p4 p5 p6 p7 c.place_of_forty_eight.ensures))
