@@ -2,7 +2,6 @@ pub mod Between
 pub mod Empty
 pub mod Instead
 pub mod Nodes
-pub mod Puts
 pub mod Reading
 pub mod Rebuilding
 pub mod Replaced

@@ -88,11 +88,17 @@ two_same f g a x b y j e = with_same (with_at f a x) (with_at g a x) b y j (with
 pub three_same : (f g : ℕ → ℕ) (a x b y c z j : ℕ) → f j ≡ g j → with_at (with_at (with_at f a x) b y) c z j ≡ with_at (with_at (with_at g a x) b y) c z j
 three_same f g a x b y c z j e = with_same (with_at (with_at f a x) b y) (with_at (with_at g a x) b y) c z j (two_same f g a x b y j e)
 
+pub four_same : (f g : ℕ → ℕ) (a x b y c z d u j : ℕ) → f j ≡ g j → with_at (with_at (with_at (with_at f a x) b y) c z) d u j ≡ with_at (with_at (with_at (with_at g a x) b y) c z) d u j
+four_same f g a x b y c z d u j e = with_same (with_at (with_at (with_at f a x) b y) c z) (with_at (with_at (with_at g a x) b y) c z) d u j (three_same f g a x b y c z j e)
+
 pub two_other : (f : ℕ → ℕ) (a x b y j : ℕ) → j ≢ a → j ≢ b → with_at (with_at f a x) b y j ≡ f j
 two_other f a x b y j p q = with_other (with_at f a x) b y j q ∙ with_other f a x j p
 
 pub three_other : (f : ℕ → ℕ) (a x b y c z j : ℕ) → j ≢ a → j ≢ b → j ≢ c → with_at (with_at (with_at f a x) b y) c z j ≡ f j
 three_other f a x b y c z j p q r = with_other (with_at (with_at f a x) b y) c z j r ∙ two_other f a x b y j p q
+
+pub four_other : (f : ℕ → ℕ) (a x b y c z d u j : ℕ) → j ≢ a → j ≢ b → j ≢ c → j ≢ d → with_at (with_at (with_at (with_at f a x) b y) c z) d u j ≡ f j
+four_other f a x b y c z d u j p q r t = with_other (with_at (with_at (with_at f a x) b y) c z) d u j t ∙ three_other f a x b y c z j p q r
 
 pub not_link : (P : Type 0) (b : Bool) → b ≡ false → b ≡ true → P
 not_link P b p q = absurd (let e : true ≡ false = sym q ∙ p in grind arith)
