@@ -1,4 +1,5 @@
 pub mod Layout
+pub mod Moves
 pub mod forms
 pub mod tree
 pub mod words

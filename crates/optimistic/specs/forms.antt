@@ -1,5 +1,5 @@
 pub mod Bytes
 pub mod Children
 pub mod Held
-pub mod Rows
+pub mod Parts
 pub mod Wide

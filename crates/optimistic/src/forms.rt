@@ -3,6 +3,5 @@ pub mod bits;
 pub mod bytes;
 pub mod names;
 pub mod places;
-pub mod row;
 pub mod scan;
 pub mod wide;

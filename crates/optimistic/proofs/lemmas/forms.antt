@@ -6,7 +6,7 @@ pub mod Levels
 pub mod Maps
 pub mod Marks
 pub mod Pack
+pub mod PartLemmas
 pub mod PlaceLemmas
-pub mod RowLemmas
 pub mod Scans
 pub mod Trick

@@ -4,5 +4,7 @@ pub mod Instead
 pub mod Nodes
 pub mod Puts
 pub mod Reading
+pub mod Rebuilding
+pub mod Replaced
 pub mod Sets
 pub mod Writing

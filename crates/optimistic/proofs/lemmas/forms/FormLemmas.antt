@@ -31,7 +31,7 @@ held_like (suc k) key key' taken taken' word word' keys takes words =
     ]
 
 -- nodes with the same words
-byte_like : (form : ℕ) (w v : ℕ → ℕ) → Same form v w → (i : ℕ) → i < room form → byte_in form v i ≡ byte_in form w i
+pub byte_like : (form : ℕ) (w v : ℕ → ℕ) → Same form v w → (i : ℕ) → i < room form → byte_in form v i ≡ byte_in form w i
 unfolding width
 byte_like form w v = form_cases (λ f. Same f v w → (i : ℕ) → i < room f → byte_in f v i ≡ byte_in f w i)
     (λ same i l. ap (λ x. byte_of x (i % 8)) (same (2 + i / 8) (omega arith) (omega arith)))
@@ -57,7 +57,7 @@ mask_like form w v = form_cases (λ f. Same f v w → 0 < room f → mask_of f v
     (λ same l. same 8 (omega arith) (omega arith))
     (λ f z same l. absurd (omega (arith, z, l))) form
 
-taken_like : (form : ℕ) (w v : ℕ → ℕ) → Same form v w → (i : ℕ) → i < room form → taken_in form v i ≡ taken_in form w i
+pub taken_like : (form : ℕ) (w v : ℕ → ℕ) → Same form v w → (i : ℕ) → i < room form → taken_in form v i ≡ taken_in form w i
 unfolding width
 taken_like form w v = form_cases (λ f. Same f v w → (i : ℕ) → i < room f → taken_in f v i ≡ taken_in f w i)
     (λ same i l. ap (λ x. bit_at (x / 2 ^ 32) i) (same 2 (omega arith) (omega arith)))
@@ -70,11 +70,11 @@ taken_like form w v = form_cases (λ f. Same f v w → (i : ℕ) → i < room f 
     (λ same i l. ap (λ x. bit_at x (i % 64)) (same (2 + i / 64) (omega arith) (omega arith)))
     (λ f z same i l. absurd (omega (arith, z, l))) form
 
-entries_some : (form : ℕ) (i : ℕ) → i < room form → 1 < first_word form i
+pub entries_some : (form : ℕ) (i : ℕ) → i < room form → 1 < first_word form i
 entries_some = form_cases (λ f. (i : ℕ) → i < room f → 1 < first_word f i) (λ i l. omega arith) (λ i l. omega arith) (λ i l. omega arith) (λ i l. omega arith) (λ i l. omega arith) (λ i l. omega arith) (λ i l. omega arith) (λ i l. omega arith)
     (λ f z i l. absurd (omega (arith, z, l)))
 
-lasts_some : (form : ℕ) (i : ℕ) → i < room form → 1 < last_word form i
+pub lasts_some : (form : ℕ) (i : ℕ) → i < room form → 1 < last_word form i
 lasts_some = form_cases (λ f. (i : ℕ) → i < room f → 1 < last_word f i) (λ i l. omega arith) (λ i l. omega arith) (λ i l. omega arith) (λ i l. omega arith) (λ i l. omega arith) (λ i l. omega arith) (λ i l. omega arith) (λ i l. omega arith)
     (λ f z i l. absurd (omega (arith, z, l)))
 
@@ -221,7 +221,7 @@ module _ (w w' : ℕ → ℕ) (b r : ℕ) (l : b < 256) where
       (λ e. absurd (cc)) (λ e. absurd (e refl))
 
 -- the maps of 256 places
-held_none : (n : ℕ) (key taken word : ℕ → ℕ) → ((i : ℕ) → i < n → taken i ≢ 1) → held key taken word n ≡ map.empty
+pub held_none : (n : ℕ) (key taken word : ℕ → ℕ) → ((i : ℕ) → i < n → taken i ≢ 1) → held key taken word n ≡ map.empty
 held_none zero key taken word free = none_step key taken word
 held_none (suc k) key taken word free = free_step key taken word k (free k (omega arith)) ∙ held_none k key taken word (λ i l. free i (omega arith))
 
@@ -261,7 +261,7 @@ mask_low w v = form_cases (λ f. ((j : ℕ) → 1 < j → j < entries f → v j 
     (λ same l d. absurd (d refl))
     (λ f z same l d. absurd (omega (arith, z, l)))
 
-same_with : (f : ℕ → ℕ) (p x i : ℕ) → f p ≡ x → f i ≡ with_at f p x i
+pub same_with : (f : ℕ → ℕ) (p x i : ℕ) → f p ≡ x → f i ≡ with_at f p x i
 same_with f p x i e = elim (cases_eq i p) [
   | inl s ↦ ap f s ∙ e ∙ sym (ap (with_at f p x) s ∙ with_here f p x)
   | inr d ↦ sym (with_other f p x i d)

@@ -1,0 +1,68 @@
+use Rattle.std.proofs.Common.{◌≡◌, ◌≢◌, ℕ, ◌+◌, ◌*◌, ◌/◌, ◌%◌, ◌<◌, ◌≤◌, Bool, true, false, ap, sym, ◌∙◌, refl, subst, arith, rules, if◌then◌else◌, cond, eqb}
+use Rattle.std.specs.Prelude.{IsTrue, ◌↔◌}
+use Rattle.std.specs.Int.{bit_at}
+use Rattle.optimistic.specs.Layout.{room, entries, width, is_link}
+use Rattle.optimistic.specs.forms.Bytes.{byte_of, with_at}
+use Rattle.optimistic.specs.forms.Children.{is_inner, byte_in, taken_in, first_word, last_word, with_entry}
+use Rattle.optimistic.specs.words.Told.{view, HasForm, Looks}
+use Rattle.optimistic.specs.Moves.{words_of, Stays, Agree, IsItem}
+use Rattle.optimistic.proofs.lemmas.forms.PlaceLemmas.{byte_narrow, taken_four, taken_sixteen, taken_forty_eight, entries_sixteen, entries_forty_eight, first_inside, last_inside}
+use Rattle.optimistic.proofs.lemmas.MoveLemmas.{told_bit, byte_wide, wide_room, wide_first, wide_mask, wide_taken, values_taken, two_inside, below_inside, line_inside, looks_word, looks_trans, looks_mine, looks_stays, stays_refl, stays_trans, stays_mine, stays_word, stores_stays, stored_words, agree_twice, entry_inner, entry_values, link_first, link_last, link_below, no_child, is_inner_of, is_values_of}
+use Rattle.optimistic.proofs.moves.store_item.Goals as goal
+
+pub store-requires-clause-tells : goal.store-requires-clause-tells
+store-requires-clause-tells g c = λ _. c.requires.tells (is_inner_of c.args.form c.if-form-lt5.true)
+
+pub store-requires-clause-inside : goal.store-requires-clause-inside
+store-requires-clause-inside g c = (omega (arith, c.first_at.ensures.inside), c.first_at.ensures.inside.1)
+
+pub store-requires-then-form-lt5-clause-inside : goal.store-requires-then-form-lt5-clause-inside
+store-requires-then-form-lt5-clause-inside g c = (omega (arith, c.last_at-last.ensures.inside), c.last_at-last.ensures.inside.1)
+
+pub store-requires-else-form-lt5-clause-inside : goal.store-requires-else-form-lt5-clause-inside
+store-requires-else-form-lt5-clause-inside g c = (omega (arith, c.last_at-last.ensures.inside), c.last_at-last.ensures.inside.1)
+
+pub store-requires-then-form-lt5-clause-mine : goal.store-requires-then-form-lt5-clause-mine
+store-requires-then-form-lt5-clause-mine g c = stays_mine c.args.node c.args.node _ _ (stores_stays _ c.args.node c.args.form c.first_at.result c.args.item.first _ _ c.requires.at c.first_at.ensures.inside.1 c.requires.mine c.store.ensures.stored (omega (arith, c.first_at.ensures.inside))) c.requires.mine
+
+pub store-requires-then-form-lt5-clause-tells : goal.store-requires-then-form-lt5-clause-tells
+store-requires-then-form-lt5-clause-tells g c = λ e. absurd (link_last c.args.form c.args.place c.requires.inside (ap (is_link c.args.form) (sym c.last_at-last.ensures.word) ∙ e))
+
+pub store-requires-else-form-lt5-clause-tells : goal.store-requires-else-form-lt5-clause-tells
+store-requires-else-form-lt5-clause-tells g c = λ e. absurd (link_last c.args.form c.args.place c.requires.inside (ap (is_link c.args.form) (sym c.last_at-last.ensures.word) ∙ e))
+
+pub returns-then-form-lt5-clause-stays : goal.returns-then-form-lt5-clause-stays
+returns-then-form-lt5-clause-stays g c =
+    let n = c.args.node in
+    let f = c.args.form in
+    let p = stores_stays _ n f c.first_at.result c.args.item.first _ _ c.requires.at c.first_at.ensures.inside.1 c.requires.mine c.store.ensures.stored (omega (arith, c.first_at.ensures.inside)) in
+    stays_trans n _ _ _ p (stores_stays _ n f c.last_at-last.result c.args.item.last _ _ c.store.ensures.at c.last_at-last.ensures.inside.1 (stays_mine n n _ _ p c.requires.mine) c.store-then-form-lt5.ensures.stored (omega (arith, c.last_at-last.ensures.inside)))
+
+pub returns-else-form-lt5-clause-stays : goal.returns-else-form-lt5-clause-stays
+returns-else-form-lt5-clause-stays g c =
+    stores_stays _ c.args.node c.args.form c.last_at-last.result c.args.item.last _ _ c.requires.at c.last_at-last.ensures.inside.1 c.requires.mine c.store-else-form-lt5.ensures.stored (omega (arith, c.last_at-last.ensures.inside))
+
+pub returns-then-form-lt5-clause-words : goal.returns-then-form-lt5-clause-words
+returns-then-form-lt5-clause-words g c = λ j l.
+    let n = c.args.node in
+    let f = c.args.form in
+    let x = c.args.item.first in
+    let y = c.args.item.last in
+    let u = words_of c.args.hand.now.me.0 n in
+    let p = stores_stays _ n f c.first_at.result x _ _ c.requires.at c.first_at.ensures.inside.1 c.requires.mine c.store.ensures.stored (omega (arith, c.first_at.ensures.inside)) in
+    let a = stored_words _ n f c.first_at.result x _ _ c.requires.at c.first_at.ensures.inside.1 c.requires.mine c.store.ensures.stored in
+    let b = stored_words _ n f c.last_at-last.result y _ _ c.store.ensures.at c.last_at-last.ensures.inside.1 (stays_mine n n _ _ p c.requires.mine) c.store-then-form-lt5.ensures.stored in
+    agree_twice f u (words_of c.store.new.hand.me.0 n) (words_of c.store-then-form-lt5.new.hand.me.0 n) c.first_at.result x c.last_at-last.result y a b j l
+    ∙ ap (λ (z : ℕ). with_at (with_at u z x) c.last_at-last.result y j) c.first_at.ensures.word
+    ∙ ap (λ (z : ℕ). with_at (with_at u (first_word f c.args.place) x) z y j) c.last_at-last.ensures.word
+    ∙ sym (entry_inner f u c.args.place x y j (is_inner_of f c.if-form-lt5.true))
+
+pub returns-else-form-lt5-clause-words : goal.returns-else-form-lt5-clause-words
+returns-else-form-lt5-clause-words g c = λ j l.
+    let n = c.args.node in
+    let f = c.args.form in
+    let y = c.args.item.last in
+    let u = words_of c.args.hand.now.me.0 n in
+    stored_words _ n f c.last_at-last.result y _ _ c.requires.at c.last_at-last.ensures.inside.1 c.requires.mine c.store-else-form-lt5.ensures.stored j l
+    ∙ ap (λ (z : ℕ). with_at u z y j) c.last_at-last.ensures.word
+    ∙ sym (entry_values f u c.args.place c.args.item.first y j (is_values_of f c.if-form-lt5.false))
