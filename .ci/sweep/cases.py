@@ -37,31 +37,28 @@ def dialogues(file):
 
 
 def what_is_wrong(program, text):
-    """The first answer that is another one, or the status; nothing where all is as the dialogue has it."""
-    words, status, lines, answers = [], 0, [], []
+    """The first answer that is another one, or the end; nothing where all is as the dialogue has it."""
+    words, lines, answers, end = [], [], [], "exit 0"
     for line in filter(None, text.split("\n")):
         asked, is_answered, reply = line.partition(" = ")
         if line.startswith("$ "):
             words = line.split()[1:]
-        elif line.startswith("exit "):
-            status = int(line.split()[1])
         elif line.startswith("= "):
             answers.append((asked, line[2:]))
+        elif line.startswith("exit "):
+            end = line
         else:
             lines.append(asked)
             answers += [(asked, reply)] * bool(is_answered)
+    answers.append(("the end", end))
     script = "\n".join(lines).encode().decode("unicode_escape").encode("latin-1")
     try:
         ran = subprocess.run([program, *words], input=script, stdout=subprocess.PIPE, timeout=SECONDS, check=False)
     except subprocess.TimeoutExpired:
         return f"it hadn't ended after {SECONDS} seconds"
-    told = ran.stdout.decode("latin-1").split("\n")
-    for (asked, reply), seen in zip(answers, told):
-        if reply != seen:
-            return f"{asked[:99]} = {reply[:99]}: it answers {seen[:99]}"
-    if told[len(answers) :] != [""]:
-        return f"it answers {len(told) - 1} lines, and not {len(answers)}"
-    return f"its status is {ran.returncode}" if ran.returncode != status else ""
+    told = f"{ran.stdout.decode('latin-1')}exit {ran.returncode}".split("\n")
+    wrong = [f"{asked[:99]} = {reply[:99]}: it answers {seen[:99]}" for (asked, reply), seen in zip(answers, told) if reply != seen]
+    return "".join(wrong[:1])
 
 
 def main(program, *files):

@@ -41,11 +41,9 @@ wants::calls_for_threads_find_memory_then wants::each_writing_call_wants_a_place
 READ_ERRORS = [errno.EIO, errno.EINTR, errno.EAGAIN]
 WRITE_ERRORS = [*READ_ERRORS, errno.ENOSPC, errno.EPIPE, 0]
 
-# The bytes that a read gives where one fails, and those that the program holds back of its replies at most. Where a script prints fewer
-# than so many a write fails at each byte, else at each seventh.
-PIECE = 7
+# The bytes of replies that the program holds back at most; and at how many places of a script, evenly apart, a read fails, and a write.
 HELD = 8192
-FEW = 300
+PLACES = 200
 
 # The threads of the program, and the calls of each; and as many as it takes, which end within so many seconds. Other work makes them
 # longer by the clock, so what is limited is the time of processors: as many seconds of each, since threads that wait spin.
@@ -192,10 +190,15 @@ def many_requests(script, **how):
     return "ended with 1 after whole replies" if lines_refused(script, **how) is None else "answered but for lines refused by name"
 
 
-def read_fails(script, number):
-    ran = script.run(gives=PIECE, read=number, how=READ_ERRORS[number % len(READ_ERRORS)])
-    whole = b"".join(script.lines)[: PIECE * (number - 1)].count(b"\n")
-    hold(ran.status == 1 and ran.printed == b"".join(script.replies[:whole]), "the lines before aren't answered whole, or more are")
+def places(text):
+    return range(0, len(text), 1 + len(text) // PLACES)
+
+
+def read_fails(script, at, piece):
+    number, before = at // piece + 1, b"".join(script.lines)[:at]
+    ran = script.run(gives=piece, read=number, how=READ_ERRORS[number % len(READ_ERRORS)])
+    wanted = b"".join(script.replies[: before.count(b"\n")])
+    hold((ran.status, ran.printed) == (1, wanted), "the lines before aren't answered whole, or more are")
     return "ended with 1 after whole replies"
 
 
@@ -260,17 +263,17 @@ def most(words, printed=b"", known=()):
     return f"ended as ever within {MOST_SECONDS} seconds of each processor"
 
 
+def up_to(count):
+    return range(1, count + 1)
+
+
 def each(numbers, one):
     """The tries of a case: this one with each of the numbers."""
     return [(number, lambda number=number: one(number)) for number in numbers]
 
 
-def up_to(count):
-    return range(1, count + 1)
-
-
 def cases_of_script(script):
-    plain, printed = script.plain, script.printed
+    plain, reads = script.plain, places(b"".join(script.lines[: script.plain.reads]))
     lines = range(min(len(script.lines), plain.reads))
     some = [{"size": size, "memory": first, "step": step} for size in SIZES for step in STEPS for first in up_to(step)]
     yield "one request for memory refused", each(up_to(plain.memory), lambda number: one_request(script, number))
@@ -278,9 +281,8 @@ def cases_of_script(script):
     yield "each few of one size", each(some, lambda it: many_requests(script, **it))
     yield "what its lines ask for", each(lines, lambda at: line_asks(script, at))
     yield "its replies go out before the next read", each(lines, lambda at: goes_out(script, at))
-    yield "a read fails", each(up_to(sum(map(len, script.lines)) // PIECE), lambda number: read_fails(script, number))
-    rooms = range(0, len(printed), 1 if len(printed) < FEW else 7)
-    yield "a write fails", each(rooms, lambda room: write_fails(script.run, printed, room))
+    yield "a read fails", each(reads, lambda at: read_fails(script, at, reads.step))
+    yield "a write fails", each(places(script.printed), lambda room: write_fails(script.run, script.printed, room))
     yield "each read and write moves less", each(up_to(9), lambda most: moves_less(script, most))
 
 
