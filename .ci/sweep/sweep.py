@@ -57,6 +57,19 @@ MOST = (16, 10_000)
 MOST_SECONDS = 20
 MOST_CALLS = "callers::sixteen_threads_call_and_scan"
 
+# The tests that try a part of what they can, as one of many orders of steps, and what makes them try all.
+ORDERS = """
+machine::crowds::four_workers_answer_as_one_map
+machine::forms::a_growth_and_a_shrink_do_not_alternate
+machine::interleavings::a_removal_takes_a_node_out_beside_a_call
+machine::interleavings::calls_beside_each_other_answer_as_one_map
+machine::interleavings::short_calls_answer_as_one_map_in_every_order_of_their_steps
+machine::lies::calls_that_are_lied_to_answer_as_one_map
+machine::scans::a_scan_beside_a_writing_call
+machine::schedules::drawn_schedules_tell_the_same_with_rounds_between
+""".split()
+ALL = {"TRIAL_ORDERS": "1", "TRIAL_PAIRS": "1000", "TRIAL_SCHEDULES": "20"}
+
 # Lines that ask for no memory but that of their reply's text; and those that may ask for a bag of 64 removals.
 NEED_NONE = {"pin", "unpin", "repin", "get", "empty", "charged", "waiting"}
 NEED_BAGS = {"remove", "present", "cas"}
@@ -291,6 +304,12 @@ def most_calls(tests):
     return f"passed {time_taken}"
 
 
+def all_orders(tests, name):
+    """A test, with each order that it can try."""
+    _, time_taken = most(tests, f"tests::{name}", known=ALL)
+    return f"passed {time_taken}"
+
+
 def feeds_end(program):
     """A reader that gives line feeds for ever."""
     ran = run([program], feeds=1)
@@ -335,6 +354,7 @@ def cases(program, tests, files):
         yield from ((f"threads {workers} {calls}: {name}", tries) for name, tries in cases_of_threads(program, workers, calls))
     yield "threads {} {}".format(*MOST), [("", lambda: most_threads(program))]
     yield f"test {MOST_CALLS} of {MOST[1]} calls", [("", lambda: most_calls(tests))]
+    yield from ((f"test {name}: each order", [("", lambda name=name: all_orders(tests, name))]) for name in ORDERS)
     yield "line feeds for ever", [("", lambda: feeds_end(program))]
     for name in TESTS:
         plain = run([tests, f"tests::{name}"])

@@ -1,7 +1,7 @@
 //! Dialogues with the program that look at the whole tree and close it.
 
-use super::dialogue::first_wrong;
-use super::scripts::played;
+use crate::tests::dialogue::first_wrong;
+use crate::tests::scripts::played;
 use std::test::Fail;
 
 const LOOKS: [&str; 4] = [
