@@ -52,6 +52,19 @@ MOST = (16, 10_000)
 MOST_SECONDS = 20
 MOST_CALLS = "callers::sixteen_threads_call_and_scan"
 
+# The tests that try a part of what they can, as one of many orders of steps, and what makes them try all.
+ORDERS = """
+machine::crowds::four_workers_answer_as_one_map
+machine::forms::a_growth_and_a_shrink_do_not_alternate
+machine::interleavings::a_removal_takes_a_node_out_beside_a_call
+machine::interleavings::calls_beside_each_other_answer_as_one_map
+machine::interleavings::short_calls_answer_as_one_map_in_every_order_of_their_steps
+machine::lies::calls_that_are_lied_to_answer_as_one_map
+machine::scans::a_scan_beside_a_writing_call
+machine::schedules::drawn_schedules_tell_the_same_with_rounds_between
+""".split()
+ALL = {"TRIAL_ORDERS": "1", "TRIAL_PAIRS": "1000", "TRIAL_SCHEDULES": "20"}
+
 # Lines that ask for no memory but that of their reply's text. Others may ask for a bag of 64 removals, and in some scripts for a lesser
 # node, without which they go on.
 NEED_NONE = {"pin", "unpin", "repin", "get", "empty", "charged", "waiting"}
@@ -305,6 +318,8 @@ def cases(program, tests, files):
         yield from (("threads {} {}: {}".format(*it, name), tries) for name, tries in cases_of_threads(program, *it))
     yield "threads {} {}".format(*MOST), [("", lambda: most([program, "threads", *map(str, MOST)], told(*MOST)))]
     yield MOST_CALLS, [("", lambda: most([tests, f"tests::{MOST_CALLS}"], known={"TRIAL_CALLS": str(MOST[1])}))]
+    for name in ORDERS:
+        yield f"{name}: each order", [("", lambda name=name: most([tests, f"tests::{name}"], known=ALL))]
     for name in TESTS:
         plain = run([tests, f"tests::{name}"])
         yield f"test {name}: one request for memory refused", each(up_to(plain.memory), lambda number, name=name: test_passes(tests, name, number))

@@ -1,7 +1,7 @@
 //! Owned trees that grow and shrink: a leaf, and an inner node at each depth, go up and down through all forms, an emptied leaf's
 //! parent gives place to its other child, a lesser node that isn't had is done without, and a growth and a shrink do not alternate.
 
-use super::schedules::next;
+use super::machine::drawn::next;
 use congee::{
     Allocator, Congee, CongeeArc, DefaultAllocator, Limited, NoDrain, OOMError, U64Congee,
 };

@@ -3,8 +3,8 @@
 
 use super::arcs::{Text, is, text};
 use super::failures::{ends_with, is_flushed, opened};
+use super::machine::drawn::step_at;
 use super::machine::{Index, begin, go, is_done, op_of, replied};
-use super::schedules::step_at;
 use super::threaded::{next, spent};
 use congee::{Congee, DefaultAllocator, OOMError};
 use joint::{CongeeArc, Guard, Limits, Op, Outcome, Refusal, Report, Step, Worker};

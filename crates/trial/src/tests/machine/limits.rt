@@ -1,63 +1,56 @@
 //! `joint`: limits that no script names, the turns of a cell and the epoch; and values of which there is no copy.
 
-use super::machine::{Index, are_rounds_done, call, is_done, replied};
+use super::bench::{Bench, Bounds, first_unlike};
 use congee::{Allocator, Limited, NoDrain, Payload, Small};
 use joint::{Done, Event, Limits, Op, Outcome, Refusal, Step, World};
-use judge::{Call, Reply};
+use judge::Reply;
 use std::alloc::Global;
 use std::sync::atomic::AtomicBool;
 use std::sync::atomic::Ordering::SeqCst;
 use std::test::Fail;
 
-/// An index with one worker, so many nodes, turns of a cell after its first, and epochs.
-fn opened(alloc: Global, cells: u32, turn_max: u32, epoch_max: u64) -> Result<Index, Refusal> {
-    let usual = Limits::usual(1, cells);
-    let epoch = crossbeam_epoch::Limits {
-        turn_max,
-        epoch_max,
-        ..usual.epoch
-    };
-    let limits = Limits { epoch, ..usual };
-    let mut index: Index = World::new(alloc, limits, Limited::new(u64::MAX))?;
-    let event = Event::Register;
-    index.step(Step { worker: 0, event });
-    Ok(index)
+/// Limits, and why no index is opened with them, if none is.
+const LIMITS: [(&str, Option<Refusal>); 6] = [
+    ("epoch 3", None),
+    ("epoch 4611686018427387904", None),
+    ("epoch 2", Some(Refusal::Limits)),
+    ("epoch 4611686018427387905", Some(Refusal::Limits)),
+    ("epoch 3, expiry 1", Some(Refusal::Limits)),
+    ("epoch 3, expiry 3", Some(Refusal::Limits)),
+];
+
+#[test]
+fn limits_out_of_their_ranges_open_no_index(rt: HostRuntime) -> Result<(), Fail> {
+    for (text, cause) in LIMITS {
+        let opened = Bounds::of(text)?.open(rt.alloc());
+        assert_eq!(rt; opened.err(), cause, "{text}");
+    }
+    Ok(())
 }
 
-/// Whether a leaf comes and goes under a pin, and so many rounds are done then.
-fn comes_and_goes(index: &mut Index, rounds: u32) -> bool {
-    is_done(index, 0, Op::Pin)
-        && call(index, 0, Call::Insert(1, 1)) == replied(Reply::Insert(None))
-        && call(index, 0, Call::Remove(1)) == replied(Reply::Remove(Some(1)))
-        && is_done(index, 0, Op::Unpin)
-        && are_rounds_done(index, 0, rounds)
-}
+/// The root has one of two cells, and leaves the other one.
+const TURNS: [&str; 2] = [
+    "a cell of one turn: workers 1, cells 2, turns 0, pinned 1; ; insert 1 1, remove 1, call 0 unpin, rounds 0 3, call 0 pin, \
+     insert 1 1, state; Replied(Insert(None)) 2168 0, Replied(Remove(Some(1))) 2168 1, 2104 0, Refused(Cells), 2104 0 0",
+    "a cell of two turns: workers 1, cells 2, turns 1, pinned 1; ; insert 1 1, remove 1, call 0 unpin, rounds 0 3, call 0 pin, \
+     insert 1 1, state; Replied(Insert(None)) 2168 0, Replied(Remove(Some(1))) 2168 1, 2104 0, Replied(Insert(None)) 2168 0, \
+     2168 0 0",
+];
 
-/// The root has one of two cells, and leaves the other one, which has one turn or two.
 #[test]
 fn a_cell_is_used_for_as_many_nodes_as_it_has_turns(rt: HostRuntime) -> Result<(), Fail> {
-    for (turn_max, again, charged) in [
-        (0, Outcome::Refused(Refusal::Cells), 2104),
-        (1, replied(Reply::Insert(None)), 2168),
-    ] {
-        let mut index = opened(rt.alloc(), 2, turn_max, 1 << 62)?;
-        assert!(rt; comes_and_goes(&mut index, 3));
-        assert!(rt; is_done(&mut index, 0, Op::Pin));
-        assert_eq!(rt; call(&mut index, 0, Call::Insert(1, 1)), again);
-        assert_eq!(rt; (index.charged(), index.waiting()), (charged, 0));
-    }
+    assert_eq!(rt; first_unlike(rt.alloc(), &TURNS)?.as_str(), "");
     Ok(())
 }
 
 /// Three rounds bring the epoch to its greatest, 3, and no node that is removed then is destroyed before the close.
 #[test]
 fn what_waits_at_the_greatest_epoch_goes_at_the_close(rt: HostRuntime) -> Result<(), Fail> {
-    let mut index = opened(rt.alloc(), 1_000, u32::MAX, 3)?;
-    assert!(rt; are_rounds_done(&mut index, 0, 3));
-    assert!(rt; comes_and_goes(&mut index, 10));
-    let state = (index.waiting(), index.waiting_bytes(), index.charged());
-    assert_eq!(rt; state, (1, 64, 2168));
-    assert!(rt; is_done(&mut index, 0, Op::Release));
+    let before = "rounds 0 3, call 0 pin, insert 1 1, remove 1, call 0 unpin, rounds 0 10";
+    let mut bench = Bench::of(rt.alloc(), "workers 1, pinned 0, epoch 3", before)?;
+    bench.play(rt.alloc(), "state, call 0 release")?;
+    assert_eq!(rt; bench.told.as_str(), "2168 1 64");
+    let Bench { index, .. } = bench;
     match index.close(NoDrain) {
         Ok((allocator, _)) => assert_eq!(rt; allocator.charged(), 0),
         Err((refusal, _, _)) => return Err(refusal.into()),
