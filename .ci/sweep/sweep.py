@@ -32,18 +32,18 @@ NUMBERS = itertools.count()
 
 # The tests that are to pass whichever request for memory is refused.
 TESTS = """
-arcs::a_refused_text_comes_back
-collector::jobs_that_find_no_memory_are_put_off_then
-collector::the_first_bag_of_a_block_alone_asks_for_memory
+trees::arcs::a_refused_text_comes_back
+collector::machine::jobs_that_find_no_memory_are_put_off_then
+collector::machine::the_first_bag_of_a_block_alone_asks_for_memory
 failures::a_call_that_finds_no_memory_changes_nothing
 failures::a_script_goes_on_or_ends_where_memory_is_refused
-histories::a_history_wants_memory
-wants::a_removal_goes_on_without_a_lesser_leaf
-wants::a_run_goes_on_where_it_stopped
-wants::an_owned_leaf_grows
-wants::calls_for_threads_find_memory_then
-wants::each_writing_call_wants_a_place_in_its_bag
-wants::shared_texts_come_back
+threads::histories::a_history_wants_memory
+threads::wants::a_removal_goes_on_without_a_lesser_leaf
+threads::wants::a_run_goes_on_where_it_stopped
+threads::wants::an_owned_leaf_grows
+threads::wants::calls_for_threads_find_memory_then
+threads::wants::each_writing_call_wants_a_place_in_its_bag
+threads::wants::shared_owners_come_back
 """.split()
 
 # How reads and writes fail, one after the other; 0 moves nothing.
@@ -55,7 +55,13 @@ WRITE_ERRORS = [*READ_ERRORS, errno.ENOSPC, errno.EPIPE, 0]
 THREADS = [(1, 1), (2, 8), (4, 20)]
 MOST = (16, 10_000)
 MOST_SECONDS = 20
-MOST_CALLS = "callers::sixteen_threads_call_and_scan"
+MOST_CALLS = "threads::callers::sixteen_threads_call_and_scan"
+
+# The tests of which the environment asks for more than they try without optimization, by its name.
+WHOLE = [
+    ("trees::closing::long_sequences_answer_as_a_map", "TRIAL_KEYS"),
+    ("trees::closing::ranges_find_the_keys_within", "TRIAL_KEYS"),
+]
 
 # Lines that ask for no memory but that of their reply's text; and those that may ask for a bag of 64 removals.
 NEED_NONE = {"pin", "unpin", "repin", "get", "empty", "charged", "waiting"}
@@ -291,6 +297,12 @@ def most_calls(tests):
     return f"passed {time_taken}"
 
 
+def whole(tests, name, asked):
+    """A test with all that it can try."""
+    _, time_taken = most(tests, f"tests::{name}", known={asked: "1"})
+    return f"passed {time_taken}"
+
+
 def feeds_end(program):
     """A reader that gives line feeds for ever."""
     ran = run([program], feeds=1)
@@ -335,6 +347,8 @@ def cases(program, tests, files):
         yield from ((f"threads {workers} {calls}: {name}", tries) for name, tries in cases_of_threads(program, workers, calls))
     yield "threads {} {}".format(*MOST), [("", lambda: most_threads(program))]
     yield f"test {MOST_CALLS} of {MOST[1]} calls", [("", lambda: most_calls(tests))]
+    for name, asked in WHOLE:
+        yield f"test {name} by {asked}", [("", lambda name=name, asked=asked: whole(tests, name, asked))]
     yield "line feeds for ever", [("", lambda: feeds_end(program))]
     for name in TESTS:
         plain = run([tests, f"tests::{name}"])
