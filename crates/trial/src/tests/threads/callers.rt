@@ -18,7 +18,7 @@ use std::{env, thread};
 const WORKERS: u32 = 16;
 
 /// Of each worker; and as many as the index has room for, for a longer run.
-const CALLS: u32 = 80;
+const CALLS: u32 = 40;
 
 const CALLS_MAX: u32 = 10_000;
 
