@@ -30,11 +30,12 @@ SECONDS = 60
 
 # The tests that are to pass whichever request for memory is refused.
 TESTS = """
-arcs::a_refused_text_comes_back
-collector::jobs_that_find_no_memory_are_put_off_then collector::the_first_bag_of_a_block_alone_asks_for_memory
+trees::arcs::a_refused_text_comes_back
+collector::machine::jobs_that_find_no_memory_are_put_off_then collector::machine::the_first_bag_of_a_block_alone_asks_for_memory
 failures::a_call_that_finds_no_memory_changes_nothing
-wants::a_removal_goes_on_without_a_lesser_leaf wants::a_run_goes_on_where_it_stopped wants::an_owned_leaf_grows
-wants::calls_for_threads_find_memory_then wants::each_writing_call_wants_a_place_in_its_bag wants::shared_texts_come_back
+threads::wants::a_removal_goes_on_without_a_lesser_leaf threads::wants::a_run_goes_on_where_it_stopped
+threads::wants::an_owned_leaf_grows threads::wants::calls_for_threads_find_memory_then
+threads::wants::each_writing_call_wants_a_place_in_its_bag threads::wants::shared_owners_come_back
 """.split()
 
 # How reads and writes fail, one after the other; 0 moves nothing.
@@ -50,7 +51,13 @@ PLACES = 200
 THREADS = [(1, 1), (2, 8), (4, 20)]
 MOST = (16, 10_000)
 MOST_SECONDS = 20
-MOST_CALLS = "callers::sixteen_threads_call_and_scan"
+MOST_CALLS = "threads::callers::sixteen_threads_call_and_scan"
+
+# The tests of which the environment asks for more than they try without optimization, by its name.
+WHOLE = [
+    ("trees::closing::long_sequences_answer_as_a_map", "TRIAL_KEYS"),
+    ("trees::closing::ranges_find_the_keys_within", "TRIAL_KEYS"),
+]
 
 # The tests that try a part of what they can, as one of many orders of steps, and what makes them try all.
 ORDERS = """
@@ -320,6 +327,8 @@ def cases(program, tests, files):
     yield MOST_CALLS, [("", lambda: most([tests, f"tests::{MOST_CALLS}"], known={"TRIAL_CALLS": str(MOST[1])}))]
     for name in ORDERS:
         yield f"{name}: each order", [("", lambda name=name: most([tests, f"tests::{name}"], known=ALL))]
+    for name, asked in WHOLE:
+        yield f"{name}: by {asked}", [("", lambda name=name, asked=asked: most([tests, f"tests::{name}"], known={asked: "1"}))]
     for name in TESTS:
         plain = run([tests, f"tests::{name}"])
         yield f"test {name}: one request for memory refused", each(up_to(plain.memory), lambda number, name=name: test_passes(tests, name, number))

@@ -1,7 +1,7 @@
 //! Dialogues with owned trees, worked out by hand.
 
-use super::dialogue::{Asked, told, wrong_turn};
-use super::texts::named;
+use crate::tests::dialogue::{Asked, told, wrong_turn};
+use crate::tests::texts::named;
 use congee::{Allocator, Congee, DefaultAllocator, Limited, NoDrain, OOMError, U64Congee};
 use std::alloc::Global;
 use std::test::Fail;

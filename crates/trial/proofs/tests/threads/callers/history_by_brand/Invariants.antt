@@ -1,4 +1,4 @@
-use Rattle.trial.proofs.tests.callers.history_by_brand.Given as goal
+use Rattle.trial.proofs.tests.threads.callers.history_by_brand.Given as goal
 
 -- the new ledger
 abbrev pub ghosts-history : goal.ghosts-history

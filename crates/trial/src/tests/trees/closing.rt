@@ -1,8 +1,9 @@
 //! Owned trees that are closed, number trees, and sequences beside a `BTreeMap`.
-use super::texts::{array, numbers, part};
+use crate::tests::texts::{array, numbers, part};
 use congee::{Allocator, Calls, Congee, DefaultAllocator, Limited, NoDrain, U64Congee};
 use std::alloc::Global;
 use std::collections::BTreeMap;
+use std::env;
 use std::test::Fail;
 
 type Words = Congee<u64, u64, DefaultAllocator, NoDrain>;
@@ -94,7 +95,8 @@ enum Call {
 #[derive(Clone, Copy)]
 enum Order {
     Dense,
-    Shuffled,
+    /// Each of the keys below so many, 7,919 apart.
+    Shuffled(u64),
     Scattered,
     /// A leaf of its own for each.
     Lone,
@@ -106,7 +108,7 @@ impl Order {
     fn key(self, turn: u64) -> u64 {
         match self {
             Order::Dense => turn,
-            Order::Shuffled => turn.wrapping_mul(7919) % 30_000,
+            Order::Shuffled(count) => turn.wrapping_mul(7919).checked_rem(count).unwrap_or(0),
             Order::Scattered => { turn.wrapping_mul(11400714819323198485) & 0x7fff_ffff_ffff_ffff }
             Order::Lone => turn.wrapping_mul(256),
             Order::Paired => turn.wrapping_mul(256).wrapping_add(1),
@@ -118,29 +120,48 @@ impl Order {
 #[derive(Clone, Copy)]
 struct Part(Call, Order, u64, u64);
 
-const DENSE: [Part; 4] = [
-    Part(Call::Insert, Order::Dense, 0, 100_000),
-    Part(Call::Get, Order::Dense, 0, 200_000),
-    Part(Call::Remove, Order::Dense, 0, 50_000),
-    Part(Call::Get, Order::Dense, 0, 100_000),
-];
+/// How many keys a long sequence has; a hundred times as many where the environment has TRIAL_KEYS, which takes minutes
+/// without optimization.
+fn many(rt: &HostRuntime) -> u64 {
+    match env::var(rt, "TRIAL_KEYS") {
+        Ok(_) => MANY,
+        Err(_) => FEW,
+    }
+}
 
-const SHUFFLED: [Part; 2] = [
-    Part(Call::Insert, Order::Shuffled, 0, 30_000),
-    Part(Call::Get, Order::Dense, 0, 60_000),
-];
+const FEW: u64 = 1_000;
+
+const MANY: u64 = 100_000;
+
+fn dense(count: u64) -> [Part; 4] {
+    [
+        Part(Call::Insert, Order::Dense, 0, count),
+        Part(Call::Get, Order::Dense, 0, count.wrapping_mul(2)),
+        Part(Call::Remove, Order::Dense, 0, count / 2),
+        Part(Call::Get, Order::Dense, 0, count),
+    ]
+}
+
+fn shuffled(count: u64) -> [Part; 2] {
+    [
+        Part(Call::Insert, Order::Shuffled(count), 0, count),
+        Part(Call::Get, Order::Dense, 0, count.wrapping_mul(2)),
+    ]
+}
+
+fn scattered(count: u64) -> [Part; 3] {
+    [
+        Part(Call::Insert, Order::Scattered, 1, count.wrapping_add(1)),
+        Part(Call::Remove, Order::Scattered, 1, count / 2 + 1),
+        Part(Call::Get, Order::Scattered, 1, count.wrapping_add(1)),
+    ]
+}
 
 const FULL_NODE: [Part; 4] = [
     Part(Call::Insert, Order::Dense, 0, 48),
     Part(Call::Remove, Order::Dense, 24, 30),
     Part(Call::Insert, Order::Dense, 24, 30),
     Part(Call::Get, Order::Dense, 0, 48),
-];
-
-const SCATTERED: [Part; 3] = [
-    Part(Call::Insert, Order::Scattered, 1, 100_001),
-    Part(Call::Remove, Order::Scattered, 1, 50_001),
-    Part(Call::Get, Order::Scattered, 1, 100_001),
 ];
 
 /// What is done with the leaves below one node: each gets a second value, and loses the first one, and then the other way.
@@ -188,21 +209,12 @@ fn all_agree(alloc: Global, parts: &[Part]) -> Result<bool, Fail> {
 }
 
 #[test]
-fn dense_keys_answer_as_a_map(rt: HostRuntime) -> Result<(), Fail> {
-    assert!(rt; all_agree(rt.alloc(), &DENSE)?);
-    Ok(())
-}
-
-#[test]
-fn shuffled_keys_answer_as_a_map(rt: HostRuntime) -> Result<(), Fail> {
-    assert!(rt; all_agree(rt.alloc(), &SHUFFLED)?);
-    Ok(())
-}
-
-#[test]
-fn full_nodes_and_scattered_keys_answer_as_a_map(rt: HostRuntime) -> Result<(), Fail> {
+fn long_sequences_answer_as_a_map(rt: HostRuntime) -> Result<(), Fail> {
+    let count = many(&rt);
+    assert!(rt; all_agree(rt.alloc(), &dense(count))?);
+    assert!(rt; all_agree(rt.alloc(), &shuffled(count))?);
+    assert!(rt; all_agree(rt.alloc(), &scattered(count))?);
     assert!(rt; all_agree(rt.alloc(), &FULL_NODE)?);
-    assert!(rt; all_agree(rt.alloc(), &SCATTERED)?);
     Ok(())
 }
 
@@ -226,19 +238,21 @@ fn leaves_with_one_value_and_with_two_answer_as_a_map(rt: HostRuntime) -> Result
     Ok(())
 }
 
-/// The keys below a number are in a tree, and further ones, each with itself; ranges over it, each in so many places, and how
-/// many pairs each finds; and how many ranges of three keys, each from one key further on, find three.
-const FEW_KEYS: [&str; 5] = [
-    "0; 54227; 0 0 20 0; 0",
-    "0; 4261390591 4294944959; 4261412863 4261413116 20 0; 0",
-    "0; 219021065 4279959551; 4294967295 4294967548 20 0; 0",
-    "0; 4294967128 4294940824; 4294967039 4294967294 20 1; 0",
-    "0; 4278190080 4278189917; 4278190079 4278190334 20 1; 0",
+/// The keys from a number to before another one are in a tree, and further ones, each with itself; ranges over it, each in so many
+/// places, and how many pairs each finds; and how many ranges of three keys, each from one key further on, find three.
+const FOUND: [&str; 7] = [
+    "0 0; 54227; 0 0 20 0; 0",
+    "0 0; 4261390591 4294944959; 4261412863 4261413116 20 0; 0",
+    "0 0; 219021065 4279959551; 4294967295 4294967548 20 0; 0",
+    "0 0; 4294967128 4294940824; 4294967039 4294967294 20 1; 0",
+    "0 0; 4278190080 4278189917; 4278190079 4278190334 20 1; 0",
+    "0 1000; ; 200 210 20 10; 100",
+    "393000 393500; 458700 458751 499999; 393216 458751 3 3, 393216 458751 13 13, 393216 458751 65 65, 500000 500065 20 0; 0",
 ];
 
-const MANY_KEYS: [&str; 2] = [
-    "1000; ; 200 210 20 10; 100",
-    "500000; ; 393216 458751 3 3, 393216 458751 13 13, 393216 458751 65 65, 500000 500065 20 0; 0",
+/// The same ranges among all keys below, where the environment has TRIAL_KEYS.
+const FOUND_AMONG_MANY: [&str; 1] = [
+    "0 500000; ; 393216 458751 3 3, 393216 458751 13 13, 393216 458751 65 65, 500000 500065 20 0; 0",
 ];
 
 // How many pairs a range finds in up to 65 places.
@@ -259,8 +273,8 @@ fn are_counted(tree: &Numbers, ranges: &str) -> Result<bool, Fail> {
 }
 
 // Whether each key is new.
-fn fills(tree: &mut Numbers, below: u64, keys: &[u64]) -> Result<bool, Fail> {
-    for key in (0..below).chain(keys.iter().copied()) {
+fn fills(tree: &mut Numbers, [from, below]: [u64; 2], keys: &[u64]) -> Result<bool, Fail> {
+    for key in (from..below).chain(keys.iter().copied()) {
         if tree.insert(key, key)?.is_some() {
             return Ok(false);
         }
@@ -272,7 +286,7 @@ fn are_found(alloc: Global, text: &str) -> Result<bool, Fail> {
     let mut tree: Numbers = U64Congee::new(alloc, DefaultAllocator::new())?;
     let new = fills(
         &mut tree,
-        part(text, 0).parse::<u64>()?,
+        array::<2>(part(text, 0))?,
         &numbers(alloc, part(text, 1))?,
     )?;
     for start in 0..part(text, 3).parse::<u64>()? {
@@ -284,17 +298,14 @@ fn are_found(alloc: Global, text: &str) -> Result<bool, Fail> {
 }
 
 #[test]
-fn ranges_of_few_keys(rt: HostRuntime) -> Result<(), Fail> {
-    for text in FEW_KEYS {
+fn ranges_find_the_keys_within(rt: HostRuntime) -> Result<(), Fail> {
+    for text in FOUND {
         assert!(rt; are_found(rt.alloc(), text)?, "{text}");
     }
-    Ok(())
-}
-
-#[test]
-fn ranges_of_many_keys(rt: HostRuntime) -> Result<(), Fail> {
-    for text in MANY_KEYS {
-        assert!(rt; are_found(rt.alloc(), text)?, "{text}");
+    if many(&rt) == MANY {
+        for text in FOUND_AMONG_MANY {
+            assert!(rt; are_found(rt.alloc(), text)?, "{text}");
+        }
     }
     Ok(())
 }

@@ -1,6 +1,7 @@
 //! Sixteen threads that call on one index with a journal: calls of each kind on a key, and scans between.
 ghost use Rattle.std.specs.Prelude.{◌≡◌};
 
+use super::trees::{Told, raised_or, recorded_called};
 use crate::threads::callers;
 use crate::worker::{Caller, Cut, Index};
 use congee::DefaultAllocator;
@@ -17,7 +18,7 @@ use std::{env, thread};
 const WORKERS: u32 = 16;
 
 /// Of each worker; and as many as the index has room for, for a longer run.
-const CALLS: u32 = 1_000;
+const CALLS: u32 = 40;
 
 const CALLS_MAX: u32 = 10_000;
 
@@ -39,53 +40,38 @@ struct Worked<L: Ledger> {
     is_scanned: bool,
 }
 
-/// The value that a closure puts there: another one at the key, which each value of it tells.
-fn raised(found: Option<u64>, value: u64) -> u64 {
-    found.map_or(value, |found| found.wrapping_add(64))
-}
-
-/// What a closure answers for a present value: each second one goes.
-fn raised_or_gone(found: u64) -> Option<u64> {
-    if found % 128 < 64 {
-        Some(found.wrapping_add(64))
-    } else {
-        None
+/// A worker's call of this number. Each value tells its key, by what is left of it modulo 64; a closure adds 64 to it, or takes
+/// every second one out.
+fn call_at(place: u32, number: u64) -> Call<u64> {
+    let key = u64::from(place).wrapping_mul(7).wrapping_add(number) % 64;
+    let value = (number % 8).wrapping_mul(64).wrapping_add(key);
+    match number % 8 {
+        1 => Call::Get(key),
+        2 => Call::Remove(key),
+        3 => Call::ComputePresent(key, if number % 16 < 8 { Some(64) } else { None }),
+        5 => Call::ComputeInsert(key, value),
+        6 => {
+            let old = (number / 8 % 8).wrapping_mul(64).wrapping_add(key);
+            Call::Exchange(key, old, Some(value))
+        }
+        _ => Call::Insert(key, value),
     }
 }
 
-/// A call by a closure, or an exchange, of a value that tells its key.
-fn computes<L: Ledger, R: Wait>(
-    rt: &R,
-    index: &Index<L>,
-    caller: &mut Caller<L>,
-    guard: &Guard,
-    number: u64,
-    (key, value): (u64, u64),
-) -> Result<(Call<u64>, Reply<u64>), Refusal> {
-    let (share, worker) = (&mut caller.share, &mut caller.worker);
-    if number % 8 == 3 {
-        let told = index.compute_if_present(rt, &key, raised_or_gone, share, worker, guard)?;
-        let answer = told.and_then(|pair| pair.1);
-        return Ok((
-            Call::ComputePresent(key, answer),
-            Reply::ComputePresent(told),
-        ));
+/// The call with what its closure answered.
+fn answered(call: Call<u64>, reply: Reply<u64>) -> Call<u64> {
+    match (call, reply) {
+        (Call::ComputePresent(key, _), Reply::ComputePresent(told)) => {
+            Call::ComputePresent(key, told.and_then(|pair| pair.1))
+        }
+        (Call::ComputeInsert(key, value), Reply::ComputeInsert(before)) => {
+            Call::ComputeInsert(key, raised_or(before, value))
+        }
+        _ => call,
     }
-    if number % 8 == 5 {
-        let answers = |found| raised(found, value);
-        let before = index.compute_or_insert(rt, key, answers, share, worker, guard)?;
-        let answer = raised(before, value);
-        return Ok((
-            Call::ComputeInsert(key, answer),
-            Reply::ComputeInsert(before),
-        ));
-    }
-    let old = (number / 8 % 8).wrapping_mul(64).wrapping_add(key);
-    let told = index.compare_exchange(rt, &key, &old, Some(value), share, worker, guard)?;
-    Ok((Call::Exchange(key, old, Some(value)), Reply::Exchange(told)))
 }
 
-/// A worker's call of this number: its key, and what the call answered.
+/// A worker's call of this number, and what it answered.
 fn calls<L: Ledger, R: Wait>(
     rt: &R,
     index: &Index<L>,
@@ -93,23 +79,11 @@ fn calls<L: Ledger, R: Wait>(
     guard: &Guard,
     number: u64,
 ) -> Result<(Call<u64>, Reply<u64>), Refusal> {
-    let key = u64::from(caller.place).wrapping_mul(7).wrapping_add(number) % 64;
-    let value = (number % 8).wrapping_mul(64).wrapping_add(key);
+    let call = call_at(caller.place, number);
     let (share, worker) = (&mut caller.share, &mut caller.worker);
-    match number % 8 {
-        1 => Ok((
-            Call::Get(key),
-            Reply::Get(index.get(rt, &key, worker, guard)?),
-        )),
-        2 => Ok((
-            Call::Remove(key),
-            Reply::Remove(index.remove(rt, &key, share, worker, guard)?),
-        )),
-        3 | 5 | 6 => computes(rt, index, caller, guard, number, (key, value)),
-        _ => Ok((
-            Call::Insert(key, value),
-            Reply::Insert(index.insert(rt, key, value, share, worker, guard)?),
-        )),
+    match recorded_called(rt, index, call, share, worker, guard)? {
+        Told::Replied(reply) => Ok((answered(call, reply), reply)),
+        _ => Err(Refusal::Idle),
     }
 }
 

@@ -1,4 +1,4 @@
-use Rattle.trial.proofs.tests.refusals.unopened_by_brand.Given as goal
+use Rattle.trial.proofs.tests.threads.refusals.unopened_by_brand.Given as goal
 
 -- the new ledger
 abbrev pub ghosts-recorded_unopened : goal.ghosts-recorded_unopened

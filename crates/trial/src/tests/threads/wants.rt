@@ -1,16 +1,15 @@
 //! Calls that find no memory once, and are made again. The gate runs each of these tests with each request for memory refused
 //! in turn: what is refused has changed nothing, and then it is answered.
 
-use super::arcs::{Text, is, text};
-use super::failures::{ends_with, is_flushed, opened};
-use super::machine::drawn::step_at;
-use super::machine::{Index, begin, go, is_done, op_of, replied};
-use super::threaded::{next, spent};
+use super::trees::{Ask, Owners, Threaded, Told, left, spent};
+use crate::tests::failures::{ends_with, is_flushed, opened};
+use crate::tests::machine::drawn::step_at;
+use crate::tests::machine::{Index, begin, go, is_done, op_of, replied};
 use congee::{Congee, DefaultAllocator, OOMError};
 use joint::{CongeeArc, Guard, Limits, Op, Outcome, Refusal, Report, Step, Worker};
 use judge::{Call, Reply};
 use std::alloc::{AllocError, Global};
-use std::sync::{Arc, Wait};
+use std::sync::Wait;
 use std::test::Fail;
 
 /// An owned tree without a pair.
@@ -54,108 +53,139 @@ fn an_owned_leaf_grows(rt: HostRuntime) -> Result<(), Fail> {
     Ok(())
 }
 
-type Shared = CongeeArc<u64, String<Global>>;
-
-/// A tree for threads without a pair.
-fn shared(alloc: Global) -> Result<Shared, Refusal> {
-    match CongeeArc::new(alloc, Limits::usual(1, 9)) {
-        Err(Refusal::Memory) => CongeeArc::new(alloc, Limits::usual(1, 9)),
-        opened => opened,
+/// The key of a call on one.
+fn key_of(ask: Ask) -> Option<u64> {
+    match ask {
+        Ask::Call(
+            Call::Get(key)
+            | Call::Insert(key, _)
+            | Call::Remove(key)
+            | Call::ComputePresent(key, _)
+            | Call::ComputeInsert(key, _)
+            | Call::Exchange(key, _, _),
+        ) => Some(key),
+        _ => None,
     }
 }
 
-/// Whether a text is put at an absent key. A refused one comes back.
-fn is_shared<R: Wait>(
+/// What a tree tells of a key's value.
+fn value_at<T: Threaded, R: Wait>(
     rt: &R,
-    tree: &Shared,
-    key: u64,
-    hello: Text,
+    tree: &mut T,
+    ask: Ask,
     worker: &mut Worker,
     guard: &Guard,
-) -> Result<bool, Refusal> {
-    match tree.insert(rt, key, hello, worker, guard) {
-        Ok(before) => Ok(before.is_none()),
-        Err((Refusal::Memory, back)) => {
-            let is_kept = back.as_str() == "hello" && tree.get(rt, key, worker, guard)?.is_none();
-            let again = tree.insert(rt, key, back, worker, guard);
-            Ok(is_kept && matches!(again, Ok(None)))
+) -> Option<Told> {
+    tree.told(rt, Ask::Call(Call::Get(key_of(ask)?)), worker, guard)
+        .ok()
+}
+
+/// What a tree tells. Where memory is refused it is asked again, and the key has what it had.
+fn told_then<T: Threaded, R: Wait>(
+    rt: &R,
+    tree: &mut T,
+    ask: Ask,
+    worker: &mut Worker,
+    guard: &Guard,
+) -> Result<Told, Refusal> {
+    let before = value_at(rt, tree, ask, worker, guard);
+    match tree.told(rt, ask, worker, guard) {
+        Err(Refusal::Memory) if value_at(rt, tree, ask, worker, guard) == before => {
+            tree.told(rt, ask, worker, guard)
         }
-        Err((refusal, _)) => Err(refusal),
+        told => told,
     }
 }
 
-/// Whether two texts part the ways above their leaves, and one goes, which had taken the other's place first.
-fn are_shared<R: Wait>(
+/// Whether a tree tells all of this, and then spends its guard.
+fn tells<T: Threaded, R: Wait>(
     rt: &R,
-    tree: &Shared,
-    texts: (Text, Text),
-    world: &Text,
+    tree: &mut T,
+    rows: &[(Ask, Told)],
     worker: &mut Worker,
-    guard: &Guard,
 ) -> Result<bool, Refusal> {
-    let another = |_| Arc::try_clone(world).ok();
-    Ok(
-        is_shared(rt, tree, 1, texts.0, worker, guard)?
-            && is_shared(rt, tree, 256, texts.1, worker, guard)?
-            && is(tree.get(rt, 1, worker, guard)?, Some("hello"))
-            && is(
-                tree.compute_if_present(rt, 1, another, worker, guard)?,
-                Some("hello"),
-            )
-            && is(tree.get(rt, 1, worker, guard)?, Some("hello world"))
-            && is(tree.remove(rt, 1, worker, guard)?, Some("hello world"))
-            && is(tree.get(rt, 1, worker, guard)?, None)
-            && is(tree.get(rt, 256, worker, guard)?, Some("hello")),
-    )
+    let guard = tree.pins(rt, worker)?;
+    let mut right = true;
+    for (ask, told) in rows {
+        right &= told_then(rt, tree, *ask, worker, &guard) == Ok(*told);
+    }
+    spent(tree.unpins(rt, worker, guard))?;
+    Ok(right)
 }
 
-/// A round; one whose flush is refused has unpinned.
-fn rounds<R: Wait>(rt: &R, tree: &Shared, worker: &mut Worker) -> Result<(), Refusal> {
-    match tree.round(rt, worker) {
-        Err(Refusal::Memory) => tree.round(rt, worker),
-        done => done,
+/// Rounds; one whose flush is refused has unpinned.
+fn rounds<T: Threaded, R: Wait>(rt: &R, tree: &T, worker: &mut Worker) -> Result<(), Refusal> {
+    for _ in 0..3u8 {
+        match tree.goes_round(rt, worker) {
+            Err(Refusal::Memory) => tree.goes_round(rt, worker)?,
+            done => done?,
+        }
     }
+    Ok(())
 }
 
 /// A worker leaves; a refused one comes back.
-fn leaves<R: Wait>(rt: &R, tree: &Shared, worker: Worker) -> Result<(), Refusal> {
-    match tree.release(rt, worker) {
-        Ok(()) => Ok(()),
-        Err((Refusal::Memory, back)) => match tree.release(rt, back) {
-            Ok(()) => Ok(()),
-            Err((refusal, _)) => Err(refusal),
-        },
-        Err((refusal, _)) => Err(refusal),
+fn leaves<T: Threaded, R: Wait>(rt: &R, tree: &T, worker: Worker) -> Result<(), Refusal> {
+    match tree.leaves(rt, worker) {
+        Err((Refusal::Memory, back)) => left(tree.leaves(rt, back)),
+        released => left(released),
     }
 }
 
-/// Takes the second text out, and leaves with its leaf in the worker's bag.
-fn takes_and_leaves<R: Wait>(rt: &R, tree: &Shared, worker: Worker) -> Result<bool, Refusal> {
-    let mut worker = worker;
-    let guard = tree.pin(rt, &mut worker)?;
-    let removed = tree.remove(rt, 256, &mut worker, &guard);
-    spent(tree.unpin(rt, &mut worker, guard))?;
-    leaves(rt, tree, worker)?;
-    Ok(removed?.is_some())
+/// A tree of owners without a pair.
+fn owners(alloc: Global) -> Result<Owners, Refusal> {
+    let tree = match CongeeArc::new(alloc, Limits::usual(1, 9)) {
+        Err(Refusal::Memory) => CongeeArc::new(alloc, Limits::usual(1, 9))?,
+        opened => opened?,
+    };
+    Ok(Owners { tree, alloc })
 }
+
+/// Two owners part the ways above their leaves, and one goes, which had taken another one's place first.
+const PARTED: [(Ask, Told); 8] = [
+    (
+        Ask::Call(Call::Insert(1, 7)),
+        Told::Replied(Reply::Insert(None)),
+    ),
+    (
+        Ask::Call(Call::Insert(256, 7)),
+        Told::Replied(Reply::Insert(None)),
+    ),
+    (Ask::Call(Call::Get(1)), Told::Replied(Reply::Get(Some(7)))),
+    (
+        Ask::Call(Call::ComputePresent(1, Some(8))),
+        Told::Replied(Reply::ComputePresent(Some((7, Some(8))))),
+    ),
+    (Ask::Call(Call::Get(1)), Told::Replied(Reply::Get(Some(8)))),
+    (
+        Ask::Call(Call::Remove(1)),
+        Told::Replied(Reply::Remove(Some(8))),
+    ),
+    (Ask::Call(Call::Get(1)), Told::Replied(Reply::Get(None))),
+    (
+        Ask::Call(Call::Get(256)),
+        Told::Replied(Reply::Get(Some(7))),
+    ),
+];
+
+/// The other one goes too, with its leaf in the worker's bag.
+const GONE: [(Ask, Told); 1] = [(
+    Ask::Call(Call::Remove(256)),
+    Told::Replied(Reply::Remove(Some(7))),
+)];
 
 #[test]
-fn shared_texts_come_back(rt: HostRuntime) -> Result<(), Fail> {
-    let texts = (text(rt.alloc(), "hello")?, text(rt.alloc(), "hello")?);
-    let world = text(rt.alloc(), "hello world")?;
-    let tree = shared(rt.alloc())?;
-    let mut worker = tree.register(&rt)?;
-    let guard = tree.pin(&rt, &mut worker)?;
-    let put = are_shared(&rt, &tree, texts, &world, &mut worker, &guard);
-    spent(tree.unpin(&rt, &mut worker, guard))?;
-    assert_eq!(rt; (put, tree.waiting(&rt)), (Ok(true), 2));
-    for _ in 0..3 {
-        rounds(&rt, &tree, &mut worker)?;
-    }
-    assert_eq!(rt; (tree.waiting(&rt), tree.charged(&rt)), (0, 2168));
-    assert_eq!(rt; takes_and_leaves(&rt, &tree, worker), Ok(true));
-    assert_eq!(rt; (tree.waiting(&rt), tree.charged(&rt)), (1, 2168));
-    assert!(rt; tree.close(&rt).is_ok());
+fn shared_owners_come_back(rt: HostRuntime) -> Result<(), Fail> {
+    let mut tree = owners(rt.alloc())?;
+    let mut worker = tree.comes(&rt)?;
+    assert_eq!(rt; tells(&rt, &mut tree, &PARTED, &mut worker), Ok(true));
+    assert_eq!(rt; tree.state(&rt).1, 2);
+    rounds(&rt, &tree, &mut worker)?;
+    assert_eq!(rt; tree.state(&rt), (2168, 0, 0));
+    assert_eq!(rt; tells(&rt, &mut tree, &GONE, &mut worker), Ok(true));
+    leaves(&rt, &tree, worker)?;
+    assert_eq!(rt; tree.state(&rt), (2168, 1, 64));
+    assert!(rt; tree.closes(&rt).is_ok());
     Ok(())
 }
 
@@ -291,49 +321,36 @@ fn words(alloc: Global) -> Result<Words, Refusal> {
     }
 }
 
-/// Whether the call of this number, one after the other from 0 on, answers as a map does.
-fn answers<R: Wait>(
-    rt: &R,
-    tree: &Words,
-    number: u32,
-    worker: &mut Worker,
-    guard: &Guard,
-) -> Result<bool, Refusal> {
-    match number {
-        0 => Ok(tree.insert(rt, 1, 1, worker, guard)? == None),
-        1 => Ok(tree.compute_or_insert(rt, 256, next, worker, guard)? == None),
-        2 => Ok(tree.keys(rt, worker)?.as_slice() == [1, 256].as_slice()),
-        3 => Ok(tree.stats(rt, worker)?.kv_pairs == 2),
-        4 => Ok(tree.remove(rt, &1, worker, guard)? == Some(1)),
-        5 => Ok(tree.flush(rt, worker, guard)? == ()),
-        6 => Ok(tree.compare_exchange(rt, &256, &2, None, worker, guard)? == Ok(None)),
-        _ => Ok(tree.round(rt, worker)? == ()),
-    }
-}
-
-/// Whether all of them do.
-fn all_answer<R: Wait>(rt: &R, tree: &Words, worker: &mut Worker, guard: &Guard) -> bool {
-    for number in 0..8 {
-        let answered = match answers(rt, tree, number, worker, guard) {
-            Err(Refusal::Memory) => answers(rt, tree, number, worker, guard),
-            answered => answered,
-        };
-        if answered != Ok(true) {
-            return false;
-        }
-    }
-    true
-}
+const WORDS: [(Ask, Told); 8] = [
+    (
+        Ask::Call(Call::Insert(1, 1)),
+        Told::Replied(Reply::Insert(None)),
+    ),
+    (
+        Ask::Call(Call::ComputeInsert(256, 2)),
+        Told::Replied(Reply::ComputeInsert(None)),
+    ),
+    (Ask::Keys, Told::Keys(2, Some(1))),
+    (Ask::Stats, Told::Pairs(2)),
+    (
+        Ask::Call(Call::Remove(1)),
+        Told::Replied(Reply::Remove(Some(1))),
+    ),
+    (Ask::Flush, Told::Done),
+    (
+        Ask::Call(Call::Exchange(256, 2, None)),
+        Told::Replied(Reply::Exchange(Ok(None))),
+    ),
+    (Ask::Round, Told::Done),
+];
 
 #[test]
 fn calls_for_threads_find_memory_then(rt: HostRuntime) -> Result<(), Fail> {
-    let tree = words(rt.alloc())?;
-    let mut worker = tree.register(&rt)?;
-    let guard = tree.pin(&rt, &mut worker)?;
-    let answered = all_answer(&rt, &tree, &mut worker, &guard);
-    spent(tree.unpin(&rt, &mut worker, guard))?;
-    assert!(rt; answered);
+    let mut tree = words(rt.alloc())?;
+    let mut worker = tree.comes(&rt)?;
+    assert_eq!(rt; tells(&rt, &mut tree, &WORDS, &mut worker), Ok(true));
     // The root; two leaves and the node that was above them wait.
-    assert_eq!(rt; (tree.waiting(&rt), tree.charged(&rt)), (3, 2296));
+    let (charged, waiting, _bytes) = tree.state(&rt);
+    assert_eq!(rt; (waiting, charged), (3, 2296));
     Ok(())
 }

@@ -17,13 +17,18 @@ fn open(alloc: Global, places: u64) -> Result<Index, Refusal> {
         places,
     )?;
     for worker in 0..2 {
-        index.step(Step {
-            worker,
-            event: Event::Register,
-        });
-        index.call(worker, Op::Pin, 1_000, &mut []);
+        step(&mut index, worker, Event::Register);
+        end(&mut index, worker, Op::Pin);
     }
     Ok(index)
+}
+
+fn step(index: &mut Index, worker: u32, event: Event<u64>) -> Report<u64> {
+    index.step(Step { worker, event })
+}
+
+fn begin(index: &mut Index, worker: u32, op: Op<u64>) -> Report<u64> {
+    step(index, worker, Event::Begin(op))
 }
 
 /// How a whole call ends, and whether its last step's entry was kept.
@@ -34,14 +39,13 @@ fn end(index: &mut Index, worker: u32, op: Op<u64>) -> Option<(Outcome<u64>, boo
 
 /// One step of a worker's call.
 fn go(index: &mut Index, worker: u32, answer: Option<Option<u64>>) -> Report<u64> {
-    index.step(Step {
-        worker,
-        event: Event::Go(Noise {
-            fail: false,
-            seen: None,
-            answer,
-        }),
-    })
+    goes(index, worker, false, answer)
+}
+
+/// One whose exchange may fail.
+fn goes(index: &mut Index, worker: u32, fail: bool, answer: Option<Option<u64>>) -> Report<u64> {
+    let seen = None;
+    step(index, worker, Event::Go(Noise { fail, seen, answer }))
 }
 
 /// How the first step of a worker's call ends that doesn't just go on, of a hundred.
@@ -85,10 +89,7 @@ fn a_journal_is_full(rt: HostRuntime) -> Result<(), Fail> {
 fn a_reserved_place_is_kept_from_look_ups_and_comes_free(rt: HostRuntime) -> Result<(), Fail> {
     let mut index = open(rt.alloc(), 2)?;
     end(&mut index, 0, Op::Insert(1, 1));
-    index.step(Step {
-        worker: 0,
-        event: Event::Begin(Op::ComputePresent(1)),
-    });
+    begin(&mut index, 0, Op::ComputePresent(1));
     go(&mut index, 0, None);
     let some = Reply::Get(Some(1));
     let unkept = Some((Outcome::Done(Done::Reply(some)), false));
@@ -114,17 +115,11 @@ fn a_closure_that_is_asked_again_is_written_down_with_its_last_answer(
 ) -> Result<(), Fail> {
     let mut index = open(rt.alloc(), 9)?;
     end(&mut index, 0, Op::Insert(1, 42));
-    let event = Event::Begin(Op::ComputePresent(1));
-    index.step(Step { worker: 0, event });
+    begin(&mut index, 0, Op::ComputePresent(1));
     assert_eq!(rt; go_on(&mut index, 0), Outcome::Asks(Some(42)));
     go(&mut index, 0, Some(Some(5)));
     // The leaf isn't locked.
-    let event = Event::Go(Noise {
-        fail: true,
-        seen: None,
-        answer: None,
-    });
-    index.step(Step { worker: 0, event });
+    goes(&mut index, 0, true, None);
     assert_eq!(rt; go_on(&mut index, 0), Outcome::Asks(Some(42)));
     go(&mut index, 0, Some(Some(6)));
     let reply = Reply::ComputePresent(Some((42, Some(6))));

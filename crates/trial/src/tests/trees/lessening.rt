@@ -1,7 +1,7 @@
 //! Owned trees that grow and shrink: a leaf, and an inner node at each depth, go up and down through all forms, an emptied leaf's
 //! parent gives place to its other child, a lesser node that isn't had is done without, and a growth and a shrink do not alternate.
 
-use super::machine::drawn::next;
+use crate::tests::machine::drawn::next;
 use congee::{
     Allocator, Congee, CongeeArc, DefaultAllocator, Limited, NoDrain, OOMError, U64Congee,
 };
@@ -253,7 +253,7 @@ fn a_lesser_node_past_the_budget_is_done_without(rt: HostRuntime) -> Result<(), 
 
 /// So many values or leaves in a node, and at most as many before; the distance of their keys; and how many nodes each further
 /// pair of an insertion and a removal makes: a leaf, where its value stands alone.
-const COUNTS: [(u64, u64, u64, u64); 12] = [
+pub const COUNTS: [(u64, u64, u64, u64); 12] = [
     (4, 4, 1, 0),
     (16, 16, 1, 0),
     (48, 48, 1, 0),

@@ -1,5 +1,5 @@
 //! What no clause says: worked journals, and each public call once with ample memory.
-use super::machine::entry;
+use crate::tests::machine::entry;
 use joint::audit;
 use judge::{ArcPayload, Call, Entry, Payload, Reply, Verdict, Word64, check, number_of, word_of};
 use std::sync::Arc;

@@ -1,5 +1,5 @@
 //! Calls that are stepped by turns on a plain store, worked out by hand.
-use super::texts::{array, call_of, named, part, question};
+use crate::tests::texts::{array, call_of, named, part, question};
 use congee::{Child, Move, Noise, Op, Outcome, PlainStore, Seen, Step, play};
 use judge::Call;
 use std::alloc::Global;
