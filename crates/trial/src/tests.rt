@@ -5,7 +5,7 @@ mod collector;
 mod dialogue;
 mod examples;
 mod failures;
-mod judge;
+mod journals;
 mod machine;
 mod program;
 mod texts;
