@@ -1,4 +1,4 @@
 //! What tries journals: the judge of one, and an index that keeps one.
 
-pub mod journaled;
-pub mod journals;
+pub mod kept;
+pub mod worked;
