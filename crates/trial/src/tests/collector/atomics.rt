@@ -1,6 +1,7 @@
 //! Rows of what is asked of an `Atomic`, and of the values that it leads to, under a guard.
 
 use super::face::{Item, ItemGuard, boxed, destroys_at_once, limits, number_of, spend};
+use super::threads::leaves;
 use crossbeam_epoch::{Atomic, Collector, Exchanged, Fault, Link, Shared};
 use std::alloc::Global;
 use std::process::Abort;
@@ -530,6 +531,7 @@ fn wrong<R: Wait + Abort>(
         }
     }
     spend(rt, &mut handle, pinned);
+    leaves(rt, handle)?;
     Ok(wrong)
 }
 

@@ -139,7 +139,7 @@ fn puts_off<R: Wait + Abort>(
 }
 
 /// Releases the handle.
-fn leaves<R: Wait + Abort>(rt: &R, handle: Handle<'_>) -> Result<(), Fault> {
+pub fn leaves<R: Wait + Abort>(rt: &R, handle: Handle<'_>) -> Result<(), Fault> {
     match handle.release(rt) {
         Ok(()) => Ok(()),
         Err((fault, _back)) => Err(fault),

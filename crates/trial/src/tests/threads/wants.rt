@@ -321,7 +321,7 @@ fn words(alloc: Global) -> Result<Words, Refusal> {
     }
 }
 
-const WORDS: [(Ask, Told); 8] = [
+const FOUND_THEN: [(Ask, Told); 8] = [
     (
         Ask::Call(Call::Insert(1, 1)),
         Told::Replied(Reply::Insert(None)),
@@ -348,7 +348,7 @@ const WORDS: [(Ask, Told); 8] = [
 fn calls_for_threads_find_memory_then(rt: HostRuntime) -> Result<(), Fail> {
     let mut tree = words(rt.alloc())?;
     let mut worker = tree.comes(&rt)?;
-    assert_eq!(rt; tells(&rt, &mut tree, &WORDS, &mut worker), Ok(true));
+    assert_eq!(rt; tells(&rt, &mut tree, &FOUND_THEN, &mut worker), Ok(true));
     // The root; two leaves and the node that was above them wait.
     let (charged, waiting, _bytes) = tree.state(&rt);
     assert_eq!(rt; (waiting, charged), (3, 2296));

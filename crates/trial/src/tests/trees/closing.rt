@@ -122,7 +122,7 @@ struct Part(Call, Order, u64, u64);
 
 /// How many keys a long sequence has; a hundred times as many where the environment has TRIAL_KEYS, which takes minutes
 /// without optimization.
-fn many(rt: &HostRuntime) -> u64 {
+fn count_of_keys(rt: &HostRuntime) -> u64 {
     match env::var(rt, "TRIAL_KEYS") {
         Ok(_) => MANY,
         Err(_) => FEW,
@@ -210,7 +210,7 @@ fn all_agree(alloc: Global, parts: &[Part]) -> Result<bool, Fail> {
 
 #[test]
 fn long_sequences_answer_as_a_map(rt: HostRuntime) -> Result<(), Fail> {
-    let count = many(&rt);
+    let count = count_of_keys(&rt);
     assert!(rt; all_agree(rt.alloc(), &dense(count))?);
     assert!(rt; all_agree(rt.alloc(), &shuffled(count))?);
     assert!(rt; all_agree(rt.alloc(), &scattered(count))?);
@@ -302,7 +302,7 @@ fn ranges_find_the_keys_within(rt: HostRuntime) -> Result<(), Fail> {
     for text in FOUND {
         assert!(rt; are_found(rt.alloc(), text)?, "{text}");
     }
-    if many(&rt) == MANY {
+    if count_of_keys(&rt) == MANY {
         for text in FOUND_AMONG_MANY {
             assert!(rt; are_found(rt.alloc(), text)?, "{text}");
         }
