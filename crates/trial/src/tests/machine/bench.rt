@@ -123,6 +123,12 @@ fn scan_of(word: &str, numbers: &str) -> Result<Op<u64>, Fail> {
 /// A key with a leaf of its own below the root.
 const KEY: u64 = 1 << 63;
 
+const CYCLE: [Op<u64>; 2] = [Op::Insert(KEY, 1), Op::Remove(KEY)];
+
+const PIN: [Op<u64>; 2] = [Op::Pin, Op::Unpin];
+
+const ROUND: [Op<u64>; 3] = [Op::Pin, Op::Flush, Op::Unpin];
+
 /// Calls of workers, one after another.
 type Calls = Vec<(u32, Op<u64>)>;
 
@@ -147,29 +153,13 @@ fn calls_of(alloc: Global, word: &str, numbers: &[u64]) -> Result<Calls, Fail> {
                 calls.push((0, Op::Remove(key)))?;
             }
         }
-        ("cycles", [worker, count]) => {
-            push_often(
-                &mut calls,
-                *worker,
-                *count,
-                &[Op::Insert(KEY, 1), Op::Remove(KEY)],
-            )?
-        }
-        ("pins", [worker, count]) => {
-            push_often(&mut calls, *worker, *count, &[Op::Pin, Op::Unpin])?
-        }
-        ("rounds", [worker, count]) => {
-            push_often(
-                &mut calls,
-                *worker,
-                *count,
-                &[Op::Pin, Op::Flush, Op::Unpin],
-            )?
-        }
+        ("cycles", [worker, count]) => push_often(&mut calls, *worker, *count, &CYCLE)?,
+        ("pins", [worker, count]) => push_often(&mut calls, *worker, *count, &PIN)?,
+        ("rounds", [worker, count]) => push_often(&mut calls, *worker, *count, &ROUND)?,
         ("quiet", []) => {
             push_often(&mut calls, 0, 1, &[Op::Unpin])?;
             push_often(&mut calls, 1, 1, &[Op::Unpin])?;
-            push_often(&mut calls, 0, 3, &[Op::Pin, Op::Flush, Op::Unpin])?;
+            push_often(&mut calls, 0, 3, &ROUND)?;
             push_often(&mut calls, 0, 1, &[Op::Pin])?;
             push_often(&mut calls, 1, 1, &[Op::Pin])?
         }
@@ -178,6 +168,7 @@ fn calls_of(alloc: Global, word: &str, numbers: &[u64]) -> Result<Calls, Fail> {
     Ok(calls)
 }
 
+/// So many times these calls of a worker.
 fn push_often(
     calls: &mut Calls,
     worker: u64,

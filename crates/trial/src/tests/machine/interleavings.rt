@@ -188,7 +188,7 @@ fn short_calls_answer_as_one_map_in_every_order_of_their_steps(
 
 #[test]
 fn calls_beside_each_other_answer_as_one_map(rt: HostRuntime) -> Result<(), Fail> {
-    let every = number_in(&rt, "TRIAL_ORDERS", 29);
+    let every = number_in(&rt, "TRIAL_ORDERS", 61);
     for table in [CASES.as_slice(), CLOSURES.as_slice()] {
         for line in table {
             let (name, text) = named(*line)?;
@@ -211,7 +211,7 @@ fn a_removal_takes_a_node_out_beside_a_call(rt: HostRuntime) -> Result<(), Fail>
             &case,
             &head,
             [TURNS.as_slice(), others.as_slice()],
-            number_in(&rt, "TRIAL_ORDERS", 31),
+            number_in(&rt, "TRIAL_ORDERS", 61),
         )?;
         assert_eq!(rt; all, Some(792), "{name}");
     }

@@ -92,11 +92,13 @@ const BESIDE: [&str; 5] = [
 
 /// Values that are asked for, and reads that see what isn't there.
 const ASKED: [&str; 3] = [
-    "a value is asked for until there is one: ; ; begin 0 orinsert 5 6, mute 0 12, go 0 1, mute 0 1, answer 0 6, mute 0 12, get \
-     5; ?",
-    "a value that a read of a changed leaf sees is not told: ; call 1 insert 1 42; begin 1 get 1, mute 1 4, insert 1 9, lied 1 \
-     77, mute 1 9; ?",
-    "nor a node that there never was: ; call 1 insert 1 42; begin 1 get 1, mute 1 4, insert 1 9, lied 1 900 7, mute 1 9; ?",
+    "a value is asked for until there is one: ; ; begin 0 orinsert 5 6, mute 0 6, go 0 1, mute 0 1, answer 0 6, mute 0 3, get 5; \
+     5 2168 0 Asks(None), 6 Asks(None), 7 Asks(None), 8 Asks(None), 11 decided, 12 Replied(ComputeInsert(None)), \
+     Replied(Get(Some(6)))",
+    "a value that a read of a changed leaf sees is not told: ; call 1 insert 1 42; begin 1 get 1, mute 1 4, insert 1 9, lied 1 77, \
+     mute 1 7; Replied(Insert(Some(42))), 12 decided Replied(Get(Some(9)))",
+    "nor a node that there never was: ; call 1 insert 1 42; begin 1 get 1, mute 1 4, insert 1 9, lied 1 900 7, mute 1 7; \
+     Replied(Insert(Some(42))), 12 decided Replied(Get(Some(9)))",
 ];
 
 #[test]
