@@ -111,8 +111,8 @@ const REPORTS: [&str; 3] = [
     // The bag has room for 64 nodes, and 63 are in it. A writing call wants two places, so it is sealed, and queued.
     "and queues its bag where it lacks one: cells 80, pinned 0; call 0 pin, cycles 0 63; state, count 0 insert 1 1, call 0 \
      unpin, count 0 pin, count 0 flush, count 0 unpin, count 0 pin, count 0 flush, count 0 unpin, count 0 pin, count 0 flush, \
-     count 0 unpin, state; 6136 63 4032, 3+8 decided 6200 63 Replied(Insert(None)), 3+0, 8+0, 1+0, 3+0, 71+0 back 63 2168 0, \
-     1+0, 3+0, 8+0, 1+0, 2168 0 0",
+     count 0 unpin, state; 6136 63 4032, 3+8 decided 6200 63 Replied(Insert(None)), 3+0, 6+0, 1+0, 3+0, 70+0 back 63 2168 0, \
+     1+0, 3+0, 6+0, 1+0, 2168 0 0",
     "a scan finds the first pairs of its range: cells 80, pinned 1; ; call 0 range 0 10 4, insert 1 10, insert 2 20, insert 3 \
      30, call 0 range 1 4 2, call 0 through 2 3 2; Scanned(0) [(0, 0), (0, 0), (0, 0)], Replied(Insert(None)) 2168 0, \
      Replied(Insert(None)), Replied(Insert(None)), Scanned(2) [(1, 10), (2, 20), (0, 0)], Scanned(2) [(2, 20), (3, 30), (0, 0)]",
