@@ -92,12 +92,21 @@ fn whole_calls<L: Ledger, R: Wait>(
     )
 }
 
-/// An index with 1 and 5 alone, which no worker is left of, hands them on as it is closed.
-fn closes_with<L: Ledger, R: Wait + Abort>(rt: &R, tree: Words<L>) -> Result<(), Fail> {
+/// An index with 1 and 5 alone, which no worker is left of, hands them on as it is closed, with the journal of its seven
+/// calls on single keys, of which six wrote.
+fn closes_with<L: Ledger, R: Wait + Abort>(
+    rt: &R,
+    alloc: Global,
+    tree: Words<L>,
+    all: &mut Share<L>,
+) -> Result<(), Fail> {
     match tree.close(rt) {
-        Ok((allocator, drained)) => {
+        Ok((allocator, drained, mut journal)) => {
             assert_eq!(rt; allocator.charged(), 0);
             assert_eq!(rt; drained.pairs.as_slice(), [(1, 5)].as_slice());
+            assert_eq!(rt; journal.entries().len(), 7);
+            assert_eq!(rt; check(alloc, journal.entries())?, Verdict::Legal);
+            assert_eq!(rt; journal.gather(all), Ok(6));
             Ok(())
         }
         Err(_) => Err("a worker is left".into()),
@@ -122,6 +131,8 @@ fn writes_down<L: Ledger, R: Wait + Abort>(rt: &R, alloc: Global, blank: Blank) 
     assert_eq!(rt; tree.gather(rt, &mut all), Err(Refusal::SharesLeft(1)));
     all.merge(share);
     assert_eq!(rt; tree.gather(rt, &mut all), Ok(6));
+    let (written, journal) = tree.gather_entries(rt, &mut all)?;
+    assert_eq!(rt; (written, journal.len()), (6, 7));
     let journal = tree.entries(rt)?;
     assert_eq!(rt; journal.len(), 7);
     assert_eq!(rt; check(alloc, &journal)?, Verdict::Legal);
@@ -138,7 +149,7 @@ fn writes_down<L: Ledger, R: Wait + Abort>(rt: &R, alloc: Global, blank: Blank) 
         Err((refusal, tree)) => {
             assert_eq!(rt; refusal, Refusal::WorkersLeft(1));
             assert!(rt; tree.release(rt, worker).is_ok());
-            closes_with(rt, tree)
+            closes_with(rt, alloc, tree, &mut all)
         }
     }
 }
