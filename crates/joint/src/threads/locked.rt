@@ -1,6 +1,6 @@
 //! What an index keeps under its lock, and the holds of that lock.
 
-ghost use Rattle.std.specs.Prelude.{◌≡◌, ℕ, MatchResult};
+ghost use Rattle.std.specs.Prelude.{◌≡◌, ℕ, IfOk, MatchResult};
 ghost use Rattle.joint.specs.declared.steps.Op.{Op};
 ghost use Rattle.joint.specs.declared.steps.Report.{Report};
 ghost use Rattle.joint.specs.declared.steps.Step.{Step};

@@ -414,9 +414,7 @@ impl<P: Payload + Small, T: Locked<P>> Tree<P, T> {
         let kept = self.hold(rt);
         let machine = kept.world();
         machine.sound();
-        let sizes = machine
-            .charged()
-            .saturating_sub(machine.account().charged);
+        let sizes = machine.charged().saturating_sub(machine.account().charged);
         self.account.charged.saturating_add(sizes)
     }
 

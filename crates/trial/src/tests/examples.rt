@@ -26,8 +26,8 @@ use crossbeam_utils::sync::ShardedLock;
 use joint::{Done, Event, Kind, Limits, Op, Outcome, Ran, Refusal, Report, Step, World};
 use judge::{Call, Entry, Reply};
 use std::alloc::{AllocError, Global};
-use std::sync::{Arc, Mutex};
 use std::sync::atomic::{AtomicU64, Ordering};
+use std::sync::{Arc, Mutex};
 use std::test::Fail;
 use std::vec::Vec;
 
