@@ -16,6 +16,7 @@ use crate::protocol::phase::{
 use crate::protocol::scan::ScanReport;
 use crate::protocol::store::{NodeName, Reading, Refusal, Stamp};
 use judge::{Payload, Reply};
+use std::mem;
 
 /// What a step leaves: the call's next step, and what is reported. Contracts speak of both as one; a step changes the
 /// phase where it lies, and gives its report.
@@ -34,7 +35,8 @@ impl<C: NodeName, P: Payload> Phase<C, P> {
     fn leave(&mut self, next: Self, decided: bool, outcome: Outcome<P>) -> Move<P>
         ensures { next_phase_of self.new result ≡ record { phase = next; report = record { decided = decided; skipped = false; outcome = outcome } } }
     {
-        *self = next;
+        // The phase before is moved out and dropped whole: in place, each of its variants would be a step of the proof.
+        drop(mem::replace(self, next));
         Move {
             decided,
             skipped: false,

@@ -1,5 +1,6 @@
 use Rattle.std.proofs.Common.{◌≡◌, [], ◌∙◌}
 use Rattle.congee.proofs.lemmas.protocol.Traces.{all_end_alone, fresh_end_alone}
+use Rattle.congee.proofs.lemmas.protocol.Destroys.{spares}
 use Rattle.congee.proofs.lemmas.protocol.ManyCalls.{all_or_none}
 use Rattle.congee.proofs.protocol.run.play.Goals as goal
 

@@ -1,4 +1,4 @@
-use Rattle.std.proofs.Common.{◌≡◌, ◌-◌, ◌+◌, [], ◌∷◌, inl, inr, refl, sym, ◌∙◌, ap, length, take, drop, append-nil, arith}
+use Rattle.std.proofs.Common.{◌≡◌, ◌≤◌, ◌-◌, ◌+◌, ◌⊎◌, [], ◌∷◌, ◌++◌, inl, inr, refl, sym, ◌∙◌, ap, length, take, drop, append-nil, arith}
 use Rattle.std.specs.Vec.{vec_len}
 use Rattle.std.specs.Prelude.{vec_capacity}
 use Rattle.std.specs.Vec.Iter.{into_iter_items}

@@ -2,7 +2,7 @@ use Rattle.std.proofs.Common.{◌^◌, ◌-◌, sym, subst, ℕ, None, arith}
 use Rattle.std.specs.FinMap as map
 use Rattle.congee.specs.owned.Owners.{never_same}
 use Rattle.congee.specs.owned.Wanted.{wants_of, InsertionFits, IsRefused}
-use Rattle.congee.proofs.lemmas.owned.Contents.{insert_told, grown, found_at, fitted_at, refused_at, denied_tree, denied_bytes}
+use Rattle.congee.proofs.lemmas.owned.Contents.{insert_told, grown, found_at, fitted_at, refused_at, denied_tree, denied_bytes, denied_branch}
 use Rattle.congee.proofs.lemmas.owned.Fulls.{same_lacking, still_none}
 use Rattle.congee.proofs.lemmas.owned.Surveys.{same_nodes}
 use Rattle.congee.proofs.lemmas.owned.Tables.{same_pairs}
@@ -23,6 +23,7 @@ pub invariant_of-self-2 : goal.invariant_of-self-2
 invariant_of-self-2 g c = (
   denied_tree _ _ _ _ _ _ _ _ c.self.invariant.0 c.in-Err.ensures.refused,
   omega (arith, denied_bytes _ _ _ _ _ _ _ _ c.in-Err.ensures.refused, c.in-Err.ensures.refused.balance, c.self.invariant.1),
+  denied_branch _ _ _ _ _ _ _ _ c.in-Err.ensures.refused c.self.invariant.2,
 )
 
 pub returns-clause-refused : goal.returns-clause-refused
