@@ -5,7 +5,7 @@ use Rattle.std.specs.FinMap as map
 use Rattle.std.proofs.lemmas.Bool.{cases_lt}
 use Rattle.std.proofs.lemmas.Bool.Decides.{nat_tests}
 use Rattle.judge.specs.Answer.{Pairs}
-use Rattle.congee.specs.forms.Bytes.{IsFirst}
+use Rattle.congee.specs.owned.Nearest.{IsLeastPair}
 use Rattle.congee.specs.forms.Places.{AllKeys}
 use Rattle.congee.specs.Heap.{Node, Hung, Nothing, Below, Holds, Stands, fits, value_at}
 use Rattle.congee.specs.Keys.{key_bytes, IsMapOf}
@@ -122,7 +122,7 @@ module _ {V : Type 0} (h : ℕ → Node V) (n : ℕ) (i : IsNodeIn h n) (x : Reg
   value_is : value_at h (key_bytes key) ≡ Some v
   value_is = value_at_linked i.tree.notes h i.tree.tree n (key_bytes key) (Holds v) i.linked fits_key.1 (ap (λ y. (h n).children y) (sym byte_is) ∙ was)
 
-  first : (m : Pairs V) → AgreesFrom h key m → IsFirst m key key v
+  first : (m : Pairs V) → AgreesFrom h key m → IsLeastPair m key key v
   first m agrees = record {
     past = omega arith;
     here = agrees key (omega arith) fits_key.0 ∙ value_is;
