@@ -198,7 +198,7 @@ impl<T: Pointable + Drop> Atomic<T> {
         let next = Tagged::<T>::new(link).load();
         match self.link.exchange(rt, current.link(), next) {
             Ok(()) => match new.enter(rt, guard) {
-                Ok(tagged) => Ok(Ok(Shared::of(tagged.load()))),
+                Ok(_) => Ok(Ok(Shared::of(next))),
                 Err(_) => unreachable!(),
             },
             Err(now) => Ok(Err(CompareExchangeError {
