@@ -1,6 +1,6 @@
 //! The collector.
 
-ghost use Rattle.std.specs.Prelude.{◌≡◌, ◌<◌, ◌≤◌, ◌+◌, ◌^◌, ◌&&◌, ℕ, [], None, nat_eq, IfOk, IfErr, IfSome, OnSome, IsSomeAnd, MatchOption, MatchResult};
+ghost use Rattle.std.specs.Prelude.{◌≡◌, ◌<◌, ◌≤◌, ◌+◌, ◌^◌, ◌&&◌, ℕ, length, [], None, nat_eq, IfOk, IfErr, IfSome, OnSome, IsSomeAnd, MatchOption, MatchResult};
 ghost use Rattle.std.specs.Bool.{MatchBool};
 ghost use Rattle.crossbeam_epoch.specs.Bags.{jobs_in};
 ghost use Rattle.crossbeam_epoch.specs.Limits.{within, most_bags};
@@ -9,13 +9,13 @@ ghost use Rattle.crossbeam_epoch.specs.Face.Pins.{IsRead, IsDue};
 ghost use Rattle.crossbeam_epoch.specs.Face.Queue.{IsTaken, TakesAll};
 ghost use Rattle.crossbeam_epoch.specs.Face.Tokens.{known, IsOf};
 
-use crate::bag::{BAGS, Bag, Work};
+use crate::bag::{BAGS, Bag, Sealed, Work};
 use crate::face::collected::Collected;
 use crate::face::handle::LocalHandle;
 use crate::face::internal::{Internal, Names};
 use crate::face::lent::{Lent, LentMut};
 use crate::face::pins::{Ended, Pins};
-use crate::face::queue::{EXPIRY, Emptied, Opened, Queue, Queued, Seal};
+use crate::face::queue::{EXPIRY, Opened, Queue, Queued, Seal};
 use crate::face::seats::Token;
 use crate::face::slots::{Claimed, Slots};
 use crate::fault::Fault;
@@ -252,21 +252,24 @@ impl<T: Drop, J: Task> Collector<T, J> {
         if let Some(none) = held.queue.none_expired(seen) {
             return called.at_rest(none);
         }
-        let bag = held.queue.pop_expired(token, seen);
+        let mut opened = Opened::none();
+        let Sealed { seal: _, jobs } = held.queue.pop_expired(token, seen, &mut opened);
         let rest = held.queue.none_expired(seen);
         drop(held);
-        let called = called.one_more(self.call(rt, bag));
+        self.call(rt, &mut opened, jobs);
+        let called = called.one_more(opened.finish());
         match rest {
             Some(none) => called.at_rest(none),
             None => called,
         }
     }
 
-    /// Calls the jobs of this bag, the first one first.
-    fn call<R: Wait>(&self, rt: &R, bag: Opened<J>) -> Emptied
-        ensures { result.seal ≡ bag.seal }
+    /// Calls these jobs, the first one first.
+    fn call<R: Wait>(&self, rt: &R, opened: &mut Opened, jobs: Bag<J>)
+        requires { (length jobs ≡ opened.old.jobs) × (opened.old.taken ≡ 0) }
+        ensures { (opened.new ≡ record opened.old { taken = opened.new.taken }) × (opened.old.jobs ≤ opened.new.taken) }
     {
-        call_jobs(bag, |name| drop(self.remove(rt, name)))
+        call_jobs(opened, jobs, |name| drop(self.remove(rt, name)));
     }
 }
 
@@ -274,24 +277,26 @@ impl<T: Drop, J: Task> Collector<T, J> {
 fn call_bags<T: Drop, J: Task>(slots: &Slots<T>, queue: &mut Queue<J>, ended: &Ended)
     ensures { queue.new.bags.items ≡ [] }
 {
-    while let Some(bag) = queue.pop(ended) {
-        call_jobs(bag, |name| drop(slots.remove(name)));
+    let mut opened = Opened::none();
+    while let Some(bag) = queue.pop(ended, &mut opened) {
+        call_jobs(&mut opened, bag.jobs, |name| drop(slots.remove(name)));
     }
+    opened.finish();
 }
 
 /// Calls the jobs of a bag, the first one first; `remove` takes a value out of its cell for good.
-fn call_jobs<J: Task, F: Fn(Name) + Drop>(mut bag: Opened<J>, remove: F) -> Emptied
-    requires { F.IsAlwaysCallable remove }
-    ensures { result.seal ≡ bag.seal }
+fn call_jobs<J: Task, F: Fn(Name) + Drop>(opened: &mut Opened, mut jobs: Bag<J>, remove: F)
+    requires callable { F.IsAlwaysCallable remove }
+    requires bag { (length jobs ≡ opened.old.jobs) × (opened.old.taken ≡ 0) }
+    ensures { (opened.new ≡ record opened.old { taken = opened.new.taken }) × (opened.old.jobs ≤ opened.new.taken) }
 {
-    while let Some(work) = bag.next() {
+    while let Some(work) = opened.next(&mut jobs) {
         match work {
             Work::Blank => {}
             Work::Remove(name) => remove(name),
             Work::Run(job) => job.run(),
         }
     }
-    bag.finish()
 }
 
 impl<T, J: Task> Debug for Collector<T, J> {

@@ -32,12 +32,11 @@ impl Queued {
     }
 }
 
-/// A bag that was taken off the queue, to have its jobs called. The queue alone gives one, to who may open the bag; it can't
-/// be dropped, and is spent by `finish`, once each job was taken out.
-pub struct Opened<J> {
+/// Which bag came off the queue last, to have its jobs called, and how many of them were taken out. The queue alone tells of a
+/// bag. It can't be dropped, and is spent by `finish`, once each job was taken out.
+pub struct Opened {
     seal: u64,
-    jobs: Bag<J>,
-    /// The jobs below this place were taken out.
+    jobs: usize,
     taken: usize,
 }
 
@@ -56,45 +55,45 @@ impl Emptied {
     }
 }
 
-impl<J: Drop> Opened<J> {
-    /// A bag none of whose jobs was taken out.
-    fn of(bag: Sealed<J>) -> Opened<J>
-        ensures { result ≡ record { seal = bag.seal; jobs = bag.jobs; taken = 0 } }
+impl Opened {
+    /// No bag yet.
+    pub fn none() -> Opened
+        ensures { result ≡ record { seal = 0; jobs = 0; taken = 0 } }
     {
-        let Sealed { seal, jobs } = bag;
         Opened {
-            seal,
-            jobs,
+            seal: 0,
+            jobs: 0,
             taken: 0,
         }
     }
 
-    /// Takes the next job's work out; `None` where each was.
-    pub fn next(&mut self) -> Option<Work<J>>
-        ensures bag { (self.new.seal ≡ self.old.seal) × (length self.new.jobs ≡ length self.old.jobs) }
+    /// Takes the next job's work out of the bag; `None` where each was.
+    pub fn next<J: Drop>(&mut self, bag: &mut Bag<J>) -> Option<Work<J>>
+        requires { length bag.old ≡ self.old.jobs }
+        ensures same { self.new ≡ record self.old { taken = self.new.taken } }
+        ensures length { length bag.new ≡ length bag.old }
         ensures work { MatchOption result
-            ((length self.old.jobs ≤ self.old.taken) × (self.new.taken ≡ self.old.taken))
-            (λ w. (self.old.taken < length self.old.jobs) × (self.new.taken ≡ self.old.taken + 1) × ((e : _) × (e ≡ slice_index_or self.old.jobs self.old.taken e) × (w ≡ e.work))) }
+            ((self.old.jobs ≤ self.old.taken) × (self.new.taken ≡ self.old.taken))
+            (λ w. (self.old.taken < self.old.jobs) × (self.new.taken ≡ self.old.taken + 1) × ((e : _) × (e ≡ slice_index_or bag.old self.old.taken e) × (w ≡ e.work))) }
     {
-        if self.taken >= self.jobs.len() {
+        if self.taken >= bag.len() {
             return None;
         }
-        let work = self.jobs.take_work(self.taken)?;
+        let work = bag.take_work(self.taken)?;
         self.taken += 1;
         Some(work)
     }
 
     /// That each job was taken out.
     pub fn finish(self) -> Emptied
-        requires { length self.jobs ≤ self.taken }
+        requires { self.jobs ≤ self.taken }
         ensures { result.seal ≡ self.seal }
     {
         let Opened {
             seal,
-            jobs,
+            jobs: _,
             taken: _,
         } = self;
-        drop(jobs);
         Emptied { seal }
     }
 }
@@ -181,29 +180,37 @@ impl<J: Task> Queue<J> {
         }
     }
 
-    /// Takes the front bag off, for a seat that saw an epoch which is two past the bag's seal.
-    pub fn pop_expired(&mut self, _token: &Token, seen: u64) -> Opened<J>
+    /// Takes the front bag off, for a seat that saw an epoch which is two past the bag's seal. Of the bag before it each job was
+    /// taken out.
+    pub fn pop_expired(&mut self, _token: &Token, seen: u64, opened: &mut Opened) -> Sealed<J>
         requires seen { (known _token.now).seen ≡ seen }
         requires expired { is_front_expired (λ b. b.seal) self.old.bags.items seen ≡ true }
+        requires spent { opened.old.jobs ≤ opened.old.taken }
         ensures due { result.seal + 2 ≤ seen }
-        ensures bags { self.old.bags.items ≡ record { seal = result.seal; jobs = result.jobs } ∷ self.new.bags.items }
-        ensures whole { result.taken ≡ 0 }
+        ensures bags { self.old.bags.items ≡ result ∷ self.new.bags.items }
+        ensures opened { opened.new ≡ record { seal = result.seal; jobs = length result.jobs; taken = 0 } }
     {
         match self.bags.pop_front() {
-            Some(bag) => Opened::of(bag),
+            Some(bag) => {
+                opened.seal = bag.seal;
+                opened.jobs = bag.jobs.len();
+                opened.taken = 0;
+                bag
+            }
             None => unreachable!(),
         }
     }
 
-    /// Takes the front bag off, at the end.
-    pub fn pop(&mut self, _ended: &Ended) -> Option<Opened<J>>
-        ensures { MatchOption result
-            ((self.old.bags.items ≡ []) × (self.new.bags.items ≡ []))
-            (λ b. (self.old.bags.items ≡ record { seal = b.seal; jobs = b.jobs } ∷ self.new.bags.items) × (b.taken ≡ 0)) }
+    /// Takes the front bag off, at the end. Of the bag before it each job was taken out.
+    pub fn pop(&mut self, _ended: &Ended, opened: &mut Opened) -> Option<Sealed<J>>
+        requires spent { opened.old.jobs ≤ opened.old.taken }
+        ensures bags { MatchOption result ((self.old.bags.items ≡ []) × (self.new.bags.items ≡ [])) (λ b. self.old.bags.items ≡ b ∷ self.new.bags.items) }
+        ensures opened { MatchOption result (opened.new ≡ opened.old) (λ b. opened.new ≡ record { seal = b.seal; jobs = length b.jobs; taken = 0 }) }
     {
-        match self.bags.pop_front() {
-            Some(bag) => Some(Opened::of(bag)),
-            None => None,
-        }
+        let bag = self.bags.pop_front()?;
+        opened.seal = bag.seal;
+        opened.jobs = bag.jobs.len();
+        opened.taken = 0;
+        Some(bag)
     }
 }

@@ -20,4 +20,4 @@ pub returns-in-Some-clause-sealed : goal.returns-in-Some-clause-sealed
 returns-in-Some-clause-sealed g c =
     let out = c.owns.ensures.out c.if-not-owns.false in
     let some : 0 < length c.args.self.now.bag = subst (λ b. 0 < length b) (ap (λ h. h.bag) c.self.view_is) (some_job _ _ c.is_empty.ensures c.if-is_empty.false) in
-    sealed_now _ _ _ _ _ _ (lt-ltb 0 _ some) c.in-Some.ensures.queued.0 (c.in-Some.ensures.queued.1 ∙ ap (λ h. jobs_in h.bag) c.self.view_is) (c.look-seal.ensures.read out)
+    sealed_now _ _ _ _ _ _ (lt-ltb 0 _ some) c.in-Some.ensures.queued.0 (c.in-Some.ensures.queued.1 ∙ (ap (λ h. jobs_in h.bag) c.self-2.view_is ∙ ap (λ h. jobs_in h.bag) c.look-seal.ensures.same)) (c.look-seal.ensures.read out)
