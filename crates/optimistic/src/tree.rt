@@ -8,6 +8,7 @@ mod get;
 mod names;
 mod place;
 mod put;
+mod set;
 mod stores;
 
 pub use get::Tree;

@@ -5,4 +5,5 @@ pub mod Nodes
 pub mod Puts
 pub mod Reading
 pub mod Sets
+pub mod Setting
 pub mod Writing
