@@ -3,6 +3,8 @@ use Rattle.std.proofs.Common.{◌≡◌, ◌≢◌, ℕ, ◌+◌, ◌%◌, ◌<�
 use mathlib.Core.Logic.{dite}
 use native.Mathlib.Decide.{ℕ_discrete}
 use Rattle.optimistic.specs.Layout.{width, room, leaf_of, where_of}
+use Rattle.optimistic.specs.declared.tree.set.Set.{Set}
+use Rattle.optimistic.specs.declared.tree.set.Set.TheVariants.{Done, Again, Full, Taken}
 use Rattle.optimistic.specs.declared.words.rule.Note.{Note}
 use Rattle.optimistic.specs.declared.words.rule.View.{View}
 use Rattle.optimistic.specs.words.Calls.{Later, Keeps, entry_of, Puts}
@@ -10,9 +12,10 @@ use Rattle.optimistic.specs.words.Kept.{word_at, has}
 use Rattle.optimistic.specs.words.Told.{HasForm, Tells, Looks, Locks, Unlocks, IsDrafted}
 use Rattle.optimistic.specs.forms.Children.{is_inner, first_of, IsForm, put_first}
 use Rattle.optimistic.specs.tree.Reads.{Steady, Found}
+use Rattle.optimistic.specs.tree.Sets.{IsSet}
 use Rattle.optimistic.specs.tree.Trees.{IsTree}
 use Rattle.optimistic.specs.tree.Writes.{KeepsBut, HasPut}
-use Rattle.optimistic.proofs.lemmas.words.Chains.{later_puts, unlocks_puts, looks_keeps}
+use Rattle.optimistic.proofs.lemmas.words.Chains.{later_puts, later_keeps, unlocks_puts, looks_keeps}
 use Rattle.optimistic.proofs.lemmas.tree.Reading.{held_agrees}
 use Rattle.optimistic.proofs.lemmas.tree.Sets.{set_note}
 use Rattle.optimistic.proofs.lemmas.tree.Writing.{words_stay}
@@ -56,3 +59,10 @@ held_first n form first second key byte v w at own shape found = (found (word_at
 pub set_puts : (n form byte x y key value : ℕ) (v w y' z : View) → Looks IsTree v w → HasPut n form byte x y w y' → Unlocks IsTree n (set_note key value) y' z → Puts key (Some value) v z
 set_puts n form byte x y key value v w y' z t p u = let k = looks_keeps IsTree v w t in
     later_puts key (Some value) v w z k.0 (later_puts key (Some value) w y' z p.keeps.later (unlocks_puts IsTree n key (Some value) (set_note key value) y' z refl u))
+
+-- what came of a write that began later
+pub set_later : (key : ℕ) (value : Option ℕ) (r : Set) (v w x : View) → Later v w → IsSet key value r w x → IsSet key value r v x
+set_later key value Done v w x p t = later_puts key value v w x p t
+set_later key value Again v w x p t = later_keeps v w x p t
+set_later key value Full v w x p t = later_keeps v w x p t
+set_later key value Taken v w x p t = later_keeps v w x p t
