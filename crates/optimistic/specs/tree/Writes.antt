@@ -13,6 +13,7 @@ pub record KeepsBut (n : ℕ) (v w : View) : Type 0 where
   pub later : Later v w
   pub since : Since v.seen w.seen
   pub version : version_at w.seen.words n ≡ version_at v.seen.words n
+  pub mine : w.mine ≡ v.mine
   pub has_it : (m : ℕ) → has v.mine m ≡ true → has w.mine m ≡ true
   pub words : (m : ℕ) → has v.mine m ≡ true → m ≢ n → SameWords m v.seen w.seen
   pub calm : (m : ℕ) → has v.mine m ≡ true → Calm m v.seen w.seen

@@ -104,6 +104,7 @@ pub record Unlocks (good : Good) (n : ℕ) (note : Note) (v w : View) : Type 0 w
   pub since : Since v.seen b
   pub held : Held v.mine v.seen b
   pub after : Since v.seen w.seen
+  pub was : Sound good b
   pub sound : Sound good w.seen
   pub mine : w.mine ≡ tenure n false ∷ v.mine
   pub made : w.made ≡ v.made ++ decided v.by note.entry

@@ -312,6 +312,7 @@ module _ (good : Good) (count : ℕ) where
             since = f.since;
             held = f.held;
             after = since_trans v.seen m m' f.since since;
+            was = k.sound;
             sound = sound;
             mine = refl;
             made = refl;
