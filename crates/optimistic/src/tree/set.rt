@@ -5,20 +5,20 @@ ghost use Rattle.optimistic.specs.words.Kept.{word_at};
 ghost use Rattle.optimistic.specs.words.Told.{view, IsOf, HasForm, IsDrafted};
 ghost use Rattle.optimistic.specs.forms.Children.{is_inner};
 ghost use Rattle.optimistic.specs.tree.Reads.{IsPlace};
-ghost use Rattle.optimistic.specs.tree.Sets.{IsSet};
+ghost use Rattle.optimistic.specs.tree.Sets.{IsSet, HasNoMore, LetsGo};
 ghost use Rattle.optimistic.specs.tree.Trees.{IsTree};
 
 use crate::forms::names::{key_byte, leaf_word, where_word};
 use crate::tree::get::Tree;
-use crate::tree::names::goes_on;
+use crate::tree::names::{goes_on, pair_value};
 use crate::tree::place::{Child, Place};
 use crate::words::{Entry, Hand, Note};
 
 /// What came of a write at a node.
 #[derive(Clone, Copy, Drop)]
 pub enum Set {
-    /// It was made.
-    Done,
+    /// It was made. The key had this before.
+    Done(Option<u64>),
     /// The node was changed meanwhile, or isn't the key's last one.
     Again,
     /// The node has no room.
@@ -74,6 +74,7 @@ impl Tree {
         requires leaves { (is_inner at.form ≡ true) ⊎ (at.level ≡ 7) }
         ensures of { IsOf self.now.nodes.table.shared.table_id hand.new }
         ensures set { IsSet key (Some value) result (view hand.old) (view hand.new) }
+        ensures lets_go { LetsGo at.node (view hand.old) (view hand.new) }
     {
         let byte = key_byte(key, at.level);
         let child = self.child(hand, at, key, byte);
@@ -102,7 +103,7 @@ impl Tree {
             form: 0,
         };
         self.nodes.unlock(hand, at.node, at.form, version, &note);
-        Set::Done
+        Set::Done(pair_value(child, key))
     }
 
     /// The same at a node that may not cover the key.
@@ -113,6 +114,7 @@ impl Tree {
         requires drafted { IsDrafted at.node version (view hand.old) }
         ensures of { IsOf self.now.nodes.table.shared.table_id hand.new }
         ensures set { IsSet key (Some value) result (view hand.old) (view hand.new) }
+        ensures lets_go { LetsGo at.node (view hand.old) (view hand.new) }
     {
         let found = self.read(hand, at.node, at.form, 1);
         let fits = has_leaf(at, found, key);
@@ -129,6 +131,7 @@ impl Tree {
         requires at { IsPlace at (view hand.old) }
         ensures of { IsOf self.now.nodes.table.shared.table_id hand.new }
         ensures set { IsSet key (Some value) result (view hand.old) (view hand.new) }
+        ensures no_more { HasNoMore (view hand.old) (view hand.new) }
     {
         let version = self.nodes.load(hand, at.node, at.form, 0);
         let free = is_free(version);

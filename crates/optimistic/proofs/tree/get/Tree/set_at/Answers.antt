@@ -3,7 +3,7 @@ use Rattle.optimistic.specs.Layout.{width}
 use Rattle.optimistic.specs.tree.Trees.{IsTree}
 use Rattle.optimistic.proofs.lemmas.words.Chains.{looks_keeps, locks_keeps, locks_drafts, later_trans}
 use Rattle.optimistic.proofs.lemmas.words.Moments.{width_some, width_more}
-use Rattle.optimistic.proofs.lemmas.tree.Setting.{set_later}
+use Rattle.optimistic.proofs.lemmas.tree.Setting.{set_later, back, no_more, no_more_from}
 use Rattle.optimistic.proofs.tree.get.Tree.set_at.Goals as goal
 
 pub load-version-requires-clause-at : goal.load-version-requires-clause-at
@@ -31,3 +31,7 @@ pub returns-clause-set : goal.returns-clause-set
 returns-clause-set c = let v = c.args.hand.now.me.0 in let a = c.load-version.new.hand.me.0 in let b = c.lock-locked.new.hand.me.0 in
     set_later c.args.key (Some c.args.value) c.set_locked.result v b c.set_locked.new.hand.me.0
     (later_trans v a b (looks_keeps IsTree v a c.load-version.ensures.looks).0 (locks_keeps IsTree c.args.at.node c.load-version.result a b c.if-not-locked.ensures.locked).0) c.set_locked.ensures.set
+
+pub returns-clause-no_more : goal.returns-clause-no_more
+returns-clause-no_more c = let v = c.args.hand.now.me.0 in let a = c.load-version.new.hand.me.0 in let b = c.lock-locked.new.hand.me.0 in let z = c.set_locked.new.hand.me.0 in
+    no_more_from v a z c.load-version.ensures.looks.mine (back c.args.at.node a b z c.if-not-locked.ensures.locked.mine c.set_locked.ensures.lets_go)

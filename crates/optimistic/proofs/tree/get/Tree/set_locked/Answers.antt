@@ -4,7 +4,7 @@ use Rattle.optimistic.specs.tree.Trees.{IsTree}
 use Rattle.optimistic.proofs.lemmas.words.Chains.{looks_keeps}
 use Rattle.optimistic.proofs.lemmas.words.Moments.{width_some, width_more}
 use Rattle.optimistic.proofs.lemmas.tree.Sets.{looks_drafted}
-use Rattle.optimistic.proofs.lemmas.tree.Setting.{held_word, set_later}
+use Rattle.optimistic.proofs.lemmas.tree.Setting.{held_word, set_later, gone, gone_from}
 use Rattle.optimistic.proofs.tree.get.Tree.set_locked.Goals as goal
 
 pub read-found-requires-clause-inside : goal.read-found-requires-clause-inside
@@ -32,3 +32,6 @@ set_there-requires-clause-leaves c = (c.has_leaf-fits.ensures c.if-not-fits.fals
 
 pub returns-clause-set : goal.returns-clause-set
 returns-clause-set c = set_later c.args.key (Some c.args.value) c.set_there.result c.args.hand.now.me.0 c.read-found.new.hand.me.0 c.set_there.new.hand.me.0 (looks_keeps IsTree c.args.hand.now.me.0 c.read-found.new.hand.me.0 c.read-found.ensures.looks).0 c.set_there.ensures.set
+
+pub returns-clause-lets_go : goal.returns-clause-lets_go
+returns-clause-lets_go c = gone_from c.args.at.node c.args.hand.now.me.0 c.read-found.new.hand.me.0 c.set_there.new.hand.me.0 c.read-found.ensures.looks.mine c.set_there.ensures.lets_go
