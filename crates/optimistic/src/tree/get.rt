@@ -59,6 +59,8 @@ impl Tree {
         requires at { IsPlace at (view hand.old) }
         ensures of { IsOf self.now.nodes.table.shared.table_id hand.new }
         ensures keeps { Keeps (view hand.old) (view hand.new) }
+        ensures mine { (view hand.new).mine ≡ (view hand.old).mine }
+        ensures place { IsPlace at (view hand.new) }
         ensures look { IsLook key result (view hand.new) }
     {
         let version = self.nodes.load(hand, at.node, at.form, 0);

@@ -1,6 +1,7 @@
 //! A key's leaf that is written at its last node, where there is room.
-ghost use Rattle.std.specs.Prelude.{◌≡◌, ◌≢◌, ℕ, ◌<◌, ◌≤◌, ◌+◌, ◌%◌, ◌^◌, ◌⊎◌, Some, true, MatchBool};
+ghost use Rattle.std.specs.Prelude.{◌≡◌, ◌≢◌, ℕ, ◌<◌, ◌≤◌, ◌+◌, ◌%◌, ◌^◌, ◌⊎◌, IfSome, Some, true, MatchBool};
 ghost use Rattle.optimistic.specs.Layout.{width, where_of, leaf_of};
+ghost use Rattle.optimistic.specs.words.Calls.{Keeps};
 ghost use Rattle.optimistic.specs.words.Kept.{word_at};
 ghost use Rattle.optimistic.specs.words.Told.{view, IsOf, HasForm, IsDrafted};
 ghost use Rattle.optimistic.specs.forms.Children.{is_inner};
@@ -9,9 +10,9 @@ ghost use Rattle.optimistic.specs.tree.Sets.{IsSet, HasNoMore, LetsGo};
 ghost use Rattle.optimistic.specs.tree.Trees.{IsTree};
 
 use crate::forms::names::{key_byte, leaf_word, where_word};
-use crate::tree::get::Tree;
+use crate::tree::get::{TOP, Tree};
 use crate::tree::names::{goes_on, pair_value};
-use crate::tree::place::{Child, Place};
+use crate::tree::place::{Child, Look, Place};
 use crate::words::{Entry, Hand, Note};
 
 /// What came of a write at a node.
@@ -64,6 +65,29 @@ fn is_open(first: u64, leaf: u64) -> bool
 }
 
 impl Tree {
+    /// The last node on the way to a key, if no writer comes between.
+    fn reach(&self, hand: &mut Hand, key: u64) -> Option<Place>
+        requires of { IsOf self.now.nodes.table.shared.table_id hand.old }
+        ensures of { IsOf self.now.nodes.table.shared.table_id hand.new }
+        ensures keeps { Keeps (view hand.old) (view hand.new) }
+        ensures mine { (view hand.new).mine ≡ (view hand.old).mine }
+        ensures place { IfSome result (λ p. IsPlace p (view hand.new)) }
+    {
+        let mut at = TOP;
+        let mut next = self.look(hand, at, key);
+        for _ in 0..9 {
+            match next {
+                Look::Answer(_) => return Some(at),
+                Look::Down(below) => {
+                    at = below;
+                    next = self.look(hand, at, key);
+                }
+                Look::Again => return None,
+            }
+        }
+        None
+    }
+
     /// Writes a key's leaf at a node that the hand has, and that covers the key, if there is room, and lets the node go.
     fn set_there(&self, hand: &mut Hand, at: Place, version: u64, key: u64, value: u64) -> Set
         requires of { IsOf self.now.nodes.table.shared.table_id hand.old }
@@ -143,5 +167,18 @@ impl Tree {
             return Set::Again;
         }
         self.set_locked(hand, at, version + 1, key, value)
+    }
+
+    /// Writes a key, if no writer comes between, and its last node has room. The key had what is answered right before the write.
+    pub fn try_insert(&self, hand: &mut Hand, key: u64, value: u64) -> Set
+        requires of { IsOf self.now.nodes.table.shared.table_id hand.old }
+        ensures of { IsOf self.now.nodes.table.shared.table_id hand.new }
+        ensures set { IsSet key (Some value) result (view hand.old) (view hand.new) }
+        ensures no_more { HasNoMore (view hand.old) (view hand.new) }
+    {
+        match self.reach(hand, key) {
+            Some(at) => self.set_at(hand, at, key, value),
+            None => Set::Again,
+        }
     }
 }
