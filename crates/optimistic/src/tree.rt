@@ -10,5 +10,6 @@ mod place;
 mod put;
 mod set;
 mod stores;
+mod take;
 
 pub use get::Tree;

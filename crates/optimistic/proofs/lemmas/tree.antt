@@ -6,4 +6,5 @@ pub mod Puts
 pub mod Reading
 pub mod Sets
 pub mod Setting
+pub mod Taking
 pub mod Writing

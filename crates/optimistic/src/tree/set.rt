@@ -106,10 +106,22 @@ impl Tree {
         let open = is_open(child.first, leaf);
         if !open {
             self.nodes.release(hand, at.node, at.form, version);
-            return if goes_on(child, key) { Set::Again } else { Set::Taken };
+            return if goes_on(child, key) {
+                Set::Again
+            } else {
+                Set::Taken
+            };
         }
         let first = leaf;
-        let put = self.put(hand, at, byte, Child { first, second: value });
+        let put = self.put(
+            hand,
+            at,
+            byte,
+            Child {
+                first,
+                second: value,
+            },
+        );
         if !put {
             self.nodes.release(hand, at.node, at.form, version);
             return Set::Full;

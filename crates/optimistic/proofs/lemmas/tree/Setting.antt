@@ -68,7 +68,7 @@ pub ends_value : (calm : List Block) (log : List Entry) (n key first second : �
     → pair_value first second key ≡ value_of key log
 ends_value calm log n key first second t here one two ends = dite (ℕ_discrete first 0)
     (λ (z : first ≡ 0). let e : first_at calm n key ≡ 0 = one ∙ z in let x : ℕ = second_at calm n key in
-      (λ i. pair_value (z i) second key) ∙ (none_value second key ∙ (sym (none_value x key) ∙ ((λ i. pair_value (sym e i) x key) ∙ t.nodes.means n key (here, (λ i. goes_on (e i) x key) ∙ none_ends x key)))))
+    (λ i. pair_value (z i) second key) ∙ (none_value second key ∙ (sym (none_value x key) ∙ ((λ i. pair_value (sym e i) x key) ∙ t.nodes.means n key (here, (λ i. goes_on (e i) x key) ∙ none_ends x key)))))
     (λ ne. let g = two ne in (λ i. pair_value (sym one i) (sym g i) key) ∙ t.nodes.means n key (here, (λ i. goes_on (one i) (g i) key) ∙ ends))
 
 inside : (n form j : ℕ) (v : View) → HasForm n form v → j < width form → j < size v.seen.plots n
@@ -102,16 +102,16 @@ unlocks_replaces n key value old v w t is = let e : List Entry = entry_of v.by k
 pub later_replaces : (key : ℕ) (value old : Option ℕ) (v w x : View) → Later v w → Replaces key value old w x → Replaces key value old v x
 later_replaces key value old v w x p s = let t = s.0 in let e : ℕ → List Entry = λ z. entry_of z key value ∷ [] in
     let log : w.seen.log ++ t.0 ≡ v.seen.log ++ (p.0.0 ++ t.0) = ap (λ (l : List Entry). l ++ t.0) p.0.1 ∙ append_assoc v.seen.log p.0.0 t.0 in (
-  (
-    p.0.0 ++ t.0,
-    t.1,
-    t.2 ∙ ((λ i. (log i ++ e w.by) ++ t.1) ∙ ap (λ (z : ℕ). ((v.seen.log ++ (p.0.0 ++ t.0)) ++ e z) ++ t.1) p.2),
-    t.3 ∙ (ap (λ (l : List Entry). l ++ e w.by) p.1 ∙ ap (λ (z : ℕ). v.made ++ e z) p.2),
-    t.4 ∙ p.2,
-    t.5,
-  ),
-  s.1 ∙ ap (λ (l : List Entry). value_of key l) log,
-)
+      (
+        p.0.0 ++ t.0,
+        t.1,
+        t.2 ∙ ((λ i. (log i ++ e w.by) ++ t.1) ∙ ap (λ (z : ℕ). ((v.seen.log ++ (p.0.0 ++ t.0)) ++ e z) ++ t.1) p.2),
+        t.3 ∙ (ap (λ (l : List Entry). l ++ e w.by) p.1 ∙ ap (λ (z : ℕ). v.made ++ e z) p.2),
+        t.4 ∙ p.2,
+        t.5,
+      ),
+      s.1 ∙ ap (λ (l : List Entry). value_of key l) log,
+    )
 
 pub set_replaces : (n form byte x y key value : ℕ) (old : Option ℕ) (v w y' z : View) → Looks IsTree v w → HasPut n form byte x y w y' → (u : Unlocks IsTree n (set_note key value) y' z) → old ≡ value_of key u.b.log → Replaces key (Some value) old v z
 set_replaces n form byte x y key value old v w y' z t p u is = let k = looks_keeps IsTree v w t in

@@ -1,0 +1,77 @@
+use Rattle.std.proofs.Common.{◌≡◌, ◌≢◌, ℕ, ◌+◌, ◌*◌, ◌/◌, ◌^◌, ◌<◌, true, false, [], ◌∷◌, refl, sym, ap, ◌∙◌, subst, arith, Some}
+use Rattle.optimistic.specs.Layout.{width, is_link}
+use Rattle.optimistic.specs.words.Kept.{word_at}
+use Rattle.optimistic.specs.words.Told.{Tells, Looks}
+use Rattle.optimistic.specs.forms.Bytes.{with_at}
+use Rattle.optimistic.specs.forms.Children.{taken_in, byte_in, Becomes, Finds}
+use Rattle.optimistic.specs.tree.Trees.{IsTree}
+use Rattle.optimistic.proofs.lemmas.words.Moments.{width_some}
+use Rattle.optimistic.proofs.lemmas.forms.BitsAt.{with_same}
+use Rattle.optimistic.proofs.lemmas.forms.Maps.{with_other}
+use Rattle.optimistic.proofs.lemmas.tree.Reading.{looks_trans}
+use Rattle.optimistic.proofs.lemmas.tree.Taking.{none_tells}
+use Rattle.optimistic.proofs.lemmas.tree.Writing.{but_trans, looks_but, links_low, word_there, words_stay, two_same, two_other, not_link}
+use Rattle.optimistic.proofs.tree.get.Tree.take_from_sixteen.Goals as goal
+
+one_low : 1 < width 2
+unfolding width
+one_low = omega arith
+
+low_2 : 2 < width 2
+unfolding width
+low_2 = omega arith
+
+low_3 : 3 < width 2
+unfolding width
+low_3 = omega arith
+
+low_4 : 4 < width 2
+unfolding width
+low_4 = omega arith
+
+pub load-a-requires-clause-inside : goal.load-a-requires-clause-inside
+unfolding width
+load-a-requires-clause-inside c = omega arith
+
+pub load-b-requires-clause-inside : goal.load-b-requires-clause-inside
+unfolding width
+load-b-requires-clause-inside c = omega arith
+
+pub load-mask-requires-clause-inside : goal.load-mask-requires-clause-inside
+unfolding width
+load-mask-requires-clause-inside c = omega arith
+
+pub take-requires : goal.take-requires
+take-requires c = let l : c.in-Some.place < 16 = c.in-Some.ensures.inside in omega arith
+
+pub overflow_mul-first : goal.overflow_mul-first
+overflow_mul-first c = let l : c.in-Some.place < 16 = c.in-Some.ensures.inside in omega arith
+
+pub overflow_add-first : goal.overflow_add-first
+overflow_add-first c = let l : c.in-Some.place < 16 = c.in-Some.ensures.inside in omega arith
+
+pub write_two-requires-clause-inside_a : goal.write_two-requires-clause-inside_a
+unfolding width
+write_two-requires-clause-inside_a c = let l : c.in-Some.place < 16 = c.in-Some.ensures.inside in (omega arith, omega arith)
+
+pub write_two-requires-clause-inside_b : goal.write_two-requires-clause-inside_b
+unfolding width
+write_two-requires-clause-inside_b c = let l : c.in-Some.place < 16 = c.in-Some.ensures.inside in (omega arith, omega arith)
+
+pub write_two-requires-clause-tells_a : goal.write_two-requires-clause-tells_a
+unfolding is_link
+write_two-requires-clause-tells_a c = λ _. none_tells c.load-mask.new.hand.me.0
+
+pub write_two-requires-clause-tells_b : goal.write_two-requires-clause-tells_b
+unfolding is_link
+write_two-requires-clause-tells_b c = λ link. not_link (Tells _ _) _ (links_low 6 16 4 (omega arith)) link
+
+pub returns-in-Some-clause-taken : goal.returns-in-Some-clause-taken
+returns-in-Some-clause-taken c = record {
+  keeps = but_trans c.args.node c.args.hand.now.me.0 c.load-mask.new.hand.me.0 c.write_two.new.hand.me.0 (looks_but c.args.node 2 c.args.hand.now.me.0 c.load-mask.new.hand.me.0 c.requires.at (width_some 2 (omega arith) (omega arith)) c.requires.mine (looks_trans c.args.hand.now.me.0 c.load-a.new.hand.me.0 c.load-mask.new.hand.me.0 c.load-a.ensures.looks (looks_trans c.load-a.new.hand.me.0 c.load-b.new.hand.me.0 c.load-mask.new.hand.me.0 c.load-b.ensures.looks c.load-mask.ensures.looks))) c.write_two.ensures.keeps;
+  took = let s : Finds 2 (word_at c.args.hand.now.me.0.seen.words c.args.node) c.args.byte (Some c.in-Some.place) = c.in-Some.ensures.finds 2 (word_at c.args.hand.now.me.0.seen.words c.args.node) refl (word_there c.args.node 2 2 c.load-a.result c.args.hand.now.me.0 c.load-a.new.hand.me.0 c.requires.at low_2 c.requires.mine c.load-a.ensures.looks c.load-a.ensures.found) (word_there c.args.node 2 3 c.load-b.result c.args.hand.now.me.0 c.load-b.new.hand.me.0 c.requires.at low_3 c.requires.mine (looks_trans c.args.hand.now.me.0 c.load-a.new.hand.me.0 c.load-b.new.hand.me.0 c.load-a.ensures.looks c.load-b.ensures.looks) c.load-b.ensures.found) c.requires.shape in let l : c.in-Some.place < 16 = c.in-Some.ensures.inside in subst (λ (z : ℕ). Becomes 2 (word_at c.args.hand.now.me.0.seen.words c.args.node) (word_at c.write_two.new.hand.me.0.seen.words c.args.node) z (λ key. 0) 0) s.place.1 (c.take.ensures.sixteen 2 (word_at c.args.hand.now.me.0.seen.words c.args.node) (word_at c.write_two.new.hand.me.0.seen.words c.args.node) refl (word_there c.args.node 2 4 c.load-mask.result c.args.hand.now.me.0 c.load-mask.new.hand.me.0 c.requires.at low_4 c.requires.mine (looks_trans c.args.hand.now.me.0 c.load-a.new.hand.me.0 c.load-mask.new.hand.me.0 c.load-a.ensures.looks (looks_trans c.load-a.new.hand.me.0 c.load-b.new.hand.me.0 c.load-mask.new.hand.me.0 c.load-b.ensures.looks c.load-mask.ensures.looks)) c.load-mask.ensures.found) c.requires.shape l (s.taken c.requires.there.0 c.requires.there.1) (λ j _ low. c.write_two.ensures.written j low ∙ two_same (word_at c.load-mask.new.hand.me.0.seen.words c.args.node) (word_at c.args.hand.now.me.0.seen.words c.args.node) (6 + 2 * c.in-Some.place) 0 4 c.take.result j (words_stay c.args.node 2 j c.args.hand.now.me.0 c.load-mask.new.hand.me.0 c.requires.at low c.requires.mine (looks_trans c.args.hand.now.me.0 c.load-a.new.hand.me.0 c.load-mask.new.hand.me.0 c.load-a.ensures.looks (looks_trans c.load-a.new.hand.me.0 c.load-b.new.hand.me.0 c.load-mask.new.hand.me.0 c.load-b.ensures.looks c.load-mask.ensures.looks)))));
+  covers = c.write_two.ensures.written 1 one_low ∙ (two_other (word_at c.load-mask.new.hand.me.0.seen.words c.args.node) (6 + 2 * c.in-Some.place) 0 4 c.take.result 1 (let l : c.in-Some.place < 16 = c.in-Some.ensures.inside in λ (q : 1 ≡ (6 + 2 * c.in-Some.place)). omega arith) (let l : c.in-Some.place < 16 = c.in-Some.ensures.inside in λ (q : 1 ≡ 4). omega arith) ∙ words_stay c.args.node 2 1 c.args.hand.now.me.0 c.load-mask.new.hand.me.0 c.requires.at one_low c.requires.mine (looks_trans c.args.hand.now.me.0 c.load-a.new.hand.me.0 c.load-mask.new.hand.me.0 c.load-a.ensures.looks (looks_trans c.load-a.new.hand.me.0 c.load-b.new.hand.me.0 c.load-mask.new.hand.me.0 c.load-b.ensures.looks c.load-mask.ensures.looks)));
+}
+
+pub returns-in-None-clause-taken : goal.returns-in-None-clause-taken
+returns-in-None-clause-taken c = (looks_trans c.args.hand.now.me.0 c.load-a.new.hand.me.0 c.load-mask.new.hand.me.0 c.load-a.ensures.looks (looks_trans c.load-a.new.hand.me.0 c.load-b.new.hand.me.0 c.load-mask.new.hand.me.0 c.load-b.ensures.looks c.load-mask.ensures.looks))
