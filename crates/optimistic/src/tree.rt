@@ -8,6 +8,7 @@ mod get;
 mod names;
 mod place;
 mod put;
+mod remove;
 mod set;
 mod stores;
 mod take;

@@ -2,7 +2,7 @@
 ghost use Rattle.std.specs.Prelude.{◌≡◌, ◌≢◌, ℕ, ◌<◌, ◌≤◌, ◌+◌, ◌%◌, ◌^◌, ◌⊎◌, IfSome, Some, true, MatchBool};
 ghost use Rattle.optimistic.specs.Layout.{width, where_of, leaf_of};
 ghost use Rattle.optimistic.specs.words.Calls.{Keeps};
-ghost use Rattle.optimistic.specs.words.Kept.{word_at};
+ghost use Rattle.optimistic.specs.words.Kept.{word_at, value_of};
 ghost use Rattle.optimistic.specs.words.Told.{view, IsOf, HasForm, IsDrafted};
 ghost use Rattle.optimistic.specs.forms.Children.{is_inner};
 ghost use Rattle.optimistic.specs.tree.Reads.{IsPlace};
@@ -28,9 +28,16 @@ pub enum Set {
     Taken,
 }
 
+/// A key's last node, and what the key has there.
+#[derive(Clone, Copy, Drop)]
+pub struct End {
+    pub at: Place,
+    pub value: Option<u64>,
+}
+
 /// Whether a version is one at which its node can be locked.
 #[inline(always)]
-fn is_free(version: u64) -> bool
+pub fn is_free(version: u64) -> bool
     ensures { result ≡ true → (version % 2 ≡ 0) × (version + 2 < 2 ^ 64) }
 {
     version % 2 == 0 && version < u64::MAX - 1
@@ -38,7 +45,7 @@ fn is_free(version: u64) -> bool
 
 /// Whether a node that says this of its keys covers this one, and may have its leaf.
 #[inline(always)]
-fn has_leaf(at: Place, found: u64, key: u64) -> bool
+pub fn has_leaf(at: Place, found: u64, key: u64) -> bool
     requires form { at.form < 9 }
     requires level { at.level < 8 }
     ensures { result ≡ true → (found ≡ where_of at.form at.level key) × ((is_inner at.form ≡ true) ⊎ (at.level ≡ 7)) }
@@ -65,19 +72,20 @@ fn is_open(first: u64, leaf: u64) -> bool
 }
 
 impl Tree {
-    /// The last node on the way to a key, if no writer comes between.
-    fn reach(&self, hand: &mut Hand, key: u64) -> Option<Place>
+    /// The last node on the way to a key, and the key's value, if no writer comes between.
+    pub fn reach(&self, hand: &mut Hand, key: u64) -> Option<End>
         requires of { IsOf self.now.nodes.table.shared.table_id hand.old }
         ensures of { IsOf self.now.nodes.table.shared.table_id hand.new }
         ensures keeps { Keeps (view hand.old) (view hand.new) }
         ensures mine { (view hand.new).mine ≡ (view hand.old).mine }
-        ensures place { IfSome result (λ p. IsPlace p (view hand.new)) }
+        ensures place { IfSome result (λ r. IsPlace r.at (view hand.new)) }
+        ensures value { IfSome result (λ r. r.value ≡ value_of key (view hand.new).seen.log) }
     {
         let mut at = TOP;
         let mut next = self.look(hand, at, key);
         for _ in 0..9 {
             match next {
-                Look::Answer(_) => return Some(at),
+                Look::Answer(value) => return Some(End { at, value }),
                 Look::Down(below) => {
                     at = below;
                     next = self.look(hand, at, key);
@@ -189,7 +197,7 @@ impl Tree {
         ensures no_more { HasNoMore (view hand.old) (view hand.new) }
     {
         match self.reach(hand, key) {
-            Some(at) => self.set_at(hand, at, key, value),
+            Some(end) => self.set_at(hand, end.at, key, value),
             None => Set::Again,
         }
     }

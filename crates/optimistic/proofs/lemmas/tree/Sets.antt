@@ -10,14 +10,15 @@ use Rattle.optimistic.specs.words.Calls.{entry_of}
 use Rattle.optimistic.specs.words.Kept.{word_at, version_at, form_at, size, calm_at, has}
 use Rattle.optimistic.specs.words.Told.{HasForm, IsDrafted, Looks, MayUnlock}
 use Rattle.optimistic.specs.forms.Children.{is_inner, first_of, IsForm, Same, put_first}
-use Rattle.optimistic.specs.tree.Levels.{form_of}
+use Rattle.optimistic.specs.tree.Levels.{form_of, pair_value}
+use Rattle.optimistic.specs.tree.Takes.{HasTaken}
 use Rattle.optimistic.specs.tree.Trees.{IsTree}
 use Rattle.optimistic.specs.tree.Writes.{HasPut}
 use Rattle.optimistic.proofs.lemmas.words.Moments.{version_word, width_some, width_more, form_since}
 use Rattle.optimistic.proofs.lemmas.forms.FormLemmas.{first_like, form_like}
 use Rattle.optimistic.proofs.lemmas.forms.Levels.{where_form}
-use Rattle.optimistic.proofs.lemmas.tree.Reading.{where_some}
-use Rattle.optimistic.proofs.lemmas.tree.Puts.{put_tree}
+use Rattle.optimistic.proofs.lemmas.tree.Reading.{where_some, none_value}
+use Rattle.optimistic.proofs.lemmas.tree.Puts.{put_tree, leaf_value}
 
 inside : (n form j : ℕ) (v : View) → HasForm n form v → j < width form → j < size v.seen.plots n
 inside n form j v at low = subst (λ (z : ℕ). j < width z) (sym at.is) low
@@ -44,8 +45,11 @@ drafted_shape n form level key ver u r some low deep roomy at d t is =
 pub shape_later : (n form : ℕ) (u v : View) → 0 < room form → HasForm n form u → has u.mine n ≡ true → Looks IsTree u v → IsForm form (word_at u.seen.words n) → IsForm form (word_at v.seen.words n)
 shape_later n form u v roomy at own t s = form_like form (word_at u.seen.words n) (word_at v.seen.words n) (λ j l l'. (t.held n own).0 j (inside n form j u at l')) roomy s
 
+abbrev pub write_note : ℕ → Option ℕ → Note
+write_note key value = record { first = None; second = None; third = None; entry = Some (entry_of 0 key value); form = 0 }
+
 abbrev pub set_note : ℕ → ℕ → Note
-set_note key value = record { first = None; second = None; third = None; entry = Some (entry_of 0 key (Some value)); form = 0 }
+set_note key value = write_note key (Some value)
 
 -- the node may be let go
 pub may_set : (n form level key ver x value : ℕ) (u v y : View) → 0 < form → form < 9 → level < 8 → 0 < room form → HasForm n form u → HasForm n form v → HasForm n form y → IsDrafted n ver u → Looks IsTree u v → word_at u.seen.words n 1 ≡ where_of form level key
@@ -62,6 +66,25 @@ may_set n form level key ver x value u v y some low deep roomy at at_v at_y draf
     let first : first_of form (word_at v.seen.words n) key (byte_at key level) ≡ first_of form (word_at u.seen.words n) key (byte_at key level) =
     first_like form (word_at u.seen.words n) (word_at v.seen.words n) (λ j _ l. v_words j l) key (byte_at key level) in
     let e : Entry = entry_of y.by key (Some value) in
-    put_tree b.calm b.words b.log (b.log ++ e ∷ []) n form level key x value (Some value) e (word_at v.seen.words n) (word_at y.seen.words n) some low deep roomy refl refl refl
+    put_tree b.calm b.words b.log (b.log ++ e ∷ []) n form level key (put_first form x) value (Some value) e (word_at v.seen.words n) (word_at y.seen.words n) some low deep roomy refl refl refl
     (λ j l l'. calm j (omega arith) l') (λ j _ l'. now j l') (calm 1 (omega arith) (omega arith) ∙ where_v) (now 1 (omega arith) ∙ (done.covers ∙ where_v)) done.put
-    (⊎_elim (λ z. inl (first ∙ z)) (λ z. inr (first ∙ z)) place) leaf refl inner sound.means
+    (⊎_elim (λ z. inl (first ∙ z)) (λ z. inr (first ∙ z)) place) (inr leaf) (ap (λ (z : ℕ). pair_value z value key) leaf ∙ leaf_value value key) inner sound.means
+
+-- or after its leaf was taken away
+pub may_take : (n form level key ver : ℕ) (u v y : View) → 0 < form → form < 9 → level < 8 → 0 < room form → HasForm n form u → HasForm n form v → HasForm n form y → IsDrafted n ver u → Looks IsTree u v → word_at u.seen.words n 1 ≡ where_of form level key
+    → first_of form (word_at u.seen.words n) key (byte_at key level) ≡ leaf_of key → HasTaken n form (byte_at key level) v y
+    → (is_inner form ≡ true) ⊎ (level ≡ 7) → MayUnlock IsTree n (write_note key None) y
+may_take n form level key ver u v y some low deep roomy at at_v at_y draft looks is place done inner b since held sound =
+    let own_u = draft.0 in let own_v : has v.mine n ≡ true = ap (λ (l : List Tenure). has l n) looks.mine ∙ own_u in let own_y = done.keeps.has_it n own_v in
+    let more = width_more form some low in
+    let v_words : (j : ℕ) → j < width form → word_at v.seen.words n j ≡ word_at u.seen.words n j = λ j l. (looks.held n own_u).0 j (inside n form j u at l) in
+    let calm : (j : ℕ) → 0 < j → j < width form → calm_at b.calm n j ≡ word_at v.seen.words n j = λ j l l'.
+    (held n own_y).1 j ∙ (done.keeps.calm n own_v j ∙ ((looks.held n own_u).1 j ∙ (sym (draft.2 j l (inside n form j u at l')) ∙ sym (v_words j l')))) in
+    let now : (j : ℕ) → j < width form → word_at b.words n j ≡ word_at y.seen.words n j = λ j l. (held n own_y).0 j (inside n form j y at_y l) in
+    let where_v : word_at v.seen.words n 1 ≡ where_of form level key = v_words 1 (omega arith) ∙ is in
+    let first : first_of form (word_at v.seen.words n) key (byte_at key level) ≡ first_of form (word_at u.seen.words n) key (byte_at key level) =
+    first_like form (word_at u.seen.words n) (word_at v.seen.words n) (λ j _ l. v_words j l) key (byte_at key level) in
+    let e : Entry = entry_of y.by key None in
+    put_tree b.calm b.words b.log (b.log ++ e ∷ []) n form level key (λ k. 0) 0 None e (word_at v.seen.words n) (word_at y.seen.words n) some low deep roomy refl refl refl
+    (λ j l l'. calm j (omega arith) l') (λ j _ l'. now j l') (calm 1 (omega arith) (omega arith) ∙ where_v) (now 1 (omega arith) ∙ (done.covers ∙ where_v)) done.took
+    (inr (first ∙ place)) (inl refl) (none_value 0 key) inner sound.means

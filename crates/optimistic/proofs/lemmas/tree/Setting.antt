@@ -4,6 +4,8 @@ use mathlib.Core.List.{append-nil, append_assoc}
 use mathlib.Core.Logic.{dite}
 use native.Mathlib.Decide.{ℕ_discrete}
 use Rattle.optimistic.specs.Layout.{width, room, leaf_of, where_of, byte_at}
+use Rattle.optimistic.specs.declared.tree.remove.Removal.{Removal}
+use Rattle.optimistic.specs.declared.tree.remove.Removal.TheVariants.{Removed, Absent, Retry}
 use Rattle.optimistic.specs.declared.tree.set.Set.{Set}
 use Rattle.optimistic.specs.declared.tree.set.Set.TheVariants.{Done, Again, Full, Taken}
 use Rattle.optimistic.specs.declared.words.rule.Block.{Block}
@@ -17,15 +19,16 @@ use Rattle.optimistic.specs.words.Told.{HasForm, Tells, Looks, Unlocks, IsDrafte
 use Rattle.optimistic.specs.forms.Children.{is_inner, first_of, IsForm, Same, put_first}
 use Rattle.optimistic.specs.tree.Levels.{stands, goes_on, pair_value}
 use Rattle.optimistic.specs.tree.Reads.{Steady, Found}
+use Rattle.optimistic.specs.tree.Removals.{IsRemoved}
 use Rattle.optimistic.specs.tree.Sets.{Replaces, IsSet, HasNoMore, LetsGo}
 use Rattle.optimistic.specs.tree.Trees.{IsTree, where_at, first_at, second_at}
-use Rattle.optimistic.specs.tree.Writes.{HasPut}
+use Rattle.optimistic.specs.tree.Writes.{KeepsBut}
 use Rattle.optimistic.proofs.lemmas.words.Chains.{later_keeps, looks_keeps}
 use Rattle.optimistic.proofs.lemmas.words.Moments.{has_here, has_else, width_more}
 use Rattle.optimistic.proofs.lemmas.tree.Nodes.{clash}
 use Rattle.optimistic.proofs.lemmas.tree.Puts.{first_is, second_is, leaf_ends}
 use Rattle.optimistic.proofs.lemmas.tree.Reading.{held_agrees, where_stands, none_ends, none_value}
-use Rattle.optimistic.proofs.lemmas.tree.Sets.{set_note}
+use Rattle.optimistic.proofs.lemmas.tree.Sets.{write_note}
 use Rattle.optimistic.proofs.lemmas.tree.Writing.{words_stay}
 
 -- a form has room
@@ -75,12 +78,12 @@ inside : (n form j : ℕ) (v : View) → HasForm n form v → j < width form →
 inside n form j v at low = subst (λ (z : ℕ). j < width z) (sym at.is) low
 
 -- what a key had right before its leaf's write was settled
-pub held_value : (n form level key first second ver x value : ℕ) (a w y : View) (b : Moment) → 0 < form → form < 9 → level < 8 → HasForm n form a → IsDrafted n ver a → Looks IsTree a w → HasPut n form (byte_at key level) x value w y → Held y.mine y.seen b → Sound IsTree b
+pub held_value : (n form level key first second ver : ℕ) (a w y : View) (b : Moment) → 0 < form → form < 9 → level < 8 → HasForm n form a → IsDrafted n ver a → Looks IsTree a w → KeepsBut n w y → Held y.mine y.seen b → Sound IsTree b
     → word_at a.seen.words n 1 ≡ where_of form level key → IsForm form (word_at a.seen.words n) → Found n form first second key (byte_at key level) a w → goes_on first second key ≡ false → pair_value first second key ≡ value_of key b.log
-held_value n form level key first second ver x value a w y b some low deep at draft looks done held sound is shape found ends =
-    let own_a = draft.0 in let own_w : has w.mine n ≡ true = ap (λ (l : List Tenure). has l n) looks.mine ∙ own_a in let own_y = done.keeps.has_it n own_w in
+held_value n form level key first second ver a w y b some low deep at draft looks keeps held sound is shape found ends =
+    let own_a = draft.0 in let own_w : has w.mine n ≡ true = ap (λ (l : List Tenure). has l n) looks.mine ∙ own_a in let own_y = keeps.has_it n own_w in
     let f : ℕ → ℕ = word_at a.seen.words n in let g : ℕ → ℕ = calm_at b.calm n in
-    let calm : (j : ℕ) → 0 < j → j < width form → g j ≡ f j = λ j l l'. (held n own_y).1 j ∙ (done.keeps.calm n own_w j ∙ ((looks.held n own_a).1 j ∙ sym (draft.2 j l (inside n form j a at l')))) in
+    let calm : (j : ℕ) → 0 < j → j < width form → g j ≡ f j = λ j l l'. (held n own_y).1 j ∙ (keeps.calm n own_w j ∙ ((looks.held n own_a).1 j ∙ sym (draft.2 j l (inside n form j a at l')))) in
     let more = width_more form some low in
     let where_b : g 1 ≡ where_of form level key = calm 1 (omega arith) (omega arith) ∙ is in
     let same : Same form g f = λ j l l'. calm j (omega arith) l' in
@@ -92,9 +95,9 @@ held_value n form level key first second ver x value a w y b some low deep at dr
 pub open_ends : (first second key : ℕ) → (first ≡ 0) ⊎ (first ≡ leaf_of key) → goes_on first second key ≡ false
 open_ends first second key = ⊎_elim (λ z. (λ i. goes_on (z i) second key) ∙ none_ends second key) (λ z. (λ i. goes_on (z i) second key) ∙ leaf_ends second key key)
 
--- a leaf was put, and the node let go
-pub unlocks_replaces : (n key value : ℕ) (old : Option ℕ) (v w : View) → (t : Unlocks IsTree n (set_note key value) v w) → old ≡ value_of key t.b.log → Replaces key (Some value) old v w
-unlocks_replaces n key value old v w t is = let e : List Entry = entry_of v.by key (Some value) ∷ [] in (
+-- a node was written, and let go
+pub unlocks_replaces : (n key : ℕ) (value old : Option ℕ) (v w : View) → (t : Unlocks IsTree n (write_note key value) v w) → old ≡ value_of key t.b.log → Replaces key value old v w
+unlocks_replaces n key value old v w t is = let e : List Entry = entry_of v.by key value ∷ [] in (
   (t.since.log.0, [], t.log ∙ (ap (λ (l : List Entry). l ++ e) t.since.log.1 ∙ sym (append-nil ((v.seen.log ++ t.since.log.0) ++ e))), t.made, t.own.0, t.own.1),
   is ∙ ap (λ (l : List Entry). value_of key l) t.since.log.1,
 )
@@ -113,9 +116,9 @@ later_replaces key value old v w x p s = let t = s.0 in let e : ℕ → List Ent
       s.1 ∙ ap (λ (l : List Entry). value_of key l) log,
     )
 
-pub set_replaces : (n form byte x y key value : ℕ) (old : Option ℕ) (v w y' z : View) → Looks IsTree v w → HasPut n form byte x y w y' → (u : Unlocks IsTree n (set_note key value) y' z) → old ≡ value_of key u.b.log → Replaces key (Some value) old v z
-set_replaces n form byte x y key value old v w y' z t p u is = let k = looks_keeps IsTree v w t in
-    later_replaces key (Some value) old v w z k.0 (later_replaces key (Some value) old w y' z p.keeps.later (unlocks_replaces n key value old y' z u is))
+pub writes_replaces : (n key : ℕ) (value old : Option ℕ) (v w y z : View) → Looks IsTree v w → KeepsBut n w y → (u : Unlocks IsTree n (write_note key value) y z) → old ≡ value_of key u.b.log → Replaces key value old v z
+writes_replaces n key value old v w y z t p u is = let k = looks_keeps IsTree v w t in
+    later_replaces key value old v w z k.0 (later_replaces key value old w y z p.later (unlocks_replaces n key value old y z u is))
 
 -- what came of a write that began later
 pub set_later : (key : ℕ) (value : Option ℕ) (r : Set) (v w x : View) → Later v w → IsSet key value r w x → IsSet key value r v x
@@ -142,3 +145,9 @@ no_more v w e m h = ap (λ (l : List Tenure). has l m) (sym e) ∙ h
 
 pub no_more_from : (v u w : View) → u.mine ≡ v.mine → HasNoMore u w → HasNoMore v w
 no_more_from v u w e t m h = ap (λ (l : List Tenure). has l m) (sym e) ∙ t m h
+
+-- what came of a removal that began later
+pub removed_later : (key : ℕ) (r : Removal) (v w x : View) → Later v w → IsRemoved key r w x → IsRemoved key r v x
+removed_later key (Removed old) v w x p t = later_replaces key None (Some old) v w x p t
+removed_later key Absent v w x p t = (later_keeps v w x p t.0, t.1)
+removed_later key Retry v w x p t = later_keeps v w x p t

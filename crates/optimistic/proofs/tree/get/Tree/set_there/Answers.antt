@@ -1,4 +1,4 @@
-use Rattle.std.proofs.Common.{◌≡◌, ℕ, ◌<◌, ◌+◌, refl, sym, ap, ◌∙◌, subst, arith, ◌⊎◌, ⊎_elim, inl, inr}
+use Rattle.std.proofs.Common.{◌≡◌, ℕ, ◌<◌, ◌+◌, Some, refl, sym, ap, ◌∙◌, subst, arith, ◌⊎◌, ⊎_elim, inl, inr}
 use Rattle.optimistic.specs.Layout.{byte_at, leaf_of}
 use Rattle.optimistic.specs.words.Kept.{word_at}
 use Rattle.optimistic.specs.forms.Children.{IsForm}
@@ -8,7 +8,7 @@ use Rattle.optimistic.specs.tree.Trees.{IsTree}
 use Rattle.optimistic.proofs.lemmas.words.Moments.{width_some}
 use Rattle.optimistic.proofs.lemmas.tree.Reading.{looks_trans}
 use Rattle.optimistic.proofs.lemmas.tree.Sets.{looks_drafted, drafted_shape, shape_later, may_set}
-use Rattle.optimistic.proofs.lemmas.tree.Setting.{room_some, put_leaf, held_first, held_value, open_ends, set_replaces, gone}
+use Rattle.optimistic.proofs.lemmas.tree.Setting.{room_some, put_leaf, held_first, held_value, open_ends, writes_replaces, gone}
 use Rattle.optimistic.proofs.tree.get.Tree.set_there.Goals as goal
 
 pub release-requires-clause-some : goal.release-requires-clause-some
@@ -66,8 +66,8 @@ returns-clause-set c = let a = c.args.hand.now.me.0 in let w = c.child-child.new
     let found : Found n form first second key (byte_at key level) a w = subst (λ (z : ℕ). Found n form first second key z a w) c.key_byte-byte.ensures.byte c.child-child.ensures.found in
     let leaf : c.leaf_word-leaf.result ≡ leaf_of key = c.leaf_word-leaf.ensures.word in
     let open_there : (first ≡ 0) ⊎ (first ≡ leaf_of key) = ⊎_elim (λ z. inl z) (λ z. inr (z ∙ leaf)) (c.is_open-open.ensures c.if-not-open.false) in
-    set_replaces n form (byte_at key level) c.leaf_word-leaf.result c.args.value key c.args.value c.pair_value.result a w y c.unlock.new.hand.me.0 c.child-child.ensures.looks put u
-    (c.pair_value.ensures ∙ held_value n form level key first second c.args.version c.leaf_word-leaf.result c.args.value a w y u.b some low deep at c.requires.drafted c.child-child.ensures.looks put u.held u.was c.requires.covers shape found (open_ends first second key open_there))
+    writes_replaces n key (Some c.args.value) c.pair_value.result a w y c.unlock.new.hand.me.0 c.child-child.ensures.looks put.keeps u
+    (c.pair_value.ensures ∙ held_value n form level key first second c.args.version a w y u.b some low deep at c.requires.drafted c.child-child.ensures.looks put.keeps u.held u.was c.requires.covers shape found (open_ends first second key open_there))
 
 pub returns-clause-lets_go : goal.returns-clause-lets_go
 returns-clause-lets_go c = let a = c.args.hand.now.me.0 in let w = c.child-child.new.hand.me.0 in let y = c.put-put.new.hand.me.0 in
