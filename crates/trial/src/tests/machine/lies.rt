@@ -93,7 +93,7 @@ fn is_right(alloc: Global, case: &Case, every: u32) -> Result<bool, Fail> {
 /// Either call of each case.
 #[test]
 fn calls_that_are_lied_to_answer_as_one_map(rt: HostRuntime) -> Result<(), Fail> {
-    let every = number_in(&rt, "TRIAL_ORDERS", 61);
+    let every = number_in(&rt, "TRIAL_ORDERS", 43);
     for line in CASES {
         let (name, text) = named(line)?;
         for turned in [false, true] {
