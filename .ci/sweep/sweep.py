@@ -10,6 +10,7 @@ import concurrent.futures
 import errno
 import itertools
 import os
+import pathlib
 import re
 import shutil
 import subprocess
@@ -30,9 +31,8 @@ SECONDS = 60
 
 # The tests that are to pass whichever request for memory is refused.
 TESTS = """
-trees::arcs::a_refused_text_comes_back
+trees::arcs::a_refused_text_comes_back failures::a_call_that_finds_no_memory_changes_nothing
 collector::machine::jobs_that_find_no_memory_are_put_off_then collector::machine::the_first_bag_of_a_block_alone_asks_for_memory
-failures::a_call_that_finds_no_memory_changes_nothing
 threads::wants::a_removal_goes_on_without_a_lesser_leaf threads::wants::a_run_goes_on_where_it_stopped
 threads::wants::an_owned_leaf_grows threads::wants::calls_for_threads_find_memory_then
 threads::wants::each_writing_call_wants_a_place_in_its_bag threads::wants::shared_owners_come_back
@@ -46,31 +46,14 @@ WRITE_ERRORS = [*READ_ERRORS, errno.ENOSPC, errno.EPIPE, 0]
 HELD = 8192
 PLACES = 200
 
-# The threads of the program, and the calls of each; and as many as it takes, which end within so many seconds. Other work makes them
-# longer by the clock, so what is limited is the time of processors: as many seconds of each, since threads that wait spin.
+# The threads of the program, and the calls of each; and as many as it takes, which end within so many seconds, as a test does. Other
+# work makes them longer by the clock, so the time of processors is limited: as many seconds of each, since threads that wait spin.
 THREADS = [(1, 1), (2, 8), (4, 20)]
 MOST = (16, 10_000)
 MOST_SECONDS = 20
-MOST_CALLS = "threads::callers::sixteen_threads_call_and_scan"
 
-# The tests of which the environment asks for more than they try without optimization, by its name.
-WHOLE = [
-    ("trees::closing::long_sequences_answer_as_a_map", "TRIAL_KEYS"),
-    ("trees::closing::ranges_find_the_keys_within", "TRIAL_KEYS"),
-]
-
-# The tests that try a part of what they can, as one of many orders of steps, and what makes them try all.
-ORDERS = """
-machine::crowds::four_workers_answer_as_one_map
-machine::forms::a_growth_and_a_shrink_do_not_alternate
-machine::interleavings::a_removal_takes_a_node_out_beside_a_call
-machine::interleavings::calls_beside_each_other_answer_as_one_map
-machine::interleavings::short_calls_answer_as_one_map_in_every_order_of_their_steps
-machine::lies::calls_that_are_lied_to_answer_as_one_map
-machine::scans::a_scan_beside_a_writing_call
-machine::schedules::drawn_schedules_tell_the_same_with_rounds_between
-""".split()
-ALL = {"TRIAL_ORDERS": "1", "TRIAL_PAIRS": "1000", "TRIAL_SCHEDULES": "20"}
+# Without optimization some tests try a part of what they can, as one of many orders of steps. By this environment they try all.
+ALL = {"TRIAL_CALLS": "10000", "TRIAL_KEYS": "100000", "TRIAL_ORDERS": "1", "TRIAL_PAIRS": "1000", "TRIAL_SCHEDULES": "20"}
 
 # Lines that ask for no memory but that of their reply's text. Others may ask for a bag of 64 removals, and in some scripts for a lesser
 # node, without which they go on.
@@ -122,8 +105,7 @@ def run(words, given=b"", seconds=SECONDS, known=(), **refused):
         except subprocess.TimeoutExpired:
             raise Wrong(f"it hadn't ended after {seconds} seconds") from None
     hold(ended.returncode >= 0, f"it ended by signal {-ended.returncode}")
-    with open(log, encoding="ascii") as file:
-        counts = [tuple(map(int, line.split())) for line in file]
+    counts = [tuple(map(int, line.split())) for line in pathlib.Path(log).read_text("ascii").splitlines()]
     os.remove(log)
     os.remove(f"{log}.in")
     return Ran(ended.returncode, ended.stdout, counts)
@@ -135,10 +117,8 @@ class Script:
     def __init__(self, program, file):
         whole = file[: -len(".txt")]
         self.program, self.name, self.known = program, os.path.basename(whole), {}
-        with open(file, "rb") as it:
-            self.lines = it.read().splitlines(keepends=True)
-        with open(f"{whole}.out", "rb") as it:
-            self.printed = it.read()
+        self.lines = pathlib.Path(file).read_bytes().splitlines(keepends=True)
+        self.printed = pathlib.Path(f"{whole}.out").read_bytes()
         self.plain = self.run()
         self.replies = self.plain.replies
         hold(self.plain.printed == self.printed and self.plain.status in (0, 2), f"{self.name} doesn't print what its file has")
@@ -324,11 +304,8 @@ def cases(program, tests, files):
     for it in THREADS:
         yield from (("threads {} {}: {}".format(*it, name), tries) for name, tries in cases_of_threads(program, *it))
     yield "threads {} {}".format(*MOST), [("", lambda: most([program, "threads", *map(str, MOST)], told(*MOST)))]
-    yield MOST_CALLS, [("", lambda: most([tests, f"tests::{MOST_CALLS}"], known={"TRIAL_CALLS": str(MOST[1])}))]
-    for name in ORDERS:
-        yield f"{name}: each order", [("", lambda name=name: most([tests, f"tests::{name}"], known=ALL))]
-    for name, asked in WHOLE:
-        yield f"{name}: by {asked}", [("", lambda name=name, asked=asked: most([tests, f"tests::{name}"], known={asked: "1"}))]
+    names = re.findall("(.*): test\n", subprocess.check_output([tests, "--list"], text=True))
+    yield "each test, of all that it can try", each(names, lambda name: most([tests, name], known=ALL))
     for name in TESTS:
         plain = run([tests, f"tests::{name}"])
         yield f"test {name}: one request for memory refused", each(up_to(plain.memory), lambda number, name=name: test_passes(tests, name, number))

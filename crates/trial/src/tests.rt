@@ -1,6 +1,5 @@
 //! The tests of all five crates, which see of the libraries what a user sees.
 
-mod bounds;
 mod collector;
 mod dialogue;
 mod examples;

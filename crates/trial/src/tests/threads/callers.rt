@@ -2,6 +2,7 @@
 ghost use Rattle.std.specs.Prelude.{◌≡◌};
 
 use super::trees::{Told, raised_or, recorded_called};
+use crate::tests::machine::drawn::number_in;
 use crate::threads::callers;
 use crate::worker::{Caller, Cut, Index};
 use congee::DefaultAllocator;
@@ -12,23 +13,15 @@ use std::marker::Brand;
 use std::sync::Wait;
 use std::sync::ledger::{Blank, Ledger};
 use std::test::Fail;
+use std::thread;
 use std::thread::Threads;
-use std::{env, thread};
 
 const WORKERS: u32 = 16;
 
-/// Of each worker; and as many as the index has room for, for a longer run.
+/// How many calls each worker makes; and as many as the index has room for, which the sweep has it make.
 const CALLS: u32 = 40;
 
 const CALLS_MAX: u32 = 10_000;
-
-/// How many calls each worker makes: so many as the environment's TRIAL_CALLS has.
-fn number_of_calls(rt: &HostRuntime) -> u32 {
-    match env::var(rt, "TRIAL_CALLS") {
-        Ok(number) => number.parse::<u32>().unwrap_or(CALLS).min(CALLS_MAX),
-        Err(_) => CALLS,
-    }
-}
 
 /// What a worker brings back.
 #[derive(Drop)]
@@ -234,7 +227,7 @@ fn history_by_brand<R: Threads + Wait + Sync>(
 /// The second of eight calls only looks.
 #[test]
 fn sixteen_threads_call_and_scan(rt: HostRuntime) -> Result<(), Fail> {
-    let count = number_of_calls(&rt);
+    let count = number_in(&rt, "TRIAL_CALLS", CALLS).min(CALLS_MAX);
     let looks = count.saturating_add(6) / 8;
     let known = history_by_brand(&rt, rt.alloc(), count);
     let right = Known {

@@ -6,6 +6,7 @@ ghost use Rattle.std.specs.Prelude.{◌≡◌};
 use super::trees::{Ask, Left, Owners, Recorded, Threaded, Told, left, spent};
 use crate::drained::Drained;
 use crate::examples::counter::count_in_two_threads;
+use crate::tests::machine::drawn::number_in;
 use congee::{Allocator, DefaultAllocator, Limited};
 use joint::{Congee, CongeeArc, Guard, Journaled, Limits, Refusal, Share, U64Congee, Worker};
 use judge::{Call, Reply, Verdict, check};
@@ -322,12 +323,12 @@ fn strangers_come_back(rt: HostRuntime) -> Result<(), Fail> {
 /// What a thread does with one guard.
 #[derive(Clone, Copy)]
 enum Task<'t> {
-    /// Puts 5,000 keys in, from one on, each its own value.
-    Fill(u64),
-    /// Looks at them meanwhile, and scans: a value that it finds is its key.
-    Read,
+    /// Puts the keys from one on to before another one in, each its own value.
+    Fill(u64, u64),
+    /// Looks at those below this one meanwhile, and scans: a value that it finds is its key.
+    Read(u64),
     /// Finds all of them.
-    Find,
+    Find(u64),
     /// Puts a key in whose closure waits for the flag.
     Await(&'t AtomicBool),
     /// Puts another key in, and sets the flag.
@@ -337,12 +338,12 @@ enum Task<'t> {
 fn fills<R: Wait>(
     rt: &R,
     tree: &Words,
-    from: u64,
+    (from, to): (u64, u64),
     worker: &mut Worker,
     guard: &Guard,
 ) -> Result<bool, Refusal> {
     let mut fresh = true;
-    for key in from..from.saturating_add(5_000) {
+    for key in from..to {
         fresh &= tree.insert(rt, key, key, worker, guard)? == None;
     }
     Ok(fresh)
@@ -351,11 +352,12 @@ fn fills<R: Wait>(
 fn finds<R: Wait>(
     rt: &R,
     tree: &Words,
+    to: u64,
     worker: &mut Worker,
     guard: &Guard,
 ) -> Result<bool, Refusal> {
     let mut all = true;
-    for key in 0..10_000 {
+    for key in 0..to {
         all &= tree.get(rt, &key, worker, guard)? == Some(key);
     }
     Ok(all)
@@ -364,17 +366,18 @@ fn finds<R: Wait>(
 fn reads_along<R: Wait>(
     rt: &R,
     tree: &Words,
+    to: u64,
     worker: &mut Worker,
     guard: &Guard,
 ) -> Result<bool, Refusal> {
     let mut same = true;
     let mut out = [(0, 0); 20];
-    for tenth in 0..1_000 {
-        let key = tenth * 10;
+    for tenth in 0..to / 10 {
+        let key = tenth.saturating_mul(10);
         let found = tree.get(rt, &key, worker, guard)?;
         same &= found == Some(key) || found == None;
         if key % 500 == 0 {
-            let count = tree.range(rt, &key, &10_000, &mut out, worker, guard)?;
+            let count = tree.range(rt, &key, &to, &mut out, worker, guard)?;
             same &= out
                 .iter()
                 .take(count)
@@ -403,9 +406,9 @@ fn does<R: Wait>(
     guard: &Guard,
 ) -> Result<bool, Refusal> {
     match task {
-        Task::Fill(from) => fills(rt, tree, from, worker, guard),
-        Task::Read => reads_along(rt, tree, worker, guard),
-        Task::Find => finds(rt, tree, worker, guard),
+        Task::Fill(from, to) => fills(rt, tree, (from, to), worker, guard),
+        Task::Read(to) => reads_along(rt, tree, to, worker, guard),
+        Task::Find(to) => finds(rt, tree, to, worker, guard),
         Task::Await(flag) => {
             // On a loaded machine a thread was seen to come later than ten thousand turns.
             let answer = |_| if comes(flag, 10_000_000) { 1 } else { 0 };
@@ -444,12 +447,17 @@ fn two_work<R: Threads + Wait + Sync>(
     Ok(one? && two?)
 }
 
-/// Four threads work at once.
-fn four_work<R: Threads + Wait + Sync>(rt: &R, tree: &Words) -> Result<bool, Refusal> {
+/// Four threads work at once: two put so many keys in, a half each, and two read.
+fn four_work<R: Threads + Wait + Sync>(
+    rt: &R,
+    tree: &Words,
+    half: u64,
+    keys: u64,
+) -> Result<bool, Refusal> {
     let (one, two) = thread::join(
         rt,
-        move || two_work(rt, tree, (Task::Fill(0), Task::Read)),
-        move || two_work(rt, tree, (Task::Fill(5_000), Task::Read)),
+        move || two_work(rt, tree, (Task::Fill(0, half), Task::Read(keys))),
+        move || two_work(rt, tree, (Task::Fill(half, keys), Task::Read(keys))),
     );
     Ok(one? && two?)
 }
@@ -457,8 +465,10 @@ fn four_work<R: Threads + Wait + Sync>(rt: &R, tree: &Words) -> Result<bool, Ref
 #[test]
 fn two_fill_and_two_read(rt: HostRuntime) -> Result<(), Fail> {
     let tree: Words = Congee::new(rt.alloc(), limits(4, 100_000, 0), DefaultAllocator::new())?;
-    assert_eq!(rt; four_work(&rt, &tree), Ok(true));
-    assert_eq!(rt; works(&rt, &tree, Task::Find), Ok(true));
+    let half = u64::from(number_in(&rt, "TRIAL_KEYS", 500).min(5_000));
+    let keys = half.saturating_mul(2);
+    assert_eq!(rt; four_work(&rt, &tree, half, keys), Ok(true));
+    assert_eq!(rt; works(&rt, &tree, Task::Find(keys)), Ok(true));
     Ok(())
 }
 

@@ -1,9 +1,9 @@
 //! Owned trees that are closed, number trees, and sequences beside a `BTreeMap`.
+use crate::tests::machine::drawn::number_in;
 use crate::tests::texts::{array, numbers, part};
 use congee::{Allocator, Calls, Congee, DefaultAllocator, Limited, NoDrain, U64Congee};
 use std::alloc::Global;
 use std::collections::BTreeMap;
-use std::env;
 use std::test::Fail;
 
 type Words = Congee<u64, u64, DefaultAllocator, NoDrain>;
@@ -120,18 +120,8 @@ impl Order {
 #[derive(Clone, Copy)]
 struct Part(Call, Order, u64, u64);
 
-/// How many keys a long sequence has; a hundred times as many where the environment has TRIAL_KEYS, which takes minutes
-/// without optimization.
-fn count_of_keys(rt: &HostRuntime) -> u64 {
-    match env::var(rt, "TRIAL_KEYS") {
-        Ok(_) => MANY,
-        Err(_) => FEW,
-    }
-}
-
-const FEW: u64 = 1_000;
-
-const MANY: u64 = 100_000;
+/// How many keys a long sequence has; a hundred times as many in the sweep, which would take minutes without optimization.
+const KEYS: u32 = 1_000;
 
 fn dense(count: u64) -> [Part; 4] {
     [
@@ -210,7 +200,7 @@ fn all_agree(alloc: Global, parts: &[Part]) -> Result<bool, Fail> {
 
 #[test]
 fn long_sequences_answer_as_a_map(rt: HostRuntime) -> Result<(), Fail> {
-    let count = count_of_keys(&rt);
+    let count = u64::from(number_in(&rt, "TRIAL_KEYS", KEYS));
     assert!(rt; all_agree(rt.alloc(), &dense(count))?);
     assert!(rt; all_agree(rt.alloc(), &shuffled(count))?);
     assert!(rt; all_agree(rt.alloc(), &scattered(count))?);
@@ -250,7 +240,7 @@ const FOUND: [&str; 7] = [
     "393000 393500; 458700 458751 499999; 393216 458751 3 3, 393216 458751 13 13, 393216 458751 65 65, 500000 500065 20 0; 0",
 ];
 
-/// The same ranges among all keys below, where the environment has TRIAL_KEYS.
+/// The same ranges among all keys below, in the sweep.
 const FOUND_AMONG_MANY: [&str; 1] = [
     "0 500000; ; 393216 458751 3 3, 393216 458751 13 13, 393216 458751 65 65, 500000 500065 20 0; 0",
 ];
@@ -302,7 +292,7 @@ fn ranges_find_the_keys_within(rt: HostRuntime) -> Result<(), Fail> {
     for text in FOUND {
         assert!(rt; are_found(rt.alloc(), text)?, "{text}");
     }
-    if count_of_keys(&rt) == MANY {
+    if number_in(&rt, "TRIAL_KEYS", KEYS) > KEYS {
         for text in FOUND_AMONG_MANY {
             assert!(rt; are_found(rt.alloc(), text)?, "{text}");
         }
