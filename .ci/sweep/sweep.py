@@ -320,13 +320,13 @@ def attempt(one):
 
 
 def is_right(name, tries):
-    """Makes the tries of a case, prints what was seen, and returns whether all of it is by the rule."""
+    """Makes the tries of a case, prints what was seen, and returns whether there is a try and all are by the rule."""
     found = list(POOL.map(attempt, [one for _, one in tries]))
     wrong = [(at, it) for (at, _), it in zip(tries, found) if isinstance(it, Wrong)]
     seen = [it for it in found if not isinstance(it, Wrong)]
     counts = [f"{seen.count(it)} {it}" for it in sorted({*seen})] + [f"WRONG at {at}: {why}" for at, why in wrong[:3]]
     print(f"sweep: {name}: {len(found)} tries: {'; '.join(counts)}", flush=True)
-    return not wrong
+    return bool(found) and not wrong
 
 
 def main(program, tests, *files):
