@@ -1,14 +1,13 @@
 /* Loaded before the C library, refuses a program what it asks the system for. Numbers count from 1.
-   SWEEP_MEMORY=N        the Nth request for memory, alone
-   SWEEP_MEMORY_FROM=N   each request for memory from the Nth on
-   SWEEP_READ=N          the Nth read of standard input
-   SWEEP_WRITE=N         the Nth write to standard output
-   SWEEP_HOW=ERRNO       with what a read or a write fails: a number; 0: it moves nothing; short: it moves half, and tells so
-   SWEEP_THREAD=N        the Nth thread, 0: each
-   SWEEP_LINES=1         each read gives one line at most
-   SWEEP_FEEDS=1         each read gives line feeds, for ever
-   SWEEP_LOG=FILE        as the program ends: how many requests for memory, reads, writes and threads there were, and then
-                         for each read how many requests and how many written bytes there were before it */
+   SWEEP_MEMORY=N   the Nth request for memory, and with SWEEP_STEP=S each Sth after it; with SWEEP_SIZE=B of those for B bytes
+   SWEEP_READ=N     the Nth read of standard input
+   SWEEP_ROOM=N     the write to standard output of what comes after its first N bytes, once
+   SWEEP_HOW=ERRNO  with what a read or a write fails; 0: it moves nothing
+   SWEEP_GIVES=N    each read gives N bytes at most; 0: one line
+   SWEEP_TAKES=N    each write takes N bytes at most
+   SWEEP_THREAD=N   the Nth thread, 0: each
+   SWEEP_LOG=FILE   for each read how many requests for memory and how many written bytes there were before it; and as the program ends
+                    how many requests, reads, writes and threads there were */
 #define _GNU_SOURCE
 #include <dlfcn.h>
 #include <errno.h>
@@ -17,19 +16,17 @@
 #include <stdatomic.h>
 #include <stdio.h>
 #include <stdlib.h>
-#include <string.h>
 #include <sys/syscall.h>
 #include <unistd.h>
 
 extern void *__libc_malloc(size_t), *__libc_calloc(size_t, size_t), *__libc_realloc(void *, size_t);
 extern void *__libc_memalign(size_t, size_t);
 
-enum { READS_MAX = 1 << 14, UNSET = -1, HALF = -2 };
+enum { UNSET = -1 };
 
-static atomic_long requests, reads, writes, threads, written;
-static long memory = UNSET, memory_from = UNSET, read_at = UNSET, write_at = UNSET, thread_at = UNSET, how = EIO;
-static int is_ready, by_lines, feeds;
-static struct { long requests, written; } seen[READS_MAX];
+static atomic_long requests, sized, reads, writes, threads, written;
+static long memory, step, size_at, read_at, room, how, gives, takes, thread_at;
+static int is_ready, log_file;
 
 static long number(const char *name) {
   const char *text = getenv(name);
@@ -38,59 +35,51 @@ static long number(const char *name) {
 
 __attribute__((constructor)) static void begin(void) {
   memory = number("SWEEP_MEMORY");
-  memory_from = number("SWEEP_MEMORY_FROM");
+  step = number("SWEEP_STEP");
+  size_at = number("SWEEP_SIZE");
   read_at = number("SWEEP_READ");
-  write_at = number("SWEEP_WRITE");
+  room = number("SWEEP_ROOM");
+  how = number("SWEEP_HOW");
+  gives = number("SWEEP_GIVES");
+  takes = number("SWEEP_TAKES");
   thread_at = number("SWEEP_THREAD");
-  by_lines = number("SWEEP_LINES") == 1;
-  feeds = number("SWEEP_FEEDS") == 1;
-  const char *text = getenv("SWEEP_HOW");
-  if (text) how = strcmp(text, "short") ? atol(text) : HALF;
+  const char *name = getenv("SWEEP_LOG");
+  log_file = name ? open(name, O_CREAT | O_TRUNC | O_WRONLY, 0600) : UNSET;
   is_ready = 1;
 }
 
-static ssize_t really_read(int file, void *to, size_t most) { return syscall(SYS_read, file, to, most); }
-
-static ssize_t really_write(int file, const void *from, size_t most) { return syscall(SYS_write, file, from, most); }
-
-static void tell(void) {
-  const char *name = getenv("SWEEP_LOG");
-  static atomic_int told;
-  if (!name || atomic_exchange(&told, 1)) return;
-  int file = open(name, O_CREAT | O_TRUNC | O_WRONLY, 0600);
-  if (file < 0) return;
+static void tell(const char *format, long a, long b, long c, long d) {
   char line[96];
-  int length = snprintf(line, sizeof line, "%ld %ld %ld %ld\n", requests, reads, writes, threads);
-  really_write(file, line, length);
-  for (long at = 0; at < reads && at < READS_MAX; at++) {
-    length = snprintf(line, sizeof line, "%ld %ld\n", seen[at].requests, seen[at].written);
-    really_write(file, line, length);
-  }
-  close(file);
+  syscall(SYS_write, log_file, line, snprintf(line, sizeof line, format, a, b, c, d));
 }
 
-__attribute__((destructor)) static void end(void) { tell(); }
+__attribute__((destructor)) static void end(void) {
+  static atomic_int told;
+  if (!atomic_exchange(&told, 1)) tell("%ld %ld %ld %ld\n", requests, reads, writes, threads);
+}
 
 void _exit(int status) {
-  tell();
+  end();
   for (;;) syscall(SYS_exit_group, status);
 }
 
-static int is_refused(void) {
+static int is_refused(size_t size) {
   if (!is_ready) return 0;
-  long count = atomic_fetch_add(&requests, 1) + 1;
-  int is = count == memory || (memory_from > 0 && count >= memory_from);
+  requests++;
+  if (size_at != UNSET && size_at != (long)size) return 0;
+  long after = ++sized - memory;
+  int is = memory > 0 && (after == 0 || (step > 0 && after > 0 && after % step == 0));
   if (is) errno = ENOMEM;
   return is;
 }
 
-void *malloc(size_t size) { return is_refused() ? 0 : __libc_malloc(size); }
+void *malloc(size_t size) { return is_refused(size) ? 0 : __libc_malloc(size); }
 
-void *calloc(size_t count, size_t size) { return is_refused() ? 0 : __libc_calloc(count, size); }
+void *calloc(size_t count, size_t size) { return is_refused(count * size) ? 0 : __libc_calloc(count, size); }
 
-void *realloc(void *from, size_t size) { return is_refused() ? 0 : __libc_realloc(from, size); }
+void *realloc(void *from, size_t size) { return is_refused(size) ? 0 : __libc_realloc(from, size); }
 
-void *memalign(size_t align, size_t size) { return is_refused() ? 0 : __libc_memalign(align, size); }
+void *memalign(size_t align, size_t size) { return is_refused(size) ? 0 : __libc_memalign(align, size); }
 
 void *aligned_alloc(size_t align, size_t size) { return memalign(align, size); }
 
@@ -101,43 +90,25 @@ int posix_memalign(void **to, size_t align, size_t size) {
   return 0;
 }
 
-/* How many bytes a call that is refused moves, with errno where it fails. */
-static ssize_t refusal(void) {
-  if (how == 0) return 0;
-  errno = how;
-  return -1;
-}
-
-/* At most one line. */
-static ssize_t read_line(char *to, size_t most) {
+ssize_t read(int file, void *to, size_t most) {
+  if (file != 0) return syscall(SYS_read, file, to, most);
+  tell("%ld %ld\n", requests, written, 0, 0);
+  if (++reads == read_at) return errno = how, how ? -1 : 0;
+  if (gives > 0 && (long)most > gives) most = gives;
+  if (gives != 0) return syscall(SYS_read, file, to, most);
+  char *line = to;
   size_t length = 0;
-  while (length < most) {
-    ssize_t read = really_read(0, to + length, 1);
-    if (read < 0) return read;
-    if (read == 0 || to[length++] == '\n') break;
-  }
+  while (length < most && syscall(SYS_read, file, line + length, 1) == 1 && line[length++] != '\n') continue;
   return length;
 }
 
-ssize_t read(int file, void *to, size_t most) {
-  if (file != 0) return really_read(file, to, most);
-  long at = atomic_fetch_add(&reads, 1);
-  if (at < READS_MAX) {
-    seen[at].requests = requests;
-    seen[at].written = written;
-  }
-  if (at + 1 == read_at && how != HALF) return refusal();
-  if (at + 1 == read_at && most > 1) most = 1;
-  if (feeds) return memset(to, '\n', most), most;
-  return by_lines ? read_line(to, most) : really_read(file, to, most);
-}
-
 ssize_t write(int file, const void *from, size_t most) {
-  if (file != 1) return really_write(file, from, most);
-  long at = atomic_fetch_add(&writes, 1);
-  if (at + 1 == write_at && how != HALF) return refusal();
-  if (at + 1 == write_at && most > 1) most /= 2;
-  ssize_t count = really_write(file, from, most);
+  if (file != 1) return syscall(SYS_write, file, from, most);
+  writes++;
+  if (written == room) return room = UNSET, errno = how, how ? -1 : 0;
+  if (room > 0 && (long)most > room - written) most = room - written;
+  if (takes > 0 && (long)most > takes) most = takes;
+  ssize_t count = syscall(SYS_write, file, from, most);
   if (count > 0) written += count;
   return count;
 }
@@ -145,6 +116,6 @@ ssize_t write(int file, const void *from, size_t most) {
 int pthread_create(pthread_t *to, const pthread_attr_t *how_made, void *(*call)(void *), void *with) {
   static int (*real)(pthread_t *, const pthread_attr_t *, void *(*)(void *), void *);
   if (!real) real = dlsym(RTLD_NEXT, "pthread_create");
-  long at = atomic_fetch_add(&threads, 1) + 1;
+  long at = ++threads;
   return at == thread_at || thread_at == 0 ? EAGAIN : real(to, how_made, call, with);
 }

@@ -1,6 +1,6 @@
 //! The examples, run.
 
-use super::face::limits;
+use super::collector::face::limits;
 use super::machine::{
     END, Index, begin, beginning, go as step_on, going, noise, open, registering,
 };

@@ -1,6 +1,25 @@
-//! What the tests of the machine share: how an index is opened, and how its workers' calls are stepped.
+//! The machine: its calls a step at a time, of one worker and of several beside each other. Here stands what these tests share:
+//! how an index is opened, and how its workers' calls are stepped.
+
+mod bench;
+mod counts;
+mod crowds;
+pub mod drawn;
+mod driven;
+mod flights;
+pub mod forms;
+mod interleavings;
+mod lies;
+mod limits;
+mod one_map;
+mod orders;
+mod scans;
+mod schedules;
+mod told;
+mod traces;
 
 use congee::{Limited, Noise};
+pub use flights::entry;
 use joint::{Done, Event, Id, Limits, Op, Outcome, Refusal, Report, Step, World};
 use judge::{Call, Reply};
 use std::alloc::Global;
@@ -100,23 +119,31 @@ pub fn answer_of(call: Call<u64>) -> Option<Option<u64>> {
     }
 }
 
-/// A whole call on a key.
-pub fn call(index: &mut Index, worker: u32, call: Call<u64>) -> Outcome<u64> {
-    match index.call(worker, op_of(call), END as usize, &mut []) {
-        Some(report) => go_on(index, worker, answer_of(call), END, report.outcome),
+/// More steps than a whole call takes.
+const LONG: u32 = 1_000;
+
+/// A whole call of a worker, whose closure answers so where it is asked. A scan's pairs come into these places.
+pub fn whole(
+    index: &mut Index,
+    worker: u32,
+    op: Op<u64>,
+    answer: Option<Option<u64>>,
+    places: &mut [(u64, u64)],
+) -> Outcome<u64> {
+    match index.call(worker, op, LONG as usize, places) {
+        Some(report) => go_on(index, worker, answer, LONG, report.outcome),
         None => Outcome::Running,
     }
 }
 
-/// More steps than a call on the collector takes.
-const LONG: usize = 1_000;
+/// A whole call on a key.
+pub fn call(index: &mut Index, worker: u32, call: Call<u64>) -> Outcome<u64> {
+    whole(index, worker, op_of(call), answer_of(call), &mut [])
+}
 
 /// A whole call on the collector, and whether it is done.
 pub fn is_done(index: &mut Index, worker: u32, op: Op<u64>) -> bool {
-    match index.call(worker, op, LONG, &mut []) {
-        Some(report) => report.outcome == Outcome::Done(Done::Unit),
-        None => false,
-    }
+    whole(index, worker, op, None, &mut []) == Outcome::Done(Done::Unit)
 }
 
 /// So many rounds of pin, flush and unpin, and whether each is done.

@@ -1,0 +1,558 @@
+//! The face for threads: handles, guards, and values without pointers. `atomics` has the rows of pointers.
+
+use super::machine::adds;
+use crossbeam_epoch::{
+    Atomic, Collector, CompareAndSetOrdering, Fault, Guard, Job, Limits, Link, LocalHandle, Owned,
+    Pointable, Shared, unprotected,
+};
+use std::alloc::Global;
+use std::ops::DerefMut;
+use std::process::Abort;
+use std::sync::atomic::Ordering::SeqCst;
+use std::sync::atomic::{AtomicU64, Ordering};
+use std::sync::{Arc, Wait};
+use std::test::Fail;
+
+/// A value with tags 0 to 3.
+#[derive(Clone, Debug, PartialEq, Eq, Drop)]
+pub struct Item(u64);
+
+impl Item {
+    pub fn number(&self) -> u64 {
+        self.0
+    }
+
+    /// Adds one.
+    pub fn raise(&mut self) {
+        self.0 = self.0.wrapping_add(1);
+    }
+}
+
+impl Pointable for Item {
+    ghost use Rattle.std.proofs.Common.{refl, lit≤};
+
+    ghost ALIGN = { 4 };
+
+    const ALIGN: u16 = 4;
+
+    ghost aligned = { (2, lit≤ tt, refl) };
+}
+
+pub type Handle<'c> = LocalHandle<'c, Item>;
+
+pub type ItemGuard<'c> = Guard<'c, Item>;
+
+/// Ample limits, but for the cells.
+pub fn limits(cells: u32) -> Limits {
+    Limits {
+        participants: 4,
+        cells,
+        turn_max: u32::MAX,
+        epoch_max: 1 << 62,
+        expiry: 2,
+    }
+}
+
+#[test]
+fn guards_nest_and_move(rt: HostRuntime) -> Result<(), Fail> {
+    let items: Collector<Item> = Collector::new(&rt, rt.alloc(), limits(20), 1)?;
+    let mut handle = items.register(&rt)?;
+    assert!(rt; repins(&rt, &mut handle)?);
+    assert!(rt; nests(&rt, &mut handle)?);
+    assert!(rt; makes(&rt, rt.alloc(), &mut handle)?);
+    Ok(())
+}
+
+#[test]
+fn a_full_store_hands_back_and_a_read_value_stays(rt: HostRuntime) -> Result<(), Fail> {
+    let items: Collector<Item> = Collector::new(&rt, rt.alloc(), limits(1), 1)?;
+    assert_eq!(rt; tries_one_cell(&rt, rt.alloc(), &items)?, (true, true));
+    Ok(())
+}
+
+/// Whether a full store hands back, and a value that is read stays.
+fn tries_one_cell<R: Wait + Abort>(
+    rt: &R,
+    alloc: Global,
+    items: &Collector<Item>,
+) -> Result<(bool, bool), Fault> {
+    let mut handle = items.register(rt)?;
+    let pinned = handle.pin()?;
+    let guard = &pinned;
+    let under = Under { rt, alloc, guard };
+    let fills = under.fills();
+    let stays = under.stays_where_read(items);
+    spend(rt, &mut handle, pinned);
+    Ok((fills?, stays?))
+}
+
+/// Spends a guard of the handle.
+pub fn spend<R: Abort>(rt: &R, handle: &mut Handle<'_>, guard: ItemGuard<'_>) {
+    match handle.unpin(guard) {
+        Ok(()) => {}
+        Err(_refused) => panic!(rt; "a handle refuses its guard"),
+    }
+}
+
+/// So many rounds of pin, flush, unpin.
+pub fn rounds<R: Wait + Abort>(rt: &R, handle: &mut Handle<'_>, count: u32) -> Result<(), Fault> {
+    for _ in 0..count {
+        round(rt, handle)?;
+    }
+    Ok(())
+}
+
+/// Pin, flush, unpin.
+fn round<R: Wait + Abort>(rt: &R, handle: &mut Handle<'_>) -> Result<(), Fault> {
+    let guard = handle.pin()?;
+    let flushed = handle.flush(rt, &guard);
+    spend(rt, handle, guard);
+    flushed
+}
+
+/// A value without a pointer.
+pub fn boxed(alloc: Global, number: u64) -> Result<Owned<Item>, Fault> {
+    match Owned::new(alloc, Item(number)) {
+        Ok(owned) => Ok(owned),
+        Err((fault, _item)) => Err(fault),
+    }
+}
+
+/// The number of a value that was taken out.
+pub fn number_of(owned: Option<Owned<Item>>) -> Option<u64> {
+    Some(owned?.into_box().0)
+}
+
+/// The pointer before a swap.
+pub fn swapped<R: Wait + Abort>(
+    rt: &R,
+    root: &Atomic<Item>,
+    new: Link,
+    guard: &ItemGuard<'_>,
+) -> Result<Link, Fault> {
+    match root.swap(rt, new, SeqCst, guard) {
+        Ok(before) => Ok(before.link()),
+        Err((fault, _new)) => Err(fault),
+    }
+}
+
+/// Puts off the destruction of what stands there.
+pub fn destroy<R: Wait + Abort>(
+    rt: &R,
+    handle: &mut Handle<'_>,
+    guard: &ItemGuard<'_>,
+    link: Link,
+) -> Result<(), Fault> {
+    match handle.defer_destroy(rt, guard, Shared::of(link)) {
+        Ok(()) => Ok(()),
+        Err((fault, _back)) => Err(fault),
+    }
+}
+
+/// Defers a job.
+pub fn defer<R: Wait + Abort>(
+    rt: &R,
+    handle: &mut Handle<'_>,
+    guard: &ItemGuard<'_>,
+    job: Job,
+) -> Result<(), Fault> {
+    match handle.defer(rt, guard, job) {
+        Ok(()) => Ok(()),
+        Err((fault, _job)) => Err(fault),
+    }
+}
+
+/// Whether guards of one handle nest, and the last one that goes takes the pin away.
+fn nests<R: Abort>(rt: &R, handle: &mut Handle<'_>) -> Result<bool, Fault> {
+    let first = handle.pin()?;
+    let second = match handle.pin() {
+        Ok(second) => second,
+        Err(fault) => {
+            spend(rt, handle, first);
+            return Err(fault);
+        }
+    };
+    let same = first.pinned_at() == second.pinned_at();
+    let both = handle.is_pinned();
+    spend(rt, handle, first);
+    let one = handle.is_pinned();
+    spend(rt, handle, second);
+    Ok(same && both && one && !handle.is_pinned())
+}
+
+/// Whether a guard stays at its epoch while the epoch goes on, until a repin.
+fn repins<R: Wait + Abort>(rt: &R, handle: &mut Handle<'_>) -> Result<bool, Fault> {
+    let mut guard = handle.pin()?;
+    let start = guard.pinned_at();
+    handle.collect(rt);
+    handle.collect(rt);
+    let stuck = guard.pinned_at();
+    let repinned = handle.repin(&mut guard);
+    let next = guard.pinned_at();
+    let answer = handle.repin_after(&mut guard, || 7u8);
+    spend(rt, handle, guard);
+    let epochs = (start, stuck, next) == (0, 0, 1);
+    Ok(epochs && repinned == Ok(()) && answer == Ok(7))
+}
+
+/// Why what stands there isn't destroyed without a guard.
+pub fn destroys_at_once<R: Wait>(rt: &R, items: &Collector<Item>, link: Link) -> Option<Fault> {
+    let pointer: Shared<'_, Item> = Shared::of(link);
+    match unprotected().defer_destroy(rt, items, pointer) {
+        Ok(()) => None,
+        Err((fault, _back)) => Some(fault),
+    }
+}
+
+fn made(atomic: Result<Atomic<Item>, (Fault, Item)>) -> Result<Atomic<Item>, Fault> {
+    match atomic {
+        Ok(atomic) => Ok(atomic),
+        Err((fault, _item)) => Err(fault),
+    }
+}
+
+/// What is done under a guard.
+#[derive_where(Clone, Copy)]
+pub struct Under<'a, 'c, R: Wait + Abort> {
+    pub rt: &'a R,
+    pub alloc: Global,
+    pub guard: &'a ItemGuard<'c>,
+}
+
+impl<'a, R: Wait + Abort> Under<'a, '_, R> {
+    /// A value that is placed, and where it stands.
+    pub fn placed(self, number: u64) -> Result<Link, Fault> {
+        match boxed(self.alloc, number)?.into_shared(self.rt, self.guard) {
+            Ok(pointer) => Ok(pointer.link()),
+            Err((fault, _owned)) => Err(fault),
+        }
+    }
+
+    /// Whether the second value is handed back by a full store, and finds room once the first is taken out.
+    fn fills(self) -> Result<bool, Fault> {
+        // The tag is 6 modulo 4.
+        let first = match Atomic::place(self.rt, self.guard, boxed(self.alloc, 1)?.with_tag(6)) {
+            Ok(root) => root,
+            Err((fault, _owned)) => return Err(fault),
+        };
+        let second = self.refused_value(boxed(self.alloc, 2)?);
+        let tag = first
+            .into_owned(self.rt, self.guard)
+            .map(|owned| owned.tag());
+        Ok(tag == Some(2) && self.finds_room(second))
+    }
+
+    /// Whether this is the second value, and finds room.
+    fn finds_room(self, second: Option<Owned<Item>>) -> bool {
+        match second {
+            Some(owned) => owned.borrow().0 == 2 && self.refused_value(owned).is_none(),
+            None => false,
+        }
+    }
+
+    /// A value that a full store hands back; another one is taken out again.
+    fn refused_value(self, owned: Owned<Item>) -> Option<Owned<Item>> {
+        match Atomic::place(self.rt, self.guard, owned) {
+            Ok(root) => {
+                root.into_owned(self.rt, self.guard);
+                None
+            }
+            Err((_fault, owned)) => Some(owned),
+        }
+    }
+
+    /// Whether a value that is read when it is destroyed stays, and its cell isn't used again.
+    fn stays_where_read(self, items: &Collector<Item>) -> Result<bool, Fault> {
+        let link = self.placed(4)?;
+        let pointer: Shared<'_, Item> = Shared::of(link);
+        let Some(lent) = pointer.deref(self.rt, self.guard) else {
+            return Ok(false);
+        };
+        let accepted = destroys_at_once(self.rt, items, link).is_none();
+        lent.back(self.rt);
+        let full = self.placed(5) == Err(Fault::CellsFull);
+        Ok(accepted && full && self.number_there(link) == Some(4))
+    }
+
+    fn number_there(self, link: Link) -> Option<u64> {
+        let pointer: Shared<'_, Item> = Shared::of(link);
+        let lent = pointer.as_ref(self.rt, self.guard)?;
+        let number = lent.get().0;
+        lent.back(self.rt);
+        Some(number)
+    }
+
+    /// Whether two values that are boxed and placed are read and taken out again.
+    fn makes(self) -> Result<bool, Fault> {
+        let (rt, guard) = (self.rt, self.guard);
+        let one = made(Atomic::new(rt, self.alloc, Item(1), guard))?;
+        let two = made(Atomic::init(rt, self.alloc, Item(2), guard))?;
+        let read = self.number_there(one.load(rt, SeqCst, guard).link());
+        let first = number_of(one.try_into_owned(rt, guard));
+        let second = number_of(two.into_owned(rt, guard));
+        Ok(read == Some(1) && first == Some(1) && second == Some(2))
+    }
+
+    /// Whether an `Atomic` has the pointer that it is made of.
+    fn begins(self) -> bool {
+        let (rt, guard) = (self.rt, self.guard);
+        let null: Shared<'_, Item> = Shared::default();
+        let roots = [
+            Atomic::default(),
+            Atomic::from_shared(null.with_tag(1)),
+            Atomic::from(null.with_tag(2)),
+        ];
+        let mut right = true;
+        for (tag, root) in roots.iter().enumerate() {
+            let found = root.load(rt, SeqCst, guard);
+            right &= found.is_null() && found.tag() == tag;
+        }
+        right
+    }
+}
+
+/// Whether each way to make an `Atomic` makes it so.
+fn makes<R: Wait + Abort>(rt: &R, alloc: Global, handle: &mut Handle<'_>) -> Result<bool, Fault> {
+    let pinned = handle.pin()?;
+    let guard = &pinned;
+    let under = Under { rt, alloc, guard };
+    let (makes, begins) = (under.makes(), under.begins());
+    spend(rt, handle, pinned);
+    Ok(makes? && begins)
+}
+
+#[test]
+fn handles_refuse(rt: HostRuntime) -> Result<(), Fail> {
+    let mut limits = limits(1);
+    limits.participants = 2;
+    let two_places = limits;
+    limits.expiry = 1;
+    let refused: Result<Collector<Item>, Fault> = Collector::new(&rt, rt.alloc(), limits, 1);
+    assert_eq!(rt; refused.err(), Some(Fault::Limits));
+    let items: Collector<Item> = Collector::new(&rt, rt.alloc(), two_places, 1)?;
+    assert!(rt; two_handles_refuse(&rt, &items)?);
+    Ok(())
+}
+
+/// Whether two handles fill the table of this collector, and refuse each other's guards and null.
+fn two_handles_refuse<R: Wait + Abort>(rt: &R, items: &Collector<Item>) -> Result<bool, Fault> {
+    let (mut zero, mut one) = two_handles(rt, items)?;
+    let full = items.register(rt).err() == Some(Fault::TableFull);
+    let refused = refuse(rt, &mut zero, &mut one)?;
+    Ok(full && refused && zero.collector().same(items) && !one.is_pinned())
+}
+
+/// Whether a handle refuses to flush under another's guard, and to destroy null.
+fn refuse<R: Wait + Abort>(
+    rt: &R,
+    zero: &mut Handle<'_>,
+    one: &mut Handle<'_>,
+) -> Result<bool, Fault> {
+    let guard = zero.pin()?;
+    let flushed = one.flush(rt, &guard);
+    let destroyed = destroy(rt, zero, &guard, Link::null());
+    spend(rt, zero, guard);
+    Ok(flushed == Err(Fault::Foreign) && destroyed == Err(Fault::Unknown))
+}
+
+#[test]
+fn a_collector_ends(rt: HostRuntime) -> Result<(), Fail> {
+    let sum = Arc::new(rt.alloc(), AtomicU64::new(0))?;
+    let job = adds(rt.alloc(), &sum, 1)?;
+    let items: Collector<Item> = Collector::new(&rt, rt.alloc(), limits(1), 1)?;
+    let left = leaves_job(&rt, &items, job)? && sum.load(SeqCst) == 0;
+    let ended = items.end().is_ok();
+    assert!(rt; left && ended && sum.load(SeqCst) == 1);
+    Ok(())
+}
+
+/// Defers a job in a new handle, which is released.
+fn leaves_job<R: Wait + Abort>(rt: &R, items: &Collector<Item>, job: Job) -> Result<bool, Fault> {
+    let mut handle = items.register(rt)?;
+    let guard = handle.pin()?;
+    let deferred = handle.defer_unchecked(rt, &guard, job).is_ok();
+    spend(rt, &mut handle, guard);
+    Ok(deferred && handle.release(rt).is_ok())
+}
+
+#[test]
+fn a_failure_loads_as_strongly_as_it_may(rt: HostRuntime) {
+    let rows = [
+        (Ordering::Relaxed, Ordering::Relaxed),
+        (Ordering::Release, Ordering::Relaxed),
+        (Ordering::Acquire, Ordering::Acquire),
+        (Ordering::AcqRel, Ordering::Acquire),
+        (SeqCst, SeqCst),
+    ];
+    for (order, failure) in rows {
+        assert!(rt; order.success() == order && order.failure() == failure);
+        let pair = (order, failure);
+        assert!(rt; pair.success() == order && pair.failure() == failure);
+    }
+}
+
+#[test]
+fn a_participant_is_unpinned_while_a_repin_waits(rt: HostRuntime) -> Result<(), Fail> {
+    let items: Collector<Item> = Collector::new(&rt, rt.alloc(), limits(1), 1)?;
+    let epochs = goes_on_meanwhile(&rt, &items)?;
+    assert_eq!(rt; epochs, (0, 2));
+    Ok(())
+}
+
+/// The epochs of a guard before and after a repin, during which another handle tries to advance twice.
+fn goes_on_meanwhile<R: Wait + Abort>(
+    rt: &R,
+    items: &Collector<Item>,
+) -> Result<(u64, u64), Fault> {
+    let (mut zero, mut one) = two_handles(rt, items)?;
+    let mut guard = zero.pin()?;
+    let before = guard.pinned_at();
+    let answer = zero.repin_after(&mut guard, || {
+        one.collect(rt);
+        one.collect(rt);
+    });
+    let after = guard.pinned_at();
+    spend(rt, &mut zero, guard);
+    answer?;
+    Ok((before, after))
+}
+
+#[test]
+fn a_refused_end_keeps_the_jobs(rt: HostRuntime) -> Result<(), Fail> {
+    let sum = Arc::new(rt.alloc(), AtomicU64::new(0))?;
+    let job = adds(rt.alloc(), &sum, 1)?;
+    let items: Collector<Item> = Collector::new(&rt, rt.alloc(), limits(1), 1)?;
+    seals(&rt, &mut items.register(&rt)?, job)?;
+    let Err((_fault, back)) = items.end() else {
+        panic!(rt; "a handle is registered");
+    };
+    let before = sum.load(SeqCst);
+    rounds(&rt, &mut back.register(&rt)?, 3)?;
+    assert_eq!(rt; (before, sum.load(SeqCst)), (0, 1));
+    Ok(())
+}
+
+/// Defers the job under a pin, and flushes.
+pub fn seals<R: Wait + Abort>(rt: &R, handle: &mut Handle<'_>, job: Job) -> Result<(), Fault> {
+    let guard = handle.pin()?;
+    let deferred = defer(rt, handle, &guard, job);
+    let flushed = handle.flush(rt, &guard);
+    spend(rt, handle, guard);
+    deferred?;
+    flushed
+}
+
+#[test]
+fn a_handle_keeps_its_collector(rt: HostRuntime) -> Result<(), Fail> {
+    let items: Collector<Item> = Collector::new(&rt, rt.alloc(), limits(1), 2)?;
+    drop(items.register(&rt)?);
+    let Err((fault, back)) = items.end() else {
+        panic!(rt; "a handle is registered");
+    };
+    assert_eq!(rt; (fault, back.id()), (Fault::Registered(1), 2));
+    Ok(())
+}
+
+#[test]
+fn a_pinned_handle_stays(rt: HostRuntime) -> Result<(), Fail> {
+    let items: Collector<Item> = Collector::new(&rt, rt.alloc(), limits(1), 1)?;
+    assert!(rt; stays(&rt, items.register(&rt)?)?);
+    Ok(())
+}
+
+/// Whether a handle is released only when its guard is spent.
+fn stays<R: Wait + Abort>(rt: &R, mut handle: Handle<'_>) -> Result<bool, Fault> {
+    let guard = handle.pin()?;
+    match handle.release(rt) {
+        Ok(()) => panic!(rt; "a pinned handle leaves"),
+        Err((fault, mut back)) => {
+            spend(rt, &mut back, guard);
+            Ok(fault == Fault::GuardOut && back.release(rt).is_ok())
+        }
+    }
+}
+
+#[test]
+fn a_pinned_handle_blocks(rt: HostRuntime) -> Result<(), Fail> {
+    let sum = Arc::new(rt.alloc(), AtomicU64::new(0))?;
+    let job = adds(rt.alloc(), &sum, 1)?;
+    let items: Collector<Item> = Collector::new(&rt, rt.alloc(), limits(1), 1)?;
+    let before = goes_while_blocked(&rt, &items, job, &sum)?;
+    assert_eq!(rt; (before, sum.load(SeqCst)), (0, 1));
+    Ok(())
+}
+
+/// A handle defers a job and goes rounds while another one is pinned. The sum before the other one is unpinned.
+fn goes_while_blocked<R: Wait + Abort>(
+    rt: &R,
+    items: &Collector<Item>,
+    job: Job,
+    sum: &AtomicU64,
+) -> Result<u64, Fault> {
+    let (mut zero, mut one) = two_handles(rt, items)?;
+    let blocking = one.pin()?;
+    let sealed = seals(rt, &mut zero, job);
+    let gone = rounds(rt, &mut zero, 10);
+    let before = sum.load(SeqCst);
+    spend(rt, &mut one, blocking);
+    sealed?;
+    gone?;
+    rounds(rt, &mut zero, 3)?;
+    Ok(before)
+}
+
+fn two_handles<'c, R: Wait + Abort>(
+    rt: &R,
+    items: &'c Collector<Item>,
+) -> Result<(Handle<'c>, Handle<'c>), Fault> {
+    let zero = items.register(rt)?;
+    let one = items.register(rt)?;
+    Ok((zero, one))
+}
+
+#[test]
+fn unprotected_calls_at_once(rt: HostRuntime) -> Result<(), Fail> {
+    let sum = Arc::new(rt.alloc(), AtomicU64::new(0))?;
+    let job = adds(rt.alloc(), &sum, 1)?;
+    let mut free = unprotected();
+    free.defer(&rt, job);
+    free.flush(&rt);
+    free.repin(&rt);
+    let none: Option<&Collector<Item>> = free.collector();
+    assert!(rt; sum.load(SeqCst) == 1 && none.is_none());
+    Ok(())
+}
+
+#[test]
+fn owned_values(rt: HostRuntime) -> Result<(), Fail> {
+    let alloc = rt.alloc();
+    let mut owned = match Owned::init(alloc, Item(4)) {
+        Ok(owned) => owned.with_tag(7),
+        Err((fault, _item)) => return Err(fault.into()),
+    };
+    owned.deref_mut().0 = 5;
+    owned.as_mut().0 = 6;
+    owned.borrow_mut().0 = 7;
+    assert!(rt; owned.tag() == 3 && owned.0 == 7);
+    assert!(rt; *owned.as_ref() == Item(7) && *owned.borrow() == Item(7));
+    let copy = Owned::from(Box::new(alloc, Item(9))?);
+    assert!(rt; copy.tag() == 0 && copy.into_box().0 == 9);
+    Ok(())
+}
+
+#[test]
+fn a_copy_has_the_value_and_the_tag(rt: HostRuntime) -> Result<(), Fail> {
+    let owned = boxed(rt.alloc(), 4)?.with_tag(3);
+    let copy = owned.clone()?;
+    assert!(rt; copy.tag() == 3 && copy.into_box().0 == 4);
+    assert!(rt; owned.tag() == 3 && owned.into_box().0 == 4);
+    Ok(())
+}
+
+#[test]
+fn tagged_nulls_are_null(rt: HostRuntime) {
+    let null: Shared<'_, Item> = Shared::null();
+    let one: Shared<'_, Item> = null.with_tag(1);
+    assert!(rt; null.is_null() && one.is_null());
+    assert!(rt; null != one && null < one && one == one.with_tag(5));
+}

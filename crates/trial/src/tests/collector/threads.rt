@@ -1,0 +1,341 @@
+//! Two threads on one collector.
+
+use super::face::{
+    Handle, Item, ItemGuard, Under, defer, destroy, limits, rounds, seals, spend, swapped,
+};
+use super::machine::adds;
+use crate::tests::threads::threaded::comes;
+use crossbeam_epoch::{Atomic, Collector, Fault, Job, Link, Pointable};
+use std::alloc::{AllocError, Global};
+use std::process::Abort;
+use std::sync::atomic::Ordering::SeqCst;
+use std::sync::atomic::{AtomicBool, AtomicU64};
+use std::sync::{Arc, Wait};
+use std::test::Fail;
+use std::thread;
+use std::thread::Threads;
+
+/// For what threads may share, and send to one another.
+fn crosses<C: Send + Sync>(_shared: &C) {}
+
+/// A collector and its pointers are such, where its values are.
+fn both_cross<T: Pointable + Drop + Send + Sync>(items: &Collector<T>, root: &Atomic<T>) {
+    crosses(items);
+    crosses(root);
+}
+
+#[test]
+fn two_threads_share_an_atomic(rt: HostRuntime) -> Result<(), Fail> {
+    let calls = Arc::new(rt.alloc(), AtomicU64::new(0))?;
+    let first = jobs(rt.alloc(), &calls, 1, 256)?;
+    let second = jobs(rt.alloc(), &calls, 1 << 32, 256)?;
+    let items: Collector<Item> = Collector::new(&rt, rt.alloc(), limits(8), 1)?;
+    assert!(rt; shares(&rt, rt.alloc(), &items, first, second)?);
+    // Byte n counts the calls of job n.
+    assert!(rt; calls.load(SeqCst) == 0x0101_0101_0101_0101);
+    Ok(())
+}
+
+/// Four jobs; the first adds this unit to the calls, and each further one so many times the unit of the one before.
+fn jobs(
+    alloc: Global,
+    calls: &Arc<AtomicU64>,
+    unit: u64,
+    times: u64,
+) -> Result<Vec<Job>, AllocError> {
+    let mut jobs = Vec::new(alloc);
+    let mut unit = unit;
+    for _ in 0..4 {
+        jobs.push(adds(alloc, calls, unit)?)?;
+        unit = unit.wrapping_mul(times);
+    }
+    Ok(jobs)
+}
+
+/// Whether each load of two threads found a value, and everything is collected afterwards.
+fn shares<R: Threads + Wait + Abort + Sync>(
+    rt: &R,
+    alloc: Global,
+    items: &Collector<Item>,
+    first: Vec<Job>,
+    second: Vec<Job>,
+) -> Result<bool, Fault> {
+    let root: Atomic<Item> = Atomic::null();
+    both_cross(items, &root);
+    let swapped = &root;
+    let (one, two) = thread::join(
+        rt,
+        move || swap_in_turn(rt, alloc, items, swapped, first),
+        move || swap_in_turn(rt, alloc, items, swapped, second),
+    );
+    let emptied = empties(rt, alloc, items, &root)?;
+    Ok(one? && two? && emptied)
+}
+
+/// For each job, swaps a new value in under a guard, and puts off the job and the destruction of the value before.
+/// Whether each load found a value.
+fn swap_in_turn<R: Wait + Abort>(
+    rt: &R,
+    alloc: Global,
+    items: &Collector<Item>,
+    root: &Atomic<Item>,
+    jobs: Vec<Job>,
+) -> Result<bool, Fault> {
+    let mut handle = items.register(rt)?;
+    let mut found = true;
+    for job in jobs {
+        found &= replaces(rt, alloc, &mut handle, root, job)?;
+    }
+    leaves(rt, handle)?;
+    Ok(found)
+}
+
+/// Swaps a new value in under a guard, and puts off the job and the destruction of the value before. Whether a load
+/// finds a value.
+fn replaces<R: Wait + Abort>(
+    rt: &R,
+    alloc: Global,
+    handle: &mut Handle<'_>,
+    root: &Atomic<Item>,
+    job: Job,
+) -> Result<bool, Fault> {
+    let guard = handle.pin()?;
+    let swapped = swaps_in(rt, alloc, root, &guard);
+    let put_off = match swapped {
+        Ok((before, _found)) => puts_off(rt, handle, &guard, before, job),
+        Err(fault) => Err(fault),
+    };
+    spend(rt, handle, guard);
+    put_off?;
+    let (_before, found) = swapped?;
+    Ok(found)
+}
+
+/// Swaps a new value in. The pointer before, and whether a load finds a value.
+fn swaps_in<R: Wait + Abort>(
+    rt: &R,
+    alloc: Global,
+    root: &Atomic<Item>,
+    guard: &ItemGuard<'_>,
+) -> Result<(Link, bool), Fault> {
+    let under = Under { rt, alloc, guard };
+    let before = swapped(rt, root, under.placed(1)?, guard)?;
+    Ok((before, !root.load(rt, SeqCst, guard).is_null()))
+}
+
+/// Puts off the job and the destruction of the value that the pointer leads to, if it isn't null, and collects.
+fn puts_off<R: Wait + Abort>(
+    rt: &R,
+    handle: &mut Handle<'_>,
+    guard: &ItemGuard<'_>,
+    before: Link,
+    job: Job,
+) -> Result<(), Fault> {
+    if before != Link::null() {
+        destroy(rt, handle, guard, before)?;
+    }
+    defer(rt, handle, guard, job)?;
+    handle.flush(rt, guard)
+}
+
+/// Releases the handle.
+pub fn leaves<R: Wait + Abort>(rt: &R, handle: Handle<'_>) -> Result<(), Fault> {
+    match handle.release(rt) {
+        Ok(()) => Ok(()),
+        Err((fault, _back)) => Err(fault),
+    }
+}
+
+/// Puts off the destruction of the last value and collects until nothing is left. Whether every cell is vacant then.
+fn empties<R: Wait + Abort>(
+    rt: &R,
+    alloc: Global,
+    items: &Collector<Item>,
+    root: &Atomic<Item>,
+) -> Result<bool, Fault> {
+    let mut handle = items.register(rt)?;
+    drops_last(rt, &mut handle, root)?;
+    rounds(rt, &mut handle, 8)?;
+    let vacant = fills_all(rt, alloc, &mut handle)?;
+    leaves(rt, handle)?;
+    Ok(vacant)
+}
+
+/// Puts off the destruction of the value that the pointer leads to, which becomes null.
+fn drops_last<R: Wait + Abort>(
+    rt: &R,
+    handle: &mut Handle<'_>,
+    root: &Atomic<Item>,
+) -> Result<(), Fault> {
+    let guard = handle.pin()?;
+    let outcome = match swapped(rt, root, Link::null(), &guard) {
+        Ok(last) => destroy(rt, handle, &guard, last),
+        Err(fault) => Err(fault),
+    };
+    spend(rt, handle, guard);
+    outcome
+}
+
+/// Whether eight values are placed.
+fn fills_all<R: Wait + Abort>(
+    rt: &R,
+    alloc: Global,
+    handle: &mut Handle<'_>,
+) -> Result<bool, Fault> {
+    let pinned = handle.pin()?;
+    let guard = &pinned;
+    let under = Under { rt, alloc, guard };
+    let mut vacant = true;
+    for number in 0..8 {
+        vacant &= under.placed(number).is_ok();
+    }
+    spend(rt, handle, pinned);
+    Ok(vacant)
+}
+
+#[test]
+fn two_pinned_at_once(rt: HostRuntime) -> Result<(), Fail> {
+    let items: Collector<Item> = Collector::new(&rt, rt.alloc(), limits(1), 1)?;
+    assert_eq!(rt; pins_in_two_threads(&rt, &items)?, (true, true));
+    Ok(())
+}
+
+/// What a thread tells another: that it is there, and that it has pinned.
+#[derive(Drop)]
+struct Flags {
+    here: AtomicBool,
+    pinned: AtomicBool,
+}
+
+impl Flags {
+    /// Neither is told yet.
+    fn new() -> Flags {
+        Flags {
+            here: AtomicBool::new(false),
+            pinned: AtomicBool::new(false),
+        }
+    }
+}
+
+/// Two threads pin, each with a handle of its own. Whether each one, pinned, saw that the other was pinned too.
+fn pins_in_two_threads<R: Threads + Wait + Abort + Sync>(
+    rt: &R,
+    items: &Collector<Item>,
+) -> Result<(bool, bool), Fault> {
+    let first = Flags::new();
+    let second = Flags::new();
+    let (one, two) = (&first, &second);
+    let (sees, is_seen) = thread::join(
+        rt,
+        move || meets(rt, items, one, two),
+        move || meets(rt, items, two, one),
+    );
+    Ok((sees?, is_seen?))
+}
+
+/// Pins as soon as the other thread is there, tells so, and waits until the other has pinned: at most ten thousand turns that
+/// yield. Whether it did in time.
+fn meets<R: Wait + Abort>(
+    rt: &R,
+    items: &Collector<Item>,
+    mine: &Flags,
+    other: &Flags,
+) -> Result<bool, Fault> {
+    mine.here.store(true, SeqCst);
+    waits(rt, &other.here);
+    let mut handle = items.register(rt)?;
+    let guard = handle.pin()?;
+    mine.pinned.store(true, SeqCst);
+    let met = comes(&other.pinned, 10_000);
+    spend(rt, &mut handle, guard);
+    leaves(rt, handle)?;
+    Ok(met)
+}
+
+/// Waits until the flag is set.
+fn waits<R: Wait + Abort>(rt: &R, flag: &AtomicBool) {
+    for _ in rt.forever() {
+        if flag.load(SeqCst) {
+            return;
+        }
+        thread::yield_now();
+    }
+}
+
+#[test]
+fn four_threads_take_turns_at_two_places(rt: HostRuntime) -> Result<(), Fail> {
+    let calls = Arc::new(rt.alloc(), AtomicU64::new(0))?;
+    let first = jobs(rt.alloc(), &calls, 1, 16)?;
+    let second = jobs(rt.alloc(), &calls, 1 << 16, 16)?;
+    let third = jobs(rt.alloc(), &calls, 1 << 32, 16)?;
+    let fourth = jobs(rt.alloc(), &calls, 1 << 48, 16)?;
+    let mut places = limits(1);
+    places.participants = 2;
+    let items: Collector<Item> = Collector::new(&rt, rt.alloc(), places, 1)?;
+    four_take_turns(&rt, &items, (first, second), (third, fourth))?;
+    assert!(rt; items.end().is_ok());
+    // Hexadecimal digit n counts the calls of job n.
+    assert!(rt; calls.load(SeqCst) == 0x1111_1111_1111_1111);
+    Ok(())
+}
+
+/// `take_turns` in four threads at once.
+fn four_take_turns<R: Threads + Wait + Abort + Sync>(
+    rt: &R,
+    items: &Collector<Item>,
+    one: (Vec<Job>, Vec<Job>),
+    two: (Vec<Job>, Vec<Job>),
+) -> Result<(), Fault> {
+    let (first, second) = thread::join(
+        rt,
+        move || two_take_turns(rt, items, one.0, one.1),
+        move || two_take_turns(rt, items, two.0, two.1),
+    );
+    first?;
+    second
+}
+
+/// `take_turns` in two threads at once.
+fn two_take_turns<R: Threads + Wait + Abort + Sync>(
+    rt: &R,
+    items: &Collector<Item>,
+    one: Vec<Job>,
+    two: Vec<Job>,
+) -> Result<(), Fault> {
+    let (first, second) = thread::join(
+        rt,
+        move || take_turns(rt, items, one),
+        move || take_turns(rt, items, two),
+    );
+    first?;
+    second
+}
+
+/// For each job, waits for a free place, defers the job under a guard, collects, and leaves.
+fn take_turns<R: Wait + Abort>(
+    rt: &R,
+    items: &Collector<Item>,
+    jobs: Vec<Job>,
+) -> Result<(), Fault> {
+    for job in jobs {
+        let mut handle = place_of_its_own(rt, items)?;
+        seals(rt, &mut handle, job)?;
+        leaves(rt, handle)?;
+    }
+    Ok(())
+}
+
+/// A handle, once a place is free.
+fn place_of_its_own<'c, R: Wait + Abort>(
+    rt: &R,
+    items: &'c Collector<Item>,
+) -> Result<Handle<'c>, Fault> {
+    for _ in rt.forever() {
+        match items.register(rt) {
+            Ok(handle) => return Ok(handle),
+            Err(Fault::TableFull) => thread::yield_now(),
+            Err(fault) => return Err(fault),
+        }
+    }
+    unreachable!()
+}

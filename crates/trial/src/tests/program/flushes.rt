@@ -1,0 +1,117 @@
+//! Flushes that fail: each ends the program with 1, and nothing is read or written after it.
+
+use crate::run::run;
+use crate::start::start;
+use std::alloc::Global;
+use std::io::{self, ErrorKind, Read, Write};
+use std::process::ExitCode;
+use std::test::Fail;
+
+/// Takes what it is given. One of its flushes fails, and it goes on after it.
+#[derive(Drop)]
+struct Unflushed {
+    taken: Vec<u8>,
+    /// The flushes before the one that fails.
+    before: u64,
+}
+
+impl Write for Unflushed {
+    fn write(&mut self, buf: &[u8]) -> io::Result<usize> {
+        self.taken.extend_from_slice(buf)?;
+        Ok(buf.len())
+    }
+
+    fn flush(&mut self) -> io::Result<()> {
+        let fails = self.before == 0;
+        self.before = self.before.wrapping_sub(1);
+        if fails {
+            return Err(io::Error::from(ErrorKind::Interrupted));
+        }
+        Ok(())
+    }
+}
+
+/// Gives a script by its lines.
+#[derive(Drop)]
+struct Lines<'a> {
+    left: &'a [&'static [u8]],
+}
+
+impl Read for Lines<'_> {
+    fn read(&mut self, buf: &mut [u8]) -> io::Result<usize> {
+        let [line, left @ ..] = self.left else {
+            return Ok(0);
+        };
+        let n = buf.len().min(line.len());
+        buf[..n].copy_from_slice(&line[..n]);
+        self.left = left;
+        Ok(n)
+    }
+}
+
+/// Two workers' calls are in flight when the last line comes.
+const SCRIPT: [&[u8]; 7] = [
+    b"new 2 9\n",
+    b"reg\nreg\n",
+    b"0 pin\n1 pin\n",
+    b"0 begin insert 1 7\n1 beg",
+    b"in get 1\n",
+    b"1 go 100\n",
+    b"0 go 100",
+];
+
+/// What each line's read has answered.
+const REPLIES: [&[u8]; 8] = [
+    b"ok\n",
+    b"worker 0\nworker 1\n",
+    b"ok\nok\n",
+    b"begun\n",
+    b"begun\n",
+    b"none\n",
+    b"",
+    b"none\n",
+];
+
+#[test]
+fn a_flush_that_fails_ends_a_script_with_calls_in_flight(rt: HostRuntime) -> Result<(), Fail> {
+    let mut expected = Vec::new(rt.alloc());
+    for (before, replies) in REPLIES.iter().enumerate() {
+        expected.extend_from_slice(*replies)?;
+        let mut reader = Lines { left: &SCRIPT };
+        let mut writer = Unflushed {
+            taken: Vec::new(rt.alloc()),
+            before: before as u64,
+        };
+        assert_eq!(rt; run(rt.alloc(), &mut reader, &mut writer), 1, "at {before}");
+        assert_eq!(rt; writer.taken.as_slice(), expected.as_slice(), "at {before}");
+        let left = SCRIPT.len().saturating_sub(before).saturating_sub(1);
+        assert_eq!(rt; reader.left.len(), left, "at {before}");
+    }
+    Ok(())
+}
+
+#[test]
+fn a_flush_that_fails_ends_a_history_and_the_usage(rt: HostRuntime) -> Result<(), Fail> {
+    let table: [(&[&str], &[u8]); 2] = [
+        (
+            &["threads", "1", "1"],
+            b"journal 1 legal\naudit true\nledger 1\n",
+        ),
+        (&["threads"], b"usage: trial [threads N M]\n"),
+    ];
+    for (arguments, text) in table {
+        let mut words = Vec::new(rt.alloc());
+        for argument in arguments {
+            words.push(String::from_str(rt.alloc(), *argument)?)?;
+        }
+        let mut script = b"".as_slice();
+        let mut writer = Unflushed {
+            taken: Vec::new(rt.alloc()),
+            before: 0,
+        };
+        let ended = start(&rt, rt.alloc(), &words, &mut script, &mut writer);
+        assert_eq!(rt; ended, ExitCode::from(1), "{text:?}");
+        assert_eq!(rt; writer.taken.as_slice(), text);
+    }
+    Ok(())
+}

@@ -1,0 +1,241 @@
+//! Sixteen threads that call on one index with a journal: calls of each kind on a key, and scans between.
+ghost use Rattle.std.specs.Prelude.{◌≡◌};
+
+use super::trees::{Told, raised_or, recorded_called};
+use crate::tests::machine::drawn::number_in;
+use crate::threads::callers;
+use crate::worker::{Caller, Cut, Index};
+use congee::DefaultAllocator;
+use joint::{Guard, Journaled, Limits, Refusal, Share, Worker, audit};
+use judge::{Call, Entry, Reply, Verdict, check};
+use std::alloc::Global;
+use std::marker::Brand;
+use std::sync::Wait;
+use std::sync::ledger::{Blank, Ledger};
+use std::test::Fail;
+use std::thread;
+use std::thread::Threads;
+
+const WORKERS: u32 = 16;
+
+/// How many calls each worker makes; and as many as the index has room for, which the sweep has it make.
+const CALLS: u32 = 40;
+
+const CALLS_MAX: u32 = 10_000;
+
+/// What a worker brings back.
+#[derive(Drop)]
+struct Worked<L: Ledger> {
+    share: Share<L>,
+    /// The entries of its calls, in its order.
+    own: Vec<Entry<u64>>,
+    /// Whether each scan found pairs that somebody put there.
+    is_scanned: bool,
+}
+
+/// A worker's call of this number. Each value tells its key, by what is left of it modulo 64; a closure adds 64 to it, or takes
+/// every second one out.
+fn call_at(place: u32, number: u64) -> Call<u64> {
+    let key = u64::from(place).wrapping_mul(7).wrapping_add(number) % 64;
+    let value = (number % 8).wrapping_mul(64).wrapping_add(key);
+    match number % 8 {
+        1 => Call::Get(key),
+        2 => Call::Remove(key),
+        3 => Call::ComputePresent(key, if number % 16 < 8 { Some(64) } else { None }),
+        5 => Call::ComputeInsert(key, value),
+        6 => {
+            let old = (number / 8 % 8).wrapping_mul(64).wrapping_add(key);
+            Call::Exchange(key, old, Some(value))
+        }
+        _ => Call::Insert(key, value),
+    }
+}
+
+/// The call with what its closure answered.
+fn answered(call: Call<u64>, reply: Reply<u64>) -> Call<u64> {
+    match (call, reply) {
+        (Call::ComputePresent(key, _), Reply::ComputePresent(told)) => {
+            Call::ComputePresent(key, told.and_then(|pair| pair.1))
+        }
+        (Call::ComputeInsert(key, value), Reply::ComputeInsert(before)) => {
+            Call::ComputeInsert(key, raised_or(before, value))
+        }
+        _ => call,
+    }
+}
+
+/// A worker's call of this number, and what it answered.
+fn calls<L: Ledger, R: Wait>(
+    rt: &R,
+    index: &Index<L>,
+    caller: &mut Caller<L>,
+    guard: &Guard,
+    number: u64,
+) -> Result<(Call<u64>, Reply<u64>), Refusal> {
+    let call = call_at(caller.place, number);
+    let (share, worker) = (&mut caller.share, &mut caller.worker);
+    match recorded_called(rt, index, call, share, worker, guard)? {
+        Told::Replied(reply) => Ok((answered(call, reply), reply)),
+        _ => Err(Refusal::Idle),
+    }
+}
+
+/// Whether a scan from a key on finds pairs that somebody put there.
+fn scans<L: Ledger, R: Wait>(
+    rt: &R,
+    index: &Index<L>,
+    worker: &mut Worker,
+    guard: &Guard,
+    from: u64,
+) -> Result<bool, Refusal> {
+    let mut out = [(0, 0); 20];
+    let count = index.range(rt, &from, &64, &mut out, worker, guard)?;
+    Ok(
+        out.iter()
+            .take(count)
+            .all(|pair| pair.0 >= from && pair.1 % 64 == pair.0),
+    )
+}
+
+/// A worker's call of this number under a pin of its own; a scan before each eighth.
+fn calls_pinned<L: Ledger, R: Wait>(
+    rt: &R,
+    index: &Index<L>,
+    caller: &mut Caller<L>,
+    number: u32,
+) -> Result<(Entry<u64>, bool), Refusal> {
+    let guard = index.pin(rt, &mut caller.worker)?;
+    let scanned = if number % 8 == 0 {
+        scans(
+            rt,
+            index,
+            &mut caller.worker,
+            &guard,
+            u64::from(number) % 64,
+        )
+    } else {
+        Ok(true)
+    };
+    let called = calls(rt, index, caller, &guard, u64::from(number));
+    match index.unpin(rt, &mut caller.worker, guard) {
+        Ok(()) => {
+            let (call, reply) = called?;
+            let worker = caller.worker.number();
+            Ok((
+                Entry {
+                    worker,
+                    call,
+                    reply,
+                },
+                scanned?,
+            ))
+        }
+        Err((refusal, guard)) => {
+            guard.forget();
+            Err(refusal)
+        }
+    }
+}
+
+/// All calls of a worker, one after the other.
+fn works<L: Ledger, R: Wait>(
+    rt: &R,
+    alloc: Global,
+    index: &Index<L>,
+    caller: Caller<L>,
+    count: u32,
+) -> Result<Worked<L>, Cut> {
+    let mut caller = caller;
+    let mut own = Vec::new(alloc);
+    let mut is_scanned = true;
+    for number in 0..count {
+        let (entry, scanned) = calls_pinned(rt, index, &mut caller, number)?;
+        is_scanned &= scanned;
+        own.push(entry)?;
+    }
+    Ok(Worked {
+        share: caller.share,
+        own,
+        is_scanned,
+    })
+}
+
+/// Whether a journal is legal, and has each worker's own entries in its order.
+fn is_right(alloc: Global, journal: &[Entry<u64>], own: &[Vec<Entry<u64>>]) -> Result<bool, Cut> {
+    Ok(check(alloc, journal)? == Verdict::Legal && audit(journal, own))
+}
+
+/// What is known of the calls when all have ended.
+#[derive(Clone, Copy, Debug, PartialEq, Eq)]
+struct Known {
+    entries: usize,
+    /// The writing calls that the ledger counts.
+    written: u64,
+    is_scanned: bool,
+    is_right: bool,
+}
+
+/// The history of so many calls of each worker, with this ledger.
+fn history<L: Ledger + Send + Sync, R: Threads + Wait + Sync>(
+    rt: &R,
+    alloc: Global,
+    blank: Blank,
+    count: u32,
+) -> Result<Known, Cut>
+    requires name { blank.name ≡ L.name }
+    requires ledger { blank.parts ≡ L.parts }
+    requires parts { blank.parts ≡ 17 }
+{
+    let limits = Limits::usual(WORKERS, 2 * WORKERS * CALLS_MAX);
+    let (allocator, places) = (DefaultAllocator::new(), u64::from(WORKERS * CALLS_MAX));
+    let (index, mut all): (Index<L>, Share<L>) = Journaled::new(
+        alloc, limits, allocator, places, 17, blank,
+    )?;
+    let callers = callers(rt, alloc, &index, &mut all, WORKERS)?;
+    let shared = &index;
+    let work = move |caller: Caller<L>| works(rt, alloc, shared, caller, count);
+    let mut own = Vec::new(alloc);
+    let mut all_scanned = true;
+    for worked in thread::map_vec(rt, callers, &work)? {
+        let Worked {
+            share,
+            own: kept,
+            is_scanned,
+        } = worked?;
+        all.merge(share);
+        own.push(kept)?;
+        all_scanned &= is_scanned;
+    }
+    let written = index.gather(rt, &mut all)?;
+    let journal = index.entries(rt)?;
+    Ok(Known {
+        entries: journal.len(),
+        written,
+        is_scanned: all_scanned,
+        is_right: is_right(alloc, &journal, &own)?,
+    })
+}
+
+fn history_by_brand<R: Threads + Wait + Sync>(
+    rt: &R,
+    alloc: Global,
+    count: u32,
+) -> Result<Known, Cut> {
+    history::<Brand, R>(rt, alloc, Blank::new(17), count)
+}
+
+/// The second of eight calls only looks.
+#[test]
+fn sixteen_threads_call_and_scan(rt: HostRuntime) -> Result<(), Fail> {
+    let count = number_in(&rt, "TRIAL_CALLS", CALLS).min(CALLS_MAX);
+    let looks = count.saturating_add(6) / 8;
+    let known = history_by_brand(&rt, rt.alloc(), count);
+    let right = Known {
+        entries: (count as usize).saturating_mul(WORKERS as usize),
+        written: u64::from(count.saturating_sub(looks)).saturating_mul(u64::from(WORKERS)),
+        is_scanned: true,
+        is_right: true,
+    };
+    assert_eq!(rt; known, Ok(right));
+    Ok(())
+}

@@ -1,0 +1,637 @@
+//! What is asked of a tree for threads and what it tells: each call of each kind of tree stands here once.
+
+use crate::drained::Drained;
+use congee::Allocator;
+use joint::{Congee, CongeeArc, Every, Guard, Journaled, Refusal, Share, U64Congee, Worker};
+use judge::{Call, Reply};
+use std::alloc::Global;
+use std::sync::ledger::Ledger;
+use std::sync::{Arc, Wait};
+
+/// What is asked of a tree.
+#[derive(Clone, Copy, PartialEq, Eq, Debug)]
+pub enum Ask {
+    /// A call on a key. The closure of a `ComputePresent` adds its number to the value, or takes the key out where it has none; that
+    /// of a `ComputeInsert` adds 64, or answers its number where there is no value. Owners are replaced by one of the number.
+    Call(Call<u64>),
+    /// A scan into four places.
+    Range(u64, u64),
+    RangeInclusive(u64, u64),
+    IsEmpty,
+    Keys,
+    Stats,
+    Repin,
+    Flush,
+    Round,
+    /// A call of nothing under a guard of its own.
+    Pinned,
+    /// A guard, which stays out.
+    Pin,
+}
+
+/// What it tells.
+#[derive(Clone, Copy, PartialEq, Eq, Debug)]
+pub enum Told {
+    Replied(Reply<u64>),
+    /// How many pairs were found, and what stands in the first place.
+    Scanned(usize, (u64, u64)),
+    IsEmpty(bool),
+    /// How many keys there are, and the first one.
+    Keys(usize, Option<u64>),
+    /// How many pairs the statistics count.
+    Pairs(u64),
+    Done,
+    /// Another value came back with the refusal, or a tree of this kind has no such call.
+    Nothing,
+}
+
+/// What a tree that is closed leaves: what its allocator has charged, how much that may be, and how many pairs its drainer took,
+/// with the first one.
+pub type Left = (u64, u64, usize, Option<(u64, u64)>);
+
+/// A tree for threads, of any kind.
+pub trait Threaded: Sized + Drop {
+    fn comes<R: Wait>(&self, rt: &R) -> Result<Worker, Refusal>;
+
+    fn leaves<R: Wait>(&self, rt: &R, worker: Worker) -> Result<(), (Refusal, Worker)>;
+
+    fn pins<R: Wait>(&self, rt: &R, worker: &mut Worker) -> Result<Guard, Refusal>;
+
+    fn unpins<R: Wait>(
+        &self,
+        rt: &R,
+        worker: &mut Worker,
+        guard: Guard,
+    ) -> Result<(), (Refusal, Guard)>;
+
+    fn goes_round<R: Wait>(&self, rt: &R, worker: &mut Worker) -> Result<(), Refusal>;
+
+    /// What it tells of what is asked.
+    fn told<R: Wait>(
+        &mut self,
+        rt: &R,
+        ask: Ask,
+        worker: &mut Worker,
+        guard: &Guard,
+    ) -> Result<Told, Refusal>;
+
+    /// The bytes that are charged, the nodes that wait, and their bytes.
+    fn state<R: Wait>(&self, rt: &R) -> (u64, u64, u64);
+
+    /// It comes back with a refusal.
+    fn closes<R: Wait>(self, rt: &R) -> Result<Left, (Refusal, Self)>;
+}
+
+/// Whether a guard was spent; a refused one is let go.
+pub fn spent(unpinned: Result<(), (Refusal, Guard)>) -> Result<(), Refusal> {
+    match unpinned {
+        Ok(()) => Ok(()),
+        Err((refusal, guard)) => {
+            guard.forget();
+            Err(refusal)
+        }
+    }
+}
+
+/// Whether a worker has left.
+pub fn left(released: Result<(), (Refusal, Worker)>) -> Result<(), Refusal> {
+    match released {
+        Ok(()) => Ok(()),
+        Err((refusal, _)) => Err(refusal),
+    }
+}
+
+/// A guard that stays out.
+fn held(pinned: Result<Guard, Refusal>) -> Result<Told, Refusal> {
+    match pinned {
+        Ok(guard) => {
+            guard.forget();
+            Ok(Told::Done)
+        }
+        Err(refusal) => Err(refusal),
+    }
+}
+
+fn done(answer: Result<(), Refusal>) -> Result<Told, Refusal> {
+    match answer {
+        Ok(()) => Ok(Told::Done),
+        Err(refusal) => Err(refusal),
+    }
+}
+
+/// What a closure answers for a value.
+fn raised(found: u64, by: Option<u64>) -> Option<u64> {
+    by.map(|by| found.wrapping_add(by))
+}
+
+/// What a closure answers for a value or none.
+pub fn raised_or(found: Option<u64>, number: u64) -> u64 {
+    found.map_or(number, |found| found.wrapping_add(64))
+}
+
+/// Keys as they are told.
+fn keys_told(keys: &[u64]) -> Told {
+    Told::Keys(keys.len(), keys.first().copied())
+}
+
+/// A call on a key. `by` stands before a key that is looked for; a writing call also takes the share.
+macro_rules! called {
+    (
+        $rt:ident, $tree:ident, $call:ident, ($($by:tt)?), ($($share:ident)?), $worker:ident,
+        $guard:ident
+    ) => {
+        match $call {
+            Call::Get(key) => {
+                let found = $tree.get($rt, $($by)? key, $worker, $guard)?;
+                Ok(Told::Replied(Reply::Get(found)))
+            }
+            Call::Insert(key, value) => {
+                let before = $tree.insert($rt, key, value, $($share,)? $worker, $guard)?;
+                Ok(Told::Replied(Reply::Insert(before)))
+            }
+            Call::Remove(key) => {
+                let taken = $tree.remove($rt, $($by)? key, $($share,)? $worker, $guard)?;
+                Ok(Told::Replied(Reply::Remove(taken)))
+            }
+            Call::ComputePresent(key, by) => {
+                let raise = |found: u64| raised(found, by);
+                let told = $tree
+                    .compute_if_present($rt, $($by)? key, raise, $($share,)? $worker, $guard)?;
+                Ok(Told::Replied(Reply::ComputePresent(told)))
+            }
+            Call::ComputeInsert(key, by) => {
+                let raise = |found: Option<u64>| raised_or(found, by);
+                let before = $tree.compute_or_insert($rt, key, raise, $($share,)? $worker, $guard)?;
+                Ok(Told::Replied(Reply::ComputeInsert(before)))
+            }
+            Call::Exchange(key, old, new) => {
+                let told = $tree
+                    .compare_exchange($rt, $($by)? key, &old, new, $($share,)? $worker, $guard)?;
+                Ok(Told::Replied(Reply::Exchange(told)))
+            }
+        }
+    };
+}
+
+/// A scan by two keys, the second of which belongs to it or not.
+macro_rules! scanned {
+    (
+        $rt:ident, $tree:ident, $ask:ident, $out:ident, ($($by:tt)?), $worker:ident, $guard:ident
+    ) => {
+        match $ask {
+            Ask::Range(start, end) => {
+                $tree.range($rt, $($by)? start, $($by)? end, &mut $out, $worker, $guard)?
+            }
+            Ask::RangeInclusive(start, last) => {
+                $tree
+                    .range_inclusive($rt, $($by)? start, $($by)? last, &mut $out, $worker, $guard)?
+            }
+            _ => return Ok(Told::Nothing),
+        }
+    };
+}
+
+/// What all kinds of trees have alike.
+macro_rules! wholly {
+    ($rt:ident, $tree:ident, $ask:ident, $worker:ident, $guard:ident) => {
+        match $ask {
+            Ask::IsEmpty => Ok(Told::IsEmpty($tree.is_empty($rt, $worker, $guard)?)),
+            Ask::Keys => Ok(keys_told(&$tree.keys($rt, $worker)?)),
+            Ask::Stats => Ok(Told::Pairs($tree.stats($rt, $worker)?.kv_pairs)),
+            Ask::Repin => done($tree.repin($rt, $worker, $guard)),
+            Ask::Flush => done($tree.flush($rt, $worker, $guard)),
+            Ask::Round => done($tree.round($rt, $worker)),
+            Ask::Pinned => done($tree.pinned($rt, $worker, |_, _| Ok(()))),
+            Ask::Pin => held($tree.pin($rt, $worker)),
+            Ask::Call(_) | Ask::Range(..) | Ask::RangeInclusive(..) => Ok(Told::Nothing),
+        }
+    };
+}
+
+fn words_called<A: Allocator, R: Wait>(
+    rt: &R,
+    tree: &Congee<u64, u64, A>,
+    call: Call<u64>,
+    worker: &mut Worker,
+    guard: &Guard,
+) -> Result<Told, Refusal> {
+    called!(rt, tree, call, (&), (), worker, guard)
+}
+
+fn words_scanned<A: Allocator, R: Wait>(
+    rt: &R,
+    tree: &Congee<u64, u64, A>,
+    ask: Ask,
+    worker: &mut Worker,
+    guard: &Guard,
+) -> Result<Told, Refusal> {
+    let mut out = [(0, 0); 4];
+    let count = scanned!(rt, tree, ask, out, (&), worker, guard);
+    Ok(Told::Scanned(count, out[0]))
+}
+
+fn words_wholly<A: Allocator, R: Wait>(
+    rt: &R,
+    tree: &Congee<u64, u64, A>,
+    ask: Ask,
+    worker: &mut Worker,
+    guard: &Guard,
+) -> Result<Told, Refusal> {
+    wholly!(rt, tree, ask, worker, guard)
+}
+
+fn numbers_called<A: Allocator, R: Wait>(
+    rt: &R,
+    tree: &U64Congee<u64, A>,
+    call: Call<u64>,
+    worker: &mut Worker,
+    guard: &Guard,
+) -> Result<Told, Refusal> {
+    called!(rt, tree, call, (), (), worker, guard)
+}
+
+fn numbers_scanned<A: Allocator, R: Wait>(
+    rt: &R,
+    tree: &U64Congee<u64, A>,
+    ask: Ask,
+    worker: &mut Worker,
+    guard: &Guard,
+) -> Result<Told, Refusal> {
+    let mut out = [([0; 8], 0); 4];
+    let count = scanned!(rt, tree, ask, out, (), worker, guard);
+    Ok(Told::Scanned(count, (u64::from_be_bytes(out[0].0), out[0].1)))
+}
+
+fn numbers_wholly<A: Allocator, R: Wait>(
+    rt: &R,
+    tree: &U64Congee<u64, A>,
+    ask: Ask,
+    worker: &mut Worker,
+    guard: &Guard,
+) -> Result<Told, Refusal> {
+    wholly!(rt, tree, ask, worker, guard)
+}
+
+/// A call on a key of a tree with a journal.
+pub fn recorded_called<L: Ledger, A: Allocator, D: Drop, R: Wait>(
+    rt: &R,
+    tree: &Journaled<L, Every, u64, u64, A, D>,
+    call: Call<u64>,
+    share: &mut Share<L>,
+    worker: &mut Worker,
+    guard: &Guard,
+) -> Result<Told, Refusal> {
+    called!(rt, tree, call, (&), (share), worker, guard)
+}
+
+fn recorded_scanned<L: Ledger, A: Allocator, D: Drop, R: Wait>(
+    rt: &R,
+    tree: &Journaled<L, Every, u64, u64, A, D>,
+    ask: Ask,
+    worker: &mut Worker,
+    guard: &Guard,
+) -> Result<Told, Refusal> {
+    let mut out = [(0, 0); 4];
+    let count = scanned!(rt, tree, ask, out, (&), worker, guard);
+    Ok(Told::Scanned(count, out[0]))
+}
+
+fn recorded_wholly<L: Ledger, A: Allocator, D: Drop, R: Wait>(
+    rt: &R,
+    tree: &Journaled<L, Every, u64, u64, A, D>,
+    ask: Ask,
+    worker: &mut Worker,
+    guard: &Guard,
+) -> Result<Told, Refusal> {
+    wholly!(rt, tree, ask, worker, guard)
+}
+
+impl<A: Allocator> Threaded for Congee<u64, u64, A> {
+    fn comes<R: Wait>(&self, rt: &R) -> Result<Worker, Refusal> {
+        self.register(rt)
+    }
+
+    fn leaves<R: Wait>(&self, rt: &R, worker: Worker) -> Result<(), (Refusal, Worker)> {
+        self.release(rt, worker)
+    }
+
+    fn pins<R: Wait>(&self, rt: &R, worker: &mut Worker) -> Result<Guard, Refusal> {
+        self.pin(rt, worker)
+    }
+
+    fn unpins<R: Wait>(
+        &self,
+        rt: &R,
+        worker: &mut Worker,
+        guard: Guard,
+    ) -> Result<(), (Refusal, Guard)> {
+        self.unpin(rt, worker, guard)
+    }
+
+    fn goes_round<R: Wait>(&self, rt: &R, worker: &mut Worker) -> Result<(), Refusal> {
+        self.round(rt, worker)
+    }
+
+    fn told<R: Wait>(
+        &mut self,
+        rt: &R,
+        ask: Ask,
+        worker: &mut Worker,
+        guard: &Guard,
+    ) -> Result<Told, Refusal> {
+        match ask {
+            Ask::Call(call) => words_called(rt, self, call, worker, guard),
+            Ask::Range(..) | Ask::RangeInclusive(..) => words_scanned(rt, self, ask, worker, guard),
+            _ => words_wholly(rt, self, ask, worker, guard),
+        }
+    }
+
+    fn state<R: Wait>(&self, rt: &R) -> (u64, u64, u64) {
+        (self.charged(rt), self.waiting(rt), self.waiting_bytes(rt))
+    }
+
+    fn closes<R: Wait>(self, rt: &R) -> Result<Left, (Refusal, Self)> {
+        match self.close(rt) {
+            Ok((allocator, _drainer)) => Ok((allocator.charged(), allocator.limit(), 0, None)),
+            Err(back) => Err(back),
+        }
+    }
+}
+
+impl<A: Allocator> Threaded for U64Congee<u64, A> {
+    fn comes<R: Wait>(&self, rt: &R) -> Result<Worker, Refusal> {
+        self.register(rt)
+    }
+
+    fn leaves<R: Wait>(&self, rt: &R, worker: Worker) -> Result<(), (Refusal, Worker)> {
+        self.release(rt, worker)
+    }
+
+    fn pins<R: Wait>(&self, rt: &R, worker: &mut Worker) -> Result<Guard, Refusal> {
+        self.pin(rt, worker)
+    }
+
+    fn unpins<R: Wait>(
+        &self,
+        rt: &R,
+        worker: &mut Worker,
+        guard: Guard,
+    ) -> Result<(), (Refusal, Guard)> {
+        self.unpin(rt, worker, guard)
+    }
+
+    fn goes_round<R: Wait>(&self, rt: &R, worker: &mut Worker) -> Result<(), Refusal> {
+        self.round(rt, worker)
+    }
+
+    fn told<R: Wait>(
+        &mut self,
+        rt: &R,
+        ask: Ask,
+        worker: &mut Worker,
+        guard: &Guard,
+    ) -> Result<Told, Refusal> {
+        match ask {
+            Ask::Call(call) => numbers_called(rt, self, call, worker, guard),
+            Ask::Range(..) | Ask::RangeInclusive(..) => numbers_scanned(
+                rt, self, ask, worker, guard,
+            ),
+            _ => numbers_wholly(rt, self, ask, worker, guard),
+        }
+    }
+
+    fn state<R: Wait>(&self, rt: &R) -> (u64, u64, u64) {
+        (self.charged(rt), self.waiting(rt), self.waiting_bytes(rt))
+    }
+
+    fn closes<R: Wait>(self, rt: &R) -> Result<Left, (Refusal, Self)> {
+        match self.close(rt) {
+            Ok(allocator) => Ok((allocator.charged(), allocator.limit(), 0, None)),
+            Err(back) => Err(back),
+        }
+    }
+}
+
+/// A tree with a journal and the share with which its calls are made.
+#[derive(Drop)]
+pub struct Recorded<L: Ledger, A: Allocator> {
+    pub tree: Journaled<L, Every, u64, u64, A, Drained>,
+    pub share: Share<L>,
+}
+
+impl<L: Ledger, A: Allocator> Threaded for Recorded<L, A> {
+    fn comes<R: Wait>(&self, rt: &R) -> Result<Worker, Refusal> {
+        self.tree.register(rt)
+    }
+
+    fn leaves<R: Wait>(&self, rt: &R, worker: Worker) -> Result<(), (Refusal, Worker)> {
+        self.tree.release(rt, worker)
+    }
+
+    fn pins<R: Wait>(&self, rt: &R, worker: &mut Worker) -> Result<Guard, Refusal> {
+        self.tree.pin(rt, worker)
+    }
+
+    fn unpins<R: Wait>(
+        &self,
+        rt: &R,
+        worker: &mut Worker,
+        guard: Guard,
+    ) -> Result<(), (Refusal, Guard)> {
+        self.tree.unpin(rt, worker, guard)
+    }
+
+    fn goes_round<R: Wait>(&self, rt: &R, worker: &mut Worker) -> Result<(), Refusal> {
+        self.tree.round(rt, worker)
+    }
+
+    fn told<R: Wait>(
+        &mut self,
+        rt: &R,
+        ask: Ask,
+        worker: &mut Worker,
+        guard: &Guard,
+    ) -> Result<Told, Refusal> {
+        match ask {
+            Ask::Call(call) => recorded_called(
+                rt,
+                &self.tree,
+                call,
+                &mut self.share,
+                worker,
+                guard,
+            ),
+            Ask::Range(..) | Ask::RangeInclusive(..) => recorded_scanned(
+                rt, &self.tree, ask, worker, guard,
+            ),
+            _ => recorded_wholly(rt, &self.tree, ask, worker, guard),
+        }
+    }
+
+    fn state<R: Wait>(&self, rt: &R) -> (u64, u64, u64) {
+        (
+            self.tree.charged(rt),
+            self.tree.waiting(rt),
+            self.tree.waiting_bytes(rt),
+        )
+    }
+
+    fn closes<R: Wait>(self, rt: &R) -> Result<Left, (Refusal, Self)> {
+        let Recorded { tree, share } = self;
+        match tree.close(rt) {
+            Ok((allocator, drained)) => {
+                let pairs = drained.pairs.as_slice();
+                let first = pairs.first().copied();
+                Ok((allocator.charged(), allocator.limit(), pairs.len(), first))
+            }
+            Err((refusal, tree)) => Err((refusal, Recorded { tree, share })),
+        }
+    }
+}
+
+/// A tree of owners, and where new ones are made.
+#[derive(Drop)]
+pub struct Owners {
+    pub tree: CongeeArc<u64, u64>,
+    pub alloc: Global,
+}
+
+/// The number of an owner.
+fn number(owner: Option<Arc<u64, Global>>) -> Option<u64> {
+    owner.map(|owner| *owner)
+}
+
+/// An owner of this number.
+fn owner(alloc: Global, number: u64) -> Result<Arc<u64, Global>, Refusal> {
+    match Arc::new(alloc, number) {
+        Ok(owner) => Ok(owner),
+        Err(_) => Err(Refusal::Memory),
+    }
+}
+
+/// What comes of an insertion of this number.
+fn owner_put(
+    number: u64,
+    put: Result<Option<Arc<u64, Global>>, (Refusal, Arc<u64, Global>)>,
+) -> Result<Told, Refusal> {
+    match put {
+        Ok(before) => Ok(Told::Replied(Reply::Insert(before.map(|owner| *owner)))),
+        Err((refusal, back)) if *back == number => Err(refusal),
+        Err(_) => Ok(Told::Nothing),
+    }
+}
+
+/// A call whose closure answers an owner of this number, which is made before it.
+fn owner_computed<R: Wait>(
+    rt: &R,
+    owners: &Owners,
+    key: u64,
+    to: Option<u64>,
+    worker: &mut Worker,
+    guard: &Guard,
+) -> Result<Told, Refusal> {
+    let next = match to {
+        Some(number) => Some(owner(owners.alloc, number)?),
+        None => None,
+    };
+    let answer = |_| next.as_ref().and_then(|next| Arc::try_clone(next).ok());
+    let before = number(
+        owners
+            .tree
+            .compute_if_present(rt, key, answer, worker, guard)?,
+    );
+    let told = before.map(|before| (before, to));
+    Ok(Told::Replied(Reply::ComputePresent(told)))
+}
+
+fn owners_called<R: Wait>(
+    rt: &R,
+    owners: &Owners,
+    call: Call<u64>,
+    worker: &mut Worker,
+    guard: &Guard,
+) -> Result<Told, Refusal> {
+    let (tree, alloc) = (&owners.tree, owners.alloc);
+    match call {
+        Call::Get(key) => {
+            let found = number(tree.get(rt, key, worker, guard)?);
+            Ok(Told::Replied(Reply::Get(found)))
+        }
+        Call::Insert(key, value) => {
+            let put = tree.insert(rt, key, owner(alloc, value)?, worker, guard);
+            owner_put(value, put)
+        }
+        Call::Remove(key) => {
+            let taken = number(tree.remove(rt, key, worker, guard)?);
+            Ok(Told::Replied(Reply::Remove(taken)))
+        }
+        Call::ComputePresent(key, number) => owner_computed(rt, owners, key, number, worker, guard),
+        Call::ComputeInsert(..) | Call::Exchange(..) => Ok(Told::Nothing),
+    }
+}
+
+fn owners_wholly<R: Wait>(
+    rt: &R,
+    tree: &CongeeArc<u64, u64>,
+    ask: Ask,
+    worker: &mut Worker,
+    guard: &Guard,
+) -> Result<Told, Refusal> {
+    wholly!(rt, tree, ask, worker, guard)
+}
+
+impl Threaded for Owners {
+    fn comes<R: Wait>(&self, rt: &R) -> Result<Worker, Refusal> {
+        self.tree.register(rt)
+    }
+
+    fn leaves<R: Wait>(&self, rt: &R, worker: Worker) -> Result<(), (Refusal, Worker)> {
+        self.tree.release(rt, worker)
+    }
+
+    fn pins<R: Wait>(&self, rt: &R, worker: &mut Worker) -> Result<Guard, Refusal> {
+        self.tree.pin(rt, worker)
+    }
+
+    fn unpins<R: Wait>(
+        &self,
+        rt: &R,
+        worker: &mut Worker,
+        guard: Guard,
+    ) -> Result<(), (Refusal, Guard)> {
+        self.tree.unpin(rt, worker, guard)
+    }
+
+    fn goes_round<R: Wait>(&self, rt: &R, worker: &mut Worker) -> Result<(), Refusal> {
+        self.tree.round(rt, worker)
+    }
+
+    fn told<R: Wait>(
+        &mut self,
+        rt: &R,
+        ask: Ask,
+        worker: &mut Worker,
+        guard: &Guard,
+    ) -> Result<Told, Refusal> {
+        match ask {
+            Ask::Call(call) => owners_called(rt, self, call, worker, guard),
+            _ => owners_wholly(rt, &self.tree, ask, worker, guard),
+        }
+    }
+
+    fn state<R: Wait>(&self, rt: &R) -> (u64, u64, u64) {
+        (
+            self.tree.charged(rt),
+            self.tree.waiting(rt),
+            self.tree.waiting_bytes(rt),
+        )
+    }
+
+    fn closes<R: Wait>(self, rt: &R) -> Result<Left, (Refusal, Self)> {
+        let Owners { tree, alloc } = self;
+        match tree.close(rt) {
+            Ok(()) => Ok((0, 0, 0, None)),
+            Err((refusal, tree)) => Err((refusal, Owners { tree, alloc })),
+        }
+    }
+}
