@@ -10,5 +10,6 @@ pub mod machine;
 pub mod owned;
 pub mod pages;
 pub mod promises;
+pub mod read_mostly;
 pub(crate) mod stack;
 pub mod threaded;

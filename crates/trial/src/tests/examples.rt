@@ -17,15 +17,17 @@ use crate::examples::owned::{
 };
 use crate::examples::pages::{Numbers, Sum, drained, page_from, sum_by_pages};
 use crate::examples::promises::{answer_alike, gives_memory_back};
+use crate::examples::read_mostly::{Doubles, look, reads_beside_a_writer, writes_in_two_threads};
 use crate::examples::stack::{Node, Stack, pops, sum_of_two};
 use crate::examples::threaded::{fills_and_closes, first_calls, shared_values};
 use congee::{Allocator, Congee, DefaultAllocator, Limited};
 use crossbeam_epoch::{Collector, Job};
+use crossbeam_utils::sync::ShardedLock;
 use joint::{Done, Event, Kind, Limits, Op, Outcome, Ran, Refusal, Report, Step, World};
 use judge::{Call, Entry, Reply};
 use std::alloc::{AllocError, Global};
-use std::sync::Arc;
 use std::sync::atomic::{AtomicU64, Ordering};
+use std::sync::{Arc, Mutex};
 use std::test::Fail;
 use std::vec::Vec;
 
@@ -368,5 +370,28 @@ fn what_is_called_is_older_than_a_guard(rt: HostRuntime) -> Result<(), Fail> {
     // It is sealed with 0, and the epoch goes on to 1. The guard takes that, and the collection beside it goes on to 2.
     put_off(&rt, &mut handle, ())?;
     assert_eq!(rt; collects_beside_a_guard(&rt, &collector)?, (Some(0), 1));
+    Ok(())
+}
+
+/// Two readers beside a writer find no value but the one that was put; once it is done, all keys.
+#[test]
+fn a_tree_under_a_sharded_lock_is_read_beside_a_writer(rt: HostRuntime) -> Result<(), Fail> {
+    let doubles: Doubles = Congee::new(rt.alloc(), DefaultAllocator::new())?;
+    let shared = ShardedLock::new(rt.alloc(), doubles)?;
+    let (one, two) = reads_beside_a_writer(&rt, &shared, 300)?;
+    assert!(rt; one.doubled && two.doubled);
+    let seen = look(&rt, &shared, 2, 301);
+    assert_eq!(rt; (seen.stood, seen.doubled), (300, true));
+    Ok(())
+}
+
+/// Two writers under a plain lock put each its keys.
+#[test]
+fn a_tree_under_a_mutex_is_written_by_two(rt: HostRuntime) -> Result<(), Fail> {
+    let doubles: Doubles = Congee::new(rt.alloc(), DefaultAllocator::new())?;
+    let shared = Mutex::new(doubles);
+    writes_in_two_threads(&rt, &shared, 150)?;
+    let doubles = shared.lock(&rt);
+    assert_eq!(rt; (doubles.len(), doubles.get(&299)), (300, Some(598)));
     Ok(())
 }
