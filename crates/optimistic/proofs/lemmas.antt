@@ -1,5 +1,9 @@
+pub mod face
+pub mod CopyLemmas
 pub mod FillLemmas
 pub mod MoveLemmas
+pub mod drain
+pub mod PairLemmas
 pub mod forms
 pub mod tree
 pub mod words

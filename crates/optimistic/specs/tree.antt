@@ -1,5 +1,15 @@
+pub mod Branches
+pub mod Drained
+pub mod Exchanges
+pub mod Fresh
 pub mod Levels
+pub mod Locks
+pub mod Nexts
+pub mod Raises
 pub mod Reads
 pub mod Replace
+pub mod Sets
+pub mod Sizes
+pub mod Takes
 pub mod Trees
 pub mod Writes

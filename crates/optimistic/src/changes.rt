@@ -2,7 +2,7 @@
 ghost use Rattle.std.specs.Prelude.{◌≡◌, ◌≢◌, ℕ, ◌+◌, ◌*◌, ◌/◌, ◌%◌, ◌<◌, ◌≤◌, true, false, IfSome, MatchOption, MatchBool};
 ghost use Rattle.optimistic.specs.Layout.{room, entries, width};
 ghost use Rattle.optimistic.specs.forms.Bytes.{IsLowest};
-ghost use Rattle.optimistic.specs.forms.Children.{is_inner, byte_in, taken_in, first_word, last_word, with_entry, without_entry, IsForm, Finds, IsRoom, Becomes, put_first};
+ghost use Rattle.optimistic.specs.forms.Children.{is_inner, byte_in, taken_in, first_word, last_word, with_entry, without_entry, IsForm, Finds, IsRoom, IsFull, Becomes, put_first};
 ghost use Rattle.optimistic.specs.words.Kept.{has};
 ghost use Rattle.optimistic.specs.words.Told.{view, IsOf, HasForm, Tells, Looks};
 ghost use Rattle.optimistic.specs.Moves.{words_of, Stays, Agree};
@@ -12,7 +12,7 @@ use crate::forms::places::{
     find_forty_eight, find_four, find_sixteen, put, put_four, room_in_forty_eight, room_in_four,
     room_in_sixteen, take, take_four,
 };
-use crate::forms::wide::{one_fewer, one_more, place_of_byte, put_byte};
+use crate::forms::wide::{has_child, one_fewer, one_more, place_of_byte, put_byte};
 use crate::moves::{Item, first_at, room_of, store_item};
 use crate::words::{Hand, Nodes, Shape};
 
@@ -110,7 +110,7 @@ pub fn put_in<P: Shape>(
 }
 
 /// The same among four.
-fn put_in_four<P: Shape>(
+pub fn put_in_four<P: Shape>(
     nodes: &Nodes<P>,
     hand: &mut Hand,
     node: usize,
@@ -128,6 +128,7 @@ fn put_in_four<P: Shape>(
     ensures at { HasForm node form (view hand.new) }
     ensures stays { Stays node (view hand.old) (view hand.new) }
     ensures put { MatchBool result (Becomes form (words_of (view hand.old) node) (words_of (view hand.new) node) item.byte (put_first form item.first) item.last) (Looks P.good (view hand.old) (view hand.new)) }
+    ensures full { result ≡ false → IsFull form (words_of (view hand.old) node) item.byte }
 {
     let word = nodes.load(hand, node, form, 2);
     let Some(place) = room_in_four(word, item.byte) else {
@@ -206,6 +207,30 @@ fn put_in_forty_eight<P: Shape>(
     true
 }
 
+/// How many children a node of 256 has once there is one at this place.
+fn count_with<P: Shape>(
+    nodes: &Nodes<P>,
+    hand: &mut Hand,
+    node: usize,
+    form: u64,
+    place: usize,
+) -> u64
+    requires of { IsOf nodes.now.table.shared.table_id hand.old }
+    requires at { HasForm node form (view hand.old) }
+    requires inside { place < room form }
+    ensures of { IsOf nodes.now.table.shared.table_id hand.new }
+    ensures at { HasForm node form (view hand.new) }
+    ensures looks { Looks P.good (view hand.old) (view hand.new) }
+{
+    let first = nodes.load(hand, node, form, first_at(form, place));
+    let count = nodes.load(hand, node, form, 2);
+    if has_child(first) {
+        count
+    } else {
+        one_more(count)
+    }
+}
+
 /// The same of a node of 256.
 fn put_in_wide<P: Shape>(nodes: &Nodes<P>, hand: &mut Hand, node: usize, form: u64, item: Item)
     requires of { IsOf nodes.now.table.shared.table_id hand.old }
@@ -221,9 +246,8 @@ fn put_in_wide<P: Shape>(nodes: &Nodes<P>, hand: &mut Hand, node: usize, form: u
 {
     let place = place_of_byte(item.byte);
     if form < 5 {
-        let count = nodes.load(hand, node, form, 2);
+        let more = count_with(nodes, hand, node, form, place);
         store_item(nodes, hand, node, form, place, item);
-        let more = one_more(count);
         nodes.store(hand, node, form, 2, more);
     } else {
         let mask = nodes.load(hand, node, form, 2 + place / 64);

@@ -2,8 +2,16 @@
 #![tactic(auto)]
 
 mod changes;
+mod drain;
+mod face;
 mod fill;
 mod forms;
 mod moves;
+mod pairs;
+#[cfg(test)]
+mod tests;
 mod tree;
 mod words;
+
+pub use drain::{Locked, Pair, Pairs, Undrained};
+pub use face::{Refusal, Retired, Seen, U64Congee, Worker};

@@ -3,11 +3,28 @@
 //! Each node says in its second word which keys it covers. So the way down to a node is only a guess: a reader that finds
 //! at one version of a node that it covers the key, and that its child there doesn't, has its answer.
 
+mod branch;
 mod child;
+mod close;
+mod fresh;
 mod get;
-mod names;
-mod place;
+mod lift;
+mod lock;
+mod locked;
+pub(crate) mod names;
+pub(crate) mod place;
 mod put;
+mod reach;
+mod replace;
+mod reshape;
+mod set;
+mod sizes;
+mod split;
 mod stores;
+mod write;
 
-pub use get::Tree;
+pub use fresh::Free;
+pub use get::{TOP, Tree};
+pub use reshape::Want;
+pub use set::Set;
+pub use write::{Condition, Write};

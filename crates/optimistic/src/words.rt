@@ -7,8 +7,10 @@
 //! last settled, and that this is what a log of decided calls makes of them, as the author of a structure states it in a
 //! `Shape`. A thread steps with a `Hand`, whose view is the last moment that it saw.
 
+mod last;
 mod nodes;
 mod rule;
 
-pub use nodes::{Nodes, ROOT};
+pub use last::Words;
+pub use nodes::{Nodes, ROOT, Uncarved, width_of};
 pub use rule::{Block, Entry, Extent, Hand, Moment, Note, Plot, Shape, Tenure, View};

@@ -8,5 +8,6 @@ pub mod Marks
 pub mod Pack
 pub mod PartLemmas
 pub mod PlaceLemmas
+pub mod Prefixes
 pub mod Scans
 pub mod Trick

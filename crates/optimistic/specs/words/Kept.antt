@@ -67,6 +67,11 @@ pub record Since (a b : Moment) : Type 0 where
   pub grows : (n : ℕ) → 0 < size a.plots n → version_at a.words n ≤ version_at b.words n
   pub still : (n : ℕ) → 0 < size a.plots n → version_at a.words n % 2 ≡ 0 → version_at a.words n ≡ version_at b.words n → Calm n a b
 
+-- the log of the moment a is a beginning of that of b, and each node of a is one of b
+pub record Follows (a b : Moment) : Type 0 where
+  pub log : StartsWith b.log a.log
+  pub plots : (n : ℕ) → 0 < size a.plots n → form_at b.plots n ≡ form_at a.plots n
+
 -- a node's words are at b as at a
 abbrev pub SameWords : ℕ → Moment → Moment → Type 0
 SameWords n a b = (j : ℕ) → j < size a.plots n → word_at b.words n j ≡ word_at a.words n j
@@ -97,7 +102,7 @@ pub record Sound (good : List Block → List Entry → Type 0) (m : Moment) : Ty
   pub root : form_at m.plots 16 ≡ 4
   pub links : (n j : ℕ) → j < size m.plots n → is_link (form_at m.plots n) j ≡ true → Names m.plots (word_at m.words n j)
 
--- What a thread's view says of the moment m
+-- What the view of the thread of this number says of the moment m
 pub record Fits (good : List Block → List Entry → Type 0) (by : ℕ) (v : View) (m : Moment) : Type 0 where
   pub sound : Sound good v.seen
   pub since : Since v.seen m
@@ -109,8 +114,11 @@ pub record Fits (good : List Block → List Entry → Type 0) (by : ℕ) (v : Vi
 abbrev pub moment : List ℕ → List Plot → List Block → List Entry → Moment
 moment words plots calm log = record { words = words; plots = plots; calm = calm; log = log }
 
+abbrev pub nothing : Moment
+nothing = moment [] [] [] []
+
 abbrev pub view_of : Moment → List Tenure → List Entry → ℕ → View
-view_of m mine made by = record { seen = m; mine = mine; made = made; by = by }
+view_of m mine made by = record { seen = m; mine = mine; made = made; by = by; told = nothing }
 
 abbrev pub plot : ℕ → ℕ → Plot
 plot n form = record { node = n; form = form }
@@ -142,6 +150,9 @@ pub record Kept (good : List Block → List Entry → Type 0) (count : ℕ) (s :
   pub log : List Entry
   pub wide : length s.words ≡ count
   pub sound : Sound good (moment s.words plots calm log)
-  pub each : (i : ℕ) (v : View) → At s.views i v → Fits good i v (moment s.words plots calm log)
+  pub some : 0 < length s.views
+  pub each : (i : ℕ) (v : View) → At s.views i v → 0 < v.by → Fits good i v (moment s.words plots calm log)
+  pub idle : (i : ℕ) (v : View) → At s.views i v → v.by ≡ 0 → v.mine ≡ []
+  pub told : (i : ℕ) (v : View) → At s.views i v → Follows v.told (moment s.words plots calm log)
   pub alone : (i k : ℕ) (v u : View) (n : ℕ) → At s.views i v → At s.views k u → has v.mine n ≡ true → has u.mine n ≡ true → i ≡ k
   pub strangers : (by : ℕ) → length s.views ≤ by → calls_by by log ≡ []

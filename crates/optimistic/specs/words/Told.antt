@@ -11,7 +11,7 @@ use Rattle.optimistic.specs.declared.words.rule.Moment.{Moment}
 use Rattle.optimistic.specs.declared.words.rule.Note.{Note}
 use Rattle.optimistic.specs.declared.words.rule.Tenure.{Tenure}
 use Rattle.optimistic.specs.declared.words.rule.View.{View}
-use Rattle.optimistic.specs.words.Kept.{word_at, version_at, form_at, size, calm_at, has, calls_by, Calm, Since, SameWords, Held, Names, Sound, block, moment, view_of}
+use Rattle.optimistic.specs.words.Kept.{word_at, version_at, form_at, size, calm_at, has, calls_by, Calm, Since, SameWords, Follows, Held, Names, Sound, block, nothing, view_of}
 
 abbrev pub Good : Type 1
 Good = List Block → List Entry → Type 0
@@ -29,9 +29,20 @@ pub record HasForm (n form : ℕ) (v : View) : Type 0 where
   pub ends : n + width form ≤ length v.seen.words
   pub above : 0 < n
 
--- a hand is one of these words', and knows their root
+-- a hand is a thread's at these words, and knows their root
 abbrev pub IsOf : TableId → Seat Note View → Type 0
-IsOf id h = (h.table_id ≡ id) × (h.me.1 ≡ []) × (length h.me.0.seen.words ≡ id.words) × HasForm 16 4 h.me.0
+IsOf id h = (h.table_id ≡ id) × (h.me.1 ≡ []) × (length h.me.0.seen.words ≡ id.words) × HasForm 16 4 h.me.0 × (0 < h.me.0.by)
+
+-- a hand that makes no step, and was told this moment
+abbrev pub noted : Moment → View
+noted m = record { seen = nothing; mine = []; made = []; by = 0; told = m }
+
+abbrev pub IsNote : TableId → Moment → Seat Note View → Type 0
+IsNote id m h = (h.table_id ≡ id) × (h.me ≡ (noted m, []))
+
+-- a hand that was told what another one was
+abbrev pub with_told : View → View → View
+with_told v w = record v { told = w.told }
 
 -- a word that has the tag of a form names a node of that form, which the thread knows
 abbrev pub Tells : ℕ → View → Type 0
@@ -104,6 +115,7 @@ pub record Unlocks (good : Good) (n : ℕ) (note : Note) (v w : View) : Type 0 w
   pub since : Since v.seen b
   pub held : Held v.mine v.seen b
   pub after : Since v.seen w.seen
+  pub was : Sound good b
   pub sound : Sound good w.seen
   pub mine : w.mine ≡ tenure n false ∷ v.mine
   pub made : w.made ≡ v.made ++ decided v.by note.entry
@@ -135,13 +147,13 @@ abbrev pub IsFresh : Good → View → Type 0
 IsFresh good w = Sound good w.seen × (w.mine ≡ []) × (w.made ≡ []) × (calls_by w.by w.seen.log ≡ [])
 
 abbrev pub arrived : Good → Step Note → Sitter → ℕ → Sitter → Type 0
-arrived good st m found m' = (m'.1 ≡ m.1) × (length m'.0.seen.words ≡ length m.0.seen.words) × IsFresh good m'.0
+arrived good st m found m' = (m'.1 ≡ m.1) × (length m'.0.seen.words ≡ length m.0.seen.words) × IsFresh good m'.0 × (0 < m'.0.by)
 
 abbrev pub looked : Good → Step Note → Sitter → ℕ → Sitter → Type 0
 looked good st m found m' = (m'.1 ≡ m.1) × Looks good m.0 m'.0 × (found ≡ slice_index m'.0.seen.words st.word)
 
 abbrev pub locked : Good → Step Note → Sitter → ℕ → Sitter → Type 0
-locked good st m found m' = (m'.1 ≡ m.1) × Since m.0.seen m'.0.seen × (found ≡ st.first → Locks good st.word st.first m.0 m'.0) × (found ≢ st.first → Looks good m.0 m'.0)
+locked good st m found m' = (m'.1 ≡ m.1) × Since m.0.seen m'.0.seen × (found ≡ st.first → Locks good st.word st.first m.0 m'.0) × (found ≢ st.first → Looks good m.0 m'.0) × (m'.0.by ≡ m.0.by)
 
 abbrev pub stored : Good → Step Note → Sitter → ℕ → Sitter → Type 0
 stored good st m found m' = (m'.1 ≡ m.1) × Stores good st.word found m.0 m'.0
@@ -156,3 +168,6 @@ released good st m found m' = (m'.1 ≡ m.1) × Releases good st.word m.0 m'.0
 abbrev pub carved : Good → Step Note → Sitter → ℕ → Sitter → Type 0
 carved good st m found m' =
     (m'.1 ≡ m.1) × Looks good m.0 m'.0 × ((note : Note) → st.said ≡ some note → found ≡ st.first → HasForm st.first note.form m'.0)
+
+abbrev pub heeded : Good → Step Note → Sitter → ℕ → Sitter → Type 0
+heeded good st m found m' = (m'.1 ≡ m.1) × Looks good m.0 m'.0 × Follows m.0.told m'.0.seen

@@ -72,3 +72,23 @@ pub fn leaf_word(key: u64) -> u64
 {
     (key << 8) + 9
 }
+
+/// The key of a lone leaf, which has the first byte of `key`.
+#[inline(always)]
+pub fn leaf_key(child: u64, key: u64) -> u64
+    requires { child % 256 ≡ 9 }
+    ensures leaf { leaf_of result ≡ child }
+    ensures first { prefix_of result 1 ≡ prefix_of key 1 }
+{
+    (key & !(u64::MAX >> 8)) | (child >> 8)
+}
+
+/// How many first bytes two keys have in common.
+#[inline(always)]
+pub fn common_prefix(a: u64, b: u64) -> u64
+    ensures bound { result ≤ 8 }
+    ensures same { prefix_of a result ≡ prefix_of b result }
+    ensures apart { result < 8 → byte_at a result ≢ byte_at b result }
+{
+    (a ^ b).leading_zeros() as u64 / 8
+}

@@ -2,7 +2,7 @@
 ghost use Rattle.std.specs.Prelude.{◌≡◌, ◌≢◌, ℕ, ◌<◌, ◌≤◌, ◌+◌, ◌%◌, ◌^◌, [], IfSome, IfOk, true};
 ghost use Rattle.optimistic.specs.Layout.{width};
 ghost use Rattle.optimistic.specs.words.Calls.{Keeps, Later};
-ghost use Rattle.optimistic.specs.words.Kept.{value_of};
+ghost use Rattle.optimistic.specs.words.Kept.{calls_by, value_of, Since};
 ghost use Rattle.optimistic.specs.words.Told.{view, IsOf, HasForm};
 ghost use Rattle.optimistic.specs.tree.Reads.{IsPlace, IsLook};
 ghost use Rattle.optimistic.specs.tree.Trees.{IsTree};
@@ -47,7 +47,7 @@ impl Tree {
     /// A hand for a thread, which has seen some beginning of the log, and has written nothing.
     pub fn hand(&self) -> Hand
         ensures of { IsOf self.now.nodes.table.shared.table_id result }
-        ensures fresh { ((view result).made ≡ []) × ((view result).mine ≡ []) }
+        ensures fresh { ((view result).made ≡ []) × ((view result).mine ≡ []) × (calls_by (view result).by (view result).seen.log ≡ []) }
     {
         self.nodes.hand()
     }
@@ -59,6 +59,9 @@ impl Tree {
         requires at { IsPlace at (view hand.old) }
         ensures of { IsOf self.now.nodes.table.shared.table_id hand.new }
         ensures keeps { Keeps (view hand.old) (view hand.new) }
+        ensures mine { (view hand.new).mine ≡ (view hand.old).mine }
+        ensures since { Since (view hand.old).seen (view hand.new).seen }
+        ensures place { IsPlace at (view hand.new) }
         ensures look { IsLook key result (view hand.new) }
     {
         let version = self.nodes.load(hand, at.node, at.form, 0);
@@ -89,6 +92,7 @@ impl Tree {
         requires of { IsOf self.now.nodes.table.shared.table_id hand.old }
         ensures of { IsOf self.now.nodes.table.shared.table_id hand.new }
         ensures later { Later (view hand.old) (view hand.new) }
+        ensures mine { (view hand.new).mine ≡ (view hand.old).mine }
         ensures value { IfSome result (λ x. Keeps (view hand.old) (view hand.new) × (x ≡ value_of key (view hand.new).seen.log)) }
     {
         let mut at = TOP;
@@ -107,6 +111,7 @@ impl Tree {
         requires of { IsOf self.now.nodes.table.shared.table_id hand.old }
         ensures of { IsOf self.now.nodes.table.shared.table_id hand.new }
         ensures keeps { Keeps (view hand.old) (view hand.new) }
+        ensures mine { (view hand.new).mine ≡ (view hand.old).mine }
         ensures value { result ≡ value_of key (view hand.new).seen.log }
     {
         for _ in rt.forever() {

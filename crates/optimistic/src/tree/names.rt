@@ -12,6 +12,7 @@ pub fn place_below(first: u64) -> Place
     ensures node { result.node ≡ node_of first }
     ensures form { result.form ≡ tag_of first }
     ensures level { result.level < 8 }
+    ensures same_level { result.level ≡ level_of first }
 {
     Place {
         node: child_node(first),

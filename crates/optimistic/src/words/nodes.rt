@@ -1,11 +1,15 @@
 //! The nodes, and the steps on them.
 ghost use Rattle.std.specs.Prelude.{ℕ, ◌≡◌, ◌+◌, ◌*◌, ◌%◌, ◌^◌, ◌<◌, ◌≤◌, true, false, [], List, IfOk, IfSome, MatchBool};
 ghost use Rattle.optimistic.specs.Layout.{width, is_link};
-ghost use Rattle.optimistic.specs.words.Kept.{word_at, version_at, has, first_calm};
-ghost use Rattle.optimistic.specs.words.Told.{view, IsOf, IsFresh, HasForm, Tells, Looks, Locks, Stores, Unlocks, Releases, MayUnlock, HasAlso, IsDrafted};
+ghost use Rattle.optimistic.specs.words.Kept.{word_at, version_at, has, first_calm, Follows};
+ghost use Rattle.optimistic.specs.words.Last.{words_in, IsLast};
+ghost use Rattle.optimistic.specs.declared.words.rule.Moment.{Moment};
+ghost use Rattle.optimistic.specs.words.Told.{view, IsOf, IsNote, IsFresh, HasForm, Tells, Looks, Locks, Stores, Unlocks, Releases, MayUnlock, HasAlso, IsDrafted};
 
+use crate::words::last::Words;
 use crate::words::rule::{
-    Arrive, Carve, Extent, Hand, Lock, Look, Note, Put, Release, Shape, Unlock, Versions, View,
+    Arrive, Carve, Extent, Hand, Heed, Heeding, Lock, Look, Note, Noting, Put, Release, Shape,
+    Unlock, Versions, View,
 };
 use atomic_table::Table;
 use std::alloc::{AllocError, Global};
@@ -28,6 +32,7 @@ pub struct Nodes<P: Shape> {
     table: Table<Note, View, Extent, Versions<P>, Global>,
     count: usize,
     ghost sized: { table.shared.table_id.words ≡ count },
+    ghost bare: { table.shared.table_id.slots ≡ 0 },
     ghost count_is: { table.shared.key.words ≡ count },
     ghost bounded: { (536 ≤ count) × (count < 2 ^ 48) },
 }
@@ -82,6 +87,15 @@ impl<P: Shape> Nodes<P> {
         ensures fresh { IsFresh P.good (view result) }
     {
         self.table.shared.load_new_seat::<Arrive<P>>(END).1
+    }
+
+    /// Closes the nodes, with what a hand knows of them. They are what they were at one last moment.
+    pub fn close(self, hand: Hand) -> Words
+        requires { IsOf self.table.shared.table_id hand }
+        ensures { (m : Moment) × (m.words ≡ words_in result) × IsLast P.good (view hand) m }
+    {
+        let Nodes { table, count: _ } = self;
+        Words::of(table.close_with(hand))
     }
 
     /// Reads a word of a node of this form; word 0 is its version.
@@ -161,6 +175,28 @@ impl<P: Shape> Nodes<P> {
         self.table
             .shared
             .compare_exchange::<Release<P>>(hand, node, version, version + 1);
+    }
+
+    /// The moment that a hand saw, for another hand or for later.
+    pub fn note(&self, hand: &mut Hand) -> Hand
+        requires of { IsOf self.now.table.shared.table_id hand.old }
+        ensures of { IsOf self.now.table.shared.table_id hand.new }
+        ensures same { view hand.new ≡ view hand.old }
+        ensures note { IsNote self.now.table.shared.table_id (view hand.old).seen result }
+    {
+        self.table.shared.split_seat::<Noting>(hand)
+    }
+
+    /// Takes in the moment that a hand had seen, and looks at a word.
+    pub fn heed(&self, hand: &mut Hand, note: Hand)
+        requires of { IsOf self.now.table.shared.table_id hand.old }
+        requires note { IsNote self.now.table.shared.table_id (view note).told note }
+        ensures of { IsOf self.now.table.shared.table_id hand.new }
+        ensures looks { Looks P.good (view hand.old) (view hand.new) }
+        ensures heeds { Follows (view note).told (view hand.new).seen }
+    {
+        self.table.shared.join_seat::<Heeding>(hand, note);
+        self.table.shared.load::<Heed<P>>(hand, END);
     }
 
     /// Makes a node of this form of the words at the end, if there are as many.

@@ -1,8 +1,9 @@
 //! The rule that every step keeps, what a thread knows, and what each step tells it.
 ghost use Rattle.std.specs.Prelude.{List};
-ghost use Rattle.optimistic.specs.words.Told.{arrived, looked, locked, stored, unlocked, released, carved};
+ghost use Rattle.optimistic.specs.words.Told.{arrived, looked, locked, stored, unlocked, released, carved, noted, with_told, heeded};
+ghost use Rattle.optimistic.specs.words.Kept.{nothing};
 
-use atomic_table::{Play, Seat, TableRule};
+use atomic_table::{Join, Play, Seat, Split, TableRule};
 use std::collections::LinkedList;
 use std::marker::PhantomData;
 
@@ -40,13 +41,15 @@ pub struct Tenure {
     pub held: bool,
 }
 
-/// What a thread knows: the moment of its last step, which nodes it has, its own calls, and its number in the log. No value
-/// of it is made.
+/// What a thread knows: the moment of its last step, which nodes it has, its own calls, its number in the log, and a moment
+/// that another hand told it of. No value of it is made. The number 0 is no thread's: such a hand makes no step, and knows
+/// only what it was told.
 pub struct View {
     pub seen: Moment,
     pub mine: LinkedList<Tenure>,
     pub made: LinkedList<Entry>,
     pub by: u64,
+    pub told: Moment,
 }
 
 /// What a thread says at a step. As it lets a node go: which others that it has are settled in the same step, and the call
@@ -152,4 +155,31 @@ pub struct Carve<P> {
 
 impl<P: Shape> Play<Note, View> for Carve<P> {
     ghost then = { carved P.good };
+}
+
+/// A hand gives another one the moment that it saw.
+pub struct Noting;
+
+impl Split<View> for Noting {
+    ghost left = { λ v. v };
+
+    ghost right = { λ v. noted v.seen };
+}
+
+/// A hand takes in what another one was told.
+pub struct Heeding;
+
+impl Join<View> for Heeding {
+    ghost both = { with_told };
+
+    ghost spent = { noted nothing };
+}
+
+/// A word is looked at, after what the hand was told.
+pub struct Heed<P> {
+    shape: PhantomData<P>,
+}
+
+impl<P: Shape> Play<Note, View> for Heed<P> {
+    ghost then = { heeded P.good };
 }

@@ -177,3 +177,14 @@ returns-clause-put g c =
     c.put_four-changed.ensures f w (words_of c.store.new.hand.me.0 n) x y r e2 c.requires.words at c.requires.some
     (put_one f w (words_of c.load-word.new.hand.me.0 n) (words_of c.store_item.new.hand.me.0 n) (words_of c.store.new.hand.me.0 n) p x y 2 c.put_four-changed.result (looks_agree _ n f _ _ c.requires.at c.requires.mine c.load-word.ensures.looks) c.store_item.ensures.words
     (stored_words _ n f 2 c.put_four-changed.result _ _ c.store_item.ensures.at i m2 c.store.ensures.stored))
+
+pub returns-in_default-clause-full : goal.returns-in_default-clause-full
+returns-in_default-clause-full g c =
+    let n = c.args.node in
+    let f = c.args.form in
+    let v = c.args.hand.now.me.0 in
+    let w = words_of v n in
+    let r : room f ≡ 4 = c.requires.form in
+    let i = two_inside f (omega (arith, r)) in
+    let e2 : w 2 ≡ c.load-word.result = sym (c.load-word.ensures.found ∙ looks_word _ n f 2 v c.load-word.new.hand.me.0 c.requires.at c.requires.mine i c.load-word.ensures.looks) in
+    λ _. c.in_default.ensures f w r e2

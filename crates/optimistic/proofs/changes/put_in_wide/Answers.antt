@@ -14,35 +14,25 @@ use Rattle.optimistic.proofs.lemmas.forms.PlaceLemmas.{entries_four, entries_abo
 use Rattle.optimistic.proofs.lemmas.MoveLemmas.{put_one, put_two, looks_agree, four_small, sixteen_small, forty_eight_small, wide_inner, wide_values}
 use Rattle.optimistic.proofs.changes.put_in_wide.Goals as goal
 
-pub load-count-requires-clause-of : goal.load-count-requires-clause-of
-load-count-requires-clause-of g c =
+pub count_with-more-requires-clause-of : goal.count_with-more-requires-clause-of
+count_with-more-requires-clause-of g c =
     c.requires.of
 
-pub load-count-requires-clause-at : goal.load-count-requires-clause-at
-load-count-requires-clause-at g c =
+pub count_with-more-requires-clause-at : goal.count_with-more-requires-clause-at
+count_with-more-requires-clause-at g c =
     c.requires.at
 
-pub load-count-requires-clause-inside : goal.load-count-requires-clause-inside
-load-count-requires-clause-inside g c =
-    let n = c.args.node in
-    let f = c.args.form in
-    let v = c.args.hand.now.me.0 in
-    let w = words_of v n in
-    let r : room f ≡ 256 = c.requires.form in
-    let some : 0 < room f = omega (arith, r) in
-    let i2 = two_inside f some in
-    let p = c.place_of_byte-place.result in
-    let x = c.args.item.first in
-    let y = c.args.item.last in
-    i2
+pub count_with-more-requires-clause-inside : goal.count_with-more-requires-clause-inside
+count_with-more-requires-clause-inside g c =
+    omega (arith, c.place_of_byte-place.ensures.small, c.requires.form)
 
 pub store_item-requires-clause-of : goal.store_item-requires-clause-of
 store_item-requires-clause-of g c =
-    c.load-count.ensures.of
+    c.count_with-more.ensures.of
 
 pub store_item-requires-clause-at : goal.store_item-requires-clause-at
 store_item-requires-clause-at g c =
-    c.load-count.ensures.at
+    c.count_with-more.ensures.at
 
 pub store_item-requires-clause-inside : goal.store_item-requires-clause-inside
 store_item-requires-clause-inside g c =
@@ -71,12 +61,12 @@ store_item-requires-clause-mine g c =
     let x = c.args.item.first in
     let y = c.args.item.last in
     let is4 = wide_inner f r c.if-form-lt5.true in
-    let m = looks_mine _ _ _ n c.load-count.ensures.looks c.requires.mine in
+    let m = looks_mine _ _ _ n c.count_with-more.ensures.looks c.requires.mine in
     m
 
 pub store_item-requires-clause-tells : goal.store_item-requires-clause-tells
 store_item-requires-clause-tells g c =
-    λ e. tells_since c.args.item.first _ _ (c.requires.tells e) c.load-count.ensures.looks.since
+    λ e. tells_since c.args.item.first _ _ (c.requires.tells e) c.count_with-more.ensures.looks.since
 
 pub store-requires-clause-of : goal.store-requires-clause-of
 store-requires-clause-of g c =
@@ -113,7 +103,7 @@ store-requires-clause-mine g c =
     let x = c.args.item.first in
     let y = c.args.item.last in
     let is4 = wide_inner f r c.if-form-lt5.true in
-    let m = looks_mine _ _ _ n c.load-count.ensures.looks c.requires.mine in
+    let m = looks_mine _ _ _ n c.count_with-more.ensures.looks c.requires.mine in
     let m2 = stays_mine n n _ _ c.store_item.ensures.stays m in
     m2
 
@@ -282,9 +272,9 @@ returns-then-form-lt5-clause-stays g c =
     let x = c.args.item.first in
     let y = c.args.item.last in
     let is4 = wide_inner f r c.if-form-lt5.true in
-    let m = looks_mine _ _ _ n c.load-count.ensures.looks c.requires.mine in
+    let m = looks_mine _ _ _ n c.count_with-more.ensures.looks c.requires.mine in
     let m2 = stays_mine n n _ _ c.store_item.ensures.stays m in
-    stays_trans n _ _ _ (looks_stays _ n _ _ c.load-count.ensures.looks) (stays_trans n _ _ _ c.store_item.ensures.stays (stores_stays _ n f 2 _ _ _ c.store_item.ensures.at i2 m2 c.store.ensures.stored (omega arith)))
+    stays_trans n _ _ _ (looks_stays _ n _ _ c.count_with-more.ensures.looks) (stays_trans n _ _ _ c.store_item.ensures.stays (stores_stays _ n f 2 _ _ _ c.store_item.ensures.at i2 m2 c.store.ensures.stored (omega arith)))
 
 pub returns-then-form-lt5-clause-put : goal.returns-then-form-lt5-clause-put
 returns-then-form-lt5-clause-put g c =
@@ -299,11 +289,11 @@ returns-then-form-lt5-clause-put g c =
     let x = c.args.item.first in
     let y = c.args.item.last in
     let is4 = wide_inner f r c.if-form-lt5.true in
-    let m = looks_mine _ _ _ n c.load-count.ensures.looks c.requires.mine in
+    let m = looks_mine _ _ _ n c.count_with-more.ensures.looks c.requires.mine in
     let m2 = stays_mine n n _ _ c.store_item.ensures.stays m in
-    let k = c.one_more-more.result in
-    let same : Same f (words_of c.store.new.hand.me.0 n) (with_at (with_entry f w p x y) 2 k) = put_one f w (words_of c.load-count.new.hand.me.0 n) (words_of c.store_item.new.hand.me.0 n) (words_of c.store.new.hand.me.0 n) p x y 2 k
-    (looks_agree _ n f _ _ c.requires.at c.requires.mine c.load-count.ensures.looks) c.store_item.ensures.words (stored_words _ n f 2 k _ _ c.store_item.ensures.at i2 m2 c.store.ensures.stored) in
+    let k = c.count_with-more.result in
+    let same : Same f (words_of c.store.new.hand.me.0 n) (with_at (with_entry f w p x y) 2 k) = put_one f w (words_of c.count_with-more.new.hand.me.0 n) (words_of c.store_item.new.hand.me.0 n) (words_of c.store.new.hand.me.0 n) p x y 2 k
+    (looks_agree _ n f _ _ c.requires.at c.requires.mine c.count_with-more.ensures.looks) c.store_item.ensures.words (stored_words _ n f 2 k _ _ c.store_item.ensures.at i2 m2 c.store.ensures.stored) in
     subst (λ (z : ℕ). Becomes z w (words_of c.store.new.hand.me.0 n) c.args.item.byte (put_first z x) y) (sym is4)
     (c.place_of_byte-place.ensures.put w (words_of c.store.new.hand.me.0 n) x y k (c.requires.some (is_inner_of f c.if-form-lt5.true)) (subst (λ (z : ℕ). Same z (words_of c.store.new.hand.me.0 n) (with_at (with_entry z w p x y) 2 k)) is4 same))
 

@@ -1,4 +1,4 @@
--- A key's leaf is written at its last node.
+-- A key's leaf is written at its last node, or taken away there.
 use Rattle.std.proofs.Common.{◌≡◌, ◌≢◌, ℕ, ◌+◌, ◌-◌, ◌*◌, ◌/◌, ◌%◌, ◌^◌, ◌<◌, ◌≤◌, ◌⊎◌, eqb, ltb, ◌&&◌, Bool, true, false, List, [], ◌∷◌, ◌++◌, if◌then◌else◌, sym, refl, ap, ◌∙◌, subst, inl, inr, ⊎_elim, arith, eq-eqb, ne_eqb, shr-shr, Option, None, Some}
 use Rattle.std.proofs.lemmas.Bool.{eqb-true}
 use mathlib.Core.Logic.{dite}
@@ -85,8 +85,15 @@ module _ (form level key : ℕ) (some : 0 < form) (low : form < 9) (deep : level
   pub shape_is : 0 < room form → IsForm form f → IsForm (form_of (g 1)) g
   shape_is r s = subst (λ (z : ℕ). IsForm z g) (sym form_is) (form_like form f g same r s)
 
+-- no child, or a key's leaf, goes on to no key, and is of no other
+open_off : (key u z k : ℕ) → (u ≡ 0) ⊎ (u ≡ leaf_of key) → goes_on u z k ≡ false
+open_off key u z k = ⊎_elim (λ (q : u ≡ 0). ap (λ (w : ℕ). goes_on w z k) q ∙ none_ends z k) (λ (q : u ≡ leaf_of key). ap (λ (w : ℕ). goes_on w z k) q ∙ leaf_ends z key k)
+
+open_none : (key u z k : ℕ) → leaf_of key ≢ leaf_of k → (u ≡ 0) ⊎ (u ≡ leaf_of key) → pair_value u z k ≡ None
+open_none key u z k apart = ⊎_elim (λ (q : u ≡ 0). ap (λ (w : ℕ). pair_value w z k) q ∙ none_value z k) (λ (q : u ≡ leaf_of key). ap (λ (w : ℕ). pair_value w z k) q ∙ leaf_none z key k apart)
+
 -- the block of node n comes before those of B, and its words are those of f', where before they were those of f
-module _ (B : List Block) (words : List ℕ) (log log' : List Entry) (n form level key x y : ℕ) (value : Option ℕ) (e : Entry) (f f' : ℕ → ℕ) where
+module _ (B : List Block) (words : List ℕ) (log log' : List Entry) (n form level key : ℕ) (X : ℕ → ℕ) (y : ℕ) (value : Option ℕ) (e : Entry) (f f' : ℕ → ℕ) where
   abbrev C : List Block
   C = block n words ∷ B
 
@@ -97,9 +104,9 @@ module _ (B : List Block) (words : List ℕ) (log log' : List Entry) (n form lev
   here_path i j = calm_here n words B j i
 
   pub put_tree : 0 < form → form < 9 → level < 8 → 0 < room form → e.key ≡ key → e.value ≡ value → log' ≡ log ++ e ∷ [] → Same form (calm_at B n) f → Same form (word_at words n) f' → calm_at B n 1 ≡ where_of form level key → word_at words n 1 ≡ where_of form level key
-      → Becomes form f f' (byte_at key level) (put_first form x) y → (first_of form f key (byte_at key level) ≡ 0) ⊎ (first_of form f key (byte_at key level) ≡ leaf_of key) → put_first form x key ≡ leaf_of key → value ≡ Some y
+      → Becomes form f f' (byte_at key level) X y → (first_of form f key (byte_at key level) ≡ 0) ⊎ (first_of form f key (byte_at key level) ≡ leaf_of key) → (X key ≡ 0) ⊎ (X key ≡ leaf_of key) → pair_value (X key) y key ≡ value
       → (is_inner form ≡ true) ⊎ (level ≡ 7) → IsTree B log → IsTree C log'
-  put_tree some low deep roomy is_key is_value longer same same' is is' became place leaf is_y inner t =
+  put_tree some low deep roomy is_key is_value longer same same' is is' became place after says inner t =
       let W : ℕ → ℕ = where_at B in let W' : ℕ → ℕ = where_at C in
       let b : ℕ = byte_at key level in
       let at_n : W n ≡ where_of form level key = is in
@@ -109,10 +116,9 @@ module _ (B : List Block) (words : List ℕ) (log log' : List Entry) (n form lev
       let S : (k : ℕ) → second_at B n k ≡ second_of form f k (byte_at k level) = second_is form level key some low deep (calm_at B n) f is same in
       let F' : (k : ℕ) → first_at C n k ≡ first_of form f' k (byte_at k level) = λ k. ap (λ (g : ℕ → ℕ). first_in g k) here_path ∙ first_is form level key some low deep (word_at words n) f' is' same' k in
       let S' : (k : ℕ) → second_at C n k ≡ second_of form f' k (byte_at k level) = λ k. ap (λ (g : ℕ → ℕ). second_in g k) here_path ∙ second_is form level key some low deep (word_at words n) f' is' same' k in
-      let old_ends : (k z : ℕ) → (first_of form f key b ≡ 0) ⊎ (first_of form f key b ≡ leaf_of key) → goes_on (first_of form f key b) z k ≡ false = λ k z p. ⊎_elim
-      (λ (q : first_of form f key b ≡ 0). ap (λ (w : ℕ). goes_on w z k) q ∙ none_ends z k) (λ (q : first_of form f key b ≡ leaf_of key). ap (λ (w : ℕ). goes_on w z k) q ∙ leaf_ends z key k) p in
+      let old_ends : (k z : ℕ) → (first_of form f key b ≡ 0) ⊎ (first_of form f key b ≡ leaf_of key) → goes_on (first_of form f key b) z k ≡ false = λ k z p. open_off key (first_of form f key b) z k p in
       let mine : Ends W (first_at B) (second_at B) n key = (ap (λ (z : ℕ). stands z key) at_n ∙ where_stands form level key some low deep, ap (λ (z : ℕ). goes_on z (second_at B n key) key) (F key) ∙ old_ends key (second_at B n key) place) in
-      let first_now : first_at C n key ≡ leaf_of key = F' key ∙ (became.first key ∙ leaf) in
+      let first_now : first_at C n key ≡ X key = F' key ∙ became.first key in
       let second_now : second_at C n key ≡ y = S' key ∙ became.second key in
       let beside : (k : ℕ) → stands (W n) k ≡ true → k ≢ key → SameAt k (first_at B n k) (second_at B n k) (first_at C n k) (second_at C n k) = λ k h ne. dite (ℕ_discrete (byte_at k level) b)
       (λ (q : byte_at k level ≡ b).
@@ -121,15 +127,14 @@ module _ (B : List Block) (words : List ℕ) (log log' : List Entry) (n form lev
       (λ (inn : is_inner form ≡ true).
       let apart : leaf_of key ≢ leaf_of k = λ l. ne (sym (leaf_whole key k (same_top form level key k low deep w (sym q)) l)) in
       let was : first_at B n k ≡ first_of form f key b = F k ∙ (ap (λ (z : ℕ). first_of form f k z) q ∙ first_inner form f k key b inn) in
-      let now : first_at C n k ≡ leaf_of key = F' k ∙ (ap (λ (z : ℕ). first_of form f' k z) q ∙ (first_inner form f' k key b inn ∙ (became.first key ∙ leaf))) in
+      let now : first_at C n k ≡ X key = F' k ∙ (ap (λ (z : ℕ). first_of form f' k z) q ∙ (first_inner form f' k key b inn ∙ became.first key)) in
       let x1 : ℕ = second_at B n k in let x2 : ℕ = second_at C n k in
       let off : goes_on (first_at B n k) x1 k ≡ false = ap (λ (z : ℕ). goes_on z x1 k) was ∙ old_ends k x1 place in
-      let no_value : pair_value (first_at B n k) x1 k ≡ None = ap (λ (z : ℕ). pair_value z x1 k) was ∙ ⊎_elim
-      (λ (z : first_of form f key b ≡ 0). ap (λ (u : ℕ). pair_value u x1 k) z ∙ none_value x1 k) (λ (z : first_of form f key b ≡ leaf_of key). ap (λ (u : ℕ). pair_value u x1 k) z ∙ leaf_none x1 key k apart) place in
+      let no_value : pair_value (first_at B n k) x1 k ≡ None = ap (λ (z : ℕ). pair_value z x1 k) was ∙ open_none key (first_of form f key b) x1 k apart place in
       record {
-        goes = ap (λ (z : ℕ). goes_on z x2 k) now ∙ (leaf_ends x2 key k ∙ sym off);
+        goes = ap (λ (z : ℕ). goes_on z x2 k) now ∙ (open_off key (X key) x2 k after ∙ sym off);
         node = λ on. absurd (clash (goes_on (first_at B n k) x1 k) on off);
-        value = ap (λ (z : ℕ). pair_value z x2 k) now ∙ (leaf_none x2 key k apart ∙ sym no_value);
+        value = ap (λ (z : ℕ). pair_value z x2 k) now ∙ (open_none key (X key) x2 k apart after ∙ sym no_value);
       })
       (λ (seven : level ≡ 7). absurd (ne (sym (same_key form key k low (subst (λ (z : ℕ). where_of form z key ≡ where_of form z k) seven w) (subst (λ (z : ℕ). byte_at key z ≡ byte_at k z) seven (sym q)))))) inner)
       (λ nb. same_refl k (first_at B n k) (second_at B n k) (first_at C n k) (second_at C n k) (F' k ∙ (became.other_firsts k (byte_at k level) nb ∙ sym (F k))) (S' k ∙ (became.other_seconds k (byte_at k level) nb ∙ sym (S k)))) in
@@ -138,8 +143,8 @@ module _ (B : List Block) (words : List ℕ) (log log' : List Entry) (n form lev
             (λ p k h other. dite (ℕ_discrete p n)
             (λ (q : p ≡ n). subst (λ (z : ℕ). stands (W z) k ≡ true → SameAt k (first_at B z k) (second_at B z k) (first_at C z k) (second_at C z k)) (sym q) (λ h'. beside k h' (other q)) h)
             (λ ne. same_refl k (first_at B p k) (second_at B p k) (first_at C p k) (second_at C p k) (ap (λ (g : ℕ → ℕ). first_in g k) (else_path p ne)) (ap (λ (g : ℕ → ℕ). second_in g k) (else_path p ne))))
-            mine (ap (λ (z : ℕ). goes_on z (second_at C n key) key) first_now ∙ leaf_ends (second_at C n key) key key)
-            ((λ i. pair_value (first_now i) (second_now i) key) ∙ (leaf_value y key ∙ sym is_y)) t.nodes;
+            mine (ap (λ (z : ℕ). goes_on z (second_at C n key) key) first_now ∙ open_off key (X key) (second_at C n key) key after)
+            ((λ i. pair_value (first_now i) (second_now i) key) ∙ says) t.nodes;
         forms = λ p nz. dite (ℕ_discrete p n)
             (λ (q : p ≡ n). subst (λ (z : ℕ). IsForm (form_of (where_at C z)) (calm_at C z)) (sym q)
             (subst (λ (g : ℕ → ℕ). IsForm (form_of (g 1)) g) (sym here_path) (shape_is form level key some low deep (word_at words n) f' is' same' roomy became.form_stays)))

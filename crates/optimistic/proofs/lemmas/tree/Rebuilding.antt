@@ -1,25 +1,24 @@
 -- A node that is rebuilt in another's place: its hand may settle all three at once.
-use Rattle.std.proofs.Common.{◌≡◌, ◌≢◌, ℕ, ◌+◌, ◌*◌, ◌/◌, ◌%◌, ◌<◌, ◌≤◌, Bool, true, false, List, [], ◌∷◌, ◌++◌, sym, refl, ap, ◌∙◌, subst, arith}
-use Rattle.std.specs.Prelude.{Option, None, Some}
+use Rattle.std.proofs.Common.{◌≡◌, ℕ, ◌<◌, List, [], ◌∷◌, ◌++◌, sym, refl, ap, ◌∙◌, subst, arith}
+use Rattle.std.specs.Prelude.{Option}
 use Rattle.optimistic.specs.Layout.{room, width, byte_at, child_of, node_of, where_of}
 use Rattle.optimistic.specs.declared.words.rule.Block.{Block}
 use Rattle.optimistic.specs.declared.words.rule.Entry.{Entry}
-use Rattle.optimistic.specs.declared.words.rule.Note.{Note}
 use Rattle.optimistic.specs.declared.words.rule.View.{View}
 use Rattle.optimistic.specs.words.Calls.{entry_of}
-use Rattle.optimistic.specs.words.Kept.{word_at, calm_at, has, value_of, Since, Held, Sound, block}
-use Rattle.optimistic.specs.words.Told.{HasForm, MayUnlock, signed}
+use Rattle.optimistic.specs.words.Kept.{calm_at, block}
+use Rattle.optimistic.specs.words.Told.{MayUnlock, signed}
 use Rattle.optimistic.specs.Moves.{words_of}
-use Rattle.optimistic.specs.forms.Children.{is_inner, first_of, second_of, IsForm, Becomes, Same}
+use Rattle.optimistic.specs.forms.Children.{is_inner, first_of, second_of, Becomes, Same}
 use Rattle.optimistic.specs.tree.Levels.{form_of, depth, stands, goes_on, pair_value, SameAt}
 use Rattle.optimistic.specs.tree.Trees.{where_at, first_in, second_in, first_at, second_at, IsTree}
-use Rattle.optimistic.specs.tree.Replace.{IsOver, IsLinked, Replaces, IsRebuilt, rebuilt_note}
+use Rattle.optimistic.specs.tree.Replace.{IsRebuilt, rebuilt_note}
 use Rattle.optimistic.proofs.lemmas.words.Moments.{calm_here, calm_else}
 use Rattle.optimistic.proofs.lemmas.forms.FormLemmas.{first_like, second_like, form_like}
 use Rattle.optimistic.proofs.lemmas.tree.Replaced.{replaced}
 
 -- words that are the same as far as their node goes
-becomes_like : (form : ℕ) (w w' v v' : ℕ → ℕ) (b : ℕ) (x : ℕ → ℕ) (y : ℕ) → 0 < room form → Same form v w → Same form v' w' → Becomes form w w' b x y → Becomes form v v' b x y
+pub becomes_like : (form : ℕ) (w w' v v' : ℕ → ℕ) (b : ℕ) (x : ℕ → ℕ) (y : ℕ) → 0 < room form → Same form v w → Same form v' w' → Becomes form w w' b x y → Becomes form v v' b x y
 becomes_like form w w' v v' b x y some s s' t = record {
   form_stays = form_like form w' v' s' some t.form_stays;
   first = λ key. first_like form w' v' s' key b ∙ t.first key;

@@ -23,11 +23,11 @@ same_tests a b c e to from = elim (cases_eq a b) [
   | inr d ↦ eqb_other a b d ∙ sym (eqb_other c e (λ q. d (from q)))
 ]
 
-both_left : (p q : Bool) → (p && q) ≡ true → p ≡ true
+pub both_left : (p q : Bool) → (p && q) ≡ true → p ≡ true
 both_left true q e = refl
 both_left false q e = absurd (clash false e refl)
 
-both_right : (p q : Bool) → (p && q) ≡ true → q ≡ true
+pub both_right : (p q : Bool) → (p && q) ≡ true → q ≡ true
 both_right true q e = e
 both_right false q e = absurd (clash false e refl)
 
@@ -71,10 +71,10 @@ child_tag g d m l k = omega arith
 child_level : (g d m : ℕ) → g < 9 → d < 8 → level_of (child_of g d m) ≡ d
 child_level g d m l k = omega arith
 
-child_node : (g d m : ℕ) → g < 9 → d < 8 → node_of (child_of g d m) ≡ m
+pub child_node : (g d m : ℕ) → g < 9 → d < 8 → node_of (child_of g d m) ≡ m
 child_node g d m l k = omega arith
 
-child_goes : (g d m key k : ℕ) → 0 < g → g < 9 → d < 8 → goes_on (child_of g d m) (where_of g d key) k ≡ stands (where_of g d key) k
+pub child_goes : (g d m key k : ℕ) → 0 < g → g < 9 → d < 8 → goes_on (child_of g d m) (where_of g d key) k ≡ stands (where_of g d key) k
 unfolding goes_on
 child_goes g d m key k some low l =
     let tag = child_tag g d m low l in
@@ -86,7 +86,7 @@ child_goes g d m key k some low l =
     λ i. ((a i && b i) && (e i && h i)) && stands (where_of g d key) k
 
 -- a child word of a node is no lone leaf
-node_value : (f x o k : ℕ) → goes_on f x o ≡ true → pair_value f x k ≡ None
+pub node_value : (f x o k : ℕ) → goes_on f x o ≡ true → pair_value f x k ≡ None
 unfolding goes_on pair_value
 node_value f x o k on =
     let kind = both_left (ltb 0 (tag_of f)) (ltb (tag_of f) 9) (both_left (ltb 0 (tag_of f) && ltb (tag_of f) 9) (eqb (form_of x) (tag_of f) && eqb (depth x) (level_of f)) (both_left (fits f x) (stands x o) on)) in
@@ -163,7 +163,7 @@ module _ (B C : List Block) (a n key f d : ℕ) (log : List Entry) (t : IsTree B
     )
 
 -- nodes whose words are the same
-like : (B C : List Block) (p : ℕ) → ((j : ℕ) → calm_at C p j ≡ calm_at B p j) → calm_at C p ≡ calm_at B p
+pub like : (B C : List Block) (p : ℕ) → ((j : ℕ) → calm_at C p j ≡ calm_at B p j) → calm_at C p ≡ calm_at B p
 like B C p e = λ i j. e j i
 
 module _ (B C : List Block) (a n m key f g d : ℕ) (value : Option ℕ) (log : List Entry) (t : IsTree B log) (r : Replaces B C a n m key f g d value) where

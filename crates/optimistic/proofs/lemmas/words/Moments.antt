@@ -12,7 +12,7 @@ use Rattle.optimistic.specs.declared.words.rule.Moment.{Moment}
 use Rattle.optimistic.specs.declared.words.rule.Plot.{Plot}
 use Rattle.optimistic.specs.declared.words.rule.Tenure.{Tenure}
 use Rattle.optimistic.specs.declared.words.rule.View.{View}
-use Rattle.optimistic.specs.words.Kept.{word_at, version_at, form_at, size, calm_at, has, calls_by, value_after, StartsWith, Calm, Since, SameWords, Held, Names, plot, block}
+use Rattle.optimistic.specs.words.Kept.{word_at, version_at, form_at, size, calm_at, has, calls_by, value_after, StartsWith, Calm, Since, SameWords, Follows, Held, Names, nothing, plot, block}
 use Rattle.optimistic.specs.words.Told.{tenure, signed, decided, also, HasAlso, HasForm, Tells}
 
 -- how many words a node of each form has
@@ -163,6 +163,19 @@ since_trans a b c p q = record {
   still = λ n l even e. let l' = inside_since a b p n 0 l in let t = sandwich (version_at a.words n) (version_at b.words n) (version_at c.words n) (p.grows n l) (q.grows n l') e in
       calm_trans n a b c (p.still n l even t.0) (q.still n l' (ap (λ (z : ℕ). z % 2) (sym t.0) ∙ even) t.1);
 }
+
+-- a moment that follows another is followed by what is since
+pub since_follows : (a b : Moment) → Since a b → Follows a b
+since_follows a b s = record { log = s.log; plots = s.plots }
+
+pub follows_since : (a b c : Moment) → Follows a b → Since b c → Follows a c
+follows_since a b c p q = record {
+  log = (p.log.0 ++ q.log.0, q.log.1 ∙ (ap (λ (l : List Entry). l ++ q.log.0) p.log.1 ∙ append_assoc a.log p.log.0 q.log.0));
+  plots = λ n l. let e : form_at b.plots n ≡ form_at a.plots n = p.plots n l in q.plots n (subst (λ (z : ℕ). 0 < width z) (sym e) l) ∙ e;
+}
+
+pub follows_nothing : (m : Moment) → Follows nothing m
+follows_nothing m = record { log = (m.log, refl); plots = λ n l. absurd (let e : width 0 ≡ 0 = no_width in omega arith) }
 
 -- what a hand has, over a chain of moments
 pub held_trans : (mine : List Tenure) (a b c : Moment) → Since a b → Held mine a b → Held mine b c → Held mine a c

@@ -8,8 +8,8 @@ use native.Mathlib.Decide.{ℕ_discrete}
 use lib.ListN.{get_elem?}
 use lib.Seq.{set-get_or}
 use prog.Atomic.{either}
-use Rattle.atomic_table.specs.Table.{State, Me, step, keeps, stepped, Allows, Enters, opening}
-use Rattle.atomic_table.proofs.Lists.{at_set}
+use Rattle.atomic_table.specs.Table.{State, Me, step, keeps, stepped, Allows, Enters, Splits, Joins, opening}
+use Rattle.atomic_table.proofs.Lists.{at_set, set_again}
 use Rattle.optimistic.specs.Layout.{width, is_link}
 use Rattle.optimistic.specs.declared.words.rule.Block.{Block}
 use Rattle.optimistic.specs.declared.words.rule.Entry.{Entry}
@@ -18,9 +18,9 @@ use Rattle.optimistic.specs.declared.words.rule.Note.{Note}
 use Rattle.optimistic.specs.declared.words.rule.Plot.{Plot}
 use Rattle.optimistic.specs.declared.words.rule.Tenure.{Tenure}
 use Rattle.optimistic.specs.declared.words.rule.View.{View}
-use Rattle.optimistic.specs.words.Kept.{word_at, version_at, form_at, size, calm_at, has, calls_by, StartsWith, Calm, Since, SameWords, Held, Names, Laid, Sound, Fits, moment, view_of, plot, block, first_words, first_calm, first_moment, newcomer, At, Kept}
-use Rattle.optimistic.specs.words.Told.{Good, HasForm, Tells, tenure, signed, decided, also, settled, HasAlso, Looks, Locks, Stores, Unlocks, Releases, MayUnlock, IsDrafted, arrived, looked, locked, stored, unlocked, released, carved}
-use Rattle.optimistic.proofs.lemmas.words.Moments.{width_some, width_four, no_width, version_no_link, not_false, link_some, version_word, zeros, zero_words, at_inside, at_end, has_here, has_else, calm_here, calm_else, form_here, form_else, calls_on, own_calls, other_calls, calm_refl, calm_trans, also_else, size_since, inside_since, since_refl, since_trans, held_trans, held_version, at_nothing, names_since, form_since}
+use Rattle.optimistic.specs.words.Kept.{word_at, version_at, form_at, size, calm_at, has, calls_by, StartsWith, Calm, Since, Follows, SameWords, Held, Names, Laid, Sound, Fits, moment, nothing, view_of, plot, block, first_words, first_calm, first_moment, newcomer, At, Kept}
+use Rattle.optimistic.specs.words.Told.{Good, HasForm, Tells, tenure, signed, decided, also, settled, HasAlso, Looks, Locks, Stores, Unlocks, Releases, MayUnlock, IsDrafted, arrived, looked, locked, stored, unlocked, released, carved, noted, with_told, heeded}
+use Rattle.optimistic.proofs.lemmas.words.Moments.{width_some, width_four, no_width, version_no_link, not_false, link_some, version_word, zeros, zero_words, at_inside, at_end, has_here, has_else, calm_here, calm_else, form_here, form_else, calls_on, own_calls, other_calls, calm_refl, calm_trans, also_else, size_since, inside_since, since_refl, since_trans, since_follows, follows_since, follows_nothing, held_trans, held_version, at_nothing, names_since, form_since}
 
 -- a word of a node is written
 set_here : (words : List ℕ) (q n i x : ℕ) → q ≡ n + i → q < length words → word_at (set words q x) n i ≡ x
@@ -74,31 +74,44 @@ module _ (good : Good) (count : ℕ) where
   abbrev now : (s : St) → Rule s → Moment
   now s k = moment s.words k.plots k.calm k.log
 
+  -- who has a node is a thread
+  works : (s : St) (k : Rule s) (i : ℕ) (u : View) (n : ℕ) → At s.views i u → has u.mine n ≡ true → 0 < u.by
+  works s k i u n at h = dite (ℕ_discrete u.by 0) (λ none. absurd (let e : has [] n ≡ true = ap (λ (l : List Tenure). has l n) (sym (k.idle i u at none)) ∙ h in grind arith)) (λ ne. omega arith)
+
   -- a node that some thread has is a node, and locked
   owned : (s : St) (k : Rule s) (i : ℕ) (u : View) (n : ℕ) → At s.views i u → has u.mine n ≡ true → (0 < size k.plots n) × (version_at s.words n % 2 ≡ 1)
-  owned s k i u n at h = let f = k.each i u at in let o = f.odd n h in (inside_since u.seen (now s k) f.since n 0 o.0, ap (λ (z : ℕ). z % 2) (held_version u.mine u.seen (now s k) f.held n o.0 h) ∙ o.1)
+  owned s k i u n at h = let f = k.each i u at (works s k i u n at h) in let o = f.odd n h in (inside_since u.seen (now s k) f.since n 0 o.0, ap (λ (z : ℕ). z % 2) (held_version u.mine u.seen (now s k) f.held n o.0 h) ∙ o.1)
 
   -- a node of another thread is not this one's
   not_both : (s : St) (k : Rule s) (id i : ℕ) (v u : View) (n p : ℕ) → At s.views id v → At s.views i u → i ≢ id → has v.mine n ≡ true → has u.mine p ≡ true → p ≢ n
   not_both s k id i v u n p at at' ne h h' e = ne (k.alone i id u v p at' at h' (ap (λ (z : ℕ). has v.mine z) e ∙ h))
 
   -- A step of one thread: the others keep what they know, and this one knows the moment after
-  advance : (s : St) (k : Rule s) (id : ℕ) (v : View) (words : List ℕ) (plots : List Plot) (calm : List Block) (log : List Entry) (mine : List Tenure) (made : List Entry) → At s.views id v → length words ≡ length s.words
+  advance : (s : St) (k : Rule s) (id : ℕ) (v : View) (words : List ℕ) (plots : List Plot) (calm : List Block) (log : List Entry) (mine : List Tenure) (made : List Entry) → At s.views id v → 0 < v.by → length words ≡ length s.words
       → Sound good (moment words plots calm log) → Since (now s k) (moment words plots calm log)
       → ((i : ℕ) (u : View) (n : ℕ) → At s.views i u → i ≢ id → has u.mine n ≡ true → SameWords n (now s k) (moment words plots calm log) × Calm n (now s k) (moment words plots calm log))
       → ((i : ℕ) (u : View) (n : ℕ) → At s.views i u → i ≢ id → has u.mine n ≡ true → has mine n ≡ true → ⊥)
       → ((n : ℕ) → has mine n ≡ true → (0 < size plots n) × (version_at words n % 2 ≡ 1)) → calls_by id log ≡ made → ((by : ℕ) → by ≢ id → calls_by by log ≡ calls_by by k.log)
       → Rule record { words = words; homes = s.homes; views = set s.views id (view_of (moment words plots calm log) mine made v.by) }
-  advance s k id v words plots calm log mine made at long sound since quiet apart odd own others = let m : Moment = moment words plots calm log in let w : View = view_of m mine made v.by in record {
+  advance s k id v words plots calm log mine made at pos long sound since quiet apart odd own others = let m : Moment = moment words plots calm log in let w : View = view_of m mine made v.by in record {
     plots = plots;
     calm = calm;
     log = log;
     wide = long ∙ k.wide;
     sound = sound;
-    each = λ i u e. ⊎_elim
+    some = let l = at_inside s.views id v at in let n : length (set s.views id w) ≡ length s.views = length-set s.views id w in omega arith;
+    idle = λ i u e none. ⊎_elim
+        (λ (t : (i ≡ id) × (w ≡ u)). absurd (let z : v.by ≡ 0 = ap (λ (x : View). x.by) t.1 ∙ none in omega arith))
+        (λ (t : (i ≢ id) × At s.views i u). k.idle i u t.1 none)
+        (at_set s.views id i w u e);
+    told = λ i u e. ⊎_elim
+        (λ (t : (i ≡ id) × (w ≡ u)). subst (λ (x : View). Follows x.told m) t.1 (follows_nothing m))
+        (λ (t : (i ≢ id) × At s.views i u). follows_since u.told (now s k) m (k.told i u t.1) since)
+        (at_set s.views id i w u e);
+    each = λ i u e some. ⊎_elim
         (λ (t : (i ≡ id) × (w ≡ u)). subst (λ (z : ℕ × View). Fits good z.0 z.1 m) (λ x. (sym t.0 x, t.1 x))
-        record { sound = sound; since = since_refl m; held = λ n h. ((λ j l. refl), calm_refl n m); odd = odd; calls = own; named = (k.each id v at).named })
-        (λ (t : (i ≢ id) × At s.views i u). let f = k.each i u t.1 in
+        record { sound = sound; since = since_refl m; held = λ n h. ((λ j l. refl), calm_refl n m); odd = odd; calls = own; named = (k.each id v at pos).named })
+        (λ (t : (i ≢ id) × At s.views i u). let f = k.each i u t.1 some in
         record { sound = f.sound; since = since_trans u.seen (now s k) m f.since since; held = λ n h. let a = f.held n h in let b = quiet i u n t.1 t.0 h in ((λ j l. b.0 j (inside_since u.seen (now s k) f.since n j l) ∙ a.0 j l), calm_trans n u.seen (now s k) m a.1 b.1); odd = f.odd; calls = others i t.0 ∙ f.calls; named = f.named })
         (at_set s.views id i w u e);
     alone = λ i j x y n e f h h'. ⊎_elim
@@ -110,47 +123,94 @@ module _ (good : Good) (count : ℕ) where
         others by (λ (e : by ≡ id). omega arith) ∙ k.strangers by far';
   }
 
-  own_calls_now : (s : St) (k : Rule s) (id : ℕ) (v : View) → At s.views id v → calls_by v.by k.log ≡ v.made
-  own_calls_now s k id v at = let f = k.each id v at in ap (λ (z : ℕ). calls_by z k.log) f.named ∙ f.calls
+  own_calls_now : (s : St) (k : Rule s) (id : ℕ) (v : View) → At s.views id v → 0 < v.by → calls_by v.by k.log ≡ v.made
+  own_calls_now s k id v at pos = let f = k.each id v at pos in ap (λ (z : ℕ). calls_by z k.log) f.named ∙ f.calls
 
   -- A step that changes nothing
-  looks_on : (s : St) (k : Rule s) (id i : ℕ) (me : Me Note View) → At s.views id me.0 → Rule (stepped s i (get_or s.words i 0) id me.1 (view_of (now s k) me.0.mine me.0.made me.0.by) keeps) × Looks good me.0 (view_of (now s k) me.0.mine me.0.made me.0.by)
-  looks_on s k id i me at = let m : Moment = now s k in let w : View = view_of m me.0.mine me.0.made me.0.by in let f = k.each id me.0 at in (
+  looks_on : (s : St) (k : Rule s) (id i : ℕ) (me : Me Note View) → At s.views id me.0 → 0 < me.0.by → Rule (stepped s i (get_or s.words i 0) id me.1 (view_of (now s k) me.0.mine me.0.made me.0.by) keeps) × Looks good me.0 (view_of (now s k) me.0.mine me.0.made me.0.by)
+  looks_on s k id i me at pos = let m : Moment = now s k in let w : View = view_of m me.0.mine me.0.made me.0.by in let f = k.each id me.0 at pos in (
     subst (λ (ws : List ℕ). Rule record { words = ws; homes = s.homes; views = set s.views id w }) (sym (set-get_or s.words i 0))
-        (advance s k id me.0 s.words k.plots k.calm k.log me.0.mine me.0.made at refl k.sound (since_refl m) (λ _ _ n _ _ _. ((λ j l. refl), calm_refl n m)) (λ i u n e ne h h'. ne (k.alone i id u me.0 n e at h h')) (λ n h. owned s k id me.0 n at h) f.calls (λ by _. refl)),
-    record { since = f.since; held = f.held; sound = k.sound; mine = refl; made = refl; own = (refl, own_calls_now s k id me.0 at) },
+        (advance s k id me.0 s.words k.plots k.calm k.log me.0.mine me.0.made at pos refl k.sound (since_refl m) (λ _ _ n _ _ _. ((λ j l. refl), calm_refl n m)) (λ i u n e ne h h'. ne (k.alone i id u me.0 n e at h h')) (λ n h. owned s k id me.0 n at h) f.calls (λ by _. refl)),
+    record { since = f.since; held = f.held; sound = k.sound; mine = refl; made = refl; own = (refl, own_calls_now s k id me.0 at pos) },
   )
 
-  pub looks : (slots id : ℕ) (me : Me Note View) (i : ℕ) → Allows Rule slots id me i (λ x. x) (looked good (step slots i 0 0 none) me)
-  looks slots id me i s k _ at _ = let t = looks_on s k id i me at in (view_of (now s k) me.0.mine me.0.made me.0.by, keeps, tt, t.0, (refl, t.1, refl))
+  pub looks : (slots id : ℕ) (me : Me Note View) (i : ℕ) → 0 < me.0.by → Allows Rule slots id me i (λ x. x) (looked good (step slots i 0 0 none) me)
+  looks slots id me i pos s k _ at _ = let t = looks_on s k id i me at pos in (view_of (now s k) me.0.mine me.0.made me.0.by, keeps, tt, t.0, (refl, t.1, refl))
+
+  -- A step that changes nothing, of a hand that was told a beginning of the log
+  pub heeds : (slots id : ℕ) (me : Me Note View) (i : ℕ) → 0 < me.0.by → Allows Rule slots id me i (λ x. x) (heeded good (step slots i 0 0 none) me)
+  heeds slots id me i pos s k _ at _ = let t = looks_on s k id i me at pos in (view_of (now s k) me.0.mine me.0.made me.0.by, keeps, tt, t.0, (refl, t.1, k.told id me.0 at))
+
+  no_tenure : (n : ℕ) → has [] n ≡ true → ⊥
+  no_tenure n e = grind arith
+
+  -- a hand more
+  enters : (s : St) (k : Rule s) (w : View) → w.mine ≡ [] → Follows w.told (now s k) → (0 < w.by → Fits good (length s.views) w (now s k)) → Rule record { words = s.words; homes = s.homes; views = s.views ++ w ∷ [] }
+  enters s k w nothing begins fits = let bare : (n : ℕ) (u : View) → w ≡ u → has u.mine n ≡ true → ⊥ = λ n u e h. no_tenure n (ap (λ (l : List Tenure). has l n) (sym nothing) ∙ (ap (λ (x : View). has x.mine n) e ∙ h)) in
+      record {
+        plots = k.plots;
+        calm = k.calm;
+        log = k.log;
+        wide = k.wide;
+        sound = k.sound;
+        some = let n : length (s.views ++ w ∷ []) ≡ length s.views + 1 = length-append s.views (w ∷ []) in omega arith;
+        each = λ i u e some. ⊎_elim (λ (t : At s.views i u). k.each i u t some)
+            (λ (t : (i ≡ length s.views) × (w ≡ u)). subst (λ (z : ℕ × View). Fits good z.0 z.1 (now s k)) (λ x. (sym t.0 x, t.1 x)) (fits (subst (λ (x : View). 0 < x.by) (sym t.1) some)))
+            (at_end s.views w u i e);
+        idle = λ i u e none. ⊎_elim (λ (t : At s.views i u). k.idle i u t none) (λ (t : (i ≡ length s.views) × (w ≡ u)). ap (λ (x : View). x.mine) (sym t.1) ∙ nothing) (at_end s.views w u i e);
+        told = λ i u e. ⊎_elim (λ (t : At s.views i u). k.told i u t) (λ (t : (i ≡ length s.views) × (w ≡ u)). subst (λ (x : View). Follows x.told (now s k)) t.1 begins) (at_end s.views w u i e);
+        alone = λ i j x y n e f h h'. ⊎_elim
+            (λ (t : At s.views i x). ⊎_elim (λ (r : At s.views j y). k.alone i j x y n t r h h') (λ (r : (j ≡ length s.views) × (w ≡ y)). absurd (bare n y r.1 h')) (at_end s.views w y j f))
+            (λ (t : (i ≡ length s.views) × (w ≡ x)). absurd (bare n x t.1 h)) (at_end s.views w x i e);
+        strangers = λ by far. let n : length (s.views ++ w ∷ []) ≡ length s.views + 1 = length-append s.views (w ∷ []) in let far' : length s.views ≤ by = omega arith in k.strangers by far';
+      }
+
+  -- a hand that knows something else, and has no node that it hadn't
+  changes : (s : St) (k : Rule s) (id : ℕ) (v w : View) → At s.views id v → ((n : ℕ) → has w.mine n ≡ true → has v.mine n ≡ true) → (w.by ≡ 0 → w.mine ≡ []) → Follows w.told (now s k) → (0 < w.by → Fits good id w (now s k))
+      → Rule record { words = s.words; homes = s.homes; views = set s.views id w }
+  changes s k id v w at less bare begins fits = let had : (i n : ℕ) (u : View) → (i ≡ id) × (w ≡ u) → has u.mine n ≡ true → At s.views i v × (has v.mine n ≡ true) = λ i n u t h. (subst (λ (z : ℕ). At s.views z v) (sym t.0) at, less n (ap (λ (x : View). has x.mine n) t.1 ∙ h)) in
+      record {
+        plots = k.plots;
+        calm = k.calm;
+        log = k.log;
+        wide = k.wide;
+        sound = k.sound;
+        some = let l = at_inside s.views id v at in let n : length (set s.views id w) ≡ length s.views = length-set s.views id w in omega arith;
+        each = λ i u e some. ⊎_elim
+            (λ (t : (i ≡ id) × (w ≡ u)). subst (λ (z : ℕ × View). Fits good z.0 z.1 (now s k)) (λ x. (sym t.0 x, t.1 x)) (fits (subst (λ (x : View). 0 < x.by) (sym t.1) some)))
+            (λ (t : (i ≢ id) × At s.views i u). k.each i u t.1 some) (at_set s.views id i w u e);
+        idle = λ i u e none. ⊎_elim (λ (t : (i ≡ id) × (w ≡ u)). ap (λ (x : View). x.mine) (sym t.1) ∙ bare (ap (λ (x : View). x.by) t.1 ∙ none)) (λ (t : (i ≢ id) × At s.views i u). k.idle i u t.1 none) (at_set s.views id i w u e);
+        told = λ i u e. ⊎_elim (λ (t : (i ≡ id) × (w ≡ u)). subst (λ (x : View). Follows x.told (now s k)) t.1 begins) (λ (t : (i ≢ id) × At s.views i u). k.told i u t.1) (at_set s.views id i w u e);
+        alone = λ i j x y n e f h h'. ⊎_elim
+            (λ (t : (i ≡ id) × (w ≡ x)). let a = had i n x t h in ⊎_elim (λ (r : (j ≡ id) × (w ≡ y)). t.0 ∙ sym r.0) (λ (r : (j ≢ id) × At s.views j y). k.alone i j v y n a.0 r.1 a.1 h') (at_set s.views id j w y f))
+            (λ (t : (i ≢ id) × At s.views i x). ⊎_elim (λ (r : (j ≡ id) × (w ≡ y)). let a = had j n y r h' in k.alone i j x v n t.1 a.0 h a.1) (λ (r : (j ≢ id) × At s.views j y). k.alone i j x y n t.1 r.1 h h') (at_set s.views id j w y f))
+            (at_set s.views id i w x e);
+        strangers = λ by far. let n : length (set s.views id w) ≡ length s.views = length-set s.views id w in let far' : length s.views ≤ by = omega arith in k.strangers by far';
+      }
 
   pub arrives : (slots : ℕ) → Enters Rule slots 0 (λ x w. arrived good (step slots 0 0 0 none) (newcomer count, []) x (w, []))
-  arrives slots s k _ _ = let m : Moment = now s k in let w : View = view_of m [] [] (length s.views) in (
+  arrives slots s k _ _ = let m : Moment = now s k in let w : View = view_of m [] [] (length s.views) in let none = k.strangers (length s.views) (le_refl (length s.views)) in (
     w,
-    record {
-      plots = k.plots;
-      calm = k.calm;
-      log = k.log;
-      wide = k.wide;
-      sound = k.sound;
-      each = λ i u e. ⊎_elim (λ (t : At s.views i u). k.each i u t)
-          (λ (t : (i ≡ length s.views) × (w ≡ u)). subst (λ (z : ℕ × View). Fits good z.0 z.1 m) (λ x. (sym t.0 x, t.1 x))
-          record { sound = k.sound; since = since_refl m; held = λ n h. absurd (no_tenure n h); odd = λ n h. absurd (no_tenure n h); calls = k.strangers (length s.views) (le_refl (length s.views)); named = refl })
-          (at_end s.views w u i e);
-      alone = λ i j x y n e f h h'. ⊎_elim
-          (λ (t : At s.views i x). ⊎_elim (λ (r : At s.views j y). k.alone i j x y n t r h h') (λ (r : (j ≡ length s.views) × (w ≡ y)). absurd (no_tenure n (subst (λ (z : View). has z.mine n ≡ true) (sym r.1) h'))) (at_end s.views w y j f))
-          (λ (t : (i ≡ length s.views) × (w ≡ x)). absurd (no_tenure n (subst (λ (z : View). has z.mine n ≡ true) (sym t.1) h))) (at_end s.views w x i e);
-      strangers = λ by far. let n : length (s.views ++ w ∷ []) ≡ length s.views + 1 = length-append s.views (w ∷ []) in let far' : length s.views ≤ by = omega arith in k.strangers by far';
-    },
-    (refl, k.wide ∙ sym (first_wide count), (k.sound, refl, refl, k.strangers (length s.views) (le_refl (length s.views)))),
+    enters s k w refl (follows_nothing m) (λ _. record { sound = k.sound; since = since_refl m; held = λ n h. absurd (no_tenure n h); odd = λ n h. absurd (no_tenure n h); calls = none; named = refl }),
+    (refl, k.wide ∙ sym (first_wide count), (k.sound, refl, refl, none), k.some),
   )
-    where
-      no_tenure : (n : ℕ) → has [] n ≡ true → ⊥
-      no_tenure n e = grind arith
 
-  pub locks : (slots id : ℕ) (me : Me Note View) (n old new : ℕ) → 0 < size me.0.seen.plots n → old % 2 ≡ 0 → new ≡ old + 1
+  -- a hand tells what it has seen of the log
+  pub notes : (id : ℕ) (v : View) → 0 < v.by → Splits Rule id v v (noted v.seen)
+  notes id v pos s k at = subst (λ (l : List View). Rule record { words = s.words; homes = s.homes; views = l ++ noted v.seen ∷ [] }) (sym (set_again s.views id v at))
+      (enters s k (noted v.seen) refl (since_follows v.seen (now s k) (k.each id v at pos).since) (λ (l : 0 < 0). absurd (omega arith)))
+
+  -- a hand was told what another was
+  pub joins : (id other : ℕ) (v w : View) → 0 < v.by → Joins Rule id v other w (with_told v w) (noted nothing)
+  joins id other v w pos s k at ne at' = let u : View = with_told v w in let f = k.each id v at pos in
+      let was : At s.views other w = ⊎_elim (λ (t : (other ≡ id) × (u ≡ w)). absurd (ne t.0)) (λ (t : (other ≢ id) × At s.views other w). t.1) (at_set s.views id other u w at') in
+      let one : Rule record { words = s.words; homes = s.homes; views = set s.views id u } = changes s k id v u at (λ n h. h) (λ (e : v.by ≡ 0). absurd (omega arith)) (k.told other w was)
+      (λ _. record { sound = f.sound; since = f.since; held = f.held; odd = f.odd; calls = f.calls; named = f.named }) in
+      changes record { words = s.words; homes = s.homes; views = set s.views id u } one other w (noted nothing) at' (λ n h. absurd (no_tenure n h)) (λ _. refl) (follows_nothing (now record { words = s.words; homes = s.homes; views = set s.views id u } one)) (λ (l : 0 < 0). absurd (omega arith))
+
+  pub locks : (slots id : ℕ) (me : Me Note View) (n old new : ℕ) → 0 < me.0.by → 0 < size me.0.seen.plots n → old % 2 ≡ 0 → new ≡ old + 1
       → Allows Rule slots id me n (λ x. either (eqb x old) new x) (locked good (step slots n old new none) me)
-  locks slots id me n old new known even up s k _ at _ = let x : ℕ = version_at s.words n in let m : Moment = now s k in let v : View = me.0 in let f = k.each id v at in dite (ℕ_discrete x old)
+  locks slots id me n old new pos known even up s k _ at _ = let x : ℕ = version_at s.words n in let m : Moment = now s k in let v : View = me.0 in let f = k.each id v at pos in dite (ℕ_discrete x old)
       (λ hit. let words : List ℕ = set s.words n new in let m' : Moment = moment words k.plots k.calm k.log in let w : View = view_of m' (tenure n true ∷ v.mine) v.made v.by in
       let laid = k.sound.laid in
       let some_word : 0 < size k.plots n = inside_since v.seen m f.since n 0 known in
@@ -182,7 +242,7 @@ module _ (good : Good) (count : ℕ) where
         keeps,
         tt,
         subst (λ b. Rule (stepped s n (either b new x) id me.1 w keeps)) (sym (eq-eqb x old hit))
-            (advance s k id v words k.plots k.calm k.log (tenure n true ∷ v.mine) v.made at (length-set s.words n new) sound since (λ i u p e ne h. ((λ j l. else_word p j l (free i u p e h)), calm_refl p m))
+            (advance s k id v words k.plots k.calm k.log (tenure n true ∷ v.mine) v.made at pos (length-set s.words n new) sound since (λ i u p e ne h. ((λ j l. else_word p j l (free i u p e h)), calm_refl p m))
             (λ i u p e ne h h'. let other = free i u p e h in ne (k.alone i id u v p e at h (sym (has_else n p true v.mine (λ q. other (sym q))) ∙ h')))
             (λ p h. dite (ℕ_discrete p n) (λ (same : p ≡ n). (subst (λ (z : ℕ). 0 < size k.plots z) (sym same) some_word, ap (λ (z : ℕ). version_at words z % 2) same ∙ (ap (λ (z : ℕ). z % 2) here ∙ (let o : new % 2 ≡ 1 = omega arith in o))))
             (λ ne. let o = owned s k id v p at (sym (has_else n p true v.mine (λ q. ne (sym q))) ∙ h) in (o.0, ap (λ (z : ℕ). z % 2) (else_version p ne) ∙ o.1)))
@@ -196,26 +256,27 @@ module _ (good : Good) (count : ℕ) where
             sound = sound;
             mine = refl;
             made = refl;
-            own = (refl, own_calls_now s k id v at);
+            own = (refl, own_calls_now s k id v at pos);
             version = here ∙ up;
             before = let g : version_at v.seen.words n ≤ x = f.since.grows n known in let h : x ≡ old = hit in omega arith;
             taken = λ e. f.since.still n known (ap (λ (z : ℕ). z % 2) e ∙ even) (e ∙ sym hit);
             rests = λ j l l'. own_word j l ∙ sym (k.sound.rests n j l l' x_even);
           }),
           (λ miss. absurd (miss hit)),
+          refl,
         ),
       ))
-      (λ miss. let t = looks_on s k id n me at in let w : View = view_of m v.mine v.made v.by in (
+      (λ miss. let t = looks_on s k id n me at pos in let w : View = view_of m v.mine v.made v.by in (
         w,
         keeps,
         tt,
         subst (λ b. Rule (stepped s n (either b new x) id me.1 w keeps)) (sym (ne_eqb x old miss)) t.0,
-        (refl, f.since, (λ hit. absurd (miss hit)), (λ _. t.1)),
+        (refl, f.since, (λ hit. absurd (miss hit)), (λ _. t.1), refl),
       ))
 
-  pub puts : (slots id : ℕ) (me : Me Note View) (n form j q y : ℕ) → has me.0.mine n ≡ true → HasForm n form me.0 → 0 < j → j < width form → q ≡ n + j → (is_link form j ≡ true → Tells y me.0)
+  pub puts : (slots id : ℕ) (me : Me Note View) (n form j q y : ℕ) → 0 < me.0.by → has me.0.mine n ≡ true → HasForm n form me.0 → 0 < j → j < width form → q ≡ n + j → (is_link form j ≡ true → Tells y me.0)
       → Allows Rule slots id me q (λ _. y) (λ _. stored good (step slots q y 0 none) me y)
-  puts slots id me n form j q y own_it known some_word low is tells s k _ at _ = let m : Moment = now s k in let v : View = me.0 in let f = k.each id v at in let laid = k.sound.laid in
+  puts slots id me n form j q y pos own_it known some_word low is tells s k _ at _ = let m : Moment = now s k in let v : View = me.0 in let f = k.each id v at pos in let laid = k.sound.laid in
       let words : List ℕ = set s.words q y in let m' : Moment = moment words k.plots k.calm k.log in let w : View = view_of m' v.mine v.made v.by in
       let inside_v : j < size v.seen.plots n = subst (λ (z : ℕ). j < width z) (sym known.is) low in
       let inside : j < size k.plots n = inside_since v.seen m f.since n j inside_v in
@@ -237,7 +298,7 @@ module _ (good : Good) (count : ℕ) where
         w,
         keeps,
         tt,
-        advance s k id v words k.plots k.calm k.log v.mine v.made at (length-set s.words q y) sound since (λ o u p e ne h. ((λ i l. else_word p i l (not_both s k id o v u n p at e ne own_it h)), calm_refl p m))
+        advance s k id v words k.plots k.calm k.log v.mine v.made at pos (length-set s.words q y) sound since (λ o u p e ne h. ((λ i l. else_word p i l (not_both s k id o v u n p at e ne own_it h)), calm_refl p m))
             (λ o u p e ne h h'. ne (k.alone o id u v p e at h h')) (λ p h. let o = owned s k id v p at h in (o.0, ap (λ (z : ℕ). z % 2) (version p o.0) ∙ o.1)) f.calls (λ by _. refl),
         (
           refl,
@@ -246,7 +307,7 @@ module _ (good : Good) (count : ℕ) where
             sound = sound;
             mine = refl;
             made = refl;
-            own = (refl, own_calls_now s k id v at);
+            own = (refl, own_calls_now s k id v at pos);
             here = get_or-set_same s.words q y 0 (omega arith);
             others = λ p i h l ne. get_or-set_other s.words q (p + i) y 0 ne ∙ (f.held p h).0 i l;
             calm = λ p h. (f.held p h).1;
@@ -254,10 +315,10 @@ module _ (good : Good) (count : ℕ) where
         ),
       )
 
-  pub unlocks : (slots id : ℕ) (me : Me Note View) (n ver new : ℕ) (note : Note) → has me.0.mine n ≡ true → version_at me.0.seen.words n ≡ ver → new ≡ ver + 1
+  pub unlocks : (slots id : ℕ) (me : Me Note View) (n ver new : ℕ) (note : Note) → 0 < me.0.by → has me.0.mine n ≡ true → version_at me.0.seen.words n ≡ ver → new ≡ ver + 1
       → HasAlso me.0.mine note.first → HasAlso me.0.mine note.second → HasAlso me.0.mine note.third → MayUnlock good n note me.0
       → Allows Rule slots id me n (λ x. either (eqb x ver) new x) (unlocked good (step slots n ver new (some note)) me)
-  unlocks slots id me n ver new note own_it is_ver up one two three may s k _ at _ = let x : ℕ = version_at s.words n in let m : Moment = now s k in let v : View = me.0 in let f = k.each id v at in let laid = k.sound.laid in
+  unlocks slots id me n ver new note pos own_it is_ver up one two three may s k _ at _ = let x : ℕ = version_at s.words n in let m : Moment = now s k in let v : View = me.0 in let f = k.each id v at pos in let laid = k.sound.laid in
       let own = f.odd n own_it in
       let some_word : 0 < size k.plots n = (owned s k id v n at own_it).0 in
       let hit : x ≡ ver = held_version v.mine v.seen m f.held n own.0 own_it ∙ is_ver in
@@ -295,13 +356,13 @@ module _ (good : Good) (count : ℕ) where
         grows = λ p _. dite (ℕ_discrete p n) (λ same. subst (λ (z : ℕ). version_at s.words z ≤ version_at words z) (sym same) (let a : version_at s.words n ≡ ver = hit in let b : version_at words n ≡ new = here in omega arith)) (λ ne. le_of_eq (sym (else_version p ne)));
         still = λ p _ even e. else_calm p (even_not p even);
       } in
-      let own' : calls_by v.by log ≡ made = calls_on v.by k.log (decided v.by note.entry) ∙ (λ i. own_calls_now s k id v at i ++ own_calls v.by note.entry i) in
+      let own' : calls_by v.by log ≡ made = calls_on v.by k.log (decided v.by note.entry) ∙ (λ i. own_calls_now s k id v at pos i ++ own_calls v.by note.entry i) in
       let own'' : calls_by id log ≡ made = ap (λ (z : ℕ). calls_by z log) (sym f.named) ∙ own' in (
         w,
         keeps,
         tt,
         subst (λ b. Rule (stepped s n (either b new x) id me.1 w keeps)) (sym (eq-eqb x ver hit))
-            (advance s k id v words k.plots calm log mine made at (length-set s.words n new) sound since (λ o u p e ne h. ((λ j l. else_word p j l (not_both s k id o v u n p at e ne own_it h)), else_calm p (λ h'. ne (k.alone o id u v p e at h h'))))
+            (advance s k id v words k.plots calm log mine made at pos (length-set s.words n new) sound since (λ o u p e ne h. ((λ j l. else_word p j l (not_both s k id o v u n p at e ne own_it h)), else_calm p (λ h'. ne (k.alone o id u v p e at h h'))))
             (λ o u p e ne h h'. let q = not_here p h' in ne (k.alone o id u v p e at h (sym (other_mine p q) ∙ h')))
             (λ p h. let q = not_here p h in let o = owned s k id v p at (sym (other_mine p q) ∙ h) in (o.0, ap (λ (z : ℕ). z % 2) (else_version p q) ∙ o.1))
             own'' (λ by ne. calls_on by k.log (decided v.by note.entry) ∙ (ap (λ (l : List Entry). calls_by by k.log ++ l) (other_calls v.by by note.entry (λ q. ne (sym q ∙ f.named))) ∙ append-nil (calls_by by k.log)))),
@@ -312,6 +373,7 @@ module _ (good : Good) (count : ℕ) where
             since = f.since;
             held = f.held;
             after = since_trans v.seen m m' f.since since;
+            was = k.sound;
             sound = sound;
             mine = refl;
             made = refl;
@@ -323,9 +385,9 @@ module _ (good : Good) (count : ℕ) where
         ),
       )
 
-  pub releases : (slots id : ℕ) (me : Me Note View) (n ver new : ℕ) → IsDrafted n ver me.0 → new ≡ ver + 1
+  pub releases : (slots id : ℕ) (me : Me Note View) (n ver new : ℕ) → 0 < me.0.by → IsDrafted n ver me.0 → new ≡ ver + 1
       → Allows Rule slots id me n (λ x. either (eqb x ver) new x) (released good (step slots n ver new none) me)
-  releases slots id me n ver new draft up s k _ at _ = let x : ℕ = version_at s.words n in let m : Moment = now s k in let v : View = me.0 in let f = k.each id v at in let laid = k.sound.laid in
+  releases slots id me n ver new pos draft up s k _ at _ = let x : ℕ = version_at s.words n in let m : Moment = now s k in let v : View = me.0 in let f = k.each id v at pos in let laid = k.sound.laid in
       let own_it = draft.0 in
       let own = f.odd n own_it in
       let some_word : 0 < size k.plots n = (owned s k id v n at own_it).0 in
@@ -363,7 +425,7 @@ module _ (good : Good) (count : ℕ) where
         keeps,
         tt,
         subst (λ b. Rule (stepped s n (either b new x) id me.1 w keeps)) (sym (eq-eqb x ver hit))
-            (advance s k id v words k.plots k.calm k.log mine v.made at (length-set s.words n new) sound since (λ o u p e ne h. ((λ j l. else_word p j l (not_both s k id o v u n p at e ne own_it h)), calm_refl p m))
+            (advance s k id v words k.plots k.calm k.log mine v.made at pos (length-set s.words n new) sound since (λ o u p e ne h. ((λ j l. else_word p j l (not_both s k id o v u n p at e ne own_it h)), calm_refl p m))
             (λ o u p e ne h h'. let q = not_here p h' in ne (k.alone o id u v p e at h (sym (other_mine p q) ∙ h')))
             (λ p h. let q = not_here p h in let o = owned s k id v p at (sym (other_mine p q) ∙ h) in (o.0, ap (λ (z : ℕ). z % 2) (else_version p q) ∙ o.1))
             f.calls (λ by _. refl)),
@@ -374,15 +436,15 @@ module _ (good : Good) (count : ℕ) where
             sound = sound;
             mine = refl;
             made = refl;
-            own = (refl, own_calls_now s k id v at);
+            own = (refl, own_calls_now s k id v at pos);
             others = λ p h. let q = not_here p h in let a = f.held p (sym (other_mine p q) ∙ h) in ((λ j l. else_word p j (inside_since v.seen m f.since p j l) q ∙ a.0 j l), a.1);
           },
         ),
       )
 
-  pub carves : (slots id : ℕ) (me : Me Note View) (end new : ℕ) (note : Note) → 0 < width note.form → new ≡ end + width note.form → new ≤ count
+  pub carves : (slots id : ℕ) (me : Me Note View) (end new : ℕ) (note : Note) → 0 < me.0.by → 0 < width note.form → new ≡ end + width note.form → new ≤ count
       → Allows Rule slots id me 0 (λ x. either (eqb x end) new x) (carved good (step slots 0 end new (some note)) me)
-  carves slots id me end new note some_word is fits s k _ at _ = let x : ℕ = get_or s.words 0 0 in let m : Moment = now s k in let v : View = me.0 in let f = k.each id v at in let laid = k.sound.laid in
+  carves slots id me end new note pos some_word is fits s k _ at _ = let x : ℕ = get_or s.words 0 0 in let m : Moment = now s k in let v : View = me.0 in let f = k.each id v at pos in let laid = k.sound.laid in
       let fm : ℕ = note.form in dite (ℕ_discrete x end)
       (λ hit. let words : List ℕ = set s.words 0 new in let plots : List Plot = plot end fm ∷ k.plots in let m' : Moment = moment words plots k.calm k.log in let w : View = view_of m' v.mine v.made v.by in
       let root_size : 0 < size k.plots 16 = subst (λ (z : ℕ). 0 < width z) (sym k.sound.root) (width_some 4 (omega arith) (omega arith)) in
@@ -436,7 +498,7 @@ module _ (good : Good) (count : ℕ) where
         keeps,
         tt,
         subst (λ b. Rule (stepped s 0 (either b new x) id me.1 w keeps)) (sym (eq-eqb x end hit))
-            (advance s k id v words plots k.calm k.log v.mine v.made at (length-set s.words 0 new) sound since (λ o u p e ne h. ((λ j l. else_word p j l), calm_refl p m))
+            (advance s k id v words plots k.calm k.log v.mine v.made at pos (length-set s.words 0 new) sound since (λ o u p e ne h. ((λ j l. else_word p j l), calm_refl p m))
             (λ o u p e ne h h'. ne (k.alone o id u v p e at h h'))
             (λ p h. let o = owned s k id v p at h in (inside_since m m' since p 0 o.0, ap (λ (z : ℕ). z % 2) (else_version p o.0) ∙ o.1))
             f.calls (λ by _. refl)),
@@ -448,7 +510,7 @@ module _ (good : Good) (count : ℕ) where
             sound = sound;
             mine = refl;
             made = refl;
-            own = (refl, own_calls_now s k id v at);
+            own = (refl, own_calls_now s k id v at pos);
           },
           (λ note' said _. let told : note ≡ note' = some-injective note note' said in subst (λ (z : Note). HasForm end z.form w) told record {
             is = form_here end fm k.plots;
@@ -457,7 +519,7 @@ module _ (good : Good) (count : ℕ) where
           }),
         ),
       ))
-      (λ miss. let t = looks_on s k id 0 me at in let w : View = view_of m v.mine v.made v.by in (
+      (λ miss. let t = looks_on s k id 0 me at pos in let w : View = view_of m v.mine v.made v.by in (
         w,
         keeps,
         tt,
@@ -505,16 +567,13 @@ module _ (good : Good) (count : ℕ) where
     log = [];
     wide = length-set (set (replicate count 0) 0 536) 17 32 ∙ (length-set (replicate count 0) 0 536 ∙ length-replicate count 0);
     sound = sound;
-    each = λ i u e. ⊎_elim (λ (t : At [] i u). absurd (at_nothing u i t))
-        (λ (t : (i ≡ 0) × (newcomer count ≡ u)). subst (λ (z : View). Fits good i z m) t.1
-        record { sound = sound; since = since_refl m; held = λ n h. absurd (no_tenure n h); odd = λ n h. absurd (no_tenure n h); calls = refl; named = sym t.0 })
-        (at_end [] (newcomer count) u i e);
+    some = omega arith;
+    each = λ i u e some. ⊎_elim (λ (t : At [] i u). absurd (at_nothing u i t)) (λ (t : (i ≡ 0) × (newcomer count ≡ u)). absurd (let z : 0 < 0 = subst (λ (x : View). 0 < x.by) (sym t.1) some in omega arith)) (at_end [] (newcomer count) u i e);
+    idle = λ i u e none. ⊎_elim (λ (t : At [] i u). absurd (at_nothing u i t)) (λ (t : (i ≡ 0) × (newcomer count ≡ u)). ap (λ (x : View). x.mine) (sym t.1)) (at_end [] (newcomer count) u i e);
+    told = λ i u e. ⊎_elim (λ (t : At [] i u). absurd (at_nothing u i t)) (λ (t : (i ≡ 0) × (newcomer count ≡ u)). subst (λ (x : View). Follows x.told m) t.1 (follows_nothing m)) (at_end [] (newcomer count) u i e);
     alone = λ i j x y n e f h h'. ⊎_elim (λ (t : At [] i x). absurd (at_nothing x i t)) (λ (t : (i ≡ 0) × (newcomer count ≡ x)). absurd (no_tenure n (subst (λ (z : View). has z.mine n ≡ true) (sym t.1) h))) (at_end [] (newcomer count) x i e);
     strangers = λ by far. refl;
   }
-    where
-      no_tenure : (n : ℕ) → has [] n ≡ true → ⊥
-      no_tenure n e = grind arith
 
 -- a word that was read at a place of a child
 pub told : (good : Good) (n form j x : ℕ) (w : View) → HasForm n form w → j < width form → Sound good w.seen → x ≡ word_at w.seen.words n j → is_link form j ≡ true → Tells x w

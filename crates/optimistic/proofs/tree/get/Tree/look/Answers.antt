@@ -1,12 +1,9 @@
-use Rattle.std.proofs.Common.{◌≡◌, ◌≢◌, ℕ, ◌<◌, ◌%◌, false, rules, refl, sym, ap, ◌∙◌, subst, arith}
-use Rattle.optimistic.specs.Layout.{width, where_of, byte_at}
+use Rattle.std.proofs.Common.{◌≡◌, ◌≢◌, ℕ, ◌%◌, false, rules, sym, ◌∙◌, subst, arith}
+use Rattle.optimistic.specs.Layout.{where_of, byte_at}
 use Rattle.optimistic.specs.words.Kept.{calm_at, word_at}
-use Rattle.optimistic.specs.words.Told.{HasForm}
 use Rattle.optimistic.specs.tree.Reads.{Found, Still}
-use Rattle.optimistic.specs.tree.Trees.{IsTree}
-use Rattle.optimistic.proofs.lemmas.words.Chains.{looks_keeps}
 use Rattle.optimistic.proofs.lemmas.words.Moments.{since_refl, since_trans, width_more}
-use Rattle.optimistic.proofs.lemmas.tree.Reading.{looks_trans, still_agrees, reads}
+use Rattle.optimistic.proofs.lemmas.tree.Reading.{still_agrees, reads}
 use Rattle.optimistic.proofs.tree.get.Tree.look.Goals as goal
 
 pub load-version-requires-clause-at : goal.load-version-requires-clause-at
@@ -44,3 +41,15 @@ returns-clause-look c =
     subst (λ (z : ℕ). Found node form c.child-child.result.first c.child-child.result.second c.args.key z u w) c.key_byte-byte.ensures.byte c.child-child.ensures.found in
     c.pair_value.ensures ∙ reads u w a.seen b.seen node form c.args.at.level c.args.key c.child-child.result.first c.child-child.result.second c.requires.at.some c.requires.at.form c.requires.at.level over place c.load-last.ensures.looks.sound found
     (sym c.goes_on-on.ensures.on ∙ off)
+
+pub returns-then-on-clause-since : goal.returns-then-on-clause-since
+returns-then-on-clause-since c = let v = c.args.hand.now.me.0.seen in let a = c.load-version.new.hand.me.0.seen in let u = c.read-found.new.hand.me.0.seen in let w = c.child-child.new.hand.me.0.seen in
+    since_trans v a w c.load-version.ensures.looks.since (since_trans a u w c.read-found.ensures.looks.since c.child-child.ensures.looks.since)
+
+pub returns-then-last-version-clause-since : goal.returns-then-last-version-clause-since
+returns-then-last-version-clause-since c = let v = c.args.hand.now.me.0.seen in let a = c.load-version.new.hand.me.0.seen in let u = c.read-found.new.hand.me.0.seen in let w = c.child-child.new.hand.me.0.seen in let b = c.load-last.new.hand.me.0.seen in
+    since_trans v a b c.load-version.ensures.looks.since (since_trans a u b c.read-found.ensures.looks.since (since_trans u w b c.child-child.ensures.looks.since c.load-last.ensures.looks.since))
+
+pub returns-clause-since : goal.returns-clause-since
+returns-clause-since c = let v = c.args.hand.now.me.0.seen in let a = c.load-version.new.hand.me.0.seen in let u = c.read-found.new.hand.me.0.seen in let w = c.child-child.new.hand.me.0.seen in let b = c.load-last.new.hand.me.0.seen in
+    since_trans v a b c.load-version.ensures.looks.since (since_trans a u b c.read-found.ensures.looks.since (since_trans u w b c.child-child.ensures.looks.since c.load-last.ensures.looks.since))

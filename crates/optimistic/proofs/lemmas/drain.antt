@@ -1,0 +1,4 @@
+pub mod Keys
+pub mod Leasts
+pub mod Ends
+pub mod Lists

@@ -1,0 +1,77 @@
+-- The pairs that a log makes, one after the other.
+use Rattle.std.proofs.Common.{◌≡◌, ℕ, suc, zero, ◌+◌, ◌^◌, ◌<◌, ◌≤◌, List, [], ◌∷◌, ◌++◌, get_or, length, length-append, arith, ap, sym, ◌∙◌, subst, inl, inr, Option, None, Some, unwrap_or}
+use Rattle.std.specs.List.{AllPairs, Contains}
+use Rattle.std.proofs.Math.ListN.{get_or-append}
+use Rattle.std.proofs.Math.Seq.{get_or-append_seam}
+use Rattle.std.proofs.lemmas.Bool.{cases_lt}
+use Rattle.std.proofs.lemmas.List.Elements.{Contains-append_left, Contains-append_right, Contains-append_cases, All-contains_itself}
+use Rattle.optimistic.specs.declared.drain.nexts.Pair.{Pair}
+use Rattle.optimistic.specs.declared.words.rule.Entry.{Entry}
+use Rattle.optimistic.specs.words.Kept.{value_of}
+use Rattle.optimistic.specs.tree.Nexts.{IsFirst}
+use Rattle.optimistic.specs.tree.Drained.{IsDrained, pair_of}
+use Rattle.optimistic.proofs.lemmas.drain.Keys.{no_pair}
+
+pub drained_none : (log : List Entry) (from : ℕ) → IsDrained log from from []
+drained_none log from = record {
+  ascending = λ i j d l m. absurd (omega arith);
+  told = λ p c. let l = c.1 in absurd (omega arith);
+  all = λ key value above below is. absurd (omega arith);
+}
+
+only_one : (p q : Pair) → Contains (p ∷ []) q → p ≡ q
+only_one p q c = at c.0 c.1 c.2
+  where
+    at : (k : ℕ) → k < length (p ∷ []) → get_or (p ∷ []) k q ≡ q → p ≡ q
+    at zero l e = e
+    at (suc k) l e = absurd (omega arith)
+
+same_value : (x y : ℕ) (o : Option ℕ) → o ≡ Some x → o ≡ Some y → x ≡ y
+same_value x y o a b = ap (λ (z : Option ℕ). unwrap_or z 0) (sym a ∙ b)
+
+module _ (log : List Entry) (from to : ℕ) (xs : List Pair) (old : IsDrained log from to xs) where
+  pub drained_end : to ≤ 2 ^ 64 → IsFirst log to None → IsDrained log from (2 ^ 64) xs
+  drained_end end none = record {
+    ascending = old.ascending;
+    told = λ p c. let t = old.told p c in let a = t.1 in (t.0, omega arith, t.2);
+    all = λ key value above below is. elim (cases_lt key to) [
+      | inl m ↦ old.all key value above m is
+      | inr m ↦ absurd (no_pair value (value_of key log) is (none key m below))
+    ];
+  }
+
+  module _ (p : Pair) (order : from ≤ to) (first : IsFirst log to (Some p)) where
+    long : length (xs ++ p ∷ []) ≡ length xs + 1
+    long = length-append xs (p ∷ [])
+
+    ascends : AllPairs (λ (q r : Pair). q.key < r.key) (xs ++ p ∷ [])
+    ascends i j d l m = elim (cases_lt j (length xs)) [
+      | inl n ↦
+          let k : i < length xs = omega arith in
+          subst (λ (z : Pair × Pair). z.0.key < z.1.key) (λ t. (sym (get_or-append xs (p ∷ []) d i k) t, sym (get_or-append xs (p ∷ []) d j n) t)) (old.ascending i j d l n)
+      | inr n ↦
+          let e : j ≡ length xs = omega (arith, long) in
+          let k : i < length xs = omega (arith, e) in
+          let there : get_or (xs ++ p ∷ []) j d ≡ p = ap (λ (z : ℕ). get_or (xs ++ p ∷ []) z d) e ∙ get_or-append_seam xs p [] d in
+          let before = old.told (get_or xs i d) (All-contains_itself xs i d k) in
+          subst (λ (z : Pair × Pair). z.0.key < z.1.key) (λ t. (sym (get_or-append xs (p ∷ []) d i k) t, sym there t)) (let a = before.1 in let b = first.0 in omega arith)
+    ]
+
+    pub drained_more : IsDrained log from (p.key + 1) (xs ++ p ∷ [])
+    drained_more = record {
+      ascending = ascends;
+      told = λ q c. elim (Contains-append_cases xs (p ∷ []) q c) [
+        | inl o ↦ let t = old.told q o in (t.0, (let a = t.1 in let b = first.0 in omega arith), t.2)
+        | inr o ↦ subst (λ (z : Pair). (from ≤ z.key) × (z.key < p.key + 1) × (value_of z.key log ≡ Some z.value)) (only_one p q o) ((let b = first.0 in omega arith), omega arith, first.1)
+      ];
+      all = λ key value above below is. elim (cases_lt key to) [
+        | inl m ↦ Contains-append_left xs (p ∷ []) (pair_of key value) (old.all key value above m is)
+        | inr m ↦ elim (cases_lt key p.key) [
+          | inl n ↦ absurd (no_pair value (value_of key log) is (first.2 key m n))
+          | inr n ↦
+              let e : p.key ≡ key = omega arith in
+              let v : p.value ≡ value = same_value p.value value (value_of key log) (ap (λ (z : ℕ). value_of z log) (sym e) ∙ first.1) is in
+              Contains-append_right xs (p ∷ []) (pair_of key value) (0, omega arith, λ t. pair_of (e t) (v t))
+        ]
+      ];
+    }

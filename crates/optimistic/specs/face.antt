@@ -1,0 +1,4 @@
+pub mod Calls
+pub mod Computes
+pub mod Workers
+pub mod Writes

@@ -1,0 +1,59 @@
+-- The pairs of a tree that is closed.
+use Rattle.std.specs.Prelude.{◌≡◌, ◌≢◌, ◌⊎◌, ℕ, ◌^◌, ◌<◌, ◌≤◌, List, Some, unwrap_or}
+use Rattle.std.specs.List.{AllPairs, Contains}
+use Rattle.optimistic.specs.declared.drain.nexts.Pair.{Pair}
+use Rattle.optimistic.specs.declared.drain.pairs.Pairs.{Pairs}
+use Rattle.optimistic.specs.declared.drain.pairs.Undrained.{Undrained}
+use Rattle.optimistic.specs.declared.drain.pairs.Undrained.TheVariants.{Locked, Memory}
+use Rattle.optimistic.specs.declared.words.rule.Block.{Block}
+use Rattle.optimistic.specs.declared.words.rule.Entry.{Entry}
+use Rattle.optimistic.specs.declared.words.rule.Moment.{Moment}
+use Rattle.optimistic.specs.declared.words.rule.Plot.{Plot}
+use Rattle.optimistic.specs.words.Kept.{value_of, calls_by, StartsWith, Sound}
+use Rattle.optimistic.specs.words.Last.{words_in}
+use Rattle.optimistic.specs.tree.Trees.{IsTree, where_at}
+use Rattle.optimistic.specs.tree.Nexts.{IsEnd, HasLocked}
+
+-- the key from which on the pairs are still to come
+abbrev pub rest : Pairs → ℕ
+rest p = unwrap_or p.from (2 ^ 64)
+
+-- the pairs are those of a log of decided calls
+abbrev pub HasLog : Pairs → List Entry → Type 0
+HasLog p log = (plots : List Plot) × (calm : List Block) × IsEnd (words_in p.words) plots calm log
+
+abbrev pub pair_of : ℕ → ℕ → Pair
+pair_of key value = record { key = key; value = value }
+
+-- the pairs that a log makes of the keys from one on and below another, in ascending order
+pub record IsDrained (log : List Entry) (from to : ℕ) (pairs : List Pair) : Type 0 where
+  pub ascending : AllPairs (λ p q. p.key < q.key) pairs
+  pub told : (p : Pair) → Contains pairs p → (from ≤ p.key) × (p.key < to) × (value_of p.key log ≡ Some p.value)
+  pub all : (key value : ℕ) → from ≤ key → key < to → value_of key log ≡ Some value → Contains pairs (pair_of key value)
+
+-- some node is locked, whatever the log is
+abbrev pub IsLocked : Pairs → Type 0
+IsLocked p = (plots : List Plot) (calm : List Block) (log : List Entry) → IsEnd (words_in p.words) plots calm log → HasLocked (words_in p.words) plots
+
+-- why not all were told
+abbrev pub IsCause : Pairs → Undrained → Type 0
+IsCause p Locked = IsLocked p
+IsCause p Memory = Unit {0}
+
+-- a log begins with these calls, and has of a thread its own calls and no others
+abbrev pub Comes : List Entry → (seen made : List Entry) → ℕ → Type 0
+Comes log seen made by = StartsWith log seen × (calls_by by log ≡ made)
+
+-- All pairs are still to come, and are those of one log that comes after what a thread has seen, and after its calls
+pub record IsClosed (seen made : List Entry) (by : ℕ) (p : Pairs) : Type 0 where
+  pub log : List Entry
+  pub all : rest p ≡ 0
+  pub has : HasLog p log
+  pub comes : Comes log seen made by
+
+-- at the end, which comes after what a thread has seen, the root is locked, or doesn't cover each key
+pub record HasNoRoot (seen made : List Entry) (by : ℕ) : Type 0 where
+  pub end : Moment
+  pub sound : Sound IsTree end
+  pub comes : Comes end.log seen made by
+  pub cause : HasLocked end.words end.plots ⊎ (where_at end.calm 16 ≢ 32)

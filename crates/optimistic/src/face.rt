@@ -1,0 +1,15 @@
+//! The index that threads share. Each thread calls through a worker of its own.
+
+mod close;
+mod computes;
+mod index;
+mod refusal;
+mod seen;
+mod worker;
+mod writes;
+
+pub use close::Retired;
+pub use index::U64Congee;
+pub use refusal::Refusal;
+pub use seen::Seen;
+pub use worker::Worker;
