@@ -1,7 +1,7 @@
 -- The words of a node: how many it has, and where its entries lie. A node is a range of words of one table, and its name is the index of
 -- the first, its version. Its second says which keys it covers. Forms are numbers: 1 to 4 have children, at most 4, 16, 48, 256, and 5 to
 -- 8 have values, at most as many; 0 is none.
-use Rattle.std.specs.Prelude.{◌≡◌, ℕ, ◌+◌, ◌-◌, ◌*◌, ◌/◌, ◌%◌, ◌^◌, ◌==◌, Bool, true, false, ltb, leb, cond, ◌&&◌, if◌then◌else◌}
+use Rattle.std.specs.Prelude.{ℕ, ◌+◌, ◌-◌, ◌*◌, ◌/◌, ◌%◌, ◌^◌, ◌==◌, Bool, false, ltb, leb, ◌&&◌, if◌then◌else◌}
 
 -- how many words a node of a form has
 unfoldable pub width : ℕ → ℕ

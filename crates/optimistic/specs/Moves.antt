@@ -1,5 +1,5 @@
 -- What a hand's loads and stores leave as it was, and what one place of a node has.
-use Rattle.std.specs.Prelude.{◌≡◌, ◌≢◌, ℕ, ◌<◌, ◌≤◌, true, MatchOption}
+use Rattle.std.specs.Prelude.{◌≡◌, ◌≢◌, ℕ, ◌<◌, true}
 use Rattle.optimistic.specs.Layout.{width}
 use Rattle.optimistic.specs.declared.words.rule.View.{View}
 use Rattle.optimistic.specs.words.Kept.{word_at, size, has, Calm, Since, SameWords}

@@ -2,6 +2,7 @@
 
 mod close;
 mod computes;
+mod congee;
 mod index;
 mod refusal;
 mod seen;
@@ -9,6 +10,7 @@ mod worker;
 mod writes;
 
 pub use close::Retired;
+pub use congee::{Congee, WordWorker};
 pub use index::U64Congee;
 pub use refusal::Refusal;
 pub use seen::Seen;

@@ -14,4 +14,4 @@ mod tree;
 mod words;
 
 pub use drain::{Locked, Pair, Pairs, Undrained};
-pub use face::{Refusal, Retired, Seen, U64Congee, Worker};
+pub use face::{Congee, Refusal, Retired, Seen, U64Congee, WordWorker, Worker};

@@ -1,15 +1,15 @@
 -- A node that is cleared, and filled with another one's entries.
-use Rattle.std.proofs.Common.{◌≡◌, ◌≢◌, ℕ, zero, suc, ◌+◌, ◌*◌, ◌/◌, ◌%◌, ◌^◌, ◌<◌, ◌≤◌, Bool, true, false, arith, ap, sym, ◌∙◌, refl, subst, inl, inr, MatchBool}
+use Rattle.std.proofs.Common.{◌≡◌, ◌≢◌, ℕ, suc, ◌+◌, ◌*◌, ◌/◌, ◌^◌, ◌<◌, ◌≤◌, Bool, true, false, arith, ap, sym, ◌∙◌, subst, inl, inr, MatchBool}
 use Rattle.optimistic.specs.Layout.{room, entries, width}
 use Rattle.optimistic.specs.forms.Bytes.{with_at}
-use Rattle.optimistic.specs.forms.Children.{is_inner, byte_in, taken_in, mask_of, first_word, last_word, first_of, second_of, IsForm, Becomes, put_first, Same}
+use Rattle.optimistic.specs.forms.Children.{is_inner, taken_in, mask_of, first_word, last_word, IsForm, Becomes, put_first, Same}
 use Rattle.optimistic.specs.forms.Parts.{HasPart, IsEmpty}
 use Rattle.optimistic.specs.Moves.{Agree, IsItem}
 use Rattle.optimistic.specs.declared.moves.Item.{Item}
 use Rattle.optimistic.proofs.lemmas.forms.Maps.{with_here, with_other}
-use Rattle.optimistic.proofs.lemmas.forms.FormLemmas.{first_like, second_like, form_like, wide_form, values_form, taken_like, byte_like, entries_some, lasts_some}
+use Rattle.optimistic.proofs.lemmas.forms.FormLemmas.{first_like, second_like, wide_form, values_form, taken_like, byte_like, entries_some, lasts_some}
 use Rattle.optimistic.proofs.lemmas.forms.PartLemmas.{empty_form, empty_none, wide_none, values_none, part_skip, part_step}
-use Rattle.optimistic.proofs.lemmas.forms.PlaceLemmas.{entries_four, entries_sixteen, entries_forty_eight, first_above, first_inside, last_inside, last_above, mask_four, mask_sixteen, mask_forty_eight}
+use Rattle.optimistic.proofs.lemmas.forms.PlaceLemmas.{entries_four, entries_sixteen, entries_forty_eight, first_above, first_inside, last_inside, mask_four, mask_sixteen, mask_forty_eight}
 use Rattle.optimistic.proofs.lemmas.MoveLemmas.{two_inside, below_inside, wide_inner, wide_values}
 
 module _ (form : ℕ) (u v : ℕ → ℕ) (none : is_inner form ≡ true → (q : ℕ) → q < room form → u (first_word form q) ≡ 0) where

@@ -1,24 +1,20 @@
 -- What a hand's loads and stores leave as it was, and what they make of a node's words.
-use Rattle.std.proofs.Common.{◌≡◌, ◌≢◌, ℕ, zero, suc, ◌+◌, ◌-◌, ◌*◌, ◌/◌, ◌%◌, ◌^◌, ◌<◌, ◌≤◌, ◌⊎◌, ◌&&◌, Bool, true, false, List, [], ◌∷◌, ◌++◌, arith, ap, sym, ◌∙◌, refl, subst, inl, inr, cond, eqb, eq-eqb, if◌then◌else◌}
-use Rattle.std.specs.Prelude.{ltb, leb, Option, None, Some, MatchOption, IsTrue, ◌↔◌}
+use Rattle.std.proofs.Common.{◌≡◌, ◌≢◌, ℕ, ◌+◌, ◌-◌, ◌*◌, ◌/◌, ◌%◌, ◌^◌, ◌<◌, ◌≤◌, ◌&&◌, Bool, true, false, List, [], arith, ap, sym, ◌∙◌, refl, subst, inl, inr, cond, eqb, eq-eqb, if◌then◌else◌}
+use Rattle.std.specs.Prelude.{ltb, leb, Some, IsTrue, ◌↔◌}
 use Rattle.std.specs.Int.{bit_at}
 use Rattle.std.proofs.lemmas.Bool.{cases_eq, cases_lt, lt-ltb, le-leb, leb-true, eqb-true}
 use Rattle.std.proofs.lemmas.Bool.Decides.{nat_tests}
 use Rattle.optimistic.specs.Layout.{room, entries, width, is_link, links}
-use Rattle.optimistic.specs.declared.words.rule.Moment.{Moment}
 use Rattle.optimistic.specs.declared.words.rule.Tenure.{Tenure}
 use Rattle.optimistic.specs.declared.words.rule.View.{View}
-use Rattle.optimistic.specs.words.Kept.{word_at, version_at, form_at, size, calm_at, has, calls_by, StartsWith, Calm, Since, SameWords, Held, Sound}
-use Rattle.optimistic.specs.words.Calls.{Later, Keeps}
-use Rattle.optimistic.specs.words.Told.{Good, HasForm, Tells, Looks, Stores, IsOwn}
-use Rattle.optimistic.specs.forms.Bytes.{byte_of, with_at, key_of}
-use Rattle.optimistic.specs.forms.Children.{is_inner, byte_in, mask_of, taken_in, first_word, last_word, with_entry, without_entry, IsForm, Finds, Same, Alike}
-use Rattle.optimistic.specs.Moves.{words_of, Stays, Agree, IsItem}
-use Rattle.optimistic.specs.declared.moves.Item.{Item}
+use Rattle.optimistic.specs.words.Kept.{size, has, Held}
+use Rattle.optimistic.specs.words.Told.{Good, HasForm, Tells, Looks, Stores}
+use Rattle.optimistic.specs.forms.Bytes.{byte_of, with_at}
+use Rattle.optimistic.specs.forms.Children.{is_inner, byte_in, mask_of, taken_in, first_word, last_word, with_entry, without_entry, IsForm, Finds, Same}
+use Rattle.optimistic.specs.Moves.{words_of, Stays, Agree}
 use mathlib.Core.List.{append-nil}
 use Rattle.optimistic.proofs.lemmas.words.Chains.{later_trans}
 use Rattle.optimistic.proofs.lemmas.words.Moments.{since_refl, since_trans, held_trans, calm_refl, calm_trans, inside_since}
-use Rattle.optimistic.proofs.lemmas.forms.ByteLemmas.{eqb_other}
 use Rattle.optimistic.proofs.lemmas.forms.BitsAt.{with_same}
 use Rattle.optimistic.proofs.lemmas.forms.Maps.{with_here, with_other}
 use Rattle.optimistic.proofs.lemmas.forms.PlaceLemmas.{form_cases, first_inside, last_inside, first_above, last_above, entries_above, mask_four, mask_sixteen, mask_forty_eight}

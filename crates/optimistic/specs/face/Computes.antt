@@ -1,5 +1,5 @@
 -- The writes of a worker whose value a closure answers.
-use Rattle.std.specs.Prelude.{◌≡◌, ℕ, Option, None, Some, Result, Ok, Err}
+use Rattle.std.specs.Prelude.{ℕ, Option, None, Some, Result, Ok, Err}
 use Rattle.optimistic.specs.declared.face.refusal.Refusal.{Refusal}
 use Rattle.optimistic.specs.face.Calls.{Known, Looked, Wrote, Found}
 

@@ -1,6 +1,6 @@
 -- What a node's words say: a finite map from bytes to children, each of two words, the child word and its second. A node of values has of each
 -- byte that is taken the lone leaf of the key with its value. w is the node's words by their index, and forms are numbers.
-use Rattle.std.specs.Prelude.{◌≡◌, ◌≢◌, ℕ, ◌+◌, ◌*◌, ◌/◌, ◌%◌, ◌^◌, ◌<◌, ◌≤◌, ◌==◌, Bool, true, false, ltb, if◌then◌else◌, cond, eqb, Option, None, Some, unwrap_or, is_some, IfSome}
+use Rattle.std.specs.Prelude.{◌≡◌, ◌≢◌, ℕ, ◌+◌, ◌*◌, ◌/◌, ◌%◌, ◌^◌, ◌<◌, ◌==◌, Bool, true, ltb, if◌then◌else◌, cond, eqb, Option, None, Some, unwrap_or, is_some, IfSome}
 use Rattle.std.specs.Int.{bit_at}
 use Rattle.std.specs.Ordering.{nat_cmp}
 use Rattle.std.specs.FinMap as map

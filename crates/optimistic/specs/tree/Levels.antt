@@ -1,8 +1,8 @@
 -- What nodes mean, at any depth. The second word of a node says which keys it covers, its where: a depth, the first bytes of these keys, as
 -- many as the depth, and the node's form. At a key's byte there a node has a child, of two words: none, a lone leaf with its value, or a
 -- child word that names a node, and that node's where.
-use Rattle.std.specs.Prelude.{◌≡◌, ◌≢◌, ℕ, ◌+◌, ◌-◌, ◌*◌, ◌/◌, ◌%◌, ◌^◌, ◌<◌, ◌≤◌, ◌==◌, ◌⊎◌, ◌&&◌, ltb, Bool, true, false, List, [], ◌∷◌, ◌++◌, if◌then◌else◌, Option, None, Some}
-use Rattle.optimistic.specs.Layout.{tag_of, level_of, node_of, leaf_of, byte_at, where_of}
+use Rattle.std.specs.Prelude.{◌≡◌, ◌≢◌, ℕ, ◌/◌, ◌%◌, ◌<◌, ◌==◌, ◌&&◌, ltb, Bool, true, false, List, if◌then◌else◌, Option, None, Some}
+use Rattle.optimistic.specs.Layout.{tag_of, level_of, node_of, leaf_of, where_of}
 use Rattle.optimistic.specs.declared.words.rule.Entry.{Entry}
 use Rattle.optimistic.specs.words.Kept.{value_of}
 

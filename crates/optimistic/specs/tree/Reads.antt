@@ -1,5 +1,5 @@
 -- What a thread knows of a node that it reads word by word.
-use Rattle.std.specs.Prelude.{◌≡◌, ◌≢◌, ℕ, ◌%◌, ◌<◌, ◌≤◌, List, Option, None, Some}
+use Rattle.std.specs.Prelude.{◌≡◌, ◌≢◌, ℕ, ◌%◌, ◌<◌}
 use Rattle.optimistic.specs.Layout.{width}
 use Rattle.optimistic.specs.declared.tree.place.Place.{Place}
 use Rattle.optimistic.specs.declared.tree.place.Look.{Look}

@@ -1,5 +1,5 @@
 -- The nodes as they were settled are a tree, which the log makes.
-use Rattle.std.specs.Prelude.{◌≡◌, ◌≢◌, ℕ, ◌<◌, List, Option, None, Some}
+use Rattle.std.specs.Prelude.{◌≢◌, ℕ, List}
 use Rattle.optimistic.specs.Layout.{byte_at}
 use Rattle.optimistic.specs.declared.words.rule.Block.{Block}
 use Rattle.optimistic.specs.declared.words.rule.Entry.{Entry}

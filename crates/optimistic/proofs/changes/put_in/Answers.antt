@@ -1,17 +1,6 @@
-use Rattle.std.proofs.Common.{◌≡◌, ◌≢◌, ℕ, ◌+◌, ◌*◌, ◌/◌, ◌%◌, ◌<◌, ◌≤◌, Bool, true, false, ap, sym, ◌∙◌, refl, subst, arith, rules, if◌then◌else◌, cond, eqb}
-use Rattle.std.specs.Prelude.{IsTrue, ◌↔◌}
-use Rattle.std.specs.Int.{bit_at}
-use Rattle.optimistic.specs.Layout.{room, entries, width, is_link}
-use Rattle.optimistic.specs.forms.Bytes.{byte_of, with_at}
-use Rattle.optimistic.specs.forms.Children.{is_inner, byte_in, taken_in, first_word, last_word, with_entry, IsForm, IsRoom, Becomes, put_first, Same}
-use Rattle.optimistic.specs.words.Told.{view, HasForm, Looks}
-use Rattle.optimistic.specs.Moves.{words_of, Stays, Agree, IsItem}
-use Rattle.optimistic.proofs.lemmas.forms.PlaceLemmas.{byte_narrow, taken_four, taken_sixteen, taken_forty_eight, entries_sixteen, entries_forty_eight, first_inside, last_inside}
-use Rattle.optimistic.proofs.lemmas.MoveLemmas.{told_bit, byte_wide, wide_room, wide_first, wide_mask, wide_taken, values_taken, two_inside, below_inside, line_inside, looks_word, looks_trans, looks_mine, looks_stays, stays_refl, stays_trans, stays_mine, stays_word, stores_stays, stored_words, agree_twice, entry_inner, entry_values, link_first, link_last, link_below, no_child, is_inner_of, is_values_of}
-use Rattle.optimistic.specs.words.Kept.{has}
-use Rattle.optimistic.proofs.lemmas.words.Moments.{tells_since}
-use Rattle.optimistic.proofs.lemmas.forms.PlaceLemmas.{entries_four, entries_above, lowest_forty_eight}
-use Rattle.optimistic.proofs.lemmas.MoveLemmas.{put_one, put_two, looks_agree, four_small, sixteen_small, forty_eight_small, wide_inner, wide_values}
+use Rattle.std.proofs.Common.{◌≡◌, arith}
+use Rattle.optimistic.specs.Layout.{room}
+use Rattle.optimistic.proofs.lemmas.MoveLemmas.{wide_room}
 use Rattle.optimistic.proofs.changes.put_in.Goals as goal
 
 pub put_in_four-requires-clause-of : goal.put_in_four-requires-clause-of

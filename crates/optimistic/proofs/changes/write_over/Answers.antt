@@ -1,4 +1,3 @@
-use Rattle.std.proofs.Common.{◌≡◌, ◌<◌, ℕ}
 use Rattle.optimistic.specs.Moves.{words_of}
 use Rattle.optimistic.proofs.lemmas.forms.FormLemmas.{entered}
 use Rattle.optimistic.proofs.changes.write_over.Goals as goal

@@ -1,5 +1,5 @@
 -- What came of a write, as the calls answer it.
-use Rattle.std.proofs.Common.{◌≡◌, ◌≢◌, ℕ, ◌⊎◌, sym, refl, ap, ◌∙◌, subst, inl, inr, ⊎_elim, Option, None, Some, Result, Ok, Err}
+use Rattle.std.proofs.Common.{◌≡◌, ◌≢◌, ℕ, sym, refl, ◌∙◌, subst, inl, inr, ⊎_elim, Option, None, Some, Result, Ok, Err}
 use Rattle.optimistic.specs.declared.face.refusal.Refusal.{Refusal}
 use Rattle.optimistic.specs.declared.face.writes.Written.{Written}
 use Rattle.optimistic.specs.declared.face.writes.Written.TheVariants.{Made, Differs}

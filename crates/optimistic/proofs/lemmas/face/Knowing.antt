@@ -1,5 +1,5 @@
 -- What a worker knows after some calls.
-use Rattle.std.proofs.Common.{◌≡◌, ◌≢◌, ℕ, ◌⊎◌, Bool, true, false, List, [], ◌∷◌, ◌++◌, length, sym, refl, ap, ◌∙◌, subst, inl, inr, ⊎_elim, Option, None, Some, Result, Ok, Err, MatchResult, IfOk, slice_index_or, ◌+◌, ◌<◌, ◌≤◌}
+use Rattle.std.proofs.Common.{◌≡◌, ℕ, List, [], ◌∷◌, ◌++◌, length, sym, refl, ap, ◌∙◌, subst, Option, Result, Ok, Err, MatchResult, IfOk, slice_index_or, ◌+◌, ◌<◌, ◌≤◌}
 use mathlib.Core.List.{append-nil, append_assoc}
 use Rattle.atomic_table.specs.Seated.{TableId}
 use Rattle.atomic_table.specs.Table.{Me}

@@ -1,13 +1,12 @@
 -- A node's words as a map from bytes to children.
-use Rattle.std.proofs.Common.{◌≡◌, ◌≢◌, ℕ, ◌+◌, ◌*◌, ◌/◌, ◌%◌, ◌^◌, ◌<◌, ◌≤◌, ◌⊎◌, ◌==◌, Bool, true, false, arith, ap, sym, ◌∙◌, refl, subst, inl, inr, cond, eqb, eq-eqb, if◌then◌else◌}
-use Rattle.std.specs.Prelude.{Option, None, Some, unwrap_or, is_some, ltb, IfSome, MatchOption}
+use Rattle.std.proofs.Common.{◌≡◌, ◌≢◌, ℕ, ◌^◌, ◌<◌, ◌⊎◌, ◌==◌, Bool, true, false, arith, ap, sym, ◌∙◌, refl, subst, inl, inr, cond, eqb, eq-eqb, if◌then◌else◌}
+use Rattle.std.specs.Prelude.{Option, None, Some, unwrap_or, is_some, IfSome, MatchOption}
 use Rattle.std.specs.Int.{bit_at}
 use Rattle.std.proofs.lemmas.Bool.{cases_eq}
-use Rattle.std.specs.Ordering.{nat_cmp}
 use Rattle.std.specs.FinMap as map
-use Rattle.optimistic.specs.Layout.{room, entries, leaf_of}
-use Rattle.optimistic.specs.forms.Bytes.{byte_of, with_at, IsLowest, HasNone}
-use Rattle.optimistic.specs.forms.Held.{held, IsNode, IsPlaceFor, IsWith, HasChildren, answer}
+use Rattle.optimistic.specs.Layout.{room, leaf_of}
+use Rattle.optimistic.specs.forms.Bytes.{with_at, IsLowest, HasNone}
+use Rattle.optimistic.specs.forms.Held.{held, IsPlaceFor, IsWith, HasChildren, answer}
 use Rattle.optimistic.specs.forms.Children.{is_inner, byte_in, mask_of, taken_in, first_word, last_word, firsts, lasts, first_of, second_of, IsForm, found_first, found_second, Finds, IsRoom, IsFull, Becomes, put_first}
 use Rattle.optimistic.proofs.lemmas.forms.ByteLemmas.{eqb_other}
 use Rattle.optimistic.proofs.lemmas.forms.Maps.{found, put_held, put_node, take_held, take_node, children_put, children_take, insert_at, insert_beside, remove_at, remove_beside, with_here}

@@ -1,20 +1,18 @@
 -- Nodes of 256, nodes with the same words, and an entry that is written over.
-use Rattle.std.proofs.Common.{◌≡◌, ◌≢◌, ℕ, zero, suc, ◌+◌, ◌*◌, ◌/◌, ◌%◌, ◌^◌, ◌<◌, ◌≤◌, ◌⊎◌, ◌==◌, Bool, true, false, arith, ap, sym, ◌∙◌, refl, subst, inl, inr, cond, eqb, eq-eqb, if◌then◌else◌}
-use Rattle.std.specs.Prelude.{Option, None, Some, ltb}
-use Rattle.std.proofs.lemmas.Bool.{cases_eq, cases_lt}
+use Rattle.std.proofs.Common.{◌≡◌, ◌≢◌, ℕ, zero, suc, ◌+◌, ◌*◌, ◌/◌, ◌%◌, ◌^◌, ◌<◌, ◌≤◌, Bool, true, false, arith, ap, sym, ◌∙◌, refl, subst, inl, inr, cond, eqb, eq-eqb, if◌then◌else◌}
+use Rattle.std.specs.Prelude.{Some}
+use Rattle.std.proofs.lemmas.Bool.{cases_eq}
 use Rattle.std.specs.Int.{bit_at}
 use Rattle.std.proofs.lemmas.Nat.Bits.{bit_at-zero}
-use Rattle.std.specs.Ordering.{nat_cmp}
 use Rattle.std.specs.FinMap as map
 use Rattle.optimistic.specs.Layout.{room, entries, width, leaf_of}
 use Rattle.optimistic.specs.forms.Bytes.{byte_of, with_at, IsLowest}
-use Rattle.optimistic.specs.forms.Held.{held, IsNode, IsPlaceFor, IsWith, HasChildren}
-use Rattle.optimistic.specs.forms.Children.{is_inner, byte_in, mask_of, taken_in, first_word, last_word, firsts, lasts, first_of, second_of, IsForm, Finds, IsRoom, Becomes, put_first, with_entry, without_entry, Same}
-use Rattle.optimistic.proofs.lemmas.forms.ByteLemmas.{eqb_other}
+use Rattle.optimistic.specs.forms.Held.{held}
+use Rattle.optimistic.specs.forms.Children.{is_inner, byte_in, mask_of, taken_in, first_word, last_word, firsts, lasts, first_of, second_of, IsForm, Finds, Becomes, put_first, with_entry, without_entry, Same}
 use Rattle.optimistic.proofs.lemmas.forms.BitsAt.{with_same}
 use Rattle.optimistic.proofs.lemmas.forms.Maps.{with_here, with_other, none_step, taken_step, free_step, here_lowest, here_put, child_there, child_none, takes_put, takes_take}
-use Rattle.optimistic.proofs.lemmas.forms.ChildLemmas.{either, finds_is, firsts_are, lasts_are, same_first, same_second, stored_first, children_like, becomes_put, becomes_taken, firsts_put, lasts_put}
-use Rattle.optimistic.proofs.lemmas.forms.PlaceLemmas.{form_cases, first_inside, last_inside, first_above, last_above, entries_above, entry_first, entry_last, entry_low, narrow_put, byte_narrow, taken_narrow, clear_first, clear_last, clear_here}
+use Rattle.optimistic.proofs.lemmas.forms.ChildLemmas.{finds_is, firsts_are, lasts_are, same_first, same_second, becomes_put, becomes_taken, firsts_put, lasts_put}
+use Rattle.optimistic.proofs.lemmas.forms.PlaceLemmas.{form_cases, first_inside, last_inside, last_above, entries_above, entry_first, entry_last, entry_low, narrow_put, byte_narrow, taken_narrow, clear_first, clear_last, clear_here}
 
 -- maps of functions with the same values
 pub held_like : (n : ℕ) (key key' taken taken' word word' : ℕ → ℕ) → ((i : ℕ) → i < n → key' i ≡ key i) → ((i : ℕ) → i < n → taken' i ≡ taken i) → ((i : ℕ) → i < n → word' i ≡ word i)

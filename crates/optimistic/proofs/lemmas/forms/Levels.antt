@@ -1,5 +1,5 @@
 -- The word that says which keys a node covers.
-use Rattle.std.proofs.Common.{◌≡◌, ℕ, ◌+◌, ◌-◌, ◌*◌, ◌/◌, ◌%◌, ◌^◌, ◌<◌, ◌≤◌, arith, ap, sym, ◌∙◌, bit_and, bit_or, pow_pos, pow_mono, pow-add, shr-shr}
+use Rattle.std.proofs.Common.{◌≡◌, ℕ, ◌+◌, ◌-◌, ◌*◌, ◌/◌, ◌%◌, ◌^◌, ◌<◌, arith, ap, sym, ◌∙◌, bit_and, bit_or, pow_pos, pow_mono, pow-add, shr-shr}
 use Rattle.std.proofs.lemmas.Nat.{or_shifted, shr_high, and_mask}
 use Rattle.std.proofs.lemmas.Nat.Bits.{ones_shr, and_high_mask}
 use Rattle.optimistic.specs.Layout.{prefix_of, where_of, leaf_of, byte_at}

@@ -1,5 +1,5 @@
 -- A node that is made of another's entries, place by place.
-use Rattle.std.proofs.Common.{◌≡◌, ◌≢◌, ℕ, zero, suc, ◌+◌, ◌*◌, ◌/◌, ◌%◌, ◌^◌, ◌<◌, ◌≤◌, Bool, true, false, arith, ap, sym, ◌∙◌, refl, subst, inl, inr, if◌then◌else◌, pow_pos}
+use Rattle.std.proofs.Common.{◌≡◌, ◌≢◌, ℕ, suc, ◌^◌, ◌<◌, Bool, true, false, arith, ap, sym, ◌∙◌, refl, subst, inl, inr, if◌then◌else◌, pow_pos}
 use Rattle.std.specs.Prelude.{Option, None, Some, unwrap_or, is_some}
 use Rattle.std.proofs.lemmas.Bool.{cases_eq}
 use Rattle.std.proofs.lemmas.Nat.Bits.{bit_at-zero}
@@ -7,13 +7,12 @@ use Rattle.std.specs.Int.{bit_at}
 use Rattle.std.specs.Ordering.{nat_cmp}
 use Rattle.std.specs.FinMap as map
 use Rattle.optimistic.specs.Layout.{room, leaf_of}
-use Rattle.optimistic.specs.forms.Held.{held}
 use Rattle.optimistic.specs.forms.Children.{is_inner, byte_in, mask_of, taken_in, first_word, last_word, firsts, lasts, first_of, second_of, IsForm, Becomes, put_first, Alike}
 use Rattle.optimistic.specs.forms.Parts.{firsts_to, lasts_to, HasPart}
 use Rattle.optimistic.proofs.lemmas.forms.Maps.{none_step, taken_step, free_step, insert_at, insert_beside}
-use Rattle.optimistic.proofs.lemmas.forms.ChildLemmas.{either, firsts_are, lasts_are, first_none, second_is, first_inner, first_values}
+use Rattle.optimistic.proofs.lemmas.forms.ChildLemmas.{firsts_are, lasts_are, first_none, second_is}
 use Rattle.optimistic.proofs.lemmas.forms.PlaceLemmas.{taken_narrow}
-use Rattle.optimistic.proofs.lemmas.forms.FormLemmas.{held_none, wide_form, values_form, wide_empty, values_empty}
+use Rattle.optimistic.proofs.lemmas.forms.FormLemmas.{held_none, wide_empty, values_empty}
 
 -- a node without entries
 module _ (form : ℕ) (v : ℕ → ℕ) where

@@ -1,19 +1,18 @@
 -- What the words of each form say of its places, and where a place's words are written.
-use Rattle.std.proofs.Common.{◌≡◌, ◌≢◌, ℕ, zero, suc, ◌+◌, ◌*◌, ◌/◌, ◌%◌, ◌^◌, ◌<◌, ◌≤◌, ◌⊎◌, ◌==◌, Bool, true, false, arith, ap, sym, ◌∙◌, refl, subst, inl, inr, cond, eqb, eq-eqb, if◌then◌else◌, [], ◌∷◌, get_or, pow_pos}
-use Rattle.std.specs.Prelude.{Option, None, Some, ltb}
-use Rattle.std.proofs.lemmas.Bool.{cases_eq, cases_lt}
+use Rattle.std.proofs.Common.{◌≡◌, ◌≢◌, ℕ, zero, suc, ◌+◌, ◌*◌, ◌/◌, ◌%◌, ◌^◌, ◌<◌, ◌≤◌, ◌==◌, Bool, true, false, arith, ap, sym, ◌∙◌, refl, subst, inl, inr, cond, eqb, if◌then◌else◌, [], ◌∷◌, get_or, pow_pos}
+use Rattle.std.specs.Prelude.{Option}
+use Rattle.std.proofs.lemmas.Bool.{cases_eq}
 use Rattle.std.proofs.lemmas.Nat.Bits.{same_from_bits, bit_at_above, bit_at-zero}
 use Rattle.std.proofs.Math.Nat.{lt-mul-div-succ}
 use Rattle.std.specs.Int.{bit_at}
 use Rattle.optimistic.specs.Layout.{room, entries, width}
 use Rattle.optimistic.specs.forms.Bytes.{byte_of, with_at, key_of, IsLowest}
-use Rattle.optimistic.specs.forms.Held.{IsNode, IsPlaceFor, IsWith, HasChildren}
-use Rattle.optimistic.specs.forms.Children.{is_inner, byte_in, mask_of, taken_in, first_word, last_word, IsForm, Finds, IsRoom, Becomes, put_first, with_entry, without_entry, Same}
+use Rattle.optimistic.specs.forms.Children.{is_inner, byte_in, mask_of, taken_in, first_word, last_word, IsForm, IsRoom, Becomes, put_first, with_entry, without_entry, Same}
 use Rattle.optimistic.proofs.lemmas.forms.ByteLemmas.{eqb_other}
 use Rattle.optimistic.proofs.lemmas.forms.BitsAt.{with_same}
 use Rattle.optimistic.proofs.lemmas.forms.Maps.{with_here, with_other}
 use Rattle.optimistic.proofs.lemmas.forms.Scans.{shifted_bit}
-use Rattle.optimistic.proofs.lemmas.forms.ChildLemmas.{either, finds_is, lowest_like, place_like, stored_first, becomes_put, becomes_taken}
+use Rattle.optimistic.proofs.lemmas.forms.ChildLemmas.{lowest_like, stored_first, becomes_put, becomes_taken}
 
 -- by forms
 pub form_cases : (P : ℕ → Type 0) → P 1 → P 2 → P 3 → P 4 → P 5 → P 6 → P 7 → P 8 → ((form : ℕ) → room form ≡ 0 → P form) → (form : ℕ) → P form

@@ -1,11 +1,11 @@
 -- A new node between a node and its child.
-use Rattle.std.proofs.Common.{◌≡◌, ◌≢◌, ℕ, ◌+◌, ◌/◌, ◌%◌, ◌<◌, ◌⊎◌, Bool, true, false, List, [], ◌∷◌, ◌++◌, sym, refl, ap, ◌∙◌, subst, inl, inr, ⊎_elim, arith, Option}
+use Rattle.std.proofs.Common.{◌≡◌, ◌≢◌, ℕ, ◌/◌, ◌<◌, ◌⊎◌, true, false, List, [], ◌∷◌, ◌++◌, sym, ap, ◌∙◌, subst, inl, inr, ⊎_elim, Option}
 use mathlib.Core.Logic.{dite}
 use native.Mathlib.Decide.{ℕ_discrete}
 use Rattle.optimistic.specs.Layout.{node_of}
 use Rattle.optimistic.specs.declared.words.rule.Entry.{Entry}
 use Rattle.optimistic.specs.words.Kept.{value_of}
-use Rattle.optimistic.specs.tree.Levels.{depth, stands, goes_on, pair_value, Ends, Passes, Links, Means, SameAt, IsSplit}
+use Rattle.optimistic.specs.tree.Levels.{depth, stands, goes_on, pair_value, Ends, Passes, Means, IsSplit}
 use Rattle.optimistic.proofs.lemmas.tree.Nodes.{clash, decide, not_true, goes_stands, value_now, value_other}
 
 module _ (W W' : ℕ → ℕ) (F S F' S' : ℕ → ℕ → ℕ) (n m u c f x key : ℕ) (value : Option ℕ) (s : IsSplit W W' F S F' S' n m u c f x key value) where

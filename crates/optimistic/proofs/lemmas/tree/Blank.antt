@@ -1,6 +1,5 @@
 -- What a hand knows of a node that said that it covers no key, and that it took at the version under which it said so.
-use Rattle.std.proofs.Common.{◌≡◌, ◌≢◌, ℕ, ◌+◌, ◌%◌, ◌<◌, ◌≤◌, ◌^◌, Result, Ok, Err, MatchResult, true, false, List, ◌∷◌, length, slice_index_or, Vec, sym, refl, ap, ◌∙◌, subst, arith}
-use Rattle.std.specs.declared.alloc.Global.{Global}
+use Rattle.std.proofs.Common.{◌≡◌, ℕ, ◌+◌, ◌%◌, ◌<◌, ◌≤◌, ◌^◌, Result, Ok, Err, MatchResult, true, List, ◌∷◌, slice_index_or, sym, ap, ◌∙◌, subst, arith}
 use Rattle.optimistic.specs.Layout.{width}
 use Rattle.optimistic.specs.declared.tree.fresh.Free.{Free}
 use Rattle.optimistic.specs.declared.tree.fresh.Fresh.{Fresh}

@@ -1,12 +1,12 @@
 -- The tree at first: the root alone, without a child.
-use Rattle.std.proofs.Common.{◌≡◌, ◌≢◌, ℕ, ◌+◌, ◌*◌, ◌/◌, ◌%◌, ◌<◌, ◌≤◌, Bool, true, false, List, [], get_or, set, replicate, length, length-set, get_or-set_other, get_or-set_same, sym, refl, ap, ◌∙◌, subst, arith, None}
+use Rattle.std.proofs.Common.{◌≡◌, ◌≢◌, ℕ, ◌+◌, ◌*◌, ◌<◌, ◌≤◌, true, false, [], get_or, set, length, length-set, get_or-set_other, get_or-set_same, sym, refl, ap, ◌∙◌, subst, arith}
 use Rattle.std.proofs.lemmas.List.{length-replicate}
 use mathlib.Core.Logic.{dite}
 use native.Mathlib.Decide.{ℕ_discrete}
 use Rattle.optimistic.specs.Layout.{byte_at}
-use Rattle.optimistic.specs.words.Kept.{word_at, calm_at, block, first_words, first_calm}
+use Rattle.optimistic.specs.words.Kept.{calm_at, first_words, first_calm}
 use Rattle.optimistic.specs.forms.Children.{first_of, IsForm}
-use Rattle.optimistic.specs.tree.Levels.{form_of, depth, stands, goes_on, pair_value, Means}
+use Rattle.optimistic.specs.tree.Levels.{form_of, depth, stands, goes_on, pair_value}
 use Rattle.optimistic.specs.tree.Trees.{IsTree, where_at, first_at, second_at}
 use Rattle.optimistic.proofs.lemmas.words.Moments.{zeros, zero_words, calm_here, calm_else}
 use Rattle.optimistic.proofs.lemmas.forms.FormLemmas.{wide_form, wide_finds}

@@ -1,11 +1,11 @@
 -- A node in another's place.
-use Rattle.std.proofs.Common.{◌≡◌, ◌≢◌, ℕ, ◌+◌, ◌/◌, ◌%◌, ◌<◌, ◌⊎◌, Bool, true, false, List, [], ◌∷◌, ◌++◌, sym, refl, ap, ◌∙◌, subst, inl, inr, ⊎_elim, arith, Option}
+use Rattle.std.proofs.Common.{◌≡◌, ◌≢◌, ℕ, ◌/◌, ◌<◌, ◌⊎◌, true, false, List, [], ◌∷◌, ◌++◌, sym, ap, ◌∙◌, subst, inl, inr, ⊎_elim, arith, Option}
 use mathlib.Core.Logic.{dite}
 use native.Mathlib.Decide.{ℕ_discrete}
 use Rattle.optimistic.specs.Layout.{node_of}
 use Rattle.optimistic.specs.declared.words.rule.Entry.{Entry}
 use Rattle.optimistic.specs.words.Kept.{value_of}
-use Rattle.optimistic.specs.tree.Levels.{depth, stands, goes_on, pair_value, Ends, Passes, Links, Means, SameAt, IsReplaced, IsLifted}
+use Rattle.optimistic.specs.tree.Levels.{depth, stands, goes_on, pair_value, Ends, Passes, Links, Means, IsReplaced, IsLifted}
 use Rattle.optimistic.proofs.lemmas.tree.Nodes.{clash, decide, not_true, goes_stands, value_now, value_other}
 
 node_path : (a b : ℕ) → a ≡ b → node_of a ≡ node_of b

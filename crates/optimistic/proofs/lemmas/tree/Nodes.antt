@@ -1,12 +1,12 @@
 -- What becomes of the meaning of nodes where some of them change: a key's child alone, a new node between a node and its child, a node in
 -- another's place, and a node whose only child goes up.
-use Rattle.std.proofs.Common.{◌≡◌, ◌≢◌, ℕ, ◌+◌, ◌-◌, ◌*◌, ◌/◌, ◌%◌, ◌^◌, ◌<◌, ◌≤◌, ◌⊎◌, eqb, ltb, ◌&&◌, Bool, true, false, List, [], ◌∷◌, ◌++◌, if◌then◌else◌, sym, refl, ap, ◌∙◌, subst, inl, inr, ⊎_elim, arith, Option, None, Some}
+use Rattle.std.proofs.Common.{◌≡◌, ◌≢◌, ℕ, ◌/◌, ◌<◌, ◌⊎◌, eqb, ltb, ◌&&◌, Bool, true, false, List, [], ◌∷◌, ◌++◌, sym, refl, ap, ◌∙◌, subst, inl, inr, ⊎_elim, arith, Option}
 use mathlib.Core.Logic.{dite}
 use native.Mathlib.Decide.{ℕ_discrete}
-use Rattle.optimistic.specs.Layout.{tag_of, level_of, node_of, leaf_of, byte_at, where_of}
+use Rattle.optimistic.specs.Layout.{tag_of, level_of}
 use Rattle.optimistic.specs.declared.words.rule.Entry.{Entry}
 use Rattle.optimistic.specs.words.Kept.{value_of}
-use Rattle.optimistic.specs.tree.Levels.{form_of, depth, stands, goes_on, pair_value, Ends, Passes, Links, Means, SameAt}
+use Rattle.optimistic.specs.tree.Levels.{form_of, depth, stands, goes_on, pair_value, Ends, Passes, Means, SameAt}
 use Rattle.optimistic.proofs.lemmas.words.Chains.{value_here, value_else}
 
 pub clash : (b : Bool) → b ≡ true → b ≡ false → ⊥

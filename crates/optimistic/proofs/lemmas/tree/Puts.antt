@@ -1,21 +1,20 @@
 -- A key's leaf is written at its last node, or taken away there.
-use Rattle.std.proofs.Common.{◌≡◌, ◌≢◌, ℕ, ◌+◌, ◌-◌, ◌*◌, ◌/◌, ◌%◌, ◌^◌, ◌<◌, ◌≤◌, ◌⊎◌, eqb, ltb, ◌&&◌, Bool, true, false, List, [], ◌∷◌, ◌++◌, if◌then◌else◌, sym, refl, ap, ◌∙◌, subst, inl, inr, ⊎_elim, arith, eq-eqb, ne_eqb, shr-shr, Option, None, Some}
+use Rattle.std.proofs.Common.{◌≡◌, ◌≢◌, ℕ, ◌+◌, ◌-◌, ◌*◌, ◌/◌, ◌^◌, ◌<◌, ◌≤◌, ◌⊎◌, eqb, ltb, ◌&&◌, Bool, true, false, List, [], ◌∷◌, ◌++◌, if◌then◌else◌, sym, refl, ap, ◌∙◌, subst, ⊎_elim, arith, eq-eqb, ne_eqb, shr-shr, Option, None, Some}
 use Rattle.std.proofs.lemmas.Bool.{eqb-true}
 use mathlib.Core.Logic.{dite}
 use native.Mathlib.Decide.{ℕ_discrete}
-use Rattle.optimistic.specs.Layout.{width, room, tag_of, leaf_of, byte_at, where_of, prefix_of}
+use Rattle.optimistic.specs.Layout.{room, tag_of, leaf_of, byte_at, where_of, prefix_of}
 use Rattle.optimistic.specs.declared.words.rule.Block.{Block}
 use Rattle.optimistic.specs.declared.words.rule.Entry.{Entry}
-use Rattle.optimistic.specs.declared.words.rule.Moment.{Moment}
-use Rattle.optimistic.specs.words.Kept.{word_at, calm_at, block, value_of}
-use Rattle.optimistic.specs.forms.Children.{is_inner, first_of, second_of, IsForm, Same, Becomes, put_first}
-use Rattle.optimistic.specs.tree.Levels.{form_of, depth, stands, goes_on, pair_value, Ends, Means, SameAt}
+use Rattle.optimistic.specs.words.Kept.{word_at, calm_at, block}
+use Rattle.optimistic.specs.forms.Children.{is_inner, first_of, second_of, IsForm, Same, Becomes}
+use Rattle.optimistic.specs.tree.Levels.{form_of, depth, stands, goes_on, pair_value, Ends, SameAt}
 use Rattle.optimistic.specs.tree.Trees.{IsTree, where_at, first_in, second_in, first_at, second_at}
 use Rattle.optimistic.proofs.lemmas.words.Moments.{calm_here, calm_else}
 use Rattle.optimistic.proofs.lemmas.forms.FormLemmas.{first_like, second_like, form_like}
 use Rattle.optimistic.proofs.lemmas.forms.Levels.{where_level, where_form, where_same, key_step, leaf_whole}
-use Rattle.optimistic.proofs.lemmas.tree.Nodes.{clash, decide, same_refl, put}
-use Rattle.optimistic.proofs.lemmas.tree.Reading.{where_stands, where_some, none_ends, none_value, tag_ends}
+use Rattle.optimistic.proofs.lemmas.tree.Nodes.{clash, same_refl, put}
+use Rattle.optimistic.proofs.lemmas.tree.Reading.{where_stands, none_ends, none_value, tag_ends}
 
 -- a lone leaf goes on to no key, and is of its own
 pub leaf_ends : (x key k : ℕ) → goes_on (leaf_of key) x k ≡ false

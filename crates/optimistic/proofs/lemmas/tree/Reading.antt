@@ -1,22 +1,21 @@
 -- What a reader knows of a node that it reads word by word.
-use Rattle.std.proofs.Common.{◌≡◌, ◌≢◌, ℕ, ◌+◌, ◌-◌, ◌*◌, ◌/◌, ◌%◌, ◌^◌, ◌<◌, ◌≤◌, ◌⊎◌, eqb, ltb, leb, ◌&&◌, IsTrue, ◌↔◌, rules, Bool, true, false, List, if◌then◌else◌, sym, refl, ap, ◌∙◌, subst, inl, inr, ⊎_elim, arith, eq-eqb, ne_eqb, Option, None, Some}
+use Rattle.std.proofs.Common.{◌≡◌, ◌≢◌, ℕ, ◌+◌, ◌-◌, ◌*◌, ◌%◌, ◌<◌, eqb, ltb, leb, ◌&&◌, IsTrue, ◌↔◌, rules, Bool, true, false, List, if◌then◌else◌, sym, refl, ap, ◌∙◌, subst, arith, eq-eqb, ne_eqb, None, Some}
 use Rattle.std.proofs.lemmas.Bool.{eqb-true}
 use mathlib.Core.Logic.{dite}
 use native.Mathlib.Decide.{ℕ_discrete}
-use Rattle.optimistic.specs.Layout.{width, links, tag_of, level_of, node_of, leaf_of, byte_at, where_of}
+use Rattle.optimistic.specs.Layout.{width, links, tag_of, level_of, leaf_of, byte_at, where_of}
 use Rattle.optimistic.specs.declared.words.rule.Moment.{Moment}
 use Rattle.optimistic.specs.declared.words.rule.Tenure.{Tenure}
 use Rattle.optimistic.specs.declared.words.rule.View.{View}
 use Rattle.optimistic.specs.words.Kept.{word_at, form_at, calm_at, has, value_of, Since, Sound}
-use Rattle.optimistic.specs.words.Told.{HasForm, Looks}
+use Rattle.optimistic.specs.words.Told.{Looks}
 use Rattle.optimistic.specs.forms.Children.{first_of, second_of, IsForm}
 use Rattle.optimistic.specs.tree.Levels.{form_of, depth, stands, goes_on, pair_value}
 use Rattle.optimistic.specs.tree.Reads.{Still, Agrees, Steady, Found}
-use Rattle.optimistic.specs.tree.Trees.{IsTree, where_at, first_at, second_at}
+use Rattle.optimistic.specs.tree.Trees.{IsTree, first_at, second_at}
 use Rattle.optimistic.proofs.lemmas.words.Moments.{since_refl, since_trans, held_trans}
 use Rattle.optimistic.proofs.lemmas.words.Chains.{word_between}
 use Rattle.optimistic.proofs.lemmas.forms.Levels.{where_level, where_form}
-use Rattle.optimistic.proofs.lemmas.tree.Nodes.{clash, decide}
 
 pub looks_trans : (v w x : View) → Looks IsTree v w → Looks IsTree w x → Looks IsTree v x
 looks_trans v w x p q = record {

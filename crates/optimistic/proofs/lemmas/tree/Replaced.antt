@@ -1,20 +1,20 @@
 -- The tree after a node came in another's place, or after a node's only child went up.
-use Rattle.std.proofs.Common.{◌≡◌, ◌≢◌, ℕ, ◌+◌, ◌-◌, ◌*◌, ◌/◌, ◌%◌, ◌^◌, ◌<◌, ◌≤◌, ◌⊎◌, ◌&&◌, eqb, Bool, true, false, List, [], ◌∷◌, ◌++◌, sym, refl, ap, ◌∙◌, subst, inl, inr, arith, eq-eqb, shr-shr, if◌then◌else◌}
+use Rattle.std.proofs.Common.{◌≡◌, ◌≢◌, ℕ, ◌+◌, ◌-◌, ◌*◌, ◌/◌, ◌%◌, ◌^◌, ◌<◌, ◌≤◌, ◌&&◌, eqb, Bool, true, false, List, [], ◌∷◌, ◌++◌, sym, refl, ap, ◌∙◌, subst, inl, inr, arith, eq-eqb, shr-shr, if◌then◌else◌}
 use Rattle.std.specs.Prelude.{Option, None, Some, ltb, unwrap_or}
 use Rattle.std.proofs.lemmas.Bool.{cases_eq, eqb-true, lt-ltb, ltb-true}
 use Rattle.std.specs.FinMap as map
 use Rattle.optimistic.specs.Layout.{byte_at, child_of, tag_of, level_of, node_of, where_of, leaf_of, prefix_of}
 use Rattle.optimistic.specs.declared.words.rule.Block.{Block}
 use Rattle.optimistic.specs.declared.words.rule.Entry.{Entry}
-use Rattle.optimistic.specs.words.Kept.{calm_at, value_of}
-use Rattle.optimistic.specs.forms.Children.{is_inner, firsts, lasts, first_of, second_of, IsForm, Becomes}
-use Rattle.optimistic.specs.tree.Levels.{form_of, depth, fits, stands, goes_on, pair_value, Ends, Passes, Links, Means, SameAt, IsReplaced, IsLifted}
+use Rattle.optimistic.specs.words.Kept.{calm_at}
+use Rattle.optimistic.specs.forms.Children.{firsts, lasts, first_of, second_of, IsForm}
+use Rattle.optimistic.specs.tree.Levels.{form_of, depth, fits, stands, goes_on, pair_value, Passes, Links, SameAt, IsReplaced, IsLifted}
 use Rattle.optimistic.specs.tree.Trees.{where_at, first_in, second_in, first_at, second_at, IsTree}
 use Rattle.optimistic.specs.tree.Replace.{IsOver, IsLinked, Replaces, Lifts}
 use Rattle.optimistic.proofs.lemmas.forms.ByteLemmas.{eqb_other}
 use Rattle.optimistic.proofs.lemmas.forms.ChildLemmas.{first_inner, second_is}
 use Rattle.optimistic.proofs.lemmas.forms.Levels.{where_form, where_level, where_same}
-use Rattle.optimistic.proofs.lemmas.tree.Nodes.{clash, decide, same_refl, goes_like, goes_stands}
+use Rattle.optimistic.proofs.lemmas.tree.Nodes.{clash, same_refl, goes_like}
 use Rattle.optimistic.proofs.lemmas.tree.Instead.{replace, lift}
 
 same_tests : (a b c e : ℕ) → (a ≡ b → c ≡ e) → (c ≡ e → a ≡ b) → eqb a b ≡ eqb c e

@@ -1,17 +1,16 @@
 -- What a chain of steps tells.
-use Rattle.std.proofs.Common.{◌≡◌, ◌≢◌, ℕ, ◌+◌, ◌*◌, ◌%◌, ◌/◌, ◌<◌, ◌≤◌, eqb, Bool, true, false, List, [], ◌∷◌, ◌++◌, if◌then◌else◌, sym, refl, ap, ◌∙◌, subst, arith, eq-eqb, ne_eqb, Option, None, Some}
+use Rattle.std.proofs.Common.{◌≡◌, ◌≢◌, ℕ, ◌+◌, ◌%◌, ◌<◌, Bool, true, List, [], ◌∷◌, ◌++◌, if◌then◌else◌, sym, refl, ap, ◌∙◌, subst, arith, eq-eqb, ne_eqb, Option, None, Some}
 use mathlib.Core.List.{append-nil, append_assoc}
-use Rattle.optimistic.specs.Layout.{width, is_link}
-use Rattle.optimistic.specs.declared.words.rule.Block.{Block}
+use Rattle.optimistic.specs.Layout.{width}
 use Rattle.optimistic.specs.declared.words.rule.Entry.{Entry}
 use Rattle.optimistic.specs.declared.words.rule.Moment.{Moment}
 use Rattle.optimistic.specs.declared.words.rule.Note.{Note}
 use Rattle.optimistic.specs.declared.words.rule.Tenure.{Tenure}
 use Rattle.optimistic.specs.declared.words.rule.View.{View}
-use Rattle.optimistic.specs.words.Kept.{word_at, version_at, form_at, size, calm_at, has, calls_by, value_after, value_of, StartsWith, Calm, Since, SameWords, Held, Sound}
+use Rattle.optimistic.specs.words.Kept.{word_at, version_at, form_at, size, calm_at, has, value_after, value_of, Calm, Since, Sound}
 use Rattle.optimistic.specs.words.Calls.{Later, Keeps, entry_of, Puts}
-use Rattle.optimistic.specs.words.Told.{Good, HasForm, tenure, decided, Looks, Locks, Stores, Unlocks, Releases, IsDrafted}
-use Rattle.optimistic.proofs.lemmas.words.Moments.{version_word, sandwich, has_here, has_else, value_on, since_trans, held_trans, inside_since, form_since}
+use Rattle.optimistic.specs.words.Told.{Good, decided, Looks, Locks, Stores, Unlocks, Releases, IsDrafted}
+use Rattle.optimistic.proofs.lemmas.words.Moments.{version_word, sandwich, has_here, value_on, inside_since}
 
 -- Where a node has one even version at a and at b, it is settled at b as at any moment m in between, and as its words were then
 pub settled_between : (a m b : Moment) (n ver : ℕ) → 0 < size a.plots n → Since a m → Since m b → ver ≡ word_at a.words n 0 → ver % 2 ≡ 0 → word_at b.words n 0 ≡ ver

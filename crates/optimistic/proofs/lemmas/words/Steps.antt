@@ -1,11 +1,10 @@
 -- Each step keeps the rule.
-use Rattle.std.proofs.Common.{◌≡◌, ◌≢◌, ℕ, ◌+◌, ◌-◌, ◌*◌, ◌/◌, ◌%◌, ◌<◌, ◌≤◌, ◌⊎◌, eqb, Bool, true, false, List, [], ◌∷◌, ◌++◌, length, get_or, set, replicate, if◌then◌else◌, sym, refl, ap, ◌∙◌, subst, inl, inr, ⊎_elim, arith, le_refl, le_of_eq, zero-le, length-set, length-append, get_or-set_other, get_or-set_same, eq-eqb, ne_eqb, Option, None, Some}
+use Rattle.std.proofs.Common.{◌≡◌, ◌≢◌, ℕ, ◌+◌, ◌-◌, ◌/◌, ◌%◌, ◌<◌, ◌≤◌, eqb, true, false, List, [], ◌∷◌, ◌++◌, length, get_or, set, replicate, sym, refl, ap, ◌∙◌, subst, ⊎_elim, arith, le_refl, le_of_eq, length-set, length-append, get_or-set_other, get_or-set_same, eq-eqb, ne_eqb}
 use Rattle.std.proofs.lemmas.List.{length-replicate}
 use mathlib.Core.Logic.{dite}
 use mathlib.Core.Option.{some, none, some-injective}
 use mathlib.Core.List.{append-nil}
 use native.Mathlib.Decide.{ℕ_discrete}
-use lib.ListN.{get_elem?}
 use lib.Seq.{set-get_or}
 use prog.Atomic.{either}
 use Rattle.atomic_table.specs.Table.{State, Me, step, keeps, stepped, Allows, Enters, Splits, Joins, opening}
@@ -18,9 +17,9 @@ use Rattle.optimistic.specs.declared.words.rule.Note.{Note}
 use Rattle.optimistic.specs.declared.words.rule.Plot.{Plot}
 use Rattle.optimistic.specs.declared.words.rule.Tenure.{Tenure}
 use Rattle.optimistic.specs.declared.words.rule.View.{View}
-use Rattle.optimistic.specs.words.Kept.{word_at, version_at, form_at, size, calm_at, has, calls_by, StartsWith, Calm, Since, Follows, SameWords, Held, Names, Laid, Sound, Fits, moment, nothing, view_of, plot, block, first_words, first_calm, first_moment, newcomer, At, Kept}
-use Rattle.optimistic.specs.words.Told.{Good, HasForm, Tells, tenure, signed, decided, also, settled, HasAlso, Looks, Locks, Stores, Unlocks, Releases, MayUnlock, IsDrafted, arrived, looked, locked, stored, unlocked, released, carved, noted, with_told, heeded}
-use Rattle.optimistic.proofs.lemmas.words.Moments.{width_some, width_four, no_width, version_no_link, not_false, link_some, version_word, zeros, zero_words, at_inside, at_end, has_here, has_else, calm_here, calm_else, form_here, form_else, calls_on, own_calls, other_calls, calm_refl, calm_trans, also_else, size_since, inside_since, since_refl, since_trans, since_follows, follows_since, follows_nothing, held_trans, held_version, at_nothing, names_since, form_since}
+use Rattle.optimistic.specs.words.Kept.{word_at, version_at, form_at, size, calm_at, has, calls_by, Calm, Since, Follows, SameWords, Names, Laid, Sound, Fits, moment, nothing, view_of, plot, first_words, first_calm, first_moment, newcomer, At, Kept}
+use Rattle.optimistic.specs.words.Told.{Good, HasForm, Tells, tenure, decided, also, settled, HasAlso, Looks, Unlocks, MayUnlock, IsDrafted, arrived, looked, locked, stored, unlocked, released, carved, noted, with_told, heeded}
+use Rattle.optimistic.proofs.lemmas.words.Moments.{width_some, width_four, no_width, link_some, version_word, zeros, zero_words, at_inside, at_end, has_here, has_else, calm_here, calm_else, form_here, form_else, calls_on, own_calls, other_calls, calm_refl, calm_trans, also_else, size_since, inside_since, since_refl, since_trans, since_follows, follows_since, follows_nothing, held_version, at_nothing, names_since}
 
 -- a word of a node is written
 set_here : (words : List ℕ) (q n i x : ℕ) → q ≡ n + i → q < length words → word_at (set words q x) n i ≡ x

@@ -1,4 +1,4 @@
-use Rattle.std.proofs.Common.{◌≡◌, ◌<◌, ◌≤◌, ℕ}
+use Rattle.std.proofs.Common.{◌≡◌, ◌<◌, ℕ}
 use Rattle.optimistic.specs.forms.Children.{first_word}
 use Rattle.optimistic.specs.words.Told.{IsOf, HasForm}
 use Rattle.optimistic.specs.Moves.{words_of, Stays}

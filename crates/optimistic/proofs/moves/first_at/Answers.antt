@@ -1,6 +1,5 @@
-use Rattle.std.proofs.Common.{◌≡◌, ◌+◌, ◌*◌, ◌<◌, ◌≤◌, ℕ, Bool, if◌then◌else◌, sym, ap, ◌∙◌, subst, arith}
-use Rattle.optimistic.specs.Layout.{room, entries, width}
-use Rattle.optimistic.specs.forms.Children.{first_word}
+use Rattle.std.proofs.Common.{◌+◌, ◌*◌, ◌<◌, ℕ, Bool, if◌then◌else◌, sym, ap, ◌∙◌, subst}
+use Rattle.optimistic.specs.Layout.{entries, width}
 use Rattle.optimistic.proofs.lemmas.MoveLemmas.{is_inner_of, is_values_of, first_bounds}
 use Rattle.optimistic.proofs.moves.first_at.Goals as goal
 

@@ -1,6 +1,5 @@
-use Rattle.std.proofs.Common.{◌≡◌, ◌+◌, ◌*◌, ◌<◌, ◌≤◌, ℕ, Bool, if◌then◌else◌, sym, ap, ◌∙◌, subst, arith}
-use Rattle.optimistic.specs.Layout.{room, entries, width}
-use Rattle.optimistic.specs.forms.Children.{last_word}
+use Rattle.std.proofs.Common.{◌+◌, ◌*◌, ◌<◌, ℕ, Bool, if◌then◌else◌, sym, ap, ◌∙◌, subst}
+use Rattle.optimistic.specs.Layout.{entries, width}
 use Rattle.optimistic.proofs.lemmas.MoveLemmas.{is_inner_of, is_values_of, last_bounds}
 use Rattle.optimistic.proofs.moves.last_at.Goals as goal
 

@@ -1,5 +1,5 @@
-use Rattle.std.proofs.Common.{◌≡◌, ◌+◌, ◌-◌, ◌*◌, ◌/◌, ◌%◌, ◌^◌, ap, sym, ◌∙◌}
-use Rattle.optimistic.specs.Layout.{prefix_of, byte_at}
+use Rattle.std.proofs.Common.{◌+◌, ◌*◌, ap, sym, ◌∙◌}
+use Rattle.optimistic.specs.Layout.{prefix_of}
 use Rattle.optimistic.proofs.lemmas.forms.Levels.{key_step, key_byte_is}
 use Rattle.optimistic.proofs.forms.names.key_byte.Goals as goal
 

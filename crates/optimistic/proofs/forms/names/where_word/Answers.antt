@@ -1,4 +1,4 @@
-use Rattle.std.proofs.Common.{◌≡◌, ◌+◌, ◌-◌, ◌*◌, ◌/◌, ◌%◌, ◌^◌, ap, sym, ◌∙◌, arith}
+use Rattle.std.proofs.Common.{arith}
 use Rattle.optimistic.proofs.lemmas.forms.Levels.{where_is}
 use Rattle.optimistic.proofs.forms.names.where_word.Goals as goal
 

@@ -1,8 +1,6 @@
 use Rattle.std.specs.Prelude.{IsTrue, ◌↔◌}
-use Rattle.std.proofs.Common.{◌≡◌, ◌≢◌, ℕ, ◌+◌, ◌*◌, ◌/◌, ◌%◌, ◌^◌, ◌<◌, ◌≤◌, ap, sym, ◌∙◌, refl, subst, arith}
+use Rattle.std.proofs.Common.{◌≡◌, ◌%◌, sym, subst}
 use Rattle.std.specs.Int.{bit_at}
-use Rattle.optimistic.specs.forms.Bytes.{with_at}
-use Rattle.optimistic.proofs.lemmas.forms.FormLemmas.{wide_finds, wide_put, wide_take, values_finds, values_put, values_take}
 use Rattle.optimistic.proofs.forms.wide.has_byte.Goals as goal
 
 pub returns : goal.returns

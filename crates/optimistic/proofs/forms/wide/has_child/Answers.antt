@@ -1,5 +1,4 @@
-use Rattle.std.proofs.Common.{◌≡◌, ◌≢◌, ℕ, Bool, true, false, arith, refl}
-use Rattle.optimistic.specs.forms.Wide.{is_child}
+use Rattle.std.proofs.Common.{◌≡◌, true, false, arith, refl}
 use Rattle.optimistic.proofs.lemmas.forms.Maps.{child_there, child_none}
 use Rattle.optimistic.proofs.forms.wide.has_child.Goals as goal
 

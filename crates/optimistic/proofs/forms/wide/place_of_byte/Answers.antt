@@ -1,7 +1,5 @@
-use Rattle.std.proofs.Common.{◌≡◌, ◌≢◌, ℕ, ◌+◌, ◌*◌, ◌/◌, ◌%◌, ◌^◌, ◌<◌, ◌≤◌, ap, sym, ◌∙◌, refl, subst, arith}
-use Rattle.std.specs.Int.{bit_at}
-use Rattle.optimistic.specs.forms.Bytes.{with_at}
-use Rattle.optimistic.proofs.lemmas.forms.FormLemmas.{wide_finds, wide_put, wide_take, values_finds, values_put, values_take}
+use Rattle.std.proofs.Common.{arith}
+use Rattle.optimistic.proofs.lemmas.forms.FormLemmas.{wide_finds, wide_put, wide_take, values_finds}
 use Rattle.optimistic.proofs.forms.wide.place_of_byte.Goals as goal
 
 pub returns-clause-finds : goal.returns-clause-finds

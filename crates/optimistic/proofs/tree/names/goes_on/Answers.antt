@@ -1,5 +1,5 @@
-use Rattle.std.proofs.Common.{◌≡◌, ◌<◌, ℕ, rules, sym, ap, ◌∙◌, subst, arith, nat_eq}
-use Rattle.optimistic.specs.Layout.{where_of, tag_of}
+use Rattle.std.proofs.Common.{ℕ, sym, ap, ◌∙◌, arith, nat_eq}
+use Rattle.optimistic.specs.Layout.{where_of}
 use Rattle.optimistic.proofs.lemmas.tree.Reading.{goes_where, tag_ends}
 use Rattle.optimistic.proofs.tree.names.goes_on.Goals as goal
 

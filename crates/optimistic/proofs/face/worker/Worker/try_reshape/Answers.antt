@@ -1,4 +1,4 @@
-use Rattle.std.proofs.Common.{◌≡◌, sym, subst, Result}
+use Rattle.std.proofs.Common.{sym, subst, Result}
 use Rattle.atomic_table.specs.declared.shared.Seat.{Seat}
 use Rattle.optimistic.specs.declared.face.refusal.Refusal.{Refusal}
 use Rattle.optimistic.specs.declared.face.writes.Written.{Written}

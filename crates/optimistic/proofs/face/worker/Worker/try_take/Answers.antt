@@ -1,4 +1,4 @@
-use Rattle.std.proofs.Common.{◌≡◌, subst}
+use Rattle.std.proofs.Common.{subst}
 use Rattle.optimistic.specs.face.Calls.{Known}
 use Rattle.optimistic.specs.face.Workers.{known, IsWritten}
 use Rattle.optimistic.proofs.lemmas.face.Knowing.{keeps_looked, saw_written}

@@ -1,4 +1,4 @@
-use Rattle.std.proofs.Common.{◌≡◌, ℕ, sym, subst, MatchResult, Option, Some}
+use Rattle.std.proofs.Common.{ℕ, sym, subst, MatchResult, Option}
 use Rattle.optimistic.specs.words.Calls.{Keeps}
 use Rattle.optimistic.specs.tree.Sets.{IsSet}
 use Rattle.optimistic.proofs.lemmas.words.Chains.{later_refl}

@@ -1,4 +1,4 @@
-use Rattle.std.proofs.Common.{◌≡◌, ◌≢◌, ℕ, ◌<◌, rules, sym, subst, arith}
+use Rattle.std.proofs.Common.{◌≡◌, ℕ, rules, sym, subst}
 use Rattle.optimistic.specs.tree.Reads.{Found}
 use Rattle.optimistic.proofs.tree.get.Tree.child.Goals as goal
 

@@ -1,7 +1,7 @@
-use Rattle.std.proofs.Common.{◌≡◌, ◌≢◌, ℕ, ◌+◌, ◌*◌, ◌/◌, ◌^◌, ◌<◌, eqb, if◌then◌else◌, refl, sym, ap, ◌∙◌, arith}
-use Rattle.optimistic.specs.Layout.{width, is_link, leaf_of}
+use Rattle.std.proofs.Common.{◌≡◌, ◌+◌, ◌*◌, refl, sym, ap, ◌∙◌, arith}
+use Rattle.optimistic.specs.Layout.{width, is_link}
 use Rattle.optimistic.proofs.lemmas.words.Moments.{since_trans}
-use Rattle.optimistic.proofs.lemmas.tree.Reading.{looks_trans, agrees_from, agrees_to, links_at, taken_first}
+use Rattle.optimistic.proofs.lemmas.tree.Reading.{looks_trans, agrees_from, agrees_to, links_at}
 use Rattle.optimistic.proofs.tree.get.Tree.child_of_sixteen.Goals as goal
 
 pub read-a-requires-clause-inside : goal.read-a-requires-clause-inside

@@ -1,4 +1,3 @@
-use Rattle.std.proofs.Common.{◌≡◌}
 use Rattle.optimistic.proofs.lemmas.tree.Blank.{free_since}
 use Rattle.optimistic.proofs.tree.get.Tree.fresh.Goals as goal
 

@@ -1,4 +1,3 @@
-use Rattle.std.proofs.Common.{◌≡◌, ℕ}
 use Rattle.optimistic.proofs.lemmas.words.Moments.{width_some, form_since}
 use Rattle.optimistic.proofs.lemmas.tree.Blank.{free_since, result_later}
 use Rattle.optimistic.proofs.tree.get.Tree.fresh_or.Goals as goal

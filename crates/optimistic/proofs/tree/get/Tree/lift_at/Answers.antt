@@ -1,4 +1,4 @@
-use Rattle.std.proofs.Common.{◌≡◌, ℕ, sym, subst, Option}
+use Rattle.std.proofs.Common.{ℕ, sym, subst, Option}
 use Rattle.optimistic.specs.tree.Sets.{IsSet}
 use Rattle.optimistic.proofs.lemmas.words.Chains.{later_refl}
 use Rattle.optimistic.proofs.tree.get.Tree.lift_at.Goals as goal

@@ -1,4 +1,3 @@
-use Rattle.std.proofs.Common.{◌≡◌}
 use Rattle.optimistic.specs.tree.Trees.{IsTree}
 use Rattle.optimistic.proofs.lemmas.words.Chains.{later_refl, looks_keeps}
 use Rattle.optimistic.proofs.lemmas.tree.Setting.{place_since}

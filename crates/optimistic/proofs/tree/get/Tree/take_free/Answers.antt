@@ -1,5 +1,4 @@
-use Rattle.std.proofs.Common.{◌≡◌, ℕ, ◌<◌, ◌+◌, ◌%◌, ◌^◌, arith}
-use Rattle.optimistic.specs.Layout.{width}
+use Rattle.std.proofs.Common.{arith}
 use Rattle.optimistic.proofs.lemmas.words.Moments.{width_some, width_more}
 use Rattle.optimistic.proofs.lemmas.tree.Blank.{made}
 use Rattle.optimistic.proofs.lemmas.tree.Reading.{looks_trans}

@@ -1,4 +1,3 @@
-use Rattle.std.proofs.Common.{◌≡◌}
 use Rattle.optimistic.proofs.lemmas.words.Chains.{later_trans}
 use Rattle.optimistic.proofs.lemmas.tree.Setting.{set_later}
 use Rattle.optimistic.proofs.tree.get.Tree.try_take.Goals as goal

@@ -1,9 +1,8 @@
-use Rattle.std.proofs.Common.{◌≡◌, ◌≢◌, ℕ, ◌+◌, ◌*◌, ◌/◌, ◌^◌, ◌<◌, eqb, if◌then◌else◌, refl, sym, ap, ◌∙◌, arith}
+use Rattle.std.proofs.Common.{◌≡◌, ℕ, ◌+◌, ◌/◌, ◌^◌, eqb, if◌then◌else◌, refl, sym, ap, ◌∙◌, arith}
 use Rattle.std.specs.Int.{bit_at}
-use Rattle.optimistic.specs.forms.Children.{first_of, taken_in}
-use Rattle.optimistic.specs.Layout.{width, is_link, leaf_of}
-use Rattle.optimistic.proofs.lemmas.words.Moments.{since_trans}
-use Rattle.optimistic.proofs.lemmas.tree.Reading.{looks_trans, agrees_from, agrees_to, links_at, taken_first}
+use Rattle.optimistic.specs.forms.Children.{first_of}
+use Rattle.optimistic.specs.Layout.{width, leaf_of}
+use Rattle.optimistic.proofs.lemmas.tree.Reading.{looks_trans, agrees_from, agrees_to, taken_first}
 use Rattle.optimistic.proofs.tree.get.Tree.value_of_four.Goals as goal
 
 pub read-word-requires-clause-inside : goal.read-word-requires-clause-inside

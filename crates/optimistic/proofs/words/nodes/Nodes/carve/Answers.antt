@@ -1,6 +1,5 @@
-use Rattle.std.proofs.Common.{◌≡◌, ◌+◌, ◌≤◌, ◌<◌, ◌∙◌, ℕ, rules, refl, ap, sym, arith, subst, length}
+use Rattle.std.proofs.Common.{◌+◌, ◌≤◌, ◌<◌, ◌∙◌, ℕ, rules, refl, ap, sym, arith, subst, length}
 use Rattle.optimistic.specs.Layout.{width}
-use Rattle.optimistic.proofs.lemmas.words.Moments.{form_since, root_since}
 use Rattle.optimistic.proofs.lemmas.words.Steps.{looks, carves}
 use Rattle.optimistic.proofs.words.nodes.Nodes.carve.Goals as goal
 

@@ -1,4 +1,4 @@
-use Rattle.std.proofs.Common.{◌≡◌, ◌+◌, ◌≤◌, ◌<◌, ◌∙◌, ℕ, ap, sym, subst, arith, length}
+use Rattle.std.proofs.Common.{◌+◌, ◌≤◌, ◌<◌, ◌∙◌, ap, sym, subst, arith, length}
 use Rattle.atomic_table.specs.Table.{Me}
 use Rattle.optimistic.specs.Layout.{width}
 use Rattle.optimistic.specs.declared.words.rule.Note.{Note}

@@ -1,4 +1,4 @@
-use Rattle.std.proofs.Common.{◌≡◌, ◌+◌, ◌≤◌, ◌<◌, ◌∙◌, ℕ, rules, refl, sym, arith, subst, length}
+use Rattle.std.proofs.Common.{◌+◌, ◌≤◌, ◌<◌, ◌∙◌, ℕ, rules, refl, sym, arith, subst, length}
 use Rattle.optimistic.specs.Layout.{width}
 use Rattle.optimistic.proofs.lemmas.words.Moments.{form_since, root_since}
 use Rattle.optimistic.proofs.lemmas.words.Steps.{locks}

@@ -1,4 +1,4 @@
-use Rattle.std.proofs.Common.{◌≡◌, ℕ, [], rules, refl, ap, sym, ◌∙◌, subst, List, set, replicate}
+use Rattle.std.proofs.Common.{◌≡◌, ℕ, [], rules, ap, sym, ◌∙◌, subst, List, set, replicate}
 use Rattle.optimistic.specs.words.Kept.{Kept, newcomer, first_words}
 use Rattle.atomic_table.specs.Table.{opening}
 use Rattle.optimistic.proofs.lemmas.words.Steps.{opens}

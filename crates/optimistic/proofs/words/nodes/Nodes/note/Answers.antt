@@ -1,4 +1,4 @@
-use Rattle.std.proofs.Common.{◌≡◌, ◌+◌, ◌≤◌, ◌<◌, ℕ, arith, length}
+use Rattle.std.proofs.Common.{◌+◌, ◌≤◌, arith, length}
 use Rattle.optimistic.specs.Layout.{width}
 use Rattle.optimistic.proofs.lemmas.words.Steps.{notes}
 use Rattle.optimistic.proofs.words.nodes.Nodes.note.Goals as goal

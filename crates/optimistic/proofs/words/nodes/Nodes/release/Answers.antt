@@ -1,4 +1,4 @@
-use Rattle.std.proofs.Common.{◌≡◌, ◌+◌, ◌≤◌, ◌<◌, ◌∙◌, ℕ, rules, refl, sym, subst, arith, length}
+use Rattle.std.proofs.Common.{◌+◌, ◌≤◌, ◌<◌, ◌∙◌, ℕ, rules, refl, sym, subst, arith, length}
 use Rattle.optimistic.specs.Layout.{width}
 use Rattle.optimistic.proofs.lemmas.words.Moments.{root_since}
 use Rattle.optimistic.proofs.lemmas.words.Steps.{releases}

@@ -1,0 +1,248 @@
+//! The index for keys and values of eight bytes.
+ghost use Rattle.std.specs.Prelude.{◌≡◌, ◌<◌, ◌≤◌, ◌^◌, [], IfErr, IfOk, IfSome};
+ghost use Rattle.std.specs.Option.{option_map};
+ghost use Rattle.optimistic.specs.words.Kept.{calls_by, StartsWith};
+ghost use Rattle.optimistic.specs.face.Calls.{Saw, Looked, Found};
+ghost use Rattle.optimistic.specs.face.Computes.{IsComputed, IsReplaced};
+ghost use Rattle.optimistic.specs.face.Writes.{IsInserted, IsRemoved, IsExchanged, IsFinal};
+ghost use Rattle.optimistic.specs.face.Words.{As, words, either_words};
+ghost use Rattle.optimistic.specs.tree.Drained.{IsClosed, HasNoRoot};
+
+use crate::drain::{Locked, Pairs};
+use crate::face::close::Retired;
+use crate::face::index::U64Congee;
+use crate::face::refusal::Refusal;
+use crate::face::seen::Seen;
+use crate::face::worker::Worker;
+use judge::{Word64, number_of, word_of};
+use std::alloc::{AllocError, Global};
+use std::marker::{Model, PhantomData};
+use std::sync::Wait;
+
+/// An ordered map from words to words that threads share. No reader takes a lock, and a writer locks single nodes.
+#[derive(Drop)]
+pub struct Congee<K, V> {
+    index: U64Congee,
+    words: PhantomData<(K, V)>,
+}
+
+/// A thread's worker at such an index.
+#[derive(Drop)]
+pub struct WordWorker<'t, K, V> {
+    worker: Worker<'t>,
+    words: PhantomData<(K, V)>,
+}
+
+impl<'t, K, V> Model for WordWorker<'t, K, V> {
+    ghost use Rattle.optimistic.specs.face.Calls.{Known};
+
+    ghost Value = { Known };
+
+    ghost view = { λ w. w.worker };
+}
+
+/// The value of an answer.
+fn words<V: Word64>(answer: Result<Option<u64>, Refusal>) -> Result<Option<V>, Refusal>
+    ensures { result ≡ words V.of_word answer }
+{
+    match answer {
+        Ok(word) => Ok(word_of(word)),
+        Err(refusal) => Err(refusal),
+    }
+}
+
+/// The values of an exchange's answer.
+fn either_words<V: Word64>(
+    answer: Result<Result<Option<u64>, Option<u64>>, Refusal>,
+) -> Result<Result<Option<V>, Option<V>>, Refusal>
+    ensures { result ≡ either_words V.of_word answer }
+{
+    match answer {
+        Ok(Ok(word)) => Ok(Ok(word_of(word))),
+        Ok(Err(word)) => Ok(Err(word_of(word))),
+        Err(refusal) => Err(refusal),
+    }
+}
+
+impl<K: Word64, V: Word64> Congee<K, V> {
+    /// An empty index of so many words of memory.
+    pub fn new(alloc: Global, words: usize) -> Result<Self, AllocError>
+        requires { (536 ≤ words) × (words < 2 ^ 48) }
+    {
+        let index = U64Congee::new(alloc, words)?;
+        Ok(Congee {
+            index,
+            words: PhantomData,
+        })
+    }
+
+    /// A worker for a thread. It has seen some beginning of the log, in which no call is its own.
+    pub fn worker(&self, alloc: Global) -> Result<WordWorker<'_, K, V>, AllocError>
+        ensures index { IfOk result (λ w. w.index ≡ self.now.index.tree.nodes.table.shared.table_id) }
+        ensures new { IfOk result (λ w. (w.made ≡ []) × (calls_by w.by w.seen ≡ [])) }
+    {
+        let worker = self.index.worker(alloc)?;
+        Ok(WordWorker {
+            worker,
+            words: PhantomData,
+        })
+    }
+}
+
+impl<'t, K: Word64, V: Word64> WordWorker<'t, K, V> {
+    /// Looks a key up, if no writer comes between. It had the answer at one moment within the call: after all that the worker
+    /// has then seen of the log, which begins with all that it had seen before.
+    pub fn try_get(&mut self, key: &K) -> Option<Option<V>>
+        ensures saw { Saw self.old self.new }
+        ensures found { IfSome result (λ r. As (λ x. Found (K.word key.now) x self.old self.new) (option_map V.of_word) r) }
+    {
+        match self.worker.try_get(key.to_word()) {
+            Some(word) => Some(word_of(word)),
+            None => None,
+        }
+    }
+
+    /// Looks a key up.
+    pub fn get<R: Wait>(&mut self, rt: &R, key: &K) -> Option<V>
+        ensures { As (λ x. Found (K.word key.now) x self.old self.new) (option_map V.of_word) result }
+    {
+        word_of(self.worker.get(rt, key.to_word()))
+    }
+
+    /// Puts a value at a key, and gives the one before, if no writer comes between.
+    pub fn try_insert(&mut self, key: K, value: V) -> Result<Option<V>, Refusal>
+        ensures { As (IsInserted (K.word key) (V.word value) self.old self.new) (words V.of_word) result }
+    {
+        words(self.worker.try_insert(key.to_word(), value.to_word()))
+    }
+
+    /// Puts a value at a key, and gives the one before.
+    pub fn insert<R: Wait>(&mut self, rt: &R, key: K, value: V) -> Result<Option<V>, Refusal>
+        ensures inserted { As (IsInserted (K.word key) (V.word value) self.old self.new) (words V.of_word) result }
+        ensures decided { IfErr result IsFinal }
+    {
+        words(self.worker.insert(rt, key.to_word(), value.to_word()))
+    }
+
+    /// Takes a key's value out, if no writer comes between.
+    pub fn try_remove(&mut self, key: &K) -> Result<Option<V>, Refusal>
+        ensures { As (IsRemoved (K.word key.now) self.old self.new) (words V.of_word) result }
+    {
+        words(self.worker.try_remove(key.to_word()))
+    }
+
+    /// Takes a key's value out.
+    pub fn remove<R: Wait>(&mut self, rt: &R, key: &K) -> Result<Option<V>, Refusal>
+        ensures removed { As (IsRemoved (K.word key.now) self.old self.new) (words V.of_word) result }
+        ensures decided { IfErr result IsFinal }
+    {
+        words(self.worker.remove(rt, key.to_word()))
+    }
+
+    /// Where the key has the old value, puts the new one there, or takes the key out at `None`, if no writer comes between.
+    /// Another value, or none, is the inner error.
+    pub fn try_compare_exchange(
+        &mut self,
+        key: &K,
+        old: &V,
+        new: Option<V>,
+    ) -> Result<Result<Option<V>, Option<V>>, Refusal>
+        ensures { As (IsExchanged (K.word key.now) (V.word old.now) (option_map V.word new) self.old self.new) (either_words V.of_word) result }
+    {
+        let word = number_of(&new);
+        either_words(
+            self.worker
+                .try_compare_exchange(key.to_word(), old.to_word(), word),
+        )
+    }
+
+    /// Where the key has the old value, puts the new one there, or takes the key out at `None`. Another value, or none, is the
+    /// inner error.
+    pub fn compare_exchange<R: Wait>(
+        &mut self,
+        rt: &R,
+        key: &K,
+        old: &V,
+        new: Option<V>,
+    ) -> Result<Result<Option<V>, Option<V>>, Refusal>
+        ensures exchanged { As (IsExchanged (K.word key.now) (V.word old.now) (option_map V.word new) self.old self.new) (either_words V.of_word) result }
+        ensures decided { IfErr result IsFinal }
+    {
+        let word = number_of(&new);
+        either_words(
+            self.worker
+                .compare_exchange(rt, key.to_word(), old.to_word(), word),
+        )
+    }
+
+    /// Puts the answer of `f` at a key that is present, or takes the key out where the answer is `None`. Gives the value before
+    /// and the answer. `f` runs while no node is locked, and is asked again where the key has another value by then.
+    pub fn compute_if_present<F: FnMut(u64) -> Option<u64>, R: Wait>(
+        &mut self,
+        rt: &R,
+        key: &K,
+        f: F,
+    ) -> Result<Option<(u64, Option<u64>)>, Refusal>
+    where
+        F: Drop,
+        requires { F.IsAlwaysCallable f }
+        ensures computed { IsComputed (K.word key.now) self.old self.new result }
+        ensures asked { IfOk result (λ r. IfSome r (λ p. (before after : F) × F.step before p.0 p.1 after)) }
+        ensures decided { IfErr result IsFinal }
+    {
+        self.worker.compute_if_present(rt, key.to_word(), f)
+    }
+
+    /// Puts the answer of `f` at a key, present or not, and gives the value before. `f` runs while no node is locked, and is
+    /// asked again where the key has another value by then.
+    pub fn compute_or_insert<F: FnMut(Option<u64>) -> u64, R: Wait>(
+        &mut self,
+        rt: &R,
+        key: &K,
+        f: F,
+    ) -> Result<Option<V>, Refusal>
+    where
+        F: Drop,
+        requires { F.IsAlwaysCallable f }
+        ensures replaced { As (IsReplaced (K.word key.now) (λ old value. (before after : F) × F.step before old value after) self.old self.new) (words V.of_word) result }
+        ensures decided { IfErr result IsFinal }
+    {
+        words(self.worker.compute_or_insert(rt, key.to_word(), f))
+    }
+
+    /// What it has seen of the log, for another worker of its index.
+    pub fn note(&mut self) -> Seen<'t>
+        ensures same { self.new ≡ self.old }
+        ensures note { (result.index ≡ self.old.index) × (result.seen ≡ self.old.seen) }
+    {
+        self.worker.note()
+    }
+
+    /// Takes in what another worker had seen of the log: from now on it has seen no less.
+    pub fn heed(&mut self, other: Seen<'t>)
+        requires { other.index ≡ self.old.index }
+        ensures looked { Looked self.old self.new }
+        ensures heeds { StartsWith self.new.seen other.entry.seen }
+    {
+        self.worker.heed(other);
+    }
+    /// Gives the worker back: what it knows goes on, and is with what its index is closed.
+    pub fn retire(self) -> Retired
+        ensures { result ≡ self.entry }
+    {
+        let WordWorker { worker, words: _ } = self;
+        worker.retire()
+    }
+}
+
+impl<K, V> Congee<K, V> {
+    /// Closes the index, with a worker that was given back, as `U64Congee::close` does. The pairs are told as words.
+    pub fn close(self, last: Retired) -> Result<Pairs, Locked>
+        requires { last.index ≡ self.index.tree.nodes.table.shared.table_id }
+        ensures pairs { IfOk result (λ p. IsClosed last.seen last.made last.by p) }
+        ensures locked { IfErr result (λ _. HasNoRoot last.seen last.made last.by) }
+    {
+        let Congee { index, words: _ } = self;
+        index.close(last)
+    }
+}
