@@ -108,14 +108,16 @@ fn each_call_answers(rt: HostRuntime) -> Result<(), Fail> {
 #[test]
 fn a_closed_index_tells_its_pairs(rt: HostRuntime) -> Result<(), Fail> {
     let index = U64Congee::new(rt.alloc(), WORDS)?;
+    let mut writer = index.worker(rt.alloc())?;
+    for key in [300, 1 << 40, 7, u64::MAX, 8, 9] {
+        assert_eq!(rt; writer.insert(&rt, key, key ^ 5), Ok(None));
+    }
+    assert_eq!(rt; writer.remove(&rt, 8), Ok(Some(8 ^ 5)));
+    let _ = writer.retire();
     let mut one = index.worker(rt.alloc())?;
     let mut other = index.worker(rt.alloc())?;
-    for key in [300, 1 << 40, 7, u64::MAX, 8, 9] {
-        assert_eq!(rt; one.insert(&rt, key, key ^ 5), Ok(None));
-    }
     let seen = one.note();
     other.heed(seen);
-    assert_eq!(rt; other.remove(&rt, 8), Ok(Some(8 ^ 5)));
     let _ = one.retire();
     let last = other.retire();
     let closed = index.close(last);
@@ -193,8 +195,11 @@ fn an_index_without_room_refuses(rt: HostRuntime) -> Result<(), Fail> {
     let index = U64Congee::new(rt.alloc(), 1_000)?;
     let mut worker = index.worker(rt.alloc())?;
     let mut key = 0u64;
-    while worker.insert(&rt, key, key) == Ok(None) && key < 1_000 {
-        key = key.saturating_add(1);
+    for next in 0..1_000u64 {
+        if worker.insert(&rt, next, next) != Ok(None) {
+            break;
+        }
+        key = next.saturating_add(1);
     }
     assert!(rt; key > 16 && key < 1_000);
     assert_eq!(rt; worker.insert(&rt, key, key), Err(Refusal::Full));
