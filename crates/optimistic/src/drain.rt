@@ -7,5 +7,4 @@ mod keys;
 mod nexts;
 mod pairs;
 
-pub use nexts::is_unlocked;
 pub use pairs::{Locked, Pair, Pairs, Undrained};

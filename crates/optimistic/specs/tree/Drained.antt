@@ -1,5 +1,5 @@
 -- The pairs of a tree that is closed.
-use Rattle.std.specs.Prelude.{◌≡◌, ◌≢◌, ◌⊎◌, ℕ, ◌^◌, ◌<◌, ◌≤◌, List, Some, unwrap_or}
+use Rattle.std.specs.Prelude.{◌≡◌, ℕ, ◌^◌, ◌<◌, ◌≤◌, List, Some, unwrap_or}
 use Rattle.std.specs.List.{AllPairs, Contains}
 use Rattle.optimistic.specs.declared.drain.nexts.Pair.{Pair}
 use Rattle.optimistic.specs.declared.drain.pairs.Pairs.{Pairs}
@@ -7,11 +7,9 @@ use Rattle.optimistic.specs.declared.drain.pairs.Undrained.{Undrained}
 use Rattle.optimistic.specs.declared.drain.pairs.Undrained.TheVariants.{Locked, Memory}
 use Rattle.optimistic.specs.declared.words.rule.Block.{Block}
 use Rattle.optimistic.specs.declared.words.rule.Entry.{Entry}
-use Rattle.optimistic.specs.declared.words.rule.Moment.{Moment}
 use Rattle.optimistic.specs.declared.words.rule.Plot.{Plot}
-use Rattle.optimistic.specs.words.Kept.{value_of, calls_by, StartsWith, Sound}
+use Rattle.optimistic.specs.words.Kept.{value_of, calls_by, StartsWith}
 use Rattle.optimistic.specs.words.Last.{words_in}
-use Rattle.optimistic.specs.tree.Trees.{IsTree, where_at}
 use Rattle.optimistic.specs.tree.Nexts.{IsEnd, HasLocked}
 
 -- the key from which on the pairs are still to come
@@ -50,10 +48,3 @@ pub record IsClosed (seen made : List Entry) (by : ℕ) (p : Pairs) : Type 0 whe
   pub all : rest p ≡ 0
   pub has : HasLog p log
   pub comes : Comes log seen made by
-
--- at the end, which comes after what a thread has seen, the root is locked, or doesn't cover each key
-pub record HasNoRoot (seen made : List Entry) (by : ℕ) : Type 0 where
-  pub end : Moment
-  pub sound : Sound IsTree end
-  pub comes : Comes end.log seen made by
-  pub cause : HasLocked end.words end.plots ⊎ (where_at end.calm 16 ≢ 32)

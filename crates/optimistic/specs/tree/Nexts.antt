@@ -59,10 +59,9 @@ IsTold log from (Here x) = value_of from log ≡ Some x
 IsTold log from (Down p) = ⊥
 IsTold log from (After last) = UpTo from last (λ k. value_of k log ≡ None)
 
--- The words are those of a tree that the log makes, of which the root covers each key
-pub record IsEnd (words : List ℕ) (plots : List Plot) (calm : List Block) (log : List Entry) : Type 0 where
-  pub sound : Sound IsTree (moment words plots calm log)
-  pub covers : where_at calm 16 ≡ 32
+-- the words are those of a tree that the log makes
+abbrev pub IsEnd : List ℕ → List Plot → List Block → List Entry → Type 0
+IsEnd words plots calm log = Sound IsTree (moment words plots calm log)
 
 -- some node is locked
 pub record HasLocked (words : List ℕ) (plots : List Plot) : Type 0 where

@@ -114,7 +114,7 @@ fn next_of_least(least: Option<Item>, at: Place, from: u64) -> Next
 }
 
 /// Whether a node lies among the words, and isn't locked.
-pub fn is_unlocked(words: &Words, at: Place) -> bool
+fn is_unlocked(words: &Words, at: Place) -> bool
     requires { (0 < at.form) × (at.form < 9) }
     ensures { MatchBool result ((at.node + width at.form ≤ length (words_in words.now)) × (version_at (words_in words.now) at.node % 2 ≡ 0))
         (at.node + width at.form ≤ length (words_in words.now) → version_at (words_in words.now) at.node % 2 ≡ 1) }

@@ -1,8 +1,8 @@
 //! The end of an index.
-ghost use Rattle.std.specs.Prelude.{◌≡◌, IfOk, IfErr};
-ghost use Rattle.optimistic.specs.tree.Drained.{IsClosed, HasNoRoot};
+ghost use Rattle.std.specs.Prelude.{◌≡◌};
+ghost use Rattle.optimistic.specs.tree.Drained.{IsClosed};
 
-use crate::drain::{Locked, Pairs};
+use crate::drain::Pairs;
 use crate::face::index::U64Congee;
 use crate::words::Hand;
 use std::marker::Model;
@@ -27,11 +27,10 @@ impl Model for Retired {
 
 impl U64Congee {
     /// Closes the index, with a worker that was given back. What stands is what one log makes, which begins with all that the
-    /// worker has seen, and has its calls and no others of it. An error tells that a writer was lost that had locked the root.
-    pub fn close(self, last: Retired) -> Result<Pairs, Locked>
+    /// worker has seen, and has its calls and no others of it.
+    pub fn close(self, last: Retired) -> Pairs
         requires { last.index ≡ self.tree.nodes.table.shared.table_id }
-        ensures pairs { IfOk result (λ p. IsClosed last.seen last.made last.by p) }
-        ensures locked { IfErr result (λ _. HasNoRoot last.seen last.made last.by) }
+        ensures { IsClosed last.seen last.made last.by result }
     {
         let U64Congee { tree } = self;
         let Retired { hand } = last;

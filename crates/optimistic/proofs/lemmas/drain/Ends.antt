@@ -8,13 +8,12 @@ use Rattle.optimistic.specs.declared.moves.Item.{Item}
 use Rattle.optimistic.specs.declared.tree.place.Place.{Place}
 use Rattle.optimistic.specs.declared.words.rule.Block.{Block}
 use Rattle.optimistic.specs.declared.words.rule.Entry.{Entry}
-use Rattle.optimistic.specs.declared.words.rule.Moment.{Moment}
 use Rattle.optimistic.specs.declared.words.rule.Plot.{Plot}
 use Rattle.optimistic.specs.forms.Children.{is_inner, byte_in, taken_in, first_word, first_of, second_of, put_first, IsForm, Same}
 use Rattle.optimistic.specs.forms.Least.{IsLeastItem}
-use Rattle.optimistic.specs.words.Kept.{word_at, version_at, form_at, size, calm_at, value_of, Sound}
+use Rattle.optimistic.specs.words.Kept.{word_at, version_at, form_at, size, calm_at, value_of}
 use Rattle.optimistic.specs.tree.Levels.{form_of, depth, stands, goes_on, pair_value}
-use Rattle.optimistic.specs.tree.Trees.{IsTree, where_at, first_at, second_at}
+use Rattle.optimistic.specs.tree.Trees.{where_at, first_at, second_at}
 use Rattle.optimistic.specs.tree.Nexts.{IsSilent, IsNear, IsNext, Leads, IsNextAt, IsEnd, HasLocked}
 use Rattle.optimistic.proofs.lemmas.drain.Keys.{between, near_less, silent_none, pair_there, no_pair}
 use Rattle.optimistic.proofs.lemmas.drain.Leasts.{none_at, item_first, item_second, child_named, values_tag}
@@ -25,7 +24,7 @@ use Rattle.optimistic.proofs.lemmas.forms.Levels.{where_form, where_level}
 use Rattle.optimistic.proofs.lemmas.MoveLemmas.{link_first}
 use Rattle.optimistic.proofs.lemmas.tree.Nodes.{clash}
 use Rattle.optimistic.proofs.lemmas.tree.Reading.{where_stands, where_some, goes_where, tag_ends}
-use Rattle.optimistic.proofs.lemmas.words.Moments.{width_some, width_four}
+use Rattle.optimistic.proofs.lemmas.words.Moments.{width_some}
 
 pub match_false : (b : Bool) (A B : Type 0) → b ≡ false → MatchBool b A B → B
 match_false false A B e m = m
@@ -124,25 +123,6 @@ module _ (form level from : ℕ) (w : ℕ → ℕ) (l : level < 8) (is : IsForm 
           (near.0, ((λ i. goes_on (f i) (s i) k) ∙ m.1.0, (λ i. pair_value (f i) (s i) k) ∙ m.1.1)),
     )
 
--- the root
-module _ (m : Moment) (sound : Sound IsTree m) where
-  root_size : size m.plots 16 ≡ 520
-  root_size = ap width sound.root ∙ width_four
-
-  pub root_inside : 16 + width 4 ≤ length m.words
-  root_inside =
-      let s = root_size in
-      let a : 16 + 519 < get_or m.words 0 0 = sound.laid.below 16 519 (omega (arith, s)) in
-      let b : get_or m.words 0 0 ≤ length m.words = sound.laid.bound in
-      let w = width_four in
-      omega arith
-
-  pub root_locked : version_at m.words 16 % 2 ≡ 1 → HasLocked m.words m.plots
-  root_locked odd = record { node = 16; some = let s = root_size in omega (arith, s); odd = odd }
-
-  pub root_where : version_at m.words 16 % 2 ≡ 0 → where_at m.calm 16 ≡ word_at m.words 16 1
-  root_where even = let s = root_size in sound.rests 16 1 (omega arith) (omega (arith, s)) even
-
 -- A node on the way to a key, at the end
 module _ (ws : List ℕ) (plots : List Plot) (calm : List Block) (log : List Entry) (end : IsEnd ws plots calm log) (p : Place) (from : ℕ) (leads : Leads plots calm p from)
     (some : 0 < p.form) (low : p.form < 9) (deep : p.level < 8) where
@@ -153,8 +133,8 @@ module _ (ws : List ℕ) (plots : List Plot) (calm : List Block) (log : List Ent
   inside =
       let wide : 0 < width p.form = width_some p.form some low in
       let m : width p.form - 1 < width p.form = omega arith in
-      let a : p.node + (width p.form - 1) < get_or ws 0 0 = end.sound.laid.below p.node (width p.form - 1) (in_size (width p.form - 1) m) in
-      let b : get_or ws 0 0 ≤ length ws = end.sound.laid.bound in
+      let a : p.node + (width p.form - 1) < get_or ws 0 0 = end.laid.below p.node (width p.form - 1) (in_size (width p.form - 1) m) in
+      let b : get_or ws 0 0 ≤ length ws = end.laid.bound in
       omega arith
 
   pub locked : version_at ws p.node % 2 ≡ 1 → HasLocked ws plots
@@ -162,7 +142,7 @@ module _ (ws : List ℕ) (plots : List Plot) (calm : List Block) (log : List Ent
 
   module _ (even : version_at ws p.node % 2 ≡ 0) where
     settled : (j : ℕ) → 0 < j → j < width p.form → calm_at calm p.node j ≡ word_at ws p.node j
-    settled j l m = end.sound.rests p.node j l (in_size j m) even
+    settled j l m = end.rests p.node j l (in_size j m) even
 
     form_is : form_of (where_at calm p.node) ≡ p.form
     form_is = ap form_of leads.covers ∙ where_form p.form p.level from deep (omega arith)
@@ -174,7 +154,7 @@ module _ (ws : List ℕ) (plots : List Plot) (calm : List Block) (log : List Ent
     same j l m = sym (settled j (omega arith) m)
 
     shape : IsForm p.form (calm_at calm p.node)
-    shape = subst (λ (z : ℕ). IsForm z (calm_at calm p.node)) form_is (end.sound.means.forms p.node (λ (z : where_at calm p.node ≡ 0). where_some p.form p.level from some low deep (sym leads.covers ∙ z)))
+    shape = subst (λ (z : ℕ). IsForm z (calm_at calm p.node)) form_is (end.means.forms p.node (λ (z : where_at calm p.node ≡ 0). where_some p.form p.level from some low deep (sym leads.covers ∙ z)))
 
     pub shape_here : IsForm p.form (word_at ws p.node)
     shape_here = form_like p.form (calm_at calm p.node) (word_at ws p.node) same (room_some p.form some low) shape
@@ -199,7 +179,7 @@ module _ (ws : List ℕ) (plots : List Plot) (calm : List Block) (log : List Ent
     value k near off =
         let f = first_is k in
         let s = second_is k in
-        (λ i. pair_value (sym f i) (sym s i) k) ∙ end.sound.means.nodes.means p.node k (covers k near, (λ i. goes_on (f i) (s i) k) ∙ off)
+        (λ i. pair_value (sym f i) (sym s i) k) ∙ end.means.nodes.means p.node k (covers k near, (λ i. goes_on (f i) (s i) k) ∙ off)
 
     -- where the way goes on
     module _ (q : Place) (on : goes_on (First' from) (Second' from) from ≡ true) (node : q.node ≡ node_of (First' from)) (form : q.form ≡ tag_of (First' from)) (level : q.level ≡ level_of (First' from)) where
@@ -219,7 +199,7 @@ module _ (ws : List ℕ) (plots : List Plot) (calm : List Block) (log : List Ent
             let j = first_word p.form c.0 in
             let m : j < width p.form = first_inside p.form c.0 c.1 in
             let link : is_link (form_at plots p.node) j ≡ true = ap (λ (z : ℕ). is_link z j) leads.is ∙ link_first p.form c.0 c.1 b in
-            let names = end.sound.links p.node j (in_size j m) link in
+            let names = end.links p.node j (in_size j m) link in
             subst (λ (z : ℕ). form_at plots (node_of z) ≡ tag_of z) c.2 (names (subst (λ (z : ℕ). 0 < tag_of z) (sym c.2) t.0) (subst (λ (z : ℕ). tag_of z < 9) (sym c.2) t.1))
         | inr b ↦ let t = tags in absurd (values_tag p.form (word_at ws p.node) from (byte_at from p.level) b t.0 t.1)
       ]
@@ -228,7 +208,7 @@ module _ (ws : List ℕ) (plots : List Plot) (calm : List Block) (log : List Ent
       down =
           let f = first_is from in
           let s = second_is from in
-          let link = end.sound.means.nodes.linked p.node from (covers from refl, (λ i. goes_on (f i) (s i) from) ∙ on) in
+          let link = end.means.nodes.linked p.node from (covers from refl, (λ i. goes_on (f i) (s i) from) ∙ on) in
           let where_below : where_at calm q.node ≡ where_of q.form q.level from = ap (λ (z : ℕ). where_at calm z) (node ∙ ap (λ (z : ℕ). node_of z) (sym f)) ∙ link.0 ∙ s ∙ second_where in
           let t = tags in
           let small : q.level < 8 = omega (arith, level) in

@@ -162,6 +162,13 @@ module _ (B C : List Block) (a n key f d : ℕ) (log : List Entry) (t : IsTree B
       ap (λ (z : ℕ). second_of (form_of z) (calm_at C a) k (byte_at k (depth z))) l.where_stays ∙ l.becomes.other_seconds k (byte_at k level) ne,
     )
 
+-- a node below another isn't the root
+not_root : (B : List Block) (a n key f d : ℕ) (log : List Entry) → IsTree B log → IsOver B a n key f d → 16 ≢ n
+not_root B a n key f d log t over q =
+    let l = t.nodes.linked a key (over.covers, over.on) in
+    let e : depth (second_at B a key) ≡ 0 = ap depth (sym l.0 ∙ (ap (where_at B) (over.names ∙ sym q) ∙ t.top)) in
+    omega (arith, e, l.1)
+
 -- nodes whose words are the same
 pub like : (B C : List Block) (p : ℕ) → ((j : ℕ) → calm_at C p j ≡ calm_at B p j) → calm_at C p ≡ calm_at B p
 like B C p e = λ i j. e j i
@@ -233,6 +240,10 @@ module _ (B C : List Block) (a n m key f g d : ℕ) (value : Option ℕ) (log : 
         ]
       ]
     ];
+    top = elim (cases_eq 16 m) [
+      | inl q ↦ let z : 32 ≡ 0 = sym t.top ∙ (ap (where_at B) q ∙ r.blank) in absurd (omega (arith, z))
+      | inr pm ↦ is_replaced.others 16 (not_root B a n key f d log t r.over) pm ∙ t.top
+    ];
   }
 
 module _ (B C : List Block) (a n key f d byte c x : ℕ) (log : List Entry) (t : IsTree B log) (r : Lifts B C a n key f d byte c x) where
@@ -295,4 +306,5 @@ module _ (B C : List Block) (a n key f d byte c x : ℕ) (log : List Entry) (t :
         | inr pa ↦ let w = like B C p (r.others p pa pn) in subst (λ (z : ℕ → ℕ). IsForm (form_of (z 1)) z) (sym w) (t.forms p (λ z. some (r.others p pa pn 1 ∙ z)))
       ]
     ];
+    top = is_lifted.others 16 (not_root B a n key f d log t r.over) ∙ t.top;
   }

@@ -7,4 +7,4 @@ root_covers : (key : ℕ) → key < 2 ^ 64 → 32 ≡ where_of 4 0 key
 root_covers key small = omega arith
 
 pub loop-depth-init : goal.loop-depth-init
-loop-depth-init c = (omega arith, omega arith, omega arith, λ plots calm log end. (omega arith, record { is = end.sound.root; covers = end.covers ∙ root_covers c.args.from c.ranges.from.fits }))
+loop-depth-init c = (omega arith, omega arith, omega arith, λ plots calm log end. (omega arith, record { is = end.root; covers = end.means.top ∙ root_covers c.args.from c.ranges.from.fits }))

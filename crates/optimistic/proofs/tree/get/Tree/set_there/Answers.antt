@@ -6,6 +6,8 @@ use Rattle.optimistic.specs.tree.Levels.{pair_value}
 use Rattle.optimistic.specs.tree.Reads.{Found}
 use Rattle.optimistic.specs.tree.Sets.{Allows}
 use Rattle.optimistic.specs.tree.Takes.{HasWritten}
+use Rattle.optimistic.specs.tree.Trees.{IsTree}
+use Rattle.optimistic.proofs.lemmas.words.Chains.{later_keeps, looks_keeps, releases_keeps}
 use Rattle.optimistic.proofs.lemmas.words.Moments.{width_some}
 use Rattle.optimistic.proofs.lemmas.tree.Reading.{looks_trans, none_value}
 use Rattle.optimistic.proofs.lemmas.tree.Sets.{looks_drafted, drafted_shape, shape_later, may_leaf, written_keeps}
@@ -24,6 +26,14 @@ release-requires-then-not-open-clause-some c = width_some c.args.at.form c.requi
 
 pub release-requires-then-not-open-clause-drafted : goal.release-requires-then-not-open-clause-drafted
 release-requires-then-not-open-clause-drafted c = looks_drafted c.args.at.node c.args.at.form c.args.version c.args.hand.now.me.0 c.child-child.new.hand.me.0 c.requires.at.at (width_some c.args.at.form c.requires.at.some c.requires.at.form) c.child-child.ensures.at c.requires.drafted c.child-child.ensures.looks
+
+pub returns-then-goes_on-clause-set : goal.returns-then-goes_on-clause-set
+returns-then-goes_on-clause-set c = let a = c.args.hand.now.me.0 in let w = c.child-child.new.hand.me.0 in let y = c.release-then-not-open.new.hand.me.0 in
+    later_keeps a w y (looks_keeps IsTree a w c.child-child.ensures.looks).0 (releases_keeps IsTree c.args.at.node w y c.release-then-not-open.ensures.released)
+
+pub returns-else-goes_on-clause-set : goal.returns-else-goes_on-clause-set
+returns-else-goes_on-clause-set c = let a = c.args.hand.now.me.0 in let w = c.child-child.new.hand.me.0 in let y = c.release-then-not-open.new.hand.me.0 in
+    later_keeps a w y (looks_keeps IsTree a w c.child-child.ensures.looks).0 (releases_keeps IsTree c.args.at.node w y c.release-then-not-open.ensures.released)
 
 pub returns-else-goes_on-clause-minds : goal.returns-else-goes_on-clause-minds
 returns-else-goes_on-clause-minds c = let none : c.pair_value-found.result ≡ None = c.pair_value-found.ensures ∙ other_value c.child-child.result.first c.child-child.result.second c.args.write.key (λ e. c.if-not-open.ensures.1 (e ∙ sym c.leaf_word-leaf.ensures.word)) in
