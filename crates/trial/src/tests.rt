@@ -10,3 +10,4 @@ mod program;
 mod texts;
 mod threads;
 mod trees;
+mod unlocked;
