@@ -14,6 +14,7 @@ mod failures;
 mod forms;
 mod histories;
 mod interleavings;
+mod jobs;
 mod journal_lines;
 mod journaled;
 mod journals;
