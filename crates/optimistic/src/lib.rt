@@ -8,10 +8,11 @@ mod fill;
 mod forms;
 mod moves;
 mod pairs;
-#[cfg(test)]
-mod tests;
 mod tree;
 mod words;
 
 pub use drain::{Locked, Pair, Pairs, Undrained};
-pub use face::{Congee, Refusal, Retired, Seen, U64Congee, WordWorker, Worker};
+pub use face::{
+    Congee, LEAST_WORDS, MOST_WORDS, Refusal, Retired, Seen, U64Congee, Unopened, WordWorker,
+    Worker,
+};

@@ -1,6 +1,6 @@
 //! A node's entries are moved to another node, which a hand has too.
 ghost use Rattle.std.specs.Prelude.{◌≡◌, ◌≢◌, ◌↔◌, ℕ, ◌+◌, ◌*◌, ◌/◌, ◌%◌, ◌<◌, ◌≤◌, true, IsTrue, IfSome, MatchOption, MatchBool};
-ghost use Rattle.optimistic.specs.Layout.{room, entries, width};
+ghost use Rattle.optimistic.specs.Layout.{room, entries, width, is_link};
 ghost use Rattle.optimistic.specs.forms.Bytes.{with_at};
 ghost use Rattle.optimistic.specs.forms.Children.{is_inner, byte_in, taken_in, first_word, last_word, with_entry, without_entry, first_of, second_of, IsForm, Alike};
 ghost use Rattle.optimistic.specs.forms.Parts.{HasPart};
@@ -243,27 +243,36 @@ pub fn store_item<P: Shape>(
 {
     let last = last_at(form, place);
     if form < 5 {
-        nodes.store(hand, node, form, first_at(form, place), item.first);
+        let first = first_at(form, place);
+        renew(nodes, hand, node, form, first, item.first);
         nodes.store(hand, node, form, last, item.last);
     } else {
         nodes.store(hand, node, form, last, item.last);
     }
 }
 
-/// Clears a word.
-fn clear<P: Shape>(nodes: &Nodes<P>, hand: &mut Hand, node: usize, form: u64, word: usize)
+/// Writes a word, where it is another one so far.
+fn renew<P: Shape>(
+    nodes: &Nodes<P>,
+    hand: &mut Hand,
+    node: usize,
+    form: u64,
+    word: usize,
+    value: u64,
+)
     requires of { IsOf nodes.now.table.shared.table_id hand.old }
     requires at { HasForm node form (view hand.old) }
     requires inside { (1 < word) × (word < width form) }
     requires mine { has (view hand.old).mine node ≡ true }
+    requires tells { is_link form word ≡ true → Tells value (view hand.old) }
     ensures of { IsOf nodes.now.table.shared.table_id hand.new }
     ensures at { HasForm node form (view hand.new) }
     ensures stays { Stays node (view hand.old) (view hand.new) }
-    ensures words { Agree form (words_of (view hand.new) node) (with_at (words_of (view hand.old) node) word 0) }
+    ensures words { Agree form (words_of (view hand.new) node) (with_at (words_of (view hand.old) node) word value) }
 {
     let old = nodes.load(hand, node, form, word);
-    if old != 0 {
-        nodes.store(hand, node, form, word, 0);
+    if old != value {
+        nodes.store(hand, node, form, word, value);
         return;
     }
 }
@@ -283,6 +292,6 @@ pub fn clear_children<P: Shape>(nodes: &Nodes<P>, hand: &mut Hand, node: usize, 
     }
     for place in 0..room_of(form) {
         let at = first_at(form, place);
-        clear(nodes, hand, node, form, at);
+        renew(nodes, hand, node, form, at, 0);
     }
 }

@@ -24,7 +24,7 @@ mod stores;
 mod write;
 
 pub use fresh::Free;
-pub use get::{TOP, Tree};
+pub use get::{ATTEMPTS, TOP, Tree};
 pub use reshape::Want;
 pub use set::Set;
 pub use write::{Condition, Write};

@@ -1,13 +1,16 @@
 -- What a worker knows, and what its calls do to that.
 use Rattle.std.specs.Prelude.{◌≡◌, ℕ, List, [], ◌∷◌, ◌++◌, Option}
+use Rattle.std.specs.List.{Contains}
 use Rattle.atomic_table.specs.Seated.{TableId}
 use Rattle.optimistic.specs.declared.words.rule.Entry.{Entry}
+use Rattle.optimistic.specs.declared.words.rule.Moment.{Moment}
 use Rattle.optimistic.specs.words.Calls.{entry_of}
 use Rattle.optimistic.specs.words.Kept.{calls_by, value_of, StartsWith}
 
--- its index, the log as far as it has seen it, its own calls, and its number in the log
+-- its index, the words and nodes as it last saw them, the log as far as it has seen it, its own calls, and its number in the log
 pub record Known : Type 0 where
   pub index : TableId
+  pub moment : Moment
   pub seen : List Entry
   pub made : List Entry
   pub by : ℕ
@@ -30,3 +33,7 @@ Wrote key value old v w =
 -- a look-up: the key has this, after all that was seen
 abbrev pub Found : ℕ → Option ℕ → Known → Known → Type 0
 Found key x v w = Looked v w × (x ≡ value_of key w.seen)
+
+-- a log has a call that gave a key this
+abbrev pub HasCall : ℕ → Option ℕ → List Entry → Type 0
+HasCall key x log = (e : Entry) × Contains log e × (e.key ≡ key) × (e.value ≡ x)

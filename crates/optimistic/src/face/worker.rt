@@ -2,7 +2,7 @@
 ghost use Rattle.std.specs.Prelude.{◌≡◌, [], IfOk, IfSome};
 ghost use Rattle.optimistic.specs.words.Kept.{calls_by, StartsWith};
 ghost use Rattle.optimistic.specs.face.Calls.{Saw, Looked, Found};
-ghost use Rattle.optimistic.specs.face.Workers.{IsWritten};
+ghost use Rattle.optimistic.specs.face.Workers.{IsWritten, WantsRoom};
 
 use crate::face::close::Retired;
 use crate::face::refusal::Refusal;
@@ -15,7 +15,8 @@ use std::marker::Model;
 use std::mem::replace;
 use std::sync::Wait;
 
-/// A thread's hand at an index, with the names of the nodes that it freed.
+/// A thread's hand at an index, with the names of the nodes that it freed. These are lost when it is dropped or given back: such
+/// nodes aren't used again before the index is closed.
 #[derive(Drop)]
 pub struct Worker<'t> {
     tree: &'t Tree,
@@ -123,7 +124,8 @@ impl<'t> Worker<'t> {
 
     /// Puts a value at a key.
     fn try_put(&mut self, write: Write) -> Result<Written, Refusal>
-        ensures { IsWritten write self.old self.new result }
+        ensures written { IsWritten write self.old self.new result }
+        ensures room { WantsRoom write result }
     {
         match self.tree.try_set(&mut self.hand, write) {
             Set::Taken => self.try_reshape(write, Want::Branch),
@@ -134,7 +136,8 @@ impl<'t> Worker<'t> {
 
     /// Takes a key away with or from its last node. Where that comes to nothing, from the node as it stands.
     fn try_less(&mut self, write: Write) -> Result<Written, Refusal>
-        ensures { IsWritten write self.old self.new result }
+        ensures written { IsWritten write self.old self.new result }
+        ensures room { WantsRoom write result }
     {
         match self.try_reshape(write, Want::Less) {
             Ok(written) => Ok(written),
@@ -144,7 +147,8 @@ impl<'t> Worker<'t> {
 
     /// Takes a key away.
     fn try_take(&mut self, write: Write) -> Result<Written, Refusal>
-        ensures { IsWritten write self.old self.new result }
+        ensures written { IsWritten write self.old self.new result }
+        ensures room { WantsRoom write result }
     {
         match self.tree.try_take(&mut self.hand, write) {
             Some(set) => came_of(set),
@@ -154,7 +158,8 @@ impl<'t> Worker<'t> {
 
     /// Makes a write where it is to be made, if no writer comes between.
     pub(crate) fn try_write(&mut self, write: Write) -> Result<Written, Refusal>
-        ensures { IsWritten write self.old self.new result }
+        ensures written { IsWritten write self.old self.new result }
+        ensures room { WantsRoom write result }
     {
         if write.value.is_some() {
             self.try_put(write)

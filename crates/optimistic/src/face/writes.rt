@@ -1,12 +1,13 @@
 //! Writes of a worker.
 ghost use Rattle.std.specs.Prelude.{◌≡◌, IfErr, Some};
-ghost use Rattle.optimistic.specs.face.Workers.{IsWritten};
+ghost use Rattle.optimistic.specs.face.Workers.{IsWritten, WantsRoom};
 ghost use Rattle.optimistic.specs.face.Writes.{IsInserted, IsRemoved, IsExchanged, IsFinal, came_of, outcome_of, before, exchanged, insertion, removal, exchange};
 
 use crate::face::refusal::Refusal;
 use crate::face::worker::Worker;
-use crate::tree::{Condition, Set, Write};
+use crate::tree::{ATTEMPTS, Condition, Set, Write};
 use crate::words::Uncarved;
+use std::hint::spin_loop;
 use std::sync::Wait;
 use std::thread::yield_now;
 
@@ -112,13 +113,29 @@ pub(crate) fn replacement(key: u64, old: Option<u64>, value: u64) -> Write
 }
 
 impl<'t> Worker<'t> {
+    /// Makes a write where it is to be made, or gives up where writers come between some times.
+    fn write_soon(&mut self, write: Write) -> Result<Written, Refusal>
+        ensures written { IsWritten write self.old self.new result }
+        ensures room { WantsRoom write result }
+    {
+        for _ in 0..ATTEMPTS {
+            match self.try_write(write) {
+                Err(Refusal::Again) => spin_loop(),
+                Err(refusal) => return Err(refusal),
+                Ok(written) => return Ok(written),
+            }
+        }
+        self.try_write(write)
+    }
+
     /// Makes a write where it is to be made.
     pub(crate) fn write<R: Wait>(&mut self, rt: &R, write: Write) -> Result<Written, Refusal>
         ensures written { IsWritten write self.old self.new result }
+        ensures room { WantsRoom write result }
         ensures decided { IfErr result IsFinal }
     {
         for _ in rt.forever() {
-            match self.try_write(write) {
+            match self.write_soon(write) {
                 Err(Refusal::Again) => yield_now(),
                 Err(refusal) => return Err(refusal),
                 Ok(written) => return Ok(written),

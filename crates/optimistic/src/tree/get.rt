@@ -8,10 +8,11 @@ ghost use Rattle.optimistic.specs.tree.Reads.{IsPlace, IsLook};
 ghost use Rattle.optimistic.specs.tree.Trees.{IsTree};
 
 use crate::forms::names::{key_byte, where_word};
-use crate::tree::names::{goes_on, pair_value, place_below};
+use crate::tree::names::{may_go_on, pair_value, place_below};
 use crate::tree::place::{Look, Place};
 use crate::words::{Hand, Nodes, ROOT, Shape};
 use std::alloc::{AllocError, Global};
+use std::hint::spin_loop;
 use std::sync::Wait;
 use std::thread::yield_now;
 
@@ -28,6 +29,9 @@ pub struct Tree {
     pub(crate) nodes: Nodes<Levels>,
 }
 
+/// How often a call is tried before its thread lets others run.
+pub const ATTEMPTS: u32 = 64;
+
 /// The root.
 pub const TOP: Place = Place {
     node: ROOT,
@@ -39,6 +43,7 @@ impl Tree {
     /// An empty tree, of so many words.
     pub fn new(alloc: Global, words: usize) -> Result<Tree, AllocError>
         requires { (536 ≤ words) × (words < 2 ^ 48) }
+        ensures { IfOk result (λ t. t.nodes.count ≡ words) }
     {
         let nodes = Nodes::new(alloc, words)?;
         Ok(Tree { nodes })
@@ -65,19 +70,19 @@ impl Tree {
         ensures look { IsLook key result (view hand.new) }
     {
         let version = self.nodes.load(hand, at.node, at.form, 0);
-        if version % 2 == 1 {
-            return Look::Again;
+        let byte = key_byte(key, at.level);
+        let child = self.child(hand, at, key, byte);
+        let on = may_go_on(child, key);
+        if on {
+            return Look::Down(place_below(child.first));
         }
         let found = self.read(hand, at.node, at.form, 1);
         let word = where_word(at.form, at.level, key);
         if found != word {
             return Look::Again;
         }
-        let byte = key_byte(key, at.level);
-        let child = self.child(hand, at, key, byte);
-        let on = goes_on(child, key);
-        if on {
-            return Look::Down(place_below(child.first));
+        if version % 2 == 1 {
+            return Look::Again;
         }
         let last = self.nodes.load(hand, at.node, at.form, 0);
         if last != version {
@@ -95,13 +100,31 @@ impl Tree {
         ensures mine { (view hand.new).mine ≡ (view hand.old).mine }
         ensures value { IfSome result (λ x. Keeps (view hand.old) (view hand.new) × (x ≡ value_of key (view hand.new).seen.log)) }
     {
-        let mut at = TOP;
+        let mut next = self.look(hand, TOP, key);
         for _ in 0..9 {
-            match self.look(hand, at, key) {
+            match next {
                 Look::Answer(value) => return Some(value),
-                Look::Down(next) => at = next,
+                Look::Down(at) => next = self.look(hand, at, key),
                 Look::Again => return None,
             }
+        }
+        None
+    }
+
+    /// The same, some times where a writer comes between.
+    #[inline(always)]
+    fn get_soon(&self, hand: &mut Hand, key: u64) -> Option<Option<u64>>
+        requires of { IsOf self.now.nodes.table.shared.table_id hand.old }
+        ensures of { IsOf self.now.nodes.table.shared.table_id hand.new }
+        ensures later { Later (view hand.old) (view hand.new) }
+        ensures mine { (view hand.new).mine ≡ (view hand.old).mine }
+        ensures value { IfSome result (λ x. Keeps (view hand.old) (view hand.new) × (x ≡ value_of key (view hand.new).seen.log)) }
+    {
+        for _ in 0..ATTEMPTS {
+            if let Some(value) = self.try_get(hand, key) {
+                return Some(value);
+            }
+            spin_loop();
         }
         None
     }
@@ -115,7 +138,7 @@ impl Tree {
         ensures value { result ≡ value_of key (view hand.new).seen.log }
     {
         for _ in rt.forever() {
-            if let Some(value) = self.try_get(hand, key) {
+            if let Some(value) = self.get_soon(hand, key) {
                 return value;
             }
             yield_now();

@@ -1,5 +1,5 @@
 //! What a child says of a key.
-ghost use Rattle.std.specs.Prelude.{◌≡◌, ◌≢◌, ℕ, ◌<◌, ◌≤◌, ◌%◌, true};
+ghost use Rattle.std.specs.Prelude.{◌≡◌, ◌≢◌, ℕ, ◌<◌, ◌≤◌, ◌%◌, true, false};
 ghost use Rattle.optimistic.specs.Layout.{tag_of, level_of, node_of};
 ghost use Rattle.optimistic.specs.tree.Levels.{goes_on, pair_value};
 
@@ -36,6 +36,27 @@ pub fn goes_on(child: Child, key: u64) -> bool
     }
     let word = where_word(tag, child_level(child.first), key);
     child.second == word
+}
+
+/// Whether a child may be a node that covers a key: such a one is, and others of which the keys begin with the same bytes.
+#[inline(always)]
+pub fn may_go_on(child: Child, key: u64) -> bool
+    ensures off { result ≡ false → goes_on child.first child.second key ≡ false }
+    ensures form { result ≡ true → (0 < tag_of child.first) × (tag_of child.first < 9) }
+{
+    let tag = child_tag(child.first);
+    if tag == 0 {
+        return false;
+    }
+    if tag > 8 {
+        return false;
+    }
+    let beyond = 63 - 8 * child_level(child.first);
+    let apart = ((child.second ^ key) >> 1) >> beyond;
+    if apart != 0 {
+        return false;
+    }
+    true
 }
 
 /// What a child that is no such node has for a key.
