@@ -1,5 +1,6 @@
-//! The tests of all five crates, which see of the libraries what a user sees.
+//! The tests of all crates, which see of the libraries what a user sees.
 
+mod asserts;
 mod collector;
 mod dialogue;
 mod examples;
@@ -10,3 +11,4 @@ mod program;
 mod texts;
 mod threads;
 mod trees;
+mod unlocked;

@@ -2,7 +2,7 @@
 
 use super::collector::face::limits;
 use super::machine::{
-    END, Index, begin, beginning, go as step_on, going, noise, open, registering,
+    END, Index, begin, beginning, count_of, go as step_on, going, noise, open, registering, replied,
 };
 use crate::examples::collector::put_off;
 use crate::examples::driven::{Driven, answered};
@@ -20,10 +20,11 @@ use crate::examples::promises::{answer_alike, gives_memory_back};
 use crate::examples::read_mostly::{Doubles, look, reads_beside_a_writer, writes_in_two_threads};
 use crate::examples::stack::{Node, Stack, pops, sum_of_two};
 use crate::examples::threaded::{fills_and_closes, first_calls, shared_values};
+use crate::tests::asserts::assert_same;
 use congee::{Allocator, Congee, DefaultAllocator, Limited};
 use crossbeam_epoch::{Collector, Job};
 use crossbeam_utils::sync::ShardedLock;
-use joint::{Done, Event, Kind, Limits, Op, Outcome, Ran, Refusal, Report, Step, World};
+use joint::{Done, Event, Kind, Limits, Op, Ran, Refusal, Report, Step, World};
 use judge::{Call, Entry, Reply};
 use std::alloc::{AllocError, Global};
 use std::sync::atomic::{AtomicU64, Ordering};
@@ -36,7 +37,11 @@ fn two_threads_share_a_stack(rt: HostRuntime) -> Result<(), Fail> {
     let numbers: Collector<Node, ()> = Collector::new(&rt, rt.alloc(), limits(1000), 1)?;
     let stack = Stack::new();
     // Each of 0 to 99 is pushed twice and popped twice.
-    assert_eq!(rt; sum_of_two(&rt, rt.alloc(), &numbers, &stack, 100)?, 9900);
+    assert_same(
+        &rt,
+        sum_of_two(&rt, rt.alloc(), &numbers, &stack, 100)?,
+        9900,
+    );
     assert!(rt; numbers.end().is_ok());
     Ok(())
 }
@@ -45,7 +50,7 @@ fn two_threads_share_a_stack(rt: HostRuntime) -> Result<(), Fail> {
 fn the_last_number_is_popped_first(rt: HostRuntime) -> Result<(), Fail> {
     let numbers: Collector<Node, ()> = Collector::new(&rt, rt.alloc(), limits(3), 1)?;
     let popped = pops(&rt, rt.alloc(), &numbers, [1, 2, 3])?;
-    assert_eq!(rt; popped, [Some(3), Some(2), Some(1), None]);
+    assert_same(&rt, popped, [Some(3), Some(2), Some(1), None]);
     Ok(())
 }
 
@@ -82,11 +87,8 @@ fn schedule(alloc: Global) -> Result<Vec<Step<u64>>, AllocError> {
 }
 
 /// How many reports end a call with this reply.
-fn count_of(reports: &[Report<u64>], reply: Reply<u64>) -> usize {
-    reports
-        .iter()
-        .filter(|report| report.outcome == Outcome::Done(Done::Reply(reply)))
-        .count()
+fn ends_with(reports: &[Report<u64>], reply: Reply<u64>) -> usize {
+    count_of(reports, &replied(reply))
 }
 
 #[test]
@@ -94,12 +96,12 @@ fn two_calls_in_flight_answer_as_one_map(rt: HostRuntime) -> Result<(), Fail> {
     let steps = schedule(rt.alloc())?;
     let taken = steps.len();
     let (index, ran) = runs_as_one_map(rt.alloc(), steps)?;
-    assert_eq!(rt; ran.done, taken);
-    assert_eq!(rt; count_of(&ran.reports, Reply::Insert(None)), 1);
-    assert_eq!(rt; count_of(&ran.reports, Reply::Get(None)), 1);
-    assert_eq!(rt; count_of(&ran.reports, Reply::Get(Some(70))), 1);
+    assert_same(&rt, ran.done, taken);
+    assert_same(&rt, ends_with(&ran.reports, Reply::Insert(None)), 1);
+    assert_same(&rt, ends_with(&ran.reports, Reply::Get(None)), 1);
+    assert_same(&rt, ends_with(&ran.reports, Reply::Get(Some(70))), 1);
     // The root of 256 places and a leaf of 4.
-    assert_eq!(rt; index.charged(), 2104 + 64);
+    assert_same(&rt, index.charged(), 2104 + 64);
     Ok(())
 }
 
@@ -109,9 +111,9 @@ fn an_index_that_is_closed_leaves_the_charge(rt: HostRuntime) -> Result<(), Fail
     allocator.allocate(500)?;
     let none = Vec::new(rt.alloc());
     let allocator = runs_and_closes(rt.alloc(), allocator, none)?;
-    assert_eq!(rt; (allocator.charged(), allocator.limit()), (500, 10_000));
+    assert_same(&rt, (allocator.charged(), allocator.limit()), (500, 10_000));
     let refused = runs_and_closes(rt.alloc(), allocator, schedule(rt.alloc())?);
-    assert_eq!(rt; refused.err(), Some(Refusal::WorkersLeft(2)));
+    assert_same(&rt, refused.err(), Some(Refusal::WorkersLeft(2)));
     Ok(())
 }
 
@@ -122,15 +124,16 @@ fn filled(alloc: Global) -> Result<Vec<Step<u64>>, Fail> {
     let mut steps = Vec::new(alloc);
     index.step(registering());
     steps.push(registering())?;
-    for op in [
+    let ops = [
         Op::Pin,
         Op::Insert(7, 70),
         Op::Insert(3, 30),
         Op::Unpin,
         Op::Release,
-    ] {
-        record(&mut index, &mut steps, op)?;
-    }
+    ];
+    let recorded = record_all(&mut index, &mut steps, &ops);
+    drop(index);
+    recorded?;
     Ok(steps)
 }
 
@@ -142,18 +145,18 @@ fn a_close_drains_what_stands(rt: HostRuntime) -> Result<(), Fail> {
     };
     let steps = filled(rt.alloc())?;
     let Drained { ran, drainer } = drains_what_stands(rt.alloc(), steps, sum)?;
-    assert_eq!(rt; (drainer.of_values, drainer.last_key), (100, Some(7)));
-    assert_eq!(rt; count_of(&ran.reports, Reply::Insert(None)), 2);
+    assert_same(&rt, (drainer.of_values, drainer.last_key), (100, Some(7)));
+    assert_same(&rt, ends_with(&ran.reports, Reply::Insert(None)), 2);
     Ok(())
 }
 
 #[test]
 fn a_worker_reads_what_it_put(rt: HostRuntime) -> Result<(), Fail> {
     let mut index = open(rt.alloc(), 1, 100)?;
-    assert_eq!(rt; reads_what_it_put(&mut index, 0, 7, 70), None);
+    assert_same(&rt, reads_what_it_put(&mut index, 0, 7, 70), None);
     index.call(0, Op::Pin, 100, &mut []);
-    assert_eq!(rt; reads_what_it_put(&mut index, 0, 7, 70), Some(Some(70)));
-    assert_eq!(rt; reads_what_it_put(&mut index, 0, 7, 71), Some(Some(71)));
+    assert_same(&rt, reads_what_it_put(&mut index, 0, 7, 70), Some(Some(70)));
+    assert_same(&rt, reads_what_it_put(&mut index, 0, 7, 71), Some(Some(71)));
     Ok(())
 }
 
@@ -162,7 +165,7 @@ fn an_index_for_threads_that_is_closed_leaves_the_charge(rt: HostRuntime) -> Res
     let mut allocator = Limited::new(10_000);
     allocator.allocate(500)?;
     let allocator = fills_and_closes(&rt, rt.alloc(), allocator)?;
-    assert_eq!(rt; (allocator.charged(), allocator.limit()), (500, 10_000));
+    assert_same(&rt, (allocator.charged(), allocator.limit()), (500, 10_000));
     Ok(())
 }
 
@@ -194,24 +197,43 @@ fn record(index: &mut Index, steps: &mut Vec<Step<u64>>, op: Op<u64>) -> Result<
     Ok(())
 }
 
-/// Two workers come, and one of them fills a leaf until it is exchanged for a greater one. Behind each insertion it goes so
-/// many rounds, and so many in the end.
-fn grown(alloc: Global, between: u32, behind: u32) -> Result<Vec<Step<u64>>, Fail> {
-    let mut index = open(alloc, 2, 1000)?;
-    let mut steps = Vec::new(alloc);
-    for _ in 0..2 {
-        steps.push(registering())?;
+/// Those of several calls.
+fn record_all(
+    index: &mut Index,
+    steps: &mut Vec<Step<u64>>,
+    ops: &[Op<u64>],
+) -> Result<(), AllocError> {
+    for op in ops {
+        record(index, steps, *op)?;
     }
+    Ok(())
+}
+
+/// A worker fills a leaf until it is exchanged for a greater one. Behind each insertion it goes so many rounds, and so many in
+/// the end.
+fn grow(
+    index: &mut Index,
+    steps: &mut Vec<Step<u64>>,
+    between: u32,
+    behind: u32,
+) -> Result<(), AllocError> {
     for key in 1..6 {
-        for op in [Op::Pin, Op::Insert(key, key), Op::Get(key), Op::Unpin] {
-            record(&mut index, &mut steps, op)?;
-        }
+        let ops = [Op::Pin, Op::Insert(key, key), Op::Get(key), Op::Unpin];
+        record_all(index, steps, &ops)?;
         for _ in 0..if key < 5 { between } else { behind } {
-            for op in [Op::Pin, Op::Flush, Op::Unpin] {
-                record(&mut index, &mut steps, op)?;
-            }
+            record_all(index, steps, &[Op::Pin, Op::Flush, Op::Unpin])?;
         }
     }
+    Ok(())
+}
+
+/// Two workers come, and one of them fills a leaf, with so many rounds.
+fn grown(alloc: Global, between: u32, behind: u32) -> Result<Vec<Step<u64>>, Fail> {
+    let mut steps = vec![in alloc; registering(), registering()]?;
+    let mut index = open(alloc, 2, 1000)?;
+    let recorded = grow(&mut index, &mut steps, between, behind);
+    drop(index);
+    recorded?;
     Ok(steps)
 }
 
@@ -219,7 +241,11 @@ fn grown(alloc: Global, between: u32, behind: u32) -> Result<Vec<Step<u64>>, Fai
 fn a_removed_node_waits_without_rounds(rt: HostRuntime) -> Result<(), Fail> {
     let steps = grown(rt.alloc(), 0, 0)?;
     let (index, _) = gives_memory_back(rt.alloc(), Limits::usual(2, 1000), steps)?;
-    assert_eq!(rt; (index.waiting(), index.charged()), (1, 2104 + 64 + 168));
+    assert_same(
+        &rt,
+        (index.waiting(), index.charged()),
+        (1, 2104 + 64 + 168),
+    );
     Ok(())
 }
 
@@ -227,7 +253,7 @@ fn a_removed_node_waits_without_rounds(rt: HostRuntime) -> Result<(), Fail> {
 fn rounds_give_memory_back(rt: HostRuntime) -> Result<(), Fail> {
     let steps = grown(rt.alloc(), 0, 3)?;
     let (index, _) = gives_memory_back(rt.alloc(), Limits::usual(2, 1000), steps)?;
-    assert_eq!(rt; (index.waiting(), index.charged()), (0, 2104 + 168));
+    assert_same(&rt, (index.waiting(), index.charged()), (0, 2104 + 168));
     Ok(())
 }
 
@@ -254,7 +280,7 @@ fn rounds_between_steps_are_unseen(rt: HostRuntime) -> Result<(), Fail> {
 
 #[test]
 fn the_first_calls_find_what_was_put(rt: HostRuntime) -> Result<(), Fail> {
-    assert_eq!(rt; first_calls(&rt, rt.alloc())?, (Some(42), 1));
+    assert_same(&rt, first_calls(&rt, rt.alloc())?, (Some(42), 1));
     Ok(())
 }
 
@@ -278,10 +304,10 @@ fn calls_are_driven_on_an_index_of_ones_own(rt: HostRuntime) -> Result<(), Fail>
             |value| Some(value?.wrapping_add(4)),
             &mut found,
         );
-        assert_eq!(rt; told, Ok(done), "{op:?}");
+        assert_same(&rt, (op, told), (op, Ok(done)));
         index = driven.into_index();
     }
-    assert_eq!(rt; found, [(7, 5), (0, 0)]);
+    assert_same(&rt, found, [(7, 5), (0, 0)]);
     Ok(())
 }
 
@@ -309,14 +335,14 @@ fn a_lie_is_found(rt: HostRuntime) -> Result<(), Fail> {
     store.put(0, 7, 70)?;
     store.get(1, 7)?;
     store.put(1, 7, 71)?;
-    assert_eq!(rt; is_honest(rt.alloc(), store.journal.as_slice())?, true);
+    assert_same(&rt, is_honest(rt.alloc(), store.journal.as_slice())?, true);
     // What another one wrote down, that it still found the first number.
     store.journal.push(Entry {
         worker: 2,
         call: Call::Get(7),
         reply: Reply::Get(Some(70)),
     })?;
-    assert_eq!(rt; is_honest(rt.alloc(), store.journal.as_slice())?, false);
+    assert_same(&rt, is_honest(rt.alloc(), store.journal.as_slice())?, false);
     Ok(())
 }
 
@@ -335,11 +361,11 @@ fn a_tree_is_read_by_pages_and_drained(rt: HostRuntime) -> Result<(), Fail> {
         tree.insert(key * 1_000, key)?;
     }
     let mut page = [(0, 0); 3];
-    assert_eq!(rt; page_from(&tree, 38_001, &mut page), 1);
-    assert_eq!(rt; page[0], (39_000, 39));
-    assert_eq!(rt; sum_by_pages(&tree), 780);
+    assert_same(&rt, page_from(&tree, 38_001, &mut page), 1);
+    assert_same(&rt, page[0], (39_000, 39));
+    assert_same(&rt, sum_by_pages(&tree), 780);
     let sum = drained(tree);
-    assert_eq!(rt; (sum.of_values, sum.last_key), (780, Some(39_000)));
+    assert_same(&rt, (sum.of_values, sum.last_key), (780, Some(39_000)));
     Ok(())
 }
 
@@ -359,7 +385,7 @@ fn what_was_put_off_is_called(rt: HostRuntime) -> Result<(), Fail> {
     assert!(rt; called.load(Ordering::SeqCst) >= 1);
     assert!(rt; handle.release(&rt).is_ok());
     assert!(rt; collector.end().is_ok());
-    assert_eq!(rt; called.load(Ordering::SeqCst), 5);
+    assert_same(&rt, called.load(Ordering::SeqCst), 5);
     Ok(())
 }
 
@@ -369,7 +395,7 @@ fn what_is_called_is_older_than_a_guard(rt: HostRuntime) -> Result<(), Fail> {
     let mut handle = collector.register(&rt)?;
     // It is sealed with 0, and the epoch goes on to 1. The guard takes that, and the collection beside it goes on to 2.
     put_off(&rt, &mut handle, ())?;
-    assert_eq!(rt; collects_beside_a_guard(&rt, &collector)?, (Some(0), 1));
+    assert_same(&rt, collects_beside_a_guard(&rt, &collector)?, (Some(0), 1));
     Ok(())
 }
 
@@ -381,7 +407,7 @@ fn a_tree_under_a_sharded_lock_is_read_beside_a_writer(rt: HostRuntime) -> Resul
     let (one, two) = reads_beside_a_writer(&rt, &shared, 300)?;
     assert!(rt; one.doubled && two.doubled);
     let seen = look(&rt, &shared, 2, 301);
-    assert_eq!(rt; (seen.stood, seen.doubled), (300, true));
+    assert_same(&rt, (seen.stood, seen.doubled), (300, true));
     Ok(())
 }
 
@@ -392,6 +418,6 @@ fn a_tree_under_a_mutex_is_written_by_two(rt: HostRuntime) -> Result<(), Fail> {
     let shared = Mutex::new(doubles);
     writes_in_two_threads(&rt, &shared, 150)?;
     let doubles = shared.lock(&rt);
-    assert_eq!(rt; (doubles.len(), doubles.get(&299)), (300, Some(598)));
+    assert_same(&rt, (doubles.len(), doubles.get(&299)), (300, Some(598)));
     Ok(())
 }

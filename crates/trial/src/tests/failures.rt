@@ -1,6 +1,7 @@
 //! `joint`: calls that find no memory once.
 
 use super::machine::{Index, call, is_done, open, replied};
+use crate::tests::asserts::assert_same;
 use joint::{Op, Outcome, Refusal};
 use judge::{Call, Reply};
 use std::alloc::Global;
@@ -62,15 +63,19 @@ fn a_call_that_finds_no_memory_changes_nothing(rt: HostRuntime) -> Result<(), Fa
     let mut index = opened(rt.alloc())?;
     assert!(rt; is_done(&mut index, 0, Op::Pin));
     for (made, reply) in CALLS {
-        assert!(rt; ends_with(&mut index, made, reply), "{made:?}");
+        assert_same(
+            &rt,
+            (made, ends_with(&mut index, made, reply)),
+            (made, true),
+        );
     }
     // The root and a leaf of 16; a leaf of 4 grew, and two went with their last values, each with the node above.
-    assert_eq!(rt; state(&index), (2104 + 168 + 5 * 64, 5, 5 * 64));
+    assert_same(&rt, state(&index), (2104 + 168 + 5 * 64, 5, 5 * 64));
     for _ in 0..3 {
         assert!(rt; is_flushed(&mut index));
         assert!(rt; is_done(&mut index, 0, Op::Unpin));
         assert!(rt; is_done(&mut index, 0, Op::Pin));
     }
-    assert_eq!(rt; state(&index), (2104 + 168, 0, 0));
+    assert_same(&rt, state(&index), (2104 + 168, 0, 0));
     Ok(())
 }

@@ -159,6 +159,17 @@ pub fn are_rounds_done(index: &mut Index, worker: u32, rounds: u32) -> bool {
     true
 }
 
+/// How many reports tell that a call stands so.
+pub fn count_of(reports: &[Report<u64>], outcome: &Outcome<u64>) -> usize {
+    let mut count = 0usize;
+    for report in reports {
+        if report.outcome == *outcome {
+            count = count.saturating_add(1);
+        }
+    }
+    count
+}
+
 /// How a call on a key ends with this reply.
 pub fn replied(reply: Reply<u64>) -> Outcome<u64> {
     Outcome::Done(Done::Reply(reply))

@@ -2,6 +2,7 @@
 
 use super::face::{Item, ItemGuard, boxed, destroys_at_once, limits, number_of, spend};
 use super::threads::leaves;
+use crate::tests::asserts::assert_same;
 use crossbeam_epoch::{Atomic, Collector, Exchanged, Fault, Link, Shared};
 use std::alloc::Global;
 use std::process::Abort;
@@ -431,7 +432,7 @@ impl<'a, R: Wait> Rows<'a, '_, R> {
         let made = self
             .root
             .fetch_update(rt, SeqCst, SeqCst, guard, |pointer| match ask {
-                Update(tag) => tag.map(|tag| pointer.with_tag(tag)),
+                Update(Some(tag)) => Some(pointer.with_tag(tag)),
                 UpdateTo(to) => Some(Shared::of(kept.link(to))),
                 _ => None,
             });
@@ -546,9 +547,9 @@ fn each_row_is_told(rt: HostRuntime) -> Result<(), Fail> {
             two: Link::null(),
         };
         let first = wrong(&rt, rt.alloc(), &items, &root, here, &mut kept)?;
-        assert_eq!(rt; first, None, "{name}");
+        assert_same(&rt, (name, first), (name, None));
         let second = wrong(&rt, rt.alloc(), &others, &root, there, &mut kept)?;
-        assert_eq!(rt; second, None, "{name}");
+        assert_same(&rt, (name, second), (name, None));
     }
     Ok(())
 }

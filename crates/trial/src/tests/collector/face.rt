@@ -1,6 +1,7 @@
 //! The face for threads: handles, guards, and values without pointers. `atomics` has the rows of pointers.
 
 use super::machine::adds;
+use crate::tests::asserts::assert_same;
 use crossbeam_epoch::{
     Atomic, Collector, CompareAndSetOrdering, Fault, Guard, Job, Limits, Link, LocalHandle, Owned,
     Pointable, Shared, unprotected,
@@ -66,7 +67,7 @@ fn guards_nest_and_move(rt: HostRuntime) -> Result<(), Fail> {
 #[test]
 fn a_full_store_hands_back_and_a_read_value_stays(rt: HostRuntime) -> Result<(), Fail> {
     let items: Collector<Item> = Collector::new(&rt, rt.alloc(), limits(1), 1)?;
-    assert_eq!(rt; tries_one_cell(&rt, rt.alloc(), &items)?, (true, true));
+    assert_same(&rt, tries_one_cell(&rt, rt.alloc(), &items)?, (true, true));
     Ok(())
 }
 
@@ -121,6 +122,14 @@ pub fn boxed(alloc: Global, number: u64) -> Result<Owned<Item>, Fault> {
 /// The number of a value that was taken out.
 pub fn number_of(owned: Option<Owned<Item>>) -> Option<u64> {
     Some(owned?.into_box().0)
+}
+
+/// Its tag.
+fn tag_of(owned: Option<Owned<Item>>) -> Option<usize> {
+    match owned {
+        Some(owned) => Some(owned.tag()),
+        None => None,
+    }
 }
 
 /// The pointer before a swap.
@@ -236,9 +245,7 @@ impl<'a, R: Wait + Abort> Under<'a, '_, R> {
             Err((fault, _owned)) => return Err(fault),
         };
         let second = self.refused_value(boxed(self.alloc, 2)?);
-        let tag = first
-            .into_owned(self.rt, self.guard)
-            .map(|owned| owned.tag());
+        let tag = tag_of(first.into_owned(self.rt, self.guard));
         Ok(tag == Some(2) && self.finds_room(second))
     }
 
@@ -328,7 +335,7 @@ fn handles_refuse(rt: HostRuntime) -> Result<(), Fail> {
     let two_places = limits;
     limits.expiry = 1;
     let refused: Result<Collector<Item>, Fault> = Collector::new(&rt, rt.alloc(), limits, 1);
-    assert_eq!(rt; refused.err(), Some(Fault::Limits));
+    assert_same(&rt, refused.err(), Some(Fault::Limits));
     let items: Collector<Item> = Collector::new(&rt, rt.alloc(), two_places, 1)?;
     assert!(rt; two_handles_refuse(&rt, &items)?);
     Ok(())
@@ -395,7 +402,7 @@ fn a_failure_loads_as_strongly_as_it_may(rt: HostRuntime) {
 fn a_participant_is_unpinned_while_a_repin_waits(rt: HostRuntime) -> Result<(), Fail> {
     let items: Collector<Item> = Collector::new(&rt, rt.alloc(), limits(1), 1)?;
     let epochs = goes_on_meanwhile(&rt, &items)?;
-    assert_eq!(rt; epochs, (0, 2));
+    assert_same(&rt, epochs, (0, 2));
     Ok(())
 }
 
@@ -428,7 +435,7 @@ fn a_refused_end_keeps_the_jobs(rt: HostRuntime) -> Result<(), Fail> {
     };
     let before = sum.load(SeqCst);
     rounds(&rt, &mut back.register(&rt)?, 3)?;
-    assert_eq!(rt; (before, sum.load(SeqCst)), (0, 1));
+    assert_same(&rt, (before, sum.load(SeqCst)), (0, 1));
     Ok(())
 }
 
@@ -449,7 +456,7 @@ fn a_handle_keeps_its_collector(rt: HostRuntime) -> Result<(), Fail> {
     let Err((fault, back)) = items.end() else {
         panic!(rt; "a handle is registered");
     };
-    assert_eq!(rt; (fault, back.id()), (Fault::Registered(1), 2));
+    assert_same(&rt, (fault, back.id()), (Fault::Registered(1), 2));
     Ok(())
 }
 
@@ -478,7 +485,7 @@ fn a_pinned_handle_blocks(rt: HostRuntime) -> Result<(), Fail> {
     let job = adds(rt.alloc(), &sum, 1)?;
     let items: Collector<Item> = Collector::new(&rt, rt.alloc(), limits(1), 1)?;
     let before = goes_while_blocked(&rt, &items, job, &sum)?;
-    assert_eq!(rt; (before, sum.load(SeqCst)), (0, 1));
+    assert_same(&rt, (before, sum.load(SeqCst)), (0, 1));
     Ok(())
 }
 

@@ -1,5 +1,6 @@
 //! Dialogues with the collector, worked out by hand: calls in order, and how each is answered.
 
+use crate::tests::asserts::assert_same;
 use crate::tests::dialogue::{Asked, told, wrong_turn};
 use crate::tests::texts::{array, named};
 use crossbeam_epoch::{
@@ -44,7 +45,7 @@ fn limits_have_bounds(rt: HostRuntime) {
             epoch_max,
             expiry,
         };
-        assert_eq!(rt; limits.is_within(), expected, "{limits:?}");
+        assert_same(&rt, (limits, limits.is_within()), (limits, expected));
     }
 }
 
@@ -122,22 +123,32 @@ const WORKED: [&str; 10] = [
      rounds 0 1 = Done; epoch = 3; pin 0 = Done; defer 0 1 = Ok(()); unpin 0 = Done; rounds 0 10 = Done; epoch = 3; waiting = 1",
 ];
 
+/// The limits of a text, by their numbers.
+fn limits_of(text: &str) -> Result<Limits, Fail> {
+    let [participants, cells, turn_max, epoch_max, expiry] = array::<5>(text)?;
+    Ok(Limits {
+        participants: u32::try_from(participants)?,
+        cells: u32::try_from(cells)?,
+        turn_max: u32::try_from(turn_max)?,
+        epoch_max,
+        expiry,
+    })
+}
+
+/// The first turn that a new collector answers otherwise.
+fn wrong(alloc: Global, text: &'static str) -> Result<Option<&'static str>, Fail> {
+    let (limits, dialogue) = text.split_once(';').ok_or("no limits")?;
+    let mut world: Jobs = World::new(alloc, limits_of(limits)?, 1)?;
+    let turn = wrong_turn(alloc, &mut world, dialogue);
+    drop(world);
+    turn
+}
+
 #[test]
 fn the_collector_answers_as_worked_out(rt: HostRuntime) -> Result<(), Fail> {
     for worked in WORKED {
         let (name, text) = named(worked)?;
-        let (limits, dialogue) = text.split_once(';').ok_or("no limits")?;
-        let [participants, cells, turn_max, epoch_max, expiry] = array::<5>(limits)?;
-        let limits = Limits {
-            cells: u32::try_from(cells)?,
-            turn_max: u32::try_from(turn_max)?,
-            epoch_max,
-            expiry,
-            ..ample(u32::try_from(participants)?)
-        };
-        let mut world: Jobs = World::new(rt.alloc(), limits, 1)?;
-        let wrong = wrong_turn(rt.alloc(), &mut world, dialogue)?;
-        assert_eq!(rt; wrong, None, "{name}");
+        assert_same(&rt, (name, wrong(rt.alloc(), text)?), (name, None));
     }
     Ok(())
 }
@@ -279,8 +290,8 @@ fn jobs(alloc: Global) -> Result<Jobs, Fault> {
 #[test]
 fn the_first_bag_of_a_block_alone_asks_for_memory(rt: HostRuntime) -> Result<(), Fail> {
     let mut world = jobs(rt.alloc())?;
-    assert_eq!(rt; world.register(), Ok(0));
-    assert_eq!(rt; call(&mut world, 0, Op::Pin), Outcome::Done);
+    assert_same(&rt, world.register(), Ok(0));
+    assert_same(&rt, call(&mut world, 0, Op::Pin), Outcome::Done);
     assert!(rt; !refuses_later_bags(&mut world));
     Ok(())
 }
@@ -327,10 +338,10 @@ fn jobs_that_find_no_memory_are_put_off_then(rt: HostRuntime) -> Result<(), Fail
         [2177, 2177, 1665, 1153, 641, 129, 0].as_slice(),
     ] {
         let mut world = jobs(rt.alloc())?;
-        assert_eq!(rt; world.register(), Ok(0));
-        assert_eq!(rt; call(&mut world, 0, Op::Pin), Outcome::Done);
+        assert_same(&rt, world.register(), Ok(0));
+        assert_same(&rt, call(&mut world, 0, Op::Pin), Outcome::Done);
         assert!(rt; are_deferred(&mut world, left[0]));
-        assert_eq!(rt; call(&mut world, 0, Op::Unpin), Outcome::Done);
+        assert_same(&rt, call(&mut world, 0, Op::Unpin), Outcome::Done);
         assert!(rt; are_left(&mut world, left));
     }
     Ok(())
@@ -350,15 +361,15 @@ fn a_run_takes_every_step(rt: HostRuntime) -> Result<(), Fail> {
         event: Event::Go,
     };
     let ran = world.run(rt.alloc(), &[pin, go, go, go, go, go, go, go]);
-    assert_eq!(rt; (ran.done, ran.reports.len()), (8, 8));
+    assert_same(&rt, (ran.done, ran.reports.len()), (8, 8));
     for (number, report) in ran.reports.iter().enumerate() {
         let expected = match number {
             0..=5 => Outcome::Running,
             6 => Outcome::Done,
             _ => Outcome::Refused(Fault::Idle),
         };
-        assert_eq!(rt; report.outcome, expected, "at {number}");
-        assert!(rt; report.called.is_none(), "at {number}");
+        assert_same(&rt, (number, report.outcome), (number, expected));
+        assert_same(&rt, (number, report.called.is_none()), (number, true));
     }
     assert!(rt; world.epoch() == 1 && world.is_pinned(0));
     Ok(())
@@ -376,7 +387,7 @@ fn end<J: Task>(world: World<Plain, J>) -> Result<u64, (Fault, bool)> {
 fn the_end_waits_for_everybody(rt: HostRuntime) -> Result<(), Fail> {
     let mut world: Jobs = World::new(rt.alloc(), ample(1), 1)?;
     world.register()?;
-    assert_eq!(rt; end(world), Err((Fault::Registered(1), true)));
+    assert_same(&rt, end(world), Err((Fault::Registered(1), true)));
     Ok(())
 }
 
@@ -415,7 +426,7 @@ fn a_job_runs_its_box(rt: HostRuntime) -> Result<(), Fail> {
     for _ in 0..4 {
         calls(&mut world, &[Op::Flush, Op::Unpin, Op::Pin]);
     }
-    assert_eq!(rt; (world.waiting(), sum.load(Ordering::SeqCst)), (0, 1));
+    assert_same(&rt, (world.waiting(), sum.load(Ordering::SeqCst)), (0, 1));
     Ok(())
 }
 
@@ -427,8 +438,8 @@ fn the_end_calls_what_is_left(rt: HostRuntime) -> Result<(), Fail> {
     calls(&mut world, &[Op::Pin]);
     assert!(rt; world.defer(0, job).is_ok());
     calls(&mut world, &[Op::Unpin]);
-    assert_eq!(rt; world.release(0), Outcome::Done);
-    assert_eq!(rt; end(world), Ok(1));
-    assert_eq!(rt; sum.load(Ordering::SeqCst), 1);
+    assert_same(&rt, world.release(0), Outcome::Done);
+    assert_same(&rt, end(world), Ok(1));
+    assert_same(&rt, sum.load(Ordering::SeqCst), 1);
     Ok(())
 }

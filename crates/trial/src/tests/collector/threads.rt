@@ -4,6 +4,7 @@ use super::face::{
     Handle, Item, ItemGuard, Under, defer, destroy, limits, rounds, seals, spend, swapped,
 };
 use super::machine::adds;
+use crate::tests::asserts::assert_same;
 use crate::tests::threads::threaded::comes;
 use crossbeam_epoch::{Atomic, Collector, Fault, Job, Link, Pointable};
 use std::alloc::{AllocError, Global};
@@ -196,7 +197,7 @@ fn fills_all<R: Wait + Abort>(
 #[test]
 fn two_pinned_at_once(rt: HostRuntime) -> Result<(), Fail> {
     let items: Collector<Item> = Collector::new(&rt, rt.alloc(), limits(1), 1)?;
-    assert_eq!(rt; pins_in_two_threads(&rt, &items)?, (true, true));
+    assert_same(&rt, pins_in_two_threads(&rt, &items)?, (true, true));
     Ok(())
 }
 

@@ -1,5 +1,6 @@
 //! Indexes that keep a journal: rows of calls, what is told of calls in flight, and the test of what was written down.
 
+use crate::tests::asserts::assert_same;
 use congee::{DefaultAllocator, Noise};
 use joint::{Done, Event, Limits, Op, Outcome, Refusal, Report, Step, World};
 use judge::{Call, Entry, Reply, Verdict, check};
@@ -71,17 +72,17 @@ fn refusal_of(alloc: Global, places: u64) -> Option<Refusal> {
 fn a_journal_is_full(rt: HostRuntime) -> Result<(), Fail> {
     let mut index = open(rt.alloc(), 1)?;
     let none = Some((Outcome::Done(Done::Reply(Reply::Insert(None))), false));
-    assert_eq!(rt; end(&mut index, 0, Op::Insert(1, 1)), none);
+    assert_same(&rt, end(&mut index, 0, Op::Insert(1, 1)), none);
     let full = Some((Outcome::Refused(Refusal::JournalFull), false));
-    assert_eq!(rt; end(&mut index, 0, Op::Insert(2, 2)), full);
+    assert_same(&rt, end(&mut index, 0, Op::Insert(2, 2)), full);
     let some = Some((Outcome::Done(Done::Reply(Reply::Get(Some(1)))), false));
-    assert_eq!(rt; end(&mut index, 0, Op::Get(1)), some);
+    assert_same(&rt, end(&mut index, 0, Op::Get(1)), some);
     let entry = Entry {
         worker: 0,
         call: Call::Insert(1, 1),
         reply: Reply::Insert(None),
     };
-    assert_eq!(rt; index.journal(), [entry].as_slice());
+    assert_same(&rt, index.journal(), [entry].as_slice());
     Ok(())
 }
 
@@ -93,19 +94,20 @@ fn a_reserved_place_is_kept_from_look_ups_and_comes_free(rt: HostRuntime) -> Res
     go(&mut index, 0, None);
     let some = Reply::Get(Some(1));
     let unkept = Some((Outcome::Done(Done::Reply(some)), false));
-    assert_eq!(rt; end(&mut index, 1, Op::Get(1)), unkept);
-    assert_eq!(rt; go_on(&mut index, 0), Outcome::Asks(Some(1)));
-    assert_eq!(rt; index.in_flight(0), Some((Op::ComputePresent(1), None)));
+    assert_same(&rt, end(&mut index, 1, Op::Get(1)), unkept);
+    assert_same(&rt, go_on(&mut index, 0), Outcome::Asks(Some(1)));
+    assert_same(&rt, index.in_flight(0), Some((Op::ComputePresent(1), None)));
     go(&mut index, 0, Some(None));
-    assert_eq!(rt;
+    assert_same(
+        &rt,
         index.in_flight(0),
-        Some((Op::ComputePresent(1), Some(None)))
+        Some((Op::ComputePresent(1), Some(None))),
     );
-    assert_eq!(rt; index.in_flight(1), None);
+    assert_same(&rt, index.in_flight(1), None);
     go_on(&mut index, 0);
-    assert_eq!(rt; index.in_flight(0), None);
-    assert_eq!(rt; index.journal().len(), 2);
-    assert_eq!(rt; check(rt.alloc(), index.journal())?, Verdict::Legal);
+    assert_same(&rt, index.in_flight(0), None);
+    assert_same(&rt, index.journal().len(), 2);
+    assert_same(&rt, check(rt.alloc(), index.journal())?, Verdict::Legal);
     Ok(())
 }
 
@@ -116,34 +118,34 @@ fn a_closure_that_is_asked_again_is_written_down_with_its_last_answer(
     let mut index = open(rt.alloc(), 9)?;
     end(&mut index, 0, Op::Insert(1, 42));
     begin(&mut index, 0, Op::ComputePresent(1));
-    assert_eq!(rt; go_on(&mut index, 0), Outcome::Asks(Some(42)));
+    assert_same(&rt, go_on(&mut index, 0), Outcome::Asks(Some(42)));
     go(&mut index, 0, Some(Some(5)));
     // The leaf isn't locked.
     goes(&mut index, 0, true, None);
-    assert_eq!(rt; go_on(&mut index, 0), Outcome::Asks(Some(42)));
+    assert_same(&rt, go_on(&mut index, 0), Outcome::Asks(Some(42)));
     go(&mut index, 0, Some(Some(6)));
     let reply = Reply::ComputePresent(Some((42, Some(6))));
-    assert_eq!(rt; go_on(&mut index, 0), Outcome::Done(Done::Reply(reply)));
+    assert_same(&rt, go_on(&mut index, 0), Outcome::Done(Done::Reply(reply)));
     let found = Outcome::Done(Done::Reply(Reply::Get(Some(6))));
-    assert_eq!(rt; end(&mut index, 0, Op::Get(1)), Some((found, true)));
+    assert_same(&rt, end(&mut index, 0, Op::Get(1)), Some((found, true)));
     let entry = Entry {
         worker: 0,
         call: Call::ComputePresent(1, Some(6)),
         reply,
     };
-    assert_eq!(rt; index.journal().get(1), Some(&entry));
+    assert_same(&rt, index.journal().get(1), Some(&entry));
     Ok(())
 }
 
 #[test]
 fn a_journal_has_its_places(rt: HostRuntime) -> Result<(), Fail> {
     for places in [0, 4_294_967_296] {
-        assert_eq!(rt; refusal_of(rt.alloc(), places), Some(Refusal::Limits));
+        assert_same(&rt, refusal_of(rt.alloc(), places), Some(Refusal::Limits));
     }
     let mut index = open(rt.alloc(), 3)?;
     for key in 0..3 {
         assert!(rt; end(&mut index, 0, Op::Get(key)).is_some());
     }
-    assert_eq!(rt; index.journal().len(), 3);
+    assert_same(&rt, index.journal().len(), 3);
     Ok(())
 }

@@ -1,4 +1,5 @@
 //! What no clause says: worked journals, and each public call once with ample memory.
+use crate::tests::asserts::assert_same;
 use crate::tests::machine::entry;
 use joint::audit;
 use judge::{ArcPayload, Call, Entry, Payload, Reply, Verdict, Word64, check, number_of, word_of};
@@ -37,20 +38,20 @@ fn finds_the_first_wrong_place(rt: HostRuntime) -> Result<(), Fail> {
         entry(Call::Get(1), Reply::Get(Some(2))),
         entry(Call::Get(1), Reply::Get(None)),
     ];
-    assert_eq!(rt; check(rt.alloc(), &journal)?, Verdict::Wrong(2));
-    assert_eq!(rt; check(rt.alloc(), &journal[..2])?, Verdict::Legal);
-    assert_eq!(rt; check(rt.alloc(), &[])?, Verdict::Legal);
+    assert_same(&rt, check(rt.alloc(), &journal)?, Verdict::Wrong(2));
+    assert_same(&rt, check(rt.alloc(), &journal[..2])?, Verdict::Legal);
+    assert_same(&rt, check(rt.alloc(), &[])?, Verdict::Legal);
     Ok(())
 }
 
 #[test]
 fn accepts_each_case_and_takes_no_reply_for_another(rt: HostRuntime) -> Result<(), Fail> {
     let mut journal = each_case();
-    assert_eq!(rt; check(rt.alloc(), &journal)?, Verdict::Legal);
+    assert_same(&rt, check(rt.alloc(), &journal)?, Verdict::Legal);
     journal[6].reply = Reply::Exchange(Err(Some(5)));
-    assert_eq!(rt; check(rt.alloc(), &journal)?, Verdict::Wrong(6));
+    assert_same(&rt, check(rt.alloc(), &journal)?, Verdict::Wrong(6));
     journal[0].reply = Reply::Insert(None);
-    assert_eq!(rt; check(rt.alloc(), &journal)?, Verdict::Wrong(0));
+    assert_same(&rt, check(rt.alloc(), &journal)?, Verdict::Wrong(0));
     Ok(())
 }
 
@@ -67,24 +68,24 @@ fn there_and_back<W: Word64>(value: &W) -> W {
 
 #[test]
 fn copies_payloads(rt: HostRuntime) -> Result<(), Fail> {
-    assert_eq!(rt; copied(&42u64), Some((42, true)));
-    assert_eq!(rt; 42u64.same(&41), false);
+    assert_same(&rt, copied(&42u64), Some((42, true)));
+    assert_same(&rt, 42u64.same(&41), false);
 
     let shared = ArcPayload::new(Arc::new(rt.alloc(), 42u64)?);
     let (copied, same) = copied(&shared).ok_or("no copy")?;
     assert!(rt; !same);
-    assert_eq!(rt; *copied.into_arc(), 42);
-    assert_eq!(rt; *shared.into_arc(), 42);
+    assert_same(&rt, *copied.into_arc(), 42);
+    assert_same(&rt, *shared.into_arc(), 42);
     Ok(())
 }
 
 #[test]
 fn words_come_back(rt: HostRuntime) {
     for word in [0, 42, u64::MAX] {
-        assert_eq!(rt; there_and_back(&word), word);
-        assert_eq!(rt; word_of::<u64>(number_of(&Some(word))), Some(word));
+        assert_same(&rt, there_and_back(&word), word);
+        assert_same(&rt, word_of::<u64>(number_of(&Some(word))), Some(word));
     }
-    assert_eq!(rt; word_of::<u64>(number_of::<u64>(&None)), None);
+    assert_same(&rt, word_of::<u64>(number_of::<u64>(&None)), None);
 }
 
 // The entry of a look-up that finds nothing.

@@ -420,15 +420,23 @@ fn push_standing(alloc: Global, text: &mut String, standing: Standing) -> Result
     }
 }
 
+/// What the turns of a table's line tell.
+fn told_by(alloc: Global, text: &str) -> Result<String, Fail> {
+    let mut bench = Bench::of(alloc, part(text, 0), part(text, 1))?;
+    let played = bench.play(alloc, part(text, 2));
+    let Bench { told, .. } = bench;
+    played?;
+    Ok(told)
+}
+
 /// The first line of a table whose turns tell something else than it has, with what they tell; nothing where there is none. A line
 /// has a name, the bounds, what comes before, turns, and what they tell.
 pub fn first_unlike(alloc: Global, table: &[&'static str]) -> Result<String, Fail> {
     for line in table {
         let (name, text) = named(*line)?;
-        let mut bench = Bench::of(alloc, part(text, 0), part(text, 1))?;
-        bench.play(alloc, part(text, 2))?;
-        if bench.told.as_str() != part(text, 3) {
-            return Ok(format!(in alloc; "{name}: {}", bench.told)?);
+        let told = told_by(alloc, text)?;
+        if told.as_str() != part(text, 3) {
+            return Ok(format!(in alloc; "{name}: {told}")?);
         }
     }
     Ok(String::new(alloc))

@@ -2,6 +2,7 @@
 
 use super::bench::{Bench, first_unlike};
 use super::told::state;
+use crate::tests::asserts::assert_same;
 use std::alloc::Global;
 use std::test::Fail;
 
@@ -95,7 +96,7 @@ fn calls_are_short(rt: HostRuntime) -> Result<(), Fail> {
         for (turns, told) in table {
             let mut bench = Bench::of(rt.alloc(), "cells 200, pinned 1", EIGHT_LEVELS)?;
             bench.play(rt.alloc(), *turns)?;
-            assert_eq!(rt; bench.told.as_str(), *told, "{turns}");
+            assert_same(&rt, (turns, bench.told.as_str()), (turns, *told));
         }
     }
     Ok(())
@@ -120,7 +121,7 @@ const REPORTS: [&str; 3] = [
 
 #[test]
 fn steps_tell_what_they_did(rt: HostRuntime) -> Result<(), Fail> {
-    assert_eq!(rt; first_unlike(rt.alloc(), &REPORTS)?.as_str(), "");
+    assert_same(&rt, first_unlike(rt.alloc(), &REPORTS)?.as_str(), "");
     Ok(())
 }
 
@@ -143,7 +144,7 @@ const ROUNDS: [&str; 2] = [
 
 #[test]
 fn bags_come_back_in_rounds(rt: HostRuntime) -> Result<(), Fail> {
-    assert_eq!(rt; first_unlike(rt.alloc(), &ROUNDS)?.as_str(), "");
+    assert_same(&rt, first_unlike(rt.alloc(), &ROUNDS)?.as_str(), "");
     Ok(())
 }
 
@@ -177,12 +178,12 @@ fn rounds_of(alloc: Global, pins: u32, bags: u32) -> Result<(u64, u64), Fail> {
 fn few_rounds_are_enough(rt: HostRuntime) -> Result<(), Fail> {
     for bags in 1..=40u32 {
         let rounds = u64::from(bags.div_ceil(8)).saturating_add(1);
-        assert_eq!(rt; rounds_of(rt.alloc(), 0, bags)?, (bags.into(), rounds));
+        assert_same(&rt, rounds_of(rt.alloc(), 0, bags)?, (bags.into(), rounds));
     }
     // A pin collects after 128 others. It takes the first bag, and the last one is sealed after it.
     for bags in 1..=8u32 {
         let more = bags.saturating_add(1);
-        assert_eq!(rt; rounds_of(rt.alloc(), 127, more)?, (bags.into(), 3));
+        assert_same(&rt, rounds_of(rt.alloc(), 127, more)?, (bags.into(), 3));
     }
     Ok(())
 }

@@ -9,6 +9,7 @@ use super::told::{Standing, Told, state, takes};
 use super::{
     Index, are_rounds_done, beginning, call, going, is_done, noise, op_of, registering, whole,
 };
+use crate::tests::asserts::assert_same;
 use congee::{Limited, NodeStats, Noise};
 use joint::{Done, Id, Limits, Op, Outcome, Refusal, Step, World};
 use judge::{Call, Entry, Reply, Verdict, check};
@@ -207,8 +208,8 @@ impl Crowd {
         let Some(seat) = self.seats.get_mut(worker as usize) else {
             return Ok(false);
         };
-        if matches!(seat.standing, Standing::Asks(_)) {
-            seat.call = seat.call.map(|call| answered(call, noise.answer));
+        if let (Standing::Asks(_), Some(call)) = (seat.standing, seat.call) {
+            seat.call = Some(answered(call, noise.answer));
         }
         let goes = seat.standing.is_in_flight();
         if goes {
@@ -348,8 +349,7 @@ fn bytes_of(stats: &NodeStats) -> u64 {
 }
 
 /// What of a whole schedule isn't as it must be.
-fn first_wrong(alloc: Global, seed: u64) -> Result<Option<&'static str>, Fail> {
-    let mut crowd = Crowd::opened(alloc, seed)?;
+fn wrong_of(alloc: Global, crowd: &mut Crowd) -> Result<Option<&'static str>, AllocError> {
     for _ in 0..RESTS {
         if let Some(wrong) = crowd.wrong_rest()? {
             return Ok(Some(wrong));
@@ -364,10 +364,21 @@ fn first_wrong(alloc: Global, seed: u64) -> Result<Option<&'static str>, Fail> {
     }
 }
 
+fn first_wrong(alloc: Global, seed: u64) -> Result<Option<&'static str>, Fail> {
+    let mut crowd = Crowd::opened(alloc, seed)?;
+    let wrong = wrong_of(alloc, &mut crowd);
+    drop(crowd);
+    Ok(wrong?)
+}
+
 #[test]
 fn four_workers_answer_as_one_map(rt: HostRuntime) -> Result<(), Fail> {
     for seed in 0..number_in(&rt, "TRIAL_SCHEDULES", 5) {
-        assert_eq!(rt; first_wrong(rt.alloc(), seed.into())?, None, "seed {seed}");
+        assert_same(
+            &rt,
+            (seed, first_wrong(rt.alloc(), seed.into())?),
+            (seed, None),
+        );
     }
     Ok(())
 }

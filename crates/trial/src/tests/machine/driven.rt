@@ -3,6 +3,7 @@ ghost use Rattle.std.specs.Prelude.{◌≡◌, Some};
 ghost use Rattle.std.specs.Option.{option_map};
 ghost use Rattle.joint.specs.threads.Driving.{IsToldInCall};
 
+use crate::tests::asserts::assert_same;
 use joint::{Done, Event, Kind, Op, Outcome, Report, Step, Turns, drive};
 use std::snapshot::Snapshot;
 use std::test::Fail;
@@ -68,6 +69,13 @@ impl Turns<u64> for Told {
     }
 }
 
+fn doubled(value: Option<u64>) -> Option<u64> {
+    match value {
+        Some(number) => Some(number.wrapping_mul(2)),
+        None => None,
+    }
+}
+
 #[test]
 fn a_call_is_driven_to_its_end(rt: HostRuntime) -> Result<(), Fail> {
     let op = Op::ComputePresent(3);
@@ -79,11 +87,11 @@ fn a_call_is_driven_to_its_end(rt: HostRuntime) -> Result<(), Fail> {
         last: None,
     };
     let mut found = [(0, 0), (0, 0)];
-    let double = |value: Option<u64>| value.map(|n| n.wrapping_mul(2));
+    let double = |value: Option<u64>| doubled(value);
     let done = drive(&rt, &mut turns, 7, op, double, &mut found);
-    assert_eq!(rt; done, Ok(Done::Scanned(2)));
-    assert_eq!(rt; turns.answer, Some(Some(10)));
-    assert_eq!(rt; turns.turns, 4);
-    assert_eq!(rt; found, [(0, 0), (3, 4)]);
+    assert_same(&rt, done, Ok(Done::Scanned(2)));
+    assert_same(&rt, turns.answer, Some(Some(10)));
+    assert_same(&rt, turns.turns, 4);
+    assert_same(&rt, found, [(0, 0), (3, 4)]);
     Ok(())
 }

@@ -4,6 +4,7 @@ use super::bench::{Bench, first_unlike};
 use super::drawn::number_in;
 use super::told::{state, takes};
 use super::{Index, beginning, going, noise, op_of};
+use crate::tests::asserts::assert_same;
 use judge::Call;
 use std::alloc::Global;
 use std::test::Fail;
@@ -22,7 +23,7 @@ const DOWN: [&str; 2] = [
 
 #[test]
 fn nodes_go_down_through_all_forms(rt: HostRuntime) -> Result<(), Fail> {
-    assert_eq!(rt; first_unlike(rt.alloc(), &DOWN)?.as_str(), "");
+    assert_same(&rt, first_unlike(rt.alloc(), &DOWN)?.as_str(), "");
     Ok(())
 }
 
@@ -89,10 +90,8 @@ fn a_growth_and_a_shrink_do_not_alternate(rt: HostRuntime) -> Result<(), Fail> {
     let times = number_in(&rt, "TRIAL_PAIRS", 100);
     for (count, most, distance, leaves) in COUNTS {
         let (mut bench, key) = alternating(rt.alloc(), count, most, distance)?;
-        assert!(rt;
-            stays(&mut bench.index, key, leaves, times.into()),
-            "{count} at {distance}"
-        );
+        let stays = stays(&mut bench.index, key, leaves, times.into());
+        assert_same(&rt, (count, distance, stays), (count, distance, true));
     }
     Ok(())
 }

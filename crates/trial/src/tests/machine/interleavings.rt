@@ -4,6 +4,7 @@
 use super::drawn::number_in;
 use super::one_map::Case;
 use super::orders::{LONG, Plan, Turn, Turns, is_tried, lengths, orders, push_order};
+use crate::tests::asserts::assert_same;
 use crate::tests::texts::{named, part};
 use std::alloc::{AllocError, Global};
 use std::test::Fail;
@@ -181,7 +182,7 @@ fn short_calls_answer_as_one_map_in_every_order_of_their_steps(
             turns,
             number_in(&rt, "TRIAL_ORDERS", 3),
         )?;
-        assert!(rt; all >= Some(120), "{name}: {all:?}");
+        assert_same(&rt, ((name, all), all >= Some(120)), ((name, all), true));
     }
     Ok(())
 }
@@ -193,7 +194,11 @@ fn calls_beside_each_other_answer_as_one_map(rt: HostRuntime) -> Result<(), Fail
         for line in table {
             let (name, text) = named(*line)?;
             let case = Case::of(rt.alloc(), text, false)?;
-            assert!(rt; are_cuts_right(rt.alloc(), &case, every)?, "{name}");
+            assert_same(
+                &rt,
+                (name, are_cuts_right(rt.alloc(), &case, every)?),
+                (name, true),
+            );
         }
     }
     Ok(())
@@ -213,7 +218,7 @@ fn a_removal_takes_a_node_out_beside_a_call(rt: HostRuntime) -> Result<(), Fail>
             [TURNS.as_slice(), others.as_slice()],
             number_in(&rt, "TRIAL_ORDERS", 61),
         )?;
-        assert_eq!(rt; all, Some(792), "{name}");
+        assert_same(&rt, (name, all), (name, Some(792)));
     }
     Ok(())
 }

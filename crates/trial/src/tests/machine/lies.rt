@@ -5,6 +5,7 @@ use super::drawn::number_in;
 use super::interleavings::CASES;
 use super::one_map::Case;
 use super::orders::{Turn, is_tried};
+use crate::tests::asserts::assert_same;
 use crate::tests::texts::named;
 use congee::{Child, Noise, Seen};
 use crossbeam_epoch::Name;
@@ -98,9 +99,10 @@ fn calls_that_are_lied_to_answer_as_one_map(rt: HostRuntime) -> Result<(), Fail>
         let (name, text) = named(line)?;
         for turned in [false, true] {
             let case = Case::of(rt.alloc(), text, turned)?;
-            assert!(rt;
-                is_right(rt.alloc(), &case, every)?,
-                "{name}, turned {turned}"
+            assert_same(
+                &rt,
+                ((name, turned), is_right(rt.alloc(), &case, every)?),
+                ((name, turned), true),
             );
         }
     }

@@ -1,6 +1,7 @@
 //! `joint`: limits that no script names, the turns of a cell and the epoch; and values of which there is no copy.
 
 use super::bench::{Bench, Bounds, first_unlike};
+use crate::tests::asserts::assert_same;
 use congee::{Allocator, Limited, NoDrain, Payload, Small};
 use joint::{Done, Event, Limits, Op, Outcome, Refusal, Step, World};
 use judge::Reply;
@@ -23,7 +24,7 @@ const LIMITS: [(&str, Option<Refusal>); 6] = [
 fn limits_out_of_their_ranges_open_no_index(rt: HostRuntime) -> Result<(), Fail> {
     for (text, cause) in LIMITS {
         let opened = Bounds::of(text)?.open(rt.alloc());
-        assert_eq!(rt; opened.err(), cause, "{text}");
+        assert_same(&rt, (text, opened.err()), (text, cause));
     }
     Ok(())
 }
@@ -39,7 +40,7 @@ const TURNS: [&str; 2] = [
 
 #[test]
 fn a_cell_is_used_for_as_many_nodes_as_it_has_turns(rt: HostRuntime) -> Result<(), Fail> {
-    assert_eq!(rt; first_unlike(rt.alloc(), &TURNS)?.as_str(), "");
+    assert_same(&rt, first_unlike(rt.alloc(), &TURNS)?.as_str(), "");
     Ok(())
 }
 
@@ -49,10 +50,10 @@ fn what_waits_at_the_greatest_epoch_goes_at_the_close(rt: HostRuntime) -> Result
     let before = "rounds 0 3, call 0 pin, insert 1 1, remove 1, call 0 unpin, rounds 0 10";
     let mut bench = Bench::of(rt.alloc(), "workers 1, pinned 0, epoch 3", before)?;
     bench.play(rt.alloc(), "state, call 0 release")?;
-    assert_eq!(rt; bench.told.as_str(), "2168 1 64");
+    assert_same(&rt, bench.told.as_str(), "2168 1 64");
     let Bench { index, .. } = bench;
     match index.close(NoDrain) {
-        Ok((allocator, _)) => assert_eq!(rt; allocator.charged(), 0),
+        Ok((allocator, _)) => assert_same(&rt, allocator.charged(), 0),
         Err((refusal, _, _)) => return Err(refusal.into()),
     }
     Ok(())
@@ -102,7 +103,7 @@ fn answer<'f>(
     match index.call(0, op, 100, &mut [(0, value)]) {
         Some(report) => match report.outcome {
             Outcome::Refused(refusal) => Err(refusal),
-            Outcome::Done(Done::Reply(Reply::Get(found))) => Ok(found.map(|value| value.number)),
+            Outcome::Done(Done::Reply(Reply::Get(Some(found)))) => Ok(Some(found.number)),
             _ => Ok(None),
         },
         None => Ok(None),
@@ -149,6 +150,6 @@ fn stays(alloc: Global, flag: &AtomicBool) -> Result<bool, Refusal> {
 #[test]
 fn a_value_without_a_copy_stays(rt: HostRuntime) -> Result<(), Fail> {
     let flag = AtomicBool::new(true);
-    assert_eq!(rt; stays(rt.alloc(), &flag), Ok(true));
+    assert_same(&rt, stays(rt.alloc(), &flag), Ok(true));
     Ok(())
 }

@@ -80,8 +80,12 @@ fn looks(alloc: Global, index: &mut Index) -> Result<Vec<Entry<u64>>, Fail> {
 
 /// The value of a key among pairs.
 pub fn value_at(pairs: &[(u64, u64)], key: u64) -> Option<u64> {
-    let found = pairs.iter().find(|pair| pair.0 == key)?;
-    Some(found.1)
+    for (at, value) in pairs {
+        if *at == key {
+            return Some(*value);
+        }
+    }
+    None
 }
 
 /// The journal of what is done before two calls.

@@ -7,6 +7,7 @@ use super::interleavings::single;
 use super::one_map::{journal_of, value_at};
 use super::orders::{CELLS, Ground, LONG, Pair, Plan, Turn, Turns, lengths, orders, push_order};
 use super::told::Standing;
+use crate::tests::asserts::assert_same;
 use crate::tests::texts::{array, call_of, named, pairs, part};
 use joint::Op;
 use judge::{Verdict, check};
@@ -113,10 +114,19 @@ fn are_within(pairs: &[(u64, u64)], range: Range) -> bool {
     pairs.len() <= range.size
 }
 
+fn are_below(pairs: &[(u64, u64)], key: u64) -> bool {
+    for (at, _) in pairs {
+        if *at >= key {
+            return false;
+        }
+    }
+    true
+}
+
 /// Whether a scan that told these pairs may leave a key out: it is no key of the range, or smaller ones fill all places.
 fn is_past(key: u64, pairs: &[(u64, u64)], range: Range) -> bool {
     let is_asked = range.start <= key && key < range.end;
-    !is_asked || pairs.len() == range.size && pairs.iter().all(|pair| pair.0 < key)
+    !is_asked || pairs.len() == range.size && are_below(pairs, key)
 }
 
 impl Case {
@@ -208,8 +218,12 @@ fn a_scan_beside_a_writing_call(rt: HostRuntime) -> Result<(), Fail> {
         let (name, text) = named(text)?;
         let case = case_of(rt.alloc(), text)?;
         let steps = lengths(rt.alloc(), &case.ground, case.calls)?;
-        assert_eq!(rt; steps, case.steps, "{name}");
-        assert!(rt; are_orders_right(rt.alloc(), &case, every)?, "{name}");
+        assert_same(&rt, (name, steps), (name, case.steps));
+        assert_same(
+            &rt,
+            (name, are_orders_right(rt.alloc(), &case, every)?),
+            (name, true),
+        );
     }
     Ok(())
 }
@@ -245,8 +259,8 @@ fn a_scan_begins_anew_after_a_change(rt: HostRuntime) -> Result<(), Fail> {
         let (name, text) = named(text)?;
         let case = case_of(rt.alloc(), text)?;
         let steps = lengths(rt.alloc(), &case.ground, case.calls)?;
-        assert_eq!(rt; steps, case.steps, "{name}");
-        assert!(rt; begins_anew(rt.alloc(), &case)?, "{name}");
+        assert_same(&rt, (name, steps), (name, case.steps));
+        assert_same(&rt, (name, begins_anew(rt.alloc(), &case)?), (name, true));
     }
     Ok(())
 }

@@ -4,10 +4,11 @@ use super::drawn::{next, number_in, step_at};
 use super::flights::Flight;
 use super::orders::{Ground, Pair, Turn, is_tried};
 use super::told::{Standing, State, state};
-use super::{are_rounds_done, call, is_done, open, replied};
-use joint::{Op, Refusal};
+use super::{are_rounds_done, call, count_of, is_done, open, replied};
+use crate::tests::asserts::assert_same;
+use joint::{Op, Refusal, Step};
 use judge::{Call, Reply};
-use std::alloc::Global;
+use std::alloc::{AllocError, Global};
 use std::test::Fail;
 
 /// What insertions and look-ups of worker 0 answer, each under a pin of its own with so many rounds after it, and what is charged
@@ -30,10 +31,10 @@ fn answers(alloc: Global, rounds: u32) -> Result<(Vec<Standing>, State), Fail> {
 fn replies_are_the_same_with_rounds_between(rt: HostRuntime) -> Result<(), Fail> {
     let (plain, waits) = answers(rt.alloc(), 0)?;
     let (swept, rests) = answers(rt.alloc(), 3)?;
-    assert_eq!(rt; swept.as_slice(), plain.as_slice());
+    assert_same(&rt, swept.as_slice(), plain.as_slice());
     let last = Standing::Replied(Reply::Get(Some(49)));
-    assert_eq!(rt; swept.last().copied(), Some(last));
-    assert_eq!(rt; (waits, rests), ((5112, 3, 904), (4208, 0, 0)));
+    assert_same(&rt, swept.last().copied(), Some(last));
+    assert_same(&rt, (waits, rests), ((5112, 3, 904), (4208, 0, 0)));
     Ok(())
 }
 
@@ -126,26 +127,30 @@ fn drawn_schedules_tell_the_same_with_rounds_between(rt: HostRuntime) -> Result<
     for seed in 0..SCHEDULES {
         if is_tried(seed, every) {
             let count = destroyed(rt.alloc(), u64::from(seed))?;
-            assert!(rt; count.is_some(), "{seed}");
+            assert_same(&rt, (seed, count.is_some()), (seed, true));
             tried = tried.saturating_add(1);
             all = all.saturating_add(count.unwrap_or(0));
         }
     }
-    assert!(rt; all >= tried.saturating_mul(2), "{all}");
+    assert!(rt; all >= tried.saturating_mul(2));
     Ok(())
+}
+
+fn many_steps(alloc: Global) -> Result<Vec<Step<u64>>, AllocError> {
+    let mut steps = Vec::with_capacity(alloc, 10_000)?;
+    for number in 0..10_000 {
+        steps.push(step_at(number))?;
+    }
+    Ok(steps)
 }
 
 #[test]
 fn a_run_takes_ten_thousand_steps(rt: HostRuntime) -> Result<(), Fail> {
+    let steps = many_steps(rt.alloc())?;
     let mut index = open(rt.alloc(), 1, 1_000)?;
-    let mut steps = Vec::with_capacity(rt.alloc(), 10_000)?;
-    for number in 0..10_000 {
-        steps.push(step_at(number))?;
-    }
     let ran = index.run(rt.alloc(), steps);
-    assert_eq!(rt; (ran.done, ran.reports.len()), (10_000, 10_000));
+    assert_same(&rt, (ran.done, ran.reports.len()), (10_000, 10_000));
     let put = replied(Reply::Insert(None));
-    let ends = ran.reports.iter().filter(|report| report.outcome == put);
-    assert_eq!(rt; ends.count(), 270);
+    assert_same(&rt, count_of(&ran.reports, &put), 270);
     Ok(())
 }

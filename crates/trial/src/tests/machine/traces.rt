@@ -2,6 +2,7 @@
 //! without a node, gives nodes back or ends, and what is charged and waits after it.
 
 use super::bench::first_unlike;
+use crate::tests::asserts::assert_same;
 use std::test::Fail;
 
 /// One removal alone.
@@ -109,7 +110,7 @@ fn calls_go_step_by_step(rt: HostRuntime) -> Result<(), Fail> {
         BESIDE.as_slice(),
         ASKED.as_slice(),
     ] {
-        assert_eq!(rt; first_unlike(rt.alloc(), table)?.as_str(), "");
+        assert_same(&rt, first_unlike(rt.alloc(), table)?.as_str(), "");
     }
     Ok(())
 }

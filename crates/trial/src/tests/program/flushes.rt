@@ -2,6 +2,7 @@
 
 use crate::run::run;
 use crate::start::start;
+use crate::tests::asserts::assert_same;
 use std::alloc::Global;
 use std::io::{self, ErrorKind, Read, Write};
 use std::process::ExitCode;
@@ -82,10 +83,18 @@ fn a_flush_that_fails_ends_a_script_with_calls_in_flight(rt: HostRuntime) -> Res
             taken: Vec::new(rt.alloc()),
             before: before as u64,
         };
-        assert_eq!(rt; run(rt.alloc(), &mut reader, &mut writer), 1, "at {before}");
-        assert_eq!(rt; writer.taken.as_slice(), expected.as_slice(), "at {before}");
+        assert_same(
+            &rt,
+            (before, run(rt.alloc(), &mut reader, &mut writer)),
+            (before, 1),
+        );
+        assert_same(
+            &rt,
+            (before, writer.taken.as_slice()),
+            (before, expected.as_slice()),
+        );
         let left = SCRIPT.len().saturating_sub(before).saturating_sub(1);
-        assert_eq!(rt; reader.left.len(), left, "at {before}");
+        assert_same(&rt, (before, reader.left.len()), (before, left));
     }
     Ok(())
 }
@@ -110,8 +119,8 @@ fn a_flush_that_fails_ends_a_history_and_the_usage(rt: HostRuntime) -> Result<()
             before: 0,
         };
         let ended = start(&rt, rt.alloc(), &words, &mut script, &mut writer);
-        assert_eq!(rt; ended, ExitCode::from(1), "{text:?}");
-        assert_eq!(rt; writer.taken.as_slice(), text);
+        assert_same(&rt, (text, ended), (text, ExitCode::from(1)));
+        assert_same(&rt, writer.taken.as_slice(), text);
     }
     Ok(())
 }

@@ -2,6 +2,7 @@
 ghost use Rattle.std.specs.Prelude.{◌≡◌};
 
 use super::trees::{Told, raised_or, recorded_called};
+use crate::tests::asserts::assert_same;
 use crate::tests::machine::drawn::number_in;
 use crate::threads::callers;
 use crate::worker::{Caller, Cut, Index};
@@ -54,8 +55,11 @@ fn call_at(place: u32, number: u64) -> Call<u64> {
 /// The call with what its closure answered.
 fn answered(call: Call<u64>, reply: Reply<u64>) -> Call<u64> {
     match (call, reply) {
-        (Call::ComputePresent(key, _), Reply::ComputePresent(told)) => {
-            Call::ComputePresent(key, told.and_then(|pair| pair.1))
+        (Call::ComputePresent(key, _), Reply::ComputePresent(Some((_, new)))) => {
+            Call::ComputePresent(key, new)
+        }
+        (Call::ComputePresent(key, _), Reply::ComputePresent(None)) => {
+            Call::ComputePresent(key, None)
         }
         (Call::ComputeInsert(key, value), Reply::ComputeInsert(before)) => {
             Call::ComputeInsert(key, raised_or(before, value))
@@ -90,11 +94,11 @@ fn scans<L: Ledger, R: Wait>(
 ) -> Result<bool, Refusal> {
     let mut out = [(0, 0); 20];
     let count = index.range(rt, &from, &64, &mut out, worker, guard)?;
-    Ok(
-        out.iter()
-            .take(count)
-            .all(|pair| pair.0 >= from && pair.1 % 64 == pair.0),
-    )
+    let mut right = true;
+    for (key, value) in out.iter().take(count) {
+        right &= *key >= from && *value % 64 == *key;
+    }
+    Ok(right)
 }
 
 /// A worker's call of this number under a pin of its own; a scan before each eighth.
@@ -194,25 +198,48 @@ fn history<L: Ledger + Send + Sync, R: Threads + Wait + Sync>(
     let callers = callers(rt, alloc, &index, &mut all, WORKERS)?;
     let shared = &index;
     let work = move |caller: Caller<L>| works(rt, alloc, shared, caller, count);
+    let worked = thread::map_vec(rt, callers, &work)?;
+    let (own, is_scanned) = joined(alloc, &mut all, worked)?;
+    learned(rt, alloc, &index, &mut all, &own, is_scanned)
+}
+
+/// The entries that each worker keeps, and whether all scans found pairs that somebody put there. Their shares become one.
+fn joined<L: Ledger>(
+    alloc: Global,
+    all: &mut Share<L>,
+    worked: Vec<Result<Worked<L>, Cut>>,
+) -> Result<(Vec<Vec<Entry<u64>>>, bool), Cut> {
     let mut own = Vec::new(alloc);
     let mut all_scanned = true;
-    for worked in thread::map_vec(rt, callers, &work)? {
+    for one in worked {
         let Worked {
             share,
             own: kept,
             is_scanned,
-        } = worked?;
+        } = one?;
         all.merge(share);
         own.push(kept)?;
         all_scanned &= is_scanned;
     }
-    let written = index.gather(rt, &mut all)?;
+    Ok((own, all_scanned))
+}
+
+/// What is known then.
+fn learned<L: Ledger, R: Wait>(
+    rt: &R,
+    alloc: Global,
+    index: &Index<L>,
+    all: &mut Share<L>,
+    own: &[Vec<Entry<u64>>],
+    is_scanned: bool,
+) -> Result<Known, Cut> {
+    let written = index.gather(rt, all)?;
     let journal = index.entries(rt)?;
     Ok(Known {
         entries: journal.len(),
         written,
-        is_scanned: all_scanned,
-        is_right: is_right(alloc, &journal, &own)?,
+        is_scanned,
+        is_right: is_right(alloc, &journal, own)?,
     })
 }
 
@@ -236,6 +263,6 @@ fn sixteen_threads_call_and_scan(rt: HostRuntime) -> Result<(), Fail> {
         is_scanned: true,
         is_right: true,
     };
-    assert_eq!(rt; known, Ok(right));
+    assert_same(&rt, known, Ok(right));
     Ok(())
 }

@@ -6,11 +6,12 @@ ghost use Rattle.std.specs.Prelude.{◌≡◌};
 use super::trees::{Ask, Left, Owners, Recorded, Threaded, Told, left, spent};
 use crate::drained::Drained;
 use crate::examples::counter::count_in_two_threads;
+use crate::tests::asserts::assert_same;
 use crate::tests::machine::drawn::number_in;
 use congee::{Allocator, DefaultAllocator, Limited};
 use joint::{Congee, CongeeArc, Guard, Journaled, Limits, Refusal, Share, U64Congee, Worker};
-use judge::{Call, Reply, Verdict, check};
-use std::alloc::Global;
+use judge::{Call, Entry, Reply, Verdict, check};
+use std::alloc::{AllocError, Global};
 use std::marker::Brand;
 use std::process::Abort;
 use std::sync::Wait;
@@ -171,13 +172,13 @@ fn goes_through<T: Threaded, R: Wait + Abort>(
     worker: &mut Worker,
 ) -> Result<(), Fail> {
     for (rows, (charged, waiting, bytes), after) in stages {
-        assert_eq!(rt; wrong(rt, tree, rows, worker), Ok(None));
+        assert_same(rt, wrong(rt, tree, rows, worker), Ok(None));
         let state = (base.wrapping_add(*charged), *waiting, *bytes);
-        assert_eq!(rt; tree.state(rt), state);
+        assert_same(rt, tree.state(rt), state);
         for _ in 0..3 {
             tree.goes_round(rt, worker)?;
         }
-        assert_eq!(rt; tree.state(rt), (base.wrapping_add(*after), 0, 0));
+        assert_same(rt, tree.state(rt), (base.wrapping_add(*after), 0, 0));
     }
     Ok(())
 }
@@ -187,7 +188,7 @@ fn ends<T: Threaded, R: Wait + Abort>(rt: &R, tree: T, worker: Worker) -> Result
     match tree.closes(rt) {
         Ok(_) => Err("closed with a worker".into()),
         Err((refusal, tree)) => {
-            assert_eq!(rt; refusal, Refusal::WorkersLeft(1));
+            assert_same(rt, refusal, Refusal::WorkersLeft(1));
             left(tree.leaves(rt, worker))?;
             match tree.closes(rt) {
                 Ok(left) => Ok(left),
@@ -206,7 +207,7 @@ fn lives<T: Threaded, R: Wait + Abort>(
 ) -> Result<Left, Fail> {
     let mut tree = tree;
     let mut worker = tree.comes(rt)?;
-    assert_eq!(rt; worker.number(), 0);
+    assert_same(rt, worker.number(), 0);
     goes_through(rt, &mut tree, stages, base, &mut worker)?;
     ends(rt, tree, worker)
 }
@@ -214,7 +215,7 @@ fn lives<T: Threaded, R: Wait + Abort>(
 #[test]
 fn each_call_comes_through(rt: HostRuntime) -> Result<(), Fail> {
     let tree = words(rt.alloc(), 0)?;
-    assert_eq!(rt; lives(&rt, tree, &STAGES, 0)?, (0, u64::MAX, 0, None));
+    assert_same(&rt, lives(&rt, tree, &STAGES, 0)?, (0, u64::MAX, 0, None));
     Ok(())
 }
 
@@ -223,7 +224,7 @@ fn numbers_are_found_by_their_bytes(rt: HostRuntime) -> Result<(), Fail> {
     let mut allocator = Limited::new(10_000);
     allocator.allocate(500)?;
     let tree: U64Congee<u64, Limited> = U64Congee::new(rt.alloc(), limits(1, 9, 0), allocator)?;
-    assert_eq!(rt; lives(&rt, tree, &STAGES, 500)?, (500, 10_000, 0, None));
+    assert_same(&rt, lives(&rt, tree, &STAGES, 500)?, (500, 10_000, 0, None));
     Ok(())
 }
 
@@ -236,6 +237,11 @@ fn owners_are_shared(rt: HostRuntime) -> Result<(), Fail> {
 
 /// The calls on a key among all of these, and the writing ones.
 const CALLS: (usize, u64) = (17, 12);
+
+/// How many entries a journal has, and whether it is legal.
+fn judged(alloc: Global, journal: Vec<Entry<u64>>) -> Result<(usize, Verdict), AllocError> {
+    Ok((journal.len(), check(alloc, &journal)?))
+}
 
 /// Each call once: those on a key are written down, and the writing ones counted.
 fn writes_down<L: Ledger, R: Wait + Abort>(rt: &R, alloc: Global, blank: Blank) -> Result<(), Fail>
@@ -253,21 +259,19 @@ fn writes_down<L: Ledger, R: Wait + Abort>(rt: &R, alloc: Global, blank: Blank) 
     let mut worker = recorded.comes(rt)?;
     goes_through(rt, &mut recorded, &STAGES, 0, &mut worker)?;
     let Recorded { tree, share } = recorded;
-    assert_eq!(rt;
-        (share.parts(), share.count(), all.count()),
-        (1, CALLS.1, 0)
-    );
-    assert_eq!(rt; tree.gather(rt, &mut all), Err(Refusal::SharesLeft(1)));
+    let counted = (share.parts(), share.count(), all.count());
+    assert_same(rt, counted, (1, CALLS.1, 0));
+    assert_same(rt, tree.gather(rt, &mut all), Err(Refusal::SharesLeft(1)));
     all.merge(share);
-    assert_eq!(rt; tree.gather(rt, &mut all), Ok(CALLS.1));
-    let journal = tree.entries(rt)?;
-    assert_eq!(rt;
-        (journal.len(), check(alloc, &journal)?),
-        (CALLS.0, Verdict::Legal)
+    assert_same(rt, tree.gather(rt, &mut all), Ok(CALLS.1));
+    assert_same(
+        rt,
+        judged(alloc, tree.entries(rt)?)?,
+        (CALLS.0, Verdict::Legal),
     );
     let share = all;
     let left = ends(rt, Recorded { tree, share }, worker)?;
-    assert_eq!(rt; left, (0, 10_000, 1, Some((1, 5))));
+    assert_same(rt, left, (0, 10_000, 1, Some((1, 5))));
     Ok(())
 }
 
@@ -313,9 +317,10 @@ fn strangers_come_back(rt: HostRuntime) -> Result<(), Fail> {
     let (mut tree, mut other) = (words(rt.alloc(), 0)?, words(rt.alloc(), 1)?);
     let foreign = Some(Refusal::Foreign);
     let held = Some(Refusal::GuardOut);
-    assert_eq!(rt;
+    assert_same(
+        &rt,
         are_refused(&rt, &mut tree, &mut other),
-        Ok([Some(Refusal::TableFull), foreign, foreign, foreign, held])
+        Ok([Some(Refusal::TableFull), foreign, foreign, foreign, held]),
     );
     Ok(())
 }
@@ -378,10 +383,9 @@ fn reads_along<R: Wait>(
         same &= found == Some(key) || found == None;
         if key % 500 == 0 {
             let count = tree.range(rt, &key, &to, &mut out, worker, guard)?;
-            same &= out
-                .iter()
-                .take(count)
-                .all(|pair| pair.0 == pair.1 && pair.0 >= key);
+            for (at, value) in out.iter().take(count) {
+                same &= at == value && *at >= key;
+            }
         }
     }
     Ok(same)
@@ -467,8 +471,8 @@ fn two_fill_and_two_read(rt: HostRuntime) -> Result<(), Fail> {
     let tree: Words = Congee::new(rt.alloc(), limits(4, 100_000, 0), DefaultAllocator::new())?;
     let half = u64::from(number_in(&rt, "TRIAL_KEYS", 500).min(5_000));
     let keys = half.saturating_mul(2);
-    assert_eq!(rt; four_work(&rt, &tree, half, keys), Ok(true));
-    assert_eq!(rt; works(&rt, &tree, Task::Find(keys)), Ok(true));
+    assert_same(&rt, four_work(&rt, &tree, half, keys), Ok(true));
+    assert_same(&rt, works(&rt, &tree, Task::Find(keys)), Ok(true));
     Ok(())
 }
 
@@ -477,7 +481,7 @@ fn closure_waits_for_other(rt: HostRuntime) -> Result<(), Fail> {
     let tree = words(rt.alloc(), 0)?;
     let flag = AtomicBool::new(false);
     let tasks = (Task::Await(&flag), Task::Tell(&flag));
-    assert_eq!(rt; two_work(&rt, &tree, tasks), Ok(true));
+    assert_same(&rt, two_work(&rt, &tree, tasks), Ok(true));
     Ok(())
 }
 
@@ -491,6 +495,6 @@ fn no_count_is_lost(rt: HostRuntime) -> Result<(), Fail> {
     let mut tree = words(rt.alloc(), 0)?;
     count_in_two_threads(&rt, &tree, 7, 500)?;
     let mut worker = tree.comes(&rt)?;
-    assert_eq!(rt; wrong(&rt, &mut tree, &COUNTED, &mut worker), Ok(None));
+    assert_same(&rt, wrong(&rt, &mut tree, &COUNTED, &mut worker), Ok(None));
     Ok(())
 }

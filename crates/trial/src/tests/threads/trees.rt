@@ -121,12 +121,18 @@ fn done(answer: Result<(), Refusal>) -> Result<Told, Refusal> {
 
 /// What a closure answers for a value.
 fn raised(found: u64, by: Option<u64>) -> Option<u64> {
-    by.map(|by| found.wrapping_add(by))
+    match by {
+        Some(by) => Some(found.wrapping_add(by)),
+        None => None,
+    }
 }
 
 /// What a closure answers for a value or none.
 pub fn raised_or(found: Option<u64>, number: u64) -> u64 {
-    found.map_or(number, |found| found.wrapping_add(64))
+    match found {
+        Some(found) => found.wrapping_add(64),
+        None => number,
+    }
 }
 
 /// Keys as they are told.
@@ -498,7 +504,10 @@ pub struct Owners {
 
 /// The number of an owner.
 fn number(owner: Option<Arc<u64, Global>>) -> Option<u64> {
-    owner.map(|owner| *owner)
+    match owner {
+        Some(owner) => Some(*owner),
+        None => None,
+    }
 }
 
 /// An owner of this number.
@@ -515,9 +524,17 @@ fn owner_put(
     put: Result<Option<Arc<u64, Global>>, (Refusal, Arc<u64, Global>)>,
 ) -> Result<Told, Refusal> {
     match put {
-        Ok(before) => Ok(Told::Replied(Reply::Insert(before.map(|owner| *owner)))),
+        Ok(before) => Ok(Told::Replied(Reply::Insert(self::number(before)))),
         Err((refusal, back)) if *back == number => Err(refusal),
         Err(_) => Ok(Told::Nothing),
+    }
+}
+
+/// A further hold on an owner, if there is one.
+fn held_again(owner: &Option<Arc<u64, Global>>) -> Option<Arc<u64, Global>> {
+    match owner {
+        Some(owner) => Arc::try_clone(owner).ok(),
+        None => None,
     }
 }
 
@@ -534,13 +551,16 @@ fn owner_computed<R: Wait>(
         Some(number) => Some(owner(owners.alloc, number)?),
         None => None,
     };
-    let answer = |_| next.as_ref().and_then(|next| Arc::try_clone(next).ok());
+    let answer = |_| held_again(&next);
     let before = number(
         owners
             .tree
             .compute_if_present(rt, key, answer, worker, guard)?,
     );
-    let told = before.map(|before| (before, to));
+    let told = match before {
+        Some(before) => Some((before, to)),
+        None => None,
+    };
     Ok(Told::Replied(Reply::ComputePresent(told)))
 }
 

@@ -2,9 +2,10 @@
 //! in turn: what is refused has changed nothing, and then it is answered.
 
 use super::trees::{Ask, Owners, Threaded, Told, left, spent};
+use crate::tests::asserts::assert_same;
 use crate::tests::failures::{ends_with, is_flushed, opened};
 use crate::tests::machine::drawn::step_at;
-use crate::tests::machine::{Index, begin, go, is_done, op_of, replied};
+use crate::tests::machine::{Index, begin, count_of, go, is_done, op_of, replied};
 use congee::{Congee, DefaultAllocator, OOMError};
 use joint::{CongeeArc, Guard, Limits, Op, Outcome, Refusal, Report, Step, Worker};
 use judge::{Call, Reply};
@@ -49,7 +50,7 @@ fn an_owned_leaf_grows(rt: HostRuntime) -> Result<(), Fail> {
     let state = (tree.get(&49), tree.charged());
     tree.close();
     assert!(rt; put);
-    assert_eq!(rt; state, (Some(49), 4208));
+    assert_same(&rt, state, (Some(49), 4208));
     Ok(())
 }
 
@@ -178,13 +179,13 @@ const GONE: [(Ask, Told); 1] = [(
 fn shared_owners_come_back(rt: HostRuntime) -> Result<(), Fail> {
     let mut tree = owners(rt.alloc())?;
     let mut worker = tree.comes(&rt)?;
-    assert_eq!(rt; tells(&rt, &mut tree, &PARTED, &mut worker), Ok(true));
-    assert_eq!(rt; tree.state(&rt).1, 2);
+    assert_same(&rt, tells(&rt, &mut tree, &PARTED, &mut worker), Ok(true));
+    assert_same(&rt, tree.state(&rt).1, 2);
     rounds(&rt, &tree, &mut worker)?;
-    assert_eq!(rt; tree.state(&rt), (2168, 0, 0));
-    assert_eq!(rt; tells(&rt, &mut tree, &GONE, &mut worker), Ok(true));
+    assert_same(&rt, tree.state(&rt), (2168, 0, 0));
+    assert_same(&rt, tells(&rt, &mut tree, &GONE, &mut worker), Ok(true));
     leaves(&rt, &tree, worker)?;
-    assert_eq!(rt; tree.state(&rt), (2168, 1, 64));
+    assert_same(&rt, tree.state(&rt), (2168, 1, 64));
     assert!(rt; tree.closes(&rt).is_ok());
     Ok(())
 }
@@ -210,12 +211,8 @@ fn steps_left(alloc: Global, from: usize) -> Result<Vec<Step<u64>>, AllocError> 
 
 /// How many insertions ended, one that was refused for want of memory among them.
 fn ends(reports: &[Report<u64>]) -> usize {
-    let put = replied(Reply::Insert(None));
-    let refused = Outcome::Refused(Refusal::Memory);
-    reports
-        .iter()
-        .filter(|report| report.outcome == put || report.outcome == refused)
-        .count()
+    let put = count_of(reports, &replied(Reply::Insert(None)));
+    put.saturating_add(count_of(reports, &Outcome::Refused(Refusal::Memory)))
 }
 
 /// A run stops where there is no memory for a report, tells how many steps it took, and goes on from there.
@@ -223,13 +220,14 @@ fn ends(reports: &[Report<u64>]) -> usize {
 fn a_run_goes_on_where_it_stopped(rt: HostRuntime) -> Result<(), Fail> {
     let mut index = opened(rt.alloc())?;
     let first = index.run(rt.alloc(), steps_left(rt.alloc(), 0)?);
-    assert_eq!(rt; first.reports.len(), first.done);
+    assert_same(&rt, first.reports.len(), first.done);
     let second = index.run(rt.alloc(), steps_left(rt.alloc(), first.done)?);
-    assert_eq!(rt; second.reports.len(), second.done);
-    assert_eq!(rt; first.done.saturating_add(second.done), STEPS as usize);
-    assert_eq!(rt;
+    assert_same(&rt, second.reports.len(), second.done);
+    assert_same(&rt, first.done.saturating_add(second.done), STEPS as usize);
+    assert_same(
+        &rt,
         ends(&first.reports).saturating_add(ends(&second.reports)),
-        13
+        13,
     );
     Ok(())
 }
@@ -280,7 +278,11 @@ fn each_writing_call_wants_a_place_in_its_bag(rt: HostRuntime) -> Result<(), Fai
         (Call::Remove(1), Reply::Remove(None)),
     ] {
         assert!(rt; is_filled(&mut index));
-        assert!(rt; ends_with(&mut index, made, reply), "{made:?}");
+        assert_same(
+            &rt,
+            (made, ends_with(&mut index, made, reply)),
+            (made, true),
+        );
         assert!(rt; is_emptied(&mut index));
     }
     Ok(())
@@ -305,9 +307,9 @@ fn a_removal_goes_on_without_a_lesser_leaf(rt: HostRuntime) -> Result<(), Fail> 
         report = go(&mut index, 0, None);
         is_skipped = is_skipped || report.skipped;
     }
-    assert_eq!(rt; report.outcome, replied(Reply::Remove(Some(2))));
+    assert_same(&rt, report.outcome, replied(Reply::Remove(Some(2))));
     let state = if is_skipped { (0, 2272) } else { (1, 2336) };
-    assert_eq!(rt; (index.waiting(), index.charged()), state);
+    assert_same(&rt, (index.waiting(), index.charged()), state);
     Ok(())
 }
 
@@ -348,9 +350,13 @@ const FOUND_THEN: [(Ask, Told); 8] = [
 fn calls_for_threads_find_memory_then(rt: HostRuntime) -> Result<(), Fail> {
     let mut tree = words(rt.alloc())?;
     let mut worker = tree.comes(&rt)?;
-    assert_eq!(rt; tells(&rt, &mut tree, &FOUND_THEN, &mut worker), Ok(true));
+    assert_same(
+        &rt,
+        tells(&rt, &mut tree, &FOUND_THEN, &mut worker),
+        Ok(true),
+    );
     // The root; two leaves and the node that was above them wait.
     let (charged, waiting, _bytes) = tree.state(&rt);
-    assert_eq!(rt; (waiting, charged), (3, 2296));
+    assert_same(&rt, (waiting, charged), (3, 2296));
     Ok(())
 }

@@ -1,4 +1,5 @@
 //! Owned trees that are closed, number trees, and sequences beside a `BTreeMap`.
+use crate::tests::asserts::assert_same;
 use crate::tests::machine::drawn::number_in;
 use crate::tests::texts::{array, numbers, part};
 use congee::{Allocator, Calls, Congee, DefaultAllocator, Limited, NoDrain, U64Congee};
@@ -290,11 +291,11 @@ fn are_found(alloc: Global, text: &str) -> Result<bool, Fail> {
 #[test]
 fn ranges_find_the_keys_within(rt: HostRuntime) -> Result<(), Fail> {
     for text in FOUND {
-        assert!(rt; are_found(rt.alloc(), text)?, "{text}");
+        assert_same(&rt, (text, are_found(rt.alloc(), text)?), (text, true));
     }
     if number_in(&rt, "TRIAL_KEYS", KEYS) > KEYS {
         for text in FOUND_AMONG_MANY {
-            assert!(rt; are_found(rt.alloc(), text)?, "{text}");
+            assert_same(&rt, (text, are_found(rt.alloc(), text)?), (text, true));
         }
     }
     Ok(())

@@ -57,13 +57,21 @@ fn measures(node: &Words, form: NodeType, size: u64, capacity: usize) -> bool {
         && node.len() == 0
 }
 
+// The byte of a child, counted from 0.
+fn byte_at(node: &Words, place: usize) -> Option<u8> {
+    match node.child_at(place) {
+        Some((byte, _)) => Some(byte),
+        None => None,
+    }
+}
+
 fn ascends(alloc: Global, node: &Words) -> Result<bool, Fail> {
     let all = [(0, 1000), (65, 1065), (200, 1200), (255, 1255)];
     Ok(
         scanned(alloc, node, 0, 255)?.as_slice() == all.as_slice()
             && scanned(alloc, node, 1, 200)?.as_slice() == &all[1..3]
             && scanned(alloc, node, 66, 199)?.is_empty()
-            && node.child_at(2).map(|r| r.0) == Some(200)
+            && byte_at(node, 2) == Some(200)
             && node.child_at(4).is_none()
             && node.is_full() == (node.node_type() == NodeType::N4),
     )
@@ -85,7 +93,7 @@ fn changes(node: &mut Words) -> bool {
     changed
         && gone
         && matches!(node.get_child(4), Some(Child::Value(44)))
-        && node.child_at(0).map(|r| r.0) == Some(4)
+        && byte_at(node, 0) == Some(4)
 }
 
 // Makes room in a full node, and tells whether no child went.
@@ -99,10 +107,11 @@ fn grows_if_full(alloc: Global, node: &mut Words) -> Result<bool, Fail> {
 
 fn has_each_byte(alloc: Global, node: &Words) -> Result<bool, Fail> {
     let all = scanned(alloc, node, 0, 255)?;
-    Ok(
-        all.iter().enumerate().all(|(i, pair)| pair.0 as usize == i
-            && pair.1 == pair.0 as u64 + 1000),
-    )
+    let mut right = true;
+    for (place, (byte, value)) in all.iter().enumerate() {
+        right &= *byte as usize == place && *value == *byte as u64 + 1000;
+    }
+    Ok(right)
 }
 
 fn grows(alloc: Global, node: &mut Words) -> Result<bool, Fail> {

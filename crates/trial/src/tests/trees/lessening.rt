@@ -1,16 +1,20 @@
 //! Owned trees that grow and shrink: a leaf, and an inner node at each depth, go up and down through all forms, an emptied leaf's
 //! parent gives place to its other child, a lesser node that isn't had is done without, and a growth and a shrink do not alternate.
 
+use crate::tests::asserts::assert_same;
 use crate::tests::machine::drawn::next;
 use congee::{
     Allocator, Congee, CongeeArc, DefaultAllocator, Limited, NoDrain, OOMError, U64Congee,
 };
 use std::alloc::Global;
 use std::collections::BTreeMap;
+use std::process::Abort;
 use std::sync::Arc;
 use std::test::Fail;
 
 type Tree<A> = Congee<u64, u64, A, NoDrain>;
+
+type Numbers = U64Congee<u64, DefaultAllocator>;
 
 type Map = BTreeMap<u64, u64>;
 
@@ -168,10 +172,8 @@ fn goes(alloc: Global, distance: u64, beside: u64, below: u64) -> Result<bool, F
 #[test]
 fn nodes_go_up_and_down_through_all_forms(rt: HostRuntime) -> Result<(), Fail> {
     for (distance, beside, below) in NODES {
-        assert!(rt;
-            goes(rt.alloc(), distance, beside, below)?,
-            "{distance} and {beside}"
-        );
+        let goes = goes(rt.alloc(), distance, beside, below)?;
+        assert_same(&rt, (distance, beside, goes), (distance, beside, true));
     }
     Ok(())
 }
@@ -192,34 +194,56 @@ const COLLAPSES: [(&[u64], u64, u64, u64); 7] = [
     (&[1], 1, 2168, 2104),
 ];
 
+/// What moved up is found, changed, parted from, and removed.
+fn is_changed<R: Abort>(
+    rt: &R,
+    tree: &mut Numbers,
+    keys: &[u64],
+    gone: u64,
+) -> Result<(), OOMError> {
+    for key in keys {
+        tree.insert(*key, 7)?;
+        tree.insert(key.wrapping_add(3 << 40), 8)?;
+    }
+    for key in keys {
+        let told = (
+            gone,
+            tree.remove(*key),
+            tree.remove(key.wrapping_add(3 << 40)),
+        );
+        assert_same(rt, told, (gone, Some(7), Some(8)));
+    }
+    assert_same(rt, (gone, tree.charged()), (gone, 2104));
+    Ok(())
+}
+
+/// Keys come, one of them goes, and the others are found.
+fn moves_up<R: Abort>(
+    rt: &R,
+    tree: &mut Numbers,
+    keys: &[u64],
+    gone: u64,
+    charged: (u64, u64),
+) -> Result<(), OOMError> {
+    for key in keys {
+        tree.insert(*key, *key)?;
+    }
+    let told = (tree.charged(), tree.remove(gone), tree.charged());
+    assert_same(rt, told, (charged.0, Some(gone), charged.1));
+    for key in keys {
+        let left = if *key == gone { None } else { Some(*key) };
+        assert_same(rt, (gone, tree.get(*key)), (gone, left));
+    }
+    is_changed(rt, tree, keys, gone)
+}
+
 #[test]
 fn the_other_child_moves_up(rt: HostRuntime) -> Result<(), Fail> {
     for (keys, gone, before, after) in COLLAPSES {
-        let mut tree: U64Congee<u64, DefaultAllocator> = U64Congee::new(
-            rt.alloc(),
-            DefaultAllocator::new(),
-        )?;
-        for key in keys {
-            tree.insert(*key, *key)?;
-        }
-        assert_eq!(rt; tree.charged(), before, "{gone}");
-        assert_eq!(rt; tree.remove(gone), Some(gone));
-        assert_eq!(rt; tree.charged(), after, "{gone}");
-        for key in keys {
-            let left = if *key == gone { None } else { Some(*key) };
-            assert_eq!(rt; tree.get(*key), left, "{gone}");
-        }
-        // What moved up is found, changed, parted from, and removed.
-        for key in keys {
-            tree.insert(*key, 7)?;
-            tree.insert(key.wrapping_add(3 << 40), 8)?;
-        }
-        for key in keys {
-            assert_eq!(rt; tree.remove(*key), Some(7), "{gone}");
-            assert_eq!(rt; tree.remove(key.wrapping_add(3 << 40)), Some(8), "{gone}");
-        }
-        assert_eq!(rt; tree.charged(), 2104, "{gone}");
+        let mut tree: Numbers = U64Congee::new(rt.alloc(), DefaultAllocator::new())?;
+        let moved = moves_up(&rt, &mut tree, keys, gone, (before, after));
         tree.close();
+        moved?;
     }
     Ok(())
 }
@@ -232,21 +256,15 @@ fn a_lesser_node_past_the_budget_is_done_without(rt: HostRuntime) -> Result<(), 
     for (limit, four, three) in LIMITS {
         let mut tree = with_keys(rt.alloc(), Limited::new(limit), 1, 5, 1)?;
         tree.insert(1 << 56, 0)?;
-        assert_eq!(rt;
-            (tree.remove(&1), tree.charged()),
-            (Some(1), four),
-            "{limit}"
-        );
-        assert_eq!(rt;
-            (tree.compute_if_present(&2, |_| None), tree.charged()),
-            (Some((2, None)), three),
-            "{limit}"
-        );
+        let told = (limit, tree.remove(&1), tree.charged());
+        assert_same(&rt, told, (limit, Some(1), four));
+        let told = (limit, tree.compute_if_present(&2, |_| None), tree.charged());
+        assert_same(&rt, told, (limit, Some((2, None)), three));
         // The next removal tries again.
-        assert_eq!(rt; tree.remove(&(1 << 56)), Some(0), "{limit}");
-        assert_eq!(rt; tree.compare_exchange(&3, &3, None), Ok(None), "{limit}");
-        assert_eq!(rt; tree.charged(), 2168, "{limit}");
-        assert_eq!(rt; (tree.get(&4), tree.get(&5)), (Some(4), Some(5)), "{limit}");
+        let gone = (tree.remove(&(1 << 56)), tree.compare_exchange(&3, &3, None));
+        assert_same(&rt, (limit, gone), (limit, (Some(0), Ok(None))));
+        let left = (limit, tree.charged(), tree.get(&4), tree.get(&5));
+        assert_same(&rt, left, (limit, 2168, Some(4), Some(5)));
     }
     Ok(())
 }
@@ -292,10 +310,11 @@ fn a_growth_and_a_shrink_do_not_alternate(rt: HostRuntime) -> Result<(), Fail> {
     for (count, most, distance, leaves) in COUNTS {
         let once = made(rt.alloc(), count, most, distance, 1)?;
         let often = made(rt.alloc(), count, most, distance, 1_001)?;
-        assert_eq!(rt;
-            often.wrapping_sub(once),
-            leaves.wrapping_mul(1_000),
-            "{count} at {distance}"
+        let more = often.wrapping_sub(once);
+        assert_same(
+            &rt,
+            (count, distance, more),
+            (count, distance, leaves.wrapping_mul(1_000)),
         );
     }
     Ok(())
@@ -337,23 +356,39 @@ fn drawn_agree(
     Ok(tree.keys()?.iter().eq(map.keys()))
 }
 
-/// A tree grows and shrinks again and again as a map does, and its statistics count the pairs. Empty, its root alone is charged.
+/// A tree grows and shrinks again and again as a map does, and its statistics count the pairs.
+fn agree<R: Abort>(rt: &R, tree: &mut Tree<DefaultAllocator>, map: &mut Map) -> Result<(), Fail> {
+    let mut number = 1;
+    for _ in 0..6u8 {
+        assert!(rt; drawn_agree(tree, map, &mut number, 600, 7)?);
+        assert!(rt; drawn_agree(tree, map, &mut number, 900, 1)?);
+        assert_same(rt, tree.stats()?.kv_pairs, map.len() as u64);
+    }
+    for key in tree.keys()?.iter() {
+        assert_same(rt, tree.remove(key), map.remove(key));
+    }
+    Ok(())
+}
+
+/// Empty, its root alone is charged.
 #[test]
 fn trees_that_shrink_answer_as_a_map(rt: HostRuntime) -> Result<(), Fail> {
     let mut tree = with_keys(rt.alloc(), DefaultAllocator::new(), 0, 0, 1)?;
     let mut map = Map::new(rt.alloc());
-    let mut number = 1;
-    for _ in 0..6u8 {
-        assert!(rt; drawn_agree(&mut tree, &mut map, &mut number, 600, 7)?);
-        assert!(rt; drawn_agree(&mut tree, &mut map, &mut number, 900, 1)?);
-        assert_eq!(rt; tree.stats()?.kv_pairs, map.len() as u64);
-    }
-    for key in tree.keys()?.iter() {
-        assert_eq!(rt; tree.remove(key), map.remove(key));
-    }
-    assert!(rt; tree.is_empty() && map.is_empty());
-    assert_eq!(rt; tree.charged(), 2104);
+    let agreed = agree(&rt, &mut tree, &mut map);
+    let left = (tree.is_empty(), map.is_empty(), tree.charged());
+    tree.close();
+    agreed?;
+    assert_same(&rt, left, (true, true, 2104));
     Ok(())
+}
+
+/// The number of an owner.
+fn number_of(owner: Option<Arc<u64, Global>>) -> Option<u64> {
+    match owner {
+        Some(owner) => Some(*owner),
+        None => None,
+    }
 }
 
 /// Owners go down as words do: each is handed back once, and those that are left are found.
@@ -365,15 +400,14 @@ fn shared_values_move_with_their_nodes(rt: HostRuntime) -> Result<(), Fail> {
         assert!(rt; matches!(tree.insert(key.wrapping_mul(256), owner), Ok(None)));
     }
     for key in 0..58u64 {
-        let owner = tree.remove(key.wrapping_mul(256));
-        assert!(rt; owner.is_some_and(|owner| *owner == key));
+        assert!(rt; number_of(tree.remove(key.wrapping_mul(256))) == Some(key));
     }
     for key in 58..60u64 {
         let owner = tree
             .get(key.wrapping_mul(256))
             .ok()
             .ok_or("no more owners")?;
-        assert!(rt; owner.is_some_and(|owner| *owner == key));
+        assert!(rt; number_of(owner) == Some(key));
     }
     tree.close();
     Ok(())

@@ -1,4 +1,5 @@
 //! Calls that are stepped by turns on a plain store, worked out by hand.
+use crate::tests::asserts::assert_same;
 use crate::tests::machine::drawn::number_in;
 use crate::tests::texts::{array, call_of, named, part, question};
 use congee::{Child, Move, Noise, Op, Outcome, PlainStore, Seen, Step, play};
@@ -182,15 +183,22 @@ fn run(alloc: Global, room: usize, calls: &[Call<u64>], steps: Steps) -> Result<
 
 /// How many nodes were given back.
 fn given_back(store: &PlainStore) -> usize {
-    store.nodes.iter().filter(|n| n.destroyed).count()
+    let mut count = 0usize;
+    for node in store.nodes.iter() {
+        if node.destroyed {
+            count = count.saturating_add(1);
+        }
+    }
+    count
 }
 
 /// Whether no node is locked but those that were taken out and retired.
 fn is_at_rest(store: &PlainStore) -> bool {
-    store
-        .nodes
-        .iter()
-        .all(|n| n.locked == n.obsolete && n.obsolete == n.retired)
+    let mut rests = true;
+    for node in store.nodes.iter() {
+        rests &= node.locked == node.obsolete && node.obsolete == node.retired;
+    }
+    rests
 }
 
 /// What the steps tell, one after the other.
@@ -229,7 +237,7 @@ fn holds(alloc: Global, worked: &str) -> Result<bool, Fail> {
 fn calls_by_turns_tell_what_was_worked_out(rt: HostRuntime) -> Result<(), Fail> {
     for worked in WORKED {
         let (name, text) = named(worked)?;
-        assert!(rt; holds(rt.alloc(), text)?, "{name}");
+        assert_same(&rt, (name, holds(rt.alloc(), text)?), (name, true));
     }
     Ok(())
 }
@@ -260,7 +268,11 @@ fn a_key_that_comes_and_goes_makes_no_node_twice(rt: HostRuntime) -> Result<(), 
             push_steps(&mut steps, who, 20)?;
         }
         let ran = run(alloc, 100, &calls, steps)?;
-        assert!(rt; ran.store.nodes.len() == nodes, "{others} other keys");
+        assert_same(
+            &rt,
+            (others, ran.store.nodes.len() == nodes),
+            (others, true),
+        );
     }
     Ok(())
 }

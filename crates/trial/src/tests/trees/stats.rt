@@ -1,4 +1,5 @@
 //! The worked text of statistics; what no clause says: the text of an error; and each public call once with ample memory.
+use crate::tests::asserts::assert_same;
 use congee::{
     Allocator, Calls, Congee, DefaultAllocator, Drainer, LevelStats, Limited, NoDrain, NodeInfo,
     NodeStats, NodeType, OOMError,
@@ -155,16 +156,16 @@ fn give<A: Allocator>(allocator: &mut A, size: u64) {
 #[test]
 fn charges_up_to_the_limit(rt: HostRuntime) {
     let mut some = Limited::new(100);
-    assert_eq!(rt; some.allocate(64), Ok(()));
-    assert_eq!(rt; some.allocate(37), Err(budget(64, 37, 100)));
-    assert_eq!(rt; some.allocate(36), Ok(()));
+    assert_same(&rt, some.allocate(64), Ok(()));
+    assert_same(&rt, some.allocate(37), Err(budget(64, 37, 100)));
+    assert_same(&rt, some.allocate(36), Ok(()));
     give(&mut some, 64);
-    assert_eq!(rt; (some.charged(), some.limit()), (36, 100));
+    assert_same(&rt, (some.charged(), some.limit()), (36, 100));
     let mut all = DefaultAllocator::new();
-    assert_eq!(rt; all.allocate(u64::MAX), Ok(()));
-    assert_eq!(rt; all.allocate(1), Err(budget(u64::MAX, 1, u64::MAX)));
+    assert_same(&rt, all.allocate(u64::MAX), Ok(()));
+    assert_same(&rt, all.allocate(1), Err(budget(u64::MAX, 1, u64::MAX)));
     give(&mut all, u64::MAX);
-    assert_eq!(rt; (all.charged(), all.limit()), (0, u64::MAX));
+    assert_same(&rt, (all.charged(), all.limit()), (0, u64::MAX));
 }
 
 fn add_one(words: &mut Vec<u64>) -> Result<(), OOMError> {

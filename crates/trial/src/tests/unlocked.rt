@@ -1,0 +1,36 @@
+//! The index whose readers take no lock: drawn calls of one thread and of many, judged to be one map's; what threads put, and add
+//! up; an index without room; a closure that waits for another call; and each public call once.
+//!
+//! No test has a version near its end: each begins at 0 and is raised by two at a lock, to 2^64. That such a write is refused, and
+//! changes nothing, is proved.
+
+mod calls;
+mod faces;
+mod histories;
+mod rooms;
+mod search;
+mod sums;
+mod waits;
+
+use optimistic::{Pair, U64Congee};
+use std::alloc::{AllocError, Global};
+
+/// The words up to the root's end.
+const ROOT_END: usize = 536;
+
+/// An index with room for nodes of so many words beside its root.
+fn opened(alloc: Global, room: u32) -> Result<U64Congee, AllocError> {
+    match U64Congee::new(alloc, ROOT_END + room as usize) {
+        Ok(index) => Ok(index),
+        Err(_) => Err(AllocError),
+    }
+}
+
+/// Closes an index, and takes its pairs. There are none where a node is locked.
+fn drained(alloc: Global, index: U64Congee) -> Result<Option<Vec<Pair>>, AllocError> {
+    let last = index.worker(alloc)?.retire();
+    match index.close(last) {
+        Ok(mut pairs) => Ok(pairs.drain(alloc).ok()),
+        Err(_) => Ok(None),
+    }
+}

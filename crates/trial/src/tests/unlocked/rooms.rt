@@ -1,0 +1,119 @@
+//! An index without room for the node that a key wants: for a growth of each form, for a first node, for a node over two others.
+
+use super::opened;
+use optimistic::{Refusal, Worker};
+use std::alloc::{AllocError, Global};
+use std::sync::Wait;
+use std::test::Fail;
+
+/// Keys that fill nodes of one kind.
+#[derive(Clone, Copy, Debug)]
+enum Row {
+    /// Of one inner node, with a lone leaf below each byte.
+    Inner,
+    /// Of one leaf.
+    Leaf,
+    /// Each parts from the others one byte further up.
+    Parting,
+}
+
+impl Row {
+    /// The key at a place, in the second part of all keys by their first byte.
+    fn key(self, place: u64) -> u64 {
+        let at = match self {
+            Row::Inner => place << 48,
+            Row::Leaf => place,
+            Row::Parting => (1 << (place.wrapping_mul(8) % 64)) / 256,
+        };
+        1 << 56 | at
+    }
+}
+
+/// Puts keys in until one is refused, and tells how many came in.
+fn fills<R: Wait>(rt: &R, worker: &mut Worker, row: Row, most: u64) -> u64 {
+    for place in 0..most {
+        if worker.insert(rt, row.key(place), place) != Ok(None) {
+            return place;
+        }
+    }
+    most
+}
+
+/// How many of the first keys have what was put there.
+fn found<R: Wait>(rt: &R, worker: &mut Worker, row: Row, count: u64) -> u64 {
+    let mut found = 0u64;
+    for place in 0..count {
+        let is_found = worker.get(rt, row.key(place)) == Some(place);
+        found = found.saturating_add(u64::from(is_found));
+    }
+    found
+}
+
+/// Whether a refused key leaves all as it was: the others' values, a write over one of them, and a key elsewhere.
+fn is_refused<R: Wait>(rt: &R, worker: &mut Worker, row: Row, taken: u64) -> bool {
+    let key = row.key(taken);
+    worker.insert(rt, key, taken) == Err(Refusal::Full)
+        && worker.try_insert(key, taken) == Err(Refusal::Full)
+        && worker.compute_or_insert(rt, key, |_| taken) == Err(Refusal::Full)
+        && worker.get(rt, key) == None
+        && found(rt, worker, row, taken) == taken
+        && worker.insert(rt, row.key(0), 7) == Ok(Some(0))
+        && worker.insert(rt, 7, 7) == Ok(None)
+        && worker.remove(rt, row.key(0)) == Ok(Some(7))
+        && worker.remove(rt, 7) == Ok(Some(7))
+        && worker.insert(rt, row.key(0), 0) == Ok(None)
+}
+
+/// How many keys of a row an index of so many words takes, and whether the next one leaves it as it was.
+fn filled<R: Wait>(
+    rt: &R,
+    alloc: Global,
+    room: u32,
+    row: Row,
+    most: u64,
+) -> Result<(u64, bool), AllocError> {
+    let index = opened(alloc, room)?;
+    let mut worker = index.worker(alloc)?;
+    let taken = fills(rt, &mut worker, row, most);
+    let is_right = taken == most || is_refused(rt, &mut worker, row, taken);
+    drop(worker);
+    drop(index);
+    Ok((taken, is_right))
+}
+
+/// Inner nodes have 12, 40, 112 and 520 words, leaves 8, 24, 64 and 264.
+const ROWS: [(Row, u32, u64); 24] = [
+    (Row::Inner, 0, 1),
+    (Row::Inner, 11, 1),
+    (Row::Inner, 12, 4),
+    (Row::Inner, 51, 4),
+    (Row::Inner, 52, 16),
+    (Row::Inner, 163, 16),
+    (Row::Inner, 164, 48),
+    (Row::Inner, 683, 48),
+    (Row::Inner, 684, 256),
+    (Row::Leaf, 0, 1),
+    (Row::Leaf, 7, 1),
+    (Row::Leaf, 8, 4),
+    (Row::Leaf, 31, 4),
+    (Row::Leaf, 32, 16),
+    (Row::Leaf, 95, 16),
+    (Row::Leaf, 96, 48),
+    (Row::Leaf, 359, 48),
+    (Row::Leaf, 360, 256),
+    (Row::Parting, 7, 1),
+    (Row::Parting, 8, 2),
+    (Row::Parting, 19, 2),
+    (Row::Parting, 20, 3),
+    (Row::Parting, 31, 3),
+    (Row::Parting, 32, 4),
+];
+
+#[test]
+fn a_key_without_room_changes_nothing(rt: HostRuntime) -> Result<(), Fail> {
+    for (row, room, taken) in ROWS {
+        let known = filled(&rt, rt.alloc(), room, row, 256)?;
+        assert_eq!(rt; known, (taken, true), "{row:?}, {room} words");
+    }
+    Ok(())
+}
