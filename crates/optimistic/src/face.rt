@@ -11,7 +11,7 @@ mod writes;
 
 pub use close::Retired;
 pub use congee::{Congee, WordWorker};
-pub use index::U64Congee;
-pub use refusal::Refusal;
+pub use index::{LEAST_WORDS, MOST_WORDS, U64Congee};
+pub use refusal::{Refusal, Unopened};
 pub use seen::Seen;
 pub use worker::Worker;

@@ -14,4 +14,6 @@ mod tree;
 mod words;
 
 pub use drain::{Locked, Pair, Pairs, Undrained};
-pub use face::{Congee, Refusal, Retired, Seen, U64Congee, WordWorker, Worker};
+pub use face::{
+    Congee, LEAST_WORDS, MOST_WORDS, Refusal, Retired, Seen, U64Congee, Unopened, WordWorker, Worker,
+};

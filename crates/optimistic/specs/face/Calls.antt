@@ -2,12 +2,14 @@
 use Rattle.std.specs.Prelude.{◌≡◌, ℕ, List, [], ◌∷◌, ◌++◌, Option}
 use Rattle.atomic_table.specs.Seated.{TableId}
 use Rattle.optimistic.specs.declared.words.rule.Entry.{Entry}
+use Rattle.optimistic.specs.declared.words.rule.Moment.{Moment}
 use Rattle.optimistic.specs.words.Calls.{entry_of}
 use Rattle.optimistic.specs.words.Kept.{calls_by, value_of, StartsWith}
 
--- its index, the log as far as it has seen it, its own calls, and its number in the log
+-- its index, the words and nodes as it last saw them, the log as far as it has seen it, its own calls, and its number in the log
 pub record Known : Type 0 where
   pub index : TableId
+  pub moment : Moment
   pub seen : List Entry
   pub made : List Entry
   pub by : ℕ

@@ -13,10 +13,11 @@ use Rattle.optimistic.specs.words.Kept.{has, view_of}
 use Rattle.optimistic.specs.words.Told.{view, IsNote}
 use Rattle.optimistic.specs.tree.Fresh.{IsFreeOf}
 use Rattle.optimistic.specs.tree.Sets.{Allows}
-use Rattle.optimistic.specs.face.Calls.{Known, Looked, Wrote, Found}
+use Rattle.optimistic.specs.face.Calls.{Known, Wrote, Found}
+use Rattle.optimistic.specs.face.Refusals.{IsRefused}
 
 abbrev pub known : TableId → View → Known
-known id v = record { index = id; seen = v.seen.log; made = v.made; by = v.by }
+known id v = record { index = id; moment = v.seen; seen = v.seen.log; made = v.made; by = v.by }
 
 -- a hand has no node
 abbrev pub HasNone : View → Type 0
@@ -30,4 +31,4 @@ HasNames id free note = IsNote id (view note).told note × (length (view note).t
 abbrev pub IsWritten : Write → Known → Known → Result Written Refusal → Type 0
 IsWritten write v w (Ok (Made old)) = Wrote write.key write.value old v w × Allows write old
 IsWritten write v w (Ok (Differs x)) = Found write.key x v w × (Allows write x → ⊥)
-IsWritten write v w (Err e) = Looked v w
+IsWritten write v w (Err e) = IsRefused e v w

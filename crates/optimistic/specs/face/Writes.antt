@@ -10,7 +10,8 @@ use Rattle.optimistic.specs.declared.tree.write.Condition.TheVariants.{Always, H
 use Rattle.optimistic.specs.declared.tree.write.Write.{Write}
 use Rattle.optimistic.specs.declared.words.nodes.Uncarved.{Uncarved}
 use Rattle.optimistic.specs.declared.words.nodes.Uncarved.TheVariants as uncarved
-use Rattle.optimistic.specs.face.Calls.{Known, Looked, Wrote, Found}
+use Rattle.optimistic.specs.face.Calls.{Known, Wrote, Found}
+use Rattle.optimistic.specs.face.Refusals.{IsRefused}
 
 abbrev pub insertion : ℕ → ℕ → Write
 insertion key value = record { key = key; value = Some value; only = Always }
@@ -54,16 +55,16 @@ IsFinal e = e ≢ refusal.Again
 -- a value was put at a key, which had this before, or nothing was done
 abbrev pub IsInserted : ℕ → ℕ → Known → Known → Result (Option ℕ) Refusal → Type 0
 IsInserted key value v w (Ok old) = Wrote key (Some value) old v w
-IsInserted key value v w (Err e) = Looked v w
+IsInserted key value v w (Err e) = IsRefused e v w
 
 -- a key's value was taken out, or the key had none, or nothing was done
 abbrev pub IsRemoved : ℕ → Known → Known → Result (Option ℕ) Refusal → Type 0
 IsRemoved key v w (Ok (Some x)) = Wrote key None (Some x) v w
 IsRemoved key v w (Ok None) = Found key None v w
-IsRemoved key v w (Err e) = Looked v w
+IsRemoved key v w (Err e) = IsRefused e v w
 
 -- the new value came in the old one's place, or the key has something else, or nothing was done
 abbrev pub IsExchanged : ℕ → ℕ → Option ℕ → Known → Known → Result (Result (Option ℕ) (Option ℕ)) Refusal → Type 0
 IsExchanged key old new v w (Ok (Ok x)) = (x ≡ new) × Wrote key new (Some old) v w
 IsExchanged key old new v w (Ok (Err x)) = Found key x v w × (x ≢ Some old)
-IsExchanged key old new v w (Err e) = Looked v w
+IsExchanged key old new v w (Err e) = IsRefused e v w

@@ -90,7 +90,7 @@ HasLower l n Exhausted v w = ⊥
 abbrev pub IsBoth : Place → Place → Both → View → View → Type 0
 IsBoth a n (Had x y) v w = (x.at ≡ a) × (y.at ≡ n) × HasPair x y v w × (w.mine ≡ tenure n.node true ∷ (tenure a.node true ∷ v.mine))
 IsBoth a n Busy v w = Keeps v w × Since v.seen w.seen × HasNoMore v w
-IsBoth a n Exhausted v w = Keeps v w × Since v.seen w.seen × HasNoMore v w × HasEnded w
+IsBoth a n Exhausted v w = Keeps v w × Since v.seen w.seen × HasNoMore v w × HasEnded w.seen
 
 -- the hand went on, has the nodes that it had, and these are settled as they were
 pub record GoesOn (v w : View) : Type 0 where

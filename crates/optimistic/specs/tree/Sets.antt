@@ -21,7 +21,7 @@ IsSet key value (Differs x) v w = Keeps v w × (x ≡ value_of key w.seen.log)
 IsSet key value Again v w = Keeps v w
 IsSet key value Full v w = Keeps v w
 IsSet key value Taken v w = Keeps v w
-IsSet key value Exhausted v w = Keeps v w × HasEnded w
+IsSet key value Exhausted v w = Keeps v w × HasEnded w.seen
 
 -- the condition holds of a key that has x
 abbrev pub Meets : Condition → Option ℕ → Type 0

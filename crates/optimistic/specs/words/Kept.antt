@@ -58,12 +58,13 @@ StartsWith log seen = (rest : List Entry) × (log ≡ seen ++ rest)
 abbrev pub Calm : ℕ → Moment → Moment → Type 0
 Calm n a b = (j : ℕ) → calm_at b.calm n j ≡ calm_at a.calm n j
 
--- What was seen at the moment a is a beginning of what there is at b: of the log, of the nodes, and of each node's versions. A node that
--- nobody had, and that has the same version at both, was not settled anew in between
+-- What was seen at the moment a is a beginning of what there is at b: of the log, of the nodes, of the words in use, and of each node's
+-- versions. A node that nobody had, and that has the same version at both, was not settled anew in between
 pub record Since (a b : Moment) : Type 0 where
   pub log : StartsWith b.log a.log
   pub wide : length b.words ≡ length a.words
   pub plots : (n : ℕ) → 0 < size a.plots n → form_at b.plots n ≡ form_at a.plots n
+  pub end : slice_index a.words 0 ≤ slice_index b.words 0
   pub grows : (n : ℕ) → 0 < size a.plots n → version_at a.words n ≤ version_at b.words n
   pub still : (n : ℕ) → 0 < size a.plots n → version_at a.words n % 2 ≡ 0 → version_at a.words n ≡ version_at b.words n → Calm n a b
 

@@ -1,9 +1,10 @@
 //! The index for keys and values of eight bytes.
-ghost use Rattle.std.specs.Prelude.{◌≡◌, ◌<◌, ◌≤◌, ◌^◌, [], IfErr, IfOk, IfSome};
+ghost use Rattle.std.specs.Prelude.{◌≡◌, [], IfErr, IfOk, IfSome, MatchResult};
 ghost use Rattle.std.specs.Option.{option_map};
 ghost use Rattle.optimistic.specs.words.Kept.{calls_by, StartsWith};
 ghost use Rattle.optimistic.specs.face.Calls.{Saw, Looked, Found};
 ghost use Rattle.optimistic.specs.face.Computes.{IsComputed, IsReplaced};
+ghost use Rattle.optimistic.specs.face.Refusals.{IsSize, IsUnopened};
 ghost use Rattle.optimistic.specs.face.Writes.{IsInserted, IsRemoved, IsExchanged, IsFinal};
 ghost use Rattle.optimistic.specs.face.Words.{As, words, either_words};
 ghost use Rattle.optimistic.specs.tree.Drained.{IsClosed, HasNoRoot};
@@ -11,7 +12,7 @@ ghost use Rattle.optimistic.specs.tree.Drained.{IsClosed, HasNoRoot};
 use crate::drain::{Locked, Pairs};
 use crate::face::close::Retired;
 use crate::face::index::U64Congee;
-use crate::face::refusal::Refusal;
+use crate::face::refusal::{Refusal, Unopened};
 use crate::face::seen::Seen;
 use crate::face::worker::Worker;
 use judge::{Word64, number_of, word_of};
@@ -65,9 +66,11 @@ fn either_words<V: Word64>(
 }
 
 impl<K: Word64, V: Word64> Congee<K, V> {
-    /// An empty index of so many words of memory.
-    pub fn new(alloc: Global, words: usize) -> Result<Self, AllocError>
-        requires { (536 ≤ words) × (words < 2 ^ 48) }
+    /// An empty index of so many words of memory, from `LEAST_WORDS` to `MOST_WORDS`. Another number of words is refused, and so
+    /// is want of memory.
+    pub fn new(alloc: Global, words: usize) -> Result<Self, Unopened>
+        ensures words { IfOk result (λ i. i.index.tree.nodes.table.shared.table_id.words ≡ words) }
+        ensures cause { MatchResult result (λ _. IsSize words) (IsUnopened words) }
     {
         let index = U64Congee::new(alloc, words)?;
         Ok(Congee {
@@ -226,6 +229,7 @@ impl<'t, K: Word64, V: Word64> WordWorker<'t, K, V> {
     {
         self.worker.heed(other);
     }
+
     /// Gives the worker back: what it knows goes on, and is with what its index is closed.
     pub fn retire(self) -> Retired
         ensures { result ≡ self.entry }

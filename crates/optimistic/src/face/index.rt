@@ -1,10 +1,18 @@
 //! The index.
-ghost use Rattle.std.specs.Prelude.{◌≡◌, ◌<◌, ◌≤◌, ◌^◌, [], IfOk};
+ghost use Rattle.std.specs.Prelude.{◌≡◌, [], IfOk, MatchResult};
 ghost use Rattle.optimistic.specs.words.Kept.{calls_by};
+ghost use Rattle.optimistic.specs.face.Refusals.{IsSize, IsUnopened};
 
+use crate::face::refusal::Unopened;
 use crate::face::worker::Worker;
 use crate::tree::Tree;
 use std::alloc::{AllocError, Global};
+
+/// The fewest words that an index may have: so many its root takes, and what lies before that.
+pub const LEAST_WORDS: usize = 536;
+
+/// The most words that an index may have.
+pub const MOST_WORDS: usize = (1 << 48) - 1;
 
 /// An ordered map from numbers to numbers that threads share. No reader takes a lock, and a writer locks single nodes.
 ///
@@ -15,10 +23,15 @@ pub struct U64Congee {
 }
 
 impl U64Congee {
-    /// An empty index of so many words.
-    pub fn new(alloc: Global, words: usize) -> Result<Self, AllocError>
-        requires { (536 ≤ words) × (words < 2 ^ 48) }
+    /// An empty index of so many words, from `LEAST_WORDS` to `MOST_WORDS`. Another number of words is refused, and so is want
+    /// of memory.
+    pub fn new(alloc: Global, words: usize) -> Result<Self, Unopened>
+        ensures words { IfOk result (λ i. i.tree.nodes.table.shared.table_id.words ≡ words) }
+        ensures cause { MatchResult result (λ _. IsSize words) (IsUnopened words) }
     {
+        if !(LEAST_WORDS..=MOST_WORDS).contains(&words) {
+            return Err(Unopened::Words);
+        }
         let tree = Tree::new(alloc, words)?;
         Ok(U64Congee { tree })
     }

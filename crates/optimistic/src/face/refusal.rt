@@ -1,4 +1,6 @@
-//! Why a write is not made.
+//! Why a write is not made, and why an index is not opened.
+
+use std::alloc::AllocError;
 
 /// Why a write is not made. Nothing is changed then, and no node is left locked.
 #[derive(Clone, Copy, Debug, PartialEq, Eq, Drop)]
@@ -9,4 +11,24 @@ pub enum Refusal {
     Full,
     /// A node was locked as often as a node can be.
     Exhausted,
+}
+
+/// Why an index is not opened.
+#[derive(Clone, Copy, Debug, PartialEq, Eq, Drop)]
+pub enum Unopened {
+    /// It can't have so many words: fewer than `LEAST_WORDS`, or more than `MOST_WORDS`.
+    Words,
+    /// There is no memory for them.
+    Memory(AllocError),
+}
+
+impl From<AllocError> for Unopened {
+    ghost use Rattle.std.specs.Prelude.{◌≡◌};
+    ghost use Rattle.optimistic.specs.declared.face.refusal.Unopened.TheVariants.{Memory};
+
+    ghost from_gives = { λ e u. u ≡ Memory e };
+
+    fn from(error: AllocError) -> Self {
+        Unopened::Memory(error)
+    }
 }

@@ -15,7 +15,8 @@ use std::marker::Model;
 use std::mem::replace;
 use std::sync::Wait;
 
-/// A thread's hand at an index, with the names of the nodes that it freed.
+/// A thread's hand at an index, with the names of the nodes that it freed. These are lost when it is dropped or given back: such
+/// nodes aren't used again before the index is closed.
 #[derive(Drop)]
 pub struct Worker<'t> {
     tree: &'t Tree,

@@ -1,7 +1,8 @@
 //! New nodes: those that a worker freed are taken again first, and then nodes are carved.
-ghost use Rattle.std.specs.Prelude.{◌≡◌, ℕ, ◌+◌, ◌%◌, ◌^◌, ◌<◌, true, IfOk, IfSome, MatchOption, MatchResult, length};
+ghost use Rattle.std.specs.Prelude.{◌≡◌, ℕ, ◌+◌, ◌%◌, ◌^◌, ◌<◌, true, IfErr, IfOk, IfSome, MatchOption, MatchResult, length};
 ghost use Rattle.optimistic.specs.declared.words.rule.View.{View};
 ghost use Rattle.optimistic.specs.words.Kept.{Since};
+ghost use Rattle.optimistic.specs.words.Room.{IsUncarved};
 ghost use Rattle.optimistic.specs.words.Told.{view, IsOf, HasForm, Looks};
 ghost use Rattle.optimistic.specs.tree.Fresh.{IsFreeOf, IsMade};
 ghost use Rattle.optimistic.specs.tree.Trees.{IsTree};
@@ -99,6 +100,7 @@ impl Tree {
         ensures of { IsOf self.now.nodes.table.shared.table_id hand.new }
         ensures since { Since (view hand.old).seen (view hand.new).seen }
         ensures fresh { MatchResult result (λ r. IsMade r form (view hand.old) (view hand.new)) (λ _. Looks IsTree (view hand.old) (view hand.new)) }
+        ensures cause { IfErr result (λ e. IsUncarved self.now.nodes.table.shared.table_id.words e (view hand.new).seen) }
     {
         let node = self.nodes.carve(hand, form)?;
         match self.take_free(hand, node, form) {
@@ -122,6 +124,7 @@ impl Tree {
         ensures of { IsOf self.now.nodes.table.shared.table_id hand.new }
         ensures names { IsFreeOf free.new (view hand.new) }
         ensures fresh { MatchResult result (λ r. IsMade r form (view hand.old) (view hand.new)) (λ _. Looks IsTree (view hand.old) (view hand.new)) }
+        ensures cause { IfErr result (λ e. IsUncarved self.now.nodes.table.shared.table_id.words e (view hand.new).seen) }
     {
         match self.take_free(hand, node, form) {
             Some(fresh) => Ok(fresh),
@@ -140,6 +143,7 @@ impl Tree {
         ensures of { IsOf self.now.nodes.table.shared.table_id hand.new }
         ensures names { IsFreeOf free.new (view hand.new) }
         ensures fresh { MatchResult result (λ r. IsMade r form (view hand.old) (view hand.new)) (λ _. Looks IsTree (view hand.old) (view hand.new)) }
+        ensures cause { IfErr result (λ e. IsUncarved self.now.nodes.table.shared.table_id.words e (view hand.new).seen) }
     {
         match free.pop(form) {
             Some(node) => self.fresh_or(hand, free, node, form),

@@ -39,6 +39,7 @@ impl Tree {
     /// An empty tree, of so many words.
     pub fn new(alloc: Global, words: usize) -> Result<Tree, AllocError>
         requires { (536 ≤ words) × (words < 2 ^ 48) }
+        ensures { IfOk result (λ t. t.nodes.count ≡ words) }
     {
         let nodes = Nodes::new(alloc, words)?;
         Ok(Tree { nodes })

@@ -1,8 +1,9 @@
 //! A new node where the key's place at its last node is taken: it comes between the node and the child that stands there.
-ghost use Rattle.std.specs.Prelude.{◌≡◌, ◌≢◌, ◌<◌, ◌+◌, ◌^◌, ◌⊎◌, true, Some, None, IfOk, MatchResult};
+ghost use Rattle.std.specs.Prelude.{◌≡◌, ◌≢◌, ◌<◌, ◌+◌, ◌^◌, ◌⊎◌, true, Some, None, IfErr, IfOk, MatchResult};
 ghost use Rattle.optimistic.specs.Layout.{byte_at, child_of, leaf_of, where_of};
 ghost use Rattle.optimistic.specs.words.Calls.{Keeps};
 ghost use Rattle.optimistic.specs.words.Kept.{has, Since};
+ghost use Rattle.optimistic.specs.words.Room.{IsUncarved};
 ghost use Rattle.optimistic.specs.words.Told.{view, IsOf, HasForm, Tells, IsDrafted};
 ghost use Rattle.optimistic.specs.forms.Children.{is_inner, first_of, second_of, IsForm, Becomes};
 ghost use Rattle.optimistic.specs.forms.Pairs.{HasTwo};
@@ -186,6 +187,7 @@ impl Tree {
         ensures since { Since (view hand.old).seen (view hand.new).seen }
         ensures names { IsFreeOf free.new (view hand.new) }
         ensures set { MatchResult result (λ s. IsSet key (Some value) s (view hand.old) (view hand.new)) (λ _. Keeps (view hand.old) (view hand.new)) }
+        ensures cause { IfErr result (λ e. IsUncarved self.now.nodes.table.shared.table_id.words e (view hand.new).seen) }
         ensures first { IfOk result IsFirst }
         ensures lets_go { LetsGo at.node (view hand.old) (view hand.new) }
     {
@@ -220,6 +222,7 @@ impl Tree {
         ensures since { Since (view hand.old).seen (view hand.new).seen }
         ensures names { IsFreeOf free.new (view hand.new) }
         ensures set { MatchResult result (λ s. IsSet key (Some value) s (view hand.old) (view hand.new)) (λ _. Keeps (view hand.old) (view hand.new)) }
+        ensures cause { IfErr result (λ e. IsUncarved self.now.nodes.table.shared.table_id.words e (view hand.new).seen) }
         ensures first { IfOk result IsFirst }
         ensures lets_go { LetsGo at.node (view hand.old) (view hand.new) }
     {
@@ -257,6 +260,7 @@ impl Tree {
         ensures since { Since (view hand.old).seen (view hand.new).seen }
         ensures names { IsFreeOf free.new (view hand.new) }
         ensures set { MatchResult result (λ s. IsSet key (Some value) s (view hand.old) (view hand.new)) (λ _. Keeps (view hand.old) (view hand.new)) }
+        ensures cause { IfErr result (λ e. IsUncarved self.now.nodes.table.shared.table_id.words e (view hand.new).seen) }
         ensures first { IfOk result IsFirst }
         ensures no_more { HasNoMore (view hand.old) (view hand.new) }
     {

@@ -1,8 +1,9 @@
 //! The nodes, and the steps on them.
-ghost use Rattle.std.specs.Prelude.{ℕ, ◌≡◌, ◌+◌, ◌*◌, ◌%◌, ◌^◌, ◌<◌, ◌≤◌, true, false, [], List, IfOk, IfSome, MatchBool};
+ghost use Rattle.std.specs.Prelude.{ℕ, ◌≡◌, ◌+◌, ◌*◌, ◌%◌, ◌^◌, ◌<◌, ◌≤◌, true, false, [], List, IfErr, IfOk, IfSome, MatchBool};
 ghost use Rattle.optimistic.specs.Layout.{width, is_link};
 ghost use Rattle.optimistic.specs.words.Kept.{word_at, version_at, has, first_calm, Follows};
 ghost use Rattle.optimistic.specs.words.Last.{words_in, IsLast};
+ghost use Rattle.optimistic.specs.words.Room.{IsUncarved};
 ghost use Rattle.optimistic.specs.declared.words.rule.Moment.{Moment};
 ghost use Rattle.optimistic.specs.words.Told.{view, IsOf, IsNote, IsFresh, HasForm, Tells, Looks, Locks, Stores, Unlocks, Releases, MayUnlock, HasAlso, IsDrafted};
 
@@ -206,6 +207,7 @@ impl<P: Shape> Nodes<P> {
         ensures of { IsOf self.now.table.shared.table_id hand.new }
         ensures looks { Looks P.good (view hand.old) (view hand.new) }
         ensures node { IfOk result (λ n. HasForm n form (view hand.new)) }
+        ensures cause { IfErr result (λ e. IsUncarved self.now.table.shared.table_id.words e (view hand.new).seen) }
     {
         let end = self.table.shared.load::<Look<P>>(hand, END);
         let room = self.count as u64;

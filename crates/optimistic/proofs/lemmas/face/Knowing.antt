@@ -1,5 +1,5 @@
 -- What a worker knows after some calls.
-use Rattle.std.proofs.Common.{◌≡◌, ℕ, List, [], ◌∷◌, ◌++◌, length, sym, refl, ap, ◌∙◌, subst, Option, Result, Ok, Err, MatchResult, IfOk, slice_index_or, ◌+◌, ◌<◌, ◌≤◌}
+use Rattle.std.proofs.Common.{◌≡◌, ℕ, List, [], ◌∷◌, ◌++◌, length, sym, refl, ap, ◌∙◌, subst, Option, Result, Ok, Err, MatchResult, IfOk, IfErr, slice_index_or, ◌+◌, ◌<◌, ◌≤◌}
 use mathlib.Core.List.{append-nil, append_assoc}
 use Rattle.atomic_table.specs.Seated.{TableId}
 use Rattle.atomic_table.specs.Table.{Me}
@@ -20,10 +20,12 @@ use Rattle.optimistic.specs.declared.words.rule.Tenure.{Tenure}
 use Rattle.optimistic.specs.declared.words.rule.View.{View}
 use Rattle.optimistic.specs.words.Calls.{Later, Keeps, entry_of}
 use Rattle.optimistic.specs.words.Kept.{has, value_of, view_of, Follows}
+use Rattle.optimistic.specs.words.Room.{IsUncarved}
 use Rattle.optimistic.specs.words.Told.{view, noted, IsNote}
 use Rattle.optimistic.specs.tree.Fresh.{IsFreeOf}
 use Rattle.optimistic.specs.tree.Sets.{Replaces, IsSet, Minds, HasNoMore}
 use Rattle.optimistic.specs.face.Calls.{Known, Saw, Looked, Wrote, Found}
+use Rattle.optimistic.specs.face.Refusals.{IsRefused}
 use Rattle.optimistic.specs.face.Writes.{came_of, outcome_of}
 use Rattle.optimistic.specs.face.Workers.{known, HasNone, HasNames, IsWritten}
 use Rattle.optimistic.specs.Layout.{width}
@@ -73,10 +75,13 @@ saw_wrote key value old u v w p q = let e : ℕ → List Entry = λ z. entry_of 
       ),
     )
 
+pub saw_refused : (e : Refusal) (u v w : Known) → Saw u v → IsRefused e v w → IsRefused e u w
+saw_refused e u v w p t = (saw_looked u v w p t.0, t.1)
+
 pub saw_written : (write : Write) (u v w : Known) (r : Result Written Refusal) → Saw u v → IsWritten write v w r → IsWritten write u w r
 saw_written write u v w (Ok (Made old)) p t = (saw_wrote write.key write.value old u v w p t.0, t.1)
 saw_written write u v w (Ok (Differs x)) p t = (saw_found write.key x u v w p t.0, t.1)
-saw_written write u v w (Err e) p t = saw_looked u v w p t
+saw_written write u v w (Err e) p t = saw_refused e u v w p t
 
 -- names of nodes at a moment that a note tells
 pub has_names : (id : TableId) (m : Moment) (free : Free) (h : Seat Note View) → IsNote id m h → length m.words ≡ id.words → IsFreeOf free (view_of m [] [] 0) → HasNames id free h
@@ -104,19 +109,19 @@ names_of free w t = record {
 pub set_written : (write : Write) (id : TableId) (v w : View) (s : Set) → IsSet write.key write.value s v w → Minds write s → IsWritten write (known id v) (known id w) (came_of s)
 set_written write id v w (set.Done old) t m = (replaces_wrote id write.key write.value old v w t, m)
 set_written write id v w (set.Differs x) t m = ((keeps_looked id v w t.0, t.1), m)
-set_written write id v w set.Again t m = keeps_looked id v w t
-set_written write id v w set.Full t m = keeps_looked id v w t
-set_written write id v w set.Taken t m = keeps_looked id v w t
-set_written write id v w set.Exhausted t m = keeps_looked id v w t.0
+set_written write id v w set.Again t m = (keeps_looked id v w t, tt)
+set_written write id v w set.Full t m = (keeps_looked id v w t, tt)
+set_written write id v w set.Taken t m = (keeps_looked id v w t, tt)
+set_written write id v w set.Exhausted t m = (keeps_looked id v w t.0, t.1)
 
-pub outcome_written : (write : Write) (id : TableId) (v w : View) (r : Result Set Uncarved) → MatchResult r (λ s. IsSet write.key write.value s v w) (λ _. Keeps v w) → IfOk r (Minds write) → IsWritten write (known id v) (known id w) (outcome_of r)
-outcome_written write id v w (Ok s) t m = set_written write id v w s t m
-outcome_written write id v w (Err uncarved.Full) t m = keeps_looked id v w t
-outcome_written write id v w (Err uncarved.Again) t m = keeps_looked id v w t
+pub outcome_written : (write : Write) (id : TableId) (v w : View) (r : Result Set Uncarved) → MatchResult r (λ s. IsSet write.key write.value s v w) (λ _. Keeps v w) → IfOk r (Minds write) → IfErr r (λ e. IsUncarved id.words e w.seen) → IsWritten write (known id v) (known id w) (outcome_of r)
+outcome_written write id v w (Ok s) t m c = set_written write id v w s t m
+outcome_written write id v w (Err uncarved.Full) t m c = (keeps_looked id v w t, c)
+outcome_written write id v w (Err uncarved.Again) t m c = (keeps_looked id v w t, tt)
 
 -- a worker whose write wasn't made has seen no less, and has made no call more
 pub differs_saw : (write : Write) (v w : Known) (r : Result Written Refusal) (x : Option ℕ) → r ≡ Ok (Differs x) → IsWritten write v w r → Saw v w
 differs_saw write v w r x e t = (subst (IsWritten write v w) e t).0.0.0
 
 pub refused_saw : (write : Write) (v w : Known) (r : Result Written Refusal) (e : Refusal) → r ≡ Err e → IsWritten write v w r → Saw v w
-refused_saw write v w r e is t = (subst (IsWritten write v w) is t).0
+refused_saw write v w r e is t = (subst (IsWritten write v w) is t).0.0

@@ -4,6 +4,8 @@ use mathlib.Core.Option.{some, some-injective, some-ne-none}
 use mathlib.Core.List.{append-nil, append_assoc}
 use lib.ListN.{get_elem?}
 use Rattle.optimistic.specs.Layout.{width, is_link}
+use Rattle.optimistic.specs.declared.words.nodes.Uncarved.{Uncarved}
+use Rattle.optimistic.specs.declared.words.nodes.Uncarved.TheVariants as uncarved
 use Rattle.optimistic.specs.declared.words.rule.Block.{Block}
 use Rattle.optimistic.specs.declared.words.rule.Entry.{Entry}
 use Rattle.optimistic.specs.declared.words.rule.Moment.{Moment}
@@ -11,6 +13,7 @@ use Rattle.optimistic.specs.declared.words.rule.Plot.{Plot}
 use Rattle.optimistic.specs.declared.words.rule.Tenure.{Tenure}
 use Rattle.optimistic.specs.declared.words.rule.View.{View}
 use Rattle.optimistic.specs.words.Kept.{word_at, version_at, form_at, size, calm_at, has, calls_by, value_after, Calm, Since, Follows, Held, Names, nothing, plot, block}
+use Rattle.optimistic.specs.words.Room.{IsUncarved}
 use Rattle.optimistic.specs.words.Told.{tenure, signed, decided, also, HasAlso, HasForm, Tells}
 
 -- how many words a node of each form has
@@ -150,13 +153,14 @@ pub inside_since : (a b : Moment) → Since a b → (n j : ℕ) → j < size a.p
 inside_since a b s n j l = let e : size b.plots n ≡ size a.plots n = size_since a b s n j l in omega arith
 
 pub since_refl : (m : Moment) → Since m m
-since_refl m = record { log = ([], sym (append-nil m.log)); wide = refl; plots = λ n _. refl; grows = λ n _. le_refl (version_at m.words n); still = λ n _ _ _ j. refl }
+since_refl m = record { log = ([], sym (append-nil m.log)); wide = refl; plots = λ n _. refl; end = le_refl (get_or m.words 0 0); grows = λ n _. le_refl (version_at m.words n); still = λ n _ _ _ j. refl }
 
 pub since_trans : (a b c : Moment) → Since a b → Since b c → Since a c
 since_trans a b c p q = record {
   log = (p.log.0 ++ q.log.0, q.log.1 ∙ (ap (λ (l : List Entry). l ++ q.log.0) p.log.1 ∙ append_assoc a.log p.log.0 q.log.0));
   wide = q.wide ∙ p.wide;
   plots = λ n l. q.plots n (inside_since a b p n 0 l) ∙ p.plots n l;
+  end = le_trans p.end q.end;
   grows = λ n l. le_trans (p.grows n l) (q.grows n (inside_since a b p n 0 l));
   still = λ n l even e. let l' = inside_since a b p n 0 l in let t = sandwich (version_at a.words n) (version_at b.words n) (version_at c.words n) (p.grows n l) (q.grows n l') e in
       calm_trans n a b c (p.still n l even t.0) (q.still n l' (ap (λ (z : ℕ). z % 2) (sym t.0) ∙ even) t.1);
@@ -184,6 +188,11 @@ held_version mine a b p n some_word h = version_word b.words n ∙ ((p n h).0 0 
 
 pub at_nothing : (u : View) (i : ℕ) → get_elem? [] i ≡ some u → ⊥
 at_nothing u i e = some-ne-none u (sym e)
+
+-- where no room was left, none is later
+pub uncarved_since : (words : ℕ) (e : Uncarved) (a b : Moment) → Since a b → IsUncarved words e a → IsUncarved words e b
+uncarved_since words uncarved.Full a b s t = (t.0, t.1, t.2, let l : get_or a.words 0 0 ≤ get_or b.words 0 0 = s.end in let k : words < get_or a.words 0 0 + width t.0 = t.3 in omega arith)
+uncarved_since words uncarved.Again a b s t = tt
 
 -- a node's name stays
 pub names_since : (a b : Moment) (x : ℕ) → Since a b → Names a.plots x → Names b.plots x

@@ -29,6 +29,10 @@ set_here words q n i x e l = ap (λ (z : ℕ). get_or (set words q x) z 0) (sym 
 inside_words : (m : Moment) → Laid m → (n j : ℕ) → j < size m.plots n → n + j < length m.words
 inside_words m laid n j l = let a : n + j < get_or m.words 0 0 = laid.below n j l in let b : get_or m.words 0 0 ≤ length m.words = laid.bound in omega arith
 
+-- the end stays where a word of a node is written
+end_stays : (words : List ℕ) (q x : ℕ) → 0 < q → get_or (set words q x) 0 0 ≡ get_or words 0 0
+end_stays words q x some_word = get_or-set_other words q 0 x 0 (λ (e : 0 ≡ q). omega arith)
+
 module _ (m : Moment) (laid : Laid m) (n i q x : ℕ) (is : q ≡ n + i) (here : i < size m.plots n) where
   -- the words of others, and the others of its own
   pub set_else : (p j : ℕ) → j < size m.plots p → (p ≡ n → j ≢ i) → word_at (set m.words q x) p j ≡ word_at m.words p j
@@ -234,6 +238,7 @@ module _ (good : Good) (count : ℕ) where
         log = ([], sym (append-nil k.log));
         wide = length-set s.words n new;
         plots = λ p _. refl;
+        end = le_of_eq (sym (end_stays s.words n new (laid.above n some_word)));
         grows = λ p _. dite (ℕ_discrete p n) (λ same. subst (λ (z : ℕ). version_at s.words z ≤ version_at words z) (sym same) (let a : version_at s.words n ≡ old = hit in let b : version_at words n ≡ new = here in omega arith)) (λ ne. le_of_eq (sym (else_version p ne)));
         still = λ p _ _ _. calm_refl p m;
       } in (
@@ -293,7 +298,7 @@ module _ (good : Good) (count : ℕ) where
         links = set_links m laid n j q y is inside k.sound.links (λ link l l'. let t : HasForm (y / 256) (y % 16) v = tells (ap (λ (z : ℕ). is_link z j) (sym form_k) ∙ link) l l' in
             f.since.plots (y / 256) (subst (λ (z : ℕ). 0 < width z) (sym t.is) (width_some (y % 16) l l')) ∙ t.is);
       } in
-      let since : Since m m' = record { log = ([], sym (append-nil k.log)); wide = length-set s.words q y; plots = λ p _. refl; grows = λ p l. le_of_eq (sym (version p l)); still = λ p _ _ _. calm_refl p m } in (
+      let since : Since m m' = record { log = ([], sym (append-nil k.log)); wide = length-set s.words q y; plots = λ p _. refl; end = le_of_eq (sym (end_stays s.words q y (let a : 0 < n = laid.above n (omega arith) in omega arith))); grows = λ p l. le_of_eq (sym (version p l)); still = λ p _ _ _. calm_refl p m } in (
         w,
         keeps,
         tt,
@@ -352,6 +357,7 @@ module _ (good : Good) (count : ℕ) where
         log = (decided v.by note.entry, refl);
         wide = length-set s.words n new;
         plots = λ p _. refl;
+        end = le_of_eq (sym (end_stays s.words n new (laid.above n some_word)));
         grows = λ p _. dite (ℕ_discrete p n) (λ same. subst (λ (z : ℕ). version_at s.words z ≤ version_at words z) (sym same) (let a : version_at s.words n ≡ ver = hit in let b : version_at words n ≡ new = here in omega arith)) (λ ne. le_of_eq (sym (else_version p ne)));
         still = λ p _ even e. else_calm p (even_not p even);
       } in
@@ -417,6 +423,7 @@ module _ (good : Good) (count : ℕ) where
         log = ([], sym (append-nil k.log));
         wide = length-set s.words n new;
         plots = λ p _. refl;
+        end = le_of_eq (sym (end_stays s.words n new (laid.above n some_word)));
         grows = λ p _. dite (ℕ_discrete p n) (λ same. subst (λ (z : ℕ). version_at s.words z ≤ version_at words z) (sym same) (let a : version_at s.words n ≡ ver = hit in let b : version_at words n ≡ new = here in omega arith)) (λ ne. le_of_eq (sym (else_version p ne)));
         still = λ p _ _ _. calm_refl p m;
       } in (
@@ -464,6 +471,7 @@ module _ (good : Good) (count : ℕ) where
         log = ([], sym (append-nil k.log));
         wide = length-set s.words 0 new;
         plots = λ p l. form_else end fm p k.plots (λ q. other p l (sym q));
+        end = let h : get_or words 0 0 ≡ new = here in let e : get_or s.words 0 0 ≡ end = hit in omega arith;
         grows = λ p l. le_of_eq (sym (else_version p l));
         still = λ p _ _ _. calm_refl p m;
       } in

@@ -20,7 +20,7 @@ pub returns : goal.returns
 returns c = let id = c.self.inside.tree.now.nodes.table.shared.table_id in let v = c.self.inside.hand.me.0 in let n = c.note-now.new.hand.me.0 in let u = c.heed.new.hand.me.0 in let w = c.try_reshape-outcome.new.hand.me.0 in
     let r : Result Written Refusal = outcome_of c.try_reshape-outcome.result in
     let saw : Saw (known id v) (known id u) = subst (λ (z : View). Saw (known id z) (known id u)) c.note-now.ensures.same (keeps_looked id n u (looks_keeps IsTree n u c.heed.ensures.looks)).0 in
-    let all : IsWritten c.args.write (known id v) (known id w) r = saw_written c.args.write (known id v) (known id u) (known id w) r saw (outcome_written c.args.write id u w c.try_reshape-outcome.result c.try_reshape-outcome.ensures.set c.try_reshape-outcome.ensures.minds) in
+    let all : IsWritten c.args.write (known id v) (known id w) r = saw_written c.args.write (known id v) (known id u) (known id w) r saw (outcome_written c.args.write id u w c.try_reshape-outcome.result c.try_reshape-outcome.ensures.set c.try_reshape-outcome.ensures.minds c.try_reshape-outcome.ensures.cause) in
     let from : IsWritten c.args.write c.args.self.now (known id w) r = subst (λ (z : Known). IsWritten c.args.write z (known id w) r) c.self.view_is all in
     let to : IsWritten c.args.write c.args.self.now (known id c.note.new.hand.me.0) r = subst (λ (z : View). IsWritten c.args.write c.args.self.now (known id z) r) (sym c.note.ensures.same) from in
     subst (λ (z : Result Written Refusal). IsWritten c.args.write c.args.self.now (known id c.note.new.hand.me.0) z) (sym c.outcome_of.ensures) to
