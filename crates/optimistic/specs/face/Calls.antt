@@ -1,5 +1,6 @@
 -- What a worker knows, and what its calls do to that.
 use Rattle.std.specs.Prelude.{◌≡◌, ℕ, List, [], ◌∷◌, ◌++◌, Option}
+use Rattle.std.specs.List.{Contains}
 use Rattle.atomic_table.specs.Seated.{TableId}
 use Rattle.optimistic.specs.declared.words.rule.Entry.{Entry}
 use Rattle.optimistic.specs.declared.words.rule.Moment.{Moment}
@@ -32,3 +33,7 @@ Wrote key value old v w =
 -- a look-up: the key has this, after all that was seen
 abbrev pub Found : ℕ → Option ℕ → Known → Known → Type 0
 Found key x v w = Looked v w × (x ≡ value_of key w.seen)
+
+-- a log has a call that gave a key this
+abbrev pub HasCall : ℕ → Option ℕ → List Entry → Type 0
+HasCall key x log = (e : Entry) × Contains log e × (e.key ≡ key) × (e.value ≡ x)

@@ -1,8 +1,9 @@
 -- What holds of a worker between two calls.
-use Rattle.std.specs.Prelude.{◌≡◌, ℕ, [], false, length, Result, Ok, Err}
+use Rattle.std.specs.Prelude.{◌≡◌, ℕ, [], false, length, None, Result, Ok, Err}
 use Rattle.atomic_table.specs.Seated.{TableId}
 use Rattle.atomic_table.specs.declared.shared.Seat.{Seat}
 use Rattle.optimistic.specs.declared.face.refusal.Refusal.{Refusal}
+use Rattle.optimistic.specs.declared.face.refusal.Refusal.TheVariants.{Full}
 use Rattle.optimistic.specs.declared.face.writes.Written.{Written}
 use Rattle.optimistic.specs.declared.face.writes.Written.TheVariants.{Made, Differs}
 use Rattle.optimistic.specs.declared.tree.fresh.Free.{Free}
@@ -32,3 +33,7 @@ abbrev pub IsWritten : Write → Known → Known → Result Written Refusal → 
 IsWritten write v w (Ok (Made old)) = Wrote write.key write.value old v w × Allows write old
 IsWritten write v w (Ok (Differs x)) = Found write.key x v w × (Allows write x → ⊥)
 IsWritten write v w (Err e) = IsRefused e v w
+
+-- a write is refused for want of room only where it is to be made at a key that has nothing
+abbrev pub WantsRoom : Write → Result Written Refusal → Type 0
+WantsRoom write r = r ≡ Err Full → Allows write None

@@ -11,7 +11,7 @@ use Rattle.optimistic.specs.declared.tree.write.Write.{Write}
 use Rattle.optimistic.specs.declared.words.nodes.Uncarved.{Uncarved}
 use Rattle.optimistic.specs.declared.words.nodes.Uncarved.TheVariants as uncarved
 use Rattle.optimistic.specs.face.Calls.{Known, Wrote, Found}
-use Rattle.optimistic.specs.face.Refusals.{IsRefused}
+use Rattle.optimistic.specs.face.Refusals.{IsRefused, IsRefusedInPlace}
 
 abbrev pub insertion : ℕ → ℕ → Write
 insertion key value = record { key = key; value = Some value; only = Always }
@@ -61,10 +61,10 @@ IsInserted key value v w (Err e) = IsRefused e v w
 abbrev pub IsRemoved : ℕ → Known → Known → Result (Option ℕ) Refusal → Type 0
 IsRemoved key v w (Ok (Some x)) = Wrote key None (Some x) v w
 IsRemoved key v w (Ok None) = Found key None v w
-IsRemoved key v w (Err e) = IsRefused e v w
+IsRemoved key v w (Err e) = IsRefusedInPlace e v w
 
 -- the new value came in the old one's place, or the key has something else, or nothing was done
 abbrev pub IsExchanged : ℕ → ℕ → Option ℕ → Known → Known → Result (Result (Option ℕ) (Option ℕ)) Refusal → Type 0
 IsExchanged key old new v w (Ok (Ok x)) = (x ≡ new) × Wrote key new (Some old) v w
 IsExchanged key old new v w (Ok (Err x)) = Found key x v w × (x ≢ Some old)
-IsExchanged key old new v w (Err e) = IsRefused e v w
+IsExchanged key old new v w (Err e) = IsRefusedInPlace e v w

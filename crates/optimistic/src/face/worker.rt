@@ -2,7 +2,7 @@
 ghost use Rattle.std.specs.Prelude.{◌≡◌, [], IfOk, IfSome};
 ghost use Rattle.optimistic.specs.words.Kept.{calls_by, StartsWith};
 ghost use Rattle.optimistic.specs.face.Calls.{Saw, Looked, Found};
-ghost use Rattle.optimistic.specs.face.Workers.{IsWritten};
+ghost use Rattle.optimistic.specs.face.Workers.{IsWritten, WantsRoom};
 
 use crate::face::close::Retired;
 use crate::face::refusal::Refusal;
@@ -124,7 +124,8 @@ impl<'t> Worker<'t> {
 
     /// Puts a value at a key.
     fn try_put(&mut self, write: Write) -> Result<Written, Refusal>
-        ensures { IsWritten write self.old self.new result }
+        ensures written { IsWritten write self.old self.new result }
+        ensures room { WantsRoom write result }
     {
         match self.tree.try_set(&mut self.hand, write) {
             Set::Taken => self.try_reshape(write, Want::Branch),
@@ -135,7 +136,8 @@ impl<'t> Worker<'t> {
 
     /// Takes a key away with or from its last node. Where that comes to nothing, from the node as it stands.
     fn try_less(&mut self, write: Write) -> Result<Written, Refusal>
-        ensures { IsWritten write self.old self.new result }
+        ensures written { IsWritten write self.old self.new result }
+        ensures room { WantsRoom write result }
     {
         match self.try_reshape(write, Want::Less) {
             Ok(written) => Ok(written),
@@ -145,7 +147,8 @@ impl<'t> Worker<'t> {
 
     /// Takes a key away.
     fn try_take(&mut self, write: Write) -> Result<Written, Refusal>
-        ensures { IsWritten write self.old self.new result }
+        ensures written { IsWritten write self.old self.new result }
+        ensures room { WantsRoom write result }
     {
         match self.tree.try_take(&mut self.hand, write) {
             Some(set) => came_of(set),
@@ -155,7 +158,8 @@ impl<'t> Worker<'t> {
 
     /// Makes a write where it is to be made, if no writer comes between.
     pub(crate) fn try_write(&mut self, write: Write) -> Result<Written, Refusal>
-        ensures { IsWritten write self.old self.new result }
+        ensures written { IsWritten write self.old self.new result }
+        ensures room { WantsRoom write result }
     {
         if write.value.is_some() {
             self.try_put(write)

@@ -1,6 +1,6 @@
 //! Writes of a worker.
 ghost use Rattle.std.specs.Prelude.{◌≡◌, IfErr, Some};
-ghost use Rattle.optimistic.specs.face.Workers.{IsWritten};
+ghost use Rattle.optimistic.specs.face.Workers.{IsWritten, WantsRoom};
 ghost use Rattle.optimistic.specs.face.Writes.{IsInserted, IsRemoved, IsExchanged, IsFinal, came_of, outcome_of, before, exchanged, insertion, removal, exchange};
 
 use crate::face::refusal::Refusal;
@@ -115,6 +115,7 @@ impl<'t> Worker<'t> {
     /// Makes a write where it is to be made.
     pub(crate) fn write<R: Wait>(&mut self, rt: &R, write: Write) -> Result<Written, Refusal>
         ensures written { IsWritten write self.old self.new result }
+        ensures room { WantsRoom write result }
         ensures decided { IfErr result IsFinal }
     {
         for _ in rt.forever() {

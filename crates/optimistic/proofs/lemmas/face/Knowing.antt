@@ -5,6 +5,7 @@ use Rattle.atomic_table.specs.Seated.{TableId}
 use Rattle.atomic_table.specs.Table.{Me}
 use Rattle.atomic_table.specs.declared.shared.Seat.{Seat}
 use Rattle.optimistic.specs.declared.face.refusal.Refusal.{Refusal}
+use Rattle.optimistic.specs.declared.face.refusal.Refusal.TheVariants as refusal
 use Rattle.optimistic.specs.declared.face.writes.Written.{Written}
 use Rattle.optimistic.specs.declared.face.writes.Written.TheVariants.{Made, Differs}
 use Rattle.optimistic.specs.declared.tree.fresh.Free.{Free}
@@ -118,6 +119,15 @@ pub outcome_written : (write : Write) (id : TableId) (v w : View) (r : Result Se
 outcome_written write id v w (Ok s) t m c = set_written write id v w s t m
 outcome_written write id v w (Err uncarved.Full) t m c = (keeps_looked id v w t, c)
 outcome_written write id v w (Err uncarved.Again) t m c = (keeps_looked id v w t, tt)
+
+-- an attempt at a node that is there wants no room
+pub came_not_full : (s : Set) → came_of s ≡ Err refusal.Full → ⊥
+came_not_full (set.Done old) e = cc
+came_not_full (set.Differs x) e = cc
+came_not_full set.Again e = cc
+came_not_full set.Full e = cc
+came_not_full set.Taken e = cc
+came_not_full set.Exhausted e = cc
 
 -- a worker whose write wasn't made has seen no less, and has made no call more
 pub differs_saw : (write : Write) (v w : Known) (r : Result Written Refusal) (x : Option ℕ) → r ≡ Ok (Differs x) → IsWritten write v w r → Saw v w

@@ -1,6 +1,6 @@
 use Rattle.optimistic.specs.tree.Trees.{IsTree}
 use Rattle.optimistic.proofs.lemmas.words.Chains.{later_keeps, looks_keeps}
-use Rattle.optimistic.proofs.lemmas.words.Moments.{since_trans}
+use Rattle.optimistic.proofs.lemmas.words.Moments.{since_trans, uncarved_since}
 use Rattle.optimistic.proofs.lemmas.tree.Blank.{free_since}
 use Rattle.optimistic.proofs.lemmas.tree.Setting.{set_later}
 use Rattle.optimistic.proofs.lemmas.tree.Holding.{locked_looks, two_gone, three_gone}
@@ -45,3 +45,6 @@ returns-in-Err-clause-set c =
 
 pub returns-in-Err-clause-lets_go : goal.returns-in-Err-clause-lets_go
 returns-in-Err-clause-lets_go c = two_gone c.args.above.at.node c.args.old.at.node c.args.hand.now.me.0 c.fresh.new.hand.me.0 c.let_two_go.new.hand.me.0 c.in-Err.ensures.fresh.mine c.let_two_go.ensures.lets_go
+
+pub returns-in-Err-clause-cause : goal.returns-in-Err-clause-cause
+returns-in-Err-clause-cause c = uncarved_since _ c.in-Err.error c.fresh.new.hand.me.0.seen c.let_two_go.new.hand.me.0.seen c.let_two_go.ensures.since c.in-Err.ensures.cause

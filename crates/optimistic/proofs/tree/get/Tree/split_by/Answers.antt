@@ -3,7 +3,7 @@ use Rattle.optimistic.specs.Layout.{byte_at}
 use Rattle.optimistic.specs.Moves.{words_of}
 use Rattle.optimistic.specs.tree.Trees.{IsTree}
 use Rattle.optimistic.proofs.lemmas.words.Chains.{later_keeps, looks_keeps, releases_keeps}
-use Rattle.optimistic.proofs.lemmas.words.Moments.{width_some, width_more, form_since, since_trans, tells_since}
+use Rattle.optimistic.proofs.lemmas.words.Moments.{width_some, width_more, form_since, since_trans, tells_since, uncarved_since}
 use Rattle.optimistic.proofs.lemmas.forms.FormLemmas.{first_like, second_like, form_like}
 use Rattle.optimistic.proofs.lemmas.tree.Blank.{free_since}
 use Rattle.optimistic.proofs.lemmas.tree.Sets.{looks_drafted}
@@ -99,3 +99,6 @@ returns-in-Err-clause-set c =
 
 pub returns-in-Err-clause-lets_go : goal.returns-in-Err-clause-lets_go
 returns-in-Err-clause-lets_go c = gone c.args.at.node c.args.hand.now.me.0 c.fresh.new.hand.me.0 c.release.new.hand.me.0 c.in-Err.ensures.fresh.mine c.release.ensures.released.mine
+
+pub returns-in-Err-clause-cause : goal.returns-in-Err-clause-cause
+returns-in-Err-clause-cause c = uncarved_since _ c.in-Err.error c.fresh.new.hand.me.0.seen c.release.new.hand.me.0.seen c.release.ensures.released.since c.in-Err.ensures.cause
