@@ -1,19 +1,20 @@
 //! Writes that change which nodes there are.
 ghost use Rattle.std.specs.Prelude.{◌≡◌, IfErr, IfOk, IfSome, MatchOption, MatchResult};
 ghost use Rattle.optimistic.specs.words.Calls.{Keeps};
-ghost use Rattle.optimistic.specs.words.Kept.{calls_by};
+ghost use Rattle.optimistic.specs.words.Kept.{calls_by, Since};
 ghost use Rattle.optimistic.specs.words.Room.{IsUncarved};
 ghost use Rattle.optimistic.specs.words.Told.{view, IsOf};
 ghost use Rattle.optimistic.specs.tree.Fresh.{IsFreeOf};
 ghost use Rattle.optimistic.specs.tree.Reads.{IsPlace};
 ghost use Rattle.optimistic.specs.tree.Sets.{IsSet, Minds, HasNoMore};
+ghost use Rattle.optimistic.specs.tree.Sizes.{IsFit};
 
 use crate::tree::fresh::Free;
 use crate::tree::get::Tree;
 use crate::tree::place::Place;
 use crate::tree::reach::End;
 use crate::tree::set::Set;
-use crate::tree::sizes::{Fit, after_removal, larger};
+use crate::tree::sizes::{Fit, after_insertion, after_removal};
 use crate::tree::write::{Write, allows};
 use crate::words::{Hand, Uncarved};
 
@@ -32,7 +33,7 @@ pub enum Want {
 fn is_same(fit: Fit) -> bool {
     match fit {
         Fit::Stays => true,
-        Fit::Shrinks(_) => false,
+        Fit::Becomes(_) => false,
         Fit::Lifts => false,
     }
 }
@@ -67,35 +68,6 @@ impl Tree {
         }
     }
 
-    /// Writes a key in a larger node in its last node's place.
-    fn grow_at(
-        &self,
-        hand: &mut Hand,
-        free: &mut Free,
-        end: End,
-        write: Write,
-    ) -> Result<Set, Uncarved>
-        requires of { IsOf self.now.nodes.table.shared.table_id hand.old }
-        requires place { IsPlace end.at (view hand.old) }
-        requires above { IfSome end.above (λ p. IsPlace p (view hand.old)) }
-        requires own { calls_by (view hand.old).by (view hand.old).seen.log ≡ (view hand.old).made }
-        requires names { IsFreeOf free.old (view hand.old) }
-        ensures of { IsOf self.now.nodes.table.shared.table_id hand.new }
-        ensures names { IsFreeOf free.new (view hand.new) }
-        ensures set { MatchResult result (λ s. IsSet write.key write.value s (view hand.old) (view hand.new)) (λ _. Keeps (view hand.old) (view hand.new)) }
-        ensures cause { IfErr result (λ e. IsUncarved self.now.nodes.table.shared.table_id.words e (view hand.new).seen) }
-        ensures minds { IfOk result (Minds write) }
-        ensures no_more { HasNoMore (view hand.old) (view hand.new) }
-    {
-        let Some(above) = end.above else {
-            return Ok(Set::Again);
-        };
-        match larger(end.at.form) {
-            Some(form) => self.try_replace(hand, free, above, end.at, form, write),
-            None => Ok(Set::Again),
-        }
-    }
-
     /// Takes a key away, and its last node with it.
     fn lift_at(
         &self,
@@ -122,13 +94,35 @@ impl Tree {
         }
     }
 
-    /// Takes a key away, and its last node with it, or as a smaller one comes in that one's place.
-    fn shrink_at(
+    /// What is to become of a key's last node. It is a hint.
+    fn fit(&self, hand: &mut Hand, at: Place, want: Want) -> Fit
+        requires of { IsOf self.now.nodes.table.shared.table_id hand.old }
+        requires place { IsPlace at (view hand.old) }
+        requires own { calls_by (view hand.old).by (view hand.old).seen.log ≡ (view hand.old).made }
+        ensures of { IsOf self.now.nodes.table.shared.table_id hand.new }
+        ensures keeps { Keeps (view hand.old) (view hand.new) }
+        ensures mine { (view hand.new).mine ≡ (view hand.old).mine }
+        ensures since { Since (view hand.old).seen (view hand.new).seen }
+        ensures fit { IsFit at.form result }
+    {
+        match want {
+            Want::Branch => Fit::Stays,
+            Want::Room => after_insertion(at.form),
+            Want::Less => {
+                let entries = self.entries(hand, at);
+                after_removal(at.form, entries)
+            }
+        }
+    }
+
+    /// Makes a write as its key's last node is made anew in another form, or is taken out with the key.
+    fn refit_at(
         &self,
         hand: &mut Hand,
         free: &mut Free,
         end: End,
         write: Write,
+        want: Want,
     ) -> Result<Set, Uncarved>
         requires of { IsOf self.now.nodes.table.shared.table_id hand.old }
         requires place { IsPlace end.at (view hand.old) }
@@ -145,10 +139,9 @@ impl Tree {
         let Some(above) = end.above else {
             return Ok(Set::Again);
         };
-        let entries = self.entries(hand, end.at);
-        match after_removal(end.at.form, entries) {
+        match self.fit(hand, end.at, want) {
             Fit::Stays => Ok(Set::Again),
-            Fit::Shrinks(form) => self.try_replace(hand, free, above, end.at, form, write),
+            Fit::Becomes(form) => self.try_replace(hand, free, above, end.at, form, write),
             Fit::Lifts => Ok(self.lift_at(hand, free, above, end.at, write)),
         }
     }
@@ -176,8 +169,8 @@ impl Tree {
         };
         match want {
             Want::Branch => self.branch_at(hand, free, end, write),
-            Want::Room => self.grow_at(hand, free, end, write),
-            Want::Less => self.shrink_at(hand, free, end, write),
+            Want::Room => self.refit_at(hand, free, end, write, want),
+            Want::Less => self.refit_at(hand, free, end, write, want),
         }
     }
 

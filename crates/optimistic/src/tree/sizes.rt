@@ -11,19 +11,19 @@ use crate::tree::get::Tree;
 use crate::tree::place::Place;
 use crate::words::Hand;
 
-/// What becomes of a node as an entry is taken out of it.
+/// What becomes of a node as an entry is put into it or taken out of it.
 #[derive(Clone, Copy, Drop)]
 pub enum Fit {
     /// It stays.
     Stays,
-    /// It is made anew in this form, of fewer places.
-    Shrinks(u64),
+    /// It is made anew in this form, of more places or fewer.
+    Becomes(u64),
     /// Its only other child goes up in its place.
     Lifts,
 }
 
 /// The form with the next more places for entries of the same kind.
-pub fn larger(form: u64) -> Option<u64>
+fn larger(form: u64) -> Option<u64>
     ensures { IfSome result (λ g. IsLike form g) }
 {
     match form {
@@ -52,6 +52,16 @@ fn smaller(form: u64) -> Option<u64>
     }
 }
 
+/// What becomes of a full node of a form, as an entry is put in.
+pub fn after_insertion(form: u64) -> Fit
+    ensures { IsFit form result }
+{
+    match larger(form) {
+        Some(next) => Fit::Becomes(next),
+        None => Fit::Stays,
+    }
+}
+
 /// How many entries a node of a form keeps at least. It has no fewer, until it is made anew in a smaller form, which has room
 /// for some more.
 fn least(form: u64) -> u64 {
@@ -77,7 +87,7 @@ pub fn after_removal(form: u64, entries: u64) -> Fit
         return Fit::Stays;
     }
     match smaller(form) {
-        Some(next) => Fit::Shrinks(next),
+        Some(next) => Fit::Becomes(next),
         None => Fit::Stays,
     }
 }

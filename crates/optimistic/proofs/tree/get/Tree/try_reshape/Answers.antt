@@ -8,17 +8,17 @@ returns-in_default-clause-names c = free_since c.args.free.now c.args.hand.now.m
 pub branch_at-requires-clause-names : goal.branch_at-requires-clause-names
 branch_at-requires-clause-names c = free_since c.args.free.now c.args.hand.now.me.0 c.reach.new.hand.me.0 c.requires.names c.reach.ensures.since
 
-pub grow_at-requires-clause-names : goal.grow_at-requires-clause-names
-grow_at-requires-clause-names c = free_since c.args.free.now c.args.hand.now.me.0 c.reach.new.hand.me.0 c.requires.names c.reach.ensures.since
+pub refit_at-requires-clause-names : goal.refit_at-requires-clause-names
+refit_at-requires-clause-names c = free_since c.args.free.now c.args.hand.now.me.0 c.reach.new.hand.me.0 c.requires.names c.reach.ensures.since
 
-pub shrink_at-requires-clause-names : goal.shrink_at-requires-clause-names
-shrink_at-requires-clause-names c = free_since c.args.free.now c.args.hand.now.me.0 c.reach.new.hand.me.0 c.requires.names c.reach.ensures.since
+pub refit_at-requires-in-Less-clause-names : goal.refit_at-requires-in-Less-clause-names
+refit_at-requires-in-Less-clause-names c = free_since c.args.free.now c.args.hand.now.me.0 c.reach.new.hand.me.0 c.requires.names c.reach.ensures.since
 
 pub returns-in-Branch-clause-set : goal.returns-in-Branch-clause-set
 returns-in-Branch-clause-set c = outcome_later c.branch_at.result c.args.write.key c.args.write.value c.args.hand.now.me.0 c.reach.new.hand.me.0 c.branch_at.new.hand.me.0 c.reach.ensures.keeps.0 c.branch_at.ensures.set
 
 pub returns-in-Room-clause-set : goal.returns-in-Room-clause-set
-returns-in-Room-clause-set c = outcome_later c.grow_at.result c.args.write.key c.args.write.value c.args.hand.now.me.0 c.reach.new.hand.me.0 c.grow_at.new.hand.me.0 c.reach.ensures.keeps.0 c.grow_at.ensures.set
+returns-in-Room-clause-set c = outcome_later c.refit_at.result c.args.write.key c.args.write.value c.args.hand.now.me.0 c.reach.new.hand.me.0 c.refit_at.new.hand.me.0 c.reach.ensures.keeps.0 c.refit_at.ensures.set
 
 pub returns-in-Less-clause-set : goal.returns-in-Less-clause-set
-returns-in-Less-clause-set c = outcome_later c.shrink_at.result c.args.write.key c.args.write.value c.args.hand.now.me.0 c.reach.new.hand.me.0 c.shrink_at.new.hand.me.0 c.reach.ensures.keeps.0 c.shrink_at.ensures.set
+returns-in-Less-clause-set c = outcome_later c.refit_at-in-Less.result c.args.write.key c.args.write.value c.args.hand.now.me.0 c.reach.new.hand.me.0 c.refit_at-in-Less.new.hand.me.0 c.reach.ensures.keeps.0 c.refit_at-in-Less.ensures.set
