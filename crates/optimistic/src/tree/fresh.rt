@@ -100,7 +100,7 @@ impl Tree {
         ensures of { IsOf self.now.nodes.table.shared.table_id hand.new }
         ensures since { Since (view hand.old).seen (view hand.new).seen }
         ensures fresh { MatchResult result (λ r. IsMade r form (view hand.old) (view hand.new)) (λ _. Looks IsTree (view hand.old) (view hand.new)) }
-        ensures cause { IfErr result (λ e. IsUncarved self.now.nodes.table.shared.table_id.words e (view hand.new).seen) }
+        ensures cause { IfErr result (λ e. IsUncarved self.now.nodes.table.shared.table_id.words form e (view hand.new).seen) }
     {
         let node = self.nodes.carve(hand, form)?;
         match self.take_free(hand, node, form) {
@@ -124,7 +124,7 @@ impl Tree {
         ensures of { IsOf self.now.nodes.table.shared.table_id hand.new }
         ensures names { IsFreeOf free.new (view hand.new) }
         ensures fresh { MatchResult result (λ r. IsMade r form (view hand.old) (view hand.new)) (λ _. Looks IsTree (view hand.old) (view hand.new)) }
-        ensures cause { IfErr result (λ e. IsUncarved self.now.nodes.table.shared.table_id.words e (view hand.new).seen) }
+        ensures cause { IfErr result (λ e. IsUncarved self.now.nodes.table.shared.table_id.words form e (view hand.new).seen) }
     {
         match self.take_free(hand, node, form) {
             Some(fresh) => Ok(fresh),
@@ -143,7 +143,7 @@ impl Tree {
         ensures of { IsOf self.now.nodes.table.shared.table_id hand.new }
         ensures names { IsFreeOf free.new (view hand.new) }
         ensures fresh { MatchResult result (λ r. IsMade r form (view hand.old) (view hand.new)) (λ _. Looks IsTree (view hand.old) (view hand.new)) }
-        ensures cause { IfErr result (λ e. IsUncarved self.now.nodes.table.shared.table_id.words e (view hand.new).seen) }
+        ensures cause { IfErr result (λ e. IsUncarved self.now.nodes.table.shared.table_id.words form e (view hand.new).seen) }
     {
         match free.pop(form) {
             Some(node) => self.fresh_or(hand, free, node, form),

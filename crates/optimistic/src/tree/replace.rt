@@ -4,7 +4,7 @@ ghost use Rattle.optimistic.specs.Layout.{byte_at};
 ghost use Rattle.optimistic.specs.words.Calls.{Keeps};
 ghost use Rattle.optimistic.specs.words.Kept.{calm_at, Since};
 ghost use Rattle.optimistic.specs.declared.words.rule.View.{View};
-ghost use Rattle.optimistic.specs.words.Room.{IsUncarved};
+ghost use Rattle.optimistic.specs.words.Room.{IsUnmade};
 ghost use Rattle.optimistic.specs.words.Told.{view, IsOf, HasForm, MayUnlock};
 ghost use Rattle.optimistic.specs.Moves.{words_of, Stays};
 ghost use Rattle.optimistic.specs.forms.Children.{is_inner, first_of, IsForm};
@@ -268,7 +268,7 @@ impl Tree {
         ensures names { IsFreeOf free.new (view hand.new) }
         ensures since { Since (view hand.old).seen (view hand.new).seen }
         ensures set { MatchResult result (λ s. IsSet write.key write.value s (view hand.old) (view hand.new)) (λ _. Keeps (view hand.old) (view hand.new)) }
-        ensures cause { IfErr result (λ e. IsUncarved self.now.nodes.table.shared.table_id.words e (view hand.new).seen) }
+        ensures cause { IfErr result (λ e. IsUnmade self.now.nodes.table.shared.table_id.words e (view hand.new).seen) }
         ensures minds { IfOk result (Minds write) }
         ensures lets_go { LetsPairGo above.at.node old.at.node (view hand.old) (view hand.new) }
     {
@@ -319,7 +319,7 @@ impl Tree {
         ensures names { IsFreeOf free.new (view hand.new) }
         ensures since { Since (view hand.old).seen (view hand.new).seen }
         ensures set { MatchResult result (λ s. IsSet write.key write.value s (view hand.old) (view hand.new)) (λ _. Keeps (view hand.old) (view hand.new)) }
-        ensures cause { IfErr result (λ e. IsUncarved self.now.nodes.table.shared.table_id.words e (view hand.new).seen) }
+        ensures cause { IfErr result (λ e. IsUnmade self.now.nodes.table.shared.table_id.words e (view hand.new).seen) }
         ensures minds { IfOk result (Minds write) }
         ensures no_more { HasNoMore (view hand.old) (view hand.new) }
     {

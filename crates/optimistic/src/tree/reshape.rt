@@ -2,7 +2,7 @@
 ghost use Rattle.std.specs.Prelude.{◌≡◌, IfErr, IfOk, IfSome, MatchOption, MatchResult};
 ghost use Rattle.optimistic.specs.words.Calls.{Keeps};
 ghost use Rattle.optimistic.specs.words.Kept.{calls_by, Since};
-ghost use Rattle.optimistic.specs.words.Room.{IsUncarved};
+ghost use Rattle.optimistic.specs.words.Room.{IsUnmade};
 ghost use Rattle.optimistic.specs.words.Told.{view, IsOf};
 ghost use Rattle.optimistic.specs.tree.Fresh.{IsFreeOf};
 ghost use Rattle.optimistic.specs.tree.Reads.{IsPlace};
@@ -54,7 +54,7 @@ impl Tree {
         ensures of { IsOf self.now.nodes.table.shared.table_id hand.new }
         ensures names { IsFreeOf free.new (view hand.new) }
         ensures set { MatchResult result (λ s. IsSet write.key write.value s (view hand.old) (view hand.new)) (λ _. Keeps (view hand.old) (view hand.new)) }
-        ensures cause { IfErr result (λ e. IsUncarved self.now.nodes.table.shared.table_id.words e (view hand.new).seen) }
+        ensures cause { IfErr result (λ e. IsUnmade self.now.nodes.table.shared.table_id.words e (view hand.new).seen) }
         ensures minds { IfOk result (Minds write) }
         ensures no_more { HasNoMore (view hand.old) (view hand.new) }
     {
@@ -132,7 +132,7 @@ impl Tree {
         ensures of { IsOf self.now.nodes.table.shared.table_id hand.new }
         ensures names { IsFreeOf free.new (view hand.new) }
         ensures set { MatchResult result (λ s. IsSet write.key write.value s (view hand.old) (view hand.new)) (λ _. Keeps (view hand.old) (view hand.new)) }
-        ensures cause { IfErr result (λ e. IsUncarved self.now.nodes.table.shared.table_id.words e (view hand.new).seen) }
+        ensures cause { IfErr result (λ e. IsUnmade self.now.nodes.table.shared.table_id.words e (view hand.new).seen) }
         ensures minds { IfOk result (Minds write) }
         ensures no_more { HasNoMore (view hand.old) (view hand.new) }
     {
@@ -160,7 +160,7 @@ impl Tree {
         ensures of { IsOf self.now.nodes.table.shared.table_id hand.new }
         ensures names { IsFreeOf free.new (view hand.new) }
         ensures set { MatchResult result (λ s. IsSet write.key write.value s (view hand.old) (view hand.new)) (λ _. Keeps (view hand.old) (view hand.new)) }
-        ensures cause { IfErr result (λ e. IsUncarved self.now.nodes.table.shared.table_id.words e (view hand.new).seen) }
+        ensures cause { IfErr result (λ e. IsUnmade self.now.nodes.table.shared.table_id.words e (view hand.new).seen) }
         ensures minds { IfOk result (Minds write) }
         ensures no_more { HasNoMore (view hand.old) (view hand.new) }
     {

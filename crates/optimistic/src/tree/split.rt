@@ -3,7 +3,7 @@ ghost use Rattle.std.specs.Prelude.{◌≡◌, ◌≢◌, ◌<◌, ◌+◌, ◌^
 ghost use Rattle.optimistic.specs.Layout.{byte_at, child_of, leaf_of, where_of};
 ghost use Rattle.optimistic.specs.words.Calls.{Keeps};
 ghost use Rattle.optimistic.specs.words.Kept.{has, Since};
-ghost use Rattle.optimistic.specs.words.Room.{IsUncarved};
+ghost use Rattle.optimistic.specs.words.Room.{IsUnmade};
 ghost use Rattle.optimistic.specs.words.Told.{view, IsOf, HasForm, Tells, IsDrafted};
 ghost use Rattle.optimistic.specs.forms.Children.{is_inner, first_of, second_of, IsForm, Becomes};
 ghost use Rattle.optimistic.specs.forms.Pairs.{HasTwo};
@@ -187,7 +187,7 @@ impl Tree {
         ensures since { Since (view hand.old).seen (view hand.new).seen }
         ensures names { IsFreeOf free.new (view hand.new) }
         ensures set { MatchResult result (λ s. IsSet key (Some value) s (view hand.old) (view hand.new)) (λ _. Keeps (view hand.old) (view hand.new)) }
-        ensures cause { IfErr result (λ e. IsUncarved self.now.nodes.table.shared.table_id.words e (view hand.new).seen) }
+        ensures cause { IfErr result (λ e. IsUnmade self.now.nodes.table.shared.table_id.words e (view hand.new).seen) }
         ensures first { IfOk result IsFirst }
         ensures lets_go { LetsGo at.node (view hand.old) (view hand.new) }
     {
@@ -222,7 +222,7 @@ impl Tree {
         ensures since { Since (view hand.old).seen (view hand.new).seen }
         ensures names { IsFreeOf free.new (view hand.new) }
         ensures set { MatchResult result (λ s. IsSet key (Some value) s (view hand.old) (view hand.new)) (λ _. Keeps (view hand.old) (view hand.new)) }
-        ensures cause { IfErr result (λ e. IsUncarved self.now.nodes.table.shared.table_id.words e (view hand.new).seen) }
+        ensures cause { IfErr result (λ e. IsUnmade self.now.nodes.table.shared.table_id.words e (view hand.new).seen) }
         ensures first { IfOk result IsFirst }
         ensures lets_go { LetsGo at.node (view hand.old) (view hand.new) }
     {
@@ -260,7 +260,7 @@ impl Tree {
         ensures since { Since (view hand.old).seen (view hand.new).seen }
         ensures names { IsFreeOf free.new (view hand.new) }
         ensures set { MatchResult result (λ s. IsSet key (Some value) s (view hand.old) (view hand.new)) (λ _. Keeps (view hand.old) (view hand.new)) }
-        ensures cause { IfErr result (λ e. IsUncarved self.now.nodes.table.shared.table_id.words e (view hand.new).seen) }
+        ensures cause { IfErr result (λ e. IsUnmade self.now.nodes.table.shared.table_id.words e (view hand.new).seen) }
         ensures first { IfOk result IsFirst }
         ensures no_more { HasNoMore (view hand.old) (view hand.new) }
     {

@@ -207,7 +207,7 @@ impl<P: Shape> Nodes<P> {
         ensures of { IsOf self.now.table.shared.table_id hand.new }
         ensures looks { Looks P.good (view hand.old) (view hand.new) }
         ensures node { IfOk result (λ n. HasForm n form (view hand.new)) }
-        ensures cause { IfErr result (λ e. IsUncarved self.now.table.shared.table_id.words e (view hand.new).seen) }
+        ensures cause { IfErr result (λ e. IsUncarved self.now.table.shared.table_id.words form e (view hand.new).seen) }
     {
         let end = self.table.shared.load::<Look<P>>(hand, END);
         let room = self.count as u64;

@@ -21,7 +21,7 @@ use Rattle.optimistic.specs.declared.words.rule.Tenure.{Tenure}
 use Rattle.optimistic.specs.declared.words.rule.View.{View}
 use Rattle.optimistic.specs.words.Calls.{Later, Keeps, entry_of}
 use Rattle.optimistic.specs.words.Kept.{has, value_of, view_of, Follows}
-use Rattle.optimistic.specs.words.Room.{IsUncarved}
+use Rattle.optimistic.specs.words.Room.{IsUnmade}
 use Rattle.optimistic.specs.words.Told.{view, noted, IsNote}
 use Rattle.optimistic.specs.tree.Fresh.{IsFreeOf}
 use Rattle.optimistic.specs.tree.Sets.{Replaces, IsSet, Minds, HasNoMore}
@@ -115,7 +115,7 @@ set_written write id v w set.Full t m = (keeps_looked id v w t, tt)
 set_written write id v w set.Taken t m = (keeps_looked id v w t, tt)
 set_written write id v w set.Exhausted t m = (keeps_looked id v w t.0, t.1)
 
-pub outcome_written : (write : Write) (id : TableId) (v w : View) (r : Result Set Uncarved) → MatchResult r (λ s. IsSet write.key write.value s v w) (λ _. Keeps v w) → IfOk r (Minds write) → IfErr r (λ e. IsUncarved id.words e w.seen) → IsWritten write (known id v) (known id w) (outcome_of r)
+pub outcome_written : (write : Write) (id : TableId) (v w : View) (r : Result Set Uncarved) → MatchResult r (λ s. IsSet write.key write.value s v w) (λ _. Keeps v w) → IfOk r (Minds write) → IfErr r (λ e. IsUnmade id.words e w.seen) → IsWritten write (known id v) (known id w) (outcome_of r)
 outcome_written write id v w (Ok s) t m c = set_written write id v w s t m
 outcome_written write id v w (Err uncarved.Full) t m c = (keeps_looked id v w t, c)
 outcome_written write id v w (Err uncarved.Again) t m c = (keeps_looked id v w t, tt)

@@ -190,9 +190,9 @@ pub at_nothing : (u : View) (i : ℕ) → get_elem? [] i ≡ some u → ⊥
 at_nothing u i e = some-ne-none u (sym e)
 
 -- where no room was left, none is later
-pub uncarved_since : (words : ℕ) (e : Uncarved) (a b : Moment) → Since a b → IsUncarved words e a → IsUncarved words e b
-uncarved_since words uncarved.Full a b s t = (t.0, t.1, t.2, let l : get_or a.words 0 0 ≤ get_or b.words 0 0 = s.end in let k : words < get_or a.words 0 0 + width t.0 = t.3 in omega arith)
-uncarved_since words uncarved.Again a b s t = tt
+pub uncarved_since : (words form : ℕ) (e : Uncarved) (a b : Moment) → Since a b → IsUncarved words form e a → IsUncarved words form e b
+uncarved_since words form uncarved.Full a b s t = let l : get_or a.words 0 0 ≤ get_or b.words 0 0 = s.end in let k : words < get_or a.words 0 0 + width form = t in omega arith
+uncarved_since words form uncarved.Again a b s t = tt
 
 -- a node's name stays
 pub names_since : (a b : Moment) (x : ℕ) → Since a b → Names a.plots x → Names b.plots x

@@ -47,4 +47,5 @@ pub returns-in-Err-clause-lets_go : goal.returns-in-Err-clause-lets_go
 returns-in-Err-clause-lets_go c = two_gone c.args.above.at.node c.args.old.at.node c.args.hand.now.me.0 c.fresh.new.hand.me.0 c.let_two_go.new.hand.me.0 c.in-Err.ensures.fresh.mine c.let_two_go.ensures.lets_go
 
 pub returns-in-Err-clause-cause : goal.returns-in-Err-clause-cause
-returns-in-Err-clause-cause c = uncarved_since _ c.in-Err.error c.fresh.new.hand.me.0.seen c.let_two_go.new.hand.me.0.seen c.let_two_go.ensures.since c.in-Err.ensures.cause
+returns-in-Err-clause-cause c =
+    (c.args.form, c.requires.form.0, c.requires.form.1, uncarved_since _ c.args.form c.in-Err.error c.fresh.new.hand.me.0.seen c.let_two_go.new.hand.me.0.seen c.let_two_go.ensures.since c.in-Err.ensures.cause)

@@ -1,4 +1,4 @@
-use Rattle.std.proofs.Common.{None, Some, ◌∙◌, arith}
+use Rattle.std.proofs.Common.{◌≡◌, ◌<◌, None, Some, ◌∙◌, ⊎_elim, arith}
 use Rattle.optimistic.specs.Layout.{byte_at}
 use Rattle.optimistic.specs.Moves.{words_of}
 use Rattle.optimistic.specs.tree.Trees.{IsTree}
@@ -101,4 +101,10 @@ pub returns-in-Err-clause-lets_go : goal.returns-in-Err-clause-lets_go
 returns-in-Err-clause-lets_go c = gone c.args.at.node c.args.hand.now.me.0 c.fresh.new.hand.me.0 c.release.new.hand.me.0 c.in-Err.ensures.fresh.mine c.release.ensures.released.mine
 
 pub returns-in-Err-clause-cause : goal.returns-in-Err-clause-cause
-returns-in-Err-clause-cause c = uncarved_since _ c.in-Err.error c.fresh.new.hand.me.0.seen c.release.new.hand.me.0.seen c.release.ensures.released.since c.in-Err.ensures.cause
+returns-in-Err-clause-cause c =
+    let g = c.args.branch.form in
+    let bounds : (0 < g) × (g < 9) = ⊎_elim
+        (λ (e : g ≡ 1). let r : (0 < g) × (g < 9) = (omega arith, omega arith) in r)
+        (λ (e : (g ≡ 5) × (c.args.branch.level ≡ 7)). let q : g ≡ 5 = e.0 in let r : (0 < g) × (g < 9) = (omega arith, omega arith) in r)
+        c.requires.branch.form_is in
+    (g, bounds.0, bounds.1, uncarved_since _ c.args.branch.form c.in-Err.error c.fresh.new.hand.me.0.seen c.release.new.hand.me.0.seen c.release.ensures.released.since c.in-Err.ensures.cause)
