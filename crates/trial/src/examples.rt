@@ -13,3 +13,4 @@ pub mod promises;
 pub mod read_mostly;
 pub(crate) mod stack;
 pub mod threaded;
+pub mod unlocked;

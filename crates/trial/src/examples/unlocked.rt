@@ -1,0 +1,65 @@
+//! An index whose readers take no lock, with two threads.
+ghost use Rattle.std.specs.Prelude.{◌≡◌, ◌^◌, List, Some, IfSome};
+ghost use Rattle.optimistic.specs.declared.words.rule.Entry.{Entry};
+ghost use Rattle.optimistic.specs.words.Kept.{value_of};
+ghost use Rattle.optimistic.specs.face.Calls.{HasCall};
+ghost use Rattle.optimistic.specs.tree.Drained.{IsDrained};
+
+use optimistic::{Pair, Retired, Seen, U64Congee};
+use std::alloc::Global;
+use std::sync::Wait;
+use std::thread::{Threads, join};
+
+/// What a thread read of its key, and what it has then seen of the index.
+#[derive(Drop)]
+pub struct Report<'t> {
+    pub read: Option<u64>,
+    pub seen: Seen<'t>,
+}
+
+/// Puts a value at a key and reads the key. What it reads is the key's value after all calls that it has then seen, and its
+/// own is one of them. Nothing where a call is refused.
+fn puts_and_reads<'t, R: Wait>(
+    rt: &R,
+    index: &'t U64Congee,
+    alloc: Global,
+    key: u64,
+    value: u64,
+) -> Option<Report<'t>>
+    ensures index { IfSome result (λ r. r.seen.index ≡ index.now.tree.nodes.table.shared.table_id) }
+    ensures put { IfSome result (λ r. HasCall key (Some value) r.seen.seen) }
+    ensures read { IfSome result (λ r. r.read ≡ value_of key r.seen.seen) }
+{
+    let mut worker = index.worker(alloc).ok()?;
+    worker.insert(rt, key, value).ok()?;
+    let read = worker.get(rt, key);
+    let seen = worker.note();
+    Some(Report { read, seen })
+}
+
+/// Has two threads put 10 at 1 and 20 at 2, and learns what they have seen.
+fn shares<R: Threads + Wait + Sync>(rt: &R, index: &U64Congee, alloc: Global) -> Option<Retired>
+    ensures index { IfSome result (λ r. r.index ≡ index.now.tree.nodes.table.shared.table_id) }
+    ensures put { IfSome result (λ r. HasCall 1 (Some 10) r.seen × HasCall 2 (Some 20) r.seen) }
+{
+    let (one, two) = join(
+        rt,
+        move || puts_and_reads(rt, index, alloc, 1, 10),
+        move || puts_and_reads(rt, index, alloc, 2, 20),
+    );
+    let mut worker = index.worker(alloc).ok()?;
+    worker.heed(one?.seen);
+    worker.heed(two?.seen);
+    Some(worker.retire())
+}
+
+/// Opens an index, has two threads put values into it, closes it and drains it: the pairs are those of one log, which has
+/// the calls of both threads.
+pub fn shares_and_drains<R: Threads + Wait + Sync>(rt: &R, alloc: Global) -> Option<Vec<Pair>>
+    ensures { IfSome result (λ pairs. (log : List Entry) × IsDrained log 0 (2 ^ 64) pairs.items × HasCall 1 (Some 10) log × HasCall 2 (Some 20) log) }
+{
+    let index = U64Congee::new(alloc, 10_000).ok()?;
+    let last = shares(rt, &index, alloc)?;
+    let mut pairs = index.close(last).ok()?;
+    pairs.drain(alloc).ok()
+}
