@@ -24,8 +24,11 @@ inserted key value v w (Err e) t = t
 pub no_removal : (key : ℕ) → Allows (removal key) None → ⊥
 no_removal key t = ⊎_elim (λ n. n refl) (λ n. n refl) t.1
 
-refused_for : (e : Refusal) → e ≡ Full → Err e ≡ Err Full
-refused_for e q = ap (λ (z : Refusal). let r : Result Written Refusal = Err z in r) q
+abbrev refused : Refusal → Result Written Refusal
+refused e = Err e
+
+refused_for : (e : Refusal) → e ≡ Full → refused e ≡ refused Full
+refused_for e q = ap refused q
 
 pub removed : (key : ℕ) (v w : Known) (r : Result Written Refusal) → IsWritten (removal key) v w r → WantsRoom (removal key) r → IsRemoved key v w (before r)
 removed key v w (Ok (Made (Some x))) t n = t.0

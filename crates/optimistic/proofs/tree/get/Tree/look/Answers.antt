@@ -53,3 +53,6 @@ returns-then-last-version-clause-since c = let v = c.args.hand.now.me.0.seen in 
 pub returns-clause-since : goal.returns-clause-since
 returns-clause-since c = let v = c.args.hand.now.me.0.seen in let a = c.load-version.new.hand.me.0.seen in let u = c.read-found.new.hand.me.0.seen in let w = c.child-child.new.hand.me.0.seen in let b = c.load-last.new.hand.me.0.seen in
     since_trans v a b c.load-version.ensures.looks.since (since_trans a u b c.read-found.ensures.looks.since (since_trans u w b c.child-child.ensures.looks.since c.load-last.ensures.looks.since))
+
+pub returns-then-found-word-clause-since : goal.returns-then-found-word-clause-since
+returns-then-found-word-clause-since c = since_trans c.args.hand.now.me.0.seen c.load-version.new.hand.me.0.seen c.read-found.new.hand.me.0.seen c.load-version.ensures.looks.since c.read-found.ensures.looks.since

@@ -14,4 +14,4 @@ pub returns-then-not-locked-clause-locking : goal.returns-then-not-locked-clause
 returns-then-not-locked-clause-locking c = looks_trans c.args.hand.now.me.0 c.load-version.new.hand.me.0 c.lock-locked.new.hand.me.0 c.load-version.ensures.looks c.if-not-locked.ensures.locked
 
 pub returns-then-version-clause-locking : goal.returns-then-version-clause-locking
-returns-then-version-clause-locking c = (c.load-version.ensures.looks, subst (λ (z : ℕ). 0 < width z) (sym c.load-version.ensures.at.is) (width_some c.args.at.form c.requires.at.some c.requires.at.form), search rules)
+returns-then-version-clause-locking c = (c.load-version.ensures.looks, (subst (λ (z : ℕ). 0 < width z) (sym c.load-version.ensures.at.is) (width_some c.args.at.form c.requires.at.some c.requires.at.form), search rules))
