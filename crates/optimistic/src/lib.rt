@@ -15,5 +15,6 @@ mod words;
 
 pub use drain::{Locked, Pair, Pairs, Undrained};
 pub use face::{
-    Congee, LEAST_WORDS, MOST_WORDS, Refusal, Retired, Seen, U64Congee, Unopened, WordWorker, Worker,
+    Congee, LEAST_WORDS, MOST_WORDS, Refusal, Retired, Seen, U64Congee, Unopened, WordWorker,
+    Worker,
 };

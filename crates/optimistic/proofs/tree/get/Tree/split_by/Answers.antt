@@ -104,7 +104,7 @@ pub returns-in-Err-clause-cause : goal.returns-in-Err-clause-cause
 returns-in-Err-clause-cause c =
     let g = c.args.branch.form in
     let bounds : (0 < g) × (g < 9) = ⊎_elim
-        (λ (e : g ≡ 1). let r : (0 < g) × (g < 9) = (omega arith, omega arith) in r)
-        (λ (e : (g ≡ 5) × (c.args.branch.level ≡ 7)). let q : g ≡ 5 = e.0 in let r : (0 < g) × (g < 9) = (omega arith, omega arith) in r)
-        c.requires.branch.form_is in
+    (λ (e : g ≡ 1). let r : (0 < g) × (g < 9) = (omega arith, omega arith) in r)
+    (λ (e : (g ≡ 5) × (c.args.branch.level ≡ 7)). let q : g ≡ 5 = e.0 in let r : (0 < g) × (g < 9) = (omega arith, omega arith) in r)
+    c.requires.branch.form_is in
     (g, bounds.0, bounds.1, uncarved_since _ c.args.branch.form c.in-Err.error c.fresh.new.hand.me.0.seen c.release.new.hand.me.0.seen c.release.ensures.released.since c.in-Err.ensures.cause)
