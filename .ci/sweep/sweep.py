@@ -32,6 +32,7 @@ SECONDS = 60
 # The tests that are to pass whichever request for memory is refused.
 TESTS = """
 trees::arcs::a_refused_text_comes_back failures::a_call_that_finds_no_memory_changes_nothing
+collector::jobs::a_refused_flush_leaves_the_epoch
 collector::machine::jobs_that_find_no_memory_are_put_off_then collector::machine::the_first_bag_of_a_block_alone_asks_for_memory
 threads::wants::a_removal_goes_on_without_a_lesser_leaf threads::wants::a_run_goes_on_where_it_stopped
 threads::wants::an_owned_leaf_grows threads::wants::calls_for_threads_find_memory_then

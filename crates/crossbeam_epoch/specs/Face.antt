@@ -1,4 +1,5 @@
 -- The calls for real threads.
+pub mod Attempt
 pub mod Exchange
 pub mod Handle
 pub mod Ordering

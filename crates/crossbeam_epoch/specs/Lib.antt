@@ -1,3 +1,4 @@
+pub mod Bags
 pub mod Chain
 pub mod Limits
 pub mod World

@@ -1,6 +1,7 @@
 //! Bags of deferred jobs, and sealed bags.
 
 ghost use Rattle.std.specs.Prelude.{◌≡◌, ◌<◌, ◌≤◌, ◌++◌, ◌∷◌, [], length, remove, slice_index_or, nat_eq, MatchOption};
+ghost use Rattle.crossbeam_epoch.specs.Bags.{is_job, jobs_in};
 ghost use Rattle.crossbeam_epoch.specs.Limits.{bag_places};
 
 use crate::names::Name;
@@ -22,6 +23,15 @@ pub enum Work<J> {
     Remove(Name),
     /// The job is run.
     Run(J),
+}
+
+impl<J> Work<J> {
+    /// Whether there is something to be done.
+    fn is_job(&self) -> bool
+        ensures { result ≡ is_job self.now }
+    {
+        !matches!(self, Work::Blank)
+    }
 }
 
 /// A deferred job with its ticket.
@@ -88,6 +98,16 @@ impl<J> Bag<J> {
         ensures fits { result ≤ bag_places }
     {
         self.entries.len()
+    }
+}
+
+impl<J> Bag<J> {
+    /// The number of jobs without the blanks.
+    pub(crate) fn jobs(&self) -> usize
+        ensures { result ≡ jobs_in self.now }
+    {
+        let entries = self.entries.as_slice();
+        entries.iter().filter(|entry| entry.work.is_job()).count()
     }
 }
 

@@ -1,6 +1,7 @@
 //! Epoch-based reclamation for real threads, under the names of `crossbeam-epoch`.
 
 mod atomic;
+mod atomic_calls;
 mod atomic_link;
 mod collected;
 mod collector;

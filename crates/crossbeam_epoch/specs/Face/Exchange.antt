@@ -34,3 +34,11 @@ GaveNext {F} {S} step elsewhere s = (before : F) × (after : F) × (next : S) ×
 -- it gave none for this one, or one that leads to another collector
 abbrev pub GaveNone : {F S : Type 0} → (F → S → Option S → F → Type 0) → (S → Bool) → S → Type 0
 GaveNone {F} {S} step elsewhere s = (before : F) × (after : F) × (given : Option S) × step before s given after × IfSome given (λ n. elsewhere n ≡ true)
+
+-- the closure gave a pointer for this one that leads to no other collector, which is this link
+abbrev pub Gave : {F T : Type 0} → (F → Shared T → Option (Shared T) → F → Type 0) → (Shared T → Bool) → Shared T → Link → Type 0
+Gave {F} {T} step elsewhere s l = (before : F) × (after : F) × (next : Shared T) × step before s (Some next) after × (elsewhere next ≡ false) × (next.link ≡ l)
+
+-- what was written in the place of this pointer is what the closure gave for it, its tag modulo the alignment
+abbrev pub Updates : {F T : Type 0} → (F → Shared T → Option (Shared T) → F → Type 0) → (Shared T → Bool) → (align : ℕ) → Shared T → Link → Type 0
+Updates {F} {T} step elsewhere align s written = (l : Link) × Gave step elsewhere s l × (written.site ≡ l.site) × (written.tag ≡ l.tag % align)

@@ -8,6 +8,7 @@ use Rattle.crossbeam_epoch.specs.declared.face.queue.Queued.{Queued}
 use Rattle.crossbeam_epoch.specs.declared.fault.Fault.{Fault}
 use Rattle.crossbeam_epoch.specs.declared.fault.Fault.TheVariants.{Foreign, Memory}
 use Rattle.crossbeam_epoch.specs.Face.Participant.{Handle}
+use Rattle.crossbeam_epoch.specs.Bags.{jobs_in}
 use Rattle.crossbeam_epoch.specs.Limits.{bag_places}
 
 -- so many guards of a handle's row are out, and a guard of this row is one of them
@@ -18,10 +19,10 @@ owns guards handle guard = nat_lt 0 guards && nat_eq guard.collector handle.coll
 abbrev pub with_room : {J : Type 0} → List (Deferral J) → List (Deferral J)
 with_room bag = if nat_lt (length bag) bag_places then bag else []
 
--- what a handle tells of its last seal after a call: where the call sealed a bag under a guard of this epoch, that epoch or one
--- more; else what it told before
-abbrev pub SealsUnder : Bool → ℕ → Option Queued → Option Queued → Type 0
-SealsUnder seals q before after = MatchBool seals (IsSomeAnd after (λ b. (q ≤ b.seal) × (b.seal ≤ q + 1))) (after ≡ before)
+-- what a handle tells of the last bag that it queued after a call: where the call sealed a bag under a guard of this epoch, that
+-- so many jobs were queued, with that epoch or one more for a seal; else what it told before
+abbrev pub SealsUnder : Bool → ℕ → ℕ → Option Queued → Option Queued → Type 0
+SealsUnder seals q jobs before after = MatchBool seals (IsSomeAnd after (λ b. (q ≤ b.seal) × (b.seal ≤ q + 1) × (b.jobs ≡ jobs))) (after ≡ before)
 
 -- its bag, the seal of the last one that it queued and what it knows may be others; the rest is as before
 abbrev pub ChangesBag : {T J : Type 0} → Handle T J → Handle T J → Type 0
@@ -31,9 +32,9 @@ ChangesBag old new = new ≡ record old { bag = new.bag; seals = record old.seal
 abbrev pub ChangesBagUnder : {T J : Type 0} → Row → Handle T J → Handle T J → Type 0
 ChangesBagUnder row old new = (owns old.guards old.row row ≡ true) × ChangesBag old new
 
--- a full bag was queued, under a guard that has the handle's epoch, and no other one
+-- a full bag was queued with all its jobs, under a guard that has the handle's epoch, and no other one
 abbrev pub SealsFull : {T J : Type 0} → Handle T J → Handle T J → Type 0
-SealsFull old new = SealsUnder (nat_le bag_places (length old.bag)) old.epoch old.seals.queued new.seals.queued
+SealsFull old new = SealsUnder (nat_le bag_places (length old.bag)) old.epoch (jobs_in old.bag) old.seals.queued new.seals.queued
 
 -- this work, which has no ticket, comes behind the others in the bag, or into a new one where it was full
 abbrev pub PutsOff : {T J : Type 0} → Work J → Handle T J → Handle T J → Type 0

@@ -1,10 +1,10 @@
 //! Pointers that threads share.
 
 ghost use Rattle.std.specs.Prelude.{◌≡◌, ◌≢◌, ◌⊎◌, ◌%◌, ◌<◌, true, false, MatchResult, IfErr, IfSome, IsErr, MatchOption};
-ghost use Rattle.crossbeam_epoch.specs.Face.Exchange.{GaveNext, GaveNone, IsExchange, IsRefused, RefusesForeign};
+ghost use Rattle.crossbeam_epoch.specs.Face.Exchange.{Gave, GaveNext, GaveNone, Updates, IsExchange, IsRefused, RefusesForeign};
 ghost use Rattle.crossbeam_epoch.specs.Face.Pointer.{is_foreign};
 
-use crate::face::atomic_link::AtomicLink;
+use crate::face::atomic_link::{AtomicLink, Found, Replaced};
 use crate::face::guard::Guard;
 use crate::face::link::{Link, Tagged};
 use crate::face::ordering::CompareAndSetOrdering;
@@ -130,7 +130,7 @@ impl<T: Pointable + Drop> Atomic<T> {
     ) -> Shared<'g, T>
         ensures { result.link.tag < T.ALIGN }
     {
-        Shared::of(self.link.load(rt))
+        Shared::of(self.link.load(rt).link())
     }
 
     /// The same as `load`.
@@ -172,7 +172,7 @@ impl<T: Pointable + Drop> Atomic<T> {
         ensures foreign { P.leads_elsewhere new guard.now.collector.now.id ≡ true → IsErr result }
     {
         let tagged = new.enter(rt, guard)?;
-        Ok(Shared::of(self.link.swap(rt, tagged.load())))
+        Ok(Shared::of(self.link.swap(rt, tagged.load()).found()))
     }
 
     /// Writes `new` where the pointer has the cell and the tag of `current`, and gives what was written; else it gives
@@ -197,12 +197,12 @@ impl<T: Pointable + Drop> Atomic<T> {
         };
         let next = Tagged::<T>::new(link).load();
         match self.link.exchange(rt, current.link(), next) {
-            Ok(()) => match new.enter(rt, guard) {
-                Ok(tagged) => Ok(Ok(Shared::of(tagged.load()))),
+            Ok(done) => match new.enter(rt, guard) {
+                Ok(_) => Ok(Ok(Shared::of(done.written()))),
                 Err(_) => unreachable!(),
             },
             Err(now) => Ok(Err(CompareExchangeError {
-                current: Shared::of(now),
+                current: Shared::of(now.link()),
                 new,
             })),
         }
@@ -219,7 +219,7 @@ impl<T: Pointable + Drop> Atomic<T> {
         requires here { P.leads_elsewhere new guard.now.collector.now.id ≡ false }
         ensures answer { IsExchange P.Pointer T.ALIGN guard.now.collector.now.id current new result }
     {
-        let found = self.link.load(rt);
+        let found = self.link.load(rt).link();
         if found != current {
             return Ok(Err(CompareExchangeError {
                 current: Shared::of(found),
@@ -288,7 +288,7 @@ impl<T: Pointable + Drop> Atomic<T> {
         _success: Ordering,
         _failure: Ordering,
         guard: &'g Guard<'_, T, J>,
-        mut f: F,
+        f: F,
     ) -> Result<Shared<'g, T>, Shared<'g, T>>
     where
         F: Drop,
@@ -296,15 +296,35 @@ impl<T: Pointable + Drop> Atomic<T> {
         ensures tag { MatchResult result (λ s. s.link.tag < T.ALIGN) (λ s. s.link.tag < T.ALIGN) }
         ensures asked { MatchResult result (GaveNext F.step (λ s. is_foreign s.link.site guard.now.collector.now.id)) (GaveNone F.step (λ s. is_foreign s.link.site guard.now.collector.now.id)) }
     {
-        let collector = guard.collector.id();
+        match self.update(rt, guard.collector.id(), f) {
+            Ok(done) => Ok(Shared::of(done.found())),
+            Err(found) => Err(Shared::of(found.link())),
+        }
+    }
+
+    /// The steps of `fetch_update`: what was found for the last time, and what was written in its place.
+    fn update<'g, R: Wait, F: FnMut(Shared<'g, T>) -> Option<Shared<'g, T>>>(
+        &self,
+        rt: &R,
+        collector: u64,
+        mut f: F,
+    ) -> Result<Replaced, Found>
+    where
+        F: Drop,
+        requires { F.IsAlwaysCallable f }
+        ensures tag { MatchResult result (λ r. r.found.tag < T.ALIGN) (λ n. n.link.tag < T.ALIGN) }
+        ensures asked { MatchResult result
+            (λ r. (s : _) × (s.link ≡ r.found) × Updates F.step (λ x. is_foreign x.link.site collector) T.ALIGN s r.written)
+            (λ n. (s : _) × (s.link ≡ n.link) × GaveNone F.step (λ x. is_foreign x.link.site collector) s) }
+    {
         for _ in rt.forever() {
-            let before = self.link.load(rt);
-            let Some(next) = ask(&mut f, Shared::of(before), collector) else {
-                return Err(Shared::of(before));
+            let found = self.link.load(rt);
+            let Some(next) = ask(&mut f, Shared::of(found.link()), collector) else {
+                return Err(found);
             };
             let next = Tagged::<T>::new(next).load();
-            if self.link.replace(rt, before, next) {
-                return Ok(Shared::of(before));
+            if let Some(done) = self.link.replace(rt, found.link(), next) {
+                return Ok(done);
             }
         }
         unreachable!()
@@ -320,7 +340,7 @@ impl<T: Pointable + Drop> Atomic<T> {
     ) -> Shared<'g, T>
         ensures { result.link.tag < T.ALIGN }
     {
-        Shared::of(self.link.change(rt, TagCall::And, tag))
+        Shared::of(self.link.change(rt, TagCall::And, tag).found())
     }
 
     /// Adds the bits of the number modulo `T::ALIGN` to the tag, and gives the pointer before.
@@ -333,7 +353,7 @@ impl<T: Pointable + Drop> Atomic<T> {
     ) -> Shared<'g, T>
         ensures { result.link.tag < T.ALIGN }
     {
-        Shared::of(self.link.change(rt, TagCall::Or, tag))
+        Shared::of(self.link.change(rt, TagCall::Or, tag).found())
     }
 
     /// Flips the bits of the number modulo `T::ALIGN` in the tag, and gives the pointer before.
@@ -346,7 +366,7 @@ impl<T: Pointable + Drop> Atomic<T> {
     ) -> Shared<'g, T>
         ensures { result.link.tag < T.ALIGN }
     {
-        Shared::of(self.link.change(rt, TagCall::Xor, tag))
+        Shared::of(self.link.change(rt, TagCall::Xor, tag).found())
     }
 
     /// Takes the value out of its cell, which is destroyed. `None` as for `Shared::into_owned`.
@@ -377,7 +397,7 @@ fn ask<'g, T: Pointable + Drop, F: FnMut(Shared<'g, T>) -> Option<Shared<'g, T>>
 ) -> Option<Link>
     requires { F.IsAlwaysCallable f.old }
     ensures callable { F.IsAlwaysCallable f.new }
-    ensures asked { MatchOption result (GaveNone F.step (λ s. is_foreign s.link.site collector) before.entry) (λ _. GaveNext F.step (λ s. is_foreign s.link.site collector) before.entry) }
+    ensures asked { MatchOption result (GaveNone F.step (λ s. is_foreign s.link.site collector) before.entry) (λ l. Gave F.step (λ s. is_foreign s.link.site collector) before.entry l) }
 {
     match f(before) {
         Some(next) if !next.is_foreign(collector) => Some(next.link()),

@@ -3,13 +3,12 @@
 //! It is one word while it leads nowhere, or to a cell of the home collector: that of the first cell that it leads to. A
 //! pointer to another collector's cell lies under a lock, and the word says so.
 
-ghost use Rattle.std.specs.Prelude.{◌≡◌, ◌≢◌, ◌<◌, ◌%◌, true, MatchResult, IfSome};
+ghost use Rattle.std.specs.Prelude.{◌≡◌, ◌<◌, ◌%◌, IfSome};
 ghost use Rattle.crossbeam_epoch.specs.Face.Packed.{Says};
 
 use crate::face::link::{Link, Tagged};
 use crate::face::packed::{AWAY, pack, unpack};
 use crate::names::Pointable;
-use crate::tag::TagCall;
 use std::marker::PhantomData;
 use std::sync::atomic::Ordering::SeqCst;
 use std::sync::atomic::{AtomicIn, Rule};
@@ -24,6 +23,44 @@ impl<T: Pointable> Rule for Aligned<T> {
     ghost use Rattle.std.specs.Prelude.{◌<◌, ◌%◌};
 
     ghost invariant = { λ n. n % 256 < T.ALIGN };
+}
+
+/// A pointer that a step found there. The steps on the word alone tell it.
+#[derive(Clone, Copy, Drop)]
+pub struct Found {
+    link: Link,
+}
+
+impl Found {
+    /// The pointer.
+    pub fn link(self) -> Link
+        ensures { result ≡ self.link }
+    {
+        self.link
+    }
+}
+
+/// That one step found a pointer there and wrote another one in its place. The steps on the word alone tell it.
+#[derive(Clone, Copy, Drop)]
+pub struct Replaced {
+    found: Link,
+    written: Link,
+}
+
+impl Replaced {
+    /// The pointer before.
+    pub fn found(self) -> Link
+        ensures { result ≡ self.found }
+    {
+        self.found
+    }
+
+    /// The pointer that was written.
+    pub fn written(self) -> Link
+        ensures { result ≡ self.written }
+    {
+        self.written
+    }
 }
 
 /// A pointer whose tag is below `T::ALIGN`.
@@ -62,92 +99,56 @@ impl<T: Pointable> AtomicLink<T> {
     }
 
     /// The pointer.
-    pub fn load<R: Wait>(&self, rt: &R) -> Link
-        ensures { result.tag < T.ALIGN }
+    pub fn load<R: Wait>(&self, rt: &R) -> Found
+        ensures { result.link.tag < T.ALIGN }
     {
         for _ in rt.forever() {
             let word = self.word.load(SeqCst);
             if let Some(link) = unpack(word, self.home()) {
-                return link;
+                return Found { link };
             }
             let held = self.away.lock(rt);
             if self.word.load(SeqCst) == AWAY {
-                return held.load();
-            }
-        }
-        unreachable!()
-    }
-
-    /// Writes another pointer, and gives the one before.
-    pub fn swap<R: Wait>(&self, rt: &R, new: Link) -> Link
-        requires { new.tag < T.ALIGN }
-        ensures { result.tag < T.ALIGN }
-    {
-        for _ in rt.forever() {
-            let before = self.load(rt);
-            if self.replace(rt, before, new) {
-                return before;
-            }
-        }
-        unreachable!()
-    }
-
-    /// Writes `new` where the pointer is `current`, or gives the pointer.
-    pub fn exchange<R: Wait>(&self, rt: &R, current: Link, new: Link) -> Result<(), Link>
-        requires { new.tag < T.ALIGN }
-        ensures { MatchResult result (λ _. current.tag < T.ALIGN) (λ now. (now ≢ current) × (now.tag < T.ALIGN)) }
-    {
-        for _ in rt.forever() {
-            if self.replace(rt, current, new) {
-                return Ok(());
-            }
-            let now = self.load(rt);
-            if now != current {
-                return Err(now);
-            }
-        }
-        unreachable!()
-    }
-
-    /// Changes the tag so with the bits of the number modulo `T::ALIGN`, and gives the pointer before.
-    pub fn change<R: Wait>(&self, rt: &R, call: TagCall, number: usize) -> Link
-        ensures { result.tag < T.ALIGN }
-    {
-        for _ in rt.forever() {
-            let before = self.load(rt);
-            let mut tagged = Tagged::<T>::new(before);
-            tagged.change(call, number);
-            if self.replace(rt, before, tagged.load()) {
-                return before;
+                return Found { link: held.load() };
             }
         }
         unreachable!()
     }
 
     /// Tries once to write `next` where the pointer is `before`. It can fail where it is, too.
-    pub fn replace<R: Wait>(&self, rt: &R, before: Link, next: Link) -> bool
+    pub fn replace<R: Wait>(&self, rt: &R, before: Link, next: Link) -> Option<Replaced>
         requires { next.tag < T.ALIGN }
-        ensures { result ≡ true → before.tag < T.ALIGN }
+        ensures { IfSome result (λ r. (r.found ≡ before) × (r.written ≡ next) × (before.tag < T.ALIGN)) }
     {
         let (Some(old), Some(new)) = (pack(before, self.home()), pack_at(&self.home, next)) else {
             return self.replace_away(rt, before, next);
         };
         match self.word.compare_exchange(old, new, SeqCst, SeqCst) {
-            Ok(_) => true,
-            Err(found) => found == AWAY && self.replace_away(rt, before, next),
+            Ok(_) => Some(Replaced {
+                found: before,
+                written: next,
+            }),
+            Err(found) if found == AWAY => self.replace_away(rt, before, next),
+            Err(_) => None,
         }
     }
 
     /// The same under the lock.
-    fn replace_away<R: Wait>(&self, rt: &R, before: Link, next: Link) -> bool
+    fn replace_away<R: Wait>(&self, rt: &R, before: Link, next: Link) -> Option<Replaced>
         requires { next.tag < T.ALIGN }
-        ensures { result ≡ true → before.tag < T.ALIGN }
+        ensures { IfSome result (λ r. (r.found ≡ before) × (r.written ≡ next) × (before.tag < T.ALIGN)) }
     {
         let mut held = self.away.lock(rt);
         self.bring(rt, &mut held);
         let done = held.update(before, next);
         self.settle(&held);
-        done
+        if !done {
+            return None;
+        }
+        Some(Replaced {
+            found: before,
+            written: next,
+        })
     }
 
     /// Brings the pointer under the lock, which is held: until `settle` every step on it waits for the lock.

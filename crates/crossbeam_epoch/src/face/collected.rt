@@ -4,7 +4,8 @@ ghost use Rattle.std.specs.Prelude.{◌≡◌, ◌≤◌, ◌<◌, ◌+◌, ◌�
 ghost use Rattle.crossbeam_epoch.specs.Limits.{most_bags};
 ghost use Rattle.crossbeam_epoch.specs.Face.Pins.{IsDue};
 
-use crate::face::queue::NoneExpired;
+use crate::face::pins::Attempt;
+use crate::face::queue::{Emptied, NoneExpired};
 
 /// What a collection called.
 #[derive(Clone, Copy, Drop)]
@@ -15,30 +16,46 @@ pub struct Collected {
     pub bags: u8,
     /// Where it stopped for want of another one: that no front bag was expired.
     pub rest: Option<NoneExpired>,
+    /// How it tried before to advance the epoch.
+    pub attempt: Option<Attempt>,
 }
 
 impl Collected {
-    /// No bag.
+    /// No bag, and no attempt to advance.
     pub fn new() -> Collected
-        ensures { result ≡ record { newest = None; bags = 0; rest = None } }
+        ensures { result ≡ record { newest = None; bags = 0; rest = None; attempt = None } }
     {
         Collected {
             newest: None,
             bags: 0,
             rest: None,
+            attempt: None,
         }
     }
 
-    /// One bag more, with this seal.
-    pub fn one_more(self, seal: u64) -> Collected
-        requires { self.bags < most_bags }
-        ensures bags { (result.bags ≡ self.bags + 1) × (result.rest ≡ self.rest) }
-        ensures newest { (s : _) × (result.newest ≡ Some s) × (seal ≤ s) × IfSome self.newest (λ n. n ≤ s) × ((s ≡ seal) ⊎ (self.newest ≡ Some s)) }
+    /// No bag yet, after this attempt to advance.
+    pub fn after(attempt: Attempt) -> Collected
+        ensures { result ≡ record { newest = None; bags = 0; rest = None; attempt = Some attempt } }
     {
         Collected {
-            newest: Some(later(self.newest, seal)),
+            newest: None,
+            bags: 0,
+            rest: None,
+            attempt: Some(attempt),
+        }
+    }
+
+    /// One bag more, whose jobs were called.
+    pub fn one_more(self, bag: Emptied) -> Collected
+        requires { self.bags < most_bags }
+        ensures bags { (result.bags ≡ self.bags + 1) × (result.rest ≡ self.rest) × (result.attempt ≡ self.attempt) }
+        ensures newest { (s : _) × (result.newest ≡ Some s) × (bag.seal ≤ s) × IfSome self.newest (λ n. n ≤ s) × ((s ≡ bag.seal) ⊎ (self.newest ≡ Some s)) }
+    {
+        Collected {
+            newest: Some(later(self.newest, bag.seal())),
             bags: self.bags + 1,
             rest: self.rest,
+            attempt: self.attempt,
         }
     }
 
@@ -57,6 +74,7 @@ impl Collected {
             newest: self.newest,
             bags: self.bags,
             rest: Some(rest),
+            attempt: self.attempt,
         }
     }
 }

@@ -1,19 +1,21 @@
 //! The collector.
 
-ghost use Rattle.std.specs.Prelude.{◌≡◌, ◌<◌, ◌≤◌, ◌+◌, ◌^◌, ◌&&◌, ℕ, [], None, nat_eq, IfOk, IfErr, IfSome, MatchOption, MatchResult};
+ghost use Rattle.std.specs.Prelude.{◌≡◌, ◌<◌, ◌≤◌, ◌+◌, ◌^◌, ◌&&◌, ℕ, length, [], None, nat_eq, IfOk, IfErr, IfSome, OnSome, IsSomeAnd, MatchOption, MatchResult};
 ghost use Rattle.std.specs.Bool.{MatchBool};
+ghost use Rattle.crossbeam_epoch.specs.Bags.{jobs_in};
 ghost use Rattle.crossbeam_epoch.specs.Limits.{within, most_bags};
+ghost use Rattle.crossbeam_epoch.specs.Face.Attempt.{IsAttempt};
 ghost use Rattle.crossbeam_epoch.specs.Face.Pins.{IsRead, IsDue};
 ghost use Rattle.crossbeam_epoch.specs.Face.Queue.{IsTaken, TakesAll};
 ghost use Rattle.crossbeam_epoch.specs.Face.Tokens.{known, IsOf};
 
-use crate::bag::{BAG, BAGS, Bag, Sealed, Work};
+use crate::bag::{BAGS, Bag, Sealed, Work};
 use crate::face::collected::Collected;
 use crate::face::handle::LocalHandle;
-use crate::face::internal::Internal;
+use crate::face::internal::{Internal, Names};
 use crate::face::lent::{Lent, LentMut};
 use crate::face::pins::{Ended, Pins};
-use crate::face::queue::{EXPIRY, Queue, Queued, Seal};
+use crate::face::queue::{EXPIRY, Opened, Queue, Queued, Seal};
 use crate::face::seats::Token;
 use crate::face::slots::{Claimed, Slots};
 use crate::fault::Fault;
@@ -34,6 +36,7 @@ pub struct Collector<T, J: Task = Job> {
     /// The epoch and the participants' words.
     pub(crate) pins: Pins,
     internal: CachePadded<Mutex<Internal<J>>>,
+    names: Names,
     slots: Slots<T>,
 }
 
@@ -41,7 +44,9 @@ impl<T: Drop, J: Task> Collector<T, J> {
     /// A collector with these limits. Its number tells it from others, so give each another one.
     /// Refused as `Limits`, also where `expiry` isn't 2, or as `Memory`.
     pub fn new<R: Wait>(_rt: &R, alloc: Global, limits: Limits, id: u64) -> Result<Self, Fault>
-        ensures { MatchResult result (λ c. c.id ≡ id) (λ e. MatchBool (within limits && nat_eq limits.expiry 2) (e ≡ Fault.Memory) (e ≡ Fault.Limits)) }
+        ensures answer { MatchResult result (λ c. c.id ≡ id) (λ e. MatchBool (within limits && nat_eq limits.expiry 2) (e ≡ Fault.Memory) (e ≡ Fault.Limits)) }
+        ensures words { IfOk result (λ c. (c.pins.places ≡ limits.participants) × (c.pins.epoch_max ≡ limits.epoch_max)) }
+        ensures names { IfOk result (λ c. (c.names.cells ≡ limits.cells) × (c.names.turn_max ≡ limits.turn_max)) }
     {
         if !limits.is_within() || limits.expiry != EXPIRY {
             return Err(Fault::Limits);
@@ -57,14 +62,16 @@ impl<T: Drop, J: Task> Collector<T, J> {
         requires { limits.epoch_max ≤ 2 ^ 62 }
         ensures id { IfOk result (λ c. c.id ≡ id) }
         ensures words { IfOk result (λ c. (c.pins.places ≡ limits.participants) × (c.pins.epoch_max ≡ limits.epoch_max)) }
+        ensures names { IfOk result (λ c. (c.names.cells ≡ limits.cells) × (c.names.turn_max ≡ limits.turn_max)) }
     {
         let pins = Pins::new(alloc, limits.participants, limits.epoch_max)?;
         let slots = Slots::new(alloc, limits.cells)?;
-        let internal = Internal::new(alloc, &limits)?;
+        let (internal, names) = Internal::new(alloc, &limits)?;
         Ok(Collector {
             id,
             pins,
             internal: CachePadded::new(Mutex::new(internal)),
+            names,
             slots,
         })
     }
@@ -106,6 +113,7 @@ impl<T: Drop, J: Task> Collector<T, J> {
             id: _,
             pins,
             internal,
+            names: _,
             slots,
         } = self;
         let Internal { free: _, mut queue } = internal.into_inner().into_inner();
@@ -133,7 +141,7 @@ impl<T: Drop, J: Task> Collector<T, J> {
 
     /// Queues the jobs of this bag with this seal, and leaves it empty. `None` where there is no memory.
     pub(crate) fn seal<R: Wait>(&self, rt: &R, seal: Seal, bag: &mut Bag<J>) -> Option<Queued>
-        ensures { MatchOption result (bag.new ≡ bag.old) (λ q. (q.seal ≡ seal.epoch) × (bag.new ≡ [])) }
+        ensures { MatchOption result (bag.new ≡ bag.old) (λ q. (q.seal ≡ seal.epoch) × (q.jobs ≡ jobs_in bag.old) × (bag.new ≡ [])) }
     {
         self.lock().lock(rt).queue.push(seal, bag)
     }
@@ -179,15 +187,16 @@ impl<T: Drop, J: Task> Collector<T, J> {
         ensures read { IsRead (known token.old) (known token.new).seen }
         ensures due { IsDue (known token.new).seen result.newest }
         ensures bags { TakesAll (known token.new).seen result }
+        ensures attempt { IsSomeAnd result.attempt (λ a. IsAttempt self.now.pins.epoch_max a (known token.new).seen) }
     {
-        let seen = self.pins.advance(token);
+        let (seen, attempt) = self.pins.advance(token);
         let held = self.lock().lock(rt);
-        let first = self.call_front(rt, held, token, seen, Collected::new());
+        let first = self.call_front(rt, held, token, seen, Collected::after(attempt));
         self.call_others(rt, token, seen, first)
     }
 
-    /// The same, where the lock is taken first to queue the jobs of this bag with this seal. `None` where there is no memory
-    /// for that; then no job is called.
+    /// Queues the jobs of this bag with this seal, and does the same then. `None` where there is no memory for that; then it did
+    /// nothing.
     pub(crate) fn flush<R: Wait>(
         &self,
         rt: &R,
@@ -198,23 +207,21 @@ impl<T: Drop, J: Task> Collector<T, J> {
         requires of { IsOf self.now.pins.words.shared.table_id token.old }
         ensures of { IsOf self.now.pins.words.shared.table_id token.new }
         ensures view { known token.new ≡ record (known token.old) { seen = (known token.new).seen; passed = (known token.new).passed } }
-        ensures read { IsRead (known token.old) (known token.new).seen }
-        ensures queued { MatchOption result (bag.new ≡ bag.old) (λ r. (r.0.seal ≡ seal.epoch) × (bag.new ≡ [])) }
+        ensures read { OnSome result (IsRead (known token.old) (known token.new).seen) }
+        ensures queued { MatchOption result ((bag.new ≡ bag.old) × (known token.new ≡ known token.old)) (λ r. (r.0.seal ≡ seal.epoch) × (r.0.jobs ≡ jobs_in bag.old) × (bag.new ≡ [])) }
         ensures due { IfSome result (λ r. IsDue (known token.new).seen r.1.newest) }
         ensures bags { IfSome result (λ r. TakesAll (known token.new).seen r.1) }
+        ensures attempt { IfSome result (λ r. IsSomeAnd r.1.attempt (λ a. IsAttempt self.now.pins.epoch_max a (known token.new).seen)) }
     {
-        let seen = self.pins.advance(token);
-        let mut held = self.lock().lock(rt);
-        let queued = held.queue.push(seal, bag)?;
-        let first = self.call_front(rt, held, token, seen, Collected::new());
-        Some((queued, self.call_others(rt, token, seen, first)))
+        let queued = self.seal(rt, seal, bag)?;
+        Some((queued, self.collect(rt, token)))
     }
 
     /// Goes on with a collection that called the first bag, if there was one: with one hold of the lock for each other bag.
     fn call_others<R: Wait>(&self, rt: &R, token: &Token, seen: u64, first: Collected) -> Collected
         requires seen { (known token.now).seen ≡ seen }
         requires first { IsDue seen first.newest × IsTaken seen 1 first }
-        ensures { IsDue seen result.newest × TakesAll seen result }
+        ensures { IsDue seen result.newest × TakesAll seen result × (result.attempt ≡ first.attempt) }
     {
         let mut called = first;
         for _ in 1..BAGS {
@@ -240,15 +247,17 @@ impl<T: Drop, J: Task> Collector<T, J> {
         requires called { (called.bags < most_bags) × (called.rest ≡ None) × IsDue seen called.newest }
         ensures due { IsDue seen result.newest }
         ensures bags { IsTaken seen (called.bags + 1) result }
+        ensures attempt { result.attempt ≡ called.attempt }
     {
         if let Some(none) = held.queue.none_expired(seen) {
             return called.at_rest(none);
         }
-        let Sealed { seal, jobs } = held.queue.pop_expired(token, seen);
+        let mut opened = Opened::none();
+        let Sealed { seal: _, jobs } = held.queue.pop_expired(token, seen, &mut opened);
         let rest = held.queue.none_expired(seen);
         drop(held);
-        self.call(rt, jobs);
-        let called = called.one_more(seal);
+        self.call(rt, &mut opened, jobs);
+        let called = called.one_more(opened.finish());
         match rest {
             Some(none) => called.at_rest(none),
             None => called,
@@ -256,8 +265,11 @@ impl<T: Drop, J: Task> Collector<T, J> {
     }
 
     /// Calls these jobs, the first one first.
-    fn call<R: Wait>(&self, rt: &R, jobs: Bag<J>) {
-        call_jobs(jobs, |name| drop(self.remove(rt, name)));
+    fn call<R: Wait>(&self, rt: &R, opened: &mut Opened, jobs: Bag<J>)
+        requires { (length jobs ≡ opened.old.jobs) × (opened.old.taken ≡ 0) }
+        ensures { (opened.new ≡ record opened.old { taken = opened.new.taken }) × (opened.old.jobs ≤ opened.new.taken) }
+    {
+        call_jobs(opened, jobs, |name| drop(self.remove(rt, name)));
     }
 }
 
@@ -265,21 +277,24 @@ impl<T: Drop, J: Task> Collector<T, J> {
 fn call_bags<T: Drop, J: Task>(slots: &Slots<T>, queue: &mut Queue<J>, ended: &Ended)
     ensures { queue.new.bags.items ≡ [] }
 {
-    while let Some(bag) = queue.pop(ended) {
-        call_jobs(bag.jobs, |name| drop(slots.remove(name)));
+    let mut opened = Opened::none();
+    while let Some(bag) = queue.pop(ended, &mut opened) {
+        call_jobs(&mut opened, bag.jobs, |name| drop(slots.remove(name)));
     }
+    opened.finish();
 }
 
 /// Calls the jobs of a bag, the first one first; `remove` takes a value out of its cell for good.
-fn call_jobs<J: Task, F: Fn(Name) + Drop>(mut jobs: Bag<J>, remove: F)
-    requires { F.IsAlwaysCallable remove }
+fn call_jobs<J: Task, F: Fn(Name) + Drop>(opened: &mut Opened, mut jobs: Bag<J>, remove: F)
+    requires callable { F.IsAlwaysCallable remove }
+    requires bag { (length jobs ≡ opened.old.jobs) × (opened.old.taken ≡ 0) }
+    ensures { (opened.new ≡ record opened.old { taken = opened.new.taken }) × (opened.old.jobs ≤ opened.new.taken) }
 {
-    for at in 0..BAG {
-        match jobs.take_work(at) {
-            None => return,
-            Some(Work::Blank) => {}
-            Some(Work::Remove(name)) => remove(name),
-            Some(Work::Run(job)) => job.run(),
+    while let Some(work) = opened.next(&mut jobs) {
+        match work {
+            Work::Blank => {}
+            Work::Remove(name) => remove(name),
+            Work::Run(job) => job.run(),
         }
     }
 }

@@ -3,10 +3,12 @@
 ghost use Rattle.std.specs.Prelude.{ℕ, ◌≡◌, ◌<◌, ◌≤◌, ◌+◌, ◌-◌, [], true, false, nat_lt};
 ghost use Rattle.std.specs.Prelude.{length, Err, None, MatchResult, MatchOption, IfOk, IfErr, OnOk, IsSomeAnd};
 ghost use Rattle.std.specs.Bool.{MatchBool};
+ghost use Rattle.crossbeam_epoch.specs.Bags.{jobs_in};
+ghost use Rattle.crossbeam_epoch.specs.Face.Attempt.{IsAttempt};
 ghost use Rattle.crossbeam_epoch.specs.Face.Handle.{ChangesBag, ChangesBagUnder, IsRefusedUnder, LacksRoom, PutsOff, SealsFull, SealsUnder, owns, with_room};
 ghost use Rattle.crossbeam_epoch.specs.Face.Pinned.{IsPinnedFor, IsUnpinnedAfter, MovesIfAlone, MovesPin, RefusesToMove};
 ghost use Rattle.crossbeam_epoch.specs.Face.Participant.{IsPinned};
-ghost use Rattle.crossbeam_epoch.specs.Face.Pins.{IsDue};
+ghost use Rattle.crossbeam_epoch.specs.Face.Pins.{IsDue, with_seen};
 ghost use Rattle.crossbeam_epoch.specs.Face.Tokens.{known, IsOf, unpinned_view};
 ghost use Rattle.crossbeam_epoch.specs.Face.Pointer.{name_in};
 ghost use Rattle.crossbeam_epoch.specs.Face.Queue.{TakesAll};
@@ -228,6 +230,7 @@ impl<'c, T: Drop, J: Task> LocalHandle<'c, T, J> {
         ensures saw { 0 < self.old.guards → (self.old.epoch ≤ self.new.knows.seen) × (self.new.knows.seen ≤ self.old.epoch + 1) }
         ensures due { IsDue self.new.knows.seen self.new.seals.called.newest }
         ensures bags { TakesAll self.new.knows.seen self.new.seals.called }
+        ensures attempt { IsSomeAnd self.new.seals.called.attempt (λ a. IsAttempt self.old.collector.now.pins.epoch_max a self.new.knows.seen) }
     {
         self.seals.called = self.collector.collect(rt, &mut self.token);
     }
@@ -289,6 +292,7 @@ impl<'c, T: Drop, J: Task> LocalHandle<'c, T, J> {
         ensures same { self.new ≡ record self.old { knows = self.new.knows } }
         ensures word { IsPinned self.new.guards self.new.epoch self.new.knows }
         ensures seen { result.epoch ≡ self.new.knows.seen }
+        ensures knows { self.new.knows ≡ with_seen self.old.knows self.new.knows.seen }
         ensures read { 0 < self.old.guards → (self.old.epoch ≤ result.epoch) × (result.epoch ≤ self.old.epoch + 1) }
     {
         let epoch = self.collector.pins.look(&mut self.token);
@@ -298,8 +302,8 @@ impl<'c, T: Drop, J: Task> LocalHandle<'c, T, J> {
     /// Seals the bag, unless it is empty, with an epoch that it reads first.
     fn seal<R: Wait>(&mut self, rt: &R) -> Result<(), Fault>
         ensures ok { OnOk result ((self.new.bag ≡ []) × ChangesBag self.old self.new) }
-        ensures sealed { OnOk result (0 < self.old.guards → SealsUnder (nat_lt 0 (length self.old.bag)) self.old.epoch self.old.seals.queued self.new.seals.queued) }
-        ensures told { OnOk result (0 < length self.old.bag → IsSomeAnd self.new.seals.queued (λ q. q.seal ≡ self.new.knows.seen)) }
+        ensures sealed { OnOk result (0 < self.old.guards → SealsUnder (nat_lt 0 (length self.old.bag)) self.old.epoch (jobs_in self.old.bag) self.old.seals.queued self.new.seals.queued) }
+        ensures told { OnOk result (0 < length self.old.bag → IsSomeAnd self.new.seals.queued (λ q. (q.seal ≡ self.new.knows.seen) × (q.jobs ≡ jobs_in self.old.bag))) }
         ensures err { IfErr result (λ e. (e ≡ Fault.Memory) × (self.new ≡ record self.old { knows = self.new.knows }) × (0 < length self.old.bag)) }
     {
         if self.bag.is_empty() {
@@ -366,17 +370,19 @@ impl<'c, T: Drop, J: Task> LocalHandle<'c, T, J> {
         self.defer(rt, guard, job)
     }
 
-    /// Seals the bag, unless it is empty, and collects. Refused as `Foreign`, or as `Memory`: then the bag keeps its jobs, and
-    /// none was called. It takes the lock once, and once more for each bag that it calls beyond the first.
+    /// Seals the bag, unless it is empty, queues it, and collects then. Refused as `Foreign`, or as `Memory`, where the bag can't be
+    /// queued: then it keeps its jobs, none was called, and the epoch was looked at but not advanced. It takes the lock once to
+    /// queue the bag, and once for each that it looks for.
     pub fn flush<R: Wait>(&mut self, rt: &R, guard: &Guard<'_, T, J>) -> Result<(), Fault>
         ensures ok { OnOk result ((owns self.old.guards self.old.row guard.now.row ≡ true)
             × (self.new.bag ≡ []) × (self.new ≡ record self.old { bag = self.new.bag; seals = self.new.seals; knows = self.new.knows })) }
-        ensures sealed { OnOk result (SealsUnder (nat_lt 0 (length self.old.bag)) self.old.epoch self.old.seals.queued self.new.seals.queued) }
+        ensures sealed { OnOk result (SealsUnder (nat_lt 0 (length self.old.bag)) self.old.epoch (jobs_in self.old.bag) self.old.seals.queued self.new.seals.queued) }
         ensures due { OnOk result (IsDue self.new.knows.seen self.new.seals.called.newest) }
         ensures bags { OnOk result (TakesAll self.new.knows.seen self.new.seals.called) }
+        ensures attempt { OnOk result (IsSomeAnd self.new.seals.called.attempt (λ a. IsAttempt self.old.collector.now.pins.epoch_max a self.new.knows.seen)) }
         ensures saw { OnOk result ((self.old.epoch ≤ self.new.knows.seen) × (self.new.knows.seen ≤ self.old.epoch + 1)) }
         ensures word { OnOk result (IsPinned self.new.guards self.new.epoch self.new.knows) }
-        ensures err { IfErr result (λ e. IsRefusedUnder guard.now.row ((e ≡ Fault.Memory) × (0 < length self.old.bag)) e self.old self.new) }
+        ensures err { IfErr result (λ e. IsRefusedUnder guard.now.row ((e ≡ Fault.Memory) × (0 < length self.old.bag) × (self.new.knows ≡ with_seen self.old.knows self.new.knows.seen)) e self.old self.new) }
     {
         if !self.owns(guard) {
             return Err(Fault::Foreign);

@@ -22,15 +22,25 @@ pub struct Internal<J: Task> {
     pub queue: Queue<J>,
 }
 
+/// That the names of so many cells are given, with turns up to the last one.
+#[derive(Clone, Copy, Drop)]
+pub struct Names {
+    cells: u32,
+    turn_max: u32,
+}
+
 impl<J: Task> Internal<J> {
     /// The cells that these limits allow, which are free, and no bag.
-    pub fn new(alloc: Global, limits: &Limits) -> Result<Internal<J>, AllocError>
-        ensures free { IfOk result (λ i. i.free ≡ opened_store limits.now.cells limits.now.turn_max) }
-        ensures bags { IfOk result (λ i. i.queue.bags.items ≡ []) }
+    pub fn new(alloc: Global, limits: &Limits) -> Result<(Internal<J>, Names), AllocError>
+        ensures free { IfOk result (λ i. i.0.free ≡ opened_store limits.now.cells limits.now.turn_max) }
+        ensures bags { IfOk result (λ i. i.0.queue.bags.items ≡ []) }
+        ensures names { IfOk result (λ i. (i.1.cells ≡ limits.now.cells) × (i.1.turn_max ≡ limits.now.turn_max)) }
     {
-        Ok(Internal {
-            free: Cells::new(alloc, limits.cells, limits.turn_max)?,
+        let (cells, turn_max) = (limits.cells, limits.turn_max);
+        let internal = Internal {
+            free: Cells::new(alloc, cells, turn_max)?,
             queue: Queue::new(alloc),
-        })
+        };
+        Ok((internal, Names { cells, turn_max }))
     }
 }

@@ -1,15 +1,19 @@
 //! The epoch and the participants' words. Threads step on them without a lock.
 
+mod attempt;
+
 ghost use Rattle.std.specs.Prelude.{◌≡◌, true, false, ◌<◌, ◌≤◌, ◌+◌, ◌^◌, None, Some, IfOk, IfErr, MatchOption};
+ghost use Rattle.crossbeam_epoch.specs.Face.Attempt.{IsAttempt};
 ghost use Rattle.crossbeam_epoch.specs.Face.Pins.{word_of, newcomer, noted, with_seen, IsRead, Passes};
 ghost use Rattle.crossbeam_epoch.specs.Face.Tokens.{known, IsOf, unpinned_view, pinned_view};
 
 use crate::face::seats::{
-    Advance, Arrive, Claim, Confirm, Count, Extent, Heeding, Inspect, Leave, Look, Noting, Publish,
-    Release, Token, Words,
+    Arrive, Claim, Confirm, Count, Extent, Heeding, Leave, Look, Noting, Publish, Release, Token,
+    Words,
 };
 use crate::fault::Fault;
 use atomic_table::Table;
+pub use attempt::Attempt;
 use std::alloc::{AllocError, Global};
 
 /// The number in the word of a place that is nobody's.
@@ -212,38 +216,23 @@ impl Pins {
             .store::<Leave>(token, word_of(place), UNPINNED);
     }
 
-    /// Inspects each place in order, and tells whether all were passed.
-    fn scan(&self, token: &mut Token, seen: u64) -> bool
-        requires of { IsOf self.now.words.shared.table_id token.old }
-        requires starts { (known token.old ≡ with_seen (known token.old) seen) × (seen ≤ 2 ^ 62) }
-        ensures of { IsOf self.now.words.shared.table_id token.new }
-        ensures view { known token.new ≡ record (known token.old) { passed = (known token.new).passed } }
-        ensures all { result ≡ true → self.now.places ≤ (known token.new).passed }
-    {
-        for place in 0..self.places {
-            let number = self.words.shared.load::<Inspect>(token, word_of(place));
-            if !passes(number, seen) {
-                return false;
-            }
-        }
-        true
-    }
-
     /// Tries once to advance the epoch: looks at it, inspects each place, and where all were passed puts the next one in
-    /// its place, unless another was faster. Answers the epoch that it saw last.
-    pub fn advance(&self, token: &mut Token) -> u64
+    /// its place, unless another was faster. Answers the epoch that it saw last, and how the attempt ended.
+    pub fn advance(&self, token: &mut Token) -> (u64, Attempt)
         requires of { IsOf self.now.words.shared.table_id token.old }
         ensures of { IsOf self.now.words.shared.table_id token.new }
-        ensures view { known token.new ≡ record (known token.old) { seen = result; passed = (known token.new).passed } }
-        ensures read { IsRead (known token.old) result }
+        ensures view { known token.new ≡ record (known token.old) { seen = result.0; passed = (known token.new).passed } }
+        ensures read { IsRead (known token.old) result.0 }
+        ensures attempt { IsAttempt self.now.epoch_max result.1 result.0 }
     {
         let seen = self.look(token);
-        if seen >= self.epoch_max || !self.scan(token, seen) {
-            return seen;
+        if let Some(last) = self.at_last(seen) {
+            return (seen, last);
         }
-        let shared = &self.words.shared;
-        let found = shared.compare_exchange::<Advance>(token, 0, seen, seen + 1);
-        if found == seen { seen + 1 } else { seen }
+        if let Some(stopped) = self.scan(token, seen) {
+            return (seen, stopped);
+        }
+        self.raise(token, seen)
     }
 
     /// `Registered(n)` where n places aren't free, with the seat that found so: it looked at each.

@@ -1,6 +1,6 @@
 //! Steps, runs of steps, and whole calls.
 
-ghost use Rattle.std.specs.Prelude.{◌≡◌, ◌≢◌, true, ◌<◌, ◌≤◌, ℕ, List, ◌∷◌, length, take as first_of, vec_len, None, Some, ◌+◌};
+ghost use Rattle.std.specs.Prelude.{◌≡◌, ◌≢◌, ◌⊎◌, true, ◌<◌, ◌≤◌, ℕ, List, ◌∷◌, length, min, take as first_of, drop as behind, vec_len, vec_capacity, None, Some, ◌+◌, ◌-◌};
 ghost use Rattle.crossbeam_epoch.specs.World.Machine.{place};
 ghost use Rattle.crossbeam_epoch.specs.World.Steps.{after, busy_fault, marks, IsReport, state_after, AreReports, history_after};
 ghost use Rattle.crossbeam_epoch.specs.declared.world.report.Report.{Report};
@@ -44,9 +44,36 @@ impl<T: Links + Pointable + Drop, J: Task> World<T, J> {
         }
     }
 
-    /// These steps, one after another, until there is no memory for a report.
+    /// As many of these steps as the list of reports has room for, one after another; their reports come behind those that
+    /// stand there. It asks for no memory, and answers how many steps those are.
+    pub fn run_into(&mut self, steps: &[Step], reports: &mut Vec<Report>) -> usize
+        ensures done { result ≡ min (length steps.now) (vec_capacity reports.old - vec_len reports.old) }
+        ensures before { first_of (length reports.old.items) reports.new.items ≡ reports.old.items }
+        ensures count { length reports.new.items ≡ length reports.old.items + result }
+        ensures capacity { vec_capacity reports.new ≡ vec_capacity reports.old }
+        ensures legal { AreReports self.old (first_of result steps.now) (behind (length reports.old.items) reports.new.items) }
+        ensures state { self.new ≡ state_after self.old (first_of result steps.now) (behind (length reports.old.items) reports.new.items) }
+        ensures kept { (h : List Mark) → Fits h self.old → Fits (history_after self.old (first_of result steps.now) (behind (length reports.old.items) reports.new.items) h) self.new }
+        ensures told { (h : List Moment) → HasMoments T.names h self.old → HasMoments T.names (moments_after T.names self.old (first_of result steps.now) (behind (length reports.old.items) reports.new.items) h) self.new }
+        ensures shown { (log : List LogLine) (h : List Mark) → Shows log h self.old → Shows (log_after (first_of result steps.now) (behind (length reports.old.items) reports.new.items) log) (history_after self.old (first_of result steps.now) (behind (length reports.old.items) reports.new.items) h) self.new }
+        ensures ends { Orderly self.old → AllEndInTime (length self.old.table) (first_of result steps.now) (behind (length reports.old.items) reports.new.items) }
+        ensures ends_on { (who : ℕ) (op : Op) → Orderly self.old → IsOn op (place self.old who) → steps_in_flight who (first_of result steps.now) (behind (length reports.old.items) reports.new.items) < steps_left self.old who }
+    {
+        let before = reports.len();
+        for step in steps {
+            if reports.len() >= reports.capacity() {
+                break;
+            }
+            let report = self.step(step.who, step.event);
+            reports.push_reserved(report);
+        }
+        reports.len() - before
+    }
+
+    /// These steps, one after another: all of them, or none where there is no memory for their reports.
     pub fn run(&mut self, alloc: Global, steps: &[Step]) -> Ran
-        ensures done { result.done ≤ length steps.now }
+        ensures done { (result.done ≡ length steps.now) ⊎ (result.done ≡ 0) }
+        ensures full { result.done ≡ min (length steps.now) (vec_capacity result.reports) }
         ensures reports { vec_len result.reports ≡ result.done }
         ensures legal { AreReports self.old (first_of result.done steps.now) result.reports.items }
         ensures state { self.new ≡ state_after self.old (first_of result.done steps.now) result.reports.items }
@@ -57,17 +84,9 @@ impl<T: Links + Pointable + Drop, J: Task> World<T, J> {
         ensures ends_on { (who : ℕ) (op : Op) → Orderly self.old → IsOn op (place self.old who) → steps_in_flight who (first_of result.done steps.now) result.reports.items < steps_left self.old who }
     {
         let mut reports = Vec::new(alloc);
-        for step in steps {
-            if reports.reserve(1).is_err() {
-                break;
-            }
-            let report = self.step(step.who, step.event);
-            reports.push_reserved(report);
-        }
-        Ran {
-            done: reports.len(),
-            reports,
-        }
+        let _ = reports.reserve(steps.len());
+        let done = self.run_into(steps, &mut reports);
+        Ran { reports, done }
     }
 
     /// A whole call, at most so many steps of it; answers its last report, none where `most` is 0.

@@ -2,5 +2,6 @@
 
 pub mod atomics;
 pub mod face;
+pub mod jobs;
 pub mod machine;
 pub mod threads;

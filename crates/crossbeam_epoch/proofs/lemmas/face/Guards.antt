@@ -75,16 +75,16 @@ if_err (Ok a) f p = tt
 if_err (Err e) f p = f e p
 
 -- a bag was sealed, with an epoch that was read under the guards that are out
-pub sealed_now : (b : Bool) (q r : ℕ) (before : Option Queued) (bag : Queued) → b ≡ true → bag.seal ≡ r → (q ≤ r) × (r ≤ q + 1) → SealsUnder b q before (Some bag)
-sealed_now b q r before bag sealed same within = rw sealed (subst (λ (s : ℕ). (q ≤ s) × (s ≤ q + 1)) (sym same) within)
+pub sealed_now : (b : Bool) (q r jobs : ℕ) (before : Option Queued) (bag : Queued) → b ≡ true → bag.seal ≡ r → bag.jobs ≡ jobs → (q ≤ r) × (r ≤ q + 1) → SealsUnder b q jobs before (Some bag)
+sealed_now b q r jobs before bag sealed same kept within = let low = within.0 in let high = within.1 in rw sealed (omega (arith, low, same), omega (arith, high, same), kept)
 
 -- no bag was sealed, and the last seal is the one before
-pub not_sealed : (b : Bool) (q : ℕ) (before : Option Queued) → b ≡ false → SealsUnder b q before before
-not_sealed b q before none = rw none refl
+pub not_sealed : (b : Bool) (q jobs : ℕ) (before : Option Queued) → b ≡ false → SealsUnder b q jobs before before
+not_sealed b q jobs before none = rw none refl
 
 -- a full bag is sealed as one that holds a job
-pub full_seals : (n m q : ℕ) (before after : Option Queued) → 0 < m → m ≤ n → SealsUnder (nat_lt 0 n) q before after → SealsUnder (nat_le m n) q before after
-full_seals n m q before after some full s = let x : nat_lt 0 n ≡ true = grind (arith, nat_tests, some, full) in let y : nat_le m n ≡ true = grind (arith, nat_tests, full) in rw y (rw x at s)
+pub full_seals : (n m q jobs : ℕ) (before after : Option Queued) → 0 < m → m ≤ n → SealsUnder (nat_lt 0 n) q jobs before after → SealsUnder (nat_le m n) q jobs before after
+full_seals n m q jobs before after some full s = let x : nat_lt 0 n ≡ true = grind (arith, nat_tests, some, full) in let y : nat_le m n ≡ true = grind (arith, nat_tests, full) in rw y (rw x at s)
 
 -- a bag that isn't empty holds a job
 pub some_job : (n : ℕ) (b : Bool) → b ≡ nat_eq n 0 → b ≡ false → 0 < n
@@ -137,3 +137,12 @@ with_place {J} b w is = subst (λ (x : List (Deferral J)). length x < bag_places
     go : (c : Bool) → nat_lt (length b) bag_places ≡ c → length (with_room b) < bag_places
     go true h = rw h (ltb-true (length b) bag_places h)
     go false h = rw h (omega arith)
+
+-- what is read after a look and a scan was read after what was seen before
+pub read_on : (v w : View) (a r d : ℕ) → w ≡ record v { seen = a; passed = d } → IsRead v a → (IsRead w a → IsRead w r) → IsRead v r
+read_on v w a r d is first then =
+    let later : IsRead (record v { seen = a; passed = d }) a → IsRead (record v { seen = a; passed = d }) r = subst (λ (u : View). IsRead u a → IsRead u r) is then in
+    let t = later (omega arith, first.1, first.2) in
+    let low = first.0 in
+    let high = t.0 in
+    (omega (arith, low, high), t.1, t.2)

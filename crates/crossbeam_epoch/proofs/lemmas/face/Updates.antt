@@ -1,8 +1,9 @@
 -- What a closure gave for a pointer, however the pointer and the collector are named.
-use Rattle.std.proofs.Common.{◌≡◌, Bool, true, Option, Some, None, sym, ap, ◌∙◌, subst}
+use Rattle.std.proofs.Common.{◌≡◌, ℕ, Bool, true, Option, Some, None, sym, ap, ◌∙◌, subst}
 use Rattle.std.specs.Prelude.{IfSome}
 use Rattle.crossbeam_epoch.specs.declared.face.shared.Shared.{Shared}
-use Rattle.crossbeam_epoch.specs.Face.Exchange.{GaveNext, GaveNone}
+use Rattle.crossbeam_epoch.specs.declared.face.link.Link.{Link}
+use Rattle.crossbeam_epoch.specs.Face.Exchange.{GaveNext, GaveNone, Updates}
 
 -- pointers with one site and tag are one
 pub one_pointer : {T : Type 0} (a b : Shared T) → a.link ≡ b.link → a ≡ b
@@ -20,3 +21,7 @@ module _ {F S : Type 0} (step : F → S → Option S → F → Type 0) (e e' : S
   -- a closure that gave none to write for the one gave none for the other
   pub gave_none : GaveNone step e s → GaveNone step e' s'
   gave_none g = (g.0, g.1, g.2, subst (λ x. step g.0 x g.2 g.1) is g.3, if_elsewhere e e' g.2 same g.4)
+
+-- what an update wrote in the place of a pointer, its closure gave for that
+pub given_next : {F T : Type 0} (step : F → Shared T → Option (Shared T) → F → Type 0) (elsewhere : Shared T → Bool) (align : ℕ) (s : Shared T) (written : Link) → Updates step elsewhere align s written → GaveNext step elsewhere s
+given_next step elsewhere align s written u = let g = u.1 in (g.0, g.1, g.2, g.3, g.4)

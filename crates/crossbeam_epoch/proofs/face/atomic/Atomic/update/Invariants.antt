@@ -1,4 +1,4 @@
-use Rattle.crossbeam_epoch.proofs.face.atomic.Atomic.fetch_update.Given as goal
+use Rattle.crossbeam_epoch.proofs.face.atomic.Atomic.update.Given as goal
 
 abbrev pub invariant-loop : goal.invariant-loop
 invariant-loop g l = goal.F-IsAlwaysCallable g l.f
