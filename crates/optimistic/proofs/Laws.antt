@@ -6,5 +6,3 @@ pub use Rattle.optimistic.proofs.lemmas.face.Logs.{call_later}
 pub use Rattle.optimistic.proofs.lemmas.face.Logs.{call_wrote}
 -- a value that a key has some call gave it
 pub use Rattle.optimistic.proofs.lemmas.face.Logs.{call_value}
--- all pairs of a closed index are those of one log
-pub use Rattle.optimistic.proofs.lemmas.face.Closings.{all_drained}

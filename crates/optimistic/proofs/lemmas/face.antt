@@ -1,4 +1,3 @@
 pub mod Answers
-pub mod Closings
 pub mod Knowing
 pub mod Logs
