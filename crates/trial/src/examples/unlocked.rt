@@ -1,9 +1,9 @@
 //! An index whose readers take no lock, with two threads.
-ghost use Rattle.std.specs.Prelude.{◌≡◌, ◌^◌, List, Some, IfSome};
+ghost use Rattle.std.specs.Prelude.{◌≡◌, ℕ, List, Some, IfSome};
 ghost use Rattle.optimistic.specs.declared.words.rule.Entry.{Entry};
 ghost use Rattle.optimistic.specs.words.Kept.{value_of};
 ghost use Rattle.optimistic.specs.face.Calls.{HasCall};
-ghost use Rattle.optimistic.specs.tree.Drained.{IsDrained, IsAll};
+ghost use Rattle.optimistic.specs.tree.Drained.{IsAll};
 
 use optimistic::{Pair, Retired, Seen, U64Congee};
 use std::alloc::Global;
@@ -72,7 +72,6 @@ fn shares<R: Threads + Wait + Sync>(rt: &R, index: &U64Congee, alloc: Global) ->
 }
 
 /// Closes an index, with a worker that was given back, and drains it.
-#[tactic(auto, using(optimistic::proofs::Laws::all_drained))]
 fn drains(index: U64Congee, alloc: Global, last: Retired) -> Option<Vec<Pair>>
     requires { last.index ≡ index.tree.nodes.table.shared.table_id }
     ensures { IfSome result (λ pairs. IsAll last.seen last.made last.by pairs.items) }
@@ -86,13 +85,13 @@ fn drains(index: U64Congee, alloc: Global, last: Retired) -> Option<Vec<Pair>>
     }
 }
 
-/// Opens an index, has two threads put values into it, closes it and drains it: the pairs are those of one log, which has
+/// Opens an index, has two threads put values into it, closes it and drains it: the pairs are all of one log, which comes after
 /// the calls of both threads.
-#[tactic(auto, using(optimistic::proofs::Laws::call_later))]
 pub fn shares_and_drains<R: Threads + Wait + Sync>(rt: &R, alloc: Global) -> Option<Vec<Pair>>
-    ensures { IfSome result (λ pairs. (log : List Entry) × IsDrained log 0 (2 ^ 64) pairs.items × HasCall 1 (Some 10) log × HasCall 2 (Some 20) log) }
+    ensures { IfSome result (λ pairs. (seen : List Entry) × (made : List Entry) × (by : ℕ) × IsAll seen made by pairs.items × HasCall 1 (Some 10) seen × HasCall 2 (Some 20) seen) }
 {
     let index = U64Congee::new(alloc, 10_000).ok()?;
     let last = shares(rt, &index, alloc)?;
-    drains(index, alloc, last)
+    let pairs = drains(index, alloc, last)?;
+    Some(pairs)
 }
