@@ -35,5 +35,8 @@ abbrev pub Found : ℕ → Option ℕ → Known → Known → Type 0
 Found key x v w = Looked v w × (x ≡ value_of key w.seen)
 
 -- a log has a call that gave a key this
-abbrev pub HasCall : ℕ → Option ℕ → List Entry → Type 0
-HasCall key x log = (e : Entry) × Contains log e × (e.key ≡ key) × (e.value ≡ x)
+pub record HasCall (key : ℕ) (x : Option ℕ) (log : List Entry) : Type 0 where
+  pub call : Entry
+  pub there : Contains log call
+  pub its_key : call.key ≡ key
+  pub its_value : call.value ≡ x

@@ -51,6 +51,12 @@ pub record IsClosed (seen made : List Entry) (by : ℕ) (p : Pairs) : Type 0 whe
   pub has : HasLog p log
   pub comes : Comes log seen made by
 
+-- these are all pairs, of one log that comes after what a thread has seen, and after its calls
+pub record IsAll (seen made : List Entry) (by : ℕ) (pairs : List Pair) : Type 0 where
+  pub log : List Entry
+  pub told : IsDrained log 0 (2 ^ 64) pairs
+  pub comes : Comes log seen made by
+
 -- at the end, which comes after what a thread has seen, the root is locked, or doesn't cover each key
 pub record HasNoRoot (seen made : List Entry) (by : ℕ) : Type 0 where
   pub end : Moment

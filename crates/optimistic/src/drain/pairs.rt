@@ -1,5 +1,5 @@
 //! The pairs that a tree had.
-ghost use Rattle.std.specs.Prelude.{◌≡◌, ◌+◌, ◌^◌, IfOk, IfErr, MatchResult, unwrap_or};
+ghost use Rattle.std.specs.Prelude.{◌≡◌, ℕ, ◌+◌, ◌^◌, IfOk, IfErr, MatchResult, unwrap_or};
 
 use crate::drain::nexts::first_from;
 pub use crate::drain::nexts::{Locked, Pair};
@@ -33,7 +33,7 @@ impl Pairs {
     ghost use Rattle.std.specs.Prelude.{List};
     ghost use Rattle.optimistic.specs.declared.words.rule.Entry.{Entry};
     ghost use Rattle.optimistic.specs.tree.Nexts.{IsFirst, behind};
-    ghost use Rattle.optimistic.specs.tree.Drained.{rest, HasLog, IsDrained, IsLocked, IsCause};
+    ghost use Rattle.optimistic.specs.tree.Drained.{rest, HasLog, IsDrained, IsClosed, IsAll, IsLocked, IsCause};
 
     /// All pairs of these words.
     pub(crate) fn new(words: Words) -> Pairs
@@ -71,9 +71,11 @@ impl Pairs {
         }
     }
 
-    /// All pairs that weren't told before, in ascending order of keys. An error leaves all as it was.
+    /// All pairs that weren't told before, in ascending order of keys: at first, all pairs of the index. An error leaves all as it
+    /// was.
     pub fn drain(&mut self, alloc: Global) -> Result<Vec<Pair>, Undrained>
         ensures pairs { (log : List Entry) → HasLog self.old log → HasLog self.new log × IfOk result (λ v. IsDrained log (rest self.old) (2 ^ 64) v.items) }
+        ensures all { (seen made : List Entry) (by : ℕ) → IsClosed seen made by self.old → IfOk result (λ v. IsAll seen made by v.items) }
         ensures rest { MatchResult result (λ _. rest self.new ≡ 2 ^ 64) (λ _. rest self.new ≡ rest self.old) }
         ensures cause { IfErr result (λ e. IsCause self.old e) }
     {

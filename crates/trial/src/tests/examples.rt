@@ -20,6 +20,7 @@ use crate::examples::promises::{answer_alike, gives_memory_back};
 use crate::examples::read_mostly::{Doubles, look, reads_beside_a_writer, writes_in_two_threads};
 use crate::examples::stack::{Node, Stack, pops, sum_of_two};
 use crate::examples::threaded::{fills_and_closes, first_calls, shared_values};
+use crate::examples::unlocked::shares_and_drains;
 use crate::tests::asserts::assert_same;
 use congee::{Allocator, Congee, DefaultAllocator, Limited};
 use crossbeam_epoch::{Collector, Job};
@@ -419,5 +420,13 @@ fn a_tree_under_a_mutex_is_written_by_two(rt: HostRuntime) -> Result<(), Fail> {
     writes_in_two_threads(&rt, &shared, 150)?;
     let doubles = shared.lock(&rt);
     assert_same(&rt, (doubles.len(), doubles.get(&299)), (300, Some(598)));
+    Ok(())
+}
+
+#[test]
+fn two_threads_share_an_index_without_a_lock(rt: HostRuntime) -> Result<(), Fail> {
+    let pairs = shares_and_drains(&rt, rt.alloc());
+    let told = pairs.iter().flatten().map(|pair| (pair.key, pair.value));
+    assert!(rt; told.eq([(1, 10), (2, 20)]));
     Ok(())
 }

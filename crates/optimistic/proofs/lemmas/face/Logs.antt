@@ -15,21 +15,21 @@ only_call e = (0, omega arith, refl)
 
 -- a log that goes on has the calls that it had
 pub call_later : (key : ℕ) (x : Option ℕ) (log seen : List Entry) → StartsWith log seen → HasCall key x seen → HasCall key x log
-call_later key x log seen s c = (c.0, subst (λ (l : List Entry). Contains l c.0) (sym s.1) (Contains-append_left seen s.0 c.0 c.1), c.2, c.3)
+call_later key x log seen s c = record { call = c.call; there = subst (λ (l : List Entry). Contains l c.call) (sym s.1) (Contains-append_left seen s.0 c.call c.there); its_key = c.its_key; its_value = c.its_value }
 
 -- a worker that wrote has seen its call
 pub call_wrote : (key : ℕ) (value old : Option ℕ) (v w : Known) → Wrote key value old v w → HasCall key value w.seen
 call_wrote key value old v w t = let e : Entry = entry_of v.by key value in let p = t.4 in let before : List Entry = v.seen ++ p.0 in
-    (e, subst (λ (l : List Entry). Contains l e) (sym p.2) (Contains-append_left (before ++ e ∷ []) p.1 e (Contains-append_right before (e ∷ []) e (only_call e))), refl, refl)
+    record { call = e; there = subst (λ (l : List Entry). Contains l e) (sym p.2) (Contains-append_left (before ++ e ∷ []) p.1 e (Contains-append_right before (e ∷ []) e (only_call e))); its_key = refl; its_value = refl }
 
 -- a key has what it had before some calls, or what one of them gave it
 call_or_before : (key : ℕ) (x y : Option ℕ) (log : List Entry) → value_after x key log ≡ y → (x ≡ y) ⊎ HasCall key y log
 call_or_before key x y [] t = inl t
 call_or_before key x y (e ∷ es) t = ⊎_elim
     (λ (q : (if eqb e.key key then e.value else x) ≡ y). dite (ℕ_discrete e.key key)
-    (λ (same : e.key ≡ key). inr (e, Contains-append_left (e ∷ []) es e (only_call e), same, sym (ap (λ (z : Bool). if z then e.value else x) (eq-eqb e.key key same)) ∙ q))
+    (λ (same : e.key ≡ key). inr record { call = e; there = Contains-append_left (e ∷ []) es e (only_call e); its_key = same; its_value = sym (ap (λ (z : Bool). if z then e.value else x) (eq-eqb e.key key same)) ∙ q })
     (λ ne. inl (sym (ap (λ (z : Bool). if z then e.value else x) (ne_eqb e.key key ne)) ∙ q)))
-    (λ (r : HasCall key y es). inr (r.0, Contains-append_right (e ∷ []) es r.0 r.1, r.2, r.3))
+    (λ (r : HasCall key y es). inr record { call = r.call; there = Contains-append_right (e ∷ []) es r.call r.there; its_key = r.its_key; its_value = r.its_value })
     (call_or_before key (if eqb e.key key then e.value else x) y es t)
 
 -- a value that a key has some call gave it

@@ -38,3 +38,10 @@ loop-from-preserved c =
 
 pub returns-clause-pairs : goal.returns-clause-pairs
 returns-clause-pairs c log has = (has, subst (λ (o : Option ℕ). IsDrained log (rest c.args.self.now) (unwrap_or o (2 ^ 64)) c.loop-from.pairs.items) c.in_default.is (c.loop-from.invariant.1 log has))
+
+pub returns-clause-all : goal.returns-clause-all
+returns-clause-all c seen made by closed = record {
+  log = closed.log;
+  told = subst (λ (z : ℕ). IsDrained closed.log z (2 ^ 64) c.loop-from.pairs.items) closed.all (returns-clause-pairs c closed.log closed.has).1;
+  comes = closed.comes;
+}
