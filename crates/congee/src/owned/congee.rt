@@ -101,14 +101,14 @@ impl<K: Word64, V: Word64, A: Allocator, D: Drop> Congee<K, V, A, D> {
     }
 
     /// Puts the answer of `f` at a key that is present, or takes the key out where the answer is `None`.
-    /// Gives the value before and the answer.
-    pub fn compute_if_present<F: FnMut(u64) -> Option<u64>>(
+    /// Gives the value before and the answer. It asks `f` once where the key is present.
+    pub fn compute_if_present<F: FnOnce(u64) -> Option<u64>>(
         &mut self,
         key: &K,
-        mut f: F,
+        f: F,
     ) -> Option<(u64, Option<u64>)>
         requires { F.IsAlwaysCallable f }
-        ensures asked { IfSome result (λ r. (after : F) × F.step f r.0 r.1 after) }
+        ensures asked { IfSome result (λ r. F.post f r.0 r.1) }
         ensures present { IfSome result (λ r. Modifies nat_eq A.charged_of A.limit_of self.old self.new
             (going_by r.1 (map.get self.old.goes (K.word key.now)))
             (call.ComputePresent (K.word key.now) r.1) (reply.ComputePresent (Some (r.0, r.1)))) }
@@ -125,15 +125,15 @@ impl<K: Word64, V: Word64, A: Allocator, D: Drop> Congee<K, V, A, D> {
         Some((old, new))
     }
 
-    /// Puts the answer of `f` at a key, present or not, and gives the value before. A refused call changes nothing.
-    pub fn compute_or_insert<F: FnMut(Option<u64>) -> u64>(
+    /// Puts the answer of `f` at a key, present or not, and gives the value before. It asks `f` once. A refused call changes nothing.
+    pub fn compute_or_insert<F: FnOnce(Option<u64>) -> u64>(
         &mut self,
         key: K,
-        mut f: F,
+        f: F,
     ) -> Result<Option<V>, OOMError>
         requires { F.IsAlwaysCallable f }
         ensures inserts { IfOk result (λ r. (before : Option ℕ) × (value : ℕ)
-            × (r ≡ option_map V.of_word before) × (after : F) × F.step f before value after
+            × (r ≡ option_map V.of_word before) × F.post f before value
             × Inserts nat_eq A.charged_of A.limit_of self.old self.new (K.word key)
             (call.ComputeInsert (K.word key) value) (reply.ComputeInsert before)) }
         ensures refused { IfErr result (Refuses A.charged_of A.limit_of self.old self.new (K.word key)) }

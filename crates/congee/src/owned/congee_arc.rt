@@ -203,16 +203,16 @@ impl<K: Word64, V: Drop> CongeeArc<K, V> {
     }
 
     /// Puts the answer of `f` at a key that is present, or takes the key out where the answer is `None`.
-    /// Gives the value before. It is refused where a value is there that can't have one more owner, and changes
-    /// nothing then.
-    pub fn compute_if_present<F: FnMut(Arc<V, Global>) -> Option<Arc<V, Global>>>(
+    /// Gives the value before. It asks `f` once where the key is present. It is refused where a value is there that can't have one
+    /// more owner, and changes nothing then.
+    pub fn compute_if_present<F: FnOnce(Arc<V, Global>) -> Option<Arc<V, Global>>>(
         &mut self,
         key: K,
-        mut f: F,
+        f: F,
     ) -> Result<Option<Arc<V, Global>>, Count>
         requires { F.IsAlwaysCallable f }
-        ensures present { IfOk result (λ r. IfSome r (λ old. (given : _) × (new : _) × (after : F)
-            × (arc_value given ≡ arc_value old) × F.step f given new after
+        ensures present { IfOk result (λ r. IfSome r (λ old. (given : _) × (new : _)
+            × (arc_value given ≡ arc_value old) × F.post f given new
             × OwnerModifies self.old self.new (going_by new (map.get self.old.goes (K.word key)))
             (call.ComputePresent (K.word key) (option_map arc_value new))
             (reply.ComputePresent (Some (arc_value old, option_map arc_value new))))) }
