@@ -6,7 +6,7 @@ ghost use Rattle.std.specs.FinMap as map;
 ghost use Rattle.congee.specs.forms.Forms.{size_of};
 ghost use Rattle.congee.specs.declared.forms.base_node.NodeType.TheVariants.{N256};
 ghost use Rattle.congee.specs.owned.Content.{Inserts, IsBare, KeepsCharge, ChangesNothing, Refuses, Modifies};
-ghost use Rattle.congee.specs.owned.Full.{AllFilled};
+ghost use Rattle.congee.specs.owned.Full.{AllBranch, AllFilled};
 ghost use Rattle.congee.specs.owned.Nearest.{ComesBack, IsGreatest, IsGreatestAs, IsLeast, IsLeastAs, pair_by};
 ghost use Rattle.congee.specs.owned.OwnedSteps.{IsRefusal};
 ghost use Rattle.congee.specs.owned.Ranges.{by_bytes, in_range, keys_by};
@@ -199,6 +199,13 @@ impl<V: Word64, A: Allocator> U64Congee<V, A> {
         ensures { All HasValue self.now.tree.nodes }
     {
         self.tree.leaves_hold();
+    }
+
+    /// Each node but the root has a value, or two nodes below it at least, whatever was skipped.
+    pub fn nodes_branch(&self)
+        ensures { AllBranch self.now.tree.nodes }
+    {
+        self.tree.nodes_branch();
     }
 
     /// Where no node but the root lacks a child, each has two nodes below it at least, or one value, and isn't too small for its

@@ -1,5 +1,5 @@
 use Rattle.std.proofs.Common.{sym, Some, arith}
-use Rattle.congee.proofs.lemmas.owned.Contents.{inserts, refuses, found_at, denied_tree, denied_bytes}
+use Rattle.congee.proofs.lemmas.owned.Contents.{inserts, refuses, found_at, denied_tree, denied_bytes, denied_branch}
 use Rattle.congee.proofs.owned.congee.Congee.insert.Goals as goal
 
 pub returns-in-Ok-clause-inserts : goal.returns-in-Ok-clause-inserts
@@ -14,6 +14,7 @@ pub invariant_of-self-2 : goal.invariant_of-self-2
 invariant_of-self-2 g c = (
   denied_tree _ _ _ _ _ _ _ _ c.self.invariant.0 c.in-Err.ensures.refused,
   omega (arith, denied_bytes _ _ _ _ _ _ _ _ c.in-Err.ensures.refused, c.in-Err.ensures.refused.balance, c.self.invariant.1),
+  denied_branch _ _ _ _ _ _ _ _ c.in-Err.ensures.refused c.self.invariant.2,
 )
 
 pub returns-clause-refused : goal.returns-clause-refused
