@@ -1,5 +1,5 @@
 //! The calls on an arena as those on a map.
-ghost use Rattle.std.specs.Prelude.{◌≡◌, ◌+◌, ℕ, List, None, IfOk, IfErr};
+ghost use Rattle.std.specs.Prelude.{◌≡◌, ◌+◌, ℕ, false, List, None, IfOk, IfErr};
 ghost use Rattle.std.specs.Option.{option_copied};
 ghost use Rattle.congee.specs.Heap.{value_at};
 ghost use Rattle.congee.specs.forms.Forms.{size_of};
