@@ -1,4 +1,4 @@
-use Rattle.std.proofs.Common.{◌^◌, ◌-◌, sym, subst, ℕ, None, arith}
+use Rattle.std.proofs.Common.{◌^◌, ◌-◌, true, sym, subst, ℕ, None, arith}
 use Rattle.std.specs.FinMap as map
 use Rattle.congee.specs.owned.Owners.{never_same}
 use Rattle.congee.specs.owned.Wanted.{wants_of, InsertionFits, IsRefused}
