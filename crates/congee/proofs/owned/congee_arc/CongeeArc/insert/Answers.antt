@@ -1,4 +1,4 @@
-use Rattle.std.proofs.Common.{◌^◌, ◌-◌, true, sym, subst, ℕ, None, arith}
+use Rattle.std.proofs.Common.{◌^◌, ◌-◌, true, false, sym, subst, ℕ, None, arith}
 use Rattle.std.specs.FinMap as map
 use Rattle.congee.specs.owned.Owners.{never_same}
 use Rattle.congee.specs.owned.Wanted.{wants_of, InsertionFits, IsRefused}
@@ -18,6 +18,11 @@ returns-in-Ok-clause-inserts g c =
     let Q : ℕ → Type 0 = λ n. InsertionFits (map.get (wants_of c.self.inside.arena.nodes) (g.K.Word64.word c.args.key)) n (2 ^ 64 - 1) in
     let fits = subst Q (sym c.self.invariant.1) (fitted_at c.self.inside.arena (g.K.Word64.word c.args.key) c.bytes_of_key-bytes.ensures.small c.bytes_of_key-bytes.result c.bytes_of_key-bytes.ensures.bytes _ _ adds.fits) in
     rw (← c.self.view_is, c.owner_of.ensures, ← c.new.ensures) (record { answers = answers; fits = fits; bytes = bytes; filled = still_none c.self.inside.arena.nodes c.insert.new.self.nodes (adds.filled true) })
+
+pub invariant_of-self : goal.invariant_of-self
+invariant_of-self g c =
+    let adds = c.in-Ok.ensures.adds in
+    (adds.edits.tree, omega (arith, adds.edits.balance, c.self.invariant.1), adds.filled false c.self.invariant.2)
 
 pub invariant_of-self-2 : goal.invariant_of-self-2
 invariant_of-self-2 g c = (
