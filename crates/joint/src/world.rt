@@ -172,12 +172,28 @@ impl<P: Payload + Small, A: Allocator> World<P, A> {
         requires { D.can_drain drainer }
         ensures { MatchResult result (λ r. IsClosed D.drains self drainer (A.charged_of r.0) (A.limit_of r.0) r.1) (λ e. IsNotClosed self drainer e.0 e.1 e.2) }
     {
+        match self.close_with_journal(drainer) {
+            Ok((allocator, drainer, _)) => Ok((allocator, drainer)),
+            Err(back) => Err(back),
+        }
+    }
+
+    /// The same; its journal comes back too, with no copy.
+    pub(crate) fn close_with_journal<D: Drainer<u64, P>>(
+        self,
+        drainer: D,
+    ) -> Result<(A, D, Vec<Entry<P>>), (Refusal, World<P, A>, D)>
+        requires { D.can_drain drainer }
+        ensures closed { MatchResult result (λ r. IsClosed D.drains self drainer (A.charged_of r.0) (A.limit_of r.0) r.1) (λ e. IsNotClosed self drainer e.0 e.1 e.2) }
+        ensures journal { IfOk result (λ r. r.2.items ≡ self.log.entries) }
+    {
         let registered = self.engine.registered();
         if registered > 0 {
             return Err((Refusal::WorkersLeft(registered), self, drainer));
         }
-        let World { engine, .. } = self;
-        Ok(engine.close(drainer))
+        let World { engine, log } = self;
+        let (allocator, drainer) = engine.close(drainer);
+        Ok((allocator, drainer, log.into_entries()))
     }
 }
 

@@ -1,5 +1,5 @@
 -- Calls on an index that threads share: whom they serve, what a hold of its lock is, and what they answer.
-use Rattle.std.specs.Prelude.{◌≡◌, ◌≢◌, ◌==◌, ◌&&◌, ◌<◌, ◌⊎◌, ℕ, Bool, true, false, List, [], length, Option, None, Some, Result, Ok, Err, Vec, map}
+use Rattle.std.specs.Prelude.{◌≡◌, ◌≢◌, ◌==◌, ◌&&◌, ◌<◌, ◌⊎◌, ℕ, Bool, true, false, List, [], length, Option, None, Some, is_some, Result, Ok, Err, Vec, map, min, ◌+◌}
 use Rattle.std.specs.Arc.{arc_value}
 use Rattle.std.specs.List.{sum_by}
 use Rattle.std.specs.Option.{option_map}
@@ -8,9 +8,10 @@ use Rattle.std.specs.declared.sync.Arc.{Arc}
 use Rattle.judge.specs.declared.journal.Reply.TheVariants.{Get, Insert, Remove, ComputePresent, ComputeInsert, Exchange}
 use Rattle.crossbeam_epoch.specs.World.Ending.{registered_in}
 use Rattle.congee.specs.declared.owned.stats.NodeStats.{NodeStats}
+use Rattle.congee.specs.owned.Stats.{capped}
 use Rattle.joint.specs.declared.nodes.account.Account.{Account}
 use Rattle.joint.specs.declared.refusal.Refusal.{Refusal}
-use Rattle.joint.specs.declared.refusal.Refusal.TheVariants.{Count, Foreign, Idle, Memory, WorkersLeft}
+use Rattle.joint.specs.declared.refusal.Refusal.TheVariants.{Busy, Count, Foreign, Idle, Memory, Unknown, Unpinned, WorkersLeft}
 use Rattle.joint.specs.declared.steps.Done.{Done as Answer}
 use Rattle.joint.specs.declared.steps.Done.TheVariants.{Unit as Finished, Reply, Scanned, Keys, Empty, Stats}
 use Rattle.joint.specs.declared.steps.Event.TheVariants.{Register}
@@ -24,7 +25,7 @@ use Rattle.joint.specs.declared.threads.tokens.Guard.{Guard}
 use Rattle.joint.specs.declared.threads.tokens.Worker.{Worker}
 use Rattle.joint.specs.engine.Closing.{IsClosed, account_of}
 use Rattle.joint.specs.threads.Driving.{IsDriven, ended}
-use Rattle.joint.specs.nodes.Listing.{bytes_of}
+use Rattle.joint.specs.nodes.Listing.{bytes_of, standing_nodes}
 use Rattle.joint.specs.engine.Census.{waiting_nodes}
 use Rattle.joint.specs.world.World.{Holds, IsStep}
 use Rattle.joint.specs.engine.Engine.{World}
@@ -107,11 +108,36 @@ told (Ok Finished) = Ok (tt {0})
 told (Err e) = Err e
 told _ = Err Idle
 
+-- a call that only reads is refused as this: for misuse, for the tokens of another index, or as Count
+abbrev pub IsOfReader : Refusal → Type 0
+IsOfReader Busy = Unit {0}
+IsOfReader Count = Unit {0}
+IsOfReader Foreign = Unit {0}
+IsOfReader Idle = Unit {0}
+IsOfReader Unknown = Unit {0}
+IsOfReader Unpinned = Unit {0}
+IsOfReader _ = ⊥
+
+-- how it reads a refusal; that of another call, which none of these meets, makes Idle
+abbrev pub of_reader : Refusal → Refusal
+of_reader Busy = Busy
+of_reader Count = Count
+of_reader Foreign = Foreign
+of_reader Unknown = Unknown
+of_reader Unpinned = Unpinned
+of_reader _ = Idle
+
 -- what a look-up answers: the value at the key, if there is one
 abbrev pub got : {V : Type 0} → End V → Result (Option V) Refusal
 got (Ok (Reply (Get v))) = Ok v
-got (Err e) = Err e
+got (Err e) = Err (of_reader e)
 got _ = Err Idle
+
+-- whether the key of a look-up has a value
+abbrev pub contained : {V : Type 0} → End V → Result Bool Refusal
+contained (Ok (Reply (Get v))) = Ok (is_some v)
+contained (Err e) = Err (of_reader e)
+contained _ = Err Idle
 
 -- what an insertion answers: the value before it, if there was one
 abbrev pub inserted : {V : Type 0} → End V → Result (Option V) Refusal
@@ -143,16 +169,16 @@ exchanged (Ok (Reply (Exchange r))) = Ok r
 exchanged (Err e) = Err e
 exchanged _ = Err Idle
 
--- what a scan answers: how many of its places it filled
-abbrev pub scanned : {V : Type 0} → End V → Result ℕ Refusal
-scanned (Ok (Scanned n)) = Ok n
-scanned (Err e) = Err e
-scanned _ = Err Idle
+-- what a scan into so many places answers: how many of them it filled
+abbrev pub scanned : {V : Type 0} → ℕ → End V → Result ℕ Refusal
+scanned places (Ok (Scanned n)) = Ok (min n places)
+scanned places (Err e) = Err (of_reader e)
+scanned places _ = Err Idle
 
 -- what the question for emptiness answers
 abbrev pub emptied : {V : Type 0} → End V → Result Bool Refusal
 emptied (Ok (Empty b)) = Ok b
-emptied (Err e) = Err e
+emptied (Err e) = Err (of_reader e)
 emptied _ = Err Idle
 
 -- what a list of keys answers
@@ -167,10 +193,16 @@ counted (Ok (Stats stats)) = Ok stats
 counted (Err e) = Err e
 counted _ = Err Idle
 
+-- and how many pairs there are, of them
+abbrev pub pairs_counted : {V : Type 0} → End V → Result ℕ Refusal
+pairs_counted (Ok (Stats stats)) = Ok stats.kv_pairs
+pairs_counted (Err e) = Err e
+pairs_counted _ = Err Idle
+
 -- a pin that has ended so makes a guard of the worker's
 abbrev pub guarded : ℕ → ℕ → Result (Unit {0}) Refusal → Result Guard Refusal
 guarded id who (Ok t) = Ok (record { tree = id; worker = who })
-guarded id who (Err e) = Err e
+guarded id who (Err e) = Err (of_reader e)
 
 -- a pin, and the guard that it makes or why it is refused
 abbrev pub Pins : {V : Type 0} → (ℕ → Op V → Step V → Report V → Type 0) → ℕ → ℕ → Result Guard Refusal → Type 0
@@ -231,9 +263,10 @@ As {A} does of result = (read : A) × does read × (result ≡ of read)
 abbrev pub IsTold : {V B : Type 0} → (V → V → Bool) → Bool → (World V → B) → B → Type 0
 IsTold {V} same always of result = (s : World V) × Holds same always s × (result ≡ of s)
 
--- the bytes charged
-abbrev pub charge_of : {V : Type 0} → World V → ℕ
-charge_of s = s.forest.charge
+-- the bytes charged: what came in with the allocator, and the sizes of the nodes that stand; past 64 bits, which no allocator
+-- charges, the greatest number
+abbrev pub charge_of : {V : Type 0} → Account → World V → ℕ
+charge_of account s = capped (account.charged + sum_by (bytes_of s.forest) (standing_nodes s.forest))
 
 -- how many nodes wait for their destruction
 abbrev pub waiting_of : {V : Type 0} → World V → ℕ
@@ -246,6 +279,10 @@ waiting_bytes_of s = sum_by (bytes_of s.forest) (waiting_nodes s)
 -- a closed index: the machine that the lock kept was closed with this drainer
 abbrev pub Closes : {V D : Type 0} → (V → V → Bool) → Bool → (D → ℕ → V → D → Type 0) → D → ℕ → ℕ → D → Type 0
 Closes {V} same always drains before charge limit after = (s : World V) × Holds same always s × IsClosed drains s before charge limit after
+
+-- the same, and this is what the lock kept beside that machine
+abbrev pub ClosesWith : {V D K : Type 0} → (V → V → Bool) → Bool → (D → ℕ → V → D → Type 0) → (K → World V → Type 0) → D → ℕ → ℕ → D → K → Type 0
+ClosesWith {V} same always drains keeps before charge limit after kept = (s : World V) × Holds same always s × IsClosed drains s before charge limit after × keeps kept s
 
 -- the same of one whose pairs are dropped
 abbrev pub Drops : {V : Type 0} → (V → V → Bool) → Bool → ℕ → ℕ → Type 0

@@ -1,8 +1,8 @@
 //! How calls read their end. The end of another call, which none of them meets, makes Idle.
 
-ghost use Rattle.std.specs.Prelude.{◌≡◌, Err};
+ghost use Rattle.std.specs.Prelude.{◌≡◌, ◌≤◌, Err, IfErr, IfOk};
 ghost use Rattle.joint.specs.declared.refusal.Refusal.TheVariants as cause;
-ghost use Rattle.joint.specs.threads.Threads.{computed, counted, emptied, exchanged, got, inserted, listed, removed, replaced, scanned, told};
+ghost use Rattle.joint.specs.threads.Threads.{IsOfReader, computed, contained, counted, emptied, exchanged, got, inserted, listed, of_reader, pairs_counted, removed, replaced, scanned, told};
 
 use crate::refusal::Refusal;
 use crate::steps::Done;
@@ -20,6 +20,21 @@ fn no_end<P: Drop, T>(other: Done<P>) -> Result<T, Refusal>
     Err(Refusal::Idle)
 }
 
+/// A refusal of a call that only reads; that of another call, which none of these meets, makes Idle.
+pub(crate) fn of_reader(refusal: Refusal) -> Refusal
+    ensures same { result ≡ of_reader refusal }
+    ensures own { IsOfReader result }
+{
+    match refusal {
+        Refusal::Busy => Refusal::Busy,
+        Refusal::Count => Refusal::Count,
+        Refusal::Foreign => Refusal::Foreign,
+        Refusal::Unknown => Refusal::Unknown,
+        Refusal::Unpinned => Refusal::Unpinned,
+        _ => Refusal::Idle,
+    }
+}
+
 /// Of a pin, an unpin, a repin, a flush or a release.
 pub(crate) fn told<P: Drop>(end: End<P>) -> Result<(), Refusal>
     ensures { result ≡ told end }
@@ -33,12 +48,25 @@ pub(crate) fn told<P: Drop>(end: End<P>) -> Result<(), Refusal>
 
 /// Of a look-up.
 pub(crate) fn got<P: Drop>(end: End<P>) -> Result<Option<P>, Refusal>
-    ensures { result ≡ got end }
+    ensures same { result ≡ got end }
+    ensures refused { IfErr result IsOfReader }
 {
     match end {
         Ok(Done::Reply(Reply::Get(found))) => Ok(found),
         Ok(other) => no_end(other),
-        Err(refusal) => Err(refusal),
+        Err(refusal) => Err(of_reader(refusal)),
+    }
+}
+
+/// Of a look-up, whether it found a value.
+pub(crate) fn contained<P: Drop>(end: End<P>) -> Result<bool, Refusal>
+    ensures same { result ≡ contained end }
+    ensures refused { IfErr result IsOfReader }
+{
+    match end {
+        Ok(Done::Reply(Reply::Get(found))) => Ok(found.is_some()),
+        Ok(other) => no_end(other),
+        Err(refusal) => Err(of_reader(refusal)),
     }
 }
 
@@ -97,25 +125,28 @@ pub(crate) fn exchanged<P: Drop>(end: End<P>) -> Result<Result<Option<P>, Option
     }
 }
 
-/// Of a scan.
-pub(crate) fn scanned<P: Drop>(end: End<P>) -> Result<usize, Refusal>
-    ensures { result ≡ scanned end }
+/// Of a scan into so many places; it fills no more.
+pub(crate) fn scanned<P: Drop>(places: usize, end: End<P>) -> Result<usize, Refusal>
+    ensures same { result ≡ scanned places end }
+    ensures few { IfOk result (λ n. n ≤ places) }
+    ensures refused { IfErr result IsOfReader }
 {
     match end {
-        Ok(Done::Scanned(count)) => Ok(count),
+        Ok(Done::Scanned(count)) => Ok(count.min(places)),
         Ok(other) => no_end(other),
-        Err(refusal) => Err(refusal),
+        Err(refusal) => Err(of_reader(refusal)),
     }
 }
 
 /// Of the question whether no key stands.
 pub(crate) fn emptied<P: Drop>(end: End<P>) -> Result<bool, Refusal>
-    ensures { result ≡ emptied end }
+    ensures same { result ≡ emptied end }
+    ensures refused { IfErr result IsOfReader }
 {
     match end {
         Ok(Done::Empty(empty)) => Ok(empty),
         Ok(other) => no_end(other),
-        Err(refusal) => Err(refusal),
+        Err(refusal) => Err(of_reader(refusal)),
     }
 }
 
@@ -136,6 +167,17 @@ pub(crate) fn counted<P: Drop>(end: End<P>) -> Result<NodeStats, Refusal>
 {
     match end {
         Ok(Done::Stats(stats)) => Ok(stats),
+        Ok(other) => no_end(other),
+        Err(refusal) => Err(refusal),
+    }
+}
+
+/// Of the count of nodes, how many pairs there are.
+pub(crate) fn pairs_counted<P: Drop>(end: End<P>) -> Result<u64, Refusal>
+    ensures { result ≡ pairs_counted end }
+{
+    match end {
+        Ok(Done::Stats(stats)) => Ok(stats.kv_pairs),
         Ok(other) => no_end(other),
         Err(refusal) => Err(refusal),
     }

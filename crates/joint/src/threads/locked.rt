@@ -1,6 +1,6 @@
 //! What an index keeps under its lock, and the holds of that lock.
 
-ghost use Rattle.std.specs.Prelude.{◌≡◌, ℕ, MatchResult};
+ghost use Rattle.std.specs.Prelude.{◌≡◌, ℕ, IfOk, MatchResult};
 ghost use Rattle.joint.specs.declared.steps.Op.{Op};
 ghost use Rattle.joint.specs.declared.steps.Report.{Report};
 ghost use Rattle.joint.specs.declared.steps.Step.{Step};
@@ -23,11 +23,17 @@ pub(crate) trait Locked<P: Payload + Small>: Drop {
     /// What is known of a call between its turns.
     type Memo: Drop;
 
+    /// What it keeps beside the machine, and gives back at the close.
+    type Kept: Drop;
+
     /// The call that it is of.
     ghost asked: { Self.Memo → Op P };
 
     /// The machine that it has.
     ghost machine: { Self → State P };
+
+    /// What it gives back beside the machine that was closed.
+    ghost keeps: { Self.Kept → State P → Type 0 };
 
     /// What a turn of this worker's call does, from the machine before it to the one after it.
     ghost turns: { State P → ℕ → Op P → Step P → Report P → State P → Type 0 };
@@ -55,9 +61,13 @@ pub(crate) trait Locked<P: Payload + Small>: Drop {
         ensures { result.now ≡ machine self.now };
 
     /// Ends it, where no worker is registered.
-    fn close<D: Drainer<u64, P>>(self, drainer: D) -> Result<(Self::Account, D), (Refusal, Self, D)>
+    fn close<D: Drainer<u64, P>>(
+        self,
+        drainer: D,
+    ) -> Result<(Self::Account, D, Self::Kept), (Refusal, Self, D)>
         requires { D.can_drain drainer }
-        ensures { MatchResult result (λ r. IsClosed D.drains (machine self) drainer (Self.Account.charged_of r.0) (Self.Account.limit_of r.0) r.1) (λ e. IsNotClosed (machine self) drainer e.0 (machine e.1) e.2) };
+        ensures closed { MatchResult result (λ r. IsClosed D.drains (machine self) drainer (Self.Account.charged_of r.0) (Self.Account.limit_of r.0) r.1) (λ e. IsNotClosed (machine self) drainer e.0 (machine e.1) e.2) }
+        ensures kept { IfOk result (λ r. keeps r.2 (machine self)) };
 }
 
 /// The machine alone.
@@ -82,9 +92,13 @@ impl<P: Payload + Small, A: Allocator> Locked<P> for Plain<P, A> {
 
     type Memo = Snapshot<Op<P>>;
 
+    type Kept = ();
+
     ghost asked = { λ m. m.value };
 
     ghost machine = { λ p. p.world };
+
+    ghost keeps = { λ _ _. Unit {0} };
 
     ghost turns = { ByStep P.same_as P.always_copies };
 
@@ -117,13 +131,14 @@ impl<P: Payload + Small, A: Allocator> Locked<P> for Plain<P, A> {
         &self.world
     }
 
-    fn close<D: Drainer<u64, P>>(self, drainer: D) -> Result<(A, D), (Refusal, Self, D)>
+    fn close<D: Drainer<u64, P>>(self, drainer: D) -> Result<(A, D, ()), (Refusal, Self, D)>
         requires { D.can_drain drainer }
-        ensures { MatchResult result (λ r. IsClosed D.drains self.world drainer (A.charged_of r.0) (A.limit_of r.0) r.1) (λ e. IsNotClosed self.world drainer e.0 e.1.world e.2) }
+        ensures closed { MatchResult result (λ r. IsClosed D.drains self.world drainer (A.charged_of r.0) (A.limit_of r.0) r.1) (λ e. IsNotClosed self.world drainer e.0 e.1.world e.2) }
+        ensures kept { IfOk result (λ r. Unit {0}) }
     {
         let Plain { world } = self;
         match world.close(drainer) {
-            Ok(closed) => Ok(closed),
+            Ok((allocator, drainer)) => Ok((allocator, drainer, ())),
             Err((refusal, world, drainer)) => Err((refusal, Plain { world }, drainer)),
         }
     }

@@ -1,10 +1,10 @@
 //! One index under one lock, which each step of a call takes anew.
 
-ghost use Rattle.std.specs.Prelude.{◌≡◌, ℕ, [], false, length, IfOk, IfErr};
+ghost use Rattle.std.specs.Prelude.{◌≡◌, ◌≤◌, ℕ, [], false, length, IfOk, IfErr};
 ghost use Rattle.joint.specs.threads.Driving.{IsToldInCall, ended};
 ghost use Rattle.joint.specs.nodes.Opening.{IsUnopened};
 ghost use Rattle.joint.specs.threads.Pinned.{CallsPinned, KeepsWorker};
-ghost use Rattle.joint.specs.threads.Threads.{Answers, ByHold, Closes, Computes, Hands, IsAccount, IsByHolds, IsHold, IsRound, IsTold, IsUnclosed, Pins, Scans, Serves, is_held_by, is_of, register_step, registered, charge_of, waiting_bytes_of, waiting_of, computed, counted, emptied, exchanged, got, inserted, listed, removed, replaced, scanned, told};
+ghost use Rattle.joint.specs.threads.Threads.{Answers, ByHold, ClosesWith, Computes, Hands, IsAccount, IsByHolds, IsHold, IsOfReader, IsRound, IsTold, IsUnclosed, Pins, Scans, Serves, is_held_by, is_of, register_step, registered, charge_of, waiting_bytes_of, waiting_of, computed, contained, counted, emptied, exchanged, got, inserted, listed, pairs_counted, removed, replaced, scanned, told};
 ghost use Rattle.joint.specs.engine.Engine.{IsOfCall};
 ghost use Rattle.joint.specs.declared.steps.Op.TheVariants as op;
 
@@ -15,8 +15,8 @@ use crate::steps::{Op, Outcome, Report, Step};
 use crate::threads::answers::{Answer, Silent};
 use crate::threads::driver::{Pair, drive_to};
 use crate::threads::ends::{
-    End, computed, counted, emptied, exchanged, got, inserted, listed, removed, replaced, scanned,
-    told,
+    End, computed, contained, counted, emptied, exchanged, got, inserted, listed, of_reader,
+    pairs_counted, removed, replaced, scanned, told,
 };
 use crate::threads::holds::Holds;
 use crate::threads::locked::{Locked, Plain};
@@ -193,7 +193,8 @@ impl<P: Payload + Small, T: Locked<P>> Tree<P, T> {
 
     /// A guard.
     pub(crate) fn pin<R: Wait>(&self, rt: &R, worker: &Worker) -> Result<Guard, Refusal>
-        ensures { Serves (is_of self.now.id worker.now) (Pins T.holds self.now.id worker.now.number) result }
+        ensures answers { Serves (is_of self.now.id worker.now) (Pins T.holds self.now.id worker.now.number) result }
+        ensures refused { IfErr result IsOfReader }
     {
         if !self.owns(worker) {
             return Err(Refusal::Foreign);
@@ -203,7 +204,7 @@ impl<P: Payload + Small, T: Locked<P>> Tree<P, T> {
                 tree: self.id,
                 worker: worker.number,
             }),
-            Err(refusal) => Err(refusal),
+            Err(refusal) => Err(of_reader(refusal)),
         }
     }
 
@@ -312,12 +313,30 @@ impl<P: Payload + Small, T: Locked<P>> Tree<P, T> {
         worker: &Worker,
         guard: &Guard,
     ) -> Result<Option<P>, Refusal>
-        ensures { Serves (is_held_by self.now.id worker.now guard.now) (Answers T.holds worker.now.number (op.Get key) got) result }
+        ensures answers { Serves (is_held_by self.now.id worker.now guard.now) (Answers T.holds worker.now.number (op.Get key) got) result }
+        ensures refused { IfErr result IsOfReader }
     {
         if !self.serves(worker, guard) {
             return Err(Refusal::Foreign);
         }
         got(self.call(rt, worker, Op::Get(key)))
+    }
+
+    /// Whether a key has a value.
+    pub(crate) fn contains_key<R: Wait>(
+        &self,
+        rt: &R,
+        key: u64,
+        worker: &Worker,
+        guard: &Guard,
+    ) -> Result<bool, Refusal>
+        ensures answers { Serves (is_held_by self.now.id worker.now guard.now) (Answers T.holds worker.now.number (op.Get key) contained) result }
+        ensures refused { IfErr result IsOfReader }
+    {
+        if !self.serves(worker, guard) {
+            return Err(Refusal::Foreign);
+        }
+        contained(self.call(rt, worker, Op::Get(key)))
     }
 
     /// Writes the pairs that a scan finds to the places, and gives their number.
@@ -330,13 +349,16 @@ impl<P: Payload + Small, T: Locked<P>> Tree<P, T> {
         guard: &Guard,
     ) -> Result<usize, Refusal>
         ensures answers { Serves (is_held_by self.now.id worker.now guard.now)
-            (Scans T.holds Q.pair worker.now.number op found.old found.new scanned) result }
+            (Scans T.holds Q.pair worker.now.number op found.old found.new (scanned (length found.old))) result }
+        ensures few { IfOk result (λ n. n ≤ length found.old) }
+        ensures refused { IfErr result IsOfReader }
         ensures foreign { is_held_by self.now.id worker.now guard.now ≡ false → found.new ≡ found.old }
     {
         if !self.serves(worker, guard) {
             return Err(Refusal::Foreign);
         }
-        scanned(self.scan(rt, worker, op, found))
+        let places = found.len();
+        scanned(places, self.scan(rt, worker, op, found))
     }
 
     /// Whether no key has a value, at its one step.
@@ -346,7 +368,8 @@ impl<P: Payload + Small, T: Locked<P>> Tree<P, T> {
         worker: &Worker,
         guard: &Guard,
     ) -> Result<bool, Refusal>
-        ensures { Serves (is_held_by self.now.id worker.now guard.now) (Answers T.holds worker.now.number op.IsEmpty emptied) result }
+        ensures answers { Serves (is_held_by self.now.id worker.now guard.now) (Answers T.holds worker.now.number op.IsEmpty emptied) result }
+        ensures refused { IfErr result IsOfReader }
     {
         if !self.serves(worker, guard) {
             return Err(Refusal::Foreign);
@@ -374,14 +397,25 @@ impl<P: Payload + Small, T: Locked<P>> Tree<P, T> {
         counted(self.call(rt, worker, Op::Stats))
     }
 
+    /// How many pairs there are, at its one step.
+    pub(crate) fn len<R: Wait>(&self, rt: &R, worker: &Worker) -> Result<u64, Refusal>
+        ensures { Serves (is_of self.now.id worker.now) (Answers T.holds worker.now.number op.Stats pairs_counted) result }
+    {
+        if !self.owns(worker) {
+            return Err(Refusal::Foreign);
+        }
+        pairs_counted(self.call(rt, worker, Op::Stats))
+    }
+
     /// The bytes charged to the allocator.
     pub(crate) fn charged<R: Wait>(&self, rt: &R) -> u64
-        ensures { IsTold P.same_as P.always_copies charge_of result }
+        ensures { IsTold P.same_as P.always_copies (charge_of self.now.account) result }
     {
         let kept = self.hold(rt);
         let machine = kept.world();
         machine.sound();
-        machine.charged()
+        let sizes = machine.charged().saturating_sub(machine.account().charged);
+        self.account.charged.saturating_add(sizes)
     }
 
     /// The nodes that wait for their destruction.
@@ -410,9 +444,9 @@ impl<P: Payload + Small, T: Locked<P>> Tree<P, T> {
     pub(crate) fn close<D: Drainer<u64, P>>(
         self,
         drainer: D,
-    ) -> Result<(T::Account, D), (Refusal, Self, D)>
+    ) -> Result<(T::Account, D, T::Kept), (Refusal, Self, D)>
         requires { D.can_drain drainer }
-        ensures closed { IfOk result (λ r. Closes P.same_as P.always_copies D.drains drainer (T.Account.charged_of r.0) (T.Account.limit_of r.0) r.1) }
+        ensures closed { IfOk result (λ r. ClosesWith P.same_as P.always_copies D.drains T.keeps drainer (T.Account.charged_of r.0) (T.Account.limit_of r.0) r.1 r.2) }
         ensures given_back { IfOk result (λ r. IsAccount self.account (T.Account.charged_of r.0) (T.Account.limit_of r.0)) }
         ensures cause { IfErr result (λ e. IsUnclosed P.same_as P.always_copies self.account e.0) }
         ensures back { IfErr result (λ e. (e.1.id ≡ self.id) × (e.1.account ≡ self.account) × (e.2 ≡ drainer)) }

@@ -1,11 +1,11 @@
 //! The index for threads whose keys are numbers.
 
-ghost use Rattle.std.specs.Prelude.{◌≡◌, false, length, nat_eq, true, IfErr, IfOk, MatchResult};
+ghost use Rattle.std.specs.Prelude.{◌≡◌, ◌≤◌, false, length, nat_eq, true, IfErr, IfOk, MatchResult};
 ghost use Rattle.std.specs.Option.{option_map};
 ghost use Rattle.congee.specs.Keys.{key_bytes};
 ghost use Rattle.joint.specs.nodes.Opening.{IsUnopened};
 ghost use Rattle.joint.specs.threads.Pinned.{CallsPinned, KeepsWorker};
-ghost use Rattle.joint.specs.threads.Threads.{Answers, AreKeys, As, ByHold, Computes, Drops, Hands, IsAccount, IsHold, IsRound, IsTold, IsUnclosed, Pins, Scans, Serves, is_held_by, is_of, register_step, registered, charge_of, waiting_bytes_of, waiting_of, computed, counted, either_words, emptied, exchanged, got, if_present, inserted, listed, or_insert, removed, replaced, scanned, told, words};
+ghost use Rattle.joint.specs.threads.Threads.{Answers, AreKeys, As, ByHold, Computes, Drops, Hands, IsAccount, IsHold, IsOfReader, IsRound, IsTold, IsUnclosed, Pins, Scans, Serves, is_held_by, is_of, register_step, registered, charge_of, waiting_bytes_of, waiting_of, computed, contained, counted, either_words, emptied, exchanged, got, if_present, inserted, listed, or_insert, pairs_counted, removed, replaced, scanned, told, words};
 ghost use Rattle.joint.specs.declared.steps.Op.TheVariants as op;
 
 use crate::limits::Limits;
@@ -57,6 +57,7 @@ impl<V: Word64, A: Allocator> U64Congee<V, A> {
     pub fn pin<R: Wait>(&self, rt: &R, worker: &mut Worker) -> Result<Guard, Refusal>
         ensures worker { worker.new ≡ worker.old }
         ensures answers { Serves (is_of self.now.words.tree.id worker.old) (Pins (ByHold nat_eq true) self.now.words.tree.id worker.old.number) result }
+        ensures refused { IfErr result IsOfReader }
     {
         self.words.pin(rt, worker)
     }
@@ -128,6 +129,7 @@ impl<V: Word64, A: Allocator> U64Congee<V, A> {
         ensures worker { worker.new ≡ worker.old }
         ensures answers { As (Serves (is_held_by self.now.words.tree.id worker.old guard.now)
             (Answers (ByHold nat_eq true) worker.old.number (op.Get key) got)) (words V.of_word) result }
+        ensures refused { IfErr result IsOfReader }
     {
         self.words.get(rt, &key, worker, guard)
     }
@@ -231,7 +233,9 @@ impl<V: Word64, A: Allocator> U64Congee<V, A> {
     ) -> Result<usize, Refusal>
         ensures worker { worker.new ≡ worker.old }
         ensures answers { Serves (is_held_by self.now.words.tree.id worker.old guard.now)
-            (Scans (ByHold nat_eq true) (λ k v. (key_bytes k, v)) worker.old.number (op.Range start end (length out.old)) out.old out.new scanned) result }
+            (Scans (ByHold nat_eq true) (λ k v. (key_bytes k, v)) worker.old.number (op.Range start end (length out.old)) out.old out.new (scanned (length out.old))) result }
+        ensures few { IfOk result (λ n. n ≤ length out.old) }
+        ensures refused { IfErr result IsOfReader }
         ensures foreign { is_held_by self.now.words.tree.id worker.old guard.now ≡ false → out.new ≡ out.old }
     {
         let scan = Op::Range(start, end, out.len());
@@ -251,11 +255,28 @@ impl<V: Word64, A: Allocator> U64Congee<V, A> {
     ) -> Result<usize, Refusal>
         ensures worker { worker.new ≡ worker.old }
         ensures answers { Serves (is_held_by self.now.words.tree.id worker.old guard.now)
-            (Scans (ByHold nat_eq true) (λ k v. (key_bytes k, v)) worker.old.number (op.RangeInclusive start last (length out.old)) out.old out.new scanned) result }
+            (Scans (ByHold nat_eq true) (λ k v. (key_bytes k, v)) worker.old.number (op.RangeInclusive start last (length out.old)) out.old out.new (scanned (length out.old))) result }
+        ensures few { IfOk result (λ n. n ≤ length out.old) }
+        ensures refused { IfErr result IsOfReader }
         ensures foreign { is_held_by self.now.words.tree.id worker.old guard.now ≡ false → out.new ≡ out.old }
     {
         let scan = Op::RangeInclusive(start, last, out.len());
         self.words.find(rt, scan, out, worker, guard)
+    }
+
+    /// Whether a key has a value.
+    pub fn contains_key<R: Wait>(
+        &self,
+        rt: &R,
+        key: u64,
+        worker: &mut Worker,
+        guard: &Guard,
+    ) -> Result<bool, Refusal>
+        ensures worker { worker.new ≡ worker.old }
+        ensures answers { Serves (is_held_by self.now.words.tree.id worker.old guard.now) (Answers (ByHold nat_eq true) worker.old.number (op.Get key) contained) result }
+        ensures refused { IfErr result IsOfReader }
+    {
+        self.words.contains_key(rt, &key, worker, guard)
     }
 
     /// Whether no key has a value, at its one step.
@@ -267,6 +288,7 @@ impl<V: Word64, A: Allocator> U64Congee<V, A> {
     ) -> Result<bool, Refusal>
         ensures worker { worker.new ≡ worker.old }
         ensures answers { Serves (is_held_by self.now.words.tree.id worker.old guard.now) (Answers (ByHold nat_eq true) worker.old.number op.IsEmpty emptied) result }
+        ensures refused { IfErr result IsOfReader }
     {
         self.words.is_empty(rt, worker, guard)
     }
@@ -288,9 +310,17 @@ impl<V: Word64, A: Allocator> U64Congee<V, A> {
         self.words.stats(rt, worker)
     }
 
+    /// How many pairs there are, at its one step; more than `u64::MAX` are told as that. It wants no guard. Refused as Memory.
+    pub fn len<R: Wait>(&self, rt: &R, worker: &mut Worker) -> Result<u64, Refusal>
+        ensures worker { worker.new ≡ worker.old }
+        ensures answers { Serves (is_of self.now.words.tree.id worker.old) (Answers (ByHold nat_eq true) worker.old.number op.Stats pairs_counted) result }
+    {
+        self.words.len(rt, worker)
+    }
+
     /// The bytes charged to the allocator.
     pub fn charged<R: Wait>(&self, rt: &R) -> u64
-        ensures { IsTold nat_eq true charge_of result }
+        ensures { IsTold nat_eq true (charge_of self.now.words.tree.account) result }
     {
         self.words.charged(rt)
     }

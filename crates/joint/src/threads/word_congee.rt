@@ -1,10 +1,10 @@
 //! The index of words for threads.
 
-ghost use Rattle.std.specs.Prelude.{◌≡◌, ℕ, false, length, map, nat_eq, true, IfErr, IfOk, MatchResult};
+ghost use Rattle.std.specs.Prelude.{◌≡◌, ◌≤◌, ℕ, false, length, map, nat_eq, true, IfErr, IfOk, MatchResult};
 ghost use Rattle.std.specs.Option.{option_map};
 ghost use Rattle.joint.specs.nodes.Opening.{IsUnopened};
 ghost use Rattle.joint.specs.threads.Pinned.{CallsPinned, KeepsWorker};
-ghost use Rattle.joint.specs.threads.Threads.{Answers, AreKeys, As, ByHold, Closes, Computes, Hands, IsAccount, IsHold, IsRound, IsTold, IsUnclosed, Pins, Scans, Serves, is_held_by, is_of, register_step, registered, charge_of, waiting_bytes_of, waiting_of, computed, counted, either_of, either_words, emptied, exchanged, got, if_present, inserted, listed, or_insert, removed, replaced, scanned, told, words};
+ghost use Rattle.joint.specs.threads.Threads.{Answers, AreKeys, As, ByHold, Closes, Computes, Hands, IsAccount, IsHold, IsOfReader, IsRound, IsTold, IsUnclosed, Pins, Scans, Serves, is_held_by, is_of, register_step, registered, charge_of, waiting_bytes_of, waiting_of, computed, contained, counted, either_of, either_words, emptied, exchanged, got, if_present, inserted, listed, or_insert, pairs_counted, removed, replaced, scanned, told, words};
 ghost use Rattle.joint.specs.declared.steps.Op.TheVariants as op;
 
 use crate::limits::Limits;
@@ -122,6 +122,7 @@ impl<K: Word64, V: Word64, A: Allocator, D: Drop> Congee<K, V, A, D> {
     pub fn pin<R: Wait>(&self, rt: &R, worker: &mut Worker) -> Result<Guard, Refusal>
         ensures worker { worker.new ≡ worker.old }
         ensures answers { Serves (is_of self.now.tree.id worker.old) (Pins (ByHold nat_eq true) self.now.tree.id worker.old.number) result }
+        ensures refused { IfErr result IsOfReader }
     {
         self.tree.pin(rt, worker)
     }
@@ -193,6 +194,7 @@ impl<K: Word64, V: Word64, A: Allocator, D: Drop> Congee<K, V, A, D> {
         ensures worker { worker.new ≡ worker.old }
         ensures answers { As (Serves (is_held_by self.now.tree.id worker.old guard.now)
             (Answers (ByHold nat_eq true) worker.old.number (op.Get (K.word key.now)) got)) (words V.of_word) result }
+        ensures refused { IfErr result IsOfReader }
     {
         words(self.tree.get(rt, key.to_word(), worker, guard))
     }
@@ -309,7 +311,9 @@ impl<K: Word64, V: Word64, A: Allocator, D: Drop> Congee<K, V, A, D> {
     ) -> Result<usize, Refusal>
         ensures worker { worker.new ≡ worker.old }
         ensures answers { Serves (is_held_by self.now.tree.id worker.old guard.now)
-            (Scans (ByHold nat_eq true) (λ k v. (k, v)) worker.old.number (op.Range (K.word start.now) (K.word end.now) (length out.old)) out.old out.new scanned) result }
+            (Scans (ByHold nat_eq true) (λ k v. (k, v)) worker.old.number (op.Range (K.word start.now) (K.word end.now) (length out.old)) out.old out.new (scanned (length out.old))) result }
+        ensures few { IfOk result (λ n. n ≤ length out.old) }
+        ensures refused { IfErr result IsOfReader }
         ensures foreign { is_held_by self.now.tree.id worker.old guard.now ≡ false → out.new ≡ out.old }
     {
         let scan = Op::Range(start.to_word(), end.to_word(), out.len());
@@ -329,7 +333,9 @@ impl<K: Word64, V: Word64, A: Allocator, D: Drop> Congee<K, V, A, D> {
     ) -> Result<usize, Refusal>
         ensures worker { worker.new ≡ worker.old }
         ensures answers { Serves (is_held_by self.now.tree.id worker.old guard.now)
-            (Scans (ByHold nat_eq true) (λ k v. (k, v)) worker.old.number (op.RangeInclusive (K.word start.now) (K.word last.now) (length out.old)) out.old out.new scanned) result }
+            (Scans (ByHold nat_eq true) (λ k v. (k, v)) worker.old.number (op.RangeInclusive (K.word start.now) (K.word last.now) (length out.old)) out.old out.new (scanned (length out.old))) result }
+        ensures few { IfOk result (λ n. n ≤ length out.old) }
+        ensures refused { IfErr result IsOfReader }
         ensures foreign { is_held_by self.now.tree.id worker.old guard.now ≡ false → out.new ≡ out.old }
     {
         let scan = Op::RangeInclusive(start.to_word(), last.to_word(), out.len());
@@ -347,10 +353,27 @@ impl<K: Word64, V: Word64, A: Allocator, D: Drop> Congee<K, V, A, D> {
     ) -> Result<usize, Refusal>
         ensures worker { worker.new ≡ worker.old }
         ensures answers { Serves (is_held_by self.now.tree.id worker.old guard.now)
-            (Scans (ByHold nat_eq true) Q.pair worker.old.number op out.old out.new scanned) result }
+            (Scans (ByHold nat_eq true) Q.pair worker.old.number op out.old out.new (scanned (length out.old))) result }
+        ensures few { IfOk result (λ n. n ≤ length out.old) }
+        ensures refused { IfErr result IsOfReader }
         ensures foreign { is_held_by self.now.tree.id worker.old guard.now ≡ false → out.new ≡ out.old }
     {
         self.tree.find(rt, op, out, worker, guard)
+    }
+
+    /// Whether a key has a value.
+    pub fn contains_key<R: Wait>(
+        &self,
+        rt: &R,
+        key: &K,
+        worker: &mut Worker,
+        guard: &Guard,
+    ) -> Result<bool, Refusal>
+        ensures worker { worker.new ≡ worker.old }
+        ensures answers { Serves (is_held_by self.now.tree.id worker.old guard.now) (Answers (ByHold nat_eq true) worker.old.number (op.Get (K.word key.now)) contained) result }
+        ensures refused { IfErr result IsOfReader }
+    {
+        self.tree.contains_key(rt, key.to_word(), worker, guard)
     }
 
     /// Whether no key has a value, at its one step.
@@ -362,6 +385,7 @@ impl<K: Word64, V: Word64, A: Allocator, D: Drop> Congee<K, V, A, D> {
     ) -> Result<bool, Refusal>
         ensures worker { worker.new ≡ worker.old }
         ensures answers { Serves (is_held_by self.now.tree.id worker.old guard.now) (Answers (ByHold nat_eq true) worker.old.number op.IsEmpty emptied) result }
+        ensures refused { IfErr result IsOfReader }
     {
         self.tree.is_empty(rt, worker, guard)
     }
@@ -383,9 +407,17 @@ impl<K: Word64, V: Word64, A: Allocator, D: Drop> Congee<K, V, A, D> {
         self.tree.stats(rt, worker)
     }
 
+    /// How many pairs there are, at its one step; more than `u64::MAX` are told as that. It wants no guard. Refused as Memory.
+    pub fn len<R: Wait>(&self, rt: &R, worker: &mut Worker) -> Result<u64, Refusal>
+        ensures worker { worker.new ≡ worker.old }
+        ensures answers { Serves (is_of self.now.tree.id worker.old) (Answers (ByHold nat_eq true) worker.old.number op.Stats pairs_counted) result }
+    {
+        self.tree.len(rt, worker)
+    }
+
     /// The bytes charged to the allocator.
     pub fn charged<R: Wait>(&self, rt: &R) -> u64
-        ensures { IsTold nat_eq true charge_of result }
+        ensures { IsTold nat_eq true (charge_of self.now.tree.account) result }
     {
         self.tree.charged(rt)
     }
@@ -491,7 +523,7 @@ impl<K: Word64, V: Word64, A: Allocator, D: Drainer<K, V>> Congee<K, V, A, D> {
             words: _,
         } = self;
         match tree.close(OfWords::<K, V, D>::new(drainer)) {
-            Ok((allocator, drainer)) => Ok((allocator, drainer.into_inner())),
+            Ok((allocator, drainer, _)) => Ok((allocator, drainer.into_inner())),
             Err((refusal, tree, drainer)) => {
                 let back = Congee {
                     tree,
