@@ -14,6 +14,7 @@ ghost use Rattle.judge.specs.Journal.{IsLegal, Legal};
 ghost use Rattle.congee.specs.Heap.{Stands};
 ghost use Rattle.congee.specs.Keys.{IsMapOf};
 ghost use Rattle.joint.specs.engine.Closing.{IsClosed, IsNotClosed, account_of};
+ghost use Rattle.joint.specs.calls.Standing.{pairs_of};
 ghost use Rattle.joint.specs.nodes.Nodes.{nodes};
 ghost use Rattle.joint.specs.engine.Journaling.{asks_at, has_place};
 ghost use Rattle.joint.specs.nodes.Listing.{IsListOf, bytes_of, standing_nodes};
@@ -139,6 +140,7 @@ impl<P: Payload + Small, A: Allocator> World<P, A> {
         ensures entries { result.now ≡ self.now.log.entries }
         ensures legal { IsLegal P.same_as result.now }
         ensures replays { (m : Pairs P) → 0 < self.now.log.places → IsMapOf (nodes self.now.forest) m → Legal P.same_as empty result.now m }
+        ensures pairs { 0 < self.now.log.places → Legal P.same_as empty result.now (pairs_of self.now) }
         ensures none { self.now.log.places ≡ 0 → result.now ≡ [] }
     {
         self.log.entries()

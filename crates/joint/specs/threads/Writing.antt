@@ -21,7 +21,7 @@ use Rattle.joint.specs.engine.Log.{with_answer, request_at}
 use Rattle.joint.specs.world.MapSteps.{looks_up}
 use Rattle.joint.specs.threads.Shares.{ShareView, counts_more}
 use Rattle.joint.specs.threads.Threads.{End}
-use Rattle.joint.specs.world.World.{IsStep}
+use Rattle.joint.specs.world.World.{Holds, IsStep}
 use Rattle.joint.specs.engine.Engine.{World}
 
 -- the worker has this call in flight, which took this answer of its closure last
@@ -103,6 +103,7 @@ pub record Appended (s s' : World ℕ) (who : ℕ) (op : Op ℕ) (given : Option
 
 -- where its step may not be taken a call that doesn't write is idle, and leaves the machine as it is
 pub record StopsReading (who : ℕ) (op : Op ℕ) (s : World ℕ) (step : Step ℕ) (r : Report ℕ) (s' : World ℕ) : Type 0 where
+  pub holds : Holds nat_eq true s
   pub why : changes op ≡ false → MayStep s who op None step.event → ⊥
   pub idle : r.outcome ≡ Refused Idle
   pub stays : s' ≡ s
@@ -126,6 +127,7 @@ WontRepeat s who entry = (e : Entry ℕ) → entry ≡ Some e → has_place (sli
 
 -- where its step may not be taken a writing call ends with what it has, and leaves the machine as it is
 pub record StopsWriting (who : ℕ) (op : Op ℕ) (p : Progress) (s : World ℕ) (step : Step ℕ) (r : Report ℕ) (p' : Progress) (s' : World ℕ) : Type 0 where
+  pub holds : Holds nat_eq true s
   pub why : MayStep s who op p.given step.event → WontRepeat s who p.entry → ⊥
   pub same : p' ≡ p
   pub ends : r.outcome ≡ settled p.entry

@@ -104,6 +104,7 @@ impl<L: Ledger, W: Watch, A: Allocator> JournaledWorld<L, W, A> {
         ensures turn { ReadingTurn self.old.world step.worker op.now step result self.new.world }
         ensures told { IsToldInCall result.outcome }
     {
+        self.world.sound();
         if op.changes() || !self.may_step(step.worker, *op, None, &step.event) {
             return stopped(Outcome::Refused(Refusal::Idle));
         }
@@ -122,6 +123,7 @@ impl<L: Ledger, W: Watch, A: Allocator> JournaledWorld<L, W, A> {
         ensures turn { WritingTurn W.watched step.worker op.now call.old self.old.world step result call.new self.new.world }
         ensures told { IsToldInCall result.outcome }
     {
+        self.world.sound();
         let who = step.worker;
         if !self.may_step(who, *op, call.given, &step.event)
             || !self.wont_repeat(who, &call.entry)
