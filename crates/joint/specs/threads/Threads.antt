@@ -14,7 +14,8 @@ use Rattle.joint.specs.declared.refusal.Refusal.{Refusal}
 use Rattle.joint.specs.declared.refusal.Refusal.TheVariants.{Busy, Count, Foreign, Idle, Memory, Unknown, Unpinned, WorkersLeft}
 use Rattle.joint.specs.declared.steps.Done.{Done as Answer}
 use Rattle.joint.specs.declared.steps.Done.TheVariants.{Unit as Finished, Reply, Scanned, Keys, Empty, Stats}
-use Rattle.joint.specs.declared.steps.Event.TheVariants.{Register}
+use Rattle.joint.specs.declared.steps.Event.{Event}
+use Rattle.joint.specs.declared.steps.Event.TheVariants.{Register, Begin, Go}
 use Rattle.joint.specs.declared.steps.Op.{Op}
 use Rattle.joint.specs.declared.steps.Op.TheVariants as op
 use Rattle.joint.specs.declared.steps.Outcome.{Outcome}
@@ -24,6 +25,7 @@ use Rattle.joint.specs.declared.steps.Step.{Step}
 use Rattle.joint.specs.declared.threads.tokens.Guard.{Guard}
 use Rattle.joint.specs.declared.threads.tokens.Worker.{Worker}
 use Rattle.joint.specs.engine.Closing.{IsClosed, account_of}
+use Rattle.joint.specs.engine.Log.{request_at}
 use Rattle.joint.specs.threads.Driving.{IsDriven, ended}
 use Rattle.joint.specs.nodes.Listing.{bytes_of, standing_nodes}
 use Rattle.joint.specs.engine.Census.{waiting_nodes}
@@ -63,6 +65,36 @@ ByStep same always s who o step r s' = IsStep same always s step r s'
 -- and in whatever state others have left it
 abbrev pub ByHold : {V : Type 0} → (V → V → Bool) → Bool → ℕ → Op V → Step V → Report V → Type 0
 ByHold same always who o step r = IsHold same always step r
+
+-- the call that the worker has in flight, as it was asked for
+abbrev pub call_in_flight : {V : Type 0} → World V → ℕ → Option (Op V)
+call_in_flight s who = option_map (λ q. q.op) (request_at s.log.requests who)
+
+-- a step is one of this call of the worker's: its begin, or a further one while it is what the worker has in flight
+abbrev pub IsOwn : {V : Type 0} → World V → ℕ → Op V → Event V → Type 0
+IsOwn s who o Register = ⊥
+IsOwn s who o (Begin begun) = Unit {0}
+IsOwn s who o (Go noise) = call_in_flight s who ≡ Some o
+
+-- a turn of a call of words takes its step of the machine that stands, in which the call is its worker's in flight
+pub record TakesOwn {V : Type 0} (same : V → V → Bool) (always : Bool) (s : World V) (who : ℕ) (o : Op V) (step : Step V) (r : Report V) (s' : World V) : Type 0 where
+  pub own : IsOwn s who o step.event
+  pub takes : IsStep same always s step r s'
+
+-- where it isn't, the call is idle, and leaves the machine as it is
+pub record StopsIdle {V : Type 0} (same : V → V → Bool) (always : Bool) (s : World V) (who : ℕ) (o : Op V) (step : Step V) (r : Report V) (s' : World V) : Type 0 where
+  pub holds : Holds same always s
+  pub why : IsOwn s who o step.event → ⊥
+  pub idle : r.outcome ≡ Refused Idle
+  pub stays : s' ≡ s
+
+-- a turn of it is one of these
+abbrev pub OwnTurn : {V : Type 0} → (V → V → Bool) → Bool → World V → ℕ → Op V → Step V → Report V → World V → Type 0
+OwnTurn same always s who o step r s' = TakesOwn same always s who o step r s' ⊎ StopsIdle same always s who o step r s'
+
+-- in whatever state others have left it
+abbrev pub ByOwn : {V : Type 0} → (V → V → Bool) → Bool → ℕ → Op V → Step V → Report V → Type 0
+ByOwn {V} same always who o step r = (s : World V) × (s' : World V) × OwnTurn same always s who o step r s'
 
 -- a whole call, whose turns are as `hold` says of this call, and which ends so; the closure answers between two turns
 abbrev pub IsByHolds : {V F Q : Type 0} → (ℕ → Op V → Step V → Report V → Type 0) → (F → Option V → Option V → F → Type 0) → (ℕ → V → Q) → ℕ → Op V → F → List Q → List Q → Outcome V → Type 0

@@ -270,7 +270,7 @@ fn step_on<A: Allocator>(
 }
 
 /// Whether two calls are the same.
-fn is_same_op(one: &Op<u64>, other: &Op<u64>) -> bool
+pub(crate) fn is_same_op(one: &Op<u64>, other: &Op<u64>) -> bool
     ensures { IsTrue result ↔ (one.now ≡ other.now) }
 {
     *one == *other

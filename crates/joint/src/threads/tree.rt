@@ -4,7 +4,7 @@ ghost use Rattle.std.specs.Prelude.{◌≡◌, ◌≤◌, ℕ, [], false, length
 ghost use Rattle.joint.specs.threads.Driving.{IsToldInCall, ended};
 ghost use Rattle.joint.specs.nodes.Opening.{IsUnopened};
 ghost use Rattle.joint.specs.threads.Pinned.{CallsPinned, KeepsWorker};
-ghost use Rattle.joint.specs.threads.Threads.{Answers, ByHold, ClosesWith, Computes, Hands, IsAccount, IsByHolds, IsHold, IsOfReader, IsRound, IsTold, IsUnclosed, Pins, Scans, Serves, is_held_by, is_of, register_step, registered, charge_of, waiting_bytes_of, waiting_of, computed, contained, counted, emptied, exchanged, got, inserted, listed, pairs_counted, removed, replaced, scanned, told};
+ghost use Rattle.joint.specs.threads.Threads.{Answers, ClosesWith, Computes, Hands, IsAccount, IsByHolds, IsHold, IsOfReader, IsRound, IsTold, IsUnclosed, Pins, Scans, Serves, is_held_by, is_of, register_step, registered, charge_of, waiting_bytes_of, waiting_of, computed, contained, counted, emptied, exchanged, got, inserted, listed, pairs_counted, removed, replaced, scanned, told};
 ghost use Rattle.joint.specs.engine.Engine.{IsOfCall};
 ghost use Rattle.joint.specs.declared.steps.Op.TheVariants as op;
 
@@ -19,7 +19,7 @@ use crate::threads::ends::{
     pairs_counted, removed, replaced, scanned, told,
 };
 use crate::threads::holds::Holds;
-use crate::threads::locked::{Locked, Plain};
+use crate::threads::locked::{Locked, Plain, Words};
 use crate::threads::rounds::{Ends, round};
 use crate::threads::tokens::{Guard, Worker};
 use crate::world::World;
@@ -481,7 +481,22 @@ impl<P: Payload + Small, A: Allocator> Tree<P, Plain<P, A>> {
         let world = World::new(alloc, limits, allocator)?;
         Ok(Tree::of(limits.id, account, Plain::new(world)))
     }
+}
 
+impl<A: Allocator> Tree<u64, Words<A>> {
+    /// The same of an index of words.
+    pub(crate) fn of_words(alloc: Global, limits: Limits, allocator: A) -> Result<Self, Refusal>
+        ensures id { IfOk result (λ t. t.id ≡ limits.id) }
+        ensures account { IfOk result (λ t. IsAccount t.account (A.charged_of allocator) (A.limit_of allocator)) }
+        ensures cause { IfErr result (λ e. IsUnopened limits (A.charged_of allocator) (A.limit_of allocator) e) }
+    {
+        let account = Account::of(&allocator);
+        let world = World::new(alloc, limits, allocator)?;
+        Ok(Tree::of(limits.id, account, Words::new(world)))
+    }
+}
+
+impl<P: Payload + Small, T: Locked<P>> Tree<P, T> {
     /// One that finds no pairs.
     fn compute<C: Answer<P>, R: Wait>(
         &self,
@@ -491,7 +506,7 @@ impl<P: Payload + Small, A: Allocator> Tree<P, Plain<P, A>> {
         answers: &mut C,
     ) -> End<P>
         requires { C.can_answer answers.old }
-        ensures { IsByHolds {Q = ℕ × P} (ByHold P.same_as P.always_copies) C.answers (λ k v. (k, v)) worker.now.number op answers.old [] [] (ended result) }
+        ensures { IsByHolds {Q = ℕ × P} T.holds C.answers (λ k v. (k, v)) worker.now.number op answers.old [] [] (ended result) }
     {
         let mut nothing: [(u64, P); 0] = [];
         self.drive(rt, worker, op, answers, &mut nothing)
@@ -506,7 +521,7 @@ impl<P: Payload + Small, A: Allocator> Tree<P, Plain<P, A>> {
         worker: &Worker,
         guard: &Guard,
     ) -> Result<Option<P>, Refusal>
-        ensures { Serves (is_held_by self.now.id worker.now guard.now) (Answers (ByHold P.same_as P.always_copies) worker.now.number (op.Insert key value) inserted) result }
+        ensures { Serves (is_held_by self.now.id worker.now guard.now) (Answers T.holds worker.now.number (op.Insert key value) inserted) result }
     {
         if !self.serves(worker, guard) {
             return Err(Refusal::Foreign);
@@ -522,7 +537,7 @@ impl<P: Payload + Small, A: Allocator> Tree<P, Plain<P, A>> {
         worker: &Worker,
         guard: &Guard,
     ) -> Result<Option<P>, Refusal>
-        ensures { Serves (is_held_by self.now.id worker.now guard.now) (Answers (ByHold P.same_as P.always_copies) worker.now.number (op.Remove key) removed) result }
+        ensures { Serves (is_held_by self.now.id worker.now guard.now) (Answers T.holds worker.now.number (op.Remove key) removed) result }
     {
         if !self.serves(worker, guard) {
             return Err(Refusal::Foreign);
@@ -540,7 +555,7 @@ impl<P: Payload + Small, A: Allocator> Tree<P, Plain<P, A>> {
         guard: &Guard,
     ) -> Result<Option<(P, Option<P>)>, Refusal>
         requires { C.can_answer answers.old }
-        ensures { Serves (is_held_by self.now.id worker.now guard.now) (Computes (ByHold P.same_as P.always_copies) C.answers worker.now.number (op.ComputePresent key) answers.old computed) result }
+        ensures { Serves (is_held_by self.now.id worker.now guard.now) (Computes T.holds C.answers worker.now.number (op.ComputePresent key) answers.old computed) result }
     {
         if !self.serves(worker, guard) {
             return Err(Refusal::Foreign);
@@ -558,7 +573,7 @@ impl<P: Payload + Small, A: Allocator> Tree<P, Plain<P, A>> {
         guard: &Guard,
     ) -> Result<Option<P>, Refusal>
         requires { C.can_answer answers.old }
-        ensures { Serves (is_held_by self.now.id worker.now guard.now) (Computes (ByHold P.same_as P.always_copies) C.answers worker.now.number (op.ComputeInsert key) answers.old replaced) result }
+        ensures { Serves (is_held_by self.now.id worker.now guard.now) (Computes T.holds C.answers worker.now.number (op.ComputeInsert key) answers.old replaced) result }
     {
         if !self.serves(worker, guard) {
             return Err(Refusal::Foreign);
@@ -576,7 +591,7 @@ impl<P: Payload + Small, A: Allocator> Tree<P, Plain<P, A>> {
         worker: &Worker,
         guard: &Guard,
     ) -> Result<Result<Option<P>, Option<P>>, Refusal>
-        ensures { Serves (is_held_by self.now.id worker.now guard.now) (Answers (ByHold P.same_as P.always_copies) worker.now.number (op.Exchange key old new) exchanged) result }
+        ensures { Serves (is_held_by self.now.id worker.now guard.now) (Answers T.holds worker.now.number (op.Exchange key old new) exchanged) result }
     {
         if !self.serves(worker, guard) {
             return Err(Refusal::Foreign);

@@ -4,7 +4,7 @@ ghost use Rattle.std.specs.Prelude.{◌≡◌, ◌≤◌, ℕ, false, length, ma
 ghost use Rattle.std.specs.Option.{option_map};
 ghost use Rattle.joint.specs.nodes.Opening.{IsUnopened};
 ghost use Rattle.joint.specs.threads.Pinned.{CallsPinned, KeepsWorker};
-ghost use Rattle.joint.specs.threads.Threads.{Answers, AreKeys, As, ByHold, Closes, Computes, Hands, IsAccount, IsHold, IsOfReader, IsRound, IsTold, IsUnclosed, Pins, Scans, Serves, is_held_by, is_of, register_step, registered, charge_of, waiting_bytes_of, waiting_of, computed, contained, counted, either_of, either_words, emptied, exchanged, got, if_present, inserted, listed, or_insert, pairs_counted, removed, replaced, scanned, told, words};
+ghost use Rattle.joint.specs.threads.Threads.{Answers, AreKeys, As, ByOwn, Closes, Computes, Hands, IsAccount, IsHold, IsOfReader, IsRound, IsTold, IsUnclosed, Pins, Scans, Serves, is_held_by, is_of, register_step, registered, charge_of, waiting_bytes_of, waiting_of, computed, contained, counted, either_of, either_words, emptied, exchanged, got, if_present, inserted, listed, or_insert, pairs_counted, removed, replaced, scanned, told, words};
 ghost use Rattle.joint.specs.declared.steps.Op.TheVariants as op;
 
 use crate::limits::Limits;
@@ -12,7 +12,7 @@ use crate::refusal::Refusal;
 use crate::steps::Op;
 use crate::threads::answers::{IfPresent, OrInsert};
 use crate::threads::driver::Pair;
-use crate::threads::locked::Plain;
+use crate::threads::locked::Words;
 use crate::threads::tokens::{Guard, Worker};
 use crate::threads::tree::Tree;
 use congee::{Allocator, DefaultAllocator, Drainer, NoDrain, NodeStats, Word64};
@@ -28,7 +28,7 @@ use std::sync::Wait;
 /// another worker's guard, is refused as Foreign, and does nothing.
 #[derive(Drop)]
 pub struct Congee<K, V, A: Allocator = DefaultAllocator, D = NoDrain> {
-    tree: Tree<u64, Plain<u64, A>>,
+    tree: Tree<u64, Words<A>>,
     drainer: D,
     alloc: Global,
     words: PhantomData<(K, V)>,
@@ -94,7 +94,7 @@ impl<K: Word64, V: Word64, A: Allocator, D: Drop> Congee<K, V, A, D> {
         ensures drainer { IfOk result (λ t. t.drainer ≡ drainer) }
         ensures cause { IfErr result (λ e. IsUnopened limits (A.charged_of allocator) (A.limit_of allocator) e) }
     {
-        let tree = Tree::new(alloc, limits, allocator)?;
+        let tree = Tree::of_words(alloc, limits, allocator)?;
         Ok(Congee {
             tree,
             drainer,
@@ -113,7 +113,7 @@ impl<K: Word64, V: Word64, A: Allocator, D: Drop> Congee<K, V, A, D> {
     /// The worker leaves its place; what it removed waits on. Refused as GuardOut while it is pinned, as Memory where
     /// its removals can't be queued, and as Foreign; it comes back.
     pub fn release<R: Wait>(&self, rt: &R, worker: Worker) -> Result<(), (Refusal, Worker)>
-        ensures { Hands (is_of self.now.tree.id worker) (Answers (ByHold nat_eq true) worker.number op.Release told) worker result }
+        ensures { Hands (is_of self.now.tree.id worker) (Answers (ByOwn nat_eq true) worker.number op.Release told) worker result }
     {
         self.tree.release(rt, worker)
     }
@@ -121,7 +121,7 @@ impl<K: Word64, V: Word64, A: Allocator, D: Drop> Congee<K, V, A, D> {
     /// A guard. Refused as Count where 65,535 guards of the worker are out.
     pub fn pin<R: Wait>(&self, rt: &R, worker: &mut Worker) -> Result<Guard, Refusal>
         ensures worker { worker.new ≡ worker.old }
-        ensures answers { Serves (is_of self.now.tree.id worker.old) (Pins (ByHold nat_eq true) self.now.tree.id worker.old.number) result }
+        ensures answers { Serves (is_of self.now.tree.id worker.old) (Pins (ByOwn nat_eq true) self.now.tree.id worker.old.number) result }
         ensures refused { IfErr result IsOfReader }
     {
         self.tree.pin(rt, worker)
@@ -135,7 +135,7 @@ impl<K: Word64, V: Word64, A: Allocator, D: Drop> Congee<K, V, A, D> {
         guard: Guard,
     ) -> Result<(), (Refusal, Guard)>
         ensures worker { worker.new ≡ worker.old }
-        ensures answers { Hands (is_held_by self.now.tree.id worker.old guard) (Answers (ByHold nat_eq true) worker.old.number op.Unpin told) guard result }
+        ensures answers { Hands (is_held_by self.now.tree.id worker.old guard) (Answers (ByOwn nat_eq true) worker.old.number op.Unpin told) guard result }
     {
         self.tree.unpin(rt, worker, guard)
     }
@@ -152,7 +152,7 @@ impl<K: Word64, V: Word64, A: Allocator, D: Drop> Congee<K, V, A, D> {
     where
         F: Drop,
         requires { F.IsAlwaysCallable f }
-        ensures answers { CallsPinned (ByHold nat_eq true) self.now.tree.id F.FnOnce f worker.old worker.new result }
+        ensures answers { CallsPinned (ByOwn nat_eq true) self.now.tree.id F.FnOnce f worker.old worker.new result }
         ensures worker { KeepsWorker F.FnOnce f → worker.new ≡ worker.old }
     {
         self.tree.pinned(rt, worker, f)
@@ -162,7 +162,7 @@ impl<K: Word64, V: Word64, A: Allocator, D: Drop> Congee<K, V, A, D> {
     /// queued; then nothing was done.
     pub fn flush<R: Wait>(&self, rt: &R, worker: &mut Worker, guard: &Guard) -> Result<(), Refusal>
         ensures worker { worker.new ≡ worker.old }
-        ensures answers { Serves (is_held_by self.now.tree.id worker.old guard.now) (Answers (ByHold nat_eq true) worker.old.number op.Flush told) result }
+        ensures answers { Serves (is_held_by self.now.tree.id worker.old guard.now) (Answers (ByOwn nat_eq true) worker.old.number op.Flush told) result }
     {
         self.tree.flush(rt, worker, guard)
     }
@@ -170,7 +170,7 @@ impl<K: Word64, V: Word64, A: Allocator, D: Drop> Congee<K, V, A, D> {
     /// Pins the worker anew at the present epoch, where this is its only guard.
     pub fn repin<R: Wait>(&self, rt: &R, worker: &mut Worker, guard: &Guard) -> Result<(), Refusal>
         ensures worker { worker.new ≡ worker.old }
-        ensures answers { Serves (is_held_by self.now.tree.id worker.old guard.now) (Answers (ByHold nat_eq true) worker.old.number op.Repin told) result }
+        ensures answers { Serves (is_held_by self.now.tree.id worker.old guard.now) (Answers (ByOwn nat_eq true) worker.old.number op.Repin told) result }
     {
         self.tree.repin(rt, worker, guard)
     }
@@ -178,7 +178,7 @@ impl<K: Word64, V: Word64, A: Allocator, D: Drop> Congee<K, V, A, D> {
     /// Pin, flush, unpin. Answers the first refusal; after a refused flush it unpins too.
     pub fn round<R: Wait>(&self, rt: &R, worker: &mut Worker) -> Result<(), Refusal>
         ensures worker { worker.new ≡ worker.old }
-        ensures answers { Serves (is_of self.now.tree.id worker.old) (IsRound (ByHold nat_eq true) worker.old.number) result }
+        ensures answers { Serves (is_of self.now.tree.id worker.old) (IsRound (ByOwn nat_eq true) worker.old.number) result }
     {
         self.tree.round(rt, worker)
     }
@@ -193,7 +193,7 @@ impl<K: Word64, V: Word64, A: Allocator, D: Drop> Congee<K, V, A, D> {
     ) -> Result<Option<V>, Refusal>
         ensures worker { worker.new ≡ worker.old }
         ensures answers { As (Serves (is_held_by self.now.tree.id worker.old guard.now)
-            (Answers (ByHold nat_eq true) worker.old.number (op.Get (K.word key.now)) got)) (words V.of_word) result }
+            (Answers (ByOwn nat_eq true) worker.old.number (op.Get (K.word key.now)) got)) (words V.of_word) result }
         ensures refused { IfErr result IsOfReader }
     {
         words(self.tree.get(rt, key.to_word(), worker, guard))
@@ -210,7 +210,7 @@ impl<K: Word64, V: Word64, A: Allocator, D: Drop> Congee<K, V, A, D> {
     ) -> Result<Option<V>, Refusal>
         ensures worker { worker.new ≡ worker.old }
         ensures answers { As (Serves (is_held_by self.now.tree.id worker.old guard.now)
-            (Answers (ByHold nat_eq true) worker.old.number (op.Insert (K.word key) (V.word value)) inserted)) (words V.of_word) result }
+            (Answers (ByOwn nat_eq true) worker.old.number (op.Insert (K.word key) (V.word value)) inserted)) (words V.of_word) result }
     {
         words(
             self.tree
@@ -228,7 +228,7 @@ impl<K: Word64, V: Word64, A: Allocator, D: Drop> Congee<K, V, A, D> {
     ) -> Result<Option<V>, Refusal>
         ensures worker { worker.new ≡ worker.old }
         ensures answers { As (Serves (is_held_by self.now.tree.id worker.old guard.now)
-            (Answers (ByHold nat_eq true) worker.old.number (op.Remove (K.word key.now)) removed)) (words V.of_word) result }
+            (Answers (ByOwn nat_eq true) worker.old.number (op.Remove (K.word key.now)) removed)) (words V.of_word) result }
     {
         words(self.tree.remove(rt, key.to_word(), worker, guard))
     }
@@ -246,7 +246,7 @@ impl<K: Word64, V: Word64, A: Allocator, D: Drop> Congee<K, V, A, D> {
         requires { F.IsAlwaysCallable f }
         ensures worker { worker.new ≡ worker.old }
         ensures answers { Serves (is_held_by self.now.tree.id worker.old guard.now)
-            (Computes (ByHold nat_eq true) (if_present F.step) worker.old.number (op.ComputePresent (K.word key.now)) f computed) result }
+            (Computes (ByOwn nat_eq true) (if_present F.step) worker.old.number (op.ComputePresent (K.word key.now)) f computed) result }
     {
         let mut answers = IfPresent::new(f);
         let answer = self
@@ -269,7 +269,7 @@ impl<K: Word64, V: Word64, A: Allocator, D: Drop> Congee<K, V, A, D> {
         requires { F.IsAlwaysCallable f }
         ensures worker { worker.new ≡ worker.old }
         ensures answers { As (Serves (is_held_by self.now.tree.id worker.old guard.now)
-            (Computes (ByHold nat_eq true) (or_insert F.step) worker.old.number (op.ComputeInsert (K.word key)) f replaced)) (words V.of_word) result }
+            (Computes (ByOwn nat_eq true) (or_insert F.step) worker.old.number (op.ComputeInsert (K.word key)) f replaced)) (words V.of_word) result }
     {
         let mut answers = OrInsert::new(f);
         let before = self
@@ -292,7 +292,7 @@ impl<K: Word64, V: Word64, A: Allocator, D: Drop> Congee<K, V, A, D> {
     ) -> Result<Result<Option<V>, Option<V>>, Refusal>
         ensures worker { worker.new ≡ worker.old }
         ensures answers { As (Serves (is_held_by self.now.tree.id worker.old guard.now)
-            (Answers (ByHold nat_eq true) worker.old.number (op.Exchange (K.word key.now) (V.word old.now) (option_map V.word new)) exchanged)) (either_words V.of_word) result }
+            (Answers (ByOwn nat_eq true) worker.old.number (op.Exchange (K.word key.now) (V.word old.now) (option_map V.word new)) exchanged)) (either_words V.of_word) result }
     {
         let (key, old, new) = (key.to_word(), old.to_word(), number_of(&new));
         either_words(self.tree.compare_exchange(rt, key, old, new, worker, guard))
@@ -311,7 +311,7 @@ impl<K: Word64, V: Word64, A: Allocator, D: Drop> Congee<K, V, A, D> {
     ) -> Result<usize, Refusal>
         ensures worker { worker.new ≡ worker.old }
         ensures answers { Serves (is_held_by self.now.tree.id worker.old guard.now)
-            (Scans (ByHold nat_eq true) (λ k v. (k, v)) worker.old.number (op.Range (K.word start.now) (K.word end.now) (length out.old)) out.old out.new (scanned (length out.old))) result }
+            (Scans (ByOwn nat_eq true) (λ k v. (k, v)) worker.old.number (op.Range (K.word start.now) (K.word end.now) (length out.old)) out.old out.new (scanned (length out.old))) result }
         ensures few { IfOk result (λ n. n ≤ length out.old) }
         ensures refused { IfErr result IsOfReader }
         ensures foreign { is_held_by self.now.tree.id worker.old guard.now ≡ false → out.new ≡ out.old }
@@ -333,7 +333,7 @@ impl<K: Word64, V: Word64, A: Allocator, D: Drop> Congee<K, V, A, D> {
     ) -> Result<usize, Refusal>
         ensures worker { worker.new ≡ worker.old }
         ensures answers { Serves (is_held_by self.now.tree.id worker.old guard.now)
-            (Scans (ByHold nat_eq true) (λ k v. (k, v)) worker.old.number (op.RangeInclusive (K.word start.now) (K.word last.now) (length out.old)) out.old out.new (scanned (length out.old))) result }
+            (Scans (ByOwn nat_eq true) (λ k v. (k, v)) worker.old.number (op.RangeInclusive (K.word start.now) (K.word last.now) (length out.old)) out.old out.new (scanned (length out.old))) result }
         ensures few { IfOk result (λ n. n ≤ length out.old) }
         ensures refused { IfErr result IsOfReader }
         ensures foreign { is_held_by self.now.tree.id worker.old guard.now ≡ false → out.new ≡ out.old }
@@ -353,7 +353,7 @@ impl<K: Word64, V: Word64, A: Allocator, D: Drop> Congee<K, V, A, D> {
     ) -> Result<usize, Refusal>
         ensures worker { worker.new ≡ worker.old }
         ensures answers { Serves (is_held_by self.now.tree.id worker.old guard.now)
-            (Scans (ByHold nat_eq true) Q.pair worker.old.number op out.old out.new (scanned (length out.old))) result }
+            (Scans (ByOwn nat_eq true) Q.pair worker.old.number op out.old out.new (scanned (length out.old))) result }
         ensures few { IfOk result (λ n. n ≤ length out.old) }
         ensures refused { IfErr result IsOfReader }
         ensures foreign { is_held_by self.now.tree.id worker.old guard.now ≡ false → out.new ≡ out.old }
@@ -370,7 +370,7 @@ impl<K: Word64, V: Word64, A: Allocator, D: Drop> Congee<K, V, A, D> {
         guard: &Guard,
     ) -> Result<bool, Refusal>
         ensures worker { worker.new ≡ worker.old }
-        ensures answers { Serves (is_held_by self.now.tree.id worker.old guard.now) (Answers (ByHold nat_eq true) worker.old.number (op.Get (K.word key.now)) contained) result }
+        ensures answers { Serves (is_held_by self.now.tree.id worker.old guard.now) (Answers (ByOwn nat_eq true) worker.old.number (op.Get (K.word key.now)) contained) result }
         ensures refused { IfErr result IsOfReader }
     {
         self.tree.contains_key(rt, key.to_word(), worker, guard)
@@ -384,7 +384,7 @@ impl<K: Word64, V: Word64, A: Allocator, D: Drop> Congee<K, V, A, D> {
         guard: &Guard,
     ) -> Result<bool, Refusal>
         ensures worker { worker.new ≡ worker.old }
-        ensures answers { Serves (is_held_by self.now.tree.id worker.old guard.now) (Answers (ByHold nat_eq true) worker.old.number op.IsEmpty emptied) result }
+        ensures answers { Serves (is_held_by self.now.tree.id worker.old guard.now) (Answers (ByOwn nat_eq true) worker.old.number op.IsEmpty emptied) result }
         ensures refused { IfErr result IsOfReader }
     {
         self.tree.is_empty(rt, worker, guard)
@@ -393,7 +393,7 @@ impl<K: Word64, V: Word64, A: Allocator, D: Drop> Congee<K, V, A, D> {
     /// All keys, ascending, at its one step. It wants no guard. Refused as Memory.
     pub fn keys<R: Wait>(&self, rt: &R, worker: &mut Worker) -> Result<Vec<K>, Refusal>
         ensures worker { worker.new ≡ worker.old }
-        ensures answers { (answer : _) × Serves (is_of self.now.tree.id worker.old) (Answers (ByHold nat_eq true) worker.old.number op.Keys listed) answer × AreKeys K.of_word answer result }
+        ensures answers { (answer : _) × Serves (is_of self.now.tree.id worker.old) (Answers (ByOwn nat_eq true) worker.old.number op.Keys listed) answer × AreKeys K.of_word answer result }
     {
         are_keys(self.alloc, self.tree.keys(rt, worker))
     }
@@ -402,7 +402,7 @@ impl<K: Word64, V: Word64, A: Allocator, D: Drop> Congee<K, V, A, D> {
     /// Refused as Memory.
     pub fn stats<R: Wait>(&self, rt: &R, worker: &mut Worker) -> Result<NodeStats, Refusal>
         ensures worker { worker.new ≡ worker.old }
-        ensures answers { Serves (is_of self.now.tree.id worker.old) (Answers (ByHold nat_eq true) worker.old.number op.Stats counted) result }
+        ensures answers { Serves (is_of self.now.tree.id worker.old) (Answers (ByOwn nat_eq true) worker.old.number op.Stats counted) result }
     {
         self.tree.stats(rt, worker)
     }
@@ -410,7 +410,7 @@ impl<K: Word64, V: Word64, A: Allocator, D: Drop> Congee<K, V, A, D> {
     /// How many pairs there are, at its one step; more than `u64::MAX` are told as that. It wants no guard. Refused as Memory.
     pub fn len<R: Wait>(&self, rt: &R, worker: &mut Worker) -> Result<u64, Refusal>
         ensures worker { worker.new ≡ worker.old }
-        ensures answers { Serves (is_of self.now.tree.id worker.old) (Answers (ByHold nat_eq true) worker.old.number op.Stats pairs_counted) result }
+        ensures answers { Serves (is_of self.now.tree.id worker.old) (Answers (ByOwn nat_eq true) worker.old.number op.Stats pairs_counted) result }
     {
         self.tree.len(rt, worker)
     }
