@@ -1,5 +1,5 @@
 -- Calls on an index that threads share: whom they serve, what a hold of its lock is, and what they answer.
-use Rattle.std.specs.Prelude.{◌≡◌, ◌≢◌, ◌==◌, ◌&&◌, ◌<◌, ◌⊎◌, ℕ, Bool, true, false, List, [], length, Option, None, Some, is_some, Result, Ok, Err, Vec, map, min, ◌+◌}
+use Rattle.std.specs.Prelude.{◌≡◌, ◌≢◌, ◌==◌, ◌&&◌, ◌<◌, ◌≤◌, ◌⊎◌, leb, ltb, ℕ, suc, Bool, true, false, List, [], ◌∷◌, length, take, Option, None, Some, is_some, Result, Ok, Err, Vec, map, min, ◌+◌, if◌then◌else◌}
 use Rattle.std.specs.Arc.{arc_value}
 use Rattle.std.specs.List.{sum_by}
 use Rattle.std.specs.Option.{option_map}
@@ -201,11 +201,32 @@ exchanged (Ok (Reply (Exchange r))) = Ok r
 exchanged (Err e) = Err e
 exchanged _ = Err Idle
 
--- what a scan into so many places answers: how many of them it filled
-abbrev pub scanned : {V : Type 0} → ℕ → End V → Result ℕ Refusal
-scanned places (Ok (Scanned n)) = Ok (min n places)
-scanned places (Err e) = Err (of_reader e)
-scanned places _ = Err Idle
+-- the keys of a scan, from its first on to before its end
+abbrev pub bounds : {V : Type 0} → Op V → ℕ × ℕ
+bounds (op.Range start end size) = (start, end)
+bounds (op.RangeInclusive start last size) = (start, suc last)
+bounds _ = (0, 0)
+
+-- keys that ascend from one on, and end before another
+abbrev pub Ascend : ℕ → ℕ → List ℕ → Type 0
+Ascend start end [] = Unit {0}
+Ascend start end (k ∷ keys) = (start ≤ k) × (k < end) × Ascend (suc k) end keys
+
+-- whether they do
+abbrev pub ascends : ℕ → ℕ → List ℕ → Bool
+ascends start end [] = true
+ascends start end (k ∷ keys) = leb start k && (ltb k end && ascends (suc k) end keys)
+
+-- so many places of these keys were filled, if those ascend within the range
+abbrev pub filled : ℕ × ℕ → List ℕ → ℕ → Result ℕ Refusal
+filled range keys n = if ascends range.0 range.1 (take n keys) then Ok n else Err Idle
+
+-- what a scan of this range answers, whose places have these keys: how many of them it filled; one that is told of more places
+-- than there are, or whose keys don't ascend there, is met in no run
+abbrev pub scanned : {V : Type 0} → ℕ × ℕ → List ℕ → End V → Result ℕ Refusal
+scanned range keys (Ok (Scanned n)) = filled range keys (min n (length keys))
+scanned range keys (Err e) = Err (of_reader e)
+scanned range keys _ = Err Idle
 
 -- what the question for emptiness answers
 abbrev pub emptied : {V : Type 0} → End V → Result Bool Refusal

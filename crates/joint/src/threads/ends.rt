@@ -1,11 +1,12 @@
 //! How calls read their end. The end of another call, which none of them meets, makes Idle.
 
-ghost use Rattle.std.specs.Prelude.{◌≡◌, ◌≤◌, Err, IfErr, IfOk};
+ghost use Rattle.std.specs.Prelude.{◌≡◌, ◌≤◌, Err, length, map, take, IfErr, IfOk};
 ghost use Rattle.joint.specs.declared.refusal.Refusal.TheVariants as cause;
-ghost use Rattle.joint.specs.threads.Threads.{IsOfReader, computed, contained, counted, emptied, exchanged, got, inserted, listed, of_reader, pairs_counted, removed, replaced, scanned, told};
+ghost use Rattle.joint.specs.threads.Threads.{Ascend, IsOfReader, ascends, bounds, computed, contained, counted, emptied, exchanged, filled, got, inserted, listed, of_reader, pairs_counted, removed, replaced, scanned, told};
 
 use crate::refusal::Refusal;
-use crate::steps::Done;
+use crate::steps::{Done, Op};
+use crate::threads::driver::Pair;
 use congee::NodeStats;
 use judge::Reply;
 
@@ -125,16 +126,67 @@ pub(crate) fn exchanged<P: Drop>(end: End<P>) -> Result<Result<Option<P>, Option
     }
 }
 
-/// Of a scan into so many places; it fills no more.
-pub(crate) fn scanned<P: Drop>(places: usize, end: End<P>) -> Result<usize, Refusal>
-    ensures same { result ≡ scanned places end }
-    ensures few { IfOk result (λ n. n ≤ places) }
+/// Of a scan, by its places: it fills no more than there are, with keys that ascend within its range.
+pub(crate) fn scanned<P: Drop, Q: Pair<P>>(
+    range: (u64, u128),
+    found: &[Q],
+    told: End<P>,
+) -> Result<usize, Refusal>
+    ensures same { result ≡ scanned range (map Q.key found.now) told }
+    ensures few { IfOk result (λ n. n ≤ length found.now) }
+    ensures ascend { IfOk result (λ n. Ascend range.0 range.1 (map Q.key (take n found.now))) }
     ensures refused { IfErr result IsOfReader }
 {
-    match end {
-        Ok(Done::Scanned(count)) => Ok(count.min(places)),
+    match told {
+        Ok(Done::Scanned(count)) => filled(range, found, count.min(found.len())),
         Ok(other) => no_end(other),
         Err(refusal) => Err(of_reader(refusal)),
+    }
+}
+
+/// So many of the places, where their keys ascend.
+fn filled<P: Drop, Q: Pair<P>>(
+    range: (u64, u128),
+    found: &[Q],
+    count: usize,
+) -> Result<usize, Refusal>
+    requires { count ≤ length found.now }
+    ensures same { result ≡ filled range (map Q.key found.now) count }
+    ensures few { IfOk result (λ n. n ≤ length found.now) }
+    ensures ascend { IfOk result (λ n. Ascend range.0 range.1 (map Q.key (take n found.now))) }
+    ensures refused { IfErr result IsOfReader }
+{
+    if ascends(range.0, range.1, &found[..count]) {
+        Ok(count)
+    } else {
+        Err(Refusal::Idle)
+    }
+}
+
+/// Whether the keys of these pairs ascend from `start` on, and end before `end`.
+fn ascends<P: Drop, Q: Pair<P>>(start: u64, end: u128, pairs: &[Q]) -> bool
+    ensures { result ≡ ascends start end (map Q.key pairs.now) }
+{
+    let mut least = start as u128;
+    for pair in pairs {
+        let key = pair.key() as u128;
+        if key < least || end <= key {
+            return false;
+        }
+        least = key + 1;
+    }
+    true
+}
+
+/// The keys of a scan, from its first on to before its end.
+pub(crate) fn bounds<P>(op: &Op<P>) -> (u64, u128)
+    ensures { result ≡ bounds op.now }
+{
+    match op {
+        Op::Range(start, end, _) => (*start, *end as u128),
+        Op::RangeInclusive(start, last, _) => (*start, *last as u128 + 1),
+        // It is no scan.
+        _ => (0, 0),
     }
 }
 

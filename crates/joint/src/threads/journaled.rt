@@ -1,11 +1,11 @@
 //! The index of words for threads, with a journal and a ledger that counts its writing calls.
 
-ghost use Rattle.std.specs.Prelude.{◌≡◌, ◌≤◌, ◌<◌, ℕ, false, length, nat_eq, true, IfErr, IfOk, MatchResult};
+ghost use Rattle.std.specs.Prelude.{◌≡◌, ◌≤◌, ◌<◌, ℕ, false, length, nat_eq, true, IfErr, IfOk, MatchResult, suc, map, take};
 ghost use Rattle.std.specs.Option.{option_map};
 ghost use Rattle.joint.specs.threads.Journals.{ClosesJournal, IsJournal};
 ghost use Rattle.joint.specs.nodes.Opening.{IsUnshared};
 ghost use Rattle.joint.specs.threads.Pinned.{CallsPinned, KeepsWorker};
-ghost use Rattle.joint.specs.threads.Threads.{Answers, AreKeys, As, Hands, IsAccount, IsHold, IsOfReader, IsRound, IsTold, IsUnclosed, Pins, Scans, Serves, is_held_by, is_of, register_step, registered, charge_of, waiting_bytes_of, waiting_of, computed, contained, counted, either_words, emptied, exchanged, got, if_present, inserted, listed, or_insert, pairs_counted, removed, replaced, scanned, told, words};
+ghost use Rattle.joint.specs.threads.Threads.{Answers, AreKeys, As, Ascend, Hands, IsAccount, IsHold, IsOfReader, IsRound, IsTold, IsUnclosed, Pins, Scans, Serves, is_held_by, is_of, register_step, registered, charge_of, waiting_bytes_of, waiting_of, computed, contained, counted, either_words, emptied, exchanged, got, if_present, inserted, listed, or_insert, pairs_counted, removed, replaced, scanned, told, words};
 ghost use Rattle.joint.specs.threads.Writing.{Gathers, GathersJournal, Reads, Writes, WritesMute};
 ghost use Rattle.joint.specs.declared.refusal.Refusal.TheVariants as cause;
 ghost use Rattle.joint.specs.declared.steps.Op.TheVariants as op;
@@ -313,8 +313,9 @@ impl<L: Ledger, W: Watch, K: Word64, V: Word64, A: Allocator, D: Drop> Journaled
     ) -> Result<usize, Refusal>
         ensures worker { worker.new ≡ worker.old }
         ensures answers { Serves (is_held_by self.now.tree.id worker.old guard.now)
-            (Scans Reads (λ k v. (k, v)) worker.old.number (op.Range (K.word start.now) (K.word end.now) (length out.old)) out.old out.new (scanned (length out.old))) result }
+            (Scans Reads (λ k v. (k, v)) worker.old.number (op.Range (K.word start.now) (K.word end.now) (length out.old)) out.old out.new (scanned (K.word start.now, K.word end.now) (map (λ pair. pair.0) out.new))) result }
         ensures few { IfOk result (λ n. n ≤ length out.old) }
+        ensures ascend { IfOk result (λ n. Ascend (K.word start.now) (K.word end.now) (map (λ pair. pair.0) (take n out.new))) }
         ensures refused { IfErr result IsOfReader }
         ensures foreign { is_held_by self.now.tree.id worker.old guard.now ≡ false → out.new ≡ out.old }
     {
@@ -335,8 +336,9 @@ impl<L: Ledger, W: Watch, K: Word64, V: Word64, A: Allocator, D: Drop> Journaled
     ) -> Result<usize, Refusal>
         ensures worker { worker.new ≡ worker.old }
         ensures answers { Serves (is_held_by self.now.tree.id worker.old guard.now)
-            (Scans Reads (λ k v. (k, v)) worker.old.number (op.RangeInclusive (K.word start.now) (K.word last.now) (length out.old)) out.old out.new (scanned (length out.old))) result }
+            (Scans Reads (λ k v. (k, v)) worker.old.number (op.RangeInclusive (K.word start.now) (K.word last.now) (length out.old)) out.old out.new (scanned (K.word start.now, suc (K.word last.now)) (map (λ pair. pair.0) out.new))) result }
         ensures few { IfOk result (λ n. n ≤ length out.old) }
+        ensures ascend { IfOk result (λ n. Ascend (K.word start.now) (suc (K.word last.now)) (map (λ pair. pair.0) (take n out.new))) }
         ensures refused { IfErr result IsOfReader }
         ensures foreign { is_held_by self.now.tree.id worker.old guard.now ≡ false → out.new ≡ out.old }
     {

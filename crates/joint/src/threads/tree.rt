@@ -1,10 +1,10 @@
 //! One index under one lock, which each step of a call takes anew.
 
-ghost use Rattle.std.specs.Prelude.{◌≡◌, ◌≤◌, ℕ, [], false, length, IfOk, IfErr};
+ghost use Rattle.std.specs.Prelude.{◌≡◌, ◌≤◌, ℕ, [], false, length, map, take, IfOk, IfErr};
 ghost use Rattle.joint.specs.threads.Driving.{IsToldInCall, ended};
 ghost use Rattle.joint.specs.nodes.Opening.{IsUnopened};
 ghost use Rattle.joint.specs.threads.Pinned.{CallsPinned, KeepsWorker};
-ghost use Rattle.joint.specs.threads.Threads.{Answers, ClosesWith, Computes, Hands, IsAccount, IsByHolds, IsHold, IsOfReader, IsRound, IsTold, IsUnclosed, Pins, Scans, Serves, is_held_by, is_of, register_step, registered, charge_of, waiting_bytes_of, waiting_of, computed, contained, counted, emptied, exchanged, got, inserted, listed, pairs_counted, removed, replaced, scanned, told};
+ghost use Rattle.joint.specs.threads.Threads.{Answers, Ascend, ClosesWith, Computes, Hands, IsAccount, IsByHolds, IsHold, IsOfReader, IsRound, IsTold, IsUnclosed, Pins, Scans, Serves, is_held_by, is_of, register_step, registered, charge_of, waiting_bytes_of, waiting_of, bounds, computed, contained, counted, emptied, exchanged, got, inserted, listed, pairs_counted, removed, replaced, scanned, told};
 ghost use Rattle.joint.specs.engine.Engine.{IsOfCall};
 ghost use Rattle.joint.specs.declared.steps.Op.TheVariants as op;
 
@@ -15,7 +15,7 @@ use crate::steps::{Op, Outcome, Report, Step};
 use crate::threads::answers::{Answer, Silent};
 use crate::threads::driver::{Pair, drive_to};
 use crate::threads::ends::{
-    End, computed, contained, counted, emptied, exchanged, got, inserted, listed, of_reader,
+    End, bounds, computed, contained, counted, emptied, exchanged, got, inserted, listed, of_reader,
     pairs_counted, removed, replaced, scanned, told,
 };
 use crate::threads::holds::Holds;
@@ -349,16 +349,18 @@ impl<P: Payload + Small, T: Locked<P>> Tree<P, T> {
         guard: &Guard,
     ) -> Result<usize, Refusal>
         ensures answers { Serves (is_held_by self.now.id worker.now guard.now)
-            (Scans T.holds Q.pair worker.now.number op found.old found.new (scanned (length found.old))) result }
+            (Scans T.holds Q.pair worker.now.number op found.old found.new (scanned (bounds op) (map Q.key found.new))) result }
         ensures few { IfOk result (λ n. n ≤ length found.old) }
+        ensures ascend { IfOk result (λ n. Ascend (bounds op).0 (bounds op).1 (map Q.key (take n found.new))) }
         ensures refused { IfErr result IsOfReader }
         ensures foreign { is_held_by self.now.id worker.now guard.now ≡ false → found.new ≡ found.old }
     {
         if !self.serves(worker, guard) {
             return Err(Refusal::Foreign);
         }
-        let places = found.len();
-        scanned(places, self.scan(rt, worker, op, found))
+        let range = bounds(&op);
+        let told = self.scan(rt, worker, op, found);
+        scanned(range, found, told)
     }
 
     /// Whether no key has a value, at its one step.

@@ -1,11 +1,12 @@
 //! The index for threads whose keys are numbers.
 
-ghost use Rattle.std.specs.Prelude.{◌≡◌, ◌≤◌, false, length, nat_eq, true, IfErr, IfOk, MatchResult};
+ghost use Rattle.std.specs.Prelude.{◌≡◌, ◌≤◌, false, length, nat_eq, true, IfErr, IfOk, MatchResult, suc, map, take};
+ghost use Rattle.std.specs.Int.{from_be_bytes, w64};
 ghost use Rattle.std.specs.Option.{option_map};
 ghost use Rattle.congee.specs.Keys.{key_bytes};
 ghost use Rattle.joint.specs.nodes.Opening.{IsUnopened};
 ghost use Rattle.joint.specs.threads.Pinned.{CallsPinned, KeepsWorker};
-ghost use Rattle.joint.specs.threads.Threads.{Answers, AreKeys, As, ByOwn, Computes, Drops, Hands, IsAccount, IsHold, IsOfReader, IsRound, IsTold, IsUnclosed, Pins, Scans, Serves, is_held_by, is_of, register_step, registered, charge_of, waiting_bytes_of, waiting_of, computed, contained, counted, either_words, emptied, exchanged, got, if_present, inserted, listed, or_insert, pairs_counted, removed, replaced, scanned, told, words};
+ghost use Rattle.joint.specs.threads.Threads.{Answers, AreKeys, As, Ascend, ByOwn, Computes, Drops, Hands, IsAccount, IsHold, IsOfReader, IsRound, IsTold, IsUnclosed, Pins, Scans, Serves, is_held_by, is_of, register_step, registered, charge_of, waiting_bytes_of, waiting_of, computed, contained, counted, either_words, emptied, exchanged, got, if_present, inserted, listed, or_insert, pairs_counted, removed, replaced, scanned, told, words};
 ghost use Rattle.joint.specs.declared.steps.Op.TheVariants as op;
 
 use crate::limits::Limits;
@@ -233,8 +234,9 @@ impl<V: Word64, A: Allocator> U64Congee<V, A> {
     ) -> Result<usize, Refusal>
         ensures worker { worker.new ≡ worker.old }
         ensures answers { Serves (is_held_by self.now.words.tree.id worker.old guard.now)
-            (Scans (ByOwn nat_eq true) (λ k v. (key_bytes k, v)) worker.old.number (op.Range start end (length out.old)) out.old out.new (scanned (length out.old))) result }
+            (Scans (ByOwn nat_eq true) (λ k v. (key_bytes k, v)) worker.old.number (op.Range start end (length out.old)) out.old out.new (scanned (start, end) (map (λ pair. from_be_bytes w64 pair.0) out.new))) result }
         ensures few { IfOk result (λ n. n ≤ length out.old) }
+        ensures ascend { IfOk result (λ n. Ascend start end (map (λ pair. from_be_bytes w64 pair.0) (take n out.new))) }
         ensures refused { IfErr result IsOfReader }
         ensures foreign { is_held_by self.now.words.tree.id worker.old guard.now ≡ false → out.new ≡ out.old }
     {
@@ -255,8 +257,9 @@ impl<V: Word64, A: Allocator> U64Congee<V, A> {
     ) -> Result<usize, Refusal>
         ensures worker { worker.new ≡ worker.old }
         ensures answers { Serves (is_held_by self.now.words.tree.id worker.old guard.now)
-            (Scans (ByOwn nat_eq true) (λ k v. (key_bytes k, v)) worker.old.number (op.RangeInclusive start last (length out.old)) out.old out.new (scanned (length out.old))) result }
+            (Scans (ByOwn nat_eq true) (λ k v. (key_bytes k, v)) worker.old.number (op.RangeInclusive start last (length out.old)) out.old out.new (scanned (start, suc last) (map (λ pair. from_be_bytes w64 pair.0) out.new))) result }
         ensures few { IfOk result (λ n. n ≤ length out.old) }
+        ensures ascend { IfOk result (λ n. Ascend start (suc last) (map (λ pair. from_be_bytes w64 pair.0) (take n out.new))) }
         ensures refused { IfErr result IsOfReader }
         ensures foreign { is_held_by self.now.words.tree.id worker.old guard.now ≡ false → out.new ≡ out.old }
     {

@@ -1,10 +1,10 @@
 //! The index of words for threads.
 
-ghost use Rattle.std.specs.Prelude.{◌≡◌, ◌≤◌, ℕ, false, length, map, nat_eq, true, IfErr, IfOk, MatchResult};
+ghost use Rattle.std.specs.Prelude.{◌≡◌, ◌≤◌, ℕ, false, length, map, nat_eq, true, IfErr, IfOk, MatchResult, suc, take};
 ghost use Rattle.std.specs.Option.{option_map};
 ghost use Rattle.joint.specs.nodes.Opening.{IsUnopened};
 ghost use Rattle.joint.specs.threads.Pinned.{CallsPinned, KeepsWorker};
-ghost use Rattle.joint.specs.threads.Threads.{Answers, AreKeys, As, ByOwn, Closes, Computes, Hands, IsAccount, IsHold, IsOfReader, IsRound, IsTold, IsUnclosed, Pins, Scans, Serves, is_held_by, is_of, register_step, registered, charge_of, waiting_bytes_of, waiting_of, computed, contained, counted, either_of, either_words, emptied, exchanged, got, if_present, inserted, listed, or_insert, pairs_counted, removed, replaced, scanned, told, words};
+ghost use Rattle.joint.specs.threads.Threads.{Answers, AreKeys, As, Ascend, ByOwn, Closes, Computes, Hands, IsAccount, IsHold, IsOfReader, IsRound, IsTold, IsUnclosed, Pins, Scans, Serves, is_held_by, is_of, register_step, registered, charge_of, waiting_bytes_of, waiting_of, bounds, computed, contained, counted, either_of, either_words, emptied, exchanged, got, if_present, inserted, listed, or_insert, pairs_counted, removed, replaced, scanned, told, words};
 ghost use Rattle.joint.specs.declared.steps.Op.TheVariants as op;
 
 use crate::limits::Limits;
@@ -311,8 +311,9 @@ impl<K: Word64, V: Word64, A: Allocator, D: Drop> Congee<K, V, A, D> {
     ) -> Result<usize, Refusal>
         ensures worker { worker.new ≡ worker.old }
         ensures answers { Serves (is_held_by self.now.tree.id worker.old guard.now)
-            (Scans (ByOwn nat_eq true) (λ k v. (k, v)) worker.old.number (op.Range (K.word start.now) (K.word end.now) (length out.old)) out.old out.new (scanned (length out.old))) result }
+            (Scans (ByOwn nat_eq true) (λ k v. (k, v)) worker.old.number (op.Range (K.word start.now) (K.word end.now) (length out.old)) out.old out.new (scanned (K.word start.now, K.word end.now) (map (λ pair. pair.0) out.new))) result }
         ensures few { IfOk result (λ n. n ≤ length out.old) }
+        ensures ascend { IfOk result (λ n. Ascend (K.word start.now) (K.word end.now) (map (λ pair. pair.0) (take n out.new))) }
         ensures refused { IfErr result IsOfReader }
         ensures foreign { is_held_by self.now.tree.id worker.old guard.now ≡ false → out.new ≡ out.old }
     {
@@ -333,8 +334,9 @@ impl<K: Word64, V: Word64, A: Allocator, D: Drop> Congee<K, V, A, D> {
     ) -> Result<usize, Refusal>
         ensures worker { worker.new ≡ worker.old }
         ensures answers { Serves (is_held_by self.now.tree.id worker.old guard.now)
-            (Scans (ByOwn nat_eq true) (λ k v. (k, v)) worker.old.number (op.RangeInclusive (K.word start.now) (K.word last.now) (length out.old)) out.old out.new (scanned (length out.old))) result }
+            (Scans (ByOwn nat_eq true) (λ k v. (k, v)) worker.old.number (op.RangeInclusive (K.word start.now) (K.word last.now) (length out.old)) out.old out.new (scanned (K.word start.now, suc (K.word last.now)) (map (λ pair. pair.0) out.new))) result }
         ensures few { IfOk result (λ n. n ≤ length out.old) }
+        ensures ascend { IfOk result (λ n. Ascend (K.word start.now) (suc (K.word last.now)) (map (λ pair. pair.0) (take n out.new))) }
         ensures refused { IfErr result IsOfReader }
         ensures foreign { is_held_by self.now.tree.id worker.old guard.now ≡ false → out.new ≡ out.old }
     {
@@ -353,8 +355,9 @@ impl<K: Word64, V: Word64, A: Allocator, D: Drop> Congee<K, V, A, D> {
     ) -> Result<usize, Refusal>
         ensures worker { worker.new ≡ worker.old }
         ensures answers { Serves (is_held_by self.now.tree.id worker.old guard.now)
-            (Scans (ByOwn nat_eq true) Q.pair worker.old.number op out.old out.new (scanned (length out.old))) result }
+            (Scans (ByOwn nat_eq true) Q.pair worker.old.number op out.old out.new (scanned (bounds op) (map Q.key out.new))) result }
         ensures few { IfOk result (λ n. n ≤ length out.old) }
+        ensures ascend { IfOk result (λ n. Ascend (bounds op).0 (bounds op).1 (map Q.key (take n out.new))) }
         ensures refused { IfErr result IsOfReader }
         ensures foreign { is_held_by self.now.tree.id worker.old guard.now ≡ false → out.new ≡ out.old }
     {
