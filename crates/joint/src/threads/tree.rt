@@ -15,8 +15,8 @@ use crate::steps::{Op, Outcome, Report, Step};
 use crate::threads::answers::{Answer, Silent};
 use crate::threads::driver::{Pair, drive_to};
 use crate::threads::ends::{
-    End, bounds, computed, contained, counted, emptied, exchanged, got, inserted, listed, of_reader,
-    pairs_counted, removed, replaced, scanned, told,
+    End, bounds, computed, contained, counted, emptied, exchanged, got, inserted, listed,
+    of_reader, pairs_counted, removed, replaced, scanned, told,
 };
 use crate::threads::holds::Holds;
 use crate::threads::locked::{Locked, Plain, Words};
