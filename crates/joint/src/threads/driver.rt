@@ -50,7 +50,7 @@ pub(crate) trait Pair<P>: Drop {
     ghost pair: { ℕ → P → Self };
 
     /// Its key.
-    ghost key: { Self → ℕ };
+    ghost key_of: { Self → ℕ };
 
     /// The pair of a key and a value.
     fn pair(key: u64, value: P) -> Self
@@ -58,13 +58,13 @@ pub(crate) trait Pair<P>: Drop {
 
     /// Its key.
     fn key(&self) -> u64
-        ensures { result ≡ key self.now };
+        ensures { result ≡ key_of self.now };
 }
 
 impl<P: Drop> Pair<P> for (u64, P) {
     ghost pair = { λ key value. (key, value) };
 
-    ghost key = { λ pair. pair.0 };
+    ghost key_of = { λ pair. pair.0 };
 
     fn pair(key: u64, value: P) -> Self {
         (key, value)
@@ -78,7 +78,7 @@ impl<P: Drop> Pair<P> for (u64, P) {
 impl<P: Drop> Pair<P> for ([u8; KEY_BYTES], P) {
     ghost pair = { λ key value. (key_bytes key, value) };
 
-    ghost key = { λ pair. from_be_bytes w64 pair.0 };
+    ghost key_of = { λ pair. from_be_bytes w64 pair.0 };
 
     fn pair(key: u64, value: P) -> Self {
         (key.to_be_bytes(), value)

@@ -132,9 +132,9 @@ pub(crate) fn scanned<P: Drop, Q: Pair<P>>(
     found: &[Q],
     told: End<P>,
 ) -> Result<usize, Refusal>
-    ensures same { result ≡ scanned range (map Q.key found.now) told }
+    ensures same { result ≡ scanned range (map Q.key_of found.now) told }
     ensures few { IfOk result (λ n. n ≤ length found.now) }
-    ensures ascend { IfOk result (λ n. Ascend range.0 range.1 (map Q.key (take n found.now))) }
+    ensures ascend { IfOk result (λ n. Ascend range.0 range.1 (map Q.key_of (take n found.now))) }
     ensures refused { IfErr result IsOfReader }
 {
     match told {
@@ -151,9 +151,9 @@ fn filled<P: Drop, Q: Pair<P>>(
     count: usize,
 ) -> Result<usize, Refusal>
     requires { count ≤ length found.now }
-    ensures same { result ≡ filled range (map Q.key found.now) count }
+    ensures same { result ≡ filled range (map Q.key_of found.now) count }
     ensures few { IfOk result (λ n. n ≤ length found.now) }
-    ensures ascend { IfOk result (λ n. Ascend range.0 range.1 (map Q.key (take n found.now))) }
+    ensures ascend { IfOk result (λ n. Ascend range.0 range.1 (map Q.key_of (take n found.now))) }
     ensures refused { IfErr result IsOfReader }
 {
     if ascends(range.0, range.1, &found[..count]) {
@@ -165,7 +165,7 @@ fn filled<P: Drop, Q: Pair<P>>(
 
 /// Whether the keys of these pairs ascend from `start` on, and end before `end`.
 fn ascends<P: Drop, Q: Pair<P>>(start: u64, end: u128, pairs: &[Q]) -> bool
-    ensures { result ≡ ascends start end (map Q.key pairs.now) }
+    ensures { result ≡ ascends start end (map Q.key_of pairs.now) }
 {
     let mut least = start as u128;
     for pair in pairs {

@@ -349,9 +349,9 @@ impl<P: Payload + Small, T: Locked<P>> Tree<P, T> {
         guard: &Guard,
     ) -> Result<usize, Refusal>
         ensures answers { Serves (is_held_by self.now.id worker.now guard.now)
-            (Scans T.holds Q.pair worker.now.number op found.old found.new (scanned (bounds op) (map Q.key found.new))) result }
+            (Scans T.holds Q.pair worker.now.number op found.old found.new (scanned (bounds op) (map Q.key_of found.new))) result }
         ensures few { IfOk result (λ n. n ≤ length found.old) }
-        ensures ascend { IfOk result (λ n. Ascend (bounds op).0 (bounds op).1 (map Q.key (take n found.new))) }
+        ensures ascend { IfOk result (λ n. Ascend (bounds op).0 (bounds op).1 (map Q.key_of (take n found.new))) }
         ensures refused { IfErr result IsOfReader }
         ensures foreign { is_held_by self.now.id worker.now guard.now ≡ false → found.new ≡ found.old }
     {

@@ -355,9 +355,9 @@ impl<K: Word64, V: Word64, A: Allocator, D: Drop> Congee<K, V, A, D> {
     ) -> Result<usize, Refusal>
         ensures worker { worker.new ≡ worker.old }
         ensures answers { Serves (is_held_by self.now.tree.id worker.old guard.now)
-            (Scans (ByOwn nat_eq true) Q.pair worker.old.number op out.old out.new (scanned (bounds op) (map Q.key out.new))) result }
+            (Scans (ByOwn nat_eq true) Q.pair worker.old.number op out.old out.new (scanned (bounds op) (map Q.key_of out.new))) result }
         ensures few { IfOk result (λ n. n ≤ length out.old) }
-        ensures ascend { IfOk result (λ n. Ascend (bounds op).0 (bounds op).1 (map Q.key (take n out.new))) }
+        ensures ascend { IfOk result (λ n. Ascend (bounds op).0 (bounds op).1 (map Q.key_of (take n out.new))) }
         ensures refused { IfErr result IsOfReader }
         ensures foreign { is_held_by self.now.tree.id worker.old guard.now ≡ false → out.new ≡ out.old }
     {

@@ -6,4 +6,4 @@ use Rattle.joint.proofs.threads.ends.ascends.Given as goal
 -- the test of all keys is that of those which are left
 abbrev pub invariant-loop-pair : goal.invariant-loop-pair
 invariant-loop-pair g l =
-    (ascends l.start l.end (map g.Q.Pair.key l.pairs) ≡ ascends l.least l.end (map g.Q.Pair.key (drop l.pair-index l.pairs))) × (l.least ≤ 2 ^ 64)
+    (ascends l.start l.end (map g.Q.Pair.key_of l.pairs) ≡ ascends l.least l.end (map g.Q.Pair.key_of (drop l.pair-index l.pairs))) × (l.least ≤ 2 ^ 64)
