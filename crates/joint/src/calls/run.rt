@@ -66,17 +66,16 @@ impl<P: Payload + Small, A: Allocator> World<P, A> {
         ensures room { vec_capacity reports.new ≡ vec_capacity reports.old }
         ensures run { IsRunInto P.same_as P.always_copies self.old (take result steps.items) reports.old.items reports.new.items self.new }
     {
-        let room = reports.capacity().saturating_sub(reports.len());
-        let most = steps.as_slice().len().min(room);
+        let before = reports.len();
         let mut rest = steps.into_iter();
-        for _i in 0..most {
-            let Some(step) = rest.next() else {
-                unreachable!()
-            };
+        while let Some(step) = rest.next() {
+            if reports.len() == reports.capacity() {
+                break;
+            }
             let report = self.step(step);
             reports.push_reserved(report);
         }
-        most
+        reports.len() - before
     }
 
     /// Takes the steps one after another, once there is memory for their reports.
@@ -87,7 +86,8 @@ impl<P: Payload + Small, A: Allocator> World<P, A> {
         ensures run { IsRun P.same_as P.always_copies self.old (take result.done steps.items) result.reports.items self.new }
     {
         let mut reports = Vec::new(alloc);
-        let _ = reports.reserve(steps.as_slice().len());
+        // A refusal leaves the list without room.
+        let _ = reports.reserve(steps.len());
         let done = self.run_into(steps, &mut reports);
         Ran { reports, done }
     }

@@ -1,6 +1,6 @@
 //! How calls read their end. The end of another call, which none of them meets, makes Idle.
 
-ghost use Rattle.std.specs.Prelude.{◌≡◌, ◌≤◌, Err, length, map, take, IfErr, IfOk};
+ghost use Rattle.std.specs.Prelude.{◌≡◌, ◌≤◌, Err, length, map, min, take, IfErr, IfOk};
 ghost use Rattle.joint.specs.declared.refusal.Refusal.TheVariants as cause;
 ghost use Rattle.joint.specs.threads.Threads.{Ascend, IsOfReader, ascends, bounds, computed, contained, counted, emptied, exchanged, filled, got, inserted, listed, of_reader, pairs_counted, removed, replaced, scanned, told};
 
@@ -138,10 +138,24 @@ pub(crate) fn scanned<P: Drop, Q: Pair<P>>(
     ensures refused { IfErr result IsOfReader }
 {
     match told {
-        Ok(Done::Scanned(count)) => filled(range, found, count.min(found.len())),
+        Ok(Done::Scanned(count)) => filled_at_most(range, found, count),
         Ok(other) => no_end(other),
         Err(refusal) => Err(of_reader(refusal)),
     }
+}
+
+/// So many of the places, and no more than there are.
+fn filled_at_most<P: Drop, Q: Pair<P>>(
+    range: (u64, u128),
+    found: &[Q],
+    count: usize,
+) -> Result<usize, Refusal>
+    ensures same { result ≡ filled range (map Q.key_of found.now) (min count (length (map Q.key_of found.now))) }
+    ensures few { IfOk result (λ n. n ≤ length found.now) }
+    ensures ascend { IfOk result (λ n. Ascend range.0 range.1 (map Q.key_of (take n found.now))) }
+    ensures refused { IfErr result IsOfReader }
+{
+    filled(range, found, count.min(found.len()))
 }
 
 /// So many of the places, where their keys ascend.
