@@ -1,4 +1,4 @@
-use Rattle.std.proofs.Common.{IsSome, length, sym, ap, subst, ◌∙◌, refl}
+use Rattle.std.proofs.Common.{IsSome, suc, length, sym, ap, subst, ◌∙◌, refl}
 use Rattle.joint.specs.nodes.Nodes.{nodes}
 use Rattle.joint.specs.calls.Scanned.{IsScanned, ScansAs, scanned_of}
 use Rattle.joint.specs.calls.Standing.{pairs_of}
@@ -12,7 +12,7 @@ returns-clause-finds g c =
     let s = c.args.self.now in
     let holds = c.sound.ensures.holds in
     let fills = c.call.ensures.scan holds.2.flights (pairs_of s) (map_stands (nodes s.forest)) holds.2.in_flight in
-    subst (λ r. ScansAs c.args.start _ (pairs_of s) r _) (sym c.scanned.ensures)
+    subst (λ r. ScansAs c.args.start (suc c.args.last) (pairs_of s) r c.call.new.found) (sym c.scanned.ensures)
     (scan_finds g.P.Payload.same_as g.P.Payload.always_copies _ _ _ _ _ _ (pairs_of s) _ _ _ _ c.call.ensures.called refl fills)
 
 pub returns-clause-pairs : goal.returns-clause-pairs
