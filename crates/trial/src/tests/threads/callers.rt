@@ -1,5 +1,5 @@
 //! Sixteen threads that call on one index with a journal: calls of each kind on a key, and scans between.
-ghost use Rattle.std.specs.Prelude.{◌≡◌};
+ghost use Rattle.std.specs.Prelude.{◌≡◌, ◌<◌};
 
 use super::trees::{Told, raised_or, recorded_called, spent};
 use crate::tests::asserts::assert_same;
