@@ -1,13 +1,17 @@
 //! The examples, run.
 
-use super::collector::face::limits;
+use super::collector::face::{Handle, Item, ended, limits};
+use super::collector::machine::adds;
+use super::collector::threads::leaves;
 use super::machine::{
-    END, Index, begin, beginning, count_of, go as step_on, going, noise, open, registering, replied,
+    END, Index, begin, beginning, count_of, discard, go as step_on, going, is_done, noise, open,
+    registering, replied,
 };
 use crate::examples::collector::put_off;
 use crate::examples::driven::{Driven, answered};
 use crate::examples::grace::collects_beside_a_guard;
 use crate::examples::journal::{Store, is_honest};
+use crate::examples::machine;
 use crate::examples::machine::{
     Drained, drains_what_stands, reads_what_it_put, runs_and_closes, runs_as_one_map,
 };
@@ -22,14 +26,15 @@ use crate::examples::stack::{Node, Stack, pops, sum_of_two};
 use crate::examples::threaded::{fills_and_closes, first_calls, shared_values};
 use crate::examples::unlocked::shares_and_drains;
 use crate::tests::asserts::assert_same;
-use congee::{Allocator, Congee, DefaultAllocator, Limited};
-use crossbeam_epoch::{Collector, Job};
+use congee::{Allocator, Congee, DefaultAllocator, Limited, OOMError};
+use crossbeam_epoch::{Collector, Fault};
 use crossbeam_utils::sync::ShardedLock;
-use joint::{Done, Event, Kind, Limits, Op, Ran, Refusal, Report, Step, World};
+use joint::{Done, Event, Kind, Limits, Op, Ran, Refusal, Step, World};
 use judge::{Call, Entry, Reply};
 use std::alloc::{AllocError, Global};
+use std::process::Abort;
 use std::sync::atomic::{AtomicU64, Ordering};
-use std::sync::{Arc, Mutex};
+use std::sync::{Arc, Mutex, Wait};
 use std::test::Fail;
 use std::vec::Vec;
 
@@ -37,13 +42,10 @@ use std::vec::Vec;
 fn two_threads_share_a_stack(rt: HostRuntime) -> Result<(), Fail> {
     let numbers: Collector<Node, ()> = Collector::new(&rt, rt.alloc(), limits(1000), 1)?;
     let stack = Stack::new();
+    let sum = sum_of_two(&rt, rt.alloc(), &numbers, &stack, 100);
+    let is_ended = numbers.end().is_ok();
     // Each of 0 to 99 is pushed twice and popped twice.
-    assert_same(
-        &rt,
-        sum_of_two(&rt, rt.alloc(), &numbers, &stack, 100)?,
-        9900,
-    );
-    assert!(rt; numbers.end().is_ok());
+    assert_same(&rt, (sum, is_ended), (Ok(9900), true));
     Ok(())
 }
 
@@ -87,9 +89,19 @@ fn schedule(alloc: Global) -> Result<Vec<Step<u64>>, AllocError> {
     Ok(steps)
 }
 
-/// How many reports end a call with this reply.
-fn ends_with(reports: &[Report<u64>], reply: Reply<u64>) -> usize {
-    count_of(reports, &replied(reply))
+/// How many steps a run took, and how many of its calls put a key there that was absent, found no key, and found 70.
+fn counts(ran: Ran<u64>) -> (usize, [usize; 3]) {
+    let counts = [
+        count_of(&ran.reports, &replied(Reply::Insert(None))),
+        count_of(&ran.reports, &replied(Reply::Get(None))),
+        count_of(&ran.reports, &replied(Reply::Get(Some(70)))),
+    ];
+    (ran.done, counts)
+}
+
+/// How many nodes wait, and what is charged.
+fn stands(index: machine::Index) -> (u64, u64) {
+    (index.waiting(), index.charged())
 }
 
 #[test]
@@ -97,12 +109,12 @@ fn two_calls_in_flight_answer_as_one_map(rt: HostRuntime) -> Result<(), Fail> {
     let steps = schedule(rt.alloc())?;
     let taken = steps.len();
     let (index, ran) = runs_as_one_map(rt.alloc(), steps)?;
-    assert_same(&rt, ran.done, taken);
-    assert_same(&rt, ends_with(&ran.reports, Reply::Insert(None)), 1);
-    assert_same(&rt, ends_with(&ran.reports, Reply::Get(None)), 1);
-    assert_same(&rt, ends_with(&ran.reports, Reply::Get(Some(70))), 1);
     // The root of 256 places and a leaf of 4.
-    assert_same(&rt, index.charged(), 2104 + 64);
+    assert_same(
+        &rt,
+        (counts(ran), stands(index)),
+        ((taken, [1, 1, 1]), (0, 2104 + 64)),
+    );
     Ok(())
 }
 
@@ -122,6 +134,12 @@ fn an_index_that_is_closed_leaves_the_charge(rt: HostRuntime) -> Result<(), Fail
 /// as the example's.
 fn filled(alloc: Global) -> Result<Vec<Step<u64>>, Fail> {
     let mut index: Index = World::new(alloc, Limits::usual(2, 1000), Limited::new(u64::MAX))?;
+    let recorded = fill(alloc, &mut index);
+    discard(index);
+    Ok(recorded?)
+}
+
+fn fill(alloc: Global, index: &mut Index) -> Result<Vec<Step<u64>>, AllocError> {
     let mut steps = Vec::new(alloc);
     index.step(registering());
     steps.push(registering())?;
@@ -132,9 +150,7 @@ fn filled(alloc: Global) -> Result<Vec<Step<u64>>, Fail> {
         Op::Unpin,
         Op::Release,
     ];
-    let recorded = record_all(&mut index, &mut steps, &ops);
-    drop(index);
-    recorded?;
+    record_all(index, &mut steps, &ops)?;
     Ok(steps)
 }
 
@@ -146,18 +162,28 @@ fn a_close_drains_what_stands(rt: HostRuntime) -> Result<(), Fail> {
     };
     let steps = filled(rt.alloc())?;
     let Drained { ran, drainer } = drains_what_stands(rt.alloc(), steps, sum)?;
-    assert_same(&rt, (drainer.of_values, drainer.last_key), (100, Some(7)));
-    assert_same(&rt, ends_with(&ran.reports, Reply::Insert(None)), 2);
+    let (_, [inserted, _, _]) = counts(ran);
+    assert_same(
+        &rt,
+        (drainer.of_values, drainer.last_key, inserted),
+        (100, Some(7), 2),
+    );
     Ok(())
 }
 
 #[test]
 fn a_worker_reads_what_it_put(rt: HostRuntime) -> Result<(), Fail> {
     let mut index = open(rt.alloc(), 1, 100)?;
-    assert_same(&rt, reads_what_it_put(&mut index, 0, 7, 70), None);
-    index.call(0, Op::Pin, 100, &mut []);
-    assert_same(&rt, reads_what_it_put(&mut index, 0, 7, 70), Some(Some(70)));
-    assert_same(&rt, reads_what_it_put(&mut index, 0, 7, 71), Some(Some(71)));
+    let unpinned = reads_what_it_put(&mut index, 0, 7, 70);
+    is_done(&mut index, 0, Op::Pin);
+    let first = reads_what_it_put(&mut index, 0, 7, 70);
+    let second = reads_what_it_put(&mut index, 0, 7, 71);
+    discard(index);
+    assert_same(
+        &rt,
+        [unpinned, first, second],
+        [None, Some(Some(70)), Some(Some(71))],
+    );
     Ok(())
 }
 
@@ -172,15 +198,21 @@ fn an_index_for_threads_that_is_closed_leaves_the_charge(rt: HostRuntime) -> Res
 
 #[test]
 fn owned_trees_keep_their_contracts(rt: HostRuntime) -> Result<(), Fail> {
-    let budget = opens_and_closes(rt.alloc(), 5000)?;
-    assert!(rt; budget.charged == 0 && budget.limit == 5000);
-    let budget = opens_and_closes_numbers(rt.alloc(), 6000)?;
-    assert!(rt; budget.charged == 0 && budget.limit == 6000);
-    assert!(rt; opens_and_closes(rt.alloc(), 2103).is_err());
-    assert!(rt; charge_after_insertions(rt.alloc(), 5000, &[(1, 10), (256, 20), (1, 30)])? == 0);
-    assert!(rt; charge_after_insertions(rt.alloc(), 2104, &[(1, 10)]).is_err());
-    assert!(rt; finds_what_it_puts(rt.alloc(), 256, 7)? == Some(7));
-    assert!(rt; finds_what_it_puts_in_numbers(rt.alloc(), 0, 9)? == Some(9));
+    let one = opens_and_closes(rt.alloc(), 5000)?;
+    let two = opens_and_closes_numbers(rt.alloc(), 6000)?;
+    let budgets = [(one.charged, one.limit), (two.charged, two.limit)];
+    assert_same(&rt, budgets, [(0, 5000), (0, 6000)]);
+    let refused = [
+        opens_and_closes(rt.alloc(), 2103).is_err(),
+        charge_after_insertions(rt.alloc(), 2104, &[(1, 10)]).is_err(),
+    ];
+    assert_same(&rt, refused, [true, true]);
+    let charge = charge_after_insertions(rt.alloc(), 5000, &[(1, 10), (256, 20), (1, 30)])?;
+    let found = [
+        finds_what_it_puts(rt.alloc(), 256, 7)?,
+        finds_what_it_puts_in_numbers(rt.alloc(), 0, 9)?,
+    ];
+    assert_same(&rt, (charge, found), (0, [Some(7), Some(9)]));
     Ok(())
 }
 
@@ -210,51 +242,42 @@ fn record_all(
     Ok(())
 }
 
-/// A worker fills a leaf until it is exchanged for a greater one. Behind each insertion it goes so many rounds, and so many in
-/// the end.
+/// Two workers come, and one of them fills a leaf until it is exchanged for a greater one. Behind each insertion it goes so many
+/// rounds, and so many in the end.
 fn grow(
+    alloc: Global,
     index: &mut Index,
-    steps: &mut Vec<Step<u64>>,
     between: u32,
     behind: u32,
-) -> Result<(), AllocError> {
+) -> Result<Vec<Step<u64>>, AllocError> {
+    let mut steps = vec![in alloc; registering(), registering()]?;
     for key in 1..6 {
         let ops = [Op::Pin, Op::Insert(key, key), Op::Get(key), Op::Unpin];
-        record_all(index, steps, &ops)?;
+        record_all(index, &mut steps, &ops)?;
         for _ in 0..if key < 5 { between } else { behind } {
-            record_all(index, steps, &[Op::Pin, Op::Flush, Op::Unpin])?;
+            record_all(index, &mut steps, &[Op::Pin, Op::Flush, Op::Unpin])?;
         }
     }
-    Ok(())
-}
-
-/// Two workers come, and one of them fills a leaf, with so many rounds.
-fn grown(alloc: Global, between: u32, behind: u32) -> Result<Vec<Step<u64>>, Fail> {
-    let mut steps = vec![in alloc; registering(), registering()]?;
-    let mut index = open(alloc, 2, 1000)?;
-    let recorded = grow(&mut index, &mut steps, between, behind);
-    drop(index);
-    recorded?;
     Ok(steps)
 }
 
-#[test]
-fn a_removed_node_waits_without_rounds(rt: HostRuntime) -> Result<(), Fail> {
-    let steps = grown(rt.alloc(), 0, 0)?;
-    let (index, _) = gives_memory_back(rt.alloc(), Limits::usual(2, 1000), steps)?;
-    assert_same(
-        &rt,
-        (index.waiting(), index.charged()),
-        (1, 2104 + 64 + 168),
-    );
-    Ok(())
+/// The steps of `grow`.
+fn grown(alloc: Global, between: u32, behind: u32) -> Result<Vec<Step<u64>>, Fail> {
+    let mut index = open(alloc, 2, 1000)?;
+    let recorded = grow(alloc, &mut index, between, behind);
+    discard(index);
+    Ok(recorded?)
 }
 
+/// A removed node waits without rounds.
 #[test]
 fn rounds_give_memory_back(rt: HostRuntime) -> Result<(), Fail> {
-    let steps = grown(rt.alloc(), 0, 3)?;
-    let (index, _) = gives_memory_back(rt.alloc(), Limits::usual(2, 1000), steps)?;
-    assert_same(&rt, (index.waiting(), index.charged()), (0, 2104 + 168));
+    for (rounds, left) in [(0, (1, 2104 + 64 + 168)), (3, (0, 2104 + 168))] {
+        let steps = grown(rt.alloc(), 0, rounds)?;
+        let (index, ran) = gives_memory_back(rt.alloc(), Limits::usual(2, 1000), steps)?;
+        let _counts = counts(ran);
+        assert_same(&rt, (rounds, stands(index)), (rounds, left));
+    }
     Ok(())
 }
 
@@ -275,7 +298,8 @@ fn tell_alike(plain: &Ran<u64>, swept: &Ran<u64>) -> bool {
 fn rounds_between_steps_are_unseen(rt: HostRuntime) -> Result<(), Fail> {
     let (steps, more) = (grown(rt.alloc(), 0, 0)?, grown(rt.alloc(), 2, 3)?);
     let (plain, swept) = answer_alike(rt.alloc(), Limits::usual(2, 1000), steps, more)?;
-    assert!(rt; plain.done < swept.done && tell_alike(&plain, &swept));
+    let is_longer = plain.done < swept.done;
+    assert_same(&rt, (is_longer, tell_alike(&plain, &swept)), (true, true));
     Ok(())
 }
 
@@ -308,6 +332,7 @@ fn calls_are_driven_on_an_index_of_ones_own(rt: HostRuntime) -> Result<(), Fail>
         assert_same(&rt, (op, told), (op, Ok(done)));
         index = driven.into_index();
     }
+    discard(index);
     assert_same(&rt, found, [(7, 5), (0, 0)]);
     Ok(())
 }
@@ -325,8 +350,8 @@ fn an_owner_is_read_and_the_next_one_is_taken_out(rt: HostRuntime) -> Result<(),
     let hello = Arc::new(rt.alloc(), String::from_str(rt.alloc(), "hello")?)?;
     let world = Arc::new(rt.alloc(), String::from_str(rt.alloc(), "hello world")?)?;
     let (read, taken) = shared_values(&rt, rt.alloc(), hello, world)?;
-    assert!(rt; is_text(&read, "hello"));
-    assert!(rt; is_text(&taken, "hello world"));
+    let are_texts = (is_text(&read, "hello"), is_text(&taken, "hello world"));
+    assert_same(&rt, are_texts, (true, true));
     Ok(())
 }
 
@@ -358,46 +383,83 @@ fn a_tree_is_read_by_pages_and_drained(rt: HostRuntime) -> Result<(), Fail> {
         DefaultAllocator::new(),
         sum,
     )?;
+    let put = puts_forty(&mut tree);
+    let mut page = [(0, 0); 3];
+    let count = page_from(&tree, 38_001, &mut page);
+    let all = sum_by_pages(&tree);
+    let sum = drained(tree);
+    put?;
+    assert_same(&rt, (count, page[0], all), (1, (39_000, 39), 780));
+    assert_same(&rt, (sum.of_values, sum.last_key), (780, Some(39_000)));
+    Ok(())
+}
+
+/// Puts forty pairs in.
+fn puts_forty(tree: &mut Numbers<Sum>) -> Result<(), OOMError> {
     for key in 0..40 {
         tree.insert(key * 1_000, key)?;
     }
-    let mut page = [(0, 0); 3];
-    assert_same(&rt, page_from(&tree, 38_001, &mut page), 1);
-    assert_same(&rt, page[0], (39_000, 39));
-    assert_same(&rt, sum_by_pages(&tree), 780);
-    let sum = drained(tree);
-    assert_same(&rt, (sum.of_values, sum.last_key), (780, Some(39_000)));
     Ok(())
 }
 
 #[test]
 fn what_was_put_off_is_called(rt: HostRuntime) -> Result<(), Fail> {
     let called = Arc::new(rt.alloc(), AtomicU64::new(0))?;
-    let collector: Collector<u64> = Collector::new(&rt, rt.alloc(), limits(10), 1)?;
-    let mut handle = collector.register(&rt)?;
+    let collector: Collector<Item> = Collector::new(&rt, rt.alloc(), limits(10), 1)?;
+    let told = puts_off(&rt, rt.alloc(), &collector, &called);
+    let refused = ended(collector);
+    assert_same(
+        &rt,
+        (told, refused, called.load(Ordering::SeqCst)),
+        (Ok((false, true)), None, 5),
+    );
+    Ok(())
+}
+
+/// Puts five jobs off with a handle of its own, which is released: whether it is pinned then, and whether one was called before.
+fn puts_off<R: Wait + Abort>(
+    rt: &R,
+    alloc: Global,
+    collector: &Collector<Item>,
+    called: &Arc<AtomicU64>,
+) -> Result<(bool, bool), Fault> {
+    let mut handle = collector.register(rt)?;
+    let put_off = puts_five_off(rt, alloc, &mut handle, called);
+    let told = (handle.is_pinned(), called.load(Ordering::SeqCst) >= 1);
+    leaves(rt, handle)?;
+    put_off?;
+    Ok(told)
+}
+
+fn puts_five_off<R: Wait + Abort>(
+    rt: &R,
+    alloc: Global,
+    handle: &mut Handle<'_>,
+    called: &Arc<AtomicU64>,
+) -> Result<(), Fault> {
     for _ in 0..5 {
-        let counts = Arc::try_clone(&called)?;
-        let call = move || {
-            counts.fetch_add(1, Ordering::SeqCst);
-        };
-        put_off(&rt, &mut handle, Job::new(Box::new(rt.alloc(), call)?))?;
+        match adds(alloc, called, 1) {
+            Ok(job) => put_off(rt, handle, job)?,
+            Err(_) => return Err(Fault::Memory),
+        }
     }
-    assert!(rt; !handle.is_pinned());
-    assert!(rt; called.load(Ordering::SeqCst) >= 1);
-    assert!(rt; handle.release(&rt).is_ok());
-    assert!(rt; collector.end().is_ok());
-    assert_same(&rt, called.load(Ordering::SeqCst), 5);
     Ok(())
 }
 
 #[test]
 fn what_is_called_is_older_than_a_guard(rt: HostRuntime) -> Result<(), Fail> {
     let collector: Collector<u64, ()> = Collector::new(&rt, rt.alloc(), limits(1), 1)?;
-    let mut handle = collector.register(&rt)?;
     // It is sealed with 0, and the epoch goes on to 1. The guard takes that, and the collection beside it goes on to 2.
-    put_off(&rt, &mut handle, ())?;
-    assert_same(&rt, collects_beside_a_guard(&rt, &collector)?, (Some(0), 1));
+    assert_same(&rt, collects(&rt, &collector), Ok((Some(0), 1)));
     Ok(())
+}
+
+fn collects<R: Wait>(rt: &R, collector: &Collector<u64, ()>) -> Result<(Option<u64>, u64), Fault> {
+    let mut handle = collector.register(rt)?;
+    let put_off = put_off(rt, &mut handle, ());
+    let told = collects_beside_a_guard(rt, collector);
+    put_off?;
+    told
 }
 
 /// Two readers beside a writer find no value but the one that was put; once it is done, all keys.
@@ -406,9 +468,12 @@ fn a_tree_under_a_sharded_lock_is_read_beside_a_writer(rt: HostRuntime) -> Resul
     let doubles: Doubles = Congee::new(rt.alloc(), DefaultAllocator::new())?;
     let shared = ShardedLock::new(rt.alloc(), doubles)?;
     let (one, two) = reads_beside_a_writer(&rt, &shared, 300)?;
-    assert!(rt; one.doubled && two.doubled);
     let seen = look(&rt, &shared, 2, 301);
-    assert_same(&rt, (seen.stood, seen.doubled), (300, true));
+    assert_same(
+        &rt,
+        (one.doubled, two.doubled, seen.stood, seen.doubled),
+        (true, true, 300, true),
+    );
     Ok(())
 }
 

@@ -1,6 +1,6 @@
 //! `joint`: calls that find no memory once.
 
-use super::machine::{Index, call, is_done, open, replied};
+use super::machine::{Index, call, discard, is_done, open, replied};
 use crate::tests::asserts::assert_same;
 use joint::{Op, Outcome, Refusal};
 use judge::{Call, Reply};
@@ -57,25 +57,41 @@ pub fn is_flushed(index: &mut Index) -> bool {
     is_done(index, 0, Op::Flush) || (before == state(index) && is_done(index, 0, Op::Flush))
 }
 
+/// The first call that doesn't end so, with what it ought to answer.
+fn first_wrong(index: &mut Index) -> Option<(Call<u64>, Reply<u64>)> {
+    for (made, reply) in CALLS {
+        if !ends_with(index, made, reply) {
+            return Some((made, reply));
+        }
+    }
+    None
+}
+
+/// Whether three rounds are done.
+fn rests(index: &mut Index) -> bool {
+    for _ in 0..3 {
+        if !is_flushed(index) || !is_done(index, 0, Op::Unpin) || !is_done(index, 0, Op::Pin) {
+            return false;
+        }
+    }
+    true
+}
+
 /// The gate runs it with each request for memory refused in turn as well: what is refused changes nothing, and then is answered.
 #[test]
 fn a_call_that_finds_no_memory_changes_nothing(rt: HostRuntime) -> Result<(), Fail> {
     let mut index = opened(rt.alloc())?;
-    assert!(rt; is_done(&mut index, 0, Op::Pin));
-    for (made, reply) in CALLS {
-        assert_same(
-            &rt,
-            (made, ends_with(&mut index, made, reply)),
-            (made, true),
-        );
-    }
+    let pinned = is_done(&mut index, 0, Op::Pin);
+    let wrong = first_wrong(&mut index);
+    let (before, rests) = (state(&index), rests(&mut index));
+    let after = state(&index);
+    discard(index);
+    assert_same(&rt, (pinned, wrong, rests), (true, None, true));
     // The root and a leaf of 16; a leaf of 4 grew, and two went with their last values, each with the node above.
-    assert_same(&rt, state(&index), (2104 + 168 + 5 * 64, 5, 5 * 64));
-    for _ in 0..3 {
-        assert!(rt; is_flushed(&mut index));
-        assert!(rt; is_done(&mut index, 0, Op::Unpin));
-        assert!(rt; is_done(&mut index, 0, Op::Pin));
-    }
-    assert_same(&rt, state(&index), (2104 + 168, 0, 0));
+    assert_same(
+        &rt,
+        (before, after),
+        ((2104 + 168 + 5 * 64, 5, 5 * 64), (2104 + 168, 0, 0)),
+    );
     Ok(())
 }

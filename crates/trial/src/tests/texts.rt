@@ -14,6 +14,11 @@ pub fn part(text: &str, place: usize) -> &str {
     text.split(';').nth(place).unwrap_or("").trim()
 }
 
+/// A number that is small, as each count of a text is.
+pub fn small(number: u64) -> u32 {
+    number.min(u64::from(u32::MAX)) as u32
+}
+
 /// The numbers of a text.
 pub fn numbers(alloc: Global, text: &str) -> Result<Vec<u64>, Fail> {
     let mut numbers = Vec::new(alloc);
@@ -23,7 +28,7 @@ pub fn numbers(alloc: Global, text: &str) -> Result<Vec<u64>, Fail> {
     Ok(numbers)
 }
 
-/// So many numbers of a text.
+/// So many numbers of a text; 0 for each that it lacks.
 pub fn array<const N: usize>(text: &str) -> Result<[u64; N], Fail> {
     let mut numbers = [0; N];
     for (place, word) in text.split_whitespace().enumerate() {
@@ -50,16 +55,18 @@ pub fn question(alloc: Global, text: &str) -> Result<(&str, Vec<u64>), Fail> {
 
 /// A call, as `insert 1 2`. Where an exchange or a compute has no number for its new value, it takes the value out.
 pub fn call_of(alloc: Global, text: &str) -> Result<Call<u64>, Fail> {
-    let (word, numbers) = question(alloc, text)?;
-    match (word, numbers.as_slice()) {
-        ("get", [key]) => Ok(Call::Get(*key)),
-        ("insert", [key, value]) => Ok(Call::Insert(*key, *value)),
-        ("remove", [key]) => Ok(Call::Remove(*key)),
-        ("present", [key]) => Ok(Call::ComputePresent(*key, None)),
-        ("present", [key, new]) => Ok(Call::ComputePresent(*key, Some(*new))),
-        ("orinsert", [key, value]) => Ok(Call::ComputeInsert(*key, *value)),
-        ("cas", [key, old]) => Ok(Call::Exchange(*key, *old, None)),
-        ("cas", [key, old, new]) => Ok(Call::Exchange(*key, *old, Some(*new))),
+    let (word, rest) = text.split_once(' ').unwrap_or((text, ""));
+    let count = numbers(alloc, rest)?.len();
+    let [key, one, two] = array::<3>(rest)?;
+    let second = if count > 1 { Some(one) } else { None };
+    let third = if count > 2 { Some(two) } else { None };
+    match word {
+        "get" => Ok(Call::Get(key)),
+        "insert" => Ok(Call::Insert(key, one)),
+        "remove" => Ok(Call::Remove(key)),
+        "present" => Ok(Call::ComputePresent(key, second)),
+        "orinsert" => Ok(Call::ComputeInsert(key, one)),
+        "cas" => Ok(Call::Exchange(key, one, third)),
         _ => Err("no call")?,
     }
 }

@@ -12,7 +12,7 @@ mod search;
 mod sums;
 mod waits;
 
-use optimistic::{Pair, U64Congee};
+use optimistic::{Pair, U64Congee, Worker};
 use std::alloc::{AllocError, Global};
 
 /// The words up to the root's end.
@@ -24,6 +24,16 @@ fn opened(alloc: Global, room: u32) -> Result<U64Congee, AllocError> {
         Ok(index) => Ok(index),
         Err(_) => Err(AllocError),
     }
+}
+
+/// Drops an index, so that no test has to say how.
+fn shut(index: U64Congee) {
+    drop(index);
+}
+
+/// Drops a worker.
+fn leave(worker: Worker<'_>) {
+    drop(worker);
 }
 
 /// Closes an index, and takes its pairs. There are none where a node is locked.

@@ -1,6 +1,8 @@
 //! Rows of what is asked of an `Atomic`, and of the values that it leads to, under a guard.
 
-use super::face::{Item, ItemGuard, boxed, destroys_at_once, limits, number_of, spend};
+use super::face::{
+    Item, ItemGuard, Under, boxed, destroys_at_once, discard, limits, number_of, spend,
+};
 use super::threads::leaves;
 use crate::tests::asserts::assert_same;
 use crossbeam_epoch::{Atomic, Collector, Exchanged, Fault, Link, Shared};
@@ -11,7 +13,7 @@ use std::sync::atomic::Ordering::{Relaxed, SeqCst};
 use std::test::Fail;
 
 /// One of two pointers that are kept from row to row.
-#[derive(Clone, Copy, PartialEq, Eq, Debug)]
+#[derive(Clone, Copy, PartialEq)]
 enum Name {
     One,
     Two,
@@ -20,7 +22,7 @@ enum Name {
 use self::Name::{One, Two};
 
 /// A pointer with its tag.
-#[derive(Clone, Copy, PartialEq, Eq, Debug)]
+#[derive(Clone, Copy, PartialEq)]
 enum To {
     Null(u8),
     Kept(Name, u8),
@@ -31,7 +33,7 @@ enum To {
 use self::To::{Kept, Null};
 
 /// By which call an exchange is made.
-#[derive(Clone, Copy, PartialEq, Eq, Debug)]
+#[derive(Clone, Copy)]
 enum Way {
     Strong,
     Weak,
@@ -41,7 +43,7 @@ enum Way {
     Shared,
 }
 
-#[derive(Clone, Copy, PartialEq, Eq, Debug)]
+#[derive(Clone, Copy)]
 enum Ask {
     /// A new value of this number, which no `Atomic` leads to yet.
     Place(Name, u64),
@@ -79,7 +81,7 @@ use self::Ask::{
     ReadTwice, Store, StoreNew, StoreShared, Swap, Take, TryTake, Update, UpdateTo, Xor,
 };
 
-#[derive(Clone, Copy, PartialEq, Eq, Debug)]
+#[derive(Clone, Copy, PartialEq)]
 enum Told {
     /// The pointer before, the one that was loaded, or the one that an exchange wrote.
     Pointer(To),
@@ -277,7 +279,7 @@ impl Pointers {
 
 /// Where rows are asked.
 #[derive_where(Clone, Copy)]
-struct Rows<'a, 'c, R: Wait> {
+struct Rows<'a, 'c, R: Wait + Abort> {
     rt: &'a R,
     alloc: Global,
     items: &'a Collector<Item>,
@@ -299,10 +301,19 @@ fn exchanged(
     }
 }
 
-impl<'a, R: Wait> Rows<'a, '_, R> {
+impl<'a, 'c, R: Wait + Abort> Rows<'a, 'c, R> {
+    /// What is done under the guard.
+    fn under(self) -> Under<'a, 'c, R> {
+        Under {
+            rt: self.rt,
+            alloc: self.alloc,
+            guard: self.guard,
+        }
+    }
+
     fn told(self, ask: Ask, kept: &mut Pointers) -> Result<Told, Fault> {
         match ask {
-            Place(name, number) => Ok(kept.keep(name, self.placed(number)?)),
+            Place(name, number) => Ok(kept.keep(name, self.under().placed(number)?)),
             Keep(name) => Ok(kept.keep(name, self.untagged())),
             Load | LoadConsume | Or(_) | And(_) | Xor(_) => Ok(self.tagged(ask, *kept)),
             Store(_) | StoreShared(_) | StoreNew(_) | Swap(_) => self.written(ask, *kept),
@@ -315,14 +326,6 @@ impl<'a, R: Wait> Rows<'a, '_, R> {
             ExchangeNew(from, number) => self.exchanged_for(kept.link(from), number, *kept),
             Update(_) | UpdateTo(_) => Ok(self.updated(ask, *kept)),
             _ => Ok(self.of_value(ask, *kept)),
-        }
-    }
-
-    /// A value that is placed, and where it stands.
-    fn placed(self, number: u64) -> Result<Link, Fault> {
-        match boxed(self.alloc, number)?.into_shared(self.rt, self.guard) {
-            Ok(pointer) => Ok(pointer.link()),
-            Err((fault, _owned)) => Err(fault),
         }
     }
 
@@ -445,7 +448,7 @@ impl<'a, R: Wait> Rows<'a, '_, R> {
     /// What is asked of a value.
     fn of_value(self, ask: Ask, kept: Pointers) -> Told {
         match ask {
-            Read(name) => Number(self.read(kept.named(name))),
+            Read(name) => Number(self.under().number_there(kept.named(name))),
             ReadTwice(name) => Number(self.read_twice(kept.named(name))),
             Raise(name) if self.raises(kept.named(name)) => Done,
             Take(name) => Number(self.taken(kept.named(name))),
@@ -467,13 +470,15 @@ impl<'a, R: Wait> Rows<'a, '_, R> {
         number_of(pointer.into_owned(self.rt, self.guard))
     }
 
-    /// The number that stands there, where it isn't lent to be changed.
-    fn read(self, link: Link) -> Option<u64> {
-        let pointer: Shared<'a, Item> = Shared::of(link);
-        let lent = pointer.as_ref(self.rt, self.guard)?;
-        let number = lent.get().number();
-        lent.back(self.rt);
-        Some(number)
+    /// The number of the first row that is told otherwise.
+    fn wrong(self, rows: &[(Ask, Told)], kept: &mut Pointers) -> Option<usize> {
+        let mut wrong = None;
+        for (number, (ask, told)) in rows.iter().enumerate() {
+            if self.told(*ask, kept) != Ok(*told) && wrong.is_none() {
+                wrong = Some(number);
+            }
+        }
+        wrong
     }
 
     /// The number that stands there, as two read it at once, where nobody can change it or take it out meanwhile.
@@ -481,7 +486,7 @@ impl<'a, R: Wait> Rows<'a, '_, R> {
         let pointer: Shared<'a, Item> = Shared::of(link);
         let lent = pointer.deref(self.rt, self.guard)?;
         let number = lent.get().number();
-        let is_alike = self.read(link) == Some(number);
+        let is_alike = self.under().number_there(link) == Some(number);
         let is_kept = !self.raises(link) && self.taken(link).is_none();
         lent.back(self.rt);
         if is_alike && is_kept {
@@ -497,7 +502,7 @@ impl<'a, R: Wait> Rows<'a, '_, R> {
         match pointer.deref_mut(self.rt, self.guard) {
             Some(mut lent) => {
                 lent.get_mut().raise();
-                let alone = self.read(link).is_none();
+                let alone = self.under().number_there(link).is_none();
                 lent.back(self.rt);
                 alone
             }
@@ -506,7 +511,7 @@ impl<'a, R: Wait> Rows<'a, '_, R> {
     }
 }
 
-/// The first row that is told otherwise.
+/// The number of the first row that is told otherwise, with a handle of its own.
 fn wrong<R: Wait + Abort>(
     rt: &R,
     alloc: Global,
@@ -514,42 +519,69 @@ fn wrong<R: Wait + Abort>(
     root: &Atomic<Item>,
     rows: &[(Ask, Told)],
     kept: &mut Pointers,
-) -> Result<Option<Ask>, Fault> {
+) -> Result<Option<usize>, Fault> {
     let mut handle = items.register(rt)?;
-    let pinned = handle.pin()?;
-    let guard = &pinned;
-    let asked = Rows {
-        rt,
-        alloc,
-        items,
-        root,
-        guard,
-    };
-    let mut wrong = None;
-    for (ask, told) in rows {
-        if asked.told(*ask, kept) != Ok(*told) && wrong.is_none() {
-            wrong = Some(*ask);
+    let wrong = match handle.pin() {
+        Ok(pinned) => {
+            let guard = &pinned;
+            let asked = Rows {
+                rt,
+                alloc,
+                items,
+                root,
+                guard,
+            };
+            let wrong = asked.wrong(rows, kept);
+            spend(rt, &mut handle, pinned);
+            Ok(wrong)
         }
-    }
-    spend(rt, &mut handle, pinned);
+        Err(fault) => Err(fault),
+    };
     leaves(rt, handle)?;
-    Ok(wrong)
+    wrong
 }
 
-#[test]
-fn each_row_is_told(rt: HostRuntime) -> Result<(), Fail> {
-    let items: Collector<Item> = Collector::new(&rt, rt.alloc(), limits(20), 1)?;
-    let others: Collector<Item> = Collector::new(&rt, rt.alloc(), limits(2), 2)?;
+/// The first case that goes otherwise, with its first wrong row here and there.
+type Wrong = Option<(&'static str, Option<usize>, Option<usize>)>;
+
+fn first_wrong<R: Wait + Abort>(
+    rt: &R,
+    alloc: Global,
+    items: &Collector<Item>,
+    others: &Collector<Item>,
+) -> Result<Wrong, Fault> {
     for (name, here, there) in CASES {
         let root: Atomic<Item> = Atomic::null();
         let mut kept = Pointers {
             one: Link::null(),
             two: Link::null(),
         };
-        let first = wrong(&rt, rt.alloc(), &items, &root, here, &mut kept)?;
-        assert_same(&rt, (name, first), (name, None));
-        let second = wrong(&rt, rt.alloc(), &others, &root, there, &mut kept)?;
-        assert_same(&rt, (name, second), (name, None));
+        let first = wrong(rt, alloc, items, &root, here, &mut kept)?;
+        let second = wrong(rt, alloc, others, &root, there, &mut kept)?;
+        if first.is_some() || second.is_some() {
+            return Ok(Some((name, first, second)));
+        }
     }
+    Ok(None)
+}
+
+/// The same, beside a collector of the other rows.
+fn first_wrong_of<R: Wait + Abort>(
+    rt: &R,
+    alloc: Global,
+    items: &Collector<Item>,
+) -> Result<Wrong, Fault> {
+    let others: Collector<Item> = Collector::new(rt, alloc, limits(2), 2)?;
+    let wrong = first_wrong(rt, alloc, items, &others);
+    discard(others);
+    wrong
+}
+
+#[test]
+fn each_row_is_told(rt: HostRuntime) -> Result<(), Fail> {
+    let items: Collector<Item> = Collector::new(&rt, rt.alloc(), limits(20), 1)?;
+    let wrong = first_wrong_of(&rt, rt.alloc(), &items);
+    discard(items);
+    assert_same(&rt, wrong, Ok(None));
     Ok(())
 }

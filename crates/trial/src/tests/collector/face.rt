@@ -1,6 +1,6 @@
 //! The face for threads: handles, guards, and values without pointers. `atomics` has the rows of pointers.
 
-use super::machine::adds;
+use super::threads::{leaves, pins_in_two_threads};
 use crate::tests::asserts::assert_same;
 use crossbeam_epoch::{
     Atomic, Collector, CompareAndSetOrdering, Fault, Guard, Job, Limits, Link, LocalHandle, Owned,
@@ -9,10 +9,11 @@ use crossbeam_epoch::{
 use std::alloc::Global;
 use std::ops::DerefMut;
 use std::process::Abort;
+use std::sync::Wait;
+use std::sync::atomic::Ordering;
 use std::sync::atomic::Ordering::SeqCst;
-use std::sync::atomic::{AtomicU64, Ordering};
-use std::sync::{Arc, Wait};
 use std::test::Fail;
+use std::thread::Threads;
 
 /// A value with tags 0 to 3.
 #[derive(Clone, Debug, PartialEq, Eq, Drop)]
@@ -54,37 +55,121 @@ pub fn limits(cells: u32) -> Limits {
     }
 }
 
+/// Drops a collector, so that no test has to say how.
+pub fn discard(items: Collector<Item>) {
+    drop(items);
+}
+
+/// Ends a collector; where it is refused, why.
+pub fn ended(items: Collector<Item>) -> Option<Fault> {
+    match items.end() {
+        Ok(()) => None,
+        Err((fault, back)) => {
+            discard(back);
+            Some(fault)
+        }
+    }
+}
+
+/// What is tried on a collector of its own; how many cells it has, and how many places.
+const TRIED: [(&str, u32, u32); 6] = [
+    ("guards nest and move", 20, 4),
+    ("a full store hands back, and a read value stays", 1, 4),
+    ("two handles refuse", 1, 2),
+    ("a participant is unpinned while a repin waits", 1, 4),
+    ("a pinned handle stays", 1, 4),
+    ("two are pinned at once", 1, 4),
+];
+
 #[test]
-fn guards_nest_and_move(rt: HostRuntime) -> Result<(), Fail> {
-    let items: Collector<Item> = Collector::new(&rt, rt.alloc(), limits(20), 1)?;
-    let mut handle = items.register(&rt)?;
-    assert!(rt; repins(&rt, &mut handle)?);
-    assert!(rt; nests(&rt, &mut handle)?);
-    assert!(rt; makes(&rt, rt.alloc(), &mut handle)?);
+fn handles_and_guards_do_as_they_say(rt: HostRuntime) -> Result<(), Fail> {
+    for (name, cells, participants) in TRIED {
+        let mut limits = limits(cells);
+        limits.participants = participants;
+        let items: Collector<Item> = Collector::new(&rt, rt.alloc(), limits, 1)?;
+        let told = is_so(&rt, rt.alloc(), &items, name);
+        discard(items);
+        assert_same(&rt, (name, told), (name, Ok(true)));
+    }
     Ok(())
 }
 
-#[test]
-fn a_full_store_hands_back_and_a_read_value_stays(rt: HostRuntime) -> Result<(), Fail> {
-    let items: Collector<Item> = Collector::new(&rt, rt.alloc(), limits(1), 1)?;
-    assert_same(&rt, tries_one_cell(&rt, rt.alloc(), &items)?, (true, true));
-    Ok(())
+/// Whether what is tried is so.
+fn is_so<R: Threads + Wait + Abort + Sync>(
+    rt: &R,
+    alloc: Global,
+    items: &Collector<Item>,
+    name: &str,
+) -> Result<bool, Fault> {
+    match name {
+        "two handles refuse" | "a participant is unpinned while a repin waits" => {
+            of_two(rt, items, name == "two handles refuse")
+        }
+        "a pinned handle stays" => stays(rt, items.register(rt)?),
+        "two are pinned at once" => Ok(pins_in_two_threads(rt, items)? == (true, true)),
+        _ => of_one(rt, alloc, items, name == "guards nest and move"),
+    }
 }
 
-/// Whether a full store hands back, and a value that is read stays.
+/// Whether guards of one handle nest and move; or else a full store hands back, and a value that is read stays.
+fn of_one<R: Wait + Abort>(
+    rt: &R,
+    alloc: Global,
+    items: &Collector<Item>,
+    moves: bool,
+) -> Result<bool, Fault> {
+    let mut handle = items.register(rt)?;
+    let told = if moves {
+        nests_and_moves(rt, alloc, &mut handle)
+    } else {
+        tries_one_cell(rt, alloc, items, &mut handle)
+    };
+    leaves(rt, handle)?;
+    told
+}
+
+fn nests_and_moves<R: Wait + Abort>(
+    rt: &R,
+    alloc: Global,
+    handle: &mut Handle<'_>,
+) -> Result<bool, Fault> {
+    Ok(repins(rt, handle)? && nests(rt, handle)? && makes(rt, alloc, handle)?)
+}
+
 fn tries_one_cell<R: Wait + Abort>(
     rt: &R,
     alloc: Global,
     items: &Collector<Item>,
-) -> Result<(bool, bool), Fault> {
-    let mut handle = items.register(rt)?;
+    handle: &mut Handle<'_>,
+) -> Result<bool, Fault> {
     let pinned = handle.pin()?;
     let guard = &pinned;
     let under = Under { rt, alloc, guard };
     let fills = under.fills();
     let stays = under.stays_where_read(items);
-    spend(rt, &mut handle, pinned);
-    Ok((fills?, stays?))
+    spend(rt, handle, pinned);
+    Ok(fills? && stays?)
+}
+
+/// Whether two handles fill the table of this collector, and refuse each other's guards and null; or else the epoch goes on while
+/// a repin waits.
+fn of_two<R: Wait + Abort>(rt: &R, items: &Collector<Item>, refuses: bool) -> Result<bool, Fault> {
+    let (mut zero, mut one) = two_handles(rt, items)?;
+    let told = if refuses {
+        two_handles_refuse(rt, items, &mut zero, &mut one)
+    } else {
+        goes_on_meanwhile(rt, &mut zero, &mut one)
+    };
+    both_leave(rt, zero, one)?;
+    told
+}
+
+/// Releases both.
+pub fn both_leave<R: Wait + Abort>(rt: &R, zero: Handle<'_>, one: Handle<'_>) -> Result<(), Fault> {
+    let first = leaves(rt, zero);
+    let second = leaves(rt, one);
+    first?;
+    second
 }
 
 /// Spends a guard of the handle.
@@ -281,7 +366,8 @@ impl<'a, R: Wait + Abort> Under<'a, '_, R> {
         Ok(accepted && full && self.number_there(link) == Some(4))
     }
 
-    fn number_there(self, link: Link) -> Option<u64> {
+    /// The number of the value that the pointer leads to.
+    pub fn number_there(self, link: Link) -> Option<u64> {
         let pointer: Shared<'_, Item> = Shared::of(link);
         let lent = pointer.as_ref(self.rt, self.guard)?;
         let number = lent.get().0;
@@ -329,23 +415,34 @@ fn makes<R: Wait + Abort>(rt: &R, alloc: Global, handle: &mut Handle<'_>) -> Res
 }
 
 #[test]
-fn handles_refuse(rt: HostRuntime) -> Result<(), Fail> {
+fn a_collector_expires_after_two(rt: HostRuntime) {
     let mut limits = limits(1);
-    limits.participants = 2;
-    let two_places = limits;
     limits.expiry = 1;
-    let refused: Result<Collector<Item>, Fault> = Collector::new(&rt, rt.alloc(), limits, 1);
-    assert_same(&rt, refused.err(), Some(Fault::Limits));
-    let items: Collector<Item> = Collector::new(&rt, rt.alloc(), two_places, 1)?;
-    assert!(rt; two_handles_refuse(&rt, &items)?);
-    Ok(())
+    let cause = match Collector::new(&rt, rt.alloc(), limits, 1) {
+        Ok(items) => {
+            discard(items);
+            None
+        }
+        Err(fault) => Some(fault),
+    };
+    assert_same(&rt, cause, Some(Fault::Limits));
 }
 
 /// Whether two handles fill the table of this collector, and refuse each other's guards and null.
-fn two_handles_refuse<R: Wait + Abort>(rt: &R, items: &Collector<Item>) -> Result<bool, Fault> {
-    let (mut zero, mut one) = two_handles(rt, items)?;
-    let full = items.register(rt).err() == Some(Fault::TableFull);
-    let refused = refuse(rt, &mut zero, &mut one)?;
+fn two_handles_refuse<R: Wait + Abort>(
+    rt: &R,
+    items: &Collector<Item>,
+    zero: &mut Handle<'_>,
+    one: &mut Handle<'_>,
+) -> Result<bool, Fault> {
+    let full = match items.register(rt) {
+        Ok(third) => {
+            leaves(rt, third)?;
+            false
+        }
+        Err(fault) => fault == Fault::TableFull,
+    };
+    let refused = refuse(rt, zero, one)?;
     Ok(full && refused && zero.collector().same(items) && !one.is_pinned())
 }
 
@@ -363,26 +460,6 @@ fn refuse<R: Wait + Abort>(
 }
 
 #[test]
-fn a_collector_ends(rt: HostRuntime) -> Result<(), Fail> {
-    let sum = Arc::new(rt.alloc(), AtomicU64::new(0))?;
-    let job = adds(rt.alloc(), &sum, 1)?;
-    let items: Collector<Item> = Collector::new(&rt, rt.alloc(), limits(1), 1)?;
-    let left = leaves_job(&rt, &items, job)? && sum.load(SeqCst) == 0;
-    let ended = items.end().is_ok();
-    assert!(rt; left && ended && sum.load(SeqCst) == 1);
-    Ok(())
-}
-
-/// Defers a job in a new handle, which is released.
-fn leaves_job<R: Wait + Abort>(rt: &R, items: &Collector<Item>, job: Job) -> Result<bool, Fault> {
-    let mut handle = items.register(rt)?;
-    let guard = handle.pin()?;
-    let deferred = handle.defer_unchecked(rt, &guard, job).is_ok();
-    spend(rt, &mut handle, guard);
-    Ok(deferred && handle.release(rt).is_ok())
-}
-
-#[test]
 fn a_failure_loads_as_strongly_as_it_may(rt: HostRuntime) {
     let rows = [
         (Ordering::Relaxed, Ordering::Relaxed),
@@ -392,26 +469,25 @@ fn a_failure_loads_as_strongly_as_it_may(rt: HostRuntime) {
         (SeqCst, SeqCst),
     ];
     for (order, failure) in rows {
-        assert!(rt; order.success() == order && order.failure() == failure);
         let pair = (order, failure);
-        assert!(rt; pair.success() == order && pair.failure() == failure);
+        assert_same(
+            &rt,
+            [
+                (order.success(), order.failure()),
+                (pair.success(), pair.failure()),
+            ],
+            [pair, pair],
+        );
     }
 }
 
-#[test]
-fn a_participant_is_unpinned_while_a_repin_waits(rt: HostRuntime) -> Result<(), Fail> {
-    let items: Collector<Item> = Collector::new(&rt, rt.alloc(), limits(1), 1)?;
-    let epochs = goes_on_meanwhile(&rt, &items)?;
-    assert_same(&rt, epochs, (0, 2));
-    Ok(())
-}
-
-/// The epochs of a guard before and after a repin, during which another handle tries to advance twice.
+/// Whether a guard goes on from epoch 0 to 2 at a repin, during which another handle tries to advance twice: its participant is
+/// unpinned meanwhile.
 fn goes_on_meanwhile<R: Wait + Abort>(
     rt: &R,
-    items: &Collector<Item>,
-) -> Result<(u64, u64), Fault> {
-    let (mut zero, mut one) = two_handles(rt, items)?;
+    zero: &mut Handle<'_>,
+    one: &mut Handle<'_>,
+) -> Result<bool, Fault> {
     let mut guard = zero.pin()?;
     let before = guard.pinned_at();
     let answer = zero.repin_after(&mut guard, || {
@@ -419,24 +495,9 @@ fn goes_on_meanwhile<R: Wait + Abort>(
         one.collect(rt);
     });
     let after = guard.pinned_at();
-    spend(rt, &mut zero, guard);
+    spend(rt, zero, guard);
     answer?;
-    Ok((before, after))
-}
-
-#[test]
-fn a_refused_end_keeps_the_jobs(rt: HostRuntime) -> Result<(), Fail> {
-    let sum = Arc::new(rt.alloc(), AtomicU64::new(0))?;
-    let job = adds(rt.alloc(), &sum, 1)?;
-    let items: Collector<Item> = Collector::new(&rt, rt.alloc(), limits(1), 1)?;
-    seals(&rt, &mut items.register(&rt)?, job)?;
-    let Err((_fault, back)) = items.end() else {
-        panic!(rt; "a handle is registered");
-    };
-    let before = sum.load(SeqCst);
-    rounds(&rt, &mut back.register(&rt)?, 3)?;
-    assert_same(&rt, (before, sum.load(SeqCst)), (0, 1));
-    Ok(())
+    Ok((before, after) == (0, 2))
 }
 
 /// Defers the job under a pin, and flushes.
@@ -447,24 +508,6 @@ pub fn seals<R: Wait + Abort>(rt: &R, handle: &mut Handle<'_>, job: Job) -> Resu
     spend(rt, handle, guard);
     deferred?;
     flushed
-}
-
-#[test]
-fn a_handle_keeps_its_collector(rt: HostRuntime) -> Result<(), Fail> {
-    let items: Collector<Item> = Collector::new(&rt, rt.alloc(), limits(1), 2)?;
-    drop(items.register(&rt)?);
-    let Err((fault, back)) = items.end() else {
-        panic!(rt; "a handle is registered");
-    };
-    assert_same(&rt, (fault, back.id()), (Fault::Registered(1), 2));
-    Ok(())
-}
-
-#[test]
-fn a_pinned_handle_stays(rt: HostRuntime) -> Result<(), Fail> {
-    let items: Collector<Item> = Collector::new(&rt, rt.alloc(), limits(1), 1)?;
-    assert!(rt; stays(&rt, items.register(&rt)?)?);
-    Ok(())
 }
 
 /// Whether a handle is released only when its guard is spent.
@@ -479,55 +522,19 @@ fn stays<R: Wait + Abort>(rt: &R, mut handle: Handle<'_>) -> Result<bool, Fault>
     }
 }
 
-#[test]
-fn a_pinned_handle_blocks(rt: HostRuntime) -> Result<(), Fail> {
-    let sum = Arc::new(rt.alloc(), AtomicU64::new(0))?;
-    let job = adds(rt.alloc(), &sum, 1)?;
-    let items: Collector<Item> = Collector::new(&rt, rt.alloc(), limits(1), 1)?;
-    let before = goes_while_blocked(&rt, &items, job, &sum)?;
-    assert_same(&rt, (before, sum.load(SeqCst)), (0, 1));
-    Ok(())
-}
-
-/// A handle defers a job and goes rounds while another one is pinned. The sum before the other one is unpinned.
-fn goes_while_blocked<R: Wait + Abort>(
-    rt: &R,
-    items: &Collector<Item>,
-    job: Job,
-    sum: &AtomicU64,
-) -> Result<u64, Fault> {
-    let (mut zero, mut one) = two_handles(rt, items)?;
-    let blocking = one.pin()?;
-    let sealed = seals(rt, &mut zero, job);
-    let gone = rounds(rt, &mut zero, 10);
-    let before = sum.load(SeqCst);
-    spend(rt, &mut one, blocking);
-    sealed?;
-    gone?;
-    rounds(rt, &mut zero, 3)?;
-    Ok(before)
-}
-
-fn two_handles<'c, R: Wait + Abort>(
+/// Two new handles.
+pub fn two_handles<'c, R: Wait + Abort>(
     rt: &R,
     items: &'c Collector<Item>,
 ) -> Result<(Handle<'c>, Handle<'c>), Fault> {
     let zero = items.register(rt)?;
-    let one = items.register(rt)?;
-    Ok((zero, one))
-}
-
-#[test]
-fn unprotected_calls_at_once(rt: HostRuntime) -> Result<(), Fail> {
-    let sum = Arc::new(rt.alloc(), AtomicU64::new(0))?;
-    let job = adds(rt.alloc(), &sum, 1)?;
-    let mut free = unprotected();
-    free.defer(&rt, job);
-    free.flush(&rt);
-    free.repin(&rt);
-    let none: Option<&Collector<Item>> = free.collector();
-    assert!(rt; sum.load(SeqCst) == 1 && none.is_none());
-    Ok(())
+    match items.register(rt) {
+        Ok(one) => Ok((zero, one)),
+        Err(fault) => {
+            leaves(rt, zero)?;
+            Err(fault)
+        }
+    }
 }
 
 #[test]

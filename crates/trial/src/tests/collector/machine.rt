@@ -2,9 +2,9 @@
 
 use crate::tests::asserts::assert_same;
 use crate::tests::dialogue::{Asked, told, wrong_turn};
-use crate::tests::texts::{array, named};
+use crate::tests::texts::{array, named, small};
 use crossbeam_epoch::{
-    Event, Fault, Job, Limits, Links, Name, Op, Outcome, Pointable, Ptr, Step, Task, World,
+    Event, Fault, Job, Limits, Links, Name, Op, Outcome, Pointable, Ptr, Step, World,
 };
 use std::alloc::{AllocError, Global};
 use std::marker::Send;
@@ -127,12 +127,17 @@ const WORKED: [&str; 10] = [
 fn limits_of(text: &str) -> Result<Limits, Fail> {
     let [participants, cells, turn_max, epoch_max, expiry] = array::<5>(text)?;
     Ok(Limits {
-        participants: u32::try_from(participants)?,
-        cells: u32::try_from(cells)?,
-        turn_max: u32::try_from(turn_max)?,
+        participants: small(participants),
+        cells: small(cells),
+        turn_max: small(turn_max),
         epoch_max,
         expiry,
     })
+}
+
+/// Drops a machine, so that no test has to say how.
+fn discard(world: Jobs) {
+    drop(world);
 }
 
 /// The first turn that a new collector answers otherwise.
@@ -140,7 +145,7 @@ fn wrong(alloc: Global, text: &'static str) -> Result<Option<&'static str>, Fail
     let (limits, dialogue) = text.split_once(';').ok_or("no limits")?;
     let mut world: Jobs = World::new(alloc, limits_of(limits)?, 1)?;
     let turn = wrong_turn(alloc, &mut world, dialogue);
-    drop(world);
+    discard(world);
     turn
 }
 
@@ -153,79 +158,138 @@ fn the_collector_answers_as_worked_out(rt: HostRuntime) -> Result<(), Fail> {
     Ok(())
 }
 
+/// What is asked, and how many numbers come with it.
+static QUESTIONS: [(&str, usize); 27] = [
+    ("pin", 1),
+    ("unpin", 1),
+    ("flush", 1),
+    ("release", 1),
+    ("World::flush", 1),
+    ("World::repin", 1),
+    ("rounds", 2),
+    ("load", 1),
+    ("swap", 3),
+    ("fetch_and", 1),
+    ("fetch_or", 1),
+    ("fetch_xor", 1),
+    ("store_null", 1),
+    ("store", 3),
+    ("defer", 2),
+    ("register", 0),
+    ("epoch", 0),
+    ("waiting", 0),
+    ("defer_unchecked", 1),
+    ("has_place", 1),
+    ("places", 1),
+    ("place", 1),
+    ("read", 2),
+    ("give_back", 2),
+    ("replace", 3),
+    ("destroy", 3),
+    // Writes null where the root holds the pointer.
+    ("empty", 3),
+];
+
+/// The place of a question in the table.
+fn place_of(word: &str, count: usize) -> Result<usize, Fail> {
+    for (place, (asked, numbers)) in QUESTIONS.iter().enumerate() {
+        if *asked == word && *numbers == count {
+            return Ok(place);
+        }
+    }
+    Err("no question")?
+}
+
 impl Asked for Jobs {
     fn answer(&mut self, alloc: Global, word: &str, numbers: &[u64]) -> Result<String, Fail> {
-        match (word, numbers) {
-            ("register", []) => told(alloc, &self.register()),
-            ("epoch", []) => told(alloc, &self.epoch()),
-            ("waiting", []) => told(alloc, &self.waiting()),
-            ("pin", [who]) => told(alloc, &call(self, *who, Op::Pin)),
-            ("unpin", [who]) => told(alloc, &call(self, *who, Op::Unpin)),
-            ("flush", [who]) => told(alloc, &call(self, *who, Op::Flush)),
-            ("release", [who]) => told(alloc, &call(self, *who, Op::Release)),
-            ("World::flush", [who]) => told(alloc, &self.flush(*who as usize)),
-            ("World::repin", [who]) => told(alloc, &self.repin(*who as usize)),
-            ("rounds", [who, count]) => told(alloc, &rounds(self, *who, *count)),
-            ("defer", [who, count]) => told(alloc, &defers(self, *who as usize, *count)),
-            ("defer_unchecked", [who]) => told(alloc, &self.defer_unchecked(*who as usize, ())),
-            ("has_place", [who]) => told(alloc, &self.has_place(*who as usize)),
-            ("places", [who]) => told(alloc, &self.places(*who as usize)),
-            _ => of_cells(alloc, self, word, numbers),
+        let place = place_of(word, numbers.len())?;
+        let mut three = [0; 3];
+        for (number, given) in three.iter_mut().zip(numbers) {
+            *number = *given;
+        }
+        match place {
+            0..=6 => told(alloc, &outcome(self, place, three)),
+            7..=11 => told(alloc, &found(self, place, three)),
+            12..=14 => told(alloc, &written(self, place, three)),
+            _ => of_others(alloc, self, place, three),
         }
     }
 }
 
-fn name(cell: u64, turn: u64) -> Result<Name, Fail> {
-    Ok(Name {
-        cell: u32::try_from(cell)?,
-        turn: u32::try_from(turn)?,
-    })
+fn name(cell: u64, turn: u64) -> Name {
+    Name {
+        cell: small(cell),
+        turn: small(turn),
+    }
 }
 
 /// A pointer to a value in this cell and turn.
-fn pointer(cell: u64, turn: u64, tag: u64) -> Result<Ptr, Fail> {
-    let name = Some(name(cell, turn)?);
-    Ok(Ptr { name, tag: 0 }.with_tag::<Plain>(tag as usize))
+fn pointer(cell: u64, turn: u64, tag: u64) -> Ptr {
+    let name = Some(name(cell, turn));
+    Ptr { name, tag: 0 }.with_tag::<Plain>(tag as usize)
 }
 
-/// The answer of the cells, or of the root.
-fn of_cells(alloc: Global, world: &mut Jobs, word: &str, numbers: &[u64]) -> Result<String, Fail> {
-    match (word, numbers) {
-        ("place", [number]) => told(alloc, &world.place(Plain(*number))),
-        ("read", [cell, turn]) => told(alloc, &world.read(name(*cell, *turn)?)),
-        ("give_back", [cell, turn]) => told(alloc, &world.give_back(name(*cell, *turn)?)),
-        ("replace", [cell, turn, n]) => told(alloc, &world.replace(name(*cell, *turn)?, Plain(*n))),
-        ("destroy", [who, cell, turn]) => {
-            told(
-                alloc,
-                &world.defer_destroy(*who as usize, name(*cell, *turn)?),
-            )
-        }
-        _ => of_root(alloc, world, word, numbers),
+/// How a whole call ends.
+fn outcome(world: &mut Jobs, place: usize, numbers: [u64; 3]) -> Outcome {
+    let [who, count, _] = numbers;
+    match place {
+        0 => call(world, who, Op::Pin),
+        1 => call(world, who, Op::Unpin),
+        2 => call(world, who, Op::Flush),
+        3 => call(world, who, Op::Release),
+        4 => world.flush(who as usize),
+        5 => world.repin(who as usize),
+        _ => rounds(world, who, count),
     }
 }
 
-fn of_root(alloc: Global, world: &mut Jobs, word: &str, numbers: &[u64]) -> Result<String, Fail> {
-    let null = Ptr::null();
-    match (word, numbers) {
-        ("load", [root]) => told(alloc, &world.load(*root as usize)),
-        ("store_null", [tag]) => told(
+/// The pointer of a root, or what it was before.
+fn found(world: &mut Jobs, place: usize, numbers: [u64; 3]) -> Result<Ptr, Fault> {
+    let [one, two, three] = numbers;
+    match place {
+        7 => world.load(one as usize),
+        8 => world.swap(0, pointer(one, two, three)),
+        9 => world.fetch_and(0, one as usize),
+        10 => world.fetch_or(0, one as usize),
+        _ => world.fetch_xor(0, one as usize),
+    }
+}
+
+/// Whether a root is written, or jobs are put off.
+fn written(world: &mut Jobs, place: usize, numbers: [u64; 3]) -> Result<(), Fault> {
+    let [one, two, three] = numbers;
+    match place {
+        12 => world.store(0, Ptr::null().with_tag::<Plain>(one as usize)),
+        13 => world.store(0, pointer(one, two, three)),
+        _ => defers(world, one as usize, two),
+    }
+}
+
+/// The answers that are of a kind of their own.
+fn of_others(
+    alloc: Global,
+    world: &mut Jobs,
+    place: usize,
+    numbers: [u64; 3],
+) -> Result<String, Fail> {
+    let [one, two, three] = numbers;
+    let who = one as usize;
+    match place {
+        15 => told(alloc, &world.register()),
+        16 => told(alloc, &world.epoch()),
+        17 => told(alloc, &world.waiting()),
+        18 => told(alloc, &world.defer_unchecked(who, ())),
+        19 => told(alloc, &world.has_place(who)),
+        20 => told(alloc, &world.places(who)),
+        21 => told(alloc, &world.place(Plain(one))),
+        22 => told(alloc, &world.read(name(one, two))),
+        23 => told(alloc, &world.give_back(name(one, two))),
+        24 => told(alloc, &world.replace(name(one, two), Plain(three))),
+        25 => told(alloc, &world.defer_destroy(who, name(two, three))),
+        _ => told(
             alloc,
-            &world.store(0, null.with_tag::<Plain>(*tag as usize)),
+            &world.compare_exchange(0, pointer(one, two, three), Ptr::null()),
         ),
-        ("store", [cell, turn, tag]) => told(alloc, &world.store(0, pointer(*cell, *turn, *tag)?)),
-        ("swap", [cell, turn, tag]) => told(alloc, &world.swap(0, pointer(*cell, *turn, *tag)?)),
-        // Writes null where the root holds the pointer.
-        ("empty", [cell, turn, tag]) => {
-            told(
-                alloc,
-                &world.compare_exchange(0, pointer(*cell, *turn, *tag)?, null),
-            )
-        }
-        ("fetch_and", [tag]) => told(alloc, &world.fetch_and(0, *tag as usize)),
-        ("fetch_or", [tag]) => told(alloc, &world.fetch_or(0, *tag as usize)),
-        ("fetch_xor", [tag]) => told(alloc, &world.fetch_xor(0, *tag as usize)),
-        _ => Err("no question")?,
     }
 }
 
@@ -285,14 +349,20 @@ fn jobs(alloc: Global) -> Result<Jobs, Fault> {
     }
 }
 
+/// The answers to a registration and a pin.
+fn comes(world: &mut Jobs) -> (Result<usize, Fault>, Outcome) {
+    (world.register(), call(world, 0, Op::Pin))
+}
+
 /// A block of 32 bags is made with the first of them, so the others need no memory. The gate runs it with each request for
 /// memory refused in turn as well.
 #[test]
 fn the_first_bag_of_a_block_alone_asks_for_memory(rt: HostRuntime) -> Result<(), Fail> {
     let mut world = jobs(rt.alloc())?;
-    assert_same(&rt, world.register(), Ok(0));
-    assert_same(&rt, call(&mut world, 0, Op::Pin), Outcome::Done);
-    assert!(rt; !refuses_later_bags(&mut world));
+    let came = comes(&mut world);
+    let refuses = refuses_later_bags(&mut world);
+    discard(world);
+    assert_same(&rt, (came, refuses), ((Ok(0), Outcome::Done), false));
     Ok(())
 }
 
@@ -338,11 +408,17 @@ fn jobs_that_find_no_memory_are_put_off_then(rt: HostRuntime) -> Result<(), Fail
         [2177, 2177, 1665, 1153, 641, 129, 0].as_slice(),
     ] {
         let mut world = jobs(rt.alloc())?;
-        assert_same(&rt, world.register(), Ok(0));
-        assert_same(&rt, call(&mut world, 0, Op::Pin), Outcome::Done);
-        assert!(rt; are_deferred(&mut world, left[0]));
-        assert_same(&rt, call(&mut world, 0, Op::Unpin), Outcome::Done);
-        assert!(rt; are_left(&mut world, left));
+        let came = comes(&mut world);
+        let are_deferred = are_deferred(&mut world, left[0]);
+        let unpinned = call(&mut world, 0, Op::Unpin);
+        let are_left = are_left(&mut world, left);
+        discard(world);
+        assert_same(&rt, came, (Ok(0), Outcome::Done));
+        assert_same(
+            &rt,
+            (are_deferred, unpinned, are_left),
+            (true, Outcome::Done, true),
+        );
     }
     Ok(())
 }
@@ -351,7 +427,7 @@ fn jobs_that_find_no_memory_are_put_off_then(rt: HostRuntime) -> Result<(), Fail
 #[test]
 fn a_run_takes_every_step(rt: HostRuntime) -> Result<(), Fail> {
     let mut world: Jobs = World::new(rt.alloc(), ample(1), 1)?;
-    world.register()?;
+    let came = world.register();
     let pin = Step {
         who: 0,
         event: Event::Begin(Op::Pin),
@@ -361,6 +437,9 @@ fn a_run_takes_every_step(rt: HostRuntime) -> Result<(), Fail> {
         event: Event::Go,
     };
     let ran = world.run(rt.alloc(), &[pin, go, go, go, go, go, go, go]);
+    let stands = (came, world.epoch(), world.is_pinned(0));
+    discard(world);
+    assert_same(&rt, stands, (Ok(0), 1, true));
     assert_same(&rt, (ran.done, ran.reports.len()), (8, 8));
     for (number, report) in ran.reports.iter().enumerate() {
         let expected = match number {
@@ -368,26 +447,32 @@ fn a_run_takes_every_step(rt: HostRuntime) -> Result<(), Fail> {
             6 => Outcome::Done,
             _ => Outcome::Refused(Fault::Idle),
         };
-        assert_same(&rt, (number, report.outcome), (number, expected));
-        assert_same(&rt, (number, report.called.is_none()), (number, true));
+        assert_same(
+            &rt,
+            (number, report.outcome, report.called.is_none()),
+            (number, expected, true),
+        );
     }
-    assert!(rt; world.epoch() == 1 && world.is_pinned(0));
     Ok(())
-}
-
-/// How many jobs the end calls; where it is refused, the fault, and whether participant 0 is still registered.
-fn end<J: Task>(world: World<Plain, J>) -> Result<u64, (Fault, bool)> {
-    match world.end() {
-        Ok(called) => Ok(called),
-        Err((fault, world)) => Err((fault, world.is_registered(0))),
-    }
 }
 
 #[test]
 fn the_end_waits_for_everybody(rt: HostRuntime) -> Result<(), Fail> {
     let mut world: Jobs = World::new(rt.alloc(), ample(1), 1)?;
-    world.register()?;
-    assert_same(&rt, end(world), Err((Fault::Registered(1), true)));
+    let came = world.register();
+    let refused = match world.end() {
+        Ok(_called) => None,
+        Err((fault, world)) => {
+            let stays = world.is_registered(0);
+            discard(world);
+            Some((fault, stays))
+        }
+    };
+    assert_same(
+        &rt,
+        (came, refused),
+        (Ok(0), Some((Fault::Registered(1), true))),
+    );
     Ok(())
 }
 
@@ -402,13 +487,6 @@ pub(crate) fn adds(alloc: Global, sum: &Arc<AtomicU64>, number: u64) -> Result<J
     Ok(Job::new(call))
 }
 
-/// A collector with one participant.
-fn with_one(alloc: Global) -> Result<BoxedJobs, Fault> {
-    let mut world = World::new(alloc, ample(1), 1)?;
-    world.register()?;
-    Ok(world)
-}
-
 /// The participant does these calls.
 fn calls(world: &mut BoxedJobs, ops: &[Op]) {
     for op in ops {
@@ -416,30 +494,47 @@ fn calls(world: &mut BoxedJobs, ops: &[Op]) {
     }
 }
 
-#[test]
-fn a_job_runs_its_box(rt: HostRuntime) -> Result<(), Fail> {
-    let sum = Arc::new(rt.alloc(), AtomicU64::new(0))?;
-    let job = adds(rt.alloc(), &sum, 1)?;
-    let mut world = with_one(rt.alloc())?;
-    calls(&mut world, &[Op::Pin, Op::Secure(1), Op::Unpin, Op::Pin]);
-    assert!(rt; world.defer(0, job).is_ok());
-    for _ in 0..4 {
-        calls(&mut world, &[Op::Flush, Op::Unpin, Op::Pin]);
+/// How many jobs the end calls, if it isn't refused.
+fn end(world: BoxedJobs) -> Option<u64> {
+    match world.end() {
+        Ok(called) => Some(called),
+        Err((_fault, _world)) => None,
     }
-    assert_same(&rt, (world.waiting(), sum.load(Ordering::SeqCst)), (0, 1));
-    Ok(())
+}
+
+/// A job is put off under a pin. With rounds it is called by them, and else by the end: how many jobs wait then, how often it was
+/// called, how many the end calls, and how often it was called after that.
+fn put_off(
+    alloc: Global,
+    sum: &Arc<AtomicU64>,
+    with_rounds: bool,
+) -> Result<(u64, u64, Option<u64>, u64), Fail> {
+    let job = adds(alloc, sum, 1)?;
+    let mut world: BoxedJobs = World::new(alloc, ample(1), 1)?;
+    let came = world.register().is_ok();
+    calls(&mut world, &[Op::Pin, Op::Secure(1), Op::Unpin, Op::Pin]);
+    let deferred = world.defer(0, job).is_ok();
+    if with_rounds {
+        for _ in 0..4 {
+            calls(&mut world, &[Op::Flush, Op::Unpin, Op::Pin]);
+        }
+    }
+    calls(&mut world, &[Op::Unpin]);
+    let released = world.release(0) == Outcome::Done;
+    let (waiting, before) = (world.waiting(), sum.load(Ordering::SeqCst));
+    let ended = end(world);
+    if !came || !deferred || !released {
+        return Err("a call that isn't done")?;
+    }
+    Ok((waiting, before, ended, sum.load(Ordering::SeqCst)))
 }
 
 #[test]
-fn the_end_calls_what_is_left(rt: HostRuntime) -> Result<(), Fail> {
-    let sum = Arc::new(rt.alloc(), AtomicU64::new(0))?;
-    let job = adds(rt.alloc(), &sum, 1)?;
-    let mut world = with_one(rt.alloc())?;
-    calls(&mut world, &[Op::Pin]);
-    assert!(rt; world.defer(0, job).is_ok());
-    calls(&mut world, &[Op::Unpin]);
-    assert_same(&rt, world.release(0), Outcome::Done);
-    assert_same(&rt, end(world), Ok(1));
-    assert_same(&rt, sum.load(Ordering::SeqCst), 1);
+fn a_job_runs_its_box(rt: HostRuntime) -> Result<(), Fail> {
+    for (with_rounds, told) in [(true, (0, 1, Some(0), 1)), (false, (1, 0, Some(1), 1))] {
+        let sum = Arc::new(rt.alloc(), AtomicU64::new(0))?;
+        let known = put_off(rt.alloc(), &sum, with_rounds)?;
+        assert_same(&rt, (with_rounds, known), (with_rounds, told));
+    }
     Ok(())
 }

@@ -1,13 +1,14 @@
 //! Two threads on one collector.
 
 use super::face::{
-    Handle, Item, ItemGuard, Under, defer, destroy, limits, rounds, seals, spend, swapped,
+    Handle, Item, ItemGuard, Under, defer, destroy, discard, ended, limits, rounds, seals, spend,
+    swapped,
 };
 use super::machine::adds;
 use crate::tests::asserts::assert_same;
 use crate::tests::threads::threaded::comes;
 use crossbeam_epoch::{Atomic, Collector, Fault, Job, Link, Pointable};
-use std::alloc::{AllocError, Global};
+use std::alloc::Global;
 use std::process::Abort;
 use std::sync::atomic::Ordering::SeqCst;
 use std::sync::atomic::{AtomicBool, AtomicU64};
@@ -28,29 +29,24 @@ fn both_cross<T: Pointable + Drop + Send + Sync>(items: &Collector<T>, root: &At
 #[test]
 fn two_threads_share_an_atomic(rt: HostRuntime) -> Result<(), Fail> {
     let calls = Arc::new(rt.alloc(), AtomicU64::new(0))?;
-    let first = jobs(rt.alloc(), &calls, 1, 256)?;
-    let second = jobs(rt.alloc(), &calls, 1 << 32, 256)?;
     let items: Collector<Item> = Collector::new(&rt, rt.alloc(), limits(8), 1)?;
-    assert!(rt; shares(&rt, rt.alloc(), &items, first, second)?);
+    let told = shares(&rt, rt.alloc(), &items, &calls);
+    discard(items);
     // Byte n counts the calls of job n.
-    assert!(rt; calls.load(SeqCst) == 0x0101_0101_0101_0101);
+    assert_same(
+        &rt,
+        (told, calls.load(SeqCst)),
+        (Ok(true), 0x0101_0101_0101_0101),
+    );
     Ok(())
 }
 
-/// Four jobs; the first adds this unit to the calls, and each further one so many times the unit of the one before.
-fn jobs(
-    alloc: Global,
-    calls: &Arc<AtomicU64>,
-    unit: u64,
-    times: u64,
-) -> Result<Vec<Job>, AllocError> {
-    let mut jobs = Vec::new(alloc);
-    let mut unit = unit;
-    for _ in 0..4 {
-        jobs.push(adds(alloc, calls, unit)?)?;
-        unit = unit.wrapping_mul(times);
+/// A job that adds one to the digit of its number, of so many bits, of the calls.
+fn job(alloc: Global, calls: &Arc<AtomicU64>, number: u32, bits: u32) -> Result<Job, Fault> {
+    match adds(alloc, calls, 1u64.wrapping_shl(number.wrapping_mul(bits))) {
+        Ok(job) => Ok(job),
+        Err(_) => Err(Fault::Memory),
     }
-    Ok(jobs)
 }
 
 /// Whether each load of two threads found a value, and everything is collected afterwards.
@@ -58,36 +54,50 @@ fn shares<R: Threads + Wait + Abort + Sync>(
     rt: &R,
     alloc: Global,
     items: &Collector<Item>,
-    first: Vec<Job>,
-    second: Vec<Job>,
+    calls: &Arc<AtomicU64>,
 ) -> Result<bool, Fault> {
     let root: Atomic<Item> = Atomic::null();
     both_cross(items, &root);
     let swapped = &root;
     let (one, two) = thread::join(
         rt,
-        move || swap_in_turn(rt, alloc, items, swapped, first),
-        move || swap_in_turn(rt, alloc, items, swapped, second),
+        move || swap_in_turn(rt, alloc, items, swapped, calls, 0),
+        move || swap_in_turn(rt, alloc, items, swapped, calls, 4),
     );
     let emptied = empties(rt, alloc, items, &root)?;
     Ok(one? && two? && emptied)
 }
 
-/// For each job, swaps a new value in under a guard, and puts off the job and the destruction of the value before.
-/// Whether each load found a value.
+/// Four jobs from this number on, with a handle of their own. Whether each load found a value.
 fn swap_in_turn<R: Wait + Abort>(
     rt: &R,
     alloc: Global,
     items: &Collector<Item>,
     root: &Atomic<Item>,
-    jobs: Vec<Job>,
+    calls: &Arc<AtomicU64>,
+    first: u32,
 ) -> Result<bool, Fault> {
     let mut handle = items.register(rt)?;
-    let mut found = true;
-    for job in jobs {
-        found &= replaces(rt, alloc, &mut handle, root, job)?;
-    }
+    let found = replace_in_turn(rt, alloc, &mut handle, root, calls, first);
     leaves(rt, handle)?;
+    found
+}
+
+/// For each job, swaps a new value in under a guard, and puts off the job and the destruction of the value before.
+/// Whether each load found a value.
+fn replace_in_turn<R: Wait + Abort>(
+    rt: &R,
+    alloc: Global,
+    handle: &mut Handle<'_>,
+    root: &Atomic<Item>,
+    calls: &Arc<AtomicU64>,
+    first: u32,
+) -> Result<bool, Fault> {
+    let mut found = true;
+    for number in 0..4u32 {
+        let job = job(alloc, calls, first.wrapping_add(number), 8)?;
+        found &= replaces(rt, alloc, handle, root, job)?;
+    }
     Ok(found)
 }
 
@@ -155,11 +165,20 @@ fn empties<R: Wait + Abort>(
     root: &Atomic<Item>,
 ) -> Result<bool, Fault> {
     let mut handle = items.register(rt)?;
-    drops_last(rt, &mut handle, root)?;
-    rounds(rt, &mut handle, 8)?;
-    let vacant = fills_all(rt, alloc, &mut handle)?;
+    let emptied = empties_by(rt, alloc, &mut handle, root);
     leaves(rt, handle)?;
-    Ok(vacant)
+    emptied
+}
+
+fn empties_by<R: Wait + Abort>(
+    rt: &R,
+    alloc: Global,
+    handle: &mut Handle<'_>,
+    root: &Atomic<Item>,
+) -> Result<bool, Fault> {
+    drops_last(rt, handle, root)?;
+    rounds(rt, handle, 8)?;
+    fills_all(rt, alloc, handle)
 }
 
 /// Puts off the destruction of the value that the pointer leads to, which becomes null.
@@ -194,13 +213,6 @@ fn fills_all<R: Wait + Abort>(
     Ok(vacant)
 }
 
-#[test]
-fn two_pinned_at_once(rt: HostRuntime) -> Result<(), Fail> {
-    let items: Collector<Item> = Collector::new(&rt, rt.alloc(), limits(1), 1)?;
-    assert_same(&rt, pins_in_two_threads(&rt, &items)?, (true, true));
-    Ok(())
-}
-
 /// What a thread tells another: that it is there, and that it has pinned.
 #[derive(Drop)]
 struct Flags {
@@ -219,7 +231,7 @@ impl Flags {
 }
 
 /// Two threads pin, each with a handle of its own. Whether each one, pinned, saw that the other was pinned too.
-fn pins_in_two_threads<R: Threads + Wait + Abort + Sync>(
+pub fn pins_in_two_threads<R: Threads + Wait + Abort + Sync>(
     rt: &R,
     items: &Collector<Item>,
 ) -> Result<(bool, bool), Fault> {
@@ -245,11 +257,21 @@ fn meets<R: Wait + Abort>(
     mine.here.store(true, SeqCst);
     waits(rt, &other.here);
     let mut handle = items.register(rt)?;
+    let met = meets_by(rt, &mut handle, mine, other);
+    leaves(rt, handle)?;
+    met
+}
+
+fn meets_by<R: Abort>(
+    rt: &R,
+    handle: &mut Handle<'_>,
+    mine: &Flags,
+    other: &Flags,
+) -> Result<bool, Fault> {
     let guard = handle.pin()?;
     mine.pinned.store(true, SeqCst);
     let met = comes(&other.pinned, 10_000);
-    spend(rt, &mut handle, guard);
-    leaves(rt, handle)?;
+    spend(rt, handle, guard);
     Ok(met)
 }
 
@@ -266,31 +288,31 @@ fn waits<R: Wait + Abort>(rt: &R, flag: &AtomicBool) {
 #[test]
 fn four_threads_take_turns_at_two_places(rt: HostRuntime) -> Result<(), Fail> {
     let calls = Arc::new(rt.alloc(), AtomicU64::new(0))?;
-    let first = jobs(rt.alloc(), &calls, 1, 16)?;
-    let second = jobs(rt.alloc(), &calls, 1 << 16, 16)?;
-    let third = jobs(rt.alloc(), &calls, 1 << 32, 16)?;
-    let fourth = jobs(rt.alloc(), &calls, 1 << 48, 16)?;
     let mut places = limits(1);
     places.participants = 2;
     let items: Collector<Item> = Collector::new(&rt, rt.alloc(), places, 1)?;
-    four_take_turns(&rt, &items, (first, second), (third, fourth))?;
-    assert!(rt; items.end().is_ok());
+    let gone = four_take_turns(&rt, rt.alloc(), &items, &calls);
+    let refused = ended(items);
     // Hexadecimal digit n counts the calls of job n.
-    assert!(rt; calls.load(SeqCst) == 0x1111_1111_1111_1111);
+    assert_same(
+        &rt,
+        (gone, refused, calls.load(SeqCst)),
+        (Ok(()), None, 0x1111_1111_1111_1111),
+    );
     Ok(())
 }
 
-/// `take_turns` in four threads at once.
+/// `take_turns` in four threads at once, each with four jobs.
 fn four_take_turns<R: Threads + Wait + Abort + Sync>(
     rt: &R,
+    alloc: Global,
     items: &Collector<Item>,
-    one: (Vec<Job>, Vec<Job>),
-    two: (Vec<Job>, Vec<Job>),
+    calls: &Arc<AtomicU64>,
 ) -> Result<(), Fault> {
     let (first, second) = thread::join(
         rt,
-        move || two_take_turns(rt, items, one.0, one.1),
-        move || two_take_turns(rt, items, two.0, two.1),
+        move || two_take_turns(rt, alloc, items, calls, 0),
+        move || two_take_turns(rt, alloc, items, calls, 8),
     );
     first?;
     second
@@ -299,29 +321,36 @@ fn four_take_turns<R: Threads + Wait + Abort + Sync>(
 /// `take_turns` in two threads at once.
 fn two_take_turns<R: Threads + Wait + Abort + Sync>(
     rt: &R,
+    alloc: Global,
     items: &Collector<Item>,
-    one: Vec<Job>,
-    two: Vec<Job>,
+    calls: &Arc<AtomicU64>,
+    number: u32,
 ) -> Result<(), Fault> {
     let (first, second) = thread::join(
         rt,
-        move || take_turns(rt, items, one),
-        move || take_turns(rt, items, two),
+        move || take_turns(rt, alloc, items, calls, number),
+        move || take_turns(rt, alloc, items, calls, number.wrapping_add(4)),
     );
     first?;
     second
 }
 
-/// For each job, waits for a free place, defers the job under a guard, collects, and leaves.
+/// For each of four jobs from this number on, waits for a free place, defers the job under a guard, collects, and leaves.
 fn take_turns<R: Wait + Abort>(
     rt: &R,
+    alloc: Global,
     items: &Collector<Item>,
-    jobs: Vec<Job>,
+    calls: &Arc<AtomicU64>,
+    first: u32,
 ) -> Result<(), Fault> {
-    for job in jobs {
+    for number in 0..4u32 {
         let mut handle = place_of_its_own(rt, items)?;
-        seals(rt, &mut handle, job)?;
+        let sealed = match job(alloc, calls, first.wrapping_add(number), 4) {
+            Ok(job) => seals(rt, &mut handle, job),
+            Err(fault) => Err(fault),
+        };
         leaves(rt, handle)?;
+        sealed?;
     }
     Ok(())
 }

@@ -32,27 +32,25 @@ fn each_case() -> [Entry<u64>; 13] {
 }
 
 #[test]
-fn finds_the_first_wrong_place(rt: HostRuntime) -> Result<(), Fail> {
+fn finds_the_first_wrong_place(rt: HostRuntime) {
     let journal = [
         entry(Call::Insert(1, 2), Reply::Insert(None)),
         entry(Call::Get(1), Reply::Get(Some(2))),
         entry(Call::Get(1), Reply::Get(None)),
     ];
-    assert_same(&rt, check(rt.alloc(), &journal)?, Verdict::Wrong(2));
-    assert_same(&rt, check(rt.alloc(), &journal[..2])?, Verdict::Legal);
-    assert_same(&rt, check(rt.alloc(), &[])?, Verdict::Legal);
-    Ok(())
+    assert_same(&rt, check(rt.alloc(), &journal), Ok(Verdict::Wrong(2)));
+    assert_same(&rt, check(rt.alloc(), &journal[..2]), Ok(Verdict::Legal));
+    assert_same(&rt, check(rt.alloc(), &[]), Ok(Verdict::Legal));
 }
 
 #[test]
-fn accepts_each_case_and_takes_no_reply_for_another(rt: HostRuntime) -> Result<(), Fail> {
+fn accepts_each_case_and_takes_no_reply_for_another(rt: HostRuntime) {
     let mut journal = each_case();
-    assert_same(&rt, check(rt.alloc(), &journal)?, Verdict::Legal);
+    assert_same(&rt, check(rt.alloc(), &journal), Ok(Verdict::Legal));
     journal[6].reply = Reply::Exchange(Err(Some(5)));
-    assert_same(&rt, check(rt.alloc(), &journal)?, Verdict::Wrong(6));
+    assert_same(&rt, check(rt.alloc(), &journal), Ok(Verdict::Wrong(6)));
     journal[0].reply = Reply::Insert(None);
-    assert_same(&rt, check(rt.alloc(), &journal)?, Verdict::Wrong(0));
-    Ok(())
+    assert_same(&rt, check(rt.alloc(), &journal), Ok(Verdict::Wrong(0)));
 }
 
 // A copy of a payload, and whether it is known to be the payload.
@@ -97,17 +95,19 @@ fn looked_up(worker: u32, key: u64) -> Entry<u64> {
     }
 }
 
+// The second worker has no list, an entry is missing, and two stand the other way round.
 #[test]
 fn audits_what_each_worker_keeps(rt: HostRuntime) -> Result<(), Fail> {
     let alloc = rt.alloc();
     let (first, second, third) = (looked_up(0, 1), looked_up(1, 1), looked_up(0, 2));
     let journal = [first, second, third];
     let own = [vec![in alloc; first, third]?, vec![in alloc; second]?];
-    assert!(rt; audit(&journal, &own));
-    assert!(rt; audit(&[], &[]));
-    // The second worker has no list, an entry is missing, and two stand the other way round.
-    assert!(rt; !audit(&journal, &own[..1]));
-    assert!(rt; !audit(&journal[..2], &own));
-    assert!(rt; !audit(&[third, second, first], &own));
+    let kept = (audit(&journal, &own), audit(&[], &[]));
+    let others = (
+        audit(&journal, &own[..1]),
+        audit(&journal[..2], &own),
+        audit(&[third, second, first], &own),
+    );
+    assert_same(&rt, (kept, others), ((true, true), (false, false, false)));
     Ok(())
 }

@@ -12,7 +12,7 @@
 //! | `quiet` | both workers, who are pinned, unpin, worker 0 does three rounds, and they pin |
 //! | `begin 0 get 1` | a worker begins a call |
 //! | `go 0 5`, `mute 0 5`, `fail 0` | so many steps of it, whose closure takes values out; the same without an answer; one whose exchange fails |
-//! | `answer 0 7`, `lied 0 7`, `lied 0 900 7` | a step whose closure answers 7; one that sees the value 7, or the node in cell 900 of turn 7 |
+//! | `answer 0 7`, `lied 0 7`, `lied 0 900 7` | a step whose closure answers 7; one that sees the value 7, or the node in cell 900 of turn 7, which isn't 0 |
 //! | `call 0 get 1`, `get 1` | a whole call of a worker; one on a key of worker 0 |
 //! | `call 0 range 1 4 2` | a whole scan, of which the three places are told into which its pairs are put |
 //! | `count 0 get 1` | a call, step by step: how many steps of the collector and of the tree it took |
@@ -20,12 +20,16 @@
 
 use super::lies::{Sight, noise_of};
 use super::told::{Standing, Told, state, takes};
-use super::{Index, answer_of, beginning, going, is_done, noise, op_of, registering, whole};
-use crate::tests::texts::{array, call_of, named, numbers, part};
+use super::{
+    Index, answer_of, beginning, discard, going, is_done, noise, op_of, registering, whole,
+};
+use crate::tests::asserts::assert_same;
+use crate::tests::texts::{array, call_of, named, part, small};
 use congee::{Limited, Noise};
 use joint::{Id, Limits, Op, Refusal, World};
 use judge::Reply;
-use std::alloc::{AllocError, Global};
+use std::alloc::Global;
+use std::process::Abort;
 use std::test::Fail;
 
 /// What limits an index, the bytes that it may take, and how many of its workers are pinned.
@@ -34,11 +38,6 @@ pub struct Bounds {
     pub limits: Limits,
     bytes: u64,
     pinned: u32,
-}
-
-/// A number that is small, as each count of a text is.
-fn small(number: u64) -> u32 {
-    number.min(u64::from(u32::MAX)) as u32
 }
 
 impl Bounds {
@@ -129,65 +128,12 @@ const PIN: [Op<u64>; 2] = [Op::Pin, Op::Unpin];
 
 const ROUND: [Op<u64>; 3] = [Op::Pin, Op::Flush, Op::Unpin];
 
-/// Calls of workers, one after another.
-type Calls = Vec<(u32, Op<u64>)>;
-
-/// The calls that a turn of many stands for.
-fn calls_of(alloc: Global, word: &str, numbers: &[u64]) -> Result<Calls, Fail> {
-    let mut calls = Vec::new(alloc);
-    match (word, numbers) {
-        ("keys", keys) => {
-            for key in keys {
-                calls.push((0, Op::Insert(*key, *key)))?;
-            }
-        }
-        ("puts", [first, count, distance]) => {
-            for place in 0..*count {
-                let key = first.wrapping_add(place.wrapping_mul(*distance));
-                calls.push((0, Op::Insert(key, key)))?;
-            }
-        }
-        ("takes", [first, count, distance]) => {
-            for place in 0..*count {
-                let key = first.wrapping_add(place.wrapping_mul(*distance));
-                calls.push((0, Op::Remove(key)))?;
-            }
-        }
-        ("cycles", [worker, count]) => push_often(&mut calls, *worker, *count, &CYCLE)?,
-        ("pins", [worker, count]) => push_often(&mut calls, *worker, *count, &PIN)?,
-        ("rounds", [worker, count]) => push_often(&mut calls, *worker, *count, &ROUND)?,
-        ("quiet", []) => {
-            push_often(&mut calls, 0, 1, &[Op::Unpin])?;
-            push_often(&mut calls, 1, 1, &[Op::Unpin])?;
-            push_often(&mut calls, 0, 3, &ROUND)?;
-            push_often(&mut calls, 0, 1, &[Op::Pin])?;
-            push_often(&mut calls, 1, 1, &[Op::Pin])?
-        }
-        _ => return Err("no turn")?,
-    }
-    Ok(calls)
-}
-
-/// So many times these calls of a worker.
-fn push_often(
-    calls: &mut Calls,
-    worker: u64,
-    count: u64,
-    ops: &[Op<u64>],
-) -> Result<(), AllocError> {
-    for _ in 0..count {
-        for op in ops {
-            calls.push((small(worker), *op))?;
-        }
-    }
-    Ok(())
-}
-
 /// An index, and what is told of it.
-#[derive(Drop)]
 pub struct Bench {
     pub index: Index,
-    pub told: String,
+    told: String,
+    /// What is told of a turn.
+    text: String,
     /// Steps taken.
     steps: u32,
     /// What was charged and what waited when that was told last.
@@ -201,14 +147,46 @@ impl Bench {
         let mut bench = Bench {
             index,
             told: String::new(alloc),
+            text: String::new(alloc),
             steps: 0,
             state: (0, 0),
         };
-        bench.play(alloc, before)?;
-        bench.changed(alloc)?;
-        bench.told.clear();
-        bench.steps = 0;
-        Ok(bench)
+        match bench.begin(alloc, before) {
+            Ok(()) => Ok(bench),
+            Err(fail) => {
+                let _told = bench.end();
+                Err(fail)
+            }
+        }
+    }
+
+    /// These turns, of which nothing is told.
+    fn begin(&mut self, alloc: Global, turns: &str) -> Result<(), Fail> {
+        self.play(alloc, turns)?;
+        self.changed(alloc)?;
+        self.text.clear();
+        self.told.clear();
+        self.steps = 0;
+        Ok(())
+    }
+
+    /// The index, and what was told of it.
+    pub fn parted(self) -> (Index, String) {
+        let Bench {
+            index,
+            told,
+            text: _,
+            steps: _,
+            state: _,
+        } = self;
+        (index, told)
+    }
+
+    /// What was told of the index, which goes.
+    pub fn end(self) -> String {
+        let (index, told) = self.parted();
+        discard(index);
+        told
     }
 
     /// These turns.
@@ -226,12 +204,13 @@ impl Bench {
             "begin" | "call" | "count" => self.ask(alloc, word, rest),
             "go" | "mute" | "fail" | "answer" | "lied" => self.step_on(alloc, word, rest),
             "keys" | "puts" | "takes" | "cycles" | "pins" | "rounds" | "quiet" => {
-                let calls = calls_of(alloc, word, &numbers(alloc, rest)?)?;
-                self.call_all(alloc, &calls)
+                self.call_all(alloc, word, rest)
             }
             "state" => {
                 let (charged, waiting, bytes) = state(&self.index);
-                self.tell(&format!(in alloc; "{charged} {waiting} {bytes}")?)
+                self.text
+                    .push_str(&format!(in alloc; "{charged} {waiting} {bytes}")?)?;
+                self.tell("")
             }
             _ => self.call(alloc, 0, asked(alloc, turn)?),
         }
@@ -257,13 +236,12 @@ impl Bench {
         let mut places = [(0, 0); 3];
         let outcome = whole(&mut self.index, worker, op, answer, &mut places);
         let standing = Standing::of(outcome);
-        let mut text = String::new(alloc);
-        push_standing(alloc, &mut text, standing)?;
-        text.push_str(&self.changed(alloc)?)?;
+        self.stand(alloc, standing)?;
+        self.changed(alloc)?;
         if let Standing::Scanned(_) = standing {
-            text.push_str(&format!(in alloc; " {places:?}")?)?;
+            self.text.push_str(&format!(in alloc; " {places:?}")?)?;
         }
-        self.tell(&text)
+        self.tell("")
     }
 
     /// A whole call, step by step.
@@ -283,53 +261,106 @@ impl Bench {
             tree,
             ..
         } = counts;
-        let mut text = format!(in alloc; "{collector}+{tree}")?;
-        counts.push(alloc, &mut text)?;
-        text.push_str(&self.changed(alloc)?)?;
-        push_standing(alloc, &mut text, told.standing)?;
-        self.tell(&text)
+        self.text
+            .push_str(&format!(in alloc; "{collector}+{tree}")?)?;
+        self.push(alloc, counts)?;
+        self.changed(alloc)?;
+        self.stand(alloc, told.standing)?;
+        self.tell("")
     }
 
     /// Calls of which an insertion finds nothing, a removal something, and each other one is done.
-    fn call_all(&mut self, alloc: Global, calls: &[(u32, Op<u64>)]) -> Result<(), Fail> {
-        for (worker, op) in calls {
-            let outcome = whole(&mut self.index, *worker, *op, None, &mut []);
-            if !matches!(
-                Standing::of(outcome),
-                Standing::Unit
-                    | Standing::Replied(Reply::Insert(None))
-                    | Standing::Replied(Reply::Remove(Some(_)))
-            ) {
-                return Err("a call that isn't done")?;
+    fn call_all(&mut self, alloc: Global, word: &str, rest: &str) -> Result<(), Fail> {
+        let are_done = if word == "keys" {
+            self.put_keys(rest)?
+        } else {
+            let [first, count, distance] = array::<3>(rest)?;
+            match word {
+                "puts" => self.each(first, count, distance, true),
+                "takes" => self.each(first, count, distance, false),
+                "cycles" => self.often(first, count, &CYCLE),
+                "pins" => self.often(first, count, &PIN),
+                "rounds" => self.often(first, count, &ROUND),
+                _ => self.quiet(),
+            }
+        };
+        if !are_done {
+            return Err("a call that isn't done")?;
+        }
+        self.changed(alloc)?;
+        self.tell("")
+    }
+
+    fn put_keys(&mut self, keys: &str) -> Result<bool, Fail> {
+        let mut are_done = true;
+        for word in keys.split_whitespace() {
+            are_done &= self.each(word.parse::<u64>()?, 1, 1, true);
+        }
+        Ok(are_done)
+    }
+
+    /// Puts so many keys there, or takes them out.
+    fn each(&mut self, first: u64, count: u64, distance: u64, puts: bool) -> bool {
+        let mut are_done = true;
+        for place in 0..count {
+            let key = first.wrapping_add(place.wrapping_mul(distance));
+            are_done &= if puts {
+                self.does(0, Op::Insert(key, key))
+            } else {
+                self.does(0, Op::Remove(key))
+            };
+        }
+        are_done
+    }
+
+    /// So many times these calls of a worker.
+    fn often(&mut self, worker: u64, count: u64, ops: &[Op<u64>]) -> bool {
+        let mut are_done = true;
+        for _ in 0..count {
+            for op in ops {
+                are_done &= self.does(small(worker), *op);
             }
         }
-        let changed = self.changed(alloc)?;
-        self.tell(&changed)
+        are_done
+    }
+
+    fn quiet(&mut self) -> bool {
+        let [pin, unpin] = PIN;
+        self.does(0, unpin)
+            && self.does(1, unpin)
+            && self.often(0, 3, &ROUND)
+            && self.does(0, pin)
+            && self.does(1, pin)
+    }
+
+    fn does(&mut self, worker: u32, op: Op<u64>) -> bool {
+        let outcome = whole(&mut self.index, worker, op, None, &mut []);
+        matches!(
+            Standing::of(outcome),
+            Standing::Unit
+                | Standing::Replied(Reply::Insert(None))
+                | Standing::Replied(Reply::Remove(Some(_)))
+        )
     }
 
     /// Steps of a worker's call.
     fn step_on(&mut self, alloc: Global, word: &str, rest: &str) -> Result<(), Fail> {
-        let numbers = numbers(alloc, rest)?;
-        let (worker, numbers) = numbers.split_first().ok_or("no worker")?;
+        let [worker, one, two] = array::<3>(rest)?;
         let out = Some(None);
-        let (count, fail, sight, answer) = match (word, numbers) {
-            ("go", [count]) => (*count, false, None, out),
-            ("mute", [count]) => (*count, false, None, None),
-            ("answer", [value]) => (1, false, None, Some(Some(*value))),
-            ("fail", []) => (1, true, None, out),
-            ("lied", [value]) => (1, false, Some(Sight::Value(*value)), None),
-            ("lied", [cell, turn]) => {
-                let sight = Sight::Node(small(*cell), small(*turn));
-                (1, false, Some(sight), None)
-            }
-            _ => return Err("no turn")?,
+        let (count, fail, sight, answer) = match word {
+            "go" => (one, false, None, out),
+            "mute" => (one, false, None, None),
+            "answer" => (1, false, None, Some(Some(one))),
+            "fail" => (1, true, None, out),
+            _ if two == 0 => (1, false, Some(Sight::Value(one)), None),
+            _ => (1, false, Some(Sight::Node(small(one), small(two))), None),
+        };
+        let lie = match sight {
+            Some(sight) => Some((sight, 200, false, 1)),
+            None => None,
         };
         for _ in 0..count {
-            let lie = match sight {
-                Some(sight) => Some((sight, 200, false, 1)),
-                None => None,
-            };
-            self.step(alloc, small(*worker), noise_of(fail, lie, answer))?;
+            self.step(alloc, small(worker), noise_of(fail, lie, answer))?;
         }
         Ok(())
     }
@@ -340,35 +371,68 @@ impl Bench {
         let told = takes(&mut self.index, going(worker, noise));
         let mut counts = Counts::default();
         counts.add(told);
-        let mut text = String::new(alloc);
-        counts.push(alloc, &mut text)?;
-        text.push_str(&self.changed(alloc)?)?;
-        push_standing(alloc, &mut text, told.standing)?;
-        if text.is_empty() {
+        self.push(alloc, counts)?;
+        self.changed(alloc)?;
+        self.stand(alloc, told.standing)?;
+        if self.text.is_empty() {
             return Ok(());
         }
         let steps = self.steps;
-        self.tell(&format!(in alloc; "{steps}{text}")?)
+        self.tell(&format!(in alloc; "{steps} ")?)
     }
 
-    /// What is charged and waits, where that is another than before.
-    fn changed(&mut self, alloc: Global) -> Result<String, Fail> {
+    /// Adds a word for each time.
+    fn push(&mut self, alloc: Global, counts: Counts) -> Result<(), Fail> {
+        for (count, word) in [
+            (counts.decided, " decided"),
+            (counts.kept, " kept"),
+            (counts.skipped, " skipped"),
+        ] {
+            for _ in 0..count {
+                self.text.push_str(word)?;
+            }
+        }
+        if counts.destroyed > 0 {
+            let destroyed = counts.destroyed;
+            self.text
+                .push_str(&format!(in alloc; " back {destroyed}")?)?;
+        }
+        Ok(())
+    }
+
+    /// Adds how a call stands that does more than go on, and is not done without an answer.
+    fn stand(&mut self, alloc: Global, standing: Standing) -> Result<(), Fail> {
+        match standing {
+            Standing::Running | Standing::Unit => Ok(()),
+            _ => Ok(self.text.push_str(&format!(in alloc; " {standing:?}")?)?),
+        }
+    }
+
+    /// Adds what is charged and waits, where that is another than before.
+    fn changed(&mut self, alloc: Global) -> Result<(), Fail> {
         let (charged, waiting, _) = state(&self.index);
         if (charged, waiting) == self.state {
-            return Ok(String::new(alloc));
+            return Ok(());
         }
         self.state = (charged, waiting);
-        Ok(format!(in alloc; " {charged} {waiting}")?)
+        Ok(
+            self.text
+                .push_str(&format!(in alloc; " {charged} {waiting}")?)?,
+        )
     }
 
-    fn tell(&mut self, text: &str) -> Result<(), Fail> {
-        if text.is_empty() {
+    /// Tells what there is of a turn, behind this.
+    fn tell(&mut self, head: &str) -> Result<(), Fail> {
+        if self.text.is_empty() {
             return Ok(());
         }
         if !self.told.is_empty() {
             self.told.push_str(", ")?;
         }
-        Ok(self.told.push_str(text.trim())?)
+        self.told.push_str(head)?;
+        self.told.push_str(self.text.trim())?;
+        self.text.clear();
+        Ok(())
     }
 }
 
@@ -393,51 +457,26 @@ impl Counts {
         self.skipped = self.skipped.saturating_add(u32::from(told.skipped));
         self.destroyed = self.destroyed.saturating_add(told.destroyed);
     }
+}
 
-    /// A word for each time.
-    fn push(&self, alloc: Global, text: &mut String) -> Result<(), Fail> {
-        for (count, word) in [
-            (self.decided, " decided"),
-            (self.kept, " kept"),
-            (self.skipped, " skipped"),
-        ] {
-            for _ in 0..count {
-                text.push_str(word)?;
-            }
-        }
-        if self.destroyed > 0 {
-            text.push_str(&format!(in alloc; " back {}", self.destroyed)?)?;
-        }
-        Ok(())
+/// What turns tell on an index with these bounds, and with those turns before them.
+pub fn told_by(alloc: Global, bounds: &str, before: &str, turns: &str) -> Result<String, Fail> {
+    let mut bench = Bench::of(alloc, bounds, before)?;
+    let played = bench.play(alloc, turns);
+    let told = bench.end();
+    match played {
+        Ok(()) => Ok(told),
+        Err(fail) => Err(fail),
     }
 }
 
-/// How a call stands that does more than go on, and is not done without an answer.
-fn push_standing(alloc: Global, text: &mut String, standing: Standing) -> Result<(), Fail> {
-    match standing {
-        Standing::Running | Standing::Unit => Ok(()),
-        _ => Ok(text.push_str(&format!(in alloc; " {standing:?}")?)?),
-    }
-}
-
-/// What the turns of a table's line tell.
-fn told_by(alloc: Global, text: &str) -> Result<String, Fail> {
-    let mut bench = Bench::of(alloc, part(text, 0), part(text, 1))?;
-    let played = bench.play(alloc, part(text, 2));
-    let Bench { told, .. } = bench;
-    played?;
-    Ok(told)
-}
-
-/// The first line of a table whose turns tell something else than it has, with what they tell; nothing where there is none. A line
-/// has a name, the bounds, what comes before, turns, and what they tell.
-pub fn first_unlike(alloc: Global, table: &[&'static str]) -> Result<String, Fail> {
+/// The turns of each line of a table tell what it has. A line has a name, the bounds, what comes before, turns, and what they
+/// tell.
+pub fn are_told<R: Abort>(rt: &R, alloc: Global, table: &[&'static str]) -> Result<(), Fail> {
     for line in table {
         let (name, text) = named(*line)?;
-        let told = told_by(alloc, text)?;
-        if told.as_str() != part(text, 3) {
-            return Ok(format!(in alloc; "{name}: {told}")?);
-        }
+        let told = told_by(alloc, part(text, 0), part(text, 1), part(text, 2))?;
+        assert_same(rt, (name, told.as_str()), (name, part(text, 3)));
     }
-    Ok(String::new(alloc))
+    Ok(())
 }

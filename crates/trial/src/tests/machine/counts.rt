@@ -1,6 +1,6 @@
 //! How many steps a call takes, what they tell, and how many rounds it takes until memory comes back.
 
-use super::bench::{Bench, first_unlike};
+use super::bench::{Bench, are_told, told_by};
 use super::told::state;
 use crate::tests::asserts::assert_same;
 use std::alloc::Global;
@@ -94,9 +94,8 @@ const WHOLE_CALLS: [(&str, &str); 9] = [
 fn calls_are_short(rt: HostRuntime) -> Result<(), Fail> {
     for table in [POINT_CALLS.as_slice(), WHOLE_CALLS.as_slice()] {
         for (turns, told) in table {
-            let mut bench = Bench::of(rt.alloc(), "cells 200, pinned 1", EIGHT_LEVELS)?;
-            bench.play(rt.alloc(), *turns)?;
-            assert_same(&rt, (turns, bench.told.as_str()), (turns, *told));
+            let found = told_by(rt.alloc(), "cells 200, pinned 1", EIGHT_LEVELS, *turns)?;
+            assert_same(&rt, (turns, found.as_str()), (turns, *told));
         }
     }
     Ok(())
@@ -121,8 +120,7 @@ const REPORTS: [&str; 3] = [
 
 #[test]
 fn steps_tell_what_they_did(rt: HostRuntime) -> Result<(), Fail> {
-    assert_same(&rt, first_unlike(rt.alloc(), &REPORTS)?.as_str(), "");
-    Ok(())
+    are_told(&rt, rt.alloc(), &REPORTS)
 }
 
 /// A call wants as many steps at most as there are places, and 530. A bag is queued with 63 nodes, since a writing call wants two
@@ -144,8 +142,7 @@ const ROUNDS: [&str; 2] = [
 
 #[test]
 fn bags_come_back_in_rounds(rt: HostRuntime) -> Result<(), Fail> {
-    assert_same(&rt, first_unlike(rt.alloc(), &ROUNDS)?.as_str(), "");
-    Ok(())
+    are_told(&rt, rt.alloc(), &ROUNDS)
 }
 
 /// An index whose one worker, pinned after so many pins, has removed a leaf for each of so many bags, and has queued all of
@@ -162,6 +159,12 @@ fn with_bags(alloc: Global, pins: u32, bags: u32) -> Result<Bench, Fail> {
 /// How many nodes wait then, and how many rounds it takes until none does, the one of this flush among them.
 fn rounds_of(alloc: Global, pins: u32, bags: u32) -> Result<(u64, u64), Fail> {
     let mut bench = with_bags(alloc, pins, bags)?;
+    let counted = counted(alloc, &mut bench);
+    let _told = bench.end();
+    counted
+}
+
+fn counted(alloc: Global, bench: &mut Bench) -> Result<(u64, u64), Fail> {
     let waiting = state(&bench.index).1;
     bench.play(alloc, "call 0 unpin")?;
     for rounds in 1..100 {

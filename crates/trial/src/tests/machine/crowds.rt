@@ -7,7 +7,8 @@ use super::flights::entry;
 use super::lies::{Sight, noise_of};
 use super::told::{Standing, Told, state, takes};
 use super::{
-    Index, are_rounds_done, beginning, call, going, is_done, noise, op_of, registering, whole,
+    Index, are_rounds_done, beginning, call, discard, going, is_done, noise, op_of, registering,
+    whole,
 };
 use crate::tests::asserts::assert_same;
 use congee::{Limited, NodeStats, Noise};
@@ -44,7 +45,6 @@ const FREE: Seat = Seat {
 
 /// An index with a journal, the calls of its workers, and the entries that their steps told, in the order in which they
 /// took effect.
-#[derive(Drop)]
 struct Crowd {
     index: Index,
     seats: [Seat; 4],
@@ -367,7 +367,13 @@ fn wrong_of(alloc: Global, crowd: &mut Crowd) -> Result<Option<&'static str>, Al
 fn first_wrong(alloc: Global, seed: u64) -> Result<Option<&'static str>, Fail> {
     let mut crowd = Crowd::opened(alloc, seed)?;
     let wrong = wrong_of(alloc, &mut crowd);
-    drop(crowd);
+    let Crowd {
+        index,
+        seats: _,
+        told: _,
+        number: _,
+    } = crowd;
+    discard(index);
     Ok(wrong?)
 }
 

@@ -1,6 +1,6 @@
 //! Nodes that shrink with what they hold: down through all forms, and no further node where a key comes and goes at the same count.
 
-use super::bench::{Bench, first_unlike};
+use super::bench::{Bench, are_told};
 use super::drawn::number_in;
 use super::told::{state, takes};
 use super::{Index, beginning, going, noise, op_of};
@@ -23,8 +23,7 @@ const DOWN: [&str; 2] = [
 
 #[test]
 fn nodes_go_down_through_all_forms(rt: HostRuntime) -> Result<(), Fail> {
-    assert_same(&rt, first_unlike(rt.alloc(), &DOWN)?.as_str(), "");
-    Ok(())
+    are_told(&rt, rt.alloc(), &DOWN)
 }
 
 /// So many values or leaves in a node, and at most as many before; the distance of their keys; and how many nodes each further
@@ -91,6 +90,7 @@ fn a_growth_and_a_shrink_do_not_alternate(rt: HostRuntime) -> Result<(), Fail> {
     for (count, most, distance, leaves) in COUNTS {
         let (mut bench, key) = alternating(rt.alloc(), count, most, distance)?;
         let stays = stays(&mut bench.index, key, leaves, times.into());
+        let _told = bench.end();
         assert_same(&rt, (count, distance, stays), (count, distance, true));
     }
     Ok(())

@@ -1,6 +1,7 @@
 //! `joint`: limits that no script names, the turns of a cell and the epoch; and values of which there is no copy.
 
-use super::bench::{Bench, Bounds, first_unlike};
+use super::bench::{Bench, Bounds, are_told};
+use super::discard;
 use crate::tests::asserts::assert_same;
 use congee::{Allocator, Limited, NoDrain, Payload, Small};
 use joint::{Done, Event, Limits, Op, Outcome, Refusal, Step, World};
@@ -23,8 +24,14 @@ const LIMITS: [(&str, Option<Refusal>); 6] = [
 #[test]
 fn limits_out_of_their_ranges_open_no_index(rt: HostRuntime) -> Result<(), Fail> {
     for (text, cause) in LIMITS {
-        let opened = Bounds::of(text)?.open(rt.alloc());
-        assert_same(&rt, (text, opened.err()), (text, cause));
+        let refused = match Bounds::of(text)?.open(rt.alloc()) {
+            Ok(index) => {
+                discard(index);
+                None
+            }
+            Err(refusal) => Some(refusal),
+        };
+        assert_same(&rt, (text, refused), (text, cause));
     }
     Ok(())
 }
@@ -40,8 +47,7 @@ const TURNS: [&str; 2] = [
 
 #[test]
 fn a_cell_is_used_for_as_many_nodes_as_it_has_turns(rt: HostRuntime) -> Result<(), Fail> {
-    assert_same(&rt, first_unlike(rt.alloc(), &TURNS)?.as_str(), "");
-    Ok(())
+    are_told(&rt, rt.alloc(), &TURNS)
 }
 
 /// Three rounds bring the epoch to its greatest, 3, and no node that is removed then is destroyed before the close.
@@ -49,14 +55,17 @@ fn a_cell_is_used_for_as_many_nodes_as_it_has_turns(rt: HostRuntime) -> Result<(
 fn what_waits_at_the_greatest_epoch_goes_at_the_close(rt: HostRuntime) -> Result<(), Fail> {
     let before = "rounds 0 3, call 0 pin, insert 1 1, remove 1, call 0 unpin, rounds 0 10";
     let mut bench = Bench::of(rt.alloc(), "workers 1, pinned 0, epoch 3", before)?;
-    bench.play(rt.alloc(), "state, call 0 release")?;
-    assert_same(&rt, bench.told.as_str(), "2168 1 64");
-    let Bench { index, .. } = bench;
-    match index.close(NoDrain) {
-        Ok((allocator, _)) => assert_same(&rt, allocator.charged(), 0),
-        Err((refusal, _, _)) => return Err(refusal.into()),
-    }
-    Ok(())
+    let played = bench.play(rt.alloc(), "state, call 0 release");
+    let (index, told) = bench.parted();
+    let charged = match index.close(NoDrain) {
+        Ok((allocator, _)) => Some(allocator.charged()),
+        Err((_refusal, index, _)) => {
+            discard(index);
+            None
+        }
+    };
+    assert_same(&rt, (told.as_str(), charged), ("2168 1 64", Some(0)));
+    played
 }
 
 /// A value that can be copied while the flag is up.

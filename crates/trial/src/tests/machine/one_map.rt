@@ -45,6 +45,12 @@ impl Case {
     pub fn goes(&self, alloc: Global, plan: &[Turn]) -> Result<bool, Fail> {
         let mut pair = Pair::on(alloc, &self.ground, self.calls)?;
         pair.fly(plan);
+        let is_right = self.is_right(alloc, &mut pair);
+        let _calls = pair.end();
+        is_right
+    }
+
+    fn is_right(&self, alloc: Global, pair: &mut Pair) -> Result<bool, Fail> {
         let [first, second] = pair.calls;
         let (Some(one), Some(other)) = (first.entry(), second.entry()) else {
             return Ok(false);

@@ -2,7 +2,7 @@
 
 use super::flights::Flight;
 use super::lies::{Lie, noise_of};
-use super::{Index, are_rounds_done, call, is_done, open};
+use super::{Index, are_rounds_done, call, discard, is_done, open};
 use joint::{Op, Refusal};
 use judge::Call;
 use std::alloc::{AllocError, Global};
@@ -44,7 +44,6 @@ pub enum Turn {
 pub type Plan = Vec<Turn>;
 
 /// Two calls of workers 0 and 1, who are pinned.
-#[derive(Drop)]
 pub struct Pair {
     pub index: Index,
     pub calls: [Flight; 2],
@@ -63,6 +62,13 @@ impl Pair {
             call(&mut index, 1, Call::Remove(*key));
         }
         Ok(Pair { index, calls })
+    }
+
+    /// The calls, on an index that goes.
+    pub fn end(self) -> [Flight; 2] {
+        let Pair { index, calls } = self;
+        discard(index);
+        calls
     }
 
     /// Both calls, by these turns.
@@ -160,7 +166,7 @@ pub fn lengths(alloc: Global, ground: &Ground, calls: [Flight; 2]) -> Result<[u3
     for who in 0..2usize {
         let mut pair = Pair::on(alloc, ground, calls)?;
         pair.fly(&[Turn::Begin(who), Turn::Go(who, LONG)]);
-        if let (Some(flight), Some(steps)) = (pair.calls.get(who), steps.get_mut(who)) {
+        if let (Some(flight), Some(steps)) = (pair.end().get(who), steps.get_mut(who)) {
             *steps = flight.steps;
         }
     }

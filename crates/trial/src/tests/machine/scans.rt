@@ -170,7 +170,7 @@ impl Case {
     fn flown(&self, alloc: Global, plan: &[Turn]) -> Result<Option<Flight>, Fail> {
         let mut pair = Pair::on(alloc, &self.ground, self.calls)?;
         pair.fly(plan);
-        let [scan, write] = pair.calls;
+        let [scan, write] = pair.end();
         let Standing::Scanned(count) = scan.standing else {
             return Ok(None);
         };

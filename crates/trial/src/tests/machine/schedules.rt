@@ -4,7 +4,7 @@ use super::drawn::{next, number_in, step_at};
 use super::flights::Flight;
 use super::orders::{Ground, Pair, Turn, is_tried};
 use super::told::{Standing, State, state};
-use super::{are_rounds_done, call, count_of, is_done, open, replied};
+use super::{Index, are_rounds_done, call, count_of, discard, is_done, open, replied};
 use crate::tests::asserts::assert_same;
 use joint::{Op, Refusal, Step};
 use judge::{Call, Reply};
@@ -15,16 +15,23 @@ use std::test::Fail;
 /// and waits in the end.
 fn answers(alloc: Global, rounds: u32) -> Result<(Vec<Standing>, State), Fail> {
     let mut index = open(alloc, 2, 1_000)?;
+    let told = told(alloc, &mut index, rounds);
+    let state = state(&index);
+    discard(index);
+    Ok((told?, state))
+}
+
+fn told(alloc: Global, index: &mut Index, rounds: u32) -> Result<Vec<Standing>, AllocError> {
     let mut answers = Vec::new(alloc);
     for key in 1..50 {
         for made in [Call::Insert(key, key), Call::Get(key), Call::Get(49)] {
-            is_done(&mut index, 0, Op::Pin);
-            answers.push(Standing::of(call(&mut index, 0, made)))?;
-            is_done(&mut index, 0, Op::Unpin);
-            are_rounds_done(&mut index, 0, rounds);
+            is_done(index, 0, Op::Pin);
+            answers.push(Standing::of(call(index, 0, made)))?;
+            is_done(index, 0, Op::Unpin);
+            are_rounds_done(index, 0, rounds);
         }
     }
-    Ok((answers, state(&index)))
+    Ok(answers)
 }
 
 #[test]
@@ -109,12 +116,20 @@ fn are_alike(plain: &mut Pair, swept: &mut Pair, seed: u64, turns: u32) -> bool 
 /// How many fewer nodes wait at the end of a drawn schedule with rounds, if it tells the same as without.
 fn destroyed(alloc: Global, seed: u64) -> Result<Option<u64>, Fail> {
     let mut plain = begun(alloc)?;
+    let told = destroyed_beside(alloc, &mut plain, seed);
+    let _calls = plain.end();
+    told
+}
+
+fn destroyed_beside(alloc: Global, plain: &mut Pair, seed: u64) -> Result<Option<u64>, Fail> {
     let mut swept = begun(alloc)?;
-    if !are_alike(&mut plain, &mut swept, seed, 1_000) {
+    let are_alike = are_alike(plain, &mut swept, seed, 1_000);
+    let left = state(&swept.index).1;
+    let _calls = swept.end();
+    if !are_alike {
         return Ok(None);
     }
-    let waiting = state(&plain.index).1;
-    Ok(Some(waiting.saturating_sub(state(&swept.index).1)))
+    Ok(Some(state(&plain.index).1.saturating_sub(left)))
 }
 
 /// How many schedules there are. Each destroys two nodes or more, on an average.
@@ -149,8 +164,12 @@ fn a_run_takes_ten_thousand_steps(rt: HostRuntime) -> Result<(), Fail> {
     let steps = many_steps(rt.alloc())?;
     let mut index = open(rt.alloc(), 1, 1_000)?;
     let ran = index.run(rt.alloc(), steps);
-    assert_same(&rt, (ran.done, ran.reports.len()), (10_000, 10_000));
-    let put = replied(Reply::Insert(None));
-    assert_same(&rt, count_of(&ran.reports, &put), 270);
+    discard(index);
+    let put = count_of(&ran.reports, &replied(Reply::Insert(None)));
+    assert_same(
+        &rt,
+        (ran.done, ran.reports.len(), put),
+        (10_000, 10_000, 270),
+    );
     Ok(())
 }

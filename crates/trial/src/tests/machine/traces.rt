@@ -1,8 +1,7 @@
 //! Removals that make a node smaller or take an inner node out, step by step: in which step a call takes effect, asks, goes on
 //! without a node, gives nodes back or ends, and what is charged and waits after it.
 
-use super::bench::first_unlike;
-use crate::tests::asserts::assert_same;
+use super::bench::are_told;
 use std::test::Fail;
 
 /// One removal alone.
@@ -110,7 +109,7 @@ fn calls_go_step_by_step(rt: HostRuntime) -> Result<(), Fail> {
         BESIDE.as_slice(),
         ASKED.as_slice(),
     ] {
-        assert_same(&rt, first_unlike(rt.alloc(), table)?.as_str(), "");
+        are_told(&rt, rt.alloc(), table)?;
     }
     Ok(())
 }

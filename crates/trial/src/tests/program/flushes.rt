@@ -83,18 +83,13 @@ fn a_flush_that_fails_ends_a_script_with_calls_in_flight(rt: HostRuntime) -> Res
             taken: Vec::new(rt.alloc()),
             before: before as u64,
         };
-        assert_same(
-            &rt,
-            (before, run(rt.alloc(), &mut reader, &mut writer)),
-            (before, 1),
-        );
-        assert_same(
-            &rt,
-            (before, writer.taken.as_slice()),
-            (before, expected.as_slice()),
-        );
+        let ended = run(rt.alloc(), &mut reader, &mut writer);
         let left = SCRIPT.len().saturating_sub(before).saturating_sub(1);
-        assert_same(&rt, (before, reader.left.len()), (before, left));
+        assert_same(
+            &rt,
+            (before, ended, reader.left.len(), writer.taken.as_slice()),
+            (before, 1, left, expected.as_slice()),
+        );
     }
     Ok(())
 }
@@ -119,8 +114,11 @@ fn a_flush_that_fails_ends_a_history_and_the_usage(rt: HostRuntime) -> Result<()
             before: 0,
         };
         let ended = start(&rt, rt.alloc(), &words, &mut script, &mut writer);
-        assert_same(&rt, (text, ended), (text, ExitCode::from(1)));
-        assert_same(&rt, writer.taken.as_slice(), text);
+        assert_same(
+            &rt,
+            (ended, writer.taken.as_slice()),
+            (ExitCode::from(1), text),
+        );
     }
     Ok(())
 }

@@ -1,7 +1,7 @@
 //! Sixteen threads that call on one index with a journal: calls of each kind on a key, and scans between.
-ghost use Rattle.std.specs.Prelude.{◌≡◌};
+ghost use Rattle.std.specs.Prelude.{◌≡◌, ◌<◌};
 
-use super::trees::{Told, raised_or, recorded_called};
+use super::trees::{Told, raised_or, recorded_called, spent};
 use crate::tests::asserts::assert_same;
 use crate::tests::machine::drawn::number_in;
 use crate::threads::callers;
@@ -13,7 +13,6 @@ use std::alloc::Global;
 use std::marker::Brand;
 use std::sync::Wait;
 use std::sync::ledger::{Blank, Ledger};
-use std::test::Fail;
 use std::thread;
 use std::thread::Threads;
 
@@ -121,24 +120,17 @@ fn calls_pinned<L: Ledger, R: Wait>(
         Ok(true)
     };
     let called = calls(rt, index, caller, &guard, u64::from(number));
-    match index.unpin(rt, &mut caller.worker, guard) {
-        Ok(()) => {
-            let (call, reply) = called?;
-            let worker = caller.worker.number();
-            Ok((
-                Entry {
-                    worker,
-                    call,
-                    reply,
-                },
-                scanned?,
-            ))
-        }
-        Err((refusal, guard)) => {
-            guard.forget();
-            Err(refusal)
-        }
-    }
+    spent(index.unpin(rt, &mut caller.worker, guard))?;
+    let (call, reply) = called?;
+    let worker = caller.worker.number();
+    Ok((
+        Entry {
+            worker,
+            call,
+            reply,
+        },
+        scanned?,
+    ))
 }
 
 /// All calls of a worker, one after the other.
@@ -169,15 +161,9 @@ fn is_right(alloc: Global, journal: &[Entry<u64>], own: &[Vec<Entry<u64>>]) -> R
     Ok(check(alloc, journal)? == Verdict::Legal && audit(journal, own))
 }
 
-/// What is known of the calls when all have ended.
-#[derive(Clone, Copy, Debug, PartialEq, Eq)]
-struct Known {
-    entries: usize,
-    /// The writing calls that the ledger counts.
-    written: u64,
-    is_scanned: bool,
-    is_right: bool,
-}
+/// What is known of the calls when all have ended: the entries of the journal, the writing calls that the ledger counts, whether
+/// all scans found pairs that somebody put there, and whether the journal is right.
+type Known = (usize, u64, bool, bool);
 
 /// The history of so many calls of each worker, with this ledger.
 fn history<L: Ledger + Send + Sync, R: Threads + Wait + Sync>(
@@ -195,12 +181,24 @@ fn history<L: Ledger + Send + Sync, R: Threads + Wait + Sync>(
     let (index, mut all): (Index<L>, Share<L>) = Journaled::new(
         alloc, limits, allocator, places, 17, blank,
     )?;
-    let callers = callers(rt, alloc, &index, &mut all, WORKERS)?;
-    let shared = &index;
-    let work = move |caller: Caller<L>| works(rt, alloc, shared, caller, count);
+    all_call(rt, alloc, &index, &mut all, count)
+}
+
+/// What is known when all workers have called, each with a share of one part.
+fn all_call<L: Ledger + Send + Sync, R: Threads + Wait + Sync>(
+    rt: &R,
+    alloc: Global,
+    index: &Index<L>,
+    all: &mut Share<L>,
+    count: u32,
+) -> Result<Known, Cut>
+    requires parts { 16 < all.old.parts }
+{
+    let callers = callers(rt, alloc, index, all, WORKERS)?;
+    let work = move |caller: Caller<L>| works(rt, alloc, index, caller, count);
     let worked = thread::map_vec(rt, callers, &work)?;
-    let (own, is_scanned) = joined(alloc, &mut all, worked)?;
-    learned(rt, alloc, &index, &mut all, &own, is_scanned)
+    let (own, is_scanned) = joined(alloc, all, worked)?;
+    learned(rt, alloc, index, all, &own, is_scanned)
 }
 
 /// The entries that each worker keeps, and whether all scans found pairs that somebody put there. Their shares become one.
@@ -235,12 +233,8 @@ fn learned<L: Ledger, R: Wait>(
 ) -> Result<Known, Cut> {
     let written = index.gather(rt, all)?;
     let journal = index.entries(rt)?;
-    Ok(Known {
-        entries: journal.len(),
-        written,
-        is_scanned,
-        is_right: is_right(alloc, &journal, own)?,
-    })
+    let is_right = is_right(alloc, &journal, own)?;
+    Ok((journal.len(), written, is_scanned, is_right))
 }
 
 fn history_by_brand<R: Threads + Wait + Sync>(
@@ -253,16 +247,11 @@ fn history_by_brand<R: Threads + Wait + Sync>(
 
 /// The second of eight calls only looks.
 #[test]
-fn sixteen_threads_call_and_scan(rt: HostRuntime) -> Result<(), Fail> {
+fn sixteen_threads_call_and_scan(rt: HostRuntime) {
     let count = number_in(&rt, "TRIAL_CALLS", CALLS).min(CALLS_MAX);
     let looks = count.saturating_add(6) / 8;
+    let entries = (count as usize).saturating_mul(WORKERS as usize);
+    let written = u64::from(count.saturating_sub(looks)).saturating_mul(u64::from(WORKERS));
     let known = history_by_brand(&rt, rt.alloc(), count);
-    let right = Known {
-        entries: (count as usize).saturating_mul(WORKERS as usize),
-        written: u64::from(count.saturating_sub(looks)).saturating_mul(u64::from(WORKERS)),
-        is_scanned: true,
-        is_right: true,
-    };
-    assert_same(&rt, known, Ok(right));
-    Ok(())
+    assert_same(&rt, known, Ok((entries, written, true, true)));
 }

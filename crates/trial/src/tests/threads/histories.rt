@@ -7,8 +7,8 @@ use crate::examples::history::{Recorded, counts_calls, writes_of_two};
 use crate::tests::asserts::assert_same;
 use congee::DefaultAllocator;
 use joint::{Journaled, Limits, Refusal, Share, audit};
-use judge::{Verdict, check};
-use std::alloc::Global;
+use judge::{Entry, Verdict, check};
+use std::alloc::{AllocError, Global};
 use std::marker::Brand;
 use std::process::Abort;
 use std::sync::Wait;
@@ -30,7 +30,24 @@ fn puts<L: Ledger, R: Wait>(
     put
 }
 
-/// A share counts the calls that were made with it, and the ledger has no other.
+/// A share counts the calls that were made with it. They are gathered when it is merged, and the ledger has no other.
+fn gathers<L: Ledger, R: Wait + Abort>(
+    rt: &R,
+    tree: &Recorded<L>,
+    all: &mut Share<L>,
+    share: Share<L>,
+) -> Result<(), Fail>
+    requires { share.count ≡ 0 }
+{
+    let (share, made) = puts(rt, tree, share)?;
+    let counted = (made, share.parts(), share.count(), all.count());
+    assert_same(rt, counted, (4, 1, 4, 0));
+    assert_same(rt, tree.gather(rt, all), Err(Refusal::SharesLeft(1)));
+    all.merge(share);
+    assert_same(rt, tree.gather(rt, all), Ok(4));
+    Ok(())
+}
+
 fn counts<L: Ledger, R: Wait + Abort>(rt: &R, alloc: Global, blank: Blank) -> Result<(), Fail>
     requires name { blank.name ≡ L.name }
     requires ledger { blank.parts ≡ L.parts }
@@ -42,11 +59,7 @@ fn counts<L: Ledger, R: Wait + Abort>(rt: &R, alloc: Global, blank: Blank) -> Re
         alloc, limits, allocator, 9, 2, blank,
     )?;
     let share = all.split(1);
-    let (share, made) = puts(rt, &tree, share)?;
-    assert_same(rt, (share.count(), made), (4, 4));
-    all.merge(share);
-    assert_same(rt, tree.gather(rt, &mut all), Ok(4));
-    Ok(())
+    gathers(rt, &tree, &mut all, share)
 }
 
 fn counts_by_brand<R: Wait + Abort>(rt: &R, alloc: Global) -> Result<(), Fail> {
@@ -58,21 +71,31 @@ fn a_share_counts_the_calls_that_were_made(rt: HostRuntime) -> Result<(), Fail> 
     counts_by_brand(&rt, rt.alloc())
 }
 
+/// The entries of a worker, in their order.
+fn kept_by(
+    alloc: Global,
+    journal: &[Entry<u64>],
+    worker: u32,
+) -> Result<Vec<Entry<u64>>, AllocError> {
+    let mut kept = Vec::new(alloc);
+    for entry in journal {
+        if entry.worker == worker {
+            kept.push(*entry)?;
+        }
+    }
+    Ok(kept)
+}
+
 #[test]
 fn a_history_of_two_is_checked(rt: HostRuntime) -> Result<(), Fail> {
     let known = writes_of_two(&rt, rt.alloc(), 100)?;
-    assert_same(&rt, (known.journal.len(), known.written), (200, 200));
-    assert_same(&rt, check(rt.alloc(), &known.journal)?, Verdict::Legal);
-    let mut own = Vec::new(rt.alloc());
-    for worker in 0..2 {
-        let mut kept = Vec::new(rt.alloc());
-        for entry in known.journal.iter() {
-            if entry.worker == worker {
-                kept.push(*entry)?;
-            }
-        }
-        own.push(kept)?;
-    }
-    assert!(rt; audit(&known.journal, &own));
+    let journal = known.journal.as_slice();
+    let own = [
+        kept_by(rt.alloc(), journal, 0)?,
+        kept_by(rt.alloc(), journal, 1)?,
+    ];
+    let told = (journal.len(), known.written, audit(journal, &own));
+    assert_same(&rt, told, (200, 200, true));
+    assert_same(&rt, check(rt.alloc(), journal), Ok(Verdict::Legal));
     Ok(())
 }

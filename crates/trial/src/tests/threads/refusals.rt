@@ -96,21 +96,21 @@ const OF_ALL: [(Ask, Kind); 8] = [
     (Ask::Pin, Kind::Other),
 ];
 
-/// The first call that is refused otherwise.
-fn wrong<T: Threaded, R: Wait>(
+/// Whether each call is refused so.
+fn refuses<T: Threaded, R: Wait>(
     rt: &R,
     tree: &mut T,
     calls: &[(Ask, Kind)],
     so: Refused,
     worker: &mut Worker,
     guard: &Guard,
-) -> Option<Ask> {
+) -> bool {
     for (ask, kind) in calls.iter().chain(OF_ALL.iter()) {
         if tree.told(rt, *ask, worker, guard).err() != so.of(*kind) {
-            return Some(*ask);
+            return false;
         }
     }
-    None
+    true
 }
 
 /// What bounds a tree for one worker, whose nodes are locked once at most; and how it then refuses, once 1 has its second value.
@@ -155,12 +155,12 @@ fn refuses_a_stranger<T: Threaded, R: Wait>(
 ) -> Result<bool, Refusal> {
     let mut stranger = home.comes(rt)?;
     let theirs = home.pins(rt, &mut stranger)?;
-    let wrong = wrong(rt, tree, calls, FOREIGN, &mut stranger, &theirs);
+    let refused = refuses(rt, tree, calls, FOREIGN, &mut stranger, &theirs);
     let found = home.told(rt, Ask::Call(Call::Get(1)), &mut stranger, &theirs);
     let back = spent(tree.unpins(rt, &mut stranger, theirs));
     let stays = left(tree.leaves(rt, stranger));
     Ok(
-        wrong == None
+        refused
             && found == Ok(Told::Replied(Reply::Get(None)))
             && (back, stays) == (Err(Refusal::Foreign), Err(Refusal::Foreign)),
     )
@@ -205,7 +205,7 @@ fn refuses_its_own<T: Threaded, R: Wait>(
     let mut worker = tree.comes(rt)?;
     let guard = tree.pins(rt, &mut worker)?;
     let is_bound = tells(rt, tree, &FILLS, &mut worker, &guard)
-        && wrong(rt, tree, calls, so, &mut worker, &guard) == None
+        && refuses(rt, tree, calls, so, &mut worker, &guard)
         && tells(rt, tree, &STANDS, &mut worker, &guard);
     spent(tree.unpins(rt, &mut worker, guard))?;
     let is_alone = tree.comes(rt).err() == Some(Refusal::TableFull);
@@ -264,7 +264,7 @@ fn recorded_holds_by_brand<R: Wait>(
 }
 
 /// The kinds of trees.
-#[derive(Clone, Copy, Debug)]
+#[derive(Clone, Copy)]
 enum Tree {
     Words,
     Numbers,
@@ -328,7 +328,7 @@ fn at_places() -> Bounds {
 #[test]
 fn each_call_is_refused_by_its_name(rt: HostRuntime) -> Result<(), Fail> {
     let mut home: Words = Congee::new(rt.alloc(), Limits::usual(8, 9), Limited::new(9_000))?;
-    for (kind, bounds) in [
+    let rows = [
         (Tree::Words, at_cells()),
         (Tree::Words, at_budget()),
         (Tree::Numbers, at_cells()),
@@ -337,9 +337,10 @@ fn each_call_is_refused_by_its_name(rt: HostRuntime) -> Result<(), Fail> {
         (Tree::Recorded, at_cells()),
         (Tree::Recorded, at_budget()),
         (Tree::Recorded, at_places()),
-    ] {
-        let holds = tree_holds(&rt, rt.alloc(), kind, &mut home, bounds);
-        assert!(rt; holds == Ok(true), "{kind:?}");
+    ];
+    for (place, (kind, bounds)) in rows.iter().enumerate() {
+        let holds = tree_holds(&rt, rt.alloc(), *kind, &mut home, *bounds);
+        assert_same(&rt, (place, holds), (place, Ok(true)));
     }
     Ok(())
 }
@@ -395,16 +396,17 @@ fn trees_want_their_limits(rt: HostRuntime) {
         wanted: 2104,
         limit: 2103,
     });
-    for (kind, workers, bytes, refused) in [
+    let rows = [
         (Tree::Words, 0, 9_000, limits),
         (Tree::Words, 1, 2103, budget),
         (Tree::Numbers, 0, 9_000, limits),
         (Tree::Numbers, 1, 2103, budget),
         (Tree::Owners, 0, 9_000, limits),
         (Tree::Recorded, 1, 2103, budget),
-    ] {
-        let unopened = unopened(&rt, rt.alloc(), kind, workers, bytes);
-        assert!(rt; unopened == refused, "{kind:?}");
+    ];
+    for (place, (kind, workers, bytes, refused)) in rows.iter().enumerate() {
+        let unopened = unopened(&rt, rt.alloc(), *kind, *workers, *bytes);
+        assert_same(&rt, (place, unopened), (place, *refused));
     }
     for (parts, places) in [(0, 9), (1, 0), (1, 1 << 32)] {
         let unopened = unopened_by_brand(&rt, rt.alloc(), parts, places);
@@ -426,21 +428,31 @@ fn refusal_of(pinned: Result<Guard, Refusal>) -> Option<Refusal> {
 /// The most guards of a worker.
 const GUARDS: u32 = 65_535;
 
-/// Whether a worker takes its guards, and is refused one more each way; and whether one that another worker's guard was left
-/// for stays pinned.
+/// Whether a worker is refused what is asked with another one's guard; whether it takes its own guards, and is refused one more
+/// each way; and whether one that another worker's guard was left for stays pinned. No third worker finds a place.
 fn guards_out<R: Wait>(rt: &R, tree: &Words) -> Result<bool, Refusal> {
     let (mut worker, mut other) = (tree.register(rt)?, tree.register(rt)?);
-    let changed = tree.pinned(rt, &mut worker, |worker, _| {
+    let third = tree.register(rt).err();
+    let mut with_theirs = None;
+    let changed = tree.pinned(rt, &mut worker, |worker, guard| {
+        with_theirs = tree.get(rt, &1, &mut other, guard).err();
         mem::swap(worker, &mut other);
         Ok(())
     });
+    let refused = (third, with_theirs, changed);
     // Now this is the other one's place, who has a guard out.
-    let is_held = changed == Err(Refusal::Foreign) && other.number() == 0;
+    let is_held = other.number() == 0;
     for _ in 0..GUARDS {
         refusal_of(tree.pin(rt, &mut worker));
     }
     Ok(
         is_held
+            && refused
+                == (
+                    Some(Refusal::TableFull),
+                    Some(Refusal::Foreign),
+                    Err(Refusal::Foreign),
+                )
             && refusal_of(tree.pin(rt, &mut worker)) == Some(Refusal::Count)
             && tree.pinned(rt, &mut worker, |_, _| Ok(())) == Err(Refusal::Count)
             && tree.round(rt, &mut worker) == Err(Refusal::Count)

@@ -8,10 +8,11 @@ use crate::drained::Drained;
 use crate::examples::counter::count_in_two_threads;
 use crate::tests::asserts::assert_same;
 use crate::tests::machine::drawn::number_in;
+use crate::worker::Cut;
 use congee::{Allocator, DefaultAllocator, Limited};
-use joint::{Congee, CongeeArc, Guard, Journaled, Limits, Refusal, Share, U64Congee, Worker};
-use judge::{Call, Entry, Reply, Verdict, check};
-use std::alloc::{AllocError, Global};
+use joint::{Congee, CongeeArc, Guard, Journaled, Limits, Refusal, U64Congee, Worker};
+use judge::{Call, Reply, Verdict, check};
+use std::alloc::Global;
 use std::marker::Brand;
 use std::process::Abort;
 use std::sync::Wait;
@@ -145,18 +146,18 @@ const SHARED: [(Ask, Told); 11] = [
 
 const SHARED_STAGES: [Stage<'static>; 1] = [(&SHARED, (2168, 1, 64), 2104)];
 
-/// The first that is told otherwise.
+/// The place of the first row that is told otherwise.
 fn wrong<T: Threaded, R: Wait>(
     rt: &R,
     tree: &mut T,
     rows: &[(Ask, Told)],
     worker: &mut Worker,
-) -> Result<Option<Ask>, Refusal> {
+) -> Result<Option<usize>, Refusal> {
     let guard = tree.pins(rt, worker)?;
     let mut wrong = None;
-    for (ask, told) in rows {
+    for (place, (ask, told)) in rows.iter().enumerate() {
         if tree.told(rt, *ask, worker, &guard) != Ok(*told) && wrong.is_none() {
-            wrong = Some(*ask);
+            wrong = Some(place);
         }
     }
     spent(tree.unpins(rt, worker, guard))?;
@@ -170,7 +171,7 @@ fn goes_through<T: Threaded, R: Wait + Abort>(
     stages: &[Stage<'_>],
     base: u64,
     worker: &mut Worker,
-) -> Result<(), Fail> {
+) -> Result<(), Refusal> {
     for (rows, (charged, waiting, bytes), after) in stages {
         assert_same(rt, wrong(rt, tree, rows, worker), Ok(None));
         let state = (base.wrapping_add(*charged), *waiting, *bytes);
@@ -212,38 +213,57 @@ fn lives<T: Threaded, R: Wait + Abort>(
     ends(rt, tree, worker)
 }
 
+/// A tree of numbers, which are found by their bytes.
+type Numbers = U64Congee<u64, Limited>;
+
+/// What came in with the allocator of the second stays charged.
 #[test]
 fn each_call_comes_through(rt: HostRuntime) -> Result<(), Fail> {
-    let tree = words(rt.alloc(), 0)?;
-    assert_same(&rt, lives(&rt, tree, &STAGES, 0)?, (0, u64::MAX, 0, None));
-    Ok(())
-}
-
-#[test]
-fn numbers_are_found_by_their_bytes(rt: HostRuntime) -> Result<(), Fail> {
+    let alloc = rt.alloc();
+    let left = lives(&rt, words(alloc, 0)?, &STAGES, 0)?;
+    assert_same(&rt, left, (0, u64::MAX, 0, None));
     let mut allocator = Limited::new(10_000);
     allocator.allocate(500)?;
-    let tree: U64Congee<u64, Limited> = U64Congee::new(rt.alloc(), limits(1, 9, 0), allocator)?;
-    assert_same(&rt, lives(&rt, tree, &STAGES, 500)?, (500, 10_000, 0, None));
-    Ok(())
-}
-
-#[test]
-fn owners_are_shared(rt: HostRuntime) -> Result<(), Fail> {
-    let (tree, alloc) = (CongeeArc::new(rt.alloc(), limits(1, 9, 0))?, rt.alloc());
-    lives(&rt, Owners { tree, alloc }, &SHARED_STAGES, 0)?;
+    let numbers: Numbers = U64Congee::new(alloc, limits(1, 9, 0), allocator)?;
+    let left = lives(&rt, numbers, &STAGES, 500)?;
+    assert_same(&rt, left, (500, 10_000, 0, None));
+    let tree = CongeeArc::new(alloc, limits(1, 9, 0))?;
+    let left = lives(&rt, Owners { tree, alloc }, &SHARED_STAGES, 0)?;
+    assert_same(&rt, left, (0, 0, 0, None));
     Ok(())
 }
 
 /// The calls on a key among all of these, and the writing ones.
 const CALLS: (usize, u64) = (17, 12);
 
-/// How many entries a journal has, and whether it is legal.
-fn judged(alloc: Global, journal: Vec<Entry<u64>>) -> Result<(usize, Verdict), AllocError> {
+/// How many entries the journal has, and whether it is legal.
+fn judged<L: Ledger, R: Wait>(
+    rt: &R,
+    alloc: Global,
+    recorded: &Recorded<L, Limited>,
+) -> Result<(usize, Verdict), Cut> {
+    let journal = recorded.tree.entries(rt)?;
     Ok((journal.len(), check(alloc, &journal)?))
 }
 
-/// Each call once: those on a key are written down, and the writing ones counted.
+/// The calls on a key are written down, and the writing ones counted by the share of all parts.
+fn has_written<L: Ledger, R: Wait + Abort>(
+    rt: &R,
+    alloc: Global,
+    recorded: &mut Recorded<L, Limited>,
+) {
+    let share = &mut recorded.share;
+    let counted = (
+        share.parts(),
+        share.count(),
+        recorded.tree.gather(rt, share),
+    );
+    assert_same(rt, counted, (2, CALLS.1, Ok(CALLS.1)));
+    let journal = judged(rt, alloc, recorded);
+    assert_same(rt, journal, Ok((CALLS.0, Verdict::Legal)));
+}
+
+/// Each call once.
 fn writes_down<L: Ledger, R: Wait + Abort>(rt: &R, alloc: Global, blank: Blank) -> Result<(), Fail>
     requires name { blank.name ≡ L.name }
     requires ledger { blank.parts ≡ L.parts }
@@ -251,27 +271,15 @@ fn writes_down<L: Ledger, R: Wait + Abort>(rt: &R, alloc: Global, blank: Blank) 
 {
     let (limits, allocator) = (limits(2, 1_000, 0), Limited::new(10_000));
     let drained = Drained::new(alloc);
-    let (tree, mut all) = Journaled::new_with_drainer(
+    let (tree, share) = Journaled::new_with_drainer(
         alloc, limits, allocator, drained, 20, 2, blank,
     )?;
-    let share: Share<L> = all.split(1);
     let mut recorded: Recorded<L, Limited> = Recorded { tree, share };
     let mut worker = recorded.comes(rt)?;
-    goes_through(rt, &mut recorded, &STAGES, 0, &mut worker)?;
-    let Recorded { tree, share } = recorded;
-    let counted = (share.parts(), share.count(), all.count());
-    assert_same(rt, counted, (1, CALLS.1, 0));
-    assert_same(rt, tree.gather(rt, &mut all), Err(Refusal::SharesLeft(1)));
-    all.merge(share);
-    assert_same(rt, tree.gather(rt, &mut all), Ok(CALLS.1));
-    assert_same(
-        rt,
-        judged(alloc, tree.entries(rt)?)?,
-        (CALLS.0, Verdict::Legal),
-    );
-    let share = all;
-    let left = ends(rt, Recorded { tree, share }, worker)?;
-    assert_same(rt, left, (0, 10_000, 1, Some((1, 5))));
+    let gone = goes_through(rt, &mut recorded, &STAGES, 0, &mut worker);
+    has_written(rt, alloc, &mut recorded);
+    let left = ends(rt, recorded, worker)?;
+    assert_same(rt, (gone, left), (Ok(()), (0, 10_000, 1, Some((1, 5)))));
     Ok(())
 }
 
@@ -284,47 +292,6 @@ fn each_call_is_written_down(rt: HostRuntime) -> Result<(), Fail> {
     writes_down_by_brand(&rt, rt.alloc())
 }
 
-/// A worker and a guard of another one are refused, and come back: a second place is taken, another worker's guard, another
-/// index's worker, its guard, and a pinned worker that would leave.
-fn are_refused<T: Threaded, R: Wait>(
-    rt: &R,
-    tree: &mut T,
-    other: &mut T,
-) -> Result<[Option<Refusal>; 5], Refusal> {
-    let (mut worker, mut second) = (tree.comes(rt)?, tree.comes(rt)?);
-    let third = tree.comes(rt).err();
-    let guard = tree.pins(rt, &mut worker)?;
-    let of_another_worker = tree.told(rt, Ask::Call(Call::Get(1)), &mut second, &guard);
-    let of_another_index = other.told(rt, Ask::Call(Call::Insert(1, 2)), &mut worker, &guard);
-    let refused = (of_another_worker.err(), of_another_index.err());
-    let (spent_there, guard) = match other.unpins(rt, &mut worker, guard) {
-        Ok(()) => return Ok([None; 5]),
-        Err((refusal, guard)) => (Some(refusal), guard),
-    };
-    let (held, mut worker) = match tree.leaves(rt, worker) {
-        Ok(()) => {
-            guard.forget();
-            return Ok([None; 5]);
-        }
-        Err((refusal, worker)) => (Some(refusal), worker),
-    };
-    spent(tree.unpins(rt, &mut worker, guard))?;
-    Ok([third, refused.0, refused.1, spent_there, held])
-}
-
-#[test]
-fn strangers_come_back(rt: HostRuntime) -> Result<(), Fail> {
-    let (mut tree, mut other) = (words(rt.alloc(), 0)?, words(rt.alloc(), 1)?);
-    let foreign = Some(Refusal::Foreign);
-    let held = Some(Refusal::GuardOut);
-    assert_same(
-        &rt,
-        are_refused(&rt, &mut tree, &mut other),
-        Ok([Some(Refusal::TableFull), foreign, foreign, foreign, held]),
-    );
-    Ok(())
-}
-
 /// What a thread does with one guard.
 #[derive(Clone, Copy)]
 enum Task<'t> {
@@ -334,6 +301,8 @@ enum Task<'t> {
     Read(u64),
     /// Finds all of them.
     Find(u64),
+    /// Finds a value at a key.
+    Look(u64, u64),
     /// Puts a key in whose closure waits for the flag.
     Await(&'t AtomicBool),
     /// Puts another key in, and sets the flag.
@@ -413,6 +382,7 @@ fn does<R: Wait>(
         Task::Fill(from, to) => fills(rt, tree, (from, to), worker, guard),
         Task::Read(to) => reads_along(rt, tree, to, worker, guard),
         Task::Find(to) => finds(rt, tree, to, worker, guard),
+        Task::Look(key, value) => Ok(tree.get(rt, &key, worker, guard)? == Some(value)),
         Task::Await(flag) => {
             // On a loaded machine a thread was seen to come later than ten thousand turns.
             let answer = |_| if comes(flag, 10_000_000) { 1 } else { 0 };
@@ -485,16 +455,11 @@ fn closure_waits_for_other(rt: HostRuntime) -> Result<(), Fail> {
     Ok(())
 }
 
-const COUNTED: [(Ask, Told); 1] = [(
-    Ask::Call(Call::Get(7)),
-    Told::Replied(Reply::Get(Some(1_000))),
-)];
-
 #[test]
 fn no_count_is_lost(rt: HostRuntime) -> Result<(), Fail> {
-    let mut tree = words(rt.alloc(), 0)?;
-    count_in_two_threads(&rt, &tree, 7, 500)?;
-    let mut worker = tree.comes(&rt)?;
-    assert_same(&rt, wrong(&rt, &mut tree, &COUNTED, &mut worker), Ok(None));
+    let tree = words(rt.alloc(), 0)?;
+    let counted = count_in_two_threads(&rt, &tree, 7, 500);
+    let found = works(&rt, &tree, Task::Look(7, 1_000));
+    assert_same(&rt, (counted, found), (Ok(()), Ok(true)));
     Ok(())
 }

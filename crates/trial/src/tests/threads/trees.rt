@@ -1,7 +1,7 @@
 //! What is asked of a tree for threads and what it tells: each call of each kind of tree stands here once.
 
 use crate::drained::Drained;
-use congee::Allocator;
+use congee::{Allocator, NodeStats};
 use joint::{Congee, CongeeArc, Every, Guard, Journaled, Refusal, Share, U64Congee, Worker};
 use judge::{Call, Reply};
 use std::alloc::Global;
@@ -9,7 +9,7 @@ use std::sync::ledger::Ledger;
 use std::sync::{Arc, Wait};
 
 /// What is asked of a tree.
-#[derive(Clone, Copy, PartialEq, Eq, Debug)]
+#[derive(Clone, Copy)]
 pub enum Ask {
     /// A call on a key. The closure of a `ComputePresent` adds its number to the value, or takes the key out where it has none; that
     /// of a `ComputeInsert` adds 64, or answers its number where there is no value. Owners are replaced by one of the number.
@@ -30,7 +30,7 @@ pub enum Ask {
 }
 
 /// What it tells.
-#[derive(Clone, Copy, PartialEq, Eq, Debug)]
+#[derive(Clone, Copy, PartialEq, Eq)]
 pub enum Told {
     Replied(Reply<u64>),
     /// How many pairs were found, and what stands in the first place.
@@ -120,7 +120,7 @@ fn done(answer: Result<(), Refusal>) -> Result<Told, Refusal> {
 }
 
 /// What a closure answers for a value.
-fn raised(found: u64, by: Option<u64>) -> Option<u64> {
+pub fn raised(found: u64, by: Option<u64>) -> Option<u64> {
     match by {
         Some(by) => Some(found.wrapping_add(by)),
         None => None,
@@ -136,8 +136,26 @@ pub fn raised_or(found: Option<u64>, number: u64) -> u64 {
 }
 
 /// Keys as they are told.
-fn keys_told(keys: &[u64]) -> Told {
-    Told::Keys(keys.len(), keys.first().copied())
+fn keys_told(keys: Result<Vec<u64>, Refusal>) -> Result<Told, Refusal> {
+    match keys {
+        Ok(keys) => Ok(Told::Keys(keys.len(), keys.first().copied())),
+        Err(refusal) => Err(refusal),
+    }
+}
+
+/// The pairs that statistics count.
+fn pairs_told(stats: Result<NodeStats, Refusal>) -> Result<Told, Refusal> {
+    match stats {
+        Ok(stats) => Ok(Told::Pairs(stats.kv_pairs)),
+        Err(refusal) => Err(refusal),
+    }
+}
+
+fn emptiness_told(is_empty: Result<bool, Refusal>) -> Result<Told, Refusal> {
+    match is_empty {
+        Ok(is_empty) => Ok(Told::IsEmpty(is_empty)),
+        Err(refusal) => Err(refusal),
+    }
 }
 
 /// A call on a key. `by` stands before a key that is looked for; a writing call also takes the share.
@@ -201,9 +219,9 @@ macro_rules! scanned {
 macro_rules! wholly {
     ($rt:ident, $tree:ident, $ask:ident, $worker:ident, $guard:ident) => {
         match $ask {
-            Ask::IsEmpty => Ok(Told::IsEmpty($tree.is_empty($rt, $worker, $guard)?)),
-            Ask::Keys => Ok(keys_told(&$tree.keys($rt, $worker)?)),
-            Ask::Stats => Ok(Told::Pairs($tree.stats($rt, $worker)?.kv_pairs)),
+            Ask::IsEmpty => emptiness_told($tree.is_empty($rt, $worker, $guard)),
+            Ask::Keys => keys_told($tree.keys($rt, $worker)),
+            Ask::Stats => pairs_told($tree.stats($rt, $worker)),
             Ask::Repin => done($tree.repin($rt, $worker, $guard)),
             Ask::Flush => done($tree.flush($rt, $worker, $guard)),
             Ask::Round => done($tree.round($rt, $worker)),

@@ -10,6 +10,7 @@ use congee::{Congee, DefaultAllocator, OOMError};
 use joint::{CongeeArc, Guard, Limits, Op, Outcome, Refusal, Report, Step, Worker};
 use judge::{Call, Reply};
 use std::alloc::{AllocError, Global};
+use std::process::Abort;
 use std::sync::Wait;
 use std::test::Fail;
 
@@ -46,11 +47,9 @@ fn are_put(tree: &mut Congee<u64, u64>) -> bool {
 #[test]
 fn an_owned_leaf_grows(rt: HostRuntime) -> Result<(), Fail> {
     let mut tree = owned(rt.alloc())?;
-    let put = are_put(&mut tree);
-    let state = (tree.get(&49), tree.charged());
+    let state = (are_put(&mut tree), tree.get(&49), tree.charged());
     tree.close();
-    assert!(rt; put);
-    assert_same(&rt, state, (Some(49), 4208));
+    assert_same(&rt, state, (true, Some(49), 4208));
     Ok(())
 }
 
@@ -175,17 +174,22 @@ const GONE: [(Ask, Told); 1] = [(
     Told::Replied(Reply::Remove(Some(7))),
 )];
 
+/// A worker comes, is told all of this, and leaves; what waits goes in rounds between.
+fn come_back<T: Threaded, R: Wait + Abort>(rt: &R, tree: &mut T) -> Result<(), Refusal> {
+    let mut worker = tree.comes(rt)?;
+    assert_same(rt, tells(rt, tree, &PARTED, &mut worker), Ok(true));
+    assert_same(rt, tree.state(rt).1, 2);
+    let swept = rounds(rt, tree, &mut worker);
+    assert_same(rt, (swept, tree.state(rt)), (Ok(()), (2168, 0, 0)));
+    assert_same(rt, tells(rt, tree, &GONE, &mut worker), Ok(true));
+    leaves(rt, tree, worker)
+}
+
 #[test]
 fn shared_owners_come_back(rt: HostRuntime) -> Result<(), Fail> {
     let mut tree = owners(rt.alloc())?;
-    let mut worker = tree.comes(&rt)?;
-    assert_same(&rt, tells(&rt, &mut tree, &PARTED, &mut worker), Ok(true));
-    assert_same(&rt, tree.state(&rt).1, 2);
-    rounds(&rt, &tree, &mut worker)?;
-    assert_same(&rt, tree.state(&rt), (2168, 0, 0));
-    assert_same(&rt, tells(&rt, &mut tree, &GONE, &mut worker), Ok(true));
-    leaves(&rt, &tree, worker)?;
-    assert_same(&rt, tree.state(&rt), (2168, 1, 64));
+    let back = come_back(&rt, &mut tree);
+    assert_same(&rt, (back, tree.state(&rt)), (Ok(()), (2168, 1, 64)));
     assert!(rt; tree.closes(&rt).is_ok());
     Ok(())
 }
@@ -215,20 +219,29 @@ fn ends(reports: &[Report<u64>]) -> usize {
     put.saturating_add(count_of(reports, &Outcome::Refused(Refusal::Memory)))
 }
 
+/// How many steps a run takes from one on, and how many insertions end; each step that it took is reported.
+fn ran(alloc: Global, index: &mut Index, from: usize) -> Result<(usize, usize, bool), AllocError> {
+    let run = index.run(alloc, steps_left(alloc, from)?);
+    Ok((run.done, ends(&run.reports), run.reports.len() == run.done))
+}
+
+/// The same of a run and of the one that goes on from there.
+fn ran_on(alloc: Global, index: &mut Index) -> Result<(usize, usize, bool), AllocError> {
+    let (done, ended, told) = ran(alloc, index, 0)?;
+    let (more, further, all) = ran(alloc, index, done)?;
+    Ok((
+        done.saturating_add(more),
+        ended.saturating_add(further),
+        told && all,
+    ))
+}
+
 /// A run stops where there is no memory for a report, tells how many steps it took, and goes on from there.
 #[test]
 fn a_run_goes_on_where_it_stopped(rt: HostRuntime) -> Result<(), Fail> {
     let mut index = opened(rt.alloc())?;
-    let first = index.run(rt.alloc(), steps_left(rt.alloc(), 0)?);
-    assert_same(&rt, first.reports.len(), first.done);
-    let second = index.run(rt.alloc(), steps_left(rt.alloc(), first.done)?);
-    assert_same(&rt, second.reports.len(), second.done);
-    assert_same(&rt, first.done.saturating_add(second.done), STEPS as usize);
-    assert_same(
-        &rt,
-        ends(&first.reports).saturating_add(ends(&second.reports)),
-        13,
-    );
+    let ran = ran_on(rt.alloc(), &mut index);
+    assert_same(&rt, ran, Ok((STEPS as usize, 13, true)));
     Ok(())
 }
 
@@ -260,56 +273,77 @@ fn is_emptied(index: &mut Index) -> bool {
     index.waiting() == 0
 }
 
-/// Each writing call finds its worker's bag too full, whatever it then does.
+/// Each writing call, at one key.
+const WRITING: [(Call<u64>, Reply<u64>); 7] = [
+    (Call::Insert(1, 5), Reply::Insert(None)),
+    (Call::Insert(1, 5), Reply::Insert(Some(5))),
+    (Call::ComputeInsert(1, 6), Reply::ComputeInsert(Some(5))),
+    (
+        Call::ComputePresent(1, Some(7)),
+        Reply::ComputePresent(Some((6, Some(7)))),
+    ),
+    (Call::Exchange(1, 7, Some(8)), Reply::Exchange(Ok(Some(8)))),
+    (Call::Remove(1), Reply::Remove(Some(8))),
+    (Call::Remove(1), Reply::Remove(None)),
+];
+
+/// How many of them are answered so, each of which finds its worker's bag too full, whatever it then does.
+fn answered(index: &mut Index) -> usize {
+    let mut count = 0usize;
+    for (made, reply) in &WRITING {
+        if !is_filled(index) || !ends_with(index, *made, *reply) || !is_emptied(index) {
+            return count;
+        }
+        count = count.saturating_add(1);
+    }
+    count
+}
+
 #[test]
 fn each_writing_call_wants_a_place_in_its_bag(rt: HostRuntime) -> Result<(), Fail> {
     let mut index = opened(rt.alloc())?;
-    assert!(rt; is_done(&mut index, 0, Op::Pin));
-    for (made, reply) in [
-        (Call::Insert(1, 5), Reply::Insert(None)),
-        (Call::Insert(1, 5), Reply::Insert(Some(5))),
-        (Call::ComputeInsert(1, 6), Reply::ComputeInsert(Some(5))),
-        (
-            Call::ComputePresent(1, Some(7)),
-            Reply::ComputePresent(Some((6, Some(7)))),
-        ),
-        (Call::Exchange(1, 7, Some(8)), Reply::Exchange(Ok(Some(8)))),
-        (Call::Remove(1), Reply::Remove(Some(8))),
-        (Call::Remove(1), Reply::Remove(None)),
-    ] {
-        assert!(rt; is_filled(&mut index));
-        assert_same(
-            &rt,
-            (made, ends_with(&mut index, made, reply)),
-            (made, true),
-        );
-        assert!(rt; is_emptied(&mut index));
-    }
+    let answered = (is_done(&mut index, 0, Op::Pin), answered(&mut index));
+    assert_same(&rt, answered, (true, WRITING.len()));
     Ok(())
+}
+
+/// Whether a leaf gets five values, and loses one again when nothing waits.
+fn is_great(index: &mut Index) -> bool {
+    if !is_done(index, 0, Op::Pin) {
+        return false;
+    }
+    for key in 1..=5 {
+        if !ends_with(index, Call::Insert(key, key), Reply::Insert(None)) {
+            return false;
+        }
+    }
+    is_emptied(index) && ends_with(index, Call::Remove(1), Reply::Remove(Some(1)))
+}
+
+/// How a removal ends, and whether it went on without a node that it wanted.
+fn removed(index: &mut Index, key: u64) -> (Outcome<u64>, bool) {
+    let mut report = begin(index, 0, op_of(Call::Remove(key)));
+    let mut is_skipped = report.skipped;
+    for _ in 0..100u32 {
+        if !report.outcome.is_in_flight() {
+            break;
+        }
+        report = go(index, 0, None);
+        is_skipped = is_skipped || report.skipped;
+    }
+    (report.outcome, is_skipped)
 }
 
 /// A leaf with two values gets a lesser form where there is memory for one, and goes on as it is otherwise.
 #[test]
 fn a_removal_goes_on_without_a_lesser_leaf(rt: HostRuntime) -> Result<(), Fail> {
     let mut index = opened(rt.alloc())?;
-    assert!(rt; is_done(&mut index, 0, Op::Pin));
-    for key in 1..=5 {
-        assert!(rt; ends_with(&mut index, Call::Insert(key, key), Reply::Insert(None)));
-    }
-    assert!(rt; is_emptied(&mut index));
-    assert!(rt; ends_with(&mut index, Call::Remove(1), Reply::Remove(Some(1))));
-    let mut report = begin(&mut index, 0, op_of(Call::Remove(2)));
-    let mut is_skipped = report.skipped;
-    for _ in 0..100u32 {
-        if !report.outcome.is_in_flight() {
-            break;
-        }
-        report = go(&mut index, 0, None);
-        is_skipped = is_skipped || report.skipped;
-    }
-    assert_same(&rt, report.outcome, replied(Reply::Remove(Some(2))));
-    let state = if is_skipped { (0, 2272) } else { (1, 2336) };
-    assert_same(&rt, (index.waiting(), index.charged()), state);
+    let great = is_great(&mut index);
+    let (outcome, is_skipped) = removed(&mut index, 2);
+    let ended = (outcome, index.waiting(), index.charged());
+    let (waiting, charged) = if is_skipped { (0, 2272) } else { (1, 2336) };
+    let expected = (replied(Reply::Remove(Some(2))), waiting, charged);
+    assert_same(&rt, (great, ended), (true, expected));
     Ok(())
 }
 
@@ -346,17 +380,22 @@ const FOUND_THEN: [(Ask, Told); 8] = [
     (Ask::Round, Told::Done),
 ];
 
+/// Whether a worker comes and is told all of this.
+fn finds<T: Threaded, R: Wait>(
+    rt: &R,
+    tree: &mut T,
+    rows: &[(Ask, Told)],
+) -> Result<bool, Refusal> {
+    let mut worker = tree.comes(rt)?;
+    tells(rt, tree, rows, &mut worker)
+}
+
 #[test]
 fn calls_for_threads_find_memory_then(rt: HostRuntime) -> Result<(), Fail> {
     let mut tree = words(rt.alloc())?;
-    let mut worker = tree.comes(&rt)?;
-    assert_same(
-        &rt,
-        tells(&rt, &mut tree, &FOUND_THEN, &mut worker),
-        Ok(true),
-    );
+    let found = finds(&rt, &mut tree, &FOUND_THEN);
     // The root; two leaves and the node that was above them wait.
     let (charged, waiting, _bytes) = tree.state(&rt);
-    assert_same(&rt, (waiting, charged), (3, 2296));
+    assert_same(&rt, (found, waiting, charged), (Ok(true), 3, 2296));
     Ok(())
 }

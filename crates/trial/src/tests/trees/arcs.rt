@@ -1,4 +1,5 @@
 //! Worked sequences on a tree of shared values.
+use crate::tests::asserts::assert_same;
 use congee::{CongeeArc, OOMError};
 use std::alloc::{AllocError, Global};
 use std::sync::Arc;
@@ -20,11 +21,20 @@ pub fn text(alloc: Global, text: &str) -> Result<Text, AllocError> {
     }
 }
 
-pub fn is(found: Option<Text>, text: Option<&str>) -> bool {
+// Whether a text is found, or none.
+fn is(found: Option<Text>, text: Option<&str>) -> bool {
     match (found, text) {
         (Some(found), Some(text)) => found.as_str() == text,
         (None, None) => true,
         _ => false,
+    }
+}
+
+// Whether a call isn't refused, and gives a text, or none.
+fn gives<E: Drop>(told: Result<Option<Text>, E>, text: Option<&str>) -> bool {
+    match told {
+        Ok(found) => is(found, text),
+        Err(_) => false,
     }
 }
 
@@ -33,12 +43,12 @@ fn shares(alloc: Global, tree: &mut Texts) -> Result<bool, Fail> {
     let other = text(alloc, "hello world")?;
     let replace = |_: Text| Arc::try_clone(&other).ok();
     Ok(
-        is(tree.insert(1, text(alloc, "hello")?)?, None)
-            && is(tree.get(1)?, Some("hello"))
-            && is(tree.compute_if_present(1, replace)?, Some("hello"))
-            && is(tree.get(1)?, Some("hello world"))
+        gives(tree.insert(1, text(alloc, "hello")?), None)
+            && gives(tree.get(1), Some("hello"))
+            && gives(tree.compute_if_present(1, replace), Some("hello"))
+            && gives(tree.get(1), Some("hello world"))
             && is(tree.remove(1), Some("hello world"))
-            && is(tree.get(1)?, None),
+            && gives(tree.get(1), None),
     )
 }
 
@@ -46,25 +56,26 @@ fn shares(alloc: Global, tree: &mut Texts) -> Result<bool, Fail> {
 fn lets_go(alloc: Global, tree: &mut Texts) -> Result<bool, Fail> {
     Ok(
         tree.is_empty()
-            && is(tree.insert(256, text(alloc, "b")?)?, None)
-            && is(tree.insert(1, text(alloc, "a")?)?, None)
+            && gives(tree.insert(256, text(alloc, "b")?), None)
+            && gives(tree.insert(1, text(alloc, "a")?), None)
             && tree.keys()?.as_slice() == [1, 256].as_slice()
-            && is(tree.compute_if_present(1, |_| None)?, Some("a"))
-            && is(tree.compute_if_present(1, |given| Some(given))?, None)
+            && gives(tree.compute_if_present(1, |_| None), Some("a"))
+            && gives(tree.compute_if_present(1, |given| Some(given)), None)
             && !tree.is_empty(),
     )
 }
 
+// Whether an empty tree does both.
+fn shares_and_lets_go(alloc: Global, tree: &mut Texts) -> Result<bool, Fail> {
+    Ok(shares(alloc, tree)? && lets_go(alloc, tree)?)
+}
+
 #[test]
 fn texts_are_shared_and_go(rt: HostRuntime) -> Result<(), Fail> {
-    let mut shared = CongeeArc::new(rt.alloc())?;
-    let is_shared = shares(rt.alloc(), &mut shared);
-    shared.close();
-    assert!(rt; is_shared?);
-    let mut left = CongeeArc::new(rt.alloc())?;
-    let is_gone = lets_go(rt.alloc(), &mut left);
-    left.close();
-    assert!(rt; is_gone?);
+    let mut tree = opened(rt.alloc())?;
+    let told = shares_and_lets_go(rt.alloc(), &mut tree);
+    tree.close();
+    assert_same(&rt, told?, true);
     Ok(())
 }
 
@@ -74,7 +85,7 @@ fn comes_back(tree: &mut Texts, key: u64, hello: Text) -> Result<bool, Fail> {
         Ok(before) => Ok(before.is_none()),
         Err((refused, back)) => {
             let is_refused = refused == OOMError::Memory && back.as_str() == "hello";
-            Ok(is_refused && tree.get(key)?.is_none() && is(tree.insert(key, back)?, None))
+            Ok(is_refused && tree.get(key)?.is_none() && gives(tree.insert(key, back), None))
         }
     }
 }
@@ -91,11 +102,11 @@ fn fifth_comes_back(alloc: Global, tree: &mut Texts) -> Result<bool, Fail> {
     let replace = |_: Text| Arc::try_clone(&other).ok();
     Ok(
         comes_back(tree, 5, hello)?
-            && is(tree.get(5)?, Some("hello"))
-            && is(tree.compute_if_present(5, replace)?, Some("hello"))
-            && is(tree.get(5)?, Some("hello world"))
+            && gives(tree.get(5), Some("hello"))
+            && gives(tree.compute_if_present(5, replace), Some("hello"))
+            && gives(tree.get(5), Some("hello world"))
             && is(tree.remove(5), Some("hello world"))
-            && is(tree.get(5)?, None),
+            && gives(tree.get(5), None),
     )
 }
 
@@ -113,6 +124,6 @@ fn a_refused_text_comes_back(rt: HostRuntime) -> Result<(), Fail> {
     let mut tree = opened(rt.alloc())?;
     let back = fifth_comes_back(rt.alloc(), &mut tree);
     tree.close();
-    assert!(rt; back?);
+    assert_same(&rt, back?, true);
     Ok(())
 }

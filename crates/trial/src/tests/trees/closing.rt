@@ -3,7 +3,7 @@ use crate::tests::asserts::assert_same;
 use crate::tests::machine::drawn::number_in;
 use crate::tests::texts::{array, numbers, part};
 use congee::{Allocator, Calls, Congee, DefaultAllocator, Limited, NoDrain, U64Congee};
-use std::alloc::Global;
+use std::alloc::{AllocError, Global};
 use std::collections::BTreeMap;
 use std::test::Fail;
 
@@ -45,10 +45,11 @@ fn drains(alloc: Global, pairs: &[(u64, u64)], so: &[(u64, u64)]) -> Result<bool
 
 #[test]
 fn a_drainer_takes_ascending_pairs(rt: HostRuntime) -> Result<(), Fail> {
-    assert!(rt; drains(rt.alloc(), &[(1, 42)], &[(1, 42)])?);
     let pairs = [(u64::MAX, 14), (256, 13), (0, 11), (1, 12)];
     let ascending = [(0, 11), (1, 12), (256, 13), (u64::MAX, 14)];
-    assert!(rt; drains(rt.alloc(), &pairs, &ascending)?);
+    let one = drains(rt.alloc(), &[(1, 42)], &[(1, 42)])?;
+    let four = drains(rt.alloc(), &pairs, &ascending)?;
+    assert_same(&rt, (one, four), (true, true));
     Ok(())
 }
 
@@ -103,6 +104,8 @@ enum Order {
     Lone,
     /// The next key in each such leaf.
     Paired,
+    /// The greatest key of all.
+    Greatest,
 }
 
 impl Order {
@@ -113,6 +116,7 @@ impl Order {
             Order::Scattered => { turn.wrapping_mul(11400714819323198485) & 0x7fff_ffff_ffff_ffff }
             Order::Lone => turn.wrapping_mul(256),
             Order::Paired => turn.wrapping_mul(256).wrapping_add(1),
+            Order::Greatest => u64::MAX,
         }
     }
 }
@@ -187,45 +191,68 @@ fn part_agrees(tree: &mut Words, map: &mut Map, part: &Part) -> Result<bool, Fai
     Ok(true)
 }
 
+/// Numbers from which scans to the greatest key start.
+const STARTS: [u64; 7] = [0, 1, 300, 99_999, 1 << 40, u64::MAX - 1, u64::MAX];
+
+// Whether a scan to the greatest key finds the map's pairs, and leaves the place past them as it was.
+fn ends_agree(tree: &Words, map: &Map, start: u64) -> bool {
+    let mut found = [(7, 7); 65];
+    let count = tree.range_inclusive(&start, &u64::MAX, &mut found);
+    let mut pairs = map.range(start..=u64::MAX);
+    for pair in found.iter().take(count) {
+        if pairs.next() != Some((&pair.0, &pair.1)) {
+            return false;
+        }
+    }
+    (count == 65 || pairs.next().is_none() && found[count] == (7, 7))
+        && tree.range(&start, &u64::MAX, &mut found) <= count
+}
+
+// Whether a tree and a map answer these parts alike, and then such scans.
+fn parts_agree(tree: &mut Words, map: &mut Map, parts: &[Part]) -> Result<bool, Fail> {
+    for part in parts {
+        if !part_agrees(tree, map, part)? {
+            return Ok(false);
+        }
+    }
+    let mut alike = true;
+    for start in &STARTS {
+        alike &= ends_agree(tree, map, *start);
+    }
+    Ok(alike)
+}
+
 // Whether an empty tree answers as a map.
 fn all_agree(alloc: Global, parts: &[Part]) -> Result<bool, Fail> {
     let mut tree: Words = Congee::new(alloc, DefaultAllocator::new())?;
     let mut map = Map::new(alloc);
-    for part in parts {
-        if !part_agrees(&mut tree, &mut map, part)? {
-            return Ok(false);
+    let agreed = parts_agree(&mut tree, &mut map, parts);
+    tree.close();
+    agreed
+}
+
+// What is done with the leaves below a node of each form by turns, so that they have one value and two.
+fn leaves(alloc: Global) -> Result<Vec<Part>, AllocError> {
+    let mut parts = Vec::new(alloc);
+    for count in [4, 16, 48, 256] {
+        for (call, order) in LEAVES {
+            parts.push(Part(call, order, 0, count))?;
         }
     }
-    Ok(true)
+    Ok(parts)
 }
 
 #[test]
 fn long_sequences_answer_as_a_map(rt: HostRuntime) -> Result<(), Fail> {
-    let count = u64::from(number_in(&rt, "TRIAL_KEYS", KEYS));
-    assert!(rt; all_agree(rt.alloc(), &dense(count))?);
-    assert!(rt; all_agree(rt.alloc(), &shuffled(count))?);
-    assert!(rt; all_agree(rt.alloc(), &scattered(count))?);
-    assert!(rt; all_agree(rt.alloc(), &FULL_NODE)?);
-    Ok(())
-}
-
-// Whether a tree answers as a map, whose leaves have one value and two by turns, below a node of each form.
-fn leaves_agree(alloc: Global) -> Result<bool, Fail> {
-    let mut tree: Words = Congee::new(alloc, DefaultAllocator::new())?;
-    let mut map = Map::new(alloc);
-    for leaves in [4, 16, 48, 256] {
-        for (call, order) in LEAVES {
-            if !part_agrees(&mut tree, &mut map, &Part(call, order, 0, leaves))? {
-                return Ok(false);
-            }
-        }
-    }
-    Ok(true)
-}
-
-#[test]
-fn leaves_with_one_value_and_with_two_answer_as_a_map(rt: HostRuntime) -> Result<(), Fail> {
-    assert!(rt; leaves_agree(rt.alloc())?);
+    let (alloc, count) = (rt.alloc(), u64::from(number_in(&rt, "TRIAL_KEYS", KEYS)));
+    let agreed = [
+        all_agree(alloc, &dense(count))?,
+        all_agree(alloc, &shuffled(count))?,
+        all_agree(alloc, &scattered(count))?,
+        all_agree(alloc, &FULL_NODE)?,
+        all_agree(alloc, &leaves(alloc)?)?,
+    ];
+    assert_same(&rt, agreed, [true; 5]);
     Ok(())
 }
 
@@ -273,19 +300,23 @@ fn fills(tree: &mut Numbers, [from, below]: [u64; 2], keys: &[u64]) -> Result<bo
     Ok(true)
 }
 
-fn are_found(alloc: Global, text: &str) -> Result<bool, Fail> {
-    let mut tree: Numbers = U64Congee::new(alloc, DefaultAllocator::new())?;
-    let new = fills(
-        &mut tree,
-        array::<2>(part(text, 0))?,
-        &numbers(alloc, part(text, 1))?,
-    )?;
+// Whether the keys of a text are new, and its ranges find what they are to find.
+fn are_right(alloc: Global, tree: &mut Numbers, text: &str) -> Result<bool, Fail> {
+    let (among, keys) = (array::<2>(part(text, 0))?, numbers(alloc, part(text, 1))?);
+    let new = fills(tree, among, &keys)?;
     for start in 0..part(text, 3).parse::<u64>()? {
-        if count(&tree, start, start.wrapping_add(3), 20) != Some(3) {
+        if count(tree, start, start.wrapping_add(3), 20) != Some(3) {
             return Ok(false);
         }
     }
-    Ok(new && are_counted(&tree, part(text, 2))?)
+    Ok(new && are_counted(tree, part(text, 2))?)
+}
+
+fn are_found(alloc: Global, text: &str) -> Result<bool, Fail> {
+    let mut tree: Numbers = U64Congee::new(alloc, DefaultAllocator::new())?;
+    let found = are_right(alloc, &mut tree, text);
+    tree.close();
+    found
 }
 
 #[test]
@@ -301,45 +332,27 @@ fn ranges_find_the_keys_within(rt: HostRuntime) -> Result<(), Fail> {
     Ok(())
 }
 
-/// Numbers from which scans to the greatest key start.
-const STARTS: [u64; 7] = [0, 1, 300, 99_999, 1 << 40, u64::MAX - 1, u64::MAX];
-
-// Whether a scan to the greatest key finds the map's pairs, and leaves the place past them as it was.
-fn ends_agree(tree: &Words, map: &Map, start: u64) -> bool {
-    let mut found = [(7, 7); 65];
-    let count = tree.range_inclusive(&start, &u64::MAX, &mut found);
-    let mut pairs = map.range(start..=u64::MAX);
-    for pair in found.iter().take(count) {
-        if pairs.next() != Some((&pair.0, &pair.1)) {
-            return false;
-        }
-    }
-    (count == 65 || pairs.next().is_none() && found[count] == (7, 7))
-        && tree.range(&start, &u64::MAX, &mut found) <= count
-}
-
-// Whether such scans agree with a map's, by keys of so many turns.
-fn scans_agree(alloc: Global, order: Order, turns: u64, greatest: bool) -> Result<bool, Fail> {
-    let mut tree: Words = Congee::new(alloc, DefaultAllocator::new())?;
-    let mut map = Map::new(alloc);
-    let keys = Part(Call::Insert, order, 0, turns);
-    let mut alike = part_agrees(&mut tree, &mut map, &keys)?;
-    if greatest {
-        alike &= agrees(&mut tree, &mut map, Call::Insert, u64::MAX)?;
-    }
-    for start in STARTS {
-        alike &= ends_agree(&tree, &map, start);
-    }
-    Ok(alike)
-}
+/// How many keys of each order come before such scans, and the greatest key too, or not.
+const TURNS: [(u64, u64); 8] = [
+    (0, 0),
+    (0, 1),
+    (1, 0),
+    (1, 1),
+    (20, 0),
+    (20, 1),
+    (500, 0),
+    (500, 1),
+];
 
 #[test]
 fn scans_to_the_greatest_key_answer_as_a_map(rt: HostRuntime) -> Result<(), Fail> {
     for order in [Order::Dense, Order::Scattered, Order::Lone] {
-        for turns in [0, 1, 20, 500] {
-            for greatest in [false, true] {
-                assert!(rt; scans_agree(rt.alloc(), order, turns, greatest)?);
-            }
+        for (turns, greatest) in &TURNS {
+            let keys = [
+                Part(Call::Insert, order, 0, *turns),
+                Part(Call::Insert, Order::Greatest, 0, *greatest),
+            ];
+            assert_same(&rt, all_agree(rt.alloc(), &keys)?, true);
         }
     }
     Ok(())

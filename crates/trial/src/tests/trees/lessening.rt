@@ -6,9 +6,8 @@ use crate::tests::machine::drawn::next;
 use congee::{
     Allocator, Congee, CongeeArc, DefaultAllocator, Limited, NoDrain, OOMError, U64Congee,
 };
-use std::alloc::Global;
+use std::alloc::{AllocError, Global};
 use std::collections::BTreeMap;
-use std::process::Abort;
 use std::sync::Arc;
 use std::test::Fail;
 
@@ -19,7 +18,7 @@ type Numbers = U64Congee<u64, DefaultAllocator>;
 type Map = BTreeMap<u64, u64>;
 
 /// A budget without a limit that counts the nodes which are charged.
-#[derive(Debug, Drop)]
+#[derive(Drop)]
 struct Counting {
     budget: DefaultAllocator,
     made: u64,
@@ -146,35 +145,52 @@ fn brings(
     Ok(())
 }
 
+/// Whether each key below so many children is found.
+fn are_found(tree: &Tree<DefaultAllocator>, count: u64, distance: u64, beside: u64) -> bool {
+    let mut found = true;
+    for place in 0..count {
+        let key = key_at(place, distance);
+        let other = key.wrapping_add(beside);
+        found &= tree.get(&key) == Some(key) && tree.get(&other) == Some(other);
+    }
+    found
+}
+
 /// Whether a node goes up and down as the rows say, whose children stand at this distance, each with two keys, or one where both
 /// are the same, and with nodes of so many bytes. Each key that is there is found at each row, and the root is charged as well.
-fn goes(alloc: Global, distance: u64, beside: u64, below: u64) -> Result<bool, Fail> {
-    let mut tree = with_keys(alloc, DefaultAllocator::new(), 0, 0, 1)?;
+fn goes(
+    tree: &mut Tree<DefaultAllocator>,
+    distance: u64,
+    beside: u64,
+    below: u64,
+) -> Result<bool, OOMError> {
     let mut now = 0;
     let mut is_right = true;
-    for (count, size) in ROWS {
-        brings(&mut tree, now, count, distance, beside)?;
-        now = count;
+    for (count, size) in &ROWS {
+        brings(tree, now, *count, distance, beside)?;
+        now = *count;
         // A value that is alone has a least leaf.
         let each = if now == 1 { below.max(64) } else { below };
         let children = now.wrapping_mul(each);
         is_right &= tree.charged() == size.wrapping_add(children).wrapping_add(2104);
-        for place in 0..now {
-            let key = key_at(place, distance);
-            let other = key.wrapping_add(beside);
-            is_right &= tree.get(&key) == Some(key);
-            is_right &= tree.get(&other) == Some(other);
-        }
+        is_right &= are_found(tree, now, distance, beside);
     }
     Ok(is_right && tree.is_empty())
 }
 
+/// A tree is empty again after each.
 #[test]
 fn nodes_go_up_and_down_through_all_forms(rt: HostRuntime) -> Result<(), Fail> {
-    for (distance, beside, below) in NODES {
-        let goes = goes(rt.alloc(), distance, beside, below)?;
-        assert_same(&rt, (distance, beside, goes), (distance, beside, true));
+    let mut tree = with_keys(rt.alloc(), DefaultAllocator::new(), 0, 0, 1)?;
+    for (distance, beside, below) in &NODES {
+        let goes = goes(&mut tree, *distance, *beside, *below);
+        assert_same(
+            &rt,
+            (*distance, *beside, goes),
+            (*distance, *beside, Ok(true)),
+        );
     }
+    tree.close();
     Ok(())
 }
 
@@ -194,79 +210,95 @@ const COLLAPSES: [(&[u64], u64, u64, u64); 7] = [
     (&[1], 1, 2168, 2104),
 ];
 
-/// What moved up is found, changed, parted from, and removed.
-fn is_changed<R: Abort>(
-    rt: &R,
-    tree: &mut Numbers,
-    keys: &[u64],
-    gone: u64,
-) -> Result<(), OOMError> {
+/// Whether what moved up is found, changed, parted from, and removed.
+fn is_changed(tree: &mut Numbers, keys: &[u64]) -> Result<bool, OOMError> {
     for key in keys {
         tree.insert(*key, 7)?;
         tree.insert(key.wrapping_add(3 << 40), 8)?;
     }
+    let mut right = true;
     for key in keys {
-        let told = (
-            gone,
-            tree.remove(*key),
-            tree.remove(key.wrapping_add(3 << 40)),
-        );
-        assert_same(rt, told, (gone, Some(7), Some(8)));
+        right &= tree.remove(*key) == Some(7);
+        right &= tree.remove(key.wrapping_add(3 << 40)) == Some(8);
     }
-    assert_same(rt, (gone, tree.charged()), (gone, 2104));
-    Ok(())
+    Ok(right)
 }
 
-/// Keys come, one of them goes, and the others are found.
-fn moves_up<R: Abort>(
-    rt: &R,
+/// What is told as keys come and one of them goes: what is charged before, its value, and what is charged then; whether the others
+/// alone are found, and then changed; and what is charged in the end.
+fn moves_up(
     tree: &mut Numbers,
     keys: &[u64],
     gone: u64,
-    charged: (u64, u64),
-) -> Result<(), OOMError> {
+) -> Result<(u64, Option<u64>, u64, bool, bool, u64), OOMError> {
     for key in keys {
         tree.insert(*key, *key)?;
     }
-    let told = (tree.charged(), tree.remove(gone), tree.charged());
-    assert_same(rt, told, (charged.0, Some(gone), charged.1));
+    let (before, taken, after) = (tree.charged(), tree.remove(gone), tree.charged());
+    let mut found = true;
     for key in keys {
         let left = if *key == gone { None } else { Some(*key) };
-        assert_same(rt, (gone, tree.get(*key)), (gone, left));
+        found &= tree.get(*key) == left;
     }
-    is_changed(rt, tree, keys, gone)
+    let changed = is_changed(tree, keys)?;
+    Ok((before, taken, after, found, changed, tree.charged()))
 }
 
+/// A tree is empty again after each.
 #[test]
 fn the_other_child_moves_up(rt: HostRuntime) -> Result<(), Fail> {
-    for (keys, gone, before, after) in COLLAPSES {
-        let mut tree: Numbers = U64Congee::new(rt.alloc(), DefaultAllocator::new())?;
-        let moved = moves_up(&rt, &mut tree, keys, gone, (before, after));
-        tree.close();
-        moved?;
+    let mut tree: Numbers = U64Congee::new(rt.alloc(), DefaultAllocator::new())?;
+    for (keys, gone, before, after) in &COLLAPSES {
+        let moved = moves_up(&mut tree, keys, *gone);
+        let told = (*before, Some(*gone), *after, true, true, 2104);
+        assert_same(&rt, (*gone, moved), (*gone, Ok(told)));
     }
+    tree.close();
     Ok(())
 }
 
 /// A limit, and what is charged after the fourth of five values of a leaf went beside another leaf, and after the third.
 const LIMITS: [(u64, u64, u64); 3] = [(2400, 2336, 2232), (2399, 2336, 2336), (2336, 2336, 2336)];
 
+/// What two removals tell, each with what is charged then; two more, of which the first tries again; and what is charged and found
+/// in the end.
+type Lessened = (
+    (Option<u64>, u64),
+    (Option<(u64, Option<u64>)>, u64),
+    (Option<u64>, Result<Option<u64>, Option<u64>>),
+    (u64, Option<u64>, Option<u64>),
+);
+
+fn lessened(tree: &mut Tree<Limited>) -> Lessened {
+    let first = (tree.remove(&1), tree.charged());
+    let second = (tree.compute_if_present(&2, |_| None), tree.charged());
+    let more = (tree.remove(&(1 << 56)), tree.compare_exchange(&3, &3, None));
+    let left = (tree.charged(), tree.get(&4), tree.get(&5));
+    (first, second, more, left)
+}
+
+/// What is told of a tree with five values in a leaf and one in another leaf, of so many bytes at most.
+fn lessened_at(alloc: Global, limit: u64) -> Result<Lessened, OOMError> {
+    let mut tree = with_keys(alloc, Limited::new(limit), 1, 5, 1)?;
+    let put = tree.insert(1 << 56, 0);
+    let lessened = lessened(&mut tree);
+    tree.close();
+    put?;
+    Ok(lessened)
+}
+
 #[test]
-fn a_lesser_node_past_the_budget_is_done_without(rt: HostRuntime) -> Result<(), Fail> {
-    for (limit, four, three) in LIMITS {
-        let mut tree = with_keys(rt.alloc(), Limited::new(limit), 1, 5, 1)?;
-        tree.insert(1 << 56, 0)?;
-        let told = (limit, tree.remove(&1), tree.charged());
-        assert_same(&rt, told, (limit, Some(1), four));
-        let told = (limit, tree.compute_if_present(&2, |_| None), tree.charged());
-        assert_same(&rt, told, (limit, Some((2, None)), three));
-        // The next removal tries again.
-        let gone = (tree.remove(&(1 << 56)), tree.compare_exchange(&3, &3, None));
-        assert_same(&rt, (limit, gone), (limit, (Some(0), Ok(None))));
-        let left = (limit, tree.charged(), tree.get(&4), tree.get(&5));
-        assert_same(&rt, left, (limit, 2168, Some(4), Some(5)));
+fn a_lesser_node_past_the_budget_is_done_without(rt: HostRuntime) {
+    for (limit, four, three) in &LIMITS {
+        let told = (
+            (Some(1), *four),
+            (Some((2, None)), *three),
+            (Some(0), Ok(None)),
+            (2168, Some(4), Some(5)),
+        );
+        let lessened = lessened_at(rt.alloc(), *limit);
+        assert_same(&rt, (*limit, lessened), (*limit, Ok(told)));
     }
-    Ok(())
 }
 
 /// So many values or leaves in a node, and at most as many before; the distance of their keys; and how many nodes each further
@@ -304,20 +336,25 @@ fn made(alloc: Global, count: u64, most: u64, distance: u64, pairs: u64) -> Resu
     Ok(tree.close().0.made)
 }
 
+/// How many more nodes a thousand further pairs make.
+fn made_more(alloc: Global, count: u64, most: u64, distance: u64) -> Result<u64, OOMError> {
+    let once = made(alloc, count, most, distance, 1)?;
+    let often = made(alloc, count, most, distance, 1_001)?;
+    Ok(often.wrapping_sub(once))
+}
+
 /// A key comes and goes a thousand times: the form of its node changes once at most.
 #[test]
-fn a_growth_and_a_shrink_do_not_alternate(rt: HostRuntime) -> Result<(), Fail> {
-    for (count, most, distance, leaves) in COUNTS {
-        let once = made(rt.alloc(), count, most, distance, 1)?;
-        let often = made(rt.alloc(), count, most, distance, 1_001)?;
-        let more = often.wrapping_sub(once);
+fn a_growth_and_a_shrink_do_not_alternate(rt: HostRuntime) {
+    for (count, most, distance, leaves) in &COUNTS {
+        let more = made_more(rt.alloc(), *count, *most, *distance);
+        let expected = Ok(leaves.wrapping_mul(1_000));
         assert_same(
             &rt,
-            (count, distance, more),
-            (count, distance, leaves.wrapping_mul(1_000)),
+            (*count, *distance, more),
+            (*count, *distance, expected),
         );
     }
-    Ok(())
 }
 
 /// A key of few bytes that differ, so that nodes part on each level, and leaves have one value, few or many.
@@ -356,30 +393,38 @@ fn drawn_agree(
     Ok(tree.keys()?.iter().eq(map.keys()))
 }
 
-/// A tree grows and shrinks again and again as a map does, and its statistics count the pairs.
-fn agree<R: Abort>(rt: &R, tree: &mut Tree<DefaultAllocator>, map: &mut Map) -> Result<(), Fail> {
-    let mut number = 1;
-    for _ in 0..6u8 {
-        assert!(rt; drawn_agree(tree, map, &mut number, 600, 7)?);
-        assert!(rt; drawn_agree(tree, map, &mut number, 900, 1)?);
-        assert_same(rt, tree.stats()?.kv_pairs, map.len() as u64);
-    }
+/// Whether all pairs of a map are taken out of both alike, and an empty tree has its root alone.
+fn go_alike(tree: &mut Tree<DefaultAllocator>, map: &mut Map) -> Result<bool, Fail> {
+    let mut alike = true;
     for key in tree.keys()?.iter() {
-        assert_same(rt, tree.remove(key), map.remove(key));
+        alike &= tree.remove(key) == map.remove(key);
     }
-    Ok(())
+    Ok(alike && tree.is_empty() && map.is_empty() && tree.charged() == 2104)
 }
 
-/// Empty, its root alone is charged.
+/// Whether a tree grows and shrinks again and again as a map does, and its statistics count the pairs.
+fn agree(tree: &mut Tree<DefaultAllocator>, map: &mut Map) -> Result<bool, Fail> {
+    let mut number = 1;
+    let mut alike = true;
+    for _ in 0..6u8 {
+        alike &= drawn_agree(tree, map, &mut number, 600, 7)?;
+        alike &= drawn_agree(tree, map, &mut number, 900, 1)?;
+        alike &= tree.stats()?.kv_pairs == map.len() as u64;
+    }
+    Ok(alike && go_alike(tree, map)?)
+}
+
+fn shrinks_as_a_map(alloc: Global) -> Result<bool, Fail> {
+    let mut tree = with_keys(alloc, DefaultAllocator::new(), 0, 0, 1)?;
+    let mut map = Map::new(alloc);
+    let agreed = agree(&mut tree, &mut map);
+    tree.close();
+    agreed
+}
+
 #[test]
 fn trees_that_shrink_answer_as_a_map(rt: HostRuntime) -> Result<(), Fail> {
-    let mut tree = with_keys(rt.alloc(), DefaultAllocator::new(), 0, 0, 1)?;
-    let mut map = Map::new(rt.alloc());
-    let agreed = agree(&rt, &mut tree, &mut map);
-    let left = (tree.is_empty(), map.is_empty(), tree.charged());
-    tree.close();
-    agreed?;
-    assert_same(&rt, left, (true, true, 2104));
+    assert_same(&rt, shrinks_as_a_map(rt.alloc())?, true);
     Ok(())
 }
 
@@ -391,24 +436,30 @@ fn number_of(owner: Option<Arc<u64, Global>>) -> Option<u64> {
     }
 }
 
-/// Owners go down as words do: each is handed back once, and those that are left are found.
+/// Whether owners go down as words do: each is handed back once, and those that are left are found.
+fn owners_move(alloc: Global, tree: &mut CongeeArc<u64, u64>) -> Result<bool, AllocError> {
+    let mut right = true;
+    for key in 0..60u64 {
+        let owner = Arc::new(alloc, key)?;
+        right &= matches!(tree.insert(key.wrapping_mul(256), owner), Ok(None));
+    }
+    for key in 0..58u64 {
+        right &= number_of(tree.remove(key.wrapping_mul(256))) == Some(key);
+    }
+    for key in 58..60u64 {
+        right &= match tree.get(key.wrapping_mul(256)) {
+            Ok(owner) => number_of(owner) == Some(key),
+            Err(_) => false,
+        };
+    }
+    Ok(right)
+}
+
 #[test]
 fn shared_values_move_with_their_nodes(rt: HostRuntime) -> Result<(), Fail> {
     let mut tree: CongeeArc<u64, u64> = CongeeArc::new(rt.alloc())?;
-    for key in 0..60u64 {
-        let owner = Arc::new(rt.alloc(), key)?;
-        assert!(rt; matches!(tree.insert(key.wrapping_mul(256), owner), Ok(None)));
-    }
-    for key in 0..58u64 {
-        assert!(rt; number_of(tree.remove(key.wrapping_mul(256))) == Some(key));
-    }
-    for key in 58..60u64 {
-        let owner = tree
-            .get(key.wrapping_mul(256))
-            .ok()
-            .ok_or("no more owners")?;
-        assert!(rt; number_of(owner) == Some(key));
-    }
+    let moved = owners_move(rt.alloc(), &mut tree);
     tree.close();
+    assert_same(&rt, moved, Ok(true));
     Ok(())
 }

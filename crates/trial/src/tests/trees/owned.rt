@@ -3,6 +3,7 @@
 use crate::tests::asserts::assert_same;
 use crate::tests::dialogue::{Asked, told, wrong_turn};
 use crate::tests::texts::named;
+use crate::tests::threads::trees::raised;
 use congee::{Allocator, Congee, DefaultAllocator, Limited, NoDrain, OOMError, U64Congee};
 use std::alloc::Global;
 use std::test::Fail;
@@ -14,8 +15,8 @@ const AMPLE: [&str; 15] = [
     "a leaf grows through every form: fill 1 50 = true; charged = 4208; get 49 = Some(49)",
     "a leaf that is left alone moves up: insert 1 1 = Ok(None); insert 256 2 = Ok(None); charged = 2296; remove 1 = Some(1); \
      charged = 2168; empty = false; remove 256 = Some(2); empty = true; keys = []; charged = 2104",
-    "closures answer: insert 1 42 = Ok(None); next_or 1 0 = Ok(Some(42)); next_or 2 2 = Ok(None); get 1 = Some(43); get 2 = Some(2); \
-     next 1 = Some((43, Some(44))); next 3 = None; drop 1 = Some((44, None)); get 1 = None",
+    "closures answer: insert 1 42 = Ok(None); orinsert 1 0 = Ok(Some(42)); orinsert 2 2 = Ok(None); get 1 = Some(43); get 2 = Some(2); \
+     present 1 1 = Some((43, Some(44))); present 3 1 = None; present 1 = Some((44, None)); get 1 = None",
     "values are exchanged: insert 1 42 = Ok(None); exchange 1 42 43 = Ok(Some(43)); insert 1 41 = Ok(Some(43)); \
      exchange 1 42 43 = Err(Some(41)); exchange 2 42 43 = Err(None); insert 1 42 = Ok(Some(41)); exchange 1 42 = Ok(None); get 1 = None",
     "a range ends before its end: insert 4294967295 1 = Ok(None); insert 4294967247 2 = Ok(None); \
@@ -123,21 +124,80 @@ fn next_or(value: Option<u64>, number: u64) -> u64 {
     }
 }
 
+/// What can be asked.
+#[derive(Clone, Copy)]
+enum Word {
+    Keys,
+    /// The pair of the least key and that of the greatest one.
+    Ends,
+    Empty,
+    Charged,
+    Clear,
+    Get,
+    /// The pairs of the nearest keys below and above.
+    Beside,
+    Range,
+    Through,
+    Insert,
+    Fill,
+    Remove,
+    /// A closure adds a number, or takes the key out where none is given.
+    Present,
+    /// A closure adds one, or answers a number at an absent key.
+    OrInsert,
+    /// The new value is left out where the key is to go.
+    Exchange,
+}
+
+const WORDS: [(&str, Word); 15] = [
+    ("keys", Word::Keys),
+    ("ends", Word::Ends),
+    ("empty", Word::Empty),
+    ("charged", Word::Charged),
+    ("clear", Word::Clear),
+    ("get", Word::Get),
+    ("beside", Word::Beside),
+    ("range", Word::Range),
+    ("through", Word::Through),
+    ("insert", Word::Insert),
+    ("fill", Word::Fill),
+    ("remove", Word::Remove),
+    ("present", Word::Present),
+    ("orinsert", Word::OrInsert),
+    ("exchange", Word::Exchange),
+];
+
+fn word_of(text: &str) -> Result<Word, Fail> {
+    for (known, word) in &WORDS {
+        if *known == text {
+            return Ok(*word);
+        }
+    }
+    Err("no question")?
+}
+
+/// The number at a place, 0 where there are fewer.
+fn number(numbers: &[u64], place: usize) -> u64 {
+    match numbers.get(place) {
+        Some(number) => *number,
+        None => 0,
+    }
+}
+
 impl<A: Allocator> Asked for Tree<A> {
     fn answer(&mut self, alloc: Global, word: &str, numbers: &[u64]) -> Result<String, Fail> {
-        match (word, numbers) {
-            ("keys", []) => told(alloc, &self.keys()?.as_slice()),
-            // The pair of the least key and that of the greatest one.
-            ("ends", []) => told(alloc, &(self.first(), self.last())),
-            ("empty", []) => told(alloc, &self.is_empty()),
-            ("charged", []) => told(alloc, &self.charged()),
-            ("clear", []) => told(alloc, &self.clear()),
-            ("get", [key]) => told(alloc, &self.get(key)),
-            // The pairs of the nearest keys below and above.
-            ("beside", [key]) => told(alloc, &(self.next_before(key), self.next_after(key))),
-            ("range", [start, end, places]) => range(alloc, self, *start, *end, *places),
-            ("through", [start, last, places]) => through(alloc, self, *start, *last, *places),
-            _ => writes(alloc, self, word, numbers),
+        let (key, end, places) = (number(numbers, 0), number(numbers, 1), number(numbers, 2));
+        match word_of(word)? {
+            Word::Keys => told(alloc, &self.keys()?.as_slice()),
+            Word::Ends => told(alloc, &(self.first(), self.last())),
+            Word::Empty => told(alloc, &self.is_empty()),
+            Word::Charged => told(alloc, &self.charged()),
+            Word::Clear => told(alloc, &self.clear()),
+            Word::Get => told(alloc, &self.get(&key)),
+            Word::Beside => told(alloc, &(self.next_before(&key), self.next_after(&key))),
+            Word::Range => range(alloc, self, key, end, places),
+            Word::Through => through(alloc, self, key, end, places),
+            word => writes(alloc, self, word, key, numbers),
         }
     }
 }
@@ -146,22 +206,22 @@ impl<A: Allocator> Asked for Tree<A> {
 fn writes<A: Allocator>(
     alloc: Global,
     tree: &mut Tree<A>,
-    word: &str,
+    word: Word,
+    key: u64,
     numbers: &[u64],
 ) -> Result<String, Fail> {
-    match (word, numbers) {
-        ("insert", [key, value]) => told(alloc, &tree.insert(*key, *value)),
-        ("fill", [start, end]) => told(alloc, &fills(tree, *start, *end)?),
-        ("remove", [key]) => told(alloc, &tree.remove(key)),
-        ("next", [key]) => told(
-            alloc,
-            &tree.compute_if_present(key, |v| Some(v.wrapping_add(1))),
-        ),
-        ("drop", [key]) => told(alloc, &tree.compute_if_present(key, |_| None)),
-        ("next_or", [key, n]) => told(alloc, &tree.compute_or_insert(*key, |v| next_or(v, *n))),
-        ("exchange", [key, old]) => told(alloc, &tree.compare_exchange(key, old, None)),
-        ("exchange", [key, old, new]) => told(alloc, &tree.compare_exchange(key, old, Some(*new))),
-        _ => Err("no question")?,
+    let (by, value) = (numbers.get(1).copied(), number(numbers, 1));
+    match word {
+        Word::Insert => told(alloc, &tree.insert(key, value)),
+        Word::Fill => told(alloc, &fills(tree, key, value)?),
+        Word::Remove => told(alloc, &tree.remove(&key)),
+        Word::Present => told(alloc, &tree.compute_if_present(&key, |v| raised(v, by))),
+        Word::OrInsert => told(alloc, &tree.compute_or_insert(key, |v| next_or(v, value))),
+        Word::Exchange => {
+            let new = numbers.get(2).copied();
+            told(alloc, &tree.compare_exchange(&key, &value, new))
+        }
+        _ => Err("no writing call")?,
     }
 }
 
@@ -183,20 +243,18 @@ fn wrong<A: Allocator>(
 
 #[test]
 fn each_call_answers(rt: HostRuntime) -> Result<(), Fail> {
-    for dialogue in AMPLE {
-        assert_same(
-            &rt,
-            wrong(rt.alloc(), DefaultAllocator::new(), dialogue)?,
-            None,
-        );
+    for dialogue in &AMPLE {
+        let wrong = wrong(rt.alloc(), DefaultAllocator::new(), *dialogue)?;
+        assert_same(&rt, wrong, None);
     }
     Ok(())
 }
 
 #[test]
 fn a_budget_is_kept(rt: HostRuntime) -> Result<(), Fail> {
-    for (limit, dialogue) in LIMITED {
-        assert_same(&rt, wrong(rt.alloc(), Limited::new(limit), dialogue)?, None);
+    for (limit, dialogue) in &LIMITED {
+        let wrong = wrong(rt.alloc(), Limited::new(*limit), *dialogue)?;
+        assert_same(&rt, wrong, None);
     }
     Ok(())
 }

@@ -4,7 +4,7 @@ use crate::tests::machine::drawn::number_in;
 use crate::tests::texts::{array, call_of, named, part, question};
 use congee::{Child, Move, Noise, Op, Outcome, PlainStore, Seen, Step, play};
 use judge::Call;
-use std::alloc::Global;
+use std::alloc::{AllocError, Global};
 use std::test::Fail;
 
 type Steps = Vec<Step<usize, u64>>;
@@ -89,11 +89,14 @@ const WORKED: [&str; 26] = [
      Insert(None) Insert(None) Remove(Some(1)) Insert(Some(2)) Get(Some(9)); 4 0",
 ];
 
-/// What a run left, and what each of its steps did.
+/// What a run left: how many nodes there are, how many of them were given back, and whether no node is locked but those that were
+/// taken out and retired; and what its steps told.
 #[derive(Drop)]
 struct Ran {
-    store: PlainStore,
-    moves: Vec<Move<u64>>,
+    nodes: usize,
+    given_back: usize,
+    is_at_rest: bool,
+    told: String,
 }
 
 fn step_of(who: usize) -> Step<usize, u64> {
@@ -167,18 +170,28 @@ fn op_of(call: Call<u64>) -> Op<u64> {
     }
 }
 
-fn run(alloc: Global, room: usize, calls: &[Call<u64>], steps: Steps) -> Result<Ran, Fail> {
+fn ops_of(alloc: Global, calls: &[Call<u64>]) -> Result<Vec<Op<u64>>, AllocError> {
     let mut ops = Vec::new(alloc);
     for call in calls {
         ops.push(op_of(*call))?;
     }
+    Ok(ops)
+}
+
+fn run(alloc: Global, room: usize, calls: &[Call<u64>], steps: Steps) -> Result<Ran, Fail> {
+    let ops = ops_of(alloc, calls)?;
     let mut store = PlainStore::new(alloc, room)?;
     let mut calls = PlainStore::calls(alloc, ops)?;
     let played = play(alloc, &mut store, &mut calls, steps);
-    Ok(Ran {
-        store,
-        moves: played.moves,
-    })
+    match told(alloc, &played.moves) {
+        Ok(told) => Ok(Ran {
+            nodes: store.nodes.len(),
+            given_back: given_back(&store),
+            is_at_rest: is_at_rest(&store),
+            told,
+        }),
+        Err(fail) => Err(fail),
+    }
 }
 
 /// How many nodes were given back.
@@ -220,16 +233,19 @@ fn told(alloc: Global, moves: &[Move<u64>]) -> Result<String, Fail> {
     Ok(told)
 }
 
-fn holds(alloc: Global, worked: &str) -> Result<bool, Fail> {
+fn run_of(alloc: Global, worked: &str) -> Result<Ran, Fail> {
     let calls = calls_of(alloc, part(worked, 1))?;
-    let steps = steps_of(alloc, part(worked, 2))?;
-    let ran = run(alloc, part(worked, 0).parse::<usize>()?, &calls, steps)?;
+    let room = part(worked, 0).parse::<usize>()?;
+    run(alloc, room, &calls, steps_of(alloc, part(worked, 2))?)
+}
+
+fn holds(alloc: Global, worked: &str) -> Result<bool, Fail> {
     let [there, back] = array::<2>(part(worked, 4))?;
+    let ran = run_of(alloc, worked)?;
     Ok(
-        is_at_rest(&ran.store)
-            && ran.store.nodes.len() as u64 == there
-            && given_back(&ran.store) as u64 == back
-            && told(alloc, &ran.moves)?.trim() == part(worked, 3),
+        ran.is_at_rest
+            && (ran.nodes as u64, ran.given_back as u64) == (there, back)
+            && ran.told.trim() == part(worked, 3),
     )
 }
 
@@ -256,23 +272,23 @@ fn to_and_fro(alloc: Global, others: u64, pairs: u32) -> Result<Vec<Call<u64>>, 
     Ok(calls)
 }
 
+/// How many nodes such calls make.
+fn made(alloc: Global, others: u64, pairs: u32) -> Result<usize, Fail> {
+    let calls = to_and_fro(alloc, others, pairs)?;
+    let mut steps = Vec::new(alloc);
+    for who in 0..calls.len() {
+        push_steps(&mut steps, who, 20)?;
+    }
+    Ok(run(alloc, 100, &calls, steps)?.nodes)
+}
+
 #[test]
 fn a_key_that_comes_and_goes_makes_no_node_twice(rt: HostRuntime) -> Result<(), Fail> {
-    let alloc = rt.alloc();
     let pairs = number_in(&rt, "TRIAL_PAIRS", 100);
     // A root, and a leaf of each form on the way.
     for (others, nodes) in [(3, 2), (4, 3), (15, 3), (16, 4), (47, 4), (48, 5)] {
-        let calls = to_and_fro(alloc, others, pairs)?;
-        let mut steps = Vec::new(alloc);
-        for who in 0..calls.len() {
-            push_steps(&mut steps, who, 20)?;
-        }
-        let ran = run(alloc, 100, &calls, steps)?;
-        assert_same(
-            &rt,
-            (others, ran.store.nodes.len() == nodes),
-            (others, true),
-        );
+        let made = made(rt.alloc(), others, pairs)?;
+        assert_same(&rt, (others, made), (others, nodes));
     }
     Ok(())
 }

@@ -26,12 +26,16 @@ fn prints(alloc: Global, stats: &NodeStats, text: &str) -> Result<bool, Fail> {
 /// How many keys there are under some first bytes, so that each leaf has another form.
 const LEAVES: [(u64, u64); 4] = [(1, 4), (2, 5), (3, 17), (4, 49)];
 
+/// One node with so many children, or none where it would have none.
+fn info(children: u64) -> NodeInfo {
+    NodeInfo {
+        node_count: children.min(1),
+        value_count: children,
+    }
+}
+
 /// A level with one node of each form that has as many children as are given, and none of a form that has none.
 fn level([n4, n16, n48, n256]: [u64; 4]) -> LevelStats {
-    let info = |children: u64| NodeInfo {
-        node_count: if children == 0 { 0 } else { 1 },
-        value_count: children,
-    };
     LevelStats {
         n4: info(n4),
         n16: info(n16),
@@ -91,17 +95,19 @@ fn surveys_leaves(tree: &mut Tree) -> Result<bool, Fail> {
     Ok(surveys(tree, &[empty], 0)? && put_leaves(tree)? && surveys(tree, &full, 75)?)
 }
 
-#[test]
-fn surveys_a_tree(rt: HostRuntime) -> Result<(), Fail> {
-    let mut tree: Tree = Congee::new(rt.alloc(), DefaultAllocator::new())?;
-    assert!(rt; prints_survey(rt.alloc(), &mut tree)?);
-    Ok(())
+// Whether the leaves of each form are counted, and then the tree of the text, once it is cleared.
+fn surveys_both(alloc: Global, tree: &mut Tree) -> Result<bool, Fail> {
+    let leaves = surveys_leaves(tree)?;
+    tree.clear();
+    Ok(leaves && prints_survey(alloc, tree)?)
 }
 
 #[test]
-fn surveys_every_form(rt: HostRuntime) -> Result<(), Fail> {
+fn surveys_trees(rt: HostRuntime) -> Result<(), Fail> {
     let mut tree: Tree = Congee::new(rt.alloc(), DefaultAllocator::new())?;
-    assert!(rt; surveys_leaves(&mut tree)?);
+    let surveyed = surveys_both(rt.alloc(), &mut tree);
+    tree.close();
+    assert_same(&rt, surveyed?, true);
     Ok(())
 }
 
@@ -133,8 +139,8 @@ fn great_stats(alloc: Global) -> Result<NodeStats, Fail> {
 
 #[test]
 fn cuts_hundredths_off(rt: HostRuntime) -> Result<(), Fail> {
-    let stats = great_stats(rt.alloc())?;
-    assert!(rt; prints(rt.alloc(), &stats, CUT_OFF)?);
+    let cut = prints(rt.alloc(), &great_stats(rt.alloc())?, CUT_OFF)?;
+    assert_same(&rt, cut, true);
     Ok(())
 }
 
@@ -156,16 +162,19 @@ fn give<A: Allocator>(allocator: &mut A, size: u64) {
 #[test]
 fn charges_up_to_the_limit(rt: HostRuntime) {
     let mut some = Limited::new(100);
-    assert_same(&rt, some.allocate(64), Ok(()));
-    assert_same(&rt, some.allocate(37), Err(budget(64, 37, 100)));
-    assert_same(&rt, some.allocate(36), Ok(()));
+    let told = [some.allocate(64), some.allocate(37), some.allocate(36)];
+    assert_same(&rt, told, [Ok(()), Err(budget(64, 37, 100)), Ok(())]);
     give(&mut some, 64);
     assert_same(&rt, (some.charged(), some.limit()), (36, 100));
     let mut all = DefaultAllocator::new();
-    assert_same(&rt, all.allocate(u64::MAX), Ok(()));
-    assert_same(&rt, all.allocate(1), Err(budget(u64::MAX, 1, u64::MAX)));
+    let told = [all.allocate(u64::MAX), all.allocate(1)];
+    assert_same(&rt, told, [Ok(()), Err(budget(u64::MAX, 1, u64::MAX))]);
     give(&mut all, u64::MAX);
     assert_same(&rt, (all.charged(), all.limit()), (0, u64::MAX));
+}
+
+fn shows(alloc: Global, error: OOMError) -> Result<bool, Fail> {
+    Ok(format!(in alloc; "{error}")?.as_str() == "Allocator is out of memory!")
 }
 
 fn add_one(words: &mut Vec<u64>) -> Result<(), OOMError> {
@@ -173,15 +182,13 @@ fn add_one(words: &mut Vec<u64>) -> Result<(), OOMError> {
     Ok(())
 }
 
-fn shows(alloc: Global, error: OOMError) -> Result<bool, Fail> {
-    Ok(format!(in alloc; "{error}")?.as_str() == "Allocator is out of memory!")
-}
-
+// A growth that is refused is one of these errors too.
 #[test]
 fn shows_want_of_memory(rt: HostRuntime) -> Result<(), Fail> {
-    assert!(rt; shows(rt.alloc(), budget(0, 2_104, 1_024))?);
-    assert!(rt; shows(rt.alloc(), OOMError::from(AllocError))?);
-    add_one(&mut Vec::new(rt.alloc()))?;
+    let of_budget = shows(rt.alloc(), budget(0, 2_104, 1_024))?;
+    let of_memory = shows(rt.alloc(), OOMError::from(AllocError))?;
+    let added = add_one(&mut Vec::new(rt.alloc()));
+    assert_same(&rt, (of_budget, of_memory, added), (true, true, Ok(())));
     Ok(())
 }
 

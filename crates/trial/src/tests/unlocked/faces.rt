@@ -1,6 +1,7 @@
 //! Calls that don't wait, calls on words of other types, what workers tell each other, and a close.
 
-use super::opened;
+use super::{leave, opened, shut};
+use crate::tests::asserts::assert_same;
 use judge::Word64;
 use optimistic::{Congee, Pair, Pairs, Refusal, U64Congee, WordWorker, Worker};
 use std::alloc::{AllocError, Global};
@@ -56,11 +57,16 @@ fn word_calls<K: Word64 + Copy, V: Word64 + Copy + PartialEq, R: Wait>(
 #[test]
 fn each_call_answers(rt: HostRuntime) -> Result<(), Fail> {
     let index = opened(rt.alloc(), 1_000)?;
-    let mut worker = index.worker(rt.alloc())?;
-    let told = tries(&mut worker);
-    drop(worker);
-    drop(index);
-    assert_eq!(rt; told, Ok(true));
+    let told = match index.worker(rt.alloc()) {
+        Ok(mut worker) => {
+            let told = tries(&mut worker);
+            leave(worker);
+            told == Ok(true)
+        }
+        Err(_) => false,
+    };
+    shut(index);
+    assert_same(&rt, told, true);
     let words: Congee<u64, u64> = Congee::new(rt.alloc(), 1_536)?;
     let mut worker = words.worker(rt.alloc())?;
     let told = (
@@ -69,7 +75,7 @@ fn each_call_answers(rt: HostRuntime) -> Result<(), Fail> {
     );
     drop(worker);
     drop(words);
-    assert_eq!(rt; told, (Ok(true), Ok(true)));
+    assert_same(&rt, told, (Ok(true), Ok(true)));
     Ok(())
 }
 
@@ -82,7 +88,7 @@ fn puts<R: Wait>(rt: &R, alloc: Global, index: &U64Congee) -> Result<(), AllocEr
     for key in KEYS {
         let _ = worker.insert(rt, key, key ^ 5);
     }
-    drop(worker);
+    leave(worker);
     Ok(())
 }
 
@@ -102,26 +108,29 @@ fn closed<R: Wait>(rt: &R, alloc: Global) -> Result<Option<Pairs>, AllocError> {
 
 /// Whether pairs are these keys, each with its value.
 fn are_of(pairs: &[Pair], keys: &[u64]) -> bool {
+    for (pair, key) in pairs.iter().zip(keys) {
+        if pair.key != *key || pair.value != *key ^ 5 {
+            return false;
+        }
+    }
     pairs.len() == keys.len()
-        && pairs
-            .iter()
-            .zip(keys)
-            .all(|(pair, key)| pair.key == *key && pair.value == *key ^ 5)
 }
 
 #[test]
 fn a_closed_index_tells_its_pairs(rt: HostRuntime) -> Result<(), Fail> {
-    let closed = closed(&rt, rt.alloc())?;
-    assert!(rt; closed.is_some());
-    let Some(mut pairs) = closed else {
-        return Ok(());
+    let Some(mut pairs) = closed(&rt, rt.alloc())? else {
+        panic!(rt; "an index that isn't closed");
     };
     let first = pairs.next();
     let rest = pairs.drain(rt.alloc());
     let end = pairs.next();
     drop(pairs);
-    assert!(rt; matches!(first, Ok(Some(Pair { key: 7, value: 2 }))));
-    assert!(rt; rest.is_ok_and(|rest| are_of(&rest, &[9, 300, 1 << 40, u64::MAX])));
-    assert!(rt; matches!(end, Ok(None)));
+    let is_first = matches!(first, Ok(Some(Pair { key: 7, value: 2 })));
+    let are_others = match rest {
+        Ok(rest) => are_of(&rest, &[9, 300, 1 << 40, u64::MAX]),
+        Err(_) => false,
+    };
+    let is_end = matches!(end, Ok(None));
+    assert_same(&rt, (is_first, are_others, is_end), (true, true, true));
     Ok(())
 }

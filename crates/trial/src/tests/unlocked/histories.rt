@@ -2,7 +2,8 @@
 
 use super::calls::{Draws, Timed, calls, key_called, key_of};
 use super::search::order;
-use super::{drained, opened};
+use super::{drained, leave, opened};
+use crate::tests::asserts::assert_same;
 use crate::tests::machine::drawn::number_in;
 use judge::{Call, Entry, Reply, Verdict, check};
 use optimistic::{Pair, U64Congee};
@@ -30,21 +31,12 @@ struct Plan {
     is_whole: bool,
 }
 
-/// What is known of a history.
-#[derive(Clone, Copy, Debug, PartialEq, Eq)]
-struct Known {
-    /// How many calls were made.
-    calls: usize,
-    /// Whether one map answers so, and has then what the index had.
-    is_one_maps: bool,
-}
+/// What is known of a history: how many calls were made, and whether one map answers so, and has then what the index had.
+type Known = (usize, bool);
 
 /// What a history of so many calls is to be.
-fn whole(threads: u32, count: u32) -> Known {
-    Known {
-        calls: (threads as usize).saturating_mul(count as usize),
-        is_one_maps: true,
-    }
+fn whole(threads: u32, count: u32) -> Option<Known> {
+    Some(((threads as usize).saturating_mul(count as usize), true))
 }
 
 /// The calls of one thread, with a worker of its own.
@@ -58,7 +50,7 @@ fn lane<R: Wait>(
 ) -> Result<Vec<Timed>, AllocError> {
     let mut worker = index.worker(alloc)?;
     let made = calls(rt, alloc, &mut worker, clock, place, draws);
-    drop(worker);
+    leave(worker);
     made
 }
 
@@ -118,8 +110,10 @@ fn is_legal_by_keys(
         let key = key_of(place);
         let own = of_key(alloc, key, lanes)?;
         let mut pair = Vec::new(alloc);
-        for found in pairs.iter().filter(|pair| pair.key == key) {
-            pair.push(*found)?;
+        for found in pairs {
+            if found.key == key {
+                pair.push(*found)?;
+            }
         }
         others = others.saturating_sub(pair.len());
         if !is_legal(alloc, &own, &pair)? {
@@ -136,15 +130,16 @@ fn judged(
     lanes: &[Vec<Timed>],
     pairs: &[Pair],
 ) -> Result<Known, AllocError> {
-    let calls = lanes
-        .iter()
-        .fold(0usize, |sum, lane| sum.saturating_add(lane.len()));
+    let mut calls = 0usize;
+    for lane in lanes {
+        calls = calls.saturating_add(lane.len());
+    }
     let is_one_maps = if plan.is_whole {
         is_legal(alloc, lanes, pairs)?
     } else {
         is_legal_by_keys(alloc, plan.draws.keys, lanes, pairs)?
     };
-    Ok(Known { calls, is_one_maps })
+    Ok((calls, is_one_maps))
 }
 
 /// Makes a plan's calls, and tells what is known of them, if no node was left locked.
@@ -177,7 +172,7 @@ fn one_threads_calls_are_a_maps(rt: HostRuntime) -> Result<(), Fail> {
         room: AMPLE,
         is_whole: true,
     };
-    assert_eq!(rt; history(&rt, rt.alloc(), plan)?, Some(whole(1, count)));
+    assert_same(&rt, history(&rt, rt.alloc(), plan)?, whole(1, count));
     Ok(())
 }
 
@@ -196,10 +191,10 @@ fn threads_calls_are_one_maps(rt: HostRuntime) -> Result<(), Fail> {
             is_whole: false,
         };
         let known = history(&rt, rt.alloc(), plan)?;
-        assert_eq!(rt;
-            known,
-            Some(whole(threads, count)),
-            "{threads} threads, {keys} keys"
+        assert_same(
+            &rt,
+            (threads, keys, known),
+            (threads, keys, whole(threads, count)),
         );
     }
     Ok(())
@@ -219,7 +214,8 @@ fn small_histories_are_one_maps(rt: HostRuntime) -> Result<(), Fail> {
             room: 500,
             is_whole: true,
         };
-        assert_eq!(rt; history(&rt, rt.alloc(), plan)?, Some(whole(3, 12)));
+        let known = history(&rt, rt.alloc(), plan)?;
+        assert_same(&rt, (phase, known), (phase, whole(3, 12)));
     }
     Ok(())
 }
@@ -240,7 +236,11 @@ fn calls_without_room_are_one_maps(rt: HostRuntime) -> Result<(), Fail> {
     };
     let known = history(&rt, rt.alloc(), plan)?;
     let most = 4 * u64::from(count);
-    assert!(rt; known.is_some_and(|it| it.is_one_maps && (it.calls as u64) < most));
+    let is_so = match known {
+        Some((calls, is_one_maps)) => is_one_maps && (calls as u64) < most,
+        None => false,
+    };
+    assert_same(&rt, is_so, true);
     Ok(())
 }
 
@@ -251,17 +251,19 @@ fn by_threads(alloc: Global, rows: &[Worked]) -> Result<Vec<Vec<Timed>>, AllocEr
     let mut lanes = Vec::new(alloc);
     for thread in 0..3u32 {
         let mut lane = Vec::new(alloc);
-        for (_, begin, end, call, reply) in rows.iter().filter(|row| row.0 == thread) {
+        for (owner, begin, end, call, reply) in rows {
             let entry = Entry {
                 worker: thread,
                 call: *call,
                 reply: *reply,
             };
-            lane.push(Timed {
-                begin: *begin,
-                end: *end,
-                entry,
-            })?;
+            if *owner == thread {
+                lane.push(Timed {
+                    begin: *begin,
+                    end: *end,
+                    entry,
+                })?;
+            }
         }
         lanes.push(lane)?;
     }
@@ -274,19 +276,27 @@ fn has_order(alloc: Global, rows: &[Worked]) -> Result<bool, AllocError> {
     Ok(order(alloc, &lanes)?.is_some())
 }
 
+/// A call that takes this value out.
+fn took(thread: u32, begin: u64, end: u64, value: u64) -> Worked {
+    (
+        thread,
+        begin,
+        end,
+        Call::Remove(1),
+        Reply::Remove(Some(value)),
+    )
+}
+
+/// A call that finds this.
+fn found(thread: u32, begin: u64, end: u64, value: Option<u64>) -> Worked {
+    (thread, begin, end, Call::Get(1), Reply::Get(value))
+}
+
 /// Histories that are no map's are refused.
 #[test]
 fn an_order_is_found_where_there_is_one(rt: HostRuntime) -> Result<(), Fail> {
     let put = (0, 0, 10, Call::Insert(1, 5), Reply::Insert(None));
     let again = (1, 0, 20, Call::Insert(1, 6), Reply::Insert(None));
-    let took = |thread, begin, end, value| {
-        let (call, reply) = (Call::Remove(1), Reply::Remove(Some(value)));
-        (thread, begin, end, call, reply)
-    };
-    let found = |thread, begin, end, value| {
-        let (call, reply) = (Call::Get(1), Reply::Get(value));
-        (thread, begin, end, call, reply)
-    };
     let rows: [(&[Worked], bool); 8] = [
         (&[put, found(1, 5, 15, None)], true),
         (&[put, found(1, 11, 15, None)], false),
@@ -300,8 +310,9 @@ fn an_order_is_found_where_there_is_one(rt: HostRuntime) -> Result<(), Fail> {
             false,
         ),
     ];
-    for (calls, is_one_maps) in rows {
-        assert_eq!(rt; has_order(rt.alloc(), calls)?, is_one_maps);
+    for (number, (calls, is_one_maps)) in rows.iter().enumerate() {
+        let known = has_order(rt.alloc(), *calls)?;
+        assert_same(&rt, (number, known), (number, *is_one_maps));
     }
     Ok(())
 }

@@ -1,13 +1,14 @@
 //! An index without room for the node that a key wants: for a growth of each form, for a first node, for a node over two others.
 
-use super::opened;
+use super::{leave, opened, shut};
+use crate::tests::asserts::assert_same;
 use optimistic::{Refusal, Worker};
 use std::alloc::{AllocError, Global};
 use std::sync::Wait;
 use std::test::Fail;
 
 /// Keys that fill nodes of one kind.
-#[derive(Clone, Copy, Debug)]
+#[derive(Clone, Copy)]
 enum Row {
     /// Of one inner node, with a lone leaf below each byte.
     Inner,
@@ -73,12 +74,17 @@ fn filled<R: Wait>(
     most: u64,
 ) -> Result<(u64, bool), AllocError> {
     let index = opened(alloc, room)?;
-    let mut worker = index.worker(alloc)?;
-    let taken = fills(rt, &mut worker, row, most);
-    let is_right = taken == most || is_refused(rt, &mut worker, row, taken);
-    drop(worker);
-    drop(index);
-    Ok((taken, is_right))
+    let told = match index.worker(alloc) {
+        Ok(mut worker) => {
+            let taken = fills(rt, &mut worker, row, most);
+            let is_right = taken == most || is_refused(rt, &mut worker, row, taken);
+            leave(worker);
+            Ok((taken, is_right))
+        }
+        Err(error) => Err(error),
+    };
+    shut(index);
+    told
 }
 
 /// Inner nodes have 12, 40, 112 and 520 words, leaves 8, 24, 64 and 264.
@@ -111,9 +117,9 @@ const ROWS: [(Row, u32, u64); 24] = [
 
 #[test]
 fn a_key_without_room_changes_nothing(rt: HostRuntime) -> Result<(), Fail> {
-    for (row, room, taken) in ROWS {
-        let known = filled(&rt, rt.alloc(), room, row, 256)?;
-        assert_eq!(rt; known, (taken, true), "{row:?}, {room} words");
+    for (number, (row, room, taken)) in ROWS.iter().enumerate() {
+        let known = filled(&rt, rt.alloc(), *room, *row, 256)?;
+        assert_same(&rt, (number, known), (number, (*taken, true)));
     }
     Ok(())
 }

@@ -152,7 +152,10 @@ impl<'h> Search<'h> {
                 self.take(step)?;
                 Ok(Some(0))
             }
-            None => Ok(self.take_back()?.map(|lane| lane.saturating_add(1))),
+            None => match self.take_back()? {
+                Some(lane) => Ok(Some(lane.saturating_add(1))),
+                None => Ok(None),
+            },
         }
     }
 }
@@ -174,9 +177,10 @@ fn is_found(search: &mut Search, count: usize, steps: usize) -> Result<bool, All
 
 /// An order of the calls, if there is one.
 pub fn order(alloc: Global, lanes: &[Vec<Timed>]) -> Result<Option<Found>, AllocError> {
-    let count = lanes
-        .iter()
-        .fold(0usize, |sum, lane| sum.saturating_add(lane.len()));
+    let mut count = 0usize;
+    for lane in lanes {
+        count = count.saturating_add(lane.len());
+    }
     let mut begun = Search {
         lanes,
         taken: Vec::from_elem(alloc, 0, lanes.len())?,
@@ -202,9 +206,11 @@ pub fn order(alloc: Global, lanes: &[Vec<Timed>]) -> Result<Option<Found>, Alloc
 impl Found {
     /// Whether these are the pairs that the calls leave.
     pub fn leaves(&self, pairs: &[Pair]) -> bool {
+        for pair in pairs {
+            if self.pairs.get(&pair.key) != Some(&pair.value) {
+                return false;
+            }
+        }
         pairs.len() == self.pairs.len()
-            && pairs
-                .iter()
-                .all(|pair| self.pairs.get(&pair.key) == Some(&pair.value))
     }
 }

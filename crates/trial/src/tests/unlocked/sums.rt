@@ -1,6 +1,7 @@
 //! Threads with keys of their own in nodes that all use, and sums to which all add.
 
-use super::{drained, opened};
+use super::{drained, leave, opened};
+use crate::tests::asserts::assert_same;
 use crate::tests::machine::drawn::number_in;
 use optimistic::{Pair, Refusal, U64Congee, Worker};
 use std::alloc::{AllocError, Global};
@@ -71,7 +72,7 @@ fn worked<R: Wait>(
 ) -> Result<u32, AllocError> {
     let mut worker = index.worker(alloc)?;
     let right = rounds(rt, &mut worker, place, threads, count);
-    drop(worker);
+    leave(worker);
     Ok(right)
 }
 
@@ -107,6 +108,16 @@ fn is_left(pair: &Pair, rounds: u64) -> bool {
     }
 }
 
+/// Whether all pairs are.
+fn are_left(pairs: &[Pair], rounds: u64) -> bool {
+    for pair in pairs {
+        if !is_left(pair, rounds) {
+            return false;
+        }
+    }
+    true
+}
+
 /// How many rounds were right, and how many pairs they left; none if one isn't what they leave.
 fn sums<R: Threads + Wait + Sync>(
     rt: &R,
@@ -120,7 +131,7 @@ fn sums<R: Threads + Wait + Sync>(
     let right = right?;
     let rounds = u64::from(threads).wrapping_mul(u64::from(count));
     match pairs {
-        Some(pairs) if pairs.iter().all(|pair| is_left(pair, rounds)) => Ok((right, pairs.len())),
+        Some(pairs) if are_left(&pairs, rounds) => Ok((right, pairs.len())),
         _ => Ok((right, 0)),
     }
 }
@@ -131,11 +142,8 @@ fn threads_have_own_keys_and_add_up(rt: HostRuntime) -> Result<(), Fail> {
     for threads in [2, 4, 16] {
         let all = count.saturating_mul(threads);
         let known = sums(&rt, rt.alloc(), threads, count)?;
-        assert_eq!(rt;
-            known,
-            (all, (all as usize / 2).saturating_add(2)),
-            "{threads} threads"
-        );
+        let left = (all as usize / 2).saturating_add(2);
+        assert_same(&rt, (threads, known), (threads, (all, left)));
     }
     Ok(())
 }

@@ -1,7 +1,8 @@
 //! A closure that waits for a call of another thread, at the key that it is asked about or beside it in the same node. The call
 //! ends, since no node is locked while a closure runs; so each test ends.
 
-use super::opened;
+use super::{leave, opened, shut};
+use crate::tests::asserts::assert_same;
 use optimistic::{Refusal, U64Congee, Worker};
 use std::alloc::{AllocError, Global};
 use std::sync::Wait;
@@ -104,18 +105,34 @@ fn told<R: Threads + Wait + Sync>(
     is_present: bool,
 ) -> Result<Told, AllocError> {
     let index = opened(alloc, 1_000)?;
+    let told = told_at(rt, alloc, &index, key, is_present);
+    shut(index);
+    told
+}
+
+fn told_at<R: Threads + Wait + Sync>(
+    rt: &R,
+    alloc: Global,
+    index: &U64Congee,
+    key: u64,
+    is_present: bool,
+) -> Result<Told, AllocError> {
     let mut one = index.worker(alloc)?;
-    let mut other = index.worker(alloc)?;
     let _ = one.insert(rt, 2, 2);
     let _ = one.insert(rt, 3, 3);
     if is_present {
         let _ = one.insert(rt, KEY, 5);
     }
-    let told = both(rt, &mut one, &mut other, key, is_present);
-    drop(one);
-    drop(other);
-    drop(index);
-    Ok(told)
+    let told = match index.worker(alloc) {
+        Ok(mut other) => {
+            let told = both(rt, &mut one, &mut other, key, is_present);
+            leave(other);
+            Ok(told)
+        }
+        Err(error) => Err(error),
+    };
+    leave(one);
+    told
 }
 
 #[test]
@@ -128,7 +145,8 @@ fn a_closure_waits_for_another_call(rt: HostRuntime) -> Result<(), Fail> {
         (4, true, (Ok(Some(5)), Ok(None), Some(6))),
     ];
     for (key, is_present, wanted) in rows {
-        assert_eq!(rt; told(&rt, rt.alloc(), key, is_present)?, wanted);
+        let known = told(&rt, rt.alloc(), key, is_present)?;
+        assert_same(&rt, (key, is_present, known), (key, is_present, wanted));
     }
     Ok(())
 }
