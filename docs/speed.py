@@ -54,6 +54,7 @@ CALLS = {
 # A part of speed.json: the part of a run that it is taken from, and which indexes of it, our own first.
 PARTS = {
     "owned": ("owned", ["ours", "congee", "btree", "absl", "judy"]),
+    "sizes": ("owned", ["ours", "congee", "btree", "absl", "judy"]),
     "memory": ("memory", ["ours", "congee", "btree", "absl", "judy"]),
     "unlocked": ("threads", ["unlocked", "congee", "mutex", "rwlock"]),
     "words": ("memory", ["unlocked"]),
@@ -191,6 +192,7 @@ def numbers(parts):
     yield "README.md", "on {} N was {} ([how](docs/COST.md))", said["day"], passed
     yield "CONTRIBUTING.md", "| `bash .ci/run` | [{} processor minutes](#how-long-the-checks-take)", minutes
     counts = [said[it] for it in ("wrong bodies", "dialogues", "cases of refused requests")]
+    yield "CONTRIBUTING.md", "On {} `bash .ci/run` closed with `{}`, over proofs", said["day"], said["last line"]
     yield "docs/COST.md", "On {} `bash .ci/run` closed with `{}` on four processors", said["day"], said["last line"]
     yield "docs/COST.md", "six crates, {} wrong bodies, {} dialogues and {} cases of the sweep.", *counts
     yield "docs/SPEED.md", "a call on one key of a tree of one owner takes {} times the original's time and {} times a map's, a range of 100 keys {} times a map's.", span(of["owned"].ratios("congee", single), ratio), span(maps(of["owned"], single), ratio), span(maps(of["owned"], is_range), ratio)
@@ -233,8 +235,9 @@ def take(kept, file, names):
         of, indexes = PARTS[name]
         rows = [row[1:] for row in run["rows"] if row[0] == of and row[5] in indexes]
         rows = [row for row in rows if (row[0], row[1], row[2], row[3]) in {tuple(it[:4]) for it in rows if it[4] == indexes[0]}]
-        machine = f"{run['machine']}; load {run['load'][0]} before and {run['load'][1]} after"
-        kept[name] = {"day": run["day"], "machine": machine, "rounds": "few" if run["quick"] else "many", "rows": rows}
+        before, after = run["load"]
+        machine = f"{run['machine']}; load {before} before and {after} after, priority {run['nice']}"
+        kept[name] = {"day": run["day"], "machine": machine, "rounds": "those of `--quick`" if run["quick"] else "all", "rows": rows}
         if run["unproved"]:
             kept[name]["unproved"] = run["unproved"]
     (DOCS / "speed.json").write_text(kept_text(kept), encoding="utf-8")
