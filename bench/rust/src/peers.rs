@@ -1,0 +1,3 @@
+//! The other indexes.
+pub mod owned;
+pub mod threads;

@@ -1,0 +1,185 @@
+//! Rounds on one thread: a round puts keys into an empty index, looks them up, asks for ranges and takes the keys out, and rounds of
+//! one index come after the other's. The project's program makes its own, and calls this library for the others.
+//! `BENCH`: owned|machine,KEYS,dense|scattered,ROUNDS,INDEX+.. or memory,KEYS,dense|scattered,1,INDEX.
+use crate::clock::{between, now, resident};
+use crate::keys::{Input, SPAN};
+use crate::peers::owned::{Map, Run, peer};
+use crate::{row, setting};
+use std::hint::black_box;
+use std::sync::{Mutex, OnceLock};
+
+/// What a round takes the time of, in its order: of the project's, from a mark to the next one.
+const CALLS: [&str; 5] = ["insert", "get", "get-shuffled", "range", "remove"];
+/// What the machine does beside, from one mark to another.
+const MORE: [(&str, usize, usize); 4] = [("overwrite", 6, 7), ("keys", 7, 8), ("stats", 8, 9), ("close", 10, 11)];
+const OURS: &str = "ours";
+
+struct Bench {
+    part: String,
+    kind: String,
+    rounds: usize,
+    names: Vec<String>,
+    input: Input,
+}
+
+/// How many jobs were begun, and how much was resident as the last one was.
+struct Progress {
+    begun: usize,
+    before: u64,
+}
+
+static BENCH: OnceLock<Bench> = OnceLock::new();
+static PROGRESS: Mutex<Progress> = Mutex::new(Progress { begun: 0, before: 0 });
+
+fn bench() -> &'static Bench {
+    BENCH.get_or_init(|| {
+        let words = setting();
+        let keys = words[1].parse().expect("a number of keys");
+        Bench {
+            part: words[0].clone(),
+            input: Input::new(keys, &words[2]),
+            kind: words[2].clone(),
+            rounds: words[3].parse().expect("a number of rounds"),
+            names: words[4].split('+').map(String::from).collect(),
+        }
+    })
+}
+
+/// The index of the job that runs.
+fn running() -> &'static str {
+    let bench = bench();
+    &bench.names[(PROGRESS.lock().unwrap().begun - 1) % bench.names.len()]
+}
+
+fn told(call: &str, index: &str, nanos: f64) {
+    let bench = bench();
+    row(&bench.part, bench.input.keys.len() as u64, &bench.kind, 1, call, index, nanos);
+}
+
+fn tell(index: &str, nanos: [f64; 5]) {
+    for (call, nanos) in CALLS.iter().zip(nanos) {
+        told(call, index, nanos);
+    }
+}
+
+/// Tells what a round of the project's took.
+fn tell_ours(bench: &Bench) {
+    let (n, ranges) = (bench.input.keys.len(), bench.input.starts.len());
+    tell(OURS, [between(0, 1, n), between(1, 2, n), between(2, 3, n), between(3, 4, ranges), between(4, 5, n)]);
+    if bench.part == "machine" {
+        for (call, from, to) in MORE {
+            told(call, OURS, between(from, to, n));
+        }
+    }
+}
+
+/// Tells what the last round of ours took, and begins the next job: 0 where there is none, 1 for a round of the caller's, 2 for one
+/// of the project's index, 3 to fill this index alone.
+#[unsafe(no_mangle)]
+pub extern "C" fn rounds_next() -> u64 {
+    let bench = bench();
+    let memory = bench.part == "memory";
+    let mut progress = PROGRESS.lock().unwrap();
+    let is_ours = |job: usize| bench.names[job % bench.names.len()] == OURS;
+    if progress.begun > 0 && !memory && is_ours(progress.begun - 1) {
+        tell_ours(bench);
+    }
+    if progress.begun == bench.rounds * bench.names.len() {
+        return 0;
+    }
+    progress.begun += 1;
+    match is_ours(progress.begun - 1) {
+        false => 1,
+        true if memory => 3,
+        true => 2,
+    }
+}
+
+/// How many keys a list has: 0 as they are put in, 1 shuffled, 2 and 3 the starts and ends of ranges.
+#[unsafe(no_mangle)]
+pub extern "C" fn rounds_count(which: u32) -> u64 {
+    bench().input.list(which).len() as u64
+}
+
+/// # Safety
+/// `keys` has `n` places.
+#[unsafe(no_mangle)]
+pub unsafe extern "C" fn rounds_keys(which: u32, keys: *mut u64, n: usize) {
+    let keys = unsafe { std::slice::from_raw_parts_mut(keys, n) };
+    keys.copy_from_slice(bench().input.list(which));
+    PROGRESS.lock().unwrap().before = resident();
+}
+
+/// The project's index stands, filled.
+#[unsafe(no_mangle)]
+pub extern "C" fn rounds_filled() {
+    let bench = bench();
+    let bytes = resident() - PROGRESS.lock().unwrap().before;
+    let n = bench.input.keys.len();
+    row("memory", n as u64, &bench.kind, 1, "bytes", OURS, bytes as f64 / n as f64);
+}
+
+/// So many calls of the project's index answered wrong.
+#[unsafe(no_mangle)]
+pub extern "C" fn rounds_wrong(times: u64) {
+    assert_eq!(times, 0, "ours answered wrong so many times");
+}
+
+/// A job of the caller's.
+#[unsafe(no_mangle)]
+pub extern "C" fn rounds_peer() {
+    let bench = bench();
+    let run = peer(running());
+    if bench.part == "memory" { (run.memory)(&bench.input) } else { (run.round)(&bench.input) }
+}
+
+/// A round of an index: what each of its calls took.
+fn round<M: Map>(input: &Input) -> [f64; 5] {
+    let mut map = M::new();
+    let mut marks = vec![now()];
+    for key in &input.keys {
+        black_box(map.insert(*key, *key));
+    }
+    marks.push(now());
+    for key in &input.keys {
+        assert_eq!(map.get(*key), Some(*key));
+    }
+    marks.push(now());
+    for key in &input.shuffled {
+        assert_eq!(map.get(*key), Some(*key));
+    }
+    marks.push(now());
+    let mut pairs = [(0, 0); SPAN];
+    for (start, end) in input.starts.iter().zip(&input.ends) {
+        assert_eq!(map.range(*start, *end, &mut pairs), SPAN);
+        black_box(&pairs);
+    }
+    marks.push(now());
+    for key in &input.keys {
+        assert!(map.remove(*key));
+    }
+    marks.push(now());
+    let (n, ranges) = (input.keys.len(), input.starts.len());
+    let calls = [n, n, n, ranges, n];
+    std::array::from_fn(|i| (marks[i + 1] - marks[i]) as f64 / calls[i] as f64)
+}
+
+/// The bytes a key that an index takes.
+fn memory<M: Map>(name: &str, input: &Input) {
+    let before = resident();
+    let mut map = M::new();
+    for key in &input.keys {
+        map.insert(*key, *key);
+    }
+    let n = input.keys.len();
+    let bytes = (resident() - before) as f64 / n as f64;
+    black_box(map.get(1));
+    row("memory", n as u64, &bench().kind, 1, "bytes", name, bytes);
+    // (what it holds is the process's, which ends)
+    std::mem::forget(map);
+}
+
+/// How an index of this name is measured.
+pub fn run<M: Map + 'static>(name: &'static str) -> Run {
+    Run { round: Box::new(move |input| tell(name, round::<M>(input))), memory: Box::new(move |input| memory::<M>(name, input)) }
+}
