@@ -65,8 +65,8 @@ def leave_out(crate, edited, room):
         file.write_text(re.sub(BODY, emptied, file.read_text("utf-8"), flags=re.M), "utf-8")
     with open(f"crates/{crate}/out/rlib/{crate}.rlib/toolchain/mir.json", encoding="utf-8") as file:
         functions = {it[0].partition("::")[2] for it in json.loads(file.readline())}
-    # (a plus is in the name of a declaration and of a drop, and of the proof of functions that call one another)
-    for it in sorted(it for it in functions - edited if "+" not in it):
+    # (but of declarations, drops, and closures, which go; functions that call one another have one proof, with a plus in its name)
+    for it in sorted(it for it in functions - edited if not re.search(r"\+decl$|\+\+|\bfn::", it)):
         proof = pathlib.Path(f"{room}/proofs/{it.replace('::', '/')}")
         if not proof.with_name(f"+{proof.name}").exists():
             shutil.rmtree(proof, ignore_errors=True)
