@@ -19,8 +19,8 @@ KIT = os.path.dirname(subprocess.check_output(["rt", "doc"], text=True).strip())
 JOBS = 2
 # What a proof file says of a name that an edit took away: that tells nothing of a contract.
 NAMES = r"(has no field|is not in scope|has no `|was not admitted)"
-# A function as `rt fmt` lays it out: whether others call it that it calls, all before its body, its indent, its name; its body.
-BODY = r"^( *#\[cycle.*\n)?(( *)(?:pub(?:\(\w+\))? )?fn (\w+)(?:.* \{|.*\(\n(?:\3 .*\n)*\3\).* \{|.*\n(?:\3[ )].*\n)*\3\{))\n(?:.*\n)*?\3\}$"
+# A function as `rt fmt` lays it out: all before its body, its indent, its name; its body.
+BODY = r"^(( *)(?:pub(?:\(\w+\))? )?fn (\w+)(?:.* \{|.*\(\n(?:\2 .*\n)*\2\).* \{|.*\n(?:\2[ )].*\n)*\2\{))\n(?:.*\n)*?\2\}$"
 
 
 class Edit:
@@ -34,14 +34,12 @@ class Edit:
 
     def write(self, room):
         """Writes the wrong body into a copy of the crate."""
-        with open(f"{room}/{self.path}", "r+", encoding="utf-8") as file:
-            text = file.read()
-            for old, new in self.pairs:
-                assert text.count(old) == 1, f"{self.name}: its text stands {text.count(old)} times in {self.path}"
-                text = text.replace(old, new)
-            file.seek(0)
-            file.truncate()
-            file.write(text)
+        file = pathlib.Path(f"{room}/{self.path}")
+        text = file.read_text("utf-8")
+        for old, new in self.pairs:
+            assert text.count(old) == 1, f"{self.name}: its text stands {text.count(old)} times in {self.path}"
+            text = text.replace(old, new)
+        file.write_text(text, "utf-8")
 
     def refusal(self, crate, said):
         """What the prover says of a goal of this function, where it refuses one: an answer to it, or that it found none."""
@@ -59,16 +57,18 @@ class Edit:
 
 def leave_out(crate, edited, room):
     """Empties each function of the crate's copy but those that have a wrong body, with a hole in place of its proof."""
-    kept = {it.rpartition("::")[2] for it in edited}
-    emptied = lambda it: it[0] if it[1] or it[4] in kept else f"{it[2]}\n{it[3]}    loop {{}}\n{it[3]}}}"
-    for file in pathlib.Path(f"{room}/src").rglob("*.rt"):
-        file.write_text(re.sub(BODY, emptied, file.read_text("utf-8"), flags=re.M), "utf-8")
-    with open(f"crates/{crate}/out/rlib/{crate}.rlib/toolchain/mir.json", encoding="utf-8") as file:
-        functions = {it[0].partition("::")[2] for it in json.loads(file.readline())}
-    # (but of declarations, drops, and closures, which go; functions that call one another have one proof, with a plus in its name)
-    for it in sorted(it for it in functions - edited if not re.search(r"\+decl$|\+\+|\bfn::", it)):
+    texts = {it: it.read_text("utf-8") for it in pathlib.Path(f"{room}/src").rglob("*.rt")}
+    # (functions that call one another stay: they have one proof, with a plus in its name)
+    kept = {it.rpartition("::")[2] for it in edited} | {it.name[1:] for it in pathlib.Path(f"{room}/proofs").rglob("+*")}
+    kept |= {it for text in texts.values() for it in re.findall(r"#\[cycle.*\n.*fn (\w+)", text)}
+    emptied = lambda it: it[0] if it[3] in kept else f"{it[1]}\n{it[2]}    loop {{}}\n{it[2]}}}"
+    for file, text in texts.items():
+        file.write_text(re.sub(BODY, emptied, text, flags=re.M), "utf-8")
+    listed = pathlib.Path(f"crates/{crate}/out/rlib/{crate}.rlib/toolchain/mir.json").read_text("utf-8").partition("\n")[0]
+    # (declarations, drops and closures have no text of their own)
+    for it in (it[0].partition("::")[2] for it in json.loads(listed) if not re.search(r"\+decl$|\+\+|\bfn::", it[0])):
         proof = pathlib.Path(f"{room}/proofs/{it.replace('::', '/')}")
-        if not proof.with_name(f"+{proof.name}").exists():
+        if proof.name not in kept:
             shutil.rmtree(proof, ignore_errors=True)
             proof.mkdir(parents=True)
             line = f"use Rattle.{crate}.proofs.{it.replace('::', '.')}.Statement.{{statement}}\n\npub "
