@@ -2,11 +2,12 @@
 """Tries the wrong bodies below `crates/*/must-fail`: the prover has to refuse each, in its crate alone, at a goal of its function.
 
 A function is proved by its own body and the contracts of others. So one check of a copy, with a wrong body in each of many
-functions, refuses each for itself; it goes through the functions that the edits name, and those that they call, and no others.
-A goal may wait for the proof of a callee that is wrong too: what isn't refused is tried again without those that were, as long
-as a check refuses some. It runs after `rt ci`, over the libraries that this built.
+functions, refuses each for itself. The others, which `rt ci` proved just before, are taken by their contracts there: their proofs
+are holes. What isn't refused is tried again without those that were: of two edits of one function, the second.
 """
+import json
 import os
+import pathlib
 import re
 import shutil
 import subprocess
@@ -18,6 +19,8 @@ KIT = os.path.dirname(subprocess.check_output(["rt", "doc"], text=True).strip())
 JOBS = 2
 # What a proof file says of a name that an edit took away: that tells nothing of a contract.
 NAMES = r"(has no field|is not in scope|has no `|was not admitted)"
+# A function as `rt fmt` lays it out: whether others call it that it calls, all before its body, its indent, its name; its body.
+BODY = r"^( *#\[cycle.*\n)?(( *)(?:pub(?:\(\w+\))? )?fn (\w+)(?:.* \{|.*\(\n(?:\3 .*\n)*\3\).* \{|.*\n(?:\3[ )].*\n)*\3\{))\n(?:.*\n)*?\3\}$"
 
 
 class Edit:
@@ -44,7 +47,7 @@ class Edit:
         """What the prover says of a goal of this function, where it refuses one: an answer to it, or that it found none."""
         lines = said.split("\n")
         at = next((i for i, it in enumerate(lines) if it.startswith(f"fn {crate}::{self.function}: ")), None)
-        if at is None or ": proved" in lines[at]:
+        if at is None or re.search(": (no holes|depends on a hole)", lines[at]):
             return ""
         above = next((i for i in range(at - 1, -1, -1) if lines[i].startswith("fn ")), -1)
         # (functions that call one another have their proof under a name with a plus)
@@ -52,6 +55,24 @@ class Edit:
         told = [it for it in lines if re.match(rf"(\./)?proofs/{proof}/\w+\.antt:\d+:\d+: error: ", it) and not re.search(NAMES, it)]
         told += [it for it in lines[above + 1 : at] if re.match(rf"note: {re.escape(self.path)}:.* is not proved that ", it)]
         return told[0] if told else ""
+
+
+def leave_out(crate, edited, room):
+    """Empties each function of the crate's copy but those that have a wrong body, with a hole in place of its proof."""
+    kept = {it.rpartition("::")[2] for it in edited}
+    emptied = lambda it: it[0] if it[1] or it[4] in kept else f"{it[2]}\n{it[3]}    loop {{}}\n{it[3]}}}"
+    for file in pathlib.Path(f"{room}/src").rglob("*.rt"):
+        file.write_text(re.sub(BODY, emptied, file.read_text("utf-8"), flags=re.M), "utf-8")
+    with open(f"crates/{crate}/out/rlib/{crate}.rlib/toolchain/mir.json", encoding="utf-8") as file:
+        functions = {it[0].partition("::")[2] for it in json.loads(file.readline())}
+    # (a plus is in the name of a declaration and of a drop, and of the proof of functions that call one another)
+    for it in sorted(it for it in functions - edited if "+" not in it):
+        proof = pathlib.Path(f"{room}/proofs/{it.replace('::', '/')}")
+        if not proof.with_name(f"+{proof.name}").exists():
+            shutil.rmtree(proof, ignore_errors=True)
+            proof.mkdir(parents=True)
+            line = f"use Rattle.{crate}.proofs.{it.replace('::', '.')}.Statement.{{statement}}\n\npub "
+            (proof / "Proof.antt").write_text(f"{line}{proof.name}_spec : {{M : Type 1}} → statement M\n{proof.name}_spec = ?\n", "utf-8")
 
 
 def libraries(crates, name):
@@ -68,7 +89,7 @@ def check(crates, name, functions, room):
     for folder in [f"{KIT}/rlibs", *map(built, libraries(crates, name))]:
         words += ["-L", f"dependency={folder}"]
     words += ["--antt-project", f"{KIT}/rattle/logic/antt-project.json", "--logic-built", f"{KIT}/logic_built"]
-    words += ["--links", f"{name}=", "--jobs", str(JOBS), "--incremental", "kept"]
+    words += ["--links", f"{name}=", "--jobs", str(JOBS), "--incremental", "kept", "--allow-holes"]
     for it in functions:
         words += ["--only", it]
     how = {"cwd": room, "stdin": subprocess.DEVNULL, "stdout": subprocess.PIPE, "stderr": subprocess.STDOUT}
@@ -89,6 +110,7 @@ def tried(crates, name):
             now = {it.function: it for it in reversed(left)}
             for it in now.values():
                 it.write(room)
+            leave_out(name, now.keys(), room)
             said = check(crates, name, now, room)
             told = {it: why for it in now.values() if (why := it.refusal(name, said))}
             for it, why in told.items():

@@ -38,18 +38,27 @@ fn gives<E: Drop>(told: Result<Option<Text>, E>, text: Option<&str>) -> bool {
     }
 }
 
-// Whether a text comes, another one takes its place, and that one goes.
-fn shares(alloc: Global, tree: &mut Texts) -> Result<bool, Fail> {
+// Whether the first text is there, another one takes its place, and that one goes.
+fn changes(alloc: Global, tree: &mut Texts, key: u64) -> Result<bool, Fail> {
     let other = text(alloc, "hello world")?;
     let replace = |_: Text| Arc::try_clone(&other).ok();
     Ok(
-        gives(tree.insert(1, text(alloc, "hello")?), None)
-            && gives(tree.get(1), Some("hello"))
-            && gives(tree.compute_if_present(1, replace), Some("hello"))
-            && gives(tree.get(1), Some("hello world"))
-            && is(tree.remove(1), Some("hello world"))
-            && gives(tree.get(1), None),
+        gives(tree.get(key), Some("hello"))
+            && gives(tree.compute_if_present(key, replace), Some("hello"))
+            && gives(tree.get(key), Some("hello world"))
+            && is(tree.remove(key), Some("hello world"))
+            && gives(tree.get(key), None),
     )
+}
+
+// Whether a text comes, changes and goes.
+fn shares(alloc: Global, tree: &mut Texts) -> Result<bool, Fail> {
+    Ok(gives(tree.insert(1, text(alloc, "hello")?), None) && changes(alloc, tree, 1)?)
+}
+
+// Whether a closure takes a text out, or finds none.
+fn takes_out(tree: &mut Texts, text: Option<&str>) -> bool {
+    gives(tree.compute_if_present(1, |_| None), text)
 }
 
 // Whether one of two texts goes, and the other one stays.
@@ -59,8 +68,8 @@ fn lets_go(alloc: Global, tree: &mut Texts) -> Result<bool, Fail> {
             && gives(tree.insert(256, text(alloc, "b")?), None)
             && gives(tree.insert(1, text(alloc, "a")?), None)
             && tree.keys()?.as_slice() == [1, 256].as_slice()
-            && gives(tree.compute_if_present(1, |_| None), Some("a"))
-            && gives(tree.compute_if_present(1, |given| Some(given)), None)
+            && takes_out(tree, Some("a"))
+            && takes_out(tree, None)
             && !tree.is_empty(),
     )
 }
@@ -98,16 +107,7 @@ fn fifth_comes_back(alloc: Global, tree: &mut Texts) -> Result<bool, Fail> {
             return Ok(false);
         }
     }
-    let other = text(alloc, "hello world")?;
-    let replace = |_: Text| Arc::try_clone(&other).ok();
-    Ok(
-        comes_back(tree, 5, hello)?
-            && gives(tree.get(5), Some("hello"))
-            && gives(tree.compute_if_present(5, replace), Some("hello"))
-            && gives(tree.get(5), Some("hello world"))
-            && is(tree.remove(5), Some("hello world"))
-            && gives(tree.get(5), None),
-    )
+    Ok(comes_back(tree, 5, hello)? && changes(alloc, tree, 5)?)
 }
 
 // An empty tree, which is made again where memory is refused.

@@ -68,6 +68,7 @@ fn number_scan_is(tree: &Numbers, start: u64, last: u64, pairs: &[([u8; 8], u64)
 fn gives_bytes(tree: &mut Numbers) -> Result<bool, Fail> {
     Ok(
         tree.insert(0, 42)?.is_none()
+            && tree.charged() == 2168
             && tree.get(0) == Some(42)
             && number_range_is(tree, 0, 10, &[([0u8; 8], 42)])
             && tree.insert(258, 43)?.is_none()
@@ -258,7 +259,7 @@ fn long_sequences_answer_as_a_map(rt: HostRuntime) -> Result<(), Fail> {
 
 /// The keys from a number to before another one are in a tree, and further ones, each with itself; ranges over it, each in so many
 /// places, and how many pairs each finds; and how many ranges of three keys, each from one key further on, find three.
-const FOUND: [&str; 7] = [
+const FOUND: [&str; 8] = [
     "0 0; 54227; 0 0 20 0; 0",
     "0 0; 4261390591 4294944959; 4261412863 4261413116 20 0; 0",
     "0 0; 219021065 4279959551; 4294967295 4294967548 20 0; 0",
@@ -266,10 +267,7 @@ const FOUND: [&str; 7] = [
     "0 0; 4278190080 4278189917; 4278190079 4278190334 20 1; 0",
     "0 1000; ; 200 210 20 10; 100",
     "393000 393500; 458700 458751 499999; 393216 458751 3 3, 393216 458751 13 13, 393216 458751 65 65, 500000 500065 20 0; 0",
-];
-
-/// The same ranges among all keys below, in the sweep.
-const FOUND_AMONG_MANY: [&str; 1] = [
+    // The same ranges among all keys below, in the sweep.
     "0 500000; ; 393216 458751 3 3, 393216 458751 13 13, 393216 458751 65 65, 500000 500065 20 0; 0",
 ];
 
@@ -321,13 +319,14 @@ fn are_found(alloc: Global, text: &str) -> Result<bool, Fail> {
 
 #[test]
 fn ranges_find_the_keys_within(rt: HostRuntime) -> Result<(), Fail> {
-    for text in FOUND {
-        assert_same(&rt, (text, are_found(rt.alloc(), text)?), (text, true));
-    }
-    if number_in(&rt, "TRIAL_KEYS", KEYS) > KEYS {
-        for text in FOUND_AMONG_MANY {
-            assert_same(&rt, (text, are_found(rt.alloc(), text)?), (text, true));
-        }
+    let is_swept = number_in(&rt, "TRIAL_KEYS", KEYS) > KEYS;
+    let tried = if is_swept {
+        FOUND.len()
+    } else {
+        FOUND.len().saturating_sub(1)
+    };
+    for text in FOUND.iter().take(tried) {
+        assert_same(&rt, (*text, are_found(rt.alloc(), *text)?), (*text, true));
     }
     Ok(())
 }

@@ -1,4 +1,5 @@
 //! Each call once on each form.
+use crate::tests::asserts::assert_same;
 use congee::{Child, Node, NodeType};
 use std::alloc::Global;
 use std::test::Fail;
@@ -131,19 +132,19 @@ fn grows(alloc: Global, node: &mut Words) -> Result<bool, Fail> {
     )
 }
 
-#[test]
-fn forms_have_their_sizes(rt: HostRuntime) -> Result<(), Fail> {
-    for (form, size, capacity) in FORMS {
-        assert!(rt; measures(&filled(rt.alloc(), form, &[])?, form, size, capacity));
-    }
-    Ok(())
+// Whether a form has its size; its children come ascending, change and go.
+fn is_right(alloc: Global, form: NodeType, size: u64, capacity: usize) -> Result<bool, Fail> {
+    let measures = measures(&filled(alloc, form, &[])?, form, size, capacity);
+    let ascends = ascends(alloc, &filled(alloc, form, &[0, 65, 200, 255])?)?;
+    let changes = changes(&mut filled(alloc, form, &[3, 128, 130])?);
+    Ok(measures && ascends && changes)
 }
 
 #[test]
-fn children_come_ascending_change_and_go(rt: HostRuntime) -> Result<(), Fail> {
-    for (form, _size, _capacity) in FORMS {
-        assert!(rt; ascends(rt.alloc(), &filled(rt.alloc(), form, &[0, 65, 200, 255])?)?);
-        assert!(rt; changes(&mut filled(rt.alloc(), form, &[3, 128, 130])?));
+fn each_form_is_right(rt: HostRuntime) -> Result<(), Fail> {
+    for (form, size, capacity) in &FORMS {
+        let right = is_right(rt.alloc(), *form, *size, *capacity)?;
+        assert_same(&rt, (*size, right), (*size, true));
     }
     Ok(())
 }

@@ -1,64 +1,195 @@
 //! Dialogues with owned trees, worked out by hand.
 
+use super::lessening::{changes, goes, shrinks};
 use crate::tests::asserts::assert_same;
 use crate::tests::dialogue::{Asked, told, wrong_turn};
 use crate::tests::texts::named;
 use crate::tests::threads::trees::raised;
-use congee::{Allocator, Congee, DefaultAllocator, Limited, NoDrain, OOMError, U64Congee};
+use congee::{Congee, Limited, NoDrain, OOMError, U64Congee};
 use std::alloc::Global;
 use std::test::Fail;
 
-/// What is asked of a tree of ample memory.
-const AMPLE: [&str; 15] = [
-    "a value comes, changes and goes: insert 1 42 = Ok(None); get 1 = Some(42); insert 1 43 = Ok(Some(42)); remove 1 = Some(43); \
-     get 1 = None; charged = 2104",
-    "a leaf grows through every form: fill 1 50 = true; charged = 4208; get 49 = Some(49)",
-    "a leaf that is left alone moves up: insert 1 1 = Ok(None); insert 256 2 = Ok(None); charged = 2296; remove 1 = Some(1); \
-     charged = 2168; empty = false; remove 256 = Some(2); empty = true; keys = []; charged = 2104",
-    "closures answer: insert 1 42 = Ok(None); orinsert 1 0 = Ok(Some(42)); orinsert 2 2 = Ok(None); get 1 = Some(43); get 2 = Some(2); \
-     present 1 1 = Some((43, Some(44))); present 3 1 = None; present 1 = Some((44, None)); get 1 = None",
-    "values are exchanged: insert 1 42 = Ok(None); exchange 1 42 43 = Ok(Some(43)); insert 1 41 = Ok(Some(43)); \
-     exchange 1 42 43 = Err(Some(41)); exchange 2 42 43 = Err(None); insert 1 42 = Ok(Some(41)); exchange 1 42 = Ok(None); get 1 = None",
-    "a range ends before its end: insert 4294967295 1 = Ok(None); insert 4294967247 2 = Ok(None); \
-     range 4294967066 4294967319 20 = [(4294967247, 2), (4294967295, 1)]; range 4294967000 4294967253 20 = [(4294967247, 2)]; \
-     range 5 5 20 = []; insert 18446744073709551615 3 = Ok(None); range 18446744073709551614 18446744073709551615 20 = []",
-    "a scan has the pair of its end: through 0 18446744073709551615 20 = []; insert 5 50 = Ok(None); insert 6 60 = Ok(None); \
-     through 5 5 20 = [(5, 50)]; through 5 6 1 = [(5, 50)]; through 6 5 20 = []; through 5 6 0 = []; \
-     insert 18446744073709551615 7 = Ok(None); through 18446744073709551615 18446744073709551615 20 = [(18446744073709551615, 7)]; \
-     through 0 18446744073709551614 20 = [(5, 50), (6, 60)]; range 0 0 20 = []; through 0 0 20 = []; insert 0 1 = Ok(None); \
-     through 0 0 20 = [(0, 1)]",
-    "a range ends with its places: insert 1 10 = Ok(None); insert 2 20 = Ok(None); insert 3 30 = Ok(None); \
-     range 1 4 2 = [(1, 10), (2, 20)]; range 1 4 0 = []",
-    "a range starts past other prefixes: insert 4294967179 7 = Ok(None); range 1895772415 1895772670 20 = []; \
-     range 4294967179 4294967434 20 = [(4294967179, 7)]",
-    "keys come ascending: keys = []; insert 18446744073709551615 1 = Ok(None); insert 3 3 = Ok(None); insert 4294967295 2 = Ok(None); \
-     insert 0 0 = Ok(None); insert 256 256 = Ok(None); keys = [0, 3, 256, 4294967295, 18446744073709551615]",
-    "no pair has neighbours: ends = (None, None); beside 0 = (None, None); beside 7 = (None, None); \
-     beside 18446744073709551615 = (None, None)",
-    "neighbours are found: insert 256 2 = Ok(None); ends = (Some((256, 2)), Some((256, 2))); beside 256 = (None, None); \
-     beside 255 = (None, Some((256, 2))); beside 257 = (Some((256, 2)), None); insert 0 1 = Ok(None); insert 259 3 = Ok(None); \
-     insert 4294967296 4 = Ok(None); insert 18446744073709551615 5 = Ok(None); ends = (Some((0, 1)), Some((18446744073709551615, 5))); \
-     beside 0 = (None, Some((256, 2))); beside 1 = (Some((0, 1)), Some((256, 2))); beside 257 = (Some((256, 2)), Some((259, 3))); \
-     beside 4294967295 = (Some((259, 3)), Some((4294967296, 4))); beside 18446744073709551615 = (Some((4294967296, 4)), None); \
-     remove 18446744073709551615 = Some(5); ends = (Some((0, 1)), Some((4294967296, 4)))",
-    "cleared trees begin anew: clear = (); charged = 2104; fill 1 50 = true; insert 18446744073709551615 5 = Ok(None); clear = (); \
-     empty = true; keys = []; ends = (None, None); get 7 = None; charged = 2104; insert 256 2 = Ok(None); insert 7 1 = Ok(None); \
-     keys = [7, 256]; beside 256 = (Some((7, 1)), None); charged = 2296",
-    "a leaf gets a second value and loses it: insert 256 1 = Ok(None); charged = 2168; insert 257 2 = Ok(None); charged = 2168; \
-     get 256 = Some(1); get 257 = Some(2); remove 256 = Some(1); charged = 2168; get 256 = None; get 257 = Some(2); keys = [257]; \
-     insert 256 3 = Ok(None); remove 257 = Some(2); get 256 = Some(3); insert 256 4 = Ok(Some(3)); remove 256 = Some(4); charged = 2104; \
-     empty = true",
-    "so it is below a node that grows: insert 256 1 = Ok(None); insert 512 2 = Ok(None); charged = 2296; insert 257 3 = Ok(None); \
-     insert 768 4 = Ok(None); insert 1024 5 = Ok(None); charged = 2424; insert 1280 6 = Ok(None); charged = 2592; \
-     remove 257 = Some(3); insert 1281 7 = Ok(None); remove 1280 = Some(6); charged = 2592; get 256 = Some(1); get 1281 = Some(7); \
-     beside 512 = (Some((256, 1)), Some((768, 4))); range 256 1281 20 = [(256, 1), (512, 2), (768, 4), (1024, 5)]; \
-     range 512 769 20 = [(512, 2), (768, 4)]; insert 72057594037927936 8 = Ok(None); insert 72057594037993472 9 = Ok(None); \
-     charged = 2784; get 72057594037927936 = Some(8); remove 1281 = Some(7); charged = 2720; get 1281 = None; \
-     keys = [256, 512, 768, 1024, 72057594037927936, 72057594037993472]",
-];
+/// A limit that no dialogue comes to.
+const AMPLE: u64 = u64::MAX;
 
-/// What is asked of a tree that takes so many bytes at most.
-const LIMITED: [(u64, &str); 3] = [
+/// How many bytes a tree takes at most, and what is asked of it.
+const DIALOGUES: [(u64, &str); 35] = [
+    (
+        AMPLE,
+        "a value comes, changes and goes: insert 1 42 = Ok(None); get 1 = Some(42); insert 1 43 = Ok(Some(42)); \
+         remove 1 = Some(43); get 1 = None; charged = 2104",
+    ),
+    (
+        AMPLE,
+        "a leaf grows through every form: fill 1 50 = true; charged = 4208; get 49 = Some(49)",
+    ),
+    (
+        AMPLE,
+        "a leaf that is left alone moves up: insert 1 1 = Ok(None); insert 256 2 = Ok(None); charged = 2296; remove 1 = Some(1); \
+         charged = 2168; empty = false; remove 256 = Some(2); empty = true; keys = []; charged = 2104",
+    ),
+    (
+        AMPLE,
+        "closures answer: insert 1 42 = Ok(None); orinsert 1 0 = Ok(Some(42)); orinsert 2 2 = Ok(None); get 1 = Some(43); \
+         get 2 = Some(2); present 1 1 = Some((43, Some(44))); present 3 1 = None; present 1 = Some((44, None)); get 1 = None",
+    ),
+    (
+        AMPLE,
+        "values are exchanged: insert 1 42 = Ok(None); exchange 1 42 43 = Ok(Some(43)); insert 1 41 = Ok(Some(43)); \
+         exchange 1 42 43 = Err(Some(41)); exchange 2 42 43 = Err(None); insert 1 42 = Ok(Some(41)); exchange 1 42 = Ok(None); \
+         get 1 = None",
+    ),
+    (
+        AMPLE,
+        "a range ends before its end: insert 4294967295 1 = Ok(None); insert 4294967247 2 = Ok(None); \
+         range 4294967066 4294967319 20 = [(4294967247, 2), (4294967295, 1)]; range 4294967000 4294967253 20 = [(4294967247, 2)]; \
+         range 5 5 20 = []; insert 18446744073709551615 3 = Ok(None); range 18446744073709551614 18446744073709551615 20 = []",
+    ),
+    (
+        AMPLE,
+        "a scan has the pair of its end: through 0 18446744073709551615 20 = []; insert 5 50 = Ok(None); insert 6 60 = Ok(None); \
+         through 5 5 20 = [(5, 50)]; through 5 6 1 = [(5, 50)]; through 6 5 20 = []; through 5 6 0 = []; \
+         insert 18446744073709551615 7 = Ok(None); \
+         through 18446744073709551615 18446744073709551615 20 = [(18446744073709551615, 7)]; \
+         through 0 18446744073709551614 20 = [(5, 50), (6, 60)]; range 0 0 20 = []; through 0 0 20 = []; insert 0 1 = Ok(None); \
+         through 0 0 20 = [(0, 1)]",
+    ),
+    (
+        AMPLE,
+        "a range ends with its places: insert 1 10 = Ok(None); insert 2 20 = Ok(None); insert 3 30 = Ok(None); \
+         range 1 4 2 = [(1, 10), (2, 20)]; range 1 4 0 = []",
+    ),
+    (
+        AMPLE,
+        "a range starts past other prefixes: insert 4294967179 7 = Ok(None); range 1895772415 1895772670 20 = []; \
+         range 4294967179 4294967434 20 = [(4294967179, 7)]",
+    ),
+    (
+        AMPLE,
+        "keys come ascending: keys = []; insert 18446744073709551615 1 = Ok(None); insert 3 3 = Ok(None); \
+         insert 4294967295 2 = Ok(None); insert 0 0 = Ok(None); insert 256 256 = Ok(None); \
+         keys = [0, 3, 256, 4294967295, 18446744073709551615]",
+    ),
+    (
+        AMPLE,
+        "no pair has neighbours: ends = (None, None); beside 0 = (None, None); beside 7 = (None, None); \
+         beside 18446744073709551615 = (None, None)",
+    ),
+    (
+        AMPLE,
+        "neighbours are found: insert 256 2 = Ok(None); ends = (Some((256, 2)), Some((256, 2))); beside 256 = (None, None); \
+         beside 255 = (None, Some((256, 2))); beside 257 = (Some((256, 2)), None); insert 0 1 = Ok(None); insert 259 3 = Ok(None); \
+         insert 4294967296 4 = Ok(None); insert 18446744073709551615 5 = Ok(None); \
+         ends = (Some((0, 1)), Some((18446744073709551615, 5))); beside 0 = (None, Some((256, 2))); \
+         beside 1 = (Some((0, 1)), Some((256, 2))); beside 257 = (Some((256, 2)), Some((259, 3))); \
+         beside 4294967295 = (Some((259, 3)), Some((4294967296, 4))); beside 18446744073709551615 = (Some((4294967296, 4)), None); \
+         remove 18446744073709551615 = Some(5); ends = (Some((0, 1)), Some((4294967296, 4)))",
+    ),
+    (
+        AMPLE,
+        "cleared trees begin anew: clear = (); charged = 2104; fill 1 50 = true; insert 18446744073709551615 5 = Ok(None); \
+         clear = (); empty = true; keys = []; ends = (None, None); get 7 = None; charged = 2104; insert 256 2 = Ok(None); \
+         insert 7 1 = Ok(None); keys = [7, 256]; beside 256 = (Some((7, 1)), None); charged = 2296",
+    ),
+    (
+        AMPLE,
+        "a leaf gets a second value and loses it: insert 256 1 = Ok(None); charged = 2168; insert 257 2 = Ok(None); charged = 2168; \
+         get 256 = Some(1); get 257 = Some(2); remove 256 = Some(1); charged = 2168; get 256 = None; get 257 = Some(2); \
+         keys = [257]; insert 256 3 = Ok(None); remove 257 = Some(2); get 256 = Some(3); insert 256 4 = Ok(Some(3)); \
+         remove 256 = Some(4); charged = 2104; empty = true",
+    ),
+    (
+        AMPLE,
+        "so it is below a node that grows: insert 256 1 = Ok(None); insert 512 2 = Ok(None); charged = 2296; \
+         insert 257 3 = Ok(None); insert 768 4 = Ok(None); insert 1024 5 = Ok(None); charged = 2424; insert 1280 6 = Ok(None); \
+         charged = 2592; remove 257 = Some(3); insert 1281 7 = Ok(None); remove 1280 = Some(6); charged = 2592; get 256 = Some(1); \
+         get 1281 = Some(7); beside 512 = (Some((256, 1)), Some((768, 4))); \
+         range 256 1281 20 = [(256, 1), (512, 2), (768, 4), (1024, 5)]; range 512 769 20 = [(512, 2), (768, 4)]; \
+         insert 72057594037927936 8 = Ok(None); insert 72057594037993472 9 = Ok(None); charged = 2784; \
+         get 72057594037927936 = Some(8); remove 1281 = Some(7); charged = 2720; get 1281 = None; \
+         keys = [256, 512, 768, 1024, 72057594037927936, 72057594037993472]",
+    ),
+    (
+        AMPLE,
+        "a closure is asked once where it must answer: present 1 1 = None; asked = 0; orinsert 1 7 = Ok(None); asked = 1; \
+         present 1 0 = Some((7, Some(7))); asked = 2; orinsert 1 7 = Ok(Some(7)); asked = 3",
+    ),
+    (
+        AMPLE,
+        "nodes are counted: stats = NodeStats { levels: [LevelStats { n4: NodeInfo { node_count: 0, value_count: 0 }, n16: NodeInfo { node_count: 0, value_count: 0 }, \
+         n48: NodeInfo { node_count: 0, value_count: 0 }, n256: NodeInfo { node_count: 1, value_count: 0 } }], kv_pairs: 0 }; \
+         fill 72057594037927936 72057594037927940 = true; fill 144115188075855872 144115188075855877 = true; \
+         fill 216172782113783808 216172782113783825 = true; fill 288230376151711744 288230376151711793 = true; \
+         stats = NodeStats { levels: [LevelStats { n4: NodeInfo { node_count: 0, value_count: 0 }, n16: NodeInfo { node_count: 0, value_count: 0 }, \
+         n48: NodeInfo { node_count: 0, value_count: 0 }, n256: NodeInfo { node_count: 1, value_count: 4 } }, \
+         LevelStats { n4: NodeInfo { node_count: 1, value_count: 4 }, n16: NodeInfo { node_count: 1, value_count: 5 }, \
+         n48: NodeInfo { node_count: 1, value_count: 17 }, n256: NodeInfo { node_count: 1, value_count: 49 } }], kv_pairs: 75 }; \
+         clear = (); insert 1 10 = Ok(None); insert 256 20 = Ok(None); \
+         stats = NodeStats { levels: [LevelStats { n4: NodeInfo { node_count: 0, value_count: 0 }, n16: NodeInfo { node_count: 0, value_count: 0 }, \
+         n48: NodeInfo { node_count: 0, value_count: 0 }, n256: NodeInfo { node_count: 1, value_count: 1 } }, \
+         LevelStats { n4: NodeInfo { node_count: 1, value_count: 2 }, n16: NodeInfo { node_count: 0, value_count: 0 }, \
+         n48: NodeInfo { node_count: 0, value_count: 0 }, n256: NodeInfo { node_count: 0, value_count: 0 } }, \
+         LevelStats { n4: NodeInfo { node_count: 2, value_count: 2 }, n16: NodeInfo { node_count: 0, value_count: 0 }, \
+         n48: NodeInfo { node_count: 0, value_count: 0 }, n256: NodeInfo { node_count: 0, value_count: 0 } }], kv_pairs: 2 }",
+    ),
+    (
+        AMPLE,
+        "a lone leaf moves up to the root: each 1 256 = true; charged = 2296; remove 1 = Some(1); charged = 2168; get 1 = None; \
+         get 256 = Some(256); changes 1 256 = true; charged = 2104",
+    ),
+    (
+        AMPLE,
+        "a lone leaf moves up below another node: each 1 256 65536 = true; charged = 2424; remove 256 = Some(256); charged = 2296; \
+         get 1 = Some(1); get 256 = None; get 65536 = Some(65536); changes 1 256 65536 = true; charged = 2104",
+    ),
+    (
+        AMPLE,
+        "an inner node moves up: each 1 256 65536 = true; charged = 2424; remove 65536 = Some(65536); charged = 2296; \
+         get 1 = Some(1); get 256 = Some(256); get 65536 = None; changes 1 256 65536 = true; charged = 2104",
+    ),
+    (
+        AMPLE,
+        "a leaf of two values moves up: each 1 2 256 = true; charged = 2296; remove 256 = Some(256); charged = 2168; \
+         get 1 = Some(1); get 2 = Some(2); get 256 = None; changes 1 2 256 = true; charged = 2104",
+    ),
+    (
+        AMPLE,
+        "a leaf that shrinks no more moves up: each 256 1 2 3 4 5 = true; charged = 2400; remove 256 = Some(256); charged = 2272; \
+         get 256 = None; get 1 = Some(1); get 2 = Some(2); get 3 = Some(3); get 4 = Some(4); get 5 = Some(5); \
+         changes 256 1 2 3 4 5 = true; charged = 2104",
+    ),
+    (
+        AMPLE,
+        "three are no two: each 1 256 512 = true; charged = 2360; remove 256 = Some(256); charged = 2296; get 1 = Some(1); \
+         get 256 = None; get 512 = Some(512); changes 1 256 512 = true; charged = 2104",
+    ),
+    (
+        AMPLE,
+        "the root stays: each 1 = true; charged = 2168; remove 1 = Some(1); charged = 2104; get 1 = None; changes 1 = true; \
+         charged = 2104",
+    ),
+    (AMPLE, "a leaf goes up and down: goes 1 0 0 = true"),
+    // One key below each child: its leaf lies in its parent's place, and counts as a least node.
+    (
+        AMPLE,
+        "an inner node goes up and down over leaves of one value: goes 256 0 64 = true; goes 65536 0 64 = true; \
+         goes 16777216 0 64 = true; goes 4294967296 0 64 = true; goes 1099511627776 0 64 = true; goes 281474976710656 0 64 = true",
+    ),
+    // Each leaf has a slot of its own.
+    (
+        AMPLE,
+        "it does so over leaves of two values: goes 256 1 64 = true; goes 65536 1 64 = true; goes 16777216 1 64 = true; \
+         goes 4294967296 1 64 = true; goes 1099511627776 1 64 = true; goes 281474976710656 1 64 = true",
+    ),
+    (
+        AMPLE,
+        "it does so over inner nodes with two leaves each: goes 65536 256 192 = true; goes 16777216 256 192 = true; \
+         goes 4294967296 256 192 = true; goes 1099511627776 256 192 = true; goes 281474976710656 256 192 = true",
+    ),
+    (
+        AMPLE,
+        "a tree grows and shrinks as a map does: shrinks = true; charged = 2104",
+    ),
     (
         2168,
         "no room for a second leaf: insert 0 100 = Ok(None); \
@@ -71,15 +202,35 @@ const LIMITED: [(u64, &str); 3] = [
     // The split has made its first node when the second one is refused.
     (
         2295,
-        "a split gives its first node back: insert 1 1 = Ok(None); insert 256 2 = Err(Budget { charged: 2232, wanted: 64, limit: 2295 }); \
-         charged = 2168; get 256 = None",
+        "a split gives its first node back: insert 1 1 = Ok(None); \
+         insert 256 2 = Err(Budget { charged: 2232, wanted: 64, limit: 2295 }); charged = 2168; get 256 = None",
+    ),
+    // The fourth of a leaf's five values goes, and then the third, which makes a lesser leaf if there is room for it. Two more are tried again.
+    (
+        2400,
+        "a lesser node is within the budget: each 1 2 3 4 5 72057594037927936 = true; remove 1 = Some(1); charged = 2336; \
+         present 2 = Some((2, None)); charged = 2232; remove 72057594037927936 = Some(72057594037927936); exchange 3 3 = Ok(None); \
+         charged = 2168; get 4 = Some(4); get 5 = Some(5)",
+    ),
+    (
+        2399,
+        "a lesser node past the budget is done without: each 1 2 3 4 5 72057594037927936 = true; remove 1 = Some(1); \
+         charged = 2336; present 2 = Some((2, None)); charged = 2336; remove 72057594037927936 = Some(72057594037927936); \
+         exchange 3 3 = Ok(None); charged = 2168; get 4 = Some(4); get 5 = Some(5)",
+    ),
+    (
+        2336,
+        "it is done without where there is no room at all: each 1 2 3 4 5 72057594037927936 = true; remove 1 = Some(1); \
+         charged = 2336; present 2 = Some((2, None)); charged = 2336; remove 72057594037927936 = Some(72057594037927936); \
+         exchange 3 3 = Ok(None); charged = 2168; get 4 = Some(4); get 5 = Some(5)",
     ),
 ];
 
-type Tree<A> = Congee<u64, u64, A, NoDrain>;
+/// A tree within a budget.
+pub type Tree = Congee<u64, u64, Limited, NoDrain>;
 
 /// Whether each key from the first to before the second was absent when it was put there.
-fn fills<A: Allocator>(tree: &mut Tree<A>, start: u64, end: u64) -> Result<bool, Fail> {
+fn fills(tree: &mut Tree, start: u64, end: u64) -> Result<bool, Fail> {
     for key in start..end {
         if tree.insert(key, key)?.is_some() {
             return Ok(false);
@@ -88,31 +239,30 @@ fn fills<A: Allocator>(tree: &mut Tree<A>, start: u64, end: u64) -> Result<bool,
     Ok(true)
 }
 
-/// The pairs from the first key to before the second, in so many places.
-fn range<A: Allocator>(
-    alloc: Global,
-    tree: &Tree<A>,
-    start: u64,
-    end: u64,
-    places: u64,
-) -> Result<String, Fail> {
-    let mut found = [(0u64, 0u64); 20];
-    let out = found.get_mut(..places as usize).ok_or("too many places")?;
-    let count = tree.range(&start, &end, out);
-    told(alloc, &found.get(..count).ok_or("too many pairs")?)
+/// Whether each of these keys was.
+fn puts(tree: &mut Tree, keys: &[u64]) -> Result<bool, Fail> {
+    for key in keys {
+        if tree.insert(*key, *key)?.is_some() {
+            return Ok(false);
+        }
+    }
+    Ok(true)
 }
 
-/// Those of the keys to the second, itself included.
-fn through<A: Allocator>(
+/// The pairs from the first key to before the second, or to the second itself, in so many places.
+fn scanned(
     alloc: Global,
-    tree: &Tree<A>,
-    start: u64,
-    last: u64,
-    places: u64,
+    tree: &Tree,
+    [start, last, places]: [u64; 3],
+    with_last: bool,
 ) -> Result<String, Fail> {
     let mut found = [(0u64, 0u64); 20];
     let out = found.get_mut(..places as usize).ok_or("too many places")?;
-    let count = tree.range_inclusive(&start, &last, out);
+    let count = if with_last {
+        tree.range_inclusive(&start, &last, out)
+    } else {
+        tree.range(&start, &last, out)
+    };
     told(alloc, &found.get(..count).ok_or("too many pairs")?)
 }
 
@@ -130,16 +280,17 @@ enum Word {
     Keys,
     /// The pair of the least key and that of the greatest one.
     Ends,
-    Empty,
     Charged,
     Clear,
+    /// How often closures were asked.
+    Asked,
+    Stats,
     Get,
     /// The pairs of the nearest keys below and above.
     Beside,
     Range,
     Through,
     Insert,
-    Fill,
     Remove,
     /// A closure adds a number, or takes the key out where none is given.
     Present,
@@ -147,24 +298,36 @@ enum Word {
     OrInsert,
     /// The new value is left out where the key is to go.
     Exchange,
+    Empty,
+    Fill,
+    Each,
+    Changes,
+    Goes,
+    Shrinks,
 }
 
-const WORDS: [(&str, Word); 15] = [
+const WORDS: [(&str, Word); 21] = [
     ("keys", Word::Keys),
     ("ends", Word::Ends),
-    ("empty", Word::Empty),
     ("charged", Word::Charged),
     ("clear", Word::Clear),
+    ("asked", Word::Asked),
+    ("stats", Word::Stats),
     ("get", Word::Get),
     ("beside", Word::Beside),
     ("range", Word::Range),
     ("through", Word::Through),
     ("insert", Word::Insert),
-    ("fill", Word::Fill),
     ("remove", Word::Remove),
     ("present", Word::Present),
     ("orinsert", Word::OrInsert),
     ("exchange", Word::Exchange),
+    ("empty", Word::Empty),
+    ("fill", Word::Fill),
+    ("each", Word::Each),
+    ("changes", Word::Changes),
+    ("goes", Word::Goes),
+    ("shrinks", Word::Shrinks),
 ];
 
 fn word_of(text: &str) -> Result<Word, Fail> {
@@ -184,77 +347,105 @@ fn number(numbers: &[u64], place: usize) -> u64 {
     }
 }
 
-impl<A: Allocator> Asked for Tree<A> {
+/// A tree, and how often closures were asked.
+#[derive(Drop)]
+struct Owned<'a> {
+    tree: &'a mut Tree,
+    asked: u64,
+}
+
+impl Asked for Owned<'_> {
     fn answer(&mut self, alloc: Global, word: &str, numbers: &[u64]) -> Result<String, Fail> {
-        let (key, end, places) = (number(numbers, 0), number(numbers, 1), number(numbers, 2));
+        let three = [number(numbers, 0), number(numbers, 1), number(numbers, 2)];
+        let tree = &mut *self.tree;
+        let key = three[0];
         match word_of(word)? {
-            Word::Keys => told(alloc, &self.keys()?.as_slice()),
-            Word::Ends => told(alloc, &(self.first(), self.last())),
-            Word::Empty => told(alloc, &self.is_empty()),
-            Word::Charged => told(alloc, &self.charged()),
-            Word::Clear => told(alloc, &self.clear()),
-            Word::Get => told(alloc, &self.get(&key)),
-            Word::Beside => told(alloc, &(self.next_before(&key), self.next_after(&key))),
-            Word::Range => range(alloc, self, key, end, places),
-            Word::Through => through(alloc, self, key, end, places),
-            word => writes(alloc, self, word, key, numbers),
+            Word::Keys => told(alloc, &tree.keys()?.as_slice()),
+            Word::Ends => told(alloc, &(tree.first(), tree.last())),
+            Word::Charged => told(alloc, &tree.charged()),
+            Word::Clear => told(alloc, &tree.clear()),
+            Word::Asked => told(alloc, &self.asked),
+            Word::Stats => told(alloc, &tree.stats()?),
+            Word::Get => told(alloc, &tree.get(&key)),
+            Word::Beside => told(alloc, &(tree.next_before(&key), tree.next_after(&key))),
+            Word::Range => scanned(alloc, tree, three, false),
+            Word::Through => scanned(alloc, tree, three, true),
+            word => self.written(alloc, word, numbers, three),
         }
     }
 }
 
-/// The answer to a call that writes.
-fn writes<A: Allocator>(
+impl Owned<'_> {
+    /// The answer to a call that writes.
+    fn written(
+        &mut self,
+        alloc: Global,
+        word: Word,
+        numbers: &[u64],
+        three: [u64; 3],
+    ) -> Result<String, Fail> {
+        let (by, new) = (numbers.get(1).copied(), numbers.get(2).copied());
+        let [key, value, _] = three;
+        let (tree, asked) = (&mut *self.tree, &mut self.asked);
+        match word {
+            Word::Insert => told(alloc, &tree.insert(key, value)),
+            Word::Remove => told(alloc, &tree.remove(&key)),
+            Word::Present => {
+                let raise = |found| {
+                    *asked = asked.wrapping_add(1);
+                    raised(found, by)
+                };
+                told(alloc, &tree.compute_if_present(&key, raise))
+            }
+            Word::OrInsert => {
+                let raise = |found| {
+                    *asked = asked.wrapping_add(1);
+                    next_or(found, value)
+                };
+                told(alloc, &tree.compute_or_insert(key, raise))
+            }
+            Word::Exchange => told(alloc, &tree.compare_exchange(&key, &value, new)),
+            word => told(alloc, &is_so(alloc, tree, word, numbers, three)?),
+        }
+    }
+}
+
+/// What is so or isn't, mostly after many calls.
+fn is_so(
     alloc: Global,
-    tree: &mut Tree<A>,
+    tree: &mut Tree,
     word: Word,
-    key: u64,
     numbers: &[u64],
-) -> Result<String, Fail> {
-    let (by, value) = (numbers.get(1).copied(), number(numbers, 1));
+    three: [u64; 3],
+) -> Result<bool, Fail> {
     match word {
-        Word::Insert => told(alloc, &tree.insert(key, value)),
-        Word::Fill => told(alloc, &fills(tree, key, value)?),
-        Word::Remove => told(alloc, &tree.remove(&key)),
-        Word::Present => told(alloc, &tree.compute_if_present(&key, |v| raised(v, by))),
-        Word::OrInsert => told(alloc, &tree.compute_or_insert(key, |v| next_or(v, value))),
-        Word::Exchange => {
-            let new = numbers.get(2).copied();
-            told(alloc, &tree.compare_exchange(&key, &value, new))
-        }
-        _ => Err("no writing call")?,
+        Word::Empty => Ok(tree.is_empty()),
+        Word::Fill => fills(tree, three[0], three[1]),
+        Word::Each => puts(tree, numbers),
+        Word::Changes => changes(tree, numbers),
+        Word::Goes => goes(tree, three),
+        Word::Shrinks => shrinks(alloc, tree),
+        _ => Err("no such word")?,
     }
 }
 
-/// The name and the first turn of a dialogue that goes otherwise, with a tree that begins empty.
-fn wrong<A: Allocator>(
-    alloc: Global,
-    allocator: A,
-    dialogue: &'static str,
-) -> Result<Option<(&'static str, &'static str)>, Fail> {
-    let (name, turns) = named(dialogue)?;
-    let mut tree: Tree<A> = Congee::new(alloc, allocator)?;
-    let turn = wrong_turn(alloc, &mut tree, turns);
+/// The first turn that goes otherwise, with a tree that begins empty.
+fn wrong(alloc: Global, limit: u64, dialogue: &'static str) -> Result<Option<&'static str>, Fail> {
+    let mut tree: Tree = Congee::new(alloc, Limited::new(limit))?;
+    let mut owned = Owned {
+        tree: &mut tree,
+        asked: 0,
+    };
+    let turn = wrong_turn(alloc, &mut owned, dialogue);
     tree.close();
-    match turn? {
-        Some(turn) => Ok(Some((name, turn))),
-        None => Ok(None),
-    }
+    turn
 }
 
 #[test]
 fn each_call_answers(rt: HostRuntime) -> Result<(), Fail> {
-    for dialogue in &AMPLE {
-        let wrong = wrong(rt.alloc(), DefaultAllocator::new(), *dialogue)?;
-        assert_same(&rt, wrong, None);
-    }
-    Ok(())
-}
-
-#[test]
-fn a_budget_is_kept(rt: HostRuntime) -> Result<(), Fail> {
-    for (limit, dialogue) in &LIMITED {
-        let wrong = wrong(rt.alloc(), Limited::new(*limit), *dialogue)?;
-        assert_same(&rt, wrong, None);
+    for (limit, dialogue) in &DIALOGUES {
+        let (name, turns) = named(*dialogue)?;
+        assert_same(&rt, (name, wrong(rt.alloc(), *limit, turns)?), (name, None));
     }
     Ok(())
 }
@@ -281,24 +472,4 @@ fn a_root_is_refused(rt: HostRuntime) {
         limit: 1024,
     };
     assert!(rt; refusal(rt.alloc(), 1024) == Some(refused));
-}
-
-#[test]
-fn a_closure_is_asked_once_where_it_must_answer(rt: HostRuntime) -> Result<(), Fail> {
-    let mut tree: Tree<DefaultAllocator> = Congee::new(rt.alloc(), DefaultAllocator::new())?;
-    let mut asked = 0u64;
-    // For an absent key alone where it is present, for an absent key in any case, and the same for a present key.
-    for times in 0..2u64 {
-        tree.compute_if_present(&1, |value| {
-            asked = asked.wrapping_add(1);
-            Some(value)
-        });
-        assert_same(&rt, asked, 2 * times);
-        tree.compute_or_insert(1, |_| {
-            asked = asked.wrapping_add(1);
-            7
-        })?;
-        assert_same(&rt, asked, 2 * times + 1);
-    }
-    Ok(())
 }
