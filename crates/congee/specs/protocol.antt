@@ -26,3 +26,4 @@ pub mod Seeing
 pub mod Alone
 pub mod Trace
 pub mod Filled
+pub mod Counted

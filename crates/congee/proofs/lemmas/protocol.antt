@@ -54,6 +54,7 @@ pub mod Renewing
 pub mod AlonePoints
 pub mod AloneScans
 pub mod AlonePairs
+pub mod NodesByPairs
 pub mod Alone
 pub mod Leftovers
 pub mod AlikeHeaps

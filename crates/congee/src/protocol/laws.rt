@@ -1,5 +1,5 @@
 //! What follows from the protocol for whoever keeps nodes and calls together.
-ghost use Rattle.std.specs.Prelude.{◌≡◌, ◌≢◌, ℕ, ◌≤◌, ◌⊎◌, Bool, true, false, Option, None, Some, List, [], length, slice_get};
+ghost use Rattle.std.specs.Prelude.{◌≡◌, ◌≢◌, ℕ, ◌*◌, ◌≤◌, ◌⊎◌, Bool, true, false, Option, None, Some, List, [], length, max, slice_get};
 ghost use Rattle.std.specs.FinMap.{len};
 ghost use Rattle.std.proofs.Math.ListN.{set};
 ghost use Rattle.judge.specs.Answer.{Pairs};
@@ -12,10 +12,11 @@ ghost use Rattle.congee.specs.declared.protocol.phase.Phase.TheVariants.{Ended};
 ghost use Rattle.congee.specs.declared.protocol.phase.Kind.{Kind};
 ghost use Rattle.congee.specs.declared.protocol.machine.Machine.{Machine as Call};
 ghost use Rattle.congee.specs.declared.protocol.machine.Move.{Move};
-ghost use Rattle.congee.specs.protocol.Alone.{NoOtherLocks, IsUndisturbed, HasAnswer, IsPast, StepsOn, steps_left, steps_whole, tree_pairs};
+ghost use Rattle.congee.specs.protocol.Alone.{NoOtherLocks, IsUndisturbed, HasAnswer, IsPast, StepsOn, steps_left, steps_whole, tree_nodes, tree_pairs};
 ghost use Rattle.congee.specs.protocol.Alike.{Ordered, HeapAlike, CallAlike, IsUnrefused, Longer, MovedAlike, SparedAlike};
 ghost use Rattle.congee.specs.protocol.Answers.{Keeps};
 ghost use Rattle.congee.specs.protocol.Bounds.{Within};
+ghost use Rattle.congee.specs.protocol.Counted.{CountsChildren};
 ghost use Rattle.congee.specs.protocol.Destroys.{Destroys, Spares};
 ghost use Rattle.congee.specs.protocol.Events.{HoldsAlike};
 ghost use Rattle.congee.specs.protocol.Filled.{AllBranch, KeepsFilled};
@@ -87,6 +88,12 @@ impl<C: NodeName + Drop, P: Payload> Machine<C, P> {
     /// The values that hang in a tree, which bound a scan, are as many as the pairs of its map.
     pub fn counts_pairs()
         ensures { (a : ℕ → Note) (h : ℕ → Node P) (m : Pairs P) → Tree a h → LockWords a h → IsMapOf h m → tree_pairs h ≡ len m }
+    {}
+
+    /// A tree of which each node but the root counts its children, and has enough of them, has two nodes at most for each pair of
+    /// its map, the root among them, or its root alone.
+    pub fn few_nodes()
+        ensures { (a : ℕ → Note) (h : ℕ → Node P) (m : Pairs P) → Tree a h → LockWords a h → IsMapOf h m → AllBranch h → ((n : ℕ) → n ≢ 0 → InTree h n → CountsChildren (h n)) → tree_nodes h ≤ max 1 (2 * len m) }
     {}
 
     /// A node with one child gives its place to it: the tree stands, and each key finds what it found.
