@@ -12,6 +12,11 @@ abbrev pub keys_by : {K X : Type 0} → (ℕ → K) → List (ℕ × X) → List
 keys_by of_word [] = []
 keys_by of_word ((k, x) ∷ r) = of_word k ∷ keys_by of_word r
 
+-- the values of the pairs, each as what stands for its number
+abbrev pub values_by : {V X : Type 0} → (X → V) → List (ℕ × X) → List V
+values_by of_word [] = []
+values_by of_word ((k, x) ∷ r) = of_word x ∷ values_by of_word r
+
 -- the pairs, each as what stands for it
 abbrev pub entries_by : {X E : Type 0} → (ℕ → X → E) → List (ℕ × X) → List E
 entries_by entry [] = []
