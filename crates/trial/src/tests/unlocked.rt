@@ -8,6 +8,7 @@ mod calls;
 mod faces;
 mod histories;
 mod rooms;
+mod scans;
 mod search;
 mod sums;
 mod waits;
