@@ -22,6 +22,7 @@ mod set;
 mod sizes;
 mod split;
 mod stores;
+mod whole;
 mod write;
 
 pub use fresh::Free;
