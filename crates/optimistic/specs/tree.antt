@@ -13,5 +13,4 @@ pub mod Sights
 pub mod Sizes
 pub mod Takes
 pub mod Trees
-pub mod Wholes
 pub mod Writes

@@ -22,7 +22,6 @@ mod set;
 mod sizes;
 mod split;
 mod stores;
-mod whole;
 mod write;
 
 pub use fresh::Free;

@@ -20,5 +20,4 @@ pub mod Reshaping
 pub mod Setting
 pub mod Splitting
 pub mod Taking
-pub mod Wholes
 pub mod Writing
