@@ -7,6 +7,7 @@
 mod calls;
 mod faces;
 mod histories;
+mod lanes;
 mod rooms;
 mod search;
 mod sums;
@@ -14,6 +15,7 @@ mod waits;
 
 use optimistic::{Pair, U64Congee, Worker};
 use std::alloc::{AllocError, Global};
+use std::test::Fail;
 
 /// The words up to the root's end.
 const ROOT_END: usize = 536;
@@ -26,21 +28,19 @@ fn opened(alloc: Global, room: u32) -> Result<U64Congee, AllocError> {
     }
 }
 
-/// Drops an index, so that no test has to say how.
-fn shut(index: U64Congee) {
-    drop(index);
-}
-
 /// Drops a worker.
 fn leave(worker: Worker<'_>) {
     drop(worker);
 }
 
-/// Closes an index, and takes its pairs. There are none where a node is locked.
-fn drained(alloc: Global, index: U64Congee) -> Result<Option<Vec<Pair>>, AllocError> {
+/// Closes an index, and takes its pairs.
+fn drained(alloc: Global, index: U64Congee) -> Result<Vec<Pair>, Fail> {
     let last = index.worker(alloc)?.retire();
     match index.close(last) {
-        Ok(mut pairs) => Ok(pairs.drain(alloc).ok()),
-        Err(_) => Ok(None),
+        Ok(mut pairs) => match pairs.drain(alloc) {
+            Ok(pairs) => Ok(pairs),
+            Err(_) => Err("pairs that aren't told".into()),
+        },
+        Err(_) => Err("a node is locked".into()),
     }
 }

@@ -15,6 +15,20 @@ pub struct Timed {
     pub entry: Entry<u64>,
 }
 
+/// A call of a thread with its reply, at no time.
+pub fn told(thread: u32, call: Call<u64>, reply: Reply<u64>) -> Timed {
+    let entry = Entry {
+        worker: thread,
+        call,
+        reply,
+    };
+    Timed {
+        begin: 0,
+        end: 0,
+        entry,
+    }
+}
+
 /// Which calls a worker makes.
 #[derive(Clone, Copy, Drop)]
 pub struct Draws {
@@ -80,26 +94,37 @@ fn drawn(draws: Draws, turn: u32, number: u64, value: u64, last: (u64, Option<u6
     }
 }
 
-/// Makes a call.
+/// What a closure answers for a value: so many times the value, and its number; or none, where it has no number.
+fn raised(old: u64, times: u64, by: Option<u64>) -> Option<u64> {
+    match by {
+        Some(by) => Some(old.wrapping_mul(times).wrapping_add(by)),
+        None => None,
+    }
+}
+
+/// Makes a call. A closure answers so many times the value, and its number.
 pub fn called<R: Wait>(
     rt: &R,
     worker: &mut Worker,
     call: Call<u64>,
+    times: u64,
 ) -> Result<Reply<u64>, Refusal> {
-    Ok(match call {
-        Call::Get(key) => Reply::Get(worker.get(rt, key)),
-        Call::Insert(key, value) => Reply::Insert(worker.insert(rt, key, value)?),
-        Call::Remove(key) => Reply::Remove(worker.remove(rt, key)?),
-        Call::ComputePresent(key, answer) => {
-            Reply::ComputePresent(worker.compute_if_present(rt, key, |_| answer)?)
+    match call {
+        Call::Get(key) => Ok(Reply::Get(worker.get(rt, key))),
+        Call::Insert(key, value) => Ok(Reply::Insert(worker.insert(rt, key, value)?)),
+        Call::Remove(key) => Ok(Reply::Remove(worker.remove(rt, key)?)),
+        Call::ComputePresent(key, by) => {
+            let told = worker.compute_if_present(rt, key, |old| raised(old, times, by))?;
+            Ok(Reply::ComputePresent(told))
         }
-        Call::ComputeInsert(key, answer) => {
-            Reply::ComputeInsert(worker.compute_or_insert(rt, key, |_| answer)?)
+        Call::ComputeInsert(key, by) => {
+            let raise = |old: Option<u64>| old.unwrap_or(0).wrapping_mul(times).wrapping_add(by);
+            Ok(Reply::ComputeInsert(worker.compute_or_insert(rt, key, raise)?))
         }
         Call::Exchange(key, old, new) => {
-            Reply::Exchange(worker.compare_exchange(rt, key, old, new)?)
+            Ok(Reply::Exchange(worker.compare_exchange(rt, key, old, new)?))
         }
-    })
+    }
 }
 
 /// The call as its entry has it: a closure that wasn't asked answered nothing.
@@ -130,7 +155,7 @@ pub fn calls<R: Wait>(
         let value = u64::from(place) << 32 | u64::from(turn);
         let call = drawn(draws, turn, number, value, last);
         let begin = clock.fetch_add(1, Ordering::SeqCst);
-        let answer = called(rt, worker, call);
+        let answer = called(rt, worker, call, 0);
         let end = clock.fetch_add(1, Ordering::SeqCst);
         if let Ok(reply) = answer {
             last = (key_called(call), left(call, reply));

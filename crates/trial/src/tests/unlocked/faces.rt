@@ -1,81 +1,66 @@
 //! Calls that don't wait, calls on words of other types, what workers tell each other, and a close.
 
-use super::{leave, opened, shut};
+use super::calls::{Timed, told};
+use super::lanes::{Task, count_of, ran};
+use super::{leave, opened};
 use crate::tests::asserts::assert_same;
-use judge::Word64;
-use optimistic::{Congee, Pair, Pairs, Refusal, U64Congee, WordWorker, Worker};
+use judge::{Call, Reply};
+use optimistic::{Congee, Pair, Pairs, U64Congee, WordWorker, Worker};
 use std::alloc::{AllocError, Global};
 use std::sync::Wait;
 use std::test::Fail;
 
-/// The calls that don't wait, with no other writer.
-fn tries(worker: &mut Worker) -> Result<bool, Refusal> {
-    Ok(
-        worker.try_insert(7, 1)? == None
-            && worker.try_insert(7, 2)? == Some(1)
-            && worker.try_get(7) == Some(Some(2))
-            && worker.try_compare_exchange(7, 2, Some(3))? == Ok(Some(3))
-            && worker.try_compare_exchange(7, 2, Some(4))? == Err(Some(3))
-            && worker.try_remove(7)? == Some(3)
-            && worker.try_remove(7)? == None
-            && worker.try_get(7) == Some(None),
-    )
+/// Whether the calls that don't wait answer as a map, with no other writer.
+fn is_tried(worker: &mut Worker) -> bool {
+    worker.try_insert(7, 1) == Ok(None)
+        && worker.try_insert(7, 2) == Ok(Some(1))
+        && worker.try_get(7) == Some(Some(2))
+        && worker.try_compare_exchange(7, 2, Some(3)) == Ok(Ok(Some(3)))
+        && worker.try_compare_exchange(7, 2, Some(4)) == Ok(Err(Some(3)))
+        && worker.try_remove(7) == Ok(Some(3))
+        && worker.try_remove(7) == Ok(None)
+        && worker.try_get(7) == Some(None)
 }
 
-/// The calls that don't wait, on words.
-fn word_tries<K: Word64 + Copy, V: Word64 + Copy + PartialEq>(
-    worker: &mut WordWorker<K, V>,
-    key: K,
-    value: V,
-) -> Result<bool, Refusal> {
-    Ok(
-        worker.try_insert(key, value)? == None
-            && worker.try_get(&key) == Some(Some(value))
-            && worker.try_compare_exchange(&key, &value, Some(value))? == Ok(Some(value))
-            && worker.try_remove(&key)? == Some(value),
-    )
+/// A look-up, if they do.
+pub fn tries(alloc: Global, worker: &mut Worker) -> Result<Vec<Timed>, AllocError> {
+    let mut made = Vec::new(alloc);
+    if is_tried(worker) {
+        made.push(told(0, Call::Get(7), Reply::Get(None)))?;
+    }
+    Ok(made)
 }
 
-/// The calls on words.
-fn word_calls<K: Word64 + Copy, V: Word64 + Copy + PartialEq, R: Wait>(
-    rt: &R,
-    worker: &mut WordWorker<K, V>,
-    key: K,
-    value: V,
-) -> Result<bool, Refusal> {
-    Ok(
-        worker.insert(rt, key, value)? == None
-            && worker.get(rt, &key) == Some(value)
-            && worker.compare_exchange(rt, &key, &value, None)? == Ok(None)
-            && worker.compute_or_insert(rt, &key, |old| old.unwrap_or(5))? == None
-            && worker.compute_if_present(rt, &key, |old| Some(old.wrapping_add(1)))?
-                == Some((5, Some(6)))
-            && worker.remove(rt, &key)? == Some(V::from_word(6)),
-    )
+/// Whether the calls on words answer as a map, first those that don't wait.
+fn words_answer<R: Wait>(rt: &R, worker: &mut WordWorker<u64, u64>) -> bool {
+    worker.try_insert(1, 2) == Ok(None)
+        && worker.try_get(&1) == Some(Some(2))
+        && worker.try_compare_exchange(&1, &2, Some(2)) == Ok(Ok(Some(2)))
+        && worker.try_remove(&1) == Ok(Some(2))
+        && worker.insert(rt, 1, 2) == Ok(None)
+        && worker.get(rt, &1) == Some(2)
+        && worker.compare_exchange(rt, &1, &2, None) == Ok(Ok(None))
+        && worker.compute_or_insert(rt, &1, |old| old.unwrap_or(5)) == Ok(None)
+        && worker.compute_if_present(rt, &1, |old| Some(old.wrapping_add(1)))
+            == Ok(Some((5, Some(6))))
+        && worker.remove(rt, &1) == Ok(Some(6))
+}
+
+/// Whether they do, at an index of words.
+fn are_words_answered<R: Wait>(rt: &R, alloc: Global) -> Result<bool, Fail> {
+    let words: Congee<u64, u64> = Congee::new(alloc, 1_536)?;
+    let mut worker = words.worker(alloc)?;
+    let told = words_answer(rt, &mut worker);
+    drop(worker);
+    drop(words);
+    Ok(told)
 }
 
 #[test]
 fn each_call_answers(rt: HostRuntime) -> Result<(), Fail> {
-    let index = opened(rt.alloc(), 1_000)?;
-    let told = match index.worker(rt.alloc()) {
-        Ok(mut worker) => {
-            let told = tries(&mut worker);
-            leave(worker);
-            told == Ok(true)
-        }
-        Err(_) => false,
-    };
-    shut(index);
-    assert_same(&rt, told, true);
-    let words: Congee<u64, u64> = Congee::new(rt.alloc(), 1_536)?;
-    let mut worker = words.worker(rt.alloc())?;
-    let told = (
-        word_tries(&mut worker, 1, 2),
-        word_calls(&rt, &mut worker, 1, 2),
-    );
-    drop(worker);
-    drop(words);
-    assert_same(&rt, told, (Ok(true), Ok(true)));
+    assert_same(&rt, are_words_answered(&rt, rt.alloc())?, true);
+    let (lanes, _pairs) = ran(&rt, rt.alloc(), 1_000, 1, Task::Tries)?;
+    assert_same(&rt, count_of(&lanes), 1);
     Ok(())
 }
 

@@ -1,17 +1,16 @@
 //! Histories: the calls of threads at one index, judged to be one map's.
 
-use super::calls::{Draws, Timed, calls, key_called, key_of};
-use super::search::order;
-use super::{drained, leave, opened};
+use super::calls::{Draws, Timed, key_called, key_of};
+use super::lanes::{Task, count_of, ran};
+use super::search::has_order;
 use crate::tests::asserts::assert_same;
 use crate::tests::machine::drawn::number_in;
-use judge::{Call, Entry, Reply, Verdict, check};
-use optimistic::{Pair, U64Congee};
+use judge::{Call, Entry, Reply};
+use optimistic::Pair;
 use std::alloc::{AllocError, Global};
+use std::process::Abort;
 use std::sync::Wait;
-use std::sync::atomic::AtomicU64;
 use std::test::Fail;
-use std::thread;
 use std::thread::Threads;
 
 /// How many calls each thread makes; the sweep has it make more.
@@ -20,68 +19,8 @@ const CALLS: u32 = 500;
 /// Room for all nodes that a history of so many keys can have.
 const AMPLE: u32 = 100_000;
 
-/// The calls of threads at an index.
-#[derive(Clone, Copy, Drop)]
-struct Plan {
-    threads: u32,
-    draws: Draws,
-    /// How many words there are for nodes.
-    room: u32,
-    /// Whether the calls have one order, or those of each key.
-    is_whole: bool,
-}
-
-/// What is known of a history: how many calls were made, and whether one map answers so, and has then what the index had.
-type Known = (usize, bool);
-
-/// What a history of so many calls is to be.
-fn whole(threads: u32, count: u32) -> Option<Known> {
-    Some(((threads as usize).saturating_mul(count as usize), true))
-}
-
-/// The calls of one thread, with a worker of its own.
-fn lane<R: Wait>(
-    rt: &R,
-    alloc: Global,
-    index: &U64Congee,
-    clock: &AtomicU64,
-    place: u32,
-    draws: Draws,
-) -> Result<Vec<Timed>, AllocError> {
-    let mut worker = index.worker(alloc)?;
-    let made = calls(rt, alloc, &mut worker, clock, place, draws);
-    leave(worker);
-    made
-}
-
-/// The calls of all threads.
-fn lanes<R: Threads + Wait + Sync>(
-    rt: &R,
-    alloc: Global,
-    index: &U64Congee,
-    plan: Plan,
-) -> Result<Vec<Vec<Timed>>, AllocError> {
-    let clock = AtomicU64::new(0);
-    let clock = &clock;
-    let draws = plan.draws;
-    let work = move |place: usize| {
-        let place = u32::try_from(place).unwrap_or(u32::MAX);
-        lane(rt, alloc, index, clock, place, draws)
-    };
-    let mut lanes = Vec::new(alloc);
-    for lane in thread::map_indices(rt, alloc, plan.threads as usize, &work)? {
-        lanes.push(lane?)?;
-    }
-    Ok(lanes)
-}
-
-/// Whether calls have an order in which they are one map's, which has these pairs then.
-fn is_legal(alloc: Global, lanes: &[Vec<Timed>], pairs: &[Pair]) -> Result<bool, AllocError> {
-    let Some(found) = order(alloc, lanes)? else {
-        return Ok(false);
-    };
-    Ok(found.leaves(pairs) && check(alloc, &found.entries)? == Verdict::Legal)
-}
+/// Too little for all nodes of a history on 96 keys.
+const TIGHT: u32 = 300;
 
 /// The calls of one key.
 fn of_key(alloc: Global, key: u64, lanes: &[Vec<Timed>]) -> Result<Vec<Vec<Timed>>, AllocError> {
@@ -116,131 +55,61 @@ fn is_legal_by_keys(
             }
         }
         others = others.saturating_sub(pair.len());
-        if !is_legal(alloc, &own, &pair)? {
+        if !has_order(alloc, &own, Some(&pair))? {
             return Ok(false);
         }
     }
     Ok(others == 0)
 }
 
-/// What is known of these calls, and of the pairs of the index that was closed after them.
-fn judged(
-    alloc: Global,
-    plan: Plan,
-    lanes: &[Vec<Timed>],
-    pairs: &[Pair],
-) -> Result<Known, AllocError> {
-    let mut calls = 0usize;
-    for lane in lanes {
-        calls = calls.saturating_add(lane.len());
-    }
-    let is_one_maps = if plan.is_whole {
-        is_legal(alloc, lanes, pairs)?
+/// How many threads make calls on how many keys; how many calls mostly put keys in, before as many that take them out; how many calls
+/// each makes; how many words there are for nodes; and whether the calls have one order, or those of each key.
+type Plan = (u32, u64, u32, u32, u32, bool);
+
+/// A plan's calls are one map's, which has then what the index had. Where the room is tight some are refused, which change nothing.
+fn holds<R: Threads + Wait + Sync + Abort>(rt: &R, alloc: Global, plan: Plan) -> Result<(), Fail> {
+    let (threads, keys, phase, count, room, is_whole) = plan;
+    let draws = Draws { keys, phase, count };
+    let (lanes, pairs) = ran(rt, alloc, room, threads, Task::Draws(draws))?;
+    let is_one_maps = if is_whole {
+        has_order(alloc, &lanes, Some(&pairs))?
     } else {
-        is_legal_by_keys(alloc, plan.draws.keys, lanes, pairs)?
+        is_legal_by_keys(alloc, keys, &lanes, &pairs)?
     };
-    Ok((calls, is_one_maps))
-}
-
-/// Makes a plan's calls, and tells what is known of them, if no node was left locked.
-fn history<R: Threads + Wait + Sync>(
-    rt: &R,
-    alloc: Global,
-    plan: Plan,
-) -> Result<Option<Known>, AllocError> {
-    let index = opened(alloc, plan.room)?;
-    let lanes = lanes(rt, alloc, &index, plan);
-    let pairs = drained(alloc, index)?;
-    let lanes = lanes?;
-    match pairs {
-        Some(pairs) => Ok(Some(judged(alloc, plan, &lanes, &pairs)?)),
-        None => Ok(None),
-    }
-}
-
-/// Nodes of each form come and go.
-#[test]
-fn one_threads_calls_are_a_maps(rt: HostRuntime) -> Result<(), Fail> {
-    let count = number_in(&rt, "TRIAL_CALLS", 2 * CALLS).saturating_mul(20);
-    let plan = Plan {
-        threads: 1,
-        draws: Draws {
-            keys: 600,
-            phase: 5_000,
-            count,
-        },
-        room: AMPLE,
-        is_whole: true,
-    };
-    assert_same(&rt, history(&rt, rt.alloc(), plan)?, whole(1, count));
+    let most = (threads as usize).saturating_mul(count as usize);
+    let known = (is_one_maps, count_of(&lanes) < most);
+    assert_same(rt, (plan, known), (plan, (true, room == TIGHT)));
     Ok(())
 }
 
+/// Plans, with how many times the usual number of calls. Of one thread, nodes of each form come and go.
+const PLANS: [Plan; 6] = [
+    (1, 600, 5_000, 40, AMPLE, true),
+    (2, 8, 250, 1, AMPLE, false),
+    (4, 8, 250, 1, AMPLE, false),
+    (4, 96, 250, 1, AMPLE, false),
+    (16, 96, 250, 1, AMPLE, false),
+    (4, 96, 250, 1, TIGHT, false),
+];
+
+/// Those; and a few calls of three threads on few keys, in one order.
 #[test]
 fn threads_calls_are_one_maps(rt: HostRuntime) -> Result<(), Fail> {
-    let count = number_in(&rt, "TRIAL_CALLS", CALLS);
-    for (threads, keys) in [(2, 8), (4, 8), (4, 96), (16, 96)] {
-        let plan = Plan {
+    let usual = number_in(&rt, "TRIAL_CALLS", CALLS);
+    for (threads, keys, phase, times, room, is_whole) in PLANS {
+        let plan = (
             threads,
-            draws: Draws {
-                keys,
-                phase: 250,
-                count,
-            },
-            room: AMPLE,
-            is_whole: false,
-        };
-        let known = history(&rt, rt.alloc(), plan)?;
-        assert_same(
-            &rt,
-            (threads, keys, known),
-            (threads, keys, whole(threads, count)),
+            keys,
+            phase,
+            usual.saturating_mul(times),
+            room,
+            is_whole,
         );
+        holds(&rt, rt.alloc(), plan)?;
     }
-    Ok(())
-}
-
-/// A few calls of three threads on few keys, in one order.
-#[test]
-fn small_histories_are_one_maps(rt: HostRuntime) -> Result<(), Fail> {
     for phase in 1..100 {
-        let plan = Plan {
-            threads: 3,
-            draws: Draws {
-                keys: 3,
-                phase,
-                count: 12,
-            },
-            room: 500,
-            is_whole: true,
-        };
-        let known = history(&rt, rt.alloc(), plan)?;
-        assert_same(&rt, (phase, known), (phase, whole(3, 12)));
+        holds(&rt, rt.alloc(), (3, 3, phase, 12, 500, true))?;
     }
-    Ok(())
-}
-
-/// Calls that are refused change nothing, so the others are one map's.
-#[test]
-fn calls_without_room_are_one_maps(rt: HostRuntime) -> Result<(), Fail> {
-    let count = number_in(&rt, "TRIAL_CALLS", CALLS);
-    let plan = Plan {
-        threads: 4,
-        draws: Draws {
-            keys: 96,
-            phase: 250,
-            count,
-        },
-        room: 300,
-        is_whole: false,
-    };
-    let known = history(&rt, rt.alloc(), plan)?;
-    let most = 4 * u64::from(count);
-    let is_so = match known {
-        Some((calls, is_one_maps)) => is_one_maps && (calls as u64) < most,
-        None => false,
-    };
-    assert_same(&rt, is_so, true);
     Ok(())
 }
 
@@ -270,48 +139,72 @@ fn by_threads(alloc: Global, rows: &[Worked]) -> Result<Vec<Vec<Timed>>, AllocEr
     Ok(lanes)
 }
 
-/// Whether calls are one map's, whatever it has then.
-fn has_order(alloc: Global, rows: &[Worked]) -> Result<bool, AllocError> {
-    let lanes = by_threads(alloc, rows)?;
-    Ok(order(alloc, &lanes)?.is_some())
-}
+/// Two calls that put something at the key.
+const PUT: Worked = (0, 0, 10, Call::Insert(1, 5), Reply::Insert(None));
 
-/// A call that takes this value out.
-fn took(thread: u32, begin: u64, end: u64, value: u64) -> Worked {
+const AGAIN: Worked = (1, 0, 20, Call::Insert(1, 6), Reply::Insert(None));
+
+/// Histories, and whether each is one map's.
+const WORKED: [(&'static [Worked], bool); 8] = [
+    (&[PUT, (1, 5, 15, Call::Get(1), Reply::Get(None))], true),
+    (&[PUT, (1, 11, 15, Call::Get(1), Reply::Get(None))], false),
     (
-        thread,
-        begin,
-        end,
-        Call::Remove(1),
-        Reply::Remove(Some(value)),
-    )
-}
-
-/// A call that finds this.
-fn found(thread: u32, begin: u64, end: u64, value: Option<u64>) -> Worked {
-    (thread, begin, end, Call::Get(1), Reply::Get(value))
-}
+        &[
+            PUT,
+            (1, 5, 6, Call::Get(1), Reply::Get(Some(5))),
+            (2, 7, 8, Call::Get(1), Reply::Get(None)),
+        ],
+        false,
+    ),
+    (
+        &[
+            PUT,
+            (1, 5, 9, Call::Get(1), Reply::Get(Some(5))),
+            (2, 7, 8, Call::Get(1), Reply::Get(None)),
+        ],
+        true,
+    ),
+    (
+        &[
+            PUT,
+            AGAIN,
+            (2, 0, 30, Call::Remove(1), Reply::Remove(Some(5))),
+        ],
+        true,
+    ),
+    (
+        &[
+            PUT,
+            AGAIN,
+            (2, 0, 30, Call::Remove(1), Reply::Remove(Some(6))),
+        ],
+        true,
+    ),
+    (
+        &[
+            PUT,
+            AGAIN,
+            (2, 21, 30, Call::Remove(1), Reply::Remove(Some(7))),
+        ],
+        false,
+    ),
+    (
+        &[
+            PUT,
+            AGAIN,
+            (2, 11, 12, Call::Remove(1), Reply::Remove(Some(6))),
+            (2, 13, 14, Call::Get(1), Reply::Get(Some(6))),
+        ],
+        false,
+    ),
+];
 
 /// Histories that are no map's are refused.
 #[test]
 fn an_order_is_found_where_there_is_one(rt: HostRuntime) -> Result<(), Fail> {
-    let put = (0, 0, 10, Call::Insert(1, 5), Reply::Insert(None));
-    let again = (1, 0, 20, Call::Insert(1, 6), Reply::Insert(None));
-    let rows: [(&[Worked], bool); 8] = [
-        (&[put, found(1, 5, 15, None)], true),
-        (&[put, found(1, 11, 15, None)], false),
-        (&[put, found(1, 5, 6, Some(5)), found(2, 7, 8, None)], false),
-        (&[put, found(1, 5, 9, Some(5)), found(2, 7, 8, None)], true),
-        (&[put, again, took(2, 0, 30, 5)], true),
-        (&[put, again, took(2, 0, 30, 6)], true),
-        (&[put, again, took(2, 21, 30, 7)], false),
-        (
-            &[put, again, took(2, 11, 12, 6), found(2, 13, 14, Some(6))],
-            false,
-        ),
-    ];
-    for (number, (calls, is_one_maps)) in rows.iter().enumerate() {
-        let known = has_order(rt.alloc(), *calls)?;
+    for (number, (calls, is_one_maps)) in WORKED.iter().enumerate() {
+        let lanes = by_threads(rt.alloc(), *calls)?;
+        let known = has_order(rt.alloc(), &lanes, None)?;
         assert_same(&rt, (number, known), (number, *is_one_maps));
     }
     Ok(())

@@ -1,7 +1,9 @@
 //! An index without room for the node that a key wants: for a growth of each form, for a first node, for a node over two others.
 
-use super::{leave, opened, shut};
+use super::calls::{Timed, called, told};
+use super::lanes::{Task, count_of, ran};
 use crate::tests::asserts::assert_same;
+use judge::{Call, Reply};
 use optimistic::{Refusal, Worker};
 use std::alloc::{AllocError, Global};
 use std::sync::Wait;
@@ -9,7 +11,7 @@ use std::test::Fail;
 
 /// Keys that fill nodes of one kind.
 #[derive(Clone, Copy)]
-enum Row {
+pub enum Row {
     /// Of one inner node, with a lone leaf below each byte.
     Inner,
     /// Of one leaf.
@@ -29,6 +31,9 @@ impl Row {
         1 << 56 | at
     }
 }
+
+/// More keys than a node has children.
+const MOST: u64 = 256;
 
 /// Puts keys in until one is refused, and tells how many came in.
 fn fills<R: Wait>(rt: &R, worker: &mut Worker, row: Row, most: u64) -> u64 {
@@ -55,7 +60,7 @@ fn is_refused<R: Wait>(rt: &R, worker: &mut Worker, row: Row, taken: u64) -> boo
     let key = row.key(taken);
     worker.insert(rt, key, taken) == Err(Refusal::Full)
         && worker.try_insert(key, taken) == Err(Refusal::Full)
-        && worker.compute_or_insert(rt, key, |_| taken) == Err(Refusal::Full)
+        && called(rt, worker, Call::ComputeInsert(key, taken), 0) == Err(Refusal::Full)
         && worker.get(rt, key) == None
         && found(rt, worker, row, taken) == taken
         && worker.insert(rt, row.key(0), 7) == Ok(Some(0))
@@ -65,30 +70,25 @@ fn is_refused<R: Wait>(rt: &R, worker: &mut Worker, row: Row, taken: u64) -> boo
         && worker.insert(rt, row.key(0), 0) == Ok(None)
 }
 
-/// How many keys of a row an index of so many words takes, and whether the next one leaves it as it was.
-fn filled<R: Wait>(
+/// The calls that put as many keys of a row in as come in; none of them where the next one doesn't leave all as it was.
+pub fn filled<R: Wait>(
     rt: &R,
     alloc: Global,
-    room: u32,
+    worker: &mut Worker,
     row: Row,
-    most: u64,
-) -> Result<(u64, bool), AllocError> {
-    let index = opened(alloc, room)?;
-    let told = match index.worker(alloc) {
-        Ok(mut worker) => {
-            let taken = fills(rt, &mut worker, row, most);
-            let is_right = taken == most || is_refused(rt, &mut worker, row, taken);
-            leave(worker);
-            Ok((taken, is_right))
+) -> Result<Vec<Timed>, AllocError> {
+    let taken = fills(rt, worker, row, MOST);
+    let mut put = Vec::new(alloc);
+    if taken == MOST || is_refused(rt, worker, row, taken) {
+        for place in 0..taken {
+            put.push(told(0, Call::Insert(row.key(place), place), Reply::Insert(None)))?;
         }
-        Err(error) => Err(error),
-    };
-    shut(index);
-    told
+    }
+    Ok(put)
 }
 
 /// Inner nodes have 12, 40, 112 and 520 words, leaves 8, 24, 64 and 264.
-const ROWS: [(Row, u32, u64); 24] = [
+const ROWS: [(Row, u32, usize); 24] = [
     (Row::Inner, 0, 1),
     (Row::Inner, 11, 1),
     (Row::Inner, 12, 4),
@@ -118,8 +118,9 @@ const ROWS: [(Row, u32, u64); 24] = [
 #[test]
 fn a_key_without_room_changes_nothing(rt: HostRuntime) -> Result<(), Fail> {
     for (number, (row, room, taken)) in ROWS.iter().enumerate() {
-        let known = filled(&rt, rt.alloc(), *room, *row, 256)?;
-        assert_same(&rt, (number, known), (number, (*taken, true)));
+        let (lanes, pairs) = ran(&rt, rt.alloc(), *room, 1, Task::Fills(*row))?;
+        let known = (count_of(&lanes), pairs.len());
+        assert_same(&rt, (number, known), (number, (*taken, *taken)));
     }
     Ok(())
 }

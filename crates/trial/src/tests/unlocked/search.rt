@@ -2,7 +2,8 @@
 //! in which a map answers each as it was answered.
 
 use super::calls::{Timed, key_called};
-use judge::{Call, Entry, Reply};
+use super::lanes::count_of;
+use judge::{Call, Entry, Reply, Verdict, check};
 use optimistic::Pair;
 use std::alloc::{AllocError, Global};
 use std::collections::BTreeMap;
@@ -24,13 +25,6 @@ struct Search<'h> {
     taken: Vec<usize>,
     pairs: BTreeMap<u64, u64>,
     order: Vec<Step>,
-}
-
-/// An order of all calls, and the pairs that they leave.
-#[derive(Drop)]
-pub struct Found {
-    pub entries: Vec<Entry<u64>>,
-    pairs: BTreeMap<u64, u64>,
 }
 
 /// What a map answers to a call where its key has this, and what the key has then.
@@ -145,18 +139,23 @@ impl<'h> Search<'h> {
         Ok(None)
     }
 
-    /// Takes a step from this lane on, or one back, and tells from which lane on the next one is taken.
-    fn go(&mut self, from: usize) -> Result<Option<usize>, AllocError> {
-        match self.choice(from) {
-            Some(step) => {
-                self.take(step)?;
-                Ok(Some(0))
+    /// Whether these are the pairs that the calls leave.
+    fn leaves(&self, pairs: &[Pair]) -> bool {
+        for pair in pairs {
+            if self.pairs.get(&pair.key) != Some(&pair.value) {
+                return false;
             }
-            None => match self.take_back()? {
-                Some(lane) => Ok(Some(lane.saturating_add(1))),
-                None => Ok(None),
-            },
         }
+        pairs.len() == self.pairs.len()
+    }
+
+    /// Whether the calls leave these pairs, and `judge` finds their order legal.
+    fn is_legal(&self, alloc: Global, pairs: &[Pair]) -> Result<bool, AllocError> {
+        let mut entries = Vec::new(alloc);
+        for step in &self.order {
+            entries.push(step.entry)?;
+        }
+        Ok(self.leaves(pairs) && check(alloc, &entries)? == Verdict::Legal)
     }
 }
 
@@ -167,50 +166,36 @@ fn is_found(search: &mut Search, count: usize, steps: usize) -> Result<bool, All
         if search.order.len() == count {
             return Ok(true);
         }
-        let Some(next) = search.go(from)? else {
-            return Ok(false);
-        };
-        from = next;
+        match search.choice(from) {
+            Some(step) => {
+                search.take(step)?;
+                from = 0;
+            }
+            None => match search.take_back()? {
+                Some(lane) => from = lane.saturating_add(1),
+                None => return Ok(false),
+            },
+        }
     }
     Ok(search.order.len() == count)
 }
 
-/// An order of the calls, if there is one.
-pub fn order(alloc: Global, lanes: &[Vec<Timed>]) -> Result<Option<Found>, AllocError> {
-    let mut count = 0usize;
-    for lane in lanes {
-        count = count.saturating_add(lane.len());
-    }
-    let mut begun = Search {
+/// Whether the calls have an order in which they are one map's, which has these pairs then, if any are named.
+pub fn has_order(
+    alloc: Global,
+    lanes: &[Vec<Timed>],
+    pairs: Option<&[Pair]>,
+) -> Result<bool, AllocError> {
+    let count = count_of(lanes);
+    let mut search = Search {
         lanes,
         taken: Vec::from_elem(alloc, 0, lanes.len())?,
         pairs: BTreeMap::new(alloc),
         order: Vec::new(alloc),
     };
-    if !is_found(&mut begun, count, count.saturating_mul(100))? {
-        return Ok(None);
-    }
-    let Search {
-        lanes: _,
-        taken: _,
-        pairs,
-        order,
-    } = begun;
-    let mut entries = Vec::new(alloc);
-    for step in &order {
-        entries.push(step.entry)?;
-    }
-    Ok(Some(Found { entries, pairs }))
-}
-
-impl Found {
-    /// Whether these are the pairs that the calls leave.
-    pub fn leaves(&self, pairs: &[Pair]) -> bool {
-        for pair in pairs {
-            if self.pairs.get(&pair.key) != Some(&pair.value) {
-                return false;
-            }
-        }
-        pairs.len() == self.pairs.len()
+    let is_found = is_found(&mut search, count, count.saturating_mul(100))?;
+    match pairs {
+        Some(pairs) if is_found => search.is_legal(alloc, pairs),
+        _ => Ok(is_found),
     }
 }

@@ -1,14 +1,14 @@
 //! Threads with keys of their own in nodes that all use, and sums to which all add.
 
-use super::{drained, leave, opened};
+use super::calls::{Timed, called, told};
+use super::lanes::{Task, count_of, ran};
 use crate::tests::asserts::assert_same;
 use crate::tests::machine::drawn::number_in;
-use optimistic::{Pair, Refusal, U64Congee, Worker};
+use judge::{Call, Reply};
+use optimistic::{Pair, Worker};
 use std::alloc::{AllocError, Global};
 use std::sync::Wait;
 use std::test::Fail;
-use std::thread;
-use std::thread::Threads;
 
 /// How many rounds each thread makes; the sweep has it make more.
 const ROUNDS: u32 = 200;
@@ -19,82 +19,51 @@ const OWN: u64 = 256;
 const AMPLE: u32 = 1_000_000;
 
 /// Adds one to what a key has, by look-ups and exchanges.
-fn exchange<R: Wait>(rt: &R, worker: &mut Worker, key: u64) -> Result<(), Refusal> {
+fn exchanges<R: Wait>(rt: &R, worker: &mut Worker, key: u64) -> bool {
     for _ in rt.forever() {
         let Some(old) = worker.get(rt, key) else {
-            return Ok(());
+            return false;
         };
-        let new = Some(old.wrapping_add(1));
-        if worker.compare_exchange(rt, key, old, new)?.is_ok() {
-            break;
+        match worker.compare_exchange(rt, key, old, Some(old.wrapping_add(1))) {
+            Ok(Ok(_)) => return true,
+            Ok(Err(_)) => {}
+            Err(_) => return false,
         }
     }
-    Ok(())
+    false
 }
 
-/// Adds one to each of three keys of one node, each by another call.
-fn add<R: Wait>(rt: &R, worker: &mut Worker) -> Result<(), Refusal> {
-    worker.compute_or_insert(rt, 0, |old| old.unwrap_or(0).wrapping_add(1))?;
-    worker.compute_if_present(rt, 0, |old| Some(old.wrapping_add(1)))?;
-    exchange(rt, worker, 0)?;
-    worker.compute_or_insert(rt, 1, |old| old.unwrap_or(0).wrapping_add(1))?;
-    Ok(())
+/// Adds three to one key and one to another of the same node, by each call. Whether all were made.
+fn adds<R: Wait>(rt: &R, worker: &mut Worker) -> bool {
+    called(rt, worker, Call::ComputeInsert(0, 1), 1).is_ok()
+        && called(rt, worker, Call::ComputePresent(0, Some(1)), 1).is_ok()
+        && exchanges(rt, worker, 0)
+        && called(rt, worker, Call::ComputeInsert(1, 1), 1).is_ok()
 }
 
 /// Puts a key that no other thread has, reads it, and takes every second one out. Whether all answers were right.
-fn own<R: Wait>(rt: &R, worker: &mut Worker, key: u64) -> Result<bool, Refusal> {
-    Ok(
-        worker.insert(rt, key, key)? == None
-            && worker.get(rt, key) == Some(key)
-            && (key % 2 == 0 || worker.remove(rt, key)? == Some(key)),
-    )
+fn owns<R: Wait>(rt: &R, worker: &mut Worker, key: u64) -> bool {
+    worker.insert(rt, key, key) == Ok(None)
+        && worker.get(rt, key) == Some(key)
+        && (key % 2 == 0 || worker.remove(rt, key) == Ok(Some(key)))
 }
 
-/// The rounds of a thread. How many of them were right.
-fn rounds<R: Wait>(rt: &R, worker: &mut Worker, place: u64, threads: u64, count: u32) -> u32 {
-    let mut right = 0u32;
-    for round in 0..u64::from(count) {
-        let key = OWN.wrapping_add(round.wrapping_mul(threads).wrapping_add(place));
-        let is_right = add(rt, worker).is_ok() && own(rt, worker, key) == Ok(true);
-        right = right.saturating_add(u32::from(is_right));
-    }
-    right
-}
-
-/// The rounds of a thread with a worker of its own.
-fn worked<R: Wait>(
+/// The rounds of a thread that were right, by the call that put its own key.
+pub fn rounds<R: Wait>(
     rt: &R,
     alloc: Global,
-    index: &U64Congee,
-    place: u64,
-    threads: u64,
-    count: u32,
-) -> Result<u32, AllocError> {
-    let mut worker = index.worker(alloc)?;
-    let right = rounds(rt, &mut worker, place, threads, count);
-    leave(worker);
-    Ok(right)
-}
-
-/// How many rounds of all threads were right.
-fn all_worked<R: Threads + Wait + Sync>(
-    rt: &R,
-    alloc: Global,
-    index: &U64Congee,
+    worker: &mut Worker,
+    place: u32,
     threads: u32,
     count: u32,
-) -> Result<u32, AllocError> {
-    let work = move |place: usize| worked(
-        rt,
-        alloc,
-        index,
-        place as u64,
-        u64::from(threads),
-        count,
-    );
-    let mut right = 0u32;
-    for rounds in thread::map_indices(rt, alloc, threads as usize, &work)? {
-        right = right.saturating_add(rounds?);
+) -> Result<Vec<Timed>, AllocError> {
+    let mut right = Vec::new(alloc);
+    for round in 0..u64::from(count) {
+        let behind = round.wrapping_mul(u64::from(threads));
+        let key = OWN.wrapping_add(behind).wrapping_add(u64::from(place));
+        if adds(rt, worker) && owns(rt, worker, key) {
+            right.push(told(place, Call::Insert(key, key), Reply::Insert(None)))?;
+        }
     }
     Ok(right)
 }
@@ -108,42 +77,34 @@ fn is_left(pair: &Pair, rounds: u64) -> bool {
     }
 }
 
-/// Whether all pairs are.
-fn are_left(pairs: &[Pair], rounds: u64) -> bool {
+/// How many pairs there are; none if one isn't what so many rounds leave.
+fn count_left(pairs: &[Pair], rounds: u64) -> usize {
     for pair in pairs {
         if !is_left(pair, rounds) {
-            return false;
+            return 0;
         }
     }
-    true
-}
-
-/// How many rounds were right, and how many pairs they left; none if one isn't what they leave.
-fn sums<R: Threads + Wait + Sync>(
-    rt: &R,
-    alloc: Global,
-    threads: u32,
-    count: u32,
-) -> Result<(u32, usize), AllocError> {
-    let index = opened(alloc, AMPLE)?;
-    let right = all_worked(rt, alloc, &index, threads, count);
-    let pairs = drained(alloc, index)?;
-    let right = right?;
-    let rounds = u64::from(threads).wrapping_mul(u64::from(count));
-    match pairs {
-        Some(pairs) if are_left(&pairs, rounds) => Ok((right, pairs.len())),
-        _ => Ok((right, 0)),
-    }
+    pairs.len()
 }
 
 #[test]
 fn threads_have_own_keys_and_add_up(rt: HostRuntime) -> Result<(), Fail> {
     let count = number_in(&rt, "TRIAL_CALLS", ROUNDS);
     for threads in [2, 4, 16] {
-        let all = count.saturating_mul(threads);
-        let known = sums(&rt, rt.alloc(), threads, count)?;
-        let left = (all as usize / 2).saturating_add(2);
-        assert_same(&rt, (threads, known), (threads, (all, left)));
+        let (lanes, pairs) = ran(
+            &rt,
+            rt.alloc(),
+            AMPLE,
+            threads,
+            Task::Rounds(threads, count),
+        )?;
+        let all = count.saturating_mul(threads) as usize;
+        let known = (count_of(&lanes), count_left(&pairs, all as u64));
+        assert_same(
+            &rt,
+            (threads, known),
+            (threads, (all, (all / 2).saturating_add(2))),
+        );
     }
     Ok(())
 }

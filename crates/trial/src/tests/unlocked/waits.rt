@@ -1,14 +1,16 @@
 //! A closure that waits for a call of another thread, at the key that it is asked about or beside it in the same node. The call
 //! ends, since no node is locked while a closure runs; so each test ends.
 
-use super::{leave, opened, shut};
+use super::calls::{Timed, told};
+use super::lanes::{Task, ran};
 use crate::tests::asserts::assert_same;
-use optimistic::{Refusal, U64Congee, Worker};
+use judge::{Call, Reply};
+use optimistic::{Pair, Refusal, Worker};
 use std::alloc::{AllocError, Global};
 use std::sync::Wait;
 use std::sync::atomic::{AtomicU64, Ordering};
 use std::test::Fail;
-use std::thread::{Threads, join, yield_now};
+use std::thread::yield_now;
 
 /// The closure was asked.
 const ASKED: u64 = 1;
@@ -39,19 +41,35 @@ fn added<R: Wait>(rt: &R, state: &AtomicU64, old: u64) -> u64 {
     old.wrapping_add(1)
 }
 
-/// What stood at the key before the closure's answer, of each call with a closure.
+/// What each call with a closure tells.
 fn computes<R: Wait>(
     rt: &R,
     worker: &mut Worker,
     state: &AtomicU64,
     is_present: bool,
-) -> Result<Option<u64>, Refusal> {
+) -> Result<Reply<u64>, Refusal> {
     if is_present {
         let told = worker.compute_if_present(rt, KEY, |old| Some(added(rt, state, old)))?;
-        Ok(told.map(|pair| pair.0))
+        Ok(Reply::ComputePresent(told))
     } else {
-        worker.compute_or_insert(rt, KEY, |old| added(rt, state, old.unwrap_or(0)))
+        let add = |old: Option<u64>| added(rt, state, old.unwrap_or(0));
+        Ok(Reply::ComputeInsert(worker.compute_or_insert(rt, KEY, add)?))
     }
+}
+
+/// Puts two other keys into the node, and makes the call with a closure. The other thread goes on even if the closure isn't asked.
+fn asks<R: Wait>(
+    rt: &R,
+    worker: &mut Worker,
+    state: &AtomicU64,
+    is_present: bool,
+) -> Result<Reply<u64>, Refusal> {
+    worker.insert(rt, 2, 2)?;
+    worker.insert(rt, 3, 3)?;
+    if is_present {
+        worker.insert(rt, KEY, 5)?;
+    }
+    computes(rt, worker, state, is_present)
 }
 
 /// The other thread's call, which is tried so often once the closure was asked.
@@ -60,7 +78,7 @@ fn writes<R: Wait>(
     worker: &mut Worker,
     state: &AtomicU64,
     key: u64,
-) -> Result<Option<u64>, Refusal> {
+) -> Result<Reply<u64>, Refusal> {
     waits(rt, state, ASKED);
     let mut told = Err(Refusal::Again);
     for _ in 0..TRIES {
@@ -70,83 +88,93 @@ fn writes<R: Wait>(
         }
     }
     state.store(ENDED, Ordering::SeqCst);
-    told
+    Ok(Reply::Insert(told?))
 }
 
-/// What both calls answered, and what the key has then.
-type Told = (
-    Result<Option<u64>, Refusal>,
-    Result<Option<u64>, Refusal>,
-    Option<u64>,
-);
-
-/// Makes both calls at once.
-fn both<R: Threads + Wait + Sync>(
-    rt: &R,
-    one: &mut Worker,
-    other: &mut Worker,
-    key: u64,
-    is_present: bool,
-) -> Told {
-    let state = AtomicU64::new(0);
-    let (asked, wrote) = join(
-        rt,
-        || computes(rt, one, &state, is_present),
-        || writes(rt, other, &state, key),
-    );
-    (asked, wrote, one.get(rt, KEY))
-}
-
-/// What is told at an index of its own, whose node has two other keys.
-fn told<R: Threads + Wait + Sync>(
+/// The call of a thread: the first one's is that with the closure. It is left out if it is refused.
+pub fn one_of_both<R: Wait>(
     rt: &R,
     alloc: Global,
-    key: u64,
-    is_present: bool,
-) -> Result<Told, AllocError> {
-    let index = opened(alloc, 1_000)?;
-    let told = told_at(rt, alloc, &index, key, is_present);
-    shut(index);
-    told
-}
-
-fn told_at<R: Threads + Wait + Sync>(
-    rt: &R,
-    alloc: Global,
-    index: &U64Congee,
-    key: u64,
-    is_present: bool,
-) -> Result<Told, AllocError> {
-    let mut one = index.worker(alloc)?;
-    let _ = one.insert(rt, 2, 2);
-    let _ = one.insert(rt, 3, 3);
-    if is_present {
-        let _ = one.insert(rt, KEY, 5);
-    }
-    let told = match index.worker(alloc) {
-        Ok(mut other) => {
-            let told = both(rt, &mut one, &mut other, key, is_present);
-            leave(other);
-            Ok(told)
-        }
-        Err(error) => Err(error),
+    worker: &mut Worker,
+    state: &AtomicU64,
+    place: u32,
+    (key, is_present): (u64, bool),
+) -> Result<Vec<Timed>, AllocError> {
+    let answer = if place == 0 {
+        let asked = asks(rt, worker, state, is_present);
+        state.fetch_max(ASKED, Ordering::SeqCst);
+        asked
+    } else {
+        writes(rt, worker, state, key)
     };
-    leave(one);
-    told
+    let mut made = Vec::new(alloc);
+    if let Ok(reply) = answer {
+        made.push(told(place, Call::Get(key), reply))?;
+    }
+    Ok(made)
 }
+
+/// What a thread was told.
+fn reply_of(lanes: &[Vec<Timed>], thread: usize) -> Option<Reply<u64>> {
+    Some(lanes.get(thread)?.first()?.entry.reply)
+}
+
+/// What the closure's key has.
+fn value_of(pairs: &[Pair]) -> Option<u64> {
+    for pair in pairs {
+        if pair.key == KEY {
+            return Some(pair.value);
+        }
+    }
+    None
+}
+
+/// The other call's key, whether the closure's is present, what both calls tell, and what the closure's key has then.
+const ROWS: [(u64, bool, Reply<u64>, Reply<u64>, u64); 5] = [
+    (
+        KEY,
+        false,
+        Reply::ComputeInsert(Some(7)),
+        Reply::Insert(None),
+        8,
+    ),
+    (
+        KEY,
+        true,
+        Reply::ComputePresent(Some((7, Some(8)))),
+        Reply::Insert(Some(5)),
+        8,
+    ),
+    (
+        2,
+        false,
+        Reply::ComputeInsert(None),
+        Reply::Insert(Some(2)),
+        1,
+    ),
+    (
+        2,
+        true,
+        Reply::ComputePresent(Some((5, Some(6)))),
+        Reply::Insert(Some(2)),
+        6,
+    ),
+    (
+        4,
+        true,
+        Reply::ComputePresent(Some((5, Some(6)))),
+        Reply::Insert(None),
+        6,
+    ),
+];
 
 #[test]
 fn a_closure_waits_for_another_call(rt: HostRuntime) -> Result<(), Fail> {
-    let rows = [
-        (KEY, false, (Ok(Some(7)), Ok(None), Some(8))),
-        (KEY, true, (Ok(Some(7)), Ok(Some(5)), Some(8))),
-        (2, false, (Ok(None), Ok(Some(2)), Some(1))),
-        (2, true, (Ok(Some(5)), Ok(Some(2)), Some(6))),
-        (4, true, (Ok(Some(5)), Ok(None), Some(6))),
-    ];
-    for (key, is_present, wanted) in rows {
-        let known = told(&rt, rt.alloc(), key, is_present)?;
-        assert_same(&rt, (key, is_present, known), (key, is_present, wanted));
+    for (key, is_present, asked, wrote, value) in ROWS {
+        let (lanes, pairs) = ran(&rt, rt.alloc(), 1_000, 2, Task::Waits(key, is_present))?;
+        let told = (reply_of(&lanes, 0), reply_of(&lanes, 1), value_of(&pairs));
+        let wanted = (Some(asked), Some(wrote), Some(value));
+        assert_same(&rt, (key, is_present, told), (key, is_present, wanted));
     }
     Ok(())
 }
