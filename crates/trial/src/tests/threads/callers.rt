@@ -1,7 +1,7 @@
 //! Sixteen threads that call on one index with a journal: calls of each kind on a key, and scans between.
 ghost use Rattle.std.specs.Prelude.{◌≡◌, ◌<◌};
 
-use super::trees::{Told, raised_or, recorded_called, spent};
+use super::trees::{Sharing, Told, called, raised_or, spent};
 use crate::tests::asserts::assert_same;
 use crate::tests::machine::drawn::number_in;
 use crate::threads::callers;
@@ -77,7 +77,8 @@ fn calls<L: Ledger, R: Wait>(
 ) -> Result<(Call<u64>, Reply<u64>), Refusal> {
     let call = call_at(caller.place, number);
     let (share, worker) = (&mut caller.share, &mut caller.worker);
-    match recorded_called(rt, index, call, share, worker, guard)? {
+    let mut tree = Sharing { tree: index, share };
+    match called(rt, &mut tree, call, worker, guard)? {
         Told::Replied(reply) => Ok((answered(call, reply), reply)),
         _ => Err(Refusal::Idle),
     }

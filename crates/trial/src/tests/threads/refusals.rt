@@ -7,9 +7,7 @@ use super::trees::{Ask, Owners, Recorded, Threaded, Told, left, spent};
 use crate::drained::Drained;
 use crate::tests::asserts::assert_same;
 use congee::Limited;
-use joint::{
-    Congee, CongeeArc, Every, Guard, Journaled, Limits, Refusal, Share, U64Congee, Worker,
-};
+use joint::{Congee, CongeeArc, Guard, Journaled, Limits, Refusal, U64Congee, Worker};
 use judge::{Call, Reply};
 use std::alloc::Global;
 use std::marker::Brand;
@@ -21,8 +19,6 @@ use std::test::Fail;
 type Words = Congee<u64, u64, Limited>;
 
 type Numbers = U64Congee<u64, Limited>;
-
-type Journal<L> = Journaled<L, Every, u64, u64, Limited>;
 
 /// What calls are refused as: those that write at a key that is there, those that put one there that isn't, and the others,
 /// where they are.
@@ -113,12 +109,15 @@ fn refuses<T: Threaded, R: Wait>(
     true
 }
 
-/// What bounds a tree for one worker, whose nodes are locked once at most; and how it then refuses, once 1 has its second value.
+/// What bounds a tree, whose nodes are locked once at most; and how it then refuses, once 1 has its second value.
 #[derive(Clone, Copy)]
 struct Bounds {
+    workers: u32,
     cells: u32,
     bytes: u64,
+    /// The places of its journal, and the parts of its ledger.
     places: u64,
+    parts: u32,
     so: Refused,
 }
 
@@ -126,23 +125,8 @@ impl Bounds {
     fn limits(self) -> Limits {
         Limits {
             version_max: 1,
-            ..Limits::usual(1, self.cells).with_id(1)
+            ..Limits::usual(self.workers, self.cells).with_id(1)
         }
-    }
-}
-
-/// Bounds at which no key is put there any more for this.
-fn full(cells: u32, bytes: u64, absent: Refusal) -> Bounds {
-    let so = Refused {
-        present: Refusal::Exhausted,
-        absent,
-        other: None,
-    };
-    Bounds {
-        cells,
-        bytes,
-        places: 9,
-        so,
     }
 }
 
@@ -237,7 +221,7 @@ fn recorded_holds<L: Ledger, R: Wait>(
 ) -> Result<bool, Refusal>
     requires name { blank.name ≡ L.name }
     requires ledger { blank.parts ≡ L.parts }
-    requires parts { blank.parts ≡ 1 }
+    requires parts { blank.parts ≡ bounds.parts }
 {
     let (limits, allocator) = (bounds.limits(), Limited::new(bounds.bytes));
     let drained = Drained::new(alloc);
@@ -247,7 +231,7 @@ fn recorded_holds<L: Ledger, R: Wait>(
         allocator,
         drained,
         bounds.places,
-        1,
+        bounds.parts,
         blank,
     )?;
     let recorded: Recorded<L, Limited> = Recorded { tree, share };
@@ -260,7 +244,7 @@ fn recorded_holds_by_brand<R: Wait>(
     home: &mut Words,
     bounds: Bounds,
 ) -> Result<bool, Refusal> {
-    recorded_holds::<Brand, R>(rt, alloc, Blank::new(1), home, bounds)
+    recorded_holds::<Brand, R>(rt, alloc, Blank::new(u64::from(bounds.parts)), home, bounds)
 }
 
 /// The kinds of trees.
@@ -298,120 +282,97 @@ fn tree_holds<R: Wait>(
     }
 }
 
-/// At cells that are all taken, at a budget that is spent, and at a journal that is full.
-fn at_cells() -> Bounds {
-    full(2, u64::MAX, Refusal::Cells)
-}
+/// A kind of tree and its bounds, in their order; what is refused at a key that is there, and where one isn't; and whether the tree
+/// holds this, or what it isn't opened for.
+type Row = (
+    Tree,
+    (u32, u32, u64, u64, u32),
+    Refusal,
+    Refusal,
+    Result<bool, Refusal>,
+);
 
-fn at_budget() -> Bounds {
-    let budget = Refusal::Budget {
-        charged: 2168,
-        wanted: 64,
-        limit: 2168,
-    };
-    full(9, 2168, budget)
-}
+const CELLS: (u32, u32, u64, u64, u32) = (1, 2, u64::MAX, 9, 1);
 
-fn at_places() -> Bounds {
-    let so = Refused {
-        present: Refusal::JournalFull,
-        absent: Refusal::JournalFull,
-        other: None,
-    };
-    Bounds {
-        places: 2,
-        so,
-        ..at_cells()
-    }
-}
+/// The root has 2104 bytes, and a leaf 64.
+const BYTES: (u32, u32, u64, u64, u32) = (1, 9, 2168, 9, 1);
+
+const NO_BYTES: (u32, u32, u64, u64, u32) = (1, 9, 2103, 9, 1);
+
+const NO_WORKERS: (u32, u32, u64, u64, u32) = (0, 9, 9_000, 9, 1);
+
+const TWICE: Refusal = Refusal::Exhausted;
+
+const SPENT: Refusal = Refusal::Budget {
+    charged: 2168,
+    wanted: 64,
+    limit: 2168,
+};
+
+const ROOTLESS: Result<bool, Refusal> = Err(Refusal::Budget {
+    charged: 0,
+    wanted: 2104,
+    limit: 2103,
+});
+
+const LIMITS: Result<bool, Refusal> = Err(Refusal::Limits);
+
+/// At cells that are all taken, at a budget that is spent, and at a journal that is full. What isn't opened: for no worker, with a
+/// byte too few for the root, and with a journal of no parts, of no place and of more than there may be.
+const ROWS: [Row; 17] = [
+    (Tree::Words, CELLS, TWICE, Refusal::Cells, Ok(true)),
+    (Tree::Words, BYTES, TWICE, SPENT, Ok(true)),
+    (Tree::Numbers, CELLS, TWICE, Refusal::Cells, Ok(true)),
+    (Tree::Numbers, BYTES, TWICE, SPENT, Ok(true)),
+    (Tree::Owners, CELLS, TWICE, Refusal::Cells, Ok(true)),
+    (Tree::Recorded, CELLS, TWICE, Refusal::Cells, Ok(true)),
+    (Tree::Recorded, BYTES, TWICE, SPENT, Ok(true)),
+    (
+        Tree::Recorded,
+        (1, 2, u64::MAX, 2, 1),
+        Refusal::JournalFull,
+        Refusal::JournalFull,
+        Ok(true),
+    ),
+    (Tree::Words, NO_WORKERS, TWICE, SPENT, LIMITS),
+    (Tree::Words, NO_BYTES, TWICE, SPENT, ROOTLESS),
+    (Tree::Numbers, NO_WORKERS, TWICE, SPENT, LIMITS),
+    (Tree::Numbers, NO_BYTES, TWICE, SPENT, ROOTLESS),
+    (Tree::Owners, NO_WORKERS, TWICE, SPENT, LIMITS),
+    (Tree::Recorded, NO_BYTES, TWICE, SPENT, ROOTLESS),
+    (Tree::Recorded, (1, 9, 2103, 9, 0), TWICE, SPENT, LIMITS),
+    (Tree::Recorded, (1, 9, 2103, 0, 1), TWICE, SPENT, LIMITS),
+    (
+        Tree::Recorded,
+        (1, 9, 2103, 1 << 32, 1),
+        TWICE,
+        SPENT,
+        LIMITS,
+    ),
+];
 
 #[test]
 fn each_call_is_refused_by_its_name(rt: HostRuntime) -> Result<(), Fail> {
     let mut home: Words = Congee::new(rt.alloc(), Limits::usual(8, 9), Limited::new(9_000))?;
-    let rows = [
-        (Tree::Words, at_cells()),
-        (Tree::Words, at_budget()),
-        (Tree::Numbers, at_cells()),
-        (Tree::Numbers, at_budget()),
-        (Tree::Owners, at_cells()),
-        (Tree::Recorded, at_cells()),
-        (Tree::Recorded, at_budget()),
-        (Tree::Recorded, at_places()),
-    ];
-    for (place, (kind, bounds)) in rows.iter().enumerate() {
-        let holds = tree_holds(&rt, rt.alloc(), *kind, &mut home, *bounds);
-        assert_same(&rt, (place, holds), (place, Ok(true)));
+    for (place, (kind, row, present, absent, wanted)) in ROWS.iter().enumerate() {
+        let (workers, cells, bytes, places, parts) = *row;
+        let so = Refused {
+            present: *present,
+            absent: *absent,
+            other: None,
+        };
+        let bounds = Bounds {
+            workers,
+            cells,
+            bytes,
+            places,
+            parts,
+            so,
+        };
+        let holds = tree_holds(&rt, rt.alloc(), *kind, &mut home, bounds);
+        assert_same(&rt, (place, holds), (place, *wanted));
     }
     Ok(())
-}
-
-/// Why a tree for so many workers and bytes isn't opened.
-fn unopened<R: Wait>(
-    rt: &R,
-    alloc: Global,
-    kind: Tree,
-    workers: u32,
-    bytes: u64,
-) -> Option<Refusal> {
-    let limits = Limits::usual(workers, 9);
-    match kind {
-        Tree::Words => Words::new(alloc, limits, Limited::new(bytes)).err(),
-        Tree::Numbers => Numbers::new(alloc, limits, Limited::new(bytes)).err(),
-        Tree::Owners => CongeeArc::<u64, u64>::new(alloc, limits).err(),
-        Tree::Recorded => unopened_by_brand(rt, alloc, 1, 9),
-    }
-}
-
-/// Why there is no worker of a tree with a journal that has so many parts of its ledger, places and bytes.
-fn recorded_unopened<L: Ledger, R: Wait>(
-    rt: &R,
-    alloc: Global,
-    blank: Blank,
-    parts: u32,
-    places: u64,
-) -> Option<Refusal>
-    requires name { blank.name ≡ L.name }
-    requires ledger { blank.parts ≡ L.parts }
-    requires parts { blank.parts ≡ parts }
-{
-    let (limits, allocator) = (Limits::usual(1, 9), Limited::new(2103));
-    let opened: Result<(Journal<L>, Share<L>), Refusal> = Journaled::new(
-        alloc, limits, allocator, places, parts, blank,
-    );
-    match opened {
-        Ok((tree, _share)) => tree.register(rt).err(),
-        Err(refusal) => Some(refusal),
-    }
-}
-
-fn unopened_by_brand<R: Wait>(rt: &R, alloc: Global, parts: u32, places: u64) -> Option<Refusal> {
-    recorded_unopened::<Brand, R>(rt, alloc, Blank::new(u64::from(parts)), parts, places)
-}
-
-#[test]
-fn trees_want_their_limits(rt: HostRuntime) {
-    let limits = Some(Refusal::Limits);
-    let budget = Some(Refusal::Budget {
-        charged: 0,
-        wanted: 2104,
-        limit: 2103,
-    });
-    let rows = [
-        (Tree::Words, 0, 9_000, limits),
-        (Tree::Words, 1, 2103, budget),
-        (Tree::Numbers, 0, 9_000, limits),
-        (Tree::Numbers, 1, 2103, budget),
-        (Tree::Owners, 0, 9_000, limits),
-        (Tree::Recorded, 1, 2103, budget),
-    ];
-    for (place, (kind, workers, bytes, refused)) in rows.iter().enumerate() {
-        let unopened = unopened(&rt, rt.alloc(), *kind, *workers, *bytes);
-        assert_same(&rt, (place, unopened), (place, *refused));
-    }
-    for (parts, places) in [(0, 9), (1, 0), (1, 1 << 32)] {
-        let unopened = unopened_by_brand(&rt, rt.alloc(), parts, places);
-        assert_same(&rt, ((parts, places), unopened), ((parts, places), limits));
-    }
 }
 
 /// Why there is no guard, if there is none; one is let go.

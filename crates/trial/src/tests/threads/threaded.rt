@@ -407,42 +407,39 @@ fn works<R: Wait>(rt: &R, tree: &Words, task: Task<'_>) -> Result<bool, Refusal>
     done
 }
 
-/// Two threads work at once.
-fn two_work<R: Threads + Wait + Sync>(
+/// As many threads work at once as there are tasks.
+fn all_work<R: Threads + Wait + Sync>(
     rt: &R,
+    alloc: Global,
     tree: &Words,
-    tasks: (Task<'_>, Task<'_>),
-) -> Result<bool, Refusal> {
-    let (one, two) = thread::join(
-        rt,
-        move || works(rt, tree, tasks.0),
-        move || works(rt, tree, tasks.1),
-    );
-    Ok(one? && two?)
+    tasks: &[Task<'_>],
+) -> Result<bool, Cut> {
+    let work = move |place: usize| match tasks.get(place) {
+        Some(task) => works(rt, tree, *task),
+        None => Ok(false),
+    };
+    let mut right = true;
+    for worked in thread::map_indices(rt, alloc, tasks.len(), &work)? {
+        right &= worked?;
+    }
+    Ok(right)
 }
 
-/// Four threads work at once: two put so many keys in, a half each, and two read.
-fn four_work<R: Threads + Wait + Sync>(
-    rt: &R,
-    tree: &Words,
-    half: u64,
-    keys: u64,
-) -> Result<bool, Refusal> {
-    let (one, two) = thread::join(
-        rt,
-        move || two_work(rt, tree, (Task::Fill(0, half), Task::Read(keys))),
-        move || two_work(rt, tree, (Task::Fill(half, keys), Task::Read(keys))),
-    );
-    Ok(one? && two?)
-}
-
+/// Two put so many keys in, a half each, and two read.
 #[test]
 fn two_fill_and_two_read(rt: HostRuntime) -> Result<(), Fail> {
     let tree: Words = Congee::new(rt.alloc(), limits(4, 100_000, 0), DefaultAllocator::new())?;
     let half = u64::from(number_in(&rt, "TRIAL_KEYS", 500).min(5_000));
     let keys = half.saturating_mul(2);
-    assert_same(&rt, four_work(&rt, &tree, half, keys), Ok(true));
-    assert_same(&rt, works(&rt, &tree, Task::Find(keys)), Ok(true));
+    let tasks = [
+        Task::Fill(0, half),
+        Task::Read(keys),
+        Task::Fill(half, keys),
+        Task::Read(keys),
+    ];
+    let worked = all_work(&rt, rt.alloc(), &tree, &tasks);
+    let found = works(&rt, &tree, Task::Find(keys));
+    assert_same(&rt, (worked, found), (Ok(true), Ok(true)));
     Ok(())
 }
 
@@ -450,8 +447,8 @@ fn two_fill_and_two_read(rt: HostRuntime) -> Result<(), Fail> {
 fn closure_waits_for_other(rt: HostRuntime) -> Result<(), Fail> {
     let tree = words(rt.alloc(), 0)?;
     let flag = AtomicBool::new(false);
-    let tasks = (Task::Await(&flag), Task::Tell(&flag));
-    assert_same(&rt, two_work(&rt, &tree, tasks), Ok(true));
+    let tasks = [Task::Await(&flag), Task::Tell(&flag)];
+    assert_same(&rt, all_work(&rt, rt.alloc(), &tree, &tasks), Ok(true));
     Ok(())
 }
 

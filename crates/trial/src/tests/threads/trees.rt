@@ -49,6 +49,37 @@ pub enum Told {
 /// with the first one.
 pub type Left = (u64, u64, usize, Option<(u64, u64)>);
 
+/// The calls on a key: those with a closure take any.
+pub trait Calls {
+    fn plainly<R: Wait>(
+        &mut self,
+        rt: &R,
+        call: Call<u64>,
+        worker: &mut Worker,
+        guard: &Guard,
+    ) -> Result<Told, Refusal>;
+
+    fn present<F: FnMut(u64) -> Option<u64>, R: Wait>(
+        &mut self,
+        rt: &R,
+        key: u64,
+        f: F,
+        worker: &mut Worker,
+        guard: &Guard,
+    ) -> Result<Option<(u64, Option<u64>)>, Refusal>
+        requires { F.IsAlwaysCallable f };
+
+    fn or_insert<F: FnMut(Option<u64>) -> u64, R: Wait>(
+        &mut self,
+        rt: &R,
+        key: u64,
+        f: F,
+        worker: &mut Worker,
+        guard: &Guard,
+    ) -> Result<Option<u64>, Refusal>
+        requires { F.IsAlwaysCallable f };
+}
+
 /// A tree for threads, of any kind.
 pub trait Threaded: Sized + Drop {
     fn comes<R: Wait>(&self, rt: &R) -> Result<Worker, Refusal>;
@@ -135,6 +166,29 @@ pub fn raised_or(found: Option<u64>, number: u64) -> u64 {
     }
 }
 
+/// A call on a key.
+pub fn called<T: Calls, R: Wait>(
+    rt: &R,
+    tree: &mut T,
+    call: Call<u64>,
+    worker: &mut Worker,
+    guard: &Guard,
+) -> Result<Told, Refusal> {
+    match call {
+        Call::ComputePresent(key, by) => {
+            let raise = |found: u64| raised(found, by);
+            let told = tree.present(rt, key, raise, worker, guard)?;
+            Ok(Told::Replied(Reply::ComputePresent(told)))
+        }
+        Call::ComputeInsert(key, by) => {
+            let raise = |found: Option<u64>| raised_or(found, by);
+            let before = tree.or_insert(rt, key, raise, worker, guard)?;
+            Ok(Told::Replied(Reply::ComputeInsert(before)))
+        }
+        _ => tree.plainly(rt, call, worker, guard),
+    }
+}
+
 /// Keys as they are told.
 fn keys_told(keys: Result<Vec<u64>, Refusal>) -> Result<Told, Refusal> {
     match keys {
@@ -158,10 +212,10 @@ fn emptiness_told(is_empty: Result<bool, Refusal>) -> Result<Told, Refusal> {
     }
 }
 
-/// A call on a key. `by` stands before a key that is looked for; a writing call also takes the share.
-macro_rules! called {
+/// A call on a key without a closure. `by` stands before a key that is looked for; a writing call also takes the share.
+macro_rules! plainly {
     (
-        $rt:ident, $tree:ident, $call:ident, ($($by:tt)?), ($($share:ident)?), $worker:ident,
+        $rt:ident, $tree:expr, $call:ident, ($($by:tt)?), ($($share:expr)?), $worker:ident,
         $guard:ident
     ) => {
         match $call {
@@ -177,22 +231,12 @@ macro_rules! called {
                 let taken = $tree.remove($rt, $($by)? key, $($share,)? $worker, $guard)?;
                 Ok(Told::Replied(Reply::Remove(taken)))
             }
-            Call::ComputePresent(key, by) => {
-                let raise = |found: u64| raised(found, by);
-                let told = $tree
-                    .compute_if_present($rt, $($by)? key, raise, $($share,)? $worker, $guard)?;
-                Ok(Told::Replied(Reply::ComputePresent(told)))
-            }
-            Call::ComputeInsert(key, by) => {
-                let raise = |found: Option<u64>| raised_or(found, by);
-                let before = $tree.compute_or_insert($rt, key, raise, $($share,)? $worker, $guard)?;
-                Ok(Told::Replied(Reply::ComputeInsert(before)))
-            }
             Call::Exchange(key, old, new) => {
                 let told = $tree
                     .compare_exchange($rt, $($by)? key, &old, new, $($share,)? $worker, $guard)?;
                 Ok(Told::Replied(Reply::Exchange(told)))
             }
+            Call::ComputePresent(..) | Call::ComputeInsert(..) => Ok(Told::Nothing),
         }
     };
 }
@@ -232,16 +276,6 @@ macro_rules! wholly {
     };
 }
 
-fn words_called<A: Allocator, R: Wait>(
-    rt: &R,
-    tree: &Congee<u64, u64, A>,
-    call: Call<u64>,
-    worker: &mut Worker,
-    guard: &Guard,
-) -> Result<Told, Refusal> {
-    called!(rt, tree, call, (&), (), worker, guard)
-}
-
 fn words_scanned<A: Allocator, R: Wait>(
     rt: &R,
     tree: &Congee<u64, u64, A>,
@@ -262,16 +296,6 @@ fn words_wholly<A: Allocator, R: Wait>(
     guard: &Guard,
 ) -> Result<Told, Refusal> {
     wholly!(rt, tree, ask, worker, guard)
-}
-
-fn numbers_called<A: Allocator, R: Wait>(
-    rt: &R,
-    tree: &U64Congee<u64, A>,
-    call: Call<u64>,
-    worker: &mut Worker,
-    guard: &Guard,
-) -> Result<Told, Refusal> {
-    called!(rt, tree, call, (), (), worker, guard)
 }
 
 fn numbers_scanned<A: Allocator, R: Wait>(
@@ -296,18 +320,6 @@ fn numbers_wholly<A: Allocator, R: Wait>(
     wholly!(rt, tree, ask, worker, guard)
 }
 
-/// A call on a key of a tree with a journal.
-pub fn recorded_called<L: Ledger, A: Allocator, D: Drop, R: Wait>(
-    rt: &R,
-    tree: &Journaled<L, Every, u64, u64, A, D>,
-    call: Call<u64>,
-    share: &mut Share<L>,
-    worker: &mut Worker,
-    guard: &Guard,
-) -> Result<Told, Refusal> {
-    called!(rt, tree, call, (&), (share), worker, guard)
-}
-
 fn recorded_scanned<L: Ledger, A: Allocator, D: Drop, R: Wait>(
     rt: &R,
     tree: &Journaled<L, Every, u64, u64, A, D>,
@@ -328,6 +340,74 @@ fn recorded_wholly<L: Ledger, A: Allocator, D: Drop, R: Wait>(
     guard: &Guard,
 ) -> Result<Told, Refusal> {
     wholly!(rt, tree, ask, worker, guard)
+}
+
+impl<A: Allocator> Calls for Congee<u64, u64, A> {
+    fn plainly<R: Wait>(
+        &mut self,
+        rt: &R,
+        call: Call<u64>,
+        worker: &mut Worker,
+        guard: &Guard,
+    ) -> Result<Told, Refusal> {
+        plainly!(rt, self, call, (&), (), worker, guard)
+    }
+
+    fn present<F: FnMut(u64) -> Option<u64>, R: Wait>(
+        &mut self,
+        rt: &R,
+        key: u64,
+        f: F,
+        worker: &mut Worker,
+        guard: &Guard,
+    ) -> Result<Option<(u64, Option<u64>)>, Refusal> {
+        self.compute_if_present(rt, &key, f, worker, guard)
+    }
+
+    fn or_insert<F: FnMut(Option<u64>) -> u64, R: Wait>(
+        &mut self,
+        rt: &R,
+        key: u64,
+        f: F,
+        worker: &mut Worker,
+        guard: &Guard,
+    ) -> Result<Option<u64>, Refusal> {
+        self.compute_or_insert(rt, key, f, worker, guard)
+    }
+}
+
+impl<A: Allocator> Calls for U64Congee<u64, A> {
+    fn plainly<R: Wait>(
+        &mut self,
+        rt: &R,
+        call: Call<u64>,
+        worker: &mut Worker,
+        guard: &Guard,
+    ) -> Result<Told, Refusal> {
+        plainly!(rt, self, call, (), (), worker, guard)
+    }
+
+    fn present<F: FnMut(u64) -> Option<u64>, R: Wait>(
+        &mut self,
+        rt: &R,
+        key: u64,
+        f: F,
+        worker: &mut Worker,
+        guard: &Guard,
+    ) -> Result<Option<(u64, Option<u64>)>, Refusal> {
+        self.compute_if_present(rt, key, f, worker, guard)
+    }
+
+    fn or_insert<F: FnMut(Option<u64>) -> u64, R: Wait>(
+        &mut self,
+        rt: &R,
+        key: u64,
+        f: F,
+        worker: &mut Worker,
+        guard: &Guard,
+    ) -> Result<Option<u64>, Refusal> {
+        self.compute_or_insert(rt, key, f, worker, guard)
+    }
 }
 
 impl<A: Allocator> Threaded for Congee<u64, u64, A> {
@@ -364,7 +444,7 @@ impl<A: Allocator> Threaded for Congee<u64, u64, A> {
         guard: &Guard,
     ) -> Result<Told, Refusal> {
         match ask {
-            Ask::Call(call) => words_called(rt, self, call, worker, guard),
+            Ask::Call(call) => called(rt, self, call, worker, guard),
             Ask::Range(..) | Ask::RangeInclusive(..) => words_scanned(rt, self, ask, worker, guard),
             _ => words_wholly(rt, self, ask, worker, guard),
         }
@@ -416,7 +496,7 @@ impl<A: Allocator> Threaded for U64Congee<u64, A> {
         guard: &Guard,
     ) -> Result<Told, Refusal> {
         match ask {
-            Ask::Call(call) => numbers_called(rt, self, call, worker, guard),
+            Ask::Call(call) => called(rt, self, call, worker, guard),
             Ask::Range(..) | Ask::RangeInclusive(..) => numbers_scanned(
                 rt, self, ask, worker, guard,
             ),
@@ -441,6 +521,49 @@ impl<A: Allocator> Threaded for U64Congee<u64, A> {
 pub struct Recorded<L: Ledger, A: Allocator> {
     pub tree: Journaled<L, Every, u64, u64, A, Drained>,
     pub share: Share<L>,
+}
+
+/// A tree with a journal that threads share, and the share with which a call is made.
+#[derive(Drop)]
+pub struct Sharing<'t, L: Ledger, A: Allocator, D: Drop> {
+    pub tree: &'t Journaled<L, Every, u64, u64, A, D>,
+    pub share: &'t mut Share<L>,
+}
+
+impl<'t, L: Ledger, A: Allocator, D: Drop> Calls for Sharing<'t, L, A, D> {
+    fn plainly<R: Wait>(
+        &mut self,
+        rt: &R,
+        call: Call<u64>,
+        worker: &mut Worker,
+        guard: &Guard,
+    ) -> Result<Told, Refusal> {
+        plainly!(rt, self.tree, call, (&), (&mut *self.share), worker, guard)
+    }
+
+    fn present<F: FnMut(u64) -> Option<u64>, R: Wait>(
+        &mut self,
+        rt: &R,
+        key: u64,
+        f: F,
+        worker: &mut Worker,
+        guard: &Guard,
+    ) -> Result<Option<(u64, Option<u64>)>, Refusal> {
+        self.tree
+            .compute_if_present(rt, &key, f, &mut *self.share, worker, guard)
+    }
+
+    fn or_insert<F: FnMut(Option<u64>) -> u64, R: Wait>(
+        &mut self,
+        rt: &R,
+        key: u64,
+        f: F,
+        worker: &mut Worker,
+        guard: &Guard,
+    ) -> Result<Option<u64>, Refusal> {
+        self.tree
+            .compute_or_insert(rt, key, f, &mut *self.share, worker, guard)
+    }
 }
 
 impl<L: Ledger, A: Allocator> Threaded for Recorded<L, A> {
@@ -477,14 +600,10 @@ impl<L: Ledger, A: Allocator> Threaded for Recorded<L, A> {
         guard: &Guard,
     ) -> Result<Told, Refusal> {
         match ask {
-            Ask::Call(call) => recorded_called(
-                rt,
-                &self.tree,
-                call,
-                &mut self.share,
-                worker,
-                guard,
-            ),
+            Ask::Call(call) => {
+                let (tree, share) = (&self.tree, &mut self.share);
+                called(rt, &mut Sharing { tree, share }, call, worker, guard)
+            }
             Ask::Range(..) | Ask::RangeInclusive(..) => recorded_scanned(
                 rt, &self.tree, ask, worker, guard,
             ),
