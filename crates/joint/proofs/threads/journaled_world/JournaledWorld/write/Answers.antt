@@ -26,10 +26,11 @@ returns-clause-turn g c =
     let entry = c.step_on-report.result.1 in
     let call : Progress = record { given = c.call.inside.given; entry = c.call.inside.entry; share = c.call.inside.share } in
     let once : IsTrue c.wont_repeat.result = search rules in
+    let may : IsTrue c.may_step.result = search rules in
     let after_answer = c.take_answer.ensures ∙ sym (ap (λ (y : Progress). record y { given = given_after op y.given event }) c.call.view_is) in
     let has = c.note.ensures.call ∙ ap (λ (y : Progress). noted watched y entry) after_answer in
     subst (λ (p : Progress). WritingTurn watched c.args.step.worker op p c.args.self.now.world c.args.step c.tell.result c.note.new.self c.step_on-report.new.world) c.call.view_is
-    (hold_turn c.args.self.now.world c.step_on-report.new.world op watched call c.note.new.self c.args.step c.step_on-report.result.0 c.tell.result entry c.requires.writing c.step_on-report.ensures.step c.step_on-report.ensures.appended (c.wont_repeat.ensures.0 once) has c.tell.ensures)
+    (hold_turn c.args.self.now.world c.step_on-report.new.world op watched call c.note.new.self c.args.step c.step_on-report.result.0 c.tell.result entry c.requires.writing (c.may_step.ensures.0 may) c.step_on-report.ensures.step c.step_on-report.ensures.appended (c.wont_repeat.ensures.0 once) has c.tell.ensures)
 
 pub returns-clause-told : goal.returns-clause-told
 returns-clause-told g c =
