@@ -29,8 +29,9 @@ use crate::tests::asserts::assert_same;
 use congee::{Allocator, Congee, DefaultAllocator, Limited, OOMError};
 use crossbeam_epoch::{Collector, Fault};
 use crossbeam_utils::sync::ShardedLock;
-use joint::{Done, Event, Kind, Limits, Op, Ran, Refusal, Step, World};
+use joint::{Done, Kind, Limits, Op, Ran, Refusal, Report, Step, World};
 use judge::{Call, Entry, Reply};
+use optimistic::Pair;
 use std::alloc::{AllocError, Global};
 use std::process::Abort;
 use std::sync::atomic::{AtomicU64, Ordering};
@@ -64,27 +65,24 @@ fn go(worker: u32) -> Step<u64> {
 
 /// Two workers come and pin; then so many steps of each, one after the other, of an insertion of the one and a look-up of
 /// the other; then a look-up alone.
+fn scheduled(place: u32) -> Step<u64> {
+    match place {
+        0 | 22 => registering(),
+        1 => beginning(0, Op::Pin),
+        2..=21 => go(0),
+        23 => beginning(1, Op::Pin),
+        24..=43 => go(1),
+        44 => beginning(0, Op::Insert(7, 70)),
+        45 | 86 => beginning(1, Op::Get(7)),
+        46..=85 => go(place % 2),
+        _ => go(1),
+    }
+}
+
 fn schedule(alloc: Global) -> Result<Vec<Step<u64>>, AllocError> {
-    let mut steps = Vec::with_capacity(alloc, 120)?;
-    for worker in 0..2 {
-        steps.push(Step {
-            worker,
-            event: Event::Register,
-        })?;
-        steps.push(beginning(worker, Op::Pin))?;
-        for _ in 0..20 {
-            steps.push(go(worker))?;
-        }
-    }
-    steps.push(beginning(0, Op::Insert(7, 70)))?;
-    steps.push(beginning(1, Op::Get(7)))?;
-    for _ in 0..20 {
-        steps.push(go(0))?;
-        steps.push(go(1))?;
-    }
-    steps.push(beginning(1, Op::Get(7)))?;
-    for _ in 0..20 {
-        steps.push(go(1))?;
+    let mut steps = Vec::new(alloc);
+    for place in 0..107 {
+        steps.push(scheduled(place))?;
     }
     Ok(steps)
 }
@@ -130,29 +128,14 @@ fn an_index_that_is_closed_leaves_the_charge(rt: HostRuntime) -> Result<(), Fail
     Ok(())
 }
 
-/// A worker comes, puts two pairs in and goes. The first pin inspects each place, so the steps are those of an index with two,
-/// as the example's.
-fn filled(alloc: Global) -> Result<Vec<Step<u64>>, Fail> {
-    let mut index: Index = World::new(alloc, Limits::usual(2, 1000), Limited::new(u64::MAX))?;
-    let recorded = fill(alloc, &mut index);
-    discard(index);
-    Ok(recorded?)
-}
-
-fn fill(alloc: Global, index: &mut Index) -> Result<Vec<Step<u64>>, AllocError> {
-    let mut steps = Vec::new(alloc);
-    index.step(registering());
-    steps.push(registering())?;
-    let ops = [
-        Op::Pin,
-        Op::Insert(7, 70),
-        Op::Insert(3, 30),
-        Op::Unpin,
-        Op::Release,
-    ];
-    record_all(index, &mut steps, &ops)?;
-    Ok(steps)
-}
+/// A worker puts two pairs in and goes.
+const FILL: [Op<u64>; 5] = [
+    Op::Pin,
+    Op::Insert(7, 70),
+    Op::Insert(3, 30),
+    Op::Unpin,
+    Op::Release,
+];
 
 #[test]
 fn a_close_drains_what_stands(rt: HostRuntime) -> Result<(), Fail> {
@@ -160,7 +143,7 @@ fn a_close_drains_what_stands(rt: HostRuntime) -> Result<(), Fail> {
         of_values: 0,
         last_key: None,
     };
-    let steps = filled(rt.alloc())?;
+    let steps = recorded(rt.alloc(), 1, &FILL)?;
     let Drained { ran, drainer } = drains_what_stands(rt.alloc(), steps, sum)?;
     let (_, [inserted, _, _]) = counts(ran);
     assert_same(
@@ -230,43 +213,50 @@ fn record(index: &mut Index, steps: &mut Vec<Step<u64>>, op: Op<u64>) -> Result<
     Ok(())
 }
 
-/// Those of several calls.
+/// So many workers come, and worker 0 makes these calls.
 fn record_all(
     index: &mut Index,
     steps: &mut Vec<Step<u64>>,
+    workers: u32,
     ops: &[Op<u64>],
 ) -> Result<(), AllocError> {
+    for _ in 0..workers {
+        index.step(registering());
+        steps.push(registering())?;
+    }
     for op in ops {
         record(index, steps, *op)?;
     }
     Ok(())
 }
 
-/// Two workers come, and one of them fills a leaf until it is exchanged for a greater one. Behind each insertion it goes so many
-/// rounds, and so many in the end.
-fn grow(
-    alloc: Global,
-    index: &mut Index,
-    between: u32,
-    behind: u32,
-) -> Result<Vec<Step<u64>>, AllocError> {
-    let mut steps = vec![in alloc; registering(), registering()]?;
-    for key in 1..6 {
-        let ops = [Op::Pin, Op::Insert(key, key), Op::Get(key), Op::Unpin];
-        record_all(index, &mut steps, &ops)?;
-        for _ in 0..if key < 5 { between } else { behind } {
-            record_all(index, &mut steps, &[Op::Pin, Op::Flush, Op::Unpin])?;
-        }
-    }
+/// Their steps. A pin inspects each place, so they are those of an index with two, as an example's.
+fn recorded(alloc: Global, workers: u32, ops: &[Op<u64>]) -> Result<Vec<Step<u64>>, Fail> {
+    let mut index: Index = World::new(alloc, Limits::usual(2, 1000), Limited::new(u64::MAX))?;
+    let mut steps = Vec::new(alloc);
+    let told = record_all(&mut index, &mut steps, workers, ops);
+    discard(index);
+    told?;
     Ok(steps)
 }
 
-/// The steps of `grow`.
+/// A worker fills a leaf until it is exchanged for a greater one. Behind each insertion it goes so many rounds, and so many in the
+/// end.
+fn growth(alloc: Global, between: u32, behind: u32) -> Result<Vec<Op<u64>>, AllocError> {
+    let mut ops = Vec::new(alloc);
+    for key in 1..6 {
+        ops.extend_from_slice(&[Op::Pin, Op::Insert(key, key), Op::Get(key), Op::Unpin])?;
+        for _ in 0..if key < 5 { between } else { behind } {
+            ops.extend_from_slice(&[Op::Pin, Op::Flush, Op::Unpin])?;
+        }
+    }
+    Ok(ops)
+}
+
+/// Its steps, where two workers have come.
 fn grown(alloc: Global, between: u32, behind: u32) -> Result<Vec<Step<u64>>, Fail> {
-    let mut index = open(alloc, 2, 1000)?;
-    let recorded = grow(alloc, &mut index, between, behind);
-    discard(index);
-    Ok(recorded?)
+    let ops = growth(alloc, between, behind)?;
+    recorded(alloc, 2, &ops)
 }
 
 /// A removed node waits without rounds.
@@ -281,17 +271,31 @@ fn rounds_give_memory_back(rt: HostRuntime) -> Result<(), Fail> {
     Ok(())
 }
 
+/// The place of the next report of the tree, from one on; where there is none, that behind the last one.
+fn next_of_tree(reports: &[Report<u64>], from: usize) -> usize {
+    for place in from..reports.len() {
+        if let Some(report) = reports.get(place) {
+            if report.kind == Kind::Tree {
+                return place;
+            }
+        }
+    }
+    reports.len()
+}
+
 /// Whether two runs tell the same of the tree.
-fn tell_alike(plain: &Ran<u64>, swept: &Ran<u64>) -> bool {
-    let told = plain
-        .reports
-        .iter()
-        .filter(|report| report.kind == Kind::Tree);
-    let again = swept
-        .reports
-        .iter()
-        .filter(|report| report.kind == Kind::Tree);
-    told.eq(again)
+fn tell_alike(plain: &[Report<u64>], swept: &[Report<u64>]) -> bool {
+    let (mut one, mut other) = (0, 0);
+    for _ in 0..=swept.len() {
+        one = next_of_tree(plain, one);
+        other = next_of_tree(swept, other);
+        if plain.get(one) != swept.get(other) {
+            return false;
+        }
+        one = one.saturating_add(1);
+        other = other.saturating_add(1);
+    }
+    true
 }
 
 #[test]
@@ -299,7 +303,11 @@ fn rounds_between_steps_are_unseen(rt: HostRuntime) -> Result<(), Fail> {
     let (steps, more) = (grown(rt.alloc(), 0, 0)?, grown(rt.alloc(), 2, 3)?);
     let (plain, swept) = answer_alike(rt.alloc(), Limits::usual(2, 1000), steps, more)?;
     let is_longer = plain.done < swept.done;
-    assert_same(&rt, (is_longer, tell_alike(&plain, &swept)), (true, true));
+    assert_same(
+        &rt,
+        (is_longer, tell_alike(&plain.reports, &swept.reports)),
+        (true, true),
+    );
     Ok(())
 }
 
@@ -488,10 +496,20 @@ fn a_tree_under_a_mutex_is_written_by_two(rt: HostRuntime) -> Result<(), Fail> {
     Ok(())
 }
 
+/// The key and the value of a pair, if there is one.
+fn pair_at(pairs: &Option<Vec<Pair>>, place: usize) -> Option<(u64, u64)> {
+    match pairs {
+        Some(pairs) => match pairs.get(place) {
+            Some(pair) => Some((pair.key, pair.value)),
+            None => None,
+        },
+        None => None,
+    }
+}
+
 #[test]
-fn two_threads_share_an_index_without_a_lock(rt: HostRuntime) -> Result<(), Fail> {
+fn two_threads_share_an_index_without_a_lock(rt: HostRuntime) {
     let pairs = shares_and_drains(&rt, rt.alloc());
-    let told = pairs.iter().flatten().map(|pair| (pair.key, pair.value));
-    assert!(rt; told.eq([(1, 10), (2, 20)]));
-    Ok(())
+    let found = [pair_at(&pairs, 0), pair_at(&pairs, 1), pair_at(&pairs, 2)];
+    assert_same(&rt, found, [Some((1, 10)), Some((2, 20)), None]);
 }

@@ -1,5 +1,6 @@
 //! `joint`: calls that find no memory once.
 
+use super::machine::told::state;
 use super::machine::{Index, call, discard, is_done, open, replied};
 use crate::tests::asserts::assert_same;
 use joint::{Op, Outcome, Refusal};
@@ -27,11 +28,6 @@ const CALLS: [(Call<u64>, Reply<u64>); 14] = [
     (Call::Get(5), Reply::Get(Some(12))),
     (Call::Get(256), Reply::Get(None)),
 ];
-
-/// What is charged, and what waits.
-fn state(index: &Index) -> (u64, u64, u64) {
-    (index.charged(), index.waiting(), index.waiting_bytes())
-}
 
 /// Whether a call ends with the reply. Where memory is refused nothing has changed, and it is called again.
 pub fn ends_with(index: &mut Index, made: Call<u64>, reply: Reply<u64>) -> bool {

@@ -1,7 +1,6 @@
 //! The machine: its calls a step at a time, of one worker and of several beside each other. Here stands what these tests share:
 //! how an index is opened, and how its workers' calls are stepped.
 
-mod bench;
 mod counts;
 mod crowds;
 pub mod drawn;
@@ -15,8 +14,7 @@ mod one_map;
 mod orders;
 mod scans;
 mod schedules;
-mod told;
-mod traces;
+pub mod told;
 
 use congee::{Limited, Noise};
 pub use flights::entry;
@@ -30,10 +28,24 @@ pub const END: u32 = 200;
 /// An index of numbers.
 pub type Index = World<u64, Limited>;
 
+/// An index of these limits, whose nodes may take so many bytes, and whose workers are registered.
+pub fn bounded(alloc: Global, limits: Limits, bytes: u64) -> Result<Index, Refusal> {
+    let mut index: Index = World::new(alloc, limits, Limited::new(bytes))?;
+    for _ in 0..limits.epoch.participants {
+        index.step(registering());
+    }
+    Ok(index)
+}
+
 /// An index with room for so many workers, who are registered, and so many nodes.
 pub fn open(alloc: Global, workers: u32, cells: u32) -> Result<Index, Refusal> {
+    bounded(alloc, Limits::usual(workers, cells), u64::MAX)
+}
+
+/// An index that keeps a journal of so many places.
+pub fn journaled(alloc: Global, workers: u32, cells: u32, places: u64) -> Result<Index, Refusal> {
     let limits = Limits::usual(workers, cells);
-    let mut index: Index = World::new(alloc, limits, Limited::new(u64::MAX))?;
+    let mut index = World::new_journaled(alloc, limits, Limited::new(u64::MAX), places)?;
     for _ in 0..workers {
         index.step(registering());
     }

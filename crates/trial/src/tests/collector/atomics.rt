@@ -474,7 +474,11 @@ impl<'a, 'c, R: Wait + Abort> Rows<'a, 'c, R> {
     fn wrong(self, rows: &[(Ask, Told)], kept: &mut Pointers) -> Option<usize> {
         let mut wrong = None;
         for (number, (ask, told)) in rows.iter().enumerate() {
-            if self.told(*ask, kept) != Ok(*told) && wrong.is_none() {
+            let is_right = match self.told(*ask, kept) {
+                Ok(found) => found == *told,
+                Err(_) => false,
+            };
+            if !is_right && wrong.is_none() {
                 wrong = Some(number);
             }
         }
@@ -582,6 +586,6 @@ fn each_row_is_told(rt: HostRuntime) -> Result<(), Fail> {
     let items: Collector<Item> = Collector::new(&rt, rt.alloc(), limits(20), 1)?;
     let wrong = first_wrong_of(&rt, rt.alloc(), &items);
     discard(items);
-    assert_same(&rt, wrong, Ok(None));
+    assert_same(&rt, wrong?, None);
     Ok(())
 }

@@ -1,6 +1,8 @@
-//! The face for threads: handles, guards, and values without pointers. `atomics` has the rows of pointers.
+//! The face for threads: handles, guards, and values without pointers. `atomics` has the rows of pointers, `threads` and `jobs` what
+//! handles do.
 
-use super::threads::{leaves, pins_in_two_threads};
+use super::jobs::blocks;
+use super::threads::{Place, Task, by_handle, in_four, in_two, leaves};
 use crate::tests::asserts::assert_same;
 use crossbeam_epoch::{
     Atomic, Collector, CompareAndSetOrdering, Fault, Guard, Job, Limits, Link, LocalHandle, Owned,
@@ -9,14 +11,14 @@ use crossbeam_epoch::{
 use std::alloc::Global;
 use std::ops::DerefMut;
 use std::process::Abort;
-use std::sync::Wait;
-use std::sync::atomic::Ordering;
 use std::sync::atomic::Ordering::SeqCst;
+use std::sync::atomic::{AtomicU64, Ordering};
+use std::sync::{Arc, Wait};
 use std::test::Fail;
 use std::thread::Threads;
 
 /// A value with tags 0 to 3.
-#[derive(Clone, Debug, PartialEq, Eq, Drop)]
+#[derive(Clone, Drop)]
 pub struct Item(u64);
 
 impl Item {
@@ -71,72 +73,154 @@ pub fn ended(items: Collector<Item>) -> Option<Fault> {
     }
 }
 
-/// What is tried on a collector of its own; how many cells it has, and how many places.
-const TRIED: [(&str, u32, u32); 6] = [
-    ("guards nest and move", 20, 4),
-    ("a full store hands back, and a read value stays", 1, 4),
-    ("two handles refuse", 1, 2),
-    ("a participant is unpinned while a repin waits", 1, 4),
-    ("a pinned handle stays", 1, 4),
-    ("two are pinned at once", 1, 4),
+/// What is tried on a collector of its own.
+#[derive(Clone, Copy)]
+pub enum What {
+    /// One handle does it.
+    Alone(Task),
+    /// Two threads do it at once, and then one handle.
+    InTwo(Task, Task, Task),
+    /// Four threads take turns at two places.
+    InFour,
+    /// A second handle blocks so many jobs of the first, which goes so many rounds meanwhile, and so many after it.
+    Blocks(u64, u32, u32),
+    /// Two handles fill the table, and refuse each other's guards and null.
+    Refuses,
+    /// The epoch goes on while a repin waits.
+    GoesOn,
+    /// A pinned handle isn't released.
+    Stays,
+}
+
+use self::What::{Alone, Blocks, GoesOn, InFour, InTwo, Refuses, Stays};
+
+/// What is tried; how many cells its collector has, and how many places; whether it is ended or dropped then; and the sum that its
+/// jobs make. Byte n of the sum counts the calls of job n of two threads, and hexadecimal digit n those of job n of four. 65 jobs are
+/// one more than a bag holds.
+const TRIED: [(&str, What, u32, u32, bool, u64); 11] = [
+    ("guards nest and move", Alone(Task::Moves), 20, 4, false, 0),
+    (
+        "a full store hands back, and a read value stays",
+        Alone(Task::OneCell),
+        1,
+        4,
+        false,
+        0,
+    ),
+    ("two handles refuse", Refuses, 1, 2, false, 0),
+    (
+        "a participant is unpinned while a repin waits",
+        GoesOn,
+        1,
+        4,
+        false,
+        0,
+    ),
+    ("a pinned handle stays", Stays, 1, 4, false, 0),
+    (
+        "two are pinned at once",
+        InTwo(Task::Meets(true), Task::Meets(false), Task::Tag(0)),
+        1,
+        4,
+        false,
+        0,
+    ),
+    (
+        "two threads share an atomic",
+        InTwo(Task::Swap(0), Task::Swap(4), Task::Empties),
+        8,
+        4,
+        false,
+        0x0101_0101_0101_0101,
+    ),
+    (
+        "no change of a tag is lost",
+        InTwo(Task::Flips(1), Task::Flips(2), Task::Tag(3)),
+        1,
+        4,
+        false,
+        0,
+    ),
+    (
+        "four threads take turns at two places",
+        InFour,
+        1,
+        2,
+        true,
+        0x1111_1111_1111_1111,
+    ),
+    (
+        "a pinned handle blocks a job",
+        Blocks(1, 10, 3),
+        1,
+        4,
+        false,
+        1,
+    ),
+    ("it blocks two bags", Blocks(65, 4, 4), 1, 4, false, 2_145),
 ];
 
 #[test]
 fn handles_and_guards_do_as_they_say(rt: HostRuntime) -> Result<(), Fail> {
-    for (name, cells, participants) in TRIED {
-        let mut limits = limits(cells);
-        limits.participants = participants;
-        let items: Collector<Item> = Collector::new(&rt, rt.alloc(), limits, 1)?;
-        let told = is_so(&rt, rt.alloc(), &items, name);
-        discard(items);
-        assert_same(&rt, (name, told), (name, Ok(true)));
+    for (name, what, cells, participants, ends, sum) in &TRIED {
+        let mut limits = limits(*cells);
+        limits.participants = *participants;
+        let told = tried(&rt, rt.alloc(), *what, limits, *ends)?;
+        assert_same(&rt, (*name, told), (*name, (true, *sum)));
     }
     Ok(())
 }
 
-/// Whether what is tried is so.
+/// The end calls a job that is left, and nothing calls it before.
+#[test]
+fn a_collector_ends(rt: HostRuntime) -> Result<(), Fail> {
+    for ends in [true, false] {
+        let told = tried(&rt, rt.alloc(), Alone(Task::Leaves), limits(1), ends)?;
+        assert_same(&rt, (ends, told), (ends, (true, u64::from(ends))));
+    }
+    Ok(())
+}
+
+/// Whether what is tried on a new collector is so, and the sum of its jobs.
+pub fn tried<R: Threads + Wait + Abort + Sync>(
+    rt: &R,
+    alloc: Global,
+    what: What,
+    limits: Limits,
+    ends: bool,
+) -> Result<(bool, u64), Fault> {
+    let Ok(calls) = Arc::new(alloc, AtomicU64::new(0)) else {
+        return Err(Fault::Memory);
+    };
+    let items: Collector<Item> = Collector::new(rt, alloc, limits, 1)?;
+    let told = is_so(rt, alloc, &Place::new(&items, &calls), what);
+    let is_over = if ends {
+        ended(items).is_none()
+    } else {
+        discard(items);
+        true
+    };
+    Ok((told? && is_over, calls.load(SeqCst)))
+}
+
 fn is_so<R: Threads + Wait + Abort + Sync>(
     rt: &R,
     alloc: Global,
-    items: &Collector<Item>,
-    name: &str,
+    place: &Place<'_>,
+    what: What,
 ) -> Result<bool, Fault> {
-    match name {
-        "two handles refuse" | "a participant is unpinned while a repin waits" => {
-            of_two(rt, items, name == "two handles refuse")
+    match what {
+        Alone(task) => by_handle(rt, alloc, place, task),
+        InTwo(one, two, last) => {
+            Ok(in_two(rt, alloc, place, one, two)? && by_handle(rt, alloc, place, last)?)
         }
-        "a pinned handle stays" => stays(rt, items.register(rt)?),
-        "two are pinned at once" => Ok(pins_in_two_threads(rt, items)? == (true, true)),
-        _ => of_one(rt, alloc, items, name == "guards nest and move"),
+        InFour => in_four(rt, alloc, place),
+        Stays => stays(rt, place.items.register(rt)?),
+        Blocks(..) | Refuses | GoesOn => of_two(rt, alloc, place, what),
     }
 }
 
-/// Whether guards of one handle nest and move; or else a full store hands back, and a value that is read stays.
-fn of_one<R: Wait + Abort>(
-    rt: &R,
-    alloc: Global,
-    items: &Collector<Item>,
-    moves: bool,
-) -> Result<bool, Fault> {
-    let mut handle = items.register(rt)?;
-    let told = if moves {
-        nests_and_moves(rt, alloc, &mut handle)
-    } else {
-        tries_one_cell(rt, alloc, items, &mut handle)
-    };
-    leaves(rt, handle)?;
-    told
-}
-
-fn nests_and_moves<R: Wait + Abort>(
-    rt: &R,
-    alloc: Global,
-    handle: &mut Handle<'_>,
-) -> Result<bool, Fault> {
-    Ok(repins(rt, handle)? && nests(rt, handle)? && makes(rt, alloc, handle)?)
-}
-
-fn tries_one_cell<R: Wait + Abort>(
+pub fn tries_one_cell<R: Wait + Abort>(
     rt: &R,
     alloc: Global,
     items: &Collector<Item>,
@@ -151,21 +235,32 @@ fn tries_one_cell<R: Wait + Abort>(
     Ok(fills? && stays?)
 }
 
-/// Whether two handles fill the table of this collector, and refuse each other's guards and null; or else the epoch goes on while
-/// a repin waits.
-fn of_two<R: Wait + Abort>(rt: &R, items: &Collector<Item>, refuses: bool) -> Result<bool, Fault> {
-    let (mut zero, mut one) = two_handles(rt, items)?;
-    let told = if refuses {
-        two_handles_refuse(rt, items, &mut zero, &mut one)
-    } else {
-        goes_on_meanwhile(rt, &mut zero, &mut one)
+/// Whether what is tried with two handles is so.
+fn of_two<R: Wait + Abort>(
+    rt: &R,
+    alloc: Global,
+    place: &Place<'_>,
+    what: What,
+) -> Result<bool, Fault> {
+    let (mut zero, mut one) = two_handles(rt, place.items)?;
+    let told = match what {
+        Blocks(count, most, rest) => blocks(
+            rt,
+            alloc,
+            &mut zero,
+            &mut one,
+            place.calls,
+            (count, most, rest),
+        ),
+        Refuses => two_handles_refuse(rt, place.items, &mut zero, &mut one),
+        _ => goes_on_meanwhile(rt, &mut zero, &mut one),
     };
     both_leave(rt, zero, one)?;
     told
 }
 
 /// Releases both.
-pub fn both_leave<R: Wait + Abort>(rt: &R, zero: Handle<'_>, one: Handle<'_>) -> Result<(), Fault> {
+fn both_leave<R: Wait + Abort>(rt: &R, zero: Handle<'_>, one: Handle<'_>) -> Result<(), Fault> {
     let first = leaves(rt, zero);
     let second = leaves(rt, one);
     first?;
@@ -257,7 +352,7 @@ pub fn defer<R: Wait + Abort>(
 }
 
 /// Whether guards of one handle nest, and the last one that goes takes the pin away.
-fn nests<R: Abort>(rt: &R, handle: &mut Handle<'_>) -> Result<bool, Fault> {
+pub fn nests<R: Abort>(rt: &R, handle: &mut Handle<'_>) -> Result<bool, Fault> {
     let first = handle.pin()?;
     let second = match handle.pin() {
         Ok(second) => second,
@@ -275,7 +370,7 @@ fn nests<R: Abort>(rt: &R, handle: &mut Handle<'_>) -> Result<bool, Fault> {
 }
 
 /// Whether a guard stays at its epoch while the epoch goes on, until a repin.
-fn repins<R: Wait + Abort>(rt: &R, handle: &mut Handle<'_>) -> Result<bool, Fault> {
+pub fn repins<R: Wait + Abort>(rt: &R, handle: &mut Handle<'_>) -> Result<bool, Fault> {
     let mut guard = handle.pin()?;
     let start = guard.pinned_at();
     handle.collect(rt);
@@ -283,10 +378,8 @@ fn repins<R: Wait + Abort>(rt: &R, handle: &mut Handle<'_>) -> Result<bool, Faul
     let stuck = guard.pinned_at();
     let repinned = handle.repin(&mut guard);
     let next = guard.pinned_at();
-    let answer = handle.repin_after(&mut guard, || 7u8);
     spend(rt, handle, guard);
-    let epochs = (start, stuck, next) == (0, 0, 1);
-    Ok(epochs && repinned == Ok(()) && answer == Ok(7))
+    Ok((start, stuck, next) == (0, 0, 1) && repinned.is_ok())
 }
 
 /// Why what stands there isn't destroyed without a guard.
@@ -405,7 +498,11 @@ impl<'a, R: Wait + Abort> Under<'a, '_, R> {
 }
 
 /// Whether each way to make an `Atomic` makes it so.
-fn makes<R: Wait + Abort>(rt: &R, alloc: Global, handle: &mut Handle<'_>) -> Result<bool, Fault> {
+pub fn makes<R: Wait + Abort>(
+    rt: &R,
+    alloc: Global,
+    handle: &mut Handle<'_>,
+) -> Result<bool, Fault> {
     let pinned = handle.pin()?;
     let guard = &pinned;
     let under = Under { rt, alloc, guard };
@@ -482,7 +579,7 @@ fn a_failure_loads_as_strongly_as_it_may(rt: HostRuntime) {
 }
 
 /// Whether a guard goes on from epoch 0 to 2 at a repin, during which another handle tries to advance twice: its participant is
-/// unpinned meanwhile.
+/// unpinned meanwhile. The closure's answer comes back.
 fn goes_on_meanwhile<R: Wait + Abort>(
     rt: &R,
     zero: &mut Handle<'_>,
@@ -493,21 +590,11 @@ fn goes_on_meanwhile<R: Wait + Abort>(
     let answer = zero.repin_after(&mut guard, || {
         one.collect(rt);
         one.collect(rt);
+        7u8
     });
     let after = guard.pinned_at();
     spend(rt, zero, guard);
-    answer?;
-    Ok((before, after) == (0, 2))
-}
-
-/// Defers the job under a pin, and flushes.
-pub fn seals<R: Wait + Abort>(rt: &R, handle: &mut Handle<'_>, job: Job) -> Result<(), Fault> {
-    let guard = handle.pin()?;
-    let deferred = defer(rt, handle, &guard, job);
-    let flushed = handle.flush(rt, &guard);
-    spend(rt, handle, guard);
-    deferred?;
-    flushed
+    Ok(answer? == 7 && (before, after) == (0, 2))
 }
 
 /// Whether a handle is released only when its guard is spent.
@@ -523,7 +610,7 @@ fn stays<R: Wait + Abort>(rt: &R, mut handle: Handle<'_>) -> Result<bool, Fault>
 }
 
 /// Two new handles.
-pub fn two_handles<'c, R: Wait + Abort>(
+fn two_handles<'c, R: Wait + Abort>(
     rt: &R,
     items: &'c Collector<Item>,
 ) -> Result<(Handle<'c>, Handle<'c>), Fault> {
@@ -548,7 +635,7 @@ fn owned_values(rt: HostRuntime) -> Result<(), Fail> {
     owned.as_mut().0 = 6;
     owned.borrow_mut().0 = 7;
     assert!(rt; owned.tag() == 3 && owned.0 == 7);
-    assert!(rt; *owned.as_ref() == Item(7) && *owned.borrow() == Item(7));
+    assert!(rt; owned.as_ref().0 == 7 && owned.borrow().0 == 7);
     let copy = Owned::from(Box::new(alloc, Item(9))?);
     assert!(rt; copy.tag() == 0 && copy.into_box().0 == 9);
     Ok(())

@@ -25,7 +25,7 @@ fn ample(participants: u32) -> Limits {
 
 #[test]
 fn limits_have_bounds(rt: HostRuntime) {
-    for (limits, expected) in [
+    for (row, expected) in [
         ((256, 16_777_215, 1 << 62, 2), true),
         ((1, 1, 3, 1), true),
         ((0, 1, 3, 1), false),
@@ -37,7 +37,7 @@ fn limits_have_bounds(rt: HostRuntime) {
         ((1, 1, 3, 0), false),
         ((1, 1, 3, 3), false),
     ] {
-        let (participants, cells, epoch_max, expiry) = limits;
+        let (participants, cells, epoch_max, expiry) = row;
         let limits = Limits {
             participants,
             cells,
@@ -45,7 +45,7 @@ fn limits_have_bounds(rt: HostRuntime) {
             epoch_max,
             expiry,
         };
-        assert_same(&rt, (limits, limits.is_within()), (limits, expected));
+        assert_same(&rt, (row, limits.is_within()), (row, expected));
     }
 }
 
@@ -349,9 +349,9 @@ fn jobs(alloc: Global) -> Result<Jobs, Fault> {
     }
 }
 
-/// The answers to a registration and a pin.
-fn comes(world: &mut Jobs) -> (Result<usize, Fault>, Outcome) {
-    (world.register(), call(world, 0, Op::Pin))
+/// Whether a participant comes, and pins.
+fn comes(world: &mut Jobs) -> bool {
+    world.register() == Ok(0) && call(world, 0, Op::Pin) == Outcome::Done
 }
 
 /// A block of 32 bags is made with the first of them, so the others need no memory. The gate runs it with each request for
@@ -362,7 +362,7 @@ fn the_first_bag_of_a_block_alone_asks_for_memory(rt: HostRuntime) -> Result<(),
     let came = comes(&mut world);
     let refuses = refuses_later_bags(&mut world);
     discard(world);
-    assert_same(&rt, (came, refuses), ((Ok(0), Outcome::Done), false));
+    assert_same(&rt, (came, refuses), (true, false));
     Ok(())
 }
 
@@ -408,17 +408,12 @@ fn jobs_that_find_no_memory_are_put_off_then(rt: HostRuntime) -> Result<(), Fail
         [2177, 2177, 1665, 1153, 641, 129, 0].as_slice(),
     ] {
         let mut world = jobs(rt.alloc())?;
-        let came = comes(&mut world);
-        let are_deferred = are_deferred(&mut world, left[0]);
-        let unpinned = call(&mut world, 0, Op::Unpin);
-        let are_left = are_left(&mut world, left);
+        let waits = comes(&mut world)
+            && are_deferred(&mut world, left[0])
+            && call(&mut world, 0, Op::Unpin) == Outcome::Done;
+        let is_called = waits && are_left(&mut world, left);
         discard(world);
-        assert_same(&rt, came, (Ok(0), Outcome::Done));
-        assert_same(
-            &rt,
-            (are_deferred, unpinned, are_left),
-            (true, Outcome::Done, true),
-        );
+        assert_same(&rt, (waits, is_called), (true, true));
     }
     Ok(())
 }
@@ -427,7 +422,7 @@ fn jobs_that_find_no_memory_are_put_off_then(rt: HostRuntime) -> Result<(), Fail
 #[test]
 fn a_run_takes_every_step(rt: HostRuntime) -> Result<(), Fail> {
     let mut world: Jobs = World::new(rt.alloc(), ample(1), 1)?;
-    let came = world.register();
+    let came = world.register() == Ok(0);
     let pin = Step {
         who: 0,
         event: Event::Begin(Op::Pin),
@@ -437,42 +432,38 @@ fn a_run_takes_every_step(rt: HostRuntime) -> Result<(), Fail> {
         event: Event::Go,
     };
     let ran = world.run(rt.alloc(), &[pin, go, go, go, go, go, go, go]);
-    let stands = (came, world.epoch(), world.is_pinned(0));
+    let is_pinned = world.epoch() == 1 && world.is_pinned(0);
     discard(world);
-    assert_same(&rt, stands, (Ok(0), 1, true));
-    assert_same(&rt, (ran.done, ran.reports.len()), (8, 8));
+    let mut right = ran.done == 8 && ran.reports.len() == 8;
     for (number, report) in ran.reports.iter().enumerate() {
         let expected = match number {
             0..=5 => Outcome::Running,
             6 => Outcome::Done,
             _ => Outcome::Refused(Fault::Idle),
         };
-        assert_same(
-            &rt,
-            (number, report.outcome, report.called.is_none()),
-            (number, expected, true),
-        );
+        right &= report.outcome == expected && report.called.is_none();
     }
+    assert_same(&rt, (came, is_pinned, right), (true, true, true));
     Ok(())
+}
+
+/// Whether the end is refused, and the participant stays.
+fn end_is_refused(world: Jobs) -> bool {
+    match world.end() {
+        Ok(_called) => false,
+        Err((fault, world)) => {
+            let stays = world.is_registered(0);
+            discard(world);
+            stays && fault == Fault::Registered(1)
+        }
+    }
 }
 
 #[test]
 fn the_end_waits_for_everybody(rt: HostRuntime) -> Result<(), Fail> {
     let mut world: Jobs = World::new(rt.alloc(), ample(1), 1)?;
-    let came = world.register();
-    let refused = match world.end() {
-        Ok(_called) => None,
-        Err((fault, world)) => {
-            let stays = world.is_registered(0);
-            discard(world);
-            Some((fault, stays))
-        }
-    };
-    assert_same(
-        &rt,
-        (came, refused),
-        (Ok(0), Some((Fault::Registered(1), true))),
-    );
+    let came = world.register() == Ok(0);
+    assert_same(&rt, (came, end_is_refused(world)), (true, true));
     Ok(())
 }
 
@@ -502,13 +493,8 @@ fn end(world: BoxedJobs) -> Option<u64> {
     }
 }
 
-/// A job is put off under a pin. With rounds it is called by them, and else by the end: how many jobs wait then, how often it was
-/// called, how many the end calls, and how often it was called after that.
-fn put_off(
-    alloc: Global,
-    sum: &Arc<AtomicU64>,
-    with_rounds: bool,
-) -> Result<(u64, u64, Option<u64>, u64), Fail> {
+/// Whether a job that is put off under a pin is called once: by rounds, where there are some, and else by the end.
+fn put_off(alloc: Global, sum: &Arc<AtomicU64>, with_rounds: bool) -> Result<bool, Fail> {
     let job = adds(alloc, sum, 1)?;
     let mut world: BoxedJobs = World::new(alloc, ample(1), 1)?;
     let came = world.register().is_ok();
@@ -523,18 +509,18 @@ fn put_off(
     let released = world.release(0) == Outcome::Done;
     let (waiting, before) = (world.waiting(), sum.load(Ordering::SeqCst));
     let ended = end(world);
-    if !came || !deferred || !released {
-        return Err("a call that isn't done")?;
-    }
-    Ok((waiting, before, ended, sum.load(Ordering::SeqCst)))
+    // How many jobs are left for the end.
+    let left = if with_rounds { 0 } else { 1 };
+    let is_called = waiting == left && before.wrapping_add(left) == 1 && ended == Some(left);
+    Ok(came && deferred && released && is_called && sum.load(Ordering::SeqCst) == 1)
 }
 
 #[test]
 fn a_job_runs_its_box(rt: HostRuntime) -> Result<(), Fail> {
-    for (with_rounds, told) in [(true, (0, 1, Some(0), 1)), (false, (1, 0, Some(1), 1))] {
+    for with_rounds in [true, false] {
         let sum = Arc::new(rt.alloc(), AtomicU64::new(0))?;
-        let known = put_off(rt.alloc(), &sum, with_rounds)?;
-        assert_same(&rt, (with_rounds, known), (with_rounds, told));
+        let is_called = put_off(rt.alloc(), &sum, with_rounds)?;
+        assert_same(&rt, (with_rounds, is_called), (with_rounds, true));
     }
     Ok(())
 }

@@ -1,11 +1,11 @@
-//! Two threads on one collector.
+//! What is tried on one collector: by one handle, by two threads, each with a handle of its own, and by four.
 
 use super::face::{
-    Handle, Item, ItemGuard, Under, defer, destroy, discard, ended, limits, rounds, seals, spend,
-    swapped,
+    Handle, Item, ItemGuard, Under, defer, destroy, makes, nests, repins, rounds, spend, swapped,
+    tries_one_cell,
 };
+use super::jobs::{defers_unchecked, flips, flushes, puts_off};
 use super::machine::adds;
-use crate::tests::asserts::assert_same;
 use crate::tests::threads::threaded::comes;
 use crossbeam_epoch::{Atomic, Collector, Fault, Job, Link, Pointable};
 use std::alloc::Global;
@@ -13,7 +13,6 @@ use std::process::Abort;
 use std::sync::atomic::Ordering::SeqCst;
 use std::sync::atomic::{AtomicBool, AtomicU64};
 use std::sync::{Arc, Wait};
-use std::test::Fail;
 use std::thread;
 use std::thread::Threads;
 
@@ -26,77 +25,142 @@ fn both_cross<T: Pointable + Drop + Send + Sync>(items: &Collector<T>, root: &At
     crosses(root);
 }
 
-#[test]
-fn two_threads_share_an_atomic(rt: HostRuntime) -> Result<(), Fail> {
-    let calls = Arc::new(rt.alloc(), AtomicU64::new(0))?;
-    let items: Collector<Item> = Collector::new(&rt, rt.alloc(), limits(8), 1)?;
-    let told = shares(&rt, rt.alloc(), &items, &calls);
-    discard(items);
-    // Byte n counts the calls of job n.
-    assert_same(
-        &rt,
-        (told, calls.load(SeqCst)),
-        (Ok(true), 0x0101_0101_0101_0101),
-    );
-    Ok(())
+/// A collector, a pointer to its values, the sum of its jobs, and what each of two threads tells the other.
+#[derive(Drop)]
+pub struct Place<'a> {
+    pub items: &'a Collector<Item>,
+    pub calls: &'a Arc<AtomicU64>,
+    pub root: Atomic<Item>,
+    first: Flags,
+    second: Flags,
 }
 
-/// A job that adds one to the digit of its number, of so many bits, of the calls.
-fn job(alloc: Global, calls: &Arc<AtomicU64>, number: u32, bits: u32) -> Result<Job, Fault> {
-    match adds(alloc, calls, 1u64.wrapping_shl(number.wrapping_mul(bits))) {
+impl<'a> Place<'a> {
+    /// The pointer is null, and nothing is told.
+    pub fn new(items: &'a Collector<Item>, calls: &'a Arc<AtomicU64>) -> Place<'a> {
+        Place {
+            items,
+            calls,
+            root: Atomic::null(),
+            first: Flags::new(),
+            second: Flags::new(),
+        }
+    }
+}
+
+/// What is tried with a handle of its own.
+#[derive(Clone, Copy)]
+pub enum Task {
+    /// Guards nest and move.
+    Moves,
+    /// A full store hands back, and a value that is read stays.
+    OneCell,
+    /// Four jobs from this number on, and a new value beside each. Each load finds a value.
+    Swap(u32),
+    /// What the pointer leads to is destroyed, and all cells are vacant then.
+    Empties,
+    /// The first of two threads is pinned while the second is, or the other way round.
+    Meets(bool),
+    /// The lowest bit of the tag is flipped, or the next one.
+    Flips(usize),
+    /// The pointer has this tag.
+    Tag(usize),
+    /// A job is deferred, and not yet called when its handle is released.
+    Leaves,
+    /// A flush that is refused leaves the epoch.
+    Flush,
+}
+
+/// Whether what is tried with a new handle is so.
+pub fn by_handle<R: Wait + Abort>(
+    rt: &R,
+    alloc: Global,
+    place: &Place<'_>,
+    task: Task,
+) -> Result<bool, Fault> {
+    let mut handle = place.items.register(rt)?;
+    let told = does(rt, alloc, place, &mut handle, task);
+    leaves(rt, handle)?;
+    told
+}
+
+fn does<R: Wait + Abort>(
+    rt: &R,
+    alloc: Global,
+    place: &Place<'_>,
+    handle: &mut Handle<'_>,
+    task: Task,
+) -> Result<bool, Fault> {
+    match task {
+        Task::Moves => Ok(repins(rt, handle)? && nests(rt, handle)? && makes(rt, alloc, handle)?),
+        Task::OneCell => tries_one_cell(rt, alloc, place.items, handle),
+        Task::Swap(first) => replaces_in_turn(rt, alloc, handle, place, first),
+        Task::Empties => empties(rt, alloc, handle, &place.root),
+        Task::Meets(true) => meets(rt, handle, &place.first, &place.second),
+        Task::Meets(false) => meets(rt, handle, &place.second, &place.first),
+        Task::Flips(bit) => flips(rt, handle, &place.root, bit),
+        Task::Tag(tag) => has_tag(rt, handle, &place.root, tag),
+        Task::Leaves => defers_unchecked(rt, alloc, handle, place.calls),
+        Task::Flush => flushes(rt, alloc, handle, place.calls),
+    }
+}
+
+/// Whether the pointer has the tag.
+fn has_tag<R: Wait + Abort>(
+    rt: &R,
+    handle: &mut Handle<'_>,
+    root: &Atomic<Item>,
+    tag: usize,
+) -> Result<bool, Fault> {
+    let guard = handle.pin()?;
+    let found = root.load(rt, SeqCst, &guard).tag();
+    spend(rt, handle, guard);
+    Ok(found == tag)
+}
+
+/// Whether what two threads try at once is so.
+pub fn in_two<R: Threads + Wait + Abort + Sync>(
+    rt: &R,
+    alloc: Global,
+    place: &Place<'_>,
+    first: Task,
+    second: Task,
+) -> Result<bool, Fault> {
+    both_cross(place.items, &place.root);
+    let (one, two) = thread::join(
+        rt,
+        move || by_handle(rt, alloc, place, first),
+        move || by_handle(rt, alloc, place, second),
+    );
+    Ok(one? && two?)
+}
+
+/// One at the digit of this number, each digit of so many bits.
+fn digit(number: u32, bits: u32) -> u64 {
+    1u64.wrapping_shl(number.wrapping_mul(bits))
+}
+
+/// A job that adds this number to the sum.
+pub fn job(alloc: Global, calls: &Arc<AtomicU64>, number: u64) -> Result<Job, Fault> {
+    match adds(alloc, calls, number) {
         Ok(job) => Ok(job),
         Err(_) => Err(Fault::Memory),
     }
 }
 
-/// Whether each load of two threads found a value, and everything is collected afterwards.
-fn shares<R: Threads + Wait + Abort + Sync>(
-    rt: &R,
-    alloc: Global,
-    items: &Collector<Item>,
-    calls: &Arc<AtomicU64>,
-) -> Result<bool, Fault> {
-    let root: Atomic<Item> = Atomic::null();
-    both_cross(items, &root);
-    let swapped = &root;
-    let (one, two) = thread::join(
-        rt,
-        move || swap_in_turn(rt, alloc, items, swapped, calls, 0),
-        move || swap_in_turn(rt, alloc, items, swapped, calls, 4),
-    );
-    let emptied = empties(rt, alloc, items, &root)?;
-    Ok(one? && two? && emptied)
-}
-
-/// Four jobs from this number on, with a handle of their own. Whether each load found a value.
-fn swap_in_turn<R: Wait + Abort>(
-    rt: &R,
-    alloc: Global,
-    items: &Collector<Item>,
-    root: &Atomic<Item>,
-    calls: &Arc<AtomicU64>,
-    first: u32,
-) -> Result<bool, Fault> {
-    let mut handle = items.register(rt)?;
-    let found = replace_in_turn(rt, alloc, &mut handle, root, calls, first);
-    leaves(rt, handle)?;
-    found
-}
-
 /// For each job, swaps a new value in under a guard, and puts off the job and the destruction of the value before.
 /// Whether each load found a value.
-fn replace_in_turn<R: Wait + Abort>(
+fn replaces_in_turn<R: Wait + Abort>(
     rt: &R,
     alloc: Global,
     handle: &mut Handle<'_>,
-    root: &Atomic<Item>,
-    calls: &Arc<AtomicU64>,
+    place: &Place<'_>,
     first: u32,
 ) -> Result<bool, Fault> {
     let mut found = true;
     for number in 0..4u32 {
-        let job = job(alloc, calls, first.wrapping_add(number), 8)?;
-        found &= replaces(rt, alloc, handle, root, job)?;
+        let job = job(alloc, place.calls, digit(first.wrapping_add(number), 8))?;
+        found &= replaces(rt, alloc, handle, &place.root, job)?;
     }
     Ok(found)
 }
@@ -113,7 +177,7 @@ fn replaces<R: Wait + Abort>(
     let guard = handle.pin()?;
     let swapped = swaps_in(rt, alloc, root, &guard);
     let put_off = match swapped {
-        Ok((before, _found)) => puts_off(rt, handle, &guard, before, job),
+        Ok((before, _found)) => puts_both_off(rt, handle, &guard, before, job),
         Err(fault) => Err(fault),
     };
     spend(rt, handle, guard);
@@ -135,7 +199,7 @@ fn swaps_in<R: Wait + Abort>(
 }
 
 /// Puts off the job and the destruction of the value that the pointer leads to, if it isn't null, and collects.
-fn puts_off<R: Wait + Abort>(
+fn puts_both_off<R: Wait + Abort>(
     rt: &R,
     handle: &mut Handle<'_>,
     guard: &ItemGuard<'_>,
@@ -159,18 +223,6 @@ pub fn leaves<R: Wait + Abort>(rt: &R, handle: Handle<'_>) -> Result<(), Fault> 
 
 /// Puts off the destruction of the last value and collects until nothing is left. Whether every cell is vacant then.
 fn empties<R: Wait + Abort>(
-    rt: &R,
-    alloc: Global,
-    items: &Collector<Item>,
-    root: &Atomic<Item>,
-) -> Result<bool, Fault> {
-    let mut handle = items.register(rt)?;
-    let emptied = empties_by(rt, alloc, &mut handle, root);
-    leaves(rt, handle)?;
-    emptied
-}
-
-fn empties_by<R: Wait + Abort>(
     rt: &R,
     alloc: Global,
     handle: &mut Handle<'_>,
@@ -230,106 +282,50 @@ impl Flags {
     }
 }
 
-/// Two threads pin, each with a handle of its own. Whether each one, pinned, saw that the other was pinned too.
-pub fn pins_in_two_threads<R: Threads + Wait + Abort + Sync>(
-    rt: &R,
-    items: &Collector<Item>,
-) -> Result<(bool, bool), Fault> {
-    let first = Flags::new();
-    let second = Flags::new();
-    let (one, two) = (&first, &second);
-    let (sees, is_seen) = thread::join(
-        rt,
-        move || meets(rt, items, one, two),
-        move || meets(rt, items, two, one),
-    );
-    Ok((sees?, is_seen?))
-}
-
-/// Pins as soon as the other thread is there, tells so, and waits until the other has pinned: at most ten thousand turns that
-/// yield. Whether it did in time.
+/// Pins as soon as the other thread is there, tells so, and waits until the other has pinned. Whether both came in time: on a loaded
+/// machine a thread comes late, and one without a handle doesn't come.
 fn meets<R: Wait + Abort>(
-    rt: &R,
-    items: &Collector<Item>,
-    mine: &Flags,
-    other: &Flags,
-) -> Result<bool, Fault> {
-    mine.here.store(true, SeqCst);
-    waits(rt, &other.here);
-    let mut handle = items.register(rt)?;
-    let met = meets_by(rt, &mut handle, mine, other);
-    leaves(rt, handle)?;
-    met
-}
-
-fn meets_by<R: Abort>(
     rt: &R,
     handle: &mut Handle<'_>,
     mine: &Flags,
     other: &Flags,
 ) -> Result<bool, Fault> {
+    mine.here.store(true, SeqCst);
+    let is_there = comes(&other.here, 10_000_000);
     let guard = handle.pin()?;
     mine.pinned.store(true, SeqCst);
-    let met = comes(&other.pinned, 10_000);
+    let met = is_there && comes(&other.pinned, 10_000);
     spend(rt, handle, guard);
     Ok(met)
 }
 
-/// Waits until the flag is set.
-fn waits<R: Wait + Abort>(rt: &R, flag: &AtomicBool) {
-    for _ in rt.forever() {
-        if flag.load(SeqCst) {
-            return;
-        }
-        thread::yield_now();
-    }
-}
-
-#[test]
-fn four_threads_take_turns_at_two_places(rt: HostRuntime) -> Result<(), Fail> {
-    let calls = Arc::new(rt.alloc(), AtomicU64::new(0))?;
-    let mut places = limits(1);
-    places.participants = 2;
-    let items: Collector<Item> = Collector::new(&rt, rt.alloc(), places, 1)?;
-    let gone = four_take_turns(&rt, rt.alloc(), &items, &calls);
-    let refused = ended(items);
-    // Hexadecimal digit n counts the calls of job n.
-    assert_same(
-        &rt,
-        (gone, refused, calls.load(SeqCst)),
-        (Ok(()), None, 0x1111_1111_1111_1111),
-    );
-    Ok(())
-}
-
 /// `take_turns` in four threads at once, each with four jobs.
-fn four_take_turns<R: Threads + Wait + Abort + Sync>(
+pub fn in_four<R: Threads + Wait + Abort + Sync>(
     rt: &R,
     alloc: Global,
-    items: &Collector<Item>,
-    calls: &Arc<AtomicU64>,
-) -> Result<(), Fault> {
+    place: &Place<'_>,
+) -> Result<bool, Fault> {
     let (first, second) = thread::join(
         rt,
-        move || two_take_turns(rt, alloc, items, calls, 0),
-        move || two_take_turns(rt, alloc, items, calls, 8),
+        move || two_take_turns(rt, alloc, place, 0),
+        move || two_take_turns(rt, alloc, place, 8),
     );
     first?;
-    second
+    second?;
+    Ok(true)
 }
 
 /// `take_turns` in two threads at once.
 fn two_take_turns<R: Threads + Wait + Abort + Sync>(
     rt: &R,
     alloc: Global,
-    items: &Collector<Item>,
-    calls: &Arc<AtomicU64>,
+    place: &Place<'_>,
     number: u32,
 ) -> Result<(), Fault> {
     let (first, second) = thread::join(
         rt,
-        move || take_turns(rt, alloc, items, calls, number),
-        move || take_turns(rt, alloc, items, calls, number.wrapping_add(4)),
+        move || take_turns(rt, alloc, place, number),
+        move || take_turns(rt, alloc, place, number.wrapping_add(4)),
     );
     first?;
     second
@@ -339,16 +335,13 @@ fn two_take_turns<R: Threads + Wait + Abort + Sync>(
 fn take_turns<R: Wait + Abort>(
     rt: &R,
     alloc: Global,
-    items: &Collector<Item>,
-    calls: &Arc<AtomicU64>,
+    place: &Place<'_>,
     first: u32,
 ) -> Result<(), Fault> {
     for number in 0..4u32 {
-        let mut handle = place_of_its_own(rt, items)?;
-        let sealed = match job(alloc, calls, first.wrapping_add(number), 4) {
-            Ok(job) => seals(rt, &mut handle, job),
-            Err(fault) => Err(fault),
-        };
+        let mut handle = place_of_its_own(rt, place.items)?;
+        let adds = digit(first.wrapping_add(number), 4);
+        let sealed = puts_off(rt, alloc, &mut handle, place.calls, adds, 1);
         leaves(rt, handle)?;
         sealed?;
     }

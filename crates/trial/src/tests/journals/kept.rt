@@ -2,15 +2,13 @@
 //! that were written down.
 
 use crate::tests::asserts::assert_same;
-use crate::tests::machine::{entry, noise, replied};
-use congee::DefaultAllocator;
-use joint::{Event, Limits, Op, Outcome, Refusal, Report, Step, World};
+use crate::tests::machine::told::{Standing, Told, takes};
+use crate::tests::machine::{Index, beginning, discard, entry, going, is_done, journaled, noise};
+use joint::{Op, Refusal};
 use judge::{Call, Reply, Verdict, check};
 use std::alloc::Global;
 use std::process::Abort;
 use std::test::Fail;
-
-type Index = World<u64, DefaultAllocator>;
 
 /// What a worker does.
 #[derive(Clone, Copy)]
@@ -24,40 +22,33 @@ enum Turn {
     GoOn,
 }
 
-/// How its call stands then.
-#[derive(Clone, Copy)]
-enum Stands {
-    Runs,
-    Asks(u64),
-    Replies(Reply<u64>),
-    /// It is refused, for want of a place in the journal.
-    Full,
-}
-
 /// The worker, its turn, how its call stands then, and whether the turn's last step tells that the journal keeps the call; and the
 /// call of worker 0 that is in flight then, with its closure's answer.
 type Row = (
     u32,
     Turn,
-    Stands,
+    Standing,
     bool,
     Option<(Op<u64>, Option<Option<u64>>)>,
 );
 
+/// It is refused, for want of a place.
+const FULL: Standing = Standing::Refused(Refusal::JournalFull);
+
 /// One place: a writing call is refused then, and a look-up isn't kept.
-const FULL: [Row; 3] = [
+const FILLED: [Row; 3] = [
     (
         0,
         Turn::Call(Op::Insert(1, 1)),
-        Stands::Replies(Reply::Insert(None)),
+        Standing::Replied(Reply::Insert(None)),
         false,
         None,
     ),
-    (0, Turn::Call(Op::Insert(2, 2)), Stands::Full, false, None),
+    (0, Turn::Call(Op::Insert(2, 2)), FULL, false, None),
     (
         0,
         Turn::Call(Op::Get(1)),
-        Stands::Replies(Reply::Get(Some(1))),
+        Standing::Replied(Reply::Get(Some(1))),
         false,
         None,
     ),
@@ -70,43 +61,49 @@ const RESERVED: [Row; 7] = [
     (
         0,
         Turn::Call(Op::Insert(1, 1)),
-        Stands::Replies(Reply::Insert(None)),
+        Standing::Replied(Reply::Insert(None)),
         false,
         None,
     ),
     (
         0,
         Turn::Begin(PRESENT),
-        Stands::Runs,
+        Standing::Running,
         false,
         Some((PRESENT, None)),
     ),
     (
         0,
         Turn::Go(false, None),
-        Stands::Runs,
+        Standing::Running,
         false,
         Some((PRESENT, None)),
     ),
     (
         1,
         Turn::Call(Op::Get(1)),
-        Stands::Replies(Reply::Get(Some(1))),
+        Standing::Replied(Reply::Get(Some(1))),
         false,
         Some((PRESENT, None)),
     ),
-    (0, Turn::GoOn, Stands::Asks(1), false, Some((PRESENT, None))),
+    (
+        0,
+        Turn::GoOn,
+        Standing::Asks(Some(1)),
+        false,
+        Some((PRESENT, None)),
+    ),
     (
         0,
         Turn::Go(false, Some(None)),
-        Stands::Runs,
+        Standing::Running,
         false,
         Some((PRESENT, Some(None))),
     ),
     (
         0,
         Turn::GoOn,
-        Stands::Replies(Reply::ComputePresent(Some((1, None)))),
+        Standing::Replied(Reply::ComputePresent(Some((1, None)))),
         false,
         None,
     ),
@@ -117,70 +114,118 @@ const ASKED_AGAIN: [Row; 9] = [
     (
         0,
         Turn::Call(Op::Insert(1, 42)),
-        Stands::Replies(Reply::Insert(None)),
+        Standing::Replied(Reply::Insert(None)),
         false,
         None,
     ),
     (
         0,
         Turn::Begin(PRESENT),
-        Stands::Runs,
+        Standing::Running,
         false,
         Some((PRESENT, None)),
     ),
     (
         0,
         Turn::GoOn,
-        Stands::Asks(42),
+        Standing::Asks(Some(42)),
         false,
         Some((PRESENT, None)),
     ),
     (
         0,
         Turn::Go(false, Some(Some(5))),
-        Stands::Runs,
+        Standing::Running,
         false,
         Some((PRESENT, Some(Some(5)))),
     ),
     (
         0,
         Turn::Go(true, None),
-        Stands::Runs,
+        Standing::Running,
         false,
         Some((PRESENT, Some(Some(5)))),
     ),
     (
         0,
         Turn::GoOn,
-        Stands::Asks(42),
+        Standing::Asks(Some(42)),
         false,
         Some((PRESENT, Some(Some(5)))),
     ),
     (
         0,
         Turn::Go(false, Some(Some(6))),
-        Stands::Runs,
+        Standing::Running,
         false,
         Some((PRESENT, Some(Some(6)))),
     ),
     (
         0,
         Turn::GoOn,
-        Stands::Replies(Reply::ComputePresent(Some((42, Some(6))))),
+        Standing::Replied(Reply::ComputePresent(Some((42, Some(6))))),
         false,
         None,
     ),
     (
         0,
         Turn::Call(Op::Get(1)),
-        Stands::Replies(Reply::Get(Some(6))),
+        Standing::Replied(Reply::Get(Some(6))),
         true,
         None,
     ),
 ];
 
+const ABSENT: Op<u64> = Op::ComputeInsert(5);
+
+/// A closure is asked until it has an answer, which for an absent key is a value.
+const ASKED_UNTIL: [Row; 6] = [
+    (
+        0,
+        Turn::Begin(ABSENT),
+        Standing::Running,
+        false,
+        Some((ABSENT, None)),
+    ),
+    (
+        0,
+        Turn::GoOn,
+        Standing::Asks(None),
+        false,
+        Some((ABSENT, None)),
+    ),
+    (
+        0,
+        Turn::Go(false, None),
+        Standing::Asks(None),
+        false,
+        Some((ABSENT, None)),
+    ),
+    (
+        0,
+        Turn::Go(false, Some(None)),
+        Standing::Asks(None),
+        false,
+        Some((ABSENT, None)),
+    ),
+    (
+        0,
+        Turn::Go(false, Some(Some(6))),
+        Standing::Running,
+        false,
+        Some((ABSENT, Some(Some(6)))),
+    ),
+    (
+        0,
+        Turn::GoOn,
+        Standing::Replied(Reply::ComputeInsert(None)),
+        false,
+        None,
+    ),
+];
+
 /// A look-up of what isn't there.
-const MISSED: Stands = Stands::Replies(Reply::Get(None));
+const MISSED: Standing = Standing::Replied(Reply::Get(None));
 
 /// Three places, and a look-up in each.
 const LOOKED_UP: [Row; 3] = [
@@ -193,8 +238,13 @@ const LOOKED_UP: [Row; 3] = [
 type Written = (Call<u64>, Reply<u64>);
 
 /// The places of each journal, what is done, and what is written down then.
-const JOURNALS: [(u64, &[Row], &[Written]); 4] = [
-    (1, &FULL, &[(Call::Insert(1, 1), Reply::Insert(None))]),
+const JOURNALS: [(u64, &[Row], &[Written]); 5] = [
+    (
+        9,
+        &ASKED_UNTIL,
+        &[(Call::ComputeInsert(5, 6), Reply::ComputeInsert(None))],
+    ),
+    (1, &FILLED, &[(Call::Insert(1, 1), Reply::Insert(None))]),
     (
         2,
         &RESERVED,
@@ -229,77 +279,44 @@ const JOURNALS: [(u64, &[Row], &[Written]); 4] = [
     ),
 ];
 
-impl Stands {
-    fn outcome(self) -> Outcome<u64> {
-        match self {
-            Stands::Runs => Outcome::Running,
-            Stands::Asks(value) => Outcome::Asks(Some(value)),
-            Stands::Replies(reply) => replied(reply),
-            Stands::Full => Outcome::Refused(Refusal::JournalFull),
-        }
-    }
-}
-
-/// How a worker's call stands, and whether the journal keeps it.
-type Told = (Outcome<u64>, bool);
-
-fn step(index: &mut Index, worker: u32, event: Event<u64>) -> Told {
-    let Report { outcome, kept, .. } = index.step(Step { worker, event });
-    (outcome, kept)
-}
-
-/// A whole call.
-fn end(index: &mut Index, worker: u32, op: Op<u64>) -> Told {
-    match index.call(worker, op, 1_000, &mut []) {
-        Some(Report { outcome, kept, .. }) => (outcome, kept),
-        None => (Outcome::Running, false),
-    }
-}
-
-fn go_on(index: &mut Index, worker: u32) -> Told {
+/// The steps of a call of which one has told this, to the first that doesn't just go on.
+fn go_on(index: &mut Index, worker: u32, first: Told) -> Told {
+    let mut told = first;
     for _ in 0..100u32 {
-        let (outcome, kept) = step(index, worker, Event::Go(noise(false, None)));
-        if outcome != Outcome::Running {
-            return (outcome, kept);
+        if told.standing != Standing::Running {
+            break;
         }
+        told = takes(index, going(worker, noise(false, None)));
     }
-    (Outcome::Running, false)
+    told
 }
 
-fn takes(index: &mut Index, worker: u32, turn: Turn) -> Told {
+fn take(index: &mut Index, worker: u32, turn: Turn) -> Told {
+    let (op, fail, answer) = match turn {
+        Turn::Call(op) | Turn::Begin(op) => (Some(op), false, None),
+        Turn::Go(fail, answer) => (None, fail, answer),
+        Turn::GoOn => (None, false, None),
+    };
+    let step = match op {
+        Some(op) => beginning(worker, op),
+        None => going(worker, noise(fail, answer)),
+    };
+    let told = takes(index, step);
     match turn {
-        Turn::Call(op) => end(index, worker, op),
-        Turn::Begin(op) => step(index, worker, Event::Begin(op)),
-        Turn::Go(fail, answer) => step(index, worker, Event::Go(noise(fail, answer))),
-        Turn::GoOn => go_on(index, worker),
+        Turn::Call(_) | Turn::GoOn => go_on(index, worker, told),
+        Turn::Begin(_) | Turn::Go(_, _) => told,
     }
-}
-
-/// An index with a journal of so many places, two of whose workers are pinned.
-fn open(alloc: Global, places: u64) -> Result<Index, Refusal> {
-    let mut index = World::new_journaled(
-        alloc,
-        Limits::usual(2, 1_000),
-        DefaultAllocator::new(),
-        places,
-    )?;
-    for worker in 0..2 {
-        step(&mut index, worker, Event::Register);
-        end(&mut index, worker, Op::Pin);
-    }
-    Ok(index)
 }
 
 /// Each turn tells what its row says. Worker 1 has no call in flight after any.
 fn goes<R: Abort>(rt: &R, index: &mut Index, rows: &[Row]) {
     for (place, (worker, turn, stands, keeps, flight)) in rows.iter().enumerate() {
-        let told = takes(index, *worker, *turn);
+        let Told { standing, kept, .. } = take(index, *worker, *turn);
         let flights = (index.in_flight(0), index.in_flight(1));
-        let expected = (stands.outcome(), *keeps);
         assert_same(
             rt,
-            (place, told, flights),
-            (place, expected, (*flight, None)),
+            (place, standing, kept, flights),
+            (place, *stands, *keeps, (*flight, None)),
         );
     }
 }
@@ -318,9 +335,13 @@ fn has_written<R: Abort>(rt: &R, alloc: Global, index: &Index, written: &[Writte
 #[test]
 fn what_takes_effect_is_written_down(rt: HostRuntime) -> Result<(), Fail> {
     for (places, rows, written) in JOURNALS {
-        let mut index = open(rt.alloc(), places)?;
+        let mut index = journaled(rt.alloc(), 2, 1_000, places)?;
+        for worker in 0..2 {
+            is_done(&mut index, worker, Op::Pin);
+        }
         goes(&rt, &mut index, rows);
         has_written(&rt, rt.alloc(), &index, written);
+        discard(index);
     }
     Ok(())
 }

@@ -7,12 +7,12 @@ use super::flights::entry;
 use super::lies::{Sight, noise_of};
 use super::told::{Standing, Told, state, takes};
 use super::{
-    Index, are_rounds_done, beginning, call, discard, going, is_done, noise, op_of, registering,
-    whole,
+    Index, are_rounds_done, beginning, call, discard, going, is_done, journaled, noise, op_of,
+    registering, whole,
 };
 use crate::tests::asserts::assert_same;
-use congee::{Limited, NodeStats, Noise};
-use joint::{Done, Id, Limits, Op, Outcome, Refusal, Step, World};
+use congee::{NodeStats, Noise};
+use joint::{Done, Id, Op, Outcome, Step};
 use judge::{Call, Entry, Reply, Verdict, check};
 use std::alloc::{AllocError, Global};
 use std::test::Fail;
@@ -43,10 +43,9 @@ const FREE: Seat = Seat {
     place: None,
 };
 
-/// An index with a journal, the calls of its workers, and the entries that their steps told, in the order in which they
-/// took effect.
+/// The calls of an index's workers, and the entries that their steps told, in the order in which they took effect.
+#[derive(Drop)]
 struct Crowd {
-    index: Index,
     seats: [Seat; 4],
     told: Vec<Entry<u64>>,
     /// The last drawn number.
@@ -174,29 +173,14 @@ impl Seat {
 
 /// Turns of workers.
 impl Crowd {
-    /// An index whose workers have come.
-    fn opened(alloc: Global, seed: u64) -> Result<Crowd, Refusal> {
-        let limits = Limits::usual(WORKERS, 5_000);
-        let mut index = World::new_journaled(alloc, limits, Limited::new(u64::MAX), PLACES)?;
-        for _ in 0..WORKERS {
-            takes(&mut index, registering());
-        }
-        Ok(Crowd {
-            index,
-            seats: [FREE; 4],
-            told: Vec::new(alloc),
-            number: seed,
-        })
-    }
-
     /// The next number that is drawn.
     fn draw(&mut self) -> u64 {
         self.number = next(self.number);
         self.number.wrapping_shr(33)
     }
 
-    fn step(&mut self, worker: u32, step: Step<u64>) -> Result<(), AllocError> {
-        let told = takes(&mut self.index, step);
+    fn step(&mut self, index: &mut Index, worker: u32, step: Step<u64>) -> Result<(), AllocError> {
+        let told = takes(index, step);
         match self.seats.get_mut(worker as usize) {
             Some(seat) => seat.hear(&mut self.told, worker, told),
             None => Ok(()),
@@ -204,7 +188,12 @@ impl Crowd {
     }
 
     /// A step of a worker's call, to which this comes from outside, if one is in flight; tells whether one was.
-    fn go(&mut self, worker: u32, noise: Noise<Id, u64>) -> Result<bool, AllocError> {
+    fn go(
+        &mut self,
+        index: &mut Index,
+        worker: u32,
+        noise: Noise<Id, u64>,
+    ) -> Result<bool, AllocError> {
         let Some(seat) = self.seats.get_mut(worker as usize) else {
             return Ok(false);
         };
@@ -213,13 +202,13 @@ impl Crowd {
         }
         let goes = seat.standing.is_in_flight();
         if goes {
-            self.step(worker, going(worker, noise))?;
+            self.step(index, worker, going(worker, noise))?;
         }
         Ok(goes)
     }
 
     /// A worker begins what is drawn.
-    fn begin(&mut self, worker: u32, drawn: u64) -> Result<(), AllocError> {
+    fn begin(&mut self, index: &mut Index, worker: u32, drawn: u64) -> Result<(), AllocError> {
         let mut seat = FREE;
         let op = match op_by(drawn) {
             Some(op) => op,
@@ -232,17 +221,17 @@ impl Crowd {
         if let Some(place) = self.seats.get_mut(worker as usize) {
             *place = seat;
         }
-        self.step(worker, beginning(worker, op))
+        self.step(index, worker, beginning(worker, op))
     }
 
     /// The turn of one of the workers; or one comes anew, where a place is free.
-    fn turn(&mut self) -> Result<(), AllocError> {
+    fn turn(&mut self, index: &mut Index) -> Result<(), AllocError> {
         let (drawn, noise) = (self.draw(), self.draw());
         let worker = (drawn.wrapping_shr(27) % u64::from(WORKERS)) as u32;
         if drawn.wrapping_shr(16) % 32 == 0 {
-            takes(&mut self.index, registering());
-        } else if !self.go(worker, noise_by(noise))? {
-            self.begin(worker, drawn)?;
+            takes(index, registering());
+        } else if !self.go(index, worker, noise_by(noise))? {
+            self.begin(index, worker, drawn)?;
         }
         Ok(())
     }
@@ -257,16 +246,16 @@ const BAG: u64 = 64;
 /// Its rests.
 impl Crowd {
     /// Each call goes on to its end, whoever left comes, and nobody stays pinned.
-    fn rest(&mut self) -> Result<(), AllocError> {
+    fn rest(&mut self, index: &mut Index) -> Result<(), AllocError> {
         for _ in 0..LONG {
             for worker in 0..WORKERS {
-                self.go(worker, noise(false, Some(Some(1))))?;
+                self.go(index, worker, noise(false, Some(Some(1))))?;
             }
         }
         for worker in 0..WORKERS {
-            takes(&mut self.index, registering());
+            takes(index, registering());
             for _ in 0..LONG {
-                if !is_done(&mut self.index, worker, Op::Unpin) {
+                if !is_done(index, worker, Op::Unpin) {
                     break;
                 }
             }
@@ -274,62 +263,60 @@ impl Crowd {
         Ok(())
     }
 
-    /// Whether the nodes of the tree and those that wait are charged, and no other.
-    fn is_charged(&mut self) -> bool {
-        let outcome = whole(&mut self.index, 0, Op::Stats, None, &mut []);
-        let (charged, _, waiting) = state(&self.index);
-        match outcome {
-            Outcome::Done(Done::Stats(stats)) => {
-                charged == bytes_of(&stats).saturating_add(waiting)
-            }
-            _ => false,
-        }
-    }
-
-    /// Whether quiet rounds of worker 0 leave a bag of each other one at most, and nothing once these have flushed.
-    fn comes_back(&mut self) -> bool {
-        let rounds = state(&self.index).1.div_ceil(8).saturating_add(2);
-        let mut are_done = are_rounds_done(&mut self.index, 0, rounds.min(LONG.into()) as u32);
-        are_done &= state(&self.index).1 <= 3 * BAG;
-        for worker in 1..WORKERS {
-            are_done &= are_rounds_done(&mut self.index, worker, 1);
-        }
-        are_done &= are_rounds_done(&mut self.index, 0, 3);
-        let (_, waiting, bytes) = state(&self.index);
-        are_done && (waiting, bytes) == (0, 0)
-    }
-
     /// Tells what each key has, as look-ups of worker 0.
-    fn look(&mut self) -> Result<(), AllocError> {
-        is_done(&mut self.index, 0, Op::Pin);
+    fn look(&mut self, index: &mut Index) -> Result<(), AllocError> {
+        is_done(index, 0, Op::Pin);
         for number in 0..16 {
             let look = Call::Get(key_by(number));
-            if let Standing::Replied(reply) = Standing::of(call(&mut self.index, 0, look)) {
+            if let Standing::Replied(reply) = Standing::of(call(index, 0, look)) {
                 self.told.push(entry(look, reply))?;
             }
         }
-        is_done(&mut self.index, 0, Op::Unpin);
+        is_done(index, 0, Op::Unpin);
         Ok(())
     }
 
     /// What isn't as it must be after some turns, when all calls have ended.
-    fn wrong_rest(&mut self) -> Result<Option<&'static str>, AllocError> {
+    fn wrong_rest(&mut self, index: &mut Index) -> Result<Option<&'static str>, AllocError> {
         for _ in 0..TURNS {
-            self.turn()?;
+            self.turn(index)?;
         }
-        self.rest()?;
-        if !self.is_charged() {
+        self.rest(index)?;
+        if !is_charged(index) {
             return Ok(Some("the charge"));
         }
-        if !self.comes_back() {
+        if !comes_back(index) {
             return Ok(Some("what waits after quiet rounds"));
         }
-        if !self.is_charged() {
+        if !is_charged(index) {
             return Ok(Some("the charge after quiet rounds"));
         }
-        self.look()?;
+        self.look(index)?;
         Ok(None)
     }
+}
+
+/// Whether the nodes of the tree and those that wait are charged, and no other.
+fn is_charged(index: &mut Index) -> bool {
+    let outcome = whole(index, 0, Op::Stats, None, &mut []);
+    let (charged, _, waiting) = state(index);
+    match outcome {
+        Outcome::Done(Done::Stats(stats)) => { charged == bytes_of(&stats).saturating_add(waiting) }
+        _ => false,
+    }
+}
+
+/// Whether quiet rounds of worker 0 leave a bag of each other one at most, and nothing once these have flushed.
+fn comes_back(index: &mut Index) -> bool {
+    let rounds = state(index).1.div_ceil(8).saturating_add(2);
+    let mut are_done = are_rounds_done(index, 0, rounds.min(LONG.into()) as u32);
+    are_done &= state(index).1 <= 3 * BAG;
+    for worker in 1..WORKERS {
+        are_done &= are_rounds_done(index, worker, 1);
+    }
+    are_done &= are_rounds_done(index, 0, 3);
+    let (_, waiting, bytes) = state(index);
+    are_done && (waiting, bytes) == (0, 0)
 }
 
 /// The bytes of the nodes that statistics count.
@@ -349,13 +336,23 @@ fn bytes_of(stats: &NodeStats) -> u64 {
 }
 
 /// What of a whole schedule isn't as it must be.
-fn wrong_of(alloc: Global, crowd: &mut Crowd) -> Result<Option<&'static str>, AllocError> {
+fn wrong_of(
+    alloc: Global,
+    index: &mut Index,
+    seed: u64,
+) -> Result<Option<&'static str>, AllocError> {
+    let mut crowd = Crowd {
+        seats: [FREE; 4],
+        told: Vec::new(alloc),
+        number: seed,
+    };
     for _ in 0..RESTS {
-        if let Some(wrong) = crowd.wrong_rest()? {
-            return Ok(Some(wrong));
+        let wrong = crowd.wrong_rest(index)?;
+        if wrong.is_some() {
+            return Ok(wrong);
         }
     }
-    if crowd.told.as_slice() != crowd.index.journal() {
+    if crowd.told.as_slice() != index.journal() {
         return Ok(Some("the journal"));
     }
     match check(alloc, &crowd.told)? {
@@ -364,15 +361,10 @@ fn wrong_of(alloc: Global, crowd: &mut Crowd) -> Result<Option<&'static str>, Al
     }
 }
 
+/// What of an index isn't as it must be whose workers have come.
 fn first_wrong(alloc: Global, seed: u64) -> Result<Option<&'static str>, Fail> {
-    let mut crowd = Crowd::opened(alloc, seed)?;
-    let wrong = wrong_of(alloc, &mut crowd);
-    let Crowd {
-        index,
-        seats: _,
-        told: _,
-        number: _,
-    } = crowd;
+    let mut index = journaled(alloc, WORKERS, 5_000, PLACES)?;
+    let wrong = wrong_of(alloc, &mut index, seed);
     discard(index);
     Ok(wrong?)
 }
@@ -380,11 +372,8 @@ fn first_wrong(alloc: Global, seed: u64) -> Result<Option<&'static str>, Fail> {
 #[test]
 fn four_workers_answer_as_one_map(rt: HostRuntime) -> Result<(), Fail> {
     for seed in 0..number_in(&rt, "TRIAL_SCHEDULES", 5) {
-        assert_same(
-            &rt,
-            (seed, first_wrong(rt.alloc(), seed.into())?),
-            (seed, None),
-        );
+        let wrong = first_wrong(rt.alloc(), seed.into())?;
+        assert_same(&rt, (seed, wrong), (seed, None));
     }
     Ok(())
 }

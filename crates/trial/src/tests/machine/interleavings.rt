@@ -3,10 +3,10 @@
 
 use super::drawn::number_in;
 use super::one_map::Case;
-use super::orders::{LONG, Plan, Turn, Turns, is_tried, lengths, orders, push_order};
+use super::orders::{Course, LONG, Plays, Turn, is_tried, lengths, single};
 use crate::tests::asserts::assert_same;
-use crate::tests::texts::{named, part};
-use std::alloc::{AllocError, Global};
+use crate::tests::texts::{array, named, part};
+use std::alloc::Global;
 use std::test::Fail;
 
 /// Two calls that find nothing on their way.
@@ -17,7 +17,7 @@ const SHORT: [&str; 2] = [
 
 /// Two calls on a small tree: the pairs that are put there before; both calls; what the tree takes in the end, in bytes, where the
 /// first one took effect first, and where the second one did; and the keys of those pairs that are taken out again before.
-pub const CASES: [&str; 35] = [
+pub const CASES: [&str; 36] = [
     // Two calls put values there.
     "two insertions of one key: ; insert 5 1; insert 5 2; 2168; 2168",
     "two insertions whose ways part above the leaves: ; insert 1 1; insert 256 2; 2296; 2296",
@@ -28,6 +28,7 @@ pub const CASES: [&str; 35] = [
     "a look-up and a growth: 1:1 2:2 3:3 4:4; get 1; insert 5 5; 2272; 2272",
     "a look-up and a split: 1:1; get 256; insert 256 9; 2296; 2296",
     "a look-up and a removal of a leaf: 1:1; get 1; remove 1; 2104; 2104",
+    "a look-up and another value: 1:42; get 1; insert 1 9; 2168; 2168",
     // A removal while the tree changes its form.
     "a removal and a growth: 1:1 2:2 3:3 4:4; remove 1; insert 5 5; 2168; 2272",
     "a removal of a leaf and a split: 1:1; remove 1; insert 256 9; 2168; 2168",
@@ -83,65 +84,35 @@ const AHEAD: u32 = 9;
 
 /// What it does from there on, as turns of so many steps: in what order it marks and hands over what has left the tree nobody
 /// else sees.
-const TURNS: [u32; 5] = [1, 1, 1, 1, 5];
-
-/// Both calls go on one after the other, to their ends or until one has found a lock taken for long, with a collection after each
-/// step.
-fn push_ends(plan: &mut Plan) -> Result<(), AllocError> {
-    for who in [0, 1, 0] {
-        plan.push(Turn::Sweep(who, LONG))?;
-    }
-    Ok(())
-}
-
-/// These turns, then those of both calls in an order, with a collection after each, and their ends.
-fn ordered(alloc: Global, head: &[Turn], order: u64, turns: Turns) -> Result<Plan, AllocError> {
-    let mut plan = Vec::new(alloc);
-    plan.extend_from_slice(head)?;
-    push_order(&mut plan, order, turns, true)?;
-    push_ends(&mut plan)?;
-    Ok(plan)
-}
-
-/// How many orders of both calls' turns there are, if one of so many of them, or each, is right.
-fn right_orders(
-    alloc: Global,
-    case: &Case,
-    head: &[Turn],
-    turns: Turns,
-    every: u32,
-) -> Result<Option<u32>, Fail> {
-    let (all, tried) = orders(alloc, turns, every)?;
-    for order in &tried {
-        if !case.goes(alloc, &ordered(alloc, head, *order, turns)?)? {
-            return Ok(None);
-        }
-    }
-    Ok(Some(all))
-}
+const TURNS: [u64; 5] = [1, 1, 1, 1, 5];
 
 /// Two calls begin.
 const BEGINS: [Turn; 2] = [Turn::Begin(0), Turn::Begin(1)];
 
-/// Turns of one step.
-static SINGLE: [u32; 32] = [1; 32];
+/// The second one begins behind the first one's steps before its first lock.
+const LATE: [Turn; 3] = [Turn::Begin(0), Turn::Go(0, AHEAD), Turn::Begin(1)];
 
-/// So many turns of one step of each call.
-pub fn single(first: u32, second: u32) -> Turns<'static> {
-    [
-        SINGLE.get(..first as usize).unwrap_or(SINGLE.as_slice()),
-        SINGLE.get(..second as usize).unwrap_or(SINGLE.as_slice()),
-    ]
-}
+/// Both calls go on one after the other, to their ends or until one has found a lock taken for long, with a collection after each
+/// step.
+const ENDS: [Turn; 3] = [
+    Turn::Sweep(0, LONG),
+    Turn::Sweep(1, LONG),
+    Turn::Sweep(0, LONG),
+];
 
-/// The steps of seven turns.
-fn steps_of(text: &str) -> Result<[u32; 7], Fail> {
-    let mut steps = [0; 7];
-    for (steps, word) in steps.iter_mut().zip(text.split_whitespace()) {
-        *steps = word.parse::<u32>()?;
-    }
-    Ok(steps)
-}
+/// Both calls by turns from their beginning on, with a collection after each.
+const TOGETHER: Course<'static> = Course {
+    head: &BEGINS,
+    sweeps: true,
+    tail: &ENDS,
+};
+
+/// The same from the first one's first lock on.
+const LOCKING: Course<'static> = Course {
+    head: &LATE,
+    sweeps: true,
+    tail: &ENDS,
+};
 
 /// Whether each order is right, or one of so many, in which one call is cut in two and the other one in two or three.
 fn are_cuts_right(alloc: Global, case: &Case, every: u32) -> Result<bool, Fail> {
@@ -155,7 +126,7 @@ fn are_cuts_right(alloc: Global, case: &Case, every: u32) -> Result<bool, Fail> 
                     .wrapping_shl(middle)
                     .wrapping_sub(1)
                     .wrapping_shl(start);
-                let plan = ordered(alloc, &BEGINS, order, single(start, middle))?;
+                let plan = TOGETHER.plan(alloc, single(start, middle), order)?;
                 if !case.goes(alloc, &plan)? {
                     return Ok(false);
                 }
@@ -165,24 +136,28 @@ fn are_cuts_right(alloc: Global, case: &Case, every: u32) -> Result<bool, Fail> 
     Ok(true)
 }
 
+/// How many orders there are, if one of so many is right, or each: of the turns that the text has, or else of the single steps.
+fn orders(alloc: Global, text: &str, every: u32) -> Result<Option<u32>, Fail> {
+    let case = Case::of(alloc, text, false)?;
+    let others = array::<7>(part(text, 6))?;
+    if others[0] > 0 {
+        let turns = [TURNS.as_slice(), others.as_slice()];
+        return LOCKING.right_orders(alloc, turns, &case, every);
+    }
+    let [first, second] = lengths(alloc, &case.ground, case.calls)?;
+    TOGETHER.right_orders(alloc, single(first, second), &case, every)
+}
+
+/// Of the short ones a call has three steps and one seven, at least.
 #[test]
-fn short_calls_answer_as_one_map_in_every_order_of_their_steps(
-    rt: HostRuntime,
-) -> Result<(), Fail> {
-    for case in SHORT {
-        let (name, text) = named(case)?;
-        let case = Case::of(rt.alloc(), text, false)?;
-        let [first, second] = lengths(rt.alloc(), &case.ground, case.calls)?;
-        let turns = single(first, second);
-        // A call of three steps and one of seven, at least.
-        let all = right_orders(
-            rt.alloc(),
-            &case,
-            &BEGINS,
-            turns,
-            number_in(&rt, "TRIAL_ORDERS", 3),
-        )?;
-        assert_same(&rt, ((name, all), all >= Some(120)), ((name, all), true));
+fn calls_answer_as_one_map_in_every_order(rt: HostRuntime) -> Result<(), Fail> {
+    for (table, usual, least) in [(SHORT.as_slice(), 3, 120), (PARTED.as_slice(), 61, 792)] {
+        let every = number_in(&rt, "TRIAL_ORDERS", usual);
+        for line in table {
+            let (name, text) = named(*line)?;
+            let all = orders(rt.alloc(), text, every)?;
+            assert_same(&rt, ((name, all), all >= Some(least)), ((name, all), true));
+        }
     }
     Ok(())
 }
@@ -194,31 +169,9 @@ fn calls_beside_each_other_answer_as_one_map(rt: HostRuntime) -> Result<(), Fail
         for line in table {
             let (name, text) = named(*line)?;
             let case = Case::of(rt.alloc(), text, false)?;
-            assert_same(
-                &rt,
-                (name, are_cuts_right(rt.alloc(), &case, every)?),
-                (name, true),
-            );
+            let are_right = are_cuts_right(rt.alloc(), &case, every)?;
+            assert_same(&rt, (name, are_right), (name, true));
         }
-    }
-    Ok(())
-}
-
-#[test]
-fn a_removal_takes_a_node_out_beside_a_call(rt: HostRuntime) -> Result<(), Fail> {
-    let head = [Turn::Begin(0), Turn::Go(0, AHEAD), Turn::Begin(1)];
-    for case in PARTED {
-        let (name, text) = named(case)?;
-        let case = Case::of(rt.alloc(), text, false)?;
-        let others = steps_of(part(text, 6))?;
-        let all = right_orders(
-            rt.alloc(),
-            &case,
-            &head,
-            [TURNS.as_slice(), others.as_slice()],
-            number_in(&rt, "TRIAL_ORDERS", 61),
-        )?;
-        assert_same(&rt, (name, all), (name, Some(792)));
     }
     Ok(())
 }

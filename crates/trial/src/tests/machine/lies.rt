@@ -4,7 +4,7 @@
 use super::drawn::number_in;
 use super::interleavings::CASES;
 use super::one_map::Case;
-use super::orders::{Turn, is_tried};
+use super::orders::{Plays, Turn, is_tried};
 use crate::tests::asserts::assert_same;
 use crate::tests::texts::named;
 use congee::{Child, Noise, Seen};

@@ -1,71 +1,119 @@
 //! `joint`: limits that no script names, the turns of a cell and the epoch; and values of which there is no copy.
 
-use super::bench::{Bench, Bounds, are_told};
-use super::discard;
+use super::told::{Standing, State, state};
+use super::{Index, are_rounds_done, bounded, call, discard, is_done};
 use crate::tests::asserts::assert_same;
 use congee::{Allocator, Limited, NoDrain, Payload, Small};
 use joint::{Done, Event, Limits, Op, Outcome, Refusal, Step, World};
-use judge::Reply;
+use judge::{Call, Reply};
 use std::alloc::Global;
 use std::sync::atomic::AtomicBool;
 use std::sync::atomic::Ordering::SeqCst;
 use std::test::Fail;
 
-/// Limits, and why no index is opened with them, if none is.
-const LIMITS: [(&str, Option<Refusal>); 6] = [
-    ("epoch 3", None),
-    ("epoch 4611686018427387904", None),
-    ("epoch 2", Some(Refusal::Limits)),
-    ("epoch 4611686018427387905", Some(Refusal::Limits)),
-    ("epoch 3, expiry 1", Some(Refusal::Limits)),
-    ("epoch 3, expiry 3", Some(Refusal::Limits)),
+/// The greatest epoch, the expiry, and why no index is opened with them, if none is.
+const LIMITS: [(u64, u64, Option<Refusal>); 6] = [
+    (3, 2, None),
+    (4_611_686_018_427_387_904, 2, None),
+    (2, 2, Some(Refusal::Limits)),
+    (4_611_686_018_427_387_905, 2, Some(Refusal::Limits)),
+    (3, 1, Some(Refusal::Limits)),
+    (3, 3, Some(Refusal::Limits)),
 ];
 
+/// Limits of one worker.
+fn limits(cells: u32, epoch_max: u64, expiry: u64) -> Limits {
+    let mut limits = Limits::usual(1, cells);
+    limits.epoch.epoch_max = epoch_max;
+    limits.epoch.expiry = expiry;
+    limits
+}
+
+/// Why no index is opened, if none is.
+fn refusal(alloc: Global, limits: Limits) -> Option<Refusal> {
+    match bounded(alloc, limits, u64::MAX) {
+        Ok(index) => {
+            discard(index);
+            None
+        }
+        Err(refusal) => Some(refusal),
+    }
+}
+
 #[test]
-fn limits_out_of_their_ranges_open_no_index(rt: HostRuntime) -> Result<(), Fail> {
-    for (text, cause) in LIMITS {
-        let refused = match Bounds::of(text)?.open(rt.alloc()) {
-            Ok(index) => {
-                discard(index);
-                None
-            }
-            Err(refusal) => Some(refusal),
-        };
-        assert_same(&rt, (text, refused), (text, cause));
+fn limits_out_of_their_ranges_open_no_index(rt: HostRuntime) {
+    for (epoch, expiry, cause) in LIMITS {
+        let refused = refusal(rt.alloc(), limits(1_000, epoch, expiry));
+        assert_same(&rt, (epoch, expiry, refused), (epoch, expiry, cause));
+    }
+}
+
+/// A key comes and goes, and waits for so many rounds at most. The worker is not pinned then.
+fn comes_and_goes(index: &mut Index, rounds: u32) -> [Standing; 2] {
+    is_done(index, 0, Op::Pin);
+    let put = Standing::of(call(index, 0, Call::Insert(1, 1)));
+    let taken = Standing::of(call(index, 0, Call::Remove(1)));
+    is_done(index, 0, Op::Unpin);
+    are_rounds_done(index, 0, rounds);
+    [put, taken]
+}
+
+/// It came and went.
+const BOTH: [Standing; 2] = [
+    Standing::Replied(Reply::Insert(None)),
+    Standing::Replied(Reply::Remove(Some(1))),
+];
+
+/// What is told of a key that comes and goes on an index whose cells have so many turns, and of one that comes then.
+fn told_in_turns(
+    alloc: Global,
+    turn_max: u32,
+) -> Result<([Standing; 2], Standing, State), Refusal> {
+    let mut limits = Limits::usual(1, 2);
+    limits.epoch.turn_max = turn_max;
+    let mut index = bounded(alloc, limits, u64::MAX)?;
+    let both = comes_and_goes(&mut index, 3);
+    is_done(&mut index, 0, Op::Pin);
+    let last = Standing::of(call(&mut index, 0, Call::Insert(1, 1)));
+    let state = state(&index);
+    discard(index);
+    Ok((both, last, state))
+}
+
+/// The root has one of two cells, and leaves the other one.
+#[test]
+fn a_cell_is_used_for_as_many_nodes_as_it_has_turns(rt: HostRuntime) -> Result<(), Fail> {
+    for (turn_max, last, state) in [
+        (0, Standing::Refused(Refusal::Cells), (2104, 0, 0)),
+        (1, Standing::Replied(Reply::Insert(None)), (2168, 0, 0)),
+    ] {
+        let told = told_in_turns(rt.alloc(), turn_max)?;
+        assert_same(&rt, told, (BOTH, last, state));
     }
     Ok(())
 }
 
-/// The root has one of two cells, and leaves the other one.
-const TURNS: [&str; 2] = [
-    "a cell of one turn: workers 1, cells 2, turns 0, pinned 1; ; insert 1 1, remove 1, call 0 unpin, rounds 0 3, call 0 pin, \
-     insert 1 1, state; Replied(Insert(None)) 2168 0, Replied(Remove(Some(1))) 2168 1, 2104 0, Refused(Cells), 2104 0 0",
-    "a cell of two turns: workers 1, cells 2, turns 1, pinned 1; ; insert 1 1, remove 1, call 0 unpin, rounds 0 3, call 0 pin, \
-     insert 1 1, state; Replied(Insert(None)) 2168 0, Replied(Remove(Some(1))) 2168 1, 2104 0, Replied(Insert(None)) 2168 0, \
-     2168 0 0",
-];
-
-#[test]
-fn a_cell_is_used_for_as_many_nodes_as_it_has_turns(rt: HostRuntime) -> Result<(), Fail> {
-    are_told(&rt, rt.alloc(), &TURNS)
-}
-
-/// Three rounds bring the epoch to its greatest, 3, and no node that is removed then is destroyed before the close.
-#[test]
-fn what_waits_at_the_greatest_epoch_goes_at_the_close(rt: HostRuntime) -> Result<(), Fail> {
-    let before = "rounds 0 3, call 0 pin, insert 1 1, remove 1, call 0 unpin, rounds 0 10";
-    let mut bench = Bench::of(rt.alloc(), "workers 1, pinned 0, epoch 3", before)?;
-    let played = bench.play(rt.alloc(), "state, call 0 release");
-    let (index, told) = bench.parted();
-    let charged = match index.close(NoDrain) {
+/// What is charged after the close.
+fn charged(index: Index) -> Option<u64> {
+    match index.close(NoDrain) {
         Ok((allocator, _)) => Some(allocator.charged()),
         Err((_refusal, index, _)) => {
             discard(index);
             None
         }
-    };
-    assert_same(&rt, (told.as_str(), charged), ("2168 1 64", Some(0)));
-    played
+    }
+}
+
+/// Three rounds bring the epoch to its greatest, 3, and no node that is removed then is destroyed before the close.
+#[test]
+fn what_waits_at_the_greatest_epoch_goes_at_the_close(rt: HostRuntime) -> Result<(), Fail> {
+    let mut index = bounded(rt.alloc(), limits(1_000, 3, 2), u64::MAX)?;
+    are_rounds_done(&mut index, 0, 3);
+    let told = (comes_and_goes(&mut index, 10), state(&index));
+    is_done(&mut index, 0, Op::Release);
+    let charged = charged(index);
+    assert_same(&rt, (told, charged), ((BOTH, (2168, 1, 64)), Some(0)));
+    Ok(())
 }
 
 /// A value that can be copied while the flag is up.

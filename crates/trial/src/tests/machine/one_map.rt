@@ -2,7 +2,7 @@
 //! stand are charged.
 
 use super::flights::{Flight, entry};
-use super::orders::{CELLS, Ground, Pair, Turn};
+use super::orders::{CELLS, Ground, Pair, Plays, Turn};
 use super::told::{Standing, state};
 use super::{Index, are_rounds_done, call, is_done};
 use crate::tests::texts::{call_of, numbers, pairs, part};
@@ -41,15 +41,6 @@ impl Case {
         })
     }
 
-    /// Whether both calls are right by these turns.
-    pub fn goes(&self, alloc: Global, plan: &[Turn]) -> Result<bool, Fail> {
-        let mut pair = Pair::on(alloc, &self.ground, self.calls)?;
-        pair.fly(plan);
-        let is_right = self.is_right(alloc, &mut pair);
-        let _calls = pair.end();
-        is_right
-    }
-
     fn is_right(&self, alloc: Global, pair: &mut Pair) -> Result<bool, Fail> {
         let [first, second] = pair.calls;
         let (Some(one), Some(other)) = (first.entry(), second.entry()) else {
@@ -64,6 +55,16 @@ impl Case {
         let looks = looks(alloc, &mut pair.index)?;
         let is_map = is_map(alloc, &self.ground, entries, &looks)?;
         Ok(is_map && is_charged(&mut pair.index, charge))
+    }
+}
+
+impl Plays for Case {
+    fn goes(&self, alloc: Global, plan: &[Turn]) -> Result<bool, Fail> {
+        let mut pair = Pair::on(alloc, &self.ground, self.calls)?;
+        pair.fly(plan);
+        let is_right = self.is_right(alloc, &mut pair);
+        let _calls = pair.end();
+        is_right
     }
 }
 

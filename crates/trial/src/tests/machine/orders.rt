@@ -3,9 +3,11 @@
 use super::flights::Flight;
 use super::lies::{Lie, noise_of};
 use super::{Index, are_rounds_done, call, discard, is_done, open};
+use crate::tests::texts::small;
 use joint::{Op, Refusal};
 use judge::Call;
 use std::alloc::{AllocError, Global};
+use std::test::Fail;
 
 /// Two workers have calls, and this one collects.
 const COLLECTOR: u32 = 2;
@@ -174,56 +176,86 @@ pub fn lengths(alloc: Global, ground: &Ground, calls: [Flight; 2]) -> Result<[u3
 }
 
 /// The turns of two calls, each of so many steps.
-pub type Turns<'a> = [&'a [u32]; 2];
+pub type Turns<'a> = [&'a [u64]; 2];
+
+/// What comes before turns of both calls and behind them, and whether a collection comes after each.
+#[derive(Clone, Copy)]
+pub struct Course<'a> {
+    pub head: &'a [Turn],
+    pub sweeps: bool,
+    pub tail: &'a [Turn],
+}
 
 /// How many turns both calls have.
-fn count(turns: Turns) -> u32 {
+fn count(turns: Turns<'_>) -> u32 {
     let [first, second] = turns;
     first.len().saturating_add(second.len()).min(63) as u32
 }
 
-/// Turns of both calls, one after another: the second one has its next turn where the next bit of `order` tells it so, and the
-/// first one else. A collection comes after each, where `sweeps`.
-pub fn push_order(
-    plan: &mut Plan,
-    order: u64,
-    turns: Turns,
-    sweeps: bool,
-) -> Result<(), AllocError> {
-    let [first, second] = turns;
-    let mut first = first.iter();
-    let mut second = second.iter();
-    for turn in 0..count(turns) {
-        let turn = if order.wrapping_shr(turn) % 2 == 1 {
-            Turn::Go(1, *second.next().unwrap_or(&0))
-        } else {
-            Turn::Go(0, *first.next().unwrap_or(&0))
-        };
-        plan.push(turn)?;
-        if sweeps {
-            plan.push(Turn::Collect)?;
+/// Turns of one step.
+static SINGLE: [u64; 32] = [1; 32];
+
+/// So many turns of one step of each call.
+pub fn single(first: u32, second: u32) -> Turns<'static> {
+    [
+        SINGLE.get(..first as usize).unwrap_or(SINGLE.as_slice()),
+        SINGLE.get(..second as usize).unwrap_or(SINGLE.as_slice()),
+    ]
+}
+
+/// Two calls of which it is known what comes of them.
+pub trait Plays {
+    /// Whether both are right by these turns.
+    fn goes(&self, alloc: Global, plan: &[Turn]) -> Result<bool, Fail>;
+}
+
+impl Course<'_> {
+    /// The turns of both calls one after another: the second one has its next turn where the next bit of `order` tells it so, and
+    /// the first one else.
+    pub fn plan(&self, alloc: Global, turns: Turns<'_>, order: u64) -> Result<Plan, AllocError> {
+        let [first, second] = turns;
+        let mut first = first.iter();
+        let mut second = second.iter();
+        let mut plan = Vec::new(alloc);
+        plan.extend_from_slice(self.head)?;
+        for turn in 0..count(turns) {
+            let turn = if order.wrapping_shr(turn) % 2 == 1 {
+                Turn::Go(1, small(*second.next().unwrap_or(&0)))
+            } else {
+                Turn::Go(0, small(*first.next().unwrap_or(&0)))
+            };
+            plan.push(turn)?;
+            if self.sweeps {
+                plan.push(Turn::Collect)?;
+            }
         }
+        plan.extend_from_slice(self.tail)?;
+        Ok(plan)
     }
-    Ok(())
+
+    /// How many orders of both calls' turns there are, if one of so many of them, or each, is right.
+    pub fn right_orders<P: Plays>(
+        &self,
+        alloc: Global,
+        turns: Turns<'_>,
+        case: &P,
+        every: u32,
+    ) -> Result<Option<u32>, Fail> {
+        let [_, second] = turns;
+        let mut all = 0u32;
+        for order in 0..1u64.wrapping_shl(count(turns)) {
+            if order.count_ones() as usize == second.len() {
+                all = all.saturating_add(1);
+                if is_tried(all, every) && !case.goes(alloc, &self.plan(alloc, turns, order)?)? {
+                    return Ok(None);
+                }
+            }
+        }
+        Ok(Some(all))
+    }
 }
 
 /// Whether the order of this number is tried, where one of so many is.
 pub fn is_tried(number: u32, every: u32) -> bool {
     every == 0 || number % every == 0
-}
-
-/// The orders of two calls' turns: how many there are, and each of them, or one of so many.
-pub fn orders(alloc: Global, turns: Turns, every: u32) -> Result<(u32, Vec<u64>), AllocError> {
-    let [_, second] = turns;
-    let mut all = 0u32;
-    let mut tried = Vec::new(alloc);
-    for order in 0..1u64.wrapping_shl(count(turns)) {
-        if order.count_ones() as usize == second.len() {
-            all = all.saturating_add(1);
-            if is_tried(all, every) {
-                tried.push(order)?;
-            }
-        }
-    }
-    Ok((all, tried))
 }

@@ -3,15 +3,14 @@
 
 use super::drawn::number_in;
 use super::flights::Flight;
-use super::interleavings::single;
 use super::one_map::{journal_of, value_at};
-use super::orders::{CELLS, Ground, LONG, Pair, Plan, Turn, Turns, lengths, orders, push_order};
+use super::orders::{CELLS, Course, Ground, LONG, Pair, Plays, Turn, lengths, single};
 use super::told::Standing;
 use crate::tests::asserts::assert_same;
 use crate::tests::texts::{array, call_of, named, pairs, part};
 use joint::Op;
 use judge::{Verdict, check};
-use std::alloc::{AllocError, Global};
+use std::alloc::Global;
 use std::test::Fail;
 
 /// A scan beside a call: the numbers of its range; the call; the pairs before it and after it; how many steps the scan takes alone,
@@ -180,52 +179,32 @@ impl Case {
     }
 }
 
-/// The first steps of the writing call, then both by their turns in an order, and their ends.
-fn ordered(alloc: Global, ahead: u32, order: u64, turns: Turns) -> Result<Plan, AllocError> {
-    let mut plan = Vec::new(alloc);
-    plan.extend_from_slice(&[Turn::Begin(1), Turn::Go(1, ahead), Turn::Begin(0)])?;
-    push_order(&mut plan, order, turns, false)?;
-    plan.extend_from_slice(&[Turn::Go(1, LONG), Turn::Go(0, LONG)])?;
-    Ok(plan)
+impl Plays for Case {
+    fn goes(&self, alloc: Global, plan: &[Turn]) -> Result<bool, Fail> {
+        Ok(self.flown(alloc, plan)?.is_some())
+    }
 }
 
-/// Whether both are right in every order of their turns, or in one of so many.
+/// Both calls go on to their ends.
+const ENDS: [Turn; 2] = [Turn::Go(1, LONG), Turn::Go(0, LONG)];
+
+/// Whether both are right in every order of their turns, or in one of so many, behind the first steps of the writing call.
 fn are_orders_right(alloc: Global, case: &Case, every: u32) -> Result<bool, Fail> {
     let [scan, write] = case.steps;
-    let [scan, before] = single(
-        scan,
-        write.saturating_sub(case.ahead).saturating_sub(case.last),
-    );
+    let left = write.saturating_sub(case.ahead).saturating_sub(case.last);
+    let [scan, before] = single(scan, left);
     let mut steps = Vec::new(alloc);
     steps.extend_from_slice(before)?;
-    steps.push(case.last)?;
+    steps.push(u64::from(case.last))?;
+    let head = [Turn::Begin(1), Turn::Go(1, case.ahead), Turn::Begin(0)];
+    let course = Course {
+        head: &head,
+        sweeps: false,
+        tail: &ENDS,
+    };
     let turns = [scan, steps.as_slice()];
-    let (_, tried) = orders(alloc, turns, every)?;
-    for order in &tried {
-        let plan = ordered(alloc, case.ahead, *order, turns)?;
-        if case.flown(alloc, &plan)?.is_none() {
-            return Ok(false);
-        }
-    }
-    Ok(true)
-}
-
-/// Both take as many steps as they should, and are right in every order of these.
-#[test]
-fn a_scan_beside_a_writing_call(rt: HostRuntime) -> Result<(), Fail> {
-    let every = number_in(&rt, "TRIAL_ORDERS", 61);
-    for text in CASES {
-        let (name, text) = named(text)?;
-        let case = case_of(rt.alloc(), text)?;
-        let steps = lengths(rt.alloc(), &case.ground, case.calls)?;
-        assert_same(&rt, (name, steps), (name, case.steps));
-        assert_same(
-            &rt,
-            (name, are_orders_right(rt.alloc(), &case, every)?),
-            (name, true),
-        );
-    }
-    Ok(())
+    let all = course.right_orders(alloc, turns, case, every)?;
+    Ok(all.is_some())
 }
 
 /// The scan with the whole call after so many of its steps, and with collections after the call.
@@ -253,14 +232,22 @@ fn begins_anew(alloc: Global, case: &Case) -> Result<bool, Fail> {
     Ok(again)
 }
 
+/// Both take as many steps as they should, and are right in every order of these; or wherever the scan is cut, which begins anew.
 #[test]
-fn a_scan_begins_anew_after_a_change(rt: HostRuntime) -> Result<(), Fail> {
-    for text in CHANGES {
-        let (name, text) = named(text)?;
-        let case = case_of(rt.alloc(), text)?;
-        let steps = lengths(rt.alloc(), &case.ground, case.calls)?;
-        assert_same(&rt, (name, steps), (name, case.steps));
-        assert_same(&rt, (name, begins_anew(rt.alloc(), &case)?), (name, true));
+fn a_scan_beside_a_writing_call(rt: HostRuntime) -> Result<(), Fail> {
+    let every = number_in(&rt, "TRIAL_ORDERS", 61);
+    for (table, cuts) in [(CASES.as_slice(), false), (CHANGES.as_slice(), true)] {
+        for text in table {
+            let (name, text) = named(*text)?;
+            let case = case_of(rt.alloc(), text)?;
+            let steps = lengths(rt.alloc(), &case.ground, case.calls)?;
+            let is_right = if cuts {
+                begins_anew(rt.alloc(), &case)?
+            } else {
+                are_orders_right(rt.alloc(), &case, every)?
+            };
+            assert_same(&rt, (name, steps, is_right), (name, case.steps, true));
+        }
     }
     Ok(())
 }

@@ -1,12 +1,13 @@
 //! Flushes that fail: each ends the program with 1, and nothing is read or written after it.
 
-use crate::run::run;
 use crate::start::start;
 use crate::tests::asserts::assert_same;
 use std::alloc::Global;
 use std::io::{self, ErrorKind, Read, Write};
 use std::process::ExitCode;
+use std::sync::Wait;
 use std::test::Fail;
+use std::thread::Threads;
 
 /// Takes what it is given. One of its flushes fails, and it goes on after it.
 #[derive(Drop)]
@@ -73,52 +74,54 @@ const REPLIES: [&[u8]; 8] = [
     b"none\n",
 ];
 
+/// How the program ends with these arguments and a script, of which flush the first after so many fails; the lines that it hasn't
+/// read, and what it has written.
+fn ended<T: Threads + Wait + Sync>(
+    rt: &T,
+    alloc: Global,
+    arguments: &[&str],
+    script: &[&'static [u8]],
+    before: u64,
+) -> Result<(ExitCode, usize, Vec<u8>), Fail> {
+    let mut words = Vec::new(alloc);
+    for argument in arguments {
+        words.push(String::from_str(alloc, *argument)?)?;
+    }
+    let mut reader = Lines { left: script };
+    let mut writer = Unflushed {
+        taken: Vec::new(alloc),
+        before,
+    };
+    let ended = start(rt, alloc, &words, &mut reader, &mut writer);
+    let Unflushed { taken, before: _ } = writer;
+    Ok((ended, reader.left.len(), taken))
+}
+
+/// Arguments, and what is written before the first flush.
+const TOLD: [(&[&str], &[u8]); 2] = [
+    (
+        &["threads", "1", "1"],
+        b"journal 1 legal\naudit true\nledger 1\n",
+    ),
+    (&["threads"], b"usage: trial [threads N M]\n"),
+];
+
 #[test]
-fn a_flush_that_fails_ends_a_script_with_calls_in_flight(rt: HostRuntime) -> Result<(), Fail> {
+fn a_flush_that_fails_ends_the_program(rt: HostRuntime) -> Result<(), Fail> {
     let mut expected = Vec::new(rt.alloc());
     for (before, replies) in REPLIES.iter().enumerate() {
         expected.extend_from_slice(*replies)?;
-        let mut reader = Lines { left: &SCRIPT };
-        let mut writer = Unflushed {
-            taken: Vec::new(rt.alloc()),
-            before: before as u64,
-        };
-        let ended = run(rt.alloc(), &mut reader, &mut writer);
-        let left = SCRIPT.len().saturating_sub(before).saturating_sub(1);
+        let (ended, left, taken) = ended(&rt, rt.alloc(), &[], &SCRIPT, before as u64)?;
+        let unread = SCRIPT.len().saturating_sub(before).saturating_sub(1);
         assert_same(
             &rt,
-            (before, ended, reader.left.len(), writer.taken.as_slice()),
-            (before, 1, left, expected.as_slice()),
+            (before, ended, left, taken.as_slice()),
+            (before, ExitCode::from(1), unread, expected.as_slice()),
         );
     }
-    Ok(())
-}
-
-#[test]
-fn a_flush_that_fails_ends_a_history_and_the_usage(rt: HostRuntime) -> Result<(), Fail> {
-    let table: [(&[&str], &[u8]); 2] = [
-        (
-            &["threads", "1", "1"],
-            b"journal 1 legal\naudit true\nledger 1\n",
-        ),
-        (&["threads"], b"usage: trial [threads N M]\n"),
-    ];
-    for (arguments, text) in table {
-        let mut words = Vec::new(rt.alloc());
-        for argument in arguments {
-            words.push(String::from_str(rt.alloc(), *argument)?)?;
-        }
-        let mut script = b"".as_slice();
-        let mut writer = Unflushed {
-            taken: Vec::new(rt.alloc()),
-            before: 0,
-        };
-        let ended = start(&rt, rt.alloc(), &words, &mut script, &mut writer);
-        assert_same(
-            &rt,
-            (ended, writer.taken.as_slice()),
-            (ExitCode::from(1), text),
-        );
+    for (arguments, text) in TOLD {
+        let (ended, _, taken) = ended(&rt, rt.alloc(), arguments, &[], 0)?;
+        assert_same(&rt, (ended, taken.as_slice()), (ExitCode::from(1), text));
     }
     Ok(())
 }

@@ -9,7 +9,7 @@ use super::{drained, leave, opened};
 use optimistic::{Pair, U64Congee, Worker};
 use std::alloc::{AllocError, Global};
 use std::sync::Wait;
-use std::sync::atomic::AtomicU64;
+use std::sync::atomic::{AtomicU64, Ordering};
 use std::test::Fail;
 use std::thread;
 use std::thread::Threads;
@@ -58,7 +58,7 @@ fn does<R: Wait>(
     }
 }
 
-/// The calls of one thread, with a worker of its own.
+/// The calls of one thread, with a worker of its own. Without one nobody waits for it.
 fn lane<R: Wait>(
     rt: &R,
     alloc: Global,
@@ -67,7 +67,13 @@ fn lane<R: Wait>(
     place: u32,
     task: Task,
 ) -> Result<Vec<Timed>, AllocError> {
-    let mut worker = index.worker(alloc)?;
+    let mut worker = match index.worker(alloc) {
+        Ok(worker) => worker,
+        Err(refused) => {
+            clock.store(u64::MAX, Ordering::SeqCst);
+            return Err(refused);
+        }
+    };
     let made = does(rt, alloc, &mut worker, clock, place, task);
     leave(worker);
     made
