@@ -1,6 +1,7 @@
 pub mod Calls
 pub mod Computes
 pub mod Refusals
+pub mod Scans
 pub mod Words
 pub mod Workers
 pub mod Writes

@@ -1,6 +1,7 @@
 pub mod Bytes
 pub mod Children
 pub mod Copies
+pub mod Gaps
 pub mod Held
 pub mod Least
 pub mod Pairs

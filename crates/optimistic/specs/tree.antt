@@ -9,6 +9,7 @@ pub mod Raises
 pub mod Reads
 pub mod Replace
 pub mod Sets
+pub mod Sights
 pub mod Sizes
 pub mod Takes
 pub mod Trees

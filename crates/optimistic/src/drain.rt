@@ -3,8 +3,8 @@
 //! From any key on, the way down to it tells the key's value, or that no key up to some later one has one.
 
 mod items;
-mod keys;
-mod nexts;
+pub(crate) mod keys;
+pub(crate) mod nexts;
 mod pairs;
 
 pub use nexts::is_unlocked;

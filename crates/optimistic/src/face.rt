@@ -5,6 +5,7 @@ mod computes;
 mod congee;
 mod index;
 mod refusal;
+mod scans;
 mod seen;
 mod worker;
 mod writes;

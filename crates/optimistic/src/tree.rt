@@ -12,6 +12,7 @@ mod lift;
 mod lock;
 mod locked;
 pub(crate) mod names;
+mod next;
 pub(crate) mod place;
 mod put;
 mod reach;

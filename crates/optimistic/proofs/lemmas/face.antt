@@ -1,3 +1,4 @@
 pub mod Answers
 pub mod Knowing
 pub mod Logs
+pub mod Scanning

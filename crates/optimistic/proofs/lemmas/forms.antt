@@ -2,6 +2,7 @@ pub mod BitsAt
 pub mod ByteLemmas
 pub mod ChildLemmas
 pub mod FormLemmas
+pub mod Gaps
 pub mod Levels
 pub mod Maps
 pub mod Marks

@@ -15,6 +15,7 @@ pub mod Reading
 pub mod Rebuilding
 pub mod Replaced
 pub mod Sets
+pub mod Sights
 pub mod Reshaping
 pub mod Setting
 pub mod Splitting

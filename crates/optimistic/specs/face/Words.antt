@@ -1,6 +1,7 @@
 -- Answers as words.
-use Rattle.std.specs.Prelude.{◌≡◌, ℕ, Option, Result, Ok, Err}
+use Rattle.std.specs.Prelude.{◌≡◌, ℕ, Option, None, Some, Result, Ok, Err}
 use Rattle.std.specs.Option.{option_map}
+use Rattle.optimistic.specs.declared.drain.nexts.Pair.{Pair}
 use Rattle.optimistic.specs.declared.face.refusal.Refusal.{Refusal}
 
 -- r is what some answer is in other words
@@ -15,3 +16,7 @@ abbrev pub either_words : {V : Type 0} → (ℕ → V) → Result (Result (Optio
 either_words of (Ok (Ok x)) = Ok (Ok (option_map of x))
 either_words of (Ok (Err x)) = Ok (Err (option_map of x))
 either_words of (Err e) = Err e
+
+abbrev pub pair_words : {K V : Type 0} → (ℕ → K) → (ℕ → V) → Option Pair → Option (K × V)
+pair_words key value None = None
+pair_words key value (Some p) = Some (key p.key, value p.value)

@@ -1,15 +1,16 @@
 //! The index for keys and values of eight bytes.
-ghost use Rattle.std.specs.Prelude.{◌≡◌, [], IfErr, IfOk, IfSome, MatchResult};
+ghost use Rattle.std.specs.Prelude.{◌≡◌, ◌+◌, [], length, take, drop, IfErr, IfOk, IfSome, MatchResult};
 ghost use Rattle.std.specs.Option.{option_map};
 ghost use Rattle.optimistic.specs.words.Kept.{calls_by, StartsWith};
 ghost use Rattle.optimistic.specs.face.Calls.{Saw, Looked, Found};
 ghost use Rattle.optimistic.specs.face.Computes.{IsComputed, IsReplaced};
 ghost use Rattle.optimistic.specs.face.Refusals.{IsSize, IsUnopened};
+ghost use Rattle.optimistic.specs.face.Scans.{FirstFrom, Emptiness, IsScan};
 ghost use Rattle.optimistic.specs.face.Writes.{IsInserted, IsRemoved, IsExchanged, IsFinal};
-ghost use Rattle.optimistic.specs.face.Words.{As, words, either_words};
+ghost use Rattle.optimistic.specs.face.Words.{As, words, either_words, pair_words};
 ghost use Rattle.optimistic.specs.tree.Drained.{IsClosed, HasNoRoot};
 
-use crate::drain::{Locked, Pairs};
+use crate::drain::{Locked, Pair, Pairs};
 use crate::face::close::Retired;
 use crate::face::index::U64Congee;
 use crate::face::refusal::{Refusal, Unopened};
@@ -62,6 +63,16 @@ fn either_words<V: Word64>(
         Ok(Ok(word)) => Ok(Ok(word_of(word))),
         Ok(Err(word)) => Ok(Err(word_of(word))),
         Err(refusal) => Err(refusal),
+    }
+}
+
+/// The key and the value of a pair.
+fn pair_words<K: Word64, V: Word64>(pair: Option<Pair>) -> Option<(K, V)>
+    ensures { result ≡ pair_words K.of_word V.of_word pair }
+{
+    match pair {
+        Some(pair) => Some((K::from_word(pair.key), V::from_word(pair.value))),
+        None => None,
     }
 }
 
@@ -211,6 +222,61 @@ impl<'t, K: Word64, V: Word64> WordWorker<'t, K, V> {
         ensures decided { IfErr result IsFinal }
     {
         words(self.worker.compute_or_insert(rt, key.to_word(), f))
+    }
+
+    /// The pair with the least key, or `None` if there was none, at one moment within the call.
+    pub fn first<R: Wait>(&mut self, rt: &R) -> Option<(K, V)>
+        ensures { As (λ r. FirstFrom 0 r self.old self.new) (pair_words K.of_word V.of_word) result }
+    {
+        pair_words(self.worker.first(rt))
+    }
+
+    /// The pair with the least key that isn't below this one, or `None` if there was none, at one moment within the call.
+    pub fn at_or_after<R: Wait>(&mut self, rt: &R, key: &K) -> Option<(K, V)>
+        ensures { As (λ r. FirstFrom (K.word key.now) r self.old self.new) (pair_words K.of_word V.of_word) result }
+    {
+        pair_words(self.worker.at_or_after(rt, key.to_word()))
+    }
+
+    /// The pair with the least key above this one, or `None` if there was none, at one moment within the call.
+    pub fn next_after<R: Wait>(&mut self, rt: &R, key: &K) -> Option<(K, V)>
+        ensures { As (λ r. FirstFrom (K.word key.now + 1) r self.old self.new) (pair_words K.of_word V.of_word) result }
+    {
+        pair_words(self.worker.next_after(rt, key.to_word()))
+    }
+
+    /// Whether no key had a value, at one moment within the call.
+    pub fn is_empty<R: Wait>(&mut self, rt: &R) -> bool
+        ensures { Emptiness result self.old self.new }
+    {
+        self.worker.is_empty(rt)
+    }
+
+    /// Writes pairs with start <= key < end into `out`, as words, ascending, and gives their number. Each stood at a moment
+    /// within the call, and these moments rise. A key that stood throughout the call is there, unless the places are filled with
+    /// lower keys. The places past those that are written stay as they were.
+    pub fn range<R: Wait>(&mut self, rt: &R, start: &K, end: &K, out: &mut [Pair]) -> usize
+        ensures scan { IsScan (K.word start.now) (K.word end.now) (length out.old) self.old self.new (take result out.new) }
+        ensures saw { Saw self.old self.new }
+        ensures past { drop result out.new ≡ drop result out.old }
+    {
+        self.worker.range(rt, start.to_word(), end.to_word(), out)
+    }
+
+    /// The same of start <= key <= last.
+    pub fn range_inclusive<R: Wait>(
+        &mut self,
+        rt: &R,
+        start: &K,
+        last: &K,
+        out: &mut [Pair],
+    ) -> usize
+        ensures scan { IsScan (K.word start.now) (K.word last.now + 1) (length out.old) self.old self.new (take result out.new) }
+        ensures saw { Saw self.old self.new }
+        ensures past { drop result out.new ≡ drop result out.old }
+    {
+        self.worker
+            .range_inclusive(rt, start.to_word(), last.to_word(), out)
     }
 
     /// What it has seen of the log, for another worker of its index.

@@ -19,8 +19,8 @@ use std::sync::Wait;
 /// nodes aren't used again before the index is closed.
 #[derive(Drop)]
 pub struct Worker<'t> {
-    tree: &'t Tree,
-    hand: Hand,
+    pub(crate) tree: &'t Tree,
+    pub(crate) hand: Hand,
     free: Free,
     /// The moment at which the names were last used.
     names: Hand,

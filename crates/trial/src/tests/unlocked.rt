@@ -9,6 +9,7 @@ mod faces;
 mod histories;
 mod lanes;
 mod rooms;
+mod scans;
 mod search;
 mod sums;
 mod waits;

@@ -85,36 +85,33 @@ module _ (form level from : ℕ) (w : ℕ → ℕ) (l : level < 8) (is : IsForm 
   abbrev Second : ℕ → ℕ
   Second k = second_of form w k (byte_at k level)
 
-  -- no item has a byte up to that of the last key
-  pub none_next : (last byte : ℕ) → last + 1 ≡ (prefix_of from level * 256 + byte + 1) * 2 ^ (56 - 8 * level) → byte_at from level ≤ byte → byte < 256
-      → ((i : ℕ) → i < room form → taken_in form w i ≡ 1 → byte_at from level ≤ byte_in form w i → byte < byte_in form w i) → from ≤ last → IsNext level First Second from (After last)
-  none_next last byte end reach small none later = (
+  -- no child has a byte up to that of the last key
+  pub gap_next : (last byte : ℕ) → last + 1 ≡ (prefix_of from level * 256 + byte + 1) * 2 ^ (56 - 8 * level) → byte_at from level ≤ byte → byte < 256
+      → ((k b : ℕ) → byte_at from level ≤ b → b ≤ byte → first_of form w k b ≡ 0) → from ≤ last → IsNext level First Second from (After last)
+  gap_next last byte end reach small none later = (
     later,
     λ k above below.
-        let t = between from level byte last l small end k above below in (
-          t.0,
-          silent_none (First k) (Second k) k (none_at form w is k (byte_at k level) (λ i m taken (e : byte_in form w i ≡ byte_at k level). let up = t.1 in let down = t.2 in
-              let far = none i m taken (omega (arith, e, up)) in absurd (omega (arith, far, e, down)))),
-        ),
+        let t = between from level byte last l small end k above below in
+        (t.0, silent_none (First k) (Second k) k (none k (byte_at k level) t.1 t.2)),
   )
 
-  -- the item at the key's byte
-  module _ (e : Item) (h : IsLeastItem form w (byte_at from level) (room form) e) (at : e.byte ≡ byte_at from level) where
-    one : (k : ℕ) → byte_at k level ≡ byte_at from level → First k ≡ put_first form e.first k
-    one k b = ap (λ (z : ℕ). first_of form w k z) (b ∙ sym at) ∙ item_first form w is h.place e h.inside h.item k
+  -- no item has one
+  pub none_next : (last byte : ℕ) → last + 1 ≡ (prefix_of from level * 256 + byte + 1) * 2 ^ (56 - 8 * level) → byte_at from level ≤ byte → byte < 256
+      → ((i : ℕ) → i < room form → taken_in form w i ≡ 1 → byte_at from level ≤ byte_in form w i → byte < byte_in form w i) → from ≤ last → IsNext level First Second from (After last)
+  none_next last byte end reach small none = gap_next last byte end reach small
+      (λ k b up down. none_at form w is k b (λ i m taken (e : byte_in form w i ≡ b). let far = none i m taken (omega (arith, e, up)) in absurd (omega (arith, far, e, down))))
 
-    two : (k : ℕ) → byte_at k level ≡ byte_at from level → Second k ≡ e.last
-    two k b = ap (λ (z : ℕ). second_of form w k z) (b ∙ sym at) ∙ item_second form w is h.place e h.inside h.item k
-
-    pub item_next : (r : Next) → IsNext (level + 1) (λ k. put_first form e.first k) (λ k. e.last) from r → IsNext level First Second from r
-    item_next (Here x) n = let f = one from refl in let s = two from refl in ((λ i. goes_on (f i) (s i) from) ∙ n.0, (λ i. pair_value (f i) (s i) from) ∙ n.1)
-    item_next (Down p) n = let f = one from refl in let s = two from refl in (
+  -- the child at the key's byte
+  module _ (e : Item) (one : (k : ℕ) → byte_at k level ≡ byte_at from level → First k ≡ put_first form e.first k) (two : (k : ℕ) → byte_at k level ≡ byte_at from level → Second k ≡ e.last) where
+    pub child_next : (r : Next) → IsNext (level + 1) (λ k. put_first form e.first k) (λ k. e.last) from r → IsNext level First Second from r
+    child_next (Here x) n = let f = one from refl in let s = two from refl in ((λ i. goes_on (f i) (s i) from) ∙ n.0, (λ i. pair_value (f i) (s i) from) ∙ n.1)
+    child_next (Down p) n = let f = one from refl in let s = two from refl in (
       (λ i. goes_on (f i) (s i) from) ∙ n.0,
       n.1 ∙ ap (λ (z : ℕ). node_of z) (sym f),
       n.2 ∙ ap (λ (z : ℕ). tag_of z) (sym f),
       n.3 ∙ ap (λ (z : ℕ). level_of z) (sym f),
     )
-    item_next (After last) n = (
+    child_next (After last) n = (
       n.0,
       λ k above below.
           let m = n.1 k above below in
@@ -123,6 +120,12 @@ module _ (form level from : ℕ) (w : ℕ → ℕ) (l : level < 8) (is : IsForm 
           let s = two k near.1 in
           (near.0, ((λ i. goes_on (f i) (s i) k) ∙ m.1.0, (λ i. pair_value (f i) (s i) k) ∙ m.1.1)),
     )
+
+  -- the item at the key's byte
+  pub item_next : (e : Item) → IsLeastItem form w (byte_at from level) (room form) e → e.byte ≡ byte_at from level → (r : Next) → IsNext (level + 1) (λ k. put_first form e.first k) (λ k. e.last) from r → IsNext level First Second from r
+  item_next e h at = child_next e
+      (λ k b. ap (λ (z : ℕ). first_of form w k z) (b ∙ sym at) ∙ item_first form w is h.place e h.inside h.item k)
+      (λ k b. ap (λ (z : ℕ). second_of form w k z) (b ∙ sym at) ∙ item_second form w is h.place e h.inside h.item k)
 
 -- the root
 module _ (m : Moment) (sound : Sound IsTree m) where

@@ -19,7 +19,7 @@ drained_none log from = record {
   all = λ key value above below is. absurd (omega arith);
 }
 
-only_one : (p q : Pair) → Contains (p ∷ []) q → p ≡ q
+pub only_one : (p q : Pair) → Contains (p ∷ []) q → p ≡ q
 only_one p q c = at c.0 c.1 c.2
   where
     at : (k : ℕ) → k < length (p ∷ []) → get_or (p ∷ []) k q ≡ q → p ≡ q

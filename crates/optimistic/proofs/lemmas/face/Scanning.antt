@@ -1,0 +1,182 @@
+-- What a scan has found so far, pair by pair.
+use Rattle.std.proofs.Common.{◌≡◌, ℕ, ◌+◌, ◌^◌, ◌<◌, ◌≤◌, ◌⊎◌, List, [], ◌∷◌, ◌++◌, get_or, length, length-append, arith, ap, sym, ◌∙◌, refl, subst, inl, inr, true, false, set, take, Option, None, Some, IfSome}
+use Rattle.std.specs.List.{AllPairs, Contains}
+use mathlib.Core.List.{append-nil, append_assoc}
+use Rattle.std.proofs.Math.ListN.{get_or-append}
+use Rattle.std.proofs.Math.Seq.{get_or-append_seam}
+use Rattle.std.proofs.lemmas.Bool.{cases_lt}
+use Rattle.std.proofs.lemmas.List.{take_more_set}
+use Rattle.std.proofs.lemmas.List.Elements.{Contains-append_left, Contains-append_right, Contains-append_cases, All-contains_itself}
+use Rattle.optimistic.specs.declared.drain.nexts.Pair.{Pair}
+use Rattle.optimistic.specs.declared.words.rule.Entry.{Entry}
+use Rattle.optimistic.specs.words.Kept.{value_of, StartsWith}
+use Rattle.optimistic.specs.tree.Drained.{pair_of}
+use Rattle.optimistic.specs.tree.Nexts.{IsFirst}
+use Rattle.optimistic.specs.face.Calls.{Known, Saw}
+use Rattle.optimistic.specs.face.Scans.{Once, FirstFrom, Emptiness, Rise, StoodThroughout, HasKey, IsScan}
+use Rattle.optimistic.proofs.lemmas.face.Knowing.{saw_refl, saw_trans}
+use Rattle.optimistic.proofs.lemmas.drain.Keys.{no_pair}
+use Rattle.optimistic.proofs.lemmas.drain.Lists.{only_one}
+
+pub starts_trans : (a b c : List Entry) → StartsWith b a → StartsWith c b → StartsWith c a
+starts_trans a b c p q = (p.0 ++ q.0, q.1 ∙ (ap (λ (l : List Entry). l ++ q.0) p.1 ∙ append_assoc a p.0 q.0))
+
+pub rise_to : (seen : List Entry) (ps : List Pair) (mid end : List Entry) → Rise seen ps mid → StartsWith end mid → Rise seen ps end
+rise_to seen [] mid end r s = starts_trans seen mid end r s
+rise_to seen (p ∷ ps) mid end r s = (r.0, r.1, r.2, rise_to r.0 ps mid end r.3 s)
+
+pub rise_more : (seen : List Entry) (ps : List Pair) (mid log end : List Entry) (p : Pair) → Rise seen ps mid → StartsWith log mid → value_of p.key log ≡ Some p.value → StartsWith end log → Rise seen (ps ++ p ∷ []) end
+rise_more seen [] mid log end p r s is t = (log, starts_trans seen mid log r s, is, t)
+rise_more seen (q ∷ qs) mid log end p r s is t = (r.0, r.1, r.2, rise_more r.0 qs mid log end p r.3 s is t)
+
+pub once_from : (P : List Entry → Type 0) (u v w : Known) → Saw u v → Once P v w → Once P u w
+once_from P u v w s t = record { log = t.log; after = starts_trans u.seen v.seen t.log s.3 t.after; before = t.before; holds = t.holds }
+
+pub once_to : (P : List Entry → Type 0) (u v w : Known) → Once P u v → Saw v w → Once P u w
+once_to P u v w t s = record { log = t.log; after = t.after; before = starts_trans t.log v.seen w.seen t.before s.3; holds = t.holds }
+
+pub some_there : (p : Pair) (v w : Known) → FirstFrom 0 (Some p) v w → Emptiness false v w
+some_there p v w f = (f.0, record { log = f.1.log; after = f.1.after; before = f.1.before; holds = (p.key, λ e. no_pair p.value (value_of p.key f.1.log) f.1.holds.1 e) })
+
+pub none_there : (v w : Known) → FirstFrom 0 None v w → Emptiness true v w
+none_there v w f = (f.0, record { log = f.1.log; after = f.1.after; before = f.1.before; holds = f.1.holds })
+
+-- a key had no value at one moment
+abbrev pub Lacked : ℕ → Known → Known → Type 0
+Lacked key v w = Once (λ log. value_of key log ≡ None) v w
+
+-- the keys from one on and below the next that is to be asked for
+pub record IsSoFar (from next : ℕ) (v w : Known) (pairs : List Pair) : Type 0 where
+  pub saw : Saw v w
+  pub order : from ≤ next
+  pub ascending : AllPairs (λ p q. p.key < q.key) pairs
+  pub inside : (p : Pair) → Contains pairs p → (from ≤ p.key) × (p.key < next)
+  pub stood : Rise v.seen pairs w.seen
+  pub passed : (key : ℕ) → from ≤ key → key < next → HasKey pairs key ⊎ Lacked key v w
+
+pub so_far_none : (from : ℕ) (v : Known) → IsSoFar from from v v []
+so_far_none from v = record {
+  saw = saw_refl v;
+  order = omega arith;
+  ascending = λ i j d l m. absurd (omega arith);
+  inside = λ p c. let l = c.1 in absurd (omega arith);
+  stood = ([], sym (append-nil v.seen));
+  passed = λ key above below. absurd (omega arith);
+}
+
+either_way : (key : ℕ) (u v w : Known) (pairs more : List Pair) → Saw v w → HasKey pairs key ⊎ Lacked key u v → HasKey (pairs ++ more) key ⊎ Lacked key u w
+either_way key u v w pairs more s o = elim o [
+  | inl h ↦ inl (h.0, Contains-append_left pairs more (pair_of key h.0) h.1)
+  | inr l ↦ inr (once_to (λ log. value_of key log ≡ None) u v w l s)
+]
+
+module _ (from next : ℕ) (v u w : Known) (pairs : List Pair) (old : IsSoFar from next v u pairs) where
+  -- one more pair, the first of those that are still to come
+  module _ (p : Pair) (first : FirstFrom next (Some p) u w) where
+    long : length (pairs ++ p ∷ []) ≡ length pairs + 1
+    long = length-append pairs (p ∷ [])
+
+    later : Saw u w
+    later = first.0.0
+
+    ascends : AllPairs (λ (q r : Pair). q.key < r.key) (pairs ++ p ∷ [])
+    ascends i j d l m = elim (cases_lt j (length pairs)) [
+      | inl n ↦
+          let k : i < length pairs = omega arith in
+          subst (λ (z : Pair × Pair). z.0.key < z.1.key) (λ t. (sym (get_or-append pairs (p ∷ []) d i k) t, sym (get_or-append pairs (p ∷ []) d j n) t)) (old.ascending i j d l n)
+      | inr n ↦
+          let e : j ≡ length pairs = omega (arith, long) in
+          let k : i < length pairs = omega (arith, e) in
+          let there : get_or (pairs ++ p ∷ []) j d ≡ p = ap (λ (z : ℕ). get_or (pairs ++ p ∷ []) z d) e ∙ get_or-append_seam pairs p [] d in
+          let before = old.inside (get_or pairs i d) (All-contains_itself pairs i d k) in
+          subst (λ (z : Pair × Pair). z.0.key < z.1.key) (λ t. (sym (get_or-append pairs (p ∷ []) d i k) t, sym there t)) (let a = before.1 in let b = first.1.holds.0 in omega arith)
+    ]
+
+    pub so_far_more : IsSoFar from (p.key + 1) v w (pairs ++ p ∷ [])
+    so_far_more = record {
+      saw = saw_trans v u w old.saw later;
+      order = (let a = old.order in let b = first.1.holds.0 in omega arith);
+      ascending = ascends;
+      inside = λ q c. elim (Contains-append_cases pairs (p ∷ []) q c) [
+        | inl o ↦ let t = old.inside q o in (t.0, (let a = t.1 in let b = first.1.holds.0 in omega arith))
+        | inr o ↦ subst (λ (z : Pair). (from ≤ z.key) × (z.key < p.key + 1)) (only_one p q o) ((let a = old.order in let b = first.1.holds.0 in omega arith), omega arith)
+      ];
+      stood = rise_more v.seen pairs u.seen first.1.log w.seen p old.stood first.1.after first.1.holds.1 first.1.before;
+      passed = λ key above below. elim (cases_lt key next) [
+        | inl m ↦ either_way key v u w pairs (p ∷ []) later (old.passed key above m)
+        | inr m ↦ elim (cases_lt key p.key) [
+          | inl n ↦ inr (once_from (λ log. value_of key log ≡ None) v u w old.saw record { log = first.1.log; after = first.1.after; before = first.1.before; holds = first.1.holds.2 key m n })
+          | inr n ↦
+              let e : p.key ≡ key = omega arith in
+              inl (p.value, Contains-append_right pairs (p ∷ []) (pair_of key p.value) (0, omega arith, λ t. pair_of (e t) p.value))
+        ]
+      ];
+    }
+
+  -- the first of those that are still to come isn't below the end
+  pub so_far_to : (to : ℕ) (r : Option Pair) → FirstFrom next r u w → IfSome r (λ p. to ≤ p.key) → to ≤ 2 ^ 64 → (key : ℕ) → from ≤ key → key < to → HasKey pairs key ⊎ Lacked key v w
+  so_far_to to r first behind high key above below = elim (cases_lt key next) [
+    | inl m ↦ at_last key (old.passed key above m)
+    | inr m ↦ inr (once_from (λ log. value_of key log ≡ None) v u w old.saw record { log = first.1.log; after = first.1.after; before = first.1.before; holds = none r behind first.1.log key m first.1.holds below })
+  ]
+    where
+      at_last : (key : ℕ) → HasKey pairs key ⊎ Lacked key v u → HasKey pairs key ⊎ Lacked key v w
+      at_last key o = elim o [
+        | inl h ↦ inl h
+        | inr l ↦ inr (once_to (λ log. value_of key log ≡ None) v u w l first.0.0)
+      ]
+
+      none : (r : Option Pair) → IfSome r (λ p. to ≤ p.key) → (log : List Entry) (key : ℕ) → next ≤ key → IsFirst log next r → key < to → value_of key log ≡ None
+      none None behind log key m is below = is key m (omega (arith, below, high))
+      none (Some p) behind log key m is below = is.2 key m (omega (arith, below, behind))
+
+never : (key : ℕ) (v w : Known) → StoodThroughout key v w → Lacked key v w → ⊥
+never key v w stands l = stands l.log l.after l.before l.holds
+
+-- the scan ends: all keys were asked for, or the places are filled
+pub scan_all : (from next to places : ℕ) (v u w : Known) (pairs : List Pair) → IsSoFar from next v u pairs → Saw u w → length pairs ≤ places → ((p : Pair) → Contains pairs p → p.key < to)
+    → ((key : ℕ) → from ≤ key → key < to → HasKey pairs key ⊎ Lacked key v w) → IsScan from to places v w pairs
+scan_all from next to places v u w pairs s later few below passed = record {
+  few = few;
+  ascending = s.ascending;
+  inside = λ p c. ((s.inside p c).0, below p c);
+  stood = rise_to v.seen pairs u.seen w.seen s.stood later.3;
+  all = λ key above low stands. pick key stands (passed key above low);
+}
+  where
+    pick : (key : ℕ) → StoodThroughout key v w → HasKey pairs key ⊎ Lacked key v w → HasKey pairs key ⊎ ((length pairs ≡ places) × ((p : Pair) → Contains pairs p → p.key < key))
+    pick key stands o = elim o [
+      | inl h ↦ inl h
+      | inr l ↦ absurd (never key v w stands l)
+    ]
+
+pub scan_full : (from next to places : ℕ) (v w : Known) (pairs : List Pair) → IsSoFar from next v w pairs → length pairs ≡ places → ((p : Pair) → Contains pairs p → p.key < to) → IsScan from to places v w pairs
+scan_full from next to places v w pairs s full below = record {
+  few = omega (arith, full);
+  ascending = s.ascending;
+  inside = λ p c. ((s.inside p c).0, below p c);
+  stood = s.stood;
+  all = λ key above low stands. elim (cases_lt key next) [
+    | inl m ↦ pick key stands (s.passed key above m)
+    | inr m ↦ inr (full, λ p c. let b = (s.inside p c).1 in omega (arith, b, m))
+  ];
+}
+  where
+    pick : (key : ℕ) → StoodThroughout key v w → HasKey pairs key ⊎ Lacked key v w → HasKey pairs key ⊎ ((length pairs ≡ places) × ((p : Pair) → Contains pairs p → p.key < key))
+    pick key stands o = elim o [
+      | inl h ↦ inl h
+      | inr l ↦ absurd (never key v w stands l)
+    ]
+
+pub scan_done : (from next to places : ℕ) (v w : Known) (pairs : List Pair) → IsSoFar from next v w pairs → next ≡ to → length pairs ≤ places → IsScan from to places v w pairs
+scan_done from next to places v w pairs s end few = scan_all from next to places v w w pairs s (saw_refl w) few (λ p c. let b = (s.inside p c).1 in omega (arith, b, end)) (λ key above below. s.passed key above (omega (arith, below, end)))
+
+-- the next pair is behind the last key, or there is none
+pub scan_behind : (from next last places : ℕ) (v u w : Known) (pairs : List Pair) (r : Option Pair) → IsSoFar from next v u pairs → next ≤ last → last < 2 ^ 64 → FirstFrom next r u w → IfSome r (λ p. last + 1 ≤ p.key) → length pairs ≤ places
+    → IsScan from (last + 1) places v w pairs
+scan_behind from next last places v u w pairs r s order small first behind few =
+    scan_all from next (last + 1) places v u w pairs s first.0.0 few (λ p c. let b = (s.inside p c).1 in omega (arith, b, order)) (so_far_to from next v u w pairs s (last + 1) r first behind (omega (arith, small)))
+
+-- a pair that is put into its place
+pub so_far_put : (from next : ℕ) (v u w : Known) (out : List Pair) (count : ℕ) (p : Pair) → count < length out → IsSoFar from next v u (take count out) → FirstFrom next (Some p) u w → IsSoFar from (p.key + 1) v w (take (count + 1) (set out count p))
+so_far_put from next v u w out count p low s first = subst (λ (l : List Pair). IsSoFar from (p.key + 1) v w l) (sym (take_more_set out count p low)) (so_far_more from next v u w (take count out) s p first)

@@ -1,0 +1,46 @@
+-- What scans tell: pairs that stood at moments within the call. A moment is a log of decided calls that begins with all that the worker had
+-- seen when it called, and with which all begins that it has seen in the end.
+use Rattle.std.specs.Prelude.{◌≡◌, ◌≢◌, ◌⊎◌, ℕ, ◌^◌, ◌<◌, ◌≤◌, List, [], ◌∷◌, length, Bool, MatchBool, Option, None, Some}
+use Rattle.std.specs.List.{AllPairs, Contains}
+use Rattle.optimistic.specs.declared.drain.nexts.Pair.{Pair}
+use Rattle.optimistic.specs.declared.words.rule.Entry.{Entry}
+use Rattle.optimistic.specs.words.Kept.{value_of, StartsWith}
+use Rattle.optimistic.specs.tree.Drained.{pair_of}
+use Rattle.optimistic.specs.tree.Nexts.{IsFirst, HasNone}
+use Rattle.optimistic.specs.face.Calls.{Known, Saw, Looked}
+
+-- at one moment of the call this holds of the log
+pub record Once (P : List Entry → Type 0) (v w : Known) : Type 0 where
+  pub log : List Entry
+  pub after : StartsWith log v.seen
+  pub before : StartsWith w.seen log
+  pub holds : P log
+
+-- at one moment this was the first pair from a key on, or there was none
+abbrev pub FirstFrom : ℕ → Option Pair → Known → Known → Type 0
+FirstFrom from r v w = Looked v w × Once (λ log. IsFirst log from r) v w
+
+-- at one moment no key had a value, or some key had one
+abbrev pub Emptiness : Bool → Known → Known → Type 0
+Emptiness empty v w = Looked v w × Once (λ log. MatchBool empty (HasNone log 0 (2 ^ 64)) ((key : ℕ) × (value_of key log ≢ None))) v w
+
+-- each pair stood at a moment, and these moments rise, from one log up to another
+abbrev pub Rise : List Entry → List Pair → List Entry → Type 0
+Rise seen [] end = StartsWith end seen
+Rise seen (p ∷ ps) end = (log : List Entry) × StartsWith log seen × (value_of p.key log ≡ Some p.value) × Rise log ps end
+
+-- a key had a value at each moment of the call
+abbrev pub StoodThroughout : ℕ → Known → Known → Type 0
+StoodThroughout key v w = (log : List Entry) → StartsWith log v.seen → StartsWith w.seen log → value_of key log ≢ None
+
+abbrev pub HasKey : List Pair → ℕ → Type 0
+HasKey pairs key = (value : ℕ) × Contains pairs (pair_of key value)
+
+-- What a scan of the keys from one on and below another finds, for so many places: pairs in ascending order of keys, each of which stood at a
+-- moment, and these moments rise. A key that stood throughout is there, unless the places are filled with lower ones
+pub record IsScan (from to places : ℕ) (v w : Known) (pairs : List Pair) : Type 0 where
+  pub few : length pairs ≤ places
+  pub ascending : AllPairs (λ p q. p.key < q.key) pairs
+  pub inside : (p : Pair) → Contains pairs p → (from ≤ p.key) × (p.key < to)
+  pub stood : Rise v.seen pairs w.seen
+  pub all : (key : ℕ) → from ≤ key → key < to → StoodThroughout key v w → HasKey pairs key ⊎ ((length pairs ≡ places) × ((p : Pair) → Contains pairs p → p.key < key))

@@ -1,0 +1,99 @@
+//! A worker's scans.
+//!
+//! Each pair that is told stood at a moment within the call. Of a single pair this is one moment, at which no key stood between
+//! it and the key that was asked for. Of a range it is one for each pair, and these moments rise.
+ghost use Rattle.std.specs.Prelude.{◌≡◌, ℕ, ◌+◌, length, take, drop};
+ghost use Rattle.optimistic.specs.face.Calls.{Saw};
+ghost use Rattle.optimistic.specs.face.Scans.{FirstFrom, Emptiness, IsScan};
+
+use crate::drain::Pair;
+use crate::face::worker::Worker;
+use std::sync::Wait;
+
+impl<'t> Worker<'t> {
+    /// The pair with the least key that isn't below this one, or `None` if there was none. It was so at one moment within the
+    /// call: after all that the worker had seen of the log before, and before all that it has seen then.
+    pub fn at_or_after<R: Wait>(&mut self, rt: &R, key: u64) -> Option<Pair>
+        ensures { FirstFrom key result self.old self.new }
+    {
+        self.tree.next_from(rt, &mut self.hand, key)
+    }
+
+    /// The pair with the least key, or `None` if there was none, at one moment within the call.
+    pub fn first<R: Wait>(&mut self, rt: &R) -> Option<Pair>
+        ensures { FirstFrom 0 result self.old self.new }
+    {
+        self.at_or_after(rt, 0)
+    }
+
+    /// The pair with the least key above this one, or `None` if there was none, at one moment within the call.
+    pub fn next_after<R: Wait>(&mut self, rt: &R, key: u64) -> Option<Pair>
+        ensures { FirstFrom (key + 1) result self.old self.new }
+    {
+        match key.checked_add(1) {
+            Some(next) => self.at_or_after(rt, next),
+            None => {
+                self.at_or_after(rt, key);
+                None
+            }
+        }
+    }
+
+    /// Whether no key had a value, at one moment within the call.
+    pub fn is_empty<R: Wait>(&mut self, rt: &R) -> bool
+        ensures { Emptiness result self.old self.new }
+    {
+        match self.first(rt) {
+            Some(_) => false,
+            None => true,
+        }
+    }
+
+    /// Writes pairs with start <= key < end into `out`, ascending, and gives their number. Each stood at a moment within the
+    /// call, and these moments rise. A key that stood throughout the call is there, unless the places are filled with lower keys.
+    /// The places past those that are written stay as they were.
+    pub fn range<R: Wait>(&mut self, rt: &R, start: u64, end: u64, out: &mut [Pair]) -> usize
+        ensures scan { IsScan start end (length out.old) self.old self.new (take result out.new) }
+        ensures saw { Saw self.old self.new }
+        ensures past { drop result out.new ≡ drop result out.old }
+    {
+        match end.checked_sub(1) {
+            Some(last) => self.range_inclusive(rt, start, last, out),
+            None => 0,
+        }
+    }
+
+    /// The same of start <= key <= last.
+    pub fn range_inclusive<R: Wait>(
+        &mut self,
+        rt: &R,
+        start: u64,
+        last: u64,
+        out: &mut [Pair],
+    ) -> usize
+        ensures scan { IsScan start (last + 1) (length out.old) self.old self.new (take result out.new) }
+        ensures saw { Saw self.old self.new }
+        ensures past { drop result out.new ≡ drop result out.old }
+    {
+        if start > last {
+            return 0;
+        }
+        let mut from = start;
+        let mut count = 0;
+        while count < out.len() {
+            let Some(pair) = self.at_or_after(rt, from) else {
+                return count;
+            };
+            if pair.key > last {
+                return count;
+            }
+            out[count] = pair;
+            count += 1;
+            if pair.key == last {
+                return count;
+            }
+            from = pair.key + 1;
+        }
+        count
+    }
+}

@@ -1,0 +1,326 @@
+//! The next pair from a key on, as it is at one moment.
+//!
+//! The way down to a key tells its value, or that no key up to some later one has one. That holds as long as the version stays
+//! of the node that told it. So the next pair is found by some ways down, and it is the next one at one moment if each of the
+//! nodes that told of the keys before it still has its version once the pair is known.
+ghost use Rattle.std.specs.Prelude.{◌≡◌, ◌≢◌, ℕ, ◌<◌, ◌≤◌, ◌⊎◌, ◌+◌, true, IfSome, List};
+ghost use Rattle.optimistic.specs.declared.words.rule.Entry.{Entry};
+ghost use Rattle.optimistic.specs.Layout.{width, room};
+ghost use Rattle.optimistic.specs.words.Calls.{Keeps, Later};
+ghost use Rattle.optimistic.specs.words.Kept.{word_at, Since};
+ghost use Rattle.optimistic.specs.words.Told.{view, IsOf, HasForm, Looks};
+ghost use Rattle.optimistic.specs.tree.Nexts.{IsFirst};
+ghost use Rattle.optimistic.specs.tree.Reads.{IsPlace};
+ghost use Rattle.optimistic.specs.tree.Sights.{Lacks, Shows, Knows, IsSight, Stood};
+ghost use Rattle.optimistic.specs.tree.Trees.{IsTree};
+
+use crate::drain::Pair;
+use crate::drain::keys::last_key;
+use crate::drain::nexts::{Next, next_of_item};
+use crate::forms::gaps::{gap_among, gap_of_values};
+use crate::forms::names::{key_byte, where_word};
+use crate::moves::{Item, room_of};
+use crate::tree::get::{ATTEMPTS, TOP, Tree};
+use crate::tree::place::Place;
+use crate::words::Hand;
+use std::hint::spin_loop;
+use std::sync::Wait;
+use std::thread::yield_now;
+
+/// How many ways down the next pair may take: three for each of eight levels, and some to spare.
+const WAYS: u32 = 32;
+
+/// What a node told at a version, which holds while it has that version.
+#[derive(Clone, Copy, Drop)]
+pub struct Sight {
+    pub at: Place,
+    pub version: u64,
+    pub next: Next,
+}
+
+/// The byte before `to`, if that comes after `byte`.
+#[inline(always)]
+fn byte_before(to: usize, byte: u8) -> u8
+    requires { to ≤ 256 }
+    ensures { (byte ≤ result) × ((result ≡ byte) ⊎ (result < to)) }
+{
+    if to > byte as usize {
+        (to - 1) as u8
+    } else {
+        byte
+    }
+}
+
+impl Tree {
+    /// From a byte on, the bytes at which a node of four has no child.
+    #[inline(always)]
+    fn gap_of_four(&self, hand: &mut Hand, at: Place, from: u8) -> usize
+        requires of { IsOf self.now.nodes.table.shared.table_id hand.old }
+        requires at { IsPlace at (view hand.old) }
+        requires form { room at.form ≡ 4 }
+        ensures of { IsOf self.now.nodes.table.shared.table_id hand.new }
+        ensures looks { Looks IsTree (view hand.old) (view hand.new) }
+        ensures bounds { (from ≤ result) × (result ≤ 256) }
+        ensures lacks { Lacks at.node at.form from result (view hand.old) (view hand.new) }
+    {
+        let word = self.read(hand, at.node, at.form, 2);
+        gap_among(&[word], (word >> 32) % 256, from)
+    }
+
+    /// The same of a node of sixteen.
+    #[inline(always)]
+    fn gap_of_sixteen(&self, hand: &mut Hand, at: Place, from: u8) -> usize
+        requires of { IsOf self.now.nodes.table.shared.table_id hand.old }
+        requires at { IsPlace at (view hand.old) }
+        requires form { room at.form ≡ 16 }
+        ensures of { IsOf self.now.nodes.table.shared.table_id hand.new }
+        ensures looks { Looks IsTree (view hand.old) (view hand.new) }
+        ensures bounds { (from ≤ result) × (result ≤ 256) }
+        ensures lacks { Lacks at.node at.form from result (view hand.old) (view hand.new) }
+    {
+        let a = self.read(hand, at.node, at.form, 2);
+        let b = self.read(hand, at.node, at.form, 3);
+        let mask = self.read(hand, at.node, at.form, 4);
+        gap_among(&[a, b], mask % 65_536, from)
+    }
+
+    /// The same of a node of forty-eight.
+    #[inline(always)]
+    fn gap_of_forty_eight(&self, hand: &mut Hand, at: Place, from: u8) -> usize
+        requires of { IsOf self.now.nodes.table.shared.table_id hand.old }
+        requires at { IsPlace at (view hand.old) }
+        requires form { room at.form ≡ 48 }
+        ensures of { IsOf self.now.nodes.table.shared.table_id hand.new }
+        ensures looks { Looks IsTree (view hand.old) (view hand.new) }
+        ensures bounds { (from ≤ result) × (result ≤ 256) }
+        ensures lacks { Lacks at.node at.form from result (view hand.old) (view hand.new) }
+    {
+        let a = self.read(hand, at.node, at.form, 2);
+        let b = self.read(hand, at.node, at.form, 3);
+        let c = self.read(hand, at.node, at.form, 4);
+        let d = self.read(hand, at.node, at.form, 5);
+        let e = self.read(hand, at.node, at.form, 6);
+        let f = self.read(hand, at.node, at.form, 7);
+        let mask = self.read(hand, at.node, at.form, 8);
+        gap_among(&[a, b, c, d, e, f], mask % 281_474_976_710_656, from)
+    }
+
+    /// The same of a node of 256 children.
+    #[inline(always)]
+    fn gap_of_wide(&self, hand: &mut Hand, node: usize, from: u8) -> usize
+        requires of { IsOf self.now.nodes.table.shared.table_id hand.old }
+        requires at { HasForm node 4 (view hand.old) }
+        ensures of { IsOf self.now.nodes.table.shared.table_id hand.new }
+        ensures looks { Looks IsTree (view hand.old) (view hand.new) }
+        ensures bounds { (from ≤ result) × (result ≤ 256) }
+        ensures lacks { Lacks node 4 from result (view hand.old) (view hand.new) }
+    {
+        for byte in from as usize..256 {
+            let first = self.read(hand, node, 4, 8 + 2 * byte);
+            if first != 0 {
+                return byte;
+            }
+        }
+        256
+    }
+
+    /// The same of a node of 256 values.
+    #[inline(always)]
+    fn gap_of_wide_values(&self, hand: &mut Hand, node: usize, from: u8) -> usize
+        requires of { IsOf self.now.nodes.table.shared.table_id hand.old }
+        requires at { HasForm node 8 (view hand.old) }
+        ensures of { IsOf self.now.nodes.table.shared.table_id hand.new }
+        ensures looks { Looks IsTree (view hand.old) (view hand.new) }
+        ensures bounds { (from ≤ result) × (result ≤ 256) }
+        ensures lacks { Lacks node 8 from result (view hand.old) (view hand.new) }
+    {
+        let a = self.read(hand, node, 8, 2);
+        let b = self.read(hand, node, 8, 3);
+        let c = self.read(hand, node, 8, 4);
+        let d = self.read(hand, node, 8, 5);
+        gap_of_values(&[a, b, c, d], from)
+    }
+
+    /// The same of a node of 256.
+    #[inline(always)]
+    fn gap_of_256(&self, hand: &mut Hand, at: Place, from: u8) -> usize
+        requires of { IsOf self.now.nodes.table.shared.table_id hand.old }
+        requires at { IsPlace at (view hand.old) }
+        requires form { room at.form ≡ 256 }
+        ensures of { IsOf self.now.nodes.table.shared.table_id hand.new }
+        ensures looks { Looks IsTree (view hand.old) (view hand.new) }
+        ensures bounds { (from ≤ result) × (result ≤ 256) }
+        ensures lacks { Lacks at.node at.form from result (view hand.old) (view hand.new) }
+    {
+        if at.form < 5 {
+            self.gap_of_wide(hand, at.node, from)
+        } else {
+            self.gap_of_wide_values(hand, at.node, from)
+        }
+    }
+
+    /// From a byte on, the bytes at which a node has no child.
+    fn gap(&self, hand: &mut Hand, at: Place, from: u8) -> usize
+        requires of { IsOf self.now.nodes.table.shared.table_id hand.old }
+        requires at { IsPlace at (view hand.old) }
+        ensures of { IsOf self.now.nodes.table.shared.table_id hand.new }
+        ensures looks { Looks IsTree (view hand.old) (view hand.new) }
+        ensures bounds { (from ≤ result) × (result ≤ 256) }
+        ensures lacks { Lacks at.node at.form from result (view hand.old) (view hand.new) }
+    {
+        match room_of(at.form) {
+            4 => self.gap_of_four(hand, at, from),
+            16 => self.gap_of_sixteen(hand, at, from),
+            48 => self.gap_of_forty_eight(hand, at, from),
+            _ => self.gap_of_256(hand, at, from),
+        }
+    }
+
+    /// What a node tells of the next pair from a key on, if it covers the key and stays as it is meanwhile.
+    fn next_at(&self, hand: &mut Hand, at: Place, from: u64) -> Next
+        requires of { IsOf self.now.nodes.table.shared.table_id hand.old }
+        requires at { IsPlace at (view hand.old) }
+        ensures of { IsOf self.now.nodes.table.shared.table_id hand.new }
+        ensures looks { Looks IsTree (view hand.old) (view hand.new) }
+        ensures knows { Knows from result (view hand.new) }
+        ensures shows { Shows at from result (view hand.old) (view hand.new) }
+    {
+        let byte = key_byte(from, at.level);
+        let child = self.child(hand, at, from, byte);
+        let some = child.first != 0;
+        if some {
+            let item = Item {
+                byte,
+                first: child.first,
+                last: child.second,
+            };
+            return next_of_item(item, at, from);
+        }
+        let to = self.gap(hand, at, byte);
+        let end = byte_before(to, byte);
+        Next::After(last_key(from, at.level, end))
+    }
+
+    /// What a node on the way to a key tells, with its version, if it covers the key and nobody has it.
+    fn sight_at(&self, hand: &mut Hand, at: Place, from: u64) -> Option<Sight>
+        requires of { IsOf self.now.nodes.table.shared.table_id hand.old }
+        requires at { IsPlace at (view hand.old) }
+        ensures of { IsOf self.now.nodes.table.shared.table_id hand.new }
+        ensures looks { Looks IsTree (view hand.old) (view hand.new) }
+        ensures sight { IfSome result (λ s. IsSight s from (view hand.new)) }
+    {
+        let version = self.nodes.load(hand, at.node, at.form, 0);
+        let next = self.next_at(hand, at, from);
+        let sight = Sight { at, version, next };
+        if let Next::Down(_) = next {
+            return Some(sight);
+        }
+        let found = self.read(hand, at.node, at.form, 1);
+        let word = where_word(at.form, at.level, from);
+        if found != word {
+            return None;
+        }
+        if version % 2 == 1 {
+            return None;
+        }
+        Some(sight)
+    }
+
+    /// What the last node on the way to a key tells.
+    fn sight(&self, hand: &mut Hand, from: u64) -> Option<Sight>
+        requires of { IsOf self.now.nodes.table.shared.table_id hand.old }
+        ensures of { IsOf self.now.nodes.table.shared.table_id hand.new }
+        ensures looks { Looks IsTree (view hand.old) (view hand.new) }
+        ensures sight { IfSome result (λ s. IsSight s from (view hand.new)) }
+    {
+        let mut sight = self.sight_at(hand, TOP, from);
+        for _ in 0..9 {
+            let Some(seen) = sight else {
+                return None;
+            };
+            match seen.next {
+                Next::Down(below) => sight = self.sight_at(hand, below, from),
+                _ => return Some(seen),
+            }
+        }
+        None
+    }
+
+    /// The pair, if the node that was seen still has its version.
+    fn confirm(&self, hand: &mut Hand, sight: Sight, first: Option<Pair>) -> Option<Option<Pair>>
+        requires of { IsOf self.now.nodes.table.shared.table_id hand.old }
+        requires place { IsPlace sight.at (view hand.old) }
+        ensures of { IsOf self.now.nodes.table.shared.table_id hand.new }
+        ensures looks { Looks IsTree (view hand.old) (view hand.new) }
+        ensures still { IfSome result (λ r. (r ≡ first) × (word_at (view hand.new).seen.words sight.at.node 0 ≡ sight.version)) }
+    {
+        let version = self.nodes.load(hand, sight.at.node, sight.at.form, 0);
+        if version != sight.version {
+            return None;
+        }
+        Some(first)
+    }
+
+    /// The first pair from a key on, if no writer comes between, found by so many ways down and one more.
+    fn try_next(&self, hand: &mut Hand, from: u64, ways: u32) -> Option<Option<Pair>>
+        requires of { IsOf self.now.nodes.table.shared.table_id hand.old }
+        ensures of { IsOf self.now.nodes.table.shared.table_id hand.new }
+        ensures looks { Looks IsTree (view hand.old) (view hand.new) }
+        ensures first { IfSome result (λ r. Stood (λ log. IsFirst log from r) (view hand.old) (view hand.new)) }
+    {
+        let Some(sight) = self.sight(hand, from) else {
+            return None;
+        };
+        match sight.next {
+            Next::Here(value) => self.confirm(hand, sight, Some(Pair { key: from, value })),
+            Next::Down(_) => None,
+            Next::After(last) => {
+                if last == u64::MAX {
+                    return self.confirm(hand, sight, None);
+                }
+                if ways == 0 {
+                    return None;
+                }
+                match self.try_next(hand, last + 1, ways - 1) {
+                    Some(first) => self.confirm(hand, sight, first),
+                    None => None,
+                }
+            }
+        }
+    }
+
+    /// The same, some times where a writer comes between.
+    fn next_soon(&self, hand: &mut Hand, from: u64) -> Option<Option<Pair>>
+        requires of { IsOf self.now.nodes.table.shared.table_id hand.old }
+        ensures of { IsOf self.now.nodes.table.shared.table_id hand.new }
+        ensures later { Later (view hand.old) (view hand.new) }
+        ensures mine { (view hand.new).mine ≡ (view hand.old).mine }
+        ensures since { Since (view hand.old).seen (view hand.new).seen }
+        ensures first { IfSome result (λ r. Keeps (view hand.old) (view hand.new) × Stood (λ log. IsFirst log from r) (view hand.old) (view hand.new)) }
+    {
+        for _ in 0..ATTEMPTS {
+            if let Some(first) = self.try_next(hand, from, WAYS) {
+                return Some(first);
+            }
+            spin_loop();
+        }
+        None
+    }
+
+    /// The first pair from a key on, as it was at one moment within the call.
+    pub fn next_from<R: Wait>(&self, rt: &R, hand: &mut Hand, from: u64) -> Option<Pair>
+        requires of { IsOf self.now.nodes.table.shared.table_id hand.old }
+        ensures of { IsOf self.now.nodes.table.shared.table_id hand.new }
+        ensures keeps { Keeps (view hand.old) (view hand.new) }
+        ensures mine { (view hand.new).mine ≡ (view hand.old).mine }
+        ensures first { Stood (λ log. IsFirst log from result) (view hand.old) (view hand.new) }
+    {
+        for _ in rt.forever() {
+            if let Some(first) = self.next_soon(hand, from) {
+                return first;
+            }
+            yield_now();
+        }
+        unreachable!()
+    }
+}
