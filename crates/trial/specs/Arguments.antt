@@ -25,7 +25,7 @@ Asks _ asked = ⊥
 
 -- what is printed where they ask for nothing that the program does
 abbrev pub usage_text : List ℕ
-usage_text = codes "usage: trial [threads N M]\n"
+usage_text = codes "usage: trial [threads N M], where 1 <= N <= 16 and 1 <= M <= 10000\n"
 
 -- the status is 2 where it was printed, and 1 where the writer failed
 abbrev pub TellsUsage : ℕ → List ℕ → Type 0

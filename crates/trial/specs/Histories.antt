@@ -1,5 +1,5 @@
 -- What the program prints of workers that called at once.
-use Rattle.std.specs.Prelude.{◌≡◌, ◌==◌, ◌⊎◌, ◌↔◌, ℕ, ◌+◌, ◌*◌, ◌%◌, true, IfOk, IsOk, IsTrue, if◌then◌else◌, List, ◌++◌, Option, Some, Result, Ok, Err, Vec, codes, decimal, length, slice_get, take}
+use Rattle.std.specs.Prelude.{◌≡◌, ◌==◌, ◌⊎◌, ◌↔◌, ◌||◌, ◌&&◌, Bool, nat_lt, ℕ, ◌+◌, ◌-◌, ◌*◌, ◌/◌, ◌%◌, true, IfOk, IsOk, IsTrue, if◌then◌else◌, List, ◌++◌, Option, Some, Result, Ok, Err, Vec, codes, decimal, length, slice_get, take}
 use Rattle.std.specs.declared.alloc.Global.{Global}
 use Rattle.std.specs.Io.KnownBytes.{Appends}
 use Rattle.judge.specs.declared.checker.Verdict.TheVariants.{Legal}
@@ -14,15 +14,23 @@ use Rattle.trial.specs.declared.reply.Refused.TheVariants as refused
 use Rattle.trial.specs.declared.reply.Reply.TheVariants as reply
 use Rattle.trial.specs.Texts.{printed, reply_text, truth_text}
 
+-- the keys on which workers call, by numbers below 97: sixty side by side in one leaf, the others in leaves of their own at three depths
+abbrev pub key_of : ℕ → ℕ
+key_of n = if nat_lt n 60 then n else (n - 59) * (if n % 3 == 0 then 256 else if n % 3 == 1 then 65536 else 16777216)
+
 -- the key of a worker's call, by the numbers of both
 abbrev pub key_at : ℕ → ℕ → ℕ
-key_at worker number = (7 * worker + number) % 64
+key_at worker number = key_of ((7 * worker + number / 2) % 97)
+
+-- whether a call is a removal: of each four the last is, and in every second run of 512 the first as well
+abbrev pub takes_out : ℕ → Bool
+takes_out number = (number % 4 == 3) || ((number % 4 == 0) && (number / 512 % 2 == 1))
 
 -- a worker's call, of so many
 abbrev pub call_at : ℕ → ℕ → ℕ → Call ℕ
 call_at calls worker number =
     if number % 4 == 1 then Get (key_at worker number)
-    else if number % 4 == 2 then Remove (key_at worker number)
+    else if takes_out number then Remove (key_at worker number)
     else Insert (key_at worker number) (worker * calls + number)
 
 -- the entries are of a worker's first calls, in their order

@@ -21,7 +21,7 @@ use std::sync::Wait;
 use std::thread::Threads;
 
 /// What is printed where the arguments ask for nothing that the program does.
-const USAGE: &[u8] = b"usage: trial [threads N M]\n";
+const USAGE: &[u8] = b"usage: trial [threads N M], where 1 <= N <= 16 and 1 <= M <= 10000\n";
 
 /// Takes the usage, and tells the exit status: 2, or 1 where the writer fails.
 fn status_of_usage<W: Write>(writer: &mut W) -> u8

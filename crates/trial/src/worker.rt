@@ -1,6 +1,6 @@
 //! A worker of the program that lets threads call.
-ghost use Rattle.std.specs.Prelude.{◌≡◌, IfOk, length};
-ghost use Rattle.trial.specs.Histories.{AreCalls, call_at, key_at};
+ghost use Rattle.std.specs.Prelude.{◌≡◌, ◌<◌, IfOk, length};
+ghost use Rattle.trial.specs.Histories.{AreCalls, call_at, key_at, key_of, takes_out};
 ghost use Rattle.trial.specs.declared.worker.Cut.TheVariants as why;
 
 use congee::DefaultAllocator;
@@ -63,12 +63,41 @@ pub struct Worked<L: Ledger> {
     pub own: Vec<Entry<u64>>,
 }
 
+/// How many keys the workers call on.
+pub const KEYS: u64 = 97;
+
+/// The key of each number below `KEYS`: sixty lie side by side in one leaf, the others in leaves of their own at three depths.
+pub fn key_of(number: u64) -> u64
+    requires few { number < 97 }
+    ensures { result ≡ key_of number }
+{
+    if number < 60 {
+        return number;
+    }
+    match number % 3 {
+        0 => (number - 59) * 256,
+        1 => (number - 59) * 65_536,
+        _ => (number - 59) * 16_777_216,
+    }
+}
+
+/// Whether the call of this number is a removal: one in four while a worker's keys become more, and two while they become fewer.
+fn takes_out(number: u32) -> bool
+    ensures { result ≡ takes_out number }
+{
+    match number % 4 {
+        0 => number / 512 % 2 == 1,
+        3 => true,
+        _ => false,
+    }
+}
+
 impl<L: Ledger> Caller<L> {
-    /// The key of its call of this number.
+    /// The key of its call of this number. Two calls in a row have the same.
     fn key(&self, number: u32) -> u64
         ensures { result ≡ key_at self.now.place number }
     {
-        (7 * u64::from(self.place) + u64::from(number)) % 64
+        key_of((7 * u64::from(self.place) + u64::from(number / 2)) % KEYS)
     }
 
     /// Makes its call of this number, of so many, under a guard.
@@ -85,20 +114,16 @@ impl<L: Ledger> Caller<L> {
     {
         let key = self.key(number);
         let (share, worker) = (&mut self.share, &mut self.worker);
-        let (call, reply) = match number % 4 {
-            1 => (
-                Call::Get(key),
-                Reply::Get(index.get(rt, &key, worker, guard)?),
-            ),
-            2 => (
-                Call::Remove(key),
-                Reply::Remove(index.remove(rt, &key, share, worker, guard)?),
-            ),
-            _ => {
-                let value = u64::from(self.place) * u64::from(calls) + u64::from(number);
-                let before = index.insert(rt, key, value, share, worker, guard)?;
-                (Call::Insert(key, value), Reply::Insert(before))
-            }
+        let (call, reply) = if number % 4 == 1 {
+            let found = index.get(rt, &key, worker, guard)?;
+            (Call::Get(key), Reply::Get(found))
+        } else if takes_out(number) {
+            let before = index.remove(rt, &key, share, worker, guard)?;
+            (Call::Remove(key), Reply::Remove(before))
+        } else {
+            let value = u64::from(self.place) * u64::from(calls) + u64::from(number);
+            let before = index.insert(rt, key, value, share, worker, guard)?;
+            (Call::Insert(key, value), Reply::Insert(before))
         };
         Ok(Entry {
             worker: self.worker.number(),

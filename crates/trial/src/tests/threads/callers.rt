@@ -5,7 +5,7 @@ use super::trees::{Told, raised_or, recorded_called, spent};
 use crate::tests::asserts::assert_same;
 use crate::tests::machine::drawn::number_in;
 use crate::threads::callers;
-use crate::worker::{Caller, Cut, Index};
+use crate::worker::{Caller, Cut, Index, KEYS, key_of};
 use congee::DefaultAllocator;
 use joint::{Guard, Journaled, Limits, Refusal, Share, Worker, audit};
 use judge::{Call, Entry, Reply, Verdict, check};
@@ -33,20 +33,30 @@ struct Worked<L: Ledger> {
     is_scanned: bool,
 }
 
-/// A worker's call of this number. Each value tells its key, by what is left of it modulo 64; a closure adds 64 to it, or takes
-/// every second one out.
-fn call_at(place: u32, number: u64) -> Call<u64> {
-    let key = u64::from(place).wrapping_mul(7).wrapping_add(number) % 64;
-    let value = (number % 8).wrapping_mul(64).wrapping_add(key);
+/// A value tells its key, by what is left of it modulo this.
+const STEP: u64 = 128;
+
+/// A value that tells the key of this place.
+fn value_at(place: u64, number: u64) -> u64 {
+    (number % 8).wrapping_mul(STEP).wrapping_add(place)
+}
+
+/// The key that a value tells.
+fn told_by(value: u64) -> Option<u64> {
+    let place = value % STEP;
+    if place < KEYS { Some(key_of(place)) } else { None }
+}
+
+/// A worker's call of this number. A closure adds to its value, or takes every second one out.
+fn call_at(worker: u32, number: u64) -> Call<u64> {
+    let place = u64::from(worker).wrapping_mul(7).wrapping_add(number) % KEYS;
+    let (key, value) = (key_of(place), value_at(place, number));
     match number % 8 {
         1 => Call::Get(key),
         2 => Call::Remove(key),
-        3 => Call::ComputePresent(key, if number % 16 < 8 { Some(64) } else { None }),
+        3 => Call::ComputePresent(key, if number % 16 < 8 { Some(STEP) } else { None }),
         5 => Call::ComputeInsert(key, value),
-        6 => {
-            let old = (number / 8 % 8).wrapping_mul(64).wrapping_add(key);
-            Call::Exchange(key, old, Some(value))
-        }
+        6 => Call::Exchange(key, value_at(place, number / 8), Some(value)),
         _ => Call::Insert(key, value),
     }
 }
@@ -92,10 +102,10 @@ fn scans<L: Ledger, R: Wait>(
     from: u64,
 ) -> Result<bool, Refusal> {
     let mut out = [(0, 0); 20];
-    let count = index.range(rt, &from, &64, &mut out, worker, guard)?;
+    let count = index.range(rt, &from, &u64::MAX, &mut out, worker, guard)?;
     let mut right = true;
     for (key, value) in out.iter().take(count) {
-        right &= *key >= from && *value % 64 == *key;
+        right &= *key >= from && told_by(*value) == Some(*key);
     }
     Ok(right)
 }
@@ -114,7 +124,7 @@ fn calls_pinned<L: Ledger, R: Wait>(
             index,
             &mut caller.worker,
             &guard,
-            u64::from(number) % 64,
+            key_of(u64::from(number) % KEYS),
         )
     } else {
         Ok(true)
