@@ -169,14 +169,15 @@ module _ {V : Type 0} (same : V → V → Bool) (most : ℕ) where
   AreTold s (t ∷ ts) [] = ⊥
   AreTold s (t ∷ ts) (r ∷ rs) = StepTells s t r × AreTold (step_after s t) ts rs
 
--- a step that wasn't refused for memory, budget, cells, journal, a copy or misuse; that no version is left is no such cause,
--- since both runs tell it
+-- an answer that isn't a refusal for memory, budget, cells, journal, a copy or misuse; that no version is left is no such
+-- cause, since both runs tell it
 abbrev pub IsUnrefused : {V : Type 0} → Outcome V → Type 0
 IsUnrefused o = (e : Refusal) → o ≡ Refused e → e ≡ Exhausted
 
--- nor went on without a node for want of memory, budget or cells
+-- a step on the tree wasn't refused so, nor went on without a node for want of memory, budget or cells; what the collector
+-- refuses counts for nothing
 abbrev pub IsUnhindered : {V : Type 0} → Report V → Type 0
-IsUnhindered r = IsUnrefused r.outcome × (r.skipped ≡ false)
+IsUnhindered r = r.kind ≡ Tree → IsUnrefused r.outcome × (r.skipped ≡ false)
 
 -- so are all these reports
 abbrev pub AreUnrefused : {V : Type 0} → List (Report V) → Type 0

@@ -26,7 +26,7 @@ pub record KeepsPromises {V : Type 0} (same : V → V → Bool) (always : Bool) 
   -- places are full of lesser ones
   pub scans : ScansHold one_map.lines
   pub empty_scans : EmptyScansHold one_map.lines
-  -- where nothing is refused, what is told on the tree is what the plain run of the steps on the tree tells, which knows no
+  -- where nothing is refused on the tree, what is told on the tree is what the plain run of the steps on the tree tells, which knows no
   -- collector
   pub unseen : AreUnrefused reports → AreTold same limits.version_max opened_plain (projection steps reports) (answers steps reports)
   -- its steps, with the state after each

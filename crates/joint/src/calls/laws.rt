@@ -89,8 +89,8 @@ pub fn comes_back<P: Payload + Small>()
     crossbeam_epoch::World::<Slot<P>, ()>::parts();
 }
 
-/// Reclamation can't be seen: a run that refuses nothing tells on the tree what the plain run of its steps there tells, and
-/// leaves both agreeing. So two such runs with equal steps on the tree tell the same. An index as it opens agrees with the
+/// Reclamation can't be seen: a run that refuses nothing on the tree, whatever it refuses of the collector, tells there what the
+/// plain run of its steps there tells, and leaves both agreeing. So two such runs with equal steps on the tree tell the same. An index as it opens agrees with the
 /// plain run's first state.
 pub fn runs_plain<P: Payload + Small, A: Allocator>()
     ensures follows { (s s' : World P) (steps : List (Step P)) (reports : List (Report P)) (order : List ℕ) (p : Plain P) → Holds P.same_as P.always_copies s → IsRun P.same_as P.always_copies s steps reports s' → AreUnrefused reports → Agree s order p → FollowsRun P.same_as s.forest.version_max steps reports s' order p }

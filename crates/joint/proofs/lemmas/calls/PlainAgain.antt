@@ -11,6 +11,9 @@ use Rattle.congee.specs.protocol.PlainSteps.{Plain}
 use Rattle.joint.specs.engine.Engine.{finds_none}
 use Rattle.joint.specs.Reports.{told}
 use Rattle.joint.specs.declared.refusal.Refusal.TheVariants.{Exhausted, Memory}
+use Rattle.joint.specs.declared.steps.Event.{Event}
+use Rattle.joint.specs.declared.steps.Kind.{Kind}
+use Rattle.joint.specs.declared.steps.Kind.TheVariants as kind
 use Rattle.joint.specs.declared.steps.Done.TheVariants.{Keys, Empty, Stats}
 use Rattle.joint.specs.declared.steps.Outcome.{Outcome}
 use Rattle.joint.specs.declared.steps.Outcome.TheVariants.{Done, Refused}
@@ -19,9 +22,14 @@ use Rattle.joint.specs.declared.steps.Step.{Step}
 use Rattle.joint.specs.declared.steps.Survey.{Survey}
 use Rattle.joint.specs.declared.steps.Survey.TheVariants as survey
 use Rattle.joint.specs.nodes.Levels.{nodes_of}
-use Rattle.joint.specs.calls.Plain.{TreeEvent, Starts, Tells, Goes, TreeStep, tree_step, projection, start_told, plain_went, step_after, EventTells, AreTold, IsUnrefused, IsUnhindered, AreUnrefused, SameAnswer, AreSame, answers, with_first}
+use Rattle.joint.specs.calls.Plain.{TreeEvent, Starts, Tells, Goes, TreeStep, step_at, event_at, projection, start_told, plain_went, step_after, EventTells, AreTold, IsUnrefused, IsUnhindered, AreUnrefused, SameAnswer, AreSame, answers, with_first}
 use Rattle.joint.specs.nodes.Survey.{IsEmptiness}
 use Rattle.joint.specs.engine.Surveys.{TellsOf, TellsKeys, TellsEmpty, TellsStats}
+
+-- none of these is a refusal, but as Exhausted
+abbrev NoneRefused : {V : Type 0} → List (Report V) → Type 0
+NoneRefused [] = Unit {0}
+NoneRefused (r ∷ rs) = IsUnrefused r.outcome × NoneRefused rs
 
 no_memory : {V : Type 0} {A : Type 0} → IsUnrefused {V = V} (Refused Memory) → A
 no_memory {V} un = let z : Memory ≡ Exhausted = un Memory refl in absurd cc
@@ -81,23 +89,27 @@ module _ {V : Type 0} (same : V → V → Bool) (most : ℕ) where
       (x.0 ∙ sym y.0, both a.outcome b.outcome (told (plain_went same most p w noise).next_phase.report.outcome) x.1 y.1 (told_itself (plain_went same most p w noise).next_phase.report.outcome))
 
   -- two plain runs of the same steps
-  told_again : (p : Plain V) (ts : List (TreeStep V)) (rs qs : List (Report V)) → AreTold same most p ts rs → AreTold same most p ts qs → AreUnrefused rs → AreUnrefused qs → AreSame rs qs
+  told_again : (p : Plain V) (ts : List (TreeStep V)) (rs qs : List (Report V)) → AreTold same most p ts rs → AreTold same most p ts qs → NoneRefused rs → NoneRefused qs → AreSame rs qs
   told_again p [] [] [] x y u v = tt
   told_again p [] [] (b ∷ qs) x y u v = absurd y
   told_again p [] (a ∷ rs) qs x y u v = absurd x
   told_again p (t ∷ ts) [] qs x y u v = absurd x
   told_again p (t ∷ ts) (a ∷ rs) [] x y u v = absurd y
-  told_again p (t ∷ ts) (a ∷ rs) (b ∷ qs) x y u v = (step_again p t.worker t.event a b x.0 y.0 u.0.0 v.0.0, told_again (step_after same most p t) ts rs qs x.1 y.1 u.1 v.1)
+  told_again p (t ∷ ts) (a ∷ rs) (b ∷ qs) x y u v = (step_again p t.worker t.event a b x.0 y.0 u.0 v.0, told_again (step_after same most p t) ts rs qs x.1 y.1 u.1 v.1)
 
-  -- the answers of a run that refuses nothing
-  first_unrefused : (o : Option (TreeStep V)) (r : Report V) (rs : List (Report V)) → IsUnhindered r → AreUnrefused rs → AreUnrefused (with_first o r rs)
-  first_unrefused None r rs u v = v
-  first_unrefused (Some t) r rs u v = (u, v)
+  -- the answers of a run that refuses nothing on the tree
+  first_unrefused : (w : ℕ) (event : Event V) (k : Kind) (r : Report V) (rs : List (Report V)) → r.kind ≡ k → IsUnhindered r → NoneRefused rs → NoneRefused (with_first (step_at w event k) r rs)
+  first_unrefused w event kind.Collection r rs e u v = v
+  first_unrefused w event kind.Tree r rs e u v = or_unrefused (event_at w event) (u e).0 v
+    where
+      or_unrefused : (o : Option (TreeStep V)) → IsUnrefused r.outcome → NoneRefused rs → NoneRefused (with_first o r rs)
+      or_unrefused None u v = v
+      or_unrefused (Some t) u v = (u, v)
 
-  answers_unrefused : (steps : List (Step V)) (reports : List (Report V)) → AreUnrefused reports → AreUnrefused (answers steps reports)
+  answers_unrefused : (steps : List (Step V)) (reports : List (Report V)) → AreUnrefused reports → NoneRefused (answers steps reports)
   answers_unrefused [] rs u = tt
   answers_unrefused (s ∷ ss) [] u = tt
-  answers_unrefused (s ∷ ss) (r ∷ rs) u = first_unrefused (tree_step s r) r (answers ss rs) u.0 (answers_unrefused ss rs u.1)
+  answers_unrefused (s ∷ ss) (r ∷ rs) u = first_unrefused s.worker s.event r.kind r (answers ss rs) refl u.0 (answers_unrefused ss rs u.1)
 
   -- so two runs with equal steps on the tree, each beside the same plain state, tell the same on it
   pub runs_again : (p : Plain V) (a b : List (Step V)) (q r : List (Report V)) → AreTold same most p (projection a q) (answers a q) → AreTold same most p (projection b r) (answers b r) → AreUnrefused q → AreUnrefused r → projection a q ≡ projection b r

@@ -34,6 +34,7 @@ use Rattle.joint.specs.declared.refusal.Refusal.TheVariants.{Exhausted}
 use Rattle.joint.specs.declared.steps.Outcome.TheVariants.{Refused}
 use Rattle.joint.specs.declared.steps.Report.{Report}
 use Rattle.joint.specs.nodes.Nodes.{Nodes, nodes, Refuses}
+use Rattle.joint.specs.engine.Log.{Log}
 use Rattle.joint.specs.engine.Intact.{call_after, secured_call, secured_machines, over_at, resting, rested}
 use Rattle.joint.specs.engine.Laws.{NumberLaws}
 use Rattle.joint.specs.engine.Safety.{IsSafe, Collected, Walked}
@@ -149,9 +150,9 @@ module _ {V : Type 0} (same : V → V → Bool) (always : Bool) where
       machine_here : (m : Machine Id V) → slice_get s.machines w ≡ Some m → p.calls w ≡ begun 0 op
       machine_here m b = a.calls w (Securing op) m here b
 
-      -- a step that makes places free, and isn't refused, leaves the machine agreeing with the same plain state
-      pub secures : (s' : World V) (r : Report V) (o : CollectorOutcome) → IsUnrefused r.outcome → (x : GoesOnReserving same always s w r s') → x.collector_report.outcome ≡ o → ((m : Machine Id V) → slice_get s'.machines w ≡ Some m → (n : Machine Id V) × (slice_get s.machines w ≡ Some n)) → Agree s' order p
-      secures s' r collector_outcome.Running un x e there =
+      -- a step that makes places free, or is refused, leaves the machine agreeing with the same plain state
+      pub secures : (s' : World V) (r : Report V) (o : CollectorOutcome) → (x : GoesOnReserving same always s w r s') → x.collector_report.outcome ≡ o → ((m : Machine Id V) → slice_get s'.machines w ≡ Some m → (n : Machine Id V) × (slice_get s.machines w ≡ Some n)) → Agree s' order p
+      secures s' r collector_outcome.Running x e there =
           let P : Option (InFlight V) → Type 0 = λ k. s'.calls ≡ set s.calls w (secured_call x.collector_report.outcome k) in
           let Q : CollectorOutcome → Type 0 = λ z. s'.calls ≡ set s.calls w (secured_call z (Some (Securing op))) in
           let R : Option (InFlight V) → Type 0 = λ k. s'.machines ≡ secured_machines x.collector_report.outcome k s.machines w in
@@ -159,7 +160,7 @@ module _ {V : Type 0} (same : V → V → Bool) (always : Bool) where
           let em : s'.machines ≡ s.machines = subst S e (subst R here x.step.machine) in
           collected_agrees s' collector_event.Go x.collector_report x.step.collected a (Securing op) (subst Q e (subst P here x.step.call))
           (λ i m n b. let T : List (Machine Id V) → Type 0 = λ ms. slice_get ms i ≡ Some m in subst T em b) (λ m b. machine_here (there m b).0 (there m b).1)
-      secures s' r collector_outcome.Done un x e there =
+      secures s' r collector_outcome.Done x e there =
           let P : Option (InFlight V) → Type 0 = λ k. s'.calls ≡ set s.calls w (secured_call x.collector_report.outcome k) in
           let Q : CollectorOutcome → Type 0 = λ z. s'.calls ≡ set s.calls w (secured_call z (Some (Securing op))) in
           let R : Option (InFlight V) → Type 0 = λ k. s'.machines ≡ secured_machines x.collector_report.outcome k s.machines w in
@@ -180,9 +181,18 @@ module _ {V : Type 0} (same : V → V → Bool) (always : Bool) where
             | inl z ↦ subst U z.1 (subst W (sym (machine_here (there m b).0 (there m b).1)) (laws.begins order (nodes s'.forest) root 0 op a.root))
             | inr z ↦ absurd (z.0 refl)
           ])
-      secures s' r (collector_outcome.Refused f) un x e there =
-          let z : r.outcome ≡ Refused (of_fault f) = ap (λ y. y.outcome) x.report ∙ ap reserving e in
-          absurd (fault_apart f (un (of_fault f) z))
+      secures s' r (collector_outcome.Refused f) x e there =
+          let P : Option (InFlight V) → Type 0 = λ k. s'.calls ≡ set s.calls w (secured_call x.collector_report.outcome k) in
+          let Q : CollectorOutcome → Type 0 = λ z. s'.calls ≡ set s.calls w (secured_call z (Some (Securing op))) in
+          let R : Option (InFlight V) → Type 0 = λ k. s'.machines ≡ secured_machines x.collector_report.outcome k s.machines w in
+          let S : CollectorOutcome → Type 0 = λ z. s'.machines ≡ secured_machines z (Some (Securing op)) s.machines w in
+          let em : s'.machines ≡ s.machines = subst S e (subst R here x.step.machine) in
+          collected_agrees s' collector_event.Go x.collector_report x.step.collected a Idle (subst Q e (subst P here x.step.call))
+          (λ i m n b. let T : List (Machine Id V) → Type 0 = λ ms. slice_get ms i ≡ Some m in subst T em b) (λ m b. tt)
+
+    -- a call that is over leaves the machine agreeing with the same plain state
+    pub idles : (l : Log V) → Agree s order p → Agree (record s { calls = set s.calls w Idle; log = l }) order p
+    idles l a = exchanged s (record s { calls = set s.calls w Idle; log = l }) w order order p p Idle refl a.ordered a.root a.made a.heap (λ m b. tt) (λ i k m n ak am. a.calls i k m ak am)
 
     -- a call begins
     plain_here : (q : Plain V) (i : ℕ) (m : Machine ℕ V) → (with_call q i m).calls i ≡ m
@@ -221,7 +231,10 @@ module _ {V : Type 0} (same : V → V → Bool) (always : Bool) where
 
     -- a call goes on
     module _ (s' : World V) (noise : Noise Id V) (r : Report V) (m : Machine Id V) (hk : slice_get s.calls w ≡ Some Walking) (hm : slice_get s.machines w ≡ Some m) (safe : IsSafe same always s.forest s.machines)
-        (a : Agree s order p) (x : Walks same always s w noise r s') (un : IsUnhindered r) where
+        (a : Agree s order p) (x : Walks same always s w noise r s') (whole : IsUnhindered r) where
+      un : IsUnrefused r.outcome × (r.skipped ≡ false)
+      un = whole (ap (λ y. y.kind) x.report)
+
       abbrev q : Machine ℕ V
       q = p.calls w
 

@@ -16,14 +16,13 @@ use Rattle.congee.specs.protocol.Play.{begun}
 use Rattle.joint.specs.declared.engine.in_flight.InFlight.{InFlight}
 use Rattle.joint.specs.declared.engine.in_flight.InFlight.TheVariants.{Idle, Collecting, Reserving, Securing, Walking}
 use Rattle.joint.specs.declared.id.Id.{Id}
-use Rattle.joint.specs.declared.refusal.Refusal.TheVariants.{Exhausted, JournalFull, TableFull}
 use Rattle.joint.specs.declared.steps.Event.{Event}
 use Rattle.joint.specs.declared.steps.Event.TheVariants.{Register, Begin, Go}
 use Rattle.joint.specs.declared.steps.Kind.{Kind}
 use Rattle.joint.specs.declared.steps.Kind.TheVariants as kind
 use Rattle.joint.specs.declared.steps.Done.TheVariants.{Scanned}
 use Rattle.joint.specs.declared.steps.Outcome.{Outcome}
-use Rattle.joint.specs.declared.steps.Outcome.TheVariants.{Running, Done}
+use Rattle.joint.specs.declared.steps.Outcome.TheVariants.{Running, Done, Refused}
 use Rattle.joint.specs.declared.steps.Report.{Report}
 use Rattle.joint.specs.declared.steps.Step.{Step}
 use Rattle.joint.specs.declared.steps.Target.{Target}
@@ -37,10 +36,10 @@ use Rattle.joint.specs.Reports.{target, told}
 use Rattle.joint.specs.calls.Runs.{Taken, AreTaken, IsRun, after_all}
 use Rattle.joint.specs.nodes.View.{id_number}
 use Rattle.joint.specs.world.World.{Holds, IsStep, StepsUnless, finds_journal_full}
-use Rattle.joint.specs.engine.Engine.{World, engine_of, misuse, quiet, finds_none, EntersUnless, Reserves, BeginsOnTree, BeginsAt, GoesAt, Proceeds, Does}
+use Rattle.joint.specs.engine.Engine.{World, engine_of, kind_at, misuse, quiet, finds_none, EntersUnless, Reserves, BeginsOnTree, BeginsAt, GoesAt, Proceeds, Does}
 use Rattle.joint.proofs.lemmas.calls.Beside.{steps_unless_beside}
 use Rattle.joint.proofs.lemmas.engine.Collecting.{get_beside}
-use Rattle.joint.proofs.lemmas.calls.PlainCalls.{fault_apart, collects, collected_agrees, secures, enters, reserves, moved_alike, walked_agrees}
+use Rattle.joint.proofs.lemmas.calls.PlainCalls.{fault_apart, collects, collected_agrees, secures, idles, enters, reserves, moved_alike, walked_agrees}
 use Rattle.joint.proofs.lemmas.engine.PlainTells.{map_here, tells_alike}
 use Rattle.congee.proofs.Laws.{set_here}
 
@@ -149,7 +148,7 @@ module _ {V : Type 0} (same : V → V → Bool) (always : Bool) (laws : (f : Nod
         subst P (sym x.report) (collects same always (engine_of s) law order p w (engine_of s') collector_event.Go op r a x)
     call_at (Some (Securing op)) noise r q un x =
         let P : Report V → Type 0 = λ z. Goal (go_of noise z.kind) z in
-        subst P (sym x.report) (secures same always (engine_of s) law order p w op q a (engine_of s') r x.collector_report.outcome un.0 x refl (λ m b. get_beside s.machines s.calls w holds.0.machines (Securing op) q))
+        subst P (sym x.report) (secures same always (engine_of s) law order p w op q a (engine_of s') r x.collector_report.outcome x refl (λ m b. get_beside s.machines s.calls w holds.0.machines (Securing op) q))
     call_at (Some (Reserving op)) noise r q un x =
         let P : Report V → Type 0 = λ z. Goal (go_of noise z.kind) z in
         let calls : x.between.calls ≡ set s.calls w (Securing op) = x.begins.call ∙ ap (λ (k : Option (InFlight V)). set s.calls w (securing_of k)) q in
@@ -158,7 +157,7 @@ module _ {V : Type 0} (same : V → V → Bool) (always : Bool) (laws : (f : Nod
         let middle : Agree x.between order p = collected_agrees same always (engine_of s) law order p w x.between (collector_event.Begin (Secure 2)) x.begins.collector_report x.begins.collected a (Securing op) calls
         (λ i m n b. let R : List (Machine Id V) → Type 0 = λ ms. slice_get ms i ≡ Some m in subst R x.begins.machine b)
         (λ m b. let R : List (Machine Id V) → Type 0 = λ ms. slice_get ms w ≡ Some m in whole_agrees.calls w (Reserving op) m q (subst R x.begins.machine b)) in
-        subst P (sym x.goes.report) (secures same always x.between (laws x.between.forest) order p w op here middle (engine_of s') r x.goes.collector_report.outcome un.0 x.goes refl (λ m b. subst T (sym x.begins.machine) (get_beside s.machines s.calls w holds.0.machines (Reserving op) q)))
+        subst P (sym x.goes.report) (secures same always x.between (laws x.between.forest) order p w op here middle (engine_of s') r x.goes.collector_report.outcome x.goes refl (λ m b. subst T (sym x.begins.machine) (get_beside s.machines s.calls w holds.0.machines (Reserving op) q)))
     call_at (Some Walking) noise r q un x =
         let m = get_beside s.machines s.calls w holds.0.machines Walking q in
         let P : Report V → Type 0 = λ z. Goal (go_of noise z.kind) z in
@@ -179,14 +178,23 @@ module _ {V : Type 0} (same : V → V → Bool) (always : Bool) (laws : (f : Nod
         let R : World V → Type 0 = λ z. Agree z order p in
         subst P (sym x.1.report) (subst R (sym x.1.state) (record { ordered = a.ordered; root = a.root; made = a.made; heap = a.heap; calls = a.calls }))
     proceeds_at Register r un (inr x) =
-        let z : TableFull ≡ Exhausted = un.0 TableFull (ap (λ y. y.outcome) x.report) in
-        absurd cc
+        let P : Report V → Type 0 = λ z. Goal (step_at w Register z.kind) z in
+        let R : World V → Type 0 = λ z. Agree z order p in
+        subst P (sym x.report) (subst R (sym x.state) a)
     proceeds_at (Begin op) r un x = let P : Option (TreeStep V) → Type 0 = λ o. Goal o r in subst P (same_begin op r.kind) (target_at (target op) r x)
     proceeds_at (Go noise) r un x = call_at (slice_get s.calls w) noise r refl un x
 
+    -- one that is, is refused and changes nothing; on the tree it isn't in a run that refuses nothing there
+    misused_at : (event : Event V) (f : Fault) (k : Kind) → IsUnhindered {V = V} (quiet k (Refused (of_fault f))) → engine_of s' ≡ engine_of s → Goal (step_at w event k) (quiet k (Refused (of_fault f)))
+    misused_at event f kind.Collection un e = let R : World V → Type 0 = λ z. Agree z order p in subst R (sym e) a
+    misused_at event f kind.Tree un e = absurd (fault_apart f ((un refl).0 (of_fault f) refl))
+
     does_at : (event : Event V) (o : Option Fault) (r : Report V) → IsUnhindered r → Does same always (engine_of s) w event o r (engine_of s') → Goal (step_at w event r.kind) r
     does_at event None r un x = proceeds_at event r un x
-    does_at event (Some f) r un x = absurd (fault_apart f (un.0 (of_fault f) (ap (λ y. y.outcome) x.0)))
+    does_at event (Some f) r un x =
+        let P : Report V → Type 0 = λ z. Goal (step_at w event z.kind) z in
+        let U : Report V → Type 0 = λ z. IsUnhindered z in
+        subst P (sym x.0) (misused_at event f (kind_at event) (subst U x.0 un) x.1)
 
     whole_again : (n : List ℕ) (q : Plain V) → Agree (engine_of s') n q → Agree s' n q
     whole_again n q x = record { ordered = x.ordered; root = x.root; made = x.made; heap = x.heap; calls = x.calls }
@@ -201,8 +209,9 @@ module _ {V : Type 0} (same : V → V → Bool) (always : Bool) (laws : (f : Nod
 
     unless_at : (event : Event V) (b : Bool) (r : Report V) → IsUnhindered r → StepsUnless same always b s (record { worker = w; event = event }) r s' → FollowsStep same most (step_at w event r.kind) s' r order p
     unless_at event true r un x =
-        let z : JournalFull ≡ Exhausted = un.0 JournalFull (ap (λ y. y.outcome) x.report) in
-        absurd cc
+        let P : Report V → Type 0 = λ z. FollowsStep same most (step_at w event z.kind) s' z order p in
+        let R : World V → Type 0 = λ z. Agree z order p in
+        subst P (sym x.report) (subst R (sym x.state) (idles same always s (laws s.forest) order p w (record s.log { requests = set s.log.requests w None }) whole_agrees))
     unless_at event false r un x =
         let P : Report V → Type 0 = λ z. FollowsStep same most (step_at w event z.kind) s' z order p in
         let Q : Report V → Type 0 = λ z. IsUnhindered z in
@@ -235,7 +244,7 @@ module _ {V : Type 0} (same : V → V → Bool) (always : Bool) (laws : (f : Nod
       (λ order' p' a'. all_follow top t.after ts order' p' (beside.versions ∙ e) x.0.holds x.1 un.1 a') in
       record { told = f.0; now = f.1.0; longer = f.1.1; agree = f.1.2 }
 
-  -- a run that refuses nothing tells on the tree what the plain run tells, and leaves both agreeing
+  -- a run that refuses nothing on the tree tells there what the plain run tells, and leaves both agreeing
   pub run_follows : (s s' : World V) (steps : List (Step V)) (reports : List (Report V)) (order : List ℕ) (p : Plain V) → Holds same always s → IsRun same always s steps reports s' → AreUnrefused reports → Agree s order p
       → FollowsRun same s.forest.version_max steps reports s' order p
   run_follows s s' steps reports order p holds run un a =
