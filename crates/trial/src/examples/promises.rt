@@ -31,7 +31,7 @@ pub fn gives_memory_back(
 }
 
 /// Two indexes on which the same steps were taken on the tree, and anything else between them: pins, flushes, rounds,
-/// collections at other times. Where neither refuses anything, they tell the same, answer by answer.
+/// collections at other times. Where neither refuses anything on the tree, they tell the same, answer by answer.
 pub fn answer_alike(
     alloc: Global,
     limits: Limits,
