@@ -2,8 +2,7 @@
 
 ghost use Rattle.std.specs.Prelude.{◌≡◌};
 ghost use Rattle.joint.specs.Changes.{changes};
-ghost use Rattle.joint.specs.calls.Scanned.{scanned_in};
-ghost use Rattle.joint.specs.Reports.{reply_in, is_in_flight, target, told, collected};
+ghost use Rattle.joint.specs.Reports.{reply_in, scanned_in, is_in_flight, target, told, collected};
 
 use crate::id::Id;
 use crate::refusal::Refusal;

@@ -14,7 +14,7 @@ ghost use Rattle.judge.specs.Journal.{IsLegal, Legal};
 ghost use Rattle.congee.specs.Heap.{Stands};
 ghost use Rattle.congee.specs.Keys.{IsMapOf};
 ghost use Rattle.joint.specs.engine.Closing.{IsClosed, IsNotClosed, account_of};
-ghost use Rattle.joint.specs.calls.Standing.{pairs_of};
+ghost use Rattle.joint.specs.engine.Standing.{pairs_of};
 ghost use Rattle.joint.specs.nodes.Nodes.{nodes};
 ghost use Rattle.joint.specs.engine.Journaling.{asks_at, has_place};
 ghost use Rattle.joint.specs.nodes.Listing.{IsListOf, bytes_of, standing_nodes};

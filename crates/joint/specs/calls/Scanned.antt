@@ -2,20 +2,13 @@
 use Rattle.std.specs.Prelude.{◌≡◌, ◌≤◌, ℕ, Bool, List, [], ◌∷◌, length, take, Option, None, Some}
 use Rattle.judge.specs.Answer.{Pairs}
 use Rattle.congee.specs.protocol.Scans.{IsScan}
-use Rattle.joint.specs.declared.steps.Done.TheVariants as done
 use Rattle.joint.specs.declared.steps.Op.{Op}
-use Rattle.joint.specs.declared.steps.Outcome.{Outcome}
-use Rattle.joint.specs.declared.steps.Outcome.TheVariants.{Done}
 use Rattle.joint.specs.declared.steps.Report.{Report}
+use Rattle.joint.specs.Reports.{scanned_in}
 use Rattle.joint.specs.calls.Calling.{IsCalled}
 use Rattle.joint.specs.engine.Engine.{World}
 
--- how many of its places a scan has filled that has ended, if it has
-abbrev pub scanned_in : {V : Type 0} → Outcome V → Option ℕ
-scanned_in (Done (done.Scanned n)) = Some n
-scanned_in _ = None
-
--- the same, if a report tells it
+-- how many of its places a scan has filled that has ended, if a report tells it
 abbrev pub scanned_of : {V : Type 0} → Option (Report V) → Option ℕ
 scanned_of None = None
 scanned_of (Some r) = scanned_in r.outcome

@@ -7,9 +7,9 @@ use Rattle.congee.specs.Keys.{IsMapOf}
 use Rattle.joint.specs.declared.nodes.account.Account.{Account}
 use Rattle.joint.specs.declared.refusal.Refusal.{Refusal}
 use Rattle.joint.specs.declared.refusal.Refusal.TheVariants.{WorkersLeft}
-use Rattle.joint.specs.calls.Standing.{pairs_of}
 use Rattle.joint.specs.nodes.Nodes.{nodes}
 use Rattle.joint.specs.engine.Engine.{World}
+use Rattle.joint.specs.engine.Standing.{pairs_of}
 use Rattle.joint.specs.nodes.Draining.{Drained}
 
 -- what came in with the allocator: what it had charged before the first node, and its limit

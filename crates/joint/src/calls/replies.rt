@@ -9,8 +9,9 @@ ghost use Rattle.joint.specs.nodes.Nodes.{IsBeside};
 ghost use Rattle.joint.specs.calls.MapCalls.{asked_of};
 ghost use Rattle.joint.specs.engine.Engine.{IsFresh, World as State};
 ghost use Rattle.joint.specs.engine.Flying.{AreInFlight, Flights};
+ghost use Rattle.joint.specs.engine.Standing.{pairs_of, the_pairs};
 ghost use Rattle.joint.specs.calls.Scanned.{IsScanned, ScansAs, scanned_of};
-ghost use Rattle.joint.specs.calls.Standing.{AnswersAs, IsReplied, pairs_of, the_pairs};
+ghost use Rattle.joint.specs.calls.Standing.{AnswersAs, IsReplied};
 ghost use Rattle.joint.specs.declared.steps.Op.TheVariants as op;
 
 use crate::steps::{Op, Report};

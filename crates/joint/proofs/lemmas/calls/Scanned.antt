@@ -12,7 +12,8 @@ use Rattle.joint.specs.declared.steps.Outcome.TheVariants.{Running, Asks, Found,
 use Rattle.joint.specs.declared.steps.Report.{Report}
 use Rattle.joint.specs.calls.Calling.{FillsPlaces, IsCalled, put, put_all}
 use Rattle.joint.specs.calls.MapCalls.{CallPlays, PlaysScan}
-use Rattle.joint.specs.calls.Scanned.{ScansAs, scanned_in, scanned_of}
+use Rattle.joint.specs.Reports.{scanned_in}
+use Rattle.joint.specs.calls.Scanned.{ScansAs, scanned_of}
 use Rattle.joint.specs.engine.Engine.{World}
 use Rattle.joint.specs.engine.Flying.{AreInFlight, Flights}
 use Rattle.joint.specs.nodes.Nodes.{nodes}

@@ -1,5 +1,5 @@
 use Rattle.std.proofs.Common.{◌∙◌, ap}
-use Rattle.joint.specs.calls.Standing.{the_pairs}
+use Rattle.joint.specs.engine.Standing.{the_pairs}
 use Rattle.joint.specs.nodes.Nodes.{nodes}
 use Rattle.joint.proofs.lemmas.calls.Replied.{map_stands}
 use Rattle.joint.proofs.lemmas.nodes.Closing.{registered_kept}

@@ -4,7 +4,7 @@ use Rattle.judge.specs.declared.journal.Entry.{Entry}
 use Rattle.judge.specs.Answer.{Pairs}
 use Rattle.judge.specs.Journal.{IsLegal, Legal}
 use Rattle.congee.specs.Keys.{IsMapOf}
-use Rattle.joint.specs.calls.Standing.{pairs_of}
+use Rattle.joint.specs.engine.Standing.{pairs_of}
 use Rattle.joint.specs.nodes.Nodes.{nodes}
 use Rattle.joint.specs.engine.Engine.{World}
 use Rattle.joint.proofs.lemmas.calls.Replied.{map_stands}
