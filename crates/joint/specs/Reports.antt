@@ -62,6 +62,11 @@ abbrev pub reply_in : {V : Type 0} → Outcome V → Option (Reply V)
 reply_in (Done (done.Reply r)) = Some r
 reply_in _ = None
 
+-- how many of its places a scan has filled that has ended, if it has
+abbrev pub scanned_in : {V : Type 0} → Outcome V → Option ℕ
+scanned_in (Done (done.Scanned n)) = Some n
+scanned_in _ = None
+
 -- whether a report says that the worker's call is in flight
 abbrev pub is_in_flight : {V : Type 0} → Outcome V → Bool
 is_in_flight Running = true

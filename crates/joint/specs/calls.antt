@@ -8,7 +8,9 @@ pub mod MapCalls
 pub mod Plain
 pub mod Promises
 pub mod Rounds
+pub mod RunInto
 pub mod Runs
+pub mod Scanned
 pub mod Scans
 pub mod Standing
 pub mod Stretches

@@ -10,5 +10,6 @@ pub mod Laws
 pub mod Log
 pub mod Safety
 pub mod Sound
+pub mod Standing
 pub mod State
 pub mod Surveys

@@ -52,6 +52,7 @@ pub use steps::{Done, Event, Kind, Op, Outcome, Ran, Report, Step, Survey};
 pub use threads::auditing::audit;
 pub use threads::congee_arc::CongeeArc;
 pub use threads::driver::{Turns, drive, turns_tell};
+pub use threads::journal::Journal;
 pub use threads::journaled::Journaled;
 pub use threads::share::Share;
 pub use threads::tokens::{Guard, Worker};

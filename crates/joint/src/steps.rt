@@ -2,7 +2,7 @@
 
 ghost use Rattle.std.specs.Prelude.{◌≡◌};
 ghost use Rattle.joint.specs.Changes.{changes};
-ghost use Rattle.joint.specs.Reports.{reply_in, is_in_flight, target, told, collected};
+ghost use Rattle.joint.specs.Reports.{reply_in, scanned_in, is_in_flight, target, told, collected};
 
 use crate::id::Id;
 use crate::refusal::Refusal;
@@ -200,6 +200,22 @@ impl<P: Drop> Report<P> {
         let Report { outcome, .. } = self;
         match outcome {
             Outcome::Done(Done::Reply(reply)) => Some(reply),
+            other => {
+                drop(other);
+                None
+            }
+        }
+    }
+}
+
+impl<P: Drop> Report<P> {
+    /// How many of its places a scan has filled, if it has ended so.
+    pub fn scanned(self) -> Option<usize>
+        ensures { result ≡ scanned_in self.outcome }
+    {
+        let Report { outcome, .. } = self;
+        match outcome {
+            Outcome::Done(Done::Scanned(count)) => Some(count),
             other => {
                 drop(other);
                 None

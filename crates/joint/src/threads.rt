@@ -3,7 +3,7 @@
 //! `tree` has an index under its lock (`locked`, or with a journal `journaled_world`). A call is driven (`driver`): its turns are
 //! begun and gone on with one hold each (`holds`, `writes`), its closure answers between two of them (`answers`), and
 //! how it reads its end stands in `ends`; a round is three calls (`rounds`). `word_congee`, `u64_congee`, `congee_arc` and
-//! `journaled` are the types that threads share, called with a worker and a guard (`tokens`).
+//! `journaled` are the types that threads share, called with a worker and a guard (`tokens`); the last leaves a `journal`.
 
 pub(crate) mod answers;
 pub(crate) mod auditing;
@@ -11,6 +11,7 @@ pub(crate) mod congee_arc;
 pub(crate) mod driver;
 pub(crate) mod ends;
 pub(crate) mod holds;
+pub(crate) mod journal;
 pub(crate) mod journaled;
 pub(crate) mod journaled_world;
 pub(crate) mod locked;

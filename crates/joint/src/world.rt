@@ -14,6 +14,7 @@ ghost use Rattle.judge.specs.Journal.{IsLegal, Legal};
 ghost use Rattle.congee.specs.Heap.{Stands};
 ghost use Rattle.congee.specs.Keys.{IsMapOf};
 ghost use Rattle.joint.specs.engine.Closing.{IsClosed, IsNotClosed, account_of};
+ghost use Rattle.joint.specs.engine.Standing.{pairs_of};
 ghost use Rattle.joint.specs.nodes.Nodes.{nodes};
 ghost use Rattle.joint.specs.engine.Journaling.{asks_at, has_place};
 ghost use Rattle.joint.specs.nodes.Listing.{IsListOf, bytes_of, standing_nodes};
@@ -139,6 +140,7 @@ impl<P: Payload + Small, A: Allocator> World<P, A> {
         ensures entries { result.now ≡ self.now.log.entries }
         ensures legal { IsLegal P.same_as result.now }
         ensures replays { (m : Pairs P) → 0 < self.now.log.places → IsMapOf (nodes self.now.forest) m → Legal P.same_as empty result.now m }
+        ensures pairs { 0 < self.now.log.places → Legal P.same_as empty result.now (pairs_of self.now) }
         ensures none { self.now.log.places ≡ 0 → result.now ≡ [] }
     {
         self.log.entries()
@@ -172,12 +174,28 @@ impl<P: Payload + Small, A: Allocator> World<P, A> {
         requires { D.can_drain drainer }
         ensures { MatchResult result (λ r. IsClosed D.drains self drainer (A.charged_of r.0) (A.limit_of r.0) r.1) (λ e. IsNotClosed self drainer e.0 e.1 e.2) }
     {
+        match self.close_with_journal(drainer) {
+            Ok((allocator, drainer, _)) => Ok((allocator, drainer)),
+            Err(back) => Err(back),
+        }
+    }
+
+    /// The same; its journal comes back too, with no copy.
+    pub(crate) fn close_with_journal<D: Drainer<u64, P>>(
+        self,
+        drainer: D,
+    ) -> Result<(A, D, Vec<Entry<P>>), (Refusal, World<P, A>, D)>
+        requires { D.can_drain drainer }
+        ensures closed { MatchResult result (λ r. IsClosed D.drains self drainer (A.charged_of r.0) (A.limit_of r.0) r.1) (λ e. IsNotClosed self drainer e.0 e.1 e.2) }
+        ensures journal { IfOk result (λ r. r.2.items ≡ self.log.entries) }
+    {
         let registered = self.engine.registered();
         if registered > 0 {
             return Err((Refusal::WorkersLeft(registered), self, drainer));
         }
-        let World { engine, .. } = self;
-        Ok(engine.close(drainer))
+        let World { engine, log } = self;
+        let (allocator, drainer) = engine.close(drainer);
+        Ok((allocator, drainer, log.into_entries()))
     }
 }
 

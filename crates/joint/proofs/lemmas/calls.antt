@@ -1,6 +1,6 @@
-pub mod WorldSteps
 pub mod Alone
 pub mod AloneCalls
+pub mod AloneScans
 pub mod AloneTold
 pub mod Answering
 pub mod Beside
@@ -10,12 +10,12 @@ pub mod Calling
 pub mod CensusSteps
 pub mod Ends
 pub mod Filling
+pub mod HeldNodes
 pub mod KeyCalls
 pub mod KeyReplies
 pub mod Leaves
 pub mod LeavesRuns
 pub mod LeavesSteps
-pub mod HeldNodes
 pub mod MapCalls
 pub mod PlainAgain
 pub mod PlainCalls
@@ -25,11 +25,13 @@ pub mod Promises
 pub mod Readers
 pub mod Replied
 pub mod Rounds
+pub mod RunInto
 pub mod Running
 pub mod Runs
+pub mod Scanned
 pub mod Scans
 pub mod Sparing
 pub mod StretchRuns
 pub mod Stretches
-pub mod AloneScans
 pub mod Wanted
+pub mod WorldSteps

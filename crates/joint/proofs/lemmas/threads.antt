@@ -1,4 +1,5 @@
 pub mod Appending
+pub mod Ascending
 pub mod Auditing
 pub mod Driving
 pub mod Hidden

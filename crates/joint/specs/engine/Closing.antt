@@ -9,6 +9,7 @@ use Rattle.joint.specs.declared.refusal.Refusal.{Refusal}
 use Rattle.joint.specs.declared.refusal.Refusal.TheVariants.{WorkersLeft}
 use Rattle.joint.specs.nodes.Nodes.{nodes}
 use Rattle.joint.specs.engine.Engine.{World}
+use Rattle.joint.specs.engine.Standing.{pairs_of}
 use Rattle.joint.specs.nodes.Draining.{Drained}
 
 -- what came in with the allocator: what it had charged before the first node, and its limit
@@ -20,6 +21,8 @@ account_of s = record { charged = s.forest.base; limit = s.forest.limit }
 pub record IsClosed {V D : Type 0} (drains : D → ℕ → V → D → Type 0) (s : World V) (before : D) (charge limit : ℕ) (after : D) : Type 0 where
   pub no_worker : registered_in s.forest.collector ≡ 0
   pub drained : (m : Pairs V) → IsMapOf (nodes s.forest) m → Drained drains before (entries m) after
+  -- the same of these pairs as a value
+  pub pairs : Drained drains before (entries (pairs_of s)) after
   pub charge_is : charge ≡ s.forest.base
   pub limit_is : limit ≡ s.forest.limit
 

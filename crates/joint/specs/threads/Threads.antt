@@ -1,5 +1,5 @@
 -- Calls on an index that threads share: whom they serve, what a hold of its lock is, and what they answer.
-use Rattle.std.specs.Prelude.{◌≡◌, ◌≢◌, ◌==◌, ◌&&◌, ◌<◌, ◌⊎◌, ℕ, Bool, true, false, List, [], length, Option, None, Some, Result, Ok, Err, Vec, map}
+use Rattle.std.specs.Prelude.{◌≡◌, ◌≢◌, ◌==◌, ◌&&◌, ◌<◌, ◌≤◌, ◌⊎◌, leb, ltb, ℕ, suc, Bool, true, false, List, [], ◌∷◌, length, take, Option, None, Some, is_some, Result, Ok, Err, Vec, map, min, ◌+◌, if◌then◌else◌}
 use Rattle.std.specs.Arc.{arc_value}
 use Rattle.std.specs.List.{sum_by}
 use Rattle.std.specs.Option.{option_map}
@@ -8,12 +8,14 @@ use Rattle.std.specs.declared.sync.Arc.{Arc}
 use Rattle.judge.specs.declared.journal.Reply.TheVariants.{Get, Insert, Remove, ComputePresent, ComputeInsert, Exchange}
 use Rattle.crossbeam_epoch.specs.World.Ending.{registered_in}
 use Rattle.congee.specs.declared.owned.stats.NodeStats.{NodeStats}
+use Rattle.congee.specs.owned.Stats.{capped}
 use Rattle.joint.specs.declared.nodes.account.Account.{Account}
 use Rattle.joint.specs.declared.refusal.Refusal.{Refusal}
-use Rattle.joint.specs.declared.refusal.Refusal.TheVariants.{Count, Foreign, Idle, Memory, WorkersLeft}
+use Rattle.joint.specs.declared.refusal.Refusal.TheVariants.{Busy, Count, Foreign, Idle, Memory, Unknown, Unpinned, WorkersLeft}
 use Rattle.joint.specs.declared.steps.Done.{Done as Answer}
 use Rattle.joint.specs.declared.steps.Done.TheVariants.{Unit as Finished, Reply, Scanned, Keys, Empty, Stats}
-use Rattle.joint.specs.declared.steps.Event.TheVariants.{Register}
+use Rattle.joint.specs.declared.steps.Event.{Event}
+use Rattle.joint.specs.declared.steps.Event.TheVariants.{Register, Begin, Go}
 use Rattle.joint.specs.declared.steps.Op.{Op}
 use Rattle.joint.specs.declared.steps.Op.TheVariants as op
 use Rattle.joint.specs.declared.steps.Outcome.{Outcome}
@@ -23,8 +25,9 @@ use Rattle.joint.specs.declared.steps.Step.{Step}
 use Rattle.joint.specs.declared.threads.tokens.Guard.{Guard}
 use Rattle.joint.specs.declared.threads.tokens.Worker.{Worker}
 use Rattle.joint.specs.engine.Closing.{IsClosed, account_of}
+use Rattle.joint.specs.engine.Log.{request_at}
 use Rattle.joint.specs.threads.Driving.{IsDriven, ended}
-use Rattle.joint.specs.nodes.Listing.{bytes_of}
+use Rattle.joint.specs.nodes.Listing.{bytes_of, standing_nodes}
 use Rattle.joint.specs.engine.Census.{waiting_nodes}
 use Rattle.joint.specs.world.World.{Holds, IsStep}
 use Rattle.joint.specs.engine.Engine.{World}
@@ -62,6 +65,36 @@ ByStep same always s who o step r s' = IsStep same always s step r s'
 -- and in whatever state others have left it
 abbrev pub ByHold : {V : Type 0} → (V → V → Bool) → Bool → ℕ → Op V → Step V → Report V → Type 0
 ByHold same always who o step r = IsHold same always step r
+
+-- the call that the worker has in flight, as it was asked for
+abbrev pub call_in_flight : {V : Type 0} → World V → ℕ → Option (Op V)
+call_in_flight s who = option_map (λ q. q.op) (request_at s.log.requests who)
+
+-- a step is one of this call of the worker's: its begin, or a further one while it is what the worker has in flight
+abbrev pub IsOwn : {V : Type 0} → World V → ℕ → Op V → Event V → Type 0
+IsOwn s who o Register = ⊥
+IsOwn s who o (Begin begun) = Unit {0}
+IsOwn s who o (Go noise) = call_in_flight s who ≡ Some o
+
+-- a turn of a call of words takes its step of the machine that stands, in which the call is its worker's in flight
+pub record TakesOwn {V : Type 0} (same : V → V → Bool) (always : Bool) (s : World V) (who : ℕ) (o : Op V) (step : Step V) (r : Report V) (s' : World V) : Type 0 where
+  pub own : IsOwn s who o step.event
+  pub takes : IsStep same always s step r s'
+
+-- where it isn't, the call is idle, and leaves the machine as it is
+pub record StopsIdle {V : Type 0} (same : V → V → Bool) (always : Bool) (s : World V) (who : ℕ) (o : Op V) (step : Step V) (r : Report V) (s' : World V) : Type 0 where
+  pub holds : Holds same always s
+  pub why : IsOwn s who o step.event → ⊥
+  pub idle : r.outcome ≡ Refused Idle
+  pub stays : s' ≡ s
+
+-- a turn of it is one of these
+abbrev pub OwnTurn : {V : Type 0} → (V → V → Bool) → Bool → World V → ℕ → Op V → Step V → Report V → World V → Type 0
+OwnTurn same always s who o step r s' = TakesOwn same always s who o step r s' ⊎ StopsIdle same always s who o step r s'
+
+-- in whatever state others have left it
+abbrev pub ByOwn : {V : Type 0} → (V → V → Bool) → Bool → ℕ → Op V → Step V → Report V → Type 0
+ByOwn {V} same always who o step r = (s : World V) × (s' : World V) × OwnTurn same always s who o step r s'
 
 -- a whole call, whose turns are as `hold` says of this call, and which ends so; the closure answers between two turns
 abbrev pub IsByHolds : {V F Q : Type 0} → (ℕ → Op V → Step V → Report V → Type 0) → (F → Option V → Option V → F → Type 0) → (ℕ → V → Q) → ℕ → Op V → F → List Q → List Q → Outcome V → Type 0
@@ -107,11 +140,36 @@ told (Ok Finished) = Ok (tt {0})
 told (Err e) = Err e
 told _ = Err Idle
 
+-- a call that only reads is refused as this: for misuse, for the tokens of another index, or as Count
+abbrev pub IsOfReader : Refusal → Type 0
+IsOfReader Busy = Unit {0}
+IsOfReader Count = Unit {0}
+IsOfReader Foreign = Unit {0}
+IsOfReader Idle = Unit {0}
+IsOfReader Unknown = Unit {0}
+IsOfReader Unpinned = Unit {0}
+IsOfReader _ = ⊥
+
+-- how it reads a refusal; that of another call, which none of these meets, makes Idle
+abbrev pub of_reader : Refusal → Refusal
+of_reader Busy = Busy
+of_reader Count = Count
+of_reader Foreign = Foreign
+of_reader Unknown = Unknown
+of_reader Unpinned = Unpinned
+of_reader _ = Idle
+
 -- what a look-up answers: the value at the key, if there is one
 abbrev pub got : {V : Type 0} → End V → Result (Option V) Refusal
 got (Ok (Reply (Get v))) = Ok v
-got (Err e) = Err e
+got (Err e) = Err (of_reader e)
 got _ = Err Idle
+
+-- whether the key of a look-up has a value
+abbrev pub contained : {V : Type 0} → End V → Result Bool Refusal
+contained (Ok (Reply (Get v))) = Ok (is_some v)
+contained (Err e) = Err (of_reader e)
+contained _ = Err Idle
 
 -- what an insertion answers: the value before it, if there was one
 abbrev pub inserted : {V : Type 0} → End V → Result (Option V) Refusal
@@ -143,16 +201,37 @@ exchanged (Ok (Reply (Exchange r))) = Ok r
 exchanged (Err e) = Err e
 exchanged _ = Err Idle
 
--- what a scan answers: how many of its places it filled
-abbrev pub scanned : {V : Type 0} → End V → Result ℕ Refusal
-scanned (Ok (Scanned n)) = Ok n
-scanned (Err e) = Err e
-scanned _ = Err Idle
+-- the keys of a scan, from its first on to before its end
+abbrev pub bounds : {V : Type 0} → Op V → ℕ × ℕ
+bounds (op.Range start end size) = (start, end)
+bounds (op.RangeInclusive start last size) = (start, suc last)
+bounds _ = (0, 0)
+
+-- keys that ascend from one on, and end before another
+abbrev pub Ascend : ℕ → ℕ → List ℕ → Type 0
+Ascend start end [] = Unit {0}
+Ascend start end (k ∷ keys) = (start ≤ k) × (k < end) × Ascend (suc k) end keys
+
+-- whether they do
+abbrev pub ascends : ℕ → ℕ → List ℕ → Bool
+ascends start end [] = true
+ascends start end (k ∷ keys) = leb start k && (ltb k end && ascends (suc k) end keys)
+
+-- so many places of these keys were filled, if those ascend within the range
+abbrev pub filled : ℕ × ℕ → List ℕ → ℕ → Result ℕ Refusal
+filled range keys n = if ascends range.0 range.1 (take n keys) then Ok n else Err Idle
+
+-- what a scan of this range answers, whose places have these keys: how many of them it filled; one that is told of more places
+-- than there are, or whose keys don't ascend there, is met in no run
+abbrev pub scanned : {V : Type 0} → ℕ × ℕ → List ℕ → End V → Result ℕ Refusal
+scanned range keys (Ok (Scanned n)) = filled range keys (min n (length keys))
+scanned range keys (Err e) = Err (of_reader e)
+scanned range keys _ = Err Idle
 
 -- what the question for emptiness answers
 abbrev pub emptied : {V : Type 0} → End V → Result Bool Refusal
 emptied (Ok (Empty b)) = Ok b
-emptied (Err e) = Err e
+emptied (Err e) = Err (of_reader e)
 emptied _ = Err Idle
 
 -- what a list of keys answers
@@ -167,10 +246,16 @@ counted (Ok (Stats stats)) = Ok stats
 counted (Err e) = Err e
 counted _ = Err Idle
 
+-- and how many pairs there are, of them
+abbrev pub pairs_counted : {V : Type 0} → End V → Result ℕ Refusal
+pairs_counted (Ok (Stats stats)) = Ok stats.kv_pairs
+pairs_counted (Err e) = Err e
+pairs_counted _ = Err Idle
+
 -- a pin that has ended so makes a guard of the worker's
 abbrev pub guarded : ℕ → ℕ → Result (Unit {0}) Refusal → Result Guard Refusal
 guarded id who (Ok t) = Ok (record { tree = id; worker = who })
-guarded id who (Err e) = Err e
+guarded id who (Err e) = Err (of_reader e)
 
 -- a pin, and the guard that it makes or why it is refused
 abbrev pub Pins : {V : Type 0} → (ℕ → Op V → Step V → Report V → Type 0) → ℕ → ℕ → Result Guard Refusal → Type 0
@@ -231,9 +316,10 @@ As {A} does of result = (read : A) × does read × (result ≡ of read)
 abbrev pub IsTold : {V B : Type 0} → (V → V → Bool) → Bool → (World V → B) → B → Type 0
 IsTold {V} same always of result = (s : World V) × Holds same always s × (result ≡ of s)
 
--- the bytes charged
-abbrev pub charge_of : {V : Type 0} → World V → ℕ
-charge_of s = s.forest.charge
+-- the bytes charged: what came in with the allocator, and the sizes of the nodes that stand; past 64 bits, which no allocator
+-- charges, the greatest number
+abbrev pub charge_of : {V : Type 0} → Account → World V → ℕ
+charge_of account s = capped (account.charged + sum_by (bytes_of s.forest) (standing_nodes s.forest))
 
 -- how many nodes wait for their destruction
 abbrev pub waiting_of : {V : Type 0} → World V → ℕ
@@ -246,6 +332,10 @@ waiting_bytes_of s = sum_by (bytes_of s.forest) (waiting_nodes s)
 -- a closed index: the machine that the lock kept was closed with this drainer
 abbrev pub Closes : {V D : Type 0} → (V → V → Bool) → Bool → (D → ℕ → V → D → Type 0) → D → ℕ → ℕ → D → Type 0
 Closes {V} same always drains before charge limit after = (s : World V) × Holds same always s × IsClosed drains s before charge limit after
+
+-- the same, and this is what the lock kept beside that machine
+abbrev pub ClosesWith : {V D K : Type 0} → (V → V → Bool) → Bool → (D → ℕ → V → D → Type 0) → (K → World V → Type 0) → D → ℕ → ℕ → D → K → Type 0
+ClosesWith {V} same always drains keeps before charge limit after kept = (s : World V) × Holds same always s × IsClosed drains s before charge limit after × keeps kept s
 
 -- the same of one whose pairs are dropped
 abbrev pub Drops : {V : Type 0} → (V → V → Bool) → Bool → ℕ → ℕ → Type 0

@@ -1,9 +1,10 @@
 -- Calls on an index with a journal, turn by turn: each holds the lock, and goes on only while it is itself in flight.
-use Rattle.std.specs.Prelude.{◌≡◌, ◌⊎◌, ℕ, ◌-◌, ◌<◌, ◌++◌, Bool, true, false, not, nat_eq, List, [], ◌∷◌, Option, None, Some, Result, Ok, Err, slice_get}
+use Rattle.std.specs.Prelude.{◌≡◌, ◌⊎◌, ℕ, ◌-◌, ◌<◌, ◌++◌, Bool, true, false, not, nat_eq, List, [], ◌∷◌, Option, None, Some, Result, Ok, Err, Vec, slice_get}
+use Rattle.std.specs.declared.alloc.Global.{Global}
 use Rattle.judge.specs.declared.journal.Entry.{Entry}
 use Rattle.judge.specs.Answer.{reply_on}
 use Rattle.joint.specs.declared.refusal.Refusal.{Refusal}
-use Rattle.joint.specs.declared.refusal.Refusal.TheVariants.{Idle, SharesLeft}
+use Rattle.joint.specs.declared.refusal.Refusal.TheVariants.{Idle, Memory, SharesLeft}
 use Rattle.joint.specs.declared.steps.Done.TheVariants as done
 use Rattle.joint.specs.declared.steps.Event.{Event}
 use Rattle.joint.specs.declared.steps.Event.TheVariants.{Register, Begin, Go}
@@ -14,13 +15,13 @@ use Rattle.joint.specs.declared.steps.Report.{Report}
 use Rattle.joint.specs.declared.steps.Step.{Step}
 use Rattle.joint.specs.Changes.{changes}
 use Rattle.joint.specs.threads.Driving.{AreTurns, Turn, ended}
-use Rattle.joint.specs.threads.Journals.{IsCounted, count_watched}
+use Rattle.joint.specs.threads.Journals.{IsCounted, IsJournal, count_watched}
 use Rattle.joint.specs.engine.Journaling.{HasAnswer, asks_at, call_of, has_place, in_list, one_where}
 use Rattle.joint.specs.engine.Log.{with_answer, request_at}
 use Rattle.joint.specs.world.MapSteps.{looks_up}
 use Rattle.joint.specs.threads.Shares.{ShareView, counts_more}
 use Rattle.joint.specs.threads.Threads.{End}
-use Rattle.joint.specs.world.World.{IsStep}
+use Rattle.joint.specs.world.World.{Holds, IsStep}
 use Rattle.joint.specs.engine.Engine.{World}
 
 -- the worker has this call in flight, which took this answer of its closure last
@@ -76,8 +77,16 @@ abbrev pub Appends : (Entry ℕ → Bool) → ℕ → Op ℕ → Option (Option 
 Appends watched who op given p None p' = p' ≡ noted watched (record p { given = given }) None
 Appends watched who op given p (Some e) p' = (p.entry ≡ None) × IsEntryOf who op given e × (p' ≡ noted watched (record p { given = given }) (Some e))
 
--- a hold of a writing call takes its step of the machine that stands
+-- a step of a call may be taken: it is its begin; or the worker has it in flight, and an answer comes only where it is
+-- wanted
+abbrev pub MayStep : World ℕ → ℕ → Op ℕ → Option (Option ℕ) → Event ℕ → Type 0
+MayStep s who op given Register = ⊥
+MayStep s who op given (Begin o) = Unit {0}
+MayStep s who op given (Go noise) = IsInFlight s who op given × ((a : Option ℕ) → noise.answer ≡ Some a → asks_at (slice_get s.machines who) ≡ true)
+
+-- a hold of a writing call takes its step of the machine that stands, in which it is its worker's call in flight
 pub record HoldsWriting (watched : Entry ℕ → Bool) (who : ℕ) (op : Op ℕ) (p : Progress) (s : World ℕ) (step : Step ℕ) (r : Report ℕ) (p' : Progress) (s' : World ℕ) : Type 0 where
+  pub own : MayStep s who op p.given step.event
   pub told : Report ℕ
   pub takes : IsStep nat_eq true s step told s'
   pub appended : Option (Entry ℕ)
@@ -92,22 +101,21 @@ pub record Appended (s s' : World ℕ) (who : ℕ) (op : Op ℕ) (given : Option
   pub of : (e : Entry ℕ) → entry ≡ Some e → IsEntryOf who op (given_after op given event) e
   pub had : (e : Entry ℕ) → entry ≡ Some e → has_place (slice_get s.calls who) (slice_get s.machines who) ≡ not (looks_up e.call)
 
--- a step of a call may be taken: it is its begin; or the worker has it in flight, and an answer comes only where it is
--- wanted
-abbrev pub MayStep : World ℕ → ℕ → Op ℕ → Option (Option ℕ) → Event ℕ → Type 0
-MayStep s who op given Register = ⊥
-MayStep s who op given (Begin o) = Unit {0}
-MayStep s who op given (Go noise) = IsInFlight s who op given × ((a : Option ℕ) → noise.answer ≡ Some a → asks_at (slice_get s.machines who) ≡ true)
-
 -- where its step may not be taken a call that doesn't write is idle, and leaves the machine as it is
 pub record StopsReading (who : ℕ) (op : Op ℕ) (s : World ℕ) (step : Step ℕ) (r : Report ℕ) (s' : World ℕ) : Type 0 where
+  pub holds : Holds nat_eq true s
   pub why : changes op ≡ false → MayStep s who op None step.event → ⊥
   pub idle : r.outcome ≡ Refused Idle
   pub stays : s' ≡ s
 
--- a turn of it, on the machine that stands: its step, or none
+-- a hold of it takes its step of the machine that stands, in which it is its worker's call in flight
+pub record HoldsReading (who : ℕ) (op : Op ℕ) (s : World ℕ) (step : Step ℕ) (r : Report ℕ) (s' : World ℕ) : Type 0 where
+  pub own : MayStep s who op None step.event
+  pub takes : IsStep nat_eq true s step r s'
+
+-- a turn of it, on the machine that stands: a hold, or none
 abbrev pub ReadingTurn : World ℕ → ℕ → Op ℕ → Step ℕ → Report ℕ → World ℕ → Type 0
-ReadingTurn s who op step r s' = IsStep nat_eq true s step r s' ⊎ StopsReading who op s step r s'
+ReadingTurn s who op step r s' = HoldsReading who op s step r s' ⊎ StopsReading who op s step r s'
 
 -- the same, in whatever state others have left it
 abbrev pub Reads : ℕ → Op ℕ → Step ℕ → Report ℕ → Type 0
@@ -119,6 +127,7 @@ WontRepeat s who entry = (e : Entry ℕ) → entry ≡ Some e → has_place (sli
 
 -- where its step may not be taken a writing call ends with what it has, and leaves the machine as it is
 pub record StopsWriting (who : ℕ) (op : Op ℕ) (p : Progress) (s : World ℕ) (step : Step ℕ) (r : Report ℕ) (p' : Progress) (s' : World ℕ) : Type 0 where
+  pub holds : Holds nat_eq true s
   pub why : MayStep s who op p.given step.event → WontRepeat s who p.entry → ⊥
   pub same : p' ≡ p
   pub ends : r.outcome ≡ settled p.entry
@@ -168,3 +177,8 @@ GathersOf watched parts entries share (Err e) = (share.parts < parts) × (e ≡ 
 abbrev pub Gathers : (Entry ℕ → Bool) → ℕ → ShareView → Result ℕ Refusal → Type 0
 Gathers watched parts share (Ok n) = (share.parts ≡ parts) × (n ≡ share.count) × IsCounted watched n
 Gathers watched parts share (Err e) = (share.parts < parts) × (e ≡ SharesLeft (parts - share.parts))
+
+-- the same with those entries, for which there may be no memory
+abbrev pub GathersJournal : (Entry ℕ → Bool) → ℕ → ShareView → Result (ℕ × Vec (Entry ℕ) Global) Refusal → Type 0
+GathersJournal watched parts share (Ok r) = IsJournal r.1.items × (share.parts ≡ parts) × (r.0 ≡ share.count) × (r.0 ≡ count_watched watched r.1.items)
+GathersJournal watched parts share (Err e) = (e ≡ Memory) ⊎ ((share.parts < parts) × (e ≡ SharesLeft (parts - share.parts)))

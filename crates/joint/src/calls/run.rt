@@ -1,6 +1,6 @@
 //! Any list of steps.
 
-ghost use Rattle.std.specs.Prelude.{◌≡◌, ◌<◌, ◌≤◌, ℕ, List, length, take, vec_capacity};
+ghost use Rattle.std.specs.Prelude.{◌≡◌, ◌+◌, ◌-◌, ◌<◌, ◌≤◌, min, ℕ, List, length, take, vec_capacity};
 ghost use Rattle.std.specs.FinMap.{empty};
 ghost use Rattle.std.specs.Vec.{vec_len};
 ghost use Rattle.judge.specs.Answer.{Pairs};
@@ -14,6 +14,7 @@ ghost use Rattle.joint.specs.calls.Plain.{Agree, AreUnrefused, FollowsRun};
 ghost use Rattle.joint.specs.calls.Promises.{KeepsPromises};
 ghost use Rattle.joint.specs.world.World.{IsNew};
 ghost use Rattle.joint.specs.calls.Rounds.{IsQuiet, Round, AreRounds, steps_in, bags_left, rounds_wanted, CameBack};
+ghost use Rattle.joint.specs.calls.RunInto.{IsRunInto};
 ghost use Rattle.joint.specs.calls.Runs.{IsRun, RunsJournal, RunsMap, AllSpare};
 ghost use Rattle.joint.specs.engine.Engine.{IsFresh};
 ghost use Rattle.joint.specs.engine.Flying.{Flights, AreInFlight, no_flights};
@@ -21,18 +22,19 @@ ghost use Rattle.joint.specs.calls.Scans.{ScansHold, EmptyScansHold};
 
 use crate::calls::laws::{comes_back, runs_alone, runs_plain, runs_spare};
 use crate::calls::promises::keeps_promises;
-use crate::steps::{Ran, Step};
+use crate::steps::{Ran, Report, Step};
 use crate::world::World;
 use congee::{Allocator, Payload, Small};
 use std::alloc::Global;
 use std::vec::Vec;
 
 impl<P: Payload + Small, A: Allocator> World<P, A> {
-    /// These steps, one after another, until there is no memory for a report: it stops early only where the list of reports
-    /// is full. From the opening on, `promises` says in one place all that is promised of a run.
+    /// These steps, one after another; none of them where there is no memory for their reports. From the opening on, `promises`
+    /// says in one place all that is promised of a run.
     pub fn run(&mut self, alloc: Global, steps: Vec<Step<P>>) -> Ran<P>
         ensures done { result.done ≡ vec_len result.reports }
         ensures full { result.done < length steps.items → vec_capacity result.reports ≤ vec_len result.reports }
+        ensures whole { result.done < length steps.items → result.done ≡ 0 }
         ensures run { IsRun P.same_as P.always_copies self.old (take result.done steps.items) result.reports.items self.new }
         ensures map { (fs : Flights P) (m : Pairs P) → IsMapOf (nodes self.old.forest) m → AreInFlight self.old fs → RunsMap P.same_as fs m (take result.done steps.items) result.reports.items self.new }
         ensures fresh { IsFresh self.old → RunsMap P.same_as no_flights empty (take result.done steps.items) result.reports.items self.new }
@@ -56,22 +58,37 @@ impl<P: Payload + Small, A: Allocator> World<P, A> {
         self.take_all(alloc, steps)
     }
 
-    /// Takes the steps one after another, until there is no memory for a report.
-    fn take_all(&mut self, alloc: Global, steps: Vec<Step<P>>) -> Ran<P>
-        ensures done { result.done ≡ vec_len result.reports }
-        ensures full { result.done < length steps.items → vec_capacity result.reports ≤ vec_len result.reports }
-        ensures run { IsRun P.same_as P.always_copies self.old (take result.done steps.items) result.reports.items self.new }
+    /// These steps, one after another, as many as the list has room for, each with its report behind those in the list; it
+    /// answers how many. It takes no memory, and stops nowhere else; the steps that are left are dropped.
+    pub fn run_into(&mut self, steps: Vec<Step<P>>, reports: &mut Vec<Report<P>>) -> usize
+        ensures done { result ≡ min (length steps.items) (vec_capacity reports.old - vec_len reports.old) }
+        ensures len { vec_len reports.new ≡ vec_len reports.old + result }
+        ensures room { vec_capacity reports.new ≡ vec_capacity reports.old }
+        ensures run { IsRunInto P.same_as P.always_copies self.old (take result steps.items) reports.old.items reports.new.items self.new }
     {
-        let mut reports = Vec::new(alloc);
+        let before = reports.len();
         let mut rest = steps.into_iter();
         while let Some(step) = rest.next() {
-            if reports.reserve(1).is_err() {
+            if reports.len() == reports.capacity() {
                 break;
             }
             let report = self.step(step);
             reports.push_reserved(report);
         }
-        let done = reports.len();
+        reports.len() - before
+    }
+
+    /// Takes the steps one after another, once there is memory for their reports.
+    fn take_all(&mut self, alloc: Global, steps: Vec<Step<P>>) -> Ran<P>
+        ensures done { result.done ≡ vec_len result.reports }
+        ensures full { result.done < length steps.items → vec_capacity result.reports ≤ vec_len result.reports }
+        ensures whole { result.done < length steps.items → result.done ≡ 0 }
+        ensures run { IsRun P.same_as P.always_copies self.old (take result.done steps.items) result.reports.items self.new }
+    {
+        let mut reports = Vec::new(alloc);
+        // A refusal leaves the list without room.
+        let _ = reports.reserve(steps.len());
+        let done = self.run_into(steps, &mut reports);
         Ran { reports, done }
     }
 }

@@ -5,7 +5,7 @@ ghost use Rattle.std.specs.Arc.{arc_value};
 ghost use Rattle.std.specs.Option.{option_map};
 ghost use Rattle.joint.specs.nodes.Opening.{IsUnopened};
 ghost use Rattle.joint.specs.threads.Pinned.{CallsPinned, KeepsWorker};
-ghost use Rattle.joint.specs.threads.Threads.{Answers, AreKeys, ByHold, Computes, Drops, Hands, IsAccount, IsHold, IsRound, IsTold, IsUnclosed, Owns, Pins, RefusesOwner, Serves, is_held_by, is_of, register_step, registered, charge_of, waiting_bytes_of, waiting_of, befores, computed, counted, emptied, got, if_owned, inserted, listed, owned, removed, told};
+ghost use Rattle.joint.specs.threads.Threads.{Answers, AreKeys, ByHold, Computes, Drops, Hands, IsAccount, IsHold, IsOfReader, IsRound, IsTold, IsUnclosed, Owns, Pins, RefusesOwner, Serves, is_held_by, is_of, register_step, registered, charge_of, waiting_bytes_of, waiting_of, befores, computed, contained, counted, emptied, got, if_owned, inserted, listed, owned, pairs_counted, removed, told};
 ghost use Rattle.joint.specs.declared.steps.Op.TheVariants as op;
 
 use crate::limits::Limits;
@@ -133,6 +133,7 @@ impl<K: Word64, V: Drop> CongeeArc<K, V> {
     pub fn pin<R: Wait>(&self, rt: &R, worker: &mut Worker) -> Result<Guard, Refusal>
         ensures worker { worker.new ≡ worker.old }
         ensures answers { Serves (is_of self.now.tree.id worker.old) (Pins {V = V} (ByHold (λ _ _. false) false) self.now.tree.id worker.old.number) result }
+        ensures refused { IfErr result IsOfReader }
     {
         self.tree.pin(rt, worker)
     }
@@ -204,6 +205,7 @@ impl<K: Word64, V: Drop> CongeeArc<K, V> {
         ensures worker { worker.new ≡ worker.old }
         ensures answers { Owns (Serves (is_held_by self.now.tree.id worker.old guard.now)
             (Answers {V = V} (ByHold (λ _ _. false) false) worker.old.number (op.Get (K.word key)) got)) (λ read. read) result }
+        ensures refused { IfErr result IsOfReader }
     {
         owners(self.tree.get(rt, key.to_word(), worker, guard))
     }
@@ -275,6 +277,21 @@ impl<K: Word64, V: Drop> CongeeArc<K, V> {
         owners(befores(answer))
     }
 
+    /// Whether a key has a value.
+    pub fn contains_key<R: Wait>(
+        &self,
+        rt: &R,
+        key: K,
+        worker: &mut Worker,
+        guard: &Guard,
+    ) -> Result<bool, Refusal>
+        ensures worker { worker.new ≡ worker.old }
+        ensures answers { Serves (is_held_by self.now.tree.id worker.old guard.now) (Answers {V = V} (ByHold (λ _ _. false) false) worker.old.number (op.Get (K.word key)) contained) result }
+        ensures refused { IfErr result IsOfReader }
+    {
+        self.tree.contains_key(rt, key.to_word(), worker, guard)
+    }
+
     /// Whether no key has a value, at its one step.
     pub fn is_empty<R: Wait>(
         &self,
@@ -284,6 +301,7 @@ impl<K: Word64, V: Drop> CongeeArc<K, V> {
     ) -> Result<bool, Refusal>
         ensures worker { worker.new ≡ worker.old }
         ensures answers { Serves (is_held_by self.now.tree.id worker.old guard.now) (Answers {V = V} (ByHold (λ _ _. false) false) worker.old.number op.IsEmpty emptied) result }
+        ensures refused { IfErr result IsOfReader }
     {
         self.tree.is_empty(rt, worker, guard)
     }
@@ -305,9 +323,17 @@ impl<K: Word64, V: Drop> CongeeArc<K, V> {
         self.tree.stats(rt, worker)
     }
 
+    /// How many pairs there are, at its one step; more than `u64::MAX` are told as that. It wants no guard. Refused as Memory.
+    pub fn len<R: Wait>(&self, rt: &R, worker: &mut Worker) -> Result<u64, Refusal>
+        ensures worker { worker.new ≡ worker.old }
+        ensures answers { Serves (is_of self.now.tree.id worker.old) (Answers {V = V} (ByHold (λ _ _. false) false) worker.old.number op.Stats pairs_counted) result }
+    {
+        self.tree.len(rt, worker)
+    }
+
     /// The bytes charged to the allocator.
     pub fn charged<R: Wait>(&self, rt: &R) -> u64
-        ensures { IsTold {V = V} (λ _ _. false) false charge_of result }
+        ensures { IsTold {V = V} (λ _ _. false) false (charge_of self.now.tree.account) result }
     {
         self.tree.charged(rt)
     }

@@ -1,6 +1,7 @@
 //! A whole call, whoever gives its turns.
 
 ghost use Rattle.std.specs.Prelude.{◌≡◌, ◌≢◌, ℕ, Option, None, Some, IfErr};
+ghost use Rattle.std.specs.Int.{from_be_bytes, w64};
 ghost use Rattle.std.specs.Option.{option_map};
 ghost use Rattle.joint.specs.declared.refusal.Refusal.TheVariants as cause;
 ghost use Rattle.joint.specs.declared.steps.Op.{Op};
@@ -48,24 +49,43 @@ pub(crate) trait Pair<P>: Drop {
     /// The pair of a key and a value.
     ghost pair: { ℕ → P → Self };
 
+    /// Its key.
+    ghost key_of: { Self → ℕ };
+
     /// The pair of a key and a value.
     fn pair(key: u64, value: P) -> Self
         ensures { result ≡ pair key value };
+
+    /// Its key.
+    fn key(&self) -> u64
+        ensures { result ≡ key_of self.now };
 }
 
 impl<P: Drop> Pair<P> for (u64, P) {
     ghost pair = { λ key value. (key, value) };
 
+    ghost key_of = { λ pair. pair.0 };
+
     fn pair(key: u64, value: P) -> Self {
         (key, value)
+    }
+
+    fn key(&self) -> u64 {
+        self.0
     }
 }
 
 impl<P: Drop> Pair<P> for ([u8; KEY_BYTES], P) {
     ghost pair = { λ key value. (key_bytes key, value) };
 
+    ghost key_of = { λ pair. from_be_bytes w64 pair.0 };
+
     fn pair(key: u64, value: P) -> Self {
         (key.to_be_bytes(), value)
+    }
+
+    fn key(&self) -> u64 {
+        u64::from_be_bytes(self.0)
     }
 }
 

@@ -1,12 +1,12 @@
 //! The index of words for threads, with a journal and a ledger that counts its writing calls.
 
-ghost use Rattle.std.specs.Prelude.{◌≡◌, ◌<◌, ℕ, false, length, nat_eq, true, IfErr, IfOk, MatchResult};
+ghost use Rattle.std.specs.Prelude.{◌≡◌, ◌≤◌, ◌<◌, ℕ, false, length, nat_eq, true, IfErr, IfOk, MatchResult, suc, map, take};
 ghost use Rattle.std.specs.Option.{option_map};
-ghost use Rattle.joint.specs.threads.Journals.{IsJournal};
+ghost use Rattle.joint.specs.threads.Journals.{ClosesJournal, IsJournal};
 ghost use Rattle.joint.specs.nodes.Opening.{IsUnshared};
 ghost use Rattle.joint.specs.threads.Pinned.{CallsPinned, KeepsWorker};
-ghost use Rattle.joint.specs.threads.Threads.{Answers, AreKeys, As, Closes, Hands, IsAccount, IsHold, IsRound, IsTold, IsUnclosed, Pins, Scans, Serves, is_held_by, is_of, register_step, registered, charge_of, waiting_bytes_of, waiting_of, computed, counted, either_words, emptied, exchanged, got, if_present, inserted, listed, or_insert, removed, replaced, scanned, told, words};
-ghost use Rattle.joint.specs.threads.Writing.{Gathers, Reads, Writes, WritesMute};
+ghost use Rattle.joint.specs.threads.Threads.{Answers, AreKeys, As, Ascend, Hands, IsAccount, IsHold, IsOfReader, IsRound, IsTold, IsUnclosed, Pins, Scans, Serves, is_held_by, is_of, register_step, registered, charge_of, waiting_bytes_of, waiting_of, computed, contained, counted, either_words, emptied, exchanged, got, if_present, inserted, listed, or_insert, pairs_counted, removed, replaced, scanned, told, words};
+ghost use Rattle.joint.specs.threads.Writing.{Gathers, GathersJournal, Reads, Writes, WritesMute};
 ghost use Rattle.joint.specs.declared.refusal.Refusal.TheVariants as cause;
 ghost use Rattle.joint.specs.declared.steps.Op.TheVariants as op;
 
@@ -16,6 +16,7 @@ use crate::refusal::Refusal;
 use crate::steps::Op;
 use crate::threads::answers::{IfPresent, OrInsert};
 use crate::threads::ends::{computed, exchanged, inserted, removed, replaced};
+use crate::threads::journal::Journal;
 use crate::threads::journaled_world::JournaledWorld;
 use crate::threads::share::Share;
 use crate::threads::tokens::{Guard, Worker};
@@ -101,6 +102,7 @@ impl<L: Ledger, W: Watch, K: Word64, V: Word64, A: Allocator, D: Drop> Journaled
     pub fn pin<R: Wait>(&self, rt: &R, worker: &mut Worker) -> Result<Guard, Refusal>
         ensures worker { worker.new ≡ worker.old }
         ensures answers { Serves (is_of self.now.tree.id worker.old) (Pins Reads self.now.tree.id worker.old.number) result }
+        ensures refused { IfErr result IsOfReader }
     {
         self.tree.pin(rt, worker)
     }
@@ -172,6 +174,7 @@ impl<L: Ledger, W: Watch, K: Word64, V: Word64, A: Allocator, D: Drop> Journaled
         ensures worker { worker.new ≡ worker.old }
         ensures answers { As (Serves (is_held_by self.now.tree.id worker.old guard.now)
             (Answers Reads worker.old.number (op.Get (K.word key.now)) got)) (words V.of_word) result }
+        ensures refused { IfErr result IsOfReader }
     {
         words(self.tree.get(rt, key.to_word(), worker, guard))
     }
@@ -310,7 +313,10 @@ impl<L: Ledger, W: Watch, K: Word64, V: Word64, A: Allocator, D: Drop> Journaled
     ) -> Result<usize, Refusal>
         ensures worker { worker.new ≡ worker.old }
         ensures answers { Serves (is_held_by self.now.tree.id worker.old guard.now)
-            (Scans Reads (λ k v. (k, v)) worker.old.number (op.Range (K.word start.now) (K.word end.now) (length out.old)) out.old out.new scanned) result }
+            (Scans Reads (λ k v. (k, v)) worker.old.number (op.Range (K.word start.now) (K.word end.now) (length out.old)) out.old out.new (scanned (K.word start.now, K.word end.now) (map (λ pair. pair.0) out.new))) result }
+        ensures few { IfOk result (λ n. n ≤ length out.old) }
+        ensures ascend { IfOk result (λ n. Ascend (K.word start.now) (K.word end.now) (map (λ pair. pair.0) (take n out.new))) }
+        ensures refused { IfErr result IsOfReader }
         ensures foreign { is_held_by self.now.tree.id worker.old guard.now ≡ false → out.new ≡ out.old }
     {
         let scan = Op::Range(start.to_word(), end.to_word(), out.len());
@@ -330,11 +336,29 @@ impl<L: Ledger, W: Watch, K: Word64, V: Word64, A: Allocator, D: Drop> Journaled
     ) -> Result<usize, Refusal>
         ensures worker { worker.new ≡ worker.old }
         ensures answers { Serves (is_held_by self.now.tree.id worker.old guard.now)
-            (Scans Reads (λ k v. (k, v)) worker.old.number (op.RangeInclusive (K.word start.now) (K.word last.now) (length out.old)) out.old out.new scanned) result }
+            (Scans Reads (λ k v. (k, v)) worker.old.number (op.RangeInclusive (K.word start.now) (K.word last.now) (length out.old)) out.old out.new (scanned (K.word start.now, suc (K.word last.now)) (map (λ pair. pair.0) out.new))) result }
+        ensures few { IfOk result (λ n. n ≤ length out.old) }
+        ensures ascend { IfOk result (λ n. Ascend (K.word start.now) (suc (K.word last.now)) (map (λ pair. pair.0) (take n out.new))) }
+        ensures refused { IfErr result IsOfReader }
         ensures foreign { is_held_by self.now.tree.id worker.old guard.now ≡ false → out.new ≡ out.old }
     {
         let scan = Op::RangeInclusive(start.to_word(), last.to_word(), out.len());
         self.tree.find(rt, scan, out, worker, guard)
+    }
+
+    /// Whether a key has a value. It is written down as a look-up.
+    pub fn contains_key<R: Wait>(
+        &self,
+        rt: &R,
+        key: &K,
+        worker: &mut Worker,
+        guard: &Guard,
+    ) -> Result<bool, Refusal>
+        ensures worker { worker.new ≡ worker.old }
+        ensures answers { Serves (is_held_by self.now.tree.id worker.old guard.now) (Answers Reads worker.old.number (op.Get (K.word key.now)) contained) result }
+        ensures refused { IfErr result IsOfReader }
+    {
+        self.tree.contains_key(rt, key.to_word(), worker, guard)
     }
 
     /// Whether no key has a value, at its one step.
@@ -346,6 +370,7 @@ impl<L: Ledger, W: Watch, K: Word64, V: Word64, A: Allocator, D: Drop> Journaled
     ) -> Result<bool, Refusal>
         ensures worker { worker.new ≡ worker.old }
         ensures answers { Serves (is_held_by self.now.tree.id worker.old guard.now) (Answers Reads worker.old.number op.IsEmpty emptied) result }
+        ensures refused { IfErr result IsOfReader }
     {
         self.tree.is_empty(rt, worker, guard)
     }
@@ -367,9 +392,17 @@ impl<L: Ledger, W: Watch, K: Word64, V: Word64, A: Allocator, D: Drop> Journaled
         self.tree.stats(rt, worker)
     }
 
+    /// How many pairs there are, at its one step; more than `u64::MAX` are told as that. It wants no guard. Refused as Memory.
+    pub fn len<R: Wait>(&self, rt: &R, worker: &mut Worker) -> Result<u64, Refusal>
+        ensures worker { worker.new ≡ worker.old }
+        ensures answers { Serves (is_of self.now.tree.id worker.old) (Answers Reads worker.old.number op.Stats pairs_counted) result }
+    {
+        self.tree.len(rt, worker)
+    }
+
     /// The bytes charged to the allocator.
     pub fn charged<R: Wait>(&self, rt: &R) -> u64
-        ensures { IsTold nat_eq true charge_of result }
+        ensures { IsTold nat_eq true (charge_of self.now.tree.account) result }
     {
         self.tree.charged(rt)
     }
@@ -403,6 +436,19 @@ impl<L: Ledger, W: Watch, K: Word64, V: Word64, A: Allocator, D: Drop> Journaled
         ensures { MatchResult result (λ entries. IsJournal entries.items) (λ e. e ≡ cause.Memory) }
     {
         self.tree.hold(rt).entries(self.alloc)
+    }
+
+    /// Both in one hold: the number of watched writing calls, by a share of all parts, and a copy of the journal in which
+    /// they are. Refused as SharesLeft and as Memory.
+    pub fn gather_entries<R: Wait>(
+        &self,
+        rt: &R,
+        share: &mut Share<L>,
+    ) -> Result<(u64, Vec<Entry<u64>>), Refusal>
+        ensures gathers { GathersJournal W.watched L.parts share.old result }
+        ensures share { share.new ≡ share.old }
+    {
+        self.tree.hold(rt).gather_entries(self.alloc, share)
     }
 }
 
@@ -440,12 +486,12 @@ impl<L: Ledger, W: Watch, K: Word64, V: Word64, A: Allocator, D: Drainer<K, V>> 
     A,
     D,
 > {
-    /// Hands each pair to the drainer, ascending by key, and gives allocator and drainer back; the allocator has the
-    /// charge with which it came, and its limit. Refused as WorkersLeft while workers are registered, and the index comes
+    /// Hands each pair to the drainer, ascending by key, and gives allocator, drainer and journal back; the allocator has
+    /// the charge with which it came, and its limit, and the journal replays to the pairs that were drained. Refused as WorkersLeft while workers are registered, and the index comes
     /// back; as Foreign too where another charge or limit came in with what its lock keeps, which no run brings about.
-    pub fn close<R: Wait>(self, _rt: &R) -> Result<(A, D), (Refusal, Self)>
+    pub fn close<R: Wait>(self, _rt: &R) -> Result<(A, D, Journal<L, W>), (Refusal, Self)>
         requires { D.can_drain self.drainer }
-        ensures closed { IfOk result (λ r. Closes nat_eq true (λ before key value after. D.drains before (K.of_word key) (V.of_word value) after) self.drainer (A.charged_of r.0) (A.limit_of r.0) r.1) }
+        ensures closed { IfOk result (λ r. ClosesJournal (λ before key value after. D.drains before (K.of_word key) (V.of_word value) after) self.drainer (A.charged_of r.0) (A.limit_of r.0) r.1 r.2.entries.items) }
         ensures given_back { IfOk result (λ r. IsAccount self.tree.account (A.charged_of r.0) (A.limit_of r.0)) }
         ensures cause { IfErr result (λ e. IsUnclosed nat_eq true self.tree.account e.0) }
         ensures back { IfErr result (λ e. (e.1.tree.id ≡ self.tree.id) × (e.1.tree.account ≡ self.tree.account) × (e.1.drainer ≡ self.drainer)) }
@@ -457,7 +503,7 @@ impl<L: Ledger, W: Watch, K: Word64, V: Word64, A: Allocator, D: Drainer<K, V>> 
             words: _,
         } = self;
         match tree.close(OfWords::<K, V, D>::new(drainer)) {
-            Ok((allocator, drainer)) => Ok((allocator, drainer.into_inner())),
+            Ok((allocator, drainer, journal)) => Ok((allocator, drainer.into_inner(), journal)),
             Err((refusal, tree, drainer)) => {
                 let back = Journaled {
                     tree,

@@ -10,11 +10,12 @@ ghost use Rattle.joint.specs.threads.Threads.{register_step};
 ghost use Rattle.joint.specs.world.World.{IsStep};
 ghost use Rattle.joint.specs.engine.Engine.{IsOfCall};
 ghost use Rattle.joint.specs.Changes.{changes};
-ghost use Rattle.joint.specs.threads.Writing.{Appended, Gathers, GathersOf, IsInFlight, MayStep, ReadingTurn, Reads, WontRepeat, WritingTurn};
+ghost use Rattle.joint.specs.threads.Writing.{Appended, Gathers, GathersJournal, GathersOf, IsInFlight, MayStep, ReadingTurn, Reads, WontRepeat, WritingTurn};
 ghost use Rattle.joint.specs.declared.refusal.Refusal.TheVariants as cause;
 
 use crate::refusal::Refusal;
 use crate::steps::{Event, Kind, Op, Outcome, Report, Step};
+use crate::threads::journal::Journal;
 use crate::threads::locked::{Locked, registration};
 use crate::threads::progress::Progress;
 use crate::threads::share::Share;
@@ -103,6 +104,7 @@ impl<L: Ledger, W: Watch, A: Allocator> JournaledWorld<L, W, A> {
         ensures turn { ReadingTurn self.old.world step.worker op.now step result self.new.world }
         ensures told { IsToldInCall result.outcome }
     {
+        self.world.sound();
         if op.changes() || !self.may_step(step.worker, *op, None, &step.event) {
             return stopped(Outcome::Refused(Refusal::Idle));
         }
@@ -121,6 +123,7 @@ impl<L: Ledger, W: Watch, A: Allocator> JournaledWorld<L, W, A> {
         ensures turn { WritingTurn W.watched step.worker op.now call.old self.old.world step result call.new self.new.world }
         ensures told { IsToldInCall result.outcome }
     {
+        self.world.sound();
         let who = step.worker;
         if !self.may_step(who, *op, call.given, &step.event)
             || !self.wont_repeat(who, &call.entry)
@@ -142,12 +145,24 @@ impl<L: Ledger, W: Watch, A: Allocator> JournaledWorld<L, W, A> {
         ensures world { self.new.world ≡ self.old.world }
     {
         self.world.sound();
-        match share.lacks() {
-            0 => {
-                share.audit(&mut self.book);
-                Ok(share.count())
-            }
-            lacking => Err(Refusal::SharesLeft(lacking)),
+        share.gather(&mut self.book)
+    }
+
+    /// The same, with a copy of the journal in which they are. Refused as Memory too.
+    pub(crate) fn gather_entries(
+        &mut self,
+        alloc: Global,
+        share: &mut Share<L>,
+    ) -> Result<(u64, Vec<Entry<u64>>), Refusal>
+        ensures gathers { GathersJournal W.watched L.parts share.old result }
+        ensures share { share.new ≡ share.old }
+    {
+        match self.gather(share) {
+            Ok(count) => match self.entries(alloc) {
+                Ok(entries) => Ok((count, entries)),
+                Err(refusal) => Err(refusal),
+            },
+            Err(refusal) => Err(refusal),
         }
     }
 
@@ -169,9 +184,13 @@ impl<L: Ledger, W: Watch, A: Allocator> Locked<u64> for JournaledWorld<L, W, A> 
 
     type Memo = Op<u64>;
 
+    type Kept = Journal<L, W>;
+
     ghost asked = { λ op. op };
 
     ghost machine = { λ k. k.world };
+
+    ghost keeps = { λ journal s. (journal.entries.items ≡ s.log.entries) × HasPlaces s.log.places };
 
     ghost turns = { ReadingTurn };
 
@@ -205,17 +224,24 @@ impl<L: Ledger, W: Watch, A: Allocator> Locked<u64> for JournaledWorld<L, W, A> 
         &self.world
     }
 
-    fn close<D: Drainer<u64, u64>>(self, drainer: D) -> Result<(A, D), (Refusal, Self, D)>
+    fn close<D: Drainer<u64, u64>>(
+        self,
+        drainer: D,
+    ) -> Result<(A, D, Journal<L, W>), (Refusal, Self, D)>
         requires { D.can_drain drainer }
-        ensures { MatchResult result (λ r. IsClosed D.drains self.world drainer (A.charged_of r.0) (A.limit_of r.0) r.1) (λ e. IsNotClosed self.world drainer e.0 e.1.world e.2) }
+        ensures closed { MatchResult result (λ r. IsClosed D.drains self.world drainer (A.charged_of r.0) (A.limit_of r.0) r.1) (λ e. IsNotClosed self.world drainer e.0 e.1.world e.2) }
+        ensures kept { IfOk result (λ r. (r.2.entries.items ≡ self.world.log.entries) × HasPlaces self.world.log.places) }
     {
         let JournaledWorld {
             world,
             book,
             watch: _,
         } = self;
-        match world.close(drainer) {
-            Ok(closed) => Ok(closed),
+        world.sound();
+        match world.close_with_journal(drainer) {
+            Ok((allocator, drainer, entries)) => {
+                Ok((allocator, drainer, Journal::of(entries, book)))
+            }
             Err((refusal, world, drainer)) => Err((
                 refusal,
                 JournaledWorld::with(world, book),
@@ -244,7 +270,7 @@ fn step_on<A: Allocator>(
 }
 
 /// Whether two calls are the same.
-fn is_same_op(one: &Op<u64>, other: &Op<u64>) -> bool
+pub(crate) fn is_same_op(one: &Op<u64>, other: &Op<u64>) -> bool
     ensures { IsTrue result ↔ (one.now ≡ other.now) }
 {
     *one == *other

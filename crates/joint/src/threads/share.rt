@@ -2,8 +2,9 @@
 
 ghost use Rattle.std.specs.Prelude.{◌≡◌, ◌+◌, ◌-◌, ◌*◌, ◌^◌, ◌%◌, ◌<◌, ◌≤◌};
 ghost use Rattle.joint.specs.engine.Journaling.{one_where};
-ghost use Rattle.joint.specs.threads.Shares.{ShareView, counts_more};
+ghost use Rattle.joint.specs.threads.Shares.{GathersBook, ShareView, counts_more};
 
+use crate::refusal::Refusal;
 use std::marker::{Model, PhantomData};
 use std::sync::ledger::{Book, Ledger, Share as Tokens};
 
@@ -129,6 +130,21 @@ impl<L: Ledger> Share<L> {
         ensures { result + self.now.parts ≡ L.parts }
     {
         self.all.all - self.parts
+    }
+
+    /// What it counts, with all parts: as much as the book does. One that lacks parts is refused as SharesLeft.
+    pub(crate) fn gather(&mut self, book: &mut Book<L>) -> Result<u64, Refusal>
+        ensures gathers { GathersBook L.parts book.old.total self.old result }
+        ensures share { self.new ≡ self.old }
+        ensures book { book.new.total ≡ book.old.total }
+    {
+        match self.lacks() {
+            0 => {
+                self.audit(book);
+                Ok(self.count())
+            }
+            lacking => Err(Refusal::SharesLeft(lacking)),
+        }
     }
 
     /// With all parts it counts what the book does.

@@ -1,10 +1,10 @@
 //! One index under one lock, which each step of a call takes anew.
 
-ghost use Rattle.std.specs.Prelude.{◌≡◌, ℕ, [], false, length, IfOk, IfErr};
+ghost use Rattle.std.specs.Prelude.{◌≡◌, ◌≤◌, ℕ, [], false, length, map, take, IfOk, IfErr};
 ghost use Rattle.joint.specs.threads.Driving.{IsToldInCall, ended};
 ghost use Rattle.joint.specs.nodes.Opening.{IsUnopened};
 ghost use Rattle.joint.specs.threads.Pinned.{CallsPinned, KeepsWorker};
-ghost use Rattle.joint.specs.threads.Threads.{Answers, ByHold, Closes, Computes, Hands, IsAccount, IsByHolds, IsHold, IsRound, IsTold, IsUnclosed, Pins, Scans, Serves, is_held_by, is_of, register_step, registered, charge_of, waiting_bytes_of, waiting_of, computed, counted, emptied, exchanged, got, inserted, listed, removed, replaced, scanned, told};
+ghost use Rattle.joint.specs.threads.Threads.{Answers, Ascend, ClosesWith, Computes, Hands, IsAccount, IsByHolds, IsHold, IsOfReader, IsRound, IsTold, IsUnclosed, Pins, Scans, Serves, is_held_by, is_of, register_step, registered, charge_of, waiting_bytes_of, waiting_of, bounds, computed, contained, counted, emptied, exchanged, got, inserted, listed, pairs_counted, removed, replaced, scanned, told};
 ghost use Rattle.joint.specs.engine.Engine.{IsOfCall};
 ghost use Rattle.joint.specs.declared.steps.Op.TheVariants as op;
 
@@ -15,11 +15,11 @@ use crate::steps::{Op, Outcome, Report, Step};
 use crate::threads::answers::{Answer, Silent};
 use crate::threads::driver::{Pair, drive_to};
 use crate::threads::ends::{
-    End, computed, counted, emptied, exchanged, got, inserted, listed, removed, replaced, scanned,
-    told,
+    End, bounds, computed, contained, counted, emptied, exchanged, got, inserted, listed,
+    of_reader, pairs_counted, removed, replaced, scanned, told,
 };
 use crate::threads::holds::Holds;
-use crate::threads::locked::{Locked, Plain};
+use crate::threads::locked::{Locked, Plain, Words};
 use crate::threads::rounds::{Ends, round};
 use crate::threads::tokens::{Guard, Worker};
 use crate::world::World;
@@ -193,7 +193,8 @@ impl<P: Payload + Small, T: Locked<P>> Tree<P, T> {
 
     /// A guard.
     pub(crate) fn pin<R: Wait>(&self, rt: &R, worker: &Worker) -> Result<Guard, Refusal>
-        ensures { Serves (is_of self.now.id worker.now) (Pins T.holds self.now.id worker.now.number) result }
+        ensures answers { Serves (is_of self.now.id worker.now) (Pins T.holds self.now.id worker.now.number) result }
+        ensures refused { IfErr result IsOfReader }
     {
         if !self.owns(worker) {
             return Err(Refusal::Foreign);
@@ -203,7 +204,7 @@ impl<P: Payload + Small, T: Locked<P>> Tree<P, T> {
                 tree: self.id,
                 worker: worker.number,
             }),
-            Err(refusal) => Err(refusal),
+            Err(refusal) => Err(of_reader(refusal)),
         }
     }
 
@@ -312,12 +313,30 @@ impl<P: Payload + Small, T: Locked<P>> Tree<P, T> {
         worker: &Worker,
         guard: &Guard,
     ) -> Result<Option<P>, Refusal>
-        ensures { Serves (is_held_by self.now.id worker.now guard.now) (Answers T.holds worker.now.number (op.Get key) got) result }
+        ensures answers { Serves (is_held_by self.now.id worker.now guard.now) (Answers T.holds worker.now.number (op.Get key) got) result }
+        ensures refused { IfErr result IsOfReader }
     {
         if !self.serves(worker, guard) {
             return Err(Refusal::Foreign);
         }
         got(self.call(rt, worker, Op::Get(key)))
+    }
+
+    /// Whether a key has a value.
+    pub(crate) fn contains_key<R: Wait>(
+        &self,
+        rt: &R,
+        key: u64,
+        worker: &Worker,
+        guard: &Guard,
+    ) -> Result<bool, Refusal>
+        ensures answers { Serves (is_held_by self.now.id worker.now guard.now) (Answers T.holds worker.now.number (op.Get key) contained) result }
+        ensures refused { IfErr result IsOfReader }
+    {
+        if !self.serves(worker, guard) {
+            return Err(Refusal::Foreign);
+        }
+        contained(self.call(rt, worker, Op::Get(key)))
     }
 
     /// Writes the pairs that a scan finds to the places, and gives their number.
@@ -330,13 +349,18 @@ impl<P: Payload + Small, T: Locked<P>> Tree<P, T> {
         guard: &Guard,
     ) -> Result<usize, Refusal>
         ensures answers { Serves (is_held_by self.now.id worker.now guard.now)
-            (Scans T.holds Q.pair worker.now.number op found.old found.new scanned) result }
+            (Scans T.holds Q.pair worker.now.number op found.old found.new (scanned (bounds op) (map Q.key_of found.new))) result }
+        ensures few { IfOk result (λ n. n ≤ length found.old) }
+        ensures ascend { IfOk result (λ n. Ascend (bounds op).0 (bounds op).1 (map Q.key_of (take n found.new))) }
+        ensures refused { IfErr result IsOfReader }
         ensures foreign { is_held_by self.now.id worker.now guard.now ≡ false → found.new ≡ found.old }
     {
         if !self.serves(worker, guard) {
             return Err(Refusal::Foreign);
         }
-        scanned(self.scan(rt, worker, op, found))
+        let range = bounds(&op);
+        let told = self.scan(rt, worker, op, found);
+        scanned(range, found, told)
     }
 
     /// Whether no key has a value, at its one step.
@@ -346,7 +370,8 @@ impl<P: Payload + Small, T: Locked<P>> Tree<P, T> {
         worker: &Worker,
         guard: &Guard,
     ) -> Result<bool, Refusal>
-        ensures { Serves (is_held_by self.now.id worker.now guard.now) (Answers T.holds worker.now.number op.IsEmpty emptied) result }
+        ensures answers { Serves (is_held_by self.now.id worker.now guard.now) (Answers T.holds worker.now.number op.IsEmpty emptied) result }
+        ensures refused { IfErr result IsOfReader }
     {
         if !self.serves(worker, guard) {
             return Err(Refusal::Foreign);
@@ -374,14 +399,25 @@ impl<P: Payload + Small, T: Locked<P>> Tree<P, T> {
         counted(self.call(rt, worker, Op::Stats))
     }
 
+    /// How many pairs there are, at its one step.
+    pub(crate) fn len<R: Wait>(&self, rt: &R, worker: &Worker) -> Result<u64, Refusal>
+        ensures { Serves (is_of self.now.id worker.now) (Answers T.holds worker.now.number op.Stats pairs_counted) result }
+    {
+        if !self.owns(worker) {
+            return Err(Refusal::Foreign);
+        }
+        pairs_counted(self.call(rt, worker, Op::Stats))
+    }
+
     /// The bytes charged to the allocator.
     pub(crate) fn charged<R: Wait>(&self, rt: &R) -> u64
-        ensures { IsTold P.same_as P.always_copies charge_of result }
+        ensures { IsTold P.same_as P.always_copies (charge_of self.now.account) result }
     {
         let kept = self.hold(rt);
         let machine = kept.world();
         machine.sound();
-        machine.charged()
+        let sizes = machine.charged().saturating_sub(machine.account().charged);
+        self.account.charged.saturating_add(sizes)
     }
 
     /// The nodes that wait for their destruction.
@@ -410,9 +446,9 @@ impl<P: Payload + Small, T: Locked<P>> Tree<P, T> {
     pub(crate) fn close<D: Drainer<u64, P>>(
         self,
         drainer: D,
-    ) -> Result<(T::Account, D), (Refusal, Self, D)>
+    ) -> Result<(T::Account, D, T::Kept), (Refusal, Self, D)>
         requires { D.can_drain drainer }
-        ensures closed { IfOk result (λ r. Closes P.same_as P.always_copies D.drains drainer (T.Account.charged_of r.0) (T.Account.limit_of r.0) r.1) }
+        ensures closed { IfOk result (λ r. ClosesWith P.same_as P.always_copies D.drains T.keeps drainer (T.Account.charged_of r.0) (T.Account.limit_of r.0) r.1 r.2) }
         ensures given_back { IfOk result (λ r. IsAccount self.account (T.Account.charged_of r.0) (T.Account.limit_of r.0)) }
         ensures cause { IfErr result (λ e. IsUnclosed P.same_as P.always_copies self.account e.0) }
         ensures back { IfErr result (λ e. (e.1.id ≡ self.id) × (e.1.account ≡ self.account) × (e.2 ≡ drainer)) }
@@ -447,7 +483,22 @@ impl<P: Payload + Small, A: Allocator> Tree<P, Plain<P, A>> {
         let world = World::new(alloc, limits, allocator)?;
         Ok(Tree::of(limits.id, account, Plain::new(world)))
     }
+}
 
+impl<A: Allocator> Tree<u64, Words<A>> {
+    /// The same of an index of words.
+    pub(crate) fn of_words(alloc: Global, limits: Limits, allocator: A) -> Result<Self, Refusal>
+        ensures id { IfOk result (λ t. t.id ≡ limits.id) }
+        ensures account { IfOk result (λ t. IsAccount t.account (A.charged_of allocator) (A.limit_of allocator)) }
+        ensures cause { IfErr result (λ e. IsUnopened limits (A.charged_of allocator) (A.limit_of allocator) e) }
+    {
+        let account = Account::of(&allocator);
+        let world = World::new(alloc, limits, allocator)?;
+        Ok(Tree::of(limits.id, account, Words::new(world)))
+    }
+}
+
+impl<P: Payload + Small, T: Locked<P>> Tree<P, T> {
     /// One that finds no pairs.
     fn compute<C: Answer<P>, R: Wait>(
         &self,
@@ -457,7 +508,7 @@ impl<P: Payload + Small, A: Allocator> Tree<P, Plain<P, A>> {
         answers: &mut C,
     ) -> End<P>
         requires { C.can_answer answers.old }
-        ensures { IsByHolds {Q = ℕ × P} (ByHold P.same_as P.always_copies) C.answers (λ k v. (k, v)) worker.now.number op answers.old [] [] (ended result) }
+        ensures { IsByHolds {Q = ℕ × P} T.holds C.answers (λ k v. (k, v)) worker.now.number op answers.old [] [] (ended result) }
     {
         let mut nothing: [(u64, P); 0] = [];
         self.drive(rt, worker, op, answers, &mut nothing)
@@ -472,7 +523,7 @@ impl<P: Payload + Small, A: Allocator> Tree<P, Plain<P, A>> {
         worker: &Worker,
         guard: &Guard,
     ) -> Result<Option<P>, Refusal>
-        ensures { Serves (is_held_by self.now.id worker.now guard.now) (Answers (ByHold P.same_as P.always_copies) worker.now.number (op.Insert key value) inserted) result }
+        ensures { Serves (is_held_by self.now.id worker.now guard.now) (Answers T.holds worker.now.number (op.Insert key value) inserted) result }
     {
         if !self.serves(worker, guard) {
             return Err(Refusal::Foreign);
@@ -488,7 +539,7 @@ impl<P: Payload + Small, A: Allocator> Tree<P, Plain<P, A>> {
         worker: &Worker,
         guard: &Guard,
     ) -> Result<Option<P>, Refusal>
-        ensures { Serves (is_held_by self.now.id worker.now guard.now) (Answers (ByHold P.same_as P.always_copies) worker.now.number (op.Remove key) removed) result }
+        ensures { Serves (is_held_by self.now.id worker.now guard.now) (Answers T.holds worker.now.number (op.Remove key) removed) result }
     {
         if !self.serves(worker, guard) {
             return Err(Refusal::Foreign);
@@ -506,7 +557,7 @@ impl<P: Payload + Small, A: Allocator> Tree<P, Plain<P, A>> {
         guard: &Guard,
     ) -> Result<Option<(P, Option<P>)>, Refusal>
         requires { C.can_answer answers.old }
-        ensures { Serves (is_held_by self.now.id worker.now guard.now) (Computes (ByHold P.same_as P.always_copies) C.answers worker.now.number (op.ComputePresent key) answers.old computed) result }
+        ensures { Serves (is_held_by self.now.id worker.now guard.now) (Computes T.holds C.answers worker.now.number (op.ComputePresent key) answers.old computed) result }
     {
         if !self.serves(worker, guard) {
             return Err(Refusal::Foreign);
@@ -524,7 +575,7 @@ impl<P: Payload + Small, A: Allocator> Tree<P, Plain<P, A>> {
         guard: &Guard,
     ) -> Result<Option<P>, Refusal>
         requires { C.can_answer answers.old }
-        ensures { Serves (is_held_by self.now.id worker.now guard.now) (Computes (ByHold P.same_as P.always_copies) C.answers worker.now.number (op.ComputeInsert key) answers.old replaced) result }
+        ensures { Serves (is_held_by self.now.id worker.now guard.now) (Computes T.holds C.answers worker.now.number (op.ComputeInsert key) answers.old replaced) result }
     {
         if !self.serves(worker, guard) {
             return Err(Refusal::Foreign);
@@ -542,7 +593,7 @@ impl<P: Payload + Small, A: Allocator> Tree<P, Plain<P, A>> {
         worker: &Worker,
         guard: &Guard,
     ) -> Result<Result<Option<P>, Option<P>>, Refusal>
-        ensures { Serves (is_held_by self.now.id worker.now guard.now) (Answers (ByHold P.same_as P.always_copies) worker.now.number (op.Exchange key old new) exchanged) result }
+        ensures { Serves (is_held_by self.now.id worker.now guard.now) (Answers T.holds worker.now.number (op.Exchange key old new) exchanged) result }
     {
         if !self.serves(worker, guard) {
             return Err(Refusal::Foreign);

@@ -1,11 +1,12 @@
 //! The index for threads whose keys are numbers.
 
-ghost use Rattle.std.specs.Prelude.{◌≡◌, false, length, nat_eq, true, IfErr, IfOk, MatchResult};
+ghost use Rattle.std.specs.Prelude.{◌≡◌, ◌≤◌, false, length, nat_eq, true, IfErr, IfOk, MatchResult, suc, map, take};
+ghost use Rattle.std.specs.Int.{from_be_bytes, w64};
 ghost use Rattle.std.specs.Option.{option_map};
 ghost use Rattle.congee.specs.Keys.{key_bytes};
 ghost use Rattle.joint.specs.nodes.Opening.{IsUnopened};
 ghost use Rattle.joint.specs.threads.Pinned.{CallsPinned, KeepsWorker};
-ghost use Rattle.joint.specs.threads.Threads.{Answers, AreKeys, As, ByHold, Computes, Drops, Hands, IsAccount, IsHold, IsRound, IsTold, IsUnclosed, Pins, Scans, Serves, is_held_by, is_of, register_step, registered, charge_of, waiting_bytes_of, waiting_of, computed, counted, either_words, emptied, exchanged, got, if_present, inserted, listed, or_insert, removed, replaced, scanned, told, words};
+ghost use Rattle.joint.specs.threads.Threads.{Answers, AreKeys, As, Ascend, ByOwn, Computes, Drops, Hands, IsAccount, IsHold, IsOfReader, IsRound, IsTold, IsUnclosed, Pins, Scans, Serves, is_held_by, is_of, register_step, registered, charge_of, waiting_bytes_of, waiting_of, computed, contained, counted, either_words, emptied, exchanged, got, if_present, inserted, listed, or_insert, pairs_counted, removed, replaced, scanned, told, words};
 ghost use Rattle.joint.specs.declared.steps.Op.TheVariants as op;
 
 use crate::limits::Limits;
@@ -48,7 +49,7 @@ impl<V: Word64, A: Allocator> U64Congee<V, A> {
     /// The worker leaves its place; what it removed waits on. Refused as GuardOut while it is pinned, as Memory where
     /// its removals can't be queued, and as Foreign; it comes back.
     pub fn release<R: Wait>(&self, rt: &R, worker: Worker) -> Result<(), (Refusal, Worker)>
-        ensures { Hands (is_of self.now.words.tree.id worker) (Answers (ByHold nat_eq true) worker.number op.Release told) worker result }
+        ensures { Hands (is_of self.now.words.tree.id worker) (Answers (ByOwn nat_eq true) worker.number op.Release told) worker result }
     {
         self.words.release(rt, worker)
     }
@@ -56,7 +57,8 @@ impl<V: Word64, A: Allocator> U64Congee<V, A> {
     /// A guard. Refused as Count where 65,535 guards of the worker are out.
     pub fn pin<R: Wait>(&self, rt: &R, worker: &mut Worker) -> Result<Guard, Refusal>
         ensures worker { worker.new ≡ worker.old }
-        ensures answers { Serves (is_of self.now.words.tree.id worker.old) (Pins (ByHold nat_eq true) self.now.words.tree.id worker.old.number) result }
+        ensures answers { Serves (is_of self.now.words.tree.id worker.old) (Pins (ByOwn nat_eq true) self.now.words.tree.id worker.old.number) result }
+        ensures refused { IfErr result IsOfReader }
     {
         self.words.pin(rt, worker)
     }
@@ -69,7 +71,7 @@ impl<V: Word64, A: Allocator> U64Congee<V, A> {
         guard: Guard,
     ) -> Result<(), (Refusal, Guard)>
         ensures worker { worker.new ≡ worker.old }
-        ensures answers { Hands (is_held_by self.now.words.tree.id worker.old guard) (Answers (ByHold nat_eq true) worker.old.number op.Unpin told) guard result }
+        ensures answers { Hands (is_held_by self.now.words.tree.id worker.old guard) (Answers (ByOwn nat_eq true) worker.old.number op.Unpin told) guard result }
     {
         self.words.unpin(rt, worker, guard)
     }
@@ -86,7 +88,7 @@ impl<V: Word64, A: Allocator> U64Congee<V, A> {
     where
         F: Drop,
         requires { F.IsAlwaysCallable f }
-        ensures answers { CallsPinned (ByHold nat_eq true) self.now.words.tree.id F.FnOnce f worker.old worker.new result }
+        ensures answers { CallsPinned (ByOwn nat_eq true) self.now.words.tree.id F.FnOnce f worker.old worker.new result }
         ensures worker { KeepsWorker F.FnOnce f → worker.new ≡ worker.old }
     {
         self.words.pinned(rt, worker, f)
@@ -96,7 +98,7 @@ impl<V: Word64, A: Allocator> U64Congee<V, A> {
     /// queued; then nothing was done.
     pub fn flush<R: Wait>(&self, rt: &R, worker: &mut Worker, guard: &Guard) -> Result<(), Refusal>
         ensures worker { worker.new ≡ worker.old }
-        ensures answers { Serves (is_held_by self.now.words.tree.id worker.old guard.now) (Answers (ByHold nat_eq true) worker.old.number op.Flush told) result }
+        ensures answers { Serves (is_held_by self.now.words.tree.id worker.old guard.now) (Answers (ByOwn nat_eq true) worker.old.number op.Flush told) result }
     {
         self.words.flush(rt, worker, guard)
     }
@@ -104,7 +106,7 @@ impl<V: Word64, A: Allocator> U64Congee<V, A> {
     /// Pins the worker anew at the present epoch, where this is its only guard.
     pub fn repin<R: Wait>(&self, rt: &R, worker: &mut Worker, guard: &Guard) -> Result<(), Refusal>
         ensures worker { worker.new ≡ worker.old }
-        ensures answers { Serves (is_held_by self.now.words.tree.id worker.old guard.now) (Answers (ByHold nat_eq true) worker.old.number op.Repin told) result }
+        ensures answers { Serves (is_held_by self.now.words.tree.id worker.old guard.now) (Answers (ByOwn nat_eq true) worker.old.number op.Repin told) result }
     {
         self.words.repin(rt, worker, guard)
     }
@@ -112,7 +114,7 @@ impl<V: Word64, A: Allocator> U64Congee<V, A> {
     /// Pin, flush, unpin. Answers the first refusal; after a refused flush it unpins too.
     pub fn round<R: Wait>(&self, rt: &R, worker: &mut Worker) -> Result<(), Refusal>
         ensures worker { worker.new ≡ worker.old }
-        ensures answers { Serves (is_of self.now.words.tree.id worker.old) (IsRound (ByHold nat_eq true) worker.old.number) result }
+        ensures answers { Serves (is_of self.now.words.tree.id worker.old) (IsRound (ByOwn nat_eq true) worker.old.number) result }
     {
         self.words.round(rt, worker)
     }
@@ -127,7 +129,8 @@ impl<V: Word64, A: Allocator> U64Congee<V, A> {
     ) -> Result<Option<V>, Refusal>
         ensures worker { worker.new ≡ worker.old }
         ensures answers { As (Serves (is_held_by self.now.words.tree.id worker.old guard.now)
-            (Answers (ByHold nat_eq true) worker.old.number (op.Get key) got)) (words V.of_word) result }
+            (Answers (ByOwn nat_eq true) worker.old.number (op.Get key) got)) (words V.of_word) result }
+        ensures refused { IfErr result IsOfReader }
     {
         self.words.get(rt, &key, worker, guard)
     }
@@ -143,7 +146,7 @@ impl<V: Word64, A: Allocator> U64Congee<V, A> {
     ) -> Result<Option<V>, Refusal>
         ensures worker { worker.new ≡ worker.old }
         ensures answers { As (Serves (is_held_by self.now.words.tree.id worker.old guard.now)
-            (Answers (ByHold nat_eq true) worker.old.number (op.Insert key (V.word value)) inserted)) (words V.of_word) result }
+            (Answers (ByOwn nat_eq true) worker.old.number (op.Insert key (V.word value)) inserted)) (words V.of_word) result }
     {
         self.words.insert(rt, key, value, worker, guard)
     }
@@ -158,7 +161,7 @@ impl<V: Word64, A: Allocator> U64Congee<V, A> {
     ) -> Result<Option<V>, Refusal>
         ensures worker { worker.new ≡ worker.old }
         ensures answers { As (Serves (is_held_by self.now.words.tree.id worker.old guard.now)
-            (Answers (ByHold nat_eq true) worker.old.number (op.Remove key) removed)) (words V.of_word) result }
+            (Answers (ByOwn nat_eq true) worker.old.number (op.Remove key) removed)) (words V.of_word) result }
     {
         self.words.remove(rt, &key, worker, guard)
     }
@@ -176,7 +179,7 @@ impl<V: Word64, A: Allocator> U64Congee<V, A> {
         requires { F.IsAlwaysCallable f }
         ensures worker { worker.new ≡ worker.old }
         ensures answers { Serves (is_held_by self.now.words.tree.id worker.old guard.now)
-            (Computes (ByHold nat_eq true) (if_present F.step) worker.old.number (op.ComputePresent key) f computed) result }
+            (Computes (ByOwn nat_eq true) (if_present F.step) worker.old.number (op.ComputePresent key) f computed) result }
     {
         self.words.compute_if_present(rt, &key, f, worker, guard)
     }
@@ -194,7 +197,7 @@ impl<V: Word64, A: Allocator> U64Congee<V, A> {
         requires { F.IsAlwaysCallable f }
         ensures worker { worker.new ≡ worker.old }
         ensures answers { As (Serves (is_held_by self.now.words.tree.id worker.old guard.now)
-            (Computes (ByHold nat_eq true) (or_insert F.step) worker.old.number (op.ComputeInsert key) f replaced)) (words V.of_word) result }
+            (Computes (ByOwn nat_eq true) (or_insert F.step) worker.old.number (op.ComputeInsert key) f replaced)) (words V.of_word) result }
     {
         self.words.compute_or_insert(rt, key, f, worker, guard)
     }
@@ -212,7 +215,7 @@ impl<V: Word64, A: Allocator> U64Congee<V, A> {
     ) -> Result<Result<Option<V>, Option<V>>, Refusal>
         ensures worker { worker.new ≡ worker.old }
         ensures answers { As (Serves (is_held_by self.now.words.tree.id worker.old guard.now)
-            (Answers (ByHold nat_eq true) worker.old.number (op.Exchange key (V.word old.now) (option_map V.word new)) exchanged)) (either_words V.of_word) result }
+            (Answers (ByOwn nat_eq true) worker.old.number (op.Exchange key (V.word old.now) (option_map V.word new)) exchanged)) (either_words V.of_word) result }
     {
         self.words
             .compare_exchange(rt, &key, old, new, worker, guard)
@@ -231,7 +234,10 @@ impl<V: Word64, A: Allocator> U64Congee<V, A> {
     ) -> Result<usize, Refusal>
         ensures worker { worker.new ≡ worker.old }
         ensures answers { Serves (is_held_by self.now.words.tree.id worker.old guard.now)
-            (Scans (ByHold nat_eq true) (λ k v. (key_bytes k, v)) worker.old.number (op.Range start end (length out.old)) out.old out.new scanned) result }
+            (Scans (ByOwn nat_eq true) (λ k v. (key_bytes k, v)) worker.old.number (op.Range start end (length out.old)) out.old out.new (scanned (start, end) (map (λ pair. from_be_bytes w64 pair.0) out.new))) result }
+        ensures few { IfOk result (λ n. n ≤ length out.old) }
+        ensures ascend { IfOk result (λ n. Ascend start end (map (λ pair. from_be_bytes w64 pair.0) (take n out.new))) }
+        ensures refused { IfErr result IsOfReader }
         ensures foreign { is_held_by self.now.words.tree.id worker.old guard.now ≡ false → out.new ≡ out.old }
     {
         let scan = Op::Range(start, end, out.len());
@@ -251,11 +257,29 @@ impl<V: Word64, A: Allocator> U64Congee<V, A> {
     ) -> Result<usize, Refusal>
         ensures worker { worker.new ≡ worker.old }
         ensures answers { Serves (is_held_by self.now.words.tree.id worker.old guard.now)
-            (Scans (ByHold nat_eq true) (λ k v. (key_bytes k, v)) worker.old.number (op.RangeInclusive start last (length out.old)) out.old out.new scanned) result }
+            (Scans (ByOwn nat_eq true) (λ k v. (key_bytes k, v)) worker.old.number (op.RangeInclusive start last (length out.old)) out.old out.new (scanned (start, suc last) (map (λ pair. from_be_bytes w64 pair.0) out.new))) result }
+        ensures few { IfOk result (λ n. n ≤ length out.old) }
+        ensures ascend { IfOk result (λ n. Ascend start (suc last) (map (λ pair. from_be_bytes w64 pair.0) (take n out.new))) }
+        ensures refused { IfErr result IsOfReader }
         ensures foreign { is_held_by self.now.words.tree.id worker.old guard.now ≡ false → out.new ≡ out.old }
     {
         let scan = Op::RangeInclusive(start, last, out.len());
         self.words.find(rt, scan, out, worker, guard)
+    }
+
+    /// Whether a key has a value.
+    pub fn contains_key<R: Wait>(
+        &self,
+        rt: &R,
+        key: u64,
+        worker: &mut Worker,
+        guard: &Guard,
+    ) -> Result<bool, Refusal>
+        ensures worker { worker.new ≡ worker.old }
+        ensures answers { Serves (is_held_by self.now.words.tree.id worker.old guard.now) (Answers (ByOwn nat_eq true) worker.old.number (op.Get key) contained) result }
+        ensures refused { IfErr result IsOfReader }
+    {
+        self.words.contains_key(rt, &key, worker, guard)
     }
 
     /// Whether no key has a value, at its one step.
@@ -266,7 +290,8 @@ impl<V: Word64, A: Allocator> U64Congee<V, A> {
         guard: &Guard,
     ) -> Result<bool, Refusal>
         ensures worker { worker.new ≡ worker.old }
-        ensures answers { Serves (is_held_by self.now.words.tree.id worker.old guard.now) (Answers (ByHold nat_eq true) worker.old.number op.IsEmpty emptied) result }
+        ensures answers { Serves (is_held_by self.now.words.tree.id worker.old guard.now) (Answers (ByOwn nat_eq true) worker.old.number op.IsEmpty emptied) result }
+        ensures refused { IfErr result IsOfReader }
     {
         self.words.is_empty(rt, worker, guard)
     }
@@ -274,7 +299,7 @@ impl<V: Word64, A: Allocator> U64Congee<V, A> {
     /// All keys, ascending, at its one step. It wants no guard. Refused as Memory.
     pub fn keys<R: Wait>(&self, rt: &R, worker: &mut Worker) -> Result<Vec<u64>, Refusal>
         ensures worker { worker.new ≡ worker.old }
-        ensures answers { (answer : _) × Serves (is_of self.now.words.tree.id worker.old) (Answers (ByHold nat_eq true) worker.old.number op.Keys listed) answer × AreKeys (λ k. k) answer result }
+        ensures answers { (answer : _) × Serves (is_of self.now.words.tree.id worker.old) (Answers (ByOwn nat_eq true) worker.old.number op.Keys listed) answer × AreKeys (λ k. k) answer result }
     {
         self.words.keys(rt, worker)
     }
@@ -283,14 +308,22 @@ impl<V: Word64, A: Allocator> U64Congee<V, A> {
     /// Refused as Memory.
     pub fn stats<R: Wait>(&self, rt: &R, worker: &mut Worker) -> Result<NodeStats, Refusal>
         ensures worker { worker.new ≡ worker.old }
-        ensures answers { Serves (is_of self.now.words.tree.id worker.old) (Answers (ByHold nat_eq true) worker.old.number op.Stats counted) result }
+        ensures answers { Serves (is_of self.now.words.tree.id worker.old) (Answers (ByOwn nat_eq true) worker.old.number op.Stats counted) result }
     {
         self.words.stats(rt, worker)
     }
 
+    /// How many pairs there are, at its one step; more than `u64::MAX` are told as that. It wants no guard. Refused as Memory.
+    pub fn len<R: Wait>(&self, rt: &R, worker: &mut Worker) -> Result<u64, Refusal>
+        ensures worker { worker.new ≡ worker.old }
+        ensures answers { Serves (is_of self.now.words.tree.id worker.old) (Answers (ByOwn nat_eq true) worker.old.number op.Stats pairs_counted) result }
+    {
+        self.words.len(rt, worker)
+    }
+
     /// The bytes charged to the allocator.
     pub fn charged<R: Wait>(&self, rt: &R) -> u64
-        ensures { IsTold nat_eq true charge_of result }
+        ensures { IsTold nat_eq true (charge_of self.now.words.tree.account) result }
     {
         self.words.charged(rt)
     }

@@ -1,10 +1,10 @@
 //! The index of words for threads.
 
-ghost use Rattle.std.specs.Prelude.{◌≡◌, ℕ, false, length, map, nat_eq, true, IfErr, IfOk, MatchResult};
+ghost use Rattle.std.specs.Prelude.{◌≡◌, ◌≤◌, ℕ, false, length, map, nat_eq, true, IfErr, IfOk, MatchResult, suc, take};
 ghost use Rattle.std.specs.Option.{option_map};
 ghost use Rattle.joint.specs.nodes.Opening.{IsUnopened};
 ghost use Rattle.joint.specs.threads.Pinned.{CallsPinned, KeepsWorker};
-ghost use Rattle.joint.specs.threads.Threads.{Answers, AreKeys, As, ByHold, Closes, Computes, Hands, IsAccount, IsHold, IsRound, IsTold, IsUnclosed, Pins, Scans, Serves, is_held_by, is_of, register_step, registered, charge_of, waiting_bytes_of, waiting_of, computed, counted, either_of, either_words, emptied, exchanged, got, if_present, inserted, listed, or_insert, removed, replaced, scanned, told, words};
+ghost use Rattle.joint.specs.threads.Threads.{Answers, AreKeys, As, Ascend, ByOwn, Closes, Computes, Hands, IsAccount, IsHold, IsOfReader, IsRound, IsTold, IsUnclosed, Pins, Scans, Serves, is_held_by, is_of, register_step, registered, charge_of, waiting_bytes_of, waiting_of, bounds, computed, contained, counted, either_of, either_words, emptied, exchanged, got, if_present, inserted, listed, or_insert, pairs_counted, removed, replaced, scanned, told, words};
 ghost use Rattle.joint.specs.declared.steps.Op.TheVariants as op;
 
 use crate::limits::Limits;
@@ -12,7 +12,7 @@ use crate::refusal::Refusal;
 use crate::steps::Op;
 use crate::threads::answers::{IfPresent, OrInsert};
 use crate::threads::driver::Pair;
-use crate::threads::locked::Plain;
+use crate::threads::locked::Words;
 use crate::threads::tokens::{Guard, Worker};
 use crate::threads::tree::Tree;
 use congee::{Allocator, DefaultAllocator, Drainer, NoDrain, NodeStats, Word64};
@@ -28,7 +28,7 @@ use std::sync::Wait;
 /// another worker's guard, is refused as Foreign, and does nothing.
 #[derive(Drop)]
 pub struct Congee<K, V, A: Allocator = DefaultAllocator, D = NoDrain> {
-    tree: Tree<u64, Plain<u64, A>>,
+    tree: Tree<u64, Words<A>>,
     drainer: D,
     alloc: Global,
     words: PhantomData<(K, V)>,
@@ -94,7 +94,7 @@ impl<K: Word64, V: Word64, A: Allocator, D: Drop> Congee<K, V, A, D> {
         ensures drainer { IfOk result (λ t. t.drainer ≡ drainer) }
         ensures cause { IfErr result (λ e. IsUnopened limits (A.charged_of allocator) (A.limit_of allocator) e) }
     {
-        let tree = Tree::new(alloc, limits, allocator)?;
+        let tree = Tree::of_words(alloc, limits, allocator)?;
         Ok(Congee {
             tree,
             drainer,
@@ -113,7 +113,7 @@ impl<K: Word64, V: Word64, A: Allocator, D: Drop> Congee<K, V, A, D> {
     /// The worker leaves its place; what it removed waits on. Refused as GuardOut while it is pinned, as Memory where
     /// its removals can't be queued, and as Foreign; it comes back.
     pub fn release<R: Wait>(&self, rt: &R, worker: Worker) -> Result<(), (Refusal, Worker)>
-        ensures { Hands (is_of self.now.tree.id worker) (Answers (ByHold nat_eq true) worker.number op.Release told) worker result }
+        ensures { Hands (is_of self.now.tree.id worker) (Answers (ByOwn nat_eq true) worker.number op.Release told) worker result }
     {
         self.tree.release(rt, worker)
     }
@@ -121,7 +121,8 @@ impl<K: Word64, V: Word64, A: Allocator, D: Drop> Congee<K, V, A, D> {
     /// A guard. Refused as Count where 65,535 guards of the worker are out.
     pub fn pin<R: Wait>(&self, rt: &R, worker: &mut Worker) -> Result<Guard, Refusal>
         ensures worker { worker.new ≡ worker.old }
-        ensures answers { Serves (is_of self.now.tree.id worker.old) (Pins (ByHold nat_eq true) self.now.tree.id worker.old.number) result }
+        ensures answers { Serves (is_of self.now.tree.id worker.old) (Pins (ByOwn nat_eq true) self.now.tree.id worker.old.number) result }
+        ensures refused { IfErr result IsOfReader }
     {
         self.tree.pin(rt, worker)
     }
@@ -134,7 +135,7 @@ impl<K: Word64, V: Word64, A: Allocator, D: Drop> Congee<K, V, A, D> {
         guard: Guard,
     ) -> Result<(), (Refusal, Guard)>
         ensures worker { worker.new ≡ worker.old }
-        ensures answers { Hands (is_held_by self.now.tree.id worker.old guard) (Answers (ByHold nat_eq true) worker.old.number op.Unpin told) guard result }
+        ensures answers { Hands (is_held_by self.now.tree.id worker.old guard) (Answers (ByOwn nat_eq true) worker.old.number op.Unpin told) guard result }
     {
         self.tree.unpin(rt, worker, guard)
     }
@@ -151,7 +152,7 @@ impl<K: Word64, V: Word64, A: Allocator, D: Drop> Congee<K, V, A, D> {
     where
         F: Drop,
         requires { F.IsAlwaysCallable f }
-        ensures answers { CallsPinned (ByHold nat_eq true) self.now.tree.id F.FnOnce f worker.old worker.new result }
+        ensures answers { CallsPinned (ByOwn nat_eq true) self.now.tree.id F.FnOnce f worker.old worker.new result }
         ensures worker { KeepsWorker F.FnOnce f → worker.new ≡ worker.old }
     {
         self.tree.pinned(rt, worker, f)
@@ -161,7 +162,7 @@ impl<K: Word64, V: Word64, A: Allocator, D: Drop> Congee<K, V, A, D> {
     /// queued; then nothing was done.
     pub fn flush<R: Wait>(&self, rt: &R, worker: &mut Worker, guard: &Guard) -> Result<(), Refusal>
         ensures worker { worker.new ≡ worker.old }
-        ensures answers { Serves (is_held_by self.now.tree.id worker.old guard.now) (Answers (ByHold nat_eq true) worker.old.number op.Flush told) result }
+        ensures answers { Serves (is_held_by self.now.tree.id worker.old guard.now) (Answers (ByOwn nat_eq true) worker.old.number op.Flush told) result }
     {
         self.tree.flush(rt, worker, guard)
     }
@@ -169,7 +170,7 @@ impl<K: Word64, V: Word64, A: Allocator, D: Drop> Congee<K, V, A, D> {
     /// Pins the worker anew at the present epoch, where this is its only guard.
     pub fn repin<R: Wait>(&self, rt: &R, worker: &mut Worker, guard: &Guard) -> Result<(), Refusal>
         ensures worker { worker.new ≡ worker.old }
-        ensures answers { Serves (is_held_by self.now.tree.id worker.old guard.now) (Answers (ByHold nat_eq true) worker.old.number op.Repin told) result }
+        ensures answers { Serves (is_held_by self.now.tree.id worker.old guard.now) (Answers (ByOwn nat_eq true) worker.old.number op.Repin told) result }
     {
         self.tree.repin(rt, worker, guard)
     }
@@ -177,7 +178,7 @@ impl<K: Word64, V: Word64, A: Allocator, D: Drop> Congee<K, V, A, D> {
     /// Pin, flush, unpin. Answers the first refusal; after a refused flush it unpins too.
     pub fn round<R: Wait>(&self, rt: &R, worker: &mut Worker) -> Result<(), Refusal>
         ensures worker { worker.new ≡ worker.old }
-        ensures answers { Serves (is_of self.now.tree.id worker.old) (IsRound (ByHold nat_eq true) worker.old.number) result }
+        ensures answers { Serves (is_of self.now.tree.id worker.old) (IsRound (ByOwn nat_eq true) worker.old.number) result }
     {
         self.tree.round(rt, worker)
     }
@@ -192,7 +193,8 @@ impl<K: Word64, V: Word64, A: Allocator, D: Drop> Congee<K, V, A, D> {
     ) -> Result<Option<V>, Refusal>
         ensures worker { worker.new ≡ worker.old }
         ensures answers { As (Serves (is_held_by self.now.tree.id worker.old guard.now)
-            (Answers (ByHold nat_eq true) worker.old.number (op.Get (K.word key.now)) got)) (words V.of_word) result }
+            (Answers (ByOwn nat_eq true) worker.old.number (op.Get (K.word key.now)) got)) (words V.of_word) result }
+        ensures refused { IfErr result IsOfReader }
     {
         words(self.tree.get(rt, key.to_word(), worker, guard))
     }
@@ -208,7 +210,7 @@ impl<K: Word64, V: Word64, A: Allocator, D: Drop> Congee<K, V, A, D> {
     ) -> Result<Option<V>, Refusal>
         ensures worker { worker.new ≡ worker.old }
         ensures answers { As (Serves (is_held_by self.now.tree.id worker.old guard.now)
-            (Answers (ByHold nat_eq true) worker.old.number (op.Insert (K.word key) (V.word value)) inserted)) (words V.of_word) result }
+            (Answers (ByOwn nat_eq true) worker.old.number (op.Insert (K.word key) (V.word value)) inserted)) (words V.of_word) result }
     {
         words(
             self.tree
@@ -226,7 +228,7 @@ impl<K: Word64, V: Word64, A: Allocator, D: Drop> Congee<K, V, A, D> {
     ) -> Result<Option<V>, Refusal>
         ensures worker { worker.new ≡ worker.old }
         ensures answers { As (Serves (is_held_by self.now.tree.id worker.old guard.now)
-            (Answers (ByHold nat_eq true) worker.old.number (op.Remove (K.word key.now)) removed)) (words V.of_word) result }
+            (Answers (ByOwn nat_eq true) worker.old.number (op.Remove (K.word key.now)) removed)) (words V.of_word) result }
     {
         words(self.tree.remove(rt, key.to_word(), worker, guard))
     }
@@ -244,7 +246,7 @@ impl<K: Word64, V: Word64, A: Allocator, D: Drop> Congee<K, V, A, D> {
         requires { F.IsAlwaysCallable f }
         ensures worker { worker.new ≡ worker.old }
         ensures answers { Serves (is_held_by self.now.tree.id worker.old guard.now)
-            (Computes (ByHold nat_eq true) (if_present F.step) worker.old.number (op.ComputePresent (K.word key.now)) f computed) result }
+            (Computes (ByOwn nat_eq true) (if_present F.step) worker.old.number (op.ComputePresent (K.word key.now)) f computed) result }
     {
         let mut answers = IfPresent::new(f);
         let answer = self
@@ -267,7 +269,7 @@ impl<K: Word64, V: Word64, A: Allocator, D: Drop> Congee<K, V, A, D> {
         requires { F.IsAlwaysCallable f }
         ensures worker { worker.new ≡ worker.old }
         ensures answers { As (Serves (is_held_by self.now.tree.id worker.old guard.now)
-            (Computes (ByHold nat_eq true) (or_insert F.step) worker.old.number (op.ComputeInsert (K.word key)) f replaced)) (words V.of_word) result }
+            (Computes (ByOwn nat_eq true) (or_insert F.step) worker.old.number (op.ComputeInsert (K.word key)) f replaced)) (words V.of_word) result }
     {
         let mut answers = OrInsert::new(f);
         let before = self
@@ -290,7 +292,7 @@ impl<K: Word64, V: Word64, A: Allocator, D: Drop> Congee<K, V, A, D> {
     ) -> Result<Result<Option<V>, Option<V>>, Refusal>
         ensures worker { worker.new ≡ worker.old }
         ensures answers { As (Serves (is_held_by self.now.tree.id worker.old guard.now)
-            (Answers (ByHold nat_eq true) worker.old.number (op.Exchange (K.word key.now) (V.word old.now) (option_map V.word new)) exchanged)) (either_words V.of_word) result }
+            (Answers (ByOwn nat_eq true) worker.old.number (op.Exchange (K.word key.now) (V.word old.now) (option_map V.word new)) exchanged)) (either_words V.of_word) result }
     {
         let (key, old, new) = (key.to_word(), old.to_word(), number_of(&new));
         either_words(self.tree.compare_exchange(rt, key, old, new, worker, guard))
@@ -309,7 +311,10 @@ impl<K: Word64, V: Word64, A: Allocator, D: Drop> Congee<K, V, A, D> {
     ) -> Result<usize, Refusal>
         ensures worker { worker.new ≡ worker.old }
         ensures answers { Serves (is_held_by self.now.tree.id worker.old guard.now)
-            (Scans (ByHold nat_eq true) (λ k v. (k, v)) worker.old.number (op.Range (K.word start.now) (K.word end.now) (length out.old)) out.old out.new scanned) result }
+            (Scans (ByOwn nat_eq true) (λ k v. (k, v)) worker.old.number (op.Range (K.word start.now) (K.word end.now) (length out.old)) out.old out.new (scanned (K.word start.now, K.word end.now) (map (λ pair. pair.0) out.new))) result }
+        ensures few { IfOk result (λ n. n ≤ length out.old) }
+        ensures ascend { IfOk result (λ n. Ascend (K.word start.now) (K.word end.now) (map (λ pair. pair.0) (take n out.new))) }
+        ensures refused { IfErr result IsOfReader }
         ensures foreign { is_held_by self.now.tree.id worker.old guard.now ≡ false → out.new ≡ out.old }
     {
         let scan = Op::Range(start.to_word(), end.to_word(), out.len());
@@ -329,7 +334,10 @@ impl<K: Word64, V: Word64, A: Allocator, D: Drop> Congee<K, V, A, D> {
     ) -> Result<usize, Refusal>
         ensures worker { worker.new ≡ worker.old }
         ensures answers { Serves (is_held_by self.now.tree.id worker.old guard.now)
-            (Scans (ByHold nat_eq true) (λ k v. (k, v)) worker.old.number (op.RangeInclusive (K.word start.now) (K.word last.now) (length out.old)) out.old out.new scanned) result }
+            (Scans (ByOwn nat_eq true) (λ k v. (k, v)) worker.old.number (op.RangeInclusive (K.word start.now) (K.word last.now) (length out.old)) out.old out.new (scanned (K.word start.now, suc (K.word last.now)) (map (λ pair. pair.0) out.new))) result }
+        ensures few { IfOk result (λ n. n ≤ length out.old) }
+        ensures ascend { IfOk result (λ n. Ascend (K.word start.now) (suc (K.word last.now)) (map (λ pair. pair.0) (take n out.new))) }
+        ensures refused { IfErr result IsOfReader }
         ensures foreign { is_held_by self.now.tree.id worker.old guard.now ≡ false → out.new ≡ out.old }
     {
         let scan = Op::RangeInclusive(start.to_word(), last.to_word(), out.len());
@@ -347,10 +355,28 @@ impl<K: Word64, V: Word64, A: Allocator, D: Drop> Congee<K, V, A, D> {
     ) -> Result<usize, Refusal>
         ensures worker { worker.new ≡ worker.old }
         ensures answers { Serves (is_held_by self.now.tree.id worker.old guard.now)
-            (Scans (ByHold nat_eq true) Q.pair worker.old.number op out.old out.new scanned) result }
+            (Scans (ByOwn nat_eq true) Q.pair worker.old.number op out.old out.new (scanned (bounds op) (map Q.key_of out.new))) result }
+        ensures few { IfOk result (λ n. n ≤ length out.old) }
+        ensures ascend { IfOk result (λ n. Ascend (bounds op).0 (bounds op).1 (map Q.key_of (take n out.new))) }
+        ensures refused { IfErr result IsOfReader }
         ensures foreign { is_held_by self.now.tree.id worker.old guard.now ≡ false → out.new ≡ out.old }
     {
         self.tree.find(rt, op, out, worker, guard)
+    }
+
+    /// Whether a key has a value.
+    pub fn contains_key<R: Wait>(
+        &self,
+        rt: &R,
+        key: &K,
+        worker: &mut Worker,
+        guard: &Guard,
+    ) -> Result<bool, Refusal>
+        ensures worker { worker.new ≡ worker.old }
+        ensures answers { Serves (is_held_by self.now.tree.id worker.old guard.now) (Answers (ByOwn nat_eq true) worker.old.number (op.Get (K.word key.now)) contained) result }
+        ensures refused { IfErr result IsOfReader }
+    {
+        self.tree.contains_key(rt, key.to_word(), worker, guard)
     }
 
     /// Whether no key has a value, at its one step.
@@ -361,7 +387,8 @@ impl<K: Word64, V: Word64, A: Allocator, D: Drop> Congee<K, V, A, D> {
         guard: &Guard,
     ) -> Result<bool, Refusal>
         ensures worker { worker.new ≡ worker.old }
-        ensures answers { Serves (is_held_by self.now.tree.id worker.old guard.now) (Answers (ByHold nat_eq true) worker.old.number op.IsEmpty emptied) result }
+        ensures answers { Serves (is_held_by self.now.tree.id worker.old guard.now) (Answers (ByOwn nat_eq true) worker.old.number op.IsEmpty emptied) result }
+        ensures refused { IfErr result IsOfReader }
     {
         self.tree.is_empty(rt, worker, guard)
     }
@@ -369,7 +396,7 @@ impl<K: Word64, V: Word64, A: Allocator, D: Drop> Congee<K, V, A, D> {
     /// All keys, ascending, at its one step. It wants no guard. Refused as Memory.
     pub fn keys<R: Wait>(&self, rt: &R, worker: &mut Worker) -> Result<Vec<K>, Refusal>
         ensures worker { worker.new ≡ worker.old }
-        ensures answers { (answer : _) × Serves (is_of self.now.tree.id worker.old) (Answers (ByHold nat_eq true) worker.old.number op.Keys listed) answer × AreKeys K.of_word answer result }
+        ensures answers { (answer : _) × Serves (is_of self.now.tree.id worker.old) (Answers (ByOwn nat_eq true) worker.old.number op.Keys listed) answer × AreKeys K.of_word answer result }
     {
         are_keys(self.alloc, self.tree.keys(rt, worker))
     }
@@ -378,14 +405,22 @@ impl<K: Word64, V: Word64, A: Allocator, D: Drop> Congee<K, V, A, D> {
     /// Refused as Memory.
     pub fn stats<R: Wait>(&self, rt: &R, worker: &mut Worker) -> Result<NodeStats, Refusal>
         ensures worker { worker.new ≡ worker.old }
-        ensures answers { Serves (is_of self.now.tree.id worker.old) (Answers (ByHold nat_eq true) worker.old.number op.Stats counted) result }
+        ensures answers { Serves (is_of self.now.tree.id worker.old) (Answers (ByOwn nat_eq true) worker.old.number op.Stats counted) result }
     {
         self.tree.stats(rt, worker)
     }
 
+    /// How many pairs there are, at its one step; more than `u64::MAX` are told as that. It wants no guard. Refused as Memory.
+    pub fn len<R: Wait>(&self, rt: &R, worker: &mut Worker) -> Result<u64, Refusal>
+        ensures worker { worker.new ≡ worker.old }
+        ensures answers { Serves (is_of self.now.tree.id worker.old) (Answers (ByOwn nat_eq true) worker.old.number op.Stats pairs_counted) result }
+    {
+        self.tree.len(rt, worker)
+    }
+
     /// The bytes charged to the allocator.
     pub fn charged<R: Wait>(&self, rt: &R) -> u64
-        ensures { IsTold nat_eq true charge_of result }
+        ensures { IsTold nat_eq true (charge_of self.now.tree.account) result }
     {
         self.tree.charged(rt)
     }
@@ -491,7 +526,7 @@ impl<K: Word64, V: Word64, A: Allocator, D: Drainer<K, V>> Congee<K, V, A, D> {
             words: _,
         } = self;
         match tree.close(OfWords::<K, V, D>::new(drainer)) {
-            Ok((allocator, drainer)) => Ok((allocator, drainer.into_inner())),
+            Ok((allocator, drainer, _)) => Ok((allocator, drainer.into_inner())),
             Err((refusal, tree, drainer)) => {
                 let back = Congee {
                     tree,

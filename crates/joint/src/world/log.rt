@@ -108,6 +108,14 @@ impl<P: Drop> Log<P> {
         &self.entries
     }
 
+    /// The same, as all that is left of it.
+    pub(crate) fn into_entries(self) -> Vec<Entry<P>>
+        ensures { result.items ≡ self.entries }
+    {
+        let Log { entries, .. } = self;
+        entries
+    }
+
     /// What a worker asked for.
     pub(crate) fn request(&self, who: usize) -> Option<&Request<P>>
         ensures { option_copied result ≡ request_at self.now.requests who }

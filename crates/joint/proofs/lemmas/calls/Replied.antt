@@ -22,7 +22,8 @@ use Rattle.joint.specs.calls.MapCalls.{CallPlays, PlaysKey, PlaysScan}
 use Rattle.joint.specs.Reports.{reply_in}
 use Rattle.joint.specs.engine.Flying.{AreInFlight, Flights}
 use Rattle.joint.specs.engine.Engine.{World}
-use Rattle.joint.specs.calls.Standing.{pairs_below, the_pairs, AnswersAs}
+use Rattle.joint.specs.calls.Standing.{AnswersAs}
+use Rattle.joint.specs.engine.Standing.{pairs_below, the_pairs}
 
 module _ {V : Type 0} (at : ℕ → Option V) where
   get_below : (n q : ℕ) → q < n → get (pairs_below at n) q ≡ at q

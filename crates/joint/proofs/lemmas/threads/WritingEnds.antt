@@ -2,6 +2,8 @@
 use Rattle.std.proofs.Common.{◌≡◌, ℕ, Bool, true, false, cond, List, refl, sym, ◌∙◌, subst}
 use Rattle.std.specs.Prelude.{Option, None, Some, Result, Ok, Err, IfErr, nat_eq}
 use Rattle.std.proofs.lemmas.Bool.{false≢true}
+use Rattle.std.specs.declared.alloc.Global.{Global}
+use Rattle.std.specs.declared.sync.Arc.{Arc}
 use Rattle.judge.specs.declared.journal.Call.{Call as Entered}
 use Rattle.judge.specs.declared.journal.Call.TheVariants as call
 use Rattle.judge.specs.declared.journal.Entry.{Entry}
@@ -16,7 +18,7 @@ use Rattle.joint.specs.declared.steps.Op.TheVariants as op
 use Rattle.joint.specs.threads.Driving.{Turn}
 use Rattle.joint.specs.engine.Journaling.{call_of, on_insert, on_present}
 use Rattle.joint.specs.threads.Shares.{ShareView}
-use Rattle.joint.specs.threads.Threads.{End, Serves, computed, either_words, exchanged, inserted, removed, replaced, words}
+use Rattle.joint.specs.threads.Threads.{End, Serves, computed, either_words, exchanged, inserted, owned, removed, replaced, words}
 use Rattle.joint.specs.threads.Writing.{Counts}
 use Rattle.joint.proofs.lemmas.nodes.NodesInvariant.{some_injective}
 
@@ -34,6 +36,11 @@ serves_foreign false does q = refl
 pub words_refused : {B : Type 0} (of : ℕ → B) (P : Refusal → Type 0) (r : Result (Option ℕ) Refusal) → IfErr r P → IfErr (words of r) P
 words_refused of P (Ok v) x = x
 words_refused of P (Err e) x = x
+
+-- the same of owners of the values
+pub owned_refused : {V : Type 0} (P : Refusal → Type 0) (r : Result (Option (Arc V Global)) Refusal) (read : Result (Option V) Refusal) → owned r ≡ read → IfErr read P → IfErr r P
+owned_refused P (Ok v) read same x = tt
+owned_refused P (Err e) read same x = subst (λ y. IfErr y P) (sym same) x
 
 -- the same of an exchange's answer
 pub either_refused : {B : Type 0} (of : ℕ → B) (P : Refusal → Type 0) (r : Result (Result (Option ℕ) (Option ℕ)) Refusal) → IfErr r P → IfErr (either_words of r) P

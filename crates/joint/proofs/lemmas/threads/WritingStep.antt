@@ -16,7 +16,7 @@ use Rattle.joint.specs.threads.Journals.{count_watched}
 use Rattle.joint.specs.world.MapSteps.{looks_up}
 use Rattle.joint.specs.world.World.{IsStep}
 use Rattle.joint.specs.engine.Engine.{World}
-use Rattle.joint.specs.threads.Writing.{Appended, Appends, Progress, WontRepeat, WritingTurn, given_after, noted, told_with, weight}
+use Rattle.joint.specs.threads.Writing.{Appended, Appends, MayStep, Progress, WontRepeat, WritingTurn, given_after, noted, told_with, weight}
 use Rattle.joint.proofs.lemmas.threads.Appending.{entry_changes}
 use Rattle.joint.proofs.lemmas.threads.Watching.{look_up_watched, none_watched, write_watched}
 
@@ -59,9 +59,10 @@ module _ (s s' : World ℕ) (who : ℕ) (op : Op ℕ) (given : Option (Option �
   appends watched p p' (Some e) g c x once q = (first_entry (Some e) p.entry e refl c x once, x.of e refl, q)
 
 -- a hold is a turn of the writing call
-pub hold_turn : (s s' : World ℕ) (op : Op ℕ) (watched : Entry ℕ → Bool) (p p' : Progress) (step : Step ℕ) (told r : Report ℕ) (entry : Option (Entry ℕ)) → changes op ≡ true → IsStep nat_eq true s step told s' → Appended s s' step.worker op p.given step.event entry → WontRepeat s step.worker p.entry
+pub hold_turn : (s s' : World ℕ) (op : Op ℕ) (watched : Entry ℕ → Bool) (p p' : Progress) (step : Step ℕ) (told r : Report ℕ) (entry : Option (Entry ℕ)) → changes op ≡ true → MayStep s step.worker op p.given step.event → IsStep nat_eq true s step told s' → Appended s s' step.worker op p.given step.event entry → WontRepeat s step.worker p.entry
     → p' ≡ noted watched (record p { given = given_after op p.given step.event }) entry → r ≡ record told { outcome = told_with p'.entry told.outcome } → WritingTurn watched step.worker op p s step r p' s'
-hold_turn s s' op watched p p' step told r entry c takes x once q tells = inl (record {
+hold_turn s s' op watched p p' step told r entry c own takes x once q tells = inl (record {
+  own = own;
   told = told;
   takes = takes;
   appended = entry;

@@ -503,7 +503,7 @@ impl<L: Ledger, A: Allocator> Threaded for Recorded<L, A> {
     fn closes<R: Wait>(self, rt: &R) -> Result<Left, (Refusal, Self)> {
         let Recorded { tree, share } = self;
         match tree.close(rt) {
-            Ok((allocator, drained)) => {
+            Ok((allocator, drained, _journal)) => {
                 let pairs = drained.pairs.as_slice();
                 let first = pairs.first().copied();
                 Ok((allocator.charged(), allocator.limit(), pairs.len(), first))

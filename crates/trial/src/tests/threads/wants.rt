@@ -236,7 +236,7 @@ fn ran_on(alloc: Global, index: &mut Index) -> Result<(usize, usize, bool), Allo
     ))
 }
 
-/// A run stops where there is no memory for a report, tells how many steps it took, and goes on from there.
+/// A run takes no step where there is no memory for its reports, tells how many it took, and goes on from there.
 #[test]
 fn a_run_goes_on_where_it_stopped(rt: HostRuntime) -> Result<(), Fail> {
     let mut index = opened(rt.alloc())?;

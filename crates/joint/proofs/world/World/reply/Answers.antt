@@ -1,7 +1,7 @@
 use Rattle.std.proofs.Common.{IsSome, sym, ap, subst, ◌∙◌}
 use Rattle.joint.specs.nodes.Nodes.{nodes}
 use Rattle.joint.specs.calls.MapCalls.{asked_of, reply_of}
-use Rattle.joint.specs.calls.Standing.{pairs_of}
+use Rattle.joint.specs.engine.Standing.{pairs_of}
 use Rattle.joint.proofs.lemmas.calls.Replied.{answers_as, one_stands, replied_keeps, map_stands}
 use Rattle.joint.proofs.world.World.reply.Goals as goal
 

@@ -1,24 +1,18 @@
-use Rattle.std.proofs.Common.{sym, ◌∙◌, ap}
-use Rattle.std.specs.Vec.{vec_capacity, vec_len}
-use Rattle.joint.proofs.lemmas.calls.Running.{none_more, progress_all, progress_none, progress_more, progress_end}
+use Rattle.std.proofs.Common.{arith, ◌∙◌}
+use Rattle.joint.proofs.lemmas.calls.RunInto.{all_or_none, into_empty}
 use Rattle.joint.proofs.world.World.take_all.Goals as goal
-use Rattle.joint.proofs.world.World.take_all.Goals.{in-Some+then-is_err, in_default}
 
-pub loop-step-init : goal.loop-step-init
-loop-step-init g c = progress_none g.P.Payload.same_as g.P.Payload.always_copies _ _ _ _ _ c.into_iter-rest.ensures.rest c.new-reports.ensures.len c.new-reports.ensures.items
+pub returns-clause-done : goal.returns-clause-done
+returns-clause-done g c = omega (arith, c.run_into-done.ensures.len, c.reserve.ensures.len, c.new-reports.ensures.len)
 
-pub loop-step-preserved : goal.loop-step-preserved
-loop-step-preserved g c = progress_more g.P.Payload.same_as g.P.Payload.always_copies _ _ _ _ _ _ _ _ _ _ _ _ _ _
-    c.loop-step.invariant c.in-Some.ensures.items c.reserve.ensures.len c.push_reserved.ensures.len c.reserve.ensures.items c.push_reserved.ensures.items c.step-report.ensures
-
-pub returns-clause-run : goal.returns-clause-run
-returns-clause-run g c = elim c.match-next.branch [
-  | in-Some+then-is_err w ↦ progress_end g.P.Payload.same_as g.P.Payload.always_copies _ _ _ _ _ _ _ _ c.loop-step.invariant (c.len-done.ensures ∙ (ap (λ v. vec_len v) w.reports-is ∙ w.reserve.ensures.len)) (ap (λ v. v.items) w.reports-is ∙ w.reserve.ensures.items)
-  | in_default w ↦ progress_end g.P.Payload.same_as g.P.Payload.always_copies _ _ _ _ _ _ _ _ c.loop-step.invariant (c.len-done.ensures ∙ ap (λ v. vec_len v) w.reports-is) (ap (λ v. v.items) w.reports-is)
-]
+pub returns-clause-whole : goal.returns-clause-whole
+returns-clause-whole g c fewer =
+    (all_or_none c.reserve.result _ _ c.len.result _ _ _ c.run_into-done.ensures.done (c.len.ensures ∙ c.args.steps.ok.0) (c.reserve.ensures.len ∙ c.new-reports.ensures.len) c.new-reports.ensures.capacity c.reserve.ensures.ok c.reserve.ensures.err fewer).0
 
 pub returns-clause-full : goal.returns-clause-full
-returns-clause-full g c fewer = elim c.match-next.branch [
-  | in-Some+then-is_err w ↦ none_more w.reserve.result w.is_err.result _ _ _ _ _ _ w.is_err.ensures.value w.if-is_err.true w.reserve.ensures.full w.reserve.ensures.err w.reserve.ensures.len (ap (λ v. vec_len v) w.reports-is) (ap (λ v. vec_capacity v) w.reports-is)
-  | in_default w ↦ absurd (progress_all g.P.Payload.same_as g.P.Payload.always_copies _ _ _ _ _ _ _ c.loop-step.invariant (sym c.loop-step.rest.rest.ok.0 ∙ w.in_default.ensures.cases.0) (c.len-done.ensures ∙ ap (λ v. vec_len v) w.reports-is) fewer)
-]
+returns-clause-full g c fewer =
+    let none = (all_or_none c.reserve.result _ _ c.len.result _ _ _ c.run_into-done.ensures.done (c.len.ensures ∙ c.args.steps.ok.0) (c.reserve.ensures.len ∙ c.new-reports.ensures.len) c.new-reports.ensures.capacity c.reserve.ensures.ok c.reserve.ensures.err fewer).1 in
+    omega (arith, c.run_into-done.ensures.room, none)
+
+pub returns-clause-run : goal.returns-clause-run
+returns-clause-run g c = into_empty g.P.Payload.same_as g.P.Payload.always_copies _ _ _ _ _ (c.reserve.ensures.items ∙ c.new-reports.ensures.items) c.run_into-done.ensures.run

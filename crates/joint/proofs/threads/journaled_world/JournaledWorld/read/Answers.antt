@@ -1,5 +1,5 @@
-use Rattle.std.proofs.Common.{rules, ◌≡◌, arith, sym, ◌∙◌}
-use Rattle.std.specs.Prelude.{None, nat_eq, false, true}
+use Rattle.std.proofs.Common.{rules, ◌≡◌, arith, inl, sym, ◌∙◌}
+use Rattle.std.specs.Prelude.{IsTrue, None, nat_eq, false, true}
 use Rattle.joint.specs.Changes.{changes}
 use Rattle.joint.proofs.lemmas.threads.Holding.{step_tells}
 use Rattle.joint.proofs.lemmas.threads.WritingStep.{read_count}
@@ -16,6 +16,11 @@ invariant_of-self g c =
       few = omega (arith, places, kept.few);
       counted = kept.counted ∙ sym same;
     }
+
+pub returns-clause-turn : goal.returns-clause-turn
+returns-clause-turn g c =
+    let may : IsTrue c.may_step.result = search rules in
+    inl (record { own = c.may_step.ensures.0 may; takes = c.step_on.ensures.step })
 
 pub returns-clause-told : goal.returns-clause-told
 returns-clause-told g c = step_tells nat_eq true c.args.step c.step_on.result.0 c.requires (c.args.self.now.world, c.step_on.new.world, c.step_on.ensures.step)
