@@ -14,12 +14,6 @@ abbrev pub Lists : {X : Type 0} → map.FinMap nat_cmp X → ℕ → List X → 
 Lists m from [] = (b : ℕ) → from ≤ b → map.get m b ≡ None
 Lists m from (x ∷ r) = (b : ℕ) × (b < 256) × IsFirst m from b x × Lists m (b + 1) r
 
--- x is the child of b, the greatest byte below `end` that has one
-pub record IsLast {X : Type 0} (m : map.FinMap nat_cmp X) (end b : ℕ) (x : X) : Type 0 where
-  pub below : b < end
-  pub here : map.get m b ≡ Some x
-  pub after : (q : ℕ) → b < q → q < end → map.get m q ≡ None
-
 -- the pairs whose byte lies from `start` to `end`, both included
 abbrev pub between : {X : Type 0} → ℕ → ℕ → List (ℕ × X) → List (ℕ × X)
 between start end [] = []

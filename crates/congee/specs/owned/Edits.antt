@@ -1,5 +1,5 @@
 -- What a writing call does to an arena: to its pairs, to the sizes of its nodes, and to its budget.
-use Rattle.std.specs.Prelude.{◌≡◌, ℕ, ◌+◌, List, Option, None, Some}
+use Rattle.std.specs.Prelude.{◌≡◌, ℕ, ◌+◌, Bool, true, List, Option, None, Some}
 use Rattle.congee.specs.Heap.{value_at}
 use Rattle.congee.specs.forms.Forms.{size_of}
 use Rattle.congee.specs.owned.Arena.{IsTree, heap_of}
@@ -27,7 +27,7 @@ module _ {P A K : Type 0} where
     pub tree : IsTree new.nodes
     pub change : MapChange old.nodes new.nodes key before after
     pub bytes : bytes_of new.nodes ≡ bytes_of old.nodes
-    pub filled : NodesFilled old.nodes → NodesFilled new.nodes
+    pub filled : (by_form : Bool) → NodesFilled by_form old.nodes → NodesFilled by_form new.nodes
     pub allocator : new.allocator ≡ old.allocator
 
   -- a leaf for the key forks off with the value: it comes in, and a node over it and over what hung there, both of the least form;
@@ -36,7 +36,7 @@ module _ {P A K : Type 0} where
     pub tree : IsTree new.nodes
     pub change : MapChange old.nodes new.nodes key None (Some value)
     pub bytes : bytes_of new.nodes ≡ bytes_of old.nodes + size_of N4 + size_of N4
-    pub filled : NodesFilled old.nodes → NodesFilled new.nodes
+    pub filled : (by_form : Bool) → NodesFilled by_form old.nodes → NodesFilled by_form new.nodes
     pub allocator : new.allocator ≡ old.allocator
 
   -- an insertion: the key has the value, and nodes of these sizes are made, which fitted; no node is where the key was present.
@@ -45,7 +45,7 @@ module _ {P A K : Type 0} where
     pub edits : Edits charged limit old new key before (Some value)
     pub fits : InsertionFits wants (charged old.allocator) (limit old.allocator)
     pub bytes : bytes_of new.nodes ≡ bytes_of old.nodes + gain_of wants
-    pub filled : NodesFilled old.nodes → NodesFilled new.nodes
+    pub filled : (by_form : Bool) → NodesFilled by_form old.nodes → NodesFilled by_form new.nodes
 
   -- a refused insertion: the key is absent, one of these nodes wasn't made, the value comes back, and all is as before
   pub record Denies (charged limit : A → ℕ) (old new : Arena P A K) (key : List ℕ) (value : P) (wants : Option (List ℕ)) (refusal : OOMError × P) : Type 0 where
@@ -56,12 +56,12 @@ module _ {P A K : Type 0} where
     pub balance : Balances charged old new
     pub same_limit : KeepsLimit limit old new
 
-  -- an edit that makes no node but a lesser one: these nodes go. Where the nodes had enough children they have, if none that was
-  -- wanted was skipped
+  -- an edit that makes no node but a lesser one: these nodes go. Where the nodes had enough children they have; and by their forms,
+  -- if none that was wanted was skipped
   pub record Frees (charged limit : A → ℕ) (old new : Arena P A K) (key : List ℕ) (before after : Option P) (going : Option Going) : Type 0 where
     pub edits : Edits charged limit old new key before after
     pub bytes : Went (charged old.allocator) (limit old.allocator) (bytes_of old.nodes) (bytes_of new.nodes) going
-    pub filled : NodesFilled old.nodes → NoneSkipped (bytes_of old.nodes) (bytes_of new.nodes) going → NodesFilled new.nodes
+    pub filled : (by_form : Bool) → NodesFilled by_form old.nodes → (by_form ≡ true → NoneSkipped (bytes_of old.nodes) (bytes_of new.nodes) going) → NodesFilled by_form new.nodes
 
   -- the leaf at a name goes with its only value, the key's; the budget isn't touched yet
   pub record Drops (old new : Arena P A K) (key : List ℕ) (at : ℕ) (value : P) : Type 0 where

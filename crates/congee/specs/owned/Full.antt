@@ -1,5 +1,6 @@
--- How full the nodes of an owned tree are, where no removal goes on without a lesser node that it wants.
-use Rattle.std.specs.Prelude.{◌≡◌, ◌≢◌, ℕ, ◌+◌, ◌-◌, nat_lt, cond, max, List, [], ◌∷◌, length, drop, Option, None, Some}
+-- How many children the nodes of an owned tree have: a node but the root has one, two where it holds nodes; and none is too small for
+-- its form, where no removal goes on without a lesser node that it wants.
+use Rattle.std.specs.Prelude.{◌≡◌, ◌≢◌, ℕ, ◌+◌, ◌-◌, nat_lt, cond, Bool, true, false, max, List, [], ◌∷◌, length, drop, Option, None, Some}
 use Rattle.std.specs.FinMap as map
 use Rattle.std.specs.List.{All}
 use Rattle.slab.specs.Slab.{get}
@@ -7,7 +8,7 @@ use Rattle.congee.specs.forms.Forms.{capacity_of, children_of, form_of, prefix_o
 use Rattle.congee.specs.owned.Arena.{Nodes}
 use Rattle.congee.specs.owned.Going.{Going, Lesser}
 use Rattle.congee.specs.owned.Stats.{Shape}
-use Rattle.congee.specs.protocol.Filled.{FilledAs, least_in}
+use Rattle.congee.specs.protocol.Filled.{Branches, FilledAs, least_in}
 use Rattle.congee.specs.declared.forms.base_node.Node.{Node}
 use Rattle.congee.specs.declared.forms.base_node.NodeType.{NodeType}
 use Rattle.congee.specs.declared.forms.prefix.TheConstants.{MAX_PREFIX_LEN}
@@ -16,6 +17,15 @@ use Rattle.congee.specs.declared.forms.prefix.TheConstants.{MAX_PREFIX_LEN}
 -- its form
 abbrev pub AllFilled : List Shape → Type 0
 AllFilled nodes = All (λ n. n.level ≢ 0 → FilledAs n.prefix n.children (capacity_of n.form)) nodes
+
+-- each of them has a child, two where it holds nodes
+abbrev pub AllBranch : List Shape → Type 0
+AllBranch nodes = All (λ n. n.level ≢ 0 → Branches n.prefix n.children) nodes
+
+-- so many places are those of the form, or none, where nothing is asked by the form
+abbrev pub places_for : Bool → NodeType → ℕ
+places_for true form = capacity_of form
+places_for false form = 0
 
 -- the fewest children of such a node, by its form and the bytes of its prefix
 abbrev pub fewest : NodeType → ℕ → ℕ
@@ -40,17 +50,18 @@ module _ {P : Type 0} where
   abbrev pub FilledIn : ℕ → Node ℕ P → Type 0
   FilledIn capacity x = FilledAs (length (prefix_of x)) (map.len (children_of x)) capacity
 
-  -- the node has enough for the places of its form
-  abbrev pub HasEnough : Node ℕ P → Type 0
-  HasEnough x = FilledIn (capacity_of (form_of x)) x
+  -- the node has enough, and for the places of its form, if that is asked: it has a child, two where it holds nodes, and is large
+  -- enough for its form
+  abbrev pub HasEnough : Bool → Node ℕ P → Type 0
+  HasEnough by_form x = FilledIn (places_for by_form (form_of x)) x
 
   -- so have the nodes of an arena, but the root
-  abbrev pub NodesFilled : Nodes P → Type 0
-  NodesFilled s = (n : ℕ) (x : Node ℕ P) → n ≢ 0 → get s n ≡ Some x → HasEnough x
+  abbrev pub NodesFilled : Bool → Nodes P → Type 0
+  NodesFilled by_form s = (n : ℕ) (x : Node ℕ P) → n ≢ 0 → get s n ≡ Some x → HasEnough by_form x
 
   -- but the root and this one
-  abbrev pub OthersFilled : Nodes P → ℕ → Type 0
-  OthersFilled s at = (n : ℕ) (x : Node ℕ P) → n ≢ 0 → n ≢ at → get s n ≡ Some x → HasEnough x
+  abbrev pub OthersFilled : Bool → Nodes P → ℕ → Type 0
+  OthersFilled by_form s at = (n : ℕ) (x : Node ℕ P) → n ≢ 0 → n ≢ at → get s n ≡ Some x → HasEnough by_form x
 
 -- the lesser node that was wanted came in the place of the greater one, as the sum of the nodes' sizes tells
 abbrev pub LesserCame : (before after gone : ℕ) → Option Lesser → Type 0

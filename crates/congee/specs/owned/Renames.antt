@@ -1,5 +1,5 @@
 -- A node takes another name.
-use Rattle.std.specs.Prelude.{◌≡◌, ◌≢◌, ℕ, List, Some, None}
+use Rattle.std.specs.Prelude.{◌≡◌, ◌≢◌, ℕ, Bool, List, Some, None}
 use Rattle.std.specs.FinMap as map
 use Rattle.slab.specs.Slab.{get}
 use Rattle.congee.specs.Heap.{value_at}
@@ -30,4 +30,4 @@ pub record Renamed {P : Type 0} (s s' : Nodes P) : Type 0 where
   pub tree : IsTree s'
   pub values : (key : List ℕ) → value_at (heap_of s') key ≡ value_at (heap_of s) key
   pub bytes : bytes_of s' ≡ bytes_of s
-  pub filled : NodesFilled s → NodesFilled s'
+  pub filled : (by_form : Bool) → NodesFilled by_form s → NodesFilled by_form s'

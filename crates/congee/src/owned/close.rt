@@ -1,12 +1,12 @@
 //! The end of an owned tree, or of what is in it: its pairs are handed on or go, and its nodes come off the budget.
-ghost use Rattle.std.specs.Prelude.{◌≡◌, ◌+◌, ◌≤◌, ℕ, List, None};
+ghost use Rattle.std.specs.Prelude.{◌≡◌, ◌+◌, ◌≤◌, ℕ, false, List, None};
 ghost use Rattle.std.specs.FinMap as map;
 ghost use Rattle.congee.specs.forms.Forms.{size_of};
 ghost use Rattle.congee.specs.declared.forms.base_node.NodeType.TheVariants.{N256};
 ghost use Rattle.congee.specs.owned.Arena.{IsTree, heap_of};
 ghost use Rattle.congee.specs.owned.Drained.{Drained};
 ghost use Rattle.congee.specs.Heap.{value_at};
-ghost use Rattle.congee.specs.owned.Full.{lacking_of};
+ghost use Rattle.congee.specs.owned.Full.{NodesFilled, lacking_of};
 ghost use Rattle.congee.specs.owned.Levels.{nodes_of};
 ghost use Rattle.congee.specs.owned.Charge.{Balances, Covers, KeepsLimit};
 ghost use Rattle.congee.specs.owned.Sizes.{bytes_of};
@@ -42,6 +42,7 @@ impl<P: Stored, A: Allocator> Arena<P, A> {
         ensures wants { WantsLeaf (wants_of self.new.nodes) }
         ensures bytes { bytes_of self.new.nodes ≡ size_of N256 }
         ensures filled { lacking_of self.new.nodes ≡ 0 }
+        ensures branch { NodesFilled false self.new.nodes }
         ensures balance { Balances A.charged_of self.old self.new }
         ensures limit { KeepsLimit A.limit_of self.old self.new }
     {

@@ -9,7 +9,7 @@ ghost use Rattle.congee.specs.declared.forms.base_node.NodeType.TheVariants.{N25
 ghost use Rattle.congee.specs.owned.Nearest.{ComesBack, IsGreatest, IsGreatestAs, IsLeast, IsLeastAs, pair_by};
 ghost use Rattle.congee.specs.owned.Content.{Inserts, IsBare, KeepsCharge, ChangesNothing, Refuses, Modifies};
 ghost use Rattle.congee.specs.owned.Drained.{Drained};
-ghost use Rattle.congee.specs.owned.Full.{AllFilled};
+ghost use Rattle.congee.specs.owned.Full.{AllBranch, AllFilled};
 ghost use Rattle.congee.specs.owned.OwnedSteps.{IsRefusal};
 ghost use Rattle.congee.specs.owned.Ranges.{by_bytes, in_range, keys_by};
 ghost use Rattle.congee.specs.owned.Runs.{StaysFilled};
@@ -40,7 +40,7 @@ pub struct Congee<K, V, A: Allocator = DefaultAllocator, D = NoDrain> {
 }
 
 impl<K, V, A: Allocator, D> Model for Congee<K, V, A, D> {
-    ghost use Rattle.std.specs.Prelude.{ℕ, ◌≤◌, ◌-◌};
+    ghost use Rattle.std.specs.Prelude.{ℕ, ◌≤◌, ◌-◌, false};
     ghost use Rattle.std.specs.Coded.{coded_ℕ};
     ghost use Rattle.congee.specs.owned.Content.{Content, content_code};
 
@@ -49,7 +49,7 @@ impl<K, V, A: Allocator, D> Model for Congee<K, V, A, D> {
     ghost coded = { content_code coded_ℕ A.code D.code };
 
     ghost use Rattle.congee.specs.owned.Arena.{IsTree};
-    ghost use Rattle.congee.specs.owned.Full.{lacking_of};
+    ghost use Rattle.congee.specs.owned.Full.{NodesFilled, lacking_of};
     ghost use Rattle.congee.specs.owned.Levels.{nodes_of};
     ghost use Rattle.congee.specs.owned.Sizes.{bytes_of};
     ghost use Rattle.congee.specs.owned.Table.{pairs_of};
@@ -58,7 +58,7 @@ impl<K, V, A: Allocator, D> Model for Congee<K, V, A, D> {
 
     ghost view = { λ t. record { pairs = pairs_of t.arena.nodes; nodes = nodes_of t.arena.nodes; bytes = bytes_of t.arena.nodes; lacking = lacking_of t.arena.nodes; base = A.charged_of t.arena.allocator - bytes_of t.arena.nodes; wants = wants_of t.arena.nodes; goes = goes_of t.arena.nodes; allocator = t.arena.allocator; drainer = t.drainer } };
 
-    ghost invariant = { λ t. IsTree t.arena.nodes × (bytes_of t.arena.nodes ≤ A.charged_of t.arena.allocator) };
+    ghost invariant = { λ t. IsTree t.arena.nodes × (bytes_of t.arena.nodes ≤ A.charged_of t.arena.allocator) × NodesFilled false t.arena.nodes };
 }
 
 /// Whether the number is there.
@@ -101,14 +101,14 @@ impl<K: Word64, V: Word64, A: Allocator, D: Drop> Congee<K, V, A, D> {
     }
 
     /// Puts the answer of `f` at a key that is present, or takes the key out where the answer is `None`.
-    /// Gives the value before and the answer.
-    pub fn compute_if_present<F: FnMut(u64) -> Option<u64>>(
+    /// Gives the value before and the answer. It asks `f` once where the key is present.
+    pub fn compute_if_present<F: FnOnce(u64) -> Option<u64>>(
         &mut self,
         key: &K,
-        mut f: F,
+        f: F,
     ) -> Option<(u64, Option<u64>)>
         requires { F.IsAlwaysCallable f }
-        ensures asked { IfSome result (λ r. (after : F) × F.step f r.0 r.1 after) }
+        ensures asked { IfSome result (λ r. F.post f r.0 r.1) }
         ensures present { IfSome result (λ r. Modifies nat_eq A.charged_of A.limit_of self.old self.new
             (going_by r.1 (map.get self.old.goes (K.word key.now)))
             (call.ComputePresent (K.word key.now) r.1) (reply.ComputePresent (Some (r.0, r.1)))) }
@@ -125,15 +125,15 @@ impl<K: Word64, V: Word64, A: Allocator, D: Drop> Congee<K, V, A, D> {
         Some((old, new))
     }
 
-    /// Puts the answer of `f` at a key, present or not, and gives the value before. A refused call changes nothing.
-    pub fn compute_or_insert<F: FnMut(Option<u64>) -> u64>(
+    /// Puts the answer of `f` at a key, present or not, and gives the value before. It asks `f` once. A refused call changes nothing.
+    pub fn compute_or_insert<F: FnOnce(Option<u64>) -> u64>(
         &mut self,
         key: K,
-        mut f: F,
+        f: F,
     ) -> Result<Option<V>, OOMError>
         requires { F.IsAlwaysCallable f }
         ensures inserts { IfOk result (λ r. (before : Option ℕ) × (value : ℕ)
-            × (r ≡ option_map V.of_word before) × (after : F) × F.step f before value after
+            × (r ≡ option_map V.of_word before) × F.post f before value
             × Inserts nat_eq A.charged_of A.limit_of self.old self.new (K.word key)
             (call.ComputeInsert (K.word key) value) (reply.ComputeInsert before)) }
         ensures refused { IfErr result (Refuses A.charged_of A.limit_of self.old self.new (K.word key)) }
@@ -363,6 +363,13 @@ impl<K: Word64, V: Word64, A: Allocator, D: Drop> Congee<K, V, A, D> {
         ensures { All HasValue self.now.nodes }
     {
         self.arena.leaves_hold();
+    }
+
+    /// Each node but the root has a value, or two nodes below it at least, whatever was skipped.
+    pub fn nodes_branch(&self)
+        ensures { AllBranch self.now.nodes }
+    {
+        self.arena.nodes_branch();
     }
 
     /// Where no node but the root lacks a child, each has two nodes below it at least, or one value, and isn't too small for its

@@ -8,7 +8,7 @@ ghost use Rattle.std.specs.FinMap as map;
 ghost use Rattle.congee.specs.forms.Forms.{size_of};
 ghost use Rattle.congee.specs.declared.forms.base_node.NodeType.TheVariants.{N256};
 ghost use Rattle.congee.specs.owned.Owners.{OwnerAnswers, OwnerInserts, OwnerRefuses, OwnerModifies};
-ghost use Rattle.congee.specs.owned.Full.{AllFilled};
+ghost use Rattle.congee.specs.owned.Full.{AllBranch, AllFilled};
 ghost use Rattle.congee.specs.owned.Going.{going_by};
 ghost use Rattle.congee.specs.owned.Runs.{OwnersStayFilled};
 ghost use Rattle.congee.specs.owned.Stats.{HasValue, root_alone};
@@ -83,7 +83,7 @@ pub struct CongeeArc<K, V: Drop> {
 }
 
 impl<K, V: Drop> Model for CongeeArc<K, V> {
-    ghost use Rattle.std.specs.Prelude.{◌≡◌};
+    ghost use Rattle.std.specs.Prelude.{◌≡◌, false};
     ghost use Rattle.congee.specs.owned.Owners.{Owners, owners_code};
 
     ghost Value = { Owners V };
@@ -91,7 +91,7 @@ impl<K, V: Drop> Model for CongeeArc<K, V> {
     ghost coded = { owners_code V.code };
 
     ghost use Rattle.congee.specs.owned.Arena.{IsTree};
-    ghost use Rattle.congee.specs.owned.Full.{lacking_of};
+    ghost use Rattle.congee.specs.owned.Full.{NodesFilled, lacking_of};
     ghost use Rattle.congee.specs.owned.Levels.{nodes_of};
     ghost use Rattle.congee.specs.owned.Sizes.{bytes_of};
     ghost use Rattle.congee.specs.owned.Table.{pairs_of};
@@ -100,7 +100,7 @@ impl<K, V: Drop> Model for CongeeArc<K, V> {
 
     ghost view = { λ t. record { pairs = pairs_of t.arena.nodes; nodes = nodes_of t.arena.nodes; bytes = bytes_of t.arena.nodes; lacking = lacking_of t.arena.nodes; wants = wants_of t.arena.nodes; goes = goes_of t.arena.nodes } };
 
-    ghost invariant = { λ t. IsTree t.arena.nodes × (bytes_of t.arena.nodes ≡ t.arena.allocator.charged) };
+    ghost invariant = { λ t. IsTree t.arena.nodes × (bytes_of t.arena.nodes ≡ t.arena.allocator.charged) × NodesFilled false t.arena.nodes };
 }
 
 /// The owner in a payload, if there is one.
@@ -203,16 +203,16 @@ impl<K: Word64, V: Drop> CongeeArc<K, V> {
     }
 
     /// Puts the answer of `f` at a key that is present, or takes the key out where the answer is `None`.
-    /// Gives the value before. It is refused where a value is there that can't have one more owner, and changes
-    /// nothing then.
-    pub fn compute_if_present<F: FnMut(Arc<V, Global>) -> Option<Arc<V, Global>>>(
+    /// Gives the value before. It asks `f` once where the key is present. It is refused where a value is there that can't have one
+    /// more owner, and changes nothing then.
+    pub fn compute_if_present<F: FnOnce(Arc<V, Global>) -> Option<Arc<V, Global>>>(
         &mut self,
         key: K,
-        mut f: F,
+        f: F,
     ) -> Result<Option<Arc<V, Global>>, Count>
         requires { F.IsAlwaysCallable f }
-        ensures present { IfOk result (λ r. IfSome r (λ old. (given : _) × (new : _) × (after : F)
-            × (arc_value given ≡ arc_value old) × F.step f given new after
+        ensures present { IfOk result (λ r. IfSome r (λ old. (given : _) × (new : _)
+            × (arc_value given ≡ arc_value old) × F.post f given new
             × OwnerModifies self.old self.new (going_by new (map.get self.old.goes (K.word key)))
             (call.ComputePresent (K.word key) (option_map arc_value new))
             (reply.ComputePresent (Some (arc_value old, option_map arc_value new))))) }
@@ -235,6 +235,13 @@ impl<K: Word64, V: Drop> CongeeArc<K, V> {
         ensures { All HasValue self.now.nodes }
     {
         self.arena.leaves_hold();
+    }
+
+    /// Each node but the root has a value, or two nodes below it at least, whatever was skipped.
+    pub fn nodes_branch(&self)
+        ensures { AllBranch self.now.nodes }
+    {
+        self.arena.nodes_branch();
     }
 
     /// Where no node but the root lacks a child, each has two nodes below it at least, or one value, and isn't too small for its

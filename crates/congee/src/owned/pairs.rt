@@ -1,11 +1,11 @@
 //! The calls on an arena as those on a map.
-ghost use Rattle.std.specs.Prelude.{◌≡◌, ◌+◌, ℕ, List, None, IfOk, IfErr};
+ghost use Rattle.std.specs.Prelude.{◌≡◌, ◌+◌, ℕ, false, List, None, IfOk, IfErr};
 ghost use Rattle.std.specs.Option.{option_copied};
 ghost use Rattle.congee.specs.Heap.{value_at};
 ghost use Rattle.congee.specs.forms.Forms.{size_of};
 ghost use Rattle.congee.specs.declared.forms.base_node.NodeType.TheVariants.{N256};
 ghost use Rattle.congee.specs.owned.Arena.{IsTree, heap_of};
-ghost use Rattle.congee.specs.owned.Full.{lacking_of};
+ghost use Rattle.congee.specs.owned.Full.{NodesFilled, lacking_of};
 ghost use Rattle.congee.specs.owned.Levels.{nodes_of};
 ghost use Rattle.congee.specs.owned.Charge.{Covers};
 ghost use Rattle.congee.specs.owned.Edits.{Adds, Denies, Frees};
@@ -33,6 +33,7 @@ impl<P: Stored, A: Allocator> Arena<P, A> {
         ensures wants { IfOk result (λ t. WantsLeaf (wants_of t.nodes)) }
         ensures bytes { IfOk result (λ t. bytes_of t.nodes ≡ size_of N256) }
         ensures filled { IfOk result (λ t. lacking_of t.nodes ≡ 0) }
+        ensures branch { IfOk result (λ t. NodesFilled false t.nodes) }
         ensures charged { IfOk result (λ t. A.charged_of t.allocator ≡ A.charged_of allocator + size_of N256) }
         ensures limit { IfOk result (λ t. A.limit_of t.allocator ≡ A.limit_of allocator) }
         ensures refused { IfErr result (λ e. IsRefusal (A.charged_of allocator) (size_of N256) (A.limit_of allocator) e) }

@@ -1,6 +1,6 @@
 //! A removal at the end of a key's way, and what goes with the value: a leaf that it leaves empty, and then a node above that is
 //! left with one child, which moves up. A node that is left with few children gives place to one of a lesser form.
-ghost use Rattle.std.specs.Prelude.{◌≡◌, ◌≢◌, ◌+◌, ◌<◌, ◌≤◌, ◌↔◌, ℕ, IsTrue, Some, None, false};
+ghost use Rattle.std.specs.Prelude.{◌≡◌, ◌≢◌, ◌+◌, ◌<◌, ◌≤◌, ◌↔◌, ℕ, Bool, IsTrue, Some, None, true, false};
 ghost use Rattle.std.specs.FinMap as map;
 ghost use Rattle.slab.specs.Slab.{get, ContainsKey};
 ghost use Rattle.congee.specs.forms.Forms.{capacity_of, children_of, form_of, size_of};
@@ -8,7 +8,7 @@ ghost use Rattle.congee.specs.protocol.Steps.{form_below, shrinks};
 ghost use Rattle.congee.specs.owned.Arena.{IsTree, OnWay, Hangs, heap_of};
 ghost use Rattle.congee.specs.owned.Charge.{Covers, KeepsLimit};
 ghost use Rattle.congee.specs.owned.Edits.{Drops, Frees};
-ghost use Rattle.congee.specs.owned.Full.{FilledIn, NodesFilled, OthersFilled};
+ghost use Rattle.congee.specs.owned.Full.{FilledIn, NodesFilled, OthersFilled, places_for};
 ghost use Rattle.congee.specs.owned.Going.{goes_at, going_last, going_one, lesser_if};
 ghost use Rattle.congee.specs.owned.Lesser.{Charges, Lessens, LosesChild, SameMap};
 ghost use Rattle.congee.specs.owned.Naming.{HasOwnSlot};
@@ -70,10 +70,10 @@ impl<P: Stored, A: Allocator> Arena<P, A> {
             → bytes_of self.old.nodes + size_of (form_below (form_of x)) ≤ A.charged_of self.old.allocator }
         ensures same { SameMap self.old.nodes self.new.nodes }
         ensures lessens { (x : Form ℕ P) → get self.old.nodes at ≡ Some x → Lessens A.charged_of self.old self.new (form_of x) }
-        ensures filled { (x : Form ℕ P) → get self.old.nodes at ≡ Some x
-            → OthersFilled self.old.nodes at → FilledIn (capacity_of (form_below (form_of x))) x
-            → bytes_of self.new.nodes + size_of (form_of x) ≡ bytes_of self.old.nodes + size_of (form_below (form_of x))
-            → NodesFilled self.new.nodes }
+        ensures filled { (by_form : Bool) (x : Form ℕ P) → get self.old.nodes at ≡ Some x
+            → OthersFilled by_form self.old.nodes at → FilledIn (places_for by_form (form_below (form_of x))) x
+            → (by_form ≡ true → bytes_of self.new.nodes + size_of (form_of x) ≡ bytes_of self.old.nodes + size_of (form_below (form_of x)))
+            → NodesFilled by_form self.new.nodes }
         ensures limit { KeepsLimit A.limit_of self.old self.new }
     {
         let form = self.nodes.node_type(at);

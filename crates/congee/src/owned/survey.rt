@@ -1,10 +1,10 @@
 //! The nodes of an arena, counted by level and form.
-ghost use Rattle.std.specs.Prelude.{◌≡◌, ◌≤◌, ◌++◌, List, length, vec_len, IfOk, OnOk};
+ghost use Rattle.std.specs.Prelude.{◌≡◌, ◌≤◌, ◌++◌, List, length, vec_len, false, IfOk, OnOk};
 ghost use Rattle.std.specs.FinMap as map;
 ghost use Rattle.std.specs.List.{All};
 ghost use Rattle.slab.specs.Slab.{get, ContainsKey};
 ghost use Rattle.congee.specs.owned.Arena.{IsTree, heap_of};
-ghost use Rattle.congee.specs.owned.Full.{AllFilled, lacking_of};
+ghost use Rattle.congee.specs.owned.Full.{AllBranch, AllFilled, NodesFilled, lacking_of};
 ghost use Rattle.congee.specs.owned.Levels.{nodes_from, nodes_of};
 ghost use Rattle.congee.specs.owned.Stats.{HasValue, IsTally, Shape, capped};
 ghost use Rattle.congee.specs.owned.Sizes.{bytes_of};
@@ -54,6 +54,13 @@ impl<P: Stored, A: Allocator> Arena<P, A> {
     pub(crate) fn leaves_hold(&self)
         requires { IsTree self.now.nodes }
         ensures { All HasValue (nodes_of self.now.nodes) }
+    {}
+
+    /// Each node but the root has a child, and two where it holds nodes.
+    pub(crate) fn nodes_branch(&self)
+        requires tree { IsTree self.now.nodes }
+        requires branch { NodesFilled false self.now.nodes }
+        ensures { AllBranch (nodes_of self.now.nodes) }
     {}
 
     /// Where no node but the root lacks a child, each has as many as it should.

@@ -6,7 +6,7 @@ ghost use Rattle.std.specs.FinMap as map;
 ghost use Rattle.congee.specs.forms.Forms.{size_of};
 ghost use Rattle.congee.specs.declared.forms.base_node.NodeType.TheVariants.{N256};
 ghost use Rattle.congee.specs.owned.Content.{Inserts, IsBare, KeepsCharge, ChangesNothing, Refuses, Modifies};
-ghost use Rattle.congee.specs.owned.Full.{AllFilled};
+ghost use Rattle.congee.specs.owned.Full.{AllBranch, AllFilled};
 ghost use Rattle.congee.specs.owned.Nearest.{ComesBack, IsGreatest, IsGreatestAs, IsLeast, IsLeastAs, pair_by};
 ghost use Rattle.congee.specs.owned.OwnedSteps.{IsRefusal};
 ghost use Rattle.congee.specs.owned.Ranges.{by_bytes, in_range, keys_by};
@@ -76,14 +76,14 @@ impl<V: Word64, A: Allocator> U64Congee<V, A> {
     }
 
     /// Puts the answer of `f` at a key that is present, or takes the key out where the answer is `None`.
-    /// Gives the value before and the answer.
-    pub fn compute_if_present<F: FnMut(u64) -> Option<u64>>(
+    /// Gives the value before and the answer. It asks `f` once where the key is present.
+    pub fn compute_if_present<F: FnOnce(u64) -> Option<u64>>(
         &mut self,
         key: u64,
         f: F,
     ) -> Option<(u64, Option<u64>)>
         requires { F.IsAlwaysCallable f }
-        ensures asked { IfSome result (λ r. (after : F) × F.step f r.0 r.1 after) }
+        ensures asked { IfSome result (λ r. F.post f r.0 r.1) }
         ensures present { IfSome result (λ r. Modifies nat_eq A.charged_of A.limit_of self.old.tree self.new.tree
             (going_by r.1 (map.get self.old.tree.goes key))
             (call.ComputePresent key r.1) (reply.ComputePresent (Some (r.0, r.1)))) }
@@ -94,15 +94,15 @@ impl<V: Word64, A: Allocator> U64Congee<V, A> {
         self.tree.compute_if_present(&key, f)
     }
 
-    /// Puts the answer of `f` at a key, present or not, and gives the value before. A refused call changes nothing.
-    pub fn compute_or_insert<F: FnMut(Option<u64>) -> u64>(
+    /// Puts the answer of `f` at a key, present or not, and gives the value before. It asks `f` once. A refused call changes nothing.
+    pub fn compute_or_insert<F: FnOnce(Option<u64>) -> u64>(
         &mut self,
         key: u64,
         f: F,
     ) -> Result<Option<V>, OOMError>
         requires { F.IsAlwaysCallable f }
         ensures inserts { IfOk result (λ r. (before : Option ℕ) × (value : ℕ)
-            × (r ≡ option_map V.of_word before) × (after : F) × F.step f before value after
+            × (r ≡ option_map V.of_word before) × F.post f before value
             × Inserts nat_eq A.charged_of A.limit_of self.old.tree self.new.tree key
             (call.ComputeInsert key value) (reply.ComputeInsert before)) }
         ensures refused { IfErr result (Refuses A.charged_of A.limit_of self.old.tree self.new.tree key) }
@@ -199,6 +199,13 @@ impl<V: Word64, A: Allocator> U64Congee<V, A> {
         ensures { All HasValue self.now.tree.nodes }
     {
         self.tree.leaves_hold();
+    }
+
+    /// Each node but the root has a value, or two nodes below it at least, whatever was skipped.
+    pub fn nodes_branch(&self)
+        ensures { AllBranch self.now.tree.nodes }
+    {
+        self.tree.nodes_branch();
     }
 
     /// Where no node but the root lacks a child, each has two nodes below it at least, or one value, and isn't too small for its

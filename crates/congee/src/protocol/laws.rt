@@ -1,5 +1,5 @@
 //! What follows from the protocol for whoever keeps nodes and calls together.
-ghost use Rattle.std.specs.Prelude.{◌≡◌, ◌≢◌, ℕ, ◌≤◌, ◌⊎◌, Bool, false, Option, None, Some, List, [], length, slice_get};
+ghost use Rattle.std.specs.Prelude.{◌≡◌, ◌≢◌, ℕ, ◌≤◌, ◌⊎◌, Bool, true, false, Option, None, Some, List, [], length, slice_get};
 ghost use Rattle.std.specs.FinMap.{len};
 ghost use Rattle.std.proofs.Math.ListN.{set};
 ghost use Rattle.judge.specs.Answer.{Pairs};
@@ -18,7 +18,7 @@ ghost use Rattle.congee.specs.protocol.Answers.{Keeps};
 ghost use Rattle.congee.specs.protocol.Bounds.{Within};
 ghost use Rattle.congee.specs.protocol.Destroys.{Destroys, Spares};
 ghost use Rattle.congee.specs.protocol.Events.{HoldsAlike};
-ghost use Rattle.congee.specs.protocol.Filled.{KeepsFilled};
+ghost use Rattle.congee.specs.protocol.Filled.{AllBranch, KeepsFilled};
 ghost use Rattle.congee.specs.protocol.Handing.{Leads, InTree};
 ghost use Rattle.congee.specs.Heap.{Node, value_at};
 ghost use Rattle.congee.specs.protocol.Holdings.{MadeBy, Holdings};
@@ -113,13 +113,14 @@ impl<C: NodeName + Drop, P: Payload> Machine<C, P> {
         ensures map { (a : ℕ → Note) (h : ℕ → Node P) (a' : ℕ → Note) (h' : ℕ → Node P) (p c n d : ℕ) (key : List ℕ) (v : P) → Tree a h → Shrinks a h a' h' p c n d key v → length key ≡ 8 → (value_at h key ≡ Some v) × (value_at h' key ≡ None) × ((x : List ℕ) → length x ≡ 8 → x ≢ key → value_at h' x ≡ value_at h x) }
     {}
 
-    /// Each node of the tree but the root has a child, each that holds nodes two of them, and none is too small for its form:
-    /// so it is where a root stands alone, and stays over each step but those that go on without a node that they wanted.
+    /// Each node of the tree but the root has a child, each that holds nodes two of them, whatever steps are taken; and none is too
+    /// small for its form, but after steps that go on without a node that they wanted. So it is where a root stands alone.
     pub fn filled<S: Store<C, P>>()
-        ensures opens { (h : ℕ → Node P) (ms : List (Call C P)) → FreshRoot h → ((i : ℕ) (m : Call C P) → slice_get ms i ≡ Some m → IsIdle C.number m) → KeepsFilled C.number h ms }
-        ensures begins { (h : ℕ → Node P) (ms : List (Call C P)) (i : ℕ) (new : Call C P) → KeepsFilled C.number h ms → IsNew new → KeepsFilled C.number h (set ms i new) }
-        ensures steps { (s : S) (i : ℕ) (a : ℕ → Note) (h h' : ℕ → Node P) (ms : List (Call C P)) (m m' : Call C P) (d : Move P) (fail : Bool) (answer : Option (Option P)) → ProtocolAt C.number P.same_as P.always_copies a h ms → slice_get ms i ≡ Some m → Keeps C.number P.same_as P.always_copies i a m h m' h' d → Stepped C.number P.same_as P.always_copies (S.version_max s) (S.refuses s) m h fail answer m' h' d → d.skipped ≡ false → KeepsFilled C.number h ms → KeepsFilled C.number h' (set ms i m') }
-        ensures spared { (a : ℕ → Note) (h h' : ℕ → Node P) (ms : List (Call C P)) → ProtocolAt C.number P.same_as P.always_copies a h ms → Holdings C.number a h ms → Destroys C.number h ms h' → KeepsFilled C.number h ms → KeepsFilled C.number h' ms }
+        ensures opens { (by_form : Bool) (h : ℕ → Node P) (ms : List (Call C P)) → FreshRoot h → ((i : ℕ) (m : Call C P) → slice_get ms i ≡ Some m → IsIdle C.number m) → KeepsFilled by_form C.number h ms }
+        ensures begins { (by_form : Bool) (h : ℕ → Node P) (ms : List (Call C P)) (i : ℕ) (new : Call C P) → KeepsFilled by_form C.number h ms → IsNew new → KeepsFilled by_form C.number h (set ms i new) }
+        ensures steps { (by_form : Bool) (s : S) (i : ℕ) (a : ℕ → Note) (h h' : ℕ → Node P) (ms : List (Call C P)) (m m' : Call C P) (d : Move P) (fail : Bool) (answer : Option (Option P)) → ProtocolAt C.number P.same_as P.always_copies a h ms → slice_get ms i ≡ Some m → Keeps C.number P.same_as P.always_copies i a m h m' h' d → Stepped C.number P.same_as P.always_copies (S.version_max s) (S.refuses s) m h fail answer m' h' d → (by_form ≡ true → d.skipped ≡ false) → KeepsFilled by_form C.number h ms → KeepsFilled by_form C.number h' (set ms i m') }
+        ensures spared { (by_form : Bool) (a : ℕ → Note) (h h' : ℕ → Node P) (ms : List (Call C P)) → ProtocolAt C.number P.same_as P.always_copies a h ms → Holdings C.number a h ms → Destroys C.number h ms h' → KeepsFilled by_form C.number h ms → KeepsFilled by_form C.number h' ms }
+        ensures branch { (h : ℕ → Node P) (ms : List (Call C P)) → KeepsFilled false C.number h ms → AllBranch h }
     {}
 
     /// The calls after one of them was exchanged.

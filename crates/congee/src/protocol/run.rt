@@ -5,7 +5,7 @@ ghost use Rattle.std.proofs.Math.ListN.{take};
 ghost use Rattle.congee.specs.protocol.Bounds.{Within};
 ghost use Rattle.congee.specs.protocol.Causes.{RefusesAt};
 ghost use Rattle.congee.specs.protocol.Destroys.{Spares};
-ghost use Rattle.congee.specs.protocol.Filled.{AllFilled, NoneSkipped};
+ghost use Rattle.congee.specs.protocol.Filled.{AllBranch, AllFilled, NoneSkipped};
 ghost use Rattle.congee.specs.protocol.Opening.{FreshRoot};
 ghost use Rattle.congee.specs.protocol.Play.{Begins, Protocol, Plays, Settled, StepPlays};
 ghost use Rattle.congee.specs.protocol.Trace.{IsTrace, AllEndAlone};
@@ -56,6 +56,7 @@ pub fn play<C: NodeName + Drop, P: Payload, S: Store<C, P>>(
     ensures spares { Spares C.number P.same_as P.always_copies (S.heap store.new) machines.new }
     ensures alone { (trace : IsTrace C.number P.same_as P.always_copies (S.version_max store.old) (RefusesAt S.heap S.version_max S.rest S.refuses store.old) (S.heap store.old) machines.old (take result.done steps.items) result.moves.items (S.heap store.new) machines.new) → Settled C.number P.same_as P.always_copies (S.heap store.old) machines.old → AllEndAlone C.number (S.heap store.old) machines.old trace.traced }
     ensures alone_fresh { (trace : IsTrace C.number P.same_as P.always_copies (S.version_max store.old) (RefusesAt S.heap S.version_max S.rest S.refuses store.old) (S.heap store.old) machines.old (take result.done steps.items) result.moves.items (S.heap store.new) machines.new) → FreshRoot (S.heap store.old) → AllEndAlone C.number (S.heap store.old) machines.old trace.traced }
+    ensures branch_fresh { FreshRoot (S.heap store.old) → AllBranch (S.heap store.new) }
     ensures filled_fresh { FreshRoot (S.heap store.old) → NoneSkipped result.moves.items → AllFilled (S.heap store.new) }
 {
     let mut moves = Vec::new(alloc);
@@ -87,6 +88,7 @@ pub fn play_into<C: NodeName + Drop, P: Payload, S: Store<C, P>>(
     ensures spares { Spares C.number P.same_as P.always_copies (S.heap store.new) machines.new }
     ensures alone { (trace : IsTrace C.number P.same_as P.always_copies (S.version_max store.old) (RefusesAt S.heap S.version_max S.rest S.refuses store.old) (S.heap store.old) machines.old (take result steps.items) (drop (length moves.old.items) moves.new.items) (S.heap store.new) machines.new) → Settled C.number P.same_as P.always_copies (S.heap store.old) machines.old → AllEndAlone C.number (S.heap store.old) machines.old trace.traced }
     ensures alone_fresh { (trace : IsTrace C.number P.same_as P.always_copies (S.version_max store.old) (RefusesAt S.heap S.version_max S.rest S.refuses store.old) (S.heap store.old) machines.old (take result steps.items) (drop (length moves.old.items) moves.new.items) (S.heap store.new) machines.new) → FreshRoot (S.heap store.old) → AllEndAlone C.number (S.heap store.old) machines.old trace.traced }
+    ensures branch_fresh { FreshRoot (S.heap store.old) → AllBranch (S.heap store.new) }
     ensures filled_fresh { FreshRoot (S.heap store.old) → NoneSkipped (drop (length moves.old.items) moves.new.items) → AllFilled (S.heap store.new) }
 {
     let before = moves.len();

@@ -112,14 +112,14 @@ WholeLaw {C} V number = (a : ℕ → Note) (h : ℕ → Node V) (root : C) (o : 
 
 -- of nodes that are filled
 pub record FilledLaws {C V : Type 0} (number : C → ℕ) (same : V → V → Bool) (always : Bool) : Type 0 where
-  pub opens : (h : ℕ → Node V) (ms : List (Machine C V)) → FreshRoot h → ((i : ℕ) (m : Machine C V) → slice_get ms i ≡ Some m → IsIdle number m) → KeepsFilled number h ms
-  pub spared : (a : ℕ → Note) (h h' : ℕ → Node V) (ms : List (Machine C V)) → ProtocolAt number same always a h ms → Holdings number a h ms → Destroys number h ms h' → KeepsFilled number h ms → KeepsFilled number h' ms
+  pub opens : (h : ℕ → Node V) (ms : List (Machine C V)) → FreshRoot h → ((i : ℕ) (m : Machine C V) → slice_get ms i ≡ Some m → IsIdle number m) → KeepsFilled true number h ms
+  pub spared : (a : ℕ → Note) (h h' : ℕ → Node V) (ms : List (Machine C V)) → ProtocolAt number same always a h ms → Holdings number a h ms → Destroys number h ms h' → KeepsFilled true number h ms → KeepsFilled true number h' ms
 
 -- and of one step, which has the nodes that it wants
 abbrev pub FillingLaw : {C V : Type 0} → (C → ℕ) → (V → V → Bool) → Bool → ℕ → (NodeType → Refusal → Type 0) → Type 0
 FillingLaw {C} {V} number same always most why = (i : ℕ) (a : ℕ → Note) (h h' : ℕ → Node V) (ms : List (Machine C V)) (m m' : Machine C V) (d : Move V) (fail : Bool) (answer : Option (Option V))
     → ProtocolAt number same always a h ms → slice_get ms i ≡ Some m → Keeps number same always i a m h m' h' d → Stepped number same always most why m h fail answer m' h' d → d.skipped ≡ false
-    → KeepsFilled number h ms → KeepsFilled number h' (set ms i m')
+    → KeepsFilled true number h ms → KeepsFilled true number h' (set ms i m')
 
 -- of a collector's calls, from their begin to their end
 pub record ProgressLaws (T J : Type 0) : Type 0 where

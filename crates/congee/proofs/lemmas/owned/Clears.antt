@@ -1,5 +1,5 @@
 -- A tree from which all but its root went.
-use Rattle.std.proofs.Common.{◌≡◌, ℕ, zero, suc, ◌≤◌, List, [], ◌∷◌, get_or, refl, sym, ap, ◌∙◌, arith}
+use Rattle.std.proofs.Common.{◌≡◌, ℕ, zero, suc, ◌≤◌, Bool, true, false, List, [], ◌∷◌, get_or, refl, sym, ap, ◌∙◌, arith}
 use Rattle.std.specs.Prelude.{Option, None, Some}
 use Rattle.std.specs.FinMap as map
 use Rattle.slab.specs.Slab.{get}
@@ -38,6 +38,7 @@ module _ {P : Type 0} where
     pub nodes : nodes_of s ≡ root_alone
     pub bytes : bytes_of s ≡ 2104
     pub lacking : lacking_of s ≡ 0
+    pub branch : NodesFilled false s
     pub wants : WantsLeaf (wants_of s)
 
   -- where nothing stands nothing takes room
@@ -47,8 +48,8 @@ module _ {P : Type 0} where
       bytes_same bare s (λ n. none n)
 
   -- nothing but the root stands
-  alone_filled : (s : Nodes P) (root : Form ℕ P) → IsAlone s root → NodesFilled s
-  alone_filled s root a n x ne e = absurd (let z : None ≡ Some x = sym (a.none n) ∙ (sym (a.puts.others n ne) ∙ e) in cc)
+  pub alone_filled : (by_form : Bool) (s : Nodes P) (root : Form ℕ P) → IsAlone s root → NodesFilled by_form s
+  alone_filled by_form s root a n x ne e = absurd (let z : None ≡ Some x = sym (a.none n) ∙ (sym (a.puts.others n ne) ∙ e) in cc)
 
   -- a root that stands alone, without children, is a tree with no pairs, of its own size
   pub root_left : (s : Nodes P) (root : Form ℕ P) → IsAlone s root → prefix_of root ≡ [] → children_of root ≡ map.empty → form_of root ≡ N256 → RootLeft s
@@ -59,7 +60,8 @@ module _ {P : Type 0} where
         empty = root_empty a.before s root a.none a.puts prefix children form;
         nodes = root_nodes s root tree a.puts.changed form children;
         bytes = root_bytes a.before s root a.none a.puts prefix children form (no_bytes a.before a.none);
-        lacking = lacking_none s (alone_filled s root a);
+        lacking = lacking_none s (alone_filled true s root a);
+        branch = alone_filled false s root a;
         wants = wants_leaf s root tree a.puts.changed form children;
       }
 

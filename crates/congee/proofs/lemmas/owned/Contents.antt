@@ -1,6 +1,6 @@
 -- What contracts see of a writing call on an arena.
 use Rattle.std.proofs.Common.{◌≡◌, ◌≢◌, ℕ, ◌<◌, ◌≤◌, ◌^◌, ◌+◌, ◌-◌, List, refl, sym, ap, subst, ◌∙◌}
-use Rattle.std.specs.Prelude.{Option, None, Some, Ok, Err, Bool, nat_eq}
+use Rattle.std.specs.Prelude.{Option, None, Some, Ok, Err, Bool, true, false, nat_eq}
 use Rattle.std.specs.FinMap as map
 use Rattle.judge.specs.Answer.{answer}
 use Rattle.judge.specs.declared.journal.Call.{Call}
@@ -14,7 +14,7 @@ use Rattle.congee.specs.owned.Changes.{MapChange}
 use Rattle.congee.specs.owned.Charge.{Balances, KeepsLimit}
 use Rattle.congee.specs.owned.Content.{Content, KeepsCharge, Unchanged, Inserts, Modifies, ChangesNothing, Refuses}
 use Rattle.congee.specs.owned.Edits.{Adds, Denies, Frees}
-use Rattle.congee.specs.owned.Full.{NoneSkipped, lacking_of}
+use Rattle.congee.specs.owned.Full.{NodesFilled, NoneSkipped, lacking_of}
 use Rattle.congee.specs.owned.Going.{Going, Went, goes_at, goes_of, going_by}
 use Rattle.congee.specs.owned.Levels.{nodes_of}
 use Rattle.congee.specs.owned.Owned.{Answered}
@@ -25,7 +25,7 @@ use Rattle.congee.specs.owned.Wanted.{InsertionFits, IsRefused, gain_of, wants_a
 use Rattle.congee.specs.declared.allocator.OOMError.{OOMError}
 use Rattle.congee.specs.declared.owned.arena.Arena.{Arena}
 use Rattle.congee.proofs.lemmas.owned.Answered.{answered_insert, answered_compute, answered_remove, answered_present, answered_absent, present_change, exchange_done, exchange_refused}
-use Rattle.congee.proofs.lemmas.owned.Fulls.{same_lacking, still_none}
+use Rattle.congee.proofs.lemmas.owned.Fulls.{same_filled, same_lacking, still_none}
 use Rattle.congee.proofs.lemmas.owned.Lessers.{at_less, by_less, went_down}
 use Rattle.congee.proofs.lemmas.owned.Sizes.{bytes_same}
 use Rattle.congee.proofs.lemmas.owned.Surveys.{same_nodes}
@@ -42,6 +42,10 @@ module _ {P A K : Type 0} (charged limit : A → ℕ) (old new : Arena P A K) wh
   -- a refused insertion leaves the sizes of the nodes
   pub denied_bytes : (key : List ℕ) (v : P) (wants : Option (List ℕ)) (refusal : OOMError × P) → Denies charged limit old new key v wants refusal → bytes_of new.nodes ≡ bytes_of old.nodes
   denied_bytes key v wants refusal d = bytes_same old.nodes new.nodes d.same
+
+  -- and nodes with two children where they hold nodes
+  pub denied_branch : (key : List ℕ) (v : P) (wants : Option (List ℕ)) (refusal : OOMError × P) → Denies charged limit old new key v wants refusal → NodesFilled false old.nodes → NodesFilled false new.nodes
+  denied_branch key v wants refusal d = same_filled false old.nodes new.nodes d.same
 
 -- a key by its number, and the bytes that a call on the arena takes
 module _ {P A K : Type 0} (same : P → P → Bool) (charged limit : A → ℕ) (old new : Arena P A K) (k : ℕ) (small : k < 2 ^ 64) (key : List ℕ) (is : key ≡ key_bytes k) where
@@ -97,7 +101,7 @@ module _ {P A K : Type 0} (same : P → P → Bool) (charged limit : A → ℕ) 
       → lacking_of old.nodes ≡ 0 → NoneSkipped (bytes_of old.nodes) (bytes_of new.nodes) (going_by by (map.get (goes_of old.nodes) k)) → lacking_of new.nodes ≡ 0
   filled_still by before after f e n =
       let none = subst (λ z. NoneSkipped (bytes_of old.nodes) (bytes_of new.nodes) (going_by by z)) (sym (ap (goes_at (heap_of old.nodes)) is ∙ sym (get_goes old.nodes k small))) n in
-      still_none old.nodes new.nodes (λ h. f.filled h none) e
+      still_none old.nodes new.nodes (λ h. f.filled true h (λ _. none)) e
 
 -- what is found at a key stands in the pairs
 pub found_at : {P A K : Type 0} (t : Arena P A K) (k : ℕ) → k < 2 ^ 64 → (key : List ℕ) → key ≡ key_bytes k → (o : Option P) → o ≡ value_at (heap_of t.nodes) key → o ≡ map.get (pairs_of t.nodes) k
@@ -141,7 +145,7 @@ module _ {A D : Type 0} (charged limit : A → ℕ) (d : D) (old new : Arena ℕ
       answers = insert_told nat_eq charged limit old new k small key is before v _ a;
       fits = fitted_at old k small key is (charged old.allocator) (limit old.allocator) a.fits;
       bytes = grown nat_eq charged limit old new k small key is before v a;
-      filled = still_none old.nodes new.nodes a.filled;
+      filled = still_none old.nodes new.nodes (a.filled true);
       keeps = keeps a.edits.balance a.edits.same_limit;
     }
 
@@ -156,7 +160,7 @@ module _ {A D : Type 0} (charged limit : A → ℕ) (d : D) (old new : Arena ℕ
             answers = compute_told nat_eq charged limit old new k small key is found v _ b;
             fits = fitted_at old k small key is (charged old.allocator) (limit old.allocator) a.fits;
             bytes = grown nat_eq charged limit old new k small key is found v b;
-            filled = still_none old.nodes new.nodes a.filled;
+            filled = still_none old.nodes new.nodes (a.filled true);
             keeps = keeps a.edits.balance a.edits.same_limit;
           },
         )

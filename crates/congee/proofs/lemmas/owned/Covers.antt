@@ -1,5 +1,5 @@
 -- A node comes into the place of a leaf with one value, over that leaf and one for the key.
-use Rattle.std.proofs.Common.{◌≡◌, ◌≢◌, ℕ, ◌+◌, ◌<◌, false, inl, inr, List, length, take, get_or, refl, sym, ap, subst, ◌∙◌, arith}
+use Rattle.std.proofs.Common.{◌≡◌, ◌≢◌, ℕ, ◌+◌, ◌<◌, false, inl, inr, Bool, List, length, take, get_or, refl, sym, ap, subst, ◌∙◌, arith}
 use Rattle.std.specs.Prelude.{Some, None}
 use Rattle.std.specs.FinMap as map
 use Rattle.slab.specs.Slab.{get, ContainsKey, HasRoomFor, Updates, with_value}
@@ -219,7 +219,7 @@ module _ {P : Type 0} (s0 s1 s2 : Nodes P) (key : List ℕ) (common over other b
         cover_bytes = renaming.bytes ∙ hung.1
 
         -- the nodes have enough children if they had
-        pub cover_filled : NodesFilled s0 → NodesFilled s4
-        cover_filled f =
+        pub cover_filled : (by_form : Bool) → NodesFilled by_form s0 → NodesFilled by_form s4
+        cover_filled by_form f =
             let same : get forking at ≡ get s0 at = forked_at s0 s1 s2 forking key common over other below v forked at w.stands in
-            renaming.filled (fork_filled s0 s1 s2 forking hanging key common over other below at up v forked len w.stands (λ x e. child_there s0 t key at below w.stands h x (sym same ∙ e) up up_is) sets f)
+            renaming.filled by_form (fork_filled by_form s0 s1 s2 forking hanging key common over other below at up v forked len w.stands (λ x e. child_there s0 t key at below w.stands h x (sym same ∙ e) up up_is) sets f)

@@ -19,12 +19,12 @@ module _ {P A K : Type 0} (charged limit : A → ℕ) where
 
   -- where a value takes the place of another, no node goes
   pub swap_frees : (old new : Arena P A K) (key : List ℕ) (before after : Option P) → Swaps old new key before after → Frees charged limit old new key before after None
-  swap_frees old new key before after s = record { edits = swap_edits old new key before after s; bytes = s.bytes; filled = λ h _. s.filled h }
+  swap_frees old new key before after s = record { edits = swap_edits old new key before after s; bytes = s.bytes; filled = λ by_form h _. s.filled by_form h }
 
   -- an absent key leaves everything
   pub none_frees : (t : Arena P A K) (key : List ℕ) → IsTree t.nodes → value_at (heap_of t.nodes) key ≡ None → Frees charged limit t t key None None None
   none_frees t key tree absent = record {
     edits = record { tree = tree; change = none_change t.nodes key absent; balance = refl; same_limit = refl };
     bytes = refl;
-    filled = λ h _. h;
+    filled = λ _ h _. h;
   }

@@ -498,7 +498,7 @@ module _ {P : Type 0} where
   pub same_renamed : (s s' : Nodes P) → SameNodes s s' → IsTree s → Renamed s s'
   same_renamed s s' e t =
       let h : heap_of s' ≡ heap_of s = λ i n. ap node_of (e n) i in
-      record { tree = same_tree s s' e t; values = λ k. ap (λ z. value_at z k) h; bytes = bytes_same s s' e; filled = same_filled s s' e }
+      record { tree = same_tree s s' e t; values = λ k. ap (λ z. value_at z k) h; bytes = bytes_same s s' e; filled = λ by_form. same_filled by_form s s' e }
 
   -- where every name has its node as before, a node on a key's way is on it
   pub same_way : (s s' : Nodes P) (key : List ℕ) (n : ℕ) → SameNodes s s' → OnWay s key n → OnWay s' key n

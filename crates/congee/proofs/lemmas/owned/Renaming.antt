@@ -1,5 +1,5 @@
 -- A node of an arena takes another name: the tree, its map and its room stay.
-use Rattle.std.proofs.Common.{◌≡◌, ◌≢◌, ℕ, ◌==◌, ◌+◌, inl, inr, cond, List, length, refl, sym, ap, subst, ◌∙◌, arith}
+use Rattle.std.proofs.Common.{◌≡◌, ◌≢◌, ℕ, ◌==◌, ◌+◌, inl, inr, cond, Bool, List, length, refl, sym, ap, subst, ◌∙◌, arith}
 use Rattle.std.specs.Prelude.{Option, None, Some, is_some}
 use Rattle.slab.specs.Slab.{get}
 use Rattle.congee.specs.Heap.{Below, value_at}
@@ -149,13 +149,13 @@ module _ {P : Type 0} (s s' : Nodes P) (p b n m : ℕ) (t : IsTree s) (k : Renam
 
 module _ {P : Type 0} (s s' : Nodes P) (p b n m : ℕ) (t : IsTree s) (k : Renames s s' p b n m) where
   -- the node under its new name has as many children, and so has the one above
-  renamed_filled : NodesFilled s → NodesFilled s'
-  renamed_filled h = filled_then s s' h (λ x y ne e. elim (same_or_not x m) [
+  renamed_filled : (by_form : Bool) → NodesFilled by_form s → NodesFilled by_form s'
+  renamed_filled by_form h = filled_then by_form s s' h (λ x y ne e. elim (same_or_not x m) [
     | inl q ↦ inl (n, (λ z. root_apart s s' p b n m t k (sym z)), k.stood ∙ (sym k.stands ∙ (ap (λ w. get s' w) (sym q) ∙ e)))
     | inr nm ↦ elim (same_or_not x n) [
       | inl q ↦ absurd (let z : None ≡ Some y = sym k.left ∙ (ap (λ w. get s' w) (sym q) ∙ e) in cc)
       | inr nn ↦ elim (same_or_not x p) [
-        | inl q ↦ inr (holds_of_same s' HasEnough x p y k.new q e k.now (changed_enough k.old k.new b (Sub m) (Sub n) k.child k.becomes (h p k.old (λ z. ne (q ∙ z)) k.was)))
+        | inl q ↦ inr (holds_of_same s' (HasEnough by_form) x p y k.new q e k.now (changed_enough by_form k.old k.new b (Sub m) (Sub n) k.child k.becomes (h p k.old (λ z. ne (q ∙ z)) k.was)))
         | inr np ↦ inl (x, ne, sym (k.others x np nn nm) ∙ e)
       ]
     ]
@@ -199,5 +199,5 @@ module _ {P A K : Type 0} (charged limit : A → ℕ) (old mid new : Arena P A K
       edits = edits_renamed before (Some value) a.edits;
       fits = subst (λ t. InsertionFits wants (charged t) (limit t)) same a.fits;
       bytes = a.bytes ∙ ap (λ n. n + gain_of wants) r.bytes;
-      filled = λ h. a.filled (r.filled h);
+      filled = λ by_form h. a.filled by_form (r.filled by_form h);
     }

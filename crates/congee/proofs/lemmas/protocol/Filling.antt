@@ -1,12 +1,12 @@
 -- The nodes of a tree stay filled: what changes of single nodes leave.
-use Rattle.std.proofs.Common.{◌≡◌, ◌≢◌, ℕ, suc, ◌<◌, ◌≤◌, ◌+◌, ◌⊎◌, inl, inr, List, [], ◌∷◌, length, get_or, refl, sym, ◌∙◌, ap, subst, arith}
+use Rattle.std.proofs.Common.{◌≡◌, ◌≢◌, ℕ, suc, ◌<◌, ◌≤◌, ◌+◌, ◌⊎◌, inl, inr, Bool, true, false, List, [], ◌∷◌, length, get_or, refl, sym, ◌∙◌, ap, subst, arith}
 use Rattle.congee.specs.declared.forms.base_node.NodeType.{NodeType}
 use Rattle.congee.specs.declared.forms.base_node.NodeType.TheVariants.{N4, N16, N48, N256}
 use Rattle.congee.specs.Heap.{Node, Hung, Nothing, Below, Holds}
 use Rattle.congee.specs.Notes.{Note, Linked, IsChild, Tree}
 use Rattle.congee.specs.protocol.Events.{places, weight, kept, ChangeGives, TakeOverGives}
 use Rattle.congee.specs.protocol.Handing.{Leads}
-use Rattle.congee.specs.protocol.Filled.{least_in, FilledAs, IsFilled, AllFilled}
+use Rattle.congee.specs.protocol.Filled.{least_in, places_in, FilledAs, IsFilled, AllFilledBy}
 use Rattle.congee.proofs.lemmas.Tree.{same_or_not}
 use Rattle.congee.proofs.lemmas.protocol.Unlinking.{linked_in}
 
@@ -29,25 +29,42 @@ least_same N256 N16 e = absurd (omega (arith, e))
 least_same N256 N48 e = absurd (omega (arith, e))
 least_same N256 N256 e = refl
 
+-- no form has no places
+no_places : (x : NodeType) → places x ≡ 0 → ⊥
+no_places N4 e = omega (arith, e)
+no_places N16 e = omega (arith, e)
+no_places N48 e = omega (arith, e)
+no_places N256 e = omega (arith, e)
+
 -- so many children are enough for the form that has these places
-pub enough : (form : NodeType) (count capacity : ℕ) → capacity ≡ places form → least_in form ≤ count → (x : NodeType) → places x ≡ capacity → least_in x ≤ count
-enough form count capacity e l x f = omega (arith, least_same x form (f ∙ e), l)
+enough_for : (form : NodeType) (count capacity : ℕ) → capacity ≡ places form → least_in form ≤ count → (x : NodeType) → places x ≡ capacity → least_in x ≤ count
+enough_for form count capacity e l x f = omega (arith, least_same x form (f ∙ e), l)
+
+-- they are where that is asked
+pub enough : (by_form : Bool) (form : NodeType) (count capacity : ℕ) → capacity ≡ places form → (by_form ≡ true → least_in form ≤ count) → (x : NodeType) → places x ≡ places_in by_form capacity → least_in x ≤ count
+enough true form count capacity e l x f = enough_for form count capacity e (l refl) x f
+enough false form count capacity e l x f = absurd (no_places x f)
+
+-- a filled node has as many as its form asks for
+pub least_of : (by_form : Bool) (size count capacity : ℕ) (form : NodeType) → FilledAs size count (places_in by_form capacity) → places form ≡ capacity → by_form ≡ true → least_in form ≤ count
+least_of true size count capacity form x e asked = x.least form e
+least_of false size count capacity form x e asked = absurd (cc asked)
 
 -- a node with four places is filled by one child, or by two where it holds nodes
-pub filled_small : (size count capacity : ℕ) → capacity ≡ 4 → 1 ≤ count → (size < 7 → 2 ≤ count) → FilledAs size count capacity
-filled_small size count capacity e one two = record { some = one; branches = two; least = enough N4 count capacity e (omega arith) }
+pub filled_small : (by_form : Bool) (size count capacity : ℕ) → capacity ≡ 4 → 1 ≤ count → (size < 7 → 2 ≤ count) → FilledAs size count (places_in by_form capacity)
+filled_small by_form size count capacity e one two = record { some = one; branches = two; least = enough by_form N4 count capacity e (λ _. omega arith) }
 
 -- a node is filled where one with the same prefix's length, children and places is
-pub filled_same : (s c k s' c' k' : ℕ) → s' ≡ s → c' ≡ c → k' ≡ k → FilledAs s c k → FilledAs s' c' k'
-filled_same s c k s' c' k' es ec ek x = record {
+pub filled_same : (by_form : Bool) (s c k s' c' k' : ℕ) → s' ≡ s → c' ≡ c → k' ≡ k → FilledAs s c (places_in by_form k) → FilledAs s' c' (places_in by_form k')
+filled_same by_form s c k s' c' k' es ec ek x = record {
   some = omega (arith, ec, x.some);
   branches = λ l. omega (arith, ec, x.branches (omega (arith, es, l)));
-  least = λ form e. omega (arith, ec, x.least form (e ∙ ek));
+  least = λ form e. omega (arith, ec, x.least form (e ∙ ap (λ z. places_in by_form z) ek));
 }
 
 -- a filled node is so with more children
-pub filled_more : (s c k c' : ℕ) → c ≤ c' → FilledAs s c k → FilledAs s c' k
-filled_more s c k c' l x = record {
+pub filled_more : (by_form : Bool) (s c k c' : ℕ) → c ≤ c' → FilledAs s c (places_in by_form k) → FilledAs s c' (places_in by_form k)
+filled_more by_form s c k c' l x = record {
   some = omega (arith, l, x.some);
   branches = λ m. omega (arith, l, x.branches m);
   least = λ form e. omega (arith, l, x.least form e);
@@ -65,8 +82,8 @@ pub alike_same : {V : Type 0} (n n' : Node V) → n' ≡ n → Alike n n'
 alike_same n n' e = record { prefix = ap (λ x. x.prefix) e; children = λ b. ap (λ x. x.children b) e; count = ap (λ x. x.count) e; capacity = ap (λ x. x.capacity) e }
 
 -- a filled node stays so with prefix, children and places as they were
-pub filled_alike : {V : Type 0} (n n' : Node V) → Alike n n' → IsFilled n → IsFilled n'
-filled_alike n n' s x = filled_same (length n.prefix) n.count n.capacity (length n'.prefix) n'.count n'.capacity (ap length s.prefix) s.count s.capacity x
+pub filled_alike : {V : Type 0} (by_form : Bool) (n n' : Node V) → Alike n n' → IsFilled by_form n → IsFilled by_form n'
+filled_alike by_form n n' s x = filled_same by_form (length n.prefix) n.count n.capacity (length n'.prefix) n'.count n'.capacity (ap length s.prefix) s.count s.capacity x
 
 -- what paths lead to has what is true of each node's children
 reaches : {V : Type 0} (h : ℕ → Node V) (P : ℕ → Type 0) → ((n b d : ℕ) → P n → (h n).children b ≡ Below d → P d) → (path : List ℕ) (n c : ℕ) → P n → Leads h n path c → P c
@@ -143,33 +160,33 @@ count_new h n b x h' k w e = let y : weight ((h n).children b) ≡ 0 = ap weight
 abbrev pub Still : {V : Type 0} → (ℕ → Note) → (ℕ → Node V) → (ℕ → Node V) → Type 0
 Still a h h' = (n : ℕ) → (a n).status ≡ Linked → Alike (h n) (h' n)
 
-module _ {V : Type 0} (a : ℕ → Note) (h : ℕ → Node V) (t : Tree a h) (f : AllFilled h) where
+module _ {V : Type 0} (by_form : Bool) (a : ℕ → Note) (h : ℕ → Node V) (t : Tree a h) (f : AllFilledBy by_form h) where
   -- where what was in the tree is as it was, all nodes are filled
-  pub still_filled : (h' : ℕ → Node V) → Still a h h' → AllFilled h'
+  pub still_filled : (h' : ℕ → Node V) → Still a h h' → AllFilledBy by_form h'
   still_filled h' s n ne r =
       let l : (a n).status ≡ Linked = reaches h' (λ m. (a m).status ≡ Linked) (λ m b d u e. (t.down m b d u (sym ((s m u).children b) ∙ e)).linked) r.0 0 n t.root r.1 in
-      filled_alike (h n) (h' n) (s n l) (f n ne (linked_in a h n t l))
+      filled_alike by_form (h n) (h' n) (s n l) (f n ne (linked_in a h n t l))
 
   -- a node of the tree but the root is filled
-  pub was_filled : (n : ℕ) → (a n).status ≡ Linked → n ≢ 0 → IsFilled (h n)
+  pub was_filled : (n : ℕ) → (a n).status ≡ Linked → n ≢ 0 → IsFilled by_form (h n)
   was_filled n l ne = f n ne (linked_in a h n t l)
 
   -- a node of the tree, or nothing, or a value comes to a byte of node n
-  pub set_filled : (n b : ℕ) (x : Hung V) (h' : ℕ → Node V) → ((d : ℕ) → x ≡ Below d → (a d).status ≡ Linked) → ChangeGives h n b x h' → (n ≢ 0 → (a n).status ≡ Linked → IsFilled (h' n)) → AllFilled h'
+  pub set_filled : (n b : ℕ) (x : Hung V) (h' : ℕ → Node V) → ((d : ℕ) → x ≡ Below d → (a d).status ≡ Linked) → ChangeGives h n b x h' → (n ≢ 0 → (a n).status ≡ Linked → IsFilled by_form (h' n)) → AllFilledBy by_form h'
   set_filled n b x h' hangs k here m ne r =
       let l : (a m).status ≡ Linked = reaches h' (λ y. (a y).status ≡ Linked) (λ y c d u e. elim (changed_child h n b x h' k y c d e) [
         | inl z ↦ (t.down y c d u z.0).linked
         | inr z ↦ hangs d z.1
       ]) r.0 0 m t.root r.1 in
       elim (same_or_not m n) [
-        | inl e ↦ (let P : ℕ → Type 0 = λ y. IsFilled (h' y) in let Q : ℕ → Type 0 = λ y. (a y).status ≡ Linked in subst P (sym e) (here (λ z. ne (e ∙ z)) (subst Q e l)))
-        | inr mn ↦ filled_alike (h m) (h' m) (alike_same (h m) (h' m) (k.others m mn)) (was_filled m l ne)
+        | inl e ↦ (let P : ℕ → Type 0 = λ y. IsFilled by_form (h' y) in let Q : ℕ → Type 0 = λ y. (a y).status ≡ Linked in subst P (sym e) (here (λ z. ne (e ∙ z)) (subst Q e l)))
+        | inr mn ↦ filled_alike by_form (h m) (h' m) (alike_same (h m) (h' m) (k.others m mn)) (was_filled m l ne)
       ]
 
   -- nodes c and e come into the tree, where nothing or a node of the tree hung
   module _ (c e : ℕ) (h' : ℕ → Node V) (comes : (x b d : ℕ) → (h' x).children b ≡ Below d → ((h x).children b ≡ Below d) ⊎ (((a d).status ≡ Linked) ⊎ ((d ≡ c) ⊎ (d ≡ e))))
       (bare_c : (b d : ℕ) → (h c).children b ≢ Below d) (bare_e : (b d : ℕ) → (h e).children b ≢ Below d)
-      (old : (x : ℕ) → (a x).status ≡ Linked → x ≢ 0 → IsFilled (h' x)) (new_c : IsFilled (h' c)) (new_e : IsFilled (h' e)) where
+      (old : (x : ℕ) → (a x).status ≡ Linked → x ≢ 0 → IsFilled by_form (h' x)) (new_c : IsFilled by_form (h' c)) (new_e : IsFilled by_form (h' e)) where
     abbrev IsJoined : ℕ → Type 0
     IsJoined x = ((a x).status ≡ Linked) ⊎ ((x ≡ c) ⊎ (x ≡ e))
 
@@ -184,20 +201,20 @@ module _ {V : Type 0} (a : ℕ → Note) (h : ℕ → Node V) (t : Tree a h) (f 
       | inr y ↦ y
     ]
 
-    joined_here : (m : ℕ) → m ≢ 0 → IsJoined m → IsFilled (h' m)
+    joined_here : (m : ℕ) → m ≢ 0 → IsJoined m → IsFilled by_form (h' m)
     joined_here m ne (inl u) = old m u ne
-    joined_here m ne (inr (inl q)) = let Q : ℕ → Type 0 = λ y. IsFilled (h' y) in subst Q (sym q) new_c
-    joined_here m ne (inr (inr q)) = let Q : ℕ → Type 0 = λ y. IsFilled (h' y) in subst Q (sym q) new_e
+    joined_here m ne (inr (inl q)) = let Q : ℕ → Type 0 = λ y. IsFilled by_form (h' y) in subst Q (sym q) new_c
+    joined_here m ne (inr (inr q)) = let Q : ℕ → Type 0 = λ y. IsFilled by_form (h' y) in subst Q (sym q) new_e
 
     -- all nodes are filled after two filled ones came into the tree
-    pub joined_filled : AllFilled h'
+    pub joined_filled : AllFilledBy by_form h'
     joined_filled m ne r = joined_here m ne (reaches h' IsJoined joined_step r.0 0 m (inl t.root) r.1)
 
   -- node c comes in the place of node m, which hung at a byte of node p, and node e below it
   module _ (p up m c e : ℕ) (h' : ℕ → Node V) (lp : (a p).status ≡ Linked) (hung : (h p).children up ≡ Below m)
       (comes : (x b d : ℕ) → (h' x).children b ≡ Below d → (((h x).children b ≡ Below d) × (x ≡ p → b ≢ up)) ⊎ (((x ≡ c) × ((h m).children b ≡ Below d)) ⊎ ((d ≡ c) ⊎ (d ≡ e))))
       (bare_c : (b d : ℕ) → (h c).children b ≢ Below d) (bare_e : (b d : ℕ) → (h e).children b ≢ Below d)
-      (old : (x : ℕ) → (a x).status ≡ Linked → x ≢ m → x ≢ 0 → IsFilled (h' x)) (new_c : IsFilled (h' c)) (new_e : IsFilled (h' e)) where
+      (old : (x : ℕ) → (a x).status ≡ Linked → x ≢ m → x ≢ 0 → IsFilled by_form (h' x)) (new_c : IsFilled by_form (h' c)) (new_e : IsFilled by_form (h' e)) where
     abbrev IsReplaced : ℕ → Type 0
     IsReplaced x = (((a x).status ≡ Linked) × (x ≢ m)) ⊎ ((x ≡ c) ⊎ (x ≡ e))
 
@@ -231,11 +248,11 @@ module _ {V : Type 0} (a : ℕ → Note) (h : ℕ → Node V) (t : Tree a h) (f 
       ]
     ]
 
-    replaced_here : (k : ℕ) → k ≢ 0 → IsReplaced k → IsFilled (h' k)
+    replaced_here : (k : ℕ) → k ≢ 0 → IsReplaced k → IsFilled by_form (h' k)
     replaced_here k ne (inl u) = old k u.0 u.1 ne
-    replaced_here k ne (inr (inl q)) = let Q : ℕ → Type 0 = λ y. IsFilled (h' y) in subst Q (sym q) new_c
-    replaced_here k ne (inr (inr q)) = let Q : ℕ → Type 0 = λ y. IsFilled (h' y) in subst Q (sym q) new_e
+    replaced_here k ne (inr (inl q)) = let Q : ℕ → Type 0 = λ y. IsFilled by_form (h' y) in subst Q (sym q) new_c
+    replaced_here k ne (inr (inr q)) = let Q : ℕ → Type 0 = λ y. IsFilled by_form (h' y) in subst Q (sym q) new_e
 
     -- all nodes are filled after a filled one came in another's place, with a filled one below it
-    pub replaced_filled : AllFilled h'
+    pub replaced_filled : AllFilledBy by_form h'
     replaced_filled k ne r = replaced_here k ne (reaches h' IsReplaced replaced_step r.0 0 k (inl (t.root, root_apart)) r.1)

@@ -1,5 +1,5 @@
 -- The changes of the nodes of a tree leave it filled.
-use Rattle.std.proofs.Common.{◌≡◌, ◌≢◌, ℕ, suc, ◌≤◌, inl, inr, List, length, get_or, refl, sym, ◌∙◌, ap, subst, arith}
+use Rattle.std.proofs.Common.{◌≡◌, ◌≢◌, ℕ, suc, ◌≤◌, inl, inr, Bool, List, length, get_or, refl, sym, ◌∙◌, ap, subst, arith}
 use Rattle.std.specs.Prelude.{Option, None, Some}
 use Rattle.congee.specs.declared.protocol.phase.Parent.{Parent}
 use Rattle.congee.specs.declared.protocol.phase.Single.{Single}
@@ -13,7 +13,7 @@ use Rattle.congee.specs.Notes.{Note, Linked, is_published, Tree, LockWords}
 use Rattle.congee.specs.protocol.Events.{weight, ChangeGives, TakeOverGives}
 use Rattle.congee.specs.protocol.Steps.{PutsLesser, Collapses, Lessens, ChangedOne, ChangedTwo}
 use Rattle.congee.specs.protocol.Protocol.{Made, MadeOne, Holding, OneLocked, FitsOne, Adding, PlacedTwo, WantedTwo, MadeTwo, FitsTwo, AboveLocked, TopLocked}
-use Rattle.congee.specs.protocol.Filled.{FilledAs, IsFilled, AllFilled, FilledWithout, FillsOne, FillsTwo}
+use Rattle.congee.specs.protocol.Filled.{places_in, FilledAs, IsFilled, AllFilledBy, FilledWithout, FillsOne, FillsTwo}
 use Rattle.congee.proofs.lemmas.Tree.{same_or_not}
 use Rattle.congee.proofs.lemmas.protocol.Change.{made_apart}
 use Rattle.congee.proofs.lemmas.protocol.Filling.{filled_small, filled_same, filled_more, alike_same, filled_alike, below_is, not_held, not_nothing, changed_child, taken_child, count_kept, count_less, count_more, count_new, weight_there, was_filled, set_filled, joined_filled, replaced_filled}
@@ -28,7 +28,7 @@ no_gift (Split top leaf common byte) None d f = f
 no_gift (Split top leaf common byte) (Some v) d f = f
 no_gift _ found d f = d
 
-module _ {C V : Type 0} (number : C → ℕ) (i : ℕ) (a : ℕ → Note) (h : ℕ → Node V) (key : List ℕ) (t : Tree a h) (w : LockWords a h) (f : AllFilled h) where
+module _ {C V : Type 0} (by_form : Bool) (number : C → ℕ) (i : ℕ) (a : ℕ → Note) (h : ℕ → Node V) (key : List ℕ) (t : Tree a h) (w : LockWords a h) (f : AllFilledBy by_form h) where
   -- the change of one node
   bare : (c size least : ℕ) → Made i a h key c size least → (b d : ℕ) → (h c).children b ≢ Below d
   bare c size least m b d e = absurd (not_nothing ((h c).children b) d (m.blank b) e)
@@ -36,24 +36,24 @@ module _ {C V : Type 0} (number : C → ℕ) (i : ℕ) (a : ℕ → Note) (h : �
   at_byte : (n b : ℕ) (x : Hung V) → b ≡ get_or key (length (h n).prefix) 0 → child_for (h n) key ≡ x → (h n).children b ≡ x
   at_byte n b x e c = let P : ℕ → Type 0 = λ y. (h n).children y ≡ x in subst P (sym e) c
 
-  one_out : (n b : ℕ) (h' : ℕ → Node V) → weight ((h n).children b) ≡ 1 → (n ≢ 0 → FilledWithout (length (h n).prefix) (h n).count (h n).capacity) → ChangeGives h n b Nothing h' → AllFilled h'
-  one_out n b h' wt fills k = set_filled a h t f n b Nothing h' (λ d e. absurd cc) k (λ nz _.
-      filled_same (length (h n).prefix) (h' n).count (h n).capacity (length (h' n).prefix) (h' n).count (h' n).capacity (ap length k.prefix) refl k.capacity (fills nz (h' n).count (count_less h n b h' k wt)))
+  one_out : (n b : ℕ) (h' : ℕ → Node V) → weight ((h n).children b) ≡ 1 → (n ≢ 0 → FilledWithout (length (h n).prefix) (h n).count (places_in by_form (h n).capacity)) → ChangeGives h n b Nothing h' → AllFilledBy by_form h'
+  one_out n b h' wt fills k = set_filled by_form a h t f n b Nothing h' (λ d e. absurd cc) k (λ nz _.
+      filled_same by_form (length (h n).prefix) (h' n).count (h n).capacity (length (h' n).prefix) (h' n).count (h' n).capacity (ap length k.prefix) refl k.capacity (fills nz (h' n).count (count_less h n b h' k wt)))
 
-  value_out : (n b : ℕ) (x : Hung V) (h' : ℕ → Node V) → x ≢ Nothing → (h n).children b ≡ x → (n ≢ 0 → FilledWithout (length (h n).prefix) (h n).count (h n).capacity) → ChangeGives h n b Nothing h' → AllFilled h'
+  value_out : (n b : ℕ) (x : Hung V) (h' : ℕ → Node V) → x ≢ Nothing → (h n).children b ≡ x → (n ≢ 0 → FilledWithout (length (h n).prefix) (h n).count (places_in by_form (h n).capacity)) → ChangeGives h n b Nothing h' → AllFilledBy by_form h'
   value_out n b x h' ne there fills k = one_out n b h' (ap weight there ∙ weight_there x ne) fills k
 
-  value_in : (n b : ℕ) (v : V) (h' : ℕ → Node V) → ChangeGives h n b (Holds v) h' → AllFilled h'
-  value_in n b v h' k = set_filled a h t f n b (Holds v) h' (λ d e. absurd (not_held v d e)) k (λ nz l.
-      filled_same (length (h n).prefix) (h' n).count (h n).capacity (length (h' n).prefix) (h' n).count (h' n).capacity (ap length k.prefix) refl k.capacity
-      (filled_more (length (h n).prefix) (h n).count (h n).capacity (h' n).count (count_more h n b (Holds v) h' k refl) (was_filled a h t f n l nz)))
+  value_in : (n b : ℕ) (v : V) (h' : ℕ → Node V) → ChangeGives h n b (Holds v) h' → AllFilledBy by_form h'
+  value_in n b v h' k = set_filled by_form a h t f n b (Holds v) h' (λ d e. absurd (not_held v d e)) k (λ nz l.
+      filled_same by_form (length (h n).prefix) (h' n).count (h n).capacity (length (h' n).prefix) (h' n).count (h' n).capacity (ap length k.prefix) refl k.capacity
+      (filled_more by_form (length (h n).prefix) (h n).count (h n).capacity (h' n).count (count_more h n b (Holds v) h' k refl) (was_filled by_form a h t f n l nz)))
 
-  leaf_in : (n b leaf c : ℕ) (v : V) (h1 h' : ℕ → Node V) → (a n).status ≡ Linked → Made i a h key leaf 7 0 → (h leaf).capacity ≡ 4 → ChangeGives h leaf c (Holds v) h1 → ChangeGives h1 n b (Below leaf) h' → AllFilled h'
+  leaf_in : (n b leaf c : ℕ) (v : V) (h1 h' : ℕ → Node V) → (a n).status ≡ Linked → Made i a h key leaf 7 0 → (h leaf).capacity ≡ 4 → ChangeGives h leaf c (Holds v) h1 → ChangeGives h1 n b (Below leaf) h' → AllFilledBy by_form h'
   leaf_in n b leaf c v h1 h' ln m four k1 k2 =
       let apart : (x : ℕ) → (a x).status ≡ Linked → x ≢ leaf = (λ x l e. made_apart i a h key leaf 7 0 x m (ap is_published l) (sym e)) in
       let el : h' leaf ≡ h1 leaf = k2.others leaf (λ e. apart n ln (sym e)) in
       let en : h1 n ≡ h n = k1.others n (apart n ln) in
-      joined_filled a h t f leaf leaf h'
+      joined_filled by_form a h t f leaf leaf h'
       (λ x y d e. elim (changed_child h1 n b (Below leaf) h' k2 x y d e) [
         | inl z ↦ elim (changed_child h leaf c (Holds v) h1 k1 x y d z.0) [
           | inl u ↦ inl u.0
@@ -63,21 +63,21 @@ module _ {C V : Type 0} (number : C → ℕ) (i : ℕ) (a : ℕ → Note) (h : �
       ])
       (bare leaf 7 0 m) (bare leaf 7 0 m)
       (λ x l nz. elim (same_or_not x n) [
-        | inl e ↦ (let P : ℕ → Type 0 = λ y. IsFilled (h' y) in let Q : ℕ → Type 0 = λ y. y ≢ 0 in subst P (sym e)
-            (filled_same (length (h n).prefix) (h' n).count (h n).capacity (length (h' n).prefix) (h' n).count (h' n).capacity (ap length (k2.prefix ∙ ap (λ y. y.prefix) en)) refl (k2.capacity ∙ ap (λ y. y.capacity) en)
-            (filled_more (length (h n).prefix) (h n).count (h n).capacity (h' n).count (omega (arith, ap (λ y. y.count) en, count_more h1 n b (Below leaf) h' k2 refl)) (was_filled a h t f n ln (subst Q e nz)))))
-        | inr ne ↦ filled_alike (h x) (h' x) (alike_same (h x) (h' x) (k2.others x ne ∙ k1.others x (apart x l))) (was_filled a h t f x l nz)
+        | inl e ↦ (let P : ℕ → Type 0 = λ y. IsFilled by_form (h' y) in let Q : ℕ → Type 0 = λ y. y ≢ 0 in subst P (sym e)
+            (filled_same by_form (length (h n).prefix) (h' n).count (h n).capacity (length (h' n).prefix) (h' n).count (h' n).capacity (ap length (k2.prefix ∙ ap (λ y. y.prefix) en)) refl (k2.capacity ∙ ap (λ y. y.capacity) en)
+            (filled_more by_form (length (h n).prefix) (h n).count (h n).capacity (h' n).count (omega (arith, ap (λ y. y.count) en, count_more h1 n b (Below leaf) h' k2 refl)) (was_filled by_form a h t f n ln (subst Q e nz)))))
+        | inr ne ↦ filled_alike by_form (h x) (h' x) (alike_same (h x) (h' x) (k2.others x ne ∙ k1.others x (apart x l))) (was_filled by_form a h t f x l nz)
       ])
       (leaf_small el) (leaf_small el)
     where
-      leaf_small : h' leaf ≡ h1 leaf → IsFilled (h' leaf)
+      leaf_small : h' leaf ≡ h1 leaf → IsFilled by_form (h' leaf)
       leaf_small el =
           let count : (h1 leaf).count ≡ suc (h leaf).count = count_new h leaf c (Holds v) h1 k1 refl (m.blank c) in
           let size : length (h' leaf).prefix ≡ 7 = ap (λ y. length y.prefix) el ∙ (ap length k1.prefix ∙ m.long) in
-          filled_small (length (h' leaf).prefix) (h' leaf).count (h' leaf).capacity (ap (λ y. y.capacity) el ∙ (k1.capacity ∙ four)) (omega (arith, ap (λ y. y.count) el, count)) (λ l. absurd (omega (arith, l, size)))
+          filled_small by_form (length (h' leaf).prefix) (h' leaf).count (h' leaf).capacity (ap (λ y. y.capacity) el ∙ (k1.capacity ∙ four)) (omega (arith, ap (λ y. y.count) el, count)) (λ l. absurd (omega (arith, l, size)))
 
   by_single : (one : One C) (x : Hung V) (given : Option V) (h' : ℕ → Node V) (change : Single C) → Holding i a (number one.at.node) → one.byte ≡ get_or key (length (h (number one.at.node)).prefix) 0 → child_for (h (number one.at.node)) key ≡ x
-      → MadeOne number i a h key change → FitsOne change x given → FillsOne number h change given (number one.at.node) (h (number one.at.node)) → ChangedOne number key given one change h h' → AllFilled h'
+      → MadeOne number i a h key change → FitsOne change x given → FillsOne by_form number h change given (number one.at.node) (h (number one.at.node)) → ChangedOne number key given one change h h' → AllFilledBy by_form h'
   by_single one x None h' Set o eb ex m fit fills g = value_out (number one.at.node) one.byte x h' fit.1 (at_byte (number one.at.node) one.byte x eb ex) fills g
   by_single one x (Some v) h' Set o eb ex m fit fills g = value_in (number one.at.node) one.byte v h' g
   by_single one x None h' (Link leaf) o eb ex m fit fills g = absurd fit
@@ -85,7 +85,7 @@ module _ {C V : Type 0} (number : C → ℕ) (i : ℕ) (a : ℕ → Note) (h : �
 
   -- all nodes are filled after a change of one locked node that leaves it filled
   pub one_filled : (one : One C) (x : Hung V) (given : Option V) (h' : ℕ → Node V) → OneLocked number i a h key one x → FitsOne one.change x given
-      → FillsOne number h one.change given (number one.at.node) (h (number one.at.node)) → ChangedOne number key given one one.change h h' → AllFilled h'
+      → FillsOne by_form number h one.change given (number one.at.node) (h (number one.at.node)) → ChangedOne number key given one one.change h h' → AllFilledBy by_form h'
   one_filled one x given h' o fit fills g = by_single one x given h' one.change o.holding o.placed.byte o.wanted.child o.made fit fills g
 
   -- a node that hangs in the tree isn't the root
@@ -93,9 +93,9 @@ module _ {C V : Type 0} (number : C → ℕ) (i : ℕ) (a : ℕ → Note) (h : �
   below_root p b m l e q = let z : length (h m).prefix ≡ length (h 0).prefix = ap (λ y. length (h y).prefix) q in let y : length (h 0).prefix ≡ 0 = ap length t.empty in absurd (omega (arith, z, y, (t.down p b m l e).longer))
 
   -- the node above keeps as many children
-  above_filled : (p up c m : ℕ) (h2 h' : ℕ → Node V) → h2 p ≡ h p → (h p).children up ≡ Below m → ChangeGives h2 p up (Below c) h' → IsFilled (h p) → IsFilled (h' p)
+  above_filled : (p up c m : ℕ) (h2 h' : ℕ → Node V) → h2 p ≡ h p → (h p).children up ≡ Below m → ChangeGives h2 p up (Below c) h' → IsFilled by_form (h p) → IsFilled by_form (h' p)
   above_filled p up c m h2 h' e hung k x =
-      filled_same (length (h p).prefix) (h p).count (h p).capacity (length (h' p).prefix) (h' p).count (h' p).capacity (ap length (k.prefix ∙ ap (λ y. y.prefix) e))
+      filled_same by_form (length (h p).prefix) (h p).count (h p).capacity (length (h' p).prefix) (h' p).count (h' p).capacity (ap length (k.prefix ∙ ap (λ y. y.prefix) e))
       (count_kept h2 p up c m h' k (ap (λ y. y.children up) e ∙ hung) ∙ ap (λ y. y.count) e) (k.capacity ∙ ap (λ y. y.capacity) e) x
 
   hung_apart : (p up m : ℕ) → (a p).status ≡ Linked → (h p).children up ≡ Below m → p ≢ m
@@ -103,7 +103,7 @@ module _ {C V : Type 0} (number : C → ℕ) (i : ℕ) (a : ℕ → Note) (h : �
 
   -- a lesser node comes in the place of node m
   lesser_in : (m c b p up q : ℕ) (h' : ℕ → Node V) → (a p).status ≡ Linked → (h p).children up ≡ Below m → Made i a h key c (length (h m).prefix) q → weight ((h m).children b) ≡ 1
-      → FilledWithout (length (h m).prefix) (h m).count (h c).capacity → PutsLesser h m c b p up h' → AllFilled h'
+      → FilledWithout (length (h m).prefix) (h m).count (places_in by_form (h c).capacity) → PutsLesser h m c b p up h' → AllFilledBy by_form h'
   lesser_in m c b p up q h' lp hung mc wt fills k =
       let apart : (x : ℕ) → (a x).status ≡ Linked → x ≢ c = (λ x l e. made_apart i a h key c (length (h m).prefix) q x mc (ap is_published l) (sym e)) in
       let pm : p ≢ m = hung_apart p up m lp hung in
@@ -111,9 +111,9 @@ module _ {C V : Type 0} (number : C → ℕ) (i : ℕ) (a : ℕ → Note) (h : �
       let p2 : k.1 p ≡ h p = k.3.others p pc ∙ k.2.others p pc pm in
       let ec : h' c ≡ k.1 c = k.4.others c (λ e. pc (sym e)) in
       let less : suc (k.1 c).count ≡ (k.0 c).count = count_less k.0 c b k.1 k.3 (ap weight (k.2.children b) ∙ wt) in
-      let new : IsFilled (h' c) = filled_same (length (h m).prefix) (k.1 c).count (h c).capacity (length (h' c).prefix) (h' c).count (h' c).capacity
+      let new : IsFilled by_form (h' c) = filled_same by_form (length (h m).prefix) (k.1 c).count (h c).capacity (length (h' c).prefix) (h' c).count (h' c).capacity
       (ap length (ap (λ y. y.prefix) ec ∙ (k.3.prefix ∙ k.2.prefix)) ∙ mc.long) (ap (λ y. y.count) ec) (ap (λ y. y.capacity) ec ∙ (k.3.capacity ∙ k.2.capacity)) (fills (k.1 c).count (less ∙ k.2.count)) in
-      replaced_filled a h t f p up m c c h' lp hung
+      replaced_filled by_form a h t f p up m c c h' lp hung
       (λ x y d e. elim (changed_child k.1 p up (Below c) h' k.4 x y d e) [
         | inl z ↦ elim (changed_child k.0 c b Nothing k.1 k.3 x y d z.0) [
           | inl u ↦ elim (taken_child h m c k.0 k.2 x y d u.0) [
@@ -126,14 +126,14 @@ module _ {C V : Type 0} (number : C → ℕ) (i : ℕ) (a : ℕ → Note) (h : �
       ])
       (bare c (length (h m).prefix) q mc) (bare c (length (h m).prefix) q mc)
       (λ x l xm nz. elim (same_or_not x p) [
-        | inl e ↦ (let P : ℕ → Type 0 = λ y. IsFilled (h' y) in let Q : ℕ → Type 0 = λ y. y ≢ 0 in subst P (sym e) (above_filled p up c m k.1 h' p2 hung k.4 (was_filled a h t f p lp (subst Q e nz))))
-        | inr xp ↦ filled_alike (h x) (h' x) (alike_same (h x) (h' x) (k.4.others x xp ∙ (k.3.others x (apart x l) ∙ k.2.others x (apart x l) xm))) (was_filled a h t f x l nz)
+        | inl e ↦ (let P : ℕ → Type 0 = λ y. IsFilled by_form (h' y) in let Q : ℕ → Type 0 = λ y. y ≢ 0 in subst P (sym e) (above_filled p up c m k.1 h' p2 hung k.4 (was_filled by_form a h t f p lp (subst Q e nz))))
+        | inr xp ↦ filled_alike by_form (h x) (h' x) (alike_same (h x) (h' x) (k.4.others x xp ∙ (k.3.others x (apart x l) ∙ k.2.others x (apart x l) xm))) (was_filled by_form a h t f x l nz)
       ])
       new new
 
   -- a greater leaf comes in the place of node m
   greater_in : (p up m c q : ℕ) (v : V) (h1 h2 h' : ℕ → Node V) → (a p).status ≡ Linked → (h p).children up ≡ Below m → Made i a h key c (length (h m).prefix) q → (h m).children (get_or key 7 0) ≡ Nothing
-      → FilledAs (length (h m).prefix) (suc (h m).count) (h c).capacity → TakeOverGives h m c h1 → ChangeGives h1 c (get_or key 7 0) (Holds v) h2 → ChangeGives h2 p up (Below c) h' → AllFilled h'
+      → FilledAs (length (h m).prefix) (suc (h m).count) (places_in by_form (h c).capacity) → TakeOverGives h m c h1 → ChangeGives h1 c (get_or key 7 0) (Holds v) h2 → ChangeGives h2 p up (Below c) h' → AllFilledBy by_form h'
   greater_in p up m c q v h1 h2 h' lp hung mc none fills k1 k2 k3 =
       let apart : (x : ℕ) → (a x).status ≡ Linked → x ≢ c = (λ x l e. made_apart i a h key c (length (h m).prefix) q x mc (ap is_published l) (sym e)) in
       let pm : p ≢ m = hung_apart p up m lp hung in
@@ -141,9 +141,9 @@ module _ {C V : Type 0} (number : C → ℕ) (i : ℕ) (a : ℕ → Note) (h : �
       let p2 : h2 p ≡ h p = k2.others p pc ∙ k1.others p pc pm in
       let ec : h' c ≡ h2 c = k3.others c (λ e. pc (sym e)) in
       let more : (h2 c).count ≡ suc (h1 c).count = count_new h1 c (get_or key 7 0) (Holds v) h2 k2 refl (k1.children (get_or key 7 0) ∙ none) in
-      let new : IsFilled (h' c) = filled_same (length (h m).prefix) (suc (h m).count) (h c).capacity (length (h' c).prefix) (h' c).count (h' c).capacity
+      let new : IsFilled by_form (h' c) = filled_same by_form (length (h m).prefix) (suc (h m).count) (h c).capacity (length (h' c).prefix) (h' c).count (h' c).capacity
       (ap length (ap (λ y. y.prefix) ec ∙ (k2.prefix ∙ k1.prefix)) ∙ mc.long) (ap (λ y. y.count) ec ∙ (more ∙ ap suc k1.count)) (ap (λ y. y.capacity) ec ∙ (k2.capacity ∙ k1.capacity)) fills in
-      replaced_filled a h t f p up m c c h' lp hung
+      replaced_filled by_form a h t f p up m c c h' lp hung
       (λ x y d e. elim (changed_child h2 p up (Below c) h' k3 x y d e) [
         | inl z ↦ elim (changed_child h1 c (get_or key 7 0) (Holds v) h2 k2 x y d z.0) [
           | inl u ↦ elim (taken_child h m c h1 k1 x y d u.0) [
@@ -156,15 +156,15 @@ module _ {C V : Type 0} (number : C → ℕ) (i : ℕ) (a : ℕ → Note) (h : �
       ])
       (bare c (length (h m).prefix) q mc) (bare c (length (h m).prefix) q mc)
       (λ x l xm nz. elim (same_or_not x p) [
-        | inl e ↦ (let P : ℕ → Type 0 = λ y. IsFilled (h' y) in let Q : ℕ → Type 0 = λ y. y ≢ 0 in subst P (sym e) (above_filled p up c m h2 h' p2 hung k3 (was_filled a h t f p lp (subst Q e nz))))
-        | inr xp ↦ filled_alike (h x) (h' x) (alike_same (h x) (h' x) (k3.others x xp ∙ (k2.others x (apart x l) ∙ k1.others x (apart x l) xm))) (was_filled a h t f x l nz)
+        | inl e ↦ (let P : ℕ → Type 0 = λ y. IsFilled by_form (h' y) in let Q : ℕ → Type 0 = λ y. y ≢ 0 in subst P (sym e) (above_filled p up c m h2 h' p2 hung k3 (was_filled by_form a h t f p lp (subst Q e nz))))
+        | inr xp ↦ filled_alike by_form (h x) (h' x) (alike_same (h x) (h' x) (k3.others x xp ∙ (k2.others x (apart x l) ∙ k1.others x (apart x l) xm))) (was_filled by_form a h t f x l nz)
       ])
       new new
 
   -- and a greater node with a new leaf
   greater_link_in : (p up m c leaf byte q : ℕ) (v : V) (h1 h2 h3 h' : ℕ → Node V) → (a p).status ≡ Linked → (h p).children up ≡ Below m → Made i a h key c (length (h m).prefix) q → Made i a h key leaf 7 0 → c ≢ leaf
-      → (h m).children byte ≡ Nothing → FilledAs (length (h m).prefix) (suc (h m).count) (h c).capacity → (h leaf).capacity ≡ 4
-      → ChangeGives h leaf (get_or key 7 0) (Holds v) h1 → TakeOverGives h1 m c h2 → ChangeGives h2 c byte (Below leaf) h3 → ChangeGives h3 p up (Below c) h' → AllFilled h'
+      → (h m).children byte ≡ Nothing → FilledAs (length (h m).prefix) (suc (h m).count) (places_in by_form (h c).capacity) → (h leaf).capacity ≡ 4
+      → ChangeGives h leaf (get_or key 7 0) (Holds v) h1 → TakeOverGives h1 m c h2 → ChangeGives h2 c byte (Below leaf) h3 → ChangeGives h3 p up (Below c) h' → AllFilledBy by_form h'
   greater_link_in p up m c leaf byte q v h1 h2 h3 h' lp hung mc ml cl none fills four k1 k2 k3 k4 =
       let apart : (x : ℕ) → (a x).status ≡ Linked → x ≢ c = (λ x l e. made_apart i a h key c (length (h m).prefix) q x mc (ap is_published l) (sym e)) in
       let apart_leaf : (x : ℕ) → (a x).status ≡ Linked → x ≢ leaf = (λ x l e. made_apart i a h key leaf 7 0 x ml (ap is_published l) (sym e)) in
@@ -178,12 +178,12 @@ module _ {C V : Type 0} (number : C → ℕ) (i : ℕ) (a : ℕ → Note) (h : �
       let ec : h' c ≡ h3 c = k4.others c (λ e. pc (sym e)) in
       let el : h' leaf ≡ h1 leaf = k4.others leaf (λ e. apart_leaf p lp (sym e)) ∙ (k3.others leaf lc ∙ k2.others leaf lc (λ e. apart_leaf m lm (sym e))) in
       let more : (h3 c).count ≡ suc (h2 c).count = count_new h2 c byte (Below leaf) h3 k3 refl (k2.children byte ∙ (ap (λ y. y.children byte) m1 ∙ none)) in
-      let new : IsFilled (h' c) = filled_same (length (h m).prefix) (suc (h m).count) (h c).capacity (length (h' c).prefix) (h' c).count (h' c).capacity
+      let new : IsFilled by_form (h' c) = filled_same by_form (length (h m).prefix) (suc (h m).count) (h c).capacity (length (h' c).prefix) (h' c).count (h' c).capacity
       (ap length (ap (λ y. y.prefix) ec ∙ (k3.prefix ∙ (k2.prefix ∙ ap (λ y. y.prefix) c1))) ∙ mc.long) (ap (λ y. y.count) ec ∙ (more ∙ ap suc (k2.count ∙ ap (λ y. y.count) m1)))
       (ap (λ y. y.capacity) ec ∙ (k3.capacity ∙ (k2.capacity ∙ ap (λ y. y.capacity) c1))) fills in
       let one : (h1 leaf).count ≡ suc (h leaf).count = count_new h leaf (get_or key 7 0) (Holds v) h1 k1 refl (ml.blank (get_or key 7 0)) in
       let size : length (h' leaf).prefix ≡ 7 = ap (λ y. length y.prefix) el ∙ (ap length k1.prefix ∙ ml.long) in
-      replaced_filled a h t f p up m c leaf h' lp hung
+      replaced_filled by_form a h t f p up m c leaf h' lp hung
       (λ x y d e. elim (changed_child h3 p up (Below c) h' k4 x y d e) [
         | inl z ↦ elim (changed_child h2 c byte (Below leaf) h3 k3 x y d z.0) [
           | inl u ↦ elim (taken_child h1 m c h2 k2 x y d u.0) [
@@ -199,16 +199,16 @@ module _ {C V : Type 0} (number : C → ℕ) (i : ℕ) (a : ℕ → Note) (h : �
       ])
       (bare c (length (h m).prefix) q mc) (bare leaf 7 0 ml)
       (λ x l xm nz. elim (same_or_not x p) [
-        | inl e ↦ (let P : ℕ → Type 0 = λ y. IsFilled (h' y) in let Q : ℕ → Type 0 = λ y. y ≢ 0 in subst P (sym e) (above_filled p up c m h3 h' p3 hung k4 (was_filled a h t f p lp (subst Q e nz))))
-        | inr xp ↦ filled_alike (h x) (h' x) (alike_same (h x) (h' x) (k4.others x xp ∙ (k3.others x (apart x l) ∙ (k2.others x (apart x l) xm ∙ k1.others x (apart_leaf x l))))) (was_filled a h t f x l nz)
+        | inl e ↦ (let P : ℕ → Type 0 = λ y. IsFilled by_form (h' y) in let Q : ℕ → Type 0 = λ y. y ≢ 0 in subst P (sym e) (above_filled p up c m h3 h' p3 hung k4 (was_filled by_form a h t f p lp (subst Q e nz))))
+        | inr xp ↦ filled_alike by_form (h x) (h' x) (alike_same (h x) (h' x) (k4.others x xp ∙ (k3.others x (apart x l) ∙ (k2.others x (apart x l) xm ∙ k1.others x (apart_leaf x l))))) (was_filled by_form a h t f x l nz)
       ])
       new
-      (filled_small (length (h' leaf).prefix) (h' leaf).count (h' leaf).capacity (ap (λ y. y.capacity) el ∙ (k1.capacity ∙ four)) (omega (arith, ap (λ y. y.count) el, one)) (λ l. absurd (omega (arith, l, size))))
+      (filled_small by_form (length (h' leaf).prefix) (h' leaf).count (h' leaf).capacity (ap (λ y. y.capacity) el ∙ (k1.capacity ∙ four)) (omega (arith, ap (λ y. y.count) el, one)) (λ l. absurd (omega (arith, l, size))))
 
   -- a node over node m, and a new leaf
   fork_in : (p up m top leaf common byte : ℕ) (v : V) (h1 h2 h3 h' : ℕ → Node V) → (a p).status ≡ Linked → (h p).children up ≡ Below m → Made i a h key top common 1 → Made i a h key leaf 7 0 → top ≢ leaf → byte ≢ get_or key common 0
       → (h top).capacity ≡ 4 → (h leaf).capacity ≡ 4
-      → ChangeGives h leaf (get_or key 7 0) (Holds v) h1 → ChangeGives h1 top byte (Below m) h2 → ChangeGives h2 top (get_or key common 0) (Below leaf) h3 → ChangeGives h3 p up (Below top) h' → AllFilled h'
+      → ChangeGives h leaf (get_or key 7 0) (Holds v) h1 → ChangeGives h1 top byte (Below m) h2 → ChangeGives h2 top (get_or key common 0) (Below leaf) h3 → ChangeGives h3 p up (Below top) h' → AllFilledBy by_form h'
   fork_in p up m top leaf common byte v h1 h2 h3 h' lp hung mt ml tl bytes four_top four k1 k2 k3 k4 =
       let apart : (x : ℕ) → (a x).status ≡ Linked → x ≢ top = (λ x l e. made_apart i a h key top common 1 x mt (ap is_published l) (sym e)) in
       let apart_leaf : (x : ℕ) → (a x).status ≡ Linked → x ≢ leaf = (λ x l e. made_apart i a h key leaf 7 0 x ml (ap is_published l) (sym e)) in
@@ -225,7 +225,7 @@ module _ {C V : Type 0} (number : C → ℕ) (i : ℕ) (a : ℕ → Note) (h : �
       let two : 2 ≤ (h' top).count = omega (arith, ap (λ y. y.count) et, second, first) in
       let one : (h1 leaf).count ≡ suc (h leaf).count = count_new h leaf (get_or key 7 0) (Holds v) h1 k1 refl (ml.blank (get_or key 7 0)) in
       let size : length (h' leaf).prefix ≡ 7 = ap (λ y. length y.prefix) el ∙ (ap length k1.prefix ∙ ml.long) in
-      joined_filled a h t f top leaf h'
+      joined_filled by_form a h t f top leaf h'
       (λ x y d e. elim (changed_child h3 p up (Below top) h' k4 x y d e) [
         | inl z ↦ elim (changed_child h2 top (get_or key common 0) (Below leaf) h3 k3 x y d z.0) [
           | inl u ↦ elim (changed_child h1 top byte (Below m) h2 k2 x y d u.0) [
@@ -241,24 +241,24 @@ module _ {C V : Type 0} (number : C → ℕ) (i : ℕ) (a : ℕ → Note) (h : �
       ])
       (bare top common 1 mt) (bare leaf 7 0 ml)
       (λ x l nz. elim (same_or_not x p) [
-        | inl e ↦ (let P : ℕ → Type 0 = λ y. IsFilled (h' y) in let Q : ℕ → Type 0 = λ y. y ≢ 0 in subst P (sym e) (above_filled p up top m h3 h' p3 hung k4 (was_filled a h t f p lp (subst Q e nz))))
-        | inr xp ↦ filled_alike (h x) (h' x) (alike_same (h x) (h' x) (k4.others x xp ∙ (k3.others x (apart x l) ∙ (k2.others x (apart x l) ∙ k1.others x (apart_leaf x l))))) (was_filled a h t f x l nz)
+        | inl e ↦ (let P : ℕ → Type 0 = λ y. IsFilled by_form (h' y) in let Q : ℕ → Type 0 = λ y. y ≢ 0 in subst P (sym e) (above_filled p up top m h3 h' p3 hung k4 (was_filled by_form a h t f p lp (subst Q e nz))))
+        | inr xp ↦ filled_alike by_form (h x) (h' x) (alike_same (h x) (h' x) (k4.others x xp ∙ (k3.others x (apart x l) ∙ (k2.others x (apart x l) ∙ k1.others x (apart_leaf x l))))) (was_filled by_form a h t f x l nz)
       ])
-      (filled_small (length (h' top).prefix) (h' top).count (h' top).capacity (ap (λ y. y.capacity) et ∙ (k3.capacity ∙ (k2.capacity ∙ (ap (λ y. y.capacity) t1 ∙ four_top)))) (omega (arith, two)) (λ _. two))
-      (filled_small (length (h' leaf).prefix) (h' leaf).count (h' leaf).capacity (ap (λ y. y.capacity) el ∙ (k1.capacity ∙ four)) (omega (arith, ap (λ y. y.count) el, one)) (λ l. absurd (omega (arith, l, size))))
+      (filled_small by_form (length (h' top).prefix) (h' top).count (h' top).capacity (ap (λ y. y.capacity) et ∙ (k3.capacity ∙ (k2.capacity ∙ (ap (λ y. y.capacity) t1 ∙ four_top)))) (omega (arith, two)) (λ _. two))
+      (filled_small by_form (length (h' leaf).prefix) (h' leaf).count (h' leaf).capacity (ap (λ y. y.capacity) el ∙ (k1.capacity ∙ four)) (omega (arith, ap (λ y. y.count) el, one)) (λ l. absurd (omega (arith, l, size))))
 
   -- the changes of the node above both
-  top_collapsed : (two : Two C) (h' : ℕ → Node V) (top : Option (Parent C)) → TopLocked number i a h key top (number two.above.stamp.node) → (a (number two.above.stamp.node)).status ≡ Linked → Collapses number two top h h' → AllFilled h'
+  top_collapsed : (two : Two C) (h' : ℕ → Node V) (top : Option (Parent C)) → TopLocked number i a h key top (number two.above.stamp.node) → (a (number two.above.stamp.node)).status ≡ Linked → Collapses number two top h h' → AllFilledBy by_form h'
   top_collapsed two h' None l lp g = absurd g
   top_collapsed two h' (Some top) l lp g =
       let hung : (h (number top.stamp.node)).children top.byte ≡ Below (number two.above.stamp.node) = at_byte (number top.stamp.node) top.byte (Below (number two.above.stamp.node)) l.byte l.child in
-      set_filled a h t f (number top.stamp.node) top.byte (Below g.0) h'
+      set_filled by_form a h t f (number top.stamp.node) top.byte (Below g.0) h'
       (λ d e. let P : ℕ → Type 0 = λ y. (a y).status ≡ Linked in subst P (sym (below_is (Below g.0) g.0 d refl e)) (t.down (number two.above.stamp.node) g.1.at g.0 lp g.1.child).linked)
-      g.2 (λ nz lg. above_filled (number top.stamp.node) top.byte g.0 (number two.above.stamp.node) h h' refl hung g.2 (was_filled a h t f (number top.stamp.node) lg nz))
+      g.2 (λ nz lg. above_filled (number top.stamp.node) top.byte g.0 (number two.above.stamp.node) h h' refl hung g.2 (was_filled by_form a h t f (number top.stamp.node) lg nz))
 
   top_lessened : (two : Two C) (c : C) (q : ℕ) (h' : ℕ → Node V) (top : Option (Parent C)) → TopLocked number i a h key top (number two.above.stamp.node) → AboveLocked number i a h key two.above (number two.at.node)
-      → Made i a h key (number c) two.above.depth q → (number two.above.stamp.node ≢ 0 → FilledWithout (length (h (number two.above.stamp.node)).prefix) (h (number two.above.stamp.node)).count (h (number c)).capacity)
-      → Lessens number two c top h h' → AllFilled h'
+      → Made i a h key (number c) two.above.depth q → (number two.above.stamp.node ≢ 0 → FilledWithout (length (h (number two.above.stamp.node)).prefix) (h (number two.above.stamp.node)).count (places_in by_form (h (number c)).capacity))
+      → Lessens number two c top h h' → AllFilledBy by_form h'
   top_lessened two c q h' None l o mc fills g = absurd g
   top_lessened two c q h' (Some top) l o mc fills g =
       let hung : (h (number top.stamp.node)).children top.byte ≡ Below (number two.above.stamp.node) = at_byte (number top.stamp.node) top.byte (Below (number two.above.stamp.node)) l.byte l.child in
@@ -270,7 +270,7 @@ module _ {C V : Type 0} (number : C → ℕ) (i : ℕ) (a : ℕ → Note) (h : �
   by_double : (two : Two C) (given found : Option V) (q : ℕ) (h' : ℕ → Node V) (change : Double C)
       → TopLocked number i a h key two.top (number two.above.stamp.node) → AboveLocked number i a h key two.above (number two.at.node) → PlacedTwo key change (h (number two.at.node)).prefix
       → WantedTwo key change found q (h (number two.at.node)) → MadeTwo number i a h key two.above change (length (h (number two.at.node)).prefix) q → FitsTwo change found given
-      → FillsTwo number h change (number two.above.stamp.node) (h (number two.above.stamp.node)) (number two.at.node) (h (number two.at.node)) → ChangedTwo number key given two change h h' → AllFilled h'
+      → FillsTwo by_form number h change (number two.above.stamp.node) (h (number two.above.stamp.node)) (number two.at.node) (h (number two.at.node)) → ChangedTwo number key given two change h h' → AllFilledBy by_form h'
   by_double two given found q h' Unlink up o p n m fit fills g =
       let hung : (h (number two.above.stamp.node)).children two.above.byte ≡ Below (number two.at.node) = at_byte (number two.above.stamp.node) two.above.byte (Below (number two.at.node)) o.byte o.child in
       one_out (number two.above.stamp.node) two.above.byte h' (ap weight hung) fills g
@@ -301,5 +301,5 @@ module _ {C V : Type 0} (number : C → ℕ) (i : ℕ) (a : ℕ → Note) (h : �
   -- all nodes are filled after a change of two locked nodes that leaves them filled
   pub two_filled : (two : Two C) (given found : Option V) (q : ℕ) (h' : ℕ → Node V) → TopLocked number i a h key two.top (number two.above.stamp.node) → AboveLocked number i a h key two.above (number two.at.node)
       → PlacedTwo key two.change (h (number two.at.node)).prefix → WantedTwo key two.change found q (h (number two.at.node)) → MadeTwo number i a h key two.above two.change (length (h (number two.at.node)).prefix) q → FitsTwo two.change found given
-      → FillsTwo number h two.change (number two.above.stamp.node) (h (number two.above.stamp.node)) (number two.at.node) (h (number two.at.node)) → ChangedTwo number key given two two.change h h' → AllFilled h'
+      → FillsTwo by_form number h two.change (number two.above.stamp.node) (h (number two.above.stamp.node)) (number two.at.node) (h (number two.at.node)) → ChangedTwo number key given two two.change h h' → AllFilledBy by_form h'
   two_filled two given found q h' up o p n m fit fills g = by_double two given found q h' two.change up o p n m fit fills g

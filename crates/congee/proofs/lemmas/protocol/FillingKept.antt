@@ -28,7 +28,7 @@ use Rattle.congee.specs.protocol.Events.{BackGives}
 use Rattle.congee.specs.protocol.Steps.{BackOne, BackTwo, BackLeaf, MadeLeaf, MadeGreater, MadeTop, MadeBeside, MadeLesser, UpgradedOne, UpgradedTop, UpgradedAbove, UpgradedBelow, PhaseStepped}
 use Rattle.congee.specs.protocol.Protocol.{Made, MadeOne, MadeTwo, MadeLeafFor, OneKnown, TwoKnown, HalfLocked, PlanKnown, Rely, Known}
 use Rattle.congee.specs.protocol.Names.{names, names_plan, name_stamped, names_one}
-use Rattle.congee.specs.protocol.Filled.{AllFilled, FillsAt, MayFillOne, MayFillHalf, MayFillTwo, MayFillPlan, IsSmall, Fills}
+use Rattle.congee.specs.protocol.Filled.{AllFilledBy, FillsAt, MayFillOne, MayFillHalf, MayFillTwo, MayFillPlan, IsSmall, Fills}
 use Rattle.congee.proofs.lemmas.Graft.{on_test}
 use Rattle.congee.proofs.lemmas.protocol.Each.{Each, each_right}
 use Rattle.congee.proofs.lemmas.protocol.Change.{made_apart}
@@ -63,64 +63,64 @@ module _ {C V : Type 0} (number : C → ℕ) (i : ℕ) (a : ℕ → Note) (h h' 
   leaf_back_still s None m g = still_equal a h w h' g
   leaf_back_still s (Some leaf) m g = back_still (number leaf) 7 0 m.1 g
 
-module _ {C V : Type 0} (number : C → ℕ) (same : V → V → Bool) (always : Bool) (i : ℕ) (a : ℕ → Note) (h h' : ℕ → Node V) (k : ℕ) (kind : Kind V) (given : Option V) (t : Tree a h) (w : LockWords a h) (f : AllFilled h) where
-  stays : Still a h h' → AllFilled h'
-  stays s = still_filled a h t f h' s
+module _ {C V : Type 0} (by_form : Bool) (number : C → ℕ) (same : V → V → Bool) (always : Bool) (i : ℕ) (a : ℕ → Note) (h h' : ℕ → Node V) (k : ℕ) (kind : Kind V) (given : Option V) (t : Tree a h) (w : LockWords a h) (f : AllFilledBy by_form h) where
+  stays : Still a h h' → AllFilledBy by_form h'
+  stays s = still_filled by_form a h t f h' s
 
-  equal : h' ≡ h → AllFilled h'
+  equal : h' ≡ h → AllFilledBy by_form h'
   equal e = stays (still_equal a h w h' e)
 
-  leaf_made : (s : Site C) (next_phase : NextPhase C V) (x : Result C Refusal) → MadeLeaf number kind s h (key_bytes k) x h' next_phase → AllFilled h'
+  leaf_made : (s : Site C) (next_phase : NextPhase C V) (x : Result C Refusal) → MadeLeaf number kind s h (key_bytes k) x h' next_phase → AllFilledBy by_form h'
   leaf_made s next_phase (Ok c) g = stays (still_new a h w h' (number c) _ (key_bytes k) 7 g.0)
   leaf_made s next_phase (Err e) g = equal g.0
 
-  greater_made : (s : Site C) (p : Parent C) (leaf : Option C) (next_phase : NextPhase C V) (x : Result C Refusal) → MadeLeafFor number i a h (key_bytes k) s leaf → MadeGreater number kind s p leaf h (key_bytes k) x h' next_phase → AllFilled h'
+  greater_made : (s : Site C) (p : Parent C) (leaf : Option C) (next_phase : NextPhase C V) (x : Result C Refusal) → MadeLeafFor number i a h (key_bytes k) s leaf → MadeGreater number kind s p leaf h (key_bytes k) x h' next_phase → AllFilledBy by_form h'
   greater_made s p leaf next_phase (Ok c) m g = stays (still_new a h w h' (number c) _ (key_bytes k) s.depth g.0)
   greater_made s p leaf next_phase (Err e) m g = stays (leaf_back_still number i a h h' (key_bytes k) w s leaf m g.0)
 
-  top_made : (p : Parent C) (at : Stamp C) (common byte : ℕ) (next_phase : NextPhase C V) (x : Result C Refusal) → MadeTop number p at common byte h (key_bytes k) x h' next_phase → AllFilled h'
+  top_made : (p : Parent C) (at : Stamp C) (common byte : ℕ) (next_phase : NextPhase C V) (x : Result C Refusal) → MadeTop number p at common byte h (key_bytes k) x h' next_phase → AllFilledBy by_form h'
   top_made p at common byte next_phase (Ok c) g = stays (still_new a h w h' (number c) _ (key_bytes k) common g.0)
   top_made p at common byte next_phase (Err e) g = equal g.0
 
-  beside_made : (p : Parent C) (at : Stamp C) (common byte : ℕ) (top : C) (next_phase : NextPhase C V) (x : Result C Refusal) → Made i a h (key_bytes k) (number top) common 1 → MadeBeside number kind p at common byte top h (key_bytes k) x h' next_phase → AllFilled h'
+  beside_made : (p : Parent C) (at : Stamp C) (common byte : ℕ) (top : C) (next_phase : NextPhase C V) (x : Result C Refusal) → Made i a h (key_bytes k) (number top) common 1 → MadeBeside number kind p at common byte top h (key_bytes k) x h' next_phase → AllFilledBy by_form h'
   beside_made p at common byte top next_phase (Ok c) m g = stays (still_new a h w h' (number c) _ (key_bytes k) 7 g.0)
   beside_made p at common byte top next_phase (Err e) m g = stays (back_still number i a h h' (key_bytes k) w (number top) common 1 m g.0)
 
-  lesser_made : (s : Site C) (p : Parent C) (top : Option (Parent C)) (r : Reply V) (next_phase : NextPhase C V) (x : Result C Refusal) → MadeLesser number s p top r h (key_bytes k) x h' next_phase → AllFilled h'
+  lesser_made : (s : Site C) (p : Parent C) (top : Option (Parent C)) (r : Reply V) (next_phase : NextPhase C V) (x : Result C Refusal) → MadeLesser number s p top r h (key_bytes k) x h' next_phase → AllFilledBy by_form h'
   lesser_made s p None r next_phase (Ok c) g = stays (still_new a h w h' (number c) _ (key_bytes k) s.depth g.0)
   lesser_made s p None r next_phase (Err e) g = equal g.0
   lesser_made s p (Some top) r next_phase (Ok c) g = stays (still_new a h w h' (number c) _ (key_bytes k) p.depth g.0)
   lesser_made s p (Some top) r next_phase (Err e) g = equal g.0
 
-  locked : (n : ℕ) → ((m : ℕ) → Alike (h m) (h' m)) → AllFilled h'
+  locked : (n : ℕ) → ((m : ℕ) → Alike (h m) (h' m)) → AllFilledBy by_form h'
   locked n e = stays (λ m _. e m)
 
-  one_upgraded : (root : C) (one : One C) (r : Reply V) (next_phase : NextPhase C V) (u : Upgrade) → MadeOne number i a h (key_bytes k) one.change → UpgradedOne number root one r h u h' next_phase → AllFilled h'
+  one_upgraded : (root : C) (one : One C) (r : Reply V) (next_phase : NextPhase C V) (u : Upgrade) → MadeOne number i a h (key_bytes k) one.change → UpgradedOne number root one r h u h' next_phase → AllFilledBy by_form h'
   one_upgraded root one r next_phase Locked m g = locked (number one.at.node) (locked_alike h (number one.at.node) h' g.0)
   one_upgraded root one r next_phase Failed m g = stays (one_back_still number i a h h' (key_bytes k) w one.change m g.0)
   one_upgraded root one r next_phase Exhausted m g = stays (one_back_still number i a h h' (key_bytes k) w one.change m g.0)
 
-  two_back : (two : Two C) (size q : ℕ) → MadeTwo number i a h (key_bytes k) two.above two.change size q → BackTwo number h two.change h' → AllFilled h'
+  two_back : (two : Two C) (size q : ℕ) → MadeTwo number i a h (key_bytes k) two.above two.change size q → BackTwo number h two.change h' → AllFilledBy by_form h'
   two_back two size q m g = stays (two_back_still number i a h h' (key_bytes k) w two.above two.change size q m g)
 
-  top_upgraded : (root : C) (top : Parent C) (two : Two C) (r : Reply V) (next_phase : NextPhase C V) (u : Upgrade) (size q : ℕ) → MadeTwo number i a h (key_bytes k) two.above two.change size q → UpgradedTop number root top two r h u h' next_phase → AllFilled h'
+  top_upgraded : (root : C) (top : Parent C) (two : Two C) (r : Reply V) (next_phase : NextPhase C V) (u : Upgrade) (size q : ℕ) → MadeTwo number i a h (key_bytes k) two.above two.change size q → UpgradedTop number root top two r h u h' next_phase → AllFilledBy by_form h'
   top_upgraded root top two r next_phase Locked size q m g = locked (number top.stamp.node) (locked_alike h (number top.stamp.node) h' g.0)
   top_upgraded root top two r next_phase Failed size q m g = two_back two size q m g.0
   top_upgraded root top two r next_phase Exhausted size q m g = two_back two size q m g.0
 
-  above_upgraded : (root : C) (two : Two C) (r : Reply V) (next_phase : NextPhase C V) (u : Upgrade) (size q : ℕ) → MadeTwo number i a h (key_bytes k) two.above two.change size q → UpgradedAbove number root two r h u h' next_phase → AllFilled h'
+  above_upgraded : (root : C) (two : Two C) (r : Reply V) (next_phase : NextPhase C V) (u : Upgrade) (size q : ℕ) → MadeTwo number i a h (key_bytes k) two.above two.change size q → UpgradedAbove number root two r h u h' next_phase → AllFilledBy by_form h'
   above_upgraded root two r next_phase Locked size q m g = locked (number two.above.stamp.node) (locked_alike h (number two.above.stamp.node) h' g.0)
   above_upgraded root two r next_phase Failed size q m g = two_back two size q m g.0
   above_upgraded root two r next_phase Exhausted size q m g = two_back two size q m g.0
 
-  both_upgraded : (two : Two C) (r : Reply V) (next_phase : NextPhase C V) (u : Upgrade) (size q : ℕ) → MadeTwo number i a h (key_bytes k) two.above two.change size q → UpgradedBelow number two r h u h' next_phase → AllFilled h'
+  both_upgraded : (two : Two C) (r : Reply V) (next_phase : NextPhase C V) (u : Upgrade) (size q : ℕ) → MadeTwo number i a h (key_bytes k) two.above two.change size q → UpgradedBelow number two r h u h' next_phase → AllFilledBy by_form h'
   both_upgraded two r next_phase Locked size q m g = locked (number two.at.node) (locked_alike h (number two.at.node) h' g.0)
   both_upgraded two r next_phase Failed size q m g = two_back two size q m g.0
   both_upgraded two r next_phase Exhausted size q m g = two_back two size q m g.0
 
   -- every step
-  pub step_filled : (most : ℕ) (why : NodeType → Refusal → Type 0) (root : C) (fail : Bool) (answer : Option (Option V)) (s : Phase C V) (given' : Option V) (next_phase : NextPhase C V) → Known number same always i a h k (key_bytes k) kind given s → Fills number h given s
-      → PhaseStepped number same always most why root (key_bytes k) kind fail answer given s h given' next_phase h' → AllFilled h'
+  pub step_filled : (most : ℕ) (why : NodeType → Refusal → Type 0) (root : C) (fail : Bool) (answer : Option (Option V)) (s : Phase C V) (given' : Option V) (next_phase : NextPhase C V) → Known number same always i a h k (key_bytes k) kind given s → Fills by_form number h given s
+      → PhaseStepped number same always most why root (key_bytes k) kind fail answer given s h given' next_phase h' → AllFilledBy by_form h'
   step_filled most why root fail answer (MakeLeaf s) given' next_phase m x g = leaf_made s next_phase g.1.0 g.1.1
   step_filled most why root fail answer (MakeGreater s p leaf) given' next_phase m x g = greater_made s p leaf next_phase g.1.0 m.3 g.1.1
   step_filled most why root fail answer (MakeTop p at common byte) given' next_phase m x g = top_made p at common byte next_phase g.1.0 g.1.1
@@ -128,11 +128,11 @@ module _ {C V : Type 0} (number : C → ℕ) (same : V → V → Bool) (always :
   step_filled most why root fail answer (MakeLesser s p top r) given' next_phase m x g = lesser_made s p top r next_phase g.1.0 g.1.1
   step_filled most why root fail answer (CheckAbove p one r) given' next_phase m x g = on_test (is_taken (h (number p.node)) p.version) (λ q. equal (g.1.goes_on q).0) (λ q. stays (one_back_still number i a h h' (key_bytes k) w one.change m.2.made (g.1.goes_back q).0))
   step_filled most why root fail answer (UpgradeOne one r) given' next_phase m x g = one_upgraded root one r next_phase g.1.0 m.1.1.made g.1.2
-  step_filled most why root fail answer (ChangeOne one r) given' next_phase m x g = one_filled number i a h (key_bytes k) t w f one m.0 given h' m.1 m.2 x g.1
+  step_filled most why root fail answer (ChangeOne one r) given' next_phase m x g = one_filled by_form number i a h (key_bytes k) t w f one m.0 given h' m.1 m.2 x g.1
   step_filled most why root fail answer (UpgradeTop top two r) given' next_phase m x g = top_upgraded root top two r next_phase g.1.0 _ m.1.1 m.1.2.made g.1.2
   step_filled most why root fail answer (UpgradeAbove two r) given' next_phase m x g = above_upgraded root two r next_phase g.1.0 _ m.1.1 m.1.2.made g.1.2
   step_filled most why root fail answer (UpgradeBelow two r) given' next_phase m x g = both_upgraded two r next_phase g.1.0 _ m.1.1 m.1.2.made g.1.2
-  step_filled most why root fail answer (ChangeTwo two r) given' next_phase m x g = two_filled number i a h (key_bytes k) t w f two given m.0 m.1 h' m.2.top m.2.above m.2.placed m.2.wanted m.2.made m.4 x g.1
+  step_filled most why root fail answer (ChangeTwo two r) given' next_phase m x g = two_filled by_form number i a h (key_bytes k) t w f two given m.0 m.1 h' m.2.top m.2.above m.2.placed m.2.wanted m.2.made m.4 x g.1
   step_filled most why root fail answer (Obsolete n next p r) given' next_phase m x g = stays (still_but a h w h' (number n) _ (record { prefix = refl; children = λ b. refl; count = refl; capacity = refl }) g.1)
   step_filled most why root fail answer (Retire n next p r) given' next_phase m x g = stays (still_but a h w h' (number n) _ (record { prefix = refl; children = λ b. refl; count = refl; capacity = refl }) g.1)
   step_filled most why root fail answer (UnlockBelow n p r) given' next_phase m x g = stays (still_but a h w h' (number n) _ (record { prefix = refl; children = λ b. refl; count = refl; capacity = refl }) g.1)
@@ -141,7 +141,7 @@ module _ {C V : Type 0} (number : C → ℕ) (same : V → V → Bool) (always :
   step_filled most why root fail answer _ given' next_phase m x g = equal g.0
 
 -- the steps of others, and nodes that are destroyed, leave what a call is about to do
-module _ {C V : Type 0} (number : C → ℕ) (key : List ℕ) (K : ℕ → Type 0) (i : ℕ) (a : ℕ → Note) (h : ℕ → Node V) (a' : ℕ → Note) (h' : ℕ → Node V) (r : Rely K i a h a' h') where
+module _ {C V : Type 0} (by_form : Bool) (number : C → ℕ) (key : List ℕ) (K : ℕ → Type 0) (i : ℕ) (a : ℕ → Note) (h : ℕ → Node V) (a' : ℕ → Note) (h' : ℕ → Node V) (r : Rely K i a h a' h') where
   held_places : (c size least : ℕ) → Made i a h key c size least → (h' c).capacity ≡ (h c).capacity
   held_places c size least m = ap (λ z. z.capacity) (r.held c m.held).0
 
@@ -158,17 +158,17 @@ module _ {C V : Type 0} (number : C → ℕ) (key : List ℕ) (K : ℕ → Type 
   two_places p (GrowLink c leaf byte) size q m = (held_places (number c) size q m.0, held_places (number leaf) 7 0 m.1)
   two_places p (Split top leaf common byte) size q m = (held_places (number top) common 1 m.0, held_places (number leaf) 7 0 m.1)
 
-  one_on : (given : Option V) (one : One C) (x : Hung V) → K (number one.at.node) → OneKnown number i a h key one x → MayFillOne number h given one → MayFillOne number h' given one
+  one_on : (given : Option V) (one : One C) (x : Hung V) → K (number one.at.node) → OneKnown number i a h key one x → MayFillOne by_form number h given one → MayFillOne by_form number h' given one
   one_on given one x kn m fills q =
       let e : h' (number one.at.node) ≡ h (number one.at.node) = r.word (number one.at.node) one.at.version kn m.fresh.stamped.published m.fresh.stamped.up q in
       let P : Node V → Type 0 = λ y. is_taken y one.at.version ≡ true in
-      fills_one_on number h h' one.change given (number one.at.node) (h (number one.at.node)) (h' (number one.at.node)) (alike_same (h (number one.at.node)) (h' (number one.at.node)) e) (one_places one.change m.made) (fills (subst P e q))
+      fills_one_on by_form number h h' one.change given (number one.at.node) (h (number one.at.node)) (h' (number one.at.node)) (alike_same (h (number one.at.node)) (h' (number one.at.node)) e) (one_places one.change m.made) (fills (subst P e q))
 
-  at_on : (two : Two C) (size q : ℕ) → MadeTwo number i a h key two.above two.change size q → h' (number two.above.stamp.node) ≡ h (number two.above.stamp.node) → h' (number two.at.node) ≡ h (number two.at.node) → FillsAt number h two → FillsAt number h' two
-  at_on two size q m ep en x = fills_two_on number h h' two.change (number two.above.stamp.node) (h (number two.above.stamp.node)) (h' (number two.above.stamp.node)) (number two.at.node) (h (number two.at.node)) (h' (number two.at.node))
+  at_on : (two : Two C) (size q : ℕ) → MadeTwo number i a h key two.above two.change size q → h' (number two.above.stamp.node) ≡ h (number two.above.stamp.node) → h' (number two.at.node) ≡ h (number two.at.node) → FillsAt by_form number h two → FillsAt by_form number h' two
+  at_on two size q m ep en x = fills_two_on by_form number h h' two.change (number two.above.stamp.node) (h (number two.above.stamp.node)) (h' (number two.above.stamp.node)) (number two.at.node) (h (number two.at.node)) (h' (number two.at.node))
       (alike_same (h (number two.above.stamp.node)) (h' (number two.above.stamp.node)) ep) (alike_same (h (number two.at.node)) (h' (number two.at.node)) en) (two_places two.above two.change size q m) x
 
-  two_on : (two : Two C) (found : Option V) (q : ℕ) → K (number two.above.stamp.node) → K (number two.at.node) → TwoKnown number i a h key two found q → MayFillTwo number h two → MayFillTwo number h' two
+  two_on : (two : Two C) (found : Option V) (q : ℕ) → K (number two.above.stamp.node) → K (number two.at.node) → TwoKnown number i a h key two found q → MayFillTwo by_form number h two → MayFillTwo by_form number h' two
   two_on two found q kp kn m fills tp tn =
       let ep : h' (number two.above.stamp.node) ≡ h (number two.above.stamp.node) = r.word (number two.above.stamp.node) two.above.stamp.version kp m.above.fresh.stamped.published m.above.fresh.stamped.up tp in
       let en : h' (number two.at.node) ≡ h (number two.at.node) = r.word (number two.at.node) two.at.version kn m.fresh.stamped.published m.fresh.stamped.up tn in
@@ -176,14 +176,14 @@ module _ {C V : Type 0} (number : C → ℕ) (key : List ℕ) (K : ℕ → Type 
       let Q : Node V → Type 0 = λ y. is_taken y two.at.version ≡ true in
       at_on two _ q m.made ep en (fills (subst P ep tp) (subst Q en tn))
 
-  half_on : (two : Two C) (found : Option V) (q : ℕ) → K (number two.at.node) → HalfLocked number i a h key two found q → MayFillHalf number h two → MayFillHalf number h' two
+  half_on : (two : Two C) (found : Option V) (q : ℕ) → K (number two.at.node) → HalfLocked number i a h key two found q → MayFillHalf by_form number h two → MayFillHalf by_form number h' two
   half_on two found q kn m fills tn =
       let ep : h' (number two.above.stamp.node) ≡ h (number two.above.stamp.node) = (r.mine (number two.above.stamp.node) m.above.holding.owner).0 in
       let en : h' (number two.at.node) ≡ h (number two.at.node) = r.word (number two.at.node) two.at.version kn m.fresh.stamped.published m.fresh.stamped.up tn in
       let Q : Node V → Type 0 = λ y. is_taken y two.at.version ≡ true in
       at_on two _ q m.made ep en (fills (subst Q en tn))
 
-  plan_on : (v : V) (plan : Plan C) → Each K (names_plan number plan) → PlanKnown number i a h key plan → MayFillPlan number h v plan → MayFillPlan number h' v plan
+  plan_on : (v : V) (plan : Plan C) → Each K (names_plan number plan) → PlanKnown number i a h key plan → MayFillPlan by_form number h v plan → MayFillPlan by_form number h' v plan
   plan_on v (Here check one) e m x = one_on (Some v) one _ (each_right K (name_stamped number check) (names_one number one) e).0 m.1 x
   plan_on v (Above two) e m x = two_on two None m.0.0 e.0 e.1.0 m.0.1 x
 
@@ -192,13 +192,15 @@ module _ {C V : Type 0} (number : C → ℕ) (key : List ℕ) (K : ℕ → Type 
   small_on s (Some leaf) m x = held_places (number leaf) 7 0 m.1 ∙ x
 
   -- what a call is about to do leaves the tree filled over the steps of others
-  pub fills_kept : (same : V → V → Bool) (always : Bool) (k : ℕ) (kind : Kind V) (given : Option V) (s : Phase C V) → Each K (names number s) → Known number same always i a h k key kind given s → Fills number h given s → Fills number h' given s
+  pub fills_kept : (same : V → V → Bool) (always : Bool) (k : ℕ) (kind : Kind V) (given : Option V) (s : Phase C V) → Each K (names number s) → Known number same always i a h k key kind given s → Fills by_form number h given s → Fills by_form number h' given s
   fills_kept same always k kind given (MakeGreater s p leaf) e m x = small_on s leaf m.3 x
   fills_kept same always k kind given (MakeBeside p at common byte top) e m x = held_places (number top) common 1 m.6 ∙ x
+  fills_kept same always k kind given (MakeLesser s p None r') e m x = x
+  fills_kept same always k kind given (MakeLesser s p (Some top) r') e m x = tt
   fills_kept same always k kind given (AskNew plan) e m x = λ v. plan_on v plan e m.0 (x v)
   fills_kept same always k kind given (CheckAbove p one r') e m x = one_on given one _ e.1.0 m.2 x
   fills_kept same always k kind given (UpgradeOne one r') e m x = one_on given one m.1.0 e.0 m.1.1 x
-  fills_kept same always k kind given (ChangeOne one r') e m x = fills_one_on number h h' one.change given (number one.at.node) (h (number one.at.node)) (h' (number one.at.node))
+  fills_kept same always k kind given (ChangeOne one r') e m x = fills_one_on by_form number h h' one.change given (number one.at.node) (h (number one.at.node)) (h' (number one.at.node))
       (alike_same (h (number one.at.node)) (h' (number one.at.node)) (r.mine (number one.at.node) m.1.holding.owner).0) (one_places one.change m.1.made) x
   fills_kept same always k kind given (UpgradeTop g two r') e m x = two_on two m.1.0 m.1.1 e.1.0 e.1.1.0 m.1.2 x
   fills_kept same always k kind given (UpgradeAbove two r') e m x = two_on two m.1.0 m.1.1 e.0 e.1.0 m.1.2 x

@@ -44,10 +44,10 @@ use Rattle.congee.proofs.Laws.{get_set}
 
 module _ {V : Type 0} (h : ℕ → Node V) where
   abbrev Filled : List (Machine Id V) → Type 0
-  Filled ms = KeepsFilled id_number h ms
+  Filled ms = KeepsFilled true id_number h ms
 
   abbrev FillsAs : Machine Id V → Type 0
-  FillsAs m = Fills id_number h m.given m.phase
+  FillsAs m = Fills true id_number h m.given m.phase
 
   -- a call in the place of another
   filled_at : (ms : List (Machine Id V)) (w : ℕ) (m : Machine Id V) → Filled ms → FillsAs m → Filled (set ms w m)
@@ -103,24 +103,24 @@ module _ {V : Type 0} (same : V → V → Bool) (always : Bool) (laws : CallLaws
 
     unchanged : nodes s'.forest ≡ nodes s.forest → s'.machines ≡ s.machines → StaysFilled s'
     unchanged n m =
-        let P : (ℕ → Node V) → Type 0 = λ h. KeepsFilled id_number h s'.machines in
-        let Q : List (Machine Id V) → Type 0 = λ ms. KeepsFilled id_number (nodes s.forest) ms in
+        let P : (ℕ → Node V) → Type 0 = λ h. KeepsFilled true id_number h s'.machines in
+        let Q : List (Machine Id V) → Type 0 = λ ms. KeepsFilled true id_number (nodes s.forest) ms in
         subst P (sym n) (subst Q (sym m) f)
 
     same_state : s' ≡ s → StaysFilled s'
     same_state e = unchanged (ap (λ y. nodes y.forest) e) (ap (λ y. y.machines) e)
 
-    spared : Destroys id_number (nodes s.forest) s.machines (nodes s'.forest) → KeepsFilled id_number (nodes s'.forest) s.machines
+    spared : Destroys id_number (nodes s.forest) s.machines (nodes s'.forest) → KeepsFilled true id_number (nodes s'.forest) s.machines
     spared d = fills.spared settled.0 (nodes s.forest) (nodes s'.forest) s.machines settled.1 settled.2 d f
 
     destroyed : Destroys id_number (nodes s.forest) s.machines (nodes s'.forest) → s'.machines ≡ s.machines → StaysFilled s'
-    destroyed d m = let Q : List (Machine Id V) → Type 0 = λ ms. KeepsFilled id_number (nodes s'.forest) ms in subst Q (sym m) (spared d)
+    destroyed d m = let Q : List (Machine Id V) → Type 0 = λ ms. KeepsFilled true id_number (nodes s'.forest) ms in subst Q (sym m) (spared d)
 
     -- a call begins
     entered : (op : Point V) → nodes s'.forest ≡ nodes s.forest → s'.machines ≡ set s.machines w (begun root op) → StaysFilled s'
     entered op n m =
-        let P : (ℕ → Node V) → Type 0 = λ h. KeepsFilled id_number h s'.machines in
-        let Q : List (Machine Id V) → Type 0 = λ ms. KeepsFilled id_number (nodes s.forest) ms in
+        let P : (ℕ → Node V) → Type 0 = λ h. KeepsFilled true id_number h s'.machines in
+        let Q : List (Machine Id V) → Type 0 = λ ms. KeepsFilled true id_number (nodes s.forest) ms in
         subst P (sym n) (subst Q (sym m) (filled_at (nodes s.forest) s.machines w (begun root op) f (fills_begun (nodes s.forest) op)))
 
     scan_begins : (op : Point V) (r : Report V) (none : Bool) → EntersUnless none s w op r s' → StaysFilled s'
@@ -144,7 +144,7 @@ module _ {V : Type 0} (same : V → V → Bool) (always : Bool) (laws : CallLaws
 
     reserved : (r : Report V) → GoesOnReserving same always s w r s' → StaysFilled s'
     reserved r x =
-        let Q : List (Machine Id V) → Type 0 = λ ms. KeepsFilled id_number (nodes s'.forest) ms in
+        let Q : List (Machine Id V) → Type 0 = λ ms. KeepsFilled true id_number (nodes s'.forest) ms in
         subst Q (sym x.step.machine) (secured_filled (nodes s'.forest) x.collector_report.outcome (slice_get s.calls w) s.machines w (spared x.step.collected.destroys))
 
     -- a call on the tree takes a step
@@ -154,9 +154,9 @@ module _ {V : Type 0} (same : V → V → Bool) (always : Bool) (laws : CallLaws
         let moved = k.step.walked.plays.moved old.0 old.1 in
         let keeps = leaves.keeps same always laws s.forest s'.forest s.machines k.step.between (record { who = w; noise = noise }) k.move holds.0.safe k.step.walked old.0 old.1 in
         let skip : k.move.skipped ≡ false = sym (ap (λ y. y.skipped) k.report) ∙ none in
-        let full : KeepsFilled id_number (nodes s'.forest) (set s.machines w moved.now) =
+        let full : KeepsFilled true id_number (nodes s'.forest) (set s.machines w moved.now) =
         filling s.forest w settled.0 (nodes s.forest) (nodes s'.forest) s.machines old.0 moved.now k.move noise.fail noise.answer settled.1 old.1 keeps moved.step skip f in
-        let Q : List (Machine Id V) → Type 0 = λ ms. KeepsFilled id_number (nodes s'.forest) ms in
+        let Q : List (Machine Id V) → Type 0 = λ ms. KeepsFilled true id_number (nodes s'.forest) ms in
         subst Q (sym (k.step.machines ∙ cleared_is s.machines k.step.between w old.0 moved.now old.1 moved.calls))
         (filled_again (nodes s'.forest) s.machines w moved.now (rested moved.now) full (slice_get_within s.machines w old.0 old.1) (fills_rested (nodes s'.forest) moved.now))
 
@@ -195,6 +195,6 @@ module _ {V : Type 0} (same : V → V → Bool) (always : Bool) (laws : CallLaws
         let k = get_inside s.calls i l in
         let P : InFlight V → Type 0 = λ c. slice_get s.calls i ≡ Some c in
         let at = h.0.each i Idle m (subst P (new.fresh.idle i k.0 k.1) k.1) e in
-        let Q : Phase Id V → Type 0 = λ p. Fills id_number (nodes s.forest) m.given p in
+        let Q : Phase Id V → Type 0 = λ p. Fills true id_number (nodes s.forest) m.given p in
         subst Q (sym at.1) tt);
   }

@@ -18,6 +18,9 @@ returns-clause-alone g c trace z = all_end_alone _ _ _ _ _ g.met.P.Payload.same_
 pub returns-clause-alone_fresh : goal.returns-clause-alone_fresh
 returns-clause-alone_fresh g c trace f = fresh_end_alone _ _ _ _ _ g.met.P.Payload.same_is_equal _ _ trace.traced c.requires.begins f trace.each
 
+pub returns-clause-branch_fresh : goal.returns-clause-branch_fresh
+returns-clause-branch_fresh g c = c.play_into-done.ensures.branch_fresh
+
 pub returns-clause-filled_fresh : goal.returns-clause-filled_fresh
 returns-clause-filled_fresh g c = let e : c.reserve.new.self.items ≡ [] = c.reserve.ensures.items ∙ c.new-moves.ensures.items in rw e at c.play_into-done.ensures.filled_fresh
 

@@ -6,7 +6,7 @@ use Rattle.std.proofs.Math.Seq.{take-length, drop-append_seam}
 use Rattle.std.proofs.lemmas.List.{take-append-le, drop-append-le, length-append}
 use Rattle.congee.proofs.lemmas.protocol.ManyCalls.{progress_none, progress_more, progress_end, progress_stops, stops, trace_end}
 use Rattle.congee.proofs.lemmas.protocol.Traces.{all_end_alone, fresh_end_alone}
-use Rattle.congee.proofs.lemmas.protocol.FillingTraces.{run_filled}
+use Rattle.congee.proofs.lemmas.protocol.FillingTraces.{run_branch, run_filled}
 use Rattle.congee.proofs.lemmas.protocol.Destroys.{spares}
 use Rattle.congee.proofs.protocol.run.play_into.Goals as goal
 use Rattle.congee.proofs.protocol.run.play_into.Goals.{in-Some+then-len-capacity, in_default}
@@ -68,6 +68,11 @@ returns-clause-alone g c trace z = all_end_alone _ _ _ _ _ g.met.P.Payload.same_
 
 pub returns-clause-alone_fresh : goal.returns-clause-alone_fresh
 returns-clause-alone_fresh g c trace f = fresh_end_alone _ _ _ _ _ g.met.P.Payload.same_is_equal _ _ trace.traced c.requires.begins f trace.each
+
+pub returns-clause-branch_fresh : goal.returns-clause-branch_fresh
+returns-clause-branch_fresh g c f =
+    let done : c.len-2.result - c.len-before.result ≡ vec_len c.loop-step.moves - vec_len c.args.moves.now = omega (arith, c.len-2.ensures, c.len-before.ensures) in
+    run_branch _ _ _ _ _ g.met.P.Payload.same_is_equal _ _ _ _ _ _ c.requires.begins f (trace_end _ _ _ _ _ _ _ _ _ _ _ _ _ _ _ c.loop-step.invariant.progress done refl)
 
 pub returns-clause-filled_fresh : goal.returns-clause-filled_fresh
 returns-clause-filled_fresh g c f n =

@@ -43,7 +43,7 @@ returns-clause-adds g c =
       };
       fits = c.in_default.ensures.fits;
       bytes = added.1 ∙ c.in_default.ensures.grown;
-      filled = value_filled c.args.self.now.nodes c.make_room.new.self.nodes c.hang_value.new.self c.args.at c.byte_at-byte.result c.args.value c.requires.way.stands c.in_default.ensures.grows
+      filled = λ by_form. value_filled by_form c.args.self.now.nodes c.make_room.new.self.nodes c.hang_value.new.self c.args.at c.byte_at-byte.result c.args.value c.requires.way.stands c.in_default.ensures.grows
           (roomy_absent c.args.self.now.nodes c.make_room.new.self.nodes c.args.key.now c.args.at c.byte_at-byte.result (grown_roomy c.args.self.now.nodes c.make_room.new.self.nodes c.args.at c.requires.way.stands c.in_default.ensures.grows) c.requires.free c.byte_at-byte.ensures)
           c.hang_value.ensures.hangs;
     }

@@ -102,7 +102,7 @@ returns-clause-adds g c =
           (same_heap c.args.self.now.nodes c.ready.new.self.nodes c.args.at c.ready.ensures.same)
           c.in_default.ensures.charge c.ready.ensures.limit c.in_default.ensures.fits c.in_default-make_room.ensures.fits;
       bytes = omega (arith, added.1, same, room, c.in_default-make_room.ensures.grown);
-      filled = leaf_filled c.args.self.now.nodes c.ready.new.self.nodes c.make_room.new.self.nodes c.hang_leaf.new.self c.args.key.now c.args.at c.byte_at-byte.result c.args.value len c.requires.way.stands c.ready.ensures.same c.in_default-make_room.ensures.grows
+      filled = λ by_form. leaf_filled by_form c.args.self.now.nodes c.ready.new.self.nodes c.make_room.new.self.nodes c.hang_leaf.new.self c.args.key.now c.args.at c.byte_at-byte.result c.args.value len c.requires.way.stands c.ready.ensures.same c.in_default-make_room.ensures.grows
           (roomy_absent c.args.self.now.nodes c.make_room.new.self.nodes c.args.key.now c.args.at c.byte_at-byte.result
           (hung_roomy c.args.self.now.nodes c.ready.new.self.nodes c.make_room.new.self.nodes c.args.at c.requires.way.stands c.ready.ensures.same c.in_default-make_room.ensures.grows) c.requires.free c.byte_at-byte.ensures)
           c.hang_leaf.ensures.hangs;

@@ -58,3 +58,6 @@ returns-clause-balance g c =
     let x = standing_at c.args.self.now.nodes 0 (root_reached c.args.self.now.nodes [] c.requires.tree).way.stands in
     let within = root_within c.args.self.now.nodes x.node c.requires.tree x.is in
     omega (arith, now, within, c.bytes_charged.ensures, c.size.ensures, c.deallocate.ensures.charged)
+
+pub returns-clause-branch : goal.returns-clause-branch
+returns-clause-branch g c = (left g (goal.at.returns-clause-branch g c).After-clear).branch

@@ -72,6 +72,6 @@ returns g c =
         same_limit = c.deallocate-2.ensures.limit ∙ (c.deallocate.ensures.limit ∙ ap g.A.Allocator.limit_of d.allocator);
       };
       bytes = subst (λ z. Went (g.A.Allocator.charged_of c.args.self.now.allocator) (g.A.Allocator.limit_of c.args.self.now.allocator) (bytes_of s) (bytes_of c.lift.new.self) (Some z)) (sym two) gone;
-      filled = λ h _. lifted_filled mid c.lift.new.self c.args.top c.byte_at-up.result c.args.above d.tree r (c.lift.ensures.lifts r)
-          (lost_others s mid c.args.key.now c.args.above c.args.at c.drop_leaf-value.ensures.above h);
+      filled = λ by_form h _. lifted_filled by_form mid c.lift.new.self c.args.top c.byte_at-up.result c.args.above d.tree r (c.lift.ensures.lifts r)
+          (lost_others by_form s mid c.args.key.now c.args.above c.args.at c.drop_leaf-value.ensures.above h);
     }

@@ -35,5 +35,5 @@ returns g c =
         same_limit = c.deallocate.ensures.limit ∙ ap g.A.Allocator.limit_of d.allocator;
       };
       bytes = bytes;
-      filled = λ h _ n x ne e. lost_others c.args.self.now.nodes c.drop_leaf-value.new.self.nodes c.args.key.now c.root.result c.args.at c.drop_leaf-value.ensures.above h n x ne (λ q. ne (q ∙ c.root.ensures)) e;
+      filled = λ by_form h _ n x ne e. lost_others by_form c.args.self.now.nodes c.drop_leaf-value.new.self.nodes c.args.key.now c.root.result c.args.at c.drop_leaf-value.ensures.above h n x ne (λ q. ne (q ∙ c.root.ensures)) e;
     }

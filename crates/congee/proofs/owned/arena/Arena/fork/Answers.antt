@@ -132,7 +132,7 @@ returns g c =
       tree = r.0.0;
       change = r.0.1;
       bytes = omega (arith, r.1);
-      filled = fork_filled c.args.self.now.nodes c.make-over.new.self c.hang_leaf.new.self c.hang_node.new.self c.swap_node.new.self c.args.key.now c.parting-place.result.place c.make-over.result _ c.args.below c.args.at c.byte_at-up.result c.args.value f len c.requires.parts.way.stands
+      filled = λ by_form. fork_filled by_form c.args.self.now.nodes c.make-over.new.self c.hang_leaf.new.self c.hang_node.new.self c.swap_node.new.self c.args.key.now c.parting-place.result.place c.make-over.result _ c.args.below c.args.at c.byte_at-up.result c.args.value f len c.requires.parts.way.stands
           (λ x e. child_there c.args.self.now.nodes c.requires.tree c.args.key.now c.args.at c.args.below c.requires.parts.way.stands c.requires.parts.hangs x (sym same ∙ e) c.byte_at-up.result
           (c.byte_at-up.ensures ∙ ap (λ o. get_or c.args.key.now (length (node_of o).prefix) 0) same))
           c.swap_node.ensures.swaps;

@@ -2,7 +2,7 @@ use Rattle.std.proofs.Common.{rules, ◌≡◌, inl, inr, ap, ◌∙◌, arith}
 use Rattle.slab.specs.Slab.{SameValues}
 use Rattle.congee.specs.forms.Forms.{form_of, size_of}
 use Rattle.congee.specs.protocol.Steps.{form_below}
-use Rattle.congee.proofs.lemmas.owned.FullSteps.{lessened_filled, never_less}
+use Rattle.congee.proofs.lemmas.owned.FullSteps.{lessened_filled, never_less, stays_filled}
 use Rattle.congee.proofs.lemmas.owned.Lessening.{reformed, reformed_bytes, still_map}
 use Rattle.congee.proofs.lemmas.owned.Moves.{node_at}
 use Rattle.congee.proofs.lemmas.owned.Rooms.{of_ok}
@@ -29,10 +29,10 @@ returns-then-is_err-clause-lessens g c = λ x e.
     inr (omega (arith, size, off), bytes_same c.args.self.now.nodes c.shrink.new.self same, search rules)
 
 pub returns-then-is_err-clause-filled : goal.returns-then-is_err-clause-filled
-returns-then-is_err-clause-filled g c = λ x e _ _ came.
+returns-then-is_err-clause-filled g c = λ by_form x e others enough came.
     let same : SameValues c.args.self.now.nodes c.shrink.new.self = search rules in
     let bytes = bytes_same c.args.self.now.nodes c.shrink.new.self same in
-    absurd (never_less (form_of x) _ _ (c.requires.greater x e) bytes came)
+    stays_filled by_form c.args.self.now.nodes c.shrink.new.self c.args.at x same e others enough (λ asked. never_less (form_of x) _ _ (c.requires.greater x e) bytes (came asked))
 
 pub deallocate-requires-2 : goal.deallocate-requires-2
 deallocate-requires-2 g c =
@@ -51,9 +51,9 @@ returns-clause-same g c =
     reformed c.args.self.now.nodes c.shrink.new.self c.args.at n.0 k.node c.requires.tree c.requires.below n.1 k.updates k.shrunk.prefix k.shrunk.children
 
 pub returns-clause-filled : goal.returns-clause-filled
-returns-clause-filled g c = λ x e others enough came.
+returns-clause-filled g c = λ by_form x e others enough _.
     let k = of_ok c.shrink.result c.if-is_err.ensures.negation c.shrink.ensures.shrunk x e in
-    lessened_filled c.args.self.now.nodes c.shrink.new.self c.args.at x k.node others enough k.shrunk.form k.shrunk.prefix k.shrunk.children k.updates.changed k.updates.others
+    lessened_filled by_form c.args.self.now.nodes c.shrink.new.self c.args.at x k.node others enough k.shrunk.form k.shrunk.prefix k.shrunk.children k.updates.changed k.updates.others
 
 pub returns-clause-lessens : goal.returns-clause-lessens
 returns-clause-lessens g c = λ x e.

@@ -37,3 +37,6 @@ returns-in-Ok-new-clause-bytes g c = (left g (goal.at.returns-in-Ok-new-clause-b
 
 pub returns-in-Ok-new-clause-filled : goal.returns-in-Ok-new-clause-filled
 returns-in-Ok-new-clause-filled g c = (left g (goal.at.returns-in-Ok-new-clause-filled g c).In-Ok-new).lacking
+
+pub returns-in-Ok-new-clause-branch : goal.returns-in-Ok-new-clause-branch
+returns-in-Ok-new-clause-branch g c = (left g (goal.at.returns-in-Ok-new-clause-branch g c).In-Ok-new).branch

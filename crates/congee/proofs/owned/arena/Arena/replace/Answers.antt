@@ -16,7 +16,7 @@ returns g c =
       tree = r.0.0;
       change = r.0.1;
       bytes = r.1;
-      filled = (let n = node_at c.args.self.now.nodes c.args.at c.requires.way.stands in
-          set_filled c.args.self.now.nodes c.swap_value.new.self c.args.at n.0 c.byte_at-byte.result (Value c.args.value) (Value c.swap_value.result) n.1 (sym (c.swap_value.ensures.was n.0 n.1)) (c.swap_value.ensures.swaps n.0 n.1));
+      filled = λ by_form. (let n = node_at c.args.self.now.nodes c.args.at c.requires.way.stands in
+          set_filled by_form c.args.self.now.nodes c.swap_value.new.self c.args.at n.0 c.byte_at-byte.result (Value c.args.value) (Value c.swap_value.result) n.1 (sym (c.swap_value.ensures.was n.0 n.1)) (c.swap_value.ensures.swaps n.0 n.1));
       allocator = search rules;
     }

@@ -39,7 +39,7 @@ forks_adds charged limit old ready new key value tree same charge stays fit f =
       };
       fits = fit;
       bytes = omega (arith, r.bytes, f.bytes);
-      filled = λ h. f.filled (r.filled h);
+      filled = λ by_form h. f.filled by_form (r.filled by_form h);
     }
 
 pub returns-in-Err-clause-refused : goal.returns-in-Err-clause-refused

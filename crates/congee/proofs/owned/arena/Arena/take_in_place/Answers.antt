@@ -30,7 +30,7 @@ returns g c =
       edits = record { tree = r.0.0; change = r.0.1; balance = omega (arith, bytes); same_limit = refl };
       bytes = subst (λ z. GaveWay (g.A.Allocator.charged_of c.args.self.now.allocator) (g.A.Allocator.limit_of c.args.self.now.allocator) (bytes_of s) (bytes_of after) 0 z)
           (sym (lesser_read s c.args.at l.0 F n l.1 refl refl ∙ ap (λ b. lesser_if b F) stays)) same;
-      filled = λ h none.
+      filled = λ by_form h _.
           let k = c.take_value.ensures.takes l.0 l.1 in
           let enough = h c.args.at l.0 (leaf_not_root s c.args.at c.requires.tree (held_seven s c.args.key.now c.args.at c.requires.tree c.requires.way c.requires.held)) l.1 in
           let there = sym (c.take_value.ensures.was l.0 l.1) in
@@ -38,6 +38,6 @@ returns g c =
           let less : map.len (children_of k.node) ≡ n - 1 = ap map.len k.becomes.children ∙ len_fewer (children_of l.0) c.byte_at-byte.result (Value c.take_value.result) there in
           let some = enough.some in
           let seven : length (prefix_of l.0) ≡ 7 = ap length (sym (prefix_at s c.args.at l.0 l.1)) ∙ held_seven s c.args.key.now c.args.at c.requires.tree c.requires.way c.requires.held in
-          let spare = less_enough l.0 k.node k.becomes.form k.becomes.prefix (omega (arith, less, some)) (omega (arith, less, some, others)) (λ inner. absurd (omega (arith, inner, seven))) enough stays in
-          filled_but s after c.args.at k.node (others_filled s c.args.at h) (λ _. spare) k.updates.changed k.updates.others;
+          let spare = less_enough by_form l.0 k.node k.becomes.form k.becomes.prefix (omega (arith, less, some)) (omega (arith, less, some, others)) (λ inner. absurd (omega (arith, inner, seven))) enough (λ _. stays) in
+          filled_but by_form s after c.args.at k.node (others_filled by_form s c.args.at h) (λ _. spare) k.updates.changed k.updates.others;
     }

@@ -81,19 +81,20 @@ returns-then-lesser g c =
       };
       bytes = subst (λ z. GaveWay (g.A.Allocator.charged_of c.args.self.now.allocator) (g.A.Allocator.limit_of c.args.self.now.allocator) (bytes_of s) (bytes_of c.lessen.new.self.nodes) 0 z)
           (sym (lesser_read s c.args.at l.0 F n l.1 (c.node_type-form.ensures l.0 l.1) (c.len.ensures.count l.0 l.1))) way;
-      filled = λ h none.
+      filled = λ by_form h none.
           let enough = h c.args.at l.0 (leaf_not_root s c.args.at c.requires.tree (held_seven s c.args.key.now c.args.at c.requires.tree c.requires.way c.requires.held)) l.1 in
           let there = sym (c.take_value-value.ensures.was l.0 l.1) in
           let others = c.requires.others l.0 l.1 in
           let less : map.len (children_of k.node) ≡ map.len (children_of l.0) - 1 = ap map.len k.becomes.children ∙ len_fewer (children_of l.0) c.byte_at-byte.result (Value c.take_value-value.result) there in
           let some = enough.some in
           let seven : length (prefix_of l.0) ≡ 7 = ap length (sym (prefix_at s c.args.at l.0 l.1)) ∙ held_seven s c.args.key.now c.args.at c.requires.tree c.requires.way c.requires.held in
-          let lacks = lesser_enough l.0 k.node k.becomes.form k.becomes.prefix (omega (arith, less, some)) (omega (arith, less, some, others)) (λ inner. absurd (omega (arith, inner, seven))) enough in
+          let lacks = lesser_enough by_form l.0 k.node k.becomes.form k.becomes.prefix (omega (arith, less, some)) (omega (arith, less, some, others)) (λ inner. absurd (omega (arith, inner, seven))) enough in
           let small = (charges_true g.A.Allocator.charged_of g.A.Allocator.limit_of c.args.self.now.allocator c.charges_lesser-lesser.new.allocator (shrinks F n) F c.charges_lesser-lesser.result is c.charges_lesser-lesser.ensures).0 in
-          let came = came_then F n (bytes_of s) (bytes_of c.lessen.new.self.nodes) 0 small (read_came s c.args.at l.0 F n l.1 (c.node_type-form.ensures l.0 l.1) (c.len.ensures.count l.0 l.1) (bytes_of s) (bytes_of c.lessen.new.self.nodes) 0 none) in
+          c.lessen.ensures.filled by_form k.node k.updates.changed (λ m x ne na e. h m x ne (sym (k.updates.others m na) ∙ e)) lacks
+          (λ asked.
+          let came = came_then F n (bytes_of s) (bytes_of c.lessen.new.self.nodes) 0 small (read_came s c.args.at l.0 F n l.1 (c.node_type-form.ensures l.0 l.1) (c.len.ensures.count l.0 l.1) (bytes_of s) (bytes_of c.lessen.new.self.nodes) 0 (none asked)) in
           let moved : bytes_of c.lessen.new.self.nodes + size_of F ≡ bytes_of c.take_value-value.new.self + size_of (form_below F) = omega (arith, came, bytes) in
-          c.lessen.ensures.filled k.node k.updates.changed (λ m x ne na e. h m x ne (sym (k.updates.others m na) ∙ e)) lacks
-          (subst (λ f. bytes_of c.lessen.new.self.nodes + size_of f ≡ bytes_of c.take_value-value.new.self + size_of (form_below f)) (sym form) moved);
+          subst (λ f. bytes_of c.lessen.new.self.nodes + size_of f ≡ bytes_of c.take_value-value.new.self + size_of (form_below f)) (sym form) moved);
     }
 
 pub tuck-requires-clause-tree : goal.tuck-requires-clause-tree
@@ -130,7 +131,7 @@ returns g c =
       bytes = subst (λ z. GaveWay (g.A.Allocator.charged_of c.args.self.now.allocator) (g.A.Allocator.limit_of c.args.self.now.allocator) (bytes_of s) (bytes_of c.tuck.new.self.nodes) 0 z)
           (sym (lesser_read s c.args.at l.0 F n l.1 (c.node_type-form.ensures l.0 l.1) (c.len.ensures.count l.0 l.1)))
           (stayed g.A.Allocator.charged_of g.A.Allocator.limit_of c.args.self.now.allocator c.charges_lesser-lesser.new.allocator (shrinks F n) F c.charges_lesser-lesser.result (bytes_of s) (bytes_of c.tuck.new.self.nodes) 0 no c.charges_lesser-lesser.ensures (omega (arith, bytes)));
-      filled = λ h none.
+      filled = λ by_form h none.
           let k = c.take_value-value.ensures.takes l.0 l.1 in
           let enough = h c.args.at l.0 (leaf_not_root s c.args.at c.requires.tree (held_seven s c.args.key.now c.args.at c.requires.tree c.requires.way c.requires.held)) l.1 in
           let there = sym (c.take_value-value.ensures.was l.0 l.1) in
@@ -138,7 +139,7 @@ returns g c =
           let less : map.len (children_of k.node) ≡ map.len (children_of l.0) - 1 = ap map.len k.becomes.children ∙ len_fewer (children_of l.0) c.byte_at-byte.result (Value c.take_value-value.result) there in
           let some = enough.some in
           let seven : length (prefix_of l.0) ≡ 7 = ap length (sym (prefix_at s c.args.at l.0 l.1)) ∙ held_seven s c.args.key.now c.args.at c.requires.tree c.requires.way c.requires.held in
-          let not_small = none_wanted F n (bytes_of s) (bytes_of c.tuck.new.self.nodes) 0 (omega (arith, bytes)) (read_came s c.args.at l.0 F n l.1 (c.node_type-form.ensures l.0 l.1) (c.len.ensures.count l.0 l.1) (bytes_of s) (bytes_of c.tuck.new.self.nodes) 0 none) in
-          let spare = less_enough l.0 k.node k.becomes.form k.becomes.prefix (omega (arith, less, some)) (omega (arith, less, some, others)) (λ inner. absurd (omega (arith, inner, seven))) enough (read_shrinks l.0 F n (c.node_type-form.ensures l.0 l.1) (c.len.ensures.count l.0 l.1) not_small) in
-          c.tuck.ensures.renamed.filled (filled_but s c.take_value-value.new.self c.args.at k.node (others_filled s c.args.at h) (λ _. spare) k.updates.changed k.updates.others);
+          let not_small = λ (asked : by_form ≡ true). none_wanted F n (bytes_of s) (bytes_of c.tuck.new.self.nodes) 0 (omega (arith, bytes)) (read_came s c.args.at l.0 F n l.1 (c.node_type-form.ensures l.0 l.1) (c.len.ensures.count l.0 l.1) (bytes_of s) (bytes_of c.tuck.new.self.nodes) 0 (none asked)) in
+          let spare = less_enough by_form l.0 k.node k.becomes.form k.becomes.prefix (omega (arith, less, some)) (omega (arith, less, some, others)) (λ inner. absurd (omega (arith, inner, seven))) enough (λ asked. read_shrinks l.0 F n (c.node_type-form.ensures l.0 l.1) (c.len.ensures.count l.0 l.1) (not_small asked)) in
+          c.tuck.ensures.renamed.filled by_form (filled_but by_form s c.take_value-value.new.self c.args.at k.node (others_filled by_form s c.args.at h) (λ _. spare) k.updates.changed k.updates.others);
     }

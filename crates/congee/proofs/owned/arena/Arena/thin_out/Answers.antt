@@ -86,19 +86,20 @@ returns-then-lesser g c =
       bytes = subst (λ z. Went (g.A.Allocator.charged_of c.args.self.now.allocator) (g.A.Allocator.limit_of c.args.self.now.allocator) (bytes_of s) (bytes_of c.lessen.new.self.nodes) (Some z)) (sym more_going)
           (subst (λ z. GaveWay (g.A.Allocator.charged_of c.args.self.now.allocator) (g.A.Allocator.limit_of c.args.self.now.allocator) (bytes_of s) (bytes_of c.lessen.new.self.nodes) gone z)
           (sym (lesser_read s c.args.above k.old F n k.was (c.node_type-form.ensures k.old k.was) (c.len.ensures.count k.old k.was))) way);
-      filled = λ h none.
+      filled = λ by_form h none.
           let enough = h c.args.above k.old c.requires.inner k.was in
           let less = fewer s c.drop_leaf-value.new.self.nodes c.args.key.now c.args.above c.args.at c.requires.tree c.requires.hangs k in
           let more = c.requires.more k.old k.was in
           let inner = above_inner s c.requires.tree c.args.key.now c.args.above c.args.at c.requires.hangs.way.stands c.requires.hangs.child k.old k.was in
           let two = enough.branches inner in
-          let lacks = lesser_enough k.old k.new k.becomes.form k.becomes.prefix (omega (arith, less, two)) (omega (arith, less, two)) (λ _. more) enough in
+          let lacks = lesser_enough by_form k.old k.new k.becomes.form k.becomes.prefix (omega (arith, less, two)) (omega (arith, less, two)) (λ _. more) enough in
           let small = (charges_true g.A.Allocator.charged_of g.A.Allocator.limit_of c.args.self.now.allocator c.charges_lesser-lesser.new.allocator (shrinks F n) F c.charges_lesser-lesser.result is c.charges_lesser-lesser.ensures).0 in
-          let came = came_then F n (bytes_of s) (bytes_of c.lessen.new.self.nodes) gone small (read_came s c.args.above k.old F n k.was (c.node_type-form.ensures k.old k.was) (c.len.ensures.count k.old k.was) (bytes_of s) (bytes_of c.lessen.new.self.nodes) gone (subst (λ z. NoneSkipped (bytes_of s) (bytes_of c.lessen.new.self.nodes) (Some z)) more_going none)) in
           let bytes = d.bytes in
+          c.lessen.ensures.filled by_form k.new k.now (lost_others by_form s c.drop_leaf-value.new.self.nodes c.args.key.now c.args.above c.args.at k h) lacks
+          (λ asked.
+          let came = came_then F n (bytes_of s) (bytes_of c.lessen.new.self.nodes) gone small (read_came s c.args.above k.old F n k.was (c.node_type-form.ensures k.old k.was) (c.len.ensures.count k.old k.was) (bytes_of s) (bytes_of c.lessen.new.self.nodes) gone (subst (λ z. NoneSkipped (bytes_of s) (bytes_of c.lessen.new.self.nodes) (Some z)) more_going (none asked))) in
           let moved : bytes_of c.lessen.new.self.nodes + size_of F ≡ bytes_of c.drop_leaf-value.new.self.nodes + size_of (form_below F) = omega (arith, came, bytes) in
-          c.lessen.ensures.filled k.new k.now (lost_others s c.drop_leaf-value.new.self.nodes c.args.key.now c.args.above c.args.at k h) lacks
-          (subst (λ f. bytes_of c.lessen.new.self.nodes + size_of f ≡ bytes_of c.drop_leaf-value.new.self.nodes + size_of (form_below f)) (sym form) moved);
+          subst (λ f. bytes_of c.lessen.new.self.nodes + size_of f ≡ bytes_of c.drop_leaf-value.new.self.nodes + size_of (form_below f)) (sym form) moved);
     }
 
 pub returns-else-lesser : goal.returns-else-lesser
@@ -128,13 +129,13 @@ returns-else-lesser g c =
           (subst (λ z. GaveWay (g.A.Allocator.charged_of c.args.self.now.allocator) (g.A.Allocator.limit_of c.args.self.now.allocator) (bytes_of s) (bytes_of c.drop_leaf-value.new.self.nodes) gone z)
           (sym (lesser_read s c.args.above k.old F n k.was (c.node_type-form.ensures k.old k.was) (c.len.ensures.count k.old k.was)))
           (stayed g.A.Allocator.charged_of g.A.Allocator.limit_of c.args.self.now.allocator c.charges_lesser-lesser.new.allocator (shrinks F n) F c.charges_lesser-lesser.result (bytes_of s) (bytes_of c.drop_leaf-value.new.self.nodes) gone no c.charges_lesser-lesser.ensures bytes));
-      filled = λ h none.
+      filled = λ by_form h none.
           let enough = h c.args.above k.old c.requires.inner k.was in
           let less = fewer s c.drop_leaf-value.new.self.nodes c.args.key.now c.args.above c.args.at c.requires.tree c.requires.hangs k in
           let more = c.requires.more k.old k.was in
           let inner = above_inner s c.requires.tree c.args.key.now c.args.above c.args.at c.requires.hangs.way.stands c.requires.hangs.child k.old k.was in
           let two = enough.branches inner in
-          let not_small = none_wanted F n (bytes_of s) (bytes_of c.drop_leaf-value.new.self.nodes) gone bytes (read_came s c.args.above k.old F n k.was (c.node_type-form.ensures k.old k.was) (c.len.ensures.count k.old k.was) (bytes_of s) (bytes_of c.drop_leaf-value.new.self.nodes) gone (subst (λ z. NoneSkipped (bytes_of s) (bytes_of c.drop_leaf-value.new.self.nodes) (Some z)) more_going none)) in
-          let spare = less_enough k.old k.new k.becomes.form k.becomes.prefix (omega (arith, less, two)) (omega (arith, less, two)) (λ _. more) enough (read_shrinks k.old F n (c.node_type-form.ensures k.old k.was) (c.len.ensures.count k.old k.was) not_small) in
-          filled_but c.drop_leaf-value.new.self.nodes c.drop_leaf-value.new.self.nodes c.args.above k.new (lost_others s c.drop_leaf-value.new.self.nodes c.args.key.now c.args.above c.args.at k h) (λ _. spare) k.now (λ m ne. refl);
+          let not_small = λ (asked : by_form ≡ true). none_wanted F n (bytes_of s) (bytes_of c.drop_leaf-value.new.self.nodes) gone bytes (read_came s c.args.above k.old F n k.was (c.node_type-form.ensures k.old k.was) (c.len.ensures.count k.old k.was) (bytes_of s) (bytes_of c.drop_leaf-value.new.self.nodes) gone (subst (λ z. NoneSkipped (bytes_of s) (bytes_of c.drop_leaf-value.new.self.nodes) (Some z)) more_going (none asked))) in
+          let spare = less_enough by_form k.old k.new k.becomes.form k.becomes.prefix (omega (arith, less, two)) (omega (arith, less, two)) (λ _. more) enough (λ asked. read_shrinks k.old F n (c.node_type-form.ensures k.old k.was) (c.len.ensures.count k.old k.was) (not_small asked)) in
+          filled_but by_form c.drop_leaf-value.new.self.nodes c.drop_leaf-value.new.self.nodes c.args.above k.new (lost_others by_form s c.drop_leaf-value.new.self.nodes c.args.key.now c.args.above c.args.at k h) (λ _. spare) k.now (λ m ne. refl);
     }

@@ -1,4 +1,4 @@
-use Rattle.std.proofs.Common.{rules, ◌≡◌, None, sym, ◌∙◌}
+use Rattle.std.proofs.Common.{rules, ◌≡◌, None, false, sym, ◌∙◌, arith}
 use Rattle.congee.proofs.lemmas.owned.Contents.{settles, leaves_absent}
 use Rattle.congee.proofs.owned.congee.Congee.compute_if_present.Goals as goal
 
@@ -10,3 +10,6 @@ returns-in_default-clause-absent g c =
 pub returns-clause-present : goal.returns-clause-present
 returns-clause-present g c =
     rw (← c.self.view_is) (settles g.A.Allocator.charged_of g.A.Allocator.limit_of c.self.inside.drainer c.self.inside.arena c.settle.new.self (g.K.Word64.word c.args.key.now) c.bytes_of_key-bytes.ensures.small c.bytes_of_key-bytes.result c.bytes_of_key-bytes.ensures.bytes c.settle.result c.in-Some.old c.f-new.result (c.in-Some.ensures ∙ c.get.ensures) c.settle.ensures)
+
+pub invariant_of-self : goal.invariant_of-self
+invariant_of-self g c = (c.settle.ensures.edits.tree, omega (arith, c.settle.ensures.edits.balance, c.self.invariant.1), c.settle.ensures.filled false c.self.invariant.2 (λ e. absurd (cc e)))

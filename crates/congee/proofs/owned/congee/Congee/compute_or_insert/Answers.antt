@@ -1,17 +1,23 @@
-use Rattle.std.proofs.Common.{rules, ap, ◌∙◌, arith}
+use Rattle.std.proofs.Common.{false, ap, ◌∙◌, arith}
 use Rattle.std.specs.Option.{option_map}
-use Rattle.congee.proofs.lemmas.owned.Contents.{computes, refuses, denied_tree, denied_bytes}
+use Rattle.congee.proofs.lemmas.owned.Contents.{computes, refuses, denied_tree, denied_bytes, denied_branch}
 use Rattle.congee.proofs.owned.congee.Congee.compute_or_insert.Goals as goal
 
 pub returns-in-Ok-clause-inserts : goal.returns-in-Ok-clause-inserts
 returns-in-Ok-clause-inserts g c =
     let told = computes g.A.Allocator.charged_of g.A.Allocator.limit_of c.self.inside.drainer c.self.inside.arena c.insert.new.self (g.K.Word64.word c.args.key) c.bytes_of_key-bytes.ensures.small c.bytes_of_key-bytes.result c.bytes_of_key-bytes.ensures.bytes c.in-Ok.before c.copied-old.result c.f-value.result (c.copied-old.ensures ∙ c.get.ensures) c.in-Ok.ensures.adds in
-    (c.copied-old.result, c.f-value.result, c.word_of.ensures ∙ ap (option_map g.V.Word64.of_word) told.0, c.f-value.new.self, search rules, rw (← c.self.view_is) told.1)
+    (c.copied-old.result, c.f-value.result, c.word_of.ensures ∙ ap (option_map g.V.Word64.of_word) told.0, c.f-value.ensures, rw (← c.self.view_is) told.1)
+
+pub invariant_of-self : goal.invariant_of-self
+invariant_of-self g c =
+    let adds = c.in-Ok.ensures.adds in
+    (adds.edits.tree, omega (arith, adds.edits.balance, c.self.invariant.1), adds.filled false c.self.invariant.2)
 
 pub invariant_of-self-2 : goal.invariant_of-self-2
 invariant_of-self-2 g c = (
   denied_tree _ _ _ _ _ _ _ _ c.self.invariant.0 c.in-Err.ensures.refused,
   omega (arith, denied_bytes _ _ _ _ _ _ _ _ c.in-Err.ensures.refused, c.in-Err.ensures.refused.balance, c.self.invariant.1),
+  denied_branch _ _ _ _ _ _ _ _ c.in-Err.ensures.refused c.self.invariant.2,
 )
 
 pub returns-clause-refused : goal.returns-clause-refused

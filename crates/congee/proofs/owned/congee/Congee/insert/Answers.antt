@@ -1,5 +1,5 @@
-use Rattle.std.proofs.Common.{sym, Some, arith}
-use Rattle.congee.proofs.lemmas.owned.Contents.{inserts, refuses, found_at, denied_tree, denied_bytes}
+use Rattle.std.proofs.Common.{false, sym, Some, arith}
+use Rattle.congee.proofs.lemmas.owned.Contents.{inserts, refuses, found_at, denied_tree, denied_bytes, denied_branch}
 use Rattle.congee.proofs.owned.congee.Congee.insert.Goals as goal
 
 pub returns-in-Ok-clause-inserts : goal.returns-in-Ok-clause-inserts
@@ -10,10 +10,16 @@ returns-in-Ok-clause-inserts g c =
 pub returns-in-Ok-clause-put : goal.returns-in-Ok-clause-put
 returns-in-Ok-clause-put g c = rw (← c.to_word.ensures) (sym (found_at c.insert.new.self (g.K.Word64.word c.args.key) c.bytes_of_key-bytes.ensures.small c.bytes_of_key-bytes.result c.bytes_of_key-bytes.ensures.bytes (Some c.to_word.result) (sym c.in-Ok.ensures.adds.edits.change.now)))
 
+pub invariant_of-self : goal.invariant_of-self
+invariant_of-self g c =
+    let adds = c.in-Ok.ensures.adds in
+    (adds.edits.tree, omega (arith, adds.edits.balance, c.self.invariant.1), adds.filled false c.self.invariant.2)
+
 pub invariant_of-self-2 : goal.invariant_of-self-2
 invariant_of-self-2 g c = (
   denied_tree _ _ _ _ _ _ _ _ c.self.invariant.0 c.in-Err.ensures.refused,
   omega (arith, denied_bytes _ _ _ _ _ _ _ _ c.in-Err.ensures.refused, c.in-Err.ensures.refused.balance, c.self.invariant.1),
+  denied_branch _ _ _ _ _ _ _ _ c.in-Err.ensures.refused c.self.invariant.2,
 )
 
 pub returns-clause-refused : goal.returns-clause-refused

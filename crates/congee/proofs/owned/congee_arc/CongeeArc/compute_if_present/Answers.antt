@@ -1,4 +1,4 @@
-use Rattle.std.proofs.Common.{rules, ◌≡◌, ◌^◌, ◌-◌, ℕ, refl, ap, sym, subst, ◌∙◌}
+use Rattle.std.proofs.Common.{◌≡◌, ◌^◌, ◌-◌, ℕ, false, refl, ap, sym, subst, ◌∙◌, arith}
 use Rattle.std.specs.FinMap as map
 use Rattle.std.specs.Prelude.{None, Some}
 use Rattle.std.specs.Arc.{arc_value}
@@ -44,8 +44,10 @@ returns-clause-present g c =
     let same : old ≡ arc_value x = some_injective old (arc_value x) (c.in-Some.ensures ∙ c.settle.ensures.edits.change.was ∙ r) in (
       c.in_ok-given-in-Some.given,
       c.f.result,
-      c.f.new.self,
       c.in_ok-given-in-Some.ensures ∙ same,
-      search rules,
+      c.f.ensures,
       rw (← c.self.view_is, ← going_map arc_value c.f.result (map.get (goes_of c.self.inside.arena.nodes) (g.K.Word64.word c.args.key)), ← c.payload_of-new.ensures, ← same) (record { answers = answers; bytes = bytes; no_more = no_more; filled = filled }),
     ))
+
+pub invariant_of-self : goal.invariant_of-self
+invariant_of-self g c = (c.settle.ensures.edits.tree, omega (arith, c.settle.ensures.edits.balance, c.self.invariant.1), c.settle.ensures.filled false c.self.invariant.2 (λ e. absurd (cc e)))

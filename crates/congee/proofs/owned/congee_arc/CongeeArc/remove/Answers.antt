@@ -1,4 +1,4 @@
-use Rattle.std.proofs.Common.{◌^◌, ◌-◌, sym, subst}
+use Rattle.std.proofs.Common.{◌^◌, ◌-◌, false, sym, subst, arith}
 use Rattle.std.specs.FinMap as map
 use Rattle.std.specs.Prelude.{None, ℕ}
 use Rattle.congee.specs.owned.Going.{Went, goes_of}
@@ -15,3 +15,6 @@ returns g c =
     let no_more = frees_none never_same _ _ c.self.inside.arena c.remove.new.self (g.K.Word64.word c.args.key) c.bytes_of_key-bytes.ensures.small c.bytes_of_key-bytes.result c.bytes_of_key-bytes.ensures.bytes {Y = ℕ} None c.remove.result None c.remove.ensures in
     let filled = filled_still never_same _ _ c.self.inside.arena c.remove.new.self (g.K.Word64.word c.args.key) c.bytes_of_key-bytes.ensures.small c.bytes_of_key-bytes.result c.bytes_of_key-bytes.ensures.bytes {Y = ℕ} None c.remove.result None c.remove.ensures in
     rw (← c.self.view_is, c.owner_of.ensures) (record { answers = answers; bytes = bytes; no_more = no_more; filled = filled })
+
+pub invariant_of-self : goal.invariant_of-self
+invariant_of-self g c = (c.remove.ensures.edits.tree, omega (arith, c.remove.ensures.edits.balance, c.self.invariant.1), c.remove.ensures.filled false c.self.invariant.2 (λ e. absurd (cc e)))
