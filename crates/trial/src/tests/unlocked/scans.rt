@@ -143,11 +143,11 @@ fn disturb<R: Wait>(rt: &R, worker: &mut Worker, place: u64) -> Result<bool, Ref
     Ok(true)
 }
 
-/// Whether a scan told ascending keys, each of the fixed ones among them with its value.
-fn holds(found: &[Pair]) -> bool {
+/// Whether a scan, which told so many pairs, told ascending keys, each of the fixed ones among them with its value.
+fn holds(found: &[Pair], told: usize) -> bool {
     let mut next = 0;
     let mut least = 0;
-    for pair in found {
+    for pair in found.iter().take(told) {
         if pair.key < least {
             return false;
         }
@@ -167,7 +167,7 @@ fn observe<R: Wait>(rt: &R, worker: &mut Worker) -> bool {
     let mut out = [UNWRITTEN; 256];
     for _ in 0..ROUNDS {
         let told = worker.range(rt, 0, FIXED * APART, &mut out);
-        if !holds(&out[..told]) {
+        if !holds(&out, told) {
             return false;
         }
     }
