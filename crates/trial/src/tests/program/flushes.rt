@@ -103,7 +103,10 @@ const TOLD: [(&[&str], &[u8]); 2] = [
         &["threads", "1", "1"],
         b"journal 1 legal\naudit true\nledger 1\n",
     ),
-    (&["threads"], b"usage: trial [threads N M], where 1 <= N <= 16 and 1 <= M <= 10000\n"),
+    (
+        &["threads"],
+        b"usage: trial [threads N M], where 1 <= N <= 16 and 1 <= M <= 10000\n",
+    ),
 ];
 
 #[test]

@@ -5,7 +5,7 @@ use super::trees::{Told, raised_or, recorded_called, spent};
 use crate::tests::asserts::assert_same;
 use crate::tests::machine::drawn::number_in;
 use crate::threads::callers;
-use crate::worker::{Caller, Cut, Index, KEYS, key_of};
+use crate::worker::{Caller, Cut, Index, key_of};
 use congee::DefaultAllocator;
 use joint::{Guard, Journaled, Limits, Refusal, Share, Worker, audit};
 use judge::{Call, Entry, Reply, Verdict, check};
@@ -33,8 +33,16 @@ struct Worked<L: Ledger> {
     is_scanned: bool,
 }
 
-/// A value tells its key, by what is left of it modulo this.
-const STEP: u64 = 128;
+/// A value tells the place of its key, by what is left of it modulo this.
+const STEP: u64 = 64;
+
+/// How many keys there are: the last of the program's, 24 of which lie in one leaf.
+const PLACES: u64 = 61;
+
+/// The key of this place.
+fn key_of_place(place: u64) -> u64 {
+    key_of(place % PLACES + 36)
+}
 
 /// A value that tells the key of this place.
 fn value_at(place: u64, number: u64) -> u64 {
@@ -42,15 +50,14 @@ fn value_at(place: u64, number: u64) -> u64 {
 }
 
 /// The key that a value tells.
-fn told_by(value: u64) -> Option<u64> {
-    let place = value % STEP;
-    if place < KEYS { Some(key_of(place)) } else { None }
+fn told_by(value: u64) -> u64 {
+    key_of_place(value % STEP)
 }
 
 /// A worker's call of this number. A closure adds to its value, or takes every second one out.
 fn call_at(worker: u32, number: u64) -> Call<u64> {
-    let place = u64::from(worker).wrapping_mul(7).wrapping_add(number) % KEYS;
-    let (key, value) = (key_of(place), value_at(place, number));
+    let place = u64::from(worker).wrapping_mul(7).wrapping_add(number) % PLACES;
+    let (key, value) = (key_of_place(place), value_at(place, number));
     match number % 8 {
         1 => Call::Get(key),
         2 => Call::Remove(key),
@@ -105,7 +112,7 @@ fn scans<L: Ledger, R: Wait>(
     let count = index.range(rt, &from, &u64::MAX, &mut out, worker, guard)?;
     let mut right = true;
     for (key, value) in out.iter().take(count) {
-        right &= *key >= from && told_by(*value) == Some(*key);
+        right &= *key >= from && told_by(*value) == *key;
     }
     Ok(right)
 }
@@ -124,7 +131,7 @@ fn calls_pinned<L: Ledger, R: Wait>(
             index,
             &mut caller.worker,
             &guard,
-            key_of(u64::from(number) % KEYS),
+            key_of_place(u64::from(number)),
         )
     } else {
         Ok(true)
