@@ -6,7 +6,7 @@ use Rattle.optimistic.specs.declared.drain.nexts.Pair.{Pair}
 use Rattle.optimistic.specs.declared.words.rule.Entry.{Entry}
 use Rattle.optimistic.specs.words.Kept.{value_of, StartsWith}
 use Rattle.optimistic.specs.tree.Drained.{pair_of}
-use Rattle.optimistic.specs.tree.Nexts.{IsFirst, HasNone}
+use Rattle.optimistic.specs.tree.Nexts.{IsFirst, IsLast, HasNone}
 use Rattle.optimistic.specs.face.Calls.{Known, Saw, Looked}
 
 -- at one moment of the call this holds of the log
@@ -19,6 +19,10 @@ pub record Once (P : List Entry → Type 0) (v w : Known) : Type 0 where
 -- at one moment this was the first pair from a key on, or there was none
 abbrev pub FirstFrom : ℕ → Option Pair → Known → Known → Type 0
 FirstFrom from r v w = Looked v w × Once (λ log. IsFirst log from r) v w
+
+-- at one moment this was the last pair below a key, or there was none
+abbrev pub LastBelow : ℕ → Option Pair → Known → Known → Type 0
+LastBelow to r v w = Looked v w × Once (λ log. IsLast log to r) v w
 
 -- at one moment no key had a value, or some key had one
 abbrev pub Emptiness : Bool → Known → Known → Type 0
