@@ -13,4 +13,5 @@ pub mod Sights
 pub mod Sizes
 pub mod Takes
 pub mod Trees
+pub mod Wholes
 pub mod Writes

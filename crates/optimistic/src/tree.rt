@@ -25,10 +25,12 @@ mod set;
 mod sizes;
 mod split;
 mod stores;
+mod whole;
 mod write;
 
 pub use fresh::Free;
 pub use get::{ATTEMPTS, TOP, Tree};
 pub use reshape::Want;
 pub use set::Set;
+pub use whole::Unscanned;
 pub use write::{Condition, Write};

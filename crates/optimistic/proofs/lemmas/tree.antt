@@ -21,4 +21,5 @@ pub mod Reshaping
 pub mod Setting
 pub mod Splitting
 pub mod Taking
+pub mod Wholes
 pub mod Writing
