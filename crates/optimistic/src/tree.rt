@@ -12,7 +12,7 @@ mod lift;
 mod lock;
 mod locked;
 pub(crate) mod names;
-mod next;
+pub(crate) mod next;
 pub(crate) mod place;
 mod put;
 mod reach;
@@ -22,6 +22,7 @@ mod set;
 mod sizes;
 mod split;
 mod stores;
+pub(crate) mod trail;
 mod write;
 
 pub use fresh::Free;

@@ -21,3 +21,4 @@ pub mod Setting
 pub mod Splitting
 pub mod Taking
 pub mod Writing
+pub mod Trails

@@ -4,10 +4,12 @@
 //! it and the key that was asked for. Of a range it is one for each pair, and these moments rise.
 ghost use Rattle.std.specs.Prelude.{◌≡◌, ℕ, ◌+◌, length, take, drop};
 ghost use Rattle.optimistic.specs.face.Calls.{Saw};
-ghost use Rattle.optimistic.specs.face.Scans.{FirstFrom, Emptiness, IsScan};
+ghost use Rattle.optimistic.specs.face.Scans.{FirstFrom, Emptiness, IsScan, ToldOf};
+ghost use Rattle.optimistic.specs.tree.Trails.{IsTrail};
 
 use crate::drain::Pair;
 use crate::face::worker::Worker;
+use crate::tree::trail::{Told, Trail};
 use std::sync::Wait;
 
 impl<'t> Worker<'t> {
@@ -49,6 +51,15 @@ impl<'t> Worker<'t> {
         }
     }
 
+    /// What is told of a key, as it was at one moment within the call.
+    fn told_of<R: Wait>(&mut self, rt: &R, trail: &mut Trail, from: u64) -> Told
+        requires { IsTrail trail.old self.old.moment }
+        ensures told { ToldOf from result self.old self.new }
+        ensures trail { IsTrail trail.new self.new.moment }
+    {
+        self.tree.told_of(rt, &mut self.hand, trail, from)
+    }
+
     /// Writes pairs with start <= key < end into `out`, ascending, and gives their number. Each stood at a moment within the
     /// call, and these moments rise. A key that stood throughout the call is there, unless the places are filled with lower keys.
     /// The places past those that are written stay as they were.
@@ -78,21 +89,26 @@ impl<'t> Worker<'t> {
         if start > last {
             return 0;
         }
+        let mut trail = self.tree.trail(&self.hand);
         let mut from = start;
         let mut count = 0;
         while count < out.len() {
-            let Some(pair) = self.at_or_after(rt, from) else {
-                return count;
-            };
-            if pair.key > last {
-                return count;
+            match self.told_of(rt, &mut trail, from) {
+                Told::Value(value) => {
+                    out[count] = Pair { key: from, value };
+                    count += 1;
+                    if from == last {
+                        return count;
+                    }
+                    from += 1;
+                }
+                Told::NoneTo(to) => {
+                    if to >= last {
+                        return count;
+                    }
+                    from = to + 1;
+                }
             }
-            out[count] = pair;
-            count += 1;
-            if pair.key == last {
-                return count;
-            }
-            from = pair.key + 1;
         }
         count
     }

@@ -202,7 +202,7 @@ impl Tree {
     }
 
     /// What a node on the way to a key tells, with its version, if it covers the key and nobody has it.
-    fn sight_at(&self, hand: &mut Hand, at: Place, from: u64) -> Option<Sight>
+    pub(crate) fn sight_at(&self, hand: &mut Hand, at: Place, from: u64) -> Option<Sight>
         requires of { IsOf self.now.nodes.table.shared.table_id hand.old }
         requires at { IsPlace at (view hand.old) }
         ensures of { IsOf self.now.nodes.table.shared.table_id hand.new }

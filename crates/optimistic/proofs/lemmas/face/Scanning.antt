@@ -11,12 +11,13 @@ use Rattle.optimistic.specs.declared.drain.nexts.Pair.{Pair}
 use Rattle.optimistic.specs.declared.words.rule.Entry.{Entry}
 use Rattle.optimistic.specs.words.Kept.{value_of, StartsWith}
 use Rattle.optimistic.specs.tree.Drained.{pair_of}
-use Rattle.optimistic.specs.tree.Nexts.{IsFirst}
 use Rattle.optimistic.specs.face.Calls.{Known, Saw}
-use Rattle.optimistic.specs.face.Scans.{Once, FirstFrom, Emptiness, Rise, StoodThroughout, HasKey, IsScan}
+use Rattle.optimistic.specs.declared.tree.trail.Told.TheVariants.{Value, NoneTo}
+use Rattle.optimistic.specs.face.Scans.{Once, FirstFrom, Emptiness, Rise, StoodThroughout, HasKey, IsScan, ToldOf}
 use Rattle.optimistic.proofs.lemmas.face.Knowing.{saw_refl, saw_trans}
 use Rattle.optimistic.proofs.lemmas.drain.Keys.{no_pair}
 use Rattle.optimistic.proofs.lemmas.drain.Lists.{only_one}
+use Rattle.optimistic.proofs.lemmas.tree.Sights.{first_here}
 
 pub starts_trans : (a b c : List Entry) → StartsWith b a → StartsWith c b → StartsWith c a
 starts_trans a b c p q = (p.0 ++ q.0, q.1 ∙ (ap (λ (l : List Entry). l ++ q.0) p.1 ∙ append_assoc a p.0 q.0))
@@ -113,22 +114,26 @@ module _ (from next : ℕ) (v u w : Known) (pairs : List Pair) (old : IsSoFar fr
       ];
     }
 
-  -- the first of those that are still to come isn't below the end
-  pub so_far_to : (to : ℕ) (r : Option Pair) → FirstFrom next r u w → IfSome r (λ p. to ≤ p.key) → to ≤ 2 ^ 64 → (key : ℕ) → from ≤ key → key < to → HasKey pairs key ⊎ Lacked key v w
-  so_far_to to r first behind high key above below = elim (cases_lt key next) [
-    | inl m ↦ at_last key (old.passed key above m)
-    | inr m ↦ inr (once_from (λ log. value_of key log ≡ None) v u w old.saw record { log = first.1.log; after = first.1.after; before = first.1.before; holds = none r behind first.1.log key m first.1.holds below })
-  ]
-    where
-      at_last : (key : ℕ) → HasKey pairs key ⊎ Lacked key v u → HasKey pairs key ⊎ Lacked key v w
-      at_last key o = elim o [
-        | inl h ↦ inl h
-        | inr l ↦ inr (once_to (λ log. value_of key log ≡ None) v u w l first.0.0)
-      ]
+-- what is told of a key alone
+pub told_first : (from x : ℕ) (v w : Known) → ToldOf from (Value x) v w → FirstFrom from (Some (pair_of from x)) v w
+told_first from x v w t = (t.0, record { log = t.1.log; after = t.1.after; before = t.1.before; holds = first_here from x t.1.log t.1.holds })
 
-      none : (r : Option Pair) → IfSome r (λ p. to ≤ p.key) → (log : List Entry) (key : ℕ) → next ≤ key → IsFirst log next r → key < to → value_of key log ≡ None
-      none None behind log key m is below = is key m (omega (arith, below, high))
-      none (Some p) behind log key m is below = is.2 key m (omega (arith, below, behind))
+-- and of keys up to another, which have no value
+pub so_far_pass : (from next last : ℕ) (v u w : Known) (pairs : List Pair) → IsSoFar from next v u pairs → ToldOf next (NoneTo last) u w → IsSoFar from (last + 1) v w pairs
+so_far_pass from next last v u w pairs s t = record {
+  saw = saw_trans v u w s.saw t.0.0;
+  order = (let a = s.order in let b = t.1.holds.0 in omega arith);
+  ascending = s.ascending;
+  inside = λ p c. ((s.inside p c).0, (let b = (s.inside p c).1 in let a = t.1.holds.0 in omega arith));
+  stood = rise_to v.seen pairs u.seen w.seen s.stood t.0.0.3;
+  passed = λ key above below. elim (cases_lt key next) [
+    | inl m ↦ elim (s.passed key above m) [
+      | inl h ↦ inl h
+      | inr l ↦ inr (once_to (λ log. value_of key log ≡ None) v u w l t.0.0)
+    ]
+    | inr m ↦ inr (once_from (λ log. value_of key log ≡ None) v u w s.saw record { log = t.1.log; after = t.1.after; before = t.1.before; holds = t.1.holds.1 key m (omega arith) })
+  ];
+}
 
 never : (key : ℕ) (v w : Known) → StoodThroughout key v w → Lacked key v w → ⊥
 never key v w stands l = stands l.log l.after l.before l.holds
@@ -171,11 +176,11 @@ scan_full from next to places v w pairs s full below = record {
 pub scan_done : (from next to places : ℕ) (v w : Known) (pairs : List Pair) → IsSoFar from next v w pairs → next ≡ to → length pairs ≤ places → IsScan from to places v w pairs
 scan_done from next to places v w pairs s end few = scan_all from next to places v w w pairs s (saw_refl w) few (λ p c. let b = (s.inside p c).1 in omega (arith, b, end)) (λ key above below. s.passed key above (omega (arith, below, end)))
 
--- the next pair is behind the last key, or there is none
-pub scan_behind : (from next last places : ℕ) (v u w : Known) (pairs : List Pair) (r : Option Pair) → IsSoFar from next v u pairs → next ≤ last → last < 2 ^ 64 → FirstFrom next r u w → IfSome r (λ p. last + 1 ≤ p.key) → length pairs ≤ places
-    → IsScan from (last + 1) places v w pairs
-scan_behind from next last places v u w pairs r s order small first behind few =
-    scan_all from next (last + 1) places v u w pairs s first.0.0 few (λ p c. let b = (s.inside p c).1 in omega (arith, b, order)) (so_far_to from next v u w pairs s (last + 1) r first behind (omega (arith, small)))
+-- no key up to the last one has a value
+pub scan_behind : (from next last to places : ℕ) (v u w : Known) (pairs : List Pair) → IsSoFar from next v u pairs → next ≤ last → last ≤ to → ToldOf next (NoneTo to) u w → length pairs ≤ places → IsScan from (last + 1) places v w pairs
+scan_behind from next last to places v u w pairs s order reach told few =
+    let all = so_far_pass from next to v u w pairs s told in
+    scan_all from (to + 1) (last + 1) places v w w pairs all (saw_refl w) few (λ p c. let b = (s.inside p c).1 in omega (arith, b, order)) (λ key above below. all.passed key above (omega (arith, below, reach)))
 
 -- a pair that is put into its place
 pub so_far_put : (from next : ℕ) (v u w : Known) (out : List Pair) (count : ℕ) (p : Pair) → count < length out → IsSoFar from next v u (take count out) → FirstFrom next (Some p) u w → IsSoFar from (p.key + 1) v w (take (count + 1) (set out count p))
