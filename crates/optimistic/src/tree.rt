@@ -3,11 +3,14 @@
 //! Each node says in its second word which keys it covers. So the way down to a node is only a guess: a reader that finds
 //! at one version of a node that it covers the key, and that its child there doesn't, has its answer.
 
+mod back;
 mod branch;
 mod child;
 mod close;
 mod fresh;
+mod gaps;
 mod get;
+mod last;
 mod lift;
 mod lock;
 mod locked;

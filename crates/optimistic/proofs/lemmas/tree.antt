@@ -1,4 +1,5 @@
 pub mod Apart
+pub mod Backs
 pub mod Between
 pub mod Blank
 pub mod Branching

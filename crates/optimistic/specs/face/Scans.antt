@@ -7,7 +7,7 @@ use Rattle.optimistic.specs.declared.words.rule.Entry.{Entry}
 use Rattle.optimistic.specs.words.Kept.{value_of, StartsWith}
 use Rattle.optimistic.specs.tree.Drained.{pair_of}
 use Rattle.optimistic.specs.declared.tree.trail.Told.{Told}
-use Rattle.optimistic.specs.tree.Nexts.{IsFirst, HasNone}
+use Rattle.optimistic.specs.tree.Nexts.{IsFirst, IsLast, HasNone}
 use Rattle.optimistic.specs.tree.Trails.{Says}
 use Rattle.optimistic.specs.face.Calls.{Known, Saw, Looked}
 
@@ -25,6 +25,10 @@ FirstFrom from r v w = Looked v w × Once (λ log. IsFirst log from r) v w
 -- at one moment this was so of a key
 abbrev pub ToldOf : ℕ → Told → Known → Known → Type 0
 ToldOf from t v w = Looked v w × Once (λ log. Says log from t) v w
+
+-- at one moment this was the last pair below a key, or there was none
+abbrev pub LastBelow : ℕ → Option Pair → Known → Known → Type 0
+LastBelow to r v w = Looked v w × Once (λ log. IsLast log to r) v w
 
 -- at one moment no key had a value, or some key had one
 abbrev pub Emptiness : Bool → Known → Known → Type 0

@@ -1,11 +1,11 @@
 //! The index for keys and values of eight bytes.
-ghost use Rattle.std.specs.Prelude.{◌≡◌, ◌+◌, [], length, take, drop, IfErr, IfOk, IfSome, MatchResult};
+ghost use Rattle.std.specs.Prelude.{◌≡◌, ◌+◌, ◌^◌, [], length, take, drop, IfErr, IfOk, IfSome, MatchResult};
 ghost use Rattle.std.specs.Option.{option_map};
 ghost use Rattle.optimistic.specs.words.Kept.{calls_by, StartsWith};
 ghost use Rattle.optimistic.specs.face.Calls.{Saw, Looked, Found};
 ghost use Rattle.optimistic.specs.face.Computes.{IsComputed, IsReplaced};
 ghost use Rattle.optimistic.specs.face.Refusals.{IsSize, IsUnopened};
-ghost use Rattle.optimistic.specs.face.Scans.{FirstFrom, Emptiness, IsScan};
+ghost use Rattle.optimistic.specs.face.Scans.{FirstFrom, LastBelow, Emptiness, IsScan};
 ghost use Rattle.optimistic.specs.face.Writes.{IsInserted, IsRemoved, IsExchanged, IsFinal};
 ghost use Rattle.optimistic.specs.face.Words.{As, words, either_words, pair_words};
 ghost use Rattle.optimistic.specs.tree.Drained.{IsClosed, HasNoRoot};
@@ -243,6 +243,27 @@ impl<'t, K: Word64, V: Word64> WordWorker<'t, K, V> {
         ensures { As (λ r. FirstFrom (K.word key.now + 1) r self.old self.new) (pair_words K.of_word V.of_word) result }
     {
         pair_words(self.worker.next_after(rt, key.to_word()))
+    }
+
+    /// The pair with the greatest key, or `None` if there was none, at one moment within the call.
+    pub fn last<R: Wait>(&mut self, rt: &R) -> Option<(K, V)>
+        ensures { As (λ r. LastBelow (2 ^ 64) r self.old self.new) (pair_words K.of_word V.of_word) result }
+    {
+        pair_words(self.worker.last(rt))
+    }
+
+    /// The pair with the greatest key that isn't above this one, or `None` if there was none, at one moment within the call.
+    pub fn at_or_before<R: Wait>(&mut self, rt: &R, key: &K) -> Option<(K, V)>
+        ensures { As (λ r. LastBelow (K.word key.now + 1) r self.old self.new) (pair_words K.of_word V.of_word) result }
+    {
+        pair_words(self.worker.at_or_before(rt, key.to_word()))
+    }
+
+    /// The pair with the greatest key below this one, or `None` if there was none, at one moment within the call.
+    pub fn next_before<R: Wait>(&mut self, rt: &R, key: &K) -> Option<(K, V)>
+        ensures { As (λ r. LastBelow (K.word key.now) r self.old self.new) (pair_words K.of_word V.of_word) result }
+    {
+        pair_words(self.worker.next_before(rt, key.to_word()))
     }
 
     /// Whether no key had a value, at one moment within the call.

@@ -2,9 +2,9 @@
 //!
 //! Each pair that is told stood at a moment within the call. Of a single pair this is one moment, at which no key stood between
 //! it and the key that was asked for. Of a range it is one for each pair, and these moments rise.
-ghost use Rattle.std.specs.Prelude.{◌≡◌, ℕ, ◌+◌, length, take, drop};
+ghost use Rattle.std.specs.Prelude.{◌≡◌, ℕ, ◌+◌, ◌^◌, length, take, drop};
 ghost use Rattle.optimistic.specs.face.Calls.{Saw};
-ghost use Rattle.optimistic.specs.face.Scans.{FirstFrom, Emptiness, IsScan, ToldOf};
+ghost use Rattle.optimistic.specs.face.Scans.{FirstFrom, LastBelow, Emptiness, IsScan, ToldOf};
 ghost use Rattle.optimistic.specs.tree.Trails.{IsTrail};
 
 use crate::drain::Pair;
@@ -36,6 +36,33 @@ impl<'t> Worker<'t> {
             Some(next) => self.at_or_after(rt, next),
             None => {
                 self.at_or_after(rt, key);
+                None
+            }
+        }
+    }
+
+    /// The pair with the greatest key that isn't above this one, or `None` if there was none, at one moment within the call.
+    pub fn at_or_before<R: Wait>(&mut self, rt: &R, key: u64) -> Option<Pair>
+        ensures { LastBelow (key + 1) result self.old self.new }
+    {
+        self.tree.last_to(rt, &mut self.hand, key)
+    }
+
+    /// The pair with the greatest key, or `None` if there was none, at one moment within the call.
+    pub fn last<R: Wait>(&mut self, rt: &R) -> Option<Pair>
+        ensures { LastBelow (2 ^ 64) result self.old self.new }
+    {
+        self.at_or_before(rt, u64::MAX)
+    }
+
+    /// The pair with the greatest key below this one, or `None` if there was none, at one moment within the call.
+    pub fn next_before<R: Wait>(&mut self, rt: &R, key: u64) -> Option<Pair>
+        ensures { LastBelow key result self.old self.new }
+    {
+        match key.checked_sub(1) {
+            Some(before) => self.at_or_before(rt, before),
+            None => {
+                self.at_or_before(rt, key);
                 None
             }
         }
