@@ -14,4 +14,5 @@ pub mod Sizes
 pub mod Takes
 pub mod Trails
 pub mod Trees
+pub mod Wholes
 pub mod Writes

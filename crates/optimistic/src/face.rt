@@ -7,6 +7,8 @@ mod index;
 mod refusal;
 mod scans;
 mod seen;
+mod walk;
+mod wholes;
 mod worker;
 mod writes;
 
@@ -15,4 +17,5 @@ pub use congee::{Congee, WordWorker};
 pub use index::{LEAST_WORDS, MOST_WORDS, U64Congee};
 pub use refusal::{Refusal, Unopened};
 pub use seen::Seen;
+pub use walk::Walk;
 pub use worker::Worker;

@@ -26,10 +26,12 @@ mod sizes;
 mod split;
 mod stores;
 pub(crate) mod trail;
+mod whole;
 mod write;
 
 pub use fresh::Free;
 pub use get::{ATTEMPTS, TOP, Tree};
 pub use reshape::Want;
 pub use set::Set;
+pub use whole::Unscanned;
 pub use write::{Condition, Write};

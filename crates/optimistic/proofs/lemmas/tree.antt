@@ -21,5 +21,6 @@ pub mod Reshaping
 pub mod Setting
 pub mod Splitting
 pub mod Taking
+pub mod Wholes
 pub mod Writing
 pub mod Trails

@@ -9,6 +9,7 @@ use Rattle.optimistic.specs.tree.Drained.{pair_of}
 use Rattle.optimistic.specs.declared.tree.trail.Told.{Told}
 use Rattle.optimistic.specs.tree.Nexts.{IsFirst, IsLast, HasNone}
 use Rattle.optimistic.specs.tree.Trails.{Says}
+use Rattle.optimistic.specs.tree.Wholes.{IsRange}
 use Rattle.optimistic.specs.face.Calls.{Known, Saw, Looked}
 
 -- at one moment of the call this holds of the log
@@ -38,6 +39,10 @@ Emptiness empty v w = Looked v w × Once (λ log. MatchBool empty (HasNone log 0
 abbrev pub Rise : List Entry → List Pair → List Entry → Type 0
 Rise seen [] end = StartsWith end seen
 Rise seen (p ∷ ps) end = (log : List Entry) × StartsWith log seen × (value_of p.key log ≡ Some p.value) × Rise log ps end
+
+-- at one moment these were the pairs of the keys from one on and below another, or as many as there are places, the lowest
+abbrev pub RangeAtOnce : (from to places : ℕ) → List Pair → Known → Known → Type 0
+RangeAtOnce from to places pairs v w = Once (λ log. IsRange log from to places pairs) v w
 
 -- a key had a value at each moment of the call
 abbrev pub StoodThroughout : ℕ → Known → Known → Type 0

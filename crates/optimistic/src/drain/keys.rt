@@ -1,5 +1,5 @@
 //! Keys that share their first bytes.
-ghost use Rattle.std.specs.Prelude.{◌≡◌, ℕ, ◌+◌, ◌-◌, ◌*◌, ◌/◌, ◌^◌, ◌<◌, ◌≤◌, ◌⊎◌, false, None};
+ghost use Rattle.std.specs.Prelude.{◌≡◌, ℕ, ◌+◌, ◌-◌, ◌*◌, ◌/◌, ◌^◌, ◌<◌, ◌≤◌, ◌⊎◌, false, None, unwrap_or};
 ghost use Rattle.optimistic.specs.Layout.{prefix_of};
 ghost use Rattle.optimistic.specs.tree.Levels.{goes_on, pair_value};
 ghost use Rattle.optimistic.specs.tree.Nexts.{IsSilent};
@@ -61,4 +61,11 @@ pub fn last_of(child: Child, key: u64) -> u64 {
     } else {
         same_first_byte(child, key)
     }
+}
+
+/// The key behind one, if it isn't the last.
+pub fn key_after(key: u64) -> Option<u64>
+    ensures { unwrap_or result (2 ^ 64) ≡ key + 1 }
+{
+    key.checked_add(1)
 }

@@ -1,6 +1,7 @@
 //! The pairs that a tree had.
-ghost use Rattle.std.specs.Prelude.{◌≡◌, ℕ, ◌+◌, ◌^◌, IfOk, IfErr, MatchResult, unwrap_or};
+ghost use Rattle.std.specs.Prelude.{◌≡◌, ℕ, ◌^◌, IfOk, IfErr, MatchResult};
 
+use crate::drain::keys::key_after;
 use crate::drain::nexts::first_from;
 pub use crate::drain::nexts::{Locked, Pair};
 use crate::words::Words;
@@ -20,13 +21,6 @@ pub enum Undrained {
 pub struct Pairs {
     words: Words,
     from: Option<u64>,
-}
-
-/// The key behind one, if it isn't the last.
-fn key_after(key: u64) -> Option<u64>
-    ensures { unwrap_or result (2 ^ 64) ≡ key + 1 }
-{
-    key.checked_add(1)
 }
 
 impl Pairs {

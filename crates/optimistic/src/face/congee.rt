@@ -1,11 +1,12 @@
 //! The index for keys and values of eight bytes.
-ghost use Rattle.std.specs.Prelude.{◌≡◌, ◌+◌, ◌^◌, [], length, take, drop, IfErr, IfOk, IfSome, MatchResult};
+ghost use Rattle.std.specs.Prelude.{◌≡◌, ◌+◌, ◌≤◌, ◌^◌, [], length, take, drop, IfErr, IfOk, IfSome, MatchResult};
 ghost use Rattle.std.specs.Option.{option_map};
 ghost use Rattle.optimistic.specs.words.Kept.{calls_by, StartsWith};
 ghost use Rattle.optimistic.specs.face.Calls.{Saw, Looked, Found};
 ghost use Rattle.optimistic.specs.face.Computes.{IsComputed, IsReplaced};
 ghost use Rattle.optimistic.specs.face.Refusals.{IsSize, IsUnopened};
-ghost use Rattle.optimistic.specs.face.Scans.{FirstFrom, LastBelow, Emptiness, IsScan};
+ghost use Rattle.optimistic.specs.face.Scans.{FirstFrom, LastBelow, Emptiness, IsScan, RangeAtOnce};
+ghost use Rattle.optimistic.specs.face.Walks.{IsStep};
 ghost use Rattle.optimistic.specs.face.Writes.{IsInserted, IsRemoved, IsExchanged, IsFinal};
 ghost use Rattle.optimistic.specs.face.Words.{As, words, either_words, pair_words};
 ghost use Rattle.optimistic.specs.tree.Drained.{IsClosed, HasNoRoot};
@@ -15,7 +16,9 @@ use crate::face::close::Retired;
 use crate::face::index::U64Congee;
 use crate::face::refusal::{Refusal, Unopened};
 use crate::face::seen::Seen;
+use crate::face::walk::Walk;
 use crate::face::worker::Worker;
+use crate::tree::Unscanned;
 use judge::{Word64, number_of, word_of};
 use std::alloc::{AllocError, Global};
 use std::marker::{Model, PhantomData};
@@ -278,6 +281,7 @@ impl<'t, K: Word64, V: Word64> WordWorker<'t, K, V> {
     /// lower keys. The places past those that are written stay as they were.
     pub fn range<R: Wait>(&mut self, rt: &R, start: &K, end: &K, out: &mut [Pair]) -> usize
         ensures scan { IsScan (K.word start.now) (K.word end.now) (length out.old) self.old self.new (take result out.new) }
+        ensures count { result ≤ length out.new }
         ensures saw { Saw self.old self.new }
         ensures past { drop result out.new ≡ drop result out.old }
     {
@@ -293,11 +297,88 @@ impl<'t, K: Word64, V: Word64> WordWorker<'t, K, V> {
         out: &mut [Pair],
     ) -> usize
         ensures scan { IsScan (K.word start.now) (K.word last.now + 1) (length out.old) self.old self.new (take result out.new) }
+        ensures count { result ≤ length out.new }
         ensures saw { Saw self.old self.new }
         ensures past { drop result out.new ≡ drop result out.old }
     {
         self.worker
             .range_inclusive(rt, start.to_word(), last.to_word(), out)
+    }
+
+    /// Writes the pairs with start <= key < end into `out`, as words, ascending, and gives their number: all that stood at one
+    /// moment within the call, or as many as there are places, the lowest. An error tells that a writer came between, or that
+    /// there was no memory; what the places hold then, and what those hold that are past the pairs, isn't told.
+    pub fn try_range_at_once(
+        &mut self,
+        alloc: Global,
+        start: &K,
+        end: &K,
+        out: &mut [Pair],
+    ) -> Result<usize, Unscanned>
+        ensures range { IfOk result (λ n. RangeAtOnce (K.word start.now) (K.word end.now) (length out.old) (take n out.new) self.old self.new) }
+        ensures count { IfOk result (λ n. n ≤ length out.new) }
+        ensures saw { Saw self.old self.new }
+    {
+        self.worker
+            .try_range_at_once(alloc, start.to_word(), end.to_word(), out)
+    }
+
+    /// The same of start <= key <= last.
+    pub fn try_range_inclusive_at_once(
+        &mut self,
+        alloc: Global,
+        start: &K,
+        last: &K,
+        out: &mut [Pair],
+    ) -> Result<usize, Unscanned>
+        ensures range { IfOk result (λ n. RangeAtOnce (K.word start.now) (K.word last.now + 1) (length out.old) (take n out.new) self.old self.new) }
+        ensures count { IfOk result (λ n. n ≤ length out.new) }
+        ensures saw { Saw self.old self.new }
+    {
+        self.worker
+            .try_range_inclusive_at_once(alloc, start.to_word(), last.to_word(), out)
+    }
+
+    /// Writes the pairs with start <= key < end into `out`, as `try_range_at_once` does, again where a writer comes between.
+    pub fn range_at_once<R: Wait>(
+        &mut self,
+        rt: &R,
+        alloc: Global,
+        start: &K,
+        end: &K,
+        out: &mut [Pair],
+    ) -> Result<usize, AllocError>
+        ensures range { IfOk result (λ n. RangeAtOnce (K.word start.now) (K.word end.now) (length out.old) (take n out.new) self.old self.new) }
+        ensures count { IfOk result (λ n. n ≤ length out.new) }
+        ensures saw { Saw self.old self.new }
+    {
+        self.worker
+            .range_at_once(rt, alloc, start.to_word(), end.to_word(), out)
+    }
+
+    /// The same of start <= key <= last.
+    pub fn range_inclusive_at_once<R: Wait>(
+        &mut self,
+        rt: &R,
+        alloc: Global,
+        start: &K,
+        last: &K,
+        out: &mut [Pair],
+    ) -> Result<usize, AllocError>
+        ensures range { IfOk result (λ n. RangeAtOnce (K.word start.now) (K.word last.now + 1) (length out.old) (take n out.new) self.old self.new) }
+        ensures count { IfOk result (λ n. n ≤ length out.new) }
+        ensures saw { Saw self.old self.new }
+    {
+        self.worker
+            .range_inclusive_at_once(rt, alloc, start.to_word(), last.to_word(), out)
+    }
+
+    /// The next pair of a walk, or `None` if there is none up to its last key, as it was at one moment within the call. After
+    /// `None` there is none any more.
+    pub fn step<R: Wait>(&mut self, rt: &R, walk: &mut Walk) -> Option<(K, V)>
+        ensures { As (λ r. IsStep walk.old r walk.new self.old self.new) (pair_words K.of_word V.of_word) result }
+    {
+        pair_words(self.worker.step(rt, walk))
     }
 
     /// What it has seen of the log, for another worker of its index.

@@ -2,7 +2,7 @@
 //!
 //! Each pair that is told stood at a moment within the call. Of a single pair this is one moment, at which no key stood between
 //! it and the key that was asked for. Of a range it is one for each pair, and these moments rise.
-ghost use Rattle.std.specs.Prelude.{◌≡◌, ℕ, ◌+◌, ◌^◌, length, take, drop};
+ghost use Rattle.std.specs.Prelude.{◌≡◌, ℕ, ◌+◌, ◌≤◌, ◌^◌, length, take, drop};
 ghost use Rattle.optimistic.specs.face.Calls.{Saw};
 ghost use Rattle.optimistic.specs.face.Scans.{FirstFrom, LastBelow, Emptiness, IsScan, ToldOf};
 ghost use Rattle.optimistic.specs.tree.Trails.{IsTrail};
@@ -92,6 +92,7 @@ impl<'t> Worker<'t> {
     /// The places past those that are written stay as they were.
     pub fn range<R: Wait>(&mut self, rt: &R, start: u64, end: u64, out: &mut [Pair]) -> usize
         ensures scan { IsScan start end (length out.old) self.old self.new (take result out.new) }
+        ensures count { result ≤ length out.new }
         ensures saw { Saw self.old self.new }
         ensures past { drop result out.new ≡ drop result out.old }
     {
@@ -110,6 +111,7 @@ impl<'t> Worker<'t> {
         out: &mut [Pair],
     ) -> usize
         ensures scan { IsScan start (last + 1) (length out.old) self.old self.new (take result out.new) }
+        ensures count { result ≤ length out.new }
         ensures saw { Saw self.old self.new }
         ensures past { drop result out.new ≡ drop result out.old }
     {

@@ -101,7 +101,7 @@ impl Tree {
     }
 
     /// What the last node on the way to a key tells.
-    fn sight(&self, hand: &mut Hand, from: u64) -> Option<Sight>
+    pub fn sight(&self, hand: &mut Hand, from: u64) -> Option<Sight>
         requires of { IsOf self.now.nodes.table.shared.table_id hand.old }
         ensures of { IsOf self.now.nodes.table.shared.table_id hand.new }
         ensures looks { Looks IsTree (view hand.old) (view hand.new) }

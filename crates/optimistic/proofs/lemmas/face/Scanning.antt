@@ -11,12 +11,14 @@ use Rattle.optimistic.specs.declared.drain.nexts.Pair.{Pair}
 use Rattle.optimistic.specs.declared.words.rule.Entry.{Entry}
 use Rattle.optimistic.specs.words.Kept.{value_of, StartsWith}
 use Rattle.optimistic.specs.tree.Drained.{pair_of}
+use Rattle.optimistic.specs.tree.Nexts.{HasNone}
+use Rattle.optimistic.specs.tree.Wholes.{IsRange}
 use Rattle.optimistic.specs.face.Calls.{Known, Saw}
 use Rattle.optimistic.specs.declared.tree.trail.Told.TheVariants.{Value, NoneTo}
 use Rattle.optimistic.specs.face.Scans.{Once, FirstFrom, Emptiness, Rise, StoodThroughout, HasKey, IsScan, ToldOf}
 use Rattle.optimistic.proofs.lemmas.face.Knowing.{saw_refl, saw_trans}
 use Rattle.optimistic.proofs.lemmas.drain.Keys.{no_pair}
-use Rattle.optimistic.proofs.lemmas.drain.Lists.{only_one}
+use Rattle.optimistic.proofs.lemmas.drain.Lists.{drained_none, only_one}
 use Rattle.optimistic.proofs.lemmas.tree.Sights.{first_here}
 
 pub starts_trans : (a b c : List Entry) → StartsWith b a → StartsWith c b → StartsWith c a
@@ -185,3 +187,33 @@ scan_behind from next last to places v u w pairs s order reach told few =
 -- a pair that is put into its place
 pub so_far_put : (from next : ℕ) (v u w : Known) (out : List Pair) (count : ℕ) (p : Pair) → count < length out → IsSoFar from next v u (take count out) → FirstFrom next (Some p) u w → IsSoFar from (p.key + 1) v w (take (count + 1) (set out count p))
 so_far_put from next v u w out count p low s first = subst (λ (l : List Pair). IsSoFar from (p.key + 1) v w l) (sym (take_more_set out count p low)) (so_far_more from next v u w (take count out) s p first)
+
+-- what holds of what was seen before holds at that moment
+pub once_here : (P : List Entry → Type 0) (v : Known) → P v.seen → Once P v v
+once_here P v h = record { log = v.seen; after = ([], sym (append-nil v.seen)); before = ([], sym (append-nil v.seen)); holds = h }
+
+-- a range without a key, and one without a place
+pub range_empty : (log : List Entry) (from to places : ℕ) → to ≤ from → IsRange log from to places []
+range_empty log from to places order = record {
+  next = to;
+  told = record {
+    ascending = λ i j d l m. absurd (omega arith);
+    told = λ p c. let l = c.1 in absurd (omega arith);
+    all = λ key value above below is. absurd (omega (arith, above, below, order));
+  };
+  few = omega arith;
+  end = inl refl;
+}
+
+pub range_placeless : (log : List Entry) (from to : ℕ) → from ≤ to → IsRange log from to 0 []
+range_placeless log from to order = record { next = from; told = drained_none log from; few = omega arith; end = inr (order, refl) }
+
+-- a walk that has ended, and two that end
+pub walk_ended : (last : ℕ) (v : Known) → last < 2 ^ 64 → Once (λ log. HasNone log (2 ^ 64) (last + 1)) v v
+walk_ended last v small = once_here (λ log. HasNone log (2 ^ 64) (last + 1)) v (λ k above below. absurd (omega (arith, above, below, small)))
+
+pub walk_none : (from last : ℕ) (v w : Known) → last < 2 ^ 64 → FirstFrom from None v w → Once (λ log. HasNone log from (last + 1)) v w
+walk_none from last v w small f = record { log = f.1.log; after = f.1.after; before = f.1.before; holds = λ k above below. f.1.holds k above (omega (arith, below, small)) }
+
+pub walk_past : (from last : ℕ) (p : Pair) (v w : Known) → last < p.key → FirstFrom from (Some p) v w → Once (λ log. HasNone log from (last + 1)) v w
+walk_past from last p v w past f = record { log = f.1.log; after = f.1.after; before = f.1.before; holds = λ k above below. f.1.holds.2 k above (omega (arith, below, past)) }
