@@ -1,4 +1,4 @@
 use Rattle.joint.proofs.threads.congee_arc.CongeeArc.get.Goals as goal
 
 pub returns-clause-answers : goal.returns-clause-answers
-returns-clause-answers g c = (c.get.result, rw c.to_word.ensures at c.get.ensures, c.owners.ensures)
+returns-clause-answers g c = (c.get.result, rw c.to_word.ensures.number at c.get.ensures, c.owners.ensures)
