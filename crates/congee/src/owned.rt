@@ -26,6 +26,7 @@ mod leaf_node;
 mod lone;
 mod looks;
 mod names;
+mod nearest;
 mod nodes;
 mod pairs;
 mod parting;

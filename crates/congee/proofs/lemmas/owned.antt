@@ -18,6 +18,8 @@ pub mod Keeping
 pub mod Moves
 pub mod Nearests
 pub mod OwnerLemmas
+pub mod BackSteps
+pub mod BackWalks
 pub mod Walks
 pub mod Puts
 pub mod RangeLemmas
@@ -56,6 +58,7 @@ pub mod SlotValues
 pub mod SlotBytes
 pub mod Reserving
 pub mod Alone
+pub mod LastSights
 pub mod Lessening
 pub mod Lessers
 pub mod Lifting

@@ -7,10 +7,10 @@ use Rattle.congee.specs.owned.Arena.{Nodes, heap_of}
 use Rattle.congee.specs.owned.Table.{pairs_of}
 use Rattle.congee.specs.declared.owned.scan.Branch.{Branch}
 
--- node b hangs in node a under a byte that a's step has passed
+-- node b hangs in node a under the byte that a's step passed last
 pub record HangsBelow {P : Type 0} (s : Nodes P) (a b : Branch) : Type 0 where
   pub byte : ℕ
-  pub passed : byte < a.from
+  pub passed : byte + 1 ≡ a.from
   pub bound : a.from ≤ 256
   pub hangs : (heap_of s a.node).children byte ≡ Below b.node
 

@@ -3,7 +3,7 @@ ghost use Rattle.std.specs.Prelude.{◌≡◌, ◌≢◌, ◌≤◌, ◌<◌, �
 ghost use Rattle.std.specs.Option.{option_map};
 ghost use Rattle.std.specs.FinMap as map;
 ghost use Rattle.congee.specs.Heap.{fits};
-ghost use Rattle.congee.specs.forms.Bytes.{IsFirst};
+ghost use Rattle.congee.specs.forms.Bytes.{IsFirst, IsLastBelow};
 ghost use Rattle.congee.specs.forms.Forms.{Becomes, capacity_of, children_of, form_of, is_full_of, next_form, prefix_of};
 ghost use Rattle.congee.specs.protocol.Steps.{form_below};
 ghost use Rattle.congee.specs.owned.Entries.{Begins, child_by, child_there, first_byte};
@@ -242,6 +242,15 @@ impl<P: Small> Inner<P> {
             None => None,
             Some((byte, entry)) => Some((byte, hung_of(self.first_byte(byte), entry))),
         }
+    }
+
+    /// The greatest byte below `end` that has a child.
+    #[inline(always)]
+    pub(crate) fn last_below(&self, end: usize) -> Option<u8>
+        requires { end ≤ 256 }
+        ensures { IsLastBelow (children_of self.now) end result }
+    {
+        self.places.last_below(end)
     }
 
     /// Adds a child under a byte that has none, to a node that is not full.
