@@ -11,6 +11,7 @@ pub mod EntryCodes
 pub mod EntryRoom
 pub mod Full
 pub mod Going
+pub mod Iterating
 pub mod Kinds
 pub mod Lesser
 pub mod Levels

@@ -20,6 +20,8 @@ pub mod Nearests
 pub mod OwnerLemmas
 pub mod BackSteps
 pub mod BackWalks
+pub mod Iterated
+pub mod RangeEnds
 pub mod Walks
 pub mod Puts
 pub mod RangeLemmas
