@@ -29,6 +29,7 @@ mod looks;
 mod names;
 mod nearest;
 mod nodes;
+mod ordered;
 mod pairs;
 mod parting;
 mod place;

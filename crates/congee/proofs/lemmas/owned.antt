@@ -22,6 +22,7 @@ pub mod BackSteps
 pub mod BackWalks
 pub mod Iterated
 pub mod RangeEnds
+pub mod KeyOrders
 pub mod Walks
 pub mod Puts
 pub mod RangeLemmas

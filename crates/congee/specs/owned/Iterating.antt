@@ -1,5 +1,7 @@
 -- The keys that an iterator goes over, by their words.
-use Rattle.std.specs.Prelude.{◌≡◌, ℕ, ◌+◌, ◌^◌, ◌≤◌, Option, None, Some}
+use Rattle.std.specs.Prelude.{◌≡◌, ℕ, ◌+◌, ◌^◌, ◌≤◌, Option, None, Some, IsSome}
+use Rattle.std.specs.Ordering.{nat_cmp}
+use Rattle.std.specs.FinMap as map
 use Rattle.std.specs.declared.ops.Bound.{Bound}
 use Rattle.std.specs.declared.ops.Bound.TheVariants.{Included, Excluded, Unbounded}
 
@@ -25,3 +27,7 @@ IsFirstIn (Some k) n = k ≡ n
 abbrev pub IsLastBefore : Option ℕ → ℕ → Type 0
 IsLastBefore None n = n ≡ 0
 IsLastBefore (Some k) n = k + 1 ≡ n
+
+-- each key of a map is the word of one that there can be, as where no others were put in
+abbrev pub AreWords : {K X : Type 0} → (K → Type 0) → (K → ℕ) → map.FinMap nat_cmp X → Type 0
+AreWords {K} fits word m = (q : ℕ) → IsSome (map.get m q) → (k : K) × fits k × (word k ≡ q)
