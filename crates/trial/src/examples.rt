@@ -29,3 +29,5 @@ pub(crate) mod stack;
 pub mod threaded;
 #[cfg(test)]
 pub mod unlocked;
+#[cfg(test)]
+pub mod versions;

@@ -7,3 +7,4 @@ pub mod lessening;
 pub mod owned;
 pub mod protocol;
 pub mod stats;
+pub mod words;
