@@ -138,8 +138,8 @@ fn history_by<L: Ledger + Send + Sync, R: Threads + Wait + Sync>(
     { caller.work(rt, alloc, shared, calls) };
     let worked = thread::map_vec(rt, callers, &work)?;
     let own = own(alloc, &mut all, worked, calls)?;
-    let ledger = index.gather(rt, &mut all)?;
-    let journal = index.entries(rt)?;
+    let gathered = index.gather_entries(rt, &mut all)?;
+    let (ledger, journal) = gathered;
     let verdict = check(alloc, &journal)?;
     Ok(History {
         entries: journal.len(),

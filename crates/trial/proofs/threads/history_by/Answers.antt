@@ -1,9 +1,9 @@
-use Rattle.std.proofs.Common.{◌≡◌, ◌<◌, Ok, Some, IfOk, ap, length, nat_eq, rules, sym, ◌∙◌, subst, slice_index_or}
+use Rattle.std.proofs.Common.{◌≡◌, ◌<◌, ◌*◌, Ok, Some, IfOk, ap, length, nat_eq, rules, sym, ◌∙◌, subst, slice_index_or}
 use Rattle.std.proofs.lemmas.Option.{get_or_from_slice_get, slice_get_within, slice_get-get_or}
 use Rattle.judge.specs.Journal.{IsLegal}
 use Rattle.joint.specs.threads.Auditing.{IsAudited}
-use Rattle.trial.specs.Histories.{AreCalls}
-use Rattle.trial.proofs.Counting.{all_calls}
+use Rattle.trial.specs.Histories.{AreCalls, writes_in}
+use Rattle.trial.proofs.Counting.{all_calls, all_writes}
 use Rattle.trial.proofs.threads.history_by.Goals as goal
 
 pub own-requires : goal.own-requires
@@ -24,18 +24,24 @@ own-requires g c = record {
 
 pub returns : goal.returns
 returns g c =
-    let stood = c.in_ok-journal.ensures in record {
-      journal = c.in_ok-journal.journal.items;
+    let stood = c.in_ok-gathered.ensures.gathers.0 in
+    let counted = c.in_ok-gathered.ensures.gathers.3 in
+    let journal = c.in_ok-gathered.gathered.1.items in
+    let all : length c.in_ok-own.own.items ≡ c.args.workers = search rules in record {
+      journal = journal;
       own = c.in_ok-own.own.items;
       stood = stood;
       entries = search rules;
-      verdict = c.in_ok-verdict.ensures.legal.1 (subst (λ l. IsLegal nat_eq l) (sym stood.2 ∙ (let e : c.in_ok-journal.journal.items ≡ c.deref.result.now = search rules in e)) stood.1.legal);
-      all = search rules;
+      ledger = counted;
+      verdict = c.in_ok-verdict.ensures.legal.1 (subst (λ l. IsLegal nat_eq l) (sym stood.2 ∙ (let e : journal ≡ c.deref.result.now = search rules in e)) stood.1.legal);
+      all = all;
       kept = c.in_ok-own.ensures.kept;
       audited = search rules;
       whole = λ found.
-          let is : IsAudited c.in_ok-journal.journal.items c.in_ok-own.own.items = search (rules, found) in
+          let is : IsAudited journal c.in_ok-own.own.items = search (rules, found) in
           let count = all_calls is c.in_ok-own.ensures.kept in
           search (rules, count);
-      ledger = c.in_ok-ledger.ensures.gathers.2;
+      writing = λ found.
+          let is : IsAudited journal c.in_ok-own.own.items = search (rules, found) in
+          counted ∙ all_writes is c.in_ok-own.ensures.kept ∙ ap (λ n. n * writes_in c.args.calls) all;
     }

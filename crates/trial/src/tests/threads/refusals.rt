@@ -85,10 +85,12 @@ const OF_OWNERS: [(Ask, Kind); 5] = [
 ];
 
 /// Those that all kinds of trees have alike. The guard of the last one stays out.
-const OF_ALL: [(Ask, Kind); 8] = [
+const OF_ALL: [(Ask, Kind); 10] = [
+    (Ask::Has(1), Kind::Other),
     (Ask::IsEmpty, Kind::Other),
     (Ask::Keys, Kind::Other),
     (Ask::Stats, Kind::Other),
+    (Ask::Len, Kind::Other),
     (Ask::Repin, Kind::Other),
     (Ask::Flush, Kind::Other),
     (Ask::Round, Kind::Other),

@@ -42,7 +42,7 @@ fn words(alloc: Global, id: u64) -> Result<Words, Refusal> {
 type Stage<'a> = (&'a [(Ask, Told)], (u64, u64, u64), u64);
 
 /// Each call on a tree of words, as a map answers it. In the end 1 stands alone.
-const EACH: [(Ask, Told); 24] = [
+const EACH: [(Ask, Told); 26] = [
     (
         Ask::Call(Call::Insert(1, 42)),
         Told::Replied(Reply::Insert(None)),
@@ -82,6 +82,7 @@ const EACH: [(Ask, Told); 24] = [
         Told::Replied(Reply::Remove(Some(2))),
     ),
     (Ask::Call(Call::Get(2)), Told::Replied(Reply::Get(None))),
+    (Ask::Has(1), Told::Has(true)),
     (
         Ask::Call(Call::Insert(256, 6)),
         Told::Replied(Reply::Insert(None)),
@@ -99,6 +100,7 @@ const EACH: [(Ask, Told); 24] = [
     (Ask::Flush, Told::Done),
     (Ask::IsEmpty, Told::IsEmpty(false)),
     (Ask::Stats, Told::Pairs(1)),
+    (Ask::Len, Told::Pairs(1)),
     (Ask::Pinned, Told::Done),
 ];
 
@@ -121,7 +123,7 @@ const STAGES: [Stage<'static>; 3] = [
 ];
 
 /// The calls on a tree of owners: one is put in, replaced and taken out again.
-const SHARED: [(Ask, Told); 11] = [
+const SHARED: [(Ask, Told); 13] = [
     (
         Ask::Call(Call::Insert(1, 7)),
         Told::Replied(Reply::Insert(None)),
@@ -134,6 +136,7 @@ const SHARED: [(Ask, Told); 11] = [
     (Ask::Call(Call::Get(1)), Told::Replied(Reply::Get(Some(8)))),
     (Ask::Keys, Told::Keys(1, Some(1))),
     (Ask::Stats, Told::Pairs(1)),
+    (Ask::Len, Told::Pairs(1)),
     (Ask::Pinned, Told::Done),
     (Ask::IsEmpty, Told::IsEmpty(false)),
     (
@@ -141,6 +144,7 @@ const SHARED: [(Ask, Told); 11] = [
         Told::Replied(Reply::Remove(Some(8))),
     ),
     (Ask::Call(Call::Get(1)), Told::Replied(Reply::Get(None))),
+    (Ask::Has(1), Told::Has(false)),
     (Ask::IsEmpty, Told::IsEmpty(true)),
 ];
 
@@ -234,7 +238,7 @@ fn each_call_comes_through(rt: HostRuntime) -> Result<(), Fail> {
 }
 
 /// The calls on a key among all of these, and the writing ones.
-const CALLS: (usize, u64) = (17, 12);
+const CALLS: (usize, u64) = (18, 12);
 
 /// How many entries the journal has, and whether it is legal.
 fn judged<L: Ledger, R: Wait>(

@@ -17,9 +17,12 @@ pub enum Ask {
     /// A scan into four places.
     Range(u64, u64),
     RangeInclusive(u64, u64),
+    /// Whether a key has a value.
+    Has(u64),
     IsEmpty,
     Keys,
     Stats,
+    Len,
     Repin,
     Flush,
     Round,
@@ -35,10 +38,11 @@ pub enum Told {
     Replied(Reply<u64>),
     /// How many pairs were found, and what stands in the first place.
     Scanned(usize, (u64, u64)),
+    Has(bool),
     IsEmpty(bool),
     /// How many keys there are, and the first one.
     Keys(usize, Option<u64>),
-    /// How many pairs the statistics count.
+    /// How many pairs the statistics count, or the tree.
     Pairs(u64),
     Done,
     /// Another value came back with the refusal, or a tree of this kind has no such call.
@@ -151,6 +155,21 @@ fn pairs_told(stats: Result<NodeStats, Refusal>) -> Result<Told, Refusal> {
     }
 }
 
+/// How many pairs a tree counts.
+fn count_told(len: Result<u64, Refusal>) -> Result<Told, Refusal> {
+    match len {
+        Ok(len) => Ok(Told::Pairs(len)),
+        Err(refusal) => Err(refusal),
+    }
+}
+
+fn presence_told(has: Result<bool, Refusal>) -> Result<Told, Refusal> {
+    match has {
+        Ok(has) => Ok(Told::Has(has)),
+        Err(refusal) => Err(refusal),
+    }
+}
+
 fn emptiness_told(is_empty: Result<bool, Refusal>) -> Result<Told, Refusal> {
     match is_empty {
         Ok(is_empty) => Ok(Told::IsEmpty(is_empty)),
@@ -215,13 +234,17 @@ macro_rules! scanned {
     };
 }
 
-/// What all kinds of trees have alike.
+/// What all kinds of trees have alike. `by` stands before a key that is looked for.
 macro_rules! wholly {
-    ($rt:ident, $tree:ident, $ask:ident, $worker:ident, $guard:ident) => {
+    ($rt:ident, $tree:ident, $ask:ident, ($($by:tt)?), $worker:ident, $guard:ident) => {
         match $ask {
+            Ask::Has(key) => {
+                presence_told($tree.contains_key($rt, $($by)? key, $worker, $guard))
+            }
             Ask::IsEmpty => emptiness_told($tree.is_empty($rt, $worker, $guard)),
             Ask::Keys => keys_told($tree.keys($rt, $worker)),
             Ask::Stats => pairs_told($tree.stats($rt, $worker)),
+            Ask::Len => count_told($tree.len($rt, $worker)),
             Ask::Repin => done($tree.repin($rt, $worker, $guard)),
             Ask::Flush => done($tree.flush($rt, $worker, $guard)),
             Ask::Round => done($tree.round($rt, $worker)),
@@ -261,7 +284,7 @@ fn words_wholly<A: Allocator, R: Wait>(
     worker: &mut Worker,
     guard: &Guard,
 ) -> Result<Told, Refusal> {
-    wholly!(rt, tree, ask, worker, guard)
+    wholly!(rt, tree, ask, (&), worker, guard)
 }
 
 fn numbers_called<A: Allocator, R: Wait>(
@@ -293,7 +316,7 @@ fn numbers_wholly<A: Allocator, R: Wait>(
     worker: &mut Worker,
     guard: &Guard,
 ) -> Result<Told, Refusal> {
-    wholly!(rt, tree, ask, worker, guard)
+    wholly!(rt, tree, ask, (), worker, guard)
 }
 
 /// A call on a key of a tree with a journal.
@@ -327,7 +350,7 @@ fn recorded_wholly<L: Ledger, A: Allocator, D: Drop, R: Wait>(
     worker: &mut Worker,
     guard: &Guard,
 ) -> Result<Told, Refusal> {
-    wholly!(rt, tree, ask, worker, guard)
+    wholly!(rt, tree, ask, (&), worker, guard)
 }
 
 impl<A: Allocator> Threaded for Congee<u64, u64, A> {
@@ -615,7 +638,7 @@ fn owners_wholly<R: Wait>(
     worker: &mut Worker,
     guard: &Guard,
 ) -> Result<Told, Refusal> {
-    wholly!(rt, tree, ask, worker, guard)
+    wholly!(rt, tree, ask, (), worker, guard)
 }
 
 impl Threaded for Owners {
