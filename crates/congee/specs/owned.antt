@@ -11,6 +11,7 @@ pub mod EntryCodes
 pub mod EntryRoom
 pub mod Full
 pub mod Going
+pub mod Iterating
 pub mod Kinds
 pub mod Lesser
 pub mod Levels
@@ -43,3 +44,7 @@ pub mod StatsText
 pub mod Walks
 pub mod Ways
 pub mod Writes
+pub mod Several
+pub mod Entry
+pub mod Building
+pub mod Compared

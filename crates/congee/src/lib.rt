@@ -34,11 +34,11 @@ pub use allocator::{Allocator, DefaultAllocator, Limited, OOMError};
 pub use forms::{
     Boxed, Child, MAX_PREFIX_LEN, Node, Node4, Node16, Node48, Node256, NodeIter, NodeType, Small,
 };
-pub use judge::{ArcPayload, Payload, Word64};
+pub use judge::{ArcPayload, Ordered64, Payload, Word64};
 pub use keys::KEY_BYTES;
 pub use owned::{
-    Calls, Congee, CongeeArc, Count, Drainer, LevelStats, NoDrain, NodeInfo, NodeStats, U64Congee,
-    owner_of, payload_of,
+    BuildError, Calls, Congee, CongeeArc, Count, Drainer, Entry, Iter, Keys, LevelStats, NoDrain,
+    NodeInfo, NodeStats, U64Congee, Values, owner_of, payload_of,
 };
 pub use protocol::{
     Machine, Move, NodeName, Noise, Op, Outcome, PlainStore, Played, Refusal, Seen, Step, Store,

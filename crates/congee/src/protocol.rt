@@ -24,10 +24,10 @@
 //! | a lower lock not free | `Unwind` at each lock that is held, then anew, or refused |
 //!
 //! Only a call with a closure asks. A scan is one phase, `Scan`, with stages of its own in `scan`.
-mod acts;
 mod laws;
 mod machine;
 mod next_phase;
+mod node_steps;
 mod op;
 mod phase;
 mod plain;

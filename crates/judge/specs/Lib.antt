@@ -1,2 +1,4 @@
 pub mod Answer
 pub mod Journal
+pub mod WordLemmas
+pub mod Words

@@ -16,7 +16,7 @@
 //! |---|---|
 //! | calls, replies and entries | `journal` |
 //! | the replay | `checker`, over the pairs of `standing` |
-//! | what may be a key (`Word64`) or a value (`Payload`) of such a map | `words`, `payloads` |
+//! | what may be a key (`Word64`, `Ordered64`) or a value (`Payload`) of such a map | `words`, `payloads` |
 #![tactic(auto)]
 
 mod checker;
@@ -28,4 +28,4 @@ mod words;
 pub use checker::{Verdict, check};
 pub use journal::{Call, Entry, Reply};
 pub use payloads::{ArcPayload, Payload};
-pub use words::{Word64, number_of, word_of};
+pub use words::{Ordered64, Word64, number_of, word_of};

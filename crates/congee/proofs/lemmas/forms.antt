@@ -17,3 +17,4 @@ pub mod Prefixes
 pub mod Ranks
 pub mod SortedLemmas
 pub mod LaidLemmas
+pub mod LastBytes

@@ -18,6 +18,11 @@ pub mod Keeping
 pub mod Moves
 pub mod Nearests
 pub mod OwnerLemmas
+pub mod BackSteps
+pub mod BackWalks
+pub mod Iterated
+pub mod RangeEnds
+pub mod KeyOrders
 pub mod Walks
 pub mod Puts
 pub mod RangeLemmas
@@ -56,8 +61,12 @@ pub mod SlotValues
 pub mod SlotBytes
 pub mod Reserving
 pub mod Alone
+pub mod LastSights
 pub mod Lessening
 pub mod Lessers
 pub mod Lifting
 pub mod Raising
 pub mod Removing
+pub mod Several
+pub mod Building
+pub mod Comparing

@@ -1,5 +1,5 @@
 -- Finite maps from bytes to children.
-use Rattle.std.specs.Prelude.{◌≡◌, ℕ, ◌+◌, ◌<◌, ◌≤◌, ltb, cond, List, [], ◌∷◌, None, Some}
+use Rattle.std.specs.Prelude.{◌≡◌, ℕ, ◌+◌, ◌<◌, ◌≤◌, ltb, cond, List, [], ◌∷◌, Option, None, Some, IsSome}
 use Rattle.std.specs.Ordering.{nat_cmp}
 use Rattle.std.specs.FinMap as map
 
@@ -13,6 +13,17 @@ pub record IsFirst {X : Type 0} (m : map.FinMap nat_cmp X) (from b : ℕ) (x : X
 abbrev pub Lists : {X : Type 0} → map.FinMap nat_cmp X → ℕ → List X → Type 0
 Lists m from [] = (b : ℕ) → from ≤ b → map.get m b ≡ None
 Lists m from (x ∷ r) = (b : ℕ) × (b < 256) × IsFirst m from b x × Lists m (b + 1) r
+
+-- b is the greatest byte below `end` that has a child
+pub record IsLast {X : Type 0} (m : map.FinMap nat_cmp X) (end b : ℕ) : Type 0 where
+  pub below : b < end
+  pub here : IsSome (map.get m b)
+  pub after : (q : ℕ) → b < q → q < end → map.get m q ≡ None
+
+-- the greatest byte below `end` that has a child, if one has
+abbrev pub IsLastBelow : {X : Type 0} → map.FinMap nat_cmp X → ℕ → Option ℕ → Type 0
+IsLastBelow m end None = (b : ℕ) → b < end → map.get m b ≡ None
+IsLastBelow m end (Some b) = IsLast m end b
 
 -- the pairs whose byte lies from `start` to `end`, both included
 abbrev pub between : {X : Type 0} → ℕ → ℕ → List (ℕ × X) → List (ℕ × X)

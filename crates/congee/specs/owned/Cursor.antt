@@ -1,5 +1,5 @@
 -- The way of a scan through the tree, and the keys that it has yet to come to.
-use Rattle.std.specs.Prelude.{◌≡◌, ℕ, suc, zero, ◌<◌, ◌≤◌, ◌+◌, ◌-◌, ◌*◌, ◌^◌, ◌⊎◌, ◌↔◌, true, List, [], ◌∷◌, length, slice_index, IsSome}
+use Rattle.std.specs.Prelude.{◌≡◌, ℕ, suc, zero, ◌≤◌, ◌+◌, ◌-◌, ◌*◌, ◌^◌, ◌⊎◌, ◌↔◌, true, List, [], ◌∷◌, length, slice_index, IsSome}
 use Rattle.std.specs.FinMap as map
 use Rattle.congee.specs.Heap.{Below, fits}
 use Rattle.congee.specs.Keys.{key_bytes}
@@ -7,10 +7,10 @@ use Rattle.congee.specs.owned.Arena.{Nodes, heap_of}
 use Rattle.congee.specs.owned.Table.{pairs_of}
 use Rattle.congee.specs.declared.owned.scan.Branch.{Branch}
 
--- node b hangs in node a under a byte that a's step has passed
+-- node b hangs in node a under the byte that a's step passed last
 pub record HangsBelow {P : Type 0} (s : Nodes P) (a b : Branch) : Type 0 where
   pub byte : ℕ
-  pub passed : byte < a.from
+  pub passed : byte + 1 ≡ a.from
   pub bound : a.from ≤ 256
   pub hangs : (heap_of s a.node).children byte ≡ Below b.node
 

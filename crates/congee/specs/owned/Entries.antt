@@ -16,7 +16,7 @@ use Rattle.congee.specs.declared.forms.base_node.Node.{Node as Form}
 use Rattle.congee.specs.declared.owned.entries.Hung.{Hung}
 use Rattle.congee.specs.declared.owned.entries.Hung.TheVariants.{Blank as HungBlank, Node as HungNode, Leaf as HungLeaf}
 use Rattle.congee.specs.declared.owned.entries.LoneRef.{LoneRef}
-use Rattle.congee.specs.declared.owned.lone.Lone.{Lone}
+use Rattle.congee.specs.declared.owned.inline_leaf.Lone.{Lone}
 use Rattle.congee.specs.declared.owned.places.Places.{Places}
 use Rattle.congee.specs.declared.owned.places.Places.TheVariants.{N4, N16, N48, N256}
 

@@ -4,7 +4,7 @@ use Rattle.std.specs.Coded.{Coded, coded×, coded_ℕ, coded_list, le_prop}
 use base.Stored.{coded_via}
 use mathlib.Core.HLevel.{is_prop→PathP}
 use native.Mathlib.Nat.{ℕ_set}
-use Rattle.congee.specs.declared.owned.lone.Lone.{Lone}
+use Rattle.congee.specs.declared.owned.inline_leaf.Lone.{Lone}
 
 module _ {P : Type 0} where
   -- two leaves of the same key and value are one

@@ -37,6 +37,13 @@ IsGreatest m end (Some pair) = IsGreatestPair m end pair.0 pair.1
 abbrev pub pair_by : {K V : Type 0} → (ℕ → K) → (ℕ → V) → ℕ × ℕ → K × V
 pair_by key value pair = (key pair.0, value pair.1)
 
+-- its key alone, and its value
+abbrev pub key_by : {K : Type 0} → (ℕ → K) → ℕ × ℕ → K
+key_by key pair = key pair.0
+
+abbrev pub value_by : {V : Type 0} → (ℕ → V) → ℕ × ℕ → V
+value_by value pair = value pair.1
+
 -- each number comes back from what stands for it, as it does where that is the number itself
 abbrev pub ComesBack : {K : Type 0} → (K → ℕ) → (ℕ → K) → Type 0
 ComesBack word of_word = (n : ℕ) → word (of_word n) ≡ n

@@ -12,7 +12,7 @@ use Rattle.congee.specs.declared.forms.base_node.Node.{Node}
 use Rattle.congee.specs.declared.owned.entries.Entry.{Entry}
 use Rattle.congee.specs.declared.owned.inner.Row.{Row}
 use Rattle.congee.specs.declared.owned.inner.Row.TheVariants.{Few, Wide}
-use Rattle.congee.specs.declared.owned.lone.Lone.{Lone}
+use Rattle.congee.specs.declared.owned.inline_leaf.Lone.{Lone}
 use Rattle.congee.specs.declared.owned.sight.Stem.{Stem}
 
 module _ {P : Type 0} where

@@ -13,7 +13,7 @@ use Rattle.congee.specs.declared.forms.base_node.Node.{Node}
 use Rattle.congee.specs.declared.forms.child.Child.{Child}
 use Rattle.congee.specs.declared.forms.child.Child.TheVariants.{Blank, Node as Sub, Value}
 use Rattle.congee.specs.declared.forms.prefix.TheConstants.{MAX_PREFIX_LEN}
-use Rattle.congee.specs.declared.owned.lone.Lone.{Lone}
+use Rattle.congee.specs.declared.owned.inline_leaf.Lone.{Lone}
 use Rattle.congee.specs.declared.owned.sight.Next.{Next}
 use Rattle.congee.specs.declared.owned.sight.Next.TheVariants.{Blank as NextBlank, Node as NextNode, Leaf as NextLeaf, Value as NextValue}
 use Rattle.congee.specs.declared.owned.sight.Sight.{Sight}

@@ -63,6 +63,23 @@ impl Index {
         None
     }
 
+    /// The greatest byte below `end` that has a place.
+    #[inline(always)]
+    pub(crate) fn last_below(&self, end: usize) -> Option<u8>
+        requires { end ≤ 256 }
+        ensures { MatchOption result ((b : ℕ) → b < end → place_of self.now b ≡ 48)
+            (λ r. (r < end) × (place_of self.now r ≢ 48) × ((b : ℕ) → r < b → b < end → place_of self.now b ≡ 48)) }
+    {
+        let mut past = end;
+        while past > 0 {
+            past -= 1;
+            if self.places[past] != EMPTY_MARKER {
+                return Some(past as u8);
+            }
+        }
+        None
+    }
+
     /// Gives the first free place to a byte that has none.
     pub(crate) fn insert(&mut self, byte: u8) -> u8
         requires ok { IsIndex self.old }

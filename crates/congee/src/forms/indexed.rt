@@ -2,7 +2,7 @@
 ghost use Rattle.std.specs.Prelude.{◌≡◌, ◌≢◌, ◌<◌, ◌≤◌, ℕ, MatchOption, None, Some, IsSome};
 ghost use Rattle.std.specs.Option.{option_copied};
 ghost use Rattle.std.specs.FinMap as map;
-ghost use Rattle.congee.specs.forms.Bytes.{IsFirst};
+ghost use Rattle.congee.specs.forms.Bytes.{IsFirst, IsLastBelow};
 
 use crate::forms::index::{EMPTY_MARKER, Index};
 use arrayvec::ArrayVec;
@@ -68,6 +68,15 @@ impl<X> Indexed<X> {
                 &self.children.as_slice()[self.index.place(byte) as usize],
             )),
         }
+    }
+
+    /// The greatest byte below `end` that has a child.
+    #[inline(always)]
+    pub(crate) fn last_below(&self, end: usize) -> Option<u8>
+        requires { end ≤ 256 }
+        ensures { IsLastBelow self.now end result }
+    {
+        self.index.last_below(end)
     }
 }
 

@@ -2,7 +2,7 @@
 ghost use Rattle.std.specs.Prelude.{◌≡◌, ◌<◌, ◌≤◌, ℕ, length, IsTrue, ◌↔◌, MatchOption, None, Some, IsSome};
 ghost use Rattle.std.specs.Option.{option_copied};
 ghost use Rattle.std.specs.FinMap as map;
-ghost use Rattle.congee.specs.forms.Bytes.{IsFirst};
+ghost use Rattle.congee.specs.forms.Bytes.{IsFirst, IsLastBelow};
 ghost use Rattle.congee.specs.forms.Mask.{bit_of, SetAt};
 
 use arrayvec::ArrayVec;
@@ -53,6 +53,27 @@ impl Mask {
                 return Some((byte + rest.trailing_zeros() as usize) as u8);
             }
             byte = (byte / 8 + 1) * 8;
+        }
+        None
+    }
+
+    /// The greatest byte below `end` whose bit is set.
+    #[inline(always)]
+    fn last_below(&self, end: usize) -> Option<u8>
+        requires { end ≤ 256 }
+        ensures { MatchOption result ((b : ℕ) → b < end → bit_of self.now.bytes b ≡ 0)
+            (λ r. (r < end) × (bit_of self.now.bytes r ≡ 1) × ((b : ℕ) → r < b → b < end → bit_of self.now.bytes b ≡ 0)) }
+    {
+        let mut past = end;
+        while past > 0 {
+            let byte = past - 1;
+            if self.bytes[byte / 8] == 0 {
+                past = byte / 8 * 8;
+            } else if self.has(byte as u8) {
+                return Some(byte as u8);
+            } else {
+                past = byte;
+            }
         }
         None
     }
@@ -114,6 +135,15 @@ impl<X> Masked<X> {
             None => None,
             Some(byte) => Some((byte, &self.children.as_slice()[byte as usize])),
         }
+    }
+
+    /// The greatest byte below `end` that has a child.
+    #[inline(always)]
+    pub(crate) fn last_below(&self, end: usize) -> Option<u8>
+        requires { end ≤ 256 }
+        ensures { IsLastBelow self.now end result }
+    {
+        self.mask.last_below(end)
     }
 }
 

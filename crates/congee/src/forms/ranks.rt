@@ -1,7 +1,7 @@
 //! Bytes that rise, in an array in which a byte's place is how many are lower.
-ghost use Rattle.std.specs.Prelude.{◌≡◌, ◌<◌, ◌≤◌, ℕ, [], length, get_or};
+ghost use Rattle.std.specs.Prelude.{◌≡◌, ◌<◌, ◌≤◌, ℕ, [], length, get_or, MatchOption};
 ghost use Rattle.std.specs.List.{insert, remove};
-ghost use Rattle.congee.specs.forms.Ranks.{IsOrdered, IsRising};
+ghost use Rattle.congee.specs.forms.Ranks.{IsLastIn, IsOrdered, IsRising};
 
 use std::marker::Model;
 
@@ -116,6 +116,24 @@ impl<const N: usize> Ranks<N> {
         ensures at { result < length self.now → byte ≤ get_or self.now result 0 }
     {
         place_in(&self.bytes, byte)
+    }
+
+    /// The greatest byte below `end`.
+    #[inline(always)]
+    pub(crate) fn last_below(&self, end: usize) -> Option<u8>
+        requires rising { IsRising self.now }
+        requires bytes { (i : ℕ) → get_or self.now i 0 < 256 }
+        ensures { MatchOption result (0 < length self.now → end ≤ get_or self.now 0 0) (IsLastIn self.now end) }
+    {
+        let place = if end > 255 {
+            self.len()
+        } else {
+            self.place_of(end as u8)
+        };
+        if place == 0 {
+            return None;
+        }
+        Some(self.at(place - 1))
     }
 
     /// Puts a byte into a place, and moves those from there on up.

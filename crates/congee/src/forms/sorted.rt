@@ -2,7 +2,7 @@
 ghost use Rattle.std.specs.Prelude.{◌≡◌, ◌≢◌, ◌<◌, ◌≤◌, ℕ, [], length, MatchOption, None, Some, IsSome};
 ghost use Rattle.std.specs.Option.{option_copied};
 ghost use Rattle.std.specs.FinMap as map;
-ghost use Rattle.congee.specs.forms.Bytes.{IsFirst, Lists};
+ghost use Rattle.congee.specs.forms.Bytes.{IsFirst, IsLastBelow, Lists};
 ghost use Rattle.congee.specs.forms.Places.{sorted_map, IsSorted};
 
 use crate::forms::ranks::Ranks;
@@ -186,6 +186,15 @@ impl<X, const N: usize> Sorted<X, N> {
             (λ r. IsFirst self.now from r.0 r.1.now) }
     {
         self.bytes.first_from(&self.children, from)
+    }
+
+    /// The greatest byte below `end` that has a child.
+    #[inline(always)]
+    pub(crate) fn last_below(&self, end: usize) -> Option<u8>
+        requires { end ≤ 256 }
+        ensures { IsLastBelow self.now end result }
+    {
+        self.bytes.last_below(end)
     }
 
     /// The children from `from` on, in the order of their bytes.

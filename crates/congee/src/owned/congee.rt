@@ -33,9 +33,9 @@ use std::marker::{Model, PhantomData};
 /// `A` is the budget that its nodes are charged to, `D` what takes the pairs where the tree is closed.
 #[derive(Drop)]
 pub struct Congee<K, V, A: Allocator = DefaultAllocator, D = NoDrain> {
-    arena: Arena<u64, A>,
+    pub(super) arena: Arena<u64, A>,
     drainer: D,
-    alloc: Global,
+    pub(super) alloc: Global,
     words: PhantomData<(K, V)>,
 }
 
@@ -72,7 +72,7 @@ fn holds(found: Option<u64>, number: u64) -> bool
 }
 
 /// The pair of two numbers, if there is one.
-fn pair_of<K: Word64, V: Word64>(found: Option<(u64, u64)>) -> Option<(K, V)>
+pub(super) fn pair_of<K: Word64, V: Word64>(found: Option<(u64, u64)>) -> Option<(K, V)>
     ensures { result ≡ option_map (pair_by K.of_word V.of_word) found }
 {
     match found {

@@ -18,9 +18,9 @@ use crate::allocator::{Allocator, OOMError};
 use crate::forms::base_node::NodeType;
 use crate::keys::KEY_BYTES;
 use crate::owned::arena::{Arena, Stored};
-use crate::owned::lone::Lone;
+use crate::owned::inline_leaf::Lone;
 use crate::owned::names::Name;
-use crate::owned::parting::Parting;
+use crate::owned::prefix_split::Parting;
 use std::alloc::Global;
 
 impl<P: Stored, A: Allocator> Arena<P, A> {

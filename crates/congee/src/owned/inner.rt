@@ -3,7 +3,7 @@ ghost use Rattle.std.specs.Prelude.{◌≡◌, ◌≢◌, ◌≤◌, ◌<◌, �
 ghost use Rattle.std.specs.Option.{option_map};
 ghost use Rattle.std.specs.FinMap as map;
 ghost use Rattle.congee.specs.Heap.{fits};
-ghost use Rattle.congee.specs.forms.Bytes.{IsFirst};
+ghost use Rattle.congee.specs.forms.Bytes.{IsFirst, IsLastBelow};
 ghost use Rattle.congee.specs.forms.Forms.{Becomes, capacity_of, children_of, form_of, is_full_of, next_form, prefix_of};
 ghost use Rattle.congee.specs.protocol.Steps.{form_below};
 ghost use Rattle.congee.specs.owned.Entries.{Begins, child_by, child_there, first_byte};
@@ -15,7 +15,7 @@ use crate::forms::masked::Masked;
 use crate::forms::prefix::{MAX_PREFIX_LEN, Prefix};
 use crate::keys::KEY_BYTES;
 use crate::owned::entries::{Entry, Hung, LoneRef, Tail};
-use crate::owned::lone::Lone;
+use crate::owned::inline_leaf::Lone;
 use crate::owned::places::{Nested, Places};
 use std::alloc::{AllocError, Global};
 use std::marker::Model;
@@ -38,7 +38,7 @@ pub(crate) enum Row<'a, P> {
 impl<P: Nested> Model for Inner<P> {
     ghost use Rattle.std.specs.Prelude.{ℕ};
     ghost use Rattle.congee.specs.declared.forms.base_node.Node.{Node};
-    ghost use Rattle.congee.specs.declared.owned.lone.Lone.{Lone as LoneOf};
+    ghost use Rattle.congee.specs.declared.owned.inline_leaf.Lone.{Lone as LoneOf};
     ghost use Rattle.congee.specs.owned.Codes.{node_code};
     ghost use Rattle.congee.specs.owned.Entries.{node_by};
     ghost use Rattle.congee.specs.owned.Lones.{lone_code};
@@ -242,6 +242,15 @@ impl<P: Small> Inner<P> {
             None => None,
             Some((byte, entry)) => Some((byte, hung_of(self.first_byte(byte), entry))),
         }
+    }
+
+    /// The greatest byte below `end` that has a child.
+    #[inline(always)]
+    pub(crate) fn last_below(&self, end: usize) -> Option<u8>
+        requires { end ≤ 256 }
+        ensures { IsLastBelow (children_of self.now) end result }
+    {
+        self.places.last_below(end)
     }
 
     /// Adds a child under a byte that has none, to a node that is not full.

@@ -3,7 +3,7 @@ ghost use Rattle.std.specs.Prelude.{◌≡◌, ◌≢◌, ◌<◌, ◌≤◌, �
 ghost use Rattle.std.specs.Option.{option_copied, option_map};
 ghost use Rattle.std.specs.FinMap as map;
 ghost use Rattle.congee.specs.Heap.{fits};
-ghost use Rattle.congee.specs.forms.Bytes.{IsFirst};
+ghost use Rattle.congee.specs.forms.Bytes.{IsFirst, IsLastBelow};
 ghost use Rattle.congee.specs.forms.Forms.{Becomes, capacity_of, children_of, form_of, is_full_of, next_form, prefix_of};
 ghost use Rattle.congee.specs.protocol.Steps.{form_below};
 ghost use Rattle.congee.specs.declared.forms.base_node.NodeType.TheVariants.{N4};
@@ -129,6 +129,15 @@ impl<P: Stored> LeafNode<P> {
                 Some(value) => Some((byte, value)),
             },
         }
+    }
+
+    /// The greatest byte below `end` that has a value.
+    #[inline(always)]
+    pub(crate) fn last_below(&self, end: usize) -> Option<u8>
+        requires { end ≤ 256 }
+        ensures { IsLastBelow (children_of self.now) end result }
+    {
+        self.values.last_below(end)
     }
 
     /// Adds a value under a byte that has none, to a leaf that is not full.

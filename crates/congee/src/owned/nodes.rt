@@ -13,7 +13,7 @@ use crate::keys::KEY_BYTES;
 use crate::owned::arena::Stored;
 use crate::owned::inner::Inner;
 use crate::owned::names::Name;
-use crate::owned::parting::Parting;
+use crate::owned::prefix_split::Parting;
 use crate::owned::slots::Slot;
 use slab::Slab;
 use std::alloc::{AllocError, Global};

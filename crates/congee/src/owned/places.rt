@@ -2,7 +2,7 @@
 ghost use Rattle.std.specs.Prelude.{◌≡◌, ◌≢◌, ◌≤◌, ◌<◌, ℕ, false, MatchOption, None, Some, IsSome, IfOk, OnOk, OnErr};
 ghost use Rattle.std.specs.Option.{option_copied};
 ghost use Rattle.std.specs.FinMap as map;
-ghost use Rattle.congee.specs.forms.Bytes.{IsFirst, Lists};
+ghost use Rattle.congee.specs.forms.Bytes.{IsFirst, IsLastBelow, Lists};
 ghost use Rattle.congee.specs.forms.Forms.{capacity_of, next_form};
 ghost use Rattle.congee.specs.owned.Entries.{form_in, entries_in, full_in, Refills};
 ghost use Rattle.congee.specs.protocol.Steps.{form_below};
@@ -138,6 +138,15 @@ impl<P: Boxed<N>, const N: usize> Ranked<P, N> {
             (λ r. IsFirst self.now from r.0 r.1.now) }
     {
         self.bytes.first_from(&self.entries.list, from)
+    }
+
+    /// The greatest byte below `end` that has an entry.
+    #[inline(always)]
+    fn last_below(&self, end: usize) -> Option<u8>
+        requires { end ≤ 256 }
+        ensures { IsLastBelow self.now end result }
+    {
+        self.bytes.last_below(end)
     }
 
     /// The entries from a byte on, in the order of their bytes.
@@ -307,6 +316,20 @@ impl<P: Small> Places<P> {
             Places::N16(n) => n.first_from(from),
             Places::N48(n) => n.first_from(from),
             Places::N256(n) => n.children.first_from(from),
+        }
+    }
+
+    /// The greatest byte below `end` that has an entry.
+    #[inline(always)]
+    pub(crate) fn last_below(&self, end: usize) -> Option<u8>
+        requires { end ≤ 256 }
+        ensures { IsLastBelow (entries_in self.now) end result }
+    {
+        match self {
+            Places::N4(n) => n.last_below(end),
+            Places::N16(n) => n.last_below(end),
+            Places::N48(n) => n.last_below(end),
+            Places::N256(n) => n.children.last_below(end),
         }
     }
 

@@ -1,9 +1,9 @@
 //! The pairs of an arena by ascending keys.
-ghost use Rattle.std.specs.Prelude.{◌≡◌, ◌+◌, ℕ, ◌<◌, ◌≤◌, [], ◌∷◌, ◌++◌, length, take, drop, None, OnSome, IfOk, MatchOption};
+ghost use Rattle.std.specs.Prelude.{◌≡◌, ◌+◌, ℕ, ◌<◌, ◌≤◌, ◌^◌, [], ◌∷◌, ◌++◌, length, take, drop, None, OnSome, IfOk, MatchOption};
 ghost use Rattle.std.specs.FinMap as map;
 ghost use Rattle.congee.specs.Keys.{key_bytes};
 ghost use Rattle.congee.specs.owned.Arena.{IsTree};
-ghost use Rattle.congee.specs.owned.Nearest.{IsLeast, IsLeastPair, IsGreatest};
+ghost use Rattle.congee.specs.owned.Nearest.{IsLeast, IsLeastPair, IsGreatest, IsGreatestPair};
 ghost use Rattle.congee.specs.owned.Cursor.{IsAt, steps_left};
 ghost use Rattle.congee.specs.owned.Table.{pairs_of};
 ghost use Rattle.congee.specs.owned.Ranges.{entries_by, in_range, keys_by};
@@ -15,8 +15,8 @@ use crate::allocator::Allocator;
 use crate::keys::{KEY_BYTES, bytes_of_key};
 use crate::owned::arena::{Arena, Stored};
 use crate::owned::names::Name;
-use crate::owned::parting::Parting;
 use crate::owned::place::Way;
+use crate::owned::prefix_split::Parting;
 use crate::owned::sight::{Next, Sight};
 use arrayvec::ArrayVec;
 use judge::Word64;
@@ -66,6 +66,15 @@ impl<P: Stored, A: Allocator> Arena<P, A> {
         self.enter(Cursor::new(), Name::root(), 0)
     }
 
+    /// The walk after every pair.
+    pub(crate) fn ending(&self) -> Walk<'_, P>
+        requires { IsTree self.now.nodes }
+        ensures walk { IsWalk self.now.nodes result }
+        ensures at { IsAt self.now.nodes (steps_of result) (2 ^ 64) }
+    {
+        self.enter(Cursor::new(), Name::root(), 256)
+    }
+
     /// The walk before the pair of the least key from a number on.
     pub(crate) fn seek(&self, key: u64) -> Walk<'_, P>
         requires { IsTree self.now.nodes }
@@ -95,6 +104,18 @@ impl<P: Stored, A: Allocator> Arena<P, A> {
                     at = below;
                 }
             }
+        }
+    }
+
+    /// The walk after the pair of the greatest key up to a number.
+    pub(crate) fn seek_past(&self, last: u64) -> Walk<'_, P>
+        requires { IsTree self.now.nodes }
+        ensures walk { IsWalk self.now.nodes result }
+        ensures at { IsAt self.now.nodes (steps_of result) (last + 1) }
+    {
+        match last.checked_add(1) {
+            Some(end) => self.seek(end),
+            None => self.ending(),
         }
     }
 
@@ -131,6 +152,52 @@ impl<P: Stored, A: Allocator> Arena<P, A> {
                     });
                     walk.at = below;
                     walk.from = 0;
+                    walk.sight = self.nodes.sight(walk.at);
+                }
+            }
+        }
+    }
+
+    /// The pair before. The walk is before it then.
+    #[inline(always)]
+    pub(crate) fn back_along<'a>(&'a self, walk: &mut Walk<'a, P>) -> Option<(u64, &'a P)>
+        requires tree { IsTree self.now.nodes }
+        requires walk { IsWalk self.now.nodes walk.old }
+        ensures walk { IsWalk self.now.nodes walk.new }
+        ensures last { (end : ℕ) → IsAt self.now.nodes (steps_of walk.old) end
+            → MatchOption result ((q : ℕ) → q < end → map.get (pairs_of self.now.nodes) q ≡ None)
+            (λ r. IsGreatestPair (pairs_of self.now.nodes) end r.0 r.1.now × IsAt self.now.nodes (steps_of walk.new) r.0) }
+    {
+        'steps: loop {
+            let Some(last) = walk.sight.last_below(walk.from) else {
+                let Some(branch) = walk.above.pop() else {
+                    return None;
+                };
+                walk.at = branch.node;
+                walk.from = branch.from - 1;
+                walk.sight = self.nodes.sight(walk.at);
+                continue 'steps;
+            };
+            let Some((byte, child)) = walk.sight.first_from(last as usize) else {
+                unreachable!()
+            };
+            match child {
+                Next::Blank => unreachable!(),
+                Next::Value(key, value) => {
+                    walk.from = byte as usize;
+                    return Some((key, value));
+                }
+                Next::Leaf(_, key, value) => {
+                    walk.from = byte as usize;
+                    return Some((key, value));
+                }
+                Next::Node(below) => {
+                    walk.above.push(Branch {
+                        node: walk.at,
+                        from: byte as usize + 1,
+                    });
+                    walk.at = below;
+                    walk.from = 256;
                     walk.sight = self.nodes.sight(walk.at);
                 }
             }
@@ -175,25 +242,16 @@ impl<A: Allocator> Arena<u64, A> {
         }
     }
 
-    /// The pair of the greatest key up to a number, itself included. The numbers from the best key so far to the last one
-    /// that may have a pair are halved, so it takes at most 65 descents.
+    /// The pair of the greatest key up to a number, itself included.
     pub(crate) fn last_to(&self, last: u64) -> Option<(u64, u64)>
         requires { IsTree self.now.nodes }
         ensures { IsGreatest (pairs_of self.now.nodes) (last + 1) result }
     {
-        let mut best = match self.first_from(0) {
-            Some(pair) if pair.0 <= last => pair,
-            _ => return None,
-        };
-        let mut end = last;
-        while best.0 < end {
-            let middle = end - (end - best.0) / 2;
-            match self.first_from(middle) {
-                Some(pair) if pair.0 <= end => best = pair,
-                _ => end = middle - 1,
-            }
+        let mut walk = self.seek_past(last);
+        match self.back_along(&mut walk) {
+            Some((key, value)) => Some((key, *value)),
+            None => None,
         }
-        Some(best)
     }
 
     /// Writes the pairs with start <= key < end, ascending, as many as fit, and gives their number.

@@ -2,7 +2,7 @@
 ghost use Rattle.std.specs.Prelude.{◌≡◌, ℕ, ◌≤◌, None, Some, IfSome, MatchOption};
 ghost use Rattle.std.specs.FinMap as map;
 ghost use Rattle.slab.specs.Slab.{get};
-ghost use Rattle.congee.specs.forms.Bytes.{IsFirst};
+ghost use Rattle.congee.specs.forms.Bytes.{IsFirst, IsLastBelow};
 ghost use Rattle.congee.specs.forms.Forms.{children_of};
 ghost use Rattle.congee.specs.owned.Arena.{Nodes};
 ghost use Rattle.congee.specs.owned.Sights.{HasKey, HasLeaf, Sees, child_of};
@@ -79,6 +79,26 @@ impl<'a, P: Stored> Sight<'a, P> {
                 None => None,
                 Some((byte, value)) => Some((byte, Next::Value(least | byte as u64, value))),
             },
+        }
+    }
+
+    /// The greatest byte below `end` under which something hangs.
+    #[inline(always)]
+    pub(crate) fn last_below(&self, end: usize) -> Option<u8>
+        requires { end ≤ 256 }
+        ensures { (s : Nodes P) (at : ℕ) (x : Form ℕ P) → Sees s at self.now → get s at ≡ Some x → IsLastBelow (children_of x) end result }
+    {
+        match *self {
+            Sight::Inline(ref lone) => {
+                let last = lone.key[MAX_PREFIX_LEN];
+                if end > last as usize {
+                    Some(last)
+                } else {
+                    None
+                }
+            }
+            Sight::Inner(_, n) => n.last_below(end),
+            Sight::Leaf(_, n) => n.last_below(end),
         }
     }
 }

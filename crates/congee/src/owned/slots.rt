@@ -10,9 +10,9 @@ use crate::forms::child::Child;
 use crate::keys::KEY_BYTES;
 use crate::owned::arena::Stored;
 use crate::owned::entries::{Hung, LoneRef};
+use crate::owned::inline_leaf::Lone;
 use crate::owned::inner::Inner;
 use crate::owned::leaf_node::LeafNode;
-use crate::owned::lone::Lone;
 use std::alloc::{AllocError, Global};
 
 /// A node with a slot of its own. A child of an inner node is a node by its slot, or a leaf with one value.

@@ -28,7 +28,7 @@ use std::alloc::{AllocError, Global};
 /// An ordered map from 64-bit numbers to words for one thread.
 #[derive(Drop)]
 pub struct U64Congee<V, A: Allocator = DefaultAllocator> {
-    tree: Congee<u64, V, A, NoDrain>,
+    pub(super) tree: Congee<u64, V, A, NoDrain>,
 }
 
 impl<V: Word64, A: Allocator> U64Congee<V, A> {

@@ -2,7 +2,7 @@
 ghost use Rattle.std.specs.Prelude.{◌≡◌, ◌≢◌, ◌≤◌, ◌<◌, ℕ, false, MatchOption, None, Some, IsSome, IfOk, OnOk, OnErr};
 ghost use Rattle.std.specs.Option.{option_copied};
 ghost use Rattle.std.specs.FinMap as map;
-ghost use Rattle.congee.specs.forms.Bytes.{IsFirst};
+ghost use Rattle.congee.specs.forms.Bytes.{IsFirst, IsLastBelow};
 ghost use Rattle.congee.specs.forms.Forms.{capacity_of, next_form};
 ghost use Rattle.congee.specs.owned.Values.{form_in, kept_in, full_in, Refills};
 ghost use Rattle.congee.specs.protocol.Steps.{form_below};
@@ -170,6 +170,20 @@ impl<X: Default + Small> Values<X> {
             Values::N16(n) => n.values.first_from(from),
             Values::N48(n) => n.values.first_from(from),
             Values::N256(n) => n.values.first_from(from),
+        }
+    }
+
+    /// The greatest byte below `end` that has a value.
+    #[inline(always)]
+    pub(crate) fn last_below(&self, end: usize) -> Option<u8>
+        requires { end ≤ 256 }
+        ensures { IsLastBelow (kept_in self.now) end result }
+    {
+        match self {
+            Values::N4(n) => n.last_below(end),
+            Values::N16(n) => n.values.last_below(end),
+            Values::N48(n) => n.values.last_below(end),
+            Values::N256(n) => n.values.last_below(end),
         }
     }
 

@@ -10,7 +10,7 @@ use Rattle.congee.specs.owned.Slots.{inner_child, lone_in, nodes_in, with_childr
 use Rattle.congee.specs.owned.Storage.{HasKind, IsStored}
 use Rattle.congee.specs.owned.Stores.{IsAlone, LeavesRoot}
 use Rattle.congee.specs.declared.forms.base_node.Node.{Node}
-use Rattle.congee.specs.declared.owned.lone.Lone.{Lone}
+use Rattle.congee.specs.declared.owned.inline_leaf.Lone.{Lone}
 use Rattle.congee.specs.declared.owned.slots.Slot.{Slot}
 use Rattle.congee.specs.declared.owned.slots.Slot.TheVariants.{Inner, Leaf}
 use Rattle.congee.proofs.lemmas.forms.MappedLemmas.{mapped_empty}

@@ -127,18 +127,18 @@ module _ {P : Type 0} (s : Nodes P) where
   child_there n b x c d e f g = rw (e, f, g) refl
 
   -- the keys ahead of one step more
-  ahead_split : (steps : List Branch) (a : Branch) (key : List ℕ) → IsAhead s (steps ++ a ∷ []) key → IsAhead s steps key ⊎ HasAhead s a key
+  pub ahead_split : (steps : List Branch) (a : Branch) (key : List ℕ) → IsAhead s (steps ++ a ∷ []) key → IsAhead s steps key ⊎ HasAhead s a key
   ahead_split [] a key h = elim h [ inl c ↦ inr c | inr none ↦ absurd none ]
   ahead_split (b ∷ rest) a key h = elim h [
     | inl c ↦ inl (inl c)
     | inr r ↦ elim (ahead_split rest a key r) [ inl x ↦ inl (inr x) | inr y ↦ inr y ]
   ]
 
-  ahead_left : (steps : List Branch) (a : Branch) (key : List ℕ) → IsAhead s steps key → IsAhead s (steps ++ a ∷ []) key
+  pub ahead_left : (steps : List Branch) (a : Branch) (key : List ℕ) → IsAhead s steps key → IsAhead s (steps ++ a ∷ []) key
   ahead_left [] a key h = absurd h
   ahead_left (b ∷ rest) a key h = elim h [ inl c ↦ inl c | inr r ↦ inr (ahead_left rest a key r) ]
 
-  ahead_right : (steps : List Branch) (a : Branch) (key : List ℕ) → HasAhead s a key → IsAhead s (steps ++ a ∷ []) key
+  pub ahead_right : (steps : List Branch) (a : Branch) (key : List ℕ) → HasAhead s a key → IsAhead s (steps ++ a ∷ []) key
   ahead_right [] a key h = inl h
   ahead_right (b ∷ rest) a key h = inr (ahead_right rest a key h)
 
@@ -176,7 +176,8 @@ module _ {P : Type 0} (s : Nodes P) where
       let l : HangsBelow s (branch_at n (byte + 1)) (branch_at below 0) = record { byte = byte; passed = omega arith; bound = b; hangs = e } in
       cursor_longer steps (branch_at n (byte + 1)) (branch_at below 0) l (omega arith) (cursor_moved steps n from (byte + 1) b h)
 
-none_of : {X : Type 0} (o : Option X) → (IsSome o → ⊥) → o ≡ None
+-- where nothing may be there is nothing
+pub none_of : {X : Type 0} (o : Option X) → (IsSome o → ⊥) → o ≡ None
 none_of None h = refl
 none_of (Some x) h = absurd (h refl)
 
@@ -212,18 +213,18 @@ module _ {P : Type 0} (s : Nodes P) (t : IsTree s) where
       absurd (cc (h, none))
 
   -- goes on to a child
-  finds_child : (q n : ℕ) → IsSome (map.get (pairs_of s) q) → ContainsKey s n → fits (heap_of s n).prefix (key_bytes q) ≡ true
+  pub finds_child : (q n : ℕ) → IsSome (map.get (pairs_of s) q) → ContainsKey s n → fits (heap_of s n).prefix (key_bytes q) ≡ true
       → child_for (heap_of s n) (key_bytes q) ≡ Nothing → ⊥
   finds_child q n h c f e = absent q h (at_free s (key_bytes q) n t (record { stands = c; fitted = f }) e)
 
   -- and has the prefix of a node there
-  fits_child : (q n below : ℕ) → IsSome (map.get (pairs_of s) q) → ContainsKey s n → fits (heap_of s n).prefix (key_bytes q) ≡ true
+  pub fits_child : (q n below : ℕ) → IsSome (map.get (pairs_of s) q) → ContainsKey s n → fits (heap_of s n).prefix (key_bytes q) ≡ true
       → child_for (heap_of s n) (key_bytes q) ≡ Below below → fits (heap_of s below).prefix (key_bytes q) ≡ true
   fits_child q n below h c f e = on_test (fits (heap_of s below).prefix (key_bytes q)) (λ y. y)
       (λ no. absurd (absent q h (at_apart s (key_bytes q) n below t (record { stands = c; fitted = f }) e no)))
 
   -- numbers with one prefix are in the order of the byte that follows it
-  less_at : (n k q : ℕ) → ContainsKey s n → k < 2 ^ 64 → q < 2 ^ 64 → fits (heap_of s n).prefix (key_bytes k) ≡ true → fits (heap_of s n).prefix (key_bytes q) ≡ true
+  pub less_at : (n k q : ℕ) → ContainsKey s n → k < 2 ^ 64 → q < 2 ^ 64 → fits (heap_of s n).prefix (key_bytes k) ≡ true → fits (heap_of s n).prefix (key_bytes q) ≡ true
       → get_or (key_bytes k) (length (heap_of s n).prefix) 0 < get_or (key_bytes q) (length (heap_of s n).prefix) 0 → k < q
   less_at n k q c lk lq fk fq l =
       let b = short_prefix s t n c in
@@ -238,13 +239,13 @@ module _ {P : Type 0} (s : Nodes P) (t : IsTree s) where
   ]
 
   -- what hangs below a step
-  child_of : (a b : Branch) → ContainsKey s a.node → (l : HangsBelow s a b) → IsChild (notes_of s t.parent) (heap_of s) a.node l.byte b.node
+  pub child_of : (a b : Branch) → ContainsKey s a.node → (l : HangsBelow s a b) → IsChild (notes_of s t.parent) (heap_of s) a.node l.byte b.node
   child_of a b c l = t.tree.down a.node l.byte b.node (linked_of s t.parent a.node c) l.hangs
 
-  child_stands : (a b : Branch) → ContainsKey s a.node → HangsBelow s a b → ContainsKey s b.node
+  pub child_stands : (a b : Branch) → ContainsKey s a.node → HangsBelow s a b → ContainsKey s b.node
   child_stands a b c l = stands_of s t.parent b.node (child_of a b c l).linked
 
-  root_stands : (a : Branch) → a.node ≡ 0 → ContainsKey s a.node
+  pub root_stands : (a : Branch) → a.node ≡ 0 → ContainsKey s a.node
   root_stands a e = subst (ContainsKey s) (sym e) (stands_of s t.parent 0 t.tree.root)
 
   on_last : (a : Branch) (steps : List Branch) (b : Branch) → ContainsKey s a.node → IsDescent s a (steps ++ b ∷ []) → (above : ℕ) → above ≤ length (heap_of s a.node).prefix
@@ -294,7 +295,7 @@ module _ {P : Type 0} (s : Nodes P) (t : IsTree s) where
       let same : get_or key (length (heap_of s a.node).prefix) 0 ≡ l.byte = fits_byte (heap_of s b.node).prefix key (length (heap_of s a.node).prefix) f i.longer ∙ i.byte in
       (fits_trans (heap_of s a.node).prefix (heap_of s b.node).prefix key i.fitted f, omega (arith, same, l.passed))
 
-  passed_on : (a : Branch) (steps : List Branch) (b : Branch) (key : List ℕ) → ContainsKey s a.node → IsDescent s a (steps ++ b ∷ []) → fits (heap_of s b.node).prefix key ≡ true
+  pub passed_on : (a : Branch) (steps : List Branch) (b : Branch) (key : List ℕ) → ContainsKey s a.node → IsDescent s a (steps ++ b ∷ []) → fits (heap_of s b.node).prefix key ≡ true
       → (fits (heap_of s a.node).prefix key ≡ true) × (get_or key (length (heap_of s a.node).prefix) 0 < a.from)
   passed_on a [] b key c h f = passed_by a b key c h.0 f
   passed_on a (d ∷ rest) b key c h f = passed_by a d key c h.0 (passed_on d rest b key (child_stands a d c h.0) h.1 f).0
@@ -315,7 +316,7 @@ module _ {P : Type 0} (s : Nodes P) (t : IsTree s) where
     | inr r ↦ on_after d rest b k q (child_stands a d c h.0) h.1 lk lq f r
   ]
 
-  comes_before : (steps : List Branch) (b : Branch) (k q : ℕ) → IsCursor s (steps ++ b ∷ []) → k < 2 ^ 64 → q < 2 ^ 64
+  pub comes_before : (steps : List Branch) (b : Branch) (k q : ℕ) → IsCursor s (steps ++ b ∷ []) → k < 2 ^ 64 → q < 2 ^ 64
       → fits (heap_of s b.node).prefix (key_bytes k) ≡ true → IsAhead s steps (key_bytes q) → k < q
   comes_before [] b k q h lk lq f ahead = absurd ahead
   comes_before (a ∷ rest) b k q h lk lq f ahead = on_after a rest b k q (root_stands a h.0) h.1 lk lq f ahead
@@ -379,7 +380,7 @@ module _ {P : Type 0} (s : Nodes P) (t : IsTree s) where
       }
 
   -- a leaf has one key for a byte
-  one_key : (n byte k q : ℕ) (x : P) → ContainsKey s n → k < 2 ^ 64 → q < 2 ^ 64 → (heap_of s n).children byte ≡ Holds x
+  pub one_key : (n byte k q : ℕ) (x : P) → ContainsKey s n → k < 2 ^ 64 → q < 2 ^ 64 → (heap_of s n).children byte ≡ Holds x
       → fits (heap_of s n).prefix (key_bytes k) ≡ true → fits (heap_of s n).prefix (key_bytes q) ≡ true
       → get_or (key_bytes k) (length (heap_of s n).prefix) 0 ≡ get_or (key_bytes q) (length (heap_of s n).prefix) 0 → q ≡ k
   one_key n byte k q x c lk lq e f g same =

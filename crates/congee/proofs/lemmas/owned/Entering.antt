@@ -12,7 +12,7 @@ use Rattle.congee.specs.declared.forms.child.Child.{Child}
 use Rattle.congee.specs.declared.owned.entries.Entry.{Entry}
 use Rattle.congee.specs.declared.owned.entries.Entry.TheVariants.{Blank, Node as Sub, Leaf}
 use Rattle.congee.specs.declared.owned.entries.Tail.{Tail}
-use Rattle.congee.specs.declared.owned.lone.Lone.{Lone}
+use Rattle.congee.specs.declared.owned.inline_leaf.Lone.{Lone}
 use Rattle.congee.specs.declared.owned.places.Places.{Places}
 use Rattle.congee.specs.declared.owned.places.Places.TheVariants.{N4, N16, N48, N256}
 use Rattle.congee.proofs.lemmas.forms.Full.{full_at}

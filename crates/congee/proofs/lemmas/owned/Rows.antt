@@ -25,7 +25,7 @@ use Rattle.congee.specs.declared.owned.entries.Entry.TheVariants.{Blank, Node as
 use Rattle.congee.specs.declared.owned.entries.Tail.{Tail}
 use Rattle.congee.specs.declared.owned.inner.Row.{Row}
 use Rattle.congee.specs.declared.owned.inner.Row.TheVariants.{Few, Wide}
-use Rattle.congee.specs.declared.owned.lone.Lone.{Lone}
+use Rattle.congee.specs.declared.owned.inline_leaf.Lone.{Lone}
 use Rattle.congee.specs.declared.owned.places.Places.{Places}
 use Rattle.congee.specs.declared.owned.sight.Stem.{Stem}
 use Rattle.congee.specs.declared.owned.writing.Written.{Written}

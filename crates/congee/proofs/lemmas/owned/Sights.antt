@@ -20,7 +20,7 @@ use Rattle.congee.specs.owned.Stores.{StandsWith}
 use Rattle.congee.specs.declared.forms.base_node.Node.{Node}
 use Rattle.congee.specs.declared.forms.child.Child.{Child}
 use Rattle.congee.specs.declared.forms.child.Child.TheVariants.{Value}
-use Rattle.congee.specs.declared.owned.lone.Lone.{Lone}
+use Rattle.congee.specs.declared.owned.inline_leaf.Lone.{Lone}
 use Rattle.congee.specs.declared.owned.slots.Slot.{Slot}
 use Rattle.congee.specs.declared.owned.slots.Slot.TheVariants.{Inner, Leaf}
 use Rattle.congee.proofs.lemmas.Fits.{fits_byte}
@@ -71,7 +71,8 @@ leaf_seven s inline i k x n g q = subst HasKind (g ∙ ap Some q) (k.kinds i)
 -- the first child from a byte on, as the tree sees it
 module _ {P : Type 0} (s : Nodes P) (at from : ℕ) (x : Node ℕ P) (h : get s at ≡ Some x) where
   module _ (slot : ℕ) (n : Node ℕ (Lone P)) (k : SeesInner s at slot n) where
-    inner_map : mapped (inner_child slot) (children_of n) ≡ children_of x
+    -- the children that the tree sees are those that were read, changed by their bytes
+    pub inner_map : mapped (inner_child slot) (children_of n) ≡ children_of x
     inner_map =
         let z : Some (with_children (inner_child slot) n) ≡ Some x = sym k.is ∙ h in
         let e : with_children (inner_child slot) n ≡ x = cc in
@@ -86,7 +87,8 @@ module _ {P : Type 0} (s : Nodes P) (at from : ℕ) (x : Node ℕ P) (h : get s 
     inner_last f b l = ap (λ m. map.get m b) (sym inner_map) ∙ none_mapped (inner_child slot) (children_of n) b (f b l)
 
   module _ (least : ℕ) (n : Node ℕ P) (k : SeesLeaf s at least n) where
-    leaf_map : mapped leaf_child (children_of n) ≡ children_of x
+    -- and those of a leaf
+    pub leaf_map : mapped leaf_child (children_of n) ≡ children_of x
     leaf_map =
         let z : Some (with_children leaf_child n) ≡ Some x = sym k.is ∙ h in
         let e : with_children leaf_child n ≡ x = cc in

@@ -12,7 +12,7 @@ use Rattle.congee.specs.owned.Slots.{in_slot, lone_in, node_named, nodes_in}
 use Rattle.congee.specs.owned.Storage.{IsStored}
 use Rattle.congee.specs.declared.forms.child.Child.{Child}
 use Rattle.congee.specs.declared.forms.child.Child.TheVariants.{Blank, Node as Sub, Value}
-use Rattle.congee.specs.declared.owned.lone.Lone.{Lone}
+use Rattle.congee.specs.declared.owned.inline_leaf.Lone.{Lone}
 use Rattle.congee.specs.declared.owned.slots.Slot.{Slot}
 use Rattle.congee.specs.declared.owned.slots.Slot.TheVariants.{Inner, Leaf}
 use Rattle.congee.proofs.lemmas.owned.Sizes.{bytes_named}

@@ -13,7 +13,7 @@ use Rattle.congee.specs.owned.Slots.{inner_child, leaf_child, lone_node, with_ch
 use Rattle.congee.specs.owned.Storage.{HasKind, IsStored}
 use Rattle.congee.specs.declared.forms.base_node.Node.{Node}
 use Rattle.congee.specs.declared.forms.child.Child.{Child}
-use Rattle.congee.specs.declared.owned.lone.Lone.{Lone}
+use Rattle.congee.specs.declared.owned.inline_leaf.Lone.{Lone}
 use Rattle.congee.specs.declared.owned.slots.Slot.{Slot}
 use Rattle.congee.specs.declared.owned.slots.Slot.TheVariants.{Inner, Leaf}
 use Rattle.std.proofs.lemmas.List.{length-take-le}

@@ -21,7 +21,7 @@ use Rattle.congee.specs.owned.Stores.{CoversLeaf, HangsLeaf, LosesLeaf, HasInlin
 use Rattle.congee.specs.declared.forms.base_node.Node.{Node}
 use Rattle.congee.specs.declared.forms.child.Child.{Child}
 use Rattle.congee.specs.declared.forms.child.Child.TheVariants.{Blank, Node as Sub, Value}
-use Rattle.congee.specs.declared.owned.lone.Lone.{Lone}
+use Rattle.congee.specs.declared.owned.inline_leaf.Lone.{Lone}
 use Rattle.congee.specs.declared.owned.slots.Slot.{Slot}
 use Rattle.congee.specs.declared.owned.slots.Slot.TheVariants.{Inner}
 use Rattle.congee.proofs.lemmas.Tree.{same_or_not}

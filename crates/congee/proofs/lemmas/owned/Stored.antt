@@ -15,7 +15,7 @@ use Rattle.congee.specs.owned.Slots.{inner_child, leaf_child, lone_node, with_ch
 use Rattle.congee.specs.declared.forms.base_node.Node.{Node}
 use Rattle.congee.specs.declared.forms.child.Child.{Child}
 use Rattle.congee.specs.declared.forms.child.Child.TheVariants.{Blank, Node as Sub, Value}
-use Rattle.congee.specs.declared.owned.lone.Lone.{Lone}
+use Rattle.congee.specs.declared.owned.inline_leaf.Lone.{Lone}
 use Rattle.congee.specs.declared.owned.slots.Slot.{Slot}
 use Rattle.congee.specs.declared.owned.slots.Slot.TheVariants.{Inner, Leaf}
 use Rattle.std.specs.Borrow.{Bor}
@@ -392,7 +392,8 @@ module _ {P : Type 0} (v : Nodes P) (name : ℕ) (lone : Lone P) (e : get v name
   lone_same : lone_node lone ≡ x
   lone_same = let z : Some (lone_node lone) ≡ Some x = sym e ∙ h in cc
 
-  lone_beside : (q : ℕ) → q ≢ get_or lone.key 7 0 → map.get (children_of x) q ≡ None
+  -- a leaf with one value has nothing under other bytes
+  pub lone_beside : (q : ℕ) → q ≢ get_or lone.key 7 0 → map.get (children_of x) q ≡ None
   lone_beside q ne = ap (λ n. map.get (children_of n) q) (sym lone_same) ∙ (insert_beside map.empty (get_or lone.key 7 0) (Value lone.value) q ne ∙ map.get-empty _ q)
 
   -- a leaf with one value has it first from its last byte, or one before it, on

@@ -19,7 +19,7 @@ use Rattle.congee.specs.declared.forms.base_node.NodeType.{NodeType}
 use Rattle.congee.specs.declared.forms.base_node.NodeType.TheVariants.{N4, N16, N48, N256}
 use Rattle.congee.specs.declared.forms.child.Child.{Child}
 use Rattle.congee.specs.declared.forms.child.Child.TheVariants.{Node as Sub, Value}
-use Rattle.congee.specs.declared.owned.lone.Lone.{Lone}
+use Rattle.congee.specs.declared.owned.inline_leaf.Lone.{Lone}
 use Rattle.congee.specs.declared.owned.slots.Slot.{Slot}
 use Rattle.congee.proofs.lemmas.Fits.{other_test}
 use Rattle.congee.proofs.lemmas.Tree.{same_or_not}

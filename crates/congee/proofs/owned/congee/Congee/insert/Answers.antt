@@ -5,10 +5,10 @@ use Rattle.congee.proofs.owned.congee.Congee.insert.Goals as goal
 pub returns-in-Ok-clause-inserts : goal.returns-in-Ok-clause-inserts
 returns-in-Ok-clause-inserts g c =
     let told = inserts g.A.Allocator.charged_of g.A.Allocator.limit_of c.self.inside.drainer c.self.inside.arena c.insert.new.self (g.K.Word64.word c.args.key) c.bytes_of_key-bytes.ensures.small c.bytes_of_key-bytes.result c.bytes_of_key-bytes.ensures.bytes c.in-Ok.before c.to_word.result c.in-Ok.ensures.adds in
-    (c.in-Ok.before, c.word_of.ensures, rw (← c.self.view_is, ← c.to_word.ensures) told)
+    (c.in-Ok.before, c.word_of.ensures, rw (← c.self.view_is, ← c.to_word.ensures.number) told)
 
 pub returns-in-Ok-clause-put : goal.returns-in-Ok-clause-put
-returns-in-Ok-clause-put g c = rw (← c.to_word.ensures) (sym (found_at c.insert.new.self (g.K.Word64.word c.args.key) c.bytes_of_key-bytes.ensures.small c.bytes_of_key-bytes.result c.bytes_of_key-bytes.ensures.bytes (Some c.to_word.result) (sym c.in-Ok.ensures.adds.edits.change.now)))
+returns-in-Ok-clause-put g c = rw (← c.to_word.ensures.number) (sym (found_at c.insert.new.self (g.K.Word64.word c.args.key) c.bytes_of_key-bytes.ensures.small c.bytes_of_key-bytes.result c.bytes_of_key-bytes.ensures.bytes (Some c.to_word.result) (sym c.in-Ok.ensures.adds.edits.change.now)))
 
 pub invariant_of-self : goal.invariant_of-self
 invariant_of-self g c =

@@ -7,7 +7,7 @@ use Rattle.congee.specs.owned.Kinds.{HasLowBytes}
 use Rattle.congee.specs.owned.Naming.{offset_of}
 use Rattle.congee.specs.owned.Slots.{inner_child, leaf_child, lone_node, slot_node}
 use Rattle.congee.specs.declared.forms.child.Child.TheVariants.{Value}
-use Rattle.congee.specs.declared.owned.lone.Lone.{Lone}
+use Rattle.congee.specs.declared.owned.inline_leaf.Lone.{Lone}
 use Rattle.congee.specs.declared.owned.slots.Slot.{Slot}
 use Rattle.congee.specs.declared.owned.slots.Slot.TheVariants.{Inner, Leaf}
 use Rattle.congee.proofs.lemmas.Tree.{same_or_not}

@@ -1,0 +1,25 @@
+use Rattle.std.proofs.Common.{ap, sym, false, ◌∙◌, arith}
+use Rattle.std.specs.Option.{option_map}
+use Rattle.congee.proofs.lemmas.owned.Contents.{computes, refuses, denied_tree, denied_bytes, denied_branch}
+use Rattle.congee.proofs.owned.congee.Congee.update_or_insert.Goals as goal
+
+pub returns-in-Ok-clause-inserts : goal.returns-in-Ok-clause-inserts
+returns-in-Ok-clause-inserts g c =
+    let told = computes g.A.Allocator.charged_of g.A.Allocator.limit_of c.self.inside.drainer c.self.inside.arena c.insert.new.self (g.K.Word64.word c.args.key) c.bytes_of_key-bytes.ensures.small c.bytes_of_key-bytes.result c.bytes_of_key-bytes.ensures.bytes c.in-Ok.before c.copied-old.result c.to_word-word.result (c.copied-old.ensures ∙ c.get.ensures) c.in-Ok.ensures.adds in
+    let found = c.word_of-in-Ok.ensures ∙ ap (option_map g.V.Word64.of_word) told.0 in
+    (c.copied-old.result, c.f-new.result, found, rw (found ∙ sym c.word_of.ensures) c.f-new.ensures, rw (← c.self.view_is, ← c.to_word-word.ensures.number) told.1)
+
+pub invariant_of-self : goal.invariant_of-self
+invariant_of-self g c =
+    let adds = c.in-Ok.ensures.adds in
+    (adds.edits.tree, omega (arith, adds.edits.balance, c.self.invariant.1), adds.filled false c.self.invariant.2)
+
+pub invariant_of-self-2 : goal.invariant_of-self-2
+invariant_of-self-2 g c = (
+  denied_tree _ _ _ _ _ _ _ _ c.self.invariant.0 c.in-Err.ensures.refused,
+  omega (arith, denied_bytes _ _ _ _ _ _ _ _ c.in-Err.ensures.refused, c.in-Err.ensures.refused.balance, c.self.invariant.1),
+  denied_branch _ _ _ _ _ _ _ _ c.in-Err.ensures.refused c.self.invariant.2,
+)
+
+pub returns-clause-refused : goal.returns-clause-refused
+returns-clause-refused g c = rw (← c.self.view_is) (refuses g.A.Allocator.charged_of g.A.Allocator.limit_of c.self.inside.drainer c.self.inside.arena c.insert.new.self (g.K.Word64.word c.args.key) c.bytes_of_key-bytes.ensures.small c.bytes_of_key-bytes.result c.bytes_of_key-bytes.ensures.bytes c.to_word-word.result (c.in-Err.e, c.in-Err.field-0-1) c.in-Err.ensures.refused)
