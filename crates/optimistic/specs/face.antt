@@ -1,7 +1,9 @@
 pub mod Calls
 pub mod Computes
+pub mod Many
 pub mod Refusals
 pub mod Scans
+pub mod Walks
 pub mod Words
 pub mod Workers
 pub mod Writes

@@ -12,5 +12,7 @@ pub mod Sets
 pub mod Sights
 pub mod Sizes
 pub mod Takes
+pub mod Trails
 pub mod Trees
+pub mod Wholes
 pub mod Writes

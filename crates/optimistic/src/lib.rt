@@ -13,6 +13,7 @@ mod words;
 
 pub use drain::{Locked, Pair, Pairs, Undrained};
 pub use face::{
-    Congee, LEAST_WORDS, MOST_WORDS, Refusal, Retired, Seen, U64Congee, Unopened, WordWorker,
-    Worker,
+    Congee, LEAST_WORDS, MOST_WORDS, Refusal, Retired, Seen, U64Congee, Uninserted, Unopened, Walk,
+    WordWorker, Worker,
 };
+pub use tree::Unscanned;

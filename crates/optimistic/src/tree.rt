@@ -3,16 +3,19 @@
 //! Each node says in its second word which keys it covers. So the way down to a node is only a guess: a reader that finds
 //! at one version of a node that it covers the key, and that its child there doesn't, has its answer.
 
+mod back;
 mod branch;
 mod child;
 mod close;
 mod fresh;
+mod gaps;
 mod get;
+mod last;
 mod lift;
 mod lock;
 mod locked;
 pub(crate) mod names;
-mod next;
+pub(crate) mod next;
 pub(crate) mod place;
 mod put;
 mod reach;
@@ -22,10 +25,14 @@ mod set;
 mod sizes;
 mod split;
 mod stores;
+pub(crate) mod trail;
+mod used;
+mod whole;
 mod write;
 
 pub use fresh::Free;
 pub use get::{ATTEMPTS, TOP, Tree};
 pub use reshape::Want;
 pub use set::Set;
+pub use whole::Unscanned;
 pub use write::{Condition, Write};

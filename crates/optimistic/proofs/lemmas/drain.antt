@@ -1,4 +1,5 @@
 pub mod Keys
 pub mod Leasts
 pub mod Ends
+pub mod Gives
 pub mod Lists

@@ -1,4 +1,5 @@
 pub mod Apart
+pub mod Backs
 pub mod Between
 pub mod Blank
 pub mod Branching
@@ -20,4 +21,6 @@ pub mod Reshaping
 pub mod Setting
 pub mod Splitting
 pub mod Taking
+pub mod Wholes
 pub mod Writing
+pub mod Trails

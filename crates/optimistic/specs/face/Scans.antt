@@ -1,13 +1,16 @@
 -- What scans tell: pairs that stood at moments within the call. A moment is a log of decided calls that begins with all that the worker had
 -- seen when it called, and with which all begins that it has seen in the end.
-use Rattle.std.specs.Prelude.{◌≡◌, ◌≢◌, ◌⊎◌, ℕ, ◌^◌, ◌<◌, ◌≤◌, List, [], ◌∷◌, length, Bool, MatchBool, Option, None, Some}
+use Rattle.std.specs.Prelude.{◌≡◌, ◌≢◌, ◌⊎◌, ℕ, ◌+◌, ◌-◌, ◌^◌, ◌<◌, ◌≤◌, min, List, [], ◌∷◌, length, Bool, MatchBool, Option, None, Some}
 use Rattle.std.specs.List.{AllPairs, Contains}
 use Rattle.optimistic.specs.declared.drain.nexts.Pair.{Pair}
 use Rattle.optimistic.specs.declared.words.rule.Entry.{Entry}
 use Rattle.optimistic.specs.words.Kept.{value_of, StartsWith}
 use Rattle.optimistic.specs.tree.Drained.{pair_of}
-use Rattle.optimistic.specs.tree.Nexts.{IsFirst, HasNone}
-use Rattle.optimistic.specs.face.Calls.{Known, Saw, Looked}
+use Rattle.optimistic.specs.declared.tree.trail.Told.{Told}
+use Rattle.optimistic.specs.tree.Nexts.{IsFirst, IsLast, HasNone}
+use Rattle.optimistic.specs.tree.Trails.{Says}
+use Rattle.optimistic.specs.tree.Wholes.{IsRange}
+use Rattle.optimistic.specs.face.Calls.{Known, Looked}
 
 -- at one moment of the call this holds of the log
 pub record Once (P : List Entry → Type 0) (v w : Known) : Type 0 where
@@ -20,6 +23,14 @@ pub record Once (P : List Entry → Type 0) (v w : Known) : Type 0 where
 abbrev pub FirstFrom : ℕ → Option Pair → Known → Known → Type 0
 FirstFrom from r v w = Looked v w × Once (λ log. IsFirst log from r) v w
 
+-- at one moment this was so of a key
+abbrev pub ToldOf : ℕ → Told → Known → Known → Type 0
+ToldOf from t v w = Looked v w × Once (λ log. Says log from t) v w
+
+-- at one moment this was the last pair below a key, or there was none
+abbrev pub LastBelow : ℕ → Option Pair → Known → Known → Type 0
+LastBelow to r v w = Looked v w × Once (λ log. IsLast log to r) v w
+
 -- at one moment no key had a value, or some key had one
 abbrev pub Emptiness : Bool → Known → Known → Type 0
 Emptiness empty v w = Looked v w × Once (λ log. MatchBool empty (HasNone log 0 (2 ^ 64)) ((key : ℕ) × (value_of key log ≢ None))) v w
@@ -28,6 +39,10 @@ Emptiness empty v w = Looked v w × Once (λ log. MatchBool empty (HasNone log 0
 abbrev pub Rise : List Entry → List Pair → List Entry → Type 0
 Rise seen [] end = StartsWith end seen
 Rise seen (p ∷ ps) end = (log : List Entry) × StartsWith log seen × (value_of p.key log ≡ Some p.value) × Rise log ps end
+
+-- at one moment these were the pairs of the keys from one on and below another, or as many as there are places, the lowest
+abbrev pub RangeAtOnce : (from to places : ℕ) → List Pair → Known → Known → Type 0
+RangeAtOnce from to places pairs v w = Once (λ log. IsRange log from to places pairs) v w
 
 -- a key had a value at each moment of the call
 abbrev pub StoodThroughout : ℕ → Known → Known → Type 0
@@ -44,3 +59,7 @@ pub record IsScan (from to places : ℕ) (v w : Known) (pairs : List Pair) : Typ
   pub inside : (p : Pair) → Contains pairs p → (from ≤ p.key) × (p.key < to)
   pub stood : Rise v.seen pairs w.seen
   pub all : (key : ℕ) → from ≤ key → key < to → StoodThroughout key v w → HasKey pairs key ⊎ ((length pairs ≡ places) × ((p : Pair) → Contains pairs p → p.key < key))
+
+-- a scan of the keys from one on and below another, with places for more than there are, finds so many pairs, or more than 64 bits can count
+abbrev pub Counts : (from to : ℕ) → ℕ → Known → Known → Type 0
+Counts from to n v w = (pairs : List Pair) × IsScan from to (length pairs + 1) v w pairs × (n ≡ min (length pairs) (2 ^ 64 - 1))

@@ -20,3 +20,7 @@ either_words of (Err e) = Err e
 abbrev pub pair_words : {K V : Type 0} → (ℕ → K) → (ℕ → V) → Option Pair → Option (K × V)
 pair_words key value None = None
 pair_words key value (Some p) = Some (key p.key, value p.value)
+
+-- a key and a value as words
+abbrev pub in_words : {K V : Type 0} → (K → ℕ) → (V → ℕ) → K × V → Pair
+in_words key value p = record { key = key p.0; value = value p.1 }

@@ -1,6 +1,6 @@
 -- The pairs of a tree that is closed.
 use Rattle.std.specs.Prelude.{◌≡◌, ◌≢◌, ◌⊎◌, ℕ, ◌^◌, ◌<◌, ◌≤◌, List, Some, unwrap_or}
-use Rattle.std.specs.List.{AllPairs, Contains}
+use Rattle.std.specs.List.{AllPairs, Contains, FoldsTo}
 use Rattle.optimistic.specs.declared.drain.nexts.Pair.{Pair}
 use Rattle.optimistic.specs.declared.drain.pairs.Pairs.{Pairs}
 use Rattle.optimistic.specs.declared.drain.pairs.Undrained.{Undrained}
@@ -56,6 +56,20 @@ pub record IsAll (seen made : List Entry) (by : ℕ) (pairs : List Pair) : Type 
   pub log : List Entry
   pub told : IsDrained log 0 (2 ^ 64) pairs
   pub comes : Comes log seen made by
+
+-- a closure was given these pairs, one after the other
+abbrev pub Given : {F : Type 0} → (F → ℕ → ℕ → F → Type 0) → F → List Pair → F → Type 0
+Given step f pairs g = FoldsTo (λ d p e. step d p.key p.value e) f pairs g
+
+-- a closure was given the pairs of the keys from the one on that was next, and below another
+pub record Gave {F : Type 0} (step : F → ℕ → ℕ → F → Type 0) (p : Pairs) (to : ℕ) (f g : F) : Type 0 where
+  pub pairs : List Pair
+  pub given : Given step f pairs g
+  pub told : (log : List Entry) → HasLog p log → IsDrained log (rest p) to pairs
+
+-- a closure was given all pairs, of one log that comes after what a thread has seen, and after its calls
+abbrev pub GaveAll : {F : Type 0} → (F → ℕ → ℕ → F → Type 0) → (seen made : List Entry) → ℕ → F → F → Type 0
+GaveAll step seen made by f g = (pairs : List Pair) × Given step f pairs g × IsAll seen made by pairs
 
 -- at the end, which comes after what a thread has seen, the root is locked, or doesn't cover each key
 pub record HasNoRoot (seen made : List Entry) (by : ℕ) : Type 0 where

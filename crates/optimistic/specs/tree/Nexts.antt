@@ -82,3 +82,8 @@ behind (Some p) = p.key + 1
 abbrev pub IsFirst : List Entry → ℕ → Option Pair → Type 0
 IsFirst log from None = HasNone log from (2 ^ 64)
 IsFirst log from (Some p) = (from ≤ p.key) × (value_of p.key log ≡ Some p.value) × HasNone log from p.key
+
+-- the last pair below a key
+abbrev pub IsLast : List Entry → ℕ → Option Pair → Type 0
+IsLast log to None = HasNone log 0 to
+IsLast log to (Some p) = (p.key < to) × (value_of p.key log ≡ Some p.value) × HasNone log (p.key + 1) to

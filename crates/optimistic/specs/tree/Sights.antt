@@ -1,15 +1,16 @@
 -- What a thread learns of the next pair from a key on as it reads a node word by word.
-use Rattle.std.specs.Prelude.{◌≡◌, ◌≢◌, ℕ, ◌≤◌, List, Option, None, Some}
+use Rattle.std.specs.Prelude.{◌≡◌, ℕ, ◌≤◌, List, None, Some}
 use Rattle.optimistic.specs.Layout.{byte_at}
 use Rattle.optimistic.specs.declared.drain.nexts.Next.{Next}
 use Rattle.optimistic.specs.declared.drain.nexts.Next.TheVariants.{Here, Down, After}
 use Rattle.optimistic.specs.declared.tree.place.Place.{Place}
+use Rattle.optimistic.specs.declared.tree.last.BackSight.{BackSight}
 use Rattle.optimistic.specs.declared.tree.next.Sight.{Sight}
 use Rattle.optimistic.specs.declared.words.rule.Entry.{Entry}
 use Rattle.optimistic.specs.declared.words.rule.Moment.{Moment}
 use Rattle.optimistic.specs.declared.words.rule.View.{View}
 use Rattle.optimistic.specs.forms.Children.{first_of, second_of, IsForm}
-use Rattle.optimistic.specs.forms.Gaps.{IsGap}
+use Rattle.optimistic.specs.forms.Gaps.{IsGap, HasOnly}
 use Rattle.optimistic.specs.words.Kept.{word_at, value_of, Since, Sound}
 use Rattle.optimistic.specs.tree.Nexts.{IsNext, UpTo}
 use Rattle.optimistic.specs.tree.Reads.{Agrees, IsPlace}
@@ -18,6 +19,10 @@ use Rattle.optimistic.specs.tree.Trees.{IsTree}
 -- the node, which was looked at meanwhile, has no child from one byte on and below another
 abbrev pub Lacks : ℕ → ℕ → ℕ → ℕ → View → View → Type 0
 Lacks node form from to v w = (f : ℕ → ℕ) → Agrees node form v w f → IsForm form f → IsGap form f from to
+
+-- each of its children is at a byte whose bit is set
+abbrev pub Only : ℕ → ℕ → List ℕ → View → View → Type 0
+Only node form masks v w = (f : ℕ → ℕ) → Agrees node form v w f → IsForm form f → HasOnly form f masks
 
 -- its children tell this of the next pair from a key on
 abbrev pub Shows : Place → ℕ → Next → View → View → Type 0
@@ -42,6 +47,18 @@ pub record IsSight (s : Sight) (from : ℕ) (v : View) : Type 0 where
   pub below : Knows from s.next v
   pub least : s.version ≤ word_at v.seen.words s.at.node 0
   pub holds : (m : Moment) → Since v.seen m → Sound IsTree m → word_at m.words s.at.node 0 ≡ s.version → Holds m.log from s.next
+
+-- what is told of the keys from one on goes up to another: it is of that key, or of none up to it
+abbrev pub Reaches : ℕ → ℕ → Next → Type 0
+Reaches to from (Here x) = from ≡ to
+Reaches to from (Down p) = Unit {0}
+Reaches to from (After last) = to ≤ last
+
+abbrev pub IsBack : ℕ → ℕ → Next → Type 0
+IsBack to from next = (from ≤ to) × Reaches to from next
+
+abbrev pub IsBackSight : ℕ → BackSight → View → Type 0
+IsBackSight to b v = IsBack to b.from b.sight.next × IsSight b.sight b.from v
 
 -- at a moment from v to w this holds of the log
 pub record Stood (P : List Entry → Type 0) (v w : View) : Type 0 where

@@ -1,10 +1,10 @@
 //! Keys that share their first bytes.
-ghost use Rattle.std.specs.Prelude.{◌≡◌, ℕ, ◌+◌, ◌-◌, ◌*◌, ◌/◌, ◌^◌, ◌<◌, ◌≤◌, ◌⊎◌, false, None};
+ghost use Rattle.std.specs.Prelude.{◌≡◌, ℕ, ◌+◌, ◌-◌, ◌*◌, ◌/◌, ◌^◌, ◌<◌, ◌≤◌, ◌⊎◌, false, None, unwrap_or};
 ghost use Rattle.optimistic.specs.Layout.{prefix_of};
 ghost use Rattle.optimistic.specs.tree.Levels.{goes_on, pair_value};
 ghost use Rattle.optimistic.specs.tree.Nexts.{IsSilent};
 
-use crate::forms::names::child_tag;
+use crate::forms::names::{child_level, child_tag};
 use crate::tree::place::Child;
 
 /// The last of the keys that have a key's first bytes, as many as the level, and then this one.
@@ -15,6 +15,15 @@ pub fn last_key(key: u64, level: u64, byte: u8) -> u64
     let shift = 56 - 8 * level;
     let first_bytes = (key >> shift) / 256 * 256 + byte as u64;
     (first_bytes << shift) | ((1 << shift) - 1)
+}
+
+/// The first of the keys that have a key's first bytes, as many as the level, and then this one.
+pub fn first_key(key: u64, level: u64, byte: u8) -> u64
+    requires { level < 8 }
+    ensures { result ≡ (prefix_of key level * 256 + byte) * 2 ^ (56 - 8 * level) }
+{
+    let shift = 56 - 8 * level;
+    ((key >> shift) / 256 * 256 + byte as u64) << shift
 }
 
 /// Of a child that says nothing of a key: no key before this one with the same first byte, from that key on, has a word of
@@ -39,4 +48,24 @@ fn same_first_byte(child: Child, key: u64) -> u64
     ensures { result ≡ key / 2 ^ 56 * 2 ^ 56 + child.first / 256 }
 {
     (key >> 56 << 56) + (child.first >> 8)
+}
+
+/// The last key of which a child may say something, if it has the first byte of `key`.
+pub fn last_of(child: Child, key: u64) -> u64 {
+    let tag = child_tag(child.first);
+    if tag == 0 {
+        return same_first_byte(child, key);
+    }
+    if tag < 9 {
+        child.second | (u64::MAX >> (8 * child_level(child.first)))
+    } else {
+        same_first_byte(child, key)
+    }
+}
+
+/// The key behind one, if it isn't the last.
+pub fn key_after(key: u64) -> Option<u64>
+    ensures { unwrap_or result (2 ^ 64) ≡ key + 1 }
+{
+    key.checked_add(1)
 }

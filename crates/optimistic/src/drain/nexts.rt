@@ -44,7 +44,7 @@ pub struct Pair {
 
 /// The child of a key at an item of a node of a form.
 #[inline(always)]
-fn child_of(item: Item, form: u64, key: u64) -> Child
+pub fn child_of(item: Item, form: u64, key: u64) -> Child
     ensures { (result.first ≡ put_first form item.first key) × (result.second ≡ item.last) }
 {
     if form < 5 {

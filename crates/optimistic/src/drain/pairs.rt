@@ -1,6 +1,7 @@
 //! The pairs that a tree had.
-ghost use Rattle.std.specs.Prelude.{◌≡◌, ℕ, ◌+◌, ◌^◌, IfOk, IfErr, MatchResult, unwrap_or};
+ghost use Rattle.std.specs.Prelude.{◌≡◌, ℕ, ◌^◌, IfOk, IfErr, MatchResult};
 
+use crate::drain::keys::key_after;
 use crate::drain::nexts::first_from;
 pub use crate::drain::nexts::{Locked, Pair};
 use crate::words::Words;
@@ -15,6 +16,15 @@ pub enum Undrained {
     Memory,
 }
 
+/// Calls a closure with a pair.
+fn tell<F: FnMut(u64, u64)>(f: &mut F, pair: Pair)
+    requires { F.IsAlwaysCallable f.old }
+    ensures callable { F.IsAlwaysCallable f.new }
+    ensures told { F.step f.old pair.key pair.value tt f.new }
+{
+    f(pair.key, pair.value);
+}
+
 /// The pairs of a tree that no thread shares any more, in ascending order of keys.
 #[derive(Drop)]
 pub struct Pairs {
@@ -22,18 +32,11 @@ pub struct Pairs {
     from: Option<u64>,
 }
 
-/// The key behind one, if it isn't the last.
-fn key_after(key: u64) -> Option<u64>
-    ensures { unwrap_or result (2 ^ 64) ≡ key + 1 }
-{
-    key.checked_add(1)
-}
-
 impl Pairs {
     ghost use Rattle.std.specs.Prelude.{List};
     ghost use Rattle.optimistic.specs.declared.words.rule.Entry.{Entry};
     ghost use Rattle.optimistic.specs.tree.Nexts.{IsFirst, behind};
-    ghost use Rattle.optimistic.specs.tree.Drained.{rest, HasLog, IsDrained, IsClosed, IsAll, IsLocked, IsCause};
+    ghost use Rattle.optimistic.specs.tree.Drained.{rest, HasLog, IsDrained, IsClosed, IsAll, IsLocked, IsCause, Gave, GaveAll};
 
     /// All pairs of these words.
     pub(crate) fn new(words: Words) -> Pairs
@@ -97,5 +100,31 @@ impl Pairs {
         }
         self.from = None;
         Ok(pairs)
+    }
+
+    /// Calls `f` with the key and the value of each pair that wasn't told before, in ascending order of keys: at first, of all
+    /// pairs of the index. An error leaves all as it was, but for what `f` made of the pairs that it was given.
+    pub fn for_each<F: FnMut(u64, u64)>(&mut self, f: &mut F) -> Result<(), Locked>
+        requires { F.IsAlwaysCallable f.old }
+        ensures callable { F.IsAlwaysCallable f.new }
+        ensures gave { MatchResult result (λ _. Gave (λ d k v e. F.step d k v tt e) self.old (2 ^ 64) f.old f.new) (λ _. (to : ℕ) × Gave (λ d k v e. F.step d k v tt e) self.old to f.old f.new) }
+        ensures all { (seen made : List Entry) (by : ℕ) → IsClosed seen made by self.old → IfOk result (λ _. GaveAll (λ d k v e. F.step d k v tt e) seen made by f.old f.new) }
+        ensures log { (log : List Entry) → HasLog self.old log → HasLog self.new log }
+        ensures rest { MatchResult result (λ _. rest self.new ≡ 2 ^ 64) (λ _. rest self.new ≡ rest self.old) }
+        ensures locked { IfErr result (λ _. IsLocked self.old) }
+    {
+        let mut from = self.from;
+        while let Some(key) = from {
+            match first_from(&self.words, key) {
+                Ok(Some(pair)) => {
+                    tell(f, pair);
+                    from = key_after(pair.key);
+                }
+                Ok(None) => from = None,
+                Err(Locked) => return Err(Locked),
+            }
+        }
+        self.from = None;
+        Ok(())
     }
 }

@@ -1,21 +1,26 @@
 //! The index for keys and values of eight bytes.
-ghost use Rattle.std.specs.Prelude.{◌≡◌, ◌+◌, [], length, take, drop, IfErr, IfOk, IfSome, MatchResult};
+ghost use Rattle.std.specs.Prelude.{◌≡◌, ◌+◌, ◌<◌, ◌≤◌, ◌^◌, [], get_or, length, map, take, drop, min, IfErr, IfOk, IfSome, MatchResult};
 ghost use Rattle.std.specs.Option.{option_map};
 ghost use Rattle.optimistic.specs.words.Kept.{calls_by, StartsWith};
+ghost use Rattle.optimistic.specs.words.Room.{used};
 ghost use Rattle.optimistic.specs.face.Calls.{Saw, Looked, Found};
 ghost use Rattle.optimistic.specs.face.Computes.{IsComputed, IsReplaced};
+ghost use Rattle.optimistic.specs.face.Many.{Answered, AreInserted};
 ghost use Rattle.optimistic.specs.face.Refusals.{IsSize, IsUnopened};
-ghost use Rattle.optimistic.specs.face.Scans.{FirstFrom, Emptiness, IsScan};
+ghost use Rattle.optimistic.specs.face.Scans.{FirstFrom, LastBelow, Emptiness, IsScan, Counts, RangeAtOnce};
+ghost use Rattle.optimistic.specs.face.Walks.{IsStep};
 ghost use Rattle.optimistic.specs.face.Writes.{IsInserted, IsRemoved, IsExchanged, IsFinal};
-ghost use Rattle.optimistic.specs.face.Words.{As, words, either_words, pair_words};
+ghost use Rattle.optimistic.specs.face.Words.{As, words, either_words, pair_words, in_words};
 ghost use Rattle.optimistic.specs.tree.Drained.{IsClosed, HasNoRoot};
 
 use crate::drain::{Locked, Pair, Pairs};
 use crate::face::close::Retired;
 use crate::face::index::U64Congee;
-use crate::face::refusal::{Refusal, Unopened};
+use crate::face::refusal::{Refusal, Uninserted, Unopened};
 use crate::face::seen::Seen;
+use crate::face::walk::Walk;
 use crate::face::worker::Worker;
+use crate::tree::Unscanned;
 use judge::{Word64, number_of, word_of};
 use std::alloc::{AllocError, Global};
 use std::marker::{Model, PhantomData};
@@ -73,6 +78,26 @@ fn pair_words<K: Word64, V: Word64>(pair: Option<Pair>) -> Option<(K, V)>
     match pair {
         Some(pair) => Some((K::from_word(pair.key), V::from_word(pair.value))),
         None => None,
+    }
+}
+
+/// The word of a key among others.
+fn key_at<K: Word64>(keys: &[K], place: usize) -> u64
+    requires { place < length keys.now }
+    ensures { (d : K) → result ≡ K.word (get_or keys.now place d) }
+{
+    keys[place].to_word()
+}
+
+/// The words of a pair among others.
+fn pair_at<K: Word64, V: Word64>(pairs: &[(K, V)], place: usize) -> Pair
+    requires { place < length pairs.now }
+    ensures { (d : K × V) → result ≡ in_words K.word V.word (get_or pairs.now place d) }
+{
+    let pair = &pairs[place];
+    Pair {
+        key: pair.0.to_word(),
+        value: pair.1.to_word(),
     }
 }
 
@@ -245,6 +270,27 @@ impl<'t, K: Word64, V: Word64> WordWorker<'t, K, V> {
         pair_words(self.worker.next_after(rt, key.to_word()))
     }
 
+    /// The pair with the greatest key, or `None` if there was none, at one moment within the call.
+    pub fn last<R: Wait>(&mut self, rt: &R) -> Option<(K, V)>
+        ensures { As (λ r. LastBelow (2 ^ 64) r self.old self.new) (pair_words K.of_word V.of_word) result }
+    {
+        pair_words(self.worker.last(rt))
+    }
+
+    /// The pair with the greatest key that isn't above this one, or `None` if there was none, at one moment within the call.
+    pub fn at_or_before<R: Wait>(&mut self, rt: &R, key: &K) -> Option<(K, V)>
+        ensures { As (λ r. LastBelow (K.word key.now + 1) r self.old self.new) (pair_words K.of_word V.of_word) result }
+    {
+        pair_words(self.worker.at_or_before(rt, key.to_word()))
+    }
+
+    /// The pair with the greatest key below this one, or `None` if there was none, at one moment within the call.
+    pub fn next_before<R: Wait>(&mut self, rt: &R, key: &K) -> Option<(K, V)>
+        ensures { As (λ r. LastBelow (K.word key.now) r self.old self.new) (pair_words K.of_word V.of_word) result }
+    {
+        pair_words(self.worker.next_before(rt, key.to_word()))
+    }
+
     /// Whether no key had a value, at one moment within the call.
     pub fn is_empty<R: Wait>(&mut self, rt: &R) -> bool
         ensures { Emptiness result self.old self.new }
@@ -257,6 +303,7 @@ impl<'t, K: Word64, V: Word64> WordWorker<'t, K, V> {
     /// lower keys. The places past those that are written stay as they were.
     pub fn range<R: Wait>(&mut self, rt: &R, start: &K, end: &K, out: &mut [Pair]) -> usize
         ensures scan { IsScan (K.word start.now) (K.word end.now) (length out.old) self.old self.new (take result out.new) }
+        ensures count { result ≤ length out.new }
         ensures saw { Saw self.old self.new }
         ensures past { drop result out.new ≡ drop result out.old }
     {
@@ -272,11 +319,158 @@ impl<'t, K: Word64, V: Word64> WordWorker<'t, K, V> {
         out: &mut [Pair],
     ) -> usize
         ensures scan { IsScan (K.word start.now) (K.word last.now + 1) (length out.old) self.old self.new (take result out.new) }
+        ensures count { result ≤ length out.new }
         ensures saw { Saw self.old self.new }
         ensures past { drop result out.new ≡ drop result out.old }
     {
         self.worker
             .range_inclusive(rt, start.to_word(), last.to_word(), out)
+    }
+
+    /// How many pairs with start <= key <= last a scan finds. Each stood at a moment within the call, and a key that stood
+    /// throughout is counted. The greatest number of 64 bits stands for any greater one.
+    pub fn count<R: Wait>(&mut self, rt: &R, start: &K, last: &K) -> u64
+        ensures count { Counts (K.word start.now) (K.word last.now + 1) result self.old self.new }
+        ensures saw { Saw self.old self.new }
+    {
+        self.worker.count(rt, start.to_word(), last.to_word())
+    }
+
+    /// How many pairs a scan of all keys finds, as `count` does of some.
+    pub fn len<R: Wait>(&mut self, rt: &R) -> u64
+        ensures count { Counts 0 (2 ^ 64) result self.old self.new }
+        ensures saw { Saw self.old self.new }
+    {
+        self.worker.len(rt)
+    }
+
+    /// Writes the pairs with start <= key < end into `out`, as words, ascending, and gives their number: all that stood at one
+    /// moment within the call, or as many as there are places, the lowest. An error tells that a writer came between, or that
+    /// there was no memory; what the places hold then, and what those hold that are past the pairs, isn't told.
+    pub fn try_range_at_once(
+        &mut self,
+        alloc: Global,
+        start: &K,
+        end: &K,
+        out: &mut [Pair],
+    ) -> Result<usize, Unscanned>
+        ensures range { IfOk result (λ n. RangeAtOnce (K.word start.now) (K.word end.now) (length out.old) (take n out.new) self.old self.new) }
+        ensures count { IfOk result (λ n. n ≤ length out.new) }
+        ensures saw { Saw self.old self.new }
+    {
+        self.worker
+            .try_range_at_once(alloc, start.to_word(), end.to_word(), out)
+    }
+
+    /// The same of start <= key <= last.
+    pub fn try_range_inclusive_at_once(
+        &mut self,
+        alloc: Global,
+        start: &K,
+        last: &K,
+        out: &mut [Pair],
+    ) -> Result<usize, Unscanned>
+        ensures range { IfOk result (λ n. RangeAtOnce (K.word start.now) (K.word last.now + 1) (length out.old) (take n out.new) self.old self.new) }
+        ensures count { IfOk result (λ n. n ≤ length out.new) }
+        ensures saw { Saw self.old self.new }
+    {
+        self.worker
+            .try_range_inclusive_at_once(alloc, start.to_word(), last.to_word(), out)
+    }
+
+    /// Writes the pairs with start <= key < end into `out`, as `try_range_at_once` does, again where a writer comes between.
+    pub fn range_at_once<R: Wait>(
+        &mut self,
+        rt: &R,
+        alloc: Global,
+        start: &K,
+        end: &K,
+        out: &mut [Pair],
+    ) -> Result<usize, AllocError>
+        ensures range { IfOk result (λ n. RangeAtOnce (K.word start.now) (K.word end.now) (length out.old) (take n out.new) self.old self.new) }
+        ensures count { IfOk result (λ n. n ≤ length out.new) }
+        ensures saw { Saw self.old self.new }
+    {
+        self.worker
+            .range_at_once(rt, alloc, start.to_word(), end.to_word(), out)
+    }
+
+    /// The same of start <= key <= last.
+    pub fn range_inclusive_at_once<R: Wait>(
+        &mut self,
+        rt: &R,
+        alloc: Global,
+        start: &K,
+        last: &K,
+        out: &mut [Pair],
+    ) -> Result<usize, AllocError>
+        ensures range { IfOk result (λ n. RangeAtOnce (K.word start.now) (K.word last.now + 1) (length out.old) (take n out.new) self.old self.new) }
+        ensures count { IfOk result (λ n. n ≤ length out.new) }
+        ensures saw { Saw self.old self.new }
+    {
+        self.worker
+            .range_inclusive_at_once(rt, alloc, start.to_word(), last.to_word(), out)
+    }
+
+    /// The next pair of a walk, or `None` if there is none up to its last key, as it was at one moment within the call. After
+    /// `None` there is none any more.
+    pub fn step<R: Wait>(&mut self, rt: &R, walk: &mut Walk) -> Option<(K, V)>
+        ensures { As (λ r. IsStep walk.old r walk.new self.old self.new) (pair_words K.of_word V.of_word) result }
+    {
+        pair_words(self.worker.step(rt, walk))
+    }
+
+    /// Looks a key's word up.
+    fn get_word<R: Wait>(&mut self, rt: &R, key: u64) -> Option<V>
+        ensures { As (λ x. Found key x self.old self.new) (option_map V.of_word) result }
+    {
+        word_of(self.worker.get(rt, key))
+    }
+
+    /// Looks up one key after the other, as many as there are places for answers, and gives their number. Each key had its
+    /// answer at a moment within the call, and these moments rise. The places past those that are written stay as they were.
+    pub fn get_many<R: Wait>(&mut self, rt: &R, keys: &[K], out: &mut [Option<V>]) -> usize
+        ensures answers { As (λ xs. Answered self.old.seen (map K.word (take result keys.now)) xs self.new.seen) (map (option_map V.of_word)) (take result out.new) }
+        ensures count { result ≡ min (length keys.now) (length out.old) }
+        ensures saw { Saw self.old self.new }
+        ensures past { drop result out.new ≡ drop result out.old }
+    {
+        let count = keys.len().min(out.len());
+        for place in 0..count {
+            out[place] = self.get_word(rt, key_at(keys, place));
+        }
+        count
+    }
+
+    /// Puts a word at a key's.
+    fn insert_pair<R: Wait>(&mut self, rt: &R, pair: Pair) -> Result<Option<u64>, Refusal>
+        ensures inserted { IsInserted pair.key pair.value self.old self.new result }
+        ensures decided { IfErr result IsFinal }
+    {
+        self.worker.insert(rt, pair.key, pair.value)
+    }
+
+    /// Puts one pair's value at its key after the other, each by a call of its own, as `insert` does. At the first that is refused
+    /// it ends, and tells which one that is.
+    pub fn insert_many<R: Wait>(&mut self, rt: &R, pairs: &[(K, V)]) -> Result<(), Uninserted>
+        ensures inserted { AreInserted (map (in_words K.word V.word) pairs.now) self.old self.new result }
+        ensures decided { IfErr result (λ e. IsFinal e.refusal) }
+    {
+        for place in 0..pairs.len() {
+            match self.insert_pair(rt, pair_at(pairs, place)) {
+                Ok(_) => {}
+                Err(refusal) => return Err(Uninserted { place, refusal }),
+            }
+        }
+        Ok(())
+    }
+
+    /// How many of the index's words are in use, at the last moment that the worker has then seen. Words past them are left for
+    /// new nodes, and so are those of nodes that workers freed.
+    pub fn words_used(&mut self) -> u64
+        ensures { Looked self.old self.new × (result ≡ used self.new.moment) }
+    {
+        self.worker.words_used()
     }
 
     /// What it has seen of the log, for another worker of its index.

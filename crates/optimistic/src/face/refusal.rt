@@ -13,6 +13,13 @@ pub enum Refusal {
     Exhausted,
 }
 
+/// Why not all of many pairs were put in: the pair at this place was refused. Those before it were put in, and no other.
+#[derive(Clone, Copy, Debug, PartialEq, Eq, Drop)]
+pub struct Uninserted {
+    pub place: usize,
+    pub refusal: Refusal,
+}
+
 /// Why an index is not opened.
 #[derive(Clone, Copy, Debug, PartialEq, Eq, Drop)]
 pub enum Unopened {

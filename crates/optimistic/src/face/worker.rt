@@ -1,6 +1,7 @@
 //! A thread's calls.
 ghost use Rattle.std.specs.Prelude.{◌≡◌, [], IfOk, IfSome};
 ghost use Rattle.optimistic.specs.words.Kept.{calls_by, StartsWith};
+ghost use Rattle.optimistic.specs.words.Room.{used};
 ghost use Rattle.optimistic.specs.face.Calls.{Saw, Looked, Found};
 ghost use Rattle.optimistic.specs.face.Workers.{IsWritten, WantsRoom};
 
@@ -69,6 +70,14 @@ impl<'t> Worker<'t> {
         ensures { Found key result self.old self.new }
     {
         self.tree.get(rt, &mut self.hand, key)
+    }
+
+    /// How many of the index's words are in use, at the last moment that the worker has then seen. Words past them are left for
+    /// new nodes, and so are those of nodes that workers freed.
+    pub fn words_used(&mut self) -> u64
+        ensures { Looked self.old self.new × (result ≡ used self.new.moment) }
+    {
+        self.tree.used(&mut self.hand)
     }
 
     /// What it has seen of the log, for another worker of its index.

@@ -1,15 +1,15 @@
-//! The bytes at which a node has no child, from one on up to the first at which it may have one.
-ghost use Rattle.std.specs.Prelude.{◌≡◌, ◌≢◌, ℕ, ◌*◌, ◌^◌, ◌<◌, ◌≤◌};
+//! The bytes at which a node may have a child, the first of them from one on, and the last up to one.
+ghost use Rattle.std.specs.Prelude.{◌≡◌, ◌≢◌, ℕ, ◌+◌, ◌*◌, ◌^◌, ◌<◌, ◌≤◌};
 ghost use Rattle.optimistic.specs.Layout.{room};
 ghost use Rattle.optimistic.specs.forms.Children.{mask_of, IsForm};
-ghost use Rattle.optimistic.specs.forms.Gaps.{IsGap, HasWords};
+ghost use Rattle.optimistic.specs.forms.Gaps.{HasOnly, HasWords};
 ghost use Rattle.optimistic.specs.forms.Wide.{bit_in};
 
-use crate::forms::scan::{bytes_taken, next_byte};
+use crate::forms::scan::{bytes_taken, last_in, next_byte};
 
 /// The first byte from `from` on whose bit is set, or 256.
 #[inline(always)]
-fn first_set(masks: &[u64; 4], from: u8) -> usize
+pub fn first_set(masks: &[u64; 4], from: u8) -> usize
     ensures bounds { (from ≤ result) × (result ≤ 256) }
     ensures none { (k : ℕ) → from ≤ k → k < result → bit_in masks.now k ≡ 0 }
 {
@@ -19,21 +19,28 @@ fn first_set(masks: &[u64; 4], from: u8) -> usize
     }
 }
 
-/// The same of a node of up to 48, by the words that have its bytes, and its mask.
-pub fn gap_among<const N: usize>(words: &[u64; N], mask: u64, from: u8) -> usize
-    requires few { N ≤ 6 }
-    requires fits { mask < 2 ^ (8 * N) }
-    ensures bounds { (from ≤ result) × (result ≤ 256) }
-    ensures gap { (form : ℕ) (w : ℕ → ℕ) → room form ≢ 256 → room form ≤ 8 * N → HasWords words.now w → mask_of form w ≡ mask → IsForm form w → IsGap form w from result }
+/// The byte behind the last up to `to` whose bit is set, or 0.
+pub fn last_set(masks: &[u64; 4], to: u8) -> usize
+    ensures bound { result ≤ to + 1 }
+    ensures none { (k : ℕ) → result ≤ k → k < to + 1 → bit_in masks.now k ≡ 0 }
 {
-    let taken = bytes_taken(words, mask);
-    first_set(&taken, from)
+    let mut end = to as usize + 1;
+    while end > 0 {
+        let word = (end - 1) / 64;
+        let last = last_in(masks[word], (end - 1) % 64);
+        if last > 0 {
+            return word * 64 + last;
+        }
+        end = word * 64;
+    }
+    0
 }
 
-/// The same of a node of 256 values, by the words that have its bits.
-pub fn gap_of_values(masks: &[u64; 4], from: u8) -> usize
-    ensures bounds { (from ≤ result) × (result ≤ 256) }
-    ensures gap { (w : ℕ → ℕ) → HasWords masks.now w → IsGap 8 w from result }
+/// The bytes of a node of up to 48, by the words that have them, and its mask.
+pub fn bytes_among<const N: usize>(words: &[u64; N], mask: u64) -> [u64; 4]
+    requires few { N ≤ 6 }
+    requires fits { mask < 2 ^ (8 * N) }
+    ensures { (form : ℕ) (w : ℕ → ℕ) → room form ≢ 256 → room form ≤ 8 * N → HasWords words.now w → mask_of form w ≡ mask → IsForm form w → HasOnly form w result }
 {
-    first_set(masks, from)
+    bytes_taken(words, mask)
 }

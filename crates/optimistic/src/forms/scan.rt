@@ -23,6 +23,17 @@ pub fn next_in(mask: u64, from: usize) -> Option<usize>
     }
 }
 
+/// The bit behind the last up to `to` that is set, or 0.
+#[inline(always)]
+pub fn last_in(mask: u64, to: usize) -> usize
+    requires { to < 64 }
+    ensures bound { result ≤ to + 1 }
+    ensures none { (k : ℕ) → result ≤ k → k ≤ to → bit_at mask k ≡ 0 }
+{
+    let rest = mask & (u64::MAX >> (63 - to));
+    64 - rest.leading_zeros() as usize
+}
+
 /// The first byte from `from` on whose bit is set in four words.
 pub fn next_byte(masks: &[u64; 4], from: usize) -> Option<usize>
     ensures { MatchOption result ((k : ℕ) → from ≤ k → k < 256 → bit_in masks.now k ≡ 0) (λ p. IsNext (bit_in masks.now) 256 from p) }

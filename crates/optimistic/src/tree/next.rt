@@ -5,21 +5,19 @@
 //! nodes that told of the keys before it still has its version once the pair is known.
 ghost use Rattle.std.specs.Prelude.{◌≡◌, ◌≢◌, ℕ, ◌<◌, ◌≤◌, ◌⊎◌, ◌+◌, true, IfSome, List};
 ghost use Rattle.optimistic.specs.declared.words.rule.Entry.{Entry};
-ghost use Rattle.optimistic.specs.Layout.{width, room};
 ghost use Rattle.optimistic.specs.words.Calls.{Keeps, Later};
 ghost use Rattle.optimistic.specs.words.Kept.{word_at, Since};
-ghost use Rattle.optimistic.specs.words.Told.{view, IsOf, HasForm, Looks};
+ghost use Rattle.optimistic.specs.words.Told.{view, IsOf, Looks};
 ghost use Rattle.optimistic.specs.tree.Nexts.{IsFirst};
 ghost use Rattle.optimistic.specs.tree.Reads.{IsPlace};
-ghost use Rattle.optimistic.specs.tree.Sights.{Lacks, Shows, Knows, IsSight, Stood};
+ghost use Rattle.optimistic.specs.tree.Sights.{Shows, Knows, IsSight, Stood};
 ghost use Rattle.optimistic.specs.tree.Trees.{IsTree};
 
 use crate::drain::Pair;
 use crate::drain::keys::last_key;
 use crate::drain::nexts::{Next, next_of_item};
-use crate::forms::gaps::{gap_among, gap_of_values};
 use crate::forms::names::{key_byte, where_word};
-use crate::moves::{Item, room_of};
+use crate::moves::Item;
 use crate::tree::get::{ATTEMPTS, TOP, Tree};
 use crate::tree::place::Place;
 use crate::words::Hand;
@@ -28,7 +26,7 @@ use std::sync::Wait;
 use std::thread::yield_now;
 
 /// How many ways down the next pair may take: three for each of eight levels, and some to spare.
-const WAYS: u32 = 32;
+pub const WAYS: u32 = 32;
 
 /// What a node told at a version, which holds while it has that version.
 #[derive(Clone, Copy, Drop)]
@@ -52,130 +50,6 @@ fn byte_before(to: usize, byte: u8) -> u8
 }
 
 impl Tree {
-    /// From a byte on, the bytes at which a node of four has no child.
-    #[inline(always)]
-    fn gap_of_four(&self, hand: &mut Hand, at: Place, from: u8) -> usize
-        requires of { IsOf self.now.nodes.table.shared.table_id hand.old }
-        requires at { IsPlace at (view hand.old) }
-        requires form { room at.form ≡ 4 }
-        ensures of { IsOf self.now.nodes.table.shared.table_id hand.new }
-        ensures looks { Looks IsTree (view hand.old) (view hand.new) }
-        ensures bounds { (from ≤ result) × (result ≤ 256) }
-        ensures lacks { Lacks at.node at.form from result (view hand.old) (view hand.new) }
-    {
-        let word = self.read(hand, at.node, at.form, 2);
-        gap_among(&[word], (word >> 32) % 256, from)
-    }
-
-    /// The same of a node of sixteen.
-    #[inline(always)]
-    fn gap_of_sixteen(&self, hand: &mut Hand, at: Place, from: u8) -> usize
-        requires of { IsOf self.now.nodes.table.shared.table_id hand.old }
-        requires at { IsPlace at (view hand.old) }
-        requires form { room at.form ≡ 16 }
-        ensures of { IsOf self.now.nodes.table.shared.table_id hand.new }
-        ensures looks { Looks IsTree (view hand.old) (view hand.new) }
-        ensures bounds { (from ≤ result) × (result ≤ 256) }
-        ensures lacks { Lacks at.node at.form from result (view hand.old) (view hand.new) }
-    {
-        let a = self.read(hand, at.node, at.form, 2);
-        let b = self.read(hand, at.node, at.form, 3);
-        let mask = self.read(hand, at.node, at.form, 4);
-        gap_among(&[a, b], mask % 65_536, from)
-    }
-
-    /// The same of a node of forty-eight.
-    #[inline(always)]
-    fn gap_of_forty_eight(&self, hand: &mut Hand, at: Place, from: u8) -> usize
-        requires of { IsOf self.now.nodes.table.shared.table_id hand.old }
-        requires at { IsPlace at (view hand.old) }
-        requires form { room at.form ≡ 48 }
-        ensures of { IsOf self.now.nodes.table.shared.table_id hand.new }
-        ensures looks { Looks IsTree (view hand.old) (view hand.new) }
-        ensures bounds { (from ≤ result) × (result ≤ 256) }
-        ensures lacks { Lacks at.node at.form from result (view hand.old) (view hand.new) }
-    {
-        let a = self.read(hand, at.node, at.form, 2);
-        let b = self.read(hand, at.node, at.form, 3);
-        let c = self.read(hand, at.node, at.form, 4);
-        let d = self.read(hand, at.node, at.form, 5);
-        let e = self.read(hand, at.node, at.form, 6);
-        let f = self.read(hand, at.node, at.form, 7);
-        let mask = self.read(hand, at.node, at.form, 8);
-        gap_among(&[a, b, c, d, e, f], mask % 281_474_976_710_656, from)
-    }
-
-    /// The same of a node of 256 children.
-    #[inline(always)]
-    fn gap_of_wide(&self, hand: &mut Hand, node: usize, from: u8) -> usize
-        requires of { IsOf self.now.nodes.table.shared.table_id hand.old }
-        requires at { HasForm node 4 (view hand.old) }
-        ensures of { IsOf self.now.nodes.table.shared.table_id hand.new }
-        ensures looks { Looks IsTree (view hand.old) (view hand.new) }
-        ensures bounds { (from ≤ result) × (result ≤ 256) }
-        ensures lacks { Lacks node 4 from result (view hand.old) (view hand.new) }
-    {
-        for byte in from as usize..256 {
-            let first = self.read(hand, node, 4, 8 + 2 * byte);
-            if first != 0 {
-                return byte;
-            }
-        }
-        256
-    }
-
-    /// The same of a node of 256 values.
-    #[inline(always)]
-    fn gap_of_wide_values(&self, hand: &mut Hand, node: usize, from: u8) -> usize
-        requires of { IsOf self.now.nodes.table.shared.table_id hand.old }
-        requires at { HasForm node 8 (view hand.old) }
-        ensures of { IsOf self.now.nodes.table.shared.table_id hand.new }
-        ensures looks { Looks IsTree (view hand.old) (view hand.new) }
-        ensures bounds { (from ≤ result) × (result ≤ 256) }
-        ensures lacks { Lacks node 8 from result (view hand.old) (view hand.new) }
-    {
-        let a = self.read(hand, node, 8, 2);
-        let b = self.read(hand, node, 8, 3);
-        let c = self.read(hand, node, 8, 4);
-        let d = self.read(hand, node, 8, 5);
-        gap_of_values(&[a, b, c, d], from)
-    }
-
-    /// The same of a node of 256.
-    #[inline(always)]
-    fn gap_of_256(&self, hand: &mut Hand, at: Place, from: u8) -> usize
-        requires of { IsOf self.now.nodes.table.shared.table_id hand.old }
-        requires at { IsPlace at (view hand.old) }
-        requires form { room at.form ≡ 256 }
-        ensures of { IsOf self.now.nodes.table.shared.table_id hand.new }
-        ensures looks { Looks IsTree (view hand.old) (view hand.new) }
-        ensures bounds { (from ≤ result) × (result ≤ 256) }
-        ensures lacks { Lacks at.node at.form from result (view hand.old) (view hand.new) }
-    {
-        if at.form < 5 {
-            self.gap_of_wide(hand, at.node, from)
-        } else {
-            self.gap_of_wide_values(hand, at.node, from)
-        }
-    }
-
-    /// From a byte on, the bytes at which a node has no child.
-    fn gap(&self, hand: &mut Hand, at: Place, from: u8) -> usize
-        requires of { IsOf self.now.nodes.table.shared.table_id hand.old }
-        requires at { IsPlace at (view hand.old) }
-        ensures of { IsOf self.now.nodes.table.shared.table_id hand.new }
-        ensures looks { Looks IsTree (view hand.old) (view hand.new) }
-        ensures bounds { (from ≤ result) × (result ≤ 256) }
-        ensures lacks { Lacks at.node at.form from result (view hand.old) (view hand.new) }
-    {
-        match room_of(at.form) {
-            4 => self.gap_of_four(hand, at, from),
-            16 => self.gap_of_sixteen(hand, at, from),
-            48 => self.gap_of_forty_eight(hand, at, from),
-            _ => self.gap_of_256(hand, at, from),
-        }
-    }
-
     /// What a node tells of the next pair from a key on, if it covers the key and stays as it is meanwhile.
     fn next_at(&self, hand: &mut Hand, at: Place, from: u64) -> Next
         requires of { IsOf self.now.nodes.table.shared.table_id hand.old }
@@ -202,7 +76,7 @@ impl Tree {
     }
 
     /// What a node on the way to a key tells, with its version, if it covers the key and nobody has it.
-    fn sight_at(&self, hand: &mut Hand, at: Place, from: u64) -> Option<Sight>
+    pub(crate) fn sight_at(&self, hand: &mut Hand, at: Place, from: u64) -> Option<Sight>
         requires of { IsOf self.now.nodes.table.shared.table_id hand.old }
         requires at { IsPlace at (view hand.old) }
         ensures of { IsOf self.now.nodes.table.shared.table_id hand.new }
@@ -227,7 +101,7 @@ impl Tree {
     }
 
     /// What the last node on the way to a key tells.
-    fn sight(&self, hand: &mut Hand, from: u64) -> Option<Sight>
+    pub fn sight(&self, hand: &mut Hand, from: u64) -> Option<Sight>
         requires of { IsOf self.now.nodes.table.shared.table_id hand.old }
         ensures of { IsOf self.now.nodes.table.shared.table_id hand.new }
         ensures looks { Looks IsTree (view hand.old) (view hand.new) }
@@ -247,7 +121,12 @@ impl Tree {
     }
 
     /// The pair, if the node that was seen still has its version.
-    fn confirm(&self, hand: &mut Hand, sight: Sight, first: Option<Pair>) -> Option<Option<Pair>>
+    pub fn confirm(
+        &self,
+        hand: &mut Hand,
+        sight: Sight,
+        first: Option<Pair>,
+    ) -> Option<Option<Pair>>
         requires of { IsOf self.now.nodes.table.shared.table_id hand.old }
         requires place { IsPlace sight.at (view hand.old) }
         ensures of { IsOf self.now.nodes.table.shared.table_id hand.new }

@@ -3,7 +3,7 @@ ghost use Rattle.std.specs.Prelude.{ℕ, ◌≡◌, ◌+◌, ◌*◌, ◌%◌, �
 ghost use Rattle.optimistic.specs.Layout.{width, is_link};
 ghost use Rattle.optimistic.specs.words.Kept.{word_at, version_at, has, first_calm, Follows};
 ghost use Rattle.optimistic.specs.words.Last.{words_in, IsLast};
-ghost use Rattle.optimistic.specs.words.Room.{IsUncarved};
+ghost use Rattle.optimistic.specs.words.Room.{used, IsUncarved};
 ghost use Rattle.optimistic.specs.declared.words.rule.Moment.{Moment};
 ghost use Rattle.optimistic.specs.words.Told.{view, IsOf, IsNote, IsFresh, HasForm, Tells, Looks, Locks, Stores, Unlocks, Releases, MayUnlock, HasAlso, IsDrafted};
 
@@ -112,6 +112,16 @@ impl<P: Shape> Nodes<P> {
         ensures tells { is_link form word ≡ true → Tells result (view hand.new) }
     {
         self.table.shared.load::<Look<P>>(hand, node + word)
+    }
+
+    /// How many words are in use: behind them no node was carved yet.
+    pub fn used(&self, hand: &mut Hand) -> u64
+        requires of { IsOf self.now.table.shared.table_id hand.old }
+        ensures of { IsOf self.now.table.shared.table_id hand.new }
+        ensures looks { Looks P.good (view hand.old) (view hand.new) }
+        ensures used { result ≡ used (view hand.new).seen }
+    {
+        self.table.shared.load::<Look<P>>(hand, END)
     }
 
     /// Takes a node where its version is this one, and tells whether it did.

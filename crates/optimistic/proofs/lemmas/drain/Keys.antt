@@ -2,7 +2,7 @@
 use Rattle.std.proofs.Common.{◌≡◌, ◌≢◌, ℕ, ◌+◌, ◌-◌, ◌*◌, ◌/◌, ◌%◌, ◌^◌, ◌<◌, ◌≤◌, ◌⊎◌, Bool, false, arith, ap, sym, ◌∙◌, subst, inl, inr, eq-eqb, ne_eqb, if◌then◌else◌, bit_or, pow_pos, pow-add, shr-shr, Option, None, Some}
 use Rattle.std.proofs.Math.Nat.{div-mul-le_self}
 use Rattle.std.proofs.lemmas.Bool.{eqb-true}
-use Rattle.std.proofs.lemmas.Nat.{or_shifted, one_shl, shl_whole, shr_below, div_below, le-div, mod_below, mul-le, div-add-mod'}
+use Rattle.std.proofs.lemmas.Nat.{or_shifted, one_shl, shl_whole, shl-shr, shr_below, div_below, le-div, mod_below, mul-le, div-add-mod'}
 use Rattle.optimistic.specs.Layout.{prefix_of, where_of, byte_at, tag_of, level_of, leaf_of}
 use Rattle.optimistic.specs.tree.Levels.{goes_on, pair_value}
 use Rattle.optimistic.specs.tree.Nexts.{IsSilent}
@@ -97,6 +97,45 @@ near_to key level byte last k l is end above below =
     let b : byte < 256 = omega (arith, is) in
     let t = between key level byte last l b end k above below in
     near_more level key k l t.0 (omega (arith, t.1, t.2, is))
+
+-- The first of the keys that have a key's first bytes, and then this one
+pub first_is : (key level byte : ℕ) → level < 8 → key < 2 ^ 64 → byte < 256
+    → (key / 2 ^ (56 - 8 * level) / 256 * 256 + byte) * 2 ^ (56 - 8 * level) % 18446744073709551616 ≡ (prefix_of key level * 256 + byte) * 2 ^ (56 - 8 * level)
+first_is key level byte l small b =
+    let s = 56 - 8 * level in
+    let x = prefix_of key level * 256 + byte in
+    let whole : (x * 2 ^ s) % 2 ^ 64 ≡ x * 2 ^ s = shl_whole x (8 * level + 8) s 64 (byte_fits key level byte l small b) (omega arith) in
+    ap (λ (z : ℕ). z * 2 ^ s % 18446744073709551616) (with_byte key level byte l) ∙ whole
+
+module _ (key level byte first : ℕ) (l : level < 8) (b : byte < 256) (is : first ≡ (prefix_of key level * 256 + byte) * 2 ^ (56 - 8 * level)) where
+  abbrev unit : ℕ
+  unit = 2 ^ (56 - 8 * level)
+
+  pub starts : (prefix_of first level ≡ prefix_of key level) × (byte_at first level ≡ byte)
+  starts = split (prefix_of first level) (prefix_of key level) (byte_at first level) byte (omega arith) b
+      (sym (down_to first level l) ∙ ap (λ (z : ℕ). z / unit) is ∙ shl-shr (prefix_of key level * 256 + byte) (56 - 8 * level))
+    where
+      split : (p q c d : ℕ) → c < 256 → d < 256 → p * 256 + c ≡ q * 256 + d → (p ≡ q) × (c ≡ d)
+      split p q c d m n e = (omega arith, omega arith)
+
+  pub precedes : byte ≤ byte_at key level → first ≤ key
+  precedes m =
+      let least : key / unit * unit ≤ key = div-mul-le_self key unit in
+      let e = down_to key level l in
+      let low : prefix_of key level * 256 + byte ≤ key / unit = subst (λ (z : ℕ). prefix_of key level * 256 + byte ≤ z) (sym e) (omega (arith, m)) in
+      let most : (prefix_of key level * 256 + byte) * unit ≤ key / unit * unit = mul-le (prefix_of key level * 256 + byte) unit (key / unit) unit low (omega arith) in
+      omega (arith, least, most, is)
+
+  -- the keys from it on up to one with that byte are near that one
+  pub near_back : byte ≡ byte_at key level → (k : ℕ) → first ≤ k → k ≤ key → prefix_of k (level + 1) ≡ prefix_of key (level + 1)
+  near_back same k above below =
+      let p : 0 < unit = pow_pos (56 - 8 * level) in
+      let start : first ≡ key / unit * unit = is ∙ ap (λ (z : ℕ). (prefix_of key level * 256 + z) * unit) same ∙ ap (λ (z : ℕ). z * unit) (sym (down_to key level l)) in
+      let down : key / unit ≤ k / unit = le-div (key / unit) k unit p (omega (arith, start, above)) in
+      let least : k / unit * unit ≤ k = div-mul-le_self k unit in
+      let up : k / unit ≤ key / unit = le-div (k / unit) key unit p (omega (arith, least, below)) in
+      let e : 64 - 8 * (level + 1) ≡ 56 - 8 * level = omega arith in
+      ap (λ (z : ℕ). k / 2 ^ z) e ∙ (let q : k / unit ≡ key / unit = omega (arith, up, down) in q) ∙ ap (λ (z : ℕ). key / 2 ^ z) (sym e)
 
 -- what a child that is no node says of a key
 pub pair_there : (c x key : ℕ) → c ≡ leaf_of key → pair_value c x key ≡ Some x

@@ -1,5 +1,5 @@
 -- What a scan has found so far, pair by pair.
-use Rattle.std.proofs.Common.{◌≡◌, ℕ, ◌+◌, ◌^◌, ◌<◌, ◌≤◌, ◌⊎◌, List, [], ◌∷◌, ◌++◌, get_or, length, length-append, arith, ap, sym, ◌∙◌, refl, subst, inl, inr, true, false, set, take, Option, None, Some, IfSome}
+use Rattle.std.proofs.Common.{◌≡◌, ℕ, ◌+◌, ◌-◌, ◌^◌, ◌<◌, ◌≤◌, ◌⊎◌, min, List, [], ◌∷◌, ◌++◌, get_or, length, length-append, arith, ap, sym, ◌∙◌, refl, subst, inl, inr, true, false, set, take, None, Some}
 use Rattle.std.specs.List.{AllPairs, Contains}
 use mathlib.Core.List.{append-nil, append_assoc}
 use Rattle.std.proofs.Math.ListN.{get_or-append}
@@ -11,12 +11,15 @@ use Rattle.optimistic.specs.declared.drain.nexts.Pair.{Pair}
 use Rattle.optimistic.specs.declared.words.rule.Entry.{Entry}
 use Rattle.optimistic.specs.words.Kept.{value_of, StartsWith}
 use Rattle.optimistic.specs.tree.Drained.{pair_of}
-use Rattle.optimistic.specs.tree.Nexts.{IsFirst}
+use Rattle.optimistic.specs.tree.Nexts.{HasNone}
+use Rattle.optimistic.specs.tree.Wholes.{IsRange}
 use Rattle.optimistic.specs.face.Calls.{Known, Saw}
-use Rattle.optimistic.specs.face.Scans.{Once, FirstFrom, Emptiness, Rise, StoodThroughout, HasKey, IsScan}
+use Rattle.optimistic.specs.declared.tree.trail.Told.TheVariants.{Value, NoneTo}
+use Rattle.optimistic.specs.face.Scans.{Once, FirstFrom, Emptiness, Rise, StoodThroughout, HasKey, IsScan, Counts, ToldOf}
 use Rattle.optimistic.proofs.lemmas.face.Knowing.{saw_refl, saw_trans}
 use Rattle.optimistic.proofs.lemmas.drain.Keys.{no_pair}
-use Rattle.optimistic.proofs.lemmas.drain.Lists.{only_one}
+use Rattle.optimistic.proofs.lemmas.drain.Lists.{drained_none, only_one}
+use Rattle.optimistic.proofs.lemmas.tree.Sights.{first_here}
 
 pub starts_trans : (a b c : List Entry) → StartsWith b a → StartsWith c b → StartsWith c a
 starts_trans a b c p q = (p.0 ++ q.0, q.1 ∙ (ap (λ (l : List Entry). l ++ q.0) p.1 ∙ append_assoc a p.0 q.0))
@@ -113,22 +116,26 @@ module _ (from next : ℕ) (v u w : Known) (pairs : List Pair) (old : IsSoFar fr
       ];
     }
 
-  -- the first of those that are still to come isn't below the end
-  pub so_far_to : (to : ℕ) (r : Option Pair) → FirstFrom next r u w → IfSome r (λ p. to ≤ p.key) → to ≤ 2 ^ 64 → (key : ℕ) → from ≤ key → key < to → HasKey pairs key ⊎ Lacked key v w
-  so_far_to to r first behind high key above below = elim (cases_lt key next) [
-    | inl m ↦ at_last key (old.passed key above m)
-    | inr m ↦ inr (once_from (λ log. value_of key log ≡ None) v u w old.saw record { log = first.1.log; after = first.1.after; before = first.1.before; holds = none r behind first.1.log key m first.1.holds below })
-  ]
-    where
-      at_last : (key : ℕ) → HasKey pairs key ⊎ Lacked key v u → HasKey pairs key ⊎ Lacked key v w
-      at_last key o = elim o [
-        | inl h ↦ inl h
-        | inr l ↦ inr (once_to (λ log. value_of key log ≡ None) v u w l first.0.0)
-      ]
+-- what is told of a key alone
+pub told_first : (from x : ℕ) (v w : Known) → ToldOf from (Value x) v w → FirstFrom from (Some (pair_of from x)) v w
+told_first from x v w t = (t.0, record { log = t.1.log; after = t.1.after; before = t.1.before; holds = first_here from x t.1.log t.1.holds })
 
-      none : (r : Option Pair) → IfSome r (λ p. to ≤ p.key) → (log : List Entry) (key : ℕ) → next ≤ key → IsFirst log next r → key < to → value_of key log ≡ None
-      none None behind log key m is below = is key m (omega (arith, below, high))
-      none (Some p) behind log key m is below = is.2 key m (omega (arith, below, behind))
+-- and of keys up to another, which have no value
+pub so_far_pass : (from next last : ℕ) (v u w : Known) (pairs : List Pair) → IsSoFar from next v u pairs → ToldOf next (NoneTo last) u w → IsSoFar from (last + 1) v w pairs
+so_far_pass from next last v u w pairs s t = record {
+  saw = saw_trans v u w s.saw t.0.0;
+  order = (let a = s.order in let b = t.1.holds.0 in omega arith);
+  ascending = s.ascending;
+  inside = λ p c. ((s.inside p c).0, (let b = (s.inside p c).1 in let a = t.1.holds.0 in omega arith));
+  stood = rise_to v.seen pairs u.seen w.seen s.stood t.0.0.3;
+  passed = λ key above below. elim (cases_lt key next) [
+    | inl m ↦ elim (s.passed key above m) [
+      | inl h ↦ inl h
+      | inr l ↦ inr (once_to (λ log. value_of key log ≡ None) v u w l t.0.0)
+    ]
+    | inr m ↦ inr (once_from (λ log. value_of key log ≡ None) v u w s.saw record { log = t.1.log; after = t.1.after; before = t.1.before; holds = t.1.holds.1 key m (omega arith) })
+  ];
+}
 
 never : (key : ℕ) (v w : Known) → StoodThroughout key v w → Lacked key v w → ⊥
 never key v w stands l = stands l.log l.after l.before l.holds
@@ -171,12 +178,79 @@ scan_full from next to places v w pairs s full below = record {
 pub scan_done : (from next to places : ℕ) (v w : Known) (pairs : List Pair) → IsSoFar from next v w pairs → next ≡ to → length pairs ≤ places → IsScan from to places v w pairs
 scan_done from next to places v w pairs s end few = scan_all from next to places v w w pairs s (saw_refl w) few (λ p c. let b = (s.inside p c).1 in omega (arith, b, end)) (λ key above below. s.passed key above (omega (arith, below, end)))
 
--- the next pair is behind the last key, or there is none
-pub scan_behind : (from next last places : ℕ) (v u w : Known) (pairs : List Pair) (r : Option Pair) → IsSoFar from next v u pairs → next ≤ last → last < 2 ^ 64 → FirstFrom next r u w → IfSome r (λ p. last + 1 ≤ p.key) → length pairs ≤ places
-    → IsScan from (last + 1) places v w pairs
-scan_behind from next last places v u w pairs r s order small first behind few =
-    scan_all from next (last + 1) places v u w pairs s first.0.0 few (λ p c. let b = (s.inside p c).1 in omega (arith, b, order)) (so_far_to from next v u w pairs s (last + 1) r first behind (omega (arith, small)))
+-- no key up to the last one has a value
+pub scan_behind : (from next last to places : ℕ) (v u w : Known) (pairs : List Pair) → IsSoFar from next v u pairs → next ≤ last → last ≤ to → ToldOf next (NoneTo to) u w → length pairs ≤ places → IsScan from (last + 1) places v w pairs
+scan_behind from next last to places v u w pairs s order reach told few =
+    let all = so_far_pass from next to v u w pairs s told in
+    scan_all from (to + 1) (last + 1) places v w w pairs all (saw_refl w) few (λ p c. let b = (s.inside p c).1 in omega (arith, b, order)) (λ key above below. all.passed key above (omega (arith, below, reach)))
 
 -- a pair that is put into its place
 pub so_far_put : (from next : ℕ) (v u w : Known) (out : List Pair) (count : ℕ) (p : Pair) → count < length out → IsSoFar from next v u (take count out) → FirstFrom next (Some p) u w → IsSoFar from (p.key + 1) v w (take (count + 1) (set out count p))
 so_far_put from next v u w out count p low s first = subst (λ (l : List Pair). IsSoFar from (p.key + 1) v w l) (sym (take_more_set out count p low)) (so_far_more from next v u w (take count out) s p first)
+
+-- what holds of what was seen before holds at that moment
+pub once_here : (P : List Entry → Type 0) (v : Known) → P v.seen → Once P v v
+once_here P v h = record { log = v.seen; after = ([], sym (append-nil v.seen)); before = ([], sym (append-nil v.seen)); holds = h }
+
+-- a range without a key, and one without a place
+pub range_empty : (log : List Entry) (from to places : ℕ) → to ≤ from → IsRange log from to places []
+range_empty log from to places order = record {
+  next = to;
+  told = record {
+    ascending = λ i j d l m. absurd (omega arith);
+    told = λ p c. let l = c.1 in absurd (omega arith);
+    all = λ key value above below is. absurd (omega (arith, above, below, order));
+  };
+  few = omega arith;
+  end = inl refl;
+}
+
+pub range_placeless : (log : List Entry) (from to : ℕ) → from ≤ to → IsRange log from to 0 []
+range_placeless log from to order = record { next = from; told = drained_none log from; few = omega arith; end = inr (order, refl) }
+
+-- a walk that has ended, and two that end
+pub walk_ended : (last : ℕ) (v : Known) → last < 2 ^ 64 → Once (λ log. HasNone log (2 ^ 64) (last + 1)) v v
+walk_ended last v small = once_here (λ log. HasNone log (2 ^ 64) (last + 1)) v (λ k above below. absurd (omega (arith, above, below, small)))
+
+pub walk_none : (from last : ℕ) (v w : Known) → last < 2 ^ 64 → FirstFrom from None v w → Once (λ log. HasNone log from (last + 1)) v w
+walk_none from last v w small f = record { log = f.1.log; after = f.1.after; before = f.1.before; holds = λ k above below. f.1.holds k above (omega (arith, below, small)) }
+
+pub walk_past : (from last : ℕ) (p : Pair) (v w : Known) → last < p.key → FirstFrom from (Some p) v w → Once (λ log. HasNone log from (last + 1)) v w
+walk_past from last p v w past f = record { log = f.1.log; after = f.1.after; before = f.1.before; holds = λ k above below. f.1.holds.2 k above (omega (arith, below, past)) }
+
+-- a count of no key, of one pair more, and at the end
+pub counts_none : (from to : ℕ) (v : Known) → to ≤ from → Counts from to 0 v v
+counts_none from to v order = (
+  [],
+  record {
+    few = omega arith;
+    ascending = λ i j d l m. absurd (omega arith);
+    inside = λ p c. let l = c.1 in absurd (omega arith);
+    stood = ([], sym (append-nil v.seen));
+    all = λ key above below stands. absurd (omega (arith, above, below, order));
+  },
+  refl,
+)
+
+-- the keys up to the next that is to be asked for have so many pairs, or more than 64 bits can count
+abbrev pub IsCounted : (from next n : ℕ) → Known → Known → Type 0
+IsCounted from next n v w = (pairs : List Pair) × IsSoFar from next v w pairs × (n ≡ min (length pairs) (2 ^ 64 - 1))
+
+pub counted_none : (from : ℕ) (v : Known) → IsCounted from from 0 v v
+counted_none from v = ([], so_far_none from v, refl)
+
+pub counted_more : (from next n m x : ℕ) (v u w : Known) → IsCounted from next n v u → ToldOf next (Value x) u w → m ≡ min (n + 1) (2 ^ 64 - 1) → IsCounted from (next + 1) m v w
+counted_more from next n m x v u w s t e =
+    let p = pair_of next x in
+    let long : length (s.0 ++ p ∷ []) ≡ length s.0 + 1 = length-append s.0 (p ∷ []) in
+    let is = s.2 in
+    (s.0 ++ p ∷ [], so_far_more from next v u w s.0 s.1 p (told_first next x u w t), omega (arith, e, is, long))
+
+pub counted_pass : (from next last n : ℕ) (v u w : Known) → IsCounted from next n v u → ToldOf next (NoneTo last) u w → IsCounted from (last + 1) n v w
+counted_pass from next last n v u w s t = (s.0, so_far_pass from next last v u w s.0 s.1 t, s.2)
+
+pub counts_done : (from next to n : ℕ) (v w : Known) → IsCounted from next n v w → next ≡ to → Counts from to n v w
+counts_done from next to n v w s end = (s.0, scan_done from next to (length s.0 + 1) v w s.0 s.1 end (omega arith), s.2)
+
+pub counts_behind : (from next last to n : ℕ) (v u w : Known) → IsCounted from next n v u → next ≤ last → last ≤ to → ToldOf next (NoneTo to) u w → Counts from (last + 1) n v w
+counts_behind from next last to n v u w s order reach t = (s.0, scan_behind from next last to (length s.0 + 1) v u w s.0 s.1 order reach t (omega arith), s.2)

@@ -1,12 +1,12 @@
 -- Bytes at which a node has no child.
-use Rattle.std.proofs.Common.{◌≡◌, ◌≢◌, ℕ, zero, suc, [], ◌∷◌, ◌+◌, ◌*◌, ◌/◌, ◌%◌, ◌<◌, ◌≤◌, Bool, true, false, arith, ap, refl, sym, ◌∙◌, subst, inl, inr, if◌then◌else◌, List, get_or, length}
-use Rattle.std.specs.Prelude.{Option, None, Some, unwrap_or, is_some}
+use Rattle.std.proofs.Common.{◌≡◌, ◌≢◌, ℕ, zero, suc, [], ◌∷◌, ◌+◌, ◌*◌, ◌/◌, ◌%◌, ◌<◌, ◌≤◌, Bool, true, false, arith, ap, refl, sym, ◌∙◌, inl, inr, if◌then◌else◌, List, get_or, length}
+use Rattle.std.specs.Prelude.{is_some}
 use Rattle.std.specs.FinMap as map
 use Rattle.std.specs.Int.{bit_at}
 use Rattle.optimistic.specs.Layout.{room, leaf_of}
 use Rattle.optimistic.specs.forms.Bytes.{byte_of, key_of}
-use Rattle.optimistic.specs.forms.Children.{is_inner, byte_in, mask_of, taken_in, first_word, firsts, lasts, first_of, second_of, put_first, IsForm}
-use Rattle.optimistic.specs.forms.Gaps.{IsGap, HasWords}
+use Rattle.optimistic.specs.forms.Children.{is_inner, byte_in, mask_of, taken_in, firsts, first_of, second_of, put_first, IsForm}
+use Rattle.optimistic.specs.forms.Gaps.{IsGap, HasOnly, HasWords}
 use Rattle.optimistic.specs.forms.Wide.{bit_in, HasPlace}
 use Rattle.optimistic.proofs.lemmas.drain.Leasts.{none_at}
 use Rattle.optimistic.proofs.lemmas.forms.ChildLemmas.{either, first_inner, first_values, second_is}
@@ -17,29 +17,32 @@ line_of : (i r n m : ℕ) → i < r → r ≤ 8 * n → m ≡ n → i / 8 < m
 line_of i r n m l few long = omega arith
 
 module _ (form : ℕ) (w : ℕ → ℕ) (is : IsForm form w) where
-  -- no bit is set for these bytes, where one is for each byte that a taken place has
-  pub gap_of_bits : (key : ℕ → ℕ) (mask : ℕ) (masks : List ℕ) → ((i : ℕ) → i < room form → byte_in form w i ≡ key i) → ((i : ℕ) → i < room form → taken_in form w i ≡ bit_at mask i)
-      → ((b : ℕ) → b < 256 → HasPlace key (bit_at mask) b → bit_in masks b ≡ 1) → (from to : ℕ) → to ≤ 256 → ((k : ℕ) → from ≤ k → k < to → bit_in masks k ≡ 0) → IsGap form w from to
-  gap_of_bits key mask masks bytes takes all from to high none k b above below = none_at form w is k b (λ i l taken e.
-      let there : bit_in masks b ≡ 1 = all b (omega arith) record { place = i; taken_there = sym (takes i l) ∙ taken; byte = sym (bytes i l) ∙ e } in
-      let absent : bit_in masks b ≡ 0 = none b above below in
+  -- a bit is set for each byte that a taken place has
+  only_bits : (key : ℕ → ℕ) (mask : ℕ) (masks : List ℕ) → ((i : ℕ) → i < room form → byte_in form w i ≡ key i) → ((i : ℕ) → i < room form → taken_in form w i ≡ bit_at mask i)
+      → ((b : ℕ) → b < 256 → HasPlace key (bit_at mask) b → bit_in masks b ≡ 1) → HasOnly form w masks
+  only_bits key mask masks bytes takes all k b low absent = none_at form w is k b (λ i l taken e.
+      let there : bit_in masks b ≡ 1 = all b low record { place = i; taken_there = sym (takes i l) ∙ taken; byte = sym (bytes i l) ∙ e } in
       absurd (omega (arith, there, absent)))
 
   -- the same of the words that have a node's bytes, and its mask
-  pub gap_narrow : (words masks : List ℕ) (mask n : ℕ) → room form ≢ 256 → room form ≤ 8 * n → length words ≡ n → HasWords words w → mask_of form w ≡ mask
-      → ((b : ℕ) → b < 256 → HasPlace (key_of words) (bit_at mask) b → bit_in masks b ≡ 1) → (from to : ℕ) → to ≤ 256 → ((k : ℕ) → from ≤ k → k < to → bit_in masks k ≡ 0) → IsGap form w from to
-  gap_narrow words masks mask n narrow few long has same all = gap_of_bits (key_of words) mask masks
+  pub only_narrow : (words masks : List ℕ) (mask n : ℕ) → room form ≢ 256 → room form ≤ 8 * n → length words ≡ n → HasWords words w → mask_of form w ≡ mask
+      → ((b : ℕ) → b < 256 → HasPlace (key_of words) (bit_at mask) b → bit_in masks b ≡ 1) → HasOnly form w masks
+  only_narrow words masks mask n narrow few long has same all = only_bits (key_of words) mask masks
       (λ i l. byte_narrow form w i narrow ∙ ap (λ (z : ℕ). byte_of z (i % 8)) (has (i / 8) (line_of i (room form) n (length words) l few long)))
       (λ i l. taken_narrow form w i narrow ∙ ap (λ (z : ℕ). bit_at z i) same)
       all
 
 -- the bits of a node of 256 values
-pub gap_values : (w : ℕ → ℕ) (masks : List ℕ) → length masks ≡ 4 → HasWords masks w → (from to : ℕ) → to ≤ 256 → ((k : ℕ) → from ≤ k → k < to → bit_in masks k ≡ 0) → IsGap 8 w from to
-gap_values w masks long has from to high none k b above below = none_at 8 w (values_form w) k b (λ i l taken (e : i ≡ b).
+pub only_values : (w : ℕ → ℕ) (masks : List ℕ) → length masks ≡ 4 → HasWords masks w → HasOnly 8 w masks
+only_values w masks long has k b low absent = none_at 8 w (values_form w) k b (λ i l taken (e : i ≡ b).
     let word : w (2 + i / 64) ≡ get_or masks (i / 64) 0 = has (i / 64) (omega (arith, l, long)) in
-    let set : bit_in masks i ≡ 1 = ap (λ (z : ℕ). bit_at z (i % 64)) (sym word) ∙ taken in
-    let absent : bit_in masks i ≡ 0 = none i (omega (arith, e, above)) (omega (arith, e, below)) in
-    absurd (omega (arith, set, absent)))
+    let there : bit_in masks i ≡ 1 = ap (λ (z : ℕ). bit_at z (i % 64)) (sym word) ∙ taken in
+    let none : bit_in masks i ≡ 0 = ap (bit_in masks) e ∙ absent in
+    absurd (omega (arith, there, none)))
+
+-- bytes whose bits aren't set
+pub only_gap : (form : ℕ) (w : ℕ → ℕ) (masks : List ℕ) (from to : ℕ) → HasOnly form w masks → to ≤ 256 → ((k : ℕ) → from ≤ k → k < to → bit_in masks k ≡ 0) → IsGap form w from to
+only_gap form w masks from to only high none k b above below = only k b (omega arith) (none b above below)
 
 -- the children of a node of 256
 pub gap_wide : (w : ℕ → ℕ) (from to : ℕ) → to ≤ 256 → ((b : ℕ) → from ≤ b → b < to → w (8 + 2 * b) ≡ 0) → IsGap 4 w from to

@@ -1,6 +1,8 @@
 -- The next bit that is set.
-use Rattle.std.proofs.Common.{◌≡◌, ◌≢◌, ℕ, ◌+◌, ◌-◌, ◌*◌, ◌/◌, ◌%◌, ◌^◌, ◌<◌, ◌≤◌, sym, ap, ◌∙◌, arith, shr-shr, inl, inr, List, [], ◌∷◌, get_or, length, ◌⊎◌}
-use Rattle.std.proofs.lemmas.Nat.Bits.{bit_at-zero, bit_at_above}
+use Rattle.std.proofs.Common.{◌≡◌, ◌≢◌, ℕ, ◌+◌, ◌-◌, ◌*◌, ◌/◌, ◌%◌, ◌^◌, ◌<◌, ◌≤◌, sym, ap, ◌∙◌, arith, shr-shr, inl, inr, bit_and, pow_pos, pow_mono, pow-add, List, [], ◌∷◌, get_or, length, ◌⊎◌}
+use Rattle.std.proofs.lemmas.Nat.{leading_length, leading_top, div_below, and_le_r}
+use Rattle.std.proofs.lemmas.Nat.Bits.{bit_at-zero, bit_at-lt, bit_at_above, bit_at_and, bit_at_ones}
+use Rattle.std.specs.Int.Count.{count_leading_zeros, leading_of_zero}
 use Rattle.std.proofs.lemmas.Bool.{cases_lt, cases_eq}
 use Rattle.std.specs.Int.{bit_at}
 use Rattle.optimistic.specs.forms.Wide.{bit_in, IsNext, HasPlace}
@@ -31,6 +33,50 @@ first_from m f z small is below =
     let here : bit_at m (f + z) ≡ 1 = sym (shifted_bit m f z) ∙ is in
     (omega arith, set_below m (f + z) small here, here, λ k l g. bit_from m f k l ∙ below (k - f) (omega (arith, l, g)))
 
+-- Of a word the bits up to one, and the zeros that lead them
+module _ (m to : ℕ) (l : to < 64) where
+  abbrev rest : ℕ
+  rest = bit_and m ((2 ^ 64 - 1) / 2 ^ (63 - to))
+
+  abbrev zeros : ℕ
+  zeros = count_leading_zeros 64 rest
+
+  rest_small : rest < 2 ^ (to + 1)
+  rest_small =
+      let whole : 2 ^ 64 ≡ 2 ^ (to + 1) * 2 ^ (63 - to) = ap (λ (z : ℕ). 2 ^ z) (let e : 64 ≡ to + 1 + (63 - to) = omega arith in e) ∙ pow-add 2 (to + 1) (63 - to) in
+      let above = div_below (2 ^ 64 - 1) (2 ^ (63 - to)) (2 ^ (to + 1)) (pow_pos (63 - to)) (omega (arith, whole)) in
+      let most = and_le_r m ((2 ^ 64 - 1) / 2 ^ (63 - to)) in
+      omega (arith, above, most)
+
+  rest_word : rest < 2 ^ 64
+  rest_word = let s = rest_small in let p = pow_mono {i = to + 1} {j = 64} (omega arith) in omega (arith, s, p)
+
+  pub last_none : (k : ℕ) → 64 - zeros ≤ k → k ≤ to → bit_at m k ≡ 0
+  last_none k above below =
+      let t = leading_length 64 rest rest_word in
+      let sum = t.1 in
+      let none : bit_at rest k ≡ 0 = bit_at_above rest t.0 k t.2 (omega (arith, above, sum)) in
+      let one : bit_at ((2 ^ 64 - 1) / 2 ^ (63 - to)) k ≡ 1 = shifted_bit (2 ^ 64 - 1) (63 - to) k ∙ bit_at_ones 64 (63 - to + k) (omega (arith, below)) in
+      let both = bit_at_and m ((2 ^ 64 - 1) / 2 ^ (63 - to)) k in
+      let bit = bit_at-lt m k in
+      omega (arith, both, one, bit, none)
+
+  pub last_bound : 64 - zeros ≤ to + 1
+  last_bound = elim (cases_eq rest 0) [
+    | inl e ↦ let z : zeros ≡ 64 = ap (count_leading_zeros 64) e ∙ leading_of_zero 64 in omega (arith, z)
+    | inr ne ↦
+        let t = leading_top 64 rest (omega (arith, ne)) rest_word in
+        let sum = t.1 in
+        elim (cases_lt to t.0) [
+          | inl high ↦
+              let p : 2 ^ (to + 1) ≤ 2 ^ t.0 = pow_mono {i = to + 1} {j = t.0} (omega (arith, high)) in
+              let top = t.2 in
+              let s = rest_small in
+              absurd (omega (arith, p, top, s))
+          | inr low ↦ omega (arith, sum, low)
+        ]
+  ]
+
 -- the same in a list of words, from a place in word w on
 pub in_word : (masks : List ℕ) (w k : ℕ) → k < 64 → bit_in masks (w * 64 + k) ≡ bit_at (get_or masks w 0) k
 in_word masks w k l =
@@ -58,6 +104,16 @@ rest_next masks from at bit le small before next = (
         ap (bit_in masks) e ∙ in_word masks (at / 64) (k % 64) (omega arith) ∙ next.3 (k % 64) (omega (arith, a, g, next.1)) (omega (arith, e, g))
   ],
 )
+
+-- back from a place in a list of words
+pub back_none : (masks : List ℕ) (end last to : ℕ) → 0 < end → ((k : ℕ) → end ≤ k → k < to → bit_in masks k ≡ 0) → ((k : ℕ) → last ≤ k → k ≤ (end - 1) % 64 → bit_at (get_or masks ((end - 1) / 64) 0) k ≡ 0)
+    → (k : ℕ) → (end - 1) / 64 * 64 + last ≤ k → k < to → bit_in masks k ≡ 0
+back_none masks end last to some before none k l g = elim (cases_lt k end) [
+  | inl b ↦
+      let e : k ≡ (end - 1) / 64 * 64 + k % 64 = omega (arith, l, b, some) in
+      ap (bit_in masks) e ∙ in_word masks ((end - 1) / 64) (k % 64) (omega arith) ∙ none (k % 64) (omega (arith, e, l)) (omega (arith, e, b, some))
+  | inr a ↦ before k a g
+]
 
 -- the bytes of the places that are no more in `rest` are in the masks, and only such
 pub record IsCollected (key : ℕ → ℕ) (mask rest : ℕ) (masks : List ℕ) : Type 0 where

@@ -12,7 +12,7 @@ use Rattle.optimistic.specs.declared.words.rule.Entry.{Entry}
 use Rattle.optimistic.specs.declared.words.rule.Moment.{Moment}
 use Rattle.optimistic.specs.declared.words.rule.View.{View}
 use Rattle.optimistic.specs.forms.Children.{is_inner, first_of, second_of, put_first, IsForm}
-use Rattle.optimistic.specs.words.Kept.{word_at, version_at, size, calm_at, value_of, Since, Sound}
+use Rattle.optimistic.specs.words.Kept.{word_at, size, calm_at, value_of, Since, Sound}
 use Rattle.optimistic.specs.words.Told.{HasForm, Tells, Looks}
 use Rattle.optimistic.specs.tree.Drained.{pair_of}
 use Rattle.optimistic.specs.tree.Levels.{form_of, depth, stands, goes_on, pair_value}

@@ -1,4 +1,4 @@
-use Rattle.std.proofs.Common.{◌≡◌, ℕ, rules, refl, sym, ◌∙◌, arith}
+use Rattle.std.proofs.Common.{◌≡◌, rules, refl, sym, ◌∙◌, arith}
 use Rattle.optimistic.proofs.lemmas.words.Moments.{width_more}
 use Rattle.optimistic.proofs.tree.get.Tree.confirm.Goals as goal
 

@@ -1,19 +1,14 @@
-use Rattle.std.proofs.Common.{◌≡◌, arith}
-use Rattle.optimistic.specs.Layout.{room}
-use Rattle.optimistic.proofs.lemmas.MoveLemmas.{wide_room}
-use Rattle.optimistic.proofs.lemmas.tree.Setting.{room_some}
+use Rattle.std.proofs.Common.{ℕ, sym, subst}
+use Rattle.optimistic.specs.words.Told.{HasForm}
+use Rattle.optimistic.specs.tree.Sights.{Lacks}
+use Rattle.optimistic.proofs.lemmas.forms.Gaps.{only_gap}
 use Rattle.optimistic.proofs.tree.get.Tree.gap.Goals as goal
 
-pub gap_of_four-requires-clause-form : goal.gap_of_four-requires-clause-form
-gap_of_four-requires-clause-form c = omega (arith, c.room_of.ensures)
+pub gap_of_wide-requires-clause-at : goal.gap_of_wide-requires-clause-at
+gap_of_wide-requires-clause-at c = subst (λ (z : ℕ). HasForm c.args.at.node z c.args.hand.now.me.0) c.if-at-eq4.true c.requires.at.at
 
-pub gap_of_sixteen-requires-clause-form : goal.gap_of_sixteen-requires-clause-form
-gap_of_sixteen-requires-clause-form c = omega (arith, c.room_of.ensures)
+pub returns-then-at-eq4-clause-lacks : goal.returns-then-at-eq4-clause-lacks
+returns-then-at-eq4-clause-lacks c = subst (λ (z : ℕ). Lacks c.args.at.node z c.args.from c.gap_of_wide.result c.args.hand.now.me.0 c.gap_of_wide.new.hand.me.0) (sym c.if-at-eq4.true) c.gap_of_wide.ensures.lacks
 
-pub gap_of_forty_eight-requires-clause-form : goal.gap_of_forty_eight-requires-clause-form
-gap_of_forty_eight-requires-clause-form c = omega (arith, c.room_of.ensures)
-
-pub gap_of_256-requires-clause-form : goal.gap_of_256-requires-clause-form
-gap_of_256-requires-clause-form c =
-    wide_room c.args.at.form (room_some c.args.at.form c.requires.at.some c.requires.at.form) (λ (e : room c.args.at.form ≡ 4). absurd (omega (arith, e, c.room_of.ensures))) (λ (e : room c.args.at.form ≡ 16). absurd (omega (arith, e, c.room_of.ensures)))
-    (λ (e : room c.args.at.form ≡ 48). absurd (omega (arith, e, c.room_of.ensures)))
+pub returns-clause-lacks : goal.returns-clause-lacks
+returns-clause-lacks c f ag is = only_gap c.args.at.form f c.bytes-bytes.result c.args.from c.first_set.result (c.bytes-bytes.ensures.only f ag is) c.first_set.ensures.bounds.1 c.first_set.ensures.none

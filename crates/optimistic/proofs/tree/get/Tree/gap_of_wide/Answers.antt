@@ -1,4 +1,4 @@
-use Rattle.std.proofs.Common.{◌≡◌, ℕ, ◌+◌, ◌*◌, ◌<◌, ◌≤◌, refl, rules, subst, arith}
+use Rattle.std.proofs.Common.{◌≡◌, ℕ, ◌+◌, ◌*◌, ◌<◌, refl, rules, subst, arith}
 use Rattle.optimistic.specs.Layout.{width}
 use Rattle.optimistic.specs.tree.Reads.{Steady}
 use Rattle.optimistic.proofs.lemmas.forms.Gaps.{gap_wide}

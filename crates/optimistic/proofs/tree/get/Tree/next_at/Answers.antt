@@ -1,4 +1,4 @@
-use Rattle.std.proofs.Common.{◌≡◌, ◌≢◌, ℕ, ◌<◌, ◌≤◌, rules, refl, sym, ◌∙◌, subst, inl, inr, arith}
+use Rattle.std.proofs.Common.{◌≡◌, ◌≢◌, ℕ, ◌<◌, ◌≤◌, rules, refl, ◌∙◌, subst, inl, inr, arith}
 use Rattle.optimistic.specs.Layout.{byte_at}
 use Rattle.optimistic.specs.tree.Reads.{Found}
 use Rattle.optimistic.specs.tree.Sights.{Lacks}

@@ -1,4 +1,4 @@
-use Rattle.std.specs.Prelude.{◌≡◌, IfSome}
+use Rattle.std.specs.Prelude.{IfSome}
 use Rattle.optimistic.specs.words.Told.{IsOf, Looks}
 use Rattle.optimistic.specs.tree.Sights.{IsSight}
 use Rattle.optimistic.specs.tree.Trees.{IsTree}

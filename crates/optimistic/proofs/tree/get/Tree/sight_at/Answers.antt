@@ -1,4 +1,4 @@
-use Rattle.std.proofs.Common.{◌≡◌, ◌≢◌, ℕ, ◌%◌, rules, sym, ◌∙◌, subst, arith}
+use Rattle.std.proofs.Common.{◌≡◌, ◌≢◌, ℕ, ◌%◌, rules, ◌∙◌, subst, arith}
 use Rattle.optimistic.specs.Layout.{where_of}
 use Rattle.optimistic.specs.tree.Reads.{Steady}
 use Rattle.optimistic.proofs.lemmas.tree.Reading.{looks_trans}

@@ -1,0 +1,31 @@
+use Rattle.std.proofs.Common.{◌≡◌, sym, ◌∙◌, arith}
+use native.Mathlib.Nat.{mod-eq_of_lt}
+use Rattle.optimistic.specs.Layout.{room}
+use Rattle.optimistic.proofs.lemmas.forms.Gaps.{has_two}
+use Rattle.optimistic.proofs.lemmas.forms.PlaceLemmas.{mask_sixteen, entries_sixteen}
+use Rattle.optimistic.proofs.lemmas.MoveLemmas.{below_inside, sixteen_small}
+use Rattle.optimistic.proofs.lemmas.tree.Reading.{looks_trans, steady_until}
+use Rattle.optimistic.proofs.lemmas.tree.Sights.{steady_in}
+use Rattle.optimistic.proofs.lemmas.words.Moments.{since_trans, since_refl}
+use Rattle.optimistic.proofs.tree.get.Tree.bytes_of_sixteen.Goals as goal
+
+pub read-a-requires-clause-inside : goal.read-a-requires-clause-inside
+read-a-requires-clause-inside c = (omega arith, below_inside c.args.at.form 2 (omega (arith, c.requires.form)) (omega (arith, entries_sixteen c.args.at.form c.requires.form)))
+
+pub read-b-requires-clause-inside : goal.read-b-requires-clause-inside
+read-b-requires-clause-inside c = (omega arith, below_inside c.args.at.form 3 (omega (arith, c.requires.form)) (omega (arith, entries_sixteen c.args.at.form c.requires.form)))
+
+pub read-mask-requires-clause-inside : goal.read-mask-requires-clause-inside
+read-mask-requires-clause-inside c = (omega arith, below_inside c.args.at.form 4 (omega (arith, c.requires.form)) (omega (arith, entries_sixteen c.args.at.form c.requires.form)))
+
+pub returns-clause-looks : goal.returns-clause-looks
+returns-clause-looks c = (looks_trans _ _ _ c.read-a.ensures.looks (looks_trans _ _ _ c.read-b.ensures.looks c.read-mask.ensures.looks))
+
+pub returns-clause-only : goal.returns-clause-only
+returns-clause-only c f ag is =
+    let r0 : f 2 ≡ c.read-a.result = steady_until c.args.at.node c.args.at.form 2 c.read-a.result c.args.hand.now.me.0 c.read-a.new.hand.me.0 c.read-mask.new.hand.me.0 c.read-a.ensures.steady (since_trans c.read-a.new.hand.me.0.seen c.read-b.new.hand.me.0.seen c.read-mask.new.hand.me.0.seen c.read-b.ensures.looks.since c.read-mask.ensures.looks.since) f ag in
+    let r1 : f 3 ≡ c.read-b.result = steady_in c.args.at.node c.args.at.form 3 c.read-b.result c.args.hand.now.me.0 c.read-a.new.hand.me.0 c.read-b.new.hand.me.0 c.read-mask.new.hand.me.0 c.read-a.ensures.looks c.read-b.ensures.steady c.read-mask.ensures.looks.since f ag in
+    let r2 : f 4 ≡ c.read-mask.result = steady_in c.args.at.node c.args.at.form 4 c.read-mask.result c.args.hand.now.me.0 c.read-b.new.hand.me.0 c.read-mask.new.hand.me.0 c.read-mask.new.hand.me.0 (looks_trans _ _ _ c.read-a.ensures.looks c.read-b.ensures.looks) c.read-mask.ensures.steady (since_refl c.read-mask.new.hand.me.0.seen) f ag in
+    let small = sixteen_small c.args.at.form f c.read-mask.result c.requires.form is (sym r2) in
+    c.bytes_among.ensures c.args.at.form f (λ (e : room c.args.at.form ≡ 256). absurd (omega (arith, e, c.requires.form))) (omega (arith, c.requires.form))
+    (has_two f c.read-a.result c.read-b.result r0 r1) (mask_sixteen c.args.at.form f c.requires.form ∙ r2 ∙ sym (mod-eq_of_lt (omega (arith, small)))) is
