@@ -8,6 +8,7 @@ pub mod Intact
 pub mod Journaling
 pub mod Laws
 pub mod Log
+pub mod Looks
 pub mod Safety
 pub mod Sound
 pub mod Standing

@@ -4,6 +4,7 @@ pub mod Nodes
 pub mod Heap
 pub mod Levels
 pub mod Listing
+pub mod Nearest
 pub mod MapCode
 pub mod Opening
 pub mod RoomLemmas

@@ -4,12 +4,14 @@
 //! `step_begin` begins a call, and `step_on` goes on with it. A writing call reserves its place in a journal, secures
 //! places of its worker's bag for the nodes that it may hand over, and then walks the tree; a reading one walks at once.
 //! `census` and `waiting` count the pairs and what calls have taken out; `journaling` and `request` tell what a journal
-//! wants of a call and what its worker asked for; `close` ends them all.
+//! wants of a call and what its worker asked for; `nearest` looks for the pair next to a key, which is no step; `close`
+//! ends them all.
 
 pub(crate) mod census;
 pub(crate) mod close;
 pub(crate) mod in_flight;
 pub(crate) mod journaling;
+pub(crate) mod nearest;
 pub(crate) mod request;
 pub(crate) mod step;
 pub(crate) mod waiting;

@@ -3,13 +3,14 @@
 //! A cell holds a `slot`: a node beside its lock word. `cells` takes one out and puts it back; `Nodes` changes it in between,
 //! and serves the protocol's calls as their `store`, which `reading` reads for. `collector` has the collector's own calls on
 //! the nodes, `counts` what was handed over and of what size. `opening` makes the root; `survey`, `stats` and `close` go
-//! through the whole tree. `account` is what came in with the allocator.
+//! through the whole tree, `nearest` one way down it. `account` is what came in with the allocator.
 
 pub(crate) mod account;
 pub(crate) mod cells;
 pub(crate) mod close;
 pub(crate) mod collector;
 pub(crate) mod counts;
+pub(crate) mod nearest;
 pub(crate) mod opening;
 pub(crate) mod reading;
 pub(crate) mod slot;

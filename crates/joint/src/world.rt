@@ -14,9 +14,11 @@ ghost use Rattle.judge.specs.Journal.{IsLegal, Legal};
 ghost use Rattle.congee.specs.Heap.{Stands};
 ghost use Rattle.congee.specs.Keys.{IsMapOf};
 ghost use Rattle.joint.specs.engine.Closing.{IsClosed, IsNotClosed, account_of};
+ghost use Rattle.joint.specs.engine.Looks.{Looks};
 ghost use Rattle.joint.specs.engine.Standing.{pairs_of};
 ghost use Rattle.joint.specs.nodes.Nodes.{nodes};
 ghost use Rattle.joint.specs.engine.Journaling.{asks_at, has_place};
+ghost use Rattle.joint.specs.nodes.Nearest.{IsNearest};
 ghost use Rattle.joint.specs.nodes.Listing.{IsListOf, bytes_of, standing_nodes};
 ghost use Rattle.joint.specs.engine.Census.{waiting_nodes};
 ghost use Rattle.joint.specs.engine.Log.{opened_log, request_at};
@@ -28,6 +30,7 @@ ghost use Rattle.joint.specs.world.Whereabouts.{AllSomewhere, IsWaiting};
 use crate::engine::Engine;
 use crate::limits::Limits;
 use crate::nodes::account::Account;
+use crate::nodes::nearest::Near;
 use crate::refusal::Refusal;
 use crate::steps::{Op, Report};
 use crate::world::laws::{waits, whereabouts};
@@ -131,6 +134,14 @@ impl<P: Payload + Small, A: Allocator> World<P, A> {
     {
         waits::<P>();
         self.engine.waiting_bytes()
+    }
+
+    /// The nearest pair of those that stand, for a worker that may ask for emptiness. Refused as such a question, and as
+    /// Count where the value can't have an owner more.
+    pub(crate) fn nearest(&self, worker: u32, near: Near) -> Result<Option<(u64, P)>, Refusal>
+        ensures { Looks P.always_copies self.now worker (λ m pair. IsNearest m near pair) result }
+    {
+        self.engine.nearest(worker as usize, near)
     }
 
     /// The entries of the calls that took effect: of all writing ones, and of the look-ups for which a place was free that no

@@ -12,6 +12,7 @@ pub mod Filing
 pub mod Fresh
 pub mod NamesInStretch
 pub mod HandOver
+pub mod Looking
 pub mod SoundHandOver
 pub mod SoundOpening
 pub mod PlainTells

@@ -15,6 +15,8 @@ pub mod KeyWalks
 pub mod Keyed
 pub mod Listing
 pub mod NameLists
+pub mod FirstWalks
+pub mod LastWalks
 pub mod OtherChild
 pub mod Paths
 pub mod Planting

@@ -6,6 +6,7 @@ use Rattle.std.specs.Option.{option_map}
 use Rattle.std.specs.declared.alloc.Global.{Global}
 use Rattle.std.specs.declared.sync.Arc.{Arc}
 use Rattle.judge.specs.declared.journal.Reply.TheVariants.{Get, Insert, Remove, ComputePresent, ComputeInsert, Exchange}
+use Rattle.judge.specs.Answer.{Pairs}
 use Rattle.crossbeam_epoch.specs.World.Ending.{registered_in}
 use Rattle.congee.specs.declared.owned.stats.NodeStats.{NodeStats}
 use Rattle.congee.specs.owned.Stats.{capped}
@@ -26,6 +27,7 @@ use Rattle.joint.specs.declared.threads.tokens.Guard.{Guard}
 use Rattle.joint.specs.declared.threads.tokens.Worker.{Worker}
 use Rattle.joint.specs.engine.Closing.{IsClosed, account_of}
 use Rattle.joint.specs.engine.Log.{request_at}
+use Rattle.joint.specs.engine.Looks.{Looks}
 use Rattle.joint.specs.threads.Driving.{IsDriven, ended}
 use Rattle.joint.specs.nodes.Listing.{bytes_of, standing_nodes}
 use Rattle.joint.specs.engine.Census.{waiting_nodes}
@@ -292,6 +294,11 @@ abbrev pub words : {B : Type 0} → (ℕ → B) → Result (Option ℕ) Refusal 
 words of (Ok v) = Ok (option_map of v)
 words of (Err e) = Err e
 
+-- and the pair, by its key and its value
+abbrev pub pair_words : {K V W : Type 0} → (ℕ → K) → (W → V) → Result (Option (ℕ × W)) Refusal → Result (Option (K × V)) Refusal
+pair_words key value (Ok found) = Ok (option_map (λ pair. (key pair.0, value pair.1)) found)
+pair_words key value (Err e) = Err e
+
 -- the same of the two that an exchange answers
 abbrev pub either_of : {B : Type 0} → (ℕ → B) → Result (Option ℕ) (Option ℕ) → Result (Option B) (Option B)
 either_of of (Ok v) = Ok (option_map of v)
@@ -315,6 +322,10 @@ As {A} does of result = (read : A) × does read × (result ≡ of read)
 -- what is told of the machine, in whatever state others have left it
 abbrev pub IsTold : {V B : Type 0} → (V → V → Bool) → Bool → (World V → B) → B → Type 0
 IsTold {V} same always of result = (s : World V) × Holds same always s × (result ≡ of s)
+
+-- a worker's look for a pair of those that stand, in whatever state others have left them
+abbrev pub Finds : {V : Type 0} → (V → V → Bool) → Bool → ℕ → (Pairs V → Option (ℕ × V) → Type 0) → Result (Option (ℕ × V)) Refusal → Type 0
+Finds {V} same always who is result = (s : World V) × Holds same always s × Looks always s who is result
 
 -- the bytes charged: what came in with the allocator, and the sizes of the nodes that stand; past 64 bits, which no allocator
 -- charges, the greatest number
@@ -361,6 +372,11 @@ abbrev pub owned : {V : Type 0} → Result (Option (Arc V Global)) Refusal → R
 owned (Ok owner) = Ok (option_map arc_value owner)
 owned (Err e) = Err e
 
+-- and of the pair of one
+abbrev pub owned_pair : {K V : Type 0} → Result (Option (K × Arc V Global)) Refusal → Result (Option (K × V)) Refusal
+owned_pair (Ok found) = Ok (option_map (λ pair. (pair.0, arc_value pair.1)) found)
+owned_pair (Err e) = Err e
+
 -- the values before
 abbrev pub befores : {V : Type 0} → Result (Option (V × Option V)) Refusal → Result (Option V) Refusal
 befores (Ok pair) = Ok (option_map (λ p. p.0) pair)
@@ -369,6 +385,10 @@ befores (Err e) = Err e
 -- what a call of values answers, as owners of them
 abbrev pub Owns : {A V : Type 0} → (A → Type 0) → (A → Result (Option V) Refusal) → Result (Option (Arc V Global)) Refusal → Type 0
 Owns {A} does of result = (read : A) × does read × (owned result ≡ of read)
+
+-- the same of a pair, whose key is of words
+abbrev pub OwnsPair : {K V : Type 0} → (Result (Option (ℕ × V)) Refusal → Type 0) → (ℕ → K) → Result (Option (K × Arc V Global)) Refusal → Type 0
+OwnsPair {V = V} does key result = (read : Result (Option (ℕ × V)) Refusal) × does read × (owned_pair result ≡ pair_words key (λ v. v) read)
 
 -- a refused insertion: by the machine, or since no more owners of the value can be counted
 abbrev pub RefusesOwner : {V : Type 0} → Bool → (Result (Option V) Refusal → Type 0) → Refusal → Type 0

@@ -304,7 +304,7 @@ impl<P: Payload + Small, A: Allocator> Engine<P, A> {
     }
 
     /// Whether a worker has a call in flight.
-    fn is_busy(&self, who: usize) -> bool
+    pub(crate) fn is_busy(&self, who: usize) -> bool
         requires { who < length self.now.calls.items }
         ensures { result ≡ is_busy (slice_get self.now.calls.items who) }
     {

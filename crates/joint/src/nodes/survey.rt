@@ -19,7 +19,7 @@ use std::alloc::AllocError;
 use std::vec::Vec;
 
 /// How many keys are under each byte of a node whose prefix has so many bytes.
-fn width(depth: usize) -> u64
+pub(crate) fn width(depth: usize) -> u64
     requires { depth ≤ MAX_PREFIX_LEN }
     ensures { result ≡ width depth }
 {

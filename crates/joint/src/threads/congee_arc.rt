@@ -1,14 +1,16 @@
 //! The index for threads whose values are shared.
 
-ghost use Rattle.std.specs.Prelude.{◌≡◌, false, IfErr, IfOk, Ok};
+ghost use Rattle.std.specs.Prelude.{◌≡◌, ◌^◌, false, suc, IfErr, IfOk, Ok};
 ghost use Rattle.std.specs.Arc.{arc_value};
 ghost use Rattle.std.specs.Option.{option_map};
+ghost use Rattle.congee.specs.owned.Nearest.{IsGreatest, IsLeast};
 ghost use Rattle.joint.specs.nodes.Opening.{IsUnopened};
 ghost use Rattle.joint.specs.threads.Pinned.{CallsPinned, KeepsWorker};
-ghost use Rattle.joint.specs.threads.Threads.{Answers, AreKeys, ByHold, Computes, Drops, Hands, IsAccount, IsHold, IsOfReader, IsRound, IsTold, IsUnclosed, Owns, Pins, RefusesOwner, Serves, is_held_by, is_of, register_step, registered, charge_of, waiting_bytes_of, waiting_of, befores, computed, contained, counted, emptied, got, if_owned, inserted, listed, owned, pairs_counted, removed, told};
+ghost use Rattle.joint.specs.threads.Threads.{Answers, AreKeys, ByHold, Computes, Drops, Finds, Hands, IsAccount, IsHold, IsOfReader, IsRound, IsTold, IsUnclosed, Owns, OwnsPair, Pins, RefusesOwner, Serves, is_held_by, is_of, register_step, registered, charge_of, waiting_bytes_of, waiting_of, befores, computed, contained, counted, emptied, got, if_owned, inserted, listed, owned, owned_pair, pair_words, pairs_counted, removed, told};
 ghost use Rattle.joint.specs.declared.steps.Op.TheVariants as op;
 
 use crate::limits::Limits;
+use crate::nodes::nearest::Near;
 use crate::refusal::Refusal;
 use crate::threads::answers::Answer;
 use crate::threads::locked::Plain;
@@ -92,6 +94,19 @@ fn befores<P: Drop>(answer: Result<Option<(P, Option<P>)>, Refusal>) -> Result<O
 {
     match answer {
         Ok(Some((before, _))) => Ok(Some(before)),
+        Ok(None) => Ok(None),
+        Err(refusal) => Err(refusal),
+    }
+}
+
+/// The pair of an answer, with the owner of its value.
+fn owner_pair<K: Word64, V: Drop>(
+    answer: Result<Option<(u64, ArcPayload<V>)>, Refusal>,
+) -> Result<Option<(K, Arc<V, Global>)>, Refusal>
+    ensures { owned_pair result ≡ pair_words K.of_word (λ v. v) answer }
+{
+    match answer {
+        Ok(Some((key, payload))) => Ok(Some((K::from_word(key), payload.into_arc()))),
         Ok(None) => Ok(None),
         Err(refusal) => Err(refusal),
     }
@@ -304,6 +319,112 @@ impl<K: Word64, V: Drop> CongeeArc<K, V> {
         ensures refused { IfErr result IsOfReader }
     {
         self.tree.is_empty(rt, worker, guard)
+    }
+
+    /// The pair of the least key, if there is one, of those that stand in one hold of the lock.
+    pub fn first<R: Wait>(
+        &self,
+        rt: &R,
+        worker: &mut Worker,
+        guard: &Guard,
+    ) -> Result<Option<(K, Arc<V, Global>)>, Refusal>
+        ensures worker { worker.new ≡ worker.old }
+        ensures answers { OwnsPair (Serves (is_held_by self.now.tree.id worker.old guard.now)
+            (Finds {V = V} (λ _ _. false) false worker.old.number (λ m pair. IsLeast m 0 pair))) K.of_word result }
+        ensures refused { IfErr result IsOfReader }
+    {
+        owner_pair(self.tree.nearest(rt, Near::From(0), worker, guard))
+    }
+
+    /// The pair of the greatest key, so.
+    pub fn last<R: Wait>(
+        &self,
+        rt: &R,
+        worker: &mut Worker,
+        guard: &Guard,
+    ) -> Result<Option<(K, Arc<V, Global>)>, Refusal>
+        ensures worker { worker.new ≡ worker.old }
+        ensures answers { OwnsPair (Serves (is_held_by self.now.tree.id worker.old guard.now)
+            (Finds {V = V} (λ _ _. false) false worker.old.number (λ m pair. IsGreatest m (2 ^ 64) pair))) K.of_word result }
+        ensures refused { IfErr result IsOfReader }
+    {
+        owner_pair(self.tree.nearest(rt, Near::UpTo(u64::MAX), worker, guard))
+    }
+
+    /// The pair of the least key above this one, so.
+    pub fn next_after<R: Wait>(
+        &self,
+        rt: &R,
+        key: K,
+        worker: &mut Worker,
+        guard: &Guard,
+    ) -> Result<Option<(K, Arc<V, Global>)>, Refusal>
+        ensures worker { worker.new ≡ worker.old }
+        ensures answers { OwnsPair (Serves (is_held_by self.now.tree.id worker.old guard.now)
+            (Finds {V = V} (λ _ _. false) false worker.old.number (λ m pair. IsLeast m (suc (K.word key)) pair))) K.of_word result }
+        ensures refused { IfErr result IsOfReader }
+    {
+        owner_pair(
+            self.tree
+                .nearest(rt, Near::After(key.to_word()), worker, guard),
+        )
+    }
+
+    /// The pair of the greatest key below this one, so.
+    pub fn next_before<R: Wait>(
+        &self,
+        rt: &R,
+        key: K,
+        worker: &mut Worker,
+        guard: &Guard,
+    ) -> Result<Option<(K, Arc<V, Global>)>, Refusal>
+        ensures worker { worker.new ≡ worker.old }
+        ensures answers { OwnsPair (Serves (is_held_by self.now.tree.id worker.old guard.now)
+            (Finds {V = V} (λ _ _. false) false worker.old.number (λ m pair. IsGreatest m (K.word key) pair))) K.of_word result }
+        ensures refused { IfErr result IsOfReader }
+    {
+        owner_pair(
+            self.tree
+                .nearest(rt, Near::Before(key.to_word()), worker, guard),
+        )
+    }
+
+    /// The pair of the least key that isn't less than this one, so: its own, where it is present.
+    pub fn at_or_after<R: Wait>(
+        &self,
+        rt: &R,
+        key: K,
+        worker: &mut Worker,
+        guard: &Guard,
+    ) -> Result<Option<(K, Arc<V, Global>)>, Refusal>
+        ensures worker { worker.new ≡ worker.old }
+        ensures answers { OwnsPair (Serves (is_held_by self.now.tree.id worker.old guard.now)
+            (Finds {V = V} (λ _ _. false) false worker.old.number (λ m pair. IsLeast m (K.word key) pair))) K.of_word result }
+        ensures refused { IfErr result IsOfReader }
+    {
+        owner_pair(
+            self.tree
+                .nearest(rt, Near::From(key.to_word()), worker, guard),
+        )
+    }
+
+    /// The pair of the greatest key that isn't greater than this one, so: its own, where it is present.
+    pub fn at_or_before<R: Wait>(
+        &self,
+        rt: &R,
+        key: K,
+        worker: &mut Worker,
+        guard: &Guard,
+    ) -> Result<Option<(K, Arc<V, Global>)>, Refusal>
+        ensures worker { worker.new ≡ worker.old }
+        ensures answers { OwnsPair (Serves (is_held_by self.now.tree.id worker.old guard.now)
+            (Finds {V = V} (λ _ _. false) false worker.old.number (λ m pair. IsGreatest m (suc (K.word key)) pair))) K.of_word result }
+        ensures refused { IfErr result IsOfReader }
+    {
+        owner_pair(
+            self.tree
+                .nearest(rt, Near::UpTo(key.to_word()), worker, guard),
+        )
     }
 
     /// All keys, ascending, at its one step. It wants no guard. Refused as Memory.

@@ -2,26 +2,28 @@
 
 ghost use Rattle.std.specs.Prelude.{◌≡◌, ◌≤◌, ℕ, [], false, length, map, take, IfOk, IfErr};
 ghost use Rattle.joint.specs.threads.Driving.{IsToldInCall, ended};
+ghost use Rattle.joint.specs.nodes.Nearest.{IsNearest};
 ghost use Rattle.joint.specs.nodes.Opening.{IsUnopened};
 ghost use Rattle.joint.specs.threads.Pinned.{CallsPinned, KeepsWorker};
-ghost use Rattle.joint.specs.threads.Threads.{Answers, Ascend, ClosesWith, Computes, Hands, IsAccount, IsByHolds, IsHold, IsOfReader, IsRound, IsTold, IsUnclosed, Pins, Scans, Serves, is_held_by, is_of, register_step, registered, charge_of, waiting_bytes_of, waiting_of, bounds, computed, contained, counted, emptied, exchanged, got, inserted, listed, pairs_counted, removed, replaced, scanned, told};
+ghost use Rattle.joint.specs.threads.Threads.{Answers, Ascend, ClosesWith, Computes, Finds, Hands, IsAccount, IsByHolds, IsHold, IsOfReader, IsRound, IsTold, IsUnclosed, Pins, Scans, Serves, is_held_by, is_of, register_step, registered, charge_of, waiting_bytes_of, waiting_of, bounds, computed, contained, counted, emptied, exchanged, got, inserted, listed, pairs_counted, removed, replaced, scanned, told};
 ghost use Rattle.joint.specs.engine.Engine.{IsOfCall};
 ghost use Rattle.joint.specs.declared.steps.Op.TheVariants as op;
 
 use crate::limits::Limits;
 use crate::nodes::account::Account;
+use crate::nodes::nearest::Near;
 use crate::refusal::Refusal;
 use crate::steps::{Op, Outcome, Report, Step};
 use crate::threads::answers::{Answer, Silent};
 use crate::threads::driver::{Pair, drive_to};
-use crate::threads::ends::{
+use crate::threads::locked::{Locked, Plain, Words};
+use crate::threads::replies::{
     End, bounds, computed, contained, counted, emptied, exchanged, got, inserted, listed,
     of_reader, pairs_counted, removed, replaced, scanned, told,
 };
-use crate::threads::holds::Holds;
-use crate::threads::locked::{Locked, Plain, Words};
 use crate::threads::rounds::{Ends, round};
 use crate::threads::tokens::{Guard, Worker};
+use crate::threads::turns::Holds;
 use crate::world::World;
 use congee::{Allocator, Drainer, NodeStats, Payload, Small};
 use crossbeam_utils::CachePadded;
@@ -377,6 +379,26 @@ impl<P: Payload + Small, T: Locked<P>> Tree<P, T> {
             return Err(Refusal::Foreign);
         }
         emptied(self.call(rt, worker, Op::IsEmpty))
+    }
+
+    /// The nearest pair, of those that stand in one hold of the lock.
+    pub(crate) fn nearest<R: Wait>(
+        &self,
+        rt: &R,
+        near: Near,
+        worker: &Worker,
+        guard: &Guard,
+    ) -> Result<Option<(u64, P)>, Refusal>
+        ensures answers { Serves (is_held_by self.now.id worker.now guard.now) (Finds P.same_as P.always_copies worker.now.number (λ m pair. IsNearest m near pair)) result }
+        ensures refused { IfErr result IsOfReader }
+    {
+        if !self.serves(worker, guard) {
+            return Err(Refusal::Foreign);
+        }
+        let kept = self.hold(rt);
+        let machine = kept.world();
+        machine.sound();
+        machine.nearest(worker.number, near)
     }
 
     /// All keys, ascending, at its one step.

@@ -1,12 +1,13 @@
 //! The index for threads whose keys are numbers.
 
-ghost use Rattle.std.specs.Prelude.{◌≡◌, ◌≤◌, false, length, nat_eq, true, IfErr, IfOk, MatchResult, suc, map, take};
+ghost use Rattle.std.specs.Prelude.{◌≡◌, ◌^◌, ◌≤◌, false, length, nat_eq, true, IfErr, IfOk, MatchResult, suc, map, take};
 ghost use Rattle.std.specs.Int.{from_be_bytes, w64};
 ghost use Rattle.std.specs.Option.{option_map};
 ghost use Rattle.congee.specs.Keys.{key_bytes};
+ghost use Rattle.congee.specs.owned.Nearest.{IsGreatest, IsLeast};
 ghost use Rattle.joint.specs.nodes.Opening.{IsUnopened};
 ghost use Rattle.joint.specs.threads.Pinned.{CallsPinned, KeepsWorker};
-ghost use Rattle.joint.specs.threads.Threads.{Answers, AreKeys, As, Ascend, ByOwn, Computes, Drops, Hands, IsAccount, IsHold, IsOfReader, IsRound, IsTold, IsUnclosed, Pins, Scans, Serves, is_held_by, is_of, register_step, registered, charge_of, waiting_bytes_of, waiting_of, computed, contained, counted, either_words, emptied, exchanged, got, if_present, inserted, listed, or_insert, pairs_counted, removed, replaced, scanned, told, words};
+ghost use Rattle.joint.specs.threads.Threads.{Answers, AreKeys, As, Ascend, ByOwn, Computes, Drops, Finds, Hands, IsAccount, IsHold, IsOfReader, IsRound, IsTold, IsUnclosed, Pins, Scans, Serves, is_held_by, is_of, register_step, registered, charge_of, waiting_bytes_of, waiting_of, computed, contained, counted, either_words, emptied, exchanged, got, if_present, inserted, listed, or_insert, pair_words, pairs_counted, removed, replaced, scanned, told, words};
 ghost use Rattle.joint.specs.declared.steps.Op.TheVariants as op;
 
 use crate::limits::Limits;
@@ -294,6 +295,100 @@ impl<V: Word64, A: Allocator> U64Congee<V, A> {
         ensures refused { IfErr result IsOfReader }
     {
         self.words.is_empty(rt, worker, guard)
+    }
+
+    /// The pair of the least key, if there is one, of those that stand in one hold of the lock.
+    pub fn first<R: Wait>(
+        &self,
+        rt: &R,
+        worker: &mut Worker,
+        guard: &Guard,
+    ) -> Result<Option<(u64, V)>, Refusal>
+        ensures worker { worker.new ≡ worker.old }
+        ensures answers { As (Serves (is_held_by self.now.words.tree.id worker.old guard.now)
+            (Finds nat_eq true worker.old.number (λ m pair. IsLeast m 0 pair))) (pair_words (λ k. k) V.of_word) result }
+        ensures refused { IfErr result IsOfReader }
+    {
+        self.words.first(rt, worker, guard)
+    }
+
+    /// The pair of the greatest key, so.
+    pub fn last<R: Wait>(
+        &self,
+        rt: &R,
+        worker: &mut Worker,
+        guard: &Guard,
+    ) -> Result<Option<(u64, V)>, Refusal>
+        ensures worker { worker.new ≡ worker.old }
+        ensures answers { As (Serves (is_held_by self.now.words.tree.id worker.old guard.now)
+            (Finds nat_eq true worker.old.number (λ m pair. IsGreatest m (2 ^ 64) pair))) (pair_words (λ k. k) V.of_word) result }
+        ensures refused { IfErr result IsOfReader }
+    {
+        self.words.last(rt, worker, guard)
+    }
+
+    /// The pair of the least key above this one, so.
+    pub fn next_after<R: Wait>(
+        &self,
+        rt: &R,
+        key: u64,
+        worker: &mut Worker,
+        guard: &Guard,
+    ) -> Result<Option<(u64, V)>, Refusal>
+        ensures worker { worker.new ≡ worker.old }
+        ensures answers { As (Serves (is_held_by self.now.words.tree.id worker.old guard.now)
+            (Finds nat_eq true worker.old.number (λ m pair. IsLeast m (suc key) pair))) (pair_words (λ k. k) V.of_word) result }
+        ensures refused { IfErr result IsOfReader }
+    {
+        self.words.next_after(rt, &key, worker, guard)
+    }
+
+    /// The pair of the greatest key below this one, so.
+    pub fn next_before<R: Wait>(
+        &self,
+        rt: &R,
+        key: u64,
+        worker: &mut Worker,
+        guard: &Guard,
+    ) -> Result<Option<(u64, V)>, Refusal>
+        ensures worker { worker.new ≡ worker.old }
+        ensures answers { As (Serves (is_held_by self.now.words.tree.id worker.old guard.now)
+            (Finds nat_eq true worker.old.number (λ m pair. IsGreatest m key pair))) (pair_words (λ k. k) V.of_word) result }
+        ensures refused { IfErr result IsOfReader }
+    {
+        self.words.next_before(rt, &key, worker, guard)
+    }
+
+    /// The pair of the least key that isn't less than this one, so: its own, where it is present.
+    pub fn at_or_after<R: Wait>(
+        &self,
+        rt: &R,
+        key: u64,
+        worker: &mut Worker,
+        guard: &Guard,
+    ) -> Result<Option<(u64, V)>, Refusal>
+        ensures worker { worker.new ≡ worker.old }
+        ensures answers { As (Serves (is_held_by self.now.words.tree.id worker.old guard.now)
+            (Finds nat_eq true worker.old.number (λ m pair. IsLeast m key pair))) (pair_words (λ k. k) V.of_word) result }
+        ensures refused { IfErr result IsOfReader }
+    {
+        self.words.at_or_after(rt, &key, worker, guard)
+    }
+
+    /// The pair of the greatest key that isn't greater than this one, so: its own, where it is present.
+    pub fn at_or_before<R: Wait>(
+        &self,
+        rt: &R,
+        key: u64,
+        worker: &mut Worker,
+        guard: &Guard,
+    ) -> Result<Option<(u64, V)>, Refusal>
+        ensures worker { worker.new ≡ worker.old }
+        ensures answers { As (Serves (is_held_by self.now.words.tree.id worker.old guard.now)
+            (Finds nat_eq true worker.old.number (λ m pair. IsGreatest m (suc key) pair))) (pair_words (λ k. k) V.of_word) result }
+        ensures refused { IfErr result IsOfReader }
+    {
+        self.words.at_or_before(rt, &key, worker, guard)
     }
 
     /// All keys, ascending, at its one step. It wants no guard. Refused as Memory.

@@ -1,13 +1,15 @@
 //! The index of words for threads.
 
-ghost use Rattle.std.specs.Prelude.{◌≡◌, ◌≤◌, ℕ, false, length, map, nat_eq, true, IfErr, IfOk, MatchResult, suc, take};
+ghost use Rattle.std.specs.Prelude.{◌≡◌, ◌^◌, ◌≤◌, ℕ, false, length, map, nat_eq, true, IfErr, IfOk, MatchResult, suc, take};
 ghost use Rattle.std.specs.Option.{option_map};
+ghost use Rattle.congee.specs.owned.Nearest.{IsGreatest, IsLeast};
 ghost use Rattle.joint.specs.nodes.Opening.{IsUnopened};
 ghost use Rattle.joint.specs.threads.Pinned.{CallsPinned, KeepsWorker};
-ghost use Rattle.joint.specs.threads.Threads.{Answers, AreKeys, As, Ascend, ByOwn, Closes, Computes, Hands, IsAccount, IsHold, IsOfReader, IsRound, IsTold, IsUnclosed, Pins, Scans, Serves, is_held_by, is_of, register_step, registered, charge_of, waiting_bytes_of, waiting_of, bounds, computed, contained, counted, either_of, either_words, emptied, exchanged, got, if_present, inserted, listed, or_insert, pairs_counted, removed, replaced, scanned, told, words};
+ghost use Rattle.joint.specs.threads.Threads.{Answers, AreKeys, As, Ascend, ByOwn, Closes, Computes, Finds, Hands, IsAccount, IsHold, IsOfReader, IsRound, IsTold, IsUnclosed, Pins, Scans, Serves, is_held_by, is_of, register_step, registered, charge_of, waiting_bytes_of, waiting_of, bounds, computed, contained, counted, either_of, either_words, emptied, exchanged, got, if_present, inserted, listed, or_insert, pair_words, pairs_counted, removed, replaced, scanned, told, words};
 ghost use Rattle.joint.specs.declared.steps.Op.TheVariants as op;
 
 use crate::limits::Limits;
+use crate::nodes::nearest::Near;
 use crate::refusal::Refusal;
 use crate::steps::Op;
 use crate::threads::answers::{IfPresent, OrInsert};
@@ -53,6 +55,19 @@ pub(crate) fn either_words<V: Word64>(
     match answer {
         Ok(Ok(word)) => Ok(Ok(word_of(word))),
         Ok(Err(word)) => Ok(Err(word_of(word))),
+        Err(refusal) => Err(refusal),
+    }
+}
+
+/// The pair of an answer.
+pub(crate) fn word_pair<K: Word64, V: Word64>(
+    answer: Result<Option<(u64, u64)>, Refusal>,
+) -> Result<Option<(K, V)>, Refusal>
+    ensures { result ≡ pair_words K.of_word V.of_word answer }
+{
+    match answer {
+        Ok(Some((key, value))) => Ok(Some((K::from_word(key), V::from_word(value)))),
+        Ok(None) => Ok(None),
         Err(refusal) => Err(refusal),
     }
 }
@@ -391,6 +406,112 @@ impl<K: Word64, V: Word64, A: Allocator, D: Drop> Congee<K, V, A, D> {
         ensures refused { IfErr result IsOfReader }
     {
         self.tree.is_empty(rt, worker, guard)
+    }
+
+    /// The pair of the least key, if there is one, of those that stand in one hold of the lock.
+    pub fn first<R: Wait>(
+        &self,
+        rt: &R,
+        worker: &mut Worker,
+        guard: &Guard,
+    ) -> Result<Option<(K, V)>, Refusal>
+        ensures worker { worker.new ≡ worker.old }
+        ensures answers { As (Serves (is_held_by self.now.tree.id worker.old guard.now)
+            (Finds nat_eq true worker.old.number (λ m pair. IsLeast m 0 pair))) (pair_words K.of_word V.of_word) result }
+        ensures refused { IfErr result IsOfReader }
+    {
+        word_pair(self.tree.nearest(rt, Near::From(0), worker, guard))
+    }
+
+    /// The pair of the greatest key, so.
+    pub fn last<R: Wait>(
+        &self,
+        rt: &R,
+        worker: &mut Worker,
+        guard: &Guard,
+    ) -> Result<Option<(K, V)>, Refusal>
+        ensures worker { worker.new ≡ worker.old }
+        ensures answers { As (Serves (is_held_by self.now.tree.id worker.old guard.now)
+            (Finds nat_eq true worker.old.number (λ m pair. IsGreatest m (2 ^ 64) pair))) (pair_words K.of_word V.of_word) result }
+        ensures refused { IfErr result IsOfReader }
+    {
+        word_pair(self.tree.nearest(rt, Near::UpTo(u64::MAX), worker, guard))
+    }
+
+    /// The pair of the least key above this one, so.
+    pub fn next_after<R: Wait>(
+        &self,
+        rt: &R,
+        key: &K,
+        worker: &mut Worker,
+        guard: &Guard,
+    ) -> Result<Option<(K, V)>, Refusal>
+        ensures worker { worker.new ≡ worker.old }
+        ensures answers { As (Serves (is_held_by self.now.tree.id worker.old guard.now)
+            (Finds nat_eq true worker.old.number (λ m pair. IsLeast m (suc (K.word key.now)) pair))) (pair_words K.of_word V.of_word) result }
+        ensures refused { IfErr result IsOfReader }
+    {
+        word_pair(
+            self.tree
+                .nearest(rt, Near::After(key.to_word()), worker, guard),
+        )
+    }
+
+    /// The pair of the greatest key below this one, so.
+    pub fn next_before<R: Wait>(
+        &self,
+        rt: &R,
+        key: &K,
+        worker: &mut Worker,
+        guard: &Guard,
+    ) -> Result<Option<(K, V)>, Refusal>
+        ensures worker { worker.new ≡ worker.old }
+        ensures answers { As (Serves (is_held_by self.now.tree.id worker.old guard.now)
+            (Finds nat_eq true worker.old.number (λ m pair. IsGreatest m (K.word key.now) pair))) (pair_words K.of_word V.of_word) result }
+        ensures refused { IfErr result IsOfReader }
+    {
+        word_pair(
+            self.tree
+                .nearest(rt, Near::Before(key.to_word()), worker, guard),
+        )
+    }
+
+    /// The pair of the least key that isn't less than this one, so: its own, where it is present.
+    pub fn at_or_after<R: Wait>(
+        &self,
+        rt: &R,
+        key: &K,
+        worker: &mut Worker,
+        guard: &Guard,
+    ) -> Result<Option<(K, V)>, Refusal>
+        ensures worker { worker.new ≡ worker.old }
+        ensures answers { As (Serves (is_held_by self.now.tree.id worker.old guard.now)
+            (Finds nat_eq true worker.old.number (λ m pair. IsLeast m (K.word key.now) pair))) (pair_words K.of_word V.of_word) result }
+        ensures refused { IfErr result IsOfReader }
+    {
+        word_pair(
+            self.tree
+                .nearest(rt, Near::From(key.to_word()), worker, guard),
+        )
+    }
+
+    /// The pair of the greatest key that isn't greater than this one, so: its own, where it is present.
+    pub fn at_or_before<R: Wait>(
+        &self,
+        rt: &R,
+        key: &K,
+        worker: &mut Worker,
+        guard: &Guard,
+    ) -> Result<Option<(K, V)>, Refusal>
+        ensures worker { worker.new ≡ worker.old }
+        ensures answers { As (Serves (is_held_by self.now.tree.id worker.old guard.now)
+            (Finds nat_eq true worker.old.number (λ m pair. IsGreatest m (suc (K.word key.now)) pair))) (pair_words K.of_word V.of_word) result }
+        ensures refused { IfErr result IsOfReader }
+    {
+        word_pair(
+            self.tree
+                .nearest(rt, Near::UpTo(key.to_word()), worker, guard),
+        )
     }
 
     /// All keys, ascending, at its one step. It wants no guard. Refused as Memory.

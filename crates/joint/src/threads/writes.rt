@@ -9,9 +9,9 @@ ghost use Rattle.joint.specs.threads.Writing.{IsWritingTurn, Writes, WritesMute,
 use crate::steps::{Op, Report, Step};
 use crate::threads::answers::{Answer, Silent};
 use crate::threads::driver::{Turns, drive_to};
-use crate::threads::ends::End;
 use crate::threads::journaled_world::JournaledWorld;
 use crate::threads::progress::Progress;
+use crate::threads::replies::End;
 use crate::threads::share::Share;
 use crate::threads::tokens::Worker;
 use crate::threads::tree::Tree;

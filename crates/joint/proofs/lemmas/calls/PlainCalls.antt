@@ -43,7 +43,7 @@ use Rattle.joint.specs.Refusals.{of_tree, of_fault}
 use Rattle.joint.specs.Reports.{told}
 use Rattle.joint.specs.nodes.View.{view, id_number}
 use Rattle.joint.specs.Names.{named, root}
-use Rattle.joint.specs.engine.Engine.{World, Collects, Enters, Reserves, reserving, GoesOnReserving, Walks}
+use Rattle.joint.specs.engine.Engine.{World, Collects, Enters, Reserves, GoesOnReserving, Walks}
 use Rattle.joint.proofs.lemmas.engine.ScanEnds.{cleared_is}
 use Rattle.congee.proofs.Laws.{get_set}
 

@@ -1,7 +1,8 @@
 -- The keys under the bytes of a node.
-use Rattle.std.proofs.Common.{◌≡◌, ℕ, ◌<◌, ◌≤◌, ◌+◌, ◌*◌, ◌^◌, ◌⊎◌, arith, length, get_or, ◌∙◌, ap, inl, inr}
-use Rattle.std.specs.Prelude.{None}
-use Rattle.std.proofs.Math.Nat.{mul-le-mul_right}
+use Rattle.std.proofs.Common.{◌≡◌, ℕ, ◌<◌, ◌≤◌, ◌+◌, ◌-◌, ◌*◌, ◌/◌, ◌^◌, ◌⊎◌, arith, suc, length, get_or, sym, subst, ◌∙◌, ap, inl, inr}
+use Rattle.std.specs.Prelude.{None, min}
+use Rattle.std.proofs.Math.Nat.{div-eq_of_lt, div-mul-le_self, lt-div-mul-add, min-eq_left, min-eq_right, min-le_left, mul-le-mul_right}
+use Rattle.std.proofs.lemmas.Bool.{cases_lt}
 use Rattle.congee.specs.declared.protocol.store.Region.{Region}
 use Rattle.congee.specs.Heap.{Node, Nothing, Below, fits, value_at}
 use Rattle.congee.specs.Keys.{key_bytes}
@@ -23,6 +24,48 @@ start_fits x r byte w l e =
     let top : x.base + span x.depth ≤ 2 ^ 64 = region_top r.0 x.base x.depth r.1 in
     let p : 0 < span (x.depth + 1) = span_pos (x.depth + 1) in
     (omega (arith, e, s, q, m, t, top, p), omega (arith, e, s, q, m, t, top, p))
+
+-- the keys under a byte of a node are as many as its form says
+pub width_is : (x : Region) → IsRegionOf x → width x.depth ≡ span (x.depth + 1)
+width_is x r = ap (λ n. 2 ^ (8 * n)) (omega arith)
+
+-- so there are some
+pub width_pos : (x : Region) → IsRegionOf x → 0 < width x.depth
+width_pos x r = let s = width_is x r in let p : 0 < span (x.depth + 1) = span_pos (x.depth + 1) in omega (arith, s, p)
+
+-- no byte up to the one that a key has has its first key above that key
+pub first_starts : (x : Region) → IsRegionOf x → (from d w b : ℕ) → d ≡ from - x.base → w ≡ width x.depth → b ≡ min (d / w) 256 → (start_at x.base x.depth b ≤ from) ⊎ (b ≡ 0)
+first_starts x r from d w b ed e is =
+    let s : w ≡ span (x.depth + 1) = e ∙ width_is x r in
+    let p : 0 < w = let q = width_pos x r in omega (arith, q, e) in
+    let l : b ≤ d / w = let P : ℕ → Type 0 = λ y. y ≤ d / w in subst P (sym is) (min-le_left (d / w) 256) in
+    elim (cases_lt from x.base) [
+      | inl lt ↦ inr (
+          let z : d < w = omega (arith, ed, lt, p) in
+          let o : d / w ≡ 0 = div-eq_of_lt z in
+          omega (arith, l, o))
+      | inr ge ↦ inl (
+          let m : b * w ≤ d / w * w = mul-le-mul_right {m = b} {n = d / w} w l in
+          let k : d / w * w ≤ d = div-mul-le_self d w in
+          let q : b * span (x.depth + 1) ≡ b * w = ap (λ y. b * y) (sym s) in
+          omega (arith, m, k, q, ge, ed))
+    ]
+
+-- the byte after the one that a key has has its first key above that key, if there is such a byte
+pub last_ends : (x : Region) → IsRegionOf x → (last d w b : ℕ) → d ≡ last - x.base → w ≡ width x.depth → x.base ≤ last → b ≡ min (d / w) 255 → (suc last ≤ start_at x.base x.depth (b + 1)) ⊎ (b + 1 ≡ 256)
+last_ends x r last d w b ed e ge is =
+    let s : w ≡ span (x.depth + 1) = e ∙ width_is x r in
+    let p : 0 < w = let q = width_pos x r in omega (arith, q, e) in
+    elim (cases_lt (d / w) 256) [
+      | inl lt ↦ inl (
+          let c : b ≡ d / w = is ∙ min-eq_left (omega (arith, lt)) in
+          let k : d < d / w * w + w = lt-div-mul-add p in
+          let q : b * w ≡ d / w * w = ap (λ y. y * w) c in
+          let t : b * span (x.depth + 1) + span (x.depth + 1) ≡ b * w + w = ap (λ y. b * y + y) (sym s) in
+          let u : (b + 1) * span (x.depth + 1) ≡ b * span (x.depth + 1) + span (x.depth + 1) = omega arith in
+          omega (arith, k, q, t, u, ge, ed))
+      | inr l ↦ inr (let c : b ≡ 255 = is ∙ min-eq_right (omega (arith, l)) in omega (arith, c))
+    ]
 
 module _ {V : Type 0} (h : ℕ → Node V) (n : ℕ) (i : IsNodeIn h n) (x : Region) (r : IsRegion (h n).prefix x.base x.depth) where
   abbrev a : ℕ → Note

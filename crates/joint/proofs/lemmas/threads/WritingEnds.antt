@@ -18,7 +18,7 @@ use Rattle.joint.specs.declared.steps.Op.TheVariants as op
 use Rattle.joint.specs.threads.Driving.{Turn}
 use Rattle.joint.specs.engine.Journaling.{call_of, on_insert, on_present}
 use Rattle.joint.specs.threads.Shares.{ShareView}
-use Rattle.joint.specs.threads.Threads.{End, Serves, computed, either_words, exchanged, inserted, owned, removed, replaced, words}
+use Rattle.joint.specs.threads.Threads.{End, Serves, computed, either_words, exchanged, inserted, owned, owned_pair, pair_words, removed, replaced, words}
 use Rattle.joint.specs.threads.Writing.{Counts}
 use Rattle.joint.proofs.lemmas.nodes.NodesInvariant.{some_injective}
 
@@ -41,6 +41,17 @@ words_refused of P (Err e) x = x
 pub owned_refused : {V : Type 0} (P : Refusal → Type 0) (r : Result (Option (Arc V Global)) Refusal) (read : Result (Option V) Refusal) → owned r ≡ read → IfErr read P → IfErr r P
 owned_refused P (Ok v) read same x = tt
 owned_refused P (Err e) read same x = subst (λ y. IfErr y P) (sym same) x
+
+-- the same of the pair of an answer
+pub pair_refused : {K V W : Type 0} (key : ℕ → K) (value : W → V) (P : Refusal → Type 0) (r : Result (Option (ℕ × W)) Refusal) → IfErr r P → IfErr (pair_words key value r) P
+pair_refused key value P (Ok v) x = x
+pair_refused key value P (Err e) x = x
+
+-- and with the owner of its value
+pub owned_pair_refused : {K V : Type 0} (key : ℕ → K) (P : Refusal → Type 0) (r : Result (Option (K × Arc V Global)) Refusal) (read : Result (Option (ℕ × V)) Refusal) → owned_pair r ≡ pair_words key (λ v. v) read → IfErr read P → IfErr r P
+owned_pair_refused key P (Ok v) read same x = tt
+owned_pair_refused key P (Err e) (Ok v) same x = absurd (cc same)
+owned_pair_refused key P (Err e) (Err f) same x = let q : f ≡ e = cc same in subst P q x
 
 -- the same of an exchange's answer
 pub either_refused : {B : Type 0} (of : ℕ → B) (P : Refusal → Type 0) (r : Result (Result (Option ℕ) (Option ℕ)) Refusal) → IfErr r P → IfErr (either_words of r) P

@@ -1,8 +1,7 @@
-use Rattle.std.proofs.Common.{IsSome, suc, length, sym, ap, subst, ◌∙◌, refl}
+use Rattle.std.proofs.Common.{IsSome, suc, length, sym, subst, refl}
 use Rattle.joint.specs.nodes.Nodes.{nodes}
-use Rattle.joint.specs.calls.Scanned.{IsScanned, ScansAs, scanned_of}
+use Rattle.joint.specs.calls.Scanned.{ScansAs}
 use Rattle.joint.specs.engine.Standing.{pairs_of}
-use Rattle.joint.specs.declared.steps.Op.TheVariants as op
 use Rattle.joint.proofs.lemmas.calls.Replied.{map_stands, one_stands}
 use Rattle.joint.proofs.lemmas.calls.Scanned.{scan_finds, scan_keeps, scan_stands}
 use Rattle.joint.proofs.world.World.scan.Goals as goal

@@ -20,5 +20,5 @@ write-end-requires-clause-ready g c = rw c.new-answers.ensures c.requires
 
 pub returns-clause-answers : goal.returns-clause-answers
 returns-clause-answers g c =
-    let done = rw (c.new-answers.ensures, c.to_word.ensures) at c.write-end.ensures in
+    let done = rw (c.new-answers.ensures, c.to_word.ensures.number) at c.write-end.ensures in
     (c.replaced.result, serves_done (is_held_by c.args.self.now.tree.id c.args.worker.now c.args.guard.now) _ c.replaced.result (search rules) (done.0, done.1, done.2, done.3, done.4, c.replaced.ensures ∙ ap replaced done.5), c.words.ensures)

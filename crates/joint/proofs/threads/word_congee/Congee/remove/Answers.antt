@@ -1,4 +1,4 @@
 use Rattle.joint.proofs.threads.word_congee.Congee.remove.Goals as goal
 
 pub returns-clause-answers : goal.returns-clause-answers
-returns-clause-answers g c = (c.remove.result, rw c.to_word.ensures at c.remove.ensures, c.words.ensures)
+returns-clause-answers g c = (c.remove.result, rw c.to_word.ensures.number at c.remove.ensures, c.words.ensures)

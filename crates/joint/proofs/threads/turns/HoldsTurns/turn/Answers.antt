@@ -1,7 +1,7 @@
 use Rattle.std.proofs.Common.{refl, subst}
 use Rattle.std.specs.Option.{option_map}
 use Rattle.joint.proofs.lemmas.threads.Holding.{turn_of_call, turn_worker}
-use Rattle.joint.proofs.threads.holds.HoldsTurns.turn.Goals as goal
+use Rattle.joint.proofs.threads.turns.HoldsTurns.turn.Goals as goal
 
 pub turn-report-requires : goal.turn-report-requires
 turn-report-requires g c = turn_of_call c.args.self.now.worker (g.T.Locked.asked c.args.self.now.call) (option_map (λ r. r.value) c.args.self.now.last) c.args.step c.requires

@@ -1,7 +1,7 @@
 use Rattle.std.proofs.Common.{refl, sym, ◌∙◌}
 use Rattle.std.proofs.lemmas.List.{take-map}
 use Rattle.joint.proofs.lemmas.threads.Ascending.{ascend_is}
-use Rattle.joint.proofs.threads.ends.filled.Goals as goal
+use Rattle.joint.proofs.threads.replies.filled.Goals as goal
 
 pub returns-then-ascends-clause-same : goal.returns-then-ascends-clause-same
 returns-then-ascends-clause-same g c = rw (take-map g.Q.Pair.key_of c.args.count c.args.found.now, ← c.ascends.ensures, c.if-ascends.true) refl

@@ -1,7 +1,7 @@
 use Rattle.std.proofs.Common.{◌≡◌, ◌≤◌, ◌^◌, drop}
 use Rattle.std.specs.Prelude.{map}
 use Rattle.joint.specs.threads.Threads.{ascends}
-use Rattle.joint.proofs.threads.ends.ascends.Given as goal
+use Rattle.joint.proofs.threads.replies.ascends.Given as goal
 
 -- the test of all keys is that of those which are left
 abbrev pub invariant-loop-pair : goal.invariant-loop-pair

@@ -2,7 +2,7 @@ use Rattle.std.proofs.Common.{arith, sym, ◌∙◌, ap}
 use Rattle.std.specs.Prelude.{map, min}
 use Rattle.std.proofs.lemmas.List.{length-map}
 use Rattle.joint.specs.threads.Threads.{filled}
-use Rattle.joint.proofs.threads.ends.filled_at_most.Goals as goal
+use Rattle.joint.proofs.threads.replies.filled_at_most.Goals as goal
 
 pub filled-requires : goal.filled-requires
 filled-requires g c = omega (arith, c.min.ensures)
