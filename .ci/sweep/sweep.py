@@ -47,8 +47,9 @@ WRITE_ERRORS = [*READ_ERRORS, errno.ENOSPC, errno.EPIPE, 0]
 HELD = 8192
 PLACES = 200
 
-# The threads of the program, and the calls of each; and as many as it takes, which end within so many seconds, as a test does. Other
-# work makes them longer by the clock, so the time of processors is limited: as many seconds of each, since threads that wait spin.
+# The threads of the program, with a lock and without, and the calls of each; and as many as it takes, which end within so many seconds,
+# as a test does. Other work makes them longer by the clock, so the time of processors is limited: as many seconds of each, since threads
+# that wait spin.
 THREADS = [(1, 1), (2, 8), (4, 20)]
 MOST = (16, 10_000)
 MOST_SECONDS = 20
@@ -241,6 +242,27 @@ def told(workers, calls):
     return f"journal {entries} legal\naudit true\nledger {entries - looks}\n".encode()
 
 
+def left(worker, calls):
+    """How many keys of its own a worker of an index without a lock leaves there."""
+    keys = set()
+    for number in (it for it in range(calls) if it % 4 != 1):
+        takes_out = number % 4 == 3 or (number % 4 == 0 and number // 512 % 2 == 1)
+        (keys.discard if takes_out else keys.add)((7 * worker + number // 2) % 97)
+    return len(keys)
+
+
+def told_without_lock(workers, calls):
+    """What the program prints of so many threads at such an index."""
+    pairs = [left(worker, calls) for worker in range(workers)]
+    line = lambda who, made, count: f"{who} calls {made} refused 0 audit true pairs {count}\n"
+    each = [line(f"worker {worker}", calls, count) for worker, count in enumerate(pairs)]
+    return "".join([*each, line("all", workers * calls, sum(pairs))]).encode()
+
+
+# What the program prints of threads, by the word that asks for them.
+TOLD = {"threads": told, "lockfree": told_without_lock}
+
+
 def threads(runs, printed, **refused):
     """The program ends with 1, or tells what it always does: where no thread can be made the calls are made all the same."""
     ran = runs(**refused)
@@ -287,8 +309,8 @@ def cases_of_script(script):
     yield "each read and write moves less", each(up_to(9), lambda most: moves_less(script, most))
 
 
-def cases_of_threads(program, workers, calls):
-    runs, printed = lambda **refused: run([program, "threads", str(workers), str(calls)], **refused), told(workers, calls)
+def cases_of_threads(program, word, workers, calls):
+    runs, printed = lambda **refused: run([program, word, str(workers), str(calls)], **refused), TOLD[word](workers, calls)
     plain = runs()
     yield "one request for memory refused", each(up_to(plain.memory), lambda number: threads(runs, printed, memory=number))
     yield "all from one on", each(up_to(plain.memory), lambda number: threads(runs, printed, memory=number, step=1))
@@ -302,9 +324,11 @@ def cases(program, tests, files):
     for file in files:
         script = Script(program, file)
         yield from ((f"{script.name}: {name}", tries) for name, tries in cases_of_script(script))
-    for it in THREADS:
-        yield from (("threads {} {}: {}".format(*it, name), tries) for name, tries in cases_of_threads(program, *it))
-    yield "threads {} {}".format(*MOST), [("", lambda: most([program, "threads", *map(str, MOST)], told(*MOST)))]
+    for word, (workers, calls) in itertools.product(TOLD, THREADS):
+        yield from ((f"{word} {workers} {calls}: {name}", tries) for name, tries in cases_of_threads(program, word, workers, calls))
+    for word in TOLD:
+        words = [word, *map(str, MOST)]
+        yield " ".join(words), [("", lambda words=words: most([program, *words], TOLD[words[0]](*MOST)))]
     names = re.findall("(.*): test\n", subprocess.check_output([tests, "--list"], text=True))
     yield "each test, of all that it can try", each(names, lambda name: most([tests, name], known=ALL))
     for name in TESTS:

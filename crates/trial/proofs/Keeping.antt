@@ -5,17 +5,17 @@ use Rattle.judge.specs.declared.journal.Entry.{Entry}
 use Rattle.trial.specs.Histories.{AreCalls, AreKept, call_at}
 
 -- an element of a list behind which one was put
-get_pushed : {X : Type 0} (xs : List X) (x y : X) (i : ℕ) → slice_get (xs ++ x ∷ []) i ≡ Some y → (slice_get xs i ≡ Some y) ⊎ ((i ≡ length xs) × (x ≡ y))
+pub get_pushed : {X : Type 0} (xs : List X) (x y : X) (i : ℕ) → slice_get (xs ++ x ∷ []) i ≡ Some y → (slice_get xs i ≡ Some y) ⊎ ((i ≡ length xs) × (x ≡ y))
 get_pushed [] x y zero e = inr (refl, cc)
 get_pushed [] x y (suc i) e = absurd cc
 get_pushed (z ∷ zs) x y zero e = inl e
 get_pushed (z ∷ zs) x y (suc i) e = elim (get_pushed zs x y i e) [ inl h ↦ inl h | inr h ↦ inr (ap suc h.0, h.1) ]
 
--- one more that is at its place
-pub placed_pushed : {X : Type 0} (place : X → ℕ) (xs : List X) (x : X) → ((i : ℕ) (y : X) → slice_get xs i ≡ Some y → place y ≡ i) → place x ≡ length xs → (i : ℕ) (y : X) → slice_get (xs ++ x ∷ []) i ≡ Some y → place y ≡ i
-placed_pushed place xs x each here i y g = elim (get_pushed xs x y i g) [
+-- one more of which the same holds
+pub each_pushed : {X : Type 0} (P : ℕ → X → Type 0) (xs : List X) (x : X) → ((i : ℕ) (y : X) → slice_get xs i ≡ Some y → P i y) → P (length xs) x → (i : ℕ) (y : X) → slice_get (xs ++ x ∷ []) i ≡ Some y → P i y
+each_pushed P xs x each here i y g = elim (get_pushed xs x y i g) [
   | inl before ↦ each i y before
-  | inr last ↦ ap place (sym last.1) ∙ here ∙ sym last.0
+  | inr last ↦ subst (P i) last.1 (subst (λ n. P n x) (sym last.0) here)
 ]
 
 -- one call more

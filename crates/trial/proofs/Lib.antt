@@ -19,3 +19,4 @@ pub mod Closings
 pub mod OfMap
 pub mod Keeping
 pub mod Counting
+pub mod Tallying

@@ -13,19 +13,24 @@ pub record AreAllowed (workers calls : ℕ) : Type 0 where
   pub few_calls : calls ≤ 10000
 
 -- two words that are the decimals of such numbers
-abbrev pub AsksThreads : List ℕ → List ℕ → Mode → Type 0
-AsksThreads first second mode.Script = ⊥
-AsksThreads first second (mode.Threads workers calls) = (first ≡ decimal workers) × (second ≡ decimal calls) × AreAllowed workers calls
+abbrev pub AreNumbers : List ℕ → List ℕ → ℕ → ℕ → Type 0
+AreNumbers first second workers calls = (first ≡ decimal workers) × (second ≡ decimal calls) × AreAllowed workers calls
 
--- no words ask for a script, and `threads` with two such decimals for threads
+-- what a word asks for with two others behind it
+abbrev pub AsksCalls : List ℕ → List ℕ → List ℕ → Mode → Type 0
+AsksCalls word first second mode.Script = ⊥
+AsksCalls word first second (mode.Threads workers calls) = (word ≡ codes "threads") × AreNumbers first second workers calls
+AsksCalls word first second (mode.Lockfree workers calls) = (word ≡ codes "lockfree") × AreNumbers first second workers calls
+
+-- no words ask for a script, and `threads` or `lockfree` with two such decimals for calls of threads
 abbrev pub Asks : List (String Global) → Mode → Type 0
 Asks [] asked = asked ≡ mode.Script
-Asks (word ∷ first ∷ second ∷ []) asked = (string_bytes word ≡ codes "threads") × AsksThreads (string_bytes first) (string_bytes second) asked
+Asks (word ∷ first ∷ second ∷ []) asked = AsksCalls (string_bytes word) (string_bytes first) (string_bytes second) asked
 Asks _ asked = ⊥
 
 -- what is printed where they ask for nothing that the program does
 abbrev pub usage_text : List ℕ
-usage_text = codes "usage: trial [threads N M], where 1 <= N <= 16 and 1 <= M <= 10000\n"
+usage_text = codes "usage: trial [threads N M | lockfree N M], where 1 <= N <= 16 and 1 <= M <= 10000\n"
 
 -- the status is 2 where it was printed, and 1 where the writer failed
 abbrev pub TellsUsage : ℕ → List ℕ → Type 0

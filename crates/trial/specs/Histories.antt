@@ -7,7 +7,7 @@ use Rattle.judge.specs.declared.journal.Call.{Call}
 use Rattle.judge.specs.declared.journal.Call.TheVariants.{Get, Insert, Remove}
 use Rattle.judge.specs.declared.journal.Entry.{Entry}
 use Rattle.joint.specs.threads.Auditing.{IsAudited}
-use Rattle.joint.specs.threads.Journals.{IsCounted, IsJournal}
+use Rattle.joint.specs.threads.Journals.{IsJournal, count_watched}
 use Rattle.joint.specs.declared.refusal.Refusal.{Refusal}
 use Rattle.trial.specs.declared.history.History.{History}
 use Rattle.trial.specs.declared.reply.Refused.TheVariants as refused
@@ -41,20 +41,29 @@ AreCalls calls worker own = (i : ℕ) (e : Entry ℕ) → slice_get own i ≡ So
 abbrev pub AreKept : ℕ → List (Vec (Entry ℕ) Global) → Type 0
 AreKept calls own = (worker : ℕ) (list : Vec (Entry ℕ) Global) → slice_get own worker ≡ Some list → AreCalls calls worker list.items × (length list.items ≡ calls)
 
--- So many workers made so many calls each: the index tells a journal, which is legal; the audit is of the entries that the
--- workers kept, and where it finds just these, they are all calls of all workers; and the ledger counts the writing calls of a
--- journal that the index kept.
+-- how many of a worker's first calls write: all but the numbers 1, 5, 9, ..
+abbrev pub writes_in : ℕ → ℕ
+writes_in calls = calls - (calls + 2) / 4
+
+-- whether a worker's call writes, as a number
+abbrev pub writes_at : ℕ → ℕ
+writes_at number = if number % 4 == 1 then 0 else 1
+
+-- So many workers made so many calls each: the index tells a journal, which is legal; the ledger counts its writing calls, which are
+-- all that the workers were to make; the audit is of the entries that the workers kept, and where it finds just these, they are all
+-- calls of all workers.
 pub record IsHistory (workers calls : ℕ) (h : History) : Type 0 where
   pub journal : List (Entry ℕ)
   pub own : List (Vec (Entry ℕ) Global)
   pub stood : IsJournal journal
   pub entries : h.entries ≡ length journal
+  pub ledger : h.ledger ≡ count_watched (λ _. true) journal
   pub verdict : h.verdict ≡ Legal
   pub all : length own ≡ workers
   pub kept : AreKept calls own
   pub audited : IsTrue h.audited ↔ IsAudited journal own
   pub whole : IsTrue h.audited → h.entries ≡ workers * calls
-  pub ledger : IsCounted (λ _. true) h.ledger
+  pub counted : h.ledger ≡ workers * writes_in calls
 
 -- its text, on three lines
 abbrev pub history_text : History → List ℕ

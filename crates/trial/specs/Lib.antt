@@ -15,3 +15,4 @@ pub mod Turns
 pub mod Going
 pub mod Arguments
 pub mod Histories
+pub mod Lockfree

@@ -1,6 +1,6 @@
 //! What the program's arguments ask for.
 ghost use Rattle.std.specs.Prelude.{◌≡◌, ◌^◌, ◌<◌, ◌≤◌, ℕ, IfSome, Some, decimal};
-ghost use Rattle.trial.specs.Arguments.{Asks, AsksThreads};
+ghost use Rattle.trial.specs.Arguments.{AreNumbers, Asks};
 ghost use Rattle.trial.specs.declared.arguments.Mode.{Mode};
 
 use crate::word::number;
@@ -18,6 +18,8 @@ pub enum Mode {
     Script,
     /// To let so many workers make so many calls each, at once.
     Threads { workers: u32, calls: u32 },
+    /// The same on an index whose readers take no lock.
+    Lockfree { workers: u32, calls: u32 },
 }
 
 /// The number from 1 to the most that the word is the decimal of, or none.
@@ -32,15 +34,15 @@ fn number_to(word: &[u8], most: u32) -> Option<u32>
     }
 }
 
-/// What the words ask for that stand after `threads`.
-fn threads(workers: &[u8], calls: &[u8]) -> Option<Mode>
-    ensures asked { IfSome result (λ asked. AsksThreads workers.now calls.now asked) }
-    ensures only { (asked : Mode) → AsksThreads workers.now calls.now asked → result ≡ Some asked }
+/// The numbers of workers and of calls that two words are the decimals of.
+fn numbers(workers: &[u8], calls: &[u8]) -> Option<(u32, u32)>
+    ensures found { IfSome result (λ found. AreNumbers workers.now calls.now found.0 found.1) }
+    ensures only { (n m : ℕ) → AreNumbers workers.now calls.now n m → result ≡ Some (n, m) }
 {
-    Some(Mode::Threads {
-        workers: number_to(workers, WORKERS_MAX)?,
-        calls: number_to(calls, CALLS_MAX)?,
-    })
+    Some((
+        number_to(workers, WORKERS_MAX)?,
+        number_to(calls, CALLS_MAX)?,
+    ))
 }
 
 /// What the arguments ask for, without the program's name; none where they ask for nothing that the program does.
@@ -51,7 +53,12 @@ pub fn read(arguments: &[String]) -> Option<Mode>
     match arguments {
         [] => Some(Mode::Script),
         [word, workers, calls] if word.as_str() == "threads" => {
-            threads(workers.as_bytes(), calls.as_bytes())
+            let (workers, calls) = numbers(workers.as_bytes(), calls.as_bytes())?;
+            Some(Mode::Threads { workers, calls })
+        }
+        [word, workers, calls] if word.as_str() == "lockfree" => {
+            let (workers, calls) = numbers(workers.as_bytes(), calls.as_bytes())?;
+            Some(Mode::Lockfree { workers, calls })
         }
         _ => None,
     }

@@ -3,6 +3,8 @@
 //! The program calls none of them, so they are proved with the tests alone; but a proof file has its function in each build.
 
 #[cfg(test)]
+pub mod closing;
+#[cfg(test)]
 pub mod collector;
 #[cfg(test)]
 pub mod counter;
@@ -15,6 +17,8 @@ pub mod history;
 pub mod journal;
 #[cfg(test)]
 pub mod machine;
+#[cfg(test)]
+pub mod moment;
 #[cfg(test)]
 pub mod owned;
 #[cfg(test)]
@@ -29,3 +33,5 @@ pub(crate) mod stack;
 pub mod threaded;
 #[cfg(test)]
 pub mod unlocked;
+#[cfg(test)]
+pub mod versions;

@@ -10,6 +10,9 @@
 //! With `threads N M` instead, N threads make M calls each on one index with a journal (`threads`, `worker`). Each keeps
 //! its calls and what they answered; at the end the journal is judged, each thread's own list is held beside it, and the
 //! ledger's count of writing calls beside both (`history`).
+//!
+//! With `lockfree N M` they call on an index whose readers take no lock, each on keys of its own beside the others' (`lockfree`).
+//! Each keeps its calls and what they answered; at the end its list is judged, with what the closed index has at its keys.
 #![tactic(auto)]
 
 mod arguments;
@@ -22,6 +25,7 @@ mod history;
 mod keys;
 mod keyword;
 mod line;
+mod lockfree;
 mod open_tree;
 mod output;
 mod parser;

@@ -3,7 +3,7 @@ ghost use Rattle.std.specs.Prelude.{◌≡◌, ◌+◌, ◌*◌, ◌<◌, ℕ, I
 ghost use Rattle.std.specs.Io.KnownBytes.{Appends};
 ghost use Rattle.joint.specs.Limits.{usual};
 ghost use Rattle.trial.specs.Arguments.{AreAllowed};
-ghost use Rattle.trial.specs.Histories.{AreCalls, AreKept, IsHistory, Takes, Tells, told_text};
+ghost use Rattle.trial.specs.Histories.{AreCalls, AreKept, IsHistory, Takes, Tells, told_text, writes_in};
 
 use crate::end::End;
 use crate::history::{History, text};
@@ -50,7 +50,7 @@ fn open<L: Ledger>(
     requires name { blank.name ≡ L.name }
     requires ledger { blank.parts ≡ L.parts }
     requires parts { blank.parts ≡ workers + 1 }
-    ensures { IfOk result (λ opened. opened.1.parts ≡ workers + 1) }
+    ensures { IfOk result (λ opened. (opened.1.parts ≡ workers + 1) × (opened.1.count ≡ 0)) }
 {
     let (limits, places) = (limits(workers, calls), places(workers, calls));
     let allocator = DefaultAllocator::new();
@@ -66,7 +66,9 @@ fn caller<L: Ledger, R: Wait>(
 ) -> Result<Caller<L>, Refusal>
     requires parts { 1 < all.old.parts }
     ensures place { IfOk result (λ caller. caller.place ≡ place) }
+    ensures share { IfOk result (λ caller. (caller.share.parts ≡ 1) × (caller.share.count ≡ 0)) }
     ensures parts { OnOk result (all.new.parts + 1 ≡ all.old.parts) }
+    ensures count { OnOk result (all.new.count ≡ all.old.count) }
 {
     let worker = index.register(rt)?;
     let share = all.split(1);
@@ -87,7 +89,8 @@ pub(crate) fn callers<L: Ledger, R: Wait>(
 ) -> Result<Vec<Caller<L>>, Cut>
     requires parts { workers < all.old.parts }
     ensures len { IfOk result (λ callers. vec_len callers ≡ workers) }
-    ensures places { IfOk result (λ callers. (i : ℕ) (caller : _) → slice_get callers.items i ≡ Some caller → caller.place ≡ i) }
+    ensures each { IfOk result (λ callers. (i : ℕ) (caller : _) → slice_get callers.items i ≡ Some caller → (caller.place ≡ i) × (caller.share.parts ≡ 1) × (caller.share.count ≡ 0)) }
+    ensures left { OnOk result ((all.new.parts + workers ≡ all.old.parts) × (all.new.count ≡ all.old.count)) }
 {
     let mut callers = Vec::new(alloc);
     for place in 0..workers {
@@ -104,8 +107,11 @@ fn own<L: Ledger>(
     calls: u32,
 ) -> Result<Vec<Vec<Entry<u64>>>, Cut>
     requires worked { (i : ℕ) (w : _) → slice_get worked.items i ≡ Some (Ok w) → AreCalls calls i w.own.items × (length w.own.items ≡ calls) }
+    requires shares { (i : ℕ) (w : _) → slice_get worked.items i ≡ Some (Ok w) → (w.share.parts ≡ 1) × (w.share.count ≡ writes_in calls) }
     ensures len { IfOk result (λ own. vec_len own ≡ vec_len worked) }
     ensures kept { IfOk result (λ own. AreKept calls own.items) }
+    ensures parts { OnOk result (all.new.parts ≡ all.old.parts + length worked.items) }
+    ensures count { OnOk result (all.new.count ≡ all.old.count + length worked.items * writes_in calls) }
 {
     let mut own = Vec::new(alloc);
     for one in worked {
@@ -134,12 +140,13 @@ fn history_by<L: Ledger + Send + Sync, R: Threads + Wait + Sync>(
     let callers = callers(rt, alloc, &index, &mut all, workers)?;
     let shared = &index;
     let work = move |caller: Caller<L>| -> Result<Worked<L>, Cut>
-        ensures { IfOk result (λ worked. AreCalls calls caller.place worked.own.items × (length worked.own.items ≡ calls)) }
+        ensures { IfOk result (λ worked. AreCalls calls caller.place worked.own.items × (length worked.own.items ≡ calls)
+            × (worked.share.parts ≡ caller.share.parts) × (worked.share.count ≡ caller.share.count + writes_in calls)) }
     { caller.work(rt, alloc, shared, calls) };
     let worked = thread::map_vec(rt, callers, &work)?;
     let own = own(alloc, &mut all, worked, calls)?;
-    let ledger = index.gather(rt, &mut all)?;
-    let journal = index.entries(rt)?;
+    let gathered = index.gather_entries(rt, &mut all)?;
+    let (ledger, journal) = gathered;
     let verdict = check(alloc, &journal)?;
     Ok(History {
         entries: journal.len(),

@@ -1,6 +1,7 @@
 //! A worker of the program that lets threads call.
-ghost use Rattle.std.specs.Prelude.{◌≡◌, ◌<◌, IfOk, length};
-ghost use Rattle.trial.specs.Histories.{AreCalls, call_at, key_at, key_of, takes_out};
+ghost use Rattle.std.specs.Prelude.{◌≡◌, ◌+◌, ◌<◌, IfOk, OnOk, length};
+ghost use Rattle.judge.specs.declared.journal.Call.TheVariants as Call;
+ghost use Rattle.trial.specs.Histories.{AreCalls, call_at, key_at, key_of, takes_out, writes_at, writes_in};
 ghost use Rattle.trial.specs.declared.worker.Cut.TheVariants as why;
 
 use congee::DefaultAllocator;
@@ -82,7 +83,7 @@ pub fn key_of(number: u64) -> u64
 }
 
 /// Whether the call of this number is a removal: one in four while a worker's keys become more, and two while they become fewer.
-fn takes_out(number: u32) -> bool
+pub fn takes_out(number: u32) -> bool
     ensures { result ≡ takes_out number }
 {
     match number % 4 {
@@ -100,6 +101,67 @@ impl<L: Ledger> Caller<L> {
         key_of((7 * u64::from(self.place) + u64::from(number / 2)) % KEYS)
     }
 
+    /// The entry of a call of its own.
+    fn entry(&self, call: Call<u64>, reply: Reply<u64>) -> Entry<u64>
+        ensures { result.call ≡ call }
+    {
+        Entry {
+            worker: self.worker.number(),
+            call,
+            reply,
+        }
+    }
+
+    /// Looks a key up.
+    fn look<R: Wait>(
+        &mut self,
+        rt: &R,
+        index: &Index<L>,
+        guard: &Guard,
+        key: u64,
+    ) -> Result<Entry<u64>, Refusal>
+        ensures made { IfOk result (λ entry. entry.call ≡ Call.Get key) }
+        ensures kept { (self.new.place ≡ self.old.place) × (self.new.share ≡ self.old.share) }
+    {
+        let found = index.get(rt, &key, &mut self.worker, guard)?;
+        Ok(self.entry(Call::Get(key), Reply::Get(found)))
+    }
+
+    /// Takes a key out.
+    fn take<R: Wait>(
+        &mut self,
+        rt: &R,
+        index: &Index<L>,
+        guard: &Guard,
+        key: u64,
+    ) -> Result<Entry<u64>, Refusal>
+        ensures made { IfOk result (λ entry. entry.call ≡ Call.Remove key) }
+        ensures place { self.new.place ≡ self.old.place }
+        ensures parts { OnOk result (self.new.share.parts ≡ self.old.share.parts) }
+        ensures counted { OnOk result (self.new.share.count ≡ self.old.share.count + 1) }
+    {
+        let before = index.remove(rt, &key, &mut self.share, &mut self.worker, guard)?;
+        Ok(self.entry(Call::Remove(key), Reply::Remove(before)))
+    }
+
+    /// Puts a value at a key.
+    fn put<R: Wait>(
+        &mut self,
+        rt: &R,
+        index: &Index<L>,
+        guard: &Guard,
+        key: u64,
+        value: u64,
+    ) -> Result<Entry<u64>, Refusal>
+        ensures made { IfOk result (λ entry. entry.call ≡ Call.Insert key value) }
+        ensures place { self.new.place ≡ self.old.place }
+        ensures parts { OnOk result (self.new.share.parts ≡ self.old.share.parts) }
+        ensures counted { OnOk result (self.new.share.count ≡ self.old.share.count + 1) }
+    {
+        let before = index.insert(rt, key, value, &mut self.share, &mut self.worker, guard)?;
+        Ok(self.entry(Call::Insert(key, value), Reply::Insert(before)))
+    }
+
     /// Makes its call of this number, of so many, under a guard.
     fn call<R: Wait>(
         &mut self,
@@ -111,25 +173,18 @@ impl<L: Ledger> Caller<L> {
     ) -> Result<Entry<u64>, Refusal>
         ensures made { IfOk result (λ entry. entry.call ≡ call_at calls self.old.place number) }
         ensures place { self.new.place ≡ self.old.place }
+        ensures parts { OnOk result (self.new.share.parts ≡ self.old.share.parts) }
+        ensures counted { OnOk result (self.new.share.count ≡ self.old.share.count + writes_at number) }
     {
         let key = self.key(number);
-        let (share, worker) = (&mut self.share, &mut self.worker);
-        let (call, reply) = if number % 4 == 1 {
-            let found = index.get(rt, &key, worker, guard)?;
-            (Call::Get(key), Reply::Get(found))
-        } else if takes_out(number) {
-            let before = index.remove(rt, &key, share, worker, guard)?;
-            (Call::Remove(key), Reply::Remove(before))
-        } else {
-            let value = u64::from(self.place) * u64::from(calls) + u64::from(number);
-            let before = index.insert(rt, key, value, share, worker, guard)?;
-            (Call::Insert(key, value), Reply::Insert(before))
-        };
-        Ok(Entry {
-            worker: self.worker.number(),
-            call,
-            reply,
-        })
+        if number % 4 == 1 {
+            return self.look(rt, index, guard, key);
+        }
+        if takes_out(number) {
+            return self.take(rt, index, guard, key);
+        }
+        let value = u64::from(self.place) * u64::from(calls) + u64::from(number);
+        self.put(rt, index, guard, key, value)
     }
 
     /// The same, under a pin of its own.
@@ -142,6 +197,8 @@ impl<L: Ledger> Caller<L> {
     ) -> Result<Entry<u64>, Refusal>
         ensures made { IfOk result (λ entry. entry.call ≡ call_at calls self.old.place number) }
         ensures place { self.new.place ≡ self.old.place }
+        ensures parts { OnOk result (self.new.share.parts ≡ self.old.share.parts) }
+        ensures counted { OnOk result (self.new.share.count ≡ self.old.share.count + writes_at number) }
     {
         let guard = index.pin(rt, &mut self.worker)?;
         let called = self.call(rt, index, &guard, number, calls);
@@ -164,6 +221,7 @@ impl<L: Ledger> Caller<L> {
     ) -> Result<Worked<L>, Cut>
         ensures made { IfOk result (λ worked. AreCalls calls self.place worked.own.items) }
         ensures all { IfOk result (λ worked. length worked.own.items ≡ calls) }
+        ensures share { IfOk result (λ worked. (worked.share.parts ≡ self.share.parts) × (worked.share.count ≡ self.share.count + writes_in calls)) }
     {
         let mut caller = self;
         let mut own = Vec::new(alloc);

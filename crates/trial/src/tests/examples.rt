@@ -11,7 +11,6 @@ use crate::examples::collector::put_off;
 use crate::examples::driven::{Driven, answered};
 use crate::examples::grace::collects_beside_a_guard;
 use crate::examples::journal::{Store, is_honest};
-use crate::examples::machine;
 use crate::examples::machine::{
     Drained, drains_what_stands, reads_what_it_put, runs_and_closes, runs_as_one_map,
 };
@@ -25,6 +24,7 @@ use crate::examples::read_mostly::{Doubles, look, reads_beside_a_writer, writes_
 use crate::examples::stack::{Node, Stack, pops, sum_of_two};
 use crate::examples::threaded::{fills_and_closes, first_calls, shared_values};
 use crate::examples::unlocked::shares_and_drains;
+use crate::examples::{machine, moment};
 use crate::tests::asserts::assert_same;
 use congee::{Allocator, Congee, DefaultAllocator, Limited, OOMError};
 use crossbeam_epoch::{Collector, Fault};
@@ -512,4 +512,16 @@ fn two_threads_share_an_index_without_a_lock(rt: HostRuntime) {
     let pairs = shares_and_drains(&rt, rt.alloc());
     let found = [pair_at(&pairs, 0), pair_at(&pairs, 1), pair_at(&pairs, 2)];
     assert_same(&rt, found, [Some((1, 10)), Some((2, 20)), None]);
+}
+
+/// The writer beside may have put its pair by then.
+#[test]
+fn a_range_at_one_moment_has_what_was_put_before(rt: HostRuntime) -> Result<(), Fail> {
+    let read = moment::reads_beside(&rt, rt.alloc()).ok_or("nothing was read")?;
+    let pairs = [read.pairs[0], read.pairs[1]];
+    assert_same(&rt, (pairs[0].key, pairs[0].value), (1, 10));
+    if read.count > 1 {
+        assert_same(&rt, (read.count, pairs[1].key, pairs[1].value), (2, 2, 20));
+    }
+    Ok(())
 }

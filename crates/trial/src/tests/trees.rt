@@ -4,6 +4,8 @@ pub mod arcs;
 pub mod closing;
 pub mod forms;
 pub mod lessening;
+pub mod maps;
 pub mod owned;
 pub mod protocol;
 pub mod stats;
+pub mod words;

@@ -4,10 +4,12 @@
 //! No test has a version near its end: each begins at 0 and is raised by two at a lock, to 2^64. That such a write is refused, and
 //! changes nothing, is proved.
 
+mod at_once;
 mod calls;
 mod faces;
 mod histories;
 mod lanes;
+mod many;
 mod rooms;
 mod scans;
 mod search;

@@ -6,10 +6,11 @@ use super::flights::Flight;
 use super::one_map::{journal_of, value_at};
 use super::orders::{CELLS, Course, Ground, LONG, Pair, Plays, Turn, lengths, single};
 use super::told::Standing;
+use super::{call, discard, is_done, open};
 use crate::tests::asserts::assert_same;
 use crate::tests::texts::{array, call_of, named, pairs, part};
 use joint::Op;
-use judge::{Verdict, check};
+use judge::{Call, Verdict, check};
 use std::alloc::Global;
 use std::test::Fail;
 
@@ -249,5 +250,20 @@ fn a_scan_beside_a_writing_call(rt: HostRuntime) -> Result<(), Fail> {
             assert_same(&rt, (name, steps, is_right), (name, case.steps, true));
         }
     }
+    Ok(())
+}
+
+/// A whole scan fills its places with the first pairs of its range.
+#[test]
+fn a_whole_scan_fills_its_places(rt: HostRuntime) -> Result<(), Fail> {
+    let mut index = open(rt.alloc(), 1, 100)?;
+    is_done(&mut index, 0, Op::Pin);
+    for key in [1, 2, 256] {
+        call(&mut index, 0, Call::Insert(key, key));
+    }
+    let mut places = [(0, 0); 2];
+    let found = index.scan(0, 2, 256, 100, &mut places);
+    discard(index);
+    assert_same(&rt, (found, places), (Some(2), [(2, 2), (256, 256)]));
     Ok(())
 }

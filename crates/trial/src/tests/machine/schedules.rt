@@ -133,6 +133,24 @@ fn counts(alloc: Global, index: &mut Index) -> Result<(usize, usize, usize), All
     Ok((ran.done, ran.reports.len(), put))
 }
 
+/// Whether two runs into a list fill it, the first one alone.
+fn fills(alloc: Global, index: &mut Index) -> Result<bool, AllocError> {
+    let mut reports = Vec::with_capacity(alloc, 100)?;
+    let room = reports.capacity();
+    let first = index.run_into(many_steps(alloc)?, &mut reports);
+    let second = index.run_into(many_steps(alloc)?, &mut reports);
+    Ok((first, second, reports.len()) == (room, 0, room))
+}
+
+#[test]
+fn a_run_into_a_list_fills_it(rt: HostRuntime) -> Result<(), Fail> {
+    let mut index = open(rt.alloc(), 1, 1_000)?;
+    let fills = fills(rt.alloc(), &mut index);
+    discard(index);
+    assert_same(&rt, fills, Ok(true));
+    Ok(())
+}
+
 #[test]
 fn a_run_takes_ten_thousand_steps(rt: HostRuntime) -> Result<(), Fail> {
     let mut index = open(rt.alloc(), 1, 1_000)?;

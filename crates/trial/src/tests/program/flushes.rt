@@ -98,14 +98,18 @@ fn ended<T: Threads + Wait + Sync>(
 }
 
 /// Arguments, and what is written before the first flush.
-const TOLD: [(&[&str], &[u8]); 2] = [
+const TOLD: [(&[&str], &[u8]); 3] = [
     (
         &["threads", "1", "1"],
         b"journal 1 legal\naudit true\nledger 1\n",
     ),
     (
+        &["lockfree", "1", "1"],
+        b"worker 0 calls 1 refused 0 audit true pairs 1\nall calls 1 refused 0 audit true pairs 1\n",
+    ),
+    (
         &["threads"],
-        b"usage: trial [threads N M], where 1 <= N <= 16 and 1 <= M <= 10000\n",
+        b"usage: trial [threads N M | lockfree N M], where 1 <= N <= 16 and 1 <= M <= 10000\n",
     ),
 ];
 

@@ -2,7 +2,8 @@
 
 ghost use Rattle.std.specs.Prelude.{◌≡◌};
 
-use super::trees::spent;
+use super::trees::{left, spent};
+use crate::examples::closing::closes;
 use crate::examples::history::{Recorded, counts_calls, writes_of_two};
 use crate::tests::asserts::assert_same;
 use congee::DefaultAllocator;
@@ -15,7 +16,7 @@ use std::sync::Wait;
 use std::sync::ledger::{Blank, Ledger};
 use std::test::Fail;
 
-/// Puts four keys in by a worker of its own. How many calls the share has counted then.
+/// Puts four keys in by a worker of its own, who leaves. How many calls the share has counted then.
 fn puts<L: Ledger, R: Wait>(
     rt: &R,
     tree: &Recorded<L>,
@@ -27,6 +28,7 @@ fn puts<L: Ledger, R: Wait>(
     let guard = tree.pin(rt, &mut worker)?;
     let put = counts_calls(rt, tree, share, &[1, 2, 256, 1], &mut worker, &guard);
     spent(tree.unpin(rt, &mut worker, guard))?;
+    left(tree.release(rt, worker))?;
     put
 }
 
@@ -48,6 +50,22 @@ fn gathers<L: Ledger, R: Wait + Abort>(
     Ok(())
 }
 
+/// A closed index leaves its journal, which is legal, and of which the share gathers as many.
+fn leaves<L: Ledger, R: Wait + Abort>(
+    rt: &R,
+    alloc: Global,
+    tree: Recorded<L>,
+    all: &mut Share<L>,
+) -> Result<(), Fail> {
+    let Some((_, mut journal)) = closes(rt, tree) else {
+        return Err(AllocError.into());
+    };
+    let verdict = check(alloc, journal.entries())?;
+    let told = (journal.entries().len(), journal.gather(all), verdict);
+    assert_same(rt, told, (4, Ok(4), Verdict::Legal));
+    Ok(())
+}
+
 fn counts<L: Ledger, R: Wait + Abort>(rt: &R, alloc: Global, blank: Blank) -> Result<(), Fail>
     requires name { blank.name ≡ L.name }
     requires ledger { blank.parts ≡ L.parts }
@@ -59,7 +77,8 @@ fn counts<L: Ledger, R: Wait + Abort>(rt: &R, alloc: Global, blank: Blank) -> Re
         alloc, limits, allocator, 9, 2, blank,
     )?;
     let share = all.split(1);
-    gathers(rt, &tree, &mut all, share)
+    gathers(rt, &tree, &mut all, share)?;
+    leaves(rt, alloc, tree, &mut all)
 }
 
 fn counts_by_brand<R: Wait + Abort>(rt: &R, alloc: Global) -> Result<(), Fail> {

@@ -3,7 +3,7 @@
 
 ghost use Rattle.std.specs.Prelude.{◌≡◌};
 
-use super::trees::{Ask, Owners, Recorded, Threaded, Told, left, spent};
+use super::trees::{Ask, Owners, Recorded, Threaded, Told, Which, left, spent};
 use crate::drained::Drained;
 use crate::tests::asserts::assert_same;
 use congee::Limited;
@@ -85,10 +85,13 @@ const OF_OWNERS: [(Ask, Kind); 5] = [
 ];
 
 /// Those that all kinds of trees have alike. The guard of the last one stays out.
-const OF_ALL: [(Ask, Kind); 8] = [
+const OF_ALL: [(Ask, Kind); 11] = [
+    (Ask::Has(1), Kind::Other),
     (Ask::IsEmpty, Kind::Other),
+    (Ask::Nearest(Which::First), Kind::Other),
     (Ask::Keys, Kind::Other),
     (Ask::Stats, Kind::Other),
+    (Ask::Len, Kind::Other),
     (Ask::Repin, Kind::Other),
     (Ask::Flush, Kind::Other),
     (Ask::Round, Kind::Other),

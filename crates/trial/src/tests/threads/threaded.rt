@@ -3,7 +3,7 @@
 
 ghost use Rattle.std.specs.Prelude.{◌≡◌};
 
-use super::trees::{Ask, Left, Owners, Recorded, Threaded, Told, left, spent};
+use super::trees::{Ask, Left, Owners, Recorded, Threaded, Told, Which, left, spent};
 use crate::drained::Drained;
 use crate::examples::counter::count_in_two_threads;
 use crate::tests::asserts::assert_same;
@@ -42,7 +42,7 @@ fn words(alloc: Global, id: u64) -> Result<Words, Refusal> {
 type Stage<'a> = (&'a [(Ask, Told)], (u64, u64, u64), u64);
 
 /// Each call on a tree of words, as a map answers it. In the end 1 stands alone.
-const EACH: [(Ask, Told); 24] = [
+const EACH: [(Ask, Told); 33] = [
     (
         Ask::Call(Call::Insert(1, 42)),
         Told::Replied(Reply::Insert(None)),
@@ -82,16 +82,24 @@ const EACH: [(Ask, Told); 24] = [
         Told::Replied(Reply::Remove(Some(2))),
     ),
     (Ask::Call(Call::Get(2)), Told::Replied(Reply::Get(None))),
+    (Ask::Has(1), Told::Has(true)),
     (
         Ask::Call(Call::Insert(256, 6)),
         Told::Replied(Reply::Insert(None)),
     ),
     (Ask::Range(2, 1_000), Told::Scanned(1, (256, 6))),
+    (Ask::Nearest(Which::First), Told::Pair(Some((1, 5)))),
+    (Ask::Nearest(Which::Last), Told::Pair(Some((256, 6)))),
+    (Ask::Nearest(Which::After(1)), Told::Pair(Some((256, 6)))),
+    (Ask::Nearest(Which::Before(256)), Told::Pair(Some((1, 5)))),
+    (Ask::Nearest(Which::From(2)), Told::Pair(Some((256, 6)))),
+    (Ask::Nearest(Which::UpTo(255)), Told::Pair(Some((1, 5)))),
     (
         Ask::Call(Call::Remove(256)),
         Told::Replied(Reply::Remove(Some(6))),
     ),
     (Ask::Call(Call::Get(1)), Told::Replied(Reply::Get(Some(5)))),
+    (Ask::Nearest(Which::After(1)), Told::Pair(None)),
     (Ask::Range(0, 10), Told::Scanned(1, (1, 5))),
     (Ask::RangeInclusive(1, 1), Told::Scanned(1, (1, 5))),
     (Ask::Keys, Told::Keys(1, Some(1))),
@@ -99,6 +107,7 @@ const EACH: [(Ask, Told); 24] = [
     (Ask::Flush, Told::Done),
     (Ask::IsEmpty, Told::IsEmpty(false)),
     (Ask::Stats, Told::Pairs(1)),
+    (Ask::Len, Told::Pairs(1)),
     (Ask::Pinned, Told::Done),
 ];
 
@@ -121,7 +130,7 @@ const STAGES: [Stage<'static>; 3] = [
 ];
 
 /// The calls on a tree of owners: one is put in, replaced and taken out again.
-const SHARED: [(Ask, Told); 11] = [
+const SHARED: [(Ask, Told); 15] = [
     (
         Ask::Call(Call::Insert(1, 7)),
         Told::Replied(Reply::Insert(None)),
@@ -132,8 +141,11 @@ const SHARED: [(Ask, Told); 11] = [
         Told::Replied(Reply::ComputePresent(Some((7, Some(8))))),
     ),
     (Ask::Call(Call::Get(1)), Told::Replied(Reply::Get(Some(8)))),
+    (Ask::Nearest(Which::UpTo(9)), Told::Pair(Some((1, 8)))),
+    (Ask::Nearest(Which::From(2)), Told::Pair(None)),
     (Ask::Keys, Told::Keys(1, Some(1))),
     (Ask::Stats, Told::Pairs(1)),
+    (Ask::Len, Told::Pairs(1)),
     (Ask::Pinned, Told::Done),
     (Ask::IsEmpty, Told::IsEmpty(false)),
     (
@@ -141,6 +153,7 @@ const SHARED: [(Ask, Told); 11] = [
         Told::Replied(Reply::Remove(Some(8))),
     ),
     (Ask::Call(Call::Get(1)), Told::Replied(Reply::Get(None))),
+    (Ask::Has(1), Told::Has(false)),
     (Ask::IsEmpty, Told::IsEmpty(true)),
 ];
 
@@ -234,7 +247,7 @@ fn each_call_comes_through(rt: HostRuntime) -> Result<(), Fail> {
 }
 
 /// The calls on a key among all of these, and the writing ones.
-const CALLS: (usize, u64) = (17, 12);
+const CALLS: (usize, u64) = (18, 12);
 
 /// How many entries the journal has, and whether it is legal.
 fn judged<L: Ledger, R: Wait>(

@@ -17,9 +17,13 @@ pub enum Ask {
     /// A scan into four places.
     Range(u64, u64),
     RangeInclusive(u64, u64),
+    /// Whether a key has a value.
+    Has(u64),
     IsEmpty,
+    Nearest(Which),
     Keys,
     Stats,
+    Len,
     Repin,
     Flush,
     Round,
@@ -29,16 +33,29 @@ pub enum Ask {
     Pin,
 }
 
+/// Which pair is looked for.
+#[derive(Clone, Copy)]
+pub enum Which {
+    First,
+    Last,
+    After(u64),
+    Before(u64),
+    From(u64),
+    UpTo(u64),
+}
+
 /// What it tells.
 #[derive(Clone, Copy, PartialEq, Eq)]
 pub enum Told {
     Replied(Reply<u64>),
     /// How many pairs were found, and what stands in the first place.
     Scanned(usize, (u64, u64)),
+    Has(bool),
     IsEmpty(bool),
+    Pair(Option<(u64, u64)>),
     /// How many keys there are, and the first one.
     Keys(usize, Option<u64>),
-    /// How many pairs the statistics count.
+    /// How many pairs the statistics count, or the tree.
     Pairs(u64),
     Done,
     /// Another value came back with the refusal, or a tree of this kind has no such call.
@@ -151,6 +168,21 @@ fn pairs_told(stats: Result<NodeStats, Refusal>) -> Result<Told, Refusal> {
     }
 }
 
+/// How many pairs a tree counts.
+fn count_told(len: Result<u64, Refusal>) -> Result<Told, Refusal> {
+    match len {
+        Ok(len) => Ok(Told::Pairs(len)),
+        Err(refusal) => Err(refusal),
+    }
+}
+
+fn presence_told(has: Result<bool, Refusal>) -> Result<Told, Refusal> {
+    match has {
+        Ok(has) => Ok(Told::Has(has)),
+        Err(refusal) => Err(refusal),
+    }
+}
+
 fn emptiness_told(is_empty: Result<bool, Refusal>) -> Result<Told, Refusal> {
     match is_empty {
         Ok(is_empty) => Ok(Told::IsEmpty(is_empty)),
@@ -215,19 +247,39 @@ macro_rules! scanned {
     };
 }
 
-/// What all kinds of trees have alike.
+/// The pair that is looked for. `by` stands before a key.
+macro_rules! nearest {
+    ($rt:ident, $tree:ident, $which:ident, ($($by:tt)?), $worker:ident, $guard:ident) => {
+        match $which {
+            Which::First => $tree.first($rt, $worker, $guard)?,
+            Which::Last => $tree.last($rt, $worker, $guard)?,
+            Which::After(key) => $tree.next_after($rt, $($by)? key, $worker, $guard)?,
+            Which::Before(key) => $tree.next_before($rt, $($by)? key, $worker, $guard)?,
+            Which::From(key) => $tree.at_or_after($rt, $($by)? key, $worker, $guard)?,
+            Which::UpTo(key) => $tree.at_or_before($rt, $($by)? key, $worker, $guard)?,
+        }
+    };
+}
+
+/// What all kinds of trees have alike. `by` stands before a key that is looked for.
 macro_rules! wholly {
-    ($rt:ident, $tree:ident, $ask:ident, $worker:ident, $guard:ident) => {
+    ($rt:ident, $tree:ident, $ask:ident, ($($by:tt)?), $worker:ident, $guard:ident) => {
         match $ask {
+            Ask::Has(key) => {
+                presence_told($tree.contains_key($rt, $($by)? key, $worker, $guard))
+            }
             Ask::IsEmpty => emptiness_told($tree.is_empty($rt, $worker, $guard)),
             Ask::Keys => keys_told($tree.keys($rt, $worker)),
             Ask::Stats => pairs_told($tree.stats($rt, $worker)),
+            Ask::Len => count_told($tree.len($rt, $worker)),
             Ask::Repin => done($tree.repin($rt, $worker, $guard)),
             Ask::Flush => done($tree.flush($rt, $worker, $guard)),
             Ask::Round => done($tree.round($rt, $worker)),
             Ask::Pinned => done($tree.pinned($rt, $worker, |_, _| Ok(()))),
             Ask::Pin => held($tree.pin($rt, $worker)),
-            Ask::Call(_) | Ask::Range(..) | Ask::RangeInclusive(..) => Ok(Told::Nothing),
+            Ask::Call(_) | Ask::Range(..) | Ask::RangeInclusive(..) | Ask::Nearest(_) => {
+                Ok(Told::Nothing)
+            }
         }
     };
 }
@@ -254,6 +306,17 @@ fn words_scanned<A: Allocator, R: Wait>(
     Ok(Told::Scanned(count, out[0]))
 }
 
+fn words_nearest<A: Allocator, R: Wait>(
+    rt: &R,
+    tree: &Congee<u64, u64, A>,
+    which: Which,
+    worker: &mut Worker,
+    guard: &Guard,
+) -> Result<Told, Refusal> {
+    let pair = nearest!(rt, tree, which, (&), worker, guard);
+    Ok(Told::Pair(pair))
+}
+
 fn words_wholly<A: Allocator, R: Wait>(
     rt: &R,
     tree: &Congee<u64, u64, A>,
@@ -261,7 +324,7 @@ fn words_wholly<A: Allocator, R: Wait>(
     worker: &mut Worker,
     guard: &Guard,
 ) -> Result<Told, Refusal> {
-    wholly!(rt, tree, ask, worker, guard)
+    wholly!(rt, tree, ask, (&), worker, guard)
 }
 
 fn numbers_called<A: Allocator, R: Wait>(
@@ -286,6 +349,17 @@ fn numbers_scanned<A: Allocator, R: Wait>(
     Ok(Told::Scanned(count, (u64::from_be_bytes(out[0].0), out[0].1)))
 }
 
+fn numbers_nearest<A: Allocator, R: Wait>(
+    rt: &R,
+    tree: &U64Congee<u64, A>,
+    which: Which,
+    worker: &mut Worker,
+    guard: &Guard,
+) -> Result<Told, Refusal> {
+    let pair = nearest!(rt, tree, which, (), worker, guard);
+    Ok(Told::Pair(pair))
+}
+
 fn numbers_wholly<A: Allocator, R: Wait>(
     rt: &R,
     tree: &U64Congee<u64, A>,
@@ -293,7 +367,7 @@ fn numbers_wholly<A: Allocator, R: Wait>(
     worker: &mut Worker,
     guard: &Guard,
 ) -> Result<Told, Refusal> {
-    wholly!(rt, tree, ask, worker, guard)
+    wholly!(rt, tree, ask, (), worker, guard)
 }
 
 /// A call on a key of a tree with a journal.
@@ -320,6 +394,17 @@ fn recorded_scanned<L: Ledger, A: Allocator, D: Drop, R: Wait>(
     Ok(Told::Scanned(count, out[0]))
 }
 
+fn recorded_nearest<L: Ledger, A: Allocator, D: Drop, R: Wait>(
+    rt: &R,
+    tree: &Journaled<L, Every, u64, u64, A, D>,
+    which: Which,
+    worker: &mut Worker,
+    guard: &Guard,
+) -> Result<Told, Refusal> {
+    let pair = nearest!(rt, tree, which, (&), worker, guard);
+    Ok(Told::Pair(pair))
+}
+
 fn recorded_wholly<L: Ledger, A: Allocator, D: Drop, R: Wait>(
     rt: &R,
     tree: &Journaled<L, Every, u64, u64, A, D>,
@@ -327,7 +412,7 @@ fn recorded_wholly<L: Ledger, A: Allocator, D: Drop, R: Wait>(
     worker: &mut Worker,
     guard: &Guard,
 ) -> Result<Told, Refusal> {
-    wholly!(rt, tree, ask, worker, guard)
+    wholly!(rt, tree, ask, (&), worker, guard)
 }
 
 impl<A: Allocator> Threaded for Congee<u64, u64, A> {
@@ -366,6 +451,7 @@ impl<A: Allocator> Threaded for Congee<u64, u64, A> {
         match ask {
             Ask::Call(call) => words_called(rt, self, call, worker, guard),
             Ask::Range(..) | Ask::RangeInclusive(..) => words_scanned(rt, self, ask, worker, guard),
+            Ask::Nearest(which) => words_nearest(rt, self, which, worker, guard),
             _ => words_wholly(rt, self, ask, worker, guard),
         }
     }
@@ -420,6 +506,7 @@ impl<A: Allocator> Threaded for U64Congee<u64, A> {
             Ask::Range(..) | Ask::RangeInclusive(..) => numbers_scanned(
                 rt, self, ask, worker, guard,
             ),
+            Ask::Nearest(which) => numbers_nearest(rt, self, which, worker, guard),
             _ => numbers_wholly(rt, self, ask, worker, guard),
         }
     }
@@ -488,6 +575,7 @@ impl<L: Ledger, A: Allocator> Threaded for Recorded<L, A> {
             Ask::Range(..) | Ask::RangeInclusive(..) => recorded_scanned(
                 rt, &self.tree, ask, worker, guard,
             ),
+            Ask::Nearest(which) => recorded_nearest(rt, &self.tree, which, worker, guard),
             _ => recorded_wholly(rt, &self.tree, ask, worker, guard),
         }
     }
@@ -608,6 +696,19 @@ fn owners_called<R: Wait>(
     }
 }
 
+fn owners_nearest<R: Wait>(
+    rt: &R,
+    tree: &CongeeArc<u64, u64>,
+    which: Which,
+    worker: &mut Worker,
+    guard: &Guard,
+) -> Result<Told, Refusal> {
+    match nearest!(rt, tree, which, (), worker, guard) {
+        Some((key, owner)) => Ok(Told::Pair(Some((key, *owner)))),
+        None => Ok(Told::Pair(None)),
+    }
+}
+
 fn owners_wholly<R: Wait>(
     rt: &R,
     tree: &CongeeArc<u64, u64>,
@@ -615,7 +716,7 @@ fn owners_wholly<R: Wait>(
     worker: &mut Worker,
     guard: &Guard,
 ) -> Result<Told, Refusal> {
-    wholly!(rt, tree, ask, worker, guard)
+    wholly!(rt, tree, ask, (), worker, guard)
 }
 
 impl Threaded for Owners {
@@ -653,6 +754,7 @@ impl Threaded for Owners {
     ) -> Result<Told, Refusal> {
         match ask {
             Ask::Call(call) => owners_called(rt, self, call, worker, guard),
+            Ask::Nearest(which) => owners_nearest(rt, &self.tree, which, worker, guard),
             _ => owners_wholly(rt, &self.tree, ask, worker, guard),
         }
     }

@@ -5,7 +5,7 @@ use super::lanes::{Task, count_of, ran};
 use super::{leave, opened};
 use crate::tests::asserts::assert_same;
 use judge::{Call, Reply};
-use optimistic::{Congee, Pair, Pairs, U64Congee, WordWorker, Worker};
+use optimistic::{Congee, Pair, Pairs, U64Congee, Walk, WordWorker, Worker};
 use std::alloc::{AllocError, Global};
 use std::sync::Wait;
 use std::test::Fail;
@@ -46,11 +46,46 @@ fn words_answer<R: Wait>(rt: &R, worker: &mut WordWorker<u64, u64>) -> bool {
         && worker.remove(rt, &1) == Ok(Some(6))
 }
 
+/// Whether scans of words tell what stands, from both ends, by steps and at one moment.
+fn words_are_scanned<R: Wait>(rt: &R, alloc: Global, worker: &mut WordWorker<u64, u64>) -> bool {
+    let mut out = [Pair { key: 0, value: 0 }; 3];
+    let mut walk = Walk::new(4, 9);
+    worker.insert(rt, 3, 4) == Ok(None)
+        && worker.insert(rt, 5, 6) == Ok(None)
+        && worker.first(rt) == Some((3, 4))
+        && worker.at_or_after(rt, &4) == Some((5, 6))
+        && worker.next_after(rt, &5).is_none()
+        && worker.last(rt) == Some((5, 6))
+        && worker.at_or_before(rt, &4) == Some((3, 4))
+        && worker.next_before(rt, &3).is_none()
+        && !worker.is_empty(rt)
+        && worker.step(rt, &mut walk) == Some((5, 6))
+        && worker.step(rt, &mut walk).is_none()
+        && worker.range(rt, &0, &5, &mut out) == 1
+        && worker.range_inclusive(rt, &0, &5, &mut out) == 2
+        && worker.range_at_once(rt, alloc, &0, &5, &mut out) == Ok(1)
+        && worker.range_inclusive_at_once(rt, alloc, &0, &5, &mut out) == Ok(2)
+        && worker.try_range_at_once(alloc, &0, &5, &mut out) == Ok(1)
+        && worker.try_range_inclusive_at_once(alloc, &0, &5, &mut out) == Ok(2)
+}
+
+/// Whether many are put in and looked up by one call.
+fn words_go_together<R: Wait>(rt: &R, worker: &mut WordWorker<u64, u64>) -> bool {
+    let mut out = [Some(9); 3];
+    worker.insert_many(rt, &[(11, 12), (13, 14)]) == Ok(())
+        && worker.get_many(rt, &[13, 15], &mut out) == 2
+        && out == [Some(14), None, Some(9)]
+        && worker.len(rt) == worker.count(rt, &0, &u64::MAX)
+        && worker.words_used() > 536
+}
+
 /// Whether they do, at an index of words.
 fn are_words_answered<R: Wait>(rt: &R, alloc: Global) -> Result<bool, Fail> {
     let words: Congee<u64, u64> = Congee::new(alloc, 1_536)?;
     let mut worker = words.worker(alloc)?;
-    let told = words_answer(rt, &mut worker);
+    let told = words_answer(rt, &mut worker)
+        && words_are_scanned(rt, alloc, &mut worker)
+        && words_go_together(rt, &mut worker);
     drop(worker);
     drop(words);
     Ok(told)

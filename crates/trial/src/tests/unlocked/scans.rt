@@ -2,7 +2,7 @@
 
 use super::{leave, opened};
 use crate::tests::asserts::assert_same;
-use optimistic::{Pair, Refusal, U64Congee, Worker};
+use optimistic::{Pair, Refusal, U64Congee, Walk, Worker};
 use std::alloc::{AllocError, Global};
 use std::sync::Wait;
 use std::test::Fail;
@@ -82,10 +82,72 @@ fn dense<R: Wait>(rt: &R, worker: &mut Worker, count: u64, step: u64) -> Result<
     Ok(worker.is_empty(rt))
 }
 
+/// Whether this is the pair of a key.
+fn is_at(found: Option<Pair>, key: u64) -> bool {
+    match found {
+        Some(pair) => pair.key == key,
+        None => false,
+    }
+}
+
+/// Whether so many keys, so far apart, are told from the last back to the first, and each as the last before the next one.
+fn backward<R: Wait>(rt: &R, worker: &mut Worker, count: u64, step: u64) -> Result<bool, Refusal> {
+    for n in 0..count {
+        worker.insert(rt, n.wrapping_mul(step), n)?;
+    }
+    let mut found = worker.last(rt);
+    for n in 0..count {
+        let value = count.wrapping_sub(n).wrapping_sub(1);
+        let key = value.wrapping_mul(step);
+        let next = key.wrapping_add(step);
+        if !is_at(found, key) || !is_at(worker.at_or_before(rt, next.wrapping_sub(1)), key) {
+            return Ok(false);
+        }
+        found = worker.next_before(rt, key);
+    }
+    for n in 0..count {
+        worker.remove(rt, n.wrapping_mul(step))?;
+    }
+    Ok(found.is_none() && worker.last(rt).is_none())
+}
+
+/// Whether keys in different nodes are told back from the last, up to each and below it.
+fn walks_back<R: Wait>(rt: &R, worker: &mut Worker, keys: &[u64]) -> Result<bool, Refusal> {
+    for key in keys {
+        worker.insert(rt, *key, *key)?;
+    }
+    let mut below = None;
+    for key in keys {
+        if !is_at(worker.at_or_before(rt, *key), *key) {
+            return Ok(false);
+        }
+        let found = worker.next_before(rt, *key);
+        match below {
+            Some(last) => {
+                if !is_at(found, last)
+                    || !is_at(worker.at_or_before(rt, key.wrapping_sub(1)), last)
+                {
+                    return Ok(false);
+                }
+            }
+            None => {
+                if found.is_some() {
+                    return Ok(false);
+                }
+            }
+        }
+        below = Some(*key);
+    }
+    Ok(is_at(worker.last(rt), u64::MAX))
+}
+
 /// Whether scans of nodes of each form tell all.
 fn forms<R: Wait>(rt: &R, worker: &mut Worker) -> Result<bool, Refusal> {
     for count in [1, 3, 4, 5, 16, 17, 48, 49, 200, 256, 260] {
         if !dense(rt, worker, count, 1)? || !dense(rt, worker, count, 256)? {
+            return Ok(false);
+        }
+        if !backward(rt, worker, count, 1)? || !backward(rt, worker, count, 1_000)? {
             return Ok(false);
         }
     }
@@ -113,15 +175,35 @@ fn bounds<R: Wait>(rt: &R, worker: &mut Worker) -> Result<bool, Refusal> {
     )
 }
 
+/// Whether a walk tells some keys, and then each of all, though what it told is taken out behind it.
+fn steps<R: Wait>(rt: &R, worker: &mut Worker, keys: &[u64]) -> Result<bool, Refusal> {
+    let mut some = Walk::new(2, 256);
+    if !is_at(worker.step(rt, &mut some), 255) || !is_at(worker.step(rt, &mut some), 256) {
+        return Ok(false);
+    }
+    let mut all = Walk::new(0, u64::MAX);
+    for key in keys {
+        if !is_at(worker.step(rt, &mut all), *key) {
+            return Ok(false);
+        }
+        worker.remove(rt, *key)?;
+    }
+    let ended = worker.step(rt, &mut some).is_none() && worker.step(rt, &mut all).is_none();
+    Ok(ended && worker.step(rt, &mut all).is_none() && worker.is_empty(rt))
+}
+
 #[test]
 fn scans_tell_what_stands(rt: HostRuntime) -> Result<(), Fail> {
     let index = opened(rt.alloc(), AMPLE)?;
     let told = match index.worker(rt.alloc()) {
         Ok(mut worker) => {
             let told = (forms(&rt, &mut worker), walks(&rt, &mut worker, &FAR));
+            let back = walks_back(&rt, &mut worker, &FAR);
             let stops = bounds(&rt, &mut worker);
+            let walked = steps(&rt, &mut worker, &FAR);
             leave(worker);
-            (told, stops) == ((Ok(true), Ok(true)), Ok(true))
+            (told, (back, stops)) == ((Ok(true), Ok(true)), (Ok(true), Ok(true)))
+                && walked == Ok(true)
         }
         Err(_) => false,
     };

@@ -1,6 +1,7 @@
-use Rattle.std.proofs.Common.{length, ◌+◌, ap, sym, ◌∙◌, subst}
+use Rattle.std.proofs.Common.{length, ◌+◌, arith, ap, sym, ◌∙◌, subst}
 use Rattle.std.proofs.lemmas.List.{length_push}
 use Rattle.trial.specs.Histories.{AreCalls, call_at}
+use Rattle.trial.proofs.Counting.{writes_step}
 use Rattle.trial.proofs.Keeping.{calls_pushed}
 use Rattle.trial.proofs.worker.Caller.work.Goals as goal
 
@@ -13,4 +14,6 @@ loop-number-preserved g c =
       place = c.call_pinned.ensures.place ∙ i.place;
       made = subst (AreCalls c.args.calls place) (sym pushed) (calls_pushed c.args.calls place c.loop-number.own.items _ i.made made);
       all = ap length pushed ∙ length_push c.loop-number.own.items _ ∙ ap (λ n. n + 1) i.all;
+      parts = c.in_ok-call_pinned.ensures.parts ∙ i.parts;
+      count = (let a = c.in_ok-call_pinned.ensures.counted in let b = i.count in let step = writes_step c.loop-number.number in omega (arith, a, b, step));
     }
