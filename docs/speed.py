@@ -34,6 +34,7 @@ CALLS = {
     "overwrite": "overwriting",
     "range": "range of 100 keys",
     "range-beside-writer": "the same beside a thread that writes",
+    "range-at-once": "range of 100 keys, of one moment",
     "mix-5": "look-ups, 5 in 100 insertions",
     "mix-50": "look-ups, half insertions",
     "overwrite-256": "overwriting of the same 256 keys",
@@ -183,7 +184,7 @@ def numbers(parts):
     line = lambda *row: not round_trip(*row)
     minutes, passed = said["processor minutes"], said["last line"].partition(" passed")[0]
     yield "README.md", "one owner|`congee::{Congee, U64Congee, CongeeArc}`|{} ns|", span(of["owned"].ours_of(is_get), time_of)
-    yield "README.md", "threads|`joint::{Congee, U64Congee, CongeeArc}`|{} µs; on four threads {}|", span(stepped.ours_of(on(1)), micros), span(stepped.ours_of(on(4)), micros)
+    yield "README.md", "threads, memory comes back|`joint::{Congee, U64Congee, CongeeArc}`|{} µs; on four threads {}|", span(stepped.ours_of(on(1)), micros), span(stepped.ours_of(on(4)), micros)
     yield "README.md", "([`unlocked.rt`](crates/trial/src/examples/unlocked.rt))|{} µs|", span(unlocked.ours_of(is_get), micros)
     yield "README.md", "steps by hand|`joint::World`|{} ns a step|", span(in_steps, time_of)
     yield "README.md", "`Collector`: {} ns a pin and unpin|", time_of(collector.ours_of(lambda *row: pin(*row) and row[2] == 1)[0])

@@ -35,10 +35,12 @@ enum Work {
     Range,
     /// The same, while the first thread writes.
     RangeBeside,
+    /// Ranges, each as it was at one moment: of the index without a lock alone.
+    AtOnce,
 }
 use Work::*;
 
-const WORKS: [(Work, &str); 9] = [
+const WORKS: [(Work, &str); 10] = [
     (Get, "get"),
     (Insert, "insert"),
     (Remove, "remove"),
@@ -48,6 +50,7 @@ const WORKS: [(Work, &str); 9] = [
     (Hot, "overwrite-256"),
     (Range, "range"),
     (RangeBeside, "range-beside-writer"),
+    (AtOnce, "range-at-once"),
 ];
 
 #[derive(Clone, Copy)]
@@ -189,8 +192,8 @@ fn round(names: &[String], threads: u64) -> Vec<Job> {
         if work == RangeBeside && threads == 1 {
             continue;
         }
-        let calls = if matches!(work, Range | RangeBeside) { 100 } else { 1000 };
-        for index in (0..names.len()).filter(|i| !(names[*i] == "unlocked" && matches!(work, Range | RangeBeside))) {
+        let calls = if matches!(work, Range | RangeBeside | AtOnce) { 100 } else { 1000 };
+        for index in (0..names.len()).filter(|i| names[*i] == "unlocked" || work != AtOnce) {
             jobs.push(Job { threads, work, index, calls });
             if matches!(work, Mix(_) | RangeBeside) {
                 jobs.push(Job { threads, work: Clean, index, calls: 1000 });
@@ -314,7 +317,7 @@ fn hundred(race: &Race, job: Job, thread: u64, keys: &mut [u64], kinds: &mut [u8
             Insert | Remove | Clean => own + made + i as u64,
             RangeBeside if writes => own + (made + i as u64) % OWN,
             // (a range of dense keys has all its pairs)
-            Get | Overwrite | Range | RangeBeside => 1 + x % (race.n - SPAN as u64),
+            Get | Overwrite | Range | RangeBeside | AtOnce => 1 + x % (race.n - SPAN as u64),
             Hot => 1 + x % 256,
             Mix(percent) => {
                 kinds[i] = ((x >> 40) % 100 < percent) as u8;
@@ -332,7 +335,7 @@ fn hundred(race: &Race, job: Job, thread: u64, keys: &mut [u64], kinds: &mut [u8
         Fill | Insert => Some(0),
         Mix(_) => Some(kinds.iter().filter(|kind| **kind == 0).count() as u64),
         RangeBeside if writes => None,
-        Range | RangeBeside if scattered => None,
+        Range | RangeBeside | AtOnce if scattered => None,
         Clean if part.made > part.new => None,
         _ => Some(100),
     };
@@ -345,6 +348,7 @@ fn hundred(race: &Race, job: Job, thread: u64, keys: &mut [u64], kinds: &mut [u8
         Remove | Clean => Hundred::Remove,
         Mix(_) => Hundred::Mix,
         Range | RangeBeside => Hundred::Range,
+        AtOnce => Hundred::AtOnce,
     }
 }
 
@@ -370,6 +374,7 @@ pub unsafe extern "C" fn race_keys(thread: u64, keys: *mut u64, n: usize, kinds:
         Some(Hundred::Remove) => 3,
         Some(Hundred::Mix) => 4,
         Some(Hundred::Range) => 5,
+        Some(Hundred::AtOnce) => 6,
     }
 }
 

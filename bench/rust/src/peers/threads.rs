@@ -24,6 +24,8 @@ pub enum Hundred {
     /// An insertion where the kind is 1, a look-up elsewhere.
     Mix,
     Range,
+    /// The same, each as it was at one moment.
+    AtOnce,
 }
 
 /// An index that threads are given hundreds of keys for.
@@ -46,7 +48,7 @@ impl<S: Shared> Peer for S {
                     _ => self.get(key, guard).is_some(),
                 })
             }
-            Hundred::Range => {
+            Hundred::Range | Hundred::AtOnce => {
                 let mut pairs = [(0, 0); SPAN];
                 count(keys, |key| self.range(key, &mut pairs, guard) == SPAN)
             }
