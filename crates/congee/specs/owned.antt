@@ -3,6 +3,7 @@ pub mod Changes
 pub mod Charge
 pub mod Codes
 pub mod Content
+pub mod Counted
 pub mod Cursor
 pub mod Drained
 pub mod Edits
@@ -34,6 +35,7 @@ pub mod OwnedSteps
 pub mod Wanted
 pub mod Naming
 pub mod Nearest
+pub mod OwnerCalls
 pub mod Owners
 pub mod Table
 pub mod ValueRoom
@@ -48,3 +50,5 @@ pub mod Several
 pub mod Entry
 pub mod Building
 pub mod Compared
+pub mod Keyed
+pub mod Bound

@@ -13,7 +13,10 @@
 //! A walk reads each node once, as a `sight`: `scan` gives the pairs in order, `writing` puts a range of them into a slice,
 //! and `survey` counts the nodes, for `stats`. The trees are `congee`, of words, `u64_congee`, whose keys are numbers, and
 //! `congee_arc`, of shared values. What a tree of words has beside its point calls stands apart: `nearest`, `iter`, `updates`,
-//! `entry`, and `several`, `building` and `compared`, which go over pairs by their `numbers`.
+//! `entry`, and `several`, `building` and `compared`, which go over pairs by their `numbers`; `u64_calls` and `u64_entry` are the same
+//! of numbers, `arc_calls` and `arc_iter` what there is of it of shared values, and `into_iter` makes trees what a `for` goes over.
+mod arc_calls;
+mod arc_iter;
 mod arena;
 mod building;
 mod children;
@@ -27,6 +30,7 @@ mod entries;
 mod entry;
 mod inline_leaf;
 mod inner;
+mod into_iter;
 mod iter;
 mod leaf_node;
 mod lookup;
@@ -47,11 +51,14 @@ mod sight;
 mod slots;
 mod stats;
 mod survey;
+mod u64_calls;
 mod u64_congee;
+mod u64_entry;
 mod updates;
 mod values;
 mod writing;
 
+pub use arc_iter::{ArcIter, ArcValues};
 pub use building::BuildError;
 pub use congee::Congee;
 pub use congee_arc::{CongeeArc, Count, owner_of, payload_of};
@@ -60,3 +67,4 @@ pub use entry::Entry;
 pub use iter::{Iter, Keys, Values};
 pub use stats::{LevelStats, NodeInfo, NodeStats};
 pub use u64_congee::U64Congee;
+pub use u64_entry::U64Entry;

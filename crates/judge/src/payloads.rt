@@ -4,6 +4,7 @@ ghost use Rattle.std.specs.Arc.{arc_value};
 
 use std::alloc::Global;
 use std::marker::Model;
+use std::ops::Deref;
 use std::sync::Arc;
 
 /// A value that a map may hold: a word, or an owner of a shared value.
@@ -63,6 +64,13 @@ impl<V> ArcPayload<V> {
         ensures { result ≡ arc_value owner }
     {
         ArcPayload { owner }
+    }
+
+    /// The value, lent.
+    pub fn value(&self) -> &V
+        ensures { result.now ≡ self.now }
+    {
+        Deref::deref(&self.owner)
     }
 
     /// Gives the owner back.

@@ -2,6 +2,7 @@ pub mod Answered
 pub mod EntryRanges
 pub mod Clears
 pub mod Contents
+pub mod Counted
 pub mod Covers
 pub mod Cursors
 pub mod Drains
@@ -17,6 +18,7 @@ pub mod Joins
 pub mod Keeping
 pub mod Moves
 pub mod Nearests
+pub mod OwnerCalls
 pub mod OwnerLemmas
 pub mod BackSteps
 pub mod BackWalks
@@ -70,3 +72,6 @@ pub mod Removing
 pub mod Several
 pub mod Building
 pub mod Comparing
+pub mod Keying
+pub mod Counting
+pub mod Bounding

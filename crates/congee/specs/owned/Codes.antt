@@ -16,8 +16,8 @@ abbrev Plain : Type 0 → Type 0
 Plain P = List ℕ × map.FinMap nat_cmp (Child ℕ P)
 
 -- where they lie in a box
-abbrev Boxed : Type 0 → Type 0
-Boxed P = Ptr × Plain P
+abbrev InBox : Type 0 → Type 0
+InBox P = Ptr × Plain P
 
 module _ {P : Type 0} where
   -- a child is nothing, a name or a value
@@ -43,14 +43,14 @@ module _ {P : Type 0} where
   child_code value = code_by (Unit {0} ⊎ (ℕ ⊎ P)) (coded⊎ coded_unit (coded⊎ coded_ℕ value)) child_parts child_whole child_back
 
   -- a node's parts: its form, its prefix, its children and the pointer to its box
-  abbrev node_parts : Node ℕ P → Plain P ⊎ (Boxed P ⊎ (Boxed P ⊎ Boxed P))
+  abbrev node_parts : Node ℕ P → Plain P ⊎ (InBox P ⊎ (InBox P ⊎ InBox P))
   node_parts (N4 n) = inl (n.prefix, n.children)
   node_parts (N16 n) = inr (inl (n.ptr, (n.value.prefix, n.value.children)))
   node_parts (N48 n) = inr (inr (inl (n.ptr, (n.value.prefix, n.value.children))))
   node_parts (N256 n) = inr (inr (inr (n.ptr, (n.value.prefix, n.value.children))))
 
   -- the node of these parts
-  abbrev node_whole : Plain P ⊎ (Boxed P ⊎ (Boxed P ⊎ Boxed P)) → Node ℕ P
+  abbrev node_whole : Plain P ⊎ (InBox P ⊎ (InBox P ⊎ InBox P)) → Node ℕ P
   node_whole (inl p) = N4 (record { prefix = p.0; children = p.1 })
   node_whole (inr (inl b)) = N16 (record { ptr = b.0; alloc = record { memory = record { seal = tt } }; value = record { prefix = b.1.0; children = b.1.1 } })
   node_whole (inr (inr (inl b))) = N48 (record { ptr = b.0; alloc = record { memory = record { seal = tt } }; value = record { prefix = b.1.0; children = b.1.1 } })
@@ -68,9 +68,9 @@ module _ {P : Type 0} where
   plain_code value = coded× (coded_list coded_ℕ) (map.code coded_ℕ (child_code value))
 
   -- and in a box, by the pointer too
-  abbrev boxed_code : Coded P → Coded (Boxed P)
+  abbrev boxed_code : Coded P → Coded (InBox P)
   boxed_code value = coded× coded_ptr (plain_code value)
 
   -- a node is its form, its prefix and its children, and where these lie in a box, the pointer to it
   abbrev pub node_code : Coded P → Coded (Node ℕ P)
-  node_code value = code_by (Plain P ⊎ (Boxed P ⊎ (Boxed P ⊎ Boxed P))) (coded⊎ (plain_code value) (coded⊎ (boxed_code value) (coded⊎ (boxed_code value) (boxed_code value)))) node_parts node_whole node_back
+  node_code value = code_by (Plain P ⊎ (InBox P ⊎ (InBox P ⊎ InBox P))) (coded⊎ (plain_code value) (coded⊎ (boxed_code value) (coded⊎ (boxed_code value) (boxed_code value)))) node_parts node_whole node_back

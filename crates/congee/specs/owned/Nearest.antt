@@ -33,12 +33,26 @@ abbrev pub IsGreatest : {X : Type 0} → map.FinMap nat_cmp X → ℕ → Option
 IsGreatest m end None = NoneBelow m end
 IsGreatest m end (Some pair) = IsGreatestPair m end pair.0 pair.1
 
+-- no key from one number on to another has a value
+abbrev pub NoneIn : {X : Type 0} → map.FinMap nat_cmp X → ℕ → ℕ → Type 0
+NoneIn m start end = (q : ℕ) → start ≤ q → q < end → map.get m q ≡ None
+
+-- the pair of the least key from one number on to another, which isn't in it, if there is one
+abbrev pub IsLeastIn : {X : Type 0} → map.FinMap nat_cmp X → ℕ → ℕ → Option (ℕ × X) → Type 0
+IsLeastIn m start end None = NoneIn m start end
+IsLeastIn m start end (Some pair) = IsLeastPair m start pair.0 pair.1 × (pair.0 < end)
+
+-- the pair of the greatest one
+abbrev pub IsGreatestIn : {X : Type 0} → map.FinMap nat_cmp X → ℕ → ℕ → Option (ℕ × X) → Type 0
+IsGreatestIn m start end None = NoneIn m start end
+IsGreatestIn m start end (Some pair) = IsGreatestPair m end pair.0 pair.1 × (start ≤ pair.0)
+
 -- a pair as what stands for its numbers
 abbrev pub pair_by : {K V : Type 0} → (ℕ → K) → (ℕ → V) → ℕ × ℕ → K × V
 pair_by key value pair = (key pair.0, value pair.1)
 
 -- its key alone, and its value
-abbrev pub key_by : {K : Type 0} → (ℕ → K) → ℕ × ℕ → K
+abbrev pub key_by : {K X : Type 0} → (ℕ → K) → ℕ × X → K
 key_by key pair = key pair.0
 
 abbrev pub value_by : {V : Type 0} → (ℕ → V) → ℕ × ℕ → V

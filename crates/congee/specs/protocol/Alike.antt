@@ -11,16 +11,16 @@ use Rattle.congee.specs.declared.protocol.store.Stamp.{Stamp}
 use Rattle.congee.specs.declared.protocol.phase.Parent.{Parent}
 use Rattle.congee.specs.declared.protocol.phase.Above.{Above as Over}
 use Rattle.congee.specs.declared.protocol.phase.Site.{Site}
-use Rattle.congee.specs.declared.protocol.phase.Single.{Single}
-use Rattle.congee.specs.declared.protocol.phase.Single.TheVariants.{Set, Link}
-use Rattle.congee.specs.declared.protocol.phase.One.{One}
-use Rattle.congee.specs.declared.protocol.phase.Double.{Double}
-use Rattle.congee.specs.declared.protocol.phase.Double.TheVariants.{Unlink, Grow, GrowLink, Split, Shrink, Collapse, ShrinkAbove}
-use Rattle.congee.specs.declared.protocol.phase.Two.{Two}
+use Rattle.congee.specs.declared.protocol.phase.Placement.{Placement}
+use Rattle.congee.specs.declared.protocol.phase.Placement.TheVariants.{Set, Link}
+use Rattle.congee.specs.declared.protocol.phase.NodeChange.{NodeChange}
+use Rattle.congee.specs.declared.protocol.phase.Replacement.{Replacement}
+use Rattle.congee.specs.declared.protocol.phase.Replacement.TheVariants.{Unlink, Grow, GrowLink, Split, Shrink, Collapse, ShrinkAbove}
+use Rattle.congee.specs.declared.protocol.phase.ParentChange.{ParentChange}
 use Rattle.congee.specs.declared.protocol.phase.Plan.{Plan}
 use Rattle.congee.specs.declared.protocol.phase.Plan.TheVariants.{Here, Above}
 use Rattle.congee.specs.declared.protocol.phase.Phase.{Phase}
-use Rattle.congee.specs.declared.protocol.phase.Phase.TheVariants.{New, Version, Read, Check, CheckUncopied, CheckMiss, CheckDown, CheckOld, MakeLeaf, MakeGreater, MakeTop, MakeBeside, MakeLesser, AskOld, AskNew, Confirm, CheckAbove, UpgradeOne, ChangeOne, UpgradeTop, UpgradeAbove, UpgradeBelow, ChangeTwo, Obsolete, Retire, UnlockBelow, Unlock, Unwind, Scan, Ended}
+use Rattle.congee.specs.declared.protocol.phase.Phase.TheVariants.{New, Version, Read, Check, CheckUncopied, CheckMiss, CheckDown, CheckOld, MakeLeaf, MakeGreater, MakeTop, MakeBeside, MakeLesser, AskOld, AskNew, Confirm, CheckAbove, UpgradeHere, ChangeHere, UpgradeTop, UpgradeAbove, UpgradeBelow, ChangeAbove, Obsolete, Retire, UnlockBelow, Unlock, Unwind, Scan, Ended}
 use Rattle.congee.specs.declared.protocol.scan.Rung.{Rung}
 use Rattle.congee.specs.declared.protocol.scan.Stage.{Stage}
 use Rattle.congee.specs.declared.protocol.scan.Stage.TheVariants as stage
@@ -119,37 +119,37 @@ module _ {C : Type 0} (order : List ℕ) (number : C → ℕ) where
     pub count : u.count ≡ s.count
 
   -- the same change of one node
-  abbrev pub SingleAlike : Single C → Single ℕ → Type 0
-  SingleAlike Set x = x ≡ Set
-  SingleAlike (Link leaf) x = (n : ℕ) × (x ≡ Link n) × Named leaf n
+  abbrev pub PlacementAlike : Placement C → Placement ℕ → Type 0
+  PlacementAlike Set x = x ≡ Set
+  PlacementAlike (Link leaf) x = (n : ℕ) × (x ≡ Link n) × Named leaf n
 
   -- the same change at the same byte of the same node
-  pub record OneAlike (one : One C) (u : One ℕ) : Type 0 where
+  pub record NodeChangeAlike (one : NodeChange C) (u : NodeChange ℕ) : Type 0 where
     pub at : StampAlike one.at u.at
     pub byte : u.byte ≡ one.byte
-    pub change : SingleAlike one.change u.change
+    pub change : PlacementAlike one.change u.change
 
   -- the same change of two nodes
-  abbrev pub DoubleAlike : Double C → Double ℕ → Type 0
-  DoubleAlike Unlink x = x ≡ Unlink
-  DoubleAlike (Grow c) x = (n : ℕ) × (x ≡ Grow n) × Named c n
-  DoubleAlike (GrowLink c leaf byte) x = (n : ℕ) × (l : ℕ) × (x ≡ GrowLink n l byte) × Named c n × Named leaf l
-  DoubleAlike (Split top leaf common byte) x = (n : ℕ) × (l : ℕ) × (x ≡ Split n l common byte) × Named top n × Named leaf l
-  DoubleAlike (Shrink c) x = (n : ℕ) × (x ≡ Shrink n) × Named c n
-  DoubleAlike Collapse x = x ≡ Collapse
-  DoubleAlike (ShrinkAbove c) x = (n : ℕ) × (x ≡ ShrinkAbove n) × Named c n
+  abbrev pub ReplacementAlike : Replacement C → Replacement ℕ → Type 0
+  ReplacementAlike Unlink x = x ≡ Unlink
+  ReplacementAlike (Grow c) x = (n : ℕ) × (x ≡ Grow n) × Named c n
+  ReplacementAlike (GrowLink c leaf byte) x = (n : ℕ) × (l : ℕ) × (x ≡ GrowLink n l byte) × Named c n × Named leaf l
+  ReplacementAlike (Split top leaf common byte) x = (n : ℕ) × (l : ℕ) × (x ≡ Split n l common byte) × Named top n × Named leaf l
+  ReplacementAlike (Shrink c) x = (n : ℕ) × (x ≡ Shrink n) × Named c n
+  ReplacementAlike Collapse x = x ≡ Collapse
+  ReplacementAlike (ShrinkAbove c) x = (n : ℕ) × (x ≡ ShrinkAbove n) × Named c n
 
   -- the same change of the same two nodes
-  pub record TwoAlike (two : Two C) (u : Two ℕ) : Type 0 where
+  pub record ParentChangeAlike (two : ParentChange C) (u : ParentChange ℕ) : Type 0 where
     pub top : TopAlike two.top u.top
     pub above : ParentAlike two.above u.above
     pub at : StampAlike two.at u.at
-    pub change : DoubleAlike two.change u.change
+    pub change : ReplacementAlike two.change u.change
 
   -- the same plan
   abbrev pub PlanAlike : Plan C → Plan ℕ → Type 0
-  PlanAlike (Here check one) x = (o : Option (Stamp ℕ)) × (u : One ℕ) × (x ≡ Here o u) × StampedAlike check o × OneAlike one u
-  PlanAlike (Above two) x = (u : Two ℕ) × (x ≡ Above u) × TwoAlike two u
+  PlanAlike (Here check one) x = (o : Option (Stamp ℕ)) × (u : NodeChange ℕ) × (x ≡ Here o u) × StampedAlike check o × NodeChangeAlike one u
+  PlanAlike (Above two) x = (u : ParentChange ℕ) × (x ≡ Above u) × ParentChangeAlike two u
 
   -- the same node on a scan's way
   pub record RungAlike (r : Rung C) (q : Rung ℕ) : Type 0 where
@@ -224,13 +224,13 @@ module _ {C : Type 0} (order : List ℕ) (number : C → ℕ) where
       PhaseAlike (AskOld s v) x = (u : Site ℕ) × (x ≡ AskOld u v) × ReadAlike s u
       PhaseAlike (AskNew plan) x = (y : Plan ℕ) × (x ≡ AskNew y) × PlanAlike plan y
       PhaseAlike (Confirm at r) x = (u : Stamp ℕ) × (x ≡ Confirm u r) × StampAlike at u
-      PhaseAlike (CheckAbove p one r) x = (q : Stamp ℕ) × (u : One ℕ) × (x ≡ CheckAbove q u r) × StampAlike p q × OneAlike one u
-      PhaseAlike (UpgradeOne one r) x = (u : One ℕ) × (x ≡ UpgradeOne u r) × OneAlike one u
-      PhaseAlike (ChangeOne one r) x = (u : One ℕ) × (x ≡ ChangeOne u r) × OneAlike one u
-      PhaseAlike (UpgradeTop g two r) x = (q : Parent ℕ) × (u : Two ℕ) × (x ≡ UpgradeTop q u r) × ParentAlike g q × TwoAlike two u
-      PhaseAlike (UpgradeAbove two r) x = (u : Two ℕ) × (x ≡ UpgradeAbove u r) × TwoAlike two u
-      PhaseAlike (UpgradeBelow two r) x = (u : Two ℕ) × (x ≡ UpgradeBelow u r) × TwoAlike two u
-      PhaseAlike (ChangeTwo two r) x = (u : Two ℕ) × (x ≡ ChangeTwo u r) × TwoAlike two u
+      PhaseAlike (CheckAbove p one r) x = (q : Stamp ℕ) × (u : NodeChange ℕ) × (x ≡ CheckAbove q u r) × StampAlike p q × NodeChangeAlike one u
+      PhaseAlike (UpgradeHere one r) x = (u : NodeChange ℕ) × (x ≡ UpgradeHere u r) × NodeChangeAlike one u
+      PhaseAlike (ChangeHere one r) x = (u : NodeChange ℕ) × (x ≡ ChangeHere u r) × NodeChangeAlike one u
+      PhaseAlike (UpgradeTop g two r) x = (q : Parent ℕ) × (u : ParentChange ℕ) × (x ≡ UpgradeTop q u r) × ParentAlike g q × ParentChangeAlike two u
+      PhaseAlike (UpgradeAbove two r) x = (u : ParentChange ℕ) × (x ≡ UpgradeAbove u r) × ParentChangeAlike two u
+      PhaseAlike (UpgradeBelow two r) x = (u : ParentChange ℕ) × (x ≡ UpgradeBelow u r) × ParentChangeAlike two u
+      PhaseAlike (ChangeAbove two r) x = (u : ParentChange ℕ) × (x ≡ ChangeAbove u r) × ParentChangeAlike two u
       PhaseAlike (Obsolete c next p r) x = (n : ℕ) × (o : Option ℕ) × (q : ℕ) × (x ≡ Obsolete n o q r) × Named c n × MadeAlike next o × Named p q
       PhaseAlike (Retire c next p r) x = (n : ℕ) × (o : Option ℕ) × (q : ℕ) × (x ≡ Retire n o q r) × Named c n × MadeAlike next o × Named p q
       PhaseAlike (UnlockBelow c p r) x = (n : ℕ) × (q : ℕ) × (x ≡ UnlockBelow n q r) × Named c n × Named p q

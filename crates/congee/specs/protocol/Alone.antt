@@ -13,7 +13,7 @@ use Rattle.congee.specs.declared.protocol.phase.Site.{Site}
 use Rattle.congee.specs.declared.protocol.phase.Plan.{Plan}
 use Rattle.congee.specs.declared.protocol.phase.Plan.TheVariants.{Here, Above}
 use Rattle.congee.specs.declared.protocol.phase.Phase.{Phase}
-use Rattle.congee.specs.declared.protocol.phase.Phase.TheVariants.{New, Version, Read, Check, CheckUncopied, CheckMiss, CheckDown, CheckOld, MakeLeaf, MakeGreater, MakeTop, MakeBeside, MakeLesser, AskOld, AskNew, Confirm, CheckAbove, UpgradeOne, ChangeOne, UpgradeTop, UpgradeAbove, UpgradeBelow, ChangeTwo, Obsolete, Retire, UnlockBelow, Unlock, Unwind, Scan, Ended}
+use Rattle.congee.specs.declared.protocol.phase.Phase.TheVariants.{New, Version, Read, Check, CheckUncopied, CheckMiss, CheckDown, CheckOld, MakeLeaf, MakeGreater, MakeTop, MakeBeside, MakeLesser, AskOld, AskNew, Confirm, CheckAbove, UpgradeHere, ChangeHere, UpgradeTop, UpgradeAbove, UpgradeBelow, ChangeAbove, Obsolete, Retire, UnlockBelow, Unlock, Unwind, Scan, Ended}
 use Rattle.congee.specs.declared.protocol.machine.Machine.{Machine}
 use Rattle.congee.specs.declared.protocol.scan.Rung.{Rung}
 use Rattle.congee.specs.declared.protocol.scan.Stage.{Stage}
@@ -82,12 +82,12 @@ stamps (AskOld s v) = stamps_site s
 stamps (AskNew plan) = stamps_plan plan
 stamps (Confirm at r) = at ∷ []
 stamps (CheckAbove p one r) = p ∷ one.at ∷ []
-stamps (UpgradeOne one r) = one.at ∷ []
-stamps (ChangeOne one r) = []
+stamps (UpgradeHere one r) = one.at ∷ []
+stamps (ChangeHere one r) = []
 stamps (UpgradeTop g two r) = g.stamp ∷ two.above.stamp ∷ two.at ∷ []
 stamps (UpgradeAbove two r) = two.above.stamp ∷ two.at ∷ []
 stamps (UpgradeBelow two r) = two.at ∷ []
-stamps (ChangeTwo two r) = []
+stamps (ChangeAbove two r) = []
 stamps (Obsolete n next p r) = []
 stamps (Retire n next p r) = []
 stamps (UnlockBelow n p r) = []
@@ -241,12 +241,12 @@ module _ {V : Type 0} where
   steps_left number h (AskNew plan) = 9
   steps_left number h (Confirm at r) = 1
   steps_left number h (CheckAbove p one r) = 4
-  steps_left number h (UpgradeOne one r) = 3
-  steps_left number h (ChangeOne one r) = 2
+  steps_left number h (UpgradeHere one r) = 3
+  steps_left number h (ChangeHere one r) = 2
   steps_left number h (UpgradeTop g two r) = 9
   steps_left number h (UpgradeAbove two r) = 8
   steps_left number h (UpgradeBelow two r) = 7
-  steps_left number h (ChangeTwo two r) = 6
+  steps_left number h (ChangeAbove two r) = 6
   steps_left number h (Obsolete n next p r) = 3 + steps_next next 2
   steps_left number h (Retire n next p r) = 2 + steps_next next 2
   steps_left number h (UnlockBelow n p r) = 2

@@ -5,7 +5,7 @@ use Rattle.congee.specs.declared.forms.base_node.NodeType.TheVariants.{N4}
 use Rattle.congee.specs.declared.protocol.store.Refusal.{Refusal}
 use Rattle.congee.specs.declared.protocol.store.Refusal.TheVariants as refusal
 use Rattle.congee.specs.declared.protocol.phase.Phase.{Phase}
-use Rattle.congee.specs.declared.protocol.phase.Phase.TheVariants.{Check, CheckUncopied, CheckOld, MakeLeaf, MakeGreater, MakeTop, MakeBeside, AskOld, UpgradeOne, UpgradeTop, UpgradeAbove, Unwind, Scan}
+use Rattle.congee.specs.declared.protocol.phase.Phase.TheVariants.{Check, CheckUncopied, CheckOld, MakeLeaf, MakeGreater, MakeTop, MakeBeside, AskOld, UpgradeHere, UpgradeTop, UpgradeAbove, Unwind, Scan}
 use Rattle.congee.specs.declared.protocol.machine.Outcome.{Outcome}
 use Rattle.congee.specs.declared.protocol.machine.Outcome.TheVariants.{Refused}
 use Rattle.congee.specs.Heap.{Node}
@@ -28,7 +28,7 @@ Causes why most always (MakeLeaf s) e = why N4 e
 Causes why most always (MakeGreater s p leaf) e = why (form_above s.count) e
 Causes why most always (MakeTop p at common byte) e = why N4 e
 Causes why most always (MakeBeside p at common byte top) e = why N4 e
-Causes why most always (UpgradeOne one r) e = NoneLeft most one.at.version e
+Causes why most always (UpgradeHere one r) e = NoneLeft most one.at.version e
 Causes why most always (UpgradeTop g two r) e = NoneLeft most g.stamp.version e
 Causes why most always (UpgradeAbove two r) e = NoneLeft most two.above.stamp.version e
 Causes why most always (Unwind n next f) e = e ≡ refusal.Exhausted

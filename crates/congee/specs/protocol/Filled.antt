@@ -4,16 +4,16 @@ use Rattle.std.specs.Prelude.{◌≡◌, ◌≢◌, ℕ, suc, ◌<◌, ◌≤◌
 use Rattle.congee.specs.declared.forms.base_node.NodeType.{NodeType}
 use Rattle.congee.specs.declared.forms.base_node.NodeType.TheVariants.{N4, N16, N48, N256}
 use Rattle.congee.specs.declared.forms.prefix.TheConstants.{MAX_PREFIX_LEN}
-use Rattle.congee.specs.declared.protocol.phase.Single.{Single}
-use Rattle.congee.specs.declared.protocol.phase.Single.TheVariants.{Set, Link}
-use Rattle.congee.specs.declared.protocol.phase.One.{One}
-use Rattle.congee.specs.declared.protocol.phase.Double.{Double}
-use Rattle.congee.specs.declared.protocol.phase.Double.TheVariants.{Unlink, Grow, GrowLink, Split, Shrink, Collapse, ShrinkAbove}
-use Rattle.congee.specs.declared.protocol.phase.Two.{Two}
+use Rattle.congee.specs.declared.protocol.phase.Placement.{Placement}
+use Rattle.congee.specs.declared.protocol.phase.Placement.TheVariants.{Set, Link}
+use Rattle.congee.specs.declared.protocol.phase.NodeChange.{NodeChange}
+use Rattle.congee.specs.declared.protocol.phase.Replacement.{Replacement}
+use Rattle.congee.specs.declared.protocol.phase.Replacement.TheVariants.{Unlink, Grow, GrowLink, Split, Shrink, Collapse, ShrinkAbove}
+use Rattle.congee.specs.declared.protocol.phase.ParentChange.{ParentChange}
 use Rattle.congee.specs.declared.protocol.phase.Plan.{Plan}
 use Rattle.congee.specs.declared.protocol.phase.Plan.TheVariants.{Here, Above}
 use Rattle.congee.specs.declared.protocol.phase.Phase.{Phase}
-use Rattle.congee.specs.declared.protocol.phase.Phase.TheVariants.{MakeGreater, MakeBeside, MakeLesser, AskNew, CheckAbove, UpgradeOne, ChangeOne, UpgradeTop, UpgradeAbove, UpgradeBelow, ChangeTwo}
+use Rattle.congee.specs.declared.protocol.phase.Phase.TheVariants.{MakeGreater, MakeBeside, MakeLesser, AskNew, CheckAbove, UpgradeHere, ChangeHere, UpgradeTop, UpgradeAbove, UpgradeBelow, ChangeAbove}
 use Rattle.congee.specs.declared.protocol.machine.Machine.{Machine}
 use Rattle.congee.specs.declared.protocol.machine.Move.{Move}
 use Rattle.congee.specs.Heap.{Node, is_taken}
@@ -65,41 +65,41 @@ abbrev pub FilledWithout : ℕ → ℕ → ℕ → Type 0
 FilledWithout size count capacity = (k : ℕ) → suc k ≡ count → FilledAs size k capacity
 
 -- what a call puts into node k, which is n, leaves it so; a new leaf has four places
-abbrev pub FillsOne : {C V : Type 0} → Bool → (C → ℕ) → (ℕ → Node V) → Single C → Option V → ℕ → Node V → Type 0
-FillsOne by_form number h (Link leaf) given k n = (h (number leaf)).capacity ≡ 4
-FillsOne by_form number h Set None k n = k ≢ 0 → FilledWithout (length n.prefix) n.count (places_in by_form n.capacity)
-FillsOne by_form number h Set (Some v) k n = Unit {0}
+abbrev pub FillsHere : {C V : Type 0} → Bool → (C → ℕ) → (ℕ → Node V) → Placement C → Option V → ℕ → Node V → Type 0
+FillsHere by_form number h (Link leaf) given k n = (h (number leaf)).capacity ≡ 4
+FillsHere by_form number h Set None k n = k ≢ 0 → FilledWithout (length n.prefix) n.count (places_in by_form n.capacity)
+FillsHere by_form number h Set (Some v) k n = Unit {0}
 
 -- and what it puts in the place of that node, or of the one above, which is q under the number m
-abbrev pub FillsTwo : {C V : Type 0} → Bool → (C → ℕ) → (ℕ → Node V) → Double C → ℕ → Node V → ℕ → Node V → Type 0
-FillsTwo by_form number h Unlink m q k n = m ≢ 0 → FilledWithout (length q.prefix) q.count (places_in by_form q.capacity)
-FillsTwo by_form number h Collapse m q k n = Unit {0}
-FillsTwo by_form number h (ShrinkAbove c) m q k n = m ≢ 0 → FilledWithout (length q.prefix) q.count (places_in by_form (h (number c)).capacity)
-FillsTwo by_form number h (Shrink c) m q k n = k ≢ 0 → FilledWithout (length n.prefix) n.count (places_in by_form (h (number c)).capacity)
-FillsTwo by_form number h (Grow c) m q k n = k ≢ 0 → FilledAs (length n.prefix) (suc n.count) (places_in by_form (h (number c)).capacity)
-FillsTwo by_form number h (GrowLink c leaf byte) m q k n = (k ≢ 0 → FilledAs (length n.prefix) (suc n.count) (places_in by_form (h (number c)).capacity)) × ((h (number leaf)).capacity ≡ 4)
-FillsTwo by_form number h (Split top leaf common byte) m q k n = ((h (number top)).capacity ≡ 4) × ((h (number leaf)).capacity ≡ 4)
+abbrev pub FillsAbove : {C V : Type 0} → Bool → (C → ℕ) → (ℕ → Node V) → Replacement C → ℕ → Node V → ℕ → Node V → Type 0
+FillsAbove by_form number h Unlink m q k n = m ≢ 0 → FilledWithout (length q.prefix) q.count (places_in by_form q.capacity)
+FillsAbove by_form number h Collapse m q k n = Unit {0}
+FillsAbove by_form number h (ShrinkAbove c) m q k n = m ≢ 0 → FilledWithout (length q.prefix) q.count (places_in by_form (h (number c)).capacity)
+FillsAbove by_form number h (Shrink c) m q k n = k ≢ 0 → FilledWithout (length n.prefix) n.count (places_in by_form (h (number c)).capacity)
+FillsAbove by_form number h (Grow c) m q k n = k ≢ 0 → FilledAs (length n.prefix) (suc n.count) (places_in by_form (h (number c)).capacity)
+FillsAbove by_form number h (GrowLink c leaf byte) m q k n = (k ≢ 0 → FilledAs (length n.prefix) (suc n.count) (places_in by_form (h (number c)).capacity)) × ((h (number leaf)).capacity ≡ 4)
+FillsAbove by_form number h (Split top leaf common byte) m q k n = ((h (number top)).capacity ≡ 4) × ((h (number leaf)).capacity ≡ 4)
 
 -- the same of the nodes that the change names
-abbrev pub FillsAt : {C V : Type 0} → Bool → (C → ℕ) → (ℕ → Node V) → Two C → Type 0
-FillsAt by_form number h two = FillsTwo by_form number h two.change (number two.above.stamp.node) (h (number two.above.stamp.node)) (number two.at.node) (h (number two.at.node))
+abbrev pub FillsAt : {C V : Type 0} → Bool → (C → ℕ) → (ℕ → Node V) → ParentChange C → Type 0
+FillsAt by_form number h two = FillsAbove by_form number h two.change (number two.above.stamp.node) (h (number two.above.stamp.node)) (number two.at.node) (h (number two.at.node))
 
 -- as long as the nodes' lock words are those taken
-abbrev pub MayFillOne : {C V : Type 0} → Bool → (C → ℕ) → (ℕ → Node V) → Option V → One C → Type 0
-MayFillOne by_form number h given one = is_taken (h (number one.at.node)) one.at.version ≡ true → FillsOne by_form number h one.change given (number one.at.node) (h (number one.at.node))
+abbrev pub MayFillHere : {C V : Type 0} → Bool → (C → ℕ) → (ℕ → Node V) → Option V → NodeChange C → Type 0
+MayFillHere by_form number h given one = is_taken (h (number one.at.node)) one.at.version ≡ true → FillsHere by_form number h one.change given (number one.at.node) (h (number one.at.node))
 
 -- the same of a change of two nodes, of which the upper one is locked
-abbrev pub MayFillHalf : {C V : Type 0} → Bool → (C → ℕ) → (ℕ → Node V) → Two C → Type 0
+abbrev pub MayFillHalf : {C V : Type 0} → Bool → (C → ℕ) → (ℕ → Node V) → ParentChange C → Type 0
 MayFillHalf by_form number h two = is_taken (h (number two.at.node)) two.at.version ≡ true → FillsAt by_form number h two
 
 -- and of one with neither locked
-abbrev pub MayFillTwo : {C V : Type 0} → Bool → (C → ℕ) → (ℕ → Node V) → Two C → Type 0
-MayFillTwo by_form number h two = is_taken (h (number two.above.stamp.node)) two.above.stamp.version ≡ true → MayFillHalf by_form number h two
+abbrev pub MayFillAbove : {C V : Type 0} → Bool → (C → ℕ) → (ℕ → Node V) → ParentChange C → Type 0
+MayFillAbove by_form number h two = is_taken (h (number two.above.stamp.node)) two.above.stamp.version ≡ true → MayFillHalf by_form number h two
 
 -- and of a plan
 abbrev pub MayFillPlan : {C V : Type 0} → Bool → (C → ℕ) → (ℕ → Node V) → V → Plan C → Type 0
-MayFillPlan by_form number h v (Here check one) = MayFillOne by_form number h (Some v) one
-MayFillPlan by_form number h v (Above two) = MayFillTwo by_form number h two
+MayFillPlan by_form number h v (Here check one) = MayFillHere by_form number h (Some v) one
+MayFillPlan by_form number h v (Above two) = MayFillAbove by_form number h two
 
 -- a made node, if there is one, has four places
 abbrev pub IsSmall : {C V : Type 0} → (C → ℕ) → (ℕ → Node V) → Option C → Type 0
@@ -112,13 +112,13 @@ Fills by_form number h given (MakeGreater s p leaf) = IsSmall number h leaf
 Fills by_form number h given (MakeBeside p at common byte top) = (h (number top)).capacity ≡ 4
 Fills by_form number h given (MakeLesser s p None r) = s.count ≢ 1
 Fills {C} {V} by_form number h given (AskNew plan) = (v : V) → MayFillPlan by_form number h v plan
-Fills by_form number h given (CheckAbove p one r) = MayFillOne by_form number h given one
-Fills by_form number h given (UpgradeOne one r) = MayFillOne by_form number h given one
-Fills by_form number h given (ChangeOne one r) = FillsOne by_form number h one.change given (number one.at.node) (h (number one.at.node))
-Fills by_form number h given (UpgradeTop g two r) = MayFillTwo by_form number h two
-Fills by_form number h given (UpgradeAbove two r) = MayFillTwo by_form number h two
+Fills by_form number h given (CheckAbove p one r) = MayFillHere by_form number h given one
+Fills by_form number h given (UpgradeHere one r) = MayFillHere by_form number h given one
+Fills by_form number h given (ChangeHere one r) = FillsHere by_form number h one.change given (number one.at.node) (h (number one.at.node))
+Fills by_form number h given (UpgradeTop g two r) = MayFillAbove by_form number h two
+Fills by_form number h given (UpgradeAbove two r) = MayFillAbove by_form number h two
 Fills by_form number h given (UpgradeBelow two r) = MayFillHalf by_form number h two
-Fills by_form number h given (ChangeTwo two r) = FillsAt by_form number h two
+Fills by_form number h given (ChangeAbove two r) = FillsAt by_form number h two
 Fills by_form number h given _ = Unit {0}
 
 -- the tree is filled, and each call leaves it so

@@ -8,9 +8,9 @@ use Rattle.congee.specs.declared.protocol.run.Step.{Step}
 use Rattle.congee.specs.Heap.{Node, Below, Stands}
 use Rattle.congee.specs.protocol.Holdings.{MadeBy, TakenBy}
 
--- the node was handed over, and waits for its destruction
-abbrev pub is_waiting : {V : Type 0} → Node V → Bool
-is_waiting n = n.retired && (n.made && not n.destroyed)
+-- the node was handed over, and isn't destroyed
+abbrev pub is_handed_over : {V : Type 0} → Node V → Bool
+is_handed_over n = n.retired && (n.made && not n.destroyed)
 
 -- from node n down, these bytes lead to node c
 abbrev pub Leads : {V : Type 0} → (ℕ → Node V) → ℕ → List ℕ → ℕ → Type 0
@@ -28,7 +28,7 @@ IsOut h n = (path : List ℕ) → Leads h 0 path n → ⊥
 -- what each call has handed over, in order, by the calls' places, before and after a step of call i: nothing more
 pub record HandsNothing {V : Type 0} (by : ℕ → List ℕ) (h : ℕ → Node V) (by' : ℕ → List ℕ) (h' : ℕ → Node V) : Type 0 where
   pub calls : (j : ℕ) → by' j ≡ by j
-  pub nodes : (m : ℕ) → is_waiting (h' m) ≡ is_waiting (h m)
+  pub nodes : (m : ℕ) → is_handed_over (h' m) ≡ is_handed_over (h m)
 
 -- or one node: the call of the step had handed over one at most, and nobody had handed over this one, which is marked and
 -- out of the tree
@@ -38,9 +38,9 @@ pub record HandsNode {V : Type 0} (by : ℕ → List ℕ) (h : ℕ → Node V) (
   pub others : (j : ℕ) → j ≢ i → by' j ≡ by j
   pub marked : (h n).obsolete ≡ true
   pub out : IsOut h n
-  pub before : is_waiting (h n) ≡ false
-  pub after : is_waiting (h' n) ≡ true
-  pub nodes : (m : ℕ) → m ≢ n → is_waiting (h' m) ≡ is_waiting (h m)
+  pub before : is_handed_over (h n) ≡ false
+  pub after : is_handed_over (h' n) ≡ true
+  pub nodes : (m : ℕ) → m ≢ n → is_handed_over (h' m) ≡ is_handed_over (h m)
 
 -- a step hands over nothing, or one node
 abbrev pub HandsAt : {V : Type 0} → (ℕ → List ℕ) → (ℕ → Node V) → ℕ → (ℕ → List ℕ) → (ℕ → Node V) → Type 0
@@ -65,7 +65,7 @@ Leaving {C} {V} by ms = (i : ℕ) → by i ≢ [] → (m : Machine C V) × (slic
 
 -- what was handed over stays as it is
 abbrev pub Untouched : {V : Type 0} → (ℕ → Node V) → (ℕ → Node V) → Type 0
-Untouched h h' = (n : ℕ) → is_waiting (h n) ≡ true → h' n ≡ h n
+Untouched h h' = (n : ℕ) → is_handed_over (h n) ≡ true → h' n ≡ h n
 
 -- what the calls of a run handed over, each of them two nodes at most: each node once, by one call, and what waits
 -- after the run waited before it or was handed over in it; no path leads to what waits, and nobody changes it
@@ -74,9 +74,9 @@ pub record Handing {C V : Type 0} (by : ℕ → List ℕ) (h : ℕ → Node V) (
   pub leaving : Leaving by ms'
   pub few : (i : ℕ) → length (by i) ≤ 2
   pub once : (i j n k l : ℕ) → slice_get (by i) k ≡ Some n → slice_get (by j) l ≡ Some n → (i ≡ j) × (k ≡ l)
-  pub new : (i n : ℕ) → Contains (by i) n → (is_waiting (h n) ≡ false) × (is_waiting (h' n) ≡ true)
-  pub all : (n : ℕ) → is_waiting (h' n) ≡ true → (is_waiting (h n) ≡ true) ⊎ ((i : ℕ) × Contains (by i) n)
-  pub out : (n : ℕ) → is_waiting (h' n) ≡ true → IsOut h' n
+  pub new : (i n : ℕ) → Contains (by i) n → (is_handed_over (h n) ≡ false) × (is_handed_over (h' n) ≡ true)
+  pub all : (n : ℕ) → is_handed_over (h' n) ≡ true → (is_handed_over (h n) ≡ true) ⊎ ((i : ℕ) × Contains (by i) n)
+  pub out : (n : ℕ) → is_handed_over (h' n) ≡ true → IsOut h' n
   pub untouched : Untouched h h'
 
 -- what each call has taken out of the tree, before and after a step of call i: nothing more, and what was in the
@@ -120,7 +120,7 @@ pub record Due {C V : Type 0} (number : C → ℕ) (by took : ℕ → List ℕ) 
 -- each node that stands is in the tree, waits for its destruction, or is a call's between two of its steps: made by it
 -- and not hung yet, or taken out and not handed over yet
 abbrev pub Accounted : {C V : Type 0} → (C → ℕ) → (ℕ → Node V) → List (Machine C V) → Type 0
-Accounted {C} {V} number h ms = (n : ℕ) → Stands (h n) → (InTree h n ⊎ (is_waiting (h n) ≡ true))
+Accounted {C} {V} number h ms = (n : ℕ) → Stands (h n) → (InTree h n ⊎ (is_handed_over (h n) ≡ true))
     ⊎ ((i : ℕ) × (m : Machine C V) × (slice_get ms i ≡ Some m) × (MadeBy number m.phase n ⊎ TakenBy number m.phase n))
 
 -- what the calls of a run took out of the tree, that they hand it over, and that no node is lost

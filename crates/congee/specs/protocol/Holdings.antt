@@ -1,14 +1,14 @@
 -- Which locks and nodes a call holds between its steps, and that nobody holds any other.
 use Rattle.std.specs.Prelude.{◌≡◌, ◌≢◌, ℕ, ◌⊎◌, true, false, List, [], Option, None, Some, slice_get}
 use Rattle.congee.specs.declared.protocol.phase.Parent.{Parent}
-use Rattle.congee.specs.declared.protocol.phase.Single.{Single}
-use Rattle.congee.specs.declared.protocol.phase.Single.TheVariants.{Set, Link}
-use Rattle.congee.specs.declared.protocol.phase.Double.{Double}
-use Rattle.congee.specs.declared.protocol.phase.Double.TheVariants.{Unlink, Grow, GrowLink, Split, Shrink, Collapse, ShrinkAbove}
+use Rattle.congee.specs.declared.protocol.phase.Placement.{Placement}
+use Rattle.congee.specs.declared.protocol.phase.Placement.TheVariants.{Set, Link}
+use Rattle.congee.specs.declared.protocol.phase.Replacement.{Replacement}
+use Rattle.congee.specs.declared.protocol.phase.Replacement.TheVariants.{Unlink, Grow, GrowLink, Split, Shrink, Collapse, ShrinkAbove}
 use Rattle.congee.specs.declared.protocol.phase.Plan.{Plan}
 use Rattle.congee.specs.declared.protocol.phase.Plan.TheVariants.{Here, Above}
 use Rattle.congee.specs.declared.protocol.phase.Phase.{Phase}
-use Rattle.congee.specs.declared.protocol.phase.Phase.TheVariants.{MakeGreater, MakeBeside, AskNew, CheckAbove, UpgradeOne, ChangeOne, UpgradeTop, UpgradeAbove, UpgradeBelow, ChangeTwo, Obsolete, Retire, UnlockBelow, Unlock, Unwind}
+use Rattle.congee.specs.declared.protocol.phase.Phase.TheVariants.{MakeGreater, MakeBeside, AskNew, CheckAbove, UpgradeHere, ChangeHere, UpgradeTop, UpgradeAbove, UpgradeBelow, ChangeAbove, Obsolete, Retire, UnlockBelow, Unlock, Unwind}
 use Rattle.congee.specs.declared.protocol.machine.Machine.{Machine}
 use Rattle.congee.specs.Heap.{Node}
 use Rattle.congee.specs.Notes.{Note, Unmade, Held, Linked, Gone, is_spent}
@@ -25,10 +25,10 @@ IsTop number (Some p) n = n ≡ number p.stamp.node
 
 -- the call holds the lock of node n
 abbrev pub LockedBy : {C V : Type 0} → (C → ℕ) → Phase C V → ℕ → Type 0
-LockedBy number (ChangeOne one r) n = n ≡ number one.at.node
+LockedBy number (ChangeHere one r) n = n ≡ number one.at.node
 LockedBy number (UpgradeAbove two r) n = IsTop number two.top n
 LockedBy number (UpgradeBelow two r) n = (n ≡ number two.above.stamp.node) ⊎ IsTop number two.top n
-LockedBy number (ChangeTwo two r) n = ((n ≡ number two.above.stamp.node) ⊎ (n ≡ number two.at.node)) ⊎ IsTop number two.top n
+LockedBy number (ChangeAbove two r) n = ((n ≡ number two.above.stamp.node) ⊎ (n ≡ number two.at.node)) ⊎ IsTop number two.top n
 LockedBy number (Obsolete m next p r) n = ((n ≡ number p) ⊎ (n ≡ number m)) ⊎ IsMade number next n
 LockedBy number (Retire m next p r) n = ((n ≡ number p) ⊎ (n ≡ number m)) ⊎ IsMade number next n
 LockedBy number (UnlockBelow m p r) n = (n ≡ number p) ⊎ (n ≡ number m)
@@ -37,37 +37,37 @@ LockedBy number (Unwind m next e) n = (n ≡ number m) ⊎ IsMade number next n
 LockedBy number _ n = ⊥
 
 -- node n was made for the change
-abbrev pub MadeForOne : {C : Type 0} → (C → ℕ) → Single C → ℕ → Type 0
-MadeForOne number Set n = ⊥
-MadeForOne number (Link leaf) n = n ≡ number leaf
+abbrev pub MadeForHere : {C : Type 0} → (C → ℕ) → Placement C → ℕ → Type 0
+MadeForHere number Set n = ⊥
+MadeForHere number (Link leaf) n = n ≡ number leaf
 
 -- the same of a change of two nodes
-abbrev pub MadeForTwo : {C : Type 0} → (C → ℕ) → Double C → ℕ → Type 0
-MadeForTwo number Unlink n = ⊥
-MadeForTwo number (Grow c) n = n ≡ number c
-MadeForTwo number (Shrink c) n = n ≡ number c
-MadeForTwo number Collapse n = ⊥
-MadeForTwo number (ShrinkAbove c) n = n ≡ number c
-MadeForTwo number (GrowLink c leaf byte) n = (n ≡ number c) ⊎ (n ≡ number leaf)
-MadeForTwo number (Split top leaf common byte) n = (n ≡ number top) ⊎ (n ≡ number leaf)
+abbrev pub MadeForAbove : {C : Type 0} → (C → ℕ) → Replacement C → ℕ → Type 0
+MadeForAbove number Unlink n = ⊥
+MadeForAbove number (Grow c) n = n ≡ number c
+MadeForAbove number (Shrink c) n = n ≡ number c
+MadeForAbove number Collapse n = ⊥
+MadeForAbove number (ShrinkAbove c) n = n ≡ number c
+MadeForAbove number (GrowLink c leaf byte) n = (n ≡ number c) ⊎ (n ≡ number leaf)
+MadeForAbove number (Split top leaf common byte) n = (n ≡ number top) ⊎ (n ≡ number leaf)
 
 -- the same of a plan
 abbrev pub MadeForPlan : {C : Type 0} → (C → ℕ) → Plan C → ℕ → Type 0
-MadeForPlan number (Here check one) n = MadeForOne number one.change n
-MadeForPlan number (Above two) n = MadeForTwo number two.change n
+MadeForPlan number (Here check one) n = MadeForHere number one.change n
+MadeForPlan number (Above two) n = MadeForAbove number two.change n
 
 -- the call has made node n, and has neither hung it nor given it back
 abbrev pub MadeBy : {C V : Type 0} → (C → ℕ) → Phase C V → ℕ → Type 0
 MadeBy number (MakeGreater s p leaf) n = IsMade number leaf n
 MadeBy number (MakeBeside p at common byte top) n = n ≡ number top
 MadeBy number (AskNew plan) n = MadeForPlan number plan n
-MadeBy number (CheckAbove p one r) n = MadeForOne number one.change n
-MadeBy number (UpgradeOne one r) n = MadeForOne number one.change n
-MadeBy number (ChangeOne one r) n = MadeForOne number one.change n
-MadeBy number (UpgradeTop g two r) n = MadeForTwo number two.change n
-MadeBy number (UpgradeAbove two r) n = MadeForTwo number two.change n
-MadeBy number (UpgradeBelow two r) n = MadeForTwo number two.change n
-MadeBy number (ChangeTwo two r) n = MadeForTwo number two.change n
+MadeBy number (CheckAbove p one r) n = MadeForHere number one.change n
+MadeBy number (UpgradeHere one r) n = MadeForHere number one.change n
+MadeBy number (ChangeHere one r) n = MadeForHere number one.change n
+MadeBy number (UpgradeTop g two r) n = MadeForAbove number two.change n
+MadeBy number (UpgradeAbove two r) n = MadeForAbove number two.change n
+MadeBy number (UpgradeBelow two r) n = MadeForAbove number two.change n
+MadeBy number (ChangeAbove two r) n = MadeForAbove number two.change n
 MadeBy number _ n = ⊥
 
 -- the call has taken node n out of the tree, and has not yet handed it over

@@ -5,16 +5,16 @@ use Rattle.congee.specs.declared.protocol.store.Stamp.{Stamp}
 use Rattle.congee.specs.declared.protocol.phase.Parent.{Parent}
 use Rattle.congee.specs.declared.protocol.phase.Above.{Above as Over}
 use Rattle.congee.specs.declared.protocol.phase.Site.{Site}
-use Rattle.congee.specs.declared.protocol.phase.Single.{Single}
-use Rattle.congee.specs.declared.protocol.phase.Single.TheVariants.{Set, Link}
-use Rattle.congee.specs.declared.protocol.phase.One.{One}
-use Rattle.congee.specs.declared.protocol.phase.Double.{Double}
-use Rattle.congee.specs.declared.protocol.phase.Double.TheVariants.{Unlink, Grow, GrowLink, Split, Shrink, Collapse, ShrinkAbove}
-use Rattle.congee.specs.declared.protocol.phase.Two.{Two}
+use Rattle.congee.specs.declared.protocol.phase.Placement.{Placement}
+use Rattle.congee.specs.declared.protocol.phase.Placement.TheVariants.{Set, Link}
+use Rattle.congee.specs.declared.protocol.phase.NodeChange.{NodeChange}
+use Rattle.congee.specs.declared.protocol.phase.Replacement.{Replacement}
+use Rattle.congee.specs.declared.protocol.phase.Replacement.TheVariants.{Unlink, Grow, GrowLink, Split, Shrink, Collapse, ShrinkAbove}
+use Rattle.congee.specs.declared.protocol.phase.ParentChange.{ParentChange}
 use Rattle.congee.specs.declared.protocol.phase.Plan.{Plan}
 use Rattle.congee.specs.declared.protocol.phase.Plan.TheVariants.{Here, Above}
 use Rattle.congee.specs.declared.protocol.phase.Phase.{Phase}
-use Rattle.congee.specs.declared.protocol.phase.Phase.TheVariants.{New, Version, Read, Check, CheckUncopied, CheckMiss, CheckDown, CheckOld, MakeLeaf, MakeGreater, MakeTop, MakeBeside, MakeLesser, AskOld, AskNew, Confirm, CheckAbove, UpgradeOne, ChangeOne, UpgradeTop, UpgradeAbove, UpgradeBelow, ChangeTwo, Obsolete, Retire, UnlockBelow, Unlock, Unwind, Scan, Ended}
+use Rattle.congee.specs.declared.protocol.phase.Phase.TheVariants.{New, Version, Read, Check, CheckUncopied, CheckMiss, CheckDown, CheckOld, MakeLeaf, MakeGreater, MakeTop, MakeBeside, MakeLesser, AskOld, AskNew, Confirm, CheckAbove, UpgradeHere, ChangeHere, UpgradeTop, UpgradeAbove, UpgradeBelow, ChangeAbove, Obsolete, Retire, UnlockBelow, Unlock, Unwind, Scan, Ended}
 use Rattle.congee.specs.declared.protocol.machine.Machine.{Machine}
 use Rattle.congee.specs.Heap.{Node, Below}
 use Rattle.congee.specs.protocol.Handing.{InTree}
@@ -44,12 +44,12 @@ name_made number None = []
 name_made number (Some c) = number c ∷ []
 
 -- the nodes made for a change
-abbrev pub names_for_one : {C : Type 0} → (C → ℕ) → Single C → List ℕ
+abbrev pub names_for_one : {C : Type 0} → (C → ℕ) → Placement C → List ℕ
 names_for_one number Set = []
 names_for_one number (Link leaf) = number leaf ∷ []
 
 -- those for a change of two nodes
-abbrev pub names_for_two : {C : Type 0} → (C → ℕ) → Double C → List ℕ
+abbrev pub names_for_two : {C : Type 0} → (C → ℕ) → Replacement C → List ℕ
 names_for_two number Unlink = []
 names_for_two number (Grow c) = number c ∷ []
 names_for_two number (Shrink c) = number c ∷ []
@@ -63,11 +63,11 @@ abbrev pub names_site : {C : Type 0} → (C → ℕ) → Site C → List ℕ
 names_site number s = number s.at.node ∷ names_over number s.above
 
 -- those of a change of one node
-abbrev pub names_one : {C : Type 0} → (C → ℕ) → One C → List ℕ
+abbrev pub names_one : {C : Type 0} → (C → ℕ) → NodeChange C → List ℕ
 names_one number one = number one.at.node ∷ names_for_one number one.change
 
 -- those of a change of two nodes
-abbrev pub names_two : {C : Type 0} → (C → ℕ) → Two C → List ℕ
+abbrev pub names_two : {C : Type 0} → (C → ℕ) → ParentChange C → List ℕ
 names_two number two = number two.above.stamp.node ∷ number two.at.node ∷ name_above number two.top ++ names_for_two number two.change
 
 -- those of a plan
@@ -95,12 +95,12 @@ names number (AskOld s v) = names_site number s
 names number (AskNew plan) = names_plan number plan
 names number (Confirm at r) = number at.node ∷ []
 names number (CheckAbove p one r) = number p.node ∷ names_one number one
-names number (UpgradeOne one r) = names_one number one
-names number (ChangeOne one r) = names_one number one
+names number (UpgradeHere one r) = names_one number one
+names number (ChangeHere one r) = names_one number one
 names number (UpgradeTop g two r) = number g.stamp.node ∷ names_two number two
 names number (UpgradeAbove two r) = names_two number two
 names number (UpgradeBelow two r) = names_two number two
-names number (ChangeTwo two r) = names_two number two
+names number (ChangeAbove two r) = names_two number two
 names number (Obsolete n next p r) = number n ∷ number p ∷ name_made number next
 names number (Retire n next p r) = number n ∷ number p ∷ name_made number next
 names number (UnlockBelow n p r) = number n ∷ number p ∷ []

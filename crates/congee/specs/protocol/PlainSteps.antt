@@ -23,16 +23,16 @@ use Rattle.congee.specs.declared.protocol.phase.Kind.TheVariants.{Get, Insert, R
 use Rattle.congee.specs.declared.protocol.phase.Parent.{Parent}
 use Rattle.congee.specs.declared.protocol.phase.Above.{Above as Over}
 use Rattle.congee.specs.declared.protocol.phase.Site.{Site}
-use Rattle.congee.specs.declared.protocol.phase.Single.{Single}
-use Rattle.congee.specs.declared.protocol.phase.Single.TheVariants.{Set, Link}
-use Rattle.congee.specs.declared.protocol.phase.One.{One}
-use Rattle.congee.specs.declared.protocol.phase.Double.{Double}
-use Rattle.congee.specs.declared.protocol.phase.Double.TheVariants.{Unlink, Grow, GrowLink, Split, Shrink, Collapse, ShrinkAbove}
-use Rattle.congee.specs.declared.protocol.phase.Two.{Two}
+use Rattle.congee.specs.declared.protocol.phase.Placement.{Placement}
+use Rattle.congee.specs.declared.protocol.phase.Placement.TheVariants.{Set, Link}
+use Rattle.congee.specs.declared.protocol.phase.NodeChange.{NodeChange}
+use Rattle.congee.specs.declared.protocol.phase.Replacement.{Replacement}
+use Rattle.congee.specs.declared.protocol.phase.Replacement.TheVariants.{Unlink, Grow, GrowLink, Split, Shrink, Collapse, ShrinkAbove}
+use Rattle.congee.specs.declared.protocol.phase.ParentChange.{ParentChange}
 use Rattle.congee.specs.declared.protocol.phase.Plan.{Plan}
 use Rattle.congee.specs.declared.protocol.phase.Plan.TheVariants.{Above}
 use Rattle.congee.specs.declared.protocol.phase.Phase.{Phase}
-use Rattle.congee.specs.declared.protocol.phase.Phase.TheVariants.{New, Version, Read, Check, CheckUncopied, CheckMiss, CheckDown, CheckOld, MakeLeaf, MakeGreater, MakeTop, MakeBeside, MakeLesser, AskOld, AskNew, Confirm, CheckAbove, UpgradeOne, ChangeOne, UpgradeTop, UpgradeAbove, UpgradeBelow, ChangeTwo, Obsolete, Retire, UnlockBelow, Unlock, Unwind, Scan, Ended}
+use Rattle.congee.specs.declared.protocol.phase.Phase.TheVariants.{New, Version, Read, Check, CheckUncopied, CheckMiss, CheckDown, CheckOld, MakeLeaf, MakeGreater, MakeTop, MakeBeside, MakeLesser, AskOld, AskNew, Confirm, CheckAbove, UpgradeHere, ChangeHere, UpgradeTop, UpgradeAbove, UpgradeBelow, ChangeAbove, Obsolete, Retire, UnlockBelow, Unlock, Unwind, Scan, Ended}
 use Rattle.congee.specs.declared.protocol.scan.Rung.{Rung}
 use Rattle.congee.specs.declared.protocol.scan.Stage.{Stage}
 use Rattle.congee.specs.declared.protocol.scan.Stage.TheVariants as stage
@@ -254,12 +254,12 @@ given_new plan (Some (Some x)) new = (Some x, started plan (reply.ComputeInsert 
 given_new plan _ new = (new, asking (AskNew plan) None)
 
 -- the made nodes of a change go back
-abbrev pub back_one : {V : Type 0} → Single ℕ → (ℕ → Node V) → ℕ → Node V
+abbrev pub back_one : {V : Type 0} → Placement ℕ → (ℕ → Node V) → ℕ → Node V
 back_one Set h = h
 back_one (Link leaf) h = back h leaf
 
 -- those of a change of two nodes
-abbrev pub back_two : {V : Type 0} → Double ℕ → (ℕ → Node V) → ℕ → Node V
+abbrev pub back_two : {V : Type 0} → Replacement ℕ → (ℕ → Node V) → ℕ → Node V
 back_two Unlink h = h
 back_two (Grow c) h = back h c
 back_two (GrowLink c leaf byte) h = back (back h leaf) c
@@ -269,18 +269,18 @@ back_two Collapse h = h
 back_two (ShrinkAbove c) h = back h c
 
 -- a change of one node, and of the node above; a node that comes into reach is filled before
-abbrev pub change_one : {V : Type 0} → List ℕ → Option V → One ℕ → Single ℕ → (ℕ → Node V) → ℕ → Node V
+abbrev pub change_one : {V : Type 0} → List ℕ → Option V → NodeChange ℕ → Placement ℕ → (ℕ → Node V) → ℕ → Node V
 change_one key new one Set h = hang h one.at.node one.byte (value_hung new)
 change_one key new one (Link leaf) h = hang (hang h leaf (slice_index key MAX_PREFIX_LEN) (value_hung new)) one.at.node one.byte (Below leaf)
 
 -- the change of the node above both
-abbrev pub change_top : {V : Type 0} → Two ℕ → Double ℕ → Option (Parent ℕ) → (ℕ → Node V) → ℕ → Node V
+abbrev pub change_top : {V : Type 0} → ParentChange ℕ → Replacement ℕ → Option (Parent ℕ) → (ℕ → Node V) → ℕ → Node V
 change_top two Collapse (Some g) h = hang h g.stamp.node g.byte (Below (other_of (h two.above.stamp.node) two.above.byte))
 change_top two (ShrinkAbove c) (Some g) h = hang (hang (copy h two.above.stamp.node c) c two.above.byte Nothing) g.stamp.node g.byte (Below c)
 change_top two _ top h = h
 
 -- a change of two nodes
-abbrev pub change_two : {V : Type 0} → List ℕ → Option V → Two ℕ → Double ℕ → (ℕ → Node V) → ℕ → Node V
+abbrev pub change_two : {V : Type 0} → List ℕ → Option V → ParentChange ℕ → Replacement ℕ → (ℕ → Node V) → ℕ → Node V
 change_two key new two Unlink h = hang h two.above.stamp.node two.above.byte Nothing
 change_two key new two (Shrink c) h =
     hang (hang (clear (copy h two.at.node c) two.at.node) c (slice_index key MAX_PREFIX_LEN) Nothing) two.above.stamp.node two.above.byte (Below c)
@@ -318,32 +318,32 @@ made_lesser key new h k s p None r = making (form_below s.form) key s.depth new 
 made_lesser key new h k s p (Some g) r = making (form_below p.form) key p.depth new h k (λ c. quiet (UpgradeTop g (both p s (ShrinkAbove c)) r))
 
 -- an exchange of a lock word, and what follows
-abbrev pub upgraded_one : {V : Type 0} → ℕ → Option V → (ℕ → Node V) → ℕ → One ℕ → Reply V → Upgrade → Went V
-upgraded_one root new h k one r Locked = went new (quiet (ChangeOne one r)) (lock h one.at.node) k
+abbrev pub upgraded_one : {V : Type 0} → ℕ → Option V → (ℕ → Node V) → ℕ → NodeChange ℕ → Reply V → Upgrade → Went V
+upgraded_one root new h k one r Locked = went new (quiet (ChangeHere one r)) (lock h one.at.node) k
 upgraded_one root new h k one r Failed = went new (again root) (back_one one.change h) k
 upgraded_one root new h k one r Exhausted = went new (refused refusal.Exhausted) (back_one one.change h) k
 
 -- that of the node above both
-abbrev pub upgraded_top : {V : Type 0} → ℕ → Option V → (ℕ → Node V) → ℕ → Parent ℕ → Two ℕ → Reply V → Upgrade → Went V
+abbrev pub upgraded_top : {V : Type 0} → ℕ → Option V → (ℕ → Node V) → ℕ → Parent ℕ → ParentChange ℕ → Reply V → Upgrade → Went V
 upgraded_top root new h k g two r Locked = went new (quiet (UpgradeAbove (record two { top = Some g }) r)) (lock h g.stamp.node) k
 upgraded_top root new h k g two r Failed = went new (again root) (back_two two.change h) k
 upgraded_top root new h k g two r Exhausted = went new (refused refusal.Exhausted) (back_two two.change h) k
 
 -- that of the upper one of two
-abbrev pub upgraded_above : {V : Type 0} → ℕ → Option V → (ℕ → Node V) → ℕ → Two ℕ → Reply V → Upgrade → Went V
+abbrev pub upgraded_above : {V : Type 0} → ℕ → Option V → (ℕ → Node V) → ℕ → ParentChange ℕ → Reply V → Upgrade → Went V
 upgraded_above root new h k two r Locked = went new (quiet (UpgradeBelow two r)) (lock h two.above.stamp.node) k
 upgraded_above root new h k two r Failed = went new (given_up root two.top None) (back_two two.change h) k
 upgraded_above root new h k two r Exhausted = went new (given_up root two.top (Some refusal.Exhausted)) (back_two two.change h) k
 
 -- that of the lower one of two
-abbrev pub upgraded_below : {V : Type 0} → Option V → (ℕ → Node V) → ℕ → Two ℕ → Reply V → Upgrade → Went V
-upgraded_below new h k two r Locked = went new (quiet (ChangeTwo two r)) (lock h two.at.node) k
+abbrev pub upgraded_below : {V : Type 0} → Option V → (ℕ → Node V) → ℕ → ParentChange ℕ → Reply V → Upgrade → Went V
+upgraded_below new h k two r Locked = went new (quiet (ChangeAbove two r)) (lock h two.at.node) k
 upgraded_below new h k two r Failed = went new (quiet (Unwind two.above.stamp.node (node_of two.top) None)) (back_two two.change h) k
 upgraded_below new h k two r Exhausted = went new (quiet (Unwind two.above.stamp.node (node_of two.top) (Some refusal.Exhausted))) (back_two two.change h) k
 
 -- the check before one node is changed: the node made goes back where it fails
-abbrev pub passed_above : {V : Type 0} → Bool → ℕ → Option V → (ℕ → Node V) → ℕ → One ℕ → Reply V → Went V
-passed_above true root new h k one r = went new (quiet (UpgradeOne one r)) h k
+abbrev pub passed_above : {V : Type 0} → Bool → ℕ → Option V → (ℕ → Node V) → ℕ → NodeChange ℕ → Reply V → Went V
+passed_above true root new h k one r = went new (quiet (UpgradeHere one r)) h k
 passed_above false root new h k one r = went new (again root) (back_one one.change h) k
 
 -- the step of a phase, of which the first k nodes were made
@@ -365,12 +365,12 @@ phase_step same most root key kind fail seen answer new (AskOld s v) h k = went 
 phase_step same most root key kind fail seen answer new (AskNew plan) h k = went (given_new plan answer new).0 (given_new plan answer new).1 h k
 phase_step same most root key kind fail seen answer new (Confirm at r) h k = went new (passes h at root (answered r)) h k
 phase_step same most root key kind fail seen answer new (CheckAbove p one r) h k = passed_above (is_taken (h p.node) p.version) root new h k one r
-phase_step same most root key kind fail seen answer new (UpgradeOne one r) h k = upgraded_one root new h k one r (upgrade_gives most (h one.at.node) one.at.version fail)
-phase_step same most root key kind fail seen answer new (ChangeOne one r) h k = went None (decided (Unlock one.at.node r)) (change_one key new one one.change h) k
+phase_step same most root key kind fail seen answer new (UpgradeHere one r) h k = upgraded_one root new h k one r (upgrade_gives most (h one.at.node) one.at.version fail)
+phase_step same most root key kind fail seen answer new (ChangeHere one r) h k = went None (decided (Unlock one.at.node r)) (change_one key new one one.change h) k
 phase_step same most root key kind fail seen answer new (UpgradeTop g two r) h k = upgraded_top root new h k g two r (upgrade_gives most (h g.stamp.node) g.stamp.version fail)
 phase_step same most root key kind fail seen answer new (UpgradeAbove two r) h k = upgraded_above root new h k two r (upgrade_gives most (h two.above.stamp.node) two.above.stamp.version fail)
 phase_step same most root key kind fail seen answer new (UpgradeBelow two r) h k = upgraded_below new h k two r (upgrade_gives most (h two.at.node) two.at.version fail)
-phase_step same most root key kind fail seen answer new (ChangeTwo two r) h k = went None (after_change two r two.change) (change_two key new two two.change h) k
+phase_step same most root key kind fail seen answer new (ChangeAbove two r) h k = went None (after_change two r two.change) (change_two key new two two.change h) k
 phase_step same most root key kind fail seen answer new (Obsolete n next p r) h k = went new (quiet (Retire n next p r)) (mark h n) k
 phase_step same most root key kind fail seen answer new (Retire n next p r) h k = went new (after_retire next p r) (hand h n) k
 phase_step same most root key kind fail seen answer new (UnlockBelow n p r) h k = went new (quiet (Unlock p r)) (free h n) k

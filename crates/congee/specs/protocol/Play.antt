@@ -10,7 +10,7 @@ use Rattle.congee.specs.declared.protocol.op.Op.TheVariants as op
 use Rattle.congee.specs.declared.protocol.phase.Kind.{Kind}
 use Rattle.congee.specs.declared.protocol.phase.Kind.TheVariants.{Get, Insert, Remove, ComputePresent, ComputeInsert, Exchange}
 use Rattle.congee.specs.declared.protocol.phase.Phase.{Phase}
-use Rattle.congee.specs.declared.protocol.phase.Phase.TheVariants.{New, AskOld, AskNew, Confirm, CheckAbove, UpgradeOne, ChangeOne, MakeLesser, UpgradeTop, UpgradeAbove, UpgradeBelow, ChangeTwo, Obsolete, Retire, UnlockBelow, Unlock, Scan, Ended}
+use Rattle.congee.specs.declared.protocol.phase.Phase.TheVariants.{New, AskOld, AskNew, Confirm, CheckAbove, UpgradeHere, ChangeHere, MakeLesser, UpgradeTop, UpgradeAbove, UpgradeBelow, ChangeAbove, Obsolete, Retire, UnlockBelow, Unlock, Scan, Ended}
 use Rattle.congee.specs.declared.protocol.machine.Outcome.{Outcome}
 use Rattle.congee.specs.declared.protocol.machine.Outcome.TheVariants.{Running, Asks, Found, Done, Scanned, Refused}
 use Rattle.congee.specs.declared.protocol.machine.Move.{Move}
@@ -196,13 +196,13 @@ flight_in k kind v (AskOld s old) = Pending k kind v (Asked (Some old))
 flight_in k kind v (AskNew plan) = Pending k kind v (Asked None)
 flight_in k kind v (Confirm at r) = Pending k kind v (heeding r)
 flight_in k kind v (CheckAbove p one r) = Pending k kind v (heeding r)
-flight_in k kind v (UpgradeOne one r) = Pending k kind v (heeding r)
-flight_in k kind v (ChangeOne one r) = Pending k kind v (heeding r)
+flight_in k kind v (UpgradeHere one r) = Pending k kind v (heeding r)
+flight_in k kind v (ChangeHere one r) = Pending k kind v (heeding r)
 flight_in k kind v (MakeLesser s p g r) = Pending k kind v (heeding r)
 flight_in k kind v (UpgradeTop g two r) = Pending k kind v (heeding r)
 flight_in k kind v (UpgradeAbove two r) = Pending k kind v (heeding r)
 flight_in k kind v (UpgradeBelow two r) = Pending k kind v (heeding r)
-flight_in k kind v (ChangeTwo two r) = Pending k kind v (heeding r)
+flight_in k kind v (ChangeAbove two r) = Pending k kind v (heeding r)
 flight_in k kind v (Obsolete n next p r) = Decided r
 flight_in k kind v (Retire n next p r) = Decided r
 flight_in k kind v (UnlockBelow n p r) = Decided r

@@ -12,16 +12,16 @@ use Rattle.congee.specs.declared.protocol.phase.Kind.TheVariants.{Get, Insert, R
 use Rattle.congee.specs.declared.protocol.phase.Parent.{Parent}
 use Rattle.congee.specs.declared.protocol.phase.Above.{Above as Over}
 use Rattle.congee.specs.declared.protocol.phase.Site.{Site}
-use Rattle.congee.specs.declared.protocol.phase.Single.{Single}
-use Rattle.congee.specs.declared.protocol.phase.Single.TheVariants.{Set, Link}
-use Rattle.congee.specs.declared.protocol.phase.One.{One}
-use Rattle.congee.specs.declared.protocol.phase.Double.{Double}
-use Rattle.congee.specs.declared.protocol.phase.Double.TheVariants.{Unlink, Grow, GrowLink, Split, Shrink, Collapse, ShrinkAbove}
-use Rattle.congee.specs.declared.protocol.phase.Two.{Two}
+use Rattle.congee.specs.declared.protocol.phase.Placement.{Placement}
+use Rattle.congee.specs.declared.protocol.phase.Placement.TheVariants.{Set, Link}
+use Rattle.congee.specs.declared.protocol.phase.NodeChange.{NodeChange}
+use Rattle.congee.specs.declared.protocol.phase.Replacement.{Replacement}
+use Rattle.congee.specs.declared.protocol.phase.Replacement.TheVariants.{Unlink, Grow, GrowLink, Split, Shrink, Collapse, ShrinkAbove}
+use Rattle.congee.specs.declared.protocol.phase.ParentChange.{ParentChange}
 use Rattle.congee.specs.declared.protocol.phase.Plan.{Plan}
 use Rattle.congee.specs.declared.protocol.phase.Plan.TheVariants.{Here, Above}
 use Rattle.congee.specs.declared.protocol.phase.Phase.{Phase}
-use Rattle.congee.specs.declared.protocol.phase.Phase.TheVariants.{New, Version, Read, Check, CheckUncopied, CheckMiss, CheckDown, CheckOld, MakeLeaf, MakeGreater, MakeTop, MakeBeside, MakeLesser, AskOld, AskNew, Confirm, CheckAbove, UpgradeOne, ChangeOne, UpgradeTop, UpgradeAbove, UpgradeBelow, ChangeTwo, Obsolete, Retire, UnlockBelow, Unlock, Unwind, Scan, Ended}
+use Rattle.congee.specs.declared.protocol.phase.Phase.TheVariants.{New, Version, Read, Check, CheckUncopied, CheckMiss, CheckDown, CheckOld, MakeLeaf, MakeGreater, MakeTop, MakeBeside, MakeLesser, AskOld, AskNew, Confirm, CheckAbove, UpgradeHere, ChangeHere, UpgradeTop, UpgradeAbove, UpgradeBelow, ChangeAbove, Obsolete, Retire, UnlockBelow, Unlock, Unwind, Scan, Ended}
 use Rattle.congee.specs.Heap.{Node, Hung, Nothing, Below, Holds, fits, child_for, is_taken}
 use Rattle.congee.specs.protocol.Events.{hung, places, Parts}
 use Rattle.congee.specs.protocol.Steps.{adds, shrinks}
@@ -88,25 +88,25 @@ pub record Holding (i : ℕ) (a : ℕ → Note) (n : ℕ) : Type 0 where
   pub linked : (a n).status ≡ Linked
 
 -- the change of one node: where it stands on the key's way, what the node holds, and what was made for it
-abbrev pub IsLeafAt : {C : Type 0} → Single C → ℕ → Type 0
+abbrev pub IsLeafAt : {C : Type 0} → Placement C → ℕ → Type 0
 IsLeafAt Set size = size ≡ MAX_PREFIX_LEN
 IsLeafAt (Link leaf) size = size < MAX_PREFIX_LEN
 
 -- where it stands
-pub record PlacedOne {C : Type 0} (key : List ℕ) (change : Single C) (b : ℕ) (p : List ℕ) : Type 0 where
+pub record PlacedHere {C : Type 0} (key : List ℕ) (change : Placement C) (b : ℕ) (p : List ℕ) : Type 0 where
   pub fitted : fits p key ≡ true
   pub byte : b ≡ slice_index key (length p)
   pub size : IsLeafAt change (length p)
 
 -- what the node holds
-pub record WantedOne {V : Type 0} (key : List ℕ) (x : Hung V) (n : Node V) : Type 0 where
+pub record WantedHere {V : Type 0} (key : List ℕ) (x : Hung V) (n : Node V) : Type 0 where
   pub child : child_for n key ≡ x
   pub room : x ≡ Nothing → (n.count == n.capacity) ≡ false
 
 -- and what was made for it
-abbrev pub MadeOne : {C V : Type 0} → (C → ℕ) → ℕ → (ℕ → Note) → (ℕ → Node V) → List ℕ → Single C → Type 0
-MadeOne number i a h key Set = Unit {0}
-MadeOne number i a h key (Link leaf) = Made i a h key (number leaf) MAX_PREFIX_LEN 0
+abbrev pub MadeHere : {C V : Type 0} → (C → ℕ) → ℕ → (ℕ → Note) → (ℕ → Node V) → List ℕ → Placement C → Type 0
+MadeHere number i a h key Set = Unit {0}
+MadeHere number i a h key (Link leaf) = Made i a h key (number leaf) MAX_PREFIX_LEN 0
 
 -- nothing or a value
 abbrev pub IsValue : {V : Type 0} → Hung V → Type 0
@@ -121,34 +121,34 @@ value_in (Below c) = None
 value_in (Holds v) = Some v
 
 -- what stands before the change, beside the new value
-abbrev pub FitsOne : {C V : Type 0} → Single C → Hung V → Option V → Type 0
-FitsOne Set x None = IsValue x × (x ≢ Nothing)
-FitsOne Set x (Some v) = IsValue x
-FitsOne (Link leaf) x None = ⊥
-FitsOne (Link leaf) x (Some v) = x ≡ Nothing
+abbrev pub FitsHere : {C V : Type 0} → Placement C → Hung V → Option V → Type 0
+FitsHere Set x None = IsValue x × (x ≢ Nothing)
+FitsHere Set x (Some v) = IsValue x
+FitsHere (Link leaf) x None = ⊥
+FitsHere (Link leaf) x (Some v) = x ≡ Nothing
 
 -- what is known of it before the node is locked
-pub record OneKnown {C V : Type 0} (number : C → ℕ) (i : ℕ) (a : ℕ → Note) (h : ℕ → Node V) (key : List ℕ) (one : One C) (x : Hung V) : Type 0 where
-  pub placed : PlacedOne key one.change one.byte (h (number one.at.node)).prefix
-  pub fresh : Fresh a h (number one.at.node) one.at.version (WantedOne key x)
-  pub made : MadeOne number i a h key one.change
+pub record HereKnown {C V : Type 0} (number : C → ℕ) (i : ℕ) (a : ℕ → Note) (h : ℕ → Node V) (key : List ℕ) (one : NodeChange C) (x : Hung V) : Type 0 where
+  pub placed : PlacedHere key one.change one.byte (h (number one.at.node)).prefix
+  pub fresh : Fresh a h (number one.at.node) one.at.version (WantedHere key x)
+  pub made : MadeHere number i a h key one.change
 
 -- and once it is
-pub record OneLocked {C V : Type 0} (number : C → ℕ) (i : ℕ) (a : ℕ → Note) (h : ℕ → Node V) (key : List ℕ) (one : One C) (x : Hung V) : Type 0 where
+pub record HereLocked {C V : Type 0} (number : C → ℕ) (i : ℕ) (a : ℕ → Note) (h : ℕ → Node V) (key : List ℕ) (one : NodeChange C) (x : Hung V) : Type 0 where
   pub holding : Holding i a (number one.at.node)
-  pub placed : PlacedOne key one.change one.byte (h (number one.at.node)).prefix
-  pub wanted : WantedOne key x (h (number one.at.node))
-  pub made : MadeOne number i a h key one.change
+  pub placed : PlacedHere key one.change one.byte (h (number one.at.node)).prefix
+  pub wanted : WantedHere key x (h (number one.at.node))
+  pub made : MadeHere number i a h key one.change
 
 -- the change of the node above, likewise
-abbrev pub PlacedTwo : {C : Type 0} → List ℕ → Double C → List ℕ → Type 0
-PlacedTwo key Unlink p = (fits p key ≡ true) × (length p ≡ MAX_PREFIX_LEN)
-PlacedTwo key (Shrink c) p = (fits p key ≡ true) × (length p ≡ MAX_PREFIX_LEN)
-PlacedTwo key Collapse p = (fits p key ≡ true) × (length p ≡ MAX_PREFIX_LEN)
-PlacedTwo key (ShrinkAbove c) p = (fits p key ≡ true) × (length p ≡ MAX_PREFIX_LEN)
-PlacedTwo key (Grow c) p = (fits p key ≡ true) × (length p ≡ MAX_PREFIX_LEN)
-PlacedTwo key (GrowLink c leaf byte) p = (fits p key ≡ true) × (length p < MAX_PREFIX_LEN) × (byte ≡ slice_index key (length p))
-PlacedTwo key (Split top leaf common byte) p = Parts p key common × (byte ≡ slice_index p common)
+abbrev pub PlacedAbove : {C : Type 0} → List ℕ → Replacement C → List ℕ → Type 0
+PlacedAbove key Unlink p = (fits p key ≡ true) × (length p ≡ MAX_PREFIX_LEN)
+PlacedAbove key (Shrink c) p = (fits p key ≡ true) × (length p ≡ MAX_PREFIX_LEN)
+PlacedAbove key Collapse p = (fits p key ≡ true) × (length p ≡ MAX_PREFIX_LEN)
+PlacedAbove key (ShrinkAbove c) p = (fits p key ≡ true) × (length p ≡ MAX_PREFIX_LEN)
+PlacedAbove key (Grow c) p = (fits p key ≡ true) × (length p ≡ MAX_PREFIX_LEN)
+PlacedAbove key (GrowLink c leaf byte) p = (fits p key ≡ true) × (length p < MAX_PREFIX_LEN) × (byte ≡ slice_index key (length p))
+PlacedAbove key (Split top leaf common byte) p = Parts p key common × (byte ≡ slice_index p common)
 
 -- a leaf with the value alone
 abbrev pub IsAlone : {V : Type 0} → List ℕ → Option V → Node V → Type 0
@@ -156,25 +156,25 @@ IsAlone key None n = ⊥
 IsAlone key (Some v) n = (child_for n key ≡ Holds v) × ((b : ℕ) → b ≢ slice_index key (length n.prefix) → n.children b ≡ Nothing)
 
 -- what the node at hand holds: the value that goes with it, or nothing, and how many children
-abbrev pub WantedTwo : {C V : Type 0} → List ℕ → Double C → Option V → ℕ → Node V → Type 0
-WantedTwo key Unlink found q n = IsAlone key found n
-WantedTwo key Collapse found q n = IsAlone key found n
-WantedTwo key (ShrinkAbove c) found q n = IsAlone key found n
-WantedTwo key (Shrink c) None q n = ⊥
-WantedTwo key (Shrink c) (Some v) q n = (child_for n key ≡ Holds v) × (n.count ≤ suc q)
-WantedTwo key (Grow c) found q n = (child_for n key ≡ Nothing) × (n.count ≡ q)
-WantedTwo key (GrowLink c leaf byte) found q n = (child_for n key ≡ Nothing) × (n.count ≡ q)
-WantedTwo key (Split top leaf common byte) found q n = Unit {0}
+abbrev pub WantedAbove : {C V : Type 0} → List ℕ → Replacement C → Option V → ℕ → Node V → Type 0
+WantedAbove key Unlink found q n = IsAlone key found n
+WantedAbove key Collapse found q n = IsAlone key found n
+WantedAbove key (ShrinkAbove c) found q n = IsAlone key found n
+WantedAbove key (Shrink c) None q n = ⊥
+WantedAbove key (Shrink c) (Some v) q n = (child_for n key ≡ Holds v) × (n.count ≤ suc q)
+WantedAbove key (Grow c) found q n = (child_for n key ≡ Nothing) × (n.count ≡ q)
+WantedAbove key (GrowLink c leaf byte) found q n = (child_for n key ≡ Nothing) × (n.count ≡ q)
+WantedAbove key (Split top leaf common byte) found q n = Unit {0}
 
 -- what was made for it
-abbrev pub MadeTwo : {C V : Type 0} → (C → ℕ) → ℕ → (ℕ → Note) → (ℕ → Node V) → List ℕ → Parent C → Double C → ℕ → ℕ → Type 0
-MadeTwo number i a h key p Unlink size q = Unit {0}
-MadeTwo number i a h key p Collapse size q = p.count ≡ 2
-MadeTwo number i a h key p (Shrink c) size q = Made i a h key (number c) size q
-MadeTwo number i a h key p (ShrinkAbove c) size q = Made i a h key (number c) p.depth q × (p.count ≤ suc q)
-MadeTwo number i a h key p (Grow c) size q = Made i a h key (number c) size q
-MadeTwo number i a h key p (GrowLink c leaf byte) size q = Made i a h key (number c) size q × Made i a h key (number leaf) MAX_PREFIX_LEN 0 × (number c ≢ number leaf)
-MadeTwo number i a h key p (Split top leaf common byte) size q = Made i a h key (number top) common 1 × Made i a h key (number leaf) MAX_PREFIX_LEN 0 × (number top ≢ number leaf)
+abbrev pub MadeAbove : {C V : Type 0} → (C → ℕ) → ℕ → (ℕ → Note) → (ℕ → Node V) → List ℕ → Parent C → Replacement C → ℕ → ℕ → Type 0
+MadeAbove number i a h key p Unlink size q = Unit {0}
+MadeAbove number i a h key p Collapse size q = p.count ≡ 2
+MadeAbove number i a h key p (Shrink c) size q = Made i a h key (number c) size q
+MadeAbove number i a h key p (ShrinkAbove c) size q = Made i a h key (number c) p.depth q × (p.count ≤ suc q)
+MadeAbove number i a h key p (Grow c) size q = Made i a h key (number c) size q
+MadeAbove number i a h key p (GrowLink c leaf byte) size q = Made i a h key (number c) size q × Made i a h key (number leaf) MAX_PREFIX_LEN 0 × (number c ≢ number leaf)
+MadeAbove number i a h key p (Split top leaf common byte) size q = Made i a h key (number top) common 1 × Made i a h key (number leaf) MAX_PREFIX_LEN 0 × (number top ≢ number leaf)
 
 -- a value was found, and none is put
 abbrev pub Goes : {V : Type 0} → Option V → Option V → Type 0
@@ -183,14 +183,14 @@ Goes (Some v) None = Unit {0}
 Goes (Some v) (Some w) = ⊥
 
 -- an unlinking has found a value and puts none; the other changes have found none and put one
-abbrev pub FitsTwo : {C V : Type 0} → Double C → Option V → Option V → Type 0
-FitsTwo Unlink found given = Goes found given
-FitsTwo (Shrink c) found given = Goes found given
-FitsTwo Collapse found given = Goes found given
-FitsTwo (ShrinkAbove c) found given = Goes found given
-FitsTwo _ None None = ⊥
-FitsTwo _ None (Some w) = Unit {0}
-FitsTwo _ (Some v) given = ⊥
+abbrev pub FitsAbove : {C V : Type 0} → Replacement C → Option V → Option V → Type 0
+FitsAbove Unlink found given = Goes found given
+FitsAbove (Shrink c) found given = Goes found given
+FitsAbove Collapse found given = Goes found given
+FitsAbove (ShrinkAbove c) found given = Goes found given
+FitsAbove _ None None = ⊥
+FitsAbove _ None (Some w) = Unit {0}
+FitsAbove _ (Some v) given = ⊥
 
 -- the node above is locked, and holds the node at hand
 pub record AboveLocked {C V : Type 0} (number : C → ℕ) (i : ℕ) (a : ℕ → Note) (h : ℕ → Node V) (key : List ℕ) (p : Parent C) (n : ℕ) : Type 0 where
@@ -208,7 +208,7 @@ TopLocked number i a h key None n = Unit {0}
 TopLocked number i a h key (Some g) n = AboveLocked number i a h key g n
 
 -- a change of the node above both has it, and no other
-abbrev pub HasTop : {C : Type 0} → Double C → Option (Parent C) → Type 0
+abbrev pub HasTop : {C : Type 0} → Replacement C → Option (Parent C) → Type 0
 HasTop Collapse (Some g) = Unit {0}
 HasTop (ShrinkAbove c) (Some g) = Unit {0}
 HasTop Collapse None = ⊥
@@ -216,29 +216,29 @@ HasTop (ShrinkAbove c) None = ⊥
 HasTop _ top = top ≡ None
 
 -- what is known of it before the upper node is locked
-pub record TwoKnown {C V : Type 0} (number : C → ℕ) (i : ℕ) (a : ℕ → Note) (h : ℕ → Node V) (key : List ℕ) (two : Two C) (found : Option V) (q : ℕ) : Type 0 where
+pub record AboveKnown {C V : Type 0} (number : C → ℕ) (i : ℕ) (a : ℕ → Note) (h : ℕ → Node V) (key : List ℕ) (two : ParentChange C) (found : Option V) (q : ℕ) : Type 0 where
   pub top : TopLocked number i a h key two.top (number two.above.stamp.node)
   pub above : ChildOf number a h key two.above (number two.at.node)
-  pub placed : PlacedTwo key two.change (h (number two.at.node)).prefix
-  pub fresh : Fresh a h (number two.at.node) two.at.version (WantedTwo key two.change found q)
-  pub made : MadeTwo number i a h key two.above two.change (length (h (number two.at.node)).prefix) q
+  pub placed : PlacedAbove key two.change (h (number two.at.node)).prefix
+  pub fresh : Fresh a h (number two.at.node) two.at.version (WantedAbove key two.change found q)
+  pub made : MadeAbove number i a h key two.above two.change (length (h (number two.at.node)).prefix) q
 
 -- once that is
-pub record HalfLocked {C V : Type 0} (number : C → ℕ) (i : ℕ) (a : ℕ → Note) (h : ℕ → Node V) (key : List ℕ) (two : Two C) (found : Option V) (q : ℕ) : Type 0 where
+pub record HalfLocked {C V : Type 0} (number : C → ℕ) (i : ℕ) (a : ℕ → Note) (h : ℕ → Node V) (key : List ℕ) (two : ParentChange C) (found : Option V) (q : ℕ) : Type 0 where
   pub top : TopLocked number i a h key two.top (number two.above.stamp.node)
   pub above : AboveLocked number i a h key two.above (number two.at.node)
-  pub placed : PlacedTwo key two.change (h (number two.at.node)).prefix
-  pub fresh : Fresh a h (number two.at.node) two.at.version (WantedTwo key two.change found q)
-  pub made : MadeTwo number i a h key two.above two.change (length (h (number two.at.node)).prefix) q
+  pub placed : PlacedAbove key two.change (h (number two.at.node)).prefix
+  pub fresh : Fresh a h (number two.at.node) two.at.version (WantedAbove key two.change found q)
+  pub made : MadeAbove number i a h key two.above two.change (length (h (number two.at.node)).prefix) q
 
 -- and once both are
-pub record TwoLocked {C V : Type 0} (number : C → ℕ) (i : ℕ) (a : ℕ → Note) (h : ℕ → Node V) (key : List ℕ) (two : Two C) (found : Option V) (q : ℕ) : Type 0 where
+pub record BothLocked {C V : Type 0} (number : C → ℕ) (i : ℕ) (a : ℕ → Note) (h : ℕ → Node V) (key : List ℕ) (two : ParentChange C) (found : Option V) (q : ℕ) : Type 0 where
   pub top : TopLocked number i a h key two.top (number two.above.stamp.node)
   pub above : AboveLocked number i a h key two.above (number two.at.node)
   pub owner : (a (number two.at.node)).owner ≡ Some i
-  pub placed : PlacedTwo key two.change (h (number two.at.node)).prefix
-  pub wanted : WantedTwo key two.change found q (h (number two.at.node))
-  pub made : MadeTwo number i a h key two.above two.change (length (h (number two.at.node)).prefix) q
+  pub placed : PlacedAbove key two.change (h (number two.at.node)).prefix
+  pub wanted : WantedAbove key two.change found q (h (number two.at.node))
+  pub made : MadeAbove number i a h key two.above two.change (length (h (number two.at.node)).prefix) q
 
 -- a node that the call took out, still locked by it, and the node above
 pub record TakenOut {V : Type 0} (i : ℕ) (a : ℕ → Note) (h : ℕ → Node V) (p n : ℕ) : Type 0 where
@@ -290,7 +290,7 @@ Asking ComputeInsert = Unit {0}
 Asking _ = ⊥
 
 -- a plan that waits for the closure's answer
-abbrev pub Adding : {C : Type 0} → Double C → Type 0
+abbrev pub Adding : {C : Type 0} → Replacement C → Type 0
 Adding Unlink = ⊥
 Adding (Shrink c) = ⊥
 Adding Collapse = ⊥
@@ -309,8 +309,8 @@ StampedIf number a h (Some p) = Stamped a h (number p.node) p.version
 
 -- what is known of a plan
 abbrev pub PlanKnown : {C V : Type 0} → (C → ℕ) → ℕ → (ℕ → Note) → (ℕ → Node V) → List ℕ → Plan C → Type 0
-PlanKnown number i a h key (Here check one) = StampedIf number a h check × OneKnown number i a h key one Nothing
-PlanKnown number i a h key (Above two) = ((q : ℕ) × TwoKnown number i a h key two None q) × Adding two.change × (two.top ≡ None)
+PlanKnown number i a h key (Here check one) = StampedIf number a h check × HereKnown number i a h key one Nothing
+PlanKnown number i a h key (Above two) = ((q : ℕ) × AboveKnown number i a h key two None q) × Adding two.change × (two.top ≡ None)
 
 -- a leaf was made unless the node at hand is one
 abbrev pub MadeLeafFor : {C V : Type 0} → (C → ℕ) → ℕ → (ℕ → Note) → (ℕ → Node V) → List ℕ → Site C → Option C → Type 0
@@ -349,14 +349,14 @@ Known {C} {V} number same always i a h k key kind given (MakeLesser s p g r) = H
 Known number same always i a h k key kind given (AskOld s v) = HasGift kind given × Knows number a h key s (Holds v) × Asking kind × (s.depth ≡ MAX_PREFIX_LEN)
 Known number same always i a h k key kind given (AskNew plan) = PlanKnown number i a h key plan × (kind ≡ ComputeInsert)
 Known {C} {V} number same always i a h k key kind given (Confirm at r) = HasGift kind given × ((v : V) × Confirmed number a h key at v × Settles same k kind given (Some v) r (Some v))
-Known number same always i a h k key kind given (CheckAbove p one r) = HasGift kind given × Stamped a h (number p.node) p.version × OneKnown number i a h key one Nothing × FitsOne one.change Nothing given × Settles same k kind given None r given
-Known {C} {V} number same always i a h k key kind given (UpgradeOne one r) = HasGift kind given × ((x : Hung V) × OneKnown number i a h key one x × FitsOne one.change x given × Settles same k kind given (value_in x) r given)
-Known {C} {V} number same always i a h k key kind given (ChangeOne one r) = (x : Hung V) × OneLocked number i a h key one x × FitsOne one.change x given × Settles same k kind given (value_in x) r given
-Known {C} {V} number same always i a h k key kind given (UpgradeTop g two r) = HasGift kind given × ((found : Option V) × (q : ℕ) × TwoKnown number i a h key two found q × FitsTwo two.change found given × Settles same k kind given found r given)
+Known number same always i a h k key kind given (CheckAbove p one r) = HasGift kind given × Stamped a h (number p.node) p.version × HereKnown number i a h key one Nothing × FitsHere one.change Nothing given × Settles same k kind given None r given
+Known {C} {V} number same always i a h k key kind given (UpgradeHere one r) = HasGift kind given × ((x : Hung V) × HereKnown number i a h key one x × FitsHere one.change x given × Settles same k kind given (value_in x) r given)
+Known {C} {V} number same always i a h k key kind given (ChangeHere one r) = (x : Hung V) × HereLocked number i a h key one x × FitsHere one.change x given × Settles same k kind given (value_in x) r given
+Known {C} {V} number same always i a h k key kind given (UpgradeTop g two r) = HasGift kind given × ((found : Option V) × (q : ℕ) × AboveKnown number i a h key two found q × FitsAbove two.change found given × Settles same k kind given found r given)
     × ChildOf number a h key g (number two.above.stamp.node) × HasTop two.change (Some g) × (two.top ≡ None)
-Known {C} {V} number same always i a h k key kind given (UpgradeAbove two r) = HasGift kind given × ((found : Option V) × (q : ℕ) × TwoKnown number i a h key two found q × HasTop two.change two.top × FitsTwo two.change found given × Settles same k kind given found r given)
-Known {C} {V} number same always i a h k key kind given (UpgradeBelow two r) = HasGift kind given × ((found : Option V) × (q : ℕ) × HalfLocked number i a h key two found q × HasTop two.change two.top × FitsTwo two.change found given × Settles same k kind given found r given)
-Known {C} {V} number same always i a h k key kind given (ChangeTwo two r) = (found : Option V) × (q : ℕ) × TwoLocked number i a h key two found q × HasTop two.change two.top × FitsTwo two.change found given × Settles same k kind given found r given
+Known {C} {V} number same always i a h k key kind given (UpgradeAbove two r) = HasGift kind given × ((found : Option V) × (q : ℕ) × AboveKnown number i a h key two found q × HasTop two.change two.top × FitsAbove two.change found given × Settles same k kind given found r given)
+Known {C} {V} number same always i a h k key kind given (UpgradeBelow two r) = HasGift kind given × ((found : Option V) × (q : ℕ) × HalfLocked number i a h key two found q × HasTop two.change two.top × FitsAbove two.change found given × Settles same k kind given found r given)
+Known {C} {V} number same always i a h k key kind given (ChangeAbove two r) = (found : Option V) × (q : ℕ) × BothLocked number i a h key two found q × HasTop two.change two.top × FitsAbove two.change found given × Settles same k kind given found r given
 Known number same always i a h k key kind given (Obsolete n next p r) = TakenOut i a h (number p) (number n) × AlsoOut number i a h (number n) next
 Known number same always i a h k key kind given (Retire n next p r) = TakenOut i a h (number p) (number n) × AlsoOut number i a h (number n) next × ((h (number n)).obsolete ≡ true)
 Known number same always i a h k key kind given (UnlockBelow n p r) = Holding i a (number n) × Holding i a (number p) × (number n ≢ number p)

@@ -18,16 +18,16 @@ use Rattle.congee.specs.declared.protocol.phase.Kind.TheVariants.{Get, Insert, R
 use Rattle.congee.specs.declared.protocol.phase.Parent.{Parent}
 use Rattle.congee.specs.declared.protocol.phase.Above.{Above as Over}
 use Rattle.congee.specs.declared.protocol.phase.Site.{Site}
-use Rattle.congee.specs.declared.protocol.phase.Single.{Single}
-use Rattle.congee.specs.declared.protocol.phase.Single.TheVariants.{Set, Link}
-use Rattle.congee.specs.declared.protocol.phase.One.{One}
-use Rattle.congee.specs.declared.protocol.phase.Double.{Double}
-use Rattle.congee.specs.declared.protocol.phase.Double.TheVariants.{Unlink, Grow, GrowLink, Split, Shrink, Collapse, ShrinkAbove}
-use Rattle.congee.specs.declared.protocol.phase.Two.{Two}
+use Rattle.congee.specs.declared.protocol.phase.Placement.{Placement}
+use Rattle.congee.specs.declared.protocol.phase.Placement.TheVariants.{Set, Link}
+use Rattle.congee.specs.declared.protocol.phase.NodeChange.{NodeChange}
+use Rattle.congee.specs.declared.protocol.phase.Replacement.{Replacement}
+use Rattle.congee.specs.declared.protocol.phase.Replacement.TheVariants.{Unlink, Grow, GrowLink, Split, Shrink, Collapse, ShrinkAbove}
+use Rattle.congee.specs.declared.protocol.phase.ParentChange.{ParentChange}
 use Rattle.congee.specs.declared.protocol.phase.Plan.{Plan}
 use Rattle.congee.specs.declared.protocol.phase.Plan.TheVariants.{Here, Above}
 use Rattle.congee.specs.declared.protocol.phase.Phase.{Phase}
-use Rattle.congee.specs.declared.protocol.phase.Phase.TheVariants.{New, Version, Read, Check, CheckUncopied, CheckMiss, CheckDown, CheckOld, MakeLeaf, MakeGreater, MakeTop, MakeBeside, MakeLesser, AskOld, AskNew, Confirm, CheckAbove, UpgradeOne, ChangeOne, UpgradeTop, UpgradeAbove, UpgradeBelow, ChangeTwo, Obsolete, Retire, UnlockBelow, Unlock, Unwind, Scan, Ended}
+use Rattle.congee.specs.declared.protocol.phase.Phase.TheVariants.{New, Version, Read, Check, CheckUncopied, CheckMiss, CheckDown, CheckOld, MakeLeaf, MakeGreater, MakeTop, MakeBeside, MakeLesser, AskOld, AskNew, Confirm, CheckAbove, UpgradeHere, ChangeHere, UpgradeTop, UpgradeAbove, UpgradeBelow, ChangeAbove, Obsolete, Retire, UnlockBelow, Unlock, Unwind, Scan, Ended}
 use Rattle.congee.specs.declared.protocol.machine.Outcome.{Outcome}
 use Rattle.congee.specs.declared.protocol.machine.Outcome.TheVariants.{Running, Asks, Found, Done, Scanned, Refused}
 use Rattle.congee.specs.declared.protocol.scan.ScanState.{ScanState as ScanState}
@@ -166,7 +166,7 @@ down true s (Some u) c = quiet (CheckDown u.near.stamp (below s) c)
 
 -- the nodes are made: what was planned begins, after the closure's answer where one is wanted
 abbrev pub started : {C V : Type 0} → Plan C → Reply V → NextPhase C V
-started (Here None one) r = quiet (UpgradeOne one r)
+started (Here None one) r = quiet (UpgradeHere one r)
 started (Here (Some p) one) r = quiet (CheckAbove p one r)
 started (Above two) r = quiet (UpgradeAbove two r)
 
@@ -175,11 +175,11 @@ abbrev pub ready : {C V : Type 0} → Kind V → Plan C → NextPhase C V
 ready kind plan = cond (asks_new kind) (asking (AskNew plan) None) (started plan (absent_reply kind))
 
 -- a plan to change the node at hand alone
-abbrev pub plan_here : {C : Type 0} → Site C → Single C → Plan C
+abbrev pub plan_here : {C : Type 0} → Site C → Placement C → Plan C
 plan_here s change = Here (stamp_above s.above) (record { at = s.at; byte = s.byte; change = change })
 
 -- a full node gives way to a greater one; the root is never full
-abbrev pub unless_full : {C V : Type 0} → Kind V → Site C → Bool → Option (Over C) → Option C → Single C → NextPhase C V
+abbrev pub unless_full : {C V : Type 0} → Kind V → Site C → Bool → Option (Over C) → Option C → Placement C → NextPhase C V
 unless_full kind s true (Some u) leaf change = quiet (MakeGreater s u.near leaf)
 unless_full kind s true None leaf change = ready kind (plan_here s change)
 unless_full kind s false above leaf change = ready kind (plan_here s change)
@@ -202,14 +202,14 @@ IsAsked always s v t = (t ≡ asking (AskOld s v) (Some v)) ⊎ CopyFailed alway
 
 -- the same value again is confirmed, and another one comes in its place
 abbrev pub replaced : {C V : Type 0} → Site C → Bool → Reply V → NextPhase C V
-replaced s same r = cond same (quiet (Confirm s.at r)) (quiet (UpgradeOne (record { at = s.at; byte = s.byte; change = Set }) r))
+replaced s same r = cond same (quiet (Confirm s.at r)) (quiet (UpgradeHere (record { at = s.at; byte = s.byte; change = Set }) r))
 
 -- what the value's going puts into the leaf, and into the node above
-abbrev pub set_at : {C : Type 0} → Site C → One C
+abbrev pub set_at : {C : Type 0} → Site C → NodeChange C
 set_at s = record { at = s.at; byte = s.byte; change = Set }
 
 -- a change of the node at hand and of the one above it
-abbrev pub both : {C : Type 0} → Parent C → Site C → Double C → Two C
+abbrev pub both : {C : Type 0} → Parent C → Site C → Replacement C → ParentChange C
 both p s x = record { top = None; above = p; at = s.at; change = x }
 
 -- the leaf goes with its last value: and with it the node above where that has one child left, but not the root
@@ -220,9 +220,9 @@ last_out s p (Some g) r = cond (p.count == 2) (quiet (UpgradeTop g (both p s Col
 
 -- the value goes, and with its last value the leaf
 abbrev pub taken_out : {C V : Type 0} → Site C → Option (Over C) → Reply V → NextPhase C V
-taken_out s None r = quiet (UpgradeOne (set_at s) r)
+taken_out s None r = quiet (UpgradeHere (set_at s) r)
 taken_out s (Some u) r = cond (s.count == 1) (last_out s u.near u.far r)
-    (cond (shrinks s.form s.count) (quiet (MakeLesser s u.near None r)) (quiet (UpgradeOne (set_at s) r)))
+    (cond (shrinks s.form s.count) (quiet (MakeLesser s u.near None r)) (quiet (UpgradeHere (set_at s) r)))
 
 -- the same of the node at hand
 abbrev pub emptied : {C V : Type 0} → Site C → Reply V → NextPhase C V
@@ -289,19 +289,19 @@ IsGivenNew plan (Some (Some x)) new new' t = (new' ≡ Some x) × (t ≡ started
 IsGivenNew plan _ new new' t = (new' ≡ new) × (t ≡ asking (AskNew plan) None)
 
 -- the made nodes of a change go back
-abbrev pub BackOne : {C V : Type 0} → (C → ℕ) → (ℕ → Node V) → Single C → (ℕ → Node V) → Type 0
-BackOne number h Set h' = h' ≡ h
-BackOne number h (Link leaf) h' = BackGives h (number leaf) h'
+abbrev pub BackHere : {C V : Type 0} → (C → ℕ) → (ℕ → Node V) → Placement C → (ℕ → Node V) → Type 0
+BackHere number h Set h' = h' ≡ h
+BackHere number h (Link leaf) h' = BackGives h (number leaf) h'
 
 -- those of a change of two nodes
-abbrev pub BackTwo : {C V : Type 0} → (C → ℕ) → (ℕ → Node V) → Double C → (ℕ → Node V) → Type 0
-BackTwo number h Unlink h' = h' ≡ h
-BackTwo number h (Grow c) h' = BackGives h (number c) h'
-BackTwo number h (Shrink c) h' = BackGives h (number c) h'
-BackTwo number h Collapse h' = h' ≡ h
-BackTwo number h (ShrinkAbove c) h' = BackGives h (number c) h'
-BackTwo {C} {V} number h (GrowLink c leaf byte) h' = (h1 : ℕ → Node V) × BackGives h (number leaf) h1 × BackGives h1 (number c) h'
-BackTwo {C} {V} number h (Split top leaf common byte) h' = (h1 : ℕ → Node V) × BackGives h (number leaf) h1 × BackGives h1 (number top) h'
+abbrev pub BackAbove : {C V : Type 0} → (C → ℕ) → (ℕ → Node V) → Replacement C → (ℕ → Node V) → Type 0
+BackAbove number h Unlink h' = h' ≡ h
+BackAbove number h (Grow c) h' = BackGives h (number c) h'
+BackAbove number h (Shrink c) h' = BackGives h (number c) h'
+BackAbove number h Collapse h' = h' ≡ h
+BackAbove number h (ShrinkAbove c) h' = BackGives h (number c) h'
+BackAbove {C} {V} number h (GrowLink c leaf byte) h' = (h1 : ℕ → Node V) × BackGives h (number leaf) h1 × BackGives h1 (number c) h'
+BackAbove {C} {V} number h (Split top leaf common byte) h' = (h1 : ℕ → Node V) × BackGives h (number leaf) h1 × BackGives h1 (number top) h'
 
 -- a made leaf, if there is one
 abbrev pub BackLeaf : {C V : Type 0} → (C → ℕ) → (ℕ → Node V) → Option C → (ℕ → Node V) → Type 0
@@ -314,7 +314,7 @@ MadeLeaf number kind s h key (Ok leaf) h' t = MakeGives number h N4 key MAX_PREF
 MadeLeaf number kind s h key (Err e) h' t = (h' ≡ h) × (t ≡ refused e)
 
 -- a greater node comes in the place of a full one, with a leaf or without
-abbrev pub greater : {C : Type 0} → Site C → Option C → C → Double C
+abbrev pub greater : {C : Type 0} → Site C → Option C → C → Replacement C
 greater s None c = Grow c
 greater s (Some leaf) c = GrowLink c leaf s.byte
 
@@ -343,20 +343,20 @@ lesser_form s p (Some g) = form_below p.form
 -- it was made, or not
 abbrev pub MadeLesser : {C V : Type 0} → (C → ℕ) → Site C → Parent C → Option (Parent C) → Reply V → (ℕ → Node V) → List ℕ → Result C Refusal → (ℕ → Node V) → NextPhase C V → Type 0
 MadeLesser number s p None r h key (Ok c) h' t = MakeGives number h (form_below s.form) key s.depth (Ok c) h' × (t ≡ quiet (UpgradeAbove (both p s (Shrink c)) r))
-MadeLesser number s p None r h key (Err e) h' t = (h' ≡ h) × (t ≡ skipping (UpgradeOne (set_at s) r))
+MadeLesser number s p None r h key (Err e) h' t = (h' ≡ h) × (t ≡ skipping (UpgradeHere (set_at s) r))
 MadeLesser number s p (Some g) r h key (Ok c) h' t = MakeGives number h (form_below p.form) key p.depth (Ok c) h' × (t ≡ quiet (UpgradeTop g (both p s (ShrinkAbove c)) r))
 MadeLesser number s p (Some g) r h key (Err e) h' t = (h' ≡ h) × (t ≡ skipping (UpgradeAbove (both p s Unlink) r))
 
 -- the check before one node is changed: the node made goes back where it fails
-pub record IsCheckedAbove {C V : Type 0} (number : C → ℕ) (root : C) (p : Stamp C) (one : One C) (r : Reply V) (h h' : ℕ → Node V) (t : NextPhase C V) : Type 0 where
-  pub goes_on : is_taken (h (number p.node)) p.version ≡ true → (h' ≡ h) × (t ≡ quiet (UpgradeOne one r))
-  pub goes_back : is_taken (h (number p.node)) p.version ≡ false → BackOne number h one.change h' × (t ≡ again root)
+pub record IsCheckedAbove {C V : Type 0} (number : C → ℕ) (root : C) (p : Stamp C) (one : NodeChange C) (r : Reply V) (h h' : ℕ → Node V) (t : NextPhase C V) : Type 0 where
+  pub goes_on : is_taken (h (number p.node)) p.version ≡ true → (h' ≡ h) × (t ≡ quiet (UpgradeHere one r))
+  pub goes_back : is_taken (h (number p.node)) p.version ≡ false → BackHere number h one.change h' × (t ≡ again root)
 
 -- an upgrade's outcome: the nodes made go back where it failed or is refused
-abbrev pub UpgradedOne : {C V : Type 0} → (C → ℕ) → C → One C → Reply V → (ℕ → Node V) → Upgrade → (ℕ → Node V) → NextPhase C V → Type 0
-UpgradedOne number root one r h Locked h' t = SameBut h (number one.at.node) (record (h (number one.at.node)) { locked = true }) h' × (t ≡ quiet (ChangeOne one r))
-UpgradedOne number root one r h Failed h' t = BackOne number h one.change h' × (t ≡ again root)
-UpgradedOne number root one r h Exhausted h' t = BackOne number h one.change h' × (t ≡ refused refusal.Exhausted)
+abbrev pub UpgradedHere : {C V : Type 0} → (C → ℕ) → C → NodeChange C → Reply V → (ℕ → Node V) → Upgrade → (ℕ → Node V) → NextPhase C V → Type 0
+UpgradedHere number root one r h Locked h' t = SameBut h (number one.at.node) (record (h (number one.at.node)) { locked = true }) h' × (t ≡ quiet (ChangeHere one r))
+UpgradedHere number root one r h Failed h' t = BackHere number h one.change h' × (t ≡ again root)
+UpgradedHere number root one r h Exhausted h' t = BackHere number h one.change h' × (t ≡ refused refusal.Exhausted)
 
 -- the call begins anew, or is refused
 abbrev pub unwound : {C V : Type 0} → C → Option Refusal → NextPhase C V
@@ -369,22 +369,22 @@ given_up root None e = unwound root e
 given_up root (Some g) e = quiet (Unwind g.stamp.node None e)
 
 -- that of the node above both
-abbrev pub UpgradedTop : {C V : Type 0} → (C → ℕ) → C → Parent C → Two C → Reply V → (ℕ → Node V) → Upgrade → (ℕ → Node V) → NextPhase C V → Type 0
+abbrev pub UpgradedTop : {C V : Type 0} → (C → ℕ) → C → Parent C → ParentChange C → Reply V → (ℕ → Node V) → Upgrade → (ℕ → Node V) → NextPhase C V → Type 0
 UpgradedTop number root g two r h Locked h' t = SameBut h (number g.stamp.node) (record (h (number g.stamp.node)) { locked = true }) h' × (t ≡ quiet (UpgradeAbove (record two { top = Some g }) r))
-UpgradedTop number root g two r h Failed h' t = BackTwo number h two.change h' × (t ≡ again root)
-UpgradedTop number root g two r h Exhausted h' t = BackTwo number h two.change h' × (t ≡ refused refusal.Exhausted)
+UpgradedTop number root g two r h Failed h' t = BackAbove number h two.change h' × (t ≡ again root)
+UpgradedTop number root g two r h Exhausted h' t = BackAbove number h two.change h' × (t ≡ refused refusal.Exhausted)
 
 -- that of the upper one of two
-abbrev pub UpgradedAbove : {C V : Type 0} → (C → ℕ) → C → Two C → Reply V → (ℕ → Node V) → Upgrade → (ℕ → Node V) → NextPhase C V → Type 0
+abbrev pub UpgradedAbove : {C V : Type 0} → (C → ℕ) → C → ParentChange C → Reply V → (ℕ → Node V) → Upgrade → (ℕ → Node V) → NextPhase C V → Type 0
 UpgradedAbove number root two r h Locked h' t = SameBut h (number two.above.stamp.node) (record (h (number two.above.stamp.node)) { locked = true }) h' × (t ≡ quiet (UpgradeBelow two r))
-UpgradedAbove number root two r h Failed h' t = BackTwo number h two.change h' × (t ≡ given_up root two.top None)
-UpgradedAbove number root two r h Exhausted h' t = BackTwo number h two.change h' × (t ≡ given_up root two.top (Some refusal.Exhausted))
+UpgradedAbove number root two r h Failed h' t = BackAbove number h two.change h' × (t ≡ given_up root two.top None)
+UpgradedAbove number root two r h Exhausted h' t = BackAbove number h two.change h' × (t ≡ given_up root two.top (Some refusal.Exhausted))
 
 -- that of the lower one of two
-abbrev pub UpgradedBelow : {C V : Type 0} → (C → ℕ) → Two C → Reply V → (ℕ → Node V) → Upgrade → (ℕ → Node V) → NextPhase C V → Type 0
-UpgradedBelow number two r h Locked h' t = SameBut h (number two.at.node) (record (h (number two.at.node)) { locked = true }) h' × (t ≡ quiet (ChangeTwo two r))
-UpgradedBelow number two r h Failed h' t = BackTwo number h two.change h' × (t ≡ quiet (Unwind two.above.stamp.node (node_of two.top) None))
-UpgradedBelow number two r h Exhausted h' t = BackTwo number h two.change h' × (t ≡ quiet (Unwind two.above.stamp.node (node_of two.top) (Some refusal.Exhausted)))
+abbrev pub UpgradedBelow : {C V : Type 0} → (C → ℕ) → ParentChange C → Reply V → (ℕ → Node V) → Upgrade → (ℕ → Node V) → NextPhase C V → Type 0
+UpgradedBelow number two r h Locked h' t = SameBut h (number two.at.node) (record (h (number two.at.node)) { locked = true }) h' × (t ≡ quiet (ChangeAbove two r))
+UpgradedBelow number two r h Failed h' t = BackAbove number h two.change h' × (t ≡ quiet (Unwind two.above.stamp.node (node_of two.top) None))
+UpgradedBelow number two r h Exhausted h' t = BackAbove number h two.change h' × (t ≡ quiet (Unwind two.above.stamp.node (node_of two.top) (Some refusal.Exhausted)))
 
 -- the value that the call puts there
 abbrev pub value_hung : {V : Type 0} → Option V → Hung V
@@ -392,18 +392,18 @@ value_hung None = Nothing
 value_hung (Some v) = Holds v
 
 -- the change of one node, and of the node above; a node that comes into reach is filled before
-abbrev pub ChangedOne : {C V : Type 0} → (C → ℕ) → List ℕ → Option V → One C → Single C → (ℕ → Node V) → (ℕ → Node V) → Type 0
-ChangedOne number key new one Set h h' = ChangeGives h (number one.at.node) one.byte (value_hung new) h'
-ChangedOne {C} {V} number key new one (Link leaf) h h' = (h1 : ℕ → Node V) × ChangeGives h (number leaf) (slice_index key MAX_PREFIX_LEN) (value_hung new) h1
+abbrev pub ChangedHere : {C V : Type 0} → (C → ℕ) → List ℕ → Option V → NodeChange C → Placement C → (ℕ → Node V) → (ℕ → Node V) → Type 0
+ChangedHere number key new one Set h h' = ChangeGives h (number one.at.node) one.byte (value_hung new) h'
+ChangedHere {C} {V} number key new one (Link leaf) h h' = (h1 : ℕ → Node V) × ChangeGives h (number leaf) (slice_index key MAX_PREFIX_LEN) (value_hung new) h1
     × ChangeGives h1 (number one.at.node) one.byte (Below (number leaf)) h'
 
 -- a greater node with one more child comes in the place of the node at hand
-abbrev pub PutsGreater : {C V : Type 0} → (C → ℕ) → Two C → C → ℕ → Hung V → (ℕ → Node V) → (ℕ → Node V) → Type 0
+abbrev pub PutsGreater : {C V : Type 0} → (C → ℕ) → ParentChange C → C → ℕ → Hung V → (ℕ → Node V) → (ℕ → Node V) → Type 0
 PutsGreater {C} {V} number two c byte x h h' = (h1 : ℕ → Node V) × (h2 : ℕ → Node V) × TakeOverGives h (number two.at.node) (number c) h1
     × ChangeGives h1 (number c) byte x h2 × ChangeGives h2 (number two.above.stamp.node) two.above.byte (Below (number c)) h'
 
 -- a node over the one at hand and a new leaf comes in its place
-abbrev pub PutsFork : {C V : Type 0} → (C → ℕ) → Two C → C → ℕ → ℕ → C → (ℕ → Node V) → (ℕ → Node V) → Type 0
+abbrev pub PutsFork : {C V : Type 0} → (C → ℕ) → ParentChange C → C → ℕ → ℕ → C → (ℕ → Node V) → (ℕ → Node V) → Type 0
 PutsFork {C} {V} number two top byte new_byte leaf h h' = (h1 : ℕ → Node V) × (h2 : ℕ → Node V) × ChangeGives h (number top) byte (Below (number two.at.node)) h1
     × ChangeGives h1 (number top) new_byte (Below (number leaf)) h2 × ChangeGives h2 (number two.above.stamp.node) two.above.byte (Below (number top)) h'
 
@@ -412,37 +412,37 @@ abbrev pub PutsLesser : {V : Type 0} → (ℕ → Node V) → (m c b p up : ℕ)
 PutsLesser {V} h m c b p up h' = (h1 : ℕ → Node V) × (h2 : ℕ → Node V) × TakeOverGives h m c h1 × ChangeGives h1 c b Nothing h2 × ChangeGives h2 p up (Below c) h'
 
 -- the other child of the node above comes in its place
-abbrev pub Collapses : {C V : Type 0} → (C → ℕ) → Two C → Option (Parent C) → (ℕ → Node V) → (ℕ → Node V) → Type 0
+abbrev pub Collapses : {C V : Type 0} → (C → ℕ) → ParentChange C → Option (Parent C) → (ℕ → Node V) → (ℕ → Node V) → Type 0
 Collapses number two None h h' = ⊥
 Collapses number two (Some g) h h' = (o : ℕ) × IsOther (h (number two.above.stamp.node)) two.above.byte o × ChangeGives h (number g.stamp.node) g.byte (Below o) h'
 
 -- a lesser one does
-abbrev pub Lessens : {C V : Type 0} → (C → ℕ) → Two C → C → Option (Parent C) → (ℕ → Node V) → (ℕ → Node V) → Type 0
+abbrev pub Lessens : {C V : Type 0} → (C → ℕ) → ParentChange C → C → Option (Parent C) → (ℕ → Node V) → (ℕ → Node V) → Type 0
 Lessens number two c None h h' = ⊥
 Lessens number two c (Some g) h h' = PutsLesser h (number two.above.stamp.node) (number c) two.above.byte (number g.stamp.node) g.byte h'
 
 -- two nodes change, by the kind of change
-abbrev pub ChangedTwo : {C V : Type 0} → (C → ℕ) → List ℕ → Option V → Two C → Double C → (ℕ → Node V) → (ℕ → Node V) → Type 0
-ChangedTwo number key new two Unlink h h' = ChangeGives h (number two.above.stamp.node) two.above.byte Nothing h'
-ChangedTwo number key new two (Shrink c) h h' = PutsLesser h (number two.at.node) (number c) (slice_index key MAX_PREFIX_LEN) (number two.above.stamp.node) two.above.byte h'
-ChangedTwo number key new two Collapse h h' = Collapses number two two.top h h'
-ChangedTwo number key new two (ShrinkAbove c) h h' = Lessens number two c two.top h h'
-ChangedTwo {C} {V} number key new two (Grow c) h h' = (h1 : ℕ → Node V) × (h2 : ℕ → Node V) × TakeOverGives h (number two.at.node) (number c) h1
+abbrev pub ChangedAbove : {C V : Type 0} → (C → ℕ) → List ℕ → Option V → ParentChange C → Replacement C → (ℕ → Node V) → (ℕ → Node V) → Type 0
+ChangedAbove number key new two Unlink h h' = ChangeGives h (number two.above.stamp.node) two.above.byte Nothing h'
+ChangedAbove number key new two (Shrink c) h h' = PutsLesser h (number two.at.node) (number c) (slice_index key MAX_PREFIX_LEN) (number two.above.stamp.node) two.above.byte h'
+ChangedAbove number key new two Collapse h h' = Collapses number two two.top h h'
+ChangedAbove number key new two (ShrinkAbove c) h h' = Lessens number two c two.top h h'
+ChangedAbove {C} {V} number key new two (Grow c) h h' = (h1 : ℕ → Node V) × (h2 : ℕ → Node V) × TakeOverGives h (number two.at.node) (number c) h1
     × ChangeGives h1 (number c) (slice_index key MAX_PREFIX_LEN) (value_hung new) h2 × ChangeGives h2 (number two.above.stamp.node) two.above.byte (Below (number c)) h'
-ChangedTwo {C} {V} number key new two (GrowLink c leaf byte) h h' = (h1 : ℕ → Node V) × (h2 : ℕ → Node V) × (h3 : ℕ → Node V)
+ChangedAbove {C} {V} number key new two (GrowLink c leaf byte) h h' = (h1 : ℕ → Node V) × (h2 : ℕ → Node V) × (h3 : ℕ → Node V)
     × ChangeGives h (number leaf) (slice_index key MAX_PREFIX_LEN) (value_hung new) h1 × TakeOverGives h1 (number two.at.node) (number c) h2
     × ChangeGives h2 (number c) byte (Below (number leaf)) h3 × ChangeGives h3 (number two.above.stamp.node) two.above.byte (Below (number c)) h'
-ChangedTwo {C} {V} number key new two (Split top leaf common byte) h h' = (h1 : ℕ → Node V) × (h2 : ℕ → Node V) × (h3 : ℕ → Node V)
+ChangedAbove {C} {V} number key new two (Split top leaf common byte) h h' = (h1 : ℕ → Node V) × (h2 : ℕ → Node V) × (h3 : ℕ → Node V)
     × ChangeGives h (number leaf) (slice_index key MAX_PREFIX_LEN) (value_hung new) h1 × ChangeGives h1 (number top) byte (Below (number two.at.node)) h2
     × ChangeGives h2 (number top) (slice_index key common) (Below (number leaf)) h3 × ChangeGives h3 (number two.above.stamp.node) two.above.byte (Below (number top)) h'
 
 -- what goes then, from below, and the lock that is let go last
-abbrev pub after_top : {C V : Type 0} → Two C → Reply V → Option (Parent C) → NextPhase C V
+abbrev pub after_top : {C V : Type 0} → ParentChange C → Reply V → Option (Parent C) → NextPhase C V
 after_top two r None = decided (Unlock two.above.stamp.node r)
 after_top two r (Some g) = decided (Obsolete two.at.node (Some two.above.stamp.node) g.stamp.node r)
 
 -- what goes then, by the kind of change
-abbrev pub after_change : {C V : Type 0} → Two C → Reply V → Double C → NextPhase C V
+abbrev pub after_change : {C V : Type 0} → ParentChange C → Reply V → Replacement C → NextPhase C V
 after_change two r (Split top leaf common byte) = decided (UnlockBelow two.at.node two.above.stamp.node r)
 after_change two r Collapse = after_top two r two.top
 after_change two r (ShrinkAbove c) = after_top two r two.top
@@ -510,18 +510,18 @@ PhaseStepped number same always most why root key kind fail answer new (Confirm 
     (h' ≡ h) × (new' ≡ new) × IsIf (is_taken (h (number at.node)) at.version) root (λ u. u ≡ answered r) t
 PhaseStepped number same always most why root key kind fail answer new (CheckAbove p one r) h new' t h' =
     (new' ≡ new) × IsCheckedAbove number root p one r h h' t
-PhaseStepped number same always most why root key kind fail answer new (UpgradeOne one r) h new' t h' =
-    (new' ≡ new) × ((u : Upgrade) × (u ≡ upgrade_gives most (h (number one.at.node)) one.at.version fail) × UpgradedOne number root one r h u h' t)
-PhaseStepped number same always most why root key kind fail answer new (ChangeOne one r) h new' t h' =
-    (new' ≡ None) × ChangedOne number key new one one.change h h' × (t ≡ decided (Unlock one.at.node r))
+PhaseStepped number same always most why root key kind fail answer new (UpgradeHere one r) h new' t h' =
+    (new' ≡ new) × ((u : Upgrade) × (u ≡ upgrade_gives most (h (number one.at.node)) one.at.version fail) × UpgradedHere number root one r h u h' t)
+PhaseStepped number same always most why root key kind fail answer new (ChangeHere one r) h new' t h' =
+    (new' ≡ None) × ChangedHere number key new one one.change h h' × (t ≡ decided (Unlock one.at.node r))
 PhaseStepped number same always most why root key kind fail answer new (UpgradeTop g two r) h new' t h' =
     (new' ≡ new) × ((u : Upgrade) × (u ≡ upgrade_gives most (h (number g.stamp.node)) g.stamp.version fail) × UpgradedTop number root g two r h u h' t)
 PhaseStepped number same always most why root key kind fail answer new (UpgradeAbove two r) h new' t h' =
     (new' ≡ new) × ((u : Upgrade) × (u ≡ upgrade_gives most (h (number two.above.stamp.node)) two.above.stamp.version fail) × UpgradedAbove number root two r h u h' t)
 PhaseStepped number same always most why root key kind fail answer new (UpgradeBelow two r) h new' t h' =
     (new' ≡ new) × ((u : Upgrade) × (u ≡ upgrade_gives most (h (number two.at.node)) two.at.version fail) × UpgradedBelow number two r h u h' t)
-PhaseStepped number same always most why root key kind fail answer new (ChangeTwo two r) h new' t h' =
-    (new' ≡ None) × ChangedTwo number key new two two.change h h' × (t ≡ after_change two r two.change)
+PhaseStepped number same always most why root key kind fail answer new (ChangeAbove two r) h new' t h' =
+    (new' ≡ None) × ChangedAbove number key new two two.change h h' × (t ≡ after_change two r two.change)
 PhaseStepped number same always most why root key kind fail answer new (Obsolete n next p r) h new' t h' =
     (new' ≡ new) × ObsoleteGives h (number n) h' × (t ≡ quiet (Retire n next p r))
 PhaseStepped number same always most why root key kind fail answer new (Retire n next p r) h new' t h' =
@@ -574,12 +574,12 @@ HasValue _ = ⊥
 -- one in which it may lock or change nodes, or one of these
 abbrev pub MayLock : {C V : Type 0} → Phase C V → Type 0
 MayLock (CheckAbove p one r) = Unit {0}
-MayLock (UpgradeOne one r) = Unit {0}
-MayLock (ChangeOne one r) = Unit {0}
+MayLock (UpgradeHere one r) = Unit {0}
+MayLock (ChangeHere one r) = Unit {0}
 MayLock (UpgradeTop g two r) = Unit {0}
 MayLock (UpgradeAbove two r) = Unit {0}
 MayLock (UpgradeBelow two r) = Unit {0}
-MayLock (ChangeTwo two r) = Unit {0}
+MayLock (ChangeAbove two r) = Unit {0}
 MayLock s = IsReleasing s
 
 -- one in which it may make nodes, or one of these
@@ -602,19 +602,19 @@ Settles (Confirm at r) = Unit {0}
 Settles s = Acts s
 
 -- what the store wants of the made nodes that may go back
-abbrev pub MayBackOne : {C V : Type 0} → (C → ℕ) → (ℕ → Node V) → Single C → Type 0
-MayBackOne number h Set = Unit {0}
-MayBackOne number h (Link leaf) = Stands (h (number leaf))
+abbrev pub MayBackHere : {C V : Type 0} → (C → ℕ) → (ℕ → Node V) → Placement C → Type 0
+MayBackHere number h Set = Unit {0}
+MayBackHere number h (Link leaf) = Stands (h (number leaf))
 
 -- those of a change of two nodes
-abbrev pub MayBackTwo : {C V : Type 0} → (C → ℕ) → (ℕ → Node V) → Double C → Type 0
-MayBackTwo number h Unlink = Unit {0}
-MayBackTwo number h (Shrink c) = Stands (h (number c))
-MayBackTwo number h Collapse = Unit {0}
-MayBackTwo number h (ShrinkAbove c) = Stands (h (number c))
-MayBackTwo number h (Grow c) = Stands (h (number c))
-MayBackTwo number h (GrowLink c leaf byte) = Stands (h (number leaf)) × Stands (h (number c)) × (number c ≢ number leaf)
-MayBackTwo number h (Split top leaf common byte) = Stands (h (number leaf)) × Stands (h (number top)) × (number top ≢ number leaf)
+abbrev pub MayBackAbove : {C V : Type 0} → (C → ℕ) → (ℕ → Node V) → Replacement C → Type 0
+MayBackAbove number h Unlink = Unit {0}
+MayBackAbove number h (Shrink c) = Stands (h (number c))
+MayBackAbove number h Collapse = Unit {0}
+MayBackAbove number h (ShrinkAbove c) = Stands (h (number c))
+MayBackAbove number h (Grow c) = Stands (h (number c))
+MayBackAbove number h (GrowLink c leaf byte) = Stands (h (number leaf)) × Stands (h (number c)) × (number c ≢ number leaf)
+MayBackAbove number h (Split top leaf common byte) = Stands (h (number leaf)) × Stands (h (number top)) × (number top ≢ number leaf)
 
 -- a made leaf, if there is one
 abbrev pub MayBackLeaf : {C V : Type 0} → (C → ℕ) → (ℕ → Node V) → Option C → Type 0
@@ -635,10 +635,10 @@ pub record Blank {V : Type 0} (n : Node V) (least : ℕ) : Type 0 where
   pub room : least < n.capacity
 
 -- what it wants of a change of one node
-abbrev pub MayChangeOne : {C V : Type 0} → (C → ℕ) → Option V → One C → Single C → (ℕ → Node V) → Type 0
-MayChangeOne number new one Set h = Changeable (h (number one.at.node)) one.byte (value_hung new)
-MayChangeOne number None one (Link leaf) h = ⊥
-MayChangeOne number (Some v) one (Link leaf) h = Changeable (h (number one.at.node)) one.byte (Below (number leaf)) × Blank (h (number leaf)) 0 × (number one.at.node ≢ number leaf)
+abbrev pub MayChangeHere : {C V : Type 0} → (C → ℕ) → Option V → NodeChange C → Placement C → (ℕ → Node V) → Type 0
+MayChangeHere number new one Set h = Changeable (h (number one.at.node)) one.byte (value_hung new)
+MayChangeHere number None one (Link leaf) h = ⊥
+MayChangeHere number (Some v) one (Link leaf) h = Changeable (h (number one.at.node)) one.byte (Below (number leaf)) × Blank (h (number leaf)) 0 × (number one.at.node ≢ number leaf)
 
 -- what the change by a lesser node wants
 pub record MayLessen {V : Type 0} (h : ℕ → Node V) (m c b p up : ℕ) : Type 0 where
@@ -663,28 +663,28 @@ pub record MayCollapse {V : Type 0} (h : ℕ → Node V) (p up g b : ℕ) : Type
   pub there : (h p).children up ≢ Nothing
 
 -- what it wants of a change of the node above both
-abbrev pub MayTop : {C V : Type 0} → (C → ℕ) → Two C → Double C → Option (Parent C) → (ℕ → Node V) → Type 0
+abbrev pub MayTop : {C V : Type 0} → (C → ℕ) → ParentChange C → Replacement C → Option (Parent C) → (ℕ → Node V) → Type 0
 MayTop number two Collapse (Some g) h = MayCollapse h (number two.above.stamp.node) two.above.byte (number g.stamp.node) g.byte
 MayTop number two (ShrinkAbove c) (Some g) h = MayLessen h (number two.above.stamp.node) (number c) two.above.byte (number g.stamp.node) g.byte
 MayTop number two _ top h = ⊥
 
 -- what the change of the node above wants
-abbrev pub MayChangeTwo : {C V : Type 0} → (C → ℕ) → List ℕ → Option V → Two C → Double C → (ℕ → Node V) → Type 0
-MayChangeTwo number key new two Unlink h = Changeable (h (number two.above.stamp.node)) two.above.byte Nothing
-MayChangeTwo number key new two (Shrink c) h = MayLessen h (number two.at.node) (number c) (slice_index key MAX_PREFIX_LEN) (number two.above.stamp.node) two.above.byte
-MayChangeTwo number key new two Collapse h = MayTop number two Collapse two.top h
-MayChangeTwo number key new two (ShrinkAbove c) h = MayTop number two (ShrinkAbove c) two.top h
-MayChangeTwo number key None two _ h = ⊥
-MayChangeTwo number key (Some v) two (Grow c) h = Changeable (h (number two.above.stamp.node)) two.above.byte (Below (number c))
+abbrev pub MayChangeAbove : {C V : Type 0} → (C → ℕ) → List ℕ → Option V → ParentChange C → Replacement C → (ℕ → Node V) → Type 0
+MayChangeAbove number key new two Unlink h = Changeable (h (number two.above.stamp.node)) two.above.byte Nothing
+MayChangeAbove number key new two (Shrink c) h = MayLessen h (number two.at.node) (number c) (slice_index key MAX_PREFIX_LEN) (number two.above.stamp.node) two.above.byte
+MayChangeAbove number key new two Collapse h = MayTop number two Collapse two.top h
+MayChangeAbove number key new two (ShrinkAbove c) h = MayTop number two (ShrinkAbove c) two.top h
+MayChangeAbove number key None two _ h = ⊥
+MayChangeAbove number key (Some v) two (Grow c) h = Changeable (h (number two.above.stamp.node)) two.above.byte (Below (number c))
     × Stands (h (number two.at.node)) × Blank (h (number c)) (h (number two.at.node)).count
     × (number two.above.stamp.node ≢ number c) × (number two.at.node ≢ number c) × (number two.above.stamp.node ≢ number two.at.node)
     × HoldsAlike (h (number two.at.node))
-MayChangeTwo number key (Some v) two (GrowLink c leaf byte) h = Changeable (h (number two.above.stamp.node)) two.above.byte (Below (number c))
+MayChangeAbove number key (Some v) two (GrowLink c leaf byte) h = Changeable (h (number two.above.stamp.node)) two.above.byte (Below (number c))
     × Stands (h (number two.at.node)) × Blank (h (number c)) (h (number two.at.node)).count × Blank (h (number leaf)) 0
     × (number two.above.stamp.node ≢ number c) × (number two.at.node ≢ number c) × (number two.above.stamp.node ≢ number two.at.node)
     × (number two.above.stamp.node ≢ number leaf) × (number two.at.node ≢ number leaf) × (number c ≢ number leaf)
     × HoldsAlike (h (number two.at.node))
-MayChangeTwo number key (Some v) two (Split top leaf common byte) h = Changeable (h (number two.above.stamp.node)) two.above.byte (Below (number top))
+MayChangeAbove number key (Some v) two (Split top leaf common byte) h = Changeable (h (number two.above.stamp.node)) two.above.byte (Below (number top))
     × Blank (h (number top)) 1 × Blank (h (number leaf)) 0 × (common < MAX_PREFIX_LEN) × (byte ≢ slice_index key common)
     × (number two.above.stamp.node ≢ number top) × (number two.above.stamp.node ≢ number leaf) × (number top ≢ number leaf)
 
@@ -702,13 +702,13 @@ MayStep number root key new (MakeTop p at common byte) h = common < MAX_PREFIX_L
 MayStep number root key new (MakeBeside p at common byte top) h = Stands (h (number top))
 MayStep number root key new (MakeLesser s p g r) h = (s.depth ≤ MAX_PREFIX_LEN) × (p.depth ≤ MAX_PREFIX_LEN)
 MayStep number root key new (Confirm at r) h = Stands (h (number at.node))
-MayStep number root key new (CheckAbove p one r) h = Stands (h (number p.node)) × MayBackOne number h one.change
-MayStep number root key new (UpgradeOne one r) h = Stands (h (number one.at.node)) × MayBackOne number h one.change
-MayStep number root key new (ChangeOne one r) h = MayChangeOne number new one one.change h
-MayStep number root key new (UpgradeTop g two r) h = Stands (h (number g.stamp.node)) × MayBackTwo number h two.change
-MayStep number root key new (UpgradeAbove two r) h = Stands (h (number two.above.stamp.node)) × MayBackTwo number h two.change
-MayStep number root key new (UpgradeBelow two r) h = Stands (h (number two.at.node)) × MayBackTwo number h two.change
-MayStep number root key new (ChangeTwo two r) h = MayChangeTwo number key new two two.change h
+MayStep number root key new (CheckAbove p one r) h = Stands (h (number p.node)) × MayBackHere number h one.change
+MayStep number root key new (UpgradeHere one r) h = Stands (h (number one.at.node)) × MayBackHere number h one.change
+MayStep number root key new (ChangeHere one r) h = MayChangeHere number new one one.change h
+MayStep number root key new (UpgradeTop g two r) h = Stands (h (number g.stamp.node)) × MayBackAbove number h two.change
+MayStep number root key new (UpgradeAbove two r) h = Stands (h (number two.above.stamp.node)) × MayBackAbove number h two.change
+MayStep number root key new (UpgradeBelow two r) h = Stands (h (number two.at.node)) × MayBackAbove number h two.change
+MayStep number root key new (ChangeAbove two r) h = MayChangeAbove number key new two two.change h
 MayStep number root key new (Obsolete n next p r) h = Stands (h (number n)) × ((h (number n)).locked ≡ true)
 MayStep number root key new (Retire n next p r) h = Stands (h (number n)) × ((h (number n)).obsolete ≡ true) × ((h (number n)).retired ≡ false)
 MayStep number root key new (UnlockBelow n p r) h = Stands (h (number n)) × ((h (number n)).locked ≡ true)

@@ -42,11 +42,13 @@ pub trait Stored: Small {
     ghost fits: { size (slot_ty (layout Self.row) (layout Self.Kept.row)) < 2 ^ 63 };
 }
 
-/// The nodes of a tree by their names, the root's is 0, and the budget that they are charged to.
+/// The nodes of a tree by their names, the root's is 0, the budget that they are charged to, and how many pairs they hold. There can
+/// be 2^64 of these.
 #[derive(Drop)]
 pub struct Arena<P: Stored, A> {
     pub nodes: Nodes<P>,
     pub allocator: A,
+    pub pairs: u128,
 }
 
 impl<P: Stored, A: Allocator> Arena<P, A> {

@@ -6,7 +6,9 @@ ghost use Rattle.congee.specs.declared.forms.base_node.NodeType.TheVariants.{N25
 ghost use Rattle.congee.specs.owned.Arena.{IsTree, heap_of};
 ghost use Rattle.congee.specs.owned.Drained.{Drained};
 ghost use Rattle.congee.specs.Heap.{value_at};
+ghost use Rattle.congee.specs.owned.Counted.{IsCounted};
 ghost use Rattle.congee.specs.owned.Full.{NodesFilled, lacking_of};
+ghost use Rattle.congee.specs.owned.Keyed.{IsKeyed};
 ghost use Rattle.congee.specs.owned.Levels.{nodes_of};
 ghost use Rattle.congee.specs.owned.Charge.{Balances, Covers, KeepsLimit};
 ghost use Rattle.congee.specs.owned.Sizes.{bytes_of};
@@ -43,12 +45,15 @@ impl<P: Stored, A: Allocator> Arena<P, A> {
         ensures bytes { bytes_of self.new.nodes ≡ size_of N256 }
         ensures filled { lacking_of self.new.nodes ≡ 0 }
         ensures branch { NodesFilled false self.new.nodes }
+        ensures keyed { IsKeyed self.new.nodes }
+        ensures counted { IsCounted self.new }
         ensures balance { Balances A.charged_of self.old self.new }
         ensures limit { KeepsLimit A.limit_of self.old self.new }
     {
         let others = bytes_charged(&self.nodes, &self.allocator) - NodeType::N256.size();
         self.allocator.deallocate(others);
         self.nodes.clear();
+        self.pairs = 0;
     }
 
     /// Drops the nodes, and gives the allocator back with their bytes taken off.
@@ -60,6 +65,7 @@ impl<P: Stored, A: Allocator> Arena<P, A> {
         let Arena {
             nodes,
             mut allocator,
+            ..
         } = self;
         let bytes = bytes_charged(&nodes, &allocator);
         allocator.deallocate(bytes);

@@ -7,6 +7,7 @@ ghost use Rattle.std.specs.FinMap as map;
 ghost use Rattle.congee.specs.forms.Forms.{size_of};
 ghost use Rattle.congee.specs.declared.forms.base_node.NodeType.TheVariants.{N256};
 ghost use Rattle.congee.specs.owned.Nearest.{ComesBack, IsGreatest, IsGreatestAs, IsLeast, IsLeastAs, pair_by};
+ghost use Rattle.congee.specs.owned.Bound.{most_bytes};
 ghost use Rattle.congee.specs.owned.Content.{Inserts, IsBare, KeepsCharge, ChangesNothing, Refuses, Modifies};
 ghost use Rattle.congee.specs.owned.Drained.{Drained};
 ghost use Rattle.congee.specs.owned.Full.{AllBranch, AllFilled};
@@ -49,7 +50,9 @@ impl<K, V, A: Allocator, D> Model for Congee<K, V, A, D> {
     ghost coded = { content_code coded_ℕ A.code D.code };
 
     ghost use Rattle.congee.specs.owned.Arena.{IsTree};
+    ghost use Rattle.congee.specs.owned.Counted.{IsCounted};
     ghost use Rattle.congee.specs.owned.Full.{NodesFilled, lacking_of};
+    ghost use Rattle.congee.specs.owned.Keyed.{IsKeyed};
     ghost use Rattle.congee.specs.owned.Levels.{nodes_of};
     ghost use Rattle.congee.specs.owned.Sizes.{bytes_of};
     ghost use Rattle.congee.specs.owned.Table.{pairs_of};
@@ -58,7 +61,7 @@ impl<K, V, A: Allocator, D> Model for Congee<K, V, A, D> {
 
     ghost view = { λ t. record { pairs = pairs_of t.arena.nodes; nodes = nodes_of t.arena.nodes; bytes = bytes_of t.arena.nodes; lacking = lacking_of t.arena.nodes; base = A.charged_of t.arena.allocator - bytes_of t.arena.nodes; wants = wants_of t.arena.nodes; goes = goes_of t.arena.nodes; allocator = t.arena.allocator; drainer = t.drainer } };
 
-    ghost invariant = { λ t. IsTree t.arena.nodes × (bytes_of t.arena.nodes ≤ A.charged_of t.arena.allocator) × NodesFilled false t.arena.nodes };
+    ghost invariant = { λ t. IsTree t.arena.nodes × (bytes_of t.arena.nodes ≤ A.charged_of t.arena.allocator) × NodesFilled false t.arena.nodes × IsKeyed t.arena.nodes × IsCounted t.arena };
 }
 
 /// Whether the number is there.
@@ -241,10 +244,10 @@ impl<K: Word64, V: Word64, A: Allocator, D: Drop> Congee<K, V, A, D> {
     pub fn is_empty(&self) -> bool
         ensures { IsTrue result ↔ (self.now.pairs ≡ map.empty) }
     {
-        self.arena.first().is_none()
+        self.arena.is_empty()
     }
 
-    /// How many keys have a value; a number past `u64::MAX` stays there. They are counted, so it goes over all of them.
+    /// How many keys have a value; a number past `u64::MAX` stays there.
     pub fn len(&self) -> u64
         ensures { result ≡ capped (map.len self.now.pairs) }
     {
@@ -379,6 +382,15 @@ impl<K: Word64, V: Word64, A: Allocator, D: Drop> Congee<K, V, A, D> {
         ensures run { StaysFilled nat_eq A.charged_of A.limit_of self.now }
     {
         self.arena.nodes_filled();
+    }
+
+    /// Beside the root's 2104 bytes the nodes take 128 at most for each pair, and 56 for each child that they lack. The sum of their sizes
+    /// is the tree's bytes.
+    pub fn bytes_by_pairs(&self)
+        ensures sizes { sizes_of self.now.nodes ≡ self.now.bytes }
+        ensures bound { self.now.bytes ≤ most_bytes (map.len self.now.pairs) self.now.lacking }
+    {
+        self.arena.bytes_by_pairs();
     }
 
     /// The bytes that the allocator has charged: those that it had charged before the tree was opened, and the nodes' sizes.

@@ -1,5 +1,5 @@
 //! The owned tree of shared values.
-ghost use Rattle.std.specs.Prelude.{◌≡◌, ◌↔◌, ◌-◌, None, Some, IsSome, IsTrue};
+ghost use Rattle.std.specs.Prelude.{◌≡◌, ◌≤◌, ◌↔◌, ◌-◌, None, Some, IsSome, IsTrue};
 ghost use Rattle.std.specs.Prelude.{IfOk, IfErr, IfSome, IfNone, OnErr};
 ghost use Rattle.std.specs.Option.{option_map};
 ghost use Rattle.std.specs.Arc.{arc_value};
@@ -7,13 +7,15 @@ ghost use Rattle.std.specs.List.{All};
 ghost use Rattle.std.specs.FinMap as map;
 ghost use Rattle.congee.specs.forms.Forms.{size_of};
 ghost use Rattle.congee.specs.declared.forms.base_node.NodeType.TheVariants.{N256};
+ghost use Rattle.congee.specs.owned.Bound.{most_bytes};
 ghost use Rattle.congee.specs.owned.Owners.{OwnerAnswers, OwnerInserts, OwnerRefuses, OwnerModifies};
 ghost use Rattle.congee.specs.owned.Full.{AllBranch, AllFilled};
 ghost use Rattle.congee.specs.owned.Going.{going_by};
 ghost use Rattle.congee.specs.owned.Runs.{OwnersStayFilled};
-ghost use Rattle.congee.specs.owned.Stats.{HasValue, root_alone};
+ghost use Rattle.congee.specs.owned.Stats.{HasValue, capped, root_alone};
 ghost use Rattle.congee.specs.owned.Wanted.{WantsLeaf};
 ghost use Rattle.congee.specs.owned.Ranges.{keys_by};
+ghost use Rattle.congee.specs.owned.Weights.{sizes_of};
 ghost use Rattle.judge.specs.declared.journal.Call.TheVariants as call;
 ghost use Rattle.judge.specs.declared.journal.Reply.TheVariants as reply;
 
@@ -77,8 +79,8 @@ impl<V: Drop> Stored for ArcPayload<V> {
 /// An ordered map from words to shared values for one thread: an adaptive radix tree over the keys' eight bytes.
 #[derive(Drop)]
 pub struct CongeeArc<K, V: Drop> {
-    arena: Arena<ArcPayload<V>, DefaultAllocator>,
-    alloc: Global,
+    pub(super) arena: Arena<ArcPayload<V>, DefaultAllocator>,
+    pub(super) alloc: Global,
     words: PhantomData<K>,
 }
 
@@ -91,7 +93,9 @@ impl<K, V: Drop> Model for CongeeArc<K, V> {
     ghost coded = { owners_code V.code };
 
     ghost use Rattle.congee.specs.owned.Arena.{IsTree};
+    ghost use Rattle.congee.specs.owned.Counted.{IsCounted};
     ghost use Rattle.congee.specs.owned.Full.{NodesFilled, lacking_of};
+    ghost use Rattle.congee.specs.owned.Keyed.{IsKeyed};
     ghost use Rattle.congee.specs.owned.Levels.{nodes_of};
     ghost use Rattle.congee.specs.owned.Sizes.{bytes_of};
     ghost use Rattle.congee.specs.owned.Table.{pairs_of};
@@ -100,7 +104,7 @@ impl<K, V: Drop> Model for CongeeArc<K, V> {
 
     ghost view = { λ t. record { pairs = pairs_of t.arena.nodes; nodes = nodes_of t.arena.nodes; bytes = bytes_of t.arena.nodes; lacking = lacking_of t.arena.nodes; wants = wants_of t.arena.nodes; goes = goes_of t.arena.nodes } };
 
-    ghost invariant = { λ t. IsTree t.arena.nodes × (bytes_of t.arena.nodes ≡ t.arena.allocator.charged) × NodesFilled false t.arena.nodes };
+    ghost invariant = { λ t. IsTree t.arena.nodes × (bytes_of t.arena.nodes ≡ t.arena.allocator.charged) × NodesFilled false t.arena.nodes × IsKeyed t.arena.nodes × IsCounted t.arena };
 }
 
 /// The owner in a payload, if there is one.
@@ -149,7 +153,14 @@ impl<K: Word64, V: Drop> CongeeArc<K, V> {
     pub fn is_empty(&self) -> bool
         ensures { IsTrue result ↔ (self.now.pairs ≡ map.empty) }
     {
-        self.arena.first().is_none()
+        self.arena.is_empty()
+    }
+
+    /// How many keys have a value; a number past `u64::MAX` stays there.
+    pub fn len(&self) -> u64
+        ensures { result ≡ capped (map.len self.now.pairs) }
+    {
+        self.arena.count_pairs()
     }
 
     /// All keys, ascending. It is refused for want of memory alone.
@@ -251,6 +262,15 @@ impl<K: Word64, V: Drop> CongeeArc<K, V> {
         ensures run { OwnersStayFilled self.now }
     {
         self.arena.nodes_filled();
+    }
+
+    /// Beside the root's 2104 bytes the nodes take 128 at most for each pair, and 56 for each child that they lack. The sum of their sizes
+    /// is the tree's bytes.
+    pub fn bytes_by_pairs(&self)
+        ensures sizes { sizes_of self.now.nodes ≡ self.now.bytes }
+        ensures bound { self.now.bytes ≤ most_bytes (map.len self.now.pairs) self.now.lacking }
+    {
+        self.arena.bytes_by_pairs();
     }
 
     /// Drops each value that stands.

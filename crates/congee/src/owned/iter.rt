@@ -1,7 +1,7 @@
 //! Iterators over the pairs of an owned tree.
 ghost use Rattle.std.specs.Prelude.{◌≡◌, ◌+◌, ℕ, map};
 ghost use Rattle.std.specs.FinMap as fin;
-ghost use Rattle.std.specs.Iterator.{YieldsFirst, YieldsLast, item_count};
+ghost use Rattle.std.specs.Iterator.{YieldsFirst, YieldsFirstBy, YieldsLast, YieldsLastBy, item_count};
 ghost use Rattle.congee.specs.owned.Arena.{IsTree};
 ghost use Rattle.congee.specs.owned.Cursor.{IsAt};
 ghost use Rattle.congee.specs.owned.Iterating.{IsFirstIn, IsLastBefore, first_in, first_past};
@@ -12,7 +12,7 @@ ghost use Rattle.congee.specs.owned.Table.{pairs_of};
 ghost use Rattle.congee.specs.owned.Walks.{IsWalk, steps_of};
 
 use crate::allocator::{Allocator, DefaultAllocator};
-use crate::owned::arena::Arena;
+use crate::owned::arena::{Arena, Stored};
 use crate::owned::congee::Congee;
 use crate::owned::scan::Walk;
 use crate::owned::u64_congee::U64Congee;
@@ -23,20 +23,20 @@ use std::ops::{Bound, RangeBounds};
 
 /// The pairs of an arena in a range, from both ends. At each end it keeps its way down, of eight nodes at most.
 #[derive(Drop)]
-pub(crate) struct Run<'a, A: Allocator> {
-    arena: &'a Arena<u64, A>,
-    front: Walk<'a, u64>,
-    back: Walk<'a, u64>,
+pub(crate) struct Run<'a, P: Stored, A: Allocator> {
+    arena: &'a Arena<P, A>,
+    front: Walk<'a, P>,
+    back: Walk<'a, P>,
     // The numbers that it has yet to come to, unless it is over.
     from: u64,
     last: u64,
     over: bool,
 }
 
-impl<'a, A: Allocator> Model for Run<'a, A> {
+impl<'a, P: Stored, A: Allocator> Model for Run<'a, P, A> {
     ghost use Rattle.std.specs.Prelude.{ℕ, List};
 
-    ghost Value = { List (ℕ × ℕ) };
+    ghost Value = { List (ℕ × P) };
 
     ghost use Rattle.std.specs.Prelude.{◌≡◌, ◌+◌, cond, false, []};
     ghost use Rattle.std.specs.FinMap as fin;
@@ -53,11 +53,11 @@ impl<'a, A: Allocator> Model for Run<'a, A> {
         × (r.over ≡ false → IsAt r.arena.now.nodes (steps_of r.back) (r.last + 1)) };
 }
 
-impl<'a, A: Allocator> Run<'a, A> {
+impl<'a, P: Stored, A: Allocator> Run<'a, P, A> {
     /// The next pair. The run is past it then.
     #[inline(always)]
-    fn step(&mut self) -> Option<(u64, u64)>
-        ensures { YieldsFirst (λ s. s) self.old result self.new }
+    pub(super) fn step(&mut self) -> Option<(u64, &'a P)>
+        ensures { YieldsFirstBy (λ r. (r.0, r.1.now)) (λ s. s) self.old result self.new }
     {
         if self.over {
             return None;
@@ -70,19 +70,19 @@ impl<'a, A: Allocator> Run<'a, A> {
         };
         if key < last {
             self.from = key + 1;
-            return Some((key, *value));
+            return Some((key, value));
         }
         self.over = true;
         if key > last {
             return None;
         }
-        Some((key, *value))
+        Some((key, value))
     }
 
     /// The last pair. The run ends before it then.
     #[inline(always)]
-    fn step_back(&mut self) -> Option<(u64, u64)>
-        ensures { YieldsLast (λ s. s) self.old result self.new }
+    pub(super) fn step_back(&mut self) -> Option<(u64, &'a P)>
+        ensures { YieldsLastBy (λ r. (r.0, r.1.now)) (λ s. s) self.old result self.new }
     {
         if self.over {
             return None;
@@ -95,19 +95,19 @@ impl<'a, A: Allocator> Run<'a, A> {
         };
         if key > from {
             self.last = key - 1;
-            return Some((key, *value));
+            return Some((key, value));
         }
         self.over = true;
         if key < from {
             return None;
         }
-        Some((key, *value))
+        Some((key, value))
     }
 }
 
-impl<A: Allocator> Arena<u64, A> {
+impl<P: Stored, A: Allocator> Arena<P, A> {
     /// The pairs from a number on to the last one, that included.
-    fn run(&self, from: u64, last: u64) -> Run<'_, A>
+    fn run(&self, from: u64, last: u64) -> Run<'_, P, A>
         requires { IsTree self.now.nodes }
         ensures { result ≡ in_range from (last + 1) (fin.entries (pairs_of self.now.nodes)) }
     {
@@ -124,7 +124,7 @@ impl<A: Allocator> Arena<u64, A> {
     }
 
     /// All pairs.
-    fn whole_run(&self) -> Run<'_, A>
+    pub(super) fn whole_run(&self) -> Run<'_, P, A>
         requires { IsTree self.now.nodes }
         ensures { result ≡ fin.entries (pairs_of self.now.nodes) }
     {
@@ -132,7 +132,7 @@ impl<A: Allocator> Arena<u64, A> {
     }
 
     /// The pairs from a number on to the last one; none where there is no such number.
-    fn bounded_run(&self, from: Option<u64>, last: Option<u64>) -> Run<'_, A>
+    pub(super) fn bounded_run(&self, from: Option<u64>, last: Option<u64>) -> Run<'_, P, A>
         requires { IsTree self.now.nodes }
         ensures { (a b : ℕ) → IsFirstIn from a → IsLastBefore last b → result ≡ in_range a b (fin.entries (pairs_of self.now.nodes)) }
     {
@@ -147,7 +147,7 @@ impl<A: Allocator> Arena<u64, A> {
 }
 
 /// The least number that a lower bound lets in, if one of 64 bits is.
-fn first_word<K: Word64>(bound: Bound<&K>) -> Option<u64>
+pub(super) fn first_word<K: Word64>(bound: Bound<&K>) -> Option<u64>
     ensures { IsFirstIn result (first_in K.word (bound_map (λ k. k.now) bound.entry)) }
 {
     match bound {
@@ -158,7 +158,7 @@ fn first_word<K: Word64>(bound: Bound<&K>) -> Option<u64>
 }
 
 /// The greatest number that an upper bound lets in, if one is.
-fn last_word<K: Word64>(bound: Bound<&K>) -> Option<u64>
+pub(super) fn last_word<K: Word64>(bound: Bound<&K>) -> Option<u64>
     ensures { IsLastBefore result (first_past K.word (bound_map (λ k. k.now) bound.entry)) }
 {
     match bound {
@@ -171,7 +171,7 @@ fn last_word<K: Word64>(bound: Bound<&K>) -> Option<u64>
 /// The pairs of a tree, or those within bounds, ascending by key. It copies none but the one that it gives.
 #[derive(Drop)]
 pub struct Iter<'a, K: Word64, V: Word64, A: Allocator = DefaultAllocator> {
-    run: Run<'a, A>,
+    run: Run<'a, u64, A>,
     words: PhantomData<(K, V)>,
 }
 
@@ -195,7 +195,7 @@ impl<'a, K: Word64, V: Word64, A: Allocator> Iterator for Iter<'a, K, V, A> {
     #[inline]
     fn next(&mut self) -> Option<(K, V)> {
         match self.run.step() {
-            Some((key, value)) => Some((K::from_word(key), V::from_word(value))),
+            Some((key, value)) => Some((K::from_word(key), V::from_word(*value))),
             None => None,
         }
     }
@@ -207,7 +207,7 @@ impl<'a, K: Word64, V: Word64, A: Allocator> DoubleEndedIterator for Iter<'a, K,
     #[inline]
     fn next_back(&mut self) -> Option<(K, V)> {
         match self.run.step_back() {
-            Some((key, value)) => Some((K::from_word(key), V::from_word(value))),
+            Some((key, value)) => Some((K::from_word(key), V::from_word(*value))),
             None => None,
         }
     }
@@ -215,12 +215,12 @@ impl<'a, K: Word64, V: Word64, A: Allocator> DoubleEndedIterator for Iter<'a, K,
 
 /// The keys of a tree's pairs, or of those within bounds, ascending.
 #[derive(Drop)]
-pub struct Keys<'a, K: Word64, A: Allocator = DefaultAllocator> {
-    run: Run<'a, A>,
-    words: PhantomData<K>,
+pub struct Keys<'a, K: Word64, A: Allocator = DefaultAllocator, P: Stored = u64> {
+    pub(super) run: Run<'a, P, A>,
+    pub(super) words: PhantomData<K>,
 }
 
-impl<'a, K: Word64, A: Allocator> Model for Keys<'a, K, A> {
+impl<'a, K: Word64, A: Allocator, P: Stored> Model for Keys<'a, K, A, P> {
     ghost use Rattle.std.specs.Prelude.{List, map};
 
     ghost Value = { List K };
@@ -230,7 +230,7 @@ impl<'a, K: Word64, A: Allocator> Model for Keys<'a, K, A> {
     ghost view = { λ i. map (key_by K.of_word) i.run };
 }
 
-impl<'a, K: Word64, A: Allocator> Iterator for Keys<'a, K, A> {
+impl<'a, K: Word64, A: Allocator, P: Stored> Iterator for Keys<'a, K, A, P> {
     type Item = K;
 
     ghost next_gives = { YieldsFirst (λ s. s) };
@@ -246,7 +246,7 @@ impl<'a, K: Word64, A: Allocator> Iterator for Keys<'a, K, A> {
     }
 }
 
-impl<'a, K: Word64, A: Allocator> DoubleEndedIterator for Keys<'a, K, A> {
+impl<'a, K: Word64, A: Allocator, P: Stored> DoubleEndedIterator for Keys<'a, K, A, P> {
     ghost next_back_gives = { YieldsLast (λ s. s) };
 
     #[inline]
@@ -261,7 +261,7 @@ impl<'a, K: Word64, A: Allocator> DoubleEndedIterator for Keys<'a, K, A> {
 /// The values of a tree's pairs, or of those within bounds, ascending by key.
 #[derive(Drop)]
 pub struct Values<'a, V: Word64, A: Allocator = DefaultAllocator> {
-    run: Run<'a, A>,
+    run: Run<'a, u64, A>,
     words: PhantomData<V>,
 }
 
@@ -285,7 +285,7 @@ impl<'a, V: Word64, A: Allocator> Iterator for Values<'a, V, A> {
     #[inline]
     fn next(&mut self) -> Option<V> {
         match self.run.step() {
-            Some((_, value)) => Some(V::from_word(value)),
+            Some((_, value)) => Some(V::from_word(*value)),
             None => None,
         }
     }
@@ -297,7 +297,7 @@ impl<'a, V: Word64, A: Allocator> DoubleEndedIterator for Values<'a, V, A> {
     #[inline]
     fn next_back(&mut self) -> Option<V> {
         match self.run.step_back() {
-            Some((_, value)) => Some(V::from_word(value)),
+            Some((_, value)) => Some(V::from_word(*value)),
             None => None,
         }
     }
@@ -349,12 +349,26 @@ impl<K: Word64, V: Word64, A: Allocator, D: Drop> Congee<K, V, A, D> {
     }
 }
 
-impl<V: Word64, A: Allocator> U64Congee<V, A> {
+impl<V: Word64, A: Allocator, D: Drop> U64Congee<V, A, D> {
     /// All pairs, ascending by key, each once. It takes no memory, and the same time for each pair on the whole.
     pub fn iter(&self) -> Iter<'_, u64, V, A>
         ensures { result ≡ map (pair_by (λ k. k) V.of_word) (fin.entries self.now.tree.pairs) }
     {
         self.tree.iter()
+    }
+
+    /// All keys, ascending, each once.
+    pub fn keys_iter(&self) -> Keys<'_, u64, A>
+        ensures { result ≡ map (key_by (λ k. k)) (fin.entries self.now.tree.pairs) }
+    {
+        self.tree.keys_iter()
+    }
+
+    /// All values, ascending by key.
+    pub fn values_iter(&self) -> Values<'_, V, A>
+        ensures { result ≡ map (value_by V.of_word) (fin.entries self.now.tree.pairs) }
+    {
+        self.tree.values_iter()
     }
 
     /// The pairs whose keys lie within the bounds, ascending, each once: `a..b`, `a..=b`, `..b`, `a..` or a pair of `Bound`s. A

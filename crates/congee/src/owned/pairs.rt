@@ -1,13 +1,15 @@
 //! The calls on an arena as those on a map.
-ghost use Rattle.std.specs.Prelude.{◌≡◌, ◌+◌, ℕ, false, List, None, IfOk, IfErr};
+ghost use Rattle.std.specs.Prelude.{◌≡◌, ◌+◌, ◌≤◌, ◌^◌, ℕ, false, List, None, Some, IfOk, IfErr};
 ghost use Rattle.std.specs.Option.{option_copied};
 ghost use Rattle.congee.specs.Heap.{value_at};
 ghost use Rattle.congee.specs.forms.Forms.{size_of};
 ghost use Rattle.congee.specs.declared.forms.base_node.NodeType.TheVariants.{N256};
 ghost use Rattle.congee.specs.owned.Arena.{IsTree, heap_of};
 ghost use Rattle.congee.specs.owned.Full.{NodesFilled, lacking_of};
+ghost use Rattle.congee.specs.owned.Keyed.{IsKeyed};
 ghost use Rattle.congee.specs.owned.Levels.{nodes_of};
 ghost use Rattle.congee.specs.owned.Charge.{Covers};
+ghost use Rattle.congee.specs.owned.Counted.{IsCounted, one_if};
 ghost use Rattle.congee.specs.owned.Edits.{Adds, Denies, Frees};
 ghost use Rattle.congee.specs.owned.Going.{goes_at, going_by};
 ghost use Rattle.congee.specs.owned.Sizes.{bytes_of};
@@ -17,12 +19,36 @@ ghost use Rattle.congee.specs.owned.Wanted.{WantsLeaf, wants_at, wants_of};
 
 use crate::allocator::{Allocator, OOMError};
 use crate::forms::base_node::NodeType;
-use crate::keys::KEY_BYTES;
+use crate::keys::{KEY_BYTES, key_of_bytes};
 use crate::owned::arena::{Arena, Stored};
 use crate::owned::inner::Inner;
 use crate::owned::nodes::Nodes;
 use crate::owned::place::{Onward, Place, Spot};
 use std::alloc::Global;
+
+/// How many pairs there are once one comes in at a key that had this value.
+#[inline(always)]
+fn counted_in<P>(pairs: u128, before: &Option<P>) -> u128
+    requires { pairs ≤ 2 ^ 64 }
+    ensures { result + one_if before.now ≡ pairs + 1 }
+{
+    match before {
+        Some(_) => pairs,
+        None => pairs + 1,
+    }
+}
+
+/// How many there are once a key that had this value has none.
+#[inline(always)]
+fn counted_out<P>(pairs: u128, before: &Option<P>) -> u128
+    requires { one_if before.now ≤ pairs }
+    ensures { result + one_if before.now ≡ pairs }
+{
+    match before {
+        Some(_) => pairs - 1,
+        None => pairs,
+    }
+}
 
 impl<P: Stored, A: Allocator> Arena<P, A> {
     /// A root alone, charged to the allocator.
@@ -34,6 +60,8 @@ impl<P: Stored, A: Allocator> Arena<P, A> {
         ensures bytes { IfOk result (λ t. bytes_of t.nodes ≡ size_of N256) }
         ensures filled { IfOk result (λ t. lacking_of t.nodes ≡ 0) }
         ensures branch { IfOk result (λ t. NodesFilled false t.nodes) }
+        ensures keyed { IfOk result (λ t. IsKeyed t.nodes) }
+        ensures counted { IfOk result (λ t. IsCounted t) }
         ensures charged { IfOk result (λ t. A.charged_of t.allocator ≡ A.charged_of allocator + size_of N256) }
         ensures limit { IfOk result (λ t. A.limit_of t.allocator ≡ A.limit_of allocator) }
         ensures refused { IfErr result (λ e. IsRefusal (A.charged_of allocator) (size_of N256) (A.limit_of allocator) e) }
@@ -44,7 +72,11 @@ impl<P: Stored, A: Allocator> Arena<P, A> {
             return Err(OOMError::Memory);
         };
         match Nodes::new(alloc, root) {
-            Ok(nodes) => Ok(Arena { nodes, allocator }),
+            Ok(nodes) => Ok(Arena {
+                nodes,
+                allocator,
+                pairs: 0,
+            }),
             Err(_) => Err(OOMError::Memory),
         }
     }
@@ -67,8 +99,9 @@ impl<P: Stored, A: Allocator> Arena<P, A> {
         }
     }
 
-    /// Puts a value at a key, and gives the one before. A refused value comes back.
-    pub(crate) fn insert(
+    /// Puts a value at a key, and gives the one before. A refused value comes back. The caller counts.
+    #[inline(always)]
+    fn put(
         &mut self,
         alloc: Global,
         key: &[u8; KEY_BYTES],
@@ -100,8 +133,9 @@ impl<P: Stored, A: Allocator> Arena<P, A> {
         }
     }
 
-    /// Takes a key's value out, and what goes with it.
-    pub(crate) fn remove(&mut self, alloc: Global, key: &[u8; KEY_BYTES]) -> Option<P>
+    /// Takes a key's value out, and what goes with it. The caller counts.
+    #[inline(always)]
+    fn pull(&mut self, alloc: Global, key: &[u8; KEY_BYTES]) -> Option<P>
         requires tree { IsTree self.old.nodes }
         requires covered { Covers A.charged_of self.old }
         ensures { Frees A.charged_of A.limit_of self.old self.new
@@ -115,6 +149,70 @@ impl<P: Stored, A: Allocator> Arena<P, A> {
         }
     }
 
+    /// Where the key has a value, puts the new one in its place, and gives the one before. The caller counts.
+    #[inline(always)]
+    fn change(&mut self, key: &[u8; KEY_BYTES], value: P) -> Option<P>
+        requires tree { IsTree self.old.nodes }
+        requires covered { Covers A.charged_of self.old }
+        ensures { Frees A.charged_of A.limit_of self.old self.new
+            key.now result (settled result (Some value)) (going_by (Some value) (goes_at (heap_of self.old.nodes) key.now)) }
+    {
+        let place = self.locate(key);
+        match place.spot {
+            Spot::Held => Some(self.replace(place.at, key, value)),
+            Spot::Free => None,
+            Spot::Apart(_) => None,
+        }
+    }
+
+    /// Puts a value at a key, and gives the one before. A refused value comes back.
+    pub(crate) fn insert(
+        &mut self,
+        alloc: Global,
+        key: &[u8; KEY_BYTES],
+        value: P,
+    ) -> Result<Option<P>, (OOMError, P)>
+        requires tree { IsTree self.old.nodes }
+        requires covered { Covers A.charged_of self.old }
+        requires counted { IsCounted self.old }
+        ensures adds { IfOk result (λ before. Adds A.charged_of A.limit_of self.old self.new
+            key.now before value (wants_at (heap_of self.old.nodes) key.now)) }
+        ensures refused { IfErr result (Denies A.charged_of A.limit_of self.old self.new
+            key.now value (wants_at (heap_of self.old.nodes) key.now)) }
+        ensures counted { IsCounted self.new }
+    {
+        // Its bytes are those of a number.
+        let _number = key_of_bytes(key);
+        let pairs = self.pairs;
+        match self.put(alloc, key, value) {
+            Ok(before) => {
+                self.pairs = counted_in(pairs, &before);
+                Ok(before)
+            }
+            Err(refused) => {
+                self.pairs = pairs;
+                Err(refused)
+            }
+        }
+    }
+
+    /// Takes a key's value out, and what goes with it.
+    pub(crate) fn remove(&mut self, alloc: Global, key: &[u8; KEY_BYTES]) -> Option<P>
+        requires tree { IsTree self.old.nodes }
+        requires covered { Covers A.charged_of self.old }
+        requires counted { IsCounted self.old }
+        ensures frees { Frees A.charged_of A.limit_of self.old self.new
+            key.now result None (goes_at (heap_of self.old.nodes) key.now) }
+        ensures counted { IsCounted self.new }
+    {
+        // Its bytes are those of a number.
+        let _number = key_of_bytes(key);
+        let pairs = self.pairs;
+        let before = self.pull(alloc, key);
+        self.pairs = counted_out(pairs, &before);
+        before
+    }
+
     /// Where the key has a value, puts the new one in its place or takes it out, and gives the one before.
     pub(crate) fn settle(
         &mut self,
@@ -124,18 +222,20 @@ impl<P: Stored, A: Allocator> Arena<P, A> {
     ) -> Option<P>
         requires tree { IsTree self.old.nodes }
         requires covered { Covers A.charged_of self.old }
-        ensures { Frees A.charged_of A.limit_of self.old self.new
+        requires counted { IsCounted self.old }
+        ensures frees { Frees A.charged_of A.limit_of self.old self.new
             key.now result (settled result new) (going_by new (goes_at (heap_of self.old.nodes) key.now)) }
+        ensures counted { IsCounted self.new }
     {
         let value = match new {
             None => return self.remove(alloc, key),
             Some(value) => value,
         };
-        let place = self.locate(key);
-        match place.spot {
-            Spot::Held => Some(self.replace(place.at, key, value)),
-            Spot::Free => None,
-            Spot::Apart(_) => None,
-        }
+        // Its bytes are those of a number.
+        let _number = key_of_bytes(key);
+        let pairs = self.pairs;
+        let before = self.change(key, value);
+        self.pairs = pairs;
+        before
     }
 }

@@ -25,12 +25,12 @@ pub(crate) struct EntryList<P, const N: usize> {
 
 /// At most `N` entries, in a box. Their bytes stand beside it, so that a look-up reads one line of the box.
 #[derive(Drop)]
-pub(crate) struct Ranked<P: Boxed<N>, const N: usize> {
+pub(crate) struct Ranked<P: Listable<N>, const N: usize> {
     bytes: Ranks<N>,
     entries: Box<EntryList<P, N>>,
 }
 
-impl<P: Boxed<N>, const N: usize> Model for Ranked<P, N> {
+impl<P: Listable<N>, const N: usize> Model for Ranked<P, N> {
     ghost use Rattle.std.specs.Ordering.{nat_cmp};
     ghost use Rattle.std.specs.FinMap as map;
     ghost use Rattle.std.specs.Coded.{coded_ℕ};
@@ -54,27 +54,27 @@ pub(crate) struct Places256<P> {
 }
 
 /// A payload of which a list of `N` entries fits in memory.
-pub(crate) trait Boxed<const N: usize>: Small {
+pub(crate) trait Listable<const N: usize>: Small {
     ghost use Rattle.std.specs.Mem.{FitsInMemory};
     ghost use Rattle.congee.specs.contracts.owned.places.EntryList.{the_row as list_row};
 
     ghost fits_list: { FitsInMemory (list_row Self.row N.row) };
 }
 
-impl<P: Small> Boxed<16> for P {
+impl<P: Small> Listable<16> for P {
     ghost use Rattle.congee.specs.owned.EntryRoom.{entries16_fits};
 
     ghost fits_list = { entries16_fits P.row P.small };
 }
 
-impl<P: Small> Boxed<48> for P {
+impl<P: Small> Listable<48> for P {
     ghost use Rattle.congee.specs.owned.EntryRoom.{entries48_fits};
 
     ghost fits_list = { entries48_fits P.row P.small };
 }
 
 /// A payload whose inner nodes fit in memory in every form. Each payload is one.
-pub(crate) trait Nested: Boxed<16> + Boxed<48> {
+pub(crate) trait Nested: Listable<16> + Listable<48> {
     ghost use Rattle.std.specs.Mem.{FitsInMemory};
     ghost use Rattle.congee.specs.contracts.owned.places.Places256.{the_row as row_256};
 
@@ -96,7 +96,7 @@ pub(crate) enum Places<P: Nested> {
     N256(Box<Places256<P>>),
 }
 
-impl<P: Boxed<N>, const N: usize> Ranked<P, N> {
+impl<P: Listable<N>, const N: usize> Ranked<P, N> {
     /// No entries.
     fn new(alloc: Global) -> Result<Self, AllocError>
         requires { N < 256 }
@@ -190,7 +190,7 @@ impl<P: Boxed<N>, const N: usize> Ranked<P, N> {
     /// Moves every entry to a list of another form, which has none and has room for them, and leaves blanks.
     fn move_to<const M: usize>(&mut self, other: &mut Ranked<P, M>)
     where
-        P: Boxed<M>,
+        P: Listable<M>,
         requires empty { other.old ≡ map.empty }
         requires room { map.len self.old ≤ M }
         ensures { other.new ≡ self.old }

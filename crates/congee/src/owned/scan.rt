@@ -3,7 +3,8 @@ ghost use Rattle.std.specs.Prelude.{◌≡◌, ◌+◌, ℕ, ◌<◌, ◌≤◌,
 ghost use Rattle.std.specs.FinMap as map;
 ghost use Rattle.congee.specs.Keys.{key_bytes};
 ghost use Rattle.congee.specs.owned.Arena.{IsTree};
-ghost use Rattle.congee.specs.owned.Nearest.{IsLeast, IsLeastPair, IsGreatest, IsGreatestPair};
+ghost use Rattle.congee.specs.owned.Iterating.{IsFirstIn, IsLastBefore};
+ghost use Rattle.congee.specs.owned.Nearest.{IsLeast, IsLeastIn, IsLeastPair, IsGreatest, IsGreatestIn, IsGreatestPair};
 ghost use Rattle.congee.specs.owned.Cursor.{IsAt, steps_left};
 ghost use Rattle.congee.specs.owned.Table.{pairs_of};
 ghost use Rattle.congee.specs.owned.Ranges.{entries_by, in_range, keys_by};
@@ -251,6 +252,40 @@ impl<A: Allocator> Arena<u64, A> {
         match self.back_along(&mut walk) {
             Some((key, value)) => Some((key, *value)),
             None => None,
+        }
+    }
+
+    /// The pair of the least key from a number on to the last one, that included; none where there is no such number.
+    pub(crate) fn first_between(&self, from: Option<u64>, last: Option<u64>) -> Option<(u64, u64)>
+        requires { IsTree self.now.nodes }
+        ensures { (a b : ℕ) → IsFirstIn from a → IsLastBefore last b → IsLeastIn (pairs_of self.now.nodes) a b result }
+    {
+        let Some(from) = from else {
+            return None;
+        };
+        let Some(last) = last else {
+            return None;
+        };
+        match self.first_from(from) {
+            Some((key, value)) if key <= last => Some((key, value)),
+            _ => None,
+        }
+    }
+
+    /// The pair of the greatest such key.
+    pub(crate) fn last_between(&self, from: Option<u64>, last: Option<u64>) -> Option<(u64, u64)>
+        requires { IsTree self.now.nodes }
+        ensures { (a b : ℕ) → IsFirstIn from a → IsLastBefore last b → IsGreatestIn (pairs_of self.now.nodes) a b result }
+    {
+        let Some(from) = from else {
+            return None;
+        };
+        let Some(last) = last else {
+            return None;
+        };
+        match self.last_to(last) {
+            Some((key, value)) if key >= from => Some((key, value)),
+            _ => None,
         }
     }
 

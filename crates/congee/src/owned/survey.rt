@@ -1,9 +1,12 @@
 //! The nodes of an arena, counted by level and form.
-ghost use Rattle.std.specs.Prelude.{◌≡◌, ◌≤◌, ◌++◌, List, length, vec_len, false, IfOk, OnOk};
+ghost use Rattle.std.specs.Prelude.{◌≡◌, ◌≤◌, ◌++◌, ◌↔◌, List, length, vec_len, false, IsTrue, IfOk, OnOk};
 ghost use Rattle.std.specs.FinMap as map;
 ghost use Rattle.std.specs.List.{All};
 ghost use Rattle.slab.specs.Slab.{get, ContainsKey};
 ghost use Rattle.congee.specs.owned.Arena.{IsTree, heap_of};
+ghost use Rattle.congee.specs.owned.Bound.{most_bytes};
+ghost use Rattle.congee.specs.owned.Keyed.{IsKeyed};
+ghost use Rattle.congee.specs.owned.Counted.{IsCounted};
 ghost use Rattle.congee.specs.owned.Full.{AllBranch, AllFilled, NodesFilled, lacking_of};
 ghost use Rattle.congee.specs.owned.Levels.{nodes_from, nodes_of};
 ghost use Rattle.congee.specs.owned.Stats.{HasValue, IsTally, Shape, capped};
@@ -18,6 +21,13 @@ use crate::owned::names::Name;
 use crate::owned::sight::Next;
 use crate::owned::stats::NodeStats;
 use std::alloc::{AllocError, Global};
+
+/// A number of 64 bits; one past `u64::MAX` stays there.
+fn in_64_bits(number: u128) -> u64
+    ensures { result ≡ capped number }
+{
+    number.min(u64::MAX as u128) as u64
+}
 
 impl<P: Stored, A: Allocator> Arena<P, A> {
     /// Counts a node on a level, and the nodes below it: a leaf has none, and its values are told by their number.
@@ -69,22 +79,35 @@ impl<P: Stored, A: Allocator> Arena<P, A> {
         ensures { lacking_of self.now.nodes ≡ 0 → AllFilled (nodes_of self.now.nodes) }
     {}
 
+    /// The sizes of the nodes are what stands in the slab, and bounded by the pairs and by what the nodes lack.
+    pub(crate) fn bytes_by_pairs(&self)
+        requires tree { IsTree self.now.nodes }
+        requires branch { NodesFilled false self.now.nodes }
+        requires keyed { IsKeyed self.now.nodes }
+        ensures sizes { sizes_of (nodes_of self.now.nodes) ≡ bytes_of self.now.nodes }
+        ensures bound { bytes_of self.now.nodes ≤ most_bytes (map.len (pairs_of self.now.nodes)) (lacking_of self.now.nodes) }
+    {}
+
     /// The number of pairs; one past `u64::MAX` stays there.
     pub(crate) fn count_pairs(&self) -> u64
-        requires { IsTree self.now.nodes }
+        requires { IsCounted self.now }
         ensures { result ≡ capped (map.len (pairs_of self.now.nodes)) }
     {
-        let mut count = 0u64;
-        let mut walk = self.beginning();
-        while self.next_along(&mut walk).is_some() {
-            count = count.saturating_add(1);
-        }
-        count
+        in_64_bits(self.pairs)
+    }
+
+    /// Whether there are no pairs.
+    pub(crate) fn is_empty(&self) -> bool
+        requires { IsCounted self.now }
+        ensures { IsTrue result ↔ (map.len (pairs_of self.now.nodes) ≡ 0) }
+    {
+        self.pairs == 0
     }
 
     /// How the nodes are spread, and how many pairs they hold.
     pub(crate) fn stats(&self, alloc: Global) -> Result<NodeStats, AllocError>
-        requires { IsTree self.now.nodes }
+        requires tree { IsTree self.now.nodes }
+        requires counted { IsCounted self.now }
         ensures counted { IfOk result (λ stats. IsTally stats (nodes_of self.now.nodes) (map.len (pairs_of self.now.nodes))) }
         ensures charged { OnOk result (sizes_of (nodes_of self.now.nodes) ≡ bytes_of self.now.nodes) }
     {

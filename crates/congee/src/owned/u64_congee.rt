@@ -1,11 +1,13 @@
 //! The owned tree whose keys are numbers.
-ghost use Rattle.std.specs.Prelude.{◌≡◌, ◌+◌, ◌↔◌, ◌^◌, ℕ, Option, Some, None, IfOk, IfErr, IfSome, IfNone, IsSome, IsTrue, OnOk, nat_eq, length, take, drop};
+ghost use Rattle.std.specs.Prelude.{◌≡◌, ◌+◌, ◌≤◌, ◌↔◌, ◌^◌, ℕ, Option, Some, None, Ok, Err, IfOk, IfErr, IfSome, IfNone, IsSome, IsTrue, OnOk, nat_eq, length, take, drop};
 ghost use Rattle.std.specs.Option.{option_map};
 ghost use Rattle.std.specs.List.{All};
 ghost use Rattle.std.specs.FinMap as map;
 ghost use Rattle.congee.specs.forms.Forms.{size_of};
 ghost use Rattle.congee.specs.declared.forms.base_node.NodeType.TheVariants.{N256};
+ghost use Rattle.congee.specs.owned.Bound.{most_bytes};
 ghost use Rattle.congee.specs.owned.Content.{Inserts, IsBare, KeepsCharge, ChangesNothing, Refuses, Modifies};
+ghost use Rattle.congee.specs.owned.Drained.{Drained};
 ghost use Rattle.congee.specs.owned.Full.{AllBranch, AllFilled};
 ghost use Rattle.congee.specs.owned.Nearest.{ComesBack, IsGreatest, IsGreatestAs, IsLeast, IsLeastAs, pair_by};
 ghost use Rattle.congee.specs.owned.OwnedSteps.{IsRefusal};
@@ -20,18 +22,20 @@ ghost use Rattle.judge.specs.declared.journal.Reply.TheVariants as reply;
 use crate::allocator::{Allocator, DefaultAllocator, OOMError};
 use crate::keys::KEY_BYTES;
 use crate::owned::congee::Congee;
-use crate::owned::drainer::NoDrain;
+use crate::owned::drainer::{Drainer, NoDrain};
 use crate::owned::stats::NodeStats;
 use judge::Word64;
 use std::alloc::{AllocError, Global};
 
 /// An ordered map from 64-bit numbers to words for one thread.
+///
+/// `A` is the budget that its nodes are charged to, `D` what takes the pairs where the tree is closed.
 #[derive(Drop)]
-pub struct U64Congee<V, A: Allocator = DefaultAllocator> {
-    pub(super) tree: Congee<u64, V, A, NoDrain>,
+pub struct U64Congee<V, A: Allocator = DefaultAllocator, D = NoDrain> {
+    pub(super) tree: Congee<u64, V, A, D>,
 }
 
-impl<V: Word64, A: Allocator> U64Congee<V, A> {
+impl<V: Word64, A: Allocator> U64Congee<V, A, NoDrain> {
     /// An empty tree over the allocator, which its root is charged to. A refused call drops the allocator.
     pub fn new(alloc: Global, allocator: A) -> Result<Self, OOMError>
         ensures bare { IfOk result (λ t. IsBare t.tree) }
@@ -42,6 +46,22 @@ impl<V: Word64, A: Allocator> U64Congee<V, A> {
     {
         Ok(U64Congee {
             tree: Congee::new(alloc, allocator)?,
+        })
+    }
+}
+
+impl<V: Word64, A: Allocator, D: Drop> U64Congee<V, A, D> {
+    /// An empty tree over the allocator, which its root is charged to. A refused call drops both.
+    pub fn new_with_drainer(alloc: Global, allocator: A, drainer: D) -> Result<Self, OOMError>
+        ensures bare { IfOk result (λ t. IsBare t.tree) }
+        ensures charged { IfOk result (λ t. A.charged_of t.tree.allocator ≡ A.charged_of allocator + size_of N256) }
+        ensures base { IfOk result (λ t. t.tree.base ≡ A.charged_of allocator) }
+        ensures limit { IfOk result (λ t. A.limit_of t.tree.allocator ≡ A.limit_of allocator) }
+        ensures drainer { IfOk result (λ t. t.tree.drainer ≡ drainer) }
+        ensures refused { IfErr result (λ e. IsRefusal (A.charged_of allocator) (size_of N256) (A.limit_of allocator) e) }
+    {
+        Ok(U64Congee {
+            tree: Congee::new_with_drainer(alloc, allocator, drainer)?,
         })
     }
 
@@ -111,6 +131,25 @@ impl<V: Word64, A: Allocator> U64Congee<V, A> {
         self.tree.compute_or_insert(key, f)
     }
 
+    /// Where the key has the old value, puts the new one there, or takes the key out at `None`.
+    /// Another value, or none, is the error.
+    pub fn compare_exchange(
+        &mut self,
+        key: u64,
+        old: &V,
+        new: Option<V>,
+    ) -> Result<Option<V>, Option<V>>
+        ensures ok { IfOk result (λ r. (word : Option ℕ) × (word ≡ option_map V.word new) × (r ≡ new)
+            × Modifies nat_eq A.charged_of A.limit_of self.old.tree self.new.tree (going_by new (map.get self.old.tree.goes key))
+            (call.Exchange key (V.word old.now) word) (reply.Exchange (Ok word))) }
+        ensures other { IfErr result (λ r. (found : Option ℕ) × (r ≡ option_map V.of_word found)
+            × ChangesNothing nat_eq A.charged_of A.limit_of self.old.tree self.new.tree
+            (call.Exchange key (V.word old.now) (option_map V.word new)) (reply.Exchange (Err found))) }
+        ensures base { self.new.tree.base ≡ self.old.tree.base }
+    {
+        self.tree.compare_exchange(&key, old, new)
+    }
+
     /// Takes every pair out, and every node but the root, whose bytes alone stay charged. The places that the nodes had
     /// stay for those that come next.
     pub fn clear(&mut self)
@@ -144,7 +183,7 @@ impl<V: Word64, A: Allocator> U64Congee<V, A> {
         self.tree.is_empty()
     }
 
-    /// How many keys have a value; a number past `u64::MAX` stays there. They are counted, so it goes over all of them.
+    /// How many keys have a value; a number past `u64::MAX` stays there.
     pub fn len(&self) -> u64
         ensures { result ≡ capped (map.len self.now.tree.pairs) }
     {
@@ -217,6 +256,15 @@ impl<V: Word64, A: Allocator> U64Congee<V, A> {
         self.tree.nodes_filled();
     }
 
+    /// Beside the root's 2104 bytes the nodes take 128 at most for each pair, and 56 for each child that they lack. The sum of their sizes
+    /// is the tree's bytes.
+    pub fn bytes_by_pairs(&self)
+        ensures sizes { sizes_of self.now.tree.nodes ≡ self.now.tree.bytes }
+        ensures bound { self.now.tree.bytes ≤ most_bytes (map.len self.now.tree.pairs) self.now.tree.lacking }
+    {
+        self.tree.bytes_by_pairs();
+    }
+
     /// The bytes that the allocator has charged: those that it had charged before the tree was opened, and the nodes' sizes.
     pub fn charged(&self) -> u64
         ensures charged { result ≡ A.charged_of self.now.tree.allocator }
@@ -249,14 +297,18 @@ impl<V: Word64, A: Allocator> U64Congee<V, A> {
     {
         self.tree.range_to_by_bytes(start, last, out)
     }
+}
 
-    /// Drops the pairs and the nodes. Gives the allocator back with the charge with which it came in.
-    pub fn close(self) -> A
-        ensures charged { A.charged_of result ≡ self.tree.base }
-        ensures taken_off { A.charged_of result + self.tree.bytes ≡ A.charged_of self.tree.allocator }
-        ensures limit { A.limit_of result ≡ A.limit_of self.tree.allocator }
+impl<V: Word64, A: Allocator, D: Drainer<u64, V>> U64Congee<V, A, D> {
+    /// Hands each pair to the drainer, ascending by key, and drops the nodes. Gives the allocator and the drainer back:
+    /// the nodes' bytes are off the charge, so it is the one with which the allocator came in.
+    pub fn close(self) -> (A, D)
+        requires { D.can_drain self.tree.drainer }
+        ensures drained { Drained D.drains (λ k. k) V.of_word self.tree.drainer (map.entries self.tree.pairs) result.1 }
+        ensures charged { A.charged_of result.0 ≡ self.tree.base }
+        ensures taken_off { A.charged_of result.0 + self.tree.bytes ≡ A.charged_of self.tree.allocator }
+        ensures limit { A.limit_of result.0 ≡ A.limit_of self.tree.allocator }
     {
-        let (allocator, _) = self.tree.close();
-        allocator
+        self.tree.close()
     }
 }

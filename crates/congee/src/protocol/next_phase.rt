@@ -1,19 +1,16 @@
-//! What a step leaves, and where the answers of the store lead.
-ghost use Rattle.std.specs.Prelude.{◌≡◌, ℕ, ◌<◌, ◌⊎◌, Bool, true, false, Option, None, Some};
-ghost use Rattle.congee.specs.protocol.Steps.{next_phase_of, quiet, again, answered, finished, refused, decided, asking, adds, asks_new, absent_reply, form_above, after_version, after_read, down, started, ready, plan_here, unless_full, missing, absent, IsAsked, replaced, emptied, is_same, IsAtOld, IsAdded, IsExchanged, IsPresent, IsChecked, after_miss, after_change, after_top, after_retire, after_unwind, given_up, greater, last_out, node_of, shrinks, form_below, skipping, set_at, both, unwound, outcome_of, value_hung};
-ghost use Rattle.congee.specs.protocol.Events.{hung};
+//! Where the answers of the store lead.
+ghost use Rattle.std.specs.Prelude.{◌≡◌, None};
+ghost use Rattle.congee.specs.protocol.Steps.{next_phase_of, quiet, again, answered, refused, decided, asking, adds, asks_new, absent_reply, after_version, after_read, down, started, ready, unless_full, absent, IsAsked, replaced, emptied, IsAtOld, IsAdded, IsExchanged, IsPresent, IsChecked, after_miss, after_change, after_top, after_retire, after_unwind, given_up, last_out, shrinks, set_at, both, unwound};
 ghost use Rattle.congee.specs.declared.protocol.phase.Phase.TheVariants as phase;
-ghost use Rattle.congee.specs.declared.protocol.phase.Double.TheVariants as double;
+ghost use Rattle.congee.specs.declared.protocol.phase.Replacement.TheVariants as replacement;
 ghost use Rattle.congee.specs.declared.protocol.phase.Plan.TheVariants as plan;
 
-use crate::forms::base_node::NodeType;
 use crate::forms::child::Child;
 use crate::forms::prefix::MAX_PREFIX_LEN;
-use crate::protocol::machine::{Move, Outcome};
+use crate::protocol::machine::Move;
 use crate::protocol::phase::{
-    Above, Double, Kind, Parent, Phase, Plan, Single, Site, Two, near_of,
+    Above, Kind, Parent, ParentChange, Phase, Placement, Plan, Replacement, Site, near_of,
 };
-use crate::protocol::scan::ScanReport;
 use crate::protocol::store::{NodeName, Reading, Refusal, Stamp};
 use judge::{Payload, Reply};
 
@@ -25,178 +22,6 @@ pub struct NextPhase<C: NodeName, P> {
     pub phase: Phase<C, P>,
     /// What the step did, as it is told to the caller.
     pub report: Move<P>,
-}
-
-impl<C: NodeName, P: Payload> Phase<C, P> {
-    /// The step leaves this one as the next, and its report. It is compiled into each step, and so are those that hand a phase on
-    /// to it: a phase is then made where it is to lie, and not copied there.
-    #[inline(always)]
-    fn leave(&mut self, next: Self, decided: bool, outcome: Outcome<P>) -> Move<P>
-        ensures { next_phase_of self.new result ≡ record { phase = next; report = record { decided = decided; skipped = false; outcome = outcome } } }
-    {
-        *self = next;
-        Move {
-            decided,
-            skipped: false,
-            outcome,
-        }
-    }
-
-    /// The call goes on.
-    #[inline(always)]
-    pub(crate) fn quiet(&mut self, next: Self) -> Move<P>
-        ensures { next_phase_of self.new result ≡ quiet next }
-    {
-        self.leave(next, false, Outcome::Running)
-    }
-
-    /// The call begins anew at the root.
-    pub(crate) fn again(&mut self, root: C) -> Move<P>
-        ensures { next_phase_of self.new result ≡ again root }
-    {
-        self.quiet(Phase::Version {
-            above: None,
-            node: root,
-        })
-    }
-
-    /// The call takes effect in this step, and ends with its reply.
-    pub(crate) fn answered(&mut self, reply: Reply<P>) -> Move<P>
-        ensures { next_phase_of self.new result ≡ answered reply }
-    {
-        self.leave(Phase::Ended, true, Outcome::Done(reply))
-    }
-
-    /// The call ends with the reply of a step before.
-    pub(crate) fn finished(&mut self, reply: Reply<P>) -> Move<P>
-        ensures { next_phase_of self.new result ≡ finished reply }
-    {
-        self.leave(Phase::Ended, false, Outcome::Done(reply))
-    }
-
-    /// The call ends without a reply.
-    pub(crate) fn refused(&mut self, refusal: Refusal) -> Move<P>
-        ensures { next_phase_of self.new result ≡ refused refusal }
-    {
-        self.leave(Phase::Ended, false, Outcome::Refused(refusal))
-    }
-
-    /// The call takes effect in this step, and goes on.
-    #[inline(always)]
-    pub(crate) fn decided(&mut self, next: Self) -> Move<P>
-        ensures { next_phase_of self.new result ≡ decided next }
-    {
-        self.leave(next, true, Outcome::Running)
-    }
-
-    /// The call goes on without a node that wasn't made.
-    pub(crate) fn skipping(&mut self, next: Self) -> Move<P>
-        ensures { next_phase_of self.new result ≡ skipping next }
-    {
-        let report = self.leave(next, false, Outcome::Running);
-        Move {
-            skipped: true,
-            ..report
-        }
-    }
-
-    /// The closure is asked, for this value or for an absent key.
-    #[inline(always)]
-    pub(crate) fn asking(&mut self, next: Self, value: Option<P>) -> Move<P>
-        ensures { next_phase_of self.new result ≡ asking next value }
-    {
-        self.leave(next, false, Outcome::Asks(value))
-    }
-}
-
-impl<P> ScanReport<P> {
-    /// The report of a scan's step.
-    pub(crate) fn report(self) -> Move<P>
-        ensures { result ≡ record { decided = false; skipped = false; outcome = outcome_of self } }
-    {
-        let outcome = match self {
-            ScanReport::Running => Outcome::Running,
-            ScanReport::Found { place, key, value } => Outcome::Found { place, key, value },
-            ScanReport::Done { count } => Outcome::Scanned { count },
-            ScanReport::Refused(refusal) => Outcome::Refused(refusal),
-        };
-        Move {
-            decided: false,
-            skipped: false,
-            outcome,
-        }
-    }
-}
-
-impl<P> Kind<P> {
-    /// Whether the call puts a value at an absent key.
-    pub(crate) fn adds(&self) -> bool
-        ensures { result ≡ adds self.now }
-    {
-        matches!(self, Kind::Insert | Kind::ComputeInsert)
-    }
-
-    /// Whether the closure is asked for an absent key.
-    fn asks_new(&self) -> bool
-        ensures { result ≡ asks_new self.now }
-    {
-        matches!(self, Kind::ComputeInsert)
-    }
-
-    /// The reply where the key is absent.
-    pub(crate) fn absent_reply(&self) -> Reply<P>
-        ensures { result ≡ absent_reply self.now }
-    {
-        match self {
-            Kind::Get => Reply::Get(None),
-            Kind::Insert => Reply::Insert(None),
-            Kind::Remove => Reply::Remove(None),
-            Kind::ComputePresent => Reply::ComputePresent(None),
-            Kind::ComputeInsert => Reply::ComputeInsert(None),
-            Kind::Exchange { .. } => Reply::Exchange(Err(None)),
-        }
-    }
-}
-
-impl NodeType {
-    /// The least form with a place for more than so many children.
-    pub(crate) fn above(count: u16) -> Self
-        ensures { result ≡ form_above count }
-    {
-        if count < 4 {
-            NodeType::N4
-        } else if count < 16 {
-            NodeType::N16
-        } else if count < 48 {
-            NodeType::N48
-        } else {
-            NodeType::N256
-        }
-    }
-
-    /// The form below.
-    pub(crate) fn below(self) -> Self
-        ensures { result ≡ form_below self }
-    {
-        match self {
-            NodeType::N4 => NodeType::N4,
-            NodeType::N16 => NodeType::N4,
-            NodeType::N48 => NodeType::N16,
-            NodeType::N256 => NodeType::N48,
-        }
-    }
-
-    /// Whether a node of the form with so many children gives way to a lesser one as it loses one.
-    pub(crate) fn shrinks(self, count: u16) -> bool
-        ensures { result ≡ shrinks self count }
-    {
-        match self {
-            NodeType::N4 => false,
-            NodeType::N16 => count <= 4,
-            NodeType::N48 => count <= 13,
-            NodeType::N256 => count <= 41,
-        }
-    }
 }
 
 impl<C: NodeName, P: Payload> Phase<C, P> {
@@ -282,7 +107,7 @@ impl<C: NodeName, P: Payload> Phase<C, P> {
         ensures { next_phase_of self.new result ≡ started plan reply }
     {
         match plan {
-            Plan::Here { check: None, one } => self.quiet(Phase::UpgradeOne { one, reply }),
+            Plan::Here { check: None, one } => self.quiet(Phase::UpgradeHere { one, reply }),
             Plan::Here {
                 check: Some(above),
                 one,
@@ -308,14 +133,14 @@ impl<C: NodeName, P: Payload> Phase<C, P> {
         kind: &Kind<P>,
         above: Parent<C>,
         at: Stamp<C>,
-        change: Double<C>,
+        change: Replacement<C>,
     ) -> Move<P>
         ensures { next_phase_of self.new result ≡ ready kind.now (plan.Above (record { top = None; above = above; at = at; change = change })) }
     {
         self.ready(
             kind,
             Plan::Above {
-                two: Two {
+                two: ParentChange {
                     top: None,
                     above,
                     at,
@@ -331,7 +156,7 @@ impl<C: NodeName, P: Payload> Phase<C, P> {
         kind: &Kind<P>,
         site: Site<C>,
         leaf: Option<C>,
-        change: Single<C>,
+        change: Placement<C>,
     ) -> Move<P>
         ensures { next_phase_of self.new result ≡ unless_full kind.now site site.full site.above leaf change }
     {
@@ -352,7 +177,7 @@ impl<C: NodeName, P: Payload> Phase<C, P> {
         if !kind.adds() {
             self.answered(kind.absent_reply())
         } else if site.depth == MAX_PREFIX_LEN {
-            self.unless_full(kind, site, None, Single::Set)
+            self.unless_full(kind, site, None, Placement::Set)
         } else {
             self.quiet(Phase::MakeLeaf { site })
         }
@@ -375,8 +200,8 @@ impl<C: NodeName, P: Payload> Phase<C, P> {
         if same {
             self.quiet(Phase::Confirm { at: site.at, reply })
         } else {
-            self.quiet(Phase::UpgradeOne {
-                one: site.one(Single::Set),
+            self.quiet(Phase::UpgradeHere {
+                one: site.one(Placement::Set),
                 reply,
             })
         }
@@ -384,20 +209,20 @@ impl<C: NodeName, P: Payload> Phase<C, P> {
 
     /// The value is taken out of the leaf.
     fn set_out(&mut self, site: Site<C>, reply: Reply<P>) -> Move<P>
-        ensures { next_phase_of self.new result ≡ quiet (phase.UpgradeOne (set_at site) reply) }
+        ensures { next_phase_of self.new result ≡ quiet (phase.UpgradeHere (set_at site) reply) }
     {
-        self.quiet(Phase::UpgradeOne {
-            one: site.one(Single::Set),
+        self.quiet(Phase::UpgradeHere {
+            one: site.one(Placement::Set),
             reply,
         })
     }
 
     /// The leaf is taken out of the node above.
     fn leaf_out(&mut self, site: Site<C>, above: Parent<C>, reply: Reply<P>) -> Move<P>
-        ensures { next_phase_of self.new result ≡ quiet (phase.UpgradeAbove (both above site double.Unlink) reply) }
+        ensures { next_phase_of self.new result ≡ quiet (phase.UpgradeAbove (both above site replacement.Unlink) reply) }
     {
         self.quiet(Phase::UpgradeAbove {
-            two: site.both(above, Double::Unlink),
+            two: site.both(above, Replacement::Unlink),
             reply,
         })
     }
@@ -418,7 +243,7 @@ impl<C: NodeName, P: Payload> Phase<C, P> {
                 if above.count == 2 {
                     self.quiet(Phase::UpgradeTop {
                         top,
-                        two: site.both(above, Double::Collapse),
+                        two: site.both(above, Replacement::Collapse),
                         reply,
                     })
                 } else if above.count > 2 && above.form.shrinks(above.count) {
@@ -580,15 +405,15 @@ impl<C: NodeName, P: Payload> Phase<C, P> {
     }
 
     /// The node above was changed.
-    pub(crate) fn after_change(&mut self, two: Two<C>, reply: Reply<P>) -> Move<P>
+    pub(crate) fn after_change(&mut self, two: ParentChange<C>, reply: Reply<P>) -> Move<P>
         ensures { next_phase_of self.new result ≡ after_change two reply two.change }
     {
         let above = two.parent();
-        let Two { at, change, .. } = two;
+        let ParentChange { at, change, .. } = two;
         let node = at.node;
         match change {
-            Double::Split { .. } => self.decided(Phase::UnlockBelow { node, above, reply }),
-            Double::Collapse | Double::ShrinkAbove { .. } => self.after_top(two, reply),
+            Replacement::Split { .. } => self.decided(Phase::UnlockBelow { node, above, reply }),
+            Replacement::Collapse | Replacement::ShrinkAbove { .. } => self.after_top(two, reply),
             // Otherwise the node at hand went.
             _ => self.decided(Phase::Obsolete {
                 node,
@@ -600,11 +425,11 @@ impl<C: NodeName, P: Payload> Phase<C, P> {
     }
 
     /// The node above both was changed: the node at hand and the node above go.
-    fn after_top(&mut self, two: Two<C>, reply: Reply<P>) -> Move<P>
+    fn after_top(&mut self, two: ParentChange<C>, reply: Reply<P>) -> Move<P>
         ensures { next_phase_of self.new result ≡ after_top two reply two.top }
     {
         let above = two.parent();
-        let Two { top, at, .. } = two;
+        let ParentChange { top, at, .. } = two;
         let node = at.node;
         match top {
             None => self.decided(Phase::Unlock { node: above, reply }),
@@ -678,15 +503,5 @@ impl<C: NodeName, P: Payload> Phase<C, P> {
             None => self.again(root),
             Some(refusal) => self.refused(refusal),
         }
-    }
-}
-
-/// What hangs where the call puts its value, or takes one out.
-pub(crate) fn value_child<C: NodeName, P: Payload>(new: Option<P>) -> Child<C, P>
-    ensures { hung C.number result ≡ value_hung new }
-{
-    match new {
-        None => Child::Blank,
-        Some(value) => Child::Value(value),
     }
 }

@@ -1,23 +1,25 @@
 //! The steps of a call that make, lock or change nodes, and those after its change.
-ghost use Rattle.std.specs.Prelude.{◌≡◌, ◌≢◌, ◌<◌, ◌≤◌, Bool, Option, None, Result, IfErr};
-ghost use Rattle.congee.specs.Heap.{Nothing, Below, Stands};
+ghost use Rattle.std.specs.Prelude.{◌≡◌, ◌<◌, ◌≤◌, Bool, Option, None, Result, IfErr};
+ghost use Rattle.congee.specs.Heap.{Stands};
 ghost use Rattle.congee.specs.Keys.{key_bytes};
-ghost use Rattle.congee.specs.protocol.Steps.{next_phase_of, form_above, decided, after_change, Acts, MayLock, IsReleasing, IsUnlocking, BackOne, BackTwo, MadeLeaf, MadeGreater, MadeTop, MadeBeside, MadeLesser, lesser_form, UpgradedOne, UpgradedTop, UpgradedAbove, UpgradedBelow, Collapses, PutsLesser, Lessens, MayLessen, MayTop, ChangedOne, ChangedTwo, IsCheckedAbove, MayBackOne, MayBackTwo, MayBackLeaf, MayChangeOne, MayChangeTwo, Changeable, Blank, PutsGreater, PutsFork, MachineStepped, MachineMayStep};
-ghost use Rattle.congee.specs.protocol.Events.{hung, upgrade_gives, HoldsAlike};
+ghost use Rattle.congee.specs.protocol.Steps.{next_phase_of, form_above, decided, after_change, Acts, MayLock, IsReleasing, IsUnlocking, MadeLeaf, MadeGreater, MadeTop, MadeBeside, MadeLesser, lesser_form, UpgradedHere, UpgradedTop, UpgradedAbove, UpgradedBelow, ChangedHere, ChangedAbove, IsCheckedAbove, MayBackHere, MayBackAbove, MayBackLeaf, MayChangeHere, MayChangeAbove, MachineStepped, MachineMayStep};
+ghost use Rattle.congee.specs.protocol.Events.{upgrade_gives};
 ghost use Rattle.congee.specs.declared.protocol.store.Upgrade.{Upgrade};
 ghost use Rattle.congee.specs.declared.protocol.store.Refusal.{Refusal};
 ghost use Rattle.congee.specs.declared.protocol.phase.Phase.TheVariants as phase;
-ghost use Rattle.congee.specs.declared.protocol.phase.Double.TheVariants as double;
 ghost use Rattle.congee.specs.declared.forms.base_node.NodeType.TheVariants as base;
 ghost use Rattle.congee.specs.protocol.Bounds.{Within};
 
 use crate::forms::base_node::NodeType;
 use crate::forms::child::Child;
 use crate::forms::prefix::MAX_PREFIX_LEN;
-use crate::keys::KEY_BYTES;
+use crate::protocol::changes::{
+    give_back_placement, give_back_replacement, put_replacement, value_child,
+};
 use crate::protocol::machine::{Machine, Move, Outcome};
-use crate::protocol::next_phase::value_child;
-use crate::protocol::phase::{Double, One, Parent, Phase, Single, Site, Two, taken};
+use crate::protocol::phase::{
+    NodeChange, Parent, ParentChange, Phase, Placement, Replacement, Site, taken,
+};
 use crate::protocol::store::{NodeName, Refusal, Stamp, Store, Upgrade};
 use judge::{Payload, Reply};
 
@@ -93,13 +95,13 @@ impl<C: NodeName, P: Payload> Machine<C, P> {
                 let (above, one, reply) = (*above, *one, taken(reply));
                 self.check_above(store, above, one, reply)
             }
-            Phase::UpgradeOne { one, reply } => {
+            Phase::UpgradeHere { one, reply } => {
                 let (one, reply) = (*one, taken(reply));
-                self.upgrade_one(store, one, reply, fail)
+                self.upgrade_here(store, one, reply, fail)
             }
-            Phase::ChangeOne { one, reply } => {
+            Phase::ChangeHere { one, reply } => {
                 let (one, reply) = (*one, taken(reply));
-                self.change_one(store, one, reply)
+                self.change_here(store, one, reply)
             }
             Phase::UpgradeTop { top, two, reply } => {
                 let (top, two, reply) = (*top, *two, taken(reply));
@@ -113,9 +115,9 @@ impl<C: NodeName, P: Payload> Machine<C, P> {
                 let (two, reply) = (*two, taken(reply));
                 self.upgrade_below(store, two, reply, fail)
             }
-            Phase::ChangeTwo { two, reply } => {
+            Phase::ChangeAbove { two, reply } => {
                 let (two, reply) = (*two, taken(reply));
-                self.change_two(store, two, reply)
+                self.change_above(store, two, reply)
             }
             // The phases after the change: each has its arm there.
             _ => self.leave(store),
@@ -213,7 +215,7 @@ impl<C: NodeName, P: Payload> Machine<C, P> {
             Err(refusal) => self.phase.refused(refusal),
             Ok(leaf) => self
                 .phase
-                .unless_full(&self.kind, site, Some(leaf), Single::Link { leaf }),
+                .unless_full(&self.kind, site, Some(leaf), Placement::Link { leaf }),
         }
     }
 
@@ -296,7 +298,7 @@ impl<C: NodeName, P: Payload> Machine<C, P> {
                 self.phase.refused(refusal)
             }
             Ok(leaf) => {
-                let change = Double::Split {
+                let change = Replacement::Split {
                     top,
                     leaf,
                     common,
@@ -327,23 +329,23 @@ impl<C: NodeName, P: Payload> Machine<C, P> {
         let key = self.key.to_be_bytes();
         match top {
             None => match store.make(site.form.below(), &key, site.depth) {
-                Err(_) => self.phase.skipping(Phase::UpgradeOne {
-                    one: site.one(Single::Set),
+                Err(_) => self.phase.skipping(Phase::UpgradeHere {
+                    one: site.one(Placement::Set),
                     reply,
                 }),
                 Ok(node) => self.phase.quiet(Phase::UpgradeAbove {
-                    two: site.both(above, Double::Shrink { node }),
+                    two: site.both(above, Replacement::Shrink { node }),
                     reply,
                 }),
             },
             Some(top) => match store.make(above.form.below(), &key, above.depth) {
                 Err(_) => self.phase.skipping(Phase::UpgradeAbove {
-                    two: site.both(above, Double::Unlink),
+                    two: site.both(above, Replacement::Unlink),
                     reply,
                 }),
                 Ok(node) => self.phase.quiet(Phase::UpgradeTop {
                     top,
-                    two: site.both(above, Double::ShrinkAbove { node }),
+                    two: site.both(above, Replacement::ShrinkAbove { node }),
                     reply,
                 }),
             },
@@ -355,45 +357,45 @@ impl<C: NodeName, P: Payload> Machine<C, P> {
         &mut self,
         store: &mut S,
         above: Stamp<C>,
-        one: One<C>,
+        one: NodeChange<C>,
         reply: Reply<P>,
     ) -> Move<P>
         requires stands { Stands (S.heap store.old (C.number above.node)) }
-        requires made { MayBackOne C.number (S.heap store.old) one.change }
+        requires made { MayBackHere C.number (S.heap store.old) one.change }
         ensures phase_alone { self.new ≡ record self.old { phase = self.new.phase } }
         ensures limit { S.version_max store.new ≡ S.version_max store.old }
         ensures rest { S.rest store.new ≡ S.rest store.old }
         ensures checked { IsCheckedAbove C.number self.old.root above one reply (S.heap store.old) (S.heap store.new) (next_phase_of self.new.phase result) }
     {
         if store.check(above) {
-            self.phase.quiet(Phase::UpgradeOne { one, reply })
+            self.phase.quiet(Phase::UpgradeHere { one, reply })
         } else {
-            give_back_one(store, one.change, reply);
+            give_back_placement(store, one.change, reply);
             self.phase.again(self.root)
         }
     }
 
     /// Locks the one node that the call changes.
-    fn upgrade_one<S: Store<C, P>>(
+    fn upgrade_here<S: Store<C, P>>(
         &mut self,
         store: &mut S,
-        one: One<C>,
+        one: NodeChange<C>,
         reply: Reply<P>,
         fail: bool,
     ) -> Move<P>
         requires stands { Stands (S.heap store.old (C.number one.at.node)) }
-        requires made { MayBackOne C.number (S.heap store.old) one.change }
+        requires made { MayBackHere C.number (S.heap store.old) one.change }
         ensures phase_alone { self.new ≡ record self.old { phase = self.new.phase } }
         ensures limit { S.version_max store.new ≡ S.version_max store.old }
         ensures rest { S.rest store.new ≡ S.rest store.old }
-        ensures upgraded { ((u : Upgrade) × (u ≡ upgrade_gives (S.version_max store.old) (S.heap store.old (C.number one.at.node)) one.at.version fail) × UpgradedOne C.number self.old.root one reply (S.heap store.old) u (S.heap store.new) (next_phase_of self.new.phase result)) }
+        ensures upgraded { ((u : Upgrade) × (u ≡ upgrade_gives (S.version_max store.old) (S.heap store.old (C.number one.at.node)) one.at.version fail) × UpgradedHere C.number self.old.root one reply (S.heap store.old) u (S.heap store.new) (next_phase_of self.new.phase result)) }
     {
         let refusal = match store.upgrade(one.at, fail) {
-            Upgrade::Locked => return self.phase.quiet(Phase::ChangeOne { one, reply }),
+            Upgrade::Locked => return self.phase.quiet(Phase::ChangeHere { one, reply }),
             Upgrade::Failed => None,
             Upgrade::Exhausted => Some(Refusal::Exhausted),
         };
-        give_back_one(store, one.change, reply);
+        give_back_placement(store, one.change, reply);
         self.phase.unwound(self.root, refusal)
     }
 
@@ -402,12 +404,12 @@ impl<C: NodeName, P: Payload> Machine<C, P> {
         &mut self,
         store: &mut S,
         top: Parent<C>,
-        two: Two<C>,
+        two: ParentChange<C>,
         reply: Reply<P>,
         fail: bool,
     ) -> Move<P>
         requires stands { Stands (S.heap store.old (C.number top.stamp.node)) }
-        requires made { MayBackTwo C.number (S.heap store.old) two.change }
+        requires made { MayBackAbove C.number (S.heap store.old) two.change }
         ensures phase_alone { self.new ≡ record self.old { phase = self.new.phase } }
         ensures limit { S.version_max store.new ≡ S.version_max store.old }
         ensures rest { S.rest store.new ≡ S.rest store.old }
@@ -415,7 +417,7 @@ impl<C: NodeName, P: Payload> Machine<C, P> {
     {
         let refusal = match store.upgrade(top.stamp, fail) {
             Upgrade::Locked => {
-                let two = Two {
+                let two = ParentChange {
                     top: Some(top),
                     ..two
                 };
@@ -424,7 +426,7 @@ impl<C: NodeName, P: Payload> Machine<C, P> {
             Upgrade::Failed => None,
             Upgrade::Exhausted => Some(Refusal::Exhausted),
         };
-        give_back_two(store, two.change, reply);
+        give_back_replacement(store, two.change, reply);
         self.phase.unwound(self.root, refusal)
     }
 
@@ -432,12 +434,12 @@ impl<C: NodeName, P: Payload> Machine<C, P> {
     fn upgrade_above<S: Store<C, P>>(
         &mut self,
         store: &mut S,
-        two: Two<C>,
+        two: ParentChange<C>,
         reply: Reply<P>,
         fail: bool,
     ) -> Move<P>
         requires stands { Stands (S.heap store.old (C.number two.above.stamp.node)) }
-        requires made { MayBackTwo C.number (S.heap store.old) two.change }
+        requires made { MayBackAbove C.number (S.heap store.old) two.change }
         ensures phase_alone { self.new ≡ record self.old { phase = self.new.phase } }
         ensures limit { S.version_max store.new ≡ S.version_max store.old }
         ensures rest { S.rest store.new ≡ S.rest store.old }
@@ -448,7 +450,7 @@ impl<C: NodeName, P: Payload> Machine<C, P> {
             Upgrade::Failed => None,
             Upgrade::Exhausted => Some(Refusal::Exhausted),
         };
-        give_back_two(store, two.change, reply);
+        give_back_replacement(store, two.change, reply);
         let top = two.top;
         self.phase.given_up(self.root, top, refusal)
     }
@@ -457,12 +459,12 @@ impl<C: NodeName, P: Payload> Machine<C, P> {
     fn upgrade_below<S: Store<C, P>>(
         &mut self,
         store: &mut S,
-        two: Two<C>,
+        two: ParentChange<C>,
         reply: Reply<P>,
         fail: bool,
     ) -> Move<P>
         requires stands { Stands (S.heap store.old (C.number two.at.node)) }
-        requires made { MayBackTwo C.number (S.heap store.old) two.change }
+        requires made { MayBackAbove C.number (S.heap store.old) two.change }
         ensures phase_alone { self.new ≡ record self.old { phase = self.new.phase } }
         ensures limit { S.version_max store.new ≡ S.version_max store.old }
         ensures rest { S.rest store.new ≡ S.rest store.old }
@@ -471,11 +473,11 @@ impl<C: NodeName, P: Payload> Machine<C, P> {
         let node = two.parent();
         let next = two.top_node();
         let refusal = match store.upgrade(two.at, fail) {
-            Upgrade::Locked => return self.phase.quiet(Phase::ChangeTwo { two, reply }),
+            Upgrade::Locked => return self.phase.quiet(Phase::ChangeAbove { two, reply }),
             Upgrade::Failed => None,
             Upgrade::Exhausted => Some(Refusal::Exhausted),
         };
-        give_back_two(store, two.change, reply);
+        give_back_replacement(store, two.change, reply);
         self.phase.quiet(Phase::Unwind {
             node,
             next,
@@ -484,23 +486,28 @@ impl<C: NodeName, P: Payload> Machine<C, P> {
     }
 
     /// Changes the one locked node, a new leaf being filled before: the call takes effect.
-    fn change_one<S: Store<C, P>>(&mut self, store: &mut S, one: One<C>, reply: Reply<P>) -> Move<P>
-        requires { MayChangeOne C.number self.old.given one one.change (S.heap store.old) }
+    fn change_here<S: Store<C, P>>(
+        &mut self,
+        store: &mut S,
+        one: NodeChange<C>,
+        reply: Reply<P>,
+    ) -> Move<P>
+        requires { MayChangeHere C.number self.old.given one one.change (S.heap store.old) }
         ensures root { self.new.root ≡ self.old.root }
         ensures key { self.new.key ≡ self.old.key }
         ensures kind { self.new.kind ≡ self.old.kind }
         ensures spent { self.new.given ≡ None }
         ensures limit { S.version_max store.new ≡ S.version_max store.old }
         ensures rest { S.rest store.new ≡ S.rest store.old }
-        ensures changed { ChangedOne C.number (key_bytes self.old.key) self.old.given one one.change (S.heap store.old) (S.heap store.new) }
+        ensures changed { ChangedHere C.number (key_bytes self.old.key) self.old.given one one.change (S.heap store.old) (S.heap store.new) }
         ensures next_phase { next_phase_of self.new.phase result ≡ decided (phase.Unlock one.at.node reply) }
     {
         let value = value_child(self.given.take());
-        let One { at, byte, change } = one;
+        let NodeChange { at, byte, change } = one;
         let node = at.node;
         match change {
-            Single::Set => store.change(node, byte, value),
-            Single::Link { leaf } => {
+            Placement::Set => store.change(node, byte, value),
+            Placement::Link { leaf } => {
                 store.fill(leaf, self.key.to_be_bytes()[MAX_PREFIX_LEN], value);
                 store.change(node, byte, Child::Node(leaf));
             }
@@ -509,230 +516,23 @@ impl<C: NodeName, P: Payload> Machine<C, P> {
     }
 
     /// Changes the node above, or the one above both, with all of them locked: the call takes effect.
-    fn change_two<S: Store<C, P>>(&mut self, store: &mut S, two: Two<C>, reply: Reply<P>) -> Move<P>
-        requires { MayChangeTwo C.number (key_bytes self.old.key) self.old.given two two.change (S.heap store.old) }
+    fn change_above<S: Store<C, P>>(
+        &mut self,
+        store: &mut S,
+        two: ParentChange<C>,
+        reply: Reply<P>,
+    ) -> Move<P>
+        requires { MayChangeAbove C.number (key_bytes self.old.key) self.old.given two two.change (S.heap store.old) }
         ensures root { self.new.root ≡ self.old.root }
         ensures key { self.new.key ≡ self.old.key }
         ensures kind { self.new.kind ≡ self.old.kind }
         ensures spent { self.new.given ≡ None }
         ensures limit { S.version_max store.new ≡ S.version_max store.old }
         ensures rest { S.rest store.new ≡ S.rest store.old }
-        ensures changed { ChangedTwo C.number (key_bytes self.old.key) self.old.given two two.change (S.heap store.old) (S.heap store.new) }
+        ensures changed { ChangedAbove C.number (key_bytes self.old.key) self.old.given two two.change (S.heap store.old) (S.heap store.new) }
         ensures next_phase { next_phase_of self.new.phase result ≡ after_change two reply two.change }
     {
-        put_two(store, two, &self.key.to_be_bytes(), self.given.take());
+        put_replacement(store, two, &self.key.to_be_bytes(), self.given.take());
         self.phase.after_change(two, reply)
-    }
-}
-
-/// Changes the node above, or the one above both, and before it the new nodes.
-fn put_two<C: NodeName, P: Payload, S: Store<C, P>>(
-    store: &mut S,
-    two: Two<C>,
-    key: &[u8; KEY_BYTES],
-    new: Option<P>,
-)
-    requires { MayChangeTwo C.number key.now new two two.change (S.heap store.old) }
-    ensures limit { S.version_max store.new ≡ S.version_max store.old }
-    ensures rest { S.rest store.new ≡ S.rest store.old }
-    ensures changed { ChangedTwo C.number key.now new two two.change (S.heap store.old) (S.heap store.new) }
-{
-    let value = value_child(new);
-    let change = two.change;
-    match change {
-        Double::Unlink => store.change(two.parent(), two.above.byte, Child::Blank),
-        Double::Shrink { node: lesser } => shrink(store, two, lesser, key[MAX_PREFIX_LEN]),
-        Double::Collapse => lift(store, two),
-        Double::ShrinkAbove { node: lesser } => lessen(store, two, lesser),
-        Double::Grow { node: greater } => put_greater(
-            store,
-            two,
-            greater,
-            key[MAX_PREFIX_LEN],
-            value,
-        ),
-        Double::GrowLink {
-            node: greater,
-            leaf,
-            byte,
-        } => {
-            store.fill(leaf, key[MAX_PREFIX_LEN], value);
-            put_greater(store, two, greater, byte, Child::Node(leaf));
-        }
-        Double::Split {
-            top,
-            leaf,
-            common,
-            byte,
-        } => {
-            store.fill(leaf, key[MAX_PREFIX_LEN], value);
-            put_fork(store, two, top, byte, key[common], leaf);
-        }
-    }
-}
-
-/// Puts a lesser node, without the child at the byte, in the place of another one, which hangs in a locked node.
-fn put_lesser<C: NodeName, P: Payload, S: Store<C, P>>(
-    store: &mut S,
-    old: C,
-    lesser: C,
-    byte: u8,
-    above: C,
-    up: u8,
-)
-    requires { MayLessen (S.heap store.old) (C.number old) (C.number lesser) byte (C.number above) up }
-    ensures limit { S.version_max store.new ≡ S.version_max store.old }
-    ensures rest { S.rest store.new ≡ S.rest store.old }
-    ensures put { PutsLesser (S.heap store.old) (C.number old) (C.number lesser) byte (C.number above) up (S.heap store.new) }
-{
-    store.take_over(old, lesser);
-    store.fill(lesser, byte, Child::Blank);
-    store.change(above, up, Child::Node(lesser));
-}
-
-/// Puts a lesser leaf, without the value at the byte, in the place of the one at hand.
-fn shrink<C: NodeName, P: Payload, S: Store<C, P>>(store: &mut S, two: Two<C>, lesser: C, byte: u8)
-    requires { MayLessen (S.heap store.old) (C.number two.at.node) (C.number lesser) byte (C.number two.above.stamp.node) two.above.byte }
-    ensures limit { S.version_max store.new ≡ S.version_max store.old }
-    ensures rest { S.rest store.new ≡ S.rest store.old }
-    ensures put { PutsLesser (S.heap store.old) (C.number two.at.node) (C.number lesser) byte (C.number two.above.stamp.node) two.above.byte (S.heap store.new) }
-{
-    let Two { above, at, .. } = two;
-    put_lesser(store, at.node, lesser, byte, above.stamp.node, above.byte);
-}
-
-/// Puts the other child of the node above in its place, in the node above both.
-fn lift<C: NodeName, P: Payload, S: Store<C, P>>(store: &mut S, two: Two<C>)
-    requires { MayTop C.number two double.Collapse two.top (S.heap store.old) }
-    ensures limit { S.version_max store.new ≡ S.version_max store.old }
-    ensures rest { S.rest store.new ≡ S.rest store.old }
-    ensures put { Collapses C.number two two.top (S.heap store.old) (S.heap store.new) }
-{
-    let Two { top, above, .. } = two;
-    match top {
-        None => unreachable!(),
-        Some(top) => {
-            let other = store.other(above.stamp.node, above.byte);
-            store.change(top.stamp.node, top.byte, Child::Node(other));
-        }
-    }
-}
-
-/// Puts a lesser node, without the leaf, in the place of the node above, in the node above both.
-fn lessen<C: NodeName, P: Payload, S: Store<C, P>>(store: &mut S, two: Two<C>, lesser: C)
-    requires { MayTop C.number two (double.ShrinkAbove lesser) two.top (S.heap store.old) }
-    ensures limit { S.version_max store.new ≡ S.version_max store.old }
-    ensures rest { S.rest store.new ≡ S.rest store.old }
-    ensures put { Lessens C.number two lesser two.top (S.heap store.old) (S.heap store.new) }
-{
-    let Two { top, above, .. } = two;
-    match top {
-        None => unreachable!(),
-        Some(top) => put_lesser(
-            store,
-            above.stamp.node,
-            lesser,
-            above.byte,
-            top.stamp.node,
-            top.byte,
-        ),
-    }
-}
-
-/// Puts a greater node, with one more child, in the place of the node at hand.
-fn put_greater<C: NodeName, P: Payload, S: Store<C, P>>(
-    store: &mut S,
-    two: Two<C>,
-    greater: C,
-    byte: u8,
-    child: Child<C, P>,
-)
-    requires above { Changeable (S.heap store.old (C.number two.above.stamp.node)) two.above.byte (Below (C.number greater)) }
-    requires stands { Stands (S.heap store.old (C.number two.at.node)) }
-    requires blank { Blank (S.heap store.old (C.number greater)) (S.heap store.old (C.number two.at.node)).count }
-    requires beside_above { C.number two.above.stamp.node ≢ C.number greater }
-    requires beside { C.number two.at.node ≢ C.number greater }
-    requires apart { C.number two.above.stamp.node ≢ C.number two.at.node }
-    requires hangs { hung C.number child ≢ Nothing }
-    requires alike { HoldsAlike (S.heap store.old (C.number two.at.node)) }
-    ensures limit { S.version_max store.new ≡ S.version_max store.old }
-    ensures rest { S.rest store.new ≡ S.rest store.old }
-    ensures put { PutsGreater C.number two greater byte (hung C.number child) (S.heap store.old) (S.heap store.new) }
-{
-    let parent = two.parent();
-    let Two { above, at, .. } = two;
-    store.take_over(at.node, greater);
-    store.fill(greater, byte, child);
-    store.change(parent, above.byte, Child::Node(greater));
-}
-
-/// Puts a node above the one at hand and a new leaf in its place.
-fn put_fork<C: NodeName, P: Payload, S: Store<C, P>>(
-    store: &mut S,
-    two: Two<C>,
-    top: C,
-    byte: u8,
-    new_byte: u8,
-    leaf: C,
-)
-    requires above { Changeable (S.heap store.old (C.number two.above.stamp.node)) two.above.byte (Below (C.number top)) }
-    requires blank { Blank (S.heap store.old (C.number top)) 1 }
-    requires bytes { byte ≢ new_byte }
-    requires apart { C.number two.above.stamp.node ≢ C.number top }
-    ensures limit { S.version_max store.new ≡ S.version_max store.old }
-    ensures rest { S.rest store.new ≡ S.rest store.old }
-    ensures put { PutsFork C.number two top byte new_byte leaf (S.heap store.old) (S.heap store.new) }
-{
-    let parent = two.parent();
-    let Two { above, at, .. } = two;
-    store.fill(top, byte, Child::Node(at.node));
-    store.fill(top, new_byte, Child::Node(leaf));
-    store.change(parent, above.byte, Child::Node(top));
-}
-
-/// Gives up the change of one node: the node that was made for it goes back, and the reply is dropped.
-fn give_back_one<C: NodeName, P: Payload, S: Store<C, P>>(
-    store: &mut S,
-    change: Single<C>,
-    reply: Reply<P>,
-)
-    requires { MayBackOne C.number (S.heap store.old) change }
-    ensures limit { S.version_max store.new ≡ S.version_max store.old }
-    ensures rest { S.rest store.new ≡ S.rest store.old }
-    ensures back { BackOne C.number (S.heap store.old) change (S.heap store.new) }
-{
-    drop(reply);
-    match change {
-        Single::Set => {}
-        Single::Link { leaf } => store.give_back(leaf),
-    }
-}
-
-/// Gives up the change of the node above: the nodes that were made for it go back, and the reply is dropped.
-fn give_back_two<C: NodeName, P: Payload, S: Store<C, P>>(
-    store: &mut S,
-    change: Double<C>,
-    reply: Reply<P>,
-)
-    requires { MayBackTwo C.number (S.heap store.old) change }
-    ensures limit { S.version_max store.new ≡ S.version_max store.old }
-    ensures rest { S.rest store.new ≡ S.rest store.old }
-    ensures back { BackTwo C.number (S.heap store.old) change (S.heap store.new) }
-{
-    drop(reply);
-    match change {
-        Double::Unlink => {}
-        Double::Shrink { node } => store.give_back(node),
-        Double::Collapse => {}
-        Double::ShrinkAbove { node } => store.give_back(node),
-        Double::Grow { node } => store.give_back(node),
-        Double::GrowLink { node, leaf, .. } => {
-            store.give_back(leaf);
-            store.give_back(node);
-        }
-        Double::Split { top, leaf, .. } => {
-            store.give_back(leaf);
-            store.give_back(top);
-        }
     }
 }

@@ -1,7 +1,7 @@
 //! Where a call stands between two of its steps.
 
 ghost use Rattle.std.specs.Prelude.{◌≡◌};
-ghost use Rattle.congee.specs.protocol.Steps.{plan_here, greater, here_of, near_of, set_at, both, node_of};
+ghost use Rattle.congee.specs.protocol.Steps.{adds, asks_new, absent_reply, plan_here, greater, here_of, near_of, set_at, both, node_of};
 
 use crate::forms::base_node::NodeType;
 use crate::forms::child::Child;
@@ -25,6 +25,36 @@ pub enum Kind<P> {
     ComputeInsert,
     /// Where it has the old value, puts another one there, or takes it out.
     Exchange { old: P },
+}
+
+impl<P> Kind<P> {
+    /// Whether the call puts a value at an absent key.
+    pub(crate) fn adds(&self) -> bool
+        ensures { result ≡ adds self.now }
+    {
+        matches!(self, Kind::Insert | Kind::ComputeInsert)
+    }
+
+    /// Whether the closure is asked for an absent key.
+    pub(crate) fn asks_new(&self) -> bool
+        ensures { result ≡ asks_new self.now }
+    {
+        matches!(self, Kind::ComputeInsert)
+    }
+
+    /// The reply where the key is absent.
+    pub(crate) fn absent_reply(&self) -> Reply<P>
+        ensures { result ≡ absent_reply self.now }
+    {
+        match self {
+            Kind::Get => Reply::Get(None),
+            Kind::Insert => Reply::Insert(None),
+            Kind::Remove => Reply::Remove(None),
+            Kind::ComputePresent => Reply::ComputePresent(None),
+            Kind::ComputeInsert => Reply::ComputeInsert(None),
+            Kind::Exchange { .. } => Reply::Exchange(Err(None)),
+        }
+    }
 }
 
 /// A node above the one at hand as it was read, and the byte at which the next one on the way hangs in it.
@@ -72,7 +102,7 @@ pub struct Site<C: NodeName> {
 
 /// What the change of one locked node puts at the key's byte there.
 #[derive(Clone, Copy)]
-pub enum Single<C: NodeName> {
+pub enum Placement<C: NodeName> {
     /// The call's new value, or nothing.
     Set,
     /// A new leaf with the value.
@@ -81,18 +111,18 @@ pub enum Single<C: NodeName> {
 
 /// A change of one node.
 #[derive(Clone, Copy)]
-pub struct One<C: NodeName> {
+pub struct NodeChange<C: NodeName> {
     /// The node.
     pub at: Stamp<C>,
     /// The key's byte there.
     pub byte: u8,
     /// What comes there.
-    pub change: Single<C>,
+    pub change: Placement<C>,
 }
 
 /// What the change of the node above puts in place of the node at hand, with both locked.
 #[derive(Clone, Copy)]
-pub enum Double<C: NodeName> {
+pub enum Replacement<C: NodeName> {
     /// Nothing: the leaf has no other value.
     Unlink,
     /// A greater leaf with the value.
@@ -127,7 +157,7 @@ pub enum Double<C: NodeName> {
 
 /// A change of the node above, or of the one above that.
 #[derive(Clone, Copy)]
-pub struct Two<C: NodeName> {
+pub struct ParentChange<C: NodeName> {
     /// The node above both, where the call has locked it.
     pub top: Option<Parent<C>>,
     /// The node above.
@@ -135,7 +165,7 @@ pub struct Two<C: NodeName> {
     /// The node at hand.
     pub at: Stamp<C>,
     /// What comes in its place.
-    pub change: Double<C>,
+    pub change: Replacement<C>,
 }
 
 /// What an insertion that found its key absent will do, its nodes made.
@@ -144,11 +174,11 @@ pub enum Plan<C: NodeName> {
     /// Changes one node; the node above is checked first, where there is one.
     Here {
         check: Option<Stamp<C>>,
-        one: One<C>,
+        one: NodeChange<C>,
     },
     /// Changes the node above.
     Above {
-        two: Two<C>,
+        two: ParentChange<C>,
     },
 }
 
@@ -244,38 +274,38 @@ pub enum Phase<C: NodeName, P> {
     /// Checks the node above before one node is changed.
     CheckAbove {
         above: Stamp<C>,
-        one: One<C>,
+        one: NodeChange<C>,
         reply: Reply<P>,
     },
     /// Locks the one node.
-    UpgradeOne {
-        one: One<C>,
+    UpgradeHere {
+        one: NodeChange<C>,
         reply: Reply<P>,
     },
     /// Changes the one node.
-    ChangeOne {
-        one: One<C>,
+    ChangeHere {
+        one: NodeChange<C>,
         reply: Reply<P>,
     },
     /// Locks the node above both, the first of three.
     UpgradeTop {
         top: Parent<C>,
-        two: Two<C>,
+        two: ParentChange<C>,
         reply: Reply<P>,
     },
     /// Locks the node above.
     UpgradeAbove {
-        two: Two<C>,
+        two: ParentChange<C>,
         reply: Reply<P>,
     },
     /// Locks the node at hand, the node above being locked.
     UpgradeBelow {
-        two: Two<C>,
+        two: ParentChange<C>,
         reply: Reply<P>,
     },
     /// Changes the node above, with both locked.
-    ChangeTwo {
-        two: Two<C>,
+    ChangeAbove {
+        two: ParentChange<C>,
         reply: Reply<P>,
     },
     /// Marks the node that was taken out.
@@ -319,10 +349,10 @@ pub enum Phase<C: NodeName, P> {
 
 impl<C: NodeName> Site<C> {
     /// A change of the node.
-    pub(crate) fn one(self, change: Single<C>) -> One<C>
+    pub(crate) fn one(self, change: Placement<C>) -> NodeChange<C>
         ensures { result ≡ record { at = self.at; byte = self.byte; change = change } }
     {
-        One {
+        NodeChange {
             at: self.at,
             byte: self.byte,
             change,
@@ -330,7 +360,7 @@ impl<C: NodeName> Site<C> {
     }
 
     /// A change of the node, after a check of the one above.
-    pub(crate) fn plan(self, change: Single<C>) -> Plan<C>
+    pub(crate) fn plan(self, change: Placement<C>) -> Plan<C>
         ensures { result ≡ plan_here self change }
     {
         let above = self.above;
@@ -358,10 +388,10 @@ impl<C: NodeName> Site<C> {
     }
 
     /// A change of the node above.
-    pub(crate) fn both(self, above: Parent<C>, change: Double<C>) -> Two<C>
+    pub(crate) fn both(self, above: Parent<C>, change: Replacement<C>) -> ParentChange<C>
         ensures { result ≡ both above self change }
     {
-        Two {
+        ParentChange {
             top: None,
             above,
             at: self.at,
@@ -370,12 +400,12 @@ impl<C: NodeName> Site<C> {
     }
 
     /// The change by a greater node, with a new leaf where one was made.
-    pub(crate) fn greater(self, leaf: Option<C>, node: C) -> Double<C>
+    pub(crate) fn greater(self, leaf: Option<C>, node: C) -> Replacement<C>
         ensures { result ≡ greater self leaf node }
     {
         match leaf {
-            None => Double::Grow { node },
-            Some(leaf) => Double::GrowLink {
+            None => Replacement::Grow { node },
+            Some(leaf) => Replacement::GrowLink {
                 node,
                 leaf,
                 byte: self.byte,
@@ -384,7 +414,7 @@ impl<C: NodeName> Site<C> {
     }
 }
 
-impl<C: NodeName> Two<C> {
+impl<C: NodeName> ParentChange<C> {
     /// The node above.
     pub(crate) fn parent(&self) -> C
         ensures { result ≡ self.now.above.stamp.node }

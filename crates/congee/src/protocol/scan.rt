@@ -27,19 +27,19 @@ pub struct Rung<C: NodeName> {
 pub struct Path<C: NodeName> {
     /// The root, where it is taken.
     pub first: Rung<C>,
-    /// The next place.
+    /// The node below the root, where there is one.
     pub second: Rung<C>,
-    /// The next place.
+    /// The node so many levels below the root: two.
     pub third: Rung<C>,
-    /// The next place.
+    /// The node so many levels below the root: three.
     pub fourth: Rung<C>,
-    /// The next place.
+    /// The node so many levels below the root: four.
     pub fifth: Rung<C>,
-    /// The next place.
+    /// The node so many levels below the root: five.
     pub sixth: Rung<C>,
-    /// The next place.
+    /// The node so many levels below the root: six.
     pub seventh: Rung<C>,
-    /// The next place.
+    /// The node so many levels below the root: seven.
     pub eighth: Rung<C>,
     /// How many of the places are taken.
     pub len: usize,

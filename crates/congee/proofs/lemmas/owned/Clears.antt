@@ -28,7 +28,8 @@ wide_form N48 e = absurd (omega (arith, e))
 wide_form N256 e = refl
 
 module _ {P : Type 0} where
-  root_form : (s : Nodes P) (x : Form ℕ P) → IsTree s → get s 0 ≡ Some x → form_of x ≡ N256
+  -- the root has the greatest form
+  pub root_form : (s : Nodes P) (x : Form ℕ P) → IsTree s → get s 0 ≡ Some x → form_of x ≡ N256
   root_form s x t e = wide_form (form_of x) (sym (ap (λ o. (node_of o).capacity) e) ∙ t.wide)
 
   -- what stands where the root is alone

@@ -63,7 +63,8 @@ module _ {P A K : Type 0} (same : P → P → Bool) (charged limit : A → ℕ) 
   pub insert_told : (before : Option P) (v : P) (wants : Option (List ℕ)) → Adds charged limit old new key before v wants → Told (call.Insert k v) (reply.Insert before)
   insert_told before v wants a = told (call.Insert k v) (reply.Insert before) (answered_insert same old.nodes new.nodes k small before v (at_key before (Some v) a.edits.change))
 
-  compute_told : (before : Option P) (v : P) (wants : Option (List ℕ)) → Adds charged limit old new key before v wants → Told (call.ComputeInsert k v) (reply.ComputeInsert before)
+  -- and what a closure answered, so
+  pub compute_told : (before : Option P) (v : P) (wants : Option (List ℕ)) → Adds charged limit old new key before v wants → Told (call.ComputeInsert k v) (reply.ComputeInsert before)
   compute_told before v wants a = told (call.ComputeInsert k v) (reply.ComputeInsert before) (answered_compute same old.nodes new.nodes k small before v (at_key before (Some v) a.edits.change))
 
   -- a removal on the arena is the one on its pairs

@@ -83,7 +83,7 @@ sizes_append (x ∷ xs) ys = let r = sizes_append xs ys in omega (arith, r)
 
 module _ {P : Type 0} where
   -- what a function gives for the node that hangs at a byte
-  abbrev of_hung : (ℕ → ℕ) → Hung P → ℕ
+  abbrev pub of_hung : (ℕ → ℕ) → Hung P → ℕ
   of_hung g Nothing = 0
   of_hung g (Below c) = g c
   of_hung g (Holds v) = 0
@@ -91,10 +91,10 @@ module _ {P : Type 0} where
   same_below : (a b : ℕ) → ◌≡◌ {A = Hung P} (Below a) (Below b) → a ≡ b
   same_below a b e = ap (of_hung (λ c. c)) e
 
-  -- a node with those below it, over so many levels
-  pub weigh : (ℕ → Option (Form ℕ P)) → ℕ → ℕ → ℕ
-  weigh s zero n = 0
-  weigh s (suc f) n = bytes_at (s n) + total (λ b. of_hung (λ c. weigh s f c) ((node_of (s n)).children b)) 256
+  -- what a function gives for a node and those below it, over so many levels
+  unfoldable pub weigh : (Option (Form ℕ P) → ℕ) → (ℕ → Option (Form ℕ P)) → ℕ → ℕ → ℕ
+  weigh g s zero n = 0
+  weigh g s (suc f) n = g (s n) + total (λ b. of_hung (λ c. weigh g s f c) ((node_of (s n)).children b)) 256
 
   sizes_under : (go : ℕ → List Shape) (g : ℕ → ℕ) (children : ℕ → Hung P) (n : ℕ) → ((c : ℕ) → sizes_of (go c) ≡ g c)
       → sizes_of (under_bytes go children n) ≡ total (λ b. of_hung g (children b)) n
@@ -117,10 +117,10 @@ module _ {P : Type 0} where
   sizes_with go g level (Some x) e = ap (λ n. size_of (form_of x) + n) (sizes_under go g (λ b. hung_in (map.get (children_of x) b)) 256 e)
 
   -- the sizes of the nodes from one down
-  sizes_from : (s : ℕ → Option (Form ℕ P)) (f level n : ℕ) → sizes_of (nodes_from s f level n) ≡ weigh s f n
+  sizes_from : (s : ℕ → Option (Form ℕ P)) (f level n : ℕ) → sizes_of (nodes_from s f level n) ≡ weigh bytes_at s f n
   unfolding nodes_from weigh
   sizes_from s zero level n = refl
-  sizes_from s (suc f) level n = sizes_with (λ c. nodes_from s f (level + 1) c) (λ c. weigh s f c) level (s n) (λ c. sizes_from s f (level + 1) c)
+  sizes_from s (suc f) level n = sizes_with (λ c. nodes_from s f (level + 1) c) (λ c. weigh bytes_at s f c) level (s n) (λ c. sizes_from s f (level + 1) c)
 
   -- what a function gives for the node at a byte, if it is this one
   abbrev at_hung : Hung P → ℕ → ℕ → ℕ
@@ -143,7 +143,8 @@ module _ {P : Type 0} where
       ∙ at_same (Below c) c (g c) refl)
   hung_total g (Holds v) l e = sym (total_none (λ m. 0) l (λ i b. refl))
 
-module _ {P : Type 0} (s : Nodes P) (t : IsTree s) where
+-- a function that gives nothing where no node stands
+module _ {P : Type 0} (give : Option (Form ℕ P) → ℕ) (bare : give None ≡ 0) (s : Nodes P) (t : IsTree s) where
   within : (n : ℕ) → ContainsKey s n → n < length s.slots
   within n h = elim (cases_lt n (length s.slots)) [
     | inl l ↦ l
@@ -155,30 +156,30 @@ module _ {P : Type 0} (s : Nodes P) (t : IsTree s) where
   hung_same f g (Below c) e = e c refl
   hung_same f g (Holds v) e = refl
 
-  stable : (f g n : ℕ) → ContainsKey s n → 8 ≤ f + length (heap_of s n).prefix → 8 ≤ g + length (heap_of s n).prefix → weigh (get s) f n ≡ weigh (get s) g n
+  stable : (f g n : ℕ) → ContainsKey s n → 8 ≤ f + length (heap_of s n).prefix → 8 ≤ g + length (heap_of s n).prefix → weigh give (get s) f n ≡ weigh give (get s) g n
   unfolding weigh
   stable zero g n h p q = let l = short_prefix s t n h in absurd (omega (arith, l, p))
   stable (suc f) zero n h p q = let l = short_prefix s t n h in absurd (omega (arith, l, q))
-  stable (suc f) (suc g) n h p q = ap (λ m. bytes_at (get s n) + m) (total_same _ _ 256 (λ b l. hung_same (λ c. weigh (get s) f c) (λ c. weigh (get s) g c) ((heap_of s n).children b) (λ c e.
+  stable (suc f) (suc g) n h p q = ap (λ m. give (get s n) + m) (total_same _ _ 256 (λ b l. hung_same (λ c. weigh give (get s) f c) (λ c. weigh give (get s) g c) ((heap_of s n).children b) (λ c e.
       let i = (hung_child s t n b c e).1 in
       stable f g c (stands_of s t.parent c i.linked) (omega (arith, p, i.longer)) (omega (arith, q, i.longer)))))
 
   -- a node weighs its size and what its children weigh
   abbrev whole : ℕ → ℕ
-  whole n = weigh (get s) 8 n
+  whole n = weigh give (get s) 8 n
 
   abbrev children_weigh : ℕ → ℕ
   children_weigh n = total (λ b. of_hung whole ((heap_of s n).children b)) 256
 
-  weighs : (n : ℕ) → whole n ≡ bytes_at (get s n) + children_weigh n
+  weighs : (n : ℕ) → whole n ≡ give (get s n) + children_weigh n
   unfolding weigh
-  weighs n = ap (λ m. bytes_at (get s n) + m) (total_same _ _ 256 (λ b l. hung_same (λ c. weigh (get s) 7 c) whole ((heap_of s n).children b) (λ c e.
+  weighs n = ap (λ m. give (get s n) + m) (total_same _ _ 256 (λ b l. hung_same (λ c. weigh give (get s) 7 c) whole ((heap_of s n).children b) (λ c e.
       let i = (hung_child s t n b c e).1 in
       stable 7 8 c (stands_of s t.parent c i.linked) (omega (arith, i.longer)) (omega arith))))
 
   weightless : (m : ℕ) → get s m ≡ None → whole m ≡ 0
   unfolding weigh
-  weightless m e = rw e (let z = total_none (λ b. 0) 256 (λ i l. refl) in omega (arith, z))
+  weightless m e = rw e (let z = total_none (λ b. 0) 256 (λ i l. refl) in omega (arith, z, bare))
 
   -- a node's share in what the children of all weigh
   share : ((n : ℕ) → HasBytes (get s n)) → (m : ℕ) → m ≢ 0
@@ -246,19 +247,25 @@ module _ {P : Type 0} (s : Nodes P) (t : IsTree s) where
   root_within : 0 < length s.slots
   root_within = within 0 (stands_of s t.parent 0 t.tree.root)
 
-  root_weighs : ((n : ℕ) → HasBytes (get s n)) → whole 0 ≡ bytes_of s
+  -- the root weighs what all places do
+  pub root_weighs : ((n : ℕ) → HasBytes (get s n)) → whole 0 ≡ total (λ n. give (get s n)) (length s.slots)
   root_weighs bytes =
       let l = length s.slots in
-      let all : total whole l ≡ total (λ n. bytes_at (get s n)) l + total children_weigh l =
-      total_same whole (λ n. bytes_at (get s n) + children_weigh n) l (λ n ln. weighs n) ∙ total_add (λ n. bytes_at (get s n)) children_weigh l in
+      let all : total whole l ≡ total (λ n. give (get s n)) l + total children_weigh l =
+      total_same whole (λ n. give (get s n) + children_weigh n) l (λ n ln. weighs n) ∙ total_add (λ n. give (get s n)) children_weigh l in
       let apart : total whole l ≡ total share_of l + total (λ m. at_hung {P = P} (Below 0) m (whole m)) l =
       total_same whole (λ m. share_of m + at_hung {P = P} (Below 0) m (whole m)) l (λ m lm. sym (shares bytes m)) ∙ total_add share_of (λ m. at_hung {P = P} (Below 0) m (whole m)) l in
       let root : total (λ m. at_hung {P = P} (Below 0) m (whole m)) l ≡ whole 0 =
       total_one (λ m. at_hung {P = P} (Below 0) m (whole m)) l 0 root_within (λ i li ne. at_none {P = P} (Below 0) i (whole i) (λ e. ne (sym (same_below {P = P} 0 i e))))
       ∙ at_same {P = P} (Below 0) 0 (whole 0) refl in
       let children = children_all in
-      let slots : bytes_of s ≡ total (λ n. bytes_at (get s n)) l = bytes_total s.slots in
-      omega (arith, all, apart, root, children, slots)
+      omega (arith, all, apart, root, children)
+
+module _ {P : Type 0} (s : Nodes P) (t : IsTree s) where
+  -- the sizes of the nodes are what stands in the slab, where all children are at bytes
+  pub sizes_stand : ((n : ℕ) → HasBytes (get s n)) → sizes_of (nodes_of s) ≡ bytes_of s
+  unfolding nodes_of
+  sizes_stand bytes = sizes_from (get s) 8 0 0 ∙ (root_weighs bytes_at refl s t bytes ∙ sym (bytes_total s.slots))
 
   down : (f n b c : ℕ) → HasBytesFrom (get s) (suc f) n → (heap_of s n).children b ≡ Below c → HasBytesFrom (get s) f c
   unfolding HasBytesFrom
@@ -300,7 +307,6 @@ module _ {P : Type 0} (s : Nodes P) (t : IsTree s) where
           next zero n le lt h = absurd (omega (arith, lt))
           next (suc f) n le lt h = (f, omega (arith, le), (opened f n h, h))
 
-  -- the sizes of the nodes are what stands in the slab
+  -- so they are where those from the root down are
   pub nodes_weigh : HasBytesFrom (get s) 8 0 → sizes_of (nodes_of s) ≡ bytes_of s
-  unfolding nodes_of
-  nodes_weigh root = sizes_from (get s) 8 0 0 ∙ root_weighs (has_bytes root)
+  nodes_weigh root = sizes_stand (has_bytes root)

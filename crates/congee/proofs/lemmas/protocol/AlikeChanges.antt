@@ -2,19 +2,19 @@
 use Rattle.std.proofs.Common.{◌≡◌, ◌≢◌, ℕ, zero, suc, ◌+◌, ◌<◌, ◌≤◌, cond, arith, List, refl, sym, ◌∙◌, ap, subst, inl, inr}
 use Rattle.std.specs.Prelude.{Option, None, Some, slice_index, slice_get}
 use Rattle.congee.specs.declared.protocol.phase.Parent.{Parent}
-use Rattle.congee.specs.declared.protocol.phase.Single.{Single}
-use Rattle.congee.specs.declared.protocol.phase.Single.TheVariants.{Set, Link}
-use Rattle.congee.specs.declared.protocol.phase.One.{One}
-use Rattle.congee.specs.declared.protocol.phase.Double.{Double}
-use Rattle.congee.specs.declared.protocol.phase.Double.TheVariants.{Unlink, Grow, GrowLink, Split, Shrink, Collapse, ShrinkAbove}
-use Rattle.congee.specs.declared.protocol.phase.Two.{Two}
+use Rattle.congee.specs.declared.protocol.phase.Placement.{Placement}
+use Rattle.congee.specs.declared.protocol.phase.Placement.TheVariants.{Set, Link}
+use Rattle.congee.specs.declared.protocol.phase.NodeChange.{NodeChange}
+use Rattle.congee.specs.declared.protocol.phase.Replacement.{Replacement}
+use Rattle.congee.specs.declared.protocol.phase.Replacement.TheVariants.{Unlink, Grow, GrowLink, Split, Shrink, Collapse, ShrinkAbove}
+use Rattle.congee.specs.declared.protocol.phase.ParentChange.{ParentChange}
 use Rattle.congee.specs.declared.protocol.phase.Phase.{Phase}
-use Rattle.congee.specs.declared.protocol.phase.Phase.TheVariants.{ChangeTwo}
+use Rattle.congee.specs.declared.protocol.phase.Phase.TheVariants.{ChangeAbove}
 use Rattle.congee.specs.Heap.{Node, Hung, Nothing, Below, Stands}
-use Rattle.congee.specs.protocol.Alike.{Ordered, HungAlike, NodeAlike, HeapAlike, Named, StampAlike, TopAlike, SingleAlike, DoubleAlike, TwoAlike}
+use Rattle.congee.specs.protocol.Alike.{Ordered, HungAlike, NodeAlike, HeapAlike, Named, StampAlike, TopAlike, PlacementAlike, ReplacementAlike, ParentChangeAlike}
 use Rattle.congee.specs.protocol.Events.{IsOther, ChangeGives, HoldsValues, HoldsNodes, TakeOverGives, BackGives}
 use Rattle.congee.specs.protocol.PlainSteps.{name_or, other_from, other_of, change_top, back, hang, copy, clear, back_one, back_two, change_one, change_two}
-use Rattle.congee.specs.protocol.Steps.{PutsLesser, Collapses, Lessens, MayLessen, MayTop, BackOne, BackTwo, value_hung, ChangedOne, ChangedTwo, MayBackOne, MayBackTwo, MayChangeOne, MayChangeTwo}
+use Rattle.congee.specs.protocol.Steps.{PutsLesser, Collapses, Lessens, MayLessen, MayTop, BackHere, BackAbove, value_hung, ChangedHere, ChangedAbove, MayBackHere, MayBackAbove, MayChangeHere, MayChangeAbove}
 use Rattle.congee.specs.declared.forms.prefix.TheConstants.{MAX_PREFIX_LEN}
 use Rattle.congee.proofs.lemmas.Tree.{same_or_not}
 use Rattle.congee.proofs.lemmas.Fits.{same_test, other_test}
@@ -39,7 +39,7 @@ stands_at : {V : Type 0} (a b : Node V) → a ≡ b → Stands b → Stands a
 stands_at {V} a b e s = let P : Node V → Type 0 = λ z. Stands z in subst P (sym e) s
 
 -- what a node holds whose children another one takes over: a leaf holds values, an inner node nodes
-abbrev pub HoldsFor : {C V : Type 0} → Double C → Node V → Node V → Type 0
+abbrev pub HoldsFor : {C V : Type 0} → Replacement C → Node V → Node V → Type 0
 HoldsFor (Grow c) n p = HoldsValues n
 HoldsFor (GrowLink c leaf byte) n p = HoldsNodes n
 HoldsFor (Shrink c) n p = HoldsValues n
@@ -48,7 +48,7 @@ HoldsFor _ n p = Unit {0}
 
 -- before a change of two nodes, the one whose children go over holds values or nodes as the change wants
 abbrev pub HoldsRight : {C V : Type 0} → (C → ℕ) → (ℕ → Node V) → Phase C V → Type 0
-HoldsRight number h (ChangeTwo two r) = HoldsFor two.change (h (number two.at.node)) (h (number two.above.stamp.node))
+HoldsRight number h (ChangeAbove two r) = HoldsFor two.change (h (number two.at.node)) (h (number two.above.stamp.node))
 HoldsRight number h _ = Unit {0}
 
 module _ {C V : Type 0} (order : List ℕ) (number : C → ℕ) where
@@ -62,9 +62,9 @@ module _ {C V : Type 0} (order : List ℕ) (number : C → ℕ) where
 
   module _ (h g : ℕ → Node V) (o : Ordered order h) (x : HeapAlike order h g) (h' : ℕ → Node V) where
     -- the made nodes of a change go back
-    pub back_one_pair : (c : Single C) (y : Single ℕ) → SingleAlike order number c y → MayBackOne number h c → BackOne number h c h' → Pair order h h' (back_one y g)
-    back_one_pair Set y e may k = let P : Single ℕ → Type 0 = λ z. Pair order h h' (back_one z g) in subst P (sym e) (pair_same order h h' g k x)
-    back_one_pair (Link leaf) y e may k = let P : Single ℕ → Type 0 = λ z. Pair order h h' (back_one z g) in subst P (sym e.1) (pair_back order h g o x (number leaf) e.0 h' e.2 may k)
+    pub back_one_pair : (c : Placement C) (y : Placement ℕ) → PlacementAlike order number c y → MayBackHere number h c → BackHere number h c h' → Pair order h h' (back_one y g)
+    back_one_pair Set y e may k = let P : Placement ℕ → Type 0 = λ z. Pair order h h' (back_one z g) in subst P (sym e) (pair_same order h h' g k x)
+    back_one_pair (Link leaf) y e may k = let P : Placement ℕ → Type 0 = λ z. Pair order h h' (back_one z g) in subst P (sym e.1) (pair_back order h g o x (number leaf) e.0 h' e.2 may k)
 
     both_back : (a b : C) (na nb : ℕ) (h1 : ℕ → Node V) → Named order number a na → Named order number b nb → Stands (h (number a)) → Stands (h (number b)) → number b ≢ number a → BackGives h (number a) h1 → BackGives h1 (number b) h' → Pair order h h' (back (back g na) nb)
     both_back a b na nb h1 ea eb sa sb ne k k' =
@@ -72,25 +72,25 @@ module _ {C V : Type 0} (order : List ℕ) (number : C → ℕ) where
         (λ o1 x1. pair_back order h1 (back g na) o1 x1 (number b) nb h' eb (stands_at (h1 (number b)) (h (number b)) (k.others (number b) ne) sb) k')
 
     -- both sides are alike after the made nodes of a change of two nodes went back
-    pub back_two_pair : (c : Double C) (y : Double ℕ) → DoubleAlike order number c y → MayBackTwo number h c → BackTwo number h c h' → Pair order h h' (back_two y g)
-    back_two_pair Unlink y e may k = let P : Double ℕ → Type 0 = λ z. Pair order h h' (back_two z g) in subst P (sym e) (pair_same order h h' g k x)
-    back_two_pair (Shrink c) y e may k = let P : Double ℕ → Type 0 = λ z. Pair order h h' (back_two z g) in subst P (sym e.1) (pair_back order h g o x (number c) e.0 h' e.2 may k)
-    back_two_pair Collapse y e may k = let P : Double ℕ → Type 0 = λ z. Pair order h h' (back_two z g) in subst P (sym e) (pair_same order h h' g k x)
-    back_two_pair (ShrinkAbove c) y e may k = let P : Double ℕ → Type 0 = λ z. Pair order h h' (back_two z g) in subst P (sym e.1) (pair_back order h g o x (number c) e.0 h' e.2 may k)
-    back_two_pair (Grow c) y e may k = let P : Double ℕ → Type 0 = λ z. Pair order h h' (back_two z g) in subst P (sym e.1) (pair_back order h g o x (number c) e.0 h' e.2 may k)
-    back_two_pair (GrowLink c leaf byte) y e may k = let P : Double ℕ → Type 0 = λ z. Pair order h h' (back_two z g) in subst P (sym e.2) (both_back leaf c e.1 e.0 k.0 e.4 e.3 may.0 may.1 may.2 k.1 k.2)
-    back_two_pair (Split top leaf common byte) y e may k = let P : Double ℕ → Type 0 = λ z. Pair order h h' (back_two z g) in subst P (sym e.2) (both_back leaf top e.1 e.0 k.0 e.4 e.3 may.0 may.1 may.2 k.1 k.2)
+    pub back_two_pair : (c : Replacement C) (y : Replacement ℕ) → ReplacementAlike order number c y → MayBackAbove number h c → BackAbove number h c h' → Pair order h h' (back_two y g)
+    back_two_pair Unlink y e may k = let P : Replacement ℕ → Type 0 = λ z. Pair order h h' (back_two z g) in subst P (sym e) (pair_same order h h' g k x)
+    back_two_pair (Shrink c) y e may k = let P : Replacement ℕ → Type 0 = λ z. Pair order h h' (back_two z g) in subst P (sym e.1) (pair_back order h g o x (number c) e.0 h' e.2 may k)
+    back_two_pair Collapse y e may k = let P : Replacement ℕ → Type 0 = λ z. Pair order h h' (back_two z g) in subst P (sym e) (pair_same order h h' g k x)
+    back_two_pair (ShrinkAbove c) y e may k = let P : Replacement ℕ → Type 0 = λ z. Pair order h h' (back_two z g) in subst P (sym e.1) (pair_back order h g o x (number c) e.0 h' e.2 may k)
+    back_two_pair (Grow c) y e may k = let P : Replacement ℕ → Type 0 = λ z. Pair order h h' (back_two z g) in subst P (sym e.1) (pair_back order h g o x (number c) e.0 h' e.2 may k)
+    back_two_pair (GrowLink c leaf byte) y e may k = let P : Replacement ℕ → Type 0 = λ z. Pair order h h' (back_two z g) in subst P (sym e.2) (both_back leaf c e.1 e.0 k.0 e.4 e.3 may.0 may.1 may.2 k.1 k.2)
+    back_two_pair (Split top leaf common byte) y e may k = let P : Replacement ℕ → Type 0 = λ z. Pair order h h' (back_two z g) in subst P (sym e.2) (both_back leaf top e.1 e.0 k.0 e.4 e.3 may.0 may.1 may.2 k.1 k.2)
 
     -- a change of one node
-    pub change_one_pair : (key : List ℕ) (new : Option V) (one : One C) (u : One ℕ) → StampAlike order number one.at u.at → u.byte ≡ one.byte → (c : Single C) (y : Single ℕ) → SingleAlike order number c y
-        → MayChangeOne number new one c h → ChangedOne number key new one c h h' → Pair order h h' (change_one key new u y g)
+    pub change_one_pair : (key : List ℕ) (new : Option V) (one : NodeChange C) (u : NodeChange ℕ) → StampAlike order number one.at u.at → u.byte ≡ one.byte → (c : Placement C) (y : Placement ℕ) → PlacementAlike order number c y
+        → MayChangeHere number new one c h → ChangedHere number key new one c h h' → Pair order h h' (change_one key new u y g)
     change_one_pair key new one u st b Set y e may k =
-        let P : Single ℕ → Type 0 = λ z. Pair order h h' (change_one key new u z g) in
+        let P : Placement ℕ → Type 0 = λ z. Pair order h h' (change_one key new u z g) in
         let Q : ℕ → Type 0 = λ z. Pair order h h' (hang g u.at.node z (value_hung new)) in
         subst P (sym e) (subst Q (sym b) (pair_hung order h g o x (number one.at.node) u.at.node one.byte (value_hung new) (value_hung new) h' st.node may.stands (value_alike new) k))
     change_one_pair key None one u st b (Link leaf) y e may k = absurd may
     change_one_pair key (Some v) one u st b (Link leaf) y e may k =
-        let P : Single ℕ → Type 0 = λ z. Pair order h h' (change_one key (Some v) u z g) in
+        let P : Placement ℕ → Type 0 = λ z. Pair order h h' (change_one key (Some v) u z g) in
         let Q : ℕ → Type 0 = λ z. Pair order h h' (hang (hang g e.0 (slice_index key MAX_PREFIX_LEN) (value_hung (Some v))) u.at.node z (Below e.0)) in
         let g1 : ℕ → Node V = hang g e.0 (slice_index key MAX_PREFIX_LEN) (value_hung (Some v)) in
         subst P (sym e.1) (subst Q (sym b) (next h k.0 h' (hang g e.0 (slice_index key MAX_PREFIX_LEN) (value_hung (Some v))) (hang (hang g e.0 (slice_index key MAX_PREFIX_LEN) (value_hung (Some v))) u.at.node one.byte (Below e.0)) o
@@ -122,7 +122,7 @@ module _ {C V : Type 0} (order : List ℕ) (number : C → ℕ) where
       (y.0, ap Below e, y.2)
 
   -- a change of the node above
-  module _ (h g : ℕ → Node V) (o : Ordered order h) (x : HeapAlike order h g) (h' : ℕ → Node V) (key : List ℕ) (two : Two C) (u : Two ℕ) (e : TwoAlike order number two u) where
+  module _ (h g : ℕ → Node V) (o : Ordered order h) (x : HeapAlike order h g) (h' : ℕ → Node V) (key : List ℕ) (two : ParentChange C) (u : ParentChange ℕ) (e : ParentChangeAlike order number two u) where
     abbrev p : ℕ
     p = number two.above.stamp.node
 
@@ -175,7 +175,7 @@ module _ {C V : Type 0} (order : List ℕ) (number : C → ℕ) where
         let S : ℕ → Type 0 = λ z. Pair order h h' (hang (hang (copy g u.above.stamp.node m) m z Nothing) a.0.stamp.node top.byte (Below m)) in
         subst P (sym a.1) (subst Q (sym a.2.byte) (subst S (sym e.above.byte) (lesser_inner p (number c) two.above.byte (number top.stamp.node) top.byte u.above.stamp.node m a.0.stamp.node e.above.stamp.node at a.2.stamp.node holds may k)))
 
-    grow_pair : (v : V) (c : C) (m : ℕ) → Named order number c m → HoldsValues (h n) → MayChangeTwo number key (Some v) two (Grow c) h → ChangedTwo number key (Some v) two (Grow c) h h' → Pair order h h' (change_two key (Some v) u (Grow m) g)
+    grow_pair : (v : V) (c : C) (m : ℕ) → Named order number c m → HoldsValues (h n) → MayChangeAbove number key (Some v) two (Grow c) h → ChangedAbove number key (Some v) two (Grow c) h h' → Pair order h h' (change_two key (Some v) u (Grow m) g)
     grow_pair v c m at holds may k =
         next h k.0 h' (clear (copy g u.at.node m) u.at.node) _ o
         (pair_cleared order h g o x n (number c) u.at.node m k.0 e.at.node at may.1 may.2.stands may.4 k.2 holds)
@@ -184,8 +184,8 @@ module _ {C V : Type 0} (order : List ℕ) (number : C → ℕ) where
         (λ o2 x2. hung_above k.1 _ (Below (number c)) (Below m) o2 x2
         (stands_changed k.0 (number c) _ _ k.1 p k.3 (stands_over h n (number c) k.0 p k.2 may.0.stands)) (m, refl, at) k.4))
 
-    grow_link_pair : (v : V) (c leaf : C) (byte m l : ℕ) → Named order number c m → Named order number leaf l → HoldsNodes (h n) → MayChangeTwo number key (Some v) two (GrowLink c leaf byte) h
-        → ChangedTwo number key (Some v) two (GrowLink c leaf byte) h h' → Pair order h h' (change_two key (Some v) u (GrowLink m l byte) g)
+    grow_link_pair : (v : V) (c leaf : C) (byte m l : ℕ) → Named order number c m → Named order number leaf l → HoldsNodes (h n) → MayChangeAbove number key (Some v) two (GrowLink c leaf byte) h
+        → ChangedAbove number key (Some v) two (GrowLink c leaf byte) h h' → Pair order h h' (change_two key (Some v) u (GrowLink m l byte) g)
     grow_link_pair v c leaf byte m l at al holds may k =
         let Q : Node V → Type 0 = λ y. HoldsNodes y in
         next h k.0 h' (hang g l last (value v)) _ o
@@ -198,8 +198,8 @@ module _ {C V : Type 0} (order : List ℕ) (number : C → ℕ) where
         (λ o3 x3. hung_above k.2 _ (Below (number c)) (Below m) o3 x3
         (stands_changed k.1 (number c) _ _ k.2 p k.5 (stands_over k.0 n (number c) k.1 p k.4 (stands_changed h (number leaf) _ _ k.0 p k.3 may.0.stands))) (m, refl, at) k.6)))
 
-    split_pair : (v : V) (top leaf : C) (common byte m l : ℕ) → Named order number top m → Named order number leaf l → MayChangeTwo number key (Some v) two (Split top leaf common byte) h
-        → ChangedTwo number key (Some v) two (Split top leaf common byte) h h' → Pair order h h' (change_two key (Some v) u (Split m l common byte) g)
+    split_pair : (v : V) (top leaf : C) (common byte m l : ℕ) → Named order number top m → Named order number leaf l → MayChangeAbove number key (Some v) two (Split top leaf common byte) h
+        → ChangedAbove number key (Some v) two (Split top leaf common byte) h h' → Pair order h h' (change_two key (Some v) u (Split m l common byte) g)
     split_pair v top leaf common byte m l at al may k =
         next h k.0 h' (hang g l last (value v)) _ o
         (pair_hung order h g o x (number leaf) l last (value v) (value v) k.0 al may.2.stands refl k.3)
@@ -211,21 +211,21 @@ module _ {C V : Type 0} (order : List ℕ) (number : C → ℕ) where
         (stands_changed k.1 (number top) _ _ k.2 p k.5 (stands_changed k.0 (number top) _ _ k.1 p k.4 (stands_changed h (number leaf) _ _ k.0 p k.3 may.0.stands))) (m, refl, at) k.6)))
 
     -- both sides are alike after the same change of two nodes
-    pub change_two_pair : (new : Option V) (c : Double C) (y : Double ℕ) → DoubleAlike order number c y → HoldsFor c (h n) (h p) → MayChangeTwo number key new two c h → ChangedTwo number key new two c h h' → Pair order h h' (change_two key new u y g)
+    pub change_two_pair : (new : Option V) (c : Replacement C) (y : Replacement ℕ) → ReplacementAlike order number c y → HoldsFor c (h n) (h p) → MayChangeAbove number key new two c h → ChangedAbove number key new two c h h' → Pair order h h' (change_two key new u y g)
     change_two_pair new Unlink y d holds may k =
-        let P : Double ℕ → Type 0 = λ z. Pair order h h' (change_two key new u z g) in
+        let P : Replacement ℕ → Type 0 = λ z. Pair order h h' (change_two key new u z g) in
         subst P (sym d) (hung_above h g _ _ o x may.stands refl k)
     change_two_pair new (Shrink c) y d holds may k =
-        let P : Double ℕ → Type 0 = λ z. Pair order h h' (change_two key new u z g) in
+        let P : Replacement ℕ → Type 0 = λ z. Pair order h h' (change_two key new u z g) in
         let Q : ℕ → Type 0 = λ z. Pair order h h' (hang (hang (clear (copy g u.at.node d.0) u.at.node) d.0 last Nothing) u.above.stamp.node z (Below d.0)) in
         subst P (sym d.1) (subst Q (sym e.above.byte) (lesser_leaf n (number c) last p two.above.byte u.at.node d.0 u.above.stamp.node e.at.node d.2 e.above.stamp.node holds may k))
     change_two_pair new Collapse y d holds may k =
-        let P : Double ℕ → Type 0 = λ z. Pair order h h' (change_two key new u z g) in subst P (sym d) (collapse_pair two.top u.top e.top may k)
+        let P : Replacement ℕ → Type 0 = λ z. Pair order h h' (change_two key new u z g) in subst P (sym d) (collapse_pair two.top u.top e.top may k)
     change_two_pair new (ShrinkAbove c) y d holds may k =
-        let P : Double ℕ → Type 0 = λ z. Pair order h h' (change_two key new u z g) in subst P (sym d.1) (lessen_pair c d.0 d.2 holds two.top u.top e.top may k)
+        let P : Replacement ℕ → Type 0 = λ z. Pair order h h' (change_two key new u z g) in subst P (sym d.1) (lessen_pair c d.0 d.2 holds two.top u.top e.top may k)
     change_two_pair None (Grow c) y d holds may k = absurd may
     change_two_pair None (GrowLink c leaf byte) y d holds may k = absurd may
     change_two_pair None (Split top leaf common byte) y d holds may k = absurd may
-    change_two_pair (Some v) (Grow c) y d holds may k = let P : Double ℕ → Type 0 = λ z. Pair order h h' (change_two key (Some v) u z g) in subst P (sym d.1) (grow_pair v c d.0 d.2 holds may k)
-    change_two_pair (Some v) (GrowLink c leaf byte) y d holds may k = let P : Double ℕ → Type 0 = λ z. Pair order h h' (change_two key (Some v) u z g) in subst P (sym d.2) (grow_link_pair v c leaf byte d.0 d.1 d.3 d.4 holds may k)
-    change_two_pair (Some v) (Split top leaf common byte) y d holds may k = let P : Double ℕ → Type 0 = λ z. Pair order h h' (change_two key (Some v) u z g) in subst P (sym d.2) (split_pair v top leaf common byte d.0 d.1 d.3 d.4 may k)
+    change_two_pair (Some v) (Grow c) y d holds may k = let P : Replacement ℕ → Type 0 = λ z. Pair order h h' (change_two key (Some v) u z g) in subst P (sym d.1) (grow_pair v c d.0 d.2 holds may k)
+    change_two_pair (Some v) (GrowLink c leaf byte) y d holds may k = let P : Replacement ℕ → Type 0 = λ z. Pair order h h' (change_two key (Some v) u z g) in subst P (sym d.2) (grow_link_pair v c leaf byte d.0 d.1 d.3 d.4 holds may k)
+    change_two_pair (Some v) (Split top leaf common byte) y d holds may k = let P : Replacement ℕ → Type 0 = λ z. Pair order h h' (change_two key (Some v) u z g) in subst P (sym d.2) (split_pair v top leaf common byte d.0 d.1 d.3 d.4 may k)

@@ -6,10 +6,10 @@ use Rattle.std.specs.List.{All}
 use Rattle.std.proofs.lemmas.List.Elements.{All-contains}
 use Rattle.congee.specs.declared.protocol.store.Stamp.{Stamp}
 use Rattle.congee.specs.declared.protocol.phase.Kind.{Kind}
-use Rattle.congee.specs.declared.protocol.phase.Double.{Double}
-use Rattle.congee.specs.declared.protocol.phase.Double.TheVariants.{Grow, GrowLink, Shrink, ShrinkAbove}
+use Rattle.congee.specs.declared.protocol.phase.Replacement.{Replacement}
+use Rattle.congee.specs.declared.protocol.phase.Replacement.TheVariants.{Grow, GrowLink, Shrink, ShrinkAbove}
 use Rattle.congee.specs.declared.protocol.phase.Phase.{Phase}
-use Rattle.congee.specs.declared.protocol.phase.Phase.TheVariants.{Check, ChangeTwo, Scan}
+use Rattle.congee.specs.declared.protocol.phase.Phase.TheVariants.{Check, ChangeAbove, Scan}
 use Rattle.congee.specs.declared.protocol.scan.Stage.{Stage}
 use Rattle.congee.specs.declared.protocol.scan.Stage.TheVariants as stage
 use Rattle.congee.specs.declared.protocol.scan.ScanState.{ScanState as ScanState}
@@ -21,7 +21,7 @@ use Rattle.congee.specs.protocol.Alike.{Ordered, NodeAlike, HeapAlike, CallAlike
 use Rattle.congee.specs.protocol.Destroys.{Destroys}
 use Rattle.congee.specs.protocol.Events.{HoldsValues, HoldsNodes}
 use Rattle.congee.specs.protocol.Names.{names, names_site}
-use Rattle.congee.specs.protocol.Protocol.{Known, PlacedTwo, TwoLocked, Rely, Effect}
+use Rattle.congee.specs.protocol.Protocol.{Known, PlacedAbove, BothLocked, Rely, Effect}
 use Rattle.congee.specs.protocol.Stamps.{Stamped}
 use Rattle.congee.specs.protocol.ScanKnown.{ScanKnownAt, names_scan_at}
 use Rattle.congee.proofs.lemmas.protocol.AlikeChanges.{HoldsFor, HoldsRight}
@@ -40,7 +40,7 @@ inner_holds : {V : Type 0} (a : ℕ → Note) (h : ℕ → Node V) (n : ℕ) →
 inner_holds a h n t l e b v k = let z : length (h n).prefix ≡ 7 = t.leaves n b v l k in omega (arith, z, e)
 
 module _ {C V : Type 0} (number : C → ℕ) (same : V → V → Bool) (always : Bool) (i : ℕ) (a : ℕ → Note) (h : ℕ → Node V) (k : ℕ) (key : List ℕ) (kind : Kind V) (given : Option V) (t : Tree a h) where
-  holds_for : (c : Double C) (n p b : ℕ) → IsChild a h p b n → (a p).status ≡ Linked → PlacedTwo key c (h n).prefix → HoldsFor c (h n) (h p)
+  holds_for : (c : Replacement C) (n p b : ℕ) → IsChild a h p b n → (a p).status ≡ Linked → PlacedAbove key c (h n).prefix → HoldsFor c (h n) (h p)
   holds_for (Shrink c) n p b d l z = leaf_holds a h n t d.linked z.1
   holds_for (ShrinkAbove c) n p b d l z = inner_holds a h p t l (let s = t.short n d.linked in let m : length (h p).prefix < length (h n).prefix = d.longer in omega (arith, s, m))
   holds_for (Grow c) n p b d l z = leaf_holds a h n t d.linked z.1
@@ -49,8 +49,8 @@ module _ {C V : Type 0} (number : C → ℕ) (same : V → V → Bool) (always :
 
   -- a call that knows what its phase says has the right children where its change of two nodes takes them over
   pub holds_right : (p : Phase C V) → Known number same always i a h k key kind given p → HoldsRight number h p
-  holds_right (ChangeTwo two r) x =
-      let e : TwoLocked number i a h key two x.0 x.1 = x.2 in
+  holds_right (ChangeAbove two r) x =
+      let e : BothLocked number i a h key two x.0 x.1 = x.2 in
       holds_for two.change (number two.at.node) (number two.above.stamp.node) _ (t.down (number two.above.stamp.node) _ (number two.at.node) e.above.holding.linked e.above.child) e.above.holding.linked e.placed
   holds_right _ x = tt
 

@@ -9,16 +9,16 @@ use Rattle.congee.specs.declared.protocol.store.Stamp.{Stamp}
 use Rattle.congee.specs.declared.protocol.phase.Parent.{Parent}
 use Rattle.congee.specs.declared.protocol.phase.Above.{Above as Over}
 use Rattle.congee.specs.declared.protocol.phase.Site.{Site}
-use Rattle.congee.specs.declared.protocol.phase.Single.{Single}
-use Rattle.congee.specs.declared.protocol.phase.Single.TheVariants.{Set, Link}
-use Rattle.congee.specs.declared.protocol.phase.One.{One}
-use Rattle.congee.specs.declared.protocol.phase.Double.{Double}
-use Rattle.congee.specs.declared.protocol.phase.Double.TheVariants.{Unlink, Grow, GrowLink, Split, Shrink, Collapse, ShrinkAbove}
-use Rattle.congee.specs.declared.protocol.phase.Two.{Two}
+use Rattle.congee.specs.declared.protocol.phase.Placement.{Placement}
+use Rattle.congee.specs.declared.protocol.phase.Placement.TheVariants.{Set, Link}
+use Rattle.congee.specs.declared.protocol.phase.NodeChange.{NodeChange}
+use Rattle.congee.specs.declared.protocol.phase.Replacement.{Replacement}
+use Rattle.congee.specs.declared.protocol.phase.Replacement.TheVariants.{Unlink, Grow, GrowLink, Split, Shrink, Collapse, ShrinkAbove}
+use Rattle.congee.specs.declared.protocol.phase.ParentChange.{ParentChange}
 use Rattle.congee.specs.declared.protocol.phase.Plan.{Plan}
 use Rattle.congee.specs.declared.protocol.phase.Plan.TheVariants.{Here, Above}
 use Rattle.congee.specs.declared.protocol.phase.Phase.{Phase}
-use Rattle.congee.specs.declared.protocol.phase.Phase.TheVariants.{New, Version, Read, Check, CheckUncopied, CheckMiss, CheckDown, CheckOld, MakeLeaf, MakeGreater, MakeTop, MakeBeside, MakeLesser, AskOld, AskNew, Confirm, CheckAbove, UpgradeOne, ChangeOne, UpgradeTop, UpgradeAbove, UpgradeBelow, ChangeTwo, Obsolete, Retire, UnlockBelow, Unlock, Unwind, Scan, Ended}
+use Rattle.congee.specs.declared.protocol.phase.Phase.TheVariants.{New, Version, Read, Check, CheckUncopied, CheckMiss, CheckDown, CheckOld, MakeLeaf, MakeGreater, MakeTop, MakeBeside, MakeLesser, AskOld, AskNew, Confirm, CheckAbove, UpgradeHere, ChangeHere, UpgradeTop, UpgradeAbove, UpgradeBelow, ChangeAbove, Obsolete, Retire, UnlockBelow, Unlock, Unwind, Scan, Ended}
 use Rattle.congee.specs.declared.protocol.scan.Rung.{Rung}
 use Rattle.congee.specs.declared.protocol.scan.Stage.{Stage}
 use Rattle.congee.specs.declared.protocol.scan.Stage.TheVariants as stage
@@ -26,7 +26,7 @@ use Rattle.congee.specs.declared.protocol.scan.ScanState.{ScanState as ScanState
 use Rattle.congee.specs.declared.protocol.machine.Machine.{Machine}
 use Rattle.congee.specs.Heap.{Node}
 use Rattle.congee.specs.protocol.ScanSteps.{slots}
-use Rattle.congee.specs.protocol.Alike.{Named, StampAlike, ParentAlike, TopAlike, OverAlike, AboveAlike, StampedAlike, MadeAlike, SiteAlike, ReadAlike, SingleAlike, OneAlike, DoubleAlike, TwoAlike, PlanAlike, ChildAlike, SeesAlike, RungAlike, PlaceAlike, LeastAlike, IsTaken, StageAlike, ScanAlike, PhaseAlike, CallAlike}
+use Rattle.congee.specs.protocol.Alike.{Named, StampAlike, ParentAlike, TopAlike, OverAlike, AboveAlike, StampedAlike, MadeAlike, SiteAlike, ReadAlike, PlacementAlike, NodeChangeAlike, ReplacementAlike, ParentChangeAlike, PlanAlike, ChildAlike, SeesAlike, RungAlike, PlaceAlike, LeastAlike, IsTaken, StageAlike, ScanAlike, PhaseAlike, CallAlike}
 
 module _ {C : Type 0} (order order' : List ℕ) (number : C → ℕ) (f : (n c : ℕ) → slice_get order n ≡ Some c → slice_get order' n ≡ Some c) where
   -- a name's number stays its number in the longer order
@@ -68,15 +68,15 @@ module _ {C : Type 0} (order order' : List ℕ) (number : C → ℕ) (f : (n c :
   pub read_later : (s : Site C) (u : Site ℕ) → ReadAlike order number s u → ReadAlike order' number s u
   read_later s u x = record { site = site_later s u x.site; count = x.count }
 
-  single_later : (s : Single C) (u : Single ℕ) → SingleAlike order number s u → SingleAlike order' number s u
+  single_later : (s : Placement C) (u : Placement ℕ) → PlacementAlike order number s u → PlacementAlike order' number s u
   single_later Set u x = x
   single_later (Link leaf) u x = (x.0, x.1, named_later leaf x.0 x.2)
 
   -- the same change of one node stays so in the longer order
-  pub one_later : (s : One C) (u : One ℕ) → OneAlike order number s u → OneAlike order' number s u
+  pub one_later : (s : NodeChange C) (u : NodeChange ℕ) → NodeChangeAlike order number s u → NodeChangeAlike order' number s u
   one_later s u x = record { at = stamp_later s.at u.at x.at; byte = x.byte; change = single_later s.change u.change x.change }
 
-  double_later : (s : Double C) (u : Double ℕ) → DoubleAlike order number s u → DoubleAlike order' number s u
+  double_later : (s : Replacement C) (u : Replacement ℕ) → ReplacementAlike order number s u → ReplacementAlike order' number s u
   double_later Unlink u x = x
   double_later (Shrink c) u x = (x.0, x.1, named_later c x.0 x.2)
   double_later Collapse u x = x
@@ -85,7 +85,7 @@ module _ {C : Type 0} (order order' : List ℕ) (number : C → ℕ) (f : (n c :
   double_later (GrowLink c leaf byte) u x = (x.0, x.1, x.2, named_later c x.0 x.3, named_later leaf x.1 x.4)
   double_later (Split top leaf common byte) u x = (x.0, x.1, x.2, named_later top x.0 x.3, named_later leaf x.1 x.4)
 
-  two_later : (s : Two C) (u : Two ℕ) → TwoAlike order number s u → TwoAlike order' number s u
+  two_later : (s : ParentChange C) (u : ParentChange ℕ) → ParentChangeAlike order number s u → ParentChangeAlike order' number s u
   two_later s u x = record { top = top_later s.top u.top x.top; above = parent_later s.above u.above x.above; at = stamp_later s.at u.at x.at; change = double_later s.change u.change x.change }
 
   plan_later : (s : Plan C) (u : Plan ℕ) → PlanAlike order number s u → PlanAlike order' number s u
@@ -165,12 +165,12 @@ module _ {C : Type 0} (order order' : List ℕ) (number : C → ℕ) (f : (n c :
       phase_later (AskNew plan) q k x = (x.0, x.1, plan_later plan x.0 x.2)
       phase_later (Confirm at r) q k x = (x.0, x.1, stamp_later at x.0 x.2)
       phase_later (CheckAbove p one r) q k x = (x.0, x.1, x.2, stamp_later p x.0 x.3, one_later one x.1 x.4)
-      phase_later (UpgradeOne one r) q k x = (x.0, x.1, one_later one x.0 x.2)
-      phase_later (ChangeOne one r) q k x = (x.0, x.1, one_later one x.0 x.2)
+      phase_later (UpgradeHere one r) q k x = (x.0, x.1, one_later one x.0 x.2)
+      phase_later (ChangeHere one r) q k x = (x.0, x.1, one_later one x.0 x.2)
       phase_later (UpgradeTop top two r) q k x = (x.0, x.1, x.2, parent_later top x.0 x.3, two_later two x.1 x.4)
       phase_later (UpgradeAbove two r) q k x = (x.0, x.1, two_later two x.0 x.2)
       phase_later (UpgradeBelow two r) q k x = (x.0, x.1, two_later two x.0 x.2)
-      phase_later (ChangeTwo two r) q k x = (x.0, x.1, two_later two x.0 x.2)
+      phase_later (ChangeAbove two r) q k x = (x.0, x.1, two_later two x.0 x.2)
       phase_later (Obsolete c next p r) q k x = (x.0, x.1, x.2, x.3, named_later c x.0 x.4, made_later next x.1 x.5, named_later p x.2 x.6)
       phase_later (Retire c next p r) q k x = (x.0, x.1, x.2, x.3, named_later c x.0 x.4, made_later next x.1 x.5, named_later p x.2 x.6)
       phase_later (UnlockBelow c p r) q k x = (x.0, x.1, x.2, named_later c x.0 x.3, named_later p x.1 x.4)

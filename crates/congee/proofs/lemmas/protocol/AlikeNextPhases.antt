@@ -15,18 +15,18 @@ use Rattle.congee.specs.declared.protocol.phase.Kind.TheVariants.{Get, Insert, R
 use Rattle.congee.specs.declared.protocol.phase.Parent.{Parent}
 use Rattle.congee.specs.declared.protocol.phase.Above.{Above as Over}
 use Rattle.congee.specs.declared.protocol.phase.Site.{Site}
-use Rattle.congee.specs.declared.protocol.phase.Single.{Single}
-use Rattle.congee.specs.declared.protocol.phase.Single.TheVariants.{Set}
-use Rattle.congee.specs.declared.protocol.phase.Double.{Double}
-use Rattle.congee.specs.declared.protocol.phase.Double.TheVariants.{Unlink, Grow, GrowLink, Split, Shrink, Collapse, ShrinkAbove}
-use Rattle.congee.specs.declared.protocol.phase.Two.{Two}
+use Rattle.congee.specs.declared.protocol.phase.Placement.{Placement}
+use Rattle.congee.specs.declared.protocol.phase.Placement.TheVariants.{Set}
+use Rattle.congee.specs.declared.protocol.phase.Replacement.{Replacement}
+use Rattle.congee.specs.declared.protocol.phase.Replacement.TheVariants.{Unlink, Grow, GrowLink, Split, Shrink, Collapse, ShrinkAbove}
+use Rattle.congee.specs.declared.protocol.phase.ParentChange.{ParentChange}
 use Rattle.congee.specs.declared.protocol.phase.Plan.{Plan}
 use Rattle.congee.specs.declared.protocol.phase.Plan.TheVariants.{Here, Above}
 use Rattle.congee.specs.declared.protocol.phase.Phase.{Phase}
-use Rattle.congee.specs.declared.protocol.phase.Phase.TheVariants.{Version, Read, CheckDown, CheckOld, MakeLeaf, MakeGreater, MakeTop, MakeLesser, AskOld, AskNew, Confirm, CheckAbove, UpgradeOne, UpgradeTop, UpgradeAbove, Obsolete, UnlockBelow, Unlock, Unwind}
+use Rattle.congee.specs.declared.protocol.phase.Phase.TheVariants.{Version, Read, CheckDown, CheckOld, MakeLeaf, MakeGreater, MakeTop, MakeLesser, AskOld, AskNew, Confirm, CheckAbove, UpgradeHere, UpgradeTop, UpgradeAbove, Obsolete, UnlockBelow, Unlock, Unwind}
 use Rattle.congee.specs.declared.protocol.next_phase.NextPhase.{NextPhase}
 use Rattle.congee.specs.Heap.{Node}
-use Rattle.congee.specs.protocol.Alike.{Named, StampAlike, ParentAlike, TopAlike, OverAlike, AboveAlike, StampedAlike, MadeAlike, SiteAlike, ReadAlike, SingleAlike, DoubleAlike, TwoAlike, PlanAlike, SeesAlike, PhaseAlike, NextPhaseAlike, IsUnrefused}
+use Rattle.congee.specs.protocol.Alike.{Named, StampAlike, ParentAlike, TopAlike, OverAlike, AboveAlike, StampedAlike, MadeAlike, SiteAlike, ReadAlike, PlacementAlike, ReplacementAlike, ParentChangeAlike, PlanAlike, SeesAlike, PhaseAlike, NextPhaseAlike, IsUnrefused}
 use Rattle.congee.specs.protocol.Steps.{shrinks, here_of, near_of, node_of, below, set_at, both, last_out, after_top, after_retire, after_unwind, given_up, quiet, again, answered, finished, refused, decided, asking, adds, asks_new, absent_reply, after_version, down, started, ready, stamp_above, plan_here, unless_full, missing, absent, CopyFailed, IsAsked, replaced, taken_out, emptied, is_same, IsAtOld, IsAdded, IsExchanged, IsCompared, IsPresent, IsChecked, after_miss, IsGiven, IsGivenNew, greater, after_change, unwound}
 use Rattle.congee.specs.protocol.PlainSteps.{asked, at_old, added, exchanged, present, checked, given_old, given_new}
 use Rattle.congee.specs.declared.forms.prefix.TheConstants.{MAX_PREFIX_LEN}
@@ -100,7 +100,7 @@ module _ {C V : Type 0} (order : List ℕ) (number : C → ℕ) (h : ℕ → Nod
 
   started_alike : (plan : Plan C) (y : Plan ℕ) (r : Reply V) → PlanAlike order number plan y → Alike (started plan r) (started y r)
   started_alike (Here None one) y r x =
-      alike_to _ (started (Here None x.1) r) (started y r) (ap (λ z. started z r) (x.2 ∙ ap (λ z. Here z x.1) x.3)) (quiet_alike (UpgradeOne one r) (UpgradeOne x.1 r) (x.1, refl, x.4))
+      alike_to _ (started (Here None x.1) r) (started y r) (ap (λ z. started z r) (x.2 ∙ ap (λ z. Here z x.1) x.3)) (quiet_alike (UpgradeHere one r) (UpgradeHere x.1 r) (x.1, refl, x.4))
   started_alike (Here (Some p) one) y r x =
       alike_to _ (started (Here (Some x.3.0) x.1) r) (started y r) (ap (λ z. started z r) (x.2 ∙ ap (λ z. Here z x.1) x.3.1)) (quiet_alike (CheckAbove p one r) (CheckAbove x.3.0 x.1 r) (x.3.0, x.1, refl, x.3.2, x.4))
   started_alike (Above two) y r x =
@@ -117,12 +117,12 @@ module _ {C V : Type 0} (order : List ℕ) (number : C → ℕ) (h : ℕ → Nod
   stamped_above None o x = ap stamp_above x
   stamped_above (Some p) o x = (x.0.near.stamp, ap stamp_above x.1, x.2.near.stamp)
 
-  here_alike : (s : Site C) (u : Site ℕ) (change : Single C) (y : Single ℕ) → SiteAlike order number s u → SingleAlike order number change y → PlanAlike order number (plan_here s change) (plan_here u y)
+  here_alike : (s : Site C) (u : Site ℕ) (change : Placement C) (y : Placement ℕ) → SiteAlike order number s u → PlacementAlike order number change y → PlanAlike order number (plan_here s change) (plan_here u y)
   here_alike s u change y x a = (stamp_above u.above, record { at = u.at; byte = u.byte; change = y }, refl, stamped_above s.above u.above x.above, record { at = x.at; byte = x.byte; change = a })
 
   -- a full node gives way to a greater one on both sides, and a node with room is changed on both
-  pub full_alike : (kind : Kind V) (s : Site C) (u : Site ℕ) (b : Bool) (above : Option (Over C)) (o : Option (Over ℕ)) (leaf : Option C) (l : Option ℕ) (change : Single C) (y : Single ℕ)
-      → ReadAlike order number s u → AboveAlike order number above o → MadeAlike order number leaf l → SingleAlike order number change y → Alike (unless_full kind s b above leaf change) (unless_full kind u b o l y)
+  pub full_alike : (kind : Kind V) (s : Site C) (u : Site ℕ) (b : Bool) (above : Option (Over C)) (o : Option (Over ℕ)) (leaf : Option C) (l : Option ℕ) (change : Placement C) (y : Placement ℕ)
+      → ReadAlike order number s u → AboveAlike order number above o → MadeAlike order number leaf l → PlacementAlike order number change y → Alike (unless_full kind s b above leaf change) (unless_full kind u b o l y)
   full_alike kind s u true (Some p) o leaf l change y x a m d =
       alike_to _ (unless_full kind u true (Some a.0) l y) (unless_full kind u true o l y) (ap (λ z. unless_full kind u true z l y) a.1)
       (quiet_alike (MakeGreater s p.near leaf) (MakeGreater u a.0.near l) (u, a.0.near, l, refl, x, a.2.near, m))
@@ -149,8 +149,8 @@ module _ {C V : Type 0} (order : List ℕ) (number : C → ℕ) (h : ℕ → Nod
     by false = answered_alike (absent_reply kind)
 
   set_alike : (s : Site C) (u : Site ℕ) (r : Reply V) → SiteAlike order number s u
-      → Alike (quiet (UpgradeOne (record { at = s.at; byte = s.byte; change = Set }) r)) (quiet (UpgradeOne (record { at = u.at; byte = u.byte; change = Set }) r))
-  set_alike s u r x = quiet_alike (UpgradeOne (record { at = s.at; byte = s.byte; change = Set }) r) (UpgradeOne (record { at = u.at; byte = u.byte; change = Set }) r)
+      → Alike (quiet (UpgradeHere (record { at = s.at; byte = s.byte; change = Set }) r)) (quiet (UpgradeHere (record { at = u.at; byte = u.byte; change = Set }) r))
+  set_alike s u r x = quiet_alike (UpgradeHere (record { at = s.at; byte = s.byte; change = Set }) r) (UpgradeHere (record { at = u.at; byte = u.byte; change = Set }) r)
       (record { at = u.at; byte = u.byte; change = Set }, refl, record { at = x.at; byte = x.byte; change = refl })
 
   confirm_alike : (at : Stamp C) (a : Stamp ℕ) (r : Reply V) → StampAlike order number at a → Alike (quiet (Confirm at r)) (quiet (Confirm a r))
@@ -187,10 +187,10 @@ module _ {C V : Type 0} (order : List ℕ) (number : C → ℕ) (h : ℕ → Nod
       (alike_to _ (by_read s.count s.form) _ (ap (λ z. by_read z u.form) x.count ∙ ap (λ z. by_read s.count z) x.site.form) (each (s.count == 1) (shrinks s.form s.count)))
     where
       by_read : ℕ → NodeType → NextPhase ℕ V
-      by_read n f = cond (n == 1) (last_out u a.0.near a.0.far r) (cond (shrinks f n) (quiet (MakeLesser u a.0.near None r)) (quiet (UpgradeOne (set_at u) r)))
+      by_read n f = cond (n == 1) (last_out u a.0.near a.0.far r) (cond (shrinks f n) (quiet (MakeLesser u a.0.near None r)) (quiet (UpgradeHere (set_at u) r)))
 
-      each : (b c : Bool) → Alike (cond b (last_out s w.near w.far r) (cond c (quiet (MakeLesser s w.near None r)) (quiet (UpgradeOne (set_at s) r))))
-          (cond b (last_out u a.0.near a.0.far r) (cond c (quiet (MakeLesser u a.0.near None r)) (quiet (UpgradeOne (set_at u) r))))
+      each : (b c : Bool) → Alike (cond b (last_out s w.near w.far r) (cond c (quiet (MakeLesser s w.near None r)) (quiet (UpgradeHere (set_at s) r))))
+          (cond b (last_out u a.0.near a.0.far r) (cond c (quiet (MakeLesser u a.0.near None r)) (quiet (UpgradeHere (set_at u) r))))
       each true c = last_alike s u w.near a.0.near w.far a.0.far r x a.2.near a.2.far
       each false true = quiet_alike (MakeLesser s w.near None r) (MakeLesser u a.0.near None r) (u, a.0.near, None, refl, x, a.2.near, refl)
       each false false = set_alike s u r x.site
@@ -292,14 +292,14 @@ module _ {C V : Type 0} (order : List ℕ) (number : C → ℕ) (h : ℕ → Nod
   new_alike plan y None new new' t x e = record { given = sym e.0; next_phase = alike_at t _ _ e.1 (asking_alike (AskNew plan) (AskNew y) None (y, refl, x)) }
 
   -- the change to a greater node, with a leaf or without, is the same on both sides
-  pub greater_alike : (s : Site C) (u : Site ℕ) (leaf : Option C) (l : Option ℕ) (c : C) (n : ℕ) → SiteAlike order number s u → MadeAlike order number leaf l → Named order number c n → DoubleAlike order number (greater s leaf c) (greater u l n)
+  pub greater_alike : (s : Site C) (u : Site ℕ) (leaf : Option C) (l : Option ℕ) (c : C) (n : ℕ) → SiteAlike order number s u → MadeAlike order number leaf l → Named order number c n → ReplacementAlike order number (greater s leaf c) (greater u l n)
   greater_alike s u None l c n x m y = (n, ap (λ z. greater u z n) m, y)
   greater_alike s u (Some leaf) l c n x m y = (n, m.0, ap (λ z. greater u z n) m.1 ∙ ap (λ z. GrowLink n m.0 z) x.byte, y, m.2)
 
-  out : (two : Two C) (u : Two ℕ) (r : Reply V) → TwoAlike order number two u → Alike (decided (Obsolete two.at.node None two.above.stamp.node r)) (decided (Obsolete u.at.node None u.above.stamp.node r))
+  out : (two : ParentChange C) (u : ParentChange ℕ) (r : Reply V) → ParentChangeAlike order number two u → Alike (decided (Obsolete two.at.node None two.above.stamp.node r)) (decided (Obsolete u.at.node None u.above.stamp.node r))
   out two u r x = decided_alike (Obsolete two.at.node None two.above.stamp.node r) (Obsolete u.at.node None u.above.stamp.node r) (u.at.node, None, u.above.stamp.node, refl, x.at.node, refl, x.above.stamp.node)
 
-  top_alike : (two : Two C) (u : Two ℕ) (r : Reply V) → TwoAlike order number two u → (top : Option (Parent C)) (o : Option (Parent ℕ)) → TopAlike order number top o → Alike (after_top two r top) (after_top u r o)
+  top_alike : (two : ParentChange C) (u : ParentChange ℕ) (r : Reply V) → ParentChangeAlike order number two u → (top : Option (Parent C)) (o : Option (Parent ℕ)) → TopAlike order number top o → Alike (after_top two r top) (after_top u r o)
   top_alike two u r x None o a = alike_to _ (after_top u r None) _ (ap (after_top u r) a) (decided_alike (Unlock two.above.stamp.node r) (Unlock u.above.stamp.node r) (u.above.stamp.node, refl, x.above.stamp.node))
   top_alike two u r x (Some top) o a =
       alike_to _ (after_top u r (Some a.0)) _ (ap (after_top u r) a.1)
@@ -318,7 +318,7 @@ module _ {C V : Type 0} (order : List ℕ) (number : C → ℕ) (h : ℕ → Nod
       alike_to _ (after_retire (Some a.0) q r) _ (ap (λ z. after_retire z q r) a.1) (quiet_alike (Obsolete c None p r) (Obsolete a.0 None q r) (a.0, None, q, refl, a.2, refl, y))
 
   -- after a change of two nodes both sides mark the same node next, or unlock the same one
-  pub change_alike : (two : Two C) (u : Two ℕ) (r : Reply V) → TwoAlike order number two u → (d : Double C) (y : Double ℕ) → DoubleAlike order number d y → Alike (after_change two r d) (after_change u r y)
+  pub change_alike : (two : ParentChange C) (u : ParentChange ℕ) (r : Reply V) → ParentChangeAlike order number two u → (d : Replacement C) (y : Replacement ℕ) → ReplacementAlike order number d y → Alike (after_change two r d) (after_change u r y)
   change_alike two u r x (Shrink c) y e = alike_to _ (after_change u r (Shrink e.0)) _ (ap (after_change u r) e.1) (out two u r x)
   change_alike two u r x Collapse y e = alike_to _ (after_change u r Collapse) _ (ap (after_change u r) e) (top_alike two u r x two.top u.top x.top)
   change_alike two u r x (ShrinkAbove c) y e = alike_to _ (after_change u r (ShrinkAbove e.0)) _ (ap (after_change u r) e.1) (top_alike two u r x two.top u.top x.top)

@@ -15,19 +15,19 @@ use Rattle.congee.specs.declared.protocol.store.Upgrade.TheVariants.{Locked, Fai
 use Rattle.congee.specs.declared.protocol.phase.Kind.{Kind}
 use Rattle.congee.specs.declared.protocol.phase.Parent.{Parent}
 use Rattle.congee.specs.declared.protocol.phase.Site.{Site}
-use Rattle.congee.specs.declared.protocol.phase.Single.TheVariants.{Link}
-use Rattle.congee.specs.declared.protocol.phase.One.{One}
-use Rattle.congee.specs.declared.protocol.phase.Double.TheVariants.{Unlink, Split, Shrink, ShrinkAbove}
-use Rattle.congee.specs.declared.protocol.phase.Two.{Two}
+use Rattle.congee.specs.declared.protocol.phase.Placement.TheVariants.{Link}
+use Rattle.congee.specs.declared.protocol.phase.NodeChange.{NodeChange}
+use Rattle.congee.specs.declared.protocol.phase.Replacement.TheVariants.{Unlink, Split, Shrink, ShrinkAbove}
+use Rattle.congee.specs.declared.protocol.phase.ParentChange.{ParentChange}
 use Rattle.congee.specs.declared.protocol.phase.Plan.TheVariants.{Above}
 use Rattle.congee.specs.declared.protocol.phase.Phase.{Phase}
-use Rattle.congee.specs.declared.protocol.phase.Phase.TheVariants.{New, Version, Read, Check, CheckUncopied, CheckMiss, CheckDown, CheckOld, MakeLeaf, MakeGreater, MakeTop, MakeBeside, MakeLesser, AskOld, AskNew, Confirm, CheckAbove, UpgradeOne, ChangeOne, UpgradeTop, UpgradeAbove, UpgradeBelow, ChangeTwo, Obsolete, Retire, UnlockBelow, Unlock, Unwind, Scan, Ended}
+use Rattle.congee.specs.declared.protocol.phase.Phase.TheVariants.{New, Version, Read, Check, CheckUncopied, CheckMiss, CheckDown, CheckOld, MakeLeaf, MakeGreater, MakeTop, MakeBeside, MakeLesser, AskOld, AskNew, Confirm, CheckAbove, UpgradeHere, ChangeHere, UpgradeTop, UpgradeAbove, UpgradeBelow, ChangeAbove, Obsolete, Retire, UnlockBelow, Unlock, Unwind, Scan, Ended}
 use Rattle.congee.specs.declared.protocol.next_phase.NextPhase.{NextPhase}
 use Rattle.congee.specs.Heap.{Node, Stands, is_taken, version_of}
-use Rattle.congee.specs.protocol.Alike.{Ordered, NodeAlike, HeapAlike, Named, StampAlike, ParentAlike, TopAlike, MadeAlike, ReadAlike, OneAlike, TwoAlike, PhaseAlike, NextPhaseAlike, IsUnrefused, WentAlike}
+use Rattle.congee.specs.protocol.Alike.{Ordered, NodeAlike, HeapAlike, Named, StampAlike, ParentAlike, TopAlike, MadeAlike, ReadAlike, NodeChangeAlike, ParentChangeAlike, PhaseAlike, NextPhaseAlike, IsUnrefused, WentAlike}
 use Rattle.congee.specs.protocol.Events.{upgrade_gives, NewNode}
 use Rattle.congee.specs.protocol.PlainSteps.{Mark, made_lesser, upgraded_top, put, lock, new_node, reading, next_scan, checked, at_old, given_old, given_new, back_one, back_two, Went, went, passes, making, upgraded_one, upgraded_above, upgraded_below, passed_above, phase_step}
-use Rattle.congee.specs.protocol.Steps.{quiet, skipping, set_at, both, form_below, node_of, given_up, again, answered, refused, form_above, after_version, after_read, after_miss, ready, unless_full, IsIf, IsChecked, IsAtOld, MadeLeaf, greater, MadeGreater, MadeTop, MadeBeside, MadeLesser, IsCheckedAbove, UpgradedOne, UpgradedTop, UpgradedAbove, UpgradedBelow, outcome_of, after_scan, PhaseStepped, MayBackOne, MayBackTwo, MayStep}
+use Rattle.congee.specs.protocol.Steps.{quiet, skipping, set_at, both, form_below, node_of, given_up, again, answered, refused, form_above, after_version, after_read, after_miss, ready, unless_full, IsIf, IsChecked, IsAtOld, MadeLeaf, greater, MadeGreater, MadeTop, MadeBeside, MadeLesser, IsCheckedAbove, UpgradedHere, UpgradedTop, UpgradedAbove, UpgradedBelow, outcome_of, after_scan, PhaseStepped, MayBackHere, MayBackAbove, MayStep}
 use Rattle.congee.specs.declared.forms.prefix.TheConstants.{MAX_PREFIX_LEN}
 use Rattle.congee.proofs.lemmas.protocol.AlikeChanges.{HoldsRight, back_one_pair, back_two_pair, change_one_pair, change_two_pair}
 use Rattle.congee.proofs.lemmas.protocol.AlikeHeaps.{Pair, pair_same, ordered_still, pair_locked, pair_freed, pair_marked, pair_handed, later_place, new_place, new_ordered, new_alike}
@@ -181,7 +181,7 @@ module _ {C V : Type 0} (number : C → ℕ) (same : V → V → Bool) (always :
 
   lesser_made : (s : Site C) (p : Parent C) (top : Option (Parent C)) (u : Site ℕ) (q : Parent ℕ) (l : Option (Parent ℕ)) (y : Reply V) (h' : ℕ → Node V) (new' : Option V) (t : NextPhase C V) (z : Result C Refusal)
       → ReadAlike order number s u → ParentAlike order number p q → TopAlike order number top l → t.report.skipped ≡ false → new' ≡ new → MadeLesser number s p top y h key z h' t → Goal new' t h' (made_lesser key new g k u q l y)
-  lesser_made s p None u q l y h' new' t (Err z) a b d sk e i = absurd (unskipped (UpgradeOne (set_at s) y) t sk i.1)
+  lesser_made s p None u q l y h' new' t (Err z) a b d sk e i = absurd (unskipped (UpgradeHere (set_at s) y) t sk i.1)
   lesser_made s p (Some top) u q l y h' new' t (Err z) a b d sk e i = absurd (unskipped (UpgradeAbove (both p s Unlink) y) t sk i.1)
   lesser_made s p None u q l y h' new' t (Ok c) a b d sk e i =
       let w : ℕ → NextPhase ℕ V = λ n. quiet (UpgradeAbove (both q u (Shrink n)) y) in
@@ -229,17 +229,17 @@ module _ {C V : Type 0} (number : C → ℕ) (same : V → V → Bool) (always :
       let z : NodeAlike order (h (number c)) (g n) = node c n e s in
       rw (z.version, z.locked, z.obsolete, f) refl
 
-  one_upgraded : (one : One C) (u : One ℕ) (y : Reply V) (h' : ℕ → Node V) (new' : Option V) (t : NextPhase C V) (a : Upgrade) → OneAlike order number one u → Stands (h (number one.at.node)) → MayBackOne number h one.change → new' ≡ new
-      → UpgradedOne number root one y h a h' t → Goal new' t h' (upgraded_one m new g k u y a)
+  one_upgraded : (one : NodeChange C) (u : NodeChange ℕ) (y : Reply V) (h' : ℕ → Node V) (new' : Option V) (t : NextPhase C V) (a : Upgrade) → NodeChangeAlike order number one u → Stands (h (number one.at.node)) → MayBackHere number h one.change → new' ≡ new
+      → UpgradedHere number root one y h a h' t → Goal new' t h' (upgraded_one m new g k u y a)
   one_upgraded one u y h' new' t Locked z s may e i =
-      paired h' (lock g u.at.node) new' new t (quiet (ChangeOne u y)) (pair_locked order h g o x (number one.at.node) u.at.node h' z.at.node s i.0) e
-      (alike_at order number h' t _ _ i.1 (quiet_alike order number h' (ChangeOne one y) (ChangeOne u y) (u, refl, z)))
+      paired h' (lock g u.at.node) new' new t (quiet (ChangeHere u y)) (pair_locked order h g o x (number one.at.node) u.at.node h' z.at.node s i.0) e
+      (alike_at order number h' t _ _ i.1 (quiet_alike order number h' (ChangeHere one y) (ChangeHere u y) (u, refl, z)))
   one_upgraded one u y h' new' t Failed z s may e i =
       paired h' (back_one u.change g) new' new t (again m) (back_one_pair order number h g o x h' one.change u.change z.change may i.0) e (alike_at order number h' t _ _ i.1 (again_alike order number h' root m r))
   one_upgraded one u y h' new' t Exhausted z s may e i =
       paired h' (back_one u.change g) new' new t (refused refusal.Exhausted) (back_one_pair order number h g o x h' one.change u.change z.change may i.0) e (alike_at order number h' t _ _ i.1 (refused_alike order number h' refusal.Exhausted))
 
-  above_upgraded : (two : Two C) (u : Two ℕ) (y : Reply V) (h' : ℕ → Node V) (new' : Option V) (t : NextPhase C V) (a : Upgrade) → TwoAlike order number two u → Stands (h (number two.above.stamp.node)) → MayBackTwo number h two.change → new' ≡ new
+  above_upgraded : (two : ParentChange C) (u : ParentChange ℕ) (y : Reply V) (h' : ℕ → Node V) (new' : Option V) (t : NextPhase C V) (a : Upgrade) → ParentChangeAlike order number two u → Stands (h (number two.above.stamp.node)) → MayBackAbove number h two.change → new' ≡ new
       → UpgradedAbove number root two y h a h' t → Goal new' t h' (upgraded_above m new g k u y a)
   above_upgraded two u y h' new' t Locked z s may e i =
       paired h' (lock g u.above.stamp.node) new' new t (quiet (UpgradeBelow u y)) (pair_locked order h g o x (number two.above.stamp.node) u.above.stamp.node h' z.above.stamp.node s i.0) e
@@ -250,7 +250,7 @@ module _ {C V : Type 0} (number : C → ℕ) (same : V → V → Bool) (always :
       paired h' (back_two u.change g) new' new t (given_up m u.top (Some refusal.Exhausted)) (back_two_pair order number h g o x h' two.change u.change z.change may i.0) e
       (alike_at order number h' t _ _ i.1 (given_up_alike order number h' root m two.top u.top (Some refusal.Exhausted) r z.top))
 
-  top_upgraded : (top : Parent C) (q : Parent ℕ) (two : Two C) (u : Two ℕ) (y : Reply V) (h' : ℕ → Node V) (new' : Option V) (t : NextPhase C V) (a : Upgrade) → ParentAlike order number top q → TwoAlike order number two u → Stands (h (number top.stamp.node)) → MayBackTwo number h two.change → new' ≡ new
+  top_upgraded : (top : Parent C) (q : Parent ℕ) (two : ParentChange C) (u : ParentChange ℕ) (y : Reply V) (h' : ℕ → Node V) (new' : Option V) (t : NextPhase C V) (a : Upgrade) → ParentAlike order number top q → ParentChangeAlike order number two u → Stands (h (number top.stamp.node)) → MayBackAbove number h two.change → new' ≡ new
       → UpgradedTop number root top two y h a h' t → Goal new' t h' (upgraded_top m new g k q u y a)
   top_upgraded top q two u y h' new' t Locked b z s may e i =
       paired h' (lock g q.stamp.node) new' new t (quiet (UpgradeAbove (record u { top = Some q }) y)) (pair_locked order h g o x (number top.stamp.node) q.stamp.node h' b.stamp.node s i.0) e
@@ -261,11 +261,11 @@ module _ {C V : Type 0} (number : C → ℕ) (same : V → V → Bool) (always :
   top_upgraded top q two u y h' new' t Exhausted b z s may e i =
       paired h' (back_two u.change g) new' new t (refused refusal.Exhausted) (back_two_pair order number h g o x h' two.change u.change z.change may i.0) e (alike_at order number h' t _ _ i.1 (refused_alike order number h' refusal.Exhausted))
 
-  below_upgraded : (two : Two C) (u : Two ℕ) (y : Reply V) (h' : ℕ → Node V) (new' : Option V) (t : NextPhase C V) (a : Upgrade) → TwoAlike order number two u → Stands (h (number two.at.node)) → MayBackTwo number h two.change → new' ≡ new
+  below_upgraded : (two : ParentChange C) (u : ParentChange ℕ) (y : Reply V) (h' : ℕ → Node V) (new' : Option V) (t : NextPhase C V) (a : Upgrade) → ParentChangeAlike order number two u → Stands (h (number two.at.node)) → MayBackAbove number h two.change → new' ≡ new
       → UpgradedBelow number two y h a h' t → Goal new' t h' (upgraded_below new g k u y a)
   below_upgraded two u y h' new' t Locked z s may e i =
-      paired h' (lock g u.at.node) new' new t (quiet (ChangeTwo u y)) (pair_locked order h g o x (number two.at.node) u.at.node h' z.at.node s i.0) e
-      (alike_at order number h' t _ _ i.1 (quiet_alike order number h' (ChangeTwo two y) (ChangeTwo u y) (u, refl, z)))
+      paired h' (lock g u.at.node) new' new t (quiet (ChangeAbove u y)) (pair_locked order h g o x (number two.at.node) u.at.node h' z.at.node s i.0) e
+      (alike_at order number h' t _ _ i.1 (quiet_alike order number h' (ChangeAbove two y) (ChangeAbove u y) (u, refl, z)))
   below_upgraded two u y h' new' t Failed z s may e i =
       paired h' (back_two u.change g) new' new t (quiet (Unwind u.above.stamp.node (node_of u.top) None)) (back_two_pair order number h g o x h' two.change u.change z.change may i.0) e
       (alike_at order number h' t _ _ i.1 (quiet_alike order number h' (Unwind two.above.stamp.node (node_of two.top) None) (Unwind u.above.stamp.node (node_of u.top) None)
@@ -275,13 +275,13 @@ module _ {C V : Type 0} (number : C → ℕ) (same : V → V → Bool) (always :
       (alike_at order number h' t _ _ i.1 (quiet_alike order number h' (Unwind two.above.stamp.node (node_of two.top) (Some refusal.Exhausted)) (Unwind u.above.stamp.node (node_of u.top) (Some refusal.Exhausted))
       (u.above.stamp.node, node_of u.top, refl, z.above.stamp.node, node_alike order number h' two.top u.top z.top)))
 
-  above_passed : (p : Stamp C) (q : Stamp ℕ) (one : One C) (u : One ℕ) (y : Reply V) (h' : ℕ → Node V) (new' : Option V) (t : NextPhase C V) → StampAlike order number p q → OneAlike order number one u → Stands (h (number p.node)) → MayBackOne number h one.change → new' ≡ new
+  above_passed : (p : Stamp C) (q : Stamp ℕ) (one : NodeChange C) (u : NodeChange ℕ) (y : Reply V) (h' : ℕ → Node V) (new' : Option V) (t : NextPhase C V) → StampAlike order number p q → NodeChangeAlike order number one u → Stands (h (number p.node)) → MayBackHere number h one.change → new' ≡ new
       → IsCheckedAbove number root p one y h h' t → Goal new' t h' (passed_above (is_taken (g q.node) q.version) m new g k u y)
   above_passed p q one u y h' new' t a z s may e i =
       let same_word : is_taken (g q.node) q.version ≡ is_taken (h (number p.node)) p.version = taken_alike order (h (number p.node)) (g q.node) p.version q.version (node p.node q.node a.node s) a.version in
       let P : Bool → Type 0 = λ b. Goal new' t h' (passed_above b m new g k u y) in
       elim (cases_Bool (is_taken (h (number p.node)) p.version)) [
-        | inl met ↦ subst P (sym (same_word ∙ met)) (still h' new' new t (quiet (UpgradeOne u y)) (i.goes_on met).0 e (alike_at order number h' t _ _ (i.goes_on met).1 (quiet_alike order number h' (UpgradeOne one y) (UpgradeOne u y) (u, refl, z))))
+        | inl met ↦ subst P (sym (same_word ∙ met)) (still h' new' new t (quiet (UpgradeHere u y)) (i.goes_on met).0 e (alike_at order number h' t _ _ (i.goes_on met).1 (quiet_alike order number h' (UpgradeHere one y) (UpgradeHere u y) (u, refl, z))))
         | inr lost ↦ subst P (sym (same_word ∙ lost)) (paired h' (back_one u.change g) new' new t (again m) (back_one_pair order number h g o x h' one.change u.change z.change may (i.goes_back lost).0) e (alike_at order number h' t _ _ (i.goes_back lost).1 (again_alike order number h' root m r)))
       ]
 
@@ -349,11 +349,11 @@ module _ {C V : Type 0} (number : C → ℕ) (same : V → V → Bool) (always :
   phase_alike (CheckAbove p one y) q h' new' t e may holds un sk i =
       let P : Phase ℕ V → Type 0 = λ z. Goal new' t h' (steps z) in
       subst P (sym e.2) (above_passed p e.0 one e.1 y h' new' t e.3 e.4 may.0 may.1 i.0 i.1)
-  phase_alike (UpgradeOne one y) q h' new' t e may holds un sk i =
+  phase_alike (UpgradeHere one y) q h' new' t e may holds un sk i =
       let P : Phase ℕ V → Type 0 = λ z. Goal new' t h' (steps z) in
       let Q : Upgrade → Type 0 = λ z. Goal new' t h' (upgraded_one m new g k e.0 y z) in
       subst P (sym e.1) (subst Q (i.1.1 ∙ sym (upgrade_same one.at.node e.0.at.node one.at.version e.0.at.version e.2.at.node may.0 e.2.at.version)) (one_upgraded one e.0 y h' new' t i.1.0 e.2 may.0 may.1 i.0 i.1.2))
-  phase_alike (ChangeOne one y) q h' new' t e may holds un sk i =
+  phase_alike (ChangeHere one y) q h' new' t e may holds un sk i =
       let P : Phase ℕ V → Type 0 = λ z. Goal new' t h' (steps z) in
       subst P (sym e.1) (paired h' _ new' None t _ (change_one_pair order number h g o x h' key new one e.0 e.2.at e.2.byte one.change e.0.change e.2.change may i.1) i.0
       (alike_at order number h' t _ _ i.2 (decided_alike order number h' (Unlock one.at.node y) (Unlock e.0.at.node y) (e.0.at.node, refl, e.2.at.node))))
@@ -371,7 +371,7 @@ module _ {C V : Type 0} (number : C → ℕ) (same : V → V → Bool) (always :
       let P : Phase ℕ V → Type 0 = λ z. Goal new' t h' (steps z) in
       let Q : Upgrade → Type 0 = λ z. Goal new' t h' (upgraded_below new g k e.0 y z) in
       subst P (sym e.1) (subst Q (i.1.1 ∙ sym (upgrade_same two.at.node e.0.at.node two.at.version e.0.at.version e.2.at.node may.0 e.2.at.version)) (below_upgraded two e.0 y h' new' t i.1.0 e.2 may.0 may.1 i.0 i.1.2))
-  phase_alike (ChangeTwo two y) q h' new' t e may holds un sk i =
+  phase_alike (ChangeAbove two y) q h' new' t e may holds un sk i =
       let P : Phase ℕ V → Type 0 = λ z. Goal new' t h' (steps z) in
       subst P (sym e.1) (paired h' _ new' None t _ (change_two_pair order number h g o x h' key two e.0 e.2 new two.change e.0.change e.2.change holds may i.1) i.0
       (alike_at order number h' t _ _ i.2 (change_alike order number h' two e.0 y e.2 two.change e.0.change e.2.change)))

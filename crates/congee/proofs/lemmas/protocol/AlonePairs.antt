@@ -27,7 +27,7 @@ use Rattle.congee.proofs.lemmas.protocol.ScanKept.{child_after, child_before, la
 use Rattle.congee.proofs.lemmas.forms.BetweenLemmas.{true_of_T, less_of_cmp}
 
 -- 1 where the number is at least `lo` and below `hi`
-abbrev inside : ℕ → ℕ → ℕ → ℕ
+abbrev pub inside : ℕ → ℕ → ℕ → ℕ
 inside lo hi k = cond (ltb k lo) 0 (cond (ltb k hi) 1 0)
 
 in_low : (lo hi k : ℕ) → k < lo → inside lo hi k ≡ 0
@@ -64,16 +64,17 @@ tied a b e = grind (arith, nat_tests, e)
 untied : (a b : ℕ) → eq_by_cmp nat_cmp a b ≡ false → a ≡ b → ⊥
 untied a b e is = grind (arith, nat_tests, e, is)
 
-ties : (a : ℕ) → eq_by_cmp nat_cmp a a ≡ true
+-- a number ties with itself
+pub ties : (a : ℕ) → eq_by_cmp nat_cmp a a ≡ true
 ties a = grind (arith, nat_tests)
 
 module _ {V : Type 0} where
   -- how many entries have a key that is at least `lo` and below `hi`
-  abbrev count : ℕ → ℕ → List (ℕ × V) → ℕ
+  abbrev pub count : ℕ → ℕ → List (ℕ × V) → ℕ
   count lo hi [] = 0
   count lo hi (e ∷ es) = inside lo hi e.0 + count lo hi es
 
-  parts : (lo mid hi : ℕ) (es : List (ℕ × V)) → lo ≤ mid → mid ≤ hi → count lo hi es ≡ count lo mid es + count mid hi es
+  pub parts : (lo mid hi : ℕ) (es : List (ℕ × V)) → lo ≤ mid → mid ≤ hi → count lo hi es ≡ count lo mid es + count mid hi es
   parts lo mid hi [] a b = refl
   parts lo mid hi (e ∷ es) a b = let s = parts lo mid hi es a b in let i = in_parts lo mid hi e.0 a b in omega (arith, s, i)
 
@@ -86,7 +87,7 @@ module _ {V : Type 0} where
   a_first false v y q e = absurd cc
 
   -- none where none is found
-  none : (lo hi : ℕ) (es : List (ℕ × V)) → ((k : ℕ) → lo ≤ k → k < hi → find nat_cmp k es ≡ None) → count lo hi es ≡ 0
+  pub none : (lo hi : ℕ) (es : List (ℕ × V)) → ((k : ℕ) → lo ≤ k → k < hi → find nat_cmp k es ≡ None) → count lo hi es ≡ 0
   none lo hi [] f = refl
   none lo hi (e ∷ es) f =
       let s = none lo hi es (λ k l u. not_first (eq_by_cmp nat_cmp k e.0) e.1 (find nat_cmp k es) (f k l u)) in
@@ -100,7 +101,7 @@ module _ {V : Type 0} where
       omega (arith, s, i)
 
   -- all where none beyond is found
-  all : (hi : ℕ) (es : List (ℕ × V)) → ((k : ℕ) → hi ≤ k → find nat_cmp k es ≡ None) → count 0 hi es ≡ length es
+  pub all : (hi : ℕ) (es : List (ℕ × V)) → ((k : ℕ) → hi ≤ k → find nat_cmp k es ≡ None) → count 0 hi es ≡ length es
   all hi [] f = refl
   all hi (e ∷ es) f =
       let s = all hi es (λ k u. not_first (eq_by_cmp nat_cmp k e.0) e.1 (find nat_cmp k es) (f k u)) in
@@ -123,7 +124,7 @@ module _ {V : Type 0} where
   sorted_rest e es t = both (below_all nat_cmp e.0 es) (is_sorted nat_cmp es) t
 
   -- a key that is found stands once
-  one : (k : ℕ) (v : V) (es : List (ℕ × V)) → T (is_sorted nat_cmp es) → find nat_cmp k es ≡ Some v → count k (k + 1) es ≡ 1
+  pub one : (k : ℕ) (v : V) (es : List (ℕ × V)) → T (is_sorted nat_cmp es) → find nat_cmp k es ≡ Some v → count k (k + 1) es ≡ 1
   one k v [] t f = absurd cc
   one k v (e ∷ es) t f = elim (eq_by_cmp nat_cmp k e.0) as (λ b. eq_by_cmp nat_cmp k e.0 ≡ b → cond b (Some e.1) (find nat_cmp k es) ≡ Some v → count k (k + 1) (e ∷ es) ≡ 1) [
     | true ↦ λ q _. (
@@ -156,7 +157,7 @@ key_small k =
     let b7 = byte_small k 7 (omega arith) in
     omega (arith, b0, b1, b2, b3, b4, b5, b6, b7)
 
-bytes_small : (k i : ℕ) → get_or (key_bytes k) i 0 < 256
+pub bytes_small : (k i : ℕ) → get_or (key_bytes k) i 0 < 256
 bytes_small k i = elim (cases_lt i 8) [
   | inl l ↦ byte_small k i l
   | inr l ↦ omega (arith, get_or_past (key_bytes k) i l)
@@ -185,7 +186,7 @@ region_in p short b =
       },
     )
 
-module _ {V : Type 0} (a : ℕ → Note) (h : ℕ → Node V) (t : Tree a h) (w : LockWords a h) (m : FinMap nat_cmp V) (st : IsMapOf h m) where
+module _ {V : Type 0} (a : ℕ → Note) (h : ℕ → Node V) (t : Tree a h) (keyed : (n : ℕ) → (a n).status ≡ Linked → BeginsKey (h n).prefix) (m : FinMap nat_cmp V) (st : IsMapOf h m) where
   -- the pairs of the map whose keys are at least `lo` and below `hi`
   abbrev pairs : ℕ → ℕ → ℕ
   pairs lo hi = count lo hi (entries m)
@@ -213,7 +214,7 @@ module _ {V : Type 0} (a : ℕ → Note) (h : ℕ → Node V) (t : Tree a h) (w 
         lacks_bytes a h t m st [] n base depth l r b (b + 1) k i.0 i.1 i.2 lo hi (λ q p u. (let s : b ≡ q = omega (arith, p, u) in subst (λ y. (h n).children y ≡ Nothing) s e))))
     at_byte b (Below c) small e =
         let i = t.down n b c l e in
-        let y = region_in (h c).prefix (t.short c i.linked) ((w.each c).keyed i.linked) in
+        let y = region_in (h c).prefix (t.short c i.linked) (keyed c i.linked) in
         let x : Region = y.0 in
         let lo : start_at base depth b ≤ x.base = child_after a h t n base depth l r b c x e y.1 in
         let hi : end_of x ≤ start_at base depth (b + 1) = child_before a h t n base depth l r b c x e y.1 in
@@ -259,9 +260,13 @@ module _ {V : Type 0} (a : ℕ → Note) (h : ℕ → Node V) (t : Tree a h) (w 
   root_region = record { depth_is = sym (ap length t.empty); short = omega arith; small = omega arith; fitted = rw t.empty refl; even = refl }
 
   -- the values that hang in a tree are as many as the pairs of its map
-  pub pairs_counted : tree_pairs h ≡ len m
-  pairs_counted =
+  pub pairs_keyed : tree_pairs h ≡ len m
+  pairs_keyed =
       let e = under 8 0 0 0 t.root root_region (omega arith) in
       let b : pairs 0 (2 ^ 64) ≡ length (entries m) = all (2 ^ 64) (entries m) (λ k u. sym (get-entries m k) ∙ st.none_beyond k u) in
       let n = len-entries m in
       e ∙ (b ∙ sym n)
+
+-- the same of nodes with lock words
+pub pairs_counted : {V : Type 0} (a : ℕ → Note) (h : ℕ → Node V) → Tree a h → LockWords a h → (m : FinMap nat_cmp V) → IsMapOf h m → tree_pairs h ≡ len m
+pairs_counted a h t w m st = pairs_keyed a h t (λ n l. (w.each n).keyed l) m st

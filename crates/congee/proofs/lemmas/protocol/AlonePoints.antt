@@ -19,16 +19,16 @@ use Rattle.congee.specs.declared.protocol.phase.Kind.TheVariants.{Get, Insert, R
 use Rattle.congee.specs.declared.protocol.phase.Parent.{Parent}
 use Rattle.congee.specs.declared.protocol.phase.Above.{Above as Over}
 use Rattle.congee.specs.declared.protocol.phase.Site.{Site}
-use Rattle.congee.specs.declared.protocol.phase.Single.{Single}
-use Rattle.congee.specs.declared.protocol.phase.Single.TheVariants.{Set, Link}
-use Rattle.congee.specs.declared.protocol.phase.One.{One}
-use Rattle.congee.specs.declared.protocol.phase.Double.{Double}
-use Rattle.congee.specs.declared.protocol.phase.Double.TheVariants.{Unlink, Split, Collapse, ShrinkAbove}
-use Rattle.congee.specs.declared.protocol.phase.Two.{Two}
+use Rattle.congee.specs.declared.protocol.phase.Placement.{Placement}
+use Rattle.congee.specs.declared.protocol.phase.Placement.TheVariants.{Set, Link}
+use Rattle.congee.specs.declared.protocol.phase.NodeChange.{NodeChange}
+use Rattle.congee.specs.declared.protocol.phase.Replacement.{Replacement}
+use Rattle.congee.specs.declared.protocol.phase.Replacement.TheVariants.{Unlink, Split, Collapse, ShrinkAbove}
+use Rattle.congee.specs.declared.protocol.phase.ParentChange.{ParentChange}
 use Rattle.congee.specs.declared.protocol.phase.Plan.{Plan}
 use Rattle.congee.specs.declared.protocol.phase.Plan.TheVariants.{Here, Above}
 use Rattle.congee.specs.declared.protocol.phase.Phase.{Phase}
-use Rattle.congee.specs.declared.protocol.phase.Phase.TheVariants.{New, Version, Read, Check, CheckUncopied, CheckMiss, CheckDown, CheckOld, MakeLeaf, MakeGreater, MakeTop, MakeBeside, MakeLesser, AskOld, AskNew, Confirm, CheckAbove, UpgradeOne, ChangeOne, UpgradeTop, UpgradeAbove, UpgradeBelow, ChangeTwo, Obsolete, Retire, UnlockBelow, Unlock, Unwind, Scan, Ended}
+use Rattle.congee.specs.declared.protocol.phase.Phase.TheVariants.{New, Version, Read, Check, CheckUncopied, CheckMiss, CheckDown, CheckOld, MakeLeaf, MakeGreater, MakeTop, MakeBeside, MakeLesser, AskOld, AskNew, Confirm, CheckAbove, UpgradeHere, ChangeHere, UpgradeTop, UpgradeAbove, UpgradeBelow, ChangeAbove, Obsolete, Retire, UnlockBelow, Unlock, Unwind, Scan, Ended}
 use Rattle.congee.specs.declared.protocol.machine.Outcome.{Outcome}
 use Rattle.congee.specs.declared.protocol.scan.Stage.TheVariants as stage
 use Rattle.congee.specs.declared.protocol.next_phase.NextPhase.{NextPhase}
@@ -38,7 +38,7 @@ use Rattle.congee.specs.Notes.{Note, Linked, is_published, IsChild, Tree, LockWo
 use Rattle.congee.specs.protocol.Events.{hung, NewNode, ReadGives, upgrade_gives}
 use Rattle.congee.specs.protocol.Holdings.{LockedBy}
 use Rattle.congee.specs.protocol.Protocol.{ChildOf, IsFar, IsAbove, IsLesser, Knows, Known}
-use Rattle.congee.specs.protocol.Steps.{skipping, shrinks, set_at, both as both_of, last_out, near_of, node_of, given_up, after_top, after_retire, again, answered, refused, CopyFailed, adds, asks_new, absent_reply, greater, stamp_above, after_version, after_read, down, started, ready, plan_here, unless_full, absent, IsAsked, replaced, taken_out, is_same, IsAtOld, IsAdded, IsExchanged, IsPresent, IsChecked, after_miss, IsGiven, IsGivenNew, MadeLeaf, MadeGreater, MadeTop, MadeBeside, MadeLesser, UpgradedOne, UpgradedTop, UpgradedAbove, UpgradedBelow, after_change, PhaseStepped}
+use Rattle.congee.specs.protocol.Steps.{skipping, shrinks, set_at, both as both_of, last_out, near_of, node_of, given_up, after_top, after_retire, again, answered, refused, CopyFailed, adds, asks_new, absent_reply, greater, stamp_above, after_version, after_read, down, started, ready, plan_here, unless_full, absent, IsAsked, replaced, taken_out, is_same, IsAtOld, IsAdded, IsExchanged, IsPresent, IsChecked, after_miss, IsGiven, IsGivenNew, MadeLeaf, MadeGreater, MadeTop, MadeBeside, MadeLesser, UpgradedHere, UpgradedTop, UpgradedAbove, UpgradedBelow, after_change, PhaseStepped}
 use Rattle.congee.specs.protocol.Alone.{IsPoint, stamps_if, stamps_top, stamps_over, stamps_site, stamps_plan, AreTaken, IsUndisturbed, IsAnswer, HasAnswer, steps_down, steps_next, steps_left}
 use Rattle.congee.specs.protocol.Trace.{goes_on, is_asked}
 use Rattle.congee.proofs.lemmas.Fits.{and_true, same_test}
@@ -109,7 +109,7 @@ module _ {C V : Type 0} (number : C → ℕ) (h : ℕ → Node V) (n : ℕ) wher
   check_taken None t = tt
   check_taken (Some u) t = (t.0, tt)
 
-  unless : 10 < n → (kind : Kind V) (s : Site C) (full : Bool) (above : Option (Over C)) (leaf : Option C) (change : Single C) → AreTaken number h (stamps_site s) → AreTaken number h (stamps_over above) → Nearer (unless_full kind s full above leaf change)
+  unless : 10 < n → (kind : Kind V) (s : Site C) (full : Bool) (above : Option (Over C)) (leaf : Option C) (change : Placement C) → AreTaken number h (stamps_site s) → AreTaken number h (stamps_over above) → Nearer (unless_full kind s full above leaf change)
   unless l kind s true (Some p) leaf change t u = (((u.0, (t.0, tt)), tt), l, tt)
   unless l kind s true None leaf change t u = readies (omega (arith, l)) kind (plan_here s change) (t.0, check_taken s.above t.1)
   unless l kind s false above leaf change t u = readies (omega (arith, l)) kind (plan_here s change) (t.0, check_taken s.above t.1)
@@ -133,11 +133,11 @@ module _ {C V : Type 0} (number : C → ℕ) (h : ℕ → Node V) (n : ℕ) wher
   takes_out l s (Some y) r t u = by_test (λ (z : NextPhase C V). Nearer z) (s.count == 1) _ _ (λ _. last l s y.near y.far r t u)
       (λ _. by_test (λ (z : NextPhase C V). Nearer z) (shrinks s.form s.count) _ _ (λ _. (((u.0, (t.0, tt)), tt), l, tt)) (λ _. (((t.0, tt), tt), omega (arith, l), tt)))
 
-  tops : 5 < n → (two : Two C) (r : Reply V) (top : Option (Parent C)) → Nearer (after_top two r top)
+  tops : 5 < n → (two : ParentChange C) (r : Reply V) (top : Option (Parent C)) → Nearer (after_top two r top)
   tops l two r None = ((tt, tt), omega (arith, l), tt)
   tops l two r (Some top) = ((tt, tt), l, tt)
 
-  changes : 5 < n → (two : Two C) (r : Reply V) (change : Double C) → Nearer (after_change two r change)
+  changes : 5 < n → (two : ParentChange C) (r : Reply V) (change : Replacement C) → Nearer (after_change two r change)
   changes l two r Collapse = tops l two r two.top
   changes l two r (ShrinkAbove c) = tops l two r two.top
   changes l two r _ = ((tt, tt), omega (arith, l), tt)
@@ -296,7 +296,7 @@ module _ {C V : Type 0} (number : C → ℕ) (same : V → V → Bool) (always :
       → IsLesser number a h (key_bytes k) s p top → AreTaken number h (p.stamp ∷ s.at ∷ stamps_top top) → MadeLesser number s p top r h (key_bytes k) x h' t → Near' 10 t
   lesser_made s p None r (Ok c) t pp ps y u g =
       near_to number h' 10 _ t g.1 (((made_taken (number c) _ (key_bytes k) s.depth g.0 p.stamp pp u.0, (made_taken (number c) _ (key_bytes k) s.depth g.0 s.at ps u.1.0, tt)), tt), omega arith, tt)
-  lesser_made s p None r (Err e) t pp ps y u g = stays 10 t g.0 (near_to number h 10 (skipping (UpgradeOne (set_at s) r)) t g.1 (((u.1.0, tt), tt), omega arith, tt))
+  lesser_made s p None r (Err e) t pp ps y u g = stays 10 t g.0 (near_to number h 10 (skipping (UpgradeHere (set_at s) r)) t g.1 (((u.1.0, tt), tt), omega arith, tt))
   lesser_made s p (Some top) r (Ok c) t pp ps y u g =
       near_to number h' 10 _ t g.1 (
         (
@@ -311,12 +311,12 @@ module _ {C V : Type 0} (number : C → ℕ) (same : V → V → Bool) (always :
       )
   lesser_made s p (Some top) r (Err e) t pp ps y u g = stays 10 t g.0 (near_to number h 10 (skipping (UpgradeAbove (both_of p s Unlink) r)) t g.1 (((u.0, (u.1.0, tt)), tt), omega arith, tt))
 
-  one_upgraded : (one : One C) (r : Reply V) (u : Upgrade) (t : NextPhase C V) → u ≢ Failed → UpgradedOne number root one r h u h' t → Near' 3 t
+  one_upgraded : (one : NodeChange C) (r : Reply V) (u : Upgrade) (t : NextPhase C V) → u ≢ Failed → UpgradedHere number root one r h u h' t → Near' 3 t
   one_upgraded one r Locked t f g = near_to number h' 3 _ t g.1 ((tt, tt), omega arith, tt)
   one_upgraded one r Failed t f g = absurd (f refl)
   one_upgraded one r Exhausted t f g = near_to number h' 3 _ t g.1 (stops number h' 3 (omega arith) refusal.Exhausted)
 
-  top_upgraded : (top : Parent C) (two : Two C) (r : Reply V) (u : Upgrade) (t : NextPhase C V) → u ≢ Failed → number two.above.stamp.node ≢ number top.stamp.node → number two.at.node ≢ number top.stamp.node
+  top_upgraded : (top : Parent C) (two : ParentChange C) (r : Reply V) (u : Upgrade) (t : NextPhase C V) → u ≢ Failed → number two.above.stamp.node ≢ number top.stamp.node → number two.at.node ≢ number top.stamp.node
       → is_taken (h (number two.above.stamp.node)) two.above.stamp.version ≡ true → is_taken (h (number two.at.node)) two.at.version ≡ true → UpgradedTop number root top two r h u h' t → Near' 9 t
   top_upgraded top two r Locked t f np na taken low g =
       let P : Node V → Type 0 = λ y. is_taken y two.above.stamp.version ≡ true in
@@ -329,14 +329,14 @@ module _ {C V : Type 0} (number : C → ℕ) (same : V → V → Bool) (always :
   gives_up None = stops number h' 8 (omega arith) refusal.Exhausted
   gives_up (Some top) = ((tt, tt), omega arith, tt)
 
-  above_upgraded : (two : Two C) (r : Reply V) (u : Upgrade) (t : NextPhase C V) → u ≢ Failed → number two.at.node ≢ number two.above.stamp.node → is_taken (h (number two.at.node)) two.at.version ≡ true → UpgradedAbove number root two r h u h' t → Near' 8 t
+  above_upgraded : (two : ParentChange C) (r : Reply V) (u : Upgrade) (t : NextPhase C V) → u ≢ Failed → number two.at.node ≢ number two.above.stamp.node → is_taken (h (number two.at.node)) two.at.version ≡ true → UpgradedAbove number root two r h u h' t → Near' 8 t
   above_upgraded two r Locked t f ne taken g =
       let P : Node V → Type 0 = λ y. is_taken y two.at.version ≡ true in
       near_to number h' 8 _ t g.1 (((subst P (sym (g.0.others (number two.at.node) ne)) taken, tt), tt), omega arith, tt)
   above_upgraded two r Failed t f ne taken g = absurd (f refl)
   above_upgraded two r Exhausted t f ne taken g = near_to number h' 8 _ t g.1 (gives_up two.top)
 
-  both_upgraded : (two : Two C) (r : Reply V) (u : Upgrade) (t : NextPhase C V) → u ≢ Failed → UpgradedBelow number two r h u h' t → Near' 7 t
+  both_upgraded : (two : ParentChange C) (r : Reply V) (u : Upgrade) (t : NextPhase C V) → u ≢ Failed → UpgradedBelow number two r h u h' t → Near' 7 t
   both_upgraded two r Locked t f g = near_to number h' 7 _ t g.1 ((tt, tt), omega arith, tt)
   both_upgraded two r Failed t f g = absurd (f refl)
   both_upgraded two r Exhausted t f g = near_to number h' 7 _ t g.1 ((tt, tt), unwinds (node_of two.top), tt)
@@ -367,8 +367,8 @@ module _ {C V : Type 0} (number : C → ℕ) (same : V → V → Bool) (always :
   points_on new (AskNew plan) answer new' t x u free ask p g = stays _ t g.0 (given_new number h 9 (omega arith) kind plan answer new new' t x.1 u.0 ask g.1)
   points_on new (Confirm stamp r) answer new' t x u free ask p g = stays _ t g.0 (if_taken _ _ _ t u.0.0 g.2 (λ y. near_to number h 1 _ t y (ends number h 1 (omega arith) r)))
   points_on new (CheckAbove q one r) answer new' t x u free ask p g = let y = g.1.goes_on u.0.0 in stays _ t y.0 (near_to number h 4 _ t y.1 ((u.0.1, tt), omega arith, tt))
-  points_on new (UpgradeOne one r) answer new' t x u free ask p g = one_upgraded one r g.1.0 t (λ e. gives most (h (number one.at.node)) one.at.version u.0.0 (sym g.1.1 ∙ e)) g.1.2
-  points_on new (ChangeOne one r) answer new' t x u free ask p g = near_to number h' 2 _ t g.2 ((tt, tt), omega arith, tt)
+  points_on new (UpgradeHere one r) answer new' t x u free ask p g = one_upgraded one r g.1.0 t (λ e. gives most (h (number one.at.node)) one.at.version u.0.0 (sym g.1.1 ∙ e)) g.1.2
+  points_on new (ChangeHere one r) answer new' t x u free ask p g = near_to number h' 2 _ t g.2 ((tt, tt), omega arith, tt)
   points_on new (UpgradeTop top two r) answer new' t x u free ask p g =
       let upper = child_in top (number two.above.stamp.node) x.2 u.0.0 in
       let lower = child_in two.above (number two.at.node) x.1.2.above u.0.1.0 in
@@ -380,7 +380,7 @@ module _ {C V : Type 0} (number : C → ℕ) (same : V → V → Bool) (always :
       above_upgraded two r g.1.0 t (λ e. gives most (h (number two.above.stamp.node)) two.above.stamp.version u.0.0 (sym g.1.1 ∙ e))
       (λ e. let l = below.longer in let q : length (h (number two.at.node)).prefix ≡ length (h (number two.above.stamp.node)).prefix = ap (λ y. length (h y).prefix) e in omega (arith, l, q)) u.0.1.0 g.1.2
   points_on new (UpgradeBelow two r) answer new' t x u free ask p g = both_upgraded two r g.1.0 t (λ e. gives most (h (number two.at.node)) two.at.version u.0.0 (sym g.1.1 ∙ e)) g.1.2
-  points_on new (ChangeTwo two r) answer new' t x u free ask p g = near_to number h' 6 _ t g.2 (changes number h' 6 (omega arith) two r two.change)
+  points_on new (ChangeAbove two r) answer new' t x u free ask p g = near_to number h' 6 _ t g.2 (changes number h' 6 (omega arith) two r two.change)
   points_on new (Obsolete n next q r) answer new' t x u free ask p g = near_to number h' _ _ t g.2 ((tt, tt), omega arith, tt)
   points_on new (Retire n next q r) answer new' t x u free ask p g = near_to number h' _ _ t g.2 (handed next)
     where

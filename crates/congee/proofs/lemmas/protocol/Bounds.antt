@@ -12,19 +12,19 @@ use Rattle.congee.specs.declared.protocol.store.Upgrade.TheVariants.{Locked, Fai
 use Rattle.congee.specs.declared.protocol.phase.Kind.{Kind}
 use Rattle.congee.specs.declared.protocol.phase.Parent.{Parent}
 use Rattle.congee.specs.declared.protocol.phase.Site.{Site}
-use Rattle.congee.specs.declared.protocol.phase.Single.{Single}
-use Rattle.congee.specs.declared.protocol.phase.Single.TheVariants.{Set, Link}
-use Rattle.congee.specs.declared.protocol.phase.One.{One}
-use Rattle.congee.specs.declared.protocol.phase.Double.{Double}
-use Rattle.congee.specs.declared.protocol.phase.Double.TheVariants.{Unlink, Grow, GrowLink, Split, Shrink, Collapse, ShrinkAbove}
-use Rattle.congee.specs.declared.protocol.phase.Two.{Two}
+use Rattle.congee.specs.declared.protocol.phase.Placement.{Placement}
+use Rattle.congee.specs.declared.protocol.phase.Placement.TheVariants.{Set, Link}
+use Rattle.congee.specs.declared.protocol.phase.NodeChange.{NodeChange}
+use Rattle.congee.specs.declared.protocol.phase.Replacement.{Replacement}
+use Rattle.congee.specs.declared.protocol.phase.Replacement.TheVariants.{Unlink, Grow, GrowLink, Split, Shrink, Collapse, ShrinkAbove}
+use Rattle.congee.specs.declared.protocol.phase.ParentChange.{ParentChange}
 use Rattle.congee.specs.declared.protocol.phase.Phase.{Phase}
-use Rattle.congee.specs.declared.protocol.phase.Phase.TheVariants.{MakeLeaf, MakeGreater, MakeTop, MakeBeside, MakeLesser, CheckAbove, UpgradeOne, ChangeOne, UpgradeTop, UpgradeAbove, UpgradeBelow, ChangeTwo, Obsolete, Retire, UnlockBelow, Unlock, Unwind}
+use Rattle.congee.specs.declared.protocol.phase.Phase.TheVariants.{MakeLeaf, MakeGreater, MakeTop, MakeBeside, MakeLesser, CheckAbove, UpgradeHere, ChangeHere, UpgradeTop, UpgradeAbove, UpgradeBelow, ChangeAbove, Obsolete, Retire, UnlockBelow, Unlock, Unwind}
 use Rattle.congee.specs.declared.protocol.next_phase.NextPhase.{NextPhase}
 use Rattle.congee.specs.Heap.{Node, Hung, Stands, is_taken}
 use Rattle.congee.specs.protocol.Bounds.{Bounded, Within}
 use Rattle.congee.specs.protocol.Events.{SameBut, NewNode, ChangeGives, TakeOverGives, BackGives, UnlockGives, upgrade_gives}
-use Rattle.congee.specs.protocol.Steps.{BackOne, BackTwo, BackLeaf, MadeLeaf, MadeGreater, MadeTop, MadeBeside, MadeLesser, UpgradedOne, UpgradedTop, UpgradedAbove, UpgradedBelow, PutsLesser, Collapses, Lessens, ChangedOne, ChangedTwo, PhaseStepped, MayStep}
+use Rattle.congee.specs.protocol.Steps.{BackHere, BackAbove, BackLeaf, MadeLeaf, MadeGreater, MadeTop, MadeBeside, MadeLesser, UpgradedHere, UpgradedTop, UpgradedAbove, UpgradedBelow, PutsLesser, Collapses, Lessens, ChangedHere, ChangedAbove, PhaseStepped, MayStep}
 use Rattle.congee.proofs.lemmas.Fits.{equal_of_test, both_true}
 use Rattle.congee.proofs.lemmas.Graft.{on_test}
 use Rattle.congee.proofs.lemmas.protocol.Locks.{locked_taken}
@@ -90,11 +90,11 @@ module _ {V : Type 0} (most : ℕ) where
       but h h' c (record (h c) { version = (h c).version + 1; locked = false }) (record { low = omega (arith, x); locked = λ z. let y : false ≡ true = z in absurd cc }) g w
 
 module _ {C V : Type 0} (number : C → ℕ) (most : ℕ) (h h' : ℕ → Node V) (w : Within most h) where
-  one_back : (change : Single C) → BackOne number h change h' → Within most h'
+  one_back : (change : Placement C) → BackHere number h change h' → Within most h'
   one_back Set g = same most h h' g w
   one_back (Link leaf) g = back most h h' (number leaf) g w
 
-  two_back : (change : Double C) → BackTwo number h change h' → Within most h'
+  two_back : (change : Replacement C) → BackAbove number h change h' → Within most h'
   two_back Unlink g = same most h h' g w
   two_back Collapse g = same most h h' g w
   two_back (Shrink c) g = back most h h' (number c) g w
@@ -129,44 +129,44 @@ module _ {C V : Type 0} (number : C → ℕ) (most : ℕ) (h h' : ℕ → Node V
   lesser_made s p (Some top) r key (Ok c) t g = made most h h' (number c) _ key p.depth g.0 w
   lesser_made s p (Some top) r key (Err e) t g = same most h h' g.0 w
 
-  one_upgraded : (root : C) (one : One C) (r : Reply V) (fail : Bool) (u : Upgrade) (t : NextPhase C V) → Stands (h (number one.at.node)) → u ≡ upgrade_gives most (h (number one.at.node)) one.at.version fail → UpgradedOne number root one r h u h' t → Within most h'
+  one_upgraded : (root : C) (one : NodeChange C) (r : Reply V) (fail : Bool) (u : Upgrade) (t : NextPhase C V) → Stands (h (number one.at.node)) → u ≡ upgrade_gives most (h (number one.at.node)) one.at.version fail → UpgradedHere number root one r h u h' t → Within most h'
   one_upgraded root one r fail Locked t s e g = locks most h h' (number one.at.node) one.at.version fail s e g.0 w
   one_upgraded root one r fail Failed t s e g = one_back one.change g.0
   one_upgraded root one r fail Exhausted t s e g = one_back one.change g.0
 
-  top_upgraded : (root : C) (top : Parent C) (two : Two C) (r : Reply V) (fail : Bool) (u : Upgrade) (t : NextPhase C V) → Stands (h (number top.stamp.node)) → u ≡ upgrade_gives most (h (number top.stamp.node)) top.stamp.version fail → UpgradedTop number root top two r h u h' t
+  top_upgraded : (root : C) (top : Parent C) (two : ParentChange C) (r : Reply V) (fail : Bool) (u : Upgrade) (t : NextPhase C V) → Stands (h (number top.stamp.node)) → u ≡ upgrade_gives most (h (number top.stamp.node)) top.stamp.version fail → UpgradedTop number root top two r h u h' t
       → Within most h'
   top_upgraded root top two r fail Locked t s e g = locks most h h' (number top.stamp.node) top.stamp.version fail s e g.0 w
   top_upgraded root top two r fail Failed t s e g = two_back two.change g.0
   top_upgraded root top two r fail Exhausted t s e g = two_back two.change g.0
 
-  above_upgraded : (root : C) (two : Two C) (r : Reply V) (fail : Bool) (u : Upgrade) (t : NextPhase C V) → Stands (h (number two.above.stamp.node)) → u ≡ upgrade_gives most (h (number two.above.stamp.node)) two.above.stamp.version fail → UpgradedAbove number root two r h u h' t
+  above_upgraded : (root : C) (two : ParentChange C) (r : Reply V) (fail : Bool) (u : Upgrade) (t : NextPhase C V) → Stands (h (number two.above.stamp.node)) → u ≡ upgrade_gives most (h (number two.above.stamp.node)) two.above.stamp.version fail → UpgradedAbove number root two r h u h' t
       → Within most h'
   above_upgraded root two r fail Locked t s e g = locks most h h' (number two.above.stamp.node) two.above.stamp.version fail s e g.0 w
   above_upgraded root two r fail Failed t s e g = two_back two.change g.0
   above_upgraded root two r fail Exhausted t s e g = two_back two.change g.0
 
-  both_upgraded : (two : Two C) (r : Reply V) (fail : Bool) (u : Upgrade) (t : NextPhase C V) → Stands (h (number two.at.node)) → u ≡ upgrade_gives most (h (number two.at.node)) two.at.version fail → UpgradedBelow number two r h u h' t → Within most h'
+  both_upgraded : (two : ParentChange C) (r : Reply V) (fail : Bool) (u : Upgrade) (t : NextPhase C V) → Stands (h (number two.at.node)) → u ≡ upgrade_gives most (h (number two.at.node)) two.at.version fail → UpgradedBelow number two r h u h' t → Within most h'
   both_upgraded two r fail Locked t s e g = locks most h h' (number two.at.node) two.at.version fail s e g.0 w
   both_upgraded two r fail Failed t s e g = two_back two.change g.0
   both_upgraded two r fail Exhausted t s e g = two_back two.change g.0
 
-  one_changed : (key : List ℕ) (new : Option V) (one : One C) (change : Single C) → ChangedOne number key new one change h h' → Within most h'
+  one_changed : (key : List ℕ) (new : Option V) (one : NodeChange C) (change : Placement C) → ChangedHere number key new one change h h' → Within most h'
   one_changed key new one Set g = changed most h h' (number one.at.node) _ _ g w
   one_changed key new one (Link leaf) g = changed most g.0 h' (number one.at.node) _ _ g.2 (changed most h g.0 (number leaf) _ _ g.1 w)
 
   lessened : (m c b p up : ℕ) → PutsLesser h m c b p up h' → Within most h'
   lessened m c b p up g = changed most g.1 h' p _ _ g.4 (changed most g.0 g.1 c _ _ g.3 (over most h g.0 m c g.2 w))
 
-  top_changed : (two : Two C) (top : Option (Parent C)) → Collapses number two top h h' → Within most h'
+  top_changed : (two : ParentChange C) (top : Option (Parent C)) → Collapses number two top h h' → Within most h'
   top_changed two None g = absurd g
   top_changed two (Some top) g = changed most h h' (number top.stamp.node) _ _ g.2 w
 
-  top_lessened : (two : Two C) (c : C) (top : Option (Parent C)) → Lessens number two c top h h' → Within most h'
+  top_lessened : (two : ParentChange C) (c : C) (top : Option (Parent C)) → Lessens number two c top h h' → Within most h'
   top_lessened two c None g = absurd g
   top_lessened two c (Some top) g = lessened _ _ _ _ _ g
 
-  two_changed : (key : List ℕ) (new : Option V) (two : Two C) (change : Double C) → ChangedTwo number key new two change h h' → Within most h'
+  two_changed : (key : List ℕ) (new : Option V) (two : ParentChange C) (change : Replacement C) → ChangedAbove number key new two change h h' → Within most h'
   two_changed key new two Unlink g = changed most h h' (number two.above.stamp.node) _ _ g w
   two_changed key new two (Shrink c) g = lessened _ _ _ _ _ g
   two_changed key new two Collapse g = top_changed two two.top g
@@ -187,12 +187,12 @@ module _ {C V : Type 0} (number : C → ℕ) (most : ℕ) (h h' : ℕ → Node V
   step_within same_as always why root key kind fail answer new (MakeLesser s p top r) new' t may g = lesser_made s p top r key g.1.0 t g.1.1
   step_within same_as always why root key kind fail answer new (CheckAbove p one r) new' t may g =
       on_test (is_taken (h (number p.node)) p.version) (λ e. same most h h' (g.1.goes_on e).0 w) (λ e. one_back one.change (g.1.goes_back e).0)
-  step_within same_as always why root key kind fail answer new (UpgradeOne one r) new' t may g = one_upgraded root one r fail g.1.0 t may.0 g.1.1 g.1.2
-  step_within same_as always why root key kind fail answer new (ChangeOne one r) new' t may g = one_changed key new one one.change g.1
+  step_within same_as always why root key kind fail answer new (UpgradeHere one r) new' t may g = one_upgraded root one r fail g.1.0 t may.0 g.1.1 g.1.2
+  step_within same_as always why root key kind fail answer new (ChangeHere one r) new' t may g = one_changed key new one one.change g.1
   step_within same_as always why root key kind fail answer new (UpgradeTop top two r) new' t may g = top_upgraded root top two r fail g.1.0 t may.0 g.1.1 g.1.2
   step_within same_as always why root key kind fail answer new (UpgradeAbove two r) new' t may g = above_upgraded root two r fail g.1.0 t may.0 g.1.1 g.1.2
   step_within same_as always why root key kind fail answer new (UpgradeBelow two r) new' t may g = both_upgraded two r fail g.1.0 t may.0 g.1.1 g.1.2
-  step_within same_as always why root key kind fail answer new (ChangeTwo two r) new' t may g = two_changed key new two two.change g.1
+  step_within same_as always why root key kind fail answer new (ChangeAbove two r) new' t may g = two_changed key new two two.change g.1
   step_within same_as always why root key kind fail answer new (Obsolete n next p r) new' t may g = let b : Bounded most (h (number n)) = w (number n) may.0 in but most h h' (number n) _ (record { low = b.low; locked = b.locked }) g.1 w
   step_within same_as always why root key kind fail answer new (Retire n next p r) new' t may g = let b : Bounded most (h (number n)) = w (number n) may.0 in but most h h' (number n) _ (record { low = b.low; locked = b.locked }) g.1 w
   step_within same_as always why root key kind fail answer new (UnlockBelow n p r) new' t may g = unlocks most h h' (number n) may.0 may.1 g.1 w

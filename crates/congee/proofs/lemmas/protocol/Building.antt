@@ -11,7 +11,7 @@ use Rattle.congee.specs.declared.protocol.store.Refusal.{Refusal}
 use Rattle.congee.specs.declared.protocol.phase.Kind.{Kind}
 use Rattle.congee.specs.declared.protocol.phase.Parent.{Parent}
 use Rattle.congee.specs.declared.protocol.phase.Site.{Site}
-use Rattle.congee.specs.declared.protocol.phase.Single.TheVariants.{Set, Link}
+use Rattle.congee.specs.declared.protocol.phase.Placement.TheVariants.{Set, Link}
 use Rattle.congee.specs.declared.protocol.phase.Plan.TheVariants.{Above}
 use Rattle.congee.specs.declared.protocol.phase.Phase.TheVariants.{MakeLeaf, MakeGreater, MakeTop, MakeBeside, MakeLesser}
 use Rattle.congee.specs.declared.protocol.next_phase.NextPhase.{NextPhase}
@@ -20,7 +20,7 @@ use Rattle.congee.specs.protocol.Events.{NewNode, Parts, places}
 use Rattle.congee.specs.protocol.Steps.{shrinks, form_below, both, refused, form_above, greater, MadeLeaf, MadeGreater, MadeTop, MadeBeside, MadeLesser}
 use Rattle.congee.specs.Keys.{key_bytes}
 use Rattle.congee.specs.Notes.{Note, is_published, Tree, LockWords}
-use Rattle.congee.specs.protocol.Protocol.{Stamped, ChildOf, Sees, Knows, Made, FitsOne, Goes, Settles, MadeLeafFor, PlanKnown, Known, Effect}
+use Rattle.congee.specs.protocol.Protocol.{Stamped, ChildOf, Sees, Knows, Made, FitsHere, Goes, Settles, MadeLeafFor, PlanKnown, Known, Effect}
 use Rattle.congee.specs.protocol.Answers.{SameMap, AnswersIf}
 use Rattle.congee.proofs.lemmas.protocol.Rely.{knows_kept, child_kept, stamped_kept}
 use Rattle.congee.specs.protocol.Names.{names_over}
@@ -232,7 +232,7 @@ module _ {C V : Type 0} (number : C → ℕ) (same : V → V → Bool) (always :
             (
               Holds m.1.0,
               one_set number same always i b.notes h' k b.still.effect.tree b.still.effect.words s m.1.0 (knows_after _ h' b.still.effect s (Holds m.1.0) m.1.1) m.2,
-              (let P : Option V → Type 0 = λ o. FitsOne {C = C} Set (Holds m.1.0) o in subst P (sym m.3) (tt, (λ e. cc))),
+              (let P : Option V → Type 0 = λ o. FitsHere {C = C} Set (Holds m.1.0) o in subst P (sym m.3) (tt, (λ e. cc))),
               (let P : Option V → Type 0 = λ o. Settles same k kind given (Some m.1.0) r o in subst P (sym m.3) m.1.2),
             ),
           );

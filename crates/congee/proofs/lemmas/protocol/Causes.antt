@@ -23,16 +23,16 @@ use Rattle.congee.specs.declared.protocol.phase.Kind.TheVariants.{Get, Insert, R
 use Rattle.congee.specs.declared.protocol.phase.Parent.{Parent}
 use Rattle.congee.specs.declared.protocol.phase.Above.{Above as Over}
 use Rattle.congee.specs.declared.protocol.phase.Site.{Site}
-use Rattle.congee.specs.declared.protocol.phase.Single.{Single}
-use Rattle.congee.specs.declared.protocol.phase.Single.TheVariants.{Set, Link}
-use Rattle.congee.specs.declared.protocol.phase.One.{One}
-use Rattle.congee.specs.declared.protocol.phase.Double.{Double}
-use Rattle.congee.specs.declared.protocol.phase.Double.TheVariants.{Split, Collapse, ShrinkAbove}
-use Rattle.congee.specs.declared.protocol.phase.Two.{Two}
+use Rattle.congee.specs.declared.protocol.phase.Placement.{Placement}
+use Rattle.congee.specs.declared.protocol.phase.Placement.TheVariants.{Set, Link}
+use Rattle.congee.specs.declared.protocol.phase.NodeChange.{NodeChange}
+use Rattle.congee.specs.declared.protocol.phase.Replacement.{Replacement}
+use Rattle.congee.specs.declared.protocol.phase.Replacement.TheVariants.{Split, Collapse, ShrinkAbove}
+use Rattle.congee.specs.declared.protocol.phase.ParentChange.{ParentChange}
 use Rattle.congee.specs.declared.protocol.phase.Plan.{Plan}
 use Rattle.congee.specs.declared.protocol.phase.Plan.TheVariants.{Here, Above}
 use Rattle.congee.specs.declared.protocol.phase.Phase.{Phase}
-use Rattle.congee.specs.declared.protocol.phase.Phase.TheVariants.{New, Version, Read, Check, CheckUncopied, CheckMiss, CheckDown, CheckOld, MakeLeaf, MakeGreater, MakeTop, MakeBeside, MakeLesser, AskOld, AskNew, Confirm, CheckAbove, UpgradeOne, UpgradeTop, UpgradeAbove, UpgradeBelow, ChangeTwo, Retire, Unlock, Unwind, Scan}
+use Rattle.congee.specs.declared.protocol.phase.Phase.TheVariants.{New, Version, Read, Check, CheckUncopied, CheckMiss, CheckDown, CheckOld, MakeLeaf, MakeGreater, MakeTop, MakeBeside, MakeLesser, AskOld, AskNew, Confirm, CheckAbove, UpgradeHere, UpgradeTop, UpgradeAbove, UpgradeBelow, ChangeAbove, Retire, Unlock, Unwind, Scan}
 use Rattle.congee.specs.declared.protocol.machine.Outcome.{Outcome}
 use Rattle.congee.specs.declared.protocol.machine.Outcome.TheVariants.{Running, Asks, Found, Done, Scanned, Refused}
 use Rattle.congee.specs.declared.protocol.machine.Move.{Move}
@@ -55,7 +55,7 @@ use Rattle.congee.specs.protocol.Protocol.{IsFailure, Known}
 use Rattle.congee.specs.protocol.ScanEvents.{IsAny}
 use Rattle.congee.specs.protocol.ScanKnown.{ScanKnownAt}
 use Rattle.congee.specs.protocol.ScanSteps.{whole, is_outside, last_of, NextScan, anew, left_to, entered, begins, IsFollowed, ScanSteppedAt}
-use Rattle.congee.specs.protocol.Steps.{shrinks, lesser_form, both, last_out, after_top, after_retire, after_unwind, given_up, again, refused, asking, CopyFailed as UncopiedNext, adds, asks_new, absent_reply, form_above, greater, after_version, after_read, down, started, ready, plan_here, unless_full, absent, IsAsked, replaced, taken_out, is_same, IsAtOld, IsAdded, IsExchanged, IsPresent, IsChecked, after_miss, IsGiven, IsGivenNew, MadeLeaf, MadeGreater, MadeTop, MadeBeside, MadeLesser, UpgradedOne, UpgradedTop, UpgradedAbove, UpgradedBelow, after_change, outcome_of, PhaseStepped}
+use Rattle.congee.specs.protocol.Steps.{shrinks, lesser_form, both, last_out, after_top, after_retire, after_unwind, given_up, again, refused, asking, CopyFailed as UncopiedNext, adds, asks_new, absent_reply, form_above, greater, after_version, after_read, down, started, ready, plan_here, unless_full, absent, IsAsked, replaced, taken_out, is_same, IsAtOld, IsAdded, IsExchanged, IsPresent, IsChecked, after_miss, IsGiven, IsGivenNew, MadeLeaf, MadeGreater, MadeTop, MadeBeside, MadeLesser, UpgradedHere, UpgradedTop, UpgradedAbove, UpgradedBelow, after_change, outcome_of, PhaseStepped}
 use Rattle.congee.proofs.lemmas.Fits.{equal_of_test}
 use Rattle.congee.proofs.lemmas.Graft.{on_test}
 use Rattle.congee.proofs.lemmas.protocol.Touch.{by_test}
@@ -88,7 +88,7 @@ module _ (C V : Type 0) (Q : Refusal → Type 0) where
   readies : (kind : Kind V) (plan : Plan C) → Only (ready kind plan)
   readies kind plan = by_test (λ (z : NextPhase C V). Only z) (asks_new kind) _ _ (λ _. wonders None) (λ _. starts plan (absent_reply kind))
 
-  unless : (kind : Kind V) (s : Site C) (full : Bool) (above : Option (Over C)) (leaf : Option C) (change : Single C) → Only (unless_full kind s full above leaf change)
+  unless : (kind : Kind V) (s : Site C) (full : Bool) (above : Option (Over C)) (leaf : Option C) (change : Placement C) → Only (unless_full kind s full above leaf change)
   unless kind s true (Some p) leaf change = runs
   unless kind s true None leaf change = readies kind (plan_here s change)
   unless kind s false above leaf change = readies kind (plan_here s change)
@@ -130,7 +130,7 @@ module _ (C V : Type 0) (Q : Refusal → Type 0) where
   misses : (kind : Kind V) (p : Parent C) (stamp : Stamp C) (common byte : ℕ) → Only (after_miss kind p stamp common byte)
   misses kind p stamp common byte = by_test (λ (z : NextPhase C V). Only z) (adds kind) _ _ (λ _. runs) (λ _. answers (absent_reply kind))
 
-  tops : (two : Two C) (r : Reply V) (top : Option (Parent C)) → Only (after_top two r top)
+  tops : (two : ParentChange C) (r : Reply V) (top : Option (Parent C)) → Only (after_top two r top)
   tops two r None = runs
   tops two r (Some top) = runs
 
@@ -138,7 +138,7 @@ module _ (C V : Type 0) (Q : Refusal → Type 0) where
   hands_on None last r = runs
   hands_on (Some c) last r = runs
 
-  changes : (two : Two C) (r : Reply V) (change : Double C) → Only (after_change two r change)
+  changes : (two : ParentChange C) (r : Reply V) (change : Replacement C) → Only (after_change two r change)
   changes two r Collapse = tops two r two.top
   changes two r (ShrinkAbove c) = tops two r two.top
   changes two r _ = runs
@@ -288,12 +288,12 @@ module _ {C V : Type 0} (number : C → ℕ) (same : V → V → Bool) (always :
   none_left : (n : Node V) (v : ℕ) → Exhausted ≡ upgrade_gives most n v fail → NoneLeft most v refusal.Exhausted
   none_left n v e = record { exhausted = refl; last = last_version most n v fail e }
 
-  one_upgraded : (one : One C) (r : Reply V) (u : Upgrade) (t : NextPhase C V) → u ≡ upgrade_gives most (h (number one.at.node)) one.at.version fail → UpgradedOne number root one r h u h' t → Only C V (NoneLeft most one.at.version) t
+  one_upgraded : (one : NodeChange C) (r : Reply V) (u : Upgrade) (t : NextPhase C V) → u ≡ upgrade_gives most (h (number one.at.node)) one.at.version fail → UpgradedHere number root one r h u h' t → Only C V (NoneLeft most one.at.version) t
   one_upgraded one r Locked t q g = to C V _ _ t g.1 (runs C V _)
   one_upgraded one r Failed t q g = to C V _ _ t g.1 (runs C V _)
   one_upgraded one r Exhausted t q g = to C V _ _ t g.1 (stops C V _ refusal.Exhausted (none_left (h (number one.at.node)) one.at.version q))
 
-  above_upgraded : (two : Two C) (r : Reply V) (u : Upgrade) (t : NextPhase C V) → u ≡ upgrade_gives most (h (number two.above.stamp.node)) two.above.stamp.version fail → UpgradedAbove number root two r h u h' t → Only C V (NoneLeft most two.above.stamp.version) t
+  above_upgraded : (two : ParentChange C) (r : Reply V) (u : Upgrade) (t : NextPhase C V) → u ≡ upgrade_gives most (h (number two.above.stamp.node)) two.above.stamp.version fail → UpgradedAbove number root two r h u h' t → Only C V (NoneLeft most two.above.stamp.version) t
   above_upgraded two r Locked t q g = to C V _ _ t g.1 (runs C V _)
   above_upgraded two r Failed t q g = to C V _ _ t g.1 (gives_up two.top)
     where
@@ -306,12 +306,12 @@ module _ {C V : Type 0} (number : C → ℕ) (same : V → V → Bool) (always :
       gives_up None = stops C V _ refusal.Exhausted (none_left (h (number two.above.stamp.node)) two.above.stamp.version q)
       gives_up (Some top) = runs C V _
 
-  top_upgraded : (top : Parent C) (two : Two C) (r : Reply V) (u : Upgrade) (t : NextPhase C V) → u ≡ upgrade_gives most (h (number top.stamp.node)) top.stamp.version fail → UpgradedTop number root top two r h u h' t → Only C V (NoneLeft most top.stamp.version) t
+  top_upgraded : (top : Parent C) (two : ParentChange C) (r : Reply V) (u : Upgrade) (t : NextPhase C V) → u ≡ upgrade_gives most (h (number top.stamp.node)) top.stamp.version fail → UpgradedTop number root top two r h u h' t → Only C V (NoneLeft most top.stamp.version) t
   top_upgraded top two r Locked t q g = to C V _ _ t g.1 (runs C V _)
   top_upgraded top two r Failed t q g = to C V _ _ t g.1 (runs C V _)
   top_upgraded top two r Exhausted t q g = to C V _ _ t g.1 (stops C V _ refusal.Exhausted (none_left (h (number top.stamp.node)) top.stamp.version q))
 
-  both_upgraded : (two : Two C) (r : Reply V) (u : Upgrade) (t : NextPhase C V) → UpgradedBelow number two r h u h' t → Only C V (λ _. ⊥) t
+  both_upgraded : (two : ParentChange C) (r : Reply V) (u : Upgrade) (t : NextPhase C V) → UpgradedBelow number two r h u h' t → Only C V (λ _. ⊥) t
   both_upgraded two r Locked t g = to C V _ _ t g.1 (runs C V _)
   both_upgraded two r Failed t g = to C V _ _ t g.1 (runs C V _)
   both_upgraded two r Exhausted t g = to C V _ _ t g.1 (runs C V _)
@@ -339,11 +339,11 @@ module _ {C V : Type 0} (number : C → ℕ) (same : V → V → Bool) (always :
   only new (AskNew plan) new' t x g = given_new C V _ plan answer new new' t g.1
   only new (Confirm at r) new' t x g = if_taken C V _ _ root _ t g.2 (λ y. to C V _ _ t y (answers C V _ r))
   only new (CheckAbove p one r) new' t x g = on_test (is_taken (h (number p.node)) p.version) (λ e. to C V _ _ t (g.1.goes_on e).1 (runs C V _)) (λ e. to C V _ _ t (g.1.goes_back e).1 (runs C V _))
-  only new (UpgradeOne one r) new' t x g = one_upgraded one r g.1.0 t g.1.1 g.1.2
+  only new (UpgradeHere one r) new' t x g = one_upgraded one r g.1.0 t g.1.1 g.1.2
   only new (UpgradeTop top two r) new' t x g = top_upgraded top two r g.1.0 t g.1.1 g.1.2
   only new (UpgradeAbove two r) new' t x g = above_upgraded two r g.1.0 t g.1.1 g.1.2
   only new (UpgradeBelow two r) new' t x g = both_upgraded two r g.1.0 t g.1.2
-  only new (ChangeTwo two r) new' t x g = to C V _ _ t g.2 (changes C V _ two r two.change)
+  only new (ChangeAbove two r) new' t x g = to C V _ _ t g.2 (changes C V _ two r two.change)
   only new (Retire n next p r) new' t x g = to C V _ _ t g.2 (hands_on C V _ next p r)
   only new (Unlock n r) new' t x g = to C V _ _ t g.2 (answers C V _ r)
   only new (Unwind n next e) new' t x g = unwinds next e t x.3 g.2

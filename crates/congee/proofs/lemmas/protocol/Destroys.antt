@@ -3,23 +3,23 @@ use Rattle.std.proofs.Common.{◌≡◌, ℕ, zero, suc, ◌⊎◌, inl, inr, Bo
 use Rattle.std.specs.Prelude.{Option, None, Some, slice_get}
 use Rattle.std.proofs.lemmas.List.Elements.{recursion_from_All}
 use Rattle.congee.specs.declared.protocol.phase.Site.{Site}
-use Rattle.congee.specs.declared.protocol.phase.Single.{Single}
-use Rattle.congee.specs.declared.protocol.phase.Single.TheVariants.{Set, Link}
-use Rattle.congee.specs.declared.protocol.phase.Double.{Double}
-use Rattle.congee.specs.declared.protocol.phase.Double.TheVariants.{Unlink, Grow, GrowLink, Split, Shrink, Collapse, ShrinkAbove}
+use Rattle.congee.specs.declared.protocol.phase.Placement.{Placement}
+use Rattle.congee.specs.declared.protocol.phase.Placement.TheVariants.{Set, Link}
+use Rattle.congee.specs.declared.protocol.phase.Replacement.{Replacement}
+use Rattle.congee.specs.declared.protocol.phase.Replacement.TheVariants.{Unlink, Grow, GrowLink, Split, Shrink, Collapse, ShrinkAbove}
 use Rattle.congee.specs.declared.protocol.phase.Parent.{Parent}
-use Rattle.congee.specs.declared.protocol.phase.Two.{Two}
+use Rattle.congee.specs.declared.protocol.phase.ParentChange.{ParentChange}
 use Rattle.congee.specs.declared.protocol.phase.Plan.{Plan}
 use Rattle.congee.specs.declared.protocol.phase.Plan.TheVariants.{Here, Above}
 use Rattle.congee.specs.declared.protocol.phase.Phase.{Phase}
-use Rattle.congee.specs.declared.protocol.phase.Phase.TheVariants.{MakeGreater, MakeBeside, AskNew, CheckAbove, UpgradeOne, ChangeOne, UpgradeTop, UpgradeAbove, UpgradeBelow, ChangeTwo, Obsolete, Retire, UnlockBelow, Unlock, Unwind}
+use Rattle.congee.specs.declared.protocol.phase.Phase.TheVariants.{MakeGreater, MakeBeside, AskNew, CheckAbove, UpgradeHere, ChangeHere, UpgradeTop, UpgradeAbove, UpgradeBelow, ChangeAbove, Obsolete, Retire, UnlockBelow, Unlock, Unwind}
 use Rattle.congee.specs.declared.protocol.machine.Machine.{Machine}
 use Rattle.congee.specs.Heap.{Node, walk}
 use Rattle.congee.specs.Keys.{key_bytes}
 use Rattle.congee.specs.Notes.{Note, Status, Unmade, Held, Linked, Gone, Destroyed, is_published, is_spent, IsChild, HasParent, Tree, WordAt, LockWords}
 use Rattle.congee.specs.protocol.Protocol.{Rely}
 use Rattle.congee.specs.protocol.Answers.{SameMap}
-use Rattle.congee.specs.protocol.Holdings.{IsTop, LockedBy, MadeForOne, MadeForTwo, MadeForPlan, IsMade, MadeBy, Holdings}
+use Rattle.congee.specs.protocol.Holdings.{IsTop, LockedBy, MadeForHere, MadeForAbove, MadeForPlan, IsMade, MadeBy, Holdings}
 use Rattle.congee.specs.protocol.Names.{name_above, name_stamped, name_made, names_for_one, names_for_two, names_site, names_one, names_two, names_plan, names}
 use Rattle.congee.specs.protocol.Play.{EachKnown, ProtocolAt, Settled}
 use Rattle.congee.specs.protocol.Destroys.{Lost, Destroys, Spares}
@@ -32,11 +32,11 @@ module _ {C : Type 0} (number : C → ℕ) (K : ℕ → Type 0) (n : ℕ) where
   at_name : (c : C) → n ≡ number c → K (number c) → K n
   at_name c q k = subst K (sym q) k
 
-  one_named : (change : Single C) → Each K (names_for_one number change) → MadeForOne number change n → K n
+  one_named : (change : Placement C) → Each K (names_for_one number change) → MadeForHere number change n → K n
   one_named Set e x = absurd x
   one_named (Link leaf) e x = at_name leaf x e.0
 
-  two_named : (change : Double C) → Each K (names_for_two number change) → MadeForTwo number change n → K n
+  two_named : (change : Replacement C) → Each K (names_for_two number change) → MadeForAbove number change n → K n
   two_named Unlink e x = absurd x
   two_named (Grow c) e x = at_name c x e.0
   two_named (Shrink c) e x = at_name c x e.0
@@ -48,14 +48,14 @@ module _ {C : Type 0} (number : C → ℕ) (K : ℕ → Type 0) (n : ℕ) where
   two_named (Split top leaf common byte) e (inr x) = at_name leaf x e.1.0
 
   -- what a change of two nodes names behind the two
-  made_for_two : (two : Two C) → Each K (names_two number two) → MadeForTwo number two.change n → K n
+  made_for_two : (two : ParentChange C) → Each K (names_two number two) → MadeForAbove number two.change n → K n
   made_for_two two e x = two_named two.change (each_right K (name_above number two.top) (names_for_two number two.change) e.1.1) x
 
   above_named : (top : Option (Parent C)) → Each K (name_above number top) → IsTop number top n → K n
   above_named None e x = absurd x
   above_named (Some p) e x = at_name p.stamp.node x e.0
 
-  top_named : (two : Two C) → Each K (names_two number two) → IsTop number two.top n → K n
+  top_named : (two : ParentChange C) → Each K (names_two number two) → IsTop number two.top n → K n
   top_named two e x = above_named two.top (each_left K (name_above number two.top) (names_for_two number two.change) e.1.1) x
 
   next_named : (next : Option C) → Each K (name_made number next) → IsMade number next n → K n
@@ -76,22 +76,22 @@ module _ {C : Type 0} (number : C → ℕ) (K : ℕ → Type 0) (n : ℕ) where
     made_named (MakeBeside p at common byte top) e x = at_name top x e.1.1.0
     made_named (AskNew plan) e x = plan_named plan e x
     made_named (CheckAbove p one r) e x = one_named one.change e.1.1 x
-    made_named (UpgradeOne one r) e x = one_named one.change e.1 x
-    made_named (ChangeOne one r) e x = one_named one.change e.1 x
+    made_named (UpgradeHere one r) e x = one_named one.change e.1 x
+    made_named (ChangeHere one r) e x = one_named one.change e.1 x
     made_named (UpgradeTop g two r) e x = made_for_two two e.1 x
     made_named (UpgradeAbove two r) e x = made_for_two two e x
     made_named (UpgradeBelow two r) e x = made_for_two two e x
-    made_named (ChangeTwo two r) e x = made_for_two two e x
+    made_named (ChangeAbove two r) e x = made_for_two two e x
     made_named _ e x = absurd x
 
     locked_named : (s : Phase C V) → Each K (names number s) → LockedBy number s n → K n
-    locked_named (ChangeOne one r) e x = at_name one.at.node x e.0
+    locked_named (ChangeHere one r) e x = at_name one.at.node x e.0
     locked_named (UpgradeAbove two r) e x = top_named two e x
     locked_named (UpgradeBelow two r) e (inl x) = at_name two.above.stamp.node x e.0
     locked_named (UpgradeBelow two r) e (inr x) = top_named two e x
-    locked_named (ChangeTwo two r) e (inl (inl x)) = at_name two.above.stamp.node x e.0
-    locked_named (ChangeTwo two r) e (inl (inr x)) = at_name two.at.node x e.1.0
-    locked_named (ChangeTwo two r) e (inr x) = top_named two e x
+    locked_named (ChangeAbove two r) e (inl (inl x)) = at_name two.above.stamp.node x e.0
+    locked_named (ChangeAbove two r) e (inl (inr x)) = at_name two.at.node x e.1.0
+    locked_named (ChangeAbove two r) e (inr x) = top_named two e x
     locked_named (Obsolete m next p r) e (inl (inl x)) = at_name p x e.1.0
     locked_named (Obsolete m next p r) e (inl (inr x)) = at_name m x e.0
     locked_named (Obsolete m next p r) e (inr x) = next_named next e.1.1 x

@@ -2,24 +2,24 @@
 use Rattle.std.proofs.Common.{◌≡◌, ◌≢◌, ℕ, suc, ◌≤◌, inl, inr, Bool, List, length, get_or, refl, sym, ◌∙◌, ap, subst, arith}
 use Rattle.std.specs.Prelude.{Option, None, Some}
 use Rattle.congee.specs.declared.protocol.phase.Parent.{Parent}
-use Rattle.congee.specs.declared.protocol.phase.Single.{Single}
-use Rattle.congee.specs.declared.protocol.phase.Single.TheVariants.{Set, Link}
-use Rattle.congee.specs.declared.protocol.phase.One.{One}
-use Rattle.congee.specs.declared.protocol.phase.Double.{Double}
-use Rattle.congee.specs.declared.protocol.phase.Double.TheVariants.{Unlink, Grow, GrowLink, Split, Shrink, Collapse, ShrinkAbove}
-use Rattle.congee.specs.declared.protocol.phase.Two.{Two}
+use Rattle.congee.specs.declared.protocol.phase.Placement.{Placement}
+use Rattle.congee.specs.declared.protocol.phase.Placement.TheVariants.{Set, Link}
+use Rattle.congee.specs.declared.protocol.phase.NodeChange.{NodeChange}
+use Rattle.congee.specs.declared.protocol.phase.Replacement.{Replacement}
+use Rattle.congee.specs.declared.protocol.phase.Replacement.TheVariants.{Unlink, Grow, GrowLink, Split, Shrink, Collapse, ShrinkAbove}
+use Rattle.congee.specs.declared.protocol.phase.ParentChange.{ParentChange}
 use Rattle.congee.specs.Heap.{Node, Hung, Nothing, Below, Holds, child_for}
 use Rattle.congee.specs.Notes.{Note, Linked, is_published, Tree, LockWords}
 use Rattle.congee.specs.protocol.Events.{weight, ChangeGives, TakeOverGives}
-use Rattle.congee.specs.protocol.Steps.{PutsLesser, Collapses, Lessens, ChangedOne, ChangedTwo}
-use Rattle.congee.specs.protocol.Protocol.{Made, MadeOne, Holding, OneLocked, FitsOne, Adding, PlacedTwo, WantedTwo, MadeTwo, FitsTwo, AboveLocked, TopLocked}
-use Rattle.congee.specs.protocol.Filled.{places_in, FilledAs, IsFilled, AllFilledBy, FilledWithout, FillsOne, FillsTwo}
+use Rattle.congee.specs.protocol.Steps.{PutsLesser, Collapses, Lessens, ChangedHere, ChangedAbove}
+use Rattle.congee.specs.protocol.Protocol.{Made, MadeHere, Holding, HereLocked, FitsHere, Adding, PlacedAbove, WantedAbove, MadeAbove, FitsAbove, AboveLocked, TopLocked}
+use Rattle.congee.specs.protocol.Filled.{places_in, FilledAs, IsFilled, AllFilledBy, FilledWithout, FillsHere, FillsAbove}
 use Rattle.congee.proofs.lemmas.Tree.{same_or_not}
 use Rattle.congee.proofs.lemmas.protocol.Change.{made_apart}
 use Rattle.congee.proofs.lemmas.protocol.Filling.{filled_small, filled_same, filled_more, alike_same, filled_alike, below_is, not_held, not_nothing, changed_child, taken_child, count_kept, count_less, count_more, count_new, weight_there, was_filled, set_filled, joined_filled, replaced_filled}
 
 -- a change that adds a value has one
-no_gift : {C V : Type 0} (change : Double C) (found : Option V) → Adding change → FitsTwo change found None → ⊥
+no_gift : {C V : Type 0} (change : Replacement C) (found : Option V) → Adding change → FitsAbove change found None → ⊥
 no_gift (Grow c) None d f = f
 no_gift (Grow c) (Some v) d f = f
 no_gift (GrowLink c leaf byte) None d f = f
@@ -76,16 +76,16 @@ module _ {C V : Type 0} (by_form : Bool) (number : C → ℕ) (i : ℕ) (a : ℕ
           let size : length (h' leaf).prefix ≡ 7 = ap (λ y. length y.prefix) el ∙ (ap length k1.prefix ∙ m.long) in
           filled_small by_form (length (h' leaf).prefix) (h' leaf).count (h' leaf).capacity (ap (λ y. y.capacity) el ∙ (k1.capacity ∙ four)) (omega (arith, ap (λ y. y.count) el, count)) (λ l. absurd (omega (arith, l, size)))
 
-  by_single : (one : One C) (x : Hung V) (given : Option V) (h' : ℕ → Node V) (change : Single C) → Holding i a (number one.at.node) → one.byte ≡ get_or key (length (h (number one.at.node)).prefix) 0 → child_for (h (number one.at.node)) key ≡ x
-      → MadeOne number i a h key change → FitsOne change x given → FillsOne by_form number h change given (number one.at.node) (h (number one.at.node)) → ChangedOne number key given one change h h' → AllFilledBy by_form h'
+  by_single : (one : NodeChange C) (x : Hung V) (given : Option V) (h' : ℕ → Node V) (change : Placement C) → Holding i a (number one.at.node) → one.byte ≡ get_or key (length (h (number one.at.node)).prefix) 0 → child_for (h (number one.at.node)) key ≡ x
+      → MadeHere number i a h key change → FitsHere change x given → FillsHere by_form number h change given (number one.at.node) (h (number one.at.node)) → ChangedHere number key given one change h h' → AllFilledBy by_form h'
   by_single one x None h' Set o eb ex m fit fills g = value_out (number one.at.node) one.byte x h' fit.1 (at_byte (number one.at.node) one.byte x eb ex) fills g
   by_single one x (Some v) h' Set o eb ex m fit fills g = value_in (number one.at.node) one.byte v h' g
   by_single one x None h' (Link leaf) o eb ex m fit fills g = absurd fit
   by_single one x (Some v) h' (Link leaf) o eb ex m fit fills g = leaf_in (number one.at.node) one.byte (number leaf) (get_or key 7 0) v g.0 h' o.linked m fills g.1 g.2
 
   -- all nodes are filled after a change of one locked node that leaves it filled
-  pub one_filled : (one : One C) (x : Hung V) (given : Option V) (h' : ℕ → Node V) → OneLocked number i a h key one x → FitsOne one.change x given
-      → FillsOne by_form number h one.change given (number one.at.node) (h (number one.at.node)) → ChangedOne number key given one one.change h h' → AllFilledBy by_form h'
+  pub one_filled : (one : NodeChange C) (x : Hung V) (given : Option V) (h' : ℕ → Node V) → HereLocked number i a h key one x → FitsHere one.change x given
+      → FillsHere by_form number h one.change given (number one.at.node) (h (number one.at.node)) → ChangedHere number key given one one.change h h' → AllFilledBy by_form h'
   one_filled one x given h' o fit fills g = by_single one x given h' one.change o.holding o.placed.byte o.wanted.child o.made fit fills g
 
   -- a node that hangs in the tree isn't the root
@@ -248,7 +248,7 @@ module _ {C V : Type 0} (by_form : Bool) (number : C → ℕ) (i : ℕ) (a : ℕ
       (filled_small by_form (length (h' leaf).prefix) (h' leaf).count (h' leaf).capacity (ap (λ y. y.capacity) el ∙ (k1.capacity ∙ four)) (omega (arith, ap (λ y. y.count) el, one)) (λ l. absurd (omega (arith, l, size))))
 
   -- the changes of the node above both
-  top_collapsed : (two : Two C) (h' : ℕ → Node V) (top : Option (Parent C)) → TopLocked number i a h key top (number two.above.stamp.node) → (a (number two.above.stamp.node)).status ≡ Linked → Collapses number two top h h' → AllFilledBy by_form h'
+  top_collapsed : (two : ParentChange C) (h' : ℕ → Node V) (top : Option (Parent C)) → TopLocked number i a h key top (number two.above.stamp.node) → (a (number two.above.stamp.node)).status ≡ Linked → Collapses number two top h h' → AllFilledBy by_form h'
   top_collapsed two h' None l lp g = absurd g
   top_collapsed two h' (Some top) l lp g =
       let hung : (h (number top.stamp.node)).children top.byte ≡ Below (number two.above.stamp.node) = at_byte (number top.stamp.node) top.byte (Below (number two.above.stamp.node)) l.byte l.child in
@@ -256,7 +256,7 @@ module _ {C V : Type 0} (by_form : Bool) (number : C → ℕ) (i : ℕ) (a : ℕ
       (λ d e. let P : ℕ → Type 0 = λ y. (a y).status ≡ Linked in subst P (sym (below_is (Below g.0) g.0 d refl e)) (t.down (number two.above.stamp.node) g.1.at g.0 lp g.1.child).linked)
       g.2 (λ nz lg. above_filled (number top.stamp.node) top.byte g.0 (number two.above.stamp.node) h h' refl hung g.2 (was_filled by_form a h t f (number top.stamp.node) lg nz))
 
-  top_lessened : (two : Two C) (c : C) (q : ℕ) (h' : ℕ → Node V) (top : Option (Parent C)) → TopLocked number i a h key top (number two.above.stamp.node) → AboveLocked number i a h key two.above (number two.at.node)
+  top_lessened : (two : ParentChange C) (c : C) (q : ℕ) (h' : ℕ → Node V) (top : Option (Parent C)) → TopLocked number i a h key top (number two.above.stamp.node) → AboveLocked number i a h key two.above (number two.at.node)
       → Made i a h key (number c) two.above.depth q → (number two.above.stamp.node ≢ 0 → FilledWithout (length (h (number two.above.stamp.node)).prefix) (h (number two.above.stamp.node)).count (places_in by_form (h (number c)).capacity))
       → Lessens number two c top h h' → AllFilledBy by_form h'
   top_lessened two c q h' None l o mc fills g = absurd g
@@ -267,10 +267,10 @@ module _ {C V : Type 0} (by_form : Bool) (number : C → ℕ) (i : ℕ) (a : ℕ
       lesser_in (number two.above.stamp.node) (number c) two.above.byte (number top.stamp.node) top.byte q h' l.holding.linked hung (subst P o.depth mc) (ap weight low)
       (fills (below_root (number top.stamp.node) top.byte (number two.above.stamp.node) l.holding.linked hung)) g
 
-  by_double : (two : Two C) (given found : Option V) (q : ℕ) (h' : ℕ → Node V) (change : Double C)
-      → TopLocked number i a h key two.top (number two.above.stamp.node) → AboveLocked number i a h key two.above (number two.at.node) → PlacedTwo key change (h (number two.at.node)).prefix
-      → WantedTwo key change found q (h (number two.at.node)) → MadeTwo number i a h key two.above change (length (h (number two.at.node)).prefix) q → FitsTwo change found given
-      → FillsTwo by_form number h change (number two.above.stamp.node) (h (number two.above.stamp.node)) (number two.at.node) (h (number two.at.node)) → ChangedTwo number key given two change h h' → AllFilledBy by_form h'
+  by_double : (two : ParentChange C) (given found : Option V) (q : ℕ) (h' : ℕ → Node V) (change : Replacement C)
+      → TopLocked number i a h key two.top (number two.above.stamp.node) → AboveLocked number i a h key two.above (number two.at.node) → PlacedAbove key change (h (number two.at.node)).prefix
+      → WantedAbove key change found q (h (number two.at.node)) → MadeAbove number i a h key two.above change (length (h (number two.at.node)).prefix) q → FitsAbove change found given
+      → FillsAbove by_form number h change (number two.above.stamp.node) (h (number two.above.stamp.node)) (number two.at.node) (h (number two.at.node)) → ChangedAbove number key given two change h h' → AllFilledBy by_form h'
   by_double two given found q h' Unlink up o p n m fit fills g =
       let hung : (h (number two.above.stamp.node)).children two.above.byte ≡ Below (number two.at.node) = at_byte (number two.above.stamp.node) two.above.byte (Below (number two.at.node)) o.byte o.child in
       one_out (number two.above.stamp.node) two.above.byte h' (ap weight hung) fills g
@@ -299,7 +299,7 @@ module _ {C V : Type 0} (by_form : Bool) (number : C → ℕ) (i : ℕ) (a : ℕ
       fork_in (number two.above.stamp.node) two.above.byte (number two.at.node) (number top) (number leaf) common byte v g.0 g.1 g.2 h' o.holding.linked hung m.0 m.1 m.2 (λ e. p.0.apart (sym p.1 ∙ e)) fills.0 fills.1 g.3 g.4 g.5 g.6
 
   -- all nodes are filled after a change of two locked nodes that leaves them filled
-  pub two_filled : (two : Two C) (given found : Option V) (q : ℕ) (h' : ℕ → Node V) → TopLocked number i a h key two.top (number two.above.stamp.node) → AboveLocked number i a h key two.above (number two.at.node)
-      → PlacedTwo key two.change (h (number two.at.node)).prefix → WantedTwo key two.change found q (h (number two.at.node)) → MadeTwo number i a h key two.above two.change (length (h (number two.at.node)).prefix) q → FitsTwo two.change found given
-      → FillsTwo by_form number h two.change (number two.above.stamp.node) (h (number two.above.stamp.node)) (number two.at.node) (h (number two.at.node)) → ChangedTwo number key given two two.change h h' → AllFilledBy by_form h'
+  pub two_filled : (two : ParentChange C) (given found : Option V) (q : ℕ) (h' : ℕ → Node V) → TopLocked number i a h key two.top (number two.above.stamp.node) → AboveLocked number i a h key two.above (number two.at.node)
+      → PlacedAbove key two.change (h (number two.at.node)).prefix → WantedAbove key two.change found q (h (number two.at.node)) → MadeAbove number i a h key two.above two.change (length (h (number two.at.node)).prefix) q → FitsAbove two.change found given
+      → FillsAbove by_form number h two.change (number two.above.stamp.node) (h (number two.above.stamp.node)) (number two.at.node) (h (number two.at.node)) → ChangedAbove number key given two two.change h h' → AllFilledBy by_form h'
   two_filled two given found q h' up o p n m fit fills g = by_double two given found q h' two.change up o p n m fit fills g

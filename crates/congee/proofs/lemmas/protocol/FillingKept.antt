@@ -10,31 +10,31 @@ use Rattle.congee.specs.declared.protocol.store.Upgrade.TheVariants.{Locked, Fai
 use Rattle.congee.specs.declared.protocol.phase.Kind.{Kind}
 use Rattle.congee.specs.declared.protocol.phase.Parent.{Parent}
 use Rattle.congee.specs.declared.protocol.phase.Site.{Site}
-use Rattle.congee.specs.declared.protocol.phase.Single.{Single}
-use Rattle.congee.specs.declared.protocol.phase.Single.TheVariants.{Set, Link}
-use Rattle.congee.specs.declared.protocol.phase.One.{One}
-use Rattle.congee.specs.declared.protocol.phase.Double.{Double}
-use Rattle.congee.specs.declared.protocol.phase.Double.TheVariants.{Unlink, Grow, GrowLink, Split, Shrink, Collapse, ShrinkAbove}
-use Rattle.congee.specs.declared.protocol.phase.Two.{Two}
+use Rattle.congee.specs.declared.protocol.phase.Placement.{Placement}
+use Rattle.congee.specs.declared.protocol.phase.Placement.TheVariants.{Set, Link}
+use Rattle.congee.specs.declared.protocol.phase.NodeChange.{NodeChange}
+use Rattle.congee.specs.declared.protocol.phase.Replacement.{Replacement}
+use Rattle.congee.specs.declared.protocol.phase.Replacement.TheVariants.{Unlink, Grow, GrowLink, Split, Shrink, Collapse, ShrinkAbove}
+use Rattle.congee.specs.declared.protocol.phase.ParentChange.{ParentChange}
 use Rattle.congee.specs.declared.protocol.phase.Plan.{Plan}
 use Rattle.congee.specs.declared.protocol.phase.Plan.TheVariants.{Here, Above}
 use Rattle.congee.specs.declared.protocol.phase.Phase.{Phase}
-use Rattle.congee.specs.declared.protocol.phase.Phase.TheVariants.{MakeLeaf, MakeGreater, MakeTop, MakeBeside, MakeLesser, AskNew, CheckAbove, UpgradeOne, ChangeOne, UpgradeTop, UpgradeAbove, UpgradeBelow, ChangeTwo, Obsolete, Retire, UnlockBelow, Unlock, Unwind}
+use Rattle.congee.specs.declared.protocol.phase.Phase.TheVariants.{MakeLeaf, MakeGreater, MakeTop, MakeBeside, MakeLesser, AskNew, CheckAbove, UpgradeHere, ChangeHere, UpgradeTop, UpgradeAbove, UpgradeBelow, ChangeAbove, Obsolete, Retire, UnlockBelow, Unlock, Unwind}
 use Rattle.congee.specs.declared.protocol.next_phase.NextPhase.{NextPhase}
 use Rattle.congee.specs.Heap.{Node, Hung, is_taken}
 use Rattle.congee.specs.Keys.{key_bytes}
 use Rattle.congee.specs.Notes.{Note, Linked, is_published, Tree, LockWords}
 use Rattle.congee.specs.protocol.Events.{BackGives}
-use Rattle.congee.specs.protocol.Steps.{BackOne, BackTwo, BackLeaf, MadeLeaf, MadeGreater, MadeTop, MadeBeside, MadeLesser, UpgradedOne, UpgradedTop, UpgradedAbove, UpgradedBelow, PhaseStepped}
-use Rattle.congee.specs.protocol.Protocol.{Made, MadeOne, MadeTwo, MadeLeafFor, OneKnown, TwoKnown, HalfLocked, PlanKnown, Rely, Known}
+use Rattle.congee.specs.protocol.Steps.{BackHere, BackAbove, BackLeaf, MadeLeaf, MadeGreater, MadeTop, MadeBeside, MadeLesser, UpgradedHere, UpgradedTop, UpgradedAbove, UpgradedBelow, PhaseStepped}
+use Rattle.congee.specs.protocol.Protocol.{Made, MadeHere, MadeAbove, MadeLeafFor, HereKnown, AboveKnown, HalfLocked, PlanKnown, Rely, Known}
 use Rattle.congee.specs.protocol.Names.{names, names_plan, name_stamped, names_one}
-use Rattle.congee.specs.protocol.Filled.{AllFilledBy, FillsAt, MayFillOne, MayFillHalf, MayFillTwo, MayFillPlan, IsSmall, Fills}
+use Rattle.congee.specs.protocol.Filled.{AllFilledBy, FillsAt, MayFillHere, MayFillHalf, MayFillAbove, MayFillPlan, IsSmall, Fills}
 use Rattle.congee.proofs.lemmas.Graft.{on_test}
 use Rattle.congee.proofs.lemmas.protocol.Each.{Each, each_right}
 use Rattle.congee.proofs.lemmas.protocol.Change.{made_apart}
 use Rattle.congee.proofs.lemmas.protocol.Filling.{Alike, alike_same, Still, still_filled}
 use Rattle.congee.proofs.lemmas.protocol.FillingChanges.{one_filled, two_filled}
-use Rattle.congee.proofs.lemmas.protocol.FillingSteps.{still_equal, still_but, still_new, locked_alike, PlacesOne, PlacesTwo, fills_one_on, fills_two_on}
+use Rattle.congee.proofs.lemmas.protocol.FillingSteps.{still_equal, still_but, still_new, locked_alike, PlacesHere, PlacesAbove, fills_one_on, fills_two_on}
 
 module _ {C V : Type 0} (number : C → ℕ) (i : ℕ) (a : ℕ → Note) (h h' : ℕ → Node V) (key : List ℕ) (w : LockWords a h) where
   apart_made : (c size least : ℕ) → Made i a h key c size least → (n : ℕ) → (a n).status ≡ Linked → n ≢ c
@@ -46,11 +46,11 @@ module _ {C V : Type 0} (number : C → ℕ) (i : ℕ) (a : ℕ → Note) (h h' 
   both_back_still : (h1 : ℕ → Node V) (c d size least size' least' : ℕ) → Made i a h key c size least → Made i a h key d size' least' → BackGives h d h1 → BackGives h1 c h' → Still a h h'
   both_back_still h1 c d size least size' least' mc md gd gc n l = alike_same (h n) (h' n) (gc.others n (apart_made c size least mc n l) ∙ gd.others n (apart_made d size' least' md n l))
 
-  one_back_still : (change : Single C) → MadeOne number i a h key change → BackOne number h change h' → Still a h h'
+  one_back_still : (change : Placement C) → MadeHere number i a h key change → BackHere number h change h' → Still a h h'
   one_back_still Set m g = still_equal a h w h' g
   one_back_still (Link leaf) m g = back_still (number leaf) 7 0 m g
 
-  two_back_still : (p : Parent C) (change : Double C) (size q : ℕ) → MadeTwo number i a h key p change size q → BackTwo number h change h' → Still a h h'
+  two_back_still : (p : Parent C) (change : Replacement C) (size q : ℕ) → MadeAbove number i a h key p change size q → BackAbove number h change h' → Still a h h'
   two_back_still p Unlink size q m g = still_equal a h w h' g
   two_back_still p Collapse size q m g = still_equal a h w h' g
   two_back_still p (Shrink c) size q m g = back_still (number c) size q m g
@@ -95,25 +95,25 @@ module _ {C V : Type 0} (by_form : Bool) (number : C → ℕ) (same : V → V �
   locked : (n : ℕ) → ((m : ℕ) → Alike (h m) (h' m)) → AllFilledBy by_form h'
   locked n e = stays (λ m _. e m)
 
-  one_upgraded : (root : C) (one : One C) (r : Reply V) (next_phase : NextPhase C V) (u : Upgrade) → MadeOne number i a h (key_bytes k) one.change → UpgradedOne number root one r h u h' next_phase → AllFilledBy by_form h'
+  one_upgraded : (root : C) (one : NodeChange C) (r : Reply V) (next_phase : NextPhase C V) (u : Upgrade) → MadeHere number i a h (key_bytes k) one.change → UpgradedHere number root one r h u h' next_phase → AllFilledBy by_form h'
   one_upgraded root one r next_phase Locked m g = locked (number one.at.node) (locked_alike h (number one.at.node) h' g.0)
   one_upgraded root one r next_phase Failed m g = stays (one_back_still number i a h h' (key_bytes k) w one.change m g.0)
   one_upgraded root one r next_phase Exhausted m g = stays (one_back_still number i a h h' (key_bytes k) w one.change m g.0)
 
-  two_back : (two : Two C) (size q : ℕ) → MadeTwo number i a h (key_bytes k) two.above two.change size q → BackTwo number h two.change h' → AllFilledBy by_form h'
+  two_back : (two : ParentChange C) (size q : ℕ) → MadeAbove number i a h (key_bytes k) two.above two.change size q → BackAbove number h two.change h' → AllFilledBy by_form h'
   two_back two size q m g = stays (two_back_still number i a h h' (key_bytes k) w two.above two.change size q m g)
 
-  top_upgraded : (root : C) (top : Parent C) (two : Two C) (r : Reply V) (next_phase : NextPhase C V) (u : Upgrade) (size q : ℕ) → MadeTwo number i a h (key_bytes k) two.above two.change size q → UpgradedTop number root top two r h u h' next_phase → AllFilledBy by_form h'
+  top_upgraded : (root : C) (top : Parent C) (two : ParentChange C) (r : Reply V) (next_phase : NextPhase C V) (u : Upgrade) (size q : ℕ) → MadeAbove number i a h (key_bytes k) two.above two.change size q → UpgradedTop number root top two r h u h' next_phase → AllFilledBy by_form h'
   top_upgraded root top two r next_phase Locked size q m g = locked (number top.stamp.node) (locked_alike h (number top.stamp.node) h' g.0)
   top_upgraded root top two r next_phase Failed size q m g = two_back two size q m g.0
   top_upgraded root top two r next_phase Exhausted size q m g = two_back two size q m g.0
 
-  above_upgraded : (root : C) (two : Two C) (r : Reply V) (next_phase : NextPhase C V) (u : Upgrade) (size q : ℕ) → MadeTwo number i a h (key_bytes k) two.above two.change size q → UpgradedAbove number root two r h u h' next_phase → AllFilledBy by_form h'
+  above_upgraded : (root : C) (two : ParentChange C) (r : Reply V) (next_phase : NextPhase C V) (u : Upgrade) (size q : ℕ) → MadeAbove number i a h (key_bytes k) two.above two.change size q → UpgradedAbove number root two r h u h' next_phase → AllFilledBy by_form h'
   above_upgraded root two r next_phase Locked size q m g = locked (number two.above.stamp.node) (locked_alike h (number two.above.stamp.node) h' g.0)
   above_upgraded root two r next_phase Failed size q m g = two_back two size q m g.0
   above_upgraded root two r next_phase Exhausted size q m g = two_back two size q m g.0
 
-  both_upgraded : (two : Two C) (r : Reply V) (next_phase : NextPhase C V) (u : Upgrade) (size q : ℕ) → MadeTwo number i a h (key_bytes k) two.above two.change size q → UpgradedBelow number two r h u h' next_phase → AllFilledBy by_form h'
+  both_upgraded : (two : ParentChange C) (r : Reply V) (next_phase : NextPhase C V) (u : Upgrade) (size q : ℕ) → MadeAbove number i a h (key_bytes k) two.above two.change size q → UpgradedBelow number two r h u h' next_phase → AllFilledBy by_form h'
   both_upgraded two r next_phase Locked size q m g = locked (number two.at.node) (locked_alike h (number two.at.node) h' g.0)
   both_upgraded two r next_phase Failed size q m g = two_back two size q m g.0
   both_upgraded two r next_phase Exhausted size q m g = two_back two size q m g.0
@@ -127,12 +127,12 @@ module _ {C V : Type 0} (by_form : Bool) (number : C → ℕ) (same : V → V �
   step_filled most why root fail answer (MakeBeside p at common byte top) given' next_phase m x g = beside_made p at common byte top next_phase g.1.0 m.6 g.1.1
   step_filled most why root fail answer (MakeLesser s p top r) given' next_phase m x g = lesser_made s p top r next_phase g.1.0 g.1.1
   step_filled most why root fail answer (CheckAbove p one r) given' next_phase m x g = on_test (is_taken (h (number p.node)) p.version) (λ q. equal (g.1.goes_on q).0) (λ q. stays (one_back_still number i a h h' (key_bytes k) w one.change m.2.made (g.1.goes_back q).0))
-  step_filled most why root fail answer (UpgradeOne one r) given' next_phase m x g = one_upgraded root one r next_phase g.1.0 m.1.1.made g.1.2
-  step_filled most why root fail answer (ChangeOne one r) given' next_phase m x g = one_filled by_form number i a h (key_bytes k) t w f one m.0 given h' m.1 m.2 x g.1
+  step_filled most why root fail answer (UpgradeHere one r) given' next_phase m x g = one_upgraded root one r next_phase g.1.0 m.1.1.made g.1.2
+  step_filled most why root fail answer (ChangeHere one r) given' next_phase m x g = one_filled by_form number i a h (key_bytes k) t w f one m.0 given h' m.1 m.2 x g.1
   step_filled most why root fail answer (UpgradeTop top two r) given' next_phase m x g = top_upgraded root top two r next_phase g.1.0 _ m.1.1 m.1.2.made g.1.2
   step_filled most why root fail answer (UpgradeAbove two r) given' next_phase m x g = above_upgraded root two r next_phase g.1.0 _ m.1.1 m.1.2.made g.1.2
   step_filled most why root fail answer (UpgradeBelow two r) given' next_phase m x g = both_upgraded two r next_phase g.1.0 _ m.1.1 m.1.2.made g.1.2
-  step_filled most why root fail answer (ChangeTwo two r) given' next_phase m x g = two_filled by_form number i a h (key_bytes k) t w f two given m.0 m.1 h' m.2.top m.2.above m.2.placed m.2.wanted m.2.made m.4 x g.1
+  step_filled most why root fail answer (ChangeAbove two r) given' next_phase m x g = two_filled by_form number i a h (key_bytes k) t w f two given m.0 m.1 h' m.2.top m.2.above m.2.placed m.2.wanted m.2.made m.4 x g.1
   step_filled most why root fail answer (Obsolete n next p r) given' next_phase m x g = stays (still_but a h w h' (number n) _ (record { prefix = refl; children = λ b. refl; count = refl; capacity = refl }) g.1)
   step_filled most why root fail answer (Retire n next p r) given' next_phase m x g = stays (still_but a h w h' (number n) _ (record { prefix = refl; children = λ b. refl; count = refl; capacity = refl }) g.1)
   step_filled most why root fail answer (UnlockBelow n p r) given' next_phase m x g = stays (still_but a h w h' (number n) _ (record { prefix = refl; children = λ b. refl; count = refl; capacity = refl }) g.1)
@@ -145,11 +145,11 @@ module _ {C V : Type 0} (by_form : Bool) (number : C → ℕ) (key : List ℕ) (
   held_places : (c size least : ℕ) → Made i a h key c size least → (h' c).capacity ≡ (h c).capacity
   held_places c size least m = ap (λ z. z.capacity) (r.held c m.held).0
 
-  one_places : (change : Single C) → MadeOne number i a h key change → PlacesOne number h h' change
+  one_places : (change : Placement C) → MadeHere number i a h key change → PlacesHere number h h' change
   one_places Set m = tt
   one_places (Link leaf) m = held_places (number leaf) 7 0 m
 
-  two_places : (p : Parent C) (change : Double C) (size q : ℕ) → MadeTwo number i a h key p change size q → PlacesTwo number h h' change
+  two_places : (p : Parent C) (change : Replacement C) (size q : ℕ) → MadeAbove number i a h key p change size q → PlacesAbove number h h' change
   two_places p Unlink size q m = tt
   two_places p Collapse size q m = tt
   two_places p (Shrink c) size q m = held_places (number c) size q m
@@ -158,17 +158,17 @@ module _ {C V : Type 0} (by_form : Bool) (number : C → ℕ) (key : List ℕ) (
   two_places p (GrowLink c leaf byte) size q m = (held_places (number c) size q m.0, held_places (number leaf) 7 0 m.1)
   two_places p (Split top leaf common byte) size q m = (held_places (number top) common 1 m.0, held_places (number leaf) 7 0 m.1)
 
-  one_on : (given : Option V) (one : One C) (x : Hung V) → K (number one.at.node) → OneKnown number i a h key one x → MayFillOne by_form number h given one → MayFillOne by_form number h' given one
+  one_on : (given : Option V) (one : NodeChange C) (x : Hung V) → K (number one.at.node) → HereKnown number i a h key one x → MayFillHere by_form number h given one → MayFillHere by_form number h' given one
   one_on given one x kn m fills q =
       let e : h' (number one.at.node) ≡ h (number one.at.node) = r.word (number one.at.node) one.at.version kn m.fresh.stamped.published m.fresh.stamped.up q in
       let P : Node V → Type 0 = λ y. is_taken y one.at.version ≡ true in
       fills_one_on by_form number h h' one.change given (number one.at.node) (h (number one.at.node)) (h' (number one.at.node)) (alike_same (h (number one.at.node)) (h' (number one.at.node)) e) (one_places one.change m.made) (fills (subst P e q))
 
-  at_on : (two : Two C) (size q : ℕ) → MadeTwo number i a h key two.above two.change size q → h' (number two.above.stamp.node) ≡ h (number two.above.stamp.node) → h' (number two.at.node) ≡ h (number two.at.node) → FillsAt by_form number h two → FillsAt by_form number h' two
+  at_on : (two : ParentChange C) (size q : ℕ) → MadeAbove number i a h key two.above two.change size q → h' (number two.above.stamp.node) ≡ h (number two.above.stamp.node) → h' (number two.at.node) ≡ h (number two.at.node) → FillsAt by_form number h two → FillsAt by_form number h' two
   at_on two size q m ep en x = fills_two_on by_form number h h' two.change (number two.above.stamp.node) (h (number two.above.stamp.node)) (h' (number two.above.stamp.node)) (number two.at.node) (h (number two.at.node)) (h' (number two.at.node))
       (alike_same (h (number two.above.stamp.node)) (h' (number two.above.stamp.node)) ep) (alike_same (h (number two.at.node)) (h' (number two.at.node)) en) (two_places two.above two.change size q m) x
 
-  two_on : (two : Two C) (found : Option V) (q : ℕ) → K (number two.above.stamp.node) → K (number two.at.node) → TwoKnown number i a h key two found q → MayFillTwo by_form number h two → MayFillTwo by_form number h' two
+  two_on : (two : ParentChange C) (found : Option V) (q : ℕ) → K (number two.above.stamp.node) → K (number two.at.node) → AboveKnown number i a h key two found q → MayFillAbove by_form number h two → MayFillAbove by_form number h' two
   two_on two found q kp kn m fills tp tn =
       let ep : h' (number two.above.stamp.node) ≡ h (number two.above.stamp.node) = r.word (number two.above.stamp.node) two.above.stamp.version kp m.above.fresh.stamped.published m.above.fresh.stamped.up tp in
       let en : h' (number two.at.node) ≡ h (number two.at.node) = r.word (number two.at.node) two.at.version kn m.fresh.stamped.published m.fresh.stamped.up tn in
@@ -176,7 +176,7 @@ module _ {C V : Type 0} (by_form : Bool) (number : C → ℕ) (key : List ℕ) (
       let Q : Node V → Type 0 = λ y. is_taken y two.at.version ≡ true in
       at_on two _ q m.made ep en (fills (subst P ep tp) (subst Q en tn))
 
-  half_on : (two : Two C) (found : Option V) (q : ℕ) → K (number two.at.node) → HalfLocked number i a h key two found q → MayFillHalf by_form number h two → MayFillHalf by_form number h' two
+  half_on : (two : ParentChange C) (found : Option V) (q : ℕ) → K (number two.at.node) → HalfLocked number i a h key two found q → MayFillHalf by_form number h two → MayFillHalf by_form number h' two
   half_on two found q kn m fills tn =
       let ep : h' (number two.above.stamp.node) ≡ h (number two.above.stamp.node) = (r.mine (number two.above.stamp.node) m.above.holding.owner).0 in
       let en : h' (number two.at.node) ≡ h (number two.at.node) = r.word (number two.at.node) two.at.version kn m.fresh.stamped.published m.fresh.stamped.up tn in
@@ -199,11 +199,11 @@ module _ {C V : Type 0} (by_form : Bool) (number : C → ℕ) (key : List ℕ) (
   fills_kept same always k kind given (MakeLesser s p (Some top) r') e m x = tt
   fills_kept same always k kind given (AskNew plan) e m x = λ v. plan_on v plan e m.0 (x v)
   fills_kept same always k kind given (CheckAbove p one r') e m x = one_on given one _ e.1.0 m.2 x
-  fills_kept same always k kind given (UpgradeOne one r') e m x = one_on given one m.1.0 e.0 m.1.1 x
-  fills_kept same always k kind given (ChangeOne one r') e m x = fills_one_on by_form number h h' one.change given (number one.at.node) (h (number one.at.node)) (h' (number one.at.node))
+  fills_kept same always k kind given (UpgradeHere one r') e m x = one_on given one m.1.0 e.0 m.1.1 x
+  fills_kept same always k kind given (ChangeHere one r') e m x = fills_one_on by_form number h h' one.change given (number one.at.node) (h (number one.at.node)) (h' (number one.at.node))
       (alike_same (h (number one.at.node)) (h' (number one.at.node)) (r.mine (number one.at.node) m.1.holding.owner).0) (one_places one.change m.1.made) x
   fills_kept same always k kind given (UpgradeTop g two r') e m x = two_on two m.1.0 m.1.1 e.1.0 e.1.1.0 m.1.2 x
   fills_kept same always k kind given (UpgradeAbove two r') e m x = two_on two m.1.0 m.1.1 e.0 e.1.0 m.1.2 x
   fills_kept same always k kind given (UpgradeBelow two r') e m x = half_on two m.1.0 m.1.1 e.1.0 m.1.2 x
-  fills_kept same always k kind given (ChangeTwo two r') e m x = at_on two _ m.1 m.2.made (r.mine (number two.above.stamp.node) m.2.above.holding.owner).0 (r.mine (number two.at.node) m.2.owner).0 x
+  fills_kept same always k kind given (ChangeAbove two r') e m x = at_on two _ m.1 m.2.made (r.mine (number two.above.stamp.node) m.2.above.holding.owner).0 (r.mine (number two.at.node) m.2.owner).0 x
   fills_kept same always k kind given _ e m x = tt

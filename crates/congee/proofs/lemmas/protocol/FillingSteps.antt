@@ -20,24 +20,24 @@ use Rattle.congee.specs.declared.protocol.phase.Kind.TheVariants.{Get, Insert, R
 use Rattle.congee.specs.declared.protocol.phase.Parent.{Parent}
 use Rattle.congee.specs.declared.protocol.phase.Above.{Above as Over}
 use Rattle.congee.specs.declared.protocol.phase.Site.{Site}
-use Rattle.congee.specs.declared.protocol.phase.Single.{Single}
-use Rattle.congee.specs.declared.protocol.phase.Single.TheVariants.{Set, Link}
-use Rattle.congee.specs.declared.protocol.phase.One.{One}
-use Rattle.congee.specs.declared.protocol.phase.Double.{Double}
-use Rattle.congee.specs.declared.protocol.phase.Double.TheVariants.{Unlink, Grow, GrowLink, Split, Shrink, Collapse, ShrinkAbove}
-use Rattle.congee.specs.declared.protocol.phase.Two.{Two}
+use Rattle.congee.specs.declared.protocol.phase.Placement.{Placement}
+use Rattle.congee.specs.declared.protocol.phase.Placement.TheVariants.{Set, Link}
+use Rattle.congee.specs.declared.protocol.phase.NodeChange.{NodeChange}
+use Rattle.congee.specs.declared.protocol.phase.Replacement.{Replacement}
+use Rattle.congee.specs.declared.protocol.phase.Replacement.TheVariants.{Unlink, Grow, GrowLink, Split, Shrink, Collapse, ShrinkAbove}
+use Rattle.congee.specs.declared.protocol.phase.ParentChange.{ParentChange}
 use Rattle.congee.specs.declared.protocol.phase.Plan.{Plan}
 use Rattle.congee.specs.declared.protocol.phase.Plan.TheVariants.{Here, Above}
 use Rattle.congee.specs.declared.protocol.phase.Phase.{Phase}
-use Rattle.congee.specs.declared.protocol.phase.Phase.TheVariants.{New, Version, Read, Check, CheckUncopied, CheckMiss, CheckDown, CheckOld, MakeLeaf, MakeGreater, MakeTop, MakeBeside, MakeLesser, AskOld, AskNew, Confirm, CheckAbove, UpgradeOne, UpgradeTop, UpgradeAbove, UpgradeBelow, ChangeTwo, Retire, Unwind, Scan}
+use Rattle.congee.specs.declared.protocol.phase.Phase.TheVariants.{New, Version, Read, Check, CheckUncopied, CheckMiss, CheckDown, CheckOld, MakeLeaf, MakeGreater, MakeTop, MakeBeside, MakeLesser, AskOld, AskNew, Confirm, CheckAbove, UpgradeHere, UpgradeTop, UpgradeAbove, UpgradeBelow, ChangeAbove, Retire, Unwind, Scan}
 use Rattle.congee.specs.declared.protocol.next_phase.NextPhase.{NextPhase}
 use Rattle.congee.specs.Heap.{Node, Nothing, Below, Holds, child_for, is_taken, is_free, version_of}
 use Rattle.congee.specs.Notes.{Note, Linked, is_published, IsChild, Tree, LockWords}
 use Rattle.congee.specs.protocol.Events.{places, hung, SameBut, NewNode, upgrade_gives}
-use Rattle.congee.specs.protocol.Steps.{quiet, answered, refused, adds, form_above, form_below, shrinks, after_version, after_read, down, started, ready, plan_here, unless_full, missing, absent, CopyFailed, IsAsked, replaced, set_at, both, last_out, taken_out, emptied, is_same, IsAtOld, IsAdded, IsExchanged, IsPresent, IsChecked, IsIf, after_miss, IsGiven, IsGivenNew, MadeLeaf, MadeGreater, MadeTop, MadeBeside, MadeLesser, unwound, given_up, UpgradedOne, UpgradedTop, UpgradedAbove, UpgradedBelow, after_top, after_change, after_retire, after_unwind, PhaseStepped}
+use Rattle.congee.specs.protocol.Steps.{quiet, answered, refused, adds, form_above, form_below, shrinks, after_version, after_read, down, started, ready, plan_here, unless_full, missing, absent, CopyFailed, IsAsked, replaced, set_at, both, last_out, taken_out, emptied, is_same, IsAtOld, IsAdded, IsExchanged, IsPresent, IsChecked, IsIf, after_miss, IsGiven, IsGivenNew, MadeLeaf, MadeGreater, MadeTop, MadeBeside, MadeLesser, unwound, given_up, UpgradedHere, UpgradedTop, UpgradedAbove, UpgradedBelow, after_top, after_change, after_retire, after_unwind, PhaseStepped}
 use Rattle.congee.specs.Keys.{key_bytes}
 use Rattle.congee.specs.protocol.Protocol.{ChildOf, IsFar, IsAbove, Sees, Knows, HasGift, Known}
-use Rattle.congee.specs.protocol.Filled.{least_in, places_in, FilledAs, IsFilled, AllFilledBy, FilledWithout, FillsOne, FillsTwo, FillsAt, MayFillOne, MayFillHalf, MayFillTwo, MayFillPlan, IsSmall, Fills}
+use Rattle.congee.specs.protocol.Filled.{least_in, places_in, FilledAs, IsFilled, AllFilledBy, FilledWithout, FillsHere, FillsAbove, FillsAt, MayFillHere, MayFillHalf, MayFillAbove, MayFillPlan, IsSmall, Fills}
 use Rattle.congee.proofs.lemmas.Fits.{both_true, same_test}
 use Rattle.congee.proofs.lemmas.Graft.{on_test}
 use Rattle.congee.proofs.lemmas.Tree.{same_or_not}
@@ -117,25 +117,25 @@ locked_alike {V} h c h' g n = elim (same_or_not n c) [
 
 module _ {C V : Type 0} (number : C → ℕ) (h h' : ℕ → Node V) where
   -- the made nodes of a change have as many places
-  abbrev pub PlacesOne : Single C → Type 0
-  PlacesOne Set = Unit {0}
-  PlacesOne (Link leaf) = (h' (number leaf)).capacity ≡ (h (number leaf)).capacity
+  abbrev pub PlacesHere : Placement C → Type 0
+  PlacesHere Set = Unit {0}
+  PlacesHere (Link leaf) = (h' (number leaf)).capacity ≡ (h (number leaf)).capacity
 
   -- the made nodes of a change of two have as many places
-  abbrev pub PlacesTwo : Double C → Type 0
-  PlacesTwo Unlink = Unit {0}
-  PlacesTwo Collapse = Unit {0}
-  PlacesTwo (ShrinkAbove c) = (h' (number c)).capacity ≡ (h (number c)).capacity
-  PlacesTwo (Shrink c) = (h' (number c)).capacity ≡ (h (number c)).capacity
-  PlacesTwo (Grow c) = (h' (number c)).capacity ≡ (h (number c)).capacity
-  PlacesTwo (GrowLink c leaf byte) = ((h' (number c)).capacity ≡ (h (number c)).capacity) × ((h' (number leaf)).capacity ≡ (h (number leaf)).capacity)
-  PlacesTwo (Split top leaf common byte) = ((h' (number top)).capacity ≡ (h (number top)).capacity) × ((h' (number leaf)).capacity ≡ (h (number leaf)).capacity)
+  abbrev pub PlacesAbove : Replacement C → Type 0
+  PlacesAbove Unlink = Unit {0}
+  PlacesAbove Collapse = Unit {0}
+  PlacesAbove (ShrinkAbove c) = (h' (number c)).capacity ≡ (h (number c)).capacity
+  PlacesAbove (Shrink c) = (h' (number c)).capacity ≡ (h (number c)).capacity
+  PlacesAbove (Grow c) = (h' (number c)).capacity ≡ (h (number c)).capacity
+  PlacesAbove (GrowLink c leaf byte) = ((h' (number c)).capacity ≡ (h (number c)).capacity) × ((h' (number leaf)).capacity ≡ (h (number leaf)).capacity)
+  PlacesAbove (Split top leaf common byte) = ((h' (number top)).capacity ≡ (h (number top)).capacity) × ((h' (number leaf)).capacity ≡ (h (number leaf)).capacity)
 
-  places_one : (change : Single C) → ((n : ℕ) → (h' n).capacity ≡ (h n).capacity) → PlacesOne change
+  places_one : (change : Placement C) → ((n : ℕ) → (h' n).capacity ≡ (h n).capacity) → PlacesHere change
   places_one Set e = tt
   places_one (Link leaf) e = e (number leaf)
 
-  places_two : (change : Double C) → ((n : ℕ) → (h' n).capacity ≡ (h n).capacity) → PlacesTwo change
+  places_two : (change : Replacement C) → ((n : ℕ) → (h' n).capacity ≡ (h n).capacity) → PlacesAbove change
   places_two Unlink e = tt
   places_two Collapse e = tt
   places_two (ShrinkAbove c) e = e (number c)
@@ -149,13 +149,13 @@ module _ {C V : Type 0} (by_form : Bool) (number : C → ℕ) (h h' : ℕ → No
   without_on s s' c c' k k' es ec ek x j e = filled_same by_form s j k s' j k' es refl ek (x j (e ∙ ec))
 
   -- what a change of one node leaves filled, it leaves so where the node is alike
-  pub fills_one_on : (change : Single C) (given : Option V) (k : ℕ) (n n' : Node V) → Alike n n' → PlacesOne number h h' change → FillsOne by_form number h change given k n → FillsOne by_form number h' change given k n'
+  pub fills_one_on : (change : Placement C) (given : Option V) (k : ℕ) (n n' : Node V) → Alike n n' → PlacesHere number h h' change → FillsHere by_form number h change given k n → FillsHere by_form number h' change given k n'
   fills_one_on (Link leaf) given k n n' s e x = e ∙ x
   fills_one_on Set None k n n' s e x = λ nz. without_on (length n.prefix) (length n'.prefix) n.count n'.count n.capacity n'.capacity (ap length s.prefix) s.count s.capacity (x nz)
   fills_one_on Set (Some v) k n n' s e x = tt
 
   -- what a change of two nodes leaves filled, it leaves so where both nodes are alike
-  pub fills_two_on : (change : Double C) (m : ℕ) (q q' : Node V) (k : ℕ) (n n' : Node V) → Alike q q' → Alike n n' → PlacesTwo number h h' change → FillsTwo by_form number h change m q k n → FillsTwo by_form number h' change m q' k n'
+  pub fills_two_on : (change : Replacement C) (m : ℕ) (q q' : Node V) (k : ℕ) (n n' : Node V) → Alike q q' → Alike n n' → PlacesAbove number h h' change → FillsAbove by_form number h change m q k n → FillsAbove by_form number h' change m q' k n'
   fills_two_on Unlink m q q' k n n' sq sn e x = λ nz. without_on (length q.prefix) (length q'.prefix) q.count q'.count q.capacity q'.capacity (ap length sq.prefix) sq.count sq.capacity (x nz)
   fills_two_on Collapse m q q' k n n' sq sn e x = tt
   fills_two_on (ShrinkAbove c) m q q' k n n' sq sn e x = λ nz. without_on (length q.prefix) (length q'.prefix) q.count q'.count (h (number c)).capacity (h' (number c)).capacity (ap length sq.prefix) sq.count e (x nz)
@@ -187,7 +187,7 @@ module _ {C V : Type 0} (by_form : Bool) (number : C → ℕ) (h : ℕ → Node 
   set_plan : (s : Site C) (v : V) → MayFillPlan by_form number h v (plan_here s Set)
   set_plan s v = λ _. tt
 
-  unless_full_next : (kind : Kind V) (given : Option V) (s : Site C) (full : Bool) (p : Option (Over C)) (leaf : Option C) (change : Single C) → adds kind ≡ true → HasGift kind given → IsSmall number h leaf
+  unless_full_next : (kind : Kind V) (given : Option V) (s : Site C) (full : Bool) (p : Option (Over C)) (leaf : Option C) (change : Placement C) → adds kind ≡ true → HasGift kind given → IsSmall number h leaf
       → ((v : V) → MayFillPlan by_form number h v (plan_here s change)) → Next given (unless_full kind s full p leaf change)
   unless_full_next kind given s true (Some u) leaf change e g small f = small
   unless_full_next kind given s true None leaf change e g small f = ready_next kind given (plan_here s change) e g f
@@ -243,11 +243,11 @@ module _ {C V : Type 0} (by_form : Bool) (number : C → ℕ) (h : ℕ → Node 
   retire_next given None p r = tt
   retire_next given (Some n) p r = tt
 
-  top_next : (given : Option V) (two : Two C) (r : Reply V) (top : Option (Parent C)) → Next given (after_top two r top)
+  top_next : (given : Option V) (two : ParentChange C) (r : Reply V) (top : Option (Parent C)) → Next given (after_top two r top)
   top_next given two r None = tt
   top_next given two r (Some g) = tt
 
-  change_next : (given : Option V) (two : Two C) (r : Reply V) (change : Double C) → Next given (after_change two r change)
+  change_next : (given : Option V) (two : ParentChange C) (r : Reply V) (change : Replacement C) → Next given (after_change two r change)
   change_next given two r Collapse = top_next given two r two.top
   change_next given two r (ShrinkAbove c) = top_next given two r two.top
   change_next given two r _ = tt
@@ -265,7 +265,7 @@ two_below n l = grind (arith, nat_tests)
 
 -- and one that finds its key there
 module _ {C V : Type 0} (by_form : Bool) (number : C → ℕ) (same : V → V → Bool) (always : Bool) (i : ℕ) (a : ℕ → Note) (h : ℕ → Node V) (k : ℕ) (t : Tree a h) (w : LockWords a h) (f : AllFilledBy by_form h) where
-  stays_next : (s : Site C) (v : V) (r : Reply V) → Knows number a h (key_bytes k) s (Holds v) → s.depth ≡ 7 → s.count ≢ 1 → (by_form ≡ true → shrinks s.form s.count ≡ false) → Next by_form number h None (quiet (UpgradeOne (set_at s) r))
+  stays_next : (s : Site C) (v : V) (r : Reply V) → Knows number a h (key_bytes k) s (Holds v) → s.depth ≡ 7 → s.count ≢ 1 → (by_form ≡ true → shrinks s.form s.count ≡ false) → Next by_form number h None (quiet (UpgradeHere (set_at s) r))
   stays_next s v r m d one large = λ q nz j e.
       let y : Sees (key_bytes k) s (Holds v) (h (number s.at.node)) = m.fresh.holds q in
       let x : IsFilled by_form (h (number s.at.node)) = was_filled by_form a h t f (number s.at.node) (taken_linked a h w (number s.at.node) s.at.version m.fresh.stamped.published q) nz in
@@ -460,8 +460,8 @@ module _ {C V : Type 0} (by_form : Bool) (number : C → ℕ) (same : V → V �
   lesser_made_next s p None r next_phase (Ok c) m more skip g = next_phase_at by_form number h' given _ next_phase g.1 (λ _ q nz. leaf_fills s c m.1.0 m.1.1 m.2 more g.0 q nz)
   lesser_made_next s p (Some top) r next_phase (Ok c) m more skip g = next_phase_at by_form number h' given _ next_phase g.1 (λ q _ nz. above_fills p (number s.at.node) c m.4 m.5.2 g.0 q nz)
 
-  one_locked_next : (most : ℕ) (fail : Bool) (root : C) (one : One C) (r : Reply V) (next_phase : NextPhase C V) (u : Upgrade) → MayFillOne by_form number h given one → u ≡ upgrade_gives most (h (number one.at.node)) one.at.version fail
-      → UpgradedOne number root one r h u h' next_phase → Next by_form number h' given next_phase
+  one_locked_next : (most : ℕ) (fail : Bool) (root : C) (one : NodeChange C) (r : Reply V) (next_phase : NextPhase C V) (u : Upgrade) → MayFillHere by_form number h given one → u ≡ upgrade_gives most (h (number one.at.node)) one.at.version fail
+      → UpgradedHere number root one r h u h' next_phase → Next by_form number h' given next_phase
   one_locked_next most fail root one r next_phase Failed x e g = next_phase_at by_form number h' given _ next_phase g.1 tt
   one_locked_next most fail root one r next_phase Exhausted x e g = next_phase_at by_form number h' given _ next_phase g.1 tt
   one_locked_next most fail root one r next_phase Locked x e g = next_phase_at by_form number h' given _ next_phase g.1
@@ -469,11 +469,11 @@ module _ {C V : Type 0} (by_form : Bool) (number : C → ℕ) (same : V → V �
       (places_one number h h' one.change (λ n. (locked_alike h (number one.at.node) h' g.0 n).capacity)) (x (locked_taken most (h (number one.at.node)) one.at.version fail e)))
 
   -- over a lock of node n
-  over_lock : (n : ℕ) (two : Two C) → SameBut h n (record (h n) { locked = true }) h' → FillsAt by_form number h two → FillsAt by_form number h' two
+  over_lock : (n : ℕ) (two : ParentChange C) → SameBut h n (record (h n) { locked = true }) h' → FillsAt by_form number h two → FillsAt by_form number h' two
   over_lock n two g x = fills_two_on by_form number h h' two.change (number two.above.stamp.node) (h (number two.above.stamp.node)) (h' (number two.above.stamp.node)) (number two.at.node) (h (number two.at.node)) (h' (number two.at.node))
       (locked_alike h n h' g (number two.above.stamp.node)) (locked_alike h n h' g (number two.at.node)) (places_two number h h' two.change (λ m. (locked_alike h n h' g m).capacity)) x
 
-  top_locked_next : (most : ℕ) (fail : Bool) (root : C) (top : Parent C) (two : Two C) (r : Reply V) (next_phase : NextPhase C V) (u : Upgrade) → MayFillTwo by_form number h two → u ≡ upgrade_gives most (h (number top.stamp.node)) top.stamp.version fail
+  top_locked_next : (most : ℕ) (fail : Bool) (root : C) (top : Parent C) (two : ParentChange C) (r : Reply V) (next_phase : NextPhase C V) (u : Upgrade) → MayFillAbove by_form number h two → u ≡ upgrade_gives most (h (number top.stamp.node)) top.stamp.version fail
       → UpgradedTop number root top two r h u h' next_phase → Next by_form number h' given next_phase
   top_locked_next most fail root top two r next_phase Failed x e g = next_phase_at by_form number h' given _ next_phase g.1 tt
   top_locked_next most fail root top two r next_phase Exhausted x e g = next_phase_at by_form number h' given _ next_phase g.1 tt
@@ -481,7 +481,7 @@ module _ {C V : Type 0} (by_form : Bool) (number : C → ℕ) (same : V → V �
       (x (was (number two.above.stamp.node) two.above.stamp.version (free_after h (number top.stamp.node) h' g.0 (number two.above.stamp.node) two.above.stamp.version p) p)
       (was (number two.at.node) two.at.version (free_after h (number top.stamp.node) h' g.0 (number two.at.node) two.at.version q) q)))
 
-  above_locked_next : (most : ℕ) (fail : Bool) (root : C) (two : Two C) (r : Reply V) (next_phase : NextPhase C V) (u : Upgrade) → MayFillTwo by_form number h two → u ≡ upgrade_gives most (h (number two.above.stamp.node)) two.above.stamp.version fail
+  above_locked_next : (most : ℕ) (fail : Bool) (root : C) (two : ParentChange C) (r : Reply V) (next_phase : NextPhase C V) (u : Upgrade) → MayFillAbove by_form number h two → u ≡ upgrade_gives most (h (number two.above.stamp.node)) two.above.stamp.version fail
       → UpgradedAbove number root two r h u h' next_phase → Next by_form number h' given next_phase
   above_locked_next most fail root two r next_phase Failed x e g = next_phase_at by_form number h' given _ next_phase g.1 (given_up_next by_form number h' given root two.top _)
   above_locked_next most fail root two r next_phase Exhausted x e g = next_phase_at by_form number h' given _ next_phase g.1 (given_up_next by_form number h' given root two.top _)
@@ -489,7 +489,7 @@ module _ {C V : Type 0} (by_form : Bool) (number : C → ℕ) (same : V → V �
       (x (locked_taken most (h (number two.above.stamp.node)) two.above.stamp.version fail e)
       (was (number two.at.node) two.at.version (free_after h (number two.above.stamp.node) h' g.0 (number two.at.node) two.at.version q) q)))
 
-  both_locked_next : (most : ℕ) (fail : Bool) (two : Two C) (r : Reply V) (next_phase : NextPhase C V) (u : Upgrade) → MayFillHalf by_form number h two → u ≡ upgrade_gives most (h (number two.at.node)) two.at.version fail
+  both_locked_next : (most : ℕ) (fail : Bool) (two : ParentChange C) (r : Reply V) (next_phase : NextPhase C V) (u : Upgrade) → MayFillHalf by_form number h two → u ≡ upgrade_gives most (h (number two.at.node)) two.at.version fail
       → UpgradedBelow number two r h u h' next_phase → Next by_form number h' given next_phase
   both_locked_next most fail two r next_phase Failed x e g = next_phase_at by_form number h' given _ next_phase g.1 tt
   both_locked_next most fail two r next_phase Exhausted x e g = next_phase_at by_form number h' given _ next_phase g.1 tt
@@ -524,11 +524,11 @@ module _ {C V : Type 0} (by_form : Bool) (number : C → ℕ) (same : V → V �
   step_next most why root fail answer (CheckAbove p one r) given' next_phase m x z g = given_to given' next_phase g.0 (on_test (is_taken (h (number p.node)) p.version)
       (λ q. let P : (ℕ → Node V) → Type 0 = λ y. Next by_form number y given next_phase in subst P (sym (g.1.goes_on q).0) (next_phase_at by_form number h given _ next_phase (g.1.goes_on q).1 x))
       (λ q. next_phase_at by_form number h' given _ next_phase (g.1.goes_back q).1 tt))
-  step_next most why root fail answer (UpgradeOne one r) given' next_phase m x z g = given_to given' next_phase g.0 (one_locked_next most fail root one r next_phase g.1.0 x g.1.1 g.1.2)
+  step_next most why root fail answer (UpgradeHere one r) given' next_phase m x z g = given_to given' next_phase g.0 (one_locked_next most fail root one r next_phase g.1.0 x g.1.1 g.1.2)
   step_next most why root fail answer (UpgradeTop top two r) given' next_phase m x z g = given_to given' next_phase g.0 (top_locked_next most fail root top two r next_phase g.1.0 x g.1.1 g.1.2)
   step_next most why root fail answer (UpgradeAbove two r) given' next_phase m x z g = given_to given' next_phase g.0 (above_locked_next most fail root two r next_phase g.1.0 x g.1.1 g.1.2)
   step_next most why root fail answer (UpgradeBelow two r) given' next_phase m x z g = given_to given' next_phase g.0 (both_locked_next most fail two r next_phase g.1.0 x g.1.1 g.1.2)
-  step_next most why root fail answer (ChangeTwo two r) given' next_phase m x z g = next_phase_at by_form number h' given' _ next_phase g.2 (change_next by_form number h' given' two r two.change)
+  step_next most why root fail answer (ChangeAbove two r) given' next_phase m x z g = next_phase_at by_form number h' given' _ next_phase g.2 (change_next by_form number h' given' two r two.change)
   step_next most why root fail answer (Retire n next p r) given' next_phase m x z g = next_phase_at by_form number h' given' _ next_phase g.2 (retire_next by_form number h' given' next p r)
   step_next most why root fail answer (Unwind n next e) given' next_phase m x z g = next_phase_at by_form number h' given' _ next_phase g.2 (unwind_next by_form number h' given' root next e)
   step_next most why root fail answer (Scan s) given' next_phase m x z g = next_phase_at by_form number h' given' _ next_phase g.2.3 tt

@@ -11,19 +11,19 @@ use Rattle.congee.specs.declared.protocol.store.Upgrade.TheVariants.{Locked, Fai
 use Rattle.congee.specs.declared.protocol.phase.Kind.{Kind}
 use Rattle.congee.specs.declared.protocol.phase.Parent.{Parent}
 use Rattle.congee.specs.declared.protocol.phase.Site.{Site}
-use Rattle.congee.specs.declared.protocol.phase.Single.{Single}
-use Rattle.congee.specs.declared.protocol.phase.Single.TheVariants.{Set, Link}
-use Rattle.congee.specs.declared.protocol.phase.One.{One}
-use Rattle.congee.specs.declared.protocol.phase.Double.{Double}
-use Rattle.congee.specs.declared.protocol.phase.Double.TheVariants.{Unlink, Grow, GrowLink, Split, Shrink, Collapse, ShrinkAbove}
-use Rattle.congee.specs.declared.protocol.phase.Two.{Two}
+use Rattle.congee.specs.declared.protocol.phase.Placement.{Placement}
+use Rattle.congee.specs.declared.protocol.phase.Placement.TheVariants.{Set, Link}
+use Rattle.congee.specs.declared.protocol.phase.NodeChange.{NodeChange}
+use Rattle.congee.specs.declared.protocol.phase.Replacement.{Replacement}
+use Rattle.congee.specs.declared.protocol.phase.Replacement.TheVariants.{Unlink, Grow, GrowLink, Split, Shrink, Collapse, ShrinkAbove}
+use Rattle.congee.specs.declared.protocol.phase.ParentChange.{ParentChange}
 use Rattle.congee.specs.declared.protocol.phase.Phase.{Phase}
-use Rattle.congee.specs.declared.protocol.phase.Phase.TheVariants.{MakeLeaf, MakeGreater, MakeTop, MakeBeside, MakeLesser, CheckAbove, UpgradeOne, ChangeOne, UpgradeTop, UpgradeAbove, UpgradeBelow, ChangeTwo, Obsolete, Retire, UnlockBelow, Unlock, Unwind}
+use Rattle.congee.specs.declared.protocol.phase.Phase.TheVariants.{MakeLeaf, MakeGreater, MakeTop, MakeBeside, MakeLesser, CheckAbove, UpgradeHere, ChangeHere, UpgradeTop, UpgradeAbove, UpgradeBelow, ChangeAbove, Obsolete, Retire, UnlockBelow, Unlock, Unwind}
 use Rattle.congee.specs.declared.protocol.next_phase.NextPhase.{NextPhase}
 use Rattle.congee.specs.Heap.{Node, Stands, is_taken}
 use Rattle.congee.specs.protocol.Events.{SameBut, BackGives}
-use Rattle.congee.specs.protocol.Steps.{BackOne, BackTwo, BackLeaf, MadeLeaf, MadeGreater, MadeTop, MadeBeside, MadeLesser, UpgradedOne, UpgradedTop, UpgradedAbove, UpgradedBelow, PutsLesser, Collapses, Lessens, ChangedOne, ChangedTwo, PhaseStepped}
-use Rattle.congee.specs.protocol.Holdings.{MadeForOne, MadeForTwo, IsMade, MadeBy}
+use Rattle.congee.specs.protocol.Steps.{BackHere, BackAbove, BackLeaf, MadeLeaf, MadeGreater, MadeTop, MadeBeside, MadeLesser, UpgradedHere, UpgradedTop, UpgradedAbove, UpgradedBelow, PutsLesser, Collapses, Lessens, ChangedHere, ChangedAbove, PhaseStepped}
+use Rattle.congee.specs.protocol.Holdings.{MadeForHere, MadeForAbove, IsMade, MadeBy}
 use Rattle.congee.proofs.lemmas.Graft.{on_test}
 use Rattle.congee.proofs.lemmas.protocol.Lasting.{stands_changed, stands_over}
 
@@ -61,11 +61,11 @@ module _ {V : Type 0} (M : ℕ → Type 0) where
   loses_then h h1 h2 f g n s = elim (f n s) [ inl t ↦ g n t | inr m ↦ inr m ]
 
 module _ {C V : Type 0} (number : C → ℕ) (h h' : ℕ → Node V) where
-  one_back : (change : Single C) → BackOne number h change h' → Loses (MadeForOne number change) h h'
+  one_back : (change : Placement C) → BackHere number h change h' → Loses (MadeForHere number change) h h'
   one_back Set g = loses_same _ h h' g
   one_back (Link leaf) g = loses_back _ h h' (number leaf) refl g
 
-  two_back : (change : Double C) → BackTwo number h change h' → Loses (MadeForTwo number change) h h'
+  two_back : (change : Replacement C) → BackAbove number h change h' → Loses (MadeForAbove number change) h h'
   two_back Unlink g = loses_same _ h h' g
   two_back Collapse g = loses_same _ h h' g
   two_back (Shrink c) g = loses_back _ h h' (number c) refl g
@@ -100,42 +100,42 @@ module _ {C V : Type 0} (number : C → ℕ) (h h' : ℕ → Node V) where
   lesser_made M s p (Some top) r key (Ok c) t g = loses_new M h h' (number c) g.0.unmade g.0.others
   lesser_made M s p (Some top) r key (Err e) t g = loses_same M h h' g.0
 
-  one_upgraded : (root : C) (one : One C) (r : Reply V) (u : Upgrade) (t : NextPhase C V) → UpgradedOne number root one r h u h' t → Loses (MadeForOne number one.change) h h'
+  one_upgraded : (root : C) (one : NodeChange C) (r : Reply V) (u : Upgrade) (t : NextPhase C V) → UpgradedHere number root one r h u h' t → Loses (MadeForHere number one.change) h h'
   one_upgraded root one r Locked t g = loses_but _ h h' (number one.at.node) _ refl refl g.0
   one_upgraded root one r Failed t g = one_back one.change g.0
   one_upgraded root one r Exhausted t g = one_back one.change g.0
 
-  top_upgraded : (root : C) (top : Parent C) (two : Two C) (r : Reply V) (u : Upgrade) (t : NextPhase C V) → UpgradedTop number root top two r h u h' t → Loses (MadeForTwo number two.change) h h'
+  top_upgraded : (root : C) (top : Parent C) (two : ParentChange C) (r : Reply V) (u : Upgrade) (t : NextPhase C V) → UpgradedTop number root top two r h u h' t → Loses (MadeForAbove number two.change) h h'
   top_upgraded root top two r Locked t g = loses_but _ h h' (number top.stamp.node) _ refl refl g.0
   top_upgraded root top two r Failed t g = two_back two.change g.0
   top_upgraded root top two r Exhausted t g = two_back two.change g.0
 
-  above_upgraded : (root : C) (two : Two C) (r : Reply V) (u : Upgrade) (t : NextPhase C V) → UpgradedAbove number root two r h u h' t → Loses (MadeForTwo number two.change) h h'
+  above_upgraded : (root : C) (two : ParentChange C) (r : Reply V) (u : Upgrade) (t : NextPhase C V) → UpgradedAbove number root two r h u h' t → Loses (MadeForAbove number two.change) h h'
   above_upgraded root two r Locked t g = loses_but _ h h' (number two.above.stamp.node) _ refl refl g.0
   above_upgraded root two r Failed t g = two_back two.change g.0
   above_upgraded root two r Exhausted t g = two_back two.change g.0
 
-  both_upgraded : (two : Two C) (r : Reply V) (u : Upgrade) (t : NextPhase C V) → UpgradedBelow number two r h u h' t → Loses (MadeForTwo number two.change) h h'
+  both_upgraded : (two : ParentChange C) (r : Reply V) (u : Upgrade) (t : NextPhase C V) → UpgradedBelow number two r h u h' t → Loses (MadeForAbove number two.change) h h'
   both_upgraded two r Locked t g = loses_but _ h h' (number two.at.node) _ refl refl g.0
   both_upgraded two r Failed t g = two_back two.change g.0
   both_upgraded two r Exhausted t g = two_back two.change g.0
 
-  one_changed : (M : ℕ → Type 0) (key : List ℕ) (new : Option V) (one : One C) (change : Single C) → ChangedOne number key new one change h h' → Loses M h h'
+  one_changed : (M : ℕ → Type 0) (key : List ℕ) (new : Option V) (one : NodeChange C) (change : Placement C) → ChangedHere number key new one change h h' → Loses M h h'
   one_changed M key new one Set g = loses_none M h h' (λ n s. stands_changed h h' _ _ n _ g s)
   one_changed M key new one (Link leaf) g = loses_none M h h' (λ n s. stands_changed g.0 h' _ _ n _ g.2 (stands_changed h g.0 _ _ n _ g.1 s))
 
   lessened : (M : ℕ → Type 0) (m c b p up : ℕ) → PutsLesser h m c b p up h' → Loses M h h'
   lessened M m c b p up g = loses_none M h h' (λ n s. stands_changed g.1 h' _ _ n _ g.4 (stands_changed g.0 g.1 _ _ n _ g.3 (stands_over h g.0 _ _ n g.2 s)))
 
-  top_changed : (M : ℕ → Type 0) (two : Two C) (top : Option (Parent C)) → Collapses number two top h h' → Loses M h h'
+  top_changed : (M : ℕ → Type 0) (two : ParentChange C) (top : Option (Parent C)) → Collapses number two top h h' → Loses M h h'
   top_changed M two None g = absurd g
   top_changed M two (Some top) g = loses_none M h h' (λ n s. stands_changed h h' _ _ n _ g.2 s)
 
-  top_lessened : (M : ℕ → Type 0) (two : Two C) (c : C) (top : Option (Parent C)) → Lessens number two c top h h' → Loses M h h'
+  top_lessened : (M : ℕ → Type 0) (two : ParentChange C) (c : C) (top : Option (Parent C)) → Lessens number two c top h h' → Loses M h h'
   top_lessened M two c None g = absurd g
   top_lessened M two c (Some top) g = lessened M _ _ _ _ _ g
 
-  two_changed : (M : ℕ → Type 0) (key : List ℕ) (new : Option V) (two : Two C) (change : Double C) → ChangedTwo number key new two change h h' → Loses M h h'
+  two_changed : (M : ℕ → Type 0) (key : List ℕ) (new : Option V) (two : ParentChange C) (change : Replacement C) → ChangedAbove number key new two change h h' → Loses M h h'
   two_changed M key new two Unlink g = loses_none M h h' (λ n s. stands_changed h h' _ _ n _ g s)
   two_changed M key new two (Shrink c) g = lessened M _ _ _ _ _ g
   two_changed M key new two Collapse g = top_changed M two two.top g
@@ -154,12 +154,12 @@ module _ {C V : Type 0} (number : C → ℕ) (h h' : ℕ → Node V) where
   step_loses same always most why root key kind fail answer new (MakeLesser s p top r) new' t g = lesser_made _ s p top r key g.1.0 t g.1.1
   step_loses same always most why root key kind fail answer new (CheckAbove p one r) new' t g =
       on_test (is_taken (h (number p.node)) p.version) (λ e. loses_same _ h h' (g.1.goes_on e).0) (λ e. one_back one.change (g.1.goes_back e).0)
-  step_loses same always most why root key kind fail answer new (UpgradeOne one r) new' t g = one_upgraded root one r g.1.0 t g.1.2
-  step_loses same always most why root key kind fail answer new (ChangeOne one r) new' t g = one_changed _ key new one one.change g.1
+  step_loses same always most why root key kind fail answer new (UpgradeHere one r) new' t g = one_upgraded root one r g.1.0 t g.1.2
+  step_loses same always most why root key kind fail answer new (ChangeHere one r) new' t g = one_changed _ key new one one.change g.1
   step_loses same always most why root key kind fail answer new (UpgradeTop top two r) new' t g = top_upgraded root top two r g.1.0 t g.1.2
   step_loses same always most why root key kind fail answer new (UpgradeAbove two r) new' t g = above_upgraded root two r g.1.0 t g.1.2
   step_loses same always most why root key kind fail answer new (UpgradeBelow two r) new' t g = both_upgraded two r g.1.0 t g.1.2
-  step_loses same always most why root key kind fail answer new (ChangeTwo two r) new' t g = two_changed _ key new two two.change g.1
+  step_loses same always most why root key kind fail answer new (ChangeAbove two r) new' t g = two_changed _ key new two two.change g.1
   step_loses same always most why root key kind fail answer new (Obsolete n next p r) new' t g = loses_but _ h h' (number n) _ refl refl g.1
   step_loses same always most why root key kind fail answer new (Retire n next p r) new' t g = loses_but _ h h' (number n) _ refl refl g.1
   step_loses same always most why root key kind fail answer new (UnlockBelow n p r) new' t g = loses_but _ h h' (number n) _ refl refl g.1

@@ -15,25 +15,25 @@ use Rattle.congee.specs.declared.protocol.store.Upgrade.TheVariants.{Locked, Fai
 use Rattle.congee.specs.declared.protocol.phase.Kind.{Kind}
 use Rattle.congee.specs.declared.protocol.phase.Parent.{Parent}
 use Rattle.congee.specs.declared.protocol.phase.Site.{Site}
-use Rattle.congee.specs.declared.protocol.phase.Single.{Single}
-use Rattle.congee.specs.declared.protocol.phase.Single.TheVariants.{Set, Link}
-use Rattle.congee.specs.declared.protocol.phase.One.{One}
-use Rattle.congee.specs.declared.protocol.phase.Double.{Double}
-use Rattle.congee.specs.declared.protocol.phase.Double.TheVariants.{Unlink, Grow, GrowLink, Split, Shrink, Collapse, ShrinkAbove}
-use Rattle.congee.specs.declared.protocol.phase.Two.{Two}
+use Rattle.congee.specs.declared.protocol.phase.Placement.{Placement}
+use Rattle.congee.specs.declared.protocol.phase.Placement.TheVariants.{Set, Link}
+use Rattle.congee.specs.declared.protocol.phase.NodeChange.{NodeChange}
+use Rattle.congee.specs.declared.protocol.phase.Replacement.{Replacement}
+use Rattle.congee.specs.declared.protocol.phase.Replacement.TheVariants.{Unlink, Grow, GrowLink, Split, Shrink, Collapse, ShrinkAbove}
+use Rattle.congee.specs.declared.protocol.phase.ParentChange.{ParentChange}
 use Rattle.congee.specs.declared.protocol.phase.Phase.{Phase}
-use Rattle.congee.specs.declared.protocol.phase.Phase.TheVariants.{MakeLeaf, MakeGreater, MakeTop, MakeBeside, MakeLesser, CheckAbove, UpgradeOne, ChangeOne, UpgradeTop, UpgradeAbove, UpgradeBelow, ChangeTwo, Obsolete, Retire, UnlockBelow, Unlock, Unwind, Ended}
+use Rattle.congee.specs.declared.protocol.phase.Phase.TheVariants.{MakeLeaf, MakeGreater, MakeTop, MakeBeside, MakeLesser, CheckAbove, UpgradeHere, ChangeHere, UpgradeTop, UpgradeAbove, UpgradeBelow, ChangeAbove, Obsolete, Retire, UnlockBelow, Unlock, Unwind, Ended}
 use Rattle.congee.specs.declared.protocol.next_phase.NextPhase.{NextPhase}
 use Rattle.congee.specs.declared.protocol.machine.Machine.{Machine}
 use Rattle.congee.specs.declared.protocol.run.Step.{Step}
 use Rattle.congee.specs.Heap.{Node, Hung, Stands, is_taken}
 use Rattle.congee.specs.protocol.Events.{SameBut, upgrade_gives, NewNode, ChangeGives, TakeOverGives, BackGives}
-use Rattle.congee.specs.protocol.Steps.{BackOne, BackTwo, BackLeaf, MadeLeaf, MadeGreater, MadeTop, MadeBeside, MadeLesser, UpgradedOne, UpgradedTop, UpgradedAbove, UpgradedBelow, PutsLesser, Collapses, Lessens, after_retire, ChangedOne, ChangedTwo, PhaseStepped}
+use Rattle.congee.specs.protocol.Steps.{BackHere, BackAbove, BackLeaf, MadeLeaf, MadeGreater, MadeTop, MadeBeside, MadeLesser, UpgradedHere, UpgradedTop, UpgradedAbove, UpgradedBelow, PutsLesser, Collapses, Lessens, after_retire, ChangedHere, ChangedAbove, PhaseStepped}
 use Rattle.congee.specs.Keys.{key_bytes}
 use Rattle.congee.specs.Notes.{Note, Linked, Gone, is_published, Tree, LockWords}
-use Rattle.congee.specs.protocol.Protocol.{TopLocked, Made, MadeOne, MadeTwo, MadeLeafFor, Known}
+use Rattle.congee.specs.protocol.Protocol.{TopLocked, Made, MadeHere, MadeAbove, MadeLeafFor, Known}
 use Rattle.congee.specs.protocol.Holdings.{TakenBy}
-use Rattle.congee.specs.protocol.Handing.{is_waiting, Leads, IsOut, HandsNothing, HandsNode, HandsAt, Hands, IsLeaving, Leaving, Untouched, Handing, StepHands}
+use Rattle.congee.specs.protocol.Handing.{is_handed_over, Leads, IsOut, HandsNothing, HandsNode, HandsAt, Hands, IsLeaving, Leaving, Untouched, Handing, StepHands}
 use Rattle.congee.proofs.lemmas.Graft.{on_test}
 use Rattle.congee.proofs.lemmas.Fits.{same_test, other_test}
 use Rattle.congee.proofs.lemmas.Tree.{same_or_not}
@@ -56,37 +56,37 @@ and_not true c e = e
 and_not false c e = refl
 
 module _ {V : Type 0} where
-  unretired_idle : (n : Node V) → n.retired ≡ false → is_waiting n ≡ false
+  unretired_idle : (n : Node V) → n.retired ≡ false → is_handed_over n ≡ false
   unretired_idle n e = rw e refl
 
-  unmade_idle : (n : Node V) → n.made ≡ false → is_waiting n ≡ false
+  unmade_idle : (n : Node V) → n.made ≡ false → is_handed_over n ≡ false
   unmade_idle n e = and_not n.retired _ (rw e refl)
 
-  destroyed_idle : (n : Node V) → n.destroyed ≡ true → is_waiting n ≡ false
+  destroyed_idle : (n : Node V) → n.destroyed ≡ true → is_handed_over n ≡ false
   destroyed_idle n e = and_not n.retired _ (and_not n.made _ (rw e refl))
 
-  alike : (n m : Node V) → n.retired ≡ m.retired → n.made ≡ m.made → n.destroyed ≡ m.destroyed → is_waiting n ≡ is_waiting m
+  alike : (n m : Node V) → n.retired ≡ m.retired → n.made ≡ m.made → n.destroyed ≡ m.destroyed → is_handed_over n ≡ is_handed_over m
   alike n m r e d = rw (r, e, d) refl
 
 -- what waits in reach of the calls: nothing
-linked_idle : {V : Type 0} (a : ℕ → Note) (h : ℕ → Node V) (n : ℕ) → LockWords a h → (a n).status ≡ Linked → is_waiting (h n) ≡ false
+linked_idle : {V : Type 0} (a : ℕ → Note) (h : ℕ → Node V) (n : ℕ) → LockWords a h → (a n).status ≡ Linked → is_handed_over (h n) ≡ false
 linked_idle a h n w l = unretired_idle (h n) ((w.each n).unretired l)
 
-made_idle : {V : Type 0} (i : ℕ) (a : ℕ → Note) (h : ℕ → Node V) (key : List ℕ) (c size least : ℕ) → Made i a h key c size least → is_waiting (h c) ≡ false
+made_idle : {V : Type 0} (i : ℕ) (a : ℕ → Note) (h : ℕ → Node V) (key : List ℕ) (c size least : ℕ) → Made i a h key c size least → is_handed_over (h c) ≡ false
 made_idle i a h key c size least m = unretired_idle (h c) m.unretired
 
 -- what a call hands over has left the tree, so no path leads to what waits
-waiting_out : {V : Type 0} (a : ℕ → Note) (h : ℕ → Node V) (n : ℕ) → Tree a h → LockWords a h → is_waiting (h n) ≡ true → IsOut h n
+waiting_out : {V : Type 0} (a : ℕ → Note) (h : ℕ → Node V) (n : ℕ) → Tree a h → LockWords a h → is_handed_over (h n) ≡ true → IsOut h n
 waiting_out a h n t w e = unlinked_out a h n t (λ l. let z : true ≡ false = sym e ∙ linked_idle a h n w l in cc)
 
 -- each node is as it was, or doesn't wait, before and after
 abbrev pub SparesWaiting : {V : Type 0} → (ℕ → Node V) → (ℕ → Node V) → Type 0
-SparesWaiting h h' = (n : ℕ) → (h' n ≡ h n) ⊎ ((is_waiting (h n) ≡ false) × (is_waiting (h' n) ≡ false))
+SparesWaiting h h' = (n : ℕ) → (h' n ≡ h n) ⊎ ((is_handed_over (h n) ≡ false) × (is_handed_over (h' n) ≡ false))
 
 module _ {V : Type 0} where
-  still_idle : (h h' : ℕ → Node V) (n : ℕ) → SparesWaiting h h' → is_waiting (h n) ≡ false → is_waiting (h' n) ≡ false
+  still_idle : (h h' : ℕ → Node V) (n : ℕ) → SparesWaiting h h' → is_handed_over (h n) ≡ false → is_handed_over (h' n) ≡ false
   still_idle h h' n s e = elim (s n) [
-    | inl q ↦ ap is_waiting q ∙ e
+    | inl q ↦ ap is_handed_over q ∙ e
     | inr q ↦ q.1
   ]
 
@@ -97,44 +97,44 @@ module _ {V : Type 0} where
   spares_then h h1 h2 f g n = elim (f n) [
     | inl p ↦ elim (g n) [
       | inl q ↦ inl (q ∙ p)
-      | inr q ↦ inr (sym (ap is_waiting p) ∙ q.0, q.1)
+      | inr q ↦ inr (sym (ap is_handed_over p) ∙ q.0, q.1)
     ]
     | inr p ↦ inr (p.0, still_idle h1 h2 n g p.1)
   ]
 
-  spares_one : (h h' : ℕ → Node V) (c : ℕ) → is_waiting (h c) ≡ false → is_waiting (h' c) ≡ false → ((n : ℕ) → n ≢ c → h' n ≡ h n) → SparesWaiting h h'
+  spares_one : (h h' : ℕ → Node V) (c : ℕ) → is_handed_over (h c) ≡ false → is_handed_over (h' c) ≡ false → ((n : ℕ) → n ≢ c → h' n ≡ h n) → SparesWaiting h h'
   spares_one h h' c b e o n = elim (same_or_not n c) [
-    | inl q ↦ (let P : ℕ → Type 0 = λ y. (is_waiting (h y) ≡ false) × (is_waiting (h' y) ≡ false) in inr (subst P (sym q) (b, e)))
+    | inl q ↦ (let P : ℕ → Type 0 = λ y. (is_handed_over (h y) ≡ false) × (is_handed_over (h' y) ≡ false) in inr (subst P (sym q) (b, e)))
     | inr ne ↦ inl (o n ne)
   ]
 
-  spares_but : (h h' : ℕ → Node V) (c : ℕ) (x : Node V) → is_waiting (h c) ≡ false → is_waiting x ≡ false → SameBut h c x h' → SparesWaiting h h'
-  spares_but h h' c x b e g = spares_one h h' c b (ap is_waiting g.after ∙ e) g.others
+  spares_but : (h h' : ℕ → Node V) (c : ℕ) (x : Node V) → is_handed_over (h c) ≡ false → is_handed_over x ≡ false → SameBut h c x h' → SparesWaiting h h'
+  spares_but h h' c x b e g = spares_one h h' c b (ap is_handed_over g.after ∙ e) g.others
 
-  spares_back : (h h' : ℕ → Node V) (c : ℕ) → is_waiting (h c) ≡ false → BackGives h c h' → SparesWaiting h h'
+  spares_back : (h h' : ℕ → Node V) (c : ℕ) → is_handed_over (h c) ≡ false → BackGives h c h' → SparesWaiting h h'
   spares_back h h' c b g = spares_one h h' c b (destroyed_idle (h' c) g.gone) g.others
 
   spares_new : (h h' : ℕ → Node V) (c : ℕ) (form : NodeType) (key : List ℕ) (size : ℕ) → NewNode h c form key size h' → SparesWaiting h h'
   spares_new h h' c form key size g = spares_one h h' c (unmade_idle (h c) g.unmade) (unretired_idle (h' c) g.unretired) g.others
 
-  spares_change : (h h' : ℕ → Node V) (c b : ℕ) (x : Hung V) → is_waiting (h c) ≡ false → ChangeGives h c b x h' → SparesWaiting h h'
+  spares_change : (h h' : ℕ → Node V) (c b : ℕ) (x : Hung V) → is_handed_over (h c) ≡ false → ChangeGives h c b x h' → SparesWaiting h h'
   spares_change h h' c b x e g = spares_one h h' c e (alike (h' c) (h c) g.retired g.made g.destroyed ∙ e) g.others
 
-  spares_take : (h h' : ℕ → Node V) (m c : ℕ) → is_waiting (h m) ≡ false → is_waiting (h c) ≡ false → TakeOverGives h m c h' → SparesWaiting h h'
+  spares_take : (h h' : ℕ → Node V) (m c : ℕ) → is_handed_over (h m) ≡ false → is_handed_over (h c) ≡ false → TakeOverGives h m c h' → SparesWaiting h h'
   spares_take h h' m c em ec g n = elim (same_or_not n c) [
-    | inl q ↦ (let P : ℕ → Type 0 = λ y. (is_waiting (h y) ≡ false) × (is_waiting (h' y) ≡ false) in inr (subst P (sym q) (ec, alike (h' c) (h c) g.retired g.made g.destroyed ∙ ec)))
+    | inl q ↦ (let P : ℕ → Type 0 = λ y. (is_handed_over (h y) ≡ false) × (is_handed_over (h' y) ≡ false) in inr (subst P (sym q) (ec, alike (h' c) (h c) g.retired g.made g.destroyed ∙ ec)))
     | inr nc ↦ elim (same_or_not n m) [
-      | inl q ↦ (let P : ℕ → Type 0 = λ y. (is_waiting (h y) ≡ false) × (is_waiting (h' y) ≡ false) in inr (subst P (sym q) (em, alike (h' m) (h m) g.retired_old g.made_old g.destroyed_old ∙ em)))
+      | inl q ↦ (let P : ℕ → Type 0 = λ y. (is_handed_over (h y) ≡ false) × (is_handed_over (h' y) ≡ false) in inr (subst P (sym q) (em, alike (h' m) (h m) g.retired_old g.made_old g.destroyed_old ∙ em)))
       | inr nm ↦ inl (g.others n nc nm)
     ]
   ]
 
 module _ {C V : Type 0} (number : C → ℕ) (i : ℕ) (a : ℕ → Note) (h : ℕ → Node V) (h' : ℕ → Node V) (key : List ℕ) where
-  idle_made : (c size least : ℕ) → Made i a h key c size least → is_waiting (h c) ≡ false
+  idle_made : (c size least : ℕ) → Made i a h key c size least → is_handed_over (h c) ≡ false
   idle_made c size least m = made_idle i a h key c size least m
 
   -- made nodes go back
-  back_one : (change : Single C) → MadeOne number i a h key change → BackOne number h change h' → SparesWaiting h h'
+  back_one : (change : Placement C) → MadeHere number i a h key change → BackHere number h change h' → SparesWaiting h h'
   back_one Set m g = spares_same h h' g
   back_one (Link leaf) m g = spares_back h h' (number leaf) (idle_made (number leaf) 7 0 m) g
 
@@ -147,7 +147,7 @@ module _ {C V : Type 0} (number : C → ℕ) (i : ℕ) (a : ℕ → Note) (h : �
       let s : SparesWaiting h h1 = spares_back h h1 d (idle_made d 7 0 md) g in
       spares_then h h1 h' s (spares_back h1 h' c (still_idle h h1 c s (idle_made c size least mc)) k)
 
-  back_two : (p : Parent C) (change : Double C) (size q : ℕ) → MadeTwo number i a h key p change size q → BackTwo number h change h' → SparesWaiting h h'
+  back_two : (p : Parent C) (change : Replacement C) (size q : ℕ) → MadeAbove number i a h key p change size q → BackAbove number h change h' → SparesWaiting h h'
   back_two p Unlink size q m g = spares_same h h' g
   back_two p Collapse size q m g = spares_same h h' g
   back_two p (Shrink c) size q m g = spares_back h h' (number c) (idle_made (number c) size q m) g
@@ -157,15 +157,15 @@ module _ {C V : Type 0} (number : C → ℕ) (i : ℕ) (a : ℕ → Note) (h : �
   back_two p (Split top leaf common byte) size q m g = back_both (number top) common 1 (number leaf) g.0 m.0 m.1 g.1 g.2
 
   -- nodes are changed
-  changed_one : (new : Option V) (one : One C) (change : Single C) → is_waiting (h (number one.at.node)) ≡ false → MadeOne number i a h key change → ChangedOne number key new one change h h' → SparesWaiting h h'
+  changed_one : (new : Option V) (one : NodeChange C) (change : Placement C) → is_handed_over (h (number one.at.node)) ≡ false → MadeHere number i a h key change → ChangedHere number key new one change h h' → SparesWaiting h h'
   changed_one new one Set e m g = spares_change h h' _ _ _ e g
   changed_one new one (Link leaf) e m g =
       let s : SparesWaiting h g.0 = spares_change h g.0 (number leaf) _ _ (idle_made (number leaf) 7 0 m) g.1 in
       spares_then h g.0 h' s (spares_change g.0 h' (number one.at.node) _ _ (still_idle h g.0 (number one.at.node) s e) g.2)
 
-  lessened : (m c b p up size q : ℕ) → is_waiting (h p) ≡ false → is_waiting (h m) ≡ false → Made i a h key c size q → PutsLesser h m c b p up h' → SparesWaiting h h'
+  lessened : (m c b p up size q : ℕ) → is_handed_over (h p) ≡ false → is_handed_over (h m) ≡ false → Made i a h key c size q → PutsLesser h m c b p up h' → SparesWaiting h h'
   lessened m c b p up size q e f made g =
-      let ec : is_waiting (h c) ≡ false = idle_made c size q made in
+      let ec : is_handed_over (h c) ≡ false = idle_made c size q made in
       let s1 : SparesWaiting h g.0 = spares_take h g.0 m c f ec g.2 in
       let s2 : SparesWaiting h g.1 = spares_then h g.0 g.1 s1 (spares_change g.0 g.1 c _ _ (still_idle h g.0 c s1 ec) g.3) in
       spares_then h g.1 h' s2 (spares_change g.1 h' p _ _ (still_idle h g.1 p s2 e) g.4)
@@ -173,36 +173,36 @@ module _ {C V : Type 0} (number : C → ℕ) (i : ℕ) (a : ℕ → Note) (h : �
   -- the node above both doesn't wait
   abbrev TopIdle : Option (Parent C) → Type 0
   TopIdle None = Unit {0}
-  TopIdle (Some top) = is_waiting (h (number top.stamp.node)) ≡ false
+  TopIdle (Some top) = is_handed_over (h (number top.stamp.node)) ≡ false
 
-  collapsed : (two : Two C) (top : Option (Parent C)) → TopIdle top → Collapses number two top h h' → SparesWaiting h h'
+  collapsed : (two : ParentChange C) (top : Option (Parent C)) → TopIdle top → Collapses number two top h h' → SparesWaiting h h'
   collapsed two None e g = absurd g
   collapsed two (Some top) e g = spares_change h h' (number top.stamp.node) _ _ e g.2
 
-  lessened_top : (two : Two C) (c : C) (size q : ℕ) (top : Option (Parent C)) → TopIdle top → is_waiting (h (number two.above.stamp.node)) ≡ false → Made i a h key (number c) size q → Lessens number two c top h h' → SparesWaiting h h'
+  lessened_top : (two : ParentChange C) (c : C) (size q : ℕ) (top : Option (Parent C)) → TopIdle top → is_handed_over (h (number two.above.stamp.node)) ≡ false → Made i a h key (number c) size q → Lessens number two c top h h' → SparesWaiting h h'
   lessened_top two c size q None e f made g = absurd g
   lessened_top two c size q (Some top) e f made g = lessened _ _ _ _ _ size q e f made g
 
-  changed_two : (new : Option V) (two : Two C) (change : Double C) (size q : ℕ) → TopIdle two.top → is_waiting (h (number two.above.stamp.node)) ≡ false → is_waiting (h (number two.at.node)) ≡ false → MadeTwo number i a h key two.above change size q
-      → ChangedTwo number key new two change h h' → SparesWaiting h h'
+  changed_two : (new : Option V) (two : ParentChange C) (change : Replacement C) (size q : ℕ) → TopIdle two.top → is_handed_over (h (number two.above.stamp.node)) ≡ false → is_handed_over (h (number two.at.node)) ≡ false → MadeAbove number i a h key two.above change size q
+      → ChangedAbove number key new two change h h' → SparesWaiting h h'
   changed_two new two Unlink size q u e f m g = spares_change h h' _ _ _ e g
   changed_two new two (Shrink c) size q u e f m g = lessened _ _ _ _ _ size q e f m g
   changed_two new two Collapse size q u e f m g = collapsed two two.top u g
   changed_two new two (ShrinkAbove c) size q u e f m g = lessened_top two c _ q two.top u e m.0 g
   changed_two new two (Grow c) size q u e f m g =
       let p : ℕ = number two.above.stamp.node in
-      let ec : is_waiting (h (number c)) ≡ false = idle_made (number c) size q m in
+      let ec : is_handed_over (h (number c)) ≡ false = idle_made (number c) size q m in
       let s1 : SparesWaiting h g.0 = spares_take h g.0 (number two.at.node) (number c) f ec g.2 in
       let s2 : SparesWaiting h g.1 = spares_then h g.0 g.1 s1 (spares_change g.0 g.1 (number c) _ _ (still_idle h g.0 (number c) s1 ec) g.3) in
       spares_then h g.1 h' s2 (spares_change g.1 h' (number two.above.stamp.node) _ _ (still_idle h g.1 (number two.above.stamp.node) s2 e) g.4)
   changed_two new two (GrowLink c leaf byte) size q u e f m g =
-      let ec : is_waiting (h (number c)) ≡ false = idle_made (number c) size q m.0 in
+      let ec : is_handed_over (h (number c)) ≡ false = idle_made (number c) size q m.0 in
       let s1 : SparesWaiting h g.0 = spares_change h g.0 (number leaf) _ _ (idle_made (number leaf) 7 0 m.1) g.3 in
       let s2 : SparesWaiting h g.1 = spares_then h g.0 g.1 s1 (spares_take g.0 g.1 (number two.at.node) (number c) (still_idle h g.0 (number two.at.node) s1 f) (still_idle h g.0 (number c) s1 ec) g.4) in
       let s3 : SparesWaiting h g.2 = spares_then h g.1 g.2 s2 (spares_change g.1 g.2 (number c) _ _ (still_idle h g.1 (number c) s2 ec) g.5) in
       spares_then h g.2 h' s3 (spares_change g.2 h' (number two.above.stamp.node) _ _ (still_idle h g.2 (number two.above.stamp.node) s3 e) g.6)
   changed_two new two (Split top leaf common byte) size q u e f m g =
-      let ec : is_waiting (h (number top)) ≡ false = idle_made (number top) common 1 m.0 in
+      let ec : is_handed_over (h (number top)) ≡ false = idle_made (number top) common 1 m.0 in
       let s1 : SparesWaiting h g.0 = spares_change h g.0 (number leaf) _ _ (idle_made (number leaf) 7 0 m.1) g.3 in
       let s2 : SparesWaiting h g.1 = spares_then h g.0 g.1 s1 (spares_change g.0 g.1 (number top) _ _ (still_idle h g.0 (number top) s1 ec) g.4) in
       let s3 : SparesWaiting h g.2 = spares_then h g.1 g.2 s2 (spares_change g.1 g.2 (number top) _ _ (still_idle h g.1 (number top) s2 ec) g.5) in
@@ -234,27 +234,27 @@ module _ {C V : Type 0} (number : C → ℕ) (i : ℕ) (a : ℕ → Note) (h : �
   -- a node is locked
   locked_spares : (most n v : ℕ) (fail : Bool) → LockWords a h → is_published (a n).status ≡ true → Locked ≡ upgrade_gives most (h n) v fail → SameBut h n (record (h n) { locked = true }) h' → SparesWaiting h h'
   locked_spares most n v fail w p e g =
-      let q : is_waiting (h n) ≡ false = linked_idle a h n w (taken_linked a h w n v p (locked_taken most (h n) v fail e)) in spares_but h h' n _ q q g
+      let q : is_handed_over (h n) ≡ false = linked_idle a h n w (taken_linked a h w n v p (locked_taken most (h n) v fail e)) in spares_but h h' n _ q q g
 
-  one_upgraded : (root : C) (one : One C) (r : Reply V) (most : ℕ) (fail : Bool) (u : Upgrade) (next_phase : NextPhase C V) → LockWords a h → is_published (a (number one.at.node)).status ≡ true → MadeOne number i a h key one.change
-      → u ≡ upgrade_gives most (h (number one.at.node)) one.at.version fail → UpgradedOne number root one r h u h' next_phase → SparesWaiting h h'
+  one_upgraded : (root : C) (one : NodeChange C) (r : Reply V) (most : ℕ) (fail : Bool) (u : Upgrade) (next_phase : NextPhase C V) → LockWords a h → is_published (a (number one.at.node)).status ≡ true → MadeHere number i a h key one.change
+      → u ≡ upgrade_gives most (h (number one.at.node)) one.at.version fail → UpgradedHere number root one r h u h' next_phase → SparesWaiting h h'
   one_upgraded root one r most fail Locked next_phase w p m e g = locked_spares most (number one.at.node) one.at.version fail w p e g.0
   one_upgraded root one r most fail Failed next_phase w p m e g = back_one one.change m g.0
   one_upgraded root one r most fail Exhausted next_phase w p m e g = back_one one.change m g.0
 
-  top_upgraded : (root : C) (top : Parent C) (two : Two C) (r : Reply V) (size q most : ℕ) (fail : Bool) (u : Upgrade) (next_phase : NextPhase C V) → LockWords a h → is_published (a (number top.stamp.node)).status ≡ true → MadeTwo number i a h key two.above two.change size q
+  top_upgraded : (root : C) (top : Parent C) (two : ParentChange C) (r : Reply V) (size q most : ℕ) (fail : Bool) (u : Upgrade) (next_phase : NextPhase C V) → LockWords a h → is_published (a (number top.stamp.node)).status ≡ true → MadeAbove number i a h key two.above two.change size q
       → u ≡ upgrade_gives most (h (number top.stamp.node)) top.stamp.version fail → UpgradedTop number root top two r h u h' next_phase → SparesWaiting h h'
   top_upgraded root top two r size q most fail Locked next_phase w p m e g = locked_spares most (number top.stamp.node) top.stamp.version fail w p e g.0
   top_upgraded root top two r size q most fail Failed next_phase w p m e g = back_two two.above two.change size q m g.0
   top_upgraded root top two r size q most fail Exhausted next_phase w p m e g = back_two two.above two.change size q m g.0
 
-  above_upgraded : (root : C) (two : Two C) (r : Reply V) (size q most : ℕ) (fail : Bool) (u : Upgrade) (next_phase : NextPhase C V) → LockWords a h → is_published (a (number two.above.stamp.node)).status ≡ true → MadeTwo number i a h key two.above two.change size q
+  above_upgraded : (root : C) (two : ParentChange C) (r : Reply V) (size q most : ℕ) (fail : Bool) (u : Upgrade) (next_phase : NextPhase C V) → LockWords a h → is_published (a (number two.above.stamp.node)).status ≡ true → MadeAbove number i a h key two.above two.change size q
       → u ≡ upgrade_gives most (h (number two.above.stamp.node)) two.above.stamp.version fail → UpgradedAbove number root two r h u h' next_phase → SparesWaiting h h'
   above_upgraded root two r size q most fail Locked next_phase w p m e g = locked_spares most (number two.above.stamp.node) two.above.stamp.version fail w p e g.0
   above_upgraded root two r size q most fail Failed next_phase w p m e g = back_two two.above two.change size q m g.0
   above_upgraded root two r size q most fail Exhausted next_phase w p m e g = back_two two.above two.change size q m g.0
 
-  both_upgraded : (two : Two C) (r : Reply V) (size q most : ℕ) (fail : Bool) (u : Upgrade) (next_phase : NextPhase C V) → LockWords a h → is_published (a (number two.at.node)).status ≡ true → MadeTwo number i a h key two.above two.change size q
+  both_upgraded : (two : ParentChange C) (r : Reply V) (size q most : ℕ) (fail : Bool) (u : Upgrade) (next_phase : NextPhase C V) → LockWords a h → is_published (a (number two.at.node)).status ≡ true → MadeAbove number i a h key two.above two.change size q
       → u ≡ upgrade_gives most (h (number two.at.node)) two.at.version fail → UpgradedBelow number two r h u h' next_phase → SparesWaiting h h'
   both_upgraded two r size q most fail Locked next_phase w p m e g = locked_spares most (number two.at.node) two.at.version fail w p e g.0
   both_upgraded two r size q most fail Failed next_phase w p m e g = back_two two.above two.change size q m g.0
@@ -267,14 +267,14 @@ pub record Gives {C V : Type 0} (number : C → ℕ) (h : ℕ → Node V) (s : P
   pub is : (k : ℕ) → (k ≡ 0) ⊎ IsLeaving s k → IsLeaving s' (suc k)
   pub marked : (h n).obsolete ≡ true
   pub out : IsOut h n
-  pub before : is_waiting (h n) ≡ false
-  pub after : is_waiting (h' n) ≡ true
+  pub before : is_handed_over (h n) ≡ false
+  pub after : is_handed_over (h' n) ≡ true
   pub others : (m : ℕ) → m ≢ n → h' m ≡ h m
 
 module _ {C V : Type 0} (number : C → ℕ) (same : V → V → Bool) (always : Bool) (i : ℕ) (a : ℕ → Note) (h : ℕ → Node V) (h' : ℕ → Node V) (k : ℕ)
     (w : LockWords a h) (t : Tree a h) where
   unlock_spares : (n : ℕ) → (a n).status ≡ Linked → SameBut h n (record (h n) { version = (h n).version + 1; locked = false }) h' → SparesWaiting h h'
-  unlock_spares n l g = let q : is_waiting (h n) ≡ false = linked_idle a h n w l in spares_but h h' n _ q q g
+  unlock_spares n l g = let q : is_handed_over (h n) ≡ false = linked_idle a h n w l in spares_but h h' n _ q q g
 
   top_idle : (top : Option (Parent C)) (n : ℕ) → TopLocked number i a h (key_bytes k) top n → TopIdle number i a h h' (key_bytes k) top
   top_idle None n o = tt
@@ -292,9 +292,9 @@ module _ {C V : Type 0} (number : C → ℕ) (same : V → V → Bool) (always :
   step_hands most why root kind fail answer given (CheckAbove p one r) given' next_phase x g = inl (on_test (is_taken (h (number p.node)) p.version)
       (λ y. spares_same h h' (g.1.goes_on y).0)
       (λ y. back_one number i a h h' (key_bytes k) one.change x.2.made (g.1.goes_back y).0))
-  step_hands most why root kind fail answer given (UpgradeOne one r) given' next_phase x g =
+  step_hands most why root kind fail answer given (UpgradeHere one r) given' next_phase x g =
       inl (one_upgraded number i a h h' (key_bytes k) root one r most fail g.1.0 next_phase w x.1.1.fresh.stamped.published x.1.1.made g.1.1 g.1.2)
-  step_hands most why root kind fail answer given (ChangeOne one r) given' next_phase x g =
+  step_hands most why root kind fail answer given (ChangeHere one r) given' next_phase x g =
       inl (changed_one number i a h h' (key_bytes k) given one one.change (linked_idle a h (number one.at.node) w x.1.holding.linked) x.1.made g.1)
   step_hands most why root kind fail answer given (UpgradeTop top two r) given' next_phase x g =
       inl (top_upgraded number i a h h' (key_bytes k) root top two r _ _ most fail g.1.0 next_phase w x.2.fresh.stamped.published x.1.2.made g.1.1 g.1.2)
@@ -302,11 +302,11 @@ module _ {C V : Type 0} (number : C → ℕ) (same : V → V → Bool) (always :
       inl (above_upgraded number i a h h' (key_bytes k) root two r _ _ most fail g.1.0 next_phase w x.1.2.above.fresh.stamped.published x.1.2.made g.1.1 g.1.2)
   step_hands most why root kind fail answer given (UpgradeBelow two r) given' next_phase x g =
       inl (both_upgraded number i a h h' (key_bytes k) two r _ _ most fail g.1.0 next_phase w x.1.2.fresh.stamped.published x.1.2.made g.1.1 g.1.2)
-  step_hands most why root kind fail answer given (ChangeTwo two r) given' next_phase x g =
+  step_hands most why root kind fail answer given (ChangeAbove two r) given' next_phase x g =
       inl (changed_two number i a h h' (key_bytes k) given two two.change _ _ (top_idle two.top _ x.2.top) (linked_idle a h (number two.above.stamp.node) w x.2.above.holding.linked)
       (linked_idle a h (number two.at.node) w (t.down (number two.above.stamp.node) _ (number two.at.node) x.2.above.holding.linked x.2.above.child).linked) x.2.made g.1)
   step_hands most why root kind fail answer given (Obsolete n next p r) given' next_phase x g =
-      let q : is_waiting (h (number n)) ≡ false = unretired_idle (h (number n)) x.0.unretired in inl (spares_but h h' (number n) _ q q g.1)
+      let q : is_handed_over (h (number n)) ≡ false = unretired_idle (h (number n)) x.0.unretired in inl (spares_but h h' (number n) _ q q g.1)
   step_hands most why root kind fail answer given (Retire n next p r) given' next_phase x g = inr (
     number n,
     record {
@@ -405,7 +405,7 @@ module _ {C V : Type 0} (number : C → ℕ) (h : ℕ → Node V) (ms : List (Ma
     inl (record {
       calls = λ j. refl;
       nodes = λ n. elim (s n) [
-        | inl q ↦ ap is_waiting q
+        | inl q ↦ ap is_handed_over q
         | inr q ↦ q.1 ∙ sym q.0
       ];
     }),
@@ -430,7 +430,7 @@ module _ {C V : Type 0} (number : C → ℕ) (h : ℕ → Node V) (ms : List (Ma
         out = g.out;
         before = g.before;
         after = g.after;
-        nodes = λ c ne. ap is_waiting (g.others c ne);
+        nodes = λ c ne. ap is_handed_over (g.others c ne);
       },
     ),
     (λ j q. elim (same_or_not j i) [
@@ -480,7 +480,7 @@ module _ {C V : Type 0} (number : C → ℕ) (h : ℕ → Node V) (ms : List (Ma
   ]
 
   given_apart : (n : ℕ) → Gives number h m.phase n h' m'.phase → Untouched h h'
-  given_apart n g c x = g.others c (λ q. let y : is_waiting (h c) ≡ false = (let P : ℕ → Type 0 = λ z. is_waiting (h z) ≡ false in subst P (sym q) g.before) in let z : true ≡ false = sym x ∙ y in cc)
+  given_apart n g c x = g.others c (λ q. let y : is_handed_over (h c) ≡ false = (let P : ℕ → Type 0 = λ z. is_handed_over (h z) ≡ false in subst P (sym q) g.before) in let z : true ≡ false = sym x ∙ y in cc)
 
   -- a call's step hands over nothing, or one node that the call took out
   pub stepped_hands : ((c : ℕ) → IsLeaving m.phase c → IsLeaving m'.phase c) → SparesWaiting h h' ⊎ ((n : ℕ) × Gives number h m.phase n h' m'.phase) → StepHands number h ms i h' (set ms i m')
@@ -526,13 +526,13 @@ module _ {C V : Type 0} (by : ℕ → List ℕ) (h0 : ℕ → Node V) (ss : List
     leaving = l;
     few = λ i. rw (x.calls i) (p.few i);
     once = λ i j n k m q r. p.once i j n k m (rw (x.calls i) at q) (rw (x.calls j) at r);
-    new = λ i n q. let y : (is_waiting (h0 n) ≡ false) × (is_waiting (h n) ≡ true) = p.new i n (rw (x.calls i) at q) in (y.0, x.nodes n ∙ y.1);
+    new = λ i n q. let y : (is_handed_over (h0 n) ≡ false) × (is_handed_over (h n) ≡ true) = p.new i n (rw (x.calls i) at q) in (y.0, x.nodes n ∙ y.1);
     all = λ n q. elim (p.all n (sym (x.nodes n) ∙ q)) [
       | inl y ↦ inl y
       | inr y ↦ inr (y.0, rw (x.calls y.0) y.1)
     ];
     out = λ n y. waiting_out a' h' n t w y;
-    untouched = λ n y. u n (ap is_waiting (p.untouched n y) ∙ y) ∙ p.untouched n y;
+    untouched = λ n y. u n (ap is_handed_over (p.untouched n y) ∙ y) ∙ p.untouched n y;
   }
 
   module _ (n : ℕ) (x : HandsNode by h s.who n by' h') where
@@ -570,17 +570,17 @@ module _ {C V : Type 0} (by : ℕ → List ℕ) (h0 : ℕ → Node V) (ss : List
     -- nobody handed it over before
     not_yet : (i c : ℕ) → Contains (by i) c → c ≡ n → ⊥
     not_yet i c q y =
-        let z : is_waiting (h c) ≡ true = (p.new i c q).1 in
-        let b : is_waiting (h c) ≡ false = (let P : ℕ → Type 0 = λ v. is_waiting (h v) ≡ false in subst P (sym y) x.before) in
+        let z : is_handed_over (h c) ≡ true = (p.new i c q).1 in
+        let b : is_handed_over (h c) ≡ false = (let P : ℕ → Type 0 = λ v. is_handed_over (h v) ≡ false in subst P (sym y) x.before) in
         let v : true ≡ false = sym z ∙ b in cc
 
     -- it didn't wait at first, else it would still wait
-    at_first : (b : Bool) → is_waiting (h0 n) ≡ b → is_waiting (h0 n) ≡ false
+    at_first : (b : Bool) → is_handed_over (h0 n) ≡ b → is_handed_over (h0 n) ≡ false
     at_first false e = e
-    at_first true e = absurd (let y : is_waiting (h n) ≡ true = ap is_waiting (p.untouched n e) ∙ e in let z : true ≡ false = sym y ∙ x.before in cc)
+    at_first true e = absurd (let y : is_handed_over (h n) ≡ true = ap is_handed_over (p.untouched n e) ∙ e in let z : true ≡ false = sym y ∙ x.before in cc)
 
-    fresh : (c : ℕ) → c ≡ n → (is_waiting (h0 c) ≡ false) × (is_waiting (h' c) ≡ true)
-    fresh c y = let P : ℕ → Type 0 = λ z. (is_waiting (h0 z) ≡ false) × (is_waiting (h' z) ≡ true) in subst P (sym y) (at_first (is_waiting (h0 n)) refl, x.after)
+    fresh : (c : ℕ) → c ≡ n → (is_handed_over (h0 c) ≡ false) × (is_handed_over (h' c) ≡ true)
+    fresh c y = let P : ℕ → Type 0 = λ z. (is_handed_over (h0 z) ≡ false) × (is_handed_over (h' z) ≡ true) in subst P (sym y) (at_first (is_handed_over (h0 n)) refl, x.after)
 
     few_now : (i : ℕ) → length (by' i) ≤ 2
     few_now i = elim (same_or_not i s.who) [
@@ -606,7 +606,7 @@ module _ {C V : Type 0} (by : ℕ → List ℕ) (h0 : ℕ → Node V) (ss : List
       ];
       new = λ i c q. elim (one_more i c q) [
         | inl y ↦ fresh c y.1
-        | inr y ↦ (let z : (is_waiting (h0 c) ≡ false) × (is_waiting (h c) ≡ true) = p.new i c y in (z.0, ap is_waiting (u c z.1) ∙ z.1))
+        | inr y ↦ (let z : (is_handed_over (h0 c) ≡ false) × (is_handed_over (h c) ≡ true) = p.new i c y in (z.0, ap is_handed_over (u c z.1) ∙ z.1))
       ];
       all = λ c q. elim (same_or_not c n) [
         | inl y ↦ inr (s.who, (let P : ℕ → Type 0 = λ z. Contains (by' s.who) z in let R : List ℕ → Type 0 = λ z. Contains z n in subst P (sym y) (subst R (sym x.now) (Contains-push (by s.who) n))))
@@ -616,7 +616,7 @@ module _ {C V : Type 0} (by : ℕ → List ℕ) (h0 : ℕ → Node V) (ss : List
         ]
       ];
       out = λ c y. waiting_out a' h' c t w y;
-      untouched = λ c y. u c (ap is_waiting (p.untouched c y) ∙ y) ∙ p.untouched c y;
+      untouched = λ c y. u c (ap is_handed_over (p.untouched c y) ∙ y) ∙ p.untouched c y;
     }
 
   -- what a run handed over, with one step more: each node once, by one call, and out of the tree

@@ -12,24 +12,24 @@ use Rattle.congee.specs.declared.protocol.phase.Kind.{Kind}
 use Rattle.congee.specs.declared.protocol.phase.Parent.{Parent}
 use Rattle.congee.specs.declared.protocol.phase.Above.{Above as Over}
 use Rattle.congee.specs.declared.protocol.phase.Site.{Site}
-use Rattle.congee.specs.declared.protocol.phase.Single.{Single}
-use Rattle.congee.specs.declared.protocol.phase.Single.TheVariants.{Set, Link}
-use Rattle.congee.specs.declared.protocol.phase.One.{One}
-use Rattle.congee.specs.declared.protocol.phase.Double.{Double}
-use Rattle.congee.specs.declared.protocol.phase.Double.TheVariants.{Unlink, Grow, GrowLink, Split, Shrink, Collapse, ShrinkAbove}
-use Rattle.congee.specs.declared.protocol.phase.Two.{Two}
+use Rattle.congee.specs.declared.protocol.phase.Placement.{Placement}
+use Rattle.congee.specs.declared.protocol.phase.Placement.TheVariants.{Set, Link}
+use Rattle.congee.specs.declared.protocol.phase.NodeChange.{NodeChange}
+use Rattle.congee.specs.declared.protocol.phase.Replacement.{Replacement}
+use Rattle.congee.specs.declared.protocol.phase.Replacement.TheVariants.{Unlink, Grow, GrowLink, Split, Shrink, Collapse, ShrinkAbove}
+use Rattle.congee.specs.declared.protocol.phase.ParentChange.{ParentChange}
 use Rattle.congee.specs.declared.protocol.phase.Plan.{Plan}
 use Rattle.congee.specs.declared.protocol.phase.Plan.TheVariants.{Here, Above}
 use Rattle.congee.specs.declared.protocol.phase.Phase.{Phase}
-use Rattle.congee.specs.declared.protocol.phase.Phase.TheVariants.{MakeLeaf, MakeGreater, MakeTop, MakeBeside, MakeLesser, AskNew, CheckAbove, UpgradeOne, ChangeOne, UpgradeTop, UpgradeAbove, UpgradeBelow, ChangeTwo, Obsolete, Retire, UnlockBelow, Unlock, Unwind, Ended}
+use Rattle.congee.specs.declared.protocol.phase.Phase.TheVariants.{MakeLeaf, MakeGreater, MakeTop, MakeBeside, MakeLesser, AskNew, CheckAbove, UpgradeHere, ChangeHere, UpgradeTop, UpgradeAbove, UpgradeBelow, ChangeAbove, Obsolete, Retire, UnlockBelow, Unlock, Unwind, Ended}
 use Rattle.congee.specs.declared.protocol.next_phase.NextPhase.{NextPhase}
 use Rattle.congee.specs.Heap.{Node, Hung, Below, is_taken}
 use Rattle.congee.specs.protocol.Events.{SameBut, NewNode, ChangeGives, TakeOverGives, BackGives}
-use Rattle.congee.specs.protocol.Steps.{node_of, both, given_up, after_top, after_retire, after_unwind, PutsLesser, Collapses, Lessens, quiet, again, decided, asking, asks_new, absent_reply, started, ready, plan_here, unless_full, unwound, greater, after_change, BackOne, BackTwo, BackLeaf, MadeLeaf, MadeGreater, MadeTop, MadeBeside, MadeLesser, UpgradedOne, UpgradedTop, UpgradedAbove, UpgradedBelow, ChangedOne, ChangedTwo, IsGivenNew, PhaseStepped}
+use Rattle.congee.specs.protocol.Steps.{node_of, both, given_up, after_top, after_retire, after_unwind, PutsLesser, Collapses, Lessens, quiet, again, decided, asking, asks_new, absent_reply, started, ready, plan_here, unless_full, unwound, greater, after_change, BackHere, BackAbove, BackLeaf, MadeLeaf, MadeGreater, MadeTop, MadeBeside, MadeLesser, UpgradedHere, UpgradedTop, UpgradedAbove, UpgradedBelow, ChangedHere, ChangedAbove, IsGivenNew, PhaseStepped}
 use Rattle.congee.specs.Keys.{key_bytes}
 use Rattle.congee.specs.Notes.{Note, Unmade, Held, Linked, is_published, Tree, LockWords}
-use Rattle.congee.specs.protocol.Protocol.{HasTop, Made, Holding, MadeOne, MadeTwo, MadeLeafFor, Fares, Known}
-use Rattle.congee.specs.protocol.Holdings.{IsTop, LockedBy, MadeForOne, MadeForTwo, MadeForPlan, IsMade, MadeBy}
+use Rattle.congee.specs.protocol.Protocol.{HasTop, Made, Holding, MadeHere, MadeAbove, MadeLeafFor, Fares, Known}
+use Rattle.congee.specs.protocol.Holdings.{IsTop, LockedBy, MadeForHere, MadeForAbove, MadeForPlan, IsMade, MadeBy}
 use Rattle.congee.proofs.lemmas.Graft.{on_test}
 use Rattle.congee.proofs.lemmas.Tree.{same_or_not}
 use Rattle.congee.proofs.lemmas.protocol.Touch.{by_test, owner_locked}
@@ -49,7 +49,7 @@ unless_made number kind s true (Some p) leaf = refl
 unless_made number kind s true None leaf = ready_made number kind (plan_here s (Link leaf)) (number leaf) refl
 unless_made number kind s false above leaf = ready_made number kind (plan_here s (Link leaf)) (number leaf) refl
 
-greater_for : {C : Type 0} (number : C → ℕ) (s : Site C) (leaf : Option C) (c : C) (n : ℕ) → IsMade number leaf n ⊎ (n ≡ number c) → MadeForTwo number (greater s leaf c) n
+greater_for : {C : Type 0} (number : C → ℕ) (s : Site C) (leaf : Option C) (c : C) (n : ℕ) → IsMade number leaf n ⊎ (n ≡ number c) → MadeForAbove number (greater s leaf c) n
 greater_for number s None c n (inl m) = absurd m
 greater_for number s None c n (inr m) = m
 greater_for number s (Some leaf) c n (inl m) = inr m
@@ -93,22 +93,22 @@ flags_take h m c h' k = record {
   ];
 }
 
-flags_one : {C V : Type 0} (number : C → ℕ) (key : List ℕ) (new : Option V) (one : One C) (change : Single C) (h h' : ℕ → Node V) → ChangedOne number key new one change h h' → Flags h h'
+flags_one : {C V : Type 0} (number : C → ℕ) (key : List ℕ) (new : Option V) (one : NodeChange C) (change : Placement C) (h h' : ℕ → Node V) → ChangedHere number key new one change h h' → Flags h h'
 flags_one number key new one Set h h' g = flags_change h _ _ _ h' g
 flags_one number key new one (Link leaf) h h' g = flags_then h g.0 h' (flags_change h _ _ _ g.0 g.1) (flags_change g.0 _ _ _ h' g.2)
 
 flags_lesser : {V : Type 0} (h : ℕ → Node V) (m c b p up : ℕ) (h' : ℕ → Node V) → PutsLesser h m c b p up h' → Flags h h'
 flags_lesser h m c b p up h' g = flags_then h g.0 h' (flags_take h _ _ g.0 g.2) (flags_then g.0 g.1 h' (flags_change g.0 _ _ _ g.1 g.3) (flags_change g.1 _ _ _ h' g.4))
 
-flags_collapse : {C V : Type 0} (number : C → ℕ) (two : Two C) (top : Option (Parent C)) (h h' : ℕ → Node V) → Collapses number two top h h' → Flags h h'
+flags_collapse : {C V : Type 0} (number : C → ℕ) (two : ParentChange C) (top : Option (Parent C)) (h h' : ℕ → Node V) → Collapses number two top h h' → Flags h h'
 flags_collapse number two None h h' g = absurd g
 flags_collapse number two (Some top) h h' g = flags_change h _ _ _ h' g.2
 
-flags_lessen : {C V : Type 0} (number : C → ℕ) (two : Two C) (c : C) (top : Option (Parent C)) (h h' : ℕ → Node V) → Lessens number two c top h h' → Flags h h'
+flags_lessen : {C V : Type 0} (number : C → ℕ) (two : ParentChange C) (c : C) (top : Option (Parent C)) (h h' : ℕ → Node V) → Lessens number two c top h h' → Flags h h'
 flags_lessen number two c None h h' g = absurd g
 flags_lessen number two c (Some top) h h' g = flags_lesser h _ _ _ _ _ h' g
 
-flags_two : {C V : Type 0} (number : C → ℕ) (key : List ℕ) (new : Option V) (two : Two C) (change : Double C) (h h' : ℕ → Node V) → ChangedTwo number key new two change h h' → Flags h h'
+flags_two : {C V : Type 0} (number : C → ℕ) (key : List ℕ) (new : Option V) (two : ParentChange C) (change : Replacement C) (h h' : ℕ → Node V) → ChangedAbove number key new two change h h' → Flags h h'
 flags_two number key new two Unlink h h' g = flags_change h _ _ _ h' g
 flags_two number key new two (Shrink c) h h' g = flags_lesser h _ _ _ _ _ h' g
 flags_two number key new two Collapse h h' g = flags_collapse number two two.top h h' g
@@ -266,7 +266,7 @@ module _ {C V : Type 0} (number : C → ℕ) (i : ℕ) (a : ℕ → Note) (h : �
   at_node : (n c : ℕ) → n ≡ c → IsBack (h c) (h' c) → IsBack (h n) (h' n)
   at_node n c q b = let P : ℕ → Type 0 = λ y. IsBack (h y) (h' y) in subst P (sym q) b
 
-  all_one : (change : Single C) → MadeOne number i a h key change → BackOne number h change h' → AllBack (MadeForOne number change)
+  all_one : (change : Placement C) → MadeHere number i a h key change → BackHere number h change h' → AllBack (MadeForHere number change)
   all_one Set m g = (returns_none h h' g, (λ n x. absurd x))
   all_one (Link leaf) m g =
       let r : Returns h h' × IsBack (h (number leaf)) (h' (number leaf)) = back_node i a h key (number leaf) 7 0 h' m g in (r.0, (λ n x. at_node n (number leaf) x r.1))
@@ -276,7 +276,7 @@ module _ {C V : Type 0} (number : C → ℕ) (i : ℕ) (a : ℕ → Note) (h : �
   all_leaf (Some leaf) s m g =
       let r : Returns h h' × IsBack (h (number leaf)) (h' (number leaf)) = back_node i a h key (number leaf) 7 0 h' m.1 g in (r.0, (λ n x. at_node n (number leaf) x r.1))
 
-  all_two : (p : Parent C) (change : Double C) (size q : ℕ) → MadeTwo number i a h key p change size q → BackTwo number h change h' → AllBack (MadeForTwo number change)
+  all_two : (p : Parent C) (change : Replacement C) (size q : ℕ) → MadeAbove number i a h key p change size q → BackAbove number h change h' → AllBack (MadeForAbove number change)
   all_two p Unlink size q m g = (returns_none h h' g, (λ n x. absurd x))
   all_two p Collapse size q m g = (returns_none h h' g, (λ n x. absurd x))
   all_two p (Shrink c) size q m g =
@@ -401,16 +401,16 @@ module _ {C V : Type 0} (number : C → ℕ) (same : V → V → Bool) (always :
   only m n (inl x) = absurd x
   only m n (inr x) = x
 
-  one_upgraded : (root : C) (one : One C) (r : Reply V) (u : Upgrade) (next_phase : NextPhase C V) → Own (λ _. ⊥) → Mine (MadeForOne number one.change) → MadeOne number i a h (key_bytes k) one.change → UpgradedOne number root one r h u h' next_phase → Now next_phase.phase
-  one_upgraded root one r Locked next_phase o m l g = at_next_phase _ next_phase g.1 (lock_holds (λ _. ⊥) (MadeForOne number one.change) (number one.at.node) g.0 o m (ChangeOne one r) (only (number one.at.node)) (λ n x. x))
-  one_upgraded root one r Failed next_phase o m l g = at_next_phase _ next_phase g.1 (back_bare o (MadeForOne number one.change) m (all_one number i a h h' (key_bytes k) one.change l g.0) _)
-  one_upgraded root one r Exhausted next_phase o m l g = at_next_phase _ next_phase g.1 (back_bare o (MadeForOne number one.change) m (all_one number i a h h' (key_bytes k) one.change l g.0) _)
+  one_upgraded : (root : C) (one : NodeChange C) (r : Reply V) (u : Upgrade) (next_phase : NextPhase C V) → Own (λ _. ⊥) → Mine (MadeForHere number one.change) → MadeHere number i a h (key_bytes k) one.change → UpgradedHere number root one r h u h' next_phase → Now next_phase.phase
+  one_upgraded root one r Locked next_phase o m l g = at_next_phase _ next_phase g.1 (lock_holds (λ _. ⊥) (MadeForHere number one.change) (number one.at.node) g.0 o m (ChangeHere one r) (only (number one.at.node)) (λ n x. x))
+  one_upgraded root one r Failed next_phase o m l g = at_next_phase _ next_phase g.1 (back_bare o (MadeForHere number one.change) m (all_one number i a h h' (key_bytes k) one.change l g.0) _)
+  one_upgraded root one r Exhausted next_phase o m l g = at_next_phase _ next_phase g.1 (back_bare o (MadeForHere number one.change) m (all_one number i a h h' (key_bytes k) one.change l g.0) _)
 
-  top_upgraded : (root : C) (top : Parent C) (two : Two C) (r : Reply V) (size q : ℕ) (u : Upgrade) (next_phase : NextPhase C V) → Own (λ _. ⊥) → Mine (MadeForTwo number two.change) → MadeTwo number i a h (key_bytes k) two.above two.change size q
+  top_upgraded : (root : C) (top : Parent C) (two : ParentChange C) (r : Reply V) (size q : ℕ) (u : Upgrade) (next_phase : NextPhase C V) → Own (λ _. ⊥) → Mine (MadeForAbove number two.change) → MadeAbove number i a h (key_bytes k) two.above two.change size q
       → UpgradedTop number root top two r h u h' next_phase → Now next_phase.phase
-  top_upgraded root top two r size q Locked next_phase o m l g = at_next_phase _ next_phase g.1 (lock_holds (λ _. ⊥) (MadeForTwo number two.change) (number top.stamp.node) g.0 o m (UpgradeAbove (record two { top = Some top }) r) (only (number top.stamp.node)) (λ n x. x))
-  top_upgraded root top two r size q Failed next_phase o m l g = at_next_phase _ next_phase g.1 (back_bare o (MadeForTwo number two.change) m (all_two number i a h h' (key_bytes k) two.above two.change size q l g.0) _)
-  top_upgraded root top two r size q Exhausted next_phase o m l g = at_next_phase _ next_phase g.1 (back_bare o (MadeForTwo number two.change) m (all_two number i a h h' (key_bytes k) two.above two.change size q l g.0) _)
+  top_upgraded root top two r size q Locked next_phase o m l g = at_next_phase _ next_phase g.1 (lock_holds (λ _. ⊥) (MadeForAbove number two.change) (number top.stamp.node) g.0 o m (UpgradeAbove (record two { top = Some top }) r) (only (number top.stamp.node)) (λ n x. x))
+  top_upgraded root top two r size q Failed next_phase o m l g = at_next_phase _ next_phase g.1 (back_bare o (MadeForAbove number two.change) m (all_two number i a h h' (key_bytes k) two.above two.change size q l g.0) _)
+  top_upgraded root top two r size q Exhausted next_phase o m l g = at_next_phase _ next_phase g.1 (back_bare o (MadeForAbove number two.change) m (all_two number i a h h' (key_bytes k) two.above two.change size q l g.0) _)
 
   -- the made nodes go back, and the locks of the nodes above stay
   back_locked : (p : C) (next : Option C) (refusal : Option Refusal) (M : ℕ → Type 0) → Own (λ n. (n ≡ number p) ⊎ IsMade number next n) → Mine M → AllBack number i a h h' (key_bytes k) M → Now (Unwind p next refusal)
@@ -428,33 +428,33 @@ module _ {C V : Type 0} (number : C → ℕ) (same : V → V → Bool) (always :
   swap L M (inl x) = inr x
   swap L M (inr x) = inl x
 
-  above_upgraded : (root : C) (two : Two C) (r : Reply V) (size q : ℕ) (u : Upgrade) (next_phase : NextPhase C V) → Own (IsTop number two.top) → Mine (MadeForTwo number two.change) → MadeTwo number i a h (key_bytes k) two.above two.change size q
+  above_upgraded : (root : C) (two : ParentChange C) (r : Reply V) (size q : ℕ) (u : Upgrade) (next_phase : NextPhase C V) → Own (IsTop number two.top) → Mine (MadeForAbove number two.change) → MadeAbove number i a h (key_bytes k) two.above two.change size q
       → UpgradedAbove number root two r h u h' next_phase → Now next_phase.phase
-  above_upgraded root two r size q Locked next_phase o m l g = at_next_phase _ next_phase g.1 (lock_holds (IsTop number two.top) (MadeForTwo number two.change) (number two.above.stamp.node) g.0 o m (UpgradeBelow two r) (λ n x. swap _ _ x) (λ n x. x))
-  above_upgraded root two r size q Failed next_phase o m l g = at_next_phase _ next_phase g.1 (gives_up root two.top None (MadeForTwo number two.change) o m (all_two number i a h h' (key_bytes k) two.above two.change size q l g.0))
-  above_upgraded root two r size q Exhausted next_phase o m l g = at_next_phase _ next_phase g.1 (gives_up root two.top _ (MadeForTwo number two.change) o m (all_two number i a h h' (key_bytes k) two.above two.change size q l g.0))
+  above_upgraded root two r size q Locked next_phase o m l g = at_next_phase _ next_phase g.1 (lock_holds (IsTop number two.top) (MadeForAbove number two.change) (number two.above.stamp.node) g.0 o m (UpgradeBelow two r) (λ n x. swap _ _ x) (λ n x. x))
+  above_upgraded root two r size q Failed next_phase o m l g = at_next_phase _ next_phase g.1 (gives_up root two.top None (MadeForAbove number two.change) o m (all_two number i a h h' (key_bytes k) two.above two.change size q l g.0))
+  above_upgraded root two r size q Exhausted next_phase o m l g = at_next_phase _ next_phase g.1 (gives_up root two.top _ (MadeForAbove number two.change) o m (all_two number i a h h' (key_bytes k) two.above two.change size q l g.0))
 
   top_is : (top : Option (Parent C)) (n : ℕ) → IsTop number top n → IsMade number (node_of top) n
   top_is None n x = x
   top_is (Some top) n x = x
 
-  above_or_top : (two : Two C) (n : ℕ) → (n ≡ number two.above.stamp.node) ⊎ IsTop number two.top n → (n ≡ number two.above.stamp.node) ⊎ IsMade number (node_of two.top) n
+  above_or_top : (two : ParentChange C) (n : ℕ) → (n ≡ number two.above.stamp.node) ⊎ IsTop number two.top n → (n ≡ number two.above.stamp.node) ⊎ IsMade number (node_of two.top) n
   above_or_top two n (inl x) = inl x
   above_or_top two n (inr x) = inr (top_is two.top n x)
 
-  all_locked : (two : Two C) (n : ℕ) → ((n ≡ number two.above.stamp.node) ⊎ IsTop number two.top n) ⊎ (n ≡ number two.at.node) → ((n ≡ number two.above.stamp.node) ⊎ (n ≡ number two.at.node)) ⊎ IsTop number two.top n
+  all_locked : (two : ParentChange C) (n : ℕ) → ((n ≡ number two.above.stamp.node) ⊎ IsTop number two.top n) ⊎ (n ≡ number two.at.node) → ((n ≡ number two.above.stamp.node) ⊎ (n ≡ number two.at.node)) ⊎ IsTop number two.top n
   all_locked two n (inl (inl x)) = inl (inl x)
   all_locked two n (inl (inr x)) = inr x
   all_locked two n (inr x) = inl (inr x)
 
-  both_upgraded : (two : Two C) (r : Reply V) (size q : ℕ) (u : Upgrade) (next_phase : NextPhase C V) → Own (λ n. (n ≡ number two.above.stamp.node) ⊎ IsTop number two.top n) → Mine (MadeForTwo number two.change) → MadeTwo number i a h (key_bytes k) two.above two.change size q
+  both_upgraded : (two : ParentChange C) (r : Reply V) (size q : ℕ) (u : Upgrade) (next_phase : NextPhase C V) → Own (λ n. (n ≡ number two.above.stamp.node) ⊎ IsTop number two.top n) → Mine (MadeForAbove number two.change) → MadeAbove number i a h (key_bytes k) two.above two.change size q
       → UpgradedBelow number two r h u h' next_phase → Now next_phase.phase
   both_upgraded two r size q Locked next_phase o m l g = at_next_phase _ next_phase g.1
-      (lock_holds (λ n. (n ≡ number two.above.stamp.node) ⊎ IsTop number two.top n) (MadeForTwo number two.change) (number two.at.node) g.0 o m (ChangeTwo two r) (all_locked two) (λ n x. x))
+      (lock_holds (λ n. (n ≡ number two.above.stamp.node) ⊎ IsTop number two.top n) (MadeForAbove number two.change) (number two.at.node) g.0 o m (ChangeAbove two r) (all_locked two) (λ n x. x))
   both_upgraded two r size q Failed next_phase o m l g = at_next_phase _ next_phase g.1
-      (back_locked two.above.stamp.node (node_of two.top) None (MadeForTwo number two.change) (λ n x. above_or_top two n (o n x)) m (all_two number i a h h' (key_bytes k) two.above two.change size q l g.0))
+      (back_locked two.above.stamp.node (node_of two.top) None (MadeForAbove number two.change) (λ n x. above_or_top two n (o n x)) m (all_two number i a h h' (key_bytes k) two.above two.change size q l g.0))
   both_upgraded two r size q Exhausted next_phase o m l g = at_next_phase _ next_phase g.1
-      (back_locked two.above.stamp.node (node_of two.top) _ (MadeForTwo number two.change) (λ n x. above_or_top two n (o n x)) m (all_two number i a h h' (key_bytes k) two.above two.change size q l g.0))
+      (back_locked two.above.stamp.node (node_of two.top) _ (MadeForAbove number two.change) (λ n x. above_or_top two n (o n x)) m (all_two number i a h h' (key_bytes k) two.above two.change size q l g.0))
 
   -- what hangs in the tree is held by no call
   hung_free : (n m b c : ℕ) → (a' m).status ≡ Linked → (h' m).children b ≡ Below c → n ≡ c → (a' n).status ≡ Held i → ⊥
@@ -463,24 +463,24 @@ module _ {C V : Type 0} (number : C → ℕ) (same : V → V → Bool) (always :
       let z : (a' n).status ≡ Linked = (let P : ℕ → Type 0 = λ u. (a' u).status ≡ Linked in subst P (sym q) y) in
       let u : Linked ≡ Held i = sym z ∙ x in cc
 
-  one_changed : (given : Option V) (one : One C) (change : Single C) → (a' (number one.at.node)).status ≡ Linked → ChangedOne number (key_bytes k) given one change h h' → (n : ℕ) → MadeForOne number change n → (a' n).status ≡ Held i → ⊥
+  one_changed : (given : Option V) (one : NodeChange C) (change : Placement C) → (a' (number one.at.node)).status ≡ Linked → ChangedHere number (key_bytes k) given one change h h' → (n : ℕ) → MadeForHere number change n → (a' n).status ≡ Held i → ⊥
   one_changed given one Set l g n m x = m
   one_changed given one (Link leaf) l g n m x = hung_free n (number one.at.node) one.byte (number leaf) l g.2.child m x
 
   -- the changed node stays in the tree
-  abbrev StaysIn : Two C → Double C → Option (Parent C) → Type 0
+  abbrev StaysIn : ParentChange C → Replacement C → Option (Parent C) → Type 0
   StaysIn two Collapse (Some top) = (a' (number top.stamp.node)).status ≡ Linked
   StaysIn two (ShrinkAbove c) (Some top) = (a' (number top.stamp.node)).status ≡ Linked
   StaysIn two Collapse None = Unit {0}
   StaysIn two (ShrinkAbove c) None = Unit {0}
   StaysIn two _ top = (a' (number two.above.stamp.node)).status ≡ Linked
 
-  lesser_hung : (two : Two C) (c : C) (top : Option (Parent C)) → StaysIn two (ShrinkAbove c) top → Lessens number two c top h h' → (n : ℕ) → n ≡ number c → (a' n).status ≡ Held i → ⊥
+  lesser_hung : (two : ParentChange C) (c : C) (top : Option (Parent C)) → StaysIn two (ShrinkAbove c) top → Lessens number two c top h h' → (n : ℕ) → n ≡ number c → (a' n).status ≡ Held i → ⊥
   lesser_hung two c None l g n y x = g
   lesser_hung two c (Some top) l g n y x = hung_free n (number top.stamp.node) top.byte (number c) l g.4.child y x
 
-  two_changed : (given : Option V) (two : Two C) (change : Double C) (size q : ℕ) → (a (number two.above.stamp.node)).status ≡ Linked → StaysIn two change two.top → MadeTwo number i a h (key_bytes k) two.above change size q
-      → ChangedTwo number (key_bytes k) given two change h h' → (n : ℕ) → MadeForTwo number change n → (a' n).status ≡ Held i → ⊥
+  two_changed : (given : Option V) (two : ParentChange C) (change : Replacement C) (size q : ℕ) → (a (number two.above.stamp.node)).status ≡ Linked → StaysIn two change two.top → MadeAbove number i a h (key_bytes k) two.above change size q
+      → ChangedAbove number (key_bytes k) given two change h h' → (n : ℕ) → MadeForAbove number change n → (a' n).status ≡ Held i → ⊥
   two_changed given two Unlink size q l0 l m g n y x = y
   two_changed given two Collapse size q l0 l m g n y x = y
   two_changed given two (Shrink c) size q l0 l m g n y x = hung_free n (number two.above.stamp.node) two.above.byte (number c) l g.4.child y x
@@ -498,17 +498,17 @@ module _ {C V : Type 0} (number : C → ℕ) (same : V → V → Bool) (always :
       hung_free n (number top) (get_or (key_bytes k) common 0) (number leaf) cl (rw e g.5.child) y x
 
   -- the locks that a change of two nodes leaves, or of three
-  abbrev Locks : Two C → Option (Parent C) → ℕ → Type 0
+  abbrev Locks : ParentChange C → Option (Parent C) → ℕ → Type 0
   Locks two top n = ((n ≡ number two.above.stamp.node) ⊎ (n ≡ number two.at.node)) ⊎ IsTop number top n
 
-  abbrev Goes : Two C → Double C → Option (Parent C) → Phase C V → Type 0
+  abbrev Goes : ParentChange C → Replacement C → Option (Parent C) → Phase C V → Type 0
   Goes two change top s = StaysIn two change top × ((n : ℕ) → Locks two top n → LockedBy number s n)
 
   no_top : (top : Option (Parent C)) (n : ℕ) → top ≡ None → IsTop number top n → ⊥
   no_top None n e x = x
   no_top (Some top) n e x = absurd cc
 
-  marks : (two : Two C) (r : Reply V) (next_phase : NextPhase C V) (given' : Option V) (kind : Kind V) (top : Option (Parent C)) → next_phase ≡ decided (Obsolete two.at.node None two.above.stamp.node r) → top ≡ None → Known number same always i a' h' k (key_bytes k) kind given' next_phase.phase
+  marks : (two : ParentChange C) (r : Reply V) (next_phase : NextPhase C V) (given' : Option V) (kind : Kind V) (top : Option (Parent C)) → next_phase ≡ decided (Obsolete two.at.node None two.above.stamp.node r) → top ≡ None → Known number same always i a' h' k (key_bytes k) kind given' next_phase.phase
       → ((a' (number two.above.stamp.node)).status ≡ Linked) × ((n : ℕ) → Locks two top n → LockedBy number next_phase.phase n)
   marks two r next_phase given' kind top e z =
       let P : NextPhase C V → Type 0 = λ y. Known number same always i a' h' k (key_bytes k) kind given' y.phase → ((a' (number two.above.stamp.node)).status ≡ Linked) × ((n : ℕ) → Locks two top n → LockedBy number y.phase n) in
@@ -518,7 +518,7 @@ module _ {C V : Type 0} (number : C → ℕ) (same : V → V → Bool) (always :
       by_lock n (inl y) = inl y
       by_lock n (inr y) = inr (no_top top n z y)
 
-  lets_go : (two : Two C) (r : Reply V) (next_phase : NextPhase C V) (given' : Option V) (kind : Kind V) (top : Option (Parent C)) → next_phase ≡ decided (UnlockBelow two.at.node two.above.stamp.node r) → top ≡ None → Known number same always i a' h' k (key_bytes k) kind given' next_phase.phase
+  lets_go : (two : ParentChange C) (r : Reply V) (next_phase : NextPhase C V) (given' : Option V) (kind : Kind V) (top : Option (Parent C)) → next_phase ≡ decided (UnlockBelow two.at.node two.above.stamp.node r) → top ≡ None → Known number same always i a' h' k (key_bytes k) kind given' next_phase.phase
       → ((a' (number two.above.stamp.node)).status ≡ Linked) × ((n : ℕ) → Locks two top n → LockedBy number next_phase.phase n)
   lets_go two r next_phase given' kind top e z =
       let P : NextPhase C V → Type 0 = λ y. Known number same always i a' h' k (key_bytes k) kind given' y.phase → ((a' (number two.above.stamp.node)).status ≡ Linked) × ((n : ℕ) → Locks two top n → LockedBy number y.phase n) in
@@ -528,7 +528,7 @@ module _ {C V : Type 0} (number : C → ℕ) (same : V → V → Bool) (always :
       by_lock n (inl y) = y
       by_lock n (inr y) = absurd (no_top top n z y)
 
-  tops : (two : Two C) (r : Reply V) (next_phase : NextPhase C V) (given' : Option V) (kind : Kind V) (top : Parent C) → next_phase ≡ after_top two r (Some top) → Known number same always i a' h' k (key_bytes k) kind given' next_phase.phase
+  tops : (two : ParentChange C) (r : Reply V) (next_phase : NextPhase C V) (given' : Option V) (kind : Kind V) (top : Parent C) → next_phase ≡ after_top two r (Some top) → Known number same always i a' h' k (key_bytes k) kind given' next_phase.phase
       → ((a' (number top.stamp.node)).status ≡ Linked) × ((n : ℕ) → Locks two (Some top) n → LockedBy number next_phase.phase n)
   tops two r next_phase given' kind top e =
       let P : NextPhase C V → Type 0 = λ y. Known number same always i a' h' k (key_bytes k) kind given' y.phase → ((a' (number top.stamp.node)).status ≡ Linked) × ((n : ℕ) → Locks two (Some top) n → LockedBy number y.phase n) in
@@ -539,15 +539,15 @@ module _ {C V : Type 0} (number : C → ℕ) (same : V → V → Bool) (always :
       by_lock n (inl (inr y)) = inl (inr y)
       by_lock n (inr y) = inl (inl y)
 
-  collapse_goes : (two : Two C) (r : Reply V) (next_phase : NextPhase C V) (given' : Option V) (kind : Kind V) (top : Option (Parent C)) → next_phase ≡ after_top two r top → HasTop {C = C} Collapse top → Known number same always i a' h' k (key_bytes k) kind given' next_phase.phase → Goes two Collapse top next_phase.phase
+  collapse_goes : (two : ParentChange C) (r : Reply V) (next_phase : NextPhase C V) (given' : Option V) (kind : Kind V) (top : Option (Parent C)) → next_phase ≡ after_top two r top → HasTop {C = C} Collapse top → Known number same always i a' h' k (key_bytes k) kind given' next_phase.phase → Goes two Collapse top next_phase.phase
   collapse_goes two r next_phase given' kind None e z x = absurd z
   collapse_goes two r next_phase given' kind (Some top) e z x = tops two r next_phase given' kind top e x
 
-  lessen_goes : (two : Two C) (r : Reply V) (next_phase : NextPhase C V) (given' : Option V) (kind : Kind V) (c : C) (top : Option (Parent C)) → next_phase ≡ after_top two r top → HasTop (ShrinkAbove c) top → Known number same always i a' h' k (key_bytes k) kind given' next_phase.phase → Goes two (ShrinkAbove c) top next_phase.phase
+  lessen_goes : (two : ParentChange C) (r : Reply V) (next_phase : NextPhase C V) (given' : Option V) (kind : Kind V) (c : C) (top : Option (Parent C)) → next_phase ≡ after_top two r top → HasTop (ShrinkAbove c) top → Known number same always i a' h' k (key_bytes k) kind given' next_phase.phase → Goes two (ShrinkAbove c) top next_phase.phase
   lessen_goes two r next_phase given' kind c None e z x = absurd z
   lessen_goes two r next_phase given' kind c (Some top) e z x = tops two r next_phase given' kind top e x
 
-  after_two : (two : Two C) (r : Reply V) (change : Double C) (next_phase : NextPhase C V) (given' : Option V) (kind : Kind V) → next_phase ≡ after_change two r change → HasTop change two.top → Known number same always i a' h' k (key_bytes k) kind given' next_phase.phase → Goes two change two.top next_phase.phase
+  after_two : (two : ParentChange C) (r : Reply V) (change : Replacement C) (next_phase : NextPhase C V) (given' : Option V) (kind : Kind V) → next_phase ≡ after_change two r change → HasTop change two.top → Known number same always i a' h' k (key_bytes k) kind given' next_phase.phase → Goes two change two.top next_phase.phase
   after_two two r Collapse next_phase given' kind e z x = collapse_goes two r next_phase given' kind two.top e z x
   after_two two r (ShrinkAbove c) next_phase given' kind e z x = lessen_goes two r next_phase given' kind c two.top e z x
   after_two two r (Split top leaf common byte) next_phase given' kind e z x = lets_go two r next_phase given' kind two.top e z x
@@ -632,19 +632,19 @@ module _ {C V : Type 0} (number : C → ℕ) (same : V → V → Bool) (always :
     asked (Some None) y = stays y.1
     asked (Some (Some z)) y = at_next_phase _ next_phase y.1 (calm_mine g.0 o (MadeForPlan number plan) m _ (λ n u. started_made number plan _ n u))
   step_holds most why root kind fail answer given (CheckAbove p one r) given' next_phase o m x x' g = on_test (is_taken (h (number p.node)) p.version)
-      (λ y. let z : (h' ≡ h) × (next_phase ≡ quiet (UpgradeOne one r)) = g.1.goes_on y in at_next_phase _ next_phase z.1 (calm_mine z.0 o (MadeForOne number one.change) m (UpgradeOne one r) (λ n u. u)))
-      (λ y. let z : BackOne number h one.change h' × (next_phase ≡ again root) = g.1.goes_back y in at_next_phase _ next_phase z.1 (back_bare o (MadeForOne number one.change) m (all_one number i a h h' (key_bytes k) one.change x.2.made z.0) _))
-  step_holds most why root kind fail answer given (UpgradeOne one r) given' next_phase o m x x' g = one_upgraded root one r g.1.0 next_phase o m x.1.1.made g.1.2
-  step_holds most why root kind fail answer given (ChangeOne one r) given' next_phase o m x x' g =
+      (λ y. let z : (h' ≡ h) × (next_phase ≡ quiet (UpgradeHere one r)) = g.1.goes_on y in at_next_phase _ next_phase z.1 (calm_mine z.0 o (MadeForHere number one.change) m (UpgradeHere one r) (λ n u. u)))
+      (λ y. let z : BackHere number h one.change h' × (next_phase ≡ again root) = g.1.goes_back y in at_next_phase _ next_phase z.1 (back_bare o (MadeForHere number one.change) m (all_one number i a h h' (key_bytes k) one.change x.2.made z.0) _))
+  step_holds most why root kind fail answer given (UpgradeHere one r) given' next_phase o m x x' g = one_upgraded root one r g.1.0 next_phase o m x.1.1.made g.1.2
+  step_holds most why root kind fail answer given (ChangeHere one r) given' next_phase o m x x' g =
       let P : NextPhase C V → Type 0 = λ z. Known number same always i a' h' k (key_bytes k) kind given' z.phase in
       let y : Holding i a' (number one.at.node) = subst P g.2 x' in
-      at_next_phase _ next_phase g.2 (changes (λ n. n ≡ number one.at.node) (MadeForOne number one.change) o m (flags_one number (key_bytes k) given one one.change h h' g.1) (one_changed given one one.change y.linked g.1) (Unlock one.at.node r) (λ n e l. l))
+      at_next_phase _ next_phase g.2 (changes (λ n. n ≡ number one.at.node) (MadeForHere number one.change) o m (flags_one number (key_bytes k) given one one.change h h' g.1) (one_changed given one one.change y.linked g.1) (Unlock one.at.node r) (λ n e l. l))
   step_holds most why root kind fail answer given (UpgradeTop top two r) given' next_phase o m x x' g = top_upgraded root top two r _ _ g.1.0 next_phase o m x.1.2.made g.1.2
   step_holds most why root kind fail answer given (UpgradeAbove two r) given' next_phase o m x x' g = above_upgraded root two r _ _ g.1.0 next_phase o m x.1.2.made g.1.2
   step_holds most why root kind fail answer given (UpgradeBelow two r) given' next_phase o m x x' g = both_upgraded two r _ _ g.1.0 next_phase o m x.1.2.made g.1.2
-  step_holds most why root kind fail answer given (ChangeTwo two r) given' next_phase o m x x' g =
+  step_holds most why root kind fail answer given (ChangeAbove two r) given' next_phase o m x x' g =
       let y : Goes two two.change two.top next_phase.phase = after_two two r two.change next_phase given' kind g.2 x.3 x' in
-      changes (Locks two two.top) (MadeForTwo number two.change) o m (flags_two number (key_bytes k) given two two.change h h' g.1)
+      changes (Locks two two.top) (MadeForAbove number two.change) o m (flags_two number (key_bytes k) given two two.change h h' g.1)
       (two_changed given two two.change _ _ x.2.above.holding.linked y.0 x.2.made g.1) next_phase.phase (λ n e l. y.1 n l)
   step_holds most why root kind fail answer given (Obsolete n next p r) given' next_phase o m x x' g =
       at_next_phase _ next_phase g.2 (changes (λ u. ((u ≡ number p) ⊎ (u ≡ number n)) ⊎ IsMade number next u) (λ _. ⊥) o m (marked_flags (number n) _ g.1 refl refl) (λ u y _. y) (Retire n next p r) (λ u e l. l))

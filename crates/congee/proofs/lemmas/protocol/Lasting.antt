@@ -11,18 +11,18 @@ use Rattle.congee.specs.declared.protocol.store.Upgrade.TheVariants.{Locked, Fai
 use Rattle.congee.specs.declared.protocol.phase.Kind.{Kind}
 use Rattle.congee.specs.declared.protocol.phase.Parent.{Parent}
 use Rattle.congee.specs.declared.protocol.phase.Site.{Site}
-use Rattle.congee.specs.declared.protocol.phase.Single.{Single}
-use Rattle.congee.specs.declared.protocol.phase.Single.TheVariants.{Set, Link}
-use Rattle.congee.specs.declared.protocol.phase.One.{One}
-use Rattle.congee.specs.declared.protocol.phase.Double.{Double}
-use Rattle.congee.specs.declared.protocol.phase.Double.TheVariants.{Unlink, Grow, GrowLink, Split, Shrink, Collapse, ShrinkAbove}
-use Rattle.congee.specs.declared.protocol.phase.Two.{Two}
+use Rattle.congee.specs.declared.protocol.phase.Placement.{Placement}
+use Rattle.congee.specs.declared.protocol.phase.Placement.TheVariants.{Set, Link}
+use Rattle.congee.specs.declared.protocol.phase.NodeChange.{NodeChange}
+use Rattle.congee.specs.declared.protocol.phase.Replacement.{Replacement}
+use Rattle.congee.specs.declared.protocol.phase.Replacement.TheVariants.{Unlink, Grow, GrowLink, Split, Shrink, Collapse, ShrinkAbove}
+use Rattle.congee.specs.declared.protocol.phase.ParentChange.{ParentChange}
 use Rattle.congee.specs.declared.protocol.phase.Phase.{Phase}
-use Rattle.congee.specs.declared.protocol.phase.Phase.TheVariants.{MakeLeaf, MakeGreater, MakeTop, MakeBeside, MakeLesser, CheckAbove, UpgradeOne, ChangeOne, UpgradeTop, UpgradeAbove, UpgradeBelow, ChangeTwo, Obsolete, Retire, UnlockBelow, Unlock, Unwind}
+use Rattle.congee.specs.declared.protocol.phase.Phase.TheVariants.{MakeLeaf, MakeGreater, MakeTop, MakeBeside, MakeLesser, CheckAbove, UpgradeHere, ChangeHere, UpgradeTop, UpgradeAbove, UpgradeBelow, ChangeAbove, Obsolete, Retire, UnlockBelow, Unlock, Unwind}
 use Rattle.congee.specs.declared.protocol.next_phase.NextPhase.{NextPhase}
 use Rattle.congee.specs.Heap.{Node, Hung, Stands, is_taken}
 use Rattle.congee.specs.protocol.Events.{SameBut, ChangeGives, TakeOverGives, BackGives}
-use Rattle.congee.specs.protocol.Steps.{BackOne, BackTwo, BackLeaf, MadeLeaf, MadeGreater, MadeTop, MadeBeside, MadeLesser, UpgradedOne, UpgradedTop, UpgradedAbove, UpgradedBelow, PutsLesser, Collapses, Lessens, MayLessen, MayTop, ChangedOne, ChangedTwo, PhaseStepped, MayStep, MayBackOne, MayBackTwo, MayBackLeaf, MayChangeOne, MayChangeTwo}
+use Rattle.congee.specs.protocol.Steps.{BackHere, BackAbove, BackLeaf, MadeLeaf, MadeGreater, MadeTop, MadeBeside, MadeLesser, UpgradedHere, UpgradedTop, UpgradedAbove, UpgradedBelow, PutsLesser, Collapses, Lessens, MayLessen, MayTop, ChangedHere, ChangedAbove, PhaseStepped, MayStep, MayBackHere, MayBackAbove, MayBackLeaf, MayChangeHere, MayChangeAbove}
 use Rattle.congee.proofs.lemmas.Graft.{on_test}
 
 -- a used name stays used, and its node, if it was destroyed, as it is
@@ -101,11 +101,11 @@ module _ {V : Type 0} where
   ]
 
 module _ {C V : Type 0} (number : C → ℕ) (h h' : ℕ → Node V) where
-  one_back : (change : Single C) → MayBackOne number h change → BackOne number h change h' → Still h h'
+  one_back : (change : Placement C) → MayBackHere number h change → BackHere number h change h' → Still h h'
   one_back Set may g = still_same h h' g
   one_back (Link leaf) may g = still_back h h' (number leaf) may g
 
-  two_back : (change : Double C) → MayBackTwo number h change → BackTwo number h change h' → Still h h'
+  two_back : (change : Replacement C) → MayBackAbove number h change → BackAbove number h change h' → Still h h'
   two_back Unlink may g = still_same h h' g
   two_back Collapse may g = still_same h h' g
   two_back (Shrink c) may g = still_back h h' (number c) may g
@@ -147,27 +147,27 @@ module _ {C V : Type 0} (number : C → ℕ) (h h' : ℕ → Node V) where
   locked : (n : ℕ) → Stands (h n) → SameBut h n (record (h n) { locked = true }) h' → Still h h'
   locked n s g = still_but h h' n _ s s.made g
 
-  one_upgraded : (root : C) (one : One C) (r : Reply V) (u : Upgrade) (t : NextPhase C V) → Stands (h (number one.at.node)) → MayBackOne number h one.change → UpgradedOne number root one r h u h' t → Still h h'
+  one_upgraded : (root : C) (one : NodeChange C) (r : Reply V) (u : Upgrade) (t : NextPhase C V) → Stands (h (number one.at.node)) → MayBackHere number h one.change → UpgradedHere number root one r h u h' t → Still h h'
   one_upgraded root one r Locked t s may g = locked (number one.at.node) s g.0
   one_upgraded root one r Failed t s may g = one_back one.change may g.0
   one_upgraded root one r Exhausted t s may g = one_back one.change may g.0
 
-  top_upgraded : (root : C) (top : Parent C) (two : Two C) (r : Reply V) (u : Upgrade) (t : NextPhase C V) → Stands (h (number top.stamp.node)) → MayBackTwo number h two.change → UpgradedTop number root top two r h u h' t → Still h h'
+  top_upgraded : (root : C) (top : Parent C) (two : ParentChange C) (r : Reply V) (u : Upgrade) (t : NextPhase C V) → Stands (h (number top.stamp.node)) → MayBackAbove number h two.change → UpgradedTop number root top two r h u h' t → Still h h'
   top_upgraded root top two r Locked t s may g = locked (number top.stamp.node) s g.0
   top_upgraded root top two r Failed t s may g = two_back two.change may g.0
   top_upgraded root top two r Exhausted t s may g = two_back two.change may g.0
 
-  above_upgraded : (root : C) (two : Two C) (r : Reply V) (u : Upgrade) (t : NextPhase C V) → Stands (h (number two.above.stamp.node)) → MayBackTwo number h two.change → UpgradedAbove number root two r h u h' t → Still h h'
+  above_upgraded : (root : C) (two : ParentChange C) (r : Reply V) (u : Upgrade) (t : NextPhase C V) → Stands (h (number two.above.stamp.node)) → MayBackAbove number h two.change → UpgradedAbove number root two r h u h' t → Still h h'
   above_upgraded root two r Locked t s may g = locked (number two.above.stamp.node) s g.0
   above_upgraded root two r Failed t s may g = two_back two.change may g.0
   above_upgraded root two r Exhausted t s may g = two_back two.change may g.0
 
-  both_upgraded : (two : Two C) (r : Reply V) (u : Upgrade) (t : NextPhase C V) → Stands (h (number two.at.node)) → MayBackTwo number h two.change → UpgradedBelow number two r h u h' t → Still h h'
+  both_upgraded : (two : ParentChange C) (r : Reply V) (u : Upgrade) (t : NextPhase C V) → Stands (h (number two.at.node)) → MayBackAbove number h two.change → UpgradedBelow number two r h u h' t → Still h h'
   both_upgraded two r Locked t s may g = locked (number two.at.node) s g.0
   both_upgraded two r Failed t s may g = two_back two.change may g.0
   both_upgraded two r Exhausted t s may g = two_back two.change may g.0
 
-  one_changed : (key : List ℕ) (new : Option V) (one : One C) (change : Single C) → MayChangeOne number new one change h → ChangedOne number key new one change h h' → Still h h'
+  one_changed : (key : List ℕ) (new : Option V) (one : NodeChange C) (change : Placement C) → MayChangeHere number new one change h → ChangedHere number key new one change h h' → Still h h'
   one_changed key new one Set may g = still_change h h' (number one.at.node) _ _ may.stands g
   one_changed key None one (Link leaf) may g = absurd may
   one_changed key (Some v) one (Link leaf) may g =
@@ -181,15 +181,15 @@ module _ {C V : Type 0} (number : C → ℕ) (h h' : ℕ → Node V) where
       still_then h g.0 h' (still_over h g.0 m c may.stands may.blank.stands g.2)
       (still_then g.0 g.1 h' (still_change g.0 g.1 c _ _ c1 g.3) (still_change g.1 h' p _ _ (stands_changed g.0 g.1 c _ p _ g.3 up1) g.4))
 
-  top_changed : (two : Two C) (top : Option (Parent C)) → MayTop number two Collapse top h → Collapses number two top h h' → Still h h'
+  top_changed : (two : ParentChange C) (top : Option (Parent C)) → MayTop number two Collapse top h → Collapses number two top h h' → Still h h'
   top_changed two None may g = absurd may
   top_changed two (Some top) may g = still_change h h' (number top.stamp.node) _ _ may.stands_top g.2
 
-  top_lessened : (two : Two C) (c : C) (top : Option (Parent C)) → MayTop number two (ShrinkAbove c) top h → Lessens number two c top h h' → Still h h'
+  top_lessened : (two : ParentChange C) (c : C) (top : Option (Parent C)) → MayTop number two (ShrinkAbove c) top h → Lessens number two c top h h' → Still h h'
   top_lessened two c None may g = absurd may
   top_lessened two c (Some top) may g = lessened _ _ _ _ _ may g
 
-  two_changed : (key : List ℕ) (new : Option V) (two : Two C) (change : Double C) → MayChangeTwo number key new two change h → ChangedTwo number key new two change h h' → Still h h'
+  two_changed : (key : List ℕ) (new : Option V) (two : ParentChange C) (change : Replacement C) → MayChangeAbove number key new two change h → ChangedAbove number key new two change h h' → Still h h'
   two_changed key new two Unlink may g = still_change h h' (number two.above.stamp.node) _ _ may.stands g
   two_changed key new two (Shrink c) may g = lessened _ _ _ _ _ may g
   two_changed key new two Collapse may g = top_changed two two.top may g
@@ -237,12 +237,12 @@ module _ {C V : Type 0} (number : C → ℕ) (h h' : ℕ → Node V) where
   step_still same always most why root key kind fail answer new (MakeLesser s p top r) new' t may g = lesser_made s p top r key g.1.0 t g.1.1
   step_still same always most why root key kind fail answer new (CheckAbove p one r) new' t may g =
       on_test (is_taken (h (number p.node)) p.version) (λ e. still_same h h' (g.1.goes_on e).0) (λ e. one_back one.change may.1 (g.1.goes_back e).0)
-  step_still same always most why root key kind fail answer new (UpgradeOne one r) new' t may g = one_upgraded root one r g.1.0 t may.0 may.1 g.1.2
-  step_still same always most why root key kind fail answer new (ChangeOne one r) new' t may g = one_changed key new one one.change may g.1
+  step_still same always most why root key kind fail answer new (UpgradeHere one r) new' t may g = one_upgraded root one r g.1.0 t may.0 may.1 g.1.2
+  step_still same always most why root key kind fail answer new (ChangeHere one r) new' t may g = one_changed key new one one.change may g.1
   step_still same always most why root key kind fail answer new (UpgradeTop top two r) new' t may g = top_upgraded root top two r g.1.0 t may.0 may.1 g.1.2
   step_still same always most why root key kind fail answer new (UpgradeAbove two r) new' t may g = above_upgraded root two r g.1.0 t may.0 may.1 g.1.2
   step_still same always most why root key kind fail answer new (UpgradeBelow two r) new' t may g = both_upgraded two r g.1.0 t may.0 may.1 g.1.2
-  step_still same always most why root key kind fail answer new (ChangeTwo two r) new' t may g = two_changed key new two two.change may g.1
+  step_still same always most why root key kind fail answer new (ChangeAbove two r) new' t may g = two_changed key new two two.change may g.1
   step_still same always most why root key kind fail answer new (Obsolete n next p r) new' t may g = still_but h h' (number n) _ may.0 may.0.made g.1
   step_still same always most why root key kind fail answer new (Retire n next p r) new' t may g = still_but h h' (number n) _ may.0 may.0.made g.1
   step_still same always most why root key kind fail answer new (UnlockBelow n p r) new' t may g = still_but h h' (number n) _ may.0 may.0.made g.1

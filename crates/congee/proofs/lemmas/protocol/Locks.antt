@@ -6,20 +6,20 @@ use Rattle.congee.specs.declared.protocol.store.Refusal.{Refusal}
 use Rattle.congee.specs.declared.protocol.store.Upgrade.TheVariants.{Locked, Failed, Exhausted}
 use Rattle.congee.specs.declared.protocol.phase.Kind.{Kind}
 use Rattle.congee.specs.declared.protocol.phase.Parent.{Parent}
-use Rattle.congee.specs.declared.protocol.phase.Single.{Single}
-use Rattle.congee.specs.declared.protocol.phase.One.{One}
-use Rattle.congee.specs.declared.protocol.phase.Double.{Double}
-use Rattle.congee.specs.declared.protocol.phase.Double.TheVariants.{Unlink, Grow, GrowLink, Split, Shrink, Collapse, ShrinkAbove}
-use Rattle.congee.specs.declared.protocol.phase.Two.{Two}
+use Rattle.congee.specs.declared.protocol.phase.Placement.{Placement}
+use Rattle.congee.specs.declared.protocol.phase.NodeChange.{NodeChange}
+use Rattle.congee.specs.declared.protocol.phase.Replacement.{Replacement}
+use Rattle.congee.specs.declared.protocol.phase.Replacement.TheVariants.{Unlink, Grow, GrowLink, Split, Shrink, Collapse, ShrinkAbove}
+use Rattle.congee.specs.declared.protocol.phase.ParentChange.{ParentChange}
 use Rattle.congee.specs.declared.protocol.phase.Phase.{Phase}
-use Rattle.congee.specs.declared.protocol.phase.Phase.TheVariants.{UpgradeOne, ChangeOne, UpgradeTop, UpgradeAbove, UpgradeBelow, ChangeTwo, Obsolete, Retire, UnlockBelow, Unlock, Unwind}
+use Rattle.congee.specs.declared.protocol.phase.Phase.TheVariants.{UpgradeHere, ChangeHere, UpgradeTop, UpgradeAbove, UpgradeBelow, ChangeAbove, Obsolete, Retire, UnlockBelow, Unlock, Unwind}
 use Rattle.congee.specs.declared.protocol.next_phase.NextPhase.{NextPhase}
 use Rattle.congee.specs.Heap.{Node, Below, child_for, is_taken}
 use Rattle.congee.specs.protocol.Events.{places, SameBut, upgrade_gives, ObsoleteGives, RetireGives, UnlockGives}
 use Rattle.congee.specs.protocol.Steps.{quiet, finished, after_retire, after_unwind}
 use Rattle.congee.specs.Keys.{key_bytes}
 use Rattle.congee.specs.Notes.{Note, Linked, Gone, is_published, IsChild, Tree, LockWords}
-use Rattle.congee.specs.protocol.Protocol.{Rely, Holding, Fresh, ChildOf, Made, PlacedOne, WantedOne, MadeOne, PlacedTwo, WantedTwo, MadeTwo, TwoKnown, AboveLocked, TopLocked, AlsoOut, HalfLocked, Known, Effect}
+use Rattle.congee.specs.protocol.Protocol.{Rely, Holding, Fresh, ChildOf, Made, PlacedHere, WantedHere, MadeHere, PlacedAbove, WantedAbove, MadeAbove, AboveKnown, AboveLocked, TopLocked, AlsoOut, HalfLocked, Known, Effect}
 use Rattle.congee.proofs.lemmas.Fits.{both_true}
 use Rattle.congee.proofs.lemmas.protocol.Rely.{fresh_kept, child_kept, made_one_kept, made_two_kept}
 use Rattle.congee.proofs.lemmas.protocol.Touch.{noted_same, noted_other, with_owner, owned, taken_linked}
@@ -75,10 +75,10 @@ module _ {C V : Type 0} (number : C → ℕ) (i : ℕ) (a : ℕ → Note) (h : �
   made_on : (c size least : ℕ) → Made i a h key c size least → Made i a' h' key c size least
   made_on c size least m = let ne : c ≢ n = made_apart i a h key c size least n m o.published in made_same i a h a' h' key c size least (o.nodes c ne) (o.notes c ne) m
 
-  made_one_on : (change : Single C) → MadeOne number i a h key change → MadeOne number i a' h' key change
+  made_one_on : (change : Placement C) → MadeHere number i a h key change → MadeHere number i a' h' key change
   made_one_on = made_one_kept number i a h a' h' key made_on
 
-  made_two_on : (p : Parent C) (change : Double C) (size size' q : ℕ) → size' ≡ size → MadeTwo number i a h key p change size q → MadeTwo number i a' h' key p change size' q
+  made_two_on : (p : Parent C) (change : Replacement C) (size size' q : ℕ) → size' ≡ size → MadeAbove number i a h key p change size q → MadeAbove number i a' h' key p change size' q
   made_two_on = made_two_kept number i a h a' h' key made_on
 
   -- a locked node, but for this one, and what it holds
@@ -118,23 +118,23 @@ module _ {C V : Type 0} (number : C → ℕ) (same : V → V → Bool) (always :
   still_kept a' h' s e m = record { notes = a'; effect = e.effect; sound = record { known = m; answer = e.map } }
 
   -- once its one node is locked, a call knows what its change of it wants
-  pub lock_one : (one : One C) (r : Reply V) (h' : ℕ → Node V) → Known number same always i a h k (key_bytes k) kind given (UpgradeOne one r) → is_taken (h (number one.at.node)) one.at.version ≡ true
-      → SameBut h (number one.at.node) (record (h (number one.at.node)) { locked = true }) h' → Kept number same always i a h k kind given given (quiet (ChangeOne one r)) h'
+  pub lock_one : (one : NodeChange C) (r : Reply V) (h' : ℕ → Node V) → Known number same always i a h k (key_bytes k) kind given (UpgradeHere one r) → is_taken (h (number one.at.node)) one.at.version ≡ true
+      → SameBut h (number one.at.node) (record (h (number one.at.node)) { locked = true }) h' → Kept number same always i a h k kind given given (quiet (ChangeHere one r)) h'
   lock_one one r h' m q g =
       let n : ℕ = number one.at.node in
-      let f : Fresh a h (number one.at.node) one.at.version (WantedOne (key_bytes k) m.1.0) = m.1.1.fresh in
+      let f : Fresh a h (number one.at.node) one.at.version (WantedHere (key_bytes k) m.1.0) = m.1.1.fresh in
       let a' : ℕ → Note = with_owner a (number one.at.node) (Some i) in
       let same_note : with_owner a (number one.at.node) (Some i) (number one.at.node) ≡ owned (a (number one.at.node)) (Some i) = noted_same a (number one.at.node) _ in
       let l : (a (number one.at.node)).status ≡ Linked = taken_linked a h w (number one.at.node) one.at.version f.stamped.published q in
       let e : KeepsMap i a h (with_owner a (number one.at.node) (Some i)) h' = lock_still i a h (number one.at.node) one.at.version h' t w f.stamped q g in
       let on : OnOne a h (with_owner a (number one.at.node) (Some i)) h' (number one.at.node) = record { published = f.stamped.published; nodes = g.others; notes = noted_other a (number one.at.node) _ } in
       let pre : (h' (number one.at.node)).prefix ≡ (h (number one.at.node)).prefix = rw g.after refl in
-      let wanted : WantedOne (key_bytes k) m.1.0 (h (number one.at.node)) = f.holds q in
-      still_kept (with_owner a (number one.at.node) (Some i)) h' (ChangeOne one r) e (
+      let wanted : WantedHere (key_bytes k) m.1.0 (h (number one.at.node)) = f.holds q in
+      still_kept (with_owner a (number one.at.node) (Some i)) h' (ChangeHere one r) e (
         m.1.0,
         record {
           holding = record { owner = rw same_note refl; linked = rw same_note l };
-          placed = (let P : List ℕ → Type 0 = λ y. PlacedOne (key_bytes k) one.change one.byte y in subst P (sym pre) m.1.1.placed);
+          placed = (let P : List ℕ → Type 0 = λ y. PlacedHere (key_bytes k) one.change one.byte y in subst P (sym pre) m.1.1.placed);
           wanted = record { child = rw g.after wanted.child; room = λ z. rw g.after (wanted.room z) };
           made = made_one_on number i a h (with_owner a (number one.at.node) (Some i)) h' (key_bytes k) (number one.at.node) on one.change m.1.1.made;
         },
@@ -147,10 +147,10 @@ module _ {C V : Type 0} (number : C → ℕ) (same : V → V → Bool) (always :
   above_longer p m x = (t.down (number p.stamp.node) _ m x.holding.linked x.child).longer
 
   -- once the node above both is locked, a call knows what the lock of the upper one wants
-  pub lock_top : (top : Parent C) (two : Two C) (r : Reply V) (h' : ℕ → Node V) → Known number same always i a h k (key_bytes k) kind given (UpgradeTop top two r) → is_taken (h (number top.stamp.node)) top.stamp.version ≡ true
+  pub lock_top : (top : Parent C) (two : ParentChange C) (r : Reply V) (h' : ℕ → Node V) → Known number same always i a h k (key_bytes k) kind given (UpgradeTop top two r) → is_taken (h (number top.stamp.node)) top.stamp.version ≡ true
       → SameBut h (number top.stamp.node) (record (h (number top.stamp.node)) { locked = true }) h' → Kept number same always i a h k kind given given (quiet (UpgradeAbove (record two { top = Some top }) r)) h'
   lock_top top two r h' m q g =
-      let x : TwoKnown number i a h (key_bytes k) two m.1.0 m.1.1 = m.1.2 in
+      let x : AboveKnown number i a h (key_bytes k) two m.1.0 m.1.1 = m.1.2 in
       let c : ChildOf number a h (key_bytes k) top (number two.above.stamp.node) = m.2 in
       let same_note : with_owner a (number top.stamp.node) (Some i) (number top.stamp.node) ≡ owned (a (number top.stamp.node)) (Some i) = noted_same a (number top.stamp.node) _ in
       let l : (a (number top.stamp.node)).status ≡ Linked = taken_linked a h w (number top.stamp.node) top.stamp.version c.fresh.stamped.published q in
@@ -174,7 +174,7 @@ module _ {C V : Type 0} (number : C → ℕ) (same : V → V → Bool) (always :
               form = rw g.after hung.2;
             };
             above = child_kept number (key_bytes k) (λ _. Unit {0}) (suc i) a h _ h' (own_rely i a h _ h' e.effect) two.above (number two.at.node) tt x.above;
-            placed = (let P : List ℕ → Type 0 = λ y. PlacedTwo (key_bytes k) two.change y in subst P (sym pre) x.placed);
+            placed = (let P : List ℕ → Type 0 = λ y. PlacedAbove (key_bytes k) two.change y in subst P (sym pre) x.placed);
             fresh = own_fresh i a h _ h' e.effect (number two.at.node) two.at.version _ x.fresh;
             made = made_two_on number i a h (with_owner a (number top.stamp.node) (Some i)) h' (key_bytes k) (number top.stamp.node) on two.above two.change _ _ m.1.1 (ap length pre) x.made;
           },
@@ -185,10 +185,10 @@ module _ {C V : Type 0} (number : C → ℕ) (same : V → V → Bool) (always :
       )
 
   -- once the upper node is locked, a call knows what the lock of the lower one wants
-  pub lock_above : (two : Two C) (r : Reply V) (h' : ℕ → Node V) → Known number same always i a h k (key_bytes k) kind given (UpgradeAbove two r) → is_taken (h (number two.above.stamp.node)) two.above.stamp.version ≡ true
+  pub lock_above : (two : ParentChange C) (r : Reply V) (h' : ℕ → Node V) → Known number same always i a h k (key_bytes k) kind given (UpgradeAbove two r) → is_taken (h (number two.above.stamp.node)) two.above.stamp.version ≡ true
       → SameBut h (number two.above.stamp.node) (record (h (number two.above.stamp.node)) { locked = true }) h' → Kept number same always i a h k kind given given (quiet (UpgradeBelow two r)) h'
   lock_above two r h' m q g =
-      let x : TwoKnown number i a h (key_bytes k) two m.1.0 m.1.1 = m.1.2 in
+      let x : AboveKnown number i a h (key_bytes k) two m.1.0 m.1.1 = m.1.2 in
       let c : ChildOf number a h (key_bytes k) two.above (number two.at.node) = x.above in
       let same_note : with_owner a (number two.above.stamp.node) (Some i) (number two.above.stamp.node) ≡ owned (a (number two.above.stamp.node)) (Some i) = noted_same a (number two.above.stamp.node) _ in
       let l : (a (number two.above.stamp.node)).status ≡ Linked = taken_linked a h w (number two.above.stamp.node) two.above.stamp.version c.fresh.stamped.published q in
@@ -212,7 +212,7 @@ module _ {C V : Type 0} (number : C → ℕ) (same : V → V → Bool) (always :
               count = rw g.after hung.1;
               form = rw g.after hung.2;
             };
-            placed = (let P : List ℕ → Type 0 = λ y. PlacedTwo (key_bytes k) two.change y in subst P (sym pre) x.placed);
+            placed = (let P : List ℕ → Type 0 = λ y. PlacedAbove (key_bytes k) two.change y in subst P (sym pre) x.placed);
             fresh = own_fresh i a h _ h' e.effect (number two.at.node) two.at.version _ x.fresh;
             made = made_two_on number i a h (with_owner a (number two.above.stamp.node) (Some i)) h' (key_bytes k) (number two.above.stamp.node) on two.above two.change _ _ m.1.1 (ap length pre) x.made;
           },
@@ -229,8 +229,8 @@ module _ {C V : Type 0} (number : C → ℕ) (same : V → V → Bool) (always :
       let z : length (h p).prefix ≡ length (h n).prefix = ap (λ y. length (h y).prefix) q in absurd (omega (arith, c.longer))
 
   -- once both nodes are locked, a call knows what its change of them wants
-  pub lock_both : (two : Two C) (r : Reply V) (h' : ℕ → Node V) → Known number same always i a h k (key_bytes k) kind given (UpgradeBelow two r) → is_taken (h (number two.at.node)) two.at.version ≡ true
-      → SameBut h (number two.at.node) (record (h (number two.at.node)) { locked = true }) h' → Kept number same always i a h k kind given given (quiet (ChangeTwo two r)) h'
+  pub lock_both : (two : ParentChange C) (r : Reply V) (h' : ℕ → Node V) → Known number same always i a h k (key_bytes k) kind given (UpgradeBelow two r) → is_taken (h (number two.at.node)) two.at.version ≡ true
+      → SameBut h (number two.at.node) (record (h (number two.at.node)) { locked = true }) h' → Kept number same always i a h k kind given given (quiet (ChangeAbove two r)) h'
   lock_both two r h' m q g =
       let x : HalfLocked number i a h (key_bytes k) two m.1.0 m.1.1 = m.1.2 in
       let same_note : with_owner a (number two.at.node) (Some i) (number two.at.node) ≡ owned (a (number two.at.node)) (Some i) = noted_same a (number two.at.node) _ in
@@ -238,8 +238,8 @@ module _ {C V : Type 0} (number : C → ℕ) (same : V → V → Bool) (always :
       let on : OnOne a h (with_owner a (number two.at.node) (Some i)) h' (number two.at.node) = record { published = x.fresh.stamped.published; nodes = g.others; notes = noted_other a (number two.at.node) _ } in
       let pn : number two.above.stamp.node ≢ number two.at.node = above_apart (number two.above.stamp.node) (number two.at.node) x.above.holding.linked x.above.child in
       let pre : (h' (number two.at.node)).prefix ≡ (h (number two.at.node)).prefix = rw g.after refl in
-      let wanted : WantedTwo (key_bytes k) two.change m.1.0 m.1.1 (h (number two.at.node)) = x.fresh.holds q in
-      still_kept (with_owner a (number two.at.node) (Some i)) h' (ChangeTwo two r) e (
+      let wanted : WantedAbove (key_bytes k) two.change m.1.0 m.1.1 (h (number two.at.node)) = x.fresh.holds q in
+      still_kept (with_owner a (number two.at.node) (Some i)) h' (ChangeAbove two r) e (
         m.1.0,
         m.1.1,
         record {
@@ -247,7 +247,7 @@ module _ {C V : Type 0} (number : C → ℕ) (same : V → V → Bool) (always :
               (λ p y. by_length h _ _ (further _ _ _ (above_longer p (number two.above.stamp.node) y) (above_longer two.above (number two.at.node) x.above))) x.top;
           above = above_on number i a h _ h' (key_bytes k) (number two.at.node) on two.above (number two.at.node) pn x.above;
           owner = rw same_note refl;
-          placed = (let P : List ℕ → Type 0 = λ y. PlacedTwo (key_bytes k) two.change y in subst P (sym pre) x.placed);
+          placed = (let P : List ℕ → Type 0 = λ y. PlacedAbove (key_bytes k) two.change y in subst P (sym pre) x.placed);
           wanted = wanted_locked two.change m.1.0 m.1.1 wanted;
           made = made_two_on number i a h (with_owner a (number two.at.node) (Some i)) h' (key_bytes k) (number two.at.node) on two.above two.change _ _ m.1.1 (ap length pre) x.made;
         },
@@ -259,7 +259,7 @@ module _ {C V : Type 0} (number : C → ℕ) (same : V → V → Bool) (always :
       further : (x y z : ℕ) → x < y → y < z → x < z
       further x y z l m = omega (arith, l, m)
 
-      wanted_locked : (change : Double C) (found : Option V) (q : ℕ) → WantedTwo (key_bytes k) change found q (h (number two.at.node)) → WantedTwo (key_bytes k) change found q (h' (number two.at.node))
+      wanted_locked : (change : Replacement C) (found : Option V) (q : ℕ) → WantedAbove (key_bytes k) change found q (h (number two.at.node)) → WantedAbove (key_bytes k) change found q (h' (number two.at.node))
       wanted_locked Unlink None q z = absurd z
       wanted_locked Unlink (Some v) q z = rw g.after z
       wanted_locked Collapse None q z = absurd z

@@ -2,17 +2,17 @@
 use Rattle.std.proofs.Common.{◌≡◌, ◌≢◌, ℕ, ◌<◌, inl, inr, true, false, List, refl, sym, ◌∙◌, ap, subst, arith}
 use Rattle.std.specs.Prelude.{None}
 use Rattle.congee.specs.declared.forms.base_node.NodeType.{NodeType}
-use Rattle.congee.specs.declared.protocol.phase.Single.{Single}
-use Rattle.congee.specs.declared.protocol.phase.Single.TheVariants.{Set, Link}
+use Rattle.congee.specs.declared.protocol.phase.Placement.{Placement}
+use Rattle.congee.specs.declared.protocol.phase.Placement.TheVariants.{Set, Link}
 use Rattle.congee.specs.declared.protocol.phase.Parent.{Parent}
-use Rattle.congee.specs.declared.protocol.phase.Double.{Double}
-use Rattle.congee.specs.declared.protocol.phase.Double.TheVariants.{Unlink, Grow, GrowLink, Split, Shrink, Collapse, ShrinkAbove}
+use Rattle.congee.specs.declared.protocol.phase.Replacement.{Replacement}
+use Rattle.congee.specs.declared.protocol.phase.Replacement.TheVariants.{Unlink, Grow, GrowLink, Split, Shrink, Collapse, ShrinkAbove}
 use Rattle.congee.specs.Heap.{Node, is_taken}
 use Rattle.congee.specs.Keys.{key_bytes}
 use Rattle.congee.specs.protocol.Events.{NewNode, BackGives, places}
-use Rattle.congee.specs.protocol.Steps.{BackOne, BackTwo}
+use Rattle.congee.specs.protocol.Steps.{BackHere, BackAbove}
 use Rattle.congee.specs.Notes.{Note, Held, Back, is_published, Tree, LockWords}
-use Rattle.congee.specs.protocol.Protocol.{Rely, Made, MadeOne, MadeTwo, Fares}
+use Rattle.congee.specs.protocol.Protocol.{Rely, Made, MadeHere, MadeAbove, Fares}
 use Rattle.congee.proofs.lemmas.Tree.{same_or_not}
 use Rattle.congee.proofs.lemmas.protocol.Touch.{fares_same, fares_back, noted_same, noted_other, as_it_was, touched_effect}
 use Rattle.congee.proofs.lemmas.protocol.Words.{KeepsMap, making, backed, back_still}
@@ -92,12 +92,12 @@ back_nodes i a h key c size least d h1 h' t w mc md ne g k =
     }
 
 -- what was made for a change of one node goes back
-pub back_one : {C V : Type 0} (number : C → ℕ) (i : ℕ) (a : ℕ → Note) (h : ℕ → Node V) (key : List ℕ) (change : Single C) (h' : ℕ → Node V) → Tree a h → LockWords a h → MadeOne number i a h key change → BackOne number h change h' → Backed i a h h'
+pub back_one : {C V : Type 0} (number : C → ℕ) (i : ℕ) (a : ℕ → Note) (h : ℕ → Node V) (key : List ℕ) (change : Placement C) (h' : ℕ → Node V) → Tree a h → LockWords a h → MadeHere number i a h key change → BackHere number h change h' → Backed i a h h'
 back_one number i a h key Set h' t w m g = back_none i a h h' t w g
 back_one number i a h key (Link leaf) h' t w m g = back_node i a h key (number leaf) 7 0 h' t w m g
 
 -- what was made for a change of two nodes goes back
-pub back_two : {C V : Type 0} (number : C → ℕ) (i : ℕ) (a : ℕ → Note) (h : ℕ → Node V) (key : List ℕ) (p : Parent C) (change : Double C) (size q : ℕ) (h' : ℕ → Node V) → Tree a h → LockWords a h → MadeTwo number i a h key p change size q → BackTwo number h change h' → Backed i a h h'
+pub back_two : {C V : Type 0} (number : C → ℕ) (i : ℕ) (a : ℕ → Note) (h : ℕ → Node V) (key : List ℕ) (p : Parent C) (change : Replacement C) (size q : ℕ) (h' : ℕ → Node V) → Tree a h → LockWords a h → MadeAbove number i a h key p change size q → BackAbove number h change h' → Backed i a h h'
 back_two number i a h key p Unlink size q h' t w m g = back_none i a h h' t w g
 back_two number i a h key p Collapse size q h' t w m g = back_none i a h h' t w g
 back_two number i a h key p (Shrink c) size q h' t w m g = back_node i a h key (number c) size q h' t w m g

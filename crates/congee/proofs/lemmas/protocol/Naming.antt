@@ -8,16 +8,16 @@ use Rattle.congee.specs.declared.protocol.phase.Kind.{Kind}
 use Rattle.congee.specs.declared.protocol.phase.Parent.{Parent}
 use Rattle.congee.specs.declared.protocol.phase.Above.{Above as Over}
 use Rattle.congee.specs.declared.protocol.phase.Site.{Site}
-use Rattle.congee.specs.declared.protocol.phase.Single.{Single}
-use Rattle.congee.specs.declared.protocol.phase.Single.TheVariants.{Set, Link}
-use Rattle.congee.specs.declared.protocol.phase.One.{One}
-use Rattle.congee.specs.declared.protocol.phase.Double.{Double}
-use Rattle.congee.specs.declared.protocol.phase.Double.TheVariants.{Unlink, GrowLink, Split, Collapse}
-use Rattle.congee.specs.declared.protocol.phase.Two.{Two}
+use Rattle.congee.specs.declared.protocol.phase.Placement.{Placement}
+use Rattle.congee.specs.declared.protocol.phase.Placement.TheVariants.{Set, Link}
+use Rattle.congee.specs.declared.protocol.phase.NodeChange.{NodeChange}
+use Rattle.congee.specs.declared.protocol.phase.Replacement.{Replacement}
+use Rattle.congee.specs.declared.protocol.phase.Replacement.TheVariants.{Unlink, GrowLink, Split, Collapse}
+use Rattle.congee.specs.declared.protocol.phase.ParentChange.{ParentChange}
 use Rattle.congee.specs.declared.protocol.phase.Plan.{Plan}
 use Rattle.congee.specs.declared.protocol.phase.Plan.TheVariants.{Here, Above}
 use Rattle.congee.specs.declared.protocol.phase.Phase.{Phase}
-use Rattle.congee.specs.declared.protocol.phase.Phase.TheVariants.{New, Version, Read, Check, CheckUncopied, CheckMiss, CheckDown, CheckOld, MakeLeaf, MakeGreater, MakeTop, MakeBeside, MakeLesser, AskOld, AskNew, Confirm, CheckAbove, UpgradeOne, ChangeOne, UpgradeTop, UpgradeAbove, UpgradeBelow, ChangeTwo, Obsolete, Retire, UnlockBelow, Unlock, Unwind, Scan, Ended}
+use Rattle.congee.specs.declared.protocol.phase.Phase.TheVariants.{New, Version, Read, Check, CheckUncopied, CheckMiss, CheckDown, CheckOld, MakeLeaf, MakeGreater, MakeTop, MakeBeside, MakeLesser, AskOld, AskNew, Confirm, CheckAbove, UpgradeHere, ChangeHere, UpgradeTop, UpgradeAbove, UpgradeBelow, ChangeAbove, Obsolete, Retire, UnlockBelow, Unlock, Unwind, Scan, Ended}
 use Rattle.congee.specs.declared.protocol.scan.Rung.{Rung}
 use Rattle.congee.specs.declared.protocol.scan.Stage.{Stage}
 use Rattle.congee.specs.declared.protocol.scan.Stage.TheVariants as stage
@@ -27,7 +27,7 @@ use Rattle.congee.specs.protocol.ScanKnown.{RungsKnown, ScanKnownAt, names_rungs
 use Rattle.congee.specs.Heap.{Node, Hung, Below, child_for}
 use Rattle.congee.specs.Notes.{Note, Linked, is_published, Tree}
 use Rattle.congee.specs.protocol.Protocol.{Known, Knows, TopLocked, AlsoOut, AlsoHolding, IsFar, IsAbove, IsLesser, StampedIf, PlanKnown}
-use Rattle.congee.specs.protocol.Holdings.{LockedBy, MadeBy, MadeForOne, MadeForTwo, MadeForPlan, IsMade}
+use Rattle.congee.specs.protocol.Holdings.{LockedBy, MadeBy, MadeForHere, MadeForAbove, MadeForPlan, IsMade}
 use Rattle.congee.specs.protocol.Names.{name_above, names_over, name_stamped, name_made, names_for_one, names_for_two, names_site, names_one, names_two, names_plan, names}
 use Rattle.congee.proofs.lemmas.protocol.Each.{Each, each_append}
 use Rattle.congee.proofs.lemmas.protocol.Owners.{taken_known, locked_linked}
@@ -80,25 +80,25 @@ module _ {C V : Type 0} (number : C → ℕ) (same : V → V → Bool) (always :
   up : (M : ℕ → Type 0) (xs : List ℕ) → Each In xs → Each (Or M) xs
   up M xs e = each_weaker In (Or M) (λ n x. inl x) xs e
 
-  for_one : (change : Single C) → Each (Or (MadeForOne number change)) (names_for_one number change)
+  for_one : (change : Placement C) → Each (Or (MadeForHere number change)) (names_for_one number change)
   for_one Set = tt
   for_one (Link leaf) = (inr refl, tt)
 
-  for_two : (change : Double C) → Each (Or (MadeForTwo number change)) (names_for_two number change)
+  for_two : (change : Replacement C) → Each (Or (MadeForAbove number change)) (names_for_two number change)
   for_two Unlink = tt
   for_two Collapse = tt
   for_two (GrowLink c leaf byte) = (inr (inl refl), (inr (inr refl), tt))
   for_two (Split top leaf common byte) = (inr (inl refl), (inr (inr refl), tt))
   for_two _ = (inr refl, tt)
 
-  one_in : (one : One C) → In (number one.at.node) → Each (Or (MadeForOne number one.change)) (names_one number one)
+  one_in : (one : NodeChange C) → In (number one.at.node) → Each (Or (MadeForHere number one.change)) (names_one number one)
   one_in one at = (inl at, for_one one.change)
 
-  two_in : (two : Two C) → Each In (name_above number two.top) → In (number two.above.stamp.node) → In (number two.at.node) → Each (Or (MadeForTwo number two.change)) (names_two number two)
-  two_in two top p at = (inl p, (inl at, each_append (Or (MadeForTwo number two.change)) (name_above number two.top) (names_for_two number two.change) (up _ (name_above number two.top) top) (for_two two.change)))
+  two_in : (two : ParentChange C) → Each In (name_above number two.top) → In (number two.above.stamp.node) → In (number two.at.node) → Each (Or (MadeForAbove number two.change)) (names_two number two)
+  two_in two top p at = (inl p, (inl at, each_append (Or (MadeForAbove number two.change)) (name_above number two.top) (names_for_two number two.change) (up _ (name_above number two.top) top) (for_two two.change)))
 
   plan_in : (plan : Plan C) → PlanKnown number i a h key plan → Each (Or (MadeForPlan number plan)) (names_plan number plan)
-  plan_in (Here check one) x = each_append (Or (MadeForOne number one.change)) (name_stamped number check) (names_one number one) (up _ (name_stamped number check) (stamped_in check x.0)) (one_in one x.1.fresh.stamped.published)
+  plan_in (Here check one) x = each_append (Or (MadeForHere number one.change)) (name_stamped number check) (names_one number one) (up _ (name_stamped number check) (stamped_in check x.0)) (one_in one x.1.fresh.stamped.published)
   plan_in (Above two) x = two_in two (top_in two.top _ x.0.1.top) x.0.1.above.fresh.stamped.published x.0.1.fresh.stamped.published
 
   made_in : (leaf : Option C) → Each (Or (IsMade number leaf)) (name_made number leaf)
@@ -137,12 +137,12 @@ module _ {C V : Type 0} (number : C → ℕ) (same : V → V → Bool) (always :
     names_known kind given (AskNew plan) x = plan_in plan x.0
     names_known kind given (Confirm at r) x = (inl x.1.1.fresh.stamped.published, tt)
     names_known kind given (CheckAbove p one r) x = (inl x.1.published, one_in one x.2.fresh.stamped.published)
-    names_known kind given (UpgradeOne one r) x = one_in one x.1.1.fresh.stamped.published
-    names_known kind given (ChangeOne one r) x = one_in one (tree_in _ x.1.holding.linked)
+    names_known kind given (UpgradeHere one r) x = one_in one x.1.1.fresh.stamped.published
+    names_known kind given (ChangeHere one r) x = one_in one (tree_in _ x.1.holding.linked)
     names_known kind given (UpgradeTop g two r) x = (inl x.2.fresh.stamped.published, two_in two (top_in two.top _ x.1.2.top) x.1.2.above.fresh.stamped.published x.1.2.fresh.stamped.published)
     names_known kind given (UpgradeAbove two r) x = two_in two (top_in two.top _ x.1.2.top) x.1.2.above.fresh.stamped.published x.1.2.fresh.stamped.published
     names_known kind given (UpgradeBelow two r) x = two_in two (top_in two.top _ x.1.2.top) (tree_in _ x.1.2.above.holding.linked) x.1.2.fresh.stamped.published
-    names_known kind given (ChangeTwo two r) x = two_in two (top_in two.top _ x.2.top) (tree_in _ x.2.above.holding.linked) (below_in _ _ x.2.above.holding.linked x.2.above.child)
+    names_known kind given (ChangeAbove two r) x = two_in two (top_in two.top _ x.2.top) (tree_in _ x.2.above.holding.linked) (below_in _ _ x.2.above.holding.linked x.2.above.child)
     names_known kind given (Obsolete n next p r) x = (inl (ap is_published x.0.gone), (inl (tree_in _ x.0.above.linked), up _ (name_made number next) (out_in next (number n) x.1)))
     names_known kind given (Retire n next p r) x = (inl (ap is_published x.0.gone), (inl (tree_in _ x.0.above.linked), up _ (name_made number next) (out_in next (number n) x.1)))
     names_known kind given (UnlockBelow n p r) x = (inl (tree_in _ x.0.linked), (inl (tree_in _ x.1.linked), tt))

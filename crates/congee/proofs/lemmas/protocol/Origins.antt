@@ -22,21 +22,21 @@ use Rattle.congee.specs.declared.protocol.phase.Kind.TheVariants.{Get, Insert, R
 use Rattle.congee.specs.declared.protocol.phase.Parent.{Parent}
 use Rattle.congee.specs.declared.protocol.phase.Above.{Above as Over}
 use Rattle.congee.specs.declared.protocol.phase.Site.{Site}
-use Rattle.congee.specs.declared.protocol.phase.Single.{Single}
-use Rattle.congee.specs.declared.protocol.phase.Single.TheVariants.{Set, Link}
-use Rattle.congee.specs.declared.protocol.phase.One.{One}
-use Rattle.congee.specs.declared.protocol.phase.Double.{Double}
-use Rattle.congee.specs.declared.protocol.phase.Double.TheVariants.{Unlink, Collapse, ShrinkAbove}
-use Rattle.congee.specs.declared.protocol.phase.Two.{Two}
+use Rattle.congee.specs.declared.protocol.phase.Placement.{Placement}
+use Rattle.congee.specs.declared.protocol.phase.Placement.TheVariants.{Set, Link}
+use Rattle.congee.specs.declared.protocol.phase.NodeChange.{NodeChange}
+use Rattle.congee.specs.declared.protocol.phase.Replacement.{Replacement}
+use Rattle.congee.specs.declared.protocol.phase.Replacement.TheVariants.{Unlink, Collapse, ShrinkAbove}
+use Rattle.congee.specs.declared.protocol.phase.ParentChange.{ParentChange}
 use Rattle.congee.specs.declared.protocol.phase.Plan.{Plan}
 use Rattle.congee.specs.declared.protocol.phase.Plan.TheVariants.{Here, Above}
 use Rattle.congee.specs.declared.protocol.phase.Phase.{Phase}
-use Rattle.congee.specs.declared.protocol.phase.Phase.TheVariants.{New, Version, Read, Check, CheckUncopied, CheckMiss, CheckDown, CheckOld, MakeLeaf, MakeGreater, MakeTop, MakeBeside, MakeLesser, AskOld, AskNew, Confirm, CheckAbove, UpgradeOne, ChangeOne, UpgradeTop, UpgradeAbove, UpgradeBelow, ChangeTwo, Obsolete, Retire, UnlockBelow, Unlock, Unwind, Scan, Ended}
+use Rattle.congee.specs.declared.protocol.phase.Phase.TheVariants.{New, Version, Read, Check, CheckUncopied, CheckMiss, CheckDown, CheckOld, MakeLeaf, MakeGreater, MakeTop, MakeBeside, MakeLesser, AskOld, AskNew, Confirm, CheckAbove, UpgradeHere, ChangeHere, UpgradeTop, UpgradeAbove, UpgradeBelow, ChangeAbove, Obsolete, Retire, UnlockBelow, Unlock, Unwind, Scan, Ended}
 use Rattle.congee.specs.declared.protocol.next_phase.NextPhase.{NextPhase}
 use Rattle.congee.specs.declared.protocol.machine.Machine.{Machine}
 use Rattle.congee.specs.Heap.{Node, Below, is_taken}
 use Rattle.congee.specs.protocol.Events.{hung}
-use Rattle.congee.specs.protocol.Steps.{skipping, shrinks, set_at, both as both_of, last_out, near_of, node_of, given_up, after_top, after_retire, after_unwind, quiet, after_scan, again, answered, finished, refused, decided, CopyFailed, adds, asks_new, absent_reply, stamp_above, after_version, after_read, down, started, ready, plan_here, unless_full, absent, IsAsked, replaced, taken_out, emptied, is_same, IsAtOld, IsAdded, IsExchanged, IsPresent, IsChecked, after_miss, IsGiven, IsGivenNew, MadeLeaf, greater, MadeGreater, MadeTop, MadeBeside, MadeLesser, UpgradedOne, UpgradedTop, UpgradedAbove, UpgradedBelow, after_change, unwound, PhaseStepped}
+use Rattle.congee.specs.protocol.Steps.{skipping, shrinks, set_at, both as both_of, last_out, near_of, node_of, given_up, after_top, after_retire, after_unwind, quiet, after_scan, again, answered, finished, refused, decided, CopyFailed, adds, asks_new, absent_reply, stamp_above, after_version, after_read, down, started, ready, plan_here, unless_full, absent, IsAsked, replaced, taken_out, emptied, is_same, IsAtOld, IsAdded, IsExchanged, IsPresent, IsChecked, after_miss, IsGiven, IsGivenNew, MadeLeaf, greater, MadeGreater, MadeTop, MadeBeside, MadeLesser, UpgradedHere, UpgradedTop, UpgradedAbove, UpgradedBelow, after_change, unwound, PhaseStepped}
 use Rattle.congee.specs.Keys.{key_bytes}
 use Rattle.congee.specs.Notes.{Note, Linked, LockWords}
 use Rattle.congee.specs.protocol.Protocol.{Knows, Known}
@@ -88,10 +88,10 @@ module _ {C : Type 0} (V : Type 0) (number : C → ℕ) (K : ℕ → Type 0) whe
   of_ready : (kind : Kind V) (plan : Plan C) → Each K (names_plan number plan) → Leaves (ready kind plan)
   of_ready kind plan e = by_test Leaves (asks_new kind) _ _ (λ _. e) (λ _. of_started plan (absent_reply kind) e)
 
-  of_here : (kind : Kind V) (s : Site C) (change : Single C) → Each K (names_site number s) → Each K (names_for_one number change) → Leaves (ready kind (plan_here s change))
+  of_here : (kind : Kind V) (s : Site C) (change : Placement C) → Each K (names_site number s) → Each K (names_for_one number change) → Leaves (ready kind (plan_here s change))
   of_here kind s change e f = of_ready kind (plan_here s change) (each_append K (name_stamped number (stamp_above s.above)) _ (stamped s.above e.1) (e.0, f))
 
-  of_unless_full : (kind : Kind V) (s : Site C) (full : Bool) (p : Option (Over C)) (leaf : Option C) (change : Single C) → Each K (names_site number s) → Each K (names_over number p) → Each K (name_made number leaf)
+  of_unless_full : (kind : Kind V) (s : Site C) (full : Bool) (p : Option (Over C)) (leaf : Option C) (change : Placement C) → Each K (names_site number s) → Each K (names_over number p) → Each K (name_made number leaf)
       → Each K (names_for_one number change) → Leaves (unless_full kind s full p leaf change)
   of_unless_full kind s true (Some p) leaf change e f l m = (f.0, each_append K (name_made number leaf) (names_site number s) l e)
   of_unless_full kind s true None leaf change e f l m = of_here kind s change e m
@@ -190,11 +190,11 @@ module _ {C : Type 0} (V : Type 0) (number : C → ℕ) (K : ℕ → Type 0) whe
   of_greater s None c e k = (k, tt)
   of_greater s (Some leaf) c e k = (k, e)
 
-  of_top : (two : Two C) (r : Reply V) (top : Option (Parent C)) → K (number two.above.stamp.node) → K (number two.at.node) → Each K (name_above number top) → Leaves (after_top two r top)
+  of_top : (two : ParentChange C) (r : Reply V) (top : Option (Parent C)) → K (number two.above.stamp.node) → K (number two.at.node) → Each K (name_above number top) → Leaves (after_top two r top)
   of_top two r None k l e = (k, tt)
   of_top two r (Some top) k l e = (l, (e.0, (k, tt)))
 
-  of_change : (two : Two C) (r : Reply V) (change : Double C) → Each K (names_two number two) → Leaves (after_change two r change)
+  of_change : (two : ParentChange C) (r : Reply V) (change : Replacement C) → Each K (names_two number two) → Leaves (after_change two r change)
   of_change two r Collapse e = of_top two r two.top e.0 e.1.0 (each_left K (name_above number two.top) (names_for_two number two.change) e.1.1)
   of_change two r (ShrinkAbove c) e = of_top two r two.top e.0 e.1.0 (each_left K (name_above number two.top) (names_for_two number two.change) e.1.1)
   of_change two r _ e = (e.1.0, (e.0, tt))
@@ -243,29 +243,29 @@ module _ {C : Type 0} (V : Type 0) (number : C → ℕ) (K : ℕ → Type 0) whe
 
     of_made_lesser : (s : Site C) (p : Parent C) (g : Option (Parent C)) (r : Reply V) (x : Result C Refusal) (t : NextPhase C V) → MadeLesser number s p g r h (key_bytes k) x h' t → K (number p.stamp.node) → Each K (name_above number g) → Each K (names_site number s) → Leaves t
     of_made_lesser s p None r (Ok c) t x k f e = at_next_phase t _ x.1 (k, (e.0, (fresh (number c) x.0.unmade x.0.made, tt)))
-    of_made_lesser s p None r (Err e') t x k f e = at_next_phase t (skipping (UpgradeOne (set_at s) r)) x.1 (e.0, tt)
+    of_made_lesser s p None r (Err e') t x k f e = at_next_phase t (skipping (UpgradeHere (set_at s) r)) x.1 (e.0, tt)
     of_made_lesser s p (Some g) r (Ok c) t x k f e = at_next_phase t _ x.1 (f.0, (k, (e.0, (fresh (number c) x.0.unmade x.0.made, tt))))
     of_made_lesser s p (Some g) r (Err e') t x k f e = at_next_phase t (skipping (UpgradeAbove (both_of p s Unlink) r)) x.1 (k, (e.0, tt))
 
-    of_upgraded_one : (one : One C) (r : Reply V) (u : Upgrade) (t : NextPhase C V) → UpgradedOne number root one r h u h' t → Each K (names_one number one) → Leaves t
+    of_upgraded_one : (one : NodeChange C) (r : Reply V) (u : Upgrade) (t : NextPhase C V) → UpgradedHere number root one r h u h' t → Each K (names_one number one) → Leaves t
     of_upgraded_one one r Locked t x e = at_next_phase t _ x.1 e
     of_upgraded_one one r Failed t x e = at_next_phase t _ x.1 (top, tt)
     of_upgraded_one one r Exhausted t x e = at_next_phase t (refused refusal.Exhausted) x.1 tt
 
-    tops : (two : Two C) → Each K (names_two number two) → Each K (name_above number two.top)
+    tops : (two : ParentChange C) → Each K (names_two number two) → Each K (name_above number two.top)
     tops two e = each_left K (name_above number two.top) (names_for_two number two.change) e.1.1
 
-    of_upgraded_above : (two : Two C) (r : Reply V) (u : Upgrade) (t : NextPhase C V) → UpgradedAbove number root two r h u h' t → Each K (names_two number two) → Leaves t
+    of_upgraded_above : (two : ParentChange C) (r : Reply V) (u : Upgrade) (t : NextPhase C V) → UpgradedAbove number root two r h u h' t → Each K (names_two number two) → Leaves t
     of_upgraded_above two r Locked t x e = at_next_phase t _ x.1 e
     of_upgraded_above two r Failed t x e = at_next_phase t _ x.1 (of_given_up root top two.top None (tops two e))
     of_upgraded_above two r Exhausted t x e = at_next_phase t _ x.1 (of_given_up root top two.top (Some refusal.Exhausted) (tops two e))
 
-    of_upgraded_top : (g : Parent C) (two : Two C) (r : Reply V) (u : Upgrade) (t : NextPhase C V) → UpgradedTop number root g two r h u h' t → K (number g.stamp.node) → Each K (names_two number two) → Leaves t
+    of_upgraded_top : (g : Parent C) (two : ParentChange C) (r : Reply V) (u : Upgrade) (t : NextPhase C V) → UpgradedTop number root g two r h u h' t → K (number g.stamp.node) → Each K (names_two number two) → Leaves t
     of_upgraded_top g two r Locked t x k e = at_next_phase t _ x.1 (e.0, (e.1.0, (k, each_right K (name_above number two.top) (names_for_two number two.change) e.1.1)))
     of_upgraded_top g two r Failed t x k e = at_next_phase t _ x.1 (top, tt)
     of_upgraded_top g two r Exhausted t x k e = at_next_phase t (refused refusal.Exhausted) x.1 tt
 
-    of_upgraded_both : (two : Two C) (r : Reply V) (u : Upgrade) (t : NextPhase C V) → UpgradedBelow number two r h u h' t → Each K (names_two number two) → Leaves t
+    of_upgraded_both : (two : ParentChange C) (r : Reply V) (u : Upgrade) (t : NextPhase C V) → UpgradedBelow number two r h u h' t → Each K (names_two number two) → Leaves t
     of_upgraded_both two r Locked t x e = at_next_phase t _ x.1 e
     of_upgraded_both two r Failed t x e = at_next_phase t _ x.1 (e.0, of_node two.top (tops two e))
     of_upgraded_both two r Exhausted t x e = at_next_phase t _ x.1 (e.0, of_node two.top (tops two e))
@@ -297,14 +297,14 @@ module _ {C : Type 0} (V : Type 0) (number : C → ℕ) (K : ℕ → Type 0) whe
       step_names (AskNew plan) m g e = of_new plan answer given given' next_phase g.1 e
       step_names (Confirm at r) m g e = of_if root top _ _ next_phase g.2 (λ y x. at_next_phase next_phase (answered r) x tt)
       step_names (CheckAbove p one r) m g e = on_test (is_taken (h (number p.node)) p.version)
-          (λ y. at_next_phase next_phase (quiet (UpgradeOne one r)) (g.1.goes_on y).1 e.1)
+          (λ y. at_next_phase next_phase (quiet (UpgradeHere one r)) (g.1.goes_on y).1 e.1)
           (λ y. at_next_phase next_phase (again root) (g.1.goes_back y).1 (top, tt))
-      step_names (UpgradeOne one r) m g e = of_upgraded_one one r g.1.0 next_phase g.1.2 e
-      step_names (ChangeOne one r) m g e = at_next_phase next_phase (decided (Unlock one.at.node r)) g.2 (e.0, tt)
+      step_names (UpgradeHere one r) m g e = of_upgraded_one one r g.1.0 next_phase g.1.2 e
+      step_names (ChangeHere one r) m g e = at_next_phase next_phase (decided (Unlock one.at.node r)) g.2 (e.0, tt)
       step_names (UpgradeTop top two r) m g e = of_upgraded_top top two r g.1.0 next_phase g.1.2 e.0 e.1
       step_names (UpgradeAbove two r) m g e = of_upgraded_above two r g.1.0 next_phase g.1.2 e
       step_names (UpgradeBelow two r) m g e = of_upgraded_both two r g.1.0 next_phase g.1.2 e
-      step_names (ChangeTwo two r) m g e = at_next_phase next_phase _ g.2 (of_change two r two.change e)
+      step_names (ChangeAbove two r) m g e = at_next_phase next_phase _ g.2 (of_change two r two.change e)
       step_names (Obsolete n next p r) m g e = at_next_phase next_phase (quiet (Retire n next p r)) g.2 e
       step_names (Retire n next p r) m g e = at_next_phase next_phase _ g.2 (of_retired next p r e.1.0 e.1.1)
       step_names (UnlockBelow n p r) m g e = at_next_phase next_phase (quiet (Unlock p r)) g.2 (e.1.0, tt)

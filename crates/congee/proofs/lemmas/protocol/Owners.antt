@@ -8,22 +8,22 @@ use Rattle.congee.specs.declared.protocol.store.Refusal.{Refusal}
 use Rattle.congee.specs.declared.protocol.phase.Kind.{Kind}
 use Rattle.congee.specs.declared.protocol.phase.Parent.{Parent}
 use Rattle.congee.specs.declared.protocol.phase.Site.{Site}
-use Rattle.congee.specs.declared.protocol.phase.Single.{Single}
-use Rattle.congee.specs.declared.protocol.phase.Single.TheVariants.{Set, Link}
-use Rattle.congee.specs.declared.protocol.phase.Double.{Double}
-use Rattle.congee.specs.declared.protocol.phase.Double.TheVariants.{Unlink, Grow, GrowLink, Split, Shrink, Collapse, ShrinkAbove}
+use Rattle.congee.specs.declared.protocol.phase.Placement.{Placement}
+use Rattle.congee.specs.declared.protocol.phase.Placement.TheVariants.{Set, Link}
+use Rattle.congee.specs.declared.protocol.phase.Replacement.{Replacement}
+use Rattle.congee.specs.declared.protocol.phase.Replacement.TheVariants.{Unlink, Grow, GrowLink, Split, Shrink, Collapse, ShrinkAbove}
 use Rattle.congee.specs.declared.protocol.phase.Plan.{Plan}
 use Rattle.congee.specs.declared.protocol.phase.Plan.TheVariants.{Here, Above}
 use Rattle.congee.specs.declared.protocol.phase.Phase.{Phase}
-use Rattle.congee.specs.declared.protocol.phase.Phase.TheVariants.{MakeGreater, MakeBeside, AskNew, CheckAbove, UpgradeOne, ChangeOne, UpgradeTop, UpgradeAbove, UpgradeBelow, ChangeTwo, Obsolete, Retire, UnlockBelow, Unlock, Unwind}
+use Rattle.congee.specs.declared.protocol.phase.Phase.TheVariants.{MakeGreater, MakeBeside, AskNew, CheckAbove, UpgradeHere, ChangeHere, UpgradeTop, UpgradeAbove, UpgradeBelow, ChangeAbove, Obsolete, Retire, UnlockBelow, Unlock, Unwind}
 use Rattle.congee.specs.declared.protocol.next_phase.NextPhase.{NextPhase}
 use Rattle.congee.specs.declared.protocol.machine.Machine.{Machine}
 use Rattle.congee.specs.Heap.{Node}
 use Rattle.congee.specs.protocol.Steps.{after_retire, PhaseStepped}
 use Rattle.congee.specs.Keys.{key_bytes}
 use Rattle.congee.specs.Notes.{Note, Unmade, Held, Linked, Gone, Tree, LockWords}
-use Rattle.congee.specs.protocol.Protocol.{Holding, TopLocked, TakenOut, AlsoOut, AlsoHolding, Made, MadeOne, MadeTwo, MadeLeafFor, PlanKnown, Fares, Known}
-use Rattle.congee.specs.protocol.Holdings.{IsTop, LockedBy, MadeForOne, MadeForTwo, MadeForPlan, IsMade, MadeBy, TakenBy, Holdings}
+use Rattle.congee.specs.protocol.Protocol.{Holding, TopLocked, TakenOut, AlsoOut, AlsoHolding, Made, MadeHere, MadeAbove, MadeLeafFor, PlanKnown, Fares, Known}
+use Rattle.congee.specs.protocol.Holdings.{IsTop, LockedBy, MadeForHere, MadeForAbove, MadeForPlan, IsMade, MadeBy, TakenBy, Holdings}
 use Rattle.congee.proofs.lemmas.Tree.{same_or_not}
 use Rattle.congee.proofs.lemmas.protocol.Holdings.{Holds_now}
 
@@ -67,11 +67,11 @@ module _ {C V : Type 0} (number : C → ℕ) (same : V → V → Bool) (always :
   made_at : (c size least : ℕ) → Made i a h key c size least → n ≡ c → IsNew
   made_at c size least m q = (size, least, (let P : ℕ → Type 0 = λ y. Made i a h key y size least in subst P (sym q) m))
 
-  one_made : (change : Single C) → MadeOne number i a h key change → MadeForOne number change n → IsNew
+  one_made : (change : Placement C) → MadeHere number i a h key change → MadeForHere number change n → IsNew
   one_made Set m x = absurd x
   one_made (Link leaf) m x = made_at (number leaf) 7 0 m x
 
-  two_made : (p : Parent C) (change : Double C) (size q : ℕ) → MadeTwo number i a h key p change size q → MadeForTwo number change n → IsNew
+  two_made : (p : Parent C) (change : Replacement C) (size q : ℕ) → MadeAbove number i a h key p change size q → MadeForAbove number change n → IsNew
   two_made p Unlink size q m x = absurd x
   two_made p Collapse size q m x = absurd x
   two_made p (Shrink c) size q m x = made_at (number c) size q m x
@@ -96,12 +96,12 @@ module _ {C V : Type 0} (number : C → ℕ) (same : V → V → Bool) (always :
   made_known (MakeBeside p at common byte top) x l = made_at (number top) common 1 x.6 l
   made_known (AskNew plan) x l = plan_made plan x.0 l
   made_known (CheckAbove p one r) x l = one_made one.change x.2.made l
-  made_known (UpgradeOne one r) x l = one_made one.change x.1.1.made l
-  made_known (ChangeOne one r) x l = one_made one.change x.1.made l
+  made_known (UpgradeHere one r) x l = one_made one.change x.1.1.made l
+  made_known (ChangeHere one r) x l = one_made one.change x.1.made l
   made_known (UpgradeTop g two r) x l = two_made two.above two.change _ _ x.1.2.made l
   made_known (UpgradeAbove two r) x l = two_made two.above two.change _ _ x.1.2.made l
   made_known (UpgradeBelow two r) x l = two_made two.above two.change _ _ x.1.2.made l
-  made_known (ChangeTwo two r) x l = two_made two.above two.change _ _ x.2.made l
+  made_known (ChangeAbove two r) x l = two_made two.above two.change _ _ x.2.made l
   made_known _ x l = absurd l
 
   taken_at : (m : ℕ) → IsTaken i a h m → n ≡ m → IsTaken i a h n
@@ -148,13 +148,13 @@ module _ {C V : Type 0} (number : C → ℕ) (same : V → V → Bool) (always :
   locks_out m p next x y (inr l) = ((next_taken next (number m) y l).owner, λ t. inr (inr l))
 
   locks_are : (s : Phase C V) → Known number same always i a h k key kind given s → LockedBy number s n → Locks (TakenBy number s n)
-  locks_are (ChangeOne one r) x l = locks_at _ (number one.at.node) x.1.holding l
+  locks_are (ChangeHere one r) x l = locks_at _ (number one.at.node) x.1.holding l
   locks_are (UpgradeAbove two r) x l = locks_top _ two.top _ x.1.2.top l
   locks_are (UpgradeBelow two r) x (inl l) = locks_at _ (number two.above.stamp.node) x.1.2.above.holding l
   locks_are (UpgradeBelow two r) x (inr l) = locks_top _ two.top _ x.1.2.top l
-  locks_are (ChangeTwo two r) x (inl (inl l)) = locks_at _ (number two.above.stamp.node) x.2.above.holding l
-  locks_are (ChangeTwo two r) x (inl (inr l)) = (owned_at (number two.at.node) x.2.owner l, λ t. inl (linked_at (number two.at.node) (t.down (number two.above.stamp.node) _ (number two.at.node) x.2.above.holding.linked x.2.above.child).linked l))
-  locks_are (ChangeTwo two r) x (inr l) = locks_top _ two.top _ x.2.top l
+  locks_are (ChangeAbove two r) x (inl (inl l)) = locks_at _ (number two.above.stamp.node) x.2.above.holding l
+  locks_are (ChangeAbove two r) x (inl (inr l)) = (owned_at (number two.at.node) x.2.owner l, λ t. inl (linked_at (number two.at.node) (t.down (number two.above.stamp.node) _ (number two.at.node) x.2.above.holding.linked x.2.above.child).linked l))
+  locks_are (ChangeAbove two r) x (inr l) = locks_top _ two.top _ x.2.top l
   locks_are (Obsolete m next p r) x l = locks_out m p next x.0 x.1 l
   locks_are (Retire m next p r) x l = locks_out m p next x.0 x.1 l
   locks_are (UnlockBelow m p r) x (inl l) = locks_at _ (number p) x.1 l

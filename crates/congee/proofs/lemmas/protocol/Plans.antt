@@ -11,35 +11,35 @@ use Rattle.congee.specs.declared.protocol.phase.Kind.TheVariants.{Insert, Comput
 use Rattle.congee.specs.declared.protocol.phase.Parent.{Parent}
 use Rattle.congee.specs.declared.protocol.phase.Above.{Above as Over}
 use Rattle.congee.specs.declared.protocol.phase.Site.{Site}
-use Rattle.congee.specs.declared.protocol.phase.Single.{Single}
-use Rattle.congee.specs.declared.protocol.phase.Single.TheVariants.{Set, Link}
-use Rattle.congee.specs.declared.protocol.phase.Double.{Double}
-use Rattle.congee.specs.declared.protocol.phase.Double.TheVariants.{Unlink, Grow, GrowLink, Split, Collapse, ShrinkAbove}
+use Rattle.congee.specs.declared.protocol.phase.Placement.{Placement}
+use Rattle.congee.specs.declared.protocol.phase.Placement.TheVariants.{Set, Link}
+use Rattle.congee.specs.declared.protocol.phase.Replacement.{Replacement}
+use Rattle.congee.specs.declared.protocol.phase.Replacement.TheVariants.{Unlink, Grow, GrowLink, Split, Collapse, ShrinkAbove}
 use Rattle.congee.specs.declared.protocol.phase.Plan.{Plan}
 use Rattle.congee.specs.declared.protocol.phase.Plan.TheVariants.{Here, Above}
-use Rattle.congee.specs.declared.protocol.phase.Phase.TheVariants.{UpgradeOne, UpgradeAbove}
+use Rattle.congee.specs.declared.protocol.phase.Phase.TheVariants.{UpgradeHere, UpgradeAbove}
 use Rattle.congee.specs.declared.protocol.next_phase.NextPhase.{NextPhase}
 use Rattle.congee.specs.Heap.{Node, Nothing, Holds, is_taken}
 use Rattle.congee.specs.protocol.Steps.{quiet, shrinks, set_at, both, last_out, adds, absent_reply, stamp_above, started, ready, plan_here, unless_full, missing, absent, IsAsked, replaced, taken_out, emptied}
 use Rattle.congee.specs.Keys.{key_bytes}
 use Rattle.congee.specs.Notes.{Note, Tree, LockWords}
-use Rattle.congee.specs.protocol.Protocol.{Fresh, ChildOf, IsFar, IsAbove, IsAlone, HasTop, Sees, Knows, WantedOne, MadeOne, IsLeafAt, FitsOne, OneKnown, FitsTwo, HasGift, Asking, Adding, StampedIf, PlanKnown, MadeLeafFor, Settles}
+use Rattle.congee.specs.protocol.Protocol.{Fresh, ChildOf, IsFar, IsAbove, IsAlone, HasTop, Sees, Knows, WantedHere, MadeHere, IsLeafAt, FitsHere, HereKnown, FitsAbove, HasGift, Asking, Adding, StampedIf, PlanKnown, MadeLeafFor, Settles}
 use Rattle.congee.proofs.lemmas.Fits.{equal_of_test, same_test, both_true}
 use Rattle.congee.proofs.lemmas.protocol.Touch.{by_test, taken_linked}
 use Rattle.congee.proofs.lemmas.Graft.{on_test}
 use Rattle.congee.proofs.lemmas.protocol.Sound.{Sound, fresh_map, settle_absent, answers_now, stands_at}
 
-fits_one_new : {C V : Type 0} (change : Single C) (v : V) → FitsOne change Nothing (Some v)
+fits_one_new : {C V : Type 0} (change : Placement C) (v : V) → FitsHere change Nothing (Some v)
 fits_one_new Set v = tt
 fits_one_new (Link leaf) v = refl
 
-fits_two_new : {C V : Type 0} (change : Double C) (v : V) → Adding change → FitsTwo change None (Some v)
+fits_two_new : {C V : Type 0} (change : Replacement C) (v : V) → Adding change → FitsAbove change None (Some v)
 fits_two_new (Grow c) v d = tt
 fits_two_new (GrowLink c leaf byte) v d = tt
 fits_two_new (Split top leaf common byte) v d = tt
 fits_two_new _ v d = absurd d
 
-has_no_top : {C : Type 0} (change : Double C) (top : Option (Parent C)) → Adding change → top ≡ None → HasTop change top
+has_no_top : {C : Type 0} (change : Replacement C) (top : Option (Parent C)) → Adding change → top ≡ None → HasTop change top
 has_no_top Collapse top d e = absurd d
 has_no_top (ShrinkAbove c) top d e = absurd d
 has_no_top _ top d e = e
@@ -67,8 +67,8 @@ module _ {C V : Type 0} (number : C → ℕ) (same : V → V → Bool) (always :
       subst P (sym g.1) (started_sound Insert (Some g.0) g.0 plan (reply.Insert None) (g.0, refl) p (settle_insert same k g.0))
   ready_sound _ given plan e g p = absurd cc
 
-  here_known : (s : Site C) (change : Single C) → Knows number a h (key_bytes k) s Nothing → (is_taken (h (number s.at.node)) s.at.version ≡ true → ((h (number s.at.node)).count == (h (number s.at.node)).capacity) ≡ false)
-      → IsLeafAt change s.depth → MadeOne number i a h (key_bytes k) change → PlanKnown number i a h (key_bytes k) (plan_here s change)
+  here_known : (s : Site C) (change : Placement C) → Knows number a h (key_bytes k) s Nothing → (is_taken (h (number s.at.node)) s.at.version ≡ true → ((h (number s.at.node)).count == (h (number s.at.node)).capacity) ≡ false)
+      → IsLeafAt change s.depth → MadeHere number i a h (key_bytes k) change → PlanKnown number i a h (key_bytes k) (plan_here s change)
   here_known s change m room size made = (
     stamped_if number a h (key_bytes k) s.above (number s.at.node) m.above,
     record {
@@ -79,8 +79,8 @@ module _ {C V : Type 0} (number : C → ℕ) (same : V → V → Bool) (always :
   )
 
   -- a node that isn't full, or the root
-  pub unless_full_sound : (kind : Kind V) (given : Option V) (s : Site C) (leaf : Option C) (change : Single C) (full : Bool) (p : Option (Over C)) → s.full ≡ full → s.above ≡ p → adds kind ≡ true → s.count < 256 → HasGift kind given
-      → Knows number a h (key_bytes k) s Nothing → MadeLeafFor number i a h (key_bytes k) s leaf → IsLeafAt change s.depth → MadeOne number i a h (key_bytes k) change
+  pub unless_full_sound : (kind : Kind V) (given : Option V) (s : Site C) (leaf : Option C) (change : Placement C) (full : Bool) (p : Option (Over C)) → s.full ≡ full → s.above ≡ p → adds kind ≡ true → s.count < 256 → HasGift kind given
+      → Knows number a h (key_bytes k) s Nothing → MadeLeafFor number i a h (key_bytes k) s leaf → IsLeafAt change s.depth → MadeHere number i a h (key_bytes k) change
       → Sound number same always i k kind given h given (unless_full kind s full p leaf change) a h
   unless_full_sound kind given s leaf change true (Some p) ef ep e few g m made size one =
       let ab : IsAbove number a h (key_bytes k) (Some p) (number s.at.node) = (let P : Option (Over C) → Type 0 = λ x. IsAbove number a h (key_bytes k) x (number s.at.node) in subst P ep m.above) in
@@ -115,10 +115,10 @@ module _ {C V : Type 0} (number : C → ℕ) (same : V → V → Bool) (always :
   at_leaf s v m q = m.depth ∙ t.leaves (number s.at.node) _ v (taken_linked a h w (number s.at.node) s.at.version m.fresh.stamped.published q) (m.fresh.holds q).child
 
   -- at a leaf that holds the key's value, a call knows what putting another one there wants
-  pub one_set : (s : Site C) (v : V) → Knows number a h (key_bytes k) s (Holds v) → s.depth ≡ 7 → OneKnown number i a h (key_bytes k) (record { at = s.at; byte = s.byte; change = Set }) (Holds v)
+  pub one_set : (s : Site C) (v : V) → Knows number a h (key_bytes k) s (Holds v) → s.depth ≡ 7 → HereKnown number i a h (key_bytes k) (record { at = s.at; byte = s.byte; change = Set }) (Holds v)
   one_set s v m d = record {
     placed = record { fitted = m.fitted; byte = m.byte; size = sym m.depth ∙ d };
-    fresh = fresh_map a h (number s.at.node) s.at.version (Sees (key_bytes k) s (Holds v)) (WantedOne (key_bytes k) (Holds v)) (λ z. record { child = z.child; room = λ e. absurd cc }) m.fresh;
+    fresh = fresh_map a h (number s.at.node) s.at.version (Sees (key_bytes k) s (Holds v)) (WantedHere (key_bytes k) (Holds v)) (λ z. record { child = z.child; room = λ e. absurd cc }) m.fresh;
     made = tt;
   }
 
@@ -141,7 +141,7 @@ module _ {C V : Type 0} (number : C → ℕ) (same : V → V → Bool) (always :
 
   -- the value is taken out of the leaf
   set_out : (kind : Kind V) (given : Option V) (s : Site C) (v : V) (r : Reply V) → HasGift kind None → Knows number a h (key_bytes k) s (Holds v) → s.depth ≡ 7
-      → Settles same k kind None (Some v) r None → Sound number same always i k kind given h None (quiet (UpgradeOne (set_at s) r)) a h
+      → Settles same k kind None (Some v) r None → Sound number same always i k kind given h None (quiet (UpgradeHere (set_at s) r)) a h
   set_out kind given s v r g m d z = record { known = (g, (Holds v, one_set s v m d, (tt, (λ e. cc)), z)); answer = λ y _. refl }
 
   -- the leaf has this value alone

@@ -4,23 +4,23 @@ use Rattle.std.specs.Prelude.{Option, None, Some}
 use Rattle.congee.specs.declared.protocol.phase.Parent.{Parent}
 use Rattle.congee.specs.declared.protocol.phase.Above.{Above as Over}
 use Rattle.congee.specs.declared.protocol.phase.Site.{Site}
-use Rattle.congee.specs.declared.protocol.phase.Single.{Single}
-use Rattle.congee.specs.declared.protocol.phase.One.{One}
-use Rattle.congee.specs.declared.protocol.phase.Double.{Double}
-use Rattle.congee.specs.declared.protocol.phase.Two.{Two}
+use Rattle.congee.specs.declared.protocol.phase.Placement.{Placement}
+use Rattle.congee.specs.declared.protocol.phase.NodeChange.{NodeChange}
+use Rattle.congee.specs.declared.protocol.phase.Replacement.{Replacement}
+use Rattle.congee.specs.declared.protocol.phase.ParentChange.{ParentChange}
 use Rattle.congee.specs.declared.protocol.phase.Plan.{Plan}
 use Rattle.congee.specs.declared.protocol.phase.Plan.TheVariants.{Here, Above}
 use Rattle.congee.specs.declared.protocol.phase.Kind.{Kind}
 use Rattle.congee.specs.declared.protocol.phase.Phase.{Phase}
-use Rattle.congee.specs.declared.protocol.phase.Phase.TheVariants.{New, Version, Read, Check, CheckUncopied, CheckMiss, CheckDown, CheckOld, MakeLeaf, MakeGreater, MakeTop, MakeBeside, MakeLesser, AskOld, AskNew, Confirm, CheckAbove, UpgradeOne, ChangeOne, UpgradeTop, UpgradeAbove, UpgradeBelow, ChangeTwo, Obsolete, Retire, UnlockBelow, Unlock, Unwind, Scan, Ended}
+use Rattle.congee.specs.declared.protocol.phase.Phase.TheVariants.{New, Version, Read, Check, CheckUncopied, CheckMiss, CheckDown, CheckOld, MakeLeaf, MakeGreater, MakeTop, MakeBeside, MakeLesser, AskOld, AskNew, Confirm, CheckAbove, UpgradeHere, ChangeHere, UpgradeTop, UpgradeAbove, UpgradeBelow, ChangeAbove, Obsolete, Retire, UnlockBelow, Unlock, Unwind, Scan, Ended}
 use Rattle.congee.specs.declared.protocol.store.Stamp.{Stamp}
 use Rattle.congee.specs.Heap.{Node, Hung}
 use Rattle.congee.specs.protocol.Events.{hung, Parts}
 use Rattle.congee.specs.Notes.{Note}
-use Rattle.congee.specs.protocol.Protocol.{ChildOf, IsFar, IsAbove, TopLocked, AlsoOut, AlsoHolding, IsLesser, Knows, PlacedOne, WantedOne, OneKnown, OneLocked, PlacedTwo, WantedTwo, TwoKnown, AboveLocked, HalfLocked, TwoLocked, TakenOut, StampedIf, PlanKnown, MadeLeafFor, Known, Rely, Made, MadeOne, MadeTwo}
+use Rattle.congee.specs.protocol.Protocol.{ChildOf, IsFar, IsAbove, TopLocked, AlsoOut, AlsoHolding, IsLesser, Knows, PlacedHere, WantedHere, HereKnown, HereLocked, PlacedAbove, WantedAbove, AboveKnown, AboveLocked, HalfLocked, BothLocked, TakenOut, StampedIf, PlanKnown, MadeLeafFor, Known, Rely, Made, MadeHere, MadeAbove}
 use Rattle.congee.specs.protocol.Names.{name_above, names_over, name_stamped, name_made, names_site, names_one, names_plan, names}
-use Rattle.congee.specs.declared.protocol.phase.Double.TheVariants.{Collapse, Grow, GrowLink, Shrink, ShrinkAbove, Split, Unlink}
-use Rattle.congee.specs.declared.protocol.phase.Single.TheVariants.{Link, Set}
+use Rattle.congee.specs.declared.protocol.phase.Replacement.TheVariants.{Collapse, Grow, GrowLink, Shrink, ShrinkAbove, Split, Unlink}
+use Rattle.congee.specs.declared.protocol.phase.Placement.TheVariants.{Link, Set}
 use Rattle.congee.proofs.lemmas.protocol.Each.{Each, each_left, each_right}
 pub use Rattle.congee.proofs.lemmas.protocol.Stamps.{stamped_kept, fresh_kept, fits_kept, holding_kept, made_kept}
 use Rattle.congee.proofs.lemmas.protocol.ScanRely.{scan_known_kept}
@@ -28,12 +28,12 @@ use Rattle.congee.proofs.lemmas.protocol.ScanRely.{scan_known_kept}
 module _ {C V : Type 0} (number : C → ℕ) (i : ℕ) (a : ℕ → Note) (h : ℕ → Node V) (a' : ℕ → Note) (h' : ℕ → Node V) (key : List ℕ)
     (kept : (c size least : ℕ) → Made i a h key c size least → Made i a' h' key c size least) where
   -- where made nodes stay made, so do those of a plan that changes one node
-  pub made_one_kept : (change : Single C) → MadeOne number i a h key change → MadeOne number i a' h' key change
+  pub made_one_kept : (change : Placement C) → MadeHere number i a h key change → MadeHere number i a' h' key change
   made_one_kept Set m = tt
   made_one_kept (Link leaf) m = kept (number leaf) 7 0 m
 
   -- and those of one that changes two, with the size that it knows
-  pub made_two_kept : (p : Parent C) (change : Double C) (size size' q : ℕ) → size' ≡ size → MadeTwo number i a h key p change size q → MadeTwo number i a' h' key p change size' q
+  pub made_two_kept : (p : Parent C) (change : Replacement C) (size size' q : ℕ) → size' ≡ size → MadeAbove number i a h key p change size q → MadeAbove number i a' h' key p change size' q
   made_two_kept p Unlink size size' q e m = tt
   made_two_kept p Collapse size size' q e m = m
   made_two_kept p (Shrink c) size size' q e m = let P : ℕ → Type 0 = λ x. Made i a' h' key (number c) x q in subst P (sym e) (kept (number c) size q m)
@@ -80,26 +80,26 @@ module _ {C V : Type 0} (number : C → ℕ) (key : List ℕ) (K : ℕ → Type 
         fresh = fresh_kept K i a h a' h' r (number s.at.node) s.at.version _ k w.fresh;
       }
 
-  placed_one_kept : (change : Single C) (byte : ℕ) (p p' : List ℕ) → p' ≡ p → PlacedOne key change byte p → PlacedOne key change byte p'
-  placed_one_kept change byte p p' e x = let P : List ℕ → Type 0 = λ y. PlacedOne key change byte y in subst P (sym e) x
+  placed_one_kept : (change : Placement C) (byte : ℕ) (p p' : List ℕ) → p' ≡ p → PlacedHere key change byte p → PlacedHere key change byte p'
+  placed_one_kept change byte p p' e x = let P : List ℕ → Type 0 = λ y. PlacedHere key change byte y in subst P (sym e) x
 
-  placed_two_kept : (change : Double C) (p p' : List ℕ) → p' ≡ p → PlacedTwo key change p → PlacedTwo key change p'
-  placed_two_kept change p p' e x = let P : List ℕ → Type 0 = λ y. PlacedTwo key change y in subst P (sym e) x
+  placed_two_kept : (change : Replacement C) (p p' : List ℕ) → p' ≡ p → PlacedAbove key change p → PlacedAbove key change p'
+  placed_two_kept change p p' e x = let P : List ℕ → Type 0 = λ y. PlacedAbove key change y in subst P (sym e) x
 
-  one_kept : (one : One C) (x : Hung V) → K (number one.at.node) → OneKnown number i a h key one x → OneKnown number i a' h' key one x
+  one_kept : (one : NodeChange C) (x : Hung V) → K (number one.at.node) → HereKnown number i a h key one x → HereKnown number i a' h' key one x
   one_kept one x k o = record {
     placed = placed_one_kept one.change one.byte _ _ (r.prefix (number one.at.node) k o.fresh.stamped.published) o.placed;
     fresh = fresh_kept K i a h a' h' r (number one.at.node) one.at.version _ k o.fresh;
     made = made_one_kept number i a h a' h' key (made_kept K i a h a' h' r key) one.change o.made;
   }
 
-  one_locked_kept : (one : One C) (x : Hung V) → OneLocked number i a h key one x → OneLocked number i a' h' key one x
+  one_locked_kept : (one : NodeChange C) (x : Hung V) → HereLocked number i a h key one x → HereLocked number i a' h' key one x
   one_locked_kept one x o =
       let e : h' (number one.at.node) ≡ h (number one.at.node) = (r.mine (number one.at.node) o.holding.owner).0 in
       record {
         holding = holding_kept K i a h a' h' r (number one.at.node) o.holding;
         placed = placed_one_kept one.change one.byte _ _ (ap (λ z. z.prefix) e) o.placed;
-        wanted = (let P : Node V → Type 0 = λ z. WantedOne key x z in subst P (sym e) o.wanted);
+        wanted = (let P : Node V → Type 0 = λ z. WantedHere key x z in subst P (sym e) o.wanted);
         made = made_one_kept number i a h a' h' key (made_kept K i a h a' h' r key) one.change o.made;
       }
 
@@ -120,7 +120,7 @@ module _ {C V : Type 0} (number : C → ℕ) (key : List ℕ) (K : ℕ → Type 
   top_kept None n o = tt
   top_kept (Some g) n o = above_locked_kept g n o
 
-  two_kept : (two : Two C) (found : Option V) (q : ℕ) → K (number two.above.stamp.node) → K (number two.at.node) → TwoKnown number i a h key two found q → TwoKnown number i a' h' key two found q
+  two_kept : (two : ParentChange C) (found : Option V) (q : ℕ) → K (number two.above.stamp.node) → K (number two.at.node) → AboveKnown number i a h key two found q → AboveKnown number i a' h' key two found q
   two_kept two found q kp k o =
       let e : (h' (number two.at.node)).prefix ≡ (h (number two.at.node)).prefix = r.prefix (number two.at.node) k o.fresh.stamped.published in
       record {
@@ -131,7 +131,7 @@ module _ {C V : Type 0} (number : C → ℕ) (key : List ℕ) (K : ℕ → Type 
         made = made_two_kept number i a h a' h' key (made_kept K i a h a' h' r key) two.above two.change _ _ q (ap length e) o.made;
       }
 
-  half_kept : (two : Two C) (found : Option V) (q : ℕ) → K (number two.at.node) → HalfLocked number i a h key two found q → HalfLocked number i a' h' key two found q
+  half_kept : (two : ParentChange C) (found : Option V) (q : ℕ) → K (number two.at.node) → HalfLocked number i a h key two found q → HalfLocked number i a' h' key two found q
   half_kept two found q k o =
       let e : (h' (number two.at.node)).prefix ≡ (h (number two.at.node)).prefix = r.prefix (number two.at.node) k o.fresh.stamped.published in
       record {
@@ -142,7 +142,7 @@ module _ {C V : Type 0} (number : C → ℕ) (key : List ℕ) (K : ℕ → Type 
         made = made_two_kept number i a h a' h' key (made_kept K i a h a' h' r key) two.above two.change _ _ q (ap length e) o.made;
       }
 
-  two_locked_kept : (two : Two C) (found : Option V) (q : ℕ) → TwoLocked number i a h key two found q → TwoLocked number i a' h' key two found q
+  two_locked_kept : (two : ParentChange C) (found : Option V) (q : ℕ) → BothLocked number i a h key two found q → BothLocked number i a' h' key two found q
   two_locked_kept two found q o =
       let e : (h' (number two.at.node) ≡ h (number two.at.node)) × ((a' (number two.at.node)).status ≡ (a (number two.at.node)).status) × ((a' (number two.at.node)).owner ≡ (a (number two.at.node)).owner) = r.mine (number two.at.node) o.owner in
       record {
@@ -150,7 +150,7 @@ module _ {C V : Type 0} (number : C → ℕ) (key : List ℕ) (K : ℕ → Type 
         above = above_locked_kept two.above (number two.at.node) o.above;
         owner = e.2 ∙ o.owner;
         placed = placed_two_kept two.change _ _ (ap (λ z. z.prefix) e.0) o.placed;
-        wanted = (let P : Node V → Type 0 = λ z. WantedTwo key two.change found q z in subst P (sym e.0) o.wanted);
+        wanted = (let P : Node V → Type 0 = λ z. WantedAbove key two.change found q z in subst P (sym e.0) o.wanted);
         made = made_two_kept number i a h a' h' key (made_kept K i a h a' h' r key) two.above two.change _ _ q (ap (λ z. length z.prefix) e.0) o.made;
       }
 
@@ -259,9 +259,9 @@ known_kept number same always K i a h a' h' r k key kind given (Confirm at reply
 )
 known_kept number same always K i a h a' h' r k key kind given (CheckAbove p one reply) n m =
     (m.0, stamped_kept K i a h a' h' r (number p.node) p.version n.0 m.1, one_kept number key K i a h a' h' r one _ n.1.0 m.2, m.3, m.4)
-known_kept number same always K i a h a' h' r k key kind given (UpgradeOne one reply) n m =
+known_kept number same always K i a h a' h' r k key kind given (UpgradeHere one reply) n m =
     (m.0, (m.1.0, one_kept number key K i a h a' h' r one _ n.0 m.1.1, m.1.2, m.1.3))
-known_kept number same always K i a h a' h' r k key kind given (ChangeOne one reply) n m =
+known_kept number same always K i a h a' h' r k key kind given (ChangeHere one reply) n m =
     (m.0, one_locked_kept number key K i a h a' h' r one _ m.1, m.2, m.3)
 known_kept number same always K i a h a' h' r k key kind given (UpgradeTop g two reply) n m =
     (m.0, (m.1.0, m.1.1, two_kept number key K i a h a' h' r two _ _ n.1.0 n.1.1.0 m.1.2, m.1.3, m.1.4), child_kept number key K i a h a' h' r g (number two.above.stamp.node) n.0 m.2, m.3, m.4)
@@ -269,7 +269,7 @@ known_kept number same always K i a h a' h' r k key kind given (UpgradeAbove two
     (m.0, (m.1.0, m.1.1, two_kept number key K i a h a' h' r two _ _ n.0 n.1.0 m.1.2, m.1.3, m.1.4, m.1.5))
 known_kept number same always K i a h a' h' r k key kind given (UpgradeBelow two reply) n m =
     (m.0, (m.1.0, m.1.1, half_kept number key K i a h a' h' r two _ _ n.1.0 m.1.2, m.1.3, m.1.4, m.1.5))
-known_kept number same always K i a h a' h' r k key kind given (ChangeTwo two reply) n m =
+known_kept number same always K i a h a' h' r k key kind given (ChangeAbove two reply) n m =
     (m.0, m.1, two_locked_kept number key K i a h a' h' r two _ _ m.2, m.3, m.4, m.5)
 known_kept number same always K i a h a' h' r k key kind given (Obsolete c next p reply) n m =
     (taken_kept number key K i a h a' h' r (number p) (number c) m.0, also_out_kept number key K i a h a' h' r (number c) next m.1)

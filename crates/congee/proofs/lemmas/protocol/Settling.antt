@@ -4,20 +4,20 @@ use Rattle.std.specs.Prelude.{Option, None, Some}
 use Rattle.judge.specs.declared.journal.Reply.{Reply}
 use Rattle.congee.specs.declared.protocol.phase.Kind.{Kind}
 use Rattle.congee.specs.declared.protocol.phase.Parent.{Parent}
-use Rattle.congee.specs.declared.protocol.phase.Single.{Single}
-use Rattle.congee.specs.declared.protocol.phase.Single.TheVariants.{Set, Link}
-use Rattle.congee.specs.declared.protocol.phase.One.{One}
-use Rattle.congee.specs.declared.protocol.phase.Double.{Double}
-use Rattle.congee.specs.declared.protocol.phase.Double.TheVariants.{Unlink, Grow, GrowLink, Split, Shrink, Collapse, ShrinkAbove}
-use Rattle.congee.specs.declared.protocol.phase.Two.{Two}
+use Rattle.congee.specs.declared.protocol.phase.Placement.{Placement}
+use Rattle.congee.specs.declared.protocol.phase.Placement.TheVariants.{Set, Link}
+use Rattle.congee.specs.declared.protocol.phase.NodeChange.{NodeChange}
+use Rattle.congee.specs.declared.protocol.phase.Replacement.{Replacement}
+use Rattle.congee.specs.declared.protocol.phase.Replacement.TheVariants.{Unlink, Grow, GrowLink, Split, Shrink, Collapse, ShrinkAbove}
+use Rattle.congee.specs.declared.protocol.phase.ParentChange.{ParentChange}
 use Rattle.congee.specs.declared.protocol.phase.Phase.{Phase}
-use Rattle.congee.specs.declared.protocol.phase.Phase.TheVariants.{ChangeOne, ChangeTwo, Obsolete, UnlockBelow, Unlock}
+use Rattle.congee.specs.declared.protocol.phase.Phase.TheVariants.{ChangeHere, ChangeAbove, Obsolete, UnlockBelow, Unlock}
 use Rattle.congee.specs.Heap.{Node, Hung, Nothing, Below, Holds, fits, child_for}
 use Rattle.congee.specs.protocol.Events.{ChangeGives, TakeOverGives}
-use Rattle.congee.specs.protocol.Steps.{decided, Collapses, Lessens as LessensTop, ChangedOne, ChangedTwo, after_top, after_change}
+use Rattle.congee.specs.protocol.Steps.{decided, Collapses, Lessens as LessensTop, ChangedHere, ChangedAbove, after_top, after_change}
 use Rattle.congee.specs.Keys.{key_bytes}
 use Rattle.congee.specs.Notes.{Note, is_published, IsChild, Tree, LockWords}
-use Rattle.congee.specs.protocol.Protocol.{Made, Holding, PlacedOne, WantedOne, MadeOne, value_in, FitsOne, PlacedTwo, WantedTwo, MadeTwo, FitsTwo, AboveLocked, TopLocked, TakenOut, Settles, Known}
+use Rattle.congee.specs.protocol.Protocol.{Made, Holding, PlacedHere, WantedHere, MadeHere, value_in, FitsHere, PlacedAbove, WantedAbove, MadeAbove, FitsAbove, AboveLocked, TopLocked, TakenOut, Settles, Known}
 use Rattle.congee.specs.protocol.Answers.{Decides}
 use Rattle.congee.proofs.lemmas.Fits.{fits_same}
 use Rattle.congee.proofs.lemmas.protocol.Grow.{a_value, a_leaf}
@@ -137,10 +137,10 @@ module _ {C V : Type 0} (number : C → ℕ) (same : V → V → Bool) (always :
       → Settles same k kind given found r given → Changed i a h (key_bytes k) found given a' h' → Decides same k kind given h r h'
   settled given found r next_phase given' a' h' s c = record { found = found; after = given; settles = s; before = c.before; now = c.after; rest = c.rest }
 
-  by_single : (one : One C) (r : Reply V) (given given' : Option V) (x : Hung V) (h' : ℕ → Node V) (change : Single C)
-      → Holding i a (number one.at.node) → PlacedOne (key_bytes k) change one.byte (h (number one.at.node)).prefix → WantedOne (key_bytes k) x (h (number one.at.node))
-      → MadeOne number i a h (key_bytes k) change → FitsOne change x given → Settles same k kind given (value_in x) r given
-      → ChangedOne number (key_bytes k) given one change h h' → Kept number same always i a h k kind given given' (decided (Unlock one.at.node r)) h'
+  by_single : (one : NodeChange C) (r : Reply V) (given given' : Option V) (x : Hung V) (h' : ℕ → Node V) (change : Placement C)
+      → Holding i a (number one.at.node) → PlacedHere (key_bytes k) change one.byte (h (number one.at.node)).prefix → WantedHere (key_bytes k) x (h (number one.at.node))
+      → MadeHere number i a h (key_bytes k) change → FitsHere change x given → Settles same k kind given (value_in x) r given
+      → ChangedHere number (key_bytes k) given one change h h' → Kept number same always i a h k kind given given' (decided (Unlock one.at.node r)) h'
   by_single one r None given' x h' Set o p n m f s g =
       let c : Changed i a h (key_bytes k) (value_in x) None a h' = set_changed i a h (key_bytes k) (number one.at.node) one.byte x None h' refl t w o p.fitted p.size p.byte n.child f.0 g in
       record { notes = a; effect = c.effect; sound = record { known = o; answer = (r, refl, settled None (value_in x) r (Unlock one.at.node r) given' a h' s c) } }
@@ -164,12 +164,12 @@ module _ {C V : Type 0} (number : C → ℕ) (same : V → V → Bool) (always :
           record { owner = rw e o.owner; linked = rw e o.linked }
 
   -- a change of one locked node answers as the map, and leaves the call its lock
-  pub changed_one : (one : One C) (r : Reply V) (given given' : Option V) (h' : ℕ → Node V) → Known number same always i a h k (key_bytes k) kind given (ChangeOne one r)
-      → ChangedOne number (key_bytes k) given one one.change h h' → Kept number same always i a h k kind given given' (decided (Unlock one.at.node r)) h'
+  pub changed_one : (one : NodeChange C) (r : Reply V) (given given' : Option V) (h' : ℕ → Node V) → Known number same always i a h k (key_bytes k) kind given (ChangeHere one r)
+      → ChangedHere number (key_bytes k) given one one.change h h' → Kept number same always i a h k kind given given' (decided (Unlock one.at.node r)) h'
   changed_one one r given given' h' m g = by_single one r given given' m.0 h' one.change m.1.holding m.1.placed m.1.wanted m.1.made m.2 m.3 g
 
   -- the changes of the node above both
-  collapsed_top : (two : Two C) (r : Reply V) (given' : Option V) (v : V) (h' : ℕ → Node V) (top : Option (Parent C)) → TopLocked number i a h (key_bytes k) top (number two.above.stamp.node)
+  collapsed_top : (two : ParentChange C) (r : Reply V) (given' : Option V) (v : V) (h' : ℕ → Node V) (top : Option (Parent C)) → TopLocked number i a h (key_bytes k) top (number two.above.stamp.node)
       → AboveLocked number i a h (key_bytes k) two.above (number two.at.node) → (a (number two.at.node)).owner ≡ Some i → Leaf h (number two.at.node) (key_bytes k) v → Settles same k kind None (Some v) r None
       → Collapses number two top h h' → Kept number same always i a h k kind None given' (after_top two r top) h'
   collapsed_top two r given' v h' None l o om leaf s g = absurd g
@@ -183,7 +183,7 @@ module _ {C V : Type 0} (number : C → ℕ) (same : V → V → Bool) (always :
         sound = record { known = (e.1, e.2); answer = (r, refl, settled None (Some v) r (Obsolete two.at.node (Some two.above.stamp.node) top.stamp.node r) given' a' h' s e.0) };
       }
 
-  lessened_top : (two : Two C) (r : Reply V) (given' : Option V) (v : V) (q : ℕ) (h' : ℕ → Node V) (c : C) (top : Option (Parent C)) → TopLocked number i a h (key_bytes k) top (number two.above.stamp.node)
+  lessened_top : (two : ParentChange C) (r : Reply V) (given' : Option V) (v : V) (q : ℕ) (h' : ℕ → Node V) (c : C) (top : Option (Parent C)) → TopLocked number i a h (key_bytes k) top (number two.above.stamp.node)
       → AboveLocked number i a h (key_bytes k) two.above (number two.at.node) → (a (number two.at.node)).owner ≡ Some i → Leaf h (number two.at.node) (key_bytes k) v → Made i a h (key_bytes k) (number c) two.above.depth q
       → Settles same k kind None (Some v) r None → LessensTop number two c top h h' → Kept number same always i a h k kind None given' (after_top two r top) h'
   lessened_top two r given' v q h' c None l o om leaf mc s g = absurd g
@@ -197,10 +197,10 @@ module _ {C V : Type 0} (number : C → ℕ) (same : V → V → Bool) (always :
         sound = record { known = (e.1, e.2); answer = (r, refl, settled None (Some v) r (Obsolete two.at.node (Some two.above.stamp.node) top.stamp.node r) given' a' h' s e.0) };
       }
 
-  by_double : (two : Two C) (r : Reply V) (given given' found : Option V) (q : ℕ) (h' : ℕ → Node V) (change : Double C)
-      → TopLocked number i a h (key_bytes k) two.top (number two.above.stamp.node) → AboveLocked number i a h (key_bytes k) two.above (number two.at.node) → (a (number two.at.node)).owner ≡ Some i → PlacedTwo (key_bytes k) change (h (number two.at.node)).prefix
-      → WantedTwo (key_bytes k) change found q (h (number two.at.node)) → MadeTwo number i a h (key_bytes k) two.above change (length (h (number two.at.node)).prefix) q → FitsTwo change found given
-      → Settles same k kind given found r given → ChangedTwo number (key_bytes k) given two change h h' → Kept number same always i a h k kind given given' (after_change two r change) h'
+  by_double : (two : ParentChange C) (r : Reply V) (given given' found : Option V) (q : ℕ) (h' : ℕ → Node V) (change : Replacement C)
+      → TopLocked number i a h (key_bytes k) two.top (number two.above.stamp.node) → AboveLocked number i a h (key_bytes k) two.above (number two.at.node) → (a (number two.at.node)).owner ≡ Some i → PlacedAbove (key_bytes k) change (h (number two.at.node)).prefix
+      → WantedAbove (key_bytes k) change found q (h (number two.at.node)) → MadeAbove number i a h (key_bytes k) two.above change (length (h (number two.at.node)).prefix) q → FitsAbove change found given
+      → Settles same k kind given found r given → ChangedAbove number (key_bytes k) given two change h h' → Kept number same always i a h k kind given given' (after_change two r change) h'
   by_double two r given given' None q h' Unlink up o om p n m f s g = absurd f
   by_double two r (Some w') given' (Some v) q h' Unlink up o om p n m f s g = absurd f
   by_double two r None given' (Some v) q h' Unlink up o om p n m f s g =
@@ -248,6 +248,6 @@ module _ {C V : Type 0} (number : C → ℕ) (same : V → V → Bool) (always :
       }
 
   -- a change of two locked nodes answers as the map, and leaves the call what it has to hand over and unlock
-  pub changed_two : (two : Two C) (r : Reply V) (given given' : Option V) (h' : ℕ → Node V) → Known number same always i a h k (key_bytes k) kind given (ChangeTwo two r)
-      → ChangedTwo number (key_bytes k) given two two.change h h' → Kept number same always i a h k kind given given' (after_change two r two.change) h'
+  pub changed_two : (two : ParentChange C) (r : Reply V) (given given' : Option V) (h' : ℕ → Node V) → Known number same always i a h k (key_bytes k) kind given (ChangeAbove two r)
+      → ChangedAbove number (key_bytes k) given two two.change h h' → Kept number same always i a h k kind given given' (after_change two r two.change) h'
   changed_two two r given given' h' m g = by_double two r given given' m.0 m.1 h' two.change m.2.top m.2.above m.2.owner m.2.placed m.2.wanted m.2.made m.4 m.5 g

@@ -19,19 +19,19 @@ use Rattle.congee.specs.declared.protocol.phase.Kind.TheVariants.{Get, Insert, R
 use Rattle.congee.specs.declared.protocol.phase.Parent.{Parent}
 use Rattle.congee.specs.declared.protocol.phase.Above.{Above as Over}
 use Rattle.congee.specs.declared.protocol.phase.Site.{Site}
-use Rattle.congee.specs.declared.protocol.phase.Single.{Single}
-use Rattle.congee.specs.declared.protocol.phase.Single.TheVariants.{Set, Link}
-use Rattle.congee.specs.declared.protocol.phase.One.{One}
-use Rattle.congee.specs.declared.protocol.phase.Double.{Double}
-use Rattle.congee.specs.declared.protocol.phase.Double.TheVariants.{Unlink, Shrink, Collapse, ShrinkAbove}
-use Rattle.congee.specs.declared.protocol.phase.Two.{Two}
+use Rattle.congee.specs.declared.protocol.phase.Placement.{Placement}
+use Rattle.congee.specs.declared.protocol.phase.Placement.TheVariants.{Set, Link}
+use Rattle.congee.specs.declared.protocol.phase.NodeChange.{NodeChange}
+use Rattle.congee.specs.declared.protocol.phase.Replacement.{Replacement}
+use Rattle.congee.specs.declared.protocol.phase.Replacement.TheVariants.{Unlink, Shrink, Collapse, ShrinkAbove}
+use Rattle.congee.specs.declared.protocol.phase.ParentChange.{ParentChange}
 use Rattle.congee.specs.declared.protocol.phase.Plan.{Plan}
 use Rattle.congee.specs.declared.protocol.phase.Plan.TheVariants.{Here, Above}
 use Rattle.congee.specs.declared.protocol.phase.Phase.{Phase}
-use Rattle.congee.specs.declared.protocol.phase.Phase.TheVariants.{Version, Read, Check, CheckUncopied, CheckMiss, CheckDown, CheckOld, MakeLeaf, MakeGreater, MakeTop, MakeBeside, MakeLesser, AskOld, AskNew, Confirm, CheckAbove, UpgradeOne, ChangeOne, UpgradeTop, UpgradeAbove, UpgradeBelow, ChangeTwo, Unwind}
+use Rattle.congee.specs.declared.protocol.phase.Phase.TheVariants.{Version, Read, Check, CheckUncopied, CheckMiss, CheckDown, CheckOld, MakeLeaf, MakeGreater, MakeTop, MakeBeside, MakeLesser, AskOld, AskNew, Confirm, CheckAbove, UpgradeHere, ChangeHere, UpgradeTop, UpgradeAbove, UpgradeBelow, ChangeAbove, Unwind}
 use Rattle.congee.specs.declared.protocol.next_phase.NextPhase.{NextPhase}
 use Rattle.congee.specs.Heap.{Node}
-use Rattle.congee.specs.protocol.Steps.{skipping, shrinks, set_at, both, last_out, after_top, given_up, after_unwind, quiet, again, answered, refused, decided, asking, adds, asks_new, absent_reply, after_version, after_read, down, started, ready, plan_here, unless_full, missing, absent, CopyFailed, IsAsked, replaced, taken_out, emptied, is_same, IsAtOld, IsAdded, IsExchanged, IsPresent, IsChecked, after_miss, IsGiven, IsGivenNew, MadeLeaf, MadeGreater, MadeTop, MadeBeside, MadeLesser, UpgradedOne, UpgradedTop, UpgradedAbove, UpgradedBelow, after_change}
+use Rattle.congee.specs.protocol.Steps.{skipping, shrinks, set_at, both, last_out, after_top, given_up, after_unwind, quiet, again, answered, refused, decided, asking, adds, asks_new, absent_reply, after_version, after_read, down, started, ready, plan_here, unless_full, missing, absent, CopyFailed, IsAsked, replaced, taken_out, emptied, is_same, IsAtOld, IsAdded, IsExchanged, IsPresent, IsChecked, after_miss, IsGiven, IsGivenNew, MadeLeaf, MadeGreater, MadeTop, MadeBeside, MadeLesser, UpgradedHere, UpgradedTop, UpgradedAbove, UpgradedBelow, after_change}
 use Rattle.congee.specs.protocol.Protocol.{Asking}
 use Rattle.congee.specs.protocol.Answers.{reply_in}
 use Rattle.congee.specs.protocol.Play.{Question, Unasked, Asked, Replied, Pending, Decided, value_answered, resolved, Carries, heeding, flight_in}
@@ -97,7 +97,7 @@ module _ {C V : Type 0} (k : ℕ) (v v1 v' : Option V) (e : v' ≡ v1) (q : Ques
   stopped kind r = Stops r refl
 
   starts : (kind : Kind V) (plan : Plan C) (r : Reply V) → Ripe r q → StepShape k kind v v1 v' q (started plan r)
-  starts kind (Here None one) r c = works kind r (UpgradeOne one r) c refl
+  starts kind (Here None one) r c = works kind r (UpgradeHere one r) c refl
   starts kind (Here (Some p) one) r c = works kind r (CheckAbove p one r) c refl
   starts kind (Above two) r c = works kind r (UpgradeAbove two r) c refl
 
@@ -105,7 +105,7 @@ module _ {C V : Type 0} (k : ℕ) (v v1 v' : Option V) (e : v' ≡ v1) (q : Ques
   readies kind plan w = by_test (λ (z : NextPhase C V). StepShape k kind v v1 v' q z) (asks_new kind) _ _ (λ p. wonders kind (AskNew plan) None (asks_for kind p) refl)
       (λ n. starts kind plan (absent_reply kind) (ripe_new kind q w n))
 
-  unless : (kind : Kind V) (s : Site C) (full : Bool) (above : Option (Over C)) (leaf : Option C) (change : Single C) → adds kind ≡ true → StepShape k kind v v1 v' q (unless_full kind s full above leaf change)
+  unless : (kind : Kind V) (s : Site C) (full : Bool) (above : Option (Over C)) (leaf : Option C) (change : Placement C) → adds kind ≡ true → StepShape k kind v v1 v' q (unless_full kind s full above leaf change)
   unless kind s true (Some u) leaf change w = on kind (MakeGreater s u.near leaf) refl
   unless kind s true None leaf change w = readies kind (plan_here s change) w
   unless kind s false above leaf change w = readies kind (plan_here s change) w
@@ -114,7 +114,7 @@ module _ {C V : Type 0} (k : ℕ) (v v1 v' : Option V) (e : v' ≡ v1) (q : Ques
   misses kind s w = by_test (λ (z : NextPhase C V). StepShape k kind v v1 v' q z) (s.depth == 7) _ _ (λ _. unless kind s s.full s.above None Set w) (λ _. on kind (MakeLeaf s) refl)
 
   replaces : (kind : Kind V) (s : Site C) (b : Bool) (r : Reply V) → Ripe r q → StepShape k kind v v1 v' q (replaced s b r)
-  replaces kind s b r c = by_test (λ (z : NextPhase C V). StepShape k kind v v1 v' q z) b _ _ (λ _. works kind r (Confirm s.at r) c refl) (λ _. works kind r (UpgradeOne _ r) c refl)
+  replaces kind s b r c = by_test (λ (z : NextPhase C V). StepShape k kind v v1 v' q z) b _ _ (λ _. works kind r (Confirm s.at r) c refl) (λ _. works kind r (UpgradeHere _ r) c refl)
 
   -- a value's going
   last : (kind : Kind V) (s : Site C) (p : Parent C) (top : Option (Parent C)) (r : Reply V) → Ripe r q → StepShape k kind v v1 v' q (last_out s p top r)
@@ -124,9 +124,9 @@ module _ {C V : Type 0} (k : ℕ) (v v1 v' : Option V) (e : v' ≡ v1) (q : Ques
       (λ _. works kind r (MakeLesser s p (Some top) r) c refl) (λ _. works kind r (UpgradeAbove (both p s Unlink) r) c refl))
 
   takes_out : (kind : Kind V) (s : Site C) (above : Option (Over C)) (r : Reply V) → Ripe r q → StepShape k kind v v1 v' q (taken_out s above r)
-  takes_out kind s None r c = works kind r (UpgradeOne (set_at s) r) c refl
+  takes_out kind s None r c = works kind r (UpgradeHere (set_at s) r) c refl
   takes_out kind s (Some u) r c = by_test (λ (z : NextPhase C V). StepShape k kind v v1 v' q z) (s.count == 1) _ _ (λ _. last kind s u.near u.far r c)
-      (λ _. by_test (λ (z : NextPhase C V). StepShape k kind v v1 v' q z) (shrinks s.form s.count) _ _ (λ _. works kind r (MakeLesser s u.near None r) c refl) (λ _. works kind r (UpgradeOne (set_at s) r) c refl))
+      (λ _. by_test (λ (z : NextPhase C V). StepShape k kind v v1 v' q z) (shrinks s.form s.count) _ _ (λ _. works kind r (MakeLesser s u.near None r) c refl) (λ _. works kind r (UpgradeHere (set_at s) r) c refl))
 
   empties : (kind : Kind V) (s : Site C) (r : Reply V) → Ripe r q → StepShape k kind v v1 v' q (emptied s r)
   empties kind s r c = takes_out kind s s.above r c
@@ -249,13 +249,13 @@ module _ {C V : Type 0} (number : C → ℕ) (k : ℕ) (kind : Kind V) (v v' : O
   -- what a ripe call does once its lesser node was made, or wasn't, is a step that it may take
   pub lesser_made : (s : Site C) (p : Parent C) (top : Option (Parent C)) (r : Reply V) (h : ℕ → Node V) (key : List ℕ) (x : Result C Refusal) (h' : ℕ → Node V) (t : NextPhase C V) → Ripe r q → MadeLesser number s p top r h key x h' t → StepShape k kind v v v' q t
   lesser_made s p None r h key (Ok c) h' t f x = shape_at _ t x.1 (goes_to_work r (UpgradeAbove (both p s (Shrink c)) r) f refl)
-  lesser_made s p None r h key (Err o) h' t f x = shape_at _ t x.1 (skips_to r (UpgradeOne (set_at s) r) f refl)
+  lesser_made s p None r h key (Err o) h' t f x = shape_at _ t x.1 (skips_to r (UpgradeHere (set_at s) r) f refl)
   lesser_made s p (Some top) r h key (Ok c) h' t f x = shape_at _ t x.1 (goes_to_work r (UpgradeTop top (both p s (ShrinkAbove c)) r) f refl)
   lesser_made s p (Some top) r h key (Err o) h' t f x = shape_at _ t x.1 (skips_to r (UpgradeAbove (both p s Unlink) r) f refl)
 
   -- what a ripe call does once it locked its one node, or couldn't, is a step that it may take
-  pub one_upgraded : (root : C) (one : One C) (r : Reply V) (h : ℕ → Node V) (u : Upgrade) (h' : ℕ → Node V) (t : NextPhase C V) → Ripe r q → UpgradedOne number root one r h u h' t → StepShape k kind v v v' q t
-  one_upgraded root one r h Locked h' t c x = shape_at _ t x.1 (goes_to_work r (ChangeOne one r) c refl)
+  pub one_upgraded : (root : C) (one : NodeChange C) (r : Reply V) (h : ℕ → Node V) (u : Upgrade) (h' : ℕ → Node V) (t : NextPhase C V) → Ripe r q → UpgradedHere number root one r h u h' t → StepShape k kind v v v' q t
+  one_upgraded root one r h Locked h' t c x = shape_at _ t x.1 (goes_to_work r (ChangeHere one r) c refl)
   one_upgraded root one r h Failed h' t c x = shape_at _ t x.1 (again_shape root)
   one_upgraded root one r h Exhausted h' t c x = halts refusal.Exhausted t x.1
 
@@ -265,20 +265,20 @@ module _ {C V : Type 0} (number : C → ℕ) (k : ℕ) (kind : Kind V) (v v' : O
   gives_up root (Some top) o t x = shape_at _ t x (quiet_shape (Unwind top.stamp.node None o) refl)
 
   -- what a ripe call does once it locked the upper of two nodes, or couldn't, is a step that it may take
-  pub above_upgraded : (root : C) (two : Two C) (r : Reply V) (h : ℕ → Node V) (u : Upgrade) (h' : ℕ → Node V) (t : NextPhase C V) → Ripe r q → UpgradedAbove number root two r h u h' t → StepShape k kind v v v' q t
+  pub above_upgraded : (root : C) (two : ParentChange C) (r : Reply V) (h : ℕ → Node V) (u : Upgrade) (h' : ℕ → Node V) (t : NextPhase C V) → Ripe r q → UpgradedAbove number root two r h u h' t → StepShape k kind v v v' q t
   above_upgraded root two r h Locked h' t c x = shape_at _ t x.1 (goes_to_work r (UpgradeBelow two r) c refl)
   above_upgraded root two r h Failed h' t c x = gives_up root two.top None t x.1
   above_upgraded root two r h Exhausted h' t c x = gives_up root two.top (Some refusal.Exhausted) t x.1
 
   -- what a ripe call does once it locked the node above both, or couldn't, is a step that it may take
-  pub top_upgraded : (root : C) (top : Parent C) (two : Two C) (r : Reply V) (h : ℕ → Node V) (u : Upgrade) (h' : ℕ → Node V) (t : NextPhase C V) → Ripe r q → UpgradedTop number root top two r h u h' t → StepShape k kind v v v' q t
+  pub top_upgraded : (root : C) (top : Parent C) (two : ParentChange C) (r : Reply V) (h : ℕ → Node V) (u : Upgrade) (h' : ℕ → Node V) (t : NextPhase C V) → Ripe r q → UpgradedTop number root top two r h u h' t → StepShape k kind v v v' q t
   top_upgraded root top two r h Locked h' t c x = shape_at _ t x.1 (goes_to_work r (UpgradeAbove (record two { top = Some top }) r) c refl)
   top_upgraded root top two r h Failed h' t c x = shape_at _ t x.1 (again_shape root)
   top_upgraded root top two r h Exhausted h' t c x = halts refusal.Exhausted t x.1
 
   -- what a ripe call does once it locked the lower of two nodes, or couldn't, is a step that it may take
-  pub both_upgraded : (two : Two C) (r : Reply V) (h : ℕ → Node V) (u : Upgrade) (h' : ℕ → Node V) (t : NextPhase C V) → Ripe r q → UpgradedBelow number two r h u h' t → StepShape k kind v v v' q t
-  both_upgraded two r h Locked h' t c x = shape_at _ t x.1 (goes_to_work r (ChangeTwo two r) c refl)
+  pub both_upgraded : (two : ParentChange C) (r : Reply V) (h : ℕ → Node V) (u : Upgrade) (h' : ℕ → Node V) (t : NextPhase C V) → Ripe r q → UpgradedBelow number two r h u h' t → StepShape k kind v v v' q t
+  both_upgraded two r h Locked h' t c x = shape_at _ t x.1 (goes_to_work r (ChangeAbove two r) c refl)
   both_upgraded two r h Failed h' t c x = shape_at _ t x.1 (quiet_shape (Unwind _ _ None) refl)
   both_upgraded two r h Exhausted h' t c x = shape_at _ t x.1 (quiet_shape (Unwind _ _ (Some refusal.Exhausted)) refl)
 
@@ -289,12 +289,12 @@ module _ {C V : Type 0} (number : C → ℕ) (k : ℕ) (kind : Kind V) (v v' : O
   unwinds root (Some c) o t x = shape_at _ t x (quiet_shape (Unwind c None o) refl)
 
 -- a change takes effect
-top_shape : {C V : Type 0} (k : ℕ) (kind : Kind V) (v v' : Option V) (two : Two C) (r : Reply V) (top : Option (Parent C)) (t : NextPhase C V) → t ≡ after_top two r top → StepShape k kind v v v' (heeding r) t
+top_shape : {C V : Type 0} (k : ℕ) (kind : Kind V) (v v' : Option V) (two : ParentChange C) (r : Reply V) (top : Option (Parent C)) (t : NextPhase C V) → t ≡ after_top two r top → StepShape k kind v v v' (heeding r) t
 top_shape k kind v v' two r None t x = Takes _ r x refl refl refl (ripe_at_work r)
 top_shape k kind v v' two r (Some top) t x = Takes _ r x refl refl refl (ripe_at_work r)
 
 -- a change of two nodes takes effect with the call's reply
-pub change_shape : {C V : Type 0} (k : ℕ) (kind : Kind V) (v v' : Option V) (two : Two C) (r : Reply V) (change : Double C) (t : NextPhase C V) → t ≡ after_change two r change → StepShape k kind v v v' (heeding r) t
+pub change_shape : {C V : Type 0} (k : ℕ) (kind : Kind V) (v v' : Option V) (two : ParentChange C) (r : Reply V) (change : Replacement C) (t : NextPhase C V) → t ≡ after_change two r change → StepShape k kind v v v' (heeding r) t
 change_shape k kind v v' two r Collapse t x = top_shape k kind v v' two r two.top t x
 change_shape k kind v v' two r (ShrinkAbove c) t x = top_shape k kind v v' two r two.top t x
 change_shape k kind v v' two r _ t x = Takes _ r x refl refl refl (ripe_at_work r)

@@ -9,14 +9,14 @@ use Rattle.congee.specs.declared.protocol.store.Upgrade.{Upgrade}
 use Rattle.congee.specs.declared.protocol.store.Upgrade.TheVariants.{Locked, Failed, Exhausted}
 use Rattle.congee.specs.declared.protocol.phase.Kind.{Kind}
 use Rattle.congee.specs.declared.protocol.phase.Parent.{Parent}
-use Rattle.congee.specs.declared.protocol.phase.One.{One}
-use Rattle.congee.specs.declared.protocol.phase.Two.{Two}
+use Rattle.congee.specs.declared.protocol.phase.NodeChange.{NodeChange}
+use Rattle.congee.specs.declared.protocol.phase.ParentChange.{ParentChange}
 use Rattle.congee.specs.declared.protocol.phase.Phase.{Phase}
-use Rattle.congee.specs.declared.protocol.phase.Phase.TheVariants.{New, Version, Read, Check, CheckUncopied, CheckMiss, CheckDown, CheckOld, MakeLeaf, MakeGreater, MakeTop, MakeBeside, MakeLesser, AskOld, AskNew, Confirm, CheckAbove, UpgradeOne, ChangeOne, UpgradeTop, UpgradeAbove, UpgradeBelow, ChangeTwo, Obsolete, Retire, UnlockBelow, Unlock, Unwind, Scan, Ended}
+use Rattle.congee.specs.declared.protocol.phase.Phase.TheVariants.{New, Version, Read, Check, CheckUncopied, CheckMiss, CheckDown, CheckOld, MakeLeaf, MakeGreater, MakeTop, MakeBeside, MakeLesser, AskOld, AskNew, Confirm, CheckAbove, UpgradeHere, ChangeHere, UpgradeTop, UpgradeAbove, UpgradeBelow, ChangeAbove, Obsolete, Retire, UnlockBelow, Unlock, Unwind, Scan, Ended}
 use Rattle.congee.specs.declared.protocol.next_phase.NextPhase.{NextPhase}
 use Rattle.congee.specs.Heap.{Node, Nothing, Holds, child_for, is_taken, is_free}
 use Rattle.congee.specs.protocol.Events.{upgrade_gives}
-use Rattle.congee.specs.protocol.Steps.{quiet, after_scan, again, refused, node_of, given_up, adds, absent_reply, UpgradedOne, UpgradedTop, UpgradedAbove, UpgradedBelow, PhaseStepped, Stepped}
+use Rattle.congee.specs.protocol.Steps.{quiet, after_scan, again, refused, node_of, given_up, adds, absent_reply, UpgradedHere, UpgradedTop, UpgradedAbove, UpgradedBelow, PhaseStepped, Stepped}
 use Rattle.congee.specs.Keys.{key_bytes}
 use Rattle.congee.specs.Notes.{Note, is_published, Tree, LockWords}
 use Rattle.congee.specs.declared.protocol.machine.Machine.{Machine}
@@ -94,8 +94,8 @@ module _ {C V : Type 0} (number : C → ℕ) (same : V → V → Bool) (always :
   gives_up root z None n (Some e) h' f g o b = refused_back number same always i a h k kind given h' e b
   gives_up root z (Some top) n e h' f g o b = unwind_back top.stamp.node None e h' f g o.holding tt b
 
-  upgraded_one : (root : C) → number root ≡ 0 → (most : ℕ) (fail : Bool) (one : One C) (r : Reply V) (next_phase : NextPhase C V) (h' : ℕ → Node V) (u : Upgrade) → Known number same always i a h k (key_bytes k) kind given (UpgradeOne one r)
-      → u ≡ upgrade_gives most (h (number one.at.node)) one.at.version fail → UpgradedOne number root one r h u h' next_phase → Kept number same always i a h k kind given given next_phase h'
+  upgraded_one : (root : C) → number root ≡ 0 → (most : ℕ) (fail : Bool) (one : NodeChange C) (r : Reply V) (next_phase : NextPhase C V) (h' : ℕ → Node V) (u : Upgrade) → Known number same always i a h k (key_bytes k) kind given (UpgradeHere one r)
+      → u ≡ upgrade_gives most (h (number one.at.node)) one.at.version fail → UpgradedHere number root one r h u h' next_phase → Kept number same always i a h k kind given given next_phase h'
   upgraded_one root z most fail one r next_phase h' Locked m e g = kept_at number same always i a h k kind given given _ next_phase h' g.1
       (lock_one number same always i a h k kind given t w one r h' m (locked_taken most (h (number one.at.node)) one.at.version fail e) g.0)
   upgraded_one root z most fail one r next_phase h' Failed m e g = kept_at number same always i a h k kind given given _ next_phase h' g.1
@@ -103,7 +103,7 @@ module _ {C V : Type 0} (number : C → ℕ) (same : V → V → Bool) (always :
   upgraded_one root z most fail one r next_phase h' Exhausted m e g = kept_at number same always i a h k kind given given _ next_phase h' g.1
       (refused_back number same always i a h k kind given h' refusal.Exhausted (back_one number i a h (key_bytes k) one.change h' t w m.1.1.made g.0))
 
-  upgraded_above : (root : C) → number root ≡ 0 → (most : ℕ) (fail : Bool) (two : Two C) (r : Reply V) (next_phase : NextPhase C V) (h' : ℕ → Node V) (u : Upgrade) → Known number same always i a h k (key_bytes k) kind given (UpgradeAbove two r)
+  upgraded_above : (root : C) → number root ≡ 0 → (most : ℕ) (fail : Bool) (two : ParentChange C) (r : Reply V) (next_phase : NextPhase C V) (h' : ℕ → Node V) (u : Upgrade) → Known number same always i a h k (key_bytes k) kind given (UpgradeAbove two r)
       → u ≡ upgrade_gives most (h (number two.above.stamp.node)) two.above.stamp.version fail → UpgradedAbove number root two r h u h' next_phase → Kept number same always i a h k kind given given next_phase h'
   upgraded_above root z most fail two r next_phase h' Locked m e g = kept_at number same always i a h k kind given given _ next_phase h' g.1
       (lock_above number same always i a h k kind given t w two r h' m (locked_taken most (h (number two.above.stamp.node)) two.above.stamp.version fail e) g.0)
@@ -112,7 +112,7 @@ module _ {C V : Type 0} (number : C → ℕ) (same : V → V → Bool) (always :
   upgraded_above root z most fail two r next_phase h' Exhausted m e g = kept_at number same always i a h k kind given given _ next_phase h' g.1
       (gives_up root z two.top (number two.above.stamp.node) (Some refusal.Exhausted) h' refl m.0 m.1.2.top (back_two number i a h (key_bytes k) two.above two.change _ _ h' t w m.1.2.made g.0))
 
-  upgraded_top : (root : C) → number root ≡ 0 → (most : ℕ) (fail : Bool) (top : Parent C) (two : Two C) (r : Reply V) (next_phase : NextPhase C V) (h' : ℕ → Node V) (u : Upgrade) → Known number same always i a h k (key_bytes k) kind given (UpgradeTop top two r)
+  upgraded_top : (root : C) → number root ≡ 0 → (most : ℕ) (fail : Bool) (top : Parent C) (two : ParentChange C) (r : Reply V) (next_phase : NextPhase C V) (h' : ℕ → Node V) (u : Upgrade) → Known number same always i a h k (key_bytes k) kind given (UpgradeTop top two r)
       → u ≡ upgrade_gives most (h (number top.stamp.node)) top.stamp.version fail → UpgradedTop number root top two r h u h' next_phase → Kept number same always i a h k kind given given next_phase h'
   upgraded_top root z most fail top two r next_phase h' Locked m e g = kept_at number same always i a h k kind given given _ next_phase h' g.1
       (lock_top number same always i a h k kind given t w top two r h' m (locked_taken most (h (number top.stamp.node)) top.stamp.version fail e) g.0)
@@ -121,7 +121,7 @@ module _ {C V : Type 0} (number : C → ℕ) (same : V → V → Bool) (always :
   upgraded_top root z most fail top two r next_phase h' Exhausted m e g = kept_at number same always i a h k kind given given _ next_phase h' g.1
       (refused_back number same always i a h k kind given h' refusal.Exhausted (back_two number i a h (key_bytes k) two.above two.change _ _ h' t w m.1.2.made g.0))
 
-  upgraded_both : (most : ℕ) (fail : Bool) (two : Two C) (r : Reply V) (next_phase : NextPhase C V) (h' : ℕ → Node V) (u : Upgrade) → Known number same always i a h k (key_bytes k) kind given (UpgradeBelow two r)
+  upgraded_both : (most : ℕ) (fail : Bool) (two : ParentChange C) (r : Reply V) (next_phase : NextPhase C V) (h' : ℕ → Node V) (u : Upgrade) → Known number same always i a h k (key_bytes k) kind given (UpgradeBelow two r)
       → u ≡ upgrade_gives most (h (number two.at.node)) two.at.version fail → UpgradedBelow number two r h u h' next_phase → Kept number same always i a h k kind given given next_phase h'
   upgraded_both most fail two r next_phase h' Locked m e g = kept_at number same always i a h k kind given given _ next_phase h' g.1
       (lock_both number same always i a h k kind given t w two r h' m (locked_taken most (h (number two.at.node)) two.at.version fail e) g.0)
@@ -177,12 +177,12 @@ step_kept {C} {V} number same always most why law i a h root z k kind fail answe
 step_kept number same always most why law i a h root z k kind fail answer given (CheckAbove p one r) given' next_phase h' t w m g = given_at number same always i a h k kind given t w given' next_phase h' g.0
     (on_test (is_taken (h (number p.node)) p.version)
     (λ q. quiet_kept number same always i a h k kind given t w given next_phase h' (g.1.goes_on q).0
-    (at_next_phase number same always i a h k kind given t w _ next_phase (g.1.goes_on q).1 (quiet_sound number same always i a h k kind given t w (UpgradeOne one r) (m.0, (Nothing, m.2, m.3, m.4)))))
+    (at_next_phase number same always i a h k kind given t w _ next_phase (g.1.goes_on q).1 (quiet_sound number same always i a h k kind given t w (UpgradeHere one r) (m.0, (Nothing, m.2, m.3, m.4)))))
     (λ q. kept_at number same always i a h k kind given given _ next_phase h' (g.1.goes_back q).1
     (again_back number same always i a h k kind given t w root z h' m.0 (back_one number i a h (key_bytes k) one.change h' t w m.2.made (g.1.goes_back q).0))))
-step_kept number same always most why law i a h root z k kind fail answer given (UpgradeOne one r) given' next_phase h' t w m g = given_at number same always i a h k kind given t w given' next_phase h' g.0
+step_kept number same always most why law i a h root z k kind fail answer given (UpgradeHere one r) given' next_phase h' t w m g = given_at number same always i a h k kind given t w given' next_phase h' g.0
     (upgraded_one number same always i a h k kind given t w root z most fail one r next_phase h' g.1.0 m g.1.1 g.1.2)
-step_kept number same always most why law i a h root z k kind fail answer given (ChangeOne one r) given' next_phase h' t w m g = kept_at number same always i a h k kind given given' _ next_phase h' g.2
+step_kept number same always most why law i a h root z k kind fail answer given (ChangeHere one r) given' next_phase h' t w m g = kept_at number same always i a h k kind given given' _ next_phase h' g.2
     (changed_one number same always i a h k kind t w one r given given' h' m g.1)
 step_kept number same always most why law i a h root z k kind fail answer given (UpgradeTop top two r) given' next_phase h' t w m g = given_at number same always i a h k kind given t w given' next_phase h' g.0
     (upgraded_top number same always i a h k kind given t w root z most fail top two r next_phase h' g.1.0 m g.1.1 g.1.2)
@@ -190,7 +190,7 @@ step_kept number same always most why law i a h root z k kind fail answer given 
     (upgraded_above number same always i a h k kind given t w root z most fail two r next_phase h' g.1.0 m g.1.1 g.1.2)
 step_kept number same always most why law i a h root z k kind fail answer given (UpgradeBelow two r) given' next_phase h' t w m g = given_at number same always i a h k kind given t w given' next_phase h' g.0
     (upgraded_both number same always i a h k kind given t w most fail two r next_phase h' g.1.0 m g.1.1 g.1.2)
-step_kept number same always most why law i a h root z k kind fail answer given (ChangeTwo two r) given' next_phase h' t w m g = kept_at number same always i a h k kind given given' _ next_phase h' g.2
+step_kept number same always most why law i a h root z k kind fail answer given (ChangeAbove two r) given' next_phase h' t w m g = kept_at number same always i a h k kind given given' _ next_phase h' g.2
     (changed_two number same always i a h k kind t w two r given given' h' m g.1)
 step_kept number same always most why law i a h root z k kind fail answer given (Obsolete n next p r) given' next_phase h' t w m g = given_at number same always i a h k kind given t w given' next_phase h' g.0
     (kept_at number same always i a h k kind given given _ next_phase h' g.2 (marked number same always i a h k kind given t w n next p r h' m g.1))

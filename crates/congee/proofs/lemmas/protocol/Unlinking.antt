@@ -20,7 +20,7 @@ use Rattle.congee.specs.Keys.{key_bytes}
 use Rattle.congee.specs.Notes.{Note, Status, Unmade, Held, Linked, Gone, Back, Destroyed, is_published, is_spent, IsChild, HasParent, Tree, LockWords}
 use Rattle.congee.specs.protocol.Protocol.{Fares, AlsoOut, Known}
 use Rattle.congee.specs.protocol.Holdings.{IsMade, LockedBy, MadeBy, TakenBy, Holdings}
-use Rattle.congee.specs.protocol.Handing.{is_waiting, Leads, InTree, AreOneOrTwo, HandsAt, IsLeaving, Leaving, TakesAt, Leaves, Due, Accounted, Unlinking, StepHands, StepTakes}
+use Rattle.congee.specs.protocol.Handing.{is_handed_over, Leads, InTree, AreOneOrTwo, HandsAt, IsLeaving, Leaving, TakesAt, Leaves, Due, Accounted, Unlinking, StepHands, StepTakes}
 use Rattle.congee.proofs.lemmas.Tree.{same_or_not}
 use Rattle.congee.proofs.lemmas.protocol.Owners.{get_set, set_here, set_apart, IsTaken, taken_known, locked_linked, gone_taken, taken_on}
 use Rattle.congee.proofs.lemmas.protocol.Handing.{leads_linked, unlinked_out, giving, giving_here, giving_apart, some_of, none_if}
@@ -215,10 +215,10 @@ module _ {C V : Type 0} (number : C → ℕ) (same : V → V → Bool) (always :
     handed_now n y r by' z =
         let o : IsTaken i a h n = taken_known number same always i a h m.key (key_bytes m.key) m.kind m.given n m.phase x y in
         let s : Stands (h' n) = (w'.each n).stands (pub_kept n (ap is_published o.gone)) in
-        let b : is_waiting (h' n) ≡ true = rw (r, s.made, s.kept) refl in
-        let c : is_waiting (h n) ≡ false = rw o.unretired refl in
+        let b : is_handed_over (h' n) ≡ true = rw (r, s.made, s.kept) refl in
+        let c : is_handed_over (h n) ≡ false = rw o.unretired refl in
         by_hands z b c where
-          by_hands : HandsAt by h i by' h' → is_waiting (h' n) ≡ true → is_waiting (h n) ≡ false → Contains (by' i) n
+          by_hands : HandsAt by h i by' h' → is_handed_over (h' n) ≡ true → is_handed_over (h n) ≡ false → Contains (by' i) n
           by_hands (inl z) b c = absurd (let v : true ≡ false = sym b ∙ (z.nodes n ∙ c) in cc)
           by_hands (inr z) b c = elim (same_or_not n z.0) [
             | inl q ↦ (let R : List ℕ → Type 0 = λ v. Contains v n in
@@ -349,7 +349,7 @@ idle_takes number h ms i hands same by took l u = (
 
 -- no node is lost
 accounts : {C V : Type 0} (number : C → ℕ) (a : ℕ → Note) (h : ℕ → Node V) (ms : List (Machine C V)) → Tree a h → Holdings number a h ms → (n : ℕ) → Stands (h n) → (s : Status) → (a n).status ≡ s
-    → (InTree h n ⊎ (is_waiting (h n) ≡ true)) ⊎ ((i : ℕ) × (m : Machine C V) × (slice_get ms i ≡ Some m) × (MadeBy number m.phase n ⊎ TakenBy number m.phase n))
+    → (InTree h n ⊎ (is_handed_over (h n) ≡ true)) ⊎ ((i : ℕ) × (m : Machine C V) × (slice_get ms i ≡ Some m) × (MadeBy number m.phase n ⊎ TakenBy number m.phase n))
 accounts number a h ms t o n s Linked e = inl (inl (linked_in a h n t e))
 accounts {C} {V} number a h ms t o n s (Held i) e = let x : (m : Machine C V) × (slice_get ms i ≡ Some m) × MadeBy number m.phase n = o.held n i e in inr (i, x.0, x.1, inl x.2)
 accounts number a h ms t o n s Gone e = elim (o.gone n e) [

@@ -4,20 +4,20 @@ use Rattle.std.specs.Prelude.{Option, None, Some, slice_index}
 use Rattle.congee.specs.declared.protocol.phase.Kind.{Kind}
 use Rattle.congee.specs.declared.protocol.phase.Parent.{Parent}
 use Rattle.congee.specs.declared.protocol.phase.Site.{Site}
-use Rattle.congee.specs.declared.protocol.phase.Single.{Single}
-use Rattle.congee.specs.declared.protocol.phase.Single.TheVariants.{Set, Link}
-use Rattle.congee.specs.declared.protocol.phase.One.{One}
-use Rattle.congee.specs.declared.protocol.phase.Double.{Double}
-use Rattle.congee.specs.declared.protocol.phase.Double.TheVariants.{Unlink, Grow, GrowLink, Split, Shrink, Collapse, ShrinkAbove}
-use Rattle.congee.specs.declared.protocol.phase.Two.{Two}
+use Rattle.congee.specs.declared.protocol.phase.Placement.{Placement}
+use Rattle.congee.specs.declared.protocol.phase.Placement.TheVariants.{Set, Link}
+use Rattle.congee.specs.declared.protocol.phase.NodeChange.{NodeChange}
+use Rattle.congee.specs.declared.protocol.phase.Replacement.{Replacement}
+use Rattle.congee.specs.declared.protocol.phase.Replacement.TheVariants.{Unlink, Grow, GrowLink, Split, Shrink, Collapse, ShrinkAbove}
+use Rattle.congee.specs.declared.protocol.phase.ParentChange.{ParentChange}
 use Rattle.congee.specs.declared.protocol.phase.Phase.{Phase}
-use Rattle.congee.specs.declared.protocol.phase.Phase.TheVariants.{New, Version, Read, Check, CheckUncopied, CheckMiss, CheckDown, CheckOld, MakeGreater, MakeTop, MakeBeside, MakeLesser, Confirm, CheckAbove, UpgradeOne, ChangeOne, UpgradeTop, UpgradeAbove, UpgradeBelow, ChangeTwo, Obsolete, Retire, UnlockBelow, Unlock, Unwind, Scan}
+use Rattle.congee.specs.declared.protocol.phase.Phase.TheVariants.{New, Version, Read, Check, CheckUncopied, CheckMiss, CheckDown, CheckOld, MakeGreater, MakeTop, MakeBeside, MakeLesser, Confirm, CheckAbove, UpgradeHere, ChangeHere, UpgradeTop, UpgradeAbove, UpgradeBelow, ChangeAbove, Obsolete, Retire, UnlockBelow, Unlock, Unwind, Scan}
 use Rattle.congee.specs.Heap.{Node, Hung, Nothing, Below, Holds, Stands, child_for}
 use Rattle.congee.specs.protocol.Events.{MayChange, HoldsNodes, HoldsAlike, Parts}
-use Rattle.congee.specs.protocol.Steps.{value_hung, MayBackOne, MayBackTwo, MayBackLeaf, Changeable, Blank, MayTop, MayChangeOne, MayChangeTwo, MayStep}
+use Rattle.congee.specs.protocol.Steps.{value_hung, MayBackHere, MayBackAbove, MayBackLeaf, Changeable, Blank, MayTop, MayChangeHere, MayChangeAbove, MayStep}
 use Rattle.congee.specs.Keys.{key_bytes}
 use Rattle.congee.specs.Notes.{Note, Linked, is_published, IsChild, Tree, LockWords}
-use Rattle.congee.specs.protocol.Protocol.{Made, Holding, MadeOne, MadeTwo, MadeLeafFor, FitsOne, FitsTwo, OneLocked, TwoLocked, TopLocked, HasTop, WantedTwo, PlacedTwo, Known}
+use Rattle.congee.specs.protocol.Protocol.{Made, Holding, MadeHere, MadeAbove, MadeLeafFor, FitsHere, FitsAbove, HereLocked, BothLocked, TopLocked, HasTop, WantedAbove, PlacedAbove, Known}
 use Rattle.congee.proofs.lemmas.Fits.{equal_of_test, same_test}
 use Rattle.congee.proofs.lemmas.Graft.{on_test}
 use Rattle.congee.proofs.lemmas.protocol.Touch.{owner_locked}
@@ -53,11 +53,11 @@ module _ {C V : Type 0} (number : C → ℕ) (same : V → V → Bool) (always :
   back_leaf s None m = tt
   back_leaf s (Some leaf) m = made_there (number leaf) 7 0 m.1
 
-  may_back_one : (change : Single C) → MadeOne number i a h (key_bytes k) change → MayBackOne number h change
+  may_back_one : (change : Placement C) → MadeHere number i a h (key_bytes k) change → MayBackHere number h change
   may_back_one Set m = tt
   may_back_one (Link leaf) m = made_there (number leaf) 7 0 m
 
-  may_back_two : (p : Parent C) (change : Double C) (size q : ℕ) → MadeTwo number i a h (key_bytes k) p change size q → MayBackTwo number h change
+  may_back_two : (p : Parent C) (change : Replacement C) (size q : ℕ) → MadeAbove number i a h (key_bytes k) p change size q → MayBackAbove number h change
   may_back_two p Unlink size q m = tt
   may_back_two p Collapse size q m = tt
   may_back_two p (Shrink c) size q m = made_there (number c) size q m
@@ -70,11 +70,11 @@ module _ {C V : Type 0} (number : C → ℕ) (same : V → V → Bool) (always :
   at_byte : (n b : ℕ) (x : Hung V) → b ≡ slice_index (key_bytes k) (length (h n).prefix) → child_for (h n) (key_bytes k) ≡ x → (h n).children b ≡ x
   at_byte n b x e f = ap (h n).children e ∙ f
 
-  set_room : (n b : ℕ) (x : Hung V) (given : Option V) → (h n).children b ≡ x → (x ≡ Nothing → ((h n).count == (h n).capacity) ≡ false) → FitsOne {C = C} Set x given → MayChange (h n) b (value_hung given)
+  set_room : (n b : ℕ) (x : Hung V) (given : Option V) → (h n).children b ≡ x → (x ≡ Nothing → ((h n).count == (h n).capacity) ≡ false) → FitsHere {C = C} Set x given → MayChange (h n) b (value_hung given)
   set_room n b x None e r f = λ z. f.1 (sym e ∙ z)
   set_room n b x (Some v) e r f = λ z. r (sym e ∙ z)
 
-  one_wants : (one : One C) (change : Single C) (x : Hung V) (given : Option V) → one.change ≡ change → OneLocked number i a h (key_bytes k) one x → FitsOne change x given → MadeOne number i a h (key_bytes k) change → MayChangeOne number given one change h
+  one_wants : (one : NodeChange C) (change : Placement C) (x : Hung V) (given : Option V) → one.change ≡ change → HereLocked number i a h (key_bytes k) one x → FitsHere change x given → MadeHere number i a h (key_bytes k) change → MayChangeHere number given one change h
   one_wants one Set x given c o f m =
       let n : ℕ = number one.at.node in
       let e : (h (number one.at.node)).children one.byte ≡ x = at_byte (number one.at.node) one.byte x o.placed.byte o.wanted.child in
@@ -88,7 +88,7 @@ module _ {C V : Type 0} (number : C → ℕ) (same : V → V → Bool) (always :
         (λ e. made_apart i a h (key_bytes k) (number leaf) 7 0 (number one.at.node) m (ap is_published o.holding.linked) (sym e)),
       )
 
-  module _ (two : Two C) (found : Option V) (q : ℕ) (o : TwoLocked number i a h (key_bytes k) two found q) where
+  module _ (two : ParentChange C) (found : Option V) (q : ℕ) (o : BothLocked number i a h (key_bytes k) two found q) where
     hangs : (h (number two.above.stamp.node)).children two.above.byte ≡ Below (number two.at.node)
     hangs = at_byte (number two.above.stamp.node) two.above.byte (Below (number two.at.node)) o.above.byte o.above.child
 
@@ -132,7 +132,7 @@ module _ {C V : Type 0} (number : C → ℕ) (same : V → V → Bool) (always :
       absurd (omega (arith, ch.longer, t.short c ch.linked, s))
 
   -- the change of the node above both
-  collapse_wants : (two : Two C) (found : Option V) (q : ℕ) (o : TwoLocked number i a h (key_bytes k) two found q) → two.above.count ≡ 2 → (top : Option (Parent C)) → HasTop {C = C} Collapse top → TopLocked number i a h (key_bytes k) top (number two.above.stamp.node)
+  collapse_wants : (two : ParentChange C) (found : Option V) (q : ℕ) (o : BothLocked number i a h (key_bytes k) two found q) → two.above.count ≡ 2 → (top : Option (Parent C)) → HasTop {C = C} Collapse top → TopLocked number i a h (key_bytes k) top (number two.above.stamp.node)
       → MayTop number two Collapse top h
   collapse_wants two found q o e None z l = absurd z
   collapse_wants two found q o e (Some top) z l =
@@ -148,7 +148,7 @@ module _ {C V : Type 0} (number : C → ℕ) (same : V → V → Bool) (always :
         there = (λ n. let y : Below (number two.at.node) ≡ Nothing = sym (hangs two found q o) ∙ n in cc);
       }
 
-  lessen_wants : (two : Two C) (found : Option V) (q : ℕ) (o : TwoLocked number i a h (key_bytes k) two found q) (c : C) → Made i a h (key_bytes k) (number c) two.above.depth q × (two.above.count ≤ suc q) → (top : Option (Parent C)) → HasTop (ShrinkAbove c) top
+  lessen_wants : (two : ParentChange C) (found : Option V) (q : ℕ) (o : BothLocked number i a h (key_bytes k) two found q) (c : C) → Made i a h (key_bytes k) (number c) two.above.depth q × (two.above.count ≤ suc q) → (top : Option (Parent C)) → HasTop (ShrinkAbove c) top
       → TopLocked number i a h (key_bytes k) top (number two.above.stamp.node) → MayTop number two (ShrinkAbove c) top h
   lessen_wants two found q o c m None z l = absurd z
   lessen_wants two found q o c m (Some top) z l =
@@ -167,12 +167,12 @@ module _ {C V : Type 0} (number : C → ℕ) (same : V → V → Bool) (always :
         apart = (λ n. let y : length (h (number top.stamp.node)).prefix ≡ length (h (number two.above.stamp.node)).prefix = ap (λ y. length (h y).prefix) n in absurd (omega (arith, ch.longer)));
       }
 
-  two_wants : (two : Two C) (change : Double C) (found : Option V) (q : ℕ) (given : Option V) → two.change ≡ change → TwoLocked number i a h (key_bytes k) two found q → HasTop change two.top → FitsTwo change found given → MayChangeTwo number (key_bytes k) given two change h
+  two_wants : (two : ParentChange C) (change : Replacement C) (found : Option V) (q : ℕ) (given : Option V) → two.change ≡ change → BothLocked number i a h (key_bytes k) two found q → HasTop change two.top → FitsAbove change found given → MayChangeAbove number (key_bytes k) given two change h
   two_wants two Unlink found q given e o z f = take_above two found q o
   two_wants two (Shrink c) None q given e o z f = absurd f
   two_wants two (Shrink c) (Some v) q given e o z f =
-      let m : Made i a h (key_bytes k) (number c) (length (h (number two.at.node)).prefix) q = (let P : Double C → Type 0 = λ y. MadeTwo number i a h (key_bytes k) two.above y (length (h (number two.at.node)).prefix) q in subst P e o.made) in
-      let g : (child_for (h (number two.at.node)) (key_bytes k) ≡ Holds v) × ((h (number two.at.node)).count ≤ suc q) = (let P : Double C → Type 0 = λ y. WantedTwo {C = C} {V = V} (key_bytes k) y (Some v) q (h (number two.at.node)) in subst P e o.wanted) in
+      let m : Made i a h (key_bytes k) (number c) (length (h (number two.at.node)).prefix) q = (let P : Replacement C → Type 0 = λ y. MadeAbove number i a h (key_bytes k) two.above y (length (h (number two.at.node)).prefix) q in subst P e o.made) in
+      let g : (child_for (h (number two.at.node)) (key_bytes k) ≡ Holds v) × ((h (number two.at.node)).count ≤ suc q) = (let P : Replacement C → Type 0 = λ y. WantedAbove {C = C} {V = V} (key_bytes k) y (Some v) q (h (number two.at.node)) in subst P e o.wanted) in
       let l : length (h (number two.at.node)).prefix ≡ 7 = t.leaves (number two.at.node) _ v (is_child two (Some v) q o).linked g.0 in
       let b : (h (number two.at.node)).children (slice_index (key_bytes k) 7) ≡ Holds v = (let P : ℕ → Type 0 = λ y. (h (number two.at.node)).children (slice_index (key_bytes k) y) ≡ Holds v in subst P l g.0) in
       record {
@@ -186,13 +186,13 @@ module _ {C V : Type 0} (number : C → ℕ) (same : V → V → Bool) (always :
         old_apart = apart_at two (Some v) q o (number c) _ q m;
         apart = two_apart two (Some v) q o;
       }
-  two_wants two Collapse found q given e o z f = collapse_wants two found q o (let P : Double C → Type 0 = λ y. MadeTwo number i a h (key_bytes k) two.above y (length (h (number two.at.node)).prefix) q in subst P e o.made) two.top z o.top
-  two_wants two (ShrinkAbove c) found q given e o z f = lessen_wants two found q o c (let P : Double C → Type 0 = λ y. MadeTwo number i a h (key_bytes k) two.above y (length (h (number two.at.node)).prefix) q in subst P e o.made) two.top z o.top
+  two_wants two Collapse found q given e o z f = collapse_wants two found q o (let P : Replacement C → Type 0 = λ y. MadeAbove number i a h (key_bytes k) two.above y (length (h (number two.at.node)).prefix) q in subst P e o.made) two.top z o.top
+  two_wants two (ShrinkAbove c) found q given e o z f = lessen_wants two found q o c (let P : Replacement C → Type 0 = λ y. MadeAbove number i a h (key_bytes k) two.above y (length (h (number two.at.node)).prefix) q in subst P e o.made) two.top z o.top
   two_wants two (Grow c) None q None e o z f = f
   two_wants two (Grow c) (Some x) q given e o z f = absurd f
   two_wants two (Grow c) None q (Some v) e o z f =
-      let m : Made i a h (key_bytes k) (number c) (length (h (number two.at.node)).prefix) q = (let P : Double C → Type 0 = λ y. MadeTwo number i a h (key_bytes k) two.above y (length (h (number two.at.node)).prefix) q in subst P e o.made) in
-      let g : (child_for (h (number two.at.node)) (key_bytes k) ≡ Nothing) × ((h (number two.at.node)).count ≡ q) = (let P : Double C → Type 0 = λ y. WantedTwo {C = C} {V = V} (key_bytes k) y None q (h (number two.at.node)) in subst P e o.wanted) in (
+      let m : Made i a h (key_bytes k) (number c) (length (h (number two.at.node)).prefix) q = (let P : Replacement C → Type 0 = λ y. MadeAbove number i a h (key_bytes k) two.above y (length (h (number two.at.node)).prefix) q in subst P e o.made) in
+      let g : (child_for (h (number two.at.node)) (key_bytes k) ≡ Nothing) × ((h (number two.at.node)).count ≡ q) = (let P : Replacement C → Type 0 = λ y. WantedAbove {C = C} {V = V} (key_bytes k) y None q (h (number two.at.node)) in subst P e o.wanted) in (
         put_above two None q o (number c),
         there (number two.at.node) (at_published two None q o),
         counted two None q o (number c) _ g.1 m,
@@ -204,8 +204,8 @@ module _ {C V : Type 0} (number : C → ℕ) (same : V → V → Bool) (always :
   two_wants two (GrowLink c leaf byte) None q None e o z f = f
   two_wants two (GrowLink c leaf byte) (Some x) q given e o z f = absurd f
   two_wants two (GrowLink c leaf byte) None q (Some v) e o z f =
-      let m : MadeTwo number i a h (key_bytes k) two.above (GrowLink c leaf byte) (length (h (number two.at.node)).prefix) q = (let P : Double C → Type 0 = λ y. MadeTwo number i a h (key_bytes k) two.above y (length (h (number two.at.node)).prefix) q in subst P e o.made) in
-      let g : (child_for (h (number two.at.node)) (key_bytes k) ≡ Nothing) × ((h (number two.at.node)).count ≡ q) = (let P : Double C → Type 0 = λ y. WantedTwo {C = C} {V = V} (key_bytes k) y None q (h (number two.at.node)) in subst P e o.wanted) in (
+      let m : MadeAbove number i a h (key_bytes k) two.above (GrowLink c leaf byte) (length (h (number two.at.node)).prefix) q = (let P : Replacement C → Type 0 = λ y. MadeAbove number i a h (key_bytes k) two.above y (length (h (number two.at.node)).prefix) q in subst P e o.made) in
+      let g : (child_for (h (number two.at.node)) (key_bytes k) ≡ Nothing) × ((h (number two.at.node)).count ≡ q) = (let P : Replacement C → Type 0 = λ y. WantedAbove {C = C} {V = V} (key_bytes k) y None q (h (number two.at.node)) in subst P e o.wanted) in (
         put_above two None q o (number c),
         there (number two.at.node) (at_published two None q o),
         counted two None q o (number c) _ g.1 m.0,
@@ -221,8 +221,8 @@ module _ {C V : Type 0} (number : C → ℕ) (same : V → V → Bool) (always :
   two_wants two (Split top leaf common byte) None q None e o z f = f
   two_wants two (Split top leaf common byte) (Some x) q given e o z f = absurd f
   two_wants two (Split top leaf common byte) None q (Some v) e o z f =
-      let m : MadeTwo number i a h (key_bytes k) two.above (Split top leaf common byte) (length (h (number two.at.node)).prefix) q = (let P : Double C → Type 0 = λ y. MadeTwo number i a h (key_bytes k) two.above y (length (h (number two.at.node)).prefix) q in subst P e o.made) in
-      let g : Parts (h (number two.at.node)).prefix (key_bytes k) common × (byte ≡ slice_index (h (number two.at.node)).prefix common) = (let P : Double C → Type 0 = λ y. PlacedTwo (key_bytes k) y (h (number two.at.node)).prefix in subst P e o.placed) in (
+      let m : MadeAbove number i a h (key_bytes k) two.above (Split top leaf common byte) (length (h (number two.at.node)).prefix) q = (let P : Replacement C → Type 0 = λ y. MadeAbove number i a h (key_bytes k) two.above y (length (h (number two.at.node)).prefix) q in subst P e o.made) in
+      let g : Parts (h (number two.at.node)).prefix (key_bytes k) common × (byte ≡ slice_index (h (number two.at.node)).prefix common) = (let P : Replacement C → Type 0 = λ y. PlacedAbove (key_bytes k) y (h (number two.at.node)).prefix in subst P e o.placed) in (
         put_above two None q o (number top),
         blank (number top) common 1 m.0,
         blank (number leaf) 7 0 m.1,
@@ -249,12 +249,12 @@ module _ {C V : Type 0} (number : C → ℕ) (same : V → V → Bool) (always :
   wants root z kind given (MakeLesser s p g r) m = (m.1.1.short, m.4.short)
   wants root z kind given (Confirm at r) m = there (number at.node) m.1.1.fresh.stamped.published
   wants root z kind given (CheckAbove p one r) m = (there (number p.node) m.1.published, may_back_one one.change m.2.made)
-  wants root z kind given (UpgradeOne one r) m = (there (number one.at.node) m.1.1.fresh.stamped.published, may_back_one one.change m.1.1.made)
-  wants root z kind given (ChangeOne one r) m = one_wants one one.change m.0 given refl m.1 m.2 m.1.made
+  wants root z kind given (UpgradeHere one r) m = (there (number one.at.node) m.1.1.fresh.stamped.published, may_back_one one.change m.1.1.made)
+  wants root z kind given (ChangeHere one r) m = one_wants one one.change m.0 given refl m.1 m.2 m.1.made
   wants root z kind given (UpgradeTop g two r) m = (there (number g.stamp.node) m.2.fresh.stamped.published, may_back_two two.above two.change _ _ m.1.2.made)
   wants root z kind given (UpgradeAbove two r) m = (there (number two.above.stamp.node) m.1.2.above.fresh.stamped.published, may_back_two two.above two.change _ _ m.1.2.made)
   wants root z kind given (UpgradeBelow two r) m = (there (number two.at.node) m.1.2.fresh.stamped.published, may_back_two two.above two.change _ _ m.1.2.made)
-  wants root z kind given (ChangeTwo two r) m = two_wants two two.change m.0 m.1 given refl m.2 m.3 m.4
+  wants root z kind given (ChangeAbove two r) m = two_wants two two.change m.0 m.1 given refl m.2 m.3 m.4
   wants root z kind given (Obsolete n next p r) m = (there (number n) (ap is_published m.0.gone), owner_locked a h w (number n) i m.0.owner)
   wants root z kind given (Retire n next p r) m = (there (number n) (ap is_published m.0.gone), m.2, m.0.unretired)
   wants root z kind given (UnlockBelow n p r) m = held_there (number n) m.0

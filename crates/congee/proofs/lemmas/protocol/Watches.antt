@@ -13,7 +13,7 @@ use Rattle.congee.specs.declared.protocol.store.Refusal.{Refusal}
 use Rattle.congee.specs.declared.protocol.phase.Kind.{Kind}
 use Rattle.congee.specs.declared.protocol.phase.Kind.TheVariants.{Get, Insert, Remove, ComputePresent, ComputeInsert, Exchange}
 use Rattle.congee.specs.declared.protocol.phase.Phase.{Phase}
-use Rattle.congee.specs.declared.protocol.phase.Phase.TheVariants.{New, Version, Read, Check, CheckUncopied, CheckMiss, CheckDown, CheckOld, MakeLeaf, MakeGreater, MakeTop, MakeBeside, MakeLesser, AskOld, AskNew, Confirm, CheckAbove, UpgradeOne, ChangeOne, UpgradeTop, UpgradeAbove, UpgradeBelow, ChangeTwo, Obsolete, Retire, UnlockBelow, Unlock, Unwind, Scan, Ended}
+use Rattle.congee.specs.declared.protocol.phase.Phase.TheVariants.{New, Version, Read, Check, CheckUncopied, CheckMiss, CheckDown, CheckOld, MakeLeaf, MakeGreater, MakeTop, MakeBeside, MakeLesser, AskOld, AskNew, Confirm, CheckAbove, UpgradeHere, ChangeHere, UpgradeTop, UpgradeAbove, UpgradeBelow, ChangeAbove, Obsolete, Retire, UnlockBelow, Unlock, Unwind, Scan, Ended}
 use Rattle.congee.specs.declared.protocol.next_phase.NextPhase.{NextPhase}
 use Rattle.congee.specs.Heap.{Node, is_taken, version_of}
 use Rattle.congee.specs.protocol.Steps.{after_retire, quiet, answered, finished, decided, PhaseStepped}
@@ -196,14 +196,14 @@ module _ {C V : Type 0} (number : C → ℕ) (same : V → V → Bool) (always :
   watched (AskNew plan) pf c g n = by_answer None n (given_new_shape_at k kind plan told v v' t c.1 g.1)
   watched (Confirm stamp r) pf c g n = by_work r n (if_taken number k kind v v' g.1 (heeding r) _ root _ t g.2 (λ y. shape_at number k kind v v' g.1 (heeding r) _ t y (answers number k kind v v' g.1 (heeding r) r (ripe_at_work r))))
   watched (CheckAbove q one r) pf c g n = by_work r n (on_test (is_taken (h (number q.node)) q.version)
-      (λ y. shape_at number k kind v v' g.0 (heeding r) _ t (g.1.goes_on y).1 (goes_to_work number k kind v v' g.0 (heeding r) r (UpgradeOne one r) (ripe_at_work r) refl))
+      (λ y. shape_at number k kind v v' g.0 (heeding r) _ t (g.1.goes_on y).1 (goes_to_work number k kind v v' g.0 (heeding r) r (UpgradeHere one r) (ripe_at_work r) refl))
       (λ y. shape_at number k kind v v' g.0 (heeding r) _ t (g.1.goes_back y).1 (again_shape number k kind v v' g.0 (heeding r) root)))
-  watched (UpgradeOne one r) pf c g n = by_work r n (one_upgraded number k kind v v' g.0 (heeding r) root one r h g.1.0 h' t (ripe_at_work r) g.1.2)
-  watched (ChangeOne one r) pf c g n = by_work r n (Takes (Unlock one.at.node r) r g.2 refl refl refl (ripe_at_work r))
+  watched (UpgradeHere one r) pf c g n = by_work r n (one_upgraded number k kind v v' g.0 (heeding r) root one r h g.1.0 h' t (ripe_at_work r) g.1.2)
+  watched (ChangeHere one r) pf c g n = by_work r n (Takes (Unlock one.at.node r) r g.2 refl refl refl (ripe_at_work r))
   watched (UpgradeTop top two r) pf c g n = by_work r n (top_upgraded number k kind v v' g.0 (heeding r) root top two r h g.1.0 h' t (ripe_at_work r) g.1.2)
   watched (UpgradeAbove two r) pf c g n = by_work r n (above_upgraded number k kind v v' g.0 (heeding r) root two r h g.1.0 h' t (ripe_at_work r) g.1.2)
   watched (UpgradeBelow two r) pf c g n = by_work r n (both_upgraded number k kind v v' g.0 (heeding r) two r h g.1.0 h' t (ripe_at_work r) g.1.2)
-  watched (ChangeTwo two r) pf c g n = by_work r n (change_shape k kind v v' two r two.change t g.2)
+  watched (ChangeAbove two r) pf c g n = by_work r n (change_shape k kind v v' two r two.change t g.2)
   watched (Obsolete x next q r) pf c g n = settled same k kind v v v' h h' m p st r (Retire x next q r) t g.2 refl n
   watched (Retire x next q r) pf c g n = hands_on r next q n g.2
   watched (UnlockBelow x q r) pf c g n = settled same k kind v v v' h h' m p st r (Unlock q r) t g.2 refl n

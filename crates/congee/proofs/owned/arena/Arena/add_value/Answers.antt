@@ -39,14 +39,14 @@ add_beside-requires-clause-covered g c =
 pub returns-then-is_inline-clause-adds : goal.returns-then-is_inline-clause-adds
 returns-then-is_inline-clause-adds g c =
     let u = unfolded c.args.self.now.nodes c.unfold-leaf.new.self c.args.key.now c.args.above c.args.at c.byte_at-up.result c.unfold-leaf.result c.requires.tree (inline_hangs c.args.self.now.nodes c.args.key.now c.args.above c.args.at c.requires.way (inline_of c.is_inline.result c.args.at c.is_inline.ensures (search rules))).way (inline_hangs c.args.self.now.nodes c.args.key.now c.args.above c.args.at c.requires.way (inline_of c.is_inline.result c.args.at c.is_inline.ensures (search rules))).child c.byte_at-up.ensures c.unfold-leaf.ensures.renames in
-    rw (← u.heap) (adds_in c.add_beside.result (λ a. adds_renamed g.A.Allocator.charged_of g.A.Allocator.limit_of c.args.self.now (record { nodes = c.unfold-leaf.new.self; allocator = c.args.self.now.allocator }) c.add_beside.new.self c.args.key.now u.renamed refl None c.args.value _ a) c.add_beside.ensures.adds)
+    rw (← u.heap) (adds_in c.add_beside.result (λ a. adds_renamed g.A.Allocator.charged_of g.A.Allocator.limit_of c.args.self.now (record { nodes = c.unfold-leaf.new.self; allocator = c.args.self.now.allocator; pairs = c.args.self.now.pairs }) c.add_beside.new.self c.args.key.now u.renamed refl None c.args.value _ a) c.add_beside.ensures.adds)
 
 pub returns-then-is_inline-clause-refused : goal.returns-then-is_inline-clause-refused
 returns-then-is_inline-clause-refused g c =
     let u = unfolded c.args.self.now.nodes c.unfold-leaf.new.self c.args.key.now c.args.above c.args.at c.byte_at-up.result c.unfold-leaf.result c.requires.tree (inline_hangs c.args.self.now.nodes c.args.key.now c.args.above c.args.at c.requires.way (inline_of c.is_inline.result c.args.at c.is_inline.ensures (search rules))).way (inline_hangs c.args.self.now.nodes c.args.key.now c.args.above c.args.at c.requires.way (inline_of c.is_inline.result c.args.at c.is_inline.ensures (search rules))).child c.byte_at-up.ensures c.unfold-leaf.ensures.renames in
     let n = node_at c.unfold-leaf.new.self c.unfold-leaf.result u.stands in
     let room : room_for (heap_of c.unfold-leaf.new.self c.unfold-leaf.result) ≡ [] = one_room c.unfold-leaf.new.self c.unfold-leaf.result n.0 n.1 (c.unfold-leaf.ensures.lone n.0 n.1) in
-    never_in _ _ c.add_beside.result (λ e d. never_denied g.A.Allocator.charged_of g.A.Allocator.limit_of (record { nodes = c.unfold-leaf.new.self; allocator = c.args.self.now.allocator }) c.add_beside.new.self c.args.key.now c.args.value _ e room d) c.add_beside.ensures.refused
+    never_in _ _ c.add_beside.result (λ e d. never_denied g.A.Allocator.charged_of g.A.Allocator.limit_of (record { nodes = c.unfold-leaf.new.self; allocator = c.args.self.now.allocator; pairs = c.args.self.now.pairs }) c.add_beside.new.self c.args.key.now c.args.value _ e room d) c.add_beside.ensures.refused
 
 pub add_beside-requires-2-clause-own : goal.add_beside-requires-2-clause-own
 add_beside-requires-2-clause-own g c = own_of c.is_inline.result c.args.at c.is_inline.ensures (search rules)

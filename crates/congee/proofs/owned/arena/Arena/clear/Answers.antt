@@ -1,5 +1,7 @@
 use Rattle.std.proofs.Common.{[], length, sym, ap, ◌∙◌, arith}
 use Rattle.congee.proofs.lemmas.owned.Clears.{RootLeft, all_left, root_within}
+use Rattle.congee.proofs.lemmas.owned.Keying.{keyed_none}
+use Rattle.congee.proofs.lemmas.owned.Counted.{none_counted}
 use Rattle.congee.proofs.lemmas.owned.Standing.{Standing, standing_at}
 use Rattle.congee.proofs.lemmas.owned.Ways.{prefix_is, root_reached}
 use Rattle.congee.proofs.owned.arena.Arena.clear.Given.{Over}
@@ -61,3 +63,9 @@ returns-clause-balance g c =
 
 pub returns-clause-branch : goal.returns-clause-branch
 returns-clause-branch g c = (left g (goal.at.returns-clause-branch g c).After-clear).branch
+
+pub returns-clause-keyed : goal.returns-clause-keyed
+returns-clause-keyed g c = keyed_none c.clear.new.self (left g (goal.at.returns-clause-keyed g c).After-clear).empty
+
+pub returns-clause-counted : goal.returns-clause-counted
+returns-clause-counted g c = none_counted c.clear.new.self (left g (goal.at.returns-clause-counted g c).After-clear).empty

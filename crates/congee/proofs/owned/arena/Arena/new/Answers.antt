@@ -1,6 +1,8 @@
 use Rattle.std.proofs.Common.{ap, ◌∙◌}
 use Rattle.congee.proofs.lemmas.forms.MappedLemmas.{mapped_empty}
 use Rattle.congee.proofs.lemmas.owned.Clears.{RootLeft, root_left}
+use Rattle.congee.proofs.lemmas.owned.Keying.{keyed_none}
+use Rattle.congee.proofs.lemmas.owned.Counted.{none_counted}
 use Rattle.congee.proofs.lemmas.owned.Slots.{with_form, with_mapped, with_prefix}
 use Rattle.congee.specs.forms.Mapped.{mapped}
 use Rattle.congee.specs.owned.Slots.{inner_child, with_children}
@@ -40,3 +42,9 @@ returns-in-Ok-new-clause-filled g c = (left g (goal.at.returns-in-Ok-new-clause-
 
 pub returns-in-Ok-new-clause-branch : goal.returns-in-Ok-new-clause-branch
 returns-in-Ok-new-clause-branch g c = (left g (goal.at.returns-in-Ok-new-clause-branch g c).In-Ok-new).branch
+
+pub returns-in-Ok-new-clause-keyed : goal.returns-in-Ok-new-clause-keyed
+returns-in-Ok-new-clause-keyed g c = keyed_none c.in-Ok-new.nodes (left g (goal.at.returns-in-Ok-new-clause-keyed g c).In-Ok-new).empty
+
+pub returns-in-Ok-new-clause-counted : goal.returns-in-Ok-new-clause-counted
+returns-in-Ok-new-clause-counted g c = none_counted c.in-Ok-new.nodes (left g (goal.at.returns-in-Ok-new-clause-counted g c).In-Ok-new).empty

@@ -1,12 +1,22 @@
-use Rattle.congee.proofs.lemmas.owned.Answered.{located_free, located_apart}
-use Rattle.congee.proofs.lemmas.owned.Freeing.{none_frees}
-use Rattle.congee.proofs.lemmas.owned.Goings.{located_goes_free, located_goes_apart}
+use Rattle.std.proofs.Common.{rules, ◌≡◌, ◌+◌, ◌<◌, ◌^◌, arith}
+use Rattle.std.specs.Prelude.{None}
+use Rattle.std.specs.FinMap as map
+use Rattle.congee.specs.owned.Counted.{one_if}
+use Rattle.congee.specs.owned.Table.{pairs_of}
+use Rattle.congee.proofs.lemmas.owned.Counted.{len_changes, frees_with}
 use Rattle.congee.proofs.owned.arena.Arena.remove.Goals as goal
 
-pub returns-in-Free : goal.returns-in-Free
-returns-in-Free g c =
-    rw (located_goes_free c.args.self.now.nodes c.args.key.now c.locate-place.result c.requires.tree c.locate-place.ensures c.in-Free.is) (none_frees g.A.Allocator.charged_of g.A.Allocator.limit_of c.args.self.now c.args.key.now c.requires.tree (located_free c.args.self.now.nodes c.args.key.now c.locate-place.result c.requires.tree c.locate-place.ensures c.in-Free.is))
+pub counted_out-self-requires : goal.counted_out-self-requires
+counted_out-self-requires g c =
+    let small : c.key_of_bytes-number.result < 2 ^ 64 = search rules in
+    let changes : map.len (pairs_of c.pull-before.new.self.nodes) + one_if c.pull-before.result ≡ map.len (pairs_of c.args.self.now.nodes) + 0 = len_changes c.args.self.now.nodes c.pull-before.new.self.nodes c.key_of_bytes-number.result c.args.key.now small c.key_of_bytes-number.ensures c.pull-before.result None c.pull-before.ensures.edits.change in
+    omega (arith, changes, c.requires.counted)
 
-pub returns-in-Apart : goal.returns-in-Apart
-returns-in-Apart g c =
-    rw (located_goes_apart c.args.self.now.nodes c.args.key.now c.locate-place.result c.in-Apart.field-0 c.requires.tree c.locate-place.ensures c.in-Apart.is) (none_frees g.A.Allocator.charged_of g.A.Allocator.limit_of c.args.self.now c.args.key.now c.requires.tree (located_apart c.args.self.now.nodes c.args.key.now c.locate-place.result c.in-Apart.field-0 c.requires.tree c.locate-place.ensures c.in-Apart.is))
+pub returns-clause-frees : goal.returns-clause-frees
+returns-clause-frees g c = frees_with g.A.Allocator.charged_of g.A.Allocator.limit_of c.args.self.now c.pull-before.new.self c.counted_out-self.result c.args.key.now c.pull-before.result None _ c.pull-before.ensures
+
+pub returns-clause-counted : goal.returns-clause-counted
+returns-clause-counted g c =
+    let small : c.key_of_bytes-number.result < 2 ^ 64 = search rules in
+    let changes : map.len (pairs_of c.pull-before.new.self.nodes) + one_if c.pull-before.result ≡ map.len (pairs_of c.args.self.now.nodes) + 0 = len_changes c.args.self.now.nodes c.pull-before.new.self.nodes c.key_of_bytes-number.result c.args.key.now small c.key_of_bytes-number.ensures c.pull-before.result None c.pull-before.ensures.edits.change in
+    omega (arith, changes, c.counted_out-self.ensures, c.requires.counted)

@@ -1,20 +1,18 @@
+use Rattle.std.proofs.Common.{rules, ◌≡◌, ◌+◌, ◌<◌, ◌^◌, arith}
 use Rattle.std.specs.Prelude.{Some}
-use Rattle.congee.specs.owned.Arena.{heap_of}
-use Rattle.congee.specs.owned.Going.{goes_at}
-use Rattle.congee.proofs.lemmas.owned.Answered.{located_free, located_apart}
-use Rattle.congee.proofs.lemmas.owned.Freeing.{swap_frees, none_frees}
-use Rattle.congee.proofs.lemmas.owned.Goings.{going_absent, located_goes_free, located_goes_apart}
+use Rattle.std.specs.FinMap as map
+use Rattle.congee.specs.owned.Counted.{one_if}
+use Rattle.congee.specs.owned.OwnedSteps.{settled}
+use Rattle.congee.specs.owned.Table.{pairs_of}
+use Rattle.congee.proofs.lemmas.owned.Counted.{len_changes, frees_with, settled_one}
 use Rattle.congee.proofs.owned.arena.Arena.settle.Goals as goal
 
-pub returns-in-Held : goal.returns-in-Held
-returns-in-Held g c = rw c.in-Some.is (swap_frees g.A.Allocator.charged_of g.A.Allocator.limit_of c.args.self.now c.replace.new.self c.args.key.now (Some c.replace.result) (Some c.in-Some.value) c.replace.ensures)
+pub returns-clause-frees : goal.returns-clause-frees
+returns-clause-frees g c = rw c.in-Some.is (frees_with g.A.Allocator.charged_of g.A.Allocator.limit_of c.args.self.now c.change-before.new.self c.args.self.now.pairs c.args.key.now c.change-before.result _ _ c.change-before.ensures)
 
-pub returns-in-Free : goal.returns-in-Free
-returns-in-Free g c =
-    rw (going_absent c.args.new (goes_at (heap_of c.args.self.now.nodes) c.args.key.now) (located_goes_free c.args.self.now.nodes c.args.key.now c.locate-place.result c.requires.tree c.locate-place.ensures c.in-Free.is))
-    (none_frees g.A.Allocator.charged_of g.A.Allocator.limit_of c.args.self.now c.args.key.now c.requires.tree (located_free c.args.self.now.nodes c.args.key.now c.locate-place.result c.requires.tree c.locate-place.ensures c.in-Free.is))
-
-pub returns-in-Apart : goal.returns-in-Apart
-returns-in-Apart g c =
-    rw (going_absent c.args.new (goes_at (heap_of c.args.self.now.nodes) c.args.key.now) (located_goes_apart c.args.self.now.nodes c.args.key.now c.locate-place.result c.in-Apart.field-0 c.requires.tree c.locate-place.ensures c.in-Apart.is))
-    (none_frees g.A.Allocator.charged_of g.A.Allocator.limit_of c.args.self.now c.args.key.now c.requires.tree (located_apart c.args.self.now.nodes c.args.key.now c.locate-place.result c.in-Apart.field-0 c.requires.tree c.locate-place.ensures c.in-Apart.is))
+pub returns-clause-counted : goal.returns-clause-counted
+returns-clause-counted g c =
+    let small : c.key_of_bytes-number.result < 2 ^ 64 = search rules in
+    let same = settled_one c.change-before.result c.in-Some.value in
+    let changes : map.len (pairs_of c.change-before.new.self.nodes) + one_if c.change-before.result ≡ map.len (pairs_of c.args.self.now.nodes) + one_if (settled c.change-before.result (Some c.in-Some.value)) = len_changes c.args.self.now.nodes c.change-before.new.self.nodes c.key_of_bytes-number.result c.args.key.now small c.key_of_bytes-number.ensures c.change-before.result (settled c.change-before.result (Some c.in-Some.value)) c.change-before.ensures.edits.change in
+    omega (arith, changes, same, c.requires.counted)

@@ -12,4 +12,4 @@ returns-clause-counted g c =
     all_counted s c.count_from.new.stats (map.len (pairs_of s)) c.count_pairs.result (rw c.root.ensures at (c.in_ok-count_from.ensures.counted [] none)) c.count_pairs.ensures
 
 pub returns-clause-charged : goal.returns-clause-charged
-returns-clause-charged g c = nodes_weigh c.args.self.now.nodes c.requires (rw c.root.ensures at c.in_ok-count_from.ensures.bytes)
+returns-clause-charged g c = nodes_weigh c.args.self.now.nodes c.requires.tree (rw c.root.ensures at c.in_ok-count_from.ensures.bytes)

@@ -1,15 +1,18 @@
 use Rattle.std.proofs.Common.{false, ap, sym, arith}
 use Rattle.congee.proofs.lemmas.owned.Contents.{inserts, refuses, denied_tree, denied_bytes, denied_branch}
+use Rattle.congee.proofs.lemmas.owned.Keying.{denied_keyed, keyed_change}
 use Rattle.congee.proofs.owned.congee.Congee.insert_number.Goals as goal
 use Rattle.congee.proofs.owned.congee.Congee.insert_number.Goals.{in-Ok, in-Err}
 
 pub invariant_of-self : goal.invariant_of-self
 invariant_of-self g c = elim c.match-insert.branch [
-  | in-Ok w ↦ (let adds = w.in-Ok.ensures.adds in (adds.edits.tree, omega (arith, adds.edits.balance, c.self.invariant.1), adds.filled false c.self.invariant.2))
+  | in-Ok w ↦ (let adds = w.in-Ok.ensures.adds in (adds.edits.tree, omega (arith, adds.edits.balance, c.self.invariant.1), adds.filled false c.self.invariant.2, keyed_change _ _ _ c.bytes_of_key-bytes.ensures.small _ c.bytes_of_key-bytes.ensures.bytes _ _ adds.edits.change c.self.invariant.3, c.insert.ensures.counted))
   | in-Err w ↦ (
     denied_tree _ _ _ _ _ _ _ _ c.self.invariant.0 w.in-Err.ensures.refused,
     omega (arith, denied_bytes _ _ _ _ _ _ _ _ w.in-Err.ensures.refused, w.in-Err.ensures.refused.balance, c.self.invariant.1),
     denied_branch _ _ _ _ _ _ _ _ w.in-Err.ensures.refused c.self.invariant.2,
+    denied_keyed _ _ _ _ _ _ _ _ w.in-Err.ensures.refused c.self.invariant.3,
+    c.insert.ensures.counted,
   )
 ]
 

@@ -1,6 +1,7 @@
 use Rattle.std.proofs.Common.{ap, sym, false, ◌∙◌, arith}
 use Rattle.std.specs.Option.{option_map}
 use Rattle.congee.proofs.lemmas.owned.Contents.{computes, refuses, denied_tree, denied_bytes, denied_branch}
+use Rattle.congee.proofs.lemmas.owned.Keying.{denied_keyed, keyed_change}
 use Rattle.congee.proofs.owned.congee.Congee.update_or_insert.Goals as goal
 
 pub returns-in-Ok-clause-inserts : goal.returns-in-Ok-clause-inserts
@@ -12,13 +13,15 @@ returns-in-Ok-clause-inserts g c =
 pub invariant_of-self : goal.invariant_of-self
 invariant_of-self g c =
     let adds = c.in-Ok.ensures.adds in
-    (adds.edits.tree, omega (arith, adds.edits.balance, c.self.invariant.1), adds.filled false c.self.invariant.2)
+    (adds.edits.tree, omega (arith, adds.edits.balance, c.self.invariant.1), adds.filled false c.self.invariant.2, keyed_change _ _ _ c.bytes_of_key-bytes.ensures.small _ c.bytes_of_key-bytes.ensures.bytes _ _ adds.edits.change c.self.invariant.3, c.insert.ensures.counted)
 
 pub invariant_of-self-2 : goal.invariant_of-self-2
 invariant_of-self-2 g c = (
   denied_tree _ _ _ _ _ _ _ _ c.self.invariant.0 c.in-Err.ensures.refused,
   omega (arith, denied_bytes _ _ _ _ _ _ _ _ c.in-Err.ensures.refused, c.in-Err.ensures.refused.balance, c.self.invariant.1),
   denied_branch _ _ _ _ _ _ _ _ c.in-Err.ensures.refused c.self.invariant.2,
+  denied_keyed _ _ _ _ _ _ _ _ c.in-Err.ensures.refused c.self.invariant.3,
+  c.insert.ensures.counted,
 )
 
 pub returns-clause-refused : goal.returns-clause-refused

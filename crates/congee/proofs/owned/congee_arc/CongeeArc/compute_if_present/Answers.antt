@@ -15,6 +15,7 @@ use Rattle.congee.proofs.lemmas.owned.Contents.{filled_still, present_told, free
 use Rattle.congee.proofs.lemmas.owned.OwnerLemmas.{if_some, is_some_of_some, on_error, some_injective}
 use Rattle.congee.proofs.lemmas.owned.Tables.{answer_pairs}
 use Rattle.congee.proofs.lemmas.owned.Goings.{going_map}
+use Rattle.congee.proofs.lemmas.owned.Keying.{keyed_change}
 use Rattle.congee.proofs.owned.congee_arc.CongeeArc.compute_if_present.Goals as goal
 
 pub returns-in_err-given-in-Some-clause-refused : goal.returns-in_err-given-in-Some-clause-refused
@@ -34,14 +35,14 @@ pub returns-clause-present : goal.returns-clause-present
 returns-clause-present g c =
     let old = c.in-Some.payload.now in
     let new = c.payload_of-new.result in
-    let answers = present_told never_same _ _ c.self.inside.arena c.settle.new.self (g.K.Word64.word c.args.key) c.bytes_of_key-bytes.ensures.small c.bytes_of_key-bytes.result c.bytes_of_key-bytes.ensures.bytes c.settle.result old new _ c.in-Some.ensures c.settle.ensures in
+    let answers = present_told never_same _ _ c.self.inside.arena c.settle.new.self (g.K.Word64.word c.args.key) c.bytes_of_key-bytes.ensures.small c.bytes_of_key-bytes.result c.bytes_of_key-bytes.ensures.bytes c.settle.result old new _ c.in-Some.ensures c.settle.ensures.frees in
     let Q : ℕ → Type 0 = λ n. Went n (2 ^ 64 - 1) (bytes_of c.self.inside.arena.nodes) (bytes_of c.settle.new.self.nodes) (going_by new (map.get (goes_of c.self.inside.arena.nodes) (g.K.Word64.word c.args.key))) in
-    let bytes = subst Q (sym c.self.invariant.1) (frees_going never_same _ _ c.self.inside.arena c.settle.new.self (g.K.Word64.word c.args.key) c.bytes_of_key-bytes.ensures.small c.bytes_of_key-bytes.result c.bytes_of_key-bytes.ensures.bytes new c.settle.result _ c.settle.ensures) in
-    let no_more = frees_none never_same _ _ c.self.inside.arena c.settle.new.self (g.K.Word64.word c.args.key) c.bytes_of_key-bytes.ensures.small c.bytes_of_key-bytes.result c.bytes_of_key-bytes.ensures.bytes new c.settle.result _ c.settle.ensures in
-    let filled = filled_still never_same _ _ c.self.inside.arena c.settle.new.self (g.K.Word64.word c.args.key) c.bytes_of_key-bytes.ensures.small c.bytes_of_key-bytes.result c.bytes_of_key-bytes.ensures.bytes new c.settle.result _ c.settle.ensures in
+    let bytes = subst Q (sym c.self.invariant.1) (frees_going never_same _ _ c.self.inside.arena c.settle.new.self (g.K.Word64.word c.args.key) c.bytes_of_key-bytes.ensures.small c.bytes_of_key-bytes.result c.bytes_of_key-bytes.ensures.bytes new c.settle.result _ c.settle.ensures.frees) in
+    let no_more = frees_none never_same _ _ c.self.inside.arena c.settle.new.self (g.K.Word64.word c.args.key) c.bytes_of_key-bytes.ensures.small c.bytes_of_key-bytes.result c.bytes_of_key-bytes.ensures.bytes new c.settle.result _ c.settle.ensures.frees in
+    let filled = filled_still never_same _ _ c.self.inside.arena c.settle.new.self (g.K.Word64.word c.args.key) c.bytes_of_key-bytes.ensures.small c.bytes_of_key-bytes.result c.bytes_of_key-bytes.ensures.bytes new c.settle.result _ c.settle.ensures.frees in
     if_some c.owner_of.result _ (λ x is.
     let r : c.settle.result ≡ Some (arc_value x) = sym c.owner_of.ensures ∙ ap (option_map arc_value) is in
-    let same : old ≡ arc_value x = some_injective old (arc_value x) (c.in-Some.ensures ∙ c.settle.ensures.edits.change.was ∙ r) in (
+    let same : old ≡ arc_value x = some_injective old (arc_value x) (c.in-Some.ensures ∙ c.settle.ensures.frees.edits.change.was ∙ r) in (
       c.in_ok-given-in-Some.given,
       c.f.result,
       c.in_ok-given-in-Some.ensures ∙ same,
@@ -50,4 +51,4 @@ returns-clause-present g c =
     ))
 
 pub invariant_of-self : goal.invariant_of-self
-invariant_of-self g c = (c.settle.ensures.edits.tree, omega (arith, c.settle.ensures.edits.balance, c.self.invariant.1), c.settle.ensures.filled false c.self.invariant.2 (λ e. absurd (cc e)))
+invariant_of-self g c = (c.settle.ensures.frees.edits.tree, omega (arith, c.settle.ensures.frees.edits.balance, c.self.invariant.1), c.settle.ensures.frees.filled false c.self.invariant.2 (λ e. absurd (cc e)), keyed_change _ _ _ c.bytes_of_key-bytes.ensures.small _ c.bytes_of_key-bytes.ensures.bytes _ _ c.settle.ensures.frees.edits.change c.self.invariant.3, c.settle.ensures.counted)

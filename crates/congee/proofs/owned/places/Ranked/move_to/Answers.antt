@@ -9,7 +9,7 @@ move_children-requires g c =
     let long = len_is c.self.invariant in
     let room : length c.self.inside.bytes ≤ g.row.M = omega (arith, long, ap map.len c.self.view_is, c.requires.room) in
     let same : length c.self.inside.bytes ≡ length c.deref_mut.result.now.list.items = c.self.invariant.same ∙ ap (λ e. length e.list.items) (sym c.deref_mut.ensures.value) in
-    (search rules, (omega (arith, g.met.P.Boxed-1.fits_list), (search rules, (omega (arith, g.met.P.Boxed-2.fits_list), (same, (none.0, (ap (λ e. e.list.items) c.deref_mut-2.ensures.value ∙ none.1, room)))))))
+    (search rules, (omega (arith, g.met.P.Listable-1.fits_list), (search rules, (omega (arith, g.met.P.Listable-2.fits_list), (same, (none.0, (ap (λ e. e.list.items) c.deref_mut-2.ensures.value ∙ none.1, room)))))))
 
 pub invariant_of-self : goal.invariant_of-self
 invariant_of-self g c =

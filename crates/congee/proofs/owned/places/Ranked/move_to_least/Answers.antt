@@ -8,7 +8,7 @@ pub move_in-requires : goal.move_in-requires
 move_in-requires g c =
     let long = len_is c.self.invariant in
     let room : length c.self.inside.bytes ≤ 4 = omega (arith, long, ap map.len c.self.view_is, c.requires.room) in
-    (search rules, (search rules, (omega (arith, g.met.P.Boxed.fits_list), (subst (λ e. IsSorted c.self.inside.bytes e.list.items) (sym c.deref_mut.ensures.value) c.self.invariant, (c.requires.empty, room)))))
+    (search rules, (search rules, (omega (arith, g.met.P.Listable.fits_list), (subst (λ e. IsSorted c.self.inside.bytes e.list.items) (sym c.deref_mut.ensures.value) c.self.invariant, (c.requires.empty, room)))))
 
 pub invariant_of-self : goal.invariant_of-self
 invariant_of-self g c =

@@ -3,7 +3,7 @@ use Rattle.congee.specs.owned.Iterating.{IsFirstIn}
 use Rattle.congee.specs.owned.Table.{pairs_of}
 use Rattle.congee.proofs.lemmas.owned.RangeEnds.{range_beyond, range_empty}
 use Rattle.congee.proofs.lemmas.owned.Tables.{pairs_stand}
-use Rattle.congee.proofs.owned.iter.Arena+u64+A.bounded_run.Goals as goal
+use Rattle.congee.proofs.owned.arena.Arena.bounded_run.Goals as goal
 
 pub returns-in_default : goal.returns-in_default
 returns-in_default g c =
