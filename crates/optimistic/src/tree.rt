@@ -3,6 +3,7 @@
 //! Each node says in its second word which keys it covers. So the way down to a node is only a guess: a reader that finds
 //! at one version of a node that it covers the key, and that its child there doesn't, has its answer.
 
+pub(crate) mod ahead;
 mod back;
 mod branch;
 mod child;

@@ -19,6 +19,10 @@ abbrev pub PutAll : List Pair → Known → Known → Type 0
 PutAll [] v w = Saw v w
 PutAll (p ∷ ps) v w = (u : Known) × (old : Option ℕ) × Wrote p.key (Some p.value) old v u × PutAll ps u w
 
+-- it is the same worker at the same index, and has seen no less
+abbrev pub IsSameWorker : Known → Known → Type 0
+IsSameWorker v w = (w.index ≡ v.index) × (w.by ≡ v.by) × StartsWith w.seen v.seen
+
 -- all pairs were put, or those before a place: the one there was refused, and nothing was done of it, for this cause
 abbrev pub AreInserted : List Pair → Known → Known → Result (Unit {0}) Uninserted → Type 0
 AreInserted pairs v w (Ok done) = PutAll pairs v w

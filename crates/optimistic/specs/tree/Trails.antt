@@ -1,5 +1,6 @@
 -- What a scan learns of the next keys, and the nodes that it passed.
 use Rattle.std.specs.Prelude.{◌≡◌, ℕ, ◌<◌, [], length, None, Some, slice_get}
+use Rattle.optimistic.specs.declared.tree.ahead.Ahead.{Ahead}
 use Rattle.optimistic.specs.declared.tree.place.Place.{Place}
 use Rattle.optimistic.specs.declared.tree.trail.Told.{Told}
 use Rattle.optimistic.specs.declared.tree.trail.Told.TheVariants.{Value, NoneTo}
@@ -35,3 +36,8 @@ pub record IsTrail (t : Trail) (m : Moment) : Type 0 where
   pub deep : t.depth < 8
   pub long : length t.places ≡ 8
   pub known : (i : ℕ) (p : Place) → slice_get t.places i ≡ Some p → IsKnown p m
+
+-- the nodes to which the ways to some keys led are known
+pub record AreKnown (a : Ahead) (m : Moment) : Type 0 where
+  pub long : length a.places ≡ 8
+  pub known : (i : ℕ) (p : Place) → slice_get a.places i ≡ Some p → IsKnown p m

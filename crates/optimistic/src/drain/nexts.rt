@@ -77,6 +77,7 @@ fn silent_to(child: Child, level: u64, from: u64) -> u64
 }
 
 /// What the item at a key's byte tells.
+#[inline(always)]
 pub fn next_of_item(item: Item, at: Place, from: u64) -> Next
     requires { at.level < 8 }
     ensures placed { IsPlaced from result }

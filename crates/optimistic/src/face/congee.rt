@@ -5,13 +5,14 @@ ghost use Rattle.optimistic.specs.words.Kept.{calls_by, StartsWith};
 ghost use Rattle.optimistic.specs.words.Room.{used};
 ghost use Rattle.optimistic.specs.face.Calls.{Saw, Looked, Found};
 ghost use Rattle.optimistic.specs.face.Computes.{IsComputed, IsReplaced};
-ghost use Rattle.optimistic.specs.face.Many.{Answered, AreInserted};
+ghost use Rattle.optimistic.specs.face.Many.{Answered, AreInserted, IsSameWorker};
 ghost use Rattle.optimistic.specs.face.Refusals.{IsSize, IsUnopened};
 ghost use Rattle.optimistic.specs.face.Scans.{FirstFrom, LastBelow, Emptiness, IsScan, Counts, RangeAtOnce};
 ghost use Rattle.optimistic.specs.face.Walks.{IsStep};
 ghost use Rattle.optimistic.specs.face.Writes.{IsInserted, IsRemoved, IsExchanged, IsFinal};
 ghost use Rattle.optimistic.specs.face.Words.{As, words, either_words, pair_words, in_words};
 ghost use Rattle.optimistic.specs.tree.Drained.{IsClosed, HasNoRoot};
+ghost use Rattle.optimistic.specs.tree.Trails.{AreKnown};
 
 use crate::drain::{Locked, Pair, Pairs};
 use crate::face::close::Retired;
@@ -21,6 +22,7 @@ use crate::face::seen::Seen;
 use crate::face::walk::Walk;
 use crate::face::worker::Worker;
 use crate::tree::Unscanned;
+use crate::tree::ahead::{Ahead, GROUP, STEPS};
 use judge::{Word64, number_of, word_of};
 use std::alloc::{AllocError, Global};
 use std::marker::{Model, PhantomData};
@@ -420,11 +422,51 @@ impl<'t, K: Word64, V: Word64> WordWorker<'t, K, V> {
         pair_words(self.worker.step(rt, walk))
     }
 
-    /// Looks a key's word up.
-    fn get_word<R: Wait>(&mut self, rt: &R, key: u64) -> Option<V>
-        ensures { As (λ x. Found key x self.old self.new) (option_map V.of_word) result }
+    /// The root for each key.
+    fn ahead(&self) -> Ahead
+        ensures { AreKnown result self.now.moment }
     {
-        word_of(self.worker.get(rt, key))
+        self.worker.ahead()
+    }
+
+    /// Follows a key's way by one node.
+    fn follow(&mut self, ahead: &mut Ahead, turn: usize, key: u64)
+        requires known { AreKnown ahead.old self.old.moment }
+        requires turn { turn < 8 }
+        ensures looked { Looked self.old self.new }
+        ensures known { AreKnown ahead.new self.new.moment }
+    {
+        self.worker.follow(ahead, turn, key);
+    }
+
+    /// Looks a key's word up from where its way led.
+    fn get_word<R: Wait>(&mut self, rt: &R, ahead: &Ahead, turn: usize, key: u64) -> Option<V>
+        requires known { AreKnown ahead.now self.old.moment }
+        requires turn { turn < 8 }
+        ensures found { As (λ x. Found key x self.old self.new) (option_map V.of_word) result }
+        ensures known { AreKnown ahead.now self.new.moment }
+    {
+        word_of(self.worker.get_ahead(rt, ahead, turn, key))
+    }
+
+    /// Follows the ways to the keys of a group, if one begins at this place.
+    fn look_ahead(&mut self, ahead: &mut Ahead, keys: &[K], first: usize)
+        requires known { AreKnown ahead.old self.old.moment }
+        ensures saw { Saw self.old self.new }
+        ensures known { AreKnown ahead.new self.new.moment }
+    {
+        if first % GROUP != 0 {
+            return;
+        }
+        *ahead = self.ahead();
+        for step in 0..STEPS {
+            let turn = step % GROUP;
+            let place = first.saturating_add(turn);
+            if place >= keys.len() {
+                continue;
+            }
+            self.follow(ahead, turn, key_at(keys, place));
+        }
     }
 
     /// Looks up one key after the other, as many as there are places for answers, and gives their number. Each key had its
@@ -436,8 +478,10 @@ impl<'t, K: Word64, V: Word64> WordWorker<'t, K, V> {
         ensures past { drop result out.new ≡ drop result out.old }
     {
         let count = keys.len().min(out.len());
+        let mut ahead = self.ahead();
         for place in 0..count {
-            out[place] = self.get_word(rt, key_at(keys, place));
+            self.look_ahead(&mut ahead, keys, place);
+            out[place] = self.get_word(rt, &ahead, place % GROUP, key_at(keys, place));
         }
         count
     }
@@ -455,6 +499,7 @@ impl<'t, K: Word64, V: Word64> WordWorker<'t, K, V> {
     pub fn insert_many<R: Wait>(&mut self, rt: &R, pairs: &[(K, V)]) -> Result<(), Uninserted>
         ensures inserted { AreInserted (map (in_words K.word V.word) pairs.now) self.old self.new result }
         ensures decided { IfErr result (λ e. IsFinal e.refusal) }
+        ensures same { IsSameWorker self.old self.new }
     {
         for place in 0..pairs.len() {
             match self.insert_pair(rt, pair_at(pairs, place)) {

@@ -51,6 +51,7 @@ fn byte_before(to: usize, byte: u8) -> u8
 
 impl Tree {
     /// What a node tells of the next pair from a key on, if it covers the key and stays as it is meanwhile.
+    #[inline(always)]
     fn next_at(&self, hand: &mut Hand, at: Place, from: u64) -> Next
         requires of { IsOf self.now.nodes.table.shared.table_id hand.old }
         requires at { IsPlace at (view hand.old) }
@@ -76,6 +77,7 @@ impl Tree {
     }
 
     /// What a node on the way to a key tells, with its version, if it covers the key and nobody has it.
+    #[inline(always)]
     pub(crate) fn sight_at(&self, hand: &mut Hand, at: Place, from: u64) -> Option<Sight>
         requires of { IsOf self.now.nodes.table.shared.table_id hand.old }
         requires at { IsPlace at (view hand.old) }

@@ -9,12 +9,13 @@ ghost use Rattle.optimistic.specs.words.Calls.{Keeps, Later};
 ghost use Rattle.optimistic.specs.words.Kept.{Since};
 ghost use Rattle.optimistic.specs.words.Told.{view, IsOf, Looks};
 ghost use Rattle.optimistic.specs.tree.Reads.{IsPlace};
-ghost use Rattle.optimistic.specs.tree.Sights.{Stood};
+ghost use Rattle.optimistic.specs.tree.Sights.{IsSight, Stood};
 ghost use Rattle.optimistic.specs.tree.Trails.{Learns, Says, IsKnown, IsTrail};
 ghost use Rattle.optimistic.specs.tree.Trees.{IsTree};
 
 use crate::drain::nexts::Next;
 use crate::tree::get::{ATTEMPTS, TOP, Tree};
+use crate::tree::next::Sight;
 use crate::tree::place::Place;
 use crate::words::Hand;
 use std::hint::spin_loop;
@@ -46,6 +47,7 @@ pub struct Trail {
 
 impl Trail {
     /// The last node.
+    #[inline(always)]
     fn last(&self) -> Place
         requires { self.now.depth < length self.now.places }
         ensures { slice_get self.now.places self.now.depth ≡ Some result }
@@ -92,7 +94,50 @@ impl Tree {
         }
     }
 
+    /// What the last node of a trail tells of a key, with its version.
+    fn sight_last(&self, hand: &mut Hand, trail: &Trail, from: u64) -> Option<Sight>
+        requires of { IsOf self.now.nodes.table.shared.table_id hand.old }
+        requires trail { IsTrail trail.now (view hand.old).seen }
+        ensures of { IsOf self.now.nodes.table.shared.table_id hand.new }
+        ensures looks { Looks IsTree (view hand.old) (view hand.new) }
+        ensures trail { IsTrail trail.now (view hand.new).seen }
+        ensures sight { IfSome result (λ s. IsSight s from (view hand.new)) }
+    {
+        let at = trail.last();
+        self.sight_at(hand, at, from)
+    }
+
+    /// What the last node on the way to a key tells, with its version. The trail leads to that node.
+    pub fn sight_by(&self, hand: &mut Hand, trail: &mut Trail, from: u64) -> Option<Sight>
+        requires of { IsOf self.now.nodes.table.shared.table_id hand.old }
+        requires trail { IsTrail trail.old (view hand.old).seen }
+        ensures of { IsOf self.now.nodes.table.shared.table_id hand.new }
+        ensures looks { Looks IsTree (view hand.old) (view hand.new) }
+        ensures trail { IsTrail trail.new (view hand.new).seen }
+        ensures sight { IfSome result (λ s. IsSight s from (view hand.new)) }
+    {
+        let mut sight = self.sight_last(hand, trail, from);
+        for _ in 0..LOOKS {
+            let Some(seen) = sight else {
+                if !trail.go_up() {
+                    return None;
+                }
+                sight = self.sight_last(hand, trail, from);
+                continue;
+            };
+            let Next::Down(below) = seen.next else {
+                return Some(seen);
+            };
+            if !trail.go_down(below) {
+                return None;
+            }
+            sight = self.sight_last(hand, trail, from);
+        }
+        None
+    }
+
     /// What a node tells of the next pair from a key on, as it was at one moment, or which node is next on the way.
+    #[inline(always)]
     fn told_at(&self, hand: &mut Hand, at: Place, from: u64) -> Option<Next>
         requires of { IsOf self.now.nodes.table.shared.table_id hand.old }
         requires at { IsPlace at (view hand.old) }

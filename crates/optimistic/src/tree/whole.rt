@@ -8,6 +8,7 @@ ghost use Rattle.optimistic.specs.words.Calls.{Keeps, Later};
 ghost use Rattle.optimistic.specs.words.Kept.{Since};
 ghost use Rattle.optimistic.specs.words.Told.{view, IsOf, Looks};
 ghost use Rattle.optimistic.specs.tree.Sights.{Stood};
+ghost use Rattle.optimistic.specs.tree.Trails.{IsTrail};
 ghost use Rattle.optimistic.specs.tree.Trees.{IsTree};
 ghost use Rattle.optimistic.specs.tree.Wholes.{AreSeen, IsSteadfast, HasMore, IsCollected, IsRange, Went, mark_of};
 
@@ -15,6 +16,7 @@ use crate::drain::Pair;
 use crate::drain::nexts::Next;
 use crate::tree::get::{ATTEMPTS, Tree};
 use crate::tree::next::Sight;
+use crate::tree::trail::Trail;
 use crate::words::Hand;
 use std::alloc::{AllocError, Global};
 use std::hint::spin_loop;
@@ -94,10 +96,11 @@ fn remember(marks: &mut Vec<Mark>, mark: Mark) -> Result<(), Unscanned>
 }
 
 impl Tree {
-    /// One way down more: a pair is written, or keys up to a later one are passed over, up to `last` at most.
+    /// One node more is asked: a pair is written, or keys up to a later one are passed over, up to `last` at most.
     fn collect_one(
         &self,
         hand: &mut Hand,
+        trail: &mut Trail,
         from: u64,
         last: u64,
         marks: &mut Vec<Mark>,
@@ -105,16 +108,18 @@ impl Tree {
         count: usize,
     ) -> Result<Reached, Unscanned>
         requires of { IsOf self.now.nodes.table.shared.table_id hand.old }
+        requires trail { IsTrail trail.old (view hand.old).seen }
         requires order { from ≤ last }
         requires room { count < length out.old }
         ensures of { IsOf self.now.nodes.table.shared.table_id hand.new }
         ensures looks { Looks IsTree (view hand.old) (view hand.new) }
+        ensures trail { IsTrail trail.new (view hand.new).seen }
         ensures order { IfOk result (λ r. (from ≤ r.last) × (r.last ≤ last) × (r.count ≤ length out.new)) }
         ensures same { length out.new ≡ length out.old }
         ensures collected { (start : ℕ) → IsCollected marks.old.items start from (take count out.old) (view hand.old)
             → IfOk result (λ r. IsCollected marks.new.items start (r.last + 1) (take r.count out.new) (view hand.new)) }
     {
-        let Some(sight) = self.sight(hand, from) else {
+        let Some(sight) = self.sight_by(hand, trail, from) else {
             return Err(Unscanned::Again);
         };
         remember(marks, mark_of(sight))?;
@@ -156,12 +161,21 @@ impl Tree {
         ensures collected { IfOk result (λ n. (n ≤ length out.old) × ((next : ℕ) × IsCollected marks.new.items start next (take n out.new) (view hand.new)
             × ((next ≡ last + 1) ⊎ ((next ≤ last + 1) × (n ≡ length out.old))))) }
     {
-        let mut reached = self.collect_one(hand, start, last, marks, out, 0)?;
+        let mut trail = self.trail(hand);
+        let mut reached = self.collect_one(hand, &mut trail, start, last, marks, out, 0)?;
         while reached.last < last {
             if reached.count == out.len() {
                 return Ok(reached.count);
             }
-            reached = self.collect_one(hand, reached.last + 1, last, marks, out, reached.count)?;
+            reached = self.collect_one(
+                hand,
+                &mut trail,
+                reached.last + 1,
+                last,
+                marks,
+                out,
+                reached.count,
+            )?;
         }
         Ok(reached.count)
     }

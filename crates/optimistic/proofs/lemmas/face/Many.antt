@@ -1,14 +1,15 @@
 -- Calls that stand for many: one more.
 use Rattle.std.proofs.Common.{◌≡◌, ℕ, ◌+◌, ◌<◌, List, [], ◌∷◌, ◌++◌, get_or, length, map, ap, sym, ◌∙◌, subst, arith, set, take, Option, Some, Err}
-use mathlib.Core.List.{append-nil}
+use mathlib.Core.List.{append-nil, append_assoc}
 use Rattle.std.specs.Option.{option_map}
 use Rattle.std.proofs.lemmas.List.{take_more, take_more_set, map_push, map_more, take-map, length-map}
 use Rattle.optimistic.specs.declared.drain.nexts.Pair.{Pair}
 use Rattle.optimistic.specs.declared.words.rule.Entry.{Entry}
+use Rattle.optimistic.specs.words.Calls.{entry_of}
 use Rattle.optimistic.specs.words.Kept.{value_of, StartsWith}
 use Rattle.optimistic.specs.face.Calls.{Known, Saw, Wrote}
 use Rattle.optimistic.specs.declared.face.refusal.Uninserted.{Uninserted}
-use Rattle.optimistic.specs.face.Many.{Answered, PutAll, AreInserted}
+use Rattle.optimistic.specs.face.Many.{Answered, PutAll, IsSameWorker, AreInserted}
 use Rattle.optimistic.specs.face.Refusals.{HasCause}
 use Rattle.optimistic.specs.face.Words.{As, in_words}
 use Rattle.optimistic.proofs.lemmas.face.Knowing.{saw_refl, saw_trans, saw_wrote}
@@ -36,6 +37,21 @@ put_all_more (q ∷ qs) p old u v w r t = (r.0, r.1, r.2, put_all_more qs p old 
 pub put_all_saw : (ps : List Pair) (u v w : Known) → PutAll ps u v → Saw v w → PutAll ps u w
 put_all_saw [] u v w r s = saw_trans u v w r s
 put_all_saw (q ∷ qs) u v w r s = (r.0, r.1, r.2, put_all_saw qs r.0 v w r.3 s)
+
+-- the worker stays the same one
+wrote_starts : (key : ℕ) (value old : Option ℕ) (v w : Known) → Wrote key value old v w → StartsWith w.seen v.seen
+wrote_starts key value old v w t =
+    let p = t.4 in
+    let e : List Entry = entry_of v.by key value ∷ [] in
+    (p.0 ++ (e ++ p.1), p.2 ∙ (append_assoc (v.seen ++ p.0) e p.1 ∙ append_assoc v.seen p.0 (e ++ p.1)))
+
+pub put_all_same : (ps : List Pair) (v w : Known) → PutAll ps v w → IsSameWorker v w
+put_all_same [] v w r = (r.0, r.1, r.3)
+put_all_same (p ∷ ps) v w r =
+    let u = r.0 in
+    let t = r.2 in
+    let rest = put_all_same ps u w r.3 in
+    (rest.0 ∙ t.0, rest.1 ∙ t.1, starts_trans v.seen u.seen w.seen (wrote_starts p.key (Some p.value) r.1 v u t) rest.2)
 
 -- one pair more was put
 pub put_all_next : (pairs : List Pair) (n : ℕ) (d : Pair) (old : Option ℕ) (u v w : Known) → n < length pairs → PutAll (take n pairs) u v → Wrote (get_or pairs n d).key (Some (get_or pairs n d).value) old v w → PutAll (take (n + 1) pairs) u w

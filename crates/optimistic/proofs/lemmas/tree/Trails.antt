@@ -1,6 +1,7 @@
 -- The nodes that a scan passed, and what it learned of the keys after them.
 use Rattle.std.proofs.Common.{◌≡◌, ℕ, zero, suc, ◌+◌, ◌-◌, ◌<◌, ◌⊎◌, List, [], ◌∷◌, length, set, length-set, refl, subst, inl, inr, ◌∙◌, Some}
 use Rattle.std.specs.Prelude.{slice_get}
+use Rattle.optimistic.specs.declared.tree.ahead.Ahead.{Ahead}
 use Rattle.optimistic.specs.declared.tree.place.Place.{Place}
 use Rattle.optimistic.specs.declared.tree.trail.Trail.{Trail}
 use Rattle.optimistic.specs.declared.drain.nexts.Next.{Next}
@@ -10,7 +11,7 @@ use Rattle.optimistic.specs.declared.words.rule.View.{View}
 use Rattle.optimistic.specs.words.Kept.{Since}
 use Rattle.optimistic.specs.tree.Reads.{IsPlace}
 use Rattle.optimistic.specs.tree.Sights.{Holds, Stood}
-use Rattle.optimistic.specs.tree.Trails.{Learns, IsKnown, IsTrail}
+use Rattle.optimistic.specs.tree.Trails.{Learns, IsKnown, IsTrail, AreKnown}
 use Rattle.optimistic.proofs.lemmas.tree.Setting.{place_since}
 
 -- what a list has at a place after it was set at one
@@ -35,6 +36,18 @@ trail_down places depth p m low t k = record {
   deep = low;
   long = length-set places (depth + 1) p ∙ t.long;
   known = λ i q e. elim (get_set places (depth + 1) i p q e) [
+    | inl s ↦ subst (λ (z : Place). IsKnown z m) s k
+    | inr s ↦ t.known i q s
+  ];
+}
+
+pub ahead_since : (a : Ahead) (v w : View) → Since v.seen w.seen → AreKnown a v.seen → AreKnown a w.seen
+ahead_since a v w s k = record { long = k.long; known = λ i p e. place_known p w (place_since p v w s (known_place p v (k.known i p e))) }
+
+pub ahead_put : (places : List Place) (turn : ℕ) (p : Place) (m : Moment) → AreKnown (record { places = places }) m → IsKnown p m → AreKnown (record { places = set places turn p }) m
+ahead_put places turn p m t k = record {
+  long = length-set places turn p ∙ t.long;
+  known = λ i q e. elim (get_set places turn i p q e) [
     | inl s ↦ subst (λ (z : Place). IsKnown z m) s k
     | inr s ↦ t.known i q s
   ];

@@ -16,6 +16,7 @@ loop-reached-init c =
       e.order.2,
       e.same,
       e.collected start (subst (λ (l : List Mark). IsCollected l start start [] v) (sym c.requires.none) (collected_none start v)),
+      e.trail,
     )
 
 pub returns-then-reached-out-clause-collected : goal.returns-then-reached-out-clause-collected
@@ -46,6 +47,7 @@ loop-reached-preserved c =
       e.order.2,
       e.same ∙ i.4,
       e.collected c.args.start i.5,
+      e.trail,
     )
 
 pub returns-in_err-reached-2-clause-looks : goal.returns-in_err-reached-2-clause-looks

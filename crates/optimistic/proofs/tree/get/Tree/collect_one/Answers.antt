@@ -15,11 +15,11 @@ returns-in-Here-clause-collected c start col =
     let old = c.args.marks.now.items in
     let s = c.in-Some.sight in
     let v = c.args.hand.now.me.0 in
-    let w = c.sight.new.hand.me.0 in
+    let w = c.sight_by.new.hand.me.0 in
     let new = c.remember.new.marks.items in
     let more : HasMore old (mark_of s) new = subst (λ (m : Mark). HasMore old m new) c.mark_of.ensures c.in_ok-remember.ensures in
     collected_put new start (from + 1) out n (pair_of from c.in-Here.value) w c.requires.room
-    (collected_here old new start from (take n out) v w s col c.sight.ensures.looks.since c.in-Some.ensures.sight more c.in-Here.value c.in-Here.is)
+    (collected_here old new start from (take n out) v w s col c.sight_by.ensures.looks.since c.in-Some.ensures.sight more c.in-Here.value c.in-Here.is)
 
 pub returns-in-After-clause-collected : goal.returns-in-After-clause-collected
 returns-in-After-clause-collected c start col =
@@ -29,7 +29,7 @@ returns-in-After-clause-collected c start col =
     let old = c.args.marks.now.items in
     let s = c.in-Some.sight in
     let v = c.args.hand.now.me.0 in
-    let w = c.sight.new.hand.me.0 in
+    let w = c.sight_by.new.hand.me.0 in
     let new = c.remember.new.marks.items in
     let more : HasMore old (mark_of s) new = subst (λ (m : Mark). HasMore old m new) c.mark_of.ensures c.in_ok-remember.ensures in
     let e = c.lesser-reached.ensures in
@@ -40,4 +40,4 @@ returns-in-After-clause-collected c start col =
       | inl same ↦ omega (arith, same, known)
       | inr same ↦ omega (arith, same, order)
     ] in
-    collected_after old new start from (take n out) v w s col c.sight.ensures.looks.since c.in-Some.ensures.sight more end c.lesser-reached.result c.in-After.is up e.0
+    collected_after old new start from (take n out) v w s col c.sight_by.ensures.looks.since c.in-Some.ensures.sight more end c.lesser-reached.result c.in-After.is up e.0

@@ -1,0 +1,6 @@
+use Rattle.optimistic.specs.face.Calls.{Saw}
+use Rattle.optimistic.specs.tree.Trails.{AreKnown}
+use Rattle.optimistic.proofs.face.worker.Worker.look_ahead.Given as goal
+
+abbrev pub invariant-loop-step : goal.invariant-loop-step
+invariant-loop-step l = AreKnown l.ahead l.self.moment × Saw l.initial.self l.self
