@@ -3,7 +3,7 @@
 ghost use Rattle.std.specs.Prelude.{◌≡◌, ◌↔◌, IsTrue};
 ghost use Rattle.joint.specs.Limits.{AreAllowed, usual};
 
-/// The most cells of an index.
+/// The most cells of an index: as many as the collector has at most.
 pub(crate) const CELLS_MAX: u32 = 16_777_215;
 
 /// Limits of an index.

@@ -1,8 +1,8 @@
 //! What belongs to the index for threads: whole calls, turn by turn, and the audit of a journal.
 //!
 //! `tree` has an index under its lock (`locked`, or with a journal `journaled_world`). A call is driven (`driver`): its turns are
-//! begun and gone on with one hold each (`holds`, `writes`), its closure answers between two of them (`answers`), and
-//! how it reads its end stands in `ends`; a round is three calls (`rounds`). `word_congee`, `u64_congee`, `congee_arc` and
+//! begun and gone on with one hold each (`turns`, `writes`), its closure answers between two of them (`answers`), and
+//! how it reads its end stands in `replies`; a round is three calls (`rounds`). `word_congee`, `u64_congee`, `congee_arc` and
 //! `journaled` are the types that threads share, called with a worker and a guard (`tokens`); the last leaves a `journal`.
 
 pub(crate) mod answers;
@@ -13,6 +13,7 @@ pub(crate) mod journal;
 pub(crate) mod journaled;
 pub(crate) mod journaled_world;
 pub(crate) mod locked;
+pub(crate) mod of_words;
 pub(crate) mod progress;
 pub(crate) mod replies;
 pub(crate) mod rounds;

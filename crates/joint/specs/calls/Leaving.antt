@@ -7,7 +7,7 @@ use Rattle.crossbeam_epoch.specs.declared.names.Name.{Name}
 use Rattle.crossbeam_epoch.specs.declared.world.participant.Phase.TheVariants as collector_phase
 use Rattle.crossbeam_epoch.specs.World.Machine.{place, deferred, with_store}
 use Rattle.congee.specs.Heap.{Stands}
-use Rattle.congee.specs.protocol.Handing.{InTree, IsOut, is_waiting}
+use Rattle.congee.specs.protocol.Handing.{InTree, IsOut, is_handed_over}
 use Rattle.joint.specs.declared.steps.Event.TheVariants.{Begin}
 use Rattle.joint.specs.declared.steps.Op.{Op}
 use Rattle.joint.specs.calls.Ends.{HoldsLock}
@@ -59,7 +59,7 @@ pub record LeavesRightly {V : Type 0} (s : World V) (t : Taken V) : Type 0 where
   -- a call has each node that it took out until it hands it over
   pub owed : (i n : ℕ) → IsTakenBy s i n → IsTakenBy t.after i n ⊎ ((t.step.worker ≡ i) × HandsOver s.forest t.after.forest i n)
   -- no other is handed over
-  pub handed : (n : ℕ) → is_waiting (nodes s.forest n) ≡ false → is_waiting (nodes t.after.forest n) ≡ true → IsTakenBy s t.step.worker n × HandsOver s.forest t.after.forest t.step.worker n
+  pub handed : (n : ℕ) → is_handed_over (nodes s.forest n) ≡ false → is_handed_over (nodes t.after.forest n) ≡ true → IsTakenBy s t.step.worker n × HandsOver s.forest t.after.forest t.step.worker n
   -- and nothing else is deferred
   pub defers : (t.after.forest.collector.next ≡ s.forest.collector.next) ⊎ ((n : ℕ) × IsTakenBy s t.step.worker n × HandsOver s.forest t.after.forest t.step.worker n)
   -- a node that left stays so until it is destroyed

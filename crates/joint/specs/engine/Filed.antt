@@ -5,7 +5,7 @@ use Rattle.crossbeam_epoch.specs.declared.names.Name.{Name}
 use Rattle.crossbeam_epoch.specs.World.Fits.{weight}
 use Rattle.crossbeam_epoch.specs.World.Machine.{name_of}
 use Rattle.crossbeam_epoch.specs.World.Sealing.{IsSealing, bit, counts_name}
-use Rattle.congee.specs.protocol.Handing.{is_waiting}
+use Rattle.congee.specs.protocol.Handing.{is_handed_over}
 use Rattle.joint.specs.nodes.Nodes.{Nodes, nodes}
 use Rattle.joint.specs.Names.{number}
 
@@ -22,5 +22,5 @@ others e = if is_some (name_of e.work) then 0 else 1
 pub record IsFiled {V : Type 0} (s : Nodes V) : Type 0 where
   pub expiry : s.collector.limits.expiry ≡ 2
   pub sealing : IsSealing s.collector
-  pub filed : (n : Name) → weight (removes n) s.collector ≡ bit (is_waiting (nodes s (number n)))
+  pub filed : (n : Name) → weight (removes n) s.collector ≡ bit (is_handed_over (nodes s (number n)))
   pub only : weight others s.collector ≡ 0

@@ -4,7 +4,7 @@ use Rattle.std.specs.List.{AllPairs, Contains, filter}
 use Rattle.crossbeam_epoch.specs.declared.world.cells.Cell.{Cell}
 use Rattle.crossbeam_epoch.specs.World.Store.{value_at}
 use Rattle.congee.specs.Heap.{Node}
-use Rattle.congee.specs.protocol.Handing.{is_waiting}
+use Rattle.congee.specs.protocol.Handing.{is_handed_over}
 use Rattle.joint.specs.nodes.Nodes.{Nodes, nodes, of_value, size}
 use Rattle.joint.specs.Names.{number, named}
 
@@ -36,7 +36,7 @@ standing_nodes s = nodes_that is_standing s
 
 -- those of them that were handed over
 abbrev pub handed_nodes : {V : Type 0} → Nodes V → List ℕ
-handed_nodes s = nodes_that is_waiting s
+handed_nodes s = nodes_that is_handed_over s
 
 -- what is charged for the node that stands under a number, in bytes
 abbrev pub bytes_of : {V : Type 0} → Nodes V → ℕ → ℕ

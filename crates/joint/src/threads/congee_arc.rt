@@ -14,9 +14,9 @@ use crate::nodes::nearest::Near;
 use crate::refusal::Refusal;
 use crate::threads::answers::Answer;
 use crate::threads::locked::Plain;
+use crate::threads::of_words::are_keys;
 use crate::threads::tokens::{Guard, Worker};
 use crate::threads::tree::Tree;
-use crate::threads::word_congee::are_keys;
 use congee::{
     ArcPayload, DefaultAllocator, NoDrain, NodeStats, Payload, Word64, owner_of, payload_of,
 };

@@ -1,13 +1,15 @@
 //! One index under one lock, which each step of a call takes anew.
 
-ghost use Rattle.std.specs.Prelude.{◌≡◌, ◌≤◌, ℕ, [], false, length, map, take, IfOk, IfErr};
+ghost use Rattle.std.specs.Prelude.{◌≡◌, ◌≤◌, [], false, length, map, take, IfOk, IfErr};
 ghost use Rattle.joint.specs.threads.Driving.{IsToldInCall, ended};
 ghost use Rattle.joint.specs.nodes.Nearest.{IsNearest};
 ghost use Rattle.joint.specs.nodes.Opening.{IsUnopened};
 ghost use Rattle.joint.specs.threads.Pinned.{CallsPinned, KeepsWorker};
-ghost use Rattle.joint.specs.threads.Threads.{Answers, Ascend, ClosesWith, Computes, Finds, Hands, IsAccount, IsByHolds, IsHold, IsOfReader, IsRound, IsTold, IsUnclosed, Pins, Scans, Serves, is_held_by, is_of, register_step, registered, charge_of, waiting_bytes_of, waiting_of, bounds, computed, contained, counted, emptied, exchanged, got, inserted, listed, pairs_counted, removed, replaced, scanned, told};
+ghost use Rattle.joint.specs.threads.Threads.{Answers, Ascend, ClosesWith, Finds, Hands, IsAccount, IsByHolds, IsHold, IsOfReader, IsRound, IsTold, IsUnclosed, Pins, Scans, Serves, is_held_by, is_of, register_step, registered, charge_of, waiting_bytes_of, waiting_of, bounds, contained, counted, emptied, got, listed, pairs_counted, scanned, told};
 ghost use Rattle.joint.specs.engine.Engine.{IsOfCall};
 ghost use Rattle.joint.specs.declared.steps.Op.TheVariants as op;
+
+mod writes;
 
 use crate::limits::Limits;
 use crate::nodes::account::Account;
@@ -18,8 +20,7 @@ use crate::threads::answers::{Answer, Silent};
 use crate::threads::driver::{Pair, drive_to};
 use crate::threads::locked::{Locked, Plain, Words};
 use crate::threads::replies::{
-    End, bounds, computed, contained, counted, emptied, exchanged, got, inserted, listed,
-    of_reader, pairs_counted, removed, replaced, scanned, told,
+    End, bounds, contained, counted, emptied, got, listed, of_reader, pairs_counted, scanned, told,
 };
 use crate::threads::rounds::{Ends, round};
 use crate::threads::tokens::{Guard, Worker};
@@ -32,7 +33,7 @@ use std::marker::PhantomData;
 use std::sync::{Mutex, MutexGuard, Wait};
 use std::thread;
 
-/// How often a thread looks for the lock before it sleeps.
+/// How often a thread looks for the lock before it sleeps: most holds are over before it would have slept and woken.
 const TRIES: u32 = 64;
 
 /// An index under its lock.
@@ -193,7 +194,7 @@ impl<P: Payload + Small, T: Locked<P>> Tree<P, T> {
         }
     }
 
-    /// A guard.
+    /// A guard of the worker, whose first guard pins it.
     pub(crate) fn pin<R: Wait>(&self, rt: &R, worker: &Worker) -> Result<Guard, Refusal>
         ensures answers { Serves (is_of self.now.id worker.now) (Pins T.holds self.now.id worker.now.number) result }
         ensures refused { IfErr result IsOfReader }
@@ -517,109 +518,5 @@ impl<A: Allocator> Tree<u64, Words<A>> {
         let account = Account::of(&allocator);
         let world = World::new(alloc, limits, allocator)?;
         Ok(Tree::of(limits.id, account, Words::new(world)))
-    }
-}
-
-impl<P: Payload + Small, T: Locked<P>> Tree<P, T> {
-    /// One that finds no pairs.
-    fn compute<C: Answer<P>, R: Wait>(
-        &self,
-        rt: &R,
-        worker: &Worker,
-        op: Op<P>,
-        answers: &mut C,
-    ) -> End<P>
-        requires { C.can_answer answers.old }
-        ensures { IsByHolds {Q = ℕ × P} T.holds C.answers (λ k v. (k, v)) worker.now.number op answers.old [] [] (ended result) }
-    {
-        let mut nothing: [(u64, P); 0] = [];
-        self.drive(rt, worker, op, answers, &mut nothing)
-    }
-
-    /// Puts a value at a key, and gives the one before.
-    pub(crate) fn insert<R: Wait>(
-        &self,
-        rt: &R,
-        key: u64,
-        value: P,
-        worker: &Worker,
-        guard: &Guard,
-    ) -> Result<Option<P>, Refusal>
-        ensures { Serves (is_held_by self.now.id worker.now guard.now) (Answers T.holds worker.now.number (op.Insert key value) inserted) result }
-    {
-        if !self.serves(worker, guard) {
-            return Err(Refusal::Foreign);
-        }
-        inserted(self.call(rt, worker, Op::Insert(key, value)))
-    }
-
-    /// Takes a key's value out.
-    pub(crate) fn remove<R: Wait>(
-        &self,
-        rt: &R,
-        key: u64,
-        worker: &Worker,
-        guard: &Guard,
-    ) -> Result<Option<P>, Refusal>
-        ensures { Serves (is_held_by self.now.id worker.now guard.now) (Answers T.holds worker.now.number (op.Remove key) removed) result }
-    {
-        if !self.serves(worker, guard) {
-            return Err(Refusal::Foreign);
-        }
-        removed(self.call(rt, worker, Op::Remove(key)))
-    }
-
-    /// Puts the answer at a key that is present, or takes the key out where the answer is `None`.
-    pub(crate) fn compute_if_present<C: Answer<P>, R: Wait>(
-        &self,
-        rt: &R,
-        key: u64,
-        answers: &mut C,
-        worker: &Worker,
-        guard: &Guard,
-    ) -> Result<Option<(P, Option<P>)>, Refusal>
-        requires { C.can_answer answers.old }
-        ensures { Serves (is_held_by self.now.id worker.now guard.now) (Computes T.holds C.answers worker.now.number (op.ComputePresent key) answers.old computed) result }
-    {
-        if !self.serves(worker, guard) {
-            return Err(Refusal::Foreign);
-        }
-        computed(self.compute(rt, worker, Op::ComputePresent(key), answers))
-    }
-
-    /// Puts the answer at a key, present or not, and gives the value before.
-    pub(crate) fn compute_or_insert<C: Answer<P>, R: Wait>(
-        &self,
-        rt: &R,
-        key: u64,
-        answers: &mut C,
-        worker: &Worker,
-        guard: &Guard,
-    ) -> Result<Option<P>, Refusal>
-        requires { C.can_answer answers.old }
-        ensures { Serves (is_held_by self.now.id worker.now guard.now) (Computes T.holds C.answers worker.now.number (op.ComputeInsert key) answers.old replaced) result }
-    {
-        if !self.serves(worker, guard) {
-            return Err(Refusal::Foreign);
-        }
-        replaced(self.compute(rt, worker, Op::ComputeInsert(key), answers))
-    }
-
-    /// Where the key has the old value, puts the new one there, or takes the key out at `None`.
-    pub(crate) fn compare_exchange<R: Wait>(
-        &self,
-        rt: &R,
-        key: u64,
-        old: P,
-        new: Option<P>,
-        worker: &Worker,
-        guard: &Guard,
-    ) -> Result<Result<Option<P>, Option<P>>, Refusal>
-        ensures { Serves (is_held_by self.now.id worker.now guard.now) (Answers T.holds worker.now.number (op.Exchange key old new) exchanged) result }
-    {
-        if !self.serves(worker, guard) {
-            return Err(Refusal::Foreign);
-        }
-        exchanged(self.call(rt, worker, Op::Exchange(key, old, new)))
     }
 }

@@ -6,7 +6,7 @@ use Rattle.congee.specs.declared.protocol.machine.Machine.{Machine}
 use Rattle.congee.specs.Heap.{Node, Stands}
 use Rattle.congee.specs.Keys.{key_bytes}
 use Rattle.congee.specs.Notes.{Note, Linked, is_published}
-use Rattle.congee.specs.protocol.Handing.{InTree, is_waiting}
+use Rattle.congee.specs.protocol.Handing.{InTree, is_handed_over}
 use Rattle.congee.specs.protocol.Play.{EachKnown, Settled}
 use Rattle.congee.proofs.Laws.{locks_owned, made_known, IsTaken, taken_known, taken_locked}
 use Rattle.joint.specs.declared.id.Id.{Id}
@@ -26,7 +26,7 @@ pub record IsBlank {V : Type 0} (n : Node V) : Type 0 where
   pub unretired : n.retired ≡ false
 
 -- a node that waits was handed over, and stands
-pub waits_is : {V : Type 0} (n : Node V) → is_waiting n ≡ true → (n.retired ≡ true) × Stands n
+pub waits_is : {V : Type 0} (n : Node V) → is_handed_over n ≡ true → (n.retired ≡ true) × Stands n
 waits_is n e = by n.retired n.made n.destroyed refl refl refl e where
   by : (r m d : Bool) → n.retired ≡ r → n.made ≡ m → n.destroyed ≡ d → (r && (m && not d)) ≡ true → (n.retired ≡ true) × Stands n
   by true true false x y z q = (x, record { made = y; kept = z })

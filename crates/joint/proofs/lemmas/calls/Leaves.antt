@@ -17,7 +17,7 @@ use Rattle.congee.specs.Keys.{key_bytes}
 use Rattle.congee.specs.Notes.{Note, Linked, Gone, is_published}
 use Rattle.congee.specs.protocol.Answers.{Keeps}
 use Rattle.congee.specs.protocol.Events.{SameBut}
-use Rattle.congee.specs.protocol.Handing.{Leads, InTree, IsOut, is_waiting, AreOneOrTwo, Due, Leaving, HandsAt, TakesAt, TakesNodes}
+use Rattle.congee.specs.protocol.Handing.{Leads, InTree, IsOut, is_handed_over, AreOneOrTwo, Due, Leaving, HandsAt, TakesAt, TakesNodes}
 use Rattle.congee.specs.protocol.Holdings.{IsMade, TakenBy}
 use Rattle.congee.specs.protocol.Play.{EachKnown, IsMoved, Settled}
 use Rattle.congee.specs.protocol.Protocol.{AlsoOut, Known}
@@ -211,7 +211,7 @@ module _ {V : Type 0} (same : V → V → Bool) (always : Bool) (laws : CallLaws
   ]
 
   -- only what it has taken out is handed over
-  pub newly_waits : (n : ℕ) → is_waiting (nodes f n) ≡ false → is_waiting (nodes f' n) ≡ true → TakenBy id_number m.phase n
+  pub newly_waits : (n : ℕ) → is_handed_over (nodes f n) ≡ false → is_handed_over (nodes f' n) ≡ true → TakenBy id_number m.phase n
   newly_waits n b a = elim passes.1 [
     | inl x ↦ absurd (false≢true (sym b ∙ sym (x.nodes n) ∙ a))
     | inr y ↦ elim (cases_Bool (n == y.0)) [

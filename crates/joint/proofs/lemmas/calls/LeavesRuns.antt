@@ -27,7 +27,7 @@ use Rattle.congee.specs.declared.protocol.phase.Kind.{Kind}
 use Rattle.congee.specs.declared.protocol.phase.Phase.{Phase}
 use Rattle.congee.specs.declared.protocol.phase.Phase.TheVariants.{Obsolete, Retire, Unlock, Ended}
 use Rattle.congee.specs.Heap.{Node, Stands}
-use Rattle.congee.specs.protocol.Handing.{InTree, is_waiting}
+use Rattle.congee.specs.protocol.Handing.{InTree, is_handed_over}
 use Rattle.congee.specs.protocol.Holdings.{TakenBy}
 use Rattle.congee.specs.protocol.Play.{Flight, Pending, Decided, Over, Unbegun, Scanning, Question, Undecided, ScanTells, Follows, flight_in}
 use Rattle.congee.specs.protocol.State.{is_done}
@@ -248,7 +248,7 @@ module _ {V : Type 0} (same : V → V → Bool) (always : Bool) (s s' : World V)
 
 module _ {V : Type 0} (same : V → V → Bool) (always : Bool) (laws : CallLaws {C = Id} {V = V} id_number same always) (leaves_law : (f : Nodes V) → LeavesLaw {C = Id} {V = V} id_number same always f.version_max (Refuses f)) where
   -- a node that waits was handed over, or a call has it
-  waits_as : (s : World V) → Holds same always s → (n : ℕ) → IsWaiting s n → (is_waiting (nodes s.forest n) ≡ true) ⊎ ((i : ℕ) × IsTakenBy s i n)
+  waits_as : (s : World V) → Holds same always s → (n : ℕ) → IsWaiting s n → (is_handed_over (nodes s.forest n) ≡ true) ⊎ ((i : ℕ) × IsTakenBy s i n)
   waits_as s h n y = elim ((node_somewhere same always laws s h n y.stands.made).handed y) [
     | inl e ↦ inl (retired_waits (nodes s.forest n) e y.stands)
     | inr e ↦ inr e
@@ -277,7 +277,7 @@ module _ {V : Type 0} (same : V → V → Bool) (always : Bool) (laws : CallLaws
     finds_full y = record {
       leaves = λ n i. inl (let P : (ℕ → Node V) → Type 0 = λ z. InTree z n in subst P (sym nodes_same) i);
       owed = λ i n z. inl (z.0, ap (λ v. slice_get v.machines i) y.state ∙ z.1, z.2);
-      handed = λ n b a. absurd (false≢true (sym b ∙ sym (ap (λ z. is_waiting (z n)) nodes_same) ∙ a));
+      handed = λ n b a. absurd (false≢true (sym b ∙ sym (ap (λ z. is_handed_over (z n)) nodes_same) ∙ a));
       waits = λ n b. inl (ap (λ z. z n) nodes_same);
       lost = λ n l. subst (λ (z : Node V). IsLost z) (sym (ap (λ z. z n) nodes_same)) l;
       taken = λ i n z. inl (same_left (nodes s.forest n) (nodes t.after.forest n) (ap (λ v. v n) nodes_same));
@@ -309,7 +309,7 @@ module _ {V : Type 0} (same : V → V → Bool) (always : Bool) (laws : CallLaws
     left : (n : ℕ) → IsWaiting s n → StaysLeft s t.after n ⊎ IsDestroyed t.after n
     left n y = elim (waits_as s h n y) [
       | inl e ↦ elim (parts.waits n e) [
-        | inl q ↦ inl (stays_left n (same_left (nodes s.forest n) (nodes t.after.forest n) q) (handed_waits same always laws t.after x.holds n (ap is_waiting q ∙ e)))
+        | inl q ↦ inl (stays_left n (same_left (nodes s.forest n) (nodes t.after.forest n) q) (handed_waits same always laws t.after x.holds n (ap is_handed_over q ∙ e)))
         | inr l ↦ inr (record { gone = l.destroyed })
       ]
       | inr e ↦ elim (parts.taken e.0 n e.1) [
@@ -331,18 +331,18 @@ module _ {V : Type 0} (same : V → V → Bool) (always : Bool) (laws : CallLaws
     }
 
     -- a node that was handed over isn't handed over again
-    hands_again : (i n : ℕ) → (is_waiting (nodes s.forest n) ≡ true) ⊎ IsLost (nodes s.forest n) → HandsOver s.forest t.after.forest i n → ⊥
+    hands_again : (i n : ℕ) → (is_handed_over (nodes s.forest n) ≡ true) ⊎ IsLost (nodes s.forest n) → HandsOver s.forest t.after.forest i n → ⊥
     hands_again i n (inl e) y = false≢true (sym y.before ∙ (waits_is (nodes s.forest n) e).0)
     hands_again i n (inr l) y = false≢true (sym y.stands.kept ∙ l.destroyed)
 
-    still_handed : (n : ℕ) → (is_waiting (nodes s.forest n) ≡ true) ⊎ IsLost (nodes s.forest n) → (is_waiting (nodes t.after.forest n) ≡ true) ⊎ IsLost (nodes t.after.forest n)
+    still_handed : (n : ℕ) → (is_handed_over (nodes s.forest n) ≡ true) ⊎ IsLost (nodes s.forest n) → (is_handed_over (nodes t.after.forest n) ≡ true) ⊎ IsLost (nodes t.after.forest n)
     still_handed n (inl e) = elim (parts.waits n e) [
-      | inl q ↦ inl (ap is_waiting q ∙ e)
+      | inl q ↦ inl (ap is_handed_over q ∙ e)
       | inr l ↦ inr l
     ]
     still_handed n (inr l) = inr (parts.lost n l)
 
-    first_handed : (n : ℕ) → HandsOver s.forest t.after.forest w n → (is_waiting (nodes t.after.forest n) ≡ true) ⊎ IsLost (nodes t.after.forest n)
+    first_handed : (n : ℕ) → HandsOver s.forest t.after.forest w n → (is_handed_over (nodes t.after.forest n) ≡ true) ⊎ IsLost (nodes t.after.forest n)
     first_handed n y = elim ((all_spare same always leaves_law s (t ∷ []) h (x, tt)).0 n y.stands) [
       | inl st ↦ inl (retired_waits (nodes t.after.forest n) y.after st)
       | inr (inl u) ↦ absurd (false≢true (sym y.before ∙ u.waits))
@@ -352,7 +352,7 @@ module _ {V : Type 0} (same : V → V → Bool) (always : Bool) (laws : CallLaws
     -- what left stays locked
     left_locked : LeftLocked s → LeftLocked t.after
     left_locked all n y = elim (waits_as t.after x.holds n y) [
-      | inl e ↦ (let kept = (waits_is (nodes t.after.forest n) e).1.kept in elim (cases_Bool (is_waiting (nodes s.forest n))) [
+      | inl e ↦ (let kept = (waits_is (nodes t.after.forest n) e).1.kept in elim (cases_Bool (is_handed_over (nodes s.forest n))) [
         | inl b ↦ elim (parts.waits n b) [
           | inl q ↦ ap (λ z. z.locked) q ∙ all n (handed_waits same always laws s h n b)
           | inr l ↦ absurd (false≢true (sym kept ∙ l.destroyed))
@@ -434,7 +434,7 @@ module _ {V : Type 0} (same : V → V → Bool) (always : Bool) (laws : CallLaws
         inr ((λ q. absurd (n (sym q))), takes_none v t.after ts x.0.holds x.1 (past_other s t h x.0 v n u)))
   ]
 
-  hands_none : (n : ℕ) (s : World V) (ts : List (Taken V)) → Holds same always s → AreTaken same always s ts → (is_waiting (nodes s.forest n) ≡ true) ⊎ IsLost (nodes s.forest n) → HandsNone n s ts
+  hands_none : (n : ℕ) (s : World V) (ts : List (Taken V)) → Holds same always s → AreTaken same always s ts → (is_handed_over (nodes s.forest n) ≡ true) ⊎ IsLost (nodes s.forest n) → HandsNone n s ts
   hands_none n s [] h x y = tt
   hands_none n s (t ∷ ts) h x y = (hands_again s t h x.0 t.step.worker n y, hands_none n t.after ts x.0.holds x.1 (still_handed s t h x.0 n y))
 

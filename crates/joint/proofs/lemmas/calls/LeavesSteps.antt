@@ -23,7 +23,7 @@ use Rattle.congee.specs.Heap.{Node}
 use Rattle.congee.specs.Keys.{key_bytes}
 use Rattle.congee.specs.Notes.{Linked}
 use Rattle.congee.specs.protocol.Destroys.{Destroys}
-use Rattle.congee.specs.protocol.Handing.{InTree, is_waiting}
+use Rattle.congee.specs.protocol.Handing.{InTree, is_handed_over}
 use Rattle.congee.specs.protocol.Holdings.{TakenBy}
 use Rattle.congee.specs.protocol.Leaving.{StepLeaves}
 use Rattle.congee.specs.protocol.Play.{Decided, IsMoved, Settled, flight_in}
@@ -88,8 +88,8 @@ pub record IsLost {V : Type 0} (n : Node V) : Type 0 where
 pub record Parts {V : Type 0} (s s' : World V) (w : ℕ) (event : Event V) : Type 0 where
   pub leaves : (n : ℕ) → InTree (nodes s.forest) n → InTree (nodes s'.forest) n ⊎ (TakesOut s s' w n × IsTaking s w event)
   pub owed : (i n : ℕ) → IsTakenBy s i n → IsTakenBy s' i n ⊎ ((w ≡ i) × HandsOver s.forest s'.forest i n)
-  pub handed : (n : ℕ) → is_waiting (nodes s.forest n) ≡ false → is_waiting (nodes s'.forest n) ≡ true → IsTakenBy s w n × HandsOver s.forest s'.forest w n
-  pub waits : (n : ℕ) → is_waiting (nodes s.forest n) ≡ true → (nodes s'.forest n ≡ nodes s.forest n) ⊎ IsLost (nodes s'.forest n)
+  pub handed : (n : ℕ) → is_handed_over (nodes s.forest n) ≡ false → is_handed_over (nodes s'.forest n) ≡ true → IsTakenBy s w n × HandsOver s.forest s'.forest w n
+  pub waits : (n : ℕ) → is_handed_over (nodes s.forest n) ≡ true → (nodes s'.forest n ≡ nodes s.forest n) ⊎ IsLost (nodes s'.forest n)
   pub lost : (n : ℕ) → IsLost (nodes s.forest n) → IsLost (nodes s'.forest n)
   pub taken : (i n : ℕ) → IsTakenBy s i n → SameLeft (nodes s.forest n) (nodes s'.forest n) ⊎ IsLost (nodes s'.forest n)
   pub defers : (s'.forest.collector.next ≡ s.forest.collector.next) ⊎ ((n : ℕ) × IsTakenBy s w n × HandsOver s.forest s'.forest w n)
@@ -132,7 +132,7 @@ module _ {V : Type 0} (same : V → V → Bool) (always : Bool) (laws : CallLaws
     calm e d k = record {
       leaves = λ n x. inl (let P : (ℕ → Node V) → Type 0 = λ h. InTree h n in subst P (sym e) x);
       owed = λ i n x. inl (k i n x);
-      handed = λ n b a. absurd (false≢true (sym b ∙ sym (ap (λ h. is_waiting (h n)) e) ∙ a));
+      handed = λ n b a. absurd (false≢true (sym b ∙ sym (ap (λ h. is_handed_over (h n)) e) ∙ a));
       waits = λ n b. inl (ap (λ h. h n) e);
       lost = λ n l. subst (λ (y : Node V). IsLost y) (sym (ap (λ h. h n) e)) l;
       taken = λ i n x. inl (same_left (nodes s.forest n) (nodes s'.forest n) (ap (λ h. h n) e));
@@ -145,7 +145,7 @@ module _ {V : Type 0} (same : V → V → Bool) (always : Bool) (laws : CallLaws
       leaves = λ n x. inl (x.0, leads_same (nodes s.forest) (nodes s'.forest) settled.0 (λ a b c l e. (settled.1.tree.down a b c l e).linked) linked_stays x.0 0 n settled.1.tree.root x.1);
       owed = λ i n x. inl (k i n x);
       handed = λ n b a. elim (d.each n) [
-        | inl e ↦ absurd (false≢true (sym b ∙ sym (ap is_waiting e) ∙ a))
+        | inl e ↦ absurd (false≢true (sym b ∙ sym (ap is_handed_over e) ∙ a))
         | inr l ↦ absurd (let y = waits_is (nodes s'.forest n) a in false≢true (sym y.1.kept ∙ l.destroyed))
       ];
       waits = λ n b. elim (d.each n) [ inl e ↦ inl e | inr l ↦ inr (record { made = l.made; destroyed = l.destroyed }) ];
@@ -217,14 +217,14 @@ module _ {V : Type 0} (same : V → V → Bool) (always : Bool) (laws : CallLaws
       ]
 
       -- the node that it hands over was taken out before, and isn't any more
-      walks_handed : (n : ℕ) → is_waiting (nodes s.forest n) ≡ false → is_waiting (nodes s'.forest n) ≡ true → IsTakenBy s w n × HandsOver s.forest s'.forest w n
+      walks_handed : (n : ℕ) → is_handed_over (nodes s.forest n) ≡ false → is_handed_over (nodes s'.forest n) ≡ true → IsTakenBy s w n × HandsOver s.forest s'.forest w n
       walks_handed n b a =
           let x : TakenBy id_number old.0.phase n = leaves.newly_waits same always laws s.forest s'.forest s.machines k.step.between collector_report k.move holds.0.safe k.step.walked old.0 old.1 n b a in
           ((old.0, old.1, x), by x (owes n x))
         where
           by : TakenBy id_number old.0.phase n → Owes (nodes s.forest) (nodes s'.forest) old.0.phase moved.now.phase n → HandsOver s.forest s'.forest w n
           by x (Hands c next q u e is y) = leaves.hands_over same always laws s.forest s'.forest s.machines k.step.between collector_report k.move holds.0.safe k.step.walked old.0 old.1 n c next q u x e is y
-          by x (Waits y z) = absurd (false≢true (sym b ∙ sym (ap is_waiting z) ∙ a))
+          by x (Waits y z) = absurd (false≢true (sym b ∙ sym (ap is_handed_over z) ∙ a))
           by x (Marks y z) =
               let o = leaves.owed same always laws s.forest s'.forest s.machines k.step.between collector_report k.move holds.0.safe k.step.walked old.0 old.1 n x in
               absurd (false≢true (sym (ap (λ v. v.retired) z.after ∙ o.unretired) ∙ (waits_is (nodes s'.forest n) a).0))

@@ -36,7 +36,7 @@ use Rattle.congee.specs.declared.protocol.machine.Noise.{Noise}
 use Rattle.congee.specs.declared.protocol.phase.Phase.{Phase}
 use Rattle.congee.specs.declared.protocol.phase.Phase.TheVariants.{Ended}
 use Rattle.congee.specs.Heap.{Stands}
-use Rattle.congee.specs.protocol.Handing.{is_waiting}
+use Rattle.congee.specs.protocol.Handing.{is_handed_over}
 use Rattle.congee.specs.protocol.Holdings.{MadeBy, TakenBy}
 use Rattle.joint.specs.declared.engine.in_flight.InFlight.{InFlight}
 use Rattle.joint.specs.declared.engine.in_flight.InFlight.TheVariants.{Idle, Collecting, Reserving, Securing, Walking}
@@ -385,7 +385,7 @@ module _ {V : Type 0} (same : V → V → Bool) (always : Bool) (calls : CallLaw
                     | inr t ↦ absurd (taken_none t.1.0 n (over t.0 t.1.0 t.1.1) t.1.2)
                   ] in
                   let w = retired_waits (nodes s'.forest n) retired st in
-                  let w' : is_waiting (nodes s'.forest (number (named n))) ≡ true = ap (λ (k : ℕ). is_waiting (nodes s'.forest k)) (number_named n) ∙ w in
+                  let w' : is_handed_over (nodes s'.forest (number (named n))) ≡ true = ap (λ (k : ℕ). is_handed_over (nodes s'.forest k)) (number_named n) ∙ w in
                   let one : weight (removes (named n)) s'.forest.collector ≡ 1 = h'.0.filed.filed (named n) ∙ ap bit w' in
                   let y = in_other_bag s s' who h' x (named n) (omega (arith, one)) in
                   record { waits = b; worker = y.0; other = y.1; registered = y.2; job = y.3.0; deferred = y.3.1; removal = y.3.2 })

@@ -9,21 +9,21 @@ use Rattle.congee.specs.declared.protocol.machine.Machine.{Machine}
 use Rattle.congee.specs.declared.protocol.machine.Move.{Move}
 use Rattle.congee.specs.declared.protocol.machine.Outcome.{Outcome}
 use Rattle.congee.specs.declared.protocol.machine.Outcome.TheVariants.{Running, Asks, Found, Done, Scanned, Refused}
-use Rattle.congee.specs.declared.protocol.phase.Double.{Double}
-use Rattle.congee.specs.declared.protocol.phase.Double.TheVariants.{Unlink, Grow, GrowLink, Split, Shrink, Collapse, ShrinkAbove}
+use Rattle.congee.specs.declared.protocol.phase.Replacement.{Replacement}
+use Rattle.congee.specs.declared.protocol.phase.Replacement.TheVariants.{Unlink, Grow, GrowLink, Split, Shrink, Collapse, ShrinkAbove}
 use Rattle.congee.specs.declared.protocol.phase.Kind.{Kind}
 use Rattle.congee.specs.declared.protocol.phase.Kind.TheVariants.{Get, Insert, Remove, ComputePresent, ComputeInsert, Exchange}
-use Rattle.congee.specs.declared.protocol.phase.One.{One}
+use Rattle.congee.specs.declared.protocol.phase.NodeChange.{NodeChange}
 use Rattle.congee.specs.declared.protocol.phase.Above.{Above as Over}
 use Rattle.congee.specs.declared.protocol.phase.Parent.{Parent}
 use Rattle.congee.specs.declared.protocol.phase.Phase.{Phase}
-use Rattle.congee.specs.declared.protocol.phase.Phase.TheVariants.{New, Version, Read, Check, CheckUncopied, CheckMiss, CheckDown, CheckOld, MakeLeaf, MakeGreater, MakeTop, MakeBeside, MakeLesser, AskOld, AskNew, Confirm, CheckAbove, UpgradeOne, ChangeOne, UpgradeTop, UpgradeAbove, UpgradeBelow, ChangeTwo, Obsolete, Retire, UnlockBelow, Unlock, Unwind, Scan, Ended}
+use Rattle.congee.specs.declared.protocol.phase.Phase.TheVariants.{New, Version, Read, Check, CheckUncopied, CheckMiss, CheckDown, CheckOld, MakeLeaf, MakeGreater, MakeTop, MakeBeside, MakeLesser, AskOld, AskNew, Confirm, CheckAbove, UpgradeHere, ChangeHere, UpgradeTop, UpgradeAbove, UpgradeBelow, ChangeAbove, Obsolete, Retire, UnlockBelow, Unlock, Unwind, Scan, Ended}
 use Rattle.congee.specs.declared.protocol.phase.Plan.{Plan}
 use Rattle.congee.specs.declared.protocol.phase.Plan.TheVariants.{Here, Above}
-use Rattle.congee.specs.declared.protocol.phase.Single.{Single}
-use Rattle.congee.specs.declared.protocol.phase.Single.TheVariants.{Set}
+use Rattle.congee.specs.declared.protocol.phase.Placement.{Placement}
+use Rattle.congee.specs.declared.protocol.phase.Placement.TheVariants.{Set}
 use Rattle.congee.specs.declared.protocol.phase.Site.{Site}
-use Rattle.congee.specs.declared.protocol.phase.Two.{Two}
+use Rattle.congee.specs.declared.protocol.phase.ParentChange.{ParentChange}
 use Rattle.congee.specs.declared.protocol.store.Reading.{Reading}
 use Rattle.congee.specs.declared.protocol.store.Reading.TheVariants.{Differs, Fits, Uncopied}
 use Rattle.congee.specs.declared.protocol.store.Refusal.{Refusal}
@@ -33,7 +33,7 @@ use Rattle.congee.specs.declared.protocol.store.Upgrade.{Upgrade}
 use Rattle.congee.specs.declared.protocol.store.Upgrade.TheVariants.{Locked, Failed, Exhausted}
 use Rattle.congee.specs.declared.protocol.next_phase.NextPhase.{NextPhase}
 use Rattle.congee.specs.Heap.{Node, is_taken}
-use Rattle.congee.specs.protocol.Steps.{quiet, again, answered, refused, adds, asks_new, absent_reply, after_version, after_read, down, started, ready, unless_full, missing, absent, CopyFailed, IsAsked, replaced, last_out, taken_out, shrinks, IsAtOld, IsAdded, IsExchanged, IsCompared, IsPresent, IsChecked, IsIf, after_miss, IsGiven, IsGivenNew, MadeLeaf, MadeGreater, MadeTop, MadeBeside, MadeLesser, IsCheckedAbove, UpgradedOne, UpgradedTop, UpgradedAbove, UpgradedBelow, after_change, after_top, after_retire, after_unwind, given_up, unwound, PhaseStepped, Stepped}
+use Rattle.congee.specs.protocol.Steps.{quiet, again, answered, refused, adds, asks_new, absent_reply, after_version, after_read, down, started, ready, unless_full, missing, absent, CopyFailed, IsAsked, replaced, last_out, taken_out, shrinks, IsAtOld, IsAdded, IsExchanged, IsCompared, IsPresent, IsChecked, IsIf, after_miss, IsGiven, IsGivenNew, MadeLeaf, MadeGreater, MadeTop, MadeBeside, MadeLesser, IsCheckedAbove, UpgradedHere, UpgradedTop, UpgradedAbove, UpgradedBelow, after_change, after_top, after_retire, after_unwind, given_up, unwound, PhaseStepped, Stepped}
 use Rattle.congee.specs.protocol.State.{is_over}
 use Rattle.joint.specs.declared.id.Id.{Id}
 use Rattle.joint.specs.engine.Sound.{IsUnderWay}
@@ -106,7 +106,7 @@ module _ {V : Type 0} where
   readying : (kind : Kind V) (plan : Plan Id) → Tells (ready kind plan)
   readying kind plan = by_cond (asks_new kind) _ _ (refl, tt) (starting plan (absent_reply kind))
 
-  filling : (kind : Kind V) (s : Site Id) (full : Bool) (above : Option (Over Id)) (leaf : Option Id) (change : Single Id) → Tells (unless_full kind s full above leaf change)
+  filling : (kind : Kind V) (s : Site Id) (full : Bool) (above : Option (Over Id)) (leaf : Option Id) (change : Placement Id) → Tells (unless_full kind s full above leaf change)
   filling kind s true (Some p) leaf change = (refl, tt)
   filling kind s true None leaf change = readying kind _
   filling kind s false above leaf change = readying kind _
@@ -192,21 +192,21 @@ module _ {V : Type 0} where
     beside kind p at common byte above (Ok c) x = by t _ x.1 (readying kind _)
     beside kind p at common byte above (Err e) x = by t _ x.1 (refl, tt)
 
-    checked_above : (root : Id) (p : Stamp Id) (one : One Id) (r : Reply V) (b : Bool) → is_taken (h (number p.node)) p.version ≡ b → IsCheckedAbove number root p one r h h' t → Tells t
+    checked_above : (root : Id) (p : Stamp Id) (one : NodeChange Id) (r : Reply V) (b : Bool) → is_taken (h (number p.node)) p.version ≡ b → IsCheckedAbove number root p one r h h' t → Tells t
     checked_above root p one r true e x = by t _ (x.goes_on e).1 (refl, tt)
     checked_above root p one r false e x = by t _ (x.goes_back e).1 (refl, tt)
 
-    upgraded_one : (root : Id) (one : One Id) (r : Reply V) (u : Upgrade) → UpgradedOne number root one r h u h' t → Tells t
+    upgraded_one : (root : Id) (one : NodeChange Id) (r : Reply V) (u : Upgrade) → UpgradedHere number root one r h u h' t → Tells t
     upgraded_one root one r Locked x = by t _ x.1 (refl, tt)
     upgraded_one root one r Failed x = by t _ x.1 (refl, tt)
     upgraded_one root one r Exhausted x = by t _ x.1 (refl, tt)
 
-    upgraded_above : (root : Id) (two : Two Id) (r : Reply V) (u : Upgrade) → UpgradedAbove number root two r h u h' t → Tells t
+    upgraded_above : (root : Id) (two : ParentChange Id) (r : Reply V) (u : Upgrade) → UpgradedAbove number root two r h u h' t → Tells t
     upgraded_above root two r Locked x = by t _ x.1 (refl, tt)
     upgraded_above root two r Failed x = by t _ x.1 (giving_up V root two.top _)
     upgraded_above root two r Exhausted x = by t _ x.1 (giving_up V root two.top _)
 
-    upgraded_top : (root : Id) (first : Parent Id) (two : Two Id) (r : Reply V) (u : Upgrade) → UpgradedTop number root first two r h u h' t → Tells t
+    upgraded_top : (root : Id) (first : Parent Id) (two : ParentChange Id) (r : Reply V) (u : Upgrade) → UpgradedTop number root first two r h u h' t → Tells t
     upgraded_top root first two r Locked x = by t _ x.1 (refl, tt)
     upgraded_top root first two r Failed x = by t _ x.1 (refl, tt)
     upgraded_top root first two r Exhausted x = by t _ x.1 (refl, tt)
@@ -217,12 +217,12 @@ module _ {V : Type 0} where
     lesser s p (Some g) r (Ok c) x = by t _ x.1 (refl, tt)
     lesser s p (Some g) r (Err e) x = by t _ x.1 (refl, tt)
 
-    upgraded_below : (two : Two Id) (r : Reply V) (u : Upgrade) → UpgradedBelow number two r h u h' t → Tells t
+    upgraded_below : (two : ParentChange Id) (r : Reply V) (u : Upgrade) → UpgradedBelow number two r h u h' t → Tells t
     upgraded_below two r Locked x = by t _ x.1 (refl, tt)
     upgraded_below two r Failed x = by t _ x.1 (refl, tt)
     upgraded_below two r Exhausted x = by t _ x.1 (refl, tt)
 
-  topped : (two : Two Id) (r : Reply V) (top : Option (Parent Id)) → Tells (after_top two r top)
+  topped : (two : ParentChange Id) (r : Reply V) (top : Option (Parent Id)) → Tells (after_top two r top)
   topped two r None = (refl, tt)
   topped two r (Some g) = (refl, tt)
 
@@ -230,7 +230,7 @@ module _ {V : Type 0} where
   handed None last r = (refl, tt)
   handed (Some n) last r = (refl, tt)
 
-  changed : (two : Two Id) (r : Reply V) (change : Double Id) → Tells (after_change two r change)
+  changed : (two : ParentChange Id) (r : Reply V) (change : Replacement Id) → Tells (after_change two r change)
   changed two r Unlink = (refl, tt)
   changed two r (Shrink c) = (refl, tt)
   changed two r Collapse = topped two r two.top
@@ -258,12 +258,12 @@ module _ {V : Type 0} (number : Id → ℕ) (same : V → V → Bool) (always : 
   tells (AskNew plan) u k x = given_new plan answer new new' t x.1
   tells (Confirm at r) u k x = by_same _ root (answered r) t (refl, tt) x.2
   tells (CheckAbove p one r) u k x = checked_above number h h' key t root p one r _ refl x.1
-  tells (UpgradeOne one r) u k x = upgraded_one number h h' key t root one r x.1.0 x.1.2
-  tells (ChangeOne one r) u k x = by t _ x.2 (refl, tt)
+  tells (UpgradeHere one r) u k x = upgraded_one number h h' key t root one r x.1.0 x.1.2
+  tells (ChangeHere one r) u k x = by t _ x.2 (refl, tt)
   tells (UpgradeTop first two r) u k x = upgraded_top number h h' key t root first two r x.1.0 x.1.2
   tells (UpgradeAbove two r) u k x = upgraded_above number h h' key t root two r x.1.0 x.1.2
   tells (UpgradeBelow two r) u k x = upgraded_below number h h' key t two r x.1.0 x.1.2
-  tells (ChangeTwo two r) u k x = by t _ x.2 (changed two r two.change)
+  tells (ChangeAbove two r) u k x = by t _ x.2 (changed two r two.change)
   tells (Obsolete n next p r) u k x = by t _ x.2 (refl, tt)
   tells (Retire n next p r) u k x = by t _ x.2 (handed next p r)
   tells (UnlockBelow n p r) u k x = by t _ x.2 (refl, tt)

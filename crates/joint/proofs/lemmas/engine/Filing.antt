@@ -26,7 +26,7 @@ use Rattle.congee.specs.declared.protocol.run.Step.{Step}
 use Rattle.congee.specs.Heap.{Node, Stands}
 use Rattle.congee.specs.Keys.{key_bytes}
 use Rattle.congee.specs.protocol.Events.{ObsoleteGives, RetireGives}
-use Rattle.congee.specs.protocol.Handing.{is_waiting, HandsNode}
+use Rattle.congee.specs.protocol.Handing.{is_handed_over, HandsNode}
 use Rattle.congee.specs.protocol.Holdings.{TakenBy}
 use Rattle.congee.specs.protocol.Play.{StepPlays, IsMoved}
 use Rattle.congee.specs.protocol.Steps.{PhaseStepped}
@@ -50,7 +50,7 @@ use Rattle.joint.proofs.lemmas.nodes.SlotViews.{slot_view}
 use Rattle.joint.proofs.lemmas.nodes.Views.{heap_of_number, heap_ties}
 
 -- what waits for its destruction stands
-waits_stands : {V : Type 0} (x : Node V) → is_waiting x ≡ true → Stands x
+waits_stands : {V : Type 0} (x : Node V) → is_handed_over x ≡ true → Stands x
 waits_stands x e = by x.retired x.made x.destroyed refl refl e
   where
     by : (r m d : Bool) → x.made ≡ m → x.destroyed ≡ d → r && (m && not d) ≡ true → Stands x
@@ -59,7 +59,7 @@ waits_stands x e = by x.retired x.made x.destroyed refl refl e
     by true false d' m d e = absurd (cc e)
     by false m' d' m d e = absurd (cc e)
 
-unretired_waits_not : {V : Type 0} (x : Node V) → x.retired ≡ false → is_waiting x ≡ true → ⊥
+unretired_waits_not : {V : Type 0} (x : Node V) → x.retired ≡ false → is_handed_over x ≡ true → ⊥
 unretired_waits_not x r e = let q : false && (x.made && not x.destroyed) ≡ true = ap (λ b. b && (x.made && not x.destroyed)) (sym r) ∙ e in absurd (cc q)
 
 -- two names that pass the test are the same
@@ -93,18 +93,18 @@ same_node : {V : Type 0} (st st' : Store (Slot V)) (n : Name) → value_at st' n
 same_node {V} st st' n v g =
     heap_of_number slot_names view slot_view st' n ∙ ap (λ (x : Option (Slot V)). view (was_given st' n) x) v ∙ ap (λ (b : Bool). view b (value_at st n)) g ∙ sym (heap_of_number slot_names view slot_view st n)
 
-gone_node : {V : Type 0} (st : Store (Slot V)) (n : Name) → value_at st n ≡ None → is_waiting (heap st (number n)) ≡ false
-gone_node {V} st n v = ap is_waiting (heap_of_number slot_names view slot_view st n ∙ ap (λ (x : Option (Slot V)). view (was_given st n) x) v)
+gone_node : {V : Type 0} (st : Store (Slot V)) (n : Name) → value_at st n ≡ None → is_handed_over (heap st (number n)) ≡ false
+gone_node {V} st n v = ap is_handed_over (heap_of_number slot_names view slot_view st n ∙ ap (λ (x : Option (Slot V)). view (was_given st n) x) v)
 
 module _ {V : Type 0} (cells : CellLaws {T = Slot V} (Unit {0}) slot_names) where
-  live_of : (st : Store (Slot V)) (n : Name) → is_waiting (heap st (number n)) ≡ true → is_some (value_at st n) ≡ true
+  live_of : (st : Store (Slot V)) (n : Name) → is_handed_over (heap st (number n)) ≡ true → is_some (value_at st n) ≡ true
   live_of st n e = (heap_ties slot_names view slot_view st).live n (waits_stands (heap st (number n)) e)
 
   -- a called job that is this name's removal leaves no such node, and every other leaves the node
-  by_work : (n : Name) (before : ℕ) (st st' : Store (Slot V)) (w : Work (Unit {0})) → st' ≡ after_work st w → before ≡ bit (is_waiting (heap st (number n)))
-      → (after : ℕ) → after + counts_name (name_of w) n ≡ before → after ≡ bit (is_waiting (heap st' (number n)))
-  by_work n before st st' Blank e is after more = (let q : after ≡ before = omega (arith, more) in q) ∙ is ∙ ap (λ (x : Store (Slot V)). bit (is_waiting (heap x (number n)))) (sym e)
-  by_work n before st st' (Run job) e is after more = (let q : after ≡ before = omega (arith, more) in q) ∙ is ∙ ap (λ (x : Store (Slot V)). bit (is_waiting (heap x (number n)))) (sym e)
+  by_work : (n : Name) (before : ℕ) (st st' : Store (Slot V)) (w : Work (Unit {0})) → st' ≡ after_work st w → before ≡ bit (is_handed_over (heap st (number n)))
+      → (after : ℕ) → after + counts_name (name_of w) n ≡ before → after ≡ bit (is_handed_over (heap st' (number n)))
+  by_work n before st st' Blank e is after more = (let q : after ≡ before = omega (arith, more) in q) ∙ is ∙ ap (λ (x : Store (Slot V)). bit (is_handed_over (heap x (number n)))) (sym e)
+  by_work n before st st' (Run job) e is after more = (let q : after ≡ before = omega (arith, more) in q) ∙ is ∙ ap (λ (x : Store (Slot V)). bit (is_handed_over (heap x (number n)))) (sym e)
   by_work n before st st' (Remove m) e is after more = by_name (is_name m n) refl
     where
       other_node : (m ≢ n) → (b : Bool) → is_some (value_at st m) ≡ b → heap st' (number n) ≡ heap st (number n)
@@ -115,26 +115,26 @@ module _ {V : Type 0} (cells : CellLaws {T = Slot V} (Unit {0}) slot_names) wher
           let apart : n ≢ m = λ x. ne (sym x) in
           same_node st st' n (ap (λ (x : Store (Slot V)). value_at x n) q ∙ sets.others n apart) (ap (λ (x : Store (Slot V)). was_given x n) q ∙ sets.given n apart)
 
-      by_name : (b : Bool) → is_name m n ≡ b → after ≡ bit (is_waiting (heap st' (number n)))
+      by_name : (b : Bool) → is_name m n ≡ b → after ≡ bit (is_handed_over (heap st' (number n)))
       by_name false apart =
           let none : counts_name (Some m) n ≡ 0 = rw apart refl in
           let same : after ≡ before = omega (arith, more, none) in
           let node = other_node (λ q. absurd (let x = subst (λ (y : Name). is_name m y ≡ true) q (is_name_itself m) in cc)) (is_some (value_at st m)) refl in
-          same ∙ is ∙ ap (λ x. bit (is_waiting x)) (sym node)
+          same ∙ is ∙ ap (λ x. bit (is_handed_over x)) (sym node)
       by_name true same =
           let q : m ≡ n = is_name_same m n same in
           let one : counts_name (Some m) n ≡ 1 = rw same refl in
-          let waits = bits (is_waiting (heap st (number n))) before is (omega (arith, more, one)) in
+          let waits = bits (is_handed_over (heap st (number n))) before is (omega (arith, more, one)) in
           let live = live_of st n waits in
           let e1 : st' ≡ after_work {J = Unit {0}} st (Remove n) = subst (λ (x : Name). st' ≡ after_work {J = Unit {0}} st (Remove x)) q e in
           let e2 : st' ≡ emptied st n.cell = rw live at e1 in
           let none : value_at st' n ≡ None = ap (λ (x : Store (Slot V)). value_at x n) e2 ∙ (cells.emptied_sets st n live).value in
-          let past : is_waiting (heap st' (number n)) ≡ false = gone_node st' n none in
+          let past : is_handed_over (heap st' (number n)) ≡ false = gone_node st' n none in
           let was : before ≡ 1 = is ∙ ap bit waits in
           (let z : after ≡ 0 = omega (arith, more, one, was) in z) ∙ ap bit (sym past)
 
-  by_called : (s s' : State (Slot V) (Unit {0})) (c : Option (ℕ × Option Name)) (n : Name) → JobsAfter s c s' → weight (removes n) s ≡ bit (is_waiting (heap s.store (number n))) → weight (removes n) s' ≡ bit (is_waiting (heap s'.store (number n)))
-  by_called s s' None n j is = j.2 (removes n) ∙ is ∙ ap (λ (x : Store (Slot V)). bit (is_waiting (heap x (number n)))) (sym j.0)
+  by_called : (s s' : State (Slot V) (Unit {0})) (c : Option (ℕ × Option Name)) (n : Name) → JobsAfter s c s' → weight (removes n) s ≡ bit (is_handed_over (heap s.store (number n))) → weight (removes n) s' ≡ bit (is_handed_over (heap s'.store (number n)))
+  by_called s s' None n j is = j.2 (removes n) ∙ is ∙ ap (λ (x : Store (Slot V)). bit (is_handed_over (heap x (number n)))) (sym j.0)
   by_called s s' (Some c) n j is = by_work n (weight (removes n) s) s.store s'.store j.0.work j.2 is (weight (removes n) s') (j.4 (removes n))
 
   fewer : (s s' : State (Slot V) (Unit {0})) (c : Option (ℕ × Option Name)) (f : Deferral (Unit {0}) → ℕ) → JobsAfter s c s' → weight f s ≡ 0 → weight f s' ≡ 0
@@ -162,22 +162,22 @@ module _ {V : Type 0} (cells : CellLaws {T = Slot V} (Unit {0}) slot_names) wher
         let gives : RetireGives (nodes s) (id_number node) (nodes s') = (subst P is moved.step.step).1 in
         elim (cases_eq k (id_number node)) [
           | inl q ↦ (node, ap retiring_at at ∙ ap retiring is, q)
-          | inr ne ↦ absurd (let b = hands.before in let a = hands.after in let q : is_waiting (nodes s' k) ≡ is_waiting (nodes s k) = ap is_waiting (gives.others k ne) in cc (b, a, q))
+          | inr ne ↦ absurd (let b = hands.before in let a = hands.after in let q : is_handed_over (nodes s' k) ≡ is_handed_over (nodes s k) = ap is_handed_over (gives.others k ne) in cc (b, a, q))
         ]
     handed k m by at hands (Obsolete node next p r) is e =
         let moved : IsMoved id_number same always s.version_max (Refuses s) (nodes s) ms m step d (nodes s') ms' = plays.moved m at in
         let P : Phase Id V → Type 0 = λ y. PhaseStepped id_number same always s.version_max (Refuses s) m.root (key_bytes m.key) m.kind step.noise.fail step.noise.answer m.given y (nodes s) moved.now.given (record { phase = moved.now.phase; report = d }) (nodes s') in
         let gives : ObsoleteGives (nodes s) (id_number node) (nodes s') = (subst P is moved.step.step).1 in
-        let before : is_waiting (nodes s k) ≡ false = hands.before in
-        let after : is_waiting (nodes s' k) ≡ true = hands.after in
-        let q : is_waiting (nodes s' k) ≡ is_waiting (nodes s k) = elim (cases_eq k (id_number node)) [
-          | inl is_node ↦ ap (λ (j : ℕ). is_waiting (nodes s' j)) is_node ∙ ap is_waiting gives.after ∙ ap (λ (j : ℕ). is_waiting (nodes s j)) (sym is_node)
-          | inr ne ↦ ap is_waiting (gives.others k ne)
+        let before : is_handed_over (nodes s k) ≡ false = hands.before in
+        let after : is_handed_over (nodes s' k) ≡ true = hands.after in
+        let q : is_handed_over (nodes s' k) ≡ is_handed_over (nodes s k) = elim (cases_eq k (id_number node)) [
+          | inl is_node ↦ ap (λ (j : ℕ). is_handed_over (nodes s' j)) is_node ∙ ap is_handed_over gives.after ∙ ap (λ (j : ℕ). is_handed_over (nodes s j)) (sym is_node)
+          | inr ne ↦ ap is_handed_over (gives.others k ne)
         ] in
         absurd (cc (before, after, q))
     handed k m by at hands _ is e = absurd e
 
-    waits_before : (k : ℕ) → is_waiting (nodes s' k) ≡ true → (is_waiting (nodes s k) ≡ true) ⊎ ((node : Id) × (retiring_at (slice_get ms step.who) ≡ Some node) × (k ≡ id_number node))
+    waits_before : (k : ℕ) → is_handed_over (nodes s' k) ≡ true → (is_handed_over (nodes s k) ≡ true) ⊎ ((node : Id) × (retiring_at (slice_get ms step.who) ≡ Some node) × (k ≡ id_number node))
     waits_before k w =
         let x = plays.hands (λ (i : ℕ). []) (λ i ne. absurd (ne refl)) in
         elim x.1 [
@@ -192,8 +192,8 @@ module _ {V : Type 0} (cells : CellLaws {T = Slot V} (Unit {0}) slot_names) wher
         ]
 
     -- a node that it doesn't waits as before
-    as_before : (k : ℕ) → ((node : Id) → retiring_at (slice_get ms step.who) ≡ Some node → k ≡ id_number node → ⊥) → is_waiting (nodes s' k) ≡ is_waiting (nodes s k)
-    as_before k apart = by_both (is_waiting (nodes s' k)) (is_waiting (nodes s k)) (λ w. elim (waits_before k w) [ inl was ↦ was | inr new ↦ absurd (apart new.0 new.1 new.2) ]) (λ w. ap is_waiting (plays.untouched k w) ∙ w)
+    as_before : (k : ℕ) → ((node : Id) → retiring_at (slice_get ms step.who) ≡ Some node → k ≡ id_number node → ⊥) → is_handed_over (nodes s' k) ≡ is_handed_over (nodes s k)
+    as_before k apart = by_both (is_handed_over (nodes s' k)) (is_handed_over (nodes s k)) (λ w. elim (waits_before k w) [ inl was ↦ was | inr new ↦ absurd (apart new.0 new.1 new.2) ]) (λ w. ap is_handed_over (plays.untouched k w) ∙ w)
 
     -- so they have after a step on the tree that hands no node over
     pub filed_walked : s'.collector ≡ with_store s.collector s'.collector.store → retiring_at (slice_get ms step.who) ≡ None → IsFiled s → IsFiled s'
@@ -219,7 +219,7 @@ module _ {V : Type 0} (cells : CellLaws {T = Slot V} (Unit {0}) slot_names) wher
           sealing = sealing_more c' step.who entry inside owes.idle between;
           filed = λ n.
               let more = keeps.jobs (removes n) in
-              let old : weight (removes n) c' ≡ bit (is_waiting (nodes s (number n))) = ap (weight (removes n)) collector_is ∙ f.filed n in
+              let old : weight (removes n) c' ≡ bit (is_handed_over (nodes s (number n))) = ap (weight (removes n)) collector_is ∙ f.filed n in
               by_node n (is_name node.name n) refl (weight (removes n) c') (weight (removes n) (deferred c' step.who (Remove node.name))) more old;
           only = (let more = keeps.jobs others in let old : weight others c' ≡ 0 = ap (weight others) collector_is ∙ f.only in omega (arith, more, old));
         })
@@ -237,7 +237,7 @@ module _ {V : Type 0} (cells : CellLaws {T = Slot V} (Unit {0}) slot_names) wher
               ];
             }
 
-        now_waits : is_waiting (nodes s' (id_number node)) ≡ true
+        now_waits : is_handed_over (nodes s' (id_number node)) ≡ true
         now_waits =
             let st : Stands (nodes s' (id_number node)) = (heap_ties slot_names view slot_view s'.collector.store).stands node.name owes.stands in
             let r : (nodes s' (id_number node)).retired ≡ true = owes.marked in
@@ -245,8 +245,8 @@ module _ {V : Type 0} (cells : CellLaws {T = Slot V} (Unit {0}) slot_names) wher
             let k : (nodes s' (id_number node)).destroyed ≡ false = st.kept in
             rw (r, m, k) refl
 
-        waited_not : is_waiting (nodes s (id_number node)) ≡ false
-        waited_not = not_true (is_waiting (nodes s (id_number node))) (λ w. unretired_waits_not (nodes s (id_number node)) unretired w)
+        waited_not : is_handed_over (nodes s (id_number node)) ≡ false
+        waited_not = not_true (is_handed_over (nodes s (id_number node))) (λ w. unretired_waits_not (nodes s (id_number node)) unretired w)
           where
             unretired : (nodes s (id_number node)).retired ≡ false
             unretired = by_machine (slice_get ms step.who) refl some
@@ -260,12 +260,12 @@ module _ {V : Type 0} (cells : CellLaws {T = Slot V} (Unit {0}) slot_names) wher
                     let Q : Phase Id V → Type 0 = λ y. TakenBy id_number y (id_number node) in
                     (taken_known id_number same always step.who settled.0 (nodes s) m.key (key_bytes m.key) m.kind m.given (id_number node) m.phase known.known (subst Q (sym k.3) (inl refl))).unretired
 
-        by_node : (n : Name) (b : Bool) → is_name node.name n ≡ b → (before after : ℕ) → after ≡ before + removes {J = Unit {0}} n (record { ticket = s'.collector.next; work = Remove node.name }) → before ≡ bit (is_waiting (nodes s (number n))) → after ≡ bit (is_waiting (nodes s' (number n)))
+        by_node : (n : Name) (b : Bool) → is_name node.name n ≡ b → (before after : ℕ) → after ≡ before + removes {J = Unit {0}} n (record { ticket = s'.collector.next; work = Remove node.name }) → before ≡ bit (is_handed_over (nodes s (number n))) → after ≡ bit (is_handed_over (nodes s' (number n)))
         by_node n true itself before later more old =
             let q : node.name ≡ n = is_name_same node.name n itself in
             let one : counts_name (Some node.name) n ≡ 1 = rw itself refl in
-            let none : before ≡ 0 = old ∙ ap bit (subst (λ (x : Name). is_waiting (nodes s (number x)) ≡ false) q waited_not) in
-            (let z : later ≡ 1 = omega (arith, more, one, none) in z) ∙ ap bit (sym (subst (λ (x : Name). is_waiting (nodes s' (number x)) ≡ true) q now_waits))
+            let none : before ≡ 0 = old ∙ ap bit (subst (λ (x : Name). is_handed_over (nodes s (number x)) ≡ false) q waited_not) in
+            (let z : later ≡ 1 = omega (arith, more, one, none) in z) ∙ ap bit (sym (subst (λ (x : Name). is_handed_over (nodes s' (number x)) ≡ true) q now_waits))
         by_node n false apart before later more old =
             let zero : counts_name (Some node.name) n ≡ 0 = rw apart refl in
             let stays = as_before (number n) (λ other yet is.
@@ -291,11 +291,11 @@ module _ {V : Type 0} (cells : CellLaws {T = Slot V} (Unit {0}) slot_names) wher
   filed_opened limits charge limit s begin = record {
     expiry = ap (λ c. c.limits.expiry) begin.collector_is ∙ begin.allowed.expiry;
     sealing = subst (λ (x : State (Slot V) (Unit {0})). IsSealing x) (sym begin.collector_is) (cells.seals_stored (opened limits.epoch 1) s.collector.store top_roots (cells.seals_opened limits.epoch 1));
-    filed = λ n. ap (weight (removes n)) begin.collector_is ∙ cells.opened_jobs limits.epoch 1 (removes n) ∙ ap bit (sym (not_true (is_waiting (nodes s (number n))) (none_waits (number n))));
+    filed = λ n. ap (weight (removes n)) begin.collector_is ∙ cells.opened_jobs limits.epoch 1 (removes n) ∙ ap bit (sym (not_true (is_handed_over (nodes s (number n))) (none_waits (number n))));
     only = ap (weight others) begin.collector_is ∙ cells.opened_jobs limits.epoch 1 others;
   }
     where
-      none_waits : (k : ℕ) → is_waiting (nodes s k) ≡ true → ⊥
+      none_waits : (k : ℕ) → is_handed_over (nodes s k) ≡ true → ⊥
       none_waits k w = elim (cases_eq k 0) [
         | inl is ↦ unretired_waits_not (nodes s k) (ap (λ (j : ℕ). (nodes s j).retired) is ∙ begin.fresh.alone.unretired) w
         | inr ne ↦ (let x = waits_stands (nodes s k) w in let m : (nodes s k).made ≡ true = x.made in let u : (nodes s k).made ≡ false = begin.fresh.others k ne in absurd cc)

@@ -19,20 +19,20 @@ use Rattle.congee.specs.declared.protocol.phase.Kind.TheVariants.{Get, Insert, R
 use Rattle.congee.specs.declared.protocol.phase.Parent.{Parent}
 use Rattle.congee.specs.declared.protocol.phase.Above.{Above as Over}
 use Rattle.congee.specs.declared.protocol.phase.Site.{Site}
-use Rattle.congee.specs.declared.protocol.phase.One.{One}
-use Rattle.congee.specs.declared.protocol.phase.Single.{Single}
-use Rattle.congee.specs.declared.protocol.phase.Double.{Double}
-use Rattle.congee.specs.declared.protocol.phase.Double.TheVariants.{Unlink, Grow, GrowLink, Split, Shrink, Collapse, ShrinkAbove}
-use Rattle.congee.specs.declared.protocol.phase.Two.{Two}
+use Rattle.congee.specs.declared.protocol.phase.NodeChange.{NodeChange}
+use Rattle.congee.specs.declared.protocol.phase.Placement.{Placement}
+use Rattle.congee.specs.declared.protocol.phase.Replacement.{Replacement}
+use Rattle.congee.specs.declared.protocol.phase.Replacement.TheVariants.{Unlink, Grow, GrowLink, Split, Shrink, Collapse, ShrinkAbove}
+use Rattle.congee.specs.declared.protocol.phase.ParentChange.{ParentChange}
 use Rattle.congee.specs.declared.protocol.phase.Plan.{Plan}
 use Rattle.congee.specs.declared.protocol.phase.Plan.TheVariants.{Here, Above}
 use Rattle.congee.specs.declared.protocol.phase.Phase.{Phase}
-use Rattle.congee.specs.declared.protocol.phase.Phase.TheVariants.{New, Version, Read, Check, CheckUncopied, CheckMiss, CheckDown, CheckOld, MakeLeaf, MakeGreater, MakeTop, MakeBeside, MakeLesser, AskOld, AskNew, Confirm, CheckAbove, UpgradeOne, ChangeOne, UpgradeTop, UpgradeAbove, UpgradeBelow, ChangeTwo, Obsolete, Retire, UnlockBelow, Unlock, Unwind, Scan, Ended}
+use Rattle.congee.specs.declared.protocol.phase.Phase.TheVariants.{New, Version, Read, Check, CheckUncopied, CheckMiss, CheckDown, CheckOld, MakeLeaf, MakeGreater, MakeTop, MakeBeside, MakeLesser, AskOld, AskNew, Confirm, CheckAbove, UpgradeHere, ChangeHere, UpgradeTop, UpgradeAbove, UpgradeBelow, ChangeAbove, Obsolete, Retire, UnlockBelow, Unlock, Unwind, Scan, Ended}
 use Rattle.congee.specs.declared.protocol.next_phase.NextPhase.{NextPhase}
 use Rattle.congee.specs.Heap.{Node, is_taken}
 use Rattle.congee.specs.Notes.{Note}
-use Rattle.congee.specs.protocol.Protocol.{Known, FitsTwo, Settles}
-use Rattle.congee.specs.protocol.Steps.{PhaseStepped, quiet, again, answered, refused, adds, asks_new, absent_reply, after_version, after_read, down, started, ready, plan_here, unless_full, missing, absent, CopyFailed, IsAsked, replaced, last_out, taken_out, shrinks, is_same, IsAtOld, IsAdded, IsExchanged, IsCompared, IsPresent, IsChecked, IsIf, after_miss, IsGiven, IsGivenNew, MadeLeaf, MadeGreater, MadeTop, MadeBeside, MadeLesser, UpgradedOne, UpgradedTop, UpgradedAbove, UpgradedBelow, unwound, given_up, after_retire, after_unwind}
+use Rattle.congee.specs.protocol.Protocol.{Known, FitsAbove, Settles}
+use Rattle.congee.specs.protocol.Steps.{PhaseStepped, quiet, again, answered, refused, adds, asks_new, absent_reply, after_version, after_read, down, started, ready, plan_here, unless_full, missing, absent, CopyFailed, IsAsked, replaced, last_out, taken_out, shrinks, is_same, IsAtOld, IsAdded, IsExchanged, IsCompared, IsPresent, IsChecked, IsIf, after_miss, IsGiven, IsGivenNew, MadeLeaf, MadeGreater, MadeTop, MadeBeside, MadeLesser, UpgradedHere, UpgradedTop, UpgradedAbove, UpgradedBelow, unwound, given_up, after_retire, after_unwind}
 use Rattle.joint.specs.engine.Sound.{most_left, IsSecured}
 
 -- the call has not taken a node out of the tree that it has yet to hand over
@@ -77,7 +77,7 @@ module _ {C V : Type 0} where
   ready_light : (kind : Kind V) (plan : Plan C) → Light (ready kind plan)
   ready_light kind plan = cond_light (asks_new kind) _ _ tt (started_light plan (absent_reply kind))
 
-  full_light : (kind : Kind V) (s : Site C) (full : Bool) (above : Option (Over C)) (leaf : Option C) (change : Single C) → Light (unless_full kind s full above leaf change)
+  full_light : (kind : Kind V) (s : Site C) (full : Bool) (above : Option (Over C)) (leaf : Option C) (change : Placement C) → Light (unless_full kind s full above leaf change)
   full_light kind s true (Some p) leaf change = tt
   full_light kind s true None leaf change = ready_light kind (plan_here s change)
   full_light kind s false above leaf change = ready_light kind (plan_here s change)
@@ -209,22 +209,22 @@ module _ {C V : Type 0} where
   lesser_light number s p (Some q) r h key (Ok c) h' t g = at t _ g.1 tt
   lesser_light number s p (Some q) r h key (Err e) h' t g = at t _ g.1 tt
 
-  one_light : (number : C → ℕ) (root : C) (one : One C) (r : Reply V) (h : ℕ → Node V) (u : Upgrade) (h' : ℕ → Node V) (t : NextPhase C V) → UpgradedOne number root one r h u h' t → Light t
+  one_light : (number : C → ℕ) (root : C) (one : NodeChange C) (r : Reply V) (h : ℕ → Node V) (u : Upgrade) (h' : ℕ → Node V) (t : NextPhase C V) → UpgradedHere number root one r h u h' t → Light t
   one_light number root one r h Locked h' t g = at t _ g.1 tt
   one_light number root one r h Failed h' t g = at t _ g.1 tt
   one_light number root one r h Exhausted h' t g = at t _ g.1 tt
 
-  first_light : (number : C → ℕ) (root : C) (top : Parent C) (two : Two C) (r : Reply V) (h : ℕ → Node V) (u : Upgrade) (h' : ℕ → Node V) (t : NextPhase C V) → UpgradedTop number root top two r h u h' t → Light t
+  first_light : (number : C → ℕ) (root : C) (top : Parent C) (two : ParentChange C) (r : Reply V) (h : ℕ → Node V) (u : Upgrade) (h' : ℕ → Node V) (t : NextPhase C V) → UpgradedTop number root top two r h u h' t → Light t
   first_light number root top two r h Locked h' t g = at t _ g.1 tt
   first_light number root top two r h Failed h' t g = at t _ g.1 tt
   first_light number root top two r h Exhausted h' t g = at t _ g.1 tt
 
-  above_light : (number : C → ℕ) (root : C) (two : Two C) (r : Reply V) (h : ℕ → Node V) (u : Upgrade) (h' : ℕ → Node V) (t : NextPhase C V) → UpgradedAbove number root two r h u h' t → Light t
+  above_light : (number : C → ℕ) (root : C) (two : ParentChange C) (r : Reply V) (h : ℕ → Node V) (u : Upgrade) (h' : ℕ → Node V) (t : NextPhase C V) → UpgradedAbove number root two r h u h' t → Light t
   above_light number root two r h Locked h' t g = at t _ g.1 tt
   above_light number root two r h Failed h' t g = up_light root two.top _ t g.1
   above_light number root two r h Exhausted h' t g = up_light root two.top _ t g.1
 
-  both_light : (number : C → ℕ) (two : Two C) (r : Reply V) (h : ℕ → Node V) (u : Upgrade) (h' : ℕ → Node V) (t : NextPhase C V) → UpgradedBelow number two r h u h' t → Light t
+  both_light : (number : C → ℕ) (two : ParentChange C) (r : Reply V) (h : ℕ → Node V) (u : Upgrade) (h' : ℕ → Node V) (t : NextPhase C V) → UpgradedBelow number two r h u h' t → Light t
   both_light number two r h Locked h' t g = at t _ g.1 tt
   both_light number two r h Failed h' t g = at t _ g.1 tt
   both_light number two r h Exhausted h' t g = at t _ g.1 tt
@@ -235,7 +235,7 @@ module _ {C V : Type 0} where
 
   -- a phase after which a call may owe a node
   abbrev Unlinks : Phase C V → Type 0
-  Unlinks (ChangeTwo two r) = Unit {0}
+  Unlinks (ChangeAbove two r) = Unit {0}
   Unlinks (Obsolete n next p r) = Unit {0}
   Unlinks (Retire n next p r) = Unit {0}
   Unlinks _ = ⊥
@@ -259,13 +259,13 @@ module _ {C V : Type 0} where
     step_light (AskOld s v) never g = given_light always same kind s v answer new new' t g.1
     step_light (AskNew plan) never g = new_light plan answer new new' t g.1
     step_light (Confirm s r) never g = if_this (is_taken (h (number s.node)) s.version) root (answered r) t tt g.2
-    step_light (CheckAbove p one r) never g = by_check (is_taken (h (number p.node)) p.version) t (quiet (UpgradeOne one r)) (again root) (λ e. (g.1.goes_on e).1) (λ e. (g.1.goes_back e).1) tt tt
-    step_light (UpgradeOne one r) never g = one_light number root one r h g.1.0 h' t g.1.2
-    step_light (ChangeOne one r) never g = at t _ g.2 tt
+    step_light (CheckAbove p one r) never g = by_check (is_taken (h (number p.node)) p.version) t (quiet (UpgradeHere one r)) (again root) (λ e. (g.1.goes_on e).1) (λ e. (g.1.goes_back e).1) tt tt
+    step_light (UpgradeHere one r) never g = one_light number root one r h g.1.0 h' t g.1.2
+    step_light (ChangeHere one r) never g = at t _ g.2 tt
     step_light (UpgradeTop top two r) never g = first_light number root top two r h g.1.0 h' t g.1.2
     step_light (UpgradeAbove two r) never g = above_light number root two r h g.1.0 h' t g.1.2
     step_light (UpgradeBelow two r) never g = both_light number two r h g.1.0 h' t g.1.2
-    step_light (ChangeTwo two r) never g = absurd (never tt)
+    step_light (ChangeAbove two r) never g = absurd (never tt)
     step_light (Obsolete n next p r) never g = absurd (never tt)
     step_light (Retire n next p r) never g = absurd (never tt)
     step_light (UnlockBelow n p r) never g = at t _ g.2 tt
@@ -275,7 +275,7 @@ module _ {C V : Type 0} where
     step_light Ended never g = at t _ g.2 tt
 
 -- a reading call never changes two nodes
-fits_both : {C V : Type 0} (change : Double C) (found : Option V) → FitsTwo change found found → ⊥
+fits_both : {C V : Type 0} (change : Replacement C) (found : Option V) → FitsAbove change found found → ⊥
 fits_both Unlink None f = f
 fits_both Unlink (Some v) f = f
 fits_both (Shrink c) None f = f
@@ -392,9 +392,9 @@ module _ {C V : Type 0} where
 
     -- a reading call that owes none isn't about to
     reads_on : (s : Phase C V) → OwesNone s → Known number same always i a h k key Get new s → Unlinks s → ⊥
-    reads_on (ChangeTwo two r) o known u =
+    reads_on (ChangeAbove two r) o known u =
         let e : known.0 ≡ new = left_found same k new known.0 r known.5 in
-        let P : Option V → Type 0 = λ x. FitsTwo two.change known.0 x in
+        let P : Option V → Type 0 = λ x. FitsAbove two.change known.0 x in
         fits_both two.change known.0 (subst P (sym e) known.4)
     reads_on (Obsolete n next p r) o known u = o
     reads_on (Retire n next p r) o known u = o

@@ -14,7 +14,7 @@ use Rattle.crossbeam_epoch.specs.World.Reach.{Act, Quiet, Marked, GivenBack, Mom
 use Rattle.congee.specs.declared.protocol.machine.Machine.{Machine}
 use Rattle.congee.specs.declared.protocol.machine.Move.{Move}
 use Rattle.congee.specs.Heap.{Node, Below, Stands}
-use Rattle.congee.specs.protocol.Handing.{InTree, Untouched, is_waiting}
+use Rattle.congee.specs.protocol.Handing.{InTree, Untouched, is_handed_over}
 use Rattle.congee.specs.Notes.{Status, Note, Linked, Gone, Held, Unmade, Back, Destroyed, is_published, LockWords}
 use Rattle.congee.specs.protocol.Holdings.{MadeBy}
 use Rattle.congee.specs.protocol.Names.{names, Comes, Had, Top, New_made, Hangs}
@@ -33,7 +33,7 @@ use Rattle.joint.proofs.lemmas.engine.GivenBack.{backs, same_marks, still_in, st
 use Rattle.joint.proofs.lemmas.engine.InReach.{never}
 
 -- what was handed over and stands waits
-pub retired_waits : {V : Type 0} (n : Node V) → n.retired ≡ true → Stands n → is_waiting n ≡ true
+pub retired_waits : {V : Type 0} (n : Node V) → n.retired ≡ true → Stands n → is_handed_over n ≡ true
 retired_waits n r s = let m : n.made ≡ true = s.made in let k : n.destroyed ≡ false = s.kept in rw (r, m, k) refl
 
 by_status : (x : Status) → is_published x ≡ true → (x ≡ Linked) ⊎ (x ≡ Gone)

@@ -9,20 +9,20 @@ use Rattle.crossbeam_epoch.specs.World.Store.{Store}
 use Rattle.crossbeam_epoch.specs.World.Reach.{Quiet, Moment, WasIn, marks_of, moment}
 use Rattle.congee.specs.declared.forms.base_node.NodeType.{NodeType}
 use Rattle.congee.specs.declared.protocol.store.Refusal.{Refusal}
-use Rattle.congee.specs.declared.protocol.phase.Single.{Single}
-use Rattle.congee.specs.declared.protocol.phase.Single.TheVariants.{Set, Link}
-use Rattle.congee.specs.declared.protocol.phase.Double.{Double}
-use Rattle.congee.specs.declared.protocol.phase.Double.TheVariants.{Unlink, Grow, GrowLink, Split, Shrink, Collapse, ShrinkAbove}
+use Rattle.congee.specs.declared.protocol.phase.Placement.{Placement}
+use Rattle.congee.specs.declared.protocol.phase.Placement.TheVariants.{Set, Link}
+use Rattle.congee.specs.declared.protocol.phase.Replacement.{Replacement}
+use Rattle.congee.specs.declared.protocol.phase.Replacement.TheVariants.{Unlink, Grow, GrowLink, Split, Shrink, Collapse, ShrinkAbove}
 use Rattle.congee.specs.declared.protocol.phase.Plan.{Plan}
 use Rattle.congee.specs.declared.protocol.phase.Plan.TheVariants.{Here, Above}
 use Rattle.congee.specs.declared.protocol.phase.Phase.{Phase}
-use Rattle.congee.specs.declared.protocol.phase.Phase.TheVariants.{MakeGreater, MakeBeside, AskNew, CheckAbove, UpgradeOne, ChangeOne, UpgradeTop, UpgradeAbove, UpgradeBelow, ChangeTwo}
+use Rattle.congee.specs.declared.protocol.phase.Phase.TheVariants.{MakeGreater, MakeBeside, AskNew, CheckAbove, UpgradeHere, ChangeHere, UpgradeTop, UpgradeAbove, UpgradeBelow, ChangeAbove}
 use Rattle.congee.specs.declared.protocol.machine.Machine.{Machine}
 use Rattle.congee.specs.declared.protocol.machine.Move.{Move}
 use Rattle.congee.specs.protocol.Handing.{Untouched}
 use Rattle.congee.specs.protocol.Leaving.{StepLeaves}
 use Rattle.congee.specs.Notes.{Note}
-use Rattle.congee.specs.protocol.Holdings.{MadeForOne, MadeForTwo, MadeForPlan, IsMade, MadeBy, Holdings}
+use Rattle.congee.specs.protocol.Holdings.{MadeForHere, MadeForAbove, MadeForPlan, IsMade, MadeBy, Holdings}
 use Rattle.congee.specs.protocol.Steps.{Stepped}
 use Rattle.congee.specs.protocol.Answers.{Keeps, KeepsProtocol}
 use Rattle.congee.specs.protocol.Names.{KeepsOrigin}
@@ -44,11 +44,11 @@ use Rattle.joint.proofs.lemmas.engine.GivenBack.{backs, same_marks, still_in}
 use Rattle.joint.proofs.lemmas.engine.SoundCells.{stepped}
 
 -- the nodes that a call has made
-abbrev made_one : Single Id → List Id
+abbrev made_one : Placement Id → List Id
 made_one Set = []
 made_one (Link leaf) = leaf ∷ []
 
-abbrev made_two : Double Id → List Id
+abbrev made_two : Replacement Id → List Id
 made_two Unlink = []
 made_two (Shrink c) = c ∷ []
 made_two Collapse = []
@@ -71,23 +71,23 @@ mades (MakeGreater s p leaf) = made_leaf leaf
 mades (MakeBeside p at common byte top) = top ∷ []
 mades (AskNew plan) = made_plan plan
 mades (CheckAbove p one r) = made_one one.change
-mades (UpgradeOne one r) = made_one one.change
-mades (ChangeOne one r) = made_one one.change
+mades (UpgradeHere one r) = made_one one.change
+mades (ChangeHere one r) = made_one one.change
 mades (UpgradeTop g two r) = made_two two.change
 mades (UpgradeAbove two r) = made_two two.change
 mades (UpgradeBelow two r) = made_two two.change
-mades (ChangeTwo two r) = made_two two.change
+mades (ChangeAbove two r) = made_two two.change
 mades _ = []
 
 abbrev In : List Id → ℕ → Type 0
 In [] n = ⊥
 In (c ∷ cs) n = (n ≡ id_number c) ⊎ In cs n
 
-in_one : (change : Single Id) (n : ℕ) → MadeForOne id_number change n → In (made_one change) n
+in_one : (change : Placement Id) (n : ℕ) → MadeForHere id_number change n → In (made_one change) n
 in_one Set n x = absurd x
 in_one (Link leaf) n x = inl x
 
-in_two : (change : Double Id) (n : ℕ) → MadeForTwo id_number change n → In (made_two change) n
+in_two : (change : Replacement Id) (n : ℕ) → MadeForAbove id_number change n → In (made_two change) n
 in_two Unlink n x = absurd x
 in_two (Shrink c) n x = inl x
 in_two Collapse n x = absurd x
@@ -111,20 +111,20 @@ in_made (MakeGreater s p leaf) n x = in_leaf leaf n x
 in_made (MakeBeside p at common byte top) n x = inl x
 in_made (AskNew plan) n x = in_plan plan n x
 in_made (CheckAbove p one r) n x = in_one one.change n x
-in_made (UpgradeOne one r) n x = in_one one.change n x
-in_made (ChangeOne one r) n x = in_one one.change n x
+in_made (UpgradeHere one r) n x = in_one one.change n x
+in_made (ChangeHere one r) n x = in_one one.change n x
 in_made (UpgradeTop g two r) n x = in_two two.change n x
 in_made (UpgradeAbove two r) n x = in_two two.change n x
 in_made (UpgradeBelow two r) n x = in_two two.change n x
-in_made (ChangeTwo two r) n x = in_two two.change n x
+in_made (ChangeAbove two r) n x = in_two two.change n x
 in_made _ n x = absurd x
 
-of_one : (change : Single Id) (n : ℕ) → In (made_one change) n → MadeForOne id_number change n
+of_one : (change : Placement Id) (n : ℕ) → In (made_one change) n → MadeForHere id_number change n
 of_one Set n x = x
 of_one (Link leaf) n (inl x) = x
 of_one (Link leaf) n (inr x) = absurd x
 
-of_two : (change : Double Id) (n : ℕ) → In (made_two change) n → MadeForTwo id_number change n
+of_two : (change : Replacement Id) (n : ℕ) → In (made_two change) n → MadeForAbove id_number change n
 of_two Unlink n x = x
 of_two (Shrink c) n (inl x) = x
 of_two (Shrink c) n (inr x) = absurd x
@@ -155,12 +155,12 @@ of_made (MakeBeside p at common byte top) n (inl x) = x
 of_made (MakeBeside p at common byte top) n (inr x) = absurd x
 of_made (AskNew plan) n x = of_plan plan n x
 of_made (CheckAbove p one r) n x = of_one one.change n x
-of_made (UpgradeOne one r) n x = of_one one.change n x
-of_made (ChangeOne one r) n x = of_one one.change n x
+of_made (UpgradeHere one r) n x = of_one one.change n x
+of_made (ChangeHere one r) n x = of_one one.change n x
 of_made (UpgradeTop g two r) n x = of_two two.change n x
 of_made (UpgradeAbove two r) n x = of_two two.change n x
 of_made (UpgradeBelow two r) n x = of_two two.change n x
-of_made (ChangeTwo two r) n x = of_two two.change n x
+of_made (ChangeAbove two r) n x = of_two two.change n x
 of_made _ n x = absurd x
 
 -- by their names

@@ -13,7 +13,7 @@ use Rattle.crossbeam_epoch.specs.declared.world.participant.Participant.{Partici
 use Rattle.crossbeam_epoch.specs.World.Fits.{at_place, in_bag, job_count, one, weight}
 use Rattle.crossbeam_epoch.specs.World.Machine.{State, name_of}
 use Rattle.crossbeam_epoch.specs.World.Sealing.{bit, counts_name}
-use Rattle.congee.specs.protocol.Handing.{is_waiting}
+use Rattle.congee.specs.protocol.Handing.{is_handed_over}
 use Rattle.joint.specs.engine.Filed.{IsFiled, others, removes}
 use Rattle.joint.specs.nodes.Nodes.{Nodes, nodes}
 use Rattle.joint.specs.nodes.Listing.{handed_nodes}
@@ -115,7 +115,7 @@ bit_true true n a b = refl
 bit_true false n a b = absurd (omega (arith, a, b))
 
 -- each job is the removal of a node of the list, where the list has every node that waits
-module _ {V : Type 0} (s : Nodes V) (f : IsFiled s) (ns : List ℕ) (all : (n : ℕ) → is_waiting (nodes s n) ≡ true → Contains ns n) where
+module _ {V : Type 0} (s : Nodes V) (f : IsFiled s) (ns : List ℕ) (all : (n : ℕ) → is_handed_over (nodes s n) ≡ true → Contains ns n) where
   abbrev bare : Deferral (Unit {0}) → ℕ
   bare e = if nat_lt 0 (cover s.collector ns e) then 0 else 1
 
@@ -135,7 +135,7 @@ module _ {V : Type 0} (s : Nodes V) (f : IsFiled s) (ns : List ℕ) (all : (n : 
   is_covered e (Some m) is within =
       let here = within (removes m) in
       let q : removes m e ≡ 1 = ap (λ (x : Option Name). counts_name x m) is ∙ rw (is_name_itself m) refl in
-      let waits = bit_true (is_waiting (nodes s (number m))) (removes m e) (let z = f.filed m in omega (arith, here, z)) (omega (arith, q)) in
+      let waits = bit_true (is_handed_over (nodes s (number m))) (removes m e) (let z = f.filed m in omega (arith, here, z)) (omega (arith, q)) in
       let least = term_within (λ k. removes (named k) e) ns (number m) (all (number m) waits) in
       let same : removes (named (number m)) e ≡ removes m e = ap (λ (x : Name). removes x e) (named_number m) in
       omega (arith, least, same, q)
@@ -159,12 +159,12 @@ module _ {V : Type 0} (s : Nodes V) (f : IsFiled s) (ns : List ℕ) (all : (n : 
       let a = weight_le s.collector one (λ e. cover s.collector ns e + bare e) covered_or_bare in
       let b = weight_add s.collector (cover s.collector ns) bare in
       let c = weight_cover s.collector ns in
-      let d = sum_by-le-sum_by (λ k. weight (removes (named k)) s.collector) (λ k. 1) ns (λ k. (let x = f.filed (named k) in let y = bit_few (is_waiting (nodes s (number (named k)))) in omega (arith, x, y))) in
+      let d = sum_by-le-sum_by (λ k. weight (removes (named k)) s.collector) (λ k. 1) ns (λ k. (let x = f.filed (named k) in let y = bit_few (is_handed_over (nodes s (number (named k)))) in omega (arith, x, y))) in
       omega (arith, a, b, c, none_bare, d, ones ns)
 
 -- no more jobs stand in bags than nodes wait
 pub jobs_waiting : {V : Type 0} (s : World V) → IsFiled s.forest → job_count s.forest.collector ≤ length (waiting_nodes s)
 jobs_waiting {V} s f =
-    let few = jobs_few s.forest f (handed_nodes s.forest) (λ n w. listed is_waiting (λ v. v.word.retired) (none_waits V) some_waits s.forest n w) in
+    let few = jobs_few s.forest f (handed_nodes s.forest) (λ n w. listed is_handed_over (λ v. v.word.retired) (none_waits V) some_waits s.forest n w) in
     let more = length-append (handed_nodes s.forest) (flat_map taken_by s.machines) in
     omega (arith, few, more)

@@ -63,13 +63,13 @@ module _ {V : Type 0} where
   pub phase_asks : (k : ℕ) (kind : Kind V) (v : Option V) (p : Phase Id V) → asks (flight_in k kind v p) ≡ is_asking p
   phase_asks k kind v (phase.Confirm at r) = heeds_none r
   phase_asks k kind v (phase.CheckAbove p one r) = heeds_none r
-  phase_asks k kind v (phase.UpgradeOne one r) = heeds_none r
-  phase_asks k kind v (phase.ChangeOne one r) = heeds_none r
+  phase_asks k kind v (phase.UpgradeHere one r) = heeds_none r
+  phase_asks k kind v (phase.ChangeHere one r) = heeds_none r
   phase_asks k kind v (phase.MakeLesser s p g r) = heeds_none r
   phase_asks k kind v (phase.UpgradeTop g two r) = heeds_none r
   phase_asks k kind v (phase.UpgradeAbove two r) = heeds_none r
   phase_asks k kind v (phase.UpgradeBelow two r) = heeds_none r
-  phase_asks k kind v (phase.ChangeTwo two r) = heeds_none r
+  phase_asks k kind v (phase.ChangeAbove two r) = heeds_none r
   phase_asks k kind v _ = refl
 
   -- it may yet write just where its phase has not taken effect and its kind may write

@@ -12,7 +12,7 @@ use Rattle.congee.specs.declared.protocol.phase.Phase.TheVariants.{Obsolete, Ret
 use Rattle.congee.specs.Heap.{Node, Stands}
 use Rattle.congee.specs.Keys.{key_bytes}
 use Rattle.congee.specs.Notes.{Note, Status, Unmade, Held, Linked, Gone, Back, Destroyed, is_published, is_spent}
-use Rattle.congee.specs.protocol.Handing.{is_waiting}
+use Rattle.congee.specs.protocol.Handing.{is_handed_over}
 use Rattle.congee.specs.protocol.Holdings.{Holdings, IsMade, MadeBy, TakenBy}
 use Rattle.congee.specs.protocol.Play.{EachKnown, ProtocolAt, Settled}
 use Rattle.congee.specs.protocol.Protocol.{AlsoOut, Known}
@@ -41,7 +41,7 @@ use Rattle.joint.proofs.lemmas.nodes.Listing.{pairs_append, gives, given, once, 
 use Rattle.joint.proofs.lemmas.world.Whereabouts.{gone_waits, node_somewhere}
 
 -- what doesn't stand doesn't wait
-pub none_waits : (P : Type 0) (g : Bool) → is_waiting (view {P = P} g None) ≡ false
+pub none_waits : (P : Type 0) (g : Bool) → is_handed_over (view {P = P} g None) ≡ false
 none_waits P g = refl
 
 with_true : (b : Bool) → b && (true && not false) ≡ b
@@ -49,7 +49,7 @@ with_true true = refl
 with_true false = refl
 
 -- a node in a cell waits just where it was handed over
-pub some_waits : {P : Type 0} (g : Bool) (v : Slot P) → is_waiting (view g (Some v)) ≡ v.word.retired
+pub some_waits : {P : Type 0} (g : Bool) (v : Slot P) → is_handed_over (view g (Some v)) ≡ v.word.retired
 some_waits g v = with_true v.word.retired
 
 none_stands : (P : Type 0) (g : Bool) → is_standing (view {P = P} g None) ≡ false
@@ -90,11 +90,11 @@ module _ {P : Type 0} (F : Nodes P) (k : Counts) (kept : IsKept k F) where
 
   -- so many nodes are counted as waiting as stand and were handed over
   pub handed_count : k.waiting ≡ length (handed_nodes F)
-  handed_count = kept.count_is ∙ sym (counted_nodes is_waiting (λ v. v.word.retired) (none_waits P) some_waits F kept.used)
+  handed_count = kept.count_is ∙ sym (counted_nodes is_handed_over (λ v. v.word.retired) (none_waits P) some_waits F kept.used)
 
   -- so many bytes are counted as waiting as these have
   pub handed_weight : k.waiting_bytes ≡ sum_by (bytes_of F) (handed_nodes F)
-  handed_weight = kept.bytes_is ∙ sym (weighed_nodes is_waiting (λ v. v.word.retired) (none_waits P) some_waits F kept.used)
+  handed_weight = kept.bytes_is ∙ sym (weighed_nodes is_handed_over (λ v. v.word.retired) (none_waits P) some_waits F kept.used)
 
   -- a cell's mark tells what is charged
   pub marked_bytes : (n : Name) → is_some (value_at F.collector.store n) ≡ true → size_of (mark_at k.cell_marks.items n.cell).form ≡ bytes_of F (number n)
@@ -207,7 +207,7 @@ module _ {V : Type 0} (same : V → V → Bool) (always : Bool) (laws : CallLaws
   marked_waits n Destroyed e w = absurd (let q : false ≡ true = sym w.2 ∙ holdings.spent n (ap is_spent e) in false≢true q)
 
   -- a node that was handed over and stands waits
-  pub handed_waits : (n : ℕ) → is_waiting (nodes s.forest n) ≡ true → IsWaiting s n
+  pub handed_waits : (n : ℕ) → is_handed_over (nodes s.forest n) ≡ true → IsWaiting s n
   handed_waits n w = marked_waits n (notes n).status refl (parts_of (nodes s.forest n).retired (nodes s.forest n).made (nodes s.forest n).destroyed w)
 
   -- one that a call has taken out
@@ -228,24 +228,24 @@ module _ {V : Type 0} (same : V → V → Bool) (always : Bool) (laws : CallLaws
   -- the list of the nodes that wait has each of them once, and no other
   pub waiting_listed : IsListOf (IsWaiting s) (waiting_nodes s)
   waiting_listed = record {
-    once = pairs_append (λ m n. m ≢ n) (handed_nodes s.forest) (flat_map taken_by s.machines) (nodes_once is_waiting (λ v. v.word.retired) (none_waits V) some_waits s.forest)
+    once = pairs_append (λ m n. m ≢ n) (handed_nodes s.forest) (flat_map taken_by s.machines) (nodes_once is_handed_over (λ v. v.word.retired) (none_waits V) some_waits s.forest)
         (once taken_by s.machines (λ i j m k n a b p q.
         let x = out_of n i (m, a, taken_is m.phase n p) in
         let y = out_of n j (k, b, taken_is k.phase n q) in
         let e : Some i ≡ Some j = sym x.owner ∙ y.owner in cc)
         (λ i m a. phase_once same always i notes (nodes s.forest) m.key m.kind m.given m.phase (known i m a).known))
         (λ x y m n e.
-        let r = parts_of (nodes s.forest x).retired (nodes s.forest x).made (nodes s.forest x).destroyed (unlisted is_waiting (λ v. v.word.retired) (none_waits V) some_waits s.forest x m) in
+        let r = parts_of (nodes s.forest x).retired (nodes s.forest x).made (nodes s.forest x).destroyed (unlisted is_handed_over (λ v. v.word.retired) (none_waits V) some_waits s.forest x m) in
         let t : (i : ℕ) × IsTakenBy s i y = by_machine y n in
         let free : (nodes s.forest y).retired ≡ false = (out_of y t.0 t.1).unretired in
         let q : false ≡ true = sym free ∙ ap (λ k. (nodes s.forest k).retired) (sym e) ∙ r.0 in false≢true q);
     those = λ n. (
       λ c. elim (Contains-append_cases (handed_nodes s.forest) (flat_map taken_by s.machines) n c) [
-        | inl x ↦ handed_waits n (unlisted is_waiting (λ v. v.word.retired) (none_waits V) some_waits s.forest n x)
+        | inl x ↦ handed_waits n (unlisted is_handed_over (λ v. v.word.retired) (none_waits V) some_waits s.forest n x)
         | inr x ↦ (let t : (i : ℕ) × IsTakenBy s i n = by_machine n x in taken_waits n t.0 t.1)
       ],
       λ w. elim ((node_somewhere same always laws s holds n w.stands.made).handed w) [
-        | inl r ↦ Contains-append_left (handed_nodes s.forest) (flat_map taken_by s.machines) n (listed is_waiting (λ v. v.word.retired) (none_waits V) some_waits s.forest n (joined _ _ _ r w.stands.made w.stands.kept))
+        | inl r ↦ Contains-append_left (handed_nodes s.forest) (flat_map taken_by s.machines) n (listed is_handed_over (λ v. v.word.retired) (none_waits V) some_waits s.forest n (joined _ _ _ r w.stands.made w.stands.kept))
         | inr t ↦ Contains-append_right (handed_nodes s.forest) (flat_map taken_by s.machines) n (gives taken_by s.machines t.0 t.1.0 n t.1.1 (is_taken t.1.0.phase n t.1.2))
       ],
     );
