@@ -1,4 +1,5 @@
 pub mod Decimals
+pub mod Turning
 pub mod Keywords
 pub mod Splitting
 pub mod Calls
@@ -20,3 +21,5 @@ pub mod OfMap
 pub mod Keeping
 pub mod Counting
 pub mod Tallying
+pub mod RowVersions
+pub mod VersionsSpared

@@ -1,4 +1,5 @@
 pub mod Words
+pub mod Sessions
 pub mod Grammar
 pub mod Parsing
 pub mod Places
@@ -16,3 +17,6 @@ pub mod Going
 pub mod Arguments
 pub mod Histories
 pub mod Lockfree
+pub mod Versions
+pub mod VersionWords
+pub mod VersionsAtOnce

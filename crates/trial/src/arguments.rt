@@ -20,6 +20,10 @@ pub enum Mode {
     Threads { workers: u32, calls: u32 },
     /// The same on an index whose readers take no lock.
     Lockfree { workers: u32, calls: u32 },
+    /// To make drawn changes of a table of sessions.
+    Sessions,
+    /// To make drawn calls on a store of versions.
+    Versions,
 }
 
 /// The number from 1 to the most that the word is the decimal of, or none.
@@ -52,6 +56,8 @@ pub fn read(arguments: &[String]) -> Option<Mode>
 {
     match arguments {
         [] => Some(Mode::Script),
+        [word] if word.as_str() == "sessions" => Some(Mode::Sessions),
+        [word] if word.as_str() == "versions" => Some(Mode::Versions),
         [word, workers, calls] if word.as_str() == "threads" => {
             let (workers, calls) = numbers(workers.as_bytes(), calls.as_bytes())?;
             Some(Mode::Threads { workers, calls })

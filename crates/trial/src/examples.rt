@@ -1,13 +1,20 @@
 //! Functions of users of the libraries, who have nothing but the contracts.
 //!
-//! The program calls none of them, so they are proved with the tests alone; but a proof file has its function in each build.
+//! The program calls `sessions` and `versions`. The others are proved with the tests alone, but for `history`: a proof file has its
+//! function in each build.
 
+#[cfg(test)]
+pub mod bounded;
 #[cfg(test)]
 pub mod closing;
 #[cfg(test)]
 pub mod collector;
 #[cfg(test)]
+pub mod composite;
+#[cfg(test)]
 pub mod counter;
+#[cfg(test)]
+pub mod counts;
 #[cfg(test)]
 pub mod driven;
 #[cfg(test)]
@@ -18,6 +25,8 @@ pub mod journal;
 #[cfg(test)]
 pub mod machine;
 #[cfg(test)]
+pub mod many;
+#[cfg(test)]
 pub mod moment;
 #[cfg(test)]
 pub mod owned;
@@ -27,11 +36,13 @@ pub mod pages;
 pub mod promises;
 #[cfg(test)]
 pub mod read_mostly;
+pub mod sessions;
 #[cfg(test)]
 pub(crate) mod stack;
+#[cfg(test)]
+pub mod tallies;
 #[cfg(test)]
 pub mod threaded;
 #[cfg(test)]
 pub mod unlocked;
-#[cfg(test)]
 pub mod versions;

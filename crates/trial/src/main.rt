@@ -13,6 +13,10 @@
 //!
 //! With `lockfree N M` they call on an index whose readers take no lock, each on keys of its own beside the others' (`lockfree`).
 //! Each keeps its calls and what they answered; at the end its list is judged, with what the closed index has at its keys.
+//!
+//! With `sessions` it makes drawn changes of the examples' table of sessions, and prints them and what they leave (`sessions`).
+//!
+//! With `versions` it makes drawn calls on the examples' store of versions, and prints each with what it told (`versions`).
 #![tactic(auto)]
 
 mod arguments;
@@ -35,10 +39,12 @@ mod reply;
 mod run;
 mod script;
 mod session;
+mod sessions;
 mod start;
 #[cfg(test)]
 mod tests;
 mod threads;
+mod versions;
 mod word;
 mod worker;
 

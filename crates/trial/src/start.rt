@@ -15,7 +15,9 @@ use crate::arguments::{self, Mode};
 use crate::lockfree::lockfree;
 use crate::output::print;
 use crate::run::run;
+use crate::sessions::sessions;
 use crate::threads::threads;
+use crate::versions::versions;
 use std::alloc::Global;
 use std::io::{Read, Write};
 use std::process::ExitCode;
@@ -24,7 +26,7 @@ use std::thread::Threads;
 
 /// What is printed where the arguments ask for nothing that the program does.
 const USAGE: &[u8] =
-    b"usage: trial [threads N M | lockfree N M], where 1 <= N <= 16 and 1 <= M <= 10000\n";
+    b"usage: trial [threads N M | lockfree N M | sessions | versions], where 1 <= N <= 16 and 1 <= M <= 10000\n";
 
 /// Takes the usage, and tells the exit status: 2, or 1 where the writer fails.
 fn status_of_usage<W: Write>(writer: &mut W) -> u8
@@ -43,8 +45,8 @@ pub fn usage<W: Write>(writer: &mut W) -> ExitCode
     ExitCode::from(status_of_usage(writer))
 }
 
-/// Does what the arguments ask for, without the program's name: answers a script, or lets threads call on an index of
-/// either kind; or prints the usage.
+/// Does what the arguments ask for, without the program's name: answers a script, lets threads call on an index of either kind,
+/// makes changes of a table of sessions or calls on a store of versions; or prints the usage.
 pub fn start<T: Threads + Wait + Sync, R: Read, W: Write>(
     rt: &T,
     alloc: Global,
@@ -70,6 +72,8 @@ pub fn start<T: Threads + Wait + Sync, R: Read, W: Write>(
         Some(Mode::Lockfree { workers, calls }) => {
             ExitCode::from(lockfree(rt, alloc, workers, calls, writer))
         }
+        Some(Mode::Sessions) => ExitCode::from(sessions(alloc, writer)),
+        Some(Mode::Versions) => ExitCode::from(versions(alloc, writer)),
         None => usage(writer),
     }
 }

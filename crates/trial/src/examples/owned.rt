@@ -30,7 +30,7 @@ pub fn opens_and_closes_numbers(alloc: Global, limit: u64) -> Result<Budget, OOM
     ensures limit { IfOk result (λ r. r.limit ≡ limit) }
 {
     let tree: U64Congee<u64, Limited> = U64Congee::new(alloc, Limited::new(limit))?;
-    let allocator = tree.close();
+    let (allocator, _) = tree.close();
     Ok(Budget {
         charged: allocator.charged(),
         limit: allocator.limit(),

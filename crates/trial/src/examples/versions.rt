@@ -1,43 +1,14 @@
-//! A table whose rows have versions: a key is a row's number and a version's, so one range has all versions of a row.
-ghost use Rattle.std.specs.Prelude.{◌≡◌, ◌+◌, ◌-◌, ◌/◌, ◌%◌, ◌^◌, IfOk, Some, map};
-ghost use Rattle.std.specs.FinMap.{entries};
-ghost use Rattle.congee.specs.owned.Nearest.{pair_by};
-ghost use Rattle.congee.specs.owned.Ranges.{in_range};
-ghost use Rattle.judge.specs.Words.{joined};
-
-use congee::{Congee, DefaultAllocator, Iter, OOMError};
-use std::alloc::Global;
-use std::ops::Bound;
-
-/// Values, each under its row's number and its version's.
-pub type Table = Congee<(u32, u32), u64>;
-
-/// A value that was put at a version of a row is found there.
-pub fn finds_what_it_puts(
-    alloc: Global,
-    row: u32,
-    version: u32,
-    value: u64,
-) -> Result<Option<u64>, OOMError>
-    ensures { IfOk result (λ found. found ≡ Some value) }
-{
-    let mut table: Table = Congee::new(alloc, DefaultAllocator::new())?;
-    table.insert((row, version), value)?;
-    Ok(table.get(&(row, version)))
-}
-
-/// The versions of a row with their values, ascending, each once.
-pub fn versions(table: &Table, row: u32) -> Iter<'_, (u32, u32), u64>
-    ensures { result ≡ map (pair_by (λ n. (n / 2 ^ 32, n % 2 ^ 32)) (λ n. n))
-        (in_range (joined row 0) (joined row (2 ^ 32 - 1) + 1) (entries table.now.pairs)) }
-{
-    table.range_iter((Bound::Included((row, 0)), Bound::Included((row, u32::MAX))))
-}
-
-/// The value that a row had as of a version: that of its greatest version up to this one.
-pub fn as_of(table: &Table, row: u32, version: u32) -> Option<u64> {
-    match table.at_or_before(&(row, version)) {
-        Some(((found, _), value)) if found == row => Some(value),
-        _ => None,
-    }
-}
+//! A store of rows that keep their versions, over an owned tree: readers have snapshots, and a vacuum takes out what no reader sees.
+//!
+//! What is promised, of any list of writes and deletions that the store tells (`Tells`; a new one tells the empty list):
+//!
+//! - a write puts itself before the list that it finds, under a stamp of its own, and a refused one changes nothing (`write`, `delete`);
+//! - a live snapshot is told, of each row, the value that the last write to it left, of those up to the snapshot's stamp; nothing
+//!   where that was a deletion or there is none (`read`);
+//! - a scan has the rows of a range that a read would give a value of, ascending, each with that value, and no other (`scan`);
+//! - beginning and ending snapshots and a vacuum leave what the store tells (`begin`, `end`, `vacuum`). A vacuum goes by the oldest
+//!   live snapshot, which the store knows, since it counts them by their stamps.
+pub mod at_once;
+pub mod keys;
+pub mod store;
+pub mod vacuum;

@@ -7,6 +7,7 @@ use super::machine::{
     END, Index, begin, beginning, count_of, discard, go as step_on, going, is_done, noise, open,
     registering, replied,
 };
+use crate::examples::bounded::charged_by_pairs;
 use crate::examples::collector::put_off;
 use crate::examples::driven::{Driven, answered};
 use crate::examples::grace::collects_beside_a_guard;
@@ -196,6 +197,21 @@ fn owned_trees_keep_their_contracts(rt: HostRuntime) -> Result<(), Fail> {
         finds_what_it_puts_in_numbers(rt.alloc(), 0, 9)?,
     ];
     assert_same(&rt, (charge, found), (0, [Some(7), Some(9)]));
+    Ok(())
+}
+
+#[test]
+fn a_tree_is_charged_by_its_pairs(rt: HostRuntime) -> Result<(), Fail> {
+    let mut tree: Congee<u64, u64, Limited> = Congee::new(rt.alloc(), Limited::new(5000))?;
+    for key in [0, 256, 65_536] {
+        tree.insert(key, key)?;
+    }
+    // The root, three leaves, and two nodes over them.
+    assert_same(
+        &rt,
+        (tree.len(), charged_by_pairs(&tree)),
+        (3, 2104 + 5 * 64),
+    );
     Ok(())
 }
 

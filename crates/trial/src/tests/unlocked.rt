@@ -4,7 +4,6 @@
 //! No test has a version near its end: each begins at 0 and is raised by two at a lock, to 2^64. That such a write is refused, and
 //! changes nothing, is proved.
 
-mod at_once;
 mod calls;
 mod faces;
 mod histories;
@@ -14,6 +13,7 @@ mod rooms;
 mod scans;
 mod search;
 mod sums;
+mod versions;
 mod waits;
 
 use optimistic::{Pair, U64Congee, Worker};

@@ -2,7 +2,7 @@
 //! handles do.
 
 use super::jobs::blocks;
-use super::threads::{Place, Task, by_handle, in_four, in_two, leaves};
+use super::threads::{Place, Task, at_once, by_handle, leaves};
 use crate::tests::asserts::assert_same;
 use crossbeam_epoch::{
     Atomic, Collector, CompareAndSetOrdering, Fault, Guard, Job, Limits, Link, LocalHandle, Owned,
@@ -93,6 +93,14 @@ pub enum What {
 }
 
 use self::What::{Alone, Blocks, GoesOn, InFour, InTwo, Refuses, Stays};
+
+/// Sixteen jobs of four threads.
+const FOUR: [Task; 4] = [
+    Task::Turns(0),
+    Task::Turns(4),
+    Task::Turns(8),
+    Task::Turns(12),
+];
 
 /// What is tried; how many cells its collector has, and how many places; whether it is ended or dropped then; and the sum that its
 /// jobs make. Byte n of the sum counts the calls of job n of two threads, and hexadecimal digit n those of job n of four. 65 jobs are
@@ -212,9 +220,9 @@ fn is_so<R: Threads + Wait + Abort + Sync>(
     match what {
         Alone(task) => by_handle(rt, alloc, place, task),
         InTwo(one, two, last) => {
-            Ok(in_two(rt, alloc, place, one, two)? && by_handle(rt, alloc, place, last)?)
+            Ok(at_once(rt, alloc, place, &[one, two])? && by_handle(rt, alloc, place, last)?)
         }
-        InFour => in_four(rt, alloc, place),
+        InFour => at_once(rt, alloc, place, &FOUR),
         Stays => stays(rt, place.items.register(rt)?),
         Blocks(..) | Refuses | GoesOn => of_two(rt, alloc, place, what),
     }

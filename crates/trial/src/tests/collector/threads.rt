@@ -1,4 +1,4 @@
-//! What is tried on one collector: by one handle, by two threads, each with a handle of its own, and by four.
+//! What is tried on one collector: by one handle, and by threads, each with handles of its own.
 
 use super::face::{
     Handle, Item, ItemGuard, Under, defer, destroy, makes, nests, repins, rounds, spend, swapped,
@@ -69,6 +69,8 @@ pub enum Task {
     Leaves,
     /// A flush that is refused leaves the epoch.
     Flush,
+    /// Four jobs from this number on, each by a handle of its own, once a place is free.
+    Turns(u32),
 }
 
 /// Whether what is tried with a new handle is so.
@@ -102,6 +104,7 @@ fn does<R: Wait + Abort>(
         Task::Tag(tag) => has_tag(rt, handle, &place.root, tag),
         Task::Leaves => defers_unchecked(rt, alloc, handle, place.calls),
         Task::Flush => flushes(rt, alloc, handle, place.calls),
+        Task::Turns(_) => Ok(false),
     }
 }
 
@@ -118,21 +121,37 @@ fn has_tag<R: Wait + Abort>(
     Ok(found == tag)
 }
 
-/// Whether what two threads try at once is so.
-pub fn in_two<R: Threads + Wait + Abort + Sync>(
+/// Whether what some threads try at once is so.
+pub fn at_once<R: Threads + Wait + Abort + Sync>(
     rt: &R,
     alloc: Global,
     place: &Place<'_>,
-    first: Task,
-    second: Task,
+    tasks: &[Task],
 ) -> Result<bool, Fault> {
     both_cross(place.items, &place.root);
-    let (one, two) = thread::join(
-        rt,
-        move || by_handle(rt, alloc, place, first),
-        move || by_handle(rt, alloc, place, second),
-    );
-    Ok(one? && two?)
+    let work = move |number: usize| does_own(rt, alloc, place, tasks.get(number).copied());
+    let Ok(all) = thread::map_indices(rt, alloc, tasks.len(), &work) else {
+        return Err(Fault::Memory);
+    };
+    let mut right = true;
+    for told in all {
+        right &= told?;
+    }
+    Ok(right)
+}
+
+/// Whether what a thread tries is so.
+fn does_own<R: Wait + Abort>(
+    rt: &R,
+    alloc: Global,
+    place: &Place<'_>,
+    task: Option<Task>,
+) -> Result<bool, Fault> {
+    match task {
+        Some(Task::Turns(first)) => take_turns(rt, alloc, place, first),
+        Some(task) => by_handle(rt, alloc, place, task),
+        None => Ok(false),
+    }
 }
 
 /// One at the digit of this number, each digit of so many bits.
@@ -299,45 +318,13 @@ fn meets<R: Wait + Abort>(
     Ok(met)
 }
 
-/// `take_turns` in four threads at once, each with four jobs.
-pub fn in_four<R: Threads + Wait + Abort + Sync>(
-    rt: &R,
-    alloc: Global,
-    place: &Place<'_>,
-) -> Result<bool, Fault> {
-    let (first, second) = thread::join(
-        rt,
-        move || two_take_turns(rt, alloc, place, 0),
-        move || two_take_turns(rt, alloc, place, 8),
-    );
-    first?;
-    second?;
-    Ok(true)
-}
-
-/// `take_turns` in two threads at once.
-fn two_take_turns<R: Threads + Wait + Abort + Sync>(
-    rt: &R,
-    alloc: Global,
-    place: &Place<'_>,
-    number: u32,
-) -> Result<(), Fault> {
-    let (first, second) = thread::join(
-        rt,
-        move || take_turns(rt, alloc, place, number),
-        move || take_turns(rt, alloc, place, number.wrapping_add(4)),
-    );
-    first?;
-    second
-}
-
 /// For each of four jobs from this number on, waits for a free place, defers the job under a guard, collects, and leaves.
 fn take_turns<R: Wait + Abort>(
     rt: &R,
     alloc: Global,
     place: &Place<'_>,
     first: u32,
-) -> Result<(), Fault> {
+) -> Result<bool, Fault> {
     for number in 0..4u32 {
         let mut handle = place_of_its_own(rt, place.items)?;
         let adds = digit(first.wrapping_add(number), 4);
@@ -345,7 +332,7 @@ fn take_turns<R: Wait + Abort>(
         leaves(rt, handle)?;
         sealed?;
     }
-    Ok(())
+    Ok(true)
 }
 
 /// A handle, once a place is free.

@@ -109,7 +109,7 @@ const TOLD: [(&[&str], &[u8]); 3] = [
     ),
     (
         &["threads"],
-        b"usage: trial [threads N M | lockfree N M], where 1 <= N <= 16 and 1 <= M <= 10000\n",
+        b"usage: trial [threads N M | lockfree N M | sessions | versions], where 1 <= N <= 16 and 1 <= M <= 10000\n",
     ),
 ];
 

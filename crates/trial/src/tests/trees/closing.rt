@@ -1,9 +1,8 @@
 //! Owned trees that are closed, number trees, and sequences beside a `BTreeMap`.
 use crate::tests::asserts::assert_same;
-use crate::tests::machine::drawn::number_in;
-use crate::tests::texts::{array, numbers, part};
+use crate::tests::machine::drawn::{next, number_in};
 use congee::{Allocator, Calls, Congee, DefaultAllocator, Limited, NoDrain, U64Congee};
-use std::alloc::{AllocError, Global};
+use std::alloc::Global;
 use std::collections::BTreeMap;
 use std::test::Fail;
 
@@ -82,7 +81,7 @@ fn gives_bytes(tree: &mut Numbers) -> Result<bool, Fail> {
 fn a_number_range_gives_bytes(rt: HostRuntime) -> Result<(), Fail> {
     let mut tree: Numbers = U64Congee::new(rt.alloc(), DefaultAllocator::new())?;
     let given = gives_bytes(&mut tree);
-    let allocator = tree.close();
+    let (allocator, _drainer) = tree.close();
     assert!(rt; given? && allocator.charged() == 0);
     Ok(())
 }
@@ -98,60 +97,71 @@ enum Call {
 #[derive(Clone, Copy)]
 enum Order {
     Dense,
-    /// Each of the keys below so many, 7,919 apart.
-    Shuffled(u64),
+    /// Each of the keys below so many as there are turns, 7,919 apart.
+    Shuffled,
     Scattered,
     /// A leaf of its own for each.
     Lone,
     /// The next key in each such leaf.
     Paired,
+    /// Keys of few bytes that differ, so that nodes part on each level, and leaves have one value, few or many.
+    Drawn,
     /// The greatest key of all.
     Greatest,
 }
 
 impl Order {
-    fn key(self, turn: u64) -> u64 {
+    fn key(self, turn: u64, count: u64) -> u64 {
         match self {
             Order::Dense => turn,
-            Order::Shuffled(count) => turn.wrapping_mul(7919).checked_rem(count).unwrap_or(0),
+            Order::Shuffled => turn.wrapping_mul(7919) % count.max(1),
             Order::Scattered => { turn.wrapping_mul(11400714819323198485) & 0x7fff_ffff_ffff_ffff }
             Order::Lone => turn.wrapping_mul(256),
             Order::Paired => turn.wrapping_mul(256).wrapping_add(1),
+            Order::Drawn => drawn(next(turn)),
             Order::Greatest => u64::MAX,
         }
     }
 }
 
-/// One call with the keys of the turns from the first up to the second.
+/// The key that a number stands for.
+fn drawn(number: u64) -> u64 {
+    let low = number.wrapping_shr(20) % 64;
+    match number.wrapping_shr(40) % 6 {
+        0 => low,
+        1 => low.wrapping_mul(256),
+        2 => low.wrapping_shl(32),
+        3 => low.wrapping_shl(56).wrapping_add(low % 2),
+        4 => low.wrapping_shl(24).wrapping_add(low.wrapping_shl(16)),
+        _ => (low % 8).wrapping_mul(0x0001_0001_0001_0001),
+    }
+}
+
+/// One call with the keys of the turns from the first up to the second, in halves of a sequence's keys.
 #[derive(Clone, Copy)]
 struct Part(Call, Order, u64, u64);
 
 /// How many keys a long sequence has; a hundred times as many in the sweep, which would take minutes without optimization.
 const KEYS: u32 = 1_000;
 
-fn dense(count: u64) -> [Part; 4] {
-    [
-        Part(Call::Insert, Order::Dense, 0, count),
-        Part(Call::Get, Order::Dense, 0, count.wrapping_mul(2)),
-        Part(Call::Remove, Order::Dense, 0, count / 2),
-        Part(Call::Get, Order::Dense, 0, count),
-    ]
-}
+const DENSE: [Part; 4] = [
+    Part(Call::Insert, Order::Dense, 0, 2),
+    Part(Call::Get, Order::Dense, 0, 4),
+    Part(Call::Remove, Order::Dense, 0, 1),
+    Part(Call::Get, Order::Dense, 0, 2),
+];
 
-fn shuffled(count: u64) -> [Part; 2] {
-    [
-        Part(Call::Insert, Order::Shuffled(count), 0, count),
-        Part(Call::Get, Order::Dense, 0, count.wrapping_mul(2)),
-    ]
-}
+const SHUFFLED: [Part; 2] = [
+    Part(Call::Insert, Order::Shuffled, 0, 2),
+    Part(Call::Get, Order::Dense, 0, 4),
+];
 
-fn scattered(count: u64) -> [Part; 3] {
-    [
-        Part(Call::Insert, Order::Scattered, 1, count.wrapping_add(1)),
-        Part(Call::Remove, Order::Scattered, 1, count / 2 + 1),
-        Part(Call::Get, Order::Scattered, 1, count.wrapping_add(1)),
-    ]
-}
+const SCATTERED: [Part; 4] = [
+    Part(Call::Insert, Order::Scattered, 0, 2),
+    Part(Call::Insert, Order::Greatest, 0, 1),
+    Part(Call::Remove, Order::Scattered, 0, 1),
+    Part(Call::Get, Order::Scattered, 0, 2),
+];
 
 const FULL_NODE: [Part; 4] = [
     Part(Call::Insert, Order::Dense, 0, 48),
@@ -161,16 +171,41 @@ const FULL_NODE: [Part; 4] = [
 ];
 
 /// What is done with the leaves below one node: each gets a second value, and loses the first one, and then the other way.
-const LEAVES: [(Call, Order); 9] = [
-    (Call::Insert, Order::Lone),
-    (Call::Insert, Order::Paired),
-    (Call::Get, Order::Lone),
-    (Call::Remove, Order::Lone),
-    (Call::Get, Order::Paired),
-    (Call::Insert, Order::Lone),
-    (Call::Remove, Order::Paired),
-    (Call::Get, Order::Lone),
-    (Call::Get, Order::Paired),
+const LEAVES: [Part; 9] = [
+    Part(Call::Insert, Order::Lone, 0, 2),
+    Part(Call::Insert, Order::Paired, 0, 2),
+    Part(Call::Get, Order::Lone, 0, 2),
+    Part(Call::Remove, Order::Lone, 0, 2),
+    Part(Call::Get, Order::Paired, 0, 2),
+    Part(Call::Insert, Order::Lone, 0, 2),
+    Part(Call::Remove, Order::Paired, 0, 2),
+    Part(Call::Get, Order::Lone, 0, 2),
+    Part(Call::Get, Order::Paired, 0, 2),
+];
+
+/// All grows and shrinks again and again.
+const GROWS: [Part; 8] = [
+    Part(Call::Insert, Order::Drawn, 0, 2),
+    Part(Call::Remove, Order::Drawn, 1, 4),
+    Part(Call::Insert, Order::Drawn, 3, 5),
+    Part(Call::Remove, Order::Drawn, 4, 7),
+    Part(Call::Insert, Order::Drawn, 6, 9),
+    Part(Call::Remove, Order::Drawn, 7, 8),
+    Part(Call::Insert, Order::Greatest, 0, 1),
+    Part(Call::Get, Order::Drawn, 0, 9),
+];
+
+/// Sequences, with half of their keys, or 0 where a sequence is long.
+const SEQUENCES: [(&[Part], u64); 9] = [
+    (&DENSE, 0),
+    (&SHUFFLED, 0),
+    (&SCATTERED, 0),
+    (&FULL_NODE, 1),
+    (&LEAVES, 2),
+    (&LEAVES, 8),
+    (&LEAVES, 24),
+    (&LEAVES, 128),
+    (&GROWS, 300),
 ];
 
 // Whether the tree and the map answer a call alike; a key is inserted with itself.
@@ -182,10 +217,11 @@ fn agrees(tree: &mut Words, map: &mut Map, call: Call, key: u64) -> Result<bool,
     })
 }
 
-fn part_agrees(tree: &mut Words, map: &mut Map, part: &Part) -> Result<bool, Fail> {
+fn part_agrees(tree: &mut Words, map: &mut Map, part: &Part, half: u64) -> Result<bool, Fail> {
     let Part(call, order, start, end) = part;
-    for turn in *start..*end {
-        if !agrees(tree, map, *call, order.key(turn))? {
+    for turn in start.wrapping_mul(half)..end.wrapping_mul(half) {
+        let key = order.key(turn, half.wrapping_mul(2));
+        if !agrees(tree, map, *call, key)? {
             return Ok(false);
         }
     }
@@ -209,150 +245,34 @@ fn ends_agree(tree: &Words, map: &Map, start: u64) -> bool {
         && tree.range(&start, &u64::MAX, &mut found) <= count
 }
 
-// Whether a tree and a map answer these parts alike, and then such scans.
-fn parts_agree(tree: &mut Words, map: &mut Map, parts: &[Part]) -> Result<bool, Fail> {
-    for part in parts {
-        if !part_agrees(tree, map, part)? {
-            return Ok(false);
-        }
-    }
+// Whether a tree and a map answer these parts alike, and then such scans, and have the same keys.
+fn parts_agree(tree: &mut Words, map: &mut Map, parts: &[Part], half: u64) -> Result<bool, Fail> {
     let mut alike = true;
+    for part in parts {
+        alike &= part_agrees(tree, map, part, half)?;
+    }
     for start in &STARTS {
         alike &= ends_agree(tree, map, *start);
     }
-    Ok(alike)
+    Ok(alike && tree.keys()?.iter().eq(map.keys()) && tree.len() == map.len() as u64)
 }
 
 // Whether an empty tree answers as a map.
-fn all_agree(alloc: Global, parts: &[Part]) -> Result<bool, Fail> {
+fn all_agree(alloc: Global, parts: &[Part], half: u64) -> Result<bool, Fail> {
     let mut tree: Words = Congee::new(alloc, DefaultAllocator::new())?;
     let mut map = Map::new(alloc);
-    let agreed = parts_agree(&mut tree, &mut map, parts);
+    let agreed = parts_agree(&mut tree, &mut map, parts, half);
     tree.close();
     agreed
 }
 
-// What is done with the leaves below a node of each form by turns, so that they have one value and two.
-fn leaves(alloc: Global) -> Result<Vec<Part>, AllocError> {
-    let mut parts = Vec::new(alloc);
-    for count in [4, 16, 48, 256] {
-        for (call, order) in LEAVES {
-            parts.push(Part(call, order, 0, count))?;
-        }
-    }
-    Ok(parts)
-}
-
 #[test]
 fn long_sequences_answer_as_a_map(rt: HostRuntime) -> Result<(), Fail> {
-    let (alloc, count) = (rt.alloc(), u64::from(number_in(&rt, "TRIAL_KEYS", KEYS)));
-    let agreed = [
-        all_agree(alloc, &dense(count))?,
-        all_agree(alloc, &shuffled(count))?,
-        all_agree(alloc, &scattered(count))?,
-        all_agree(alloc, &FULL_NODE)?,
-        all_agree(alloc, &leaves(alloc)?)?,
-    ];
-    assert_same(&rt, agreed, [true; 5]);
-    Ok(())
-}
-
-/// The keys from a number to before another one are in a tree, and further ones, each with itself; ranges over it, each in so many
-/// places, and how many pairs each finds; and how many ranges of three keys, each from one key further on, find three.
-const FOUND: [&str; 8] = [
-    "0 0; 54227; 0 0 20 0; 0",
-    "0 0; 4261390591 4294944959; 4261412863 4261413116 20 0; 0",
-    "0 0; 219021065 4279959551; 4294967295 4294967548 20 0; 0",
-    "0 0; 4294967128 4294940824; 4294967039 4294967294 20 1; 0",
-    "0 0; 4278190080 4278189917; 4278190079 4278190334 20 1; 0",
-    "0 1000; ; 200 210 20 10; 100",
-    "393000 393500; 458700 458751 499999; 393216 458751 3 3, 393216 458751 13 13, 393216 458751 65 65, 500000 500065 20 0; 0",
-    // The same ranges among all keys below, in the sweep.
-    "0 500000; ; 393216 458751 3 3, 393216 458751 13 13, 393216 458751 65 65, 500000 500065 20 0; 0",
-];
-
-// How many pairs a range finds in up to 65 places.
-fn count(tree: &Numbers, start: u64, end: u64, places: u64) -> Option<u64> {
-    let mut found = [([0u8; 8], 0u64); 65];
-    let out = found.get_mut(..places as usize)?;
-    Some(tree.range(start, end, out) as u64)
-}
-
-fn are_counted(tree: &Numbers, ranges: &str) -> Result<bool, Fail> {
-    for range in ranges.split(',') {
-        let [start, end, places, counted] = array::<4>(range)?;
-        if count(tree, start, end, places) != Some(counted) {
-            return Ok(false);
-        }
-    }
-    Ok(true)
-}
-
-// Whether each key is new.
-fn fills(tree: &mut Numbers, [from, below]: [u64; 2], keys: &[u64]) -> Result<bool, Fail> {
-    for key in (from..below).chain(keys.iter().copied()) {
-        if tree.insert(key, key)?.is_some() {
-            return Ok(false);
-        }
-    }
-    Ok(true)
-}
-
-// Whether the keys of a text are new, and its ranges find what they are to find.
-fn are_right(alloc: Global, tree: &mut Numbers, text: &str) -> Result<bool, Fail> {
-    let (among, keys) = (array::<2>(part(text, 0))?, numbers(alloc, part(text, 1))?);
-    let new = fills(tree, among, &keys)?;
-    for start in 0..part(text, 3).parse::<u64>()? {
-        if count(tree, start, start.wrapping_add(3), 20) != Some(3) {
-            return Ok(false);
-        }
-    }
-    Ok(new && are_counted(tree, part(text, 2))?)
-}
-
-fn are_found(alloc: Global, text: &str) -> Result<bool, Fail> {
-    let mut tree: Numbers = U64Congee::new(alloc, DefaultAllocator::new())?;
-    let found = are_right(alloc, &mut tree, text);
-    tree.close();
-    found
-}
-
-#[test]
-fn ranges_find_the_keys_within(rt: HostRuntime) -> Result<(), Fail> {
-    let is_swept = number_in(&rt, "TRIAL_KEYS", KEYS) > KEYS;
-    let tried = if is_swept {
-        FOUND.len()
-    } else {
-        FOUND.len().saturating_sub(1)
-    };
-    for text in FOUND.iter().take(tried) {
-        assert_same(&rt, (*text, are_found(rt.alloc(), *text)?), (*text, true));
-    }
-    Ok(())
-}
-
-/// How many keys of each order come before such scans, and the greatest key too, or not.
-const TURNS: [(u64, u64); 8] = [
-    (0, 0),
-    (0, 1),
-    (1, 0),
-    (1, 1),
-    (20, 0),
-    (20, 1),
-    (500, 0),
-    (500, 1),
-];
-
-#[test]
-fn scans_to_the_greatest_key_answer_as_a_map(rt: HostRuntime) -> Result<(), Fail> {
-    for order in [Order::Dense, Order::Scattered, Order::Lone] {
-        for (turns, greatest) in &TURNS {
-            let keys = [
-                Part(Call::Insert, order, 0, *turns),
-                Part(Call::Insert, Order::Greatest, 0, *greatest),
-            ];
-            assert_same(&rt, all_agree(rt.alloc(), &keys)?, true);
-        }
+    let long = u64::from(number_in(&rt, "TRIAL_KEYS", KEYS) / 2);
+    for (number, (parts, half)) in SEQUENCES.iter().enumerate() {
+        let half = if *half == 0 { long } else { *half };
+        let agreed = all_agree(rt.alloc(), *parts, half)?;
+        assert_same(&rt, (number, agreed), (number, true));
     }
     Ok(())
 }

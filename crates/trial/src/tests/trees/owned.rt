@@ -1,6 +1,6 @@
 //! Dialogues with owned trees, worked out by hand.
 
-use super::lessening::{changes, goes, shrinks};
+use super::lessening::{changes, goes};
 use crate::tests::asserts::assert_same;
 use crate::tests::dialogue::{Asked, told, wrong_turn};
 use crate::tests::texts::named;
@@ -13,7 +13,7 @@ use std::test::Fail;
 const AMPLE: u64 = u64::MAX;
 
 /// How many bytes a tree takes at most, and what is asked of it.
-const DIALOGUES: [(u64, &str); 35] = [
+const DIALOGUES: [(u64, &str); 36] = [
     (
         AMPLE,
         "a value comes, changes and goes: insert 1 42 = Ok(None); get 1 = Some(42); insert 1 43 = Ok(Some(42)); \
@@ -63,6 +63,17 @@ const DIALOGUES: [(u64, &str); 35] = [
         AMPLE,
         "a range starts past other prefixes: insert 4294967179 7 = Ok(None); range 1895772415 1895772670 20 = []; \
          range 4294967179 4294967434 20 = [(4294967179, 7)]",
+    ),
+    (
+        AMPLE,
+        "ranges find the keys within: each 54227 = true; range 0 0 20 = []; clear = (); each 4261390591 4294944959 = true; \
+         range 4261412863 4261413116 20 = []; clear = (); each 219021065 4279959551 = true; \
+         range 4294967295 4294967548 20 = []; clear = (); each 4294967128 4294940824 = true; \
+         range 4294967039 4294967294 20 = [(4294967128, 4294967128)]; clear = (); each 4278190080 4278189917 = true; \
+         range 4278190079 4278190334 20 = [(4278190080, 4278190080)]; clear = (); fill 393000 393500 = true; \
+         each 458700 458751 499999 = true; range 393216 458751 3 = [(393216, 393216), (393217, 393217), (393218, 393218)]; \
+         range 393498 458751 13 = [(393498, 393498), (393499, 393499), (458700, 458700)]; \
+         range 500000 500065 20 = []; fill 0 1000 = true; range 255 258 20 = [(255, 255), (256, 256), (257, 257)]",
     ),
     (
         AMPLE,
@@ -188,7 +199,17 @@ const DIALOGUES: [(u64, &str); 35] = [
     ),
     (
         AMPLE,
-        "a tree grows and shrinks as a map does: shrinks = true; charged = 2104",
+        "a key that comes and goes changes the form of its leaf once at most: fill 0 4 = true; charged = 2168; \
+         insert 4 4 = Ok(None); charged = 2272; remove 4 = Some(4); charged = 2272; insert 4 4 = Ok(None); charged = 2272; \
+         remove 4 = Some(4); charged = 2272; remove 3 = Some(3); charged = 2168; insert 3 3 = Ok(None); charged = 2168; \
+         remove 3 = Some(3); charged = 2168; fill 3 16 = true; charged = 2272; insert 16 16 = Ok(None); charged = 2776; \
+         remove 16 = Some(16); charged = 2776; insert 16 16 = Ok(None); charged = 2776; remove 16 = Some(16); charged = 2776; \
+         remove 15 = Some(15); remove 14 = Some(14); remove 13 = Some(13); charged = 2776; remove 12 = Some(12); charged = 2272; \
+         insert 12 12 = Ok(None); charged = 2272; remove 12 = Some(12); charged = 2272; fill 12 48 = true; charged = 2776; \
+         insert 48 48 = Ok(None); charged = 4208; remove 48 = Some(48); charged = 4208; insert 48 48 = Ok(None); charged = 4208; \
+         remove 48 = Some(48); charged = 4208; remove 47 = Some(47); remove 46 = Some(46); remove 45 = Some(45); \
+         remove 44 = Some(44); remove 43 = Some(43); remove 42 = Some(42); remove 41 = Some(41); charged = 4208; \
+         remove 40 = Some(40); charged = 2776; insert 40 40 = Ok(None); charged = 2776; remove 40 = Some(40); charged = 2776",
     ),
     (
         2168,
@@ -303,10 +324,9 @@ enum Word {
     Each,
     Changes,
     Goes,
-    Shrinks,
 }
 
-const WORDS: [(&str, Word); 21] = [
+const WORDS: [(&str, Word); 20] = [
     ("keys", Word::Keys),
     ("ends", Word::Ends),
     ("charged", Word::Charged),
@@ -327,7 +347,6 @@ const WORDS: [(&str, Word); 21] = [
     ("each", Word::Each),
     ("changes", Word::Changes),
     ("goes", Word::Goes),
-    ("shrinks", Word::Shrinks),
 ];
 
 fn word_of(text: &str) -> Result<Word, Fail> {
@@ -405,26 +424,19 @@ impl Owned<'_> {
                 told(alloc, &tree.compute_or_insert(key, raise))
             }
             Word::Exchange => told(alloc, &tree.compare_exchange(&key, &value, new)),
-            word => told(alloc, &is_so(alloc, tree, word, numbers, three)?),
+            word => told(alloc, &is_so(tree, word, numbers, three)?),
         }
     }
 }
 
 /// What is so or isn't, mostly after many calls.
-fn is_so(
-    alloc: Global,
-    tree: &mut Tree,
-    word: Word,
-    numbers: &[u64],
-    three: [u64; 3],
-) -> Result<bool, Fail> {
+fn is_so(tree: &mut Tree, word: Word, numbers: &[u64], three: [u64; 3]) -> Result<bool, Fail> {
     match word {
         Word::Empty => Ok(tree.is_empty()),
         Word::Fill => fills(tree, three[0], three[1]),
         Word::Each => puts(tree, numbers),
         Word::Changes => changes(tree, numbers),
         Word::Goes => goes(tree, three),
-        Word::Shrinks => shrinks(alloc, tree),
         _ => Err("no such word")?,
     }
 }

@@ -1,6 +1,5 @@
 //! Calls that are stepped by turns on a plain store, worked out by hand.
 use crate::tests::asserts::assert_same;
-use crate::tests::machine::drawn::number_in;
 use crate::tests::texts::{array, call_of, named, part, question};
 use congee::{Child, Move, Noise, Op, Outcome, PlainStore, Seen, Step, play};
 use judge::Call;
@@ -254,41 +253,6 @@ fn calls_by_turns_tell_what_was_worked_out(rt: HostRuntime) -> Result<(), Fail> 
     for worked in WORKED {
         let (name, text) = named(worked)?;
         assert_same(&rt, (name, holds(rt.alloc(), text)?), (name, true));
-    }
-    Ok(())
-}
-
-/// Insertions and removals of one key by turns, with so many other keys in its leaf, after it took one more.
-fn to_and_fro(alloc: Global, others: u64, pairs: u32) -> Result<Vec<Call<u64>>, Fail> {
-    let mut calls = Vec::new(alloc);
-    for key in 0..others {
-        calls.push(Call::Insert(key, key))?;
-    }
-    calls.push(Call::Insert(others, 1))?;
-    for _ in 0..pairs {
-        calls.push(Call::Remove(others))?;
-        calls.push(Call::Insert(others, 1))?;
-    }
-    Ok(calls)
-}
-
-/// How many nodes such calls make.
-fn made(alloc: Global, others: u64, pairs: u32) -> Result<usize, Fail> {
-    let calls = to_and_fro(alloc, others, pairs)?;
-    let mut steps = Vec::new(alloc);
-    for who in 0..calls.len() {
-        push_steps(&mut steps, who, 20)?;
-    }
-    Ok(run(alloc, 100, &calls, steps)?.nodes)
-}
-
-#[test]
-fn a_key_that_comes_and_goes_makes_no_node_twice(rt: HostRuntime) -> Result<(), Fail> {
-    let pairs = number_in(&rt, "TRIAL_PAIRS", 100);
-    // A root, and a leaf of each form on the way.
-    for (others, nodes) in [(3, 2), (4, 3), (15, 3), (16, 4), (47, 4), (48, 5)] {
-        let made = made(rt.alloc(), others, pairs)?;
-        assert_same(&rt, (others, made), (others, nodes));
     }
     Ok(())
 }

@@ -1,7 +1,7 @@
 //! Keys that are no numbers of 64 bits: in which order a tree tells them, from both ends, and which lie within bounds.
 ghost use Rattle.std.specs.Prelude.{refl};
 
-use crate::examples::versions::{Table, as_of, finds_what_it_puts, versions};
+use crate::examples::composite::{Table, as_of, finds_what_it_puts, versions};
 use crate::tests::asserts::assert_same;
 use crate::tests::dialogue::told;
 use congee::{Congee, DefaultAllocator, OOMError, Word64};
@@ -34,32 +34,15 @@ impl Word64 for Ticket {
     }
 }
 
-/// Kinds of keys, and what a tree of some tells: the keys, the same from its end, and the pairs within bounds.
-const KINDS: [(&str, &str, &str, &str); 4] = [
-    (
-        "numbers with a sign",
-        "[-9223372036854775808, -256, -1, 0, 3, 9223372036854775807]",
-        "[9223372036854775807, 3, 0, -1, -256, -9223372036854775808]",
-        "[(-256, 5), (-1, 1), (0, 3)]",
-    ),
-    (
-        "pairs of numbers",
-        "[(0, 4294967295), (1, 0), (1, 2), (1, 256), (2, 0), (4294967295, 4294967295)]",
-        "[(4294967295, 4294967295), (2, 0), (1, 256), (1, 2), (1, 0), (0, 4294967295)]",
-        "[((1, 0), 3), ((1, 2), 0), ((1, 256), 1)]",
-    ),
-    (
-        "characters",
-        "['a', 'd', 'z', '~']",
-        "['~', 'z', 'd', 'a']",
-        "[('d', 2), ('z', 1), ('~', 0)]",
-    ),
-    (
-        "tickets",
-        "[Ticket { number: 0 }, Ticket { number: 7 }, Ticket { number: 18446744073709551615 }]",
-        "[Ticket { number: 18446744073709551615 }, Ticket { number: 7 }, Ticket { number: 0 }]",
-        "[(Ticket { number: 0 }, 2)]",
-    ),
+/// What a tree of some keys of each kind tells: its pairs, the last one, and the first and the last within bounds.
+const KINDS: [&str; 4] = [
+    "({-9223372036854775808: 2, -256: 5, -1: 1, 0: 3, 3: 0, 9223372036854775807: 4}, \
+     Some((9223372036854775807, 4)), Some((-256, 5)), Some((0, 3)))",
+    "({(0, 4294967295): 4, (1, 0): 3, (1, 2): 0, (1, 256): 1, (2, 0): 2, (4294967295, 4294967295): 5}, \
+     Some(((4294967295, 4294967295), 5)), Some(((1, 0), 3)), Some(((1, 256), 1)))",
+    "({'a': 3, 'd': 2, 'z': 1, '~': 0}, Some(('~', 0)), Some(('d', 2)), Some(('~', 0)))",
+    "({Ticket { number: 0 }: 2, Ticket { number: 7 }: 1, Ticket { number: 18446744073709551615 }: 0}, \
+     Some((Ticket { number: 18446744073709551615 }, 0)), Some((Ticket { number: 0 }, 2)), None)",
 ];
 
 /// A tree of these keys, each with its place as its value.
@@ -74,29 +57,16 @@ fn filled<K: Word64 + Copy>(alloc: Global, keys: &[K]) -> Result<Congee<K, u8>, 
 }
 
 /// What a tree of these keys tells.
-fn walked<K: Word64 + Copy + Debug, R: RangeBounds<K> + Drop>(
+fn told_of<K: Word64 + Copy + Debug, R: RangeBounds<K> + Drop>(
     alloc: Global,
     keys: &[K],
     range: R,
-) -> Result<(String, String, String), Fail> {
+) -> Result<String, Fail> {
     let tree = filled(alloc, keys)?;
-    let mut up = Vec::new(alloc);
-    for key in tree.keys_iter() {
-        up.push(key)?;
-    }
-    let mut down = Vec::new(alloc);
-    for (key, _) in tree.iter().rev() {
-        down.push(key)?;
-    }
-    let mut within = Vec::new(alloc);
-    for pair in tree.range_iter(range) {
-        within.push(pair)?;
-    }
-    Ok((
-        told(alloc, &up.as_slice())?,
-        told(alloc, &down.as_slice())?,
-        told(alloc, &within.as_slice())?,
-    ))
+    let last = tree.iter().next_back();
+    let mut within = tree.range_iter(range);
+    let (first, end) = (within.next(), within.next_back());
+    told(alloc, &(&tree, last, first, end))
 }
 
 /// The ticket of a number.
@@ -104,14 +74,11 @@ fn ticket_of(number: u64) -> Ticket {
     Ticket { number }
 }
 
-/// What a tree of some keys of a kind tells.
-fn told_of(alloc: Global, kind: &str) -> Result<(String, String, String), Fail> {
-    match kind {
-        "numbers with a sign" => {
-            let keys = [3i64, -1, i64::MIN, 0, i64::MAX, -256];
-            walked(alloc, keys.as_slice(), -256i64..=0)
-        }
-        "pairs of numbers" => {
+/// What a tree of some keys of the kind at a place tells.
+fn told_at(alloc: Global, place: usize) -> Result<String, Fail> {
+    match place {
+        0 => told_of(alloc, &[3i64, -1, i64::MIN, 0, i64::MAX, -256], -256i64..=0),
+        1 => {
             let most = u32::MAX;
             let keys = [
                 (1u32, 2u32),
@@ -121,33 +88,25 @@ fn told_of(alloc: Global, kind: &str) -> Result<(String, String, String), Fail> 
                 (0, most),
                 (most, most),
             ];
-            walked(alloc, keys.as_slice(), (1u32, 0u32)..(2, 0))
+            told_of(alloc, &keys, (1u32, 0u32)..(2, 0))
         }
-        "characters" => {
-            let keys = ['~', 'z', 'd', 'a'];
-            walked(
-                alloc,
-                keys.as_slice(),
-                (Bound::Excluded('a'), Bound::Unbounded),
-            )
+        2 => {
+            let from = (Bound::Excluded('a'), Bound::Unbounded);
+            told_of(alloc, &['~', 'z', 'd', 'a'], from)
         }
-        "tickets" => {
-            let keys = [ticket_of(u64::MAX), ticket_of(7), ticket_of(0)];
-            walked(alloc, keys.as_slice(), ..ticket_of(7))
-        }
-        _ => Err("no such kind")?,
+        _ => told_of(
+            alloc,
+            &[ticket_of(u64::MAX), ticket_of(7), ticket_of(0)],
+            ..ticket_of(7),
+        ),
     }
 }
 
 #[test]
 fn keys_of_each_kind_stand_in_their_order(rt: HostRuntime) -> Result<(), Fail> {
-    for (kind, ascending, descending, bounded) in &KINDS {
-        let (up, down, within) = told_of(rt.alloc(), *kind)?;
-        assert_same(
-            &rt,
-            (*kind, up.as_str(), down.as_str(), within.as_str()),
-            (*kind, *ascending, *descending, *bounded),
-        );
+    for (place, expected) in KINDS.iter().enumerate() {
+        let told = told_at(rt.alloc(), place)?;
+        assert_same(&rt, told.as_str(), *expected);
     }
     Ok(())
 }
@@ -164,11 +123,8 @@ fn table(alloc: Global) -> Result<Table, OOMError> {
 #[test]
 fn a_range_has_all_versions_of_a_row(rt: HostRuntime) -> Result<(), Fail> {
     let table = table(rt.alloc())?;
-    let mut found = Vec::new(rt.alloc());
-    for ((_, version), value) in versions(&table, 7) {
-        found.push((version, value))?;
-    }
-    let told = told(rt.alloc(), &found.as_slice())?;
+    let mut row = versions(&table, 7);
+    let found = [row.next(), row.next(), row.next(), row.next()];
     let seen = [
         as_of(&table, 7, 0),
         as_of(&table, 7, 2),
@@ -176,14 +132,16 @@ fn a_range_has_all_versions_of_a_row(rt: HostRuntime) -> Result<(), Fail> {
         as_of(&table, 9, 0),
     ];
     let put = finds_what_it_puts(rt.alloc(), 7, 1, 70)?;
+    let rows = [
+        Some(((7, 1), 71)),
+        Some(((7, 3), 73)),
+        Some(((7, u32::MAX), 79)),
+        None,
+    ];
     assert_same(
         &rt,
-        (told.as_str(), seen, put),
-        (
-            "[(1, 71), (3, 73), (4294967295, 79)]",
-            [None, Some(71), Some(80), None],
-            Some(70),
-        ),
+        (found, seen, put),
+        (rows, [None, Some(71), Some(80), None], Some(70)),
     );
     Ok(())
 }

@@ -1,11 +1,14 @@
 //! What threads do at an index, each with a worker of its own.
 
-use super::calls::{Draws, Timed, calls};
-use super::faces::tries;
+use super::calls::{Draws, Timed, calls, told};
+use super::faces::is_tried;
+use super::many::go_together;
 use super::rooms::{Row, filled};
+use super::scans::{are_beside, are_far_told, are_forms_told};
 use super::sums::rounds;
 use super::waits::one_of_both;
 use super::{drained, leave, opened};
+use judge::{Call, Reply};
 use optimistic::{Pair, U64Congee, Worker};
 use std::alloc::{AllocError, Global};
 use std::sync::Wait;
@@ -28,10 +31,27 @@ pub enum Task {
     Fills(Row),
     /// Calls that don't wait.
     Tries,
+    /// Calls that stand for many, with room for all their pairs or without.
+    Together(bool),
+    /// Scans of keys so far apart, in nodes of each form.
+    Forms(u64),
+    /// Scans of keys in different nodes.
+    Far,
+    /// Scans beside writers.
+    Beside,
 }
 
 /// The calls of each thread, and the pairs of the index that was closed after them.
 pub type Ran = (Vec<Vec<Timed>>, Vec<Pair>);
+
+/// A look-up, if all was right.
+fn one_if(alloc: Global, is_right: bool) -> Result<Vec<Timed>, AllocError> {
+    let mut made = Vec::new(alloc);
+    if is_right {
+        made.push(told(0, Call::Get(7), Reply::Get(None)))?;
+    }
+    Ok(made)
+}
 
 /// What the thread of this number does.
 fn does<R: Wait>(
@@ -54,7 +74,11 @@ fn does<R: Wait>(
             (key, is_present),
         ),
         Task::Fills(row) => filled(rt, alloc, worker, row),
-        Task::Tries => tries(alloc, worker),
+        Task::Tries => one_if(alloc, is_tried(worker)),
+        Task::Together(has_room) => one_if(alloc, go_together(rt, worker, has_room)),
+        Task::Forms(step) => one_if(alloc, are_forms_told(rt, alloc, worker, step)),
+        Task::Far => one_if(alloc, are_far_told(rt, alloc, worker)),
+        Task::Beside => one_if(alloc, are_beside(rt, alloc, worker, clock, place)),
     }
 }
 

@@ -57,17 +57,22 @@ fn found<R: Wait>(rt: &R, worker: &mut Worker, row: Row, count: u64) -> u64 {
 
 /// Whether a refused key leaves all as it was: the others' values, a write over one of them, and a key elsewhere.
 fn is_refused<R: Wait>(rt: &R, worker: &mut Worker, row: Row, taken: u64) -> bool {
-    let key = row.key(taken);
-    worker.insert(rt, key, taken) == Err(Refusal::Full)
-        && worker.try_insert(key, taken) == Err(Refusal::Full)
-        && called(rt, worker, Call::ComputeInsert(key, taken), 0) == Err(Refusal::Full)
-        && worker.get(rt, key) == None
-        && found(rt, worker, row, taken) == taken
-        && worker.insert(rt, row.key(0), 7) == Ok(Some(0))
-        && worker.insert(rt, 7, 7) == Ok(None)
-        && worker.remove(rt, row.key(0)) == Ok(Some(7))
-        && worker.remove(rt, 7) == Ok(Some(7))
-        && worker.insert(rt, row.key(0), 0) == Ok(None)
+    let (key, first) = (row.key(taken), row.key(0));
+    let refused = [worker.insert(rt, key, taken), worker.try_insert(key, taken)];
+    let computed = called(rt, worker, Call::ComputeInsert(key, taken), 0);
+    let stood = found(rt, worker, row, taken);
+    let absent = worker.get(rt, key);
+    let written = [
+        worker.insert(rt, first, 7),
+        worker.insert(rt, 7, 7),
+        worker.remove(rt, first),
+        worker.remove(rt, 7),
+        worker.insert(rt, first, 0),
+    ];
+    refused == [Err(Refusal::Full), Err(Refusal::Full)]
+        && computed == Err(Refusal::Full)
+        && (stood, absent) == (taken, None)
+        && written == [Ok(Some(0)), Ok(None), Ok(Some(7)), Ok(Some(7)), Ok(None)]
 }
 
 /// The calls that put as many keys of a row in as come in; none of them where the next one doesn't leave all as it was.

@@ -1,49 +1,35 @@
-//! Scans: of one thread, at the bounds and in nodes of each form, and beside writers that leave some keys alone.
+//! Scans and ranges at one moment: of one thread, at the bounds and in nodes of each form; and beside writers, of whose keys some
+//! stay, and of which one counts a key up and then another.
 
-use super::{leave, opened};
+use super::lanes::{Task, count_of, ran};
+use super::waits::waits;
 use crate::tests::asserts::assert_same;
-use optimistic::{Pair, Refusal, U64Congee, Walk, Worker};
-use std::alloc::{AllocError, Global};
+use optimistic::{Pair, Unscanned, Walk, Worker};
+use std::alloc::Global;
 use std::sync::Wait;
+use std::sync::atomic::{AtomicU64, Ordering};
 use std::test::Fail;
-use std::thread;
-use std::thread::Threads;
 
 const AMPLE: u32 = 1_000_000;
 
 /// How many rounds each thread makes.
-const ROUNDS: u32 = 300;
+const ROUNDS: u64 = 300;
 
-/// Beside writers the keys from 0 on that stay, each with itself as its value, so far apart.
+/// Beside writers the keys that stay: so many, so far apart, each with itself as its value.
 const FIXED: u64 = 40;
 
 const APART: u64 = 3;
 
+/// The keys below and above these that are counted up, the first one ahead.
+const FIRST: u64 = 0;
+
+const SECOND: u64 = u64::MAX;
+
+/// What the first thread has told when these keys stand.
+const READY: u64 = 1;
+
 /// A buffer's place that isn't written.
 const UNWRITTEN: Pair = Pair { key: 1, value: 0 };
-
-/// Drops an index, so that no test has to say how.
-fn shut(index: U64Congee) {
-    drop(index);
-}
-
-/// Whether keys in different nodes are told in order, each with its value, from the last on none.
-fn walks<R: Wait>(rt: &R, worker: &mut Worker, keys: &[u64]) -> Result<bool, Refusal> {
-    for key in keys {
-        worker.insert(rt, *key, key.wrapping_mul(3))?;
-    }
-    let mut found = worker.first(rt);
-    for key in keys {
-        let Some(pair) = found else {
-            return Ok(false);
-        };
-        if pair.key != *key || pair.value != key.wrapping_mul(3) {
-            return Ok(false);
-        }
-        found = worker.next_after(rt, pair.key);
-    }
-    Ok(found.is_none())
-}
 
 /// Keys at both ends, in leaves that hang high and low, and in nodes that part at each depth.
 const FAR: [u64; 12] = [
@@ -61,244 +47,247 @@ const FAR: [u64; 12] = [
     18_446_744_073_709_551_615,
 ];
 
-/// How many pairs a scan of so many dense keys, and of those a byte apart, told right.
-fn dense<R: Wait>(rt: &R, worker: &mut Worker, count: u64, step: u64) -> Result<bool, Refusal> {
-    for n in 0..count {
-        worker.insert(rt, n.wrapping_mul(step), n)?;
-    }
-    let mut out = [UNWRITTEN; 300];
-    let told = worker.range(rt, 0, count.wrapping_mul(step), &mut out);
-    if told as u64 != count {
-        return Ok(false);
-    }
-    for (n, pair) in out.iter().enumerate().take(told) {
-        if pair.value != n as u64 || pair.key != (n as u64).wrapping_mul(step) {
-            return Ok(false);
-        }
-    }
-    for n in 0..count {
-        worker.remove(rt, n.wrapping_mul(step))?;
-    }
-    Ok(worker.is_empty(rt))
-}
-
-/// Whether this is the pair of a key.
-fn is_at(found: Option<Pair>, key: u64) -> bool {
+/// The key of a pair.
+fn key_of(found: Option<Pair>) -> Option<u64> {
     match found {
-        Some(pair) => pair.key == key,
-        None => false,
+        Some(pair) => Some(pair.key),
+        None => None,
     }
 }
 
-/// Whether so many keys, so far apart, are told from the last back to the first, and each as the last before the next one.
-fn backward<R: Wait>(rt: &R, worker: &mut Worker, count: u64, step: u64) -> Result<bool, Refusal> {
-    for n in 0..count {
-        worker.insert(rt, n.wrapping_mul(step), n)?;
+/// How many pairs of one moment were told; none at an error.
+fn count_told(found: Result<usize, Unscanned>) -> usize {
+    match found {
+        Ok(count) => count,
+        Err(_) => 0,
     }
-    let mut found = worker.last(rt);
-    for n in 0..count {
-        let value = count.wrapping_sub(n).wrapping_sub(1);
-        let key = value.wrapping_mul(step);
-        let next = key.wrapping_add(step);
-        if !is_at(found, key) || !is_at(worker.at_or_before(rt, next.wrapping_sub(1)), key) {
-            return Ok(false);
-        }
-        found = worker.next_before(rt, key);
-    }
-    for n in 0..count {
-        worker.remove(rt, n.wrapping_mul(step))?;
-    }
-    Ok(found.is_none() && worker.last(rt).is_none())
 }
 
-/// Whether keys in different nodes are told back from the last, up to each and below it.
-fn walks_back<R: Wait>(rt: &R, worker: &mut Worker, keys: &[u64]) -> Result<bool, Refusal> {
-    for key in keys {
-        worker.insert(rt, *key, *key)?;
-    }
-    let mut below = None;
-    for key in keys {
-        if !is_at(worker.at_or_before(rt, *key), *key) {
-            return Ok(false);
+/// Whether these are the first multiples of a step, each with its place as its value.
+fn are_multiples(pairs: &[Pair], count: u64, step: u64) -> bool {
+    let mut next = 0u64;
+    for pair in pairs {
+        if pair.value != next || pair.key != next.wrapping_mul(step) {
+            return false;
         }
-        let found = worker.next_before(rt, *key);
-        match below {
-            Some(last) => {
-                if !is_at(found, last)
-                    || !is_at(worker.at_or_before(rt, key.wrapping_sub(1)), last)
-                {
-                    return Ok(false);
-                }
-            }
-            None => {
-                if found.is_some() {
-                    return Ok(false);
-                }
-            }
-        }
-        below = Some(*key);
+        next = next.wrapping_add(1);
     }
-    Ok(is_at(worker.last(rt), u64::MAX))
+    next == count
 }
 
-/// Whether scans of nodes of each form tell all.
-fn forms<R: Wait>(rt: &R, worker: &mut Worker) -> Result<bool, Refusal> {
+/// Whether so many keys, so far apart, are told by a scan, at one moment, and from the last back to the first.
+fn are_told<R: Wait>(rt: &R, alloc: Global, worker: &mut Worker, count: u64, step: u64) -> bool {
+    for n in 0..count {
+        let _ = worker.insert(rt, n.wrapping_mul(step), n);
+    }
+    let end = count.wrapping_mul(step);
+    let (mut scan, mut moment) = ([UNWRITTEN; 300], [UNWRITTEN; 300]);
+    let scanned = worker.range(rt, 0, end, &mut scan).min(300);
+    let told = count_told(worker.try_range_at_once(alloc, 0, end, &mut moment)).min(300);
+    let mut right = are_multiples(&scan[..scanned], count, step)
+        && are_multiples(&moment[..told], count, step)
+        && key_of(worker.at_or_before(rt, end)) == key_of(worker.last(rt));
+    let mut before = None;
+    for n in 0..count {
+        let key = n.wrapping_mul(step);
+        right &= key_of(worker.next_before(rt, key)) == before;
+        right &= key_of(worker.at_or_before(rt, key.wrapping_add(step / 2))) == Some(key);
+        before = Some(key);
+    }
+    for n in 0..count {
+        let _ = worker.remove(rt, n.wrapping_mul(step));
+    }
+    right && worker.is_empty(rt) && worker.last(rt).is_none()
+}
+
+/// Whether keys so far apart are, in nodes of each form.
+pub fn are_forms_told<R: Wait>(rt: &R, alloc: Global, worker: &mut Worker, step: u64) -> bool {
+    let mut right = true;
     for count in [1, 3, 4, 5, 16, 17, 48, 49, 200, 256, 260] {
-        if !dense(rt, worker, count, 1)? || !dense(rt, worker, count, 256)? {
-            return Ok(false);
-        }
-        if !backward(rt, worker, count, 1)? || !backward(rt, worker, count, 1_000)? {
-            return Ok(false);
-        }
+        right &= are_told(rt, alloc, worker, count, step);
     }
-    Ok(true)
+    right
 }
 
-/// Whether a scan stops where the places are filled, at the end, and before a start past it.
-fn bounds<R: Wait>(rt: &R, worker: &mut Worker) -> Result<bool, Refusal> {
+/// Whether keys in different nodes are told one after the other, and back.
+fn are_neighbours<R: Wait>(rt: &R, worker: &mut Worker) -> bool {
+    let mut right = true;
+    let mut before = None;
     for key in FAR {
-        worker.insert(rt, key, key)?;
+        let next = match before {
+            Some(last) => worker.next_after(rt, last),
+            None => worker.first(rt),
+        };
+        right &= key_of(next) == Some(key)
+            && key_of(worker.next_before(rt, key)) == before
+            && key_of(worker.at_or_before(rt, key)) == Some(key);
+        before = Some(key);
     }
+    right && key_of(worker.last(rt)) == before && worker.next_after(rt, u64::MAX).is_none()
+}
+
+/// Whether scans stop where the places are filled, at the end, and before a start past it.
+fn are_bound<R: Wait>(rt: &R, worker: &mut Worker) -> bool {
     let mut few = [UNWRITTEN; 3];
     let mut many = [UNWRITTEN; 20];
-    Ok(
-        worker.range(rt, 0, u64::MAX, &mut few) == 3
-            && few[2].key == 255
-            && worker.range(rt, 0, u64::MAX, &mut many) == 11
-            && many[11].key == UNWRITTEN.key
-            && worker.range_inclusive(rt, 0, u64::MAX, &mut many) == 12
-            && many[11].key == u64::MAX
-            && worker.range_inclusive(rt, u64::MAX, u64::MAX, &mut many) == 1
-            && worker.range(rt, 256, 256, &mut many) == 0
-            && worker.range_inclusive(rt, 257, 256, &mut many) == 0
-            && worker.next_after(rt, u64::MAX).is_none(),
-    )
+    worker.range(rt, 0, u64::MAX, &mut few) == 3
+        && few[2].key == 255
+        && worker.range(rt, 0, u64::MAX, &mut many) == 11
+        && many[11].key == UNWRITTEN.key
+        && worker.range_inclusive(rt, 0, u64::MAX, &mut many) == 12
+        && many[11].key == u64::MAX
+        && worker.range_inclusive(rt, u64::MAX, u64::MAX, &mut many) == 1
+        && worker.range(rt, 256, 256, &mut many) == 0
+        && worker.range_inclusive(rt, 257, 256, &mut many) == 0
+}
+
+/// The same of ranges at one moment.
+fn are_moments_bound<R: Wait>(rt: &R, alloc: Global, worker: &mut Worker) -> bool {
+    let mut few = [UNWRITTEN; 3];
+    worker.range_at_once(rt, alloc, 1, u64::MAX, &mut few) == Ok(3)
+        && few[2].key == 256
+        && worker.range_at_once(rt, alloc, 0, 2, &mut few) == Ok(2)
+        && worker.range_at_once(rt, alloc, 5, 5, &mut few) == Ok(0)
+        && worker.range_inclusive_at_once(rt, alloc, 6, 5, &mut few) == Ok(0)
+        && worker.range_inclusive_at_once(rt, alloc, 0, u64::MAX, &mut []) == Ok(0)
+        && worker.range_inclusive_at_once(rt, alloc, SECOND, SECOND, &mut few) == Ok(1)
+        && few[0].key == SECOND
 }
 
 /// Whether a walk tells some keys, and then each of all, though what it told is taken out behind it.
-fn steps<R: Wait>(rt: &R, worker: &mut Worker, keys: &[u64]) -> Result<bool, Refusal> {
+fn are_walked<R: Wait>(rt: &R, worker: &mut Worker) -> bool {
     let mut some = Walk::new(2, 256);
-    if !is_at(worker.step(rt, &mut some), 255) || !is_at(worker.step(rt, &mut some), 256) {
-        return Ok(false);
-    }
     let mut all = Walk::new(0, u64::MAX);
-    for key in keys {
-        if !is_at(worker.step(rt, &mut all), *key) {
-            return Ok(false);
-        }
-        worker.remove(rt, *key)?;
+    let mut right = key_of(worker.step(rt, &mut some)) == Some(255)
+        && key_of(worker.step(rt, &mut some)) == Some(256);
+    for key in FAR {
+        right &= key_of(worker.step(rt, &mut all)) == Some(key);
+        let _ = worker.remove(rt, key);
     }
-    let ended = worker.step(rt, &mut some).is_none() && worker.step(rt, &mut all).is_none();
-    Ok(ended && worker.step(rt, &mut all).is_none() && worker.is_empty(rt))
+    right
+        && worker.step(rt, &mut some).is_none()
+        && worker.step(rt, &mut all).is_none()
+        && worker.step(rt, &mut all).is_none()
+        && worker.is_empty(rt)
 }
 
-#[test]
-fn scans_tell_what_stands(rt: HostRuntime) -> Result<(), Fail> {
-    let index = opened(rt.alloc(), AMPLE)?;
-    let told = match index.worker(rt.alloc()) {
-        Ok(mut worker) => {
-            let told = (forms(&rt, &mut worker), walks(&rt, &mut worker, &FAR));
-            let back = walks_back(&rt, &mut worker, &FAR);
-            let stops = bounds(&rt, &mut worker);
-            let walked = steps(&rt, &mut worker, &FAR);
-            leave(worker);
-            (told, (back, stops)) == ((Ok(true), Ok(true)), (Ok(true), Ok(true)))
-                && walked == Ok(true)
-        }
-        Err(_) => false,
-    };
-    shut(index);
-    assert_same(&rt, told, true);
-    Ok(())
-}
-
-/// Writes keys between those that stay: puts them and takes them out, so that nodes come and go.
-fn disturb<R: Wait>(rt: &R, worker: &mut Worker, place: u64) -> Result<bool, Refusal> {
-    for round in 0..u64::from(ROUNDS) {
-        let key = round.wrapping_mul(7) % (FIXED * APART);
-        let away = key - key % APART + 1 + place % 2;
-        worker.insert(rt, away, away)?;
-        worker.insert(rt, away.wrapping_mul(65_537), 0)?;
-        worker.remove(rt, away)?;
-        worker.remove(rt, away.wrapping_mul(65_537))?;
+/// Whether scans in different nodes tell what stands.
+pub fn are_far_told<R: Wait>(rt: &R, alloc: Global, worker: &mut Worker) -> bool {
+    for key in FAR {
+        let _ = worker.insert(rt, key, key);
     }
-    Ok(true)
+    are_neighbours(rt, worker)
+        && are_bound(rt, worker)
+        && are_moments_bound(rt, alloc, worker)
+        && are_walked(rt, worker)
 }
 
-/// Whether a scan, which told so many pairs, told ascending keys, each of the fixed ones among them with its value.
-fn holds(found: &[Pair], told: usize) -> bool {
-    let mut next = 0;
+/// Counts the first key up and then the second.
+fn counts_up<R: Wait>(rt: &R, worker: &mut Worker, clock: &AtomicU64) -> bool {
+    let mut right = true;
+    for n in 1..=FIXED {
+        let key = n.wrapping_mul(APART);
+        right &= worker.insert(rt, key, key).is_ok();
+    }
+    for round in 0..ROUNDS {
+        right &= worker.insert(rt, FIRST, round).is_ok();
+        right &= worker.insert(rt, SECOND, round).is_ok();
+        clock.fetch_max(READY, Ordering::SeqCst);
+    }
+    right
+}
+
+/// Puts keys between those that stay and takes them out, so that nodes come and go.
+fn disturbs<R: Wait>(rt: &R, worker: &mut Worker, place: u32) -> bool {
+    let mut right = true;
+    for round in 0..ROUNDS {
+        let key = (round.wrapping_mul(7) % FIXED + 1).wrapping_mul(APART);
+        let away = key.wrapping_add(u64::from(place));
+        let far = away.wrapping_mul(65_537);
+        right &= worker.insert(rt, away, away).is_ok() && worker.insert(rt, far, 0).is_ok();
+        right &= worker.remove(rt, away).is_ok() && worker.remove(rt, far).is_ok();
+    }
+    right
+}
+
+/// Whether pairs are ascending, with each of the keys that stay among them.
+fn hold(pairs: &[Pair]) -> bool {
+    let mut next = APART;
     let mut least = 0;
-    for pair in found.iter().take(told) {
+    for pair in pairs {
         if pair.key < least {
             return false;
         }
         least = pair.key.wrapping_add(1);
-        if pair.key % APART == 0 {
-            if pair.key != next || pair.value != next {
-                return false;
-            }
+        if pair.key == next && pair.value == next {
             next = next.wrapping_add(APART);
         }
     }
-    next == FIXED * APART
+    next > FIXED * APART
 }
 
-/// Scans, and looks whether each told the fixed keys.
-fn observe<R: Wait>(rt: &R, worker: &mut Worker) -> bool {
-    let mut out = [UNWRITTEN; 256];
-    for _ in 0..ROUNDS {
-        let told = worker.range(rt, 0, FIXED * APART, &mut out);
-        if !holds(&out, told) {
-            return false;
+/// Whether of pairs the last has the first one's value, or the one before that.
+fn agree(pairs: &[Pair]) -> bool {
+    match (pairs.first(), pairs.last()) {
+        (Some(first), Some(last)) => {
+            first.key == FIRST && last.key == SECOND && first.value.wrapping_sub(last.value) < 2
         }
+        _ => false,
     }
-    true
 }
 
-/// What a thread of each kind does.
-fn take_part<R: Wait>(
+/// Looks over and over whether a scan holds the keys that stay, and whether the two counts agree at one moment.
+fn observes<R: Wait>(rt: &R, alloc: Global, worker: &mut Worker) -> bool {
+    let mut out = [UNWRITTEN; 256];
+    let mut right = true;
+    for _ in 0..ROUNDS {
+        let scanned = worker
+            .range(rt, APART, FIXED * APART + 1, &mut out)
+            .min(256);
+        right &= hold(&out[..scanned]);
+        let told = match worker.range_inclusive_at_once(rt, alloc, FIRST, SECOND, &mut out) {
+            Ok(told) => told.min(256),
+            Err(_) => 0,
+        };
+        right &= agree(&out[..told]);
+        let tried = count_told(worker.try_range_inclusive_at_once(alloc, FIRST, SECOND, &mut out));
+        right &= tried == 0 || agree(&out[..tried.min(256)]);
+    }
+    right
+}
+
+/// Whether what the thread of this number found was right: the first one counts, two more write beside it, and the others look.
+pub fn are_beside<R: Wait>(
     rt: &R,
     alloc: Global,
-    index: &U64Congee,
-    place: usize,
-) -> Result<bool, AllocError> {
-    let mut worker = index.worker(alloc)?;
-    let right = if place < 2 {
-        disturb(rt, &mut worker, place as u64) == Ok(true)
+    worker: &mut Worker,
+    clock: &AtomicU64,
+    place: u32,
+) -> bool {
+    if place == 0 {
+        return counts_up(rt, worker, clock);
+    }
+    waits(rt, clock, READY);
+    if place < APART as u32 {
+        disturbs(rt, worker, place)
     } else {
-        observe(rt, &mut worker)
-    };
-    leave(worker);
-    Ok(right)
+        observes(rt, alloc, worker)
+    }
 }
 
-/// How many of the threads found all right.
-fn all_right<R: Threads + Wait + Sync>(
-    rt: &R,
-    alloc: Global,
-    index: &U64Congee,
-) -> Result<usize, AllocError> {
-    let work = move |place: usize| take_part(rt, alloc, index, place);
-    let mut right = 0usize;
-    for found in thread::map_indices(rt, alloc, 4, &work)? {
-        right = right.saturating_add(usize::from(found?));
-    }
-    Ok(right)
-}
+/// Tasks, with how many threads do them.
+const TASKS: [(Task, u32); 4] = [
+    (Task::Forms(1), 1),
+    (Task::Forms(1_000), 1),
+    (Task::Far, 1),
+    (Task::Beside, 5),
+];
 
 #[test]
-fn fixed_keys_are_found_beside_writers(rt: HostRuntime) -> Result<(), Fail> {
-    let index = opened(rt.alloc(), AMPLE)?;
-    if let Ok(mut worker) = index.worker(rt.alloc()) {
-        for n in 0..FIXED {
-            let key = n.wrapping_mul(APART);
-            assert_same(&rt, worker.insert(&rt, key, key), Ok(None));
-        }
-        leave(worker);
+fn scans_tell_what_stands(rt: HostRuntime) -> Result<(), Fail> {
+    for (number, (task, threads)) in TASKS.iter().enumerate() {
+        let (lanes, _pairs) = ran(&rt, rt.alloc(), AMPLE, *threads, *task)?;
+        assert_same(&rt, (number, count_of(&lanes)), (number, *threads as usize));
     }
-    let right = all_right(&rt, rt.alloc(), &index);
-    shut(index);
-    assert_same(&rt, right, Ok(4));
     Ok(())
 }

@@ -25,7 +25,7 @@ const KEY: u64 = 1;
 const TRIES: u32 = 1_000;
 
 /// Waits until the other thread has come as far.
-fn waits<R: Wait>(rt: &R, state: &AtomicU64, until: u64) {
+pub fn waits<R: Wait>(rt: &R, state: &AtomicU64, until: u64) {
     for _ in rt.forever() {
         if state.load(Ordering::SeqCst) >= until {
             break;
