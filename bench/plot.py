@@ -37,8 +37,7 @@ set style fill solid 1.0 noborder
 set border 3 lc rgb "#555555"
 set grid ytics lc rgb "#dddddd" lt 1
 set tics nomirror font ",11"
-set key outside bottom center horizontal noenhanced font ",12" samplen 2
-set bmargin 6
+set key outside bottom center horizontal maxcols 2 noenhanced font ",12" samplen 2
 """
 
 
@@ -66,11 +65,13 @@ def block(rows):
 def owned(part):
     """Bars: what a call takes of each tree of one owner, at a million keys."""
     keys = max(size for size in part.sizes if size <= 1_000_000)
-    script = 'set multiplot layout 1,2\nset style data histogram\nset style histogram clustered gap 1\nset logscale y\nset yrange [10:*]\n'
+    # (both panels have one scale, so that their bars compare)
+    most = max(nanos for (size, _, threads, call, _), nanos in part.cells.items() if size == keys and call in CALLS)
+    script = f'set multiplot layout 1,2\nset style data histogram\nset style histogram clustered gap 1\nset logscale y\nset yrange [10:{1.5 * most:.0f}]\nset bmargin {4 + (len(part.names) + 1) // 2}\n'
     for kind in ("dense", "scattered"):
         rows = [[CALLS[call], *[part.cells.get((keys, kind, 1, call, it)) for it in part.names]] for call in CALLS]
         script += f"$data << end\n{block(rows)}end\n"
-        script += f'set title "{keys:,} {kind} keys"\nset ylabel "nanoseconds a call"\nset xtics rotate by -20\n'
+        script += f'set title "{keys:,} {kind} keys"\nset ylabel "nanoseconds a call, logarithmic"\nset xtics rotate by -20\n'
         columns = [f'$data using {i + 2}{":xtic(1)" if i == 0 else ""} title "{NAMES[it]}" lc rgb "{COLOURS[it]}"' for i, it in enumerate(part.names)]
         script += "plot " + ", ".join(columns) + "\n"
     drawn("owned.svg", (1100, 460), script)
@@ -78,7 +79,8 @@ def owned(part):
 
 def lines(part, panels, xs, value, name, size, labels, more):
     """Panels of lines, one for each index."""
-    script = f"set multiplot layout {len(panels) // 2},2\nset style data linespoints\n{more}"
+    # (below the axis stand its label and the key, in rows of two)
+    script = f"set multiplot layout {len(panels) // 2},2\nset style data linespoints\nset bmargin {4 + (len(part.names) + 1) // 2}\n{more}"
     for at, (title, cell) in enumerate(panels):
         indexes = [it for it in part.names if any(cell(x, it) is not None for x in xs)]
         rows = [[x, *[None if cell(x, it) is None else value(x, cell(x, it)) for it in indexes]] for x in xs]
@@ -105,7 +107,7 @@ def sizes(part):
     for call in ("get-shuffled", "insert"):
         for kind in ("dense", "scattered"):
             panels.append((f"{CALLS[call]}, {kind} keys", lambda x, it, call=call, kind=kind: part.cells.get((x, kind, 1, call, it))))
-    more = 'set logscale x\nset format x "10^{%L}"\nset yrange [0:*]\n'
+    more = f'set logscale x\nset xrange [{0.8 * part.sizes[0]:.0f}:{1.25 * part.sizes[-1]:.0f}]\nset format x "10^{{%L}}"\nset yrange [0:*]\n'
     lines(part, panels, part.sizes, lambda x, nanos: nanos, "sizes.svg", (1100, 800), ("keys", "nanoseconds a call"), more)
 
 

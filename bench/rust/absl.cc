@@ -2,6 +2,7 @@
 #include <absl/container/btree_map.h>
 #include <cstddef>
 #include <cstdint>
+#include <utility>
 
 using Map = absl::btree_map<uint64_t, uint64_t>;
 
@@ -35,4 +36,28 @@ size_t absl_range(const Map *map, uint64_t start, uint64_t end, Pair *pairs, siz
         pairs[count] = Pair{at->first, at->second};
     return count;
 }
+
+Map *absl_from_sorted(const std::pair<uint64_t, uint64_t> *pairs, size_t n) { return new Map(pairs, pairs + n); }
+
+uint64_t absl_sum(const Map *map) {
+    uint64_t sum = 0;
+    for (const auto &pair : *map) sum = (sum ^ pair.first) + pair.second;
+    return sum;
+}
+
+uint64_t absl_sum_from(const Map *map, uint64_t start, size_t n) {
+    uint64_t sum = 0;
+    for (auto at = map->lower_bound(start); n > 0 && at != map->end(); ++at, --n) sum = (sum ^ at->first) + at->second;
+    return sum;
+}
+
+bool absl_pop_first(Map *map, uint64_t *key) {
+    auto at = map->begin();
+    if (at == map->end()) return false;
+    *key = at->first;
+    map->erase(at);
+    return true;
+}
+
+uint64_t absl_or_insert(Map *map, uint64_t key, uint64_t value) { return map->try_emplace(key, value).first->second; }
 }

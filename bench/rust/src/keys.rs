@@ -17,6 +17,11 @@ pub fn key(i: u64, scattered: bool) -> u64 {
     if scattered { i.wrapping_mul(11400714819323198485) & (END - 1) } else { i }
 }
 
+/// The row of a number, of 32 bits: itself, or one that lies far from its neighbours'.
+pub fn row(i: u64, scattered: bool) -> u64 {
+    if scattered { u64::from((i as u32).wrapping_mul(2654435761)) } else { i }
+}
+
 /// Whether the kind of keys is scattered, and not dense.
 pub fn is_scattered(kind: &str) -> bool {
     match kind {
@@ -36,12 +41,14 @@ pub fn shuffled(keys: &[u64]) -> Vec<u64> {
     all
 }
 
-/// What an index is asked for in a round: its keys as they are put in, the same shuffled, and ranges of a hundred of them.
+/// What an index is asked for in a round: its keys as they are put in, the same shuffled, ranges of a hundred of them, and the same
+/// ascending. Of a store of versions: the rows that are written, and those that are read.
 pub struct Input {
     pub keys: Vec<u64>,
     pub shuffled: Vec<u64>,
     pub starts: Vec<u64>,
     pub ends: Vec<u64>,
+    pub sorted: Vec<u64>,
 }
 
 /// How many pairs a range has.
@@ -61,11 +68,19 @@ impl Input {
             starts: at.iter().map(|i| sorted[*i as usize]).collect(),
             ends: at.iter().map(|i| sorted[*i as usize + SPAN]).collect(),
             keys,
+            sorted,
         }
+    }
+
+    /// Drawn rows, a tenth as many as versions, for a store that is written and read so many times.
+    pub fn of_rows(versions: usize, kind: &str) -> Input {
+        let (rows, scattered) = ((versions as u64 / 10).max(1), is_scattered(kind));
+        let drawn = |mut x: u64| -> Vec<u64> { (0..versions).map(|_| row(stir(&mut x) % rows, scattered)).collect() };
+        Input { keys: drawn(44), shuffled: drawn(45), starts: Vec::new(), ends: Vec::new(), sorted: Vec::new() }
     }
 
     /// The keys that a program of the project asks for by number.
     pub fn list(&self, which: u32) -> &[u64] {
-        [&self.keys, &self.shuffled, &self.starts, &self.ends][which as usize]
+        [&self.keys, &self.shuffled, &self.starts, &self.ends, &self.sorted][which as usize]
     }
 }

@@ -4,12 +4,14 @@
 pub mod clock;
 #[cfg(feature = "epoch")]
 pub mod collector;
+pub mod further;
 pub mod keys;
 pub mod peers;
 pub mod rounds;
 #[cfg(feature = "original")]
 pub mod script;
 pub mod threads;
+pub mod versions;
 
 /// The words of `BENCH`.
 pub fn setting() -> Vec<String> {

@@ -1,10 +1,11 @@
 //! Rounds on one thread: a round puts keys into an empty index, looks them up, asks for ranges and takes the keys out, and rounds of
 //! one index come after the other's. The project's program makes its own, and calls this library for the others.
-//! `BENCH`: owned|machine,KEYS,dense|scattered,ROUNDS,INDEX+.. or memory,KEYS,dense|scattered,1,INDEX.
+//! `BENCH`: owned|further|machine,KEYS,dense|scattered,ROUNDS,INDEX+.. or versions,VERSIONS,dense|scattered,ROUNDS,INDEX+.. or
+//! memory,KEYS,dense|scattered,1,INDEX.
 use crate::clock::{between, now, resident};
 use crate::keys::{Input, SPAN};
-use crate::peers::owned::{Map, Run, peer};
-use crate::{row, setting};
+use crate::peers::owned::{Map, Ordered, Run, peer};
+use crate::{further, row, setting, versions};
 use std::hint::black_box;
 use std::sync::{Mutex, OnceLock};
 
@@ -13,6 +14,8 @@ const CALLS: [&str; 5] = ["insert", "get", "get-shuffled", "range", "remove"];
 /// What the machine does beside, from one mark to another.
 const MORE: [(&str, usize, usize); 4] = [("overwrite", 6, 7), ("keys", 7, 8), ("stats", 8, 9), ("close", 10, 11)];
 const OURS: &str = "ours";
+/// A store of versions is measured beside the same over this.
+const STD: &str = "btree";
 
 struct Bench {
     part: String,
@@ -30,6 +33,8 @@ struct Progress {
 
 static BENCH: OnceLock<Bench> = OnceLock::new();
 static PROGRESS: Mutex<Progress> = Mutex::new(Progress { begun: 0, before: 0 });
+/// What the first round told.
+static TOLD: OnceLock<u64> = OnceLock::new();
 
 fn bench() -> &'static Bench {
     BENCH.get_or_init(|| {
@@ -37,7 +42,7 @@ fn bench() -> &'static Bench {
         let keys = words[1].parse().expect("a number of keys");
         Bench {
             part: words[0].clone(),
-            input: Input::new(keys, &words[2]),
+            input: if words[0] == "versions" { Input::of_rows(keys, &words[2]) } else { Input::new(keys, &words[2]) },
             kind: words[2].clone(),
             rounds: words[3].parse().expect("a number of rounds"),
             names: words[4].split('+').map(String::from).collect(),
@@ -62,19 +67,33 @@ fn tell(index: &str, nanos: [f64; 5]) {
     }
 }
 
-/// Tells what a round of the project's took.
-fn tell_ours(bench: &Bench) {
+/// Tells what a round took of an index that passed the marks.
+fn tell_marks(bench: &Bench, index: &str) {
     let (n, ranges) = (bench.input.keys.len(), bench.input.starts.len());
-    tell(OURS, [between(0, 1, n), between(1, 2, n), between(2, 3, n), between(3, 4, ranges), between(4, 5, n)]);
-    if bench.part == "machine" {
-        for (call, from, to) in MORE {
-            told(call, OURS, between(from, to, n));
+    match bench.part.as_str() {
+        "further" => {
+            for (call, from, to, of_ranges) in further::CALLS {
+                told(call, index, between(from, to, if of_ranges { ranges } else { n }));
+            }
+        }
+        "versions" => {
+            for (call, from, to) in versions::CALLS {
+                told(call, index, between(from, to, n));
+            }
+        }
+        _ => {
+            tell(index, [between(0, 1, n), between(1, 2, n), between(2, 3, n), between(3, 4, ranges), between(4, 5, n)]);
+            if bench.part == "machine" {
+                for (call, from, to) in MORE {
+                    told(call, index, between(from, to, n));
+                }
+            }
         }
     }
 }
 
 /// Tells what the last round of ours took, and begins the next job: 0 where there is none, 1 for a round of the caller's, 2 for one
-/// of the project's index, 3 to fill this index alone.
+/// of the project's index, 3 to fill this index alone, 4 for a round of further calls.
 #[unsafe(no_mangle)]
 pub extern "C" fn rounds_next() -> u64 {
     let bench = bench();
@@ -82,7 +101,7 @@ pub extern "C" fn rounds_next() -> u64 {
     let mut progress = PROGRESS.lock().unwrap();
     let is_ours = |job: usize| bench.names[job % bench.names.len()] == OURS;
     if progress.begun > 0 && !memory && is_ours(progress.begun - 1) {
-        tell_ours(bench);
+        tell_marks(bench, OURS);
     }
     if progress.begun == bench.rounds * bench.names.len() {
         return 0;
@@ -91,11 +110,12 @@ pub extern "C" fn rounds_next() -> u64 {
     match is_ours(progress.begun - 1) {
         false => 1,
         true if memory => 3,
+        true if bench.part == "further" => 4,
         true => 2,
     }
 }
 
-/// How many keys a list has: 0 as they are put in, 1 shuffled, 2 and 3 the starts and ends of ranges.
+/// How many keys a list has: 0 as they are put in, 1 shuffled, 2 and 3 the starts and ends of ranges, 4 ascending.
 #[unsafe(no_mangle)]
 pub extern "C" fn rounds_count(which: u32) -> u64 {
     bench().input.list(which).len() as u64
@@ -125,12 +145,26 @@ pub extern "C" fn rounds_wrong(times: u64) {
     assert_eq!(times, 0, "ours answered wrong so many times");
 }
 
+/// What a round told, which is the same of each.
+#[unsafe(no_mangle)]
+pub extern "C" fn rounds_told(told: u64) {
+    assert_eq!(told, *TOLD.get_or_init(|| told), "this round told something else than the first one");
+}
+
 /// A job of the caller's.
 #[unsafe(no_mangle)]
 pub extern "C" fn rounds_peer() {
-    let bench = bench();
-    let run = peer(running());
-    if bench.part == "memory" { (run.memory)(&bench.input) } else { (run.round)(&bench.input) }
+    let (bench, index) = (bench(), running());
+    match bench.part.as_str() {
+        "versions" => {
+            assert_eq!(index, STD, "no store of versions is over it");
+            rounds_told(versions::round(&bench.input));
+            tell_marks(bench, index);
+        }
+        "further" => (peer(index).further.expect("what has further calls"))(&bench.input),
+        "memory" => (peer(index).memory)(&bench.input),
+        _ => (peer(index).round)(&bench.input),
+    }
 }
 
 /// A round of an index: what each of its calls took.
@@ -181,5 +215,18 @@ fn memory<M: Map>(name: &str, input: &Input) {
 
 /// How an index of this name is measured.
 pub fn run<M: Map + 'static>(name: &'static str) -> Run {
-    Run { round: Box::new(move |input| tell(name, round::<M>(input))), memory: Box::new(move |input| memory::<M>(name, input)) }
+    Run {
+        round: Box::new(move |input| tell(name, round::<M>(input))),
+        memory: Box::new(move |input| memory::<M>(name, input)),
+        further: None,
+    }
+}
+
+/// The same of one that has further calls too.
+pub fn run_all<M: Ordered + 'static>(name: &'static str) -> Run {
+    let further = move |input: &Input| {
+        rounds_told(further::round::<M>(input));
+        tell_marks(bench(), name);
+    };
+    Run { further: Some(Box::new(further)), ..run::<M>(name) }
 }

@@ -1,6 +1,6 @@
 //! Maps of one owner: std's, the original, C++'s `absl::btree_map`, and JudyL of C.
-use crate::keys::Input;
-use crate::rounds::run;
+use crate::keys::{Input, SPAN};
+use crate::rounds::{run, run_all};
 use std::collections::BTreeMap;
 
 pub trait Map {
@@ -12,20 +12,38 @@ pub trait Map {
     fn range(&self, start: u64, end: u64, pairs: &mut [(u64, u64)]) -> usize;
 }
 
-/// How an index is measured.
+/// What has further calls too.
+pub trait Ordered: Map {
+    fn from_sorted(pairs: Vec<(u64, u64)>) -> Self;
+    /// What `added` makes of all pairs, by an iterator.
+    fn sum(&self) -> u64;
+    /// The same of a range's length of pairs from a key on.
+    fn sum_from(&self, start: u64) -> u64;
+    fn pop_first(&mut self) -> Option<u64>;
+    /// The key's value, or this one, which is put in.
+    fn or_insert(&mut self, key: u64, value: u64) -> u64;
+}
+
+/// A sum that tells pairs in one order from the same in another.
+pub fn added(sum: u64, key: u64, value: u64) -> u64 {
+    (sum ^ key).wrapping_add(value)
+}
+
+/// How an index is measured; what hasn't all calls has no rounds of further ones.
 pub struct Run {
     pub round: Box<dyn Fn(&Input)>,
     pub memory: Box<dyn Fn(&Input)>,
+    pub further: Option<Box<dyn Fn(&Input)>>,
 }
 
 /// The index of a name.
 pub fn peer(name: &str) -> Run {
     match name {
-        "btree" => run::<Std>("btree"),
+        "btree" => run_all::<Std>("btree"),
         #[cfg(feature = "original")]
         "congee" => run::<original::Congee>("congee"),
         #[cfg(feature = "absl")]
-        "absl" => run::<absl::Absl>("absl"),
+        "absl" => run_all::<absl::Absl>("absl"),
         #[cfg(feature = "judy")]
         "judy" => run::<judy::Judy>("judy"),
         _ => panic!("no index is called {name}, or it was left out"),
@@ -58,6 +76,36 @@ impl Map for Std {
             count += 1;
         }
         count
+    }
+}
+
+impl Ordered for Std {
+    fn from_sorted(pairs: Vec<(u64, u64)>) -> Self {
+        Std(pairs.into_iter().collect())
+    }
+
+    fn sum(&self) -> u64 {
+        let mut sum = 0;
+        for (key, value) in &self.0 {
+            sum = added(sum, *key, *value);
+        }
+        sum
+    }
+
+    fn sum_from(&self, start: u64) -> u64 {
+        let mut sum = 0;
+        for (key, value) in self.0.range(start..).take(SPAN) {
+            sum = added(sum, *key, *value);
+        }
+        sum
+    }
+
+    fn pop_first(&mut self) -> Option<u64> {
+        self.0.pop_first().map(|(key, _)| key)
+    }
+
+    fn or_insert(&mut self, key: u64, value: u64) -> u64 {
+        *self.0.entry(key).or_insert(value)
     }
 }
 
@@ -134,6 +182,11 @@ mod absl {
         fn absl_get(map: *const c_void, key: u64, value: *mut u64) -> bool;
         fn absl_remove(map: *mut c_void, key: u64) -> bool;
         fn absl_range(map: *const c_void, start: u64, end: u64, pairs: *mut c_void, n: usize) -> usize;
+        fn absl_from_sorted(pairs: *const c_void, n: usize) -> *mut c_void;
+        fn absl_sum(map: *const c_void) -> u64;
+        fn absl_sum_from(map: *const c_void, start: u64, n: usize) -> u64;
+        fn absl_pop_first(map: *mut c_void, key: *mut u64) -> bool;
+        fn absl_or_insert(map: *mut c_void, key: u64, value: u64) -> u64;
     }
 
     pub struct Absl(*mut c_void);
@@ -162,6 +215,30 @@ mod absl {
 
         fn range(&self, start: u64, end: u64, pairs: &mut [(u64, u64)]) -> usize {
             unsafe { absl_range(self.0, start, end, pairs.as_mut_ptr().cast(), pairs.len()) }
+        }
+    }
+
+    // Safety: the same.
+    impl super::Ordered for Absl {
+        fn from_sorted(pairs: Vec<(u64, u64)>) -> Self {
+            Absl(unsafe { absl_from_sorted(pairs.as_ptr().cast(), pairs.len()) })
+        }
+
+        fn sum(&self) -> u64 {
+            unsafe { absl_sum(self.0) }
+        }
+
+        fn sum_from(&self, start: u64) -> u64 {
+            unsafe { absl_sum_from(self.0, start, crate::keys::SPAN) }
+        }
+
+        fn pop_first(&mut self) -> Option<u64> {
+            let mut key = 0;
+            unsafe { absl_pop_first(self.0, &mut key) }.then_some(key)
+        }
+
+        fn or_insert(&mut self, key: u64, value: u64) -> u64 {
+            unsafe { absl_or_insert(self.0, key, value) }
         }
     }
 
