@@ -129,6 +129,11 @@ fn held(pinned: Result<Guard, Refusal>) -> Result<Told, Refusal> {
     }
 }
 
+/// What is done under a guard.
+pub fn nothing(_worker: &mut Worker, _guard: &Guard) -> Result<(), Refusal> {
+    Ok(())
+}
+
 fn done(answer: Result<(), Refusal>) -> Result<Told, Refusal> {
     match answer {
         Ok(()) => Ok(Told::Done),
@@ -145,7 +150,7 @@ pub fn raised(found: u64, by: Option<u64>) -> Option<u64> {
 }
 
 /// What a closure answers for a value or none.
-pub fn raised_or(found: Option<u64>, number: u64) -> u64 {
+fn raised_or(found: Option<u64>, number: u64) -> u64 {
     match found {
         Some(found) => found.wrapping_add(64),
         None => number,
@@ -190,6 +195,48 @@ fn emptiness_told(is_empty: Result<bool, Refusal>) -> Result<Told, Refusal> {
     }
 }
 
+/// What a call tells that answers with the value before it, if any.
+fn value_told(call: Call<u64>, answer: Result<Option<u64>, Refusal>) -> Result<Told, Refusal> {
+    match (call, answer) {
+        (_, Err(refusal)) => Err(refusal),
+        (Call::Get(_), Ok(found)) => Ok(Told::Replied(Reply::Get(found))),
+        (Call::Insert(..), Ok(before)) => Ok(Told::Replied(Reply::Insert(before))),
+        (Call::Remove(_), Ok(taken)) => Ok(Told::Replied(Reply::Remove(taken))),
+        (_, Ok(before)) => Ok(Told::Replied(Reply::ComputeInsert(before))),
+    }
+}
+
+fn present_told(answer: Result<Option<(u64, Option<u64>)>, Refusal>) -> Result<Told, Refusal> {
+    match answer {
+        Ok(told) => Ok(Told::Replied(Reply::ComputePresent(told))),
+        Err(refusal) => Err(refusal),
+    }
+}
+
+fn exchange_told(
+    answer: Result<Result<Option<u64>, Option<u64>>, Refusal>,
+) -> Result<Told, Refusal> {
+    match answer {
+        Ok(told) => Ok(Told::Replied(Reply::Exchange(told))),
+        Err(refusal) => Err(refusal),
+    }
+}
+
+/// How many pairs a scan found, and what stands in the first place.
+fn scan_told(count: Result<usize, Refusal>, first: (u64, u64)) -> Result<Told, Refusal> {
+    match count {
+        Ok(count) => Ok(Told::Scanned(count, first)),
+        Err(refusal) => Err(refusal),
+    }
+}
+
+fn pair_told(pair: Result<Option<(u64, u64)>, Refusal>) -> Result<Told, Refusal> {
+    match pair {
+        Ok(pair) => Ok(Told::Pair(pair)),
+        Err(refusal) => Err(refusal),
+    }
+}
+
 /// A call on a key. `by` stands before a key that is looked for; a writing call also takes the share.
 macro_rules! called {
     (
@@ -197,34 +244,24 @@ macro_rules! called {
         $guard:ident
     ) => {
         match $call {
-            Call::Get(key) => {
-                let found = $tree.get($rt, $($by)? key, $worker, $guard)?;
-                Ok(Told::Replied(Reply::Get(found)))
-            }
+            Call::Get(key) => value_told($call, $tree.get($rt, $($by)? key, $worker, $guard)),
             Call::Insert(key, value) => {
-                let before = $tree.insert($rt, key, value, $($share,)? $worker, $guard)?;
-                Ok(Told::Replied(Reply::Insert(before)))
+                value_told($call, $tree.insert($rt, key, value, $($share,)? $worker, $guard))
             }
             Call::Remove(key) => {
-                let taken = $tree.remove($rt, $($by)? key, $($share,)? $worker, $guard)?;
-                Ok(Told::Replied(Reply::Remove(taken)))
+                value_told($call, $tree.remove($rt, $($by)? key, $($share,)? $worker, $guard))
             }
             Call::ComputePresent(key, by) => {
                 let raise = |found: u64| raised(found, by);
-                let told = $tree
-                    .compute_if_present($rt, $($by)? key, raise, $($share,)? $worker, $guard)?;
-                Ok(Told::Replied(Reply::ComputePresent(told)))
+                present_told($tree
+                    .compute_if_present($rt, $($by)? key, raise, $($share,)? $worker, $guard))
             }
             Call::ComputeInsert(key, by) => {
                 let raise = |found: Option<u64>| raised_or(found, by);
-                let before = $tree.compute_or_insert($rt, key, raise, $($share,)? $worker, $guard)?;
-                Ok(Told::Replied(Reply::ComputeInsert(before)))
+                value_told($call, $tree.compute_or_insert($rt, key, raise, $($share,)? $worker, $guard))
             }
-            Call::Exchange(key, old, new) => {
-                let told = $tree
-                    .compare_exchange($rt, $($by)? key, &old, new, $($share,)? $worker, $guard)?;
-                Ok(Told::Replied(Reply::Exchange(told)))
-            }
+            Call::Exchange(key, old, new) => exchange_told($tree
+                .compare_exchange($rt, $($by)? key, &old, new, $($share,)? $worker, $guard)),
         }
     };
 }
@@ -236,11 +273,11 @@ macro_rules! scanned {
     ) => {
         match $ask {
             Ask::Range(start, end) => {
-                $tree.range($rt, $($by)? start, $($by)? end, &mut $out, $worker, $guard)?
+                $tree.range($rt, $($by)? start, $($by)? end, &mut $out, $worker, $guard)
             }
             Ask::RangeInclusive(start, last) => {
                 $tree
-                    .range_inclusive($rt, $($by)? start, $($by)? last, &mut $out, $worker, $guard)?
+                    .range_inclusive($rt, $($by)? start, $($by)? last, &mut $out, $worker, $guard)
             }
             _ => return Ok(Told::Nothing),
         }
@@ -251,12 +288,12 @@ macro_rules! scanned {
 macro_rules! nearest {
     ($rt:ident, $tree:ident, $which:ident, ($($by:tt)?), $worker:ident, $guard:ident) => {
         match $which {
-            Which::First => $tree.first($rt, $worker, $guard)?,
-            Which::Last => $tree.last($rt, $worker, $guard)?,
-            Which::After(key) => $tree.next_after($rt, $($by)? key, $worker, $guard)?,
-            Which::Before(key) => $tree.next_before($rt, $($by)? key, $worker, $guard)?,
-            Which::From(key) => $tree.at_or_after($rt, $($by)? key, $worker, $guard)?,
-            Which::UpTo(key) => $tree.at_or_before($rt, $($by)? key, $worker, $guard)?,
+            Which::First => $tree.first($rt, $worker, $guard),
+            Which::Last => $tree.last($rt, $worker, $guard),
+            Which::After(key) => $tree.next_after($rt, $($by)? key, $worker, $guard),
+            Which::Before(key) => $tree.next_before($rt, $($by)? key, $worker, $guard),
+            Which::From(key) => $tree.at_or_after($rt, $($by)? key, $worker, $guard),
+            Which::UpTo(key) => $tree.at_or_before($rt, $($by)? key, $worker, $guard),
         }
     };
 }
@@ -275,7 +312,7 @@ macro_rules! wholly {
             Ask::Repin => done($tree.repin($rt, $worker, $guard)),
             Ask::Flush => done($tree.flush($rt, $worker, $guard)),
             Ask::Round => done($tree.round($rt, $worker)),
-            Ask::Pinned => done($tree.pinned($rt, $worker, |_, _| Ok(()))),
+            Ask::Pinned => done($tree.pinned($rt, $worker, nothing)),
             Ask::Pin => held($tree.pin($rt, $worker)),
             Ask::Call(_) | Ask::Range(..) | Ask::RangeInclusive(..) | Ask::Nearest(_) => {
                 Ok(Told::Nothing)
@@ -284,7 +321,8 @@ macro_rules! wholly {
     };
 }
 
-fn words_called<A: Allocator, R: Wait>(
+/// A call on a key of a tree of words.
+pub fn words_called<A: Allocator, R: Wait>(
     rt: &R,
     tree: &Congee<u64, u64, A>,
     call: Call<u64>,
@@ -303,7 +341,7 @@ fn words_scanned<A: Allocator, R: Wait>(
 ) -> Result<Told, Refusal> {
     let mut out = [(0, 0); 4];
     let count = scanned!(rt, tree, ask, out, (&), worker, guard);
-    Ok(Told::Scanned(count, out[0]))
+    scan_told(count, out[0])
 }
 
 fn words_nearest<A: Allocator, R: Wait>(
@@ -313,8 +351,7 @@ fn words_nearest<A: Allocator, R: Wait>(
     worker: &mut Worker,
     guard: &Guard,
 ) -> Result<Told, Refusal> {
-    let pair = nearest!(rt, tree, which, (&), worker, guard);
-    Ok(Told::Pair(pair))
+    pair_told(nearest!(rt, tree, which, (&), worker, guard))
 }
 
 fn words_wholly<A: Allocator, R: Wait>(
@@ -346,7 +383,7 @@ fn numbers_scanned<A: Allocator, R: Wait>(
 ) -> Result<Told, Refusal> {
     let mut out = [([0; 8], 0); 4];
     let count = scanned!(rt, tree, ask, out, (), worker, guard);
-    Ok(Told::Scanned(count, (u64::from_be_bytes(out[0].0), out[0].1)))
+    scan_told(count, (u64::from_be_bytes(out[0].0), out[0].1))
 }
 
 fn numbers_nearest<A: Allocator, R: Wait>(
@@ -356,8 +393,7 @@ fn numbers_nearest<A: Allocator, R: Wait>(
     worker: &mut Worker,
     guard: &Guard,
 ) -> Result<Told, Refusal> {
-    let pair = nearest!(rt, tree, which, (), worker, guard);
-    Ok(Told::Pair(pair))
+    pair_told(nearest!(rt, tree, which, (), worker, guard))
 }
 
 fn numbers_wholly<A: Allocator, R: Wait>(
@@ -371,7 +407,7 @@ fn numbers_wholly<A: Allocator, R: Wait>(
 }
 
 /// A call on a key of a tree with a journal.
-pub fn recorded_called<L: Ledger, A: Allocator, D: Drop, R: Wait>(
+fn recorded_called<L: Ledger, A: Allocator, D: Drop, R: Wait>(
     rt: &R,
     tree: &Journaled<L, Every, u64, u64, A, D>,
     call: Call<u64>,
@@ -391,7 +427,7 @@ fn recorded_scanned<L: Ledger, A: Allocator, D: Drop, R: Wait>(
 ) -> Result<Told, Refusal> {
     let mut out = [(0, 0); 4];
     let count = scanned!(rt, tree, ask, out, (&), worker, guard);
-    Ok(Told::Scanned(count, out[0]))
+    scan_told(count, out[0])
 }
 
 fn recorded_nearest<L: Ledger, A: Allocator, D: Drop, R: Wait>(
@@ -401,8 +437,7 @@ fn recorded_nearest<L: Ledger, A: Allocator, D: Drop, R: Wait>(
     worker: &mut Worker,
     guard: &Guard,
 ) -> Result<Told, Refusal> {
-    let pair = nearest!(rt, tree, which, (&), worker, guard);
-    Ok(Told::Pair(pair))
+    pair_told(nearest!(rt, tree, which, (&), worker, guard))
 }
 
 fn recorded_wholly<L: Ledger, A: Allocator, D: Drop, R: Wait>(
@@ -704,8 +739,9 @@ fn owners_nearest<R: Wait>(
     guard: &Guard,
 ) -> Result<Told, Refusal> {
     match nearest!(rt, tree, which, (), worker, guard) {
-        Some((key, owner)) => Ok(Told::Pair(Some((key, *owner)))),
-        None => Ok(Told::Pair(None)),
+        Ok(Some((key, owner))) => Ok(Told::Pair(Some((key, *owner)))),
+        Ok(None) => Ok(Told::Pair(None)),
+        Err(refusal) => Err(refusal),
     }
 }
 
