@@ -14,7 +14,7 @@
 //! and `survey` counts the nodes, for `stats`. The trees are `congee`, of words, `u64_congee`, whose keys are numbers, and
 //! `congee_arc`, of shared values. What a tree of words has beside its point calls stands apart: `nearest`, `iter`, `updates`,
 //! `entry`, and `several`, `building` and `compared`, which go over pairs by their `numbers`; `u64_calls` and `u64_entry` are the same
-//! of numbers, `arc_calls` what there is of it of shared values, and `into_iter` makes trees what a `for` goes over.
+//! of numbers, `arc_calls` and `arc_iter` what there is of it of shared values, and `into_iter` makes trees what a `for` goes over.
 mod arc_calls;
 mod arc_iter;
 mod arena;
@@ -58,14 +58,12 @@ mod updates;
 mod values;
 mod writing;
 
-pub use arc_calls::Uncomputed;
 pub use arc_iter::{ArcIter, ArcValues};
 pub use building::BuildError;
 pub use congee::Congee;
 pub use congee_arc::{CongeeArc, Count, owner_of, payload_of};
 pub use drainer::{Calls, Drainer, NoDrain};
 pub use entry::Entry;
-pub use into_iter::IntoIter;
 pub use iter::{Iter, Keys, Values};
 pub use stats::{LevelStats, NodeInfo, NodeStats};
 pub use u64_congee::U64Congee;

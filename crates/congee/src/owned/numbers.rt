@@ -3,7 +3,7 @@ ghost use Rattle.std.specs.Prelude.{◌≡◌, ℕ, ◌+◌, ◌^◌, IfErr, OnO
 ghost use Rattle.std.specs.FinMap as map;
 ghost use Rattle.congee.specs.owned.Content.{KeepsCharge, Refuses};
 ghost use Rattle.congee.specs.owned.Iterating.{IsFirstIn};
-ghost use Rattle.congee.specs.owned.Nearest.{IsGreatest, IsLeast, NoneFrom};
+ghost use Rattle.congee.specs.owned.Nearest.{IsLeast, NoneFrom};
 ghost use Rattle.congee.specs.owned.Several.{Lightens};
 
 use crate::allocator::{Allocator, OOMError};
@@ -28,13 +28,6 @@ impl<K: Word64, V: Word64, A: Allocator, D: Drop> Congee<K, V, A, D> {
             Some(from) => self.arena.first_from(from),
             None => None,
         }
-    }
-
-    /// The pair of the greatest number up to one, that included.
-    pub(super) fn numbers_to(&self, last: u64) -> Option<(u64, u64)>
-        ensures { IsGreatest self.now.pairs (last + 1) result }
-    {
-        self.arena.last_to(last)
     }
 
     /// Puts a value's number at a key's. A refused call changes nothing.

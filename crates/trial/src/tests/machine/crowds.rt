@@ -122,7 +122,7 @@ fn noise_by(drawn: u64) -> Noise<Id, u64> {
         drawn % 2 == 0,
         (drawn % 64) as u16,
     );
-    noise_of(drawn.wrapping_shr(20) % 8 == 0, lie, answer)
+    noise_of(drawn.wrapping_shr(20) % 8 == 0, Some(lie), answer)
 }
 
 /// The call that has taken this answer.

@@ -17,7 +17,7 @@ const SHORT: [&str; 2] = [
 
 /// Two calls on a small tree: the pairs that are put there before; both calls; what the tree takes in the end, in bytes, where the
 /// first one took effect first, and where the second one did; and the keys of those pairs that are taken out again before.
-const CASES: [&str; 36] = [
+pub const CASES: [&str; 36] = [
     // Two calls put values there.
     "two insertions of one key: ; insert 5 1; insert 5 2; 2168; 2168",
     "two insertions whose ways part above the leaves: ; insert 1 1; insert 256 2; 2296; 2296",
@@ -138,7 +138,7 @@ fn are_cuts_right(alloc: Global, case: &Case, every: u32) -> Result<bool, Fail> 
 
 /// How many orders there are, if one of so many is right, or each: of the turns that the text has, or else of the single steps.
 fn orders(alloc: Global, text: &str, every: u32) -> Result<Option<u32>, Fail> {
-    let case = Case::of(alloc, text)?;
+    let case = Case::of(alloc, text, false)?;
     let others = array::<7>(part(text, 6))?;
     if others[0] > 0 {
         let turns = [TURNS.as_slice(), others.as_slice()];
@@ -168,7 +168,7 @@ fn calls_beside_each_other_answer_as_one_map(rt: HostRuntime) -> Result<(), Fail
     for table in [CASES.as_slice(), CLOSURES.as_slice()] {
         for line in table {
             let (name, text) = named(*line)?;
-            let case = Case::of(rt.alloc(), text)?;
+            let case = Case::of(rt.alloc(), text, false)?;
             let are_right = are_cuts_right(rt.alloc(), &case, every)?;
             assert_same(&rt, (name, are_right), (name, true));
         }

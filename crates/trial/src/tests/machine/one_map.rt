@@ -21,10 +21,12 @@ pub struct Case {
 }
 
 impl Case {
-    /// A case, as its pairs, its calls, its charges, and the keys that are taken out before.
-    pub fn of(alloc: Global, text: &str) -> Result<Case, Fail> {
-        let first = call_of(alloc, part(text, 1))?;
-        let second = call_of(alloc, part(text, 2))?;
+    /// A case, as its pairs, its calls, its charges, and the keys that are taken out before. With `turned` the calls are those of
+    /// the other worker.
+    pub fn of(alloc: Global, text: &str, turned: bool) -> Result<Case, Fail> {
+        let [one, other, charge, late] = if turned { [2, 1, 4, 3] } else { [1, 2, 3, 4] };
+        let first = call_of(alloc, part(text, one))?;
+        let second = call_of(alloc, part(text, other))?;
         Ok(Case {
             ground: Ground {
                 cells: CELLS,
@@ -32,7 +34,10 @@ impl Case {
                 gone: numbers(alloc, part(text, 5))?,
             },
             calls: [Flight::on_key(0, first), Flight::on_key(1, second)],
-            charges: [part(text, 3).parse::<u64>()?, part(text, 4).parse::<u64>()?],
+            charges: [
+                part(text, charge).parse::<u64>()?,
+                part(text, late).parse::<u64>()?,
+            ],
         })
     }
 

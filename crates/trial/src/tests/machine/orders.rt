@@ -1,7 +1,8 @@
 //! Two calls beside each other on a small index, by turns: the one driver of all orders of two calls' steps.
 
 use super::flights::Flight;
-use super::{Index, are_rounds_done, call, discard, is_done, noise, open};
+use super::lies::{Lie, noise_of};
+use super::{Index, are_rounds_done, call, discard, is_done, open};
 use crate::tests::texts::small;
 use joint::{Op, Refusal};
 use judge::Call;
@@ -34,6 +35,8 @@ pub enum Turn {
     Go(usize, u32),
     /// The same, with a collection after each.
     Sweep(usize, u32),
+    /// So many steps that are lied to; each third of the first 20 fails.
+    Lied(usize, u32, Lie),
     /// Whoever isn't in a call collects.
     Collect,
     /// Its worker unpins, and does three rounds.
@@ -84,6 +87,7 @@ impl Pair {
             Turn::Begin(who) => self.begin(who),
             Turn::Go(who, steps) => self.go(who, steps, number, false),
             Turn::Sweep(who, steps) => self.go(who, steps, number, true),
+            Turn::Lied(who, steps, lie) => self.go_lied(who, steps, number, lie),
             Turn::Collect => self.collect(),
             Turn::Rounds(who) => self.rest(who),
         }
@@ -95,37 +99,54 @@ impl Pair {
         }
     }
 
+    /// The worker pins anew, and begins another call.
+    pub fn begin_anew(&mut self, who: usize, call: Call<u64>) {
+        if let Some(flight) = self.calls.get_mut(who) {
+            let worker = flight.worker;
+            is_done(&mut self.index, worker, Op::Unpin);
+            is_done(&mut self.index, worker, Op::Pin);
+            *flight = Flight::on_key(worker, call);
+            flight.begin(&mut self.index);
+        }
+    }
+
     fn go(&mut self, who: usize, steps: u32, number: u32, sweeps: bool) {
         for _ in 0..steps {
             if !self.is_in_flight(who) {
                 return;
             }
-            self.step(who, number);
+            self.step(who, number, false, None);
             if sweeps {
                 self.collect();
             }
         }
     }
 
-    /// A step, unless it has ended.
-    fn step(&mut self, who: usize, number: u32) {
+    fn go_lied(&mut self, who: usize, steps: u32, number: u32, lie: Lie) {
+        for step in 0..steps {
+            self.step(who, number, step < 20 && step % 3 == 0, Some(lie));
+        }
+    }
+
+    /// A step, unless it has ended; its exchange may fail, and it may be lied to.
+    pub fn step(&mut self, who: usize, number: u32, fail: bool, lie: Option<Lie>) {
         let [first, second] = self.calls;
         let other = if who == 0 { second } else { first };
         let changed = other.effects > 0;
         if let Some(flight) = self.calls.get_mut(who) {
-            let noise = noise(false, flight.answer());
+            let noise = noise_of(fail, lie, flight.answer());
             flight.advance(&mut self.index, number, changed, noise);
         }
     }
 
-    fn is_in_flight(&self, who: usize) -> bool {
+    pub fn is_in_flight(&self, who: usize) -> bool {
         match self.calls.get(who) {
             Some(flight) => flight.standing.is_in_flight(),
             None => false,
         }
     }
 
-    fn collect(&mut self) {
+    pub fn collect(&mut self) {
         for worker in 0..2 {
             if !self.is_in_flight(worker as usize) {
                 is_done(&mut self.index, worker, Op::Flush);

@@ -7,7 +7,6 @@ use super::one_map::{journal_of, value_at};
 use super::orders::{CELLS, Course, Ground, LONG, Pair, Plays, Turn, lengths, single};
 use super::told::Standing;
 use super::{call, discard, is_done, open};
-use crate::examples::machine::page_of;
 use crate::tests::asserts::assert_same;
 use crate::tests::texts::{array, call_of, named, pairs, part};
 use joint::Op;
@@ -263,7 +262,7 @@ fn a_whole_scan_fills_its_places(rt: HostRuntime) -> Result<(), Fail> {
         call(&mut index, 0, Call::Insert(key, key));
     }
     let mut places = [(0, 0); 2];
-    let found = page_of(&mut index, 0, 2, 256, &mut places);
+    let found = index.scan(0, 2, 256, 100, &mut places);
     discard(index);
     assert_same(&rt, (found, places), (Some(2), [(2, 2), (256, 256)]));
     Ok(())

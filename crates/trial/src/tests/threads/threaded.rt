@@ -3,7 +3,7 @@
 
 ghost use Rattle.std.specs.Prelude.{◌≡◌};
 
-use super::trees::{Ask, Left, Owners, Recorded, Threaded, Told, Which, left, spent, words_called};
+use super::trees::{Ask, Left, Owners, Recorded, Threaded, Told, Which, left, spent};
 use crate::drained::Drained;
 use crate::examples::counter::count_in_two_threads;
 use crate::tests::asserts::assert_same;
@@ -316,8 +316,6 @@ enum Task<'t> {
     Find(u64),
     /// Finds a value at a key.
     Look(u64, u64),
-    /// So many calls, of each kind by turns, on the keys of one leaf and two others.
-    Mix(u32),
     /// Puts a key in whose closure waits for the flag.
     Await(&'t AtomicBool),
     /// Puts another key in, and sets the flag.
@@ -375,37 +373,6 @@ fn reads_along<R: Wait>(
     Ok(same)
 }
 
-/// The call of this number.
-fn call_at(number: u64) -> Call<u64> {
-    let key = match number.wrapping_mul(7) % 11 {
-        9 => 256,
-        10 => 1 << 63,
-        key => key,
-    };
-    match number % 6 {
-        0 => Call::Get(key),
-        1 => Call::Remove(key),
-        2 => Call::ComputePresent(key, Some(11)),
-        3 => Call::ComputeInsert(key, key),
-        4 => Call::Exchange(key, key, Some(key.wrapping_add(11))),
-        _ => Call::Insert(key, key),
-    }
-}
-
-/// Whether no such call is refused.
-fn mixes<R: Wait>(
-    rt: &R,
-    tree: &Words,
-    count: u32,
-    worker: &mut Worker,
-    guard: &Guard,
-) -> Result<bool, Refusal> {
-    for number in 0..u64::from(count) {
-        words_called(rt, tree, call_at(number), worker, guard)?;
-    }
-    Ok(true)
-}
-
 /// Whether the flag is set within so many turns, each of which yields to other threads.
 pub fn comes(flag: &AtomicBool, turns: u32) -> bool {
     for _ in 0..turns {
@@ -429,7 +396,6 @@ fn does<R: Wait>(
         Task::Read(to) => reads_along(rt, tree, to, worker, guard),
         Task::Find(to) => finds(rt, tree, to, worker, guard),
         Task::Look(key, value) => Ok(tree.get(rt, &key, worker, guard)? == Some(value)),
-        Task::Mix(count) => mixes(rt, tree, count, worker, guard),
         Task::Await(flag) => {
             // On a loaded machine a thread was seen to come later than ten thousand turns.
             let answer = |_| if comes(flag, 10_000_000) { 1 } else { 0 };
@@ -454,22 +420,33 @@ fn works<R: Wait>(rt: &R, tree: &Words, task: Task<'_>) -> Result<bool, Refusal>
     done
 }
 
-/// Whether all is well that some threads do at once.
-fn all_work<R: Threads + Wait + Sync>(
+/// Two threads work at once.
+fn two_work<R: Threads + Wait + Sync>(
     rt: &R,
-    alloc: Global,
     tree: &Words,
-    tasks: &[Task<'_>],
-) -> Result<bool, Fail> {
-    let work = move |place: usize| match tasks.get(place) {
-        Some(task) => works(rt, tree, *task),
-        None => Ok(false),
-    };
-    let mut right = true;
-    for told in thread::map_indices(rt, alloc, tasks.len(), &work)? {
-        right &= told?;
-    }
-    Ok(right)
+    tasks: (Task<'_>, Task<'_>),
+) -> Result<bool, Refusal> {
+    let (one, two) = thread::join(
+        rt,
+        move || works(rt, tree, tasks.0),
+        move || works(rt, tree, tasks.1),
+    );
+    Ok(one? && two?)
+}
+
+/// Four threads work at once: two put so many keys in, a half each, and two read.
+fn four_work<R: Threads + Wait + Sync>(
+    rt: &R,
+    tree: &Words,
+    half: u64,
+    keys: u64,
+) -> Result<bool, Refusal> {
+    let (one, two) = thread::join(
+        rt,
+        move || two_work(rt, tree, (Task::Fill(0, half), Task::Read(keys))),
+        move || two_work(rt, tree, (Task::Fill(half, keys), Task::Read(keys))),
+    );
+    Ok(one? && two?)
 }
 
 #[test]
@@ -477,24 +454,8 @@ fn two_fill_and_two_read(rt: HostRuntime) -> Result<(), Fail> {
     let tree: Words = Congee::new(rt.alloc(), limits(4, 100_000, 0), DefaultAllocator::new())?;
     let half = u64::from(number_in(&rt, "TRIAL_KEYS", 500).min(5_000));
     let keys = half.saturating_mul(2);
-    let tasks = [
-        Task::Fill(0, half),
-        Task::Read(keys),
-        Task::Fill(half, keys),
-        Task::Read(keys),
-    ];
-    assert_same(&rt, all_work(&rt, rt.alloc(), &tree, &tasks)?, true);
+    assert_same(&rt, four_work(&rt, &tree, half, keys), Ok(true));
     assert_same(&rt, works(&rt, &tree, Task::Find(keys)), Ok(true));
-    Ok(())
-}
-
-/// Each call, of sixteen threads; in the sweep they make 10,000 each.
-#[test]
-fn sixteen_threads_call(rt: HostRuntime) -> Result<(), Fail> {
-    let count = number_in(&rt, "TRIAL_CALLS", 40).min(10_000);
-    let tree: Words = Congee::new(rt.alloc(), limits(16, 400_000, 0), DefaultAllocator::new())?;
-    let tasks = [Task::Mix(count); 16];
-    assert_same(&rt, all_work(&rt, rt.alloc(), &tree, &tasks)?, true);
     Ok(())
 }
 
@@ -502,8 +463,8 @@ fn sixteen_threads_call(rt: HostRuntime) -> Result<(), Fail> {
 fn closure_waits_for_other(rt: HostRuntime) -> Result<(), Fail> {
     let tree = words(rt.alloc(), 0)?;
     let flag = AtomicBool::new(false);
-    let tasks = [Task::Await(&flag), Task::Tell(&flag)];
-    assert_same(&rt, all_work(&rt, rt.alloc(), &tree, &tasks)?, true);
+    let tasks = (Task::Await(&flag), Task::Tell(&flag));
+    assert_same(&rt, two_work(&rt, &tree, tasks), Ok(true));
     Ok(())
 }
 

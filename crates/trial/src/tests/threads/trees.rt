@@ -129,11 +129,6 @@ fn held(pinned: Result<Guard, Refusal>) -> Result<Told, Refusal> {
     }
 }
 
-/// What is done under a guard.
-pub fn nothing(_worker: &mut Worker, _guard: &Guard) -> Result<(), Refusal> {
-    Ok(())
-}
-
 fn done(answer: Result<(), Refusal>) -> Result<Told, Refusal> {
     match answer {
         Ok(()) => Ok(Told::Done),
@@ -150,7 +145,7 @@ pub fn raised(found: u64, by: Option<u64>) -> Option<u64> {
 }
 
 /// What a closure answers for a value or none.
-fn raised_or(found: Option<u64>, number: u64) -> u64 {
+pub fn raised_or(found: Option<u64>, number: u64) -> u64 {
     match found {
         Some(found) => found.wrapping_add(64),
         None => number,
@@ -195,48 +190,6 @@ fn emptiness_told(is_empty: Result<bool, Refusal>) -> Result<Told, Refusal> {
     }
 }
 
-/// What a call tells that answers with the value before it, if any.
-fn value_told(call: Call<u64>, answer: Result<Option<u64>, Refusal>) -> Result<Told, Refusal> {
-    match (call, answer) {
-        (_, Err(refusal)) => Err(refusal),
-        (Call::Get(_), Ok(found)) => Ok(Told::Replied(Reply::Get(found))),
-        (Call::Insert(..), Ok(before)) => Ok(Told::Replied(Reply::Insert(before))),
-        (Call::Remove(_), Ok(taken)) => Ok(Told::Replied(Reply::Remove(taken))),
-        (_, Ok(before)) => Ok(Told::Replied(Reply::ComputeInsert(before))),
-    }
-}
-
-fn present_told(answer: Result<Option<(u64, Option<u64>)>, Refusal>) -> Result<Told, Refusal> {
-    match answer {
-        Ok(told) => Ok(Told::Replied(Reply::ComputePresent(told))),
-        Err(refusal) => Err(refusal),
-    }
-}
-
-fn exchange_told(
-    answer: Result<Result<Option<u64>, Option<u64>>, Refusal>,
-) -> Result<Told, Refusal> {
-    match answer {
-        Ok(told) => Ok(Told::Replied(Reply::Exchange(told))),
-        Err(refusal) => Err(refusal),
-    }
-}
-
-/// How many pairs a scan found, and what stands in the first place.
-fn scan_told(count: Result<usize, Refusal>, first: (u64, u64)) -> Result<Told, Refusal> {
-    match count {
-        Ok(count) => Ok(Told::Scanned(count, first)),
-        Err(refusal) => Err(refusal),
-    }
-}
-
-fn pair_told(pair: Result<Option<(u64, u64)>, Refusal>) -> Result<Told, Refusal> {
-    match pair {
-        Ok(pair) => Ok(Told::Pair(pair)),
-        Err(refusal) => Err(refusal),
-    }
-}
-
 /// A call on a key. `by` stands before a key that is looked for; a writing call also takes the share.
 macro_rules! called {
     (
@@ -244,24 +197,34 @@ macro_rules! called {
         $guard:ident
     ) => {
         match $call {
-            Call::Get(key) => value_told($call, $tree.get($rt, $($by)? key, $worker, $guard)),
+            Call::Get(key) => {
+                let found = $tree.get($rt, $($by)? key, $worker, $guard)?;
+                Ok(Told::Replied(Reply::Get(found)))
+            }
             Call::Insert(key, value) => {
-                value_told($call, $tree.insert($rt, key, value, $($share,)? $worker, $guard))
+                let before = $tree.insert($rt, key, value, $($share,)? $worker, $guard)?;
+                Ok(Told::Replied(Reply::Insert(before)))
             }
             Call::Remove(key) => {
-                value_told($call, $tree.remove($rt, $($by)? key, $($share,)? $worker, $guard))
+                let taken = $tree.remove($rt, $($by)? key, $($share,)? $worker, $guard)?;
+                Ok(Told::Replied(Reply::Remove(taken)))
             }
             Call::ComputePresent(key, by) => {
                 let raise = |found: u64| raised(found, by);
-                present_told($tree
-                    .compute_if_present($rt, $($by)? key, raise, $($share,)? $worker, $guard))
+                let told = $tree
+                    .compute_if_present($rt, $($by)? key, raise, $($share,)? $worker, $guard)?;
+                Ok(Told::Replied(Reply::ComputePresent(told)))
             }
             Call::ComputeInsert(key, by) => {
                 let raise = |found: Option<u64>| raised_or(found, by);
-                value_told($call, $tree.compute_or_insert($rt, key, raise, $($share,)? $worker, $guard))
+                let before = $tree.compute_or_insert($rt, key, raise, $($share,)? $worker, $guard)?;
+                Ok(Told::Replied(Reply::ComputeInsert(before)))
             }
-            Call::Exchange(key, old, new) => exchange_told($tree
-                .compare_exchange($rt, $($by)? key, &old, new, $($share,)? $worker, $guard)),
+            Call::Exchange(key, old, new) => {
+                let told = $tree
+                    .compare_exchange($rt, $($by)? key, &old, new, $($share,)? $worker, $guard)?;
+                Ok(Told::Replied(Reply::Exchange(told)))
+            }
         }
     };
 }
@@ -273,11 +236,11 @@ macro_rules! scanned {
     ) => {
         match $ask {
             Ask::Range(start, end) => {
-                $tree.range($rt, $($by)? start, $($by)? end, &mut $out, $worker, $guard)
+                $tree.range($rt, $($by)? start, $($by)? end, &mut $out, $worker, $guard)?
             }
             Ask::RangeInclusive(start, last) => {
                 $tree
-                    .range_inclusive($rt, $($by)? start, $($by)? last, &mut $out, $worker, $guard)
+                    .range_inclusive($rt, $($by)? start, $($by)? last, &mut $out, $worker, $guard)?
             }
             _ => return Ok(Told::Nothing),
         }
@@ -288,12 +251,12 @@ macro_rules! scanned {
 macro_rules! nearest {
     ($rt:ident, $tree:ident, $which:ident, ($($by:tt)?), $worker:ident, $guard:ident) => {
         match $which {
-            Which::First => $tree.first($rt, $worker, $guard),
-            Which::Last => $tree.last($rt, $worker, $guard),
-            Which::After(key) => $tree.next_after($rt, $($by)? key, $worker, $guard),
-            Which::Before(key) => $tree.next_before($rt, $($by)? key, $worker, $guard),
-            Which::From(key) => $tree.at_or_after($rt, $($by)? key, $worker, $guard),
-            Which::UpTo(key) => $tree.at_or_before($rt, $($by)? key, $worker, $guard),
+            Which::First => $tree.first($rt, $worker, $guard)?,
+            Which::Last => $tree.last($rt, $worker, $guard)?,
+            Which::After(key) => $tree.next_after($rt, $($by)? key, $worker, $guard)?,
+            Which::Before(key) => $tree.next_before($rt, $($by)? key, $worker, $guard)?,
+            Which::From(key) => $tree.at_or_after($rt, $($by)? key, $worker, $guard)?,
+            Which::UpTo(key) => $tree.at_or_before($rt, $($by)? key, $worker, $guard)?,
         }
     };
 }
@@ -312,7 +275,7 @@ macro_rules! wholly {
             Ask::Repin => done($tree.repin($rt, $worker, $guard)),
             Ask::Flush => done($tree.flush($rt, $worker, $guard)),
             Ask::Round => done($tree.round($rt, $worker)),
-            Ask::Pinned => done($tree.pinned($rt, $worker, nothing)),
+            Ask::Pinned => done($tree.pinned($rt, $worker, |_, _| Ok(()))),
             Ask::Pin => held($tree.pin($rt, $worker)),
             Ask::Call(_) | Ask::Range(..) | Ask::RangeInclusive(..) | Ask::Nearest(_) => {
                 Ok(Told::Nothing)
@@ -321,8 +284,7 @@ macro_rules! wholly {
     };
 }
 
-/// A call on a key of a tree of words.
-pub fn words_called<A: Allocator, R: Wait>(
+fn words_called<A: Allocator, R: Wait>(
     rt: &R,
     tree: &Congee<u64, u64, A>,
     call: Call<u64>,
@@ -341,7 +303,7 @@ fn words_scanned<A: Allocator, R: Wait>(
 ) -> Result<Told, Refusal> {
     let mut out = [(0, 0); 4];
     let count = scanned!(rt, tree, ask, out, (&), worker, guard);
-    scan_told(count, out[0])
+    Ok(Told::Scanned(count, out[0]))
 }
 
 fn words_nearest<A: Allocator, R: Wait>(
@@ -351,7 +313,8 @@ fn words_nearest<A: Allocator, R: Wait>(
     worker: &mut Worker,
     guard: &Guard,
 ) -> Result<Told, Refusal> {
-    pair_told(nearest!(rt, tree, which, (&), worker, guard))
+    let pair = nearest!(rt, tree, which, (&), worker, guard);
+    Ok(Told::Pair(pair))
 }
 
 fn words_wholly<A: Allocator, R: Wait>(
@@ -383,7 +346,7 @@ fn numbers_scanned<A: Allocator, R: Wait>(
 ) -> Result<Told, Refusal> {
     let mut out = [([0; 8], 0); 4];
     let count = scanned!(rt, tree, ask, out, (), worker, guard);
-    scan_told(count, (u64::from_be_bytes(out[0].0), out[0].1))
+    Ok(Told::Scanned(count, (u64::from_be_bytes(out[0].0), out[0].1)))
 }
 
 fn numbers_nearest<A: Allocator, R: Wait>(
@@ -393,7 +356,8 @@ fn numbers_nearest<A: Allocator, R: Wait>(
     worker: &mut Worker,
     guard: &Guard,
 ) -> Result<Told, Refusal> {
-    pair_told(nearest!(rt, tree, which, (), worker, guard))
+    let pair = nearest!(rt, tree, which, (), worker, guard);
+    Ok(Told::Pair(pair))
 }
 
 fn numbers_wholly<A: Allocator, R: Wait>(
@@ -407,7 +371,7 @@ fn numbers_wholly<A: Allocator, R: Wait>(
 }
 
 /// A call on a key of a tree with a journal.
-fn recorded_called<L: Ledger, A: Allocator, D: Drop, R: Wait>(
+pub fn recorded_called<L: Ledger, A: Allocator, D: Drop, R: Wait>(
     rt: &R,
     tree: &Journaled<L, Every, u64, u64, A, D>,
     call: Call<u64>,
@@ -427,7 +391,7 @@ fn recorded_scanned<L: Ledger, A: Allocator, D: Drop, R: Wait>(
 ) -> Result<Told, Refusal> {
     let mut out = [(0, 0); 4];
     let count = scanned!(rt, tree, ask, out, (&), worker, guard);
-    scan_told(count, out[0])
+    Ok(Told::Scanned(count, out[0]))
 }
 
 fn recorded_nearest<L: Ledger, A: Allocator, D: Drop, R: Wait>(
@@ -437,7 +401,8 @@ fn recorded_nearest<L: Ledger, A: Allocator, D: Drop, R: Wait>(
     worker: &mut Worker,
     guard: &Guard,
 ) -> Result<Told, Refusal> {
-    pair_told(nearest!(rt, tree, which, (&), worker, guard))
+    let pair = nearest!(rt, tree, which, (&), worker, guard);
+    Ok(Told::Pair(pair))
 }
 
 fn recorded_wholly<L: Ledger, A: Allocator, D: Drop, R: Wait>(
@@ -739,9 +704,8 @@ fn owners_nearest<R: Wait>(
     guard: &Guard,
 ) -> Result<Told, Refusal> {
     match nearest!(rt, tree, which, (), worker, guard) {
-        Ok(Some((key, owner))) => Ok(Told::Pair(Some((key, *owner)))),
-        Ok(None) => Ok(Told::Pair(None)),
-        Err(refusal) => Err(refusal),
+        Some((key, owner)) => Ok(Told::Pair(Some((key, *owner)))),
+        None => Ok(Told::Pair(None)),
     }
 }
 

@@ -104,17 +104,7 @@ fn a_for_goes_over_a_tree(rt: HostRuntime) -> Result<(), Fail> {
     for key in tree.keys_iter().rev() {
         keys = keys.wrapping_mul(10).wrapping_add(key);
     }
-    let mut rest = tree.into_iter();
-    let ends = (rest.next(), rest.next_back());
-    let mut last = None;
-    for pair in rest {
-        last = Some(pair);
-    }
-    assert_same(
-        &rt,
-        (sum, keys, ends, last),
-        (34, 3210, (Some((0, 0)), Some((3, 9))), Some((2, 4))),
-    );
+    assert_same(&rt, (sum, keys), (34, 3210));
     Ok(())
 }
 

@@ -68,10 +68,10 @@ fn first_wrong(
 
 /// Whether both lists have each session that is there, and no other.
 fn agree(closed: &Closed, plain: &Plain) -> bool {
-    let mut standing = 0;
+    let mut standing = 0usize;
     for place in 0..SESSIONS {
         if plain[place].is_some() {
-            standing += 1;
+            standing = standing.wrapping_add(1);
         }
     }
     for (session, expiry) in &closed.by_session {
