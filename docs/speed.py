@@ -33,6 +33,20 @@ CALLS = {
     "remove": "removal",
     "overwrite": "overwriting",
     "range": "range of 100 keys",
+    "iter": "iterator over all, for each pair",
+    "range-iter": "iterator of 100 pairs from a key on",
+    "insert-sorted": "insertion, ascending",
+    "from-sorted": "`from_sorted`, for each pair",
+    "pop-first": "`pop_first`, until none is left",
+    "entry-absent": "`entry` and `or_insert`, absent key",
+    "entry-present": "`entry` and `or_insert`, present key",
+    "get-insert-absent": "look-up and insertion, absent key",
+    "get-insert-present": "look-up and overwriting, present key",
+    "write": "write",
+    "read": "read at a snapshot in the midst of the writes",
+    "read-newest": "read at the newest snapshot",
+    "vacuum": "vacuum, for each version that stood",
+    "read-vacuumed": "read at the newest snapshot, after the vacuum",
     "range-beside-writer": "the same beside a thread that writes",
     "range-at-once": "range of 100 keys, of one moment",
     "mix-5": "look-ups, 5 in 100 insertions",
@@ -57,6 +71,8 @@ PARTS = {
     "owned": ("owned", ["ours", "congee", "btree", "absl", "judy"]),
     "sizes": ("owned", ["ours", "congee", "btree", "absl", "judy"]),
     "memory": ("memory", ["ours", "congee", "btree", "absl", "judy"]),
+    "further": ("further", ["ours", "btree", "absl"]),
+    "versions": ("versions", ["ours", "btree"]),
     "unlocked": ("threads", ["unlocked", "congee", "mutex", "rwlock"]),
     "words": ("memory", ["unlocked"]),
     "stepped": ("threads", ["stepped", "congee", "mutex", "rwlock"]),
@@ -136,20 +152,36 @@ def by_threads(part, show):
     return lines
 
 
-def by_kinds(part, show, which):
-    """Rows of calls and numbers of keys, columns of kinds."""
-    lines = [f"| {head(part)} | Dense keys | Scattered keys |", "|---|---|---|"]
+def by_kinds(part, show, which, held="keys", of="keys"):
+    """Rows of calls and numbers of what is held, columns of kinds."""
+    lines = [f"| {head(part)} | Dense {of} | Scattered {of} |", "|---|---|---|"]
     for keys, call in dict.fromkeys((keys, call) for keys, _, _, call in part.rows() if which(keys)):
         cells = [cell(part, (keys, kind, 1, call), show) for kind in ("dense", "scattered")]
-        lines.append(f"| {CALLS[call]}, {keys:,} keys | {' | '.join(cells)} |")
+        lines.append(f"| {CALLS[call]}, {keys:,} {held} | {' | '.join(cells)} |")
     return lines
 
 
+def within(part, call, other):
+    """What a call of ours takes, in the times of another call of ours."""
+    cells = {row[:3]: part.cells[(*row, part.ours)] for row in part.rows() if row[3] == other}
+    return span([part.cells[(*row, part.ours)] / cells[row[:3]] for row in part.rows() if row[3] == call and row[:3] in cells], ratio)
+
+
+def further(part, show):
+    """The further calls, and how ours go beside those that would do in their place."""
+    said = f"Of ours, a pair of `from_sorted` takes {within(part, 'from-sorted', 'insert-sorted')} times an ascending insertion, and `entry` with"
+    said += f" `or_insert` {within(part, 'entry-absent', 'get-insert-absent')} times a look-up and an insertion of an absent key together,"
+    said += f" {within(part, 'entry-present', 'get-insert-present')} times a look-up and an overwriting."
+    return [*by_kinds(part, show, lambda keys: True), "", said]
+
+
 def tables(parts):
-    some = lambda name, draw, show, *more: draw(parts[name], show, *more) if name in parts else []
+    some = lambda name, draw, show, *more: draw(parts[name], show, *more) if name in parts else ["Not measured yet."]
     return {
         "owned": some("owned", by_kinds, time_of, lambda keys: keys >= 100_000),
         "memory": some("memory", by_kinds, time_of, lambda keys: True),
+        "further": some("further", further, time_of),
+        "versions": some("versions", by_kinds, time_of, lambda versions: True, "versions", "rows"),
         "words": some("words", by_kinds, time_of, lambda keys: True),
         "machine": some("machine", by_kinds, time_of, lambda keys: True),
         "unlocked": some("unlocked", by_threads, micros),
